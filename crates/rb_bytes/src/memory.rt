@@ -1,0 +1,57 @@
+//! The trait of all memories.
+
+ghost use Rattle.std.specs.Prelude.{◌≡◌, ℕ, ◌<◌, ◌≤◌, ◌+◌, ◌^◌, ◌⊎◌, Bool, false, IsOk, length};
+ghost use Rattle.rb_bytes.specs.Memory.{Memory, IsGood, IsWidth, IsSize, IsAlign, place_of, load_of, store_of};
+
+use crate::fault::{Full, Trap};
+
+/// A region of bytes from address 64 up to its limit, in which blocks are placed in ascending order.
+/// Addresses, sizes, alignments and offsets are bytes, widths are bits, words are little-endian.
+///
+/// No call takes memory: a region has all of its own when it is made.
+pub trait ByteMemory {
+    ghost CHECKS: { Bool };
+
+    /// Whether loads and stores test what they are asked for. Where it is false, a caller knows that
+    /// the access doesn't trap.
+    const CHECKS: bool;
+
+    ghost memory: { Self → Memory };
+
+    /// The address at which the region ends.
+    fn limit(&self) -> u64
+        ensures value { result ≡ (memory self.now).limit }
+        ensures good { IsGood (memory self.now) };
+
+    /// The address from which on the next block is placed.
+    fn next(&self) -> u64
+        ensures value { result ≡ (memory self.now).next }
+        ensures good { IsGood (memory self.now) };
+
+    /// The number of blocks.
+    fn blocks(&self) -> u64
+        ensures value { result ≡ length (memory self.now).blocks }
+        ensures good { IsGood (memory self.now) };
+
+    /// Places a block at the least multiple of the alignment from the next address on, and gives its
+    /// address. Where it doesn't fit, nothing changes.
+    fn place(&mut self, size: u64, align: u64) -> Result<u64, Full>
+        requires size { IsSize size }
+        requires align { IsAlign align }
+        ensures value { (result, memory self.new) ≡ place_of (memory self.old) size align }
+        ensures good { IsGood (memory self.new) };
+
+    /// The number in some bytes of the block that begins at the base.
+    fn load(&self, base: u64, offset: u64, width: u64) -> Result<u64, Trap>
+        requires width { IsWidth width }
+        requires unchecked { CHECKS ≡ false → IsOk (load_of (memory self.now) base offset width) }
+        ensures value { result ≡ load_of (memory self.now) base offset width };
+
+    /// Writes the low bits of a word into some bytes of the block that begins at the base. Where it
+    /// traps, nothing changes.
+    fn store(&mut self, base: u64, offset: u64, width: u64, word: u64) -> Result<(), Trap>
+        requires width { IsWidth width }
+        requires unchecked { CHECKS ≡ false → IsOk (store_of (memory self.old) base offset width word).0 }
+        ensures value { (result, memory self.new) ≡ store_of (memory self.old) base offset width word }
+        ensures good { IsGood (memory self.new) };
+}
