@@ -1,0 +1,88 @@
+//! Layouts as they are written: a tree of splits whose leaves say where each field lies.
+
+use crate::boxed::Boxed;
+use crate::pattern::Pat;
+use crate::seq::Seq;
+
+/// One step of a location through a pointer: the pointer counts `align` bytes, and the block word
+/// at byte `byte` has `width` bits, of which the range begins at bit `o` and is `l` bits long.
+#[derive(Clone, Copy, PartialEq, Eq, Debug)]
+pub struct Step {
+    pub align: u64,
+    pub byte: u64,
+    pub width: u64,
+    pub o: u64,
+    pub l: u64,
+}
+
+/// A location: bits `o` to `o + l` of a root word, or what its steps reach from there.
+#[derive(Debug, Drop)]
+pub struct Loc {
+    pub word: u64,
+    pub o: u64,
+    pub l: u64,
+    pub steps: Seq<Step>,
+}
+
+/// What the bits of a part hold. A path is a list of field numbers from the root.
+#[cycle(item)]
+#[derive(Debug, Drop)]
+pub enum PartKind {
+    /// This number.
+    Const(u64),
+    /// The field at this path, whole.
+    Whole(Seq<u32>),
+    /// So many bits from that bit of the integer at this path: path, first bit, length.
+    Slice(Seq<u32>, u64, u64),
+    /// The word with this number of the data field at this path.
+    Word(Seq<u32>, u64),
+    /// A pointer that counts so many bytes, to a block with these words.
+    Pointer(u64, Seq<LayItem>),
+}
+
+/// A part of a word: `l` bits from bit `o`.
+#[cycle(item)]
+#[derive(Debug, Drop)]
+pub struct PartDecl {
+    pub o: u64,
+    pub l: u64,
+    pub kind: PartKind,
+}
+
+/// A word of a leaf or a block, or the words of the field at a path.
+#[cycle(item)]
+#[derive(Debug, Drop)]
+pub enum LayItem {
+    /// A word of so many bits, with its parts.
+    Word(u64, Seq<PartDecl>),
+    /// All words of the field at this path.
+    Inline(Seq<u32>),
+}
+
+/// What stands under one literal of a split.
+#[cycle(split)]
+#[derive(Debug, Drop)]
+pub struct Arm {
+    pub literal: u64,
+    pub under: LayTree,
+}
+
+/// A layout's tree of splits.
+#[cycle(split)]
+#[derive(Debug, Drop)]
+pub enum LayTree {
+    /// A split of the bits at a location, with its arms and what stands under `else`.
+    Split(Loc, Seq<Arm>, Option<Boxed<LayTree>>),
+    /// A leaf: its first token's number, the values that it holds, and its words.
+    Leaf(u32, Pat, Seq<LayItem>),
+}
+
+/// A layout as it is written: the token number of `layout`, its type, its words' widths in bits,
+/// and its tree.
+#[derive(Debug, Drop)]
+pub struct LayoutDecl {
+    pub at: u32,
+    pub ty: u32,
+    pub shape: Seq<u64>,
+    pub tree: LayTree,
+}

@@ -1,0 +1,15 @@
+//! The core of Ribbit: programs, the values they compute, and what both mean.
+//!
+//! Every crate above stands on these types and on the definitions of `specs/`: values, matching,
+//! typing and the source meaning. No layout and no memory occurs in a meaning.
+#![tactic(auto)]
+
+pub mod boxed;
+pub mod expression;
+pub mod layout_decl;
+pub mod outcome;
+pub mod pattern;
+pub mod program;
+pub mod seq;
+pub mod types;
+pub mod value;

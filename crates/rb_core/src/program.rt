@@ -1,0 +1,40 @@
+//! Programs.
+
+use crate::expression::Expr;
+use crate::layout_decl::LayoutDecl;
+use crate::seq::Seq;
+use crate::types::{DataDecl, Name, Ty};
+
+/// A parameter: its name's token number, its variable's number, and its type.
+#[derive(Clone, Copy, PartialEq, Eq, Debug)]
+pub struct Param {
+    pub at: u32,
+    pub var: u32,
+    pub ty: Ty,
+}
+
+/// A function.
+#[derive(Debug, Drop)]
+pub struct Fun {
+    pub name: Name,
+    pub params: Seq<Param>,
+    pub result: Ty,
+    pub body: Expr,
+}
+
+/// A program: names are replaced by the numbers of what they name, and `main` is the number of
+/// the function where a run begins.
+#[derive(Debug, Drop)]
+pub struct Program {
+    pub types: Seq<DataDecl>,
+    pub layouts: Seq<LayoutDecl>,
+    pub funs: Seq<Fun>,
+    pub main: u32,
+}
+
+/// A clause that no value reaches: its match's token number, and its own number in that match.
+#[derive(Clone, Copy, PartialEq, Eq, Debug)]
+pub struct Note {
+    pub at: u32,
+    pub clause: u32,
+}
