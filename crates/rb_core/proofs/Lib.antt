@@ -1,1 +1,3 @@
 pub mod ValueLemmas
+pub mod TypingExamples
+pub mod TypingLemmas

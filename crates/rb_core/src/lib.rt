@@ -12,4 +12,5 @@ pub mod pattern;
 pub mod program;
 pub mod seq;
 pub mod types;
+pub mod typing;
 pub mod value;

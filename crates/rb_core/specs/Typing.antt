@@ -1,0 +1,256 @@
+-- Typing: the type of an expression, or the first fault. Each form has one equation. The parts of
+-- a form are typed from left to right, and the first fault ends it.
+use Rattle.std.specs.Prelude.{ℕ, zero, suc, ◌^◌, List, [], ◌∷◌, ◌++◌, map, length, Bool, false, ◌==◌, nat_lt, if◌then◌else◌, Option, Some, None, Result, Ok, Err, slice_get, unwrap_or}
+use Rattle.std.specs.List.{list_any}
+use Rattle.rb_core.specs.declared.types.Ty.{Ty}
+use Rattle.rb_core.specs.declared.types.Ty.TheVariants.{Int, Named}
+use Rattle.rb_core.specs.declared.types.ConRef.{ConRef}
+use Rattle.rb_core.specs.declared.types.DataDecl.{DataDecl}
+use Rattle.rb_core.specs.declared.program.Param.{Param}
+use Rattle.rb_core.specs.declared.program.Fun.{Fun}
+use Rattle.rb_core.specs.declared.typing.Binder.{Binder}
+use Rattle.rb_core.specs.declared.typing.TypeFault.{TypeFault}
+use Rattle.rb_core.specs.declared.typing.TypeFault.TheVariants.{Mismatch, Arity, VariableTwice}
+use Rattle.rb_core.specs.declared.pattern.Pat.{Pat}
+use Rattle.rb_core.specs.declared.pattern.Pat.TheOpen as P
+use Rattle.rb_core.specs.declared.pattern.Pat.TheOpen.{Pat-F}
+use Rattle.rb_core.specs.declared.pattern.Pat.TheFolds.{fold-Pat}
+use Rattle.rb_core.specs.declared.expression.Op.{Op}
+use Rattle.rb_core.specs.declared.expression.Op.TheVariants.{Eq, Lt}
+use Rattle.rb_core.specs.declared.expression.Expr.{Expr}
+use Rattle.rb_core.specs.declared.expression.Expr.TheOpen as E
+use Rattle.rb_core.specs.declared.expression.Expr.TheOpen.{Expr-F}
+use Rattle.rb_core.specs.declared.expression.Expr.TheFolds.{fold-Expr}
+use Rattle.rb_core.specs.declared.expression.Clause.{Clause-F}
+use Rattle.rb_core.specs.Values.{fields_of}
+
+-- what typing gives, or the first fault
+abbrev pub Typing : Type 0 → Type 0
+Typing A = Result A TypeFault
+
+-- goes on with what typing gave
+abbrev pub and_then : {A B : Type 0} → Typing A → (A → Typing B) → Typing B
+and_then (Ok a) go = go a
+and_then (Err fault) go = Err fault
+
+-- Types -------------------------------------------------------------------------------------
+
+abbrev pub same_type : Ty → Ty → Bool
+same_type (Int n) (Int m) = n == m
+same_type (Int n) (Named t) = false
+same_type (Named t) (Int n) = false
+same_type (Named t) (Named s) = t == s
+
+-- the type that is found, where it is wanted or none is
+abbrev pub fits : ℕ → Option Ty → Ty → Typing Ty
+fits at None found = Ok found
+fits at (Some wanted) found = if same_type wanted found then Ok wanted else Err (Mismatch at wanted found)
+
+-- an integer type of n bits holds the numbers below 2^n, and a data type holds none
+abbrev pub holds : Ty → ℕ → Bool
+holds (Int bits) n = nat_lt n (2 ^ bits)
+holds (Named t) n = false
+
+-- the first of `more` widths, from `width` on, in which a number fits, or the width after them
+abbrev pub width_from : ℕ → ℕ → ℕ → ℕ
+width_from zero width n = width
+width_from (suc more) width n = if nat_lt n (2 ^ width) then width else width_from more (suc width) n
+
+-- the least width from 1 to 64 that holds a number
+unfoldable pub least_width : ℕ → ℕ
+least_width n = width_from 63 1 n
+
+abbrev pub number_type : ℕ → Ty
+number_type n = Int (least_width n)
+
+-- an operator's first operand is an integer
+abbrev pub integer : ℕ → Ty → Typing Ty
+integer at (Int n) = Ok (Int n)
+integer at (Named t) = Err (Mismatch at (Int 64) (Named t))
+
+-- Variables ---------------------------------------------------------------------------------
+
+-- the type of the innermost binder of a variable, where binders stand from the outermost on
+abbrev pub bound_type : Ty → ℕ → List Binder → Ty
+bound_type outer x [] = outer
+bound_type outer x (b ∷ bs) = bound_type (if b.var == x then b.ty else outer) x bs
+
+-- a variable of a well numbered program is bound, so what stands for the others is never met
+abbrev pub variable_type : ℕ → List Binder → Ty
+variable_type = bound_type (Int 64)
+
+abbrev pub binder_of : Param → Binder
+binder_of p = record { var = p.var; ty = p.ty }
+
+-- the token of the first variable that stands before in the list, too
+abbrev pub repeat_after : List ℕ → List Param → Option ℕ
+repeat_after before [] = None
+repeat_after before (p ∷ ps) = if list_any (λ x. x == p.var) before then Some p.at else repeat_after (p.var ∷ before) ps
+
+abbrev pub repeated : List Param → Option ℕ
+repeated = repeat_after []
+
+abbrev pub twice_at : Option ℕ → List Param → Typing (List Binder)
+twice_at None ps = Ok (map binder_of ps)
+twice_at (Some at) ps = Err (VariableTwice at)
+
+-- the binders of a whole pattern or parameter list, in which no variable stands twice
+abbrev pub distinct_binders : List Param → Typing (List Binder)
+distinct_binders ps = twice_at (repeated ps) ps
+
+-- Patterns ----------------------------------------------------------------------------------
+
+-- the types of a constructor's fields; a well numbered program has each constructor that it names
+abbrev pub field_types : List DataDecl → ConRef → List Ty
+field_types types c = unwrap_or (fields_of types c) []
+
+-- what a pattern binds at a type, in order
+abbrev pub PatternRule : Type 0
+PatternRule = Ty → Typing (List Param)
+
+abbrev pub also_bound : List Param → Typing (List Param) → Typing (List Param)
+also_bound ps rest = and_then rest (λ qs. Ok (ps ++ qs))
+
+-- each subpattern at its field's type
+abbrev pub subpatterns : List PatternRule → List Ty → Typing (List Param)
+subpatterns [] ts = Ok []
+subpatterns (p ∷ ps) [] = Ok []
+subpatterns (p ∷ ps) (t ∷ ts) = and_then (p t) (λ bound. also_bound bound (subpatterns ps ts))
+
+-- the number of subpatterns is checked before any of them
+abbrev pub fields_match : ℕ → List PatternRule → List Ty → Typing (List Param)
+fields_match at ps ts = if length ps == length ts then subpatterns ps ts else Err (Arity at (length ts) (length ps))
+
+-- one pattern, where the rules of its subpatterns stand in their places
+abbrev pub pattern_step : List DataDecl → Pat-F PatternRule → PatternRule
+pattern_step types (P.Wild at) t = Ok []
+pattern_step types (P.Var at x) t = Ok (record { at = at; var = x; ty = t } ∷ [])
+pattern_step types (P.Num at n) t = if holds t n then Ok [] else Err (Mismatch at t (number_type n))
+pattern_step types (P.Con at c ps) t =
+    if same_type t (Named c.ty) then fields_match at ps (field_types types c) else Err (Mismatch at t (Named c.ty))
+
+abbrev pub pattern_params : List DataDecl → Pat → PatternRule
+pattern_params types = fold-Pat PatternRule (pattern_step types)
+
+-- the binders of a whole pattern at a type
+abbrev pub pattern_binders : List DataDecl → Pat → Ty → Typing (List Binder)
+pattern_binders types p t = and_then (pattern_params types p t) distinct_binders
+
+-- Expressions -------------------------------------------------------------------------------
+
+-- an expression's first token, and what it is typed as: at a wanted type or none, within binders
+pub record Rule : Type 0 where
+  pub at : ℕ
+  pub answer : Option Ty → List Binder → Typing Ty
+
+-- a clause at the scrutinee's type
+abbrev pub ClauseRule : Type 0
+ClauseRule = Ty → Option Ty → List Binder → Typing Ty
+
+-- a number has the wanted integer type that holds it; where none is wanted it is a u64
+abbrev pub number : ℕ → ℕ → Option Ty → Typing Ty
+number at n None = Ok (Int 64)
+number at n (Some wanted) = if holds wanted n then Ok wanted else Err (Mismatch at wanted (number_type n))
+
+-- each argument with its parameter's or field's type wanted
+abbrev pub each_argument : List Rule → List Ty → List Binder → Typing (Unit {0})
+each_argument [] ts scope = Ok tt
+each_argument (e ∷ es) [] scope = Ok tt
+each_argument (e ∷ es) (t ∷ ts) scope = and_then (e.answer (Some t) scope) (λ found. each_argument es ts scope)
+
+-- the number of arguments is checked before any of them
+abbrev pub arguments : ℕ → List Rule → List Ty → List Binder → Typing (Unit {0})
+arguments at es ts scope = if length es == length ts then each_argument es ts scope else Err (Arity at (length ts) (length es))
+
+-- a function's parameters and result; a well numbered program has each function that it names
+abbrev pub params_of : Option Fun → List Param
+params_of None = []
+params_of (Some f) = f.params
+
+abbrev pub param_types : List Fun → ℕ → List Ty
+param_types funs g = map (λ p. p.ty) (params_of (slice_get funs g))
+
+abbrev pub result_of : Option Fun → Ty
+result_of None = Int 64
+result_of (Some f) = f.result
+
+abbrev pub result_type : List Fun → ℕ → Ty
+result_type funs g = result_of (slice_get funs g)
+
+-- what is wanted of an operator's first operand: of an arithmetic one, the wanted integer type
+abbrev pub integer_wanted : Option Ty → Option Ty
+integer_wanted None = None
+integer_wanted (Some (Int n)) = Some (Int n)
+integer_wanted (Some (Named t)) = None
+
+abbrev pub operand_wanted : Op → Option Ty → Option Ty
+operand_wanted Eq wanted = None
+operand_wanted Lt wanted = None
+operand_wanted op wanted = integer_wanted wanted
+
+-- `eq` and `lt` give one bit, the other operators what their operands are
+abbrev pub operator_type : Op → Ty → Ty
+operator_type Eq t = Int 1
+operator_type Lt t = Int 1
+operator_type op t = t
+
+-- an expression that has to be an integer
+abbrev pub integer_operand : Rule → Option Ty → List Binder → Typing Ty
+integer_operand e wanted scope = and_then (e.answer wanted scope) (integer e.at)
+
+-- the first operand is an integer, and the second has the first's type wanted
+abbrev pub operands : Op → Rule → Rule → Option Ty → List Binder → Typing Ty
+operands op a b wanted scope =
+    and_then (integer_operand a (operand_wanted op wanted) scope) (λ t. b.answer (Some t) scope)
+
+-- clause by clause: the first clause's type is wanted of the others; a match has a clause
+abbrev pub clauses : List ClauseRule → Ty → Option Ty → List Binder → Typing Ty
+clauses [] scrutinee wanted scope = Ok (unwrap_or wanted (Int 64))
+clauses (c ∷ cs) scrutinee wanted scope =
+    and_then (c scrutinee wanted scope) (λ found. clauses cs scrutinee (Some found) scope)
+
+abbrev pub clause_step : List DataDecl → Clause-F Rule ClauseRule → ClauseRule
+clause_step types c scrutinee wanted scope =
+    and_then (pattern_binders types c.pat scrutinee) (λ binders. c.body.answer wanted (scope ++ binders))
+
+-- one expression, where the rules of its parts stand in their places
+abbrev pub answer_step : List DataDecl → List Fun → Expr-F Rule ClauseRule → Option Ty → List Binder → Typing Ty
+answer_step types funs (E.Num at n) wanted scope = number at n wanted
+answer_step types funs (E.Var at x) wanted scope = fits at wanted (variable_type x scope)
+answer_step types funs (E.Call at g es) wanted scope =
+    and_then (arguments at es (param_types funs g) scope) (λ typed. fits at wanted (result_type funs g))
+answer_step types funs (E.Build at c es) wanted scope =
+    and_then (arguments at es (field_types types c) scope) (λ typed. fits at wanted (Named c.ty))
+answer_step types funs (E.Binary at op a b) wanted scope =
+    and_then (operands op a b wanted scope) (λ t. fits at wanted (operator_type op t))
+answer_step types funs (E.To at bits a) wanted scope =
+    and_then (integer_operand a None scope) (λ t. fits at wanted (Int bits))
+answer_step types funs (E.Let at x ty a b) wanted scope =
+    and_then (a.answer (Some ty) scope) (λ t. b.answer wanted (scope ++ record { var = x; ty = ty } ∷ []))
+answer_step types funs (E.Match at e cs) wanted scope =
+    and_then (e.answer None scope) (λ scrutinee. clauses cs scrutinee wanted scope)
+
+abbrev pub token_step : Expr-F Rule ClauseRule → ℕ
+token_step (E.Num at n) = at
+token_step (E.Var at x) = at
+token_step (E.Call at g es) = at
+token_step (E.Build at c es) = at
+token_step (E.Binary at op a b) = at
+token_step (E.To at bits a) = at
+token_step (E.Let at x ty a b) = at
+token_step (E.Match at e cs) = at
+
+abbrev pub rule_step : List DataDecl → List Fun → Expr-F Rule ClauseRule → Rule
+rule_step types funs e = record { at = token_step e; answer = answer_step types funs e }
+
+abbrev pub rule_of : List DataDecl → List Fun → Expr → Rule
+rule_of types funs = fold-Expr Rule ClauseRule (rule_step types funs) (clause_step types)
+
+-- the type of an expression, or the first fault
+abbrev pub type_of : List DataDecl → List Fun → Expr → Option Ty → List Binder → Typing Ty
+type_of types funs e = (rule_of types funs e).answer
+
+-- the type of an operator's operands, whose width its meaning takes
+abbrev pub operand_type : List DataDecl → List Fun → Op → Expr → Option Ty → List Binder → Typing Ty
+operand_type types funs op a wanted scope =
+    integer_operand (rule_of types funs a) (operand_wanted op wanted) scope
