@@ -1,0 +1,4 @@
+//! The top call of Ribbit: the words of a command line in, a status and its text out.
+#![tactic(auto)]
+
+pub mod decimal;
