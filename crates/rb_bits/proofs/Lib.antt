@@ -1,0 +1,4 @@
+mod Examples
+pub mod WordLemmas
+pub mod SliceLemmas
+pub mod ByteLemmas

@@ -1,0 +1,3 @@
+pub mod Words
+pub mod LittleEndian
+pub mod Slices

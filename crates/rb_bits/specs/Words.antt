@@ -1,0 +1,26 @@
+-- Bits of one word. Bits are counted from 0, the lowest, and a range "o, l" is bits o up to o + l.
+use Rattle.std.specs.Prelude.{ℕ, ◌+◌, ◌-◌, ◌*◌, ◌/◌, ◌%◌, ◌^◌, ◌<◌, ◌≤◌, ◌⊎◌}
+
+-- a range with a bit in it, and all within 64 bits
+abbrev pub IsRange : ℕ → ℕ → Type 0
+IsRange o l = (1 ≤ l) × (o + l ≤ 64)
+
+-- a bit that is not in the range
+abbrev pub IsOutside : ℕ → ℕ → ℕ → Type 0
+IsOutside o l i = (i < o) ⊎ (o + l ≤ i)
+
+-- two ranges with no bit in common: one ends where the other begins, or before
+abbrev pub AreDisjoint : ℕ → ℕ → ℕ → ℕ → Type 0
+AreDisjoint o l b m = (o + l ≤ b) ⊎ (b + m ≤ o)
+
+-- the number whose bits in the range are 1, and no others
+abbrev pub mask_of : ℕ → ℕ → ℕ
+mask_of o l = 2 ^ (o + l) - 2 ^ o
+
+-- the number that stands in the range
+abbrev pub take_of : ℕ → ℕ → ℕ → ℕ
+take_of w o l = w / 2 ^ o % 2 ^ l
+
+-- the word with the range replaced: what stands above the range, then the part, then what stands below
+abbrev pub put_of : ℕ → ℕ → ℕ → ℕ → ℕ
+put_of w o l part = (w / 2 ^ (o + l) * 2 ^ l + part) * 2 ^ o + w % 2 ^ o
