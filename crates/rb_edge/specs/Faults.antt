@@ -1,0 +1,14 @@
+-- Counts of faults.
+use Rattle.std.specs.Prelude.{◌≡◌, ℕ, ◌+◌, ◌-◌, ◌^◌, ◌<◌, ◌==◌, if◌then◌else◌, ◌⊎◌}
+
+-- the greatest count, at which a count stands still
+abbrev pub greatest : ℕ
+greatest = 2 ^ 64 - 1
+
+-- the count after one more fault
+abbrev pub one_more : ℕ → ℕ
+one_more faults = if faults == greatest then greatest else faults + 1
+
+-- The count rose, or could not rise, since it stood at the greatest already.
+abbrev pub Rose : ℕ → ℕ → Type 0
+Rose before now = (before < now) ⊎ (before ≡ greatest)

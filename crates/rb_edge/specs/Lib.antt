@@ -1,0 +1,6 @@
+pub mod Faults
+pub mod Source
+pub mod MemSource
+pub mod MemSink
+pub mod Whole
+pub mod Steps

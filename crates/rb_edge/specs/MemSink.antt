@@ -1,0 +1,39 @@
+-- A sink in memory: what it is between two calls, and what a write does.
+use Rattle.std.specs.Prelude.{ℕ, ◌-◌, ◌==◌, nat_lt, ◌&&◌, ◌||◌, min, List, ◌++◌, length, take, Bool, Result, Ok, Err, if◌then◌else◌}
+use Rattle.rb_edge.specs.declared.source.Failed.{Failed}
+use Rattle.rb_edge.specs.Faults.{one_more}
+use Rattle.rb_edge.specs.MemSource.{fails_at, next_call}
+
+pub record Taking : Type 0 where
+  -- the most bytes that it takes in all
+  pub room : ℕ
+  -- the most bytes that one write takes
+  pub step : ℕ
+  -- the numbers of the calls that fail
+  pub fail : List ℕ
+  -- the number of the next call
+  pub calls : ℕ
+  -- the bytes taken
+  pub taken : List ℕ
+  -- how many faults there were
+  pub faults : ℕ
+
+-- how many bytes it can still take
+abbrev pub room_left : Taking → ℕ
+room_left s = s.room - length s.taken
+
+-- whether a write of that many bytes fails: its number says so, or there are some and no room is left
+abbrev pub write_fails : Taking → ℕ → Bool
+write_fails s len = fails_at s.fail s.calls || (nat_lt 0 len && (room_left s == 0))
+
+-- how many bytes a write of that many takes
+abbrev pub write_count : Taking → ℕ → ℕ
+write_count s len = min (min len s.step) (room_left s)
+
+-- what a write answers, and the sink after it
+abbrev pub after_write : Taking → List ℕ → Result ℕ Failed × Taking
+after_write s bytes =
+    let n = write_count s (length bytes) in
+    if write_fails s (length bytes)
+    then (Err (record {}), record s { calls = next_call s.calls; faults = one_more s.faults })
+    else (Ok n, record s { calls = next_call s.calls; taken = s.taken ++ take n bytes })

@@ -1,0 +1,20 @@
+//! The outside: sources of bytes by name, sinks of bytes, the words of a command line and a
+#![tactic(auto)]
+
+pub mod mem_sink;
+pub mod mem_source;
+pub mod named;
+pub mod seq;
+pub mod sink;
+pub mod source;
+pub mod whole;
+pub mod words;
+
+pub use mem_sink::MemSink;
+pub use mem_source::MemSource;
+pub use named::NamedBytes;
+pub use seq::{Name, Seq};
+pub use sink::Sink;
+pub use source::{Failed, Source};
+pub use whole::{ReadFault, read_whole, write_whole};
+pub use words::Words;

@@ -1,0 +1,99 @@
+//! A sink in memory, whose calls fail by their numbers.
+
+ghost use Rattle.std.specs.Prelude.{◌≡◌, ◌≤◌, ◌<◌, ◌+◌, ◌++◌, ℕ, List, [], Bool, true, IsTrue, IfOk, OnErr, Ok, Err, take, length};
+ghost use Rattle.rb_edge.specs.Faults.{Rose};
+ghost use Rattle.rb_edge.specs.MemSink.{after_write};
+
+use crate::mem_source::is_failing;
+use crate::seq::Seq;
+use crate::sink::Sink;
+use crate::source::Failed;
+use std::alloc::{AllocError, Global};
+use std::marker::Model;
+
+/// Takes bytes up to its room. It numbers its calls from 0, and the call whose number is in a list
+/// fails.
+#[derive(Debug, Drop)]
+pub struct MemSink {
+    bytes: Vec<u8>,
+    room: usize,
+    step: usize,
+    fail: Seq<u64>,
+    calls: u128,
+    faults: u64,
+}
+
+impl Model for MemSink {
+    ghost use Rattle.std.specs.Prelude.{◌≤◌, vec_len, vec_capacity};
+    ghost use Rattle.rb_edge.specs.MemSink.{Taking};
+
+    ghost Value = { Taking };
+
+    ghost view = { λ s. record {
+      room = s.room;
+      step = s.step;
+      fail = s.fail;
+      calls = s.calls;
+      taken = s.bytes.items;
+      faults = s.faults;
+    } };
+
+    ghost invariant = { λ s. (1 ≤ s.step) × (vec_len s.bytes ≤ s.room) × (s.room ≤ vec_capacity s.bytes) };
+}
+
+impl MemSink {
+    /// A sink with room for so many bytes, whose memory is all taken here. A write takes at most `step`
+    /// bytes, and the calls whose numbers are in `fail` fail.
+    pub fn new(
+        alloc: Global,
+        room: usize,
+        step: usize,
+        fail: Seq<u64>,
+    ) -> Result<MemSink, AllocError>
+        requires { 1 ≤ step }
+        ensures { IfOk result (λ s. s ≡ record { room = room; step = step; fail = fail; calls = 0; taken = []; faults = 0 }) }
+    {
+        let bytes = Vec::with_capacity(alloc, room)?;
+        Ok(MemSink {
+            bytes,
+            room,
+            step,
+            fail,
+            calls: 0,
+            faults: 0,
+        })
+    }
+
+    /// The bytes taken.
+    pub fn bytes(&self) -> &[u8]
+        ensures { result.now ≡ self.now.taken }
+    {
+        self.bytes.as_slice()
+    }
+}
+
+impl Sink for MemSink {
+    ghost tells = { λ _. true };
+
+    ghost taken = { λ s. s.taken };
+
+    ghost faults = { λ s. s.faults };
+
+    fn write(&mut self, bytes: &[u8]) -> Result<usize, Failed>
+        ensures answer { (result, self.new) ≡ after_write self.old bytes.now }
+        ensures some { IfOk result (λ n. 0 < length bytes.now → 0 < n) }
+    {
+        let failing = is_failing(self.fail.as_slice(), self.calls);
+        let left = self.room - self.bytes.len();
+        self.calls = self.calls.saturating_add(1);
+        if failing || (!bytes.is_empty() && left == 0) {
+            self.faults = self.faults.saturating_add(1);
+            return Err(Failed);
+        }
+        let count = bytes.len().min(self.step).min(left);
+        match self.bytes.extend_from_slice(&bytes[..count]) {
+            Ok(()) => Ok(count),
+            Err(_) => unreachable!(),
+        }
+    }
+}

@@ -1,0 +1,141 @@
+//! A source in memory, whose calls fail by their numbers.
+
+ghost use Rattle.std.specs.Prelude.{◌≡◌, ◌≤◌, ◌<◌, ◌+◌, ℕ, List, [], ◌∷◌, Bool, true, Option, Some, None, MatchOption, IsTrue, IfOk, OnOk, OnErr, IsErr, Ok, Err, take, drop, length, slice_get};
+ghost use Rattle.std.specs.Option.{option_map};
+ghost use Rattle.rb_edge.specs.Faults.{Rose};
+ghost use Rattle.rb_edge.specs.Source.{HoldsTheSame, Gives, FailsToOpen};
+ghost use Rattle.rb_edge.specs.MemSource.{held_in, bytes_of, fails_at, after_open, after_read};
+
+use crate::named::NamedBytes;
+use crate::seq::Seq;
+use crate::source::{Failed, Source};
+use std::marker::Model;
+
+/// Files in memory. It numbers its calls from 0, and the call whose number is in a list fails.
+#[derive(Debug, Drop)]
+pub struct MemSource {
+    files: Seq<NamedBytes>,
+    step: usize,
+    fail: Seq<u64>,
+    calls: u128,
+    // the index of the opened file, and how many of its bytes were read
+    opened: Option<usize>,
+    at: usize,
+    faults: u64,
+}
+
+impl Model for MemSource {
+    ghost use Rattle.std.specs.Prelude.{◌≤◌, drop, length};
+    ghost use Rattle.rb_edge.specs.MemSource.{Files, bytes_of};
+
+    ghost Value = { Files };
+
+    ghost view = { λ s. record {
+      files = s.files;
+      step = s.step;
+      fail = s.fail;
+      calls = s.calls;
+      left = drop s.at (bytes_of s.files s.opened);
+      faults = s.faults;
+    } };
+
+    ghost invariant = { λ s. (1 ≤ s.step) × (s.at ≤ length (bytes_of s.files s.opened)) };
+}
+
+impl MemSource {
+    /// Files of which each read gives at most `step` bytes, and where the calls whose numbers are in
+    /// `fail` fail. No file is open.
+    pub fn new(files: Seq<NamedBytes>, step: usize, fail: Seq<u64>) -> MemSource
+        requires { 1 ≤ step }
+        ensures { result ≡ record { files = files; step = step; fail = fail; calls = 0; left = []; faults = 0 } }
+    {
+        MemSource {
+            files,
+            step,
+            fail,
+            calls: 0,
+            opened: None,
+            at: 0,
+            faults: 0,
+        }
+    }
+}
+
+/// Whether the call of that number fails.
+pub(crate) fn is_failing(fail: &[u64], call: u128) -> bool
+    ensures { result ≡ fails_at fail.now call }
+{
+    fail.iter().any(|n| u128::from(*n) == call)
+}
+
+/// The index of the first file of that name.
+fn index_of(files: &[NamedBytes], name: &[u8]) -> Option<usize>
+    ensures found { MatchOption result (held_in files.now name.now ≡ None)
+        (λ i. held_in files.now name.now ≡ option_map (λ f. f.bytes) (slice_get files.now i)) }
+    ensures within { MatchOption result (0 ≤ length files.now) (λ i. i < length files.now) }
+{
+    for (i, file) in files.iter().enumerate() {
+        if file.name.as_slice() == name {
+            return Some(i);
+        }
+    }
+    None
+}
+
+/// The bytes of the file of that index, or none.
+fn bytes_at(files: &Seq<NamedBytes>, opened: Option<usize>) -> &[u8]
+    ensures { result.now ≡ bytes_of files.now opened }
+{
+    match opened {
+        None => &[],
+        Some(i) => match files.get(i) {
+            None => &[],
+            Some(file) => file.bytes.as_slice(),
+        },
+    }
+}
+
+impl Source for MemSource {
+    ghost tells = { λ _. true };
+
+    ghost held = { λ s name. held_in s.files name };
+
+    ghost left = { λ s. s.left };
+
+    ghost faults = { λ s. s.faults };
+
+    fn open_file(&mut self, name: &[u8]) -> Result<(), Failed>
+        ensures answer { (result, self.new) ≡ after_open self.old name.now }
+    {
+        let failing = is_failing(self.fail.as_slice(), self.calls);
+        self.calls = self.calls.saturating_add(1);
+        self.at = 0;
+        self.opened = None;
+        let Some(index) = index_of(self.files.as_slice(), name) else {
+            return Err(Failed);
+        };
+        if failing {
+            self.faults = self.faults.saturating_add(1);
+            return Err(Failed);
+        }
+        self.opened = Some(index);
+        Ok(())
+    }
+
+    fn read(&mut self, buf: &mut [u8]) -> Result<usize, Failed>
+        ensures answer { (result, buf.new, self.new) ≡ after_read self.old buf.old }
+        ensures gives { IfOk result (λ n. Gives n buf.new self.old.left self.new.left) }
+    {
+        let failing = is_failing(self.fail.as_slice(), self.calls);
+        self.calls = self.calls.saturating_add(1);
+        if failing {
+            self.faults = self.faults.saturating_add(1);
+            return Err(Failed);
+        }
+        let left = &bytes_at(&self.files, self.opened)[self.at..];
+        let count = buf.len().min(self.step).min(left.len());
+        buf[..count].copy_from_slice(&left[..count]);
+        self.at += count;
+        Ok(count)
+    }
+}

@@ -1,0 +1,10 @@
+//! A file in memory.
+
+use crate::seq::{Name, Seq};
+
+/// The bytes of a file under its name.
+#[derive(Debug, Drop)]
+pub struct NamedBytes {
+    pub name: Name,
+    pub bytes: Seq<u8>,
+}

@@ -1,0 +1,51 @@
+//! A source: files by name, of which one is open.
+
+ghost use Rattle.std.specs.Prelude.{◌≡◌, ◌≤◌, ℕ, List, [], Bool, Option, Some, None, length, IsTrue, IfOk, OnOk, OnErr, IsErr};
+ghost use Rattle.rb_edge.specs.Faults.{Rose};
+ghost use Rattle.rb_edge.specs.Source.{HoldsTheSame, Gives, FailsToOpen};
+
+/// The one fault of sources and sinks.
+#[derive(Clone, Copy, Debug, PartialEq, Eq)]
+pub struct Failed;
+
+/// Files by name, of which one is open at a time.
+///
+/// What a contract says of bytes it says of sources that tell their bytes; a file of the system tells
+/// none. The count of faults means the same in all sources.
+pub trait Source {
+    // whether the source tells its bytes
+    ghost tells: { Self → Bool };
+
+    // the bytes held under a name; `None` where nothing is held
+    ghost held: { Self → List ℕ → Option (List ℕ) };
+
+    // the bytes left of the opened file
+    ghost left: { Self → List ℕ };
+
+    // how many faults there were
+    ghost faults: { Self → ℕ };
+
+    /// Opens the file of that name at its first byte, in place of the one that was open.
+    fn open_file(&mut self, name: &[u8]) -> Result<(), Failed>
+        ensures same { HoldsTheSame tells held self.old self.new }
+        ensures later { faults self.old ≤ faults self.new }
+
+        ensures opened { OnOk result (IsTrue (tells self.old) → held self.old name.now ≡ Some (left self.new)) }
+        ensures nothing_left { OnErr result (IsTrue (tells self.old) → left self.new ≡ []) }
+        ensures cause { OnErr result (FailsToOpen tells held faults self.old self.new name.now) }
+
+        // A name under which nothing is held is never opened, and that is no fault.
+        ensures not_held { IsTrue (tells self.old) → held self.old name.now ≡ None → IsErr result }
+        ensures no_fault { IsTrue (tells self.old) → held self.old name.now ≡ None → faults self.new ≡ faults self.old };
+
+    /// Reads the next bytes into the front of the buffer, and says how many. What stands behind them
+    /// in the buffer is left open.
+    fn read(&mut self, buf: &mut [u8]) -> Result<usize, Failed>
+        ensures same { HoldsTheSame tells held self.old self.new }
+        ensures later { faults self.old ≤ faults self.new }
+
+        ensures within { IfOk result (λ n. n ≤ length buf.old) }
+        ensures bytes { IfOk result (λ n. IsTrue (tells self.old) → Gives n buf.new (left self.old) (left self.new)) }
+        ensures err { OnErr result (IsTrue (tells self.old) → left self.new ≡ left self.old) }
+        ensures cause { OnErr result (Rose (faults self.old) (faults self.new)) };
+}
