@@ -11,6 +11,7 @@ pub mod outcome;
 pub mod pattern;
 pub mod program;
 pub mod seq;
+pub mod typed;
 pub mod types;
 pub mod typing;
 pub mod value;

@@ -1,0 +1,61 @@
+-- Typed programs: each type has a value, and each provenance and each function's body is typed.
+-- The first fault is that of a type without a value, then the first in the file's order: through
+-- the layouts' provenances, then through the functions.
+use Rattle.std.specs.Prelude.{◌≡◌, ℕ, ◌<◌, List, [], ◌∷◌, ◌++◌, map, length, true, false, Option, Some, None}
+use Rattle.std.specs.Result.{result_err}
+use Rattle.rb_core.specs.declared.value.Value.{Value}
+use Rattle.rb_core.specs.declared.types.Ty.TheVariants.{Named}
+use Rattle.rb_core.specs.declared.types.DataDecl.{DataDecl}
+use Rattle.rb_core.specs.declared.pattern.Pat.{Pat}
+use Rattle.rb_core.specs.declared.layout_decl.LayoutDecl.{LayoutDecl}
+use Rattle.rb_core.specs.declared.program.Fun.{Fun}
+use Rattle.rb_core.specs.declared.program.Program.{Program}
+use Rattle.rb_core.specs.declared.typing.TypeFault.{TypeFault}
+use Rattle.rb_core.specs.Values.{is_of_type}
+use Rattle.rb_core.specs.Layouts.{provenances}
+use Rattle.rb_core.specs.Typing.{and_then, pattern_binders, distinct_binders, type_of}
+use Rattle.rb_core.specs.WellNumbered.{IsWellNumbered}
+
+-- a type has a value; or it has none, since values are finite
+abbrev pub HasValue : List DataDecl → ℕ → Type 0
+HasValue types t = (v : Value) × (is_of_type types v (Named t) ≡ true)
+
+abbrev pub IsEmpty : List DataDecl → ℕ → Type 0
+IsEmpty types t = (v : Value) → is_of_type types v (Named t) ≡ false
+
+abbrev pub HaveValues : List DataDecl → Type 0
+HaveValues types = (t : ℕ) → t < length types → HasValue types t
+
+-- a type is the first without a value
+pub record IsFirstEmpty (types : List DataDecl) (t : ℕ) : Type 0 where
+  pub declared : t < length types
+  pub empty : IsEmpty types t
+  pub before : (s : ℕ) → s < t → HasValue types s
+
+-- the first fault of several
+abbrev pub first_fault : List (Option TypeFault) → Option TypeFault
+first_fault [] = None
+first_fault (None ∷ faults) = first_fault faults
+first_fault (Some fault ∷ faults) = Some fault
+
+-- a provenance is a pattern at its layout's type
+abbrev pub provenance_fault : List DataDecl → ℕ → Pat → Option TypeFault
+provenance_fault types t p = result_err (pattern_binders types p (Named t))
+
+abbrev pub layout_fault : List DataDecl → LayoutDecl → Option TypeFault
+layout_fault types l = first_fault (map (provenance_fault types l.ty) (provenances l.tree))
+
+-- a function's body is typed with its result type wanted, within its parameters
+abbrev pub function_fault : List DataDecl → List Fun → Fun → Option TypeFault
+function_fault types funs f =
+    result_err (and_then (distinct_binders f.params) (type_of types funs f.body (Some f.result)))
+
+-- the first fault in the layouts and the functions
+abbrev pub rule_fault : Program → Option TypeFault
+rule_fault p = first_fault (map (layout_fault p.types) p.layouts ++ map (function_fault p.types p.funs) p.funs)
+
+-- a program is typed
+pub record IsTyped (p : Program) : Type 0 where
+  pub numbered : IsWellNumbered p
+  pub values : HaveValues p.types
+  pub rules : rule_fault p ≡ None
