@@ -1,0 +1,6 @@
+//! Tokens of files, trees of what is written, and how trees are spelled.
+#![tactic(auto)]
+
+pub mod token;
+pub mod tree;
+pub mod words;
