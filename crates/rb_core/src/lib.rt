@@ -4,6 +4,7 @@
 //! typing and the source meaning. No layout and no memory occurs in a meaning.
 #![tactic(auto)]
 
+pub mod binding;
 pub mod boxed;
 pub mod expression;
 pub mod layout_decl;

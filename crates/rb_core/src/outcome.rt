@@ -27,3 +27,11 @@ pub struct Outcome {
     pub log: Seq<Event>,
     pub end: SourceEnd,
 }
+
+/// How the evaluation of some parts ends: each with its value and so many calls left, or cut
+/// where a call was due and none was left.
+#[derive(Drop)]
+pub enum PartsEnd {
+    AllDone(Seq<Value>, u64),
+    Cut,
+}
