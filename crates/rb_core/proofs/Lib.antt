@@ -1,3 +1,4 @@
+pub mod Decimals
 pub mod ValueLemmas
 pub mod TypingExamples
 pub mod TypingLemmas

@@ -6,6 +6,7 @@
 
 pub mod binding;
 pub mod boxed;
+pub mod decimal;
 pub mod expression;
 pub mod layout_decl;
 pub mod outcome;

@@ -1,4 +1,2 @@
 //! The top call of Ribbit: the words of a command line in, a status and its text out.
 #![tactic(auto)]
-
-pub mod decimal;

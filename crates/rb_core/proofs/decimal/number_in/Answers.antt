@@ -1,8 +1,8 @@
 use Rattle.std.proofs.Common.{sym, ap, ◌∙◌, ◌^◌, Some, ◌<◌, arith}
 use Rattle.std.specs.Fmt.{decimal}
 use Rattle.std.specs.Str.Parse.{digits_value}
-use Rattle.ribbit_tool.proofs.Decimals.{numeral_spelled, numeral-decimal, value-decimal}
-use Rattle.ribbit_tool.proofs.decimal.number_in.Goals as goal
+use Rattle.rb_core.proofs.Decimals.{numeral_spelled, numeral-decimal, value-decimal}
+use Rattle.rb_core.proofs.decimal.number_in.Goals as goal
 
 pub returns-then-not-is_numeral-clause-only : goal.returns-then-not-is_numeral-clause-only
 returns-then-not-is_numeral-clause-only c n low high e =

@@ -1,12 +1,13 @@
-//! Numbers as the command line spells them: decimal digits without a leading zero.
+//! Numbers as texts spell them: decimal digits without a leading zero.
 
 ghost use Rattle.std.specs.Prelude.{◌≡◌, ◌≤◌, ◌^◌, ◌==◌, ◌||◌, ℕ, true, length, nat_lt, slice_index, MatchOption, IfSome, Some};
 ghost use Rattle.std.specs.Char.{is_ascii_digit};
 ghost use Rattle.std.specs.Fmt.{decimal};
 ghost use Rattle.std.specs.List.{list_all};
 ghost use Rattle.std.specs.Str.Parse.{digits_value};
-ghost use Rattle.ribbit_tool.specs.Decimal as spec;
+ghost use Rattle.rb_core.specs.Decimal as spec;
 
+use arrayvec::ArrayVec;
 use std::str;
 
 // Whether there is one byte, or the first is over `0`.
@@ -65,4 +66,18 @@ pub fn number_in(low: u64, high: u64, word: &[u8]) -> Option<u64>
         }
         None => None,
     }
+}
+
+/// The decimal digits of a number, without a leading zero. It takes no memory.
+pub fn digits(number: u64) -> ArrayVec<u8, 20>
+    ensures { result.items ≡ decimal number }
+{
+    let mut digits = ArrayVec::new();
+    let mut rest = number;
+    while rest >= 10 {
+        digits.insert(0, b'0' + (rest % 10) as u8);
+        rest /= 10;
+    }
+    digits.insert(0, b'0' + rest as u8);
+    digits
 }

@@ -3,8 +3,8 @@ use Rattle.std.specs.Str.Parse.{digits_value}
 use Rattle.std.proofs.lemmas.Str.{IsUtf8-from_ascii}
 use Rattle.std.proofs.lemmas.Fmt.{IsAscii-from_digits}
 use Rattle.std.proofs.lemmas.Str.Parse.{parse_digits}
-use Rattle.ribbit_tool.proofs.Decimals.{own, digits-numeral, some-numeral}
-use Rattle.ribbit_tool.proofs.decimal.value_of.Goals as goal
+use Rattle.rb_core.proofs.Decimals.{own, digits-numeral, some-numeral}
+use Rattle.rb_core.proofs.decimal.value_of.Goals as goal
 
 by_refusal : (n : ℕ) → (n < 2 ^ 64 → ⊥) → 2 ^ 64 ≤ n
 by_refusal n refused = grind (arith, refused)
