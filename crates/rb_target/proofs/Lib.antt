@@ -1,0 +1,5 @@
+pub mod Results
+pub mod Unrolling
+pub mod Nesting
+pub mod Patching
+pub mod Written

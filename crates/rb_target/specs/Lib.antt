@@ -1,0 +1,4 @@
+pub mod Meaning
+pub mod Validity
+pub mod Laws
+pub mod Sheet

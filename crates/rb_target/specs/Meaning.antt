@@ -1,0 +1,170 @@
+-- What code does over a memory, from the calls that are left, a function and its words.
+use Rattle.std.specs.Prelude.{ℕ, zero, suc, ◌+◌, ◌-◌, ◌*◌, ◌%◌, ◌^◌, nat_eq, nat_lt, List, [], ◌∷◌, ◌++◌, map, length, replicate, Option, Some, None, Result, Ok, Err, slice_get, slice_index, slice_set, if◌then◌else◌}
+use Rattle.std.specs.Int.RustNames.{bit_and, bit_or, bit_xor}
+use Rattle.rb_bits.specs.Words.{take_of, put_of}
+use Rattle.rb_bytes.specs.Memory.{Memory, place_of, load_of, store_of}
+use Rattle.rb_bytes.specs.declared.fault.Full.{Full}
+use Rattle.rb_bytes.specs.declared.fault.Trap.{Trap}
+use Rattle.rb_bytes.specs.declared.fault.Trap.TheVariants.{Unmatched}
+use Rattle.rb_target.specs.declared.outcome.End.{End}
+use Rattle.rb_target.specs.declared.outcome.End.TheVariants.{Returned, Spent, Full as Filled, Trapped}
+use Rattle.rb_target.specs.declared.instr.AluOp.{AluOp}
+use Rattle.rb_target.specs.declared.instr.AluOp.TheVariants.{Add, Sub, Mul, And, Or, Xor, Eq, Lt}
+use Rattle.rb_target.specs.declared.instr.SwitchArm.{SwitchArm}
+use Rattle.rb_target.specs.declared.instr.Instr.{Instr}
+use Rattle.rb_target.specs.declared.instr.Instr.TheVariants.{Const, Copy, Alu, Take, Put, Load, Store, Place, Jump, Switch, Call, Return}
+use Rattle.rb_target.specs.declared.code.CodeFun.{CodeFun}
+
+-- what a run carries along: the calls that are left, the memory, and the switches and instructions so far
+pub record World : Type 0 where
+  pub left : ℕ
+  pub memory : Memory
+  pub switches : ℕ
+  pub taken : ℕ
+
+pub record Outcome : Type 0 where
+  pub ended : End
+  pub world : World
+
+abbrev pub over : End → World → Outcome
+over e w = record { ended = e; world = w }
+
+-- what goes on from an instruction's number and the slots
+abbrev pub Next : Type 0
+Next = ℕ → List ℕ → World → Outcome
+
+-- what a call does, from the function's number and the words
+abbrev pub Callee : Type 0
+Callee = ℕ → List ℕ → World → Outcome
+
+-- the first six modulo two to the power of the width, the last two on the whole words
+abbrev pub alu_of : AluOp → ℕ → ℕ → ℕ → ℕ
+alu_of Add n x y = (x + y) % 2 ^ n
+alu_of Sub n x y = (x + (2 ^ n - y % 2 ^ n)) % 2 ^ n
+alu_of Mul n x y = (x * y) % 2 ^ n
+alu_of And n x y = bit_and x y % 2 ^ n
+alu_of Or n x y = bit_or x y % 2 ^ n
+alu_of Xor n x y = bit_xor x y % 2 ^ n
+alu_of Eq n x y = if nat_eq x y then 1 else 0
+alu_of Lt n x y = if nat_lt x y then 1 else 0
+
+abbrev pub slots_at : List ℕ → List ℕ → List ℕ
+slots_at slots froms = map (λ a. slice_index slots a) froms
+
+-- the words go to the slots in their order
+abbrev pub put_slots : List ℕ → List ℕ → List ℕ → List ℕ
+put_slots slots [] words = slots
+put_slots slots (d ∷ ds) [] = slots
+put_slots slots (d ∷ ds) (w ∷ ws) = put_slots (slice_set slots d w) ds ws
+
+-- the target of the first arm with this number, or else the other one
+abbrev pub target_of : List SwitchArm → Option ℕ → ℕ → Option ℕ
+target_of [] other word = other
+target_of (arm ∷ arms) other word = if nat_eq arm.number word then Some arm.target else target_of arms other word
+
+abbrev pub after_load : Result ℕ Trap → World → (ℕ → Outcome) → Outcome
+after_load (Ok word) w go = go word
+after_load (Err t) w go = over (Trapped t) w
+
+abbrev pub after_store : Result (Unit {0}) Trap → World → Outcome → Outcome
+after_store (Ok u) w go = go
+after_store (Err t) w go = over (Trapped t) w
+
+abbrev pub after_place : Result ℕ Full → World → (ℕ → Outcome) → Outcome
+after_place (Ok a) w go = go a
+after_place (Err f) w go = over (Filled f) w
+
+abbrev pub after_switch : Option ℕ → ℕ → World → (ℕ → Outcome) → Outcome
+after_switch None word w go = over (Trapped (Unmatched word)) w
+after_switch (Some t) word w go = go t
+
+-- a call that came back goes on, and any other end is the end
+abbrev pub after_call : End → World → (List ℕ → Outcome) → Outcome
+after_call (Returned words calls_left) w go = go words
+after_call Spent w go = over Spent w
+after_call (Filled f) w go = over (Filled f) w
+after_call (Trapped t) w go = over (Trapped t) w
+
+abbrev pub switched : World → World
+switched w = record w { switches = w.switches + 1 }
+
+abbrev pub with_memory : World → Memory → World
+with_memory w m = record w { memory = m }
+
+-- the instruction table
+abbrev pub act : Instr → Next → Callee → ℕ → List ℕ → World → Outcome
+act (Const d c) next callee pc slots w = next (pc + 1) (slice_set slots d c) w
+act (Copy d a) next callee pc slots w = next (pc + 1) (slice_set slots d (slice_index slots a)) w
+act (Alu op n d a b) next callee pc slots w =
+    next (pc + 1) (slice_set slots d (alu_of op n (slice_index slots a) (slice_index slots b))) w
+act (Take d a o l) next callee pc slots w = next (pc + 1) (slice_set slots d (take_of (slice_index slots a) o l)) w
+act (Put d a o l) next callee pc slots w =
+    next (pc + 1) (slice_set slots d (put_of (slice_index slots d) o l (slice_index slots a % 2 ^ l))) w
+act (Load d a offset width) next callee pc slots w =
+    after_load (load_of w.memory (slice_index slots a) offset width) w (λ word. next (pc + 1) (slice_set slots d word) w)
+act (Store a offset width v) next callee pc slots w =
+    let stored = store_of w.memory (slice_index slots a) offset width (slice_index slots v) in
+    let w' = with_memory w stored.1 in
+    after_store stored.0 w' (next (pc + 1) slots w')
+act (Place d size align) next callee pc slots w =
+    let placed = place_of w.memory size align in
+    let w' = with_memory w placed.1 in
+    after_place placed.0 w' (λ a. next (pc + 1) (slice_set slots d a) w')
+act (Jump t) next callee pc slots w = next t slots w
+act (Switch a other arms) next callee pc slots w =
+    after_switch (target_of arms other (slice_index slots a)) (slice_index slots a) (switched w) (λ t. next t slots (switched w))
+act (Call f ds froms) next callee pc slots w =
+    let back = callee f (slots_at slots froms) w in
+    after_call back.ended back.world (λ words. next (pc + 1) (put_slots slots ds words) back.world)
+act (Return froms) next callee pc slots w = over (Returned (slots_at slots froms) w.left) w
+
+-- an instruction that is begun is taken
+abbrev pub taken : World → World
+taken w = record w { taken = w.taken + 1 }
+
+-- where there is no instruction; valid code does not come to this
+abbrev pub act_at : Option Instr → Next → Callee → ℕ → List ℕ → World → Outcome
+act_at None next callee pc slots w = over Spent w
+act_at (Some i) next callee pc slots w = act i next callee pc slots (taken w)
+
+-- at most n instructions of a body; since jumps go forward, its length is enough
+abbrev pub steps : ℕ → List Instr → Callee → ℕ → List ℕ → World → Outcome
+steps zero body callee pc slots w = over Spent w
+steps (suc n) body callee pc slots w = act_at (slice_get body pc) (steps n body callee) callee pc slots w
+
+-- a body from one of its instructions on
+unfoldable pub from : List Instr → Callee → Next
+from body callee pc slots w = steps (length body) body callee pc slots w
+
+abbrev pub body_in : Option CodeFun → List Instr
+body_in None = []
+body_in (Some f) = f.body
+
+abbrev pub slots_in : Option CodeFun → ℕ
+slots_in None = 0
+slots_in (Some f) = f.slots
+
+abbrev pub body_of : List CodeFun → ℕ → List Instr
+body_of funs f = body_in (slice_get funs f)
+
+-- the words, and 0 in the other slots
+abbrev pub first_slots : List CodeFun → ℕ → List ℕ → List ℕ
+first_slots funs f words = words ++ replicate (slots_in (slice_get funs f) - length words) 0
+
+abbrev pub with_left : World → ℕ → World
+with_left w left = record w { left = left }
+
+-- a call costs one of the calls that are left
+abbrev pub after_one_call : ℕ → World → (World → Outcome) → Outcome
+after_one_call zero w go = over Spent w
+after_one_call (suc left) w go = go (with_left w left)
+
+-- a call of a function, with calls nested at most so deep; a depth of the calls that are left is enough
+unfoldable pub enter : List CodeFun → ℕ → Callee
+enter funs zero f words w = over Spent w
+enter funs (suc depth) f words w =
+    after_one_call w.left w (λ v. from (body_of funs f) (enter funs depth) 0 (first_slots funs f words) v)
+
+-- a whole run: the function f of the words, over a memory, with so many calls, its own included
+abbrev pub run_of : List CodeFun → ℕ → ℕ → List ℕ → Memory → Outcome
+run_of funs calls f words m = enter funs calls f words (record { left = calls; memory = m; switches = 0; taken = 0 })

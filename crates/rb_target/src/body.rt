@@ -1,0 +1,148 @@
+//! The code of one function while it is made.
+
+ghost use Rattle.std.specs.Prelude.{◌≡◌, ℕ, ◌+◌, ◌<◌, ◌≤◌, ◌^◌, ◌∷◌, ◌++◌, [], IfOk, OnOk, OnErr, length, Some, Option};
+ghost use Rattle.rb_target.specs.Sheet.{Sheet, pushed, with_slot, patched, retargeted, retargeted_arm, IsHole, IsHoleIn, AreWritten};
+ghost use Rattle.rb_target.specs.Validity.{dest_count};
+
+use crate::code::CodeFun;
+use crate::instr::{Instr, SwitchArm};
+use rb_core::seq::Seq;
+use rb_core::types::Name;
+use std::alloc::{AllocError, Global};
+use std::marker::Model;
+
+/// A target that is still open: the number of a jump or a switch, and which of its targets. No arm
+/// is the jump's own target, or the switch's other one. `leaf` says whose target it is, to whoever
+/// made the hole.
+#[derive(Clone, Copy, PartialEq, Eq, Debug)]
+pub struct Hole {
+    pub pc: usize,
+    pub arm: Option<usize>,
+    pub leaf: usize,
+}
+
+/// Instructions, and the slots that are in use: the parameters, then one for each call of `fresh`.
+#[derive(Debug, Drop)]
+pub struct Body {
+    code: Seq<Instr>,
+    params: usize,
+    given: usize,
+}
+
+impl Model for Body {
+    ghost use Rattle.std.specs.Prelude.{◌+◌};
+    ghost use Rattle.rb_target.specs.Sheet.{Sheet, IsKept};
+
+    ghost Value = { Sheet };
+
+    ghost view = { λ b. record { code = b.code; params = b.params; slots = b.params + b.given } };
+
+    ghost invariant = { λ b. IsKept b.params (b.params + b.given) b.code };
+}
+
+impl Body {
+    /// No instruction yet. Bodies have at most 256 parameters.
+    pub fn new(alloc: Global, params: usize) -> Body
+        requires { params ≤ 256 }
+        ensures { result ≡ record { code = []; params = params; slots = params } }
+    {
+        Body {
+            code: Seq::new(alloc),
+            params,
+            given: 0,
+        }
+    }
+
+    /// Adds an instruction at the end. A body of 2^32 instructions takes no more, as if memory were wanting.
+    pub fn push(&mut self, instr: Instr) -> Result<(), AllocError>
+        ensures ok { OnOk result (self.new ≡ pushed self.old instr) }
+        ensures err { OnErr result (self.new ≡ self.old) }
+    {
+        if self.code.len() >= MOST_INSTRS {
+            return Err(AllocError);
+        }
+        self.code.push(instr)?;
+        Ok(())
+    }
+
+    /// A slot that nothing else uses: the next after the parameters and all slots given before.
+    pub fn fresh(&mut self) -> Result<usize, AllocError>
+        ensures slot { IfOk result (λ d. d ≡ self.old.slots) }
+        ensures ok { OnOk result (self.new ≡ with_slot self.old) }
+        ensures err { OnErr result (self.new ≡ self.old) }
+    {
+        let slot = self.params + self.given;
+        if slot == usize::MAX {
+            return Err(AllocError);
+        }
+        self.given += 1;
+        Ok(slot)
+    }
+
+    /// The number of instructions, which is that of the next one.
+    pub fn len(&self) -> usize
+        ensures value { result ≡ length self.now.code }
+        ensures few { result ≤ 2 ^ 32 }
+    {
+        self.code.len()
+    }
+
+    /// Sets one target, of an instruction before it.
+    pub fn patch(&mut self, hole: &Hole, target: usize)
+        requires inside { IsHole self.old.code hole.now }
+        requires forward { hole.now.pc < target }
+        ensures { self.new ≡ patched self.old hole.now target }
+    {
+        let old = self.code.replace(hole.pc, Instr::Jump(target));
+        let new = retarget(old, hole.arm, target);
+        let _jump = self.code.replace(hole.pc, new);
+    }
+
+    /// The function. Its slots are the parameters and the slots given, each of which some instruction writes.
+    pub fn finish(self, name: Name, results: usize) -> CodeFun
+        requires { AreWritten self }
+        ensures value { result ≡ record { name = name; params = self.params; results = results; slots = self.slots; body = self.code } }
+        ensures written { self.slots ≤ self.params + dest_count self.code }
+    {
+        let Body {
+            code,
+            params,
+            given,
+        } = self;
+        CodeFun {
+            name,
+            params,
+            results,
+            slots: params + given,
+            body: code,
+        }
+    }
+}
+
+// A body's greatest length, so that numbers of instructions and their sums never overflow.
+const MOST_INSTRS: usize = 1 << 32;
+
+// The instruction with one target changed.
+fn retarget(instr: Instr, arm: Option<usize>, target: usize) -> Instr
+    requires { IsHoleIn (Some instr) arm }
+    ensures { result ≡ retargeted instr arm target }
+{
+    match (instr, arm) {
+        (Instr::Switch(slot, _, arms), None) => Instr::Switch(slot, Some(target), arms),
+        (Instr::Switch(slot, other, arms), Some(k)) => {
+            Instr::Switch(slot, other, retarget_arm(arms, k, target))
+        }
+        _ => Instr::Jump(target),
+    }
+}
+
+// The arms with one target changed.
+fn retarget_arm(arms: Seq<SwitchArm>, k: usize, target: usize) -> Seq<SwitchArm>
+    requires { k < length arms }
+    ensures { result ≡ retargeted_arm arms k target }
+{
+    let mut arms = arms;
+    let number = arms.as_slice()[k].number;
+    let _old = arms.replace(k, SwitchArm { number, target });
+    arms
+}

@@ -1,0 +1,7 @@
+//! The target of the compiler: its instructions, what code means over any memory, and code that grows.
+#![tactic(auto)]
+
+pub mod body;
+pub mod code;
+pub mod instr;
+pub mod outcome;
