@@ -1,0 +1,84 @@
+//! A counter of steps.
+
+ghost use Rattle.std.specs.Prelude.{◌≡◌, ℕ, ◌+◌, ◌-◌, ◌^◌, min};
+
+use crate::taken::Taken;
+use std::marker::Model;
+
+/// What is told of each step.
+pub trait Ledger {
+    // what one note changes
+    ghost Notes: { Self → Self → Type 0 };
+
+    /// Takes note of one step.
+    fn note(&mut self)
+        ensures { Notes self.old self.new };
+}
+
+/// A ledger that keeps nothing.
+#[derive(Debug, Drop)]
+pub struct NoLedger;
+
+impl Ledger for NoLedger {
+    ghost Notes = { λ old new. new ≡ old };
+
+    fn note(&mut self) {}
+}
+
+/// A ledger that counts its notes, up to the greatest number.
+#[derive(Debug, Drop)]
+pub struct CountLedger {
+    pub count: u128,
+}
+
+impl Ledger for CountLedger {
+    ghost Notes = { λ old new. new.count ≡ min (old.count + 1) (2 ^ 128 - 1) };
+
+    fn note(&mut self) {
+        self.count = self.count.saturating_add(1);
+    }
+}
+
+/// How many steps were taken, each of which a ledger was told of. The number itself stands in contracts
+/// alone, has no greatest value and takes no bytes.
+#[derive(Drop)]
+pub struct Steps<L: Ledger> {
+    ledger: L,
+    taken: Taken,
+}
+
+impl<L: Ledger> Model for Steps<L> {
+    ghost use Rattle.rb_edge.specs.Steps.{Counted};
+
+    ghost Value = { Counted L };
+
+    ghost view = { λ s. record { taken = s.taken.count; ledger = s.ledger } };
+}
+
+impl<L: Ledger> Steps<L> {
+    /// No step taken yet.
+    pub fn new(ledger: L) -> Steps<L>
+        ensures { result ≡ record { taken = 0; ledger = ledger } }
+    {
+        Steps {
+            ledger,
+            taken: Taken::new(),
+        }
+    }
+
+    /// One step more, which the ledger is told of.
+    pub fn tick(&mut self)
+        ensures taken { self.new.taken ≡ self.old.taken + 1 }
+        ensures noted { L.Notes self.old.ledger self.new.ledger }
+    {
+        self.taken.add();
+        self.ledger.note();
+    }
+
+    /// The ledger.
+    pub fn ledger(&self) -> &L
+        ensures { result.now ≡ self.now.ledger }
+    {
+        &self.ledger
+    }
+}
