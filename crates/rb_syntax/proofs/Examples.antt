@@ -1,5 +1,5 @@
 -- Worked examples, which the check computes.
-use Rattle.std.proofs.Common.{◌≡◌, ℕ, List, [], ◌∷◌, ◌++◌, map, length, codes, refl}
+use Rattle.std.proofs.Common.{◌≡◌, ℕ, List, [], ◌∷◌, codes, refl}
 use Rattle.rb_core.specs.declared.expression.Op.TheVariants.{Add, Mul}
 use Rattle.rb_syntax.specs.declared.token.Token.{Token}
 use Rattle.rb_syntax.specs.declared.token.Token.TheVariants.{Lower, Num, Reserved, Uint, Symbol}

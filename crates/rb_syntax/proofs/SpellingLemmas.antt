@@ -1,5 +1,5 @@
 -- Spelling, form by form: how a tree is written, from how its parts are.
-use Rattle.std.proofs.Common.{◌≡◌, ℕ, suc, List, map, Option, Some, None, ap}
+use Rattle.std.proofs.Common.{◌≡◌, ℕ, List, map, ap}
 use Rattle.rb_core.specs.declared.expression.Op.{Op}
 use Rattle.rb_syntax.specs.declared.tree.NameTree.{NameTree}
 use Rattle.rb_syntax.specs.declared.tree.TyTree.{TyTree}
@@ -12,7 +12,7 @@ use Rattle.rb_syntax.specs.declared.tree.ExprTree.{ExprTree}
 use Rattle.rb_syntax.specs.declared.tree.ExprTree as X
 use Rattle.rb_syntax.specs.declared.tree.ExprTree.TheOpen as expr
 use Rattle.rb_syntax.specs.declared.tree.ExprTree.TheFolds.{fold-roll-ExprTree, fold-ClauseTree, fold_out-ClauseTree}
-use Rattle.rb_syntax.specs.Written.{Written, Writing}
+use Rattle.rb_syntax.specs.Written.{Written}
 use Rattle.rb_syntax.specs.Spelling.{Deep, pat_step, pat_written, expr_step, clause_step, expr_written}
 
 pub pat-Wild : (at : ℕ) (l : ℕ) (rest : List Written) → pat_written (P.Wild at) l rest ≡ pat_step (pat.Wild at) l rest

@@ -1,5 +1,5 @@
 -- How trees are spelled, one equation a form. Each is written in front of what follows it.
-use Rattle.std.specs.Prelude.{◌≡◌, ℕ, suc, List, [], ◌∷◌, length, map, Option, Some, None}
+use Rattle.std.specs.Prelude.{◌≡◌, ℕ, suc, ◌^◌, List, [], ◌∷◌, length, map, Bool, ◌&&◌, nat_lt, nat_le, Option, Some, None}
 use Rattle.rb_core.specs.declared.expression.Op.{Op}
 use Rattle.rb_core.specs.declared.expression.Op.TheVariants as op
 use Rattle.rb_core.specs.declared.types.Auto.{Auto}
@@ -42,7 +42,7 @@ use Rattle.rb_syntax.specs.declared.tree.LayoutTree.{LayoutTree}
 use Rattle.rb_syntax.specs.declared.tree.ItemTree.{ItemTree}
 use Rattle.rb_syntax.specs.declared.tree.ItemTree.TheVariants as top
 use Rattle.rb_syntax.specs.declared.tree.FileTree.{FileTree}
-use Rattle.rb_syntax.specs.Written.{Written, token, number, node, flaw, tokens_in, AreNumbered, HaveNoFlaw, Writing, each, each_behind, some_with, any_with}
+use Rattle.rb_syntax.specs.Written.{Written, token, number, node, flaw, tokens_in, AreNumbered, HaveNoFlaw, Writing, checked, each, each_behind, some_with, any_with}
 
 -- Tokens by their names.
 
@@ -52,8 +52,12 @@ num n = token (tok.Num n)
 abbrev pub reserved : Word → Written
 reserved w = token (tok.Reserved w)
 
-abbrev pub uint : ℕ → Written
-uint bits = token (tok.Uint bits)
+-- the integers of so many bits
+abbrev pub is_width : ℕ → Bool
+is_width bits = nat_lt 0 bits && nat_le bits 64
+
+abbrev pub uint_written : ℕ → Writing
+uint_written bits rest = checked (is_width bits) (token (tok.Uint bits) ∷ rest)
 
 abbrev pub sym : Symbol → Written
 sym s = token (tok.Symbol s)
@@ -73,7 +77,7 @@ abbrev pub lower_written : NameTree → Writing
 lower_written name rest = number name.at ∷ token (tok.Lower name.text) ∷ rest
 
 abbrev pub ty_written : TyTree → Writing
-ty_written (ty.Int bits) rest = uint bits ∷ rest
+ty_written (ty.Int bits) rest = uint_written bits rest
 ty_written (ty.Named name) rest = upper_written name rest
 
 -- parts in parentheses, which are left out where there is none
@@ -121,7 +125,7 @@ expr_step (expr.Binary at op a b) l rest =
     node l ∷ number at ∷ reserved (op_word op) ∷ sym symbol.OpenParen
     ∷ a (suc l) (token comma ∷ b (suc l) (sym symbol.CloseParen ∷ rest))
 expr_step (expr.To at bits a) l rest =
-    node l ∷ number at ∷ reserved word.To ∷ uint bits ∷ sym symbol.OpenParen ∷ a (suc l) (sym symbol.CloseParen ∷ rest)
+    node l ∷ number at ∷ reserved word.To ∷ uint_written bits (sym symbol.OpenParen ∷ a (suc l) (sym symbol.CloseParen ∷ rest))
 expr_step (expr.Let at name t a b) l rest =
     node l ∷ number at ∷ reserved word.Let ∷ lower_written name (sym symbol.Colon ∷ ty_written t (sym symbol.Equals
     ∷ a (suc l) (reserved word.In ∷ b (suc l) rest)))
@@ -141,8 +145,9 @@ expr_written = fold-ExprTree Deep Deep expr_step clause_step
 abbrev pub range_written : ℕ → ℕ → Writing
 range_written o l rest = sym symbol.OpenBracket ∷ num o ∷ sym symbol.Colon ∷ num l ∷ sym symbol.CloseBracket ∷ rest
 
+-- fields are counted in 32 bits
 abbrev pub field_written : ℕ → Writing
-field_written field rest = sym symbol.Dot ∷ num field ∷ rest
+field_written field rest = sym symbol.Dot ∷ checked (nat_lt field (2 ^ 32)) (num field ∷ rest)
 
 abbrev pub path_written : List ℕ → Writing
 path_written [] rest = flaw ∷ rest

@@ -1,5 +1,5 @@
 -- How words and symbols are written.
-use Rattle.std.specs.Prelude.{◌≡◌, ℕ, List, [], ◌∷◌, codes, Option, find, nat_eq}
+use Rattle.std.specs.Prelude.{ℕ, List, [], ◌∷◌, codes, Option, find, nat_eq}
 use Rattle.std.specs.Cmp.Lexicographic.{pointwise}
 use Rattle.rb_syntax.specs.declared.token.Word.{Word}
 use Rattle.rb_syntax.specs.declared.token.Word.TheVariants as word

@@ -1,5 +1,5 @@
 -- What a tree is written as: its tokens, and between them what the tree says of their places.
-use Rattle.std.specs.Prelude.{◌≡◌, ◌⊎◌, ℕ, ◌-◌, ◌≤◌, List, [], ◌∷◌, length}
+use Rattle.std.specs.Prelude.{◌≡◌, ◌⊎◌, ℕ, ◌-◌, ◌≤◌, List, [], ◌∷◌, length, Bool, true, false}
 use Rattle.rb_syntax.specs.declared.token.Token.{Token}
 
 pub data Written : Type 0 where
@@ -55,6 +55,11 @@ HaveNoFlaw (flaw ∷ ws) = ⊥
 
 abbrev pub Writing : Type 0
 Writing = List Written → List Written
+
+-- what follows, or a flaw before it where the test fails
+abbrev pub checked : Bool → Writing
+checked true rest = rest
+checked false rest = flaw ∷ rest
 
 -- one after the other
 abbrev pub each : List Writing → Writing
