@@ -1,0 +1,114 @@
+//! Texts that grow at their end, and the lines of refusals.
+
+ghost use Rattle.std.specs.Prelude.{◌≡◌, ◌++◌, OnOk, IfOk, codes};
+ghost use Rattle.std.specs.Fmt.{decimal};
+ghost use Rattle.ribbit_tool.specs.Lines as line;
+
+use rb_core::decimal::digits;
+use std::alloc::{AllocError, Global};
+
+pub const READ_FAULT: &[u8] = b"ribbit: read fault\n";
+
+pub const WRITE_FAULT: &[u8] = b"ribbit: write fault\n";
+
+pub const NO_MEMORY: &[u8] = b"ribbit: no memory\n";
+
+fn push(text: &mut Vec<u8>, bytes: &[u8]) -> Result<(), AllocError>
+    ensures { OnOk result (text.new.items ≡ text.old.items ++ bytes.now) }
+{
+    text.extend_from_slice(bytes)
+}
+
+fn push_number(text: &mut Vec<u8>, number: u64) -> Result<(), AllocError>
+    ensures { OnOk result (text.new.items ≡ text.old.items ++ decimal number) }
+{
+    text.extend_from_slice(digits(number).as_slice())
+}
+
+// The program's name and these bytes.
+fn begin(alloc: Global, bytes: &[u8]) -> Result<Vec<u8>, AllocError>
+    ensures { IfOk result (λ text. text.items ≡ line.begun bytes.now) }
+{
+    let mut text = Vec::from_slice(alloc, b"ribbit: ")?;
+    push(&mut text, bytes)?;
+    Ok(text)
+}
+
+// The text with a line's end.
+fn end(text: Vec<u8>) -> Result<Vec<u8>, AllocError>
+    ensures { IfOk result (λ ended. ended.items ≡ line.ended text.items) }
+{
+    let mut text = text;
+    push(&mut text, b"\n")?;
+    Ok(text)
+}
+
+/// The line of a command line whose word of this number is at fault.
+pub fn usage(alloc: Global, word: u64) -> Result<Vec<u8>, AllocError>
+    ensures { IfOk result (λ text. text.items ≡ line.usage_line word) }
+{
+    let mut text = begin(alloc, b"usage at word ")?;
+    push_number(&mut text, word)?;
+    end(text)
+}
+
+/// The line of what is not built yet.
+pub fn unbuilt(alloc: Global, at: u64) -> Result<Vec<u8>, AllocError>
+    ensures { IfOk result (λ text. text.items ≡ line.unbuilt_line at) }
+{
+    let mut text = begin(alloc, b"not built yet at byte ")?;
+    push_number(&mut text, at)?;
+    end(text)
+}
+
+/// The line of a file with more bytes than its limit.
+pub fn file_bytes(alloc: Global, count: u64, limit: u64) -> Result<Vec<u8>, AllocError>
+    ensures { IfOk result (λ text. text.items ≡ line.file_bytes_line count limit) }
+{
+    let mut text = begin(alloc, b"limit file bytes: ")?;
+    push_number(&mut text, count)?;
+    push(&mut text, b" over ")?;
+    push_number(&mut text, limit)?;
+    end(text)
+}
+
+/// The line of a run whose calls are spent.
+pub fn spent(alloc: Global, calls: u64) -> Result<Vec<u8>, AllocError>
+    ensures { IfOk result (λ text. text.items ≡ line.spent_line calls) }
+{
+    let mut text = begin(alloc, b"calls spent: ")?;
+    push_number(&mut text, calls)?;
+    end(text)
+}
+
+/// The line of a wrong number of arguments.
+pub fn count(alloc: Global, wanted: u64, found: u64) -> Result<Vec<u8>, AllocError>
+    ensures { IfOk result (λ text. text.items ≡ line.count_line wanted found) }
+{
+    let mut text = begin(alloc, b"wanted ")?;
+    push_number(&mut text, wanted)?;
+    push(&mut text, b" arguments, found ")?;
+    push_number(&mut text, found)?;
+    end(text)
+}
+
+/// The line of an argument, counted from 1, that is no integer of so many bits.
+pub fn misfit(alloc: Global, number: u64, bits: u64) -> Result<Vec<u8>, AllocError>
+    ensures { IfOk result (λ text. text.items ≡ line.misfit_line number bits) }
+{
+    let mut text = begin(alloc, b"argument ")?;
+    push_number(&mut text, number)?;
+    push(&mut text, b": no value of u")?;
+    push_number(&mut text, bits)?;
+    push(&mut text, b" at byte 0")?;
+    end(text)
+}
+
+/// A number on a line of its own.
+pub fn number(alloc: Global, number: u64) -> Result<Vec<u8>, AllocError>
+    ensures { IfOk result (λ text. text.items ≡ line.number_line number) }
+{
+    let mut text = Vec::new(alloc);
+    push_number(&mut text, number)?;
+    end(text)
+}
