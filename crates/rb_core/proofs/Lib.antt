@@ -1,4 +1,11 @@
 pub mod Decimals
 pub mod ValueLemmas
+pub mod CallLaws
+pub mod CallsLeft
+pub mod ExpressionLaws
+pub mod MeaningForms
+pub mod PatternLaws
 pub mod TypingExamples
 pub mod TypingLemmas
+pub mod ValueLaws
+pub mod ValueLemmas

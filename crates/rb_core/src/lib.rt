@@ -8,6 +8,7 @@ pub mod binding;
 pub mod boxed;
 pub mod decimal;
 pub mod expression;
+pub mod laws;
 pub mod layout_decl;
 pub mod outcome;
 pub mod pattern;
