@@ -1,7 +1,6 @@
-pub mod Decimals
-pub mod ValueLemmas
 pub mod CallLaws
 pub mod CallsLeft
+pub mod Decimals
 pub mod ExpressionLaws
 pub mod MeaningForms
 pub mod PatternLaws
