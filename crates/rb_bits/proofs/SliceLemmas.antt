@@ -3,10 +3,11 @@ use Rattle.std.proofs.Common.{◌≡◌, ℕ, suc, ◌+◌, ◌-◌, ◌*◌, �
 use Rattle.std.specs.Prelude.{All, AllPairs, sum_by}
 use Rattle.std.specs.Int.{bit_at}
 use Rattle.std.proofs.lemmas.List.Elements.{All-nil, All-cons, All-head, All-tail}
+use Rattle.std.proofs.lemmas.List.Kept.{AllPairs-cons}
 use Rattle.std.proofs.lemmas.List.Sums.{sum_by-cons}
 use Rattle.std.proofs.lemmas.Nat.{pow_pos}
 use Rattle.std.proofs.lemmas.Nat.Bits.{bit_at-zero}
-use Rattle.rb_bits.specs.Words.{IsOutside, AreDisjoint, take_of, put_of}
+use Rattle.rb_bits.specs.Words.{IsRange, IsOutside, AreDisjoint, take_of, put_of}
 use Rattle.rb_bits.specs.Slices.{AreSlices, gather_of, scatter_of, named_bits_of, IsGathered, IsScattered, HasNamedBits}
 use Rattle.rb_bits.specs.declared.slices.Slice.{Slice}
 use Rattle.rb_bits.proofs.WordLemmas.{take_fits, bit_at_take, bit_at_put_inside, bit_at_put_outside, take_put, take_put_elsewhere, put_adds}
@@ -32,6 +33,21 @@ apart_from o l b m i (inr le) lt = inr (omega arith)
 turned : (o l b m : ℕ) → AreDisjoint o l b m → AreDisjoint b m o l
 turned o l b m (inl le) = inr le
 turned o l b m (inr le) = inl le
+
+-- one more slice before others, apart from each of them
+pub AreSlices-cons : (s : Slice) (slices : List Slice) → IsRange s.o s.l × IsRange s.a s.l → All (λ (t : Slice). AreDisjoint s.o s.l t.o t.l × AreDisjoint s.a s.l t.a t.l) slices → AreSlices slices → AreSlices (s ∷ slices)
+AreSlices-cons s slices range apart are = record {
+  ranges = All-cons (λ (t : Slice). IsRange t.o t.l × IsRange t.a t.l) s slices range are.ranges;
+  apart_in_word = AllPairs-cons (λ (x t : Slice). AreDisjoint x.o x.l t.o t.l) s slices (λ k d lt. (apart k d lt).0) are.apart_in_word;
+  apart_in_number = AllPairs-cons (λ (x t : Slice). AreDisjoint x.a x.l t.a t.l) s slices (λ k d lt. (apart k d lt).1) are.apart_in_number;
+}
+
+pub AreSlices-nil : AreSlices []
+AreSlices-nil = record {
+  ranges = λ k d lt. absurd (omega arith);
+  apart_in_word = λ i j d lt within. absurd (omega arith);
+  apart_in_number = λ i j d lt within. absurd (omega arith);
+}
 
 -- ---- each slice's part put into its range, which begins at `at` of the slice
 module _ (at : Slice → ℕ) (part : Slice → ℕ) where
