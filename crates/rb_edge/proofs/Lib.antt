@@ -1,3 +1,3 @@
 pub mod Files
 pub mod Pieces
-pub mod Faulty
+pub mod FaultLemmas

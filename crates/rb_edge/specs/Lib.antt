@@ -1,4 +1,5 @@
 pub mod Faults
+pub mod Calls
 pub mod Source
 pub mod MemSource
 pub mod MemSink

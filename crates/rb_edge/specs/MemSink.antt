@@ -2,7 +2,7 @@
 use Rattle.std.specs.Prelude.{ℕ, ◌-◌, ◌==◌, nat_lt, ◌&&◌, ◌||◌, min, List, ◌++◌, length, take, Bool, Result, Ok, Err, if◌then◌else◌}
 use Rattle.rb_edge.specs.declared.source.Failed.{Failed}
 use Rattle.rb_edge.specs.Faults.{one_more}
-use Rattle.rb_edge.specs.MemSource.{fails_at, next_call}
+use Rattle.rb_edge.specs.Calls.{fails_at, next_call}
 
 pub record Taking : Type 0 where
   -- the most bytes that it takes in all

@@ -1,10 +1,10 @@
 -- A source in memory: what it is between two calls, and what each call does.
-use Rattle.std.specs.Prelude.{ℕ, ◌+◌, ◌-◌, ◌^◌, ◌==◌, min, List, [], ◌++◌, length, take, drop, find, Bool, Option, Some, None, Result, Ok, Err, if◌then◌else◌, slice_get}
+use Rattle.std.specs.Prelude.{ℕ, min, List, [], ◌++◌, length, take, drop, find, Option, Some, None, Result, Ok, Err, if◌then◌else◌, slice_get}
 use Rattle.std.specs.Option.{option_map}
-use Rattle.std.specs.List.{list_any}
 use Rattle.std.specs.Str.{bytes_eq}
 use Rattle.rb_edge.specs.declared.named.NamedBytes.{NamedBytes}
 use Rattle.rb_edge.specs.declared.source.Failed.{Failed}
+use Rattle.rb_edge.specs.Calls.{fails_at, next_call}
 use Rattle.rb_edge.specs.Faults.{one_more}
 
 pub record Files : Type 0 where
@@ -33,14 +33,6 @@ bytes_of files (Some i) = bytes_in (slice_get files i)
 -- the bytes of the first file of that name
 abbrev pub held_in : List NamedBytes → List ℕ → Option (List ℕ)
 held_in files name = option_map (λ f. f.bytes) (find (λ f. bytes_eq f.name name) files)
-
--- whether the call of that number fails
-abbrev pub fails_at : List ℕ → ℕ → Bool
-fails_at fail call = list_any (λ n. n == call) fail
-
--- The number of the next call. It stands still where no `u64` reaches, so no list names it there.
-abbrev pub next_call : ℕ → ℕ
-next_call call = min (call + 1) (2 ^ 128 - 1)
 
 -- after a call with no fault, with these bytes left
 abbrev pub served : Files → List ℕ → Files

@@ -2,6 +2,7 @@
 //! counter of steps, each with what a contract may say of it.
 #![tactic(auto)]
 
+mod calls;
 pub mod file_source;
 pub mod mem_sink;
 pub mod mem_source;
@@ -12,6 +13,8 @@ pub mod source;
 pub mod std_sink;
 pub mod steps;
 mod taken;
+#[cfg(test)]
+mod tests;
 pub mod whole;
 pub mod words;
 

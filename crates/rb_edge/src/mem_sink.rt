@@ -4,7 +4,7 @@ ghost use Rattle.std.specs.Prelude.{◌≡◌, ◌≤◌, ◌<◌, ◌+◌, ◌+
 ghost use Rattle.rb_edge.specs.Faults.{Rose};
 ghost use Rattle.rb_edge.specs.MemSink.{after_write};
 
-use crate::mem_source::is_failing;
+use crate::calls::is_failing;
 use crate::seq::Seq;
 use crate::sink::Sink;
 use crate::source::Failed;

@@ -4,8 +4,9 @@ ghost use Rattle.std.specs.Prelude.{◌≡◌, ◌≤◌, ◌<◌, ◌+◌, ℕ,
 ghost use Rattle.std.specs.Option.{option_map};
 ghost use Rattle.rb_edge.specs.Faults.{Rose};
 ghost use Rattle.rb_edge.specs.Source.{HoldsTheSame, Gives, FailsToOpen};
-ghost use Rattle.rb_edge.specs.MemSource.{held_in, bytes_of, fails_at, after_open, after_read};
+ghost use Rattle.rb_edge.specs.MemSource.{held_in, bytes_of, after_open, after_read};
 
+use crate::calls::is_failing;
 use crate::named::NamedBytes;
 use crate::seq::Seq;
 use crate::source::{Failed, Source};
@@ -59,13 +60,6 @@ impl MemSource {
             faults: 0,
         }
     }
-}
-
-/// Whether the call of that number fails.
-pub(crate) fn is_failing(fail: &[u64], call: u128) -> bool
-    ensures { result ≡ fails_at fail.now call }
-{
-    fail.iter().any(|n| u128::from(*n) == call)
 }
 
 /// The index of the first file of that name.

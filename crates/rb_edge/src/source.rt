@@ -4,8 +4,11 @@ ghost use Rattle.std.specs.Prelude.{◌≡◌, ◌≤◌, ℕ, List, [], Bool, O
 ghost use Rattle.rb_edge.specs.Faults.{Rose};
 ghost use Rattle.rb_edge.specs.Source.{HoldsTheSame, Gives, FailsToOpen};
 
+use thiserror::Error;
+
 /// The one fault of sources and sinks.
-#[derive(Clone, Copy, Debug, PartialEq, Eq)]
+#[derive(Clone, Copy, Debug, PartialEq, Eq, Error)]
+#[error("the source or the sink failed")]
 pub struct Failed;
 
 /// Files by name, of which one is open at a time.

@@ -8,11 +8,11 @@ use std::marker::Model;
 /// What is told of each step.
 pub trait Ledger {
     // what one note changes
-    ghost Notes: { Self → Self → Type 0 };
+    ghost notes: { Self → Self → Type 0 };
 
     /// Takes note of one step.
     fn note(&mut self)
-        ensures { Notes self.old self.new };
+        ensures { notes self.old self.new };
 }
 
 /// A ledger that keeps nothing.
@@ -20,7 +20,7 @@ pub trait Ledger {
 pub struct NoLedger;
 
 impl Ledger for NoLedger {
-    ghost Notes = { λ old new. new ≡ old };
+    ghost notes = { λ old new. new ≡ old };
 
     fn note(&mut self) {}
 }
@@ -32,7 +32,7 @@ pub struct CountLedger {
 }
 
 impl Ledger for CountLedger {
-    ghost Notes = { λ old new. new.count ≡ min (old.count + 1) (2 ^ 128 - 1) };
+    ghost notes = { λ old new. new.count ≡ min (old.count + 1) (2 ^ 128 - 1) };
 
     fn note(&mut self) {
         self.count = self.count.saturating_add(1);
@@ -69,7 +69,7 @@ impl<L: Ledger> Steps<L> {
     /// One step more, which the ledger is told of.
     pub fn tick(&mut self)
         ensures taken { self.new.taken ≡ self.old.taken + 1 }
-        ensures noted { L.Notes self.old.ledger self.new.ledger }
+        ensures noted { L.notes self.old.ledger self.new.ledger }
     {
         self.taken.add();
         self.ledger.note();

@@ -11,16 +11,19 @@ use crate::seq::Seq;
 use crate::sink::Sink;
 use crate::source::{Failed, Source};
 use std::alloc::{AllocError, Global};
+use thiserror::Error;
 
 /// The most bytes that are asked of a source at once.
 const PIECE: usize = 4096;
 
 /// Why a file was not read.
-#[derive(Clone, Copy, Debug, PartialEq, Eq)]
+#[derive(Clone, Copy, Debug, PartialEq, Eq, Error)]
 pub enum ReadFault {
     /// The source failed, or holds nothing under the name.
+    #[error("the file was not read")]
     Failed,
     /// Memory ran out.
+    #[error("no memory")]
     Memory,
 }
 

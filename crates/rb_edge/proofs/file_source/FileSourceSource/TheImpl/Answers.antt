@@ -1,7 +1,7 @@
 use Rattle.std.proofs.Common.{refl, inl}
 use Rattle.std.proofs.lemmas.Result.{on_err_weaker}
 use Rattle.rb_edge.specs.Faults.{Rose}
-use Rattle.rb_edge.proofs.Faulty.{later, rose, on_ok, on_err, if_ok, untold}
+use Rattle.rb_edge.proofs.FaultLemmas.{later, rose, on_ok, on_err, if_ok, untold}
 use Rattle.rb_edge.proofs.file_source.FileSourceSource.TheImpl.Goals as goal
 
 pub open_file-tells : goal.open_file-tells

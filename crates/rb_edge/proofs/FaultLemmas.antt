@@ -1,4 +1,4 @@
--- Counts of faults that each failing call raises by one, and no other.
+-- Counts of faults, and objects whose failing calls raise theirs by one.
 use Rattle.std.proofs.Common.{◌≡◌, ℕ, ◌≤◌, false, Result, Ok, Err, OnOk, OnErr, IfOk, IsTrue, arith}
 use Rattle.std.proofs.lemmas.Bool.{false≢true}
 use Rattle.std.proofs.lemmas.Grind.{common_steps}
@@ -9,6 +9,12 @@ one_more-later n = grind (arith, common_steps)
 
 pub one_more-rose : (n : ℕ) → Rose n (one_more n)
 one_more-rose n = grind (arith, common_steps)
+
+pub Rose-later : (before now after : ℕ) → Rose before now → now ≤ after → Rose before after
+Rose-later before now after rose more = grind (arith, common_steps)
+
+pub Rose-earlier : (first before now : ℕ) → first ≤ before → before ≤ now → Rose before now → Rose first now
+Rose-earlier first before now less more rose = grind (arith, common_steps)
 
 pub later : {A E : Type 0} (r : Result A E) (old new : ℕ) → OnOk r (new ≡ old) → OnErr r (new ≡ one_more old) → old ≤ new
 later (Ok x) old new ok fault = omega arith

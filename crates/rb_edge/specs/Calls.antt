@@ -1,0 +1,11 @@
+-- Calls that are numbered from 0 and fail by their numbers.
+use Rattle.std.specs.Prelude.{ℕ, ◌+◌, ◌-◌, ◌^◌, ◌==◌, min, List, Bool}
+use Rattle.std.specs.List.{list_any}
+
+-- whether the call of that number fails
+abbrev pub fails_at : List ℕ → ℕ → Bool
+fails_at fail call = list_any (λ n. n == call) fail
+
+-- The number of the call after that one. It stands still far beyond every `u64`, where no list names it.
+abbrev pub next_call : ℕ → ℕ
+next_call call = min (call + 1) (2 ^ 128 - 1)
