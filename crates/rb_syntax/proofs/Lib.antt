@@ -1,2 +1,6 @@
 mod Examples
+mod LexLemmas
+mod NumberLemmas
+mod PieceLemmas
 pub mod SpellingLemmas
+mod SymbolLemmas

@@ -1,3 +1,6 @@
+pub mod Bytes
+pub mod Lexing
+pub mod Pieces
 pub mod Spelling
 pub mod Words
 pub mod Written

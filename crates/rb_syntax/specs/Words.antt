@@ -1,6 +1,8 @@
 -- How words and symbols are written.
-use Rattle.std.specs.Prelude.{ℕ, List, [], ◌∷◌, codes, Option, find, nat_eq}
+use Rattle.std.specs.Prelude.{ℕ, List, [], ◌∷◌, length, codes, Bool, true, ◌==◌, ◌&&◌, nat_lt, nat_le, if◌then◌else◌, Option, Some, None, find, nat_eq}
+use Rattle.std.specs.List.{starts_with}
 use Rattle.std.specs.Cmp.Lexicographic.{pointwise}
+use Rattle.rb_syntax.specs.Bytes.{numeral_len, value_of}
 use Rattle.rb_syntax.specs.declared.token.Word.{Word}
 use Rattle.rb_syntax.specs.declared.token.Word.TheVariants as word
 use Rattle.rb_syntax.specs.declared.token.Symbol.{Symbol}
@@ -55,6 +57,23 @@ words = word.Type ∷ word.Layout ∷ word.Fun ∷ word.Let ∷ word.In ∷ word
     ∷ word.Inline ∷ word.Boxed ∷ word.Packed ∷ word.Add ∷ word.Sub ∷ word.Mul ∷ word.And ∷ word.Or ∷ word.Xor
     ∷ word.Eq ∷ word.Lt ∷ word.To ∷ []
 
--- the word that is written so
+-- all symbols, those of two bytes first
+abbrev pub symbols : List Symbol
+symbols = symbol.Arrow ∷ symbol.FatArrow ∷ symbol.Equals ∷ symbol.Bar ∷ symbol.OpenParen ∷ symbol.CloseParen ∷ symbol.Comma
+    ∷ symbol.Semicolon ∷ symbol.OpenBrace ∷ symbol.CloseBrace ∷ symbol.Less ∷ symbol.Greater ∷ symbol.Colon
+    ∷ symbol.OpenBracket ∷ symbol.CloseBracket ∷ symbol.Dot ∷ symbol.At ∷ symbol.Underscore ∷ []
+
+-- the reserved word that is written so, if there is one
 abbrev pub word_of : List ℕ → Option Word
 word_of name = find (λ w. pointwise nat_eq (word_text w) name) words
+
+-- the first symbol of the list that stands at the front
+abbrev pub symbol_at : List ℕ → Option Symbol
+symbol_at bytes = find (λ s. starts_with nat_eq bytes (symbol_text s)) symbols
+
+-- the width of the type of integers that is written so, if there is one: u1 to u64
+abbrev pub width_of : List ℕ → Option ℕ
+width_of [] = None
+width_of (u ∷ ds) =
+    if (u == 117) && (numeral_len ds == length ds) && nat_lt 0 (value_of ds) && nat_le (value_of ds) 64
+    then Some (value_of ds) else None

@@ -1,6 +1,9 @@
 //! Tokens of files, trees of what is written, and how trees are spelled.
 #![tactic(auto)]
 
+pub mod bytes;
+pub mod lex;
+pub mod piece;
 pub mod token;
 pub mod tree;
 pub mod words;

@@ -1,7 +1,7 @@
 //! Tokens: the words, numbers and symbols of a file.
 
 ghost use Rattle.std.specs.Prelude.{◌≡◌};
-ghost use Rattle.rb_syntax.specs.Words.{word_text};
+ghost use Rattle.rb_syntax.specs.Words.{word_text, symbol_text};
 
 use rb_core::types::Name;
 
@@ -78,6 +78,28 @@ pub struct Placed {
     pub at: usize,
 }
 
+/// All symbols, those of two bytes first.
+pub const SYMBOLS: [Symbol; 18] = [
+    Symbol::Arrow,
+    Symbol::FatArrow,
+    Symbol::Equals,
+    Symbol::Bar,
+    Symbol::OpenParen,
+    Symbol::CloseParen,
+    Symbol::Comma,
+    Symbol::Semicolon,
+    Symbol::OpenBrace,
+    Symbol::CloseBrace,
+    Symbol::Less,
+    Symbol::Greater,
+    Symbol::Colon,
+    Symbol::OpenBracket,
+    Symbol::CloseBracket,
+    Symbol::Dot,
+    Symbol::At,
+    Symbol::Underscore,
+];
+
 /// All reserved words but `u1` to `u64`.
 pub const WORDS: [Word; 21] = [
     Word::Type,
@@ -130,6 +152,34 @@ impl Word {
             Word::Eq => b"eq",
             Word::Lt => b"lt",
             Word::To => b"to",
+        }
+    }
+}
+
+impl Symbol {
+    /// The bytes that the symbol is written with.
+    pub fn text(self) -> &'static [u8]
+        ensures { result.now ≡ symbol_text self }
+    {
+        match self {
+            Symbol::Equals => b"=",
+            Symbol::Bar => b"|",
+            Symbol::OpenParen => b"(",
+            Symbol::CloseParen => b")",
+            Symbol::Comma => b",",
+            Symbol::Semicolon => b";",
+            Symbol::OpenBrace => b"{",
+            Symbol::CloseBrace => b"}",
+            Symbol::Less => b"<",
+            Symbol::Greater => b">",
+            Symbol::Colon => b":",
+            Symbol::OpenBracket => b"[",
+            Symbol::CloseBracket => b"]",
+            Symbol::Dot => b".",
+            Symbol::At => b"@",
+            Symbol::Arrow => b"->",
+            Symbol::FatArrow => b"=>",
+            Symbol::Underscore => b"_",
         }
     }
 }

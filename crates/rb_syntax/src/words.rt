@@ -1,13 +1,37 @@
-//! Reserved words by their bytes.
+//! Reserved words and symbols by their bytes.
 
 ghost use Rattle.std.specs.Prelude.{◌≡◌};
-ghost use Rattle.rb_syntax.specs.Words as words;
+ghost use Rattle.rb_syntax.specs.Words as text;
 
-use crate::token::{WORDS, Word};
+use crate::bytes::{number, numeral_len};
+use crate::token::{SYMBOLS, Symbol, WORDS, Word};
 
 /// The reserved word that is written so, `u1` to `u64` aside.
 pub fn word_of(name: &[u8]) -> Option<Word>
-    ensures { result ≡ words.word_of name.now }
+    ensures { result ≡ text.word_of name.now }
 {
     WORDS.iter().copied().find(|word| word.text() == name)
+}
+
+/// The symbol at the front; of two, the longer.
+pub fn symbol_at(bytes: &[u8]) -> Option<Symbol>
+    ensures { result ≡ text.symbol_at bytes.now }
+{
+    SYMBOLS
+        .iter()
+        .copied()
+        .find(|symbol| bytes.starts_with(symbol.text()))
+}
+
+/// The width of the type of integers that is written so: 1 to 64 for `u1` to `u64`.
+pub fn width_of(name: &[u8]) -> Option<u8>
+    ensures { result ≡ text.width_of name.now }
+{
+    match name {
+        [b'u', digits @ ..] if numeral_len(digits) == digits.len() => match number(digits) {
+            Some(width) if 0 < width && width <= 64 => Some(width as u8),
+            _ => None,
+        },
+        _ => None,
+    }
 }

@@ -1,0 +1,50 @@
+-- The tokens of a text: its pieces, one after the other.
+use Rattle.std.specs.Prelude.{◌≡◌, ℕ, zero, suc, ◌+◌, ◌<◌, ◌≤◌, List, [], ◌∷◌, ◌++◌, drop, length, ◌==◌, if◌then◌else◌, Result, Ok, Err}
+use Rattle.std.specs.declared.vec.Vec.{Vec}
+use Rattle.std.specs.declared.alloc.Global.{Global}
+use Rattle.rb_syntax.specs.declared.token.Token.{Token}
+use Rattle.rb_syntax.specs.declared.token.Placed.{Placed}
+use Rattle.rb_syntax.specs.declared.piece.Piece.{Piece}
+use Rattle.rb_syntax.specs.declared.piece.Piece.TheVariants as piece
+use Rattle.rb_syntax.specs.declared.lex.LexFault.{LexFault}
+use Rattle.rb_syntax.specs.declared.lex.LexFault.TheVariants.{BadByte, NumberTooWide, Memory}
+use Rattle.rb_syntax.specs.Pieces.{piece_at}
+
+-- tokens with the bytes at which they begin, or the first fault
+abbrev pub Lexed : Type 0
+Lexed = Result (List Placed) LexFault
+
+unfoldable pub before : Placed → Lexed → Lexed
+before p (Ok ps) = Ok (p ∷ ps)
+before p (Err e) = Err e
+
+-- what a piece at a byte adds to what is read behind it
+unfoldable pub with_piece : ℕ → Piece → (ℕ → Lexed) → Lexed
+with_piece at (piece.Gap len) behind = behind len
+with_piece at (piece.Token t len) behind = before (record { token = t; at = at }) (behind len)
+with_piece at (piece.Bad offset) behind = Err (BadByte (at + offset))
+with_piece at piece.Wide behind = Err (NumberTooWide at)
+
+-- at most so many pieces, from a byte on
+unfoldable pub lexed_from : ℕ → ℕ → List ℕ → Lexed
+lexed_from zero at bytes = Ok []
+lexed_from (suc n) at bytes =
+    if length bytes == 0 then Ok [] else with_piece at (piece_at bytes) (λ len. lexed_from n (at + len) (drop len bytes))
+
+-- each piece has a byte, so a text has no more pieces than bytes
+abbrev pub lexed : List ℕ → Lexed
+lexed bytes = lexed_from (length bytes) 0 bytes
+
+-- the tokens of a text, or its first fault, or want of memory
+abbrev pub IsAnswer : Lexed → Result (Vec Placed Global) LexFault → Type 0
+IsAnswer read (Ok tokens) = read ≡ Ok tokens.items
+IsAnswer read (Err (BadByte at)) = read ≡ Err (BadByte at)
+IsAnswer read (Err (NumberTooWide at)) = read ≡ Err (NumberTooWide at)
+IsAnswer read (Err Memory) = Unit {0}
+
+-- a piece has a byte, and lies in so many; a bad byte is among them
+abbrev pub IsWithin : ℕ → Piece → Type 0
+IsWithin m (piece.Gap len) = (0 < len) × (len ≤ m)
+IsWithin m (piece.Token t len) = (0 < len) × (len ≤ m)
+IsWithin m (piece.Bad offset) = offset < m
+IsWithin m piece.Wide = Unit {0}

@@ -1,0 +1,58 @@
+-- The piece at the front of some bytes: a blank, a comment, a run of letters, digits and '_', or a symbol.
+use Rattle.std.specs.Prelude.{ℕ, ◌^◌, List, [], ◌∷◌, length, codes, take_while, nat_eq, ◌==◌, nat_lt, if◌then◌else◌, Option, Some, None}
+use Rattle.std.specs.Char.{is_ascii_digit, is_ascii_uppercase, is_ascii_alphabetic}
+use Rattle.std.specs.List.{prefix_len, starts_with}
+use Rattle.rb_syntax.specs.declared.token.Word.{Word}
+use Rattle.rb_syntax.specs.declared.token.Symbol.{Symbol}
+use Rattle.rb_syntax.specs.declared.token.Symbol.TheVariants.{Underscore}
+use Rattle.rb_syntax.specs.declared.token.Token.{Token}
+use Rattle.rb_syntax.specs.declared.token.Token.TheVariants as tok
+use Rattle.rb_syntax.specs.declared.piece.Piece.{Piece}
+use Rattle.rb_syntax.specs.declared.piece.Piece.TheVariants as piece
+use Rattle.rb_syntax.specs.Bytes.{is_blank, is_word_byte, is_in_line, numeral_len, value_of}
+use Rattle.rb_syntax.specs.Words.{word_of, width_of, symbol_text, symbol_at}
+
+-- a run that begins with a letter
+unfoldable pub width_or_name : Option ℕ → List ℕ → Token
+width_or_name (Some bits) name = tok.Uint bits
+width_or_name None name = tok.Lower name
+
+unfoldable pub word_or_name : Option Word → List ℕ → Token
+word_or_name (Some w) name = tok.Reserved w
+word_or_name None name = width_or_name (width_of name) name
+
+unfoldable pub name_token : ℕ → List ℕ → Token
+name_token first name = if is_ascii_uppercase first then tok.Upper name else word_or_name (word_of name) name
+
+-- a run that begins with a digit is a number as a whole; else the byte behind the longest number at its front is bad
+unfoldable pub number_piece : List ℕ → Piece
+number_piece run =
+    if numeral_len run == length run
+    then (if nat_lt (value_of run) (2 ^ 64) then piece.Token (tok.Num (value_of run)) (length run) else piece.Wide)
+    else piece.Bad (numeral_len run)
+
+-- a run that begins with '_' is that symbol, and its second byte is bad
+unfoldable pub underscore_piece : List ℕ → Piece
+underscore_piece run = if length run == 1 then piece.Token (tok.Symbol Underscore) 1 else piece.Bad 1
+
+unfoldable pub run_piece : ℕ → List ℕ → Piece
+run_piece first run =
+    if is_ascii_alphabetic first then piece.Token (name_token first run) (length run)
+    else if is_ascii_digit first then number_piece run
+    else underscore_piece run
+
+unfoldable pub symbol_piece : Option Symbol → Piece
+symbol_piece (Some s) = piece.Token (tok.Symbol s) (length (symbol_text s))
+symbol_piece None = piece.Bad 0
+
+-- the piece at the front of bytes, of which this is the first
+unfoldable pub first_piece : ℕ → List ℕ → Piece
+first_piece first bytes =
+    if is_blank first then piece.Gap 1
+    else if is_word_byte first then run_piece first (take_while is_word_byte bytes)
+    else if starts_with nat_eq bytes (codes "//") then piece.Gap (prefix_len is_in_line bytes)
+    else symbol_piece (symbol_at bytes)
+
+unfoldable pub piece_at : List ℕ → Piece
+piece_at [] = piece.Gap 0
+piece_at (b ∷ bs) = first_piece b (b ∷ bs)
