@@ -6,7 +6,7 @@ use Rattle.rb_core.specs.declared.typing.Binder.{Binder}
 use Rattle.rb_core.specs.declared.expression.Op.TheVariants.{Add, Mul}
 use Rattle.rb_core.specs.declared.expression.Expr as X
 use Rattle.rb_core.specs.declared.expression.Expr.{Expr}
-use Rattle.rb_core.specs.Typing.{type_of, least_width}
+use Rattle.rb_core.specs.Typing.{type_of, least_width, width_from}
 use Rattle.rb_core.proofs.TypingLemmas.{type_rules}
 
 abbrev x_and_y : List Binder
@@ -24,5 +24,5 @@ abbrev wide_sum : Expr
 wide_sum = X.Binary 12 Add (X.Var 14 0) (X.Binary 16 Mul (X.Var 18 1) (X.Num 20 256))
 
 sum_is_wide : type_of [] [] wide_sum (Some (Int 8)) x_and_y ≡ Err (Mismatch 20 (Int 8) (Int 9))
-unfolding least_width
+unfolding least_width width_from
 sum_is_wide = simp type_rules

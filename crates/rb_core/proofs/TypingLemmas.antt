@@ -15,7 +15,7 @@ use Rattle.rb_core.specs.declared.expression.Expr.{Expr}
 use Rattle.rb_core.specs.declared.expression.Expr as X
 use Rattle.rb_core.specs.declared.expression.Expr.TheOpen as E
 use Rattle.rb_core.specs.declared.expression.Expr.TheFolds.{fold-roll-Expr, fold-Clause, fold_out-Clause}
-use Rattle.rb_core.specs.Typing.{Rule, ClauseRule, answer_step, type_of, rule_step, clause_step, rule_of, PatternRule, pattern_step, pattern_params}
+use Rattle.rb_core.specs.Typing.{Rule, ClauseRule, answer_step, type_of, rule_step, clause_step, rule_of, clause_rule, PatternRule, pattern_step, pattern_params}
 
 module _ (types : List DataDecl) where
   pub pattern-Wild : (at : ℕ) → pattern_params types (Q.Wild at) ≡ pattern_step types (P.Wild at)
@@ -35,9 +35,6 @@ module _ (types : List DataDecl) where
   pattern-Con at c ps = fold-roll-Pat PatternRule (pattern_step types) (P.Con at c ps)
 
 module _ (types : List DataDecl) (funs : List Fun) where
-  abbrev pub clause_rule : Clause → ClauseRule
-  clause_rule = fold-Clause Rule ClauseRule (rule_step types funs) (clause_step types)
-
   pub rule-Num : (at n : ℕ) → rule_of types funs (X.Num at n) ≡ rule_step types funs (E.Num at n)
   unfolding X.roll-Expr denote.Hole.Carrier.roll
   rule-Num at n = fold-roll-Expr Rule ClauseRule (rule_step types funs) (clause_step types) (E.Num at n)
@@ -66,11 +63,11 @@ module _ (types : List DataDecl) (funs : List Fun) where
   unfolding X.roll-Expr denote.Hole.Carrier.roll
   rule-Let at x ty a b = fold-roll-Expr Rule ClauseRule (rule_step types funs) (clause_step types) (E.Let at x ty a b)
 
-  pub rule-Match : (at : ℕ) (e : Expr) (cs : List Clause) → rule_of types funs (X.Match at e cs) ≡ rule_step types funs (E.Match at (rule_of types funs e) (map clause_rule cs))
+  pub rule-Match : (at : ℕ) (e : Expr) (cs : List Clause) → rule_of types funs (X.Match at e cs) ≡ rule_step types funs (E.Match at (rule_of types funs e) (map (clause_rule types funs) cs))
   unfolding X.roll-Expr denote.Hole.Carrier.roll
   rule-Match at e cs = fold-roll-Expr Rule ClauseRule (rule_step types funs) (clause_step types) (E.Match at e cs)
 
-  pub rule-Clause : (pat : Pat) (body : Expr) → clause_rule (record { pat = pat; body = body }) ≡ clause_step types (record { pat = pat; body = rule_of types funs body })
+  pub rule-Clause : (pat : Pat) (body : Expr) → clause_rule types funs (record { pat = pat; body = body }) ≡ clause_step types (record { pat = pat; body = rule_of types funs body })
   rule-Clause pat body = fold_out-Clause Rule ClauseRule (rule_step types funs) (clause_step types) (record { pat = pat; body = body })
 
   pub type-Num : (at n : ℕ) (wanted : Option Ty) (scope : List Binder) → type_of types funs (X.Num at n) wanted scope ≡ answer_step types funs (E.Num at n) wanted scope
@@ -115,7 +112,7 @@ module _ (types : List DataDecl) (funs : List Fun) where
   pub token-Let : (at x : ℕ) (ty : Ty) (a b : Expr) → (rule_of types funs (X.Let at x ty a b)).at ≡ at
   token-Let at x ty a b = ap (λ (r : Rule). r.at) (rule-Let at x ty a b)
 
-  pub type-Match : (at : ℕ) (e : Expr) (cs : List Clause) (wanted : Option Ty) (scope : List Binder) → type_of types funs (X.Match at e cs) wanted scope ≡ answer_step types funs (E.Match at (rule_of types funs e) (map clause_rule cs)) wanted scope
+  pub type-Match : (at : ℕ) (e : Expr) (cs : List Clause) (wanted : Option Ty) (scope : List Binder) → type_of types funs (X.Match at e cs) wanted scope ≡ answer_step types funs (E.Match at (rule_of types funs e) (map (clause_rule types funs) cs)) wanted scope
   type-Match at e cs wanted scope = ap (λ (r : Rule). r.answer wanted scope) (rule-Match at e cs)
 
   pub token-Match : (at : ℕ) (e : Expr) (cs : List Clause) → (rule_of types funs (X.Match at e cs)).at ≡ at

@@ -11,6 +11,7 @@ use Rattle.rb_core.specs.declared.layout_decl.LayoutDecl.{LayoutDecl}
 use Rattle.rb_core.specs.declared.program.Fun.{Fun}
 use Rattle.rb_core.specs.declared.program.Program.{Program}
 use Rattle.rb_core.specs.declared.typing.TypeFault.{TypeFault}
+use Rattle.rb_core.specs.declared.typing.TypeFault.TheVariants.{Empty, Memory}
 use Rattle.rb_core.specs.Values.{is_of_type}
 use Rattle.rb_core.specs.Layouts.{provenances}
 use Rattle.rb_core.specs.Typing.{and_then, pattern_binders, distinct_binders, type_of}
@@ -53,6 +54,12 @@ function_fault types funs f =
 -- the first fault in the layouts and the functions
 abbrev pub rule_fault : Program → Option TypeFault
 rule_fault p = first_fault (map (layout_fault p.types) p.layouts ++ map (function_fault p.types p.funs) p.funs)
+
+-- a program is refused by this fault, which is its first; want of memory says nothing of it
+abbrev pub IsFirstFault : Program → TypeFault → Type 0
+IsFirstFault p (Empty t) = IsFirstEmpty p.types t
+IsFirstFault p Memory = Unit {0}
+IsFirstFault p fault = HaveValues p.types × (rule_fault p ≡ Some fault)
 
 -- a program is typed
 pub record IsTyped (p : Program) : Type 0 where

@@ -20,8 +20,8 @@ use Rattle.rb_core.specs.declared.expression.Op.TheVariants.{Eq, Lt}
 use Rattle.rb_core.specs.declared.expression.Expr.{Expr}
 use Rattle.rb_core.specs.declared.expression.Expr.TheOpen as E
 use Rattle.rb_core.specs.declared.expression.Expr.TheOpen.{Expr-F}
-use Rattle.rb_core.specs.declared.expression.Expr.TheFolds.{fold-Expr}
-use Rattle.rb_core.specs.declared.expression.Clause.{Clause-F}
+use Rattle.rb_core.specs.declared.expression.Expr.TheFolds.{fold-Expr, fold-Clause}
+use Rattle.rb_core.specs.declared.expression.Clause.{Clause, Clause-F}
 use Rattle.rb_core.specs.Values.{fields_of}
 
 -- what typing gives, or the first fault
@@ -52,7 +52,7 @@ holds (Int bits) n = nat_lt n (2 ^ bits)
 holds (Named t) n = false
 
 -- the first of `more` widths, from `width` on, in which a number fits, or the width after them
-abbrev pub width_from : ℕ → ℕ → ℕ → ℕ
+unfoldable pub width_from : ℕ → ℕ → ℕ → ℕ
 width_from zero width n = width
 width_from (suc more) width n = if nat_lt n (2 ^ width) then width else width_from more (suc width) n
 
@@ -83,9 +83,9 @@ abbrev pub binder_of : Param → Binder
 binder_of p = record { var = p.var; ty = p.ty }
 
 -- the token of the first variable that stands before in the list, too
-abbrev pub repeat_after : List ℕ → List Param → Option ℕ
+abbrev pub repeat_after : List Param → List Param → Option ℕ
 repeat_after before [] = None
-repeat_after before (p ∷ ps) = if list_any (λ x. x == p.var) before then Some p.at else repeat_after (p.var ∷ before) ps
+repeat_after before (p ∷ ps) = if list_any (λ q. q.var == p.var) before then Some p.at else repeat_after (before ++ p ∷ []) ps
 
 abbrev pub repeated : List Param → Option ℕ
 repeated = repeat_after []
@@ -245,6 +245,9 @@ rule_step types funs e = record { at = token_step e; answer = answer_step types 
 
 abbrev pub rule_of : List DataDecl → List Fun → Expr → Rule
 rule_of types funs = fold-Expr Rule ClauseRule (rule_step types funs) (clause_step types)
+
+abbrev pub clause_rule : List DataDecl → List Fun → Clause → ClauseRule
+clause_rule types funs = fold-Clause Rule ClauseRule (rule_step types funs) (clause_step types)
 
 -- the type of an expression, or the first fault
 abbrev pub type_of : List DataDecl → List Fun → Expr → Option Ty → List Binder → Typing Ty

@@ -1,0 +1,4 @@
+pub mod AnswerLemmas
+pub mod ExpressionLemmas
+pub mod PatternLemmas
+pub mod WidthLemmas

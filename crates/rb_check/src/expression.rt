@@ -1,0 +1,290 @@
+//! Expressions: the type of one, at a wanted type or none, within the parameters and variables
+//! round it.
+
+ghost use Rattle.std.specs.Prelude.{◌≡◌, ◌<◌, List, [], ◌∷◌, ◌++◌, length, map, slice_get, OnOk, Some, None};
+ghost use Rattle.rb_core.specs.declared.types.DataDecl.{DataDecl};
+ghost use Rattle.rb_core.specs.declared.types.Ty.TheVariants.{Named};
+ghost use Rattle.rb_core.specs.declared.program.Fun.{Fun};
+ghost use Rattle.rb_core.specs.Typing.{and_then, arguments, clause_rule, clauses, field_types, fits, integer_operand, operands, operator_type, params_of, param_types, result_type, rule_of, type_of, variable_type};
+ghost use Rattle.rb_check.specs.Answers.{Answers, binders, wanted_types};
+
+use crate::pattern::{bind_whole, fields_of};
+use crate::types::{fit, integer, operand_wanted, operator_type, type_number};
+use rb_core::expression::{Clause, Expr, Op};
+use rb_core::program::{Param, Program};
+use rb_core::seq::Seq;
+use rb_core::types::{ConRef, Ty};
+use rb_core::typing::TypeFault;
+
+/// The types that are wanted of arguments: those of a function's parameters, or of fields.
+#[derive(Clone, Copy)]
+pub enum Wanted<'a> {
+    Params(&'a [Param]),
+    Fields(&'a [Ty]),
+}
+
+impl<'a> Wanted<'a> {
+    /// How many arguments are wanted.
+    fn len(self) -> usize
+        ensures { result ≡ length (wanted_types self.entry) }
+    {
+        match self {
+            Wanted::Params(params) => params.len(),
+            Wanted::Fields(fields) => fields.len(),
+        }
+    }
+
+    /// The type that is wanted of the argument with this number.
+    fn at(self, i: usize) -> Ty
+        requires { i < length (wanted_types self) }
+        ensures { slice_get (wanted_types self.entry) i ≡ Some result }
+    {
+        match self {
+            Wanted::Params(params) => params[i].ty,
+            Wanted::Fields(fields) => fields[i],
+        }
+    }
+}
+
+/// The type of an expression, where `wanted` is wanted of it or none is.
+#[cycle(typing)]
+pub fn type_expression(
+    program: &Program,
+    expr: &Expr,
+    wanted: Option<Ty>,
+    scope: &mut Seq<Param>,
+) -> Result<Ty, TypeFault>
+    ensures answers { Answers result (type_of program.now.types program.now.funs expr.now wanted (binders scope.old)) }
+    ensures scope { OnOk result (scope.new ≡ scope.old) }
+{
+    match expr {
+        Expr::Num(at, n) => type_number(*at, *n, wanted),
+        Expr::Var(at, var) => fit(*at, wanted, variable_type(*var, scope.as_slice())),
+        Expr::Call(at, fun, parts) => type_call(program, *at, *fun, parts.as_slice(), wanted, scope),
+        Expr::Build(at, con, parts) => type_build(program, *at, *con, parts.as_slice(), wanted, scope),
+        Expr::Binary(at, op, a, b) => type_binary(program, *at, *op, a.get(), b.get(), wanted, scope),
+        Expr::To(at, bits, a) => {
+            type_integer(program, a.get(), None, scope)?;
+            fit(*at, wanted, Ty::Int(*bits))
+        }
+        Expr::Let(at, var, ty, a, b) => {
+            let param = Param { at: *at, var: *var, ty: *ty };
+            type_let(program, param, a.get(), b.get(), wanted, scope)
+        }
+        Expr::Match(_, scrutinee, cases) => type_match(program, scrutinee.get(), cases.as_slice(), wanted, scope),
+    }
+}
+
+/// The type of a call of the function with this number.
+#[cycle(typing)]
+fn type_call(
+    program: &Program,
+    at: u32,
+    fun: u32,
+    parts: &[Expr],
+    wanted: Option<Ty>,
+    scope: &mut Seq<Param>,
+) -> Result<Ty, TypeFault>
+    ensures answers { Answers result (and_then (arguments at (map (rule_of program.now.types program.now.funs) parts.now) (param_types program.now.funs fun) (binders scope.old)) (λ typed. fits at wanted (result_type program.now.funs fun))) }
+    ensures scope { OnOk result (scope.new ≡ scope.old) }
+{
+    type_arguments(program, at, parts, Wanted::Params(params_of(program, fun)), scope)?;
+    fit(at, wanted, result_type(program, fun))
+}
+
+/// The type of a construction.
+#[cycle(typing)]
+fn type_build(
+    program: &Program,
+    at: u32,
+    con: ConRef,
+    parts: &[Expr],
+    wanted: Option<Ty>,
+    scope: &mut Seq<Param>,
+) -> Result<Ty, TypeFault>
+    ensures answers { Answers result (and_then (arguments at (map (rule_of program.now.types program.now.funs) parts.now) (field_types program.now.types con) (binders scope.old)) (λ typed. fits at wanted (Named con.ty))) }
+    ensures scope { OnOk result (scope.new ≡ scope.old) }
+{
+    let fields = fields_of(program.types.as_slice(), con);
+    type_arguments(program, at, parts, Wanted::Fields(fields), scope)?;
+    fit(at, wanted, Ty::Named(con.ty))
+}
+
+/// Types each argument with its type wanted, after their number is checked.
+#[cycle(typing)]
+fn type_arguments(
+    program: &Program,
+    at: u32,
+    parts: &[Expr],
+    wanted: Wanted,
+    scope: &mut Seq<Param>,
+) -> Result<(), TypeFault>
+    ensures answers { Answers result (arguments at (map (rule_of program.now.types program.now.funs) parts.now) (wanted_types wanted.entry) (binders scope.old)) }
+    ensures scope { OnOk result (scope.new ≡ scope.old) }
+{
+    if parts.len() != wanted.len() {
+        return Err(TypeFault::Arity(at, wanted.len() as u64, parts.len() as u64));
+    }
+    for (i, part) in parts.iter().enumerate() {
+        type_expression(program, part, Some(wanted.at(i)), scope)?;
+    }
+    Ok(())
+}
+
+/// The type of an operator's result.
+#[cycle(typing)]
+fn type_binary(
+    program: &Program,
+    at: u32,
+    op: Op,
+    a: &Expr,
+    b: &Expr,
+    wanted: Option<Ty>,
+    scope: &mut Seq<Param>,
+) -> Result<Ty, TypeFault>
+    ensures answers { Answers result (and_then (operands op (rule_of program.now.types program.now.funs a.now) (rule_of program.now.types program.now.funs b.now) wanted (binders scope.old)) (λ t. fits at wanted (operator_type op t))) }
+    ensures scope { OnOk result (scope.new ≡ scope.old) }
+{
+    let first = type_integer(program, a, operand_wanted(op, wanted), scope)?;
+    let second = type_expression(program, b, Some(first), scope)?;
+    fit(at, wanted, operator_type(op, second))
+}
+
+/// The type of an expression that has to be an integer.
+#[cycle(typing)]
+fn type_integer(
+    program: &Program,
+    expr: &Expr,
+    wanted: Option<Ty>,
+    scope: &mut Seq<Param>,
+) -> Result<Ty, TypeFault>
+    ensures answers { Answers result (integer_operand (rule_of program.now.types program.now.funs expr.now) wanted (binders scope.old)) }
+    ensures scope { OnOk result (scope.new ≡ scope.old) }
+{
+    let found = type_expression(program, expr, wanted, scope)?;
+    integer(first_token(expr), found)
+}
+
+/// The type of a `let` that binds `param`.
+#[cycle(typing)]
+fn type_let(
+    program: &Program,
+    param: Param,
+    a: &Expr,
+    b: &Expr,
+    wanted: Option<Ty>,
+    scope: &mut Seq<Param>,
+) -> Result<Ty, TypeFault>
+    ensures answers { Answers result (and_then (type_of program.now.types program.now.funs a.now (Some param.ty) (binders scope.old)) (λ t. type_of program.now.types program.now.funs b.now wanted (binders scope.old ++ record { var = param.var; ty = param.ty } ∷ []))) }
+    ensures scope { OnOk result (scope.new ≡ scope.old) }
+{
+    type_expression(program, a, Some(param.ty), scope)?;
+    let depth = scope.len();
+    scope.push(param)?;
+    let found = type_expression(program, b, wanted, scope)?;
+    scope.truncate(depth);
+    Ok(found)
+}
+
+/// The type of a match: that of its first clause, which is wanted of the others.
+#[cycle(typing)]
+fn type_match(
+    program: &Program,
+    scrutinee: &Expr,
+    cases: &[Clause],
+    wanted: Option<Ty>,
+    scope: &mut Seq<Param>,
+) -> Result<Ty, TypeFault>
+    ensures answers { Answers result (and_then (type_of program.now.types program.now.funs scrutinee.now None (binders scope.old)) (λ t. clauses (map (clause_rule program.now.types program.now.funs) cases.now) t wanted (binders scope.old))) }
+    ensures scope { OnOk result (scope.new ≡ scope.old) }
+{
+    let scrutinee = type_expression(program, scrutinee, None, scope)?;
+    type_clauses(program, scrutinee, cases, wanted, scope)
+}
+
+/// The type of the clauses of a match on a scrutinee of this type.
+#[cycle(typing)]
+fn type_clauses(
+    program: &Program,
+    scrutinee: Ty,
+    cases: &[Clause],
+    wanted: Option<Ty>,
+    scope: &mut Seq<Param>,
+) -> Result<Ty, TypeFault>
+    ensures answers { Answers result (clauses (map (clause_rule program.now.types program.now.funs) cases.now) scrutinee wanted (binders scope.old)) }
+    ensures scope { OnOk result (scope.new ≡ scope.old) }
+{
+    let mut found = wanted;
+    for case in cases {
+        found = Some(type_clause(program, scrutinee, case, found, scope)?);
+    }
+    Ok(found.unwrap_or(Ty::Int(64)))
+}
+
+/// The type of a clause's body, within what its pattern binds.
+#[cycle(typing)]
+fn type_clause(
+    program: &Program,
+    scrutinee: Ty,
+    case: &Clause,
+    wanted: Option<Ty>,
+    scope: &mut Seq<Param>,
+) -> Result<Ty, TypeFault>
+    ensures answers { Answers result (clause_rule program.now.types program.now.funs case.now scrutinee wanted (binders scope.old)) }
+    ensures scope { OnOk result (scope.new ≡ scope.old) }
+{
+    let depth = scope.len();
+    bind_whole(program.types.as_slice(), &case.pat, scrutinee, scope)?;
+    let found = type_expression(program, &case.body, wanted, scope)?;
+    scope.truncate(depth);
+    Ok(found)
+}
+
+/// The first token of an expression.
+fn first_token(expr: &Expr) -> u32
+    ensures { (types : List DataDecl) → (funs : List Fun) → (rule_of types funs expr.now).at ≡ result }
+{
+    match expr {
+        Expr::Num(at, _) => *at,
+        Expr::Var(at, _) => *at,
+        Expr::Call(at, _, _) => *at,
+        Expr::Build(at, _, _) => *at,
+        Expr::Binary(at, _, _, _) => *at,
+        Expr::To(at, _, _) => *at,
+        Expr::Let(at, _, _, _, _) => *at,
+        Expr::Match(at, _, _) => *at,
+    }
+}
+
+/// The type of the innermost parameter or variable with this number.
+fn variable_type(var: u32, scope: &[Param]) -> Ty
+    ensures { result ≡ variable_type var (binders scope.now) }
+{
+    let mut found = Ty::Int(64);
+    for param in scope {
+        if param.var == var {
+            found = param.ty;
+        }
+    }
+    found
+}
+
+/// The parameters of the function with this number.
+fn params_of(program: &Program, fun: u32) -> &[Param]
+    ensures { result.now ≡ params_of (slice_get program.now.funs fun) }
+{
+    match program.funs.get(fun as usize) {
+        None => &[],
+        Some(fun) => fun.params.as_slice(),
+    }
+}
+
+/// The result type of the function with this number.
+fn result_type(program: &Program, fun: u32) -> Ty
+    ensures { result ≡ result_type program.now.funs fun }
+{
+    match program.funs.get(fun as usize) {
+        None => Ty::Int(64),
+        Some(fun) => fun.result,
+    }
+}

@@ -1,0 +1,114 @@
+//! Patterns: the variables that one binds at a type.
+
+ghost use Rattle.std.specs.Prelude.{◌≡◌, ◌<◌, ◌==◌, length, map, take, drop, OnOk};
+ghost use Rattle.std.specs.List.{list_any};
+ghost use Rattle.rb_core.specs.Typing.{also_bound, fields_match, field_types, pattern_binders, pattern_params, repeated};
+ghost use Rattle.rb_check.specs.Answers.{Leaves, binders, within};
+
+use crate::types::{can_hold, number_type};
+use rb_core::pattern::Pat;
+use rb_core::program::Param;
+use rb_core::seq::Seq;
+use rb_core::types::{ConRef, DataDecl, Ty};
+use rb_core::typing::TypeFault;
+
+/// The types of a constructor's fields; none for a constructor that `types` hasn't.
+pub fn fields_of(types: &[DataDecl], con: ConRef) -> &[Ty]
+    ensures { result.now ≡ field_types types.now con }
+{
+    let Some(data) = types.get(con.ty as usize) else {
+        return &[];
+    };
+    match data.cons.get(con.con as usize) {
+        None => &[],
+        Some(con) => con.fields.as_slice(),
+    }
+}
+
+/// The token of the first variable that stands before in the list, too.
+pub fn repeated(params: &[Param]) -> Option<u32>
+    ensures { result ≡ repeated params.now }
+{
+    for (i, param) in params.iter().enumerate() {
+        if stands_in(&params[..i], param.var) {
+            return Some(param.at);
+        }
+    }
+    None
+}
+
+/// Whether a variable is one of the list.
+fn stands_in(params: &[Param], var: u32) -> bool
+    ensures { result ≡ list_any (λ q. q.var == var) params.now }
+{
+    params.iter().any(|param| param.var == var)
+}
+
+/// Adds the variables of a whole pattern to those round it. None stands twice in the pattern.
+pub fn bind_whole(types: &[DataDecl], pattern: &Pat, ty: Ty, scope: &mut Seq<Param>) -> Result<(), TypeFault>
+    ensures binds { Leaves result (binders scope.new) (within (binders scope.old) (pattern_binders types.now pattern.now ty)) }
+    ensures kept { OnOk result (take (length scope.old) scope.new ≡ scope.old) }
+{
+    let depth = scope.len();
+    bind_pattern(types, pattern, ty, scope)?;
+    match repeated_from(scope.as_slice(), depth) {
+        None => Ok(()),
+        Some(at) => Err(TypeFault::VariableTwice(at)),
+    }
+}
+
+/// The token of the first variable from `start` on that stands before from there, too.
+fn repeated_from(params: &[Param], start: usize) -> Option<u32>
+    ensures { result ≡ repeated (drop start params.now) }
+{
+    match params.get(start..) {
+        None => None,
+        Some(params) => repeated(params),
+    }
+}
+
+/// Adds the variables that a pattern binds at a type to `bound`, from left to right.
+#[cycle(pattern)]
+pub fn bind_pattern(types: &[DataDecl], pattern: &Pat, ty: Ty, bound: &mut Seq<Param>) -> Result<(), TypeFault>
+    ensures binds { Leaves result bound.new (also_bound bound.old (pattern_params types.now pattern.now ty)) }
+{
+    match pattern {
+        Pat::Wild(_) => Ok(()),
+        Pat::Var(at, var) => {
+            bound.push(Param { at: *at, var: *var, ty })?;
+            Ok(())
+        }
+        Pat::Num(at, n) => {
+            if can_hold(ty, *n) {
+                return Ok(());
+            }
+            Err(TypeFault::Mismatch(*at, ty, number_type(*n)))
+        }
+        Pat::Con(at, con, subpatterns) => {
+            if ty != Ty::Named(con.ty) {
+                return Err(TypeFault::Mismatch(*at, ty, Ty::Named(con.ty)));
+            }
+            bind_fields(types, *at, subpatterns.as_slice(), fields_of(types, *con), bound)
+        }
+    }
+}
+
+/// Adds what the subpatterns of a constructor bind, after their number is checked.
+#[cycle(pattern)]
+fn bind_fields(
+    types: &[DataDecl],
+    at: u32,
+    subpatterns: &[Pat],
+    fields: &[Ty],
+    bound: &mut Seq<Param>,
+) -> Result<(), TypeFault>
+    ensures binds { Leaves result bound.new (also_bound bound.old (fields_match at (map (pattern_params types.now) subpatterns.now) fields.now)) }
+{
+    if subpatterns.len() != fields.len() {
+        return Err(TypeFault::Arity(at, fields.len() as u64, subpatterns.len() as u64));
+    }
+    for (i, subpattern) in subpatterns.iter().enumerate() {
+        bind_pattern(types, subpattern, fields[i], bound)?;
+    }
+    Ok(())
+}

@@ -1,0 +1,104 @@
+//! Single types: what holds a number, and whether a found type is the wanted one.
+
+ghost use Rattle.std.specs.Prelude.{◌≡◌, ℕ, ◌^◌, ◌<◌, ◌≤◌};
+ghost use Rattle.rb_core.specs.Typing.{fits, holds, integer, integer_wanted, least_width, number, number_type, operand_wanted, operator_type};
+
+use rb_core::expression::Op;
+use rb_core::types::Ty;
+use rb_core::typing::TypeFault;
+
+#[tactic(auto, using(crate::proofs::WidthLemmas::width_rules))]
+/// The least number of bits, at least 1, that holds `n`.
+pub fn least_width(n: u64) -> u8
+    ensures same { result ≡ least_width n }
+    ensures within { result ≤ 64 }
+{
+    for width in 1..64 {
+        if n < 1 << width {
+            return width;
+        }
+    }
+    64
+}
+
+/// The least integer type that holds `n`.
+pub fn number_type(n: u64) -> Ty
+    ensures { result ≡ number_type n }
+{
+    Ty::Int(least_width(n))
+}
+
+/// Whether values of `ty` may be the number `n`.
+pub fn can_hold(ty: Ty, n: u64) -> bool
+    ensures { result ≡ holds ty n }
+{
+    match ty {
+        Ty::Int(bits) => bits >= 64 || n < 1 << bits,
+        Ty::Named(_) => false,
+    }
+}
+
+/// The type of the number `n` at the token `at`.
+pub fn type_number(at: u32, n: u64, wanted: Option<Ty>) -> Result<Ty, TypeFault>
+    ensures { result ≡ number at n wanted }
+{
+    match wanted {
+        None => Ok(Ty::Int(64)),
+        Some(wanted) => {
+            if can_hold(wanted, n) {
+                return Ok(wanted);
+            }
+            Err(TypeFault::Mismatch(at, wanted, number_type(n)))
+        }
+    }
+}
+
+/// The type found at the token `at`, where it is the wanted one or none is wanted.
+pub fn fit(at: u32, wanted: Option<Ty>, found: Ty) -> Result<Ty, TypeFault>
+    ensures { result ≡ fits at wanted found }
+{
+    match wanted {
+        None => Ok(found),
+        Some(wanted) => {
+            if wanted == found {
+                return Ok(wanted);
+            }
+            Err(TypeFault::Mismatch(at, wanted, found))
+        }
+    }
+}
+
+/// The type found of an operand at the token `at`, where it is an integer.
+pub fn integer(at: u32, found: Ty) -> Result<Ty, TypeFault>
+    ensures { result ≡ integer at found }
+{
+    match found {
+        Ty::Int(_) => Ok(found),
+        Ty::Named(_) => Err(TypeFault::Mismatch(at, Ty::Int(64), found)),
+    }
+}
+
+/// What is wanted of an operator's first operand.
+pub fn operand_wanted(op: Op, wanted: Option<Ty>) -> Option<Ty>
+    ensures { result ≡ operand_wanted op wanted }
+{
+    match op {
+        Op::Eq => None,
+        Op::Lt => None,
+        _ => match wanted {
+            Some(Ty::Int(bits)) => Some(Ty::Int(bits)),
+            _ => None,
+        },
+    }
+}
+
+/// What an operator gives for operands of this type.
+pub fn operator_type(op: Op, operands: Ty) -> Ty
+    ensures { result ≡ operator_type op operands }
+{
+    match op {
+        Op::Eq => Ty::Int(1),
+        Op::Lt => Ty::Int(1),
+        _ => operands,
+    }
+}
