@@ -60,18 +60,50 @@ pub fn type_expression(
     match expr {
         Expr::Num(at, n) => type_number(*at, *n, wanted),
         Expr::Var(at, var) => fit(*at, wanted, variable_type(*var, scope.as_slice())),
-        Expr::Call(at, fun, parts) => type_call(program, *at, *fun, parts.as_slice(), wanted, scope),
-        Expr::Build(at, con, parts) => type_build(program, *at, *con, parts.as_slice(), wanted, scope),
-        Expr::Binary(at, op, a, b) => type_binary(program, *at, *op, a.get(), b.get(), wanted, scope),
+        Expr::Call(at, fun, parts) => type_call(
+            program,
+            *at,
+            *fun,
+            parts.as_slice(),
+            wanted,
+            scope,
+        ),
+        Expr::Build(at, con, parts) => type_build(
+            program,
+            *at,
+            *con,
+            parts.as_slice(),
+            wanted,
+            scope,
+        ),
+        Expr::Binary(at, op, a, b) => type_binary(
+            program,
+            *at,
+            *op,
+            a.get(),
+            b.get(),
+            wanted,
+            scope,
+        ),
         Expr::To(at, bits, a) => {
             type_integer(program, a.get(), None, scope)?;
             fit(*at, wanted, Ty::Int(*bits))
         }
         Expr::Let(at, var, ty, a, b) => {
-            let param = Param { at: *at, var: *var, ty: *ty };
+            let param = Param {
+                at: *at,
+                var: *var,
+                ty: *ty,
+            };
             type_let(program, param, a.get(), b.get(), wanted, scope)
         }
-        Expr::Match(_, scrutinee, cases) => type_match(program, scrutinee.get(), cases.as_slice(), wanted, scope),
+        Expr::Match(_, scrutinee, cases) => type_match(
+            program,
+            scrutinee.get(),
+            cases.as_slice(),
+            wanted,
+            scope,
+        ),
     }
 }
 
@@ -88,7 +120,13 @@ fn type_call(
     ensures answers { Answers result (and_then (arguments at (map (rule_of program.now.types program.now.funs) parts.now) (param_types program.now.funs fun) (binders scope.old)) (λ typed. fits at wanted (result_type program.now.funs fun))) }
     ensures scope { OnOk result (scope.new ≡ scope.old) }
 {
-    type_arguments(program, at, parts, Wanted::Params(params_of(program, fun)), scope)?;
+    type_arguments(
+        program,
+        at,
+        parts,
+        Wanted::Params(params_of(program, fun)),
+        scope,
+    )?;
     fit(at, wanted, result_type(program, fun))
 }
 

@@ -45,7 +45,12 @@ fn stands_in(params: &[Param], var: u32) -> bool
 }
 
 /// Adds the variables of a whole pattern to those round it. None stands twice in the pattern.
-pub fn bind_whole(types: &[DataDecl], pattern: &Pat, ty: Ty, scope: &mut Seq<Param>) -> Result<(), TypeFault>
+pub fn bind_whole(
+    types: &[DataDecl],
+    pattern: &Pat,
+    ty: Ty,
+    scope: &mut Seq<Param>,
+) -> Result<(), TypeFault>
     ensures binds { Leaves result (binders scope.new) (within (binders scope.old) (pattern_binders types.now pattern.now ty)) }
     ensures kept { OnOk result (take (length scope.old) scope.new ≡ scope.old) }
 {
@@ -69,13 +74,22 @@ fn repeated_from(params: &[Param], start: usize) -> Option<u32>
 
 /// Adds the variables that a pattern binds at a type to `bound`, from left to right.
 #[cycle(pattern)]
-pub fn bind_pattern(types: &[DataDecl], pattern: &Pat, ty: Ty, bound: &mut Seq<Param>) -> Result<(), TypeFault>
+pub fn bind_pattern(
+    types: &[DataDecl],
+    pattern: &Pat,
+    ty: Ty,
+    bound: &mut Seq<Param>,
+) -> Result<(), TypeFault>
     ensures binds { Leaves result bound.new (also_bound bound.old (pattern_params types.now pattern.now ty)) }
 {
     match pattern {
         Pat::Wild(_) => Ok(()),
         Pat::Var(at, var) => {
-            bound.push(Param { at: *at, var: *var, ty })?;
+            bound.push(Param {
+                at: *at,
+                var: *var,
+                ty,
+            })?;
             Ok(())
         }
         Pat::Num(at, n) => {
@@ -88,7 +102,13 @@ pub fn bind_pattern(types: &[DataDecl], pattern: &Pat, ty: Ty, bound: &mut Seq<P
             if ty != Ty::Named(con.ty) {
                 return Err(TypeFault::Mismatch(*at, ty, Ty::Named(con.ty)));
             }
-            bind_fields(types, *at, subpatterns.as_slice(), fields_of(types, *con), bound)
+            bind_fields(
+                types,
+                *at,
+                subpatterns.as_slice(),
+                fields_of(types, *con),
+                bound,
+            )
         }
     }
 }

@@ -26,7 +26,7 @@ pub type_expression-returns-in-Binary-clause-answers : goal.type_expression-retu
 type_expression-returns-in-Binary-clause-answers t c =
     Answers-at c.args.program.now.types c.args.program.now.funs _ _ _ c.args.wanted (binders c.args.scope.now) _
     (c.in-Binary.is ∙ ap (λ (a : Expr). X.Binary c.in-Binary.at c.in-Binary.op a c.in-Binary.b) (sym c.get.ensures)
-        ∙ ap (X.Binary c.in-Binary.at c.in-Binary.op c.get.result.now) (sym c.get-in-Binary.ensures))
+    ∙ ap (X.Binary c.in-Binary.at c.in-Binary.op c.get.result.now) (sym c.get-in-Binary.ensures))
     (type-Binary c.args.program.now.types c.args.program.now.funs c.in-Binary.at c.in-Binary.op c.get.result.now c.get-in-Binary.result.now c.args.wanted (binders c.args.scope.now))
     c.type_binary.ensures.answers
 
@@ -34,18 +34,18 @@ pub type_arguments-returns-in_err-type_expression-clause-answers : goal.type_arg
 type_arguments-returns-in_err-type_expression-clause-answers t c =
     Answers-fails _ _ _ _ c.from_residual.ensures.1 c.in_err-type_expression.ensures.answers
     (λ f e. sym c.loop-i.invariant.gives
-        ∙ argument-fails (rule_of c.args.program.now.types c.args.program.now.funs) (binders c.args.scope.now) _ _ _ _ _ f
-            c.loop-i-test.true c.loop-i.invariant.same_number c.index-parts-i.is c.at.ensures
-            (ap (λ s. type_of c.args.program.now.types c.args.program.now.funs c.index-parts-i.result (Some c.at.result) (binders s)) (sym c.loop-i.invariant.scope) ∙ e))
+    ∙ argument-fails (rule_of c.args.program.now.types c.args.program.now.funs) (binders c.args.scope.now) _ _ _ _ _ f
+    c.loop-i-test.true c.loop-i.invariant.same_number c.index-parts-i.is c.at.ensures
+    (ap (λ s. type_of c.args.program.now.types c.args.program.now.funs c.index-parts-i.result (Some c.at.result) (binders s)) (sym c.loop-i.invariant.scope) ∙ e))
 
 pub type_arguments-loop-i-preserved : goal.type_arguments-loop-i-preserved
 type_arguments-loop-i-preserved t c = record {
   same_number = c.loop-i.invariant.same_number;
   scope = c.in_ok-type_expression.ensures.scope ∙ c.loop-i.invariant.scope;
   gives = sym (argument-next (rule_of c.args.program.now.types c.args.program.now.funs) (binders c.args.scope.now) _ _ _ _ _ _
-          c.loop-i-test.true c.loop-i.invariant.same_number c.index-parts-i.is c.at.ensures
-          (ap (λ s. type_of c.args.program.now.types c.args.program.now.funs c.index-parts-i.result (Some c.at.result) (binders s)) (sym c.loop-i.invariant.scope)
-              ∙ c.in_ok-type_expression.ensures.answers))
+      c.loop-i-test.true c.loop-i.invariant.same_number c.index-parts-i.is c.at.ensures
+      (ap (λ s. type_of c.args.program.now.types c.args.program.now.funs c.index-parts-i.result (Some c.at.result) (binders s)) (sym c.loop-i.invariant.scope)
+      ∙ c.in_ok-type_expression.ensures.answers))
       ∙ c.loop-i.invariant.gives;
 }
 
@@ -53,13 +53,13 @@ pub type_clause-returns-in_err-bind_whole-clause-answers : goal.type_clause-retu
 type_clause-returns-in_err-bind_whole-clause-answers t c =
     Answers-fails _ _ _ _ c.from_residual.ensures.1 (Answers-Leaves _ _ _ c.in_err-bind_whole.ensures.binds)
     (λ f e. clause-fails c.args.program.now.types c.args.program.now.funs c.args.case.now c.args.scrutinee c.args.wanted (binders c.args.scope.now) f
-        (rw c.as_slice.ensures at e))
+    (rw c.as_slice.ensures at e))
 
 pub type_clause-returns-in_err-found-clause-answers : goal.type_clause-returns-in_err-found-clause-answers
 type_clause-returns-in_err-found-clause-answers t c =
     Answers-fails _ _ _ _ c.from_residual-in_err-found.ensures.1 c.in_err-found.ensures.answers
     (λ f e. clause-binds c.args.program.now.types c.args.program.now.funs c.args.case.now c.args.scrutinee c.args.wanted (binders c.args.scope.now) _
-        (rw c.as_slice.ensures at c.in_ok-bind_whole.ensures.binds) ∙ e)
+    (rw c.as_slice.ensures at c.in_ok-bind_whole.ensures.binds) ∙ e)
 
 pub type_clause-returns-clause-answers : goal.type_clause-returns-clause-answers
 type_clause-returns-clause-answers t c =

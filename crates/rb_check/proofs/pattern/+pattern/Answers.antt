@@ -8,7 +8,7 @@ pub bind_fields-returns-in_err-bind_pattern : goal.bind_fields-returns-in_err-bi
 bind_fields-returns-in_err-bind_pattern t c = record {
   binds = Leaves-fails _ _ _ _ _ _ c.from_residual.ensures.1 c.in_err-bind_pattern.ensures.binds
       (λ f e. sym c.loop-i.invariant.1
-          ∙ bound-fails (pattern_params c.args.types.now) _ _ _ _ _ _ f c.loop-i-test.true c.loop-i.invariant.0 c.index-subpatterns-i.is e);
+      ∙ bound-fails (pattern_params c.args.types.now) _ _ _ _ _ _ f c.loop-i-test.true c.loop-i.invariant.0 c.index-subpatterns-i.is e);
 }
 
 pub bind_fields-loop-i-preserved : goal.bind_fields-loop-i-preserved

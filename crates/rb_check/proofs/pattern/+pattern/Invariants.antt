@@ -6,4 +6,4 @@ abbrev pub invariant-bind_fields-loop-i : goal.invariant-bind_fields-loop-i
 invariant-bind_fields-loop-i l =
     (length l.subpatterns ≡ length l.fields)
     × (also_bound l.bound (subpatterns (map (pattern_params l.types) (drop l.i l.subpatterns)) (drop l.i l.fields))
-        ≡ also_bound l.fn.bound (fields_match l.at (map (pattern_params l.types) l.subpatterns) l.fields))
+    ≡ also_bound l.fn.bound (fields_match l.at (map (pattern_params l.types) l.subpatterns) l.fields))
