@@ -13,7 +13,7 @@ use Rattle.rb_target.specs.declared.instr.Instr.TheVariants.{Const, Copy, Alu, T
 use Rattle.rb_target.specs.declared.code.CodeFun.{CodeFun}
 
 -- where a switch goes is a target
-target_fits : (long pc : ℕ) (arms : List SwitchArm) (other : Option ℕ) (word t : ℕ) → AreArms long pc arms → IfSome other (λ t. IsTarget long pc t) → target_of arms other word ≡ Some t → IsTarget long pc t
+pub target_fits : (long pc : ℕ) (arms : List SwitchArm) (other : Option ℕ) (word t : ℕ) → AreArms long pc arms → IfSome other (λ t. IsTarget long pc t) → target_of arms other word ≡ Some t → IsTarget long pc t
 target_fits long pc [] other word t a o e = subst (λ (x : Option ℕ). IfSome x (λ t. IsTarget long pc t)) e o
 target_fits long pc (arm ∷ arms) other word t a o e =
     let P : Bool → Type 0 = λ b. cond b (Some arm.target) (target_of arms other word) ≡ Some t → IsTarget long pc t in

@@ -1,0 +1,5 @@
+pub mod Modulo
+pub mod Rest
+pub mod Turns
+pub mod Quiet
+pub mod Begins

@@ -1,0 +1,297 @@
+-- The turns of a run.
+use Rattle.std.proofs.Common.{◌≡◌, ℕ, zero, suc, ◌+◌, ◌-◌, ◌^◌, ◌<◌, ◌≤◌, List, [], ◌∷◌, ◌++◌, length, map, take, drop, replicate, set, get_or, add-one, Some, All, refl, sym, subst, ap, ◌∙◌, arith, length-append}
+use Rattle.std.specs.Prelude.{slice_get, slice_set}
+use Rattle.std.proofs.lemmas.List.{length-replicate, length-map, drop_all, length-set}
+use Rattle.std.proofs.lemmas.List.Elements.{All-push, All-pop}
+use Rattle.std.proofs.lemmas.Option.{slice_get_within}
+use Rattle.rb_bytes.specs.Memory.{Memory}
+use Rattle.rb_target.specs.Meaning.{World, Outcome, over, Next, Callee, act, from, enter, body_in, body_of, slots_in, taken, slots_at, first_slots, put_slots, with_left, after_call}
+use Rattle.rb_target.specs.Validity.{IsFine, IsValid, AreSlots}
+use Rattle.rb_target.specs.Laws.{IsLawful, IsFinal}
+use Rattle.rb_target.specs.declared.outcome.End.{End}
+use Rattle.rb_target.specs.declared.outcome.End.TheVariants.{Returned, Spent, Full, Trapped}
+use Rattle.rb_target.specs.declared.code.CodeFun.{CodeFun}
+use Rattle.rb_target.specs.declared.instr.Instr.{Instr}
+use Rattle.rb_target.specs.declared.instr.Instr.TheVariants.{Call, Return}
+use Rattle.rb_machine.proofs.Rest.{known_at, callee_from, valid_begins, valid_goes_on, IsNoReturn, room_in-push, unwind_push, unwind_final, enter_some, enter_none}
+use Rattle.rb_machine.specs.Turns.{dests_in, unwind, world_of, rest_of, room_at, room_in, work, outermost, results_in, IsPlace, IsFrame, IsSound, Turned, Ended, IsFlow}
+use Rattle.rb_machine.specs.declared.state.Flow.TheVariants.{Goes, Ends}
+use Rattle.rb_machine.specs.declared.state.Frame.{Frame}
+use Rattle.rb_machine.specs.declared.state.State.{State}
+
+abbrev pub waiting : State → Frame
+waiting s = record { fun = s.fun; pc = s.pc; slots = s.slots }
+
+outermost-push : (frames : List Frame) (frame : Frame) (fun : ℕ) → outermost (frames ++ frame ∷ []) fun ≡ outermost frames frame.fun
+outermost-push [] frame fun = refl
+outermost-push (x ∷ frames) frame fun = refl
+
+put_slots_nil : (slots ds : List ℕ) → put_slots slots ds [] ≡ slots
+put_slots_nil slots [] = refl
+put_slots_nil slots (d ∷ ds) = refl
+
+-- no word is left to be put
+pub put_none : (f : ℕ → ℕ) (slots ds froms : List ℕ) (k : ℕ) → length froms ≤ k → put_slots slots (drop k ds) (map f (drop k froms)) ≡ slots
+put_none f slots ds froms k le = rw (drop_all k froms le) (put_slots_nil slots (drop k ds))
+
+length-put_slots : (slots ds ws : List ℕ) → length (put_slots slots ds ws) ≡ length slots
+length-put_slots slots [] ws = refl
+length-put_slots slots (d ∷ ds) [] = refl
+length-put_slots slots (d ∷ ds) (w ∷ ws) = length-put_slots (slice_set slots d w) ds ws ∙ length-set slots d w
+
+-- one word more is filled in
+fill_suc : (f : ℕ → ℕ) (froms ws : List ℕ) (k : ℕ) → length ws ≡ length froms → k < length froms → set (map f (take k froms) ++ drop k ws) k (f (get_or froms k 0)) ≡ map f (take (suc k) froms) ++ drop (suc k) ws
+fill_suc f [] ws k e lt = absurd (omega arith)
+fill_suc f (x ∷ froms) [] k e lt = absurd (omega arith)
+fill_suc f (x ∷ froms) (w ∷ ws) zero e lt = refl
+fill_suc f (x ∷ froms) (w ∷ ws) (suc k) e lt = ap (λ l. f x ∷ l) (fill_suc f froms ws k (omega arith) (omega arith))
+
+pub fill_more : (f : ℕ → ℕ) (froms ws : List ℕ) (k : ℕ) → length ws ≡ length froms → k < length froms → set (map f (take k froms) ++ drop k ws) k (f (get_or froms k 0)) ≡ map f (take (k + 1) froms) ++ drop (k + 1) ws
+fill_more f froms ws k e lt = rw (add-one k) (fill_suc f froms ws k e lt)
+
+pub first_slots_is : (funs : List CodeFun) (n : ℕ) (f : CodeFun) → slice_get funs n ≡ Some f → (slots froms : List ℕ) → slots_at slots froms ++ replicate (f.slots - length froms) 0 ≡ first_slots funs n (slots_at slots froms)
+first_slots_is funs n f e slots froms = rw (e, length-map) refl
+
+module _ (funs : List CodeFun) (depth : ℕ) (valid : IsValid funs) where
+  -- the body of a known function
+  body_is : (n : ℕ) (lt : n < length funs) → body_of funs n ≡ (known_at funs n valid lt).it.body
+  body_is n lt = ap body_in (known_at funs n valid lt).is
+
+  at_body : (n pc : ℕ) (i : Instr) (lt : n < length funs) → slice_get (body_of funs n) pc ≡ Some i → slice_get (known_at funs n valid lt).it.body pc ≡ Some i
+  at_body n pc i lt is = ap (λ b. slice_get b pc) (sym (body_is n lt)) ∙ is
+
+  pub fine_at : (n pc : ℕ) (i : Instr) (lt : n < length funs) → slice_get (body_of funs n) pc ≡ Some i → IsFine funs (known_at funs n valid lt).it pc i
+  fine_at n pc i lt is = (known_at funs n valid lt).valid.each pc i (at_body n pc i lt is)
+
+  pub goes_on_at : (n pc : ℕ) (i : Instr) → n < length funs → slice_get (body_of funs n) pc ≡ Some i → IsNoReturn i → pc + 1 < length (body_of funs n)
+  goes_on_at n pc i lt is other =
+      let k = known_at funs n valid lt in
+      let h = valid_goes_on funs k.it pc i k.valid (at_body n pc i lt is) other in
+      rw (body_is n lt) h
+
+  pub long_fits : (n : ℕ) → n < length funs → length (body_of funs n) < 2 ^ 64
+  long_fits n lt =
+      let k = known_at funs n valid lt in
+      let small = k.valid.small.2 in
+      rw (body_is n lt) small
+
+  slots_is : (n : ℕ) (lt : n < length funs) → slots_in (slice_get funs n) ≡ (known_at funs n valid lt).it.slots
+  slots_is n lt = ap slots_in (known_at funs n valid lt).is
+
+  -- a list of slots of the function, at a place in it
+  slots_fit : (n pc : ℕ) (slots xs : List ℕ) (place : IsPlace funs n pc slots) → AreSlots (known_at funs n valid place.known).it.slots xs → AreSlots (length slots) xs
+  slots_fit n pc slots xs place fine = subst (λ k. AreSlots k xs) (sym (place.slots ∙ slots_is n place.known)) fine
+
+  pub return_fits : (n pc : ℕ) (slots froms : List ℕ) (place : IsPlace funs n pc slots) → slice_get (body_of funs n) pc ≡ Some (Return froms) → AreSlots (length slots) froms
+  return_fits n pc slots froms place is = slots_fit n pc slots froms place (fine_at n pc _ place.known is).slots
+
+  pub call_fits : (n pc f : ℕ) (slots ds froms : List ℕ) (place : IsPlace funs n pc slots) → slice_get (body_of funs n) pc ≡ Some (Call f ds froms) → AreSlots (length slots) froms
+  call_fits n pc f slots ds froms place is = slots_fit n pc slots froms place (fine_at n pc _ place.known is).slots.1
+
+  pub dests_fit : (n pc f : ℕ) (slots ds froms : List ℕ) (place : IsPlace funs n pc slots) → slice_get (body_of funs n) pc ≡ Some (Call f ds froms) → AreSlots (length slots) ds
+  dests_fit n pc f slots ds froms place is = slots_fit n pc slots ds place (fine_at n pc _ place.known is).slots.0
+
+  pub callee_known : (n pc f : ℕ) (slots ds froms : List ℕ) (place : IsPlace funs n pc slots) → slice_get (body_of funs n) pc ≡ Some (Call f ds froms) → f < length funs
+  callee_known n pc f slots ds froms place is =
+      let k = (callee_from funs f ds froms (slice_get funs f) valid refl (fine_at n pc _ place.known is).calls).0 in
+      slice_get_within funs f k.it k.is
+
+  results_is : (n : ℕ) (lt : n < length funs) → results_in (slice_get funs n) ≡ (known_at funs n valid lt).it.results
+  results_is n lt = ap results_in (known_at funs n valid lt).is
+
+  -- there is room for what the outermost function returns
+  pub results_fit : (s : State) (froms : List ℕ) → IsSound funs depth s → slice_get (body_of funs s.fun) s.pc ≡ Some (Return froms) → s.frames.items ≡ [] → length s.results.items ≡ length froms
+  results_fit s froms sound is none =
+      let fits = (fine_at s.fun s.pc _ sound.place.known is).calls in
+      sound.results ∙ ap (λ (fs : List Frame). results_in (slice_get funs (outermost fs s.fun))) none ∙ results_is s.fun sound.place.known ∙ sym fits
+
+  last_frame : (frames : List Frame) (frame : Frame) → All (λ (x : Frame). IsFrame funs x) (frames ++ frame ∷ []) → All (λ (x : Frame). IsFrame funs x) frames × IsFrame funs frame
+  last_frame frames frame all = All-pop (λ (x : Frame). IsFrame funs x) (frames ++ frame ∷ []) frames (Some frame) refl all
+
+  -- the last call that waits
+  pub frame_of : (s : State) (frames : List Frame) (frame : Frame) → IsSound funs depth s → s.frames.items ≡ frames ++ frame ∷ [] → IsFrame funs frame
+  frame_of s frames frame sound is = (last_frame frames frame (rw is at sound.frames)).1
+
+  module _ (laws : IsLawful funs) where
+    from_at : (callee : Callee) (n pc : ℕ) (slots : List ℕ) (w : World) (i : Instr) → slice_get (body_of funs n) pc ≡ Some i → from (body_of funs n) callee pc slots w ≡ act i (from (body_of funs n) callee) callee pc slots (taken w)
+    from_at callee n pc slots w i is = (laws.unrolls n callee).step pc i slots w is
+
+    call_same : (s s' : State) (left f : ℕ) (ds froms : List ℕ) → IsSound funs depth s → slice_get (body_of funs s.fun) s.pc ≡ Some (Call f ds froms) → s.left ≡ suc left
+        → s'.fun ≡ f → s'.pc ≡ 0 → s'.left ≡ left → s'.switches ≡ s.switches → s'.slots.items ≡ first_slots funs f (slots_at s.slots.items froms) → s'.frames.items ≡ s.frames.items ++ waiting s ∷ []
+        → (m : Memory) (t : ℕ) → rest_of funs depth s m t ≡ rest_of funs depth s' m (t + 1)
+    call_same s s' left f ds froms sound instr l fun' pc' left' switches' slots' frames' m t =
+        let n = length s.frames.items in
+        let slots = s.slots.items in
+        let w = taken (world_of s m t) in
+        let callee = enter funs (depth - n) in
+        let back = callee f (slots_at slots froms) w in
+        let go = from (body_of funs s.fun) callee in
+        let pos : 0 < depth - n = omega (arith, sound.nested) in
+        let first = ap (λ o. unwind funs depth s.frames.items o) (from_at callee s.fun s.pc slots (world_of s m t) (Call f ds froms) instr) in
+        let second = ap (λ o. unwind funs depth s.frames.items (after_call back.ended back.world (λ words. go (s.pc + 1) (put_slots slots (dests_in o) words) back.world))) (sym instr) in
+        let third = sym (unwind_push funs depth s.frames.items (waiting s) back) in
+        let fourth = ap (λ o. unwind funs depth (s.frames.items ++ waiting s ∷ []) o) (enter_some funs (depth - n) left f (slots_at slots froms) w l pos) in
+        let deep : depth - n - 1 ≡ depth - length s'.frames.items = omega (arith, ap length frames', length-append s.frames.items (waiting s ∷ [])) in
+        let fifth : unwind funs depth (s.frames.items ++ waiting s ∷ []) (from (body_of funs f) (enter funs (depth - n - 1)) 0 (first_slots funs f (slots_at slots froms)) (with_left w left)) ≡ rest_of funs depth s' m (t + 1) = cc in
+        first ∙ second ∙ third ∙ fourth ∙ fifth
+
+    pub call_turned : (s s' : State) (left f : ℕ) (ds froms : List ℕ) → IsSound funs depth s → slice_get (body_of funs s.fun) s.pc ≡ Some (Call f ds froms) → s.left ≡ suc left
+        → s'.fun ≡ f → s'.pc ≡ 0 → s'.left ≡ left → s'.switches ≡ s.switches → s'.results.items ≡ s.results.items → s'.slots.items ≡ first_slots funs f (slots_at s.slots.items froms) → s'.frames.items ≡ s.frames.items ++ waiting s ∷ []
+        → (m : Memory) → Turned funs depth s m s' m
+    call_turned s s' left f ds froms sound instr l fun' pc' left' switches' results' slots' frames' m =
+        let fine = fine_at s.fun s.pc _ sound.place.known instr in
+        let called = callee_from funs f ds froms (slice_get funs f) valid refl fine.calls in
+        let callee = called.0 in
+        let body' : body_of funs f ≡ callee.it.body = ap body_in callee.is in
+        let rooms = ap (room_in funs) frames' ∙ room_in-push funs s.frames.items (waiting s) in
+        let here : room_at funs s'.fun s'.pc ≡ room_at funs f 0 = ap (λ n. room_at funs n s'.pc) fun' ∙ ap (λ p. room_at funs f p) pc' in
+        let begins = valid_begins funs callee.it callee.valid in
+        let short = callee.valid.small.2 in
+        let goes_on : s.pc + 1 < length (body_of funs s.fun) = goes_on_at s.fun s.pc _ sound.place.known instr tt in
+        let less : work funs s' < work funs s = omega (arith, ap length body') in
+        let slots_length : length (first_slots funs f (slots_at s.slots.items froms)) ≡ slots_in (slice_get funs f) =
+        simp (length-append, length-replicate, length-map) (omega (arith, called.1)) in
+        let inside : 0 < length (body_of funs f) = omega (arith, ap length body') in
+        let place : IsPlace funs f 0 (first_slots funs f (slots_at s.slots.items froms)) = record { known = slice_get_within funs f callee.it callee.is; inside = inside; slots = slots_length } in
+        let wait : IsFrame funs (waiting s) = record { place = sound.place; goes_on = goes_on } in
+        let frames = All-push (λ (frame : Frame). IsFrame funs frame) s.frames.items (waiting s) sound.frames wait in
+        let outer : outermost s'.frames.items s'.fun ≡ outermost s.frames.items s.fun = ap (λ (fs : List Frame). outermost fs s'.fun) frames' ∙ outermost-push s.frames.items (waiting s) s'.fun in
+        record {
+          sound = record {
+            place = rw (fun', pc', slots') place;
+            frames = rw frames' frames;
+            nested = omega (arith, sound.nested, ap length frames', length-append s.frames.items (waiting s ∷ []));
+            results = ap length results' ∙ sound.results ∙ ap (λ n. results_in (slice_get funs n)) (sym outer);
+            bounded = omega (arith, sound.bounded);
+          };
+          less = less;
+          same = λ t. call_same s s' left f ds froms sound instr l fun' pc' left' switches' slots' frames' m t;
+        }
+
+    pub return_turned : (s s' : State) (frames : List Frame) (frame : Frame) (froms : List ℕ) → IsSound funs depth s → slice_get (body_of funs s.fun) s.pc ≡ Some (Return froms)
+        → s.frames.items ≡ frames ++ frame ∷ [] → s'.frames.items ≡ frames → s'.fun ≡ frame.fun → s'.pc ≡ frame.pc + 1 → s'.left ≡ s.left → s'.switches ≡ s.switches → s'.results.items ≡ s.results.items
+        → s'.slots.items ≡ put_slots frame.slots.items (dests_in (slice_get (body_of funs frame.fun) frame.pc)) (slots_at s.slots.items froms)
+        → (m : Memory) → Turned funs depth s m s' m
+    return_turned s s' frames frame froms sound instr old frames' fun' pc' left' switches' results' slots' m =
+        let slots = s.slots.items in
+        let n = length s.frames.items in
+        let callee = enter funs (depth - n) in
+        let both = last_frame frames frame (rw old at sound.frames) in
+        let words = slots_at slots froms in
+        let put = put_slots frame.slots.items (dests_in (slice_get (body_of funs frame.fun) frame.pc)) words in
+        let rooms = ap (room_in funs) old ∙ room_in-push funs frames frame in
+        let rooms' = ap (room_in funs) frames' in
+        let here : room_at funs s'.fun s'.pc ≡ room_at funs frame.fun (frame.pc + 1) = ap (λ k. room_at funs k s'.pc) fun' ∙ ap (λ p. room_at funs frame.fun p) pc' in
+        let goes_on = both.1.goes_on in
+        let less : work funs s' < work funs s = omega arith in
+        let place : IsPlace funs frame.fun (frame.pc + 1) put = record { known = both.1.place.known; inside = goes_on; slots = length-put_slots frame.slots.items _ words ∙ both.1.place.slots } in
+        let outer : outermost s'.frames.items s'.fun ≡ outermost s.frames.items s.fun = ap (λ (fs : List Frame). outermost fs s'.fun) frames' ∙ ap (outermost frames) fun' ∙ sym (outermost-push frames frame s.fun) ∙ ap (λ (fs : List Frame). outermost fs s.fun) (sym old) in
+        record {
+          sound = record {
+            place = rw (fun', pc', slots') place;
+            frames = rw frames' both.0;
+            nested = omega (arith, sound.nested, ap length old, ap length frames', length-append frames (frame ∷ []));
+            results = ap length results' ∙ sound.results ∙ ap (λ k. results_in (slice_get funs k)) (sym outer);
+            bounded = omega (arith, sound.bounded);
+          };
+          less = less;
+          same = λ t.
+              let w = taken (world_of s m t) in
+              let first = ap (λ o. unwind funs depth s.frames.items o) (from_at callee s.fun s.pc slots (world_of s m t) (Return froms) instr) in
+              let second = ap (λ fs. unwind funs depth fs (over (Returned words s.left) w)) old in
+              let third = unwind_push funs depth frames frame (over (Returned words s.left) w) in
+              let fourth : unwind funs depth frames (from (body_of funs frame.fun) (enter funs (depth - length frames)) (frame.pc + 1) put w) ≡ rest_of funs depth s' m (t + 1) = cc in
+              first ∙ second ∙ third ∙ fourth;
+        }
+
+    pub return_ended : (s s' : State) (froms : List ℕ) → IsSound funs depth s → slice_get (body_of funs s.fun) s.pc ≡ Some (Return froms) → s.frames.items ≡ []
+        → s'.left ≡ s.left → s'.switches ≡ s.switches → (words : List ℕ) → words ≡ slots_at s.slots.items froms → (left : ℕ) → left ≡ s.left
+        → (m : Memory) → Ended funs depth s m (Returned words left) s' m
+    return_ended s s' froms sound instr none left' switches' words words' left l m =
+        let callee = enter funs (depth - length s.frames.items) in
+        record {
+          bounded = omega (arith, sound.bounded);
+          same = λ t.
+              let w = taken (world_of s m t) in
+              let first = ap (λ o. unwind funs depth s.frames.items o) (from_at callee s.fun s.pc s.slots.items (world_of s m t) (Return froms) instr) in
+              let second = ap (λ fs. unwind funs depth fs (over (Returned (slots_at s.slots.items froms) s.left) w)) none in
+              let third : over (Returned (slots_at s.slots.items froms) s.left) w ≡ over (Returned words left) (world_of s' m (t + 1)) = cc in
+              first ∙ second ∙ third;
+        }
+
+    pub spent_ended : (s : State) (f : ℕ) (ds froms : List ℕ) → IsSound funs depth s → slice_get (body_of funs s.fun) s.pc ≡ Some (Call f ds froms) → s.left ≡ 0
+        → (m : Memory) → Ended funs depth s m Spent s m
+    spent_ended s f ds froms sound instr l m =
+        let n = length s.frames.items in
+        let slots = s.slots.items in
+        let callee = enter funs (depth - n) in
+        record {
+          bounded = omega (arith, sound.bounded);
+          same = λ t.
+              let w = taken (world_of s m t) in
+              let go = from (body_of funs s.fun) callee in
+              let first = ap (λ o. unwind funs depth s.frames.items o) (from_at callee s.fun s.pc slots (world_of s m t) (Call f ds froms) instr) in
+              let second = ap (λ (back : Outcome). unwind funs depth s.frames.items (after_call back.ended back.world (λ words. go (s.pc + 1) (put_slots slots ds words) back.world))) (enter_none funs (depth - n) f (slots_at slots froms) w l) in
+              first ∙ second ∙ unwind_final funs laws depth s.frames.items Spent w tt;
+        }
+
+    pub step_turned : (s s' : State) (m m' : Memory) (i : Instr) (t : ℕ) (f : CodeFun) → IsSound funs depth s → slice_get (body_of funs s.fun) s.pc ≡ Some i → slice_get funs s.fun ≡ Some f → IsFlow (length f.body) s.pc (Goes t)
+        → (slots slots' : List ℕ) → slots ≡ s.slots.items → s'.slots.items ≡ slots' → length slots' ≡ length slots
+        → s'.fun ≡ s.fun → s'.pc ≡ t → s'.left ≡ s.left → s'.frames.items ≡ s.frames.items → s'.results.items ≡ s.results.items → s'.switches ≤ s.switches + 1
+        → ((next : Next) (callee : Callee) (left taken : ℕ) → act i next callee s.pc slots (record { left = left; memory = m; switches = s.switches; taken = taken }) ≡ next t slots' (record { left = left; memory = m'; switches = s'.switches; taken = taken }))
+        → Turned funs depth s m s' m'
+    step_turned s s' m m' i t f sound is known target slots slots' old new keeps fun' pc' left' frames' results' switches' flow =
+        let body : body_of funs s.fun ≡ f.body = ap body_in known in
+        let here : room_at funs s'.fun s'.pc ≡ room_at funs s.fun t = ap (λ k. room_at funs k s'.pc) fun' ∙ ap (λ p. room_at funs s.fun p) pc' in
+        let inside : t < length (body_of funs s.fun) = omega (arith, ap length body, target.1) in
+        let before = target.0 in
+        let rooms = ap (room_in funs) frames' in
+        let less : work funs s' < work funs s = omega arith in
+        let place : IsPlace funs s.fun t slots' = record { known = sound.place.known; inside = inside; slots = keeps ∙ ap length old ∙ sound.place.slots } in
+        let outer : outermost s'.frames.items s'.fun ≡ outermost s.frames.items s.fun = ap (λ (fs : List Frame). outermost fs s'.fun) frames' ∙ ap (outermost s.frames.items) fun' in
+        record {
+          sound = record {
+            place = rw (fun', pc', new) place;
+            frames = rw frames' sound.frames;
+            nested = omega (arith, sound.nested, ap length frames');
+            results = ap length results' ∙ sound.results ∙ ap (λ k. results_in (slice_get funs k)) (sym outer);
+            bounded = omega (arith, sound.bounded);
+          };
+          less = less;
+          same = λ k.
+              let callee = enter funs (depth - length s.frames.items) in
+              let go = from (body_of funs s.fun) callee in
+              let w = taken (world_of s m k) in
+              let w' : World = record { left = s.left; memory = m'; switches = s'.switches; taken = k + 1 } in
+              let first = ap (λ o. unwind funs depth s.frames.items o) (from_at callee s.fun s.pc s.slots.items (world_of s m k) i is) in
+              let flows : act i go callee s.pc s.slots.items w ≡ go t slots' w' = subst (λ x. act i go callee s.pc x w ≡ go t slots' w') old (flow go callee s.left (k + 1)) in
+              let second = ap (λ o. unwind funs depth s.frames.items o) flows in
+              let third : unwind funs depth s.frames.items (from (body_of funs s.fun) (enter funs (depth - length s.frames.items)) t slots' w') ≡ rest_of funs depth s' m' (k + 1) = cc in
+              first ∙ second ∙ third;
+        }
+
+    final_from : (long pc : ℕ) (e : End) → IsFlow long pc (Ends e) → IsFinal e
+    final_from long pc (Returned words left) h = h
+    final_from long pc Spent h = tt
+    final_from long pc (Full f) h = tt
+    final_from long pc (Trapped t) h = tt
+
+    pub step_ended : (s s' : State) (m m' : Memory) (i : Instr) (e : End) (long : ℕ) → IsSound funs depth s → slice_get (body_of funs s.fun) s.pc ≡ Some i → IsFlow long s.pc (Ends e)
+        → (slots : List ℕ) → slots ≡ s.slots.items → s'.left ≡ s.left → s'.switches ≤ s.switches + 1
+        → ((next : Next) (callee : Callee) (left taken : ℕ) → act i next callee s.pc slots (record { left = left; memory = m; switches = s.switches; taken = taken }) ≡ over e (record { left = left; memory = m'; switches = s'.switches; taken = taken }))
+        → Ended funs depth s m e s' m'
+    step_ended s s' m m' i e long sound is target slots old left' switches' flow =
+        let inside = sound.place.inside in
+        record {
+          bounded = omega (arith, sound.bounded);
+          same = λ k.
+              let callee = enter funs (depth - length s.frames.items) in
+              let go = from (body_of funs s.fun) callee in
+              let w = taken (world_of s m k) in
+              let w' : World = record { left = s.left; memory = m'; switches = s'.switches; taken = k + 1 } in
+              let first = ap (λ o. unwind funs depth s.frames.items o) (from_at callee s.fun s.pc s.slots.items (world_of s m k) i is) in
+              let flows : act i go callee s.pc s.slots.items w ≡ over e w' = subst (λ x. act i go callee s.pc x w ≡ over e w') old (flow go callee s.left (k + 1)) in
+              let second = ap (λ o. unwind funs depth s.frames.items o) flows in
+              let third : over e w' ≡ over e (world_of s' m' (k + 1)) = cc in
+              first ∙ second ∙ unwind_final funs laws depth s.frames.items e w' (final_from long s.pc e target) ∙ third;
+        }

@@ -1,0 +1,18 @@
+use Rattle.rb_machine.proofs.Turns.{spent_ended, callee_known, call_fits, return_fits}
+use Rattle.rb_machine.proofs.turn.turn.Goals as goal
+
+pub returns-then-state-eq0 : goal.returns-then-state-eq0
+returns-then-state-eq0 g c =
+    spent_ended c.args.funs.now c.args.depth c.requires.valid c.requires.laws c.args.state.now c.in-Call.callee c.in-Call.field-1 c.in-Call.froms c.requires.sound (rw c.in-Call.is at c.instr_at.ensures) c.if-state-eq0.true _
+
+pub call_turn-requires-clause-known : goal.call_turn-requires-clause-known
+call_turn-requires-clause-known g c =
+    callee_known c.args.funs.now 0 c.requires.valid c.args.state.now.fun c.args.state.now.pc c.in-Call.callee c.args.state.now.slots.items c.in-Call.field-1 c.in-Call.froms c.requires.sound.place (rw c.in-Call.is at c.instr_at.ensures)
+
+pub call_turn-requires-clause-froms : goal.call_turn-requires-clause-froms
+call_turn-requires-clause-froms g c =
+    rw c.as_slice.ensures (call_fits c.args.funs.now 0 c.requires.valid c.args.state.now.fun c.args.state.now.pc c.in-Call.callee c.args.state.now.slots.items c.in-Call.field-1 c.in-Call.froms c.requires.sound.place (rw c.in-Call.is at c.instr_at.ensures))
+
+pub return_turn-requires-clause-froms : goal.return_turn-requires-clause-froms
+return_turn-requires-clause-froms g c =
+    rw c.as_slice-in-Return.ensures (return_fits c.args.funs.now 0 c.requires.valid c.args.state.now.fun c.args.state.now.pc c.args.state.now.slots.items c.in-Return.froms c.requires.sound.place (rw c.in-Return.is at c.instr_at.ensures))

@@ -1,0 +1,123 @@
+-- The machine's own state, what is still to come from it, and what one instruction does to that.
+use Rattle.std.specs.Prelude.{◌≡◌, ℕ, ◌+◌, ◌-◌, ◌*◌, ◌^◌, ◌<◌, ◌≤◌, List, [], ◌∷◌, length, Option, Some, None, IsOk, slice_get, slice_index, All}
+use Rattle.rb_bytes.specs.Memory.{Memory, load_of, store_of}
+use Rattle.rb_target.specs.Meaning.{World, Outcome, over, Next, after_call, put_slots, from, enter, body_of, slots_in}
+use Rattle.rb_target.specs.Validity.{IsTarget}
+use Rattle.rb_target.specs.declared.outcome.End.{End}
+use Rattle.rb_target.specs.declared.outcome.End.TheVariants.{Returned}
+use Rattle.rb_target.specs.declared.code.CodeFun.{CodeFun}
+use Rattle.rb_target.specs.declared.instr.Instr.{Instr}
+use Rattle.rb_target.specs.declared.instr.Instr.TheVariants.{Load, Store, Call, Return}
+use Rattle.rb_machine.specs.Runs.{IsNotTrapped}
+use Rattle.rb_machine.specs.declared.state.Frame.{Frame}
+use Rattle.rb_machine.specs.declared.state.State.{State}
+use Rattle.rb_machine.specs.declared.state.Flow.{Flow}
+use Rattle.rb_machine.specs.declared.state.Flow.TheVariants.{Goes, Ends}
+
+-- the slots that the call instruction there writes
+abbrev pub dests_in : Option Instr → List ℕ
+dests_in (Some (Call f ds froms)) = ds
+dests_in o = []
+
+-- a call that waits goes on where the end is a return
+abbrev pub resume : List CodeFun → ℕ → Frame → Outcome → Outcome
+resume funs depth frame o =
+    after_call o.ended o.world (λ words. from (body_of funs frame.fun) (enter funs depth) (frame.pc + 1) (put_slots frame.slots.items (dests_in (slice_get (body_of funs frame.fun) frame.pc)) words) o.world)
+
+-- what the calls that wait make of an end; the outermost is first, and depth calls can be nested in it
+abbrev pub unwind : List CodeFun → ℕ → List Frame → Outcome → Outcome
+unwind funs depth [] o = o
+unwind funs depth (frame ∷ frames) o = resume funs depth frame (unwind funs (depth - 1) frames o)
+
+abbrev pub world_of : State → Memory → ℕ → World
+world_of s m taken = record { left = s.left; memory = m; switches = s.switches; taken = taken }
+
+-- what is still to come
+abbrev pub rest_of : List CodeFun → ℕ → State → Memory → ℕ → Outcome
+rest_of funs depth s m taken =
+    unwind funs depth s.frames.items (from (body_of funs s.fun) (enter funs (depth - length s.frames.items)) s.pc s.slots.items (world_of s m taken))
+
+-- how many instructions can still come at this place
+abbrev pub room_at : List CodeFun → ℕ → ℕ → ℕ
+room_at funs fun pc = length (body_of funs fun) - pc
+
+abbrev pub room_in : List CodeFun → List Frame → ℕ
+room_in funs [] = 0
+room_in funs (frame ∷ frames) = room_at funs frame.fun frame.pc + room_in funs frames
+
+-- more than the number of instructions that can still come
+abbrev pub work : List CodeFun → State → ℕ
+work funs s = s.left * 2 ^ 65 + room_in funs s.frames.items + room_at funs s.fun s.pc
+
+-- a place in the code, with its slots
+pub record IsPlace (funs : List CodeFun) (fun pc : ℕ) (held : List ℕ) : Type 0 where
+  pub known : fun < length funs
+  pub inside : pc < length (body_of funs fun)
+  pub slots : length held ≡ slots_in (slice_get funs fun)
+
+-- a call that waits is not at the end of its body
+pub record IsFrame (funs : List CodeFun) (frame : Frame) : Type 0 where
+  pub place : IsPlace funs frame.fun frame.pc frame.slots.items
+  pub goes_on : frame.pc + 1 < length (body_of funs frame.fun)
+
+-- the function that was called first
+abbrev pub outermost : List Frame → ℕ → ℕ
+outermost [] fun = fun
+outermost (frame ∷ frames) fun = frame.fun
+
+abbrev pub results_in : Option CodeFun → ℕ
+results_in None = 0
+results_in (Some f) = f.results
+
+pub record IsSound (funs : List CodeFun) (depth : ℕ) (s : State) : Type 0 where
+  pub place : IsPlace funs s.fun s.pc s.slots.items
+  pub frames : All (λ (frame : Frame). IsFrame funs frame) s.frames.items
+  pub nested : s.left + length s.frames.items ≤ depth
+  pub results : length s.results.items ≡ results_in (slice_get funs (outermost s.frames.items s.fun))
+  -- so the count of switches never overflows
+  pub bounded : s.switches + work funs s < 2 ^ 127
+
+-- where an instruction leads
+abbrev pub flow_to : Flow → Next → List ℕ → World → Outcome
+flow_to (Goes t) next slots w = next t slots w
+flow_to (Ends e) next slots w = over e w
+
+abbrev pub IsFlow : ℕ → ℕ → Flow → Type 0
+IsFlow long pc (Goes t) = IsTarget long pc t
+IsFlow long pc (Ends (Returned words left)) = ⊥
+IsFlow long pc (Ends e) = Unit {0}
+
+-- the instruction's load or store does not trap
+abbrev pub MayRun : Memory → List ℕ → Instr → Type 0
+MayRun m slots (Load d a offset width) = IsOk (load_of m (slice_index slots a) offset width)
+MayRun m slots (Store a offset width v) = IsOk (store_of m (slice_index slots a) offset width (slice_index slots v)).0
+MayRun m slots i = Unit {0}
+
+abbrev pub IsCallOrReturn : Instr → Type 0
+IsCallOrReturn (Call f ds froms) = Unit {0}
+IsCallOrReturn (Return froms) = Unit {0}
+IsCallOrReturn i = ⊥
+
+-- from the state s over the memory m one instruction leads to s' over m'
+pub record Turned (funs : List CodeFun) (depth : ℕ) (s : State) (m : Memory) (s' : State) (m' : Memory) : Type 0 where
+  pub sound : IsSound funs depth s'
+  pub less : work funs s' < work funs s
+  pub same : (taken : ℕ) → rest_of funs depth s m taken ≡ rest_of funs depth s' m' (taken + 1)
+
+-- one instruction ends the run
+pub record Ended (funs : List CodeFun) (depth : ℕ) (s : State) (m : Memory) (e : End) (s' : State) (m' : Memory) : Type 0 where
+  pub bounded : s'.switches < 2 ^ 127
+  pub same : (taken : ℕ) → rest_of funs depth s m taken ≡ over e (world_of s' m' (taken + 1))
+
+-- the rest does not trap
+abbrev pub IsQuiet : List CodeFun → ℕ → State → Memory → Type 0
+IsQuiet funs depth s m = (taken : ℕ) × IsNotTrapped (rest_of funs depth s m taken).ended
+
+-- the instruction there is a call with these numbers
+abbrev pub IsCallAt : List CodeFun → ℕ → ℕ → ℕ → List ℕ → Type 0
+IsCallAt funs fun pc f froms = (ds : List ℕ) × (slice_get (body_of funs fun) pc ≡ Some (Call f ds froms))
+
+-- one instruction, which ends the run or not
+abbrev pub TurnGives : List CodeFun → ℕ → State → Memory → Option End → State → Memory → Type 0
+TurnGives funs depth s m None s' m' = Turned funs depth s m s' m'
+TurnGives funs depth s m (Some e) s' m' = Ended funs depth s m e s' m'

@@ -1,0 +1,110 @@
+//! One instruction that is no call and no return.
+
+ghost use Rattle.std.specs.Prelude.{◌≡◌, ℕ, ◌<◌, ◌≤◌, ◌+◌, ◌^◌, false, length, IsOk, slice_set};
+ghost use Rattle.rb_bytes.specs.Memory.{IsWidth, load_of, store_of, place_of};
+ghost use Rattle.rb_target.specs.Meaning.{Next, Callee, act, target_of as the_target_of};
+ghost use Rattle.rb_target.specs.Validity.{IsFine};
+ghost use Rattle.rb_machine.specs.Turns.{IsFlow, flow_to, MayRun, IsCallOrReturn};
+
+use crate::alu::{alu, low_bits};
+use crate::state::Flow;
+use rb_bits::words::{put, take};
+use rb_bytes::fault::Trap;
+use rb_bytes::memory::ByteMemory;
+use rb_target::code::CodeFun;
+use rb_target::instr::{Instr, SwitchArm};
+use rb_target::outcome::End;
+
+/// Runs one instruction. Its contract speaks of whatever goes on after it.
+pub fn step<M: ByteMemory>(
+    funs: &[CodeFun],
+    fun: &CodeFun,
+    pc: usize,
+    instr: &Instr,
+    slots: &mut [u64],
+    memory: &mut M,
+    switches: &mut u128,
+) -> Flow
+    requires goes_on { pc + 1 < length fun.now.body }
+    requires short { length fun.now.body < 2 ^ 64 }
+    requires fine { IsFine funs.now fun.now pc instr.now }
+    requires simple { IsCallOrReturn instr.now → ⊥ }
+    requires slots { length slots.old ≡ fun.now.slots }
+    requires switches { switches.old < 2 ^ 127 }
+    requires checks { M.CHECKS ≡ false → MayRun (M.memory memory.old) slots.old instr.now }
+    ensures flow { (next : Next) (callee : Callee) (left taken : ℕ) →
+        act instr.now next callee pc slots.old (record { left = left; memory = M.memory memory.old; switches = switches.old; taken = taken })
+        ≡ flow_to result next slots.new (record { left = left; memory = M.memory memory.new; switches = switches.new; taken = taken }) }
+    ensures target { IsFlow (length fun.now.body) pc result }
+    ensures switches { switches.new ≤ switches.old + 1 }
+{
+    match instr {
+        Instr::Const(dest, number) => write(slots, *dest, *number, pc),
+        Instr::Copy(dest, from) => {
+            let word = slots[*from];
+            write(slots, *dest, word, pc)
+        }
+        Instr::Alu(op, bits, dest, left, right) => {
+            let word = alu(*op, *bits, slots[*left], slots[*right]);
+            write(slots, *dest, word, pc)
+        }
+        Instr::Take(dest, from, o, l) => {
+            let word = take(slots[*from], u32::from(*o), u32::from(*l));
+            write(slots, *dest, word, pc)
+        }
+        Instr::Put(dest, from, o, l) => {
+            let part = low_bits(slots[*from], *l);
+            let word = put(slots[*dest], u32::from(*o), u32::from(*l), part);
+            write(slots, *dest, word, pc)
+        }
+        Instr::Load(dest, base, offset, width) => {
+            match memory.load(slots[*base], *offset, u64::from(*width)) {
+                Ok(word) => write(slots, *dest, word, pc),
+                Err(trap) => Flow::Ends(End::Trapped(trap)),
+            }
+        }
+        Instr::Store(base, offset, width, from) => {
+            match memory.store(slots[*base], *offset, u64::from(*width), slots[*from]) {
+                Ok(()) => Flow::Goes(pc + 1),
+                Err(trap) => Flow::Ends(End::Trapped(trap)),
+            }
+        }
+        Instr::Place(dest, size, align) => match memory.place(*size, *align) {
+            Ok(address) => write(slots, *dest, address, pc),
+            Err(full) => Flow::Ends(End::Full(full)),
+        },
+        Instr::Jump(target) => Flow::Goes(*target),
+        Instr::Switch(from, other, arms) => {
+            *switches += 1;
+            let word = slots[*from];
+            match target_of(arms.as_slice(), *other, word) {
+                Some(target) => Flow::Goes(target),
+                None => Flow::Ends(End::Trapped(Trap::Unmatched(word))),
+            }
+        }
+        _ => unreachable!(),
+    }
+}
+
+// Puts a word into a slot, and goes on at the next instruction.
+fn write(slots: &mut [u64], dest: usize, word: u64, pc: usize) -> Flow
+    requires dest { dest < length slots.old }
+    requires room { pc + 1 < 2 ^ 64 }
+    ensures written { slots.new ≡ slice_set slots.old dest word }
+    ensures goes { result ≡ Flow.Goes (pc + 1) }
+{
+    slots[dest] = word;
+    Flow::Goes(pc + 1)
+}
+
+// The target of the first arm with this number, or else the other one.
+fn target_of(arms: &[SwitchArm], other: Option<usize>, word: u64) -> Option<usize>
+    ensures { result ≡ the_target_of arms.now other word }
+{
+    for arm in arms {
+        if arm.number == word {
+            return Some(arm.target);
+        }
+    }
+    other
+}
