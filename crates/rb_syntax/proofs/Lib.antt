@@ -1,6 +1,9 @@
+mod CutLemmas
 mod Examples
 mod LexLemmas
+mod LongestLemmas
 mod NumberLemmas
 mod PieceLemmas
 pub mod SpellingLemmas
 mod SymbolLemmas
+mod TokenLemmas

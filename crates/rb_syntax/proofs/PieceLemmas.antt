@@ -18,7 +18,7 @@ if-within : (m : ℕ) (b : Bool) (p q : Piece) → (b ≡ true → IsWithin m p)
 if-within m true p q h g = h refl
 if-within m false p q h g = g refl
 
-numeral_len-le : (run : List ℕ) → numeral_len run ≤ length run
+pub numeral_len-le : (run : List ℕ) → numeral_len run ≤ length run
 numeral_len-le [] = omega arith
 numeral_len-le (d ∷ ds) = grind (arith, common_steps, prefix_len-le-length)
 
@@ -42,12 +42,12 @@ unfolding symbol_piece
 symbol-some m (Some t) h g = (symbol-length t, g t refl)
 symbol-some m None h g = h
 
-comment-within : (bytes : List ℕ) → starts_with nat_eq bytes (codes "//") ≡ true → 0 < prefix_len is_in_line bytes
+pub comment-within : (bytes : List ℕ) → starts_with nat_eq bytes (codes "//") ≡ true → 0 < prefix_len is_in_line bytes
 comment-within [] e = cc
 comment-within (b ∷ bs) e = let k : b ∷ bs ≡ codes "//" ++ drop 2 (b ∷ bs) = starts-is (b ∷ bs) (codes "//") e in
     let h : b ≡ 47 = cc in rw h (omega arith)
 
-run-cons : (b : ℕ) (bs : List ℕ) → is_word_byte b ≡ true → take_while is_word_byte (b ∷ bs) ≡ b ∷ take_while is_word_byte bs
+pub run-cons : (b : ℕ) (bs : List ℕ) → is_word_byte b ≡ true → take_while is_word_byte (b ∷ bs) ≡ b ∷ take_while is_word_byte bs
 run-cons b bs e = take_while-cons is_word_byte b bs ∙ rw e refl
 
 first-within : (b : ℕ) (bs : List ℕ) → IsWithin (suc (length bs)) (first_piece b (b ∷ bs))

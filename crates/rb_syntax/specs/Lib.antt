@@ -1,4 +1,5 @@
 pub mod Bytes
+pub mod Cutting
 pub mod Lexing
 pub mod Pieces
 pub mod Spelling

@@ -1,0 +1,194 @@
+-- How the tokens of runs are written, and which byte of a run is bad.
+use Rattle.std.proofs.Common.{◌≡◌, ◌≢◌, ℕ, zero, suc, ◌+◌, ◌-◌, ◌<◌, ◌≤◌, ◌^◌, List, [], ◌∷◌, ◌++◌, length, take, drop, codes, nat_eq, nat_lt, Bool, true, false, cond, not, ◌||◌, ◌&&◌, ◌==◌, nat_le, if◌then◌else◌, Option, Some, None, refl, sym, ◌∙◌, ap, subst, arith, length-take, leb-true, eqb-true, min}
+use Rattle.std.specs.Cmp.Lexicographic.{pointwise}
+use Rattle.std.specs.Char.{is_ascii_digit, is_ascii_uppercase, is_ascii_lowercase, is_ascii_alphabetic}
+use Rattle.std.specs.Int.{is_in_range}
+use Rattle.std.specs.List.{list_all, prefix_len}
+use Rattle.std.proofs.lemmas.Bool.Decides.{Decides-eqb}
+use Rattle.std.proofs.lemmas.Slice.Eq.{slice_eq-Decides}
+use Rattle.std.proofs.lemmas.Bool.{eqb-false, ltb-true, eq-eqb, le-leb, lt-ltb}
+use Rattle.rb_syntax.specs.declared.token.Word.{Word}
+use Rattle.rb_syntax.specs.declared.token.Token.{Token}
+use Rattle.rb_syntax.specs.declared.token.Token.TheVariants as tok
+use Rattle.rb_syntax.specs.Bytes.{is_word_byte, numeral_len, value_of}
+use Rattle.rb_syntax.specs.Words.{word_text, word_of, words, width_of}
+use Rattle.rb_syntax.specs.Pieces.{width_or_name, word_or_name, name_token}
+use Rattle.rb_syntax.specs.Cutting.{Begins, IsNumeral, IsWidth, IsNotReserved, IsWritten, IsTokenRun, name, numeral, underscore}
+use Rattle.rb_syntax.proofs.SymbolLemmas.{and-left, and-right, find-passes, word-found}
+use Rattle.rb_syntax.proofs.LongestLemmas.{prefix-all, all-prefix, length-front}
+
+clash : {P : Type 0} → true ≡ false → P
+clash e = cc
+
+-- Numerals.
+
+all-whole : (p : ℕ → Bool) (xs : List ℕ) → list_all p xs ≡ true → prefix_len p xs ≡ length xs
+all-whole p [] e = refl
+all-whole p (x ∷ xs) e =
+    let a : p x ≡ true = and-left (p x) (list_all p xs) e in
+    let i : prefix_len p xs ≡ length xs = all-whole p xs (and-right (p x) (list_all p xs) e) in rw a (omega arith)
+
+whole-all : (p : ℕ → Bool) (xs : List ℕ) → prefix_len p xs ≡ length xs → list_all p xs ≡ true
+whole-all p [] e = refl
+whole-all p (x ∷ xs) e = elim (p x) as (λ (b : Bool). p x ≡ b → cond b (1 + prefix_len p xs) 0 ≡ suc (length xs) → (b && list_all p xs) ≡ true) [
+  | true ↦ λ h g. whole-all p xs (omega arith)
+  | false ↦ λ h g. absurd (omega arith)
+] refl e
+
+pub numeral-len : (text : List ℕ) → IsNumeral text → numeral_len text ≡ length text
+numeral-len [] n = refl
+numeral-len (d ∷ ds) n = elim (d == 48) as (λ (b : Bool). (d == 48) ≡ b → (if b then 1 else prefix_len is_ascii_digit (d ∷ ds)) ≡ suc (length ds)) [
+  | true ↦ λ e. sym (n.leading e)
+  | false ↦ λ e. all-whole is_ascii_digit (d ∷ ds) n.digits
+] refl
+
+pub none-empty : (ds : List ℕ) → length ds ≡ 0 → ds ≡ []
+none-empty [] e = refl
+none-empty (d ∷ ds) e = absurd (omega arith)
+
+pub len-numeral : (text : List ℕ) → 0 < length text → numeral_len text ≡ length text → IsNumeral text
+len-numeral [] h e = absurd (omega arith)
+len-numeral (d ∷ ds) h e = elim (d == 48) as (λ (b : Bool). (d == 48) ≡ b → (if b then 1 else prefix_len is_ascii_digit (d ∷ ds)) ≡ suc (length ds) → IsNumeral (d ∷ ds)) [
+  | true ↦ λ z g.
+      let at : d ≡ 48 = eqb-true d 48 z in
+      let last : ds ≡ [] = none-empty ds (omega arith) in
+      record { some = omega arith; digits = rw (at, last) refl; leading = λ _. sym g }
+  | false ↦ λ z g. record { some = omega arith; digits = whole-all is_ascii_digit (d ∷ ds) g; leading = λ k. clash (sym k ∙ z) }
+] refl e
+
+-- Words and names.
+
+text-is : (xs ys : List ℕ) → pointwise nat_eq xs ys ≡ true → xs ≡ ys
+text-is xs ys e = (slice_eq-Decides Decides-eqb xs ys (pointwise nat_eq xs ys) refl).0 e
+
+if-some : (c : Bool) (v n : ℕ) → (if c then Some v else None) ≡ Some n → (c ≡ true) × (v ≡ n)
+if-some true v n e = (refl, cc)
+if-some false v n e = cc
+
+value-some : (ds : List ℕ) → 0 < value_of ds → 0 < length ds
+value-some [] h = h
+value-some (d ∷ ds) h = omega arith
+
+width-written : (run : List ℕ) (bits : ℕ) → width_of run ≡ Some bits → IsWidth bits run
+width-written [] bits e = cc
+width-written (u ∷ ds) bits e =
+    let len = numeral_len ds == length ds in
+    let some = nat_lt 0 (value_of ds) in
+    let most = nat_le (value_of ds) 64 in
+    let c : ((((u == 117) && len && some && most) ≡ true) × (value_of ds ≡ bits)) = if-some _ (value_of ds) bits e in
+    let abc : ((u == 117) && len && some) ≡ true = and-left _ most c.0 in
+    let ab : ((u == 117) && len) ≡ true = and-left _ some abc in
+    let low : 0 < value_of ds = ltb-true 0 (value_of ds) (and-right _ some abc) in
+    let high : value_of ds ≤ 64 = leb-true (value_of ds) 64 (and-right _ most c.0) in
+    let whole : numeral_len ds ≡ length ds = eqb-true (numeral_len ds) (length ds) (and-right _ len ab) in
+    record {
+      digits = ds;
+      written = ap (λ (b : ℕ). b ∷ ds) (eqb-true u 117 (and-left _ len ab));
+      numeral = len-numeral ds (value-some ds low) whole;
+      value = c.1;
+      some = omega arith;
+      most = omega arith;
+    }
+
+width-found : (run : List ℕ) (bits : ℕ) → IsWidth bits run → width_of run ≡ Some bits
+width-found run bits w =
+    let e : numeral_len w.digits ≡ length w.digits = numeral-len w.digits w.numeral in
+    let whole : (numeral_len w.digits == length w.digits) ≡ true = eq-eqb (numeral_len w.digits) (length w.digits) e in
+    let low : nat_lt 0 (value_of w.digits) ≡ true = lt-ltb 0 (value_of w.digits) (omega (arith, w.value, w.some)) in
+    let high : nat_le (value_of w.digits) 64 ≡ true = le-leb (value_of w.digits) 64 (omega (arith, w.value, w.most)) in
+    let found : width_of (117 ∷ w.digits) ≡ Some (value_of w.digits) = rw (whole, low, high) refl in
+    subst (λ (xs : List ℕ). width_of xs ≡ Some bits) (sym w.written) (found ∙ ap (λ (n : ℕ). Some n) w.value)
+
+name-not_reserved : (run : List ℕ) → word_of run ≡ None → width_of run ≡ None → IsNotReserved run
+name-not_reserved run e f =
+    (λ w h. let k : word_of (word_text w) ≡ None = subst (λ (xs : List ℕ). word_of xs ≡ None) h e in
+        let g : Some w ≡ None = sym (word-found w) ∙ k in cc,
+     λ bits w. let g : Some bits ≡ None = sym (width-found run bits w) ∙ f in cc)
+
+width_or_name-written : (o : Option ℕ) (b : ℕ) (bs : List ℕ) → is_ascii_lowercase b ≡ true → list_all is_word_byte (b ∷ bs) ≡ true → word_of (b ∷ bs) ≡ None
+    → width_of (b ∷ bs) ≡ o → IsWritten (width_or_name o (b ∷ bs)) (b ∷ bs)
+unfolding width_or_name
+width_or_name-written (Some bits) b bs low all e f = width-written (b ∷ bs) bits f
+width_or_name-written None b bs low all e f = (refl, low, all, name-not_reserved (b ∷ bs) e f)
+
+word_or_name-written : (o : Option Word) (b : ℕ) (bs : List ℕ) → is_ascii_lowercase b ≡ true → list_all is_word_byte (b ∷ bs) ≡ true
+    → word_of (b ∷ bs) ≡ o → IsWritten (word_or_name o (b ∷ bs)) (b ∷ bs)
+unfolding word_or_name
+word_or_name-written (Some w) b bs low all e = sym (text-is (word_text w) (b ∷ bs) (find-passes (λ v. pointwise nat_eq (word_text v) (b ∷ bs)) words w e))
+word_or_name-written None b bs low all e = width_or_name-written (width_of (b ∷ bs)) b bs low all e refl
+
+pub name_token-written : (b : ℕ) (bs : List ℕ) → is_ascii_alphabetic b ≡ true → list_all is_word_byte (b ∷ bs) ≡ true → IsWritten (name_token b (b ∷ bs)) (b ∷ bs)
+unfolding name_token
+name_token-written b bs letter all = elim (is_ascii_uppercase b) as (λ (c : Bool). is_ascii_uppercase b ≡ c → (c || is_ascii_lowercase b) ≡ true
+    → IsWritten (if c then tok.Upper (b ∷ bs) else word_or_name (word_of (b ∷ bs)) (b ∷ bs)) (b ∷ bs)) [
+  | true ↦ λ e _. (refl, e, all)
+  | false ↦ λ e low. word_or_name-written (word_of (b ∷ bs)) b bs low all refl
+] refl letter
+
+-- Where a run goes wrong.
+
+range-is : (lo hi b : ℕ) → is_in_range lo hi b ≡ true → (lo ≤ b) × (b ≤ hi)
+range-is lo hi b e = (leb-true lo b (and-left (nat_le lo b) (nat_le b hi) e), leb-true b hi (and-right (nat_le lo b) (nat_le b hi) e))
+
+or-cases : (a b : Bool) (P : Type 0) → (a ≡ true → P) → (b ≡ true → P) → (a || b) ≡ true → P
+or-cases true b P f g e = f refl
+or-cases false b P f g e = g e
+
+letter-digit : (b : ℕ) → is_ascii_alphabetic b ≡ true → is_ascii_digit b ≡ true → ⊥
+letter-digit b e d =
+    let r = range-is 48 57 b d in
+    or-cases (is_in_range 65 90 b) (is_in_range 97 122 b) ⊥
+        (λ u. let s = range-is 65 90 b u in omega (arith, r.1, s.0)) (λ l. let s = range-is 97 122 b l in omega (arith, r.1, s.0)) e
+
+-- the number at the front of a run that begins with a digit, and the byte behind it
+module _ (d : ℕ) (ds : List ℕ) (digit : is_ascii_digit d ≡ true) where
+  digits-front : prefix_len is_ascii_digit (d ∷ ds) ≡ suc (prefix_len is_ascii_digit ds)
+  digits-front = rw digit (omega arith)
+
+  one-good : IsNumeral (d ∷ [])
+  one-good = record { some = omega arith; digits = rw digit refl; leading = λ _. refl }
+
+  many-good : (d == 48) ≡ false → IsNumeral (d ∷ take (prefix_len is_ascii_digit ds) ds)
+  many-good z = record { some = omega arith; digits = rw digit (prefix-all is_ascii_digit ds); leading = λ k. clash (sym k ∙ z) }
+
+  pub numeral-good : IsNumeral (take (numeral_len (d ∷ ds)) (d ∷ ds))
+  numeral-good = elim (d == 48) as (λ (b : Bool). (d == 48) ≡ b → IsNumeral (take (if b then 1 else prefix_len is_ascii_digit (d ∷ ds)) (d ∷ ds))) [
+    | true ↦ λ _. one-good
+    | false ↦ λ z. subst (λ (n : ℕ). IsNumeral (take n (d ∷ ds))) (sym digits-front) (many-good z)
+  ] refl
+
+  pub numeral_len-some : 0 < numeral_len (d ∷ ds)
+  numeral_len-some = elim (d == 48) as (λ (b : Bool). 0 < (if b then 1 else prefix_len is_ascii_digit (d ∷ ds))) [
+    | true ↦ omega arith
+    | false ↦ omega (arith, digits-front)
+  ]
+
+  not-longer : (k : ℕ) → 0 < k → suc k ≤ suc (length ds) → (IsNumeral (take (suc k) (d ∷ ds)) → ⊥) → IsTokenRun (take (suc k) (d ∷ ds)) → ⊥
+  not-longer k h l fails (name e all) = letter-digit d e digit
+  not-longer k h l fails (numeral n) = fails n
+  not-longer k h l fails (underscore e) = omega (arith, ap length e, length-front (suc k) (d ∷ ds) l)
+
+  pub numeral-bad : numeral_len (d ∷ ds) < suc (length ds) → IsTokenRun (take (suc (numeral_len (d ∷ ds))) (d ∷ ds)) → ⊥
+  numeral-bad = elim (d == 48) as (λ (b : Bool). (d == 48) ≡ b → (if b then 1 else prefix_len is_ascii_digit (d ∷ ds)) < suc (length ds)
+      → IsTokenRun (take (suc (if b then 1 else prefix_len is_ascii_digit (d ∷ ds))) (d ∷ ds)) → ⊥) [
+    | true ↦ λ z l. not-longer 1 (omega arith) l (λ n. omega (arith, n.leading z, length-front 2 (d ∷ ds) l))
+    | false ↦ λ z l. not-longer (prefix_len is_ascii_digit (d ∷ ds)) (omega (arith, digits-front)) l
+        (λ n. omega (arith, all-prefix is_ascii_digit (d ∷ ds) (suc (prefix_len is_ascii_digit (d ∷ ds))) l n.digits))
+  ] refl
+
+-- a run that begins with '_'
+pub underscore-bad : (b c : ℕ) (cs : List ℕ) → b ≡ 95 → IsTokenRun (b ∷ c ∷ cs) → ⊥
+underscore-bad b c cs at (name e all) = let h : is_ascii_alphabetic 95 ≡ true = rw at at e in clash (sym h)
+underscore-bad b c cs at (numeral n) = let h : is_ascii_digit b ≡ true = and-left (is_ascii_digit b) (list_all is_ascii_digit (c ∷ cs)) n.digits in
+    let k : is_ascii_digit 95 ≡ true = rw at at h in clash (sym k)
+underscore-bad b c cs at (underscore e) = omega (arith, ap length e)
+
+last-of-four : (a u l e : Bool) → (((a || u) || l) || e) ≡ true → (u || l) ≡ false → a ≡ false → e ≡ true
+last-of-four true u l e h g k = clash k
+last-of-four false true l e h g k = clash g
+last-of-four false false true e h g k = clash g
+last-of-four false false false e h g k = h
+
+pub is-underscore : (b : ℕ) → is_word_byte b ≡ true → is_ascii_alphabetic b ≡ false → is_ascii_digit b ≡ false → b ≡ 95
+is-underscore b w no_letter no_digit =
+    eqb-true b 95 (last-of-four (is_in_range 48 57 b) (is_in_range 65 90 b) (is_in_range 97 122 b) (b == 95) w no_letter no_digit)
