@@ -1,7 +1,9 @@
 pub mod CallLaws
 pub mod CallsLeft
+pub mod CopyingLemmas
 pub mod Decimals
 pub mod ExpressionLaws
+pub mod MatchingLemmas
 pub mod MeaningForms
 pub mod PatternLaws
 pub mod TypingExamples

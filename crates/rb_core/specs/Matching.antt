@@ -82,6 +82,14 @@ pub record IsLeastMatch (ps : List Pat) (v : Value) (i : ℕ) : Type 0 where
   pub matches : clause_matches ps i v ≡ true
   pub least : (j : ℕ) → j < i → clause_matches ps j v ≡ false
 
+-- what the chosen clause is
+abbrev pub IsChosen : List Pat → Value → Option ℕ → Type 0
+IsChosen ps v None = (i : ℕ) → clause_matches ps i v ≡ false
+IsChosen ps v (Some i) = IsLeastMatch ps v i
+
+abbrev pub ChosenIsLeast : Type 0
+ChosenIsLeast = (ps : List Pat) (v : Value) → IsChosen ps v (chosen_clause ps v)
+
 -- a match is exhaustive where every value of its scrutinee's type has a chosen clause
 abbrev pub IsExhaustive : List DataDecl → Ty → List Pat → Type 0
 IsExhaustive types ty ps = (v : Value) → is_of_type types v ty ≡ true → IsSome (chosen_clause ps v)

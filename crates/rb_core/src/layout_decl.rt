@@ -1,8 +1,11 @@
 //! Layouts as they are written: a tree of splits whose leaves say where each field lies.
 
+ghost use Rattle.std.specs.Prelude.{◌≡◌, IfOk};
+
 use crate::boxed::Boxed;
 use crate::pattern::Pat;
 use crate::seq::Seq;
+use std::alloc::{AllocError, Global};
 
 /// One step of a location through a pointer: the pointer counts `align` bytes, and the block word
 /// at byte `byte` has `width` bits, of which the range begins at bit `o` and is `l` bits long.
@@ -22,6 +25,20 @@ pub struct Loc {
     pub o: u64,
     pub l: u64,
     pub steps: Seq<Step>,
+}
+
+impl Loc {
+    /// An equal location.
+    pub fn copy(&self, alloc: Global) -> Result<Loc, AllocError>
+        ensures { IfOk result (λ loc. loc ≡ self.now) }
+    {
+        Ok(Loc {
+            word: self.word,
+            o: self.o,
+            l: self.l,
+            steps: self.steps.copy(alloc)?,
+        })
+    }
 }
 
 /// What the bits of a part hold. A path is a list of field numbers from the root.

@@ -6,10 +6,12 @@
 
 pub mod binding;
 pub mod boxed;
+pub mod copying;
 pub mod decimal;
 pub mod expression;
 pub mod laws;
 pub mod layout_decl;
+pub mod matching;
 pub mod outcome;
 pub mod pattern;
 pub mod program;

@@ -1,6 +1,6 @@
 //! Values.
 
-ghost use Rattle.std.specs.Prelude.{◌≡◌, ◌+◌, MatchOption, map, sum};
+ghost use Rattle.std.specs.Prelude.{◌≡◌, ◌+◌, ◌<◌, ◌≤◌, IfSome, map, sum};
 
 use crate::seq::Seq;
 
@@ -12,46 +12,84 @@ pub enum Value {
     Con(u32, Seq<Value>),
 }
 
-// The parts go to a list and not to the stack.
+// Takes the value apart node by node, with no memory of its own and no recursion, by reversing
+// pointers (Schorr and Waite): the lists that are open are linked through their own first places.
 impl Drop for Value {
-    #[cycle(dropping)]
-    #[tactic(auto, using(crate::proofs::ValueLemmas::total_rules))]
     fn drop(self) {
-        let mut work = match self {
-            Value::Num(_) => return,
-            Value::Con(_, values) => values,
+        let Some((mut value, mut list)) = self.into_first() else {
+            return;
         };
-        while let Some(value) = work.pop() {
-            if let Some(more) = value.into_children() {
-                if let Some(rest) = work.append(more) {
-                    drop_all(rest);
-                }
-            }
+        while let Some((next, rest)) = value.take_apart(list) {
+            value = next;
+            list = rest;
         }
-        work.destroy_empty();
     }
 }
 
-// For want of memory: one level of the stack for each level of nesting.
-#[cycle(dropping)]
 #[tactic(auto, using(crate::proofs::ValueLemmas::total_rules))]
-fn drop_all(mut values: Seq<Value>) {
-    while let Some(value) = values.pop() {
-        drop(value);
-    }
-    values.destroy_empty();
-}
-
 impl Value {
     ghost use Rattle.rb_core.specs.Values.{node_count};
 
     // The subvalues of a construction.
-    fn into_children(self) -> Option<Seq<Value>>
-        ensures { MatchOption result (node_count self ≡ 1) (λ vs. node_count self ≡ 1 + sum (map node_count vs)) }
+    fn into_list(self) -> Option<Seq<Value>>
+        ensures { IfSome result (λ values. node_count self ≡ 1 + sum (map node_count values)) }
     {
         match self {
             Value::Num(_) => None,
             Value::Con(_, values) => Some(values),
         }
+    }
+
+    // The first subvalue, and the list in which a number stands in its place.
+    fn into_first(self) -> Option<(Value, Seq<Value>)>
+        ensures { IfSome result (λ r. node_count r.0 + sum (map node_count r.1) ≤ node_count self) }
+    {
+        match self {
+            Value::Num(_) => None,
+            Value::Con(_, mut values) => {
+                if values.is_empty() {
+                    values.destroy_empty();
+                    return None;
+                }
+                let first = values.replace(0, Value::Num(0));
+                Some((first, values))
+            }
+        }
+    }
+
+    // The next value to take apart, and the list that is open then: the first subvalue, in whose
+    // place a link to the list that was open is left; else the last value of that list.
+    fn take_apart(self, list: Seq<Value>) -> Option<(Value, Seq<Value>)>
+        ensures total { IfSome result (λ r. node_count r.0 + sum (map node_count r.1) ≤ node_count self + sum (map node_count list)) }
+        ensures falls { IfSome result (λ r. node_count r.0 + sum (map node_count r.1) ≡ node_count self + sum (map node_count list) → node_count r.0 < node_count self) }
+    {
+        match self {
+            Value::Num(_) => Value::last_of(list),
+            Value::Con(_, mut values) => {
+                if values.is_empty() {
+                    values.destroy_empty();
+                    return Value::last_of(list);
+                }
+                let first = values.replace(0, Value::Con(0, list));
+                Some((first, values))
+            }
+        }
+    }
+
+    // The last value of a list that is open, and that list without it. The first place of a list holds
+    // the link to the list that was open before, or a number where there is none.
+    fn last_of(list: Seq<Value>) -> Option<(Value, Seq<Value>)>
+        ensures { IfSome result (λ r. node_count r.0 + sum (map node_count r.1) ≤ sum (map node_count list)) }
+    {
+        let mut rest = list;
+        while let Some(value) = rest.pop() {
+            if !rest.is_empty() {
+                return Some((value, rest));
+            }
+            rest.destroy_empty();
+            rest = value.into_list()?;
+        }
+        rest.destroy_empty();
+        None
     }
 }

@@ -1,0 +1,12 @@
+use Rattle.std.proofs.Common.{◌≡◌, ◌≤◌, length}
+use Rattle.rb_core.specs.Copying.{plugged, remaining}
+use Rattle.rb_core.proofs.copying.leave.Given as goal
+
+abbrev pub invariant-loop-frame : goal.invariant-loop-frame
+invariant-loop-frame l = record {
+  whole : plugged l.frames.items l.value ≡ plugged l.fn.frames.items l.fn.copied;
+  fewer : remaining l.frames.items ≤ remaining l.fn.frames.items;
+}
+
+abbrev pub decreases-loop-frame : goal.decreases-loop-frame
+decreases-loop-frame l = length l.frames.items

@@ -1,0 +1,85 @@
+//! Copies of values, without recursion.
+
+ghost use Rattle.std.specs.Prelude.{◌≡◌, ◌+◌, ◌<◌, ◌≤◌, IfOk};
+ghost use Rattle.rb_core.specs.Values.{node_count};
+ghost use Rattle.rb_core.specs.Copying.{Enters, Leaves};
+
+use crate::seq::Seq;
+use crate::value::Value;
+use std::alloc::{AllocError, Global};
+
+// A construction of which the first subvalues are copied, one is being copied, and the rest is not.
+#[derive(Drop)]
+struct Frame<'a> {
+    con: u32,
+    copied: Seq<Value>,
+    rest: &'a [Value],
+}
+
+// A copy, or what to copy next.
+#[derive(Drop)]
+enum Turn<'a> {
+    Copied(Value),
+    Next(&'a Value),
+}
+
+impl Value {
+    /// An equal value. The memory that it works in grows with the value's depth, its stack does not.
+    pub fn copy(&self, alloc: Global) -> Result<Value, AllocError>
+        ensures { IfOk result (λ v. v ≡ self.now) }
+    {
+        let mut frames = Vec::new(alloc);
+        let mut value = self;
+        loop {
+            match enter(alloc, value, &mut frames)? {
+                Turn::Next(first) => value = first,
+                Turn::Copied(copied) => match leave(copied, &mut frames)? {
+                    Turn::Next(next) => value = next,
+                    Turn::Copied(whole) => return Ok(whole),
+                },
+            }
+        }
+    }
+}
+
+// Goes down to the first subvalue; a value without subvalues is copied.
+fn enter<'a>(
+    alloc: Global,
+    value: &'a Value,
+    frames: &mut Vec<Frame<'a>>,
+) -> Result<Turn<'a>, AllocError>
+    ensures { IfOk result (Enters value.now frames.old.items frames.new.items) }
+{
+    match value {
+        Value::Num(n) => Ok(Turn::Copied(Value::Num(*n))),
+        Value::Con(con, values) => match values.as_slice() {
+            [] => Ok(Turn::Copied(Value::Con(*con, Seq::new(alloc)))),
+            [first, rest @ ..] => {
+                frames.push(Frame {
+                    con: *con,
+                    copied: Seq::new(alloc),
+                    rest,
+                })?;
+                Ok(Turn::Next(first))
+            }
+        },
+    }
+}
+
+// Puts a copy in its place, and those that it completes, up to the next value to copy.
+#[tactic(auto, using(crate::proofs::CopyingLemmas::frame_rules))]
+fn leave<'a>(copied: Value, frames: &mut Vec<Frame<'a>>) -> Result<Turn<'a>, AllocError>
+    ensures { IfOk result (Leaves copied frames.old.items frames.new.items) }
+{
+    let mut value = copied;
+    while let Some(mut frame) = frames.pop() {
+        frame.copied.push(value)?;
+        if let [next, rest @ ..] = frame.rest {
+            frame.rest = rest;
+            frames.push(frame)?;
+            return Ok(Turn::Next(next));
+        }
+        value = Value::Con(frame.con, frame.copied);
+    }
+    Ok(Turn::Copied(value))
+}
