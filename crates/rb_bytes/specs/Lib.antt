@@ -1,1 +1,3 @@
 pub mod Memory
+pub mod Starts
+pub mod Laws

@@ -1,5 +1,5 @@
 -- What a memory is, when it is good, and what a place, a load and a store do with it.
-use Rattle.std.specs.Prelude.{◌≡◌, ℕ, zero, suc, ◌+◌, ◌-◌, ◌*◌, ◌/◌, ◌%◌, ◌^◌, ◌<◌, ◌≤◌, ◌⊎◌, Bool, false, eqb, leb, List, [], ◌∷◌, ◌++◌, length, Option, Some, None, Result, Ok, Err, slice_get, slice_set, if◌then◌else◌}
+use Rattle.std.specs.Prelude.{◌≡◌, ℕ, zero, suc, ◌+◌, ◌-◌, ◌*◌, ◌/◌, ◌%◌, ◌^◌, ◌<◌, ◌≤◌, ◌⊎◌, Bool, false, eqb, leb, List, [], ◌∷◌, ◌++◌, length, Option, Some, None, Result, Ok, Err, replicate, slice_get, slice_set, if◌then◌else◌}
 use Rattle.rb_bytes.specs.declared.fault.Trap.{Trap}
 use Rattle.rb_bytes.specs.declared.fault.Trap.TheVariants.{Astray, Unwritten}
 use Rattle.rb_bytes.specs.declared.fault.Full.{Full}
@@ -42,6 +42,10 @@ IsSize size = (0 < size) × (size ≤ 512)
 -- a power of two up to 64
 abbrev pub IsAlign : ℕ → Type 0
 IsAlign align = (k : ℕ) × (k ≤ 6) × (align ≡ 2 ^ k)
+
+-- a region with nothing in it
+abbrev pub empty_memory : ℕ → Memory
+empty_memory limit = record { limit = limit; next = 64; blocks = []; bytes = replicate limit None }
 
 -- the least multiple of the alignment from an address on
 abbrev pub aligned : ℕ → ℕ → ℕ

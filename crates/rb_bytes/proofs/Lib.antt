@@ -1,0 +1,5 @@
+pub mod ByteLemmas
+pub mod BlockLemmas
+pub mod MemoryLemmas
+mod StartLemmas
+mod CheckedLemmas

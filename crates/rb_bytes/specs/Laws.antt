@@ -1,0 +1,18 @@
+-- What a memory keeps while blocks are placed and words are stored.
+use Rattle.std.specs.Prelude.{◌≡◌, ℕ, ◌+◌, ◌/◌, ◌<◌, ◌≤◌, ◌⊎◌, List, ◌++◌, length, Some, slice_get}
+use Rattle.rb_bytes.specs.Memory.{Memory, byte_at}
+
+-- the new memory has the old one's blocks, in their order, and what was written in the old one
+pub record Extends (old new : Memory) : Type 0 where
+  pub limit : new.limit ≡ old.limit
+  pub next : old.next ≤ new.next
+  pub blocks : (more : List (ℕ × ℕ)) × (new.blocks ≡ old.blocks ++ more)
+  pub written : (a b : ℕ) → byte_at old.bytes a ≡ Some b → byte_at new.bytes a ≡ Some b
+
+-- two accesses, each a base, an offset and a width in bits, that have no byte in common
+abbrev pub AreApart : ℕ → ℕ → ℕ → ℕ → ℕ → ℕ → Type 0
+AreApart b o w c p v = (b + o + w / 8 ≤ c + p) ⊎ (c + p + v / 8 ≤ b + o)
+
+-- from an address on the memory has these bytes, all of them written
+abbrev pub Spells : Memory → ℕ → List ℕ → Type 0
+Spells m at bytes = (i : ℕ) → i < length bytes → byte_at m.bytes (at + i) ≡ slice_get bytes i
