@@ -63,23 +63,27 @@ module _ (b : ℕ) (bs rs : List ℕ) (word : is_word_byte b ≡ true) (all : li
   number-front digit =
       if-front (b ∷ bs) (numeral_len (b ∷ rs) == suc (length rs)) _ _
       (λ e. let n : IsNumeral (b ∷ rs) = len-numeral (b ∷ rs) (omega arith) (eqb-true _ _ e) in
-          if-front (b ∷ bs) (nat_lt (value_of (b ∷ rs)) (2 ^ 64)) _ _
-          (λ h. token-front (tok.Num (value_of (b ∷ rs))) (n, refl, ltb-true _ _ h))
-          (λ h. record { len = suc (length rs); longest = longest; numeral = subst IsNumeral (sym is) n;
-              wide = subst (λ (xs : List ℕ). 2 ^ 64 ≤ value_of xs) (sym is) (ltb-false _ _ h) }))
+      if-front (b ∷ bs) (nat_lt (value_of (b ∷ rs)) (2 ^ 64)) _ _
+      (λ h. token-front (tok.Num (value_of (b ∷ rs))) (n, refl, ltb-true _ _ h))
+      (λ h. record {
+        len = suc (length rs);
+        longest = longest;
+        numeral = subst IsNumeral (sym is) n;
+        wide = subst (λ (xs : List ℕ). 2 ^ 64 ≤ value_of xs) (sym is) (ltb-false _ _ h);
+      }))
       (λ e. let l : numeral_len (b ∷ rs) < suc (length rs) = below (numeral_len (b ∷ rs)) (suc (length rs)) (numeral_len-le (b ∷ rs)) (eqb-false _ _ e) in
-          bad-front (numeral_len (b ∷ rs)) l (cut.numeral (numeral-good b rs digit)) (numeral-bad b rs digit l))
+      bad-front (numeral_len (b ∷ rs)) l (cut.numeral (numeral-good b rs digit)) (numeral-bad b rs digit l))
 
   underscore-front : b ≡ 95 → IsFront (b ∷ bs) (underscore_piece (b ∷ rs))
   unfolding underscore_piece
   underscore-front at =
       if-front (b ∷ bs) (suc (length rs) == 1) _ _
       (λ e. let one : suc (length rs) ≡ 1 = eqb-true _ _ e in
-          let none : rs ≡ [] = none-empty rs (omega arith) in
-          subst (λ (n : ℕ). IsFront (b ∷ bs) (piece.Token (tok.Symbol Underscore) n)) one
-              (token-front (tok.Symbol Underscore) (rw (at, none) refl)))
+      let none : rs ≡ [] = none-empty rs (omega arith) in
+      subst (λ (n : ℕ). IsFront (b ∷ bs) (piece.Token (tok.Symbol Underscore) n)) one
+      (token-front (tok.Symbol Underscore) (rw (at, none) refl)))
       (λ e. let l : 1 < suc (length rs) = below 1 (suc (length rs)) (omega arith) (λ h. eqb-false _ _ e (sym h)) in
-          bad-front 1 l (cut.underscore (rw at refl)) (second-bad rs l))
+      bad-front 1 l (cut.underscore (rw at refl)) (second-bad rs l))
     where
       second-bad : (xs : List ℕ) → 1 < suc (length xs) → IsTokenRun (take 2 (b ∷ xs)) → ⊥
       second-bad [] h r = omega arith
@@ -103,12 +107,12 @@ run-front-of : (b : ℕ) (bs : List ℕ) → is_word_byte b ≡ true → IsFront
 run-front-of b bs e =
     let is : take_while is_word_byte (b ∷ bs) ≡ b ∷ take_while is_word_byte bs = run-cons b bs e in
     let len : prefix_len is_word_byte (b ∷ bs) ≡ suc (length (take_while is_word_byte bs)) =
-        sym (length-prefix_len is_word_byte (b ∷ bs)) ∙ ap length is in
+    sym (length-prefix_len is_word_byte (b ∷ bs)) ∙ ap length is in
     let longest : IsLongest (suc (length (take_while is_word_byte bs))) (b ∷ bs) = subst (λ (n : ℕ). IsLongest n (b ∷ bs)) len (run-longest b bs e) in
     let all : list_all is_word_byte (b ∷ take_while is_word_byte bs) ≡ true =
-        subst (λ (xs : List ℕ). list_all is_word_byte xs ≡ true) is (prefix-all is_word_byte (b ∷ bs)) in
+    subst (λ (xs : List ℕ). list_all is_word_byte xs ≡ true) is (prefix-all is_word_byte (b ∷ bs)) in
     let same : take (suc (length (take_while is_word_byte bs))) (b ∷ bs) ≡ b ∷ take_while is_word_byte bs =
-        ap (λ (n : ℕ). take n (b ∷ bs)) (sym len) ∙ is in
+    ap (λ (n : ℕ). take n (b ∷ bs)) (sym len) ∙ is in
     subst (λ (xs : List ℕ). IsFront (b ∷ bs) (run_piece b xs)) (sym is) (run-front b bs (take_while is_word_byte bs) e all longest same)
 
 first-front : (b : ℕ) (bs : List ℕ) → IsFront (b ∷ bs) (first_piece b (b ∷ bs))
@@ -117,8 +121,8 @@ first-front b bs =
     if-front (b ∷ bs) (is_blank b) _ _ (λ e. (omega arith, blank-longest b bs e, cut.blank b e refl))
     (λ no_blank. if-front (b ∷ bs) (is_word_byte b) _ _ (λ e. run-front-of b bs e)
     (λ no_word. if-front (b ∷ bs) (starts_with nat_eq (b ∷ bs) (codes "//")) _ _
-        (λ e. (comment-within (b ∷ bs) e, comment-longest b bs e, comment-gap b bs e))
-        (λ no_comment. symbol-front-of b bs (symbol_at (b ∷ bs)) no_blank no_word no_comment refl)))
+    (λ e. (comment-within (b ∷ bs) e, comment-longest b bs e, comment-gap b bs e))
+    (λ no_comment. symbol-front-of b bs (symbol_at (b ∷ bs)) no_blank no_word no_comment refl)))
 
 piece_at-front : (bytes : List ℕ) → 0 < length bytes → IsFront bytes (piece_at bytes)
 unfolding piece_at
@@ -159,7 +163,7 @@ unfolding lexed_from
 lexed_from-right zero at bytes h = cut.stop at bytes (none-empty bytes (omega arith))
 lexed_from-right (suc n) at bytes h =
     elim (length bytes == 0) as (λ (b : Bool). (length bytes == 0) ≡ b
-        → IsRightFrom at bytes (if b then Ok [] else with_piece at (piece_at bytes) (λ len. lexed_from n (at + len) (drop len bytes)))) [
+    → IsRightFrom at bytes (if b then Ok [] else with_piece at (piece_at bytes) (λ len. lexed_from n (at + len) (drop len bytes)))) [
       | true ↦ λ e. cut.stop at bytes (none-empty bytes (eqb-true _ _ e))
       | false ↦ λ e. with-right at bytes (piece_at bytes) (λ len. lexed_from n (at + len) (drop len bytes))
           (piece_at-front bytes (below 0 (length bytes) (omega arith) (λ z. eqb-false _ _ e (sym z))))

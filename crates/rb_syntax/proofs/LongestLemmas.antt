@@ -54,8 +54,8 @@ blank-cases : (P : ℕ → Type 0) → P 9 → P 10 → P 13 → P 32 → (b : �
 blank-cases P tab feed return space b e =
     or-cases ((b == 9) || (b == 10) || (b == 13)) (b == 32) (P b)
     (or-cases ((b == 9) || (b == 10)) (b == 13) (P b)
-        (or-cases (b == 9) (b == 10) (P b) (λ h. subst P (sym (eqb-true b 9 h)) tab) (λ h. subst P (sym (eqb-true b 10 h)) feed))
-        (λ h. subst P (sym (eqb-true b 13 h)) return))
+    (or-cases (b == 9) (b == 10) (P b) (λ h. subst P (sym (eqb-true b 9 h)) tab) (λ h. subst P (sym (eqb-true b 10 h)) feed))
+    (λ h. subst P (sym (eqb-true b 13 h)) return))
     (λ h. subst P (sym (eqb-true b 32 h)) space) e
 
 pub blank-word : (b : ℕ) → is_blank b ≡ true → is_word_byte b ≡ false
@@ -86,7 +86,7 @@ front-starts : (k : ℕ) (bytes text : List ℕ) → starts_with nat_eq (take k 
 front-starts k bytes text e =
     let h : take k bytes ≡ text ++ drop (length text) (take k bytes) = starts-is (take k bytes) text e in
     is-starts bytes text (drop (length text) (take k bytes) ++ drop k bytes)
-        (sym (take-append-drop k bytes) ∙ ap (λ (front : List ℕ). front ++ drop k bytes) h ∙ append_assoc text (drop (length text) (take k bytes)) (drop k bytes))
+    (sym (take-append-drop k bytes) ∙ ap (λ (front : List ℕ). front ++ drop k bytes) h ∙ append_assoc text (drop (length text) (take k bytes)) (drop k bytes))
 
 front-is : (k : ℕ) (bytes text : List ℕ) → take k bytes ≡ text → starts_with nat_eq bytes text ≡ true
 front-is k bytes text e = is-starts bytes text (drop k bytes) (sym (take-append-drop k bytes) ∙ ap (λ (front : List ℕ). front ++ drop k bytes) e)
@@ -144,7 +144,7 @@ run-some b bs e = rw e (omega arith)
 pub symbol-front : (b : ℕ) (bs : List ℕ) (s : Symbol) → symbol_at (b ∷ bs) ≡ Some s → take (length (symbol_text s)) (b ∷ bs) ≡ symbol_text s
 symbol-front b bs s e =
     let h : b ∷ bs ≡ symbol_text s ++ drop (length (symbol_text s)) (b ∷ bs) =
-        starts-is (b ∷ bs) (symbol_text s) (find-passes (λ t. starts_with nat_eq (b ∷ bs) (symbol_text t)) symbols s e) in
+    starts-is (b ∷ bs) (symbol_text s) (find-passes (λ t. starts_with nat_eq (b ∷ bs) (symbol_text t)) symbols s e) in
     ap (λ (xs : List ℕ). take (length (symbol_text s)) xs) h ∙ take-append_seam (symbol_text s) (drop (length (symbol_text s)) (b ∷ bs))
 
 pub blank-longest : (b : ℕ) (bs : List ℕ) → is_blank b ≡ true → IsLongest 1 (b ∷ bs)

@@ -79,7 +79,7 @@ symbol-fits bytes s e = starts-fits bytes (symbol_text s) (find-passes (λ t. st
 pub symbol-none : (bytes : List ℕ) (s : Symbol) → symbol_at bytes ≡ None → starts_with nat_eq bytes (symbol_text s) ≡ true → ⊥
 symbol-none bytes s e h =
     let k : not (starts_with nat_eq bytes (symbol_text s)) ≡ true =
-        each_symbol (λ t. not (starts_with nat_eq bytes (symbol_text t))) (find-none (λ t. starts_with nat_eq bytes (symbol_text t)) symbols e) s in
+    each_symbol (λ t. not (starts_with nat_eq bytes (symbol_text t))) (find-none (λ t. starts_with nat_eq bytes (symbol_text t)) symbols e) s in
     let g : not true ≡ true = rw h at k in cc
 
 -- the first byte, 0 where there is none
@@ -94,9 +94,9 @@ symbol-longest bytes s symbol.Arrow e h =
     let k : Some symbol.Arrow ≡ Some s = rw h at e in let g : symbol.Arrow ≡ s = cc in rw (← g) (omega arith)
 symbol-longest bytes s symbol.FatArrow e h = elim (starts_with nat_eq bytes (symbol_text symbol.Arrow))
     as (λ (b : Bool). cond b (Some symbol.Arrow) (cond (starts_with nat_eq bytes (symbol_text symbol.FatArrow)) (Some symbol.FatArrow) (find (λ t. starts_with nat_eq bytes (symbol_text t)) (drop 2 symbols))) ≡ Some s → 2 ≤ length (symbol_text s)) [
-  | true ↦ λ g. let k : symbol.Arrow ≡ s = cc in rw (← k) (omega arith)
-  | false ↦ λ g. let k : Some symbol.FatArrow ≡ Some s = rw h at g in let l : symbol.FatArrow ≡ s = cc in rw (← l) (omega arith)
-] e
+      | true ↦ λ g. let k : symbol.Arrow ≡ s = cc in rw (← k) (omega arith)
+      | false ↦ λ g. let k : Some symbol.FatArrow ≡ Some s = rw h at g in let l : symbol.FatArrow ≡ s = cc in rw (← l) (omega arith)
+    ] e
 symbol-longest bytes s symbol.Equals e h = symbol-length s
 symbol-longest bytes s symbol.Bar e h = symbol-length s
 symbol-longest bytes s symbol.OpenParen e h = symbol-length s

@@ -100,10 +100,11 @@ width-found run bits w =
     subst (λ (xs : List ℕ). width_of xs ≡ Some bits) (sym w.written) (found ∙ ap (λ (n : ℕ). Some n) w.value)
 
 name-not_reserved : (run : List ℕ) → word_of run ≡ None → width_of run ≡ None → IsNotReserved run
-name-not_reserved run e f =
-    (λ w h. let k : word_of (word_text w) ≡ None = subst (λ (xs : List ℕ). word_of xs ≡ None) h e in
-        let g : Some w ≡ None = sym (word-found w) ∙ k in cc,
-     λ bits w. let g : Some bits ≡ None = sym (width-found run bits w) ∙ f in cc)
+name-not_reserved run e f = (
+  λ w h. let k : word_of (word_text w) ≡ None = subst (λ (xs : List ℕ). word_of xs ≡ None) h e in
+      let g : Some w ≡ None = sym (word-found w) ∙ k in cc,
+  λ bits w. let g : Some bits ≡ None = sym (width-found run bits w) ∙ f in cc,
+)
 
 width_or_name-written : (o : Option ℕ) (b : ℕ) (bs : List ℕ) → is_ascii_lowercase b ≡ true → list_all is_word_byte (b ∷ bs) ≡ true → word_of (b ∷ bs) ≡ None
     → width_of (b ∷ bs) ≡ o → IsWritten (width_or_name o (b ∷ bs)) (b ∷ bs)
@@ -121,9 +122,9 @@ pub name_token-written : (b : ℕ) (bs : List ℕ) → is_ascii_alphabetic b ≡
 unfolding name_token
 name_token-written b bs letter all = elim (is_ascii_uppercase b) as (λ (c : Bool). is_ascii_uppercase b ≡ c → (c || is_ascii_lowercase b) ≡ true
     → IsWritten (if c then tok.Upper (b ∷ bs) else word_or_name (word_of (b ∷ bs)) (b ∷ bs)) (b ∷ bs)) [
-  | true ↦ λ e _. (refl, e, all)
-  | false ↦ λ e low. word_or_name-written (word_of (b ∷ bs)) b bs low all refl
-] refl letter
+      | true ↦ λ e _. (refl, e, all)
+      | false ↦ λ e low. word_or_name-written (word_of (b ∷ bs)) b bs low all refl
+    ] refl letter
 
 -- Where a run goes wrong.
 
@@ -138,7 +139,7 @@ letter-digit : (b : ℕ) → is_ascii_alphabetic b ≡ true → is_ascii_digit b
 letter-digit b e d =
     let r = range-is 48 57 b d in
     or-cases (is_in_range 65 90 b) (is_in_range 97 122 b) ⊥
-        (λ u. let s = range-is 65 90 b u in omega (arith, r.1, s.0)) (λ l. let s = range-is 97 122 b l in omega (arith, r.1, s.0)) e
+    (λ u. let s = range-is 65 90 b u in omega (arith, r.1, s.0)) (λ l. let s = range-is 97 122 b l in omega (arith, r.1, s.0)) e
 
 -- the number at the front of a run that begins with a digit, and the byte behind it
 module _ (d : ℕ) (ds : List ℕ) (digit : is_ascii_digit d ≡ true) where
@@ -171,10 +172,10 @@ module _ (d : ℕ) (ds : List ℕ) (digit : is_ascii_digit d ≡ true) where
   pub numeral-bad : numeral_len (d ∷ ds) < suc (length ds) → IsTokenRun (take (suc (numeral_len (d ∷ ds))) (d ∷ ds)) → ⊥
   numeral-bad = elim (d == 48) as (λ (b : Bool). (d == 48) ≡ b → (if b then 1 else prefix_len is_ascii_digit (d ∷ ds)) < suc (length ds)
       → IsTokenRun (take (suc (if b then 1 else prefix_len is_ascii_digit (d ∷ ds))) (d ∷ ds)) → ⊥) [
-    | true ↦ λ z l. not-longer 1 (omega arith) l (λ n. omega (arith, n.leading z, length-front 2 (d ∷ ds) l))
-    | false ↦ λ z l. not-longer (prefix_len is_ascii_digit (d ∷ ds)) (omega (arith, digits-front)) l
-        (λ n. omega (arith, all-prefix is_ascii_digit (d ∷ ds) (suc (prefix_len is_ascii_digit (d ∷ ds))) l n.digits))
-  ] refl
+        | true ↦ λ z l. not-longer 1 (omega arith) l (λ n. omega (arith, n.leading z, length-front 2 (d ∷ ds) l))
+        | false ↦ λ z l. not-longer (prefix_len is_ascii_digit (d ∷ ds)) (omega (arith, digits-front)) l
+            (λ n. omega (arith, all-prefix is_ascii_digit (d ∷ ds) (suc (prefix_len is_ascii_digit (d ∷ ds))) l n.digits))
+      ] refl
 
 -- a run that begins with '_'
 pub underscore-bad : (b c : ℕ) (cs : List ℕ) → b ≡ 95 → IsTokenRun (b ∷ c ∷ cs) → ⊥

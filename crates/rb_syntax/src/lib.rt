@@ -4,6 +4,8 @@
 pub mod bytes;
 pub mod lex;
 pub mod piece;
+#[cfg(test)]
+mod tests;
 pub mod token;
 pub mod tree;
 pub mod words;
