@@ -1,6 +1,7 @@
 -- Integer programs: one function, `main`, over integers alone.
 use Rattle.std.specs.Prelude.{◌≡◌, ℕ, List, [], ◌∷◌, codes, Bool, true, false, ◌&&◌}
 use Rattle.std.specs.List.{list_all}
+use Rattle.rb_core.specs.WellNumbered.{is_between}
 use Rattle.rb_core.specs.declared.types.Ty.{Ty}
 use Rattle.rb_core.specs.declared.types.Ty.TheVariants.{Int, Named}
 use Rattle.rb_core.specs.declared.program.Fun.{Fun}
@@ -11,15 +12,16 @@ use Rattle.rb_core.specs.declared.expression.Expr.TheOpen.{Expr-F}
 use Rattle.rb_core.specs.declared.expression.Expr.TheFolds.{fold-Expr}
 use Rattle.rb_core.specs.declared.expression.Clause.{Clause-F}
 
+-- u1 to u64
 abbrev pub is_integer : Ty → Bool
-is_integer (Int bits) = true
+is_integer (Int bits) = is_between 1 64 bits
 is_integer (Named t) = false
 
 abbrev pub expression_step : Expr-F Bool Bool → Bool
 expression_step (E.Num at n) = true
 expression_step (E.Var at x) = true
 expression_step (E.Binary at op a b) = a && b
-expression_step (E.To at bits a) = a
+expression_step (E.To at bits a) = is_between 1 64 bits && a
 expression_step (E.Call at g es) = false
 expression_step (E.Build at c es) = false
 expression_step (E.Let at x ty a b) = false

@@ -1,6 +1,7 @@
 //! The top call of Ribbit: the words of a command line in, a status and its text out.
 #![tactic(auto)]
 
+pub mod arguments;
 pub mod command;
 pub mod delivery;
 pub mod line;

@@ -1,0 +1,18 @@
+-- Arguments one after the other.
+use Rattle.std.proofs.Common.{rules, arith, refl, sym, ap, ◌∙◌, ◌≡◌, ℕ, zero, suc, ◌+◌, ◌-◌, ◌<◌, ◌^◌, List, [], ◌∷◌, ◌++◌, append_assoc, append-nil, map, drop, length, Option, Some, None, Result, Ok, Err, slice_get, add-one}
+use Rattle.rb_core.specs.Decimal.{number_in}
+use Rattle.rb_core.specs.declared.types.Ty.{Ty}
+use Rattle.ribbit_tool.specs.Arguments.{Numbers, with_first, with_argument, each_argument, bits_of}
+
+-- these numbers, and then the others
+abbrev pub prepended : List ℕ → Numbers → Numbers
+prepended ns (Ok ms) = Ok (ns ++ ms)
+prepended ns (Err line) = Err line
+
+pub prepended-first : (ns : List ℕ) (n : ℕ) (rest : Numbers) → prepended ns (with_first n rest) ≡ prepended (ns ++ n ∷ []) rest
+prepended-first ns n (Ok ms) = ap Ok (sym (append_assoc ns (n ∷ []) ms))
+prepended-first ns n (Err line) = refl
+
+pub prepended-nil : (rest : Numbers) → prepended [] rest ≡ rest
+prepended-nil (Ok ms) = refl
+prepended-nil (Err line) = refl
