@@ -1,1 +1,4 @@
 pub mod ArgumentsRead
+pub mod ComputedLaws
+pub mod StraightLaws
+pub mod VariableLaws

@@ -3,5 +3,6 @@
 
 pub mod arguments;
 pub mod command;
+pub mod compile;
 pub mod delivery;
 pub mod line;
