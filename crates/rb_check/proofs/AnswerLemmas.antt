@@ -4,13 +4,13 @@ use Rattle.std.specs.Result.{IsErrAnd}
 use Rattle.rb_core.specs.declared.typing.TypeFault.{TypeFault}
 use Rattle.rb_core.specs.declared.typing.TypeFault.TheVariants.{Empty, Mismatch, Arity, VariableTwice, Memory}
 use Rattle.rb_core.specs.Typing.{Typing}
-use Rattle.rb_check.specs.Answers.{Answers, Leaves, HasFault}
+use Rattle.rb_check.specs.Answers.{Answers, Leaves}
 
 -- what one part gives is passed on, want of memory included
 through : {A B : Type 0} (fault : TypeFault) (here : Typing A) (gives : Typing B)
     → Answers (Err fault) here → ((f : TypeFault) → here ≡ Err f → gives ≡ Err f) → Answers (Err fault) gives
 through Memory here gives h k = tt
-through (Empty t) here gives h k = k _ h
+through (Empty t) here gives h k = h
 through (Mismatch at wanted found) here gives h k = k _ h
 through (Arity at wanted found) here gives h k = k _ h
 through (VariableTwice at) here gives h k = k _ h

@@ -8,7 +8,7 @@ use Rattle.rb_core.specs.declared.typing.Binder.{Binder}
 use Rattle.rb_core.specs.declared.typing.TypeFault.{TypeFault}
 use Rattle.rb_core.specs.declared.expression.Clause.{Clause}
 use Rattle.rb_core.specs.declared.expression.Expr.{Expr}
-use Rattle.rb_core.specs.Typing.{Typing, and_then, Rule, ClauseRule, each_argument, clauses, clause_step, pattern_binders, type_of, clause_rule}
+use Rattle.rb_core.specs.Typing.{Typing, and_then, Rule, ClauseRule, each_argument, pattern_binders, type_of, clause_rule}
 use Rattle.rb_core.proofs.TypingLemmas.{rule-Clause}
 use Rattle.rb_check.specs.Answers.{Answers, within}
 

@@ -1,31 +1,42 @@
 -- What a call of the checker answers: what the definition of typing gives, or want of memory.
-use Rattle.std.specs.Prelude.{◌≡◌, List, [], ◌∷◌, ◌++◌, map, Option, Some, None, Ok, Err}
+use Rattle.std.specs.Prelude.{◌≡◌, ℕ, List, ◌++◌, map, Option, Some, None, Ok, Err}
 use Rattle.rb_core.specs.declared.types.Ty.{Ty}
+use Rattle.rb_core.specs.declared.types.DataDecl.{DataDecl}
+use Rattle.rb_core.specs.declared.layout_decl.Arm.{Arm}
 use Rattle.rb_core.specs.declared.program.Param.{Param}
 use Rattle.rb_core.specs.declared.typing.Binder.{Binder}
 use Rattle.rb_core.specs.declared.typing.TypeFault.{TypeFault}
-use Rattle.rb_core.specs.declared.typing.TypeFault.TheVariants.{Memory}
+use Rattle.rb_core.specs.declared.typing.TypeFault.TheVariants.{Empty, Memory}
+use Rattle.rb_core.specs.Layouts.{arm_provenances}
+use Rattle.rb_core.specs.TypedPrograms.{first_fault, provenance_fault}
 use Rattle.rb_core.specs.Typing.{Typing, and_then, binder_of}
 use Rattle.rb_check.specs.declared.expression.Wanted.{Wanted}
 use Rattle.rb_check.specs.declared.expression.Wanted.TheVariants.{Params, Fields}
 
--- the answer is what typing gives
+-- the answer is what typing gives; no expression or pattern is refused for an empty type
 abbrev pub Answers : {A : Type 0} → Typing A → Typing A → Type 0
 Answers (Ok a) gives = gives ≡ Ok a
 Answers (Err Memory) gives = Unit {0}
+Answers (Err (Empty t)) gives = ⊥
 Answers (Err fault) gives = gives ≡ Err fault
 
 -- what a call left behind is what typing gives
 abbrev pub Leaves : {A : Type 0} → Typing (Unit {0}) → A → Typing A → Type 0
 Leaves (Ok done) left gives = gives ≡ Ok left
 Leaves (Err Memory) left gives = Unit {0}
+Leaves (Err (Empty t)) left gives = ⊥
 Leaves (Err fault) left gives = gives ≡ Err fault
 
 -- the answer's fault is this one
 abbrev pub HasFault : Typing (Unit {0}) → Option TypeFault → Type 0
 HasFault (Ok done) fault = fault ≡ None
 HasFault (Err Memory) fault = Unit {0}
+HasFault (Err (Empty t)) fault = ⊥
 HasFault (Err found) fault = fault ≡ Some found
+
+-- the first fault in the provenances under an arm of a split
+abbrev pub arm_fault : List DataDecl → ℕ → Arm → Option TypeFault
+arm_fault types ty arm = first_fault (map (provenance_fault types ty) (arm_provenances arm))
 
 -- the binders of a list of parameters and variables
 abbrev pub binders : List Param → List Binder

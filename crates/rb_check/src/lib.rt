@@ -1,6 +1,42 @@
 //! The checker of types: whether a program is typed, or the first fault that it has.
+//!
+//! An expression is typed at a wanted type or none, as in bidirectional typing (Pierce and Turner,
+//! "Local Type Inference", 2000). Each call here answers exactly what the definition of typing in
+//! `rb_core` gives. No call recurses deeper than expressions, patterns and layouts are nested.
 #![tactic(auto)]
 
+ghost use Rattle.std.specs.Prelude.{OnOk, IfErr, IsOkUnless};
+ghost use Rattle.rb_core.specs.declared.typing.TypeFault.TheVariants.{Memory};
+ghost use Rattle.rb_core.specs.TypedPrograms.{IsFirstFault, IsTyped};
+ghost use Rattle.rb_core.specs.WellNumbered.{IsWellNumbered};
+
+mod emptiness;
 mod expression;
 mod pattern;
+mod program;
 mod types;
+
+use crate::emptiness::first_empty;
+use crate::program::check_rules;
+use rb_core::program::Program;
+pub use rb_core::typing::TypeFault;
+use std::alloc::Global;
+
+/// Whether a program is typed; then each of its types has a value.
+///
+/// # Errors
+///
+/// The first fault: `Empty` for the first type without a value, else the first `Mismatch`, `Arity`
+/// or `VariableTwice`, through the layouts' provenances and then the functions. `Memory` where
+/// memory is wanting, which says nothing of the program.
+pub fn check(alloc: Global, program: &Program) -> Result<(), TypeFault>
+    requires { IsWellNumbered program.now }
+    ensures typed { OnOk result (IsTyped program.now) }
+    ensures refused { IfErr result (IsFirstFault program.now) }
+    ensures complete { IsTyped program.now → IsOkUnless result Memory }
+{
+    if let Some(t) = first_empty(alloc, program.types.as_slice())? {
+        return Err(TypeFault::Empty(t as u32));
+    }
+    check_rules(alloc, program)
+}

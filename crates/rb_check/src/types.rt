@@ -2,6 +2,7 @@
 
 ghost use Rattle.std.specs.Prelude.{◌≡◌, ℕ, ◌^◌, ◌<◌, ◌≤◌};
 ghost use Rattle.rb_core.specs.Typing.{fits, holds, integer, integer_wanted, least_width, number, number_type, operand_wanted, operator_type};
+ghost use Rattle.rb_check.specs.Answers.{Answers};
 
 use rb_core::expression::Op;
 use rb_core::types::Ty;
@@ -40,7 +41,7 @@ pub fn can_hold(ty: Ty, n: u64) -> bool
 
 /// The type of the number `n` at the token `at`.
 pub fn type_number(at: u32, n: u64, wanted: Option<Ty>) -> Result<Ty, TypeFault>
-    ensures { result ≡ number at n wanted }
+    ensures { Answers result (number at n wanted) }
 {
     match wanted {
         None => Ok(Ty::Int(64)),
@@ -55,7 +56,7 @@ pub fn type_number(at: u32, n: u64, wanted: Option<Ty>) -> Result<Ty, TypeFault>
 
 /// The type found at the token `at`, where it is the wanted one or none is wanted.
 pub fn fit(at: u32, wanted: Option<Ty>, found: Ty) -> Result<Ty, TypeFault>
-    ensures { result ≡ fits at wanted found }
+    ensures { Answers result (fits at wanted found) }
 {
     match wanted {
         None => Ok(found),
@@ -70,7 +71,7 @@ pub fn fit(at: u32, wanted: Option<Ty>, found: Ty) -> Result<Ty, TypeFault>
 
 /// The type found of an operand at the token `at`, where it is an integer.
 pub fn integer(at: u32, found: Ty) -> Result<Ty, TypeFault>
-    ensures { result ≡ integer at found }
+    ensures { Answers result (integer at found) }
 {
     match found {
         Ty::Int(_) => Ok(found),

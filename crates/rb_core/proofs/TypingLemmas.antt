@@ -14,7 +14,7 @@ use Rattle.rb_core.specs.declared.expression.Clause.{Clause}
 use Rattle.rb_core.specs.declared.expression.Expr.{Expr}
 use Rattle.rb_core.specs.declared.expression.Expr as X
 use Rattle.rb_core.specs.declared.expression.Expr.TheOpen as E
-use Rattle.rb_core.specs.declared.expression.Expr.TheFolds.{fold-roll-Expr, fold-Clause, fold_out-Clause}
+use Rattle.rb_core.specs.declared.expression.Expr.TheFolds.{fold-roll-Expr, fold_out-Clause}
 use Rattle.rb_core.specs.Typing.{Rule, ClauseRule, answer_step, type_of, rule_step, clause_step, rule_of, clause_rule, PatternRule, pattern_step, pattern_params}
 
 module _ (types : List DataDecl) where

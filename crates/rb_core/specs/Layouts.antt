@@ -6,11 +6,11 @@ use Rattle.rb_core.specs.declared.layout_decl.LayItem.{LayItem}
 use Rattle.rb_core.specs.declared.layout_decl.LayItem.TheOpen as I
 use Rattle.rb_core.specs.declared.layout_decl.LayItem.TheOpen.{LayItem-F, PartKind-F, PartDecl-F}
 use Rattle.rb_core.specs.declared.layout_decl.LayItem.TheFolds.{fold-LayItem}
-use Rattle.rb_core.specs.declared.layout_decl.Arm.{Arm-F}
+use Rattle.rb_core.specs.declared.layout_decl.Arm.{Arm, Arm-F}
 use Rattle.rb_core.specs.declared.layout_decl.LayTree.{LayTree}
 use Rattle.rb_core.specs.declared.layout_decl.LayTree.TheOpen as T
 use Rattle.rb_core.specs.declared.layout_decl.LayTree.TheOpen.{LayTree-F}
-use Rattle.rb_core.specs.declared.layout_decl.LayTree.TheFolds.{fold-LayTree}
+use Rattle.rb_core.specs.declared.layout_decl.LayTree.TheFolds.{fold-LayTree, fold-Arm}
 
 -- a leaf: the values that it holds, and its words
 pub record WrittenLeaf : Type 0 where
@@ -31,6 +31,12 @@ leaves_step (T.Leaf at p items) = record { provenance = p; items = items } ∷ [
 -- the leaves of a layout from left to right
 abbrev pub leaves : LayTree → List WrittenLeaf
 leaves = fold-LayTree (List WrittenLeaf) (List WrittenLeaf) leaves_step arm_leaves
+
+abbrev pub leaves_under : Arm → List WrittenLeaf
+leaves_under = fold-Arm (List WrittenLeaf) (List WrittenLeaf) leaves_step arm_leaves
+
+abbrev pub arm_provenances : Arm → List Pat
+arm_provenances a = map (λ l. l.provenance) (leaves_under a)
 
 abbrev pub provenances : LayTree → List Pat
 provenances tree = map (λ l. l.provenance) (leaves tree)

@@ -1,4 +1,4 @@
-use Rattle.std.proofs.Common.{◌≡◌, ◌+◌, ◌*◌, max, map, drop, length, Some}
+use Rattle.std.proofs.Common.{◌≡◌, ◌+◌, ◌*◌, max, map, drop, length}
 use denote.Param.Weighed.{most}
 use Rattle.rb_core.specs.declared.expression.Expr.{size-Expr}
 use Rattle.rb_core.specs.declared.expression.Clause.{size-Clause}

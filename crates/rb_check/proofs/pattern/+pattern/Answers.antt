@@ -1,4 +1,4 @@
-use Rattle.std.proofs.Common.{sym, ◌∙◌, ap}
+use Rattle.std.proofs.Common.{sym, ◌∙◌}
 use Rattle.rb_core.specs.Typing.{pattern_params}
 use Rattle.rb_check.proofs.AnswerLemmas.{Leaves-fails}
 use Rattle.rb_check.proofs.PatternLemmas.{bound-next, bound-fails}
