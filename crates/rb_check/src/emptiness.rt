@@ -70,7 +70,8 @@ fn is_marked(marks: &[bool], ty: Ty) -> bool
 fn is_live(marks: &[bool], data_type: &DataDecl) -> bool
     ensures { result ≡ type_is_live marks.now data_type.now }
 {
-    data_type.cons
+    data_type
+        .cons
         .as_slice()
         .iter()
         .any(|con| are_marked(marks, con.fields.as_slice()))
