@@ -18,21 +18,21 @@ use Rattle.rb_core.specs.declared.expression.Expr.TheFolds.{fold-roll-Expr, fold
 use Rattle.rb_core.specs.Typing.{Rule, ClauseRule, answer_step, type_of, rule_step, clause_step, rule_of, clause_rule, PatternRule, pattern_step, pattern_params}
 
 module _ (types : List DataDecl) where
-  pub pattern-Wild : (at : ℕ) → pattern_params types (Q.Wild at) ≡ pattern_step types (P.Wild at)
+  pub pattern-Wild : (at : ℕ) (t : Ty) → pattern_params types (Q.Wild at) t ≡ pattern_step types (P.Wild at) t
   unfolding Q.roll-Pat denote.Hole.Carrier.roll
-  pattern-Wild at = fold-roll-Pat PatternRule (pattern_step types) (P.Wild at)
+  pattern-Wild at t = ap (λ (r : PatternRule). r t) (fold-roll-Pat PatternRule (pattern_step types) (P.Wild at))
 
-  pub pattern-Var : (at x : ℕ) → pattern_params types (Q.Var at x) ≡ pattern_step types (P.Var at x)
+  pub pattern-Var : (at x : ℕ) (t : Ty) → pattern_params types (Q.Var at x) t ≡ pattern_step types (P.Var at x) t
   unfolding Q.roll-Pat denote.Hole.Carrier.roll
-  pattern-Var at x = fold-roll-Pat PatternRule (pattern_step types) (P.Var at x)
+  pattern-Var at x t = ap (λ (r : PatternRule). r t) (fold-roll-Pat PatternRule (pattern_step types) (P.Var at x))
 
-  pub pattern-Num : (at n : ℕ) → pattern_params types (Q.Num at n) ≡ pattern_step types (P.Num at n)
+  pub pattern-Num : (at n : ℕ) (t : Ty) → pattern_params types (Q.Num at n) t ≡ pattern_step types (P.Num at n) t
   unfolding Q.roll-Pat denote.Hole.Carrier.roll
-  pattern-Num at n = fold-roll-Pat PatternRule (pattern_step types) (P.Num at n)
+  pattern-Num at n t = ap (λ (r : PatternRule). r t) (fold-roll-Pat PatternRule (pattern_step types) (P.Num at n))
 
-  pub pattern-Con : (at : ℕ) (c : ConRef) (ps : List Pat) → pattern_params types (Q.Con at c ps) ≡ pattern_step types (P.Con at c (map (pattern_params types) ps))
+  pub pattern-Con : (at : ℕ) (c : ConRef) (ps : List Pat) (t : Ty) → pattern_params types (Q.Con at c ps) t ≡ pattern_step types (P.Con at c (map (pattern_params types) ps)) t
   unfolding Q.roll-Pat denote.Hole.Carrier.roll
-  pattern-Con at c ps = fold-roll-Pat PatternRule (pattern_step types) (P.Con at c ps)
+  pattern-Con at c ps t = ap (λ (r : PatternRule). r t) (fold-roll-Pat PatternRule (pattern_step types) (P.Con at c ps))
 
 module _ (types : List DataDecl) (funs : List Fun) where
   pub rule-Num : (at n : ℕ) → rule_of types funs (X.Num at n) ≡ rule_step types funs (E.Num at n)
@@ -118,4 +118,8 @@ module _ (types : List DataDecl) (funs : List Fun) where
   pub token-Match : (at : ℕ) (e : Expr) (cs : List Clause) → (rule_of types funs (X.Match at e cs)).at ≡ at
   token-Match at e cs = ap (λ (r : Rule). r.at) (rule-Match at e cs)
 
-pub ruleset type_rules = (pattern-Wild, pattern-Var, pattern-Num, pattern-Con, rule-Clause, type-Num, type-Var, type-Call, type-Build, type-Binary, type-To, type-Let, type-Match, token-Num, token-Var, token-Call, token-Build, token-Binary, token-To, token-Let, token-Match)
+  pub type-Clause : (pat : Pat) (body : Expr) (t : Ty) (wanted : Option Ty) (scope : List Binder)
+      → clause_rule types funs (record { pat = pat; body = body }) t wanted scope ≡ clause_step types (record { pat = pat; body = rule_of types funs body }) t wanted scope
+  type-Clause pat body t wanted scope = ap (λ (r : ClauseRule). r t wanted scope) (rule-Clause pat body)
+
+pub ruleset type_rules = (pattern-Wild, pattern-Var, pattern-Num, pattern-Con, type-Clause, type-Num, type-Var, type-Call, type-Build, type-Binary, type-To, type-Let, type-Match, token-Num, token-Var, token-Call, token-Build, token-Binary, token-To, token-Let, token-Match)
