@@ -133,7 +133,7 @@ field_is_no_list = simp type_rules
 
 -- match l { Nil => 0, Cons(h, t) => h } with none wanted: the first clause's type is wanted of the other
 clauses_agree : type_of bit_and_list [] (X.Match 20 (X.Var 21 0)
-        (case (Q.Con 23 (record { ty = 1; con = 0 }) []) (X.Num 25 0) ∷ case (Q.Con 27 cons (Q.Var 29 2 ∷ Q.Var 31 3 ∷ [])) (X.Var 34 2) ∷ [])) None l_and_b
+    (case (Q.Con 23 (record { ty = 1; con = 0 }) []) (X.Num 25 0) ∷ case (Q.Con 27 cons (Q.Var 29 2 ∷ Q.Var 31 3 ∷ [])) (X.Var 34 2) ∷ [])) None l_and_b
     ≡ Ok (Int 64)
 clauses_agree = simp type_rules
 
@@ -167,11 +167,11 @@ pattern_is_typed_first = simp type_rules
 
 -- fun main(x: u8, x: u8): u8 = x;
 parameter_stands_twice : function_fault [] [] (record {
-        name = [];
-        params = record { at = 3; var = 0; ty = Int 8 } ∷ record { at = 7; var = 0; ty = Int 8 } ∷ [];
-        result = Int 8;
-        body = X.Var 14 0;
-    }) ≡ Some (VariableTwice 7)
+  name = [];
+  params = record { at = 3; var = 0; ty = Int 8 } ∷ record { at = 7; var = 0; ty = Int 8 } ∷ [];
+  result = Int 8;
+  body = X.Var 14 0;
+}) ≡ Some (VariableTwice 7)
 parameter_stands_twice = refl
 
 -- the provenances Nil of a layout of List, and Cons(_)
