@@ -1,8 +1,14 @@
+pub mod BindingLemmas
 pub mod CallLaws
 pub mod CallsLeft
 pub mod CopyingLemmas
 pub mod Decimals
+pub mod EvalMeasure
+pub mod EvalSteps
 pub mod ExpressionLaws
+pub mod GivesLemmas
+pub mod InferenceForms
+pub mod InferenceLemmas
 pub mod MatchingLemmas
 pub mod MeaningForms
 pub mod PatternLaws

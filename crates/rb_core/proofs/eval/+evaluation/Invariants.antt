@@ -1,0 +1,56 @@
+use Rattle.std.proofs.Common.{◌≡◌, ◌≤◌, [], ℕ, map, drop, ◌+◌, ◌*◌, max}
+use denote.Param.Weighed.{most}
+use Rattle.rb_core.specs.declared.expression.Expr.{size-Expr}
+use Rattle.rb_core.specs.declared.expression.Clause.{size-Clause}
+use Rattle.rb_core.specs.Meaning.{call_within, meaning_of, clause_meaning, all_of, parts_after, first_of}
+use Rattle.rb_core.proofs.EvalMeasure.{call_weight}
+use Rattle.rb_core.proofs.eval.+evaluation.Given as goal
+
+abbrev pub decreases-eval_call : goal.decreases-eval_call
+decreases-eval_call l = l.left * call_weight l.program.now
+
+abbrev pub decreases-eval_expr : goal.decreases-eval_expr
+decreases-eval_expr l = l.left * call_weight l.program.now + (3 * size-Expr l.expr.now + 1)
+
+abbrev pub decreases-eval_all : goal.decreases-eval_all
+decreases-eval_all l = l.calls * call_weight l.program.now + (3 * goal.size-eval_all l + 2)
+
+abbrev pub decreases-eval_invoke : goal.decreases-eval_invoke
+decreases-eval_invoke l = l.calls * call_weight l.program.now + (3 * goal.size-eval_invoke l + 3)
+
+abbrev pub decreases-eval_build : goal.decreases-eval_build
+decreases-eval_build l = l.calls * call_weight l.program.now + (3 * goal.size-eval_build l + 3)
+
+abbrev pub decreases-eval_to : goal.decreases-eval_to
+decreases-eval_to l = l.calls * call_weight l.program.now + (3 * goal.size-eval_to l + 2)
+
+abbrev pub decreases-eval_clauses : goal.decreases-eval_clauses
+decreases-eval_clauses l = l.calls * call_weight l.program.now + (3 * most size-Clause l.clauses.now + 2)
+
+abbrev pub decreases-eval_let : goal.decreases-eval_let
+decreases-eval_let l = l.calls * call_weight l.program.now + (3 * max (size-Expr l.a.now) (size-Expr l.b.now) + 2)
+
+abbrev pub decreases-eval_binary : goal.decreases-eval_binary
+decreases-eval_binary l = l.calls * call_weight l.program.now + (3 * max (size-Expr l.a.now) (size-Expr l.b.now) + 2)
+
+abbrev pub decreases-eval_match : goal.decreases-eval_match
+decreases-eval_match l = l.calls * call_weight l.program.now + (3 * max (size-Expr l.scrutinee.now) (most size-Clause l.clauses.now) + 3)
+
+-- what is left to do gives what all of it gives
+abbrev pub invariant-eval_all-loop-i : goal.invariant-eval_all-loop-i
+invariant-eval_all-loop-i l = record {
+  fewer : l.left ≤ l.calls;
+  frame : l.frame ≡ l.initial.frame;
+  gives : (k : ℕ) → l.calls ≤ k →
+      parts_after l.initial.log (all_of (map (meaning_of l.program (call_within l.program k) l.initial.frame.fun) l.parts) l.tys l.initial.frame.scope [] l.calls l.initial.frame.values)
+      ≡ parts_after l.log (all_of (map (meaning_of l.program (call_within l.program k) l.initial.frame.fun) (drop l.i l.parts)) (drop l.i l.tys) l.initial.frame.scope l.values l.left l.initial.frame.values);
+}
+
+abbrev pub invariant-eval_clauses-loop-clause : goal.invariant-eval_clauses-loop-clause
+invariant-eval_clauses-loop-clause l = record {
+  frame : l.frame ≡ l.initial.frame;
+  log : l.log ≡ l.initial.log;
+  gives : (k : ℕ) → l.calls ≤ k →
+      first_of l.program.types l.ty (map (clause_meaning l.program (call_within l.program k) l.initial.frame.fun) l.clauses) l.initial.wanted l.others l.initial.frame.scope l.value l.calls l.initial.frame.values
+      ≡ first_of l.program.types l.ty (map (clause_meaning l.program (call_within l.program k) l.initial.frame.fun) (drop l.clause-index l.clauses)) l.wanted l.others l.initial.frame.scope l.value l.calls l.initial.frame.values;
+}

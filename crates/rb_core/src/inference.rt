@@ -1,0 +1,222 @@
+//! The types of typed expressions, read off their forms.
+
+ghost use Rattle.std.specs.Prelude.{◌≡◌, ◌++◌, ◌∷◌, [], map, None, IfOk, OnOk};
+ghost use Rattle.rb_core.specs.Typing.{variable_type, field_types, param_types, result_type, operand_wanted, operator_type};
+ghost use Rattle.rb_core.specs.Inference.{all_binders, binders, operands_type, match_type, inferred_type, clause_inferred};
+
+use crate::expression::{Clause, Expr, Op};
+use crate::pattern::Pat;
+use crate::program::{Param, Program};
+use crate::seq::Seq;
+use crate::types::{ConRef, DataDecl, Ty};
+use crate::typing::Binder;
+use std::alloc::{AllocError, Global};
+
+/// The type of an expression of a typed program, at a wanted type or none and a scope. The scope
+/// is lent for more binders, and on `Ok` is what it was.
+#[cycle(inferring)]
+pub fn infer(
+    program: &Program,
+    expr: &Expr,
+    wanted: Option<Ty>,
+    scope: &mut Seq<Binder>,
+) -> Result<Ty, AllocError>
+    ensures ty { IfOk result (λ t. t ≡ inferred_type program.now.types program.now.funs expr.now wanted scope.old) }
+    ensures scope { OnOk result (scope.new ≡ scope.old) }
+{
+    match expr {
+        Expr::Num(_, _) => Ok(wanted.unwrap_or(Ty::Int(64))),
+        Expr::Var(_, var) => Ok(type_of_variable(*var, scope.as_slice())),
+        Expr::Call(_, fun, _) => Ok(type_of_call(program, *fun)),
+        Expr::Build(_, con, _) => Ok(Ty::Named(con.ty)),
+        Expr::Binary(_, op, a, _) => {
+            let operands = infer_operands(program, *op, a.get(), wanted, scope)?;
+            Ok(type_of_operator(*op, operands))
+        }
+        Expr::To(_, bits, _) => Ok(Ty::Int(*bits)),
+        Expr::Let(_, var, ty, _, body) => infer_let(program, *var, *ty, body.get(), wanted, scope),
+        Expr::Match(_, scrutinee, clauses) => {
+            let ty = infer(program, scrutinee.get(), None, scope)?;
+            let found = infer_match(program, ty, clauses.as_slice(), wanted, scope)?;
+            Ok(found)
+        }
+    }
+}
+
+/// The type of both operands of an operator, of which the first is given.
+#[cycle(inferring)]
+pub fn infer_operands(
+    program: &Program,
+    op: Op,
+    first: &Expr,
+    wanted: Option<Ty>,
+    scope: &mut Seq<Binder>,
+) -> Result<Ty, AllocError>
+    ensures ty { IfOk result (λ t. t ≡ operands_type op wanted (inferred_type program.now.types program.now.funs first.now None scope.old)) }
+    ensures scope { OnOk result (scope.new ≡ scope.old) }
+{
+    let found = infer(program, first, None, scope)?;
+    Ok(wanted_of_operand(op, wanted).unwrap_or(found))
+}
+
+#[cycle(inferring)]
+fn infer_let(
+    program: &Program,
+    var: u32,
+    ty: Ty,
+    body: &Expr,
+    wanted: Option<Ty>,
+    scope: &mut Seq<Binder>,
+) -> Result<Ty, AllocError>
+    ensures ty { IfOk result (λ t. t ≡ inferred_type program.now.types program.now.funs body.now wanted (scope.old ++ record { var = var; ty = ty } ∷ [])) }
+    ensures scope { OnOk result (scope.new ≡ scope.old) }
+{
+    let depth = scope.len();
+    scope.push(Binder { var, ty })?;
+    let found = infer(program, body, wanted, scope)?;
+    scope.truncate(depth);
+    Ok(found)
+}
+
+/// The type of a match whose scrutinee has type `ty`.
+#[cycle(inferring)]
+pub fn infer_match(
+    program: &Program,
+    ty: Ty,
+    clauses: &[Clause],
+    wanted: Option<Ty>,
+    scope: &mut Seq<Binder>,
+) -> Result<Ty, AllocError>
+    ensures ty { IfOk result (λ t. t ≡ match_type program.now.types wanted (map (clause_inferred program.now.types program.now.funs) clauses.now) ty scope.old) }
+    ensures scope { OnOk result (scope.new ≡ scope.old) }
+{
+    if let Some(wanted) = wanted {
+        return Ok(wanted);
+    }
+    let [first, ..] = clauses else {
+        return Ok(Ty::Int(64));
+    };
+    let depth = scope.len();
+    bind_types(program.types.as_slice(), &first.pat, ty, scope)?;
+    let found = infer(program, &first.body, None, scope)?;
+    scope.truncate(depth);
+    Ok(found)
+}
+
+/// Puts the variables of a pattern at a type behind those of a scope.
+#[cycle(binding_types)]
+pub fn bind_types(
+    types: &[DataDecl],
+    pat: &Pat,
+    ty: Ty,
+    scope: &mut Seq<Binder>,
+) -> Result<(), AllocError>
+    ensures { OnOk result (scope.new ≡ scope.old ++ binders types.now pat.now ty) }
+{
+    match pat {
+        Pat::Wild(_) => Ok(()),
+        Pat::Var(_, var) => {
+            scope.push(Binder { var: *var, ty })?;
+            Ok(())
+        }
+        Pat::Num(_, _) => Ok(()),
+        Pat::Con(_, con, pats) => {
+            bind_all_types(types, pats.as_slice(), types_of_fields(types, *con), scope)
+        }
+    }
+}
+
+#[cycle(binding_types)]
+#[tactic(auto, using(crate::proofs::InferenceLemmas::binder_steps))]
+fn bind_all_types(
+    types: &[DataDecl],
+    pats: &[Pat],
+    tys: &[Ty],
+    scope: &mut Seq<Binder>,
+) -> Result<(), AllocError>
+    ensures { OnOk result (scope.new ≡ scope.old ++ all_binders (map (binders types.now) pats.now) tys.now) }
+{
+    for (i, pat) in pats.iter().enumerate() {
+        if i >= tys.len() {
+            return Ok(());
+        }
+        bind_types(types, pat, tys[i], scope)?;
+    }
+    Ok(())
+}
+
+fn type_of_variable(var: u32, scope: &[Binder]) -> Ty
+    ensures { result ≡ variable_type var scope.now }
+{
+    let mut found = Ty::Int(64);
+    for binder in scope {
+        if binder.var == var {
+            found = binder.ty;
+        }
+    }
+    found
+}
+
+fn type_of_call(program: &Program, fun: u32) -> Ty
+    ensures { result ≡ result_type program.now.funs fun }
+{
+    match program.funs.get(fun as usize) {
+        Some(callee) => callee.result,
+        None => Ty::Int(64),
+    }
+}
+
+fn type_of_operator(op: Op, ty: Ty) -> Ty
+    ensures { result ≡ operator_type op ty }
+{
+    match op {
+        Op::Eq | Op::Lt => Ty::Int(1),
+        Op::Add | Op::Sub | Op::Mul | Op::And | Op::Or | Op::Xor => ty,
+    }
+}
+
+/// What is wanted of an operator's first operand.
+pub fn wanted_of_operand(op: Op, wanted: Option<Ty>) -> Option<Ty>
+    ensures { result ≡ operand_wanted op wanted }
+{
+    match op {
+        Op::Eq | Op::Lt => None,
+        Op::Add | Op::Sub | Op::Mul | Op::And | Op::Or | Op::Xor => match wanted {
+            Some(Ty::Int(bits)) => Some(Ty::Int(bits)),
+            Some(Ty::Named(_)) | None => None,
+        },
+    }
+}
+
+/// The types of a constructor's fields; none where the program has no such constructor.
+pub fn types_of_fields(types: &[DataDecl], con: ConRef) -> &[Ty]
+    ensures { result.now ≡ field_types types.now con }
+{
+    let Some(data) = types.get(con.ty as usize) else {
+        return &[];
+    };
+    match data.cons.get(con.con as usize) {
+        Some(con) => con.fields.as_slice(),
+        None => &[],
+    }
+}
+
+/// The types of a function's parameters; none where the program has no such function.
+pub fn types_of_params(alloc: Global, program: &Program, fun: u32) -> Result<Seq<Ty>, AllocError>
+    ensures { IfOk result (λ types. types ≡ param_types program.now.funs fun) }
+{
+    match program.funs.get(fun as usize) {
+        Some(callee) => types_of(alloc, callee.params.as_slice()),
+        None => Ok(Seq::new(alloc)),
+    }
+}
+
+fn types_of(alloc: Global, params: &[Param]) -> Result<Seq<Ty>, AllocError>
+    ensures { IfOk result (λ types. types ≡ map (λ p. p.ty) params.now) }
+{
+    let mut types = Seq::new(alloc);
+    for param in params {
+        types.push(param.ty)?;
+    }
+    Ok(types)
+}
