@@ -3,3 +3,5 @@ pub mod Unrolling
 pub mod Nesting
 pub mod Patching
 pub mod Written
+pub mod Examples
+pub mod Texts

@@ -2,3 +2,4 @@ pub mod Meaning
 pub mod Validity
 pub mod Laws
 pub mod Sheet
+pub mod Text

@@ -5,3 +5,5 @@ pub mod body;
 pub mod code;
 pub mod instr;
 pub mod outcome;
+pub mod spell;
+pub mod word;

@@ -1,0 +1,91 @@
+-- Code as text: a line an instruction, its words with one blank between.
+use Rattle.std.specs.Prelude.{ℕ, List, [], ◌∷◌, ◌++◌, map, codes, Option, Some, None}
+use Rattle.std.specs.Fmt.{decimal}
+use Rattle.rb_target.specs.declared.instr.AluOp.{AluOp}
+use Rattle.rb_target.specs.declared.instr.AluOp.TheVariants.{Add, Sub, Mul, And, Or, Xor, Eq, Lt}
+use Rattle.rb_target.specs.declared.instr.SwitchArm.{SwitchArm}
+use Rattle.rb_target.specs.declared.instr.Instr.{Instr}
+use Rattle.rb_target.specs.declared.instr.Instr.TheVariants.{Const, Copy, Alu, Take, Put, Load, Store, Place, Jump, Switch, Call, Return}
+use Rattle.rb_target.specs.declared.word.Word.{Word}
+use Rattle.rb_target.specs.declared.word.Word.TheVariants.{Number, Op, Dash, Of}
+use Rattle.rb_target.specs.declared.code.CodeFun.{CodeFun}
+
+abbrev pub op_text : AluOp → List ℕ
+op_text Add = codes "add"
+op_text Sub = codes "sub"
+op_text Mul = codes "mul"
+op_text And = codes "and"
+op_text Or = codes "or"
+op_text Xor = codes "xor"
+op_text Eq = codes "eq"
+op_text Lt = codes "lt"
+
+abbrev pub word_text : Word → List ℕ
+word_text (Number n) = decimal n
+word_text (Op op) = op_text op
+word_text Dash = codes "-"
+word_text Of = codes "of"
+
+abbrev pub key_text : Instr → List ℕ
+key_text (Const d c) = codes "const"
+key_text (Copy d a) = codes "copy"
+key_text (Alu op n d a b) = codes "alu"
+key_text (Take d a o l) = codes "take"
+key_text (Put d a o l) = codes "put"
+key_text (Load d a offset width) = codes "load"
+key_text (Store a offset width v) = codes "store"
+key_text (Place d size align) = codes "place"
+key_text (Jump t) = codes "jump"
+key_text (Switch a other arms) = codes "switch"
+key_text (Call f ds froms) = codes "call"
+key_text (Return froms) = codes "return"
+
+abbrev pub numbers : List ℕ → List Word
+numbers ns = map (λ n. Number n) ns
+
+abbrev pub pairs : List SwitchArm → List Word
+pairs [] = []
+pairs (arm ∷ arms) = Number arm.number ∷ Number arm.target ∷ pairs arms
+
+abbrev pub other_word : Option ℕ → Word
+other_word None = Dash
+other_word (Some t) = Number t
+
+abbrev pub words_of : Instr → List Word
+words_of (Const d c) = Number d ∷ Number c ∷ []
+words_of (Copy d a) = Number d ∷ Number a ∷ []
+words_of (Alu op n d a b) = Op op ∷ Number n ∷ Number d ∷ Number a ∷ Number b ∷ []
+words_of (Take d a o l) = Number d ∷ Number a ∷ Number o ∷ Number l ∷ []
+words_of (Put d a o l) = Number d ∷ Number a ∷ Number o ∷ Number l ∷ []
+words_of (Load d a offset width) = Number d ∷ Number a ∷ Number offset ∷ Number width ∷ []
+words_of (Store a offset width v) = Number a ∷ Number offset ∷ Number width ∷ Number v ∷ []
+words_of (Place d size align) = Number d ∷ Number size ∷ Number align ∷ []
+words_of (Jump t) = Number t ∷ []
+words_of (Switch a other arms) = Number a ∷ other_word other ∷ pairs arms
+words_of (Call f ds froms) = Number f ∷ numbers ds ++ Of ∷ numbers froms
+words_of (Return froms) = numbers froms
+
+-- the words, each after a blank
+abbrev pub spaced : List Word → List ℕ
+spaced [] = []
+spaced (w ∷ ws) = 32 ∷ word_text w ++ spaced ws
+
+abbrev pub line : List ℕ → List Word → List ℕ
+line first ws = first ++ spaced ws ++ 10 ∷ []
+
+abbrev pub instr_text : Instr → List ℕ
+instr_text i = line (key_text i) (words_of i)
+
+abbrev pub head_text : CodeFun → List ℕ
+head_text f = codes "fun " ++ line f.name (Number f.params ∷ Number f.results ∷ Number f.slots ∷ [])
+
+abbrev pub body_text : List Instr → List ℕ
+body_text [] = []
+body_text (i ∷ is) = instr_text i ++ body_text is
+
+abbrev pub fun_text : CodeFun → List ℕ
+fun_text f = head_text f ++ body_text f.body ++ line (codes "end") []
+
+abbrev pub code_text : List CodeFun → List ℕ
+code_text [] = []
+code_text (f ∷ fs) = fun_text f ++ code_text fs

@@ -1,0 +1,180 @@
+//! Code as text.
+
+ghost use Rattle.std.specs.Prelude.{◌≡◌, ◌++◌, ◌∷◌, [], IfOk, length, drop, take};
+ghost use Rattle.rb_target.specs.Text.{words_of, spaced, word_text, line, instr_text, head_text, body_text, fun_text, code_text, numbers, pairs};
+
+use crate::code::{Code, CodeFun};
+use crate::instr::{Instr, SwitchArm};
+use crate::word::{Word, key_name, op_name};
+use rb_core::decimal::digits;
+use std::alloc::{AllocError, Global};
+
+// The words of some slots.
+fn push_slots(words: &mut Vec<Word>, slots: &[usize]) -> Result<(), AllocError>
+    ensures { IfOk result (λ _. words.new.items ≡ words.old.items ++ numbers slots.now) }
+{
+    for slot in slots {
+        words.push(Word::Number(*slot as u64))?;
+    }
+    Ok(())
+}
+
+// The words of some arms.
+fn push_arms(words: &mut Vec<Word>, arms: &[SwitchArm]) -> Result<(), AllocError>
+    ensures { IfOk result (λ _. words.new.items ≡ words.old.items ++ pairs arms.now) }
+{
+    for arm in arms {
+        push_numbers(words, &[arm.number, arm.target as u64])?;
+    }
+    Ok(())
+}
+
+// The words of some numbers.
+fn push_numbers(words: &mut Vec<Word>, items: &[u64]) -> Result<(), AllocError>
+    ensures { IfOk result (λ _. words.new.items ≡ words.old.items ++ numbers items.now) }
+{
+    for item in items {
+        words.push(Word::Number(*item))?;
+    }
+    Ok(())
+}
+
+fn plain(alloc: Global, items: &[u64]) -> Result<Vec<Word>, AllocError>
+    ensures { IfOk result (λ v. v.items ≡ numbers items.now) }
+{
+    let mut words = Vec::new(alloc);
+    push_numbers(&mut words, items)?;
+    Ok(words)
+}
+
+// The words of an instruction's line after its first.
+fn words(alloc: Global, instr: &Instr) -> Result<Vec<Word>, AllocError>
+    ensures { IfOk result (λ v. v.items ≡ words_of instr.now) }
+{
+    match instr {
+        Instr::Const(dest, number) => plain(alloc, &[*dest as u64, *number]),
+        Instr::Copy(dest, from) => plain(alloc, &[*dest as u64, *from as u64]),
+        Instr::Alu(op, bits, dest, left, right) => {
+            let slots = [*bits as u64, *dest as u64, *left as u64, *right as u64];
+            let mut words = Vec::new(alloc);
+            words.push(Word::Op(*op))?;
+            push_numbers(&mut words, &slots)?;
+            Ok(words)
+        }
+        Instr::Take(dest, from, o, l) | Instr::Put(dest, from, o, l) => plain(
+            alloc,
+            &[*dest as u64, *from as u64, u64::from(*o), u64::from(*l)],
+        ),
+        Instr::Load(dest, base, offset, width) => plain(
+            alloc,
+            &[*dest as u64, *base as u64, *offset, u64::from(*width)],
+        ),
+        Instr::Store(base, offset, width, from) => plain(
+            alloc,
+            &[*base as u64, *offset, u64::from(*width), *from as u64],
+        ),
+        Instr::Place(dest, size, align) => plain(alloc, &[*dest as u64, *size, *align]),
+        Instr::Jump(target) => plain(alloc, &[*target as u64]),
+        Instr::Switch(from, other, arms) => switch_words(alloc, *from, *other, arms.as_slice()),
+        Instr::Call(fun, dests, froms) => {
+            let mut words = plain(alloc, &[*fun as u64])?;
+            push_slots(&mut words, dests.as_slice())?;
+            words.push(Word::Of)?;
+            push_slots(&mut words, froms.as_slice())?;
+            Ok(words)
+        }
+        Instr::Return(froms) => {
+            let mut words = Vec::new(alloc);
+            push_slots(&mut words, froms.as_slice())?;
+            Ok(words)
+        }
+    }
+}
+
+// The words of a switch.
+fn switch_words(
+    alloc: Global,
+    from: usize,
+    other: Option<usize>,
+    arms: &[SwitchArm],
+) -> Result<Vec<Word>, AllocError>
+    ensures { IfOk result (λ v. v.items ≡ words_of (Instr.Switch from other arms.now)) }
+{
+    let mut words = plain(alloc, &[from as u64])?;
+    match other {
+        Some(target) => words.push(Word::Number(target as u64))?,
+        None => words.push(Word::Dash)?,
+    }
+    push_arms(&mut words, arms)?;
+    Ok(words)
+}
+
+// A blank and a word.
+fn push_word(text: &mut Vec<u8>, word: Word) -> Result<(), AllocError>
+    ensures { IfOk result (λ _. text.new.items ≡ text.old.items ++ 32 ∷ word_text word) }
+{
+    text.push(b' ')?;
+    match word {
+        Word::Number(number) => text.extend_from_slice(digits(number).as_slice())?,
+        Word::Op(op) => text.extend_from_slice(op_name(op))?,
+        Word::Dash => text.push(b'-')?,
+        Word::Of => text.extend_from_slice(b"of")?,
+    }
+    Ok(())
+}
+
+// A line: its first word, the others each after a blank, and the line's end.
+fn push_line(text: &mut Vec<u8>, first: &[u8], words: &[Word]) -> Result<(), AllocError>
+    ensures { IfOk result (λ _. text.new.items ≡ text.old.items ++ line first.now words.now) }
+{
+    text.extend_from_slice(first)?;
+    push_words(text, words)?;
+    text.push(b'\n')?;
+    Ok(())
+}
+
+fn push_words(text: &mut Vec<u8>, words: &[Word]) -> Result<(), AllocError>
+    ensures { IfOk result (λ _. text.new.items ≡ text.old.items ++ spaced words.now) }
+{
+    for word in words {
+        push_word(text, *word)?;
+    }
+    Ok(())
+}
+
+fn push_body(alloc: Global, text: &mut Vec<u8>, body: &[Instr]) -> Result<(), AllocError>
+    ensures { IfOk result (λ _. text.new.items ≡ text.old.items ++ body_text body.now) }
+{
+    for instr in body {
+        let words = words(alloc, instr)?;
+        push_line(text, key_name(instr), words.as_slice())?;
+    }
+    Ok(())
+}
+
+fn push_fun(alloc: Global, text: &mut Vec<u8>, fun: &CodeFun) -> Result<(), AllocError>
+    ensures { IfOk result (λ _. text.new.items ≡ text.old.items ++ fun_text fun.now) }
+{
+    let counts = plain(
+        alloc,
+        &[fun.params as u64, fun.results as u64, fun.slots as u64],
+    )?;
+    text.extend_from_slice(b"fun ")?;
+    push_line(text, fun.name.as_slice(), counts.as_slice())?;
+    push_body(alloc, text, fun.body.as_slice())?;
+    push_line(text, b"end", &[])?;
+    Ok(())
+}
+
+/// The code text: for each function the line `fun NAME PARAMS RESULTS SLOTS`, its instructions, one a
+/// line, and the line `end`.
+pub fn spell_code(alloc: Global, code: &Code) -> Result<Vec<u8>, AllocError>
+    ensures { IfOk result (λ v. v.items ≡ code_text code.now) }
+{
+    let mut text = Vec::new(alloc);
+    let funs = code.funs();
+    for fun in funs {
+        push_fun(alloc, &mut text, fun)?;
+    }
+    Ok(text)
+}
