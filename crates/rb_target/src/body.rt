@@ -103,6 +103,7 @@ impl Body {
         requires { AreWritten self }
         ensures value { result ≡ record { name = name; params = self.params; results = results; slots = self.slots; body = self.code } }
         ensures written { self.slots ≤ self.params + dest_count self.code }
+        ensures small { (self.slots < 2 ^ 64) × (length self.code ≤ 2 ^ 32) }
     {
         let Body {
             code,

@@ -43,7 +43,8 @@ impl Code {
     /// The functions as code.
     pub fn new(funs: Seq<CodeFun>) -> Code
         requires { IsValid funs }
-        ensures { result ≡ funs }
+        ensures value { result ≡ funs }
+        ensures laws { IsLawful funs }
     {
         Code { funs }
     }

@@ -1,8 +1,6 @@
 -- Arguments one after the other.
-use Rattle.std.proofs.Common.{rules, arith, refl, sym, ap, ◌∙◌, ◌≡◌, ℕ, zero, suc, ◌+◌, ◌-◌, ◌<◌, ◌^◌, List, [], ◌∷◌, ◌++◌, append_assoc, append-nil, map, drop, length, Option, Some, None, Result, Ok, Err, slice_get, add-one}
-use Rattle.rb_core.specs.Decimal.{number_in}
-use Rattle.rb_core.specs.declared.types.Ty.{Ty}
-use Rattle.ribbit_tool.specs.Arguments.{Numbers, with_first, with_argument, each_argument, bits_of}
+use Rattle.std.proofs.Common.{refl, sym, ap, ◌≡◌, ℕ, List, [], ◌∷◌, ◌++◌, append_assoc, Ok, Err}
+use Rattle.ribbit_tool.specs.Arguments.{Numbers, with_first}
 
 -- these numbers, and then the others
 abbrev pub prepended : List ℕ → Numbers → Numbers

@@ -1,23 +1,20 @@
 -- Expressions whose value is the word of a slot.
-use Rattle.std.proofs.Common.{◌≡◌, ℕ, zero, suc, ◌+◌, ◌-◌, ◌*◌, ◌/◌, ◌%◌, ◌<◌, ◌≤◌, ◌^◌, List, [], ◌∷◌, ◌++◌, map, length, get_or, refl, sym, ap, subst, ◌∙◌, arith, append_assoc, append-nil, length-append, Option, Some, None}
+use Rattle.std.proofs.Common.{◌≡◌, ℕ, ◌+◌, ◌%◌, ◌<◌, ◌≤◌, ◌^◌, List, map, length, refl, sym, ap, ◌∙◌, arith, length-append, Option, Some, None}
 use Rattle.std.specs.Prelude.{slice_index}
 use Rattle.rb_bits.specs.Words.{take_of}
 use Rattle.rb_core.specs.declared.value.Value.{Value, Num}
 use Rattle.rb_core.specs.declared.value.Value as V
 use Rattle.rb_core.specs.declared.types.Ty.{Ty}
 use Rattle.rb_core.specs.declared.types.DataDecl.{DataDecl}
-use Rattle.rb_core.specs.declared.binding.Binding.{Binding}
-use Rattle.rb_core.specs.declared.typing.Binder.{Binder}
 use Rattle.rb_core.specs.declared.outcome.Outcome.{Outcome}
 use Rattle.rb_core.specs.declared.program.Param.{Param}
 use Rattle.rb_core.specs.declared.program.Fun.{Fun}
-use Rattle.rb_core.specs.declared.program.Program.{Program}
 use Rattle.rb_core.specs.declared.expression.Op.{Op}
 use Rattle.rb_core.specs.declared.expression.Op.TheVariants as op
 use Rattle.rb_core.specs.declared.expression.Expr.{Expr}
 use Rattle.rb_core.specs.declared.expression.Expr as X
 use Rattle.rb_core.specs.Inference.{width_of, operands_type, inferred_type}
-use Rattle.rb_core.specs.Meaning.{Calls, arguments, value_in, done, then_do, op_value, number_of, combined, cut_to, meaning_of}
+use Rattle.rb_core.specs.Meaning.{arguments, value_in, done, then_do, op_value, number_of, combined, cut_to, meaning_of}
 use Rattle.rb_core.specs.Typing.{binder_of, operand_wanted}
 use Rattle.rb_core.proofs.MeaningForms.{meaning-Num, meaning-Var, meaning-Binary, meaning-To}
 use Rattle.rb_target.specs.declared.instr.Instr.{Instr}

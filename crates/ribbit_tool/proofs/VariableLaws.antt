@@ -1,5 +1,5 @@
 -- Variables of integer functions: their slots and their types.
-use Rattle.std.proofs.Common.{◌≡◌, ◌≢◌, ℕ, zero, suc, ◌+◌, ◌<◌, ◌≤◌, ◌==◌, if◌then◌else◌, List, [], ◌∷◌, map, drop, length, get_or, refl, sym, ap, ◌∙◌, arith, add-one, Option, Some, None, Bool, true, false}
+use Rattle.std.proofs.Common.{◌≡◌, ◌≢◌, ℕ, suc, ◌+◌, ◌<◌, ◌≤◌, ◌==◌, if◌then◌else◌, List, [], ◌∷◌, map, drop, length, get_or, refl, sym, ap, ◌∙◌, arith, add-one, Option, None, Bool, true, false}
 use Rattle.std.proofs.Math.Seq.{drop-cons}
 use Rattle.std.proofs.lemmas.Grind.{common_steps}
 use Rattle.rb_core.specs.declared.types.Ty.{Ty}
@@ -17,8 +17,7 @@ use Rattle.rb_core.specs.Typing.{operator_type}
 use Rattle.std.specs.Prelude.{slice_index}
 use Rattle.rb_core.specs.declared.value.Value.{Value, Num}
 use Rattle.rb_core.specs.declared.program.Param.{Param}
-use Rattle.rb_core.specs.Meaning.{arguments, value_in, value_or}
-use Rattle.ribbit_tool.specs.Compiling.{slot_value}
+use Rattle.rb_core.specs.Meaning.{arguments, value_or}
 
 eqb-same : (a b : ℕ) → a ≡ b → (a == b) ≡ true
 eqb-same a b e = grind (arith, e)

@@ -1,5 +1,5 @@
 -- Words for the compiler of integer functions.
-use Rattle.std.specs.Prelude.{◌≡◌, ℕ, List, [], ◌∷◌, ◌++◌, length, true, slice_index, Option, Some, None}
+use Rattle.std.specs.Prelude.{◌≡◌, ◌<◌, ◌≤◌, ◌+◌, ◌^◌, ℕ, List, [], ◌∷◌, ◌++◌, length, true, slice_index, Option, Some, None}
 use Rattle.std.specs.List.{list_all}
 use Rattle.rb_core.specs.declared.expression.Op.{Op}
 use Rattle.rb_core.specs.declared.expression.Op.TheVariants as op
@@ -12,6 +12,7 @@ use Rattle.rb_target.specs.declared.instr.AluOp.TheVariants as alu
 use Rattle.rb_target.specs.declared.instr.Instr.TheVariants.{Return}
 use Rattle.rb_target.specs.declared.code.CodeFun.{CodeFun}
 use Rattle.rb_target.specs.Sheet.{Sheet}
+use Rattle.rb_target.specs.Validity.{dest_count}
 use Rattle.ribbit_tool.specs.IntegerPrograms.{is_integer}
 use Rattle.ribbit_tool.specs.Straight.{IsStraight, Computed}
 
@@ -46,3 +47,9 @@ pub record Compiled (function : Fun) (code : CodeFun) : Type 0 where
   pub params : sheet.params ≡ length function.params
   pub computed : Computed function.params function.body (Some function.result) sheet slot
   pub whole : code ≡ record { name = function.name; params = sheet.params; results = 1; slots = sheet.slots; body = sheet.code ++ Return (slot ∷ []) ∷ [] }
+
+-- a function's numbers are those of machine words, and it has no more slots than its instructions write
+pub record IsSmallCode (code : CodeFun) : Type 0 where
+  pub slots : code.slots < 2 ^ 64
+  pub body : length code.body ≤ 2 ^ 32
+  pub written : code.slots ≤ code.params + dest_count code.body

@@ -1,5 +1,5 @@
 -- Integer programs: one function, `main`, over integers alone.
-use Rattle.std.specs.Prelude.{◌≡◌, ℕ, List, [], ◌∷◌, codes, Bool, true, false, ◌&&◌}
+use Rattle.std.specs.Prelude.{◌≡◌, ◌≤◌, [], ◌∷◌, length, codes, Bool, true, false, ◌&&◌}
 use Rattle.std.specs.List.{list_all}
 use Rattle.rb_core.specs.WellNumbered.{is_between}
 use Rattle.rb_core.specs.declared.types.Ty.{Ty}
@@ -43,6 +43,7 @@ pub record IsIntegerProgram (p : Program) : Type 0 where
   pub alone : p.funs ≡ function ∷ []
   pub main : p.main ≡ 0
   pub name : function.name ≡ codes "main"
+  pub few : length function.params ≤ 32
   pub no_types : p.types ≡ []
   pub no_layouts : p.layouts ≡ []
   pub over_integers : is_integer_function function ≡ true

@@ -1,7 +1,7 @@
 -- When code does what an integer program means.
-use Rattle.std.specs.Prelude.{◌≡◌, ℕ, ◌<◌, ◌^◌, List, [], ◌∷◌, map, length, Option, Some, slice_get}
+use Rattle.std.specs.Prelude.{◌≡◌, ℕ, ◌<◌, ◌^◌, List, [], ◌∷◌, map, length, Some, slice_get}
 use Rattle.rb_bytes.specs.Memory.{Memory, IsGood}
-use Rattle.rb_core.specs.declared.value.Value.{Value, Num}
+use Rattle.rb_core.specs.declared.value.Value.{Num}
 use Rattle.rb_core.specs.declared.types.Ty.{Ty}
 use Rattle.rb_core.specs.declared.types.Ty.TheVariants.{Int, Named}
 use Rattle.rb_core.specs.declared.program.Fun.{Fun}

@@ -14,7 +14,7 @@ ghost use Rattle.rb_core.specs.Typing.{binder_of, operand_wanted, operator_type}
 ghost use Rattle.rb_core.specs.WellNumbered.{is_between};
 ghost use Rattle.rb_target.specs.declared.instr.Instr.TheVariants.{Const, Alu, Take};
 ghost use Rattle.rb_target.specs.Sheet.{pushed, with_slot};
-ghost use Rattle.ribbit_tool.specs.Compiling.{alu_op_of, AreIntegers, IsWanted, slot_value, Compiled};
+ghost use Rattle.ribbit_tool.specs.Compiling.{alu_op_of, AreIntegers, IsWanted, slot_value, Compiled, IsSmallCode};
 ghost use Rattle.ribbit_tool.specs.IntegerPrograms.{is_integer, is_integer_expression, IsIntegerProgram, is_integer_function};
 ghost use Rattle.ribbit_tool.specs.Refining.{RefinesIntegers};
 ghost use Rattle.ribbit_tool.specs.Straight.{IsStraight, Grows, Computed};
@@ -227,4 +227,35 @@ fn emit(
         }
         _ => unreachable!(),
     }
+}
+
+// The function's code: its body, and a return of the body's value.
+fn compile_function(alloc: Global, function: &Fun) -> Result<CodeFun, AllocError>
+    requires integers { is_integer_function function.now ≡ true }
+    requires few { length function.now.params ≤ 32 }
+    ensures compiled { IfOk result (λ code. Compiled function.now code) }
+    ensures small { IfOk result (λ code. IsSmallCode code) }
+{
+    let params = function.params.as_slice();
+    let mut body = Body::new(alloc, params.len());
+    let slot = emit(&mut body, params, &function.body, Some(function.result))?;
+    let mut results = Seq::new(alloc);
+    results.push(slot)?;
+    body.push(Instr::Return(results))?;
+    let name = function.name.copy(alloc)?;
+    let code = body.finish(name, 1);
+    Ok(code)
+}
+
+/// Compiles an integer program. The code has one function, which makes no calls, touches no memory and
+/// begins one instruction for each number and operator of the source, and one to return.
+pub fn compile_integers(alloc: Global, program: &Program) -> Result<Code, AllocError>
+    requires { IsIntegerProgram program.now }
+    ensures { IfOk result (λ code. RefinesIntegers program.now code) }
+{
+    let function = &program.funs.as_slice()[0];
+    let mut funs = Seq::new(alloc);
+    funs.push(compile_function(alloc, function)?)?;
+    let code = Code::new(funs);
+    Ok(code)
 }

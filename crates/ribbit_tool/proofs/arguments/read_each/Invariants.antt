@@ -1,4 +1,4 @@
-use Rattle.std.proofs.Common.{◌≡◌, ◌≤◌, ◌+◌, map, drop, length}
+use Rattle.std.proofs.Common.{◌≡◌, ◌+◌, map, drop}
 use Rattle.ribbit_tool.specs.Arguments.{each_argument}
 use Rattle.ribbit_tool.proofs.ArgumentsRead.{prepended}
 use Rattle.ribbit_tool.proofs.arguments.read_each.Given as goal

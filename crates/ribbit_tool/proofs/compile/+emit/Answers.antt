@@ -1,4 +1,4 @@
-use Rattle.std.proofs.Common.{sym, ap, subst, ◌∙◌, ◌≡◌, ◌<◌, ℕ, List, map, length, Option, Some, None, true, arith}
+use Rattle.std.proofs.Common.{sym, ap, subst, ◌∙◌, ◌≡◌, List, map, Option, Some, None, true, arith}
 use Rattle.rb_core.specs.declared.types.Ty.{Ty}
 use Rattle.rb_core.specs.declared.types.DataDecl.{DataDecl}
 use Rattle.rb_core.specs.declared.program.Fun.{Fun}
@@ -11,7 +11,7 @@ use Rattle.rb_target.specs.Sheet.{pushed, with_slot}
 use Rattle.ribbit_tool.specs.IntegerPrograms.{is_integer_expression}
 use Rattle.rb_target.specs.declared.instr.Instr.TheVariants.{Const, Alu, Take}
 use Rattle.ribbit_tool.specs.Compiling.{alu_op_of}
-use Rattle.ribbit_tool.specs.Straight.{Grows, Computed}
+use Rattle.ribbit_tool.specs.Straight.{Computed}
 use Rattle.ribbit_tool.proofs.ComputedLaws.{Computed-more, Computed-number, Computed-binary, Computed-conversion}
 use Rattle.ribbit_tool.proofs.StraightLaws.{landed, Grows-added, Grows-trans, width_fits, bits_fit}
 use Rattle.ribbit_tool.proofs.compile.+emit.Goals as goal

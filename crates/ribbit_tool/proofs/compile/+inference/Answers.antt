@@ -1,4 +1,4 @@
-use Rattle.std.proofs.Common.{sym, ap, ◌∙◌, ◌≡◌, List, map, Option, Some, None, unwrap_or}
+use Rattle.std.proofs.Common.{sym, ap, ◌∙◌, map, Option, None, unwrap_or}
 use Rattle.rb_core.specs.declared.types.Ty.{Ty}
 use Rattle.rb_core.specs.declared.expression.Expr.{Expr}
 use Rattle.rb_core.specs.Inference.{operands_type, inferred_type}

@@ -1,4 +1,4 @@
-use Rattle.std.proofs.Common.{rules, arith, refl, sym, ap, subst, ◌∙◌, ◌≡◌, ◌≤◌, ◌<◌, ◌+◌, ◌^◌, ℕ, List, [], ◌∷◌, map, length, Option, Some, None, lit<}
+use Rattle.std.proofs.Common.{lit<}
 use Rattle.rb_core.specs.declared.expression.Expr as X
 use Rattle.rb_target.specs.declared.instr.Instr.TheVariants.{Const}
 use Rattle.ribbit_tool.specs.Straight.{Computed}

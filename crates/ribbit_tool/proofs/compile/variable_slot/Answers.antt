@@ -1,4 +1,4 @@
-use Rattle.std.proofs.Common.{sym, ap, subst, ◌∙◌, ◌≡◌, ◌<◌, ◌+◌, ℕ, map, drop, length, Option, Some, IfSome}
+use Rattle.std.proofs.Common.{sym, ap, subst, ◌∙◌, ◌<◌, ◌+◌, ℕ, map, drop, length, Option, IfSome}
 use Rattle.rb_core.specs.declared.value.Value.{Num}
 use Rattle.rb_core.specs.Meaning.{arguments, value_or}
 use Rattle.ribbit_tool.specs.Compiling.{slot_value}

@@ -1,4 +1,4 @@
-use Rattle.std.proofs.Common.{◌≡◌, ◌<◌, ◌≤◌, ℕ, List, map, drop, length, IfSome}
+use Rattle.std.proofs.Common.{◌≡◌, ◌<◌, ℕ, List, map, drop, length, IfSome}
 use Rattle.rb_core.specs.declared.value.Value.{Num}
 use Rattle.rb_core.specs.Meaning.{arguments, value_or, value_in}
 use Rattle.ribbit_tool.specs.Compiling.{slot_value}
