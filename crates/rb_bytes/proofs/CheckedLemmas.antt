@@ -1,7 +1,7 @@
 -- A checked memory, by its fields.
-use Rattle.std.proofs.Common.{◌≡◌, ◌≢◌, ℕ, zero, suc, ◌+◌, ◌-◌, ◌/◌, ◌<◌, ◌≤◌, true, false, leb, List, [], ◌∷◌, ◌++◌, length, set, replicate, Option, Some, None, Result, Ok, Err, refl, sym, ap, ◌∙◌, arith, append_assoc, length-append, length-set}
+use Rattle.std.proofs.Common.{◌≡◌, ◌≢◌, ℕ, zero, suc, ◌+◌, ◌/◌, ◌<◌, ◌≤◌, true, [], ◌∷◌, ◌++◌, length, set, replicate, Some, None, Result, Ok, refl, sym, ap, ◌∙◌, arith, length-append, length-set}
 use Rattle.std.proofs.lemmas.List.{length-replicate}
-use Rattle.rb_bytes.specs.Memory.{Memory, IsGood, IsAlign, byte_at, empty_memory, aligned, place_of, size_at, lies_within, write_le, store_of}
+use Rattle.rb_bytes.specs.Memory.{Memory, IsAlign, byte_at, empty_memory, aligned, place_of, size_at, lies_within, write_le, store_of}
 use Rattle.rb_bytes.specs.Starts.{blocks_from, memory_of, IsKept}
 use Rattle.rb_bytes.specs.declared.fault.Full.{Full}
 use Rattle.rb_bytes.specs.declared.fault.Trap.{Trap}

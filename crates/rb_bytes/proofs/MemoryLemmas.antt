@@ -1,12 +1,12 @@
 -- What a place, a load and a store do with a good memory.
-use Rattle.std.proofs.Common.{◌≡◌, ◌≢◌, ℕ, zero, suc, ◌+◌, ◌-◌, ◌*◌, ◌/◌, ◌%◌, ◌^◌, ◌<◌, ◌≤◌, ◌⊎◌, inl, inr, Bool, true, false, leb, eqb, List, [], ◌∷◌, ◌++◌, length, replicate, Option, Some, None, Result, Ok, Err, refl, sym, subst, ap, ◌∙◌, arith, append_assoc, append-nil}
+use Rattle.std.proofs.Common.{◌≡◌, ◌≢◌, ℕ, zero, suc, ◌+◌, ◌*◌, ◌/◌, ◌%◌, ◌^◌, ◌<◌, ◌≤◌, ◌⊎◌, inl, inr, Bool, true, false, List, [], ◌∷◌, ◌++◌, length, replicate, Some, None, Result, Ok, Err, refl, sym, subst, ap, ◌∙◌, arith, append_assoc, append-nil}
 use Rattle.std.specs.Prelude.{IfOk, OnOk, if◌then◌else◌}
-use Rattle.std.proofs.lemmas.Bool.{false≢true, cases_lt}
-use Rattle.std.proofs.lemmas.Bool.Decides.{leb_tells, eqb_tells}
+use Rattle.std.proofs.lemmas.Bool.{cases_lt}
+use Rattle.std.proofs.lemmas.Bool.Decides.{leb_tells}
 use Rattle.std.proofs.lemmas.List.{length-replicate}
 use Rattle.std.proofs.Math.Nat.{one-le-pow}
 use Rattle.rb_bits.specs.LittleEndian.{from_le_bytes}
-use Rattle.rb_bytes.specs.Memory.{Memory, IsGood, AreBlocks, IsAlign, IsSize, IsWidth, byte_at, empty_memory, aligned, place_of, size_at, lies_within, read_le, write_le, load_of, store_of}
+use Rattle.rb_bytes.specs.Memory.{Memory, IsGood, IsAlign, IsSize, IsWidth, byte_at, empty_memory, aligned, place_of, size_at, lies_within, read_le, write_le, load_of, store_of}
 use Rattle.rb_bytes.specs.Laws.{Extends, AreApart, Spells}
 use Rattle.rb_bytes.specs.declared.fault.Full.{Full}
 use Rattle.rb_bytes.specs.declared.fault.Trap.{Trap}

@@ -1,5 +1,5 @@
 -- Blocks by the addresses at which they begin.
-use Rattle.std.proofs.Common.{◌≡◌, ◌≢◌, ℕ, zero, suc, ◌+◌, ◌-◌, ◌<◌, ◌≤◌, true, false, leb, List, [], ◌∷◌, ◌++◌, length, set, drop, Option, Some, None, inl, inr, refl, sym, ap, ◌∙◌, arith, eq-eqb}
+use Rattle.std.proofs.Common.{◌≡◌, ◌≢◌, ℕ, zero, suc, ◌+◌, ◌<◌, ◌≤◌, List, [], ◌∷◌, ◌++◌, length, set, Option, Some, None, inl, inr, refl, ap, ◌∙◌, arith, eq-eqb}
 use Rattle.std.specs.Prelude.{find, nat_le}
 use Rattle.std.proofs.lemmas.Bool.Decides.{leb_tells}
 use Rattle.std.proofs.lemmas.Option.{same_Some}

@@ -1,7 +1,7 @@
 use Rattle.std.proofs.Common.{◌≡◌, ◌<◌, ◌+◌, ◌-◌, ◌*◌, ◌%◌, ◌^◌, Some, None, sym, ap, ◌∙◌, arith}
 use Rattle.std.proofs.Math.Nat.{mod-eq_of_lt}
 use Rattle.rb_bytes.specs.Memory.{byte_at, read_le}
-use Rattle.rb_bytes.proofs.ByteLemmas.{byte_at-get_or, onto, onto_none, read_some, read_none, more_fits, word_fits}
+use Rattle.rb_bytes.proofs.ByteLemmas.{byte_at-get_or, onto, read_some, more_fits, word_fits}
 use Rattle.rb_bytes.proofs.checked.read_bytes.Goals as goal
 
 pub overflow_add-word : goal.overflow_add-word

@@ -1,4 +1,4 @@
-use Rattle.std.proofs.Common.{◌≡◌, ℕ, Result, Some, sym, subst, ap}
+use Rattle.std.proofs.Common.{◌≡◌, ℕ, Result, Some, sym, subst}
 use Rattle.std.specs.Prelude.{IfOk}
 use Rattle.rb_bytes.specs.Memory.{Memory, size_at}
 use Rattle.rb_bytes.specs.Laws.{Extends}

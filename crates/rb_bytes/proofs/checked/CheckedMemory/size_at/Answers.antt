@@ -1,5 +1,4 @@
-use Rattle.std.proofs.Common.{◌≡◌, Some, None, sym, ap, ◌∙◌, arith}
-use Rattle.rb_bytes.specs.Memory.{size_at, byte_at}
+use Rattle.std.proofs.Common.{Some, sym, ap, ◌∙◌, arith}
 use Rattle.rb_bytes.proofs.ByteLemmas.{byte_at-get_or, byte_at-past}
 use Rattle.rb_bytes.proofs.BlockLemmas.{block_bounds}
 use Rattle.rb_bytes.proofs.StartLemmas.{size_at-blocks_from}
