@@ -11,6 +11,7 @@ pub mod InferenceForms
 pub mod InferenceLemmas
 pub mod MatchingLemmas
 pub mod MeaningForms
+pub mod MoreCalls
 pub mod PatternLaws
 pub mod TypingExamples
 pub mod TypingLemmas

@@ -1,10 +1,9 @@
 -- Typing at examples, each computed: types, and the first fault with its token.
-use Rattle.std.proofs.Common.{◌≡◌, refl, ℕ, List, [], ◌∷◌, Some, None, Ok, Err, true}
+use Rattle.std.proofs.Common.{◌≡◌, refl, List, [], ◌∷◌, Some, None, Ok, Err}
 use Rattle.rb_core.specs.declared.types.Ty.{Ty}
 use Rattle.rb_core.specs.declared.types.Ty.TheVariants.{Int, Named}
 use Rattle.rb_core.specs.declared.types.ConRef.{ConRef}
 use Rattle.rb_core.specs.declared.types.DataDecl.{DataDecl}
-use Rattle.rb_core.specs.declared.program.Param.{Param}
 use Rattle.rb_core.specs.declared.program.Fun.{Fun}
 use Rattle.rb_core.specs.declared.typing.TypeFault.TheVariants.{Mismatch, Arity, VariableTwice}
 use Rattle.rb_core.specs.declared.typing.Binder.{Binder}
