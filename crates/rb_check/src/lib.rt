@@ -14,6 +14,8 @@ mod emptiness;
 mod expression;
 mod pattern;
 mod program;
+#[cfg(test)]
+mod tests;
 mod types;
 
 use crate::emptiness::first_empty;
