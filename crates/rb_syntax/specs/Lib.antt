@@ -3,5 +3,6 @@ pub mod Cutting
 pub mod Lexing
 pub mod Pieces
 pub mod Spelling
+pub mod Tokens
 pub mod Words
 pub mod Written

@@ -5,3 +5,10 @@ pub mod StraightCode
 pub mod StraightLaws
 pub mod StraightRuns
 pub mod VariableLaws
+pub mod IntegerAgain
+pub mod IntegerBodies
+pub mod IntegerFit
+pub mod IntegerItems
+pub mod IntegerParams
+pub mod IntegerTakes
+pub mod IntegerWhole

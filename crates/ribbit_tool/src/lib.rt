@@ -6,3 +6,4 @@ pub mod command;
 pub mod compile;
 pub mod delivery;
 pub mod line;
+pub mod integer;
