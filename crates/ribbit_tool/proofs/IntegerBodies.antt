@@ -1,11 +1,12 @@
 -- Bodies of integer functions, form by form.
-use Rattle.std.proofs.Common.{◌≡◌, ℕ, List, [], ◌∷◌, ◌++◌, true, refl, ap, ◌∙◌}
+use Rattle.std.proofs.Common.{◌≡◌, ℕ, List, [], ◌∷◌, ◌++◌, Bool, true, ◌&&◌, refl, ap, ◌∙◌}
 use Rattle.rb_core.specs.declared.expression.Op.{Op}
 use Rattle.rb_core.specs.declared.expression.Expr.{Expr}
 use Rattle.rb_core.specs.declared.expression.Expr as X
 use Rattle.rb_core.specs.declared.expression.Expr.TheOpen as E
 use Rattle.rb_core.specs.declared.expression.Expr.TheFolds.{fold-roll-Expr}
 use Rattle.rb_core.specs.declared.program.Fun.{Fun}
+use Rattle.ribbit_tool.specs.IntegerPrograms.{is_integer_expression, expression_step as integer_step, clause_step as integer_clause}
 use Rattle.rb_core.specs.WellNumbered.{Within, expression_step, clause_step, expression_is_numbered, matches_step, clause_matches, match_tokens, is_between}
 
 module _ (funs : List Fun) (vars : List ℕ) where
@@ -28,4 +29,12 @@ pub to-matches : (at bits : ℕ) (a : Expr) → match_tokens (X.To at bits a) �
 unfolding X.roll-Expr denote.Hole.Carrier.roll
 to-matches at bits a = fold-roll-Expr (List ℕ) (List ℕ) matches_step clause_matches (E.To at bits a)
 
-pub ruleset body_rules = (binary-bound, to-bound, binary-matches, to-matches)
+pub binary-integers : (at : ℕ) (op : Op) (a b : Expr) → is_integer_expression (X.Binary at op a b) ≡ (is_integer_expression a && is_integer_expression b)
+unfolding X.roll-Expr denote.Hole.Carrier.roll
+binary-integers at op a b = fold-roll-Expr Bool Bool integer_step integer_clause (E.Binary at op a b)
+
+pub to-integers : (at bits : ℕ) (a : Expr) → is_integer_expression (X.To at bits a) ≡ (is_between 1 64 bits && is_integer_expression a)
+unfolding X.roll-Expr denote.Hole.Carrier.roll
+to-integers at bits a = fold-roll-Expr Bool Bool integer_step integer_clause (E.To at bits a)
+
+pub ruleset body_rules = (binary-bound, to-bound, binary-matches, to-matches, binary-integers, to-integers)

@@ -17,7 +17,8 @@ use Rattle.rb_syntax.specs.declared.tree.TyTree.TheVariants as ty
 use Rattle.rb_syntax.specs.declared.tree.ParamTree.{ParamTree}
 use Rattle.rb_syntax.specs.declared.tree.FunTree.{FunTree}
 use Rattle.rb_syntax.specs.Spelling.{is_width}
-use Rattle.ribbit_tool.specs.IntegerFunctions.{◌>>=◌, Names, Covers, names_of, number_of, numbered_ty, numbered_param, numbered_params, numbered_expression, is_main, numbered_function, program_of, is_integer_type, is_integer_expression, IsIntegerFunction}
+use Rattle.ribbit_tool.specs.IntegerFunctions.{◌>>=◌, Names, Covers, names_of, number_of, numbered_ty, numbered_param, numbered_params, numbered_expression, is_main, numbered_function, program_of}
+use Rattle.ribbit_tool.specs.IntegerPrograms.{is_integer, is_integer_expression, is_integer_function}
 use Rattle.ribbit_tool.proofs.IntegerAgain.{bind-some, if-some}
 use Rattle.ribbit_tool.proofs.IntegerParams.{is_one's, more_names-has, number_of-has}
 
@@ -34,18 +35,18 @@ right false b e = e
 
 -- integers, and a type of any program
 abbrev FitsTy : Ty → Type 0
-FitsTy t = (is_integer_type t ≡ true) × (is_type [] t ≡ true)
+FitsTy t = (is_integer t ≡ true) × (is_type [] t ≡ true)
 
 pub ty-fits : (t : TyTree) (u : Ty) → numbered_ty t ≡ Some u → FitsTy u
 ty-fits (ty.Int bits) u e =
     let k = if-some (is_width bits) (Some (core_ty.Int bits)) u e in
     let q : core_ty.Int bits ≡ u = same_Some _ _ k.1 in
-    rw (← q) (refl, width-between bits k.0)
+    rw (← q) (width-between bits k.0, width-between bits k.0)
 ty-fits (ty.Named x) u e = absurd cc
 
 -- the parameters are of integers, as many as are written, and hold each number
 record ParamsFit (names : Names) (ps : List ParamTree) (qs : List Param) : Type 0 where
-  integers : list_all (λ p. is_integer_type p.ty) qs ≡ true
+  integers : list_all (λ p. is_integer p.ty) qs ≡ true
   typed : list_all (param_is_numbered []) qs ≡ true
   many : length qs ≡ length ps
   held : (name : List ℕ) (x : ℕ) → is_one's name ps ≡ true → number_of names name ≡ Some x → list_any (nat_eq x) (map (λ p. p.var) qs) ≡ true
@@ -98,8 +99,11 @@ module _ (f : FunTree) (ps : List Param) (t : Ty) (body : Expr) (m : is_main f �
   pub numbered-whole : numbered_function f ≡ Some (record { name = f.name.text; params = ps; result = t; body = body })
   numbered-whole = rw (m, p, r, b) refl
 
-  pub integers-whole : is_integer_expression body ≡ true → IsIntegerFunction (record { name = f.name.text; params = ps; result = t; body = body })
-  integers-whole i = record { params = (params-fit (names_of f.params) f.params ps p).integers; result = (ty-fits f.result t r).0; body = i }
+  pub integers-whole : is_integer_expression body ≡ true → is_integer_function (record { name = f.name.text; params = ps; result = t; body = body }) ≡ true
+  integers-whole i = rw ((ty-fits f.result t r).0, (params-fit (names_of f.params) f.params ps p).integers, i) refl
+
+  pub name-whole : f.name.text ≡ codes "main"
+  name-whole = (bytes_eq-Decides f.name.text (codes "main")).0 (both (bytes_eq f.name.text (codes "main")) (nat_le (length f.params) 32) m).0
 
   pub well-whole : match_tokens body ≡ []
       → ((funs : List Fun) (vars : List ℕ) → Covers (names_of f.params) vars → expression_is_numbered [] funs body vars ≡ true)
@@ -107,8 +111,7 @@ module _ (f : FunTree) (ps : List Param) (t : Ty) (body : Expr) (m : is_main f �
   well-whole free bound =
       let fit = params-fit (names_of f.params) f.params ps p in
       let main = both (bytes_eq f.name.text (codes "main")) (nat_le (length f.params) 32) m in
-      let name : f.name.text ≡ codes "main" = (bytes_eq-Decides f.name.text (codes "main")).0 main.0 in
-      let lower : is_lower f.name.text ≡ true = ap is_lower name in
+      let lower : is_lower f.name.text ≡ true = ap is_lower name-whole in
       let few : nat_le (length ps) 32 ≡ true = ap (λ n. nat_le n 32) fit.many ∙ main.1 in
       let numbered : expression_is_numbered [] (whole ∷ []) body (map (λ p. p.var) ps) ≡ true =
       bound (whole ∷ []) (map (λ p. p.var) ps) (covers f.params ps p) in

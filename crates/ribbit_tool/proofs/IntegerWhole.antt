@@ -6,7 +6,7 @@ use Rattle.rb_syntax.specs.declared.token.Token.{Token}
 use Rattle.rb_syntax.specs.declared.tree.FunTree.{FunTree}
 use Rattle.rb_syntax.specs.Written.{tokens_in}
 use Rattle.rb_syntax.specs.Spelling.{fun_written}
-use Rattle.ribbit_tool.specs.IntegerFunctions.{numbered_function, program_of, IsIntegerProgram}
+use Rattle.ribbit_tool.specs.IntegerFunctions.{numbered_function, program_of, SpellsProgram}
 use Rattle.ribbit_tool.specs.IntegerReading.{function}
 use Rattle.ribbit_tool.proofs.IntegerTakes.{Spells, function-takes}
 use Rattle.ribbit_tool.proofs.IntegerAgain.{function-again}
@@ -16,7 +16,7 @@ map-some f (Some x) y e = (x, refl)
 map-some f None y e = absurd cc
 
 pub whole-spelled : (total : ℕ) (ts : List Token) (f : FunTree) (p : Program) → total ≡ length ts → function total ts ≡ Some f
-    → option_map program_of (numbered_function f) ≡ Some p → IsIntegerProgram ts p
+    → option_map program_of (numbered_function f) ≡ Some p → SpellsProgram ts p
 whole-spelled total ts f p n e i =
     let s : Spells total ts (fun_written f []) = rw e at (function-takes total ts) in
     let t : Spells (length ts) ts (fun_written f []) = subst (λ m. Spells m ts (fun_written f [])) n s in
@@ -27,7 +27,7 @@ whole-spelled total ts f p n e i =
       numbered = i;
     }
 
-pub whole-only : (total : ℕ) (ts : List Token) (p : Program) (h : IsIntegerProgram ts p) → total ≡ length ts → function total ts ≡ Some h.function
+pub whole-only : (total : ℕ) (ts : List Token) (p : Program) (h : SpellsProgram ts p) → total ≡ length ts → function total ts ≡ Some h.function
 whole-only total ts p h n =
     let g = map-some program_of (numbered_function h.function) p h.numbered in
     let r : function (length ts) (tokens_in (fun_written h.function [])) ≡ Some h.function =
@@ -40,6 +40,6 @@ if-ok P Q (Ok x) h k = k x h
 if-ok P Q (Err e) h k = tt
 
 pub some-spelled : (total : ℕ) (ts : List Token) (f : FunTree) (o : Option Program) → total ≡ length ts → function total ts ≡ Some f
-    → o ≡ option_map program_of (numbered_function f) → IfSome o (IsIntegerProgram ts)
+    → o ≡ option_map program_of (numbered_function f) → IfSome o (SpellsProgram ts)
 some-spelled total ts f (Some p) n e i = whole-spelled total ts f p n e (sym i)
 some-spelled total ts f None n e i = tt

@@ -6,10 +6,6 @@ use Rattle.rb_core.specs.declared.types.Ty.{Ty}
 use Rattle.rb_core.specs.declared.types.Ty.TheVariants as core_ty
 use Rattle.rb_core.specs.declared.expression.Expr.{Expr}
 use Rattle.rb_core.specs.declared.expression.Expr.TheVariants as core
-use Rattle.rb_core.specs.declared.expression.Expr.TheOpen as core_layer
-use Rattle.rb_core.specs.declared.expression.Expr.TheOpen.{Expr-F}
-use Rattle.rb_core.specs.declared.expression.Expr.TheFolds.{fold-Expr}
-use Rattle.rb_core.specs.declared.expression.Clause.{Clause-F}
 use Rattle.rb_core.specs.declared.program.Param.{Param}
 use Rattle.rb_core.specs.declared.program.Fun.{Fun}
 use Rattle.rb_core.specs.declared.program.Program.{Program}
@@ -110,43 +106,8 @@ file_of f = record { items = Funs f ∷ [] }
 
 -- These are the tokens of a file of one function `main` over integers, of at most 32 parameters and
 -- a depth of at most 128, and this is its program.
-pub record IsIntegerProgram (tokens : List Token) (p : Program) : Type 0 where
+pub record SpellsProgram (tokens : List Token) (p : Program) : Type 0 where
   pub function : FunTree
   pub spelled : IsTreeOf tokens (file_of function)
   pub within : AreWithin 128 (file_written (file_of function))
   pub numbered : option_map program_of (numbered_function function) ≡ Some p
-
--- Programs of one function over integers.
-
-abbrev pub is_integer_type : Ty → Bool
-is_integer_type (core_ty.Int bits) = true
-is_integer_type (core_ty.Named t) = false
-
--- one expression, where it stands in their places whether its parts are of integers
-abbrev pub integer_step : Expr-F Bool Bool → Bool
-integer_step (core_layer.Num at n) = true
-integer_step (core_layer.Var at x) = true
-integer_step (core_layer.Call at g es) = false
-integer_step (core_layer.Build at c es) = false
-integer_step (core_layer.Binary at op a b) = a && b
-integer_step (core_layer.To at bits a) = a
-integer_step (core_layer.Let at x ty a b) = false
-integer_step (core_layer.Match at e cs) = false
-
-abbrev pub no_integer_clause : Clause-F Bool Bool → Bool
-no_integer_clause c = false
-
--- numbers, variables, operators and `to` alone
-abbrev pub is_integer_expression : Expr → Bool
-is_integer_expression = fold-Expr Bool Bool integer_step no_integer_clause
-
-pub record IsIntegerFunction (f : Fun) : Type 0 where
-  pub params : list_all (λ p. is_integer_type p.ty) f.params ≡ true
-  pub result : is_integer_type f.result ≡ true
-  pub body : is_integer_expression f.body ≡ true
-
--- one function over integers, which is where a run begins, and nothing else
-pub record HasIntegersAlone (p : Program) : Type 0 where
-  pub function : Fun
-  pub integers : IsIntegerFunction function
-  pub alone : p ≡ program_of function

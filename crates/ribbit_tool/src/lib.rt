@@ -5,5 +5,5 @@ pub mod arguments;
 pub mod command;
 pub mod compile;
 pub mod delivery;
-pub mod line;
 pub mod integer;
+pub mod line;

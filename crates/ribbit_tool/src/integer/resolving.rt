@@ -1,12 +1,13 @@
 //! Gives the variables of an integer function their numbers.
 
-ghost use Rattle.std.specs.Prelude.{◌≡◌, ◌≤◌, ◌<◌, ℕ, List, [], IfOk, IfSome, length, option_map, true};
+ghost use Rattle.std.specs.Prelude.{◌≡◌, ◌≤◌, ◌<◌, ℕ, List, [], IfOk, IfSome, codes, length, option_map, true};
 ghost use Rattle.std.specs.List.{list_any};
 ghost use Rattle.std.specs.Str.{bytes_eq};
 ghost use Rattle.rb_core.specs.declared.program.Fun.{Fun as FunValue};
 ghost use Rattle.rb_core.specs.WellNumbered.{IsWellNumbered, expression_is_numbered, match_tokens};
 ghost use Rattle.ribbit_tool.specs.IntegerFunctions as spec;
-ghost use Rattle.ribbit_tool.specs.IntegerFunctions.{Covers, HasIntegersAlone, IsIntegerFunction, is_integer_expression, names_of, with_name};
+ghost use Rattle.ribbit_tool.specs.IntegerFunctions.{Covers, names_of, with_name};
+ghost use Rattle.ribbit_tool.specs.IntegerPrograms.{IsIntegerProgram, is_integer_expression, is_integer_function};
 
 use rb_core::boxed::Boxed;
 use rb_core::expression::Expr;
@@ -147,7 +148,8 @@ fn is_main(tree: &FunTree) -> bool
 // The function with its variables' numbers, if it is of integers alone.
 fn number_function(alloc: Global, tree: &FunTree) -> Result<Option<Fun>, AllocError>
     ensures numbered { IfOk result (λ f. f ≡ spec.numbered_function tree.now) }
-    ensures integers { IfOk result (λ o. IfSome o IsIntegerFunction) }
+    ensures integers { IfOk result (λ o. IfSome o (λ f. is_integer_function f ≡ true)) }
+    ensures named { IfOk result (λ o. IfSome o (λ f. f.name ≡ codes "main")) }
     ensures well { IfOk result (λ o. IfSome o (λ f. IsWellNumbered (spec.program_of f))) }
 {
     if !is_main(tree) {
@@ -175,7 +177,7 @@ fn number_function(alloc: Global, tree: &FunTree) -> Result<Option<Fun>, AllocEr
 /// The program of an integer function, or None where the tree is of another.
 pub fn resolve(alloc: Global, tree: &FunTree) -> Result<Option<Program>, AllocError>
     ensures numbered { IfOk result (λ p. p ≡ option_map spec.program_of (spec.numbered_function tree.now)) }
-    ensures integers { IfOk result (λ o. IfSome o HasIntegersAlone) }
+    ensures integers { IfOk result (λ o. IfSome o IsIntegerProgram) }
     ensures well { IfOk result (λ o. IfSome o IsWellNumbered) }
 {
     let Some(fun) = number_function(alloc, tree)? else {

@@ -1,7 +1,7 @@
 use Rattle.std.proofs.Common.{◌≡◌, length, sym, ◌∙◌, ap, option_map, Some, None}
 use Rattle.std.proofs.lemmas.List.{length-map}
 use Rattle.rb_syntax.specs.Tokens.{tokens}
-use Rattle.ribbit_tool.specs.IntegerFunctions.{IsIntegerProgram, numbered_function, program_of}
+use Rattle.ribbit_tool.specs.IntegerFunctions.{numbered_function, program_of}
 use Rattle.ribbit_tool.specs.IntegerReading.{function}
 use Rattle.ribbit_tool.proofs.IntegerWhole.{whole-only, if-ok, some-spelled}
 use Rattle.ribbit_tool.proofs.integer.read_integer_function.Goals as goal

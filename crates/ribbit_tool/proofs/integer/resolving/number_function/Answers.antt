@@ -1,6 +1,6 @@
 use Rattle.std.proofs.Common.{◌≡◌, ◌≤◌, length, true, Some, sym, ◌∙◌, ap, arith}
 use Rattle.ribbit_tool.specs.IntegerFunctions.{is_main, names_of, numbered_expression, numbered_params, numbered_ty}
-use Rattle.ribbit_tool.proofs.IntegerFit.{main-few, numbered-whole, integers-whole, well-whole}
+use Rattle.ribbit_tool.proofs.IntegerFit.{main-few, name-whole, numbered-whole, integers-whole, well-whole}
 use Rattle.ribbit_tool.proofs.IntegerParams.{names_of-length}
 use Rattle.ribbit_tool.proofs.integer.resolving.number_function.Goals as goal
 
@@ -33,7 +33,16 @@ returns-clause-integers c =
     let b : numbered_expression (names_of c.args.tree.now.params) c.args.tree.now.body ≡ Some c.in-Some-2.body =
     sym (rw (c.in-Some-2.is, c.as_slice-4.ensures, c.in_ok-names.ensures, c.as_slice.ensures) at c.in_ok-body.ensures.numbered) in
     let i = rw c.in-Some-2.is at c.in_ok-body.ensures.integers in
-    rw c.in_ok-name.ensures (integers-whole c.args.tree.now _ _ _ (sym c.if-not-is_main.ensures) p r b i)
+    integers-whole c.args.tree.now _ _ _ (sym c.if-not-is_main.ensures) p r b i
+
+pub returns-clause-named : goal.returns-clause-named
+returns-clause-named c =
+    let p : numbered_params (names_of c.args.tree.now.params) c.args.tree.now.params ≡ Some c.in-Some.params =
+    sym (rw (c.in-Some.is, c.as_slice-2.ensures, c.in_ok-names.ensures, c.as_slice.ensures, c.as_slice-3.ensures) at c.in_ok-params.ensures) in
+    let r : numbered_ty c.args.tree.now.result ≡ Some c.in-Some-integer_type.result = sym c.in-Some-integer_type.ensures in
+    let b : numbered_expression (names_of c.args.tree.now.params) c.args.tree.now.body ≡ Some c.in-Some-2.body =
+    sym (rw (c.in-Some-2.is, c.as_slice-4.ensures, c.in_ok-names.ensures, c.as_slice.ensures) at c.in_ok-body.ensures.numbered) in
+    c.in_ok-name.ensures ∙ name-whole c.args.tree.now _ _ _ (sym c.if-not-is_main.ensures) p r b
 
 pub returns-clause-well : goal.returns-clause-well
 returns-clause-well c =
