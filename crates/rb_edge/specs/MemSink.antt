@@ -4,7 +4,7 @@ use Rattle.rb_edge.specs.declared.source.Failed.{Failed}
 use Rattle.rb_edge.specs.Faults.{one_more}
 use Rattle.rb_edge.specs.Calls.{fails_at, next_call}
 
-pub record Taking : Type 0 where
+pub record SinkState : Type 0 where
   -- the most bytes that it takes in all
   pub room : ℕ
   -- the most bytes that one write takes
@@ -19,19 +19,19 @@ pub record Taking : Type 0 where
   pub faults : ℕ
 
 -- how many bytes it can still take
-abbrev pub room_left : Taking → ℕ
+abbrev pub room_left : SinkState → ℕ
 room_left s = s.room - length s.taken
 
 -- whether a write of that many bytes fails: its number says so, or there are some and no room is left
-abbrev pub write_fails : Taking → ℕ → Bool
+abbrev pub write_fails : SinkState → ℕ → Bool
 write_fails s len = fails_at s.fail s.calls || (nat_lt 0 len && (room_left s == 0))
 
 -- how many bytes a write of that many takes
-abbrev pub write_count : Taking → ℕ → ℕ
+abbrev pub write_count : SinkState → ℕ → ℕ
 write_count s len = min (min len s.step) (room_left s)
 
 -- what a write answers, and the sink after it
-abbrev pub after_write : Taking → List ℕ → Result ℕ Failed × Taking
+abbrev pub after_write : SinkState → List ℕ → Result ℕ Failed × SinkState
 after_write s bytes =
     let n = write_count s (length bytes) in
     if write_fails s (length bytes)

@@ -25,9 +25,9 @@ pub struct MemSink {
 
 impl Model for MemSink {
     ghost use Rattle.std.specs.Prelude.{◌≤◌, vec_len, vec_capacity};
-    ghost use Rattle.rb_edge.specs.MemSink.{Taking};
+    ghost use Rattle.rb_edge.specs.MemSink.{SinkState};
 
-    ghost Value = { Taking };
+    ghost Value = { SinkState };
 
     ghost view = { λ s. record {
       room = s.room;

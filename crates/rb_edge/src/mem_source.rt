@@ -27,9 +27,9 @@ pub struct MemSource {
 
 impl Model for MemSource {
     ghost use Rattle.std.specs.Prelude.{◌≤◌, drop, length};
-    ghost use Rattle.rb_edge.specs.MemSource.{Files, bytes_of};
+    ghost use Rattle.rb_edge.specs.MemSource.{SourceState, bytes_of};
 
-    ghost Value = { Files };
+    ghost Value = { SourceState };
 
     ghost view = { λ s. record {
       files = s.files;

@@ -1,0 +1,59 @@
+-- Worked examples of the definitions, which the checker computes.
+use Rattle.std.proofs.Common.{◌≡◌, ℕ, List, [], ◌∷◌, Some, None, Ok, Err, refl}
+use Rattle.rb_edge.specs.declared.named.NamedBytes.{NamedBytes}
+use Rattle.rb_edge.specs.Faults.{one_more}
+use Rattle.rb_edge.specs.MemSource.{SourceState, held_in, after_open, after_read}
+use Rattle.rb_edge.specs.MemSink.{SinkState, after_write}
+
+-- two files of one name, 7, and one of the name 8
+abbrev three : List NamedBytes
+three =
+    record { name = 7 ∷ []; bytes = 1 ∷ 2 ∷ 3 ∷ [] } ∷ record { name = 7 ∷ []; bytes = 4 ∷ [] } ∷ record { name = 8 ∷ []; bytes = [] } ∷ []
+
+first-held : held_in three (7 ∷ []) ≡ Some (1 ∷ 2 ∷ 3 ∷ [])
+first-held = refl
+
+none-held : held_in three (9 ∷ []) ≡ None
+none-held = refl
+
+-- a source before a call, where call 5 fails
+abbrev before : ℕ → List ℕ → SourceState
+before calls left = record { files = three; step = 2; fail = 5 ∷ []; calls = calls; left = left; faults = 0 }
+
+opens : after_open (before 0 []) (7 ∷ []) ≡ (Ok tt, before 1 (1 ∷ 2 ∷ 3 ∷ []))
+opens = refl
+
+-- a failing call leaves nothing, and is counted
+fails-to-open : after_open (before 5 (9 ∷ [])) (7 ∷ []) ≡ (Err (record {}), record (before 6 []) { faults = 1 })
+fails-to-open = refl
+
+-- a name that isn't held is no fault
+not-held : after_open (before 5 (1 ∷ [])) (9 ∷ []) ≡ (Err (record {}), before 6 [])
+not-held = refl
+
+-- a read gives no more than the step, and what stands behind in the buffer stays
+reads : after_read (before 1 (1 ∷ 2 ∷ 3 ∷ [])) (0 ∷ 0 ∷ 0 ∷ []) ≡ (Ok 2, 1 ∷ 2 ∷ 0 ∷ [], before 2 (3 ∷ []))
+reads = refl
+
+at-end : after_read (before 1 []) (0 ∷ []) ≡ (Ok 0, 0 ∷ [], before 2 [])
+at-end = refl
+
+-- a sink with room for four bytes, where call 5 fails
+abbrev sink : ℕ → List ℕ → ℕ → SinkState
+sink calls taken faults = record { room = 4; step = 3; fail = 5 ∷ []; calls = calls; taken = taken; faults = faults }
+
+takes-step : after_write (sink 0 [] 0) (1 ∷ 2 ∷ 3 ∷ 4 ∷ []) ≡ (Ok 3, sink 1 (1 ∷ 2 ∷ 3 ∷ []) 0)
+takes-step = refl
+
+takes-room : after_write (sink 1 (1 ∷ 2 ∷ 3 ∷ []) 0) (4 ∷ 5 ∷ []) ≡ (Ok 1, sink 2 (1 ∷ 2 ∷ 3 ∷ 4 ∷ []) 0)
+takes-room = refl
+
+no-room : after_write (sink 2 (1 ∷ 2 ∷ 3 ∷ 4 ∷ []) 0) (5 ∷ []) ≡ (Err (record {}), sink 3 (1 ∷ 2 ∷ 3 ∷ 4 ∷ []) 1)
+no-room = refl
+
+-- an empty piece needs no room
+nothing-to-take : after_write (sink 2 (1 ∷ 2 ∷ 3 ∷ 4 ∷ []) 0) [] ≡ (Ok 0, sink 3 (1 ∷ 2 ∷ 3 ∷ 4 ∷ []) 0)
+nothing-to-take = refl
+
+stands-still : one_more 18446744073709551615 ≡ 18446744073709551615
+stands-still = refl
