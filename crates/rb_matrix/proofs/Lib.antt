@@ -1,0 +1,14 @@
+pub mod Besides
+pub mod Defaults
+pub mod Exhausts
+pub mod HeadLemmas
+pub mod Inhabited
+pub mod Laws
+pub mod Parts
+pub mod Powers
+pub mod Reaches
+pub mod SpecializeLaws
+pub mod Splits
+pub mod Vectors
+pub mod Weights
+pub mod Working

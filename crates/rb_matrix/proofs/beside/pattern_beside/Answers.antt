@@ -1,0 +1,28 @@
+use Rattle.std.proofs.Common.{◌≡◌, ◌∙◌, true, sym, subst, arith}
+use Rattle.std.proofs.lemmas.Bool.{eqb-true}
+use Rattle.rb_core.specs.declared.pattern.Pat as Pats
+use Rattle.rb_core.specs.Values.{is_of_type}
+use Rattle.rb_matrix.specs.Heads.{any_begins}
+use Rattle.rb_matrix.specs.Problems.{IsBeside}
+use Rattle.rb_matrix.specs.Search.{IsTypeIn}
+use Rattle.rb_matrix.proofs.Inhabited.{wide}
+use Rattle.rb_matrix.proofs.Besides.{wild-beside, numbers-all, number-beside, none-of_length}
+use Rattle.rb_matrix.proofs.beside.pattern_beside.Goals as goal
+
+pub returns-then-is_empty : goal.returns-then-is_empty
+returns-then-is_empty c =
+    wild-beside c.args.types.now c.requires.inhabited c.args.ty c.args.heads.now c.requires.live
+    (none-of_length c.args.heads.now (eqb-true _ _ (sym c.is_empty.ensures ∙ c.if-is_empty.true)))
+
+pub returns-in-None : goal.returns-in-None
+returns-in-None c = λ v of.
+    numbers-all c.args.types.now c.in-Int.bits c.args.heads.now (λ m lt. c.in-None.ensures m (omega (arith, lt, c.greatest.ensures))) v
+    (subst (λ t. is_of_type c.args.types.now v t ≡ true) c.in-Int.is of)
+
+pub returns-in-Some : goal.returns-in-Some
+returns-in-Some c =
+    subst (λ t. IsBeside c.args.types.now t (any_begins c.args.heads.now) (Pats.Num 0 c.in-Some.number)) (sym c.in-Int.is)
+    (number-beside c.args.types.now c.in-Int.bits c.in-Some.number c.args.heads.now (omega (arith, c.greatest.ensures, c.in-Some.ensures.0)) c.in-Some.ensures.1)
+
+pub greatest-requires : goal.greatest-requires
+greatest-requires c = wide c.args.types.now c.in-Int.bits (subst (IsTypeIn c.args.types.now) c.in-Int.is c.requires.live)

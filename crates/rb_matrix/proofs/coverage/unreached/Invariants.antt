@@ -1,0 +1,5 @@
+use Rattle.rb_matrix.specs.Exhaust.{AreUnreachedOf}
+use Rattle.rb_matrix.proofs.coverage.unreached.Given as goal
+
+abbrev pub invariant-loop-i : goal.invariant-loop-i
+invariant-loop-i l = AreUnreachedOf l.types l.ty l.rows l.i l.numbers.items

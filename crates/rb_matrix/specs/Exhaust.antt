@@ -1,0 +1,86 @@
+-- Patterns one below another: whether they match every value, and which of them is ever the first.
+use Rattle.std.specs.Prelude.{◌≡◌, ℕ, ◌<◌, List, [], ◌∷◌, length, Contains, Bool, true, false, ◌&&◌, ◌||◌, Option, Some, None, Result, Ok, Err}
+use Rattle.std.specs.List.Sorted.{IsStrictlyIncreasing}
+use Rattle.rb_core.specs.declared.value.Value.{Value}
+use Rattle.rb_core.specs.declared.types.Ty.{Ty}
+use Rattle.rb_core.specs.declared.types.DataDecl.{DataDecl}
+use Rattle.rb_core.specs.declared.pattern.Pat.{Pat}
+use Rattle.rb_core.specs.Matching.{matches_of, chosen_clause, IsExhaustive, IsUnreached}
+use Rattle.rb_core.specs.Values.{is_of_type}
+use Rattle.rb_matrix.specs.declared.coverage.MatrixFault.{MatrixFault}
+use Rattle.rb_matrix.specs.declared.coverage.MatrixFault.TheVariants.{Missing, Memory}
+use Rattle.rb_matrix.specs.Search.{is_plain, IsFound, IsNowhere}
+
+-- each pattern as a row of its own
+abbrev pub one_each : List Pat → List (List Pat)
+one_each [] = []
+one_each (p ∷ ps) = (p ∷ []) ∷ one_each ps
+
+-- some pattern matches
+abbrev pub any_matches : List Pat → Value → Bool
+any_matches [] v = false
+any_matches (p ∷ ps) v = matches_of p v || any_matches ps v
+
+-- Missing values ------------------------------------------------------------------------------
+
+-- a pattern of numbers, constructors and wildcards that has a value of the type, and none of whose
+-- values is matched
+pub record IsMissing (types : List DataDecl) (ty : Ty) (ps : List Pat) (q : Pat) : Type 0 where
+  pub plain : is_plain types q ty ≡ true
+  pub value : Value
+  pub typed : is_of_type types value ty ≡ true
+  pub matched : matches_of q value ≡ true
+  pub none : (v : Value) → is_of_type types v ty ≡ true → matches_of q v ≡ true → chosen_clause ps v ≡ None
+
+-- such a pattern exactly where the patterns are not exhaustive
+abbrev pub IsExhaustAnswer : List DataDecl → Ty → List Pat → Result (Unit {0}) MatrixFault → Type 0
+IsExhaustAnswer types ty ps (Ok u) = IsExhaustive types ty ps
+IsExhaustAnswer types ty ps (Err (Missing q)) = IsMissing types ty ps q
+IsExhaustAnswer types ty ps (Err Memory) = Unit {0}
+
+-- Unreached patterns --------------------------------------------------------------------------
+
+-- a value of which the pattern with this number is the first match
+pub record IsReached (types : List DataDecl) (ty : Ty) (ps : List Pat) (i : ℕ) : Type 0 where
+  pub value : Value
+  pub typed : is_of_type types value ty ≡ true
+  pub chosen : chosen_clause ps value ≡ Some i
+
+abbrev pub IsReachAnswer : List DataDecl → Ty → List Pat → ℕ → Bool → Type 0
+IsReachAnswer types ty ps i true = IsReached types ty ps i
+IsReachAnswer types ty ps i false = IsUnreached types ty ps i
+
+-- of the first n patterns, the numbers of exactly those that are the first match of no value
+pub record AreUnreachedOf (types : List DataDecl) (ty : Ty) (ps : List Pat) (n : ℕ) (xs : List ℕ) : Type 0 where
+  pub ascending : IsStrictlyIncreasing xs
+  pub within : (i : ℕ) → Contains xs i → i < n
+  pub unreached : (i : ℕ) → Contains xs i → IsUnreached types ty ps i
+  pub every : (i : ℕ) → i < n → IsUnreached types ty ps i → Contains xs i
+  pub others : (i : ℕ) → i < n → (Contains xs i → ⊥) → IsReached types ty ps i
+
+abbrev pub AreUnreached : List DataDecl → Ty → List Pat → List ℕ → Type 0
+AreUnreached types ty ps xs = AreUnreachedOf types ty ps (length ps) xs
+
+-- Common values -------------------------------------------------------------------------------
+
+abbrev pub both_match : Pat → Pat → Value → Bool
+both_match p q v = matches_of p v && matches_of q v
+
+-- a pattern that has a value of the type, and all of whose values both match
+pub record IsCommon (types : List DataDecl) (ty : Ty) (p q r : Pat) : Type 0 where
+  pub plain : is_plain types r ty ≡ true
+  pub value : Value
+  pub typed : is_of_type types value ty ≡ true
+  pub matched : matches_of r value ≡ true
+  pub all : (v : Value) → is_of_type types v ty ≡ true → matches_of r v ≡ true → both_match p q v ≡ true
+
+-- such a pattern exactly where the two have a common value
+abbrev pub IsCommonAnswer : List DataDecl → Ty → Pat → Pat → Option Pat → Type 0
+IsCommonAnswer types ty p q None = (v : Value) → is_of_type types v ty ≡ true → both_match p q v ≡ false
+IsCommonAnswer types ty p q (Some r) = IsCommon types ty p q r
+
+-- One column ----------------------------------------------------------------------------------
+
+abbrev pub IsOneAnswer : List DataDecl → Ty → List (List Pat) → List (List Pat) → Option Pat → Type 0
+IsOneAnswer types ty wanted unwanted None = IsNowhere types (ty ∷ []) wanted unwanted
+IsOneAnswer types ty wanted unwanted (Some q) = IsFound types (ty ∷ []) wanted unwanted (q ∷ [])

@@ -1,0 +1,6 @@
+pub mod Exhaust
+pub mod Heads
+pub mod Problems
+pub mod Rows
+pub mod Search
+pub mod Specialize

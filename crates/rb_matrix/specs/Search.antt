@@ -1,0 +1,68 @@
+-- What a search looks for: a vector of values that all wanted rows match and no unwanted one.
+use Rattle.std.specs.Prelude.{◌≡◌, ◌^◌, List, [], ◌∷◌, map, Bool, true, false, ◌&&◌, not, ◌==◌, nat_lt, Option, Some, None}
+use Rattle.std.specs.List.{list_all}
+use Rattle.rb_core.specs.declared.value.Value.{Value}
+use Rattle.rb_core.specs.declared.types.Ty.{Ty}
+use Rattle.rb_core.specs.declared.types.Ty.TheVariants.{Int, Named}
+use Rattle.rb_core.specs.declared.types.DataDecl.{DataDecl}
+use Rattle.rb_core.specs.declared.pattern.Pat.{Pat}
+use Rattle.rb_core.specs.declared.pattern.Pat.TheOpen as P
+use Rattle.rb_core.specs.declared.pattern.Pat.TheOpen.{Pat-F}
+use Rattle.rb_core.specs.declared.pattern.Pat.TheFolds.{fold-Pat}
+use Rattle.rb_core.specs.TypedPrograms.{HaveValues}
+use Rattle.rb_core.specs.Values.{all_of_types, are_of, fields_of}
+use Rattle.rb_core.specs.WellNumbered.{is_type, type_is_numbered}
+use Rattle.rb_matrix.specs.Rows.{row_matches, any_row, all_rows, vector_of}
+
+-- Types that have a value ---------------------------------------------------------------------
+
+abbrev pub IsTypeIn : List DataDecl → Ty → Type 0
+IsTypeIn types ty = is_type types ty ≡ true
+
+abbrev pub AreTypesIn : List DataDecl → List Ty → Type 0
+AreTypesIn types [] = Unit {0}
+AreTypesIn types (t ∷ ts) = IsTypeIn types t × AreTypesIn types ts
+
+-- the types of a well numbered program, where each has a value
+pub record AreInhabited (types : List DataDecl) : Type 0 where
+  pub numbered : list_all (type_is_numbered types) types ≡ true
+  pub values : HaveValues types
+
+-- Plain patterns ------------------------------------------------------------------------------
+
+abbrev pub plain_step : List DataDecl → Pat-F (Ty → Bool) → Ty → Bool
+plain_step types (P.Wild at) t = true
+plain_step types (P.Var at x) t = false
+plain_step types (P.Num at n) (Int bits) = nat_lt n (2 ^ bits)
+plain_step types (P.Num at n) (Named t) = false
+plain_step types (P.Con at c ps) (Int bits) = false
+plain_step types (P.Con at c ps) (Named t) = (c.ty == t) && are_of ps (fields_of types c)
+
+-- a pattern of numbers, constructors and wildcards that is of a type
+abbrev pub is_plain : List DataDecl → Pat → Ty → Bool
+is_plain types = fold-Pat (Ty → Bool) (plain_step types)
+
+abbrev pub row_plain : List DataDecl → List Ty → List Pat → Bool
+row_plain types tys ps = all_of_types (map (is_plain types) ps) tys
+
+-- The search ----------------------------------------------------------------------------------
+
+-- a vector of these types that all wanted rows match, and no unwanted one
+abbrev pub sought : List DataDecl → List Ty → List (List Pat) → List (List Pat) → List Value → Bool
+sought types tys wanted unwanted vs = vector_of types tys vs && (all_rows wanted vs && not (any_row unwanted vs))
+
+-- a row of plain patterns that has a vector, and all of whose vectors are sought
+pub record IsFound (types : List DataDecl) (tys : List Ty) (wanted unwanted : List (List Pat)) (row : List Pat) : Type 0 where
+  pub plain : row_plain types tys row ≡ true
+  pub value : List Value
+  pub matched : row_matches row value ≡ true
+  pub found : sought types tys wanted unwanted value ≡ true
+  pub all : (vs : List Value) → vector_of types tys vs ≡ true → row_matches row vs ≡ true → sought types tys wanted unwanted vs ≡ true
+
+abbrev pub IsNowhere : List DataDecl → List Ty → List (List Pat) → List (List Pat) → Type 0
+IsNowhere types tys wanted unwanted = (vs : List Value) → sought types tys wanted unwanted vs ≡ false
+
+-- such a row exactly where there is such a vector
+abbrev pub IsAnswer : List DataDecl → List Ty → List (List Pat) → List (List Pat) → Option (List Pat) → Type 0
+IsAnswer types tys wanted unwanted None = IsNowhere types tys wanted unwanted
+IsAnswer types tys wanted unwanted (Some row) = IsFound types tys wanted unwanted row

@@ -1,0 +1,117 @@
+//! A pattern beside the heads of a column: what Maranget calls an incomplete signature.
+
+ghost use Rattle.std.specs.Prelude.{◌≡◌, ◌+◌, ◌^◌, ◌<◌, ◌≤◌, ℕ, [], length, IfOk, MatchOption, true, false};
+ghost use Rattle.rb_core.specs.declared.value.Value.TheOpen as Layers;
+ghost use Rattle.rb_core.specs.declared.types.Ty.TheVariants as Tys;
+ghost use Rattle.rb_matrix.specs.Heads.{any_begins};
+ghost use Rattle.rb_matrix.specs.Problems.{IsBesideAnswer};
+ghost use Rattle.rb_matrix.specs.Search.{AreInhabited, IsTypeIn};
+ghost use Rattle.rb_matrix.specs.Specialize.{wilds};
+
+use crate::heads::is_known;
+use crate::matrix::Head;
+use rb_core::pattern::Pat;
+use rb_core::seq::Seq;
+use rb_core::types::{Con, ConRef, DataDecl, Ty};
+use std::alloc::{AllocError, Global};
+
+// The greatest number of an integer type.
+fn greatest(bits: u8) -> u64
+    requires { bits ≤ 64 }
+    ensures { result + 1 ≡ 2 ^ bits }
+{
+    if bits == 64 {
+        u64::MAX
+    } else {
+        (1u64 << bits) - 1
+    }
+}
+
+// The least number up to `most` that is not among the heads.
+fn least_missing(heads: &[Head], most: u64) -> Option<u64>
+    ensures { MatchOption result ((m : ℕ) → m ≤ most → any_begins heads.now (Layers.Num m) ≡ true) (λ m. (m ≤ most) × (any_begins heads.now (Layers.Num m) ≡ false)) }
+{
+    let mut number = 0;
+    loop {
+        if !is_known(heads, Head::Num(number)) {
+            return Some(number);
+        }
+        if number == most {
+            return None;
+        }
+        number += 1;
+    }
+}
+
+// The first of so many constructors of a type that is not among the heads.
+fn missing_con(heads: &[Head], ty: u32, count: usize) -> Option<u32>
+    requires { count < 2 ^ 32 }
+    ensures { MatchOption result ((k : ℕ) → k < count → any_begins heads.now (Layers.Con k []) ≡ true) (λ k. (k < count) × (any_begins heads.now (Layers.Con k []) ≡ false)) }
+{
+    for k in 0..count {
+        let con = k as u32;
+        if !is_known(heads, Head::Con(ConRef { ty, con })) {
+            return Some(con);
+        }
+    }
+    None
+}
+
+fn wildcards(alloc: Global, count: usize) -> Result<Seq<Pat>, AllocError>
+    ensures { IfOk result (λ r. r ≡ wilds count) }
+{
+    let mut row = Seq::new(alloc);
+    for _i in 0..count {
+        row.push(Pat::Wild(0))?;
+    }
+    Ok(row)
+}
+
+fn con_beside(
+    alloc: Global,
+    types: &[DataDecl],
+    t: u32,
+    heads: &[Head],
+) -> Result<Option<Pat>, AllocError>
+    requires { AreInhabited types.now }
+    ensures { IfOk result (λ r. IsBesideAnswer types.now (Tys.Named t) heads.now r) }
+{
+    if t as usize >= types.len() {
+        return Ok(None);
+    }
+    let decl = &types[t as usize];
+    let cons = decl.cons.as_slice();
+    match missing_con(heads, t, cons.len()) {
+        None => Ok(None),
+        Some(con) => {
+            let missing = &cons[con as usize];
+            let pats = wildcards(alloc, missing.fields.len())?;
+            Ok(Some(Pat::Con(0, ConRef { ty: t, con }, pats)))
+        }
+    }
+}
+
+/// A pattern that has a value of the type, none of whose values begins with one of the heads; None
+/// where each value of the type begins with one. Where there is no head it is a wildcard, and else
+/// the least number or the first constructor that is not among them.
+pub fn pattern_beside(
+    alloc: Global,
+    types: &[DataDecl],
+    ty: Ty,
+    heads: &[Head],
+) -> Result<Option<Pat>, AllocError>
+    requires inhabited { AreInhabited types.now }
+    requires live { IsTypeIn types.now ty }
+    ensures { IfOk result (λ r. IsBesideAnswer types.now ty heads.now r) }
+{
+    if heads.is_empty() {
+        return Ok(Some(Pat::Wild(0)));
+    }
+    match ty {
+        Ty::Int(bits) => match least_missing(heads, greatest(bits)) {
+            None => Ok(None),
+            Some(number) => Ok(Some(Pat::Num(0, number))),
+        },
+        Ty::Named(t) => con_beside(alloc, types, t, heads),
+    }
+}

@@ -1,0 +1,96 @@
+//! The heads that stand in a first column, and a pattern beside them.
+
+ghost use Rattle.std.specs.Prelude.{◌≡◌, ◌+◌, ◌^◌, ◌≤◌, ◌||◌, ◌++◌, ◌∷◌, ℕ, length, IfOk, OnOk, MatchOption, nat_lt, slice_get};
+ghost use Rattle.std.specs.Option.{option_copied};
+ghost use Rattle.rb_core.specs.declared.value.Value as Values;
+ghost use Rattle.rb_core.specs.declared.value.Value.TheOpen as Layers;
+ghost use Rattle.rb_core.specs.Values.{fields_in};
+ghost use Rattle.rb_matrix.specs.Heads.{layer_begins, any_begins, column_begins, option_begins, row_head, first_head, fields_at, sample, some_head};
+ghost use Rattle.rb_matrix.specs.Problems.{rows_heads};
+
+use crate::matrix::Head;
+use rb_core::pattern::Pat;
+use rb_core::seq::Seq;
+use rb_core::types::{DataDecl, Ty};
+use std::alloc::{AllocError, Global};
+
+// What a row begins with.
+fn head_of_row(row: &[Pat]) -> Option<Head>
+    ensures { result ≡ row_head row.now }
+{
+    match row {
+        [] => None,
+        [first, ..] => match first {
+            Pat::Wild(_) => None,
+            Pat::Var(_, _) => None,
+            Pat::Num(_, number) => Some(Head::Num(*number)),
+            Pat::Con(_, con, _) => Some(Head::Con(*con)),
+        },
+    }
+}
+
+/// The first head that stands in the first column.
+pub fn first_head_of(rows: &[Seq<Pat>]) -> Option<Head>
+    ensures { result ≡ first_head rows.now }
+{
+    for row in rows {
+        if let Some(head) = head_of_row(row.as_slice()) {
+            return Some(head);
+        }
+    }
+    None
+}
+
+// Whether values that begin with the one begin with the other.
+fn is_alike(known: Head, head: Head) -> bool
+    ensures { result ≡ layer_begins known (sample head) }
+{
+    match known {
+        Head::Num(m) => match head {
+            Head::Num(n) => m == n,
+            Head::Con(_) => false,
+        },
+        Head::Con(c) => match head {
+            Head::Num(_) => false,
+            Head::Con(d) => c.con == d.con,
+        },
+    }
+}
+
+/// Whether what begins with a head begins with one of those known.
+pub fn is_known(known: &[Head], head: Head) -> bool
+    ensures { result ≡ any_begins known.now (sample head) }
+{
+    for other in known {
+        if is_alike(*other, head) {
+            return true;
+        }
+    }
+    false
+}
+
+fn add_head(heads: &mut Vec<Head>, head: Option<Head>) -> Result<(), AllocError>
+    ensures heads { OnOk result ((l : Layers.Value-F Values.Value) → any_begins heads.new.items l ≡ (any_begins heads.old.items l || option_begins head l)) }
+    ensures few { OnOk result (length heads.new.items ≤ length heads.old.items + some_head head) }
+{
+    let Some(head) = head else {
+        return Ok(());
+    };
+    if is_known(heads.as_slice(), head) {
+        return Ok(());
+    }
+    heads.push(head)?;
+    Ok(())
+}
+
+/// The heads that stand in the first column, each once.
+pub fn column_heads(alloc: Global, rows: &[Seq<Pat>]) -> Result<Vec<Head>, AllocError>
+    ensures heads { IfOk result (λ heads. (l : Layers.Value-F Values.Value) → any_begins heads.items l ≡ column_begins rows.now l) }
+    ensures few { IfOk result (λ heads. length heads.items ≤ rows_heads rows.now) }
+{
+    let mut heads = Vec::new(alloc);
+    for row in rows {
+        add_head(&mut heads, head_of_row(row.as_slice()))?;
+    }
+    Ok(heads)
+}

@@ -1,0 +1,268 @@
+//! The specialised matrix and the default matrix, on the first column.
+
+ghost use Rattle.std.specs.Prelude.{◌≡◌, ◌∷◌, ◌++◌, List, ℕ, length, drop, true, false, IfOk, OnOk, IsSome, slice_get, nat_lt, ◌^◌};
+ghost use Rattle.std.specs.Option.{option_copied};
+ghost use Rattle.rb_core.specs.declared.value.Value as Values;
+ghost use Rattle.rb_core.specs.Values.{subs, fields_in};
+ghost use Rattle.rb_matrix.specs.Heads.{begins, unfolded, row_head, option_begins, column_begins, column_fields, fields_at};
+ghost use Rattle.rb_matrix.specs.Rows.{row_matches, any_row, image_matches, vector_of};
+ghost use Rattle.rb_matrix.specs.Specialize.{wilds, special_row, special, default_row, defaults, specialized, defaulted, UnfoldsAlike, RestsAlike};
+
+use crate::matrix::{Head, Matrix};
+use rb_core::pattern::{Pat, copy_patterns};
+use rb_core::seq::Seq;
+use rb_core::types::{DataDecl, Ty};
+use std::alloc::{AllocError, Global};
+
+// Copies patterns to the end of a row.
+fn push_all(alloc: Global, row: &mut Seq<Pat>, more: &[Pat]) -> Result<(), AllocError>
+    ensures { OnOk result (row.new ≡ row.old ++ more.now) }
+{
+    for pat in more {
+        row.push(pat.copy(alloc)?)?;
+    }
+    Ok(())
+}
+
+// So many wildcards, and then the patterns.
+fn wilds_before(alloc: Global, count: usize, rest: &[Pat]) -> Result<Seq<Pat>, AllocError>
+    ensures { IfOk result (λ r. r ≡ wilds count ++ rest.now) }
+{
+    let mut row = Seq::new(alloc);
+    for _i in 0..count {
+        row.push(Pat::Wild(0))?;
+    }
+    push_all(alloc, &mut row, rest)?;
+    Ok(row)
+}
+
+fn joined(alloc: Global, first: &[Pat], rest: &[Pat]) -> Result<Seq<Pat>, AllocError>
+    ensures { IfOk result (λ r. r ≡ first.now ++ rest.now) }
+{
+    let mut row = copy_patterns(alloc, first)?;
+    push_all(alloc, &mut row, rest)?;
+    Ok(row)
+}
+
+fn special_of_row(
+    alloc: Global,
+    head: Head,
+    fields: usize,
+    row: &[Pat],
+) -> Result<Option<Seq<Pat>>, AllocError>
+    ensures { IfOk result (λ r. r ≡ special_row head fields row.now) }
+{
+    match row {
+        [] => Ok(None),
+        [first, rest @ ..] => match first {
+            Pat::Wild(_) => Ok(Some(wilds_before(alloc, fields, rest)?)),
+            Pat::Var(_, _) => Ok(Some(wilds_before(alloc, fields, rest)?)),
+            Pat::Num(_, k) => match head {
+                Head::Num(m) => {
+                    if *k == m {
+                        Ok(Some(copy_patterns(alloc, rest)?))
+                    } else {
+                        Ok(None)
+                    }
+                }
+                Head::Con(_) => Ok(None),
+            },
+            Pat::Con(_, con, pats) => match head {
+                Head::Num(_) => Ok(None),
+                Head::Con(d) => {
+                    if con.con == d.con && pats.len() == fields {
+                        Ok(Some(joined(alloc, pats.as_slice(), rest)?))
+                    } else {
+                        Ok(None)
+                    }
+                }
+            },
+        },
+    }
+}
+
+fn rest_of_row(alloc: Global, row: &[Pat]) -> Result<Option<Seq<Pat>>, AllocError>
+    ensures { IfOk result (λ r. r ≡ default_row row.now) }
+{
+    match row {
+        [] => Ok(None),
+        [first, rest @ ..] => match first {
+            Pat::Wild(_) => Ok(Some(copy_patterns(alloc, rest)?)),
+            Pat::Var(_, _) => Ok(Some(copy_patterns(alloc, rest)?)),
+            Pat::Num(_, _) => Ok(None),
+            Pat::Con(_, _, _) => Ok(None),
+        },
+    }
+}
+
+/// A row's image in the specialised matrix of a head with so many fields, or None where the row
+/// matches no vector that begins with the head. A pattern with another number of subpatterns
+/// matches nothing.
+pub fn specialize_row(
+    alloc: Global,
+    head: Head,
+    fields: usize,
+    row: &[Pat],
+) -> Result<Option<Seq<Pat>>, AllocError>
+    ensures image { IfOk result (λ r. r ≡ special_row head fields row.now) }
+
+    // The law of S: the row matches a vector that begins with the head exactly where its image
+    // matches that vector unfolded.
+    ensures same { IfOk result (λ r. (v : Values.Value) (vs : List Values.Value) → begins head v ≡ true → length (subs v) ≡ fields → row_matches row.now (v ∷ vs) ≡ image_matches r (unfolded (v ∷ vs))) }
+{
+    let image = special_of_row(alloc, head, fields, row)?;
+    Ok(image)
+}
+
+/// A row's image in the default matrix, or None where the row begins with a head.
+pub fn default_of_row(alloc: Global, row: &[Pat]) -> Result<Option<Seq<Pat>>, AllocError>
+    ensures image { IfOk result (λ r. r ≡ default_row row.now) }
+
+    // The law of D: the row matches a vector that begins with another head than the row exactly
+    // where its image matches the rest.
+    ensures same { IfOk result (λ r. (v : Values.Value) (vs : List Values.Value) → option_begins (row_head row.now) (Values.out-Value v) ≡ false → row_matches row.now (v ∷ vs) ≡ image_matches r vs) }
+{
+    let image = rest_of_row(alloc, row)?;
+    Ok(image)
+}
+
+/// The images of rows in the specialised matrix of a head with so many fields.
+pub fn special_rows(
+    alloc: Global,
+    head: Head,
+    fields: usize,
+    rows: &[Seq<Pat>],
+) -> Result<Seq<Seq<Pat>>, AllocError>
+    ensures { IfOk result (λ r. r ≡ special head fields rows.now) }
+{
+    let mut kept = Seq::new(alloc);
+    for row in rows {
+        if let Some(image) = specialize_row(alloc, head, fields, row.as_slice())? {
+            kept.push(image)?;
+        }
+    }
+    Ok(kept)
+}
+
+/// The images of rows in the default matrix.
+pub fn rows_by_default(alloc: Global, rows: &[Seq<Pat>]) -> Result<Seq<Seq<Pat>>, AllocError>
+    ensures { IfOk result (λ r. r ≡ defaults rows.now) }
+{
+    let mut kept = Seq::new(alloc);
+    for row in rows {
+        if let Some(image) = default_of_row(alloc, row.as_slice())? {
+            kept.push(image)?;
+        }
+    }
+    Ok(kept)
+}
+
+// Whether an integer type holds a number.
+fn holds(bits: u8, number: u64) -> bool
+    ensures { result ≡ nat_lt number (2 ^ bits) }
+{
+    if bits >= 64 {
+        return true;
+    }
+    number < 1u64 << bits
+}
+
+fn con_fields(types: &[DataDecl], ty: u32, con: u32) -> Option<&[Ty]>
+    ensures { option_copied result ≡ fields_in (slice_get types.now ty) con }
+{
+    let ty = ty as usize;
+    if ty >= types.len() {
+        return None;
+    }
+    let cons = types[ty].cons.as_slice();
+    let con = con as usize;
+    if con >= cons.len() {
+        return None;
+    }
+    Some(cons[con].fields.as_slice())
+}
+
+/// The types of a head's fields, or None where the head is not of the type. A constructor counts by
+/// its number in the type.
+pub fn head_fields(types: &[DataDecl], ty: Ty, head: Head) -> Option<&[Ty]>
+    ensures { option_copied result ≡ fields_at types.now ty head }
+{
+    match ty {
+        Ty::Int(bits) => match head {
+            Head::Num(number) => { if holds(bits, number) { Some(&[]) } else { None } },
+            Head::Con(_) => None,
+        },
+        Ty::Named(t) => match head {
+            Head::Num(_) => None,
+            Head::Con(con) => con_fields(types, t, con.con),
+        },
+    }
+}
+
+// The types of all columns but the first.
+fn types_behind(tys: &[Ty]) -> &[Ty]
+    ensures { result.now ≡ drop 1 tys.now }
+{
+    match tys {
+        [] => tys,
+        [_first, rest @ ..] => rest,
+    }
+}
+
+// The types of the head's fields, and then those of the other columns.
+fn types_unfolded(alloc: Global, fields: &[Ty], tys: &[Ty]) -> Result<Seq<Ty>, AllocError>
+    ensures { IfOk result (λ r. r ≡ fields.now ++ drop 1 tys.now) }
+{
+    let mut unfolded = Vec::new(alloc);
+    unfolded.extend_from_slice(fields)?;
+    unfolded.extend_from_slice(types_behind(tys))?;
+    Ok(Seq::from_vec(unfolded))
+}
+
+// The types of the head's fields at the first column.
+fn first_fields<'a>(types: &'a [DataDecl], tys: &[Ty], head: Head) -> Option<&'a [Ty]>
+    ensures { option_copied result ≡ column_fields types.now tys.now head }
+{
+    match tys {
+        [] => None,
+        [ty, ..] => head_fields(types, *ty, head),
+    }
+}
+
+/// The specialised matrix S: the rows that may match a vector whose first value begins with the head,
+/// with the head's subpatterns in place of the first pattern, or as many wildcards. There is a first
+/// column, and the head is of its type; rows need not be typed.
+pub fn specialize(
+    alloc: Global,
+    types: &[DataDecl],
+    matrix: &Matrix,
+    head: &Head,
+) -> Result<Matrix, AllocError>
+    requires { IsSome (column_fields types.now matrix.now.tys head.now) }
+    ensures images { IfOk result (λ m. m ≡ specialized types.now head.now matrix.now) }
+
+    // A vector of the columns' types that begins with the head is matched exactly where it is
+    // matched unfolded, and it is then a vector of the new columns' types.
+    ensures same { IfOk result (λ m. UnfoldsAlike types.now head.now matrix.now m) }
+{
+    let Some(fields) = first_fields(types, matrix.tys.as_slice(), *head) else {
+        unreachable!();
+    };
+    let tys = types_unfolded(alloc, fields, matrix.tys.as_slice())?;
+    let rows = special_rows(alloc, *head, fields.len(), matrix.rows.as_slice())?;
+    Ok(Matrix { tys, rows })
+}
+
+/// The default matrix D: the rows that match whatever the first value is, without their first
+/// pattern.
+pub fn default_rows(alloc: Global, matrix: &Matrix) -> Result<Matrix, AllocError>
+    ensures images { IfOk result (λ m. m ≡ defaulted matrix.now) }
+
+    // A vector whose first value has a head that stands nowhere in the first column is matched
+    // exactly where its rest is.
+    ensures same { IfOk result (λ m. RestsAlike matrix.now m) }
+{
+    let tys = types_unfolded(alloc, &[], matrix.tys.as_slice())?;
+    let rows = rows_by_default(alloc, matrix.rows.as_slice())?;
+    Ok(Matrix { tys, rows })
+}

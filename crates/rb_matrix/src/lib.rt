@@ -1,0 +1,27 @@
+//! Pattern matrices: which values a list of patterns leaves unmatched, which patterns are the first
+//! match of no value, and whether two patterns have a value in common.
+//!
+//! The matrices, specialised and default, and the test of usefulness are Maranget's ("Warnings for
+//! pattern matching", JFP 2007, and "Compiling pattern matching to good decision trees", ML 2008).
+//! One search serves all questions. It keeps what is left in a list, so that it takes no deeper stack
+//! on wider or longer patterns. Only patterns themselves are copied and dropped by recursion, to
+//! their own depth.
+//!
+//! Every call speaks of all values of the types. It needs the types of a well numbered program, each
+//! of which has a value; the patterns need not be typed.
+#![tactic(auto)]
+
+mod beside;
+pub mod coverage;
+pub mod heads;
+pub mod images;
+pub mod matrix;
+mod part;
+mod problem;
+pub mod search;
+mod witness;
+
+pub use coverage::{MatrixFault, common, exhaust, unreached};
+pub use images::{default_of_row, default_rows, specialize, specialize_row};
+pub use matrix::{Head, Matrix};
+pub use search::find;

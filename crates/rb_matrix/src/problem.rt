@@ -1,0 +1,33 @@
+//! What is left of a search.
+
+use rb_core::pattern::Pat;
+use rb_core::seq::Seq;
+use rb_core::types::{ConRef, Ty};
+
+/// How a row of patterns for a problem becomes one for the problem that it is a part of.
+#[derive(Debug, Drop)]
+pub enum Step {
+    /// This pattern stands before the row.
+    Front(Pat),
+    /// The constructor takes so many patterns from the front of the row as its subpatterns.
+    Fold(ConRef, usize),
+}
+
+/// Is there a vector of these types that all wanted rows match and no unwanted one? The steps lead
+/// from a row for this problem to one for the problem at the root.
+#[derive(Debug, Drop)]
+pub struct Problem {
+    pub tys: Seq<Ty>,
+    pub wanted: Seq<Seq<Pat>>,
+    pub unwanted: Seq<Seq<Pat>>,
+    pub steps: Seq<Step>,
+}
+
+/// What becomes of a problem.
+#[derive(Debug, Drop)]
+pub enum Outcome {
+    /// The empty row is its answer.
+    Solved,
+    /// Its parts answer for it.
+    Split(Vec<Problem>),
+}

@@ -1,0 +1,51 @@
+//! From the steps of a solved problem to a row of patterns for the root.
+
+ghost use Rattle.std.specs.Prelude.{◌≡◌, [], take, drop, IfOk, OnOk};
+ghost use Rattle.std.specs.declared.collections.VecDeque.{VecDeque};
+ghost use Rattle.rb_matrix.specs.Problems.{closed, closed_all};
+
+use crate::problem::Step;
+use rb_core::pattern::Pat;
+use rb_core::seq::Seq;
+use std::alloc::{AllocError, Global};
+use std::collections::VecDeque;
+
+// Takes so many patterns off the front.
+fn front_of(alloc: Global, row: &mut VecDeque<Pat>, count: usize) -> Result<Seq<Pat>, AllocError>
+    ensures front { IfOk result (λ r. r ≡ take count row.old.items) }
+    ensures rest { OnOk result (row.new.items ≡ drop count row.old.items) }
+{
+    let mut front = Seq::new(alloc);
+    for _i in 0..count {
+        let Some(pat) = row.pop_front() else {
+            return Ok(front);
+        };
+        front.push(pat)?;
+    }
+    Ok(front)
+}
+
+// One step back: the row for the problem becomes one for its parent.
+fn close(alloc: Global, row: &mut VecDeque<Pat>, step: Step) -> Result<(), AllocError>
+    ensures { OnOk result (row.new.items ≡ closed step row.old.items) }
+{
+    match step {
+        Step::Front(pat) => row.push_front(pat)?,
+        Step::Fold(con, count) => {
+            let pats = front_of(alloc, row, count)?;
+            row.push_front(Pat::Con(0, con, pats))?;
+        }
+    }
+    Ok(())
+}
+
+/// The row that the empty row becomes, the last step first.
+pub fn witness(alloc: Global, mut steps: Seq<Step>) -> Result<Seq<Pat>, AllocError>
+    ensures { IfOk result (λ r. r ≡ closed_all steps []) }
+{
+    let mut row = VecDeque::new(alloc);
+    while let Some(step) = steps.pop() {
+        close(alloc, &mut row, step)?;
+    }
+    Ok(Seq::from_vec(Vec::from(row)))
+}
