@@ -3,6 +3,8 @@ use Rattle.std.proofs.Common.{◌≡◌, ◌≢◌, ℕ, ◌+◌, ◌-◌, ◌*�
 use Rattle.std.proofs.lemmas.Bool.{false≢true}
 use Rattle.std.proofs.lemmas.Bool.Decides.{eqb_tells, leb_tells}
 use Rattle.std.proofs.lemmas.Option.{same_Some}
+use Rattle.std.proofs.Math.Nat.{div-lt_iff_lt-mul, mul-le-mul_right}
+use Rattle.rb_bytes.specs.Laws.{IsLeastMultiple}
 use Rattle.rb_bytes.specs.Memory.{AreBlocks, size_at, lies_within, aligned}
 
 pub eqb_other : (m n : ℕ) → m ≢ n → eqb m n ≡ false
@@ -81,3 +83,15 @@ aligned_from from align pos =
     let x = from + (align - 1) in
     let h : align * (x / align) + x % align ≡ x = omega arith in
     let r : x % align < align = omega arith in omega arith
+
+-- the address of a place is the least multiple
+pub aligned_least : (from align : ℕ) → 0 < align → IsLeastMultiple from align (aligned from align)
+aligned_least from align pos = record {
+  multiple = ((from + (align - 1)) / align, refl);
+  above = aligned_from from align pos;
+  least = λ k le.
+      let x = from + (align - 1) in
+      let e : (k + 1) * align ≡ k * align + align = omega arith in
+      let below : x / align < k + 1 = (div-lt_iff_lt-mul {k = align} {x = x} {y = k + 1} pos).1 (rw e (omega arith)) in
+      mul-le-mul_right align (omega arith);
+}

@@ -1,10 +1,11 @@
 -- Bytes read and written one after another.
-use Rattle.std.proofs.Common.{◌≡◌, ◌≢◌, ℕ, zero, suc, ◌+◌, ◌-◌, ◌*◌, ◌/◌, ◌%◌, ◌^◌, ◌<◌, ◌≤◌, ◌⊎◌, inl, inr, List, [], ◌∷◌, length, get_or, set, Option, Some, None, Result, Ok, Err, refl, sym, ap, ◌∙◌, arith, length-set}
+use Rattle.std.proofs.Common.{◌≡◌, ◌≢◌, ℕ, zero, suc, ◌+◌, ◌-◌, ◌*◌, ◌/◌, ◌%◌, ◌^◌, ◌<◌, ◌≤◌, ◌⊎◌, inl, inr, List, [], ◌∷◌, length, get_or, set, Option, Some, None, Result, Ok, Err, refl, sym, subst, ap, ◌∙◌, arith, length-set}
+use Rattle.std.proofs.lemmas.Bool.{cases_lt}
 use Rattle.std.proofs.lemmas.Nat.{mod-pow-add, pow-add, mul-add-lt}
 use Rattle.std.proofs.lemmas.Option.{same_Some, slice_get-get_or, slice_get_past}
 use Rattle.std.proofs.Math.Pow.{pow_mono}
 use Rattle.std.proofs.Math.Nat.{mul-add, mul_assoc, mul_comm}
-use Rattle.std.specs.Prelude.{slice_get}
+use Rattle.std.specs.Prelude.{slice_get, IsSome}
 use Rattle.rb_bits.specs.LittleEndian.{from_le_bytes}
 use Rattle.rb_bytes.specs.Memory.{byte_in, byte_at, read_le, write_le, then_byte}
 use Rattle.rb_bytes.specs.declared.fault.Trap.{Trap}
@@ -80,6 +81,31 @@ read_le-spelled bytes (v ∷ values) at is =
     let here : byte_at bytes at ≡ Some v = ap (byte_at bytes) start ∙ is 0 (omega arith) in
     let rest = read_le-spelled bytes values (at + 1) (λ i lt. let e : at + 1 + i ≡ at + suc i = omega arith in ap (byte_at bytes) e ∙ is (suc i) (omega arith)) in
     ap (λ o. then_byte at o (read_le bytes (length values) (at + 1))) here ∙ ap (then_byte at (Some v)) rest
+
+-- a read that fails names the first byte that was never written
+pub read_le-unwritten : (bytes : List (Option ℕ)) (n at a : ℕ) → read_le bytes n at ≡ Err (Unwritten a)
+    → (at ≤ a) × (a < at + n) × (byte_at bytes a ≡ None) × ((k : ℕ) → at ≤ k → k < a → IsSome (byte_at bytes k))
+read_le-unwritten bytes zero at a is = cc
+read_le-unwritten bytes (suc n) at a is =
+    at_byte (λ failed. read_le-unwritten bytes n (at + 1) a failed) (byte_at bytes at) (read_le bytes n (at + 1)) refl refl is
+  where
+    at_byte : (read_le bytes n (at + 1) ≡ Err (Unwritten a) → (at + 1 ≤ a) × (a < at + 1 + n) × (byte_at bytes a ≡ None) × ((k : ℕ) → at + 1 ≤ k → k < a → IsSome (byte_at bytes k)))
+        → (o : Option ℕ) (r : Result ℕ Trap) → byte_at bytes at ≡ o → read_le bytes n (at + 1) ≡ r → then_byte at o r ≡ Err (Unwritten a)
+        → (at ≤ a) × (a < at + suc n) × (byte_at bytes a ≡ None) × ((k : ℕ) → at ≤ k → k < a → IsSome (byte_at bytes k))
+    at_byte later None r byte rest named =
+        let e : at ≡ a = cc in
+        (omega arith, omega arith, ap (byte_at bytes) (sym e) ∙ byte, λ k le lt. absurd (omega arith))
+    at_byte later (Some b) (Ok r) byte rest named = cc
+    at_byte later (Some b) (Err trap) byte rest named =
+        let more = later (rest ∙ named) in (
+          omega arith,
+          omega arith,
+          more.2,
+          λ k le lt. elim (cases_lt at k) [
+            | inl past ↦ more.3 k (omega arith) lt
+            | inr here ↦ let e : at ≡ k = omega arith in subst (λ j. IsSome (byte_at bytes j)) e (subst IsSome (sym byte) refl)
+          ],
+        )
 
 digits : (n word : ℕ) → word % 2 ^ (8 * suc n) ≡ word % 256 + 256 * (word / 256 % 2 ^ (8 * n))
 digits n word =

@@ -7,12 +7,12 @@ use Rattle.std.proofs.lemmas.List.{length-replicate}
 use Rattle.std.proofs.Math.Nat.{one-le-pow}
 use Rattle.rb_bits.specs.LittleEndian.{from_le_bytes}
 use Rattle.rb_bytes.specs.Memory.{Memory, IsGood, IsAlign, IsSize, IsWidth, byte_at, empty_memory, aligned, place_of, size_at, lies_within, read_le, write_le, load_of, store_of}
-use Rattle.rb_bytes.specs.Laws.{Extends, AreApart, Spells}
+use Rattle.rb_bytes.specs.Laws.{Extends, AreApart, Spells, IsLeastMultiple, IsFirstUnwritten}
 use Rattle.rb_bytes.specs.declared.fault.Full.{Full}
 use Rattle.rb_bytes.specs.declared.fault.Trap.{Trap}
-use Rattle.rb_bytes.specs.declared.fault.Trap.TheVariants.{Astray}
-use Rattle.rb_bytes.proofs.ByteLemmas.{read_le-spelled, byte_at-write_le_outside, length-write_le, write_le_small, read_le_same, read_le_kept, read_le-write_le}
-use Rattle.rb_bytes.proofs.BlockLemmas.{AreBlocks_push, block_bounds, blocks_apart, size_at-append, size_at-push, within_size, aligned_from}
+use Rattle.rb_bytes.specs.declared.fault.Trap.TheVariants.{Astray, Unwritten}
+use Rattle.rb_bytes.proofs.ByteLemmas.{read_le-unwritten, read_le-spelled, byte_at-write_le_outside, length-write_le, write_le_small, read_le_same, read_le_kept, read_le-write_le}
+use Rattle.rb_bytes.proofs.BlockLemmas.{AreBlocks_push, block_bounds, blocks_apart, size_at-append, size_at-push, within_size, aligned_from, aligned_least}
 
 either : (t : Bool) → (t ≡ true) ⊎ (t ≡ false)
 either true = inl refl
@@ -127,6 +127,15 @@ place_found m size align good aligns =
       | inr le ↦
           subst P (sym (placed_is m size align le))
           (size_at-push m.blocks 64 m.next (aligned m.next align) size good.blocks (aligned_from m.next align (align_positive align aligns)))
+    ]
+
+-- at the least multiple of the alignment
+pub place_least : (m : Memory) (size align : ℕ) → IsAlign align → IfOk (place_of m size align).0 (IsLeastMultiple m.next align)
+place_least m size align aligns =
+    let P : Result ℕ Full × Memory → Type 0 = λ r. IfOk r.0 (IsLeastMultiple m.next align) in
+    elim (cases_lt m.limit (aligned m.next align + size)) [
+      | inl lt ↦ subst P (sym (full_is m size align lt)) tt
+      | inr le ↦ subst P (sym (placed_is m size align le)) (aligned_least m.next align (align_positive align aligns))
     ]
 
 -- ---- loads by their two cases
@@ -282,3 +291,13 @@ load_spelled m base offset width bytes (Ok r) count spells is =
     is ∙ load_within m base offset width (load_ok m base offset width r (sym is)).0
     ∙ ap (λ k. read_le m.bytes k (base + offset)) n ∙ read_le-spelled m.bytes bytes (base + offset) spells
 load_spelled m base offset width bytes (Err trap) count spells is = tt
+
+-- a load that misses a byte names the first one
+pub load_unwritten : (m : Memory) (base offset width a : ℕ) → load_of m base offset width ≡ Err (Unwritten a) → IsFirstUnwritten m (base + offset) (width / 8) a
+load_unwritten m base offset width a is =
+    elim (either (lies_within (size_at m.blocks base) (offset + width / 8))) [
+      | inl e ↦
+          let got = read_le-unwritten m.bytes (width / 8) (base + offset) a (sym (load_within m base offset width e) ∙ is) in
+          record { within = (got.0, got.1); unwritten = got.2; before = got.3 }
+      | inr e ↦ let other = load_astray m base offset width e in cc
+    ]

@@ -1,5 +1,5 @@
 -- What a memory keeps while blocks are placed and words are stored.
-use Rattle.std.specs.Prelude.{◌≡◌, ℕ, ◌+◌, ◌/◌, ◌<◌, ◌≤◌, ◌⊎◌, List, ◌++◌, length, Some, slice_get}
+use Rattle.std.specs.Prelude.{◌≡◌, ℕ, ◌+◌, ◌*◌, ◌/◌, ◌<◌, ◌≤◌, ◌⊎◌, List, ◌++◌, length, Some, None, IsSome, slice_get}
 use Rattle.rb_bytes.specs.Memory.{Memory, byte_at}
 
 -- the new memory has the old one's blocks, in their order, and what was written in the old one
@@ -16,3 +16,15 @@ AreApart b o w c p v = (b + o + w / 8 ≤ c + p) ⊎ (c + p + v / 8 ≤ b + o)
 -- from an address on the memory has these bytes, all of them written
 abbrev pub Spells : Memory → ℕ → List ℕ → Type 0
 Spells m at bytes = (i : ℕ) → i < length bytes → byte_at m.bytes (at + i) ≡ slice_get bytes i
+
+-- the least multiple of the alignment that is not below an address
+pub record IsLeastMultiple (from align a : ℕ) : Type 0 where
+  pub multiple : (k : ℕ) × (a ≡ k * align)
+  pub above : from ≤ a
+  pub least : (k : ℕ) → from ≤ k * align → a ≤ k * align
+
+-- the first of n bytes from an address on that was never written
+pub record IsFirstUnwritten (m : Memory) (at n a : ℕ) : Type 0 where
+  pub within : (at ≤ a) × (a < at + n)
+  pub unwritten : byte_at m.bytes a ≡ None
+  pub before : (k : ℕ) → at ≤ k → k < a → IsSome (byte_at m.bytes k)

@@ -1,9 +1,10 @@
 //! Place, store and load over any memory, with what follows from them: what stays, and what is read again.
 
-ghost use Rattle.std.specs.Prelude.{◌≡◌, ◌≢◌, ℕ, ◌+◌, ◌*◌, ◌/◌, ◌%◌, ◌^◌, ◌<◌, ◌≤◌, ◌⊎◌, List, length, Ok, Some, None, false, IsOk, OnOk, IfOk};
+ghost use Rattle.std.specs.Prelude.{◌≡◌, ◌≢◌, ℕ, ◌+◌, ◌*◌, ◌/◌, ◌%◌, ◌^◌, ◌<◌, ◌≤◌, ◌⊎◌, List, length, Ok, Err, Some, None, false, IsOk, OnOk, IfOk};
 ghost use Rattle.rb_bits.specs.LittleEndian.{from_le_bytes};
 ghost use Rattle.rb_bytes.specs.Memory.{Memory, IsGood, IsWidth, IsSize, IsAlign, byte_at, size_at, place_of, load_of, store_of};
-ghost use Rattle.rb_bytes.specs.Laws.{Extends, AreApart, Spells};
+ghost use Rattle.rb_bytes.specs.Laws.{Extends, AreApart, Spells, IsLeastMultiple, IsFirstUnwritten};
+ghost use Rattle.rb_bytes.specs.declared.fault.Trap.TheVariants.{Unwritten};
 
 use crate::fault::{Full, Trap};
 use crate::memory::ByteMemory;
@@ -16,6 +17,7 @@ pub fn place_block<M: ByteMemory>(memory: &mut M, size: u64, align: u64) -> Resu
     requires align { IsAlign align }
     ensures value { (result, M.memory memory.new) ≡ place_of (M.memory memory.old) size align }
     ensures good { IsGood (M.memory memory.new) }
+    ensures least { IfOk result (λ a. IsLeastMultiple (M.memory memory.old).next align a) }
     ensures stays { Extends (M.memory memory.old) (M.memory memory.new) }
 
     // What could be loaded is loaded again.
@@ -52,12 +54,14 @@ pub fn store_word<M: ByteMemory>(
     memory.store(base, offset, width, word)
 }
 
-/// Loads a word: the number that its bytes spell, the lowest first.
+/// Loads a word: the number that its bytes spell, the lowest first. The trap names the first byte of it
+/// that was never written.
 pub fn load_word<M: ByteMemory>(memory: &M, base: u64, offset: u64, width: u64) -> Result<u64, Trap>
     requires width { IsWidth width }
     requires unchecked { M.CHECKS ≡ false → IsOk (load_of (M.memory memory.now) base offset width) }
     ensures value { result ≡ load_of (M.memory memory.now) base offset width }
     ensures spelled { (bytes : List ℕ) → width ≡ 8 * length bytes → Spells (M.memory memory.now) (base + offset) bytes → OnOk result (result ≡ Ok (from_le_bytes bytes)) }
+    ensures unwritten { (a : ℕ) → result ≡ Err (Unwritten a) → IsFirstUnwritten (M.memory memory.now) (base + offset) (width / 8) a }
 {
     memory.load(base, offset, width)
 }

@@ -1,9 +1,9 @@
 use Rattle.std.proofs.Common.{◌≡◌, ℕ, Result, Some, sym, subst}
 use Rattle.std.specs.Prelude.{IfOk}
 use Rattle.rb_bytes.specs.Memory.{Memory, size_at}
-use Rattle.rb_bytes.specs.Laws.{Extends}
+use Rattle.rb_bytes.specs.Laws.{Extends, IsLeastMultiple}
 use Rattle.rb_bytes.specs.declared.fault.Full.{Full}
-use Rattle.rb_bytes.proofs.MemoryLemmas.{place_extends, place_found, load_extends}
+use Rattle.rb_bytes.proofs.MemoryLemmas.{place_least, place_extends, place_found, load_extends}
 use Rattle.rb_bytes.proofs.laws.place_block.Goals as goal
 
 pub returns-clause-stays : goal.returns-clause-stays
@@ -23,3 +23,9 @@ returns-clause-found g c =
     let m = g.M.ByteMemory.memory c.args.memory.now in
     let P : Result ℕ Full × Memory → Type 0 = λ r. IfOk r.0 (λ a. size_at r.1.blocks a ≡ Some c.args.size) in
     subst P (sym c.place.ensures.value) (place_found m c.args.size c.args.align c.requires.good c.requires.align)
+
+pub returns-clause-least : goal.returns-clause-least
+returns-clause-least g c =
+    let m = g.M.ByteMemory.memory c.args.memory.now in
+    subst (λ (r : Result ℕ Full × Memory). IfOk r.0 (IsLeastMultiple m.next c.args.align)) (sym c.place.ensures.value)
+    (place_least m c.args.size c.args.align c.requires.align)
