@@ -7,6 +7,7 @@ pub mod EvalMeasure
 pub mod EvalSteps
 pub mod ExpressionLaws
 pub mod GivesLemmas
+pub mod InferenceAgreement
 pub mod InferenceForms
 pub mod InferenceLemmas
 pub mod MatchingLemmas

@@ -23,4 +23,5 @@ pub mod seq;
 pub mod typed;
 pub mod types;
 pub mod typing;
+pub mod typing_laws;
 pub mod value;

@@ -1,0 +1,24 @@
+-- Laws of typing, over all expressions.
+use Rattle.std.specs.Prelude.{◌≡◌, List, Option, Some, Ok}
+use Rattle.rb_core.specs.declared.types.Ty.{Ty}
+use Rattle.rb_core.specs.declared.types.DataDecl.{DataDecl}
+use Rattle.rb_core.specs.declared.program.Fun.{Fun}
+use Rattle.rb_core.specs.declared.typing.Binder.{Binder}
+use Rattle.rb_core.specs.declared.pattern.Pat.{Pat}
+use Rattle.rb_core.specs.declared.expression.Expr.{Expr}
+use Rattle.rb_core.specs.Typing.{type_of, pattern_binders}
+use Rattle.rb_core.specs.Inference.{inferred_type, binders}
+
+-- where a type is wanted and typing finds no fault, the type that it gives is the wanted one
+abbrev pub WantedIsFound : Type 0
+WantedIsFound = (types : List DataDecl) (funs : List Fun) (e : Expr) (wanted : Ty) (scope : List Binder) (t : Ty)
+    → type_of types funs e (Some wanted) scope ≡ Ok t → wanted ≡ t
+
+-- the type that the source meaning reads off an expression is the one that typing gives it
+abbrev pub InferredIsFound : Type 0
+InferredIsFound = (types : List DataDecl) (funs : List Fun) (e : Expr) (wanted : Option Ty) (scope : List Binder) (t : Ty)
+    → type_of types funs e wanted scope ≡ Ok t → inferred_type types funs e wanted scope ≡ t
+
+-- and the binders that it reads off a pattern are those that typing gives
+abbrev pub BindersAreFound : Type 0
+BindersAreFound = (types : List DataDecl) (p : Pat) (t : Ty) (bs : List Binder) → pattern_binders types p t ≡ Ok bs → bs ≡ binders types p t
