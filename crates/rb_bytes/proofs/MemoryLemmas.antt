@@ -7,7 +7,7 @@ use Rattle.std.proofs.lemmas.List.{length-replicate}
 use Rattle.std.proofs.Math.Nat.{one-le-pow}
 use Rattle.rb_bits.specs.LittleEndian.{from_le_bytes}
 use Rattle.rb_bytes.specs.Memory.{Memory, IsGood, IsAlign, IsSize, IsWidth, byte_at, empty_memory, aligned, place_of, size_at, lies_within, read_le, write_le, load_of, store_of}
-use Rattle.rb_bytes.specs.Laws.{Extends, AreApart, Spells, IsLeastMultiple, IsFirstUnwritten}
+use Rattle.rb_bytes.specs.Laws.{Extends, AreApart, Spells, IsLeastMultiple, IsFirstUnwritten, ChangesOnly}
 use Rattle.rb_bytes.specs.declared.fault.Full.{Full}
 use Rattle.rb_bytes.specs.declared.fault.Trap.{Trap}
 use Rattle.rb_bytes.specs.declared.fault.Trap.TheVariants.{Astray, Unwritten}
@@ -269,6 +269,13 @@ store_other_block m base offset width word other place wide good ne =
       | inl there ↦ written_elsewhere m (width / 8) (base + offset) word other place wide (blocks_differ m base other offset (width / 8) place (wide / 8) good ne here there)
       | inr astray ↦ load_astray new other place wide astray ∙ sym (load_astray m other place wide astray)
     ])
+
+pub store_changes : (m : Memory) (base offset width word : ℕ) → IsGood m → ChangesOnly m (store_of m base offset width word).1 base offset width
+store_changes m base offset width word good = record {
+  bytes = store_bytes m base offset width word;
+  elsewhere = store_elsewhere m base offset width word;
+  other_block = λ b o w ne. store_other_block m base offset width word b o w good ne;
+}
 
 -- a store above the old memory's next address keeps what the old memory had
 pub store_extends : (old m : Memory) (base offset width word : ℕ) → IsGood old → Extends old m → old.next ≤ base + offset → Extends old (store_of m base offset width word).1

@@ -3,7 +3,7 @@
 ghost use Rattle.std.specs.Prelude.{◌≡◌, ◌≢◌, ℕ, ◌+◌, ◌*◌, ◌/◌, ◌%◌, ◌^◌, ◌<◌, ◌≤◌, ◌⊎◌, List, length, Ok, Err, Some, None, false, IsOk, OnOk, IfOk};
 ghost use Rattle.rb_bits.specs.LittleEndian.{from_le_bytes};
 ghost use Rattle.rb_bytes.specs.Memory.{Memory, IsGood, IsWidth, IsSize, IsAlign, byte_at, size_at, place_of, load_of, store_of};
-ghost use Rattle.rb_bytes.specs.Laws.{Extends, AreApart, Spells, IsLeastMultiple, IsFirstUnwritten};
+ghost use Rattle.rb_bytes.specs.Laws.{Extends, KeepsLoads, KeepsEarlier, ChangesOnly, Spells, IsLeastMultiple, IsFirstUnwritten};
 ghost use Rattle.rb_bytes.specs.declared.fault.Trap.TheVariants.{Unwritten};
 
 use crate::fault::{Full, Trap};
@@ -19,9 +19,9 @@ pub fn place_block<M: ByteMemory>(memory: &mut M, size: u64, align: u64) -> Resu
     ensures good { IsGood (M.memory memory.new) }
     ensures least { IfOk result (λ a. IsLeastMultiple (M.memory memory.old).next align a) }
     ensures stays { Extends (M.memory memory.old) (M.memory memory.new) }
+    ensures loads { KeepsLoads (M.memory memory.old) (M.memory memory.new) }
 
-    // What could be loaded is loaded again.
-    ensures loads { (b o w r : ℕ) → load_of (M.memory memory.old) b o w ≡ Ok r → load_of (M.memory memory.new) b o w ≡ Ok r }
+    // The new block is found, and none of its bytes is written.
     ensures found { IfOk result (λ a. size_at (M.memory memory.new).blocks a ≡ Some size) }
     ensures unwritten { IfOk result (λ a. (k : ℕ) → a ≤ k → byte_at (M.memory memory.new).bytes k ≡ None) }
 {
@@ -42,14 +42,8 @@ pub fn store_word<M: ByteMemory>(
     ensures value { (result, M.memory memory.new) ≡ store_of (M.memory memory.old) base offset width word }
     ensures good { IsGood (M.memory memory.new) }
     ensures loaded { OnOk result (load_of (M.memory memory.new) base offset width ≡ Ok (word % 2 ^ width)) }
-
-    // A load of other bytes, or from another block, gives what it gave before.
-    ensures elsewhere { (b o w : ℕ) → AreApart base offset width b o w → load_of (M.memory memory.new) b o w ≡ load_of (M.memory memory.old) b o w }
-    ensures bytes { (a : ℕ) → (a < base + offset) ⊎ (base + offset + width / 8 ≤ a) → byte_at (M.memory memory.new).bytes a ≡ byte_at (M.memory memory.old).bytes a }
-    ensures other_block { (b o w : ℕ) → base ≢ b → load_of (M.memory memory.new) b o w ≡ load_of (M.memory memory.old) b o w }
-
-    // What an earlier memory had stays, where the store is above its next address.
-    ensures stays { (early : Memory) → IsGood early → early.next ≤ base + offset → Extends early (M.memory memory.old) → Extends early (M.memory memory.new) }
+    ensures only { ChangesOnly (M.memory memory.old) (M.memory memory.new) base offset width }
+    ensures earlier { KeepsEarlier (M.memory memory.old) (M.memory memory.new) base offset }
 {
     memory.store(base, offset, width, word)
 }
@@ -60,8 +54,10 @@ pub fn load_word<M: ByteMemory>(memory: &M, base: u64, offset: u64, width: u64) 
     requires width { IsWidth width }
     requires unchecked { M.CHECKS ≡ false → IsOk (load_of (M.memory memory.now) base offset width) }
     ensures value { result ≡ load_of (M.memory memory.now) base offset width }
-    ensures spelled { (bytes : List ℕ) → width ≡ 8 * length bytes → Spells (M.memory memory.now) (base + offset) bytes → OnOk result (result ≡ Ok (from_le_bytes bytes)) }
-    ensures unwritten { (a : ℕ) → result ≡ Err (Unwritten a) → IsFirstUnwritten (M.memory memory.now) (base + offset) (width / 8) a }
+    ensures spelled { (bytes : List ℕ) → width ≡ 8 * length bytes → Spells (M.memory memory.now) (base + offset) bytes
+        → OnOk result (result ≡ Ok (from_le_bytes bytes)) }
+    ensures unwritten { (a : ℕ) → result ≡ Err (Unwritten a)
+        → IsFirstUnwritten (M.memory memory.now) (base + offset) (width / 8) a }
 {
     memory.load(base, offset, width)
 }
