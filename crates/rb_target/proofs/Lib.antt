@@ -4,4 +4,5 @@ pub mod Nesting
 pub mod Patching
 pub mod Written
 pub mod Examples
+pub mod Recursion
 pub mod Texts

@@ -6,4 +6,6 @@ pub mod code;
 pub mod instr;
 pub mod outcome;
 pub mod spell;
+#[cfg(test)]
+mod tests;
 pub mod word;
