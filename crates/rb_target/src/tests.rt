@@ -42,11 +42,21 @@ fn grows(rt: HostRuntime) -> Result<(), Fail> {
     assert_eq!(rt; body.fresh()?, 2);
     assert_eq!(rt; body.fresh()?, 3);
     let mut arms = Seq::new(rt.alloc());
-    arms.push(SwitchArm { number: 7, target: 1 })?;
-    arms.push(SwitchArm { number: 8, target: 1 })?;
+    arms.push(SwitchArm {
+        number: 7,
+        target: 1,
+    })?;
+    arms.push(SwitchArm {
+        number: 8,
+        target: 1,
+    })?;
     body.push(Instr::Switch(0, Some(1), arms))?;
     assert_eq!(rt; body.len(), 1);
-    let hole = Hole { pc: 0, arm: Some(1), leaf: 0 };
+    let hole = Hole {
+        pc: 0,
+        arm: Some(1),
+        leaf: 0,
+    };
     body.patch(&hole, 5);
     Ok(())
 }
