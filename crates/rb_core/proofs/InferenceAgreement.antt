@@ -73,16 +73,16 @@ distinct-are ps bs e = of_repeat (repeated ps) e
     of_repeat (Some at) h = cc
 
 module _ (types : List DataDecl) where
-  binders-Wild : (at : ℕ) (t : Ty) → binders types (Q.Wild at) t ≡ []
+  pub binders-Wild : (at : ℕ) (t : Ty) → binders types (Q.Wild at) t ≡ []
   binders-Wild at t = ap (λ (b : Ty → List Binder). b t) (PL.fold-Wild (Ty → List Binder) (binders_step types) at)
 
-  binders-Var : (at x : ℕ) (t : Ty) → binders types (Q.Var at x) t ≡ record { var = x; ty = t } ∷ []
+  pub binders-Var : (at x : ℕ) (t : Ty) → binders types (Q.Var at x) t ≡ record { var = x; ty = t } ∷ []
   binders-Var at x t = ap (λ (b : Ty → List Binder). b t) (PL.fold-Var (Ty → List Binder) (binders_step types) at x)
 
-  binders-Num : (at n : ℕ) (t : Ty) → binders types (Q.Num at n) t ≡ []
+  pub binders-Num : (at n : ℕ) (t : Ty) → binders types (Q.Num at n) t ≡ []
   binders-Num at n t = ap (λ (b : Ty → List Binder). b t) (PL.fold-Num (Ty → List Binder) (binders_step types) at n)
 
-  binders-Con : (at : ℕ) (c : ConRef) (ps : List Pat) (t : Ty) → binders types (Q.Con at c ps) t ≡ all_binders (map (binders types) ps) (field_types types c)
+  pub binders-Con : (at : ℕ) (c : ConRef) (ps : List Pat) (t : Ty) → binders types (Q.Con at c ps) t ≡ all_binders (map (binders types) ps) (field_types types c)
   binders-Con at c ps t = ap (λ (b : Ty → List Binder). b t) (PL.fold-Con (Ty → List Binder) (binders_step types) at c ps)
 
   abbrev Binds : Pat → Type 0

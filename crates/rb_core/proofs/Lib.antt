@@ -2,6 +2,7 @@ pub mod BindingLemmas
 pub mod CallLaws
 pub mod CallsLeft
 pub mod CopyingLemmas
+pub mod CoverageExamples
 pub mod Decimals
 pub mod EvalMeasure
 pub mod EvalSteps
@@ -18,3 +19,4 @@ pub mod TypingExamples
 pub mod TypingLemmas
 pub mod ValueLaws
 pub mod ValueLemmas
+pub mod WidthLaws

@@ -1,12 +1,12 @@
 -- Laws of typing, over all expressions.
-use Rattle.std.specs.Prelude.{◌≡◌, List, Option, Some, Ok}
+use Rattle.std.specs.Prelude.{◌≡◌, ℕ, ◌^◌, ◌<◌, ◌≤◌, List, Option, Some, Ok}
 use Rattle.rb_core.specs.declared.types.Ty.{Ty}
 use Rattle.rb_core.specs.declared.types.DataDecl.{DataDecl}
 use Rattle.rb_core.specs.declared.program.Fun.{Fun}
 use Rattle.rb_core.specs.declared.typing.Binder.{Binder}
 use Rattle.rb_core.specs.declared.pattern.Pat.{Pat}
 use Rattle.rb_core.specs.declared.expression.Expr.{Expr}
-use Rattle.rb_core.specs.Typing.{type_of, pattern_binders}
+use Rattle.rb_core.specs.Typing.{type_of, pattern_binders, least_width}
 use Rattle.rb_core.specs.Inference.{inferred_type, binders}
 
 -- where a type is wanted and typing finds no fault, the type that it gives is the wanted one
@@ -22,3 +22,13 @@ InferredIsFound = (types : List DataDecl) (funs : List Fun) (e : Expr) (wanted :
 -- and the binders that it reads off a pattern are those that typing gives
 abbrev pub BindersAreFound : Type 0
 BindersAreFound = (types : List DataDecl) (p : Pat) (t : Ty) (bs : List Binder) → pattern_binders types p t ≡ Ok bs → bs ≡ binders types p t
+
+-- a width is the least, from 1 on, that holds a number
+pub record IsLeastWidth (n width : ℕ) : Type 0 where
+  pub positive : 1 ≤ width
+  pub holds : n < 2 ^ width
+  pub least : (w : ℕ) → 1 ≤ w → n < 2 ^ w → width ≤ w
+
+-- a number is found as the least integer type that holds it
+abbrev pub WidthIsLeast : Type 0
+WidthIsLeast = (n : ℕ) → n < 2 ^ 64 → IsLeastWidth n (least_width n)
