@@ -3,6 +3,7 @@ pub mod CallLaws
 pub mod CallsLeft
 pub mod CopyingLemmas
 pub mod CoverageExamples
+pub mod CoverageForms
 pub mod Decimals
 pub mod EvalMeasure
 pub mod EvalSteps

@@ -5,6 +5,7 @@ use Rattle.std.specs.List.Sorted.{IsStrictlyIncreasing}
 use Rattle.rb_core.specs.declared.types.Ty.{Ty}
 use Rattle.rb_core.specs.declared.types.DataDecl.{DataDecl}
 use Rattle.rb_core.specs.declared.pattern.Pat.{Pat}
+use Rattle.rb_core.specs.declared.coverage.Site.{Site}
 use Rattle.rb_core.specs.declared.program.Fun.{Fun}
 use Rattle.rb_core.specs.declared.program.Note.{Note}
 use Rattle.rb_core.specs.declared.program.Program.{Program}
@@ -12,17 +13,11 @@ use Rattle.rb_core.specs.declared.typing.Binder.{Binder}
 use Rattle.rb_core.specs.declared.expression.Expr.{Expr}
 use Rattle.rb_core.specs.declared.expression.Expr.TheOpen as E
 use Rattle.rb_core.specs.declared.expression.Expr.TheOpen.{Expr-F}
-use Rattle.rb_core.specs.declared.expression.Expr.TheFolds.{para-Expr}
+use Rattle.rb_core.specs.declared.expression.Expr.TheFolds.{para-Expr, para-Clause}
 use Rattle.rb_core.specs.declared.expression.Clause.{Clause, Clause-F}
 use Rattle.rb_core.specs.Typing.{binder_of}
 use Rattle.rb_core.specs.Inference.{inferred_type, with_binder, binders}
 use Rattle.rb_core.specs.Matching.{IsExhaustive, IsUnreached}
-
--- a match: its token, its scrutinee's type, and its clauses' patterns
-pub record Site : Type 0 where
-  pub at : ℕ
-  pub scrutinee : Ty
-  pub patterns : List Pat
 
 -- the matches of an expression within these binders
 abbrev pub Sites : Type 0
@@ -35,8 +30,8 @@ Part = Expr × Sites
 abbrev pub Branch : Type 0
 Branch = Clause × Sites
 
-abbrev pub all_sites : List Part → Sites
-all_sites parts scope = flat_map (λ (part : Part). part.1 scope) parts
+abbrev pub part_sites : List Binder → Part → List Site
+part_sites scope part = part.1 scope
 
 -- a clause's body stands within what its pattern binds
 abbrev pub branch_sites : List DataDecl → Ty → List Binder → Branch → List Site
@@ -49,8 +44,8 @@ site_of at t branches = record { at = at; scrutinee = t; patterns = map (λ (bra
 abbrev pub sites_step : List DataDecl → List Fun → Expr-F Part Branch → Sites
 sites_step types funs (E.Num at n) scope = []
 sites_step types funs (E.Var at x) scope = []
-sites_step types funs (E.Call at g es) scope = all_sites es scope
-sites_step types funs (E.Build at c es) scope = all_sites es scope
+sites_step types funs (E.Call at g es) scope = flat_map (part_sites scope) es
+sites_step types funs (E.Build at c es) scope = flat_map (part_sites scope) es
 sites_step types funs (E.Binary at op a b) scope = a.1 scope ++ b.1 scope
 sites_step types funs (E.To at bits a) scope = a.1 scope
 sites_step types funs (E.Let at x t a b) scope = a.1 scope ++ b.1 (with_binder scope x t)
@@ -58,16 +53,23 @@ sites_step types funs (E.Match at e cs) scope =
     let t = inferred_type types funs e.0 None scope in
     site_of at t cs ∷ (e.1 scope ++ flat_map (branch_sites types t scope) cs)
 
-abbrev pub clause_sites : Clause-F Part Branch → Sites
-clause_sites c = c.body.1
+abbrev pub body_sites : Clause-F Part Branch → Sites
+body_sites c = c.body.1
 
 -- the matches of an expression, in the order of its text
 abbrev pub sites : List DataDecl → List Fun → Expr → Sites
-sites types funs = para-Expr Sites Sites (sites_step types funs) clause_sites
+sites types funs = para-Expr Sites Sites (sites_step types funs) body_sites
+
+abbrev pub clause_sites : List DataDecl → List Fun → Clause → Sites
+clause_sites types funs = para-Clause Sites Sites (sites_step types funs) body_sites
+
+-- the matches of a function's body, within its parameters
+abbrev pub function_sites : List DataDecl → List Fun → Fun → List Site
+function_sites types funs f = sites types funs f.body (map binder_of f.params)
 
 -- the matches of a program, in the order of its file
 abbrev pub sites_of : Program → List Site
-sites_of p = flat_map (λ f. sites p.types p.funs f.body (map binder_of f.params)) p.funs
+sites_of p = flat_map (function_sites p.types p.funs) p.funs
 
 -- every match is exhaustive
 abbrev pub AreExhaustive : List DataDecl → List Site → Type 0

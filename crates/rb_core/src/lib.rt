@@ -7,6 +7,7 @@
 pub mod binding;
 pub mod boxed;
 pub mod copying;
+pub mod coverage;
 pub mod decimal;
 mod environment;
 pub mod eval;
