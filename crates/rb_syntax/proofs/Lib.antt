@@ -1,6 +1,7 @@
 mod CutLemmas
 mod Examples
 mod LexLemmas
+mod ListLemmas
 mod LongestLemmas
 mod NumberLemmas
 mod PieceLemmas

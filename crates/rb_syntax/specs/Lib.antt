@@ -1,3 +1,4 @@
+pub mod Backward
 pub mod Bytes
 pub mod Cutting
 pub mod Lexing

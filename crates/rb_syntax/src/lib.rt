@@ -4,6 +4,7 @@
 pub mod bytes;
 pub mod lex;
 pub mod piece;
+pub mod spell;
 #[cfg(test)]
 mod tests;
 pub mod token;
