@@ -11,9 +11,9 @@ use Rattle.rb_syntax.specs.declared.tree.ClauseTree.{ClauseTree}
 use Rattle.rb_syntax.specs.declared.tree.ExprTree.{ExprTree}
 use Rattle.rb_syntax.specs.declared.tree.ExprTree as X
 use Rattle.rb_syntax.specs.declared.tree.ExprTree.TheOpen as expr
-use Rattle.rb_syntax.specs.declared.tree.ExprTree.TheFolds.{fold-roll-ExprTree, fold-ClauseTree, fold_out-ClauseTree}
+use Rattle.rb_syntax.specs.declared.tree.ExprTree.TheFolds.{fold-roll-ExprTree, fold_out-ClauseTree}
 use Rattle.rb_syntax.specs.Written.{Written}
-use Rattle.rb_syntax.specs.Spelling.{Deep, pat_step, pat_written, expr_step, clause_step, expr_written}
+use Rattle.rb_syntax.specs.Spelling.{Deep, pat_step, pat_written, expr_step, clause_step, expr_written, clause_written}
 
 pub pat-Wild : (at : ℕ) (l : ℕ) (rest : List Written) → pat_written (P.Wild at) l rest ≡ pat_step (pat.Wild at) l rest
 unfolding P.roll-PatTree denote.Hole.Carrier.roll
@@ -30,9 +30,6 @@ pat-Num at n l rest = ap (λ (w : Deep). w l rest) (fold-roll-PatTree Deep pat_s
 pub pat-Con : (at : ℕ) (name : NameTree) (ps : List PatTree) (l : ℕ) (rest : List Written) → pat_written (P.Con at name ps) l rest ≡ pat_step (pat.Con at name (map pat_written ps)) l rest
 unfolding P.roll-PatTree denote.Hole.Carrier.roll
 pat-Con at name ps l rest = ap (λ (w : Deep). w l rest) (fold-roll-PatTree Deep pat_step (pat.Con at name ps))
-
-abbrev pub clause_written : ClauseTree → Deep
-clause_written = fold-ClauseTree Deep Deep expr_step clause_step
 
 pub clause-is : (c : ClauseTree) (l : ℕ) (rest : List Written) → clause_written c l rest ≡ clause_step (record { pat = c.pat; body = expr_written c.body }) l rest
 clause-is c l rest = ap (λ (w : Deep). w l rest) (fold_out-ClauseTree Deep Deep expr_step clause_step c)

@@ -27,10 +27,10 @@ use Rattle.rb_syntax.specs.declared.tree.PatTree.TheFolds.{fold-PatTree}
 use Rattle.rb_syntax.specs.declared.tree.PatTree.TheOpen as pat
 use Rattle.rb_syntax.specs.declared.tree.PatTree.TheOpen.{PatTree-F}
 use Rattle.rb_syntax.specs.declared.tree.ExprTree.{ExprTree}
-use Rattle.rb_syntax.specs.declared.tree.ExprTree.TheFolds.{fold-ExprTree}
+use Rattle.rb_syntax.specs.declared.tree.ExprTree.TheFolds.{fold-ExprTree, fold-ClauseTree}
 use Rattle.rb_syntax.specs.declared.tree.ExprTree.TheOpen as expr
 use Rattle.rb_syntax.specs.declared.tree.ExprTree.TheOpen.{ExprTree-F}
-use Rattle.rb_syntax.specs.declared.tree.ClauseTree.{ClauseTree-F}
+use Rattle.rb_syntax.specs.declared.tree.ClauseTree.{ClauseTree, ClauseTree-F}
 use Rattle.rb_syntax.specs.declared.tree.ParamTree.{ParamTree}
 use Rattle.rb_syntax.specs.declared.tree.FunTree.{FunTree}
 use Rattle.rb_syntax.specs.declared.tree.SplitTree.{SplitTree}
@@ -138,6 +138,9 @@ clause_step c l rest = pat_written c.pat l (sym symbol.FatArrow ∷ c.body l res
 
 abbrev pub expr_written : ExprTree → Deep
 expr_written = fold-ExprTree Deep Deep expr_step clause_step
+
+abbrev pub clause_written : ClauseTree → Deep
+clause_written = fold-ClauseTree Deep Deep expr_step clause_step
 
 -- Layouts.
 

@@ -2,7 +2,7 @@ use Rattle.std.proofs.Common.{rules, ℕ, ◌≡◌, ◌∷◌, List, map, drop,
 use Rattle.rb_syntax.specs.declared.token.Symbol.TheVariants as symbol
 use Rattle.rb_syntax.specs.Written.{each_behind}
 use Rattle.rb_syntax.specs.Spelling.{pat_written, at_level, comma, sym}
-use Rattle.rb_syntax.proofs.spell.+pattern.Goals as goal
+use Rattle.rb_syntax.proofs.spell.pattern.+pattern.Goals as goal
 
 pub put_subpats-returns : goal.put_subpats-returns
 put_subpats-returns t c l rest h =

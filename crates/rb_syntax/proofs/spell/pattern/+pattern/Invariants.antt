@@ -1,7 +1,7 @@
 use Rattle.std.proofs.Common.{◌≡◌, ℕ, List, map, drop, reverse}
 use Rattle.rb_syntax.specs.Written.{Written, tokens_in, each_behind}
 use Rattle.rb_syntax.specs.Spelling.{pat_written, at_level, comma}
-use Rattle.rb_syntax.proofs.spell.+pattern.Given as goal
+use Rattle.rb_syntax.proofs.spell.pattern.+pattern.Given as goal
 
 -- the patterns from i on are written
 abbrev pub invariant-put_subpats-loop-i : goal.invariant-put_subpats-loop-i

@@ -1,0 +1,249 @@
+//! Expressions.
+
+ghost use Rattle.std.specs.Prelude.{◌≡◌, ◌∷◌, ℕ, suc, map, OnOk};
+ghost use Rattle.rb_core.specs.declared.expression.Op.{Op};
+ghost use Rattle.rb_syntax.specs.declared.token.Symbol.TheVariants as symbol;
+ghost use Rattle.rb_syntax.specs.declared.token.Word.TheVariants as word;
+ghost use Rattle.rb_syntax.specs.Backward.{Wrote};
+ghost use Rattle.rb_syntax.specs.Written as written;
+ghost use Rattle.rb_syntax.specs.Written.{any_with, some_with};
+ghost use Rattle.rb_syntax.specs.Spelling as spelling;
+ghost use Rattle.rb_syntax.specs.Spelling.{expr_written, clause_written, fields_written, at_level, comma, op_word, lower_written, ty_written};
+
+use crate::spell::pattern::put_pat;
+use crate::spell::{put_lower, put_num, put_symbol, put_ty, put_uint, put_upper, put_word};
+use crate::token::{Symbol, Token, Word};
+use crate::tree::{ClauseTree, ExprTree, NameTree, Op, TyTree};
+use std::alloc::{AllocError, Global};
+
+/// The word of an operator.
+fn word_of_op(op: Op) -> Word
+    ensures { result ≡ op_word op }
+{
+    match op {
+        Op::Add => Word::Add,
+        Op::Sub => Word::Sub,
+        Op::Mul => Word::Mul,
+        Op::And => Word::And,
+        Op::Or => Word::Or,
+        Op::Xor => Word::Xor,
+        Op::Eq => Word::Eq,
+        Op::Lt => Word::Lt,
+    }
+}
+
+/// An expression.
+#[cycle(expression)]
+pub(crate) fn put_expr(
+    alloc: Global,
+    out: &mut Vec<Token>,
+    expr: &ExprTree,
+) -> Result<(), AllocError>
+    ensures { OnOk result ((l : ℕ) → Wrote (expr_written expr.now l) out.old.items out.new.items) }
+{
+    match expr {
+        ExprTree::Num(_, n) => put_num(out, *n),
+        ExprTree::Var(_, name) => put_lower(alloc, out, name),
+        ExprTree::Call(_, name, args) => {
+            put_call(alloc, out, name, args.as_slice())?;
+            Ok(())
+        }
+        ExprTree::Build(_, name, fields) => {
+            put_fields(alloc, out, fields.as_slice())?;
+            put_upper(alloc, out, name)?;
+            Ok(())
+        }
+        ExprTree::Binary(_, op, a, b) => put_binary(alloc, out, *op, a.get(), b.get()),
+        ExprTree::To(_, bits, a) => {
+            put_symbol(out, Symbol::CloseParen)?;
+            put_expr(alloc, out, a.get())?;
+            put_symbol(out, Symbol::OpenParen)?;
+            put_uint(out, *bits)?;
+            put_word(out, Word::To)?;
+            Ok(())
+        }
+        ExprTree::Let(_, name, ty, a, b) => put_let(alloc, out, name, ty, a.get(), b.get()),
+        ExprTree::Match(_, scrutinee, clauses) => {
+            put_match(alloc, out, scrutinee.get(), clauses.as_slice())?;
+            Ok(())
+        }
+    }
+}
+
+/// `f(a, b)`
+#[cycle(expression)]
+fn put_call(
+    alloc: Global,
+    out: &mut Vec<Token>,
+    name: &NameTree,
+    args: &[ExprTree],
+) -> Result<(), AllocError>
+    ensures { OnOk result ((l : ℕ) → Wrote (λ rest. lower_written name.now (spelling.sym symbol.OpenParen
+        ∷ any_with comma (at_level l (map expr_written args.now)) (spelling.sym symbol.CloseParen ∷ rest))) out.old.items out.new.items) }
+{
+    put_symbol(out, Symbol::CloseParen)?;
+    put_args(alloc, out, args)?;
+    put_symbol(out, Symbol::OpenParen)?;
+    put_lower(alloc, out, name)?;
+    Ok(())
+}
+
+/// `add(a, b)`
+#[cycle(expression)]
+fn put_binary(
+    alloc: Global,
+    out: &mut Vec<Token>,
+    op: Op,
+    a: &ExprTree,
+    b: &ExprTree,
+) -> Result<(), AllocError>
+    ensures { OnOk result ((l : ℕ) → Wrote (λ rest. spelling.reserved (op_word op) ∷ spelling.sym symbol.OpenParen
+        ∷ expr_written a.now l (written.token comma ∷ expr_written b.now l (spelling.sym symbol.CloseParen ∷ rest))) out.old.items out.new.items) }
+{
+    put_symbol(out, Symbol::CloseParen)?;
+    put_expr(alloc, out, b)?;
+    put_symbol(out, Symbol::Comma)?;
+    put_expr(alloc, out, a)?;
+    put_symbol(out, Symbol::OpenParen)?;
+    put_word(out, word_of_op(op))?;
+    Ok(())
+}
+
+/// `let x: T = a in b`
+#[cycle(expression)]
+fn put_let(
+    alloc: Global,
+    out: &mut Vec<Token>,
+    name: &NameTree,
+    ty: &TyTree,
+    a: &ExprTree,
+    b: &ExprTree,
+) -> Result<(), AllocError>
+    ensures { OnOk result ((l : ℕ) → Wrote (λ rest. spelling.reserved word.Let ∷ lower_written name.now (spelling.sym symbol.Colon
+        ∷ ty_written ty.now (spelling.sym symbol.Equals ∷ expr_written a.now l (spelling.reserved word.In ∷ expr_written b.now l rest))))
+        out.old.items out.new.items) }
+{
+    put_expr(alloc, out, b)?;
+    put_word(out, Word::In)?;
+    put_expr(alloc, out, a)?;
+    put_symbol(out, Symbol::Equals)?;
+    put_ty(alloc, out, ty)?;
+    put_symbol(out, Symbol::Colon)?;
+    put_lower(alloc, out, name)?;
+    put_word(out, Word::Let)?;
+    Ok(())
+}
+
+/// `match a { p => e, q => f }`
+#[cycle(expression)]
+fn put_match(
+    alloc: Global,
+    out: &mut Vec<Token>,
+    scrutinee: &ExprTree,
+    clauses: &[ClauseTree],
+) -> Result<(), AllocError>
+    ensures { OnOk result ((l : ℕ) → Wrote (λ rest. spelling.reserved word.Match ∷ expr_written scrutinee.now l (spelling.sym symbol.OpenBrace
+        ∷ some_with comma (at_level l (map clause_written clauses.now)) (spelling.sym symbol.CloseBrace ∷ rest))) out.old.items out.new.items) }
+{
+    put_symbol(out, Symbol::CloseBrace)?;
+    put_clauses(alloc, out, clauses)?;
+    put_symbol(out, Symbol::OpenBrace)?;
+    put_expr(alloc, out, scrutinee)?;
+    put_word(out, Word::Match)?;
+    Ok(())
+}
+
+/// Arguments with commas between, or nothing.
+#[cycle(expression)]
+fn put_args(alloc: Global, out: &mut Vec<Token>, args: &[ExprTree]) -> Result<(), AllocError>
+    ensures { OnOk result ((l : ℕ) → Wrote (any_with comma (at_level l (map expr_written args.now))) out.old.items out.new.items) }
+{
+    match args {
+        [] => Ok(()),
+        [first, others @ ..] => {
+            put_exprs(alloc, out, args, first, others)?;
+            Ok(())
+        }
+    }
+}
+
+/// Fields in parentheses, or nothing.
+#[cycle(expression)]
+fn put_fields(alloc: Global, out: &mut Vec<Token>, fields: &[ExprTree]) -> Result<(), AllocError>
+    ensures { OnOk result ((l : ℕ) → Wrote (fields_written (at_level l (map expr_written fields.now))) out.old.items out.new.items) }
+{
+    match fields {
+        [] => Ok(()),
+        [first, others @ ..] => {
+            put_symbol(out, Symbol::CloseParen)?;
+            put_exprs(alloc, out, fields, first, others)?;
+            put_symbol(out, Symbol::OpenParen)?;
+            Ok(())
+        }
+    }
+}
+
+/// Expressions with commas between.
+#[cycle(expression)]
+fn put_exprs(
+    alloc: Global,
+    out: &mut Vec<Token>,
+    exprs: &[ExprTree],
+    first: &ExprTree,
+    others: &[ExprTree],
+) -> Result<(), AllocError>
+    requires { exprs.now ≡ first.now ∷ others.now }
+    ensures { OnOk result ((l : ℕ) → Wrote (any_with comma (at_level l (map expr_written exprs.now))) out.old.items out.new.items) }
+{
+    for i in (0..others.len()).rev() {
+        put_expr(alloc, out, &others[i])?;
+        put_symbol(out, Symbol::Comma)?;
+    }
+    put_expr(alloc, out, first)?;
+    Ok(())
+}
+
+/// Clauses with commas between.
+#[cycle(expression)]
+fn put_clauses(alloc: Global, out: &mut Vec<Token>, clauses: &[ClauseTree]) -> Result<(), AllocError>
+    ensures { OnOk result ((l : ℕ) → Wrote (some_with comma (at_level l (map clause_written clauses.now))) out.old.items out.new.items) }
+{
+    match clauses {
+        [] => Ok(()),
+        [first, others @ ..] => {
+            put_some_clauses(alloc, out, clauses, first, others)?;
+            Ok(())
+        }
+    }
+}
+
+/// One clause or more, with commas between.
+#[cycle(expression)]
+fn put_some_clauses(
+    alloc: Global,
+    out: &mut Vec<Token>,
+    clauses: &[ClauseTree],
+    first: &ClauseTree,
+    others: &[ClauseTree],
+) -> Result<(), AllocError>
+    requires { clauses.now ≡ first.now ∷ others.now }
+    ensures { OnOk result ((l : ℕ) → Wrote (some_with comma (at_level l (map clause_written clauses.now))) out.old.items out.new.items) }
+{
+    for i in (0..others.len()).rev() {
+        put_clause(alloc, out, &others[i])?;
+        put_symbol(out, Symbol::Comma)?;
+    }
+    put_clause(alloc, out, first)?;
+    Ok(())
+}
+
+/// `p => e`
+#[cycle(expression)]
+fn put_clause(alloc: Global, out: &mut Vec<Token>, clause: &ClauseTree) -> Result<(), AllocError>
+    ensures { OnOk result ((l : ℕ) → Wrote (clause_written clause.now l) out.old.items out.new.items) }
+{
+    put_expr(alloc, out, &clause.body)?;
+    put_symbol(out, Symbol::FatArrow)?;
+    put_pat(alloc, out, &clause.pat)?;
+    Ok(())
+}
