@@ -7,10 +7,11 @@ use Rattle.rb_core.specs.declared.types.Auto.TheVariants as auto
 use Rattle.rb_core.specs.declared.layout_decl.Step.{Step}
 use Rattle.rb_core.specs.declared.layout_decl.Loc.{Loc}
 use Rattle.rb_core.specs.declared.layout_decl.LayItem.{LayItem}
-use Rattle.rb_core.specs.declared.layout_decl.LayItem.TheFolds.{fold-LayItem}
+use Rattle.rb_core.specs.declared.layout_decl.LayItem.TheFolds.{fold-LayItem, fold-PartKind, fold-PartDecl}
 use Rattle.rb_core.specs.declared.layout_decl.LayItem.TheOpen as item
 use Rattle.rb_core.specs.declared.layout_decl.LayItem.TheOpen.{LayItem-F, PartKind-F}
-use Rattle.rb_core.specs.declared.layout_decl.PartDecl.{PartDecl-F}
+use Rattle.rb_core.specs.declared.layout_decl.PartKind.{PartKind}
+use Rattle.rb_core.specs.declared.layout_decl.PartDecl.{PartDecl, PartDecl-F}
 use Rattle.rb_syntax.specs.declared.token.Word.TheVariants as word
 use Rattle.rb_syntax.specs.declared.token.Symbol.TheVariants as symbol
 use Rattle.rb_syntax.specs.declared.token.Word.{Word}
@@ -34,10 +35,10 @@ use Rattle.rb_syntax.specs.declared.tree.ClauseTree.{ClauseTree, ClauseTree-F}
 use Rattle.rb_syntax.specs.declared.tree.ParamTree.{ParamTree}
 use Rattle.rb_syntax.specs.declared.tree.FunTree.{FunTree}
 use Rattle.rb_syntax.specs.declared.tree.SplitTree.{SplitTree}
-use Rattle.rb_syntax.specs.declared.tree.SplitTree.TheFolds.{fold-SplitTree}
+use Rattle.rb_syntax.specs.declared.tree.SplitTree.TheFolds.{fold-SplitTree, fold-ArmTree}
 use Rattle.rb_syntax.specs.declared.tree.SplitTree.TheOpen as split
 use Rattle.rb_syntax.specs.declared.tree.SplitTree.TheOpen.{SplitTree-F}
-use Rattle.rb_syntax.specs.declared.tree.ArmTree.{ArmTree-F}
+use Rattle.rb_syntax.specs.declared.tree.ArmTree.{ArmTree, ArmTree-F}
 use Rattle.rb_syntax.specs.declared.tree.LayoutTree.{LayoutTree}
 use Rattle.rb_syntax.specs.declared.tree.ItemTree.{ItemTree}
 use Rattle.rb_syntax.specs.declared.tree.ItemTree.TheVariants as top
@@ -183,6 +184,12 @@ lay_item_step (item.Inline path) l rest = reserved word.Inline ∷ path_written 
 abbrev pub lay_item_written : LayItem → Deep
 lay_item_written = fold-LayItem Deep Deep Deep lay_item_step kind_step part_step
 
+abbrev pub kind_written : PartKind → Deep
+kind_written = fold-PartKind Deep Deep Deep lay_item_step kind_step part_step
+
+abbrev pub part_written : PartDecl → Deep
+part_written = fold-PartDecl Deep Deep Deep lay_item_step kind_step part_step
+
 -- below a provenance's constructor stand provenances and `_`
 abbrev pub prov_step : PatTree-F Deep → Deep
 prov_step (pat.Wild at) l rest = node l ∷ number at ∷ sym symbol.Underscore ∷ rest
@@ -197,8 +204,11 @@ root_checked (pat.Var at name) rest = rest
 root_checked (pat.Num at n) rest = rest
 root_checked (pat.Con at name ps) rest = rest
 
+abbrev pub below_written : PatTree → Deep
+below_written = fold-PatTree Deep prov_step
+
 abbrev pub prov_written : PatTree → Deep
-prov_written p l rest = root_checked (out-PatTree p) (fold-PatTree Deep prov_step p l rest)
+prov_written p l rest = root_checked (out-PatTree p) (below_written p l rest)
 
 abbrev pub else_written : Option Deep → Deep
 else_written None l rest = rest
@@ -211,13 +221,16 @@ split_step (split.Split loc arms other) l rest =
     ∷ each (at_level (suc l) arms) (else_written other (suc l) (sym symbol.CloseBrace ∷ rest)))
 split_step (split.Leaf at prov items) l rest =
     node l ∷ number at ∷ prov_written prov (suc l) (sym symbol.Colon ∷ sym symbol.OpenBrace
-    ∷ some_with comma (map (λ (i : LayItem). lay_item_written i (suc l)) items) (sym symbol.CloseBrace ∷ rest))
+    ∷ some_with comma (at_level (suc l) (map lay_item_written items)) (sym symbol.CloseBrace ∷ rest))
 
 abbrev pub arm_step : ArmTree-F Deep Deep → Deep
 arm_step a l rest = num a.literal ∷ sym symbol.FatArrow ∷ a.under l rest
 
 abbrev pub split_written : SplitTree → Deep
 split_written = fold-SplitTree Deep Deep split_step arm_step
+
+abbrev pub arm_written : ArmTree → Deep
+arm_written = fold-ArmTree Deep Deep split_step arm_step
 
 -- Items and files.
 

@@ -8,6 +8,7 @@ ghost use Rattle.rb_syntax.specs.Backward.{Wrote};
 ghost use Rattle.rb_syntax.specs.Spelling.{ty_written, upper_written, lower_written, uint_written};
 
 mod expression;
+mod layout;
 mod list;
 mod pattern;
 

@@ -1,0 +1,264 @@
+//! Locations and the items of leaves and blocks.
+
+ghost use Rattle.std.specs.Prelude.{◌≡◌, ◌∷◌, ℕ, map, OnOk};
+ghost use Rattle.rb_syntax.specs.Backward.{Wrote};
+ghost use Rattle.rb_syntax.specs.Written.{any_with};
+ghost use Rattle.rb_syntax.specs.declared.token.Symbol.TheVariants as symbol;
+ghost use Rattle.rb_syntax.specs.declared.token.Word.TheVariants as word;
+ghost use Rattle.rb_syntax.specs.Spelling as spelling;
+ghost use Rattle.rb_syntax.specs.Spelling.{range_written, field_written, path_written, loc_step_written, loc_written, lay_item_written, part_written, kind_written, at_level, comma};
+
+use crate::spell::list::{Spell, put_each};
+use crate::spell::{put_num, put_symbol, put_word};
+use crate::token::{Symbol, Token, Word};
+use crate::tree::{LayItem, Loc, PartDecl, PartKind, Step};
+use std::alloc::{AllocError, Global};
+
+/// `[o:l]`
+fn put_range(out: &mut Vec<Token>, o: u64, l: u64) -> Result<(), AllocError>
+    ensures { OnOk result (Wrote (range_written o l) out.old.items out.new.items) }
+{
+    put_symbol(out, Symbol::CloseBracket)?;
+    put_num(out, l)?;
+    put_symbol(out, Symbol::Colon)?;
+    put_num(out, o)?;
+    put_symbol(out, Symbol::OpenBracket)?;
+    Ok(())
+}
+
+/// A field's number in a path.
+impl Spell for u32 {
+    ghost writing = { field_written };
+
+    fn put(&self, _alloc: Global, out: &mut Vec<Token>) -> Result<(), AllocError> {
+        put_num(out, u64::from(*self))?;
+        put_symbol(out, Symbol::Dot)?;
+        Ok(())
+    }
+}
+
+/// `.0.1`
+fn put_path(alloc: Global, out: &mut Vec<Token>, path: &[u32]) -> Result<(), AllocError>
+    ensures { OnOk result (Wrote (path_written path.now) out.old.items out.new.items) }
+{
+    put_each(alloc, out, path)?;
+    Ok(())
+}
+
+/// `-> 4 @0:8[0:8]`
+impl Spell for Step {
+    ghost writing = { loc_step_written };
+
+    fn put(&self, _alloc: Global, out: &mut Vec<Token>) -> Result<(), AllocError> {
+        put_range(out, self.o, self.l)?;
+        put_num(out, self.width)?;
+        put_symbol(out, Symbol::Colon)?;
+        put_num(out, self.byte)?;
+        put_symbol(out, Symbol::At)?;
+        put_num(out, self.align)?;
+        put_symbol(out, Symbol::Arrow)?;
+        Ok(())
+    }
+}
+
+/// `0[0:32] -> 4 @0:8[0:8]`
+pub(crate) fn put_loc(alloc: Global, out: &mut Vec<Token>, loc: &Loc) -> Result<(), AllocError>
+    ensures { OnOk result (Wrote (loc_written loc.now) out.old.items out.new.items) }
+{
+    put_each(alloc, out, loc.steps.as_slice())?;
+    put_range(out, loc.o, loc.l)?;
+    put_num(out, loc.word)?;
+    Ok(())
+}
+
+/// `= 5`
+fn put_const(out: &mut Vec<Token>, n: u64) -> Result<(), AllocError>
+    ensures { OnOk result (Wrote (λ rest. spelling.sym symbol.Equals ∷ spelling.num n ∷ rest) out.old.items out.new.items) }
+{
+    put_num(out, n)?;
+    put_symbol(out, Symbol::Equals)?;
+    Ok(())
+}
+
+/// `.0 word 1`
+fn put_word_of(
+    alloc: Global,
+    out: &mut Vec<Token>,
+    path: &[u32],
+    j: u64,
+) -> Result<(), AllocError>
+    ensures { OnOk result (Wrote (λ rest. path_written path.now (spelling.reserved word.Word ∷ spelling.num j ∷ rest)) out.old.items out.new.items) }
+{
+    put_num(out, j)?;
+    put_word(out, Word::Word)?;
+    put_path(alloc, out, path)?;
+    Ok(())
+}
+
+/// A word or the words of a field.
+#[cycle(item)]
+fn put_item(alloc: Global, out: &mut Vec<Token>, item: &LayItem) -> Result<(), AllocError>
+    ensures { OnOk result ((l : ℕ) → Wrote (lay_item_written item.now l) out.old.items out.new.items) }
+{
+    match item {
+        LayItem::Word(bits, parts) => {
+            put_word_item(alloc, out, *bits, parts.as_slice())?;
+            Ok(())
+        }
+        LayItem::Inline(path) => {
+            put_path(alloc, out, path.as_slice())?;
+            put_word(out, Word::Inline)?;
+            Ok(())
+        }
+    }
+}
+
+/// `word 32 { [0:32] .0 }`
+#[cycle(item)]
+fn put_word_item(
+    alloc: Global,
+    out: &mut Vec<Token>,
+    bits: u64,
+    parts: &[PartDecl],
+) -> Result<(), AllocError>
+    ensures { OnOk result ((l : ℕ) → Wrote (λ rest. spelling.reserved word.Word ∷ spelling.num bits ∷ spelling.sym symbol.OpenBrace
+        ∷ any_with comma (at_level l (map part_written parts.now)) (spelling.sym symbol.CloseBrace ∷ rest)) out.old.items out.new.items) }
+{
+    put_symbol(out, Symbol::CloseBrace)?;
+    put_parts(alloc, out, parts)?;
+    put_symbol(out, Symbol::OpenBrace)?;
+    put_num(out, bits)?;
+    put_word(out, Word::Word)?;
+    Ok(())
+}
+
+/// `-> 8 { inline .1 }`
+#[cycle(item)]
+fn put_pointer(
+    alloc: Global,
+    out: &mut Vec<Token>,
+    align: u64,
+    items: &[LayItem],
+) -> Result<(), AllocError>
+    ensures { OnOk result ((l : ℕ) → Wrote (λ rest. spelling.sym symbol.Arrow ∷ spelling.num align ∷ spelling.sym symbol.OpenBrace
+        ∷ any_with comma (at_level l (map lay_item_written items.now)) (spelling.sym symbol.CloseBrace ∷ rest)) out.old.items out.new.items) }
+{
+    put_symbol(out, Symbol::CloseBrace)?;
+    put_items(alloc, out, items)?;
+    put_symbol(out, Symbol::OpenBrace)?;
+    put_num(out, align)?;
+    put_symbol(out, Symbol::Arrow)?;
+    Ok(())
+}
+
+/// What a part holds.
+#[cycle(item)]
+fn put_kind(alloc: Global, out: &mut Vec<Token>, kind: &PartKind) -> Result<(), AllocError>
+    ensures { OnOk result ((l : ℕ) → Wrote (kind_written kind.now l) out.old.items out.new.items) }
+{
+    match kind {
+        PartKind::Const(n) => {
+            put_const(out, *n)?;
+            Ok(())
+        }
+        PartKind::Whole(path) => {
+            put_path(alloc, out, path.as_slice())?;
+            Ok(())
+        }
+        PartKind::Slice(path, first, bits) => {
+            put_range(out, *first, *bits)?;
+            put_path(alloc, out, path.as_slice())?;
+            Ok(())
+        }
+        PartKind::Word(path, j) => {
+            put_word_of(alloc, out, path.as_slice(), *j)?;
+            Ok(())
+        }
+        PartKind::Pointer(align, items) => {
+            put_pointer(alloc, out, *align, items.as_slice())?;
+            Ok(())
+        }
+    }
+}
+
+/// A part of a word.
+#[cycle(item)]
+fn put_part(alloc: Global, out: &mut Vec<Token>, part: &PartDecl) -> Result<(), AllocError>
+    ensures { OnOk result ((l : ℕ) → Wrote (part_written part.now l) out.old.items out.new.items) }
+{
+    put_kind(alloc, out, &part.kind)?;
+    put_range(out, part.o, part.l)?;
+    Ok(())
+}
+
+/// The parts of a word with commas between, or nothing.
+#[cycle(item)]
+fn put_parts(alloc: Global, out: &mut Vec<Token>, parts: &[PartDecl]) -> Result<(), AllocError>
+    ensures { OnOk result ((l : ℕ) → Wrote (any_with comma (at_level l (map part_written parts.now))) out.old.items out.new.items) }
+{
+    match parts {
+        [] => Ok(()),
+        [first, others @ ..] => {
+            put_some_parts(alloc, out, parts, first, others)?;
+            Ok(())
+        }
+    }
+}
+
+/// One part or more, with commas between.
+#[cycle(item)]
+fn put_some_parts(
+    alloc: Global,
+    out: &mut Vec<Token>,
+    parts: &[PartDecl],
+    first: &PartDecl,
+    others: &[PartDecl],
+) -> Result<(), AllocError>
+    requires { parts.now ≡ first.now ∷ others.now }
+    ensures { OnOk result ((l : ℕ) → Wrote (any_with comma (at_level l (map part_written parts.now))) out.old.items out.new.items) }
+{
+    for i in (0..others.len()).rev() {
+        put_part(alloc, out, &others[i])?;
+        put_symbol(out, Symbol::Comma)?;
+    }
+    put_part(alloc, out, first)?;
+    Ok(())
+}
+
+/// The items of a leaf or a block with commas between, or nothing.
+#[cycle(item)]
+pub(crate) fn put_items(
+    alloc: Global,
+    out: &mut Vec<Token>,
+    items: &[LayItem],
+) -> Result<(), AllocError>
+    ensures { OnOk result ((l : ℕ) → Wrote (any_with comma (at_level l (map lay_item_written items.now))) out.old.items out.new.items) }
+{
+    match items {
+        [] => Ok(()),
+        [first, others @ ..] => {
+            put_some_items(alloc, out, items, first, others)?;
+            Ok(())
+        }
+    }
+}
+
+/// One item or more, with commas between.
+#[cycle(item)]
+fn put_some_items(
+    alloc: Global,
+    out: &mut Vec<Token>,
+    items: &[LayItem],
+    first: &LayItem,
+    others: &[LayItem],
+) -> Result<(), AllocError>
+    requires { items.now ≡ first.now ∷ others.now }
+    ensures { OnOk result ((l : ℕ) → Wrote (any_with comma (at_level l (map lay_item_written items.now))) out.old.items out.new.items) }
+{
+    for i in (0..others.len()).rev() {
+        put_item(alloc, out, &others[i])?;
+        put_symbol(out, Symbol::Comma)?;
+    }
+    put_item(alloc, out, first)?;
+    Ok(())
+}
