@@ -8,12 +8,15 @@ ghost use Rattle.rb_syntax.specs.Backward.{Wrote};
 ghost use Rattle.rb_syntax.specs.Spelling.{ty_written, upper_written, lower_written, uint_written};
 
 mod expression;
+mod file;
 mod layout;
 mod list;
 mod pattern;
+mod split;
 
 use crate::token::{Symbol, Token, Word};
 use crate::tree::{NameTree, TyTree};
+pub use file::spell_file;
 use std::alloc::{AllocError, Global};
 
 pub(crate) fn put(out: &mut Vec<Token>, token: Token) -> Result<(), AllocError>
@@ -47,14 +50,22 @@ pub(crate) fn put_uint(out: &mut Vec<Token>, bits: u8) -> Result<(), AllocError>
     put(out, Token::Uint(bits))
 }
 
-pub(crate) fn put_upper(alloc: Global, out: &mut Vec<Token>, name: &NameTree) -> Result<(), AllocError>
+pub(crate) fn put_upper(
+    alloc: Global,
+    out: &mut Vec<Token>,
+    name: &NameTree,
+) -> Result<(), AllocError>
     ensures { OnOk result (Wrote (upper_written name.now) out.old.items out.new.items) }
 {
     let text = name.text.copy(alloc)?;
     put(out, Token::Upper(text))
 }
 
-pub(crate) fn put_lower(alloc: Global, out: &mut Vec<Token>, name: &NameTree) -> Result<(), AllocError>
+pub(crate) fn put_lower(
+    alloc: Global,
+    out: &mut Vec<Token>,
+    name: &NameTree,
+) -> Result<(), AllocError>
     ensures { OnOk result (Wrote (lower_written name.now) out.old.items out.new.items) }
 {
     let text = name.text.copy(alloc)?;

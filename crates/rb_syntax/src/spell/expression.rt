@@ -205,7 +205,11 @@ fn put_exprs(
 
 /// Clauses with commas between.
 #[cycle(expression)]
-fn put_clauses(alloc: Global, out: &mut Vec<Token>, clauses: &[ClauseTree]) -> Result<(), AllocError>
+fn put_clauses(
+    alloc: Global,
+    out: &mut Vec<Token>,
+    clauses: &[ClauseTree],
+) -> Result<(), AllocError>
     ensures { OnOk result ((l : ℕ) → Wrote (some_with comma (at_level l (map clause_written clauses.now))) out.old.items out.new.items) }
 {
     match clauses {

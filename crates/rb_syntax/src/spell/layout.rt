@@ -81,12 +81,7 @@ fn put_const(out: &mut Vec<Token>, n: u64) -> Result<(), AllocError>
 }
 
 /// `.0 word 1`
-fn put_word_of(
-    alloc: Global,
-    out: &mut Vec<Token>,
-    path: &[u32],
-    j: u64,
-) -> Result<(), AllocError>
+fn put_word_of(alloc: Global, out: &mut Vec<Token>, path: &[u32], j: u64) -> Result<(), AllocError>
     ensures { OnOk result (Wrote (λ rest. path_written path.now (spelling.reserved word.Word ∷ spelling.num j ∷ rest)) out.old.items out.new.items) }
 {
     put_num(out, j)?;

@@ -11,7 +11,7 @@ put_call-returns t c l rest h =
     let closed = sym symbol.CloseParen ∷ rest in
     let args = any_with comma (at_level l (map expr_written c.args.args.now)) closed in
     c.in_ok-put_lower.ensures (sym symbol.OpenParen ∷ args) (c.in_ok-put_symbol-2.ensures args
-        (c.in_ok-put_args.ensures l closed (c.in_ok-put_symbol.ensures rest h)))
+    (c.in_ok-put_args.ensures l closed (c.in_ok-put_symbol.ensures rest h)))
 
 pub put_binary-returns : goal.put_binary-returns
 put_binary-returns t c l rest h =
@@ -19,8 +19,8 @@ put_binary-returns t c l rest h =
     let second = expr_written c.args.b.now l closed in
     let first = expr_written c.args.a.now l (token comma ∷ second) in
     let all = c.in_ok-put_word.ensures (sym symbol.OpenParen ∷ first) (c.in_ok-put_symbol-3.ensures first
-        (c.in_ok-put_expr-2.ensures l (token comma ∷ second) (c.in_ok-put_symbol-2.ensures second
-        (c.in_ok-put_expr.ensures l closed (c.in_ok-put_symbol.ensures rest h))))) in
+    (c.in_ok-put_expr-2.ensures l (token comma ∷ second) (c.in_ok-put_symbol-2.ensures second
+    (c.in_ok-put_expr.ensures l closed (c.in_ok-put_symbol.ensures rest h))))) in
     rw (← c.word_of_op.ensures) all
 
 pub put_let-returns : goal.put_let-returns
@@ -30,16 +30,16 @@ put_let-returns t c l rest h =
     let ty = ty_written c.args.ty.now (sym symbol.Equals ∷ value) in
     let named = lower_written c.args.name.now (sym symbol.Colon ∷ ty) in
     c.in_ok-put_word-2.ensures named (c.in_ok-put_lower.ensures (sym symbol.Colon ∷ ty) (c.in_ok-put_symbol-2.ensures ty
-        (c.in_ok-put_ty.ensures (sym symbol.Equals ∷ value) (c.in_ok-put_symbol.ensures value
-        (c.in_ok-put_expr-2.ensures l (reserved word.In ∷ body) (c.in_ok-put_word.ensures body
-        (c.in_ok-put_expr.ensures l rest h)))))))
+    (c.in_ok-put_ty.ensures (sym symbol.Equals ∷ value) (c.in_ok-put_symbol.ensures value
+    (c.in_ok-put_expr-2.ensures l (reserved word.In ∷ body) (c.in_ok-put_word.ensures body
+    (c.in_ok-put_expr.ensures l rest h)))))))
 
 pub put_fields-returns-in_ok-put_symbol-in-len1-up-2 : goal.put_fields-returns-in_ok-put_symbol-in-len1-up-2
 put_fields-returns-in_ok-put_symbol-in-len1-up-2 t c l rest h =
     let closed = sym symbol.CloseParen ∷ rest in
     let fields = any_with comma (at_level l (map expr_written c.args.fields.now)) closed in
     rw (fields-some expr_written l c.args.fields.now rest c.in-len1-up.len_at_least)
-        (c.in_ok-put_symbol-in-len1-up-2.ensures fields (c.in_ok-put_exprs-in-len1-up.ensures l closed (c.in_ok-put_symbol-in-len1-up.ensures rest h)))
+    (c.in_ok-put_symbol-in-len1-up-2.ensures fields (c.in_ok-put_exprs-in-len1-up.ensures l closed (c.in_ok-put_symbol-in-len1-up.ensures rest h)))
 
 pub put_exprs-returns : goal.put_exprs-returns
 put_exprs-returns t c l rest h =

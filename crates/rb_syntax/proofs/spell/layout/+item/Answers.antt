@@ -24,7 +24,7 @@ put_word_item-returns t c l rest h =
     let parts = any_with comma (at_level l (map part_written c.args.parts.now)) closed in
     let opened = sym symbol.OpenBrace ∷ parts in
     c.in_ok-put_word.ensures (num c.args.bits ∷ opened) (c.in_ok-put_num.ensures opened (c.in_ok-put_symbol-2.ensures parts
-        (c.in_ok-put_parts.ensures l closed (c.in_ok-put_symbol.ensures rest h))))
+    (c.in_ok-put_parts.ensures l closed (c.in_ok-put_symbol.ensures rest h))))
 
 pub put_pointer-returns : goal.put_pointer-returns
 put_pointer-returns t c l rest h =
@@ -32,4 +32,4 @@ put_pointer-returns t c l rest h =
     let items = any_with comma (at_level l (map lay_item_written c.args.items.now)) closed in
     let opened = sym symbol.OpenBrace ∷ items in
     c.in_ok-put_symbol-3.ensures (num c.args.align ∷ opened) (c.in_ok-put_num.ensures opened (c.in_ok-put_symbol-2.ensures items
-        (c.in_ok-put_items.ensures l closed (c.in_ok-put_symbol.ensures rest h))))
+    (c.in_ok-put_items.ensures l closed (c.in_ok-put_symbol.ensures rest h))))

@@ -9,5 +9,5 @@ put_subpats-returns t c l rest h =
     let z : c.loop-i.i ≡ 0 = omega arith in
     let behind = each_behind comma (at_level l (map pat_written (drop c.loop-i.i c.args.others.now))) (sym symbol.CloseParen ∷ rest) in
     let a = c.in_ok-put_symbol-3.ensures (pat_written c.args.first.now l behind) (c.in_ok-put_pat-2.ensures l behind
-        (c.loop-i.invariant l (sym symbol.CloseParen ∷ rest) (c.in_ok-put_symbol.ensures rest h))) in
+    (c.loop-i.invariant l (sym symbol.CloseParen ∷ rest) (c.in_ok-put_symbol.ensures rest h))) in
     rw c.requires (rw z at a)

@@ -10,4 +10,4 @@ returns c rest h =
     let word = sym symbol.Colon ∷ num s.width ∷ range in
     let byte = sym symbol.At ∷ num s.byte ∷ word in
     c.in_ok-put_symbol-3.ensures (num s.align ∷ byte) (c.in_ok-put_num-3.ensures byte (c.in_ok-put_symbol-2.ensures (num s.byte ∷ word)
-        (c.in_ok-put_num-2.ensures word (c.in_ok-put_symbol.ensures (num s.width ∷ range) (c.in_ok-put_num.ensures range (c.in_ok-put_range.ensures rest h))))))
+    (c.in_ok-put_num-2.ensures word (c.in_ok-put_symbol.ensures (num s.width ∷ range) (c.in_ok-put_num.ensures range (c.in_ok-put_range.ensures rest h))))))

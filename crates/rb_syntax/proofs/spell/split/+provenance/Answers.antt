@@ -1,0 +1,13 @@
+use Rattle.std.proofs.Common.{rules, ℕ, ◌≡◌, ◌∷◌, List, map, drop, arith, refl}
+use Rattle.rb_syntax.specs.declared.token.Symbol.TheVariants as symbol
+use Rattle.rb_syntax.specs.Written.{each_behind}
+use Rattle.rb_syntax.specs.Spelling.{below_written, at_level, comma, sym}
+use Rattle.rb_syntax.proofs.spell.split.+provenance.Goals as goal
+
+pub put_parts_below-returns : goal.put_parts_below-returns
+put_parts_below-returns t c l rest h =
+    let z : c.loop-i.i ≡ 0 = omega arith in
+    let behind = each_behind comma (at_level l (map below_written (drop c.loop-i.i c.args.others.now))) (sym symbol.CloseParen ∷ rest) in
+    let a = c.in_ok-put_symbol-3.ensures (below_written c.args.first.now l behind) (c.in_ok-put_below-2.ensures l behind
+    (c.loop-i.invariant l (sym symbol.CloseParen ∷ rest) (c.in_ok-put_symbol.ensures rest h))) in
+    rw c.requires (rw z at a)

@@ -1,0 +1,170 @@
+//! Items and files.
+
+ghost use Rattle.std.specs.Prelude.{◌≡◌, ◌∷◌, map, OnOk, IfOk};
+ghost use Rattle.rb_core.specs.declared.types.Auto.{Auto};
+ghost use Rattle.rb_syntax.specs.declared.token.Symbol.TheVariants as symbol;
+ghost use Rattle.rb_syntax.specs.declared.token.Word.TheVariants as word;
+ghost use Rattle.rb_syntax.specs.Backward.{Wrote};
+ghost use Rattle.rb_syntax.specs.Written.{each};
+ghost use Rattle.rb_syntax.specs.Spelling as spelling;
+ghost use Rattle.rb_syntax.specs.Spelling.{ty_written, upper_written, con_written, type_written, width_written, layout_written, param_written, fun_written, auto_word, item_written, fields_written, spell};
+
+use crate::spell::expression::put_expr;
+use crate::spell::list::{Spell, put_each, put_list};
+use crate::spell::split::put_split;
+use crate::spell::{put_lower, put_num, put_symbol, put_ty, put_upper, put_word};
+use crate::token::{Symbol, Token, Word};
+use crate::tree::{
+    Auto, ConTree, FileTree, FunTree, ItemTree, LayoutTree, NameTree, ParamTree, TyTree, TypeTree,
+};
+use std::alloc::{AllocError, Global};
+
+impl Spell for TyTree {
+    ghost writing = { ty_written };
+
+    fn put(&self, alloc: Global, out: &mut Vec<Token>) -> Result<(), AllocError> {
+        put_ty(alloc, out, self)?;
+        Ok(())
+    }
+}
+
+/// The types of fields in parentheses, or nothing.
+fn put_field_types(alloc: Global, out: &mut Vec<Token>, fields: &[TyTree]) -> Result<(), AllocError>
+    ensures { OnOk result (Wrote (fields_written (map ty_written fields.now)) out.old.items out.new.items) }
+{
+    match fields {
+        [] => Ok(()),
+        [_, ..] => {
+            put_symbol(out, Symbol::CloseParen)?;
+            put_list(alloc, out, Symbol::Comma, fields)?;
+            put_symbol(out, Symbol::OpenParen)?;
+            Ok(())
+        }
+    }
+}
+
+impl Spell for ConTree {
+    ghost writing = { con_written };
+
+    fn put(&self, alloc: Global, out: &mut Vec<Token>) -> Result<(), AllocError> {
+        put_field_types(alloc, out, self.fields.as_slice())?;
+        put_upper(alloc, out, &self.name)?;
+        Ok(())
+    }
+}
+
+/// `type T = A | B(u8);`
+fn put_type(alloc: Global, out: &mut Vec<Token>, tree: &TypeTree) -> Result<(), AllocError>
+    ensures { OnOk result (Wrote (type_written tree.now) out.old.items out.new.items) }
+{
+    put_symbol(out, Symbol::Semicolon)?;
+    put_list(alloc, out, Symbol::Bar, tree.cons.as_slice())?;
+    put_symbol(out, Symbol::Equals)?;
+    put_upper(alloc, out, &tree.name)?;
+    put_word(out, Word::Type)?;
+    Ok(())
+}
+
+/// The width of a word in a shape.
+impl Spell for u64 {
+    ghost writing = { width_written };
+
+    fn put(&self, _alloc: Global, out: &mut Vec<Token>) -> Result<(), AllocError> {
+        put_num(out, *self)?;
+        Ok(())
+    }
+}
+
+/// `layout T <64> = ..;`
+fn put_layout(alloc: Global, out: &mut Vec<Token>, tree: &LayoutTree) -> Result<(), AllocError>
+    ensures { OnOk result (Wrote (layout_written tree.now) out.old.items out.new.items) }
+{
+    put_symbol(out, Symbol::Semicolon)?;
+    put_split(alloc, out, &tree.tree)?;
+    put_symbol(out, Symbol::Equals)?;
+    put_symbol(out, Symbol::Greater)?;
+    put_list(alloc, out, Symbol::Comma, tree.shape.as_slice())?;
+    put_symbol(out, Symbol::Less)?;
+    put_upper(alloc, out, &tree.ty)?;
+    put_word(out, Word::Layout)?;
+    Ok(())
+}
+
+impl Spell for ParamTree {
+    ghost writing = { param_written };
+
+    fn put(&self, alloc: Global, out: &mut Vec<Token>) -> Result<(), AllocError> {
+        put_ty(alloc, out, &self.ty)?;
+        put_symbol(out, Symbol::Colon)?;
+        put_lower(alloc, out, &self.var)?;
+        Ok(())
+    }
+}
+
+/// `fun f(x: T): U = e;`
+fn put_fun(alloc: Global, out: &mut Vec<Token>, tree: &FunTree) -> Result<(), AllocError>
+    ensures { OnOk result (Wrote (fun_written tree.now) out.old.items out.new.items) }
+{
+    put_symbol(out, Symbol::Semicolon)?;
+    put_expr(alloc, out, &tree.body)?;
+    put_symbol(out, Symbol::Equals)?;
+    put_ty(alloc, out, &tree.result)?;
+    put_symbol(out, Symbol::Colon)?;
+    put_symbol(out, Symbol::CloseParen)?;
+    put_list(alloc, out, Symbol::Comma, tree.params.as_slice())?;
+    put_symbol(out, Symbol::OpenParen)?;
+    put_lower(alloc, out, &tree.name)?;
+    put_word(out, Word::Fun)?;
+    Ok(())
+}
+
+/// The word of a derived layout.
+fn word_of_auto(auto: Auto) -> Word
+    ensures { result ≡ auto_word auto }
+{
+    match auto {
+        Auto::Boxed => Word::Boxed,
+        Auto::Packed => Word::Packed,
+    }
+}
+
+/// `layout T = boxed;`
+fn put_derived(
+    alloc: Global,
+    out: &mut Vec<Token>,
+    name: &NameTree,
+    auto: Auto,
+) -> Result<(), AllocError>
+    ensures { OnOk result (Wrote (λ rest. spelling.reserved word.Layout ∷ upper_written name.now (spelling.sym symbol.Equals
+        ∷ spelling.reserved (auto_word auto) ∷ spelling.sym symbol.Semicolon ∷ rest)) out.old.items out.new.items) }
+{
+    put_symbol(out, Symbol::Semicolon)?;
+    put_word(out, word_of_auto(auto))?;
+    put_symbol(out, Symbol::Equals)?;
+    put_upper(alloc, out, name)?;
+    put_word(out, Word::Layout)?;
+    Ok(())
+}
+
+impl Spell for ItemTree {
+    ghost writing = { item_written };
+
+    fn put(&self, alloc: Global, out: &mut Vec<Token>) -> Result<(), AllocError> {
+        match self {
+            ItemTree::Types(tree) => put_type(alloc, out, tree),
+            ItemTree::Layouts(tree) => put_layout(alloc, out, tree),
+            ItemTree::Funs(tree) => put_fun(alloc, out, tree),
+            ItemTree::Derived(name, auto) => put_derived(alloc, out, name, *auto),
+        }
+    }
+}
+
+/// The tokens of a file's tree. A part for which the grammar has no form has no token.
+pub fn spell_file(alloc: Global, tree: &FileTree) -> Result<Vec<Token>, AllocError>
+    ensures { IfOk result (λ tokens. tokens.items ≡ spell tree.now) }
+{
+    let mut tokens = Vec::new(alloc);
+    put_each(alloc, &mut tokens, tree.items.as_slice())?;
+    tokens.reverse();
+    Ok(tokens)
+}
