@@ -1,10 +1,9 @@
 -- What is read is what stands in the text: its longest pieces, one after the other.
-use Rattle.std.proofs.Common.{◌≡◌, ◌≢◌, ℕ, zero, suc, ◌+◌, ◌-◌, ◌<◌, ◌≤◌, ◌^◌, List, [], ◌∷◌, ◌++◌, length, take, drop, codes, take_while, nat_eq, nat_lt, Bool, true, false, ◌==◌, if◌then◌else◌, Option, Some, None, Result, Ok, Err, refl, sym, ◌∙◌, ap, subst, arith, length-drop, eqb-true}
+use Rattle.std.proofs.Common.{◌≡◌, ℕ, zero, suc, ◌+◌, ◌<◌, ◌≤◌, ◌^◌, List, [], ◌∷◌, length, take, drop, codes, take_while, nat_eq, nat_lt, Bool, true, false, ◌==◌, if◌then◌else◌, Option, Some, None, Ok, Err, refl, sym, ◌∙◌, ap, subst, arith, length-drop, eqb-true}
 use Rattle.std.specs.Char.{is_ascii_digit, is_ascii_alphabetic}
 use Rattle.std.specs.List.{list_all, prefix_len, starts_with}
 use Rattle.std.proofs.lemmas.Bool.{eqb-false, ltb-true, ltb-false}
 use Rattle.std.proofs.lemmas.List.Folds.{length-prefix_len}
-use Rattle.std.proofs.lemmas.List.Sums.{prefix_len-le-length}
 use Rattle.rb_syntax.specs.declared.token.Symbol.{Symbol}
 use Rattle.rb_syntax.specs.declared.token.Symbol.TheVariants.{Underscore}
 use Rattle.rb_syntax.specs.declared.token.Token.{Token}
@@ -12,18 +11,17 @@ use Rattle.rb_syntax.specs.declared.token.Token.TheVariants as tok
 use Rattle.rb_syntax.specs.declared.token.Placed.{Placed}
 use Rattle.rb_syntax.specs.declared.piece.Piece.{Piece}
 use Rattle.rb_syntax.specs.declared.piece.Piece.TheVariants as piece
-use Rattle.rb_syntax.specs.declared.lex.LexFault.{LexFault}
 use Rattle.rb_syntax.specs.declared.lex.LexFault.TheVariants.{BadByte, NumberTooWide, Memory}
-use Rattle.rb_syntax.specs.Bytes.{is_blank, is_word_byte, is_in_line, numeral_len, value_of}
-use Rattle.rb_syntax.specs.Words.{symbol_text, symbol_at}
+use Rattle.rb_syntax.specs.Bytes.{is_blank, is_word_byte, numeral_len, value_of}
+use Rattle.rb_syntax.specs.Words.{symbol_at}
 use Rattle.rb_syntax.specs.Pieces.{name_token, number_piece, underscore_piece, run_piece, symbol_piece, first_piece, piece_at}
 use Rattle.rb_syntax.specs.Lexing.{Lexed, before, with_piece, lexed_from, lexed}
 use Rattle.rb_syntax.specs.Cutting.{IsGap, blank, IsPiece, IsLongest, IsNumeral, IsWritten, IsTokenRun, IsBadBehind, IsWideNumber, Cut, IsRight, no_piece, wrong_run}
 use Rattle.rb_syntax.specs.Cutting as cut
 use Rattle.rb_syntax.proofs.PieceLemmas.{run-cons, comment-within, numeral_len-le}
 use Rattle.rb_syntax.proofs.SymbolLemmas.{symbol-length}
-use Rattle.rb_syntax.proofs.LongestLemmas.{prefix-all, blank-longest, comment-longest, comment-gap, run-longest, run-some, symbol-is-longest, symbol-front, no-piece}
-use Rattle.rb_syntax.proofs.TokenLemmas.{none-empty, len-numeral, name_token-written, numeral-good, numeral_len-some, numeral-bad, underscore-bad, is-underscore}
+use Rattle.rb_syntax.proofs.LongestLemmas.{prefix-all, blank-longest, comment-longest, comment-gap, run-longest, symbol-is-longest, symbol-front, no-piece}
+use Rattle.rb_syntax.proofs.TokenLemmas.{none-empty, len-numeral, name_token-written, numeral-good, numeral-bad, underscore-bad, is-underscore}
 
 -- a piece is what stands at the front of these bytes
 abbrev IsFront : List ℕ → Piece → Type 0

@@ -1,12 +1,11 @@
 -- Which pieces are the longest where they stand.
-use Rattle.std.proofs.Common.{◌≡◌, ◌≢◌, ℕ, zero, suc, ◌+◌, ◌-◌, ◌<◌, ◌≤◌, List, [], ◌∷◌, ◌++◌, length, take, drop, codes, nat_eq, Bool, true, false, cond, not, ◌||◌, ◌&&◌, ◌==◌, nat_le, Option, Some, None, refl, sym, ◌∙◌, ap, subst, arith, length-take, leb-true, eqb-true, append_assoc, min}
+use Rattle.std.proofs.Common.{◌≡◌, ℕ, zero, suc, ◌+◌, ◌<◌, ◌≤◌, List, [], ◌∷◌, ◌++◌, length, take, drop, codes, nat_eq, Bool, true, false, cond, not, ◌||◌, ◌==◌, Some, None, refl, sym, ◌∙◌, ap, subst, arith, length-take, eqb-true, append_assoc}
 use Rattle.std.specs.List.{starts_with, list_all, prefix_len}
 use Rattle.std.proofs.lemmas.List.{take-append-drop}
 use Rattle.std.proofs.lemmas.List.Folds.{length-prefix_len}
 use Rattle.std.proofs.Math.Seq.{take-append_seam}
 use Rattle.std.proofs.lemmas.List.Sums.{prefix_len-le-length}
 use Rattle.rb_syntax.specs.declared.token.Symbol.{Symbol}
-use Rattle.rb_syntax.specs.declared.token.Symbol.TheVariants as symbol
 use Rattle.rb_syntax.specs.Bytes.{is_blank, is_word_byte, is_in_line}
 use Rattle.rb_syntax.specs.Words.{symbol_text, symbol_at, symbols}
 use Rattle.rb_syntax.specs.Cutting.{IsGap, blank, comment, IsPiece, IsLongest}

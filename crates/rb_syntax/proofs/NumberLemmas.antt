@@ -1,10 +1,9 @@
 -- The number that digits write.
-use Rattle.std.proofs.Common.{◌≡◌, ℕ, suc, ◌+◌, ◌-◌, ◌*◌, ◌<◌, ◌≤◌, ◌^◌, List, [], ◌∷◌, length, drop, map, get_or, Option, Some, None, nat_lt, if◌then◌else◌, Bool, true, false, refl, sym, ◌∙◌, ap, subst, arith, drop-cons, add-one}
+use Rattle.std.proofs.Common.{◌≡◌, ℕ, ◌+◌, ◌-◌, ◌*◌, ◌<◌, ◌≤◌, ◌^◌, List, length, drop, map, get_or, Some, None, nat_lt, if◌then◌else◌, Bool, true, false, refl, arith, drop-cons, add-one}
 use Rattle.std.proofs.lemmas.List.{drop_all}
 use Rattle.std.proofs.lemmas.Grind.{common_steps}
 use Rattle.std.proofs.lemmas.Int.Digits.{number_after_ge}
 use Rattle.std.specs.Int.Digits.{number_from_digits_after}
-use Rattle.rb_syntax.specs.Bytes.{value_of}
 
 -- the number that digits write behind n
 abbrev pub value_behind : ℕ → List ℕ → ℕ

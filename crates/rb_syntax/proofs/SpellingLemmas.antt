@@ -1,5 +1,5 @@
 -- Spelling, form by form: how a tree is written, from how its parts are.
-use Rattle.std.proofs.Common.{◌≡◌, ℕ, List, map, Option, Some, None, ap}
+use Rattle.std.proofs.Common.{◌≡◌, ℕ, List, map, Some, None, ap}
 use Rattle.rb_core.specs.declared.expression.Op.{Op}
 use Rattle.rb_syntax.specs.declared.tree.NameTree.{NameTree}
 use Rattle.rb_syntax.specs.declared.tree.TyTree.{TyTree}

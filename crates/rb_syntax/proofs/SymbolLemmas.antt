@@ -1,5 +1,5 @@
 -- Words and symbols by their bytes.
-use Rattle.std.proofs.Common.{◌≡◌, ◌≢◌, ℕ, zero, suc, ◌+◌, ◌-◌, ◌<◌, ◌≤◌, List, [], ◌∷◌, ◌++◌, length, take, drop, get_or, nat_eq, Bool, true, false, cond, not, ◌||◌, ◌&&◌, ◌==◌, nat_le, Option, Some, None, refl, sym, ◌∙◌, ap, arith, lit<, leb-true}
+use Rattle.std.proofs.Common.{◌≡◌, ℕ, zero, suc, ◌<◌, ◌≤◌, List, [], ◌∷◌, ◌++◌, length, drop, get_or, nat_eq, Bool, true, false, cond, not, ◌&&◌, nat_le, Some, None, refl, sym, ◌∙◌, ap, arith, lit<, leb-true}
 use Rattle.std.specs.Prelude.{find}
 use Rattle.std.specs.List.{starts_with, list_all}
 use Rattle.std.proofs.lemmas.Bool.Decides.{Decides-eqb}

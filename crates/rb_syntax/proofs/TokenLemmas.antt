@@ -1,19 +1,18 @@
 -- How the tokens of runs are written, and which byte of a run is bad.
-use Rattle.std.proofs.Common.{◌≡◌, ◌≢◌, ℕ, zero, suc, ◌+◌, ◌-◌, ◌<◌, ◌≤◌, ◌^◌, List, [], ◌∷◌, ◌++◌, length, take, drop, codes, nat_eq, nat_lt, Bool, true, false, cond, not, ◌||◌, ◌&&◌, ◌==◌, nat_le, if◌then◌else◌, Option, Some, None, refl, sym, ◌∙◌, ap, subst, arith, length-take, leb-true, eqb-true, min}
+use Rattle.std.proofs.Common.{◌≡◌, ℕ, suc, ◌+◌, ◌<◌, ◌≤◌, List, [], ◌∷◌, length, take, nat_eq, nat_lt, Bool, true, false, cond, ◌||◌, ◌&&◌, ◌==◌, nat_le, if◌then◌else◌, Option, Some, None, refl, sym, ◌∙◌, ap, subst, arith, leb-true, eqb-true}
 use Rattle.std.specs.Cmp.Lexicographic.{pointwise}
 use Rattle.std.specs.Char.{is_ascii_digit, is_ascii_uppercase, is_ascii_lowercase, is_ascii_alphabetic}
 use Rattle.std.specs.Int.{is_in_range}
 use Rattle.std.specs.List.{list_all, prefix_len}
 use Rattle.std.proofs.lemmas.Bool.Decides.{Decides-eqb}
 use Rattle.std.proofs.lemmas.Slice.Eq.{slice_eq-Decides}
-use Rattle.std.proofs.lemmas.Bool.{eqb-false, ltb-true, eq-eqb, le-leb, lt-ltb}
+use Rattle.std.proofs.lemmas.Bool.{ltb-true, eq-eqb, le-leb, lt-ltb}
 use Rattle.rb_syntax.specs.declared.token.Word.{Word}
-use Rattle.rb_syntax.specs.declared.token.Token.{Token}
 use Rattle.rb_syntax.specs.declared.token.Token.TheVariants as tok
 use Rattle.rb_syntax.specs.Bytes.{is_word_byte, numeral_len, value_of}
 use Rattle.rb_syntax.specs.Words.{word_text, word_of, words, width_of}
 use Rattle.rb_syntax.specs.Pieces.{width_or_name, word_or_name, name_token}
-use Rattle.rb_syntax.specs.Cutting.{Begins, IsNumeral, IsWidth, IsNotReserved, IsWritten, IsTokenRun, name, numeral, underscore}
+use Rattle.rb_syntax.specs.Cutting.{IsNumeral, IsWidth, IsNotReserved, IsWritten, IsTokenRun, name, numeral, underscore}
 use Rattle.rb_syntax.proofs.SymbolLemmas.{and-left, and-right, find-passes, word-found}
 use Rattle.rb_syntax.proofs.LongestLemmas.{prefix-all, all-prefix, length-front}
 

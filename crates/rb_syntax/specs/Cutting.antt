@@ -1,5 +1,5 @@
 -- A text is cut into its longest pieces; the tokens among them are its tokens.
-use Rattle.std.specs.Prelude.{◌≡◌, ◌≢◌, ℕ, suc, ◌+◌, ◌<◌, ◌≤◌, ◌^◌, List, [], ◌∷◌, length, take, drop, codes, nat_eq, Bool, true, Result, Ok, Err}
+use Rattle.std.specs.Prelude.{◌≡◌, ◌≢◌, ℕ, suc, ◌+◌, ◌<◌, ◌≤◌, ◌^◌, List, [], ◌∷◌, length, take, drop, codes, nat_eq, Bool, true, Ok, Err}
 use Rattle.std.specs.Char.{is_ascii_digit, is_ascii_uppercase, is_ascii_lowercase, is_ascii_alphabetic}
 use Rattle.std.specs.List.{list_all, starts_with}
 use Rattle.rb_syntax.specs.declared.token.Word.{Word}

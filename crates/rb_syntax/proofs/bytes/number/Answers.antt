@@ -1,4 +1,4 @@
-use Rattle.std.proofs.Common.{◌≡◌, ℕ, ◌≤◌, ◌<◌, ◌^◌, ◌+◌, ◌*◌, ◌-◌, drop, get_or, length, arith, refl, sym, ◌∙◌}
+use Rattle.std.proofs.Common.{◌≡◌, ◌≤◌, ◌^◌, ◌+◌, ◌*◌, ◌-◌, drop, get_or, arith, sym, ◌∙◌}
 use Rattle.rb_syntax.specs.Bytes.{value_of}
 use Rattle.rb_syntax.proofs.NumberLemmas.{value_behind, value_behind-grows, value_behind-next, value_behind-end, not_lt, too_wide, fits}
 use Rattle.rb_syntax.proofs.bytes.number.Goals as goal

@@ -1,9 +1,8 @@
-use Rattle.std.proofs.Common.{◌≡◌, ◌≢◌, ℕ, suc, ◌+◌, ◌-◌, ◌<◌, ◌≤◌, ◌∷◌, ◌++◌, [], length, drop, take, get_or, refl, sym, ◌∙◌, ap, arith, Ok, length-drop}
-use Rattle.std.proofs.lemmas.Grind.{common_steps}
+use Rattle.std.proofs.Common.{◌≡◌, ◌-◌, ◌<◌, ◌≤◌, length, drop, sym, ◌∙◌, ap, arith, length-drop}
 use Rattle.rb_syntax.specs.declared.piece.Piece.TheVariants as piece
-use Rattle.rb_syntax.specs.Lexing.{lexed, lexed_from}
+use Rattle.rb_syntax.specs.Lexing.{lexed_from}
 use Rattle.rb_syntax.specs.Pieces.{piece_at}
-use Rattle.rb_syntax.proofs.LexLemmas.{in_front, rest_after, in_front-nil, at_end, turn-gap, turn-token, turn-bad, turn-wide}
+use Rattle.rb_syntax.proofs.LexLemmas.{rest_after, in_front-nil, at_end, turn-gap, turn-token, turn-bad, turn-wide}
 use Rattle.rb_syntax.proofs.lex.tokens_of.Goals as goal
 use Rattle.rb_syntax.proofs.lex.tokens_of.Goals.{in-Gap, in-Token+in_ok-push-in-Token}
 

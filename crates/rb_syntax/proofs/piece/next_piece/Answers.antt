@@ -1,4 +1,4 @@
-use Rattle.std.proofs.Common.{◌≡◌, length, subst, sym}
+use Rattle.std.proofs.Common.{length, subst, sym}
 use Rattle.std.proofs.lemmas.Result.{IfOk-weaker}
 use Rattle.rb_syntax.specs.Lexing.{IsWithin}
 use Rattle.rb_syntax.proofs.PieceLemmas.{piece_at-within}

@@ -1,4 +1,4 @@
-use Rattle.std.proofs.Common.{ℕ, ◌≡◌, ◌∷◌, List, map, drop, arith}
+use Rattle.std.proofs.Common.{◌≡◌, ◌∷◌, map, drop, arith}
 use Rattle.rb_syntax.specs.declared.token.Symbol.TheVariants as symbol
 use Rattle.rb_syntax.specs.declared.token.Word.TheVariants as word
 use Rattle.rb_syntax.specs.Written.{token, each_behind, any_with}

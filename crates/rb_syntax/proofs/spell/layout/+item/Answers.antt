@@ -1,4 +1,4 @@
-use Rattle.std.proofs.Common.{ℕ, ◌≡◌, ◌∷◌, List, map, drop, arith}
+use Rattle.std.proofs.Common.{◌≡◌, ◌∷◌, map, drop, arith}
 use Rattle.rb_syntax.specs.declared.token.Symbol.TheVariants as symbol
 use Rattle.rb_syntax.specs.Written.{each_behind, any_with}
 use Rattle.rb_syntax.specs.Spelling.{lay_item_written, part_written, at_level, comma, num, sym}

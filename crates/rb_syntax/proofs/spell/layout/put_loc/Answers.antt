@@ -1,4 +1,4 @@
-use Rattle.std.proofs.Common.{◌∷◌, map}
+use Rattle.std.proofs.Common.{map}
 use Rattle.rb_syntax.specs.Written.{each}
 use Rattle.rb_syntax.specs.Spelling.{range_written, loc_step_written}
 use Rattle.rb_syntax.proofs.spell.layout.put_loc.Goals as goal

@@ -1,4 +1,4 @@
-use Rattle.std.proofs.Common.{rules, ℕ, ◌≡◌, ◌∷◌, List, map, drop, arith, refl}
+use Rattle.std.proofs.Common.{◌≡◌, ◌∷◌, map, drop, arith}
 use Rattle.rb_syntax.specs.declared.token.Symbol.TheVariants as symbol
 use Rattle.rb_syntax.specs.Written.{each_behind}
 use Rattle.rb_syntax.specs.Spelling.{pat_written, at_level, comma, sym}

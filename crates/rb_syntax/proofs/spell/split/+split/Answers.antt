@@ -1,4 +1,4 @@
-use Rattle.std.proofs.Common.{◌≡◌, ◌∷◌, ◌∙◌, ℕ, suc, List, map, drop, arith, ap}
+use Rattle.std.proofs.Common.{◌≡◌, ◌∷◌, ◌∙◌, suc, map, drop, arith, ap}
 use Rattle.rb_syntax.specs.declared.token.Symbol.TheVariants as symbol
 use Rattle.rb_syntax.specs.declared.tree.SplitTree.{SplitTree}
 use Rattle.rb_syntax.specs.declared.tree.SplitTree.TheOpen as split
