@@ -6,6 +6,8 @@ pub mod lex;
 pub mod piece;
 pub mod spell;
 #[cfg(test)]
+mod spell_tests;
+#[cfg(test)]
 mod tests;
 pub mod token;
 pub mod tree;

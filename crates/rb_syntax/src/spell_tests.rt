@@ -1,0 +1,179 @@
+//! Trees are spelled as the texts that they were written for.
+
+use crate::lex::lex;
+use crate::spell::spell_file;
+use crate::token::Token;
+use crate::tree::{
+    ArmTree, Auto, ConTree, ExprTree, FileTree, FunTree, ItemTree, LayItem, LayoutTree, Loc,
+    NameTree, Op, ParamTree, PartDecl, PartKind, PatTree, SplitTree, Step, TyTree, TypeTree,
+};
+use rb_core::boxed::Boxed;
+use rb_core::seq::Seq;
+use std::alloc::{AllocError, Global};
+use std::test::Fail;
+
+fn name(alloc: Global, at: u32, text: &[u8]) -> Result<NameTree, AllocError> {
+    Ok(NameTree {
+        at,
+        text: Seq::from_vec(Vec::from_slice(alloc, text)?),
+    })
+}
+
+fn one<T: Drop>(alloc: Global, item: T) -> Result<Seq<T>, AllocError> {
+    let mut items = Seq::new(alloc);
+    items.push(item)?;
+    Ok(items)
+}
+
+fn is_same(a: &Token, b: &Token) -> bool {
+    match (a, b) {
+        (Token::Upper(x), Token::Upper(y)) => x.as_slice() == y.as_slice(),
+        (Token::Lower(x), Token::Lower(y)) => x.as_slice() == y.as_slice(),
+        (Token::Num(m), Token::Num(n)) => m == n,
+        (Token::Reserved(v), Token::Reserved(w)) => v == w,
+        (Token::Uint(m), Token::Uint(n)) => m == n,
+        (Token::Symbol(s), Token::Symbol(t)) => s == t,
+        _ => false,
+    }
+}
+
+/// Whether the tree has the tokens of the text.
+fn is_spelled(alloc: Global, tree: &FileTree, text: &[u8]) -> Result<bool, Fail> {
+    let tokens = spell_file(alloc, tree)?;
+    let placed = lex(alloc, text)?;
+    Ok(
+        tokens.len() == placed.len()
+            && tokens
+                .iter()
+                .zip(placed.iter())
+                .all(|(token, placed)| is_same(token, &placed.token)),
+    )
+}
+
+fn param(alloc: Global, at: u32, text: &[u8]) -> Result<ParamTree, AllocError> {
+    Ok(ParamTree {
+        at,
+        var: name(alloc, at, text)?,
+        ty: TyTree::Int(8),
+    })
+}
+
+#[test]
+fn a_function(rt: HostRuntime) -> Result<(), Fail> {
+    let alloc = rt.alloc();
+    let product = ExprTree::Binary(
+        18,
+        Op::Mul,
+        Boxed::new(alloc, ExprTree::Var(20, name(alloc, 20, b"y")?))?,
+        Boxed::new(alloc, ExprTree::Num(22, 3))?,
+    );
+    let body = ExprTree::Binary(
+        14,
+        Op::Add,
+        Boxed::new(alloc, ExprTree::Var(16, name(alloc, 16, b"x")?))?,
+        Boxed::new(alloc, product)?,
+    );
+    let mut params = one(alloc, param(alloc, 3, b"x")?)?;
+    params.push(param(alloc, 7, b"y")?)?;
+    let fun = FunTree {
+        name: name(alloc, 1, b"main")?,
+        params,
+        result: TyTree::Int(8),
+        body,
+    };
+    let file = FileTree {
+        items: one(alloc, ItemTree::Funs(fun))?,
+    };
+    assert_eq!(rt; spell_file(alloc, &file)?.len(), 26);
+    assert!(rt;
+        is_spelled(
+            alloc,
+            &file,
+            b"fun main(x: u8, y: u8): u8 = add(x, mul(y, 3));"
+        )?
+    );
+    Ok(())
+}
+
+fn path(alloc: Global, fields: &[u32]) -> Result<Seq<u32>, AllocError> {
+    Ok(Seq::from_vec(Vec::from_slice(alloc, fields)?))
+}
+
+/// A word with a part of each kind.
+fn word(alloc: Global) -> Result<LayItem, AllocError> {
+    let kinds = [
+        (0, 7, PartKind::Const(9)),
+        (7, 1, PartKind::Slice(path(alloc, &[3])?, 10, 1)),
+        (8, 4, PartKind::Whole(path(alloc, &[0, 1])?)),
+        (12, 3, PartKind::Word(path(alloc, &[2])?, 1)),
+        (
+            15,
+            5,
+            PartKind::Pointer(4, one(alloc, LayItem::Inline(path(alloc, &[1])?))?),
+        ),
+    ];
+    let mut parts = Seq::new(alloc);
+    for (o, l, kind) in Vec::from_array(alloc, kinds)? {
+        parts.push(PartDecl { o, l, kind })?;
+    }
+    Ok(LayItem::Word(32, parts))
+}
+
+fn layout(alloc: Global) -> Result<LayoutTree, AllocError> {
+    let step = Step {
+        align: 4,
+        byte: 0,
+        width: 8,
+        o: 0,
+        l: 8,
+    };
+    let loc = Loc {
+        word: 0,
+        o: 0,
+        l: 32,
+        steps: one(alloc, step)?,
+    };
+    let wild = one(alloc, PatTree::Wild(0))?;
+    let first = PatTree::Con(0, name(alloc, 0, b"A")?, wild);
+    let arm = ArmTree {
+        literal: 0,
+        under: SplitTree::Leaf(0, first, one(alloc, word(alloc)?)?),
+    };
+    let second = PatTree::Con(0, name(alloc, 0, b"B")?, Seq::new(alloc));
+    let empty = one(alloc, LayItem::Word(8, Seq::new(alloc)))?;
+    let other = Boxed::new(alloc, SplitTree::Leaf(0, second, empty))?;
+    Ok(LayoutTree {
+        at: 0,
+        ty: name(alloc, 0, b"T")?,
+        shape: one(alloc, 32)?,
+        tree: SplitTree::Split(loc, one(alloc, arm)?, Some(other)),
+    })
+}
+
+#[test]
+fn types_and_layouts(rt: HostRuntime) -> Result<(), Fail> {
+    let alloc = rt.alloc();
+    let mut fields = one(alloc, TyTree::Named(name(alloc, 0, b"T")?))?;
+    fields.push(TyTree::Int(64))?;
+    let con = ConTree {
+        name: name(alloc, 0, b"A")?,
+        fields,
+    };
+    let mut cons = one(alloc, con)?;
+    cons.push(ConTree {
+        name: name(alloc, 0, b"B")?,
+        fields: Seq::new(alloc),
+    })?;
+    let declared = TypeTree {
+        name: name(alloc, 0, b"T")?,
+        cons,
+    };
+    let mut items = one(alloc, ItemTree::Types(declared))?;
+    items.push(ItemTree::Layouts(layout(alloc)?))?;
+    items.push(ItemTree::Derived(name(alloc, 0, b"T")?, Auto::Packed))?;
+    let file = FileTree { items };
+    let text =
+        b"type T = A(T, u64) | B; layout T <32> = split 0[0:32] -> 4 @0:8[0:8] { 0 => A(_) : { word 32 { [0:7] = 9, [7:1] .3[10:1], [8:4] .0.1, [12:3] .2 word 1, [15:5] -> 4 { inline .1 } } } else => B : { word 8 { } } }; layout T = packed;";
+    assert!(rt; is_spelled(alloc, &file, text)?);
+    Ok(())
+}
