@@ -16,6 +16,7 @@ pub mod MatchingLemmas
 pub mod MeaningForms
 pub mod MoreCalls
 pub mod PatternLaws
+pub mod TypeLaws
 pub mod TypingExamples
 pub mod TypingLemmas
 pub mod ValueLaws

@@ -23,6 +23,9 @@ use crate::typing::Binder;
 use crate::value::Value;
 use std::alloc::{AllocError, Global};
 
+#[cfg(test)]
+mod tests;
+
 /// What a call of a function does, with so many calls left. It stands for tests: it nests as deep as
 /// the program's calls and expressions do.
 pub fn eval(
@@ -35,15 +38,20 @@ pub fn eval(
     requires { calls ≤ 1000 }
     ensures { IfOk result (λ outcome. outcome ≡ call_of typed.now fun calls args) }
 {
+    eval_program(alloc, typed.program(), fun, args.as_slice(), calls)
+}
+
+fn eval_program(
+    alloc: Global,
+    program: &Program,
+    fun: u32,
+    args: &[Value],
+    calls: u64,
+) -> Result<Outcome, AllocError>
+    ensures { IfOk result (λ outcome. outcome ≡ call_of program.now fun calls args.now) }
+{
     let mut log = Seq::new(alloc);
-    let end = eval_call(
-        alloc,
-        typed.program(),
-        fun,
-        args.as_slice(),
-        calls,
-        &mut log,
-    )?;
+    let end = eval_call(alloc, program, fun, args, calls, &mut log)?;
     Ok(Outcome { log, end })
 }
 

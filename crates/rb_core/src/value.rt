@@ -93,3 +93,6 @@ impl Value {
         None
     }
 }
+
+#[cfg(test)]
+mod tests;
