@@ -1,5 +1,5 @@
 -- Values: the equations of folds, and a plain induction, which serves as case analysis too.
-use Rattle.std.proofs.Common.{◌≡◌, ℕ, ◌+◌, List, [], ◌∷◌, ap, map, sum, subst}
+use Rattle.std.proofs.Common.{◌≡◌, ℕ, Bool, ◌+◌, List, [], ◌∷◌, ap, map, sum, subst}
 use denote.Hole.Holds.{Such}
 use Rattle.rb_core.specs.declared.value.Value.{Value, Num, Con, roll-Value}
 use Rattle.rb_core.specs.declared.value.Value as X
@@ -8,7 +8,9 @@ use Rattle.rb_core.specs.declared.value.Value.TheBlock as Block
 use Rattle.rb_core.specs.declared.value.Value.TheFolds.{fold-Value, fold-roll-Value, ind-Value, claims}
 use Rattle.rb_core.specs.declared.value.Value.TheOpen as Layer
 use Rattle.rb_core.specs.declared.value.Value.TheOpen.{Value-F}
-use Rattle.rb_core.specs.Values.{subs, subs_in, node_count, nodes_step}
+use Rattle.rb_core.specs.declared.types.Ty.{Ty}
+use Rattle.rb_core.specs.declared.types.DataDecl.{DataDecl}
+use Rattle.rb_core.specs.Values.{subs, subs_in, node_count, nodes_step, is_of_type, of_type_step}
 
 pub subs-Num : (n : ℕ) → subs (Num n) ≡ []
 subs-Num n = ap subs_in (outs-Num n)
@@ -29,6 +31,15 @@ node_count-Num n = fold-Num ℕ nodes_step n
 
 pub node_count-Con : (k : ℕ) (vs : List Value) → node_count (Con k vs) ≡ 1 + sum (map node_count vs)
 node_count-Con k vs = fold-Con ℕ nodes_step k vs
+
+module _ (types : List DataDecl) where
+  pub is_of_type-Num : (n : ℕ) (t : Ty) → is_of_type types (Num n) t ≡ of_type_step types (Layer.Num n) t
+  is_of_type-Num n t = ap (λ (r : Ty → Bool). r t) (fold-Num (Ty → Bool) (of_type_step types) n)
+
+  pub is_of_type-Con : (k : ℕ) (vs : List Value) (t : Ty) → is_of_type types (Con k vs) t ≡ of_type_step types (Layer.Con k (map (is_of_type types) vs)) t
+  is_of_type-Con k vs t = ap (λ (r : Ty → Bool). r t) (fold-Con (Ty → Bool) (of_type_step types) k vs)
+
+pub ruleset value_rules = (subs-Num, subs-Con, node_count-Num, node_count-Con, is_of_type-Num, is_of_type-Con, outs-Num, outs-Con)
 
 -- of each value of a list
 abbrev pub Each : (Value → Type 0) → List Value → Type 0

@@ -1,6 +1,5 @@
-//! Laws of types, of matching and of the source meaning, each the contract of a function that does nothing.
+//! Laws of matching and of the source meaning, each the contract of a function that does nothing.
 
-ghost use Rattle.rb_core.specs.InferenceLaws.{TypedIsInferred, TypedPatternBinds};
 ghost use Rattle.rb_core.specs.Matching.{ChosenIsLeast};
 ghost use Rattle.rb_core.specs.MeaningLaws.{CallsRunBodies, MoreCallsGoOn};
 
@@ -17,11 +16,4 @@ pub fn chosen_is_least()
 /// More calls left go on where fewer end.
 pub fn more_calls_go_on()
     ensures { MoreCallsGoOn }
-{}
-
-/// Where typing finds no fault, it gives the type that is read off an expression's form, and binds a
-/// pattern's variables at the types that are read off the pattern's.
-pub fn typed_is_inferred()
-    ensures expressions { TypedIsInferred }
-    ensures patterns { TypedPatternBinds }
 {}
