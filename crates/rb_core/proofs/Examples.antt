@@ -1,5 +1,5 @@
 -- Values, matching and the source meaning at worked examples, each computed.
-use Rattle.std.proofs.Common.{◌≡◌, ℕ, List, [], ◌∷◌, refl, true, false, Some, None}
+use Rattle.std.proofs.Common.{◌≡◌, List, [], ◌∷◌, refl, true, false, Some}
 use Rattle.rb_core.specs.declared.value.Value.{Value, Num, Con}
 use Rattle.rb_core.specs.declared.types.Ty.TheVariants.{Int, Named}
 use Rattle.rb_core.specs.declared.types.DataDecl.{DataDecl}
