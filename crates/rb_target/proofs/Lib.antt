@@ -6,3 +6,6 @@ pub mod Written
 pub mod Examples
 pub mod Recursion
 pub mod Texts
+pub mod Gaps
+pub mod Decoding
+pub mod OneToOne

@@ -1,7 +1,8 @@
 //! Code as text.
 
-ghost use Rattle.std.specs.Prelude.{◌≡◌, ◌++◌, ◌∷◌, [], IfOk, length, drop, take};
-ghost use Rattle.rb_target.specs.Text.{words_of, spaced, word_text, line, instr_text, head_text, body_text, fun_text, code_text, numbers, pairs};
+ghost use Rattle.std.specs.Prelude.{◌≡◌, ◌++◌, ◌∷◌, [], IfOk, List};
+ghost use Rattle.rb_target.specs.Validity.{IsValid};
+ghost use Rattle.rb_target.specs.Text.{words_of, spaced, word_text, line, body_text, fun_text, code_text, numbers, pairs};
 
 use crate::code::{Code, CodeFun};
 use crate::instr::{Instr, SwitchArm};
@@ -167,9 +168,10 @@ fn push_fun(alloc: Global, text: &mut Vec<u8>, fun: &CodeFun) -> Result<(), Allo
 }
 
 /// The code text: for each function the line `fun NAME PARAMS RESULTS SLOTS`, its instructions, one a
-/// line, and the line `end`.
+/// line, and the line `end`. No other code has the same text.
 pub fn spell_code(alloc: Global, code: &Code) -> Result<Vec<u8>, AllocError>
-    ensures { IfOk result (λ v. v.items ≡ code_text code.now) }
+    ensures text { IfOk result (λ v. v.items ≡ code_text code.now) }
+    ensures one_to_one { (funs : List CodeFun) → IsValid funs → code_text funs ≡ code_text code.now → funs ≡ code.now }
 {
     let mut text = Vec::new(alloc);
     let funs = code.funs();
