@@ -1,7 +1,7 @@
 //! The machine: runs code over any memory, one turn an instruction, without recursion.
 #![tactic(auto)]
 
-pub mod alu;
+mod alu;
 mod calls;
 pub mod run;
 mod state;
