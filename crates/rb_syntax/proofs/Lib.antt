@@ -1,9 +1,12 @@
 mod CutLemmas
 mod Examples
+pub mod ExpressionInduction
+pub mod LayoutSpelling
 mod LexLemmas
 mod ListLemmas
 mod LongestLemmas
 mod NumberLemmas
+pub mod PatternInduction
 mod PieceLemmas
 pub mod SpellingLemmas
 mod SymbolLemmas
