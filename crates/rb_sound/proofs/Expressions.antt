@@ -38,8 +38,9 @@ use Rattle.rb_core.proofs.InferenceForms.{inferred-Match}
 use Rattle.rb_core.proofs.InferenceAgreement.{pattern_binders-are, wanted-is_found, inferred-is_found}
 use Rattle.rb_core.proofs.CoverageForms.{part, branch, sites-Clause, sites-Call, sites-Build, sites-Binary, sites-To, sites-Let, sites-Match}
 use Rattle.rb_core.proofs.MeaningForms.{clause_meaning-is, meaning-Num, meaning-Var, meaning-Call, meaning-Build, meaning-Binary, meaning-To, meaning-Let, meaning-Match}
-use Rattle.rb_sound.specs.Soundness.{AreOfTypes, EndsAs, all_true, is_whole}
-use Rattle.rb_sound.proofs.Forms.{ok-same, came, chosen, constructed, same_type-is, both, exhaustive-append, clause_whole, clause_whole-is, whole-Num, whole-Call, whole-Build, whole-Binary, whole-To, whole-Let, whole-Match}
+use Rattle.rb_sound.specs.Soundness.{AreOfTypes, EndsAs, all_true}
+use Rattle.rb_sound.proofs.Forms.{ok-same, came, chosen, constructed, same_type-is, both, and_true, exhaustive-append}
+use Rattle.rb_sound.proofs.Whole.{is_whole, clause_whole, clause_whole-is, whole-Num, whole-Call, whole-Build, whole-Binary, whole-To, whole-Let, whole-Match}
 use Rattle.rb_sound.proofs.Scopes.{IsOf, Agree, agree-append, variable_is, bound_agrees}
 
 -- Numbers
@@ -62,10 +63,6 @@ below_width n k =
 bit_fits : (b : Bool) → nat_lt (if b then 1 else 0) (2 ^ 1) ≡ true
 bit_fits true = refl
 bit_fits false = refl
-
-and_true : (a b : Bool) → a ≡ true → b ≡ true → (a && b) ≡ true
-and_true true b e e' = e'
-and_true false b e e' = cc
 
 module _ (types : List DataDecl) where
   number_is : (n : ℕ) (t : Ty) → holds t n ≡ true → IsOf types (Num n) t

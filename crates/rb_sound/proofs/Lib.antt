@@ -1,4 +1,5 @@
-pub mod Forms
-pub mod Scopes
 pub mod Expressions
+pub mod Forms
 pub mod Programs
+pub mod Scopes
+pub mod Whole

@@ -16,8 +16,9 @@ use Rattle.rb_core.specs.Coverage.{AreExhaustive, function_sites, sites_of}
 use Rattle.rb_core.specs.Meaning.{Calls, body_of, call_within}
 use Rattle.rb_core.proofs.ValueLaws.{is_of_type-Num}
 use Rattle.rb_core.proofs.InferenceAgreement.{wanted-is_found}
-use Rattle.rb_sound.specs.Soundness.{AreOfTypes, EndsAs, HasWholeBodies, TypedRunsEndTyped}
+use Rattle.rb_sound.specs.Soundness.{AreOfTypes, EndsAs, HasWords, TypedRunsEndTyped}
 use Rattle.rb_sound.proofs.Forms.{ok-same, came, exhaustive-append}
+use Rattle.rb_sound.proofs.Whole.{whole_bodies}
 use Rattle.rb_sound.proofs.Scopes.{arguments_agree}
 use Rattle.rb_sound.proofs.Expressions.{typed_sound}
 
@@ -49,7 +50,7 @@ covered_at p [] g f h is = cc
 covered_at p (k ∷ fs) zero f h is = let here : k ≡ f = cc in subst (λ x. AreExhaustive p.types (function_sites p.types p.funs x)) here (exhaustive-append p.types (function_sites p.types p.funs k) _ h).0
 covered_at p (k ∷ fs) (suc g) f h is = covered_at p fs g f (exhaustive-append p.types (function_sites p.types p.funs k) _ h).1 is
 
-module _ (p : Program) (typed : IsTyped p) (covered : AreExhaustive p.types (sites_of p)) (whole : HasWholeBodies p) where
+module _ (p : Program) (typed : IsTyped p) (covered : AreExhaustive p.types (sites_of p)) (words : HasWords p) where
   abbrev AreSound : Calls → Type 0
   AreSound calls = (g n : ℕ) (vs : List Value) → AreOfTypes p.types vs (param_types p.funs g) → EndsAs p.types (result_type p.funs g) (calls g n vs).end
 
@@ -64,7 +65,7 @@ module _ (p : Program) (typed : IsTyped p) (covered : AreExhaustive p.types (sit
   body_sound : (calls : Calls) → AreSound calls → (o : Option Fun) (g left : ℕ) (vs : List Value) → slice_get p.funs g ≡ o → AreOfTypes p.types vs (map (λ q. q.ty) (params_of o)) → EndsAs p.types (result_of o) (body_of p calls o g left vs).end
   body_sound calls sound None g left vs is h = is_of_type-Num p.types 0 (Int 64)
   body_sound calls sound (Some f) g left vs is h =
-      typed_sound p calls sound g f.body (Some f.result) (map binder_of f.params) left _ f.result (body_typed g f is) (whole g f is) (covered_at p p.funs g f covered is) (arguments_agree p.types f.params vs h)
+      typed_sound p calls sound g f.body (Some f.result) (map binder_of f.params) left _ f.result (body_typed g f is) (whole_bodies p typed.numbered words g f is) (covered_at p p.funs g f covered is) (arguments_agree p.types f.params vs h)
 
   within_sound : (k : ℕ) → AreSound (call_within p k)
   within_sound k g zero vs h = tt
@@ -72,4 +73,4 @@ module _ (p : Program) (typed : IsTyped p) (covered : AreExhaustive p.types (sit
   within_sound (suc k) g (suc n) vs h = body_sound (call_within p k) (within_sound k) (slice_get p.funs g) g n vs refl h
 
 pub typed_calls : TypedRunsEndTyped
-typed_calls p typed covered whole g n vs h = within_sound p typed covered whole n g n vs h
+typed_calls p typed covered words g n vs h = within_sound p typed covered words n g n vs h
