@@ -59,4 +59,11 @@ impl Words {
             Some(word) => Some(word.as_slice()),
         }
     }
+
+    /// The words, in order.
+    pub fn as_slice(&self) -> &[Name]
+        ensures { result.now ≡ self.now }
+    {
+        self.words.as_slice()
+    }
 }

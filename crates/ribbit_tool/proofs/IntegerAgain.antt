@@ -1,5 +1,5 @@
 -- An integer function that is spelled is read.
-use Rattle.std.proofs.Common.{◌≡◌, ℕ, zero, suc, ◌+◌, ◌-◌, ◌<◌, ◌≤◌, List, [], ◌∷◌, ◌++◌, map, length, drop, Bool, true, false, if◌then◌else◌, Option, Some, None, refl, sym, ◌∙◌, ap, subst, arith}
+use Rattle.std.proofs.Common.{◌≡◌, ℕ, zero, suc, ◌+◌, ◌-◌, ◌<◌, ◌≤◌, List, [], ◌∷◌, map, length, Bool, true, false, if◌then◌else◌, Option, Some, None, refl, sym, ◌∙◌, ap, subst, arith}
 use Rattle.rb_core.specs.declared.expression.Op.{Op}
 use Rattle.rb_core.specs.declared.expression.Op.TheVariants as op
 use Rattle.rb_core.specs.declared.expression.Expr.{Expr}
@@ -8,7 +8,6 @@ use Rattle.rb_core.specs.declared.program.Param.{Param}
 use Rattle.rb_core.specs.declared.program.Fun.{Fun}
 use Rattle.rb_syntax.specs.declared.token.Token.{Token}
 use Rattle.rb_syntax.specs.declared.token.Token.TheVariants as tok
-use Rattle.rb_syntax.specs.declared.token.Word.TheVariants as word
 use Rattle.rb_syntax.specs.declared.token.Symbol.TheVariants as symbol
 use Rattle.rb_syntax.specs.declared.tree.NameTree.{NameTree}
 use Rattle.rb_syntax.specs.declared.tree.TyTree.{TyTree}
@@ -21,12 +20,12 @@ use Rattle.rb_syntax.specs.declared.tree.ExprTree as X
 use Rattle.rb_syntax.specs.declared.tree.ExprTree.TheOpen as expr
 use Rattle.rb_syntax.specs.declared.tree.ExprTree.TheOpen.{ExprTree-F}
 use Rattle.rb_syntax.specs.declared.tree.ExprTree.TheFolds.{fold-roll-ExprTree}
-use Rattle.rb_syntax.specs.Written.{Written, token, number, node, tokens_in, AreNumbered, AreWithin, HaveNoFlaw, checked, each_behind, any_with}
+use Rattle.rb_syntax.specs.Written.{Written, token, tokens_in, AreNumbered, AreWithin, HaveNoFlaw, checked, each_behind, any_with}
 use Rattle.rb_syntax.specs.Spelling.{comma, is_width, op_word, expr_step, expr_written, ty_written, param_written, fun_written}
 use Rattle.rb_syntax.proofs.SpellingLemmas.{expr-Num, expr-Var, expr-Call, expr-Build, expr-Binary, expr-To, expr-Let, expr-Match}
 use Rattle.ribbit_tool.specs.declared.integer.reading.Form.TheVariants as form
 use Rattle.ribbit_tool.specs.IntegerFunctions.{◌>>=◌, Names, number_of, names_of, numbered_step, no_clause, numbered_expression, numbered_ty, numbered_param, numbered_params, is_main, numbered_function}
-use Rattle.ribbit_tool.specs.IntegerReading.{Reading, begins_with, expect, fun_word, lower, uint, form_of, operation, conversion, from_form, from_token, one, expression, param, with_all, behind_param, some_params, params, ended, function}
+use Rattle.ribbit_tool.specs.IntegerReading.{expect, fun_word, lower, uint, form_of, operation, conversion, from_form, from_token, one, expression, param, behind_param, some_params, params, ended, function}
 
 -- an expression form by form
 by_form : (P : ExprTree → Type 0) → ((at n : ℕ) → P (X.Num at n)) → ((at : ℕ) (x : NameTree) → P (X.Var at x))

@@ -1,9 +1,8 @@
 -- The program of an integer function is well numbered.
-use Rattle.std.proofs.Common.{◌≡◌, ℕ, suc, ◌+◌, ◌≤◌, List, [], ◌∷◌, ◌++◌, map, length, Bool, true, false, ◌||◌, ◌&&◌, nat_eq, nat_le, if◌then◌else◌, Option, Some, None, codes, refl, sym, ◌∙◌, ap, arith}
+use Rattle.std.proofs.Common.{◌≡◌, ℕ, suc, ◌≤◌, List, [], ◌∷◌, map, length, Bool, true, false, ◌||◌, ◌&&◌, nat_eq, nat_le, Some, codes, refl, sym, ◌∙◌, ap, arith}
 use Rattle.std.specs.List.{list_any, list_all}
 use Rattle.std.specs.Str.{bytes_eq}
 use Rattle.std.proofs.lemmas.Grind.{common_steps}
-use Rattle.std.proofs.lemmas.Bool.{eqb-true}
 use Rattle.std.proofs.lemmas.Slice.Eq.{bytes_eq-Decides}
 use Rattle.std.proofs.lemmas.Option.{same_Some}
 use Rattle.rb_core.specs.declared.types.Ty.{Ty}
@@ -132,3 +131,11 @@ module _ (f : FunTree) (ps : List Param) (t : Ty) (body : Expr) (m : is_main f �
 
 pub main-few : (f : FunTree) → is_main f ≡ true → length f.params ≤ 32
 main-few f e = let k = (both (bytes_eq f.name.text (codes "main")) (nat_le (length f.params) 32) e).1 in grind (arith, common_steps)
+
+-- a well numbered function has at most 32 parameters
+pub few_params : (f : Fun) → IsWellNumbered (program_of f) → length f.params ≤ 32
+few_params f w =
+    let whole = (both (function_is_numbered [] (f ∷ []) f) true w.functions).0 in
+    let behind = (both (is_lower f.name) _ whole).1 in
+    let few = (both (nat_le (length f.params) 32) _ behind).0 in
+    grind (arith, common_steps, few)

@@ -1,5 +1,5 @@
 -- One turn of the loop over parameters.
-use Rattle.std.proofs.Common.{◌≡◌, ℕ, suc, ◌+◌, ◌-◌, List, [], ◌∷◌, ◌++◌, ◌<◌, length, take, drop, true, false, Option, Some, None, refl, sym, ◌∙◌, ap, arith, append_assoc}
+use Rattle.std.proofs.Common.{◌≡◌, ℕ, suc, ◌+◌, ◌-◌, List, [], ◌∷◌, ◌++◌, ◌<◌, length, take, drop, true, false, Some, None, refl, sym, ◌∙◌, ap, arith, append_assoc}
 use Rattle.std.proofs.Math.Seq.{take-length}
 use Rattle.rb_syntax.specs.declared.token.Placed.{Placed}
 use Rattle.rb_syntax.specs.declared.token.Token.{Token}

@@ -1,14 +1,11 @@
 -- The parameters of an integer function: their names' numbers, and what the program of one has.
-use Rattle.std.proofs.Common.{◌≡◌, ℕ, suc, ◌+◌, ◌≤◌, List, [], ◌∷◌, ◌++◌, map, length, Bool, true, false, ◌||◌, ◌&&◌, nat_eq, if◌then◌else◌, Option, Some, None, codes, refl, sym, ◌∙◌, ap, arith, length-append}
-use Rattle.std.specs.List.{list_any, list_all}
+use Rattle.std.proofs.Common.{◌≡◌, ℕ, suc, ◌+◌, ◌≤◌, List, [], ◌∷◌, ◌++◌, length, Bool, true, false, ◌||◌, if◌then◌else◌, Some, refl, sym, ◌∙◌, arith, length-append}
+use Rattle.std.specs.List.{list_any}
 use Rattle.std.specs.Str.{bytes_eq}
-use Rattle.std.proofs.lemmas.Grind.{common_steps}
 use Rattle.std.proofs.lemmas.List.Folds.{list_any-append, list_any_at}
 use Rattle.std.proofs.lemmas.List.Quantifiers.{position-Some}
-use Rattle.rb_core.specs.declared.types.Ty.{Ty}
-use Rattle.rb_core.specs.declared.program.Param.{Param}
 use Rattle.rb_syntax.specs.declared.tree.ParamTree.{ParamTree}
-use Rattle.ribbit_tool.specs.IntegerFunctions.{◌>>=◌, Names, with_name, more_names, names_of, number_of, numbered_param, numbered_params}
+use Rattle.ribbit_tool.specs.IntegerFunctions.{Names, with_name, more_names, names_of, number_of}
 
 with_name-length : (names : Names) (name : List ℕ) → length (with_name names name) ≤ suc (length names)
 with_name-length names name = by_test (list_any (λ n. bytes_eq n name) names) where

@@ -1,5 +1,5 @@
 -- What an integer function is read from spells it.
-use Rattle.std.proofs.Common.{◌≡◌, ℕ, zero, suc, ◌+◌, ◌-◌, ◌<◌, ◌≤◌, List, [], ◌∷◌, ◌++◌, map, length, drop, Bool, true, false, ◌==◌, if◌then◌else◌, Option, Some, None, IfSome, refl, sym, ◌∙◌, ap, subst, arith}
+use Rattle.std.proofs.Common.{◌≡◌, ℕ, zero, suc, ◌+◌, ◌-◌, ◌≤◌, List, [], ◌∷◌, map, length, drop, Bool, true, false, ◌==◌, if◌then◌else◌, Option, Some, None, IfSome, refl, sym, ◌∙◌, ap, subst, arith}
 use Rattle.std.proofs.lemmas.Bool.{eqb-true}
 use Rattle.rb_core.specs.declared.expression.Op.{Op}
 use Rattle.rb_core.specs.declared.expression.Op.TheVariants as op
@@ -9,17 +9,16 @@ use Rattle.rb_syntax.specs.declared.token.Symbol.{Symbol}
 use Rattle.rb_syntax.specs.declared.token.Symbol.TheVariants as symbol
 use Rattle.rb_syntax.specs.declared.token.Token.{Token}
 use Rattle.rb_syntax.specs.declared.token.Token.TheVariants as tok
-use Rattle.rb_syntax.specs.declared.tree.TyTree.TheVariants as ty
 use Rattle.rb_syntax.specs.declared.tree.ExprTree.{ExprTree}
 use Rattle.rb_syntax.specs.declared.tree.ParamTree.{ParamTree}
 use Rattle.rb_syntax.specs.declared.tree.FunTree.{FunTree}
-use Rattle.rb_syntax.specs.Written.{Written, token, number, node, flaw, tokens_in, AreNumbered, AreWithin, HaveNoFlaw, checked, each_behind, any_with}
+use Rattle.rb_syntax.specs.Written.{Written, token, number, node, tokens_in, AreNumbered, AreWithin, HaveNoFlaw, checked, each_behind, any_with}
 use Rattle.rb_syntax.specs.Spelling.{comma, is_width, op_word, expr_written, param_written, fun_written}
 use Rattle.rb_syntax.proofs.SpellingLemmas.{expr-Num, expr-Var, expr-Binary, expr-To}
 use Rattle.ribbit_tool.specs.declared.integer.reading.Form.{Form}
 use Rattle.ribbit_tool.specs.declared.integer.reading.Form.TheVariants as form
 use Rattle.ribbit_tool.specs.IntegerFunctions.{◌>>=◌}
-use Rattle.ribbit_tool.specs.IntegerReading.{Reading, symbol_number, is_symbol, begins_with, expect, fun_word, lower, uint, form_of, operation, conversion, from_form, from_token, one, expression, param, with_all, behind_param, some_params, params, ended, function}
+use Rattle.ribbit_tool.specs.IntegerReading.{Reading, symbol_number, is_symbol, begins_with, expect, fun_word, lower, uint, form_of, operation, conversion, from_form, from_token, one, expression, param, behind_param, some_params, params, ended, function}
 
 pub some-bind : {A B : Type 0} (P : A → Type 0) (Q : B → Type 0) (r : Option A) (f : A → Option B)
     → IfSome r P → ((x : A) → P x → IfSome (f x) Q) → IfSome (r >>= f) Q

@@ -1,6 +1,5 @@
 -- Tokens of an integer function, whole.
 use Rattle.std.proofs.Common.{◌≡◌, ℕ, List, [], length, Option, Some, None, IfSome, Result, Ok, Err, IfOk, refl, sym, subst, option_map}
-use Rattle.rb_core.specs.declared.program.Fun.{Fun}
 use Rattle.rb_core.specs.declared.program.Program.{Program}
 use Rattle.rb_syntax.specs.declared.token.Token.{Token}
 use Rattle.rb_syntax.specs.declared.tree.FunTree.{FunTree}

@@ -1,10 +1,5 @@
 pub mod ArgumentsRead
 pub mod ComputedLaws
-pub mod Refinement
-pub mod StraightCode
-pub mod StraightLaws
-pub mod StraightRuns
-pub mod VariableLaws
 pub mod IntegerAgain
 pub mod IntegerBodies
 pub mod IntegerFit
@@ -12,3 +7,13 @@ pub mod IntegerItems
 pub mod IntegerParams
 pub mod IntegerTakes
 pub mod IntegerWhole
+pub mod NumberLaws
+pub mod PromiseLaws
+pub mod ReadLaws
+pub mod Refinement
+pub mod RunLaws
+pub mod StraightCode
+pub mod StraightLaws
+pub mod StraightRuns
+pub mod Tokens
+pub mod VariableLaws

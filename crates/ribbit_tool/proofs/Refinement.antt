@@ -108,7 +108,7 @@ module _ (f : Fun) (code : CodeFun) (name : f.name ≡ codes "main") (h : Compil
 
 -- Refinement
 
-length-numbers : (ts : List Ty) (ns : List ℕ) → AreNumbers ts ns → length ns ≡ length ts
+pub length-numbers : (ts : List Ty) (ns : List ℕ) → AreNumbers ts ns → length ns ≡ length ts
 length-numbers [] [] h = refl
 length-numbers [] (n ∷ ns) h = absurd h
 length-numbers (t ∷ ts) [] h = absurd (no_numbers t ts h)

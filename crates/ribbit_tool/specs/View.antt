@@ -1,11 +1,29 @@
 -- Values of the program, as the definitions see them.
+use Rattle.std.specs.Prelude.{◌≡◌, ℕ, ◌+◌, length}
 use Rattle.ribbit_tool.specs.declared.command.Command as declared
-use Rattle.ribbit_tool.specs.declared.command.Command.TheVariants as form
-use Rattle.ribbit_tool.specs.declared.command.Limits as limits
+use Rattle.ribbit_tool.specs.declared.limits.Limits as limits
+use Rattle.rb_target.specs.declared.outcome.End.{End}
+use Rattle.rb_target.specs.declared.outcome.End.TheVariants.{Returned, Spent, Full, Trapped}
+use Rattle.ribbit_tool.specs.declared.answer.Composed.{Composed}
+use Rattle.ribbit_tool.specs.Answer.{Due}
 use Rattle.ribbit_tool.specs.Command.{Command, Limits, run}
 
 abbrev pub limits_view : limits.Limits → Limits
 limits_view l = record { calls = l.calls; region = l.region }
 
 abbrev pub command_view : declared.Command → Command
-command_view (form.Run file l values) = run file.now (limits_view l) values.now
+command_view c = run c.file.now (limits_view c.limits) c.values.now
+
+abbrev pub due_of : Composed → ℕ → Due
+due_of c steps = record { status = c.status; text = c.text.items; steps = steps }
+
+-- an answer meets a demand with the steps that were taken
+abbrev pub Answers : (Due → Type 0) → Composed → ℕ → ℕ → Type 0
+Answers P c before now = (n : ℕ) × (now ≡ before + n) × P (due_of c n)
+
+-- the end of a call that gives one word, or is spent
+abbrev pub IsOneWord : End → Type 0
+IsOneWord (Returned words left) = length words ≡ 1
+IsOneWord Spent = Unit {0}
+IsOneWord (Full f) = ⊥
+IsOneWord (Trapped t) = ⊥

@@ -4,27 +4,16 @@ ghost use Rattle.std.specs.Prelude.{◌≡◌, MatchResult, Ok, Err};
 ghost use Rattle.ribbit_tool.specs.Command.{command_of, run_words};
 ghost use Rattle.ribbit_tool.specs.View.{command_view};
 
+use crate::limits::Limits;
 use rb_core::decimal::number_in;
 use rb_edge::seq::Name;
 
-/// How far a run may go.
-#[derive(Clone, Copy, Debug)]
-pub struct Limits {
-    /// How many calls it may make, that of `main` included.
-    pub calls: u64,
-    /// The address at which its memory ends, in bytes.
-    pub region: u64,
-}
-
-/// What the words ask for.
+/// What the words ask for: a run of the function `main` of a file on these values.
 #[derive(Clone, Copy)]
-pub enum Command<'a> {
-    /// Runs the function `main` of a file on these values.
-    Run {
-        file: &'a [u8],
-        limits: Limits,
-        values: &'a [Name],
-    },
+pub struct Command<'a> {
+    pub file: &'a [u8],
+    pub limits: Limits,
+    pub values: &'a [Name],
 }
 
 const CALLS: u64 = 1_000_000_000;
@@ -52,7 +41,7 @@ fn parse_run<'a>(words: &'a [Name]) -> Result<Command<'a>, usize>
     let Some(region) = number_in(LEAST_REGION, REGION, word.as_slice()) else {
         return Err(4);
     };
-    Ok(Command::Run {
+    Ok(Command {
         file: file.as_slice(),
         limits: Limits { calls, region },
         values,

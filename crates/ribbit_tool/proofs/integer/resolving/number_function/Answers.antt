@@ -1,5 +1,5 @@
-use Rattle.std.proofs.Common.{◌≡◌, ◌≤◌, length, true, Some, sym, ◌∙◌, ap, arith}
-use Rattle.ribbit_tool.specs.IntegerFunctions.{is_main, names_of, numbered_expression, numbered_params, numbered_ty}
+use Rattle.std.proofs.Common.{◌≡◌, ◌≤◌, length, Some, sym, ◌∙◌, ap, arith}
+use Rattle.ribbit_tool.specs.IntegerFunctions.{names_of, numbered_expression, numbered_params, numbered_ty}
 use Rattle.ribbit_tool.proofs.IntegerFit.{main-few, name-whole, numbered-whole, integers-whole, well-whole}
 use Rattle.ribbit_tool.proofs.IntegerParams.{names_of-length}
 use Rattle.ribbit_tool.proofs.integer.resolving.number_function.Goals as goal

@@ -1,0 +1,140 @@
+-- What was due and how it was delivered give what the program promises.
+use Rattle.std.proofs.Common.{◌≡◌, ◌≢◌, ℕ, ◌+◌, ◌⊎◌, inl, inr, List, [], map, length, sym, ap, subst, ◌∙◌, arith, IsTrue, Option, Some, None, Ok, Err}
+use Rattle.std.proofs.lemmas.Bool.{cases_lt}
+use Rattle.rb_core.specs.declared.value.Value.{Num}
+use Rattle.rb_core.specs.declared.outcome.SourceEnd.{SourceEnd}
+use Rattle.rb_core.specs.declared.outcome.SourceEnd.TheVariants as source
+use Rattle.rb_core.specs.declared.program.Program.{Program}
+use Rattle.rb_core.specs.Meaning.{call_of}
+use Rattle.rb_edge.specs.Faults.{Rose}
+use Rattle.ribbit_tool.specs.Answer.{Due}
+use Rattle.ribbit_tool.specs.Arguments.{Numbers}
+use Rattle.ribbit_tool.specs.Command.{Limits, Parsed, run, command_of}
+use Rattle.ribbit_tool.specs.Delivery.{Change, Took, TookFront, Stood, IsDelivered, output, error_line, output_failed, error_failed}
+use Rattle.ribbit_tool.specs.Lines.{write_fault_line}
+use Rattle.ribbit_tool.specs.Promise.{Reading, Counting, IsGiven, IsAnswered, IsRun, IsRight}
+use Rattle.ribbit_tool.specs.Results.{Holds, IsReadDue, IsResultOf, IsAnswer, answered, source_failed, IsDue, composed, out_of_memory}
+use Rattle.ribbit_tool.specs.Running.{call_due, IsRunDue, IsProgramDue, unbuilt, run as ran, IsFileDue, file_limit}
+
+-- what is seen under each name is what is held, so the answer is the same
+same_answer : (parsed : Parsed) (seen held : Holds) (due : Due) → ((name : List ℕ) → seen name ≡ held name) → IsResultOf parsed seen due → IsResultOf parsed held due
+same_answer (Err word) seen held due e h = h
+same_answer (Ok (run file limits values)) seen held due e h =
+    subst (λ (o : Option (List ℕ)). IsReadDue o (λ bytes. IsFileDue bytes limits values due) due) (e file) h
+
+-- No answer has the status of a write fault.
+
+call_not_8 : (s : SourceEnd) (calls steps : ℕ) → (call_due s calls steps).status ≢ 8
+call_not_8 (source.Done v left) calls steps e = absurd (omega (arith, e))
+call_not_8 source.Spent calls steps e = absurd (omega (arith, e))
+
+by_status : (due other : Due) → due ≡ other → other.status ≢ 8 → due.status ≢ 8
+by_status due other e ne f = ne (sym (ap (λ (d : Due). d.status) e) ∙ f)
+
+run_not_8 : (p : Program) (limits : Limits) (numbers : Numbers) (due : Due) → IsRunDue p limits numbers due → due.status ≢ 8
+run_not_8 p limits (Err line) due e = by_status due _ e (λ f. omega (arith, f))
+run_not_8 p limits (Ok numbers) due h = by_status due _ h.2 (call_not_8 (call_of p p.main limits.calls (map Num numbers)).end limits.calls _)
+
+program_not_8 : (bytes : List ℕ) (limits : Limits) (words : List (List ℕ)) (due : Due) → IsProgramDue bytes limits words due → due.status ≢ 8
+program_not_8 bytes limits words due (unbuilt none e) = by_status due _ e (λ f. omega (arith, f))
+program_not_8 bytes limits words due (ran p accepted h) = run_not_8 p limits _ due h
+
+file_not_8 : (bytes : List ℕ) (limits : Limits) (words : List (List ℕ)) (due : Due) → IsFileDue bytes limits words due → due.status ≢ 8
+file_not_8 bytes limits words due h =
+    elim (cases_lt file_limit (length bytes)) [
+      | inl over ↦ by_status due _ (h.long over) (λ f. omega (arith, f))
+      | inr within ↦ program_not_8 bytes limits words due (h.short within)
+    ]
+
+read_not_8 : (o : Option (List ℕ)) (limits : Limits) (words : List (List ℕ)) (due : Due) → IsReadDue o (λ bytes. IsFileDue bytes limits words due) due → due.status ≢ 8
+read_not_8 None limits words due e = by_status due _ e (λ f. omega (arith, f))
+read_not_8 (Some bytes) limits words due h = file_not_8 bytes limits words due h
+
+result_not_8 : (parsed : Parsed) (held : Holds) (due : Due) → IsResultOf parsed held due → due.status ≢ 8
+result_not_8 (Err word) held due e = by_status due _ e (λ f. omega (arith, f))
+result_not_8 (Ok (run file limits values)) held due h = read_not_8 (held file) limits values due h
+
+module _ (words : List (List ℕ)) (source : Reading) (out err : Change) (steps : Counting) (status : ℕ) where
+  abbrev Owed : Due → Type 0
+  Owed due = IsDue words source.tells source.held source.before source.now due
+
+  due_not_8 : (due : Due) → Owed due → due.status ≢ 8
+  due_not_8 due (composed (answered seen told h)) = result_not_8 (command_of words) seen due h
+  due_not_8 due (composed (source_failed rose e)) = by_status due _ e (λ f. omega (arith, f))
+  due_not_8 due (out_of_memory e) = by_status due _ e (λ f. omega (arith, f))
+
+  -- what is due is the answer, unless the source failed or memory ran out
+  data Kind (due : Due) : Type 0 where
+    right : (IsTrue source.tells → IsAnswer words source.held due) → Kind due
+    failed : Rose source.before source.now → due.status ≡ 7 → Kind due
+    short : due.status ≡ 9 → Kind due
+
+  kind_of : (due : Due) → Owed due → Kind due
+  kind_of due (composed (answered seen told h)) = right (λ t. same_answer (command_of words) seen source.held due (told t) h)
+  kind_of due (composed (source_failed rose e)) = failed rose (ap (λ (d : Due). d.status) e)
+  kind_of due (out_of_memory e) = short (ap (λ (d : Due). d.status) e)
+
+  given : (due : Due) → IsDelivered due out err status → status ≢ 8 → steps.now ≡ steps.before + due.steps → IsGiven due out err steps status
+  given due (output ok is o e) not_8 counted = record { status_is = is ∙ sym ok; output = λ z. (o, e); line = λ ne. absurd (ne ok); counted = counted }
+  given due (error_line ne is o e) not_8 counted = record { status_is = is; output = λ z. absurd (ne z); line = λ n. (o, e); counted = counted }
+  given due (output_failed ok is rose o e) not_8 counted = absurd (not_8 is)
+  given due (error_failed ne is rose o e) not_8 counted = absurd (not_8 is)
+
+  status_of : (due : Due) → IsDelivered due out err status → status ≢ 8 → status ≡ due.status
+  status_of due (output ok is o e) not_8 = is ∙ sym ok
+  status_of due (error_line ne is o e) not_8 = is
+  status_of due (output_failed ok is rose o e) not_8 = absurd (not_8 is)
+  status_of due (error_failed ne is rose o e) not_8 = absurd (not_8 is)
+
+  module _ (r : IsRun words source out err steps status) where
+    abbrev due : Due
+    due = r.due
+
+    answered_by : IsTrue source.tells → status ≢ 8 → (Rose source.before source.now → due.status ≡ 7 → ⊥) → (due.status ≡ 9 → ⊥) → IsAnswered words source out err steps status
+    answered_by told no_8 no_7 no_9 = elim (kind_of due r.is_due) [
+      | right h ↦ (due, h told, given due r.is_delivered no_8 (r.counted no_9))
+      | failed rose e ↦ absurd (no_7 rose e)
+      | short e ↦ absurd (no_9 e)
+    ]
+
+    the_right : IsTrue source.tells → status ≢ 7 → status ≢ 8 → status ≢ 9 → IsAnswered words source out err steps status
+    the_right told no_7 no_8 no_9 =
+        let is = status_of due r.is_delivered no_8 in
+        answered_by told no_8 (λ rose e. no_7 (is ∙ e)) (λ e. no_9 (is ∙ e))
+
+    no_write_fault : Stood out → Stood err → IsDelivered due out err status → status ≢ 8
+    no_write_fault o e (output ok is a b) f = omega (arith, is, f)
+    no_write_fault o e (error_line ne is a b) f = due_not_8 due r.is_due (sym is ∙ f)
+    no_write_fault o e (output_failed ok is rose a b) f = o rose
+    no_write_fault o e (error_failed ne is rose a b) f = e rose
+
+    the_complete : IsTrue source.tells → (Rose source.before source.now → ⊥) → Stood out → Stood err → status ≢ 9 → IsAnswered words source out err steps status
+    the_complete told stood o e no_9 =
+        let no_8 = no_write_fault o e r.is_delivered in
+        answered_by told no_8 (λ rose seven. stood rose) (λ nine. no_9 (status_of due r.is_delivered no_8 ∙ nine))
+
+    the_read_fault : status ≡ 7 → Rose source.before source.now ⊎ (IsTrue source.tells → (d : Due) × IsAnswer words source.held d × (d.status ≡ 7))
+    the_read_fault seven =
+        let no_8 : status ≢ 8 = λ f. omega (arith, seven, f) in
+        let is = sym (status_of due r.is_delivered no_8) ∙ seven in
+        elim (kind_of due r.is_due) [
+          | right h ↦ inr (λ told. (due, h told, is))
+          | failed rose e ↦ inl rose
+          | short e ↦ absurd (omega (arith, is, e))
+        ]
+
+    the_write_fault : IsDelivered due out err status → status ≡ 8
+        → (Rose out.before out.now × (due.status ≡ 0) × TookFront out due.text × TookFront err write_fault_line)
+        ⊎ (Rose err.before err.now × Took out [] × TookFront err due.text)
+    the_write_fault (output ok is a b) eight = absurd (omega (arith, is, eight))
+    the_write_fault (error_line ne is a b) eight = absurd (due_not_8 due r.is_due (sym is ∙ eight))
+    the_write_fault (output_failed ok is rose a b) eight = inl (rose, ok, a, b)
+    the_write_fault (error_failed ne is rose a b) eight = inr (rose, a, b)
+
+  pub promised : IsRun words source out err steps status → IsRight words source out err steps status
+  promised r = record {
+    right = the_right r;
+    complete = the_complete r;
+    read_fault = the_read_fault r;
+    write_fault = λ eight. (r.due, r.is_due, the_write_fault r r.is_delivered eight);
+  }

@@ -1,0 +1,31 @@
+use Rattle.std.proofs.Common.{List, ℕ, subst}
+use Rattle.ribbit_tool.specs.Delivery.{Change}
+use Rattle.ribbit_tool.specs.Promise.{Reading, Counting, IsRun}
+use Rattle.ribbit_tool.proofs.PromiseLaws.{promised}
+use Rattle.ribbit_tool.proofs.top.ribbit.Goals as goal
+
+pub returns-clause-right : goal.returns-clause-right
+returns-clause-right g c =
+    let source : Reading = record {
+      tells = g.S.Source.tells c.args.src.now;
+      held = g.S.Source.held c.args.src.now;
+      before = g.S.Source.faults c.args.src.now;
+      now = g.S.Source.faults c.answer.new.src;
+    } in
+    let out : Change = record {
+      tells = g.O.Sink.tells c.args.out.now;
+      old = g.O.Sink.taken c.args.out.now;
+      new = g.O.Sink.taken c.answer.new.out;
+      before = g.O.Sink.faults c.args.out.now;
+      now = g.O.Sink.faults c.answer.new.out;
+    } in
+    let err : Change = record {
+      tells = g.E.Sink.tells c.args.err.now;
+      old = g.E.Sink.taken c.args.err.now;
+      new = g.E.Sink.taken c.answer.new.err;
+      before = g.E.Sink.faults c.args.err.now;
+      now = g.E.Sink.faults c.answer.new.err;
+    } in
+    let steps : Counting = record { before = c.args.steps.now.taken; now = c.answer.new.steps.taken } in
+    promised c.args.words.now source out err steps c.answer.result
+    (subst (λ (ws : List (List ℕ)). IsRun ws source out err steps c.answer.result) c.as_slice.ensures c.answer.ensures)

@@ -1,0 +1,15 @@
+//! How far a run may go.
+
+ghost use Rattle.std.specs.Prelude.{◌≤◌};
+
+/// How many calls a run may make, and how much memory it may take.
+#[derive(Clone, Copy, Debug)]
+pub struct Limits {
+    /// Calls, that of `main` included.
+    pub calls: u64,
+    /// The address at which the memory of a run ends, in bytes.
+    pub region: u64,
+    ghost few: { calls ≤ 1000000000 },
+    ghost low: { 64 ≤ region },
+    ghost high: { region ≤ 16777216 },
+}

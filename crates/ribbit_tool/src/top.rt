@@ -1,0 +1,125 @@
+//! The top call.
+
+ghost use Rattle.std.specs.Prelude.{◌≡◌, ◌≤◌, ℕ, List, IfOk, Ok};
+ghost use Rattle.ribbit_tool.specs.Command.{command_of, run};
+ghost use Rattle.ribbit_tool.specs.Promise.{IsRun, IsRight};
+ghost use Rattle.ribbit_tool.specs.Results.{IsComposed};
+ghost use Rattle.ribbit_tool.specs.View.{limits_view, due_of, Answers};
+
+use crate::answer::Composed;
+use crate::command::parse;
+use crate::delivery::deliver;
+use crate::limits::Limits;
+use crate::line::{self, NO_MEMORY, READ_FAULT};
+use crate::running::{FILE_LIMIT, run_file};
+use rb_edge::seq::Name;
+use rb_edge::sink::Sink;
+use rb_edge::source::Source;
+use rb_edge::steps::{Ledger, Steps};
+use rb_edge::whole::{ReadFault, read_whole};
+use rb_edge::words::Words;
+use std::alloc::{AllocError, Global};
+
+// The command `run`.
+fn run_command<S: Source, L: Ledger>(
+    alloc: Global,
+    src: &mut S,
+    file: &[u8],
+    limits: Limits,
+    values: &[Name],
+    steps: &mut Steps<L>,
+) -> Result<Composed, AllocError>
+    ensures later { S.faults src.old ≤ S.faults src.new }
+    ensures due { IfOk result (λ c. Answers (IsComposed (Ok (run file.now (limits_view limits) values.now)) (S.tells src.old) (S.held src.old) (S.faults src.old) (S.faults src.new))
+        c steps.old.taken steps.new.taken) }
+{
+    match read_whole(alloc, src, file, FILE_LIMIT) {
+        Ok(bytes) => {
+            let composed = run_file(alloc, bytes.as_slice(), limits, values, steps)?;
+            Ok(composed)
+        }
+        Err(ReadFault::Memory) => Err(AllocError),
+        Err(ReadFault::Failed) => {
+            let text = Vec::from_slice(alloc, READ_FAULT)?;
+            Ok(Composed { status: 7, text })
+        }
+    }
+}
+
+// The answer to the words.
+fn compose<S: Source, L: Ledger>(
+    alloc: Global,
+    words: &[Name],
+    src: &mut S,
+    steps: &mut Steps<L>,
+) -> Result<Composed, AllocError>
+    ensures later { S.faults src.old ≤ S.faults src.new }
+    ensures due { IfOk result (λ c. Answers (IsComposed (command_of words.now) (S.tells src.old) (S.held src.old) (S.faults src.old) (S.faults src.new))
+        c steps.old.taken steps.new.taken) }
+{
+    match parse(words) {
+        Err(word) => {
+            let text = line::usage(alloc, word as u64)?;
+            Ok(Composed { status: 6, text })
+        }
+        Ok(command) => {
+            let composed = run_command(
+                alloc,
+                src,
+                command.file,
+                command.limits,
+                command.values,
+                steps,
+            )?;
+            Ok(composed)
+        }
+    }
+}
+
+// Composes the answer and delivers it.
+fn answer<S: Source, O: Sink, E: Sink, L: Ledger>(
+    alloc: Global,
+    words: &[Name],
+    src: &mut S,
+    out: &mut O,
+    err: &mut E,
+    steps: &mut Steps<L>,
+) -> u8
+    ensures { IsRun words.now
+        (record { tells = S.tells src.old; held = S.held src.old; before = S.faults src.old; now = S.faults src.new })
+        (record { tells = O.tells out.old; old = O.taken out.old; new = O.taken out.new; before = O.faults out.old; now = O.faults out.new })
+        (record { tells = E.tells err.old; old = E.taken err.old; new = E.taken err.new; before = E.faults err.old; now = E.faults err.new })
+        (record { before = steps.old.taken; now = steps.new.taken }) result }
+{
+    match compose(alloc, words, src, steps) {
+        Ok(due) => deliver(due.status, due.text.as_slice(), out, err),
+        Err(_) => deliver(9, NO_MEMORY, out, err),
+    }
+}
+
+/// The whole program: from the words of a command line, the files of a source, two sinks and a counter of
+/// steps to a status. The text of status 0 goes to `out`, the line of any other to `err`; nothing is
+/// written before the text is whole.
+pub fn ribbit<S: Source, O: Sink, E: Sink, L: Ledger>(
+    alloc: Global,
+    words: &Words,
+    src: &mut S,
+    out: &mut O,
+    err: &mut E,
+    steps: &mut Steps<L>,
+) -> u8
+    // What was due, and how it was delivered.
+    ensures run { IsRun words.now
+        (record { tells = S.tells src.old; held = S.held src.old; before = S.faults src.old; now = S.faults src.new })
+        (record { tells = O.tells out.old; old = O.taken out.old; new = O.taken out.new; before = O.faults out.old; now = O.faults out.new })
+        (record { tells = E.tells err.old; old = E.taken err.old; new = E.taken err.new; before = E.faults err.old; now = E.faults err.new })
+        (record { before = steps.old.taken; now = steps.new.taken }) result }
+    // The main theorem: the answer is the source's meaning, or names the limit that it passes.
+    ensures right { IsRight words.now
+        (record { tells = S.tells src.old; held = S.held src.old; before = S.faults src.old; now = S.faults src.new })
+        (record { tells = O.tells out.old; old = O.taken out.old; new = O.taken out.new; before = O.faults out.old; now = O.faults out.new })
+        (record { tells = E.tells err.old; old = E.taken err.old; new = E.taken err.new; before = E.faults err.old; now = E.faults err.new })
+        (record { before = steps.old.taken; now = steps.new.taken }) result }
+{
+    answer(alloc, words.as_slice(), src, out, err, steps)
+}
