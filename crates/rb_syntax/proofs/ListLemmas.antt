@@ -1,5 +1,5 @@
 -- Lists of parts: how they are written.
-use Rattle.std.proofs.Common.{◌≡◌, ℕ, ◌≤◌, List, [], ◌∷◌, length, map, refl, arith}
+use Rattle.std.proofs.Common.{◌≡◌, ℕ, ◌≤◌, List, [], ◌∷◌, length, map, refl, ap, arith}
 use Rattle.rb_syntax.specs.declared.token.Symbol.TheVariants as symbol
 use Rattle.rb_syntax.specs.declared.token.Token.{Token}
 use Rattle.rb_syntax.specs.Written.{Written, Writing, tokens_in, any_with, some_with}
@@ -20,3 +20,8 @@ fields-listed f (x ∷ xs) rest h = refl
 pub any-some : (separator : Token) (ws : List Writing) (rest : List Written) → tokens_in (any_with separator ws rest) ≡ tokens_in (some_with separator ws rest)
 any-some separator [] rest = refl
 any-some separator (w ∷ ws) rest = refl
+
+-- parts that are written from one level on
+pub at-level : {T : Type 0} (f : T → Deep) (l : ℕ) (xs : List T) → at_level l (map f xs) ≡ map (λ (x : T). f x l) xs
+at-level f l [] = refl
+at-level f l (x ∷ xs) = ap (λ (ws : List Writing). f x l ∷ ws) (at-level f l xs)

@@ -221,7 +221,7 @@ split_step (split.Split loc arms other) l rest =
     ∷ each (at_level (suc l) arms) (else_written other (suc l) (sym symbol.CloseBrace ∷ rest)))
 split_step (split.Leaf at prov items) l rest =
     node l ∷ number at ∷ prov_written prov (suc l) (sym symbol.Colon ∷ sym symbol.OpenBrace
-    ∷ some_with comma (at_level (suc l) (map lay_item_written items)) (sym symbol.CloseBrace ∷ rest))
+    ∷ some_with comma (map (λ (i : LayItem). lay_item_written i (suc l)) items) (sym symbol.CloseBrace ∷ rest))
 
 abbrev pub arm_step : ArmTree-F Deep Deep → Deep
 arm_step a l rest = num a.literal ∷ sym symbol.FatArrow ∷ a.under l rest

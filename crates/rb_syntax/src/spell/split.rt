@@ -1,6 +1,7 @@
 //! Provenances and the trees of layouts.
 
 ghost use Rattle.std.specs.Prelude.{◌≡◌, ◌∷◌, ℕ, suc, map, OnOk};
+ghost use Rattle.rb_core.specs.declared.layout_decl.LayItem.{LayItem};
 ghost use Rattle.rb_syntax.specs.declared.token.Symbol.TheVariants as symbol;
 ghost use Rattle.rb_syntax.specs.declared.token.Word.TheVariants as word;
 ghost use Rattle.rb_syntax.specs.Backward.{Wrote};
@@ -72,7 +73,7 @@ fn put_leaf(
     items: &[LayItem],
 ) -> Result<(), AllocError>
     ensures { OnOk result ((l : ℕ) → Wrote (λ rest. prov_written prov.now l (spelling.sym symbol.Colon ∷ spelling.sym symbol.OpenBrace
-        ∷ some_with comma (at_level l (map lay_item_written items.now)) (spelling.sym symbol.CloseBrace ∷ rest))) out.old.items out.new.items) }
+        ∷ some_with comma (map (λ (i : LayItem). lay_item_written i l) items.now) (spelling.sym symbol.CloseBrace ∷ rest))) out.old.items out.new.items) }
 {
     put_symbol(out, Symbol::CloseBrace)?;
     put_items(alloc, out, items)?;
