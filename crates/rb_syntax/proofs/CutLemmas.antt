@@ -16,7 +16,7 @@ use Rattle.rb_syntax.specs.Bytes.{is_blank, is_word_byte, numeral_len, value_of}
 use Rattle.rb_syntax.specs.Words.{symbol_at}
 use Rattle.rb_syntax.specs.Pieces.{name_token, number_piece, underscore_piece, run_piece, symbol_piece, first_piece, piece_at}
 use Rattle.rb_syntax.specs.Lexing.{Lexed, before, with_piece, lexed_from, lexed}
-use Rattle.rb_syntax.specs.Cutting.{IsGap, blank, IsPiece, IsLongest, IsNumeral, IsWritten, IsTokenRun, IsBadBehind, IsWideNumber, Cut, IsRight, no_piece, wrong_run}
+use Rattle.rb_syntax.specs.Cutting.{IsGap, blank, IsLongest, IsNumeral, IsWritten, IsTokenRun, IsBadBehind, IsWideNumber, Cut, IsRight, no_piece, wrong_run}
 use Rattle.rb_syntax.specs.Cutting as cut
 use Rattle.rb_syntax.proofs.PieceLemmas.{run-cons, comment-within, numeral_len-le}
 use Rattle.rb_syntax.proofs.SymbolLemmas.{symbol-length}

@@ -1,4 +1,4 @@
-use Rattle.std.proofs.Common.{◌≡◌, ◌∷◌, ◌∙◌, List, map, ap}
+use Rattle.std.proofs.Common.{◌∷◌, ◌∙◌, List, map, ap}
 use Rattle.rb_core.specs.declared.layout_decl.LayItem.{LayItem}
 use Rattle.rb_syntax.specs.declared.token.Symbol.TheVariants as symbol
 use Rattle.rb_syntax.specs.Written.{Writing, tokens_in, some_with}
