@@ -10,4 +10,6 @@ pub mod integer;
 pub mod limits;
 pub mod line;
 pub mod running;
+#[cfg(test)]
+mod tests;
 pub mod top;
