@@ -1,5 +1,6 @@
 pub mod Besides
 pub mod Defaults
+pub mod Examples
 pub mod Exhausts
 pub mod HeadLemmas
 pub mod Inhabited

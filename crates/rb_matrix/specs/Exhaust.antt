@@ -50,7 +50,8 @@ abbrev pub IsReachAnswer : List DataDecl → Ty → List Pat → ℕ → Bool �
 IsReachAnswer types ty ps i true = IsReached types ty ps i
 IsReachAnswer types ty ps i false = IsUnreached types ty ps i
 
--- of the first n patterns, the numbers of exactly those that are the first match of no value
+-- of the first n patterns, the numbers of exactly those that are the first match of no value; each
+-- of the others is the first match of some value
 pub record AreUnreachedOf (types : List DataDecl) (ty : Ty) (ps : List Pat) (n : ℕ) (xs : List ℕ) : Type 0 where
   pub ascending : IsStrictlyIncreasing xs
   pub within : (i : ℕ) → Contains xs i → i < n

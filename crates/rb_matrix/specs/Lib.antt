@@ -1,3 +1,4 @@
+pub mod Examples
 pub mod Exhaust
 pub mod Heads
 pub mod Problems

@@ -219,8 +219,8 @@ fn types_unfolded(alloc: Global, fields: &[Ty], tys: &[Ty]) -> Result<Seq<Ty>, A
     Ok(Seq::from_vec(unfolded))
 }
 
-// The types of the head's fields at the first column.
-fn first_fields<'a>(types: &'a [DataDecl], tys: &[Ty], head: Head) -> Option<&'a [Ty]>
+/// The types of a head's fields, where the head is of the first column's type; specialize needs that.
+pub fn first_fields<'a>(types: &'a [DataDecl], tys: &[Ty], head: Head) -> Option<&'a [Ty]>
     ensures { option_copied result ≡ column_fields types.now tys.now head }
 {
     match tys {
