@@ -103,7 +103,8 @@ fn the_first_row(rt: HostRuntime) -> Result<(), Fail> {
 }
 
 /// Body, width of the parameters, width of the result, arguments, answer.
-const OPERATORS: &str = "add(x, y)|1|1|1|0|1\n\
+const OPERATORS: &str = "add(x, 1)|64|64|18446744073709551615|0|0\n\
+add(x, y)|1|1|1|0|1\n\
 sub(x, y)|1|1|0|1|1\n\
 mul(x, y)|1|1|0|0|0\n\
 and(x, y)|1|1|1|0|0\n\
