@@ -42,9 +42,9 @@ fn is_lower(tokens: &[Placed], text: &[u8]) -> bool {
         [
             Placed {
                 token: Token::Lower(name),
-                at: 0,
+                at,
             },
-        ] => name.as_slice() == text,
+        ] => *at == 0 && name.as_slice() == text,
         _ => false,
     }
 }
