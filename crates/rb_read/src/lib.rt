@@ -1,0 +1,5 @@
+//! Reads files.
+#![tactic(auto)]
+
+pub mod starting;
+pub mod stop;

@@ -1,0 +1,37 @@
+//! What a token begins.
+
+ghost use Rattle.std.specs.Prelude.{◌≡◌};
+ghost use Rattle.rb_read.specs.Starting as starting;
+
+use rb_core::expression::Op;
+use rb_syntax::token::Word;
+
+/// What a reserved word begins as an expression.
+pub enum Form {
+    Operation(Op),
+    Conversion,
+    Binding,
+    Matching,
+    Other,
+}
+
+/// What a reserved word begins as an expression.
+#[tactic(auto, unfolding(crate::specs::Starting::form_of))]
+pub fn form_of(word: Word) -> Form
+    ensures { result ≡ starting.form_of word }
+{
+    match word {
+        Word::Add => Form::Operation(Op::Add),
+        Word::Sub => Form::Operation(Op::Sub),
+        Word::Mul => Form::Operation(Op::Mul),
+        Word::And => Form::Operation(Op::And),
+        Word::Or => Form::Operation(Op::Or),
+        Word::Xor => Form::Operation(Op::Xor),
+        Word::Eq => Form::Operation(Op::Eq),
+        Word::Lt => Form::Operation(Op::Lt),
+        Word::To => Form::Conversion,
+        Word::Let => Form::Binding,
+        Word::Match => Form::Matching,
+        _ => Form::Other,
+    }
+}
