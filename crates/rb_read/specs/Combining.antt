@@ -94,3 +94,8 @@ many_of test r (suc n) ts =
 
 abbrev pub each_of : {A : Type 0} → (Token → Bool) → Reader A → Reader (List A)
 each_of test r ts = many_of test r (length ts) ts
+
+-- with no level left: a token that begins a node there is too deep
+unfoldable pub beyond : {A : Type 0} → (Token → Bool) → Reader A
+beyond begins [] = Err (stuck 0)
+beyond begins (t ∷ ts) = if begins t then Err (deep (suc (length ts))) else Err (stuck (suc (length ts)))

@@ -1,5 +1,6 @@
 //! Reads files.
 #![tactic(auto)]
 
-pub mod starting;
-pub mod stop;
+mod starting;
+mod stop;
+mod tokens;

@@ -1,15 +1,18 @@
-//! Why nothing is read.
+//! Why reading stops.
 
 ghost use Rattle.std.specs.Prelude.{◌≡◌};
 ghost use Rattle.rb_read.specs.declared.stop.Stop.TheVariants.{Memory};
+
 use std::alloc::{AllocError, AllocFailed};
 
-/// Why nothing is read.
+/// Why reading stops, with the number of the tokens from the one at fault on.
 #[derive(Drop)]
 pub enum Stop {
-    /// So many tokens are left.
+    /// Nothing goes on with this token.
     Stuck(usize),
+    /// This token begins a node beyond the limit of levels.
     Deep(usize),
+    /// Want of memory.
     Memory,
 }
 

@@ -1,0 +1,371 @@
+-- Reading of files, form by form, as functions on lists of tokens. Nodes are counted by the levels that are left; `total` is
+-- the number of all tokens of the file, so that what begins at `ts` has the number `total - length ts`.
+use Rattle.std.specs.Prelude.{ℕ, zero, suc, ◌-◌, List, [], ◌∷◌, length, Bool, true, false, if◌then◌else◌, Option, Some, None, Ok, Err}
+use Rattle.rb_core.specs.declared.expression.Op.{Op}
+use Rattle.rb_core.specs.declared.types.Auto.TheVariants as auto
+use Rattle.rb_core.specs.declared.types.Auto.{Auto}
+use Rattle.rb_core.specs.declared.layout_decl.Step.{Step}
+use Rattle.rb_core.specs.declared.layout_decl.Loc.{Loc}
+use Rattle.rb_core.specs.declared.layout_decl.LayItem.{LayItem}
+use Rattle.rb_core.specs.declared.layout_decl.LayItem.TheVariants as lay_item
+use Rattle.rb_core.specs.declared.layout_decl.PartKind.{PartKind}
+use Rattle.rb_core.specs.declared.layout_decl.PartKind.TheVariants as kind
+use Rattle.rb_core.specs.declared.layout_decl.PartDecl.{PartDecl}
+use Rattle.rb_syntax.specs.declared.token.Word.{Word}
+use Rattle.rb_syntax.specs.declared.token.Word.TheVariants as word
+use Rattle.rb_syntax.specs.declared.token.Symbol.TheVariants as symbol
+use Rattle.rb_syntax.specs.declared.token.Token.{Token}
+use Rattle.rb_syntax.specs.declared.token.Token.TheVariants as token
+use Rattle.rb_syntax.specs.declared.tree.NameTree.{NameTree}
+use Rattle.rb_syntax.specs.declared.tree.TyTree.{TyTree}
+use Rattle.rb_syntax.specs.declared.tree.TyTree.TheVariants as ty
+use Rattle.rb_syntax.specs.declared.tree.ConTree.{ConTree}
+use Rattle.rb_syntax.specs.declared.tree.TypeTree.{TypeTree}
+use Rattle.rb_syntax.specs.declared.tree.PatTree.{PatTree}
+use Rattle.rb_syntax.specs.declared.tree.PatTree.TheVariants as pat
+use Rattle.rb_syntax.specs.declared.tree.ExprTree.{ExprTree}
+use Rattle.rb_syntax.specs.declared.tree.ExprTree.TheVariants as expr
+use Rattle.rb_syntax.specs.declared.tree.ClauseTree.{ClauseTree}
+use Rattle.rb_syntax.specs.declared.tree.ParamTree.{ParamTree}
+use Rattle.rb_syntax.specs.declared.tree.FunTree.{FunTree}
+use Rattle.rb_syntax.specs.declared.tree.SplitTree.{SplitTree}
+use Rattle.rb_syntax.specs.declared.tree.SplitTree.TheVariants as split
+use Rattle.rb_syntax.specs.declared.tree.ArmTree.{ArmTree}
+use Rattle.rb_syntax.specs.declared.tree.LayoutTree.{LayoutTree}
+use Rattle.rb_syntax.specs.declared.tree.ItemTree.{ItemTree}
+use Rattle.rb_syntax.specs.declared.tree.ItemTree.TheVariants as top
+use Rattle.rb_syntax.specs.Spelling.{is_width}
+use Rattle.rb_read.specs.declared.starting.Form.{Form}
+use Rattle.rb_read.specs.declared.starting.Form.TheVariants as form
+use Rattle.rb_read.specs.Starting.{is_symbol, is_word, is_number, form_of}
+use Rattle.rb_read.specs.Combining.{Reader, Reading, stuck, deep, ◌>>=◌, pair, into, nothing, passing, expect, expect_word, begins_with, some_closed, any_closed, in_parens, optional, each_of, beyond}
+use Rattle.rb_read.specs.Tokens.{lower_name, upper_name, number, field, width}
+
+-- a number that some bytes begin at
+abbrev pub named : ℕ → List ℕ → NameTree
+named at name = record { at = at; text = name }
+
+-- no node begins with this token
+abbrev pub refused : {A : Type 0} → Reader A
+refused ts = Err (stuck (suc (length ts)))
+
+-- Types, constructors and parameters.
+
+unfoldable pub type_from : ℕ → Token → Reader TyTree
+type_from total (token.Uint bits) ts = if is_width bits then Ok (ty.Int bits, ts) else refused ts
+type_from total (token.Upper name) ts = Ok (ty.Named (named (total - suc (length ts)) name), ts)
+type_from total _ ts = refused ts
+
+unfoldable pub type_tree : ℕ → Reader TyTree
+type_tree total [] = Err (stuck 0)
+type_tree total (t ∷ ts) = type_from total t ts
+
+unfoldable pub con_tree : ℕ → Reader ConTree
+con_tree total = into (λ p. record { name = p.0; fields = p.1 }) (pair (upper_name total) (in_parens (type_tree total)))
+
+unfoldable pub param_tree : ℕ → Reader ParamTree
+param_tree total = into (λ p. record { at = p.0.at; var = p.0; ty = p.1.1 }) (pair (lower_name total) (pair (expect symbol.Colon) (type_tree total)))
+
+-- Patterns and provenances.
+
+abbrev pub begins_pattern : Token → Bool
+begins_pattern (token.Upper name) = true
+begins_pattern (token.Lower name) = true
+begins_pattern (token.Num n) = true
+begins_pattern t = is_symbol symbol.Underscore t
+
+unfoldable pub pattern_from : Reader PatTree → ℕ → Token → Reader PatTree
+pattern_from inner at (token.Upper name) ts = into (λ ps. pat.Con at (named at name) ps) (in_parens inner) ts
+pattern_from inner at (token.Lower name) ts = Ok (pat.Var at (named at name), ts)
+pattern_from inner at (token.Num n) ts = Ok (pat.Num at n, ts)
+pattern_from inner at (token.Symbol symbol.Underscore) ts = Ok (pat.Wild at, ts)
+pattern_from inner at _ ts = refused ts
+
+unfoldable pub pattern_one : Reader PatTree → ℕ → Reader PatTree
+pattern_one inner total [] = Err (stuck 0)
+pattern_one inner total (t ∷ ts) = pattern_from inner (total - suc (length ts)) t ts
+
+-- a pattern, with so many levels left
+unfoldable pub pattern : ℕ → ℕ → Reader PatTree
+pattern zero total ts = beyond begins_pattern ts
+pattern (suc n) total ts = pattern_one (λ us. pattern n total us) total ts
+
+abbrev pub is_upper : Token → Bool
+is_upper (token.Upper name) = true
+is_upper _ = false
+
+-- what may stand below a provenance's constructor
+abbrev pub begins_below : Token → Bool
+begins_below (token.Upper name) = true
+begins_below t = is_symbol symbol.Underscore t
+
+unfoldable pub below_from : Reader PatTree → ℕ → Token → Reader PatTree
+below_from inner at (token.Upper name) ts = into (λ ps. pat.Con at (named at name) ps) (in_parens inner) ts
+below_from inner at (token.Symbol symbol.Underscore) ts = Ok (pat.Wild at, ts)
+below_from inner at _ ts = refused ts
+
+unfoldable pub below_one : Reader PatTree → ℕ → Reader PatTree
+below_one inner total [] = Err (stuck 0)
+below_one inner total (t ∷ ts) = below_from inner (total - suc (length ts)) t ts
+
+unfoldable pub below : ℕ → ℕ → Reader PatTree
+below zero total ts = beyond begins_below ts
+below (suc n) total ts = below_one (λ us. below n total us) total ts
+
+unfoldable pub provenance_from : Reader PatTree → ℕ → Token → Reader PatTree
+provenance_from inner at (token.Upper name) ts = into (λ ps. pat.Con at (named at name) ps) (in_parens inner) ts
+provenance_from inner at _ ts = refused ts
+
+unfoldable pub provenance_one : Reader PatTree → ℕ → Reader PatTree
+provenance_one inner total [] = Err (stuck 0)
+provenance_one inner total (t ∷ ts) = provenance_from inner (total - suc (length ts)) t ts
+
+unfoldable pub provenance : ℕ → ℕ → Reader PatTree
+provenance zero total ts = beyond is_upper ts
+provenance (suc n) total ts = provenance_one (λ us. below n total us) total ts
+
+-- Expressions.
+
+abbrev pub is_form : Form → Bool
+is_form form.Other = false
+is_form _ = true
+
+abbrev pub begins_expression : Token → Bool
+begins_expression (token.Upper name) = true
+begins_expression (token.Lower name) = true
+begins_expression (token.Num n) = true
+begins_expression (token.Reserved w) = is_form (form_of w)
+begins_expression _ = false
+
+-- a variable, or a call of a function
+abbrev pub called : ℕ → List ℕ → Option (List ExprTree) → ExprTree
+called at name None = expr.Var at (named at name)
+called at name (Some es) = expr.Call at (named at name) es
+
+-- over the readers of the patterns and expressions inside, with the number of the node's token
+module _ (inside : Reader PatTree) (inner : Reader ExprTree) (total at : ℕ) where
+  unfoldable pub arguments : Reader (Option (List ExprTree))
+  arguments = optional (λ t. is_symbol symbol.OpenParen t) (into (λ p. p.1) (pair (expect symbol.OpenParen) (any_closed inner symbol.CloseParen)))
+
+  unfoldable pub operation : Op → Reader ExprTree
+  operation op = into (λ p. expr.Binary at op p.1.0 p.1.1.1.0)
+      (pair (expect symbol.OpenParen) (pair inner (pair (expect symbol.Comma) (pair inner (expect symbol.CloseParen)))))
+
+  unfoldable pub conversion : Reader ExprTree
+  conversion = into (λ p. expr.To at p.0 p.1.1.0) (pair width (pair (expect symbol.OpenParen) (pair inner (expect symbol.CloseParen))))
+
+  unfoldable pub binding : Reader ExprTree
+  binding = into (λ p. expr.Let at p.0 p.1.1.0 p.1.1.1.1.0 p.1.1.1.1.1.1)
+      (pair (lower_name total) (pair (expect symbol.Colon) (pair (type_tree total) (pair (expect symbol.Equals) (pair inner (pair (expect_word word.In) inner))))))
+
+  unfoldable pub clause_tree : Reader ClauseTree
+  clause_tree = into (λ p. record { pat = p.0; body = p.1.1 }) (pair inside (pair (expect symbol.FatArrow) inner))
+
+  unfoldable pub matching : Reader ExprTree
+  matching = into (λ p. expr.Match at p.0 p.1.1) (pair inner (pair (expect symbol.OpenBrace) (some_closed clause_tree symbol.Comma symbol.CloseBrace)))
+
+  unfoldable pub from_form : Form → Reader ExprTree
+  from_form (form.Operation op) ts = operation op ts
+  from_form form.Conversion ts = conversion ts
+  from_form form.Binding ts = binding ts
+  from_form form.Matching ts = matching ts
+  from_form form.Other ts = refused ts
+
+  unfoldable pub expression_from : Token → Reader ExprTree
+  expression_from (token.Num n) ts = Ok (expr.Num at n, ts)
+  expression_from (token.Lower name) ts = into (λ o. called at name o) arguments ts
+  expression_from (token.Upper name) ts = into (λ es. expr.Build at (named at name) es) (in_parens inner) ts
+  expression_from (token.Reserved w) ts = from_form (form_of w) ts
+  expression_from _ ts = refused ts
+
+unfoldable pub expression_one : Reader PatTree → Reader ExprTree → ℕ → Reader ExprTree
+expression_one inside inner total [] = Err (stuck 0)
+expression_one inside inner total (t ∷ ts) = expression_from inside inner total (total - suc (length ts)) t ts
+
+-- an expression, with so many levels left
+unfoldable pub expression : ℕ → ℕ → Reader ExprTree
+expression zero total ts = beyond begins_expression ts
+expression (suc n) total ts = expression_one (λ us. pattern n total us) (λ us. expression n total us) total ts
+
+-- Ranges, paths and locations.
+
+unfoldable pub range_rest : Reader (ℕ × ℕ)
+range_rest = into (λ p. (p.0, p.1.1.0)) (pair number (pair (expect symbol.Colon) (pair number (expect symbol.CloseBracket))))
+
+unfoldable pub range : Reader (ℕ × ℕ)
+range = into (λ p. p.1) (pair (expect symbol.OpenBracket) range_rest)
+
+unfoldable pub field_in : Reader ℕ
+field_in = into (λ p. p.1) (pair (expect symbol.Dot) field)
+
+-- the fields behind a path's first
+unfoldable pub more_fields : Reader (List ℕ)
+more_fields = each_of (λ t. is_symbol symbol.Dot t) field_in
+
+unfoldable pub path : Reader (List ℕ)
+path = into (λ p. p.0 ∷ p.1) (pair field_in more_fields)
+
+unfoldable pub loc_step : Reader Step
+loc_step = into (λ p. record { align = p.1.0; byte = p.1.1.1.0; width = p.1.1.1.1.1.0; o = p.1.1.1.1.1.1.0; l = p.1.1.1.1.1.1.1 })
+    (pair (expect symbol.Arrow) (pair number (pair (expect symbol.At) (pair number (pair (expect symbol.Colon) (pair number range))))))
+
+unfoldable pub location : Reader Loc
+location = into (λ p. record { word = p.0; o = p.1.0.0; l = p.1.0.1; steps = p.1.1 }) (pair number (pair range (each_of (λ t. is_symbol symbol.Arrow t) loc_step)))
+
+-- Parts and items of a leaf.
+
+-- what stands behind a path in a part: the bits of a slice, or a word's number
+pub data PathEnd : Type 0 where
+  sliced : ℕ → ℕ → PathEnd
+  numbered : ℕ → PathEnd
+
+abbrev pub ends_path : Token → Bool
+ends_path (token.Reserved w) = is_word word.Word (token.Reserved w)
+ends_path t = is_symbol symbol.OpenBracket t
+
+unfoldable pub path_end_from : Token → Reader PathEnd
+path_end_from (token.Symbol symbol.OpenBracket) ts = into (λ r. sliced r.0 r.1) range_rest ts
+path_end_from (token.Reserved word.Word) ts = into (λ j. numbered j) number ts
+path_end_from _ ts = refused ts
+
+unfoldable pub path_end : Reader PathEnd
+path_end [] = Err (stuck 0)
+path_end (t ∷ ts) = path_end_from t ts
+
+abbrev pub held : List ℕ → Option PathEnd → PartKind
+held fields None = kind.Whole fields
+held fields (Some (sliced first bits)) = kind.Slice fields first bits
+held fields (Some (numbered j)) = kind.Word fields j
+
+-- over the reader of what stands behind `->` in a part
+module _ (pointed : Reader PartKind) where
+  unfoldable pub part_kind_from : Token → Reader PartKind
+  part_kind_from (token.Symbol symbol.Equals) ts = into (λ n. kind.Const n) number ts
+  part_kind_from (token.Symbol symbol.Dot) ts = into (λ p. held (p.0 ∷ p.1.0) p.1.1) (pair field (pair more_fields (optional ends_path path_end))) ts
+  part_kind_from (token.Symbol symbol.Arrow) ts = pointed ts
+  part_kind_from _ ts = refused ts
+
+  unfoldable pub part_kind : Reader PartKind
+  part_kind [] = Err (stuck 0)
+  part_kind (t ∷ ts) = part_kind_from t ts
+
+  unfoldable pub part : Reader PartDecl
+  part = into (λ p. record { o = p.0.0; l = p.0.1; kind = p.1 }) (pair range part_kind)
+
+  unfoldable pub item_from : Token → Reader LayItem
+  item_from (token.Reserved word.Word) ts = into (λ p. lay_item.Word p.0 p.1.1) (pair number (pair (expect symbol.OpenBrace) (any_closed part symbol.CloseBrace))) ts
+  item_from (token.Reserved word.Inline) ts = into (λ p. lay_item.Inline p) path ts
+  item_from _ ts = refused ts
+
+  unfoldable pub item_one : Reader LayItem
+  item_one [] = Err (stuck 0)
+  item_one (t ∷ ts) = item_from t ts
+
+-- with no level left
+unfoldable pub no_pointer : Reader PartKind
+no_pointer ts = Err (deep (suc (length ts)))
+
+unfoldable pub pointer : Reader LayItem → Reader PartKind
+pointer inner = into (λ p. kind.Pointer p.0 p.1.1) (pair number (pair (expect symbol.OpenBrace) (any_closed inner symbol.CloseBrace)))
+
+-- a word or the words of a field, with so many levels left for the pointer parts in it
+unfoldable pub lay_item_tree : ℕ → Reader LayItem
+lay_item_tree zero ts = item_one no_pointer ts
+lay_item_tree (suc n) ts = item_one (pointer (λ us. lay_item_tree n us)) ts
+
+-- Trees of layouts.
+
+abbrev pub begins_tree : Token → Bool
+begins_tree (token.Reserved w) = is_word word.Split (token.Reserved w)
+begins_tree (token.Upper name) = true
+begins_tree _ = false
+
+unfoldable pub arm_tree : Reader SplitTree → Reader ArmTree
+arm_tree inner = into (λ p. record { literal = p.0; under = p.1.1 }) (pair number (pair (expect symbol.FatArrow) inner))
+
+unfoldable pub else_tree : Reader SplitTree → Reader SplitTree
+else_tree inner = into (λ p. p.1.1) (pair (expect_word word.Else) (pair (expect symbol.FatArrow) inner))
+
+unfoldable pub split_rest : Reader SplitTree → Reader SplitTree
+split_rest inner = into (λ p. split.Split p.0 p.1.1.0 p.1.1.1.0)
+    (pair location (pair (expect symbol.OpenBrace) (pair (each_of is_number (arm_tree inner))
+    (pair (optional (λ t. is_word word.Else t) (else_tree inner)) (expect symbol.CloseBrace)))))
+
+unfoldable pub leaf : ℕ → ℕ → ℕ → Reader SplitTree
+leaf n total at = into (λ p. split.Leaf at p.0 p.1.1.1)
+    (pair (provenance n total) (pair (expect symbol.Colon) (pair (expect symbol.OpenBrace) (some_closed (lay_item_tree n) symbol.Comma symbol.CloseBrace))))
+
+-- by the first token: a split, behind its word, or a leaf
+unfoldable pub tree_by : Reader SplitTree → Reader SplitTree → Reader SplitTree
+tree_by inner whole [] = Err (stuck 0)
+tree_by inner whole (token.Reserved word.Split ∷ ts) = split_rest inner ts
+tree_by inner whole (token.Upper name ∷ ts) = whole (token.Upper name ∷ ts)
+tree_by inner whole (t ∷ ts) = refused ts
+
+-- a layout's tree, with so many levels left
+unfoldable pub layout_tree : ℕ → ℕ → Reader SplitTree
+layout_tree zero total ts = beyond begins_tree ts
+layout_tree (suc n) total ts = tree_by (λ us. layout_tree n total us) (λ us. leaf n total (total - length us) us) ts
+
+-- Items.
+
+-- a layout behind its type's name: its shape and tree, or the word of a derived one
+pub data LayoutRest : Type 0 where
+  laid_out : List ℕ → SplitTree → LayoutRest
+  derived : Auto → LayoutRest
+
+unfoldable pub auto_from : Token → Reader Auto
+auto_from (token.Reserved word.Boxed) ts = Ok (auto.Boxed, ts)
+auto_from (token.Reserved word.Packed) ts = Ok (auto.Packed, ts)
+auto_from _ ts = refused ts
+
+unfoldable pub auto_word : Reader Auto
+auto_word [] = Err (stuck 0)
+auto_word (t ∷ ts) = auto_from t ts
+
+-- an item at the number of its first token
+module _ (limit total : ℕ) where
+  unfoldable pub layout_rest_from : Token → Reader LayoutRest
+  layout_rest_from (token.Symbol symbol.Less) ts = into (λ p. laid_out p.0 p.1.1.0)
+      (pair (some_closed number symbol.Comma symbol.Greater) (pair (expect symbol.Equals) (pair (layout_tree limit total) (expect symbol.Semicolon)))) ts
+  layout_rest_from (token.Symbol symbol.Equals) ts = into (λ p. derived p.0) (pair auto_word (expect symbol.Semicolon)) ts
+  layout_rest_from _ ts = refused ts
+
+  unfoldable pub layout_rest : Reader LayoutRest
+  layout_rest [] = Err (stuck 0)
+  layout_rest (t ∷ ts) = layout_rest_from t ts
+
+  abbrev pub layout_of : ℕ → NameTree → LayoutRest → ItemTree
+  layout_of at name (laid_out shape tree) = top.Layouts (record { at = at; ty = name; shape = shape; tree = tree })
+  layout_of at name (derived a) = top.Derived name a
+
+  unfoldable pub type_item : Reader ItemTree
+  type_item = into (λ p. top.Types (record { name = p.0; cons = p.1.1 })) (pair (upper_name total) (pair (expect symbol.Equals) (some_closed (con_tree total) symbol.Bar symbol.Semicolon)))
+
+  unfoldable pub layout_item : ℕ → Reader ItemTree
+  layout_item at = into (λ p. layout_of at p.0 p.1) (pair (upper_name total) layout_rest)
+
+  unfoldable pub fun_item : Reader ItemTree
+  fun_item = into (λ p. top.Funs (record { name = p.0; params = p.1.1.0; result = p.1.1.1.1.0; body = p.1.1.1.1.1.1.0 }))
+      (pair (lower_name total) (pair (expect symbol.OpenParen) (pair (any_closed (param_tree total) symbol.CloseParen)
+      (pair (expect symbol.Colon) (pair (type_tree total) (pair (expect symbol.Equals) (pair (expression limit total) (expect symbol.Semicolon))))))))
+
+  unfoldable pub file_item_from : ℕ → Token → Reader ItemTree
+  file_item_from at (token.Reserved word.Type) ts = type_item ts
+  file_item_from at (token.Reserved word.Layout) ts = layout_item at ts
+  file_item_from at (token.Reserved word.Fun) ts = fun_item ts
+  file_item_from at _ ts = refused ts
+
+  unfoldable pub file_item : Reader ItemTree
+  file_item [] = Err (stuck 0)
+  file_item (t ∷ ts) = file_item_from (total - suc (length ts)) t ts
+
+abbrev pub begins_item : Token → Bool
+begins_item (token.Reserved word.Type) = true
+begins_item (token.Reserved word.Layout) = true
+begins_item (token.Reserved word.Fun) = true
+begins_item _ = false
+
+-- the items of a file, with so many levels for each body and layout
+unfoldable pub file_items : ℕ → ℕ → Reader (List ItemTree)
+file_items total limit = each_of begins_item (file_item limit total)

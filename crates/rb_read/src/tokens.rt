@@ -1,0 +1,150 @@
+//! Reads one token. Each function takes the tokens that are left and gives what it read with those
+//! behind it.
+
+ghost use Rattle.std.specs.Prelude.{◌≡◌, ◌-◌, ◌<◌, ◌^◌, length};
+ghost use Rattle.rb_syntax.specs.Tokens.{tokens};
+ghost use Rattle.rb_read.specs.Combining as combining;
+ghost use Rattle.rb_read.specs.Tokens as reading;
+ghost use Rattle.rb_read.specs.Gives.{Gives};
+
+use crate::stop::Stop;
+use rb_syntax::token::{Placed, Symbol, Token, Word};
+use rb_syntax::tree::NameTree;
+use std::alloc::Global;
+
+/// The number of the token at which the rest begins.
+pub fn number_of(total: usize, rest: &[Placed]) -> u32
+    requires { total < 2 ^ 32 }
+    ensures { result ≡ total - length rest.now }
+{
+    total.saturating_sub(rest.len()) as u32
+}
+
+/// Whether the first token is this symbol.
+pub fn begins_with(symbol: Symbol, placed: &[Placed]) -> bool
+    ensures { result ≡ combining.begins_with symbol (tokens placed.now) }
+{
+    match placed {
+        [] => false,
+        [first, ..] => match first.token {
+            Token::Symbol(s) => s == symbol,
+            _ => false,
+        },
+    }
+}
+
+/// Takes this symbol.
+#[tactic(auto, unfolding(crate::specs::Combining::passing))]
+pub fn expect(symbol: Symbol, placed: &[Placed]) -> Result<&[Placed], Stop>
+    ensures { Gives (λ r. (tt, tokens r.now)) result (combining.expect symbol (tokens placed.now)) }
+{
+    match placed {
+        [] => Err(Stop::Stuck(0)),
+        [first, rest @ ..] => match first.token {
+            Token::Symbol(s) if s == symbol => Ok(rest),
+            _ => Err(Stop::Stuck(placed.len())),
+        },
+    }
+}
+
+/// Takes this reserved word.
+#[tactic(auto, unfolding(crate::specs::Combining::passing))]
+pub fn expect_word(word: Word, placed: &[Placed]) -> Result<&[Placed], Stop>
+    ensures { Gives (λ r. (tt, tokens r.now)) result (combining.expect_word word (tokens placed.now)) }
+{
+    match placed {
+        [] => Err(Stop::Stuck(0)),
+        [first, rest @ ..] => match first.token {
+            Token::Reserved(w) if w == word => Ok(rest),
+            _ => Err(Stop::Stuck(placed.len())),
+        },
+    }
+}
+
+/// A name that begins with a small letter.
+#[tactic(auto, unfolding(crate::specs::Tokens::lower_name))]
+pub fn read_lower(
+    alloc: Global,
+    total: usize,
+    placed: &[Placed],
+) -> Result<(NameTree, &[Placed]), Stop>
+    requires { total < 2 ^ 32 }
+    ensures { Gives (λ x. (x.0, tokens x.1.now)) result (reading.lower_name total (tokens placed.now)) }
+{
+    match placed {
+        [] => Err(Stop::Stuck(0)),
+        [first, rest @ ..] => match &first.token {
+            Token::Lower(name) => {
+                let at = number_of(total, placed);
+                let text = name.copy(alloc)?;
+                Ok((NameTree { at, text }, rest))
+            }
+            _ => Err(Stop::Stuck(placed.len())),
+        },
+    }
+}
+
+/// A name that begins with a capital.
+#[tactic(auto, unfolding(crate::specs::Tokens::upper_name))]
+pub fn read_upper(
+    alloc: Global,
+    total: usize,
+    placed: &[Placed],
+) -> Result<(NameTree, &[Placed]), Stop>
+    requires { total < 2 ^ 32 }
+    ensures { Gives (λ x. (x.0, tokens x.1.now)) result (reading.upper_name total (tokens placed.now)) }
+{
+    match placed {
+        [] => Err(Stop::Stuck(0)),
+        [first, rest @ ..] => match &first.token {
+            Token::Upper(name) => {
+                let at = number_of(total, placed);
+                let text = name.copy(alloc)?;
+                Ok((NameTree { at, text }, rest))
+            }
+            _ => Err(Stop::Stuck(placed.len())),
+        },
+    }
+}
+
+/// A number.
+#[tactic(auto, unfolding(crate::specs::Tokens::number))]
+pub fn read_number(placed: &[Placed]) -> Result<(u64, &[Placed]), Stop>
+    ensures { Gives (λ x. (x.0, tokens x.1.now)) result (reading.number (tokens placed.now)) }
+{
+    match placed {
+        [] => Err(Stop::Stuck(0)),
+        [first, rest @ ..] => match first.token {
+            Token::Num(n) => Ok((n, rest)),
+            _ => Err(Stop::Stuck(placed.len())),
+        },
+    }
+}
+
+/// The number of a field.
+#[tactic(auto, unfolding(crate::specs::Tokens::field))]
+pub fn read_field(placed: &[Placed]) -> Result<(u32, &[Placed]), Stop>
+    ensures { Gives (λ x. (x.0, tokens x.1.now)) result (reading.field (tokens placed.now)) }
+{
+    match placed {
+        [] => Err(Stop::Stuck(0)),
+        [first, rest @ ..] => match first.token {
+            Token::Num(n) if n < 1 << 32 => Ok((n as u32, rest)),
+            _ => Err(Stop::Stuck(placed.len())),
+        },
+    }
+}
+
+/// The width of a type of integers.
+#[tactic(auto, unfolding(crate::specs::Tokens::width))]
+pub fn read_width(placed: &[Placed]) -> Result<(u8, &[Placed]), Stop>
+    ensures { Gives (λ x. (x.0, tokens x.1.now)) result (reading.width (tokens placed.now)) }
+{
+    match placed {
+        [] => Err(Stop::Stuck(0)),
+        [first, rest @ ..] => match first.token {
+            Token::Uint(bits) if 0 < bits && bits <= 64 => Ok((bits, rest)),
+            _ => Err(Stop::Stuck(placed.len())),
+        },
+    }
+}
