@@ -1,6 +1,7 @@
 //! Reads files.
 #![tactic(auto)]
 
+mod list;
 mod starting;
 mod stop;
 mod tokens;
