@@ -1,0 +1,48 @@
+-- Which token is at fault.
+use Rattle.std.specs.Prelude.{◌≡◌, ℕ, suc, ◌<◌, ◌≤◌, List, [], ◌∷◌, ◌++◌, length, take, Result, Ok, Err}
+use Rattle.rb_syntax.specs.declared.token.Token.{Token}
+use Rattle.rb_syntax.specs.declared.tree.ItemTree.{ItemTree}
+use Rattle.rb_syntax.specs.declared.tree.FileTree.{FileTree}
+use Rattle.rb_syntax.specs.Written.{HasNode}
+use Rattle.rb_syntax.specs.Spelling.{IsTreeOf, file_written}
+use Rattle.rb_read.specs.Combining.{Fault, stuck, Reading}
+
+-- all the tokens of a file, of any depth
+abbrev pub IsSpelled : List Token → Type 0
+IsSpelled ts = (file : FileTree) × IsTreeOf ts file
+
+-- the first tokens of a file
+abbrev pub IsPrefix : List Token → Type 0
+IsPrefix ts = (more : List Token) × IsSpelled (ts ++ more)
+
+-- the first token at which no file goes on, or the count of tokens where they are no whole file
+pub record StopsAt (ts : List Token) (p : ℕ) : Type 0 where
+  pub within : p ≤ length ts
+  pub before : IsPrefix (take p ts)
+  pub here : p < length ts → IsPrefix (take (suc p) ts) → ⊥
+  pub at_end : p ≡ length ts → IsSpelled ts → ⊥
+
+-- The token begins a node at level 129 of a file that begins with the tokens up to it.
+pub record IsTooDeepAt (ts : List Token) (p : ℕ) : Type 0 where
+  pub within : p < length ts
+  pub more : List Token
+  pub file : FileTree
+  pub tree : IsTreeOf (take (suc p) ts ++ more) file
+  pub deep : HasNode (length (take (suc p) ts ++ more)) 129 p (file_written file)
+
+abbrev pub IsNowhereTooDeep : List Token → Type 0
+IsNowhereTooDeep ts = (p : ℕ) → IsTooDeepAt ts p → ⊥
+
+-- the first such token
+pub record IsFirstTooDeep (ts : List Token) (p : ℕ) : Type 0 where
+  pub too_deep : IsTooDeepAt ts p
+  pub is_first : (q : ℕ) → IsTooDeepAt ts q → p ≤ q
+
+-- the file of the items that are read, where no token is left
+unfoldable pub ended : List ItemTree → List Token → Result FileTree Fault
+ended items [] = Ok (record { items = items })
+ended items (t ∷ ts) = Err (stuck (suc (length ts)))
+
+unfoldable pub whole_file : Reading (List ItemTree) → Result FileTree Fault
+whole_file (Ok x) = ended x.0 x.1
+whole_file (Err e) = Err e
