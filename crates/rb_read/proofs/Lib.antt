@@ -1,3 +1,4 @@
+mod Completing
 pub mod Forms
 pub mod Loops
 mod Steps
