@@ -1,5 +1,5 @@
 -- What is open behind a file's first tokens can always be completed.
-use Rattle.std.proofs.Common.{◌≡◌, ℕ, suc, ◌^◌, List, [], ◌∷◌, ◌++◌, Bool, true, false, nat_lt, if◌then◌else◌, Option, Some, None, refl, sym, ◌∙◌, ap, subst, arith, codes}
+use Rattle.std.proofs.Common.{◌≡◌, ℕ, suc, ◌^◌, List, [], ◌∷◌, ◌++◌, Bool, true, false, nat_lt, if◌then◌else◌, Option, Some, None, refl, sym, ◌∙◌, ap, subst, arith, codes, append_assoc}
 use Rattle.std.proofs.lemmas.Grind.{common_steps}
 use Rattle.rb_syntax.specs.declared.token.Word.{Word}
 use Rattle.rb_syntax.specs.declared.token.Word.TheVariants as word
@@ -230,3 +230,151 @@ completes (first a close ∷ k) h =
     let e : Ends k (completion k) = completes k h.2 in record { last = e.last; reached = rw (is_symbol-same close) e.reached; done = e.done }
 completes (next a separator close ∷ k) h =
     let e : Ends k (completion k) = completes k h.2 in record { last = e.last; reached = rw (h.1, is_symbol-same close) e.reached; done = e.done }
+
+-- Each step keeps it so.
+abbrev StepFits : Step → Type 0
+StepFits None = Unit {0}
+StepFits (Some s) = Fits s.1
+
+after_part : (b : Bool) (k : List Open) → IsAfter k → IsAfterPart b k
+after_part true k p = p
+after_part false k p = tt
+
+if_so-fits : (b : Bool) (k js : List Open) → Fits (js ++ k) → StepFits (ahead_of k (if_so b js))
+if_so-fits true k js h = h
+if_so-fits false k js h = tt
+
+some-fits : (a : Kind) (separator close : Symbol) (k : List Open) → is_plain (sym_of close) ≡ true → is_symbol separator (sym_of close) ≡ false → Fits k
+    → Fits (one a ∷ next a separator close ∷ k)
+some-fits a separator close k p s h = (after_part (is_loose a) _ p, (p, s, h))
+
+abbrev IsBegun : Kind → Token → List Open → Type 0
+IsBegun a t k = Fits k → IsAfterPart (is_loose a) k → StepFits (ahead_of k (begins a t))
+
+ahead_of-fits : (k js : List Open) (r : Step) → StepFits (ahead_of (js ++ k) r) → StepFits (ahead_of k (ahead_of js r))
+ahead_of-fits k js None h = tt
+ahead_of-fits k js (Some s) h = rw (append_assoc s.1 js k) h
+
+pattern-fits : (l : ℕ) (t : Token) (k : List Open) → Fits k → IsAfter k → StepFits (ahead_of k (as_pattern l t))
+unfolding as_pattern
+pattern-fits l (token.Symbol symbol.Underscore) k h p = h
+pattern-fits l (token.Lower name) k h p = h
+pattern-fits l (token.Num n) k h p = h
+pattern-fits l (token.Upper name) k h p = (fields-left_out (pat (suc l)), p, h)
+pattern-fits l _ k h p = tt
+
+form-fits : (l : ℕ) (f : Form) (k : List Open) → Fits k → IsAfter k → StepFits (ahead_of k (as_expr l f))
+form-fits l (form.Operation op) k h p = (tt, (refl, (tt, (refl, (tt, h)))))
+form-fits l form.Conversion k h p = (tt, (tt, (refl, (tt, h))))
+form-fits l form.Binding k h p = (tt, (tt, (tt, (tt, (refl, (tt, (p, h)))))))
+form-fits l form.Matching k h p = (refl, (tt, some-fits (clause (suc l)) symbol.Comma symbol.CloseBrace k refl refl h))
+form-fits l form.Other k h p = tt
+
+begins-fits : (a : Kind) (t : Token) (k : List Open) → IsBegun a t k
+unfolding begins
+begins-fits (the s) t k h p = if_so-fits _ k [] h
+begins-fits (the_word w) t k h p = if_so-fits _ k [] h
+begins-fits a_lower (token.Lower name) k h p = h
+begins-fits a_lower _ k h p = tt
+begins-fits an_upper (token.Upper name) k h p = h
+begins-fits an_upper _ k h p = tt
+begins-fits a_number (token.Num n) k h p = h
+begins-fits a_number _ k h p = tt
+begins-fits a_width (token.Uint bits) k h p = if_so-fits _ k [] h
+begins-fits a_width _ k h p = tt
+begins-fits a_field (token.Num n) k h p = if_so-fits _ k [] h
+begins-fits a_field _ k h p = tt
+begins-fits a_type (token.Uint bits) k h p = if_so-fits _ k [] h
+begins-fits a_type (token.Upper name) k h p = h
+begins-fits a_type _ k h p = tt
+begins-fits a_con (token.Upper name) k h p = (fields-left_out a_type, p, h)
+begins-fits a_con _ k h p = tt
+begins-fits a_param (token.Lower name) k h p = (tt, (tt, h))
+begins-fits a_param _ k h p = tt
+begins-fits (expr l) (token.Num n) k h p = h
+begins-fits (expr l) (token.Lower name) k h p = (arguments-left_out (suc l), p, h)
+begins-fits (expr l) (token.Upper name) k h p = (fields-left_out (expr (suc l)), p, h)
+begins-fits (expr l) (token.Reserved w) k h p = form-fits l (form_of w) k h p
+begins-fits (expr l) _ k h p = tt
+begins-fits (arguments l) t k h p = if_so-fits _ k _ (refl, refl, h)
+begins-fits (fields a) t k h p = if_so-fits _ k _ (some-fits a symbol.Comma symbol.CloseParen k refl refl h)
+begins-fits (pat l) t k h p = pattern-fits l t k h p
+begins-fits (clause l) t k h p =
+    let js : List Open = one (the symbol.FatArrow) ∷ one (expr l) ∷ [] in ahead_of-fits k js (as_pattern l t) (pattern-fits l t (js ++ k) (tt, (p, h)) refl)
+begins-fits into_field t k h p = if_so-fits _ k _ (tt, h)
+begins-fits a_range t k h p = if_so-fits _ k _ (tt, (tt, (tt, (tt, h))))
+begins-fits path_end (token.Symbol symbol.OpenBracket) k h p = (tt, (tt, (tt, (tt, h))))
+begins-fits path_end (token.Reserved word.Word) k h p = (tt, h)
+begins-fits path_end _ k h p = tt
+begins-fits (part_kind l) (token.Symbol symbol.Equals) k h p = (tt, h)
+begins-fits (part_kind l) (token.Symbol symbol.Dot) k h p = (tt, (into_field-left_out, p, (path_end-left_out, p, h)))
+begins-fits (part_kind l) (token.Symbol symbol.Arrow) k h p = (tt, (tt, (refl, refl, h)))
+begins-fits (part_kind l) _ k h p = tt
+begins-fits (part l) t k h p = if_so-fits _ k _ (tt, (tt, (tt, (tt, (p, h)))))
+begins-fits (lay_item l) (token.Reserved word.Word) k h p = (tt, (tt, (refl, refl, h)))
+begins-fits (lay_item l) (token.Reserved word.Inline) k h p = (tt, (into_field-left_out, p, h))
+begins-fits (lay_item l) _ k h p = tt
+begins-fits loc_step t k h p = if_so-fits _ k _ (tt, (tt, (tt, (tt, (tt, (tt, h))))))
+begins-fits (prov l) (token.Upper name) k h p = (fields-left_out (below (suc l)), p, h)
+begins-fits (prov l) _ k h p = tt
+begins-fits (below l) (token.Symbol symbol.Underscore) k h p = h
+begins-fits (below l) (token.Upper name) k h p = (fields-left_out (below (suc l)), p, h)
+begins-fits (below l) _ k h p = tt
+begins-fits (tree l) (token.Reserved word.Split) k h p =
+    (tt, (tt, (loc_step-left_out, refl, (tt, (arm-left_out (suc l), refl, (other-left_out (suc l), refl, (tt, h)))))))
+begins-fits (tree l) (token.Upper name) k h p = (
+  fields-left_out (below (suc (suc l))),
+  refl,
+  (
+    tt,
+    (
+      tt,
+      some-fits (lay_item (suc l)) symbol.Comma symbol.CloseBrace k refl refl h,
+    ),
+  ),
+)
+begins-fits (tree l) _ k h p = tt
+begins-fits (arm l) (token.Num n) k h p = (tt, (tt, h))
+begins-fits (arm l) _ k h p = tt
+begins-fits (other l) t k h p = if_so-fits _ k _ (tt, (tt, h))
+begins-fits layout_rest (token.Symbol symbol.Less) k h p = (tt, (refl, refl, (tt, (tt, (tt, h)))))
+begins-fits layout_rest (token.Symbol symbol.Equals) k h p = (tt, (tt, h))
+begins-fits layout_rest _ k h p = tt
+begins-fits derived (token.Reserved word.Boxed) k h p = h
+begins-fits derived (token.Reserved word.Packed) k h p = h
+begins-fits derived _ k h p = tt
+begins-fits item (token.Reserved word.Type) k h p = (tt, (tt, some-fits a_con symbol.Bar symbol.Semicolon k refl refl h))
+begins-fits item (token.Reserved word.Layout) k h p = (tt, (tt, h))
+begins-fits item (token.Reserved word.Fun) k h p = (tt, (tt, (refl, refl, (tt, (tt, (tt, (refl, (tt, h))))))))
+begins-fits item _ k h p = tt
+
+or_else-fits : (r s : Step) → StepFits r → StepFits s → StepFits (or_else r s)
+or_else-fits None s h g = g
+or_else-fits (Some x) s h g = h
+
+if-fits : (b : Bool) (r s : Step) → StepFits r → StepFits s → StepFits (if b then r else s)
+if-fits true r s h g = h
+if-fits false r s h g = g
+
+pub step-fits : (k : List Open) (t : Token) → Fits k → StepFits (step k t)
+unfolding step
+step-fits [] t h = tt
+step-fits (one a ∷ k) t h = begins-fits a t k h.1 h.0
+step-fits (maybe a ∷ k) t h = or_else-fits _ _ (begins-fits a t k h.2 (after_part (is_loose a) k h.1)) (step-fits k t h.2)
+step-fits (many a ∷ k) t h = or_else-fits _ _ (begins-fits a t (many a ∷ k) h (after_part (is_loose a) _ h.1)) (step-fits k t h.2)
+step-fits (first a close ∷ k) t h =
+    if-fits (is_symbol close t) (Some (0, k)) _ h.2 (begins-fits a t (next a symbol.Comma close ∷ k) h (after_part (is_loose a) _ h.0))
+step-fits (next a separator close ∷ k) t h =
+    if-fits (is_symbol separator t) (Some (0, one a ∷ next a separator close ∷ k)) (if is_symbol close t then Some (0, k) else None)
+    (some-fits a separator close k h.0 h.1 h.2) (if-fits (is_symbol close t) (Some (0, k)) None h.2 tt)
+
+fits-behind : (ts : List Token) (k' : List Open) (o : Step) → StepFits o → goes_to o (λ j. steps j ts) ≡ Some k'
+    → ((j : List Open) → Fits j → steps j ts ≡ Some k' → Fits k') → Fits k'
+unfolding goes_to
+fits-behind ts k' None h e g = cc
+fits-behind ts k' (Some s) h e g = g s.1 h e
+
+pub steps-fits : (ts : List Token) (k k' : List Open) → Fits k → steps k ts ≡ Some k' → Fits k'
+unfolding steps
+steps-fits [] k k' h e = let q : k ≡ k' = cc in subst Fits q h
+steps-fits (t ∷ ts) k k' h e = fits-behind ts k' (step k t) (step-fits k t h) e (λ j f w. steps-fits ts j k' f w)

@@ -79,8 +79,11 @@ if_so false k = None
 abbrev pub as_expr : ℕ → Form → Step
 as_expr l (form.Operation op) = Some (l, one (the symbol.OpenParen) ∷ one (expr (suc l)) ∷ one (the symbol.Comma) ∷ one (expr (suc l)) ∷ one (the symbol.CloseParen) ∷ [])
 as_expr l form.Conversion = Some (l, one a_width ∷ one (the symbol.OpenParen) ∷ one (expr (suc l)) ∷ one (the symbol.CloseParen) ∷ [])
-as_expr l form.Binding = Some (l, one a_lower ∷ one (the symbol.Colon) ∷ one a_type ∷ one (the symbol.Equals)
-    ∷ one (expr (suc l)) ∷ one (the_word word.In) ∷ one (expr (suc l)) ∷ [])
+as_expr l form.Binding = Some (
+  l,
+  one a_lower ∷ one (the symbol.Colon) ∷ one a_type ∷ one (the symbol.Equals)
+      ∷ one (expr (suc l)) ∷ one (the_word word.In) ∷ one (expr (suc l)) ∷ [],
+)
 as_expr l form.Matching = Some (l, one (expr (suc l)) ∷ one (the symbol.OpenBrace) ∷ one (clause (suc l)) ∷ next (clause (suc l)) symbol.Comma symbol.CloseBrace ∷ [])
 as_expr l form.Other = None
 
@@ -146,16 +149,25 @@ begins (prov l) _ = None
 begins (below l) (token.Symbol symbol.Underscore) = Some (l, [])
 begins (below l) (token.Upper name) = Some (l, maybe (fields (below (suc l))) ∷ [])
 begins (below l) _ = None
-begins (tree l) (token.Reserved word.Split) = Some (l, one a_number ∷ one a_range ∷ many loc_step ∷ one (the symbol.OpenBrace)
-    ∷ many (arm (suc l)) ∷ maybe (other (suc l)) ∷ one (the symbol.CloseBrace) ∷ [])
-begins (tree l) (token.Upper name) = Some (suc l, maybe (fields (below (suc (suc l)))) ∷ one (the symbol.Colon) ∷ one (the symbol.OpenBrace)
-    ∷ some_open (lay_item (suc l)) symbol.Comma symbol.CloseBrace)
+begins (tree l) (token.Reserved word.Split) = Some (
+  l,
+  one a_number ∷ one a_range ∷ many loc_step ∷ one (the symbol.OpenBrace)
+      ∷ many (arm (suc l)) ∷ maybe (other (suc l)) ∷ one (the symbol.CloseBrace) ∷ [],
+)
+begins (tree l) (token.Upper name) = Some (
+  suc l,
+  maybe (fields (below (suc (suc l)))) ∷ one (the symbol.Colon) ∷ one (the symbol.OpenBrace)
+      ∷ some_open (lay_item (suc l)) symbol.Comma symbol.CloseBrace,
+)
 begins (tree l) _ = None
 begins (arm l) (token.Num n) = Some (0, one (the symbol.FatArrow) ∷ one (tree l) ∷ [])
 begins (arm l) _ = None
 begins (other l) t = if_so (is_word word.Else t) (one (the symbol.FatArrow) ∷ one (tree l) ∷ [])
-begins layout_rest (token.Symbol symbol.Less) = Some (0, one a_number ∷ next a_number symbol.Comma symbol.Greater
-    ∷ one (the symbol.Equals) ∷ one (tree 1) ∷ one (the symbol.Semicolon) ∷ [])
+begins layout_rest (token.Symbol symbol.Less) = Some (
+  0,
+  one a_number ∷ next a_number symbol.Comma symbol.Greater
+      ∷ one (the symbol.Equals) ∷ one (tree 1) ∷ one (the symbol.Semicolon) ∷ [],
+)
 begins layout_rest (token.Symbol symbol.Equals) = Some (0, one derived ∷ one (the symbol.Semicolon) ∷ [])
 begins layout_rest _ = None
 begins derived (token.Reserved word.Boxed) = Some (0, [])
@@ -163,8 +175,11 @@ begins derived (token.Reserved word.Packed) = Some (0, [])
 begins derived _ = None
 begins item (token.Reserved word.Type) = Some (0, one an_upper ∷ one (the symbol.Equals) ∷ some_open a_con symbol.Bar symbol.Semicolon)
 begins item (token.Reserved word.Layout) = Some (0, one an_upper ∷ one layout_rest ∷ [])
-begins item (token.Reserved word.Fun) = Some (0, one a_lower ∷ one (the symbol.OpenParen) ∷ first a_param symbol.CloseParen
-    ∷ one (the symbol.Colon) ∷ one a_type ∷ one (the symbol.Equals) ∷ one (expr 1) ∷ one (the symbol.Semicolon) ∷ [])
+begins item (token.Reserved word.Fun) = Some (
+  0,
+  one a_lower ∷ one (the symbol.OpenParen) ∷ first a_param symbol.CloseParen
+      ∷ one (the symbol.Colon) ∷ one a_type ∷ one (the symbol.Equals) ∷ one (expr 1) ∷ one (the symbol.Semicolon) ∷ [],
+)
 begins item _ = None
 
 -- the first of two that there is
