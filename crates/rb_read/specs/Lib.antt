@@ -1,6 +1,6 @@
 pub mod Combining
-pub mod Gives
 pub mod Exact
+pub mod Gives
 pub mod Open
 pub mod Reading
 pub mod Starting
