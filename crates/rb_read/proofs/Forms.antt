@@ -1,9 +1,9 @@
 -- What holds of a form of the grammar: of how it is written, how it is read, and what is open where it begins.
-use Rattle.std.proofs.Common.{◌≡◌, ℕ, zero, suc, ◌+◌, ◌-◌, ◌<◌, ◌≤◌, List, [], ◌∷◌, ◌++◌, map, length, drop, Bool, true, false, nat_lt, if◌then◌else◌, Option, Some, None, Ok, Err, IfOk, refl, sym, ◌∙◌, ap, subst, arith}
+use Rattle.std.proofs.Common.{◌≡◌, ℕ, ◌≤◌, List, [], ◌∷◌, ◌++◌, length, Bool, false, nat_lt, if◌then◌else◌, Option, Some, None, Ok, Err, IfOk}
 use Rattle.rb_syntax.specs.declared.token.Token.{Token}
 use Rattle.rb_syntax.specs.Written.{Written, token, number, node, flaw, tokens_in, AreNumbered, AreWithin, HaveNoFlaw, Writing}
-use Rattle.rb_read.specs.Combining.{Fault, stuck, deep, Reading, Reader, ◌>>=◌, pair, into, nothing}
-use Rattle.rb_read.specs.Open.{Kind, Open, End, stopped, too_deep, run}
+use Rattle.rb_read.specs.Combining.{stuck, deep, Reading, Reader}
+use Rattle.rb_read.specs.Open.{Open, End, stopped, too_deep, run}
 
 -- the end of what goes on behind what was read
 abbrev pub goes : {A : Type 0} → ℕ → List Open → Reading A → End
