@@ -144,7 +144,7 @@ pub opens-form : {X : Type 0} {total limit : ℕ} {bars : Token → Bool} {opens
     → IsForm total limit bars opens written r → IsForm total limit bars opens' written r
 opens-form same f = record { takes = f.takes; again = f.again; follows = λ ts k. same k ts ∙ f.follows ts k; shrinks = f.shrinks }
 
-ahead-ahead : (k os : List Open) (s : Step) → ahead_of k (ahead_of os s) ≡ ahead_of (os ++ k) s
+pub ahead-ahead : (k os : List Open) (s : Step) → ahead_of k (ahead_of os s) ≡ ahead_of (os ++ k) s
 ahead-ahead k os None = refl
 ahead-ahead k os (Some s) = ap (λ o. Some (s.0, o)) (append_assoc s.1 os k)
 

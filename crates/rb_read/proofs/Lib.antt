@@ -3,3 +3,5 @@ pub mod FormLaws
 pub mod Forms
 pub mod Loops
 mod Steps
+pub mod NodeForms
+pub mod TokenForms
