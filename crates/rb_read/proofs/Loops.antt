@@ -1,5 +1,5 @@
 -- One turn of a loop over parts, each but the last with a separator behind it.
-use Rattle.std.proofs.Common.{◌≡◌, ℕ, suc, ◌+◌, ◌-◌, List, [], ◌∷◌, ◌++◌, ◌<◌, length, take, drop, true, false, Ok, Err, refl, sym, ◌∙◌, ap, arith, append_assoc}
+use Rattle.std.proofs.Common.{◌≡◌, ℕ, suc, ◌+◌, ◌-◌, List, [], ◌∷◌, ◌++◌, ◌<◌, length, take, drop, Bool, true, false, if◌then◌else◌, Ok, Err, refl, sym, ◌∙◌, ap, arith, append_assoc}
 use Rattle.std.proofs.Math.Seq.{take-length}
 use Rattle.rb_syntax.specs.declared.token.Placed.{Placed}
 use Rattle.rb_syntax.specs.declared.token.Token.{Token}
@@ -7,7 +7,7 @@ use Rattle.rb_syntax.specs.declared.token.Symbol.{Symbol}
 use Rattle.rb_syntax.specs.Tokens.{tokens}
 use Rattle.rb_read.specs.declared.stop.Stop.{Stop}
 use Rattle.rb_read.specs.declared.stop.Stop.TheVariants as stop
-use Rattle.rb_read.specs.Combining.{Fault, stuck, deep, Reading, Reader, ◌>>=◌, begins_with, expect, with_all, behind, some_of}
+use Rattle.rb_read.specs.Combining.{Fault, stuck, deep, Reading, Reader, ◌>>=◌, begins_with, expect, at_front, with_all, behind, some_of, beyond}
 use Rattle.rb_read.specs.Gives.{Fails}
 
 -- the tokens behind the first
@@ -63,3 +63,19 @@ pub no_turn : {A : Type 0} (r : Reader A) (separator close : Symbol) (front : Li
     → count - i ≡ 0 → with_all front (some_of r separator close (count - i) ts) ≡ all → all ≡ Err (stuck 0)
 unfolding some_of
 no_turn r separator close front count i ts all z h = sym h ∙ rw z refl
+
+-- where no level is left
+fails-beyond : (A : Type 0) (b : Bool) (n m : ℕ) → n ≡ m
+    → Fails {A = A} (if b then stop.Deep n else stop.Stuck n) (if b then Err (deep m) else Err (stuck m))
+fails-beyond A true n m e = ap (λ k. Err (deep k)) (sym e)
+fails-beyond A false n m e = ap (λ k. Err (stuck k)) (sym e)
+
+tokens-length : (ps : List Placed) → length ps ≡ length (tokens ps)
+tokens-length [] = refl
+tokens-length (p ∷ ps) = ap suc (tokens-length ps)
+
+pub beyond-fails : (A : Type 0) (test : Token → Bool) (ps : List Placed)
+    → Fails (if at_front test (tokens ps) then stop.Deep (length ps) else stop.Stuck (length ps)) (beyond {A = A} test (tokens ps))
+unfolding beyond
+beyond-fails A test [] = refl
+beyond-fails A test (p ∷ ps) = fails-beyond A (test p.token) (length (p ∷ ps)) (suc (length (tokens ps))) (tokens-length (p ∷ ps))

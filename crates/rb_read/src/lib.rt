@@ -1,7 +1,10 @@
 //! Reads files.
 #![tactic(auto)]
 
+mod beyond;
 mod list;
+mod pattern;
 mod starting;
 mod stop;
 mod tokens;
+mod types;

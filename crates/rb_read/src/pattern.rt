@@ -1,0 +1,141 @@
+//! Reads patterns.
+
+ghost use Rattle.std.specs.Prelude.{◌≡◌, ◌<◌, ◌^◌};
+ghost use Rattle.rb_syntax.specs.declared.token.Symbol.TheVariants as symbols;
+ghost use Rattle.rb_syntax.specs.declared.tree.PatTree.TheVariants as pats;
+ghost use Rattle.rb_syntax.specs.Tokens.{tokens};
+ghost use Rattle.rb_read.specs.Combining as combining;
+ghost use Rattle.rb_read.specs.Reading as reading;
+ghost use Rattle.rb_read.specs.Gives.{Gives};
+
+use crate::beyond::beyond;
+use crate::stop::Stop;
+use crate::tokens::{begins_with, expect, number_of};
+use rb_core::seq::Seq;
+use rb_syntax::token::{Placed, Symbol, Token};
+use rb_syntax::tree::{Name, NameTree, PatTree};
+use std::alloc::Global;
+
+/// Whether the first token begins a pattern.
+fn begins_pattern(placed: &[Placed]) -> bool
+    ensures { result ≡ combining.at_front (λ t. reading.begins_pattern t) (tokens placed.now) }
+{
+    match placed {
+        [] => false,
+        [first, ..] => match first.token {
+            Token::Upper(_) | Token::Lower(_) | Token::Num(_) => true,
+            Token::Symbol(symbol) => symbol == Symbol::Underscore,
+            _ => false,
+        },
+    }
+}
+
+/// A pattern, with so many levels left.
+#[cycle(patterns)]
+#[tactic(auto, unfolding(crate::specs::Reading::pattern))]
+pub fn read_pattern<'a>(
+    alloc: Global,
+    levels: u32,
+    total: usize,
+    placed: &'a [Placed],
+) -> Result<(PatTree, &'a [Placed]), Stop>
+    requires { total < 2 ^ 32 }
+    ensures { Gives (λ x. (x.0, tokens x.1.now)) result (reading.pattern levels total (tokens placed.now)) }
+{
+    if levels == 0 {
+        return Err(beyond(begins_pattern(placed), placed));
+    }
+    read_pattern_node(alloc, levels - 1, total, placed)
+}
+
+/// A pattern whose subpatterns have so many levels left.
+#[cycle(patterns)]
+#[tactic(auto, unfolding(crate::specs::Reading::pattern_one, crate::specs::Reading::pattern_from))]
+fn read_pattern_node<'a>(
+    alloc: Global,
+    levels: u32,
+    total: usize,
+    placed: &'a [Placed],
+) -> Result<(PatTree, &'a [Placed]), Stop>
+    requires { total < 2 ^ 32 }
+    ensures { Gives (λ x. (x.0, tokens x.1.now)) result (reading.pattern_one (λ ts. reading.pattern levels total ts) total (tokens placed.now)) }
+{
+    match placed {
+        [] => Err(Stop::Stuck(0)),
+        [first, rest @ ..] => {
+            let at = number_of(total, placed);
+            match &first.token {
+                Token::Upper(name) => read_constructed(alloc, levels, total, at, name, rest),
+                Token::Lower(name) => {
+                    let text = name.copy(alloc)?;
+                    Ok((PatTree::Var(at, NameTree { at, text }), rest))
+                }
+                Token::Num(n) => Ok((PatTree::Num(at, *n), rest)),
+                Token::Symbol(Symbol::Underscore) => Ok((PatTree::Wild(at), rest)),
+                _ => Err(Stop::Stuck(placed.len())),
+            }
+        }
+    }
+}
+
+/// A constructor's pattern, behind its name.
+#[cycle(patterns)]
+#[tactic(auto, unfolding(crate::specs::Combining::into))]
+fn read_constructed<'a>(
+    alloc: Global,
+    levels: u32,
+    total: usize,
+    at: u32,
+    name: &Name,
+    placed: &'a [Placed],
+) -> Result<(PatTree, &'a [Placed]), Stop>
+    requires { total < 2 ^ 32 }
+    ensures { Gives (λ x. (x.0, tokens x.1.now)) result (combining.into (λ parts. pats.Con at (reading.named at name.now) parts) (combining.in_parens (λ ts. reading.pattern levels total ts)) (tokens placed.now)) }
+{
+    let text = name.copy(alloc)?;
+    let (parts, rest) = read_subpatterns(alloc, levels, total, placed)?;
+    Ok((PatTree::Con(at, NameTree { at, text }, parts), rest))
+}
+
+/// Patterns in parentheses, or nothing.
+#[cycle(patterns)]
+#[tactic(auto, unfolding(crate::specs::Combining::in_parens))]
+fn read_subpatterns<'a>(
+    alloc: Global,
+    levels: u32,
+    total: usize,
+    placed: &'a [Placed],
+) -> Result<(Seq<PatTree>, &'a [Placed]), Stop>
+    requires { total < 2 ^ 32 }
+    ensures { Gives (λ x. (x.0, tokens x.1.now)) result (combining.in_parens (λ ts. reading.pattern levels total ts) (tokens placed.now)) }
+{
+    if begins_with(Symbol::OpenParen, placed) {
+        return read_some_patterns(alloc, levels, total, &placed[1..]);
+    }
+    Ok((Seq::new(alloc), placed))
+}
+
+/// One pattern or more, and the parenthesis behind them.
+#[cycle(patterns)]
+fn read_some_patterns<'a>(
+    alloc: Global,
+    levels: u32,
+    total: usize,
+    placed: &'a [Placed],
+) -> Result<(Seq<PatTree>, &'a [Placed]), Stop>
+    requires { total < 2 ^ 32 }
+    ensures { Gives (λ x. (x.0, tokens x.1.now)) result (combining.some_closed (λ ts. reading.pattern levels total ts) symbols.Comma symbols.CloseParen (tokens placed.now)) }
+{
+    let mut parts = Seq::new(alloc);
+    let mut rest = placed;
+    for _turn in 0..placed.len() {
+        let (part, behind) = read_pattern(alloc, levels, total, rest)?;
+        parts.push(part)?;
+        if !begins_with(Symbol::Comma, behind) {
+            let behind = expect(Symbol::CloseParen, behind)?;
+            return Ok((parts, behind));
+        }
+        rest = &behind[1..];
+    }
+    Err(Stop::Stuck(0))
+}
