@@ -1,7 +1,8 @@
 mod Completing
 pub mod FormLaws
 pub mod Forms
+pub mod ListForms
 pub mod Loops
-mod Steps
 pub mod NodeForms
+mod Steps
 pub mod TokenForms

@@ -1,12 +1,12 @@
 -- Forms that are told by their first token.
-use Rattle.std.proofs.Common.{◌≡◌, ℕ, zero, suc, ◌+◌, ◌-◌, ◌<◌, ◌≤◌, List, [], ◌∷◌, ◌++◌, length, Bool, true, false, nat_lt, if◌then◌else◌, Option, Some, None, Ok, Err, IfOk, refl, sym, ◌∙◌, ap, subst, arith}
+use Rattle.std.proofs.Common.{◌≡◌, ℕ, suc, ◌-◌, ◌≤◌, List, [], ◌∷◌, ◌++◌, length, Bool, true, false, nat_lt, if◌then◌else◌, Some, None, Err, IfOk, refl, sym, ◌∙◌, ap, subst, arith}
 use Rattle.std.proofs.lemmas.Grind.{common_steps}
 use Rattle.rb_syntax.specs.declared.token.Token.{Token}
-use Rattle.rb_syntax.specs.Written.{Written, token, number, node, flaw, tokens_in, Writing, HaveNoFlaw, AreNumbered, AreWithin}
-use Rattle.rb_read.specs.Combining.{Fault, stuck, deep, Reading, Reader, ◌>>=◌, into, beyond}
-use Rattle.rb_read.specs.Open.{Kind, Open, one, Step, ahead_of, begins, step, is_done, end_of_tokens, stopped, go_on, run}
+use Rattle.rb_syntax.specs.Written.{Written, token, number, node, flaw, tokens_in, Writing}
+use Rattle.rb_read.specs.Combining.{stuck, deep, Reader, into, beyond}
+use Rattle.rb_read.specs.Open.{Kind, Open, one, Step, ahead_of, begins, step, is_done, end_of_tokens, go_on, run}
 use Rattle.rb_read.proofs.Forms.{goes, Spells, Took, IsRight, over, Again, fits, exceeds, Clear, IsForm}
-use Rattle.rb_read.proofs.FormLaws.{ok-bind, ok-same, ok-if, goes-bind, IsStrict, into-again, ahead-ahead}
+use Rattle.rb_read.proofs.FormLaws.{ok-bind, ok-same, goes-bind, IsStrict, into-again, ahead-ahead}
 
 -- What stands in front of a node's first token: the node, and numbers of its place.
 
@@ -134,11 +134,11 @@ pub deep-at : {X : Type 0} {total limit : ℕ} {a : Kind} {written : X → Writi
 unfolding run step go_on
 deep-at level opens begun more err = record { takes_on = λ ts. rw (err ts) tt; follows_on = λ ts k. rw (begun, err ts, more) refl; shrinks_on = λ ts. rw (err ts) tt }
 
-put-token : (total limit : ℕ) (t : Token) (ts : List Token) (ws : List Written) → Spells total limit ts ws → Spells total limit (t ∷ ts) (token t ∷ ws)
+pub put-token : (total limit : ℕ) (t : Token) (ts : List Token) (ws : List Written) → Spells total limit ts ws → Spells total limit (t ∷ ts) (token t ∷ ws)
 put-token total limit t ts ws s = record { spells = ap (λ us. t ∷ us) s.spells; formed = s.formed; numbered = s.numbered; small = s.small }
 
 -- the same reading, of more in front
-again-behind : {X : Type 0} (total limit : ℕ) (r r' : Reader X) (x : X) (vs ws rest : List Written) → r (tokens_in ws) ≡ r' (tokens_in vs) → over limit ws ≡ over limit vs
+pub again-behind : {X : Type 0} (total limit : ℕ) (r r' : Reader X) (x : X) (vs ws rest : List Written) → r (tokens_in ws) ≡ r' (tokens_in vs) → over limit ws ≡ over limit vs
     → Again total limit r' x vs rest → Again total limit r x ws rest
 again-behind total limit r r' x vs ws rest e o (fits o' e' i) = fits (o ∙ o') (e ∙ e') i
 again-behind total limit r r' x vs ws rest e o (exceeds m o' e') = exceeds m (o ∙ o') (e ∙ e')

@@ -1,5 +1,5 @@
 -- Readers of one token as forms of the grammar.
-use Rattle.std.proofs.Common.{◌≡◌, ℕ, suc, ◌-◌, ◌^◌, List, [], ◌∷◌, length, Bool, true, false, ◌==◌, nat_lt, if◌then◌else◌, Some, None, Ok, Err, refl, sym, ◌∙◌, ap, arith}
+use Rattle.std.proofs.Common.{◌≡◌, ℕ, ◌^◌, List, [], ◌∷◌, Bool, true, false, ◌==◌, nat_lt, if◌then◌else◌, refl, sym, ◌∙◌, ap, arith}
 use Rattle.std.proofs.lemmas.Bool.{eqb-true}
 use Rattle.std.proofs.lemmas.Grind.{common_steps}
 use Rattle.rb_syntax.specs.declared.token.Word.{Word}
@@ -8,14 +8,13 @@ use Rattle.rb_syntax.specs.declared.token.Symbol.{Symbol}
 use Rattle.rb_syntax.specs.declared.token.Symbol.TheVariants as symbol
 use Rattle.rb_syntax.specs.declared.token.Token.{Token}
 use Rattle.rb_syntax.specs.declared.token.Token.TheVariants as tok
-use Rattle.rb_syntax.specs.declared.tree.NameTree.{NameTree}
-use Rattle.rb_syntax.specs.Written.{Written, token, number, tokens_in, Writing, HaveNoFlaw, AreNumbered, checked}
+use Rattle.rb_syntax.specs.Written.{Written, token, number, Writing, checked}
 use Rattle.rb_syntax.specs.Spelling.{is_width, num, uint_written, lower_written, upper_written}
 use Rattle.rb_read.specs.Starting.{symbol_number, word_number, is_symbol, is_word}
-use Rattle.rb_read.specs.Combining.{stuck, Reader, into, nothing, passing, expect, expect_word}
+use Rattle.rb_read.specs.Combining.{into, nothing, passing, expect, expect_word}
 use Rattle.rb_read.specs.Open.{Kind, the, the_word, a_lower, an_upper, a_number, a_width, a_field, if_so, begins}
 use Rattle.rb_read.specs.Tokens as tokens
-use Rattle.rb_read.proofs.Forms.{IsRight, IsForm}
+use Rattle.rb_read.proofs.Forms.{IsRight}
 use Rattle.rb_read.proofs.FormLaws.{nat_lt-zero, nothing-form}
 use Rattle.rb_read.proofs.NodeForms.{IsPart, part-form, AtToken, none-at, node-at, node-again, if-at}
 
