@@ -4,6 +4,7 @@
 mod beyond;
 mod list;
 mod pattern;
+mod provenance;
 mod starting;
 mod stop;
 mod tokens;

@@ -1,0 +1,189 @@
+//! Reads provenances.
+
+ghost use Rattle.std.specs.Prelude.{◌≡◌, ◌<◌, ◌^◌};
+ghost use Rattle.rb_syntax.specs.declared.token.Symbol.TheVariants as symbols;
+ghost use Rattle.rb_syntax.specs.declared.tree.PatTree.TheVariants as pats;
+ghost use Rattle.rb_syntax.specs.Tokens.{tokens};
+ghost use Rattle.rb_read.specs.Combining as combining;
+ghost use Rattle.rb_read.specs.Reading as reading;
+ghost use Rattle.rb_read.specs.Gives.{Gives};
+
+use crate::beyond::beyond;
+use crate::stop::Stop;
+use crate::tokens::{begins_with, expect, number_of};
+use rb_core::seq::Seq;
+use rb_syntax::token::{Placed, Symbol, Token};
+use rb_syntax::tree::{Name, NameTree, PatTree};
+use std::alloc::Global;
+
+/// Whether the first token begins a provenance.
+fn begins_provenance(placed: &[Placed]) -> bool
+    ensures { result ≡ combining.at_front (λ t. reading.is_upper t) (tokens placed.now) }
+{
+    match placed {
+        [] => false,
+        [first, ..] => match first.token {
+            Token::Upper(_) => true,
+            _ => false,
+        },
+    }
+}
+
+/// Whether the first token begins what may stand below a provenance's constructor.
+fn begins_below(placed: &[Placed]) -> bool
+    ensures { result ≡ combining.at_front (λ t. reading.begins_below t) (tokens placed.now) }
+{
+    match placed {
+        [] => false,
+        [first, ..] => match first.token {
+            Token::Upper(_) => true,
+            Token::Symbol(symbol) => symbol == Symbol::Underscore,
+            _ => false,
+        },
+    }
+}
+
+/// A provenance, with so many levels left.
+#[tactic(auto, unfolding(crate::specs::Reading::provenance))]
+pub fn read_provenance(
+    alloc: Global,
+    levels: u32,
+    total: usize,
+    placed: &[Placed],
+) -> Result<(PatTree, &[Placed]), Stop>
+    requires { total < 2 ^ 32 }
+    ensures { Gives (λ x. (x.0, tokens x.1.now)) result (reading.provenance levels total (tokens placed.now)) }
+{
+    if levels == 0 {
+        return Err(beyond(begins_provenance(placed), placed));
+    }
+    read_provenance_node(alloc, levels - 1, total, placed)
+}
+
+/// A provenance with so many levels left below its constructor.
+#[tactic(auto, unfolding(crate::specs::Reading::provenance_one, crate::specs::Reading::provenance_from))]
+fn read_provenance_node(
+    alloc: Global,
+    levels: u32,
+    total: usize,
+    placed: &[Placed],
+) -> Result<(PatTree, &[Placed]), Stop>
+    requires { total < 2 ^ 32 }
+    ensures { Gives (λ x. (x.0, tokens x.1.now)) result (reading.provenance_one (λ ts. reading.below levels total ts) total (tokens placed.now)) }
+{
+    match placed {
+        [] => Err(Stop::Stuck(0)),
+        [first, rest @ ..] => {
+            let at = number_of(total, placed);
+            match &first.token {
+                Token::Upper(name) => read_constructed(alloc, levels, total, at, name, rest),
+                _ => Err(Stop::Stuck(placed.len())),
+            }
+        }
+    }
+}
+
+/// What stands below a provenance's constructor, with so many levels left.
+#[cycle(below)]
+#[tactic(auto, unfolding(crate::specs::Reading::below))]
+fn read_below<'a>(
+    alloc: Global,
+    levels: u32,
+    total: usize,
+    placed: &'a [Placed],
+) -> Result<(PatTree, &'a [Placed]), Stop>
+    requires { total < 2 ^ 32 }
+    ensures { Gives (λ x. (x.0, tokens x.1.now)) result (reading.below levels total (tokens placed.now)) }
+{
+    if levels == 0 {
+        return Err(beyond(begins_below(placed), placed));
+    }
+    read_below_node(alloc, levels - 1, total, placed)
+}
+
+/// The same, with so many levels left inside.
+#[cycle(below)]
+#[tactic(auto, unfolding(crate::specs::Reading::below_one, crate::specs::Reading::below_from))]
+fn read_below_node<'a>(
+    alloc: Global,
+    levels: u32,
+    total: usize,
+    placed: &'a [Placed],
+) -> Result<(PatTree, &'a [Placed]), Stop>
+    requires { total < 2 ^ 32 }
+    ensures { Gives (λ x. (x.0, tokens x.1.now)) result (reading.below_one (λ ts. reading.below levels total ts) total (tokens placed.now)) }
+{
+    match placed {
+        [] => Err(Stop::Stuck(0)),
+        [first, rest @ ..] => {
+            let at = number_of(total, placed);
+            match &first.token {
+                Token::Upper(name) => read_constructed(alloc, levels, total, at, name, rest),
+                Token::Symbol(Symbol::Underscore) => Ok((PatTree::Wild(at), rest)),
+                _ => Err(Stop::Stuck(placed.len())),
+            }
+        }
+    }
+}
+
+/// A constructor with its parts, behind its name.
+#[cycle(below)]
+#[tactic(auto, unfolding(crate::specs::Combining::into))]
+fn read_constructed<'a>(
+    alloc: Global,
+    levels: u32,
+    total: usize,
+    at: u32,
+    name: &Name,
+    placed: &'a [Placed],
+) -> Result<(PatTree, &'a [Placed]), Stop>
+    requires { total < 2 ^ 32 }
+    ensures { Gives (λ x. (x.0, tokens x.1.now)) result (combining.into (λ parts. pats.Con at (reading.named at name.now) parts) (combining.in_parens (λ ts. reading.below levels total ts)) (tokens placed.now)) }
+{
+    let text = name.copy(alloc)?;
+    let (parts, rest) = read_parts(alloc, levels, total, placed)?;
+    Ok((PatTree::Con(at, NameTree { at, text }, parts), rest))
+}
+
+/// A constructor's parts in parentheses, or nothing.
+#[cycle(below)]
+#[tactic(auto, unfolding(crate::specs::Combining::in_parens))]
+fn read_parts<'a>(
+    alloc: Global,
+    levels: u32,
+    total: usize,
+    placed: &'a [Placed],
+) -> Result<(Seq<PatTree>, &'a [Placed]), Stop>
+    requires { total < 2 ^ 32 }
+    ensures { Gives (λ x. (x.0, tokens x.1.now)) result (combining.in_parens (λ ts. reading.below levels total ts) (tokens placed.now)) }
+{
+    if begins_with(Symbol::OpenParen, placed) {
+        return read_some_below(alloc, levels, total, &placed[1..]);
+    }
+    Ok((Seq::new(alloc), placed))
+}
+
+/// One part or more, and the parenthesis behind them.
+#[cycle(below)]
+fn read_some_below<'a>(
+    alloc: Global,
+    levels: u32,
+    total: usize,
+    placed: &'a [Placed],
+) -> Result<(Seq<PatTree>, &'a [Placed]), Stop>
+    requires { total < 2 ^ 32 }
+    ensures { Gives (λ x. (x.0, tokens x.1.now)) result (combining.some_closed (λ ts. reading.below levels total ts) symbols.Comma symbols.CloseParen (tokens placed.now)) }
+{
+    let mut parts = Seq::new(alloc);
+    let mut rest = placed;
+    for _turn in 0..placed.len() {
+        let (part, behind) = read_below(alloc, levels, total, rest)?;
+        parts.push(part)?;
+        if !begins_with(Symbol::Comma, behind) {
+            let behind = expect(Symbol::CloseParen, behind)?;
+            return Ok((parts, behind));
+        }
+        rest = &behind[1..];
+    }
+    Err(Stop::Stuck(0))
+}
