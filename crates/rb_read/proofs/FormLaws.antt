@@ -128,6 +128,10 @@ pub clear-more : (bars bars' : Token → Bool) (ts : List Token) → ((t : Token
 clear-more bars bars' [] h c = tt
 clear-more bars bars' (t ∷ ts) h c = h t c
 
+pub all-clear : (ts : List Token) → Clear (λ _. false) ts
+all-clear [] = tt
+all-clear (t ∷ ts) = refl
+
 pub bars-form : {X : Type 0} {total limit : ℕ} {bars bars' : Token → Bool} {opens : List Open} {written : X → Writing} {r : Reader X}
     → ((t : Token) → bars' t ≡ false → bars t ≡ false)
     → IsForm total limit bars opens written r → IsForm total limit bars' opens written r

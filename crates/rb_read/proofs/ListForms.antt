@@ -10,7 +10,7 @@ use Rattle.rb_read.specs.Starting.{is_symbol}
 use Rattle.rb_read.specs.Combining.{stuck, deep, Reading, Reader, ◌>>=◌, into, passing, expect, at_front, begins_with, with_all, behind, some_of, some_closed, any_closed, in_parens, optional, many_of, each_of}
 use Rattle.rb_read.specs.Open.{Kind, fields, Open, one, maybe, many, first, next, Step, ahead_of, if_so, or_else, begins, step, is_done, stopped, end_of_tokens, go_on, run}
 use Rattle.rb_read.proofs.Forms.{goes, Spells, Took, IsRight, Again, fits, exceeds, Clear, IsForm}
-use Rattle.rb_read.proofs.FormLaws.{ok-bind, ok-same, ok-if, goes-bind, goes-bind-ok, nat_lt-zero, IsStrict, into-again}
+use Rattle.rb_read.proofs.FormLaws.{ok-bind, ok-same, ok-if, goes-bind, goes-bind-ok, nat_lt-zero, IsStrict, into-again, clear-more, all-clear}
 use Rattle.rb_read.proofs.NodeForms.{IsPart, put-token, again-behind}
 use Rattle.rb_read.proofs.TokenForms.{is_symbol-self, is_symbol-is, symbol-part}
 
@@ -108,8 +108,8 @@ module _ {A : Type 0} {total limit : ℕ} {bars : Token → Bool} {a : Kind} {w 
       let h : length x.1 ≡ suc (length (drop 1 x.1)) = ap length (begins_with-is s x.1 e) in omega arith))
       (λ e. ok-bind _ _ (expect c x.1) _ ((symbol-part total limit c).strict x.1) (λ y m. omega arith)))
 
-  pub some-strict : IsStrict (some_closed r s c)
-  some-strict ts = some-shorter (length ts) ts
+  pub some_closed-strict : IsStrict (some_closed r s c)
+  some_closed-strict ts = some-shorter (length ts) ts
 
   next-follows : (k : List Open) (n : ℕ) (x : A) (ts : List Token) → length ts ≤ suc n
       → ((us : List Token) → length us ≤ n → run limit (one a ∷ next a s c ∷ k) us ≡ goes limit k (some_of r s c n us))
@@ -155,13 +155,13 @@ module _ {A : Type 0} {total limit : ℕ} {bars : Token → Bool} {a : Kind} {w 
       again-behind total limit (some_closed r s c) (λ us. some_of r s c (length (tokens_in (closed (x ∷ xs) rest))) us) (x ∷ xs) (closed (x ∷ xs) rest) (closed (x ∷ xs) rest) rest refl refl
       (some-again x xs (length (tokens_in (closed (x ∷ xs) rest))) rest bs bc d i (omega arith))
 
-  pub some-form : bars (tok.Symbol s) ≡ false → bars (tok.Symbol c) ≡ false → is_symbol s (tok.Symbol c) ≡ false
+  pub some_closed-form : bars (tok.Symbol s) ≡ false → bars (tok.Symbol c) ≡ false → is_symbol s (tok.Symbol c) ≡ false
       → IsForm total limit (λ _. false) (one a ∷ next a s c ∷ []) closed (some_closed r s c)
-  some-form bs bc d = record {
+  some_closed-form bs bc d = record {
     takes = λ ts. some-takes (length ts) ts;
     again = λ xs rest i _. again xs rest i;
     follows = λ ts k. some-follows k (length ts) ts (omega arith);
-    shrinks = λ ts. ok-same (some_closed r s c ts) (some-strict ts) (λ x l. omega arith);
+    shrinks = λ ts. ok-same (some_closed r s c ts) (some_closed-strict ts) (λ x l. omega arith);
   } where
     again : (xs : List A) (rest : List Written) → IsRight total (closed xs rest) → Again total limit (some_closed r s c) xs (closed xs rest) rest
     again [] rest i = absurd i.0
@@ -173,10 +173,10 @@ module _ {A : Type 0} {total limit : ℕ} {bars : Token → Bool} {a : Kind} {w 
   abbrev pub any_written : List A → Writing
   any_written xs rest = any_with comma (map w xs) (token (tok.Symbol c) ∷ rest)
 
-  pub any-strict : IsStrict (any_closed r c)
+  pub any_closed-strict : IsStrict (any_closed r c)
   unfolding any_closed
-  any-strict ts = ok-if _ (begins_with c ts) _ _ (λ e. let h : length ts ≡ suc (length (drop 1 ts)) = ap length (begins_with-is c ts e) in omega arith)
-      (λ e. some-strict p symbol.Comma c ts)
+  any_closed-strict ts = ok-if _ (begins_with c ts) _ _ (λ e. let h : length ts ≡ suc (length (drop 1 ts)) = ap length (begins_with-is c ts e) in omega arith)
+      (λ e. some_closed-strict p symbol.Comma c ts)
 
   any-takes : (ts : List Token) → IfOk (any_closed r c ts) (λ x. Took total limit ts (any_written x.0) x.1)
   unfolding any_closed
@@ -194,14 +194,14 @@ module _ {A : Type 0} {total limit : ℕ} {bars : Token → Bool} {a : Kind} {w 
     by_test false = some-follows p symbol.Comma c k (suc (length us)) (u ∷ us) (omega arith)
 
   -- where no part begins with the symbol that closes them
-  pub any-form : bars comma ≡ false → bars (tok.Symbol c) ≡ false → is_symbol symbol.Comma (tok.Symbol c) ≡ false → begins a (tok.Symbol c) ≡ None
+  pub any_closed-form : bars comma ≡ false → bars (tok.Symbol c) ≡ false → is_symbol symbol.Comma (tok.Symbol c) ≡ false → begins a (tok.Symbol c) ≡ None
       → IsForm total limit (λ _. false) (first a c ∷ []) any_written (any_closed r c)
   unfolding any_closed
-  any-form bs bc d none = record {
+  any_closed-form bs bc d none = record {
     takes = any-takes;
     again = again;
     follows = λ ts k. any-follows k ts;
-    shrinks = λ ts. ok-same (any_closed r c ts) (any-strict ts) (λ x l. omega arith);
+    shrinks = λ ts. ok-same (any_closed r c ts) (any_closed-strict ts) (λ x l. omega arith);
   } where
     other : (t : Token) (ts : List Token) → is_some (begins a t) ≡ true → begins_with c (t ∷ ts) ≡ false
     other t ts b = by_test (is_symbol c t) (λ e. ap (λ u. is_some (begins a u)) (is_symbol-is c t e)) where
@@ -216,7 +216,7 @@ module _ {A : Type 0} {total limit : ℕ} {bars : Token → Bool} {a : Kind} {w 
       ws = any_written (x ∷ xs) rest
 
       some : Again total limit (some_closed r symbol.Comma c) (x ∷ xs) ws rest
-      some = (some-form p symbol.Comma c bs bc d).again (x ∷ xs) rest i k
+      some = (some_closed-form p symbol.Comma c bs bc d).again (x ∷ xs) rest i k
 
       behind_it : List Written
       behind_it = each_behind comma (map w xs) (token (tok.Symbol c) ∷ rest)
@@ -250,7 +250,7 @@ module _ {A : Type 0} {total limit : ℕ} {bars : Token → Bool} {a : Kind} {w 
   unfolding in_parens
   fields-shrinks ts = ok-if _ (begins_with symbol.OpenParen ts) _ _
       (λ e. let h : length ts ≡ suc (length (drop 1 ts)) = ap length (begins_with-is symbol.OpenParen ts e) in
-      ok-same (some_closed r symbol.Comma symbol.CloseParen (drop 1 ts)) (some-strict p symbol.Comma symbol.CloseParen (drop 1 ts)) (λ x l. omega arith))
+      ok-same (some_closed r symbol.Comma symbol.CloseParen (drop 1 ts)) (some_closed-strict p symbol.Comma symbol.CloseParen (drop 1 ts)) (λ x l. omega arith))
       (λ e. omega arith)
 
   fields-follows : (k : List Open) (ts : List Token) → run limit (maybe (fields a) ∷ k) ts ≡ goes limit k (in_parens r ts)
@@ -262,10 +262,10 @@ module _ {A : Type 0} {total limit : ℕ} {bars : Token → Bool} {a : Kind} {w 
     by_test true = rw nat_lt-zero (some-follows p symbol.Comma symbol.CloseParen k (length us) us (omega arith))
     by_test false = refl
 
-  pub fields-form : bars comma ≡ false → bars (tok.Symbol symbol.CloseParen) ≡ false
+  pub in_parens-form : bars comma ≡ false → bars (tok.Symbol symbol.CloseParen) ≡ false
       → IsForm total limit (λ t. is_symbol symbol.OpenParen t) (maybe (fields a) ∷ []) in_parentheses (in_parens r)
   unfolding in_parens
-  fields-form bs bc = record { takes = fields-takes; again = again; follows = λ ts k. fields-follows k ts; shrinks = fields-shrinks } where
+  in_parens-form bs bc = record { takes = fields-takes; again = again; follows = λ ts k. fields-follows k ts; shrinks = fields-shrinks } where
     none : (rest : List Written) (ts : List Token) → Clear (λ t. is_symbol symbol.OpenParen t) ts → begins_with symbol.OpenParen ts ≡ false
     none rest [] k = refl
     none rest (t ∷ ts) k = k
@@ -280,17 +280,13 @@ module _ {A : Type 0} {total limit : ℕ} {bars : Token → Bool} {a : Kind} {w 
 
 -- One part or none, and any number one after the other, told by the first token.
 
-abbrev pub optional_written : {A : Type 0} → (A → Writing) → Option A → Writing
-optional_written w None rest = rest
-optional_written w (Some x) rest = w x rest
+abbrev pub perhaps : {A : Type 0} → (A → Writing) → Option A → Writing
+perhaps w None rest = rest
+perhaps w (Some x) rest = w x rest
 
 at_front-none : (test : Token → Bool) (ts : List Token) → Clear test ts → at_front test ts ≡ false
 at_front-none test [] k = refl
 at_front-none test (t ∷ ts) k = k
-
-pub clear-all : (ts : List Token) → Clear (λ _. false) ts
-clear-all [] = tt
-clear-all (t ∷ ts) = refl
 
 none-begun : (s : Step) → is_some s ≡ false → s ≡ None
 none-begun None e = refl
@@ -300,7 +296,7 @@ first-of : (s : Step) (k : List Open) (other : Step) → is_some s ≡ true → 
 first-of None k other e = absurd cc
 first-of (Some s) k other e = refl
 
-module _ {A : Type 0} {total limit : ℕ} {a : Kind} {w : A → Writing} {r : Reader A} (p : IsPart total limit (λ _. false) a w r)
+module _ {A : Type 0} {total limit : ℕ} {bars : Token → Bool} {a : Kind} {w : A → Writing} {r : Reader A} (p : IsPart total limit bars a w r)
     (test : Token → Bool) (tells : (t : Token) → is_some (begins a t) ≡ test t) where
   begun : (x : A) (ws rest : List Written) → Again total limit r x ws rest → at_front test (tokens_in ws) ≡ true
   begun = again-begun p (λ ts. at_front test ts ≡ true) (λ t ts b. sym (tells t) ∙ b)
@@ -321,18 +317,18 @@ module _ {A : Type 0} {total limit : ℕ} {a : Kind} {w : A → Writing} {r : Re
     by_test true e = begun-follows k k u us (step k u) e ∙ goes-bind limit k k (r (u ∷ us)) _ (λ x. refl)
     by_test false e = rw (none-begun (begins a u) (tells u ∙ e)) refl
 
-  pub optional-form : IsForm total limit test (maybe a ∷ []) (λ x rest. optional_written w x rest) (optional test r)
+  pub optional-form : ((t : Token) → test t ≡ false → bars t ≡ false) → IsForm total limit test (maybe a ∷ []) (λ x rest. perhaps w x rest) (optional test r)
   unfolding optional into
-  optional-form = record {
+  optional-form clear = record {
     takes = λ ts. ok-if _ (at_front test ts) _ _ (λ e. ok-bind _ _ (r ts) _ (p.form.takes ts) (λ x q. q)) (λ e. λ rest h. h);
     again = again;
     follows = λ ts k. optional-follows k ts;
     shrinks = λ ts. ok-if _ (at_front test ts) _ _ (λ e. ok-bind _ _ (r ts) _ (p.form.shrinks ts) (λ x q. q)) (λ e. omega arith);
   } where
-    again : (x : Option A) (rest : List Written) → IsRight total (optional_written w x rest) → Clear test (tokens_in rest) → Again total limit (optional test r) x (optional_written w x rest) rest
+    again : (x : Option A) (rest : List Written) → IsRight total (perhaps w x rest) → Clear test (tokens_in rest) → Again total limit (optional test r) x (perhaps w x rest) rest
     again None rest i k = fits refl (rw (at_front-none test (tokens_in rest) k) refl) i
     again (Some x) rest i k =
-        let g : Again total limit r x (w x rest) rest = p.form.again x rest i (clear-all (tokens_in rest)) in
+        let g : Again total limit r x (w x rest) rest = p.form.again x rest i (clear-more bars test (tokens_in rest) clear k) in
         again-behind total limit (optional test r) (into (λ y. Some y) r) (Some x) (w x rest) (w x rest) rest (rw (begun x (w x rest) rest g) refl) refl
         (into-again (λ y. Some y) x (w x rest) rest g)
 
@@ -363,29 +359,30 @@ module _ {A : Type 0} {total limit : ℕ} {a : Kind} {w : A → Writing} {r : Re
         h x.1 (omega arith) ∙ goes-bind limit k k (many_of test r n x.1) _ (λ y. refl))
     by_test false e h = rw (none-begun (begins a u) (tells u ∙ e)) refl
 
-  many-again : (xs : List A) (n : ℕ) (rest : List Written) → IsRight total (each (map w xs) rest) → Clear test (tokens_in rest) → length (tokens_in (each (map w xs) rest)) ≤ n
+  many-again : ((t : Token) → bars t ≡ false) → (xs : List A) (n : ℕ) (rest : List Written) → IsRight total (each (map w xs) rest) → Clear test (tokens_in rest) → length (tokens_in (each (map w xs) rest)) ≤ n
       → Again total limit (λ us. many_of test r n us) xs (each (map w xs) rest) rest
   unfolding many_of into
-  many-again [] zero rest i k l = fits refl refl i
-  many-again [] (suc n) rest i k l = fits refl (rw (at_front-none test (tokens_in rest) k) refl) i
-  many-again (x ∷ xs) zero rest i k l =
+  many-again free [] zero rest i k l = fits refl refl i
+  many-again free [] (suc n) rest i k l = fits refl (rw (at_front-none test (tokens_in rest) k) refl) i
+  many-again free (x ∷ xs) zero rest i k l =
       let ws : List Written = each (map w (x ∷ xs)) rest in
       let vs : List Written = each (map w xs) rest in
-      absurd (omega (arith, again-longer p x ws vs (p.form.again x vs i (clear-all (tokens_in vs)))))
-  many-again (x ∷ xs) (suc n) rest i k l =
+      absurd (omega (arith, again-longer p x ws vs (p.form.again x vs i (clear-more bars (λ _. false) (tokens_in vs) (λ t _. free t) (all-clear (tokens_in vs))))))
+  many-again free (x ∷ xs) (suc n) rest i k l =
       let ws : List Written = each (map w (x ∷ xs)) rest in
       let vs : List Written = each (map w xs) rest in
-      let g : Again total limit r x ws vs = p.form.again x vs i (clear-all (tokens_in vs)) in
+      let g : Again total limit r x ws vs = p.form.again x vs i (clear-more bars (λ _. false) (tokens_in vs) (λ t _. free t) (all-clear (tokens_in vs))) in
       bind-again total limit r _ (λ z. with_all (z.0 ∷ []) (many_of test r n z.1)) x (x ∷ xs) ws vs rest (rw (begun x ws vs g) refl) g (λ e j.
       let m : length (tokens_in vs) < length (tokens_in ws) = subst (λ q. IfOk q (λ z. length z.1 < length (tokens_in ws))) e (p.strict _) in
       again-behind total limit _ (into (λ zs. x ∷ zs) (λ us. many_of test r n us)) (x ∷ xs) vs vs rest refl refl
-      (into-again (λ zs. x ∷ zs) xs vs rest (many-again xs n rest j k (omega arith))))
+      (into-again (λ zs. x ∷ zs) xs vs rest (many-again free xs n rest j k (omega arith))))
 
-  pub each-form : IsForm total limit test (many a ∷ []) (λ xs rest. each (map w xs) rest) (each_of test r)
-  each-form = record {
+  -- where nothing goes on with a part
+  pub each-form : ((t : Token) → bars t ≡ false) → IsForm total limit test (many a ∷ []) (λ xs rest. each (map w xs) rest) (each_of test r)
+  each-form free = record {
     takes = λ ts. many-takes (length ts) ts;
     again = λ xs rest i k. again-behind total limit (each_of test r) (λ us. many_of test r (length (tokens_in (each (map w xs) rest))) us) xs _ _ rest refl refl
-        (many-again xs (length (tokens_in (each (map w xs) rest))) rest i k (omega arith));
+        (many-again free xs (length (tokens_in (each (map w xs) rest))) rest i k (omega arith));
     follows = λ ts k. many-follows k (length ts) ts (omega arith);
     shrinks = λ ts. many-shrinks (length ts) ts;
   }
