@@ -1,8 +1,12 @@
 mod Completing
+pub mod ExpressionForms
 pub mod FormLaws
 pub mod Forms
 pub mod ListForms
+pub mod LocationForms
 pub mod Loops
 pub mod NodeForms
+pub mod PatternForms
 mod Steps
 pub mod TokenForms
+pub mod TypeForms
