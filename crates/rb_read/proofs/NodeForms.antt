@@ -1,4 +1,20 @@
 -- Forms that are told by their first token.
+--
+-- A production takes two tables and `part-form`. One goes over the first token: `node-at`, with the form that stands behind the
+-- token; `whole-at`, with a form that begins with the token itself; `deep-at` where what begins is too deep; `none-at` where
+-- nothing begins; and `if-at` where the token has a test to pass. The other goes over the tree's forms: `node-again`,
+-- `whole-again` or `deep-again`. Each line names what is made of what stands behind, with the number of the node's place, and the
+-- marks in front of the token; what is left to prove is `refl` or the equation of the form's spelling. So an addition is
+--
+--     on (tok.Reserved word.Add) = node-at operands l refl small (λ at p. X.Binary at op.Add p.1.0 p.1.1.1.0) (λ ts. refl)
+--         (λ at. node l ∷ number at ∷ []) (λ at. tt) (λ at. (refl, tt)) (λ at. rw small refl)
+--         (λ at p rest. expr-Binary at op.Add p.1.0 p.1.1.1.0 l rest)
+--
+--     add at a b = node-again operands (tok.Reserved word.Add) (λ at p. X.Binary at op.Add p.1.0 p.1.1.1.0) (λ ts. refl)
+--         (node l ∷ number at ∷ []) tt (rw small refl) (X.Binary at op.Add a b) (tt, (a, (tt, (b, tt)))) rest _
+--         (expr-Binary at op.Add a b l rest) (λ m h. rw h.0 refl) i c
+--
+-- where `operands` is the form of `(a, b)`, by `pair-form` of forms of its symbols and of the expressions one level below.
 use Rattle.std.proofs.Common.{◌≡◌, ℕ, suc, ◌-◌, ◌≤◌, List, [], ◌∷◌, ◌++◌, length, Bool, true, false, nat_lt, if◌then◌else◌, Some, None, Err, IfOk, refl, sym, ◌∙◌, ap, subst, arith}
 use Rattle.std.proofs.lemmas.Grind.{common_steps}
 use Rattle.rb_syntax.specs.declared.token.Token.{Token}
@@ -224,19 +240,19 @@ zero-form {total = total} {limit = limit} {bars = bars} {a = a} {written = writt
 module _ {A X : Type 0} {total limit : ℕ} {bars : Token → Bool} {b : Kind} {os : List Open} {w : A → Writing} {inner : Reader A} (f : IsForm total limit bars (one b ∷ os) w inner) where
   pub whole-at : {a : Kind} {written : X → Writing} {r : Reader X} {t : Token} → begins a t ≡ ahead_of os (begins b t)
       → (make : ℕ → A → X) → ((ts : List Token) → r (t ∷ ts) ≡ into (make (total - suc (length ts))) inner (t ∷ ts))
-      → ((ts : List Token) → IfOk (inner (t ∷ ts)) (λ x. length x.1 ≤ length ts))
+      → IsStrict inner
       → (ms : ℕ → List Written) → ((at : ℕ) → AreMarks (ms at)) → ((at : ℕ) → AllAre at (ms at)) → ((at : ℕ) → is_deeper limit (ms at) ≡ false)
       → ((at : ℕ) (y : A) (rest : List Written) → written (make at y) rest ≡ ms at ++ w y rest)
       → AtToken total limit a written r t
   unfolding run step into
-  whole-at {a = a} {written = written} {r = r} {t = t} begun make reads shorter ms marks all not_deep same = record {
+  whole-at {a = a} {written = written} {r = r} {t = t} begun make reads strict ms marks all not_deep same = record {
     takes_on = λ ts. subst (λ q. IfOk q (λ x. Took total limit (t ∷ ts) (written x.0) x.1)) (sym (reads ts)) (ok-bind _ _ (inner (t ∷ ts)) _ (f.takes (t ∷ ts)) (λ x p. λ rest h.
         let at = total - suc (length ts) in
         subst (λ ws. Spells total limit (t ∷ ts) ws) (sym (same at x.0 rest))
         (marks-spell total limit (t ∷ ts) (ms at) (w x.0 rest) (marks at) (all at) (not_deep at) (p rest h))));
     follows_on = λ ts k. ap (λ s. go_on limit (suc (length ts)) s (λ k'. run limit k' ts)) (ap (λ s. ahead_of k s) begun ∙ ahead-ahead k os (begins b t))
         ∙ f.follows (t ∷ ts) k ∙ rw (reads ts) (goes-bind limit k k (inner (t ∷ ts)) _ (λ x. refl));
-    shrinks_on = λ ts. subst (λ q. IfOk q (λ x. length x.1 ≤ length ts)) (sym (reads ts)) (ok-bind _ _ (inner (t ∷ ts)) _ (shorter ts) (λ x p. p));
+    shrinks_on = λ ts. subst (λ q. IfOk q (λ x. length x.1 ≤ length ts)) (sym (reads ts)) (ok-bind _ _ (inner (t ∷ ts)) _ (strict (t ∷ ts)) (λ x p. omega arith));
   }
 
   pub whole-again : {r : Reader X} (t : Token) (make : ℕ → A → X) → ((ts : List Token) → r (t ∷ ts) ≡ into (make (total - suc (length ts))) inner (t ∷ ts))
