@@ -225,7 +225,7 @@ module _ (total limit l : ℕ) (small : nat_lt limit l ≡ false) {inside : Read
   unfolding begins
   clause-part = record {
     form = alias-form (λ t. refl) (iso-form (λ p. record { pat = p.0; body = p.1.1 }) (λ c. (c.pat, (tt, c.body))) (λ c. refl) (λ p rest. clause-is _ (suc l) rest)
-    (pair-form pat-in.form (before-any (symbol-part total limit symbol.FatArrow).form expr-in.form) (λ b rest c. refl)));
+        (pair-form pat-in.form (before-any (symbol-part total limit symbol.FatArrow).form expr-in.form) (λ b rest c. refl)));
     strict = into-strict _ _ (first-strict pat-in.form (before-any (symbol-part total limit symbol.FatArrow).form expr-in.form) pat-in.strict);
   }
 
@@ -246,8 +246,10 @@ module _ (total limit l : ℕ) (small : nat_lt limit l ≡ false) {inside : Read
   arguments-form : IsForm total limit opens_paren (maybe (open_at.arguments (suc l)) ∷ []) (λ o rest. perhaps args_written o rest)
       (optional opens_paren (into (λ p. p.1) (pair (expect symbol.OpenParen) (any_closed inner symbol.CloseParen))))
   unfolding begins
-  arguments-form = optional-form (record { form = alias-form (λ t. begun (is_symbol symbol.OpenParen t)) args-form;
-      strict = into-strict _ _ (first-strict (symbol-part total limit symbol.OpenParen).form (any_closed-form expr-in symbol.CloseParen refl refl refl refl) (symbol-part total limit symbol.OpenParen).strict) })
+  arguments-form = optional-form (record {
+    form = alias-form (λ t. begun (is_symbol symbol.OpenParen t)) args-form;
+    strict = into-strict _ _ (first-strict (symbol-part total limit symbol.OpenParen).form (any_closed-form expr-in symbol.CloseParen refl refl refl refl) (symbol-part total limit symbol.OpenParen).strict);
+  })
       opens_paren (λ t. same (is_symbol symbol.OpenParen t)) (λ t h. refl) where
         begun : (b : Bool) → if_so b (open_at.first (open_at.expr (suc l)) symbol.CloseParen ∷ []) ≡ ahead_of (open_at.first (open_at.expr (suc l)) symbol.CloseParen ∷ []) (if_so b [])
         begun true = refl

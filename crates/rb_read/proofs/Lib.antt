@@ -1,4 +1,5 @@
 mod Completing
+pub mod EachLoops
 pub mod ExpressionForms
 pub mod FormLaws
 pub mod Forms
@@ -7,6 +8,7 @@ pub mod LocationForms
 pub mod Loops
 pub mod NodeForms
 pub mod PatternForms
+pub mod Pointers
 mod Steps
 pub mod TokenForms
 pub mod TypeForms

@@ -15,7 +15,7 @@ pub tokens-rest : (ps : List Placed) → tokens (take (length ps - 1) (drop 1 ps
 tokens-rest [] = refl
 tokens-rest (p ∷ ps) = let e : length (p ∷ ps) - 1 ≡ length ps = omega arith in rw (e, take-length) refl
 
-with_all-more : {A : Type 0} (xs : List A) (x : A) (r : Reading (List A)) → with_all (xs ++ x ∷ []) r ≡ with_all xs (with_all (x ∷ []) r)
+pub with_all-more : {A : Type 0} (xs : List A) (x : A) (r : Reading (List A)) → with_all (xs ++ x ∷ []) r ≡ with_all xs (with_all (x ∷ []) r)
 with_all-more xs x (Ok y) = ap (λ us. Ok (us, y.1)) (append_assoc xs (x ∷ []) y.0)
 with_all-more xs x (Err e) = refl
 

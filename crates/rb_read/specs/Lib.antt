@@ -2,6 +2,8 @@ pub mod Combining
 pub mod Exact
 pub mod Gives
 pub mod Open
+pub mod Pointing
 pub mod Reading
+pub mod Seen
 pub mod Starting
 pub mod Tokens

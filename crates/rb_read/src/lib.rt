@@ -2,7 +2,10 @@
 #![tactic(auto)]
 
 mod beyond;
+mod each;
+mod leaf;
 mod list;
+mod location;
 mod pattern;
 mod provenance;
 mod starting;

@@ -1,0 +1,44 @@
+//! Reads parts that stand one after the other.
+
+ghost use Rattle.std.specs.Prelude.{◌≡◌, ◌<◌, ◌^◌, Bool};
+ghost use Rattle.rb_syntax.specs.declared.token.Token.{Token};
+ghost use Rattle.rb_syntax.specs.Tokens.{tokens};
+ghost use Rattle.rb_read.specs.Combining as combining;
+ghost use Rattle.rb_read.specs.Gives.{Gives};
+
+use crate::list::Read;
+use crate::stop::Stop;
+use rb_core::seq::Seq;
+use rb_syntax::token::Placed;
+use std::alloc::Global;
+
+/// A part that may stand any number of times, known by its first token.
+pub(crate) trait Repeat: Read {
+    ghost begins: { Token → Bool };
+
+    /// Whether the first token begins one.
+    fn begins_with(placed: &[Placed]) -> bool
+        ensures { result ≡ combining.at_front begins (tokens placed.now) };
+}
+
+/// Parts one after the other, as long as the first token begins one.
+pub(crate) fn read_each<T: Repeat + Drop>(
+    alloc: Global,
+    total: usize,
+    placed: &[Placed],
+) -> Result<(Seq<T>, &[Placed]), Stop>
+    requires { total < 2 ^ 32 }
+    ensures { Gives (λ x. (x.0, tokens x.1.now)) result (combining.each_of T.begins (T.reader total) (tokens placed.now)) }
+{
+    let mut parts = Seq::new(alloc);
+    let mut rest = placed;
+    for _turn in 0..placed.len() {
+        if !T::begins_with(rest) {
+            return Ok((parts, rest));
+        }
+        let (part, behind) = T::read(alloc, total, rest)?;
+        parts.push(part)?;
+        rest = behind;
+    }
+    Ok((parts, rest))
+}

@@ -1,0 +1,268 @@
+//! The words of a leaf or a block, and their parts. Pointer parts are counted by the levels that
+//! are left.
+
+ghost use Rattle.std.specs.Prelude.{◌≡◌, ◌<◌, ◌^◌};
+ghost use Rattle.rb_syntax.specs.declared.token.Symbol.TheVariants as symbol;
+ghost use Rattle.rb_syntax.specs.declared.token.Token.TheVariants as token;
+ghost use Rattle.rb_syntax.specs.declared.token.Word.TheVariants as word;
+ghost use Rattle.rb_syntax.specs.Tokens.{tokens};
+ghost use Rattle.rb_read.specs.Combining as combining;
+ghost use Rattle.rb_read.specs.Pointing.{pointed};
+ghost use Rattle.rb_read.specs.Reading as reading;
+ghost use Rattle.rb_read.specs.Seen.{seen_end};
+ghost use Rattle.rb_read.specs.Gives.{Gives};
+
+use crate::each::read_each;
+use crate::location::{joined, read_path, read_range, read_range_rest};
+use crate::stop::Stop;
+use crate::tokens::{begins_with, expect, read_field, read_number};
+use rb_core::seq::Seq;
+use rb_syntax::token::{Placed, Symbol, Token, Word};
+use rb_syntax::tree::{LayItem, PartDecl, PartKind};
+use std::alloc::Global;
+
+/// What stands behind a path in a part: the bits of a slice, or a word's number.
+#[derive(Clone, Copy)]
+pub enum PathEnd {
+    Sliced(u64, u64),
+    Numbered(u64),
+}
+
+/// `[0:8]` or `word 1` behind a path, or nothing.
+#[tactic(auto, unfolding(crate::specs::Combining::optional, crate::specs::Reading::path_end, crate::specs::Reading::path_end_from, crate::specs::Combining::into))]
+fn read_path_end(placed: &[Placed]) -> Result<(Option<PathEnd>, &[Placed]), Stop>
+    ensures { Gives (λ x. (seen_end x.0, tokens x.1.now)) result (combining.optional reading.ends_path reading.path_end (tokens placed.now)) }
+{
+    match placed {
+        [] => Ok((None, placed)),
+        [first, rest @ ..] => match first.token {
+            Token::Symbol(Symbol::OpenBracket) => {
+                let ((first, bits), rest) = read_range_rest(rest)?;
+                Ok((Some(PathEnd::Sliced(first, bits)), rest))
+            }
+            Token::Reserved(Word::Word) => {
+                let (j, rest) = read_number(rest)?;
+                Ok((Some(PathEnd::Numbered(j)), rest))
+            }
+            _ => Ok((None, placed)),
+        },
+    }
+}
+
+/// The field at a path: all of it, some bits, or one word.
+fn held(path: Seq<u32>, end: Option<PathEnd>) -> PartKind
+    ensures { result ≡ reading.held path (seen_end end) }
+{
+    match end {
+        None => PartKind::Whole(path),
+        Some(PathEnd::Sliced(first, bits)) => PartKind::Slice(path, first, bits),
+        Some(PathEnd::Numbered(j)) => PartKind::Word(path, j),
+    }
+}
+
+/// What a part holds of a field, behind its path's first dot.
+#[tactic(auto, unfolding(crate::specs::Reading::part_kind_from, crate::specs::Reading::more_fields, crate::specs::Combining::pair, crate::specs::Combining::into))]
+fn read_held(alloc: Global, total: usize, placed: &[Placed]) -> Result<(PartKind, &[Placed]), Stop>
+    requires { total < 2 ^ 32 }
+    ensures { Gives (λ x. (x.0, tokens x.1.now)) result (reading.part_kind_from reading.no_pointer (token.Symbol symbol.Dot) (tokens placed.now)) }
+{
+    let (first, rest) = read_field(placed)?;
+    let (others, rest) = read_each(alloc, total, rest)?;
+    let (end, rest) = read_path_end(rest)?;
+    let path = joined(first, others)?;
+    let kind = held(path, end);
+    Ok((kind, rest))
+}
+
+/// `8 { inline .1 }` behind the arrow of a pointer part.
+#[cycle(leaf)]
+#[tactic(auto, unfolding(crate::specs::Pointing::pointed, crate::specs::Reading::no_pointer, crate::specs::Reading::pointer, crate::specs::Combining::pair, crate::specs::Combining::into))]
+fn read_pointed<'a>(
+    alloc: Global,
+    levels: u32,
+    total: usize,
+    placed: &'a [Placed],
+) -> Result<(PartKind, &'a [Placed]), Stop>
+    requires { total < 2 ^ 32 }
+    ensures { Gives (λ x. (x.0, tokens x.1.now)) result (pointed levels (tokens placed.now)) }
+{
+    if levels == 0 {
+        return Err(Stop::Deep(placed.len() + 1));
+    }
+    let (align, rest) = read_number(placed)?;
+    let rest = expect(Symbol::OpenBrace, rest)?;
+    let (items, rest) = read_items(alloc, levels - 1, total, rest)?;
+    Ok((PartKind::Pointer(align, items), rest))
+}
+
+/// What a part holds: `= 5`, `.0`, `.0[0:8]`, `.0 word 1` or `-> 8 { inline .1 }`.
+#[cycle(leaf)]
+#[tactic(auto, unfolding(crate::specs::Reading::part_kind, crate::specs::Reading::part_kind_from, crate::specs::Combining::into))]
+fn read_part_kind<'a>(
+    alloc: Global,
+    levels: u32,
+    total: usize,
+    placed: &'a [Placed],
+) -> Result<(PartKind, &'a [Placed]), Stop>
+    requires { total < 2 ^ 32 }
+    ensures { Gives (λ x. (x.0, tokens x.1.now)) result (reading.part_kind (pointed levels) (tokens placed.now)) }
+{
+    match placed {
+        [] => Err(Stop::Stuck(0)),
+        [first, rest @ ..] => match first.token {
+            Token::Symbol(Symbol::Equals) => {
+                let (n, rest) = read_number(rest)?;
+                Ok((PartKind::Const(n), rest))
+            }
+            Token::Symbol(Symbol::Dot) => read_held(alloc, total, rest),
+            Token::Symbol(Symbol::Arrow) => read_pointed(alloc, levels, total, rest),
+            _ => Err(Stop::Stuck(placed.len())),
+        },
+    }
+}
+
+/// `[0:8] .0`
+#[cycle(leaf)]
+#[tactic(auto, unfolding(crate::specs::Reading::part, crate::specs::Combining::pair, crate::specs::Combining::into))]
+fn read_part<'a>(
+    alloc: Global,
+    levels: u32,
+    total: usize,
+    placed: &'a [Placed],
+) -> Result<(PartDecl, &'a [Placed]), Stop>
+    requires { total < 2 ^ 32 }
+    ensures { Gives (λ x. (x.0, tokens x.1.now)) result (reading.part (pointed levels) (tokens placed.now)) }
+{
+    let ((o, l), rest) = read_range(placed)?;
+    let (kind, rest) = read_part_kind(alloc, levels, total, rest)?;
+    Ok((PartDecl { o, l, kind }, rest))
+}
+
+/// One part or more, and the brace that closes them.
+#[cycle(leaf)]
+fn read_some_parts<'a>(
+    alloc: Global,
+    levels: u32,
+    total: usize,
+    placed: &'a [Placed],
+) -> Result<(Seq<PartDecl>, &'a [Placed]), Stop>
+    requires { total < 2 ^ 32 }
+    ensures { Gives (λ x. (x.0, tokens x.1.now)) result (combining.some_closed (reading.part (pointed levels)) symbol.Comma symbol.CloseBrace (tokens placed.now)) }
+{
+    let mut parts = Seq::new(alloc);
+    let mut rest = placed;
+    for _turn in 0..placed.len() {
+        let (part, behind) = read_part(alloc, levels, total, rest)?;
+        parts.push(part)?;
+        if !begins_with(Symbol::Comma, behind) {
+            let behind = expect(Symbol::CloseBrace, behind)?;
+            return Ok((parts, behind));
+        }
+        rest = &behind[1..];
+    }
+    Err(Stop::Stuck(0))
+}
+
+/// Any number of parts, and the brace that closes them.
+#[cycle(leaf)]
+#[tactic(auto, unfolding(crate::specs::Combining::any_closed))]
+fn read_parts<'a>(
+    alloc: Global,
+    levels: u32,
+    total: usize,
+    placed: &'a [Placed],
+) -> Result<(Seq<PartDecl>, &'a [Placed]), Stop>
+    requires { total < 2 ^ 32 }
+    ensures { Gives (λ x. (x.0, tokens x.1.now)) result (combining.any_closed (reading.part (pointed levels)) symbol.CloseBrace (tokens placed.now)) }
+{
+    if begins_with(Symbol::CloseBrace, placed) {
+        return Ok((Seq::new(alloc), &placed[1..]));
+    }
+    read_some_parts(alloc, levels, total, placed)
+}
+
+/// `32 { [0:32] .0 }` behind the word `word`.
+#[cycle(leaf)]
+#[tactic(auto, unfolding(crate::specs::Reading::item_from, crate::specs::Combining::pair, crate::specs::Combining::into))]
+fn read_word<'a>(
+    alloc: Global,
+    levels: u32,
+    total: usize,
+    placed: &'a [Placed],
+) -> Result<(LayItem, &'a [Placed]), Stop>
+    requires { total < 2 ^ 32 }
+    ensures { Gives (λ x. (x.0, tokens x.1.now)) result (reading.item_from (pointed levels) (token.Reserved word.Word) (tokens placed.now)) }
+{
+    let (bits, rest) = read_number(placed)?;
+    let rest = expect(Symbol::OpenBrace, rest)?;
+    let (parts, rest) = read_parts(alloc, levels, total, rest)?;
+    Ok((LayItem::Word(bits, parts), rest))
+}
+
+/// A word with its parts, or the words of a field.
+#[cycle(leaf)]
+#[tactic(auto, unfolding(crate::specs::Reading::item_one, crate::specs::Reading::item_from, crate::specs::Combining::into))]
+fn read_item<'a>(
+    alloc: Global,
+    levels: u32,
+    total: usize,
+    placed: &'a [Placed],
+) -> Result<(LayItem, &'a [Placed]), Stop>
+    requires { total < 2 ^ 32 }
+    ensures { Gives (λ x. (x.0, tokens x.1.now)) result (reading.item_one (pointed levels) (tokens placed.now)) }
+{
+    match placed {
+        [] => Err(Stop::Stuck(0)),
+        [first, rest @ ..] => match first.token {
+            Token::Reserved(Word::Word) => read_word(alloc, levels, total, rest),
+            Token::Reserved(Word::Inline) => {
+                let (path, rest) = read_path(alloc, total, rest)?;
+                Ok((LayItem::Inline(path), rest))
+            }
+            _ => Err(Stop::Stuck(placed.len())),
+        },
+    }
+}
+
+/// One item or more, and the brace that closes them.
+#[cycle(leaf)]
+pub(crate) fn read_some_items<'a>(
+    alloc: Global,
+    levels: u32,
+    total: usize,
+    placed: &'a [Placed],
+) -> Result<(Seq<LayItem>, &'a [Placed]), Stop>
+    requires { total < 2 ^ 32 }
+    ensures { Gives (λ x. (x.0, tokens x.1.now)) result (combining.some_closed (λ us. reading.lay_item_tree levels us) symbol.Comma symbol.CloseBrace (tokens placed.now)) }
+{
+    let mut items = Seq::new(alloc);
+    let mut rest = placed;
+    for _turn in 0..placed.len() {
+        let (item, behind) = read_item(alloc, levels, total, rest)?;
+        items.push(item)?;
+        if !begins_with(Symbol::Comma, behind) {
+            let behind = expect(Symbol::CloseBrace, behind)?;
+            return Ok((items, behind));
+        }
+        rest = &behind[1..];
+    }
+    Err(Stop::Stuck(0))
+}
+
+/// Any number of items, and the brace that closes them.
+#[cycle(leaf)]
+#[tactic(auto, unfolding(crate::specs::Combining::any_closed))]
+fn read_items<'a>(
+    alloc: Global,
+    levels: u32,
+    total: usize,
+    placed: &'a [Placed],
+) -> Result<(Seq<LayItem>, &'a [Placed]), Stop>
+    requires { total < 2 ^ 32 }
+    ensures { Gives (λ x. (x.0, tokens x.1.now)) result (combining.any_closed (λ us. reading.lay_item_tree levels us) symbol.CloseBrace (tokens placed.now)) }
+{
+    if begins_with(Symbol::CloseBrace, placed) {
+        return Ok((Seq::new(alloc), &placed[1..]));
+    }
+    read_some_items(alloc, levels, total, placed)
+}

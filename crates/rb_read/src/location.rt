@@ -1,0 +1,135 @@
+//! Ranges, paths and locations.
+
+ghost use Rattle.std.specs.Prelude.{◌≡◌, ◌∷◌, ◌<◌, ◌^◌, IfOk};
+ghost use Rattle.rb_syntax.specs.declared.token.Symbol.TheVariants as symbol;
+ghost use Rattle.rb_syntax.specs.Tokens.{tokens};
+ghost use Rattle.rb_read.specs.Starting as starting;
+ghost use Rattle.rb_read.specs.Reading as reading;
+ghost use Rattle.rb_read.specs.Gives.{Gives};
+
+use crate::each::{Repeat, read_each};
+use crate::list::Read;
+use crate::stop::Stop;
+use crate::tokens::{begins_with, expect, read_field, read_number};
+use rb_core::seq::Seq;
+use rb_syntax::token::{Placed, Symbol};
+use rb_syntax::tree::{Loc, Step};
+use std::alloc::{AllocError, Global};
+
+/// `0:8]`, behind the bracket of a range: its first bit and its length.
+#[tactic(auto, unfolding(crate::specs::Reading::range_rest, crate::specs::Combining::pair, crate::specs::Combining::into))]
+pub fn read_range_rest(placed: &[Placed]) -> Result<((u64, u64), &[Placed]), Stop>
+    ensures { Gives (λ x. (x.0, tokens x.1.now)) result (reading.range_rest (tokens placed.now)) }
+{
+    let (first, rest) = read_number(placed)?;
+    let rest = expect(Symbol::Colon, rest)?;
+    let (bits, rest) = read_number(rest)?;
+    let rest = expect(Symbol::CloseBracket, rest)?;
+    Ok(((first, bits), rest))
+}
+
+/// `[0:8]`
+#[tactic(auto, unfolding(crate::specs::Reading::range, crate::specs::Combining::pair, crate::specs::Combining::into))]
+pub fn read_range(placed: &[Placed]) -> Result<((u64, u64), &[Placed]), Stop>
+    ensures { Gives (λ x. (x.0, tokens x.1.now)) result (reading.range (tokens placed.now)) }
+{
+    let rest = expect(Symbol::OpenBracket, placed)?;
+    let (range, rest) = read_range_rest(rest)?;
+    Ok((range, rest))
+}
+
+/// `.0`
+impl Read for u32 {
+    ghost reader = { λ _ ts. reading.field_in ts };
+
+    #[tactic(auto, unfolding(crate::specs::Reading::field_in, crate::specs::Combining::pair, crate::specs::Combining::into))]
+    fn read(_alloc: Global, _total: usize, placed: &[Placed]) -> Result<(u32, &[Placed]), Stop> {
+        let rest = expect(Symbol::Dot, placed)?;
+        let (field, rest) = read_field(rest)?;
+        Ok((field, rest))
+    }
+}
+
+/// The fields of a path.
+impl Repeat for u32 {
+    ghost begins = { λ t. starting.is_symbol symbol.Dot t };
+
+    fn begins_with(placed: &[Placed]) -> bool {
+        begins_with(Symbol::Dot, placed)
+    }
+}
+
+/// A path's fields, the first before the others.
+pub(crate) fn joined(first: u32, others: Seq<u32>) -> Result<Seq<u32>, AllocError>
+    ensures { IfOk result (λ fields. fields ≡ first ∷ others) }
+{
+    let mut fields = others.into_vec();
+    fields.insert(0, first)?;
+    Ok(Seq::from_vec(fields))
+}
+
+/// `.0.1`
+#[tactic(auto, unfolding(crate::specs::Reading::path, crate::specs::Reading::more_fields, crate::specs::Combining::pair, crate::specs::Combining::into))]
+pub fn read_path(
+    alloc: Global,
+    total: usize,
+    placed: &[Placed],
+) -> Result<(Seq<u32>, &[Placed]), Stop>
+    requires { total < 2 ^ 32 }
+    ensures { Gives (λ x. (x.0, tokens x.1.now)) result (reading.path (tokens placed.now)) }
+{
+    let (first, rest) = u32::read(alloc, total, placed)?;
+    let (others, rest) = read_each(alloc, total, rest)?;
+    let path = joined(first, others)?;
+    Ok((path, rest))
+}
+
+/// `-> 4 @0:8[0:8]`
+impl Read for Step {
+    ghost reader = { λ _ ts. reading.loc_step ts };
+
+    #[tactic(auto, unfolding(crate::specs::Reading::loc_step, crate::specs::Combining::pair, crate::specs::Combining::into))]
+    fn read(_alloc: Global, _total: usize, placed: &[Placed]) -> Result<(Step, &[Placed]), Stop> {
+        let rest = expect(Symbol::Arrow, placed)?;
+        let (align, rest) = read_number(rest)?;
+        let rest = expect(Symbol::At, rest)?;
+        let (byte, rest) = read_number(rest)?;
+        let rest = expect(Symbol::Colon, rest)?;
+        let (width, rest) = read_number(rest)?;
+        let ((o, l), rest) = read_range(rest)?;
+        let step = Step {
+            align,
+            byte,
+            width,
+            o,
+            l,
+        };
+        Ok((step, rest))
+    }
+}
+
+/// The steps of a location.
+impl Repeat for Step {
+    ghost begins = { λ t. starting.is_symbol symbol.Arrow t };
+
+    fn begins_with(placed: &[Placed]) -> bool {
+        begins_with(Symbol::Arrow, placed)
+    }
+}
+
+/// `0[0:32] -> 4 @0:8[0:8]`
+#[tactic(auto, unfolding(crate::specs::Reading::location, crate::specs::Combining::pair, crate::specs::Combining::into))]
+pub fn read_location(
+    alloc: Global,
+    total: usize,
+    placed: &[Placed],
+) -> Result<(Loc, &[Placed]), Stop>
+    requires { total < 2 ^ 32 }
+    ensures { Gives (λ x. (x.0, tokens x.1.now)) result (reading.location (tokens placed.now)) }
+{
+    let (word, rest) = read_number(placed)?;
+    let ((o, l), rest) = read_range(rest)?;
+    let (steps, rest) = read_each(alloc, total, rest)?;
+    let loc = Loc { word, o, l, steps };
+    Ok((loc, rest))
+}
