@@ -12,3 +12,5 @@ pub mod Pointers
 mod Steps
 pub mod TokenForms
 pub mod TypeForms
+mod Climbing
+mod Exact
