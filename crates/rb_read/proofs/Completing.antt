@@ -1,5 +1,5 @@
 -- What is open behind a file's first tokens can always be completed.
-use Rattle.std.proofs.Common.{◌≡◌, ℕ, suc, ◌^◌, List, [], ◌∷◌, ◌++◌, Bool, true, false, nat_lt, if◌then◌else◌, Option, Some, None, refl, sym, ◌∙◌, ap, subst, arith, codes, append_assoc}
+use Rattle.std.proofs.Common.{◌≡◌, ℕ, suc, List, [], ◌∷◌, ◌++◌, Bool, true, false, if◌then◌else◌, Some, None, refl, ◌∙◌, subst, arith, codes, append_assoc}
 use Rattle.std.proofs.lemmas.Grind.{common_steps}
 use Rattle.rb_syntax.specs.declared.token.Word.{Word}
 use Rattle.rb_syntax.specs.declared.token.Word.TheVariants as word
@@ -7,7 +7,6 @@ use Rattle.rb_syntax.specs.declared.token.Symbol.{Symbol}
 use Rattle.rb_syntax.specs.declared.token.Symbol.TheVariants as symbol
 use Rattle.rb_syntax.specs.declared.token.Token.{Token}
 use Rattle.rb_syntax.specs.declared.token.Token.TheVariants as token
-use Rattle.rb_syntax.specs.Spelling.{is_width}
 use Rattle.rb_read.specs.declared.starting.Form.{Form}
 use Rattle.rb_read.specs.declared.starting.Form.TheVariants as form
 use Rattle.rb_read.specs.Starting.{is_symbol, is_word, form_of}

@@ -1,5 +1,5 @@
 -- The places of faults, from what holds of the reader of a file's items.
-use Rattle.std.proofs.Common.{◌≡◌, ◌≢◌, ◌⊎◌, inl, inr, ℕ, zero, suc, ◌+◌, ◌-◌, ◌<◌, ◌≤◌, List, [], ◌∷◌, ◌++◌, map, length, take, Bool, true, false, nat_lt, if◌then◌else◌, Some, None, Result, Ok, Err, IfOk, refl, sym, ◌∙◌, ap, subst, arith, append_assoc, length-append, length-take}
+use Rattle.std.proofs.Common.{◌≡◌, ◌≢◌, ◌⊎◌, inl, inr, ℕ, zero, suc, ◌+◌, ◌-◌, ◌<◌, ◌≤◌, List, [], ◌∷◌, ◌++◌, map, length, take, Bool, true, false, nat_lt, if◌then◌else◌, Some, None, Result, Ok, Err, IfOk, refl, sym, ◌∙◌, ap, subst, arith, append_assoc, length-append}
 use Rattle.std.proofs.lemmas.Grind.{common_steps}
 use Rattle.rb_syntax.specs.declared.token.Token.{Token}
 use Rattle.rb_syntax.specs.declared.tree.ItemTree.{ItemTree}
@@ -118,7 +118,6 @@ taken total limit ts (Err f) file h e = cc
 
 module _ (bars : Token → Bool) (reader : (total limit : ℕ) → Reader (List ItemTree))
     (form : (total limit : ℕ) → IsForm total limit bars start (λ items. each (map item_written items)) (reader total limit)) where
-
   abbrev pub file_of : (total limit : ℕ) → List Token → Result FileTree Fault
   file_of total limit ts = whole_file (reader total limit ts)
 
@@ -221,7 +220,7 @@ module _ (bars : Token → Bool) (reader : (total limit : ℕ) → Reader (List 
       let k : length (front ++ t ∷ []) ≡ length front + 1 = length-append front (t ∷ []) in
       let p : length all - suc (length pre.0) ≡ length front = omega arith in
       let d : HasNode (length all) 129 (length front) (file_written pre.1.0) =
-          subst (λ q. HasNode (length all) 129 q (file_written pre.1.0)) p (node-of all pre.1.0 (suc (length pre.0)) pre.1.1 r) in
+      subst (λ q. HasNode (length all) 129 q (file_written pre.1.0)) p (node-of all pre.1.0 (suc (length pre.0)) pre.1.1 r) in
       record {
         within = simp length-append (omega arith);
         more = pre.0;
@@ -254,6 +253,12 @@ module _ (bars : Token → Bool) (reader : (total limit : ℕ) → Reader (List 
         let f : file_of (length ts) 128 ts ≡ Err (deep w.0) = rw e' refl in
         (w.0, run-file (length ts) 128 ts ∙ ap end_of f, w.2)
 
+  deep-front : (ts front us : List Token) (t : Token) (q : ℕ) → ts ≡ front ++ t ∷ us → length front ≤ q → run 128 start (front ++ t ∷ us) ≡ too_deep (suc (length us)) → DeepBy ts q
+  deep-front ts front us t q e l r =
+      let n : length (front ++ t ∷ us) ≡ length front + suc (length us) = length-append front (t ∷ us) in
+      let h : length ts ≡ length (front ++ t ∷ us) = ap length e in
+      (suc (length us), rw e r, omega arith)
+
   deep-shared : (ts us : List Token) (q : ℕ) → q < length ts → DeepBy (take (suc q) ts ++ us) q → DeepBy ts q
   deep-shared ts us q l w =
       let s : Deepens 128 start (take (suc q) ts ++ us) w.0 = deepens 128 (take (suc q) ts ++ us) start w.0 w.1 in
@@ -263,10 +268,7 @@ module _ (bars : Token → Bool) (reader : (total limit : ℕ) → Reader (List 
       let d : length (take (suc q) ts ++ us) - w.0 ≤ q = w.2 in
       let f : length s.front < suc q = omega arith in
       let v = shared s.front s.token (suc q) ts us s.back f (omega arith) s.parts in
-      let i : length (s.front ++ s.token ∷ v.0) ≡ length s.front + suc (length v.0) = length-append s.front (s.token ∷ v.0) in
-      let j : length ts ≡ length (s.front ++ s.token ∷ v.0) = ap length v.1 in
-      let o : length ts - suc (length v.0) ≤ q = omega arith in
-      (suc (length v.0), subst (λ k. run 128 start k ≡ too_deep (suc (length v.0))) (sym v.1) (s.same v.0), o)
+      deep-front ts s.front v.0 s.token q v.1 (omega arith) (s.same v.0)
 
   deep-by : (ts : List Token) (q : ℕ) → IsTooDeepAt ts q → DeepBy ts q
   deep-by ts q d = deep-shared ts d.more q d.within (deep-run (take (suc q) ts ++ d.more) d.file q d.tree d.deep)

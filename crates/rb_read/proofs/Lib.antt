@@ -1,8 +1,11 @@
+mod Climbing
 mod Completing
 pub mod EachLoops
 pub mod ExpressionForms
+mod Exact
 pub mod FormLaws
 pub mod Forms
+pub mod LayoutInduction
 pub mod ListForms
 pub mod LocationForms
 pub mod Loops
