@@ -1,8 +1,8 @@
 mod Climbing
 mod Completing
 pub mod EachLoops
-pub mod ExpressionForms
 mod Exact
+pub mod ExpressionForms
 pub mod FormLaws
 pub mod Forms
 pub mod LayoutInduction
@@ -15,5 +15,3 @@ pub mod Pointers
 mod Steps
 pub mod TokenForms
 pub mod TypeForms
-mod Climbing
-mod Exact
