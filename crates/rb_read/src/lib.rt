@@ -3,6 +3,7 @@
 
 mod beyond;
 mod each;
+mod layout;
 mod leaf;
 mod list;
 mod location;

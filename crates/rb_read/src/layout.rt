@@ -1,0 +1,204 @@
+//! Reads trees of layouts. Trees are counted by the levels that are left.
+
+ghost use Rattle.std.specs.Prelude.{◌≡◌, ◌-◌, ◌<◌, ◌^◌, length};
+ghost use Rattle.rb_syntax.specs.declared.token.Word.TheVariants as word;
+ghost use Rattle.rb_syntax.specs.Tokens.{tokens};
+ghost use Rattle.rb_read.specs.Combining as combining;
+ghost use Rattle.rb_read.specs.Reading as reading;
+ghost use Rattle.rb_read.specs.Starting as starting;
+ghost use Rattle.rb_read.specs.Gives.{Gives};
+
+use crate::beyond::beyond;
+use crate::leaf::read_some_items;
+use crate::location::read_location;
+use crate::provenance::read_provenance;
+use crate::stop::Stop;
+use crate::tokens::{expect, expect_word, number_of, read_number};
+use rb_core::boxed::Boxed;
+use rb_core::seq::Seq;
+use rb_syntax::token::{Placed, Symbol, Token, Word};
+use rb_syntax::tree::{ArmTree, SplitTree};
+use std::alloc::Global;
+
+/// Whether the first token begins a tree.
+fn begins_tree(placed: &[Placed]) -> bool
+    ensures { result ≡ combining.at_front (λ t. reading.begins_tree t) (tokens placed.now) }
+{
+    match placed {
+        [] => false,
+        [first, ..] => match first.token {
+            Token::Reserved(word) => word == Word::Split,
+            Token::Upper(_) => true,
+            _ => false,
+        },
+    }
+}
+
+/// Whether the first token begins an arm of a split.
+fn begins_arm(placed: &[Placed]) -> bool
+    ensures { result ≡ combining.at_front starting.is_number (tokens placed.now) }
+{
+    match placed {
+        [] => false,
+        [first, ..] => match first.token {
+            Token::Num(_) => true,
+            _ => false,
+        },
+    }
+}
+
+/// Whether the first token is the word `else`.
+fn begins_else(placed: &[Placed]) -> bool
+    ensures { result ≡ combining.at_front (λ t. starting.is_word word.Else t) (tokens placed.now) }
+{
+    match placed {
+        [] => false,
+        [first, ..] => match first.token {
+            Token::Reserved(word) => word == Word::Else,
+            _ => false,
+        },
+    }
+}
+
+/// `Cons(_, _) : { word 64 { [0:64] .0 } }`
+#[tactic(auto, unfolding(crate::specs::Reading::leaf, crate::specs::Combining::pair, crate::specs::Combining::into))]
+fn read_leaf(
+    alloc: Global,
+    levels: u32,
+    total: usize,
+    placed: &[Placed],
+) -> Result<(SplitTree, &[Placed]), Stop>
+    requires { total < 2 ^ 32 }
+    ensures { Gives (λ x. (x.0, tokens x.1.now)) result (reading.leaf levels total (total - length placed.now) (tokens placed.now)) }
+{
+    let at = number_of(total, placed);
+    let (provenance, rest) = read_provenance(alloc, levels, total, placed)?;
+    let rest = expect(Symbol::Colon, rest)?;
+    let rest = expect(Symbol::OpenBrace, rest)?;
+    let (items, rest) = read_some_items(alloc, levels, total, rest)?;
+    Ok((SplitTree::Leaf(at, provenance, items), rest))
+}
+
+/// `0 => ...` with so many levels left for its tree.
+#[cycle(splits)]
+#[tactic(auto, unfolding(crate::specs::Reading::arm_tree, crate::specs::Combining::pair, crate::specs::Combining::into))]
+fn read_arm<'a>(
+    alloc: Global,
+    levels: u32,
+    total: usize,
+    placed: &'a [Placed],
+) -> Result<(ArmTree, &'a [Placed]), Stop>
+    requires { total < 2 ^ 32 }
+    ensures { Gives (λ x. (x.0, tokens x.1.now)) result (reading.arm_tree (λ us. reading.layout_tree levels total us) (tokens placed.now)) }
+{
+    let (literal, rest) = read_number(placed)?;
+    let rest = expect(Symbol::FatArrow, rest)?;
+    let (under, rest) = read_layout_tree(alloc, levels, total, rest)?;
+    Ok((ArmTree { literal, under }, rest))
+}
+
+/// The arms of a split.
+#[cycle(splits)]
+fn read_arms<'a>(
+    alloc: Global,
+    levels: u32,
+    total: usize,
+    placed: &'a [Placed],
+) -> Result<(Seq<ArmTree>, &'a [Placed]), Stop>
+    requires { total < 2 ^ 32 }
+    ensures { Gives (λ x. (x.0, tokens x.1.now)) result (combining.each_of starting.is_number (reading.arm_tree (λ us. reading.layout_tree levels total us)) (tokens placed.now)) }
+{
+    let mut arms = Seq::new(alloc);
+    let mut rest = placed;
+    for _turn in 0..placed.len() {
+        if !begins_arm(rest) {
+            return Ok((arms, rest));
+        }
+        let (arm, behind) = read_arm(alloc, levels, total, rest)?;
+        arms.push(arm)?;
+        rest = behind;
+    }
+    Ok((arms, rest))
+}
+
+/// `else => ...`, or nothing.
+#[cycle(splits)]
+#[tactic(auto, unfolding(crate::specs::Combining::optional, crate::specs::Reading::else_tree, crate::specs::Combining::pair, crate::specs::Combining::into))]
+fn read_else<'a>(
+    alloc: Global,
+    levels: u32,
+    total: usize,
+    placed: &'a [Placed],
+) -> Result<(Option<Boxed<SplitTree>>, &'a [Placed]), Stop>
+    requires { total < 2 ^ 32 }
+    ensures { Gives (λ x. (x.0, tokens x.1.now)) result (combining.optional (λ t. starting.is_word word.Else t) (reading.else_tree (λ us. reading.layout_tree levels total us)) (tokens placed.now)) }
+{
+    if !begins_else(placed) {
+        return Ok((None, placed));
+    }
+    let rest = expect_word(Word::Else, placed)?;
+    let rest = expect(Symbol::FatArrow, rest)?;
+    let (tree, rest) = read_layout_tree(alloc, levels, total, rest)?;
+    let tree = Boxed::new(alloc, tree)?;
+    Ok((Some(tree), rest))
+}
+
+/// `0[0:1] { 0 => ... else => ... }` behind the word `split`.
+#[cycle(splits)]
+#[tactic(auto, unfolding(crate::specs::Reading::split_rest, crate::specs::Combining::pair, crate::specs::Combining::into))]
+fn read_split<'a>(
+    alloc: Global,
+    levels: u32,
+    total: usize,
+    placed: &'a [Placed],
+) -> Result<(SplitTree, &'a [Placed]), Stop>
+    requires { total < 2 ^ 32 }
+    ensures { Gives (λ x. (x.0, tokens x.1.now)) result (reading.split_rest (λ us. reading.layout_tree levels total us) (tokens placed.now)) }
+{
+    let (loc, rest) = read_location(alloc, total, placed)?;
+    let rest = expect(Symbol::OpenBrace, rest)?;
+    let (arms, rest) = read_arms(alloc, levels, total, rest)?;
+    let (other, rest) = read_else(alloc, levels, total, rest)?;
+    let rest = expect(Symbol::CloseBrace, rest)?;
+    Ok((SplitTree::Split(loc, arms, other), rest))
+}
+
+/// A tree whose parts have so many levels left.
+#[cycle(splits)]
+#[tactic(auto, unfolding(crate::specs::Reading::tree_by))]
+fn read_tree_node<'a>(
+    alloc: Global,
+    levels: u32,
+    total: usize,
+    placed: &'a [Placed],
+) -> Result<(SplitTree, &'a [Placed]), Stop>
+    requires { total < 2 ^ 32 }
+    ensures { Gives (λ x. (x.0, tokens x.1.now)) result (reading.tree_by (λ us. reading.layout_tree levels total us) (λ us. reading.leaf levels total (total - length us) us) (tokens placed.now)) }
+{
+    match placed {
+        [] => Err(Stop::Stuck(0)),
+        [first, rest @ ..] => match first.token {
+            Token::Reserved(Word::Split) => read_split(alloc, levels, total, rest),
+            Token::Upper(_) => read_leaf(alloc, levels, total, placed),
+            _ => Err(Stop::Stuck(placed.len())),
+        },
+    }
+}
+
+/// A layout's tree, with so many levels left.
+#[cycle(splits)]
+#[tactic(auto, unfolding(crate::specs::Reading::layout_tree))]
+pub fn read_layout_tree<'a>(
+    alloc: Global,
+    levels: u32,
+    total: usize,
+    placed: &'a [Placed],
+) -> Result<(SplitTree, &'a [Placed]), Stop>
+    requires { total < 2 ^ 32 }
+    ensures { Gives (λ x. (x.0, tokens x.1.now)) result (reading.layout_tree levels total (tokens placed.now)) }
+{
+    if levels == 0 {
+        return Err(beyond(begins_tree(placed), placed));
+    }
+    read_tree_node(alloc, levels - 1, total, placed)
+}
