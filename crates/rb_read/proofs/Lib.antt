@@ -5,7 +5,9 @@ mod Exact
 pub mod ExpressionForms
 pub mod FormLaws
 pub mod Forms
+pub mod ItemForms
 pub mod LayoutInduction
+pub mod LeafForms
 pub mod ListForms
 pub mod LocationForms
 pub mod Loops
@@ -14,4 +16,5 @@ pub mod PatternForms
 pub mod Pointers
 mod Steps
 pub mod TokenForms
+pub mod TreeForms
 pub mod TypeForms

@@ -160,21 +160,28 @@ again-behind total limit r r' x vs ws rest e o (fits o' e' i) = fits (o ∙ o') 
 again-behind total limit r r' x vs ws rest e o (exceeds m o' e') = exceeds m (o ∙ o') (e ∙ e')
 
 module _ {A X : Type 0} {total limit : ℕ} {bars : Token → Bool} {opens : List Open} {w : A → Writing} {tail : Reader A} (f : IsForm total limit bars opens w tail) where
-  -- behind the token stands a form
+  -- behind the token stands a form, which may tell the marks in front
+  pub node-at-by : {a : Kind} {written : X → Writing} {r : Reader X} {t : Token} (level : ℕ) → begins a t ≡ Some (level, opens) → nat_lt limit level ≡ false
+      → (make : ℕ → A → X) → ((ts : List Token) → r (t ∷ ts) ≡ into (make (total - suc (length ts))) tail ts)
+      → (ms : ℕ → A → List Written) → ((at : ℕ) (y : A) → AreMarks (ms at y)) → ((at : ℕ) (y : A) → AllAre at (ms at y)) → ((at : ℕ) (y : A) → is_deeper limit (ms at y) ≡ false)
+      → ((at : ℕ) (y : A) (rest : List Written) → written (make at y) rest ≡ ms at y ++ token t ∷ w y rest)
+      → AtToken total limit a written r t
+  unfolding run step go_on into
+  node-at-by {a = a} {written = written} {r = r} {t = t} level begun small make reads ms marks all not_deep same = record {
+    takes_on = λ ts. subst (λ q. IfOk q (λ x. Took total limit (t ∷ ts) (written x.0) x.1)) (sym (reads ts)) (ok-bind _ _ (tail ts) _ (f.takes ts) (λ x p. λ rest h.
+        let at = total - suc (length ts) in
+        subst (λ ws. Spells total limit (t ∷ ts) ws) (sym (same at x.0 rest))
+        (marks-spell total limit (t ∷ ts) (ms at x.0) (token t ∷ w x.0 rest) (marks at x.0) (all at x.0) (not_deep at x.0) (put-token total limit t ts _ (p rest h)))));
+    follows_on = λ ts k. rw (begun, small, reads ts) (f.follows ts k ∙ goes-bind limit k k (tail ts) _ (λ x. refl));
+    shrinks_on = λ ts. subst (λ q. IfOk q (λ x. length x.1 ≤ length ts)) (sym (reads ts)) (ok-bind _ _ (tail ts) _ (f.shrinks ts) (λ x p. p));
+  }
+
   pub node-at : {a : Kind} {written : X → Writing} {r : Reader X} {t : Token} (level : ℕ) → begins a t ≡ Some (level, opens) → nat_lt limit level ≡ false
       → (make : ℕ → A → X) → ((ts : List Token) → r (t ∷ ts) ≡ into (make (total - suc (length ts))) tail ts)
       → (ms : ℕ → List Written) → ((at : ℕ) → AreMarks (ms at)) → ((at : ℕ) → AllAre at (ms at)) → ((at : ℕ) → is_deeper limit (ms at) ≡ false)
       → ((at : ℕ) (y : A) (rest : List Written) → written (make at y) rest ≡ ms at ++ token t ∷ w y rest)
       → AtToken total limit a written r t
-  unfolding run step go_on into
-  node-at {a = a} {written = written} {r = r} {t = t} level begun small make reads ms marks all not_deep same = record {
-    takes_on = λ ts. subst (λ q. IfOk q (λ x. Took total limit (t ∷ ts) (written x.0) x.1)) (sym (reads ts)) (ok-bind _ _ (tail ts) _ (f.takes ts) (λ x p. λ rest h.
-        let at = total - suc (length ts) in
-        subst (λ ws. Spells total limit (t ∷ ts) ws) (sym (same at x.0 rest))
-        (marks-spell total limit (t ∷ ts) (ms at) (token t ∷ w x.0 rest) (marks at) (all at) (not_deep at) (put-token total limit t ts _ (p rest h)))));
-    follows_on = λ ts k. rw (begun, small, reads ts) (f.follows ts k ∙ goes-bind limit k k (tail ts) _ (λ x. refl));
-    shrinks_on = λ ts. subst (λ q. IfOk q (λ x. length x.1 ≤ length ts)) (sym (reads ts)) (ok-bind _ _ (tail ts) _ (f.shrinks ts) (λ x p. p));
-  }
+  node-at level begun small make reads ms marks all not_deep same = node-at-by level begun small make reads (λ at y. ms at) (λ at y. marks at) (λ at y. all at) (λ at y. not_deep at) same
 
   pub node-again : {r : Reader X} (t : Token) (make : ℕ → A → X) → ((ts : List Token) → r (t ∷ ts) ≡ into (make (total - suc (length ts))) tail ts)
       → (ms : List Written) → AreMarks ms → is_deeper limit ms ≡ false

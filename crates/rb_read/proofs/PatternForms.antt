@@ -112,7 +112,7 @@ pattern-part total limit (suc n) l e = pattern-above total limit l (within limit
 
 -- Provenances and what stands below their constructors.
 
-below-con-written : (at : ℕ) (x : NameTree) (ps : List PatTree) (l : ℕ) (rest : List Written) → below_written (P.Con at x ps) l rest
+pub below-con-written : (at : ℕ) (x : NameTree) (ps : List PatTree) (l : ℕ) (rest : List Written) → below_written (P.Con at x ps) l rest
     ≡ node l ∷ number at ∷ number x.at ∷ token (tok.Upper x.text) ∷ fields_written (map (λ p. below_written p (suc l)) ps) rest
 below-con-written at x ps l rest = below-Con at x ps l rest
     ∙ ap (λ ws. node l ∷ number at ∷ number x.at ∷ token (tok.Upper x.text) ∷ fields_written ws rest) (at_level-map below_written (suc l) ps)
