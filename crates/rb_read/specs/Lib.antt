@@ -1,6 +1,8 @@
 pub mod Combining
 pub mod Exact
+pub mod Files
 pub mod Gives
+pub mod Limits
 pub mod Open
 pub mod Pointing
 pub mod Reading

@@ -3,6 +3,7 @@
 
 mod beyond;
 mod each;
+pub mod fault;
 mod layout;
 mod leaf;
 mod list;

@@ -1,0 +1,69 @@
+-- The counts of a file that have a limit.
+use Rattle.std.specs.Prelude.{ℕ, ◌-◌, List, [], ◌∷◌, map, length, Bool, nat_lt, Option, Some, None, find}
+use Rattle.std.specs.List.{flat_map}
+use Rattle.rb_syntax.specs.declared.tree.ConTree.{ConTree}
+use Rattle.rb_syntax.specs.declared.tree.TypeTree.{TypeTree}
+use Rattle.rb_syntax.specs.declared.tree.FunTree.{FunTree}
+use Rattle.rb_syntax.specs.declared.tree.ItemTree.{ItemTree}
+use Rattle.rb_syntax.specs.declared.tree.ItemTree.TheVariants as top
+use Rattle.rb_syntax.specs.declared.tree.FileTree.{FileTree}
+use Rattle.rb_read.specs.declared.fault.Quantity.{Quantity}
+use Rattle.rb_read.specs.declared.fault.Quantity.TheVariants.{FileBytes, Types, Functions, Constructors, Fields, Parameters, ShapeWords}
+
+-- the most of each; of bytes, types and functions in a file, of the others in one item
+abbrev pub greatest : Quantity → ℕ
+greatest FileBytes = 262144
+greatest Types = 1000
+greatest Functions = 10000
+greatest Constructors = 256
+greatest Fields = 32
+greatest Parameters = 32
+greatest ShapeWords = 8
+
+-- how many there are of something that has a limit
+pub record Count : Type 0 where
+  pub quantity : Quantity
+  pub count : ℕ
+
+abbrev pub counted : Quantity → ℕ → Count
+counted q n = record { quantity = q; count = n }
+
+abbrev pub is_over : Count → Bool
+is_over c = nat_lt (greatest c.quantity) c.count
+
+-- a type's constructors, then the fields of each
+abbrev pub type_counts : TypeTree → List Count
+type_counts t = counted Constructors (length t.cons) ∷ map (λ (c : ConTree). counted Fields (length c.fields)) t.cons
+
+abbrev pub item_counts : ItemTree → List Count
+item_counts (top.Types t) = type_counts t
+item_counts (top.Layouts l) = counted ShapeWords (length l.shape) ∷ []
+item_counts (top.Funs f) = counted Parameters (length f.params) ∷ []
+item_counts (top.Derived name a) = []
+
+abbrev pub types_in : List ItemTree → List TypeTree
+types_in [] = []
+types_in (top.Types t ∷ items) = t ∷ types_in items
+types_in (_ ∷ items) = types_in items
+
+abbrev pub functions_in : List ItemTree → List FunTree
+functions_in [] = []
+functions_in (top.Funs f ∷ items) = f ∷ functions_in items
+functions_in (_ ∷ items) = functions_in items
+
+-- the types, the functions, and then item by item as they are written
+abbrev pub counts : List ItemTree → List Count
+counts items = counted Types (length (types_in items)) ∷ counted Functions (length (functions_in items)) ∷ flat_map item_counts items
+
+-- the first count over its limit
+abbrev pub first_over : FileTree → Option Count
+first_over file = find is_over (counts file.items)
+
+-- the number of the word `layout` in front of the first derived layout's name
+abbrev pub derived_in : List ItemTree → Option ℕ
+derived_in [] = None
+derived_in (top.Derived name a ∷ items) = Some (name.at - 1)
+derived_in (_ ∷ items) = derived_in items
+
+abbrev pub first_derived : FileTree → Option ℕ
+first_derived file = derived_in file.items
