@@ -12,6 +12,7 @@ pub mod ListForms
 pub mod LocationForms
 pub mod Loops
 pub mod NodeForms
+mod OpenExamples
 pub mod PatternForms
 pub mod Pointers
 mod Steps
