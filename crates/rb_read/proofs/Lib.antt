@@ -4,6 +4,7 @@ pub mod EachLoops
 mod Exact
 pub mod ExpressionForms
 pub mod FormLaws
+pub mod ExpressionNode
 pub mod Forms
 pub mod ItemForms
 pub mod LayoutInduction

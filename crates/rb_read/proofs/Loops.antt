@@ -70,7 +70,7 @@ fails-beyond : (A : Type 0) (b : Bool) (n m : ℕ) → n ≡ m
 fails-beyond A true n m e = ap (λ k. Err (deep k)) (sym e)
 fails-beyond A false n m e = ap (λ k. Err (stuck k)) (sym e)
 
-tokens-length : (ps : List Placed) → length ps ≡ length (tokens ps)
+pub tokens-length : (ps : List Placed) → length ps ≡ length (tokens ps)
 tokens-length [] = refl
 tokens-length (p ∷ ps) = ap suc (tokens-length ps)
 

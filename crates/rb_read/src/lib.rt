@@ -3,6 +3,7 @@
 
 mod beyond;
 mod each;
+mod expression;
 pub mod fault;
 mod layout;
 mod leaf;

@@ -1,0 +1,351 @@
+//! Reads expressions.
+
+ghost use Rattle.std.specs.Prelude.{◌≡◌, ◌<◌, ◌^◌};
+ghost use Rattle.rb_syntax.specs.declared.token.Symbol.TheVariants as symbols;
+ghost use Rattle.rb_syntax.specs.declared.tree.ExprTree.TheVariants as exprs;
+ghost use Rattle.rb_syntax.specs.Tokens.{tokens};
+ghost use Rattle.rb_read.specs.Combining as combining;
+ghost use Rattle.rb_read.specs.Reading as reading;
+ghost use Rattle.rb_read.specs.Gives.{Gives};
+
+use crate::beyond::beyond;
+use crate::pattern::read_pattern;
+use crate::starting::{Form, form_of};
+use crate::stop::Stop;
+use crate::tokens::{begins_with, expect, expect_word, number_of, read_lower, read_width};
+use crate::types::read_type;
+use rb_core::boxed::Boxed;
+use rb_core::seq::Seq;
+use rb_syntax::token::{Placed, Symbol, Token, Word};
+use rb_syntax::tree::{ClauseTree, ExprTree, Name, NameTree, Op};
+use std::alloc::Global;
+
+/// Whether the first token begins an expression.
+fn begins_expression(placed: &[Placed]) -> bool
+    ensures { result ≡ combining.at_front (λ t. reading.begins_expression t) (tokens placed.now) }
+{
+    match placed {
+        [] => false,
+        [first, ..] => match first.token {
+            Token::Upper(_) | Token::Lower(_) | Token::Num(_) => true,
+            Token::Reserved(word) => is_form(form_of(word)),
+            _ => false,
+        },
+    }
+}
+
+/// Whether an expression has this form.
+fn is_form(form: Form) -> bool
+    ensures { result ≡ reading.is_form form }
+{
+    match form {
+        Form::Operation(_) | Form::Conversion | Form::Binding | Form::Matching => true,
+        Form::Other => false,
+    }
+}
+
+/// An expression, with so many levels left.
+#[cycle(expressions)]
+#[tactic(auto, unfolding(crate::specs::Reading::expression))]
+pub fn read_expression<'a>(
+    alloc: Global,
+    levels: u32,
+    total: usize,
+    placed: &'a [Placed],
+) -> Result<(ExprTree, &'a [Placed]), Stop>
+    requires { total < 2 ^ 32 }
+    ensures { Gives (λ x. (x.0, tokens x.1.now)) result (reading.expression levels total (tokens placed.now)) }
+{
+    if levels == 0 {
+        return Err(beyond(begins_expression(placed), placed));
+    }
+    read_expression_node(alloc, levels - 1, total, placed)
+}
+
+/// An expression whose parts have so many levels left.
+#[cycle(expressions)]
+#[tactic(auto, unfolding(crate::specs::Reading::expression_one, crate::specs::Reading::expression_from))]
+fn read_expression_node<'a>(
+    alloc: Global,
+    levels: u32,
+    total: usize,
+    placed: &'a [Placed],
+) -> Result<(ExprTree, &'a [Placed]), Stop>
+    requires { total < 2 ^ 32 }
+    ensures { Gives (λ x. (x.0, tokens x.1.now)) result (reading.expression_one (λ ts. reading.pattern levels total ts) (λ ts. reading.expression levels total ts) total (tokens placed.now)) }
+{
+    match placed {
+        [] => Err(Stop::Stuck(0)),
+        [first, rest @ ..] => {
+            let at = number_of(total, placed);
+            match &first.token {
+                Token::Num(n) => Ok((ExprTree::Num(at, *n), rest)),
+                Token::Lower(name) => read_called(alloc, levels, total, at, name, rest),
+                Token::Upper(name) => read_built(alloc, levels, total, at, name, rest),
+                Token::Reserved(word) => read_form(alloc, levels, total, at, form_of(*word), rest),
+                _ => Err(Stop::Stuck(placed.len())),
+            }
+        }
+    }
+}
+
+/// A variable or a call of a function, behind its name.
+#[cycle(expressions)]
+#[tactic(auto, unfolding(crate::specs::Reading::arguments, crate::specs::Combining::optional, crate::specs::Combining::pair, crate::specs::Combining::into))]
+fn read_called<'a>(
+    alloc: Global,
+    levels: u32,
+    total: usize,
+    at: u32,
+    name: &Name,
+    placed: &'a [Placed],
+) -> Result<(ExprTree, &'a [Placed]), Stop>
+    requires { total < 2 ^ 32 }
+    ensures { Gives (λ x. (x.0, tokens x.1.now)) result (combining.into (λ o. reading.called at name.now o) (reading.arguments (λ ts. reading.pattern levels total ts) (λ ts. reading.expression levels total ts) total at) (tokens placed.now)) }
+{
+    let text = name.copy(alloc)?;
+    let name = NameTree { at, text };
+    if begins_with(Symbol::OpenParen, placed) {
+        let rest = expect(Symbol::OpenParen, placed)?;
+        let (arguments, rest) = read_arguments(alloc, levels, total, rest)?;
+        return Ok((ExprTree::Call(at, name, arguments), rest));
+    }
+    Ok((ExprTree::Var(at, name), placed))
+}
+
+/// Any number of expressions with commas between, and the parenthesis behind them.
+#[cycle(expressions)]
+#[tactic(auto, unfolding(crate::specs::Combining::any_closed))]
+fn read_arguments<'a>(
+    alloc: Global,
+    levels: u32,
+    total: usize,
+    placed: &'a [Placed],
+) -> Result<(Seq<ExprTree>, &'a [Placed]), Stop>
+    requires { total < 2 ^ 32 }
+    ensures { Gives (λ x. (x.0, tokens x.1.now)) result (combining.any_closed (λ ts. reading.expression levels total ts) symbols.CloseParen (tokens placed.now)) }
+{
+    if begins_with(Symbol::CloseParen, placed) {
+        return Ok((Seq::new(alloc), &placed[1..]));
+    }
+    read_some_expressions(alloc, levels, total, placed)
+}
+
+/// A constructor with its fields, behind its name.
+#[cycle(expressions)]
+#[tactic(auto, unfolding(crate::specs::Combining::into))]
+fn read_built<'a>(
+    alloc: Global,
+    levels: u32,
+    total: usize,
+    at: u32,
+    name: &Name,
+    placed: &'a [Placed],
+) -> Result<(ExprTree, &'a [Placed]), Stop>
+    requires { total < 2 ^ 32 }
+    ensures { Gives (λ x. (x.0, tokens x.1.now)) result (combining.into (λ es. exprs.Build at (reading.named at name.now) es) (combining.in_parens (λ ts. reading.expression levels total ts)) (tokens placed.now)) }
+{
+    let text = name.copy(alloc)?;
+    let (fields, rest) = read_fields(alloc, levels, total, placed)?;
+    Ok((ExprTree::Build(at, NameTree { at, text }, fields), rest))
+}
+
+/// A constructor's fields in parentheses, or nothing.
+#[cycle(expressions)]
+#[tactic(auto, unfolding(crate::specs::Combining::in_parens))]
+fn read_fields<'a>(
+    alloc: Global,
+    levels: u32,
+    total: usize,
+    placed: &'a [Placed],
+) -> Result<(Seq<ExprTree>, &'a [Placed]), Stop>
+    requires { total < 2 ^ 32 }
+    ensures { Gives (λ x. (x.0, tokens x.1.now)) result (combining.in_parens (λ ts. reading.expression levels total ts) (tokens placed.now)) }
+{
+    if begins_with(Symbol::OpenParen, placed) {
+        return read_some_expressions(alloc, levels, total, &placed[1..]);
+    }
+    Ok((Seq::new(alloc), placed))
+}
+
+/// One expression or more, and the parenthesis behind them.
+#[cycle(expressions)]
+fn read_some_expressions<'a>(
+    alloc: Global,
+    levels: u32,
+    total: usize,
+    placed: &'a [Placed],
+) -> Result<(Seq<ExprTree>, &'a [Placed]), Stop>
+    requires { total < 2 ^ 32 }
+    ensures { Gives (λ x. (x.0, tokens x.1.now)) result (combining.some_closed (λ ts. reading.expression levels total ts) symbols.Comma symbols.CloseParen (tokens placed.now)) }
+{
+    let mut parts = Seq::new(alloc);
+    let mut rest = placed;
+    for _turn in 0..placed.len() {
+        let (part, behind) = read_expression(alloc, levels, total, rest)?;
+        parts.push(part)?;
+        if !begins_with(Symbol::Comma, behind) {
+            let behind = expect(Symbol::CloseParen, behind)?;
+            return Ok((parts, behind));
+        }
+        rest = &behind[1..];
+    }
+    Err(Stop::Stuck(0))
+}
+
+/// An expression behind the reserved word that it begins with.
+#[cycle(expressions)]
+#[tactic(auto, unfolding(crate::specs::Reading::from_form))]
+fn read_form<'a>(
+    alloc: Global,
+    levels: u32,
+    total: usize,
+    at: u32,
+    form: Form,
+    placed: &'a [Placed],
+) -> Result<(ExprTree, &'a [Placed]), Stop>
+    requires { total < 2 ^ 32 }
+    ensures { Gives (λ x. (x.0, tokens x.1.now)) result (reading.from_form (λ ts. reading.pattern levels total ts) (λ ts. reading.expression levels total ts) total at form (tokens placed.now)) }
+{
+    match form {
+        Form::Operation(op) => read_operation(alloc, levels, total, at, op, placed),
+        Form::Conversion => read_conversion(alloc, levels, total, at, placed),
+        Form::Binding => read_binding(alloc, levels, total, at, placed),
+        Form::Matching => read_matching(alloc, levels, total, at, placed),
+        Form::Other => Err(Stop::Stuck(placed.len() + 1)),
+    }
+}
+
+/// `(a, b)` behind an operator.
+#[cycle(expressions)]
+#[tactic(auto, unfolding(crate::specs::Reading::operation, crate::specs::Combining::pair, crate::specs::Combining::into))]
+fn read_operation<'a>(
+    alloc: Global,
+    levels: u32,
+    total: usize,
+    at: u32,
+    op: Op,
+    placed: &'a [Placed],
+) -> Result<(ExprTree, &'a [Placed]), Stop>
+    requires { total < 2 ^ 32 }
+    ensures { Gives (λ x. (x.0, tokens x.1.now)) result (reading.operation (λ ts. reading.pattern levels total ts) (λ ts. reading.expression levels total ts) total at op (tokens placed.now)) }
+{
+    let rest = expect(Symbol::OpenParen, placed)?;
+    let (first, rest) = read_expression(alloc, levels, total, rest)?;
+    let rest = expect(Symbol::Comma, rest)?;
+    let (second, rest) = read_expression(alloc, levels, total, rest)?;
+    let rest = expect(Symbol::CloseParen, rest)?;
+    let first = Boxed::new(alloc, first)?;
+    let second = Boxed::new(alloc, second)?;
+    Ok((ExprTree::Binary(at, op, first, second), rest))
+}
+
+/// `u8(a)` behind `to`.
+#[cycle(expressions)]
+#[tactic(auto, unfolding(crate::specs::Reading::conversion, crate::specs::Combining::pair, crate::specs::Combining::into))]
+fn read_conversion<'a>(
+    alloc: Global,
+    levels: u32,
+    total: usize,
+    at: u32,
+    placed: &'a [Placed],
+) -> Result<(ExprTree, &'a [Placed]), Stop>
+    requires { total < 2 ^ 32 }
+    ensures { Gives (λ x. (x.0, tokens x.1.now)) result (reading.conversion (λ ts. reading.pattern levels total ts) (λ ts. reading.expression levels total ts) total at (tokens placed.now)) }
+{
+    let (bits, rest) = read_width(placed)?;
+    let rest = expect(Symbol::OpenParen, rest)?;
+    let (inner, rest) = read_expression(alloc, levels, total, rest)?;
+    let rest = expect(Symbol::CloseParen, rest)?;
+    let inner = Boxed::new(alloc, inner)?;
+    Ok((ExprTree::To(at, bits, inner), rest))
+}
+
+/// `x: T = a in b` behind `let`.
+#[cycle(expressions)]
+#[tactic(auto, unfolding(crate::specs::Reading::binding, crate::specs::Combining::pair, crate::specs::Combining::into))]
+fn read_binding<'a>(
+    alloc: Global,
+    levels: u32,
+    total: usize,
+    at: u32,
+    placed: &'a [Placed],
+) -> Result<(ExprTree, &'a [Placed]), Stop>
+    requires { total < 2 ^ 32 }
+    ensures { Gives (λ x. (x.0, tokens x.1.now)) result (reading.binding (λ ts. reading.pattern levels total ts) (λ ts. reading.expression levels total ts) total at (tokens placed.now)) }
+{
+    let (name, rest) = read_lower(alloc, total, placed)?;
+    let rest = expect(Symbol::Colon, rest)?;
+    let (ty, rest) = read_type(alloc, total, rest)?;
+    let rest = expect(Symbol::Equals, rest)?;
+    let (bound, rest) = read_expression(alloc, levels, total, rest)?;
+    let rest = expect_word(Word::In, rest)?;
+    let (body, rest) = read_expression(alloc, levels, total, rest)?;
+    let bound = Boxed::new(alloc, bound)?;
+    let body = Boxed::new(alloc, body)?;
+    Ok((ExprTree::Let(at, name, ty, bound, body), rest))
+}
+
+/// `a { p => e, q => f }` behind `match`.
+#[cycle(expressions)]
+#[tactic(auto, unfolding(crate::specs::Reading::matching, crate::specs::Reading::clause_tree, crate::specs::Combining::pair, crate::specs::Combining::into))]
+fn read_matching<'a>(
+    alloc: Global,
+    levels: u32,
+    total: usize,
+    at: u32,
+    placed: &'a [Placed],
+) -> Result<(ExprTree, &'a [Placed]), Stop>
+    requires { total < 2 ^ 32 }
+    ensures { Gives (λ x. (x.0, tokens x.1.now)) result (reading.matching (λ ts. reading.pattern levels total ts) (λ ts. reading.expression levels total ts) total at (tokens placed.now)) }
+{
+    let (matched, rest) = read_expression(alloc, levels, total, placed)?;
+    let rest = expect(Symbol::OpenBrace, rest)?;
+    let (clauses, rest) = read_clauses(alloc, levels, total, rest)?;
+    let matched = Boxed::new(alloc, matched)?;
+    Ok((ExprTree::Match(at, matched, clauses), rest))
+}
+
+/// One clause or more, and the brace behind them. A clause has no number of its own: 0 stands for
+/// any.
+#[cycle(expressions)]
+fn read_clauses<'a>(
+    alloc: Global,
+    levels: u32,
+    total: usize,
+    placed: &'a [Placed],
+) -> Result<(Seq<ClauseTree>, &'a [Placed]), Stop>
+    requires { total < 2 ^ 32 }
+    ensures { Gives (λ x. (x.0, tokens x.1.now)) result (combining.some_closed (reading.clause_tree (λ ts. reading.pattern levels total ts) (λ ts. reading.expression levels total ts) total 0) symbols.Comma symbols.CloseBrace (tokens placed.now)) }
+{
+    let mut parts = Seq::new(alloc);
+    let mut rest = placed;
+    for _turn in 0..placed.len() {
+        let (part, behind) = read_clause(alloc, levels, total, rest)?;
+        parts.push(part)?;
+        if !begins_with(Symbol::Comma, behind) {
+            let behind = expect(Symbol::CloseBrace, behind)?;
+            return Ok((parts, behind));
+        }
+        rest = &behind[1..];
+    }
+    Err(Stop::Stuck(0))
+}
+
+/// `p => e`
+#[cycle(expressions)]
+#[tactic(auto, unfolding(crate::specs::Reading::clause_tree, crate::specs::Combining::pair, crate::specs::Combining::into))]
+fn read_clause<'a>(
+    alloc: Global,
+    levels: u32,
+    total: usize,
+    placed: &'a [Placed],
+) -> Result<(ClauseTree, &'a [Placed]), Stop>
+    requires { total < 2 ^ 32 }
+    ensures { Gives (λ x. (x.0, tokens x.1.now)) result (reading.clause_tree (λ ts. reading.pattern levels total ts) (λ ts. reading.expression levels total ts) total 0 (tokens placed.now)) }
+{
+    let (pat, rest) = read_pattern(alloc, levels, total, placed)?;
+    let rest = expect(Symbol::FatArrow, rest)?;
+    let (body, rest) = read_expression(alloc, levels, total, rest)?;
+    Ok((ClauseTree { pat, body }, rest))
+}
