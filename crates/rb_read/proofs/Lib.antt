@@ -3,8 +3,8 @@ mod Completing
 pub mod EachLoops
 mod Exact
 pub mod ExpressionForms
-pub mod FormLaws
 pub mod ExpressionNode
+pub mod FormLaws
 pub mod Forms
 pub mod ItemForms
 pub mod LayoutInduction
