@@ -13,5 +13,7 @@ mod pattern;
 mod provenance;
 mod starting;
 mod stop;
+#[cfg(test)]
+mod tests;
 mod tokens;
 mod types;
