@@ -13,6 +13,7 @@ use Rattle.rb_read.proofs.Forms.{goes, Spells, Took, over, Again, fits, exceeds,
 use Rattle.rb_read.proofs.Steps.{goes_to, steps, steps-append, SomeWhole, some-whole, not_whole, Stops, stops, Deepens, deepens}
 use Rattle.rb_read.proofs.Completing.{start-fits, completion, Ends, completes, steps-fits}
 use Rattle.rb_read.proofs.Climbing.{file-climbs}
+use Rattle.rb_read.proofs.Numbering.{renumbered}
 
 -- Limits and what is written.
 
@@ -141,14 +142,15 @@ module _ (bars : Token → Bool) (reader : (total limit : ℕ) → Reader (List 
   spelled-whole : (ts : List Token) → IsSpelled ts → SomeWhole start ts
   unfolding end_of
   spelled-whole ts s =
-      let w = within-some (file_written s.0) in
-      (w.0, run-file (length ts) w.0 ts ∙ ap end_of (file-again w.0 ts s.0 s.1 w.1))
+      let r = renumbered ts s.0 s.1 s.2 in
+      let w = within-some (file_written r.0) in
+      (w.0, run-file (length ts) w.0 ts ∙ ap end_of (file-again w.0 ts r.0 r.1 w.1))
 
   whole-spelled : (limit : ℕ) (ts : List Token) → run limit start ts ≡ whole → IsSpelled ts
   unfolding end_of
   whole-spelled limit ts e = by_file (file_of (length ts) limit ts) refl (sym (run-file (length ts) limit ts) ∙ e) where
     by_file : (r : Result FileTree Fault) → file_of (length ts) limit ts ≡ r → end_of r ≡ whole → IsSpelled ts
-    by_file (Ok file) q w = let s = file-spells (length ts) limit ts file q in (file, record { spells = s.spells; formed = s.formed; numbered = s.numbered })
+    by_file (Ok file) q w = let s = file-spells (length ts) limit ts file q in (file, s.spells, s.formed)
     by_file (Err (stuck m)) q w = cc
     by_file (Err (deep m)) q w = cc
 
@@ -219,13 +221,15 @@ module _ (bars : Token → Bool) (reader : (total limit : ℕ) → Reader (List 
       let n : length all ≡ length (front ++ t ∷ []) + length pre.0 = length-append (front ++ t ∷ []) pre.0 in
       let k : length (front ++ t ∷ []) ≡ length front + 1 = length-append front (t ∷ []) in
       let p : length all - suc (length pre.0) ≡ length front = omega arith in
-      let d : HasNode (length all) 129 (length front) (file_written pre.1.0) =
-      subst (λ q. HasNode (length all) 129 q (file_written pre.1.0)) p (node-of all pre.1.0 (suc (length pre.0)) pre.1.1 r) in
+      let tree = renumbered all pre.1.0 pre.1.1 pre.1.2 in
+      let d : HasNode (length all) 129 (length front) (file_written tree.0) =
+      subst (λ q. HasNode (length all) 129 q (file_written tree.0)) p (node-of all tree.0 (suc (length pre.0)) tree.1 r) in
       record {
         within = simp length-append (omega arith);
         more = pre.0;
-        file = pre.1.0;
-        tree = rw take-front-one pre.1.1;
+        file = tree.0;
+        spells = rw take-front-one tree.1.spells;
+        formed = tree.1.formed;
         deep = rw take-front-one d;
       }
 
@@ -271,7 +275,9 @@ module _ (bars : Token → Bool) (reader : (total limit : ℕ) → Reader (List 
       deep-front ts s.front v.0 s.token q v.1 (omega arith) (s.same v.0)
 
   deep-by : (ts : List Token) (q : ℕ) → IsTooDeepAt ts q → DeepBy ts q
-  deep-by ts q d = deep-shared ts d.more q d.within (deep-run (take (suc q) ts ++ d.more) d.file q d.tree d.deep)
+  deep-by ts q d =
+      let us : List Token = take (suc q) ts ++ d.more in
+      let r = renumbered us d.file d.spells d.formed in deep-shared ts d.more q d.within (deep-run us r.0 q r.1 (r.2 129 q d.deep))
 
   nowhere : (ts : List Token) (e : End) → run 128 start ts ≡ e → ((m : ℕ) → e ≢ too_deep m) → IsNowhereTooDeep ts
   nowhere ts e r h q d = let w = deep-by ts q d in h w.0 (sym r ∙ w.1)

@@ -13,6 +13,7 @@ pub mod ListForms
 pub mod LocationForms
 pub mod Loops
 pub mod NodeForms
+mod Numbering
 mod OpenExamples
 pub mod PatternForms
 pub mod Pointers

@@ -3,13 +3,13 @@ use Rattle.std.specs.Prelude.{◌≡◌, ℕ, suc, ◌<◌, ◌≤◌, List, [],
 use Rattle.rb_syntax.specs.declared.token.Token.{Token}
 use Rattle.rb_syntax.specs.declared.tree.ItemTree.{ItemTree}
 use Rattle.rb_syntax.specs.declared.tree.FileTree.{FileTree}
-use Rattle.rb_syntax.specs.Written.{HasNode}
-use Rattle.rb_syntax.specs.Spelling.{IsTreeOf, file_written}
+use Rattle.rb_syntax.specs.Written.{HaveNoFlaw, HasNode}
+use Rattle.rb_syntax.specs.Spelling.{file_written, spell}
 use Rattle.rb_read.specs.Combining.{Fault, stuck, Reading}
 
--- all the tokens of a file, of any depth
+-- all the tokens of a file, of any depth: the grammar has a form for each part of it, whatever numbers it holds
 abbrev pub IsSpelled : List Token → Type 0
-IsSpelled ts = (file : FileTree) × IsTreeOf ts file
+IsSpelled ts = (file : FileTree) × (spell file ≡ ts) × HaveNoFlaw (file_written file)
 
 -- the first tokens of a file
 abbrev pub IsPrefix : List Token → Type 0
@@ -27,7 +27,8 @@ pub record IsTooDeepAt (ts : List Token) (p : ℕ) : Type 0 where
   pub within : p < length ts
   pub more : List Token
   pub file : FileTree
-  pub tree : IsTreeOf (take (suc p) ts ++ more) file
+  pub spells : spell file ≡ take (suc p) ts ++ more
+  pub formed : HaveNoFlaw (file_written file)
   pub deep : HasNode (length (take (suc p) ts ++ more)) 129 p (file_written file)
 
 abbrev pub IsNowhereTooDeep : List Token → Type 0
