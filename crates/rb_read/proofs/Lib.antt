@@ -9,6 +9,7 @@ pub mod Forms
 pub mod ItemForms
 pub mod LayoutInduction
 pub mod LeafForms
+pub mod LimitLemmas
 pub mod ListForms
 pub mod LocationForms
 pub mod Loops

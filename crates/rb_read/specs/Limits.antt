@@ -8,6 +8,7 @@ use Rattle.rb_syntax.specs.declared.tree.ItemTree.{ItemTree}
 use Rattle.rb_syntax.specs.declared.tree.ItemTree.TheVariants as top
 use Rattle.rb_syntax.specs.declared.tree.FileTree.{FileTree}
 use Rattle.rb_read.specs.declared.fault.Quantity.{Quantity}
+use Rattle.rb_read.specs.declared.limits.Count.{Count}
 use Rattle.rb_read.specs.declared.fault.Quantity.TheVariants.{FileBytes, Types, Functions, Constructors, Fields, Parameters, ShapeWords}
 
 -- the most of each; of bytes, types and functions in a file, of the others in one item
@@ -20,20 +21,18 @@ greatest Fields = 32
 greatest Parameters = 32
 greatest ShapeWords = 8
 
--- how many there are of something that has a limit
-pub record Count : Type 0 where
-  pub quantity : Quantity
-  pub count : ℕ
-
 abbrev pub counted : Quantity → ℕ → Count
 counted q n = record { quantity = q; count = n }
 
 abbrev pub is_over : Count → Bool
 is_over c = nat_lt (greatest c.quantity) c.count
 
+abbrev pub field_count : ConTree → Count
+field_count con = counted Fields (length con.fields)
+
 -- a type's constructors, then the fields of each
 abbrev pub type_counts : TypeTree → List Count
-type_counts t = counted Constructors (length t.cons) ∷ map (λ (c : ConTree). counted Fields (length c.fields)) t.cons
+type_counts t = counted Constructors (length t.cons) ∷ map field_count t.cons
 
 abbrev pub item_counts : ItemTree → List Count
 item_counts (top.Types t) = type_counts t

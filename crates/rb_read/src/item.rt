@@ -1,0 +1,212 @@
+//! Reads the items of a file.
+
+ghost use Rattle.std.specs.Prelude.{◌≡◌, ◌<◌, ◌^◌};
+ghost use Rattle.rb_syntax.specs.declared.token.Symbol.TheVariants as symbol;
+ghost use Rattle.rb_syntax.specs.declared.token.Token.TheVariants as token;
+ghost use Rattle.rb_syntax.specs.Tokens.{tokens};
+ghost use Rattle.rb_read.specs.Combining as combining;
+ghost use Rattle.rb_read.specs.Reading as reading;
+ghost use Rattle.rb_read.specs.Seen.{seen_rest};
+ghost use Rattle.rb_read.specs.Tokens.{number};
+ghost use Rattle.rb_read.specs.Gives.{Gives};
+
+use crate::each::Repeat;
+use crate::expression::read_expression;
+use crate::layout::read_layout_tree;
+use crate::list::{Read, read_any_closed, read_some_closed};
+use crate::stop::Stop;
+use crate::tokens::{expect, number_of, read_lower, read_number, read_upper};
+use crate::types::read_type;
+use rb_core::seq::Seq;
+use rb_syntax::token::{Placed, Symbol, Token, Word};
+use rb_syntax::tree::{Auto, FunTree, ItemTree, LayoutTree, SplitTree, TypeTree};
+use std::alloc::Global;
+
+/// The greatest level of a function's body or a layout's tree, which is at level 1.
+pub const LEVELS: u32 = 128;
+
+/// A layout behind its type's name: its shape and tree, or the word of a derived one.
+#[derive(Drop)]
+pub enum LayoutRest {
+    LaidOut(Seq<u64>, SplitTree),
+    Derived(Auto),
+}
+
+/// The width of a word of a shape.
+impl Read for u64 {
+    ghost reader = { λ _ ts. number ts };
+
+    fn read(_alloc: Global, _total: usize, placed: &[Placed]) -> Result<(u64, &[Placed]), Stop> {
+        read_number(placed)
+    }
+}
+
+/// `boxed` or `packed`
+#[tactic(auto, unfolding(crate::specs::Reading::auto_word, crate::specs::Reading::auto_from))]
+fn read_auto(placed: &[Placed]) -> Result<(Auto, &[Placed]), Stop>
+    ensures { Gives (λ x. (x.0, tokens x.1.now)) result (reading.auto_word (tokens placed.now)) }
+{
+    match placed {
+        [] => Err(Stop::Stuck(0)),
+        [first, rest @ ..] => match first.token {
+            Token::Reserved(Word::Boxed) => Ok((Auto::Boxed, rest)),
+            Token::Reserved(Word::Packed) => Ok((Auto::Packed, rest)),
+            _ => Err(Stop::Stuck(placed.len())),
+        },
+    }
+}
+
+/// `boxed;` behind the equals sign.
+#[tactic(auto, unfolding(crate::specs::Reading::layout_rest_from, crate::specs::Combining::pair, crate::specs::Combining::into))]
+fn read_derived(placed: &[Placed]) -> Result<(LayoutRest, &[Placed]), Stop>
+    ensures { Gives (λ x. (seen_rest x.0, tokens x.1.now)) result (reading.layout_rest_from 0 0 (token.Symbol symbol.Equals) (tokens placed.now)) }
+{
+    let (auto, rest) = read_auto(placed)?;
+    let rest = expect(Symbol::Semicolon, rest)?;
+    Ok((LayoutRest::Derived(auto), rest))
+}
+
+/// `64, 64> = ...;` behind the sign that opens a shape.
+#[tactic(auto, unfolding(crate::specs::Reading::layout_rest_from, crate::specs::Combining::pair, crate::specs::Combining::into))]
+fn read_laid_out(
+    alloc: Global,
+    levels: u32,
+    total: usize,
+    placed: &[Placed],
+) -> Result<(LayoutRest, &[Placed]), Stop>
+    requires { total < 2 ^ 32 }
+    ensures { Gives (λ x. (seen_rest x.0, tokens x.1.now)) result (reading.layout_rest_from levels total (token.Symbol symbol.Less) (tokens placed.now)) }
+{
+    let (shape, rest) = read_some_closed(alloc, total, Symbol::Comma, Symbol::Greater, placed)?;
+    let rest = expect(Symbol::Equals, rest)?;
+    let (tree, rest) = read_layout_tree(alloc, levels, total, rest)?;
+    let rest = expect(Symbol::Semicolon, rest)?;
+    Ok((LayoutRest::LaidOut(shape, tree), rest))
+}
+
+/// A layout behind its type's name.
+#[tactic(auto, unfolding(crate::specs::Reading::layout_rest, crate::specs::Reading::layout_rest_from))]
+fn read_layout_rest(
+    alloc: Global,
+    levels: u32,
+    total: usize,
+    placed: &[Placed],
+) -> Result<(LayoutRest, &[Placed]), Stop>
+    requires { total < 2 ^ 32 }
+    ensures { Gives (λ x. (seen_rest x.0, tokens x.1.now)) result (reading.layout_rest levels total (tokens placed.now)) }
+{
+    match placed {
+        [] => Err(Stop::Stuck(0)),
+        [first, rest @ ..] => match first.token {
+            Token::Symbol(Symbol::Less) => read_laid_out(alloc, levels, total, rest),
+            Token::Symbol(Symbol::Equals) => read_derived(rest),
+            _ => Err(Stop::Stuck(placed.len())),
+        },
+    }
+}
+
+/// `T <64> = ...;` or `T = boxed;` behind the word `layout`, whose number is `at`.
+#[tactic(auto, unfolding(crate::specs::Reading::layout_item, crate::specs::Combining::pair, crate::specs::Combining::into))]
+fn read_layout(
+    alloc: Global,
+    levels: u32,
+    total: usize,
+    at: u32,
+    placed: &[Placed],
+) -> Result<(ItemTree, &[Placed]), Stop>
+    requires { total < 2 ^ 32 }
+    ensures { Gives (λ x. (x.0, tokens x.1.now)) result (reading.layout_item levels total at (tokens placed.now)) }
+{
+    let (ty, rest) = read_upper(alloc, total, placed)?;
+    let (form, rest) = read_layout_rest(alloc, levels, total, rest)?;
+    let item = match form {
+        LayoutRest::LaidOut(shape, tree) => ItemTree::Layouts(LayoutTree {
+            at,
+            ty,
+            shape,
+            tree,
+        }),
+        LayoutRest::Derived(auto) => ItemTree::Derived(ty, auto),
+    };
+    Ok((item, rest))
+}
+
+/// `T = A | B(u8);` behind the word `type`.
+#[tactic(auto, unfolding(crate::specs::Reading::type_item, crate::specs::Combining::pair, crate::specs::Combining::into))]
+fn read_type_item(
+    alloc: Global,
+    total: usize,
+    placed: &[Placed],
+) -> Result<(ItemTree, &[Placed]), Stop>
+    requires { total < 2 ^ 32 }
+    ensures { Gives (λ x. (x.0, tokens x.1.now)) result (reading.type_item 128 total (tokens placed.now)) }
+{
+    let (name, rest) = read_upper(alloc, total, placed)?;
+    let rest = expect(Symbol::Equals, rest)?;
+    let (cons, rest) = read_some_closed(alloc, total, Symbol::Bar, Symbol::Semicolon, rest)?;
+    Ok((ItemTree::Types(TypeTree { name, cons }), rest))
+}
+
+/// `f(x: T): U = e;` behind the word `fun`.
+#[tactic(auto, unfolding(crate::specs::Reading::fun_item, crate::specs::Combining::pair, crate::specs::Combining::into))]
+fn read_fun(
+    alloc: Global,
+    levels: u32,
+    total: usize,
+    placed: &[Placed],
+) -> Result<(ItemTree, &[Placed]), Stop>
+    requires { total < 2 ^ 32 }
+    ensures { Gives (λ x. (x.0, tokens x.1.now)) result (reading.fun_item levels total (tokens placed.now)) }
+{
+    let (name, rest) = read_lower(alloc, total, placed)?;
+    let rest = expect(Symbol::OpenParen, rest)?;
+    let (params, rest) = read_any_closed(alloc, total, Symbol::CloseParen, rest)?;
+    let rest = expect(Symbol::Colon, rest)?;
+    let (result, rest) = read_type(alloc, total, rest)?;
+    let rest = expect(Symbol::Equals, rest)?;
+    let (body, rest) = read_expression(alloc, levels, total, rest)?;
+    let rest = expect(Symbol::Semicolon, rest)?;
+    let fun = FunTree {
+        name,
+        params,
+        result,
+        body,
+    };
+    Ok((ItemTree::Funs(fun), rest))
+}
+
+/// A type, a layout or a function.
+impl Read for ItemTree {
+    ghost reader = { reading.file_item 128 };
+
+    #[tactic(auto, unfolding(crate::specs::Reading::file_item, crate::specs::Reading::file_item_from))]
+    fn read(alloc: Global, total: usize, placed: &[Placed]) -> Result<(ItemTree, &[Placed]), Stop> {
+        match placed {
+            [] => Err(Stop::Stuck(0)),
+            [first, rest @ ..] => match first.token {
+                Token::Reserved(Word::Type) => read_type_item(alloc, total, rest),
+                Token::Reserved(Word::Layout) => {
+                    let at = number_of(total, placed);
+                    read_layout(alloc, LEVELS, total, at, rest)
+                }
+                Token::Reserved(Word::Fun) => read_fun(alloc, LEVELS, total, rest),
+                _ => Err(Stop::Stuck(placed.len())),
+            },
+        }
+    }
+}
+
+/// The items of a file.
+impl Repeat for ItemTree {
+    ghost begins = { λ t. reading.begins_item t };
+
+    fn begins_with(placed: &[Placed]) -> bool {
+        match placed {
+            [] => false,
+            [first, ..] => matches!(
+                &first.token,
+                Token::Reserved(Word::Type | Word::Layout | Word::Fun)
+            ),
+        }
+    }
+}

@@ -1,0 +1,161 @@
+//! The counts of a file that have a limit, and layouts that are derived.
+
+ghost use Rattle.std.specs.Prelude.{◌≡◌, ◌∷◌, ◌≤◌, [], map, length, find};
+ghost use Rattle.std.specs.List.{flat_map};
+ghost use Rattle.rb_read.specs.declared.fault.Quantity.TheVariants as quantity;
+ghost use Rattle.rb_read.specs.Limits as limits;
+
+use crate::fault::Quantity;
+use rb_syntax::tree::{ConTree, FileTree, ItemTree, TypeTree};
+
+/// How many there are of something that has a limit.
+#[derive(Clone, Copy, PartialEq, Eq, Debug)]
+pub struct Count {
+    pub quantity: Quantity,
+    pub count: u64,
+}
+
+/// The greatest number that is allowed.
+fn greatest(quantity: Quantity) -> u64
+    ensures { result ≡ limits.greatest quantity }
+{
+    match quantity {
+        Quantity::FileBytes => 262_144,
+        Quantity::Types => 1_000,
+        Quantity::Functions => 10_000,
+        Quantity::Constructors => 256,
+        Quantity::Fields => 32,
+        Quantity::Parameters => 32,
+        Quantity::ShapeWords => 8,
+    }
+}
+
+/// The count, where it is over its limit.
+fn over(quantity: Quantity, count: usize) -> Option<Count>
+    ensures { result ≡ find limits.is_over (limits.counted quantity count ∷ []) }
+{
+    let count = count as u64;
+    if greatest(quantity) < count {
+        Some(Count { quantity, count })
+    } else {
+        None
+    }
+}
+
+/// The first constructor's count of fields that is over its limit.
+fn fields_over(cons: &[ConTree]) -> Option<Count>
+    ensures { result ≡ find limits.is_over (map limits.field_count cons.now) }
+{
+    for con in cons {
+        if let Some(count) = over(Quantity::Fields, con.fields.len()) {
+            return Some(count);
+        }
+    }
+    None
+}
+
+/// The first count of a type's that is over its limit.
+fn type_over(ty: &TypeTree) -> Option<Count>
+    ensures { result ≡ find limits.is_over (limits.type_counts ty.now) }
+{
+    if let Some(count) = over(Quantity::Constructors, ty.cons.len()) {
+        return Some(count);
+    }
+    fields_over(ty.cons.as_slice())
+}
+
+/// The first count of an item's that is over its limit.
+fn item_over(item: &ItemTree) -> Option<Count>
+    ensures { result ≡ find limits.is_over (limits.item_counts item.now) }
+{
+    match item {
+        ItemTree::Types(ty) => type_over(ty),
+        ItemTree::Layouts(layout) => over(Quantity::ShapeWords, layout.shape.len()),
+        ItemTree::Funs(fun) => over(Quantity::Parameters, fun.params.len()),
+        ItemTree::Derived(_, _) => None,
+    }
+}
+
+/// The first count of the items' that is over its limit.
+fn items_over(items: &[ItemTree]) -> Option<Count>
+    ensures { result ≡ find limits.is_over (flat_map limits.item_counts items.now) }
+{
+    for item in items {
+        if let Some(count) = item_over(item) {
+            return Some(count);
+        }
+    }
+    None
+}
+
+/// Whether the item is a type, as a number.
+fn type_of(item: &ItemTree) -> usize
+    ensures number { result ≡ length (limits.types_in (item.now ∷ [])) }
+    ensures one { result ≤ 1 }
+{
+    match item {
+        ItemTree::Types(_) => 1,
+        _ => 0,
+    }
+}
+
+/// Whether the item is a function, as a number.
+fn function_of(item: &ItemTree) -> usize
+    ensures number { result ≡ length (limits.functions_in (item.now ∷ [])) }
+    ensures one { result ≤ 1 }
+{
+    match item {
+        ItemTree::Funs(_) => 1,
+        _ => 0,
+    }
+}
+
+/// The number of types.
+fn types_in(items: &[ItemTree]) -> usize
+    ensures { result ≡ length (limits.types_in items.now) }
+{
+    let mut count = 0usize;
+    for item in items {
+        count += type_of(item);
+    }
+    count
+}
+
+/// The number of functions.
+fn functions_in(items: &[ItemTree]) -> usize
+    ensures { result ≡ length (limits.functions_in items.now) }
+{
+    let mut count = 0usize;
+    for item in items {
+        count += function_of(item);
+    }
+    count
+}
+
+/// The first count that is over its limit: first of the types, then of the functions, and then
+/// item by item.
+pub(crate) fn first_over(file: &FileTree) -> Option<Count>
+    ensures { result ≡ limits.first_over file.now }
+{
+    let items = file.items.as_slice();
+    if let Some(count) = over(Quantity::Types, types_in(items)) {
+        return Some(count);
+    }
+    if let Some(count) = over(Quantity::Functions, functions_in(items)) {
+        return Some(count);
+    }
+    items_over(items)
+}
+
+/// The number of the word `layout` of the first derived layout. The word stands right before the
+/// type's name, whose number the tree holds.
+pub(crate) fn first_derived(file: &FileTree) -> Option<u32>
+    ensures { result ≡ limits.first_derived file.now }
+{
+    for item in file.items.as_slice() {
+        if let ItemTree::Derived(name, _) = item {
+            return Some(name.at.saturating_sub(1));
+        }
+    }
+    None
+}
