@@ -4,6 +4,7 @@ pub mod EachLoops
 mod Exact
 pub mod ExpressionForms
 pub mod ExpressionNode
+pub mod FileReading
 pub mod FormLaws
 pub mod Forms
 pub mod ItemForms
