@@ -6,6 +6,7 @@ pub mod ExpressionForms
 pub mod ExpressionNode
 pub mod FileReading
 pub mod FormLaws
+pub mod FileLemmas
 pub mod Forms
 pub mod ItemForms
 pub mod LayoutInduction

@@ -9,3 +9,4 @@ pub mod Reading
 pub mod Seen
 pub mod Starting
 pub mod Tokens
+pub mod Whole

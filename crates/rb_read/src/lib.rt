@@ -13,6 +13,7 @@ mod list;
 mod location;
 mod pattern;
 mod provenance;
+pub mod read;
 mod starting;
 mod stop;
 #[cfg(test)]

@@ -1,0 +1,82 @@
+//! Reads a file.
+
+ghost use Rattle.std.specs.Prelude.{◌≡◌, ◌-◌, ◌<◌, ◌^◌, List, length, None, Ok, MatchResult};
+ghost use Rattle.rb_syntax.specs.declared.token.Token.{Token};
+ghost use Rattle.rb_syntax.specs.declared.tree.FileTree.{FileTree};
+ghost use Rattle.rb_syntax.specs.Tokens.{tokens};
+ghost use Rattle.rb_read.specs.declared.fault.ReadFault.TheVariants.{Memory};
+ghost use Rattle.rb_read.specs.Exact as exact;
+ghost use Rattle.rb_read.specs.Files.{IsFile, IsAnswer, Answers};
+ghost use Rattle.rb_read.specs.Whole.{Yields};
+ghost use Rattle.rb_read.specs.Limits as limits;
+ghost use Rattle.rb_read.specs.Reading as reading;
+
+use crate::each::read_each;
+use crate::fault::ReadFault;
+use crate::limits::{first_derived, first_over};
+use crate::stop::Stop;
+use rb_core::seq::Seq;
+use rb_syntax::token::Placed;
+use rb_syntax::tree::{FileTree, ItemTree};
+use std::alloc::Global;
+
+/// The file of the items, where no token is left.
+#[tactic(auto, unfolding(crate::specs::Exact::ended))]
+fn ended(items: Seq<ItemTree>, placed: &[Placed]) -> Result<FileTree, Stop>
+    ensures { Yields result (exact.ended items (tokens placed.now)) }
+{
+    if placed.is_empty() {
+        Ok(FileTree { items })
+    } else {
+        Err(Stop::Stuck(placed.len()))
+    }
+}
+
+/// The file that the tokens spell, in at most 128 levels.
+#[tactic(auto, unfolding(crate::specs::Exact::whole_file, crate::specs::Reading::file_items))]
+fn read_tree(alloc: Global, placed: &[Placed]) -> Result<FileTree, Stop>
+    requires { length placed.now < 2 ^ 32 }
+    ensures { Yields result (exact.whole_file (reading.file_items (length placed.now) 128 (tokens placed.now))) }
+{
+    let (items, rest) = read_each(alloc, placed.len(), placed)?;
+    let file = ended(items, rest)?;
+    Ok(file)
+}
+
+/// The number of the token from which so many are left.
+fn place(total: usize, left: usize) -> u32
+    requires { total < 2 ^ 32 }
+    ensures { result ≡ total - left }
+{
+    total.saturating_sub(left) as u32
+}
+
+/// The file, unless it has a derived layout or a count over its limit.
+fn checked(file: FileTree) -> Result<FileTree, ReadFault>
+    ensures answer { (ts : List Token) → IsFile ts file → Answers ts result }
+    ensures only { limits.first_derived file ≡ None → limits.first_over file ≡ None → result ≡ Ok file }
+{
+    if let Some(at) = first_derived(&file) {
+        return Err(ReadFault::Unbuilt(at));
+    }
+    if let Some(count) = first_over(&file) {
+        return Err(ReadFault::Limit(count.quantity, count.count));
+    }
+    Ok(file)
+}
+
+/// The file that the tokens spell, or the first fault: a node too deep, else a token at which no
+/// file goes on, else a derived layout, else a count over its limit.
+pub fn read_file(alloc: Global, placed: &[Placed]) -> Result<FileTree, ReadFault>
+    requires { length placed.now < 2 ^ 32 }
+    ensures answer { Answers (tokens placed.now) result }
+    // what may be the file is the file
+    ensures only { (file : FileTree) → IsAnswer (tokens placed.now) (Ok file) → MatchResult result (λ read. read ≡ file) (λ e. e ≡ Memory) }
+{
+    match read_tree(alloc, placed) {
+        Ok(file) => checked(file),
+        Err(Stop::Deep(left)) => Err(ReadFault::TooDeep(place(placed.len(), left))),
+        Err(Stop::Stuck(left)) => Err(ReadFault::Syntax(place(placed.len(), left))),
+        Err(Stop::Memory) => Err(ReadFault::Memory),
+    }
+}
