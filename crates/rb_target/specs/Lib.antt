@@ -3,3 +3,4 @@ pub mod Validity
 pub mod Laws
 pub mod Sheet
 pub mod Text
+pub mod Spelled

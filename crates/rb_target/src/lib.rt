@@ -3,6 +3,7 @@
 
 pub mod body;
 pub mod code;
+pub mod fault;
 pub mod instr;
 pub mod outcome;
 pub mod spell;
