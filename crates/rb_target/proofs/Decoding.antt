@@ -1,12 +1,11 @@
 -- Words and instructions are told by their texts.
-use Rattle.std.proofs.Common.{◌≡◌, ℕ, zero, suc, ◌+◌, ◌<◌, ◌^◌, Bool, true, false, nat_eq, cond, List, [], ◌∷◌, ◌++◌, map, Option, Some, None, refl, sym, ap, ◌∙◌, arith}
-use Rattle.std.specs.Fmt.{decimal}
+use Rattle.std.proofs.Common.{◌≡◌, ℕ, zero, suc, ◌<◌, ◌^◌, nat_eq, cond, List, [], ◌∷◌, ◌++◌, map, Option, Some, None, refl, sym, ap, ◌∙◌, arith}
 use Rattle.std.specs.List.{sum}
 use Rattle.std.specs.Str.Parse.{digits_value}
 use Rattle.rb_core.specs.Decimal.{is_numeral}
 use Rattle.rb_core.proofs.Decimals.{numeral-decimal, value-decimal}
 use Rattle.rb_target.proofs.Gaps.{NoGaps, decimal_no_gaps}
-use Rattle.rb_target.specs.Text.{op_text, word_text, key_text, words_of, numbers, pairs, other_word}
+use Rattle.rb_target.specs.Text.{word_text, key_text, words_of, numbers, pairs, other_word}
 use Rattle.rb_target.specs.declared.instr.AluOp.{AluOp}
 use Rattle.rb_target.specs.declared.instr.AluOp.TheVariants.{Add, Sub, Mul, And, Or, Xor, Eq, Lt}
 use Rattle.rb_target.specs.declared.instr.SwitchArm.{SwitchArm}

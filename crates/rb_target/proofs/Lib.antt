@@ -9,3 +9,4 @@ pub mod Texts
 pub mod Gaps
 pub mod Decoding
 pub mod OneToOne
+pub mod Checks

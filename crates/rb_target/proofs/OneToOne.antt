@@ -1,10 +1,10 @@
 -- The text of valid code determines it.
-use Rattle.std.proofs.Common.{◌≡◌, ℕ, zero, suc, ◌+◌, ◌<◌, ◌≤◌, ◌^◌, ◌⊎◌, List, [], ◌∷◌, ◌++◌, length, All, Option, Some, None, refl, sym, ap, subst, ◌∙◌, arith, append_assoc}
+use Rattle.std.proofs.Common.{◌≡◌, ℕ, zero, suc, ◌<◌, ◌≤◌, ◌^◌, ◌⊎◌, List, [], ◌∷◌, ◌++◌, length, All, Option, Some, None, refl, sym, ap, ◌∙◌, arith, append_assoc}
 use Rattle.std.specs.Prelude.{slice_get, codes, IfSome}
 use Rattle.std.specs.List.{sum}
 use Rattle.std.proofs.lemmas.List.Elements.{All-head, All-tail}
 use Rattle.std.proofs.lemmas.Option.{slice_get_within}
-use Rattle.rb_target.proofs.Gaps.{NoGaps, Begins, split, same_head, same_tail, lower_no_gaps, line_begins}
+use Rattle.rb_target.proofs.Gaps.{NoGaps, split, same_head, same_tail, lower_no_gaps, line_begins}
 use Rattle.rb_target.proofs.Decoding.{Short, AreShort, word_same, word_no_gaps, instr_same, key_no_gaps, is_no_end}
 use Rattle.rb_target.specs.Text.{word_text, key_text, numbers, pairs, other_word, words_of, spaced, line, instr_text, head_text, body_text, fun_text, code_text}
 use Rattle.rb_target.specs.Validity.{AreSlots, IsTarget, AreArms, FitsCall, IsFine, IsValidFun, IsValid}

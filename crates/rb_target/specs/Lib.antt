@@ -4,3 +4,5 @@ pub mod Laws
 pub mod Sheet
 pub mod Text
 pub mod Spelled
+pub mod Faults
+pub mod Checking

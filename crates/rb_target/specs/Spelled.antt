@@ -1,5 +1,5 @@
 -- Functions that a code text can hold, valid together or not.
-use Rattle.std.specs.Prelude.{ℕ, ◌^◌, ◌<◌, List, All}
+use Rattle.std.specs.Prelude.{◌^◌, ◌<◌, List, All}
 use Rattle.rb_target.specs.Validity.{IsBounded, IsLower}
 use Rattle.rb_target.specs.Text.{words_of}
 use Rattle.rb_target.specs.declared.word.Word.{Word}

@@ -2,6 +2,7 @@
 #![tactic(auto)]
 
 pub mod body;
+pub mod check;
 pub mod code;
 pub mod fault;
 pub mod instr;
