@@ -10,14 +10,17 @@ ghost use Rattle.rb_core.specs.declared.typing.TypeFault.TheVariants.{Memory};
 ghost use Rattle.rb_core.specs.TypedPrograms.{IsFirstFault, IsTyped};
 ghost use Rattle.rb_core.specs.WellNumbered.{IsWellNumbered};
 
+mod coverage;
 mod emptiness;
 mod expression;
 mod pattern;
 mod program;
+mod sites;
 #[cfg(test)]
 mod tests;
 mod types;
 
+pub use crate::coverage::{CoverFault, cover};
 use crate::emptiness::first_empty;
 use crate::program::check_rules;
 use rb_core::program::Program;
