@@ -1,5 +1,9 @@
 //! Why bytes are no code.
 
+ghost use Rattle.std.specs.Prelude.{◌≡◌};
+ghost use Rattle.rb_target.specs.declared.fault.CodeFault.TheVariants.{Memory};
+
+use std::alloc::AllocError;
 use thiserror::Error;
 
 /// Bytes that spell no functions, or functions that aren't valid together. Where two numbers stand, they
@@ -20,4 +24,12 @@ pub enum CodeFault {
     BadCall(u64, u64),
     #[error("no memory")]
     Memory,
+}
+
+impl From<AllocError> for CodeFault {
+    ghost from_gives = { λ _ e. e ≡ Memory };
+
+    fn from(_e: AllocError) -> CodeFault {
+        CodeFault::Memory
+    }
 }

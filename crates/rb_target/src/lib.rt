@@ -7,6 +7,7 @@ pub mod code;
 pub mod fault;
 pub mod instr;
 pub mod outcome;
+pub mod read;
 pub mod spell;
 #[cfg(test)]
 mod tests;
