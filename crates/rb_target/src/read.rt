@@ -16,6 +16,8 @@ mod field;
 mod line;
 mod spot;
 mod step;
+#[cfg(test)]
+mod tests;
 mod text;
 
 use text::read_text;
