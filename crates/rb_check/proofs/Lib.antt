@@ -5,6 +5,7 @@ pub mod EmptinessLemmas
 pub mod ExpressionLemmas
 pub mod PatternLemmas
 pub mod ProgramLemmas
+pub mod SampleLemmas
 pub mod SiteLemmas
 pub mod SiteTypes
 pub mod WidthLemmas

@@ -2,3 +2,4 @@ pub mod Answers
 pub mod Covering
 pub mod Emptiness
 pub mod Fixtures
+pub mod Samples
