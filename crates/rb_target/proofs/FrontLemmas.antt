@@ -126,7 +126,7 @@ line_leaves_by t w f l g h good e =
 no_arms : All (λ (arm : SwitchArm). arm.number < 2 ^ 64) []
 no_arms = All-nil (λ (arm : SwitchArm). arm.number < 2 ^ 64)
 
-zero_small : 0 < 2 ^ 64
+pub zero_small : 0 < 2 ^ 64
 zero_small = omega arith
 
 one_small : 1 < 2 ^ 64

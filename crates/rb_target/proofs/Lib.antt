@@ -14,4 +14,5 @@ pub mod FrontLemmas
 pub mod StopLemmas
 pub mod OneToOne
 pub mod ReadLemmas
+pub mod ReadingExamples
 pub mod Checks

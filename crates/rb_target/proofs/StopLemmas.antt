@@ -1,5 +1,5 @@
 -- Where reading stops, no code text goes on.
-use Rattle.std.proofs.Common.{◌≡◌, ℕ, suc, ◌+◌, ◌<◌, ◌≤◌, ◌^◌, List, [], ◌∷◌, ◌++◌, length, take, drop, get_or, nat_eq, nat_lt, Bool, true, false, ◌||◌, ◌&&◌, ◌==◌, ◌⊎◌, inl, inr, if◌then◌else◌, codes, Option, Some, None, refl, sym, ◌∙◌, ap, subst, arith, append_assoc, append-nil, length-append}
+use Rattle.std.proofs.Common.{◌≡◌, ℕ, suc, ◌+◌, ◌<◌, ◌≤◌, List, [], ◌∷◌, ◌++◌, length, take, drop, get_or, nat_eq, nat_lt, Bool, true, false, ◌||◌, ◌&&◌, ◌==◌, ◌⊎◌, inl, inr, if◌then◌else◌, codes, Option, Some, None, refl, sym, ◌∙◌, ap, subst, arith, append_assoc, append-nil, length-append}
 use Rattle.std.specs.List.{list_any, starts_with}
 use Rattle.std.proofs.lemmas.Grind.{common_steps}
 use Rattle.std.proofs.lemmas.Option.{same_Some}
@@ -9,7 +9,7 @@ use Rattle.rb_target.proofs.Texts.{code_text-push}
 use Rattle.rb_target.proofs.FieldLemmas.{word_in_text, IsWordFront, word_front_told, starts_rest}
 use Rattle.rb_target.proofs.LineLemmas.{seen, IsGoodLine, Follows, word_follows, Completes, completes, ends_closed, IsNext, next_word, field_has_one}
 use Rattle.rb_target.proofs.RunLemmas.{at_spot, pushed, counts, run_none, run_append, reads_code, lower_some}
-use Rattle.rb_target.proofs.FrontLemmas.{opened, line_front, head_front, spot_text, IsCount, IsGoodHead, IsGoodWithin, IsGood, Leaves, pushed_spelled, opened_more, op_good, op_front, word_front_more, head_whole, IsNamed, step_leaves}
+use Rattle.rb_target.proofs.FrontLemmas.{opened, line_front, head_front, spot_text, IsCount, IsGoodHead, IsGoodWithin, IsGood, Leaves, pushed_spelled, opened_more, op_good, op_front, word_front_more, head_whole, IsNamed, step_leaves, zero_small}
 use Rattle.rb_target.specs.Text.{op_text, word_text, key_text, words_of, spaced, line, fun_text, code_text}
 use Rattle.rb_target.specs.Validity.{IsSmall, IsNameByte, IsLower}
 use Rattle.rb_target.specs.Spelled.{AreSpelled}
@@ -108,9 +108,6 @@ heading_goes f Fifth h = absurd h.turn
 -- the function `t` without counts and instructions
 abbrev plain_fun : CodeFun
 plain_fun = named (116 ∷ [])
-
-zero_small : 0 < 2 ^ 64
-zero_small = omega arith
 
 plain_spelled : IsFitFun plain_fun
 plain_spelled = record { named = ((omega arith, omega arith), All-nil IsNameByte); counts = (zero_small, zero_small, zero_small); body = tt }
