@@ -1,7 +1,11 @@
 pub mod AnswerLemmas
 pub mod CheckLemmas
+pub mod CoverLemmas
 pub mod EmptinessLemmas
 pub mod ExpressionLemmas
 pub mod PatternLemmas
 pub mod ProgramLemmas
+pub mod SampleLemmas
+pub mod SiteLemmas
+pub mod SiteTypes
 pub mod WidthLemmas

@@ -1,3 +1,5 @@
 pub mod Answers
+pub mod Covering
 pub mod Emptiness
 pub mod Fixtures
+pub mod Samples

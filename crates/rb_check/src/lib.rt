@@ -1,4 +1,5 @@
-//! The checker of types: whether a program is typed, or the first fault that it has.
+//! The checker of types: whether a program is typed, or the first fault that it has; and of coverage:
+//! which clauses of its matches no value reaches, or the first match that misses a value.
 //!
 //! An expression is typed at a wanted type or none, as in bidirectional typing (Pierce and Turner,
 //! "Local Type Inference", 2000). Each call here answers exactly what the definition of typing in
@@ -10,14 +11,19 @@ ghost use Rattle.rb_core.specs.declared.typing.TypeFault.TheVariants.{Memory};
 ghost use Rattle.rb_core.specs.TypedPrograms.{IsFirstFault, IsTyped};
 ghost use Rattle.rb_core.specs.WellNumbered.{IsWellNumbered};
 
+#[cfg(test)]
+mod cover_tests;
+mod coverage;
 mod emptiness;
 mod expression;
 mod pattern;
 mod program;
+mod sites;
 #[cfg(test)]
 mod tests;
 mod types;
 
+pub use crate::coverage::{CoverFault, cover};
 use crate::emptiness::first_empty;
 use crate::program::check_rules;
 use rb_core::program::Program;

@@ -6,6 +6,13 @@ pub mod Written
 pub mod Examples
 pub mod Recursion
 pub mod Texts
-pub mod Gaps
-pub mod Decoding
+pub mod SpelledForms
+pub mod FieldLemmas
+pub mod LineLemmas
+pub mod RunLemmas
+pub mod FrontLemmas
+pub mod StopLemmas
 pub mod OneToOne
+pub mod ReadLemmas
+pub mod ReadingExamples
+pub mod Checks

@@ -13,28 +13,28 @@ pub appended : {X : Type 0} (first done all : List X) (x : List X) (before after
 appended first done all x before after e0 e1 e2 =
     e1 ∙ ap (λ t. t ++ x) e0 ∙ append_assoc first done x ∙ ap (λ t. first ++ t) (sym e2)
 
-spaced-push : (ws : List Word) (w : Word) → spaced (ws ++ w ∷ []) ≡ spaced ws ++ 32 ∷ word_text w
+pub spaced-push : (ws : List Word) (w : Word) → spaced (ws ++ w ∷ []) ≡ spaced ws ++ 32 ∷ word_text w
 spaced-push [] w = ap (λ t. 32 ∷ t) (append-nil (word_text w))
 spaced-push (x ∷ ws) w = ap (λ t. 32 ∷ word_text x ++ t) (spaced-push ws w) ∙ sym (append_assoc (32 ∷ word_text x) (spaced ws) (32 ∷ word_text w))
 
 pub spaced_more : (ws : List Word) (k : ℕ) (d : Word) → k < length ws → spaced (take (k + 1) ws) ≡ spaced (take k ws) ++ 32 ∷ word_text (get_or ws k d)
 spaced_more ws k d lt = ap spaced (take_more ws k d lt) ∙ spaced-push (take k ws) (get_or ws k d)
 
-pairs-push : (arms : List SwitchArm) (arm : SwitchArm) → pairs (arms ++ arm ∷ []) ≡ pairs arms ++ Number arm.number ∷ Number arm.target ∷ []
+pub pairs-push : (arms : List SwitchArm) (arm : SwitchArm) → pairs (arms ++ arm ∷ []) ≡ pairs arms ++ Number arm.number ∷ Number arm.target ∷ []
 pairs-push [] arm = refl
 pairs-push (x ∷ arms) arm = ap (λ t. Number x.number ∷ Number x.target ∷ t) (pairs-push arms arm)
 
 pub pairs_more : (arms : List SwitchArm) (k : ℕ) (d : SwitchArm) → k < length arms → pairs (take (k + 1) arms) ≡ pairs (take k arms) ++ Number (get_or arms k d).number ∷ Number (get_or arms k d).target ∷ []
 pairs_more arms k d lt = ap pairs (take_more arms k d lt) ∙ pairs-push (take k arms) (get_or arms k d)
 
-body_text-push : (is : List Instr) (i : Instr) → body_text (is ++ i ∷ []) ≡ body_text is ++ instr_text i
+pub body_text-push : (is : List Instr) (i : Instr) → body_text (is ++ i ∷ []) ≡ body_text is ++ instr_text i
 body_text-push [] i = append-nil (instr_text i)
 body_text-push (x ∷ is) i = ap (λ t. instr_text x ++ t) (body_text-push is i) ∙ sym (append_assoc (instr_text x) (body_text is) (instr_text i))
 
 pub body_text_more : (is : List Instr) (k : ℕ) (d : Instr) → k < length is → body_text (take (k + 1) is) ≡ body_text (take k is) ++ instr_text (get_or is k d)
 body_text_more is k d lt = ap body_text (take_more is k d lt) ∙ body_text-push (take k is) (get_or is k d)
 
-code_text-push : (fs : List CodeFun) (f : CodeFun) → code_text (fs ++ f ∷ []) ≡ code_text fs ++ fun_text f
+pub code_text-push : (fs : List CodeFun) (f : CodeFun) → code_text (fs ++ f ∷ []) ≡ code_text fs ++ fun_text f
 code_text-push [] f = append-nil (fun_text f)
 code_text-push (x ∷ fs) f = ap (λ t. fun_text x ++ t) (code_text-push fs f) ∙ sym (append_assoc (fun_text x) (code_text fs) (fun_text f))
 

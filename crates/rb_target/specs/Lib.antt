@@ -3,3 +3,10 @@ pub mod Validity
 pub mod Laws
 pub mod Sheet
 pub mod Text
+pub mod Spelled
+pub mod Stopping
+pub mod Fields
+pub mod Reading
+pub mod Refusals
+pub mod Faults
+pub mod Checking

@@ -2,9 +2,12 @@
 #![tactic(auto)]
 
 pub mod body;
+pub mod check;
 pub mod code;
+pub mod fault;
 pub mod instr;
 pub mod outcome;
+pub mod read;
 pub mod spell;
 #[cfg(test)]
 mod tests;

@@ -1,0 +1,77 @@
+-- How the checker goes over the matches of a program, and which match it refuses a program for.
+use Rattle.std.specs.Prelude.{◌≡◌, ℕ, ◌<◌, ◌^◌, List, [], ◌∷◌, ◌++◌, length}
+use Rattle.std.specs.List.{flat_map}
+use Rattle.rb_core.specs.declared.types.Ty.{Ty}
+use Rattle.rb_core.specs.declared.types.DataDecl.{DataDecl}
+use Rattle.rb_core.specs.declared.typing.Binder.{Binder}
+use Rattle.rb_core.specs.declared.pattern.Pat.{Pat}
+use Rattle.rb_core.specs.declared.expression.Clause.{Clause}
+use Rattle.rb_core.specs.declared.expression.Expr.{Expr}
+use Rattle.rb_core.specs.declared.coverage.Site.{Site}
+use Rattle.rb_core.specs.declared.program.Fun.{Fun}
+use Rattle.rb_core.specs.declared.program.Note.{Note}
+use Rattle.rb_core.specs.declared.program.Program.{Program}
+use Rattle.rb_core.specs.Coverage.{AreExhaustive, AreNotes, AreSiteNotes, sites, sites_of}
+use Rattle.rb_core.specs.Inference.{binders}
+use Rattle.rb_core.specs.Matching.{IsExhaustive}
+use Rattle.rb_matrix.specs.Exhaust.{IsMissing}
+use Rattle.rb_matrix.specs.Search.{IsTypeIn}
+use Rattle.rb_check.specs.declared.coverage.CoverFault.{CoverFault}
+use Rattle.rb_check.specs.declared.coverage.CoverFault.TheVariants.{Missing, Memory}
+
+-- The matches ---------------------------------------------------------------------------------
+
+-- those of arguments
+abbrev pub argument_sites : List DataDecl → List Fun → List Binder → List Expr → List Site
+argument_sites types funs scope = flat_map (λ (e : Expr). sites types funs e scope)
+
+-- those of a clause's body, within what its pattern binds at the scrutinee's type
+abbrev pub body_sites : List DataDecl → List Fun → Ty → List Binder → Clause → List Site
+body_sites types funs t scope c = sites types funs c.body (scope ++ binders types c.pat t)
+
+-- a match whose scrutinee has a type of the program, and whose clauses 32 bits number
+pub record IsNumberedSite (types : List DataDecl) (s : Site) : Type 0 where
+  pub ty : IsTypeIn types s.scrutinee
+  pub short : length s.patterns < 2 ^ 32
+
+abbrev pub AreNumberedSites : List DataDecl → List Site → Type 0
+AreNumberedSites types [] = Unit {0}
+AreNumberedSites types (s ∷ ss) = IsNumberedSite types s × AreNumberedSites types ss
+
+-- Answers -------------------------------------------------------------------------------------
+
+-- the notes on a match are added to others
+pub record IsSiteCovered (types : List DataDecl) (s : Site) (old new : List Note) : Type 0 where
+  pub exhaustive : IsExhaustive types s.scrutinee s.patterns
+  pub here : List Note
+  pub added : new ≡ old ++ here
+  pub exact : AreSiteNotes types s here
+
+-- a match is not exhaustive: it has this token, and the pattern has a value of its scrutinee's type,
+-- and none that a clause matches; want of memory says nothing of it
+abbrev pub IsSiteRefused : List DataDecl → Site → CoverFault → Type 0
+IsSiteRefused types s (Missing at q) = (s.at ≡ at) × IsMissing types s.scrutinee s.patterns q
+IsSiteRefused types s Memory = Unit {0}
+
+-- matches are covered by these notes
+pub record AreCovered (types : List DataDecl) (ss : List Site) (notes : List Note) : Type 0 where
+  pub exhaustive : AreExhaustive types ss
+  pub exact : AreNotes types ss notes
+
+-- the first match that is not exhaustive: those before it are
+pub record IsFirstRefused (types : List DataDecl) (ss : List Site) (fault : CoverFault) : Type 0 where
+  pub before : List Site
+  pub site : Site
+  pub after : List Site
+  pub order : ss ≡ before ++ site ∷ after
+  pub exhaustive : AreExhaustive types before
+  pub refused : IsSiteRefused types site fault
+
+-- the fault of matches
+abbrev pub AreRefused : List DataDecl → List Site → CoverFault → Type 0
+AreRefused types ss (Missing at q) = IsFirstRefused types ss (Missing at q)
+AreRefused types ss Memory = Unit {0}
+
+-- the fault of a program: its first match, in the file's order, that is not exhaustive
+abbrev pub IsCoverFault : Program → CoverFault → Type 0
+IsCoverFault p = AreRefused p.types (sites_of p)

@@ -1,0 +1,50 @@
+-- What reading code answers, from what its two steps answer.
+use Rattle.std.proofs.Common.{◌≡◌, ℕ, List, Result, Ok, Err, sym, ◌∙◌, subst}
+use Rattle.std.specs.Prelude.{IfOk, IsOk, IsErr, ◌↔◌}
+use Rattle.std.specs.Result.{IsErrAnd}
+use Rattle.std.proofs.lemmas.Bool.{false≢true}
+use Rattle.rb_target.proofs.OneToOne.{valid_spelled}
+use Rattle.rb_target.proofs.StopLemmas.{none_whole}
+use Rattle.rb_target.specs.Text.{code_text}
+use Rattle.rb_target.specs.Validity.{IsValid}
+use Rattle.rb_target.specs.Stopping.{IsTextOf, IsReading}
+use Rattle.rb_target.specs.Faults.{IsFirstFault}
+use Rattle.rb_target.specs.Refusals.{IsRefusal, IsThese}
+use Rattle.rb_target.specs.declared.code.CodeFun.{CodeFun}
+use Rattle.rb_target.specs.declared.fault.CodeFault.{CodeFault}
+use Rattle.rb_target.specs.declared.fault.CodeFault.TheVariants.{CodeSyntax, BadSlot, BadJump, BadCall, Memory}
+
+pub text_of_valid : (bytes : List ℕ) (funs : List CodeFun) → IsValid funs → bytes ≡ code_text funs → IsTextOf bytes funs
+text_of_valid bytes funs valid e = record { spelled = valid_spelled funs valid; is = e }
+
+-- bytes that aren't read
+pub unread_these : (bytes : List ℕ) (fault : CodeFault) (funs : List CodeFun) → IsReading bytes (Err fault) → IsValid funs → bytes ≡ code_text funs → IsThese funs (Err fault)
+unread_these bytes (CodeSyntax at) funs r valid e = none_whole bytes at funs r (text_of_valid bytes funs valid e)
+unread_these bytes (BadSlot n pc) funs r valid e = r
+unread_these bytes (BadJump n pc) funs r valid e = r
+unread_these bytes (BadCall n pc) funs r valid e = r
+unread_these bytes Memory funs r valid e = tt
+
+pub unread_refusal : (bytes : List ℕ) (fault : CodeFault) → IsReading bytes (Err fault) → IsRefusal bytes fault
+unread_refusal bytes (CodeSyntax at) r = r
+unread_refusal bytes (BadSlot n pc) r = absurd r
+unread_refusal bytes (BadJump n pc) r = absurd r
+unread_refusal bytes (BadCall n pc) r = absurd r
+unread_refusal bytes Memory r = tt
+
+-- functions that are read and checked
+pub checked_these : (funs read : List CodeFun) (r : Result (List CodeFun) CodeFault) → read ≡ funs → IfOk r (λ code. code ≡ read) → (IsOk r ↔ IsValid read) → IsValid funs → IsThese funs r
+checked_these funs read (Ok code) same ok iff valid = ok ∙ same
+checked_these funs read (Err fault) same ok iff valid = absurd (false≢true (iff.1 (subst IsValid (sym same) valid)))
+
+pub checked_refusal : (bytes : List ℕ) (read : List CodeFun) (fault : CodeFault) → IsTextOf bytes read → IsFirstFault read fault → IsRefusal bytes fault
+checked_refusal bytes read (CodeSyntax at) text first = absurd first.stands
+checked_refusal bytes read (BadSlot n pc) text first = (read, text, first)
+checked_refusal bytes read (BadJump n pc) text first = (read, text, first)
+checked_refusal bytes read (BadCall n pc) text first = (read, text, first)
+checked_refusal bytes read Memory text first = tt
+
+-- an error that is handed on
+pub handed_on : (funs : List CodeFun) (r : Result (List CodeFun) CodeFault) (fault : CodeFault) → IsErr r → IsErrAnd r (λ e. e ≡ fault) → IsThese funs (Err fault) → IsThese funs r
+handed_on funs (Ok read) fault is same h = absurd (false≢true is)
+handed_on funs (Err e) fault is same h = subst (λ x. IsThese funs (Err x)) (sym same) h

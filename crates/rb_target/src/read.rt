@@ -1,0 +1,34 @@
+//! Reading code texts. A text is read byte by byte, in time linear in its length: between two words the
+//! reader knows which words may come next, and within a word which bytes.
+
+ghost use Rattle.std.specs.Prelude.{◌≡◌, List, IfOk, IfErr};
+ghost use Rattle.rb_target.specs.Text.{code_text};
+ghost use Rattle.rb_target.specs.Validity.{IsValid};
+ghost use Rattle.rb_target.specs.Refusals.{IsRefusal, IsThese};
+ghost use Rattle.rb_target.specs.declared.code.CodeFun.{CodeFun};
+
+use crate::check::check;
+use crate::code::Code;
+use crate::fault::CodeFault;
+use std::alloc::Global;
+
+mod field;
+mod line;
+mod spot;
+mod step;
+#[cfg(test)]
+mod tests;
+mod text;
+
+use text::read_text;
+
+/// The code whose text the bytes are; else the byte at which no text goes on, whether of valid functions
+/// or not, or the first fault of the functions whose text they are.
+pub fn read_code(alloc: Global, bytes: &[u8]) -> Result<Code, CodeFault>
+    ensures text { IfOk result (λ code. bytes.now ≡ code_text code) }
+    ensures each { (funs : List CodeFun) → IsValid funs → bytes.now ≡ code_text funs → IsThese funs result }
+    ensures refusal { IfErr result (λ fault. IsRefusal bytes.now fault) }
+{
+    let funs = read_text(alloc, bytes)?;
+    check(funs)
+}

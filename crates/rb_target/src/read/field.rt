@@ -1,0 +1,179 @@
+//! The words that may stand in a field.
+
+ghost use Rattle.std.specs.Prelude.{◌≡◌, IfSome};
+ghost use Rattle.rb_target.specs.Fields as spec;
+
+use super::spot::{Field, Key};
+use crate::instr::AluOp;
+use crate::word::{Word, op_name};
+use rb_core::decimal::number_in;
+
+const KEYS: [Key; 13] = [
+    Key::Const,
+    Key::Copy,
+    Key::Alu,
+    Key::Take,
+    Key::Put,
+    Key::Load,
+    Key::Store,
+    Key::Place,
+    Key::Jump,
+    Key::Switch,
+    Key::Call,
+    Key::Return,
+    Key::End,
+];
+
+const OPS: [AluOp; 8] = [
+    AluOp::Add,
+    AluOp::Sub,
+    AluOp::Mul,
+    AluOp::And,
+    AluOp::Or,
+    AluOp::Xor,
+    AluOp::Eq,
+    AluOp::Lt,
+];
+
+impl Key {
+    fn text(self) -> &'static [u8]
+        ensures { result.now ≡ spec.key_bytes self }
+    {
+        match self {
+            Key::Const => b"const",
+            Key::Copy => b"copy",
+            Key::Alu => b"alu",
+            Key::Take => b"take",
+            Key::Put => b"put",
+            Key::Load => b"load",
+            Key::Store => b"store",
+            Key::Place => b"place",
+            Key::Jump => b"jump",
+            Key::Switch => b"switch",
+            Key::Call => b"call",
+            Key::Return => b"return",
+            Key::End => b"end",
+        }
+    }
+}
+
+/// The key that is written so.
+pub fn key_of(word: &[u8]) -> Option<Key>
+    ensures { result ≡ spec.key_of word.now }
+{
+    KEYS.iter().copied().find(|key| key.text() == word)
+}
+
+/// The operation that is written so.
+pub fn op_of(word: &[u8]) -> Option<AluOp>
+    ensures { result ≡ spec.op_of word.now }
+{
+    OPS.iter().copied().find(|op| op_name(*op) == word)
+}
+
+/// Whether some key begins so.
+pub fn is_key_front(word: &[u8]) -> bool
+    ensures { result ≡ spec.is_key_front word.now }
+{
+    KEYS.iter().any(|key| key.text().starts_with(word))
+}
+
+/// Whether some operation's name begins so.
+pub fn is_op_front(word: &[u8]) -> bool
+    ensures { result ≡ spec.is_op_front word.now }
+{
+    OPS.iter().any(|op| op_name(*op).starts_with(word))
+}
+
+/// The number below 2^64 that is written so.
+pub fn number_of(word: &[u8]) -> Option<u64>
+    ensures { result ≡ spec.number_of word.now }
+{
+    number_in(0, u64::MAX, word)
+}
+
+impl Field {
+    // Whether a number may stand there.
+    fn has(self, number: u64) -> bool
+        ensures { result ≡ spec.has self number }
+    {
+        match self {
+            Field::Any | Field::OrDash | Field::OrOf => true,
+            Field::Upto(high) => number <= high,
+            Field::FromOne(high) => 1 <= number && number <= high,
+            Field::Width => is_width(number),
+            Field::Align => { number == 1 || number == 2 || number == 4 || is_width(number) }
+            Field::Nothing => false,
+        }
+    }
+
+    // Whether a number isn't whole, but digits behind it can make it so.
+    fn leads(self, number: u64) -> bool
+        ensures { result ≡ spec.leads self number }
+    {
+        match self {
+            Field::Width => number == 1 || number == 3 || number == 6,
+            Field::Align => number == 3 || number == 6,
+            _ => false,
+        }
+    }
+
+    /// Whether some word may stand there.
+    pub fn is_open(self) -> bool
+        ensures { result ≡ spec.is_open self }
+    {
+        match self {
+            Field::Nothing => false,
+            _ => true,
+        }
+    }
+
+    // The word, if it is no number and may stand there.
+    fn name(self, text: &[u8]) -> Option<Word>
+        ensures { result ≡ spec.named_word self text.now }
+    {
+        match self {
+            Field::OrDash if text == b"-".as_slice() => Some(Word::Dash),
+            Field::OrOf if text == b"of".as_slice() => Some(Word::Of),
+            _ => None,
+        }
+    }
+
+    /// The word that is written so, if it may stand there.
+    pub fn word(self, text: &[u8]) -> Option<Word>
+        ensures value { result ≡ spec.word_in self text.now }
+        ensures may { IfSome result (λ word. spec.InField self word) }
+    {
+        match number_of(text) {
+            Some(number) if self.has(number) => Some(Word::Number(number)),
+            Some(_) => None,
+            None => self.name(text),
+        }
+    }
+
+    fn is_name_front(self, text: &[u8]) -> bool
+        ensures { result ≡ spec.named_front self text.now }
+    {
+        match self {
+            Field::OrDash => b"-".starts_with(text),
+            Field::OrOf => b"of".starts_with(text),
+            _ => false,
+        }
+    }
+
+    /// Whether some word that may stand there begins so.
+    pub fn is_front(self, text: &[u8]) -> bool
+        ensures { result ≡ spec.is_word_front self text.now }
+    {
+        match number_of(text) {
+            Some(number) => self.has(number) || self.leads(number),
+            None => self.is_name_front(text),
+        }
+    }
+}
+
+fn is_width(number: u64) -> bool
+    ensures { result ≡ spec.has Field.Width number }
+{
+    number == 8 || number == 16 || number == 32 || number == 64
+}

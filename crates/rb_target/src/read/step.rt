@@ -1,0 +1,280 @@
+//! One byte more of a code text.
+
+ghost use Rattle.std.specs.Prelude.{◌≡◌, ◌∷◌, [], ◌++◌, IfOk, MatchBool, Some, None, true};
+ghost use Rattle.rb_target.specs.Fields as field_spec;
+ghost use Rattle.rb_target.specs.Reading as spec;
+
+use super::field::{is_key_front, is_op_front, key_of, number_of, op_of};
+use super::line::{first_line, op_line, with_word};
+use super::spot::{Key, Line, Move, Spot, Turn};
+use crate::code::CodeFun;
+use crate::instr::Instr;
+use rb_core::seq::Seq;
+use std::alloc::{AllocError, Global};
+use std::marker::Model;
+use std::mem;
+
+/// What is read of a text: whole functions, and the front of a word.
+#[derive(Debug, Drop)]
+pub struct Reader {
+    funs: Seq<CodeFun>,
+    spot: Spot,
+    word: Vec<u8>,
+    alloc: Global,
+}
+
+impl Model for Reader {
+    ghost use Rattle.rb_target.specs.Reading.{Progress};
+
+    ghost Value = { Progress };
+
+    ghost view = { λ r. record { funs = r.funs; spot = r.spot; word = r.word.items } };
+}
+
+fn is_gap(byte: u8) -> bool
+    ensures { result ≡ spec.is_gap byte }
+{
+    byte == b' ' || byte == b'\n'
+}
+
+fn is_small(byte: u8) -> bool
+    ensures { result ≡ spec.is_small byte }
+{
+    b'a' <= byte && byte <= b'z'
+}
+
+fn is_name_byte(byte: u8) -> bool
+    ensures { result ≡ spec.is_name_byte byte }
+{
+    is_small(byte)
+        || (b'A' <= byte && byte <= b'Z')
+        || (b'0' <= byte && byte <= b'9')
+        || byte == b'_'
+}
+
+// Behind a word of an instruction's line.
+fn line_next(fun: CodeFun, line: Line, gap: u8) -> Result<Move, AllocError>
+    ensures { IfOk result (λ m. m ≡ spec.line_next fun line gap) }
+{
+    if gap == b' ' && line.field().is_open() {
+        return Ok(Move::To(Spot::Within(fun, line)));
+    }
+    if gap == b'\n' && line.may_end() {
+        let Line { instr, .. } = line;
+        return Ok(Move::To(Spot::Starting(with_instr(fun, instr)?)));
+    }
+    Ok(Move::Refused)
+}
+
+// The function with one instruction more.
+fn with_instr(fun: CodeFun, instr: Instr) -> Result<CodeFun, AllocError>
+    ensures { IfOk result (λ f. f ≡ record fun { body = fun.body ++ instr ∷ [] }) }
+{
+    let CodeFun {
+        name,
+        params,
+        results,
+        slots,
+        mut body,
+    } = fun;
+    body.push(instr)?;
+    Ok(CodeFun {
+        name,
+        params,
+        results,
+        slots,
+        body,
+    })
+}
+
+// Behind the first word of a line within a function.
+fn key_next(alloc: Global, fun: CodeFun, gap: u8, key: Key) -> Result<Move, AllocError>
+    ensures { IfOk result (λ m. m ≡ spec.key_next fun gap key) }
+{
+    match key {
+        Key::End => {
+            if gap == b'\n' {
+                Ok(Move::Closed(fun))
+            } else {
+                Ok(Move::Refused)
+            }
+        }
+        Key::Alu => {
+            if gap == b' ' {
+                Ok(Move::To(Spot::Choosing(fun)))
+            } else {
+                Ok(Move::Refused)
+            }
+        }
+        _ => line_next(fun, first_line(alloc, key), gap),
+    }
+}
+
+// Behind a count of a function's first line.
+fn headed(fun: CodeFun, turn: Turn, gap: u8, count: usize) -> Move
+    ensures { result ≡ spec.headed fun turn gap (Some count) }
+{
+    let CodeFun {
+        name,
+        params,
+        results,
+        slots,
+        body,
+    } = fun;
+    let (wanted, params, results, slots) = match turn {
+        Turn::First => (b' ', count, results, slots),
+        Turn::Second => (b' ', params, count, slots),
+        _ => (b'\n', params, results, count),
+    };
+    if gap != wanted {
+        return Move::Refused;
+    }
+    let fun = CodeFun {
+        name,
+        params,
+        results,
+        slots,
+        body,
+    };
+    match turn {
+        Turn::First => Move::To(Spot::Heading(fun, Turn::Second)),
+        Turn::Second => Move::To(Spot::Heading(fun, Turn::Third)),
+        _ => Move::To(Spot::Starting(fun)),
+    }
+}
+
+// Behind a function's name.
+fn named(alloc: Global, name: &[u8], gap: u8) -> Result<Move, AllocError>
+    ensures { IfOk result (λ m. m ≡ spec.step Spot.Naming name.now gap) }
+{
+    if gap != b' ' || name.len() == 0 {
+        return Ok(Move::Refused);
+    }
+    let fun = CodeFun {
+        name: Seq::from_vec(Vec::from_slice(alloc, name)?),
+        params: 0,
+        results: 0,
+        slots: 0,
+        body: Seq::new(alloc),
+    };
+    Ok(Move::To(Spot::Heading(fun, Turn::First)))
+}
+
+fn outside(word: &[u8], gap: u8) -> Move
+    ensures { result ≡ spec.step Spot.Outside word.now gap }
+{
+    if gap == b' ' && word == b"fun".as_slice() {
+        Move::To(Spot::Naming)
+    } else {
+        Move::Refused
+    }
+}
+
+// What a word and the byte behind it do.
+fn step(alloc: Global, spot: Spot, word: &[u8], gap: u8) -> Result<Move, AllocError>
+    ensures { IfOk result (λ m. m ≡ spec.step spot word.now gap) }
+{
+    match spot {
+        Spot::Outside => Ok(outside(word, gap)),
+        Spot::Naming => named(alloc, word, gap),
+        Spot::Heading(fun, turn) => match number_of(word) {
+            Some(count) => Ok(headed(fun, turn, gap, count as usize)),
+            None => Ok(Move::Refused),
+        },
+        Spot::Starting(fun) => match key_of(word) {
+            Some(key) => key_next(alloc, fun, gap, key),
+            None => Ok(Move::Refused),
+        },
+        Spot::Choosing(fun) => match op_of(word) {
+            Some(op) => line_next(fun, op_line(op), gap),
+            None => Ok(Move::Refused),
+        },
+        Spot::Within(fun, line) => match line.field().word(word) {
+            Some(next) => line_next(fun, with_word(alloc, line, next)?, gap),
+            None => Ok(Move::Refused),
+        },
+    }
+}
+
+// Whether some word begins so; the word's last byte is also given alone.
+fn goes_on(spot: &Spot, word: &[u8], last: u8) -> bool
+    ensures { result ≡ spec.goes_on spot.now word.now last }
+{
+    match spot {
+        Spot::Outside => b"fun".starts_with(word),
+        Spot::Naming => {
+            if word.len() == 1 {
+                is_small(last)
+            } else {
+                is_name_byte(last)
+            }
+        }
+        Spot::Heading(..) => number_of(word).is_some(),
+        Spot::Starting(_) => is_key_front(word),
+        Spot::Choosing(_) => is_op_front(word),
+        Spot::Within(_, line) => line.field().is_front(word),
+    }
+}
+
+impl Reader {
+    /// Nothing is read.
+    pub fn new(alloc: Global) -> Reader
+        ensures { result ≡ spec.start }
+    {
+        Reader {
+            funs: Seq::new(alloc),
+            spot: Spot::Outside,
+            word: Vec::new(alloc),
+            alloc,
+        }
+    }
+
+    // Reads a blank or a line's end.
+    fn feed_gap(&mut self, gap: u8) -> Result<bool, AllocError>
+        ensures { IfOk result (λ fed. spec.IsFed (spec.moved self.old.funs (spec.step self.old.spot self.old.word gap)) self.new fed) }
+    {
+        let spot = mem::replace(&mut self.spot, Spot::Outside);
+        let next = step(self.alloc, spot, self.word.as_slice(), gap)?;
+        self.word.clear();
+        match next {
+            Move::To(spot) => self.spot = spot,
+            Move::Closed(fun) => self.funs.push(fun)?,
+            Move::Refused => return Ok(false),
+        }
+        Ok(true)
+    }
+
+    // Reads a byte of a word.
+    fn feed_word(&mut self, byte: u8) -> Result<bool, AllocError>
+        ensures { IfOk result (λ fed. spec.IsFed (spec.spelled_on self.old byte) self.new fed) }
+    {
+        self.word.push(byte)?;
+        Ok(goes_on(&self.spot, self.word.as_slice(), byte))
+    }
+
+    /// Reads one byte, or says that no code text goes on so.
+    pub fn feed(&mut self, byte: u8) -> Result<bool, AllocError>
+        ensures { IfOk result (λ fed. spec.IsFed (spec.feed self.old byte) self.new fed) }
+    {
+        if is_gap(byte) {
+            self.feed_gap(byte)
+        } else {
+            self.feed_word(byte)
+        }
+    }
+
+    /// Whether the bytes are a whole text.
+    pub fn is_done(&self) -> bool
+        ensures { result ≡ spec.is_done self.now }
+    {
+        matches!(&self.spot, Spot::Outside) && self.word.len() == 0
+    }
+
+    /// The functions that are read whole.
+    pub fn into_funs(self) -> Seq<CodeFun>
+        ensures { result ≡ self.funs }
+    {
+        let Reader { funs, .. } = self;
+        funs
+    }
+}

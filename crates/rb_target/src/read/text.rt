@@ -1,0 +1,36 @@
+//! Code texts.
+
+ghost use Rattle.std.specs.Prelude.{◌≡◌, List, IfOk};
+ghost use Rattle.rb_target.specs.Stopping.{IsReading, IsTextOf};
+ghost use Rattle.rb_target.specs.Reading.{IsRun};
+
+use super::step::Reader;
+use crate::code::CodeFun;
+use crate::fault::CodeFault;
+use rb_core::seq::Seq;
+use std::alloc::Global;
+
+// Reads all bytes.
+fn read_bytes(alloc: Global, bytes: &[u8]) -> Result<Reader, CodeFault>
+    ensures { IsRun bytes.now result }
+{
+    let mut reader = Reader::new(alloc);
+    for at in 0..bytes.len() {
+        if !reader.feed(bytes[at])? {
+            return Err(CodeFault::CodeSyntax(at));
+        }
+    }
+    Ok(reader)
+}
+
+/// The functions whose text the bytes are, valid together or not; or the byte at which no text goes on.
+pub fn read_text(alloc: Global, bytes: &[u8]) -> Result<Seq<CodeFun>, CodeFault>
+    ensures reading { IsReading bytes.now result }
+    ensures only { (funs : List CodeFun) → IsTextOf bytes.now funs → IfOk result (λ read. read ≡ funs) }
+{
+    let reader = read_bytes(alloc, bytes)?;
+    if !reader.is_done() {
+        return Err(CodeFault::CodeSyntax(bytes.len()));
+    }
+    Ok(reader.into_funs())
+}
