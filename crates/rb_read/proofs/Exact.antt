@@ -139,15 +139,6 @@ module _ (bars : Token → Bool) (reader : (total limit : ℕ) → Reader (List 
     by_again (fits o r q) = let e : reader (length ts) limit ts ≡ Ok (file.items, []) = subst (λ us. reader (length ts) limit us ≡ Ok (file.items, [])) h.spells r in rw e refl
     by_again (exceeds m o r) = let d : over limit (file_written file) ≡ None = within-over limit (file_written file) w in cc
 
-  pub one_tree : (ts : List Token) (a b : FileTree) → IsTreeOf ts a → IsTreeOf ts b → a ≡ b
-  one_tree ts a b h g =
-      let v = within-some (file_written a) in
-      let w = within-some (file_written b) in
-      let l : ℕ = v.0 + w.0 in
-      let p : file_of (length ts) l ts ≡ Ok a = file-again l ts a h (within-more v.0 l (file_written a) (omega arith) v.1) in
-      let q : file_of (length ts) l ts ≡ Ok b = file-again l ts b g (within-more w.0 l (file_written b) (omega arith) w.1) in
-      let e : Ok a ≡ Ok b = sym p ∙ q in cc
-
   spelled-whole : (ts : List Token) → IsSpelled ts → SomeWhole start ts
   unfolding end_of
   spelled-whole ts s =

@@ -4,7 +4,6 @@ pub mod EachLoops
 mod Exact
 pub mod ExpressionForms
 pub mod ExpressionNode
-pub mod FileReading
 pub mod FormLaws
 pub mod FileLemmas
 pub mod Forms
