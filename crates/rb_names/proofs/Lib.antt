@@ -1,0 +1,10 @@
+pub mod AnswerLemmas
+pub mod DefiningLemmas
+pub mod Examples
+pub mod ExpressionEquations
+pub mod ListLemmas
+pub mod PartLemmas
+pub mod PatternEquations
+pub mod ScopeLemmas
+pub mod TableLemmas
+pub mod TablesLemmas

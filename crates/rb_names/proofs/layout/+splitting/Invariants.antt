@@ -1,0 +1,7 @@
+use Rattle.std.proofs.Common.{◌≡◌, map, drop}
+use Rattle.rb_names.specs.Numbering.{all_of, numbered_arm}
+use Rattle.rb_names.specs.Joining.{behind}
+use Rattle.rb_names.proofs.layout.+splitting.Given as goal
+
+abbrev pub invariant-number_arms-loop-tree : goal.invariant-number_arms-loop-tree
+invariant-number_arms-loop-tree l = behind l.arms (all_of (map (numbered_arm l.tables) (drop l.tree-index l.trees))) ≡ all_of (map (numbered_arm l.tables) l.trees)

@@ -1,0 +1,53 @@
+-- Definitions gone through one after the other, with the tables of those before.
+use Rattle.std.specs.Prelude.{◌≡◌, ℕ, Bool, List, [], ◌∷◌, ◌++◌, ◌&&◌, length, is_some, Err, if◌then◌else◌, Option, Some, None}
+use Rattle.std.specs.List.{list_any}
+use Rattle.std.specs.Str.{bytes_eq}
+use Rattle.rb_syntax.specs.declared.tree.NameTree.{NameTree}
+use Rattle.rb_syntax.specs.declared.tree.ItemTree.{ItemTree}
+use Rattle.rb_names.specs.declared.fault.NameFault.{NameFault}
+use Rattle.rb_names.specs.declared.tables.Tables.{Tables}
+use Rattle.rb_names.specs.declared.tables.Defining.{Defining}
+use Rattle.rb_names.specs.Tables.{Name, Table, meaning}
+use Rattle.rb_names.specs.Definitions.{Kind, OfType, OfConstructor, OfFunction, OfLayout, Definition, same_kind, first_again, numbered_from, constructors_of, type_names, types_in, function_names}
+use Rattle.rb_names.specs.Answers.{Answers}
+use Rattle.rb_names.specs.Programs.{no_twice}
+
+abbrev pub is_defined : Kind → Name → List Definition → Bool
+is_defined k name before = list_any (λ (d : Definition). same_kind k d.kind && bytes_eq name d.name.text) before
+
+-- the table has the names that were defined in it
+abbrev pub Knows : {A : Type 0} → Kind → List Definition → Table A → Type 0
+Knows k before table = (name : Name) → is_some (meaning table name) ≡ is_defined k name before
+
+-- each table has those of its own
+pub record AreKnown (before : List Definition) (known : Defining) : Type 0 where
+  pub types : Knows OfType before known.tables.types
+  pub constructors : Knows OfConstructor before known.tables.constructors
+  pub functions : Knows OfFunction before known.tables.functions
+  pub laid : Knows OfLayout before known.laid
+
+-- further definitions define nothing again, and the tables know them too
+pub record AreAdded (before more : List Definition) (known : Defining) : Type 0 where
+  pub all : List Definition
+  pub are_known : AreKnown all known
+  pub are_new : (rest : List Definition) → first_again before (more ++ rest) ≡ first_again all rest
+
+-- the first of further definitions that is made again gives this fault
+abbrev pub IsAgain : (before more : List Definition) → NameFault → Type 0
+IsAgain before more fault = (rest : List Definition) → Answers {A = Unit {0}} (Err fault) (no_twice (first_again before (more ++ rest)))
+
+-- a name that may be defined already
+abbrev pub made_again : Bool → NameTree → Option NameTree
+made_again there name = if there then Some name else None
+
+-- a table of these names
+abbrev pub HasNames : {A : Type 0} → Table A → List Name → Type 0
+HasNames table names = (name : Name) → is_some (meaning table name) ≡ list_any (bytes_eq name) names
+
+-- the tables when the items that are left are gone through as well
+abbrev pub with_rest : Tables → List ItemTree → Tables
+with_rest t items = record {
+  types = t.types ++ numbered_from (length t.types) (type_names items);
+  constructors = t.constructors ++ constructors_of (length t.types) (types_in items);
+  functions = t.functions ++ numbered_from (length t.functions) (function_names items);
+}

@@ -1,0 +1,106 @@
+-- What a file defines: its tables, and the first name that is defined twice.
+use Rattle.std.specs.Prelude.{ℕ, zero, suc, Bool, true, false, List, [], ◌∷◌, ◌++◌, map, ◌&&◌, if◌then◌else◌, Option, Some, None}
+use Rattle.std.specs.List.{list_any, flat_map}
+use Rattle.std.specs.Str.{bytes_eq}
+use Rattle.rb_core.specs.declared.types.ConRef.{ConRef}
+use Rattle.rb_syntax.specs.declared.tree.NameTree.{NameTree}
+use Rattle.rb_syntax.specs.declared.tree.ConTree.{ConTree}
+use Rattle.rb_syntax.specs.declared.tree.TypeTree.{TypeTree}
+use Rattle.rb_syntax.specs.declared.tree.FunTree.{FunTree}
+use Rattle.rb_syntax.specs.declared.tree.LayoutTree.{LayoutTree}
+use Rattle.rb_syntax.specs.declared.tree.ItemTree.{ItemTree}
+use Rattle.rb_syntax.specs.declared.tree.ItemTree.TheVariants as top
+use Rattle.rb_syntax.specs.declared.tree.FileTree.{FileTree}
+use Rattle.rb_names.specs.declared.tables.Tables.{Tables}
+use Rattle.rb_names.specs.Tables.{Name, Table}
+
+abbrev pub types_in : List ItemTree → List TypeTree
+types_in [] = []
+types_in (top.Types t ∷ items) = t ∷ types_in items
+types_in (top.Layouts l ∷ items) = types_in items
+types_in (top.Funs f ∷ items) = types_in items
+types_in (top.Derived name a ∷ items) = types_in items
+
+abbrev pub functions_in : List ItemTree → List FunTree
+functions_in [] = []
+functions_in (top.Types t ∷ items) = functions_in items
+functions_in (top.Layouts l ∷ items) = functions_in items
+functions_in (top.Funs f ∷ items) = f ∷ functions_in items
+functions_in (top.Derived name a ∷ items) = functions_in items
+
+-- names with their numbers, the first of which is n
+abbrev pub numbered_from : ℕ → List Name → Table ℕ
+numbered_from n [] = []
+numbered_from n (x ∷ xs) = (x, n) ∷ numbered_from (suc n) xs
+
+-- the constructors of a type, which are numbered in it
+abbrev pub constructors_from : (ty con : ℕ) → List ConTree → Table ConRef
+constructors_from ty con [] = []
+constructors_from ty con (c ∷ cs) = (c.name.text, record { ty = ty; con = con }) ∷ constructors_from ty (suc con) cs
+
+-- the constructors of types, the first of which has the number ty
+abbrev pub constructors_of : (ty : ℕ) → List TypeTree → Table ConRef
+constructors_of ty [] = []
+constructors_of ty (t ∷ ts) = constructors_from ty 0 t.cons ++ constructors_of (suc ty) ts
+
+abbrev pub type_names : List ItemTree → List Name
+type_names items = map (λ t. t.name.text) (types_in items)
+
+abbrev pub function_names : List ItemTree → List Name
+function_names items = map (λ f. f.name.text) (functions_in items)
+
+-- types and functions are numbered in the file's order, and constructors in that of their type
+abbrev pub tables_of : List ItemTree → Tables
+tables_of items = record {
+  types = numbered_from 0 (type_names items);
+  constructors = constructors_of 0 (types_in items);
+  functions = numbered_from 0 (function_names items);
+}
+
+-- Twice -------------------------------------------------------------------------------------
+
+-- the tables in which a name is defined; a type's name stands in the last of them by its layout
+pub data Kind : Type 0 where
+  OfType : Kind
+  OfConstructor : Kind
+  OfFunction : Kind
+  OfLayout : Kind
+
+abbrev pub same_kind : Kind → Kind → Bool
+same_kind OfType OfType = true
+same_kind OfConstructor OfConstructor = true
+same_kind OfFunction OfFunction = true
+same_kind OfLayout OfLayout = true
+same_kind k l = false
+
+-- a name that is defined, and in which table
+pub record Definition : Type 0 where
+  pub kind : Kind
+  pub name : NameTree
+
+-- one name in one table
+abbrev pub same_definition : Definition → Definition → Bool
+same_definition d e = same_kind d.kind e.kind && bytes_eq d.name.text e.name.text
+
+-- a layout belongs to a type; of another name it is none
+abbrev pub layout_definition : (types : List Name) → NameTree → List Definition
+layout_definition types name = if list_any (bytes_eq name.text) types then record { kind = OfLayout; name = name } ∷ [] else []
+
+abbrev pub constructor_definition : ConTree → Definition
+constructor_definition c = record { kind = OfConstructor; name = c.name }
+
+-- what an item defines, in its order, in a file with types of these names
+abbrev pub definitions : (types : List Name) → ItemTree → List Definition
+definitions types (top.Types t) = record { kind = OfType; name = t.name } ∷ map constructor_definition t.cons
+definitions types (top.Layouts l) = layout_definition types l.ty
+definitions types (top.Funs f) = record { kind = OfFunction; name = f.name } ∷ []
+definitions types (top.Derived name a) = layout_definition types name
+
+-- the first definition that equals one before it
+abbrev pub first_again : (before after : List Definition) → Option NameTree
+first_again before [] = None
+first_again before (d ∷ ds) = if list_any (same_definition d) before then Some d.name else first_again (before ++ d ∷ []) ds
+
+-- the first name of a file that was defined before in its table
+abbrev pub defined_twice : List ItemTree → Option NameTree
+defined_twice items = first_again [] (flat_map (definitions (type_names items)) items)

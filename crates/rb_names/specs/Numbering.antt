@@ -1,0 +1,172 @@
+-- Numbering: the tree with each name's number in its place, or the first name that stands for nothing. Each form has one
+-- equation, and its parts are numbered in the order in which they are written.
+use Rattle.std.specs.Prelude.{ℕ, suc, ◌+◌, List, [], ◌∷◌, map, length, Option, Some, None, Result, Ok, Err}
+use Rattle.rb_core.specs.declared.types.Ty.{Ty}
+use Rattle.rb_core.specs.declared.types.Ty.TheVariants as core_ty
+use Rattle.rb_core.specs.declared.types.Con.{Con}
+use Rattle.rb_core.specs.declared.types.DataDecl.{DataDecl}
+use Rattle.rb_core.specs.declared.pattern.Pat.{Pat}
+use Rattle.rb_core.specs.declared.pattern.Pat as core_pat
+use Rattle.rb_core.specs.declared.expression.Expr.{Expr}
+use Rattle.rb_core.specs.declared.expression.Expr as core
+use Rattle.rb_core.specs.declared.expression.Clause.{Clause}
+use Rattle.rb_core.specs.declared.program.Param.{Param}
+use Rattle.rb_core.specs.declared.program.Fun.{Fun}
+use Rattle.rb_core.specs.declared.layout_decl.Arm.{Arm}
+use Rattle.rb_core.specs.declared.layout_decl.LayTree.{LayTree}
+use Rattle.rb_core.specs.declared.layout_decl.LayTree as core_tree
+use Rattle.rb_core.specs.declared.layout_decl.LayoutDecl.{LayoutDecl}
+use Rattle.rb_syntax.specs.declared.tree.NameTree.{NameTree}
+use Rattle.rb_syntax.specs.declared.tree.TyTree.{TyTree}
+use Rattle.rb_syntax.specs.declared.tree.TyTree.TheVariants as ty
+use Rattle.rb_syntax.specs.declared.tree.ConTree.{ConTree}
+use Rattle.rb_syntax.specs.declared.tree.TypeTree.{TypeTree}
+use Rattle.rb_syntax.specs.declared.tree.PatTree.{PatTree}
+use Rattle.rb_syntax.specs.declared.tree.PatTree.TheFolds.{fold-PatTree}
+use Rattle.rb_syntax.specs.declared.tree.PatTree.TheOpen as pat
+use Rattle.rb_syntax.specs.declared.tree.PatTree.TheOpen.{PatTree-F}
+use Rattle.rb_syntax.specs.declared.tree.ExprTree.{ExprTree}
+use Rattle.rb_syntax.specs.declared.tree.ExprTree.TheFolds.{fold-ExprTree, fold-ClauseTree}
+use Rattle.rb_syntax.specs.declared.tree.ExprTree.TheOpen as expr
+use Rattle.rb_syntax.specs.declared.tree.ExprTree.TheOpen.{ExprTree-F}
+use Rattle.rb_syntax.specs.declared.tree.ClauseTree.{ClauseTree, ClauseTree-F}
+use Rattle.rb_syntax.specs.declared.tree.ParamTree.{ParamTree}
+use Rattle.rb_syntax.specs.declared.tree.FunTree.{FunTree}
+use Rattle.rb_syntax.specs.declared.tree.SplitTree.{SplitTree}
+use Rattle.rb_syntax.specs.declared.tree.SplitTree.TheFolds.{fold-SplitTree, fold-ArmTree}
+use Rattle.rb_syntax.specs.declared.tree.SplitTree.TheOpen as split
+use Rattle.rb_syntax.specs.declared.tree.SplitTree.TheOpen.{SplitTree-F}
+use Rattle.rb_syntax.specs.declared.tree.ArmTree.{ArmTree, ArmTree-F}
+use Rattle.rb_syntax.specs.declared.tree.LayoutTree.{LayoutTree}
+use Rattle.rb_names.specs.declared.fault.NameFault.{NameFault}
+use Rattle.rb_names.specs.declared.fault.NameFault.TheVariants.{Unknown}
+use Rattle.rb_names.specs.declared.tables.Tables.{Tables}
+use Rattle.rb_names.specs.Tables.{meaning}
+use Rattle.rb_names.specs.Scopes.{Scope, inside, binders_of, param_binders}
+
+-- what is found, or the first fault
+abbrev pub Resolved : Type 0 → Type 0
+Resolved A = Result A NameFault
+
+-- goes on with what was found
+abbrev pub and_then : {A B : Type 0} → Resolved A → (A → Resolved B) → Resolved B
+and_then (Ok a) go = go a
+and_then (Err fault) go = Err fault
+
+-- each of them, or the first fault
+abbrev pub all_of : {A : Type 0} → List (Resolved A) → Resolved (List A)
+all_of [] = Ok []
+all_of (r ∷ rs) = and_then r (λ x. and_then (all_of rs) (λ xs. Ok (x ∷ xs)))
+
+-- what a name stands for, if it stands for something
+abbrev pub known : {A : Type 0} → NameTree → Option A → Resolved A
+known name None = Err (Unknown name.text name.at)
+known name (Some a) = Ok a
+
+-- Types and patterns ------------------------------------------------------------------------
+
+abbrev pub numbered_type : Tables → TyTree → Resolved Ty
+numbered_type t (ty.Int bits) = Ok (core_ty.Int bits)
+numbered_type t (ty.Named name) = and_then (known name (meaning t.types name.text)) (λ n. Ok (core_ty.Named n))
+
+abbrev pub numbered_constructor : Tables → ConTree → Resolved Con
+numbered_constructor t c = and_then (all_of (map (numbered_type t) c.fields)) (λ fields. Ok (record { name = c.name.text; fields = fields }))
+
+abbrev pub numbered_data : Tables → TypeTree → Resolved DataDecl
+numbered_data t d = and_then (all_of (map (numbered_constructor t) d.cons)) (λ cons. Ok (record { name = d.name.text; cons = cons }))
+
+-- a pattern within its own variables' scope
+abbrev pub pattern_step : Tables → Scope → PatTree-F (Resolved Pat) → Resolved Pat
+pattern_step t scope (pat.Wild at) = Ok (core_pat.Wild at)
+pattern_step t scope (pat.Var at name) = and_then (known name (meaning scope name.text)) (λ x. Ok (core_pat.Var at x))
+pattern_step t scope (pat.Num at n) = Ok (core_pat.Num at n)
+pattern_step t scope (pat.Con at name ps) =
+    and_then (known name (meaning t.constructors name.text)) (λ c. and_then (all_of ps) (λ qs. Ok (core_pat.Con at c qs)))
+
+abbrev pub numbered_pattern : Tables → Scope → PatTree → Resolved Pat
+numbered_pattern t scope = fold-PatTree (Resolved Pat) (pattern_step t scope)
+
+-- Expressions -------------------------------------------------------------------------------
+
+-- a numbered part, and the number of the next binder in its function
+pub record Numbered (A : Type 0) : Type 0 where
+  pub what : A
+  pub next : ℕ
+
+-- within a scope, where the next binder has this number
+abbrev pub Numbering : Type 0 → Type 0
+Numbering A = Scope → ℕ → Resolved (Numbered A)
+
+abbrev pub numbered_as : {A : Type 0} → A → ℕ → Resolved (Numbered A)
+numbered_as x next = Ok (record { what = x; next = next })
+
+-- parts within one scope, one after the other
+abbrev pub in_turn : {A : Type 0} → List (Numbering A) → Numbering (List A)
+in_turn [] scope next = numbered_as [] next
+in_turn (p ∷ ps) scope next = and_then (p scope next) (λ x. and_then (in_turn ps scope x.next) (λ xs. numbered_as (x.what ∷ xs.what) xs.next))
+
+-- a clause's body stands inside the variables of its pattern
+abbrev pub clause_step : Tables → ClauseTree-F (Numbering Expr) (Numbering Clause) → Numbering Clause
+clause_step t c scope next =
+    let inner = inside (binders_of c.pat) next scope in
+    and_then (numbered_pattern t inner c.pat) (λ p. and_then (c.body inner (next + length (binders_of c.pat))) (λ e.
+    numbered_as (record { pat = p; body = e.what }) e.next))
+
+abbrev pub expr_step : Tables → ExprTree-F (Numbering Expr) (Numbering Clause) → Numbering Expr
+expr_step t (expr.Num at n) scope next = numbered_as (core.Num at n) next
+expr_step t (expr.Var at name) scope next = and_then (known name (meaning scope name.text)) (λ x. numbered_as (core.Var at x) next)
+expr_step t (expr.Call at name es) scope next =
+    and_then (known name (meaning t.functions name.text)) (λ f. and_then (in_turn es scope next) (λ xs. numbered_as (core.Call at f xs.what) xs.next))
+expr_step t (expr.Build at name es) scope next =
+    and_then (known name (meaning t.constructors name.text)) (λ c. and_then (in_turn es scope next) (λ xs. numbered_as (core.Build at c xs.what) xs.next))
+expr_step t (expr.Binary at op a b) scope next =
+    and_then (a scope next) (λ x. and_then (b scope x.next) (λ y. numbered_as (core.Binary at op x.what y.what) y.next))
+expr_step t (expr.To at bits a) scope next = and_then (a scope next) (λ x. numbered_as (core.To at bits x.what) x.next)
+expr_step t (expr.Let at name ty a b) scope next =
+    and_then (numbered_type t ty) (λ u. and_then (a scope (suc next)) (λ x. and_then (b ((name.text, next) ∷ scope) x.next) (λ y.
+    numbered_as (core.Let at next u x.what y.what) y.next)))
+expr_step t (expr.Match at e cs) scope next =
+    and_then (e scope next) (λ x. and_then (in_turn cs scope x.next) (λ ds. numbered_as (core.Match at x.what ds.what) ds.next))
+
+abbrev pub numbered_expression : Tables → ExprTree → Numbering Expr
+numbered_expression t = fold-ExprTree (Numbering Expr) (Numbering Clause) (expr_step t) (clause_step t)
+
+abbrev pub numbered_clause : Tables → ClauseTree → Numbering Clause
+numbered_clause t = fold-ClauseTree (Numbering Expr) (Numbering Clause) (expr_step t) (clause_step t)
+
+-- Functions and layouts ---------------------------------------------------------------------
+
+abbrev pub numbered_param : Tables → Scope → ParamTree → Resolved Param
+numbered_param t scope p =
+    and_then (numbered_type t p.ty) (λ u. and_then (known p.var (meaning scope p.var.text)) (λ x. Ok (record { at = p.at; var = x; ty = u })))
+
+-- a function's parameters are its first binders
+abbrev pub numbered_function : Tables → FunTree → Resolved Fun
+numbered_function t f =
+    let scope = inside (param_binders f.params) 0 [] in
+    and_then (all_of (map (numbered_param t scope) f.params)) (λ ps. and_then (numbered_type t f.result) (λ u.
+    and_then (numbered_expression t f.body scope (length (param_binders f.params))) (λ e.
+    Ok (record { name = f.name.text; params = ps; result = u; body = e.what }))))
+
+abbrev pub numbered_else : Option (Resolved LayTree) → Resolved (Option LayTree)
+numbered_else None = Ok None
+numbered_else (Some r) = and_then r (λ t. Ok (Some t))
+
+-- a provenance has no variables
+abbrev pub split_step : Tables → SplitTree-F (Resolved LayTree) (Resolved Arm) → Resolved LayTree
+split_step t (split.Split loc arms other) = and_then (all_of arms) (λ xs. and_then (numbered_else other) (λ o. Ok (core_tree.Split loc xs o)))
+split_step t (split.Leaf at prov items) = and_then (numbered_pattern t [] prov) (λ p. Ok (core_tree.Leaf at p items))
+
+abbrev pub arm_step : ArmTree-F (Resolved LayTree) (Resolved Arm) → Resolved Arm
+arm_step a = and_then a.under (λ u. Ok (record { literal = a.literal; under = u }))
+
+abbrev pub numbered_split : Tables → SplitTree → Resolved LayTree
+numbered_split t = fold-SplitTree (Resolved LayTree) (Resolved Arm) (split_step t) arm_step
+
+abbrev pub numbered_arm : Tables → ArmTree → Resolved Arm
+numbered_arm t = fold-ArmTree (Resolved LayTree) (Resolved Arm) (split_step t) arm_step
+
+abbrev pub numbered_layout : Tables → LayoutTree → Resolved LayoutDecl
+numbered_layout t l =
+    and_then (known l.ty (meaning t.types l.ty.text)) (λ n. and_then (numbered_split t l.tree) (λ tree.
+    Ok (record { at = l.at; ty = n; shape = l.shape; tree = tree })))

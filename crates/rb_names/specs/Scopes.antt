@@ -1,0 +1,49 @@
+-- Scopes: the variables that are bound round a place.
+use Rattle.std.specs.Prelude.{ℕ, suc, List, [], ◌∷◌, ◌++◌, map, if◌then◌else◌, Option, Some}
+use Rattle.std.specs.List.{list_any, flat_map}
+use Rattle.std.specs.Str.{bytes_eq}
+use Rattle.rb_syntax.specs.declared.tree.PatTree.{PatTree}
+use Rattle.rb_syntax.specs.declared.tree.PatTree.TheFolds.{fold-PatTree}
+use Rattle.rb_syntax.specs.declared.tree.PatTree.TheOpen as pat
+use Rattle.rb_syntax.specs.declared.tree.PatTree.TheOpen.{PatTree-F}
+use Rattle.rb_syntax.specs.declared.tree.ParamTree.{ParamTree}
+use Rattle.rb_names.specs.Tables.{Name, Table}
+
+-- names with the numbers of their binders, the innermost binder first: so an inner one hides an outer one
+abbrev pub Scope : Type 0
+Scope = Table ℕ
+
+-- of binders from the outermost on: the number of the last of this name, or what was found before them
+abbrev pub nearest : Option ℕ → Name → List (Name × ℕ) → Option ℕ
+nearest found name [] = found
+nearest found name (b ∷ bs) = nearest (if bytes_eq name b.0 then Some b.1 else found) name bs
+
+-- the scope inside binders of these names, which are numbered from n on
+abbrev pub inside : List Name → ℕ → Scope → Scope
+inside [] n scope = scope
+inside (x ∷ xs) n scope = inside xs (suc n) ((x, n) ∷ scope)
+
+-- names, each once, in the order in which they first stand
+abbrev pub with_name : List Name → Name → List Name
+with_name names name = if list_any (λ n. bytes_eq n name) names then names else names ++ name ∷ []
+
+abbrev pub with_names : List Name → List Name → List Name
+with_names names [] = names
+with_names names (x ∷ xs) = with_names (with_name names x) xs
+
+-- the names of a pattern's variables, as they stand in it
+abbrev pub names_step : PatTree-F (List Name) → List Name
+names_step (pat.Wild at) = []
+names_step (pat.Var at name) = name.text ∷ []
+names_step (pat.Num at n) = []
+names_step (pat.Con at name xss) = flat_map (λ xs. xs) xss
+
+abbrev pub names_in : PatTree → List Name
+names_in = fold-PatTree (List Name) names_step
+
+-- binders of one name in one pattern or parameter list are one
+abbrev pub binders_of : PatTree → List Name
+binders_of p = with_names [] (names_in p)
+
+abbrev pub param_binders : List ParamTree → List Name
+param_binders ps = with_names [] (map (λ p. p.var.text) ps)

@@ -1,0 +1,165 @@
+//! Expressions.
+
+ghost use Rattle.std.specs.Prelude.{◌≡◌, ◌∷◌, map, OnOk};
+ghost use Rattle.rb_names.specs.Answers.{AnswersFrom};
+ghost use Rattle.rb_names.specs.Numbering.{in_turn, numbered_clause, numbered_expression};
+
+use crate::fault::{NameFault, known};
+use crate::pattern::{add_names, enter_all, fresh, number_pattern};
+use crate::scope::Scope;
+use crate::tables::Tables;
+use crate::types::number_type;
+use rb_core::boxed::Boxed;
+use rb_core::expression::{Clause, Expr};
+use rb_core::seq::Seq;
+use rb_syntax::tree::{ClauseTree, ExprTree};
+use std::alloc::Global;
+
+/// An expression within a scope, where `next` is the number of the next binder.
+#[cycle(expression)]
+pub fn number_expression<'a>(
+    alloc: Global,
+    tables: &Tables,
+    tree: &'a ExprTree,
+    scope: &mut Scope<'a>,
+    next: &mut u32,
+) -> Result<Expr, NameFault>
+    ensures answers { AnswersFrom result next.new (numbered_expression tables.now tree.now scope.old next.old) }
+    ensures scope { OnOk result (scope.new ≡ scope.old) }
+{
+    match tree {
+        ExprTree::Num(at, n) => Ok(Expr::Num(*at, *n)),
+        ExprTree::Var(at, name) => {
+            let var = known(alloc, name, scope.get(name.text.as_slice()))?;
+            Ok(Expr::Var(*at, var))
+        }
+        ExprTree::Call(at, name, args) => {
+            let fun = known(alloc, name, tables.functions.get(name.text.as_slice()))?;
+            let args = number_expressions(alloc, tables, args.as_slice(), scope, next)?;
+            Ok(Expr::Call(*at, fun, args))
+        }
+        ExprTree::Build(at, name, fields) => {
+            let con = known(alloc, name, tables.constructors.get(name.text.as_slice()))?;
+            let fields = number_expressions(alloc, tables, fields.as_slice(), scope, next)?;
+            Ok(Expr::Build(*at, con, fields))
+        }
+        ExprTree::Binary(at, op, a, b) => {
+            let first = number_boxed(alloc, tables, a.get(), scope, next)?;
+            let second = number_boxed(alloc, tables, b.get(), scope, next)?;
+            Ok(Expr::Binary(*at, *op, first, second))
+        }
+        ExprTree::To(at, bits, a) => {
+            let inner = number_boxed(alloc, tables, a.get(), scope, next)?;
+            Ok(Expr::To(*at, *bits, inner))
+        }
+        ExprTree::Let(at, name, ty, a, b) => {
+            let ty = number_type(alloc, tables, ty)?;
+            let var = fresh(next)?;
+            let bound = number_boxed(alloc, tables, a.get(), scope, next)?;
+            let name = name.text.as_slice();
+            let body = number_inside(alloc, tables, name, var, b.get(), scope, next)?;
+            Ok(Expr::Let(*at, var, ty, bound, body))
+        }
+        ExprTree::Match(at, a, clauses) => {
+            let scrutinee = number_boxed(alloc, tables, a.get(), scope, next)?;
+            let clauses = number_clauses(alloc, tables, clauses.as_slice(), scope, next)?;
+            Ok(Expr::Match(*at, scrutinee, clauses))
+        }
+    }
+}
+
+#[cycle(expression)]
+fn number_boxed<'a>(
+    alloc: Global,
+    tables: &Tables,
+    tree: &'a ExprTree,
+    scope: &mut Scope<'a>,
+    next: &mut u32,
+) -> Result<Boxed<Expr>, NameFault>
+    ensures answers { AnswersFrom result next.new (numbered_expression tables.now tree.now scope.old next.old) }
+    ensures scope { OnOk result (scope.new ≡ scope.old) }
+{
+    let expr = number_expression(alloc, tables, tree, scope, next)?;
+    Ok(Boxed::new(alloc, expr)?)
+}
+
+/// An expression inside one more binder, with this name and number.
+#[cycle(expression)]
+fn number_inside<'a>(
+    alloc: Global,
+    tables: &Tables,
+    name: &'a [u8],
+    var: u32,
+    tree: &'a ExprTree,
+    scope: &mut Scope<'a>,
+    next: &mut u32,
+) -> Result<Boxed<Expr>, NameFault>
+    ensures answers { AnswersFrom result next.new (numbered_expression tables.now tree.now ((name.now, var) ∷ scope.old) next.old) }
+    ensures scope { OnOk result (scope.new ≡ scope.old) }
+{
+    let depth = scope.depth();
+    scope.enter(name, var)?;
+    let expr = number_boxed(alloc, tables, tree, scope, next)?;
+    scope.leave(depth);
+    Ok(expr)
+}
+
+#[cycle(expression)]
+fn number_expressions<'a>(
+    alloc: Global,
+    tables: &Tables,
+    trees: &'a [ExprTree],
+    scope: &mut Scope<'a>,
+    next: &mut u32,
+) -> Result<Seq<Expr>, NameFault>
+    ensures answers { AnswersFrom result next.new (in_turn (map (numbered_expression tables.now) trees.now) scope.old next.old) }
+    ensures scope { OnOk result (scope.new ≡ scope.old) }
+{
+    let mut exprs = Seq::new(alloc);
+    for tree in trees {
+        let expr = number_expression(alloc, tables, tree, scope, next)?;
+        exprs.push(expr)?;
+    }
+    Ok(exprs)
+}
+
+#[cycle(expression)]
+fn number_clauses<'a>(
+    alloc: Global,
+    tables: &Tables,
+    trees: &'a [ClauseTree],
+    scope: &mut Scope<'a>,
+    next: &mut u32,
+) -> Result<Seq<Clause>, NameFault>
+    ensures answers { AnswersFrom result next.new (in_turn (map (numbered_clause tables.now) trees.now) scope.old next.old) }
+    ensures scope { OnOk result (scope.new ≡ scope.old) }
+{
+    let mut clauses = Seq::new(alloc);
+    for tree in trees {
+        let clause = number_clause(alloc, tables, tree, scope, next)?;
+        clauses.push(clause)?;
+    }
+    Ok(clauses)
+}
+
+/// A clause, whose body stands inside the variables of its pattern.
+#[cycle(expression)]
+fn number_clause<'a>(
+    alloc: Global,
+    tables: &Tables,
+    tree: &'a ClauseTree,
+    scope: &mut Scope<'a>,
+    next: &mut u32,
+) -> Result<Clause, NameFault>
+    ensures answers { AnswersFrom result next.new (numbered_clause tables.now tree.now scope.old next.old) }
+    ensures scope { OnOk result (scope.new ≡ scope.old) }
+{
+    let mut names = Vec::new(alloc);
+    add_names(&mut names, &tree.pat)?;
+    let depth = scope.depth();
+    enter_all(scope, names.as_slice(), next)?;
+    let pat = number_pattern(alloc, tables, scope, &tree.pat)?;
+    let body = number_expression(alloc, tables, &tree.body, scope, next)?;
+    scope.leave(depth);
+    Ok(Clause { pat, body })
+}

@@ -1,0 +1,87 @@
+//! Layouts.
+
+ghost use Rattle.std.specs.Prelude.{[], map};
+ghost use Rattle.rb_names.specs.Answers.{Answers};
+ghost use Rattle.rb_names.specs.Numbering.{all_of, numbered_arm, numbered_layout, numbered_split};
+
+use crate::fault::{NameFault, known};
+use crate::layout_items::copy_items;
+use crate::pattern::number_pattern;
+use crate::scope::Scope;
+use crate::tables::Tables;
+use rb_core::boxed::Boxed;
+use rb_core::layout_decl::{Arm, LayTree, LayoutDecl};
+use rb_core::seq::Seq;
+use rb_syntax::tree::{ArmTree, LayoutTree, SplitTree};
+use std::alloc::Global;
+
+/// A layout with the numbers of its type and of the constructors of its provenances.
+pub fn number_layout(
+    alloc: Global,
+    tables: &Tables,
+    tree: &LayoutTree,
+) -> Result<LayoutDecl, NameFault>
+    ensures { Answers result (numbered_layout tables.now tree.now) }
+{
+    let ty = known(alloc, &tree.ty, tables.types.get(tree.ty.text.as_slice()))?;
+    let under = number_split(alloc, tables, &tree.tree)?;
+    let shape = tree.shape.copy(alloc)?;
+    Ok(LayoutDecl {
+        at: tree.at,
+        ty,
+        shape,
+        tree: under,
+    })
+}
+
+#[cycle(splitting)]
+fn number_split(alloc: Global, tables: &Tables, tree: &SplitTree) -> Result<LayTree, NameFault>
+    ensures { Answers result (numbered_split tables.now tree.now) }
+{
+    match tree {
+        SplitTree::Leaf(at, provenance, items) => {
+            let provenance = number_pattern(alloc, tables, &Scope::new(alloc), provenance)?;
+            let items = copy_items(alloc, items.as_slice())?;
+            Ok(LayTree::Leaf(*at, provenance, items))
+        }
+        SplitTree::Split(loc, arms, None) => {
+            let arms = number_arms(alloc, tables, arms.as_slice())?;
+            let loc = loc.copy(alloc)?;
+            Ok(LayTree::Split(loc, arms, None))
+        }
+        SplitTree::Split(loc, arms, Some(other)) => {
+            let arms = number_arms(alloc, tables, arms.as_slice())?;
+            let other = number_split(alloc, tables, other.get())?;
+            let loc = loc.copy(alloc)?;
+            let other = Boxed::new(alloc, other)?;
+            Ok(LayTree::Split(loc, arms, Some(other)))
+        }
+    }
+}
+
+#[cycle(splitting)]
+fn number_arms(
+    alloc: Global,
+    tables: &Tables,
+    trees: &[ArmTree],
+) -> Result<Seq<Arm>, NameFault>
+    ensures { Answers result (all_of (map (numbered_arm tables.now) trees.now)) }
+{
+    let mut arms = Seq::new(alloc);
+    for tree in trees {
+        let arm = number_arm(alloc, tables, tree)?;
+        arms.push(arm)?;
+    }
+    Ok(arms)
+}
+
+#[cycle(splitting)]
+fn number_arm(alloc: Global, tables: &Tables, tree: &ArmTree) -> Result<Arm, NameFault>
+    ensures { Answers result (numbered_arm tables.now tree.now) }
+{
+    let under = number_split(alloc, tables, &tree.under)?;
+    Ok(Arm {
+        literal: tree.literal,
+        under,
+    })
+}

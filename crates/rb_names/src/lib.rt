@@ -1,0 +1,55 @@
+//! From names to numbers: the program that a file's tree stands for.
+//!
+//! Types, constructors and functions have a table each. A variable is that of the innermost binder
+//! of its name round it. No call recurses deeper than the tree is nested.
+#![tactic(auto)]
+
+ghost use Rattle.rb_names.specs.Answers.{Answers};
+ghost use Rattle.rb_names.specs.Programs.{numbered};
+
+mod expression;
+mod fault;
+mod function;
+mod items;
+mod layout;
+mod layout_items;
+mod pattern;
+mod scope;
+mod table;
+mod tables;
+#[cfg(test)]
+mod tests;
+mod types;
+
+pub use crate::fault::NameFault;
+use crate::items::number_items;
+use crate::tables::define_all;
+use rb_core::program::Program;
+use rb_syntax::tree::FileTree;
+use std::alloc::Global;
+
+/// The program of a tree: each name is replaced by the number of what it names. Types, functions,
+/// layouts, and the constructors of each type, are numbered in the file's order; the binders of each
+/// function are numbered from 0, its parameters first, in the order of the text.
+///
+/// # Errors
+///
+/// `Twice` for the first name that was defined before in its table, or whose type has a layout
+/// already; else `Unknown` for the first name that stands for nothing; else `NoMain`. `Memory` where
+/// memory is wanting, which says nothing of the tree.
+pub fn resolve(alloc: Global, tree: &FileTree) -> Result<Program, NameFault>
+    ensures { Answers result (numbered tree.now) }
+{
+    let items = tree.items.as_slice();
+    let tables = define_all(alloc, items)?;
+    let found = number_items(alloc, &tables, items)?;
+    let Some(main) = tables.functions.get(b"main".as_slice()) else {
+        return Err(NameFault::NoMain);
+    };
+    Ok(Program {
+        types: found.types,
+        layouts: found.layouts,
+        funs: found.functions,
+        main,
+    })
+}

@@ -1,0 +1,63 @@
+//! Tables of names.
+
+ghost use Rattle.std.specs.Prelude.{◌≡◌, [], is_some, length, not, IfOk, OnOk};
+ghost use Rattle.rb_names.specs.Tables.{meaning, defined};
+
+use indexmap::IndexMap;
+use std::alloc::{AllocError, Global};
+use std::marker::Model;
+
+/// Names with what each stands for, in the order of their definitions. The names are borrowed from
+/// the tree.
+#[derive(Drop)]
+pub struct Table<'a, T> {
+    by_name: IndexMap<&'a [u8], T>,
+}
+
+impl<'a, T> Model for Table<'a, T> {
+    ghost use Rattle.std.specs.Prelude.{List, ℕ, map};
+    ghost use Rattle.std.specs.Coded.{coded_list, coded_ℕ, coded×};
+
+    ghost Value = { List (List ℕ × T) };
+
+    ghost coded = { coded_list (coded× (coded_list coded_ℕ) T.code) };
+
+    ghost view = { λ t. map (λ e. (e.0.now, e.1)) t.by_name.entries };
+}
+
+impl<'a, T: Copy> Table<'a, T> {
+    /// A table without a name.
+    pub fn new(alloc: Global) -> Self
+        ensures { result ≡ [] }
+    {
+        Table {
+            by_name: IndexMap::new(alloc),
+        }
+    }
+
+    /// How many names are defined.
+    pub fn len(&self) -> usize
+        ensures { result ≡ length self.now }
+    {
+        self.by_name.len()
+    }
+
+    /// What a name stands for.
+    pub fn get(&self, name: &[u8]) -> Option<T>
+        ensures { result ≡ meaning self.now name.now }
+    {
+        self.by_name.get(name).copied()
+    }
+
+    /// Defines a name, unless it is defined: whether it is new.
+    pub fn define(&mut self, name: &'a [u8], stands_for: T) -> Result<bool, AllocError>
+        ensures new { IfOk result (λ is_new. is_new ≡ not (is_some (meaning self.old name.now))) }
+        ensures table { OnOk result (self.new ≡ defined self.old name.now stands_for (meaning self.old name.now)) }
+    {
+        if self.by_name.contains_key(name) {
+            return Ok(false);
+        }
+        self.by_name.insert(name, stands_for)?;
+        Ok(true)
+    }
+}

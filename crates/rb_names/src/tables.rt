@@ -1,0 +1,199 @@
+//! The tables of a file, and the names that are defined twice.
+
+ghost use Rattle.std.specs.Prelude.{◌≡◌, [], ◌∷◌, ◌++◌, List, Ok, Err, OnOk, IfOk, IfErr, map, length, false, is_some, ◌||◌};
+ghost use Rattle.std.specs.List.{list_any};
+ghost use Rattle.std.specs.Str.{bytes_eq};
+ghost use Rattle.rb_syntax.specs.declared.tree.ItemTree.{ItemTree as Tree};
+ghost use Rattle.rb_syntax.specs.declared.tree.ItemTree.TheVariants.{Types};
+ghost use Rattle.rb_names.specs.declared.fault.NameFault.TheVariants.{Memory};
+ghost use Rattle.rb_names.specs.Answers.{Answers};
+ghost use Rattle.rb_names.specs.Defining.{AreAdded, AreKnown, HasNames, IsAgain, made_again, with_rest};
+ghost use Rattle.rb_names.specs.Definitions as spec;
+ghost use Rattle.rb_names.specs.Definitions.{Definition, OfFunction, constructor_definition, constructors_from, defined_twice, definitions, layout_definition, tables_of};
+ghost use Rattle.rb_names.specs.Numbering.{and_then};
+ghost use Rattle.rb_names.specs.Programs.{no_twice};
+ghost use Rattle.rb_names.specs.Tables.{Name, meaning};
+
+use crate::fault::{NameFault, number_behind};
+use crate::table::Table;
+use rb_core::types::ConRef;
+use rb_syntax::tree::{ConTree, ItemTree, NameTree, TypeTree};
+use std::alloc::{AllocError, Global};
+
+/// What the names of types, constructors and functions stand for.
+#[derive(Drop)]
+pub struct Tables<'a> {
+    pub types: Table<'a, u32>,
+    pub constructors: Table<'a, ConRef>,
+    pub functions: Table<'a, u32>,
+}
+
+/// The tables while items are gone through, and the types that have a layout so far.
+#[derive(Drop)]
+pub struct Defining<'a> {
+    pub tables: Tables<'a>,
+    pub laid: Table<'a, u32>,
+}
+
+/// The tables of a file, or the first name in it that is defined twice.
+pub fn define_all<'a>(alloc: Global, items: &'a [ItemTree]) -> Result<Tables<'a>, NameFault>
+    ensures { Answers result (and_then (no_twice (defined_twice items.now)) (λ done. Ok (tables_of items.now))) }
+{
+    let types = type_names(alloc, items)?;
+    let mut known = Defining {
+        tables: Tables {
+            types: Table::new(alloc),
+            constructors: Table::new(alloc),
+            functions: Table::new(alloc),
+        },
+        laid: Table::new(alloc),
+    };
+    for item in items {
+        define_item(alloc, &types, item, &mut known)?;
+    }
+    Ok(known.tables)
+}
+
+// The names of all types of a file: a layout is of one of them.
+fn type_names<'a>(alloc: Global, items: &'a [ItemTree]) -> Result<Table<'a, u32>, NameFault>
+    ensures names { IfOk result (λ t. HasNames t (spec.type_names items.now)) }
+    ensures memory { IfErr result (λ e. e ≡ Memory) }
+{
+    let mut types = Table::new(alloc);
+    for item in items {
+        add_type_name(&mut types, item)?;
+    }
+    Ok(types)
+}
+
+// The name of the item, if it is a type.
+fn add_type_name<'a>(types: &mut Table<'a, u32>, item: &'a ItemTree) -> Result<(), AllocError>
+    ensures { OnOk result ((name : Name) → is_some (meaning types.new name) ≡ (is_some (meaning types.old name) || list_any (bytes_eq name) (spec.type_names (item.now ∷ [])))) }
+{
+    match item {
+        ItemTree::Types(tree) => {
+            types.define(tree.name.text.as_slice(), 0)?;
+            Ok(())
+        }
+        ItemTree::Layouts(_) | ItemTree::Funs(_) | ItemTree::Derived(_, _) => Ok(()),
+    }
+}
+
+fn define_item<'a>(
+    alloc: Global,
+    types: &Table<'a, u32>,
+    item: &'a ItemTree,
+    known: &mut Defining<'a>,
+) -> Result<(), NameFault>
+    ensures tables { OnOk result ((rest : List Tree) → with_rest known.new.tables rest ≡ with_rest known.old.tables (item.now ∷ rest)) }
+    ensures added { OnOk result ((names : List Name) (before : List Definition) → HasNames types.now names → AreKnown before known.old → AreAdded before (definitions names item.now) known.new) }
+    ensures again { IfErr result (λ e. (names : List Name) (before : List Definition) → HasNames types.now names → AreKnown before known.old → IsAgain before (definitions names item.now) e) }
+{
+    match item {
+        ItemTree::Types(tree) => {
+            define_type(alloc, tree, known)?;
+            Ok(())
+        }
+        ItemTree::Layouts(tree) => {
+            define_layout(alloc, types, &tree.ty, known)?;
+            Ok(())
+        }
+        ItemTree::Funs(tree) => {
+            define_function(alloc, &tree.name, known)?;
+            Ok(())
+        }
+        ItemTree::Derived(name, _) => {
+            define_layout(alloc, types, name, known)?;
+            Ok(())
+        }
+    }
+}
+
+// The type and then its constructors.
+fn define_type<'a>(
+    alloc: Global,
+    tree: &'a TypeTree,
+    known: &mut Defining<'a>,
+) -> Result<(), NameFault>
+    ensures tables { OnOk result ((rest : List Tree) → with_rest known.new.tables rest ≡ with_rest known.old.tables (Types tree.now ∷ rest)) }
+    ensures added { OnOk result ((before : List Definition) → AreKnown before known.old → AreAdded before (definitions [] (Types tree.now)) known.new) }
+    ensures again { IfErr result (λ e. (before : List Definition) → AreKnown before known.old → IsAgain before (definitions [] (Types tree.now)) e) }
+{
+    let ty = number_behind(known.tables.types.len())?;
+    define(alloc, &mut known.tables.types, &tree.name, ty)?;
+    define_constructors(alloc, ty, tree.cons.as_slice(), known)?;
+    Ok(())
+}
+
+// The constructors of the type with this number.
+fn define_constructors<'a>(
+    alloc: Global,
+    ty: u32,
+    cons: &'a [ConTree],
+    known: &mut Defining<'a>,
+) -> Result<(), NameFault>
+    ensures constructors { OnOk result (known.new.tables.constructors ≡ known.old.tables.constructors ++ constructors_from ty 0 cons.now) }
+    ensures types { OnOk result (known.new.tables.types ≡ known.old.tables.types) }
+    ensures functions { OnOk result (known.new.tables.functions ≡ known.old.tables.functions) }
+    ensures added { OnOk result ((before : List Definition) → AreKnown before known.old → AreAdded before (map constructor_definition cons.now) known.new) }
+    ensures again { IfErr result (λ e. (before : List Definition) → AreKnown before known.old → IsAgain before (map constructor_definition cons.now) e) }
+{
+    for (i, con) in cons.iter().enumerate() {
+        let number = number_behind(i)?;
+        let stands_for = ConRef { ty, con: number };
+        define(alloc, &mut known.tables.constructors, &con.name, stands_for)?;
+    }
+    Ok(())
+}
+
+fn define_function<'a>(
+    alloc: Global,
+    name: &'a NameTree,
+    known: &mut Defining<'a>,
+) -> Result<(), NameFault>
+    ensures functions { OnOk result (known.new.tables.functions ≡ known.old.tables.functions ++ (name.now.text, length known.old.tables.functions) ∷ []) }
+    ensures types { OnOk result (known.new.tables.types ≡ known.old.tables.types) }
+    ensures constructors { OnOk result (known.new.tables.constructors ≡ known.old.tables.constructors) }
+    ensures added { OnOk result ((before : List Definition) → AreKnown before known.old → AreAdded before (record { kind = OfFunction; name = name.now } ∷ []) known.new) }
+    ensures again { IfErr result (λ e. (before : List Definition) → AreKnown before known.old → IsAgain before (record { kind = OfFunction; name = name.now } ∷ []) e) }
+{
+    let number = number_behind(known.tables.functions.len())?;
+    define(alloc, &mut known.tables.functions, name, number)?;
+    Ok(())
+}
+
+// A layout of the type of this name, if there is one.
+fn define_layout<'a>(
+    alloc: Global,
+    types: &Table<'a, u32>,
+    name: &'a NameTree,
+    known: &mut Defining<'a>,
+) -> Result<(), NameFault>
+    ensures tables { OnOk result (known.new.tables ≡ known.old.tables) }
+    ensures added { OnOk result ((names : List Name) (before : List Definition) → HasNames types.now names → AreKnown before known.old → AreAdded before (layout_definition names name.now) known.new) }
+    ensures again { IfErr result (λ e. (names : List Name) (before : List Definition) → HasNames types.now names → AreKnown before known.old → IsAgain before (layout_definition names name.now) e) }
+{
+    if types.get(name.text.as_slice()).is_none() {
+        return Ok(());
+    }
+    define(alloc, &mut known.laid, name, 0)?;
+    Ok(())
+}
+
+// A name that has to be new in its table.
+fn define<'a, T: Copy>(
+    alloc: Global,
+    table: &mut Table<'a, T>,
+    name: &'a NameTree,
+    stands_for: T,
+) -> Result<(), NameFault>
+    ensures table { OnOk result (table.new ≡ table.old ++ (name.now.text, stands_for) ∷ []) }
+    ensures new { OnOk result (is_some (meaning table.old name.now.text) ≡ false) }
+    ensures again { IfErr result (λ e. Answers {A = Unit {0}} (Err e) (no_twice (made_again (is_some (meaning table.old name.now.text)) name.now))) }
+{
+    if table.define(name.text.as_slice(), stands_for)? {
+        return Ok(());
+    }
+    let text = name.text.copy(alloc)?;
+    Err(NameFault::Twice(text, name.at))
+}

@@ -1,0 +1,72 @@
+//! Types and their declarations.
+
+ghost use Rattle.std.specs.Prelude.{map};
+ghost use Rattle.rb_names.specs.Answers.{Answers};
+ghost use Rattle.rb_names.specs.Numbering.{all_of, numbered_type, numbered_constructor, numbered_data};
+
+use crate::fault::{NameFault, known};
+use crate::tables::Tables;
+use rb_core::seq::Seq;
+use rb_core::types::{Con, DataDecl, Ty};
+use rb_syntax::tree::{ConTree, TyTree, TypeTree};
+use std::alloc::Global;
+
+/// A type with its number.
+pub fn number_type(alloc: Global, tables: &Tables, tree: &TyTree) -> Result<Ty, NameFault>
+    ensures { Answers result (numbered_type tables.now tree.now) }
+{
+    match tree {
+        TyTree::Int(bits) => Ok(Ty::Int(*bits)),
+        TyTree::Named(name) => {
+            let number = known(alloc, name, tables.types.get(name.text.as_slice()))?;
+            Ok(Ty::Named(number))
+        }
+    }
+}
+
+fn number_fields(
+    alloc: Global,
+    tables: &Tables,
+    trees: &[TyTree],
+) -> Result<Seq<Ty>, NameFault>
+    ensures { Answers result (all_of (map (numbered_type tables.now) trees.now)) }
+{
+    let mut fields = Seq::new(alloc);
+    for tree in trees {
+        let field = number_type(alloc, tables, tree)?;
+        fields.push(field)?;
+    }
+    Ok(fields)
+}
+
+fn number_constructor(alloc: Global, tables: &Tables, tree: &ConTree) -> Result<Con, NameFault>
+    ensures { Answers result (numbered_constructor tables.now tree.now) }
+{
+    let fields = number_fields(alloc, tables, tree.fields.as_slice())?;
+    let name = tree.name.text.copy(alloc)?;
+    Ok(Con { name, fields })
+}
+
+fn number_constructors(
+    alloc: Global,
+    tables: &Tables,
+    trees: &[ConTree],
+) -> Result<Seq<Con>, NameFault>
+    ensures { Answers result (all_of (map (numbered_constructor tables.now) trees.now)) }
+{
+    let mut cons = Seq::new(alloc);
+    for tree in trees {
+        let con = number_constructor(alloc, tables, tree)?;
+        cons.push(con)?;
+    }
+    Ok(cons)
+}
+
+/// A data type with the numbers of its fields' types.
+pub fn number_data(alloc: Global, tables: &Tables, tree: &TypeTree) -> Result<DataDecl, NameFault>
+    ensures { Answers result (numbered_data tables.now tree.now) }
+{
+    let cons = number_constructors(alloc, tables, tree.cons.as_slice())?;
+    let name = tree.name.text.copy(alloc)?;
+    Ok(DataDecl { name, cons })
+}
