@@ -1,5 +1,5 @@
 -- A fault that ends a call is passed on by the calls round it, and parts are answered one after another.
-use Rattle.std.proofs.Common.{◌≡◌, ℕ, zero, suc, ◌+◌, ◌<◌, List, [], ◌∷◌, ◌++◌, map, drop, length, get_or, Ok, Err, IfErr, refl, sym, ap, ◌∙◌, subst, arith, add-one}
+use Rattle.std.proofs.Common.{◌≡◌, ℕ, suc, ◌+◌, ◌<◌, List, [], ◌∷◌, ◌++◌, map, drop, length, get_or, Ok, Err, IfErr, refl, sym, ap, ◌∙◌, subst, add-one}
 use Rattle.std.specs.Result.{IsErrAnd}
 use Rattle.rb_names.specs.declared.fault.NameFault.{NameFault}
 use Rattle.rb_names.specs.declared.fault.NameFault.TheVariants.{Twice, Unknown, NoMain, Memory}

@@ -1,21 +1,18 @@
 -- What tables know while definitions are gone through.
-use Rattle.std.proofs.Common.{◌≡◌, ℕ, zero, suc, ◌+◌, ◌<◌, Bool, true, false, ◌&&◌, ◌||◌, cond, List, [], ◌∷◌, ◌++◌, map, drop, length, get_or, Option, Some, None, is_some, Ok, Err, refl, sym, ap, ◌∙◌, subst, arith, add-one}
-use Rattle.std.specs.List.{list_any, flat_map}
+use Rattle.std.proofs.Common.{◌≡◌, ℕ, Bool, true, false, ◌&&◌, ◌||◌, cond, List, [], ◌∷◌, ◌++◌, Option, Some, None, is_some, Ok, Err, refl, sym, ◌∙◌, subst}
+use Rattle.std.specs.List.{list_any}
 use Rattle.std.specs.Str.{bytes_eq}
-use Rattle.std.specs.Map.{lookup}
-use Rattle.std.proofs.lemmas.List.{append_assoc, append-nil, length-append}
 use Rattle.rb_core.specs.declared.types.ConRef.{ConRef}
 use Rattle.rb_syntax.specs.declared.tree.NameTree.{NameTree}
-use Rattle.rb_syntax.specs.declared.tree.ConTree.{ConTree}
 use Rattle.rb_names.specs.declared.fault.NameFault.{NameFault}
 use Rattle.rb_names.specs.declared.fault.NameFault.TheVariants.{Twice, Unknown, NoMain, Memory}
 use Rattle.rb_names.specs.Numbering.{Resolved}
 use Rattle.rb_names.specs.declared.tables.Defining.{Defining}
 use Rattle.rb_names.specs.Tables.{Name, Table, meaning}
-use Rattle.rb_names.specs.Definitions.{Kind, OfType, OfConstructor, OfFunction, OfLayout, Definition, same_kind, same_definition, first_again, constructor_definition, constructors_from, layout_definition}
+use Rattle.rb_names.specs.Definitions.{Kind, OfType, OfConstructor, OfFunction, OfLayout, Definition, same_kind, first_again}
 use Rattle.rb_names.specs.Programs.{no_twice}
 use Rattle.rb_names.specs.Answers.{Answers}
-use Rattle.rb_names.specs.Defining.{is_defined, Knows, AreKnown, AreAdded, IsAgain, HasNames, made_again}
+use Rattle.rb_names.specs.Defining.{is_defined, Knows, AreKnown, AreAdded, IsAgain, made_again}
 
 pub any-append : {A : Type 0} (p : A → Bool) (xs ys : List A) → list_any p (xs ++ ys) ≡ (list_any p xs || list_any p ys)
 any-append p [] ys = refl

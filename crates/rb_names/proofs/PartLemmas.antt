@@ -5,7 +5,6 @@ use Rattle.rb_core.specs.declared.pattern.Pat.{Pat}
 use Rattle.rb_core.specs.declared.expression.Expr.{Expr}
 use Rattle.rb_core.specs.declared.expression.Clause.{Clause}
 use Rattle.rb_core.specs.declared.program.Param.{Param}
-use Rattle.rb_core.specs.declared.program.Fun.{Fun}
 use Rattle.rb_core.specs.declared.layout_decl.Arm.{Arm}
 use Rattle.rb_core.specs.declared.layout_decl.LayItem.{LayItem}
 use Rattle.rb_core.specs.declared.layout_decl.LayTree.{LayTree}
@@ -73,14 +72,20 @@ module _ (t : Tables) where
     pub function-body : (ps : List Param) (u : Ty) (e : NameFault) → all_of (map (numbered_param t scope) f.params) ≡ Ok ps → numbered_type t f.result ≡ Ok u
         → numbered_expression t f.body scope next ≡ Err e → numbered_function t f ≡ Err e
     function-body ps u e h r g =
-        rw (sym (ap (λ s. all_of (map (numbered_param t s) f.params)) opened) ∙ h, r,
-        sym (ap (λ s. numbered_expression t f.body s (length (param_binders f.params))) opened) ∙ sym (ap (numbered_expression t f.body scope) counted) ∙ g) refl
+        rw (
+          sym (ap (λ s. all_of (map (numbered_param t s) f.params)) opened) ∙ h,
+          r,
+          sym (ap (λ s. numbered_expression t f.body s (length (param_binders f.params))) opened) ∙ sym (ap (numbered_expression t f.body scope) counted) ∙ g,
+        ) refl
 
     pub function-found : (ps : List Param) (u : Ty) (e : Numbered Expr) → all_of (map (numbered_param t scope) f.params) ≡ Ok ps → numbered_type t f.result ≡ Ok u
         → numbered_expression t f.body scope next ≡ Ok e → numbered_function t f ≡ Ok (record { name = f.name.text; params = ps; result = u; body = e.what })
     function-found ps u e h r g =
-        rw (sym (ap (λ s. all_of (map (numbered_param t s) f.params)) opened) ∙ h, r,
-        sym (ap (λ s. numbered_expression t f.body s (length (param_binders f.params))) opened) ∙ sym (ap (numbered_expression t f.body scope) counted) ∙ g) refl
+        rw (
+          sym (ap (λ s. all_of (map (numbered_param t s) f.params)) opened) ∙ h,
+          r,
+          sym (ap (λ s. numbered_expression t f.body s (length (param_binders f.params))) opened) ∙ sym (ap (numbered_expression t f.body scope) counted) ∙ g,
+        ) refl
 
 -- A file whose tables were found.
 pub program-fails : {A B : Type 0} (twice : Option NameTree) (all found : Tables) (rule : Tables → Resolved A) (go : A → Resolved B) (f : NameFault)

@@ -1,6 +1,5 @@
 -- Patterns, form by form.
-use Rattle.std.proofs.Common.{◌≡◌, ℕ, List, map, ap}
-use Rattle.std.specs.List.{flat_map}
+use Rattle.std.proofs.Common.{◌≡◌, ℕ, List, map}
 use Rattle.rb_core.specs.declared.pattern.Pat.{Pat}
 use Rattle.rb_syntax.specs.declared.tree.NameTree.{NameTree}
 use Rattle.rb_syntax.specs.declared.tree.PatTree.{PatTree}
@@ -44,4 +43,3 @@ module _ (t : Tables) (scope : Scope) where
   pub pattern-Con : (at : ℕ) (name : NameTree) (ps : List PatTree) → numbered_pattern t scope (P.Con at name ps) ≡ pattern_step t scope (pat.Con at name (map (numbered_pattern t scope) ps))
   unfolding P.roll-PatTree denote.Hole.Carrier.roll
   pattern-Con at name ps = fold-roll-PatTree (Resolved Pat) (pattern_step t scope) (pat.Con at name ps)
-

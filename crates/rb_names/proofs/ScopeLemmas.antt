@@ -9,7 +9,6 @@ use Rattle.rb_syntax.specs.declared.tree.PatTree.{PatTree}
 use Rattle.rb_syntax.specs.declared.tree.PatTree as P
 use Rattle.rb_names.specs.Tables.{Name, meaning}
 use Rattle.rb_names.specs.Scopes.{Scope, inside, nearest, names_in, with_name, with_names}
-use Rattle.rb_names.proofs.ListLemmas.{drop-here}
 use Rattle.rb_names.proofs.PatternEquations.{names-Con}
 
 pub drop-reverse : {A : Type 0} (n : ℕ) (xs : List A) → drop (length xs - n) (reverse xs) ≡ reverse (take n xs)

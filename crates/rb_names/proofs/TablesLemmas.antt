@@ -1,5 +1,5 @@
 -- The tables of a file, item by item.
-use Rattle.std.proofs.Common.{◌≡◌, ℕ, zero, suc, ◌+◌, ◌<◌, Bool, true, false, cond, ◌||◌, List, [], ◌∷◌, ◌++◌, map, drop, length, get_or, Option, Some, None, is_some, Ok, Err, refl, sym, ap, ◌∙◌, subst, arith, add-one}
+use Rattle.std.proofs.Common.{◌≡◌, ℕ, suc, ◌+◌, ◌<◌, Bool, true, false, cond, ◌||◌, List, [], ◌∷◌, ◌++◌, map, drop, length, get_or, Option, Some, None, is_some, Ok, Err, refl, sym, ap, ◌∙◌, subst, add-one}
 use Rattle.std.specs.List.{list_any, flat_map}
 use Rattle.std.specs.Str.{bytes_eq}
 use Rattle.std.specs.Cmp.Lexicographic.{bytes_decides}
@@ -37,8 +37,15 @@ module _ (t after : Tables) where
       → (rest : List ItemTree) → with_rest after rest ≡ with_rest t (top.Types tree ∷ rest)
   type-rest tree ty is types constructors functions rest =
       let long : length (t.types ++ (tree.name.text, length t.types) ∷ []) ≡ suc (length t.types) = length-append t.types ((tree.name.text, length t.types) ∷ []) ∙ add-one (length t.types) in
-      rw (types, constructors, functions, is, table-rest t.types tree.name.text (type_names rest), long,
-      append_assoc t.constructors (constructors_from (length t.types) 0 tree.cons) (constructors_of (suc (length t.types)) (types_in rest))) refl
+      rw (
+        types,
+        constructors,
+        functions,
+        is,
+        table-rest t.types tree.name.text (type_names rest),
+        long,
+        append_assoc t.constructors (constructors_from (length t.types) 0 tree.cons) (constructors_of (suc (length t.types)) (types_in rest)),
+      ) refl
 
   pub function-rest : (f : FunTree) → after.functions ≡ t.functions ++ (f.name.text, length t.functions) ∷ [] → after.types ≡ t.types
       → after.constructors ≡ t.constructors → (rest : List ItemTree) → with_rest after rest ≡ with_rest t (top.Funs f ∷ rest)

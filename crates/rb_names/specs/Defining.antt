@@ -1,5 +1,5 @@
 -- Definitions gone through one after the other, with the tables of those before.
-use Rattle.std.specs.Prelude.{◌≡◌, ℕ, Bool, List, [], ◌∷◌, ◌++◌, ◌&&◌, length, is_some, Err, if◌then◌else◌, Option, Some, None}
+use Rattle.std.specs.Prelude.{◌≡◌, Bool, List, ◌++◌, ◌&&◌, length, is_some, Err, if◌then◌else◌, Option, Some, None}
 use Rattle.std.specs.List.{list_any}
 use Rattle.std.specs.Str.{bytes_eq}
 use Rattle.rb_syntax.specs.declared.tree.NameTree.{NameTree}

@@ -8,7 +8,6 @@ use Rattle.rb_syntax.specs.declared.tree.NameTree.{NameTree}
 use Rattle.rb_syntax.specs.declared.tree.ItemTree.{ItemTree}
 use Rattle.rb_syntax.specs.declared.tree.ItemTree.TheVariants as top
 use Rattle.rb_syntax.specs.declared.tree.FileTree.{FileTree}
-use Rattle.rb_names.specs.declared.fault.NameFault.{NameFault}
 use Rattle.rb_names.specs.declared.fault.NameFault.TheVariants.{Twice, NoMain}
 use Rattle.rb_names.specs.declared.tables.Tables.{Tables}
 use Rattle.rb_names.specs.declared.items.Items.{Items}

@@ -60,11 +60,7 @@ fn number_split(alloc: Global, tables: &Tables, tree: &SplitTree) -> Result<LayT
 }
 
 #[cycle(splitting)]
-fn number_arms(
-    alloc: Global,
-    tables: &Tables,
-    trees: &[ArmTree],
-) -> Result<Seq<Arm>, NameFault>
+fn number_arms(alloc: Global, tables: &Tables, trees: &[ArmTree]) -> Result<Seq<Arm>, NameFault>
     ensures { Answers result (all_of (map (numbered_arm tables.now) trees.now)) }
 {
     let mut arms = Seq::new(alloc);

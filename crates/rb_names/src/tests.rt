@@ -34,10 +34,16 @@ fn constant(alloc: Global, at: u32, text: &[u8], body: ExprTree) -> Result<ItemT
 }
 
 /// `type T = A;`
-fn data(alloc: Global, at: u32, text: &[u8], con: &[u8]) -> Result<ItemTree, AllocError> {
+fn data(
+    alloc: Global,
+    at: u32,
+    text: &[u8],
+    con_at: u32,
+    con: &[u8],
+) -> Result<ItemTree, AllocError> {
     let mut cons = Seq::new(alloc);
     cons.push(ConTree {
-        name: name(alloc, at + 2, con)?,
+        name: name(alloc, con_at, con)?,
         fields: Seq::new(alloc),
     })?;
     Ok(ItemTree::Types(TypeTree {
@@ -46,16 +52,16 @@ fn data(alloc: Global, at: u32, text: &[u8], con: &[u8]) -> Result<ItemTree, All
     }))
 }
 
-/// `layout T <8> = A : { inline .0 };`, with the leaf's words left out
-fn layout(alloc: Global, at: u32, text: &[u8], con: &[u8]) -> Result<ItemTree, AllocError> {
-    let provenance = PatTree::Con(at + 6, name(alloc, at + 6, con)?, Seq::new(alloc));
+/// A layout of type `text` at token `at`, whose one leaf has the constructor `A` and no words.
+fn layout(alloc: Global, at: u32, text: &[u8]) -> Result<ItemTree, AllocError> {
+    let provenance = PatTree::Con(40, name(alloc, 40, b"A")?, Seq::new(alloc));
     let mut shape = Seq::new(alloc);
     shape.push(8)?;
     Ok(ItemTree::Layouts(LayoutTree {
-        at,
-        ty: name(alloc, at + 1, text)?,
+        at: 0,
+        ty: name(alloc, at, text)?,
         shape,
-        tree: SplitTree::Leaf(at + 6, provenance, Seq::new(alloc)),
+        tree: SplitTree::Leaf(40, provenance, Seq::new(alloc)),
     }))
 }
 
@@ -81,63 +87,69 @@ fn is_unknown(answer: Result<Program, NameFault>, text: &[u8], place: u32) -> bo
 }
 
 #[test]
-fn main_twice_comes_before_an_unknown_name(alloc: Global) -> Result<(), Fail> {
+fn main_twice_comes_before_an_unknown_name(rt: HostRuntime) -> Result<(), Fail> {
+    let alloc = rt.alloc();
     // fun main(): u8 = y; fun main(): u8 = 0;
     let a = constant(alloc, 1, b"main", variable(alloc, 7, b"y")?)?;
     let b = constant(alloc, 10, b"main", ExprTree::Num(16, 0))?;
     let tree = file(alloc, a, b)?;
-    assert!(is_twice(resolve(alloc, &tree), b"main", 10));
+    assert!(rt; is_twice(resolve(alloc, &tree), b"main", 10));
     Ok(())
 }
 
 #[test]
-fn an_unknown_variable(alloc: Global) -> Result<(), Fail> {
+fn an_unknown_variable(rt: HostRuntime) -> Result<(), Fail> {
+    let alloc = rt.alloc();
     // fun f(): u8 = 0; fun main(): u8 = y;
     let a = constant(alloc, 1, b"f", ExprTree::Num(7, 0))?;
     let b = constant(alloc, 10, b"main", variable(alloc, 16, b"y")?)?;
     let tree = file(alloc, a, b)?;
-    assert!(is_unknown(resolve(alloc, &tree), b"y", 16));
+    assert!(rt; is_unknown(resolve(alloc, &tree), b"y", 16));
     Ok(())
 }
 
 #[test]
-fn no_main(alloc: Global) -> Result<(), Fail> {
+fn no_main(rt: HostRuntime) -> Result<(), Fail> {
+    let alloc = rt.alloc();
     let tree = FileTree {
         items: Seq::new(alloc),
     };
     let answer = resolve(alloc, &tree);
-    assert!(matches!(answer, Err(NameFault::NoMain)));
+    assert!(rt; matches!(answer, Err(NameFault::NoMain)));
     Ok(())
 }
 
 #[test]
-fn a_constructor_of_two_types(alloc: Global) -> Result<(), Fail> {
+fn a_constructor_of_two_types(rt: HostRuntime) -> Result<(), Fail> {
+    let alloc = rt.alloc();
     // type T = A; type S = A;
-    let a = data(alloc, 1, b"T", b"A")?;
-    let b = data(alloc, 6, b"S", b"A")?;
+    let a = data(alloc, 1, b"T", 3, b"A")?;
+    let b = data(alloc, 6, b"S", 8, b"A")?;
     let tree = file(alloc, a, b)?;
-    assert!(is_twice(resolve(alloc, &tree), b"A", 8));
+    assert!(rt; is_twice(resolve(alloc, &tree), b"A", 8));
     Ok(())
 }
 
 #[test]
-fn a_second_layout(alloc: Global) -> Result<(), Fail> {
+fn a_second_layout(rt: HostRuntime) -> Result<(), Fail> {
+    let alloc = rt.alloc();
     // type T = A; layout T ..; layout T ..;
     let mut items = Seq::new(alloc);
-    items.push(data(alloc, 1, b"T", b"A")?)?;
-    items.push(layout(alloc, 5, b"T", b"A")?)?;
-    items.push(layout(alloc, 20, b"T", b"A")?)?;
+    items.push(data(alloc, 1, b"T", 3, b"A")?)?;
+    items.push(layout(alloc, 6, b"T")?)?;
+    items.push(layout(alloc, 21, b"T")?)?;
     let tree = FileTree { items };
-    assert!(is_twice(resolve(alloc, &tree), b"T", 21));
+    assert!(rt; is_twice(resolve(alloc, &tree), b"T", 21));
     Ok(())
 }
 
 #[test]
-fn two_layouts_of_no_type(alloc: Global) -> Result<(), Fail> {
-    let a = layout(alloc, 0, b"T", b"A")?;
-    let b = layout(alloc, 15, b"T", b"A")?;
+fn two_layouts_of_no_type(rt: HostRuntime) -> Result<(), Fail> {
+    let alloc = rt.alloc();
+    let a = layout(alloc, 1, b"T")?;
+    let b = layout(alloc, 16, b"T")?;
     let tree = file(alloc, a, b)?;
-    assert!(is_unknown(resolve(alloc, &tree), b"T", 1));
+    assert!(rt; is_unknown(resolve(alloc, &tree), b"T", 1));
     Ok(())
 }
 
@@ -183,13 +195,14 @@ fn vars_of(program: &Program) -> Option<(u32, u32)> {
 }
 
 #[test]
-fn an_inner_variable_hides_an_outer_one(alloc: Global) -> Result<(), Fail> {
+fn an_inner_variable_hides_an_outer_one(rt: HostRuntime) -> Result<(), Fail> {
+    let alloc = rt.alloc();
     let tree = hiding(alloc)?;
     let answer = resolve(alloc, &tree);
     let vars = match &answer {
         Ok(program) => vars_of(program),
         Err(_) => None,
     };
-    assert!(vars == Some((1, 0)));
+    assert!(rt; vars == Some((1, 0)));
     Ok(())
 }

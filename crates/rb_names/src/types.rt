@@ -24,11 +24,7 @@ pub fn number_type(alloc: Global, tables: &Tables, tree: &TyTree) -> Result<Ty, 
     }
 }
 
-fn number_fields(
-    alloc: Global,
-    tables: &Tables,
-    trees: &[TyTree],
-) -> Result<Seq<Ty>, NameFault>
+fn number_fields(alloc: Global, tables: &Tables, trees: &[TyTree]) -> Result<Seq<Ty>, NameFault>
     ensures { Answers result (all_of (map (numbered_type tables.now) trees.now)) }
 {
     let mut fields = Seq::new(alloc);

@@ -1,4 +1,4 @@
-use Rattle.std.proofs.Common.{◌≡◌, ◌∙◌, sym, ap}
+use Rattle.std.proofs.Common.{◌∙◌}
 use Rattle.rb_names.proofs.ScopeLemmas.{names-next, names-whole}
 use Rattle.rb_names.proofs.pattern.+binding.Goals as goal
 

@@ -1,4 +1,4 @@
-use Rattle.std.proofs.Common.{refl, sym, ◌∙◌, ap}
+use Rattle.std.proofs.Common.{sym, ◌∙◌}
 use Rattle.rb_names.proofs.ScopeLemmas.{with_name-there, with_name-new}
 use Rattle.rb_names.proofs.pattern.add_name.Goals as goal
 

@@ -7,12 +7,16 @@ use Rattle.rb_names.proofs.tables.define_all.Goals as goal
 pub loop-item-init : goal.loop-item-init
 loop-item-init c = record {
   tables = rw (c.new.ensures, c.new-2.ensures, c.new-3.ensures) refl;
-  twice = ([], record {
-    types = λ q. rw c.new.ensures refl;
-    constructors = λ q. rw c.new-2.ensures refl;
-    functions = λ q. rw c.new-3.ensures refl;
-    laid = λ q. rw c.new-4.ensures refl;
-  }, refl);
+  twice = (
+    [],
+    record {
+      types = λ q. rw c.new.ensures refl;
+      constructors = λ q. rw c.new-2.ensures refl;
+      functions = λ q. rw c.new-3.ensures refl;
+      laid = λ q. rw c.new-4.ensures refl;
+    },
+    refl,
+  );
 }
 
 pub loop-item-preserved : goal.loop-item-preserved

@@ -1,4 +1,4 @@
-use Rattle.std.proofs.Common.{List, refl, map, subst, ◌∙◌}
+use Rattle.std.proofs.Common.{List, refl, map, subst}
 use Rattle.std.proofs.lemmas.List.{drop_all}
 use Rattle.rb_syntax.specs.declared.tree.ConTree.{ConTree}
 use Rattle.rb_names.specs.Definitions.{constructor_definition}

@@ -1,4 +1,4 @@
-use Rattle.std.proofs.Common.{◌≡◌, ◌∷◌, [], ◌++◌, List, map, refl, sym, ap, ◌∙◌, subst}
+use Rattle.std.proofs.Common.{◌∷◌, [], ◌++◌, List, map, refl, ap, ◌∙◌, subst}
 use Rattle.rb_syntax.specs.declared.tree.ConTree.{ConTree}
 use Rattle.rb_names.specs.declared.tables.Defining.{Defining}
 use Rattle.rb_names.specs.Definitions.{OfType, constructor_definition, constructors_from}
