@@ -1,5 +1,6 @@
 pub mod ArgumentsRead
 pub mod ComputedLaws
+pub mod ExecLaws
 pub mod IntegerAgain
 pub mod IntegerBodies
 pub mod IntegerFit
@@ -17,3 +18,5 @@ pub mod StraightLaws
 pub mod StraightRuns
 pub mod Tokens
 pub mod VariableLaws
+pub mod WordTexts
+pub mod WordsRead

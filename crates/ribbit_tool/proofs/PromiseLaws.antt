@@ -1,6 +1,10 @@
 -- What was due and how it was delivered give what the program promises.
 use Rattle.std.proofs.Common.{◌≡◌, ◌≢◌, ℕ, ◌+◌, ◌⊎◌, inl, inr, List, [], map, length, sym, ap, subst, ◌∙◌, arith, IsTrue, Option, Some, None, Ok, Err}
-use Rattle.std.proofs.lemmas.Bool.{cases_lt}
+use Rattle.std.proofs.lemmas.Bool.{cases_lt, cond_both}
+use Rattle.std.specs.Prelude.{slice_get, ◌==◌}
+use Rattle.rb_bytes.specs.Memory.{empty_memory}
+use Rattle.rb_machine.specs.Runs.{params_in}
+use Rattle.rb_target.specs.Meaning.{run_of}
 use Rattle.rb_core.specs.declared.value.Value.{Num}
 use Rattle.rb_core.specs.declared.outcome.SourceEnd.{SourceEnd}
 use Rattle.rb_core.specs.declared.outcome.SourceEnd.TheVariants as source
@@ -9,8 +13,13 @@ use Rattle.rb_core.specs.Meaning.{call_of}
 use Rattle.rb_edge.specs.Faults.{Rose}
 use Rattle.ribbit_tool.specs.Answer.{Due}
 use Rattle.ribbit_tool.specs.Arguments.{Numbers}
-use Rattle.ribbit_tool.specs.Command.{Limits, Parsed, run, command_of}
+use Rattle.ribbit_tool.specs.Command.{Limits, Parsed, run, exec, command_of}
 use Rattle.ribbit_tool.specs.Delivery.{Change, Took, TookFront, Stood, IsDelivered, output, error_line, output_failed, error_failed}
+use Rattle.rb_target.specs.declared.code.CodeFun.{CodeFun}
+use Rattle.rb_target.specs.declared.outcome.End.{End}
+use Rattle.rb_target.specs.declared.outcome.End.TheVariants.{Returned, Spent, Full, Trapped}
+use Rattle.ribbit_tool.specs.Executing.{IsCodeDue, run as executed, faulty, no_code, code_limit, end_due, outcome_due, named_due, fun_named}
+use Rattle.ribbit_tool.specs.Limited.{IsLimited}
 use Rattle.ribbit_tool.specs.Lines.{write_fault_line}
 use Rattle.ribbit_tool.specs.Promise.{Reading, Counting, IsGiven, IsAnswered, IsRun, IsRight}
 use Rattle.ribbit_tool.specs.Results.{Holds, IsReadDue, IsResultOf, IsAnswer, answered, source_failed, IsDue, composed, out_of_memory}
@@ -21,6 +30,8 @@ same_answer : (parsed : Parsed) (seen held : Holds) (due : Due) → ((name : Lis
 same_answer (Err word) seen held due e h = h
 same_answer (Ok (run file limits values)) seen held due e h =
     subst (λ (o : Option (List ℕ)). IsReadDue o (λ bytes. IsFileDue bytes limits values due) due) (e file) h
+same_answer (Ok (exec code function limits words)) seen held due e h =
+    subst (λ (o : Option (List ℕ)). IsReadDue o (λ bytes. IsLimited code_limit (λ bs d. IsCodeDue function limits words bs d) bytes due) due) (e code) h
 
 -- No answer has the status of a write fault.
 
@@ -39,20 +50,43 @@ program_not_8 : (bytes : List ℕ) (limits : Limits) (words : List (List ℕ)) (
 program_not_8 bytes limits words due (unbuilt none e) = by_status due _ e (λ f. omega (arith, f))
 program_not_8 bytes limits words due (ran p accepted h) = run_not_8 p limits _ due h
 
-file_not_8 : (bytes : List ℕ) (limits : Limits) (words : List (List ℕ)) (due : Due) → IsFileDue bytes limits words due → due.status ≢ 8
-file_not_8 bytes limits words due h =
-    elim (cases_lt file_limit (length bytes)) [
+end_not_8 : (e : End) (calls steps : ℕ) → (end_due e calls steps).status ≢ 8
+end_not_8 (Returned words left) calls steps e = absurd (omega (arith, e))
+end_not_8 Spent calls steps e = absurd (omega (arith, e))
+end_not_8 (Full f) calls steps e = absurd (omega (arith, e))
+end_not_8 (Trapped t) calls steps e = absurd (omega (arith, e))
+
+named_not_8 : (funs : List CodeFun) (name : List ℕ) (limits : Limits) (words : List ℕ) (o : Option ℕ) → (named_due funs name limits words o).status ≢ 8
+named_not_8 funs name limits words None = λ e. absurd (omega (arith, e))
+named_not_8 funs name limits words (Some f) =
+    let o = run_of funs limits.calls f words (empty_memory limits.region) in
+    cond_both (length words == params_in (slice_get funs f)) (outcome_due o limits.calls) _ (λ (d : Due). d.status ≢ 8)
+    (λ same. end_not_8 o.ended limits.calls o.world.taken) (λ differs e. absurd (omega (arith, e)))
+
+code_not_8 : (function : List ℕ) (limits : Limits) (words : List ℕ) (bytes : List ℕ) (due : Due) → IsCodeDue function limits words bytes due → due.status ≢ 8
+code_not_8 function limits words bytes due (executed funs valid text e) = by_status due _ e (named_not_8 funs function limits words (fun_named funs function))
+code_not_8 function limits words bytes due (faulty funs text fault first e) = by_status due _ e (λ f. omega (arith, f))
+code_not_8 function limits words bytes due (no_code at stops e) = by_status due _ e (λ f. omega (arith, f))
+
+limited_not_8 : (limit : ℕ) (P : List ℕ → Due → Type 0) (due : Due) → ((bytes : List ℕ) → P bytes due → due.status ≢ 8)
+    → (bytes : List ℕ) → IsLimited limit P bytes due → due.status ≢ 8
+limited_not_8 limit P due not_8 bytes h =
+    elim (cases_lt limit (length bytes)) [
       | inl over ↦ by_status due _ (h.long over) (λ f. omega (arith, f))
-      | inr within ↦ program_not_8 bytes limits words due (h.short within)
+      | inr within ↦ not_8 bytes (h.short within)
     ]
 
-read_not_8 : (o : Option (List ℕ)) (limits : Limits) (words : List (List ℕ)) (due : Due) → IsReadDue o (λ bytes. IsFileDue bytes limits words due) due → due.status ≢ 8
-read_not_8 None limits words due e = by_status due _ e (λ f. omega (arith, f))
-read_not_8 (Some bytes) limits words due h = file_not_8 bytes limits words due h
+read_not_8 : (limit : ℕ) (P : List ℕ → Due → Type 0) (due : Due) → ((bytes : List ℕ) → P bytes due → due.status ≢ 8)
+    → (o : Option (List ℕ)) → IsReadDue o (λ bytes. IsLimited limit P bytes due) due → due.status ≢ 8
+read_not_8 limit P due not_8 None e = by_status due _ e (λ f. omega (arith, f))
+read_not_8 limit P due not_8 (Some bytes) h = limited_not_8 limit P due not_8 bytes h
 
 result_not_8 : (parsed : Parsed) (held : Holds) (due : Due) → IsResultOf parsed held due → due.status ≢ 8
 result_not_8 (Err word) held due e = by_status due _ e (λ f. omega (arith, f))
-result_not_8 (Ok (run file limits values)) held due h = read_not_8 (held file) limits values due h
+result_not_8 (Ok (run file limits values)) held due h =
+    read_not_8 file_limit (λ bs d. IsProgramDue bs limits values d) due (λ bytes. program_not_8 bytes limits values due) (held file) h
+result_not_8 (Ok (exec code function limits words)) held due h =
+    read_not_8 code_limit (λ bs d. IsCodeDue function limits words bs d) due (λ bytes. code_not_8 function limits words bytes due) (held code) h
 
 module _ (words : List (List ℕ)) (source : Reading) (out err : Change) (steps : Counting) (status : ℕ) where
   abbrev Owed : Due → Type 0

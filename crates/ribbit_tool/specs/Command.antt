@@ -1,5 +1,5 @@
 -- The command line: the words' meaning, or the number of the first word at fault.
-use Rattle.std.specs.Prelude.{ℕ, List, [], ◌∷◌, codes, Option, Some, None, Result, Ok, Err, if◌then◌else◌}
+use Rattle.std.specs.Prelude.{ℕ, ◌+◌, ◌-◌, ◌^◌, List, [], ◌∷◌, codes, Option, Some, None, Result, Ok, Err, if◌then◌else◌}
 use Rattle.std.specs.Str.{bytes_eq}
 use Rattle.rb_core.specs.Decimal.{number_in}
 
@@ -10,6 +10,7 @@ pub record Limits : Type 0 where
 
 pub data Command : Type 0 where
   run : (file : List ℕ) → (limits : Limits) → (values : List (List ℕ)) → Command
+  exec : (code : List ℕ) → (function : List ℕ) → (limits : Limits) → (words : List ℕ) → Command
 
 -- the command, or the number of the first word at fault; words are counted from 1
 abbrev pub Parsed : Type 0
@@ -28,13 +29,43 @@ at_number n (Some value) go = go value
 abbrev pub with_number : ℕ → ℕ → ℕ → List (List ℕ) → (ℕ → List (List ℕ) → Parsed) → Parsed
 with_number n low high words go = with_word n words (λ w ws. at_number n (number_in low high w) (λ value. go value ws))
 
+-- CALLS and REGION, from the word of this number on
+abbrev pub with_limits : ℕ → List (List ℕ) → (Limits → List (List ℕ) → Parsed) → Parsed
+with_limits n words go =
+    with_number n 0 1000000000 words (λ calls ws.
+    with_number (n + 1) 64 16777216 ws (λ region rest.
+    go (record { calls = calls; region = region }) rest))
+
 -- FILE CALLS REGION and zero or more VALUE
 abbrev pub run_words : List (List ℕ) → Parsed
-run_words words =
-    with_word 2 words (λ file ws.
-    with_number 3 0 1000000000 ws (λ calls vs.
-    with_number 4 64 16777216 vs (λ region values.
-    Ok (run file (record { calls = calls; region = region }) values))))
+run_words words = with_word 2 words (λ file ws. with_limits 3 ws (λ limits values. Ok (run file limits values)))
+
+abbrev pub first_number : ℕ → Option ℕ → Result (List ℕ) ℕ → Result (List ℕ) ℕ
+first_number n None rest = Err n
+first_number n (Some value) (Ok values) = Ok (value ∷ values)
+first_number n (Some value) (Err m) = Err m
+
+-- the numbers below 2^64 that the words from this number on spell, or the number of the first that spells none
+abbrev pub numbers_from : ℕ → List (List ℕ) → Result (List ℕ) ℕ
+numbers_from n [] = Ok []
+numbers_from n (w ∷ ws) = first_number n (number_in 0 (2 ^ 64 - 1) w) (numbers_from (n + 1) ws)
+
+abbrev pub exec_of : List ℕ → List ℕ → Limits → Result (List ℕ) ℕ → Parsed
+exec_of code function limits (Ok words) = Ok (exec code function limits words)
+exec_of code function limits (Err n) = Err n
+
+-- FUN CALLS REGION and zero or more WORD, behind CODE
+abbrev pub function_words : List ℕ → List (List ℕ) → Parsed
+function_words code words =
+    with_word 3 words (λ function ws.
+    with_limits 4 ws (λ limits rest.
+    exec_of code function limits (numbers_from 6 rest)))
+
+-- CODE FUN CALLS REGION and zero or more WORD
+abbrev pub exec_words : List (List ℕ) → Parsed
+exec_words words = with_word 2 words (λ code ws. function_words code ws)
 
 unfoldable pub command_of : List (List ℕ) → Parsed
-command_of words = with_word 1 words (λ w ws. if bytes_eq w (codes "run") then run_words ws else Err 1)
+command_of words = with_word 1 words (λ w ws.
+    if bytes_eq w (codes "run") then run_words ws else
+    if bytes_eq w (codes "exec") then exec_words ws else Err 1)

@@ -1,6 +1,11 @@
 -- The lines that the program writes. Each begins with the program's name and ends with byte 10.
-use Rattle.std.specs.Prelude.{ℕ, List, ◌++◌, codes}
+use Rattle.std.specs.Prelude.{ℕ, List, [], ◌∷◌, ◌++◌, codes}
 use Rattle.std.specs.Fmt.{decimal}
+use Rattle.rb_bytes.specs.declared.fault.Full.{Full}
+use Rattle.rb_bytes.specs.declared.fault.Trap.{Trap}
+use Rattle.rb_bytes.specs.declared.fault.Trap.TheVariants.{Astray, Unwritten, Unmatched}
+use Rattle.rb_target.specs.declared.fault.CodeFault.{CodeFault}
+use Rattle.rb_target.specs.declared.fault.CodeFault.TheVariants.{CodeSyntax, BadSlot, BadJump, BadCall, Memory}
 
 abbrev pub begun : List ℕ → List ℕ
 begun text = codes "ribbit: " ++ text
@@ -33,6 +38,32 @@ spent_line calls = ended (begun (codes "calls spent: ") ++ decimal calls)
 abbrev pub count_line : ℕ → ℕ → List ℕ
 count_line wanted found = ended (begun (codes "wanted ") ++ decimal wanted ++ codes " arguments, found " ++ decimal found)
 
+-- code that has no function of this name
+abbrev pub no_function_line : List ℕ → List ℕ
+no_function_line name = ended (begun (codes "no function ") ++ name)
+
+-- a block that doesn't fit
+abbrev pub full_line : Full → List ℕ
+full_line f = ended (begun (codes "region full: next ") ++ decimal f.next ++ codes ", size " ++ decimal f.size
+    ++ codes ", align " ++ decimal f.align ++ codes ", limit " ++ decimal f.limit)
+
+abbrev pub trap_line : Trap → List ℕ
+trap_line (Astray base offset) = ended (begun (codes "trap 30: base ") ++ decimal base ++ codes ", offset " ++ decimal offset)
+trap_line (Unwritten address) = ended (begun (codes "trap 31: address ") ++ decimal address)
+trap_line (Unmatched word) = ended (begun (codes "trap 32: word ") ++ decimal word)
+
+-- functions that are not valid together: the fault's kind, and where it stands
+abbrev pub at_instruction : ℕ → ℕ → ℕ → List ℕ
+at_instruction kind function instruction = ended (begun (codes "code ") ++ decimal kind
+    ++ codes ": function " ++ decimal function ++ codes ", instruction " ++ decimal instruction)
+
+abbrev pub code_line : CodeFault → List ℕ
+code_line (CodeSyntax at) = ended (begun (codes "code 20 at byte ") ++ decimal at)
+code_line (BadSlot n pc) = at_instruction 21 n pc
+code_line (BadJump n pc) = at_instruction 22 n pc
+code_line (BadCall n pc) = at_instruction 23 n pc
+code_line Memory = no_memory_line
+
 -- an argument, counted from 1, that is no value of uN
 abbrev pub misfit_line : ℕ → ℕ → List ℕ
 misfit_line number bits = ended (begun (codes "argument ") ++ decimal number ++ codes ": no value of u" ++ decimal bits ++ codes " at byte 0")
@@ -40,3 +71,16 @@ misfit_line number bits = ended (begun (codes "argument ") ++ decimal number ++ 
 -- a number on a line of its own
 abbrev pub number_line : ℕ → List ℕ
 number_line n = ended (decimal n)
+
+-- numbers, each after a blank
+abbrev pub spaced : List ℕ → List ℕ
+spaced [] = []
+spaced (n ∷ ns) = 32 ∷ decimal n ++ spaced ns
+
+-- numbers with one blank between
+abbrev pub listed : List ℕ → List ℕ
+listed [] = []
+listed (n ∷ ns) = decimal n ++ spaced ns
+
+abbrev pub words_line : List ℕ → List ℕ
+words_line words = ended (listed words)

@@ -16,7 +16,8 @@ use Rattle.ribbit_tool.specs.Answer.{Due, unrun}
 use Rattle.ribbit_tool.specs.Arguments.{Numbers, arguments_of}
 use Rattle.ribbit_tool.specs.Command.{Limits}
 use Rattle.ribbit_tool.specs.IntegerFunctions.{SpellsProgram}
-use Rattle.ribbit_tool.specs.Lines.{number_line, spent_line, unbuilt_line, file_bytes_line}
+use Rattle.ribbit_tool.specs.Limited.{IsLimited}
+use Rattle.ribbit_tool.specs.Lines.{number_line, spent_line, unbuilt_line}
 use Rattle.ribbit_tool.specs.Refining.{RefinesIntegers}
 use Rattle.rb_core.specs.Typing.{param_types}
 
@@ -54,7 +55,5 @@ pub data IsProgramDue (bytes : List ℕ) (limits : Limits) (words : List (List �
 abbrev pub file_limit : ℕ
 file_limit = 262144
 
--- a file over the limit is read one byte further, and no more
-pub record IsFileDue (bytes : List ℕ) (limits : Limits) (words : List (List ℕ)) (due : Due) : Type 0 where
-  pub long : file_limit < length bytes → due ≡ unrun 11 (file_bytes_line (file_limit + 1) file_limit)
-  pub short : length bytes ≤ file_limit → IsProgramDue bytes limits words due
+abbrev pub IsFileDue : List ℕ → Limits → List (List ℕ) → Due → Type 0
+IsFileDue bytes limits words due = IsLimited file_limit (λ bs d. IsProgramDue bs limits words d) bytes due

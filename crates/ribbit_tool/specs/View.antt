@@ -1,18 +1,27 @@
 -- Values of the program, as the definitions see them.
-use Rattle.std.specs.Prelude.{◌≡◌, ℕ, ◌+◌, length}
+use Rattle.std.specs.Prelude.{◌≡◌, ℕ, ◌+◌, length, Result, Err}
 use Rattle.ribbit_tool.specs.declared.command.Command as declared
+use Rattle.ribbit_tool.specs.declared.command.Command.TheVariants as form
+use Rattle.ribbit_tool.specs.declared.command.CommandFault.{CommandFault}
+use Rattle.ribbit_tool.specs.declared.command.CommandFault.TheVariants as fault
 use Rattle.ribbit_tool.specs.declared.limits.Limits as limits
 use Rattle.rb_target.specs.declared.outcome.End.{End}
 use Rattle.rb_target.specs.declared.outcome.End.TheVariants.{Returned, Spent, Full, Trapped}
 use Rattle.ribbit_tool.specs.declared.answer.Composed.{Composed}
 use Rattle.ribbit_tool.specs.Answer.{Due}
-use Rattle.ribbit_tool.specs.Command.{Command, Limits, run}
+use Rattle.ribbit_tool.specs.Command.{Command, Limits, run, exec}
 
 abbrev pub limits_view : limits.Limits → Limits
 limits_view l = record { calls = l.calls; region = l.region }
 
 abbrev pub command_view : declared.Command → Command
-command_view c = run c.file.now (limits_view c.limits) c.values.now
+command_view (form.Run file limits values) = run file.now (limits_view limits) values.now
+command_view (form.Exec code function limits words) = exec code.now function.now (limits_view limits) words
+
+-- words that are no command: the number of the first at fault
+abbrev pub IsUsage : {A : Type 0} → Result A ℕ → CommandFault → Type 0
+IsUsage parsed (fault.Usage n) = parsed ≡ Err n
+IsUsage parsed fault.Memory = Unit {0}
 
 abbrev pub due_of : Composed → ℕ → Due
 due_of c steps = record { status = c.status; text = c.text.items; steps = steps }

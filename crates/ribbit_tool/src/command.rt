@@ -1,19 +1,52 @@
 //! The command line: what the words ask for, or the first word at fault.
 
-ghost use Rattle.std.specs.Prelude.{◌≡◌, MatchResult, Ok, Err};
-ghost use Rattle.ribbit_tool.specs.Command.{command_of, run_words};
-ghost use Rattle.ribbit_tool.specs.View.{command_view};
+ghost use Rattle.std.specs.Prelude.{◌≡◌, ◌≤◌, List, MatchResult, Ok, ℕ};
+ghost use Rattle.ribbit_tool.specs.declared.command.CommandFault.TheVariants.{Memory};
+ghost use Rattle.ribbit_tool.specs.Command.{Limits as LimitsValue, Parsed, command_of, exec_words, function_words, numbers_from, run_words, with_limits};
+ghost use Rattle.ribbit_tool.specs.View.{command_view, limits_view, IsUsage};
 
 use crate::limits::Limits;
 use rb_core::decimal::number_in;
+use rb_core::seq::Seq;
 use rb_edge::seq::Name;
+use std::alloc::{AllocError, Global};
+use thiserror::Error;
 
-/// What the words ask for: a run of the function `main` of a file on these values.
-#[derive(Clone, Copy)]
-pub struct Command<'a> {
-    pub file: &'a [u8],
-    pub limits: Limits,
-    pub values: &'a [Name],
+/// What the words ask for.
+#[derive(Debug, Drop)]
+pub enum Command<'a> {
+    /// A run of the function `main` of a file on these values.
+    Run {
+        file: &'a [u8],
+        limits: Limits,
+        values: &'a [Name],
+    },
+    /// A run of a code's first function of this name on these words.
+    Exec {
+        code: &'a [u8],
+        function: &'a [u8],
+        limits: Limits,
+        words: Seq<u64>,
+    },
+}
+
+/// Why there is no command.
+#[derive(Clone, Copy, Debug, Drop, Error)]
+pub enum CommandFault {
+    /// The first word at fault, counted from 1. It is one more than the words where a word is missing.
+    #[error("words that are no command")]
+    Usage(usize),
+    /// Memory ran out.
+    #[error("no memory")]
+    Memory,
+}
+
+impl From<AllocError> for CommandFault {
+    ghost from_gives = { λ _ fault. fault ≡ Memory };
+
+    fn from(_error: AllocError) -> CommandFault {
+        CommandFault::Memory
+    }
 }
 
 const CALLS: u64 = 1_000_000_000;
@@ -22,45 +55,106 @@ const LEAST_REGION: u64 = 64;
 
 const REGION: u64 = 16_777_216;
 
-// The words behind `run`.
-fn parse_run<'a>(words: &'a [Name]) -> Result<Command<'a>, usize>
-    ensures { MatchResult result (λ c. run_words words.now ≡ Ok (command_view c)) (λ n. run_words words.now ≡ Err n) }
+/// The number of the first WORD behind `exec`.
+const FIRST_WORD: usize = 6;
+
+// CALLS and REGION, from the word of this number on, and the words behind them.
+fn parse_limits<'a>(number: usize, words: &'a [Name]) -> Result<(Limits, &'a [Name]), CommandFault>
+    requires { number ≤ 4 }
+    ensures { (go : LimitsValue → List (List ℕ) → Parsed) → MatchResult result
+        (λ p. with_limits number words.now go ≡ go (limits_view p.0) p.1.now)
+        (IsUsage (with_limits number words.now go)) }
 {
-    let [file, words @ ..] = words else {
-        return Err(2);
-    };
     let [word, words @ ..] = words else {
-        return Err(3);
+        return Err(CommandFault::Usage(number));
     };
     let Some(calls) = number_in(0, CALLS, word.as_slice()) else {
-        return Err(3);
+        return Err(CommandFault::Usage(number));
     };
-    let [word, values @ ..] = words else {
-        return Err(4);
+    let [word, words @ ..] = words else {
+        return Err(CommandFault::Usage(number + 1));
     };
     let Some(region) = number_in(LEAST_REGION, REGION, word.as_slice()) else {
-        return Err(4);
+        return Err(CommandFault::Usage(number + 1));
     };
-    Ok(Command {
+    Ok((Limits { calls, region }, words))
+}
+
+// The words behind `run`.
+fn parse_run<'a>(words: &'a [Name]) -> Result<Command<'a>, CommandFault>
+    ensures { MatchResult result (λ c. run_words words.now ≡ Ok (command_view c)) (IsUsage (run_words words.now)) }
+{
+    let [file, words @ ..] = words else {
+        return Err(CommandFault::Usage(2));
+    };
+    let (limits, values) = parse_limits(3, words)?;
+    Ok(Command::Run {
         file: file.as_slice(),
-        limits: Limits { calls, region },
+        limits,
         values,
     })
 }
 
-/// The command, or the number of the first word at fault, counted from 1. It is one more than the
-/// words where a word is missing.
+// The numbers that words spell, the first of which has the number 6.
+fn parse_numbers(alloc: Global, words: &[Name]) -> Result<Seq<u64>, CommandFault>
+    ensures { MatchResult result (λ numbers. numbers_from 6 words.now ≡ Ok numbers) (IsUsage (numbers_from 6 words.now)) }
+{
+    let mut numbers = Seq::new(alloc);
+    for (i, word) in words.iter().enumerate() {
+        match number_in(0, u64::MAX, word.as_slice()) {
+            Some(number) => numbers.push(number)?,
+            None => return Err(CommandFault::Usage(FIRST_WORD + i)),
+        }
+    }
+    Ok(numbers)
+}
+
+// The words behind `exec` and the code's file.
+fn parse_function<'a>(
+    alloc: Global,
+    code: &'a [u8],
+    words: &'a [Name],
+) -> Result<Command<'a>, CommandFault>
+    ensures { MatchResult result (λ c. function_words code.now words.now ≡ Ok (command_view c)) (IsUsage (function_words code.now words.now)) }
+{
+    let [function, words @ ..] = words else {
+        return Err(CommandFault::Usage(3));
+    };
+    let (limits, words) = parse_limits(4, words)?;
+    let numbers = parse_numbers(alloc, words)?;
+    Ok(Command::Exec {
+        code,
+        function: function.as_slice(),
+        limits,
+        words: numbers,
+    })
+}
+
+// The words behind `exec`.
+fn parse_exec<'a>(alloc: Global, words: &'a [Name]) -> Result<Command<'a>, CommandFault>
+    ensures { MatchResult result (λ c. exec_words words.now ≡ Ok (command_view c)) (IsUsage (exec_words words.now)) }
+{
+    let [code, words @ ..] = words else {
+        return Err(CommandFault::Usage(2));
+    };
+    parse_function(alloc, code.as_slice(), words)
+}
+
+/// The command, or the number of the first word at fault.
 #[tactic(auto, unfolding(crate::specs::Command::command_of))]
-pub fn parse<'a>(words: &'a [Name]) -> Result<Command<'a>, usize>
-    ensures { MatchResult result (λ c. command_of words.now ≡ Ok (command_view c)) (λ n. command_of words.now ≡ Err n) }
+pub fn parse<'a>(alloc: Global, words: &'a [Name]) -> Result<Command<'a>, CommandFault>
+    ensures { MatchResult result (λ c. command_of words.now ≡ Ok (command_view c)) (IsUsage (command_of words.now)) }
 {
     match words {
-        [] => Err(1),
+        [] => Err(CommandFault::Usage(1)),
         [first, rest @ ..] => {
             if first.as_slice() == b"run".as_slice() {
                 return parse_run(rest);
             }
-            Err(1)
+            if first.as_slice() == b"exec".as_slice() {
+                return parse_exec(alloc, rest);
+            }
+            Err(CommandFault::Usage(1))
         }
     }
 }

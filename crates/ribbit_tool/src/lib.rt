@@ -6,6 +6,9 @@ pub mod arguments;
 pub mod command;
 pub mod compile;
 pub mod delivery;
+#[cfg(test)]
+mod exec_tests;
+pub mod executing;
 pub mod integer;
 pub mod limits;
 pub mod line;

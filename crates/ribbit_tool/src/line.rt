@@ -1,10 +1,12 @@
 //! Texts that grow at their end, and the lines of refusals.
 
-ghost use Rattle.std.specs.Prelude.{◌≡◌, ◌++◌, OnOk, IfOk, codes};
+ghost use Rattle.std.specs.Prelude.{◌≡◌, ◌∷◌, ◌++◌, OnOk, IfOk, codes};
 ghost use Rattle.std.specs.Fmt.{decimal};
 ghost use Rattle.ribbit_tool.specs.Lines as line;
 
+use rb_bytes::fault::{Full, Trap};
 use rb_core::decimal::digits;
+use rb_target::fault::CodeFault;
 use std::alloc::{AllocError, Global};
 
 pub const READ_FAULT: &[u8] = b"ribbit: read fault\n";
@@ -104,11 +106,132 @@ pub fn misfit(alloc: Global, number: u64, bits: u64) -> Result<Vec<u8>, AllocErr
     end(text)
 }
 
+/// The line of code without a function of this name.
+pub fn no_function(alloc: Global, name: &[u8]) -> Result<Vec<u8>, AllocError>
+    ensures { IfOk result (λ text. text.items ≡ line.no_function_line name.now) }
+{
+    let mut text = begin(alloc, b"no function ")?;
+    push(&mut text, name)?;
+    end(text)
+}
+
+/// The line of a block that doesn't fit.
+pub fn full(alloc: Global, full: Full) -> Result<Vec<u8>, AllocError>
+    ensures { IfOk result (λ text. text.items ≡ line.full_line full) }
+{
+    let mut text = begin(alloc, b"region full: next ")?;
+    push_number(&mut text, full.next)?;
+    push(&mut text, b", size ")?;
+    push_number(&mut text, full.size)?;
+    push(&mut text, b", align ")?;
+    push_number(&mut text, full.align)?;
+    push(&mut text, b", limit ")?;
+    push_number(&mut text, full.limit)?;
+    end(text)
+}
+
+/// The line of a trap.
+pub fn trap(alloc: Global, trap: Trap) -> Result<Vec<u8>, AllocError>
+    ensures { IfOk result (λ text. text.items ≡ line.trap_line trap) }
+{
+    match trap {
+        Trap::Astray(base, offset) => {
+            let mut text = begin(alloc, b"trap 30: base ")?;
+            push_number(&mut text, base)?;
+            push(&mut text, b", offset ")?;
+            push_number(&mut text, offset)?;
+            end(text)
+        }
+        Trap::Unwritten(address) => {
+            let mut text = begin(alloc, b"trap 31: address ")?;
+            push_number(&mut text, address)?;
+            end(text)
+        }
+        Trap::Unmatched(word) => {
+            let mut text = begin(alloc, b"trap 32: word ")?;
+            push_number(&mut text, word)?;
+            end(text)
+        }
+    }
+}
+
+// The line of a fault of this kind at an instruction of a function.
+fn at_instruction(
+    alloc: Global,
+    kind: u64,
+    function: u64,
+    instruction: u64,
+) -> Result<Vec<u8>, AllocError>
+    ensures { IfOk result (λ text. text.items ≡ line.at_instruction kind function instruction) }
+{
+    let mut text = begin(alloc, b"code ")?;
+    push_number(&mut text, kind)?;
+    push(&mut text, b": function ")?;
+    push_number(&mut text, function)?;
+    push(&mut text, b", instruction ")?;
+    push_number(&mut text, instruction)?;
+    end(text)
+}
+
+/// The line of bytes that are no code.
+pub fn code(alloc: Global, fault: CodeFault) -> Result<Vec<u8>, AllocError>
+    ensures { IfOk result (λ text. text.items ≡ line.code_line fault) }
+{
+    match fault {
+        CodeFault::CodeSyntax(at) => {
+            let mut text = begin(alloc, b"code 20 at byte ")?;
+            push_number(&mut text, at as u64)?;
+            end(text)
+        }
+        CodeFault::BadSlot(function, instruction) => {
+            at_instruction(alloc, 21, function, instruction)
+        }
+        CodeFault::BadJump(function, instruction) => {
+            at_instruction(alloc, 22, function, instruction)
+        }
+        CodeFault::BadCall(function, instruction) => {
+            at_instruction(alloc, 23, function, instruction)
+        }
+        CodeFault::Memory => Vec::from_slice(alloc, NO_MEMORY),
+    }
+}
+
 /// A number on a line of its own.
 pub fn number(alloc: Global, number: u64) -> Result<Vec<u8>, AllocError>
     ensures { IfOk result (λ text. text.items ≡ line.number_line number) }
 {
     let mut text = Vec::new(alloc);
     push_number(&mut text, number)?;
+    end(text)
+}
+
+// A number after a blank.
+fn push_word(text: &mut Vec<u8>, number: u64) -> Result<(), AllocError>
+    ensures { OnOk result (text.new.items ≡ text.old.items ++ 32 ∷ decimal number) }
+{
+    text.push(b' ')?;
+    push_number(text, number)?;
+    Ok(())
+}
+
+// Numbers, each after a blank.
+fn push_spaced(text: &mut Vec<u8>, numbers: &[u64]) -> Result<(), AllocError>
+    ensures { OnOk result (text.new.items ≡ text.old.items ++ line.spaced numbers.now) }
+{
+    for number in numbers {
+        push_word(text, *number)?;
+    }
+    Ok(())
+}
+
+/// Numbers on a line, with one blank between.
+pub fn words(alloc: Global, words: &[u64]) -> Result<Vec<u8>, AllocError>
+    ensures { IfOk result (λ text. text.items ≡ line.words_line words.now) }
+{
+    let mut text = Vec::new(alloc);
+    if let [first, rest @ ..] = words {
+        push_number(&mut text, *first)?;
+        push_spaced(&mut text, rest)?;
+    }
     end(text)
 }

@@ -8,11 +8,11 @@ use std::test::Fail;
 
 /// What a call of `ribbit` did.
 #[derive(Drop)]
-struct Did {
-    status: u8,
-    out: Vec<u8>,
-    err: Vec<u8>,
-    steps: u128,
+pub struct Did {
+    pub status: u8,
+    pub out: Vec<u8>,
+    pub err: Vec<u8>,
+    pub steps: u128,
 }
 
 /// The file of the rows, under the name `E`.
@@ -24,7 +24,7 @@ fn list<T: Copy>(alloc: Global, items: &[T]) -> Result<Seq<T>, AllocError> {
 
 /// Calls `ribbit` on words with blanks between them. The source gives ten bytes a read, the output takes
 /// one a write, and the calls of these numbers fail.
-fn call(
+pub fn call(
     alloc: Global,
     words: &str,
     file: &[u8],

@@ -1,14 +1,18 @@
 //! The top call.
 
 ghost use Rattle.std.specs.Prelude.{◌≡◌, ◌≤◌, ℕ, List, IfOk, Ok};
-ghost use Rattle.ribbit_tool.specs.Command.{command_of, run};
+ghost use Rattle.rb_edge.specs.declared.whole.ReadFault.TheVariants.{Failed};
+ghost use Rattle.ribbit_tool.specs.Answer.{unrun};
+ghost use Rattle.ribbit_tool.specs.Command.{command_of, run, exec};
+ghost use Rattle.ribbit_tool.specs.Lines.{read_fault_line};
 ghost use Rattle.ribbit_tool.specs.Promise.{IsRun, IsRight};
 ghost use Rattle.ribbit_tool.specs.Results.{IsComposed};
-ghost use Rattle.ribbit_tool.specs.View.{limits_view, due_of, Answers};
+ghost use Rattle.ribbit_tool.specs.View.{command_view, limits_view, due_of, Answers};
 
 use crate::answer::Composed;
-use crate::command::parse;
+use crate::command::{Command, CommandFault, parse};
 use crate::delivery::deliver;
+use crate::executing::{CODE_LIMIT, run_code};
 use crate::limits::Limits;
 use crate::line::{self, NO_MEMORY, READ_FAULT};
 use crate::running::{FILE_LIMIT, run_file};
@@ -19,6 +23,20 @@ use rb_edge::steps::{Ledger, Steps};
 use rb_edge::whole::{ReadFault, read_whole};
 use rb_edge::words::Words;
 use std::alloc::{AllocError, Global};
+
+// The answer where a file was not read.
+fn refuse_reading(alloc: Global, fault: ReadFault) -> Result<Composed, AllocError>
+    ensures failed { IfOk result (λ c. fault ≡ Failed) }
+    ensures due { IfOk result (λ c. due_of c 0 ≡ unrun 7 read_fault_line) }
+{
+    match fault {
+        ReadFault::Memory => Err(AllocError),
+        ReadFault::Failed => {
+            let text = Vec::from_slice(alloc, READ_FAULT)?;
+            Ok(Composed { status: 7, text })
+        }
+    }
+}
 
 // The command `run`.
 fn run_command<S: Source, L: Ledger>(
@@ -38,11 +56,56 @@ fn run_command<S: Source, L: Ledger>(
             let composed = run_file(alloc, bytes.as_slice(), limits, values, steps)?;
             Ok(composed)
         }
-        Err(ReadFault::Memory) => Err(AllocError),
-        Err(ReadFault::Failed) => {
-            let text = Vec::from_slice(alloc, READ_FAULT)?;
-            Ok(Composed { status: 7, text })
+        Err(fault) => refuse_reading(alloc, fault),
+    }
+}
+
+// The command `exec`.
+fn exec_command<S: Source, L: Ledger>(
+    alloc: Global,
+    src: &mut S,
+    code: &[u8],
+    function: &[u8],
+    limits: Limits,
+    words: &[u64],
+    steps: &mut Steps<L>,
+) -> Result<Composed, AllocError>
+    ensures later { S.faults src.old ≤ S.faults src.new }
+    ensures due { IfOk result (λ c. Answers (IsComposed (Ok (exec code.now function.now (limits_view limits) words.now)) (S.tells src.old) (S.held src.old) (S.faults src.old) (S.faults src.new))
+        c steps.old.taken steps.new.taken) }
+{
+    match read_whole(alloc, src, code, CODE_LIMIT) {
+        Ok(bytes) => {
+            let composed = run_code(alloc, bytes.as_slice(), function, limits, words, steps)?;
+            Ok(composed)
         }
+        Err(fault) => refuse_reading(alloc, fault),
+    }
+}
+
+// The answer to a command.
+fn obey<S: Source, L: Ledger>(
+    alloc: Global,
+    command: &Command,
+    src: &mut S,
+    steps: &mut Steps<L>,
+) -> Result<Composed, AllocError>
+    ensures later { S.faults src.old ≤ S.faults src.new }
+    ensures due { IfOk result (λ c. Answers (IsComposed (Ok (command_view command.now)) (S.tells src.old) (S.held src.old) (S.faults src.old) (S.faults src.new))
+        c steps.old.taken steps.new.taken) }
+{
+    match command {
+        Command::Run {
+            file,
+            limits,
+            values,
+        } => run_command(alloc, src, file, *limits, values, steps),
+        Command::Exec {
+            code,
+            function,
+            limits,
+            words,
+        } => exec_command(alloc, src, code, function, *limits, words.as_slice(), steps),
     }
 }
 
@@ -57,22 +120,16 @@ fn compose<S: Source, L: Ledger>(
     ensures due { IfOk result (λ c. Answers (IsComposed (command_of words.now) (S.tells src.old) (S.held src.old) (S.faults src.old) (S.faults src.new))
         c steps.old.taken steps.new.taken) }
 {
-    match parse(words) {
-        Err(word) => {
+    match parse(alloc, words) {
+        Ok(command) => {
+            let composed = obey(alloc, &command, src, steps)?;
+            Ok(composed)
+        }
+        Err(CommandFault::Usage(word)) => {
             let text = line::usage(alloc, word as u64)?;
             Ok(Composed { status: 6, text })
         }
-        Ok(command) => {
-            let composed = run_command(
-                alloc,
-                src,
-                command.file,
-                command.limits,
-                command.values,
-                steps,
-            )?;
-            Ok(composed)
-        }
+        Err(CommandFault::Memory) => Err(AllocError),
     }
 }
 
