@@ -6,3 +6,4 @@ pub mod Numbering
 pub mod Programs
 pub mod Scopes
 pub mod Tables
+pub mod Written

@@ -1,0 +1,17 @@
+-- What was found where numbering found something.
+use Rattle.std.proofs.Common.{◌≡◌, ℕ, suc, List, [], ◌∷◌, map, length, Option, Some, None, Ok, Err, refl, sym, ◌∙◌, ap, subst}
+use Rattle.rb_syntax.specs.declared.tree.NameTree.{NameTree}
+use Rattle.rb_names.specs.declared.fault.NameFault.{NameFault}
+use Rattle.rb_names.specs.Numbering.{Resolved, and_then, all_of, known, Numbered, Numbering, numbered_as, in_turn}
+use Rattle.rb_names.specs.Scopes.{Scope}
+
+pub then-ok : {A B : Type 0} (r : Resolved A) (f : A → Resolved B) (y : B) → and_then r f ≡ Ok y → (x : A) × (r ≡ Ok x) × (f x ≡ Ok y)
+then-ok (Ok x) f y e = (x, refl, e)
+then-ok (Err fault) f y e = absurd cc
+
+pub known-ok : {A : Type 0} (name : NameTree) (o : Option A) (x : A) → known name o ≡ Ok x → o ≡ Some x
+known-ok name None x e = absurd cc
+known-ok name (Some a) x e = cc
+
+pub ok-is : {A : Type 0} (x y : A) → (let r : Resolved A = Ok x in r) ≡ Ok y → x ≡ y
+ok-is x y e = cc

@@ -1,0 +1,49 @@
+-- What reading leaves of a file: the spelling of its names, and counts within their limits.
+use Rattle.std.specs.Prelude.{◌≡◌, ◌<◌, ◌^◌, List, [], ◌∷◌, length, Bool, true, ◌&&◌, nat_le}
+use Rattle.std.specs.List.{list_all}
+use Rattle.rb_core.specs.WellNumbered.{is_upper, is_lower}
+use Rattle.rb_syntax.specs.declared.token.Token.{Token}
+use Rattle.rb_syntax.specs.declared.token.Token.TheVariants as tok
+use Rattle.rb_syntax.specs.declared.tree.ConTree.{ConTree}
+use Rattle.rb_syntax.specs.declared.tree.TypeTree.{TypeTree}
+use Rattle.rb_syntax.specs.declared.tree.ItemTree.{ItemTree}
+use Rattle.rb_syntax.specs.declared.tree.ItemTree.TheVariants as top
+use Rattle.rb_syntax.specs.declared.tree.FileTree.{FileTree}
+use Rattle.rb_syntax.specs.Spelling.{IsTreeOf}
+use Rattle.rb_names.specs.Definitions.{types_in, functions_in}
+
+-- each name begins with a letter of its kind and goes on with letters, digits and underscores
+abbrev pub AreNamed : List Token → Type 0
+AreNamed [] = Unit {0}
+AreNamed (tok.Upper name ∷ ts) = (is_upper name ≡ true) × AreNamed ts
+AreNamed (tok.Lower name ∷ ts) = (is_lower name ≡ true) × AreNamed ts
+AreNamed (tok.Num n ∷ ts) = AreNamed ts
+AreNamed (tok.Reserved w ∷ ts) = AreNamed ts
+AreNamed (tok.Uint bits ∷ ts) = AreNamed ts
+AreNamed (tok.Symbol s ∷ ts) = AreNamed ts
+
+abbrev pub con_is_counted : ConTree → Bool
+con_is_counted c = nat_le (length c.fields) 32
+
+abbrev pub type_is_counted : TypeTree → Bool
+type_is_counted d = nat_le (length d.cons) 256 && list_all con_is_counted d.cons
+
+abbrev pub item_is_counted : ItemTree → Bool
+item_is_counted (top.Types d) = type_is_counted d
+item_is_counted (top.Layouts l) = nat_le (length l.shape) 8
+item_is_counted (top.Funs f) = nat_le (length f.params) 32
+item_is_counted (top.Derived name a) = true
+
+-- a file has no more of anything than the limits of the language allow
+pub record AreCounted (items : List ItemTree) : Type 0 where
+  pub types : nat_le (length (types_in items)) 1000 ≡ true
+  pub functions : nat_le (length (functions_in items)) 10000 ≡ true
+  pub each : list_all item_is_counted items ≡ true
+
+-- what is known of a file that was read: its tokens, of which there are fewer than 2^32, spell it, their names are of their
+-- kind, and its counts are within the limits
+pub record IsWritten (ts : List Token) (file : FileTree) : Type 0 where
+  pub tree : IsTreeOf ts file
+  pub short : length ts < 2 ^ 32
+  pub named : AreNamed ts
+  pub counted : AreCounted file.items
