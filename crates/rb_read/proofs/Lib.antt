@@ -4,8 +4,9 @@ pub mod EachLoops
 mod Exact
 pub mod ExpressionForms
 pub mod ExpressionNode
-pub mod FormLaws
 pub mod FileLemmas
+pub mod FileReading
+pub mod FormLaws
 pub mod Forms
 pub mod ItemForms
 pub mod LayoutInduction
@@ -16,6 +17,7 @@ pub mod LocationForms
 pub mod Loops
 pub mod NodeForms
 mod Numbering
+pub mod OneAnswer
 mod OpenExamples
 pub mod PatternForms
 pub mod Pointers

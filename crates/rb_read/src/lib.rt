@@ -5,6 +5,8 @@ mod beyond;
 mod each;
 mod expression;
 pub mod fault;
+#[cfg(test)]
+mod file_tests;
 mod item;
 mod layout;
 mod leaf;

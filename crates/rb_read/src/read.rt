@@ -1,14 +1,14 @@
 //! Reads a file.
 
-ghost use Rattle.std.specs.Prelude.{◌≡◌, ◌-◌, ◌<◌, ◌^◌, List, length, None, Ok, MatchResult};
+ghost use Rattle.std.specs.Prelude.{◌≡◌, ◌⊎◌, ◌-◌, ◌<◌, ◌^◌, List, length, Result, Err};
 ghost use Rattle.rb_syntax.specs.declared.token.Token.{Token};
 ghost use Rattle.rb_syntax.specs.declared.tree.FileTree.{FileTree};
 ghost use Rattle.rb_syntax.specs.Tokens.{tokens};
+ghost use Rattle.rb_read.specs.declared.fault.ReadFault.{ReadFault};
 ghost use Rattle.rb_read.specs.declared.fault.ReadFault.TheVariants.{Memory};
 ghost use Rattle.rb_read.specs.Exact as exact;
 ghost use Rattle.rb_read.specs.Files.{IsFile, IsAnswer, Answers};
 ghost use Rattle.rb_read.specs.Whole.{Yields};
-ghost use Rattle.rb_read.specs.Limits as limits;
 ghost use Rattle.rb_read.specs.Reading as reading;
 
 use crate::each::read_each;
@@ -53,8 +53,7 @@ fn place(total: usize, left: usize) -> u32
 
 /// The file, unless it has a derived layout or a count over its limit.
 fn checked(file: FileTree) -> Result<FileTree, ReadFault>
-    ensures answer { (ts : List Token) → IsFile ts file → Answers ts result }
-    ensures only { limits.first_derived file ≡ None → limits.first_over file ≡ None → result ≡ Ok file }
+    ensures { (ts : List Token) → IsFile ts file → Answers ts result }
 {
     if let Some(at) = first_derived(&file) {
         return Err(ReadFault::Unbuilt(at));
@@ -65,13 +64,10 @@ fn checked(file: FileTree) -> Result<FileTree, ReadFault>
     Ok(file)
 }
 
-/// The file that the tokens spell, or the first fault: a node too deep, else a token at which no
-/// file goes on, else a derived layout, else a count over its limit.
-pub fn read_file(alloc: Global, placed: &[Placed]) -> Result<FileTree, ReadFault>
+/// The file that the tokens spell and that is within the limits, or the first fault.
+fn read_limited(alloc: Global, placed: &[Placed]) -> Result<FileTree, ReadFault>
     requires { length placed.now < 2 ^ 32 }
-    ensures answer { Answers (tokens placed.now) result }
-    // what may be the file is the file
-    ensures only { (file : FileTree) → IsAnswer (tokens placed.now) (Ok file) → MatchResult result (λ read. read ≡ file) (λ e. e ≡ Memory) }
+    ensures { Answers (tokens placed.now) result }
 {
     match read_tree(alloc, placed) {
         Ok(file) => checked(file),
@@ -79,4 +75,15 @@ pub fn read_file(alloc: Global, placed: &[Placed]) -> Result<FileTree, ReadFault
         Err(Stop::Stuck(left)) => Err(ReadFault::Syntax(place(placed.len(), left))),
         Err(Stop::Memory) => Err(ReadFault::Memory),
     }
+}
+
+/// The file that the tokens spell, or the first fault: a node too deep, else a token at which no
+/// file goes on, else a derived layout, else a count over its limit.
+pub fn read_file(alloc: Global, placed: &[Placed]) -> Result<FileTree, ReadFault>
+    requires { length placed.now < 2 ^ 32 }
+    ensures answer { Answers (tokens placed.now) result }
+    // there is no other answer
+    ensures only { (r : Result FileTree ReadFault) → IsAnswer (tokens placed.now) r → (result ≡ r) ⊎ (result ≡ Err Memory) }
+{
+    read_limited(alloc, placed)
 }
