@@ -124,6 +124,14 @@ fn runs_codes(rt: HostRuntime) -> Result<(), Fail> {
     check_rows(&rt, rt.alloc(), RUNS)
 }
 
+/// A function that counts down by calling itself: ten million steps, and two million calls that wait.
+#[test]
+fn nests_deeply(rt: HostRuntime) -> Result<(), Fail> {
+    let row =
+        "fun t 1 1 2;switch 0 2 0 1;return 0;const 1 1;alu sub 64 0 0 1;call 0 0 of 0;return 0;end;|E t 2000001 64 2000000|0 10000002 0;";
+    check_rows(&rt, rt.alloc(), row)
+}
+
 /// A code text over its limit is read one byte further.
 #[test]
 fn refuses_long_codes(rt: HostRuntime) -> Result<(), Fail> {
