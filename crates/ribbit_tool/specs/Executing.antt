@@ -16,7 +16,6 @@ use Rattle.rb_target.specs.Text.{code_text}
 use Rattle.rb_target.specs.Validity.{IsValid}
 use Rattle.ribbit_tool.specs.Answer.{Due, unrun}
 use Rattle.ribbit_tool.specs.Command.{Limits}
-use Rattle.ribbit_tool.specs.Limited.{IsLimited}
 use Rattle.ribbit_tool.specs.Lines.{words_line, spent_line, full_line, trap_line, no_function_line, count_line, code_line}
 
 -- the returned words, or the line of any other end

@@ -1,5 +1,5 @@
 -- What a run of a file of one integer function is due.
-use Rattle.std.specs.Prelude.{◌≡◌, ◌<◌, ◌≤◌, ◌+◌, ℕ, List, map, length, Ok, Err}
+use Rattle.std.specs.Prelude.{◌≡◌, ℕ, List, map, Ok, Err}
 use Rattle.rb_bytes.specs.Memory.{empty_memory}
 use Rattle.rb_core.specs.declared.value.Value.{Num}
 use Rattle.rb_core.specs.declared.outcome.SourceEnd.{SourceEnd}

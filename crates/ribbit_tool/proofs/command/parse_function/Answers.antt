@@ -1,4 +1,4 @@
-use Rattle.std.proofs.Common.{◌≡◌, ◌-◌, ◌≤◌, ℕ, List, [], ◌∷◌, length, take, drop, subst, arith, rules}
+use Rattle.std.proofs.Common.{◌-◌, ◌≤◌, ℕ, List, [], ◌∷◌, length, take, drop, subst, arith, rules}
 use Rattle.std.proofs.lemmas.List.{take_all}
 use Rattle.ribbit_tool.specs.Command.{Limits, Parsed, with_limits, function_words, exec_of, numbers_from}
 use Rattle.ribbit_tool.specs.View.{IsUsage}
