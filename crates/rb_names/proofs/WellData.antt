@@ -84,7 +84,7 @@ module _ (total : ℕ) where
         let a = then-ok (all_of (map (numbered_type t) c.fields)) _ k e in
         let long : length a.0 ≡ length c.fields = all-length (numbered_type t) c.fields a.0 a.1 in
         let fields : list_all (is_type types) a.0 ≡ true =
-            fields-are c.fields rest (record { formed = h.0.formed; numbers = h.0.numbers.1; fits = omega (arith, h.0.fits) }) a.0 a.1 in
+        fields-are c.fields rest (record { formed = h.0.formed; numbers = h.0.numbers.1; fits = omega (arith, h.0.fits) }) a.0 a.1 in
         rw (← ok-is _ k a.2) (both (is_upper c.name.text) _ h.1.0 (both (nat_le (length a.0) 32) _ (ap (λ n. nat_le n 32) long ∙ counted) fields))
 
     cons-behind : (separator : Token) (cs : List ConTree) (rest : List Written) → IsRead (each_behind separator (map con_written cs) rest) → list_all con_is_counted cs ≡ true
@@ -104,9 +104,11 @@ module _ (total : ℕ) where
     cons-are separator (c ∷ cs) rest h counted ks e =
         let behind : List Written = each_behind separator (map con_written cs) rest in
         let n = parts (con_is_counted c) (list_all con_is_counted cs) counted in
-        let a = all-cons (numbered_constructor t) c cs ks e in
-        (omega arith, rw (← a.4) (both (con_is_numbered types a.0) (list_all (con_is_numbered types) a.1) (con-well c behind h n.0 a.0 a.2)
-        (cons-behind separator cs rest (con-drops IsRead read-next c behind h) n.1 a.1 a.3)))
+        let a = all-cons (numbered_constructor t) c cs ks e in (
+          omega arith,
+          rw (← a.4) (both (con_is_numbered types a.0) (list_all (con_is_numbered types) a.1) (con-well c behind h n.0 a.0 a.2)
+              (cons-behind separator cs rest (con-drops IsRead read-next c behind h) n.1 a.1 a.3)),
+        )
 
     count-between : (n m : ℕ) → n ≡ m → 0 < m → nat_le m 256 ≡ true → is_between 1 256 n ≡ true
     count-between n m e l u = grind (arith, common_steps, e, l, u)

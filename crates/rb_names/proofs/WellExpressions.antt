@@ -191,8 +191,11 @@ module _ (total : ℕ) (small : total < 2 ^ 32) (types : List DataDecl) (funs : 
             let two = two-found (numbered_expression t a) (map (numbered_expression t) es) scope next rs e in
             let v = f.well scope next two.0 xs two.2 c in
             let w = g.well scope two.0.next two.1 xs two.3 c in
-            rw (← two.4) (ap suc w.0, and-both _ _ v.numbered w.1,
-            rise-append _ (place total behind) _ (match_tokens two.0.what) _ (rise-wider _ _ _ _ (match_tokens two.0.what) (omega arith) (omega arith) v.rises) w.2);
+            rw (← two.4) (
+              ap suc w.0,
+              and-both _ _ v.numbered w.1,
+              rise-append _ (place total behind) _ (match_tokens two.0.what) _ (rise-wider _ _ _ _ (match_tokens two.0.what) (omega arith) (omega arith) v.rises) w.2,
+            );
       }
 
   args-any : (es : List ExprTree) → Each Well es → (l : ℕ) (rest : List Written) → Right total (any_with comma (map (at_expr l) es) rest)
@@ -386,7 +389,7 @@ module _ (total : ℕ) (small : total < 2 ^ 32) (types : List DataDecl) (funs : 
       let vs : List Written = at_expr (suc l) a inner in
       let us : List Written = token (tok.Symbol symbol.Equals) ∷ vs in
       let s : Right total (node l ∷ number at ∷ reserved word.Let ∷ number x.at ∷ token (tok.Lower x.text) ∷ token (tok.Symbol symbol.Colon) ∷ ty_written u us)
-          = moved total small types t known_con (spelled.expr-Let at x u a b l rest) r in
+      = moved total small types t known_con (spelled.expr-Let at x u a b l rest) r in
       let k : TypeWell total types t known_type u us = type-well total types t known_type u us (record { formed = s.formed; numbers = s.numbers.1.1; fits = omega (arith, s.fits) }) in
       let f : ExprWell a (suc l) inner = ha (suc l) inner (record { formed = k.right.formed; numbers = k.right.numbers; fits = omega (arith, k.right.fits) }) in
       let g : ExprWell b (suc l) rest = hb (suc l) rest (record { formed = f.right.formed; numbers = f.right.numbers; fits = omega (arith, f.right.fits) }) in record {
@@ -438,8 +441,10 @@ module _ (total : ℕ) (small : total < 2 ^ 32) (types : List DataDecl) (funs : 
             let v = f.well inner (next + length (binders_of c.pat)) j.0 (vars_of i.0 ++ xs) j.1 (covers-inside c.pat i.0 next scope xs w.binds k) in
             let made : Clause = record { pat = i.0; body = j.0.what } in
             let same : made ≡ d.what = ap (λ q. q.what) (ok-is _ d j.2) in
-            rw (← same) (clause-fine-is types funs made xs ∙ and-both _ _ w.numbered v.numbered,
-            rw (spelled.clause-is c l rest, clause-tokens-are types funs made) (rise-wider _ _ _ _ (match_tokens j.0.what) (omega (arith, p.shorter)) (omega arith) v.rises));
+            rw (← same) (
+              clause-fine-is types funs made xs ∙ and-both _ _ w.numbered v.numbered,
+              rw (spelled.clause-is c l rest, clause-tokens-are types funs made) (rise-wider _ _ _ _ (match_tokens j.0.what) (omega (arith, p.shorter)) (omega arith) v.rises),
+            );
       }
 
   record ClausesWell (cs : List ClauseTree) (ws rest : List Written) : Type 0 where
@@ -468,8 +473,11 @@ module _ (total : ℕ) (small : total < 2 ^ 32) (types : List DataDecl) (funs : 
             let two = two-found (numbered_clause t a) (map (numbered_clause t) cs) scope next ds e in
             let v = f.well scope next two.0 xs two.2 c in
             let w = g.well scope two.0.next two.1 xs two.3 c in
-            rw (← two.4) (ap suc w.0, and-both _ _ v.0 w.1,
-            rise-append _ (place total behind) _ (clause_tokens types funs two.0.what) _ (rise-wider _ _ _ _ (clause_tokens types funs two.0.what) (omega arith) (omega arith) v.1) w.2);
+            rw (← two.4) (
+              ap suc w.0,
+              and-both _ _ v.0 w.1,
+              rise-append _ (place total behind) _ (clause_tokens types funs two.0.what) _ (rise-wider _ _ _ _ (clause_tokens types funs two.0.what) (omega arith) (omega arith) v.1) w.2,
+            );
       }
 
   clauses-some : (cs : List ClauseTree) → EachBody Well cs → (l : ℕ) (rest : List Written) → Right total (some_with comma (map (at_clause l) cs) rest)
@@ -478,15 +486,18 @@ module _ (total : ℕ) (small : total < 2 ^ 32) (types : List DataDecl) (funs : 
   clauses-some (a ∷ cs) h l rest r =
       let behind : List Written = each_behind comma (map (at_clause l) cs) rest in
       let f : ClauseWell a l behind = clause-well a h.0 l behind r in
-      let g : ClausesWell cs behind rest = clauses-behind cs h.1 l rest f.right in (omega arith, record {
-        right = g.right;
-        count = omega (arith, g.count, f.shorter);
-        well = λ scope next ds xs e c.
-            let two = two-found (numbered_clause t a) (map (numbered_clause t) cs) scope next ds e in
-            let v = f.well scope next two.0 xs two.2 c in
-            let w = g.well scope two.0.next two.1 xs two.3 c in
-            rw (← two.4) (ap suc w.0, and-both _ _ v.0 w.1, rise-append _ (place total behind) _ (clause_tokens types funs two.0.what) _ v.1 w.2);
-      })
+      let g : ClausesWell cs behind rest = clauses-behind cs h.1 l rest f.right in (
+        omega arith,
+        record {
+          right = g.right;
+          count = omega (arith, g.count, f.shorter);
+          well = λ scope next ds xs e c.
+              let two = two-found (numbered_clause t a) (map (numbered_clause t) cs) scope next ds e in
+              let v = f.well scope next two.0 xs two.2 c in
+              let w = g.well scope two.0.next two.1 xs two.3 c in
+              rw (← two.4) (ap suc w.0, and-both _ _ v.0 w.1, rise-append _ (place total behind) _ (clause_tokens types funs two.0.what) _ v.1 w.2);
+        },
+      )
 
   match-written : (at : ℕ) (e : ExprTree) (cs : List ClauseTree) (l : ℕ) (rest : List Written) → expr_written (X.Match at e cs) l rest
       ≡ node l ∷ number at ∷ reserved word.Match ∷ expr_written e (suc l) (token (tok.Symbol symbol.OpenBrace)
@@ -520,14 +531,23 @@ module _ (total : ℕ) (small : total < 2 ^ 32) (types : List DataDecl) (funs : 
             rw (← same) (record {
               numbered = fine-is types funs (E.Match at i.0.what j.0.what) xs ∙ and-both _ _ v.numbered (and-both _ _ some_there
                   (and-both _ _ (short-list total small types t known_con (map (clause_fine types funs) j.0.what) (length cs) many (omega (arith, g.count, f.shorter, s.fits))) w.1));
-              rises = rw (match-written at a cs l rest, tokens-are types funs (E.Match at i.0.what j.0.what))
-                  (omega (arith, s.numbers.0), rise-append _ (place total ws) _ (match_tokens i.0.what) (all_tokens (map (clause_tokens types funs) j.0.what))
-                  (rise-wider _ _ _ _ (match_tokens i.0.what) (omega (arith, s.numbers.0, s.fits)) (omega arith) v.rises)
-                  (rise-wider _ _ _ _ (all_tokens (map (clause_tokens types funs) j.0.what)) (omega arith) (omega arith) w.2));
+              rises = rw (match-written at a cs l rest, tokens-are types funs (E.Match at i.0.what j.0.what)) (
+                omega (arith, s.numbers.0),
+                rise-append _ (place total ws) _ (match_tokens i.0.what) (all_tokens (map (clause_tokens types funs) j.0.what))
+                    (rise-wider _ _ _ _ (match_tokens i.0.what) (omega (arith, s.numbers.0, s.fits)) (omega arith) v.rises)
+                    (rise-wider _ _ _ _ (all_tokens (map (clause_tokens types funs) j.0.what)) (omega arith) (omega arith) w.2),
+              );
             });
       }
 
   pub expression-well : (e : ExprTree) → Well e
   expression-well = induction Well (record {
-    num = num-well; var = var-well; call = call-well; build = build-well; binary = binary-well; to = to-well; bound = let-well; choice = match-well;
+    num = num-well;
+    var = var-well;
+    call = call-well;
+    build = build-well;
+    binary = binary-well;
+    to = to-well;
+    bound = let-well;
+    choice = match-well;
   })

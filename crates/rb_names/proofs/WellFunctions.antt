@@ -69,13 +69,15 @@ module _ (total : ℕ) (small : total < 2 ^ 32) (types : List DataDecl) (funs : 
       let is_var : v.0 ≡ a.0.var = ap (λ (q : Param). q.var) made in
       subst (λ (all : List Param). (length all ≡ suc (length ps)) × (list_all (param_is_numbered types) all ≡ true)
       × ((name : Name) (x : ℕ) → named_so name (names_of (p ∷ ps)) ≡ true → meaning scope name ≡ Some x → list_any (nat_eq x) (map (λ (p : Param). p.var) all) ≡ true))
-      (ok-is (a.0 ∷ b.0) qs b.2)
-      (ap suc w.0, and-both _ _ is_ty w.1,
-      λ name x n k. or-cases _ (bytes_eq p.var.text name) (named_so name (names_of ps)) n
-      (λ h. let same : p.var.text ≡ name = same-name total small types t known_con p.var.text name h in
-      let y : v.0 ≡ x = some-same v.0 x (sym m ∙ subst (λ (w : Name). meaning scope w ≡ Some x) (sym same) k) in
-      subst (λ (z : ℕ). (nat_eq x z || list_any (nat_eq x) (map (λ (p : Param). p.var) b.0)) ≡ true) (sym y ∙ is_var) (or-left-here x _))
-      (λ h. or-right-here (nat_eq x a.0.var) _ (w.2 name x h k)))
+      (ok-is (a.0 ∷ b.0) qs b.2) (
+        ap suc w.0,
+        and-both _ _ is_ty w.1,
+        λ name x n k. or-cases _ (bytes_eq p.var.text name) (named_so name (names_of ps)) n
+            (λ h. let same : p.var.text ≡ name = same-name total small types t known_con p.var.text name h in
+            let y : v.0 ≡ x = some-same v.0 x (sym m ∙ subst (λ (w : Name). meaning scope w ≡ Some x) (sym same) k) in
+            subst (λ (z : ℕ). (nat_eq x z || list_any (nat_eq x) (map (λ (p : Param). p.var) b.0)) ≡ true) (sym y ∙ is_var) (or-left-here x _))
+            (λ h. or-right-here (nat_eq x a.0.var) _ (w.2 name x h k)),
+      )
 
   params-behind : (ps : List ParamTree) (rest : List Written) → Right total (each_behind comma (map param_written ps) rest)
       → ParamsWell ps (each_behind comma (map param_written ps) rest) rest
@@ -87,7 +89,7 @@ module _ (total : ℕ) (small : total < 2 ^ 32) (types : List DataDecl) (funs : 
   params-behind (p ∷ ps) rest r =
       let behind : List Written = each_behind comma (map param_written ps) rest in
       let k : TypeWell total types t known_type p.ty behind = type-well total types t known_type p.ty behind
-          (record { formed = r.formed; numbers = r.numbers.1.1; fits = omega (arith, r.fits) }) in
+      (record { formed = r.formed; numbers = r.numbers.1.1; fits = omega (arith, r.fits) }) in
       let g : ParamsWell ps behind rest = params-behind ps rest k.right in record {
         right = g.right;
         shorter = omega (arith, g.shorter, k.shorter);
@@ -100,7 +102,7 @@ module _ (total : ℕ) (small : total < 2 ^ 32) (types : List DataDecl) (funs : 
   params-any (p ∷ ps) rest r =
       let behind : List Written = each_behind comma (map param_written ps) rest in
       let k : TypeWell total types t known_type p.ty behind = type-well total types t known_type p.ty behind
-          (record { formed = r.formed; numbers = r.numbers.1.1; fits = omega (arith, r.fits) }) in
+      (record { formed = r.formed; numbers = r.numbers.1.1; fits = omega (arith, r.fits) }) in
       let g : ParamsWell ps behind rest = params-behind ps rest k.right in record {
         right = g.right;
         shorter = omega (arith, g.shorter, k.shorter);
@@ -133,9 +135,9 @@ module _ (total : ℕ) (small : total < 2 ^ 32) (types : List DataDecl) (funs : 
       let params : List Written = any_with comma (map param_written f.params) close in
       let p : ParamsWell f.params params close = params-any f.params close (record { formed = r.formed; numbers = r.numbers.1; fits = omega (arith, r.fits) }) in
       let k : TypeWell total types t known_type f.result equals = type-well total types t known_type f.result equals
-          (record { formed = p.right.formed; numbers = p.right.numbers; fits = omega (arith, p.right.fits) }) in
+      (record { formed = p.right.formed; numbers = p.right.numbers; fits = omega (arith, p.right.fits) }) in
       let g : ExprWell total small types funs t known_type known_con known_fun f.body 1 end = expression-well total small types funs t known_type known_con known_fun f.body 1 end
-          (record { formed = k.right.formed; numbers = k.right.numbers; fits = omega (arith, k.right.fits) }) in record {
+      (record { formed = k.right.formed; numbers = k.right.numbers; fits = omega (arith, k.right.fits) }) in record {
         right = record { formed = g.right.formed; numbers = g.right.numbers; fits = omega (arith, g.right.fits) };
         shorter = omega (arith, g.shorter, k.shorter, p.shorter);
         well = λ d e lower few.
@@ -146,6 +148,8 @@ module _ (total : ℕ) (small : total < 2 ^ 32) (types : List DataDecl) (funs : 
             let ps = p.well scope a.0 a.1 in
             let v = g.well scope (length (param_binders f.params)) c.0 (map (λ (p : Param). p.var) a.0) c.1 (covers-params f.params a.0 ps.2) in
             let n : nat_le (length a.0) 32 ≡ true = let q : length a.0 ≤ 32 = omega (arith, ps.0, few) in grind (arith, common_steps, q) in
-            rw (← ok-is _ d c.2) (and-both _ _ lower (and-both _ _ n (and-both _ _ ps.1 (and-both _ _ (k.well b.0 b.1) v.numbered))),
-            rise-wider _ _ _ _ (match_tokens c.0.what) (omega (arith, k.shorter, p.shorter)) (omega arith) v.rises);
+            rw (← ok-is _ d c.2) (
+              and-both _ _ lower (and-both _ _ n (and-both _ _ ps.1 (and-both _ _ (k.well b.0 b.1) v.numbered))),
+              rise-wider _ _ _ _ (match_tokens c.0.what) (omega (arith, k.shorter, p.shorter)) (omega arith) v.rises,
+            );
       }

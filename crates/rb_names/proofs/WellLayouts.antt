@@ -119,8 +119,13 @@ arm_count a = leaf_count a.under
 
 arms-count : (arms : List Arm) → length (flat_map (λ (ls : List WrittenLeaf). ls) (map leaves_under arms)) ≡ sum_by arm_count arms
 arms-count [] = refl
-arms-count (a ∷ arms) = omega (arith, arms-count arms, sum_by-cons arm_count a arms, ap (λ (ls : List WrittenLeaf). length ls) (leaves-arm a),
-    length-two (leaves_under a) (flat_map (λ (ls : List WrittenLeaf). ls) (map leaves_under arms)))
+arms-count (a ∷ arms) = omega (
+  arith,
+  arms-count arms,
+  sum_by-cons arm_count a arms,
+  ap (λ (ls : List WrittenLeaf). length ls) (leaves-arm a),
+  length-two (leaves_under a) (flat_map (λ (ls : List WrittenLeaf). ls) (map leaves_under arms)),
+)
 
 module _ (total : ℕ) (small : total < 2 ^ 32) (types : List DataDecl) (t : Tables)
     (known_con : (name : Name) (c : ConRef) → meaning t.constructors name ≡ Some c → is_constructor types c ≡ true) where
@@ -200,8 +205,10 @@ module _ (total : ℕ) (small : total < 2 ^ 32) (types : List DataDecl) (t : Tab
       (rw (leaves-arm a) (h.0.proven)) (arms-proven arms h.1)
 
   arms-short : (arms : List Arm) → length arms ≤ total → Each IsArm arms → (is_short (map under_short arms) ≡ true) × (list_all (λ a. a) (map under_short arms) ≡ true)
-  arms-short arms h g = (short-of total small (map under_short arms) (omega (arith, h, length-of-map under_short arms)),
-      each-passes under_short (λ a. a) arms (each-of IsArm (λ a. under_short a ≡ true) (λ a b. short-arm a ∙ b.short) arms g))
+  arms-short arms h g = (
+    short-of total small (map under_short arms) (omega (arith, h, length-of-map under_short arms)),
+    each-passes under_short (λ a. a) arms (each-of IsArm (λ a. under_short a ≡ true) (λ a b. short-arm a ∙ b.short) arms g),
+  )
 
   tree-leaf : (at : ℕ) (prov : PatTree) (items : List LayItem) → TreeFine (S.Leaf at prov items)
   tree-leaf at prov items l rest r =
@@ -217,8 +224,10 @@ module _ (total : ℕ) (small : total < 2 ^ 32) (types : List DataDecl) (t : Tab
       (λ b e.
       let f = then-ok (numbered_pattern t [] prov) _ b (sym (numbered-Leaf t at prov items) ∙ e) in
       let v = p.well f.0 f.1 in
-      rw (← ok-is (L.Leaf at f.0 items) b f.2) (rw (leaves-Leaf at f.0 items) (omega (arith, p.shorter, i.count)),
-      record { proven = rw (leaves-Leaf at f.0 items) (both _ _ v.1 refl); short = short-Leaf at f.0 items ∙ i.short }))
+      rw (← ok-is (L.Leaf at f.0 items) b f.2) (
+        rw (leaves-Leaf at f.0 items) (omega (arith, p.shorter, i.count)),
+        record { proven = rw (leaves-Leaf at f.0 items) (both _ _ v.1 refl); short = short-Leaf at f.0 items ∙ i.short },
+      ))
 
   -- what stands in front of the arms
   abbrev opened : ℕ → Loc → List Written → List Written
@@ -229,7 +238,7 @@ module _ (total : ℕ) (small : total < 2 ^ 32) (types : List DataDecl) (t : Tab
       let close : List Written = token (tok.Symbol symbol.CloseBrace) ∷ rest in
       let inner : List Written = each (map (arm_at (suc l)) arms) close in
       let e : split_written (S.Split loc arms None) l rest ≡ opened l loc inner =
-          split-None loc arms l rest ∙ ap (λ us. opened l loc (each us close)) (at_level-of arm_written (suc l) arms) in
+      split-None loc arms l rest ∙ ap (λ us. opened l loc (each us close)) (at_level-of arm_written (suc l) arms) in
       let s : Right total (opened l loc inner) = right-as total e r in
       let p = place loc (token (tok.Symbol symbol.OpenBrace) ∷ inner) (off-token total _ _ (off-node total _ _ s)) in
       let a = are-each total ArmTree Arm (numbered_arm t) arm_count IsArm (arm_at (suc l)) arms (each-arm (suc l) arms h) close (off-token total _ _ p.right) in
@@ -240,13 +249,15 @@ module _ (total : ℕ) (small : total < 2 ^ 32) (types : List DataDecl) (t : Tab
       let v = a.well f.0 f.1 in
       let few : length f.0 ≤ total = omega (arith, v.same, a.count, p.right.fits) in
       let m = arms-short f.0 few v.good in
-      rw (← ok-is (L.Split loc f.0 None) b f.2) (rw (leaves-None loc f.0)
-      (omega (arith, p.shorter, v.few, arms-count f.0, length-two (flat_map (λ (ls : List WrittenLeaf). ls) (map leaves_under f.0)) [])),
-      record {
-        proven = rw (leaves-None loc f.0) (all-two (λ (w : WrittenLeaf). w.provenance) (provenance_is_numbered types) (flat_map (λ (ls : List WrittenLeaf). ls) (map leaves_under f.0)) []
-            (arms-proven f.0 v.good) refl);
-        short = short-None loc f.0 ∙ both _ _ p.short (both _ _ m.0 (both _ _ m.1 refl));
-      }))
+      rw (← ok-is (L.Split loc f.0 None) b f.2) (
+        rw (leaves-None loc f.0)
+            (omega (arith, p.shorter, v.few, arms-count f.0, length-two (flat_map (λ (ls : List WrittenLeaf). ls) (map leaves_under f.0)) [])),
+        record {
+          proven = rw (leaves-None loc f.0) (all-two (λ (w : WrittenLeaf). w.provenance) (provenance_is_numbered types) (flat_map (λ (ls : List WrittenLeaf). ls) (map leaves_under f.0)) []
+              (arms-proven f.0 v.good) refl);
+          short = short-None loc f.0 ∙ both _ _ p.short (both _ _ m.0 (both _ _ m.1 refl));
+        },
+      ))
 
   split-else : (loc : Loc) (arms : List ArmTree) (other : SplitTree) → induction.Each (λ (a : ArmTree). TreeFine a.under) arms → TreeFine other
       → TreeFine (S.Split loc arms (Some other))
@@ -255,7 +266,7 @@ module _ (total : ℕ) (small : total < 2 ^ 32) (types : List DataDecl) (t : Tab
       let last : List Written = token (tok.Reserved word.Else) ∷ token (tok.Symbol symbol.FatArrow) ∷ split_written other (suc l) close in
       let inner : List Written = each (map (arm_at (suc l)) arms) last in
       let e : split_written (S.Split loc arms (Some other)) l rest ≡ opened l loc inner =
-          split-Some loc arms other l rest ∙ ap (λ us. opened l loc (each us last)) (at_level-of arm_written (suc l) arms) in
+      split-Some loc arms other l rest ∙ ap (λ us. opened l loc (each us last)) (at_level-of arm_written (suc l) arms) in
       let s : Right total (opened l loc inner) = right-as total e r in
       let p = place loc (token (tok.Symbol symbol.OpenBrace) ∷ inner) (off-token total _ _ (off-node total _ _ s)) in
       let a = are-each total ArmTree Arm (numbered_arm t) arm_count IsArm (arm_at (suc l)) arms (each-arm (suc l) arms h) last (off-token total _ _ p.right) in
@@ -271,13 +282,15 @@ module _ (total : ℕ) (small : total < 2 ^ 32) (types : List DataDecl) (t : Tab
       let few : length f.0 ≤ total = omega (arith, v.same, a.count, p.right.fits) in
       let m = arms-short f.0 few v.good in
       let found : L.Split loc f.0 (Some j.0) ≡ b = ap (λ (u : Option LayTree). L.Split loc f.0 u) (ok-is (Some j.0) g.0 j.2) ∙ ok-is (L.Split loc f.0 g.0) b g.2 in
-      rw (← found) (rw (leaves-Some loc f.0 j.0)
-      (omega (arith, p.shorter, v.few, y.0, arms-count f.0, length-two (flat_map (λ (ls : List WrittenLeaf). ls) (map leaves_under f.0)) (leaves j.0))),
-      record {
-        proven = rw (leaves-Some loc f.0 j.0) (all-two (λ (w : WrittenLeaf). w.provenance) (provenance_is_numbered types) (flat_map (λ (ls : List WrittenLeaf). ls) (map leaves_under f.0)) (leaves j.0)
-            (arms-proven f.0 v.good) y.1.proven);
-        short = short-Some loc f.0 j.0 ∙ both _ _ p.short (both _ _ m.0 (both _ _ m.1 y.1.short));
-      }))
+      rw (← found) (
+        rw (leaves-Some loc f.0 j.0)
+            (omega (arith, p.shorter, v.few, y.0, arms-count f.0, length-two (flat_map (λ (ls : List WrittenLeaf). ls) (map leaves_under f.0)) (leaves j.0))),
+        record {
+          proven = rw (leaves-Some loc f.0 j.0) (all-two (λ (w : WrittenLeaf). w.provenance) (provenance_is_numbered types) (flat_map (λ (ls : List WrittenLeaf). ls) (map leaves_under f.0)) (leaves j.0)
+              (arms-proven f.0 v.good) y.1.proven);
+          short = short-Some loc f.0 j.0 ∙ both _ _ p.short (both _ _ m.0 (both _ _ m.1 y.1.short));
+        },
+      ))
 
   tree-fine : (s : SplitTree) → TreeFine s
   tree-fine = induction.tree-induction TreeFine (record { split = split-none; split_else = split-else; leaf = tree-leaf })
@@ -292,11 +305,14 @@ module _ (total : ℕ) (small : total < 2 ^ 32) (types : List DataDecl) (t : Tab
 
   widths-fine : (ns : List ℕ) → Each (Fine total ℕ ℕ any_width (λ x. 0) NoWidth width_written) ns
   widths-fine [] = tt
-  widths-fine (n ∷ ns) = ((λ rest r. record {
-    right = off-token total _ _ r;
-    shorter = omega arith;
-    well = λ x e. (omega arith, tt);
-  }), widths-fine ns)
+  widths-fine (n ∷ ns) = (
+    (λ rest r. record {
+      right = off-token total _ _ r;
+      shorter = omega arith;
+      well = λ x e. (omega arith, tt);
+    }),
+    widths-fine ns,
+  )
 
   module _ (known_type : (name : Name) (n : ℕ) → meaning t.types name ≡ Some n → nat_lt n (length types) ≡ true) where
     pub record LayoutWell (l : LayoutTree) (rest : List Written) : Type 0 where
@@ -313,7 +329,7 @@ module _ (total : ℕ) (small : total < 2 ^ 32) (types : List DataDecl) (t : Tab
         let final : List Written = token (tok.Symbol symbol.Semicolon) ∷ rest in
         let behind : List Written = token (tok.Symbol symbol.Greater) ∷ token (tok.Symbol symbol.Equals) ∷ split_written l.tree 1 final in
         let s : Right total (some_with comma (map width_written l.shape) behind) =
-            off-token total _ _ (off-token total _ _ (off-number total _ _ (off-token total _ _ (off-number total _ _ r)))) in
+        off-token total _ _ (off-token total _ _ (off-number total _ _ (off-token total _ _ (off-number total _ _ r)))) in
         let a = are-some total ℕ ℕ any_width (λ x. 0) NoWidth width_written comma l.shape (widths-fine l.shape) behind s in
         let x = tree-fine l.tree 1 final (off-token total _ _ (off-token total _ _ a.1.right)) in record {
           right = off-token total _ _ x.right;

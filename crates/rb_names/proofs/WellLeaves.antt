@@ -73,8 +73,13 @@ counted c = c.items + c.parts
 counted-all : {A : Type 0} (f : A → lay.Written) (xs : List A)
     → sum_by (λ (c : lay.Written). c.items) (map f xs) + sum_by (λ (c : lay.Written). c.parts) (map f xs) ≡ sum_by (λ x. counted (f x)) xs
 counted-all f [] = refl
-counted-all f (x ∷ xs) = omega (arith, counted-all f xs, sum_by-cons (λ (c : lay.Written). c.items) (f x) (map f xs),
-    sum_by-cons (λ (c : lay.Written). c.parts) (f x) (map f xs), sum_by-cons (λ x. counted (f x)) x xs)
+counted-all f (x ∷ xs) = omega (
+  arith,
+  counted-all f xs,
+  sum_by-cons (λ (c : lay.Written). c.items) (f x) (map f xs),
+  sum_by-cons (λ (c : lay.Written). c.parts) (f x) (map f xs),
+  sum_by-cons (λ x. counted (f x)) x xs,
+)
 
 abbrev same : {A : Type 0} → A → Resolved A
 same x = Ok x
@@ -190,12 +195,12 @@ module _ (total : ℕ) (small : total < 2 ^ 32) where
   kind-pointer align items h l rest r =
       let close : List Written = token (tok.Symbol symbol.CloseBrace) ∷ rest in
       let e : kind_written (K.Pointer align items) l rest ≡ node l ∷ token (tok.Symbol symbol.Arrow) ∷ token (tok.Num align) ∷ token (tok.Symbol symbol.OpenBrace)
-              ∷ any_with comma (map (item_at (suc l)) items) close =
-          kind-Pointer align items l rest ∙ ap (λ us. node l ∷ token (tok.Symbol symbol.Arrow) ∷ token (tok.Num align) ∷ token (tok.Symbol symbol.OpenBrace)
-          ∷ any_with comma us close) (at_level-of lay_item_written (suc l) items) in
+      ∷ any_with comma (map (item_at (suc l)) items) close =
+      kind-Pointer align items l rest ∙ ap (λ us. node l ∷ token (tok.Symbol symbol.Arrow) ∷ token (tok.Num align) ∷ token (tok.Symbol symbol.OpenBrace)
+      ∷ any_with comma us close) (at_level-of lay_item_written (suc l) items) in
       let s = right-as total e r in
       let a = are-any total LayItem LayItem same (λ i. counted (written i)) OfItem (item_at (suc l)) comma items (each-item (suc l) items h) close
-          (off-token total _ _ (off-token total _ _ (off-token total _ _ (off-node total _ _ s)))) in
+      (off-token total _ _ (off-token total _ _ (off-token total _ _ (off-node total _ _ s)))) in
       let v = a.well items (all-ok items) in
       counts-as _ _ _ _ rest (counted-Pointer align items) e (record {
         right = off-token total _ _ a.right;
@@ -219,16 +224,18 @@ module _ (total : ℕ) (small : total < 2 ^ 32) where
       let close : List Written = token (tok.Symbol symbol.CloseBrace) ∷ rest in
       let vs : List Written = token (tok.Reserved word.Word) ∷ token (tok.Num bits) ∷ token (tok.Symbol symbol.OpenBrace) ∷ any_with comma (map (part_at l) parts) close in
       let e : lay_item_written (I.Word bits parts) l rest ≡ vs =
-          item-Word bits parts l rest ∙ ap (λ us. token (tok.Reserved word.Word) ∷ token (tok.Num bits) ∷ token (tok.Symbol symbol.OpenBrace)
-          ∷ any_with comma us close) (at_level-of part_written l parts) in
+      item-Word bits parts l rest ∙ ap (λ us. token (tok.Reserved word.Word) ∷ token (tok.Num bits) ∷ token (tok.Symbol symbol.OpenBrace)
+      ∷ any_with comma us close) (at_level-of part_written l parts) in
       let s : Right total vs = right-as total e r in
       let a = are-any total PartDecl PartDecl same (λ p. counted (part_counted p)) OfPart (part_at l) comma parts (each-part l parts h) close
-          (off-token total _ _ (off-token total _ _ (off-token total _ _ s))) in
+      (off-token total _ _ (off-token total _ _ (off-token total _ _ s))) in
       let v = a.well parts (all-ok parts) in
       is-as total LayItem LayItem same (λ i. counted (written i)) OfItem (item_at l) (I.Word bits parts) rest vs e (off-token total _ _ a.right) (omega (arith, a.count))
       (λ q f. subst (λ (x : LayItem). (counted (written x) + length (tokens_in rest) < length (tokens_in vs)) × OfItem x) (ok-is (I.Word bits parts) q f)
-      (rw (counted-Word bits parts) (omega (arith, v.few, counted-all part_counted parts),
-      short-round 1 0 part_counted parts (omega (arith, a.count, s.fits)) v.good)))
+      (rw (counted-Word bits parts) (
+        omega (arith, v.few, counted-all part_counted parts),
+        short-round 1 0 part_counted parts (omega (arith, a.count, s.fits)) v.good,
+      )))
 
   item-inline : (path : List ℕ) → ItemFine (I.Inline path)
   item-inline path l rest r =

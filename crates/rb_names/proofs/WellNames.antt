@@ -195,7 +195,7 @@ distinct-last (x ∷ xs) y d n =
     let e = both-true (not (list_any (bytes_eq x) xs)) _ d in
     let f = both-false (bytes_eq y x) (list_any (bytes_eq y) xs) n in
     let apart : list_any (bytes_eq x) (xs ++ y ∷ []) ≡ false =
-        any-append (bytes_eq x) xs (y ∷ []) ∙ rw (not-true _ e.0, bytes-symm x y, f.0) refl in
+    any-append (bytes_eq x) xs (y ∷ []) ∙ rw (not-true _ e.0, bytes-symm x y, f.0) refl in
     and-all (not (list_any (bytes_eq x) (xs ++ y ∷ []))) _ (ap not apart) (distinct-last xs y e.1 f.1)
 
 kind-same : (k l : Kind) → same_kind k l ≡ true → k ≡ l
@@ -248,7 +248,7 @@ one-more k ds d none h = rw (names-append k ds (d ∷ [])) (by (same_kind k d.ki
     by : (b : Bool) → same_kind k d.kind ≡ b → is_distinct bytes_eq (names_of k ds ++ cond b (d.name.text ∷ []) []) ≡ true
     by true e =
         let same : list_any (bytes_eq d.name.text) (names_of k ds) ≡ false =
-            ap (λ l. list_any (bytes_eq d.name.text) (names_of l ds)) (kind-same k d.kind e) ∙ sym (any-named d ds) ∙ none in
+        ap (λ l. list_any (bytes_eq d.name.text) (names_of l ds)) (kind-same k d.kind e) ∙ sym (any-named d ds) ∙ none in
         distinct-last (names_of k ds) d.name.text h same
     by false e = rw (append-nil (names_of k ds)) h
 

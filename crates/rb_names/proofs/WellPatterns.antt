@@ -217,7 +217,7 @@ module _ (total : ℕ) (small : total < 2 ^ 32) (types : List DataDecl) (t : Tab
             let g = then-ok (all_of (map (numbered_pattern t scope) ps)) _ q f.2 in
             let v = b.well scope g.0 g.1 in
             let short : is_short (map (pattern_is_numbered types) g.0) ≡ true =
-              short-list (map (pattern_is_numbered types) g.0) (length ps) (length-map (pattern_is_numbered types) g.0 ∙ v.0) (omega (arith, b.count, s.fits)) in
+            short-list (map (pattern_is_numbered types) g.0) (length ps) (length-map (pattern_is_numbered types) g.0 ∙ v.0) (omega (arith, b.count, s.fits)) in
             rw (← ok-is (C.Con at f.0 g.0) q g.2) (record {
               numbered = fold-Con Bool (pattern_step types) at f.0 g.0
                   ∙ and-both _ _ (known_con x.text f.0 (known-ok x (meaning t.constructors x.text) f.0 f.1)) (and-both _ _ short v.1.numbered);

@@ -86,7 +86,7 @@ well-numbered ts file p w e =
     let known_con = names.known_con items all found in
     let known_fun = names.known_fun items all found in
     let fs : FunctionsWell total w.short all.types all.functions t known_type known_con known_fun (place total ws) (place total []) all.functions =
-      functions-well total w.short all.types all.functions t known_type known_con known_fun items [] right named w.counted.each all found in
+    functions-well total w.short all.types all.functions t known_type known_con known_fun items [] right named w.counted.each all found in
     subst IsWellNumbered (ok-is _ p c.2) (record {
       main = names.main-below items all found c.0 c.1;
       types = kinds.types-numbered items all found w.counted total right named;

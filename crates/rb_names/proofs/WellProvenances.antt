@@ -87,7 +87,7 @@ module _ (total : ℕ) (small : total < 2 ^ 32) (types : List DataDecl) (t : Tab
   fields (p ∷ ps) h l rest r =
       let close : List Written = token (tok.Symbol symbol.CloseParen) ∷ rest in
       let a : BelowAre l (p ∷ ps) (below_written p l (each_behind comma (map (below_at l) ps) close)) close =
-          are-any total PatTree Pat (numbered_pattern t []) no_size IsBelow (below_at l) comma (p ∷ ps) (each-below (p ∷ ps) h l) close (off-token total _ _ r) in
+      are-any total PatTree Pat (numbered_pattern t []) no_size IsBelow (below_at l) comma (p ∷ ps) (each-below (p ∷ ps) h l) close (off-token total _ _ r) in
       record {
         right = off-token total _ rest a.right;
         count = omega (arith, a.count);
@@ -100,12 +100,12 @@ module _ (total : ℕ) (small : total < 2 ^ 32) (types : List DataDecl) (t : Tab
   con-good : (at : ℕ) (c : ConRef) (qs : List Pat) → is_constructor types c ≡ true → length qs ≤ total → Each IsBelow qs → IsProvenance (C.Con at c qs)
   con-good at c qs k h g =
       let provenance : is_provenance (C.Con at c qs) ≡ true =
-          ap (λ (b : Below). b.provenance) (fold-Con Below below_step at c qs)
-          ∙ each-passes (fold-Pat Below below_step) may_be_below qs (each-of IsBelow (λ q. may_be_below (fold-Pat Below below_step q) ≡ true) (λ q b. b.0) qs g) in
+      ap (λ (b : Below). b.provenance) (fold-Con Below below_step at c qs)
+      ∙ each-passes (fold-Pat Below below_step) may_be_below qs (each-of IsBelow (λ q. may_be_below (fold-Pat Below below_step q) ≡ true) (λ q b. b.0) qs g) in
       let short : is_short (map (pattern_is_numbered types) qs) ≡ true =
-          short-of total small (map (pattern_is_numbered types) qs) (omega (arith, h, length-of-map (pattern_is_numbered types) qs)) in
+      short-of total small (map (pattern_is_numbered types) qs) (omega (arith, h, length-of-map (pattern_is_numbered types) qs)) in
       let all : list_all (λ b. b) (map (pattern_is_numbered types) qs) ≡ true =
-          each-passes (pattern_is_numbered types) (λ b. b) qs (each-of IsBelow (λ q. pattern_is_numbered types q ≡ true) (λ q b. b.1) qs g) in
+      each-passes (pattern_is_numbered types) (λ b. b) qs (each-of IsBelow (λ q. pattern_is_numbered types q ≡ true) (λ q b. b.1) qs g) in
       both _ _ provenance (fold-Con Bool (pattern_step types) at c qs ∙ both _ _ k (both _ _ short all))
 
   con-is : (at : ℕ) (x : NameTree) (ps : List PatTree) → pattern.Each BelowFine ps → (l : ℕ) (rest : List Written)
@@ -118,18 +118,22 @@ module _ (total : ℕ) (small : total < 2 ^ 32) (types : List DataDecl) (t : Tab
       (λ q e.
       let f = then-ok (known x (meaning t.constructors x.text)) _ q (sym (pattern-Con t [] at x ps) ∙ e) in
       let g = then-ok (all_of (map (numbered_pattern t []) ps)) _ q f.2 in
-      let v = a.well g.0 g.1 in
-      (omega (arith, a.count),
-      subst IsProvenance (ok-is (C.Con at f.0 g.0) q g.2)
-      (con-good at f.0 g.0 (known_con x.text f.0 (known-ok x (meaning t.constructors x.text) f.0 f.1)) (omega (arith, v.0, a.count, s.fits)) v.1)))
+      let v = a.well g.0 g.1 in (
+        omega (arith, a.count),
+        subst IsProvenance (ok-is (C.Con at f.0 g.0) q g.2)
+            (con-good at f.0 g.0 (known_con x.text f.0 (known-ok x (meaning t.constructors x.text) f.0 f.1)) (omega (arith, v.0, a.count, s.fits)) v.1),
+      ))
 
   below-wild : (at : ℕ) → BelowFine (P.Wild at)
   below-wild at l rest r =
       let s : Right total (node l ∷ number at ∷ token (tok.Symbol symbol.Underscore) ∷ rest) = right-as total (below-Wild at l rest) r in
       is-as total PatTree Pat (numbered_pattern t []) no_size IsBelow (below_at l) (P.Wild at) rest _ (below-Wild at l rest)
       (off-token total _ _ (off-number total _ _ (off-node total _ _ s))) (omega arith)
-      (λ q e. (omega arith, subst IsBelow (ok-is (C.Wild at) q (sym (pattern-Wild t [] at) ∙ e))
-      (ap may_be_below (fold-Wild Below below_step at), fold-Wild Bool (pattern_step types) at)))
+      (λ q e. (
+        omega arith,
+        subst IsBelow (ok-is (C.Wild at) q (sym (pattern-Wild t [] at) ∙ e))
+            (ap may_be_below (fold-Wild Below below_step at), fold-Wild Bool (pattern_step types) at),
+      ))
 
   flawed : (Q : Type 0) (ws rest : List Written) → ws ≡ flaw ∷ rest → Right total ws → Q
   flawed Q ws rest e r = let s : Right total (flaw ∷ rest) = right-as total e r in absurd s.formed
