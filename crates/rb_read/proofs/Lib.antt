@@ -11,6 +11,7 @@ pub mod Forms
 pub mod ItemForms
 pub mod LayoutInduction
 pub mod LeafForms
+mod LimitExamples
 pub mod LimitLemmas
 pub mod ListForms
 pub mod LocationForms

@@ -98,8 +98,8 @@ module _ (total limit l : ℕ) (small : nat_lt limit l ≡ false) {inner : Reade
       (pat-Num at k l rest) (λ m h. rw h.0 refl) i clear)
       (λ at x ps i. node-again subpatterns (tok.Upper x.text) (λ at ps. P.Con at (named at x.text) ps) (λ ts. refl) (node l ∷ number at ∷ number x.at ∷ []) tt (rw small refl) _ ps rest _
       (con-written at x ps l rest) (λ m h. rw (h.0, ← h.1.0) refl) i c) where
-      clear : Clear (λ _. false) (tokens_in rest)
-      clear = all-clear (tokens_in rest)
+        clear : Clear (λ _. false) (tokens_in rest)
+        clear = all-clear (tokens_in rest)
 
   pattern-above : IsPart total limit opens_paren (pat l) (λ p. pat_written p l) (pattern_one inner total)
   unfolding pattern_one

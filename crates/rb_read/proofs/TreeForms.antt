@@ -117,8 +117,15 @@ tree-zero total limit l e = zero-form begins_tree deeper nothing_begun begun whe
       let vs : List Written = items_written (suc l) items rest in
       let j : IsRight total (node l ∷ number at ∷ prov_written p (suc l) vs) = subst (λ ws. IsRight total ws) (leaf-written at p items l rest) i in
       constructor-of (λ q. IsDeepBegun limit begins_tree (at_tree l (S.Leaf at q items) rest)) total (suc l) vs
-      (λ m x ps. record { marks = node l ∷ number at ∷ node (suc l) ∷ number m ∷ number x.at ∷ []; first = tok.Upper x.text; others = _;
-      whole = leaf-written at (P.Con m x ps) items l rest ∙ ap (λ ws. node l ∷ number at ∷ ws) (prov-con-written m x ps (suc l) vs); are_marks = tt; is_deep = rw deep refl; passes = refl })
+      (λ m x ps. record {
+        marks = node l ∷ number at ∷ node (suc l) ∷ number m ∷ number x.at ∷ [];
+        first = tok.Upper x.text;
+        others = _;
+        whole = leaf-written at (P.Con m x ps) items l rest ∙ ap (λ ws. node l ∷ number at ∷ ws) (prov-con-written m x ps (suc l) vs);
+        are_marks = tt;
+        is_deep = rw deep refl;
+        passes = refl;
+      })
       p (j.0, j.1.1)
 
   begun : (t : SplitTree) (rest : List Written) → IsRight total (at_tree l t rest) → IsDeepBegun limit begins_tree (at_tree l t rest)
