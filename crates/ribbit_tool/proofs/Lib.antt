@@ -1,14 +1,12 @@
+pub mod Accepted
 pub mod ArgumentsRead
 pub mod ComputedLaws
+pub mod Counted
 pub mod ExecLaws
-pub mod IntegerAgain
-pub mod IntegerBodies
-pub mod IntegerFit
-pub mod IntegerItems
-pub mod IntegerParams
-pub mod IntegerTakes
-pub mod IntegerWhole
+pub mod Faults
+pub mod Named
 pub mod NumberLaws
+pub mod Numbered
 pub mod PromiseLaws
 pub mod ReadLaws
 pub mod Refinement
@@ -16,6 +14,7 @@ pub mod RunLaws
 pub mod StraightCode
 pub mod StraightLaws
 pub mod StraightRuns
+pub mod TextLaws
 pub mod Tokens
 pub mod VariableLaws
 pub mod WordTexts

@@ -11,9 +11,20 @@ use Rattle.rb_core.specs.declared.outcome.SourceEnd.TheVariants as source
 use Rattle.rb_core.specs.declared.program.Program.{Program}
 use Rattle.rb_core.specs.Meaning.{call_of}
 use Rattle.rb_edge.specs.Faults.{Rose}
+use Rattle.rb_core.specs.declared.types.DataDecl.{DataDecl}
+use Rattle.rb_core.specs.declared.typing.TypeFault.{TypeFault}
+use Rattle.rb_core.specs.declared.typing.TypeFault.TheVariants as typing
+use Rattle.rb_names.specs.declared.fault.NameFault.{NameFault}
+use Rattle.rb_names.specs.declared.fault.NameFault.TheVariants as naming
+use Rattle.rb_read.specs.declared.fault.ReadFault.{ReadFault}
+use Rattle.rb_read.specs.declared.fault.ReadFault.TheVariants as reading
+use Rattle.rb_syntax.specs.declared.lex.LexFault.{LexFault}
+use Rattle.rb_syntax.specs.declared.lex.LexFault.TheVariants as lexing
+use Rattle.rb_syntax.specs.declared.token.Placed.{Placed}
+use Rattle.ribbit_tool.specs.Accepting.{IsRefused, uncut, misread, misnamed, mistyped, uncovered, lex_due, read_due, name_due, type_due}
 use Rattle.ribbit_tool.specs.Answer.{Due}
 use Rattle.ribbit_tool.specs.Arguments.{Numbers}
-use Rattle.ribbit_tool.specs.Command.{Limits, Parsed, run, exec, command_of}
+use Rattle.ribbit_tool.specs.Command.{Limits, Parsed, check, run, exec, command_of}
 use Rattle.ribbit_tool.specs.Delivery.{Change, Took, TookFront, Stood, IsDelivered, output, error_line, output_failed, error_failed}
 use Rattle.rb_target.specs.declared.code.CodeFun.{CodeFun}
 use Rattle.rb_target.specs.declared.outcome.End.{End}
@@ -23,11 +34,13 @@ use Rattle.ribbit_tool.specs.Limited.{IsLimited}
 use Rattle.ribbit_tool.specs.Lines.{write_fault_line}
 use Rattle.ribbit_tool.specs.Promise.{Reading, Counting, IsGiven, IsAnswered, IsRun, IsRight}
 use Rattle.ribbit_tool.specs.Results.{Holds, IsReadDue, IsResultOf, IsAnswer, answered, source_failed, IsDue, composed, out_of_memory}
-use Rattle.ribbit_tool.specs.Running.{call_due, IsRunDue, IsProgramDue, unbuilt, run as ran, IsFileDue, file_limit}
+use Rattle.ribbit_tool.specs.Running.{call_due, IsRunDue, IsCheckDue, turned_down, unchecked, checked, IsProgramDue, refused, unbuilt, run as ran, IsFileDue, file_limit}
 
 -- what is seen under each name is what is held, so the answer is the same
 same_answer : (parsed : Parsed) (seen held : Holds) (due : Due) → ((name : List ℕ) → seen name ≡ held name) → IsResultOf parsed seen due → IsResultOf parsed held due
 same_answer (Err word) seen held due e h = h
+same_answer (Ok (check file)) seen held due e h =
+    subst (λ (o : Option (List ℕ)). IsReadDue o (λ bytes. IsLimited file_limit (λ bs d. IsCheckDue bs d) bytes due) due) (e file) h
 same_answer (Ok (run file limits values)) seen held due e h =
     subst (λ (o : Option (List ℕ)). IsReadDue o (λ bytes. IsFileDue bytes limits values due) due) (e file) h
 same_answer (Ok (exec code function limits words)) seen held due e h =
@@ -46,9 +59,47 @@ run_not_8 : (p : Program) (limits : Limits) (numbers : Numbers) (due : Due) → 
 run_not_8 p limits (Err line) due e = by_status due _ e (λ f. omega (arith, f))
 run_not_8 p limits (Ok numbers) due h = by_status due _ h.2 (call_not_8 (call_of p p.main limits.calls (map Num numbers)).end limits.calls _)
 
+lex_not_8 : (f : LexFault) → (lex_due f).status ≢ 8
+lex_not_8 (lexing.BadByte at) e = absurd (omega (arith, e))
+lex_not_8 (lexing.NumberTooWide at) e = absurd (omega (arith, e))
+lex_not_8 lexing.Memory e = absurd (omega (arith, e))
+
+read_due_not_8 : (placed : List Placed) (size : ℕ) (f : ReadFault) → (read_due placed size f).status ≢ 8
+read_due_not_8 placed size (reading.TooDeep t) e = absurd (omega (arith, e))
+read_due_not_8 placed size (reading.Syntax t) e = absurd (omega (arith, e))
+read_due_not_8 placed size (reading.Unbuilt t) e = absurd (omega (arith, e))
+read_due_not_8 placed size (reading.Limit q n) e = absurd (omega (arith, e))
+read_due_not_8 placed size reading.Memory e = absurd (omega (arith, e))
+
+name_not_8 : (placed : List Placed) (size : ℕ) (f : NameFault) → (name_due placed size f).status ≢ 8
+name_not_8 placed size (naming.Twice name t) e = absurd (omega (arith, e))
+name_not_8 placed size (naming.Unknown name t) e = absurd (omega (arith, e))
+name_not_8 placed size naming.NoMain e = absurd (omega (arith, e))
+name_not_8 placed size naming.Memory e = absurd (omega (arith, e))
+
+type_not_8 : (types : List DataDecl) (placed : List Placed) (size : ℕ) (f : TypeFault) → (type_due types placed size f).status ≢ 8
+type_not_8 types placed size (typing.Empty t) e = absurd (omega (arith, e))
+type_not_8 types placed size (typing.Mismatch t wanted found) e = absurd (omega (arith, e))
+type_not_8 types placed size (typing.Arity t wanted found) e = absurd (omega (arith, e))
+type_not_8 types placed size (typing.VariableTwice t) e = absurd (omega (arith, e))
+type_not_8 types placed size typing.Memory e = absurd (omega (arith, e))
+
+refused_not_8 : (bytes : List ℕ) (due : Due) → IsRefused bytes due → due.status ≢ 8
+refused_not_8 bytes due (uncut fault cut e) = by_status due _ e (lex_not_8 fault)
+refused_not_8 bytes due (misread placed cut fault answer e) = by_status due _ e (read_due_not_8 placed (length bytes) fault)
+refused_not_8 bytes due (misnamed placed file read fault named e) = by_status due _ e (name_not_8 placed (length bytes) fault)
+refused_not_8 bytes due (mistyped placed p named fault other is_first e) = by_status due _ e (type_not_8 p.types placed (length bytes) fault)
+refused_not_8 bytes due (uncovered placed p named typed t q is_first e) = by_status due _ e (λ f. omega (arith, f))
+
 program_not_8 : (bytes : List ℕ) (limits : Limits) (words : List (List ℕ)) (due : Due) → IsProgramDue bytes limits words due → due.status ≢ 8
-program_not_8 bytes limits words due (unbuilt none e) = by_status due _ e (λ f. omega (arith, f))
-program_not_8 bytes limits words due (ran p accepted h) = run_not_8 p limits _ due h
+program_not_8 bytes limits words due (refused h) = refused_not_8 bytes due h
+program_not_8 bytes limits words due (unbuilt p a none e) = by_status due _ e (λ f. omega (arith, f))
+program_not_8 bytes limits words due (ran p accepted integers h) = run_not_8 p limits _ due h
+
+check_not_8 : (bytes : List ℕ) (due : Due) → IsCheckDue bytes due → due.status ≢ 8
+check_not_8 bytes due (turned_down h) = refused_not_8 bytes due h
+check_not_8 bytes due (unchecked p a t here e) = by_status due _ e (λ f. omega (arith, f))
+check_not_8 bytes due (checked p a none notes covered e) = by_status due _ e (λ f. omega (arith, f))
 
 end_not_8 : (e : End) (calls steps : ℕ) → (end_due e calls steps).status ≢ 8
 end_not_8 (Returned words left) calls steps e = absurd (omega (arith, e))
@@ -83,6 +134,8 @@ read_not_8 limit P due not_8 (Some bytes) h = limited_not_8 limit P due not_8 by
 
 result_not_8 : (parsed : Parsed) (held : Holds) (due : Due) → IsResultOf parsed held due → due.status ≢ 8
 result_not_8 (Err word) held due e = by_status due _ e (λ f. omega (arith, f))
+result_not_8 (Ok (check file)) held due h =
+    read_not_8 file_limit (λ bs d. IsCheckDue bs d) due (λ bytes. check_not_8 bytes due) (held file) h
 result_not_8 (Ok (run file limits values)) held due h =
     read_not_8 file_limit (λ bs d. IsProgramDue bs limits values d) due (λ bytes. program_not_8 bytes limits values due) (held file) h
 result_not_8 (Ok (exec code function limits words)) held due h =

@@ -60,3 +60,10 @@ module _ (command : Command) (file : List ℕ) (limit : ℕ) (P : List ℕ → D
       → IfOk r (λ c. Answers (λ d. IsComposed (Ok command) tells held before now d) c steps steps)
   refused_composed tells fault steps cause (Ok c) is e = (0, omega arith, failed (due_of c 0) tells e (cause is))
   refused_composed tells fault steps cause (Err x) is e = tt
+
+  -- and of a command that runs nothing
+  pub refused_unrun : {E : Type 0} (tells : Bool) (fault : ReadFault) → (fault ≡ Failed → Rose before now ⊎ (IsTrue tells × (held file ≡ None)))
+      → (r : Result Composed E) → IfOk r (λ c. fault ≡ Failed) → IfOk r (λ c. due_of c 0 ≡ unrun 7 read_fault_line)
+      → IfOk r (λ c. IsComposed (Ok command) tells held before now (due_of c 0))
+  refused_unrun tells fault cause (Ok c) is e = failed (due_of c 0) tells e (cause is)
+  refused_unrun tells fault cause (Err x) is e = tt

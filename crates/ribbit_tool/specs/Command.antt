@@ -9,6 +9,7 @@ pub record Limits : Type 0 where
   pub region : ℕ
 
 pub data Command : Type 0 where
+  check : (file : List ℕ) → Command
   run : (file : List ℕ) → (limits : Limits) → (values : List (List ℕ)) → Command
   exec : (code : List ℕ) → (function : List ℕ) → (limits : Limits) → (words : List ℕ) → Command
 
@@ -35,6 +36,15 @@ with_limits n words go =
     with_number n 0 1000000000 words (λ calls ws.
     with_number (n + 1) 64 16777216 ws (λ region rest.
     go (record { calls = calls; region = region }) rest))
+
+-- the command where no word is left, of which the first would have this number
+abbrev pub alone : ℕ → Command → List (List ℕ) → Parsed
+alone n command [] = Ok command
+alone n command (w ∷ ws) = Err n
+
+-- FILE and no more
+abbrev pub check_words : List (List ℕ) → Parsed
+check_words words = with_word 2 words (λ file ws. alone 3 (check file) ws)
 
 -- FILE CALLS REGION and zero or more VALUE
 abbrev pub run_words : List (List ℕ) → Parsed
@@ -67,5 +77,6 @@ exec_words words = with_word 2 words (λ code ws. function_words code ws)
 
 unfoldable pub command_of : List (List ℕ) → Parsed
 command_of words = with_word 1 words (λ w ws.
+    if bytes_eq w (codes "check") then check_words ws else
     if bytes_eq w (codes "run") then run_words ws else
     if bytes_eq w (codes "exec") then exec_words ws else Err 1)

@@ -2,11 +2,11 @@
 use Rattle.std.specs.Prelude.{◌≡◌, ℕ, List, Bool, IsTrue, Option, Some, None, Ok, Err}
 use Rattle.rb_edge.specs.Faults.{Rose}
 use Rattle.ribbit_tool.specs.Answer.{Due, unrun}
-use Rattle.ribbit_tool.specs.Command.{Command, Parsed, run, exec, command_of}
+use Rattle.ribbit_tool.specs.Command.{Command, Parsed, check, run, exec, command_of}
 use Rattle.ribbit_tool.specs.Executing.{IsCodeDue, code_limit}
 use Rattle.ribbit_tool.specs.Limited.{IsLimited}
 use Rattle.ribbit_tool.specs.Lines.{usage_line, read_fault_line, no_memory_line}
-use Rattle.ribbit_tool.specs.Running.{IsFileDue}
+use Rattle.ribbit_tool.specs.Running.{IsCheckDue, IsFileDue, file_limit}
 
 -- the bytes that are held under a name, or nothing
 abbrev pub Holds : Type 0
@@ -19,6 +19,7 @@ IsReadDue (Some bytes) P due = P bytes
 
 -- one equation for each command
 abbrev pub IsResult : Command → Holds → Due → Type 0
+IsResult (check file) held due = IsReadDue (held file) (λ bytes. IsLimited file_limit (λ bs d. IsCheckDue bs d) bytes due) due
 IsResult (run file limits values) held due = IsReadDue (held file) (λ bytes. IsFileDue bytes limits values due) due
 IsResult (exec code function limits words) held due =
     IsReadDue (held code) (λ bytes. IsLimited code_limit (λ bs d. IsCodeDue function limits words bs d) bytes due) due

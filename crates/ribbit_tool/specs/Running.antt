@@ -1,32 +1,24 @@
--- What a run of a file of one integer function is due.
-use Rattle.std.specs.Prelude.{◌≡◌, ℕ, List, map, Ok, Err}
+-- What is due to a run and to a check of a file.
+use Rattle.std.specs.Prelude.{◌≡◌, ℕ, List, map, length, Some, None, Ok, Err}
 use Rattle.rb_bytes.specs.Memory.{empty_memory}
 use Rattle.rb_core.specs.declared.value.Value.{Num}
 use Rattle.rb_core.specs.declared.outcome.SourceEnd.{SourceEnd}
 use Rattle.rb_core.specs.declared.outcome.SourceEnd.TheVariants as source
 use Rattle.rb_core.specs.declared.program.Program.{Program}
+use Rattle.rb_core.specs.declared.program.Note.{Note}
+use Rattle.rb_core.specs.Coverage.{IsCovered}
 use Rattle.rb_core.specs.Meaning.{call_of, number_of}
-use Rattle.rb_core.specs.TypedPrograms.{IsTyped}
-use Rattle.rb_syntax.specs.declared.token.Placed.{Placed}
-use Rattle.rb_syntax.specs.Lexing.{lexed}
-use Rattle.rb_syntax.specs.Tokens as written
 use Rattle.rb_target.specs.declared.code.CodeFun.{CodeFun}
 use Rattle.rb_target.specs.Meaning.{run_of}
+use Rattle.ribbit_tool.specs.Accepting.{IsAccepted, IsRefused, byte_of, first_declared, check_text}
 use Rattle.ribbit_tool.specs.Answer.{Due, unrun}
 use Rattle.ribbit_tool.specs.Arguments.{Numbers, arguments_of}
 use Rattle.ribbit_tool.specs.Command.{Limits}
-use Rattle.ribbit_tool.specs.IntegerFunctions.{SpellsProgram}
+use Rattle.ribbit_tool.specs.IntegerPrograms.{IsIntegerProgram}
 use Rattle.ribbit_tool.specs.Limited.{IsLimited}
 use Rattle.ribbit_tool.specs.Lines.{number_line, spent_line, unbuilt_line}
 use Rattle.ribbit_tool.specs.Refining.{RefinesIntegers}
 use Rattle.rb_core.specs.Typing.{param_types}
-
--- the bytes are a file of one integer function, and this is its typed program
-pub record IsAccepted (bytes : List ℕ) (p : Program) : Type 0 where
-  pub tokens : List Placed
-  pub cut : lexed bytes ≡ Ok tokens
-  pub spelled : SpellsProgram (written.tokens tokens) p
-  pub typed : IsTyped p
 
 -- a call's answer: its value on a line, or that the calls are spent
 abbrev pub call_due : SourceEnd → ℕ → ℕ → Due
@@ -45,11 +37,23 @@ IsRunDue p limits (Ok numbers) due =
     (code : List CodeFun) × RefinesIntegers p code
     × (due ≡ call_due (call_of p p.main limits.calls (map Num numbers)).end limits.calls (steps_of code p limits numbers))
 
--- What is due to the bytes of a file: there is a program and it is run, or there is none.
+-- What is due to the run of a file: it is refused; or it is accepted, and its program is run where it
+-- is an integer program. No other program is compiled yet.
 pub data IsProgramDue (bytes : List ℕ) (limits : Limits) (words : List (List ℕ)) (due : Due) : Type 0 where
-  unbuilt : ((p : Program) → IsAccepted bytes p → ⊥) → due ≡ unrun 15 (unbuilt_line 0) → IsProgramDue bytes limits words due
-  run : (p : Program) → IsAccepted bytes p → IsRunDue p limits (arguments_of (param_types p.funs p.main) words) due
+  refused : IsRefused bytes due → IsProgramDue bytes limits words due
+  unbuilt : (p : Program) (a : IsAccepted bytes p) → (IsIntegerProgram p → ⊥) → due ≡ unrun 15 (unbuilt_line (byte_of a.placed (length bytes) 0))
       → IsProgramDue bytes limits words due
+  run : (p : Program) → IsAccepted bytes p → IsIntegerProgram p → IsRunDue p limits (arguments_of (param_types p.funs p.main) words) due
+      → IsProgramDue bytes limits words due
+
+-- What is due to the check of a file: it is refused; or it is accepted, and its notes are shown where
+-- it has no type and no layout. No layout is checked yet.
+pub data IsCheckDue (bytes : List ℕ) (due : Due) : Type 0 where
+  turned_down : IsRefused bytes due → IsCheckDue bytes due
+  unchecked : (p : Program) (a : IsAccepted bytes p) (t : ℕ) → first_declared a.named.file ≡ Some t
+      → due ≡ unrun 15 (unbuilt_line (byte_of a.placed (length bytes) t)) → IsCheckDue bytes due
+  checked : (p : Program) (a : IsAccepted bytes p) → first_declared a.named.file ≡ None → (notes : List Note) → IsCovered p notes
+      → due ≡ unrun 0 (check_text a.placed (length bytes) notes) → IsCheckDue bytes due
 
 -- the most bytes that a file may have
 abbrev pub file_limit : ℕ

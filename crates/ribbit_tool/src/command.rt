@@ -2,7 +2,7 @@
 
 ghost use Rattle.std.specs.Prelude.{◌≡◌, ◌≤◌, List, MatchResult, Ok, ℕ};
 ghost use Rattle.ribbit_tool.specs.declared.command.CommandFault.TheVariants.{Memory};
-ghost use Rattle.ribbit_tool.specs.Command.{Limits as LimitsValue, Parsed, command_of, exec_words, function_words, numbers_from, run_words, with_limits};
+ghost use Rattle.ribbit_tool.specs.Command.{Limits as LimitsValue, Parsed, check_words, command_of, exec_words, function_words, numbers_from, run_words, with_limits};
 ghost use Rattle.ribbit_tool.specs.View.{command_view, limits_view, IsUsage};
 
 use crate::limits::Limits;
@@ -15,6 +15,10 @@ use thiserror::Error;
 /// What the words ask for.
 #[derive(Debug, Drop)]
 pub enum Command<'a> {
+    /// A check of a file.
+    Check {
+        file: &'a [u8],
+    },
     /// A run of the function `main` of a file on these values.
     Run {
         file: &'a [u8],
@@ -78,6 +82,19 @@ fn parse_limits<'a>(number: usize, words: &'a [Name]) -> Result<(Limits, &'a [Na
         return Err(CommandFault::Usage(number + 1));
     };
     Ok((Limits { calls, region }, words))
+}
+
+// The words behind `check`.
+fn parse_check<'a>(words: &'a [Name]) -> Result<Command<'a>, CommandFault>
+    ensures { MatchResult result (λ c. check_words words.now ≡ Ok (command_view c)) (IsUsage (check_words words.now)) }
+{
+    match words {
+        [] => Err(CommandFault::Usage(2)),
+        [file] => Ok(Command::Check {
+            file: file.as_slice(),
+        }),
+        [_, _, ..] => Err(CommandFault::Usage(3)),
+    }
 }
 
 // The words behind `run`.
@@ -148,6 +165,9 @@ pub fn parse<'a>(alloc: Global, words: &'a [Name]) -> Result<Command<'a>, Comman
     match words {
         [] => Err(CommandFault::Usage(1)),
         [first, rest @ ..] => {
+            if first.as_slice() == b"check".as_slice() {
+                return parse_check(rest);
+            }
             if first.as_slice() == b"run".as_slice() {
                 return parse_run(rest);
             }

@@ -6,7 +6,7 @@ use std::process::Abort;
 use std::test::Fail;
 
 /// A text in which each `;` ends a line.
-fn lines(alloc: Global, row: &str) -> Result<Vec<u8>, AllocError> {
+pub fn lines(alloc: Global, row: &str) -> Result<Vec<u8>, AllocError> {
     let mut text = Vec::new(alloc);
     for byte in row.as_bytes() {
         text.push(if *byte == b';' { b'\n' } else { *byte })?;

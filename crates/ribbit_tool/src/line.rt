@@ -9,26 +9,31 @@ use rb_core::decimal::digits;
 use rb_target::fault::CodeFault;
 use std::alloc::{AllocError, Global};
 
+pub mod fault;
+pub mod note;
+pub mod pattern;
+pub mod types;
+
 pub const READ_FAULT: &[u8] = b"ribbit: read fault\n";
 
 pub const WRITE_FAULT: &[u8] = b"ribbit: write fault\n";
 
 pub const NO_MEMORY: &[u8] = b"ribbit: no memory\n";
 
-fn push(text: &mut Vec<u8>, bytes: &[u8]) -> Result<(), AllocError>
+pub(crate) fn push(text: &mut Vec<u8>, bytes: &[u8]) -> Result<(), AllocError>
     ensures { OnOk result (text.new.items ≡ text.old.items ++ bytes.now) }
 {
     text.extend_from_slice(bytes)
 }
 
-fn push_number(text: &mut Vec<u8>, number: u64) -> Result<(), AllocError>
+pub(crate) fn push_number(text: &mut Vec<u8>, number: u64) -> Result<(), AllocError>
     ensures { OnOk result (text.new.items ≡ text.old.items ++ decimal number) }
 {
     text.extend_from_slice(digits(number).as_slice())
 }
 
 // The program's name and these bytes.
-fn begin(alloc: Global, bytes: &[u8]) -> Result<Vec<u8>, AllocError>
+pub(crate) fn begin(alloc: Global, bytes: &[u8]) -> Result<Vec<u8>, AllocError>
     ensures { IfOk result (λ text. text.items ≡ line.begun bytes.now) }
 {
     let mut text = Vec::from_slice(alloc, b"ribbit: ")?;
@@ -37,7 +42,7 @@ fn begin(alloc: Global, bytes: &[u8]) -> Result<Vec<u8>, AllocError>
 }
 
 // The text with a line's end.
-fn end(text: Vec<u8>) -> Result<Vec<u8>, AllocError>
+pub(crate) fn end(text: Vec<u8>) -> Result<Vec<u8>, AllocError>
     ensures { IfOk result (λ ended. ended.items ≡ line.ended text.items) }
 {
     let mut text = text;

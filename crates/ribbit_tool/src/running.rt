@@ -1,68 +1,33 @@
-//! Runs a file of one integer function: reads it, types it, compiles it, and runs the code.
+//! Runs a file: accepts it, compiles its program where that is one integer function, and runs the code.
 
-ghost use Rattle.std.specs.Prelude.{◌≡◌, ◌≤◌, ◌<◌, ◌+◌, ◌∷◌, [], ℕ, List, length, IfOk, IfSome, OnOk, Some};
+ghost use Rattle.std.specs.Prelude.{◌≡◌, ◌≤◌, ◌<◌, ◌+◌, ◌∷◌, [], ℕ, List, length, IfOk, OnOk};
 ghost use Rattle.rb_core.specs.declared.outcome.SourceEnd.{SourceEnd};
-ghost use Rattle.rb_core.specs.declared.program.Program.{Program as ProgramValue};
 ghost use Rattle.ribbit_tool.specs.IntegerPrograms.{IsIntegerProgram};
 ghost use Rattle.rb_core.specs.Typing.{param_types};
-ghost use Rattle.rb_core.specs.TypedPrograms.{IsTyped};
-ghost use Rattle.rb_core.specs.WellNumbered.{IsWellNumbered};
 ghost use Rattle.ribbit_tool.specs.Arguments.{arguments_of};
 ghost use Rattle.ribbit_tool.specs.Refining.{end_of};
-ghost use Rattle.ribbit_tool.specs.Running.{IsAccepted, IsRunDue, IsFileDue, IsProgramDue, call_due};
-ghost use Rattle.ribbit_tool.specs.View.{limits_view, due_of, IsOneWord, Answers};
+ghost use Rattle.ribbit_tool.specs.Running.{IsRunDue, IsFileDue, IsProgramDue, call_due};
+ghost use Rattle.ribbit_tool.specs.View.{limits_view, due_of, IsAcceptance, IsOneWord, Answers};
 
+use crate::accepting::{Accepted, accept};
 use crate::answer::Composed;
 use crate::arguments::{Arguments, read_arguments};
 use crate::compile::compile_integers;
-use crate::integer::read_integer_function;
+use crate::integer_program::is_integer_program;
 use crate::limits::Limits;
 use crate::line;
+use crate::place::byte_of;
+use crate::refusal::answer_refusal;
 use rb_bytes::checked::CheckedMemory;
-use rb_check::check;
 use rb_core::program::Program;
-use rb_core::typing::TypeFault;
 use rb_edge::seq::Name;
 use rb_edge::steps::{Ledger, Steps};
 use rb_machine::run::run;
-use rb_syntax::lex::{LexFault, lex};
 use rb_target::outcome::End;
 use std::alloc::{AllocError, Global};
 
 /// The most bytes that a file may have.
 pub const FILE_LIMIT: usize = 262_144;
-
-// The program if it is typed.
-fn keep_typed(alloc: Global, program: Program) -> Result<Option<Program>, AllocError>
-    requires { IsWellNumbered program }
-    ensures typed { IfOk result (λ o. IfSome o IsTyped) }
-    ensures same { IfOk result (λ o. IfSome o (λ p. p ≡ program)) }
-    ensures complete { IsTyped program → IfOk result (λ o. o ≡ Some program) }
-{
-    match check(alloc, &program) {
-        Ok(()) => Ok(Some(program)),
-        Err(TypeFault::Memory) => Err(AllocError),
-        Err(_) => Ok(None),
-    }
-}
-
-// The typed program of a file of one integer function, or None for any other file.
-fn accept(alloc: Global, bytes: &[u8]) -> Result<Option<Program>, AllocError>
-    requires { length bytes.now ≤ 262144 }
-    ensures accepted { IfOk result (λ o. IfSome o (IsAccepted bytes.now)) }
-    ensures only { (p : ProgramValue) → IsAccepted bytes.now p → IfOk result (λ o. o ≡ Some p) }
-    ensures integers { IfOk result (λ o. IfSome o IsIntegerProgram) }
-{
-    let tokens = match lex(alloc, bytes) {
-        Ok(tokens) => tokens,
-        Err(LexFault::Memory) => return Err(AllocError),
-        Err(_) => return Ok(None),
-    };
-    match read_integer_function(alloc, tokens.as_slice())? {
-        None => Ok(None),
-        Some(program) => keep_typed(alloc, program),
-    }
-}
 
 // The line of a run's end.
 fn show(alloc: Global, end: &End, calls: u64) -> Result<Composed, AllocError>
@@ -115,6 +80,51 @@ fn run_main<L: Ledger>(
     }
 }
 
+// The answer to an accepted file.
+fn run_accepted<L: Ledger>(
+    alloc: Global,
+    bytes: &[u8],
+    accepted: &Accepted,
+    limits: Limits,
+    words: &[Name],
+    steps: &mut Steps<L>,
+) -> Result<Composed, AllocError>
+    requires { IsAcceptance bytes.now accepted.now }
+    ensures { IfOk result (λ c. Answers (IsProgramDue bytes.now (limits_view limits) words.now) c steps.old.taken steps.new.taken) }
+{
+    let program = accepted.covered.program();
+    if is_integer_program(program) {
+        let composed = run_main(alloc, program, limits, words, steps)?;
+        return Ok(composed);
+    }
+    let at = byte_of(accepted.placed.as_slice(), bytes.len(), 0);
+    let text = line::unbuilt(alloc, at)?;
+    Ok(Composed { status: 15, text })
+}
+
+// The answer to a file within the limit.
+fn run_bytes<L: Ledger>(
+    alloc: Global,
+    bytes: &[u8],
+    limits: Limits,
+    words: &[Name],
+    steps: &mut Steps<L>,
+) -> Result<Composed, AllocError>
+    requires { length bytes.now ≤ 262144 }
+    ensures { IfOk result (λ c. Answers (IsProgramDue bytes.now (limits_view limits) words.now) c steps.old.taken steps.new.taken) }
+{
+    match accept(alloc, bytes) {
+        Ok(accepted) => {
+            let composed = run_accepted(alloc, bytes, &accepted, limits, words, steps)?;
+            Ok(composed)
+        }
+        Err(refusal) => {
+            let composed = answer_refusal(refusal)?;
+            Ok(composed)
+        }
+    }
+}
+
 /// What is due to the bytes of a file, of which at most one more than the limit was read.
 pub fn run_file<L: Ledger>(
     alloc: Global,
@@ -129,14 +139,6 @@ pub fn run_file<L: Ledger>(
         let text = line::file_bytes(alloc, FILE_LIMIT as u64 + 1, FILE_LIMIT as u64)?;
         return Ok(Composed { status: 11, text });
     }
-    match accept(alloc, bytes)? {
-        None => {
-            let text = line::unbuilt(alloc, 0)?;
-            Ok(Composed { status: 15, text })
-        }
-        Some(program) => {
-            let composed = run_main(alloc, &program, limits, words, steps)?;
-            Ok(composed)
-        }
-    }
+    let composed = run_bytes(alloc, bytes, limits, words, steps)?;
+    Ok(composed)
 }

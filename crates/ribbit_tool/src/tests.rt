@@ -59,7 +59,7 @@ pub fn call(
 fn words_and_arguments(rt: HostRuntime) -> Result<(), Fail> {
     let rows: [(&str, u8, &[u8]); 12] = [
         ("", 6, b"ribbit: usage at word 1\n"),
-        ("check E", 6, b"ribbit: usage at word 1\n"),
+        ("layout E", 6, b"ribbit: usage at word 1\n"),
         ("run", 6, b"ribbit: usage at word 2\n"),
         ("run E 01 64 250 2", 6, b"ribbit: usage at word 3\n"),
         ("run E 1000000001 64 250 2", 6, b"ribbit: usage at word 3\n"),
@@ -185,27 +185,6 @@ fn operators_at_their_widths(rt: HostRuntime) -> Result<(), Fail> {
         } else {
             assert!(rt; false);
         }
-    }
-    Ok(())
-}
-
-#[test]
-fn other_files(rt: HostRuntime) -> Result<(), Fail> {
-    let files: [&[u8]; 6] = [
-        b"",
-        b"type T = A; fun main(): u8 = 0;",
-        b"fun main(x: u8): u16 = x;",
-        b"fun main(x: u8, x: u8): u8 = x;",
-        b"fun main(): u8 = 256;",
-        b"fun main(): u8 = 18446744073709551616;",
-    ];
-    for file in files {
-        let did = call(rt.alloc(), "run E 2 64 Nil", file, &[], &[])?;
-        assert_eq!(rt; did.status, 15);
-        assert_eq!(rt;
-            did.err.as_slice(),
-            b"ribbit: not built yet at byte 0\n".as_slice()
-        );
     }
     Ok(())
 }

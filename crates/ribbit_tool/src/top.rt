@@ -3,13 +3,14 @@
 ghost use Rattle.std.specs.Prelude.{◌≡◌, ◌≤◌, ℕ, List, IfOk, Ok};
 ghost use Rattle.rb_edge.specs.declared.whole.ReadFault.TheVariants.{Failed};
 ghost use Rattle.ribbit_tool.specs.Answer.{unrun};
-ghost use Rattle.ribbit_tool.specs.Command.{command_of, run, exec};
+ghost use Rattle.ribbit_tool.specs.Command.{command_of, check, run, exec};
 ghost use Rattle.ribbit_tool.specs.Lines.{read_fault_line};
 ghost use Rattle.ribbit_tool.specs.Promise.{IsRun, IsRight};
 ghost use Rattle.ribbit_tool.specs.Results.{IsComposed};
 ghost use Rattle.ribbit_tool.specs.View.{command_view, limits_view, due_of, Answers};
 
 use crate::answer::Composed;
+use crate::checking::check_file;
 use crate::command::{Command, CommandFault, parse};
 use crate::delivery::deliver;
 use crate::executing::{CODE_LIMIT, run_code};
@@ -35,6 +36,20 @@ fn refuse_reading(alloc: Global, fault: ReadFault) -> Result<Composed, AllocErro
             let text = Vec::from_slice(alloc, READ_FAULT)?;
             Ok(Composed { status: 7, text })
         }
+    }
+}
+
+// The command `check`.
+fn check_command<S: Source>(alloc: Global, src: &mut S, file: &[u8]) -> Result<Composed, AllocError>
+    ensures later { S.faults src.old ≤ S.faults src.new }
+    ensures due { IfOk result (λ c. IsComposed (Ok (check file.now)) (S.tells src.old) (S.held src.old) (S.faults src.old) (S.faults src.new) (due_of c 0)) }
+{
+    match read_whole(alloc, src, file, FILE_LIMIT) {
+        Ok(bytes) => {
+            let composed = check_file(alloc, bytes.as_slice())?;
+            Ok(composed)
+        }
+        Err(fault) => refuse_reading(alloc, fault),
     }
 }
 
@@ -95,6 +110,10 @@ fn obey<S: Source, L: Ledger>(
         c steps.old.taken steps.new.taken) }
 {
     match command {
+        Command::Check { file } => {
+            let composed = check_command(alloc, src, file)?;
+            Ok(composed)
+        }
         Command::Run {
             file,
             limits,

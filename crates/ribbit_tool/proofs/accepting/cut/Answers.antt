@@ -1,0 +1,15 @@
+use Rattle.std.proofs.Common.{subst}
+use Rattle.rb_syntax.specs.Cutting.{IsRight}
+use Rattle.rb_syntax.specs.Lexing.{Lexed, lexed}
+use Rattle.ribbit_tool.specs.Accepting.{uncut}
+use Rattle.ribbit_tool.proofs.Faults.{lex_fault}
+use Rattle.ribbit_tool.proofs.accepting.cut.Goals as goal
+
+pub returns-in_ok-composed-in-Err-clause-refused : goal.returns-in_ok-composed-in-Err-clause-refused
+returns-in_ok-composed-in-Err-clause-refused c =
+    let shown = c.in_ok-composed-in-Err.ensures in
+    uncut c.in-Err.fault (lex_fault (lexed c.args.bytes.now) c.in-Err.fault shown.other c.in-Err.ensures.answer) shown.due
+
+pub returns-in-Ok-clause-tokens : goal.returns-in-Ok-clause-tokens
+returns-in-Ok-clause-tokens c =
+    subst (λ (read : Lexed). IsRight c.args.bytes.now read) c.in-Ok.ensures.answer c.in-Ok.ensures.right

@@ -1,0 +1,135 @@
+-- Files that are accepted, and why others are refused.
+use Rattle.std.specs.Prelude.{◌≡◌, ◌≢◌, ℕ, ◌-◌, List, [], ◌∷◌, ◌++◌, length, codes, Option, Some, None, slice_get, Ok, Err}
+use Rattle.std.specs.List.{flat_map}
+use Rattle.rb_check.specs.Covering.{IsCoverFault}
+use Rattle.rb_check.specs.declared.coverage.CoverFault.TheVariants.{Missing}
+use Rattle.rb_core.specs.Coverage.{AreExhaustive, sites_of}
+use Rattle.rb_core.specs.TypedPrograms.{IsTyped, IsFirstFault}
+use Rattle.rb_core.specs.declared.pattern.Pat.{Pat}
+use Rattle.rb_core.specs.declared.program.Note.{Note}
+use Rattle.rb_core.specs.declared.program.Program.{Program}
+use Rattle.rb_core.specs.declared.types.DataDecl.{DataDecl}
+use Rattle.rb_core.specs.declared.typing.TypeFault.{TypeFault}
+use Rattle.rb_core.specs.declared.typing.TypeFault.TheVariants as types
+use Rattle.rb_names.specs.Programs.{numbered}
+use Rattle.rb_names.specs.declared.fault.NameFault.{NameFault}
+use Rattle.rb_names.specs.declared.fault.NameFault.TheVariants as names
+use Rattle.rb_read.specs.Files.{IsAnswer}
+use Rattle.rb_read.specs.declared.fault.ReadFault.{ReadFault}
+use Rattle.rb_read.specs.declared.fault.ReadFault.TheVariants as reading
+use Rattle.rb_syntax.specs.Lexing.{lexed}
+use Rattle.rb_syntax.specs.Tokens.{tokens}
+use Rattle.rb_syntax.specs.declared.lex.LexFault.{LexFault}
+use Rattle.rb_syntax.specs.declared.lex.LexFault.TheVariants as lexing
+use Rattle.rb_syntax.specs.declared.token.Placed.{Placed}
+use Rattle.rb_syntax.specs.declared.tree.ItemTree.{ItemTree}
+use Rattle.rb_syntax.specs.declared.tree.ItemTree.TheVariants.{Types, Layouts, Funs, Derived}
+use Rattle.rb_syntax.specs.declared.tree.FileTree.{FileTree}
+use Rattle.ribbit_tool.specs.Answer.{Due, unrun}
+use Rattle.ribbit_tool.specs.Lines.{no_memory_line, unbuilt_line}
+use Rattle.ribbit_tool.specs.FileLines.{at_byte, limit_line, unknown_line, twice_line, no_main_line, empty_line, mismatch_line, arity_line, missing_line, note_line}
+
+-- Places ------------------------------------------------------------------------------------
+
+-- the byte at which a token begins, or the file's length
+abbrev pub place_of : Option Placed → ℕ → ℕ
+place_of None size = size
+place_of (Some p) size = p.at
+
+-- the byte at which the token of this number begins, or the file's length behind the last
+abbrev pub byte_of : List Placed → ℕ → ℕ → ℕ
+byte_of placed size t = place_of (slice_get placed t) size
+
+-- Accepted files ----------------------------------------------------------------------------
+
+-- the bytes are these tokens, and they are this file
+pub record IsRead (bytes : List ℕ) (placed : List Placed) (file : FileTree) : Type 0 where
+  pub cut : lexed bytes ≡ Ok placed
+  pub tree : IsAnswer (tokens placed) (Ok file)
+
+-- and this is its program
+pub record IsNamed (bytes : List ℕ) (placed : List Placed) (p : Program) : Type 0 where
+  pub file : FileTree
+  pub read : IsRead bytes placed file
+  pub named : numbered file ≡ Ok p
+
+-- and it is typed, and each of its matches is exhaustive
+pub record IsAccepted (bytes : List ℕ) (p : Program) : Type 0 where
+  pub placed : List Placed
+  pub named : IsNamed bytes placed p
+  pub typed : IsTyped p
+  pub exhaustive : AreExhaustive p.types (sites_of p)
+
+-- Refused files -----------------------------------------------------------------------------
+
+abbrev pub lex_due : LexFault → Due
+lex_due (lexing.BadByte at) = unrun 1 (at_byte (codes "bad byte") at)
+lex_due (lexing.NumberTooWide at) = unrun 1 (at_byte (codes "number over 64 bits") at)
+lex_due lexing.Memory = unrun 9 no_memory_line
+
+-- of tokens in a file of so many bytes
+abbrev pub read_due : List Placed → ℕ → ReadFault → Due
+read_due placed size (reading.TooDeep t) = unrun 11 (at_byte (codes "nesting over 128") (byte_of placed size t))
+read_due placed size (reading.Syntax t) = unrun 1 (at_byte (codes "syntax") (byte_of placed size t))
+read_due placed size (reading.Unbuilt t) = unrun 15 (unbuilt_line (byte_of placed size t))
+read_due placed size (reading.Limit q count) = unrun 11 (limit_line q count)
+read_due placed size reading.Memory = unrun 9 no_memory_line
+
+abbrev pub name_due : List Placed → ℕ → NameFault → Due
+name_due placed size (names.Twice name t) = unrun 2 (twice_line name (byte_of placed size t))
+name_due placed size (names.Unknown name t) = unrun 2 (unknown_line name (byte_of placed size t))
+name_due placed size names.NoMain = unrun 2 no_main_line
+name_due placed size names.Memory = unrun 9 no_memory_line
+
+abbrev pub type_due : List DataDecl → List Placed → ℕ → TypeFault → Due
+type_due ts placed size (types.Empty t) = unrun 2 (empty_line ts t)
+type_due ts placed size (types.Mismatch t wanted found) = unrun 2 (mismatch_line ts wanted found (byte_of placed size t))
+type_due ts placed size (types.Arity t wanted found) = unrun 2 (arity_line wanted found (byte_of placed size t))
+type_due ts placed size (types.VariableTwice t) = unrun 2 (at_byte (codes "variable twice") (byte_of placed size t))
+type_due ts placed size types.Memory = unrun 9 no_memory_line
+
+abbrev pub match_due : List DataDecl → List Placed → ℕ → ℕ → Pat → Due
+match_due ts placed size t q = unrun 2 (missing_line ts q (byte_of placed size t))
+
+-- What is due to a file by the first of these that refuses it: tokens, grammar and limits, names,
+-- types, exhaustiveness.
+pub data IsRefused (bytes : List ℕ) (due : Due) : Type 0 where
+  uncut : (fault : LexFault) → lexed bytes ≡ Err fault → due ≡ lex_due fault → IsRefused bytes due
+  misread : (placed : List Placed) → lexed bytes ≡ Ok placed → (fault : ReadFault) → IsAnswer (tokens placed) (Err fault)
+      → due ≡ read_due placed (length bytes) fault → IsRefused bytes due
+  misnamed : (placed : List Placed) (file : FileTree) → IsRead bytes placed file → (fault : NameFault) → numbered file ≡ Err fault
+      → due ≡ name_due placed (length bytes) fault → IsRefused bytes due
+  mistyped : (placed : List Placed) (p : Program) → IsNamed bytes placed p → (fault : TypeFault) → fault ≢ types.Memory → IsFirstFault p fault
+      → due ≡ type_due p.types placed (length bytes) fault → IsRefused bytes due
+  uncovered : (placed : List Placed) (p : Program) → IsNamed bytes placed p → IsTyped p → (t : ℕ) (q : Pat) → IsCoverFault p (Missing t q)
+      → due ≡ match_due p.types placed (length bytes) t q → IsRefused bytes due
+
+-- What is not built yet ---------------------------------------------------------------------
+
+-- the number of an item's first token, if it is a type or a layout
+abbrev pub declared_by : ItemTree → Option ℕ
+declared_by (Types t) = Some (t.name.at - 1)
+declared_by (Layouts l) = Some l.at
+declared_by (Derived name a) = Some (name.at - 1)
+declared_by (Funs f) = None
+
+abbrev pub or_else : Option ℕ → Option ℕ → Option ℕ
+or_else (Some t) other = Some t
+or_else None other = other
+
+abbrev pub declared_in : List ItemTree → Option ℕ
+declared_in [] = None
+declared_in (i ∷ is) = or_else (declared_by i) (declared_in is)
+
+-- the number of the first token of the first `type` or `layout`
+abbrev pub first_declared : FileTree → Option ℕ
+first_declared file = declared_in file.items
+
+-- The check ---------------------------------------------------------------------------------
+
+-- a line for each note, and then `ok`
+abbrev pub note_text : List Placed → ℕ → Note → List ℕ
+note_text placed size n = note_line n.clause (byte_of placed size n.at)
+
+abbrev pub check_text : List Placed → ℕ → List Note → List ℕ
+check_text placed size notes = flat_map (note_text placed size) notes ++ codes "ok\n"

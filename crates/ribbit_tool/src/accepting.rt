@@ -1,0 +1,151 @@
+//! Accepting files: their tokens, their tree, their program, its types, and its matches, one after the
+//! other. The first step that refuses a file gives the answer.
+
+ghost use Rattle.std.specs.Prelude.{◌≡◌, ◌≤◌, length, IfOk, IfErr, Ok};
+ghost use Rattle.rb_core.specs.Coverage.{IsCovered};
+ghost use Rattle.rb_core.specs.TypedPrograms.{IsTyped};
+ghost use Rattle.rb_core.specs.WellNumbered.{IsWellNumbered};
+ghost use Rattle.rb_names.specs.Programs.{numbered};
+ghost use Rattle.rb_syntax.specs.Cutting.{HasTokens};
+ghost use Rattle.rb_syntax.specs.Lexing.{lexed};
+ghost use Rattle.ribbit_tool.specs.Accepting.{IsNamed, IsRead, IsRefused};
+ghost use Rattle.ribbit_tool.specs.View.{IsAcceptance, IsRefusal};
+
+use crate::refusal::{
+    Refusal, refuse_bytes, refuse_match, refuse_names, refuse_tokens, refuse_types,
+};
+use rb_check::{CoverFault, check, cover};
+use rb_core::program::Program;
+use rb_core::typed::{Covered, Typed};
+use rb_names::resolve;
+use rb_read::read::read_file;
+use rb_syntax::lex::lex;
+use rb_syntax::token::Placed;
+use rb_syntax::tree::FileTree;
+use std::alloc::Global;
+
+/// A file that is accepted.
+#[derive(Drop)]
+pub struct Accepted {
+    /// Its tokens.
+    pub placed: Vec<Placed>,
+    /// Its tree.
+    pub file: FileTree,
+    /// Its program.
+    pub covered: Covered,
+}
+
+// The tokens of the bytes.
+fn cut(alloc: Global, bytes: &[u8]) -> Result<Vec<Placed>, Refusal>
+    ensures cut { IfOk result (λ placed. lexed bytes.now ≡ Ok placed.items) }
+    ensures tokens { IfOk result (λ placed. HasTokens bytes.now placed.items) }
+    ensures refused { IfErr result (IsRefusal (IsRefused bytes.now)) }
+{
+    match lex(alloc, bytes) {
+        Ok(placed) => Ok(placed),
+        Err(fault) => {
+            let composed = refuse_bytes(alloc, fault)?;
+            Err(Refusal::Refused(composed))
+        }
+    }
+}
+
+// The tree of the tokens.
+fn read(alloc: Global, bytes: &[u8], placed: &[Placed]) -> Result<FileTree, Refusal>
+    requires few { length bytes.now ≤ 262144 }
+    requires cut { lexed bytes.now ≡ Ok placed.now }
+    ensures read { IfOk result (IsRead bytes.now placed.now) }
+    ensures refused { IfErr result (IsRefusal (IsRefused bytes.now)) }
+{
+    match read_file(alloc, placed) {
+        Ok(file) => Ok(file),
+        Err(fault) => {
+            let composed = refuse_tokens(alloc, placed, bytes.len(), fault)?;
+            Err(Refusal::Refused(composed))
+        }
+    }
+}
+
+// The program of the tree.
+fn name(alloc: Global, bytes: &[u8], placed: &[Placed], file: &FileTree) -> Result<Program, Refusal>
+    requires few { length bytes.now ≤ 262144 }
+    requires tokens { HasTokens bytes.now placed.now }
+    requires read { IsRead bytes.now placed.now file.now }
+    ensures named { IfOk result (λ p. numbered file.now ≡ Ok p) }
+    ensures well { IfOk result IsWellNumbered }
+    ensures refused { IfErr result (IsRefusal (IsRefused bytes.now)) }
+{
+    match resolve(alloc, file) {
+        Ok(program) => Ok(program),
+        Err(fault) => {
+            let composed = refuse_names(alloc, placed, bytes.len(), &fault)?;
+            Err(Refusal::Refused(composed))
+        }
+    }
+}
+
+// The program with its types.
+fn ascribe(
+    alloc: Global,
+    bytes: &[u8],
+    placed: &[Placed],
+    program: Program,
+) -> Result<Typed, Refusal>
+    requires named { IsNamed bytes.now placed.now program }
+    requires well { IsWellNumbered program }
+    ensures same { IfOk result (λ typed. typed ≡ program) }
+    ensures typed { IfOk result IsTyped }
+    ensures refused { IfErr result (IsRefusal (IsRefused bytes.now)) }
+{
+    match check(alloc, &program) {
+        Ok(()) => Ok(Typed::new(program)),
+        Err(fault) => {
+            let types = program.types.as_slice();
+            let composed = refuse_types(alloc, types, placed, bytes.len(), fault)?;
+            Err(Refusal::Refused(composed))
+        }
+    }
+}
+
+// The program with the notes on its clauses.
+fn annotate(
+    alloc: Global,
+    bytes: &[u8],
+    placed: &[Placed],
+    typed: Typed,
+) -> Result<Covered, Refusal>
+    requires named { IsNamed bytes.now placed.now typed }
+    requires typed { IsTyped typed }
+    ensures same { IfOk result (λ covered. covered.program ≡ typed) }
+    ensures covered { IfOk result (λ covered. IsCovered covered.program covered.notes) }
+    ensures refused { IfErr result (IsRefusal (IsRefused bytes.now)) }
+{
+    match cover(alloc, &typed) {
+        Ok(notes) => Ok(Covered::new(typed, notes)),
+        Err(CoverFault::Memory) => Err(Refusal::Memory),
+        Err(CoverFault::Missing(token, pattern)) => {
+            let types = typed.program().types.as_slice();
+            let composed = refuse_match(alloc, types, placed, bytes.len(), token, &pattern)?;
+            Err(Refusal::Refused(composed))
+        }
+    }
+}
+
+/// The file of these bytes, if it is accepted, or the answer that refuses it.
+pub fn accept(alloc: Global, bytes: &[u8]) -> Result<Accepted, Refusal>
+    requires { length bytes.now ≤ 262144 }
+    ensures accepted { IfOk result (IsAcceptance bytes.now) }
+    ensures refused { IfErr result (IsRefusal (IsRefused bytes.now)) }
+{
+    let placed = cut(alloc, bytes)?;
+    let tokens = placed.as_slice();
+    let file = read(alloc, bytes, tokens)?;
+    let program = name(alloc, bytes, tokens, &file)?;
+    let typed = ascribe(alloc, bytes, tokens, program)?;
+    let covered = annotate(alloc, bytes, tokens, typed)?;
+    Ok(Accepted {
+        placed,
+        file,
+        covered,
+    })
+}

@@ -1,0 +1,90 @@
+//! The lines of faults of texts, limits and names.
+
+ghost use Rattle.std.specs.Prelude.{◌≡◌, IfOk};
+ghost use Rattle.rb_read.specs.Limits.{greatest};
+ghost use Rattle.ribbit_tool.specs.FileLines as line;
+
+use crate::line::{begin, end, push, push_number};
+use rb_read::fault::Quantity;
+use std::alloc::{AllocError, Global};
+
+/// The line of a fault at a byte.
+pub fn at_byte(alloc: Global, fault: &[u8], at: u64) -> Result<Vec<u8>, AllocError>
+    ensures { IfOk result (λ text. text.items ≡ line.at_byte fault.now at) }
+{
+    let mut text = begin(alloc, fault)?;
+    push(&mut text, b" at byte ")?;
+    push_number(&mut text, at)?;
+    end(text)
+}
+
+fn quantity(quantity: Quantity) -> &'static [u8]
+    ensures { result.now ≡ line.quantity_text quantity }
+{
+    match quantity {
+        Quantity::FileBytes => b"file bytes",
+        Quantity::Types => b"types",
+        Quantity::Functions => b"functions",
+        Quantity::Constructors => b"constructors",
+        Quantity::Fields => b"fields",
+        Quantity::Parameters => b"parameters",
+        Quantity::ShapeWords => b"shape words",
+    }
+}
+
+fn greatest(quantity: Quantity) -> u64
+    ensures { result ≡ greatest quantity }
+{
+    match quantity {
+        Quantity::FileBytes => 262_144,
+        Quantity::Types => 1_000,
+        Quantity::Functions => 10_000,
+        Quantity::Constructors => 256,
+        Quantity::Fields => 32,
+        Quantity::Parameters => 32,
+        Quantity::ShapeWords => 8,
+    }
+}
+
+/// The line of a count over its limit.
+pub fn limit(alloc: Global, over: Quantity, count: u64) -> Result<Vec<u8>, AllocError>
+    ensures { IfOk result (λ text. text.items ≡ line.limit_line over count) }
+{
+    let mut text = begin(alloc, b"limit ")?;
+    push(&mut text, quantity(over))?;
+    push(&mut text, b": ")?;
+    push_number(&mut text, count)?;
+    push(&mut text, b" over ")?;
+    push_number(&mut text, greatest(over))?;
+    end(text)
+}
+
+/// The line of a name that stands for nothing.
+pub fn unknown(alloc: Global, name: &[u8], at: u64) -> Result<Vec<u8>, AllocError>
+    ensures { IfOk result (λ text. text.items ≡ line.unknown_line name.now at) }
+{
+    let mut text = begin(alloc, b"unknown name ")?;
+    push(&mut text, name)?;
+    push(&mut text, b" at byte ")?;
+    push_number(&mut text, at)?;
+    end(text)
+}
+
+/// The line of a name that was defined before.
+pub fn twice(alloc: Global, name: &[u8], at: u64) -> Result<Vec<u8>, AllocError>
+    ensures { IfOk result (λ text. text.items ≡ line.twice_line name.now at) }
+{
+    let mut text = begin(alloc, b"name ")?;
+    push(&mut text, name)?;
+    push(&mut text, b" twice at byte ")?;
+    push_number(&mut text, at)?;
+    end(text)
+}
+
+/// The line of a file without `main`.
+pub fn no_main(alloc: Global) -> Result<Vec<u8>, AllocError>
+    ensures { IfOk result (λ text. text.items ≡ line.no_main_line) }
+{
+    let text = begin(alloc, b"no function main")?;
+    end(text)
+}
