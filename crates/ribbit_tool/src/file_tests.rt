@@ -101,7 +101,7 @@ fun main(b: Bit): Bit = b; layout Bit <8> = split 0[0:1] { 0 => Off : { word 8 {
 const RUN: &str = "fun main(): u8 = 7;~~0 7;\n\
 fun main(x: u8): u8 = to u8(add(x, 1));~255~0 0;\n\
 fun main(x: u1): u8 = match x { 0 => 5, 1 => 6 };~1~15 ribbit: not built yet at byte 0;\n\
-  fun f(): u8 = 0; fun main(): u8 = 0;~~15 ribbit: not built yet at byte 2;\n\
+\x20 fun f(): u8 = 0; fun main(): u8 = 0;~~15 ribbit: not built yet at byte 2;\n\
 fun main(x: u8): u8 = let y: u8 = x in y;~1~15 ribbit: not built yet at byte 0;\n\
 type T = A; fun main(): u8 = 0;~~15 ribbit: not built yet at byte 0;";
 
