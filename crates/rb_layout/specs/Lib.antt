@@ -3,3 +3,5 @@ pub mod Words
 pub mod Locations
 pub mod Excluded
 pub mod Splits
+pub mod Flattening
+pub mod Items
