@@ -1,3 +1,4 @@
 pub mod Disjoint
 pub mod FlatForms
 pub mod WrittenForms
+pub mod Walks

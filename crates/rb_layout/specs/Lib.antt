@@ -20,3 +20,4 @@ pub mod A9
 pub mod A10
 pub mod Agreement
 pub mod Spots
+pub mod inner

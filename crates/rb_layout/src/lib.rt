@@ -16,5 +16,9 @@
 //! numbers has each address when it is needed.
 #![tactic(auto)]
 
+pub mod agreed;
 pub mod evidence;
 pub mod layout;
+pub mod positions;
+
+pub use agreed::Agreed;
