@@ -17,8 +17,13 @@
 #![tactic(auto)]
 
 pub mod agreed;
+mod decls;
 pub mod evidence;
+pub mod flat_layouts;
+mod flat_leaf;
+mod flat_tree;
 pub mod layout;
 pub mod positions;
 
 pub use agreed::Agreed;
+pub use flat_layouts::flatten;
