@@ -5,3 +5,6 @@ pub mod Walks
 pub mod LayingLemmas
 pub mod TreeLemmas
 pub mod LayoutLists
+pub mod Computing
+pub mod Blocks
+pub mod FlatLaws

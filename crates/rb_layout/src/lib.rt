@@ -22,6 +22,7 @@ pub mod evidence;
 pub mod flat_layouts;
 mod flat_leaf;
 mod flat_tree;
+pub mod laws;
 pub mod layout;
 pub mod positions;
 
