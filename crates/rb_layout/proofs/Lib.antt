@@ -8,3 +8,4 @@ pub mod LayoutLists
 pub mod Computing
 pub mod Blocks
 pub mod FlatLaws
+pub mod Places
