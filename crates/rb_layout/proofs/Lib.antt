@@ -6,6 +6,7 @@ pub mod LayingLemmas
 pub mod TreeLemmas
 pub mod LayoutLists
 pub mod Computing
+pub mod Examples
 pub mod Blocks
 pub mod FlatLaws
 pub mod Places
