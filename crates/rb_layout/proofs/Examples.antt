@@ -27,7 +27,6 @@ use Rattle.rb_layout.specs.declared.layout.Kind.TheVariants.{Const, Bits, Word, 
 use Rattle.rb_layout.specs.declared.layout.FlatTree as T
 use Rattle.rb_layout.specs.declared.layout.FlatArm.{FlatArm}
 use Rattle.rb_layout.specs.Flattening.{flat_layouts}
-use Rattle.rb_core.specs.declared.layout_decl.Step.{Step}
 use Rattle.rb_layout.specs.Words.{size_of, begins_at}
 use Rattle.rb_layout.specs.Locations.{reached_at, known}
 use Rattle.rb_layout.specs.Excluded.{HasNull, Bars, null}
@@ -85,8 +84,8 @@ flat_arm c n = record { literal = c; under = T.Leaf n }
 abbrev bit : Program
 bit = program_of (data_type ([] ∷ [] ∷ []) ∷ [])
     (laid_out 0 (8 ∷ []) (S.Split (root 0 0 1)
-        (arm 0 (S.Leaf 0 (by 0 0 []) (I.Word 8 (written 0 1 (K.Const 0) ∷ []) ∷ []))
-        ∷ arm 1 (S.Leaf 0 (by 0 1 []) (I.Word 8 (written 0 1 (K.Const 1) ∷ []) ∷ [])) ∷ []) None) ∷ [])
+    (arm 0 (S.Leaf 0 (by 0 0 []) (I.Word 8 (written 0 1 (K.Const 0) ∷ []) ∷ []))
+    ∷ arm 1 (S.Leaf 0 (by 0 1 []) (I.Word 8 (written 0 1 (K.Const 1) ∷ []) ∷ [])) ∷ []) None) ∷ [])
 
 bit_is : flat_layouts bit ≡ record {
   ty = 0;
@@ -101,17 +100,17 @@ bit_is = simp flat_rules
 abbrev list : Program
 list = program_of (data_type ([] ∷ (Int 64 ∷ Named 0 ∷ []) ∷ []) ∷ [])
     (laid_out 0 (64 ∷ []) (S.Split (root 0 0 1)
-        (arm 1 (S.Leaf 0 (by 0 0 []) (I.Word 64 (written 0 1 (K.Const 1) ∷ []) ∷ []))
-        ∷ arm 0 (S.Leaf 0 (by 0 1 (any ∷ any ∷ [])) (I.Word 64 (written 0 1 (K.Const 0)
-            ∷ written 3 61 (K.Pointer 8 (I.Word 64 (written 0 64 (K.Whole (0 ∷ [])) ∷ []) ∷ I.Inline (1 ∷ []) ∷ [])) ∷ []) ∷ [])) ∷ []) None) ∷ [])
+    (arm 1 (S.Leaf 0 (by 0 0 []) (I.Word 64 (written 0 1 (K.Const 1) ∷ []) ∷ []))
+    ∷ arm 0 (S.Leaf 0 (by 0 1 (any ∷ any ∷ [])) (I.Word 64 (written 0 1 (K.Const 0)
+    ∷ written 3 61 (K.Pointer 8 (I.Word 64 (written 0 64 (K.Whole (0 ∷ [])) ∷ []) ∷ I.Inline (1 ∷ []) ∷ [])) ∷ []) ∷ [])) ∷ []) None) ∷ [])
 
 list_is : flat_layouts list ≡ record {
   ty = 0;
   shape = 64 ∷ [];
   tree = T.Split (root 0 0 1) (flat_arm 1 0 ∷ flat_arm 0 1 ∷ []) None;
   leaves =
-    leaf (by 0 0 []) (word 64 (part 0 1 (Const 1) ∷ []) ∷ []) []
-    ∷ leaf (by 0 1 (any ∷ any ∷ [])) (word 64 (part 0 1 (Const 0) ∷ part 3 61 (Pointer 8 0) ∷ []) ∷ [])
+      leaf (by 0 0 []) (word 64 (part 0 1 (Const 1) ∷ []) ∷ []) []
+      ∷ leaf (by 0 1 (any ∷ any ∷ [])) (word 64 (part 0 1 (Const 0) ∷ part 3 61 (Pointer 8 0) ∷ []) ∷ [])
       (block 8 (word 64 (part 0 64 (Bits (0 ∷ []) 0) ∷ []) ∷ word 64 (part 0 64 (Word (1 ∷ []) 0) ∷ []) ∷ []) ∷ []) ∷ [];
 } ∷ []
 list_is = simp flat_rules
@@ -199,7 +198,15 @@ trees_are = simp flat_rules
 -- a node is never 0: no block has address 0
 node_null : HasNull (word 32 (part 0 1 (Word (0 ∷ []) 0) ∷ part 2 22 (Pointer 4 0) ∷ [])) 0 32 0
 node_null = record {
-  number = 1; part = part 2 22 (Pointer 4 0); align = 4; block = 0; is_part = refl; is_pointer = refl; first = omega arith; last = omega arith; zeros = refl;
+  number = 1;
+  part = part 2 22 (Pointer 4 0);
+  align = 4;
+  block = 0;
+  is_part = refl;
+  is_pointer = refl;
+  first = omega arith;
+  last = omega arith;
+  zeros = refl;
 }
 
 node_excludes : Bars (color_type ∷ tree_type ∷ []) (color_flat ∷ tree_flat ∷ []) node_leaf (word 32 (part 0 1 (Word (0 ∷ []) 0) ∷ part 2 22 (Pointer 4 0) ∷ [])) 0 32 0
@@ -220,7 +227,7 @@ abbrev colored_leaf : ℕ → Leaf
 colored_leaf c = leaf (colored c) (word 32 (part 0 1 (Const c) ∷ part 2 22 (Pointer 4 0) ∷ []) ∷ []) (node_block ∷ [])
 
 colored_are : flat_layouts (program_of (color_type ∷ tree_type ∷ []) (color_layout ∷ laid_out 1 (32 ∷ []) (S.Split (root 0 0 32) (arm 0 empty_written ∷ [])
-      (Some (S.Split (root 0 0 1) (arm 0 (colored_written 0) ∷ arm 1 (colored_written 1) ∷ []) None))) ∷ []))
+    (Some (S.Split (root 0 0 1) (arm 0 (colored_written 0) ∷ arm 1 (colored_written 1) ∷ []) None))) ∷ []))
     ≡ color_flat ∷ record {
       ty = 1;
       shape = 32 ∷ [];
@@ -231,8 +238,8 @@ colored_are = simp flat_rules
 
 -- type Opt = No | Yes(Tree); layout Opt <32> = split 0[0:32] { 1 => No : { word 32 { [0:32] = 1 } } else => Yes(_) : { word 32 { [0:32] .0 } } };
 options_are : flat_layouts (program_of (color_type ∷ tree_type ∷ data_type ([] ∷ (Named 1 ∷ []) ∷ []) ∷ []) (color_layout ∷ tree_layout ∷ laid_out 2 (32 ∷ [])
-      (S.Split (root 0 0 32) (arm 1 (S.Leaf 0 (by 2 0 []) (I.Word 32 (written 0 32 (K.Const 1) ∷ []) ∷ [])) ∷ [])
-        (Some (S.Leaf 0 (by 2 1 (any ∷ [])) (I.Word 32 (written 0 32 (K.Whole (0 ∷ [])) ∷ []) ∷ [])))) ∷ []))
+    (S.Split (root 0 0 32) (arm 1 (S.Leaf 0 (by 2 0 []) (I.Word 32 (written 0 32 (K.Const 1) ∷ []) ∷ [])) ∷ [])
+    (Some (S.Leaf 0 (by 2 1 (any ∷ [])) (I.Word 32 (written 0 32 (K.Whole (0 ∷ [])) ∷ []) ∷ [])))) ∷ []))
     ≡ color_flat ∷ tree_flat ∷ record {
       ty = 2;
       shape = 32 ∷ [];
@@ -248,9 +255,9 @@ branch_leaf = leaf (by 0 0 (any ∷ any ∷ any ∷ any ∷ [])) (word 32 (part 
     ∷ part 12 3 (Bits (0 ∷ []) 0) ∷ part 15 5 (Bits (1 ∷ []) 0) ∷ part 20 5 (Bits (2 ∷ []) 0) ∷ part 25 6 (Bits (3 ∷ []) 4) ∷ part 31 1 (Bits (3 ∷ []) 11) ∷ []) ∷ []) []
 
 branch_is : flat_layouts (program_of (data_type ((Int 3 ∷ Int 5 ∷ Int 5 ∷ Int 12 ∷ []) ∷ []) ∷ []) (laid_out 0 (32 ∷ [])
-      (S.Leaf 0 (by 0 0 (any ∷ any ∷ any ∷ any ∷ [])) (I.Word 32 (written 0 7 (K.Const 99) ∷ written 7 1 (K.Slice (3 ∷ []) 10 1) ∷ written 8 4 (K.Slice (3 ∷ []) 0 4)
-        ∷ written 12 3 (K.Whole (0 ∷ [])) ∷ written 15 5 (K.Whole (1 ∷ [])) ∷ written 20 5 (K.Whole (2 ∷ [])) ∷ written 25 6 (K.Slice (3 ∷ []) 4 6)
-        ∷ written 31 1 (K.Slice (3 ∷ []) 11 1) ∷ []) ∷ [])) ∷ []))
+    (S.Leaf 0 (by 0 0 (any ∷ any ∷ any ∷ any ∷ [])) (I.Word 32 (written 0 7 (K.Const 99) ∷ written 7 1 (K.Slice (3 ∷ []) 10 1) ∷ written 8 4 (K.Slice (3 ∷ []) 0 4)
+    ∷ written 12 3 (K.Whole (0 ∷ [])) ∷ written 15 5 (K.Whole (1 ∷ [])) ∷ written 20 5 (K.Whole (2 ∷ [])) ∷ written 25 6 (K.Slice (3 ∷ []) 4 6)
+    ∷ written 31 1 (K.Slice (3 ∷ []) 11 1) ∷ []) ∷ [])) ∷ []))
     ≡ record { ty = 0; shape = 32 ∷ []; tree = T.Leaf 0; leaves = branch_leaf ∷ [] } ∷ []
 branch_is = simp flat_rules
 
@@ -276,9 +283,9 @@ abbrev box_leaf : Leaf
 box_leaf = leaf (by 0 1 (any ∷ any ∷ [])) (word 32 (part 0 32 (Pointer 4 0) ∷ []) ∷ []) (box_block ∷ [])
 
 shapes_are : flat_layouts (program_of (data_type ((Int 8 ∷ []) ∷ (Int 32 ∷ Int 32 ∷ []) ∷ []) ∷ []) (laid_out 0 (32 ∷ []) (S.Split tag
-      (arm 0 (S.Leaf 0 (by 0 0 (any ∷ [])) (I.Word 32 (written 0 32 (K.Pointer 4 (I.Word 8 (written 0 8 (K.Const 0) ∷ []) ∷ I.Word 8 (written 0 8 (K.Whole (0 ∷ [])) ∷ []) ∷ [])) ∷ []) ∷ []))
-      ∷ arm 1 (S.Leaf 0 (by 0 1 (any ∷ any ∷ [])) (I.Word 32 (written 0 32 (K.Pointer 4 (I.Word 8 (written 0 8 (K.Const 1) ∷ [])
-        ∷ I.Word 32 (written 0 32 (K.Whole (0 ∷ [])) ∷ []) ∷ I.Word 32 (written 0 32 (K.Whole (1 ∷ [])) ∷ []) ∷ [])) ∷ []) ∷ [])) ∷ []) None) ∷ []))
+    (arm 0 (S.Leaf 0 (by 0 0 (any ∷ [])) (I.Word 32 (written 0 32 (K.Pointer 4 (I.Word 8 (written 0 8 (K.Const 0) ∷ []) ∷ I.Word 8 (written 0 8 (K.Whole (0 ∷ [])) ∷ []) ∷ [])) ∷ []) ∷ []))
+    ∷ arm 1 (S.Leaf 0 (by 0 1 (any ∷ any ∷ [])) (I.Word 32 (written 0 32 (K.Pointer 4 (I.Word 8 (written 0 8 (K.Const 1) ∷ [])
+    ∷ I.Word 32 (written 0 32 (K.Whole (0 ∷ [])) ∷ []) ∷ I.Word 32 (written 0 32 (K.Whole (1 ∷ [])) ∷ []) ∷ [])) ∷ []) ∷ [])) ∷ []) None) ∷ []))
     ≡ record { ty = 0; shape = 32 ∷ []; tree = T.Split tag (flat_arm 0 0 ∷ flat_arm 1 1 ∷ []) None; leaves = dot_leaf ∷ box_leaf ∷ [] } ∷ []
 shapes_are = simp flat_rules
 
@@ -297,13 +304,13 @@ box_second = refl
 
 -- type Pair = Two(u64, u64); layout Pair <64> = Two(_, _) : { word 64 { [0:64] -> 8 { word 64 { [0:64] .0 }, word 64 { [0:64] -> 8 { word 64 { [0:64] .1 } } } } } };
 pair_is : flat_layouts (program_of (data_type ((Int 64 ∷ Int 64 ∷ []) ∷ []) ∷ []) (laid_out 0 (64 ∷ []) (S.Leaf 0 (by 0 0 (any ∷ any ∷ []))
-      (I.Word 64 (written 0 64 (K.Pointer 8 (I.Word 64 (written 0 64 (K.Whole (0 ∷ [])) ∷ [])
-        ∷ I.Word 64 (written 0 64 (K.Pointer 8 (I.Word 64 (written 0 64 (K.Whole (1 ∷ [])) ∷ []) ∷ [])) ∷ []) ∷ [])) ∷ []) ∷ [])) ∷ []))
+    (I.Word 64 (written 0 64 (K.Pointer 8 (I.Word 64 (written 0 64 (K.Whole (0 ∷ [])) ∷ [])
+    ∷ I.Word 64 (written 0 64 (K.Pointer 8 (I.Word 64 (written 0 64 (K.Whole (1 ∷ [])) ∷ []) ∷ [])) ∷ []) ∷ [])) ∷ []) ∷ [])) ∷ []))
     ≡ record {
       ty = 0;
       shape = 64 ∷ [];
       tree = T.Leaf 0;
       leaves = leaf (by 0 0 (any ∷ any ∷ [])) (word 64 (part 0 64 (Pointer 8 1) ∷ []) ∷ [])
-        (block 8 (word 64 (part 0 64 (Bits (1 ∷ []) 0) ∷ []) ∷ []) ∷ block 8 (word 64 (part 0 64 (Bits (0 ∷ []) 0) ∷ []) ∷ word 64 (part 0 64 (Pointer 8 0) ∷ []) ∷ []) ∷ []) ∷ [];
+          (block 8 (word 64 (part 0 64 (Bits (1 ∷ []) 0) ∷ []) ∷ []) ∷ block 8 (word 64 (part 0 64 (Bits (0 ∷ []) 0) ∷ []) ∷ word 64 (part 0 64 (Pointer 8 0) ∷ []) ∷ []) ∷ []) ∷ [];
     } ∷ []
 pair_is = simp flat_rules

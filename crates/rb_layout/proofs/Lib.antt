@@ -9,4 +9,5 @@ pub mod Computing
 pub mod Examples
 pub mod Blocks
 pub mod FlatLaws
+pub mod Placing
 pub mod Places
