@@ -10,4 +10,5 @@ pub mod Examples
 pub mod Blocks
 pub mod FlatLaws
 pub mod Placing
+pub mod FromLeft
 pub mod Places

@@ -2,6 +2,7 @@
 
 ghost use Rattle.rb_layout.specs.Flat.{LeavesAreFlat};
 ghost use Rattle.rb_layout.specs.Placing.{EachStandsOnce};
+ghost use Rattle.rb_layout.specs.Positions.{OpensAreFromLeft};
 ghost use Rattle.rb_layout.specs.Spots.{NeverBeside, PlacesAreAll};
 
 /// In each leaf of a flat form each pointer leads to a block that is numbered below whatever points
@@ -24,4 +25,9 @@ pub fn places_are_all()
 /// written in, at its offset.
 pub fn each_stands_once()
     ensures { EachStandsOnce }
+{}
+
+/// The open positions of a provenance stand from left to right.
+pub fn opens_are_from_left()
+    ensures { OpensAreFromLeft }
 {}
