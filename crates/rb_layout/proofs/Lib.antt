@@ -1,1 +1,5 @@
 pub mod Probe
+pub mod Locating
+pub mod BarLemmas
+pub mod KnownBits
+pub mod OpenTypes

@@ -5,3 +5,4 @@ pub mod Excluded
 pub mod Splits
 pub mod Flattening
 pub mod Items
+pub mod inner

@@ -16,5 +16,10 @@
 //! numbers has each address when it is needed.
 #![tactic(auto)]
 
+mod barring;
 pub mod evidence;
+mod goals;
+mod known;
 pub mod layout;
+mod locate;
+mod open_type;
