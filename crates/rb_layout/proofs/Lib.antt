@@ -3,3 +3,4 @@ pub mod Locating
 pub mod BarLemmas
 pub mod KnownBits
 pub mod OpenTypes
+pub mod Ends

@@ -5,4 +5,5 @@ pub mod Excluded
 pub mod Splits
 pub mod Flattening
 pub mod Items
+pub mod Readable
 pub mod inner

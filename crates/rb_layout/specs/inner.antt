@@ -1,2 +1,2 @@
 pub mod Barring
-pub mod Small
+pub mod Ends

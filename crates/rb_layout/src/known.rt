@@ -3,11 +3,13 @@
 ghost use Rattle.std.specs.Prelude.{◌≡◌, ◌+◌, ◌<◌, ◌≤◌};
 ghost use Rattle.rb_bits.specs.Words.{IsRange};
 ghost use Rattle.rb_layout.specs.Locations.{bit_of_kind, bit_of_part, constant_bit, constant_bits, known};
-ghost use Rattle.rb_layout.specs.inner.Small.{IsSmall, AreRanges};
+ghost use Rattle.rb_layout.specs.Readable.{AreRanges, IsReadable};
 
-use crate::layout::{Kind, Part};
+use crate::layout::{Kind, Leaf, Part};
+use crate::locate::{end_of, flat_at};
 
 use rb_bits::take;
+use rb_core::layout_decl::Loc;
 
 // The bit of a constant.
 fn bit_of_kind(kind: &Kind, i: u64) -> Option<u64>
@@ -65,4 +67,19 @@ fn constant_bits(parts: &[Part], o: u64, l: u64) -> Option<u64>
         }
     }
     Some(number)
+}
+
+/// The number that is known at a location, where it resolves and all its bits are constant.
+pub fn known_bits(leaf: &Leaf, loc: &Loc) -> Option<u64>
+    requires { IsReadable leaf.now }
+    ensures { result ≡ known leaf.now loc.now }
+{
+    let end = match end_of(leaf, loc) {
+        None => return None,
+        Some(end) => end,
+    };
+    match flat_at(leaf, end.at) {
+        None => None,
+        Some(word) => constant_bits(word.parts.as_slice(), end.o, end.l),
+    }
 }

@@ -17,9 +17,10 @@
 #![tactic(auto)]
 
 mod barring;
+pub mod blocks;
 pub mod evidence;
 mod goals;
-mod known;
+pub mod known;
 pub mod layout;
-mod locate;
+pub mod locate;
 mod open_type;

@@ -23,7 +23,7 @@ use Rattle.rb_layout.specs.declared.goals.Goal.{Goal}
 use Rattle.rb_layout.specs.declared.goals.Entry.{Entry}
 use Rattle.rb_layout.specs.Positions.{types_or_none, root_type, layout_of}
 use Rattle.rb_layout.specs.Locations.{constant_bit}
-use Rattle.rb_layout.specs.inner.Small.{AreRanges}
+use Rattle.rb_layout.specs.Readable.{AreRanges}
 
 abbrev pub is_other : Option ℕ → ℕ → Bool
 is_other None b = false

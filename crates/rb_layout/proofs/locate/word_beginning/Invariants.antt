@@ -1,6 +1,6 @@
 use Rattle.std.proofs.Common.{◌≡◌, ◌*◌, ◌≤◌, drop}
 use Rattle.rb_layout.specs.Locations.{word_beginning}
-use Rattle.rb_layout.proofs.locate.find_word.Given as goal
+use Rattle.rb_layout.proofs.locate.word_beginning.Given as goal
 
 abbrev pub invariant-loop-word : goal.invariant-loop-word
 invariant-loop-word l = record {
