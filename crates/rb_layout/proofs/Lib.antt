@@ -4,3 +4,5 @@ pub mod BarLemmas
 pub mod KnownBits
 pub mod OpenTypes
 pub mod Ends
+pub mod OpenPositions
+pub mod Derivations
