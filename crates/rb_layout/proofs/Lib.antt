@@ -6,3 +6,4 @@ pub mod OpenTypes
 pub mod Ends
 pub mod OpenPositions
 pub mod Derivations
+pub mod FindLemmas

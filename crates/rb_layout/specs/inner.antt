@@ -1,2 +1,3 @@
 pub mod Barring
+pub mod Finding
 pub mod Ends

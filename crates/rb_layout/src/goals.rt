@@ -81,7 +81,7 @@ pub(crate) fn goal_in(types: &[DataDecl], prov: &Pat, part: &Part, literal: Lite
     }
 }
 
-fn same_goal(goal: &Goal, other: &Goal) -> bool
+pub(crate) fn same_goal(goal: &Goal, other: &Goal) -> bool
     ensures { result ≡ same_goal goal.now other.now }
 {
     if goal.ty != other.ty {

@@ -19,6 +19,7 @@
 mod barring;
 pub mod blocks;
 pub mod evidence;
+mod finding;
 mod goals;
 pub mod known;
 pub mod layout;
