@@ -20,6 +20,7 @@ use Rattle.rb_layout.specs.Positions.{Open, open_positions, layout_of}
 use Rattle.rb_layout.specs.Locations.{constant_bit}
 use Rattle.rb_layout.specs.Excluded.{HasOtherBit, HasNull, Meets, Bars, differs, null, within}
 use Rattle.rb_layout.specs.inner.Barring.{is_other, bit_differs, is_pointer, null_at, null_in, position_type, part_literal, goal_on, goal_at, goal_of, goal_in, is_known, part_barred, parts_barred, word_barred, root_barred, leaf_barred, leaves_barred, has_leaf, layout_barred, goal_barred}
+use Rattle.rb_layout.specs.inner.Settling.{Holds}
 use Rattle.rb_layout.proofs.OpenPositions.{position-typed, position-open}
 
 -- ---- tests
@@ -213,17 +214,9 @@ module _ (types : List DataDecl) (layouts : List Layout) where
   abbrev Barred : Leaf → FlatWord → Literal → Type 0
   Barred leaf f x = Bars types layouts leaf f x.o x.l x.bits
 
-  -- a goal holds: its type has a leaf, and in each its root word never has the literal
-  pub record Holds (g : Goal) : Type 0 where
-    pub layout : Layout
-    pub is_layout : layout_of layouts g.ty ≡ Some layout
-    pub some : 0 < length layout.leaves
-    pub words : (n : ℕ) (leaf : Leaf) → slice_get layout.leaves n ≡ Some leaf → (f : FlatWord) × (slice_get leaf.root g.word ≡ Some f)
-    pub bars : (n : ℕ) (leaf : Leaf) (f : FlatWord) → slice_get layout.leaves n ≡ Some leaf → slice_get leaf.root g.word ≡ Some f → Barred leaf f g.literal
-
-  module _ (known : Goal → Bool) (sound : (g : Goal) → known g ≡ true → Holds g) where
+  module _ (known : Goal → Bool) (sound : (g : Goal) → known g ≡ true → Holds types layouts g) where
     within_is : (leaf : Leaf) (f : FlatWord) (x : Literal) (k : ℕ) (p : Part) (g : Goal) → slice_get f.parts k ≡ Some p
-        → GoalPart (position_type types leaf.prov) x p g → Holds g → Barred leaf f x
+        → GoalPart (position_type types leaf.prov) x p g → Holds types layouts g → Barred leaf f x
     within_is leaf f x k p g is_part part holds =
         let place = position-open types leaf.prov part.path (Named g.ty) part.is_type in
         let lit = literal-is x p g.literal part.is_literal in
@@ -284,7 +277,7 @@ module _ (types : List DataDecl) (layouts : List Layout) where
     some_leaf [] e = absurd cc
     some_leaf (y ∷ ys) e = omega arith
 
-    layout_is : (g : Goal) (l : Option Layout) → layout_of layouts g.ty ≡ l → layout_barred known types g l ≡ true → Holds g
+    layout_is : (g : Goal) (l : Option Layout) → layout_of layouts g.ty ≡ l → layout_barred known types g l ≡ true → Holds types layouts g
     layout_is g None is e = absurd cc
     layout_is g (Some l) is e =
         let h = both (has_leaf l.leaves) (leaves_barred known types g l.leaves) e in
@@ -300,7 +293,7 @@ module _ (types : List DataDecl) (layouts : List Layout) where
               subst (λ (u : FlatWord). Barred leaf u g.literal) same r.2);
         }
 
-    pub goal-holds : (g : Goal) → goal_barred known types layouts g ≡ true → Holds g
+    pub goal-holds : (g : Goal) → goal_barred known types layouts g ≡ true → Holds types layouts g
     goal-holds g e = layout_is g (layout_of layouts g.ty) refl e
 
   -- the goals of the parts are among some goals

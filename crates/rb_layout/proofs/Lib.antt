@@ -7,3 +7,4 @@ pub mod Ends
 pub mod OpenPositions
 pub mod Derivations
 pub mod FindLemmas
+pub mod SettleLemmas

@@ -1,3 +1,4 @@
 pub mod Barring
 pub mod Finding
+pub mod Settling
 pub mod Ends

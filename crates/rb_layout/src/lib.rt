@@ -19,9 +19,11 @@
 mod barring;
 pub mod blocks;
 pub mod evidence;
+pub mod exclude;
 mod finding;
 mod goals;
 pub mod known;
 pub mod layout;
 pub mod locate;
 mod open_type;
+mod settling;
