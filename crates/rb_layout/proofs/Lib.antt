@@ -8,3 +8,4 @@ pub mod OpenPositions
 pub mod Derivations
 pub mod FindLemmas
 pub mod SettleLemmas
+pub mod Excluding
