@@ -21,7 +21,7 @@ use Rattle.rb_layout.specs.Locations.{constant_bit}
 use Rattle.rb_layout.specs.Excluded.{HasOtherBit, HasNull, Meets, Bars, differs, null, within}
 use Rattle.rb_layout.specs.inner.Barring.{is_other, bit_differs, is_pointer, null_at, null_in, position_type, part_literal, goal_on, goal_at, goal_of, goal_in, is_known, part_barred, parts_barred, word_barred, root_barred, leaf_barred, leaves_barred, has_leaf, layout_barred, goal_barred}
 use Rattle.rb_layout.specs.inner.Settling.{Holds}
-use Rattle.rb_layout.proofs.OpenPositions.{position-typed, position-open}
+use Rattle.rb_layout.proofs.OpenPositions.{position-typed, type-open}
 
 -- ---- tests
 pub both : (a b : Bool) → (a && b) ≡ true → (a ≡ true) × (b ≡ true)
@@ -218,7 +218,7 @@ module _ (types : List DataDecl) (layouts : List Layout) where
     within_is : (leaf : Leaf) (f : FlatWord) (x : Literal) (k : ℕ) (p : Part) (g : Goal) → slice_get f.parts k ≡ Some p
         → GoalPart (position_type types leaf.prov) x p g → Holds types layouts g → Barred leaf f x
     within_is leaf f x k p g is_part part holds =
-        let place = position-open types leaf.prov part.path (Named g.ty) part.is_type in
+        let place = type-open (open_positions types leaf.prov) part.path (Named g.ty) part.is_type in
         let lit = literal-is x p g.literal part.is_literal in
         let lt = lit.0 in
         let same : shared x p ≡ g.literal = lit.1 in

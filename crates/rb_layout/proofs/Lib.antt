@@ -1,10 +1,12 @@
-pub mod Probe
+pub mod Disjoint
+pub mod FlatForms
+pub mod WrittenForms
+pub mod Walks
 pub mod Locating
-pub mod BarLemmas
-pub mod KnownBits
-pub mod OpenTypes
 pub mod Ends
+pub mod KnownBits
 pub mod OpenPositions
+pub mod BarLemmas
 pub mod Derivations
 pub mod FindLemmas
 pub mod SettleLemmas

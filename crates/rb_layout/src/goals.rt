@@ -5,7 +5,7 @@ ghost use Rattle.rb_bits.specs.Words.{IsRange};
 ghost use Rattle.rb_layout.specs.inner.Barring.{position_type, IsAsked, part_literal, goal_in, same_goal, knows};
 
 use crate::layout::{Kind, Part};
-use crate::open_type::position_type;
+use crate::positions::type_at;
 use rb_bits::take;
 use rb_core::pattern::Pat;
 use rb_core::types::{DataDecl, Ty};
@@ -63,7 +63,7 @@ pub(crate) fn goal_in(types: &[DataDecl], prov: &Pat, part: &Part, literal: Lite
         Kind::Const(_) => None,
         Kind::Bits(_, _) => None,
         Kind::Word(path, word) => {
-            let ty = match position_type(types, prov, path.as_slice()) {
+            let ty = match type_at(types, prov, path.as_slice()) {
                 None => return None,
                 Some(Ty::Int(_)) => return None,
                 Some(Ty::Named(ty)) => ty,

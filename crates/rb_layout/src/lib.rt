@@ -16,6 +16,7 @@
 //! numbers has each address when it is needed.
 #![tactic(auto)]
 
+pub mod agreed;
 mod barring;
 pub mod blocks;
 pub mod evidence;
@@ -25,5 +26,7 @@ mod goals;
 pub mod known;
 pub mod layout;
 pub mod locate;
-mod open_type;
+pub mod positions;
 mod settling;
+
+pub use agreed::Agreed;

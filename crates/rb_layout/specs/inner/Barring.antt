@@ -6,12 +6,7 @@ use Rattle.rb_bits.specs.Words.{IsRange, take_of}
 use Rattle.rb_core.specs.declared.types.Ty.{Ty}
 use Rattle.rb_core.specs.declared.types.Ty.TheVariants.{Int, Named}
 use Rattle.rb_core.specs.declared.types.DataDecl.{DataDecl}
-use Rattle.rb_core.specs.Values.{fields_of}
-use Rattle.rb_core.specs.declared.types.ConRef.{ConRef}
-use Rattle.rb_core.specs.declared.pattern.Pat.{Pat, out-Pat}
-use Rattle.rb_core.specs.declared.pattern.Pat.TheOpen as P
-use Rattle.rb_core.specs.declared.pattern.Pat.TheOpen.{Pat-F}
-use Rattle.rb_core.specs.declared.pattern.Pat.TheFolds.{fold-Pat}
+use Rattle.rb_core.specs.declared.pattern.Pat.{Pat}
 use Rattle.rb_layout.specs.declared.layout.Leaf.{Leaf}
 use Rattle.rb_layout.specs.declared.layout.FlatWord.{FlatWord}
 use Rattle.rb_layout.specs.declared.layout.Part.{Part}
@@ -21,7 +16,8 @@ use Rattle.rb_layout.specs.declared.layout.Layout.{Layout}
 use Rattle.rb_layout.specs.declared.goals.Literal.{Literal}
 use Rattle.rb_layout.specs.declared.goals.Goal.{Goal}
 use Rattle.rb_layout.specs.declared.goals.Entry.{Entry}
-use Rattle.rb_layout.specs.Positions.{types_or_none, root_type, layout_of}
+use Rattle.rb_layout.specs.Positions.{open_positions, layout_of}
+use Rattle.rb_layout.specs.Flattening.{type_at}
 use Rattle.rb_layout.specs.Locations.{constant_bit}
 use Rattle.rb_layout.specs.Readable.{AreRanges}
 
@@ -48,31 +44,9 @@ abbrev pub null_in : List Part → Literal → Bool
 null_in [] x = false
 null_in (p ∷ ps) x = null_at x p || null_in ps x
 
--- the type at an open position
-abbrev pub type_below : Option (Ty → List ℕ → Option Ty) → Option Ty → List ℕ → Option Ty
-type_below None t path = None
-type_below (Some p) None path = None
-type_below (Some p) (Some t) path = p t path
-
-abbrev pub type_here : Ty → List ℕ → Option Ty
-type_here ty [] = Some ty
-type_here ty (i ∷ path) = None
-
-abbrev pub type_in : List Ty → List (Ty → List ℕ → Option Ty) → List ℕ → Option Ty
-type_in ts ps [] = None
-type_in ts ps (i ∷ path) = type_below (slice_get ps i) (slice_get ts i) path
-
-abbrev pub type_step : List DataDecl → Pat-F (Ty → List ℕ → Option Ty) → Ty → List ℕ → Option Ty
-type_step types (P.Wild at) ty path = type_here ty path
-type_step types (P.Var at x) ty path = type_here ty path
-type_step types (P.Num at n) ty path = None
-type_step types (P.Con at c ps) ty path = type_in (types_or_none (fields_of types c)) ps path
-
-abbrev pub open_type : List DataDecl → Pat → Ty → List ℕ → Option Ty
-open_type types = fold-Pat (Ty → List ℕ → Option Ty) (type_step types)
-
+-- the type at an open position of a provenance
 abbrev pub position_type : List DataDecl → Pat → List ℕ → Option Ty
-position_type types prov = open_type types prov (root_type (out-Pat prov))
+position_type types prov = type_at (open_positions types prov)
 
 -- where a part meets the literal's range, the literal's bits there, counted from the part's first bit
 abbrev pub part_literal : Literal → Part → Option Literal
