@@ -369,7 +369,7 @@ module _ (types : List DataDecl) (layouts : List Layout) where
         let is_goal = meets_goal leaf f o l c s j p a b m in
         let in_g : In g = parts m.number m.part g m.is_part is_goal in
         let each = leaves_of g layout.leaves words
-            (λ n under u is_leaf is_word. bars-found (below n under u is_leaf is_word) (below_in g in_g n layout under u is is_leaf is_word)) in
+        (λ n under u is_leaf is_word. bars-found (below n under u is_leaf is_word) (below_in g in_g n layout under u is is_leaf is_word)) in
         let known_g : known g ≡ true = settled g in_g (goal_of_leaves g layout is some each) in
         or_right (bit_differs f.parts o c 0 l || null_in f.parts x) (parts_barred known (position_type types leaf.prov) x f.parts)
         (parts_of known (position_type types leaf.prov) x f.parts m.number m.part m.is_part (ap (is_known known) is_goal ∙ known_g))

@@ -64,8 +64,7 @@ module _ (types : List DataDecl) (layouts : List Layout) where
         let none : AreTrue types layouts found = λ g h. absurd (not_fresh found g are_found.fresh h) in
         let all = are_settled.true_ones none in
         let parts : PartsIn types layouts (IsIn found) leaf f x = λ k p h is_part e.
-            are_found.keeps h (subst (λ es. IsIn es h) (sym is) (parts-in (position_type types leaf.prov) x [] f.parts k p h is_part e)) in
-        (
+        are_found.keeps h (subst (λ es. IsIn es h) (sym is) (parts-in (position_type types leaf.prov) x [] f.parts k p h is_part e)) in (
           λ h. word-bars types layouts (knows final) all leaf f x h,
           λ h. bars-found types layouts (knows final) (IsIn found) (below_at first found are_found) (settled_at found final are_settled) h parts,
         )
@@ -74,8 +73,7 @@ module _ (types : List DataDecl) (layouts : List Layout) where
 pub excluded-at : (types : List DataDecl) (layouts : List Layout) (leaf : Leaf) (loc : Loc) (end : End) (f : FlatWord) (c : ℕ) → FoundAt leaf loc end
     → flat_at leaf end.at ≡ Some f → Bars types layouts leaf f end.o end.l c ↔ Excludes types layouts leaf loc c
 excluded-at types layouts leaf loc end f c found is =
-    let same : f ≡ found.reached.word = same_Some _ _ (sym is ∙ found.is_word) in
-    (
+    let same : f ≡ found.reached.word = same_Some _ _ (sym is ∙ found.is_word) in (
       λ h. record {
         reached = found.reached;
         resolves = found.is_reached;

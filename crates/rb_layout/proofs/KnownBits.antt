@@ -57,4 +57,3 @@ more_fits l i b n some le small fits =
     let long : l - (i - 1) ≡ 1 + (l - i) = omega arith in
     let twice : 2 ^ (l - (i - 1)) ≡ 2 * 2 ^ (l - i) = ap (λ k. 2 ^ k) long ∙ pow-add 2 1 (l - i) in
     omega arith
-

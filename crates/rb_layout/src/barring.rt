@@ -30,7 +30,10 @@ fn bit_differs(parts: &[Part], literal: Literal) -> bool
     ensures { result ≡ bit_differs parts.now literal.o literal.bits 0 literal.l }
 {
     for i in 0..literal.l {
-        if is_other(constant_bit(parts, literal.o + i), take(literal.bits, i as u32, 1)) {
+        if is_other(
+            constant_bit(parts, literal.o + i),
+            take(literal.bits, i as u32, 1),
+        ) {
             return true;
         }
     }
@@ -79,7 +82,6 @@ fn null_in(parts: &[Part], literal: Literal) -> bool
     }
     false
 }
-
 
 // Whether a part with a word of a field gives a goal that is known to hold.
 fn part_barred(
@@ -147,7 +149,13 @@ fn leaf_barred(types: &[DataDecl], leaf: &Leaf, goal: &Goal, entries: &[Entry]) 
 {
     match leaf.root.get(goal.word as usize) {
         None => false,
-        Some(word) => word_barred(types, &leaf.prov, word.parts.as_slice(), goal.literal, entries),
+        Some(word) => word_barred(
+            types,
+            &leaf.prov,
+            word.parts.as_slice(),
+            goal.literal,
+            entries,
+        ),
     }
 }
 

@@ -36,13 +36,7 @@ fn is_barred(
     add_parts(types, &leaf.prov, parts, literal, &mut entries)?;
     find_all(types, layouts, &mut entries)?;
     settle(types, layouts, &mut entries);
-    Ok(word_barred(
-        types,
-        &leaf.prov,
-        parts,
-        literal,
-        entries.as_slice(),
-    ))
+    Ok(word_barred(types, &leaf.prov, parts, literal, entries.as_slice()))
 }
 
 /// Whether the bits at a location of a leaf are never those of `literal`.

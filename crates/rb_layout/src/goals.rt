@@ -48,7 +48,11 @@ fn part_literal(part: &Part, literal: Literal) -> Option<Literal>
     Some(Literal {
         o: first - part.o,
         l: end - first,
-        bits: take(literal.bits, (first - literal.o) as u32, (end - first) as u32),
+        bits: take(
+            literal.bits,
+            (first - literal.o) as u32,
+            (end - first) as u32,
+        ),
     })
 }
 

@@ -7,7 +7,6 @@ ghost use Rattle.rb_layout.specs.Readable.{AreRanges, IsReadable};
 
 use crate::layout::{Kind, Leaf, Part};
 use crate::locate::{end_of, flat_at};
-
 use rb_bits::take;
 use rb_core::layout_decl::Loc;
 

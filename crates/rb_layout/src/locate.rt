@@ -54,13 +54,7 @@ fn pointed_in(part: &Part, o: u64, l: u64, align: u64) -> Option<u32>
         Kind::Const(_) => None,
         Kind::Bits(_, _) => None,
         Kind::Word(_, _) => None,
-        Kind::Pointer(own, b) => {
-            if *own == align {
-                Some(*b)
-            } else {
-                None
-            }
-        }
+        Kind::Pointer(own, b) => { if *own == align { Some(*b) } else { None } }
     }
 }
 
