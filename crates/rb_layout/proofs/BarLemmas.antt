@@ -7,9 +7,8 @@ use Rattle.rb_core.specs.declared.types.DataDecl.{DataDecl}
 use Rattle.rb_layout.specs.declared.layout.Leaf.{Leaf}
 use Rattle.rb_layout.specs.declared.goals.Literal.{Literal}
 use Rattle.rb_layout.specs.declared.goals.Goal.{Goal}
-use Rattle.rb_layout.specs.declared.goals.Entry.{Entry}
 use Rattle.rb_layout.specs.Locations.{or_else, bit_of_part, constant_bit}
-use Rattle.rb_layout.specs.inner.Barring.{is_other, bit_differs, null_at, null_in, part_barred, parts_barred, leaf_barred, leaves_barred, same_goal, knows}
+use Rattle.rb_layout.specs.inner.Barring.{is_other, bit_differs, null_at, null_in, part_barred, parts_barred, leaf_barred, leaves_barred}
 
 pub bit-from : (ps : List Part) (k i : ℕ) (d : Part) → k < length ps
     → constant_bit (drop k ps) i ≡ or_else (bit_of_part (get_or ps k d) i) (constant_bit (drop (k + 1) ps) i)
@@ -31,8 +30,4 @@ pub leaf-from : (known : Goal → Bool) (types : List DataDecl) (g : Goal) (xs :
     → leaves_barred known types g (drop k xs) ≡ (leaf_barred known types g (get_or xs k d) && leaves_barred known types g (drop (k + 1) xs))
 leaf-from known types g xs k d lt = rw (add-one, drop-cons xs k d) refl
 
-pub knows-from : (es : List Entry) (g : Goal) (k : ℕ) (d : Entry) → k < length es
-    → knows (drop k es) g ≡ (((get_or es k d).barred && same_goal (get_or es k d).goal g) || knows (drop (k + 1) es) g)
-knows-from es g k d lt = rw (add-one, drop-cons es k d) refl
-
-pub ruleset barring = (bit-from, null-from, differs-from, part-from, leaf-from, knows-from)
+pub ruleset barring = (bit-from, null-from, differs-from, part-from, leaf-from)

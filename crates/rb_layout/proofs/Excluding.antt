@@ -1,6 +1,6 @@
 -- The goals that are marked when all is settled are those that have a derivation.
 use Rattle.std.proofs.Common.{◌≡◌, ℕ, zero, suc, ◌<◌, ◌&&◌, ◌||◌, ◌⊎◌, inl, inr, not, List, [], ◌∷◌, Bool, true, false, Option, Some, None, Result, Ok, Err, refl, sym, ap, subst, ◌∙◌, arith}
-use Rattle.std.specs.Prelude.{slice_get, IfOk, IsTrue, ◌↔◌}
+use Rattle.std.specs.Prelude.{slice_get, IfOk, IsTrue, ◌↔◌, if◌then◌else◌}
 use Rattle.std.proofs.lemmas.Option.{same_Some}
 use Rattle.rb_core.specs.declared.types.DataDecl.{DataDecl}
 use Rattle.rb_core.specs.declared.layout_decl.Loc.{Loc}
@@ -19,43 +19,34 @@ use Rattle.rb_layout.specs.inner.Barring.{position_type, same_goal, knows, word_
 use Rattle.rb_layout.specs.inner.Finding.{with_parts, IsIn, AreFresh, AreFound}
 use Rattle.rb_layout.specs.inner.Settling.{turns, Holds, AreTrue, AreSettled}
 use Rattle.rb_layout.proofs.Derivations.{both, or_is, or_left, or_right, and_of, word-bars, PartsIn, BelowIn, bars-found}
-use Rattle.rb_layout.proofs.FindLemmas.{goal-same, entry-of, parts-in}
+use Rattle.rb_layout.proofs.FindLemmas.{first-of, parts-in}
 use Rattle.rb_layout.proofs.Ends.{FoundAt}
+
+fresh_case : (e : Entry) (b m : Bool) → e.barred ≡ false → (m ≡ true → ⊥) → (if b then e.barred else m) ≡ true → ⊥
+fresh_case e true m fresh rest h = absurd (let x = sym h ∙ fresh in cc)
+fresh_case e false m fresh rest h = rest h
 
 not_fresh : (es : List Entry) (g : Goal) → AreFresh es → knows es g ≡ true → ⊥
 not_fresh [] g fresh h = absurd cc
-not_fresh (e ∷ es) g fresh h =
-    elim (or_is (e.barred && same_goal e.goal g) (knows es g) h) [
-      | inl s ↦ let b = (both e.barred (same_goal e.goal g) s).0 in let f = fresh 0 e refl in absurd (let x = sym b ∙ f in cc)
-      | inr s ↦ not_fresh es g (λ k x is. fresh (suc k) x is) s
-    ]
-
-knows_of : (es : List Entry) (k : ℕ) (e : Entry) (g : Goal) → slice_get es k ≡ Some e → e.barred ≡ true → e.goal ≡ g → knows es g ≡ true
-knows_of [] k e g is barred same = absurd cc
-knows_of (x ∷ es) zero e g is barred same =
-    let it : x ≡ e = same_Some x e is in
-    let goal : same_goal x.goal g ≡ true = ap (λ y. same_goal y.goal g) it ∙ ap (λ h. same_goal h g) same ∙ goal-same g in
-    or_left (x.barred && same_goal x.goal g) (knows es g) (and_of x.barred (same_goal x.goal g) (ap (λ y. y.barred) it ∙ barred) goal)
-knows_of (x ∷ es) (suc k) e g is barred same = or_right (x.barred && same_goal x.goal g) (knows es g) (knows_of es k e g is barred same)
+not_fresh (e ∷ es) g fresh h = fresh_case e (same_goal e.goal g) (knows es g) (fresh 0 e refl) (not_fresh es g (λ k x is. fresh (suc k) x is)) h
 
 module _ (types : List DataDecl) (layouts : List Layout) where
-  marked_or_not : (es : List Entry) (k : ℕ) (e : Entry) (g : Goal) (b : Bool) → slice_get es k ≡ Some e → e.goal ≡ g → e.barred ≡ b
-      → (not b && goal_barred (knows es) types layouts g) ≡ false → goal_barred (knows es) types layouts g ≡ true → knows es g ≡ true
-  marked_or_not es k e g true is same barred none holds = knows_of es k e g is barred same
-  marked_or_not es k e g false is same barred none holds = absurd (let x = sym holds ∙ none in cc)
+  marked_or_not : (a b : Bool) → (not a && b) ≡ false → b ≡ true → a ≡ true
+  marked_or_not true b none holds = refl
+  marked_or_not false b none holds = absurd (let x = sym holds ∙ none in cc)
 
   settled_at : (found final : List Entry) → AreSettled types layouts found final → (g : Goal) → IsIn found g
       → goal_barred (knows final) types layouts g ≡ true → knows final g ≡ true
   settled_at found final settled g in_found holds =
-      let r = entry-of final g (settled.keeps g in_found) in
-      let none : (not r.1.barred && goal_barred (knows final) types layouts g) ≡ false =
-      subst (λ h. (not r.1.barred && goal_barred (knows final) types layouts h) ≡ false) r.3 (settled.all r.0 r.1 r.2) in
-      marked_or_not final r.0 r.1 g r.1.barred r.2 r.3 refl none holds
+      let r = first-of final g (settled.keeps g in_found) in
+      let none : (not r.entry.barred && goal_barred (knows final) types layouts g) ≡ false =
+      subst (λ h. (not r.entry.barred && goal_barred (knows final) types layouts h) ≡ false) r.same (settled.all r.number r.entry r.is_entry) in
+      r.tells ∙ marked_or_not r.entry.barred (goal_barred (knows final) types layouts g) none holds
 
   below_at : (first found : List Entry) → AreFound types layouts first found → (g : Goal) → IsIn found g → BelowIn types layouts (IsIn found) g
   below_at first found is g in_found =
-      let r = entry-of found g in_found in
-      subst (λ h. BelowIn types layouts (IsIn found) h) r.3 (is.below r.0 r.1 r.2)
+      let r = first-of found g in_found in
+      subst (λ h. BelowIn types layouts (IsIn found) h) r.same (is.below r.number r.entry r.is_entry)
 
   module _ (leaf : Leaf) (f : FlatWord) (x : Literal) (first found final : List Entry) where
     pub decided : first ≡ with_parts (position_type types leaf.prov) x [] f.parts → AreFound types layouts first found → AreSettled types layouts found final

@@ -13,16 +13,12 @@ use Rattle.rb_layout.specs.declared.goals.Literal.{Literal}
 use Rattle.rb_layout.specs.declared.goals.Goal.{Goal}
 use Rattle.rb_layout.specs.declared.goals.Entry.{Entry}
 use Rattle.rb_layout.specs.Positions.{layout_of}
-use Rattle.rb_layout.specs.inner.Barring.{position_type, goal_in, same_goal, IsAsked, AreAsked, HasRanges, AllHaveRanges, HaveRanges}
+use Rattle.rb_layout.specs.inner.Barring.{position_type, goal_in, same_goal, knows, IsAsked, AreAsked, HasRanges, AllHaveRanges, HaveRanges}
 use Rattle.rb_layout.specs.Readable.{AreRanges}
 use Rattle.std.proofs.lemmas.Option.{slice_get_within, slice_get-get_or}
 use Rattle.std.proofs.lemmas.Bool.{cases_lt}
 use Rattle.rb_layout.proofs.Derivations.{both, or_is, or_left, or_right, and_of, same_nat, eq_of, goal-part, literal-is}
 use Rattle.rb_layout.specs.inner.Finding.{has_goal, with_goal, with_found, with_parts, with_root, with_leaf, with_leaves, with_layout, with_below, AreFresh, Keeps, IsIn, HasBelow, AreFound}
-
-pub has-from : (es : List Entry) (g : Goal) (k : ℕ) (d : Entry) → k < length es
-    → has_goal (drop k es) g ≡ (same_goal (get_or es k d).goal g || has_goal (drop (k + 1) es) g)
-has-from es g k d lt = rw (add-one, drop-cons es k d) refl
 
 pub parts-from : (type_of : List ℕ → Option Ty) (x : Literal) (es : List Entry) (ps : List Part) (k : ℕ) (d : Part) → k < length ps
     → with_parts type_of x es (drop k ps) ≡ with_parts type_of x (with_found es (goal_in type_of x (get_or ps k d))) (drop (k + 1) ps)
@@ -32,14 +28,14 @@ pub leaves-from : (types : List DataDecl) (g : Goal) (es : List Entry) (xs : Lis
     → with_leaves types g es (drop k xs) ≡ with_leaves types g (with_leaf types g es (get_or xs k d)) (drop (k + 1) xs)
 leaves-from types g es xs k d lt = rw (add-one, drop-cons xs k d) refl
 
-pub ruleset finding = (has-from, parts-from, leaves-from)
+pub ruleset finding = (parts-from, leaves-from)
 
 -- ---- equal goals
 pub goal-same : (g : Goal) → same_goal g g ≡ true
 goal-same g =
     let o = g.literal in
-    and_of _ _ (and_of _ _ (eq_of g.ty g.ty refl) (eq_of g.word g.word refl))
-    (and_of _ _ (eq_of o.o o.o refl) (and_of _ _ (eq_of o.l o.l refl) (eq_of o.bits o.bits refl)))
+    and_of _ _ (eq_of g.ty g.ty refl) (and_of _ _ (eq_of g.word g.word refl)
+    (and_of _ _ (eq_of o.o o.o refl) (and_of _ _ (eq_of o.l o.l refl) (eq_of o.bits o.bits refl))))
 
 same_literal : (x y : Literal) → x.o ≡ y.o → x.l ≡ y.l → x.bits ≡ y.bits → x ≡ y
 same_literal x y p q r =
@@ -57,16 +53,19 @@ same_fields g h p q r =
 
 pub same-goal : (g h : Goal) → same_goal g h ≡ true → g ≡ h
 same-goal g h e =
-    let a = both ((g.ty == h.ty) && (g.word == h.word)) ((g.literal.o == h.literal.o) && ((g.literal.l == h.literal.l) && (g.literal.bits == h.literal.bits))) e in
-    let b = both (g.ty == h.ty) (g.word == h.word) a.0 in
-    let c = both (g.literal.o == h.literal.o) ((g.literal.l == h.literal.l) && (g.literal.bits == h.literal.bits)) a.1 in
-    let d = both (g.literal.l == h.literal.l) (g.literal.bits == h.literal.bits) c.1 in
-    let ty : g.ty ≡ h.ty = same_nat g.ty h.ty b.0 in
-    let word : g.word ≡ h.word = same_nat g.word h.word b.1 in
-    let o : g.literal.o ≡ h.literal.o = same_nat g.literal.o h.literal.o c.0 in
-    let l : g.literal.l ≡ h.literal.l = same_nat g.literal.l h.literal.l d.0 in
-    let bits : g.literal.bits ≡ h.literal.bits = same_nat g.literal.bits h.literal.bits d.1 in
-    same_fields g h ty word (same_literal g.literal h.literal o l bits)
+    let o : Bool = h.literal.o == g.literal.o in
+    let l : Bool = h.literal.l == g.literal.l in
+    let bits : Bool = h.literal.bits == g.literal.bits in
+    let a = both (h.ty == g.ty) ((h.word == g.word) && (o && (l && bits))) e in
+    let b = both (h.word == g.word) (o && (l && bits)) a.1 in
+    let c = both o (l && bits) b.1 in
+    let d = both l bits c.1 in
+    let ty : g.ty ≡ h.ty = sym (same_nat h.ty g.ty a.0) in
+    let word : g.word ≡ h.word = sym (same_nat h.word g.word b.0) in
+    let same_o : g.literal.o ≡ h.literal.o = sym (same_nat h.literal.o g.literal.o c.0) in
+    let same_l : g.literal.l ≡ h.literal.l = sym (same_nat h.literal.l g.literal.l d.0) in
+    let same_bits : g.literal.bits ≡ h.literal.bits = sym (same_nat h.literal.bits g.literal.bits d.1) in
+    same_fields g h ty word (same_literal g.literal h.literal same_o same_l same_bits)
 
 -- ---- what the lists hold
 get_append : {A : Type 0} (xs : List A) (y : A) (k : ℕ) (x : A) → slice_get (xs ++ y ∷ []) k ≡ Some x → (slice_get xs k ≡ Some x) ⊎ (y ≡ x)
@@ -98,13 +97,35 @@ has-entry (x ∷ es) zero e is =
     or_left (same_goal x.goal e.goal) (has_goal es e.goal) (ap (λ y. same_goal y.goal e.goal) (same_Some x e is) ∙ goal-same e.goal)
 has-entry (x ∷ es) (suc k) e is = or_right (same_goal x.goal e.goal) (has_goal es e.goal) (has-entry es k e is)
 
-pub entry-of : (es : List Entry) (g : Goal) → has_goal es g ≡ true → (k : ℕ) × (e : Entry) × (slice_get es k ≡ Some e) × (e.goal ≡ g)
-entry-of [] g h = absurd cc
-entry-of (x ∷ es) g h =
-    elim (or_is (same_goal x.goal g) (has_goal es g) h) [
-      | inl s ↦ (0, x, refl, same-goal x.goal g s)
-      | inr s ↦ let r = entry-of es g s in (suc r.0, r.1, r.2, r.3)
-    ]
+-- the first entry of a goal, which tells whether it is known
+pub record FirstOf (es : List Entry) (g : Goal) : Type 0 where
+  pub number : ℕ
+  pub entry : Entry
+  pub is_entry : slice_get es number ≡ Some entry
+  pub same : entry.goal ≡ g
+  pub tells : knows es g ≡ entry.barred
+
+first_case : (x : Entry) (es : List Entry) (g : Goal) (b : Bool) → same_goal x.goal g ≡ b → (b || has_goal es g) ≡ true → (has_goal es g ≡ true → FirstOf es g) → FirstOf (x ∷ es) g
+first_case x es g true s h rest = record {
+  number = 0;
+  entry = x;
+  is_entry = refl;
+  same = same-goal x.goal g s;
+  tells = ap (λ b. if b then x.barred else knows es g) s;
+}
+first_case x es g false s h rest =
+    let r = rest h in
+    record {
+      number = suc r.number;
+      entry = r.entry;
+      is_entry = r.is_entry;
+      same = r.same;
+      tells = ap (λ b. if b then x.barred else knows es g) s ∙ r.tells;
+    }
+
+pub first-of : (es : List Entry) (g : Goal) → has_goal es g ≡ true → FirstOf es g
+first-of [] g h = absurd cc
+first-of (x ∷ es) g h = first_case x es g (same_goal x.goal g) refl h (first-of es g)
 
 -- a list with all that another has, in the same places, and more
 pub record Grows (old new : List Entry) : Type 0 where

@@ -6,6 +6,7 @@ pub mod Locating
 pub mod Ends
 pub mod KnownBits
 pub mod OpenPositions
+pub mod GoalLemmas
 pub mod BarLemmas
 pub mod Derivations
 pub mod FindLemmas

@@ -34,21 +34,20 @@ has_set (z ∷ es) (suc i) e g is h =
     ]
 
 -- only that one is known besides
+either_way : {P : Type 0} (b x m n : Bool) → (m ≡ true → (n ≡ true) ⊎ P) → (if b then x else m) ≡ true → ((if b then x else n) ≡ true) ⊎ P
+either_way true x m n rest h = inl h
+either_way false x m n rest h = rest h
+
+known_first : (z : Entry) (es : List Entry) (e : Entry) (g : Goal) (b : Bool) → same_goal e.goal g ≡ b → z ≡ e → (if b then true else knows es g) ≡ true
+    → (knows (z ∷ es) g ≡ true) ⊎ (e.goal ≡ g)
+known_first z es e g true s is h = inr (same-goal e.goal g s)
+known_first z es e g false s is h = inl (ap (λ b. if b then z.barred else knows es g) (ap (λ x. same_goal x.goal g) is ∙ s) ∙ h)
+
 knows_set : (es : List Entry) (i : ℕ) (e : Entry) (g : Goal) → slice_get es i ≡ Some e → knows (slice_set es i (mark e)) g ≡ true → (knows es g ≡ true) ⊎ (e.goal ≡ g)
 knows_set [] i e g is h = absurd cc
-knows_set (z ∷ es) zero e g is h =
-    elim (or_is (same_goal e.goal g) (knows es g) h) [
-      | inl s ↦ inr (same-goal e.goal g s)
-      | inr s ↦ inl (or_right (z.barred && same_goal z.goal g) (knows es g) s)
-    ]
+knows_set (z ∷ es) zero e g is h = known_first z es e g (same_goal e.goal g) refl (same_Some z e is) h
 knows_set (z ∷ es) (suc i) e g is h =
-    elim (or_is (z.barred && same_goal z.goal g) (knows (slice_set es i (mark e)) g) h) [
-      | inl s ↦ inl (or_left (z.barred && same_goal z.goal g) (knows es g) s)
-      | inr s ↦ elim (knows_set es i e g is s) [
-        | inl r ↦ inl (or_right (z.barred && same_goal z.goal g) (knows es g) r)
-        | inr r ↦ inr r
-      ]
-    ]
+    either_way (same_goal z.goal g) z.barred (knows (slice_set es i (mark e)) g) (knows es g) (λ k. knows_set es i e g is k) h
 
 fewer_more : (b : Bool) (m n : ℕ) → m < n → (if b then m else suc m) < (if b then n else suc n)
 fewer_more true m n lt = lt

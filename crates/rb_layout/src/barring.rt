@@ -6,9 +6,10 @@ ghost use Rattle.rb_layout.specs.Locations.{constant_bit};
 ghost use Rattle.rb_layout.specs.Readable.{AreRanges};
 ghost use Rattle.rb_layout.specs.inner.Barring.{is_other, bit_differs, is_pointer, null_at, null_in, IsAsked, position_type, knows, part_barred, parts_barred, word_barred, leaf_barred, leaves_barred, goal_barred, HasRanges, AllHaveRanges, HaveRanges};
 
-use crate::goals::{Entry, Goal, Literal, goal_in, is_known};
+use crate::goals::{Goal, Goals, Literal};
 use crate::known::constant_bit;
 use crate::layout::{Kind, Layout, Leaf, Part};
+use crate::part_goals::goal_in;
 use rb_bits::take;
 use rb_core::pattern::Pat;
 use rb_core::types::DataDecl;
@@ -89,7 +90,7 @@ fn part_barred(
     prov: &Pat,
     part: &Part,
     literal: Literal,
-    entries: &[Entry],
+    entries: &Goals,
 ) -> bool
     requires range { IsRange part.now.o part.now.l }
     requires asked { IsAsked literal }
@@ -97,7 +98,7 @@ fn part_barred(
 {
     match goal_in(types, prov, part, literal) {
         None => false,
-        Some(goal) => is_known(entries, &goal),
+        Some(goal) => entries.is_known(&goal),
     }
 }
 
@@ -107,7 +108,7 @@ fn parts_barred(
     prov: &Pat,
     parts: &[Part],
     literal: Literal,
-    entries: &[Entry],
+    entries: &Goals,
 ) -> bool
     requires ranges { AreRanges parts.now }
     requires asked { IsAsked literal }
@@ -127,7 +128,7 @@ pub(crate) fn word_barred(
     prov: &Pat,
     parts: &[Part],
     literal: Literal,
-    entries: &[Entry],
+    entries: &Goals,
 ) -> bool
     requires ranges { AreRanges parts.now }
     requires asked { IsAsked literal }
@@ -142,7 +143,7 @@ pub(crate) fn word_barred(
     parts_barred(types, prov, parts, literal, entries)
 }
 
-fn leaf_barred(types: &[DataDecl], leaf: &Leaf, goal: &Goal, entries: &[Entry]) -> bool
+fn leaf_barred(types: &[DataDecl], leaf: &Leaf, goal: &Goal, entries: &Goals) -> bool
     requires ranges { HasRanges leaf.now }
     requires asked { IsAsked goal.now.literal }
     ensures { result ≡ leaf_barred (knows entries.now) types.now goal.now leaf.now }
@@ -160,7 +161,7 @@ fn leaf_barred(types: &[DataDecl], leaf: &Leaf, goal: &Goal, entries: &[Entry]) 
 }
 
 #[tactic(auto, using(crate::proofs::BarLemmas::barring))]
-fn leaves_barred(types: &[DataDecl], leaves: &[Leaf], goal: &Goal, entries: &[Entry]) -> bool
+fn leaves_barred(types: &[DataDecl], leaves: &[Leaf], goal: &Goal, entries: &Goals) -> bool
     requires ranges { AllHaveRanges leaves.now }
     requires asked { IsAsked goal.now.literal }
     ensures { result ≡ leaves_barred (knows entries.now) types.now goal.now leaves.now }
@@ -178,7 +179,7 @@ pub(crate) fn goal_barred(
     types: &[DataDecl],
     layouts: &[Layout],
     goal: &Goal,
-    entries: &[Entry],
+    entries: &Goals,
 ) -> bool
     requires ranges { HaveRanges layouts.now }
     requires asked { IsAsked goal.now.literal }

@@ -7,12 +7,11 @@ ghost use Rattle.rb_layout.specs.inner.Barring.{HaveRanges, IsAsked};
 
 use crate::barring::word_barred;
 use crate::finding::{add_parts, find_all};
-use crate::goals::Literal;
+use crate::goals::{Goals, Literal};
 use crate::layout::{FlatWord, Layout, Leaf};
 use crate::locate::{end_of, flat_at};
 use crate::settling::settle;
 use rb_core::layout_decl::Loc;
-use rb_core::seq::Seq;
 use rb_core::types::DataDecl;
 use std::alloc::{AllocError, Global};
 
@@ -32,11 +31,11 @@ fn is_barred(
         (λ b. IsTrue b ↔ Bars types.now layouts.now leaf.now word.now literal.o literal.l literal.bits) }
 {
     let parts = word.parts.as_slice();
-    let mut entries = Seq::new(alloc);
+    let mut entries = Goals::new(alloc);
     add_parts(types, &leaf.prov, parts, literal, &mut entries)?;
     find_all(types, layouts, &mut entries)?;
     settle(types, layouts, &mut entries);
-    Ok(word_barred(types, &leaf.prov, parts, literal, entries.as_slice()))
+    Ok(word_barred(types, &leaf.prov, parts, literal, &entries))
 }
 
 /// Whether the bits at a location of a leaf are never those of `literal`.

@@ -4,46 +4,21 @@ ghost use Rattle.std.specs.Prelude.{◌≡◌, IfOk, OnOk};
 ghost use Rattle.rb_bits.specs.Words.{IsRange};
 ghost use Rattle.rb_layout.specs.Readable.{AreRanges};
 ghost use Rattle.rb_layout.specs.inner.Barring.{position_type, IsAsked, AreAsked, HasRanges, AllHaveRanges, HaveRanges, goal_in};
-ghost use Rattle.rb_layout.specs.inner.Finding.{has_goal, with_goal, with_found, with_parts, with_leaf, with_leaves, with_below, AreFresh, AreFound};
+ghost use Rattle.rb_layout.specs.inner.Finding.{with_found, with_parts, with_leaf, with_leaves, with_below, AreFresh, AreFound};
 
-use crate::goals::{Entry, Goal, Literal, goal_in, same_goal};
+use crate::goals::{Goal, Goals, Literal};
 use crate::layout::{Layout, Leaf, Part};
+use crate::part_goals::goal_in;
 use rb_core::pattern::Pat;
-use rb_core::seq::Seq;
 use rb_core::types::DataDecl;
 use std::alloc::AllocError;
-
-#[tactic(auto, using(crate::proofs::FindLemmas::finding))]
-fn has_goal(entries: &[Entry], goal: &Goal) -> bool
-    ensures { result ≡ has_goal entries.now goal.now }
-{
-    for entry in entries {
-        if same_goal(&entry.goal, goal) {
-            return true;
-        }
-    }
-    false
-}
-
-fn add_goal(entries: &mut Seq<Entry>, goal: Goal) -> Result<(), AllocError>
-    ensures { OnOk result (entries.new ≡ with_goal entries.old goal) }
-{
-    if has_goal(entries.as_slice(), &goal) {
-        return Ok(());
-    }
-    entries.push(Entry {
-        goal,
-        barred: false,
-    })?;
-    Ok(())
-}
 
 fn add_part(
     types: &[DataDecl],
     prov: &Pat,
     part: &Part,
     literal: Literal,
-    entries: &mut Seq<Entry>,
+    entries: &mut Goals,
 ) -> Result<(), AllocError>
     requires range { IsRange part.now.o part.now.l }
     requires asked { IsAsked literal }
@@ -52,7 +27,7 @@ fn add_part(
 {
     match goal_in(types, prov, part, literal) {
         None => Ok(()),
-        Some(goal) => add_goal(entries, goal),
+        Some(goal) => entries.add(goal),
     }
 }
 
@@ -63,7 +38,7 @@ pub(crate) fn add_parts(
     prov: &Pat,
     parts: &[Part],
     literal: Literal,
-    entries: &mut Seq<Entry>,
+    entries: &mut Goals,
 ) -> Result<(), AllocError>
     requires ranges { AreRanges parts.now }
     requires asked { IsAsked literal }
@@ -80,7 +55,7 @@ fn add_leaf(
     types: &[DataDecl],
     leaf: &Leaf,
     goal: &Goal,
-    entries: &mut Seq<Entry>,
+    entries: &mut Goals,
 ) -> Result<(), AllocError>
     requires ranges { HasRanges leaf.now }
     requires asked { IsAsked goal.now.literal }
@@ -103,7 +78,7 @@ fn add_leaves(
     types: &[DataDecl],
     leaves: &[Leaf],
     goal: &Goal,
-    entries: &mut Seq<Entry>,
+    entries: &mut Goals,
 ) -> Result<(), AllocError>
     requires ranges { AllHaveRanges leaves.now }
     requires asked { IsAsked goal.now.literal }
@@ -120,7 +95,7 @@ fn add_below(
     types: &[DataDecl],
     layouts: &[Layout],
     goal: &Goal,
-    entries: &mut Seq<Entry>,
+    entries: &mut Goals,
 ) -> Result<(), AllocError>
     requires ranges { HaveRanges layouts.now }
     requires asked { IsAsked goal.now.literal }
@@ -136,7 +111,7 @@ fn add_below(
 pub(crate) fn find_all(
     types: &[DataDecl],
     layouts: &[Layout],
-    entries: &mut Seq<Entry>,
+    entries: &mut Goals,
 ) -> Result<(), AllocError>
     requires ranges { HaveRanges layouts.now }
     requires asked { AreAsked entries.old }

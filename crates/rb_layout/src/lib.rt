@@ -26,6 +26,7 @@ mod goals;
 pub mod known;
 pub mod layout;
 pub mod locate;
+mod part_goals;
 pub mod positions;
 mod settling;
 

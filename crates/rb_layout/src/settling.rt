@@ -6,13 +6,12 @@ ghost use Rattle.rb_layout.specs.inner.Barring.{IsAsked, AreAsked, HaveRanges};
 ghost use Rattle.rb_layout.specs.inner.Settling.{turns, looked, passed, changes, AreSettled};
 
 use crate::barring::goal_barred;
-use crate::goals::Entry;
+use crate::goals::{Entry, Goals};
 use crate::layout::Layout;
-use rb_core::seq::Seq;
 use rb_core::types::DataDecl;
 
 // Whether an entry's goal holds by one step and was not marked.
-fn turns(types: &[DataDecl], layouts: &[Layout], entries: &[Entry], entry: Entry) -> bool
+fn turns(types: &[DataDecl], layouts: &[Layout], entries: &Goals, entry: Entry) -> bool
     requires ranges { HaveRanges layouts.now }
     requires asked { IsAsked entry.goal.literal }
     ensures { result ≡ turns types.now layouts.now entries.now (Some entry) }
@@ -24,7 +23,7 @@ fn turns(types: &[DataDecl], layouts: &[Layout], entries: &[Entry], entry: Entry
 }
 
 // Marks entry `i` where its goal holds by one step, and tells whether it did.
-fn look(types: &[DataDecl], layouts: &[Layout], entries: &mut Seq<Entry>, i: usize) -> bool
+fn look(types: &[DataDecl], layouts: &[Layout], entries: &mut Goals, i: usize) -> bool
     requires ranges { HaveRanges layouts.now }
     requires asked { AreAsked entries.old }
     ensures result { result ≡ turns types.now layouts.now entries.old (slice_get entries.old i) }
@@ -32,23 +31,17 @@ fn look(types: &[DataDecl], layouts: &[Layout], entries: &mut Seq<Entry>, i: usi
 {
     let entry = match entries.get(i) {
         None => return false,
-        Some(entry) => *entry,
+        Some(entry) => entry,
     };
-    if !turns(types, layouts, entries.as_slice(), entry) {
+    if !turns(types, layouts, entries, entry) {
         return false;
     }
-    let _ = entries.replace(
-        i,
-        Entry {
-            goal: entry.goal,
-            barred: true,
-        },
-    );
+    entries.mark(i);
     true
 }
 
 // One pass, from the last entry to the first. Tells whether it marked one.
-fn pass(types: &[DataDecl], layouts: &[Layout], entries: &mut Seq<Entry>) -> bool
+fn pass(types: &[DataDecl], layouts: &[Layout], entries: &mut Goals) -> bool
     requires ranges { HaveRanges layouts.now }
     requires asked { AreAsked entries.old }
     ensures result { result ≡ changes types.now layouts.now (length entries.old) entries.old }
@@ -64,7 +57,7 @@ fn pass(types: &[DataDecl], layouts: &[Layout], entries: &mut Seq<Entry>) -> boo
 }
 
 /// Marks the goals that hold.
-pub(crate) fn settle(types: &[DataDecl], layouts: &[Layout], entries: &mut Seq<Entry>)
+pub(crate) fn settle(types: &[DataDecl], layouts: &[Layout], entries: &mut Goals)
     requires ranges { HaveRanges layouts.now }
     requires asked { AreAsked entries.old }
     ensures { AreSettled types.now layouts.now entries.old entries.new }

@@ -75,12 +75,14 @@ abbrev pub goal_in : (List ℕ → Option Ty) → Literal → Part → Option Go
 goal_in type_of x p = goal_of type_of (part_literal x p) p.kind
 
 abbrev pub same_goal : Goal → Goal → Bool
-same_goal g h = ((g.ty == h.ty) && (g.word == h.word)) && ((g.literal.o == h.literal.o) && ((g.literal.l == h.literal.l) && (g.literal.bits == h.literal.bits)))
+same_goal h g =
+    (g.ty == h.ty)
+    && ((g.word == h.word) && ((g.literal.o == h.literal.o) && ((g.literal.l == h.literal.l) && (g.literal.bits == h.literal.bits))))
 
--- a goal is among the entries, and known to hold
+-- the first entry of a goal says that it is known to hold
 abbrev pub knows : List Entry → Goal → Bool
 knows [] g = false
-knows (e ∷ es) g = (e.barred && same_goal e.goal g) || knows es g
+knows (e ∷ es) g = if same_goal e.goal g then e.barred else knows es g
 
 abbrev pub is_known : (Goal → Bool) → Option Goal → Bool
 is_known known None = false

@@ -32,7 +32,6 @@ returns c =
     let type_of = position_type types leaf.prov in
     let first = c.in_ok-add_parts.ensures ∙ ap (λ es. with_parts type_of x es c.as_slice-parts.result.now) c.new-entries.ensures
     ∙ ap (with_parts type_of x []) c.as_slice-parts.ensures in
-    let is = c.word_barred.ensures ∙ ap (λ es. word_barred (knows es) type_of x c.as_slice-parts.result.now) c.as_slice.ensures
-    ∙ ap (word_barred (knows c.settle.new.entries) type_of x) c.as_slice-parts.ensures in
+    let is = c.word_barred.ensures ∙ ap (word_barred (knows c.settle.new.entries) type_of x) c.as_slice-parts.ensures in
     let all = decided types layouts leaf word x c.add_parts.new.entries c.find_all.new.entries c.settle.new.entries first c.in_ok-find_all.ensures c.settle.ensures in
     subst (λ b. IsTrue b ↔ Bars types layouts leaf word x.o x.l x.bits) (sym is) all

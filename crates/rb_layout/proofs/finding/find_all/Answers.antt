@@ -9,9 +9,9 @@ pub loop-i-preserved : goal.loop-i-preserved
 loop-i-preserved c =
     let types = c.args.types.now in let layouts = c.args.layouts.now in
     let old = c.loop-i.entries in
-    let entry = c.in-Some.entry.now in
+    let entry = c.in-Some.entry in
     let invariant = c.loop-i.invariant in
-    let is : slice_get old c.loop-i.i ≡ Some entry = sym c.in-Some.ensures.value in
+    let is : slice_get old c.loop-i.i ≡ Some entry = sym c.in-Some.ensures in
     let new = c.in_ok-add_below.ensures in
     record {
       asked = subst AreAsked (sym new) (below-asked types layouts old entry.goal c.requires.ranges (invariant.asked c.loop-i.i entry is) invariant.asked);
