@@ -2,6 +2,9 @@ pub mod Disjoint
 pub mod FlatForms
 pub mod WrittenForms
 pub mod Walks
+pub mod LayingLemmas
+pub mod TreeLemmas
+pub mod LayoutLists
 pub mod Locating
 pub mod Ends
 pub mod KnownBits

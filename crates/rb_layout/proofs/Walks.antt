@@ -1,18 +1,18 @@
 -- The type at a path of a provenance is that at which a walk along the path ends.
-use Rattle.std.proofs.Common.{◌≡◌, ℕ, zero, suc, ◌+◌, ◌<◌, ◌≤◌, ◌==◌, List, [], ◌∷◌, ◌++◌, map, Option, Some, None, Bool, true, false, refl, sym, ap, subst, ◌∙◌, arith}
+use Rattle.std.proofs.Common.{◌≡◌, ℕ, zero, suc, ◌+◌, ◌<◌, ◌≤◌, ◌==◌, List, [], ◌∷◌, ◌++◌, map, Option, Some, None, Bool, true, false, refl, sym, ap, ◌∙◌, arith}
 use Rattle.std.specs.Prelude.{◌&&◌, drop, length, slice_get, if◌then◌else◌}
 use Rattle.std.proofs.lemmas.List.{drop_all}
 use Rattle.std.proofs.lemmas.Option.{same_Some}
-use Rattle.std.proofs.lemmas.Bool.{cases_Bool, ne_eqb, eq-eqb}
+use Rattle.std.proofs.lemmas.Bool.{ne_eqb, eq-eqb}
 use Rattle.rb_core.specs.declared.types.Ty.{Ty}
 use Rattle.rb_core.specs.declared.types.ConRef.{ConRef}
 use Rattle.rb_core.specs.declared.types.DataDecl.{DataDecl}
-use Rattle.rb_core.specs.declared.pattern.Pat.{Pat, Wild, Var, Num, Con, out-Pat, roll-Pat}
+use Rattle.rb_core.specs.declared.pattern.Pat.{Pat, Wild, Var, Num, Con, out-Pat}
 use Rattle.rb_core.specs.declared.pattern.Pat.TheVariants as X
 use Rattle.rb_core.specs.declared.pattern.Pat.TheOpen as P
 use Rattle.rb_core.specs.declared.pattern.Pat.TheOpen.{Pat-F}
 use Rattle.rb_core.specs.Values.{fields_of}
-use Rattle.rb_core.proofs.PatternLaws.{fold-Wild, fold-Var, fold-Num, fold-Con, Each, Cases, induction}
+use Rattle.rb_core.proofs.PatternLaws.{fold-Wild, fold-Var, fold-Num, fold-Con, Each, induction}
 use Rattle.rb_layout.specs.Positions.{Open, below, opens_below, opens_step, opens_of, open_positions, types_or_none, root_type}
 use Rattle.rb_layout.specs.Locations.{or_else}
 use Rattle.rb_layout.specs.Flattening.{same_path, type_at}
@@ -80,7 +80,7 @@ module _ (types : List DataDecl) where
       let other : (i == k) ≡ false = ne_eqb i k (λ e. absurd (omega (arith, e, lt))) in
       type_at-append (map (below i) (opens p t)) (opens_below (map opens ps) ts (i + 1)) (k ∷ q)
       ∙ ap (λ x. or_else x (type_at (opens_below (map opens ps) ts (i + 1)) (k ∷ q)))
-        (type_at-below i k (opens p t) q ∙ ap (λ b. if b then type_at (opens p t) q else None) other)
+      (type_at-below i k (opens p t) q ∙ ap (λ b. if b then type_at (opens p t) q else None) other)
       ∙ not_before ps ts (i + 1) k q (omega (arith, lt))
 
   abbrev Walks : Pat → Type 0
@@ -99,7 +99,7 @@ module _ (types : List DataDecl) where
       let same : (i == (i + 0)) ≡ true = eq-eqb i (i + 0) (omega arith) in
       type_at-append (map (below i) (opens p t)) (opens_below (map opens ps) ts (i + 1)) ((i + 0) ∷ q)
       ∙ ap (λ x. or_else x (type_at (opens_below (map opens ps) ts (i + 1)) ((i + 0) ∷ q)))
-        (type_at-below i (i + 0) (opens p t) q ∙ ap (λ b. if b then type_at (opens p t) q else None) same)
+      (type_at-below i (i + 0) (opens p t) q ∙ ap (λ b. if b then type_at (opens p t) q else None) same)
       ∙ ap (λ x. or_else (type_at (opens p t) q) x) (not_before ps ts (i + 1) (i + 0) q (omega arith))
       ∙ or_else_None (type_at (opens p t) q)
       ∙ each.0 t q
@@ -108,7 +108,7 @@ module _ (types : List DataDecl) where
       let next : i + suc k ≡ (i + 1) + k = omega arith in
       type_at-append (map (below i) (opens p t)) (opens_below (map opens ps) ts (i + 1)) ((i + suc k) ∷ q)
       ∙ ap (λ x. or_else x (type_at (opens_below (map opens ps) ts (i + 1)) ((i + suc k) ∷ q)))
-        (type_at-below i (i + suc k) (opens p t) q ∙ ap (λ b. if b then type_at (opens p t) q else None) other)
+      (type_at-below i (i + suc k) (opens p t) q ∙ ap (λ b. if b then type_at (opens p t) q else None) other)
       ∙ ap (λ n. type_at (opens_below (map opens ps) ts (i + 1)) (n ∷ q)) next
       ∙ field_walk ps each.1 ts (i + 1) k q
 

@@ -19,9 +19,13 @@
 pub mod agreed;
 mod barring;
 pub mod blocks;
+mod decls;
 pub mod evidence;
 pub mod exclude;
 mod finding;
+pub mod flat_layouts;
+mod flat_leaf;
+mod flat_tree;
 mod goals;
 pub mod known;
 pub mod layout;
@@ -31,3 +35,8 @@ pub mod positions;
 mod settling;
 
 pub use agreed::Agreed;
+pub use blocks::block_size;
+pub use exclude::excludes;
+pub use flat_layouts::flatten;
+pub use known::known_bits;
+pub use locate::resolve_loc;
