@@ -14,8 +14,7 @@ use Rattle.rb_layout.specs.declared.goals.Entry.{Entry}
 use Rattle.rb_layout.specs.declared.locate.End.{End}
 use Rattle.rb_layout.specs.Words.{flat_at}
 use Rattle.rb_layout.specs.Excluded.{Bars, Excludes}
-use Rattle.rb_layout.specs.Readable.{AreReadable}
-use Rattle.rb_layout.specs.inner.Barring.{position_type, same_goal, knows, word_barred, goal_barred, HaveRanges}
+use Rattle.rb_layout.specs.inner.Barring.{position_type, same_goal, knows, word_barred, goal_barred}
 use Rattle.rb_layout.specs.inner.Finding.{with_parts, IsIn, AreFresh, AreFound}
 use Rattle.rb_layout.specs.inner.Settling.{turns, Holds, AreTrue, AreSettled}
 use Rattle.rb_layout.proofs.Derivations.{both, or_is, or_left, or_right, and_of, word-bars, PartsIn, BelowIn, bars-found}
@@ -79,9 +78,6 @@ excluded-at types layouts leaf loc end f c found is =
           (subst (λ o. Bars types layouts leaf found.reached.word o end.l c) (sym found.is_o)
           (subst (λ l. Bars types layouts leaf found.reached.word found.reached.o l c) (sym found.is_l) bars)),
     )
-
-pub have-ranges : (layouts : List Layout) → AreReadable layouts → HaveRanges layouts
-have-ranges layouts readable = λ t layout is n leaf is_leaf j f is_word. (readable t n layout leaf is is_leaf).parts None j f is_word
 
 pub iff_ok : {E : Type 0} {P Q : Type 0} (r : Result Bool E) → (P ↔ Q) → IfOk r (λ b. IsTrue b ↔ P) → IfOk r (λ b. IsTrue b ↔ Q)
 iff_ok (Ok b) same h = (λ t. same.0 (h.0 t), λ q. h.1 (same.1 q))

@@ -13,8 +13,7 @@ use Rattle.rb_layout.specs.declared.goals.Literal.{Literal}
 use Rattle.rb_layout.specs.declared.goals.Goal.{Goal}
 use Rattle.rb_layout.specs.declared.goals.Entry.{Entry}
 use Rattle.rb_layout.specs.Positions.{layout_of}
-use Rattle.rb_layout.specs.inner.Barring.{position_type, goal_in, same_goal, knows, IsAsked, AreAsked, HasRanges, AllHaveRanges, HaveRanges}
-use Rattle.rb_layout.specs.Readable.{AreRanges}
+use Rattle.rb_layout.specs.inner.Barring.{position_type, goal_in, same_goal, knows, IsAsked, AreAsked}
 use Rattle.std.proofs.lemmas.Option.{slice_get_within, slice_get-get_or}
 use Rattle.std.proofs.lemmas.Bool.{cases_lt}
 use Rattle.rb_layout.proofs.Derivations.{both, or_is, or_left, or_right, and_of, same_nat, eq_of, goal-part, literal-is}
@@ -254,13 +253,12 @@ module _ (P : Entry → Type 0) (Ok : Goal → Type 0) (new : (g : Goal) → Ok 
   each_below types layouts es g all ok = each_layout types g es (layout_of layouts g.ty) all ok
 
 -- a goal asks for a range within its part
-pub goal-asked : (type_of : List ℕ → Option Ty) (x : Literal) (p : Part) (h : Goal) → IsRange p.o p.l → IsAsked x → goal_in type_of x p ≡ Some h → IsAsked h.literal
-goal-asked type_of x p h range asked e =
+pub goal-asked : (type_of : List ℕ → Option Ty) (x : Literal) (p : Part) (h : Goal) → IsAsked x → goal_in type_of x p ≡ Some h → IsAsked h.literal
+goal-asked type_of x p h asked e =
     let part = goal-part type_of x p h e in
     let lit = literal-is x p h.literal part.is_literal in
     let lt = lit.0 in
-    let some = range.0 in
-    let within = range.1 in
+    let within = asked.1 in
     let first : h.literal.o ≡ max x.o p.o - p.o = ap (λ y. y.o) (sym lit.1) in
     let long : h.literal.l ≡ min (x.o + x.l) (p.o + p.l) - max x.o p.o = ap (λ y. y.l) (sym lit.1) in
     (omega arith, omega arith)
@@ -268,15 +266,15 @@ goal-asked type_of x p h range asked e =
 abbrev Asked : Entry → Type 0
 Asked e = IsAsked e.goal.literal
 
-pub parts-asked : (type_of : List ℕ → Option Ty) (x : Literal) (es : List Entry) (ps : List Part) → AreRanges ps → IsAsked x → AreAsked es → AreAsked (with_parts type_of x es ps)
-parts-asked type_of x es ps ranges asked all =
-    each-parts Asked (λ g. IsAsked g.literal) (λ g ok. ok) type_of x es ps all (λ k p h is e. goal-asked type_of x p h (ranges k p is) asked e)
+pub parts-asked : (type_of : List ℕ → Option Ty) (x : Literal) (es : List Entry) (ps : List Part) → IsAsked x → AreAsked es → AreAsked (with_parts type_of x es ps)
+parts-asked type_of x es ps asked all =
+    each-parts Asked (λ g. IsAsked g.literal) (λ g ok. ok) type_of x es ps all (λ k p h is e. goal-asked type_of x p h asked e)
 
-pub below-asked : (types : List DataDecl) (layouts : List Layout) (es : List Entry) (g : Goal) → HaveRanges layouts → IsAsked g.literal → AreAsked es
+pub below-asked : (types : List DataDecl) (layouts : List Layout) (es : List Entry) (g : Goal) → IsAsked g.literal → AreAsked es
     → AreAsked (with_below types layouts es g)
-below-asked types layouts es g ranges asked all =
+below-asked types layouts es g asked all =
     each_below Asked (λ h. IsAsked h.literal) (λ h ok. ok) types layouts es g all
-    (λ layout is n leaf is_leaf f is_word k p h is_part e. goal-asked (position_type types leaf.prov) g.literal p h (ranges g.ty layout is n leaf is_leaf g.word f is_word k p is_part) asked e)
+    (λ layout is n leaf is_leaf f is_word k p h is_part e. goal-asked (position_type types leaf.prov) g.literal p h asked e)
 
 abbrev Fresh : Entry → Type 0
 Fresh e = e.barred ≡ false

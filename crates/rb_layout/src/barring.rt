@@ -3,8 +3,7 @@
 ghost use Rattle.std.specs.Prelude.{◌≡◌};
 ghost use Rattle.rb_bits.specs.Words.{IsRange};
 ghost use Rattle.rb_layout.specs.Locations.{constant_bit};
-ghost use Rattle.rb_layout.specs.Readable.{AreRanges};
-ghost use Rattle.rb_layout.specs.inner.Barring.{is_other, bit_differs, is_pointer, null_at, null_in, IsAsked, position_type, knows, part_barred, parts_barred, word_barred, leaf_barred, leaves_barred, goal_barred, HasRanges, AllHaveRanges, HaveRanges};
+ghost use Rattle.rb_layout.specs.inner.Barring.{is_other, bit_differs, is_pointer, null_at, null_in, IsAsked, position_type, knows, part_barred, parts_barred, word_barred, leaf_barred, leaves_barred, goal_barred};
 
 use crate::goals::{Goal, Goals, Literal};
 use crate::known::constant_bit;
@@ -26,8 +25,7 @@ fn is_other(bit: Option<u64>, wanted: u64) -> bool
 #[tactic(auto, using(crate::proofs::BarLemmas::barring))]
 // Whether a constant bit is another than the literal's.
 fn bit_differs(parts: &[Part], literal: Literal) -> bool
-    requires ranges { AreRanges parts.now }
-    requires asked { IsAsked literal }
+    requires { IsAsked literal }
     ensures { result ≡ bit_differs parts.now literal.o literal.bits 0 literal.l }
 {
     for i in 0..literal.l {
@@ -54,8 +52,7 @@ fn is_pointer(kind: &Kind) -> bool
 
 // Whether a part is a pointer that lies wholly in the range, where the literal has only zeros.
 fn null_at(part: &Part, literal: Literal) -> bool
-    requires range { IsRange part.now.o part.now.l }
-    requires asked { IsAsked literal }
+    requires { IsAsked literal }
     ensures { result ≡ null_at literal part.now }
 {
     if !is_pointer(&part.kind) {
@@ -64,16 +61,22 @@ fn null_at(part: &Part, literal: Literal) -> bool
     if part.o < literal.o {
         return false;
     }
-    if literal.o + literal.l < part.o + part.l {
+    let from = part.o - literal.o;
+    if literal.l < part.l {
         return false;
     }
-    take(literal.bits, (part.o - literal.o) as u32, part.l as u32) == 0
+    if literal.l - part.l < from {
+        return false;
+    }
+    if part.l == 0 {
+        return true;
+    }
+    take(literal.bits, from as u32, part.l as u32) == 0
 }
 
 #[tactic(auto, using(crate::proofs::BarLemmas::barring))]
 fn null_in(parts: &[Part], literal: Literal) -> bool
-    requires ranges { AreRanges parts.now }
-    requires asked { IsAsked literal }
+    requires { IsAsked literal }
     ensures { result ≡ null_in parts.now literal }
 {
     for part in parts {
@@ -92,8 +95,7 @@ fn part_barred(
     literal: Literal,
     entries: &Goals,
 ) -> bool
-    requires range { IsRange part.now.o part.now.l }
-    requires asked { IsAsked literal }
+    requires { IsAsked literal }
     ensures { result ≡ part_barred (knows entries.now) (position_type types.now prov.now) literal part.now }
 {
     match goal_in(types, prov, part, literal) {
@@ -110,8 +112,7 @@ fn parts_barred(
     literal: Literal,
     entries: &Goals,
 ) -> bool
-    requires ranges { AreRanges parts.now }
-    requires asked { IsAsked literal }
+    requires { IsAsked literal }
     ensures { result ≡ parts_barred (knows entries.now) (position_type types.now prov.now) literal parts.now }
 {
     for part in parts {
@@ -130,8 +131,7 @@ pub(crate) fn word_barred(
     literal: Literal,
     entries: &Goals,
 ) -> bool
-    requires ranges { AreRanges parts.now }
-    requires asked { IsAsked literal }
+    requires { IsAsked literal }
     ensures { result ≡ word_barred (knows entries.now) (position_type types.now prov.now) literal parts.now }
 {
     if bit_differs(parts, literal) {
@@ -144,8 +144,7 @@ pub(crate) fn word_barred(
 }
 
 fn leaf_barred(types: &[DataDecl], leaf: &Leaf, goal: &Goal, entries: &Goals) -> bool
-    requires ranges { HasRanges leaf.now }
-    requires asked { IsAsked goal.now.literal }
+    requires { IsAsked goal.now.literal }
     ensures { result ≡ leaf_barred (knows entries.now) types.now goal.now leaf.now }
 {
     match leaf.root.get(goal.word as usize) {
@@ -162,8 +161,7 @@ fn leaf_barred(types: &[DataDecl], leaf: &Leaf, goal: &Goal, entries: &Goals) ->
 
 #[tactic(auto, using(crate::proofs::BarLemmas::barring))]
 fn leaves_barred(types: &[DataDecl], leaves: &[Leaf], goal: &Goal, entries: &Goals) -> bool
-    requires ranges { AllHaveRanges leaves.now }
-    requires asked { IsAsked goal.now.literal }
+    requires { IsAsked goal.now.literal }
     ensures { result ≡ leaves_barred (knows entries.now) types.now goal.now leaves.now }
 {
     for leaf in leaves {
@@ -181,8 +179,7 @@ pub(crate) fn goal_barred(
     goal: &Goal,
     entries: &Goals,
 ) -> bool
-    requires ranges { HaveRanges layouts.now }
-    requires asked { IsAsked goal.now.literal }
+    requires { IsAsked goal.now.literal }
     ensures { result ≡ goal_barred (knows entries.now) types.now layouts.now goal.now }
 {
     match layouts.get(goal.ty as usize) {

@@ -2,8 +2,8 @@
 
 ghost use Rattle.std.specs.Prelude.{◌≡◌, ◌↔◌, IfOk, IsTrue};
 ghost use Rattle.rb_layout.specs.Excluded.{Bars, Excludes};
-ghost use Rattle.rb_layout.specs.Readable.{IsReadable, AreReadable, AreRanges};
-ghost use Rattle.rb_layout.specs.inner.Barring.{HaveRanges, IsAsked};
+ghost use Rattle.rb_layout.specs.Readable.{IsReadable};
+ghost use Rattle.rb_layout.specs.inner.Barring.{IsAsked};
 
 use crate::barring::word_barred;
 use crate::finding::{add_parts, find_all};
@@ -24,9 +24,7 @@ fn is_barred(
     word: &FlatWord,
     literal: Literal,
 ) -> Result<bool, AllocError>
-    requires layouts { HaveRanges layouts.now }
-    requires word { AreRanges word.now.parts }
-    requires asked { IsAsked literal }
+    requires { IsAsked literal }
     ensures { IfOk result
         (λ b. IsTrue b ↔ Bars types.now layouts.now leaf.now word.now literal.o literal.l literal.bits) }
 {
@@ -51,8 +49,7 @@ pub fn excludes(
     loc: &Loc,
     literal: u64,
 ) -> Result<bool, AllocError>
-    requires layouts { AreReadable layouts.now }
-    requires leaf { IsReadable leaf.now }
+    requires { IsReadable leaf.now }
     ensures { IfOk result (λ b. IsTrue b ↔ Excludes types.now layouts.now leaf.now loc.now literal) }
 {
     let end = match end_of(leaf, loc) {

@@ -2,8 +2,7 @@
 
 ghost use Rattle.std.specs.Prelude.{◌≡◌, IfOk, OnOk};
 ghost use Rattle.rb_bits.specs.Words.{IsRange};
-ghost use Rattle.rb_layout.specs.Readable.{AreRanges};
-ghost use Rattle.rb_layout.specs.inner.Barring.{position_type, IsAsked, AreAsked, HasRanges, AllHaveRanges, HaveRanges, goal_in};
+ghost use Rattle.rb_layout.specs.inner.Barring.{position_type, IsAsked, AreAsked, goal_in};
 ghost use Rattle.rb_layout.specs.inner.Finding.{with_found, with_parts, with_leaf, with_leaves, with_below, AreFresh, AreFound};
 
 use crate::goals::{Goal, Goals, Literal};
@@ -20,8 +19,7 @@ fn add_part(
     literal: Literal,
     entries: &mut Goals,
 ) -> Result<(), AllocError>
-    requires range { IsRange part.now.o part.now.l }
-    requires asked { IsAsked literal }
+    requires { IsAsked literal }
     ensures { OnOk result (entries.new
         ≡ with_found entries.old (goal_in (position_type types.now prov.now) literal part.now)) }
 {
@@ -40,8 +38,7 @@ pub(crate) fn add_parts(
     literal: Literal,
     entries: &mut Goals,
 ) -> Result<(), AllocError>
-    requires ranges { AreRanges parts.now }
-    requires asked { IsAsked literal }
+    requires { IsAsked literal }
     ensures { OnOk result (entries.new
         ≡ with_parts (position_type types.now prov.now) literal entries.old parts.now) }
 {
@@ -57,8 +54,7 @@ fn add_leaf(
     goal: &Goal,
     entries: &mut Goals,
 ) -> Result<(), AllocError>
-    requires ranges { HasRanges leaf.now }
-    requires asked { IsAsked goal.now.literal }
+    requires { IsAsked goal.now.literal }
     ensures { OnOk result (entries.new ≡ with_leaf types.now goal.now entries.old leaf.now) }
 {
     match leaf.root.get(goal.word as usize) {
@@ -80,8 +76,7 @@ fn add_leaves(
     goal: &Goal,
     entries: &mut Goals,
 ) -> Result<(), AllocError>
-    requires ranges { AllHaveRanges leaves.now }
-    requires asked { IsAsked goal.now.literal }
+    requires { IsAsked goal.now.literal }
     ensures { OnOk result (entries.new ≡ with_leaves types.now goal.now entries.old leaves.now) }
 {
     for leaf in leaves {
@@ -97,8 +92,7 @@ fn add_below(
     goal: &Goal,
     entries: &mut Goals,
 ) -> Result<(), AllocError>
-    requires ranges { HaveRanges layouts.now }
-    requires asked { IsAsked goal.now.literal }
+    requires { IsAsked goal.now.literal }
     ensures { OnOk result (entries.new ≡ with_below types.now layouts.now entries.old goal.now) }
 {
     match layouts.get(goal.ty as usize) {
@@ -113,7 +107,6 @@ pub(crate) fn find_all(
     layouts: &[Layout],
     entries: &mut Goals,
 ) -> Result<(), AllocError>
-    requires ranges { HaveRanges layouts.now }
     requires asked { AreAsked entries.old }
     requires fresh { AreFresh entries.old }
     ensures { OnOk result (AreFound types.now layouts.now entries.old entries.new) }

@@ -3,7 +3,7 @@
 ghost use Rattle.std.specs.Prelude.{◌≡◌, ◌+◌, ◌<◌, ◌≤◌};
 ghost use Rattle.rb_bits.specs.Words.{IsRange};
 ghost use Rattle.rb_layout.specs.Locations.{bit_of_kind, bit_of_part, constant_bit, constant_bits, known};
-ghost use Rattle.rb_layout.specs.Readable.{AreRanges, IsReadable};
+ghost use Rattle.rb_layout.specs.Readable.{IsReadable};
 
 use crate::layout::{Kind, Leaf, Part};
 use crate::locate::{end_of, flat_at};
@@ -24,22 +24,22 @@ fn bit_of_kind(kind: &Kind, i: u64) -> Option<u64>
 }
 
 fn bit_of_part(part: &Part, i: u64) -> Option<u64>
-    requires { IsRange part.now.o part.now.l }
+    requires { i < 64 }
     ensures { result ≡ bit_of_part part.now i }
 {
     if i < part.o {
         return None;
     }
-    if part.o + part.l <= i {
+    if part.l <= i - part.o {
         return None;
     }
     bit_of_kind(&part.kind, i - part.o)
 }
 
-#[tactic(auto, using(crate::proofs::BarLemmas::barring))]
 /// What bit `i` of a word is by a constant part.
+#[tactic(auto, using(crate::proofs::BarLemmas::barring))]
 pub(crate) fn constant_bit(parts: &[Part], i: u64) -> Option<u64>
-    requires { AreRanges parts.now }
+    requires { i < 64 }
     ensures { result ≡ constant_bit parts.now i }
 {
     for part in parts {
@@ -52,8 +52,7 @@ pub(crate) fn constant_bit(parts: &[Part], i: u64) -> Option<u64>
 
 // The number of `l` bits from bit `o` on, where all are constant.
 fn constant_bits(parts: &[Part], o: u64, l: u64) -> Option<u64>
-    requires ranges { AreRanges parts.now }
-    requires range { IsRange o l }
+    requires { IsRange o l }
     ensures { result ≡ constant_bits parts.now o l }
 {
     let mut number = 0;

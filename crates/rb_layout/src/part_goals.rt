@@ -13,13 +13,12 @@ use rb_core::types::{DataDecl, Ty};
 
 // Where a part meets the literal's range, the literal's bits there, counted from the part's first.
 fn part_literal(part: &Part, literal: Literal) -> Option<Literal>
-    requires range { IsRange part.now.o part.now.l }
-    requires asked { IsAsked literal }
+    requires { IsAsked literal }
     ensures value { result ≡ part_literal literal part.now }
     ensures asked { IfSome result (λ x. IsAsked x) }
 {
     let first = literal.o.max(part.o);
-    let end = (literal.o + literal.l).min(part.o + part.l);
+    let end = (literal.o + literal.l).min(part.o.saturating_add(part.l));
     if end <= first {
         return None;
     }
@@ -36,8 +35,7 @@ fn part_literal(part: &Part, literal: Literal) -> Option<Literal>
 
 // The goal that a part with a word of a field gives.
 pub(crate) fn goal_in(types: &[DataDecl], prov: &Pat, part: &Part, literal: Literal) -> Option<Goal>
-    requires range { IsRange part.now.o part.now.l }
-    requires asked { IsAsked literal }
+    requires { IsAsked literal }
     ensures value { result ≡ goal_in (position_type types.now prov.now) literal part.now }
     ensures asked { IfSome result (λ g. IsAsked g.literal) }
 {

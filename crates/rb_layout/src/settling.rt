@@ -2,7 +2,7 @@
 //! until a pass changes nothing. A goal that would rest on itself alone is never marked.
 
 ghost use Rattle.std.specs.Prelude.{◌≡◌, length, slice_get, Some};
-ghost use Rattle.rb_layout.specs.inner.Barring.{IsAsked, AreAsked, HaveRanges};
+ghost use Rattle.rb_layout.specs.inner.Barring.{IsAsked, AreAsked};
 ghost use Rattle.rb_layout.specs.inner.Settling.{turns, looked, passed, changes, AreSettled};
 
 use crate::barring::goal_barred;
@@ -12,8 +12,7 @@ use rb_core::types::DataDecl;
 
 // Whether an entry's goal holds by one step and was not marked.
 fn turns(types: &[DataDecl], layouts: &[Layout], entries: &Goals, entry: Entry) -> bool
-    requires ranges { HaveRanges layouts.now }
-    requires asked { IsAsked entry.goal.literal }
+    requires { IsAsked entry.goal.literal }
     ensures { result ≡ turns types.now layouts.now entries.now (Some entry) }
 {
     if entry.barred {
@@ -24,8 +23,7 @@ fn turns(types: &[DataDecl], layouts: &[Layout], entries: &Goals, entry: Entry) 
 
 // Marks entry `i` where its goal holds by one step, and tells whether it did.
 fn look(types: &[DataDecl], layouts: &[Layout], entries: &mut Goals, i: usize) -> bool
-    requires ranges { HaveRanges layouts.now }
-    requires asked { AreAsked entries.old }
+    requires { AreAsked entries.old }
     ensures result { result ≡ turns types.now layouts.now entries.old (slice_get entries.old i) }
     ensures new { entries.new ≡ looked types.now layouts.now i entries.old }
 {
@@ -42,8 +40,7 @@ fn look(types: &[DataDecl], layouts: &[Layout], entries: &mut Goals, i: usize) -
 
 // One pass, from the last entry to the first. Tells whether it marked one.
 fn pass(types: &[DataDecl], layouts: &[Layout], entries: &mut Goals) -> bool
-    requires ranges { HaveRanges layouts.now }
-    requires asked { AreAsked entries.old }
+    requires { AreAsked entries.old }
     ensures result { result ≡ changes types.now layouts.now (length entries.old) entries.old }
     ensures new { entries.new ≡ passed types.now layouts.now (length entries.old) entries.old }
 {
@@ -58,8 +55,7 @@ fn pass(types: &[DataDecl], layouts: &[Layout], entries: &mut Goals) -> bool
 
 /// Marks the goals that hold.
 pub(crate) fn settle(types: &[DataDecl], layouts: &[Layout], entries: &mut Goals)
-    requires ranges { HaveRanges layouts.now }
-    requires asked { AreAsked entries.old }
+    requires { AreAsked entries.old }
     ensures { AreSettled types.now layouts.now entries.old entries.new }
 {
     while pass(types, layouts, entries) {}

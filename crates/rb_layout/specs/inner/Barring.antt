@@ -19,7 +19,6 @@ use Rattle.rb_layout.specs.declared.goals.Entry.{Entry}
 use Rattle.rb_layout.specs.Positions.{open_positions, layout_of}
 use Rattle.rb_layout.specs.Flattening.{type_at}
 use Rattle.rb_layout.specs.Locations.{constant_bit}
-use Rattle.rb_layout.specs.Readable.{AreRanges}
 
 abbrev pub is_other : Option ℕ → ℕ → Bool
 is_other None b = false
@@ -128,13 +127,3 @@ IsAsked x = IsRange x.o x.l
 -- each goal asks for a range within 64 bits
 abbrev pub AreAsked : List Entry → Type 0
 AreAsked es = (k : ℕ) (e : Entry) → slice_get es k ≡ Some e → IsAsked e.goal.literal
-
--- the parts of each root word are ranges within 64 bits
-abbrev pub HasRanges : Leaf → Type 0
-HasRanges leaf = (j : ℕ) (f : FlatWord) → slice_get leaf.root j ≡ Some f → AreRanges f.parts
-
-abbrev pub AllHaveRanges : List Leaf → Type 0
-AllHaveRanges leaves = (n : ℕ) (leaf : Leaf) → slice_get leaves n ≡ Some leaf → HasRanges leaf
-
-abbrev pub HaveRanges : List Layout → Type 0
-HaveRanges layouts = (t : ℕ) (layout : Layout) → slice_get layouts t ≡ Some layout → AllHaveRanges layout.leaves

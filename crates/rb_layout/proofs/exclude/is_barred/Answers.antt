@@ -2,7 +2,6 @@ use Rattle.std.proofs.Common.{◌≡◌, [], sym, ap, subst, ◌∙◌}
 use Rattle.std.specs.Prelude.{IsTrue, ◌↔◌}
 use Rattle.std.proofs.lemmas.Option.{same_Some}
 use Rattle.rb_layout.specs.Excluded.{Bars}
-use Rattle.rb_layout.specs.Readable.{AreRanges}
 use Rattle.rb_layout.specs.inner.Barring.{position_type, knows, word_barred, AreAsked}
 use Rattle.rb_layout.specs.inner.Finding.{with_parts, AreFresh}
 use Rattle.rb_layout.proofs.FindLemmas.{parts-asked, parts-fresh}
@@ -15,7 +14,7 @@ find_all-requires-clause-asked c =
     let parts = c.args.word.now.parts in
     let is = c.in_ok-add_parts.ensures ∙ ap (λ es. with_parts type_of c.args.literal es c.as_slice-parts.result.now) c.new-entries.ensures
     ∙ ap (with_parts type_of c.args.literal []) c.as_slice-parts.ensures in
-    subst AreAsked (sym is) (parts-asked type_of c.args.literal [] parts c.requires.word c.requires.asked (λ k e h. absurd cc))
+    subst AreAsked (sym is) (parts-asked type_of c.args.literal [] parts c.requires (λ k e h. absurd cc))
 
 pub find_all-requires-clause-fresh : goal.find_all-requires-clause-fresh
 find_all-requires-clause-fresh c =

@@ -14,7 +14,7 @@ loop-i-preserved c =
     let is : slice_get old c.loop-i.i ≡ Some entry = sym c.in-Some.ensures in
     let new = c.in_ok-add_below.ensures in
     record {
-      asked = subst AreAsked (sym new) (below-asked types layouts old entry.goal c.requires.ranges (invariant.asked c.loop-i.i entry is) invariant.asked);
+      asked = subst AreAsked (sym new) (below-asked types layouts old entry.goal (invariant.asked c.loop-i.i entry is) invariant.asked);
       fresh = subst AreFresh (sym new) (below-fresh types layouts old entry.goal invariant.fresh);
       keeps = λ g h. ap (λ es. has_goal es g) new ∙ (grows-below types layouts old entry.goal).keeps g (invariant.keeps g h);
       below = λ k d lt is_d. subst (λ es. HasBelow types layouts es d.goal) (sym new)

@@ -11,7 +11,7 @@ overflow_add-number c =
     let i = c.loop-i.i in let l = c.args.l in
     let small = bit_small c.args.parts.now (c.args.o + (i - 1)) c.in-Some.bit (sym c.in-Some.ensures) in
     let fits = more_fits l i c.in-Some.bit c.loop-i.number (omega arith) (omega arith) small c.loop-i.invariant.fits in
-    let few : l - (i - 1) ≤ 64 = omega (arith, c.requires.range) in
+    let few : l - (i - 1) ≤ 64 = omega (arith, c.requires) in
     let most : 2 ^ (l - (i - 1)) ≤ 2 ^ 64 = pow_mono few in
     omega arith
 
