@@ -1,5 +1,5 @@
 -- The loops that look for constant bits and null pointers.
-use Rattle.std.proofs.Common.{◌≡◌, ℕ, suc, ◌+◌, ◌-◌, ◌<◌, ◌&&◌, ◌||◌, List, [], ◌∷◌, drop, length, get_or, Bool, Option, refl, sym, ap, ◌∙◌, add-one, drop-cons, arith}
+use Rattle.std.proofs.Common.{◌≡◌, ℕ, suc, ◌+◌, ◌-◌, ◌<◌, ◌&&◌, ◌||◌, List, drop, length, get_or, Bool, Option, refl, ap, add-one, drop-cons, arith}
 use Rattle.std.specs.Int.{bit_at}
 use Rattle.rb_layout.specs.declared.layout.Part.{Part}
 use Rattle.rb_core.specs.declared.types.Ty.{Ty}

@@ -16,9 +16,9 @@ use Rattle.rb_layout.specs.declared.layout.Kind.TheVariants.{Const, Bits, Word, 
 use Rattle.rb_layout.specs.declared.layout.Layout.{Layout}
 use Rattle.rb_layout.specs.declared.goals.Literal.{Literal}
 use Rattle.rb_layout.specs.declared.goals.Goal.{Goal}
-use Rattle.rb_layout.specs.Positions.{Open, open_positions, layout_of}
+use Rattle.rb_layout.specs.Positions.{open_positions, layout_of}
 use Rattle.rb_layout.specs.Locations.{constant_bit}
-use Rattle.rb_layout.specs.Excluded.{HasOtherBit, HasNull, Meets, Bars, differs, null, within}
+use Rattle.rb_layout.specs.Excluded.{Meets, Bars, differs, null, within}
 use Rattle.rb_layout.specs.inner.Barring.{is_other, bit_differs, is_pointer, null_at, null_in, position_type, part_literal, goal_on, goal_at, goal_of, goal_in, is_known, part_barred, parts_barred, word_barred, root_barred, leaf_barred, leaves_barred, has_leaf, layout_barred, goal_barred}
 use Rattle.rb_layout.specs.inner.Settling.{Holds}
 use Rattle.rb_layout.proofs.OpenPositions.{position-typed, type-open}

@@ -10,9 +10,9 @@ use Rattle.rb_layout.specs.declared.layout.Leaf.{Leaf}
 use Rattle.rb_layout.specs.declared.layout.FlatWord.{FlatWord}
 use Rattle.rb_layout.specs.declared.layout.WordRef.{WordRef}
 use Rattle.rb_layout.specs.declared.locate.End.{End}
-use Rattle.rb_layout.specs.Words.{words_in, flat_at}
+use Rattle.rb_layout.specs.Words.{flat_at}
 use Rattle.rb_layout.specs.Locations.{Reached, block_at, next_ref, range_in, resolve_from, reached_at, known_in, known, constant_bits}
-use Rattle.rb_layout.specs.Readable.{AreShort, IsReadable}
+use Rattle.rb_layout.specs.Readable.{IsReadable}
 use Rattle.rb_layout.specs.inner.Ends.{end_of}
 
 -- a location ends at a flat word, with a range in it

@@ -1,12 +1,11 @@
 -- The goals that are marked when all is settled are those that have a derivation.
-use Rattle.std.proofs.Common.{◌≡◌, ℕ, zero, suc, ◌<◌, ◌&&◌, ◌||◌, ◌⊎◌, inl, inr, not, List, [], ◌∷◌, Bool, true, false, Option, Some, None, Result, Ok, Err, refl, sym, ap, subst, ◌∙◌, arith}
-use Rattle.std.specs.Prelude.{slice_get, IfOk, IsTrue, ◌↔◌, if◌then◌else◌}
+use Rattle.std.proofs.Common.{◌≡◌, ℕ, suc, ◌&&◌, not, List, [], ◌∷◌, Bool, true, false, Some, Result, Ok, Err, refl, sym, subst, ◌∙◌}
+use Rattle.std.specs.Prelude.{IfOk, IsTrue, ◌↔◌, if◌then◌else◌}
 use Rattle.std.proofs.lemmas.Option.{same_Some}
 use Rattle.rb_core.specs.declared.types.DataDecl.{DataDecl}
 use Rattle.rb_core.specs.declared.layout_decl.Loc.{Loc}
 use Rattle.rb_layout.specs.declared.layout.Leaf.{Leaf}
 use Rattle.rb_layout.specs.declared.layout.FlatWord.{FlatWord}
-use Rattle.rb_layout.specs.declared.layout.Part.{Part}
 use Rattle.rb_layout.specs.declared.layout.Layout.{Layout}
 use Rattle.rb_layout.specs.declared.goals.Literal.{Literal}
 use Rattle.rb_layout.specs.declared.goals.Goal.{Goal}
@@ -16,8 +15,8 @@ use Rattle.rb_layout.specs.Words.{flat_at}
 use Rattle.rb_layout.specs.Excluded.{Bars, Excludes}
 use Rattle.rb_layout.specs.inner.Barring.{position_type, same_goal, knows, word_barred, goal_barred}
 use Rattle.rb_layout.specs.inner.Finding.{with_parts, IsIn, AreFresh, AreFound}
-use Rattle.rb_layout.specs.inner.Settling.{turns, Holds, AreTrue, AreSettled}
-use Rattle.rb_layout.proofs.Derivations.{both, or_is, or_left, or_right, and_of, word-bars, PartsIn, BelowIn, bars-found}
+use Rattle.rb_layout.specs.inner.Settling.{AreTrue, AreSettled}
+use Rattle.rb_layout.proofs.Derivations.{word-bars, PartsIn, BelowIn, bars-found}
 use Rattle.rb_layout.proofs.FindLemmas.{first-of, parts-in}
 use Rattle.rb_layout.proofs.Ends.{FoundAt}
 

@@ -1,8 +1,7 @@
 -- The loops that find goals, and what the lists hold that they make.
-use Rattle.std.proofs.Common.{◌≡◌, ℕ, zero, suc, ◌+◌, ◌-◌, ◌<◌, ◌≤◌, ◌==◌, ◌&&◌, ◌||◌, ◌⊎◌, inl, inr, min, max, List, [], ◌∷◌, ◌++◌, drop, length, get_or, Bool, true, false, Option, Some, None, refl, sym, ap, subst, ◌∙◌, add-one, drop-cons, arith}
+use Rattle.std.proofs.Common.{◌≡◌, ℕ, zero, suc, ◌+◌, ◌-◌, ◌<◌, ◌==◌, ◌&&◌, ◌||◌, ◌⊎◌, inl, inr, min, max, List, [], ◌∷◌, ◌++◌, drop, length, get_or, Bool, true, false, Option, Some, None, refl, sym, ap, subst, ◌∙◌, add-one, drop-cons, arith}
 use Rattle.std.specs.Prelude.{slice_get, if◌then◌else◌}
 use Rattle.std.proofs.lemmas.Option.{same_Some}
-use Rattle.rb_bits.specs.Words.{IsRange}
 use Rattle.rb_core.specs.declared.types.Ty.{Ty}
 use Rattle.rb_core.specs.declared.types.DataDecl.{DataDecl}
 use Rattle.rb_layout.specs.declared.layout.Leaf.{Leaf}
@@ -17,7 +16,7 @@ use Rattle.rb_layout.specs.inner.Barring.{position_type, goal_in, same_goal, kno
 use Rattle.std.proofs.lemmas.Option.{slice_get_within, slice_get-get_or}
 use Rattle.std.proofs.lemmas.Bool.{cases_lt}
 use Rattle.rb_layout.proofs.Derivations.{both, or_is, or_left, or_right, and_of, same_nat, eq_of, goal-part, literal-is}
-use Rattle.rb_layout.specs.inner.Finding.{has_goal, with_goal, with_found, with_parts, with_root, with_leaf, with_leaves, with_layout, with_below, AreFresh, Keeps, IsIn, HasBelow, AreFound}
+use Rattle.rb_layout.specs.inner.Finding.{has_goal, with_found, with_parts, with_root, with_leaf, with_leaves, with_layout, with_below, AreFresh, Keeps, IsIn, HasBelow}
 
 pub parts-from : (type_of : List ℕ → Option Ty) (x : Literal) (es : List Entry) (ps : List Part) (k : ℕ) (d : Part) → k < length ps
     → with_parts type_of x es (drop k ps) ≡ with_parts type_of x (with_found es (goal_in type_of x (get_or ps k d))) (drop (k + 1) ps)

@@ -5,6 +5,7 @@ pub mod Walks
 pub mod LayingLemmas
 pub mod TreeLemmas
 pub mod LayoutLists
+pub mod Readable
 pub mod Locating
 pub mod Ends
 pub mod KnownBits

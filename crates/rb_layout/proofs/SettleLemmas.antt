@@ -1,5 +1,5 @@
 -- Passes over the entries: what they keep, and what holds where one changes nothing.
-use Rattle.std.proofs.Common.{◌≡◌, ℕ, zero, suc, ◌+◌, ◌-◌, ◌<◌, ◌≤◌, ◌==◌, ◌&&◌, ◌||◌, ◌⊎◌, inl, inr, not, List, [], ◌∷◌, length, Bool, true, false, Option, Some, None, refl, sym, ap, subst, ◌∙◌, arith}
+use Rattle.std.proofs.Common.{◌≡◌, ℕ, zero, suc, ◌<◌, ◌≤◌, ◌||◌, ◌⊎◌, inl, inr, not, List, [], ◌∷◌, length, Bool, true, false, Option, Some, None, refl, sym, ap, subst, ◌∙◌, arith}
 use Rattle.std.specs.Prelude.{slice_get, slice_set, if◌then◌else◌}
 use Rattle.std.proofs.lemmas.Option.{same_Some, slice_get_within}
 use Rattle.std.proofs.lemmas.Bool.{cases_lt}
@@ -10,7 +10,7 @@ use Rattle.rb_layout.specs.declared.goals.Entry.{Entry}
 use Rattle.rb_layout.specs.inner.Barring.{same_goal, knows, goal_barred, IsAsked, AreAsked}
 use Rattle.rb_layout.specs.inner.Finding.{has_goal, Keeps}
 use Rattle.rb_layout.specs.inner.Settling.{turns, marked, looked, passed, changes, pending, Holds, AreTrue, AreSettled}
-use Rattle.rb_layout.proofs.Derivations.{both, or_is, or_left, or_right, and_of, goal-holds}
+use Rattle.rb_layout.proofs.Derivations.{both, or_is, or_left, or_right, goal-holds}
 use Rattle.rb_layout.proofs.FindLemmas.{same-goal}
 
 abbrev mark : Entry → Entry

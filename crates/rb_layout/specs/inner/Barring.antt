@@ -1,6 +1,5 @@
 -- Excluded bits, a step at a time: what bars a literal where some goals are known to hold.
 use Rattle.std.specs.Prelude.{◌≡◌, ℕ, zero, suc, ◌+◌, ◌-◌, ◌==◌, ◌&&◌, ◌||◌, leb, ltb, min, max, List, [], ◌∷◌, Bool, true, false, not, Option, Some, None, slice_get, if◌then◌else◌}
-use Rattle.std.specs.List.{All}
 use Rattle.std.specs.Int.{bit_at}
 use Rattle.rb_bits.specs.Words.{IsRange, take_of}
 use Rattle.rb_core.specs.declared.types.Ty.{Ty}

@@ -1,5 +1,5 @@
 -- The goals on which a goal rests, found one after the other.
-use Rattle.std.specs.Prelude.{◌≡◌, ℕ, ◌<◌, ◌||◌, List, [], ◌∷◌, ◌++◌, Bool, true, false, Option, Some, None, slice_get, if◌then◌else◌}
+use Rattle.std.specs.Prelude.{◌≡◌, ℕ, ◌||◌, List, [], ◌∷◌, ◌++◌, Bool, true, false, Option, Some, None, slice_get, if◌then◌else◌}
 use Rattle.rb_core.specs.declared.types.Ty.{Ty}
 use Rattle.rb_core.specs.declared.types.DataDecl.{DataDecl}
 use Rattle.rb_layout.specs.declared.layout.Leaf.{Leaf}
@@ -10,7 +10,7 @@ use Rattle.rb_layout.specs.declared.goals.Literal.{Literal}
 use Rattle.rb_layout.specs.declared.goals.Goal.{Goal}
 use Rattle.rb_layout.specs.declared.goals.Entry.{Entry}
 use Rattle.rb_layout.specs.Positions.{layout_of}
-use Rattle.rb_layout.specs.inner.Barring.{position_type, goal_in, same_goal, IsAsked, AreAsked}
+use Rattle.rb_layout.specs.inner.Barring.{position_type, goal_in, same_goal, AreAsked}
 
 -- a goal is among the entries
 abbrev pub has_goal : List Entry → Goal → Bool

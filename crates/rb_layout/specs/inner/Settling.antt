@@ -8,7 +8,7 @@ use Rattle.rb_layout.specs.declared.goals.Goal.{Goal}
 use Rattle.rb_layout.specs.declared.goals.Entry.{Entry}
 use Rattle.rb_layout.specs.Positions.{layout_of}
 use Rattle.rb_layout.specs.Excluded.{Bars}
-use Rattle.rb_layout.specs.inner.Barring.{knows, goal_barred, AreAsked}
+use Rattle.rb_layout.specs.inner.Barring.{knows, goal_barred}
 use Rattle.rb_layout.specs.inner.Finding.{Keeps}
 
 -- an entry is not marked, and its goal holds by one step

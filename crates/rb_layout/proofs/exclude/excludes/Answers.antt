@@ -1,4 +1,4 @@
-use Rattle.std.proofs.Common.{◌≡◌, Some, sym, ap, subst, ◌∙◌}
+use Rattle.std.proofs.Common.{◌≡◌, Some, sym, ◌∙◌}
 use Rattle.rb_layout.specs.Words.{flat_at}
 use Rattle.rb_layout.proofs.Ends.{found-at}
 use Rattle.rb_layout.proofs.Excluding.{excluded-at, iff_ok}

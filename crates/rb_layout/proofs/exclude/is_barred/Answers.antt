@@ -1,6 +1,5 @@
-use Rattle.std.proofs.Common.{◌≡◌, [], sym, ap, subst, ◌∙◌}
+use Rattle.std.proofs.Common.{[], sym, ap, subst, ◌∙◌}
 use Rattle.std.specs.Prelude.{IsTrue, ◌↔◌}
-use Rattle.std.proofs.lemmas.Option.{same_Some}
 use Rattle.rb_layout.specs.Excluded.{Bars}
 use Rattle.rb_layout.specs.inner.Barring.{position_type, knows, word_barred, AreAsked}
 use Rattle.rb_layout.specs.inner.Finding.{with_parts, AreFresh}

@@ -1,4 +1,4 @@
-use Rattle.std.proofs.Common.{◌≡◌, ◌+◌, ◌-◌, ◌<◌, ◌≤◌, ◌^◌, Some, None, sym, ap, ◌∙◌, arith}
+use Rattle.std.proofs.Common.{◌+◌, ◌-◌, ◌≤◌, ◌^◌, sym, arith}
 use Rattle.std.proofs.Math.Pow.{pow_mono}
 use Rattle.rb_layout.proofs.KnownBits.{bit_small, known-none, known-more, more_fits}
 use Rattle.rb_layout.proofs.known.constant_bits.Goals as goal

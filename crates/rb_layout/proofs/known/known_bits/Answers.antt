@@ -1,8 +1,6 @@
-use Rattle.std.proofs.Common.{◌≡◌, Some, ◌∙◌, sym, ap, subst, arith}
-use Rattle.std.specs.Option.{option_copied}
-use Rattle.rb_layout.specs.Words.{flat_at}
+use Rattle.std.proofs.Common.{◌∙◌, sym, ap}
 use Rattle.rb_layout.specs.Locations.{constant_bits}
-use Rattle.rb_layout.proofs.Ends.{found-at, known-found, known-not_found}
+use Rattle.rb_layout.proofs.Ends.{found-at, known-found}
 use Rattle.rb_layout.proofs.known.known_bits.Goals as goal
 
 pub constant_bits-requires : goal.constant_bits-requires

@@ -1,7 +1,5 @@
-use Rattle.std.proofs.Common.{◌≡◌, ◌<◌, Some, length, sym, ap, subst, ◌∙◌, arith}
-use Rattle.rb_layout.specs.inner.Barring.{AreAsked}
-use Rattle.rb_layout.specs.inner.Finding.{Keeps}
-use Rattle.rb_layout.specs.inner.Settling.{AreTrue, AreSettled, pending}
+use Rattle.std.proofs.Common.{◌<◌, length, sym, subst, ◌∙◌}
+use Rattle.rb_layout.specs.inner.Settling.{AreSettled, pending}
 use Rattle.rb_layout.proofs.SettleLemmas.{Goes, goes-pass, pass-less, settled-pass}
 use Rattle.rb_layout.proofs.settling.settle.Goals as goal
 
