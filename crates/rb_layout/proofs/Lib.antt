@@ -5,6 +5,10 @@ pub mod Walks
 pub mod LayingLemmas
 pub mod TreeLemmas
 pub mod LayoutLists
+pub mod Computing
+pub mod Blocks
+pub mod FlatLaws
+pub mod Places
 pub mod Readable
 pub mod Locating
 pub mod Ends

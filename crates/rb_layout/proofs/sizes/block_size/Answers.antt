@@ -1,7 +1,7 @@
 use Rattle.std.proofs.Common.{◌≡◌, ◌+◌, ◌/◌, ◌<◌, ◌∙◌, sym, ap, subst, drop, length, get_or, arith}
 use Rattle.rb_layout.specs.Words.{bytes_in}
 use Rattle.rb_layout.proofs.Locating.{bytes-from, short-width}
-use Rattle.rb_layout.proofs.blocks.block_size.Goals as goal
+use Rattle.rb_layout.proofs.sizes.block_size.Goals as goal
 
 pub loop-word-preserved : goal.loop-word-preserved
 loop-word-preserved c =

@@ -1,6 +1,6 @@
 use Rattle.std.proofs.Common.{◌≡◌, ◌+◌, ◌*◌, ◌≤◌, drop}
 use Rattle.rb_layout.specs.Words.{size_of, bytes_in}
-use Rattle.rb_layout.proofs.blocks.block_size.Given as goal
+use Rattle.rb_layout.proofs.sizes.block_size.Given as goal
 
 abbrev pub invariant-loop-word : goal.invariant-loop-word
 invariant-loop-word l = record {
