@@ -12,3 +12,14 @@ pub mod FlatLaws
 pub mod Placing
 pub mod FromLeft
 pub mod Places
+pub mod Readable
+pub mod Locating
+pub mod Ends
+pub mod KnownBits
+pub mod OpenPositions
+pub mod GoalLemmas
+pub mod BarLemmas
+pub mod Derivations
+pub mod FindLemmas
+pub mod SettleLemmas
+pub mod Excluding

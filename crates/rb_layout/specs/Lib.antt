@@ -5,6 +5,7 @@ pub mod Excluded
 pub mod Splits
 pub mod Flattening
 pub mod Items
+pub mod Readable
 pub mod Each
 pub mod Pointers
 pub mod Cycles
