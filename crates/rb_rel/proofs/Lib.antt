@@ -1,6 +1,8 @@
+pub mod Barred
 pub mod Bits
 pub mod Growth
 pub mod Known
+pub mod Leading
 pub mod Lists
 pub mod Reading
 pub mod Represented

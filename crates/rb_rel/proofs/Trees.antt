@@ -12,6 +12,7 @@ use Rattle.rb_layout.specs.declared.layout.FlatTree.TheOpen.{FlatTree-F}
 use Rattle.rb_layout.specs.declared.layout.FlatTree.TheFolds.{fold-roll-FlatArm, map-FlatArm}
 use Rattle.rb_layout.specs.declared.layout.FlatArm.{FlatArm, FlatArm-F, roll-FlatArm}
 use Rattle.rb_layout.specs.Splits.{Test, Is, IsNone, Route, behind, Under, arm_routes, else_routes, literals_of, routes_step, routes_arm, routes_of, routes_under, SplitAt, splits_or_none, splits_step, splits_arm, splits_of, splits_under}
+use Rattle.rb_rel.specs.Lawful.{IsOf, AreDistinct, LiteralsDistinct}
 use Rattle.rb_rel.specs.Reading.{read_loc, Walk, walk_else, walk_arms, walk_at, walk_step, walk_arm, walk, walk_under}
 use Rattle.rb_rel.proofs.Lists.{get-append, get-map, get-left, get-right}
 
@@ -20,16 +21,6 @@ differ a b ne = grind (arith, common_steps, ne)
 
 same : (a : ℕ) → nat_eq a a ≡ true
 same a = grind (arith, common_steps)
-
-abbrev pub IsOf : ℕ → List ℕ → Type 0
-IsOf n cs = (k : ℕ) × (slice_get cs k ≡ Some n)
-
--- no number stands twice
-abbrev pub AreDistinct : List ℕ → Type 0
-AreDistinct cs = (i j c : ℕ) → slice_get cs i ≡ Some c → slice_get cs j ≡ Some c → i ≡ j
-
-abbrev pub LiteralsDistinct : List SplitAt → Type 0
-LiteralsDistinct ss = (k : ℕ) (s : SplitAt) → slice_get ss k ≡ Some s → AreDistinct s.literals
 
 module _ (ws : List ℕ) (m : Memory) where
   -- a test, done on words

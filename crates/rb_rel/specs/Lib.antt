@@ -1,4 +1,5 @@
 pub mod Laws
+pub mod Lawful
 pub mod Relation
 pub mod Placing
 pub mod Answers
