@@ -4,6 +4,7 @@ pub mod Growth
 pub mod Known
 pub mod Leading
 pub mod Lists
+pub mod Opens
 pub mod Reading
 pub mod Represented
 pub mod Trees

@@ -1,15 +1,24 @@
 -- What the laws of representation need of layouts.
-use Rattle.std.specs.Prelude.{◌≡◌, ℕ, ◌<◌, List, Option, Some, None, slice_get}
+use Rattle.std.specs.Prelude.{◌+◌, ◌≤◌, ◌==◌, ◌&&◌, Bool, true, false, ◌≡◌, ℕ, ◌<◌, List, Option, Some, None, slice_get}
+use Rattle.rb_core.specs.declared.types.Ty.{Ty}
+use Rattle.rb_core.specs.declared.types.Ty.TheVariants.{Int, Named}
+use Rattle.rb_core.specs.declared.pattern.Pat.{Pat, out-Pat}
+use Rattle.rb_core.specs.declared.pattern.Pat.TheOpen as P
+use Rattle.rb_core.specs.declared.pattern.Pat.TheOpen.{Pat-F}
+use Rattle.rb_core.specs.declared.pattern.Pat.TheFolds.{fold-Pat}
+use Rattle.rb_core.specs.Values.{are_of, fields_of}
+use Rattle.rb_core.specs.Typing.{holds}
 use Rattle.rb_core.specs.declared.types.DataDecl.{DataDecl}
 use Rattle.rb_layout.specs.declared.layout.Leaf.{Leaf}
 use Rattle.rb_layout.specs.declared.layout.Block.{Block}
 use Rattle.rb_layout.specs.declared.layout.FlatWord.{FlatWord}
 use Rattle.rb_layout.specs.declared.layout.Part.{Part}
-use Rattle.rb_layout.specs.declared.layout.Kind.TheVariants.{Pointer}
+use Rattle.rb_layout.specs.declared.layout.Kind.TheVariants.{Bits, Word, Pointer}
 use Rattle.rb_layout.specs.declared.layout.WordRef.{WordRef}
 use Rattle.rb_layout.specs.declared.layout.Layout.{Layout}
 use Rattle.rb_layout.specs.Words.{flat_at}
-use Rattle.rb_layout.specs.Positions.{layout_of}
+use Rattle.rb_layout.specs.Positions.{Open, open_positions, root_type, layout_of}
+use Rattle.rb_rel.specs.Relation.{word_count}
 use Rattle.rb_layout.specs.Locations.{Reached, reached_at, known}
 use Rattle.rb_layout.specs.Excluded.{Excludes}
 use Rattle.rb_layout.specs.Splits.{Test, Is, IsNone, Route, SplitAt, routes_of, splits_of}
@@ -60,3 +69,59 @@ pub record SplitsAgree (types : List DataDecl) (layouts : List Layout) : Type 0 
   -- each leaf is below the tree
   pub reached : (t : ℕ) (layout : Layout) (n : ℕ) (leaf : Leaf) → layout_of layouts t ≡ Some layout → slice_get layout.leaves n ≡ Some leaf
       → (k : ℕ) × (r : Route) × (slice_get (routes_of layout.tree) k ≡ Some r) × (r.leaf ≡ n)
+
+-- Provenances ---------------------------------------------------------------------------------
+
+abbrev pub is_named : ℕ → Ty → Bool
+is_named t (Int bits) = false
+is_named t (Named s) = s == t
+
+abbrev pub fits_step : List DataDecl → Pat-F (Ty → Bool) → Ty → Bool
+fits_step types (P.Wild at) ty = true
+fits_step types (P.Var at x) ty = true
+fits_step types (P.Num at n) ty = holds ty n
+fits_step types (P.Con at c ps) ty = is_named c.ty ty && are_of ps (fields_of types c)
+
+-- a pattern is of a type
+abbrev pub fits_type : List DataDecl → Pat → Ty → Bool
+fits_type types = fold-Pat (Ty → Bool) (fits_step types)
+
+-- the provenances are patterns of their types, with constructors at their roots
+pub record ProvenancesFit (types : List DataDecl) (layouts : List Layout) : Type 0 where
+  pub root : (t : ℕ) (layout : Layout) (n : ℕ) (leaf : Leaf) → layout_of layouts t ≡ Some layout → slice_get layout.leaves n ≡ Some leaf
+      → root_type (out-Pat leaf.prov) ≡ Named t
+  pub fits : (t : ℕ) (layout : Layout) (n : ℕ) (leaf : Leaf) → layout_of layouts t ≡ Some layout → slice_get layout.leaves n ≡ Some leaf
+      → fits_type types leaf.prov (Named t) ≡ true
+
+-- Holding -------------------------------------------------------------------------------------
+
+-- a part holds unit i of the position at a path: bit i of an integer, word i of a data type
+abbrev pub HoldsUnit : Ty → List ℕ → ℕ → Part → Type 0
+HoldsUnit (Int bits) path i p = (a : ℕ) × (p.kind ≡ Bits path a) × (a ≤ i) × (i < a + p.l)
+HoldsUnit (Named t) path i p = p.kind ≡ Word path i
+
+pub record Holder (leaf : Leaf) (ty : Ty) (path : List ℕ) (i : ℕ) : Type 0 where
+  pub ref : WordRef
+  pub word : FlatWord
+  pub is_word : flat_at leaf ref ≡ Some word
+  pub number : ℕ
+  pub part : Part
+  pub is_part : slice_get word.parts number ≡ Some part
+  pub is_holder : HoldsUnit ty path i part
+
+-- the units of a type: bits, or words
+abbrev pub units_of : List Layout → Ty → ℕ
+units_of layouts (Int bits) = bits
+units_of layouts (Named t) = word_count layouts (Named t)
+
+-- each unit of each open position is held
+abbrev pub AllHeld : List DataDecl → List Layout → Type 0
+AllHeld types layouts = (t : ℕ) (layout : Layout) (n : ℕ) (leaf : Leaf) (k : ℕ) (o : Open) (i : ℕ) → layout_of layouts t ≡ Some layout → slice_get layout.leaves n ≡ Some leaf
+    → slice_get (open_positions types leaf.prov) k ≡ Some o → i < units_of layouts o.ty → Holder leaf o.ty o.path i
+
+-- all that the laws need
+pub record Lawful (types : List DataDecl) (layouts : List Layout) : Type 0 where
+  pub flat : AllFlat layouts
+  pub splits : SplitsAgree types layouts
+  pub all_held : AllHeld types layouts
+  pub provenances : ProvenancesFit types layouts
