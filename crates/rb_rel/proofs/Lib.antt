@@ -3,8 +3,10 @@ pub mod Bits
 pub mod Growth
 pub mod Known
 pub mod Leading
+pub mod Leaves
 pub mod Lists
 pub mod Opens
 pub mod Reading
 pub mod Represented
 pub mod Trees
+pub mod Unique
