@@ -9,4 +9,5 @@ pub mod Opens
 pub mod Reading
 pub mod Represented
 pub mod Trees
+pub mod Typing
 pub mod Unique
