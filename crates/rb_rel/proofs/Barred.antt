@@ -1,5 +1,5 @@
 -- Bits that are barred are never there.
-use Rattle.std.proofs.Common.{◌≡◌, ℕ, ◌+◌, ◌-◌, ◌*◌, ◌≤◌, List, Bool, Some, None, sym, subst, ap, ◌∙◌, arith}
+use Rattle.std.proofs.Common.{◌≡◌, ℕ, ◌+◌, ◌-◌, ◌*◌, ◌≤◌, List, Bool, Some, None, refl, sym, subst, ap, ◌∙◌, arith}
 use Rattle.std.specs.Prelude.{slice_get}
 use Rattle.std.specs.Int.{bit_at}
 use Rattle.std.proofs.lemmas.Option.{same_Some, get_or_from_slice_get}
@@ -41,7 +41,7 @@ module _ (types : List DataDecl) (layouts : List Layout) (m : Memory) (clean : B
     pub no_null : (leaf : Leaf) (ws : List ℕ) (subs : List ℕ → List ℕ) (ats : ℕ → ℕ) → IsFlat leaf → Placed leaf ws m clean subs ats
         → (r : WordRef) (f : FlatWord) → flat_at leaf r ≡ Some f → NoNull f.parts ats
     no_null leaf ws subs ats flat placed r f is k p align b at kind =
-        let e = flat.exists b r (record { word = f; is_word = is; number = k; part = p; is_part = at; align = align; is_pointer = kind }) in
+        let e = flat.exists r p.l align b (record { word = f; number = k; part = p; is_word = is; is_part = at; is_length = refl; is_pointer = kind }) in
         let s = placed.blocks b e.0 e.1 in
         let low = (block_bounds m.blocks (ats b) (size_of e.0) 64 m.next good.blocks s).0 in omega (arith, low)
 

@@ -1,5 +1,5 @@
 -- Where the tests on the way to a leaf pass, the splits lead to it.
-use Rattle.std.proofs.Common.{◌≡◌, ℕ, zero, suc, nat_eq, inl, inr, map, List, [], ◌∷◌, ◌++◌, Bool, true, false, Option, Some, None, refl, sym, subst, ap, ◌∙◌, arith}
+use Rattle.std.proofs.Common.{◌≡◌, ℕ, zero, suc, ◌<◌, nat_eq, inl, inr, map, List, [], ◌∷◌, ◌++◌, Bool, true, false, Option, Some, None, refl, sym, subst, ap, ◌∙◌, arith}
 use Rattle.std.specs.Prelude.{slice_get, if◌then◌else◌}
 use Rattle.std.specs.List.{flat_map}
 use Rattle.std.proofs.lemmas.Option.{same_Some}
@@ -12,7 +12,7 @@ use Rattle.rb_layout.specs.declared.layout.FlatTree.TheOpen.{FlatTree-F}
 use Rattle.rb_layout.specs.declared.layout.FlatTree.TheFolds.{fold-roll-FlatArm, map-FlatArm}
 use Rattle.rb_layout.specs.declared.layout.FlatArm.{FlatArm, FlatArm-F, roll-FlatArm}
 use Rattle.rb_layout.specs.Splits.{Test, Is, IsNone, Route, behind, Under, arm_routes, else_routes, literals_of, routes_step, routes_arm, routes_of, routes_under, SplitAt, splits_or_none, splits_step, splits_arm, splits_of, splits_under}
-use Rattle.rb_rel.specs.Lawful.{IsOf, AreDistinct, LiteralsDistinct}
+use Rattle.rb_layout.specs.A7.{IsLiteral}
 use Rattle.rb_rel.specs.Reading.{read_loc, Walk, walk_else, walk_arms, walk_at, walk_step, walk_arm, walk, walk_under}
 use Rattle.rb_rel.proofs.Lists.{get-append, get-map, get-left, get-right}
 
@@ -22,11 +22,18 @@ differ a b ne = grind (arith, common_steps, ne)
 same : (a : ℕ) → nat_eq a a ≡ true
 same a = grind (arith, common_steps)
 
+-- no number stands twice
+abbrev pub AreDistinct : List ℕ → Type 0
+AreDistinct cs = (j k c : ℕ) → j < k → slice_get cs j ≡ Some c → slice_get cs k ≡ Some c → ⊥
+
+abbrev pub LiteralsDistinct : List SplitAt → Type 0
+LiteralsDistinct ss = (k : ℕ) (s : SplitAt) → slice_get ss k ≡ Some s → AreDistinct s.literals
+
 module _ (ws : List ℕ) (m : Memory) where
   -- a test, done on words
   abbrev pub Passes : Test → Type 0
   Passes (Is loc c) = read_loc ws m loc ≡ Some c
-  Passes (IsNone loc cs) = (n : ℕ) × (read_loc ws m loc ≡ Some n) × (IsOf n cs → ⊥)
+  Passes (IsNone loc cs) = (n : ℕ) × (read_loc ws m loc ≡ Some n) × (IsLiteral cs n → ⊥)
 
   abbrev pub AllPass : List Test → Type 0
   AllPass ts = (k : ℕ) (t : Test) → slice_get ts k ≡ Some t → Passes t
@@ -78,10 +85,10 @@ module _ (ws : List ℕ) (m : Memory) where
       (sym x.1.0 ∙ here, x.1.2 d k g.0 g.1 b.1 ∙ ap (λ (q : Route). Some q.leaf) (sym g.2))
 
   rest_distinct : (c : ℕ) (cs : List ℕ) → AreDistinct (c ∷ cs) → AreDistinct cs
-  rest_distinct c cs d i j x a b = let e : suc i ≡ suc j = d (suc i) (suc j) x a b in omega (arith, e)
+  rest_distinct c cs d i j x lt a b = d (suc i) (suc j) x (omega (arith, lt)) a b
 
-  first_distinct : (c : ℕ) (cs : List ℕ) → AreDistinct (c ∷ cs) → IsOf c cs → ⊥
-  first_distinct c cs d h = let e : 0 ≡ suc h.0 = d 0 (suc h.0) c refl h.1 in omega (arith, e)
+  first_distinct : (c : ℕ) (cs : List ℕ) → AreDistinct (c ∷ cs) → IsLiteral cs c → ⊥
+  first_distinct c cs d h = d 0 (suc h.0) c (omega arith) refl h.1
 
   first_splits : (x : SuchA) (arms : List SuchA) → LiteralsDistinct (arms_splits (x ∷ arms)) → LiteralsDistinct (splits_under x.0).of
   first_splits x arms d k s e = d k s (get-left (splits_under x.0).of (arms_splits arms) k s e)
@@ -91,7 +98,7 @@ module _ (ws : List ℕ) (m : Memory) where
 
   -- a route below the arms reads one of their literals
   arm_is : (loc : Loc) (arms : List SuchA) (n : ℕ) (k : ℕ) (r : Route) → read_loc ws m loc ≡ Some n → LiteralsDistinct (arms_splits arms)
-      → slice_get (arms_routes loc arms) k ≡ Some r → AllPass r.tests → IsOf n (arms_literals arms)
+      → slice_get (arms_routes loc arms) k ≡ Some r → AllPass r.tests → IsLiteral (arms_literals arms) n
   arm_is loc [] n k r is d e a = absurd cc
   arm_is loc (x ∷ arms) n k r is d e a =
       elim (get-append (arm_routes loc (routes_under x.0)) (arms_routes loc arms) k r e) [
@@ -110,13 +117,13 @@ module _ (ws : List ℕ) (m : Memory) where
             ap (λ (i : Bool). if i then (walk_under x.0).of ws m else walk_arms (walks arms) other n ws m) t ∙ b.1
         | inr h ↦
             let later = arm_is loc arms n h.0 r is (rest_splits x arms d) h.1 a in
-            let ne : (walk_under x.0).literal ≡ n → ⊥ = λ e0. first_distinct (splits_under x.0).literal (arms_literals arms) ld (subst (λ c. IsOf c (arms_literals arms)) (sym (x.1.1 ∙ e0)) later) in
+            let ne : (walk_under x.0).literal ≡ n → ⊥ = λ e0. first_distinct (splits_under x.0).literal (arms_literals arms) ld (subst (λ c. IsLiteral (arms_literals arms) c) (sym (x.1.1 ∙ e0)) later) in
             ap (λ (i : Bool). if i then (walk_under x.0).of ws m else walk_arms (walks arms) other n ws m) (differ (walk_under x.0).literal n ne)
             ∙ arms_right loc arms other n h.0 r is (rest_distinct (splits_under x.0).literal (arms_literals arms) ld) (rest_splits x arms d) h.1 a
       ]
 
   -- past all arms
-  past_arms : (arms : List SuchA) (other : Option Walk) (n : ℕ) → (IsOf n (literals_of (map routes_under (the_arms arms))) → ⊥)
+  past_arms : (arms : List SuchA) (other : Option Walk) (n : ℕ) → (IsLiteral (literals_of (map routes_under (the_arms arms))) n → ⊥)
       → walk_arms (walks arms) other n ws m ≡ walk_else other ws m
   past_arms [] other n ne = refl
   past_arms (x ∷ arms) other n ne =

@@ -92,9 +92,9 @@ module _ (leaf : Leaf) (flat : IsFlat leaf) (ws : List ℕ) (m : Memory) (clean 
   ats_from zero b block le is = absurd (let lt = slice_get_within leaf.blocks b block is in omega arith)
   ats_from (suc n) b block le is =
       let q = flat.pointed b block is in
-      let h = kinds_same q.0 q.1.word q.1.number q.1.part q.1.is_word q.1.is_part (outer q.0.block n b le q.2 (λ a lt bl e. ats_from n a bl (omega arith) e) (exists_in q.0.block q.0.word q.1.word q.1.is_word)) in
-      let x = subst (λ (k : Kind). HoldsKind subs ats h.0 q.1.part.l k) q.1.is_pointer h.1 in
-      let y = subst (λ (k : Kind). HoldsKind subs' ats' h.0 q.1.part.l k) q.1.is_pointer h.2 in
+      let h = kinds_same q.0 q.3.word q.3.number q.3.part q.3.is_word q.3.is_part (outer q.0.block n b le q.4 (λ a lt bl e. ats_from n a bl (omega arith) e) (exists_in q.0.block q.0.word q.3.word q.3.is_word)) in
+      let x = subst (λ (k : Kind). HoldsKind subs ats h.0 q.3.part.l k) q.3.is_pointer h.1 in
+      let y = subst (λ (k : Kind). HoldsKind subs' ats' h.0 q.3.part.l k) q.3.is_pointer h.2 in
       sym x ∙ y
 
   all_ats : (b : ℕ) (block : Block) → slice_get leaf.blocks b ≡ Some block → ats b ≡ ats' b
@@ -153,8 +153,8 @@ module _ (types : List DataDecl) (layouts : List Layout) (m : Memory) (clean : B
       let d = o.made in
       let d' = o'.made in
       let same : d'.layout ≡ d.layout = same_Some _ _ (sym d'.is_layout ∙ d.is_layout) in
-      let w = leads_made types layouts m clean good lawful.flat lawful.splits t v ws o in
-      let w' = leads_made types layouts m clean good lawful.flat lawful.splits t v' ws o' in
+      let w = leads_made types layouts m clean good lawful t v ws o in
+      let w' = leads_made types layouts m clean good lawful t v' ws o' in
       let n : d'.number ≡ d.number = same_Some _ _ (sym w' ∙ ap (λ (x : Layout). walk x.tree ws m) same ∙ w) in
       same_Some _ _ (sym d'.is_number ∙ ap (λ (x : Layout). slice_get x.leaves d'.number) same ∙ ap (λ k. slice_get d.layout.leaves k) n ∙ d.is_number)
 
@@ -179,6 +179,6 @@ module _ (types : List DataDecl) (layouts : List Layout) (m : Memory) (clean : B
       let r2 = o'.below k q (at' k q e) in
       let words : d.subs q.path ≡ d'.subs q.path = words_at q.ty (d.at q.path) (d'.at q.path) (d.subs q.path) (d'.subs q.path) r1 r2
       (λ i lt. agree_at d.leaf is_flat ws m clean d.subs d'.subs d.ats d'.ats d.placed p' q.path q.ty i
-      (lawful.all_held t d.layout d.number d.leaf k q i d.is_layout d.is_number e lt)) in
+      (lawful.all_held t d.layout d.number d.leaf d.is_layout d.is_number k q i e lt)) in
       let u : d.at q.path ≡ d'.at q.path = unique (below k q e) (d'.at q.path) (subst (λ (w : List ℕ). Represents types layouts m clean q.ty (d'.at q.path) w) (sym words) r2) in
       d.is_at k q e ∙ ap Some u ∙ sym (d'.is_at k q (at' k q e)))

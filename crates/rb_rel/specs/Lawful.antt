@@ -13,62 +13,35 @@ use Rattle.rb_layout.specs.declared.layout.Leaf.{Leaf}
 use Rattle.rb_layout.specs.declared.layout.Block.{Block}
 use Rattle.rb_layout.specs.declared.layout.FlatWord.{FlatWord}
 use Rattle.rb_layout.specs.declared.layout.Part.{Part}
-use Rattle.rb_layout.specs.declared.layout.Kind.TheVariants.{Bits, Word, Pointer}
+use Rattle.rb_layout.specs.declared.layout.Kind.TheVariants.{Bits, Word}
 use Rattle.rb_layout.specs.declared.layout.WordRef.{WordRef}
 use Rattle.rb_layout.specs.declared.layout.Layout.{Layout}
 use Rattle.rb_layout.specs.Words.{flat_at}
-use Rattle.rb_layout.specs.Positions.{Open, open_positions, root_type, layout_of}
+use Rattle.rb_layout.specs.Positions.{Open, open_positions, root_type}
 use Rattle.rb_rel.specs.Relation.{word_count}
-use Rattle.rb_layout.specs.Locations.{Reached, reached_at, known}
-use Rattle.rb_layout.specs.Excluded.{Excludes}
-use Rattle.rb_layout.specs.Splits.{Test, Is, IsNone, Route, SplitAt, routes_of, splits_of}
+use Rattle.rb_layout.specs.Splits.{Route, routes_of}
+use Rattle.rb_layout.specs.Pointers.{PointsTo}
+use Rattle.rb_layout.specs.Each.{EachLeaf}
+use Rattle.rb_layout.specs.A7.{A7}
+use Rattle.rb_layout.specs.A8.{A8}
 
 -- a root word, or a word of a block numbered above block b
 abbrev pub IsOutside : Option ℕ → ℕ → Type 0
 IsOutside None b = Unit {0}
 IsOutside (Some a) b = b < a
 
--- a pointer part to block b in the word at a reference
-pub record PointsTo (leaf : Leaf) (b : ℕ) (r : WordRef) : Type 0 where
-  pub word : FlatWord
-  pub is_word : flat_at leaf r ≡ Some word
-  pub number : ℕ
-  pub part : Part
-  pub is_part : slice_get word.parts number ≡ Some part
-  pub align : ℕ
-  pub is_pointer : part.kind ≡ Pointer align b
-
 -- each pointer has its block, and each block a pointer outside it
 pub record IsFlat (leaf : Leaf) : Type 0 where
-  pub exists : (b : ℕ) (r : WordRef) → PointsTo leaf b r → (block : Block) × (slice_get leaf.blocks b ≡ Some block)
-  pub pointed : (b : ℕ) (block : Block) → slice_get leaf.blocks b ≡ Some block → (r : WordRef) × PointsTo leaf b r × IsOutside r.block b
-
-abbrev pub IsOf : ℕ → List ℕ → Type 0
-IsOf n cs = (k : ℕ) × (slice_get cs k ≡ Some n)
-
--- no number stands twice
-abbrev pub AreDistinct : List ℕ → Type 0
-AreDistinct cs = (i j c : ℕ) → slice_get cs i ≡ Some c → slice_get cs j ≡ Some c → i ≡ j
-
--- a test that words of a leaf always pass
-abbrev pub IsMet : List DataDecl → List Layout → Leaf → Test → Type 0
-IsMet types layouts leaf (Is loc c) = known leaf loc ≡ Some c
-IsMet types layouts leaf (IsNone loc cs) =
-    (x : Reached) × (reached_at leaf loc ≡ Some x) × ((c : ℕ) → IsOf c cs → Excludes types layouts leaf loc c)
-
-abbrev pub LiteralsDistinct : List SplitAt → Type 0
-LiteralsDistinct ss = (k : ℕ) (s : SplitAt) → slice_get ss k ≡ Some s → AreDistinct s.literals
+  pub exists : (r : WordRef) (l align b : ℕ) → PointsTo leaf r l align b → (block : Block) × (slice_get leaf.blocks b ≡ Some block)
+  pub pointed : (b : ℕ) (block : Block) → slice_get leaf.blocks b ≡ Some block
+      → (r : WordRef) × (l : ℕ) × (align : ℕ) × PointsTo leaf r l align b × IsOutside r.block b
 
 abbrev pub AllFlat : List Layout → Type 0
-AllFlat layouts = (t : ℕ) (layout : Layout) (n : ℕ) (leaf : Leaf) → layout_of layouts t ≡ Some layout → slice_get layout.leaves n ≡ Some leaf → IsFlat leaf
+AllFlat layouts = EachLeaf layouts (λ t layout n leaf. IsFlat leaf)
 
-pub record SplitsAgree (types : List DataDecl) (layouts : List Layout) : Type 0 where
-  pub met : (t : ℕ) (layout : Layout) (k : ℕ) (r : Route) (leaf : Leaf) (i : ℕ) (test : Test) → layout_of layouts t ≡ Some layout → slice_get (routes_of layout.tree) k ≡ Some r
-      → slice_get layout.leaves r.leaf ≡ Some leaf → slice_get r.tests i ≡ Some test → IsMet types layouts leaf test
-  pub distinct : (t : ℕ) (layout : Layout) → layout_of layouts t ≡ Some layout → LiteralsDistinct (splits_of layout.tree)
-  -- each leaf is below the tree
-  pub reached : (t : ℕ) (layout : Layout) (n : ℕ) (leaf : Leaf) → layout_of layouts t ≡ Some layout → slice_get layout.leaves n ≡ Some leaf
-      → (k : ℕ) × (r : Route) × (slice_get (routes_of layout.tree) k ≡ Some r) × (r.leaf ≡ n)
+-- each leaf is below the tree of splits
+abbrev pub AllReached : List Layout → Type 0
+AllReached layouts = EachLeaf layouts (λ t layout n leaf. (k : ℕ) × (r : Route) × (slice_get (routes_of layout.tree) k ≡ Some r) × (r.leaf ≡ n))
 
 -- Provenances ---------------------------------------------------------------------------------
 
@@ -88,10 +61,8 @@ fits_type types = fold-Pat (Ty → Bool) (fits_step types)
 
 -- the provenances are patterns of their types, with constructors at their roots
 pub record ProvenancesFit (types : List DataDecl) (layouts : List Layout) : Type 0 where
-  pub root : (t : ℕ) (layout : Layout) (n : ℕ) (leaf : Leaf) → layout_of layouts t ≡ Some layout → slice_get layout.leaves n ≡ Some leaf
-      → root_type (out-Pat leaf.prov) ≡ Named t
-  pub fits : (t : ℕ) (layout : Layout) (n : ℕ) (leaf : Leaf) → layout_of layouts t ≡ Some layout → slice_get layout.leaves n ≡ Some leaf
-      → fits_type types leaf.prov (Named t) ≡ true
+  pub root : EachLeaf layouts (λ t layout n leaf. root_type (out-Pat leaf.prov) ≡ Named t)
+  pub fits : EachLeaf layouts (λ t layout n leaf. fits_type types leaf.prov (Named t) ≡ true)
 
 -- Holding -------------------------------------------------------------------------------------
 
@@ -116,12 +87,14 @@ units_of layouts (Named t) = word_count layouts (Named t)
 
 -- each unit of each open position is held
 abbrev pub AllHeld : List DataDecl → List Layout → Type 0
-AllHeld types layouts = (t : ℕ) (layout : Layout) (n : ℕ) (leaf : Leaf) (k : ℕ) (o : Open) (i : ℕ) → layout_of layouts t ≡ Some layout → slice_get layout.leaves n ≡ Some leaf
-    → slice_get (open_positions types leaf.prov) k ≡ Some o → i < units_of layouts o.ty → Holder leaf o.ty o.path i
+AllHeld types layouts = EachLeaf layouts (λ t layout n leaf.
+    (k : ℕ) (o : Open) (i : ℕ) → slice_get (open_positions types leaf.prov) k ≡ Some o → i < units_of layouts o.ty → Holder leaf o.ty o.path i)
 
--- all that the laws need
+-- all that the laws need, of the rules of agreement and of flat forms
 pub record Lawful (types : List DataDecl) (layouts : List Layout) : Type 0 where
   pub flat : AllFlat layouts
-  pub splits : SplitsAgree types layouts
+  pub reached : AllReached layouts
+  pub met : A7 types layouts
+  pub split : A8 layouts
   pub all_held : AllHeld types layouts
   pub provenances : ProvenancesFit types layouts
