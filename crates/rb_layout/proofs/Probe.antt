@@ -1,1 +1,0 @@
--- loads each file of definitions
