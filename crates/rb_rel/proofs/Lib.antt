@@ -1,11 +1,16 @@
 pub mod Barred
 pub mod Bits
+pub mod Declared
+pub mod Flattened
 pub mod Growth
+pub mod Holding
 pub mod Known
 pub mod Leading
 pub mod Leaves
 pub mod Lists
 pub mod Opens
+pub mod Provenances
+pub mod Reaching
 pub mod Reading
 pub mod Represented
 pub mod Trees
