@@ -19,7 +19,7 @@ use Rattle.rb_layout.specs.Positions.{Open, open_positions}
 use Rattle.rb_layout.specs.Words.{flat_at, size_of}
 use Rattle.rb_bits.specs.Words.{take_of}
 use Rattle.rb_layout.specs.Excluded.{Bars, differs, null, within}
-use Rattle.rb_rel.specs.Lawful.{IsFlat, AllFlat}
+use Rattle.rb_rel.proofs.Lawful.{IsFlat, AllFlat}
 use Rattle.rb_rel.specs.Relation.{Holds, HoldsKind, Placed, Represents}
 use Rattle.rb_bits.proofs.WordLemmas.{bit_at_take}
 use Rattle.rb_rel.proofs.Bits.{take_take}

@@ -1,16 +1,14 @@
 -- What flattening makes of a leaf: each pointer has its block, and each block a pointer outside it.
-use Rattle.std.proofs.Common.{◌≡◌, ℕ, zero, suc, ◌+◌, ◌<◌, ◌≤◌, ◌⊎◌, inl, inr, length, map, List, [], ◌∷◌, ◌++◌, Option, Some, None, refl, sym, subst, ap, ◌∙◌, arith}
+use Rattle.std.proofs.Common.{◌≡◌, ℕ, zero, suc, ◌+◌, ◌<◌, ◌⊎◌, inl, inr, length, map, List, [], ◌∷◌, ◌++◌, Option, Some, None, refl, sym, subst, ap, ◌∙◌, arith}
 use Rattle.std.specs.Prelude.{slice_get}
 use Rattle.std.proofs.lemmas.Option.{same_Some, slice_get_within}
 use Rattle.std.proofs.lemmas.List.{length-append}
 use Rattle.rb_core.specs.declared.types.Ty.{Ty}
 use Rattle.rb_core.specs.declared.types.Ty.TheVariants.{Int, Named}
 use Rattle.rb_core.specs.declared.types.DataDecl.{DataDecl}
-use Rattle.rb_core.specs.declared.layout_decl.LayItem.{LayItem, Word as WordItem, Inline}
-use Rattle.rb_core.specs.declared.layout_decl.LayItem.TheOpen as I
+use Rattle.rb_core.specs.declared.layout_decl.LayItem.{LayItem}
 use Rattle.rb_core.specs.declared.layout_decl.LayItem.TheFolds.{fold-PartKind, fold-PartDecl, fold-roll-PartDecl}
 use Rattle.rb_core.specs.declared.layout_decl.PartKind.{PartKind}
-use Rattle.rb_core.specs.declared.layout_decl.PartKind.TheVariants as K
 use Rattle.rb_core.specs.declared.layout_decl.PartDecl.{PartDecl}
 use Rattle.rb_core.specs.declared.layout_decl.LayoutDecl.{LayoutDecl}
 use Rattle.rb_core.specs.Layouts.{WrittenLeaf}
@@ -27,7 +25,7 @@ use Rattle.rb_layout.specs.Words.{words_in, words_of_block, flat_at}
 use Rattle.rb_layout.specs.Flattening.{type_at, Laid, Laying, without_blocks, in_turn, whole_kind, kind_if_open, pointed, kind_step, part_step, word_of, words_of, inlined, shape_of, item_step, item_laid, items_laid, flat_leaf}
 use Rattle.rb_layout.proofs.FlatForms.{Each}
 use Rattle.rb_layout.proofs.WrittenForms as D
-use Rattle.rb_rel.specs.Lawful.{IsFlat, IsOutside}
+use Rattle.rb_rel.proofs.Lawful.{IsFlat, IsOutside}
 use Rattle.rb_rel.proofs.Lists.{get-append-at, get-left, get-behind, get-map, get-mapped, got}
 
 -- a pointer to block b occurs in a list of things

@@ -13,7 +13,7 @@ use Rattle.rb_layout.specs.declared.layout.WordRef.{WordRef}
 use Rattle.rb_layout.specs.Words.{flat_at, words_of_block}
 use Rattle.rb_layout.specs.Flattening.{same_path}
 use Rattle.rb_layout.specs.A6.{holds_unit, held_in_part, held_in_word, held_in_block, held}
-use Rattle.rb_rel.specs.Lawful.{HoldsUnit, Holder}
+use Rattle.rb_rel.proofs.Lawful.{HoldsUnit, Holder}
 use Rattle.rb_rel.proofs.Lists.{both}
 use Rattle.rb_rel.proofs.Known.{ltb_is}
 use Rattle.rb_rel.proofs.Reading.{same_nat, leb_is}

@@ -1,3 +1,4 @@
+pub mod Agreeing
 pub mod Barred
 pub mod Bits
 pub mod Declared
@@ -5,6 +6,7 @@ pub mod Flattened
 pub mod Growth
 pub mod Holding
 pub mod Known
+pub mod Lawful
 pub mod Leading
 pub mod Leaves
 pub mod Lists

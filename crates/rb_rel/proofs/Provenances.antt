@@ -1,5 +1,5 @@
 -- Provenances of typed programs fit their types.
-use Rattle.std.proofs.Common.{◌≡◌, ℕ, zero, suc, ◌==◌, ◌&&◌, map, length, List, [], ◌∷◌, ◌++◌, Bool, true, false, Option, Some, None, Result, Ok, Err, refl, sym, ap, ◌∙◌, arith}
+use Rattle.std.proofs.Common.{◌≡◌, ℕ, zero, suc, ◌==◌, ◌&&◌, map, length, List, [], ◌∷◌, ◌++◌, Bool, true, false, Option, Some, None, Ok, Err, refl, sym, ap, ◌∙◌, arith}
 use Rattle.std.specs.Prelude.{slice_get, is_some, unwrap_or, if◌then◌else◌}
 use Rattle.std.specs.List.{list_all}
 use Rattle.std.specs.Result.{result_err}
@@ -11,12 +11,9 @@ use Rattle.rb_core.specs.declared.types.DataDecl.{DataDecl}
 use Rattle.rb_core.specs.declared.program.Param.{Param}
 use Rattle.rb_core.specs.declared.pattern.Pat.{Pat, out-Pat, Wild, Var, Num, Con}
 use Rattle.rb_core.specs.declared.pattern.Pat.TheVariants.{outs-Con}
-use Rattle.rb_core.specs.declared.pattern.Pat.TheOpen as P
-use Rattle.rb_core.specs.declared.pattern.Pat.TheOpen.{Pat-F}
-use Rattle.rb_core.specs.declared.typing.Binder.{Binder}
 use Rattle.rb_core.specs.declared.typing.TypeFault.{TypeFault}
 use Rattle.rb_core.specs.declared.typing.TypeFault.TheVariants.{Mismatch, Arity}
-use Rattle.rb_core.specs.Typing.{Typing, and_then, same_type, holds, number_type, field_types, PatternRule, also_bound, subpatterns, fields_match, pattern_step, pattern_params, pattern_binders, distinct_binders}
+use Rattle.rb_core.specs.Typing.{Typing, and_then, same_type, holds, number_type, field_types, also_bound, subpatterns, fields_match, pattern_params, distinct_binders}
 use Rattle.rb_core.specs.TypedPrograms.{first_fault, provenance_fault}
 use Rattle.rb_core.specs.Values.{all_of_types, are_of, fields_of}
 use Rattle.rb_core.specs.WellNumbered.{pattern_is_numbered, is_constructor, Below, below_step, is_provenance}
@@ -26,7 +23,7 @@ use Rattle.rb_core.specs.WellNumbered as W
 use Rattle.rb_core.proofs.PatternLaws.{Each, induction, fold-Wild, fold-Var, fold-Num, fold-Con}
 use Rattle.rb_core.proofs.TypingLemmas.{pattern-Num, pattern-Con}
 use Rattle.rb_layout.specs.Positions.{root_type}
-use Rattle.rb_rel.specs.Lawful.{fits_type, fits_step, is_named}
+use Rattle.rb_rel.proofs.Lawful.{fits_type, fits_step, is_named}
 use Rattle.rb_rel.proofs.Lists.{both, and_true}
 use Rattle.rb_rel.proofs.Opens.{fits-Con, fits-Num}
 

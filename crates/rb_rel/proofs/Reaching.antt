@@ -1,6 +1,6 @@
 -- Each leaf of a layout stands below its tree of splits.
-use Rattle.std.proofs.Common.{◌≡◌, ℕ, zero, suc, ◌+◌, ◌-◌, ◌<◌, ◌≤◌, ◌⊎◌, inl, inr, length, map, List, [], ◌∷◌, ◌++◌, Option, Some, None, refl, sym, subst, ap, ◌∙◌, arith}
-use Rattle.std.specs.Prelude.{slice_get, sum_by}
+use Rattle.std.proofs.Common.{◌≡◌, ℕ, ◌+◌, ◌-◌, ◌<◌, inl, inr, length, map, List, [], ◌∷◌, ◌++◌, Some, None, refl, sym, subst, ap, ◌∙◌, arith}
+use Rattle.std.specs.Prelude.{slice_get}
 use Rattle.std.specs.List.{flat_map}
 use Rattle.std.proofs.lemmas.Bool.{cases_lt}
 use Rattle.std.proofs.lemmas.List.{length-append}
@@ -11,16 +11,12 @@ use Rattle.rb_core.specs.declared.layout_decl.LayItem.{LayItem}
 use Rattle.rb_core.specs.declared.layout_decl.Arm.{Arm, Arm-F}
 use Rattle.rb_core.specs.declared.layout_decl.LayTree.{LayTree, Split, Leaf}
 use Rattle.rb_core.specs.declared.layout_decl.LayTree.TheFolds.{fold-Arm, fold-LayTree, fold-roll-Arm}
-use Rattle.rb_core.specs.declared.layout_decl.LayTree.TheOpen as W
 use Rattle.rb_core.specs.declared.layout_decl.LayTree.TheOpen.{LayTree-F}
-use Rattle.rb_core.specs.Layouts.{WrittenLeaf, leaves_step, arm_leaves, leaves, leaves_under, leaves_or_none}
-use Rattle.rb_layout.specs.declared.layout.FlatTree.{FlatTree}
-use Rattle.rb_layout.specs.declared.layout.FlatTree.TheFolds.{fold-FlatArm, fold-roll-FlatArm}
-use Rattle.rb_layout.specs.declared.layout.FlatTree.TheVariants as Flat
-use Rattle.rb_layout.specs.declared.layout.FlatTree.TheOpen.{FlatTree-F}
+use Rattle.rb_core.specs.Layouts.{WrittenLeaf, leaves_step, arm_leaves, leaves, leaves_under}
+use Rattle.rb_layout.specs.declared.layout.FlatTree.TheFolds.{fold-roll-FlatArm}
 use Rattle.rb_layout.specs.declared.layout.FlatArm.{FlatArm}
 use Rattle.rb_layout.specs.Splits.{Test, Is, IsNone, Route, behind, Under, arm_routes, else_routes, literals_of, routes_step, routes_arm, routes_of, routes_under}
-use Rattle.rb_layout.specs.Flattening.{Numbering, count_or_none, arms_count, arms_from, other_from, tree_step, arm_step, numbering, flat_tree}
+use Rattle.rb_layout.specs.Flattening.{Numbering, arms_count, arms_from, tree_step, arm_step, numbering, flat_tree}
 use Rattle.rb_layout.proofs.FlatForms.{Each} 
 use Rattle.rb_layout.proofs.FlatForms as F
 use Rattle.rb_layout.proofs.WrittenForms as D

@@ -22,7 +22,7 @@ use Rattle.rb_layout.specs.Positions.{Open, open_positions, opens_of}
 use Rattle.rb_layout.specs.Words.{words_in, words_of_block, flat_at, begins_at}
 use Rattle.rb_rel.specs.Relation.{HoldsKind, IsFound, Placed, Made, Represents, number, built}
 use Rattle.rb_rel.specs.Reading.{walk}
-use Rattle.rb_rel.specs.Lawful.{Lawful, IsFlat, IsOutside, Holder, units_of}
+use Rattle.rb_rel.proofs.Lawful.{Lawful, IsFlat, IsOutside, Holder, units_of}
 use Rattle.rb_rel.proofs.Bits.{same_bits}
 use Rattle.rb_rel.proofs.Represented.{Opened, opened, Represents-int, Represents-count}
 use Rattle.rb_rel.proofs.Leading.{leads_made}

@@ -1,4 +1,4 @@
--- The laws of representation.
+-- The laws of representation. Those that rest on agreement are over all typed programs whose layouts agree with their types.
 use Rattle.std.specs.Prelude.{◌≡◌, ℕ, List, Bool, true, Some}
 use Rattle.rb_core.specs.declared.value.Value.{Value}
 use Rattle.rb_core.specs.declared.types.Ty.{Ty}
@@ -10,7 +10,10 @@ use Rattle.rb_bytes.specs.Laws.{Extends}
 use Rattle.rb_layout.specs.declared.layout.Layout.{Layout}
 use Rattle.rb_rel.specs.Relation.{Made, Represents}
 use Rattle.rb_rel.specs.Reading.{IsRead, read_loc, walk}
-use Rattle.rb_rel.specs.Lawful.{Lawful}
+use Rattle.rb_core.specs.declared.program.Program.{Program}
+use Rattle.rb_core.specs.TypedPrograms.{IsTyped}
+use Rattle.rb_layout.specs.Agreement.{Agrees}
+use Rattle.rb_layout.specs.Flattening.{flat_layouts}
 use Rattle.rb_layout.specs.Positions.{leaf_of, layout_of}
 use Rattle.rb_core.specs.Values.{is_of_type}
 use Rattle.rb_core.specs.declared.types.Ty.TheVariants.{Named}
@@ -29,16 +32,17 @@ ReadingGivesBits = (types : List DataDecl) (layouts : List Layout) (m : Memory) 
 
 -- the splits of a type's layout, read on words that represent a value of it, lead to the value's leaf
 abbrev pub SplitsLead : Type 0
-SplitsLead = (types : List DataDecl) (layouts : List Layout) → Lawful types layouts → (m : Memory) (clean : Bool) → IsGood m
-    → (t : ℕ) (v : Value) (ws : List ℕ) (layout : Layout) → layout_of layouts t ≡ Some layout
-    → Represents types layouts m clean (Named t) v ws → walk layout.tree ws m ≡ leaf_of layout v
+SplitsLead = (p : Program) → IsTyped p → Agrees p → (m : Memory) (clean : Bool) → IsGood m
+    → (t : ℕ) (v : Value) (ws : List ℕ) (layout : Layout) → layout_of (flat_layouts p) t ≡ Some layout
+    → Represents p.types (flat_layouts p) m clean (Named t) v ws → walk layout.tree ws m ≡ leaf_of layout v
 
 -- two values of one type that the same words represent are equal
 abbrev pub WordsAreOneValue : Type 0
-WordsAreOneValue = (types : List DataDecl) (layouts : List Layout) → Lawful types layouts → (m : Memory) (clean : Bool) → IsGood m
-    → (ty : Ty) (v u : Value) (ws : List ℕ) → Represents types layouts m clean ty v ws → Represents types layouts m clean ty u ws → v ≡ u
+WordsAreOneValue = (p : Program) → IsTyped p → Agrees p → (m : Memory) (clean : Bool) → IsGood m
+    → (ty : Ty) (v u : Value) (ws : List ℕ) → Represents p.types (flat_layouts p) m clean ty v ws → Represents p.types (flat_layouts p) m clean ty u ws
+    → v ≡ u
 
 -- what words represent is of the type
 abbrev pub RepresentedAreTyped : Type 0
-RepresentedAreTyped = (types : List DataDecl) (layouts : List Layout) → Lawful types layouts → (m : Memory) (clean : Bool)
-    → (ty : Ty) (v : Value) (ws : List ℕ) → Represents types layouts m clean ty v ws → is_of_type types v ty ≡ true
+RepresentedAreTyped = (p : Program) → IsTyped p → Agrees p → (m : Memory) (clean : Bool)
+    → (ty : Ty) (v : Value) (ws : List ℕ) → Represents p.types (flat_layouts p) m clean ty v ws → is_of_type p.types v ty ≡ true

@@ -1,5 +1,4 @@
 pub mod Laws
-pub mod Lawful
 pub mod Relation
 pub mod Placing
 pub mod Answers
