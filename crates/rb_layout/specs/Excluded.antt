@@ -1,0 +1,67 @@
+-- Excluded numbers: those that a range of a word never has, whatever value its leaf holds.
+use Rattle.std.specs.Prelude.{◌≡◌, ℕ, ◌+◌, ◌-◌, ◌<◌, ◌≤◌, min, max, length, Some, slice_get, List}
+use Rattle.std.specs.Int.{bit_at}
+use Rattle.rb_core.specs.declared.types.Ty.TheVariants.{Named}
+use Rattle.rb_core.specs.declared.types.DataDecl.{DataDecl}
+use Rattle.rb_core.specs.declared.layout_decl.Loc.{Loc}
+use Rattle.rb_bits.specs.Words.{take_of}
+use Rattle.rb_layout.specs.declared.layout.Leaf.{Leaf}
+use Rattle.rb_layout.specs.declared.layout.Layout.{Layout}
+use Rattle.rb_layout.specs.declared.layout.FlatWord.{FlatWord}
+use Rattle.rb_layout.specs.declared.layout.Part.{Part}
+use Rattle.rb_layout.specs.declared.layout.Kind.TheVariants.{Word, Pointer}
+use Rattle.rb_layout.specs.Positions.{Open, open_positions, layout_of}
+use Rattle.rb_layout.specs.Locations.{Reached, reached_at, constant_bit}
+
+-- a constant bit in the range [o:l] differs from c's bit there, which is bit i of c at bit o + i
+pub record HasOtherBit (f : FlatWord) (o l c : ℕ) : Type 0 where
+  pub i : ℕ
+  pub bit : ℕ
+  pub inside : i < l
+  pub constant : constant_bit f.parts (o + i) ≡ Some bit
+  pub other : bit ≡ bit_at c i → ⊥
+
+-- a pointer part lies wholly in the range, and c has only zeros on its bits
+pub record HasNull (f : FlatWord) (o l c : ℕ) : Type 0 where
+  pub number : ℕ
+  pub part : Part
+  pub align : ℕ
+  pub block : ℕ
+  pub is_part : slice_get f.parts number ≡ Some part
+  pub is_pointer : part.kind ≡ Pointer align block
+  pub first : o ≤ part.o
+  pub last : part.o + part.l ≤ o + l
+  pub zeros : take_of c (part.o - o) part.l ≡ 0
+
+-- a part from bit p on has word j of a field of data type s, and meets the range in [a:b], b being at least 1
+pub record Meets (types : List DataDecl) (leaf : Leaf) (f : FlatWord) (o l s j p a b : ℕ) : Type 0 where
+  pub number : ℕ
+  pub part : Part
+  pub is_part : slice_get f.parts number ≡ Some part
+  pub from : part.o ≡ p
+  pub open_number : ℕ
+  pub place : Open
+  pub is_open : slice_get (open_positions types leaf.prov) open_number ≡ Some place
+  pub is_word : part.kind ≡ Word place.path j
+  pub is_type : place.ty ≡ Named s
+  pub first : a ≡ max o p
+  pub last : a + b ≡ min (o + l) (p + part.l)
+  pub some : 1 ≤ b
+
+-- a flat word of a leaf bars c on the range [o:l]: a finite derivation by three rules shows that it never has these bits
+pub data Bars (types : List DataDecl) (layouts : List Layout) : Leaf → FlatWord → ℕ → ℕ → ℕ → Type 0 where
+  differs : (leaf : Leaf) (f : FlatWord) (o l c : ℕ) → HasOtherBit f o l c → Bars types layouts leaf f o l c
+  null : (leaf : Leaf) (f : FlatWord) (o l c : ℕ) → HasNull f o l c → Bars types layouts leaf f o l c
+  -- type s has a leaf, and in each of its leaves root word j bars c's bits of [a:b] on the range [a - p:b]
+  within : (leaf : Leaf) (f : FlatWord) (o l c s j p a b : ℕ) → Meets types leaf f o l s j p a b
+      → (layout : Layout) → layout_of layouts s ≡ Some layout → 0 < length layout.leaves
+      → ((n : ℕ) (under : Leaf) → slice_get layout.leaves n ≡ Some under → (g : FlatWord) × (slice_get under.root j ≡ Some g))
+      → ((n : ℕ) (under : Leaf) (g : FlatWord) → slice_get layout.leaves n ≡ Some under → slice_get under.root j ≡ Some g
+      → Bars types layouts under g (a - p) b (take_of c (a - o) b))
+      → Bars types layouts leaf f o l c
+
+-- a location resolves in a leaf, and the word that it comes to bars c on its last range
+pub record Excludes (types : List DataDecl) (layouts : List Layout) (leaf : Leaf) (loc : Loc) (c : ℕ) : Type 0 where
+  pub reached : Reached
+  pub resolves : reached_at leaf loc ≡ Some reached
+  pub bars : Bars types layouts leaf reached.word reached.o reached.l c

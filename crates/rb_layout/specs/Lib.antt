@@ -1,0 +1,5 @@
+pub mod Positions
+pub mod Words
+pub mod Locations
+pub mod Excluded
+pub mod Splits

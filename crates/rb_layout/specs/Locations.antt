@@ -1,0 +1,108 @@
+-- Locations: the word that each comes to in a leaf, and which of its bits are known there.
+use Rattle.std.specs.Prelude.{ℕ, zero, suc, ◌+◌, ◌-◌, ◌*◌, ◌/◌, ◌==◌, ◌&&◌, leb, ltb, List, [], ◌∷◌, Option, Some, None, if◌then◌else◌}
+use Rattle.std.specs.Int.{bit_at}
+use Rattle.rb_core.specs.declared.layout_decl.Loc.{Loc}
+use Rattle.rb_core.specs.declared.layout_decl.Step.{Step}
+use Rattle.rb_layout.specs.declared.layout.Leaf.{Leaf}
+use Rattle.rb_layout.specs.declared.layout.FlatWord.{FlatWord}
+use Rattle.rb_layout.specs.declared.layout.Part.{Part}
+use Rattle.rb_layout.specs.declared.layout.Kind.{Kind}
+use Rattle.rb_layout.specs.declared.layout.Kind.TheVariants.{Const, Bits, Word, Pointer}
+use Rattle.rb_layout.specs.declared.layout.WordRef.{WordRef}
+use Rattle.rb_layout.specs.Words.{words_in, flat_at}
+
+-- the flat word that a location comes to, and the range in it
+pub record Reached : Type 0 where
+  pub ref : WordRef
+  pub word : FlatWord
+  pub o : ℕ
+  pub l : ℕ
+
+abbrev pub or_else : {A : Type 0} → Option A → Option A → Option A
+or_else None b = b
+or_else (Some a) b = Some a
+
+-- the block of a pointer of this alignment
+abbrev pub pointed_by : Kind → ℕ → Option ℕ
+pointed_by (Const c) align = None
+pointed_by (Bits path a) align = None
+pointed_by (Word path j) align = None
+pointed_by (Pointer own b) align = if own == align then Some b else None
+
+abbrev pub pointed_in : Part → ℕ → ℕ → ℕ → Option ℕ
+pointed_in p o l align = if (p.o == o) && (p.l == l) then pointed_by p.kind align else None
+
+-- the block of the pointer part of exactly this range and alignment
+abbrev pub block_in : List Part → ℕ → ℕ → ℕ → Option ℕ
+block_in [] o l align = None
+block_in (p ∷ ps) o l align = or_else (pointed_in p o l align) (block_in ps o l align)
+
+abbrev pub block_at : Option FlatWord → ℕ → ℕ → ℕ → Option ℕ
+block_at None o l align = None
+block_at (Some f) o l align = block_in f.parts o l align
+
+-- the word of this width that begins at a byte, the first of the words being word j and beginning at `start`
+abbrev pub word_beginning : List FlatWord → ℕ → ℕ → ℕ → ℕ → Option ℕ
+word_beginning [] start byte width j = None
+word_beginning (f ∷ fs) start byte width j =
+    if (start == byte) && (f.width == width) then Some j else word_beginning fs (start + f.width / 8) byte width (j + 1)
+
+abbrev pub ref_in : ℕ → Option ℕ → Option WordRef
+ref_in b None = None
+ref_in b (Some j) = Some (record { block = Some b; word = j })
+
+abbrev pub next_ref : Leaf → Option ℕ → Step → Option WordRef
+next_ref leaf None s = None
+next_ref leaf (Some b) s = ref_in b (word_beginning (words_in leaf (Some b)) 0 s.byte s.width 0)
+
+-- the range has a bit and lies in the word
+abbrev pub range_in : Option FlatWord → WordRef → ℕ → ℕ → Option Reached
+range_in None r o l = None
+range_in (Some f) r o l = if leb 1 l && leb (o + l) f.width then Some (record { ref = r; word = f; o = o; l = l }) else None
+
+-- each step goes from a pointer part of exactly the range and the alignment to a word of its block
+abbrev pub resolve_from : Leaf → Option WordRef → ℕ → ℕ → List Step → Option Reached
+resolve_from leaf None o l steps = None
+resolve_from leaf (Some r) o l [] = range_in (flat_at leaf r) r o l
+resolve_from leaf (Some r) o l (s ∷ steps) = resolve_from leaf (next_ref leaf (block_at (flat_at leaf r) o l s.align) s) s.o s.l steps
+
+-- from a root word on
+abbrev pub reached_at : Leaf → Loc → Option Reached
+reached_at leaf loc = resolve_from leaf (Some (record { block = None; word = loc.word })) loc.o loc.l loc.steps
+
+abbrev pub ref_of : Option Reached → Option WordRef
+ref_of None = None
+ref_of (Some x) = Some x.ref
+
+-- the bit of a constant
+abbrev pub bit_of_kind : Kind → ℕ → Option ℕ
+bit_of_kind (Const c) i = Some (bit_at c i)
+bit_of_kind (Bits path a) i = None
+bit_of_kind (Word path j) i = None
+bit_of_kind (Pointer align b) i = None
+
+abbrev pub bit_of_part : Part → ℕ → Option ℕ
+bit_of_part p i = if leb p.o i && ltb i (p.o + p.l) then bit_of_kind p.kind (i - p.o) else None
+
+-- what bit i of a word is by a constant part
+abbrev pub constant_bit : List Part → ℕ → Option ℕ
+constant_bit [] i = None
+constant_bit (p ∷ ps) i = or_else (bit_of_part p i) (constant_bit ps i)
+
+abbrev pub with_bit : Option ℕ → Option ℕ → Option ℕ
+with_bit None rest = None
+with_bit (Some b) None = None
+with_bit (Some b) (Some r) = Some (b + 2 * r)
+
+-- the number of l bits from bit o on, where all are constant
+abbrev pub constant_bits : List Part → ℕ → ℕ → Option ℕ
+constant_bits ps o zero = Some 0
+constant_bits ps o (suc l) = with_bit (constant_bit ps o) (constant_bits ps (o + 1) l)
+
+abbrev pub known_in : Option Reached → Option ℕ
+known_in None = None
+known_in (Some x) = constant_bits x.word.parts x.o x.l
+
+-- a location resolves and all its bits are constant: their number
+abbrev pub known : Leaf → Loc → Option ℕ
+known leaf loc = known_in (reached_at leaf loc)

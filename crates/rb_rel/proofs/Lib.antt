@@ -1,0 +1,4 @@
+pub mod Bits
+pub mod Growth
+pub mod Reading
+pub mod Represented

@@ -1,0 +1,56 @@
+-- What is read at a location of words, and the leaf to which splits lead.
+use Rattle.std.specs.Prelude.{ℕ, ◌*◌, nat_eq, List, [], ◌∷◌, Option, Some, None, Result, Ok, Err, slice_get, if◌then◌else◌}
+use Rattle.rb_core.specs.declared.layout_decl.Loc.{Loc}
+use Rattle.rb_core.specs.declared.layout_decl.Step.{Step}
+use Rattle.rb_bits.specs.Words.{take_of}
+use Rattle.rb_bytes.specs.Memory.{Memory, load_of}
+use Rattle.rb_bytes.specs.declared.fault.Trap.{Trap}
+use Rattle.rb_layout.specs.declared.layout.FlatTree.{FlatTree}
+use Rattle.rb_layout.specs.declared.layout.FlatTree.TheOpen as T
+use Rattle.rb_layout.specs.declared.layout.FlatTree.TheOpen.{FlatTree-F}
+use Rattle.rb_layout.specs.declared.layout.FlatTree.TheFolds.{fold-FlatTree}
+use Rattle.rb_layout.specs.declared.layout.FlatArm.{FlatArm-F}
+
+abbrev pub after : Result ℕ Trap → (ℕ → Option ℕ) → Option ℕ
+after (Ok w) go = go w
+after (Err t) go = None
+
+-- from a word on: each step loads from the block at the part's address
+abbrev pub read_from : Memory → ℕ → ℕ → ℕ → List Step → Option ℕ
+read_from m w o l [] = Some (take_of w o l)
+read_from m w o l (s ∷ steps) =
+    after (load_of m (take_of w o l * s.align) s.byte s.width) (λ x. read_from m x s.o s.l steps)
+
+abbrev pub read_first : Memory → Option ℕ → Loc → Option ℕ
+read_first m None loc = None
+read_first m (Some w) loc = read_from m w loc.o loc.l loc.steps
+
+-- the number at a location, or None where there is no such word or a load goes astray
+abbrev pub read_loc : List ℕ → Memory → Loc → Option ℕ
+read_loc ws m loc = read_first m (slice_get ws loc.word) loc
+
+abbrev pub Walk : Type 0
+Walk = List ℕ → Memory → Option ℕ
+
+abbrev pub walk_else : Option Walk → Walk
+walk_else None ws m = None
+walk_else (Some go) ws m = go ws m
+
+abbrev pub walk_arms : List (ℕ × Walk) → Option Walk → ℕ → Walk
+walk_arms [] other n ws m = walk_else other ws m
+walk_arms (a ∷ arms) other n ws m = if nat_eq a.0 n then a.1 ws m else walk_arms arms other n ws m
+
+abbrev pub walk_at : Option ℕ → List (ℕ × Walk) → Option Walk → Walk
+walk_at None arms other ws m = None
+walk_at (Some n) arms other ws m = walk_arms arms other n ws m
+
+abbrev pub walk_step : FlatTree-F Walk (ℕ × Walk) → Walk
+walk_step (T.Split loc arms other) ws m = walk_at (read_loc ws m loc) arms other ws m
+walk_step (T.Leaf n) ws m = Some n
+
+abbrev pub walk_arm : FlatArm-F Walk (ℕ × Walk) → ℕ × Walk
+walk_arm a = (a.literal, a.under)
+
+-- the leaf to which the splits lead, read on words
+abbrev pub walk : FlatTree → Walk
+walk = fold-FlatTree Walk (ℕ × Walk) walk_step walk_arm
