@@ -11,6 +11,7 @@ pub mod Leading
 pub mod Leaves
 pub mod Lists
 pub mod Opens
+pub mod Packing
 pub mod Provenances
 pub mod Reaching
 pub mod Reading
