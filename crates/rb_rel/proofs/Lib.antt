@@ -5,6 +5,7 @@ pub mod Declared
 pub mod Flattened
 pub mod Growth
 pub mod Holding
+pub mod Images
 pub mod Known
 pub mod Lawful
 pub mod Leading
