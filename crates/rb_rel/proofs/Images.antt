@@ -1,6 +1,6 @@
 -- A clean placing of a leaf, checked by computation.
 use Rattle.std.proofs.Common.{◌≡◌, ℕ, zero, suc, ◌+◌, ◌*◌, ◌/◌, ◌^◌, ◌<◌, ◌≤◌, ◌&&◌, ◌⊎◌, inl, inr, length, List, [], ◌∷◌, Bool, true, false, Option, Some, None, Result, Ok, Err, refl, sym, subst, ap, ◌∙◌, arith}
-use Rattle.std.specs.Prelude.{slice_get, leb, ltb, nat_eq, if◌then◌else◌}
+use Rattle.std.specs.Prelude.{slice_get, leb, ltb, nat_eq}
 use Rattle.std.proofs.lemmas.Option.{same_Some}
 use Rattle.std.proofs.lemmas.Grind.{common_steps}
 use Rattle.rb_bits.specs.Words.{AreDisjoint}
@@ -16,7 +16,7 @@ use Rattle.rb_layout.specs.declared.layout.WordRef.{WordRef}
 use Rattle.rb_layout.specs.Words.{words_in, words_of_block, flat_at, begins_at, size_of}
 use Rattle.rb_rel.specs.Relation.{IsFound, WordHolds, Placed}
 use Rattle.rb_rel.proofs.Lists.{both}
-use Rattle.rb_rel.proofs.Packing.{number_of, packed, IsTidy, CanHold, packed_holds}
+use Rattle.rb_rel.proofs.Packing.{number_of, packed, packed_holds}
 use Rattle.rb_rel.proofs.Reading.{leb_is}
 use Rattle.rb_rel.proofs.Known.{ltb_is}
 

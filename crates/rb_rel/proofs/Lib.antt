@@ -2,6 +2,7 @@ pub mod Agreeing
 pub mod Barred
 pub mod Bits
 pub mod Declared
+pub mod Examples
 pub mod Flattened
 pub mod Growth
 pub mod Holding
