@@ -18,6 +18,7 @@ pub mod Provenances
 pub mod Reaching
 pub mod Reading
 pub mod Represented
+pub mod Storing
 pub mod Trees
 pub mod Typing
 pub mod Unique
