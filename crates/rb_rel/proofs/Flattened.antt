@@ -143,13 +143,13 @@ pointed_well align n laid w =
     same_target a b c d e = cc
 
 module _ (decls : List LayoutDecl) (opens : List Open) where
-  abbrev kind_laid : PartKind → Laying (List Kind)
+  abbrev pub kind_laid : PartKind → Laying (List Kind)
   kind_laid = fold-PartKind (Laying (List FlatWord)) (Laying (List Kind)) (Laying (List Part)) (item_step decls opens) (kind_step opens) part_step
 
-  abbrev part_laid : PartDecl → Laying (List Part)
+  abbrev pub part_laid : PartDecl → Laying (List Part)
   part_laid = fold-PartDecl (Laying (List FlatWord)) (Laying (List Kind)) (Laying (List Part)) (item_step decls opens) (kind_step opens) part_step
 
-  part_fold : (p : PartDecl) → part_laid p ≡ part_step (record { o = p.o; l = p.l; kind = kind_laid p.kind })
+  pub part_fold : (p : PartDecl) → part_laid p ≡ part_step (record { o = p.o; l = p.l; kind = kind_laid p.kind })
   unfolding denote.Hole.Carrier.roll
   part_fold p = fold-roll-PartDecl (Laying (List FlatWord)) (Laying (List Kind)) (Laying (List Part)) (item_step decls opens) (kind_step opens) part_step (record { o = p.o; l = p.l; kind = p.kind })
 

@@ -3,6 +3,7 @@ pub mod Barred
 pub mod Bits
 pub mod Declared
 pub mod Examples
+pub mod Fitting
 pub mod Flattened
 pub mod Growth
 pub mod Holding
