@@ -30,9 +30,9 @@ abbrev pub IsOutside : Option ℕ → ℕ → Type 0
 IsOutside None b = Unit {0}
 IsOutside (Some a) b = b < a
 
--- each pointer has its block, and each block a pointer outside it
+-- each pointer has its block, of its alignment, and each block a pointer outside it
 pub record IsFlat (leaf : Leaf) : Type 0 where
-  pub exists : (r : WordRef) (l align b : ℕ) → PointsTo leaf r l align b → (block : Block) × (slice_get leaf.blocks b ≡ Some block)
+  pub exists : (r : WordRef) (l align b : ℕ) → PointsTo leaf r l align b → (block : Block) × (slice_get leaf.blocks b ≡ Some block) × (block.align ≡ align)
   pub pointed : (b : ℕ) (block : Block) → slice_get leaf.blocks b ≡ Some block
       → (r : WordRef) × (l : ℕ) × (align : ℕ) × PointsTo leaf r l align b × IsOutside r.block b
 
