@@ -31,13 +31,13 @@ use Rattle.rb_rel.proofs.Reaching.{all_reached}
 
 module _ (p : Program) (agrees : Agrees p) where
   -- a flat leaf with the leaf as it is written
-  record FromWritten (t : ℕ) (layout : Layout) (n : ℕ) (leaf : Leaf) : Type 0 where
-    decl : Declared p t layout
-    written : WrittenLeaf
-    is_written : slice_get (leaves decl.decl.tree) n ≡ Some written
-    is_leaf : leaf ≡ flat_leaf p.types p.layouts written
+  pub record FromWritten (t : ℕ) (layout : Layout) (n : ℕ) (leaf : Leaf) : Type 0 where
+    pub decl : Declared p t layout
+    pub written : WrittenLeaf
+    pub is_written : slice_get (leaves decl.decl.tree) n ≡ Some written
+    pub is_leaf : leaf ≡ flat_leaf p.types p.layouts written
 
-  from_written : (t : ℕ) (layout : Layout) (n : ℕ) (leaf : Leaf) → layout_of (flat_layouts p) t ≡ Some layout → slice_get layout.leaves n ≡ Some leaf → FromWritten t layout n leaf
+  pub from_written : (t : ℕ) (layout : Layout) (n : ℕ) (leaf : Leaf) → layout_of (flat_layouts p) t ≡ Some layout → slice_get layout.leaves n ≡ Some leaf → FromWritten t layout n leaf
   from_written t layout n leaf is at =
       let d = declared p agrees.a1 t layout is in
       let g = get-map (flat_leaf p.types p.layouts) (leaves d.decl.tree) n leaf (ap (λ (l : Layout). slice_get l.leaves n) (sym d.is_flat) ∙ at) in

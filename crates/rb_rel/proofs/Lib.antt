@@ -3,6 +3,7 @@ pub mod Barred
 pub mod Bits
 pub mod Declared
 pub mod Examples
+pub mod Existence
 pub mod Fitting
 pub mod Flattened
 pub mod Growth
@@ -10,6 +11,7 @@ pub mod Holding
 pub mod Images
 pub mod Known
 pub mod Lawful
+pub mod Layers
 pub mod Leading
 pub mod Leaves
 pub mod Lists
