@@ -1,21 +1,20 @@
 -- A value whose subvalues at the open positions of its leaf are represented cleanly has a clean
 -- representation, in a memory with its own blocks more.
-use Rattle.std.proofs.Common.{◌≡◌, ℕ, zero, suc, ◌+◌, ◌-◌, ◌*◌, ◌/◌, ◌^◌, ◌<◌, ◌≤◌, ◌⊎◌, inl, inr, length, map, List, [], ◌∷◌, Bool, true, false, Option, Some, None, Ok, refl, sym, subst, ap, ◌∙◌, arith}
+use Rattle.std.proofs.Common.{◌≡◌, ℕ, zero, suc, ◌+◌, ◌-◌, ◌*◌, ◌/◌, ◌^◌, ◌<◌, ◌≤◌, inl, inr, length, map, List, [], ◌∷◌, Bool, true, false, Option, Some, None, Ok, refl, sym, subst, ap, ◌∙◌, arith}
 use Rattle.std.specs.Prelude.{slice_get, slice_index, if◌then◌else◌}
-use Rattle.std.proofs.lemmas.Option.{same_Some, get_or_from_slice_get, slice_get_within}
+use Rattle.std.proofs.lemmas.Option.{same_Some, get_or_from_slice_get}
 use Rattle.std.proofs.lemmas.List.{length-map}
 use Rattle.std.proofs.lemmas.Nat.{pow-add, pow_pos}
 use Rattle.std.proofs.Math.Pow.{shr_lt}
 use Rattle.std.proofs.Math.Nat.{mul-div_cancel}
 use Rattle.rb_core.specs.declared.value.Value.{Value}
 use Rattle.rb_core.specs.declared.types.Ty.{Ty}
-use Rattle.rb_core.specs.declared.types.Ty.TheVariants.{Int, Named}
+use Rattle.rb_core.specs.declared.types.Ty.TheVariants.{Named}
 use Rattle.rb_core.specs.declared.program.Program.{Program}
 use Rattle.rb_core.specs.TypedPrograms.{IsTyped}
 use Rattle.rb_core.specs.Values.{part_at}
 use Rattle.rb_bits.proofs.WordLemmas.{take_fits}
 use Rattle.rb_bytes.specs.Memory.{Memory, IsGood, size_at, load_of, aligned}
-use Rattle.rb_bytes.specs.Growth.{Grown}
 use Rattle.rb_bytes.proofs.GrowthLemmas.{Grown-extends}
 use Rattle.rb_layout.specs.declared.layout.Leaf.{Leaf}
 use Rattle.rb_layout.specs.declared.layout.Block.{Block}
@@ -32,19 +31,19 @@ use Rattle.rb_layout.specs.Flattening.{type_at, same_path, shape_of, shape_in, f
 use Rattle.rb_layout.specs.Items.{item_lists, items_in, leaves_in, items_of}
 use Rattle.rb_layout.specs.Pointers.{PointsTo}
 use Rattle.rb_layout.specs.Positions.{Open, open_positions, leaf_of, layout_of}
-use Rattle.rb_layout.specs.Words.{words_in, words_of_block, flat_at, begins_at, size_of, bytes_in}
-use Rattle.rb_rel.specs.Placing.{Laid, Fits, Request, request_of, lay}
-use Rattle.rb_rel.specs.Relation.{IsFound, WordHolds, Placed, Represents, built, number}
-use Rattle.rb_rel.proofs.Lawful.{Lawful, IsFlat}
-use Rattle.rb_rel.proofs.Agreeing.{FromWritten, from_written, lawful}
-use Rattle.rb_rel.proofs.Declared.{Declared, declared}
+use Rattle.rb_layout.specs.Words.{words_in, words_of_block, flat_at, begins_at, bytes_in}
+use Rattle.rb_rel.specs.Placing.{Fits, Request, request_of, lay}
+use Rattle.rb_rel.specs.Relation.{IsFound, WordHolds, Placed, Represents, built}
+use Rattle.rb_rel.proofs.Lawful.{IsFlat}
+use Rattle.rb_rel.proofs.Agreeing.{from_written, lawful}
+use Rattle.rb_rel.proofs.Declared.{declared}
 use Rattle.rb_rel.proofs.Fitting.{KindFits, WordFits, AllFit, BlocksFit, Demands, leaf_fits}
 use Rattle.rb_rel.proofs.Growth.{Represents-kept}
 use Rattle.rb_rel.proofs.Holding.{path_is}
 use Rattle.rb_rel.proofs.Lists.{get-map, get-mapped}
 use Rattle.rb_rel.proofs.Packing.{number_of, packed, CanHold, packed_holds}
 use Rattle.rb_rel.proofs.Represented.{opened}
-use Rattle.rb_rel.proofs.Storing.{IsBlock, Stored, AllStored, all_stored, laid_more}
+use Rattle.rb_rel.proofs.Storing.{IsBlock, AllStored, all_stored, laid_more}
 
 -- the address of each block
 abbrev pub address_at : List (ℕ × ℕ) → ℕ → ℕ

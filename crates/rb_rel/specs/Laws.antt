@@ -8,7 +8,10 @@ use Rattle.rb_layout.specs.Locations.{Reached, reached_at}
 use Rattle.rb_bytes.specs.Memory.{Memory, IsGood}
 use Rattle.rb_bytes.specs.Laws.{Extends}
 use Rattle.rb_layout.specs.declared.layout.Layout.{Layout}
-use Rattle.rb_rel.specs.Relation.{Made, Represents}
+use Rattle.rb_rel.specs.Relation.{IsCleanlyRepresented, Made, Represents}
+use Rattle.rb_rel.specs.Answers.{making_of}
+use Rattle.rb_rel.specs.Placing.{Fits, lay, requests_of}
+use Rattle.rb_bytes.specs.Growth.{Grown}
 use Rattle.rb_rel.specs.Reading.{IsRead, read_loc, walk}
 use Rattle.rb_core.specs.declared.program.Program.{Program}
 use Rattle.rb_core.specs.TypedPrograms.{IsTyped}
@@ -46,3 +49,10 @@ WordsAreOneValue = (p : Program) → IsTyped p → Agrees p → (m : Memory) (cl
 abbrev pub RepresentedAreTyped : Type 0
 RepresentedAreTyped = (p : Program) → IsTyped p → Agrees p → (m : Memory) (clean : Bool)
     → (ty : Ty) (v : Value) (ws : List ℕ) → Represents p.types (flat_layouts p) m clean ty v ws → is_of_type p.types v ty ≡ true
+
+-- A value whose blocks fit has a clean representation. It stands in a memory that has grown by exactly
+-- the blocks that the constructions of the value ask for, where they are laid, and by nothing else.
+abbrev pub ValuesHaveWords : Type 0
+ValuesHaveWords = (p : Program) → IsTyped p → Agrees p → (m : Memory) → IsGood m → (ty : Ty) (v : Value) → is_of_type p.types v ty ≡ true
+    → (blocks : List (ℕ × ℕ)) (next : ℕ) → lay m.limit m.next (requests_of (flat_layouts p) (making_of p.types v ty)) ≡ Fits blocks next
+    → (new : Memory) × (ws : List ℕ) × Grown m new blocks next × IsCleanlyRepresented p.types (flat_layouts p) new ty v ws

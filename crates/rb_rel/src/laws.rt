@@ -1,7 +1,7 @@
 //! The laws of representation, each the contract of a function that does nothing.
 
 ghost use Rattle.rb_rel.specs.Laws.{
-    GrowthKeeps, ReadingGivesBits, RepresentedAreTyped, SplitsLead, WordsAreOneValue
+    GrowthKeeps, ReadingGivesBits, RepresentedAreTyped, SplitsLead, ValuesHaveWords, WordsAreOneValue
 };
 
 /// What represents a value still does after blocks were placed and words stored in them.
@@ -28,4 +28,10 @@ pub fn words_are_one_value()
 /// What words represent at a type is of that type.
 pub fn represented_values_are_typed()
     ensures { RepresentedAreTyped }
+{}
+
+/// Every value whose blocks fit has a clean representation, in a memory that has grown by exactly the
+/// blocks that its constructions ask for.
+pub fn values_have_words()
+    ensures { ValuesHaveWords }
 {}
