@@ -1,6 +1,6 @@
 -- Evidence that fails a rule at a place never stands beside the rule holding there.
-use Rattle.std.proofs.Common.{◌≡◌, ℕ, ◌<◌, inl, inr, List, [], ◌∷◌, Option, Some, None, refl, sym, ap, subst, ◌∙◌, arith}
-use Rattle.std.specs.Prelude.{◌≤◌, ◌^◌, ◌⊎◌, slice_get, length, map}
+use Rattle.std.proofs.Common.{◌≡◌, ℕ, ◌<◌, inl, inr, List, [], ◌∷◌, Option, Some, None, sym, ap, subst, ◌∙◌, arith}
+use Rattle.std.specs.Prelude.{◌^◌, ◌⊎◌, slice_get, length}
 use Rattle.std.proofs.lemmas.Bool.{cases_order}
 use Rattle.std.proofs.lemmas.List.{length-map}
 use Rattle.std.proofs.lemmas.Option.{same_Some}
@@ -19,13 +19,13 @@ use Rattle.rb_layout.specs.Items.{Content, WrittenPart, Item, AWord, AField}
 use Rattle.rb_layout.specs.Splits.{Test, Is, IsNone}
 use Rattle.rb_layout.specs.Cycles.{HasNoCycle, IsCycle, IsCycleFrom}
 use Rattle.rb_layout.specs.A1.{HasShape, FailsShape}
-use Rattle.rb_layout.specs.A2.{HasRoot, FailsRoot, widths_of}
+use Rattle.rb_layout.specs.A2.{HasRoot, FailsRoot}
 use Rattle.rb_layout.specs.A3.{ItemFits, FailsItem, PartsFit, FailsParts, Fits, LiesIn, PartAt, Overlaps, IsIn}
 use Rattle.rb_layout.specs.A4.{HasBlocks, FailsBlocks, IsBlockLength, IsBlockWidth}
 use Rattle.rb_layout.specs.A5.{IsComplete, FailsComplete, IsApart, FailsApart}
 use Rattle.rb_layout.specs.A6.{HoldsOnce, FailsHeld, held}
 use Rattle.rb_layout.specs.A7.{Meets, FailsTest, MeetsAll, FailsTests}
-use Rattle.rb_layout.specs.A8.{AllSplitWell, FailsSplits, HasArm, length_of}
+use Rattle.rb_layout.specs.A8.{AllSplitWell, FailsSplits, length_of}
 use Rattle.rb_layout.specs.A9.{FlattensNoPointer, FailsNoPointer, FailsFlattening, Flattens}
 use Rattle.rb_layout.specs.A10.{HoldsField, FailsHolding}
 use Rattle.rb_layout.specs.Spots.{Spot, Shape, Root, Parts, Complete, Apart, Held, Tests, Splits, Flattening, NoPointer, Holding, Holds, Fails, Checked}

@@ -1,5 +1,5 @@
 -- Flat trees: the equations of folds, and a plain induction.
-use Rattle.std.proofs.Common.{◌≡◌, ℕ, List, [], ◌∷◌, Option, map, Some, None, subst}
+use Rattle.std.proofs.Common.{◌≡◌, ℕ, List, [], ◌∷◌, map, Some, None, subst}
 use denote.Hole.Holds.{Such}
 use Rattle.rb_core.specs.declared.layout_decl.Loc.{Loc}
 use Rattle.rb_layout.specs.declared.layout.FlatArm.{FlatArm, FlatArm-F}

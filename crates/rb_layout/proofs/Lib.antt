@@ -1,3 +1,10 @@
 pub mod Disjoint
 pub mod FlatForms
 pub mod WrittenForms
+pub mod Walks
+pub mod LayingLemmas
+pub mod TreeLemmas
+pub mod LayoutLists
+pub mod Computing
+pub mod Blocks
+pub mod FlatLaws

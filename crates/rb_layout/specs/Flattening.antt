@@ -1,5 +1,5 @@
 -- The flat form of layouts as they are written.
-use Rattle.std.specs.Prelude.{◌≡◌, ℕ, ◌<◌, ◌+◌, ◌==◌, ◌&&◌, List, [], ◌∷◌, ◌++◌, map, length, sum_by, Bool, true, false, Option, Some, None, if◌then◌else◌}
+use Rattle.std.specs.Prelude.{◌≡◌, ℕ, ◌<◌, ◌+◌, ◌==◌, ◌&&◌, List, [], ◌∷◌, ◌++◌, map, length, slice_get, sum_by, Bool, true, false, Option, Some, None, if◌then◌else◌}
 use Rattle.rb_core.specs.declared.types.Ty.{Ty}
 use Rattle.rb_core.specs.declared.types.Ty.TheVariants.{Int, Named}
 use Rattle.rb_core.specs.declared.types.DataDecl.{DataDecl}
@@ -7,12 +7,14 @@ use Rattle.rb_core.specs.declared.program.Program.{Program}
 use Rattle.rb_core.specs.declared.layout_decl.LayItem.{LayItem}
 use Rattle.rb_core.specs.declared.layout_decl.LayItem.TheOpen as I
 use Rattle.rb_core.specs.declared.layout_decl.LayItem.TheOpen.{LayItem-F, PartKind-F, PartDecl-F}
-use Rattle.rb_core.specs.declared.layout_decl.LayItem.TheFolds.{fold-LayItem}
-use Rattle.rb_core.specs.declared.layout_decl.Arm.{Arm-F}
+use Rattle.rb_core.specs.declared.layout_decl.LayItem.TheFolds.{fold-LayItem, fold-PartKind, fold-PartDecl}
+use Rattle.rb_core.specs.declared.layout_decl.PartKind.{PartKind}
+use Rattle.rb_core.specs.declared.layout_decl.PartDecl.{PartDecl}
+use Rattle.rb_core.specs.declared.layout_decl.Arm.{Arm, Arm-F}
 use Rattle.rb_core.specs.declared.layout_decl.LayTree.{LayTree}
 use Rattle.rb_core.specs.declared.layout_decl.LayTree.TheOpen as T
 use Rattle.rb_core.specs.declared.layout_decl.LayTree.TheOpen.{LayTree-F}
-use Rattle.rb_core.specs.declared.layout_decl.LayTree.TheFolds.{fold-LayTree}
+use Rattle.rb_core.specs.declared.layout_decl.LayTree.TheFolds.{fold-LayTree, fold-Arm}
 use Rattle.rb_core.specs.declared.layout_decl.LayoutDecl.{LayoutDecl}
 use Rattle.rb_core.specs.Layouts.{WrittenLeaf, leaves}
 use Rattle.rb_layout.specs.declared.layout.Layout.{Layout}
@@ -75,33 +77,37 @@ in_turn (lay ∷ lays) n =
     record { it = first.it ++ rest.it; blocks = first.blocks ++ rest.blocks }
 
 -- what a part holds, if anything: a path to no open position places nothing
-abbrev pub whole_kind : Option Ty → List ℕ → List Kind
-whole_kind None path = []
-whole_kind (Some (Int bits)) path = Bits path 0 ∷ []
-whole_kind (Some (Named s)) path = Word path 0 ∷ []
+abbrev pub whole_kind : Option Ty → List ℕ → Option Kind
+whole_kind None path = None
+whole_kind (Some (Int bits)) path = Some (Bits path 0)
+whole_kind (Some (Named s)) path = Some (Word path 0)
 
-abbrev pub kind_if_open : Option Ty → Kind → List Kind
-kind_if_open None kind = []
-kind_if_open (Some ty) kind = kind ∷ []
+abbrev pub kind_if_open : Option Ty → Kind → Option Kind
+kind_if_open None kind = None
+kind_if_open (Some ty) kind = Some kind
 
 -- a pointer's block comes after the blocks inside it
-abbrev pub pointed : ℕ → ℕ → Laid (List FlatWord) → Laid (List Kind)
+abbrev pub pointed : ℕ → ℕ → Laid (List FlatWord) → Laid (Option Kind)
 pointed align n laid = record {
-  it = Pointer align (n + length laid.blocks) ∷ [];
+  it = Some (Pointer align (n + length laid.blocks));
   blocks = laid.blocks ++ record { align = align; words = laid.it } ∷ [];
 }
 
-abbrev pub kind_step : List Open → PartKind-F (Laying (List FlatWord)) (Laying (List Kind)) (Laying (List Part)) → Laying (List Kind)
-kind_step opens (I.Const c) n = without_blocks (Const c ∷ [])
+abbrev pub kind_step : List Open → PartKind-F (Laying (List FlatWord)) (Laying (Option Kind)) (Laying (List Part)) → Laying (Option Kind)
+kind_step opens (I.Const c) n = without_blocks (Some (Const c))
 kind_step opens (I.Whole path) n = without_blocks (whole_kind (type_at opens path) path)
 kind_step opens (I.Slice path a k) n = without_blocks (kind_if_open (type_at opens path) (Bits path a))
 kind_step opens (I.PartKind::Word path j) n = without_blocks (kind_if_open (type_at opens path) (Word path j))
 kind_step opens (I.Pointer align items) n = pointed align n (in_turn items n)
 
-abbrev pub part_step : PartDecl-F (Laying (List FlatWord)) (Laying (List Kind)) (Laying (List Part)) → Laying (List Part)
+abbrev pub parts_of : ℕ → ℕ → Option Kind → List Part
+parts_of o l None = []
+parts_of o l (Some kind) = record { o = o; l = l; kind = kind } ∷ []
+
+abbrev pub part_step : PartDecl-F (Laying (List FlatWord)) (Laying (Option Kind)) (Laying (List Part)) → Laying (List Part)
 part_step p n =
     let laid = p.kind n in
-    record { it = map (λ kind. record { o = p.o; l = p.l; kind = kind }) laid.it; blocks = laid.blocks }
+    record { it = parts_of p.o p.l laid.it; blocks = laid.blocks }
 
 -- a word of this width with one part of full width
 abbrev pub word_of : ℕ → Kind → FlatWord
@@ -117,7 +123,7 @@ inlined decls None path = []
 inlined decls (Some (Int bits)) path = word_of bits (Bits path 0) ∷ []
 inlined decls (Some (Named s)) path = words_of path 0 (shape_of decls s)
 
-abbrev pub item_step : List LayoutDecl → List Open → LayItem-F (Laying (List FlatWord)) (Laying (List Kind)) (Laying (List Part)) → Laying (List FlatWord)
+abbrev pub item_step : List LayoutDecl → List Open → LayItem-F (Laying (List FlatWord)) (Laying (Option Kind)) (Laying (List Part)) → Laying (List FlatWord)
 item_step decls opens (I.LayItem::Word width parts) n =
     let laid = in_turn parts n in
     record { it = record { width = width; parts = laid.it } ∷ []; blocks = laid.blocks }
@@ -126,7 +132,15 @@ item_step decls opens (I.Inline path) n = without_blocks (inlined decls (type_at
 -- the words of an item, and its blocks
 abbrev pub item_laid : List LayoutDecl → List Open → LayItem → Laying (List FlatWord)
 item_laid decls opens =
-    fold-LayItem (Laying (List FlatWord)) (Laying (List Kind)) (Laying (List Part)) (item_step decls opens) (kind_step opens) part_step
+    fold-LayItem (Laying (List FlatWord)) (Laying (Option Kind)) (Laying (List Part)) (item_step decls opens) (kind_step opens) part_step
+
+abbrev pub kind_laid : List LayoutDecl → List Open → PartKind → Laying (Option Kind)
+kind_laid decls opens =
+    fold-PartKind (Laying (List FlatWord)) (Laying (Option Kind)) (Laying (List Part)) (item_step decls opens) (kind_step opens) part_step
+
+abbrev pub part_laid : List LayoutDecl → List Open → PartDecl → Laying (List Part)
+part_laid decls opens =
+    fold-PartDecl (Laying (List FlatWord)) (Laying (Option Kind)) (Laying (List Part)) (item_step decls opens) (kind_step opens) part_step
 
 abbrev pub items_laid : List LayoutDecl → List Open → List LayItem → Laying (List FlatWord)
 items_laid decls opens items = in_turn (map (item_laid decls opens) items)
@@ -171,6 +185,9 @@ arm_step arm = record { literal = arm.literal; of = arm.under }
 abbrev pub numbering : LayTree → Numbering
 numbering = fold-LayTree Numbering (Under Numbering) tree_step arm_step
 
+abbrev pub arm_numbering : Arm → Under Numbering
+arm_numbering = fold-Arm Numbering (Under Numbering) tree_step arm_step
+
 -- leaves are numbered from left to right
 abbrev pub flat_tree : LayTree → FlatTree
 flat_tree tree = (numbering tree).from 0
@@ -194,10 +211,15 @@ abbrev pub flat_from : Program → List DataDecl → ℕ → List Layout
 flat_from p [] t = []
 flat_from p (d ∷ ds) t = flat_or_none p (decl_of p.layouts t) ++ flat_from p ds (t + 1)
 
--- the flat form of each type's layout, in the types' order
+-- the flat form of each type's layout, one for each type, in the types' order
 abbrev pub flat_layouts : Program → List Layout
 flat_layouts p = flat_from p p.types 0
 
 -- each type has a layout
 abbrev pub HaveLayouts : Program → Type 0
 HaveLayouts p = (t : ℕ) → t < length p.types → (d : LayoutDecl) × (decl_of p.layouts t ≡ Some d)
+
+-- one layout for each type, and each the flat form of its type's
+pub record AreInOrder (p : Program) (layouts : List Layout) : Type 0 where
+  pub count : length layouts ≡ length p.types
+  pub each : (t : ℕ) (d : LayoutDecl) → t < length p.types → decl_of p.layouts t ≡ Some d → slice_get layouts t ≡ Some (flat_layout p d)

@@ -155,3 +155,7 @@ IsRefusal r spot why = (record { rule = r.rule; ty = r.ty; leaf = r.leaf } ≡ p
 -- a program is refused at the first place that fails
 abbrev pub IsRefusedBy : Program → List Layout → Refused → Type 0
 IsRefusedBy p layouts r = (spot : Spot) × Checked p layouts (all_spots p layouts) (Some (spot, r.why)) × IsRefusal r spot r.why
+
+-- evidence that fails a rule at a place never stands beside the rule holding there
+abbrev pub NeverBeside : Type 0
+NeverBeside = (p : Program) (layouts : List Layout) (spot : Spot) (why : Why) → Holds p layouts spot → Fails p layouts spot why → ⊥

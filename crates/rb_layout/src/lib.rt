@@ -16,5 +16,15 @@
 //! numbers has each address when it is needed.
 #![tactic(auto)]
 
+pub mod agreed;
+mod decls;
 pub mod evidence;
+pub mod flat_layouts;
+mod flat_leaf;
+mod flat_tree;
+pub mod laws;
 pub mod layout;
+pub mod positions;
+
+pub use agreed::Agreed;
+pub use flat_layouts::flatten;

@@ -1,0 +1,73 @@
+//! Programs whose layouts agree with their types. The type keeps what is known, so that each crate
+//! above learns it from a getter's clause.
+
+ghost use Rattle.std.specs.Prelude.{◌≡◌};
+ghost use Rattle.rb_core.specs.Coverage.{IsCovered};
+ghost use Rattle.rb_core.specs.TypedPrograms.{IsTyped};
+ghost use Rattle.rb_layout.specs.Agreement.{Agrees};
+ghost use Rattle.rb_layout.specs.Flattening.{flat_layouts};
+
+use crate::layout::Layout;
+use rb_core::program::Note;
+use rb_core::seq::Seq;
+use rb_core::typed::Covered;
+use std::marker::Model;
+
+/// A covered program with the flat forms of its layouts.
+#[derive(Drop)]
+pub struct LaidOut {
+    pub covered: Covered,
+    pub layouts: Seq<Layout>,
+}
+
+/// A covered program whose layouts agree, with their flat forms.
+#[derive(Drop)]
+pub struct Agreed {
+    laid_out: LaidOut,
+}
+
+impl Model for Agreed {
+    ghost use Rattle.std.specs.Prelude.{◌≡◌};
+    ghost use Rattle.rb_layout.specs.declared.agreed.LaidOut.{LaidOut};
+    ghost use Rattle.rb_layout.specs.contracts.agreed.LaidOut as laid_out_row;
+    ghost use Rattle.rb_layout.specs.Agreement.{Agrees};
+    ghost use Rattle.rb_layout.specs.Flattening.{flat_layouts};
+
+    ghost Value = { LaidOut };
+
+    ghost coded = { laid_out_row.the_row.coded };
+
+    ghost view = { λ a. a.laid_out };
+
+    ghost invariant = { λ a. (a.laid_out.layouts ≡ flat_layouts a.laid_out.covered.program) × Agrees a.laid_out.covered.program };
+}
+
+impl Agreed {
+    /// The program with the flat forms of its layouts, which its caller knows to agree.
+    pub fn new(covered: Covered, layouts: Seq<Layout>) -> Agreed
+        requires flat { layouts ≡ flat_layouts covered.program }
+        requires agree { Agrees covered.program }
+        ensures { result ≡ record { covered = covered; layouts = layouts } }
+    {
+        Agreed {
+            laid_out: LaidOut { covered, layouts },
+        }
+    }
+
+    /// The covered program, and that its layouts agree.
+    pub fn covered(&self) -> &Covered
+        ensures same { result.now ≡ self.now.covered }
+        ensures agree { Agrees self.now.covered.program }
+    {
+        &self.laid_out.covered
+    }
+
+    /// The flat form of each type's layout, in the types' order.
+    pub fn layouts(&self) -> &[Layout]
+        ensures same { result.now ≡ self.now.layouts }
+        ensures flat { self.now.layouts ≡ flat_layouts self.now.covered.program }
+        ensures agree { Agrees self.now.covered.program }
+    {
+        self.laid_out.layouts.as_slice()
+    }
+}
