@@ -1,11 +1,8 @@
 -- Worked images, each computed: where the blocks of a value are placed, and that the root words and the
 -- blocks' bytes represent it cleanly.
-use Rattle.std.proofs.Common.{◌≡◌, ℕ, zero, suc, length, map, replicate, List, [], ◌∷◌, ◌++◌, true, Option, Some, None, refl, sym, ap, ◌∙◌, arith}
+use Rattle.std.proofs.Common.{◌≡◌, ℕ, zero, suc, length, replicate, List, [], ◌∷◌, ◌++◌, true, Option, Some, None, refl, sym, ap, ◌∙◌, arith}
 use Rattle.std.specs.Prelude.{slice_get}
 use Rattle.rb_core.specs.declared.value.Value.{Value, Num, Con}
-use Rattle.rb_core.specs.declared.value.Value as X
-use Rattle.rb_core.specs.declared.value.Value.TheOpen as V
-use Rattle.rb_core.specs.declared.value.Value.TheFolds.{para-roll-Value}
 use Rattle.rb_core.specs.declared.types.Ty.{Ty}
 use Rattle.rb_core.specs.declared.types.Ty.TheVariants.{Int, Named}
 use Rattle.rb_core.specs.declared.types.DataDecl.{DataDecl}
@@ -29,19 +26,10 @@ use Rattle.rb_layout.specs.Positions.{Open, open_positions, leaf_of, layout_of}
 use Rattle.rb_rel.specs.Relation.{Represents, number, built}
 use Rattle.rb_rel.specs.Placing.{Fits, Over, lay, requests_of}
 use Rattle.rb_rel.specs.Reading.{read_loc}
-use Rattle.rb_rel.specs.Answers.{Making, making_step, making_of, all_makings}
+use Rattle.rb_rel.specs.Answers.{making_of, all_makings}
+use Rattle.rb_rel.proofs.Makings.{making-Num, making-Con}
 use Rattle.rb_rel.proofs.Images.{AllOf, of_one, image_ok, image_is}
 use Rattle.rb_rel.proofs.Opens.{opens-Con, opens-Wild}
-
--- The equations by which examples compute
-module _ (types : List DataDecl) where
-  pub making-Num : (n : ℕ) (ty : Ty) → making_of types (Num n) ty ≡ []
-  unfolding X.roll-Value denote.Hole.Carrier.roll
-  making-Num n ty = ap (λ (f : Making). f ty) (para-roll-Value Making (making_step types) (V.Num n))
-
-  pub making-Con : (k : ℕ) (vs : List Value) (ty : Ty) → making_of types (Con k vs) ty ≡ making_step types (V.Con k (map (λ v. (v, making_of types v)) vs)) ty
-  unfolding X.roll-Value denote.Hole.Carrier.roll
-  making-Con k vs ty = ap (λ (f : Making). f ty) (para-roll-Value Making (making_step types) (V.Con k vs))
 
 abbrev address : List ℕ → ℕ → ℕ
 address [] b = 0

@@ -40,9 +40,9 @@ use Rattle.rb_rel.proofs.Agreeing.{lawful}
 use Rattle.rb_rel.proofs.Layers.{sound, stored, root_words, layer_shown}
 use Rattle.rb_layout.specs.Positions.{Open, root_type, below, opens_below, opens_of, opens_step, open_positions, types_or_none, leaf_from, leaf_of, layout_of}
 use Rattle.rb_rel.specs.Placing.{Fits, Over, Request, request_of, requests_of, requests_at, blocks_of, blocks_in, leaf_in, leaf_numbered, behind, lay}
-use Rattle.rb_rel.specs.Relation.{Represents, number}
-use Rattle.rb_rel.specs.Answers.{Making, making_of, in_turn}
-use Rattle.rb_rel.proofs.Examples.{making-Num, making-Con}
+use Rattle.rb_rel.specs.Relation.{Represent, Represents, number}
+use Rattle.rb_rel.specs.Answers.{Making, making_of, all_makings, in_turn}
+use Rattle.rb_rel.proofs.Makings.{making-Num, making-Con}
 use Rattle.rb_rel.proofs.Growth.{Represents-kept}
 use Rattle.rb_rel.proofs.Lawful.{fits_type, is_named}
 use Rattle.rb_rel.proofs.Lists.{both, get-append, get-map}
@@ -431,3 +431,24 @@ module _ (p : Program) (typed : IsTyped p) (agrees : Agrees p) where
       → lay m.limit m.next (requests_of layouts (making_of types v ty)) ≡ Fits bs next → (new : Memory) × (ws : List ℕ) × Grown m new bs next × Represents types layouts new true ty v ws
   represented ty v m good of_type bs next e =
       let r = encodes v ty m good of_type bs next e in (r.memory, r.words [], r.grown, r.shown [] ty v (refl, refl))
+
+  -- several values, one after the other
+  all_encode : (vs : List Value) → Each Encodes vs
+  all_encode [] = tt
+  all_encode (v ∷ vs) = (encodes v, all_encode vs)
+
+  all_shown : (vs : List Value) (ts : List Ty) (m : Memory) (fields : ℕ → List ℕ → List ℕ) → all_of_types (map (is_of_type types) vs) ts ≡ true → FieldsShown vs ts m fields
+      → (ws : List ℕ) × Represent types layouts m true ts vs ws
+  all_shown [] [] m fields of_types shown = ([], refl)
+  all_shown [] (t ∷ ts) m fields of_types shown = absurd cc
+  all_shown (v ∷ vs) [] m fields of_types shown = absurd cc
+  all_shown (v ∷ vs) (t ∷ ts) m fields of_types shown =
+      let b = both (is_of_type types v t) (all_of_types (map (is_of_type types) vs) ts) of_types in
+      let r = all_shown vs ts m (λ i path. fields (suc i) path) b.1 (λ i x y is_value is_type path s u h. shown (suc i) x y is_value is_type path s u h) in
+      (fields 0 [] ++ r.0, (fields 0 [], r.0, refl, shown 0 v t refl refl [] t v (refl, refl), r.1))
+
+  pub all_represented : (ts : List Ty) (vs : List Value) (m : Memory) → IsGood m → all_of_types (map (is_of_type types) vs) ts ≡ true → (bs : List (ℕ × ℕ)) (next : ℕ)
+      → lay m.limit m.next (requests_of layouts (all_makings types vs ts)) ≡ Fits bs next → (new : Memory) × (ws : List ℕ) × Grown m new bs next × Represent types layouts new true ts vs ws
+  all_represented ts vs m good of_types bs next e =
+      let r = fields_encode vs (all_encode vs) ts of_types m good bs next e in
+      let w = all_shown vs ts r.memory r.words of_types r.shown in (r.memory, w.0, r.grown, w.1)

@@ -15,6 +15,7 @@ pub mod Layers
 pub mod Leading
 pub mod Leaves
 pub mod Lists
+pub mod Makings
 pub mod Opens
 pub mod Packing
 pub mod Provenances

@@ -1,5 +1,5 @@
 -- The laws of representation. Those that rest on agreement are over all typed programs whose layouts agree with their types.
-use Rattle.std.specs.Prelude.{◌≡◌, ℕ, List, Bool, true, Some}
+use Rattle.std.specs.Prelude.{◌≡◌, ℕ, List, map, Bool, true, Some}
 use Rattle.rb_core.specs.declared.value.Value.{Value}
 use Rattle.rb_core.specs.declared.types.Ty.{Ty}
 use Rattle.rb_core.specs.declared.types.DataDecl.{DataDecl}
@@ -8,8 +8,8 @@ use Rattle.rb_layout.specs.Locations.{Reached, reached_at}
 use Rattle.rb_bytes.specs.Memory.{Memory, IsGood}
 use Rattle.rb_bytes.specs.Laws.{Extends}
 use Rattle.rb_layout.specs.declared.layout.Layout.{Layout}
-use Rattle.rb_rel.specs.Relation.{IsCleanlyRepresented, Made, Represents}
-use Rattle.rb_rel.specs.Answers.{making_of}
+use Rattle.rb_rel.specs.Relation.{IsCleanlyRepresented, Made, Represent, Represents}
+use Rattle.rb_rel.specs.Answers.{all_makings, making_of}
 use Rattle.rb_rel.specs.Placing.{Fits, lay, requests_of}
 use Rattle.rb_bytes.specs.Growth.{Grown}
 use Rattle.rb_rel.specs.Reading.{IsRead, read_loc, walk}
@@ -18,7 +18,7 @@ use Rattle.rb_core.specs.TypedPrograms.{IsTyped}
 use Rattle.rb_layout.specs.Agreement.{Agrees}
 use Rattle.rb_layout.specs.Flattening.{flat_layouts}
 use Rattle.rb_layout.specs.Positions.{leaf_of, layout_of}
-use Rattle.rb_core.specs.Values.{is_of_type}
+use Rattle.rb_core.specs.Values.{all_of_types, is_of_type}
 use Rattle.rb_core.specs.declared.types.Ty.TheVariants.{Named}
 
 -- what represents a value still does in a memory that has the old one's blocks and written bytes
@@ -56,3 +56,10 @@ abbrev pub ValuesHaveWords : Type 0
 ValuesHaveWords = (p : Program) → IsTyped p → Agrees p → (m : Memory) → IsGood m → (ty : Ty) (v : Value) → is_of_type p.types v ty ≡ true
     → (blocks : List (ℕ × ℕ)) (next : ℕ) → lay m.limit m.next (requests_of (flat_layouts p) (making_of p.types v ty)) ≡ Fits blocks next
     → (new : Memory) × (ws : List ℕ) × Grown m new blocks next × IsCleanlyRepresented p.types (flat_layouts p) new ty v ws
+
+-- so have several values, made one after the other, as a program's arguments are
+abbrev pub ListsHaveWords : Type 0
+ListsHaveWords = (p : Program) → IsTyped p → Agrees p → (m : Memory) → IsGood m → (ts : List Ty) (vs : List Value)
+    → all_of_types (map (is_of_type p.types) vs) ts ≡ true → (blocks : List (ℕ × ℕ)) (next : ℕ)
+    → lay m.limit m.next (requests_of (flat_layouts p) (all_makings p.types vs ts)) ≡ Fits blocks next
+    → (new : Memory) × (ws : List ℕ) × Grown m new blocks next × Represent p.types (flat_layouts p) new true ts vs ws

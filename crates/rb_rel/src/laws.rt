@@ -1,7 +1,8 @@
 //! The laws of representation, each the contract of a function that does nothing.
 
 ghost use Rattle.rb_rel.specs.Laws.{
-    GrowthKeeps, ReadingGivesBits, RepresentedAreTyped, SplitsLead, ValuesHaveWords, WordsAreOneValue
+    GrowthKeeps, ListsHaveWords, ReadingGivesBits, RepresentedAreTyped, SplitsLead, ValuesHaveWords,
+    WordsAreOneValue
 };
 
 /// What represents a value still does after blocks were placed and words stored in them.
@@ -34,4 +35,9 @@ pub fn represented_values_are_typed()
 /// blocks that its constructions ask for.
 pub fn values_have_words()
     ensures { ValuesHaveWords }
+{}
+
+/// So have several values, made one after the other, as the arguments of a program are.
+pub fn lists_have_words()
+    ensures { ListsHaveWords }
 {}
