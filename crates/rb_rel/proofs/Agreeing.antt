@@ -21,9 +21,9 @@ use Rattle.rb_layout.specs.Positions.{root_type, layout_of}
 use Rattle.rb_layout.specs.Splits.{routes_of}
 use Rattle.rb_layout.specs.Flattening.{flat_leaf, flat_layouts, shape_in, shape_of}
 use Rattle.rb_rel.specs.Relation.{shape_length}
-use Rattle.rb_rel.proofs.Lawful.{Lawful, IsFlat, units_of, fits_type}
+use Rattle.rb_rel.proofs.Lawful.{Lawful, units_of, fits_type}
 use Rattle.rb_rel.proofs.Declared.{Declared, declared, decl_at}
-use Rattle.rb_rel.proofs.Flattened.{flat_leaf_flat}
+use Rattle.rb_layout.proofs.FlatLaws.{leaves_are_flat}
 use Rattle.rb_rel.proofs.Holding.{is_held}
 use Rattle.rb_rel.proofs.Lists.{both, get-map, get-mapped}
 use Rattle.rb_rel.proofs.Provenances.{typed_fits, rooted, faultless, none_before, none_at, all_at}
@@ -88,7 +88,7 @@ module _ (p : Program) (agrees : Agrees p) where
 
     pub lawful : Lawful p.types (flat_layouts p)
     lawful = record {
-      flat = λ t layout n leaf is at. let w = from_written t layout n leaf is at in subst IsFlat (sym w.is_leaf) (flat_leaf_flat p.types p.layouts w.written);
+      flat = leaves_are_flat p;
       reached = λ t layout n leaf is at.
           let w = from_written t layout n leaf is at in
           let r = all_reached w.decl.decl.tree n (slice_get_within (leaves w.decl.decl.tree) n w.written w.is_written) in

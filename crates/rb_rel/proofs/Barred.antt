@@ -19,7 +19,8 @@ use Rattle.rb_layout.specs.Positions.{Open, open_positions}
 use Rattle.rb_layout.specs.Words.{flat_at, size_of}
 use Rattle.rb_bits.specs.Words.{take_of}
 use Rattle.rb_layout.specs.Excluded.{Bars, differs, null, within}
-use Rattle.rb_rel.proofs.Lawful.{IsFlat, AllFlat}
+use Rattle.rb_rel.proofs.Lawful.{AllFlat}
+use Rattle.rb_layout.specs.Flat.{IsFlat}
 use Rattle.rb_rel.specs.Relation.{Holds, HoldsKind, Placed, Represents}
 use Rattle.rb_bits.proofs.WordLemmas.{bit_at_take}
 use Rattle.rb_rel.proofs.Bits.{take_take}
@@ -41,7 +42,7 @@ module _ (types : List DataDecl) (layouts : List Layout) (m : Memory) (clean : B
     pub no_null : (leaf : Leaf) (ws : List ℕ) (subs : List ℕ → List ℕ) (ats : ℕ → ℕ) → IsFlat leaf → Placed leaf ws m clean subs ats
         → (r : WordRef) (f : FlatWord) → flat_at leaf r ≡ Some f → NoNull f.parts ats
     no_null leaf ws subs ats flat placed r f is k p align b at kind =
-        let e = flat.exists r p.l align b (record { word = f; number = k; part = p; is_word = is; is_part = at; is_length = refl; is_pointer = kind }) in
+        let e = (flat.below r p.l align b (record { word = f; number = k; part = p; is_word = is; is_part = at; is_length = refl; is_pointer = kind })).0 in
         let s = placed.blocks b e.0 e.1 in
         let low = (block_bounds m.blocks (ats b) (size_of e.0) 64 m.next good.blocks s).0 in omega (arith, low)
 

@@ -3,7 +3,6 @@ use Rattle.std.proofs.Common.{◌≡◌, ℕ, zero, suc, ◌+◌, ◌^◌, ◌<�
 use Rattle.std.specs.Prelude.{slice_get}
 use Rattle.std.specs.List.{flat_map}
 use Rattle.std.proofs.lemmas.Option.{same_Some, slice_get_within}
-use Rattle.std.proofs.lemmas.List.{length-map}
 use Rattle.rb_bits.specs.Words.{AreDisjoint}
 use Rattle.rb_core.specs.declared.types.Ty.{Ty}
 use Rattle.rb_core.specs.declared.types.Ty.TheVariants.{Int, Named}
@@ -22,13 +21,12 @@ use Rattle.rb_layout.specs.Positions.{Open}
 use Rattle.rb_layout.specs.Items.{Content, Number, Whole, Slice, WordOf, Address, WrittenPart, Item, AWord, AField, Around, items_inside, item_list}
 use Rattle.rb_layout.specs.Items as J
 use Rattle.rb_layout.specs.A3.{Fits, FitsWhole, FitsWord, PartsFit, ItemFits}
-use Rattle.rb_layout.specs.Flattening.{type_at, Laid, Laying, without_blocks, in_turn, whole_kind, kind_if_open, kind_step, part_step, word_of, words_of, inlined, shape_of, item_step, item_laid, items_laid}
+use Rattle.rb_layout.specs.Flattening.{type_at, Laid, Laying, without_blocks, in_turn, whole_kind, kind_if_open, kind_step, part_step, word_of, words_of, inlined, shape_of, item_step, item_laid, kind_laid, part_laid, parts_of, items_laid}
 use Rattle.rb_layout.specs.Flattening as P
 use Rattle.rb_layout.proofs.FlatForms.{Each}
 use Rattle.rb_layout.proofs.WrittenForms as D
-use Rattle.rb_rel.proofs.Lists.{get-append-at, get-left, get-behind, get-map}
+use Rattle.rb_rel.proofs.Lists.{get-append-at, get-left, get-behind}
 use Rattle.rb_rel.proofs.Packing.{IsTidy}
-use Rattle.rb_rel.proofs.Flattened.{kind_laid, part_laid, part_fold}
 
 module _ (decls : List LayoutDecl) (opens : List Open) where
   -- what is held has a place of so many bits
@@ -64,18 +62,21 @@ module _ (decls : List LayoutDecl) (opens : List Open) where
   unfolding denote.Hole.Carrier.roll
   around_is p = fold-roll-PartDecl (List Item) (Around Content) (Around WrittenPart) J.item_step J.kind_step J.part_step (record { o = p.o; l = p.l; kind = p.kind })
 
-  abbrev the_kinds : PartKind → Laying (List Kind)
+  abbrev the_kinds : PartKind → Laying (Option Kind)
   the_kinds = kind_laid decls opens
 
   abbrev the_parts : PartDecl → Laying (List Part)
   the_parts = part_laid decls opens
 
+  part_fold : (p : PartDecl) → the_parts p ≡ part_step (record { o = p.o; l = p.l; kind = the_kinds p.kind })
+  unfolding denote.Hole.Carrier.roll
+  part_fold p = fold-roll-PartDecl (Laying (List FlatWord)) (Laying (Option Kind)) (Laying (List Part)) (item_step decls opens) (kind_step opens) part_step (record { o = p.o; l = p.l; kind = p.kind })
+
   abbrev WellItem : LayItem → Type 0
   WellItem item = Demands (item_list item) → (n : ℕ) → LaidFits (item_laid decls opens item n)
 
   record WellKind (kind : PartKind) : Type 0 where
-    one : (n : ℕ) → length (the_kinds kind n).it ≤ 1
-    fits : (l : ℕ) → Fits decls opens l (around kind).it → (n k : ℕ) (x : Kind) → slice_get (the_kinds kind n).it k ≡ Some x → KindFits l x
+    fits : (l : ℕ) → Fits decls opens l (around kind).it → (n : ℕ) (x : Kind) → (the_kinds kind n).it ≡ Some x → KindFits l x
     blocks : Demands (around kind).inside → (n : ℕ) → BlocksFit (the_kinds kind n).blocks
 
   -- lists side by side
@@ -162,25 +163,32 @@ module _ (decls : List LayoutDecl) (opens : List Open) where
     fit = λ k p e. f.fit (suc k) p e;
   }
 
+  one_part : (o l : ℕ) (kind : Option Kind) → length (parts_of o l kind) ≤ 1
+  one_part o l None = omega arith
+  one_part o l (Some kind) = omega arith
+
+  parts_own : (o l : ℕ) (kind : Option Kind) → ((x : Kind) → kind ≡ Some x → KindFits l x) → (k : ℕ) (x : Part) → slice_get (parts_of o l kind) k ≡ Some x → (x.o ≡ o) × (x.l ≡ l) × KindFits x.l x.kind
+  parts_own o l None h k x e = absurd cc
+  parts_own o l (Some kind) h zero x e = subst (λ (y : Part). (y.o ≡ o) × (y.l ≡ l) × KindFits y.l y.kind) (same_Some _ x e) (refl, refl, h kind refl)
+  parts_own o l (Some kind) h (suc k) x e = absurd cc
+
   parts_are : (parts : List PartDecl) → Each (λ (p : PartDecl). WellKind p.kind) parts → (width n : ℕ) → PartsFit decls opens width (writtens parts)
       → PartsAre (writtens parts) (in_turn (map the_parts parts) n).it
   parts_are [] each width n f = record { from = λ k x e. absurd cc; apart = λ j k p q lt a b. absurd cc; kinds = λ k p e. absurd cc }
   parts_are (p ∷ parts) each width n f =
       let lay = the_parts p n in
-      let is : lay ≡ part_step (record { o = p.o; l = p.l; kind = the_kinds p.kind }) n = ap (λ (x : Laying (List Part)). x n) (part_fold decls opens p) in
+      let is : lay ≡ part_step (record { o = p.o; l = p.l; kind = the_kinds p.kind }) n = ap (λ (x : Laying (List Part)). x n) (part_fold p) in
       let w = (around_part p).it in
       let wo : w.o ≡ p.o = ap (λ (x : Around WrittenPart). x.it.o) (around_is p) in
       let wl : w.l ≡ p.l = ap (λ (x : Around WrittenPart). x.it.l) (around_is p) in
       let wc : w.content ≡ (around p.kind).it = ap (λ (x : Around WrittenPart). x.it.content) (around_is p) in
       let fit : Fits decls opens p.l (around p.kind).it = subst (λ c. Fits decls opens p.l c) wc (subst (λ l. Fits decls opens l w.content) wl (f.fit 0 w refl)) in
-      let make : Kind → Part = λ kind. record { o = p.o; l = p.l; kind = kind } in
+      let e : lay.it ≡ parts_of p.o p.l (the_kinds p.kind n).it = ap (λ (y : Laid (List Part)). y.it) is in
       two_parts lay.it (in_turn (map the_parts parts) (n + length lay.blocks)).it w (writtens parts)
-      (λ k x e.
-      let g = get-map make (the_kinds p.kind n).it k x (ap (λ (y : Laid (List Part)). slice_get y.it k) (sym is) ∙ e) in
-      let eo = ap (λ (y : Part). y.o) g.2 in
-      let el = ap (λ (y : Part). y.l) g.2 in
-      (eo ∙ sym wo, el ∙ sym wl, subst (λ (y : Part). KindFits y.l y.kind) (sym g.2) (each.0.fits p.l fit n k g.0 g.1)))
-      (let o = each.0.one n in let e : length lay.it ≡ length (the_kinds p.kind n).it = ap (λ (y : Laid (List Part)). length y.it) is ∙ length-map (the_kinds p.kind n).it make in omega (arith, o, e))
+      (λ k x h.
+      let g = parts_own p.o p.l (the_kinds p.kind n).it (each.0.fits p.l fit n) k x (ap (λ (ys : List Part). slice_get ys k) (sym e) ∙ h) in
+      (g.0 ∙ sym wo, g.1 ∙ sym wl, g.2))
+      (let o = one_part p.o p.l (the_kinds p.kind n).it in let q : length lay.it ≡ length (parts_of p.o p.l (the_kinds p.kind n).it) = ap length e in omega (arith, o, q))
       (parts_are parts each.1 width (n + length lay.blocks) (rest_fit width w (writtens parts) f))
       (λ k q e. f.disjoint 0 (suc k) w q (omega arith) refl e)
 
@@ -188,7 +196,7 @@ module _ (decls : List LayoutDecl) (opens : List Open) where
   parts_blocks [] each d n = no_blocks
   parts_blocks (p ∷ parts) each d n =
       let lay = the_parts p n in
-      let is : lay ≡ part_step (record { o = p.o; l = p.l; kind = the_kinds p.kind }) n = ap (λ (x : Laying (List Part)). x n) (part_fold decls opens p) in
+      let is : lay ≡ part_step (record { o = p.o; l = p.l; kind = the_kinds p.kind }) n = ap (λ (x : Laying (List Part)). x n) (part_fold p) in
       let inside = items_inside (map around_part parts) in
       let here : Demands (around p.kind).inside = subst Demands (ap (λ (x : Around WrittenPart). x.inside) (around_is p)) (first_demands (around_part p).inside inside d) in
       more_blocks lay.blocks (in_turn (map the_parts parts) (n + length lay.blocks)).blocks
@@ -235,47 +243,33 @@ module _ (decls : List LayoutDecl) (opens : List Open) where
   inlined_fit path (Some (Named s)) is = words_fit path s is 0 (shape_of decls s) (λ i w e. let z : 0 + i ≡ i = omega arith in ap (slice_get (shape_of decls s)) z ∙ e)
 
   -- Kinds -------------------------------------------------------------------------------------
-  short_whole : (o : Option Ty) (path : List ℕ) → length (whole_kind o path) ≤ 1
-  short_whole None path = omega arith
-  short_whole (Some (Int bits)) path = omega arith
-  short_whole (Some (Named s)) path = omega arith
+  whole_fits : (l : ℕ) (path : List ℕ) (o : Option Ty) → type_at opens path ≡ o → FitsWhole decls o l → (x : Kind) → whole_kind o path ≡ Some x → KindFits l x
+  whole_fits l path None is f x e = absurd cc
+  whole_fits l path (Some (Int bits)) is f x e = subst (KindFits l) (same_Some (Bits path 0) x e) tt
+  whole_fits l path (Some (Named s)) is f x e = subst (KindFits l) (same_Some (Word path 0) x e) (s, is, ap (λ ws. slice_get ws 0) f)
 
-  short_open : (o : Option Ty) (kind : Kind) → length (kind_if_open o kind) ≤ 1
-  short_open None kind = omega arith
-  short_open (Some ty) kind = omega arith
+  slice_fits : (l a : ℕ) (path : List ℕ) (o : Option Ty) → (x : Kind) → kind_if_open o (Bits path a) ≡ Some x → KindFits l x
+  slice_fits l a path None x e = absurd cc
+  slice_fits l a path (Some ty) x e = subst (KindFits l) (same_Some (Bits path a) x e) tt
 
-  only_kind : (l : ℕ) (kind : Kind) → KindFits l kind → (k : ℕ) (x : Kind) → slice_get (kind ∷ []) k ≡ Some x → KindFits l x
-  only_kind l kind f zero x e = subst (KindFits l) (same_Some kind x e) f
-  only_kind l kind f (suc k) x e = absurd cc
-
-  whole_fits : (l : ℕ) (path : List ℕ) (o : Option Ty) → type_at opens path ≡ o → FitsWhole decls o l → (k : ℕ) (x : Kind) → slice_get (whole_kind o path) k ≡ Some x → KindFits l x
-  whole_fits l path None is f k x e = absurd cc
-  whole_fits l path (Some (Int bits)) is f k x e = only_kind l (Bits path 0) tt k x e
-  whole_fits l path (Some (Named s)) is f k x e = only_kind l (Word path 0) (s, is, ap (λ ws. slice_get ws 0) f) k x e
-
-  slice_fits : (l a : ℕ) (path : List ℕ) (o : Option Ty) → (k : ℕ) (x : Kind) → slice_get (kind_if_open o (Bits path a)) k ≡ Some x → KindFits l x
-  slice_fits l a path None k x e = absurd cc
-  slice_fits l a path (Some ty) k x e = only_kind l (Bits path a) tt k x e
-
-  word_of_fits : (l j : ℕ) (path : List ℕ) (o : Option Ty) → type_at opens path ≡ o → FitsWord decls o l j → (k : ℕ) (x : Kind) → slice_get (kind_if_open o (Word path j)) k ≡ Some x → KindFits l x
-  word_of_fits l j path None is f k x e = absurd cc
-  word_of_fits l j path (Some (Int bits)) is f k x e = absurd f
-  word_of_fits l j path (Some (Named s)) is f k x e = only_kind l (Word path j) (s, is, f) k x e
+  word_of_fits : (l j : ℕ) (path : List ℕ) (o : Option Ty) → type_at opens path ≡ o → FitsWord decls o l j → (x : Kind) → kind_if_open o (Word path j) ≡ Some x → KindFits l x
+  word_of_fits l j path None is f x e = absurd cc
+  word_of_fits l j path (Some (Int bits)) is f x e = absurd f
+  word_of_fits l j path (Some (Named s)) is f x e = subst (KindFits l) (same_Some (Word path j) x e) (s, is, f)
 
   -- a kind, by what it lays and what is written
-  well_kind : (kind : PartKind) (lay : Laying (List Kind)) (a : Around Content) → the_kinds kind ≡ lay → around kind ≡ a → ((n : ℕ) → length (lay n).it ≤ 1)
-      → ((l : ℕ) → Fits decls opens l a.it → (n k : ℕ) (x : Kind) → slice_get (lay n).it k ≡ Some x → KindFits l x) → (Demands a.inside → (n : ℕ) → BlocksFit (lay n).blocks) → WellKind kind
-  well_kind kind lay a e1 e2 one fits blocks = record {
-    one = λ n. subst (λ (y : Laying (List Kind)). length (y n).it ≤ 1) (sym e1) (one n);
-    fits = λ l f n k x e. fits l (subst (λ (y : Around Content). Fits decls opens l y.it) e2 f) n k x (ap (λ (y : Laying (List Kind)). slice_get (y n).it k) (sym e1) ∙ e);
-    blocks = λ d n. subst (λ (y : Laying (List Kind)). BlocksFit (y n).blocks) (sym e1) (blocks (subst (λ (y : Around Content). Demands y.inside) e2 d) n);
+  well_kind : (kind : PartKind) (lay : Laying (Option Kind)) (a : Around Content) → the_kinds kind ≡ lay → around kind ≡ a
+      → ((l : ℕ) → Fits decls opens l a.it → (n : ℕ) (x : Kind) → (lay n).it ≡ Some x → KindFits l x) → (Demands a.inside → (n : ℕ) → BlocksFit (lay n).blocks) → WellKind kind
+  well_kind kind lay a e1 e2 fits blocks = record {
+    fits = λ l f n x e. fits l (subst (λ (y : Around Content). Fits decls opens l y.it) e2 f) n x (ap (λ (y : Laying (Option Kind)). (y n).it) (sym e1) ∙ e);
+    blocks = λ d n. subst (λ (y : Laying (Option Kind)). BlocksFit (y n).blocks) (sym e1) (blocks (subst (λ (y : Around Content). Demands y.inside) e2 d) n);
   }
 
   abbrev F : Type 0
   F = Laying (List FlatWord)
 
   abbrev G : Type 0
-  G = Laying (List Kind)
+  G = Laying (Option Kind)
 
   abbrev H : Type 0
   H = Laying (List Part)
@@ -292,23 +286,23 @@ module _ (decls : List LayoutDecl) (opens : List Open) where
           parts_blocks parts each (λ i item is. demands (suc i) item is) n);
     inline = λ path d n.
         subst (λ (y : F). LaidFits (y n)) (sym (D.fold-Inline F G H (item_step decls opens) (kind_step opens) part_step path)) (inlined_fit path (type_at opens path) refl, no_blocks);
-    const = λ c. well_kind (K.Const c) (λ n. without_blocks (Const c ∷ [])) (J.plain (Number c)) (D.fold-Const F G H (item_step decls opens) (kind_step opens) part_step c)
+    const = λ c. well_kind (K.Const c) (λ n. without_blocks (Some (Const c))) (J.plain (Number c)) (D.fold-Const F G H (item_step decls opens) (kind_step opens) part_step c)
         (D.fold-Const (List Item) (Around Content) (Around WrittenPart) J.item_step J.kind_step J.part_step c)
-        (λ n. omega arith) (λ l f n k x e. only_kind l (Const c) f k x e) (λ d n. no_blocks);
+        (λ l f n x e. subst (KindFits l) (same_Some (Const c) x e) f) (λ d n. no_blocks);
     whole = λ path. well_kind (K.Whole path) (λ n. without_blocks (whole_kind (type_at opens path) path)) (J.plain (Whole path)) (D.fold-Whole F G H (item_step decls opens) (kind_step opens) part_step path)
         (D.fold-Whole (List Item) (Around Content) (Around WrittenPart) J.item_step J.kind_step J.part_step path)
-        (λ n. short_whole (type_at opens path) path) (λ l f n k x e. whole_fits l path (type_at opens path) refl f k x e) (λ d n. no_blocks);
+        (λ l f n x e. whole_fits l path (type_at opens path) refl f x e) (λ d n. no_blocks);
     slice = λ path a b. well_kind (K.Slice path a b) (λ n. without_blocks (kind_if_open (type_at opens path) (Bits path a))) (J.plain (Slice path a b)) (D.fold-Slice F G H (item_step decls opens) (kind_step opens) part_step path a b)
         (D.fold-Slice (List Item) (Around Content) (Around WrittenPart) J.item_step J.kind_step J.part_step path a b)
-        (λ n. short_open (type_at opens path) (Bits path a)) (λ l f n k x e. slice_fits l a path (type_at opens path) k x e) (λ d n. no_blocks);
+        (λ l f n x e. slice_fits l a path (type_at opens path) x e) (λ d n. no_blocks);
     word_of = λ path j. well_kind (K.Word path j) (λ n. without_blocks (kind_if_open (type_at opens path) (Word path j))) (J.plain (WordOf path j)) (D.fold-WordOf F G H (item_step decls opens) (kind_step opens) part_step path j)
         (D.fold-WordOf (List Item) (Around Content) (Around WrittenPart) J.item_step J.kind_step J.part_step path j)
-        (λ n. short_open (type_at opens path) (Word path j)) (λ l f n k x e. word_of_fits l j path (type_at opens path) refl f k x e) (λ d n. no_blocks);
+        (λ l f n x e. word_of_fits l j path (type_at opens path) refl f x e) (λ d n. no_blocks);
     pointer = λ align items each.
         let lay : Laying (List FlatWord) = in_turn (map (item_laid decls opens) items) in
         well_kind (K.Pointer align items) (λ n. P.pointed align n (lay n)) (record { it = Address align; inside = flat_map (λ xs. xs) (map item_list items) }) (D.fold-Pointer F G H (item_step decls opens) (kind_step opens) part_step align items)
         (D.fold-Pointer (List Item) (Around Content) (Around WrittenPart) J.item_step J.kind_step J.part_step align items)
-        (λ n. omega arith) (λ l f n k x e. only_kind l (Pointer align (n + length (lay n).blocks)) tt k x e)
+        (λ l f n x e. subst (KindFits l) (same_Some (Pointer align (n + length (lay n).blocks)) x e) tt)
         (λ d n.
         let a = items_fit items each (inside_demands items d) n in
         more_blocks (lay n).blocks (record { align = align; words = (lay n).it } ∷ []) a.1 (only_block (record { align = align; words = (lay n).it }) a.0));

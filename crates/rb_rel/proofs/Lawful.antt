@@ -1,5 +1,5 @@
 -- What the laws of representation need of layouts.
-use Rattle.std.specs.Prelude.{◌+◌, ◌≤◌, ◌==◌, ◌&&◌, Bool, true, false, ◌≡◌, ℕ, ◌<◌, List, Option, Some, None, slice_get}
+use Rattle.std.specs.Prelude.{◌+◌, ◌≤◌, ◌==◌, ◌&&◌, Bool, true, false, ◌≡◌, ℕ, ◌<◌, List, Some, slice_get}
 use Rattle.rb_core.specs.declared.types.Ty.{Ty}
 use Rattle.rb_core.specs.declared.types.Ty.TheVariants.{Int, Named}
 use Rattle.rb_core.specs.declared.pattern.Pat.{Pat, out-Pat}
@@ -10,7 +10,6 @@ use Rattle.rb_core.specs.Values.{are_of, fields_of}
 use Rattle.rb_core.specs.Typing.{holds}
 use Rattle.rb_core.specs.declared.types.DataDecl.{DataDecl}
 use Rattle.rb_layout.specs.declared.layout.Leaf.{Leaf}
-use Rattle.rb_layout.specs.declared.layout.Block.{Block}
 use Rattle.rb_layout.specs.declared.layout.FlatWord.{FlatWord}
 use Rattle.rb_layout.specs.declared.layout.Part.{Part}
 use Rattle.rb_layout.specs.declared.layout.Kind.TheVariants.{Bits, Word}
@@ -20,21 +19,10 @@ use Rattle.rb_layout.specs.Words.{flat_at}
 use Rattle.rb_layout.specs.Positions.{Open, open_positions, root_type}
 use Rattle.rb_rel.specs.Relation.{word_count}
 use Rattle.rb_layout.specs.Splits.{Route, routes_of}
-use Rattle.rb_layout.specs.Pointers.{PointsTo}
+use Rattle.rb_layout.specs.Flat.{IsFlat}
 use Rattle.rb_layout.specs.Each.{EachLeaf}
 use Rattle.rb_layout.specs.A7.{A7}
 use Rattle.rb_layout.specs.A8.{A8}
-
--- a root word, or a word of a block numbered above block b
-abbrev pub IsOutside : Option ℕ → ℕ → Type 0
-IsOutside None b = Unit {0}
-IsOutside (Some a) b = b < a
-
--- each pointer has its block, of its alignment, and each block a pointer outside it
-pub record IsFlat (leaf : Leaf) : Type 0 where
-  pub exists : (r : WordRef) (l align b : ℕ) → PointsTo leaf r l align b → (block : Block) × (slice_get leaf.blocks b ≡ Some block) × (block.align ≡ align)
-  pub pointed : (b : ℕ) (block : Block) → slice_get leaf.blocks b ≡ Some block
-      → (r : WordRef) × (l : ℕ) × (align : ℕ) × PointsTo leaf r l align b × IsOutside r.block b
 
 abbrev pub AllFlat : List Layout → Type 0
 AllFlat layouts = EachLeaf layouts (λ t layout n leaf. IsFlat leaf)

@@ -34,7 +34,8 @@ use Rattle.rb_layout.specs.Positions.{Open, open_positions, leaf_of, layout_of}
 use Rattle.rb_layout.specs.Words.{words_in, words_of_block, flat_at, begins_at, bytes_in}
 use Rattle.rb_rel.specs.Placing.{Fits, Request, request_of, lay}
 use Rattle.rb_rel.specs.Relation.{IsFound, WordHolds, Placed, Represents, built}
-use Rattle.rb_rel.proofs.Lawful.{IsFlat}
+
+use Rattle.rb_layout.specs.Flat.{IsFlat}
 use Rattle.rb_rel.proofs.Agreeing.{from_written, lawful}
 use Rattle.rb_rel.proofs.Declared.{declared}
 use Rattle.rb_rel.proofs.Fitting.{KindFits, WordFits, AllFit, BlocksFit, Demands, leaf_fits}
@@ -144,12 +145,7 @@ module _ (p : Program) (agrees : Agrees p) where
         are = λ b block h. record {
           some = size_some block.words (a4.lengths b block h).0 (λ j x k. a4.widths b block j x h k);
           widths = λ j x k. a4.widths b block j x h k;
-          align =
-              let q = flat.pointed b block h in
-              let x = flat.exists q.0 q.1 q.2 b q.3 in
-              let same : x.0 ≡ block = same_Some x.0 block (sym x.1 ∙ h) in
-              let y = align_some q.2 (a4.alignments q.0 q.1 q.2 b q.3) in
-              let z : block.align ≡ q.2 = ap (λ (k : Block). k.align) (sym same) ∙ x.2 in omega (arith, y, z);
+          align = (let q = flat.pointed b block h in align_some block.align (a4.alignments q.0 q.1 block.align b q.2));
         };
       }
 
@@ -182,7 +178,7 @@ module _ (p : Program) (agrees : Agrees p) where
 
     pointer_fits : (r : WordRef) (l align b : ℕ) → PointsTo leaf r l align b → (ats b / align < 2 ^ l) × (ats b / align * align ≡ ats b)
     pointer_fits r l align b points =
-        let x = ok.flat.exists r l align b points in
+        let x = (ok.flat.below r l align b points).0 in
         let a = placed_at b x.0 x.1 in
         let w = wide r l align b points in
         let k = w.0.0 in

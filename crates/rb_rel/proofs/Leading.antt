@@ -14,7 +14,8 @@ use Rattle.rb_layout.specs.Locations.{Reached, reached_at, known_in}
 use Rattle.rb_layout.specs.Splits.{Test, Is, IsNone}
 use Rattle.rb_rel.specs.Reading.{read_loc, walk}
 use Rattle.rb_layout.specs.Excluded.{Excludes}
-use Rattle.rb_rel.proofs.Lawful.{IsFlat, AllFlat, Lawful}
+use Rattle.rb_rel.proofs.Lawful.{AllFlat, Lawful}
+use Rattle.rb_layout.specs.Flat.{IsFlat}
 use Rattle.rb_layout.specs.A7.{Meets}
 use Rattle.rb_rel.specs.Relation.{Placed, Represents}
 use Rattle.rb_rel.proofs.Reading.{reads_loc}

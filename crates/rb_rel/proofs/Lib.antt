@@ -5,7 +5,6 @@ pub mod Declared
 pub mod Examples
 pub mod Existence
 pub mod Fitting
-pub mod Flattened
 pub mod Growth
 pub mod Holding
 pub mod Images

@@ -22,7 +22,8 @@ use Rattle.rb_layout.specs.Positions.{Open, open_positions, opens_of}
 use Rattle.rb_layout.specs.Words.{words_in, words_of_block, flat_at, begins_at}
 use Rattle.rb_rel.specs.Relation.{HoldsKind, IsFound, Placed, Made, Represents, number, built}
 use Rattle.rb_rel.specs.Reading.{walk}
-use Rattle.rb_rel.proofs.Lawful.{Lawful, IsFlat, IsOutside, Holder, units_of}
+use Rattle.rb_rel.proofs.Lawful.{Lawful, Holder, units_of}
+use Rattle.rb_layout.specs.Flat.{IsFlat, IsAbove}
 use Rattle.rb_rel.proofs.Bits.{same_bits}
 use Rattle.rb_rel.proofs.Represented.{Opened, opened, Represents-int, Represents-count}
 use Rattle.rb_rel.proofs.Leading.{leads_made}
@@ -79,7 +80,7 @@ module _ (leaf : Leaf) (flat : IsFlat leaf) (ws : List ℕ) (m : Memory) (clean 
   exists_in None j f e = tt
   exists_in (Some b) j f e = some_block b (slice_get leaf.blocks b) j f refl e
 
-  outer : (r : Option ℕ) (n b : ℕ) → length leaf.blocks ≤ suc n + b → IsOutside r b → ((a : ℕ) → b < a → (block : Block) → slice_get leaf.blocks a ≡ Some block → ats a ≡ ats' a) → Exists r → SameAt r
+  outer : (r : Option ℕ) (n b : ℕ) → length leaf.blocks ≤ suc n + b → IsAbove r b → ((a : ℕ) → b < a → (block : Block) → slice_get leaf.blocks a ≡ Some block → ats a ≡ ats' a) → Exists r → SameAt r
   outer None n b le o rest x = tt
   outer (Some a) n b le o rest x = rest a o x.0 x.1
 
@@ -92,9 +93,9 @@ module _ (leaf : Leaf) (flat : IsFlat leaf) (ws : List ℕ) (m : Memory) (clean 
   ats_from zero b block le is = absurd (let lt = slice_get_within leaf.blocks b block is in omega arith)
   ats_from (suc n) b block le is =
       let q = flat.pointed b block is in
-      let h = kinds_same q.0 q.3.word q.3.number q.3.part q.3.is_word q.3.is_part (outer q.0.block n b le q.4 (λ a lt bl e. ats_from n a bl (omega arith) e) (exists_in q.0.block q.0.word q.3.word q.3.is_word)) in
-      let x = subst (λ (k : Kind). HoldsKind subs ats h.0 q.3.part.l k) q.3.is_pointer h.1 in
-      let y = subst (λ (k : Kind). HoldsKind subs' ats' h.0 q.3.part.l k) q.3.is_pointer h.2 in
+      let h = kinds_same q.0 q.2.word q.2.number q.2.part q.2.is_word q.2.is_part (outer q.0.block n b le q.3 (λ a lt bl e. ats_from n a bl (omega arith) e) (exists_in q.0.block q.0.word q.2.word q.2.is_word)) in
+      let x = subst (λ (k : Kind). HoldsKind subs ats h.0 q.2.part.l k) q.2.is_pointer h.1 in
+      let y = subst (λ (k : Kind). HoldsKind subs' ats' h.0 q.2.part.l k) q.2.is_pointer h.2 in
       sym x ∙ y
 
   all_ats : (b : ℕ) (block : Block) → slice_get leaf.blocks b ≡ Some block → ats b ≡ ats' b
