@@ -23,7 +23,7 @@ use Rattle.rb_rel.proofs.Lawful.{AllFlat}
 use Rattle.rb_layout.specs.Flat.{IsFlat}
 use Rattle.rb_rel.specs.Relation.{Holds, HoldsKind, Placed, Represents}
 use Rattle.rb_bits.proofs.WordLemmas.{bit_at_take}
-use Rattle.rb_rel.proofs.Bits.{take_take}
+use Rattle.rb_bits.proofs.RangeLemmas.{take_take}
 use Rattle.rb_rel.proofs.Represented.{opened}
 use Rattle.rb_rel.proofs.Reading.{stands_at}
 use Rattle.rb_rel.proofs.Known.{constant_bit-is}

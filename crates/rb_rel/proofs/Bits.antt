@@ -1,26 +1,10 @@
--- Bits of parts of words.
-use Rattle.std.proofs.Common.{◌≡◌, ℕ, zero, suc, ◌+◌, ◌*◌, ◌/◌, ◌%◌, ◌^◌, ◌<◌, ◌≤◌, sym, ap, ◌∙◌, arith}
+-- A range of bits by its lowest bit and the others.
+use Rattle.std.proofs.Common.{◌≡◌, ℕ, zero, suc, ◌+◌, ◌*◌, ◌/◌, ◌%◌, ◌^◌, ◌<◌, sym, ap, ◌∙◌, arith}
 use Rattle.std.specs.Int.{bit_at}
 use Rattle.std.proofs.lemmas.Nat.{pow-add}
-use Rattle.std.proofs.lemmas.Nat.Bits.{bit_at-suc, bit_at_lowest}
+use Rattle.std.proofs.lemmas.Nat.Bits.{bit_at-suc, bit_at_lowest, same_from_bits_below}
 use Rattle.rb_bits.specs.Words.{take_of}
 use Rattle.rb_bits.proofs.WordLemmas.{take_fits, bit_at_take}
-
--- two numbers with few bits that agree in each
-pub same_bits : (l a b : ℕ) → a < 2 ^ l → b < 2 ^ l → ((i : ℕ) → i < l → bit_at a i ≡ bit_at b i) → a ≡ b
-same_bits zero a b la lb h = omega arith
-same_bits (suc l) a b la lb h =
-    let p : 2 ^ (suc l) ≡ 2 * 2 ^ l = omega (arith, pow-add 2 1 l) in
-    let low : bit_at a 0 ≡ bit_at b 0 = h 0 (omega arith) in
-    let la0 = bit_at_lowest a in
-    let lb0 = bit_at_lowest b in
-    let up : a / 2 ≡ b / 2 = same_bits l (a / 2) (b / 2) (omega arith) (omega arith) (λ i lt. sym (bit_at-suc a i) ∙ h (suc i) (omega arith) ∙ bit_at-suc b i) in
-    omega arith
-
--- a part of a part
-pub take_take : (w o l x y : ℕ) → x + y ≤ l → take_of (take_of w o l) x y ≡ take_of w (o + x) y
-take_take w o l x y le = same_bits y _ _ (take_fits (take_of w o l) x y) (take_fits w (o + x) y) (λ i lt.
-    bit_at_take (take_of w o l) x y i lt ∙ bit_at_take w o l (x + i) (omega arith) ∙ (let e : o + (x + i) ≡ o + x + i = omega arith in ap (λ k. bit_at w k) e) ∙ sym (bit_at_take w (o + x) y i lt))
 
 pub take_none : (w o : ℕ) → take_of w o 0 ≡ 0
 take_none w o = let p = take_fits w o 0 in omega arith
@@ -42,4 +26,4 @@ take_suc w o l =
     let p : 2 ^ (suc l) ≡ 2 * 2 ^ l = omega (arith, pow-add 2 1 l) in
     let fits = take_fits w (o + 1) l in
     let bit : bit_at w o < 2 = omega arith in
-    same_bits (suc l) _ _ (take_fits w o (suc l)) (omega arith) (λ i lt. bit_at_take w o (suc l) i lt ∙ sym (bits_behind w o l i lt))
+    same_from_bits_below (suc l) _ _ (take_fits w o (suc l)) (omega arith) (λ i lt. bit_at_take w o (suc l) i lt ∙ sym (bits_behind w o l i lt))

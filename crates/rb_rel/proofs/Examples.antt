@@ -26,6 +26,8 @@ use Rattle.rb_layout.specs.Positions.{Open, open_positions, leaf_of, layout_of}
 use Rattle.rb_rel.specs.Relation.{Represents, number, built}
 use Rattle.rb_rel.specs.Placing.{Fits, Over, lay, requests_of}
 use Rattle.rb_rel.specs.Reading.{read_loc}
+use Rattle.rb_rel.specs.Switches.{choose_of, look_of, mend_of}
+use Rattle.rb_rel.proofs.Counting.{switch_rules}
 use Rattle.rb_rel.specs.Answers.{making_of, all_makings}
 use Rattle.rb_rel.proofs.Makings.{making-Num, making-Con}
 use Rattle.rb_rel.proofs.Images.{AllOf, of_one, image_ok, image_is}
@@ -298,9 +300,9 @@ abbrev branch_leaf : Leaf
 branch_leaf = record {
   prov = con 0 0 (any ∷ any ∷ any ∷ any ∷ []);
   root = word 32 (
-    part 0 7 (Const 99) ∷ part 7 1 (Bits (3 ∷ []) 10) ∷ part 8 4 (Bits (3 ∷ []) 0) ∷ part 12 3 (Bits (0 ∷ []) 0)
-    ∷ part 15 5 (Bits (1 ∷ []) 0) ∷ part 20 5 (Bits (2 ∷ []) 0) ∷ part 25 6 (Bits (3 ∷ []) 4) ∷ part 31 1 (Bits (3 ∷ []) 11) ∷ []
-  ) ∷ [];
+      part 0 7 (Const 99) ∷ part 7 1 (Bits (3 ∷ []) 10) ∷ part 8 4 (Bits (3 ∷ []) 0) ∷ part 12 3 (Bits (0 ∷ []) 0)
+      ∷ part 15 5 (Bits (1 ∷ []) 0) ∷ part 20 5 (Bits (2 ∷ []) 0) ∷ part 25 6 (Bits (3 ∷ []) 4) ∷ part 31 1 (Bits (3 ∷ []) 11) ∷ []
+      ) ∷ [];
   blocks = [];
 }
 
@@ -423,3 +425,44 @@ pair_shown : Represents pair pairs pair_image true (Named 0) five_six (0x9 ∷ [
 unfolding load_of
 pair_shown = shown pair pairs pair_image 0 0 (Num 5 ∷ Num 6 ∷ []) pair_layout 0 pair_leaf (open_at 0 (Int 64) ∷ open_at 1 (Int 64) ∷ []) refl (simp (matching_rules, value_rules)) refl (simp (opens-Con, opens-Wild))
     ((5 ∷ []) ∷ (6 ∷ []) ∷ []) (64 ∷ 72 ∷ []) (9 ∷ []) refl ((simp value_rules, number 64 5 (omega arith)), ((simp value_rules, number 64 6 (omega arith)), tt)) refl
+
+-- A tree whose nodes have their colour in the provenance -------------------------------------------
+--
+-- Choosing the leaf of a node looks at its colour once. Looking at a tree finds its leaf, and again for what is bound.
+
+abbrev any_node : ℕ → Pat
+any_node color = con 1 1 (con 0 color [] ∷ any ∷ any ∷ any ∷ [])
+
+abbrev deep_leaf : ℕ → Leaf
+deep_leaf color = record {
+  prov = any_node color;
+  root = word 32 (part 0 1 (Const color) ∷ part 2 22 (Pointer 4 0) ∷ []) ∷ [];
+  blocks = node_leaf.blocks;
+}
+
+abbrev deep_layout : Layout
+deep_layout = record {
+  ty = 1;
+  shape = 32 ∷ [];
+  tree = T.Split (record { word = 0; o = 0; l = 32; steps = [] }) (record { literal = 0; under = T.Leaf 0 } ∷ [])
+      (Some (T.Split bit0 (record { literal = 0; under = T.Leaf 1 } ∷ record { literal = 1; under = T.Leaf 2 } ∷ []) None));
+  leaves = empty_leaf ∷ deep_leaf 0 ∷ deep_leaf 1 ∷ [];
+}
+
+abbrev deep : List Layout
+deep = color_layout ∷ deep_layout ∷ []
+
+node_chosen : choose_of deep 1 1 ≡ 1
+node_chosen = simp switch_rules
+
+tree_mended : mend_of deep 1 ≡ 0
+tree_mended = simp switch_rules
+
+tree_looked : look_of deep (Named 1) ≡ 4
+tree_looked = simp switch_rules
+
+color_looked : look_of deep (Named 0) ≡ 1
+color_looked = simp switch_rules
+
+list_looked : look_of lists (Named 0) ≡ 1
+list_looked = simp switch_rules

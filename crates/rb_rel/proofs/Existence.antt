@@ -113,8 +113,17 @@ module _ (types : List DataDecl) where
             let g = get-map (below i) (opens_of types q t) k o h in
             let a = each.0 t x bf.0 bm.0 k g.0 g.1 in
             let z : i ≡ i + 0 = omega arith in
-            record { field = 0; path = g.0.path; is_path = ap (λ (y : Open). y.path) g.2 ∙ ap (λ j. j ∷ g.0.path) z; value = x; ty = t; is_value = refl; is_type = refl; part = a.0;
-              is_part = subst (λ s. PartIs x t g.0.path s a.0) (sym (ap (λ (y : Open). y.ty) g.2)) a.1 }
+            record {
+              field = 0;
+              path = g.0.path;
+              is_path = ap (λ (y : Open). y.path) g.2 ∙ ap (λ j. j ∷ g.0.path) z;
+              value = x;
+              ty = t;
+              is_value = refl;
+              is_type = refl;
+              part = a.0;
+              is_part = subst (λ s. PartIs x t g.0.path s a.0) (sym (ap (λ (y : Open). y.ty) g.2)) a.1;
+            }
         | inr h ↦
             let r = fields_are ps each.1 ts vs (i + 1) bf.1 bm.1 h.0 o h.1 in
             let z : i + 1 + r.field ≡ i + suc r.field = omega arith in

@@ -226,6 +226,7 @@ module _ (decls : List LayoutDecl) (opens : List Open) where
       inside : (k : ℕ) (p : Part) → slice_get (word_of width kind).parts k ≡ Some p → p.o + p.l ≤ width
       inside zero p e = subst (λ (y : Part). y.o + y.l ≤ width) (same_Some _ p e) (omega arith)
       inside (suc k) p e = absurd cc
+
       kinds : (k : ℕ) (p : Part) → slice_get (word_of width kind).parts k ≡ Some p → KindFits p.l p.kind
       kinds zero p e = subst (λ (y : Part). KindFits y.l y.kind) (same_Some _ p e) fit
       kinds (suc k) p e = absurd cc
@@ -281,9 +282,10 @@ module _ (decls : List LayoutDecl) (opens : List Open) where
         let lay = in_turn (map the_parts parts) n in
         let demands : Demands (AWord bits (writtens parts) ∷ items_inside (map around_part parts)) = subst Demands e d in
         let fit : PartsFit decls opens bits (writtens parts) = demands 0 (AWord bits (writtens parts)) refl in
-        subst (λ (y : F). LaidFits (y n)) (sym (D.fold-Word F G H (item_step decls opens) (kind_step opens) part_step bits parts))
-        (only_word (record { width = bits; parts = lay.it }) (word_fits bits (writtens parts) lay.it fit (parts_are parts each bits n fit)),
-          parts_blocks parts each (λ i item is. demands (suc i) item is) n);
+        subst (λ (y : F). LaidFits (y n)) (sym (D.fold-Word F G H (item_step decls opens) (kind_step opens) part_step bits parts)) (
+          only_word (record { width = bits; parts = lay.it }) (word_fits bits (writtens parts) lay.it fit (parts_are parts each bits n fit)),
+          parts_blocks parts each (λ i item is. demands (suc i) item is) n,
+        );
     inline = λ path d n.
         subst (λ (y : F). LaidFits (y n)) (sym (D.fold-Inline F G H (item_step decls opens) (kind_step opens) part_step path)) (inlined_fit path (type_at opens path) refl, no_blocks);
     const = λ c. well_kind (K.Const c) (λ n. without_blocks (Some (Const c))) (J.plain (Number c)) (D.fold-Const F G H (item_step decls opens) (kind_step opens) part_step c)

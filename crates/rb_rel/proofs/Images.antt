@@ -200,8 +200,10 @@ module _ (subs : List ℕ → List ℕ) (ats : ℕ → ℕ) where
       where
         b : (nat_eq (length ws) (length leaf.root) ≡ true) × ((root_ok leaf.root 0 && blocks_ok leaf.blocks 0) ≡ true)
         b = both (nat_eq (length ws) (length leaf.root)) (root_ok leaf.root 0 && blocks_ok leaf.blocks 0) e
+
         c : (root_ok leaf.root 0 ≡ true) × (blocks_ok leaf.blocks 0 ≡ true)
         c = both (root_ok leaf.root 0) (blocks_ok leaf.blocks 0) b.1
+
         in_block : (k : ℕ) (x : Option Block) (j : ℕ) (f : FlatWord) → slice_get leaf.blocks k ≡ x → slice_get (words_of_block x) j ≡ Some f
             → (w : ℕ) × (load_of m (ats k) (begins_at (words_of_block x) j) f.width ≡ Ok w) × WordHolds subs ats true f w
         in_block k None j f is h = absurd cc
@@ -211,6 +213,7 @@ module _ (subs : List ℕ → List ℕ) (ats : ℕ → ℕ) where
             let z : 0 + k ≡ k = omega arith in
             let y : 0 + j ≡ j = omega arith in
             (packed subs ats f.parts, ap (λ i. load_of m (ats i) (begins_at x.words j) f.width) (sym z) ∙ ap (λ i. load_of m (ats (0 + k)) (begins_at x.words i) f.width) (sym y) ∙ r.0, r.1)
+
         word : (r : WordRef) (f : FlatWord) → flat_at leaf r ≡ Some f → (w : ℕ) × IsFound r.block (words_in leaf r.block) f r.word ws ats m w × WordHolds subs ats true f w
         word r f is = go r.block is
           where

@@ -34,7 +34,6 @@ use Rattle.rb_layout.specs.Positions.{Open, open_positions, leaf_of, layout_of}
 use Rattle.rb_layout.specs.Words.{words_in, words_of_block, flat_at, begins_at, bytes_in}
 use Rattle.rb_rel.specs.Placing.{Fits, Request, request_of, lay}
 use Rattle.rb_rel.specs.Relation.{IsFound, WordHolds, Placed, Represents, built}
-
 use Rattle.rb_layout.specs.Flat.{IsFlat}
 use Rattle.rb_rel.proofs.Agreeing.{from_written, lawful}
 use Rattle.rb_rel.proofs.Declared.{declared}

@@ -54,7 +54,7 @@ module _ (types : List DataDecl) (layouts : List Layout) (m : Memory) (clean : B
   leads_made t v ws o =
       let d = o.made in
       let k = lawful.reached t d.layout d.number d.leaf d.is_layout d.is_number in
-            tree_right ws m d.layout.tree (λ i s is. (lawful.split t d.layout d.is_layout i s is).distinct) k.0 k.1 k.2 (λ i test is.
+      tree_right ws m d.layout.tree (λ i s is. (lawful.split t d.layout d.is_layout i s is).distinct) k.0 k.1 k.2 (λ i test is.
       passes d.leaf (flat t d.layout d.number d.leaf d.is_layout d.is_number) ws d.subs d.ats d.at d.placed o.below test
       (lawful.met t d.layout d.number d.leaf d.is_layout d.is_number test (record { route_number = k.0; route = k.1; number = i; is_route = k.2; leads = k.3; is_test = is })))
       ∙ ap Some k.3

@@ -27,4 +27,3 @@ matches_case l ls v i n leaf false is rest e (suc k) at h = rest e k (omega arit
 pub leaf_matches : (ls : List Leaf) (v : Value) (i n : ℕ) (leaf : Leaf) → leaf_from ls v i ≡ Some n → (k : ℕ) → i + k ≡ n → slice_get ls k ≡ Some leaf → matches_of leaf.prov v ≡ true
 leaf_matches [] v i n leaf = λ e k at is. absurd cc
 leaf_matches (l ∷ ls) v i n leaf = matches_case l ls v i n leaf (matches_of l.prov v) refl (leaf_matches ls v (i + 1) n leaf)
-

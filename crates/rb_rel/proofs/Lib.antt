@@ -1,6 +1,7 @@
 pub mod Agreeing
 pub mod Barred
 pub mod Bits
+pub mod Counting
 pub mod Declared
 pub mod Examples
 pub mod Existence

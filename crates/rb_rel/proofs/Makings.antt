@@ -16,4 +16,3 @@ module _ (types : List DataDecl) where
   pub making-Con : (k : ℕ) (vs : List Value) (ty : Ty) → making_of types (Con k vs) ty ≡ making_step types (V.Con k (map (λ v. (v, making_of types v)) vs)) ty
   unfolding X.roll-Value denote.Hole.Carrier.roll
   making-Con k vs ty = ap (λ (f : Making). f ty) (para-roll-Value Making (making_step types) (V.Con k vs))
-

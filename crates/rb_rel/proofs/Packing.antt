@@ -14,7 +14,7 @@ use Rattle.rb_layout.specs.declared.layout.Part.{Part}
 use Rattle.rb_layout.specs.declared.layout.Kind.{Kind}
 use Rattle.rb_layout.specs.declared.layout.Kind.TheVariants.{Const, Bits, Word, Pointer}
 use Rattle.rb_rel.specs.Relation.{HoldsKind, IsInPart, WordHolds}
-use Rattle.rb_rel.proofs.Bits.{same_bits}
+use Rattle.std.proofs.lemmas.Nat.Bits.{same_from_bits_below}
 
 -- the number that a part has to hold
 abbrev pub number_of : (List ℕ → List ℕ) → (ℕ → ℕ) → ℕ → Kind → ℕ
@@ -82,7 +82,7 @@ module _ (subs : List ℕ → List ℕ) (ats : ℕ → ℕ) where
 
   -- each part is there
   packed_part : (ps : List Part) (k : ℕ) (p : Part) → Apart ps → Fit ps → slice_get ps k ≡ Some p → take_of (packed subs ats ps) p.o p.l ≡ N p
-  packed_part ps k p apart fit is = same_bits p.l _ _ (take_fits (packed subs ats ps) p.o p.l) (fit k p is)
+  packed_part ps k p apart fit is = same_from_bits_below p.l _ _ (take_fits (packed subs ats ps) p.o p.l) (fit k p is)
       (λ i lt. bit_at_take (packed subs ats ps) p.o p.l i lt ∙ packed_bit ps k p i apart fit is lt)
 
   packed_below : (ps : List Part) (width : ℕ) → Fit ps → ((k : ℕ) (p : Part) → slice_get ps k ≡ Some p → p.o + p.l ≤ width) → packed subs ats ps < 2 ^ width

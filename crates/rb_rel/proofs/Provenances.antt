@@ -26,7 +26,6 @@ use Rattle.rb_layout.specs.Positions.{root_type}
 use Rattle.rb_rel.proofs.Lawful.{fits_type, fits_step, is_named}
 use Rattle.rb_rel.proofs.Lists.{both, and_true}
 use Rattle.rb_rel.proofs.Opens.{fits-Con, fits-Num}
-
 use Rattle.rb_rel.proofs.Reading.{same_nat}
 
 -- where both parts went well, the whole did

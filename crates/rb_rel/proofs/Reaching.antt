@@ -17,7 +17,7 @@ use Rattle.rb_layout.specs.declared.layout.FlatTree.TheFolds.{fold-roll-FlatArm}
 use Rattle.rb_layout.specs.declared.layout.FlatArm.{FlatArm}
 use Rattle.rb_layout.specs.Splits.{Test, Is, IsNone, Route, behind, Under, arm_routes, else_routes, literals_of, routes_step, routes_arm, routes_of, routes_under}
 use Rattle.rb_layout.specs.Flattening.{Numbering, arms_count, arms_from, tree_step, arm_step, numbering, flat_tree}
-use Rattle.rb_layout.proofs.FlatForms.{Each} 
+use Rattle.rb_layout.proofs.FlatForms.{Each}
 use Rattle.rb_layout.proofs.FlatForms as F
 use Rattle.rb_layout.proofs.WrittenForms as D
 use Rattle.rb_rel.proofs.Lists.{get-left, get-right, get-mapped}

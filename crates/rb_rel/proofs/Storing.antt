@@ -37,6 +37,7 @@ module _ (number : FlatWord → ℕ) where
       rest : (a < at) ⊎ (at + (f.width / 8 + bytes_in fs) ≤ a) → (a < at + f.width / 8) ⊎ (at + f.width / 8 + bytes_in fs ≤ a)
       rest (inl lt) = inl (omega (arith, lt))
       rest (inr le) = inr (omega (arith, le))
+
       first : (a < at) ⊎ (at + (f.width / 8 + bytes_in fs) ≤ a) → (a < at) ⊎ (at + f.width / 8 ≤ a)
       first (inl lt) = inl lt
       first (inr le) = inr (omega (arith, le))
@@ -188,9 +189,11 @@ module _ (number : FlatWord → ℕ) where
     where
       full : Full
       full = record { next = next; size = r.size; align = r.align; limit = limit }
+
       split : (l : Laid) → behind (aligned next r.align, r.size) l ≡ Fits bs p → (cs : List (ℕ × ℕ)) × (l ≡ Fits cs p) × (bs ≡ (aligned next r.align, r.size) ∷ cs)
       split (Fits cs q) h = (cs, (let x : (aligned next r.align, r.size) ∷ cs ≡ bs = cc in let y : q ≡ p = cc in ap (Fits cs) y), (let x : (aligned next r.align, r.size) ∷ cs ≡ bs = cc in sym x))
       split (Over f) h = absurd cc
+
       over : Over full ≡ Fits bs p → ⊥
       over h = cc
 

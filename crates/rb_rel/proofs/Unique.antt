@@ -24,7 +24,7 @@ use Rattle.rb_rel.specs.Relation.{HoldsKind, IsFound, Placed, Made, Represents, 
 use Rattle.rb_rel.specs.Reading.{walk}
 use Rattle.rb_rel.proofs.Lawful.{Lawful, Holder, units_of}
 use Rattle.rb_layout.specs.Flat.{IsFlat, IsAbove}
-use Rattle.rb_rel.proofs.Bits.{same_bits}
+use Rattle.std.proofs.lemmas.Nat.Bits.{same_from_bits_below}
 use Rattle.rb_rel.proofs.Represented.{Opened, opened, Represents-int, Represents-count}
 use Rattle.rb_rel.proofs.Leading.{leads_made}
 use Rattle.rb_rel.proofs.Opens.{fixes}
@@ -141,7 +141,7 @@ module _ (types : List DataDecl) (layouts : List Layout) (m : Memory) (clean : B
   words_at (Int bits) v v' ws ws' r r' h =
       let a = Represents-int types layouts m clean bits v ws r in
       let b = Represents-int types layouts m clean bits v' ws' r' in
-      let e : a.0 ≡ b.0 = same_bits bits a.0 b.0 a.3 b.3 (λ i lt. ap (λ w. bit_at (slice_index w 0) i) (sym a.2) ∙ h i lt ∙ ap (λ w. bit_at (slice_index w 0) i) b.2) in
+      let e : a.0 ≡ b.0 = same_from_bits_below bits a.0 b.0 a.3 b.3 (λ i lt. ap (λ w. bit_at (slice_index w 0) i) (sym a.2) ∙ h i lt ∙ ap (λ w. bit_at (slice_index w 0) i) b.2) in
       a.2 ∙ ap (λ n. n ∷ []) e ∙ sym b.2
   words_at (Named t) v v' ws ws' r r' h =
       let l = Represents-count types layouts m clean r in

@@ -1,5 +1,5 @@
 -- How many switches it takes to look at values: the numbers from which bounds are made.
-use Rattle.std.specs.Prelude.{ℕ, zero, suc, ◌+◌, ◌*◌, ◌==◌, ◌&&◌, max, not, drop, length, List, [], ◌∷◌, ◌++◌, map, filter, Bool, true, false, Option, Some, None, if◌then◌else◌}
+use Rattle.std.specs.Prelude.{ℕ, zero, suc, ◌+◌, ◌*◌, ◌==◌, ◌&&◌, max, not, drop, length, List, [], ◌∷◌, ◌++◌, map, filter, Bool, false, Option, Some, None, if◌then◌else◌}
 use Rattle.std.specs.List.{flat_map, sum_by, list_all}
 use Rattle.rb_core.specs.declared.types.Ty.{Ty}
 use Rattle.rb_core.specs.declared.types.Ty.TheVariants.{Int, Named}
@@ -15,6 +15,7 @@ use Rattle.rb_layout.specs.declared.layout.FlatTree.TheOpen as T
 use Rattle.rb_layout.specs.declared.layout.FlatTree.TheOpen.{FlatTree-F}
 use Rattle.rb_layout.specs.declared.layout.FlatTree.TheFolds.{fold-FlatTree}
 use Rattle.rb_layout.specs.declared.layout.FlatArm.{FlatArm-F}
+use Rattle.rb_layout.specs.Flattening.{same_path}
 use Rattle.rb_layout.specs.Positions.{layout_of}
 
 -- Splits -------------------------------------------------------------------------------------
@@ -86,12 +87,6 @@ leaves_in (Some layout) = layout.leaves
 -- a leaf for the values of one constructor
 abbrev pub is_leaf_for : ℕ → Leaf → Bool
 is_leaf_for k leaf = begins_with k (heads_of leaf.prov)
-
-abbrev pub same_path : List ℕ → List ℕ → Bool
-same_path [] [] = true
-same_path [] (j ∷ q) = false
-same_path (i ∷ p) [] = false
-same_path (i ∷ p) (j ∷ q) = (i == j) && same_path p q
 
 -- a position and the type there
 abbrev pub same_place : Head → Head → Bool

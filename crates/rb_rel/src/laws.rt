@@ -1,8 +1,13 @@
 //! The laws of representation, each the contract of a function that does nothing.
 
 ghost use Rattle.rb_rel.specs.Laws.{
-    GrowthKeeps, ListsHaveWords, ReadingGivesBits, RepresentedAreTyped, SplitsLead, ValuesHaveWords,
-    WordsAreOneValue
+  GrowthKeeps,
+  ListsHaveWords,
+  ReadingGivesBits,
+  RepresentedAreTyped,
+  SplitsLead,
+  ValuesHaveWords,
+  WordsAreOneValue,
 };
 
 /// What represents a value still does after blocks were placed and words stored in them.
