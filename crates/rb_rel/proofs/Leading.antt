@@ -1,5 +1,5 @@
 -- The splits, read on words that represent a value, lead to its leaf.
-use Rattle.std.proofs.Common.{◌≡◌, ℕ, List, Bool, Option, Some, None, refl, sym, subst, ap, ◌∙◌}
+use Rattle.std.proofs.Common.{◌≡◌, ℕ, List, Bool, Option, Some, None, refl, sym, ap, ◌∙◌}
 use Rattle.std.proofs.lemmas.Option.{same_Some}
 use Rattle.rb_core.specs.declared.value.Value.{Value}
 use Rattle.rb_core.specs.declared.types.Ty.TheVariants.{Named}
@@ -60,8 +60,9 @@ module _ (types : List DataDecl) (layouts : List Layout) (m : Memory) (clean : B
       ∙ ap Some k.3
 
   pub leads : (t : ℕ) (v : Value) (ws : List ℕ) (layout : Layout) → layout_of layouts t ≡ Some layout
-      → Represents types layouts m clean (Named t) v ws → walk layout.tree ws m ≡ leaf_of layout v
+      → Represents types layouts m clean (Named t) v ws → (n : ℕ) × (leaf_of layout v ≡ Some n) × (walk layout.tree ws m ≡ Some n)
   leads t v ws layout is r =
       let o = opened types layouts m clean r in
-      let same : o.made.layout ≡ layout = same_Some _ _ (sym o.made.is_layout ∙ is) in
-      subst (λ (x : Layout). walk x.tree ws m ≡ leaf_of x v) same (leads_made t v ws o ∙ sym o.made.is_leaf)
+      let d = o.made in
+      let same : d.layout ≡ layout = same_Some _ _ (sym d.is_layout ∙ is) in
+      (d.number, ap (λ (x : Layout). leaf_of x v) (sym same) ∙ d.is_leaf, ap (λ (x : Layout). walk x.tree ws m) (sym same) ∙ leads_made t v ws o)

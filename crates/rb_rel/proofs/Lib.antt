@@ -1,6 +1,7 @@
 pub mod Agreeing
 pub mod Barred
 pub mod Bits
+pub mod Clean
 pub mod Counting
 pub mod Declared
 pub mod Examples
@@ -18,6 +19,7 @@ pub mod Lists
 pub mod Makings
 pub mod Opens
 pub mod Packing
+pub mod Parts
 pub mod Provenances
 pub mod Reaching
 pub mod Reading
@@ -26,3 +28,4 @@ pub mod Storing
 pub mod Trees
 pub mod Typing
 pub mod Unique
+pub mod Ways

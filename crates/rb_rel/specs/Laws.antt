@@ -37,7 +37,7 @@ ReadingGivesBits = (types : List DataDecl) (layouts : List Layout) (m : Memory) 
 abbrev pub SplitsLead : Type 0
 SplitsLead = (p : Program) → IsTyped p → Agrees p → (m : Memory) (clean : Bool) → IsGood m
     → (t : ℕ) (v : Value) (ws : List ℕ) (layout : Layout) → layout_of (flat_layouts p) t ≡ Some layout
-    → Represents p.types (flat_layouts p) m clean (Named t) v ws → walk layout.tree ws m ≡ leaf_of layout v
+    → Represents p.types (flat_layouts p) m clean (Named t) v ws → (n : ℕ) × (leaf_of layout v ≡ Some n) × (walk layout.tree ws m ≡ Some n)
 
 -- two values of one type that the same words represent are equal
 abbrev pub WordsAreOneValue : Type 0

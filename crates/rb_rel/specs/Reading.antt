@@ -1,5 +1,5 @@
 -- What is read at a location of words, and the leaf to which splits lead.
-use Rattle.std.specs.Prelude.{◌≡◌, ℕ, ◌+◌, ◌*◌, ◌≤◌, Bool, nat_eq, List, [], ◌∷◌, Option, Some, None, Result, Ok, Err, slice_get, if◌then◌else◌}
+use Rattle.std.specs.Prelude.{◌≡◌, ℕ, ◌+◌, ◌*◌, ◌≤◌, Bool, nat_eq, List, [], ◌∷◌, ◌++◌, Option, Some, None, Result, Ok, Err, slice_get, if◌then◌else◌}
 use Rattle.rb_core.specs.declared.layout_decl.Loc.{Loc}
 use Rattle.rb_core.specs.declared.layout_decl.Step.{Step}
 use Rattle.rb_bits.specs.Words.{take_of}
@@ -13,7 +13,9 @@ use Rattle.rb_layout.specs.declared.layout.FlatArm.{FlatArm, FlatArm-F}
 use Rattle.rb_layout.specs.declared.layout.Leaf.{Leaf}
 use Rattle.rb_layout.specs.declared.layout.FlatWord.{FlatWord}
 use Rattle.rb_layout.specs.declared.layout.WordRef.{WordRef}
-use Rattle.rb_layout.specs.Locations.{Reached}
+use Rattle.rb_layout.specs.declared.layout.Part.{Part}
+use Rattle.rb_layout.specs.declared.layout.Kind.{Kind}
+use Rattle.rb_layout.specs.Locations.{Reached, reached_at}
 use Rattle.rb_layout.specs.Words.{words_in, flat_at}
 use Rattle.rb_layout.specs.Splits.{Under}
 use Rattle.rb_rel.specs.Relation.{IsFound, WordHolds}
@@ -49,6 +51,22 @@ pub record IsRead (leaf : Leaf) (ws : List ℕ) (m : Memory) (clean : Bool) (sub
   pub some : 1 ≤ x.l
   pub inside : x.o + x.l ≤ x.word.width
   pub is_read : n ≡ Some (take_of found x.o x.l)
+
+-- a location that leads to exactly one part, of so many bits and of this kind
+pub record LeadsTo (leaf : Leaf) (loc : Loc) (l : ℕ) (kind : Kind) : Type 0 where
+  pub reached : Reached
+  pub resolves : reached_at leaf loc ≡ Some reached
+  pub number : ℕ
+  pub part : Part
+  pub is_part : slice_get reached.word.parts number ≡ Some part
+  pub first : part.o ≡ reached.o
+  pub long : part.l ≡ reached.l
+  pub bits : part.l ≡ l
+  pub is_kind : part.kind ≡ kind
+
+-- a location that goes on through the pointer to which it leads
+abbrev pub through : Loc → Step → Loc
+through loc s = record loc { steps = loc.steps ++ s ∷ [] }
 
 abbrev pub Walk : Type 0
 Walk = List ℕ → Memory → Option ℕ
