@@ -38,6 +38,7 @@ module _ (decls : List LayoutDecl) (opens : List Open) where
 
   pub record WordFits (f : FlatWord) : Type 0 where
     pub tidy : IsTidy f
+    pub some : (k : ℕ) (p : Part) → slice_get f.parts k ≡ Some p → 1 ≤ p.l
     pub kinds : (k : ℕ) (p : Part) → slice_get f.parts k ≡ Some p → KindFits p.l p.kind
 
   abbrev pub AllFit : List FlatWord → Type 0
@@ -209,6 +210,7 @@ module _ (decls : List LayoutDecl) (opens : List Open) where
       apart = are.apart;
       inside = λ k p e. let r = are.from k p e in let i = f.inside r.0 r.1 r.2 in omega (arith, i.1, r.3, r.4);
     };
+    some = λ k p e. let r = are.from k p e in let i = f.inside r.0 r.1 r.2 in omega (arith, i.0, r.4);
     kinds = are.kinds;
   }
 
@@ -217,12 +219,16 @@ module _ (decls : List LayoutDecl) (opens : List Open) where
   only_word f w (suc j) g e = absurd cc
 
   -- in line
-  one_fits : (width : ℕ) (kind : Kind) → KindFits width kind → WordFits (word_of width kind)
-  one_fits width kind fit = record {
+  one_fits : (width : ℕ) (kind : Kind) → 1 ≤ width → KindFits width kind → WordFits (word_of width kind)
+  one_fits width kind some fit = record {
     tidy = record { apart = λ j k p q lt a b. absurd (let s = slice_get_within (word_of width kind).parts k q b in omega (arith, lt, s)); inside = inside };
+    some = bits;
     kinds = kinds;
   }
     where
+      bits : (k : ℕ) (p : Part) → slice_get (word_of width kind).parts k ≡ Some p → 1 ≤ p.l
+      bits zero p e = subst (λ (y : Part). 1 ≤ y.l) (same_Some _ p e) some
+      bits (suc k) p e = absurd cc
       inside : (k : ℕ) (p : Part) → slice_get (word_of width kind).parts k ≡ Some p → p.o + p.l ≤ width
       inside zero p e = subst (λ (y : Part). y.o + y.l ≤ width) (same_Some _ p e) (omega arith)
       inside (suc k) p e = absurd cc
@@ -231,93 +237,94 @@ module _ (decls : List LayoutDecl) (opens : List Open) where
       kinds zero p e = subst (λ (y : Part). KindFits y.l y.kind) (same_Some _ p e) fit
       kinds (suc k) p e = absurd cc
 
-  words_fit : (path : List ℕ) (s : ℕ) → type_at opens path ≡ Some (Named s) → (j : ℕ) (widths : List ℕ) → ((i w : ℕ) → slice_get widths i ≡ Some w → slice_get (shape_of decls s) (j + i) ≡ Some w) → AllFit (words_of path j widths)
-  words_fit path s is j [] h = no_words
-  words_fit path s is j (w ∷ widths) h =
-      more_words (word_of w (Word path j) ∷ []) (words_of path (j + 1) widths)
-      (only_word (word_of w (Word path j)) (one_fits w (Word path j) (s, is, (let z : j ≡ j + 0 = omega arith in ap (slice_get (shape_of decls s)) z ∙ h 0 w refl))))
-      (words_fit path s is (j + 1) widths (λ i x e. let z : j + 1 + i ≡ j + suc i = omega arith in ap (slice_get (shape_of decls s)) z ∙ h (suc i) x e))
+  module _ (ints : (path : List ℕ) (bits : ℕ) → type_at opens path ≡ Some (Int bits) → 1 ≤ bits) (shapes : (s j w : ℕ) → slice_get (shape_of decls s) j ≡ Some w → 1 ≤ w) where
+    words_fit : (path : List ℕ) (s : ℕ) → type_at opens path ≡ Some (Named s) → (j : ℕ) (widths : List ℕ) → ((i w : ℕ) → slice_get widths i ≡ Some w → slice_get (shape_of decls s) (j + i) ≡ Some w) → AllFit (words_of path j widths)
+    words_fit path s is j [] h = no_words
+    words_fit path s is j (w ∷ widths) h =
+        more_words (word_of w (Word path j) ∷ []) (words_of path (j + 1) widths)
+        (only_word (word_of w (Word path j)) (let z : j ≡ j + 0 = omega arith in let at = ap (slice_get (shape_of decls s)) z ∙ h 0 w refl in one_fits w (Word path j) (shapes s j w at) (s, is, at)))
+        (words_fit path s is (j + 1) widths (λ i x e. let z : j + 1 + i ≡ j + suc i = omega arith in ap (slice_get (shape_of decls s)) z ∙ h (suc i) x e))
 
-  inlined_fit : (path : List ℕ) (o : Option Ty) → type_at opens path ≡ o → AllFit (inlined decls o path)
-  inlined_fit path None is = no_words
-  inlined_fit path (Some (Int bits)) is = only_word (word_of bits (Bits path 0)) (one_fits bits (Bits path 0) tt)
-  inlined_fit path (Some (Named s)) is = words_fit path s is 0 (shape_of decls s) (λ i w e. let z : 0 + i ≡ i = omega arith in ap (slice_get (shape_of decls s)) z ∙ e)
+    inlined_fit : (path : List ℕ) (o : Option Ty) → type_at opens path ≡ o → AllFit (inlined decls o path)
+    inlined_fit path None is = no_words
+    inlined_fit path (Some (Int bits)) is = only_word (word_of bits (Bits path 0)) (one_fits bits (Bits path 0) (ints path bits is) tt)
+    inlined_fit path (Some (Named s)) is = words_fit path s is 0 (shape_of decls s) (λ i w e. let z : 0 + i ≡ i = omega arith in ap (slice_get (shape_of decls s)) z ∙ e)
 
-  -- Kinds -------------------------------------------------------------------------------------
-  whole_fits : (l : ℕ) (path : List ℕ) (o : Option Ty) → type_at opens path ≡ o → FitsWhole decls o l → (x : Kind) → whole_kind o path ≡ Some x → KindFits l x
-  whole_fits l path None is f x e = absurd cc
-  whole_fits l path (Some (Int bits)) is f x e = subst (KindFits l) (same_Some (Bits path 0) x e) tt
-  whole_fits l path (Some (Named s)) is f x e = subst (KindFits l) (same_Some (Word path 0) x e) (s, is, ap (λ ws. slice_get ws 0) f)
+    -- Kinds -------------------------------------------------------------------------------------
+    whole_fits : (l : ℕ) (path : List ℕ) (o : Option Ty) → type_at opens path ≡ o → FitsWhole decls o l → (x : Kind) → whole_kind o path ≡ Some x → KindFits l x
+    whole_fits l path None is f x e = absurd cc
+    whole_fits l path (Some (Int bits)) is f x e = subst (KindFits l) (same_Some (Bits path 0) x e) tt
+    whole_fits l path (Some (Named s)) is f x e = subst (KindFits l) (same_Some (Word path 0) x e) (s, is, ap (λ ws. slice_get ws 0) f)
 
-  slice_fits : (l a : ℕ) (path : List ℕ) (o : Option Ty) → (x : Kind) → kind_if_open o (Bits path a) ≡ Some x → KindFits l x
-  slice_fits l a path None x e = absurd cc
-  slice_fits l a path (Some ty) x e = subst (KindFits l) (same_Some (Bits path a) x e) tt
+    slice_fits : (l a : ℕ) (path : List ℕ) (o : Option Ty) → (x : Kind) → kind_if_open o (Bits path a) ≡ Some x → KindFits l x
+    slice_fits l a path None x e = absurd cc
+    slice_fits l a path (Some ty) x e = subst (KindFits l) (same_Some (Bits path a) x e) tt
 
-  word_of_fits : (l j : ℕ) (path : List ℕ) (o : Option Ty) → type_at opens path ≡ o → FitsWord decls o l j → (x : Kind) → kind_if_open o (Word path j) ≡ Some x → KindFits l x
-  word_of_fits l j path None is f x e = absurd cc
-  word_of_fits l j path (Some (Int bits)) is f x e = absurd f
-  word_of_fits l j path (Some (Named s)) is f x e = subst (KindFits l) (same_Some (Word path j) x e) (s, is, f)
+    word_of_fits : (l j : ℕ) (path : List ℕ) (o : Option Ty) → type_at opens path ≡ o → FitsWord decls o l j → (x : Kind) → kind_if_open o (Word path j) ≡ Some x → KindFits l x
+    word_of_fits l j path None is f x e = absurd cc
+    word_of_fits l j path (Some (Int bits)) is f x e = absurd f
+    word_of_fits l j path (Some (Named s)) is f x e = subst (KindFits l) (same_Some (Word path j) x e) (s, is, f)
 
-  -- a kind, by what it lays and what is written
-  well_kind : (kind : PartKind) (lay : Laying (Option Kind)) (a : Around Content) → the_kinds kind ≡ lay → around kind ≡ a
-      → ((l : ℕ) → Fits decls opens l a.it → (n : ℕ) (x : Kind) → (lay n).it ≡ Some x → KindFits l x) → (Demands a.inside → (n : ℕ) → BlocksFit (lay n).blocks) → WellKind kind
-  well_kind kind lay a e1 e2 fits blocks = record {
-    fits = λ l f n x e. fits l (subst (λ (y : Around Content). Fits decls opens l y.it) e2 f) n x (ap (λ (y : Laying (Option Kind)). (y n).it) (sym e1) ∙ e);
-    blocks = λ d n. subst (λ (y : Laying (Option Kind)). BlocksFit (y n).blocks) (sym e1) (blocks (subst (λ (y : Around Content). Demands y.inside) e2 d) n);
-  }
+    -- a kind, by what it lays and what is written
+    well_kind : (kind : PartKind) (lay : Laying (Option Kind)) (a : Around Content) → the_kinds kind ≡ lay → around kind ≡ a
+        → ((l : ℕ) → Fits decls opens l a.it → (n : ℕ) (x : Kind) → (lay n).it ≡ Some x → KindFits l x) → (Demands a.inside → (n : ℕ) → BlocksFit (lay n).blocks) → WellKind kind
+    well_kind kind lay a e1 e2 fits blocks = record {
+      fits = λ l f n x e. fits l (subst (λ (y : Around Content). Fits decls opens l y.it) e2 f) n x (ap (λ (y : Laying (Option Kind)). (y n).it) (sym e1) ∙ e);
+      blocks = λ d n. subst (λ (y : Laying (Option Kind)). BlocksFit (y n).blocks) (sym e1) (blocks (subst (λ (y : Around Content). Demands y.inside) e2 d) n);
+    }
 
-  abbrev F : Type 0
-  F = Laying (List FlatWord)
+    abbrev F : Type 0
+    F = Laying (List FlatWord)
 
-  abbrev G : Type 0
-  G = Laying (Option Kind)
+    abbrev G : Type 0
+    G = Laying (Option Kind)
 
-  abbrev H : Type 0
-  H = Laying (List Part)
+    abbrev H : Type 0
+    H = Laying (List Part)
 
-  item_well : (item : LayItem) → WellItem item
-  item_well = D.item-induction WellItem WellKind (record {
-    word = λ bits parts each d n.
-        let e = D.fold-Word (List Item) (Around Content) (Around WrittenPart) J.item_step J.kind_step J.part_step bits parts in
-        let lay = in_turn (map the_parts parts) n in
-        let demands : Demands (AWord bits (writtens parts) ∷ items_inside (map around_part parts)) = subst Demands e d in
-        let fit : PartsFit decls opens bits (writtens parts) = demands 0 (AWord bits (writtens parts)) refl in
-        subst (λ (y : F). LaidFits (y n)) (sym (D.fold-Word F G H (item_step decls opens) (kind_step opens) part_step bits parts)) (
-          only_word (record { width = bits; parts = lay.it }) (word_fits bits (writtens parts) lay.it fit (parts_are parts each bits n fit)),
-          parts_blocks parts each (λ i item is. demands (suc i) item is) n,
-        );
-    inline = λ path d n.
-        subst (λ (y : F). LaidFits (y n)) (sym (D.fold-Inline F G H (item_step decls opens) (kind_step opens) part_step path)) (inlined_fit path (type_at opens path) refl, no_blocks);
-    const = λ c. well_kind (K.Const c) (λ n. without_blocks (Some (Const c))) (J.plain (Number c)) (D.fold-Const F G H (item_step decls opens) (kind_step opens) part_step c)
-        (D.fold-Const (List Item) (Around Content) (Around WrittenPart) J.item_step J.kind_step J.part_step c)
-        (λ l f n x e. subst (KindFits l) (same_Some (Const c) x e) f) (λ d n. no_blocks);
-    whole = λ path. well_kind (K.Whole path) (λ n. without_blocks (whole_kind (type_at opens path) path)) (J.plain (Whole path)) (D.fold-Whole F G H (item_step decls opens) (kind_step opens) part_step path)
-        (D.fold-Whole (List Item) (Around Content) (Around WrittenPart) J.item_step J.kind_step J.part_step path)
-        (λ l f n x e. whole_fits l path (type_at opens path) refl f x e) (λ d n. no_blocks);
-    slice = λ path a b. well_kind (K.Slice path a b) (λ n. without_blocks (kind_if_open (type_at opens path) (Bits path a))) (J.plain (Slice path a b)) (D.fold-Slice F G H (item_step decls opens) (kind_step opens) part_step path a b)
-        (D.fold-Slice (List Item) (Around Content) (Around WrittenPart) J.item_step J.kind_step J.part_step path a b)
-        (λ l f n x e. slice_fits l a path (type_at opens path) x e) (λ d n. no_blocks);
-    word_of = λ path j. well_kind (K.Word path j) (λ n. without_blocks (kind_if_open (type_at opens path) (Word path j))) (J.plain (WordOf path j)) (D.fold-WordOf F G H (item_step decls opens) (kind_step opens) part_step path j)
-        (D.fold-WordOf (List Item) (Around Content) (Around WrittenPart) J.item_step J.kind_step J.part_step path j)
-        (λ l f n x e. word_of_fits l j path (type_at opens path) refl f x e) (λ d n. no_blocks);
-    pointer = λ align items each.
-        let lay : Laying (List FlatWord) = in_turn (map (item_laid decls opens) items) in
-        well_kind (K.Pointer align items) (λ n. P.pointed align n (lay n)) (record { it = Address align; inside = flat_map (λ xs. xs) (map item_list items) }) (D.fold-Pointer F G H (item_step decls opens) (kind_step opens) part_step align items)
-        (D.fold-Pointer (List Item) (Around Content) (Around WrittenPart) J.item_step J.kind_step J.part_step align items)
-        (λ l f n x e. subst (KindFits l) (same_Some (Pointer align (n + length (lay n).blocks)) x e) tt)
-        (λ d n.
-        let a = items_fit items each (inside_demands items d) n in
-        more_blocks (lay n).blocks (record { align = align; words = (lay n).it } ∷ []) a.1 (only_block (record { align = align; words = (lay n).it }) a.0));
-  })
-    where
-      only_block : (block : Block) → AllFit block.words → BlocksFit (block ∷ [])
-      only_block block w zero x e = subst (λ (y : Block). AllFit y.words) (same_Some block x e) w
-      only_block block w (suc b) x e = absurd cc
+    item_well : (item : LayItem) → WellItem item
+    item_well = D.item-induction WellItem WellKind (record {
+      word = λ bits parts each d n.
+          let e = D.fold-Word (List Item) (Around Content) (Around WrittenPart) J.item_step J.kind_step J.part_step bits parts in
+          let lay = in_turn (map the_parts parts) n in
+          let demands : Demands (AWord bits (writtens parts) ∷ items_inside (map around_part parts)) = subst Demands e d in
+          let fit : PartsFit decls opens bits (writtens parts) = demands 0 (AWord bits (writtens parts)) refl in
+          subst (λ (y : F). LaidFits (y n)) (sym (D.fold-Word F G H (item_step decls opens) (kind_step opens) part_step bits parts)) (
+            only_word (record { width = bits; parts = lay.it }) (word_fits bits (writtens parts) lay.it fit (parts_are parts each bits n fit)),
+            parts_blocks parts each (λ i item is. demands (suc i) item is) n,
+          );
+      inline = λ path d n.
+          subst (λ (y : F). LaidFits (y n)) (sym (D.fold-Inline F G H (item_step decls opens) (kind_step opens) part_step path)) (inlined_fit path (type_at opens path) refl, no_blocks);
+      const = λ c. well_kind (K.Const c) (λ n. without_blocks (Some (Const c))) (J.plain (Number c)) (D.fold-Const F G H (item_step decls opens) (kind_step opens) part_step c)
+          (D.fold-Const (List Item) (Around Content) (Around WrittenPart) J.item_step J.kind_step J.part_step c)
+          (λ l f n x e. subst (KindFits l) (same_Some (Const c) x e) f) (λ d n. no_blocks);
+      whole = λ path. well_kind (K.Whole path) (λ n. without_blocks (whole_kind (type_at opens path) path)) (J.plain (Whole path)) (D.fold-Whole F G H (item_step decls opens) (kind_step opens) part_step path)
+          (D.fold-Whole (List Item) (Around Content) (Around WrittenPart) J.item_step J.kind_step J.part_step path)
+          (λ l f n x e. whole_fits l path (type_at opens path) refl f x e) (λ d n. no_blocks);
+      slice = λ path a b. well_kind (K.Slice path a b) (λ n. without_blocks (kind_if_open (type_at opens path) (Bits path a))) (J.plain (Slice path a b)) (D.fold-Slice F G H (item_step decls opens) (kind_step opens) part_step path a b)
+          (D.fold-Slice (List Item) (Around Content) (Around WrittenPart) J.item_step J.kind_step J.part_step path a b)
+          (λ l f n x e. slice_fits l a path (type_at opens path) x e) (λ d n. no_blocks);
+      word_of = λ path j. well_kind (K.Word path j) (λ n. without_blocks (kind_if_open (type_at opens path) (Word path j))) (J.plain (WordOf path j)) (D.fold-WordOf F G H (item_step decls opens) (kind_step opens) part_step path j)
+          (D.fold-WordOf (List Item) (Around Content) (Around WrittenPart) J.item_step J.kind_step J.part_step path j)
+          (λ l f n x e. word_of_fits l j path (type_at opens path) refl f x e) (λ d n. no_blocks);
+      pointer = λ align items each.
+          let lay : Laying (List FlatWord) = in_turn (map (item_laid decls opens) items) in
+          well_kind (K.Pointer align items) (λ n. P.pointed align n (lay n)) (record { it = Address align; inside = flat_map (λ xs. xs) (map item_list items) }) (D.fold-Pointer F G H (item_step decls opens) (kind_step opens) part_step align items)
+          (D.fold-Pointer (List Item) (Around Content) (Around WrittenPart) J.item_step J.kind_step J.part_step align items)
+          (λ l f n x e. subst (KindFits l) (same_Some (Pointer align (n + length (lay n).blocks)) x e) tt)
+          (λ d n.
+          let a = items_fit items each (inside_demands items d) n in
+          more_blocks (lay n).blocks (record { align = align; words = (lay n).it } ∷ []) a.1 (only_block (record { align = align; words = (lay n).it }) a.0));
+    })
+      where
+        only_block : (block : Block) → AllFit block.words → BlocksFit (block ∷ [])
+        only_block block w zero x e = subst (λ (y : Block). AllFit y.words) (same_Some block x e) w
+        only_block block w (suc b) x e = absurd cc
 
-  all_well : (items : List LayItem) → Each WellItem items
-  all_well [] = tt
-  all_well (i ∷ items) = (item_well i, all_well items)
+    all_well : (items : List LayItem) → Each WellItem items
+    all_well [] = tt
+    all_well (i ∷ items) = (item_well i, all_well items)
 
-  -- the words of a flat leaf fit, where its items do
-  pub leaf_fits : (items : List LayItem) → Demands (J.item_lists items) → AllFit (items_laid decls opens items 0).it × BlocksFit (items_laid decls opens items 0).blocks
-  leaf_fits items d = items_fit items (all_well items) (leaf_demands items d) 0
+    -- the words of a flat leaf fit, where its items do
+    pub leaf_fits : (items : List LayItem) → Demands (J.item_lists items) → AllFit (items_laid decls opens items 0).it × BlocksFit (items_laid decls opens items 0).blocks
+    leaf_fits items d = items_fit items (all_well items) (leaf_demands items d) 0

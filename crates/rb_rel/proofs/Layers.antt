@@ -9,7 +9,7 @@ use Rattle.std.proofs.Math.Pow.{shr_lt}
 use Rattle.std.proofs.Math.Nat.{mul-div_cancel}
 use Rattle.rb_core.specs.declared.value.Value.{Value}
 use Rattle.rb_core.specs.declared.types.Ty.{Ty}
-use Rattle.rb_core.specs.declared.types.Ty.TheVariants.{Named}
+use Rattle.rb_core.specs.declared.types.Ty.TheVariants.{Int, Named}
 use Rattle.rb_core.specs.declared.program.Program.{Program}
 use Rattle.rb_core.specs.TypedPrograms.{IsTyped}
 use Rattle.rb_core.specs.Values.{part_at}
@@ -30,7 +30,7 @@ use Rattle.rb_layout.specs.A4.{IsBlockWidth, IsAlignment}
 use Rattle.rb_layout.specs.Flattening.{type_at, same_path, shape_of, shape_in, flat_layouts, flat_leaf}
 use Rattle.rb_layout.specs.Items.{item_lists, items_in, leaves_in, items_of}
 use Rattle.rb_layout.specs.Pointers.{PointsTo}
-use Rattle.rb_layout.specs.Positions.{Open, open_positions, leaf_of, layout_of}
+use Rattle.rb_layout.specs.Positions.{Open, open_positions, root_type, leaf_of, layout_of}
 use Rattle.rb_layout.specs.Words.{words_in, words_of_block, flat_at, begins_at, bytes_in}
 use Rattle.rb_rel.specs.Placing.{Fits, Request, request_of, lay}
 use Rattle.rb_rel.specs.Relation.{IsFound, WordHolds, Placed, Represents, built}
@@ -43,6 +43,9 @@ use Rattle.rb_rel.proofs.Holding.{path_is}
 use Rattle.rb_rel.proofs.Lists.{get-map, get-mapped}
 use Rattle.rb_rel.proofs.Packing.{number_of, packed, CanHold, packed_holds}
 use Rattle.rb_rel.proofs.Represented.{opened}
+use Rattle.rb_rel.proofs.Widths.{positions_typed, int_wide, shape_wide}
+use Rattle.rb_core.specs.WellNumbered.{is_type}
+use Rattle.rb_core.specs.declared.pattern.Pat.{out-Pat}
 use Rattle.rb_rel.proofs.Storing.{IsBlock, AllStored, all_stored, laid_more}
 
 -- the address of each block
@@ -133,7 +136,12 @@ module _ (p : Program) (agrees : Agrees p) where
       let d0 : Demands p.layouts (open_positions p.types leaf.prov) (items_of p.layouts t n) = agrees.a3 t layout n leaf is at in
       let d1 = subst (λ its. Demands p.layouts (open_positions p.types leaf.prov) its) items d0 in
       let d2 = subst (λ (y : Leaf). Demands p.layouts (open_positions p.types y.prov) (item_lists w.written.items)) w.is_leaf d1 in
-      let f : LeafFits (flat_leaf p.types p.layouts w.written) = leaf_fits p.layouts (open_positions p.types w.written.provenance) w.written.items d2 in
+      let root = (lawful p agrees typed).provenances.root t layout n leaf is at in
+      let prov : root_type (out-Pat w.written.provenance) ≡ Named t = ap (λ (y : Leaf). root_type (out-Pat y.prov)) (sym w.is_leaf) ∙ root in
+      let ints : (path : List ℕ) (bits : ℕ) → type_at (open_positions p.types w.written.provenance) path ≡ Some (Int bits) → 1 ≤ bits
+      = λ path bits e. (let o = open_of (open_positions p.types w.written.provenance) path (Int bits) e in
+      int_wide p.types typed.numbered.types bits (ap (is_type p.types) (sym o.4) ∙ positions_typed p.types typed.numbered.types w.written.provenance t prov o.0 o.1 o.2)) in
+      let f : LeafFits (flat_leaf p.types p.layouts w.written) = leaf_fits p.layouts (open_positions p.types w.written.provenance) ints (shape_wide p typed agrees.a1) w.written.items d2 in
       let fits : LeafFits leaf = subst LeafFits (sym w.is_leaf) f in
       let flat = (lawful p agrees typed).flat t layout n leaf is at in
       let a4 = agrees.a4 t layout n leaf is at in

@@ -25,7 +25,9 @@ pub mod Reaching
 pub mod Reading
 pub mod Represented
 pub mod Storing
+pub mod Tidy
 pub mod Trees
 pub mod Typing
 pub mod Unique
 pub mod Ways
+pub mod Widths
