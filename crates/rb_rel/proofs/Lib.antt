@@ -17,6 +17,7 @@ pub mod Leading
 pub mod Leaves
 pub mod Lists
 pub mod Makings
+pub mod Mending
 pub mod Opens
 pub mod Packing
 pub mod Parts

@@ -1,4 +1,5 @@
--- The laws of representation. Those that rest on agreement are over all typed programs whose layouts agree with their types.
+-- The laws of representation. Those that rest on agreement are over all typed programs whose layouts
+-- agree with their types.
 use Rattle.std.specs.Prelude.{◌≡◌, ℕ, List, map, Bool, true, Some}
 use Rattle.rb_core.specs.declared.value.Value.{Value}
 use Rattle.rb_core.specs.declared.types.Ty.{Ty}
@@ -12,6 +13,7 @@ use Rattle.rb_rel.specs.Relation.{IsCleanlyRepresented, Made, Represent, Represe
 use Rattle.rb_rel.specs.Answers.{all_makings, making_of}
 use Rattle.rb_rel.specs.Placing.{Fits, lay, requests_of}
 use Rattle.rb_bytes.specs.Growth.{Grown}
+use Rattle.rb_rel.specs.Switches.{choose_of, greatest, leaves_in, mend_leaf, mend_of}
 use Rattle.rb_rel.specs.Reading.{IsRead, read_loc, walk}
 use Rattle.rb_core.specs.declared.program.Program.{Program}
 use Rattle.rb_core.specs.TypedPrograms.{IsTyped}
@@ -63,3 +65,9 @@ ListsHaveWords = (p : Program) → IsTyped p → Agrees p → (m : Memory) → I
     → all_of_types (map (is_of_type p.types) vs) ts ≡ true → (blocks : List (ℕ × ℕ)) (next : ℕ)
     → lay m.limit m.next (requests_of (flat_layouts p) (all_makings p.types vs ts)) ≡ Fits blocks next
     → (new : Memory) × (ws : List ℕ) × Grown m new blocks next × Represent p.types (flat_layouts p) new true ts vs ws
+
+-- mending is what it says: in the leaf where it takes most, the sum of choosing over the constructors
+-- below the root
+abbrev pub MendingRecurs : Type 0
+MendingRecurs = (p : Program) → Agrees p → (t : ℕ) → let layouts = flat_layouts p in
+    mend_of layouts t ≡ greatest (map (mend_leaf (choose_of layouts)) (leaves_in (layout_of layouts t)))

@@ -1,14 +1,7 @@
 //! The laws of representation, each the contract of a function that does nothing.
 
-ghost use Rattle.rb_rel.specs.Laws.{
-  GrowthKeeps,
-  ListsHaveWords,
-  ReadingGivesBits,
-  RepresentedAreTyped,
-  SplitsLead,
-  ValuesHaveWords,
-  WordsAreOneValue,
-};
+ghost use Rattle.rb_rel.specs.Laws.{GrowthKeeps, ListsHaveWords, MendingRecurs, ReadingGivesBits};
+ghost use Rattle.rb_rel.specs.Laws.{RepresentedAreTyped, SplitsLead, ValuesHaveWords, WordsAreOneValue};
 
 /// What represents a value still does after blocks were placed and words stored in them.
 pub fn growth_keeps_representations()
@@ -45,4 +38,10 @@ pub fn values_have_words()
 /// So have several values, made one after the other, as the arguments of a program are.
 pub fn lists_have_words()
     ensures { ListsHaveWords }
+{}
+
+/// The switches of mending meet their recursion: the bound on it is never reached, since flattening has
+/// no cycle.
+pub fn mending_recurs()
+    ensures { MendingRecurs }
 {}
