@@ -5,6 +5,7 @@ pub mod Excluded
 pub mod Splits
 pub mod Flattening
 pub mod Items
+pub mod Readable
 pub mod Each
 pub mod Pointers
 pub mod Cycles
@@ -19,6 +20,7 @@ pub mod A8
 pub mod A9
 pub mod A10
 pub mod Flat
+pub mod Placing
 pub mod Agreement
 pub mod Spots
 pub mod inner

@@ -1,5 +1,5 @@
 -- The places that are checked, in their order: by rule, type, leaf and item, those without a leaf before those with one.
-use Rattle.std.specs.Prelude.{◌≡◌, ℕ, ◌+◌, ◌⊎◌, List, [], ◌∷◌, ◌++◌, Option, Some, None}
+use Rattle.std.specs.Prelude.{◌≡◌, ℕ, ◌+◌, ◌⊎◌, ◌↔◌, List, [], ◌∷◌, ◌++◌, Option, Some, None}
 use Rattle.rb_core.specs.declared.types.DataDecl.{DataDecl}
 use Rattle.rb_core.specs.declared.program.Program.{Program}
 use Rattle.rb_core.specs.declared.layout_decl.LayoutDecl.{LayoutDecl}
@@ -10,6 +10,7 @@ use Rattle.rb_layout.specs.declared.evidence.Refused.{Refused}
 use Rattle.rb_layout.specs.Positions.{open_positions}
 use Rattle.rb_layout.specs.Flattening.{decl_of}
 use Rattle.rb_layout.specs.Items.{Item, items_of}
+use Rattle.rb_layout.specs.Agreement.{Obeys}
 use Rattle.rb_layout.specs.Cycles.{HasNoCycle}
 use Rattle.rb_layout.specs.A1.{HasShape, FailsShape}
 use Rattle.rb_layout.specs.A2.{HasRoot, FailsRoot}
@@ -148,6 +149,10 @@ Checked p layouts (s ∷ ss) None = Holds p layouts s × Checked p layouts ss No
 Checked p layouts (s ∷ ss) (Some found) =
     ((found.0 ≡ s) × Fails p layouts s found.1) ⊎ (Holds p layouts s × Checked p layouts ss (Some found))
 
+-- the rules hold at all places
+abbrev pub HoldAtAll : Program → List Layout → Type 0
+HoldAtAll p layouts = Checked p layouts (all_spots p layouts) None
+
 -- a refusal says where its place is, and why
 abbrev pub IsRefusal : Refused → Spot → Why → Type 0
 IsRefusal r spot why = (record { rule = r.rule; ty = r.ty; leaf = r.leaf } ≡ place_of spot) × (r.why ≡ why)
@@ -159,3 +164,7 @@ IsRefusedBy p layouts r = (spot : Spot) × Checked p layouts (all_spots p layout
 -- evidence that fails a rule at a place never stands beside the rule holding there
 abbrev pub NeverBeside : Type 0
 NeverBeside = (p : Program) (layouts : List Layout) (spot : Spot) (why : Why) → Holds p layouts spot → Fails p layouts spot why → ⊥
+
+-- the rules hold at all places exactly where the ten of them hold
+abbrev pub PlacesAreAll : Type 0
+PlacesAreAll = (p : Program) (layouts : List Layout) → HoldAtAll p layouts ↔ Obeys p layouts

@@ -17,14 +17,27 @@
 #![tactic(auto)]
 
 pub mod agreed;
+mod barring;
 mod decls;
 pub mod evidence;
+pub mod exclude;
+mod finding;
 pub mod flat_layouts;
 mod flat_leaf;
 mod flat_tree;
+mod goals;
+pub mod known;
 pub mod laws;
 pub mod layout;
+pub mod locate;
+mod part_goals;
 pub mod positions;
+mod settling;
+pub mod sizes;
 
 pub use agreed::Agreed;
+pub use exclude::excludes;
 pub use flat_layouts::flatten;
+pub use known::known_bits;
+pub use locate::resolve_loc;
+pub use sizes::block_size;

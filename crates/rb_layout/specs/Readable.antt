@@ -1,0 +1,14 @@
+-- Leaves whose words are few and short, so that bits and bytes in them can be counted.
+use Rattle.std.specs.Prelude.{◌≡◌, ℕ, ◌≤◌, length, List, Option, Some, slice_get}
+use Rattle.rb_layout.specs.declared.layout.Leaf.{Leaf}
+use Rattle.rb_layout.specs.declared.layout.FlatWord.{FlatWord}
+use Rattle.rb_layout.specs.Words.{words_in}
+
+-- at most 64 words, each of at most 64 bits
+pub record AreShort (words : List FlatWord) : Type 0 where
+  pub few : length words ≤ 64
+  pub short : (k : ℕ) (f : FlatWord) → slice_get words k ≡ Some f → f.width ≤ 64
+
+-- the root words and those of each block are few and short
+pub record IsReadable (leaf : Leaf) : Type 0 where
+  pub words : (b : Option ℕ) → AreShort (words_in leaf b)

@@ -1,0 +1,75 @@
+-- The goals on which a goal rests, found one after the other.
+use Rattle.std.specs.Prelude.{◌≡◌, ℕ, ◌||◌, List, [], ◌∷◌, ◌++◌, Bool, true, false, Option, Some, None, slice_get, if◌then◌else◌}
+use Rattle.rb_core.specs.declared.types.Ty.{Ty}
+use Rattle.rb_core.specs.declared.types.DataDecl.{DataDecl}
+use Rattle.rb_layout.specs.declared.layout.Leaf.{Leaf}
+use Rattle.rb_layout.specs.declared.layout.FlatWord.{FlatWord}
+use Rattle.rb_layout.specs.declared.layout.Part.{Part}
+use Rattle.rb_layout.specs.declared.layout.Layout.{Layout}
+use Rattle.rb_layout.specs.declared.goals.Literal.{Literal}
+use Rattle.rb_layout.specs.declared.goals.Goal.{Goal}
+use Rattle.rb_layout.specs.declared.goals.Entry.{Entry}
+use Rattle.rb_layout.specs.Positions.{layout_of}
+use Rattle.rb_layout.specs.inner.Barring.{position_type, goal_in, same_goal, AreAsked}
+
+-- a goal is among the entries
+abbrev pub has_goal : List Entry → Goal → Bool
+has_goal [] g = false
+has_goal (e ∷ es) g = same_goal e.goal g || has_goal es g
+
+-- the entries with a goal, which is not known to hold where it is new
+abbrev pub with_goal : List Entry → Goal → List Entry
+with_goal es g = if has_goal es g then es else es ++ record { goal = g; barred = false } ∷ []
+
+abbrev pub with_found : List Entry → Option Goal → List Entry
+with_found es None = es
+with_found es (Some g) = with_goal es g
+
+-- the entries with the goals of parts
+abbrev pub with_parts : (List ℕ → Option Ty) → Literal → List Entry → List Part → List Entry
+with_parts type_of x es [] = es
+with_parts type_of x es (p ∷ ps) = with_parts type_of x (with_found es (goal_in type_of x p)) ps
+
+abbrev pub with_root : (List ℕ → Option Ty) → Literal → List Entry → Option FlatWord → List Entry
+with_root type_of x es None = es
+with_root type_of x es (Some f) = with_parts type_of x es f.parts
+
+abbrev pub with_leaf : List DataDecl → Goal → List Entry → Leaf → List Entry
+with_leaf types g es leaf = with_root (position_type types leaf.prov) g.literal es (slice_get leaf.root g.word)
+
+abbrev pub with_leaves : List DataDecl → Goal → List Entry → List Leaf → List Entry
+with_leaves types g es [] = es
+with_leaves types g es (leaf ∷ leaves) = with_leaves types g (with_leaf types g es leaf) leaves
+
+abbrev pub with_layout : List DataDecl → Goal → List Entry → Option Layout → List Entry
+with_layout types g es None = es
+with_layout types g es (Some layout) = with_leaves types g es layout.leaves
+
+-- the entries with the goals below a goal
+abbrev pub with_below : List DataDecl → List Layout → List Entry → Goal → List Entry
+with_below types layouts es g = with_layout types g es (layout_of layouts g.ty)
+
+-- none is known to hold
+abbrev pub AreFresh : List Entry → Type 0
+AreFresh es = (k : ℕ) (e : Entry) → slice_get es k ≡ Some e → e.barred ≡ false
+
+-- each goal of one list is in the other
+abbrev pub Keeps : List Entry → List Entry → Type 0
+Keeps es fs = (g : Goal) → has_goal es g ≡ true → has_goal fs g ≡ true
+
+abbrev pub IsIn : List Entry → Goal → Type 0
+IsIn es g = has_goal es g ≡ true
+
+-- the goals below a goal are among the entries
+abbrev pub HasBelow : List DataDecl → List Layout → List Entry → Goal → Type 0
+HasBelow types layouts es g =
+    (n : ℕ) (layout : Layout) (leaf : Leaf) (f : FlatWord) → layout_of layouts g.ty ≡ Some layout → slice_get layout.leaves n ≡ Some leaf
+    → slice_get leaf.root g.word ≡ Some f → (k : ℕ) (p : Part) (h : Goal) → slice_get f.parts k ≡ Some p
+    → goal_in (position_type types leaf.prov) g.literal p ≡ Some h → IsIn es h
+
+-- all goals on which some rest, none of them known to hold
+pub record AreFound (types : List DataDecl) (layouts : List Layout) (old new : List Entry) : Type 0 where
+  pub asked : AreAsked new
+  pub fresh : AreFresh new
+  pub keeps : Keeps old new
+  pub below : (k : ℕ) (e : Entry) → slice_get new k ≡ Some e → HasBelow types layouts new e.goal

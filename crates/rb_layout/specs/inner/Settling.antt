@@ -1,0 +1,59 @@
+-- Goals that hold are marked, in passes over the entries from the last to the first, until a pass changes nothing.
+use Rattle.std.specs.Prelude.{◌≡◌, ℕ, zero, suc, ◌<◌, length, ◌&&◌, ◌||◌, not, List, [], ◌∷◌, Bool, true, false, Option, Some, None, slice_get, slice_set, if◌then◌else◌}
+use Rattle.rb_core.specs.declared.types.DataDecl.{DataDecl}
+use Rattle.rb_layout.specs.declared.layout.Leaf.{Leaf}
+use Rattle.rb_layout.specs.declared.layout.FlatWord.{FlatWord}
+use Rattle.rb_layout.specs.declared.layout.Layout.{Layout}
+use Rattle.rb_layout.specs.declared.goals.Goal.{Goal}
+use Rattle.rb_layout.specs.declared.goals.Entry.{Entry}
+use Rattle.rb_layout.specs.Positions.{layout_of}
+use Rattle.rb_layout.specs.Excluded.{Bars}
+use Rattle.rb_layout.specs.inner.Barring.{knows, goal_barred}
+use Rattle.rb_layout.specs.inner.Finding.{Keeps}
+
+-- an entry is not marked, and its goal holds by one step
+abbrev pub turns : List DataDecl → List Layout → List Entry → Option Entry → Bool
+turns types layouts es None = false
+turns types layouts es (Some e) = not e.barred && goal_barred (knows es) types layouts e.goal
+
+abbrev pub marked : List Entry → ℕ → Option Entry → List Entry
+marked es i None = es
+marked es i (Some e) = slice_set es i (record { goal = e.goal; barred = true })
+
+-- the entries after a look at entry i
+abbrev pub looked : List DataDecl → List Layout → ℕ → List Entry → List Entry
+looked types layouts i es = if turns types layouts es (slice_get es i) then marked es i (slice_get es i) else es
+
+-- the entries after a look at each of the first n, from the last to the first
+abbrev pub passed : List DataDecl → List Layout → ℕ → List Entry → List Entry
+passed types layouts zero es = es
+passed types layouts (suc n) es = passed types layouts n (looked types layouts n es)
+
+-- one of them is marked in it
+abbrev pub changes : List DataDecl → List Layout → ℕ → List Entry → Bool
+changes types layouts zero es = false
+changes types layouts (suc n) es = turns types layouts es (slice_get es n) || changes types layouts n (looked types layouts n es)
+
+-- how many are not marked
+abbrev pub pending : List Entry → ℕ
+pending [] = 0
+pending (e ∷ es) = if e.barred then pending es else suc (pending es)
+
+-- a goal holds: its type has a leaf, and in each its root word never has the literal
+pub record Holds (types : List DataDecl) (layouts : List Layout) (g : Goal) : Type 0 where
+  pub layout : Layout
+  pub is_layout : layout_of layouts g.ty ≡ Some layout
+  pub some : 0 < length layout.leaves
+  pub words : (n : ℕ) (leaf : Leaf) → slice_get layout.leaves n ≡ Some leaf → (f : FlatWord) × (slice_get leaf.root g.word ≡ Some f)
+  pub bars : (n : ℕ) (leaf : Leaf) (f : FlatWord) → slice_get layout.leaves n ≡ Some leaf → slice_get leaf.root g.word ≡ Some f
+      → Bars types layouts leaf f g.literal.o g.literal.l g.literal.bits
+
+-- each marked goal holds
+abbrev pub AreTrue : List DataDecl → List Layout → List Entry → Type 0
+AreTrue types layouts es = (g : Goal) → knows es g ≡ true → Holds types layouts g
+
+-- marked are the goals that hold
+pub record AreSettled (types : List DataDecl) (layouts : List Layout) (old new : List Entry) : Type 0 where
+  pub keeps : Keeps old new
+  pub true_ones : AreTrue types layouts old → AreTrue types layouts new
+  pub all : (k : ℕ) (e : Entry) → slice_get new k ≡ Some e → turns types layouts new (Some e) ≡ false

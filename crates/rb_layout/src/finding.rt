@@ -1,0 +1,122 @@
+//! All goals on which a literal's exclusion rests, each once.
+
+ghost use Rattle.std.specs.Prelude.{◌≡◌, IfOk, OnOk};
+ghost use Rattle.rb_bits.specs.Words.{IsRange};
+ghost use Rattle.rb_layout.specs.inner.Barring.{position_type, IsAsked, AreAsked, goal_in};
+ghost use Rattle.rb_layout.specs.inner.Finding.{with_found, with_parts, with_leaf, with_leaves, with_below, AreFresh, AreFound};
+
+use crate::goals::{Goal, Goals, Literal};
+use crate::layout::{Layout, Leaf, Part};
+use crate::part_goals::goal_in;
+use rb_core::pattern::Pat;
+use rb_core::types::DataDecl;
+use std::alloc::AllocError;
+
+fn add_part(
+    types: &[DataDecl],
+    prov: &Pat,
+    part: &Part,
+    literal: Literal,
+    entries: &mut Goals,
+) -> Result<(), AllocError>
+    requires { IsAsked literal }
+    ensures { OnOk result (entries.new
+        ≡ with_found entries.old (goal_in (position_type types.now prov.now) literal part.now)) }
+{
+    match goal_in(types, prov, part, literal) {
+        None => Ok(()),
+        Some(goal) => entries.add(goal),
+    }
+}
+
+/// Adds the goals of a word's parts.
+#[tactic(auto, using(crate::proofs::FindLemmas::finding))]
+pub(crate) fn add_parts(
+    types: &[DataDecl],
+    prov: &Pat,
+    parts: &[Part],
+    literal: Literal,
+    entries: &mut Goals,
+) -> Result<(), AllocError>
+    requires { IsAsked literal }
+    ensures { OnOk result (entries.new
+        ≡ with_parts (position_type types.now prov.now) literal entries.old parts.now) }
+{
+    for part in parts {
+        add_part(types, prov, part, literal, entries)?;
+    }
+    Ok(())
+}
+
+fn add_leaf(
+    types: &[DataDecl],
+    leaf: &Leaf,
+    goal: &Goal,
+    entries: &mut Goals,
+) -> Result<(), AllocError>
+    requires { IsAsked goal.now.literal }
+    ensures { OnOk result (entries.new ≡ with_leaf types.now goal.now entries.old leaf.now) }
+{
+    match leaf.root.get(goal.word as usize) {
+        None => Ok(()),
+        Some(word) => add_parts(
+            types,
+            &leaf.prov,
+            word.parts.as_slice(),
+            goal.literal,
+            entries,
+        ),
+    }
+}
+
+#[tactic(auto, using(crate::proofs::FindLemmas::finding))]
+fn add_leaves(
+    types: &[DataDecl],
+    leaves: &[Leaf],
+    goal: &Goal,
+    entries: &mut Goals,
+) -> Result<(), AllocError>
+    requires { IsAsked goal.now.literal }
+    ensures { OnOk result (entries.new ≡ with_leaves types.now goal.now entries.old leaves.now) }
+{
+    for leaf in leaves {
+        add_leaf(types, leaf, goal, entries)?;
+    }
+    Ok(())
+}
+
+// Adds the goals below a goal: those of the parts of its word in each leaf of its type.
+fn add_below(
+    types: &[DataDecl],
+    layouts: &[Layout],
+    goal: &Goal,
+    entries: &mut Goals,
+) -> Result<(), AllocError>
+    requires { IsAsked goal.now.literal }
+    ensures { OnOk result (entries.new ≡ with_below types.now layouts.now entries.old goal.now) }
+{
+    match layouts.get(goal.ty as usize) {
+        None => Ok(()),
+        Some(layout) => add_leaves(types, layout.leaves.as_slice(), goal, entries),
+    }
+}
+
+/// Adds all goals on which the entries rest.
+pub(crate) fn find_all(
+    types: &[DataDecl],
+    layouts: &[Layout],
+    entries: &mut Goals,
+) -> Result<(), AllocError>
+    requires asked { AreAsked entries.old }
+    requires fresh { AreFresh entries.old }
+    ensures { OnOk result (AreFound types.now layouts.now entries.old entries.new) }
+{
+    for i in 0..usize::MAX {
+        let goal = match entries.get(i) {
+            None => return Ok(()),
+            Some(entry) => entry.goal,
+        };
+        add_below(types, layouts, &goal, entries)?;
+    }
+    Err(AllocError)
+}

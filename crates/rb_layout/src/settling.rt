@@ -1,0 +1,62 @@
+//! Which goals hold: passes over the entries mark those that hold by one step from the marked ones,
+//! until a pass changes nothing. A goal that would rest on itself alone is never marked.
+
+ghost use Rattle.std.specs.Prelude.{◌≡◌, length, slice_get, Some};
+ghost use Rattle.rb_layout.specs.inner.Barring.{IsAsked, AreAsked};
+ghost use Rattle.rb_layout.specs.inner.Settling.{turns, looked, passed, changes, AreSettled};
+
+use crate::barring::goal_barred;
+use crate::goals::{Entry, Goals};
+use crate::layout::Layout;
+use rb_core::types::DataDecl;
+
+// Whether an entry's goal holds by one step and was not marked.
+fn turns(types: &[DataDecl], layouts: &[Layout], entries: &Goals, entry: Entry) -> bool
+    requires { IsAsked entry.goal.literal }
+    ensures { result ≡ turns types.now layouts.now entries.now (Some entry) }
+{
+    if entry.barred {
+        return false;
+    }
+    goal_barred(types, layouts, &entry.goal, entries)
+}
+
+// Marks entry `i` where its goal holds by one step, and tells whether it did.
+fn look(types: &[DataDecl], layouts: &[Layout], entries: &mut Goals, i: usize) -> bool
+    requires { AreAsked entries.old }
+    ensures result { result ≡ turns types.now layouts.now entries.old (slice_get entries.old i) }
+    ensures new { entries.new ≡ looked types.now layouts.now i entries.old }
+{
+    let entry = match entries.get(i) {
+        None => return false,
+        Some(entry) => entry,
+    };
+    if !turns(types, layouts, entries, entry) {
+        return false;
+    }
+    entries.mark(i);
+    true
+}
+
+// One pass, from the last entry to the first. Tells whether it marked one.
+fn pass(types: &[DataDecl], layouts: &[Layout], entries: &mut Goals) -> bool
+    requires { AreAsked entries.old }
+    ensures result { result ≡ changes types.now layouts.now (length entries.old) entries.old }
+    ensures new { entries.new ≡ passed types.now layouts.now (length entries.old) entries.old }
+{
+    let mut changed = false;
+    for i in (0..entries.len()).rev() {
+        if look(types, layouts, entries, i) {
+            changed = true;
+        }
+    }
+    changed
+}
+
+/// Marks the goals that hold.
+pub(crate) fn settle(types: &[DataDecl], layouts: &[Layout], entries: &mut Goals)
+    requires { AreAsked entries.old }
+    ensures { AreSettled types.now layouts.now entries.old entries.new }
+{
+    while pass(types, layouts, entries) {}
+}

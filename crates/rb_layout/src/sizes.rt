@@ -1,0 +1,20 @@
+//! Sizes of blocks.
+
+ghost use Rattle.std.specs.Prelude.{◌≡◌};
+ghost use Rattle.rb_layout.specs.Words.{size_of};
+ghost use Rattle.rb_layout.specs.Readable.{AreShort};
+
+use crate::layout::Block;
+
+/// The size of a block in bytes.
+#[tactic(auto, using(crate::proofs::Locating::locating))]
+pub fn block_size(block: &Block) -> u64
+    requires { AreShort block.now.words }
+    ensures { result ≡ size_of block.now }
+{
+    let mut size: u64 = 0;
+    for word in block.words.as_slice() {
+        size += word.width / 8;
+    }
+    size
+}
