@@ -229,6 +229,7 @@ module _ (decls : List LayoutDecl) (opens : List Open) where
       bits : (k : ℕ) (p : Part) → slice_get (word_of width kind).parts k ≡ Some p → 1 ≤ p.l
       bits zero p e = subst (λ (y : Part). 1 ≤ y.l) (same_Some _ p e) some
       bits (suc k) p e = absurd cc
+
       inside : (k : ℕ) (p : Part) → slice_get (word_of width kind).parts k ≡ Some p → p.o + p.l ≤ width
       inside zero p e = subst (λ (y : Part). y.o + y.l ≤ width) (same_Some _ p e) (omega arith)
       inside (suc k) p e = absurd cc

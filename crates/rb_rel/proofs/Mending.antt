@@ -202,6 +202,7 @@ module _ (layouts : List Layout) where
         small : (k x : ℕ) → slice_get (t ∷ seen) k ≡ Some x → x < length layouts
         small zero x e = subst (λ y. y < length layouts) (same_Some t x e) (has_layout t s r)
         small (suc k) x e = h.small k x e
+
         reaches : (k x : ℕ) → slice_get (t ∷ seen) k ≡ Some x → (ts : List ℕ) × IsChain R x ts s
         reaches zero x e = subst (λ y. (ts : List ℕ) × IsChain R y ts s) (same_Some t x e) ([], r)
         reaches (suc k) x e = let c = h.reaches k x e in (c.0 ++ t ∷ [], chain_on x c.0 t s c.1 r)

@@ -51,6 +51,7 @@ module _ (types : List DataDecl) (numbered : list_all (type_is_numbered types) t
       fields : (d : DataDecl) (o : Option (List Ty)) → list_all (con_is_numbered types) d.cons ≡ true → fields_of_con (slice_get d.cons c.con) ≡ o → list_all (is_type types) (types_or_none o) ≡ true
       fields d None all e = refl
       fields d (Some ts) all e = con_fields d.cons c.con ts all e
+
       go : (o : Option DataDecl) → slice_get types c.ty ≡ o → list_all (is_type types) (types_or_none (fields_in o c.con)) ≡ true
       go None e = refl
       go (Some d) e =
@@ -118,6 +119,7 @@ shape_wide p typed a1 s j w e = go (decl_of p.layouts s) refl e
     wide : (o : Option LayoutDecl) (d : LayoutDecl) → o ≡ Some d → HasShape o → slice_get d.shape j ≡ Some w → 1 ≤ w
     wide None d is h q = absurd cc
     wide (Some x) d is h q = (h j w (ap (λ (y : LayoutDecl). slice_get y.shape j) (same_Some x d is) ∙ q)).0
+
     go : (o : Option LayoutDecl) → decl_of p.layouts s ≡ o → slice_get (shape_in o) j ≡ Some w → 1 ≤ w
     go None is h = absurd cc
     go (Some d) is h =
