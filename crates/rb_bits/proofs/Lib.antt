@@ -1,4 +1,5 @@
 mod Examples
 pub mod WordLemmas
 pub mod SliceLemmas
+pub mod RangeLemmas
 pub mod ByteLemmas

@@ -1,3 +1,4 @@
 pub mod Words
 pub mod LittleEndian
 pub mod Slices
+pub mod Laws

@@ -2,6 +2,7 @@
 //! little-endian bytes. No call takes memory or refuses: what it needs is a condition.
 #![tactic(auto)]
 
+pub mod laws;
 pub mod little_endian;
 pub mod slices;
 pub mod words;

@@ -1,3 +1,4 @@
 pub mod Memory
 pub mod Starts
 pub mod Laws
+pub mod Growth

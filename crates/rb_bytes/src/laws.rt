@@ -4,6 +4,7 @@ ghost use Rattle.std.specs.Prelude.{◌≡◌, ◌≢◌, ℕ, ◌+◌, ◌*◌,
 ghost use Rattle.rb_bits.specs.LittleEndian.{from_le_bytes};
 ghost use Rattle.rb_bytes.specs.Memory.{Memory, IsGood, IsWidth, IsSize, IsAlign, byte_at, size_at, place_of, load_of, store_of};
 ghost use Rattle.rb_bytes.specs.Laws.{Extends, KeepsLoads, KeepsEarlier, ChangesOnly, Spells, IsLeastMultiple, IsFirstUnwritten};
+ghost use Rattle.rb_bytes.specs.Growth.{IsGrowth};
 ghost use Rattle.rb_bytes.specs.declared.fault.Trap.TheVariants.{Unwritten};
 
 use crate::fault::{Full, Trap};
@@ -61,3 +62,13 @@ pub fn load_word<M: ByteMemory>(memory: &M, base: u64, offset: u64, width: u64) 
 {
     memory.load(base, offset, width)
 }
+
+/// A memory that grows by whole blocks keeps what it had, and growing goes on from growing.
+pub fn growth_keeps_all()
+    ensures { IsGrowth }
+{}
+
+/// The base of a load that succeeds is at most 2^24, the greatest limit of a region.
+pub fn bases_are_small()
+    ensures { (m : Memory) (base offset width r : ℕ) → IsGood m → load_of m base offset width ≡ Ok r → base ≤ 2 ^ 24 }
+{}

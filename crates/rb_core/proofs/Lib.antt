@@ -4,6 +4,7 @@ pub mod CallsLeft
 pub mod CopyingLemmas
 pub mod CoverageExamples
 pub mod CoverageForms
+pub mod CoveredForms
 pub mod Decimals
 pub mod EvalMeasure
 pub mod EvalSteps
@@ -13,12 +14,17 @@ pub mod GivesLemmas
 pub mod InferenceAgreement
 pub mod InferenceForms
 pub mod InferenceLemmas
+pub mod LayoutInduction
 pub mod MatchingForms
 pub mod MatchingLemmas
 pub mod MeaningForms
 pub mod MoreCalls
+pub mod NumberedForms
+pub mod OperatorLaws
+pub mod PartForms
 pub mod PatternLaws
 pub mod TypingExamples
+pub mod TypedForms
 pub mod TypingLemmas
 pub mod ValueLaws
 pub mod ValueLemmas

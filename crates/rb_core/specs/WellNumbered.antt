@@ -23,6 +23,7 @@ use Rattle.rb_core.specs.declared.expression.Expr.TheFolds.{fold-Expr}
 use Rattle.rb_core.specs.declared.expression.Clause.{Clause-F}
 use Rattle.rb_core.specs.declared.layout_decl.LayoutDecl.{LayoutDecl}
 use Rattle.rb_core.specs.Values.{fields_of}
+use Rattle.rb_core.specs.Limits.{most_types, most_functions, most_constructors, most_fields, most_parameters, most_words}
 use Rattle.rb_core.specs.Layouts.{provenances, is_short, is_short_layout}
 
 -- no item equals one after it
@@ -70,11 +71,11 @@ abbrev pub is_constructor : List DataDecl → ConRef → Bool
 is_constructor types c = is_some (fields_of types c)
 
 abbrev pub con_is_numbered : List DataDecl → Con → Bool
-con_is_numbered types c = is_upper c.name && (nat_le (length c.fields) 32 && list_all (is_type types) c.fields)
+con_is_numbered types c = is_upper c.name && (nat_le (length c.fields) most_fields && list_all (is_type types) c.fields)
 
 abbrev pub type_is_numbered : List DataDecl → DataDecl → Bool
 type_is_numbered types d =
-    is_upper d.name && (is_between 1 256 (length d.cons) && list_all (con_is_numbered types) d.cons)
+    is_upper d.name && (is_between 1 most_constructors (length d.cons) && list_all (con_is_numbered types) d.cons)
 
 abbrev pub con_names : DataDecl → List (List ℕ)
 con_names d = map (λ c. c.name) d.cons
@@ -172,7 +173,7 @@ param_is_numbered types p = is_type types p.ty
 
 abbrev pub function_is_numbered : List DataDecl → List Fun → Fun → Bool
 function_is_numbered types funs f =
-    is_lower f.name && (nat_le (length f.params) 32 && (list_all (param_is_numbered types) f.params
+    is_lower f.name && (nat_le (length f.params) most_parameters && (list_all (param_is_numbered types) f.params
     && (is_type types f.result && expression_is_numbered types funs f.body (map (λ p. p.var) f.params))))
 
 abbrev pub provenance_is_numbered : List DataDecl → Pat → Bool
@@ -180,7 +181,7 @@ provenance_is_numbered types p = is_provenance p && pattern_is_numbered types p
 
 abbrev pub layout_is_numbered : List DataDecl → LayoutDecl → Bool
 layout_is_numbered types l =
-    nat_lt l.ty (length types) && (is_between 1 8 (length l.shape)
+    nat_lt l.ty (length types) && (is_between 1 most_words (length l.shape)
     && (list_all (provenance_is_numbered types) (provenances l.tree) && is_short_layout l.tree))
 
 pub record IsWellNumbered (p : Program) : Type 0 where
@@ -188,8 +189,8 @@ pub record IsWellNumbered (p : Program) : Type 0 where
   pub types : list_all (type_is_numbered p.types) p.types ≡ true
   pub layouts : list_all (layout_is_numbered p.types) p.layouts ≡ true
   pub functions : list_all (function_is_numbered p.types p.funs) p.funs ≡ true
-  pub type_count : nat_le (length p.types) 1000 ≡ true
-  pub function_count : nat_le (length p.funs) 10000 ≡ true
+  pub type_count : nat_le (length p.types) most_types ≡ true
+  pub function_count : nat_le (length p.funs) most_functions ≡ true
   pub type_names : is_distinct bytes_eq (map (λ d. d.name) p.types) ≡ true
   pub con_names : is_distinct bytes_eq (flat_map con_names p.types) ≡ true
   pub function_names : is_distinct bytes_eq (map (λ f. f.name) p.funs) ≡ true

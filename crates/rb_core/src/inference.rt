@@ -166,7 +166,8 @@ fn type_of_call(program: &Program, fun: u32) -> Ty
     }
 }
 
-fn type_of_operator(op: Op, ty: Ty) -> Ty
+/// What an operator gives, from the type of its operands.
+pub fn type_of_operator(op: Op, ty: Ty) -> Ty
     ensures { result ≡ operator_type op ty }
 {
     match op {

@@ -18,8 +18,8 @@ pub(crate) fn number(value: &Value) -> u64
     }
 }
 
-// The bits of an integer type.
-pub(crate) fn width(ty: Ty) -> u8
+/// The bits of an integer type, at most 64; of a data type, 64, since no operator is typed at one.
+pub fn width(ty: Ty) -> u8
     ensures width { result ≡ width_of ty }
     ensures most { result ≤ 64 }
 {

@@ -2,6 +2,12 @@ pub mod Results
 pub mod Unrolling
 pub mod Nesting
 pub mod Patching
+pub mod Growing
+pub mod Shapes
+pub mod Finishing
+pub mod Operating
+pub mod Names
+pub mod Calling
 pub mod Written
 pub mod Examples
 pub mod Recursion

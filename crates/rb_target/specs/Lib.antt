@@ -2,6 +2,10 @@ pub mod Meaning
 pub mod Validity
 pub mod Laws
 pub mod Sheet
+pub mod Growth
+pub mod Targets
+pub mod Operators
+pub mod Calls
 pub mod Text
 pub mod Spelled
 pub mod Stopping

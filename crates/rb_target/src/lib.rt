@@ -6,6 +6,7 @@ pub mod check;
 pub mod code;
 pub mod fault;
 pub mod instr;
+pub mod laws;
 pub mod outcome;
 pub mod read;
 pub mod spell;

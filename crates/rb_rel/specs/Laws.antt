@@ -1,0 +1,73 @@
+-- The laws of representation. Those that rest on agreement are over all typed programs whose layouts
+-- agree with their types.
+use Rattle.std.specs.Prelude.{◌≡◌, ℕ, List, map, Bool, true, Some}
+use Rattle.rb_core.specs.declared.value.Value.{Value}
+use Rattle.rb_core.specs.declared.types.Ty.{Ty}
+use Rattle.rb_core.specs.declared.types.DataDecl.{DataDecl}
+use Rattle.rb_core.specs.declared.layout_decl.Loc.{Loc}
+use Rattle.rb_layout.specs.Locations.{Reached, reached_at}
+use Rattle.rb_bytes.specs.Memory.{Memory, IsGood}
+use Rattle.rb_bytes.specs.Laws.{Extends}
+use Rattle.rb_layout.specs.declared.layout.Layout.{Layout}
+use Rattle.rb_rel.specs.Relation.{IsCleanlyRepresented, Made, Represent, Represents}
+use Rattle.rb_rel.specs.Answers.{all_makings, making_of}
+use Rattle.rb_rel.specs.Placing.{Fits, lay, requests_of}
+use Rattle.rb_bytes.specs.Growth.{Grown}
+use Rattle.rb_rel.specs.Switches.{choose_of, greatest, leaves_in, mend_leaf, mend_of}
+use Rattle.rb_rel.specs.Reading.{IsRead, read_loc, walk}
+use Rattle.rb_core.specs.declared.program.Program.{Program}
+use Rattle.rb_core.specs.TypedPrograms.{IsTyped}
+use Rattle.rb_layout.specs.Agreement.{Agrees}
+use Rattle.rb_layout.specs.Flattening.{flat_layouts}
+use Rattle.rb_layout.specs.Positions.{leaf_of, layout_of}
+use Rattle.rb_core.specs.Values.{all_of_types, is_of_type}
+use Rattle.rb_core.specs.declared.types.Ty.TheVariants.{Named}
+
+-- what represents a value still does in a memory that has the old one's blocks and written bytes
+abbrev pub GrowthKeeps : Type 0
+GrowthKeeps = (types : List DataDecl) (layouts : List Layout) (clean : Bool) (old new : Memory) → Extends old new
+    → (ty : Ty) (v : Value) (ws : List ℕ) → Represents types layouts old clean ty v ws → Represents types layouts new clean ty v ws
+
+-- where a location resolves in the leaf of a represented value, reading it goes astray nowhere and gives
+-- the bits that stand there
+abbrev pub ReadingGivesBits : Type 0
+ReadingGivesBits = (types : List DataDecl) (layouts : List Layout) (m : Memory) (clean : Bool) (t : ℕ) (v : Value) (ws : List ℕ)
+    → (b : Made types layouts m clean t v ws) (loc : Loc) (x : Reached) → reached_at b.leaf loc ≡ Some x
+    → IsRead b.leaf ws m clean b.subs b.ats x (read_loc ws m loc)
+
+-- the splits of a type's layout, read on words that represent a value of it, lead to the value's leaf
+abbrev pub SplitsLead : Type 0
+SplitsLead = (p : Program) → IsTyped p → Agrees p → (m : Memory) (clean : Bool) → IsGood m
+    → (t : ℕ) (v : Value) (ws : List ℕ) (layout : Layout) → layout_of (flat_layouts p) t ≡ Some layout
+    → Represents p.types (flat_layouts p) m clean (Named t) v ws → (n : ℕ) × (leaf_of layout v ≡ Some n) × (walk layout.tree ws m ≡ Some n)
+
+-- two values of one type that the same words represent are equal
+abbrev pub WordsAreOneValue : Type 0
+WordsAreOneValue = (p : Program) → IsTyped p → Agrees p → (m : Memory) (clean : Bool) → IsGood m
+    → (ty : Ty) (v u : Value) (ws : List ℕ) → Represents p.types (flat_layouts p) m clean ty v ws → Represents p.types (flat_layouts p) m clean ty u ws
+    → v ≡ u
+
+-- what words represent is of the type
+abbrev pub RepresentedAreTyped : Type 0
+RepresentedAreTyped = (p : Program) → IsTyped p → Agrees p → (m : Memory) (clean : Bool)
+    → (ty : Ty) (v : Value) (ws : List ℕ) → Represents p.types (flat_layouts p) m clean ty v ws → is_of_type p.types v ty ≡ true
+
+-- A value whose blocks fit has a clean representation. It stands in a memory that has grown by exactly
+-- the blocks that the constructions of the value ask for, where they are laid, and by nothing else.
+abbrev pub ValuesHaveWords : Type 0
+ValuesHaveWords = (p : Program) → IsTyped p → Agrees p → (m : Memory) → IsGood m → (ty : Ty) (v : Value) → is_of_type p.types v ty ≡ true
+    → (blocks : List (ℕ × ℕ)) (next : ℕ) → lay m.limit m.next (requests_of (flat_layouts p) (making_of p.types v ty)) ≡ Fits blocks next
+    → (new : Memory) × (ws : List ℕ) × Grown m new blocks next × IsCleanlyRepresented p.types (flat_layouts p) new ty v ws
+
+-- so have several values, made one after the other, as a program's arguments are
+abbrev pub ListsHaveWords : Type 0
+ListsHaveWords = (p : Program) → IsTyped p → Agrees p → (m : Memory) → IsGood m → (ts : List Ty) (vs : List Value)
+    → all_of_types (map (is_of_type p.types) vs) ts ≡ true → (blocks : List (ℕ × ℕ)) (next : ℕ)
+    → lay m.limit m.next (requests_of (flat_layouts p) (all_makings p.types vs ts)) ≡ Fits blocks next
+    → (new : Memory) × (ws : List ℕ) × Grown m new blocks next × Represent p.types (flat_layouts p) new true ts vs ws
+
+-- mending is what it says: in the leaf where it takes most, the sum of choosing over the constructors
+-- below the root
+abbrev pub MendingRecurs : Type 0
+MendingRecurs = (p : Program) → Agrees p → (t : ℕ) → let layouts = flat_layouts p in
+    mend_of layouts t ≡ greatest (map (mend_leaf (choose_of layouts)) (leaves_in (layout_of layouts t)))

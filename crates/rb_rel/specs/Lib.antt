@@ -1,0 +1,6 @@
+pub mod Laws
+pub mod Relation
+pub mod Placing
+pub mod Answers
+pub mod Switches
+pub mod Reading

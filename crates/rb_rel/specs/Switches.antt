@@ -1,0 +1,142 @@
+-- How many switches it takes to look at values: the numbers from which bounds are made.
+use Rattle.std.specs.Prelude.{ℕ, zero, suc, ◌+◌, ◌*◌, ◌==◌, ◌&&◌, max, not, drop, length, List, [], ◌∷◌, ◌++◌, map, filter, Bool, false, Option, Some, None, if◌then◌else◌}
+use Rattle.std.specs.List.{flat_map, sum_by, list_all}
+use Rattle.rb_core.specs.declared.types.Ty.{Ty}
+use Rattle.rb_core.specs.declared.types.Ty.TheVariants.{Int, Named}
+use Rattle.rb_core.specs.declared.types.ConRef.{ConRef}
+use Rattle.rb_core.specs.declared.pattern.Pat.{Pat}
+use Rattle.rb_core.specs.declared.pattern.Pat.TheOpen as P
+use Rattle.rb_core.specs.declared.pattern.Pat.TheOpen.{Pat-F}
+use Rattle.rb_core.specs.declared.pattern.Pat.TheFolds.{fold-Pat}
+use Rattle.rb_layout.specs.declared.layout.Leaf.{Leaf}
+use Rattle.rb_layout.specs.declared.layout.Layout.{Layout}
+use Rattle.rb_layout.specs.declared.layout.FlatTree.{FlatTree}
+use Rattle.rb_layout.specs.declared.layout.FlatTree.TheOpen as T
+use Rattle.rb_layout.specs.declared.layout.FlatTree.TheOpen.{FlatTree-F}
+use Rattle.rb_layout.specs.declared.layout.FlatTree.TheFolds.{fold-FlatTree}
+use Rattle.rb_layout.specs.declared.layout.FlatArm.{FlatArm-F}
+use Rattle.rb_layout.specs.Flattening.{same_path}
+use Rattle.rb_layout.specs.Positions.{layout_of}
+
+-- Splits -------------------------------------------------------------------------------------
+
+abbrev pub greatest : List ℕ → ℕ
+greatest [] = 0
+greatest (n ∷ ns) = max n (greatest ns)
+
+abbrev pub or_zero : Option ℕ → ℕ
+or_zero None = 0
+or_zero (Some n) = n
+
+abbrev pub nesting_step : FlatTree-F ℕ ℕ → ℕ
+nesting_step (T.Split loc arms other) = 1 + max (greatest arms) (or_zero other)
+nesting_step (T.Leaf n) = 0
+
+abbrev pub nesting_arm : FlatArm-F ℕ ℕ → ℕ
+nesting_arm a = a.under
+
+-- how many splits stand one below the other at most
+abbrev pub nesting : FlatTree → ℕ
+nesting = fold-FlatTree ℕ ℕ nesting_step nesting_arm
+
+abbrev pub depth_in : Option Layout → ℕ
+depth_in None = 0
+depth_in (Some layout) = nesting layout.tree
+
+-- the switches that show which leaf a value has, or which number it is
+abbrev pub depth_of : List Layout → Ty → ℕ
+depth_of layouts (Int bits) = 1
+depth_of layouts (Named t) = depth_in (layout_of layouts t)
+
+-- Constructors of provenances ----------------------------------------------------------------
+
+-- a constructor of a pattern and its position
+pub record Head : Type 0 where
+  pub path : List ℕ
+  pub con : ConRef
+
+abbrev pub head_below : ℕ → Head → Head
+head_below i h = record { path = i ∷ h.path; con = h.con }
+
+abbrev pub heads_below : List (List Head) → ℕ → List Head
+heads_below [] i = []
+heads_below (hs ∷ hss) i = map (head_below i) hs ++ heads_below hss (i + 1)
+
+abbrev pub heads_step : Pat-F (List Head) → List Head
+heads_step (P.Wild at) = []
+heads_step (P.Var at x) = []
+heads_step (P.Num at n) = []
+heads_step (P.Con at c hss) = record { path = []; con = c } ∷ heads_below hss 0
+
+-- the constructors of a pattern, that of its root first
+abbrev pub heads_of : Pat → List Head
+heads_of = fold-Pat (List Head) heads_step
+
+-- those below the root of a provenance
+abbrev pub inner_heads : Leaf → List Head
+inner_heads leaf = drop 1 (heads_of leaf.prov)
+
+abbrev pub begins_with : ℕ → List Head → Bool
+begins_with k [] = false
+begins_with k (h ∷ hs) = h.con.con == k
+
+abbrev pub leaves_in : Option Layout → List Leaf
+leaves_in None = []
+leaves_in (Some layout) = layout.leaves
+
+-- a leaf for the values of one constructor
+abbrev pub is_leaf_for : ℕ → Leaf → Bool
+is_leaf_for k leaf = begins_with k (heads_of leaf.prov)
+
+-- a position and the type there
+abbrev pub same_place : Head → Head → Bool
+same_place a b = same_path a.path b.path && (a.con.ty == b.con.ty)
+
+-- each place once
+abbrev pub distinct_places : List Head → List Head
+distinct_places [] = []
+distinct_places (h ∷ hs) = h ∷ filter (λ other. not (same_place h other)) (distinct_places hs)
+
+-- the places below the root at which some provenance with root constructor k has a constructor
+abbrev pub places_of : List Layout → ℕ → ℕ → List Head
+places_of layouts t k =
+    distinct_places (flat_map inner_heads (filter (is_leaf_for k) (leaves_in (layout_of layouts t))))
+
+-- Choosing and mending -----------------------------------------------------------------------
+
+-- the looks at which the leaf of a construction is chosen, where mending is given
+abbrev pub choose_with : (ℕ → ℕ) → List Layout → ℕ → ℕ → ℕ
+choose_with mend layouts t k = sum_by (λ (h : Head). depth_of layouts (Named h.con.ty) + mend h.con.ty) (places_of layouts t k)
+
+-- rebuilding the subvalues that a leaf has taken apart, where choosing is given
+abbrev pub mend_leaf : (ℕ → ℕ → ℕ) → Leaf → ℕ
+mend_leaf choose leaf = sum_by (λ (h : Head). choose h.con.ty h.con.con) (inner_heads leaf)
+
+-- mending, where types are flattened into one another at most so deep
+abbrev pub mend_within : List Layout → ℕ → ℕ → ℕ
+mend_within layouts zero t = 0
+mend_within layouts (suc n) t =
+    greatest (map (mend_leaf (choose_with (mend_within layouts n) layouts)) (leaves_in (layout_of layouts t)))
+
+-- The switches that rebuild what the leaves of a type have taken apart, in the leaf where it takes most.
+-- A type's mending asks for that of types that are flattened into it. Flattening has no cycle, so the
+-- types on such a way are distinct and have layouts: there are no more of them than layouts.
+abbrev pub mend_of : List Layout → ℕ → ℕ
+mend_of layouts = mend_within layouts (length layouts)
+
+-- the switches that choose the leaf of a construction by constructor k
+abbrev pub choose_of : List Layout → ℕ → ℕ → ℕ
+choose_of layouts = choose_with (mend_of layouts) layouts
+
+-- Looking ------------------------------------------------------------------------------------
+
+abbrev pub is_shallow : Leaf → Bool
+is_shallow leaf = length (inner_heads leaf) == 0
+
+-- the switches that a match spends at one position of this type
+abbrev pub look_of : List Layout → Ty → ℕ
+look_of layouts (Int bits) = depth_of layouts (Int bits)
+look_of layouts (Named t) =
+    if list_all is_shallow (leaves_in (layout_of layouts t))
+    then depth_of layouts (Named t)
+    else 2 * (depth_of layouts (Named t) + mend_of layouts t)

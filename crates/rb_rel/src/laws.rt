@@ -1,0 +1,47 @@
+//! The laws of representation, each the contract of a function that does nothing.
+
+ghost use Rattle.rb_rel.specs.Laws.{GrowthKeeps, ListsHaveWords, MendingRecurs, ReadingGivesBits};
+ghost use Rattle.rb_rel.specs.Laws.{RepresentedAreTyped, SplitsLead, ValuesHaveWords, WordsAreOneValue};
+
+/// What represents a value still does after blocks were placed and words stored in them.
+pub fn growth_keeps_representations()
+    ensures { GrowthKeeps }
+{}
+
+/// Where a location resolves in the leaf of a represented value, reading it gives the bits there: no
+/// load on the way goes astray or meets an unwritten byte.
+pub fn reading_gives_bits()
+    ensures { ReadingGivesBits }
+{}
+
+/// The splits, read on words that represent a value, lead to its leaf.
+pub fn splits_lead_to_the_leaf()
+    ensures { SplitsLead }
+{}
+
+/// Two values of one type that the same words represent in the same good memory are equal.
+pub fn words_are_one_value()
+    ensures { WordsAreOneValue }
+{}
+
+/// What words represent at a type is of that type.
+pub fn represented_values_are_typed()
+    ensures { RepresentedAreTyped }
+{}
+
+/// Every value whose blocks fit has a clean representation, in a memory that has grown by exactly the
+/// blocks that its constructions ask for.
+pub fn values_have_words()
+    ensures { ValuesHaveWords }
+{}
+
+/// So have several values, made one after the other, as the arguments of a program are.
+pub fn lists_have_words()
+    ensures { ListsHaveWords }
+{}
+
+/// The switches of mending meet their recursion: the bound on it is never reached, since flattening has
+/// no cycle.
+pub fn mending_recurs()
+    ensures { MendingRecurs }
+{}

@@ -1,0 +1,36 @@
+//! Laws of instructions, targets and calls, each the contract of a function that does nothing.
+
+ghost use Rattle.std.specs.Prelude.{◌≡◌, ℕ, true, List};
+ghost use Rattle.rb_core.specs.declared.expression.Op.{Op as OpDecl};
+ghost use Rattle.rb_core.specs.Meaning.{op_value};
+ghost use Rattle.rb_core.specs.WellNumbered.{is_lower};
+ghost use Rattle.rb_target.specs.declared.body.Hole.{Hole as HoleDecl};
+ghost use Rattle.rb_target.specs.declared.code.CodeFun.{CodeFun as CodeFunDecl};
+ghost use Rattle.rb_target.specs.Calls.{AreCalls};
+ghost use Rattle.rb_target.specs.Meaning.{alu_of};
+ghost use Rattle.rb_target.specs.Operators.{alu_op_of};
+ghost use Rattle.rb_target.specs.Sheet.{Sheet, IsHole, patched};
+ghost use Rattle.rb_target.specs.Targets.{SetsTarget};
+ghost use Rattle.rb_target.specs.Validity.{IsLower};
+
+/// Patching sets the hole's target and changes nothing else: the length, the other targets, the other
+/// instructions and the slots that are written stay.
+pub fn patching_sets_one_target()
+    ensures { (b : Sheet) (h : HoleDecl) (t : ℕ) → IsHole b.code h → SetsTarget b h t (patched b h t) }
+{}
+
+/// A call costs one of the calls that are left, and a return tells those that are left then.
+pub fn calls_cost_one()
+    ensures { (funs : List CodeFunDecl) → AreCalls funs }
+{}
+
+/// The machine's operation for an operator gives the operator's value.
+pub fn operations_are_operators()
+    ensures { (op : OpDecl) (width a b : ℕ) → alu_of (alu_op_of op) width a b ≡ op_value op width a b }
+{}
+
+/// The names that a program may give its functions are those that code may.
+pub fn names_are_shared()
+    ensures of_programs { (name : List ℕ) → is_lower name ≡ true → IsLower name }
+    ensures of_code { (name : List ℕ) → IsLower name → is_lower name ≡ true }
+{}
