@@ -1,1 +1,5 @@
-pub mod Probe
+pub mod Represented
+pub mod Laying
+pub mod Holds
+pub mod Adding
+pub mod Fragments
