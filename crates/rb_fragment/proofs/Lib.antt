@@ -3,3 +3,7 @@ pub mod Laying
 pub mod Holds
 pub mod Adding
 pub mod Fragments
+pub mod Patching
+pub mod Closing
+pub mod Pieces
+pub mod Moves
