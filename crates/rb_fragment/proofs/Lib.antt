@@ -7,3 +7,8 @@ pub mod Patching
 pub mod Closing
 pub mod Pieces
 pub mod Moves
+pub mod Arms
+pub mod Matches
+pub mod Arguments
+pub mod Calling
+pub mod Functions

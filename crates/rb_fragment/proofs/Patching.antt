@@ -229,7 +229,7 @@ kept_at pc h t o arm hole = go o hole (eqb pc h.pc)
 pub patched_hole : (b : Sheet) (h : Hole) (t : ℕ) (k : Hole) → IsHole b.code k → IsHole (patched b h t).code k
 patched_hole b h t k hole = subst (λ o. IsHoleIn o k.arm) (sym (at_patched b h t k.pc)) (kept_at k.pc h t (slice_get b.code k.pc) k.arm hole)
 
-closed_hole : (b : Sheet) (hs : List Hole) (ts : List ℕ) (k : Hole) → IsHole b.code k → IsHole (closed b hs ts).code k
+pub closed_hole : (b : Sheet) (hs : List Hole) (ts : List ℕ) (k : Hole) → IsHole b.code k → IsHole (closed b hs ts).code k
 closed_hole b [] ts k hole = hole
 closed_hole b (h ∷ hs) ts k hole = closed_hole (patched b h (slice_index ts h.leaf)) hs ts k (patched_hole b h (slice_index ts h.leaf) k hole)
 

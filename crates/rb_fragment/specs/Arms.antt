@@ -111,7 +111,7 @@ abbrev pub ArmsIn : ℕ → Sheet → Sheet → List Hole → List ℕ → (ℕ 
 ArmsIn count e q joins starts DoesArm = (k : ℕ) → k < count → ArmIn e q joins (slice_index starts k) (DoesArm k)
 
 -- arms behind e, whatever they do: where they begin, and their open jumps
-pub record AreArms (count : ℕ) (e q : Sheet) (joins : List Hole) (starts : List ℕ) : Type 0 where
+pub record ArmsAre (count : ℕ) (e q : Sheet) (joins : List Hole) (starts : List ℕ) : Type 0 where
   pub grows : Grows e.code q.code
   pub joins_are : AreJoins (length e.code) q.code joins
   pub starts_from : AllFrom (length e.code) starts
