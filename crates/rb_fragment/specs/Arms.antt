@@ -118,6 +118,13 @@ pub record ArmsAre (count : ℕ) (e q : Sheet) (joins : List Hole) (starts : Lis
   pub starts_below : AllBelow (length q.code + 1) starts
   pub count_is : length starts ≡ count
 
+-- behind a chooser with these holes stand arms, one a way
+pub record CanClose (q : Sheet) (holes : List Hole) (starts : List ℕ) (joins : List Hole) : Type 0 where
+  pub before : ℕ
+  pub chooser : Sheet
+  pub holes_are : AreHoles before (length starts) chooser.code holes
+  pub arms : ArmsAre (length starts) chooser q joins starts
+
 -- the chooser's holes lead to the arms, and the arms' jumps to behind them
 abbrev pub whole_match : Sheet → List Hole → List ℕ → List Hole → Sheet
 whole_match q holes starts joins = closed (closed q holes starts) joins (length q.code ∷ [])

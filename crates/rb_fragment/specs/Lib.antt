@@ -7,3 +7,4 @@ pub mod Pieces
 pub mod Fragments
 pub mod Arms
 pub mod Functions
+pub mod Laws
