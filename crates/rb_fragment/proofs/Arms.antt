@@ -1,5 +1,5 @@
 -- An arm of a match: its variables, its body, and its value where all arms leave it.
-use Rattle.std.proofs.Common.{◌≡◌, ℕ, zero, ◌+◌, ◌-◌, ◌<◌, ◌≤◌, ◌⊎◌, inl, inr, Bool, List, [], ◌∷◌, ◌++◌, length, Some, refl, sym, subst, ap, ◌∙◌, arith, append_assoc, length-append, Option, None}
+use Rattle.std.proofs.Common.{◌≡◌, ℕ, ◌+◌, ◌<◌, ◌≤◌, ◌⊎◌, inl, inr, Bool, List, [], ◌∷◌, ◌++◌, length, Some, refl, sym, subst, ap, ◌∙◌, arith, append_assoc, length-append, Option, None}
 use Rattle.std.specs.Prelude.{slice_get}
 use Rattle.rb_core.specs.declared.value.Value.{Value}
 use Rattle.rb_core.specs.declared.types.Ty.{Ty}
@@ -14,7 +14,7 @@ use Rattle.rb_target.specs.Sheet.{Sheet, pushed}
 use Rattle.rb_target.specs.declared.body.Hole.{Hole}
 use Rattle.rb_fragment.proofs.Adding.{Adds-trans}
 use Rattle.rb_fragment.proofs.Holds.{AllBelow-more}
-use Rattle.rb_fragment.proofs.Laying.{bind, does_later, does_map}
+use Rattle.rb_fragment.proofs.Laying.{does_later, does_map}
 use Rattle.rb_fragment.proofs.Moves.{copied-kept, copies_run, joining_adds, joining_length, one-below, one-from, slots_at-copied, slots_from-above, slots_from-below, slots_from-distinct, slots_from-from, slots_from-has, slots_from-length, stands_from}
 use Rattle.rb_fragment.specs.Adding.{Adds}
 use Rattle.rb_fragment.specs.Arms.{AreShared, Arm, IsJoin, JoinedIs, shared_held, shared_sheet}

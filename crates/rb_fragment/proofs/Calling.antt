@@ -24,7 +24,6 @@ use Rattle.rb_fragment.specs.Slots.{AllBelow, slots_from}
 use Rattle.rb_fragment.specs.declared.held.Held.{Held}
 use Rattle.rb_rel.specs.Placing.{Fits, Laid, Over}
 use Rattle.rb_target.proofs.Growing.{Grows-append, get-seam}
-use Rattle.rb_target.specs.Reading.{step}
 
 -- The arguments' words
 

@@ -18,7 +18,6 @@ use Rattle.rb_fragment.specs.Owing.{Does}
 use Rattle.rb_fragment.specs.Plan.{Plan, Rep}
 use Rattle.rb_target.proofs.Growing.{Agrees-part, Grows-refl, Keeps-refl, Keeps-set, Keeps-trans, get-seam}
 use Rattle.rb_target.specs.Growth.{Keeps, Nowhere}
-use Rattle.rb_target.specs.Reading.{step}
 
 module _ (plan : Plan) (clean : Bool) (calls : Calls) where
   -- what holds before may be said otherwise

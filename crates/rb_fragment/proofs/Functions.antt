@@ -22,7 +22,6 @@ use Rattle.rb_target.specs.Meaning as M
 use Rattle.rb_target.specs.Meaning.{World, taken, over, slots_at, from, enter, after_one_call, with_left, first_slots, body_in, slots_in}
 use Rattle.rb_target.specs.Sheet.{Sheet, AreWritten}
 use Rattle.rb_target.specs.Validity.{IsFine, FitsCall, CallsFit, IsValidFun, dest_count, IsLower, SlotsFit, TargetsFit}
-use Rattle.rb_fragment.proofs.Fragments.{nothing}
 use Rattle.rb_fragment.proofs.Laying.{does_later}
 use Rattle.rb_fragment.proofs.Moves.{below-all, slots_from-below, slots_from-length}
 use Rattle.rb_fragment.proofs.Represented.{Rep-count}
@@ -37,7 +36,6 @@ use Rattle.rb_fragment.specs.declared.held.Local.{Local}
 use Rattle.rb_target.proofs.Growing.{Agrees-part, Grows-append, below_or, get-append, get-seam}
 use Rattle.rb_target.specs.Growth.{AgreesBut, Grows, Nowhere}
 use Rattle.rb_target.specs.Meaning.{body_of}
-use Rattle.rb_target.specs.Reading.{named, step}
 
 -- Parameters
 

@@ -13,7 +13,6 @@ use Rattle.rb_bytes.specs.Growth.{Grown}
 use Rattle.rb_fragment.specs.Owing.{Does, Ends}
 use Rattle.rb_fragment.specs.Plan.{Plan, cost_of}
 use Rattle.rb_rel.specs.Placing.{Fits, Laid, Over, Request, behind, lay, requests_at, requests_of}
-use Rattle.rb_target.specs.Reading.{run}
 
 abbrev pub all_behind : List (ℕ × ℕ) → Laid → Laid
 all_behind bs (Fits cs p) = Fits (bs ++ cs) p

@@ -1,5 +1,5 @@
 -- The arms of a match: one more, and all with what chooses one.
-use Rattle.std.proofs.Common.{◌≡◌, ◌++◌, ℕ, zero, suc, ◌+◌, ◌<◌, ◌≤◌, ◌⊎◌, inl, inr, Bool, List, [], ◌∷◌, length, Some, Ok, refl, sym, subst, ap, ◌∙◌, arith, length-append}
+use Rattle.std.proofs.Common.{◌≡◌, ◌++◌, ℕ, zero, suc, ◌+◌, ◌<◌, ◌≤◌, ◌⊎◌, inl, inr, Bool, List, [], ◌∷◌, length, Some, refl, sym, subst, ap, ◌∙◌, arith, length-append}
 use Rattle.std.proofs.lemmas.Option.{slice_get_within, same_Some}
 use Rattle.std.specs.Prelude.{slice_get, slice_index}
 use Rattle.rb_core.specs.declared.types.Ty.{Ty}
@@ -13,7 +13,6 @@ use Rattle.rb_target.specs.Laws.{Law}
 use Rattle.rb_target.specs.Meaning.{World, Next, Callee, taken}
 use Rattle.rb_target.specs.Sheet.{Sheet, patched, IsHoleIn}
 use Rattle.rb_fragment.proofs.Adding.{Adds-trans}
-use Rattle.rb_fragment.proofs.Arms.{arm}
 use Rattle.rb_fragment.proofs.Closing.{closed_is}
 use Rattle.rb_fragment.proofs.Holds.{AllBelow-more}
 use Rattle.rb_fragment.proofs.Laying.{does_later}
@@ -27,9 +26,7 @@ use Rattle.rb_fragment.specs.Pieces.{Branches, Reached}
 use Rattle.rb_fragment.specs.Plan.{Plan}
 use Rattle.rb_fragment.specs.Slots.{AllBelow, AllFrom}
 use Rattle.rb_target.proofs.Growing.{Grows-refl, Grows-trans, Keeps-trans, below_or}
-use Rattle.rb_target.specs.Fields.{leads}
 use Rattle.rb_target.specs.Growth.{AgreesBut, Grows, Nowhere}
-use Rattle.rb_target.specs.Reading.{run, start}
 use Rattle.rb_target.specs.Targets.{IsIn}
 
 -- The arms

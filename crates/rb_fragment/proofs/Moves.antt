@@ -2,7 +2,6 @@
 use Rattle.std.proofs.Common.{◌≡◌, ℕ, zero, suc, ◌+◌, ◌-◌, ◌<◌, ◌≤◌, ◌⊎◌, inl, inr, List, [], ◌∷◌, ◌++◌, length, Some, refl, sym, subst, ap, ◌∙◌, arith, append_assoc, length-append, get_or-set_same, get_or-set_other, drop, get_or}
 use Rattle.std.proofs.lemmas.Option.{slice_get_within, same_Some}
 use Rattle.std.specs.Prelude.{slice_get, slice_index, slice_set, Contains}
-use Rattle.rb_core.specs.Meaning.{after}
 use Rattle.rb_target.specs.declared.instr.Instr.{Instr}
 use Rattle.rb_target.specs.declared.instr.Instr.TheVariants.{Jump, Copy}
 use Rattle.rb_target.specs.Meaning.{World, slots_at, taken, put_slots, Next, Callee}
@@ -11,16 +10,14 @@ use Rattle.std.proofs.lemmas.List.{length-set}
 use Rattle.std.proofs.lemmas.List.Elements.{All-nil, All-cons}
 use Rattle.rb_target.specs.Validity.{AreSlots}
 use Rattle.rb_target.specs.Laws.{Law}
-use Rattle.rb_fragment.proofs.Fragments.{one}
 use Rattle.rb_fragment.proofs.Pieces.{later-refl}
 use Rattle.rb_fragment.specs.Adding.{Adds, IsFitting, IsWrittenFrom}
-use Rattle.rb_fragment.specs.Pieces.{IsLater, Straight}
+use Rattle.rb_fragment.specs.Pieces.{IsLater}
 use Rattle.rb_fragment.specs.Plan.{Plan}
 use Rattle.rb_fragment.specs.Slots.{AllBelow, AllFrom, AreApart, IsDistinct, IsOneOf, Stands, copied, copies, joining, slots_from}
 use Rattle.rb_target.proofs.Growing.{Grows-append, Keeps-refl, Keeps-set, Keeps-trans, below_or, get-append, get-seam}
 use Rattle.rb_target.specs.Growth.{Keeps}
 use Rattle.rb_target.specs.Meaning.{from}
-use Rattle.rb_target.specs.Reading.{step}
 
 -- Slots in a row
 
@@ -217,7 +214,6 @@ slots_at-copied s (d ∷ ds) (f ∷ fs) same within distinct apart =
     let within1 = subst (λ n. AllBelow n ds) (sym (length-set s d word)) within.1 in
     let rest = slots_at-copied s1 ds fs (omega (arith, same)) within1 distinct.1 (λ x h k. apart x (inr h) (inr k)) ∙ slots_at-set s fs d word (λ h. apart d (inl refl) (inr h)) in
     ap (λ u. u ∷ slots_at (copied s1 ds fs) ds) here ∙ ap (λ us. word ∷ us) rest
-
 
 -- Copies, one after another
 

@@ -10,13 +10,10 @@ use Rattle.rb_target.specs.declared.instr.Instr.TheVariants.{Const, Copy, Alu, T
 use Rattle.rb_target.specs.declared.body.Hole.{Hole}
 use Rattle.rb_target.specs.Sheet.{Sheet, retargeted, retargeted_arm, with_instr, patched, IsHole, IsHoleIn}
 use Rattle.rb_target.specs.Validity.{dests, IsTarget}
-use Rattle.rb_fragment.proofs.Fragments.{nothing}
 use Rattle.rb_fragment.specs.Adding.{Adds, IsFitting, IsWrittenFrom}
 use Rattle.rb_fragment.specs.Arms.{AreHoles, AreJoins, ArePatchable, HasHole, IsOpenJump, closed}
 use Rattle.rb_fragment.specs.Plan.{Plan}
 use Rattle.rb_fragment.specs.Slots.{AllFrom}
-use Rattle.rb_rel.specs.Placing.{behind}
-use Rattle.rb_rel.specs.Relation.{number}
 use Rattle.rb_target.proofs.Growing.{get-set_other, get-set_same}
 use Rattle.rb_target.proofs.Shapes.{HoleView, IsPatched, branch, jump, other, patch_is}
 use Rattle.rb_target.specs.Fields.{has}

@@ -14,9 +14,7 @@ use Rattle.rb_target.specs.Laws.{Law}
 use Rattle.rb_target.specs.Meaning.{World, Outcome as Run, Next, Callee, taken, act}
 use Rattle.rb_target.specs.Sheet.{Sheet, retargeted, patched, pushed, with_slot}
 use Rattle.rb_target.specs.Validity.{dests}
-use Rattle.rb_core.proofs.TypedForms.{came}
 use Rattle.rb_fragment.proofs.Adding.{Adds-one, Adds-refl, Adds-trans, push_adds}
-use Rattle.rb_fragment.proofs.Fragments.{nothing, one}
 use Rattle.rb_fragment.proofs.Laying.{does_map}
 use Rattle.rb_fragment.proofs.Patching.{jump_hole, patch_adds}
 use Rattle.rb_fragment.specs.Adding.{Adds, IsFitting}
@@ -24,12 +22,11 @@ use Rattle.rb_fragment.specs.Arms.{IsOpenJump}
 use Rattle.rb_fragment.specs.Owing.{Does, Ends}
 use Rattle.rb_fragment.specs.Pieces.{AtEnd, Branches, IsLater, Piece, Reached, Straight}
 use Rattle.rb_fragment.specs.Plan.{Plan, cost_at, cost_of}
-use Rattle.rb_rel.specs.Placing.{behind, lay, requests_at, requests_of}
+use Rattle.rb_rel.specs.Placing.{lay, requests_at, requests_of}
 use Rattle.rb_target.proofs.Growing.{Agrees-part, Grows-refl, Keeps-refl, Keeps-set, Keeps-trans, get-seam}
 use Rattle.rb_target.proofs.Shapes.{IsPatched, patch_is}
-use Rattle.rb_target.specs.Fields.{is_open, leads}
 use Rattle.rb_target.specs.Growth.{AgreesBut, Keeps, Nowhere}
-use Rattle.rb_target.specs.Reading.{run, start, step}
+use Rattle.rb_target.specs.Reading.{start}
 use Rattle.rb_target.specs.Targets.{Finishes, IsIn}
 
 pub later-refl : (w : World) → IsLater 0 w w
@@ -62,7 +59,10 @@ module _ (plan : Plan) where
     low = omega (arith, fewer, p.low);
     runs = λ final callee next law agrees s w long pre.
         let r = p.runs final callee next law agrees s w long (f s w.memory pre) in (
-          r.0, r.1, r.2, r.3,
+          r.0,
+          r.1,
+          r.2,
+          r.3,
           record { long = r.4.long; same = λ x lt. r.4.same x (omega (arith, lt, fewer)) },
           record { memory = r.5.memory; left = r.5.left; switches = omega (arith, r.5.switches, le) },
           g r.0 r.1 w.memory r.6,
@@ -178,7 +178,6 @@ module _ (plan : Plan) where
 -- a jump leads to its target
 pub jumps : (final : List Instr) (callee : Callee) (next : Next) → Law final callee next → (h t : ℕ) (s : List ℕ) (w : World) → slice_get final h ≡ Some (Jump t) → next h s w ≡ next t s (taken w)
 jumps final callee next law h t s w at = law.step h (Jump t) s w at
-
 
 -- an open jump that is set: the run that came to it goes on at its target
 module _ (plan : Plan) (n : ℕ) (a b : Sheet) (Open : ℕ → Type 0) (k : ℕ) (h : Hole) (t : ℕ) (Pre : List ℕ → Memory → Type 0) (Exit : ℕ → List ℕ → Memory → Type 0) (p : Piece plan n a b Open k Pre Exit)

@@ -20,7 +20,7 @@ use Rattle.rb_fragment.specs.Plan.{Plan, Rep, words_of}
 use Rattle.rb_fragment.specs.Owing.{Does, Related}
 use Rattle.rb_fragment.specs.Adding.{Adds}
 use Rattle.rb_fragment.specs.Slots.{AllBelow, IsOneOf, slots_from, with_slots}
-use Rattle.rb_fragment.specs.Holding.{AreGiven, IsOfLocal, Holds, AreHeld, AllGiven, held_type, all_slots, scope_of}
+use Rattle.rb_fragment.specs.Holding.{IsOfLocal, Holds, AreHeld, AllGiven, held_type, all_slots, scope_of}
 
 -- the run comes to instruction b with the value in the slots, and the first n slots kept
 abbrev pub Comes : Plan → Bool → Run → Next → ℕ → ℕ → Ty → List ℕ → List ℕ → Value → World → Type 0

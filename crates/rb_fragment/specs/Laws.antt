@@ -2,7 +2,6 @@
 use Rattle.std.specs.Prelude.{◌≡◌, ℕ, List, [], map, Some, slice_get}
 use Rattle.rb_core.specs.declared.value.Value.{Value}
 use Rattle.rb_core.specs.declared.types.Ty.{Ty}
-use Rattle.rb_core.specs.declared.binding.Binding.{Binding}
 use Rattle.rb_core.specs.declared.program.Fun.{Fun}
 use Rattle.rb_core.specs.declared.outcome.Outcome.{Outcome}
 use Rattle.rb_core.specs.Meaning.{Calls, Meaning, all_of, then_with}

@@ -72,12 +72,7 @@ pub fn emit_take(body: &mut Body, from: usize, o: u8, l: u8) -> Result<usize, Al
 ///
 /// # Errors
 /// `AllocError` where memory is wanting.
-pub fn emit_load(
-    body: &mut Body,
-    base: usize,
-    offset: u64,
-    width: u8,
-) -> Result<usize, AllocError>
+pub fn emit_load(body: &mut Body, base: usize, offset: u64, width: u8) -> Result<usize, AllocError>
     ensures slot { IfOk result (λ d. d ≡ body.old.slots) }
     ensures code { OnOk result (body.new ≡ pushed (with_slot body.old) (Load body.old.slots base offset width)) }
 {

@@ -1,5 +1,4 @@
 use Rattle.std.proofs.Common.{◌≡◌, ◌++◌, drop}
-use Rattle.rb_target.specs.Sheet.{Sheet}
 use Rattle.rb_fragment.specs.Slots.{copies}
 use Rattle.rb_fragment.proofs.emit.emit_copies.Given as goal
 

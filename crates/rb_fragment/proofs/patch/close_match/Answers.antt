@@ -1,6 +1,4 @@
-use Rattle.std.proofs.Common.{◌≡◌, ◌∷◌, ◌++◌, [], length, ℕ, List, ap, sym, subst, ◌∙◌}
-use Rattle.rb_target.specs.Sheet.{Sheet}
-use Rattle.rb_fragment.specs.Arms.{closed, ArePatchable, whole_match}
+use Rattle.std.proofs.Common.{◌≡◌, ◌∷◌, ◌++◌, [], length, ℕ, List, ap, ◌∙◌}
 use Rattle.rb_fragment.proofs.Matches.{holes_patchable, joins_patchable}
 use Rattle.rb_fragment.proofs.patch.close_match.Goals as goal
 

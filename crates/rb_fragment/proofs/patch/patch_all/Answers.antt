@@ -1,4 +1,4 @@
-use Rattle.std.proofs.Common.{◌≡◌, ◌+◌, None, refl, sym, ap, subst, ◌∙◌, drop}
+use Rattle.std.proofs.Common.{◌+◌, None, ap, subst, ◌∙◌, drop}
 use Rattle.rb_target.specs.declared.body.Hole.{Hole}
 use Rattle.rb_fragment.specs.Arms.{closed, ArePatchable}
 use Rattle.rb_fragment.proofs.Moves.{drop_item}
