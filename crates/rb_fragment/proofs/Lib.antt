@@ -6,6 +6,7 @@ pub mod Fragments
 pub mod Patching
 pub mod Closing
 pub mod Pieces
+pub mod Steps
 pub mod Moves
 pub mod Arms
 pub mod Matches
