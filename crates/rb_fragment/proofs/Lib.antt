@@ -7,6 +7,7 @@ pub mod Patching
 pub mod Closing
 pub mod Pieces
 pub mod Steps
+pub mod ReadForms
 pub mod Moves
 pub mod Arms
 pub mod Matches

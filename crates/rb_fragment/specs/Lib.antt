@@ -7,4 +7,5 @@ pub mod Pieces
 pub mod Fragments
 pub mod Arms
 pub mod Functions
+pub mod Reads
 pub mod Laws

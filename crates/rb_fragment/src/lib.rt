@@ -30,4 +30,5 @@ pub mod held;
 pub mod join;
 pub mod laws;
 pub mod patch;
+pub mod reads;
 pub mod slots;
