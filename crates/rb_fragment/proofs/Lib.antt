@@ -8,6 +8,7 @@ pub mod Closing
 pub mod Pieces
 pub mod Steps
 pub mod ReadForms
+pub mod Making
 pub mod Moves
 pub mod Arms
 pub mod Matches

@@ -1,5 +1,5 @@
 -- Reads form by form, their induction, and that what they mean stays where their slots do.
-use Rattle.std.proofs.Common.{◌≡◌, ℕ, ◌*◌, ◌<◌, ◌&&◌, Bool, true, false, List, [], ◌∷◌, map, Option, Some, None, refl, sym, subst, ap, ◌∙◌, arith}
+use Rattle.std.proofs.Common.{◌≡◌, ℕ, ◌*◌, ◌%◌, ◌^◌, ◌<◌, ◌&&◌, Bool, true, false, List, [], ◌∷◌, map, Option, Some, None, refl, sym, subst, ap, ◌∙◌, arith}
 use Rattle.std.proofs.lemmas.Bool.Decides.{nat_tests}
 use Rattle.std.specs.Prelude.{slice_index, nat_lt, nat_le}
 use Rattle.std.specs.List.{list_all}
@@ -32,7 +32,7 @@ pub mean-Bits : (r : Read) (o l : ℕ) (s : List ℕ) (m : Memory) → mean (Bit
 unfolding X.roll-Read denote.Hole.Carrier.roll
 mean-Bits r o l s m = ap (λ (q : Reading). q s m) (fold-roll-Read Reading Placed mean_step share_step (R.Bits r o l))
 
-pub mean-Address : (r : Read) (o l align : ℕ) (s : List ℕ) (m : Memory) → mean (Address r o l align) s m ≡ where_some (mean r s m) (λ w. Some (take_of w o l * align))
+pub mean-Address : (r : Read) (o l align : ℕ) (s : List ℕ) (m : Memory) → mean (Address r o l align) s m ≡ where_some (mean r s m) (λ w. Some (take_of w o l * align % 2 ^ 64))
 unfolding X.roll-Read denote.Hole.Carrier.roll
 mean-Address r o l align s m = ap (λ (q : Reading). q s m) (fold-roll-Read Reading Placed mean_step share_step (R.Address r o l align))
 
@@ -157,7 +157,7 @@ module _ (n : ℕ) (s s' : List ℕ) (m : Memory) (k : Keeps n s s') where
         mean-Bits r o l s' m ∙ ap (λ v. where_some v (λ w. Some (take_of w o l))) (ih f.0) ∙ sym (mean-Bits r o l s m);
     address = λ r o l align ih h.
         let f = both (fits n r) (is_range o l) (sym (fits-Address n r o l align) ∙ h) in
-        mean-Address r o l align s' m ∙ ap (λ v. where_some v (λ w. Some (take_of w o l * align))) (ih f.0) ∙ sym (mean-Address r o l align s m);
+        mean-Address r o l align s' m ∙ ap (λ v. where_some v (λ w. Some (take_of w o l * align % 2 ^ 64))) (ih f.0) ∙ sym (mean-Address r o l align s m);
     load = λ r byte width ih h.
         let f = both (fits n r) _ (sym (fits-Loaded n r byte width) ∙ h) in
         mean-Loaded r byte width s' m ∙ ap (λ v. where_some v (λ base. loaded (load_of m base byte width))) (ih f.0) ∙ sym (mean-Loaded r byte width s m);
