@@ -1,5 +1,5 @@
 -- Code that makes reads, form by form.
-use Rattle.std.proofs.Common.{◌≡◌, ℕ, ◌+◌, ◌*◌, ◌%◌, ◌^◌, ◌<◌, ◌≤◌, ◌&&◌, ◌==◌, inl, inr, Bool, true, false, List, [], ◌∷◌, map, length, Option, Some, None, Result, Ok, Err, refl, sym, subst, ap, ◌∙◌, arith, drop, eqb-true}
+use Rattle.std.proofs.Common.{◌≡◌, ℕ, zero, suc, ◌+◌, ◌*◌, ◌%◌, ◌^◌, ◌<◌, ◌≤◌, ◌&&◌, ◌==◌, ◌⊎◌, inl, inr, Bool, true, false, List, [], ◌∷◌, map, length, Option, Some, None, Result, Ok, Err, refl, sym, subst, ap, ◌∙◌, arith, drop, eqb-true}
 use Rattle.std.proofs.lemmas.Bool.Decides.{nat_tests}
 use Rattle.std.proofs.lemmas.Option.{same_Some}
 use Rattle.std.proofs.Math.Nat.{mod-eq_of_lt}
@@ -34,7 +34,7 @@ range_is o l h =
     let f = both (nat_le 1 l) (nat_le (o + l) 64) h in
     let low : 1 ≤ l = grind (arith, nat_tests, f.0) in let high : o + l ≤ 64 = grind (arith, nat_tests, f.1) in (low, high)
 
-either_is : (a b : Bool) (A B : Type 0) → (a ≡ true → A) → (b ≡ true → B) → either a b ≡ true → Rattle.std.specs.Prelude.◌⊎◌ A B
+either_is : (a b : Bool) (A B : Type 0) → (a ≡ true → A) → (b ≡ true → B) → either a b ≡ true → A ⊎ B
 either_is true b A B f g h = inl (f refl)
 either_is false b A B f g h = inr (g h)
 
@@ -50,6 +50,12 @@ some_then (Some w) go x e = (w, refl, e)
 loaded_ok : (r : Result ℕ Trap) (x : ℕ) → loaded r ≡ Some x → r ≡ Ok x
 loaded_ok (Ok w) x e = ap (λ k. Ok k) (same_Some w x e)
 loaded_ok (Err t) x e = cc
+
+pub drop_past : (xs : List Share) (i : ℕ) → length xs ≤ i → drop i xs ≡ []
+drop_past [] zero le = refl
+drop_past [] (suc i) le = refl
+drop_past (x ∷ xs) zero le = absurd (omega (arith, le))
+drop_past (x ∷ xs) (suc i) le = drop_past xs i (omega (arith, le))
 
 module _ (plan : Plan) where
   -- straight code from where some number is known
@@ -275,9 +281,9 @@ module _ (plan : Plan) where
   }
 
   fits_drop : (k : ℕ) (i : ℕ) (ps : List Share) → list_all (λ b. b) (map (fits_share k) ps) ≡ true → list_all (λ b. b) (map (fits_share k) (drop i ps)) ≡ true
-  fits_drop k Rattle.std.proofs.Common.zero ps h = h
-  fits_drop k (Rattle.std.proofs.Common.suc i) [] h = h
-  fits_drop k (Rattle.std.proofs.Common.suc i) (p ∷ ps) h = fits_drop k i ps (both (fits_share k p) _ h).1
+  fits_drop k zero ps h = h
+  fits_drop k (suc i) [] h = h
+  fits_drop k (suc i) (p ∷ ps) h = fits_drop k i ps (both (fits_share k p) _ h).1
 
   -- one share more
   pub joined_more : (shares : List Share) (i : ℕ) (p : Share) (a b c : Sheet) (d k : ℕ) → drop i shares ≡ p ∷ drop (i + 1) shares → k ≤ a.slots → fits k (Joined shares) ≡ true

@@ -29,6 +29,7 @@ pub mod emit;
 pub mod held;
 pub mod join;
 pub mod laws;
+pub mod make;
 pub mod patch;
 pub mod reads;
 pub mod slots;
