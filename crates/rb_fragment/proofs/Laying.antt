@@ -5,13 +5,16 @@ use Rattle.rb_core.specs.declared.outcome.Event.{Event}
 use Rattle.rb_core.specs.declared.outcome.SourceEnd.{SourceEnd}
 use Rattle.rb_core.specs.declared.outcome.SourceEnd.TheVariants.{Done, Spent as Stopped}
 use Rattle.rb_core.specs.declared.outcome.Outcome.{Outcome}
-use Rattle.rb_core.specs.Meaning.{at_end, then_do, done}
+use Rattle.rb_core.specs.Meaning.{after, at_end, then_do, done}
 use Rattle.rb_bytes.specs.Memory.{Memory, IsGood, aligned}
-use Rattle.rb_target.specs.Meaning.{World, Outcome as Run}
+use Rattle.rb_target.specs.Meaning.{World, Outcome as Run, over}
+use Rattle.rb_target.specs.declared.outcome.End.TheVariants.{Full as Filled}
+use Rattle.rb_bytes.specs.declared.fault.Full.{Full as Unplaced}
+use Rattle.std.proofs.lemmas.List.{append-nil}
 use Rattle.rb_bytes.proofs.GrowthLemmas.{Grown-refl, Grown-trans}
 use Rattle.rb_bytes.specs.Growth.{Grown}
 use Rattle.rb_fragment.specs.Owing.{Does, Ends}
-use Rattle.rb_fragment.specs.Plan.{Plan, cost_of}
+use Rattle.rb_fragment.specs.Plan.{cost_at, Plan, cost_of}
 use Rattle.rb_rel.specs.Placing.{Fits, Laid, Over, Request, behind, lay, requests_at, requests_of}
 
 abbrev pub all_behind : List (ℕ × ℕ) → Laid → Laid
@@ -120,3 +123,20 @@ module _ (plan : Plan) where
 
   pub does_later : (base : ℕ) (out : Run) (Ok Ok1 : Value → World → Type 0) (m : Memory) (o : Outcome) → ((v : Value) (w' : World) → Ok1 v w' → Later Ok v w') → Does plan base out m o Ok1 → Does plan base out m o Ok
   does_later base out Ok Ok1 m o f d = later_ends (base + cost_of plan o.log) out Ok Ok1 m f (lay m.limit m.next (requests_of plan.layouts o.log)) o.end d
+
+  -- one event: where its requests fit, the memory has their blocks more; else the first that does not is asked for
+  pub event_fits : (base : ℕ) (out : Run) (m : Memory) (e : Event) (v : Value) (left p : ℕ) (bs : List (ℕ × ℕ)) (w : World) (Ok : Value → World → Type 0) → lay m.limit m.next (requests_at plan.layouts e) ≡ Fits bs p
+      → Grown m w.memory bs p → w.left ≡ left → w.switches ≤ base + cost_at plan e → Ok v w → Does plan base out m (after (e ∷ []) (done v left)) Ok
+  event_fits base out m e v left p bs w Ok fits grown same few ok =
+      let one : requests_at plan.layouts e ++ [] ≡ requests_at plan.layouts e = append-nil (requests_at plan.layouts e) in
+      let most = base + cost_of plan (e ∷ []) in
+      subst (λ qs. Ends most out m (lay m.limit m.next qs) (Done v left) Ok) (sym one)
+      (subst (λ l. Ends most out m l (Done v left) Ok) (sym fits) (w, grown, same, omega (arith, few), ok))
+
+  pub event_over : (base : ℕ) (out : Run) (m : Memory) (e : Event) (v : Value) (left : ℕ) (full : Unplaced) (w : World) (Ok : Value → World → Type 0) → lay m.limit m.next (requests_at plan.layouts e) ≡ Over full
+      → out ≡ over (Filled full) w → w.switches ≤ base + cost_at plan e → Does plan base out m (after (e ∷ []) (done v left)) Ok
+  event_over base out m e v left full w Ok fits is few =
+      let one : requests_at plan.layouts e ++ [] ≡ requests_at plan.layouts e = append-nil (requests_at plan.layouts e) in
+      let most = base + cost_of plan (e ∷ []) in
+      subst (λ qs. Ends most out m (lay m.limit m.next qs) (Done v left) Ok) (sym one)
+      (subst (λ l. Ends most out m l (Done v left) Ok) (sym fits) (w, is, omega (arith, few)))

@@ -4,7 +4,8 @@ use Rattle.std.proofs.lemmas.Option.{slice_get_within, same_Some}
 use Rattle.std.specs.Prelude.{slice_get, slice_index}
 use Rattle.rb_core.specs.declared.types.Ty.{Ty}
 use Rattle.rb_core.specs.declared.outcome.Outcome.{Outcome}
-use Rattle.rb_core.specs.Meaning.{Calls}
+use Rattle.rb_core.specs.declared.outcome.Event.TheVariants.{Matched}
+use Rattle.rb_core.specs.Meaning.{Calls, after}
 use Rattle.rb_bytes.specs.Memory.{Memory, IsGood}
 use Rattle.rb_target.specs.declared.instr.Instr.{Instr}
 use Rattle.rb_target.specs.declared.instr.Instr.TheVariants.{Jump}
@@ -15,12 +16,12 @@ use Rattle.rb_target.specs.Sheet.{Sheet, patched, IsHoleIn}
 use Rattle.rb_fragment.proofs.Adding.{Adds-trans}
 use Rattle.rb_fragment.proofs.Closing.{closed_is}
 use Rattle.rb_fragment.proofs.Holds.{AllBelow-more}
-use Rattle.rb_fragment.proofs.Laying.{does_later}
+use Rattle.rb_fragment.proofs.Laying.{does_later, does_map}
 use Rattle.rb_fragment.proofs.Patching.{AreClosable, adds_closed, all_holes_closed, all_holes_grow, all_holes_of, all_joins_holes, at_closed, closed_hole, closed_length, closed_slots, from_at, hole_from, hole_within, join_at, join_closed, join_from, jump_hole, retarget_all, retarget_none}
-use Rattle.rb_fragment.proofs.Pieces.{jumps, reached_does}
+use Rattle.rb_fragment.proofs.Pieces.{does_event, jumps, reached_does}
 use Rattle.rb_fragment.specs.Adding.{Adds}
 use Rattle.rb_fragment.specs.Arms.{AreHoles, AreJoins, AreOfOneWay, ArePatchable, Arm, ArmIn, ArmsAre, ArmsIn, HasHole, IsJoin, closed, whole_match}
-use Rattle.rb_fragment.specs.Fragments.{Comes}
+use Rattle.rb_fragment.specs.Fragments.{Comes, Fragment}
 use Rattle.rb_fragment.specs.Owing.{Does, Related}
 use Rattle.rb_fragment.specs.Pieces.{Branches, Reached}
 use Rattle.rb_fragment.specs.Plan.{Plan}
@@ -280,3 +281,20 @@ module _ (plan : Plan) (n most count : ℕ) (b e q : Sheet) (holes joins : List 
         let d4 = reached_does plan next (length b.code) n most (λ pc s' m. (pc ≡ slice_index starts k) × Mid k s' m) s w ok Ok Ok2 r
         (λ u w' y. (y.0, r.3 ∙ ap (λ pc. next pc r.1 r.2) to ∙ y.1 ∙ ap (λ pc. next pc y.0 w') (sym len), Keeps-trans n n s r.1 y.0 (omega arith) r.4 y.2, y.3)) d3 in
         subst (λ l. Does plan (w.switches + most) (next (length b.code) s w) w.memory (o k l) Ok) r.5.left d4
+
+    -- a whole match: its event pays for the switches that choose
+    pub match_fragment : (f at : ℕ) → most ≤ plan.bound f at → n ≡ b.slots → (From : List ℕ → Memory → Type 0) (meaning : ℕ → Outcome)
+        → ((s : List ℕ) (m : Memory) → IsGood m → From s m → (k : ℕ) × (k < count) × Pre k s m × ((left : ℕ) → meaning left ≡ o k left))
+        → Fragment plan clean calls b whole From (λ left. after (Matched f at ∷ []) (meaning left)) t into
+    match_fragment f at few same From meaning choose = record {
+      runs = λ final callee next law rel agrees s w long good from.
+          let c = choose s w.memory good from in
+          let out = next (length b.code) s w in
+          let Ok = Comes plan clean out next (length whole.code) b.slots t into s in
+          let Ok1 = Comes plan clean out next (length whole.code) n t into s in
+          let d = match_does final callee next law rel agrees s w c.0 c.1 long good c.2 in
+          let most1 : w.switches + most ≤ w.switches + plan.bound f at = omega (arith, few) in
+          let d1 = does_map plan (w.switches + plan.bound f at) (w.switches + most) out out Ok Ok1 w.memory (o c.0 w.left) most1 refl (λ v w' y. (y.0, y.1, record { long = y.2.long; same = λ x lt. y.2.same x (omega (arith, lt, same)) }, y.3)) d in
+          does_event plan w.switches out w.memory (Matched f at) (meaning w.left) Ok refl
+          (subst (λ r. Does plan (w.switches + plan.bound f at) out w.memory r Ok) (sym (c.3 w.left)) d1);
+    }

@@ -1,11 +1,14 @@
 -- Reads form by form, their induction, and that what they mean stays where their slots do.
-use Rattle.std.proofs.Common.{◌≡◌, ℕ, ◌*◌, ◌%◌, ◌^◌, ◌<◌, ◌&&◌, Bool, true, false, List, [], ◌∷◌, map, Option, Some, None, refl, sym, subst, ap, ◌∙◌, arith}
+use Rattle.std.proofs.Common.{◌≡◌, ℕ, ◌*◌, ◌%◌, ◌^◌, ◌<◌, ◌&&◌, Bool, true, false, List, [], ◌∷◌, map, Option, Some, None, Result, Ok, Err, refl, sym, subst, ap, ◌∙◌, arith}
 use Rattle.std.proofs.lemmas.Bool.Decides.{nat_tests}
 use Rattle.std.specs.Prelude.{slice_index, nat_lt, nat_le}
 use Rattle.std.specs.List.{list_all}
 use denote.Hole.Holds.{Such}
 use Rattle.rb_bits.specs.Words.{take_of, put_of}
 use Rattle.rb_bytes.specs.Memory.{Memory, load_of}
+use Rattle.rb_bytes.specs.Laws.{Extends}
+use Rattle.rb_bytes.specs.declared.fault.Trap.{Trap}
+use Rattle.rb_bytes.proofs.MemoryLemmas.{load_extends}
 use Rattle.rb_target.specs.Growth.{Keeps}
 use Rattle.rb_fragment.specs.declared.reads.Read.{Read, Slot, Number, Bits, Address, Loaded, Joined}
 use Rattle.rb_fragment.specs.declared.reads.Read as X
@@ -175,3 +178,43 @@ over-kept n s s' m k ps h x = over_stays n s s' m k ps (each ps) h x
     each : (qs : List Share) → Each (λ r. fits n r ≡ true → mean r s' m ≡ mean r s m) qs
     each [] = tt
     each (q ∷ qs) = (stays n s s' m k q.read, each qs)
+
+-- what is read in a memory is read in one that has grown
+some_of : (o : Option ℕ) (go : ℕ → Option ℕ) (x : ℕ) → where_some o go ≡ Some x → (w : ℕ) × (o ≡ Some w) × (go w ≡ Some x)
+some_of None go x e = cc
+some_of (Some w) go x e = (w, refl, e)
+
+loaded_more : (m m' : Memory) → Extends m m' → (base byte width x : ℕ) (r : Result ℕ Trap) → load_of m base byte width ≡ r → loaded r ≡ Some x → loaded (load_of m' base byte width) ≡ Some x
+loaded_more m m' g base byte width x (Ok w) is e = ap loaded (load_extends m m' base byte width w g is) ∙ e
+loaded_more m m' g base byte width x (Err t) is e = cc
+
+module _ (s : List ℕ) (m m' : Memory) (g : Extends m m') where
+  abbrev Grows : Read → Type 0
+  Grows r = (x : ℕ) → mean r s m ≡ Some x → mean r s m' ≡ Some x
+
+  over_grows : (ps : List Share) → Each Grows ps → (n x : ℕ) → joined_over n (map placed_of ps) s m ≡ Some x → joined_over n (map placed_of ps) s m' ≡ Some x
+  over_grows [] each n x e = e
+  over_grows (p ∷ ps) each n x e =
+      let is = placed-is p in
+      let e1 = sym (ap (λ (q : Placed). where_some (q.reading s m) (λ w. joined_over (put_of n q.a q.l (take_of w q.o q.l)) (map placed_of ps) s m)) is) ∙ e in
+      let h = some_of (mean p.read s m) (λ w. joined_over (put_of n p.a p.l (take_of w p.o p.l)) (map placed_of ps) s m) x e1 in
+      ap (λ (q : Placed). where_some (q.reading s m') (λ w. joined_over (put_of n q.a q.l (take_of w q.o q.l)) (map placed_of ps) s m')) is
+      ∙ ap (λ v. where_some v (λ w. joined_over (put_of n p.a p.l (take_of w p.o p.l)) (map placed_of ps) s m')) (each.0 h.0 h.1)
+      ∙ over_grows ps each.1 (put_of n p.a p.l (take_of h.0 p.o p.l)) x h.2
+
+  pub mean-grown : (r : Read) (x : ℕ) → mean r s m ≡ Some x → mean r s m' ≡ Some x
+  mean-grown = induction Grows (record {
+    slot = λ a x e. mean-Slot a s m' ∙ sym (mean-Slot a s m) ∙ e;
+    number = λ c x e. mean-Number c s m' ∙ sym (mean-Number c s m) ∙ e;
+    bits = λ r o l ih x e.
+        let h = some_of (mean r s m) (λ w. Some (take_of w o l)) x (sym (mean-Bits r o l s m) ∙ e) in
+        mean-Bits r o l s m' ∙ ap (λ v. where_some v (λ w. Some (take_of w o l))) (ih h.0 h.1) ∙ h.2;
+    address = λ r o l align ih x e.
+        let h = some_of (mean r s m) (λ w. Some (take_of w o l * align % 2 ^ 64)) x (sym (mean-Address r o l align s m) ∙ e) in
+        mean-Address r o l align s m' ∙ ap (λ v. where_some v (λ w. Some (take_of w o l * align % 2 ^ 64))) (ih h.0 h.1) ∙ h.2;
+    load = λ r byte width ih x e.
+        let h = some_of (mean r s m) (λ base. loaded (load_of m base byte width)) x (sym (mean-Loaded r byte width s m) ∙ e) in
+        mean-Loaded r byte width s m' ∙ ap (λ v. where_some v (λ base. loaded (load_of m' base byte width))) (ih h.0 h.1)
+        ∙ loaded_more m m' g h.0 byte width x (load_of m h.0 byte width) refl h.2;
+    joined = λ ps each x e. mean-Joined ps s m' ∙ over_grows ps each 0 x (sym (mean-Joined ps s m) ∙ e);
+  })
