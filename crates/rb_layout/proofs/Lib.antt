@@ -1,1 +1,3 @@
-pub mod Probe
+pub mod Disjoint
+pub mod FlatForms
+pub mod WrittenForms

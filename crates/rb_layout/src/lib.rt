@@ -16,4 +16,5 @@
 //! numbers has each address when it is needed.
 #![tactic(auto)]
 
+pub mod evidence;
 pub mod layout;

@@ -14,9 +14,10 @@ use Rattle.rb_core.specs.declared.layout_decl.Step.{Step}
 use Rattle.rb_core.specs.declared.layout_decl.Loc.{Loc}
 use Rattle.rb_layout.specs.declared.layout.WordRef.{WordRef}
 use Rattle.rb_layout.specs.Words.{words_in, flat_at, begins_at}
-use Rattle.rb_rel.specs.Relation.{IsFound, HoldsKind, WordHolds, Placed}
+use Rattle.rb_rel.specs.Relation.{HoldsKind, Placed}
 use Rattle.rb_layout.specs.Locations.{Reached, or_else, pointed_by, pointed_in, block_in, block_at, word_beginning, ref_in, next_ref, range_in, resolve_from, reached_at}
-use Rattle.rb_rel.specs.Reading.{after, read_from, read_first, read_loc}
+use Rattle.rb_rel.specs.Reading.{Stands, IsRead, after, read_from, read_first, read_loc}
+use Rattle.rb_rel.proofs.Lists.{both}
 
 -- a part that is such a pointer
 pub record IsAt (ps : List Part) (o l align b : ℕ) : Type 0 where
@@ -26,11 +27,6 @@ pub record IsAt (ps : List Part) (o l align b : ℕ) : Type 0 where
   pub first : part.o ≡ o
   pub long : part.l ≡ l
   pub is_kind : part.kind ≡ Pointer align b
-
-pub both : (a b : Bool) → (a && b) ≡ true → (a ≡ true) × (b ≡ true)
-both true true e = (refl, refl)
-both true false e = absurd cc
-both false b e = absurd cc
 
 module _ {A : Type 0} where
   pub chosen : (t : Bool) (x y : A) → (if t then Some x else None) ≡ Some y → (t ≡ true) × (x ≡ y)
@@ -91,26 +87,12 @@ word_beginning-is (f ∷ fs) start byte width from j =
           record { number = suc r.number; word = r.word; is_word = r.is_word; is_number = omega (arith, r.is_number); is_byte = omega (arith, r.is_byte); is_width = r.is_width }
     ]) refl
 
--- a word of a leaf, with what stands there
-pub record Stands (leaf : Leaf) (ws : List ℕ) (m : Memory) (clean : Bool) (subs : List ℕ → List ℕ) (ats : ℕ → ℕ) (r : WordRef) (f : FlatWord) (w : ℕ) : Type 0 where
-  pub is_flat : flat_at leaf r ≡ Some f
-  pub is_found : IsFound r.block (words_in leaf r.block) f r.word ws ats m w
-  pub holds : WordHolds subs ats clean f w
-
--- where a location leads, with what is read there
-pub record Read (leaf : Leaf) (ws : List ℕ) (m : Memory) (clean : Bool) (subs : List ℕ → List ℕ) (ats : ℕ → ℕ) (x : Reached) (n : Option ℕ) : Type 0 where
-  pub found : ℕ
-  pub stands : Stands leaf ws m clean subs ats x.ref x.word found
-  pub some : 1 ≤ x.l
-  pub inside : x.o + x.l ≤ x.word.width
-  pub is_read : n ≡ Some (take_of found x.o x.l)
-
 module _ (leaf : Leaf) (ws : List ℕ) (m : Memory) (clean : Bool) (subs : List ℕ → List ℕ) (ats : ℕ → ℕ) (placed : Placed leaf ws m clean subs ats) where
   abbrev At : WordRef → FlatWord → ℕ → Type 0
   At = Stands leaf ws m clean subs ats
 
   abbrev Reads : Reached → Option ℕ → Type 0
-  Reads = Read leaf ws m clean subs ats
+  Reads = IsRead leaf ws m clean subs ats
 
   pub stands_at : (r : WordRef) (f : FlatWord) → flat_at leaf r ≡ Some f → (w : ℕ) × At r f w
   stands_at r f is = let h = placed.words r f is in (h.0, record { is_flat = is; is_found = h.1; holds = h.2 })

@@ -1,0 +1,101 @@
+-- A3: the parts of each written word lie in it, are disjoint, and fit what they hold.
+use Rattle.std.specs.Prelude.{◌≡◌, ℕ, ◌+◌, ◌^◌, ◌<◌, ◌≤◌, ◌⊎◌, List, [], ◌∷◌, Option, Some, None, slice_get}
+use Rattle.rb_core.specs.declared.types.Ty.{Ty}
+use Rattle.rb_core.specs.declared.types.Ty.TheVariants.{Int, Named}
+use Rattle.rb_core.specs.declared.program.Program.{Program}
+use Rattle.rb_core.specs.declared.layout_decl.LayoutDecl.{LayoutDecl}
+use Rattle.rb_bits.specs.Words.{AreDisjoint}
+use Rattle.rb_layout.specs.declared.layout.Layout.{Layout}
+use Rattle.rb_layout.specs.declared.evidence.Why.{Why}
+use Rattle.rb_layout.specs.declared.evidence.Why.TheVariants.{Outside, Overlap, ConstWide, Misfit}
+use Rattle.rb_layout.specs.Positions.{Open, open_positions}
+use Rattle.rb_layout.specs.Flattening.{shape_of, type_at}
+use Rattle.rb_layout.specs.Items.{Content, Number, Whole, Slice, WordOf, Address, WrittenPart, Item, AWord, AField, items_of, content_paths}
+use Rattle.rb_layout.specs.Each.{EachLeaf}
+
+-- the range has a bit and lies in the word
+abbrev pub LiesIn : ℕ → ℕ → ℕ → Type 0
+LiesIn width o l = (1 ≤ l) × (o + l ≤ width)
+
+-- the whole field: an integer has as many bits, and a data type has one word of as many bits
+abbrev pub FitsWhole : List LayoutDecl → Option Ty → ℕ → Type 0
+FitsWhole decls None l = Unit {0}
+FitsWhole decls (Some (Int bits)) l = l ≡ bits
+FitsWhole decls (Some (Named s)) l = shape_of decls s ≡ l ∷ []
+
+-- a slice of k bits from bit a: as long as the range, and in an integer
+abbrev pub FitsSlice : Option Ty → ℕ → ℕ → ℕ → Type 0
+FitsSlice None l a k = Unit {0}
+FitsSlice (Some (Int bits)) l a k = (k ≡ l) × (a + k ≤ bits)
+FitsSlice (Some (Named s)) l a k = ⊥
+
+-- word j of a data type, which has as many bits
+abbrev pub FitsWord : List LayoutDecl → Option Ty → ℕ → ℕ → Type 0
+FitsWord decls None l j = Unit {0}
+FitsWord decls (Some (Int bits)) l j = ⊥
+FitsWord decls (Some (Named s)) l j = slice_get (shape_of decls s) j ≡ Some l
+
+-- what is held fits so many bits; of a path to no open position nothing is demanded
+abbrev pub Fits : List LayoutDecl → List Open → ℕ → Content → Type 0
+Fits decls opens l (Number c) = c < 2 ^ l
+Fits decls opens l (Whole path) = FitsWhole decls (type_at opens path) l
+Fits decls opens l (Slice path a k) = FitsSlice (type_at opens path) l a k
+Fits decls opens l (WordOf path j) = FitsWord decls (type_at opens path) l j
+Fits decls opens l (Address align) = Unit {0}
+
+pub record PartsFit (decls : List LayoutDecl) (opens : List Open) (width : ℕ) (parts : List WrittenPart) : Type 0 where
+  pub inside : (k : ℕ) (p : WrittenPart) → slice_get parts k ≡ Some p → LiesIn width p.o p.l
+  pub disjoint : (j k : ℕ) (p q : WrittenPart) → j < k → slice_get parts j ≡ Some p → slice_get parts k ≡ Some q → AreDisjoint p.o p.l q.o q.l
+  pub fit : (k : ℕ) (p : WrittenPart) → slice_get parts k ≡ Some p → Fits decls opens p.l p.content
+
+abbrev pub ItemFits : List LayoutDecl → List Open → Item → Type 0
+ItemFits decls opens (AWord width parts) = PartsFit decls opens width parts
+ItemFits decls opens (AField path) = Unit {0}
+
+abbrev pub A3 : Program → List Layout → Type 0
+A3 p layouts = EachLeaf layouts (λ t layout n leaf.
+    (i : ℕ) (item : Item) → slice_get (items_of p.layouts t n) i ≡ Some item → ItemFits p.layouts (open_positions p.types leaf.prov) item)
+
+-- a part with this range
+pub record PartAt (parts : List WrittenPart) (o l : ℕ) : Type 0 where
+  pub number : ℕ
+  pub part : WrittenPart
+  pub is_part : slice_get parts number ≡ Some part
+  pub from : part.o ≡ o
+  pub length : part.l ≡ l
+
+-- the bit is in the range
+abbrev pub IsIn : ℕ → ℕ → ℕ → Type 0
+IsIn o l i = (o ≤ i) × (i < o + l)
+
+-- two parts with a bit in common, the one that begins lower first; of two that begin alike, the one written first
+pub record Overlaps (parts : List WrittenPart) (o l b m : ℕ) : Type 0 where
+  pub first : PartAt parts o l
+  pub second : PartAt parts b m
+  pub order : (o < b) ⊎ ((o ≡ b) × (first.number < second.number))
+  pub bit : ℕ
+  pub in_first : IsIn o l bit
+  pub in_second : IsIn b m bit
+
+-- how a word's parts fail the rule, by evidence but for the item's number
+abbrev pub FailsParts : List LayoutDecl → List Open → ℕ → List WrittenPart → Why → Type 0
+FailsParts decls opens width parts (Outside i o l) = PartAt parts o l × (LiesIn width o l → ⊥)
+FailsParts decls opens width parts (Overlap i o l b m) = Overlaps parts o l b m
+FailsParts decls opens width parts (ConstWide i c l) =
+    (o : ℕ) × (p : PartAt parts o l) × (p.part.content ≡ Number c) × (c < 2 ^ l → ⊥)
+FailsParts decls opens width parts (Misfit i o l path) =
+    (p : PartAt parts o l) × (content_paths p.part.content ≡ path ∷ []) × (Fits decls opens l p.part.content → ⊥)
+FailsParts decls opens width parts why = ⊥
+
+-- the item that the evidence names
+abbrev pub IsOfItem : ℕ → Why → Type 0
+IsOfItem i (Outside item o l) = item ≡ i
+IsOfItem i (Overlap item o l b m) = item ≡ i
+IsOfItem i (ConstWide item c l) = item ≡ i
+IsOfItem i (Misfit item o l path) = item ≡ i
+IsOfItem i why = ⊥
+
+-- how item i fails the rule
+abbrev pub FailsItem : List LayoutDecl → List Open → ℕ → Item → Why → Type 0
+FailsItem decls opens i (AWord width parts) why = IsOfItem i why × FailsParts decls opens width parts why
+FailsItem decls opens i (AField path) why = ⊥

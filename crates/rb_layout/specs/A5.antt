@@ -1,0 +1,58 @@
+-- A5: two provenances of a layout have no common value; every value of the type is matched by one of them.
+use Rattle.std.specs.Prelude.{◌≡◌, ℕ, ◌<◌, List, [], true, Some, slice_get}
+use Rattle.rb_core.specs.declared.value.Value.{Value}
+use Rattle.rb_core.specs.declared.pattern.Pat.{Pat}
+use Rattle.rb_core.specs.declared.types.Ty.TheVariants.{Named}
+use Rattle.rb_core.specs.declared.types.DataDecl.{DataDecl}
+use Rattle.rb_core.specs.Values.{is_of_type}
+use Rattle.rb_core.specs.Matching.{matches_of}
+use Rattle.rb_core.specs.WellNumbered.{vars_of}
+use Rattle.rb_layout.specs.declared.layout.Layout.{Layout}
+use Rattle.rb_layout.specs.declared.layout.Leaf.{Leaf}
+use Rattle.rb_layout.specs.declared.evidence.Why.{Why}
+use Rattle.rb_layout.specs.declared.evidence.Why.TheVariants.{Common, NoLeaf}
+use Rattle.rb_layout.specs.Each.{EachLayout, EachLeaf}
+
+abbrev pub IsOf : List DataDecl → ℕ → Value → Type 0
+IsOf types t v = is_of_type types v (Named t) ≡ true
+
+abbrev pub Matches : Pat → Value → Type 0
+Matches prov v = matches_of prov v ≡ true
+
+-- some leaf has a provenance that matches
+abbrev pub HasLeaf : Layout → Value → Type 0
+HasLeaf layout v = (n : ℕ) × (leaf : Leaf) × (slice_get layout.leaves n ≡ Some leaf) × Matches leaf.prov v
+
+abbrev pub IsComplete : List DataDecl → ℕ → Layout → Type 0
+IsComplete types t layout = (v : Value) → IsOf types t v → HasLeaf layout v
+
+abbrev pub HaveCommon : List DataDecl → ℕ → Pat → Pat → Type 0
+HaveCommon types t p q = (v : Value) × IsOf types t v × Matches p v × Matches q v
+
+-- leaf n and each later one have no common value
+abbrev pub IsApart : List DataDecl → ℕ → Layout → ℕ → Leaf → Type 0
+IsApart types t layout n leaf =
+    (m : ℕ) (later : Leaf) → n < m → slice_get layout.leaves m ≡ Some later → HaveCommon types t leaf.prov later.prov → ⊥
+
+pub record A5 (types : List DataDecl) (layouts : List Layout) : Type 0 where
+  pub apart : EachLeaf layouts (IsApart types)
+  pub complete : EachLayout layouts (IsComplete types)
+
+-- a pattern of numbers, constructors and wildcards that has a value, and no leaf for its values
+pub record IsWithoutLeaf (types : List DataDecl) (t : ℕ) (layout : Layout) (q : Pat) : Type 0 where
+  pub plain : vars_of q ≡ []
+  pub value : Value
+  pub typed : IsOf types t value
+  pub matched : Matches q value
+  pub none : (v : Value) → IsOf types t v → Matches q v → HasLeaf layout v → ⊥
+
+-- how a layout fails to have a leaf for each value
+abbrev pub FailsComplete : List DataDecl → ℕ → Layout → Why → Type 0
+FailsComplete types t layout (NoLeaf q) = IsWithoutLeaf types t layout q
+FailsComplete types t layout why = ⊥
+
+-- how leaf n fails to be apart from the later ones
+abbrev pub FailsApart : List DataDecl → ℕ → Layout → ℕ → Leaf → Why → Type 0
+FailsApart types t layout n leaf (Common m) =
+    (n < m) × (later : Leaf) × (slice_get layout.leaves m ≡ Some later) × HaveCommon types t leaf.prov later.prov
+FailsApart types t layout n leaf why = ⊥

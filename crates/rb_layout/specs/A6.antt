@@ -1,0 +1,80 @@
+-- A6: each open position is held exactly once, each bit of an integer and each word of a data type; no other path is held.
+use Rattle.std.specs.Prelude.{◌≡◌, ℕ, ◌+◌, ◌<◌, ◌&&◌, leb, ltb, ◌==◌, sum, List, map, length, Bool, false, Some, slice_get, if◌then◌else◌}
+use Rattle.rb_core.specs.declared.types.Ty.{Ty}
+use Rattle.rb_core.specs.declared.types.Ty.TheVariants.{Int, Named}
+use Rattle.rb_core.specs.declared.types.DataDecl.{DataDecl}
+use Rattle.rb_core.specs.declared.program.Program.{Program}
+use Rattle.rb_layout.specs.declared.layout.Layout.{Layout}
+use Rattle.rb_layout.specs.declared.layout.Leaf.{Leaf}
+use Rattle.rb_layout.specs.declared.layout.Block.{Block}
+use Rattle.rb_layout.specs.declared.layout.FlatWord.{FlatWord}
+use Rattle.rb_layout.specs.declared.layout.Part.{Part}
+use Rattle.rb_layout.specs.declared.layout.Kind.{Kind}
+use Rattle.rb_layout.specs.declared.layout.Kind.TheVariants.{Const, Bits, Word, Pointer}
+use Rattle.rb_layout.specs.declared.evidence.Why.{Why}
+use Rattle.rb_layout.specs.declared.evidence.Why.TheVariants.{NotHeld, HeldTwice, NotOpen}
+use Rattle.rb_layout.specs.Positions.{Open, open_positions}
+use Rattle.rb_layout.specs.Flattening.{shape_of, same_path, type_at}
+use Rattle.rb_layout.specs.Items.{Item, items_of, paths_of}
+use Rattle.rb_layout.specs.Each.{EachLeaf}
+
+-- a part of l bits holds unit i of the position at a path: bit i of an integer, word i of a data type
+abbrev pub holds_unit : Ty → List ℕ → ℕ → ℕ → Kind → Bool
+holds_unit (Int bits) path i l (Const c) = false
+holds_unit (Int bits) path i l (Bits p a) = same_path p path && (leb a i && ltb i (a + l))
+holds_unit (Int bits) path i l (Word p j) = false
+holds_unit (Int bits) path i l (Pointer align b) = false
+holds_unit (Named s) path i l (Const c) = false
+holds_unit (Named s) path i l (Bits p a) = false
+holds_unit (Named s) path i l (Word p j) = same_path p path && (j == i)
+holds_unit (Named s) path i l (Pointer align b) = false
+
+abbrev pub held_in_part : Ty → List ℕ → ℕ → Part → ℕ
+held_in_part ty path i p = if holds_unit ty path i p.l p.kind then 1 else 0
+
+abbrev pub held_in_word : Ty → List ℕ → ℕ → FlatWord → ℕ
+held_in_word ty path i f = sum (map (held_in_part ty path i) f.parts)
+
+abbrev pub held_in_block : Ty → List ℕ → ℕ → Block → ℕ
+held_in_block ty path i b = sum (map (held_in_word ty path i) b.words)
+
+-- how many parts of the leaf hold unit i
+abbrev pub held : Leaf → Ty → List ℕ → ℕ → ℕ
+held leaf ty path i = sum (map (held_in_word ty path i) leaf.root) + sum (map (held_in_block ty path i) leaf.blocks)
+
+-- how many units a position of this type has: its bits, or the words of its shape
+abbrev pub units_of : Program → Ty → ℕ
+units_of p (Int bits) = bits
+units_of p (Named s) = length (shape_of p.layouts s)
+
+abbrev pub HoldsEach : Program → Leaf → Type 0
+HoldsEach p leaf = (k : ℕ) (o : Open) (i : ℕ) → slice_get (open_positions p.types leaf.prov) k ≡ Some o → i < units_of p o.ty → held leaf o.ty o.path i ≡ 1
+
+abbrev pub IsOpen : List DataDecl → Leaf → List ℕ → Type 0
+IsOpen types leaf path = (ty : Ty) × (type_at (open_positions types leaf.prov) path ≡ Some ty)
+
+-- each path that the items name is that of an open position
+abbrev pub HoldsNoOther : List DataDecl → Leaf → List Item → Type 0
+HoldsNoOther types leaf items = (k : ℕ) (path : List ℕ) → slice_get (paths_of items) k ≡ Some path → IsOpen types leaf path
+
+pub record HoldsOnce (p : Program) (leaf : Leaf) (items : List Item) : Type 0 where
+  pub each : HoldsEach p leaf
+  pub no_other : HoldsNoOther p.types leaf items
+
+abbrev pub A6 : Program → List Layout → Type 0
+A6 p layouts = EachLeaf layouts (λ t layout n leaf. HoldsOnce p leaf (items_of p.layouts t n))
+
+-- the open position at a path, and a unit of it
+pub record UnitAt (p : Program) (leaf : Leaf) (path : List ℕ) (i : ℕ) : Type 0 where
+  pub number : ℕ
+  pub place : Open
+  pub is_open : slice_get (open_positions p.types leaf.prov) number ≡ Some place
+  pub is_path : place.path ≡ path
+  pub is_unit : i < units_of p place.ty
+
+-- how a leaf fails the rule
+abbrev pub FailsHeld : Program → Leaf → List Item → Why → Type 0
+FailsHeld p leaf items (NotHeld path i) = (u : UnitAt p leaf path i) × (held leaf u.place.ty path i ≡ 0)
+FailsHeld p leaf items (HeldTwice path i) = (u : UnitAt p leaf path i) × (1 < held leaf u.place.ty path i)
+FailsHeld p leaf items (NotOpen path) = ((k : ℕ) × (slice_get (paths_of items) k ≡ Some path)) × (IsOpen p.types leaf path → ⊥)
+FailsHeld p leaf items why = ⊥

@@ -1,0 +1,53 @@
+-- A7: at each split, its location resolves in each leaf below it; each leaf below literal c has c known there;
+-- each leaf below `else` excludes every literal.
+use Rattle.std.specs.Prelude.{◌≡◌, ℕ, List, None, Some, slice_get}
+use Rattle.rb_core.specs.declared.types.DataDecl.{DataDecl}
+use Rattle.rb_core.specs.declared.layout_decl.Loc.{Loc}
+use Rattle.rb_layout.specs.declared.layout.Layout.{Layout}
+use Rattle.rb_layout.specs.declared.layout.Leaf.{Leaf}
+use Rattle.rb_layout.specs.declared.layout.FlatTree.{FlatTree}
+use Rattle.rb_layout.specs.declared.evidence.Why.{Why}
+use Rattle.rb_layout.specs.declared.evidence.Why.TheVariants.{Unresolved, NotKnown, NotExcluded}
+use Rattle.rb_layout.specs.Locations.{Reached, reached_at, known}
+use Rattle.rb_layout.specs.Excluded.{Excludes}
+use Rattle.rb_layout.specs.Splits.{Test, Is, IsNone, Route, routes_of}
+use Rattle.rb_layout.specs.Each.{EachLeaf}
+
+abbrev pub Resolves : Leaf → Loc → Type 0
+Resolves leaf loc = (x : Reached) × (reached_at leaf loc ≡ Some x)
+
+abbrev pub IsLiteral : List ℕ → ℕ → Type 0
+IsLiteral literals c = (k : ℕ) × (slice_get literals k ≡ Some c)
+
+-- what a split demands of a leaf below it
+abbrev pub Meets : List DataDecl → List Layout → Leaf → Test → Type 0
+Meets types layouts leaf (Is loc c) = Resolves leaf loc × (known leaf loc ≡ Some c)
+Meets types layouts leaf (IsNone loc literals) = Resolves leaf loc × ((c : ℕ) → IsLiteral literals c → Excludes types layouts leaf loc c)
+
+-- a test on the way to leaf n
+pub record IsAbove (tree : FlatTree) (n : ℕ) (test : Test) : Type 0 where
+  pub route_number : ℕ
+  pub route : Route
+  pub number : ℕ
+  pub is_route : slice_get (routes_of tree) route_number ≡ Some route
+  pub leads : route.leaf ≡ n
+  pub is_test : slice_get route.tests number ≡ Some test
+
+abbrev pub MeetsAll : List DataDecl → List Layout → FlatTree → ℕ → Leaf → Type 0
+MeetsAll types layouts tree n leaf = (test : Test) → IsAbove tree n test → Meets types layouts leaf test
+
+abbrev pub A7 : List DataDecl → List Layout → Type 0
+A7 types layouts = EachLeaf layouts (λ t layout n leaf. MeetsAll types layouts layout.tree n leaf)
+
+-- how a leaf fails a test
+abbrev pub FailsTest : List DataDecl → List Layout → Leaf → Test → Why → Type 0
+FailsTest types layouts leaf (Is at c) (Unresolved loc) = (loc ≡ at) × (reached_at leaf at ≡ None)
+FailsTest types layouts leaf (Is at c) (NotKnown loc d) = (loc ≡ at) × (d ≡ c) × (known leaf at ≡ Some c → ⊥)
+FailsTest types layouts leaf (IsNone at literals) (Unresolved loc) = (loc ≡ at) × (reached_at leaf at ≡ None)
+FailsTest types layouts leaf (IsNone at literals) (NotExcluded loc c) =
+    (loc ≡ at) × IsLiteral literals c × (Excludes types layouts leaf at c → ⊥)
+FailsTest types layouts leaf test why = ⊥
+
+-- how a leaf fails the rule
+abbrev pub FailsTests : List DataDecl → List Layout → FlatTree → ℕ → Leaf → Why → Type 0
+FailsTests types layouts tree n leaf why = (test : Test) × IsAbove tree n test × FailsTest types layouts leaf test why

@@ -1,0 +1,47 @@
+-- A8: the literals of a split are distinct and fit its range; it has an arm or `else`.
+use Rattle.std.specs.Prelude.{◌≡◌, ℕ, ◌^◌, ◌<◌, ◌⊎◌, List, [], ◌∷◌, length, true, Some, slice_get}
+use Rattle.rb_core.specs.declared.layout_decl.Loc.{Loc}
+use Rattle.rb_core.specs.declared.layout_decl.Step.{Step}
+use Rattle.rb_layout.specs.declared.layout.Layout.{Layout}
+use Rattle.rb_layout.specs.declared.evidence.Why.{Why}
+use Rattle.rb_layout.specs.declared.evidence.Why.TheVariants.{LiteralWide, LiteralTwice, NoArm}
+use Rattle.rb_layout.specs.Splits.{SplitAt, splits_of}
+use Rattle.rb_layout.specs.Each.{EachLayout}
+
+-- how many bits a location's last range has
+abbrev pub last_length : ℕ → List Step → ℕ
+last_length l [] = l
+last_length l (s ∷ steps) = last_length s.l steps
+
+abbrev pub length_of : Loc → ℕ
+length_of loc = last_length loc.l loc.steps
+
+abbrev pub HasArm : SplitAt → Type 0
+HasArm split = (0 < length split.literals) ⊎ (split.other ≡ true)
+
+pub record SplitsWell (split : SplitAt) : Type 0 where
+  pub distinct : (j k c : ℕ) → j < k → slice_get split.literals j ≡ Some c → slice_get split.literals k ≡ Some c → ⊥
+  pub fit : (k c : ℕ) → slice_get split.literals k ≡ Some c → c < 2 ^ length_of split.loc
+  pub arm : HasArm split
+
+abbrev pub AllSplitWell : Layout → Type 0
+AllSplitWell layout = (k : ℕ) (split : SplitAt) → slice_get (splits_of layout.tree) k ≡ Some split → SplitsWell split
+
+abbrev pub A8 : List Layout → Type 0
+A8 layouts = EachLayout layouts (λ t layout. AllSplitWell layout)
+
+-- a split at this location
+pub record SplitOf (layout : Layout) (loc : Loc) : Type 0 where
+  pub number : ℕ
+  pub split : SplitAt
+  pub is_split : slice_get (splits_of layout.tree) number ≡ Some split
+  pub is_loc : split.loc ≡ loc
+
+-- how a layout fails the rule
+abbrev pub FailsSplits : Layout → Why → Type 0
+FailsSplits layout (LiteralWide loc c) =
+    (s : SplitOf layout loc) × ((k : ℕ) × (slice_get s.split.literals k ≡ Some c)) × (c < 2 ^ length_of loc → ⊥)
+FailsSplits layout (LiteralTwice loc c) =
+    (s : SplitOf layout loc) × (j : ℕ) × (k : ℕ) × (j < k) × (slice_get s.split.literals j ≡ Some c) × (slice_get s.split.literals k ≡ Some c)
+FailsSplits layout (NoArm loc) = (s : SplitOf layout loc) × (HasArm s.split → ⊥)
+FailsSplits layout why = ⊥

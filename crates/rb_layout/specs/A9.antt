@@ -1,0 +1,85 @@
+-- A9: a flattened type, one of whose constructors stands below the root of a provenance, has no pointer part in its own
+-- leaves; there is no cycle of types in which the layout of each flattens the next.
+use Rattle.std.specs.Prelude.{◌≡◌, ℕ, List, [], ◌∷◌, Some, slice_get}
+use Rattle.std.specs.List.{flat_map}
+use Rattle.rb_core.specs.declared.types.ConRef.{ConRef}
+use Rattle.rb_core.specs.declared.pattern.Pat.{Pat, out-Pat}
+use Rattle.rb_core.specs.declared.pattern.Pat.TheOpen as P
+use Rattle.rb_core.specs.declared.pattern.Pat.TheOpen.{Pat-F}
+use Rattle.rb_core.specs.declared.pattern.Pat.TheFolds.{fold-Pat}
+use Rattle.rb_layout.specs.declared.layout.Layout.{Layout}
+use Rattle.rb_layout.specs.declared.layout.Leaf.{Leaf}
+use Rattle.rb_layout.specs.declared.layout.WordRef.{WordRef}
+use Rattle.rb_layout.specs.declared.evidence.Why.{Why}
+use Rattle.rb_layout.specs.declared.evidence.Why.TheVariants.{HasPointer, FlatCycle}
+use Rattle.rb_layout.specs.Positions.{layout_of}
+use Rattle.rb_layout.specs.Pointers.{PointsTo}
+use Rattle.rb_layout.specs.Cycles.{HasNoCycle, IsCycleFrom}
+use Rattle.rb_layout.specs.Each.{EachLayout, EachLeaf}
+
+abbrev pub cons_step : Pat-F (List ConRef) → List ConRef
+cons_step (P.Wild at) = []
+cons_step (P.Var at x) = []
+cons_step (P.Num at n) = []
+cons_step (P.Con at c css) = c ∷ flat_map (λ cs. cs) css
+
+-- the constructors of a pattern
+abbrev pub cons_of : Pat → List ConRef
+cons_of = fold-Pat (List ConRef) cons_step
+
+abbrev pub cons_below_root : Pat-F Pat → List ConRef
+cons_below_root (P.Wild at) = []
+cons_below_root (P.Var at x) = []
+cons_below_root (P.Num at n) = []
+cons_below_root (P.Con at c ps) = flat_map cons_of ps
+
+-- the constructors below its root
+abbrev pub cons_below : Pat → List ConRef
+cons_below p = cons_below_root (out-Pat p)
+
+-- a constructor of type s stands below the root of the leaf's provenance
+pub record LeafFlattens (leaf : Leaf) (s : ℕ) : Type 0 where
+  pub number : ℕ
+  pub con : ConRef
+  pub is_below : slice_get (cons_below leaf.prov) number ≡ Some con
+  pub is_type : con.ty ≡ s
+
+-- some leaf of type t flattens type s
+pub record Flattens (layouts : List Layout) (t s : ℕ) : Type 0 where
+  pub layout : Layout
+  pub number : ℕ
+  pub leaf : Leaf
+  pub is_layout : layout_of layouts t ≡ Some layout
+  pub is_leaf : slice_get layout.leaves number ≡ Some leaf
+  pub flattens : LeafFlattens leaf s
+
+-- a leaf of type s has a pointer part
+pub record HasPointerPart (layouts : List Layout) (s : ℕ) : Type 0 where
+  pub layout : Layout
+  pub number : ℕ
+  pub leaf : Leaf
+  pub ref : WordRef
+  pub length : ℕ
+  pub align : ℕ
+  pub block : ℕ
+  pub is_layout : layout_of layouts s ≡ Some layout
+  pub is_leaf : slice_get layout.leaves number ≡ Some leaf
+  pub points : PointsTo leaf ref length align block
+
+-- the types that the leaf flattens have no pointer part
+abbrev pub FlattensNoPointer : List Layout → Leaf → Type 0
+FlattensNoPointer layouts leaf = (s : ℕ) → LeafFlattens leaf s → HasPointerPart layouts s → ⊥
+
+pub record A9 (layouts : List Layout) : Type 0 where
+  pub no_pointer : EachLeaf layouts (λ t layout n leaf. FlattensNoPointer layouts leaf)
+  pub no_cycle : EachLayout layouts (λ t layout. HasNoCycle (Flattens layouts) t)
+
+-- how a leaf fails the rule
+abbrev pub FailsNoPointer : List Layout → Leaf → Why → Type 0
+FailsNoPointer layouts leaf (HasPointer s) = LeafFlattens leaf s × HasPointerPart layouts s
+FailsNoPointer layouts leaf why = ⊥
+
+-- how a type fails it
+abbrev pub FailsFlattening : List Layout → ℕ → Why → Type 0
+FailsFlattening layouts t (FlatCycle ts) = IsCycleFrom (Flattens layouts) t ts
+FailsFlattening layouts t why = ⊥

@@ -1,0 +1,11 @@
+-- What is said of each layout, and of each leaf with its type's number and its own.
+use Rattle.std.specs.Prelude.{◌≡◌, ℕ, List, Some, slice_get}
+use Rattle.rb_layout.specs.declared.layout.Layout.{Layout}
+use Rattle.rb_layout.specs.declared.layout.Leaf.{Leaf}
+use Rattle.rb_layout.specs.Positions.{layout_of}
+
+abbrev pub EachLayout : List Layout → (ℕ → Layout → Type 0) → Type 0
+EachLayout layouts P = (t : ℕ) (layout : Layout) → layout_of layouts t ≡ Some layout → P t layout
+
+abbrev pub EachLeaf : List Layout → (ℕ → Layout → ℕ → Leaf → Type 0) → Type 0
+EachLeaf layouts P = (t : ℕ) (layout : Layout) (n : ℕ) (leaf : Leaf) → layout_of layouts t ≡ Some layout → slice_get layout.leaves n ≡ Some leaf → P t layout n leaf

@@ -1,0 +1,203 @@
+-- The flat form of layouts as they are written.
+use Rattle.std.specs.Prelude.{◌≡◌, ℕ, ◌<◌, ◌+◌, ◌==◌, ◌&&◌, List, [], ◌∷◌, ◌++◌, map, length, sum_by, Bool, true, false, Option, Some, None, if◌then◌else◌}
+use Rattle.rb_core.specs.declared.types.Ty.{Ty}
+use Rattle.rb_core.specs.declared.types.Ty.TheVariants.{Int, Named}
+use Rattle.rb_core.specs.declared.types.DataDecl.{DataDecl}
+use Rattle.rb_core.specs.declared.program.Program.{Program}
+use Rattle.rb_core.specs.declared.layout_decl.LayItem.{LayItem}
+use Rattle.rb_core.specs.declared.layout_decl.LayItem.TheOpen as I
+use Rattle.rb_core.specs.declared.layout_decl.LayItem.TheOpen.{LayItem-F, PartKind-F, PartDecl-F}
+use Rattle.rb_core.specs.declared.layout_decl.LayItem.TheFolds.{fold-LayItem}
+use Rattle.rb_core.specs.declared.layout_decl.Arm.{Arm-F}
+use Rattle.rb_core.specs.declared.layout_decl.LayTree.{LayTree}
+use Rattle.rb_core.specs.declared.layout_decl.LayTree.TheOpen as T
+use Rattle.rb_core.specs.declared.layout_decl.LayTree.TheOpen.{LayTree-F}
+use Rattle.rb_core.specs.declared.layout_decl.LayTree.TheFolds.{fold-LayTree}
+use Rattle.rb_core.specs.declared.layout_decl.LayoutDecl.{LayoutDecl}
+use Rattle.rb_core.specs.Layouts.{WrittenLeaf, leaves}
+use Rattle.rb_layout.specs.declared.layout.Layout.{Layout}
+use Rattle.rb_layout.specs.declared.layout.FlatTree.{FlatTree}
+use Rattle.rb_layout.specs.declared.layout.FlatTree.TheVariants as Flat
+use Rattle.rb_layout.specs.declared.layout.FlatArm.{FlatArm}
+use Rattle.rb_layout.specs.declared.layout.Leaf.{Leaf}
+use Rattle.rb_layout.specs.declared.layout.Block.{Block}
+use Rattle.rb_layout.specs.declared.layout.FlatWord.{FlatWord}
+use Rattle.rb_layout.specs.declared.layout.Part.{Part}
+use Rattle.rb_layout.specs.declared.layout.Kind.{Kind}
+use Rattle.rb_layout.specs.declared.layout.Kind.TheVariants.{Const, Bits, Word, Pointer}
+use Rattle.rb_layout.specs.Positions.{Open, open_positions}
+use Rattle.rb_layout.specs.Splits.{Under}
+
+-- the layout that is declared for a type
+abbrev pub decl_of : List LayoutDecl → ℕ → Option LayoutDecl
+decl_of [] t = None
+decl_of (d ∷ ds) t = if d.ty == t then Some d else decl_of ds t
+
+abbrev pub shape_in : Option LayoutDecl → List ℕ
+shape_in None = []
+shape_in (Some d) = d.shape
+
+-- the widths of the words that a type's values have
+abbrev pub shape_of : List LayoutDecl → ℕ → List ℕ
+shape_of decls t = shape_in (decl_of decls t)
+
+abbrev pub same_path : List ℕ → List ℕ → Bool
+same_path [] [] = true
+same_path [] (j ∷ q) = false
+same_path (i ∷ p) [] = false
+same_path (i ∷ p) (j ∷ q) = (i == j) && same_path p q
+
+-- the type at an open position; a path to no open position has none
+abbrev pub type_at : List Open → List ℕ → Option Ty
+type_at [] path = None
+type_at (o ∷ os) path = if same_path o.path path then Some o.ty else type_at os path
+
+-- Leaves --------------------------------------------------------------------------------------
+
+-- what is placed, and the blocks that are placed with it, in the order of their numbers
+pub record Laid (A : Type 0) : Type 0 where
+  pub it : A
+  pub blocks : List Block
+
+-- where so many blocks of the leaf were placed before
+abbrev pub Laying : Type 0 → Type 0
+Laying A = ℕ → Laid A
+
+abbrev pub without_blocks : {A : Type 0} → A → Laid A
+without_blocks x = record { it = x; blocks = [] }
+
+-- all that is placed, from left to right
+abbrev pub in_turn : {A : Type 0} → List (Laying (List A)) → Laying (List A)
+in_turn [] n = without_blocks []
+in_turn (lay ∷ lays) n =
+    let first = lay n in
+    let rest = in_turn lays (n + length first.blocks) in
+    record { it = first.it ++ rest.it; blocks = first.blocks ++ rest.blocks }
+
+-- what a part holds, if anything: a path to no open position places nothing
+abbrev pub whole_kind : Option Ty → List ℕ → List Kind
+whole_kind None path = []
+whole_kind (Some (Int bits)) path = Bits path 0 ∷ []
+whole_kind (Some (Named s)) path = Word path 0 ∷ []
+
+abbrev pub kind_if_open : Option Ty → Kind → List Kind
+kind_if_open None kind = []
+kind_if_open (Some ty) kind = kind ∷ []
+
+-- a pointer's block comes after the blocks inside it
+abbrev pub pointed : ℕ → ℕ → Laid (List FlatWord) → Laid (List Kind)
+pointed align n laid = record {
+  it = Pointer align (n + length laid.blocks) ∷ [];
+  blocks = laid.blocks ++ record { align = align; words = laid.it } ∷ [];
+}
+
+abbrev pub kind_step : List Open → PartKind-F (Laying (List FlatWord)) (Laying (List Kind)) (Laying (List Part)) → Laying (List Kind)
+kind_step opens (I.Const c) n = without_blocks (Const c ∷ [])
+kind_step opens (I.Whole path) n = without_blocks (whole_kind (type_at opens path) path)
+kind_step opens (I.Slice path a k) n = without_blocks (kind_if_open (type_at opens path) (Bits path a))
+kind_step opens (I.PartKind::Word path j) n = without_blocks (kind_if_open (type_at opens path) (Word path j))
+kind_step opens (I.Pointer align items) n = pointed align n (in_turn items n)
+
+abbrev pub part_step : PartDecl-F (Laying (List FlatWord)) (Laying (List Kind)) (Laying (List Part)) → Laying (List Part)
+part_step p n =
+    let laid = p.kind n in
+    record { it = map (λ kind. record { o = p.o; l = p.l; kind = kind }) laid.it; blocks = laid.blocks }
+
+-- a word of this width with one part of full width
+abbrev pub word_of : ℕ → Kind → FlatWord
+word_of width kind = record { width = width; parts = record { o = 0; l = width; kind = kind } ∷ [] }
+
+-- a word for each word of the field's shape, the first of which is word j
+abbrev pub words_of : List ℕ → ℕ → List ℕ → List FlatWord
+words_of path j [] = []
+words_of path j (width ∷ widths) = word_of width (Word path j) ∷ words_of path (j + 1) widths
+
+abbrev pub inlined : List LayoutDecl → Option Ty → List ℕ → List FlatWord
+inlined decls None path = []
+inlined decls (Some (Int bits)) path = word_of bits (Bits path 0) ∷ []
+inlined decls (Some (Named s)) path = words_of path 0 (shape_of decls s)
+
+abbrev pub item_step : List LayoutDecl → List Open → LayItem-F (Laying (List FlatWord)) (Laying (List Kind)) (Laying (List Part)) → Laying (List FlatWord)
+item_step decls opens (I.LayItem::Word width parts) n =
+    let laid = in_turn parts n in
+    record { it = record { width = width; parts = laid.it } ∷ []; blocks = laid.blocks }
+item_step decls opens (I.Inline path) n = without_blocks (inlined decls (type_at opens path) path)
+
+-- the words of an item, and its blocks
+abbrev pub item_laid : List LayoutDecl → List Open → LayItem → Laying (List FlatWord)
+item_laid decls opens =
+    fold-LayItem (Laying (List FlatWord)) (Laying (List Kind)) (Laying (List Part)) (item_step decls opens) (kind_step opens) part_step
+
+abbrev pub items_laid : List LayoutDecl → List Open → List LayItem → Laying (List FlatWord)
+items_laid decls opens items = in_turn (map (item_laid decls opens) items)
+
+abbrev pub flat_leaf : List DataDecl → List LayoutDecl → WrittenLeaf → Leaf
+flat_leaf types decls w =
+    let laid = items_laid decls (open_positions types w.provenance) w.items 0 in
+    record { prov = w.provenance; root = laid.it; blocks = laid.blocks }
+
+-- Trees ---------------------------------------------------------------------------------------
+
+-- how many leaves a tree has, and its flat form, where so many leaves stand to the left of it
+pub record Numbering : Type 0 where
+  pub count : ℕ
+  pub from : ℕ → FlatTree
+
+abbrev pub count_or_none : Option Numbering → ℕ
+count_or_none None = 0
+count_or_none (Some tree) = tree.count
+
+abbrev pub arms_count : List (Under Numbering) → ℕ
+arms_count arms = sum_by (λ (arm : Under Numbering). arm.of.count) arms
+
+abbrev pub arms_from : List (Under Numbering) → ℕ → List FlatArm
+arms_from [] n = []
+arms_from (arm ∷ arms) n = record { literal = arm.literal; under = arm.of.from n } ∷ arms_from arms (n + arm.of.count)
+
+abbrev pub other_from : Option Numbering → ℕ → Option FlatTree
+other_from None n = None
+other_from (Some tree) n = Some (tree.from n)
+
+abbrev pub tree_step : LayTree-F Numbering (Under Numbering) → Numbering
+tree_step (T.Split loc arms other) = record {
+  count = arms_count arms + count_or_none other;
+  from = λ n. Flat.Split loc (arms_from arms n) (other_from other (n + arms_count arms));
+}
+tree_step (T.Leaf at prov items) = record { count = 1; from = λ n. Flat.Leaf n }
+
+abbrev pub arm_step : Arm-F Numbering (Under Numbering) → Under Numbering
+arm_step arm = record { literal = arm.literal; of = arm.under }
+
+abbrev pub numbering : LayTree → Numbering
+numbering = fold-LayTree Numbering (Under Numbering) tree_step arm_step
+
+-- leaves are numbered from left to right
+abbrev pub flat_tree : LayTree → FlatTree
+flat_tree tree = (numbering tree).from 0
+
+-- Layouts -------------------------------------------------------------------------------------
+
+abbrev pub flat_layout : Program → LayoutDecl → Layout
+flat_layout p d = record {
+  ty = d.ty;
+  shape = d.shape;
+  tree = flat_tree d.tree;
+  leaves = map (flat_leaf p.types p.layouts) (leaves d.tree);
+}
+
+abbrev pub flat_or_none : Program → Option LayoutDecl → List Layout
+flat_or_none p None = []
+flat_or_none p (Some d) = flat_layout p d ∷ []
+
+-- the layouts of these types, the first of which is type t
+abbrev pub flat_from : Program → List DataDecl → ℕ → List Layout
+flat_from p [] t = []
+flat_from p (d ∷ ds) t = flat_or_none p (decl_of p.layouts t) ++ flat_from p ds (t + 1)
+
+-- the flat form of each type's layout, in the types' order
+abbrev pub flat_layouts : Program → List Layout
+flat_layouts p = flat_from p p.types 0
+
+-- each type has a layout
+abbrev pub HaveLayouts : Program → Type 0
+HaveLayouts p = (t : ℕ) → t < length p.types → (d : LayoutDecl) × (decl_of p.layouts t ≡ Some d)

@@ -1,0 +1,88 @@
+-- The items of a leaf as they are written, one after the other.
+use Rattle.std.specs.Prelude.{ℕ, List, [], ◌∷◌, map, Option, Some, None, slice_get}
+use Rattle.std.specs.List.{flat_map}
+use Rattle.rb_core.specs.declared.layout_decl.LayItem.{LayItem}
+use Rattle.rb_core.specs.declared.layout_decl.LayItem.TheOpen as I
+use Rattle.rb_core.specs.declared.layout_decl.LayItem.TheOpen.{LayItem-F, PartKind-F, PartDecl-F}
+use Rattle.rb_core.specs.declared.layout_decl.LayItem.TheFolds.{fold-LayItem}
+use Rattle.rb_core.specs.declared.layout_decl.LayoutDecl.{LayoutDecl}
+use Rattle.rb_core.specs.Layouts.{WrittenLeaf, leaves}
+use Rattle.rb_layout.specs.Flattening.{decl_of}
+
+-- what a part is written to hold, apart from what stands behind a pointer
+pub data Content : Type 0 where
+  Number : ℕ → Content
+  Whole : List ℕ → Content
+  Slice : List ℕ → ℕ → ℕ → Content
+  WordOf : List ℕ → ℕ → Content
+  Address : ℕ → Content
+
+pub record WrittenPart : Type 0 where
+  pub o : ℕ
+  pub l : ℕ
+  pub content : Content
+
+-- a word with its parts, or the words of a field
+pub data Item : Type 0 where
+  AWord : ℕ → List WrittenPart → Item
+  AField : List ℕ → Item
+
+-- something, and the items written inside it
+pub record Around (A : Type 0) : Type 0 where
+  pub it : A
+  pub inside : List Item
+
+abbrev pub items_inside : {A : Type 0} → List (Around A) → List Item
+items_inside xs = flat_map (λ x. x.inside) xs
+
+abbrev pub plain : Content → Around Content
+plain content = record { it = content; inside = [] }
+
+abbrev pub kind_step : PartKind-F (List Item) (Around Content) (Around WrittenPart) → Around Content
+kind_step (I.Const c) = plain (Number c)
+kind_step (I.Whole path) = plain (Whole path)
+kind_step (I.Slice path a k) = plain (Slice path a k)
+kind_step (I.PartKind::Word path j) = plain (WordOf path j)
+kind_step (I.Pointer align items) = record { it = Address align; inside = flat_map (λ item. item) items }
+
+abbrev pub part_step : PartDecl-F (List Item) (Around Content) (Around WrittenPart) → Around WrittenPart
+part_step p = record { it = record { o = p.o; l = p.l; content = p.kind.it }; inside = p.kind.inside }
+
+abbrev pub item_step : LayItem-F (List Item) (Around Content) (Around WrittenPart) → List Item
+item_step (I.LayItem::Word width parts) = AWord width (map (λ p. p.it) parts) ∷ items_inside parts
+item_step (I.Inline path) = AField path ∷ []
+
+-- an item, and after it those inside it, as written
+abbrev pub item_list : LayItem → List Item
+item_list = fold-LayItem (List Item) (Around Content) (Around WrittenPart) item_step kind_step part_step
+
+-- the items of a leaf, outer before inner: item i is that with number i
+abbrev pub item_lists : List LayItem → List Item
+item_lists = flat_map item_list
+
+abbrev pub items_in : Option WrittenLeaf → List Item
+items_in None = []
+items_in (Some w) = item_lists w.items
+
+abbrev pub leaves_in : Option LayoutDecl → List WrittenLeaf
+leaves_in None = []
+leaves_in (Some d) = leaves d.tree
+
+-- the items of leaf n of a type's layout
+abbrev pub items_of : List LayoutDecl → ℕ → ℕ → List Item
+items_of decls t n = items_in (slice_get (leaves_in (decl_of decls t)) n)
+
+-- the paths that parts and fields name
+abbrev pub content_paths : Content → List (List ℕ)
+content_paths (Number c) = []
+content_paths (Whole path) = path ∷ []
+content_paths (Slice path a k) = path ∷ []
+content_paths (WordOf path j) = path ∷ []
+content_paths (Address align) = []
+
+abbrev pub item_paths : Item → List (List ℕ)
+item_paths (AWord width parts) = flat_map (λ p. content_paths p.content) parts
+item_paths (AField path) = path ∷ []
+
+abbrev pub paths_of : List Item → List (List ℕ)
+paths_of = flat_map item_paths

@@ -1,0 +1,100 @@
+-- What the laws of representation need of layouts.
+use Rattle.std.specs.Prelude.{◌+◌, ◌≤◌, ◌==◌, ◌&&◌, Bool, true, false, ◌≡◌, ℕ, ◌<◌, List, Option, Some, None, slice_get}
+use Rattle.rb_core.specs.declared.types.Ty.{Ty}
+use Rattle.rb_core.specs.declared.types.Ty.TheVariants.{Int, Named}
+use Rattle.rb_core.specs.declared.pattern.Pat.{Pat, out-Pat}
+use Rattle.rb_core.specs.declared.pattern.Pat.TheOpen as P
+use Rattle.rb_core.specs.declared.pattern.Pat.TheOpen.{Pat-F}
+use Rattle.rb_core.specs.declared.pattern.Pat.TheFolds.{fold-Pat}
+use Rattle.rb_core.specs.Values.{are_of, fields_of}
+use Rattle.rb_core.specs.Typing.{holds}
+use Rattle.rb_core.specs.declared.types.DataDecl.{DataDecl}
+use Rattle.rb_layout.specs.declared.layout.Leaf.{Leaf}
+use Rattle.rb_layout.specs.declared.layout.Block.{Block}
+use Rattle.rb_layout.specs.declared.layout.FlatWord.{FlatWord}
+use Rattle.rb_layout.specs.declared.layout.Part.{Part}
+use Rattle.rb_layout.specs.declared.layout.Kind.TheVariants.{Bits, Word}
+use Rattle.rb_layout.specs.declared.layout.WordRef.{WordRef}
+use Rattle.rb_layout.specs.declared.layout.Layout.{Layout}
+use Rattle.rb_layout.specs.Words.{flat_at}
+use Rattle.rb_layout.specs.Positions.{Open, open_positions, root_type}
+use Rattle.rb_rel.specs.Relation.{word_count}
+use Rattle.rb_layout.specs.Splits.{Route, routes_of}
+use Rattle.rb_layout.specs.Pointers.{PointsTo}
+use Rattle.rb_layout.specs.Each.{EachLeaf}
+use Rattle.rb_layout.specs.A7.{A7}
+use Rattle.rb_layout.specs.A8.{A8}
+
+-- a root word, or a word of a block numbered above block b
+abbrev pub IsOutside : Option ℕ → ℕ → Type 0
+IsOutside None b = Unit {0}
+IsOutside (Some a) b = b < a
+
+-- each pointer has its block, of its alignment, and each block a pointer outside it
+pub record IsFlat (leaf : Leaf) : Type 0 where
+  pub exists : (r : WordRef) (l align b : ℕ) → PointsTo leaf r l align b → (block : Block) × (slice_get leaf.blocks b ≡ Some block) × (block.align ≡ align)
+  pub pointed : (b : ℕ) (block : Block) → slice_get leaf.blocks b ≡ Some block
+      → (r : WordRef) × (l : ℕ) × (align : ℕ) × PointsTo leaf r l align b × IsOutside r.block b
+
+abbrev pub AllFlat : List Layout → Type 0
+AllFlat layouts = EachLeaf layouts (λ t layout n leaf. IsFlat leaf)
+
+-- each leaf is below the tree of splits
+abbrev pub AllReached : List Layout → Type 0
+AllReached layouts = EachLeaf layouts (λ t layout n leaf. (k : ℕ) × (r : Route) × (slice_get (routes_of layout.tree) k ≡ Some r) × (r.leaf ≡ n))
+
+-- Provenances ---------------------------------------------------------------------------------
+
+abbrev pub is_named : ℕ → Ty → Bool
+is_named t (Int bits) = false
+is_named t (Named s) = s == t
+
+abbrev pub fits_step : List DataDecl → Pat-F (Ty → Bool) → Ty → Bool
+fits_step types (P.Wild at) ty = true
+fits_step types (P.Var at x) ty = true
+fits_step types (P.Num at n) ty = holds ty n
+fits_step types (P.Con at c ps) ty = is_named c.ty ty && are_of ps (fields_of types c)
+
+-- a pattern is of a type
+abbrev pub fits_type : List DataDecl → Pat → Ty → Bool
+fits_type types = fold-Pat (Ty → Bool) (fits_step types)
+
+-- the provenances are patterns of their types, with constructors at their roots
+pub record ProvenancesFit (types : List DataDecl) (layouts : List Layout) : Type 0 where
+  pub root : EachLeaf layouts (λ t layout n leaf. root_type (out-Pat leaf.prov) ≡ Named t)
+  pub fits : EachLeaf layouts (λ t layout n leaf. fits_type types leaf.prov (Named t) ≡ true)
+
+-- Holding -------------------------------------------------------------------------------------
+
+-- a part holds unit i of the position at a path: bit i of an integer, word i of a data type
+abbrev pub HoldsUnit : Ty → List ℕ → ℕ → Part → Type 0
+HoldsUnit (Int bits) path i p = (a : ℕ) × (p.kind ≡ Bits path a) × (a ≤ i) × (i < a + p.l)
+HoldsUnit (Named t) path i p = p.kind ≡ Word path i
+
+pub record Holder (leaf : Leaf) (ty : Ty) (path : List ℕ) (i : ℕ) : Type 0 where
+  pub ref : WordRef
+  pub word : FlatWord
+  pub is_word : flat_at leaf ref ≡ Some word
+  pub number : ℕ
+  pub part : Part
+  pub is_part : slice_get word.parts number ≡ Some part
+  pub is_holder : HoldsUnit ty path i part
+
+-- the units of a type: bits, or words
+abbrev pub units_of : List Layout → Ty → ℕ
+units_of layouts (Int bits) = bits
+units_of layouts (Named t) = word_count layouts (Named t)
+
+-- each unit of each open position is held
+abbrev pub AllHeld : List DataDecl → List Layout → Type 0
+AllHeld types layouts = EachLeaf layouts (λ t layout n leaf.
+    (k : ℕ) (o : Open) (i : ℕ) → slice_get (open_positions types leaf.prov) k ≡ Some o → i < units_of layouts o.ty → Holder leaf o.ty o.path i)
+
+-- all that the laws need, of the rules of agreement and of flat forms
+pub record Lawful (types : List DataDecl) (layouts : List Layout) : Type 0 where
+  pub flat : AllFlat layouts
+  pub reached : AllReached layouts
+  pub met : A7 types layouts
+  pub split : A8 layouts
+  pub all_held : AllHeld types layouts
+  pub provenances : ProvenancesFit types layouts
