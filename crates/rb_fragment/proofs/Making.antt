@@ -1,9 +1,9 @@
 -- Code that makes reads, form by form.
-use Rattle.std.proofs.Common.{◌≡◌, ℕ, zero, suc, ◌+◌, ◌*◌, ◌%◌, ◌^◌, ◌<◌, ◌≤◌, ◌&&◌, ◌==◌, ◌⊎◌, inl, inr, Bool, true, false, List, [], ◌∷◌, map, length, Option, Some, None, Result, Ok, Err, refl, sym, subst, ap, ◌∙◌, arith, drop, eqb-true}
+use Rattle.std.proofs.Common.{◌≡◌, ℕ, zero, suc, ◌+◌, ◌*◌, ◌%◌, ◌^◌, ◌<◌, ◌≤◌, ◌==◌, ◌⊎◌, inl, inr, Bool, true, false, List, [], ◌∷◌, map, length, Option, Some, None, Result, Ok, Err, refl, sym, ap, ◌∙◌, arith, drop, eqb-true}
 use Rattle.std.proofs.lemmas.Bool.Decides.{nat_tests}
 use Rattle.std.proofs.lemmas.Option.{same_Some}
 use Rattle.std.proofs.Math.Nat.{mod-eq_of_lt}
-use Rattle.std.specs.Prelude.{slice_index, slice_set, nat_lt, nat_le}
+use Rattle.std.specs.Prelude.{slice_index, slice_set, nat_le}
 use Rattle.std.specs.List.{list_all}
 use Rattle.rb_bits.specs.Words.{IsRange, take_of, put_of}
 use Rattle.rb_bits.proofs.WordLemmas.{take_fits}
@@ -12,20 +12,20 @@ use Rattle.rb_bytes.specs.declared.fault.Trap.{Trap}
 use Rattle.rb_target.specs.declared.instr.AluOp.TheVariants.{Mul}
 use Rattle.rb_target.specs.declared.instr.Instr.TheVariants.{Const, Alu, Take, Put, Load}
 use Rattle.rb_target.specs.Growth.{Keeps}
-use Rattle.rb_target.specs.Meaning.{Outcome, alu_of}
+use Rattle.rb_target.specs.Meaning.{alu_of}
 use Rattle.rb_target.specs.Sheet.{Sheet, pushed, with_slot}
 use Rattle.rb_target.proofs.Growing.{Keeps-set}
 use Rattle.rb_fragment.specs.declared.reads.Read.{Read, Slot, Number, Bits, Address, Loaded, Joined}
 use Rattle.rb_fragment.specs.declared.reads.Share.{Share}
 use Rattle.rb_fragment.specs.Plan.{Plan}
 use Rattle.rb_fragment.specs.Adding.{Adds}
-use Rattle.rb_fragment.specs.Pieces.{Piece, Straight, AtEnd}
-use Rattle.rb_fragment.specs.Reads.{where_some, loaded, Placed, joined_over, mean, placed_of, either, is_range, is_width, fits, fits_share, Makes, MakesRead, PutsOne, JoinedTo, JoinsFirst, PutsShare}
+use Rattle.rb_fragment.specs.Pieces.{Straight, AtEnd}
+use Rattle.rb_fragment.specs.Reads.{where_some, loaded, Placed, joined_over, mean, placed_of, either, is_range, is_width, fits, fits_share, Makes}
+use Rattle.rb_fragment.specs.inner.Shares.{PutsOne, JoinedTo, PutsShare}
 use Rattle.rb_fragment.proofs.Adding.{Adds-refl, Adds-trans, Adds-one, push_adds}
 use Rattle.rb_fragment.proofs.Pieces.{piece_none, piece_weaken, straight_seq, straight_weaken, straight_frame, straight_write}
-use Rattle.rb_fragment.proofs.Steps.{set_same, set_other, straight_const, straight_take, straight_alu, straight_load, product_whole}
-use Rattle.rb_fragment.proofs.Moves.{drop_item}
-use Rattle.rb_fragment.proofs.ReadForms.{both, mean-Slot, mean-Number, mean-Bits, mean-Address, mean-Loaded, mean-Joined, placed, placed-is, fits-Slot, fits-Bits, fits-Address, fits-Loaded, fits-Joined, fits-Share, mean-kept, over-kept}
+use Rattle.rb_fragment.proofs.Steps.{set_same, straight_const, straight_take, straight_alu, straight_load}
+use Rattle.rb_fragment.proofs.ReadForms.{both, mean-Slot, mean-Number, mean-Bits, mean-Address, mean-Loaded, mean-Joined, placed-is, fits-Slot, fits-Bits, fits-Address, fits-Loaded, fits-Joined, fits-Share, over-kept}
 
 -- Tests and what they say
 
@@ -218,9 +218,10 @@ module _ (plan : Plan) where
       F wv s m = (IsGood m × (slice_index s d ≡ wv.1)) × (joined_over (put_of wv.1 p.a p.l (take_of wv.0 p.o p.l)) (map placed_of rest) s m ≡ Some x)
 
       stays : (n : ℕ) (wv : ℕ × ℕ) → a.slots ≤ n → (s s' : List ℕ) (m : Memory) → Keeps n s s' → F wv s m → F wv s' m
-      stays n wv up s s' m kept f =
-          ((f.0.0, kept.same d (omega (arith, lt, up)) ∙ f.0.1),
-          over-kept k s s' m (keeps_fewer n k s s' (omega (arith, le, lt, up)) kept) rest fits_rest (put_of wv.1 p.a p.l (take_of wv.0 p.o p.l)) ∙ f.1)
+      stays n wv up s s' m kept f = (
+        (f.0.0, kept.same d (omega (arith, lt, up)) ∙ f.0.1),
+        over-kept k s s' m (keeps_fewer n k s s' (omega (arith, le, lt, up)) kept) rest fits_rest (put_of wv.1 p.a p.l (take_of wv.0 p.o p.l)) ∙ f.1,
+      )
 
       pick : (s : List ℕ) (m : Memory) → From s m → (wv : ℕ × ℕ) × (F wv s m × (IsGood m × (mean p.read s m ≡ Some wv.0)))
       pick s m pre =

@@ -1,9 +1,8 @@
 -- What single instructions do: each leaves its word in the slot that it was given.
-use Rattle.std.proofs.Common.{◌≡◌, ◌≢◌, ℕ, ◌+◌, ◌*◌, ◌%◌, ◌^◌, ◌<◌, ◌≤◌, List, length, Ok, refl, sym, subst, ap, ◌∙◌, arith, get_or-set_same, get_or-set_other}
+use Rattle.std.proofs.Common.{◌≡◌, ◌≢◌, ℕ, ◌+◌, ◌*◌, ◌%◌, ◌^◌, ◌<◌, ◌≤◌, List, length, Ok, refl, sym, subst, ap, arith, get_or-set_same, get_or-set_other}
 use Rattle.std.proofs.Math.Nat.{mod-eq_of_lt}
 use Rattle.std.specs.Prelude.{slice_index, slice_set}
 use Rattle.rb_bits.specs.Words.{IsRange, take_of, put_of}
-use Rattle.rb_bits.proofs.WordLemmas.{take_fits}
 use Rattle.rb_bytes.specs.Memory.{Memory, IsGood, IsWidth, load_of}
 use Rattle.rb_bytes.proofs.GrowthLemmas.{address_small}
 use Rattle.rb_target.specs.declared.instr.AluOp.{AluOp}

@@ -9,3 +9,4 @@ pub mod Arms
 pub mod Functions
 pub mod Reads
 pub mod Laws
+pub mod inner

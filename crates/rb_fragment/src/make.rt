@@ -3,7 +3,8 @@
 ghost use Rattle.std.specs.Prelude.{◌≡◌, IfOk, OnOk};
 ghost use Rattle.rb_target.specs.Growth.{Grows};
 ghost use Rattle.rb_fragment.specs.declared.reads.Read as reads;
-ghost use Rattle.rb_fragment.specs.Reads.{MakesRead, PutsShare};
+ghost use Rattle.rb_fragment.specs.Reads.{MakesRead};
+ghost use Rattle.rb_fragment.specs.inner.Shares.{PutsShare};
 
 use crate::emit::{emit_alu, emit_const, emit_load, emit_take};
 use crate::reads::{Read, Share};

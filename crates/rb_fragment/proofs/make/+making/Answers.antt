@@ -1,7 +1,6 @@
-use Rattle.std.proofs.Common.{◌≡◌, ℕ, ◌+◌, ◌<◌, ◌≤◌, ◌∷◌, length, sym, ap, ◌∙◌, drop, arith}
+use Rattle.std.proofs.Common.{◌≡◌, ◌+◌, ◌≤◌, ◌∷◌, length, sym, ap, ◌∙◌, drop, arith}
 use Rattle.rb_target.proofs.Growing.{Grows-append, Grows-trans}
 use Rattle.rb_fragment.specs.declared.reads.Share.{Share}
-use Rattle.rb_fragment.specs.declared.reads.Read as reads
 use Rattle.rb_fragment.proofs.Moves.{drop_item}
 use Rattle.rb_fragment.proofs.ReadForms.{both, fits-Bits, fits-Address, fits-Loaded, fits-Share}
 use Rattle.rb_fragment.proofs.Making.{made_slot, made_number, made_bits, made_address, made_loaded, put_share, drop_past, joined_none, joined_more, joined_all}

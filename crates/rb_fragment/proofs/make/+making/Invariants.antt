@@ -1,6 +1,5 @@
-use Rattle.std.proofs.Common.{◌≡◌}
 use Rattle.rb_target.specs.Growth.{Grows}
-use Rattle.rb_fragment.specs.Reads.{JoinsFirst}
+use Rattle.rb_fragment.specs.inner.Shares.{JoinsFirst}
 use Rattle.rb_fragment.proofs.make.+making.Given as goal
 
 abbrev pub invariant-make_joined-loop-share : goal.invariant-make_joined-loop-share
