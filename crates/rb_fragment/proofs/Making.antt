@@ -5,6 +5,7 @@ use Rattle.std.proofs.lemmas.Option.{same_Some}
 use Rattle.std.proofs.Math.Nat.{mod-eq_of_lt}
 use Rattle.std.specs.Prelude.{slice_index, slice_set, nat_le}
 use Rattle.std.specs.List.{list_all}
+use Rattle.rb_core.specs.WellNumbered.{either}
 use Rattle.rb_bits.specs.Words.{IsRange, take_of, put_of}
 use Rattle.rb_bits.proofs.WordLemmas.{take_fits}
 use Rattle.rb_bytes.specs.Memory.{Memory, IsGood, IsWidth, load_of}
@@ -20,12 +21,12 @@ use Rattle.rb_fragment.specs.declared.reads.Share.{Share}
 use Rattle.rb_fragment.specs.Plan.{Plan}
 use Rattle.rb_fragment.specs.Adding.{Adds}
 use Rattle.rb_fragment.specs.Pieces.{Straight, AtEnd}
-use Rattle.rb_fragment.specs.Reads.{where_some, loaded, Placed, joined_over, mean, placed_of, either, is_range, is_width, fits, fits_share, Makes}
+use Rattle.rb_fragment.specs.Reads.{where_some, loaded, Meant, joined_over, mean, meant_of, is_range, is_width, fits, fits_share, Makes}
 use Rattle.rb_fragment.specs.inner.Shares.{PutsOne, JoinedTo, PutsShare}
 use Rattle.rb_fragment.proofs.Adding.{Adds-refl, Adds-trans, Adds-one, push_adds}
 use Rattle.rb_fragment.proofs.Pieces.{piece_none, piece_weaken, straight_seq, straight_weaken, straight_frame, straight_write}
 use Rattle.rb_fragment.proofs.Steps.{set_same, straight_const, straight_take, straight_alu, straight_load}
-use Rattle.rb_fragment.proofs.ReadForms.{both, mean-Slot, mean-Number, mean-Bits, mean-Address, mean-Loaded, mean-Joined, placed-is, fits-Slot, fits-Bits, fits-Address, fits-Loaded, fits-Joined, fits-Share, over-kept}
+use Rattle.rb_fragment.proofs.ReadForms.{both, mean-Slot, mean-Number, mean-Bits, mean-Address, mean-Loaded, mean-Joined, meant-is, fits-Slot, fits-Bits, fits-Address, fits-Loaded, fits-Joined, fits-Share, over-kept}
 
 -- Tests and what they say
 
@@ -208,14 +209,14 @@ module _ (plan : Plan) where
 
     module _ (rest : List Share) (fits_rest : list_all (λ b. b) (map (fits_share k) rest) ≡ true) (x : ℕ) where
       abbrev From : List ℕ → Memory → Type 0
-      From s m = IsGood m × (joined_over (slice_index s d) (map placed_of (p ∷ rest)) s m ≡ Some x)
+      From s m = IsGood m × (joined_over (slice_index s d) (map meant_of (p ∷ rest)) s m ≡ Some x)
 
       abbrev To : List ℕ → Memory → Type 0
-      To s m = IsGood m × (joined_over (slice_index s d) (map placed_of rest) s m ≡ Some x)
+      To s m = IsGood m × (joined_over (slice_index s d) (map meant_of rest) s m ≡ Some x)
 
       -- what stands in the slot, and what comes to x with the share w over it
       abbrev F : ℕ × ℕ → List ℕ → Memory → Type 0
-      F wv s m = (IsGood m × (slice_index s d ≡ wv.1)) × (joined_over (put_of wv.1 p.a p.l (take_of wv.0 p.o p.l)) (map placed_of rest) s m ≡ Some x)
+      F wv s m = (IsGood m × (slice_index s d ≡ wv.1)) × (joined_over (put_of wv.1 p.a p.l (take_of wv.0 p.o p.l)) (map meant_of rest) s m ≡ Some x)
 
       stays : (n : ℕ) (wv : ℕ × ℕ) → a.slots ≤ n → (s s' : List ℕ) (m : Memory) → Keeps n s s' → F wv s m → F wv s' m
       stays n wv up s s' m kept f = (
@@ -226,8 +227,8 @@ module _ (plan : Plan) where
       pick : (s : List ℕ) (m : Memory) → From s m → (wv : ℕ × ℕ) × (F wv s m × (IsGood m × (mean p.read s m ≡ Some wv.0)))
       pick s m pre =
           let v = slice_index s d in
-          let e = sym (ap (λ (q : Placed). where_some (q.reading s m) (λ w. joined_over (put_of v q.a q.l (take_of w q.o q.l)) (map placed_of rest) s m)) (placed-is p)) ∙ pre.1 in
-          let h = some_then (mean p.read s m) (λ w. joined_over (put_of v p.a p.l (take_of w p.o p.l)) (map placed_of rest) s m) x e in
+          let e = sym (ap (λ (q : Meant). where_some (q.reading s m) (λ w. joined_over (put_of v q.a q.l (take_of w q.o q.l)) (map meant_of rest) s m)) (meant-is p)) ∙ pre.1 in
+          let h = some_then (mean p.read s m) (λ w. joined_over (put_of v p.a p.l (take_of w p.o p.l)) (map meant_of rest) s m) x e in
           ((h.0, v), (((pre.0, refl), h.2), (pre.0, h.1)))
 
       share_runs : Straight plan d a c2 From To
@@ -256,8 +257,8 @@ module _ (plan : Plan) where
           let same : slice_index s b.slots % 2 ^ p.l ≡ part = ap (λ y. y % 2 ^ p.l) pre.1 ∙ mod-eq_of_lt (take_fits w p.o p.l) in
           let is : word ≡ put_of wv.1 p.a p.l part = ap (λ y. put_of y p.a p.l (slice_index s b.slots % 2 ^ p.l)) pre.0.0.1 ∙ ap (λ y. put_of wv.1 p.a p.l y) same in
           let now : slice_index s' d ≡ put_of wv.1 p.a p.l part = set_same s d word (omega (arith, long, lt, up)) ∙ is in
-          let ends : joined_over (slice_index s' d) (map placed_of rest) s' w1.memory ≡ Some x =
-          ap (λ y. joined_over y (map placed_of rest) s' w1.memory) now ∙ over-kept k s s' w1.memory (Keeps-set k s d word le) rest fits_rest (put_of wv.1 p.a p.l part) ∙ pre.0.1 in
+          let ends : joined_over (slice_index s' d) (map meant_of rest) s' w1.memory ≡ Some x =
+          ap (λ y. joined_over y (map meant_of rest) s' w1.memory) now ∙ over-kept k s s' w1.memory (Keeps-set k s d word le) rest fits_rest (put_of wv.1 p.a p.l part) ∙ pre.0.1 in
           (word, refl, (pre.0.0.0, ends))) in
           straight_seq plan d a b c2 (λ s m. F wv s m × (IsGood m × (mean p.read s m ≡ Some w))) Mid1 To first (straight_seq plan d b c1 c2 Mid1 Mid2 To second third))
 
@@ -272,10 +273,10 @@ module _ (plan : Plan) where
     given = omega arith;
     runs = λ x.
         let b = pushed (with_slot a) (Const a.slots 0) in
-        let F : List ℕ → Memory → Type 0 = λ s m. IsGood m × (joined_over 0 (map placed_of shares) s m ≡ Some x) in
+        let F : List ℕ → Memory → Type 0 = λ s m. IsGood m × (joined_over 0 (map meant_of shares) s m ≡ Some x) in
         straight_weaken plan a.slots a b (λ s m. F s m × (0 ≡ 0)) (λ s m. IsGood m × (mean (Joined shares) s m ≡ Some x)) (λ s m. F s m × (slice_index s a.slots ≡ 0))
-        (λ s m. IsGood m × (joined_over (slice_index s a.slots) (map placed_of shares) s m ≡ Some x))
-        (λ s m pre. ((pre.0, sym (mean-Joined shares s m) ∙ pre.1), refl)) (λ s m h. (h.0.0, ap (λ y. joined_over y (map placed_of shares) s m) h.1 ∙ h.0.1))
+        (λ s m. IsGood m × (joined_over (slice_index s a.slots) (map meant_of shares) s m ≡ Some x))
+        (λ s m pre. ((pre.0, sym (mean-Joined shares s m) ∙ pre.1), refl)) (λ s m h. (h.0.0, ap (λ y. joined_over y (map meant_of shares) s m) h.1 ∙ h.0.1))
         (straight_frame plan a.slots a b F (λ s m. 0 ≡ 0) (λ s m. slice_index s a.slots ≡ 0)
         (λ s s' m kept h. (h.0, over-kept k s s' m (keeps_fewer a.slots k s s' le kept) shares (sym (fits-Joined k shares) ∙ fit) 0 ∙ h.1))
         (straight_const plan a.slots a (omega arith) (λ y m. y ≡ 0) 0 (omega arith)));
@@ -298,10 +299,10 @@ module _ (plan : Plan) where
         slot = first.slot;
         given = omega (arith, first.given, one.adds.more);
         runs = λ x.
-            let Mid : List ℕ → Memory → Type 0 = λ s m. IsGood m × (joined_over (slice_index s d) (map placed_of (drop i shares)) s m ≡ Some x) in
-            let Post : List ℕ → Memory → Type 0 = λ s m. IsGood m × (joined_over (slice_index s d) (map placed_of (drop (i + 1) shares)) s m ≡ Some x) in
-            let r = straight_weaken plan d b c (λ s m. IsGood m × (joined_over (slice_index s d) (map placed_of (p ∷ drop (i + 1) shares)) s m ≡ Some x)) Mid Post Post
-            (λ s m h. (h.0, sym (ap (λ l. joined_over (slice_index s d) (map placed_of l) s m) item) ∙ h.1)) (λ s m h. h) (one.runs (drop (i + 1) shares) here.1 x) in
+            let Mid : List ℕ → Memory → Type 0 = λ s m. IsGood m × (joined_over (slice_index s d) (map meant_of (drop i shares)) s m ≡ Some x) in
+            let Post : List ℕ → Memory → Type 0 = λ s m. IsGood m × (joined_over (slice_index s d) (map meant_of (drop (i + 1) shares)) s m ≡ Some x) in
+            let r = straight_weaken plan d b c (λ s m. IsGood m × (joined_over (slice_index s d) (map meant_of (p ∷ drop (i + 1) shares)) s m ≡ Some x)) Mid Post Post
+            (λ s m h. (h.0, sym (ap (λ l. joined_over (slice_index s d) (map meant_of l) s m) item) ∙ h.1)) (λ s m h. h) (one.runs (drop (i + 1) shares) here.1 x) in
             straight_seq plan a.slots a b c (λ s m. IsGood m × (mean (Joined shares) s m ≡ Some x)) Mid Post (first.runs x) (straight_fewer d a.slots b c Mid Post (omega (arith, first.slot)) r);
       }
 
@@ -312,6 +313,6 @@ module _ (plan : Plan) where
     given = j.given;
     runs = λ x.
         straight_weaken plan a.slots a b (λ s m. IsGood m × (mean (Joined shares) s m ≡ Some x)) (λ s m. IsGood m × (mean (Joined shares) s m ≡ Some x))
-        (λ s m. IsGood m × (joined_over (slice_index s d) (map placed_of (drop i shares)) s m ≡ Some x)) (λ s m. slice_index s d ≡ x) (λ s m h. h)
-        (λ s m h. same_Some (slice_index s d) x (sym (ap (λ l. joined_over (slice_index s d) (map placed_of l) s m) none) ∙ h.1)) (j.runs x);
+        (λ s m. IsGood m × (joined_over (slice_index s d) (map meant_of (drop i shares)) s m ≡ Some x)) (λ s m. slice_index s d ≡ x) (λ s m h. h)
+        (λ s m h. same_Some (slice_index s d) x (sym (ap (λ l. joined_over (slice_index s d) (map meant_of l) s m) none) ∙ h.1)) (j.runs x);
   }

@@ -19,39 +19,39 @@ use Rattle.rb_fragment.specs.declared.reads.Read.TheOpen.{Read-F}
 use Rattle.rb_fragment.specs.declared.reads.Read.TheFolds as Folds
 use Rattle.rb_fragment.specs.declared.reads.Read.TheFolds.{fold-roll-Read, fold_out-Share}
 use Rattle.rb_fragment.specs.declared.reads.Share.{Share, Share-F}
-use Rattle.rb_fragment.specs.Reads.{Reading, where_some, loaded, Placed, joined_over, mean_step, share_step, mean, placed_of, is_range, is_width, fits_step, share_fits, fits, fits_share}
+use Rattle.rb_fragment.specs.Reads.{Reading, where_some, loaded, Meant, joined_over, mean_step, share_step, mean, meant_of, is_range, is_width, fits_step, share_fits, fits, fits_share}
 
 -- Meaning
 
 pub mean-Slot : (x : ℕ) (s : List ℕ) (m : Memory) → mean (Slot x) s m ≡ Some (slice_index s x)
 unfolding X.roll-Read denote.Hole.Carrier.roll
-mean-Slot x s m = ap (λ (r : Reading). r s m) (fold-roll-Read Reading Placed mean_step share_step (R.Slot x))
+mean-Slot x s m = ap (λ (r : Reading). r s m) (fold-roll-Read Reading Meant mean_step share_step (R.Slot x))
 
 pub mean-Number : (c : ℕ) (s : List ℕ) (m : Memory) → mean (Number c) s m ≡ Some c
 unfolding X.roll-Read denote.Hole.Carrier.roll
-mean-Number c s m = ap (λ (r : Reading). r s m) (fold-roll-Read Reading Placed mean_step share_step (R.Number c))
+mean-Number c s m = ap (λ (r : Reading). r s m) (fold-roll-Read Reading Meant mean_step share_step (R.Number c))
 
 pub mean-Bits : (r : Read) (o l : ℕ) (s : List ℕ) (m : Memory) → mean (Bits r o l) s m ≡ where_some (mean r s m) (λ w. Some (take_of w o l))
 unfolding X.roll-Read denote.Hole.Carrier.roll
-mean-Bits r o l s m = ap (λ (q : Reading). q s m) (fold-roll-Read Reading Placed mean_step share_step (R.Bits r o l))
+mean-Bits r o l s m = ap (λ (q : Reading). q s m) (fold-roll-Read Reading Meant mean_step share_step (R.Bits r o l))
 
 pub mean-Address : (r : Read) (o l align : ℕ) (s : List ℕ) (m : Memory) → mean (Address r o l align) s m ≡ where_some (mean r s m) (λ w. Some (take_of w o l * align % 2 ^ 64))
 unfolding X.roll-Read denote.Hole.Carrier.roll
-mean-Address r o l align s m = ap (λ (q : Reading). q s m) (fold-roll-Read Reading Placed mean_step share_step (R.Address r o l align))
+mean-Address r o l align s m = ap (λ (q : Reading). q s m) (fold-roll-Read Reading Meant mean_step share_step (R.Address r o l align))
 
 pub mean-Loaded : (r : Read) (byte width : ℕ) (s : List ℕ) (m : Memory) → mean (Loaded r byte width) s m ≡ where_some (mean r s m) (λ base. loaded (load_of m base byte width))
 unfolding X.roll-Read denote.Hole.Carrier.roll
-mean-Loaded r byte width s m = ap (λ (q : Reading). q s m) (fold-roll-Read Reading Placed mean_step share_step (R.Loaded r byte width))
+mean-Loaded r byte width s m = ap (λ (q : Reading). q s m) (fold-roll-Read Reading Meant mean_step share_step (R.Loaded r byte width))
 
-pub mean-Joined : (ps : List Share) (s : List ℕ) (m : Memory) → mean (Joined ps) s m ≡ joined_over 0 (map placed_of ps) s m
+pub mean-Joined : (ps : List Share) (s : List ℕ) (m : Memory) → mean (Joined ps) s m ≡ joined_over 0 (map meant_of ps) s m
 unfolding X.roll-Read denote.Hole.Carrier.roll
-mean-Joined ps s m = ap (λ (q : Reading). q s m) (fold-roll-Read Reading Placed mean_step share_step (R.Joined ps))
+mean-Joined ps s m = ap (λ (q : Reading). q s m) (fold-roll-Read Reading Meant mean_step share_step (R.Joined ps))
 
-abbrev pub placed : Share → Placed
-placed p = record { reading = mean p.read; o = p.o; l = p.l; a = p.a }
+abbrev pub meant : Share → Meant
+meant p = record { reading = mean p.read; o = p.o; l = p.l; a = p.a }
 
-pub placed-is : (p : Share) → placed_of p ≡ placed p
-placed-is p = fold_out-Share Reading Placed mean_step share_step p
+pub meant-is : (p : Share) → meant_of p ≡ meant p
+meant-is p = fold_out-Share Reading Meant mean_step share_step p
 
 -- Fitting
 
@@ -138,16 +138,16 @@ module _ (n : ℕ) (s s' : List ℕ) (m : Memory) (k : Keeps n s s') where
   abbrev Stays : Read → Type 0
   Stays r = fits n r ≡ true → mean r s' m ≡ mean r s m
 
-  over_stays : (ps : List Share) → Each Stays ps → list_all (λ b. b) (map (fits_share n) ps) ≡ true → (x : ℕ) → joined_over x (map placed_of ps) s' m ≡ joined_over x (map placed_of ps) s m
+  over_stays : (ps : List Share) → Each Stays ps → list_all (λ b. b) (map (fits_share n) ps) ≡ true → (x : ℕ) → joined_over x (map meant_of ps) s' m ≡ joined_over x (map meant_of ps) s m
   over_stays [] each h x = refl
   over_stays (p ∷ ps) each h x =
       let f = both (fits_share n p) (list_all (λ b. b) (map (fits_share n) ps)) h in
       let g = both (fits n p.read) _ (sym (fits-Share n p) ∙ f.0) in
-      let is = placed-is p in
-      ap (λ (q : Placed). where_some (q.reading s' m) (λ w. joined_over (put_of x q.a q.l (take_of w q.o q.l)) (map placed_of ps) s' m)) is
-      ∙ ap (λ v. where_some v (λ w. joined_over (put_of x p.a p.l (take_of w p.o p.l)) (map placed_of ps) s' m)) (each.0 g.0)
+      let is = meant-is p in
+      ap (λ (q : Meant). where_some (q.reading s' m) (λ w. joined_over (put_of x q.a q.l (take_of w q.o q.l)) (map meant_of ps) s' m)) is
+      ∙ ap (λ v. where_some v (λ w. joined_over (put_of x p.a p.l (take_of w p.o p.l)) (map meant_of ps) s' m)) (each.0 g.0)
       ∙ where_same (mean p.read s m) _ _ (λ w. over_stays ps each.1 f.1 (put_of x p.a p.l (take_of w p.o p.l)))
-      ∙ sym (ap (λ (q : Placed). where_some (q.reading s m) (λ w. joined_over (put_of x q.a q.l (take_of w q.o q.l)) (map placed_of ps) s m)) is)
+      ∙ sym (ap (λ (q : Meant). where_some (q.reading s m) (λ w. joined_over (put_of x q.a q.l (take_of w q.o q.l)) (map meant_of ps) s m)) is)
 
   stays : (r : Read) → Stays r
   stays = induction Stays (record {
@@ -172,7 +172,7 @@ pub mean-kept : (n : ℕ) (s s' : List ℕ) (m : Memory) → Keeps n s s' → (r
 mean-kept n s s' m k r h = stays n s s' m k r h
 
 pub over-kept : (n : ℕ) (s s' : List ℕ) (m : Memory) → Keeps n s s' → (ps : List Share) → list_all (λ b. b) (map (fits_share n) ps) ≡ true → (x : ℕ)
-    → joined_over x (map placed_of ps) s' m ≡ joined_over x (map placed_of ps) s m
+    → joined_over x (map meant_of ps) s' m ≡ joined_over x (map meant_of ps) s m
 over-kept n s s' m k ps h x = over_stays n s s' m k ps (each ps) h x
   where
     each : (qs : List Share) → Each (λ r. fits n r ≡ true → mean r s' m ≡ mean r s m) qs
@@ -192,14 +192,14 @@ module _ (s : List ℕ) (m m' : Memory) (g : Extends m m') where
   abbrev Grows : Read → Type 0
   Grows r = (x : ℕ) → mean r s m ≡ Some x → mean r s m' ≡ Some x
 
-  over_grows : (ps : List Share) → Each Grows ps → (n x : ℕ) → joined_over n (map placed_of ps) s m ≡ Some x → joined_over n (map placed_of ps) s m' ≡ Some x
+  over_grows : (ps : List Share) → Each Grows ps → (n x : ℕ) → joined_over n (map meant_of ps) s m ≡ Some x → joined_over n (map meant_of ps) s m' ≡ Some x
   over_grows [] each n x e = e
   over_grows (p ∷ ps) each n x e =
-      let is = placed-is p in
-      let e1 = sym (ap (λ (q : Placed). where_some (q.reading s m) (λ w. joined_over (put_of n q.a q.l (take_of w q.o q.l)) (map placed_of ps) s m)) is) ∙ e in
-      let h = some_of (mean p.read s m) (λ w. joined_over (put_of n p.a p.l (take_of w p.o p.l)) (map placed_of ps) s m) x e1 in
-      ap (λ (q : Placed). where_some (q.reading s m') (λ w. joined_over (put_of n q.a q.l (take_of w q.o q.l)) (map placed_of ps) s m')) is
-      ∙ ap (λ v. where_some v (λ w. joined_over (put_of n p.a p.l (take_of w p.o p.l)) (map placed_of ps) s m')) (each.0 h.0 h.1)
+      let is = meant-is p in
+      let e1 = sym (ap (λ (q : Meant). where_some (q.reading s m) (λ w. joined_over (put_of n q.a q.l (take_of w q.o q.l)) (map meant_of ps) s m)) is) ∙ e in
+      let h = some_of (mean p.read s m) (λ w. joined_over (put_of n p.a p.l (take_of w p.o p.l)) (map meant_of ps) s m) x e1 in
+      ap (λ (q : Meant). where_some (q.reading s m') (λ w. joined_over (put_of n q.a q.l (take_of w q.o q.l)) (map meant_of ps) s m')) is
+      ∙ ap (λ v. where_some v (λ w. joined_over (put_of n p.a p.l (take_of w p.o p.l)) (map meant_of ps) s m')) (each.0 h.0 h.1)
       ∙ over_grows ps each.1 (put_of n p.a p.l (take_of h.0 p.o p.l)) x h.2
 
   pub mean-grown : (r : Read) (x : ℕ) → mean r s m ≡ Some x → mean r s m' ≡ Some x

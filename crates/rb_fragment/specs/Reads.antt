@@ -1,6 +1,7 @@
 -- What reads mean, and code that makes them.
 use Rattle.std.specs.Prelude.{◌≡◌, ℕ, ◌+◌, ◌*◌, ◌%◌, ◌^◌, ◌<◌, ◌≤◌, ◌==◌, ◌&&◌, nat_lt, nat_le, List, [], ◌∷◌, Bool, true, Option, Some, None, Result, Ok, Err, slice_index}
 use Rattle.std.specs.List.{list_all}
+use Rattle.rb_core.specs.WellNumbered.{either}
 use Rattle.rb_bits.specs.Words.{take_of, put_of}
 use Rattle.rb_bytes.specs.Memory.{Memory, IsGood, load_of}
 use Rattle.rb_bytes.specs.declared.fault.Trap.{Trap}
@@ -29,18 +30,18 @@ loaded (Ok w) = Some w
 loaded (Err t) = None
 
 -- a share with its number's meaning
-pub record Placed : Type 0 where
+pub record Meant : Type 0 where
   pub reading : Reading
   pub o : ℕ
   pub l : ℕ
   pub a : ℕ
 
 -- shares put over a number, one after the other
-abbrev pub joined_over : ℕ → List Placed → Reading
+abbrev pub joined_over : ℕ → List Meant → Reading
 joined_over n [] s m = Some n
 joined_over n (p ∷ ps) s m = where_some (p.reading s m) (λ w. joined_over (put_of n p.a p.l (take_of w p.o p.l)) ps s m)
 
-abbrev pub mean_step : Read-F Reading Placed → Reading
+abbrev pub mean_step : Read-F Reading Meant → Reading
 mean_step (R.Slot x) s m = Some (slice_index s x)
 mean_step (R.Number c) s m = Some c
 mean_step (R.Bits r o l) s m = where_some (r s m) (λ w. Some (take_of w o l))
@@ -48,23 +49,19 @@ mean_step (R.Address r o l align) s m = where_some (r s m) (λ w. Some (take_of 
 mean_step (R.Loaded r byte width) s m = where_some (r s m) (λ base. loaded (load_of m base byte width))
 mean_step (R.Joined shares) s m = joined_over 0 shares s m
 
-abbrev pub share_step : Share-F Reading Placed → Placed
+abbrev pub share_step : Share-F Reading Meant → Meant
 share_step p = record { reading = p.read; o = p.o; l = p.l; a = p.a }
 
 abbrev pub mean : Read → Reading
-mean = fold-Read Reading Placed mean_step share_step
+mean = fold-Read Reading Meant mean_step share_step
 
-abbrev pub placed_of : Share → Placed
-placed_of = fold-Share Reading Placed mean_step share_step
+abbrev pub meant_of : Share → Meant
+meant_of = fold-Share Reading Meant mean_step share_step
 
 -- Fitting
 
 abbrev pub is_range : ℕ → ℕ → Bool
 is_range o l = nat_le 1 l && nat_le (o + l) 64
-
-abbrev pub either : Bool → Bool → Bool
-either true b = true
-either Bool.false b = b
 
 abbrev pub is_width : ℕ → Bool
 is_width width = either (width == 8) (either (width == 16) (either (width == 32) (width == 64)))
