@@ -1,5 +1,5 @@
 -- A memory that grows, and where blocks that can be loaded from lie.
-use Rattle.std.proofs.Common.{◌≡◌, ℕ, ◌+◌, ◌<◌, ◌≤◌, List, [], ◌∷◌, ◌++◌, Ok, refl, sym, ap, ◌∙◌, arith, append_assoc}
+use Rattle.std.proofs.Common.{◌≡◌, ℕ, ◌<◌, ◌≤◌, List, [], ◌∷◌, ◌++◌, Ok, refl, sym, ap, ◌∙◌, arith, append_assoc}
 use Rattle.std.proofs.lemmas.List.{append-nil}
 use Rattle.rb_bytes.specs.Memory.{Memory, IsGood, byte_at, load_of}
 use Rattle.rb_bytes.specs.Laws.{Extends, KeepsLoads}

@@ -1,5 +1,5 @@
 -- Exhaustive matches, form by form.
-use Rattle.std.proofs.Common.{◌≡◌, ◌++◌, ℕ, zero, suc, List, [], ◌∷◌, map, Option, Some, None, refl, sym, subst, ap, ◌∙◌}
+use Rattle.std.proofs.Common.{◌≡◌, ◌++◌, ℕ, zero, suc, List, [], ◌∷◌, map, Some, None, refl, subst, ap}
 use Rattle.std.specs.Prelude.{slice_get}
 use Rattle.std.specs.List.{flat_map}
 use Rattle.rb_core.specs.declared.types.Ty.{Ty}
@@ -9,7 +9,6 @@ use Rattle.rb_core.specs.declared.typing.Binder.{Binder}
 use Rattle.rb_core.specs.declared.pattern.Pat.{Pat}
 use Rattle.rb_core.specs.declared.coverage.Site.{Site}
 use Rattle.rb_core.specs.declared.program.Fun.{Fun}
-use Rattle.rb_core.specs.declared.program.Program.{Program}
 use Rattle.rb_core.specs.declared.expression.Op.{Op}
 use Rattle.rb_core.specs.declared.expression.Clause.{Clause}
 use Rattle.rb_core.specs.declared.expression.Expr.{Expr}

@@ -127,7 +127,6 @@ function_typed types funs f e =
     let same = wanted-is_found types funs f.body f.result c.from r.0 c.then_is in
     subst (λ (s : List Binder). type_of types funs f.body (Some f.result) s ≡ Ok f.result) (sym scope) (subst (λ t. type_of types funs f.body (Some f.result) c.from ≡ Ok t) (sym same) c.then_is)
 
-
 -- a typed program's function has a body of its result's type, within its parameters
 pub body_typed : (p : Program) → IsTyped p → (g : ℕ) (f : Fun) → slice_get p.funs g ≡ Some f → type_of p.types p.funs f.body (Some f.result) (map binder_of f.params) ≡ Ok f.result
 body_typed p typed g f at =

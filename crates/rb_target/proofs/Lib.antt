@@ -8,6 +8,7 @@ pub mod Finishing
 pub mod Operating
 pub mod Names
 pub mod Calling
+pub mod Memories
 pub mod Written
 pub mod Examples
 pub mod Recursion

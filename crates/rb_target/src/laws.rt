@@ -6,12 +6,12 @@ ghost use Rattle.rb_core.specs.Meaning.{op_value};
 ghost use Rattle.rb_core.specs.WellNumbered.{is_lower};
 ghost use Rattle.rb_target.specs.declared.body.Hole.{Hole as HoleDecl};
 ghost use Rattle.rb_target.specs.declared.code.CodeFun.{CodeFun as CodeFunDecl};
-ghost use Rattle.rb_target.specs.Calls.{AreCalls};
+ghost use Rattle.rb_target.specs.Calls.{AreCalls, KeepGood};
 ghost use Rattle.rb_target.specs.Meaning.{alu_of};
 ghost use Rattle.rb_target.specs.Operators.{alu_op_of};
 ghost use Rattle.rb_target.specs.Sheet.{Sheet, IsHole, patched};
 ghost use Rattle.rb_target.specs.Targets.{SetsTarget};
-ghost use Rattle.rb_target.specs.Validity.{IsLower};
+ghost use Rattle.rb_target.specs.Validity.{IsLower, IsValid};
 
 /// Patching sets the hole's target and changes nothing else: the length, the other targets, the other
 /// instructions and the slots that are written stay.
@@ -22,6 +22,11 @@ pub fn patching_sets_one_target()
 /// A call costs one of the calls that are left, and a return tells those that are left then.
 pub fn calls_cost_one()
     ensures { (funs : List CodeFunDecl) → AreCalls funs }
+{}
+
+/// A run of valid code keeps a good memory good.
+pub fn runs_keep_memory_good()
+    ensures { (funs : List CodeFunDecl) → IsValid funs → KeepGood funs }
 {}
 
 /// The machine's operation for an operator gives the operator's value.

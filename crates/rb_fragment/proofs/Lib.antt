@@ -1,0 +1,17 @@
+pub mod Represented
+pub mod Laying
+pub mod Holds
+pub mod Adding
+pub mod Fragments
+pub mod Patching
+pub mod Closing
+pub mod Pieces
+pub mod Steps
+pub mod ReadForms
+pub mod Making
+pub mod Moves
+pub mod Arms
+pub mod Matches
+pub mod Arguments
+pub mod Calling
+pub mod Functions

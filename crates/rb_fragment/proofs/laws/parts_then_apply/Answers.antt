@@ -1,0 +1,5 @@
+use Rattle.rb_fragment.proofs.Arguments.{applied}
+use Rattle.rb_fragment.proofs.laws.parts_then_apply.Goals as goal
+
+pub returns : goal.returns
+returns c = applied

@@ -1,0 +1,96 @@
+use Rattle.std.proofs.Common.{◌≡◌, ◌+◌, ◌≤◌, ◌∷◌, length, sym, ap, ◌∙◌, drop, arith}
+use Rattle.rb_target.proofs.Growing.{Grows-append, Grows-trans}
+use Rattle.rb_fragment.specs.declared.reads.Share.{Share}
+use Rattle.rb_fragment.proofs.Moves.{drop_item}
+use Rattle.rb_fragment.proofs.ReadForms.{both, fits-Bits, fits-Address, fits-Loaded, fits-Share}
+use Rattle.rb_fragment.proofs.Making.{made_slot, made_number, made_bits, made_address, made_loaded, put_share, drop_past, joined_none, joined_more, joined_all}
+use Rattle.rb_fragment.proofs.make.+making.Goals as goal
+
+pub make-returns-in-Slot-clause-makes : goal.make-returns-in-Slot-clause-makes
+make-returns-in-Slot-clause-makes t c plan k le fit = rw c.in-Slot.is (made_slot plan c.in-Slot.slot c.args.body.now k le (rw c.in-Slot.is at fit))
+
+pub make-returns-in_ok-slot-in-Number-clause-makes : goal.make-returns-in_ok-slot-in-Number-clause-makes
+make-returns-in_ok-slot-in-Number-clause-makes t c plan k le fit =
+    let e = c.in_ok-slot-in-Number.ensures in
+    rw (c.in-Number.is, e.code, e.slot) (made_number plan c.in-Number.number c.args.body.now e.small)
+
+pub make-returns-in_ok-slot-in-Number-clause-grows : goal.make-returns-in_ok-slot-in-Number-clause-grows
+make-returns-in_ok-slot-in-Number-clause-grows t c = rw c.in_ok-slot-in-Number.ensures.code (Grows-append c.args.body.now.code _)
+
+pub make-returns-in_ok-slot-in-Bits-clause-makes : goal.make-returns-in_ok-slot-in-Bits-clause-makes
+make-returns-in_ok-slot-in-Bits-clause-makes t c plan k le fit =
+    let r = c.in-Bits in
+    let fit1 = rw r.is at fit in
+    let inner = (rw c.get.ensures at c.in_ok-from-in-Bits.ensures.makes) plan k le (both _ _ (sym (fits-Bits k r.inner r.o r.l) ∙ fit1)).0 in
+    rw (r.is, c.in_ok-slot-in-Bits.ensures.code, c.in_ok-slot-in-Bits.ensures.slot) (made_bits plan r.inner r.o r.l c.args.body.now c.make.new.body c.in_ok-from-in-Bits.from k fit1 inner)
+
+pub make-returns-in_ok-slot-in-Bits-clause-grows : goal.make-returns-in_ok-slot-in-Bits-clause-grows
+make-returns-in_ok-slot-in-Bits-clause-grows t c =
+    rw c.in_ok-slot-in-Bits.ensures.code (Grows-trans c.args.body.now.code c.make.new.body.code _ c.in_ok-from-in-Bits.ensures.grows (Grows-append c.make.new.body.code _))
+
+pub make-returns-in_ok-slot-in-Address-clause-makes : goal.make-returns-in_ok-slot-in-Address-clause-makes
+make-returns-in_ok-slot-in-Address-clause-makes t c plan k le fit =
+    let r = c.in-Address in
+    let fit1 = rw r.is at fit in
+    let inner = (rw c.get-in-Address.ensures at c.in_ok-from-in-Address.ensures.makes) plan k le (both _ _ (sym (fits-Address k r.inner r.o r.l r.align) ∙ fit1)).0 in
+    rw (r.is, c.in_ok-slot-in-Address.ensures.code, c.in_ok-slot-in-Address.ensures.slot, c.in_ok-unit-in-Address.ensures.code, c.in_ok-unit-in-Address.ensures.slot, c.in_ok-part-in-Address.ensures.code, c.in_ok-part-in-Address.ensures.slot)
+    (made_address plan r.inner r.o r.l r.align c.args.body.now c.make-in-Address.new.body c.in_ok-from-in-Address.from k fit1 c.in_ok-unit-in-Address.ensures.small inner)
+
+pub make-returns-in_ok-slot-in-Address-clause-grows : goal.make-returns-in_ok-slot-in-Address-clause-grows
+make-returns-in_ok-slot-in-Address-clause-grows t c =
+    let b = c.make-in-Address.new.body.code in
+    rw (c.in_ok-slot-in-Address.ensures.code, c.in_ok-unit-in-Address.ensures.code, c.in_ok-part-in-Address.ensures.code)
+    (Grows-trans c.args.body.now.code b _ c.in_ok-from-in-Address.ensures.grows (Grows-trans b _ _ (Grows-append b _) (Grows-trans _ _ _ (Grows-append _ _) (Grows-append _ _))))
+
+pub make-returns-in_ok-slot-in-Loaded-clause-makes : goal.make-returns-in_ok-slot-in-Loaded-clause-makes
+make-returns-in_ok-slot-in-Loaded-clause-makes t c plan k le fit =
+    let r = c.in-Loaded in
+    let fit1 = rw r.is at fit in
+    let inner = (rw c.get-in-Loaded.ensures at c.in_ok-base-in-Loaded.ensures.makes) plan k le (both _ _ (sym (fits-Loaded k r.inner r.byte r.width) ∙ fit1)).0 in
+    rw (r.is, c.in_ok-slot-in-Loaded.ensures.code, c.in_ok-slot-in-Loaded.ensures.slot) (made_loaded plan r.inner r.byte r.width c.args.body.now c.make-in-Loaded.new.body c.in_ok-base-in-Loaded.base k fit1 inner)
+
+pub make-returns-in_ok-slot-in-Loaded-clause-grows : goal.make-returns-in_ok-slot-in-Loaded-clause-grows
+make-returns-in_ok-slot-in-Loaded-clause-grows t c =
+    rw c.in_ok-slot-in-Loaded.ensures.code (Grows-trans c.args.body.now.code c.make-in-Loaded.new.body.code _ c.in_ok-base-in-Loaded.ensures.grows (Grows-append c.make-in-Loaded.new.body.code _))
+
+pub make-returns-in_ok-slot-in-Joined-clause-makes : goal.make-returns-in_ok-slot-in-Joined-clause-makes
+make-returns-in_ok-slot-in-Joined-clause-makes t c = rw (c.in-Joined.is, ← c.as_slice.ensures) c.in_ok-slot-in-Joined.ensures.makes
+
+pub make_share-returns-clause-puts : goal.make_share-returns-clause-puts
+make_share-returns-clause-puts t c plan k le lt fit =
+    let p = c.args.share.now in
+    let inner = c.in_ok-from.ensures.makes plan k (omega (arith, le, lt)) (both _ _ (sym (fits-Share k p) ∙ fit)).0 in
+    rw (c.in_ok-push.ensures.ok, c.in_ok-part.ensures.code, c.in_ok-part.ensures.slot) (put_share plan p c.args.body.now c.make.new.body c.in_ok-from.from k c.args.slot le lt fit inner)
+
+pub make_share-returns-clause-grows : goal.make_share-returns-clause-grows
+make_share-returns-clause-grows t c =
+    let b = c.make.new.body.code in
+    rw (c.in_ok-push.ensures.ok, c.in_ok-part.ensures.code) (Grows-trans c.args.body.now.code b _ c.in_ok-from.ensures.grows (Grows-trans b _ _ (Grows-append b _) (Grows-append _ _)))
+
+pub make_joined-loop-share-init : goal.make_joined-loop-share-init
+make_joined-loop-share-init t c =
+    let e = c.in_ok-slot.ensures in
+    record {
+      joins = λ plan k le fit. rw (e.code, e.slot) (joined_none plan c.args.shares.now c.args.body.now k le fit);
+      grows = rw e.code (Grows-append c.args.body.now.code _);
+    }
+
+pub make_joined-loop-share-preserved : goal.make_joined-loop-share-preserved
+make_joined-loop-share-preserved t c =
+    let shares = c.args.shares.now in
+    let i = c.loop-share.share-index in
+    let p = c.share-item.result in
+    let item : drop i shares ≡ p ∷ drop (i + 1) shares = drop_item shares i p c.loop-share-test.true ∙ ap (λ (q : Share). q ∷ drop (i + 1) shares) (sym c.share-item.is) in
+    let inv = c.loop-share.invariant in
+    record {
+      joins = λ plan k le fit.
+          joined_more plan shares i p c.args.body.now c.loop-share.body c.make_share.new.body c.in_ok-slot.slot k item le fit (inv.joins plan k le fit) c.in_ok-make_share.ensures.puts;
+      grows = Grows-trans c.args.body.now.code c.loop-share.body.code c.make_share.new.body.code inv.grows c.in_ok-make_share.ensures.grows;
+    }
+
+pub make_joined-returns-clause-makes : goal.make_joined-returns-clause-makes
+make_joined-returns-clause-makes t c plan k le fit =
+    let shares = c.args.shares.now in
+    let i = c.loop-share.share-index in
+    let past : length shares ≤ i = omega (arith, c.loop-share-test.false) in
+    joined_all plan shares i c.args.body.now c.loop-share.body c.in_ok-slot.slot (drop_past shares i past) (c.loop-share.invariant.joins plan k le fit)

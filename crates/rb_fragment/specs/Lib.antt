@@ -1,0 +1,12 @@
+pub mod Plan
+pub mod Owing
+pub mod Adding
+pub mod Slots
+pub mod Holding
+pub mod Pieces
+pub mod Fragments
+pub mod Arms
+pub mod Functions
+pub mod Reads
+pub mod Laws
+pub mod inner

@@ -1,0 +1,96 @@
+-- What reads mean, and code that makes them.
+use Rattle.std.specs.Prelude.{◌≡◌, ℕ, ◌+◌, ◌*◌, ◌%◌, ◌^◌, ◌<◌, ◌≤◌, ◌==◌, ◌&&◌, nat_lt, nat_le, List, [], ◌∷◌, Bool, true, Option, Some, None, Result, Ok, Err, slice_index}
+use Rattle.std.specs.List.{list_all}
+use Rattle.rb_core.specs.WellNumbered.{either}
+use Rattle.rb_bits.specs.Words.{take_of, put_of}
+use Rattle.rb_bytes.specs.Memory.{Memory, IsGood, load_of}
+use Rattle.rb_bytes.specs.declared.fault.Trap.{Trap}
+use Rattle.rb_target.specs.Sheet.{Sheet}
+use Rattle.rb_fragment.specs.declared.reads.Read.{Read}
+use Rattle.rb_fragment.specs.declared.reads.Read.TheOpen as R
+use Rattle.rb_fragment.specs.declared.reads.Read.TheOpen.{Read-F}
+use Rattle.rb_fragment.specs.declared.reads.Read.TheFolds.{fold-Read, fold-Share}
+use Rattle.rb_fragment.specs.declared.reads.Share.{Share, Share-F}
+use Rattle.rb_fragment.specs.Plan.{Plan}
+use Rattle.rb_fragment.specs.Adding.{Adds}
+use Rattle.rb_fragment.specs.Pieces.{Straight}
+
+-- Meaning
+
+-- what a number is, where the slots hold these words and the memory is this one; None where a load goes astray
+abbrev pub Reading : Type 0
+Reading = List ℕ → Memory → Option ℕ
+
+abbrev pub where_some : Option ℕ → (ℕ → Option ℕ) → Option ℕ
+where_some None go = None
+where_some (Some w) go = go w
+
+abbrev pub loaded : Result ℕ Trap → Option ℕ
+loaded (Ok w) = Some w
+loaded (Err t) = None
+
+-- a share with its number's meaning
+pub record Meant : Type 0 where
+  pub reading : Reading
+  pub o : ℕ
+  pub l : ℕ
+  pub a : ℕ
+
+-- shares put over a number, one after the other
+abbrev pub joined_over : ℕ → List Meant → Reading
+joined_over n [] s m = Some n
+joined_over n (p ∷ ps) s m = where_some (p.reading s m) (λ w. joined_over (put_of n p.a p.l (take_of w p.o p.l)) ps s m)
+
+abbrev pub mean_step : Read-F Reading Meant → Reading
+mean_step (R.Slot x) s m = Some (slice_index s x)
+mean_step (R.Number c) s m = Some c
+mean_step (R.Bits r o l) s m = where_some (r s m) (λ w. Some (take_of w o l))
+mean_step (R.Address r o l align) s m = where_some (r s m) (λ w. Some (take_of w o l * align % 2 ^ 64))
+mean_step (R.Loaded r byte width) s m = where_some (r s m) (λ base. loaded (load_of m base byte width))
+mean_step (R.Joined shares) s m = joined_over 0 shares s m
+
+abbrev pub share_step : Share-F Reading Meant → Meant
+share_step p = record { reading = p.read; o = p.o; l = p.l; a = p.a }
+
+abbrev pub mean : Read → Reading
+mean = fold-Read Reading Meant mean_step share_step
+
+abbrev pub meant_of : Share → Meant
+meant_of = fold-Share Reading Meant mean_step share_step
+
+-- Fitting
+
+abbrev pub is_range : ℕ → ℕ → Bool
+is_range o l = nat_le 1 l && nat_le (o + l) 64
+
+abbrev pub is_width : ℕ → Bool
+is_width width = either (width == 8) (either (width == 16) (either (width == 32) (width == 64)))
+
+abbrev pub fits_step : ℕ → Read-F Bool Bool → Bool
+fits_step n (R.Slot x) = nat_lt x n
+fits_step n (R.Number c) = true
+fits_step n (R.Bits r o l) = r && is_range o l
+fits_step n (R.Address r o l align) = r && is_range o l
+fits_step n (R.Loaded r byte width) = r && (nat_le byte 511 && is_width width)
+fits_step n (R.Joined shares) = list_all (λ b. b) shares
+
+abbrev pub share_fits : Share-F Bool Bool → Bool
+share_fits p = p.read && (is_range p.o p.l && is_range p.a p.l)
+
+-- the slots are below n, and ranges, offsets and widths are those of instructions
+abbrev pub fits : ℕ → Read → Bool
+fits n = fold-Read Bool Bool (fits_step n) share_fits
+
+abbrev pub fits_share : ℕ → Share → Bool
+fits_share n = fold-Share Bool Bool (fits_step n) share_fits
+
+-- Making
+
+-- the appended code leaves the number in a slot, and keeps all slots that there were
+pub record Makes (plan : Plan) (read : Read) (old new : Sheet) (slot : ℕ) : Type 0 where
+  pub adds : Adds plan old new
+  pub given : slot < new.slots
+  pub runs : (x : ℕ) → Straight plan old.slots old new (λ s m. IsGood m × (mean read s m ≡ Some x)) (λ s m. slice_index s slot ≡ x)
+
+abbrev pub MakesRead : Read → Sheet → Sheet → ℕ → Type 0
+MakesRead read old new slot = (plan : Plan) (k : ℕ) → k ≤ old.slots → fits k read ≡ true → Makes plan read old new slot

@@ -1,0 +1,77 @@
+//! Code that makes reads.
+
+ghost use Rattle.std.specs.Prelude.{◌≡◌, IfOk, OnOk};
+ghost use Rattle.rb_target.specs.Growth.{Grows};
+ghost use Rattle.rb_fragment.specs.declared.reads.Read as reads;
+ghost use Rattle.rb_fragment.specs.Reads.{MakesRead};
+ghost use Rattle.rb_fragment.specs.inner.Shares.{PutsShare};
+
+use crate::emit::{emit_alu, emit_const, emit_load, emit_take};
+use crate::reads::{Read, Share};
+use rb_target::body::Body;
+use rb_target::instr::{AluOp, Instr};
+use std::alloc::AllocError;
+
+/// Makes a read into a slot: one that stands in a slot costs nothing.
+///
+/// # Errors
+/// `AllocError` where memory is wanting.
+#[cycle(making)]
+pub fn make(body: &mut Body, read: &Read) -> Result<usize, AllocError>
+    ensures makes { IfOk result (λ slot. MakesRead read.now body.old body.new slot) }
+    ensures grows { OnOk result (Grows body.old.code body.new.code) }
+{
+    match read {
+        Read::Slot(slot) => Ok(*slot),
+        Read::Number(number) => {
+            let slot = emit_const(body, *number)?;
+            Ok(slot)
+        }
+        Read::Bits(inner, o, l) => {
+            let from = make(body, inner.get())?;
+            let slot = emit_take(body, from, *o, *l)?;
+            Ok(slot)
+        }
+        Read::Address(inner, o, l, align) => {
+            let from = make(body, inner.get())?;
+            let part = emit_take(body, from, *o, *l)?;
+            let unit = emit_const(body, *align)?;
+            let slot = emit_alu(body, AluOp::Mul, 64, part, unit)?;
+            Ok(slot)
+        }
+        Read::Loaded(inner, byte, width) => {
+            let base = make(body, inner.get())?;
+            let slot = emit_load(body, base, *byte, *width)?;
+            Ok(slot)
+        }
+        Read::Joined(shares) => {
+            let slot = make_joined(body, shares.as_slice())?;
+            Ok(slot)
+        }
+    }
+}
+
+// Shares, one after the other, over a zero.
+#[cycle(making)]
+fn make_joined(body: &mut Body, shares: &[Share]) -> Result<usize, AllocError>
+    ensures makes { IfOk result (λ slot. MakesRead (reads.Joined shares.now) body.old body.new slot) }
+    ensures grows { OnOk result (Grows body.old.code body.new.code) }
+{
+    let slot = emit_const(body, 0)?;
+    for share in shares {
+        make_share(body, share, slot)?;
+    }
+    Ok(slot)
+}
+
+// One share, into the slot of the whole.
+#[cycle(making)]
+fn make_share(body: &mut Body, share: &Share, slot: usize) -> Result<(), AllocError>
+    ensures puts { OnOk result (PutsShare share.now slot body.old body.new) }
+    ensures grows { OnOk result (Grows body.old.code body.new.code) }
+{
+    let from = make(body, &share.read)?;
+    let part = emit_take(body, from, share.o, share.l)?;
+    body.push(Instr::Put(slot, part, share.a, share.l))?;
+    Ok(())
+}
