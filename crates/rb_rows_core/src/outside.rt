@@ -1,6 +1,7 @@
-//! What no contract says: that calls succeed with ample memory, and what the system does.
+//! What no contract says of the outside: that calls succeed with ample memory, and what the system does.
+//! What is read back is what was written here.
 
-use crate::{
+use rb_edge::{
     CountLedger, Failed, FileSource, Ledger, MemSink, MemSource, Name, NamedBytes, NoLedger,
     ReadFault, Seq, Sink, Source, StdSink, Steps, Words, read_whole, write_whole,
 };

@@ -1,12 +1,13 @@
-//! A checked memory at the ends of its region and of its blocks.
+//! A checked memory at the ends of its region and of its blocks. The addresses were worked out by hand:
+//! the first block is at 64, and each next one at the least multiple that is free.
 
 ghost use Rattle.std.specs.Prelude.{IsTrue};
 ghost use Rattle.rb_bytes.specs.Memory.{IsWidth};
 
-use crate::checked::CheckedMemory;
-use crate::fault::{Full, Trap};
-use crate::laws::{load_word, place_block, store_word};
-use crate::memory::ByteMemory;
+use rb_bytes::checked::CheckedMemory;
+use rb_bytes::fault::{Full, Trap};
+use rb_bytes::laws::{load_word, place_block, store_word};
+use rb_bytes::memory::ByteMemory;
 
 /// A load as numbers: 0 and the word, or the trap's number and what it names.
 fn told(loaded: Result<u64, Trap>) -> (u64, u64, u64) {

@@ -1,12 +1,13 @@
-//! The RISC-V branch word taken apart and put together, and each call at the word's ends.
+//! The branch word of RISC-V taken apart and put together, as its base instruction set lays it out: the
+//! word is `beq x1, x2, +8`. Then each call at the word's ends, computed by hand.
 
 ghost use Rattle.std.specs.Prelude.{ℕ, ◌≡◌, [], ◌∷◌};
 ghost use Rattle.rb_bits.specs.Words.{IsRange};
 ghost use Rattle.rb_bits.specs.Slices.{AreSlices};
 
-use crate::little_endian::{load_le, store_le};
-use crate::slices::{Slice, gather, scatter};
-use crate::words::{mask, put, take};
+use rb_bits::little_endian::{load_le, store_le};
+use rb_bits::slices::{Slice, gather, scatter};
+use rb_bits::words::{mask, put, take};
 
 /// The offset of a branch, in halves: its bits stand at 8 to 11, 25 to 30, 7 and 31.
 fn branch() -> [Slice; 4]

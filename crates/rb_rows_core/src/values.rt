@@ -1,10 +1,11 @@
-//! Values that no recursion can walk.
+//! Values that no recursion can walk, and copies. What is copied is what was written here.
 
-use crate::matching::matches;
-use crate::pattern::Pat;
-use crate::seq::Seq;
-use crate::types::ConRef;
-use crate::value::Value;
+use rb_core::layout_decl::{Loc, Step};
+use rb_core::matching::matches;
+use rb_core::pattern::Pat;
+use rb_core::seq::Seq;
+use rb_core::types::ConRef;
+use rb_core::value::Value;
 use std::alloc::{AllocError, Global};
 use std::test::Fail;
 
@@ -45,5 +46,31 @@ fn a_million_deep(rt: HostRuntime) -> Result<(), Fail> {
     let pats = Vec::from_array(alloc, [Pat::Var(0, 0), Pat::Num(1, 3)])?;
     assert!(rt; matches(&Pat::Con(2, con, Seq::from_vec(pats)), &copy));
     assert!(rt; !matches(&Pat::Num(0, 7), &copy));
+    Ok(())
+}
+
+#[test]
+fn copies_are_made(rt: HostRuntime) -> Result<(), Fail> {
+    let alloc = rt.alloc();
+    let pat = Pat::Num(3, 7).copy(alloc)?;
+    assert!(rt; matches!(pat, Pat::Num(3, 7)));
+
+    let step = Step {
+        align: 4,
+        byte: 0,
+        width: 8,
+        o: 0,
+        l: 8,
+    };
+    let steps = Seq::from_vec(Vec::from_slice(alloc, &[step])?);
+    let loc = Loc {
+        word: 1,
+        o: 2,
+        l: 3,
+        steps,
+    };
+    let copy = loc.copy(alloc)?;
+    assert!(rt; copy.word == 1 && copy.o == 2 && copy.l == 3);
+    assert!(rt; copy.steps.as_slice() == [step].as_slice());
     Ok(())
 }

@@ -1,4 +1,5 @@
-//! Tables whose answers were worked out by hand, and that each call succeeds with ample memory.
+//! What a list of patterns misses, which of them no value reaches first, and what two have in common.
+//! The answers were worked out by hand, over types written for these rows.
 //!
 //! A pattern is written as one letter or digit for each of its nodes, a node before its subpatterns:
 //! `_`; a digit; the colours R, G and B; L for a leaf and N for a node of a left tree, a colour and a
@@ -6,15 +7,15 @@
 
 ghost use Rattle.std.specs.Prelude.{◌≡◌, ◌<◌, ◌≤◌, ◌∷◌, [], IfOk};
 ghost use Rattle.rb_core.specs.declared.types.Ty.TheVariants as Tys;
-ghost use Rattle.rb_matrix.specs.Examples.{color_decl, tree_decl, pair_decl, six_decl, example_types};
+ghost use Rattle.rb_rows_patterns.specs.Examples.{color_decl, tree_decl, pair_decl, six_decl, example_types};
 
-use crate::{
-    Head, Matrix, MatrixFault, common, default_of_row, default_rows, exhaust, specialize,
-    specialize_row, unreached,
-};
 use rb_core::pattern::Pat;
 use rb_core::seq::Seq;
 use rb_core::types::{Con, ConRef, DataDecl, Ty};
+use rb_matrix::{
+    Head, Matrix, MatrixFault, common, default_of_row, default_rows, exhaust, specialize,
+    specialize_row, unreached,
+};
 use std::alloc::{AllocError, Global};
 use std::test::Fail;
 
