@@ -4,7 +4,6 @@ pub mod Nesting
 pub mod Patching
 pub mod Written
 pub mod Examples
-pub mod Recursion
 pub mod Texts
 pub mod SpelledForms
 pub mod FieldLemmas

@@ -9,6 +9,4 @@ pub mod instr;
 pub mod outcome;
 pub mod read;
 pub mod spell;
-#[cfg(test)]
-mod tests;
 pub mod word;

@@ -1,8 +1,11 @@
-//! Whole texts, and the bytes at which others stop.
+//! Code texts, and the bytes at which others stop. The texts were written by hand from the table of
+//! instructions, with the numbers at their bounds and one beyond; the bytes were counted by hand.
 
-use super::read_code;
-use crate::fault::CodeFault;
-use crate::spell::spell_code;
+use rb_target::code::CodeFun;
+use rb_target::fault::CodeFault;
+use rb_target::instr::Instr;
+use rb_target::read::read_code;
+use rb_target::spell::spell_code;
 use std::alloc::Global;
 use std::test::Fail;
 
@@ -24,8 +27,9 @@ fn returns(alloc: Global, text: &[u8]) -> Result<bool, CodeFault> {
 
 #[test]
 fn spells_back(rt: HostRuntime) -> Result<(), Fail> {
-    let texts: [&[u8]; 5] = [
+    let texts: [&[u8]; 6] = [
         b"",
+        b"fun t 0 0 0\ncall 0 of\nreturn\nend\n",
         b"fun t 0 1 2\nconst 1 1\nplace 0 16 8\nalu add 64 0 0 1\nload 1 0 0 64\nreturn 1\nend\n",
         b"fun t 0 1 2\nplace 0 16 8\nload 1 0 8 64\nreturn 1\nend\n",
         b"fun t 1 1 1\nswitch 0 - 3 1\nreturn 0\nend\n",
@@ -78,5 +82,23 @@ fn stops(rt: HostRuntime) -> Result<(), Fail> {
     for (text, at) in texts {
         assert!(rt; stop(rt.alloc(), text)? == at);
     }
+    Ok(())
+}
+
+// Whether a function is `t`, takes and gives nothing, and calls itself before it returns.
+fn is_endless(fun: &CodeFun) -> bool {
+    fun.name.as_slice() == b"t".as_slice()
+        && (fun.params, fun.results, fun.slots, fun.body.len()) == (0, 0, 0, 2)
+        && matches!(
+            fun.body.get(0),
+            Some(Instr::Call(0, dests, froms)) if dests.is_empty() && froms.is_empty()
+        )
+        && matches!(fun.body.get(1), Some(Instr::Return(froms)) if froms.is_empty())
+}
+
+#[test]
+fn reads_what_stands_there(rt: HostRuntime) -> Result<(), Fail> {
+    let code = read_code(rt.alloc(), b"fun t 0 0 0\ncall 0 of\nreturn\nend\n")?;
+    assert!(rt; matches!(code.funs(), [fun] if is_endless(fun)));
     Ok(())
 }
