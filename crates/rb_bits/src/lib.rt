@@ -10,6 +10,3 @@ pub mod words;
 pub use little_endian::{load_le, store_le};
 pub use slices::{Slice, gather, scatter};
 pub use words::{mask, put, take};
-
-#[cfg(test)]
-mod tests;

@@ -5,5 +5,3 @@ pub mod checked;
 pub mod fault;
 pub mod laws;
 pub mod memory;
-#[cfg(test)]
-mod tests;

@@ -93,6 +93,3 @@ impl Value {
         None
     }
 }
-
-#[cfg(test)]
-mod tests;

@@ -13,8 +13,6 @@ pub mod source;
 pub mod std_sink;
 pub mod steps;
 mod taken;
-#[cfg(test)]
-mod tests;
 pub mod whole;
 pub mod words;
 

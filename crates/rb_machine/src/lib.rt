@@ -6,6 +6,4 @@ mod calls;
 pub mod run;
 mod state;
 mod step;
-#[cfg(test)]
-mod tests;
 mod turn;

@@ -1,4 +1,3 @@
-pub mod Examples
 pub mod Exhaust
 pub mod Heads
 pub mod Problems

@@ -25,6 +25,3 @@ pub use coverage::{MatrixFault, common, exhaust, unreached};
 pub use images::{default_of_row, default_rows, specialize, specialize_row};
 pub use matrix::{Head, Matrix};
 pub use search::find;
-
-#[cfg(test)]
-mod tests;

@@ -11,7 +11,6 @@ pub mod Calling
 pub mod Memories
 pub mod Written
 pub mod Examples
-pub mod Recursion
 pub mod Texts
 pub mod SpelledForms
 pub mod FieldLemmas

@@ -10,6 +10,4 @@ pub mod laws;
 pub mod outcome;
 pub mod read;
 pub mod spell;
-#[cfg(test)]
-mod tests;
 pub mod word;

@@ -16,8 +16,6 @@ mod field;
 mod line;
 mod spot;
 mod step;
-#[cfg(test)]
-mod tests;
 mod text;
 
 use text::read_text;

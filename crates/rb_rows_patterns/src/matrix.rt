@@ -1,0 +1,426 @@
+//! What a list of patterns misses, which of them no value reaches first, and what two have in common.
+//! The answers were worked out by hand, over types written for these rows.
+//!
+//! A pattern is written as one letter or digit for each of its nodes, a node before its subpatterns:
+//! `_`; a digit; the colours R, G and B; L for a leaf and N for a node of a left tree, a colour and a
+//! right tree; P for a pair of a colour and a tree; S for six bits.
+
+ghost use Rattle.std.specs.Prelude.{◌≡◌, ◌<◌, ◌≤◌, ◌∷◌, [], IfOk};
+ghost use Rattle.rb_core.specs.declared.types.Ty.TheVariants as Tys;
+ghost use Rattle.rb_rows_patterns.specs.Examples.{color_decl, tree_decl, pair_decl, six_decl, example_types};
+
+use rb_core::pattern::Pat;
+use rb_core::seq::Seq;
+use rb_core::types::{Con, ConRef, DataDecl, Ty};
+use rb_matrix::{
+    Head, Matrix, MatrixFault, common, default_of_row, default_rows, exhaust, specialize,
+    specialize_row, unreached,
+};
+use std::alloc::{AllocError, Global};
+use std::test::Fail;
+
+fn con(alloc: Global, name: &[u8], fields: &[Ty]) -> Result<Con, AllocError>
+    ensures { IfOk result (λ c. c ≡ record { name = name.now; fields = fields.now }) }
+{
+    Ok(Con {
+        name: Seq::from_vec(Vec::from_slice(alloc, name)?),
+        fields: Seq::from_vec(Vec::from_slice(alloc, fields)?),
+    })
+}
+
+fn color(alloc: Global) -> Result<DataDecl, AllocError>
+    ensures { IfOk result (λ d. d ≡ color_decl) }
+{
+    let mut cons = Seq::new(alloc);
+    cons.push(con(alloc, b"R", &[])?)?;
+    cons.push(con(alloc, b"G", &[])?)?;
+    cons.push(con(alloc, b"B", &[])?)?;
+    let name = Seq::from_vec(Vec::from_slice(alloc, b"C")?);
+    Ok(DataDecl { name, cons })
+}
+
+fn tree(alloc: Global) -> Result<DataDecl, AllocError>
+    ensures { IfOk result (λ d. d ≡ tree_decl) }
+{
+    let fields = [Ty::Named(1), Ty::Named(0), Ty::Named(1)];
+    let mut cons = Seq::new(alloc);
+    cons.push(con(alloc, b"L", &[])?)?;
+    cons.push(con(alloc, b"N", &fields)?)?;
+    let name = Seq::from_vec(Vec::from_slice(alloc, b"T")?);
+    Ok(DataDecl { name, cons })
+}
+
+fn pair(alloc: Global) -> Result<DataDecl, AllocError>
+    ensures { IfOk result (λ d. d ≡ pair_decl) }
+{
+    let fields = [Ty::Named(0), Ty::Named(1)];
+    let mut cons = Seq::new(alloc);
+    cons.push(con(alloc, b"P", &fields)?)?;
+    let name = Seq::from_vec(Vec::from_slice(alloc, b"P")?);
+    Ok(DataDecl { name, cons })
+}
+
+fn six(alloc: Global) -> Result<DataDecl, AllocError>
+    ensures { IfOk result (λ d. d ≡ six_decl) }
+{
+    let bit = Ty::Int(1);
+    let fields = [bit, bit, bit, bit, bit, bit];
+    let mut cons = Seq::new(alloc);
+    cons.push(con(alloc, b"S", &fields)?)?;
+    let name = Seq::from_vec(Vec::from_slice(alloc, b"S")?);
+    Ok(DataDecl { name, cons })
+}
+
+// Colours, trees, pairs and six bits are types 0 to 3.
+fn types(alloc: Global) -> Result<Vec<DataDecl>, AllocError>
+    ensures { IfOk result (λ v. v.items ≡ example_types) }
+{
+    let mut types = Vec::new(alloc);
+    types.push(color(alloc)?)?;
+    types.push(tree(alloc)?)?;
+    types.push(pair(alloc)?)?;
+    types.push(six(alloc)?)?;
+    Ok(types)
+}
+
+// Takes so many patterns off a list that holds the next one at its end.
+fn taken(alloc: Global, pats: &mut Vec<Pat>, count: usize) -> Result<Seq<Pat>, AllocError> {
+    let mut taken = Seq::new(alloc);
+    for _i in 0..count {
+        taken.push(pats.pop().unwrap_or(Pat::Wild(0)))?;
+    }
+    Ok(taken)
+}
+
+// A letter's constructor, and how many subpatterns it has.
+fn letter(byte: u8) -> Option<(u32, u32, usize)> {
+    match byte {
+        b'R' => Some((0, 0, 0)),
+        b'G' => Some((0, 1, 0)),
+        b'B' => Some((0, 2, 0)),
+        b'L' => Some((1, 0, 0)),
+        b'N' => Some((1, 1, 3)),
+        b'P' => Some((2, 0, 2)),
+        b'S' => Some((3, 0, 6)),
+        _ => None,
+    }
+}
+
+// A wildcard, a variable or a digit.
+fn plain(byte: u8) -> Pat {
+    match byte {
+        b'_' => Pat::Wild(0),
+        b'x' => Pat::Var(0, 0),
+        digit => Pat::Num(0, u64::from(digit & 15)),
+    }
+}
+
+// The patterns that a text spells.
+fn row(alloc: Global, text: &[u8]) -> Result<Seq<Pat>, AllocError> {
+    let mut pats = Vec::new(alloc);
+    for byte in text.iter().rev() {
+        let Some((ty, con, fields)) = letter(*byte) else {
+            pats.push(plain(*byte))?;
+            continue;
+        };
+        let subs = taken(alloc, &mut pats, fields)?;
+        pats.push(Pat::Con(0, ConRef { ty, con }, subs))?;
+    }
+    let count = pats.len();
+    taken(alloc, &mut pats, count)
+}
+
+fn letter_of(con: ConRef) -> u8 {
+    match (con.ty, con.con) {
+        (0, 0) => b'R',
+        (0, 1) => b'G',
+        (0, _) => b'B',
+        (1, 0) => b'L',
+        (1, _) => b'N',
+        (2, _) => b'P',
+        _ => b'S',
+    }
+}
+
+// The text of patterns, one behind another.
+fn spell(out: &mut Vec<u8>, pats: &[Pat]) -> Result<(), AllocError> {
+    for pat in pats {
+        match pat {
+            Pat::Wild(_) => out.push(b'_')?,
+            Pat::Var(_, _) => out.push(b'x')?,
+            Pat::Num(_, number) => out.push(b'0' + (*number & 15) as u8)?,
+            Pat::Con(_, con, subs) => {
+                out.push(letter_of(*con))?;
+                spell(out, subs.as_slice())?;
+            }
+        }
+    }
+    Ok(())
+}
+
+fn text(alloc: Global, pat: &Pat) -> Result<Vec<u8>, AllocError> {
+    let mut pats = Seq::new(alloc);
+    pats.push(pat.copy(alloc)?)?;
+    let mut out = Vec::new(alloc);
+    spell(&mut out, pats.as_slice())?;
+    Ok(out)
+}
+
+// One pattern for each text.
+fn patterns(alloc: Global, texts: &[&[u8]]) -> Result<Vec<Pat>, AllocError> {
+    let mut pats = Vec::new(alloc);
+    for text in texts {
+        let mut one = row(alloc, text)?;
+        pats.push(one.pop().unwrap_or(Pat::Wild(0)))?;
+    }
+    Ok(pats)
+}
+
+// What is missing among patterns of a type, as text; nothing where they are exhaustive.
+fn missing(alloc: Global, ty: u32, pats: &[Pat]) -> Result<Vec<u8>, AllocError>
+    requires { ty < 4 }
+{
+    let types = types(alloc)?;
+    match exhaust(alloc, types.as_slice(), Ty::Named(ty), pats) {
+        Ok(()) => Ok(Vec::new(alloc)),
+        Err(MatrixFault::Missing(pat)) => text(alloc, &pat),
+        Err(MatrixFault::Memory) => Err(AllocError),
+    }
+}
+
+fn never_reached(alloc: Global, ty: u32, pats: &[Pat]) -> Result<Vec<usize>, AllocError>
+    requires { ty < 4 }
+{
+    let types = types(alloc)?;
+    unreached(alloc, types.as_slice(), Ty::Named(ty), pats)
+}
+
+// What two patterns share, as text; nothing where they share no value.
+fn shared(alloc: Global, ty: u32, one: &Pat, other: &Pat) -> Result<Vec<u8>, AllocError>
+    requires { ty < 4 }
+{
+    let types = types(alloc)?;
+    match common(alloc, types.as_slice(), Ty::Named(ty), one, other)? {
+        None => Ok(Vec::new(alloc)),
+        Some(pat) => text(alloc, &pat),
+    }
+}
+
+// The least number that is missing among literals of an integer type; None where none is.
+fn missing_number(alloc: Global, bits: u8, pats: &[Pat]) -> Result<Option<u64>, AllocError>
+    requires some { 1 ≤ bits }
+    requires word { bits ≤ 64 }
+{
+    match exhaust(alloc, &[], Ty::Int(bits), pats) {
+        Ok(()) => Ok(None),
+        Err(MatrixFault::Missing(Pat::Num(_, number))) => Ok(Some(number)),
+        Err(_) => Err(AllocError),
+    }
+}
+
+#[test]
+fn what_is_missing(rt: HostRuntime) -> Result<(), Fail> {
+    let alloc = rt.alloc();
+    // type, patterns, what is missing
+    let cases: [(u32, &[&[u8]], &[u8]); 10] = [
+        (0, &[b"R", b"G"], b"B"),
+        (0, &[b"R", b"G", b"B"], b""),
+        (0, &[b"B", b"x"], b""),
+        (0, &[], b"_"),
+        (1, &[b"N___"], b"L"),
+        (1, &[b"L", b"NLxL"], b"NN_____"),
+        (
+            2,
+            &[b"PR_", b"P_L", b"P_N_G_", b"P_N_B_", b"P_NLR_"],
+            b"PGNN___R_",
+        ),
+        (2, &[b"PR_", b"PG_", b"PBL", b"PBNxxx"], b""),
+        (3, &[b"S0_____", b"S_0____", b"S1_1___"], b"S110___"),
+        (3, &[b"S0_____", b"S1____x"], b""),
+    ];
+    for (ty, texts, want) in cases {
+        let pats = patterns(alloc, texts)?;
+        if ty < 4 {
+            assert!(rt;
+                missing(alloc, ty, pats.as_slice())?.as_slice() == want,
+                "at {want:?}"
+            );
+        }
+    }
+    Ok(())
+}
+
+// So many literals from 0 on.
+fn literals(alloc: Global, count: u64) -> Result<Vec<Pat>, AllocError> {
+    let mut pats = Vec::new(alloc);
+    for number in 0..count {
+        pats.push(Pat::Num(0, number))?;
+    }
+    Ok(pats)
+}
+
+#[test]
+fn numbers_of_all_widths(rt: HostRuntime) -> Result<(), Fail> {
+    // width, how many literals, the least that is missing
+    for (bits, count, want) in [
+        (8, 255, Some(255)),
+        (8, 256, None),
+        (9, 256, Some(256)),
+        (1, 1, Some(1)),
+        (1, 2, None),
+        (64, 3, Some(3)),
+    ] {
+        let pats = literals(rt.alloc(), count)?;
+        let found = missing_number(rt.alloc(), bits, pats.as_slice())?;
+        assert!(rt; found == want, "at {bits}");
+    }
+    Ok(())
+}
+
+#[test]
+fn what_is_never_reached(rt: HostRuntime) -> Result<(), Fail> {
+    let alloc = rt.alloc();
+    // type, patterns, those that are the first match of no value
+    let cases: [(u32, &[&[u8]], &[usize]); 6] = [
+        (0, &[b"_", b"R"], &[1]),
+        (0, &[b"R", b"R", b"G", b"B", b"x"], &[1, 4]),
+        (1, &[b"L", b"N___", b"NLRL"], &[2]),
+        (
+            2,
+            &[b"PR_", b"P_L", b"PRN___", b"P_N_R_", b"P__", b"_"],
+            &[2, 5],
+        ),
+        (2, &[b"PRL", b"PGL", b"PBL", b"P_L", b"P_N___"], &[3]),
+        (
+            3,
+            &[b"S0_____", b"S_0____", b"S00____", b"S11____", b"S1_____"],
+            &[2, 4],
+        ),
+    ];
+    for (ty, texts, want) in cases {
+        let pats = patterns(alloc, texts)?;
+        if ty < 4 {
+            let found = never_reached(alloc, ty, pats.as_slice())?;
+            assert!(rt; found.as_slice() == want, "at {want:?}");
+        }
+    }
+    Ok(())
+}
+
+#[test]
+fn what_two_patterns_share(rt: HostRuntime) -> Result<(), Fail> {
+    let alloc = rt.alloc();
+    // type, two patterns, what they share
+    let cases: [(u32, &[u8], &[u8], &[u8]); 5] = [
+        (0, b"R", b"x", b"R"),
+        (0, b"R", b"G", b""),
+        (2, b"PR_", b"P_L", b"PRL"),
+        (2, b"PR_", b"PG_", b""),
+        (2, b"P_NLR_", b"P_N_RNLBL", b"P_NLRNLBL"),
+    ];
+    for (ty, one, other, want) in cases {
+        let pats = patterns(alloc, &[one, other])?;
+        if ty < 4 && pats.len() == 2 {
+            let found = shared(alloc, ty, &pats[0], &pats[1])?;
+            assert!(rt; found.as_slice() == want, "at {want:?}");
+        }
+    }
+    Ok(())
+}
+
+// The first so many patterns of six bits, all told apart.
+fn table(alloc: Global, count: u64) -> Result<Vec<Pat>, AllocError> {
+    let mut pats = Vec::new(alloc);
+    for number in 0..count {
+        let mut subs = Seq::new(alloc);
+        for place in [32, 16, 8, 4, 2, 1] {
+            subs.push(Pat::Num(0, number / place & 1))?;
+        }
+        pats.push(Pat::Con(0, ConRef { ty: 3, con: 0 }, subs))?;
+    }
+    Ok(pats)
+}
+
+#[test]
+fn forty_rows(rt: HostRuntime) -> Result<(), Fail> {
+    let pats = table(rt.alloc(), 40)?;
+    assert!(rt; missing(rt.alloc(), 3, pats.as_slice())?.as_slice() == b"S11____".as_slice());
+    assert!(rt; never_reached(rt.alloc(), 3, pats.as_slice())?.is_empty());
+    let pats = table(rt.alloc(), 64)?;
+    assert!(rt; missing(rt.alloc(), 3, pats.as_slice())?.is_empty());
+    Ok(())
+}
+
+// A tree whose ways are all this long.
+fn full_tree(alloc: Global, levels: u32) -> Result<Pat, AllocError> {
+    let mut tree = Pat::Con(0, ConRef { ty: 1, con: 0 }, Seq::new(alloc));
+    for _level in 0..levels {
+        let mut subs = Seq::new(alloc);
+        subs.push(tree.copy(alloc)?)?;
+        subs.push(Pat::Wild(0))?;
+        subs.push(tree)?;
+        tree = Pat::Con(0, ConRef { ty: 1, con: 1 }, subs);
+    }
+    Ok(tree)
+}
+
+#[test]
+fn a_thousand_nodes(rt: HostRuntime) -> Result<(), Fail> {
+    let tree = full_tree(rt.alloc(), 9)?;
+    let want = text(rt.alloc(), &tree)?;
+    let found = shared(rt.alloc(), 1, &tree, &tree)?;
+    assert!(rt; found.as_slice() == want.as_slice());
+    Ok(())
+}
+
+// The rows of a matrix as text, each behind a blank.
+fn rows_text(alloc: Global, matrix: &Matrix) -> Result<Vec<u8>, AllocError> {
+    let mut out = Vec::new(alloc);
+    for row in matrix.rows.as_slice() {
+        out.push(b' ')?;
+        spell(&mut out, row.as_slice())?;
+    }
+    Ok(out)
+}
+
+// Rows of a tree and a colour.
+fn two_columns(alloc: Global) -> Result<Matrix, AllocError>
+    ensures { IfOk result (λ m. m.tys ≡ Tys.Named 1 ∷ Tys.Named 0 ∷ []) }
+{
+    let mut rows = Seq::new(alloc);
+    for text in [b"N_RLR".as_slice(), b"LG", b"xB", b"__"] {
+        rows.push(row(alloc, text)?)?;
+    }
+    let tys = [Ty::Named(1), Ty::Named(0)];
+    Ok(Matrix {
+        tys: Seq::from_vec(Vec::from_slice(alloc, &tys)?),
+        rows,
+    })
+}
+
+fn at_nodes(alloc: Global) -> Result<Matrix, AllocError> {
+    let types = types(alloc)?;
+    let node = Head::Con(ConRef { ty: 1, con: 1 });
+    let matrix = two_columns(alloc)?;
+    specialize(alloc, types.as_slice(), &matrix, &node)
+}
+
+#[test]
+fn one_column_less(rt: HostRuntime) -> Result<(), Fail> {
+    let inner = at_nodes(rt.alloc())?;
+    assert_eq!(rt; inner.tys.len(), 4);
+    assert!(rt; rows_text(rt.alloc(), &inner)?.as_slice() == b" _RLR ___B ____".as_slice());
+    let rest = default_rows(rt.alloc(), &two_columns(rt.alloc())?)?;
+    assert_eq!(rt; rest.tys.len(), 1);
+    assert!(rt; rows_text(rt.alloc(), &rest)?.as_slice() == b" B _".as_slice());
+    Ok(())
+}
+
+#[test]
+fn single_rows(rt: HostRuntime) -> Result<(), Fail> {
+    let three = [Pat::Num(0, 3)];
+    assert!(rt; specialize_row(rt.alloc(), Head::Num(3), 0, &three)?.is_some());
+    assert!(rt; specialize_row(rt.alloc(), Head::Num(4), 0, &three)?.is_none());
+    assert!(rt; default_of_row(rt.alloc(), &three)?.is_none());
+    Ok(())
+}
