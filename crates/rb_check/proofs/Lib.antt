@@ -5,7 +5,6 @@ pub mod EmptinessLemmas
 pub mod ExpressionLemmas
 pub mod PatternLemmas
 pub mod ProgramLemmas
-pub mod SampleLemmas
 pub mod SiteLemmas
 pub mod SiteTypes
 pub mod WidthLemmas

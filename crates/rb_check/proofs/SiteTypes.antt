@@ -1,6 +1,6 @@
 -- The matches of a well numbered program: each scrutinee has a type of the program, and each match has
 -- fewer clauses than 32 bits number.
-use Rattle.std.proofs.Common.{◌≡◌, ℕ, zero, suc, ◌<◌, ◌^◌, List, [], ◌∷◌, ◌++◌, map, length, Bool, true, false, ◌&&◌, ◌==◌, Option, Some, None, refl, sym, ap, ◌∙◌, subst, arith}
+use Rattle.std.proofs.Common.{◌≡◌, ℕ, zero, suc, ◌<◌, ◌^◌, List, [], ◌∷◌, ◌++◌, map, length, Bool, true, false, ◌&&◌, ◌==◌, Option, Some, None, refl, sym, ap, ◌∙◌, subst}
 use Rattle.std.specs.Prelude.{slice_get, nat_lt, nat_le, unwrap_or, if◌then◌else◌, is_some}
 use Rattle.std.specs.List.{list_all, flat_map}
 use Rattle.std.proofs.lemmas.Bool.{lt-ltb, ltb-true}
@@ -26,10 +26,10 @@ use Rattle.rb_core.specs.declared.expression.Expr.TheOpen as E
 use Rattle.rb_core.specs.declared.expression.Expr.TheOpen.{Expr-F}
 use Rattle.rb_core.specs.declared.expression.Expr.TheFolds.{fold-Clause, fold-roll-Expr, fold_out-Clause}
 use Rattle.rb_core.specs.Values.{fields_in, fields_of_con}
-use Rattle.rb_core.specs.Typing.{binder_of, bound_type, field_types, integer_wanted, operand_wanted, operator_type, result_of, result_type}
+use Rattle.rb_core.specs.Typing.{binder_of, bound_type, field_types, operand_wanted, operator_type, result_of, result_type}
 use Rattle.rb_core.specs.Inference.{all_binders, binders, first_clause_type, inferred_type, clause_inferred, with_binder}
 use Rattle.rb_core.specs.Coverage.{branch_sites, function_sites, part_sites, sites, sites_of}
-use Rattle.rb_core.specs.WellNumbered.{Within, clause_step, expression_is_numbered, expression_step, function_is_numbered, is_constructor, is_lower, is_type, param_is_numbered, vars_of, IsWellNumbered}
+use Rattle.rb_core.specs.WellNumbered.{Within, clause_step, expression_is_numbered, expression_step, function_is_numbered, is_constructor, is_lower, is_type, param_is_numbered, vars_of}
 use Rattle.rb_core.specs.TypedPrograms.{IsTyped}
 use Rattle.rb_core.proofs.PatternLaws as PL
 use Rattle.rb_core.proofs.ExpressionLaws as EL
@@ -38,7 +38,7 @@ use Rattle.rb_core.proofs.InferenceAgreement.{binders-Wild, binders-Var, binders
 use Rattle.rb_core.proofs.InferenceForms.{clause_inferred-is, inferred-Num, inferred-Var, inferred-Call, inferred-Build, inferred-Binary, inferred-To, inferred-Let, inferred-Match}
 use Rattle.rb_matrix.specs.Search.{AreInhabited, AreTypesIn, IsTypeIn}
 use Rattle.rb_matrix.proofs.Inhabited.{con-types}
-use Rattle.rb_check.specs.Covering.{AreNumberedSites, IsNumberedSite}
+use Rattle.rb_check.specs.Covering.{AreNumberedSites}
 
 both : (a b : Bool) → (a && b) ≡ true → (a ≡ true) × (b ≡ true)
 both true b e = (refl, e)

@@ -1,5 +1,3 @@
 pub mod Answers
 pub mod Covering
 pub mod Emptiness
-pub mod Fixtures
-pub mod Samples

@@ -11,16 +11,12 @@ ghost use Rattle.rb_core.specs.declared.typing.TypeFault.TheVariants.{Memory};
 ghost use Rattle.rb_core.specs.TypedPrograms.{IsFirstFault, IsTyped};
 ghost use Rattle.rb_core.specs.WellNumbered.{IsWellNumbered};
 
-#[cfg(test)]
-mod cover_tests;
 mod coverage;
 mod emptiness;
 mod expression;
 mod pattern;
 mod program;
 mod sites;
-#[cfg(test)]
-mod tests;
 mod types;
 
 pub use crate::coverage::{CoverFault, cover};

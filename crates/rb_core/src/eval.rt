@@ -23,9 +23,6 @@ use crate::typing::Binder;
 use crate::value::Value;
 use std::alloc::{AllocError, Global};
 
-#[cfg(test)]
-mod tests;
-
 /// What a call of a function does, with so many calls left. It stands for tests: it nests as deep as
 /// the program's calls and expressions do.
 pub fn eval(

@@ -3,9 +3,6 @@
 
 ghost use Rattle.rb_sound.specs.Soundness.{TypedRunsEndTyped};
 
-#[cfg(test)]
-mod tests;
-
 /// Where a typed program with exhaustive matches is done, its value is of the result type.
 pub fn typed_runs_end_typed()
     ensures { TypedRunsEndTyped }

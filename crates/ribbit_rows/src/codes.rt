@@ -1,18 +1,10 @@
-//! Rows of the command `exec`, with their answers worked out outside the program.
+//! Rows of the command `exec`. The answers were worked out from the table of instructions, outside the
+//! program.
 
-use crate::tests::call;
+use crate::call::{call, lines};
 use std::alloc::{AllocError, Global};
 use std::process::Abort;
 use std::test::Fail;
-
-/// A text in which each `;` ends a line.
-pub fn lines(alloc: Global, row: &str) -> Result<Vec<u8>, AllocError> {
-    let mut text = Vec::new(alloc);
-    for byte in row.as_bytes() {
-        text.push(if *byte == b';' { b'\n' } else { *byte })?;
-    }
-    Ok(text)
-}
 
 /// What `exec` answers to the words behind it: its status, its steps, and what it wrote.
 fn answer(alloc: Global, code: &str, words: &str) -> Result<Vec<u8>, AllocError> {

@@ -1,34 +1,9 @@
-//! Rows of files, with their answers worked out from the language's pages.
+//! Rows of files, with their answers worked out from the language's pages, and the bytes counted by
+//! hand.
 
-use crate::exec_tests::lines;
-use crate::tests::call;
+use crate::call::{call, expect_answer, repeated};
 use std::alloc::{AllocError, Global};
-use std::process::Abort;
 use std::test::Fail;
-
-/// What these words answer to a file: the status, and what was written.
-fn answer(alloc: Global, words: &str, file: &[u8]) -> Result<Vec<u8>, AllocError> {
-    let did = call(alloc, words, file, &[], &[])?;
-    let status = did.status;
-    let mut answer = Vec::from_slice(alloc, format!(in alloc; "{status} ")?.as_bytes())?;
-    answer.extend_from_slice(did.out.as_slice())?;
-    answer.extend_from_slice(did.err.as_slice())?;
-    Ok(answer)
-}
-
-/// Checks that a file has this answer, in which each `;` ends a line.
-fn expect_answer(
-    rt: &impl Abort,
-    alloc: Global,
-    words: &str,
-    file: &[u8],
-    wanted: &str,
-) -> Result<(), Fail> {
-    let wanted = lines(alloc, wanted)?;
-    let answer = answer(alloc, words, file)?;
-    assert_eq!(rt; answer.as_slice(), wanted.as_slice());
-    Ok(())
-}
 
 /// Files that are refused, each with its answer to every command.
 const REFUSED: &str = "~2 ribbit: no function main;\n\
@@ -177,22 +152,6 @@ fn words_and_bytes(rt: HostRuntime) -> Result<(), Fail> {
     expect_answer(&rt, alloc, "check E", blanks.as_slice(), wanted)
 }
 
-/// A text, so many times another, and a text.
-fn repeated(
-    alloc: Global,
-    before: &str,
-    part: &str,
-    times: usize,
-    behind: &str,
-) -> Result<Vec<u8>, AllocError> {
-    let mut text = Vec::from_slice(alloc, before.as_bytes())?;
-    for _ in 0..times {
-        text.extend_from_slice(part.as_bytes())?;
-    }
-    text.extend_from_slice(behind.as_bytes())?;
-    Ok(text)
-}
-
 /// `main` with so many conversions round its body, and so many `)` behind.
 fn nested(alloc: Global, times: usize, body: &str, closed: usize) -> Result<Vec<u8>, AllocError> {
     let mut text = repeated(alloc, "fun main(x: u8): u8 = ", "to u8(", times, body)?;
@@ -294,33 +253,4 @@ fn limits_of_items(rt: HostRuntime) -> Result<(), Fail> {
     let text = repeated(alloc, "layout T <8", ", 8", 8, "> = A : { word 8 { } };")?;
     let wanted = "11 ribbit: limit shape words: 9 over 8;";
     expect_answer(&rt, alloc, "check E", text.as_slice(), wanted)
-}
-
-/// A match on `u8` with so many of its numbers.
-fn literals(alloc: Global, times: usize) -> Result<Vec<u8>, AllocError> {
-    let mut text = Vec::from_slice(alloc, b"fun main(x: u8): u8 = match x { 0 => 0")?;
-    for i in 1..times {
-        let clause = format!(in alloc; ", {i} => 0")?;
-        text.extend_from_slice(clause.as_bytes())?;
-    }
-    text.extend_from_slice(b" };")?;
-    Ok(text)
-}
-
-#[test]
-fn literals_of_a_byte(rt: HostRuntime) -> Result<(), Fail> {
-    let alloc = rt.alloc();
-    let all = literals(alloc, 256)?;
-    expect_answer(&rt, alloc, "check E", all.as_slice(), "0 ok;")?;
-    let most = literals(alloc, 255)?;
-    let wanted = "2 ribbit: match at byte 22 misses 255;";
-    expect_answer(&rt, alloc, "check E", most.as_slice(), wanted)?;
-    let did = call(alloc, "check E", literals(alloc, 1)?.as_slice(), &[], &[])?;
-    assert_eq!(rt; did.status, 2);
-    assert!(rt;
-        did.err
-            .as_slice()
-            .starts_with(b"ribbit: match at byte 22 misses ")
-    );
-    Ok(())
 }

@@ -1,0 +1,102 @@
+//! Calls of the program, with a file in memory, and its answers as text.
+
+use rb_edge::{CountLedger, MemSink, MemSource, NamedBytes, Seq, Steps, Words};
+use ribbit_tool::top::ribbit;
+use std::alloc::{AllocError, Global};
+use std::process::Abort;
+use std::test::Fail;
+
+/// What a call of `ribbit` did.
+#[derive(Drop)]
+pub struct Did {
+    pub status: u8,
+    pub out: Vec<u8>,
+    pub err: Vec<u8>,
+    pub steps: u128,
+}
+
+fn list<T: Copy>(alloc: Global, items: &[T]) -> Result<Seq<T>, AllocError> {
+    Ok(Seq::from_vec(Vec::from_slice(alloc, items)?))
+}
+
+/// Calls `ribbit` on words with blanks between them. The source gives ten bytes a read, the output takes
+/// one a write, and the calls of these numbers fail.
+pub fn call(
+    alloc: Global,
+    words: &str,
+    file: &[u8],
+    source_fails: &[u64],
+    output_fails: &[u64],
+) -> Result<Did, AllocError> {
+    let mut files = Seq::new(alloc);
+    files.push(NamedBytes {
+        name: list(alloc, b"E")?,
+        bytes: list(alloc, file)?,
+    })?;
+    let mut src = MemSource::new(files, 10, list(alloc, source_fails)?);
+    let mut out = MemSink::new(alloc, 1000, 1, list(alloc, output_fails)?)?;
+    let mut err = MemSink::new(alloc, 1000, 7, Seq::new(alloc))?;
+    let mut given = Words::new(alloc);
+    for word in words.split(' ') {
+        if !word.is_empty() {
+            given.push(word.as_bytes())?;
+        }
+    }
+    let mut steps = Steps::new(CountLedger { count: 0 });
+    let status = ribbit(alloc, &given, &mut src, &mut out, &mut err, &mut steps);
+    Ok(Did {
+        status,
+        out: Vec::from_slice(alloc, out.bytes())?,
+        err: Vec::from_slice(alloc, err.bytes())?,
+        steps: steps.ledger().count,
+    })
+}
+
+/// A text in which each `;` ends a line.
+pub fn lines(alloc: Global, row: &str) -> Result<Vec<u8>, AllocError> {
+    let mut text = Vec::new(alloc);
+    for byte in row.as_bytes() {
+        text.push(if *byte == b';' { b'\n' } else { *byte })?;
+    }
+    Ok(text)
+}
+
+/// What these words answer to a file: the status, and what was written.
+fn answer(alloc: Global, words: &str, file: &[u8]) -> Result<Vec<u8>, AllocError> {
+    let did = call(alloc, words, file, &[], &[])?;
+    let status = did.status;
+    let mut answer = Vec::from_slice(alloc, format!(in alloc; "{status} ")?.as_bytes())?;
+    answer.extend_from_slice(did.out.as_slice())?;
+    answer.extend_from_slice(did.err.as_slice())?;
+    Ok(answer)
+}
+
+/// Checks that a file has this answer, in which each `;` ends a line.
+pub fn expect_answer(
+    rt: &impl Abort,
+    alloc: Global,
+    words: &str,
+    file: &[u8],
+    wanted: &str,
+) -> Result<(), Fail> {
+    let wanted = lines(alloc, wanted)?;
+    let answer = answer(alloc, words, file)?;
+    assert_eq!(rt; answer.as_slice(), wanted.as_slice());
+    Ok(())
+}
+
+/// A text, so many times another, and a text.
+pub fn repeated(
+    alloc: Global,
+    before: &str,
+    part: &str,
+    times: usize,
+    behind: &str,
+) -> Result<Vec<u8>, AllocError> {
+    let mut text = Vec::from_slice(alloc, before.as_bytes())?;
+    for _ in 0..times {
+        text.extend_from_slice(part.as_bytes())?;
+    }
+    text.extend_from_slice(behind.as_bytes())?;
+    Ok(text)
+}
