@@ -1,6 +1,7 @@
 pub mod Examples
 pub mod Exhaust
 pub mod Heads
+pub mod Open
 pub mod Problems
 pub mod Rows
 pub mod Search
