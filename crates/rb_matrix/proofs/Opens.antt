@@ -1,5 +1,5 @@
 -- A row without a head matches every vector of its length.
-use Rattle.std.proofs.Common.{◌≡◌, ℕ, suc, List, [], ◌∷◌, length, Bool, true, false, ◌&&◌, ◌||◌, ◌==◌, not, refl, sym, ap, ◌∙◌, arith, ◌⊎◌, inl, inr}
+use Rattle.std.proofs.Common.{◌≡◌, ℕ, List, [], ◌∷◌, length, Bool, true, false, ◌&&◌, ◌||◌, ◌==◌, not, refl, sym, ap, ◌∙◌, arith, ◌⊎◌, inl, inr}
 use Rattle.std.proofs.Math.Bool.{and-false}
 use Rattle.std.proofs.lemmas.Bool.{eqb-true, false≢true}
 use Rattle.rb_core.specs.declared.value.Value.{Value}
@@ -8,7 +8,6 @@ use Rattle.rb_core.specs.declared.types.Ty.{Ty}
 use Rattle.rb_core.specs.declared.pattern.Pat.{Pat, out-Pat}
 use Rattle.rb_core.specs.declared.pattern.Pat.TheOpen as P
 use Rattle.rb_core.specs.declared.pattern.Pat.TheOpen.{Pat-F}
-use Rattle.rb_core.specs.Matching.{matches_of}
 use Rattle.rb_matrix.specs.declared.problem.Problem.{Problem}
 use Rattle.rb_matrix.specs.Open.{layer_open, is_open, any_open}
 use Rattle.rb_matrix.specs.Rows.{row_matches, any_row, all_rows, vector_of}

@@ -2,9 +2,10 @@
 //! match and no unwanted one. It is Maranget's test of usefulness, with a witness.
 //!
 //! What is left of a search stands in a list, not on the stack, so that it takes no deeper stack on
-//! wider or longer patterns. Time and memory grow as in Maranget's algorithm: exponentially in the
-//! number of columns at worst, where rows take turns in telling columns apart, and about with the
-//! product of rows and heads for tables as one writes them.
+//! wider or longer patterns. An unwanted row without a head ends its branch, so rows that each look at
+//! one column take a time that grows with their number. Time and memory grow as in Maranget's
+//! algorithm: exponentially in the number of columns at worst, where rows that look at several columns
+//! take turns, and about with the product of rows and heads for tables as one writes them.
 
 ghost use Rattle.std.specs.Prelude.{◌≡◌, IfOk, []};
 ghost use Rattle.rb_matrix.specs.Rows.{row_matches, any_row, all_rows};
