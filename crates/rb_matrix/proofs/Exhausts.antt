@@ -1,10 +1,10 @@
 -- What a search in one column says of the patterns.
-use Rattle.std.proofs.Common.{◌≡◌, ℕ, zero, suc, List, [], ◌∷◌, ◌++◌, length, take, Bool, true, false, ◌&&◌, ◌||◌, not, Option, Some, None, refl, sym, ap, ◌∙◌, arith, subst}
-use Rattle.std.specs.Prelude.{slice_get, IsSome, if◌then◌else◌}
+use Rattle.std.proofs.Common.{◌≡◌, ℕ, zero, suc, ◌+◌, List, [], ◌∷◌, ◌++◌, length, take, Bool, true, false, ◌&&◌, ◌||◌, not, Option, Some, None, refl, sym, ap, ◌∙◌, arith, subst, add-one}
+use Rattle.std.specs.Prelude.{slice_get, is_some, IsSome, if◌then◌else◌}
 use Rattle.std.proofs.Math.Bool.{and-true}
 use Rattle.std.proofs.lemmas.Bool.{false≢true}
 use Rattle.std.proofs.lemmas.List.{length-append}
-use Rattle.std.proofs.lemmas.Option.{slice_get_within}
+use Rattle.std.proofs.lemmas.Option.{slice_get_within, same_Some}
 use Rattle.rb_core.specs.declared.value.Value.{Value}
 use Rattle.rb_core.specs.declared.types.DataDecl.{DataDecl}
 use Rattle.rb_core.specs.declared.types.Ty.{Ty}
@@ -13,7 +13,7 @@ use Rattle.rb_core.specs.Matching.{matches_of, next_clause, chosen_clause, IsExh
 use Rattle.rb_core.specs.Values.{is_of_type}
 use Rattle.rb_matrix.specs.Rows.{row_matches, any_row, all_rows}
 use Rattle.rb_matrix.specs.Search.{is_plain, sought, IsFound, IsNowhere, IsAnswer}
-use Rattle.rb_matrix.specs.Exhaust.{one_each, any_matches, IsMissing, IsReached, both_match, IsCommon}
+use Rattle.rb_matrix.specs.Exhaust.{one_each, any_matches, IsMissing, IsReached, IsReachAnswer, IsOneAnswer, both_match, IsCommon}
 use Rattle.rb_matrix.proofs.Laws.{or-false-left, or-false-right}
 use Rattle.rb_matrix.proofs.Vectors.{and-left, and-right, plain-length}
 
@@ -175,6 +175,10 @@ module _ (types : List DataDecl) (ty : Ty) where
       chosen = first-chosen ps i p v.0 at (and-left (matches_of p v.0) (not (any_matches (take i ps) v.0)) h) (not-true _ (and-right (matches_of p v.0) (not (any_matches (take i ps) v.0)) h));
     }
 
+    pub reach-answer : (found : Option Pat) → IsOneAnswer types ty W U found → IsReachAnswer types ty ps i (is_some found)
+    reach-answer None h = never-first h
+    reach-answer (Some q) r = is-reached q r
+
   -- Two wanted patterns ----------------------------------------------------------------------------
 
   module _ (p q : Pat) where
@@ -200,3 +204,13 @@ module _ (types : List DataDecl) (ty : Ty) where
       matched = v.2;
       all = λ w of m. sym (as-both w) ∙ each P [] r f w of m;
     }
+
+-- Rows of one pattern, one more at a time --------------------------------------------------------
+
+one_each-suc : (ps : List Pat) (i : ℕ) (p : Pat) → slice_get ps i ≡ Some p → one_each (take (suc i) ps) ≡ one_each (take i ps) ++ (p ∷ []) ∷ []
+one_each-suc [] i p at = cc
+one_each-suc (q ∷ ps) zero p at = ap (λ r. (r ∷ []) ∷ []) (same_Some q p at)
+one_each-suc (q ∷ ps) (suc i) p at = ap (λ rows. (q ∷ []) ∷ rows) (one_each-suc ps i p at)
+
+pub one_each-more : (ps : List Pat) (i : ℕ) (p : Pat) → slice_get ps i ≡ Some p → one_each (take (i + 1) ps) ≡ one_each (take i ps) ++ (p ∷ []) ∷ []
+one_each-more ps i p at = ap (λ k. one_each (take k ps)) (add-one i) ∙ one_each-suc ps i p at

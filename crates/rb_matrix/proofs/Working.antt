@@ -31,7 +31,7 @@ empty-unwanted types [] wanted unwanted lt e [] = ap (λ b. all_rows wanted [] &
 empty-unwanted types [] wanted unwanted lt e (v ∷ vs) = refl
 empty-unwanted types (t ∷ ts) wanted unwanted lt e vs = absurd (omega (arith, lt))
 
-no-parts : (types : List DataDecl) (p : Problem) (cs : List Problem) → cs ≡ [] → NoneIn types p → IsSplit types p cs
+pub no-parts : (types : List DataDecl) (p : Problem) (cs : List Problem) → cs ≡ [] → NoneIn types p → IsSplit types p cs
 no-parts types p cs e none = subst (IsSplit types p) (sym e) (record { none = λ all. none; parts = tt; fewer = none-fewer types p })
 
 pub lost-wanted : (types : List DataDecl) (p : Problem) (cs : List Problem) → cs ≡ [] → length p.tys < 1 → all_rows p.wanted [] ≡ false → IsSplit types p cs

@@ -1,5 +1,6 @@
 pub mod Exhaust
 pub mod Heads
+pub mod Open
 pub mod Problems
 pub mod Rows
 pub mod Search

@@ -1,16 +1,18 @@
 //! Whether patterns match every value of a type, which of them are the first match of none, and
 //! whether two of them have a value in common.
 
-ghost use Rattle.std.specs.Prelude.{◌≡◌, ◌<◌, ◌∷◌, ◌++◌, [], IfOk, length};
+ghost use Rattle.std.specs.Prelude.{◌≡◌, ◌<◌, ◌∷◌, ◌++◌, [], IfOk, OnOk, length, take};
 ghost use Rattle.rb_matrix.specs.declared.coverage.MatrixFault.TheVariants as MatrixFaults;
 ghost use Rattle.rb_matrix.specs.Exhaust.{IsExhaustAnswer, IsReachAnswer, AreUnreached, IsCommonAnswer, IsOneAnswer, one_each};
 ghost use Rattle.rb_matrix.specs.Search.{AreInhabited, IsTypeIn};
 
-use crate::search::find;
+use crate::problem::Problem;
+use crate::search::find_in;
 use rb_core::pattern::Pat;
 use rb_core::seq::Seq;
 use rb_core::types::{DataDecl, Ty};
 use std::alloc::{AllocError, Global};
+use std::mem;
 
 /// Why patterns are not exhaustive.
 #[derive(Debug, Drop, thiserror::Error)]
@@ -69,20 +71,30 @@ fn rows_of(alloc: Global, pats: &[Pat]) -> Result<Seq<Seq<Pat>>, AllocError>
     Ok(rows)
 }
 
-// A search in one column.
+// A search in one column. The unwanted rows stand in it meanwhile, so that none is copied.
 fn find_one(
     alloc: Global,
     types: &[DataDecl],
     ty: Ty,
-    wanted: &[Seq<Pat>],
-    unwanted: &[Seq<Pat>],
+    wanted: Seq<Seq<Pat>>,
+    unwanted: &mut Seq<Seq<Pat>>,
 ) -> Result<Option<Pat>, AllocError>
     requires inhabited { AreInhabited types.now }
     requires ty { IsTypeIn types.now ty }
-    ensures { IfOk result (λ r. IsOneAnswer types.now ty wanted.now unwanted.now r) }
+    ensures answer { IfOk result (λ r. IsOneAnswer types.now ty wanted unwanted.old r) }
+    ensures same { OnOk result (unwanted.new ≡ unwanted.old) }
 {
-    let tys = [ty];
-    match find(alloc, types, &tys, wanted, unwanted)? {
+    let mut tys = Seq::new(alloc);
+    tys.push(ty)?;
+    let root = Problem {
+        tys,
+        wanted,
+        unwanted: mem::replace(unwanted, Seq::new(alloc)),
+        steps: Seq::new(alloc),
+    };
+    let found = find_in(alloc, types, &root)?;
+    *unwanted = root.unwanted;
+    match found {
         None => Ok(None),
         Some(mut row) => match row.pop() {
             Some(pat) => Ok(Some(pat)),
@@ -99,32 +111,32 @@ pub fn exhaust(alloc: Global, types: &[DataDecl], ty: Ty, rows: &[Pat]) -> Resul
     requires ty { IsTypeIn types.now ty }
     ensures { IsExhaustAnswer types.now ty rows.now result }
 {
-    let unwanted = rows_of(alloc, rows)?;
-    match find_one(alloc, types, ty, &[], unwanted.as_slice())? {
+    let mut unwanted = rows_of(alloc, rows)?;
+    match find_one(alloc, types, ty, Seq::new(alloc), &mut unwanted)? {
         None => Ok(()),
         Some(pat) => Err(MatrixFault::Missing(pat)),
     }
 }
 
-// Whether a pattern is the first match of some value.
+// Whether a pattern is the first match of some value. The rows are those of the patterns before it.
 fn is_reached(
     alloc: Global,
     types: &[DataDecl],
     ty: Ty,
-    rows: &[Pat],
+    pats: &[Pat],
     i: usize,
+    before: &mut Seq<Seq<Pat>>,
 ) -> Result<bool, AllocError>
     requires inhabited { AreInhabited types.now }
     requires ty { IsTypeIn types.now ty }
-    requires within { i < length rows.now }
-    ensures { IfOk result (λ b. IsReachAnswer types.now ty rows.now i b) }
+    requires within { i < length pats.now }
+    requires before { before.old ≡ one_each (take i pats.now) }
+    ensures reached { IfOk result (λ b. IsReachAnswer types.now ty pats.now i b) }
+    ensures same { OnOk result (before.new ≡ before.old) }
 {
-    let wanted = one_row(alloc, &rows[i])?;
-    let unwanted = rows_of(alloc, &rows[..i])?;
-    match find_one(alloc, types, ty, wanted.as_slice(), unwanted.as_slice())? {
-        None => Ok(false),
-        Some(_) => Ok(true),
-    }
+    let wanted = one_row(alloc, &pats[i])?;
+    let found = find_one(alloc, types, ty, wanted, before)?;
+    Ok(found.is_some())
 }
 
 /// The numbers, ascending, of the patterns that are the first match of no value of the type.
@@ -139,8 +151,12 @@ pub fn unreached(
     ensures { IfOk result (λ v. AreUnreached types.now ty rows.now v.items) }
 {
     let mut numbers = Vec::new(alloc);
+    let mut before = Seq::new(alloc);
     for i in 0..rows.len() {
-        if is_reached(alloc, types, ty, rows, i)? {
+        let reached = is_reached(alloc, types, ty, rows, i, &mut before)?;
+        let row = row_of(alloc, &rows[i])?;
+        before.push(row)?;
+        if reached {
             continue;
         }
         numbers.push(i)?;
@@ -162,7 +178,7 @@ pub fn common(
     ensures { IfOk result (λ r. IsCommonAnswer types.now ty one.now other.now r) }
 {
     let wanted = two_rows(alloc, one, other)?;
-    match find_one(alloc, types, ty, wanted.as_slice(), &[])? {
+    match find_one(alloc, types, ty, wanted, &mut Seq::new(alloc))? {
         None => Ok(None),
         Some(pat) => Ok(Some(pat)),
     }

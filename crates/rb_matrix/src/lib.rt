@@ -16,6 +16,7 @@ pub mod coverage;
 pub mod heads;
 pub mod images;
 pub mod matrix;
+mod open;
 mod part;
 mod problem;
 pub mod search;

@@ -2,15 +2,17 @@
 //! match and no unwanted one. It is Maranget's test of usefulness, with a witness.
 //!
 //! What is left of a search stands in a list, not on the stack, so that it takes no deeper stack on
-//! wider or longer patterns. Time and memory grow as in Maranget's algorithm: exponentially in the
-//! number of columns at worst, where rows take turns in telling columns apart, and about with the
-//! product of rows and heads for tables as one writes them.
+//! wider or longer patterns. An unwanted row without a head ends its branch, so rows that each look at
+//! one column take a time that grows with their number. Time and memory grow as in Maranget's
+//! algorithm: exponentially in the number of columns at worst, where rows that look at several columns
+//! take turns, and about with the product of rows and heads for tables as one writes them.
 
 ghost use Rattle.std.specs.Prelude.{◌≡◌, IfOk, []};
 ghost use Rattle.rb_matrix.specs.Rows.{row_matches, any_row, all_rows};
 ghost use Rattle.rb_matrix.specs.Search.{AreInhabited, AreTypesIn, IsAnswer};
 ghost use Rattle.rb_matrix.specs.Problems.{IsOutcome};
 
+use crate::open::some_is_open;
 use crate::part::parts_of;
 use crate::problem::{Outcome, Problem};
 use crate::witness::witness;
@@ -77,7 +79,7 @@ fn root(
     })
 }
 
-// Where no column is left, the rows decide.
+// Where no column is left, the rows decide. Else nothing is left where an unwanted row has no head.
 fn step(alloc: Global, types: &[DataDecl], problem: &Problem) -> Result<Outcome, AllocError>
     requires inhabited { AreInhabited types.now }
     requires live { AreTypesIn types.now problem.now.tys }
@@ -94,10 +96,42 @@ fn step(alloc: Global, types: &[DataDecl], problem: &Problem) -> Result<Outcome,
             Ok(Outcome::Solved)
         }
         [ty, rest @ ..] => {
+            if some_is_open(problem.unwanted.as_slice(), problem.tys.len()) {
+                return Ok(Outcome::Split(Vec::new(alloc)));
+            }
             let parts = parts_of(alloc, types, *ty, rest, problem)?;
             Ok(Outcome::Split(parts))
         }
     }
+}
+
+/// A row of patterns that has a vector of the root's types, and all of whose vectors all wanted rows
+/// match and no unwanted one; None where there is no such vector. The patterns are numbers,
+/// constructors and wildcards.
+pub fn find_in(
+    alloc: Global,
+    types: &[DataDecl],
+    root: &Problem,
+) -> Result<Option<Seq<Pat>>, AllocError>
+    requires inhabited { AreInhabited types.now }
+    requires live { AreTypesIn types.now root.now.tys }
+    requires root { root.now.steps ≡ [] }
+    ensures { IfOk result (λ r. IsAnswer types.now root.now.tys root.now.wanted root.now.unwanted r) }
+{
+    let mut work = match step(alloc, types, root)? {
+        Outcome::Solved => return Ok(Some(Seq::new(alloc))),
+        Outcome::Split(parts) => parts,
+    };
+    while let Some(problem) = work.pop() {
+        match step(alloc, types, &problem)? {
+            Outcome::Solved => {
+                let row = witness(alloc, problem.steps)?;
+                return Ok(Some(row));
+            }
+            Outcome::Split(mut parts) => work.append(&mut parts)?,
+        }
+    }
+    Ok(None)
 }
 
 /// A row of patterns that has a vector of these types, and all of whose vectors all wanted rows match
@@ -114,16 +148,6 @@ pub fn find(
     requires live { AreTypesIn types.now tys.now }
     ensures { IfOk result (λ r. IsAnswer types.now tys.now wanted.now unwanted.now r) }
 {
-    let mut work = Vec::new(alloc);
-    work.push(root(alloc, tys, wanted, unwanted)?)?;
-    while let Some(problem) = work.pop() {
-        match step(alloc, types, &problem)? {
-            Outcome::Solved => {
-                let row = witness(alloc, problem.steps)?;
-                return Ok(Some(row));
-            }
-            Outcome::Split(mut parts) => work.append(&mut parts)?,
-        }
-    }
-    Ok(None)
+    let root = root(alloc, tys, wanted, unwanted)?;
+    find_in(alloc, types, &root)
 }

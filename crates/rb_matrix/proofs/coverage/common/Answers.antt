@@ -1,20 +1,20 @@
-use Rattle.std.proofs.Common.{[], ◌∷◌, ◌∙◌, subst}
+use Rattle.std.proofs.Common.{[], ◌∷◌, subst}
 use Rattle.rb_matrix.specs.Exhaust.{IsOneAnswer}
 use Rattle.rb_matrix.proofs.Exhausts.{none-common, is-common}
 use Rattle.rb_matrix.proofs.coverage.common.Goals as goal
 
 pub returns-in-None : goal.returns-in-None
 returns-in-None c =
-    let rows = c.as_slice.ensures ∙ c.in_ok-wanted.ensures in
     let both = (c.args.one.now ∷ []) ∷ (c.args.other.now ∷ []) ∷ [] in
     none-common c.args.types.now c.args.ty c.args.one.now c.args.other.now
     (subst (IsOneAnswer c.args.types.now c.args.ty both []) c.in-None.is
-    (subst (λ l. IsOneAnswer c.args.types.now c.args.ty l [] c.in_ok-find_one.field-0) rows c.in_ok-find_one.ensures))
+    (subst (λ l. IsOneAnswer c.args.types.now c.args.ty both l c.in_ok-find_one.field-0) c.new.ensures
+    (subst (λ l. IsOneAnswer c.args.types.now c.args.ty l c.new.result c.in_ok-find_one.field-0) c.in_ok-wanted.ensures c.in_ok-find_one.ensures.answer)))
 
 pub returns : goal.returns
 returns c =
-    let rows = c.as_slice.ensures ∙ c.in_ok-wanted.ensures in
     let both = (c.args.one.now ∷ []) ∷ (c.args.other.now ∷ []) ∷ [] in
     is-common c.args.types.now c.args.ty c.args.one.now c.args.other.now c.in-Some.pat
     (subst (IsOneAnswer c.args.types.now c.args.ty both []) c.in-Some.is
-    (subst (λ l. IsOneAnswer c.args.types.now c.args.ty l [] c.in_ok-find_one.field-0) rows c.in_ok-find_one.ensures))
+    (subst (λ l. IsOneAnswer c.args.types.now c.args.ty both l c.in_ok-find_one.field-0) c.new.ensures
+    (subst (λ l. IsOneAnswer c.args.types.now c.args.ty l c.new.result c.in_ok-find_one.field-0) c.in_ok-wanted.ensures c.in_ok-find_one.ensures.answer)))

@@ -1,18 +1,18 @@
-use Rattle.std.proofs.Common.{[], ◌∙◌, subst}
+use Rattle.std.proofs.Common.{[], subst}
 use Rattle.rb_matrix.specs.Exhaust.{IsOneAnswer, one_each}
 use Rattle.rb_matrix.proofs.Exhausts.{all-chosen, is-missing}
 use Rattle.rb_matrix.proofs.coverage.exhaust.Goals as goal
 
 pub returns-in-None : goal.returns-in-None
 returns-in-None c =
-    let rows = c.as_slice.ensures ∙ c.in_ok-unwanted.ensures in
     all-chosen c.args.types.now c.args.ty c.args.rows.now
     (subst (IsOneAnswer c.args.types.now c.args.ty [] (one_each c.args.rows.now)) c.in-None.is
-    (subst (λ l. IsOneAnswer c.args.types.now c.args.ty [] l c.in_ok-find_one.field-0) rows c.in_ok-find_one.ensures))
+    (subst (λ l. IsOneAnswer c.args.types.now c.args.ty [] l c.in_ok-find_one.field-0) c.in_ok-unwanted.ensures
+    (subst (λ l. IsOneAnswer c.args.types.now c.args.ty l c.in_ok-unwanted.unwanted c.in_ok-find_one.field-0) c.new.ensures c.in_ok-find_one.ensures.answer)))
 
 pub returns : goal.returns
 returns c =
-    let rows = c.as_slice.ensures ∙ c.in_ok-unwanted.ensures in
     is-missing c.args.types.now c.args.ty c.args.rows.now c.in-Some.pat
     (subst (IsOneAnswer c.args.types.now c.args.ty [] (one_each c.args.rows.now)) c.in-Some.is
-    (subst (λ l. IsOneAnswer c.args.types.now c.args.ty [] l c.in_ok-find_one.field-0) rows c.in_ok-find_one.ensures))
+    (subst (λ l. IsOneAnswer c.args.types.now c.args.ty [] l c.in_ok-find_one.field-0) c.in_ok-unwanted.ensures
+    (subst (λ l. IsOneAnswer c.args.types.now c.args.ty l c.in_ok-unwanted.unwanted c.in_ok-find_one.field-0) c.new.ensures c.in_ok-find_one.ensures.answer)))

@@ -1,14 +1,29 @@
-use Rattle.std.proofs.Common.{subst}
-use Rattle.rb_matrix.specs.Exhaust.{IsReachAnswer}
+use Rattle.std.proofs.Common.{◌≡◌, [], ◌∷◌, ◌++◌, take, Some, refl, sym, ap, ◌∙◌, subst, arith}
+use Rattle.std.specs.Prelude.{slice_get}
+use Rattle.std.proofs.lemmas.Option.{slice_get_read}
+use Rattle.rb_matrix.specs.Exhaust.{IsReachAnswer, one_each}
+use Rattle.rb_matrix.proofs.Exhausts.{one_each-more}
 use Rattle.rb_matrix.proofs.Reaches.{reached-more, unreached-more}
 use Rattle.rb_matrix.proofs.coverage.unreached.Goals as goal
 
-pub loop-i-preserved-then-branch : goal.loop-i-preserved-then-branch
-loop-i-preserved-then-branch c =
-    reached-more c.args.types.now c.args.ty c.args.rows.now c.loop-i.i c.loop-i.numbers.items c.loop-i.invariant
-    (subst (IsReachAnswer c.args.types.now c.args.ty c.args.rows.now c.loop-i.i) c.if-branch.true c.in_ok-is_reached.ensures)
+pub loop-i-preserved-then-reached : goal.loop-i-preserved-then-reached
+loop-i-preserved-then-reached c =
+    let rows = c.args.rows.now in let i = c.loop-i.i in let p = c.index-rows-i.result in
+    let at : slice_get rows i ≡ Some p = slice_get_read rows _ i p refl (omega arith) c.index-rows-i.is in
+    record {
+      unreached = reached-more c.args.types.now c.args.ty rows i c.loop-i.numbers.items c.loop-i.invariant.unreached
+          (subst (IsReachAnswer c.args.types.now c.args.ty rows i) c.if-reached.true c.in_ok-reached.ensures.reached);
+      before = c.in_ok-push.ensures.ok ∙ ap (λ l. l ++ c.in_ok-row.row ∷ []) (c.in_ok-reached.ensures.same ∙ c.loop-i.invariant.before)
+          ∙ ap (λ r. one_each (take i rows) ++ r ∷ []) c.in_ok-row.ensures ∙ sym (one_each-more rows i p at);
+    }
 
 pub loop-i-preserved : goal.loop-i-preserved
 loop-i-preserved c =
-    unreached-more c.args.types.now c.args.ty c.args.rows.now c.loop-i.i c.loop-i.numbers.items c.loop-i.invariant _ c.in_ok-push.ensures.items
-    (subst (IsReachAnswer c.args.types.now c.args.ty c.args.rows.now c.loop-i.i) c.if-branch.false c.in_ok-is_reached.ensures)
+    let rows = c.args.rows.now in let i = c.loop-i.i in let p = c.index-rows-i.result in
+    let at : slice_get rows i ≡ Some p = slice_get_read rows _ i p refl (omega arith) c.index-rows-i.is in
+    record {
+      unreached = unreached-more c.args.types.now c.args.ty rows i c.loop-i.numbers.items c.loop-i.invariant.unreached _ c.in_ok-push-2.ensures.items
+          (subst (IsReachAnswer c.args.types.now c.args.ty rows i) c.if-reached.false c.in_ok-reached.ensures.reached);
+      before = c.in_ok-push.ensures.ok ∙ ap (λ l. l ++ c.in_ok-row.row ∷ []) (c.in_ok-reached.ensures.same ∙ c.loop-i.invariant.before)
+          ∙ ap (λ r. one_each (take i rows) ++ r ∷ []) c.in_ok-row.ensures ∙ sym (one_each-more rows i p at);
+    }
