@@ -1,5 +1,6 @@
 pub mod Building
 pub mod Covering
+pub mod Decided
 pub mod HeadOrder
 pub mod NodeKeys
 pub mod Moving

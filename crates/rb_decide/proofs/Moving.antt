@@ -58,3 +58,12 @@ split-at-item xs i x lt is = grind (arith, common_steps)
 
 pub drop-past : {A : Type 0} (xs : List A) (i : ℕ) → length xs ≤ i → drop i xs ≡ []
 drop-past xs i le = grind (arith, common_steps)
+
+pub front-split : {A : Type 0} (i : ℕ) (xs : List A) (x : A) → i < length xs → x ≡ get_or xs i x → to_front i xs ≡ (x ∷ take i xs) ++ drop (i + 1) xs
+front-split i xs x lt is = front-there i xs x lt ∙ ap (λ y. y ∷ (take i xs ++ drop (suc i) xs)) (sym is) ∙ ap (λ k. x ∷ (take i xs ++ drop k xs)) (next i)
+  where
+    next : (i : ℕ) → suc i ≡ i + 1
+    next i = omega arith
+
+pub take-next : {A : Type 0} (xs : List A) (i : ℕ) (x : A) → i < length xs → x ≡ get_or xs i x → take (i + 1) xs ≡ take i xs ++ x ∷ []
+take-next xs i x lt is = grind (arith, common_steps)

@@ -4,16 +4,11 @@ use Rattle.rb_matrix.specs.Heads.{row_head}
 use Rattle.rb_decide.specs.ClauseMatrices.{column_heads}
 use Rattle.rb_decide.specs.inner.Building.{with_head}
 use Rattle.rb_decide.proofs.Moving.{split-at-item, drop-past}
-use Rattle.std.proofs.lemmas.Grind.{common_steps}
-use Rattle.std.proofs.Common.{arith}
 use Rattle.rb_decide.proofs.HeadOrder.{beyond, beyond-none, one-more}
-use Rattle.rb_decide.proofs.Taking.{match-takes}
-use Rattle.rb_decide.proofs.Positions.{match-once, match-heads}
-use Rattle.rb_decide.proofs.Building.{all-done}
-use Rattle.rb_decide.proofs.Unfolding.{nodes-differ}
-use Rattle.rb_decide.proofs.NodeKeys.{found-added}
-use Rattle.rb_decide.proofs.Covering.{covered}
 use Rattle.rb_decide.proofs.heads.heads_of_column.Goals as goal
+
+pub loop-row-init : goal.loop-row-init
+loop-row-init c = ap (λ l. l ++ beyond l (column_heads c.args.rows.now)) c.new-heads.ensures.items ∙ beyond-none (column_heads c.args.rows.now)
 
 pub loop-row-preserved : goal.loop-row-preserved
 loop-row-preserved c =
