@@ -76,52 +76,52 @@ module _ (types : List DataDecl) (layouts : List Layout) (m : Memory) (t k : ℕ
         placed = image_is (words_at wss) (address addresses) ws m leaf ok;
       }) (λ i o e. (of_one (λ (x : Open). (part_at (Con k vs) x.path ≡ Some (field_at vs x.path)) × Represents types layouts m true x.ty (field_at vs x.path) (words_at wss x.path)) os fields i o (open_is i o e)).1)
 
-abbrev part : ℕ → ℕ → Kind → Part
+abbrev pub part : ℕ → ℕ → Kind → Part
 part o l kind = record { o = o; l = l; kind = kind }
 
-abbrev word : ℕ → List Part → FlatWord
+abbrev pub word : ℕ → List Part → FlatWord
 word width parts = record { width = width; parts = parts }
 
-abbrev con : ℕ → ℕ → List Pat → Pat
+abbrev pub con : ℕ → ℕ → List Pat → Pat
 con t k ps = Q.Con 0 (record { ty = t; con = k }) ps
 
-abbrev any : Pat
+abbrev pub any : Pat
 any = Q.Wild 0
 
 abbrev open_at : ℕ → Ty → Open
 open_at i ty = record { path = i ∷ []; ty = ty }
 
-abbrev bit0 : Loc
+abbrev pub bit0 : Loc
 bit0 = record { word = 0; o = 0; l = 1; steps = [] }
 
 -- the bytes of a word
-abbrev byte8 : ℕ → List (Option ℕ)
+abbrev pub byte8 : ℕ → List (Option ℕ)
 byte8 n = Some n ∷ Some 0 ∷ Some 0 ∷ Some 0 ∷ Some 0 ∷ Some 0 ∷ Some 0 ∷ Some 0 ∷ []
 
-abbrev byte4 : ℕ → List (Option ℕ)
+abbrev pub byte4 : ℕ → List (Option ℕ)
 byte4 n = Some n ∷ Some 0 ∷ Some 0 ∷ Some 0 ∷ []
 
-abbrev low : List (Option ℕ)
+abbrev pub low : List (Option ℕ)
 low = replicate {A = Option ℕ} 64 None
 
 -- A list whose tag is the low bit of its pointer ------------------------------------------------
 --
 -- type List = Nil | Cons(u64, List);
 
-abbrev list : List DataDecl
+abbrev pub list : List DataDecl
 list = record { name = []; cons = record { name = []; fields = [] } ∷ record { name = []; fields = Int 64 ∷ Named 0 ∷ [] } ∷ [] } ∷ []
 
-abbrev nil_leaf : Leaf
+abbrev pub nil_leaf : Leaf
 nil_leaf = record { prov = con 0 0 []; root = word 64 (part 0 1 (Const 1) ∷ []) ∷ []; blocks = [] }
 
-abbrev cons_leaf : Leaf
+abbrev pub cons_leaf : Leaf
 cons_leaf = record {
   prov = con 0 1 (any ∷ any ∷ []);
   root = word 64 (part 0 1 (Const 0) ∷ part 3 61 (Pointer 8 0) ∷ []) ∷ [];
   blocks = record { align = 8; words = word 64 (part 0 64 (Bits (0 ∷ []) 0) ∷ []) ∷ word 64 (part 0 64 (Word (1 ∷ []) 0) ∷ []) ∷ [] } ∷ [];
 }
 
-abbrev list_layout : Layout
+abbrev pub list_layout : Layout
 list_layout = record {
   ty = 0;
   shape = 64 ∷ [];
@@ -129,20 +129,20 @@ list_layout = record {
   leaves = nil_leaf ∷ cons_leaf ∷ [];
 }
 
-abbrev lists : List Layout
+abbrev pub lists : List Layout
 lists = list_layout ∷ []
 
-abbrev nil : Value
+abbrev pub nil : Value
 nil = Con 0 []
 
-abbrev two : Value
+abbrev pub two : Value
 two = Con 1 (Num 2 ∷ nil ∷ [])
 
-abbrev one_two : Value
+abbrev pub one_two : Value
 one_two = Con 1 (Num 1 ∷ two ∷ [])
 
 -- block 64 16 02000000000000000100000000000000, block 80 16 01000000000000004000000000000000
-abbrev list_image : Memory
+abbrev pub list_image : Memory
 list_image = record { limit = 1024; next = 96; blocks = (64, 16) ∷ (80, 16) ∷ []; bytes = low ++ (byte8 2 ++ (byte8 1 ++ (byte8 1 ++ byte8 64))) }
 
 list_placed : lay 1024 64 (requests_of lists (making_of list one_two (Named 0))) ≡ Fits ((64, 16) ∷ (80, 16) ∷ []) 96
@@ -166,18 +166,18 @@ list_shown = shown list lists list_image 0 1 (Num 1 ∷ two ∷ []) list_layout 
 --
 -- type Color = Red | Black; type Tree = Empty | Node(Color, Tree, u32, Tree);
 
-abbrev tree : List DataDecl
+abbrev pub tree : List DataDecl
 tree = record { name = []; cons = record { name = []; fields = [] } ∷ record { name = []; fields = [] } ∷ [] }
     ∷ record { name = []; cons = record { name = []; fields = [] } ∷ record { name = []; fields = Named 0 ∷ Named 1 ∷ Int 32 ∷ Named 1 ∷ [] } ∷ [] }
     ∷ []
 
-abbrev red_leaf : Leaf
+abbrev pub red_leaf : Leaf
 red_leaf = record { prov = con 0 0 []; root = word 1 (part 0 1 (Const 0) ∷ []) ∷ []; blocks = [] }
 
-abbrev black_leaf : Leaf
+abbrev pub black_leaf : Leaf
 black_leaf = record { prov = con 0 1 []; root = word 1 (part 0 1 (Const 1) ∷ []) ∷ []; blocks = [] }
 
-abbrev color_layout : Layout
+abbrev pub color_layout : Layout
 color_layout = record {
   ty = 0;
   shape = 1 ∷ [];
@@ -185,10 +185,10 @@ color_layout = record {
   leaves = red_leaf ∷ black_leaf ∷ [];
 }
 
-abbrev empty_leaf : Leaf
+abbrev pub empty_leaf : Leaf
 empty_leaf = record { prov = con 1 0 []; root = word 32 (part 0 32 (Const 0) ∷ []) ∷ []; blocks = [] }
 
-abbrev node_leaf : Leaf
+abbrev pub node_leaf : Leaf
 node_leaf = record {
   prov = con 1 1 (any ∷ any ∷ any ∷ any ∷ []);
   root = word 32 (part 0 1 (Word (0 ∷ []) 0) ∷ part 2 22 (Pointer 4 0) ∷ []) ∷ [];
@@ -198,7 +198,7 @@ node_leaf = record {
   } ∷ [];
 }
 
-abbrev tree_layout : Layout
+abbrev pub tree_layout : Layout
 tree_layout = record {
   ty = 1;
   shape = 32 ∷ [];
@@ -206,13 +206,13 @@ tree_layout = record {
   leaves = empty_leaf ∷ node_leaf ∷ [];
 }
 
-abbrev trees : List Layout
+abbrev pub trees : List Layout
 trees = color_layout ∷ tree_layout ∷ []
 
 abbrev node : Value → Value → ℕ → Value → Value
 node c l x r = Con 1 (c ∷ l ∷ Num x ∷ r ∷ [])
 
-abbrev red : Value
+abbrev pub red : Value
 red = Con 0 []
 
 abbrev black : Value
@@ -225,7 +225,7 @@ abbrev node_opens : List Open
 node_opens = open_at 0 (Named 0) ∷ open_at 1 (Named 1) ∷ open_at 2 (Int 32) ∷ open_at 3 (Named 1) ∷ []
 
 -- block 64 12 070000000000000000000000, block 76 12 090000000000000000000000, block 88 12 07000000000000004c000000
-abbrev tree_image : Memory
+abbrev pub tree_image : Memory
 tree_image = record {
   limit = 100;
   next = 100;

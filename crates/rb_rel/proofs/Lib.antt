@@ -2,6 +2,7 @@ pub mod Agreeing
 pub mod Barred
 pub mod Bits
 pub mod Clean
+pub mod Counterexamples
 pub mod Counting
 pub mod Declared
 pub mod Examples
