@@ -1,0 +1,108 @@
+//! The memory over raw bytes, and the marks that say where its blocks are.
+
+ghost use Rattle.std.specs.Prelude.{◌≡◌, ℕ, ◌≤◌, IfOk, false};
+ghost use Rattle.rb_bytes.specs.Memory.{IsGood, empty_memory};
+
+use crate::bytes::RawBytes;
+use rb_bytes::fault::{Full, Trap};
+use rb_bytes::memory::ByteMemory;
+use std::alloc::{AllocError, Global};
+use std::marker::Model;
+
+/// The mark of a block's first byte.
+const FIRST: u8 = 1;
+/// The mark of a block's last byte.
+const LAST: u8 = 2;
+
+/// A region that trusts each access. All of its memory is taken when it is made: one allocation for
+/// its bytes, which is never initialised, and one for its marks.
+#[derive(Drop)]
+pub struct RawMemory {
+    bytes: RawBytes,
+    /// By address: whether a block begins or ends there.
+    marks: Vec<u8>,
+    blocks: u64,
+    next: u64,
+    limit: u64,
+}
+
+impl Model for RawMemory {
+    ghost use Rattle.rb_bytes.specs.Memory.{Memory};
+
+    ghost Value = { Memory };
+
+    ghost use Rattle.rb_raw.specs.Marks.{memory_of, IsKept};
+
+    ghost view = { memory_of };
+
+    ghost invariant = { IsKept };
+}
+
+impl RawMemory {
+    /// An empty region that ends at the limit, which is from 64 to 16,777,216.
+    ///
+    /// # Errors
+    ///
+    /// `AllocError` for want of memory.
+    pub fn new(alloc: Global, limit: u64) -> Result<RawMemory, AllocError>
+        requires { (64 ≤ limit) × (limit ≤ 16777216) }
+        ensures value { IfOk result (λ m. m ≡ empty_memory limit) }
+        ensures good { IfOk result (λ m. IsGood m) }
+    {
+        let marks = Vec::from_elem(alloc, 0, limit as usize)?;
+        let bytes = RawBytes::new(alloc, marks.as_slice())?;
+        Ok(RawMemory {
+            bytes,
+            marks,
+            blocks: 0,
+            next: 64,
+            limit,
+        })
+    }
+}
+
+impl ByteMemory for RawMemory {
+    ghost CHECKS = { false };
+
+    const CHECKS: bool = false;
+
+    ghost memory = { λ m. m };
+
+    fn limit(&self) -> u64 {
+        self.limit
+    }
+
+    fn next(&self) -> u64 {
+        self.next
+    }
+
+    fn blocks(&self) -> u64 {
+        self.blocks
+    }
+
+    fn place(&mut self, size: u64, align: u64) -> Result<u64, Full> {
+        let at = (self.next + (align - 1)) / align * align;
+        if at + size > self.limit {
+            return Err(Full {
+                next: self.next,
+                size,
+                align,
+                limit: self.limit,
+            });
+        }
+        self.marks[at as usize] |= FIRST;
+        self.marks[(at + size - 1) as usize] |= LAST;
+        self.blocks += 1;
+        self.next = at + size;
+        Ok(at)
+    }
+
+    fn load(&self, base: u64, offset: u64, width: u64) -> Result<u64, Trap> {
+        Ok(self.bytes.read_word(base + offset, width / 8))
+    }
+
+    fn store(&mut self, base: u64, offset: u64, width: u64, word: u64) -> Result<(), Trap> {
+        self.bytes.write_word(base + offset, width / 8, word);
+        Ok(())
+    }
+}
