@@ -21,8 +21,6 @@ mod pattern;
 mod scope;
 mod table;
 mod tables;
-#[cfg(test)]
-mod tests;
 mod types;
 
 pub use crate::fault::NameFault;

@@ -5,8 +5,6 @@ mod beyond;
 mod each;
 mod expression;
 pub mod fault;
-#[cfg(test)]
-mod file_tests;
 mod item;
 mod layout;
 mod leaf;
@@ -18,7 +16,5 @@ mod provenance;
 pub mod read;
 mod starting;
 mod stop;
-#[cfg(test)]
-mod tests;
 mod tokens;
 mod types;

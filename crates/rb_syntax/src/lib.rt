@@ -5,10 +5,6 @@ pub mod bytes;
 pub mod lex;
 pub mod piece;
 pub mod spell;
-#[cfg(test)]
-mod spell_tests;
-#[cfg(test)]
-mod tests;
 pub mod token;
 pub mod tree;
 pub mod words;

@@ -1,14 +1,15 @@
-//! Trees are spelled as the texts that they were written for.
+//! Trees are spelled as the texts that they were written for: each tree and its text were written
+//! side by side, by hand.
 
-use crate::lex::lex;
-use crate::spell::spell_file;
-use crate::token::Token;
-use crate::tree::{
+use crate::same::are_same;
+use rb_core::boxed::Boxed;
+use rb_core::seq::Seq;
+use rb_syntax::lex::lex;
+use rb_syntax::spell::spell_file;
+use rb_syntax::tree::{
     ArmTree, Auto, ConTree, ExprTree, FileTree, FunTree, ItemTree, LayItem, LayoutTree, Loc,
     NameTree, Op, ParamTree, PartDecl, PartKind, PatTree, SplitTree, Step, TyTree, TypeTree,
 };
-use rb_core::boxed::Boxed;
-use rb_core::seq::Seq;
 use std::alloc::{AllocError, Global};
 use std::test::Fail;
 
@@ -25,29 +26,11 @@ fn one<T: Drop>(alloc: Global, item: T) -> Result<Seq<T>, AllocError> {
     Ok(items)
 }
 
-fn is_same(a: &Token, b: &Token) -> bool {
-    match (a, b) {
-        (Token::Upper(x), Token::Upper(y)) => x.as_slice() == y.as_slice(),
-        (Token::Lower(x), Token::Lower(y)) => x.as_slice() == y.as_slice(),
-        (Token::Num(m), Token::Num(n)) => m == n,
-        (Token::Reserved(v), Token::Reserved(w)) => v == w,
-        (Token::Uint(m), Token::Uint(n)) => m == n,
-        (Token::Symbol(s), Token::Symbol(t)) => s == t,
-        _ => false,
-    }
-}
-
 /// Whether the tree has the tokens of the text.
 fn is_spelled(alloc: Global, tree: &FileTree, text: &[u8]) -> Result<bool, Fail> {
     let tokens = spell_file(alloc, tree)?;
     let placed = lex(alloc, text)?;
-    Ok(
-        tokens.len() == placed.len()
-            && tokens
-                .iter()
-                .zip(placed.iter())
-                .all(|(token, placed)| is_same(token, &placed.token)),
-    )
+    Ok(are_same(tokens.as_slice(), placed.as_slice()))
 }
 
 fn param(alloc: Global, at: u32, text: &[u8]) -> Result<ParamTree, AllocError> {

@@ -1,7 +1,8 @@
-//! Words, symbols, numbers and refusals of texts, from the tables of the language.
+//! Words, symbols, numbers and refusals of texts. The rows are the language's tables of words and
+//! symbols, and texts cut by hand by its rule that the longest piece counts.
 
-use crate::lex::{LexFault, lex};
-use crate::token::{Placed, Symbol, Token, WORDS, Word};
+use rb_syntax::lex::{LexFault, lex};
+use rb_syntax::token::{Placed, Symbol, Token, WORDS, Word};
 use std::alloc::Global;
 use std::test::Fail;
 

@@ -1,0 +1,118 @@
+//! Names of files. In a row, `~` stands before the first name that was defined before, and `!` before
+//! the first that stands for nothing; a row without a mark has no function `main`. The rows are the
+//! cases of the language's rules on names, one each, marked by hand.
+
+use rb_core::expression::Expr;
+use rb_core::program::Program;
+use rb_core::types::Name;
+use rb_names::{NameFault, resolve};
+use rb_read::read::read_file;
+use rb_syntax::lex::lex;
+use rb_syntax::token::Placed;
+use std::alloc::{AllocError, Global};
+use std::test::Fail;
+
+/// What resolving a text's names gives, the names by their bytes.
+#[derive(Clone, Copy, PartialEq, Eq, Debug)]
+enum Found {
+    Twice(usize),
+    Unknown(usize),
+    NoMain,
+    /// A program, want of memory, or another name than the one at its place.
+    Other,
+}
+
+/// The byte at which a name stands, if it stands at this token.
+fn byte_of(text: &[u8], placed: &[Placed], name: &Name, at: u32) -> Option<usize> {
+    let byte = placed.get(at as usize)?.at;
+    let rest = text.get(byte..)?;
+    if rest.starts_with(name.as_slice()) {
+        Some(byte)
+    } else {
+        None
+    }
+}
+
+fn found_of(text: &[u8], placed: &[Placed], fault: &NameFault) -> Option<Found> {
+    match fault {
+        NameFault::Twice(name, at) => Some(Found::Twice(byte_of(text, placed, name, *at)?)),
+        NameFault::Unknown(name, at) => Some(Found::Unknown(byte_of(text, placed, name, *at)?)),
+        NameFault::NoMain => Some(Found::NoMain),
+        NameFault::Memory => None,
+    }
+}
+
+fn outcome(alloc: Global, text: &[u8]) -> Result<Found, Fail> {
+    let placed = lex(alloc, text)?;
+    if placed.len() >= 1 << 32 {
+        return Ok(Found::Other);
+    }
+    let file = read_file(alloc, placed.as_slice())?;
+    match resolve(alloc, &file) {
+        Ok(_) => Ok(Found::Other),
+        Err(fault) => Ok(found_of(text, placed.as_slice(), &fault).unwrap_or(Found::Other)),
+    }
+}
+
+/// A row without its mark, and the answer that the mark gives.
+fn unmarked(alloc: Global, row: &str) -> Result<(Vec<u8>, Found), AllocError> {
+    let mut text = Vec::new(alloc);
+    let mut wanted = Found::NoMain;
+    for byte in row.as_bytes() {
+        match *byte {
+            b'~' => wanted = Found::Twice(text.len()),
+            b'!' => wanted = Found::Unknown(text.len()),
+            byte => text.push(byte)?,
+        }
+    }
+    Ok((text, wanted))
+}
+
+const ROWS: &str = "
+fun f(): u8 = 0;
+fun main(): u8 = y; fun ~main(): u8 = 0;
+fun f(): u8 = 0; fun main(): u8 = !y;
+type T = A; type S = ~A;
+type T = A; layout T <8> = A : { word 8 { } }; layout ~T <8> = A : { word 8 { } };
+layout !T <8> = A : { word 8 { } }; layout T <8> = A : { word 8 { } };";
+
+#[test]
+fn faults(rt: HostRuntime) -> Result<(), Fail> {
+    for row in ROWS.split('\n') {
+        let (text, wanted) = unmarked(rt.alloc(), row)?;
+        let found = outcome(rt.alloc(), text.as_slice())?;
+        assert_eq!(rt; found, wanted, "{row}");
+    }
+    Ok(())
+}
+
+/// The variable that an expression is, or a binding's body.
+fn var_of(expr: &Expr) -> Option<u32> {
+    match expr {
+        Expr::Var(_, var) => Some(*var),
+        Expr::Let(_, _, _, _, body) => match body.get() {
+            Expr::Var(_, var) => Some(*var),
+            _ => None,
+        },
+        _ => None,
+    }
+}
+
+/// The variables of the two operands of the first function's body.
+fn vars_of(program: &Program) -> Option<(u32, u32)> {
+    match &program.funs.get(0)?.body {
+        Expr::Binary(_, _, a, b) => Some((var_of(a.get())?, var_of(b.get())?)),
+        _ => None,
+    }
+}
+
+#[test]
+fn an_inner_variable_hides_an_outer_one(rt: HostRuntime) -> Result<(), Fail> {
+    let text = b"fun main(x: u8): u8 = add(let x: u8 = 1 in x, x);";
+    let placed = lex(rt.alloc(), text)?;
+    assert!(rt; placed.len() == 24);
+    let file = read_file(rt.alloc(), placed.as_slice())?;
+    let program = resolve(rt.alloc(), &file)?;
+    assert!(rt; vars_of(&program) == Some((1, 0)));
+    Ok(())
+}

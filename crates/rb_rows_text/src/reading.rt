@@ -1,0 +1,104 @@
+//! What reading a text gives, and texts with their answers in them.
+//!
+//! In a row, `~` stands before the first token at which no file goes on, `!` before the first that
+//! begins a node too deep, and `?` before a layout that is left to the compiler. A row without a mark
+//! is a file.
+
+use crate::same::are_same;
+use rb_read::fault::{Quantity, ReadFault};
+use rb_read::read::read_file;
+use rb_syntax::lex::lex;
+use rb_syntax::spell::spell_file;
+use rb_syntax::token::Placed;
+use std::alloc::{AllocError, Global};
+use std::process::Abort;
+use std::test::Fail;
+
+/// What reading a text gives, places by their bytes.
+#[derive(Clone, Copy, PartialEq, Eq, Debug)]
+pub enum Found {
+    File,
+    TooDeep(usize),
+    Syntax(usize),
+    Unbuilt(usize),
+    Limit(Quantity, u64),
+    /// Want of memory, or another file than the text's.
+    Other,
+}
+
+fn byte_of(placed: &[Placed], at: u32, end: usize) -> usize {
+    match placed.get(at as usize) {
+        Some(placed) => placed.at,
+        None => end,
+    }
+}
+
+fn place_of(fault: &ReadFault, placed: &[Placed], end: usize) -> Found {
+    match fault {
+        ReadFault::TooDeep(at) => Found::TooDeep(byte_of(placed, *at, end)),
+        ReadFault::Syntax(at) => Found::Syntax(byte_of(placed, *at, end)),
+        ReadFault::Unbuilt(at) => Found::Unbuilt(byte_of(placed, *at, end)),
+        ReadFault::Limit(quantity, count) => Found::Limit(*quantity, *count),
+        ReadFault::Memory => Found::Other,
+    }
+}
+
+/// Reads the text, and spells what is read.
+pub fn outcome(alloc: Global, text: &[u8]) -> Result<Found, Fail> {
+    let placed = lex(alloc, text)?;
+    if placed.len() >= 1 << 32 {
+        return Ok(Found::Other);
+    }
+    match read_file(alloc, placed.as_slice()) {
+        Ok(file) => {
+            let tokens = spell_file(alloc, &file)?;
+            if are_same(tokens.as_slice(), placed.as_slice()) {
+                Ok(Found::File)
+            } else {
+                Ok(Found::Other)
+            }
+        }
+        Err(fault) => Ok(place_of(&fault, placed.as_slice(), text.len())),
+    }
+}
+
+/// The front, so many parts, and the back.
+pub fn repeated(
+    alloc: Global,
+    front: &[u8],
+    part: &[u8],
+    count: usize,
+    back: &[u8],
+) -> Result<Vec<u8>, AllocError> {
+    let mut text = Vec::from_slice(alloc, front)?;
+    for _turn in 0..count {
+        text.extend_from_slice(part)?;
+    }
+    text.extend_from_slice(back)?;
+    Ok(text)
+}
+
+/// Checks that a row without its mark has the answer that its mark gives.
+pub fn expect(rt: &impl Abort, alloc: Global, row: &[u8]) -> Result<(), Fail> {
+    let mut text = Vec::new(alloc);
+    let mut wanted = Found::File;
+    for byte in row {
+        match *byte {
+            b'~' => wanted = Found::Syntax(text.len()),
+            b'!' => wanted = Found::TooDeep(text.len()),
+            b'?' => wanted = Found::Unbuilt(text.len()),
+            byte => text.push(byte)?,
+        }
+    }
+    let found = outcome(alloc, text.as_slice())?;
+    assert_eq!(rt; found, wanted, "{row:?}");
+    Ok(())
+}
+
+/// Checks each line of a table.
+pub fn expect_each(rt: &impl Abort, alloc: Global, rows: &str) -> Result<(), Fail> {
+    for row in rows.split('\n') {
+        expect(rt, alloc, row.as_bytes())?;
+    }
+    Ok(())
+}
