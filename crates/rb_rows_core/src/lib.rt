@@ -9,4 +9,6 @@ mod bytes;
 #[cfg(test)]
 mod outside;
 #[cfg(test)]
+mod raw;
+#[cfg(test)]
 mod values;

@@ -1,0 +1,217 @@
+//! The same calls on the memory that tests each access and on the one that trusts it. The addresses and
+//! the words were worked out by hand; the first block is at 64, the lowest byte of a word first.
+
+ghost use Rattle.std.specs.Prelude.{◌≡◌, ◌≤◌, IfOk, IsTrue};
+ghost use Rattle.rb_bytes.specs.Memory.{IsAlign, IsSize, IsWidth};
+
+use rb_bytes::checked::CheckedMemory;
+use rb_bytes::fault::{Full, Trap};
+use rb_bytes::memory::ByteMemory;
+use rb_raw::memory::RawMemory;
+use std::alloc::{AllocError, Global};
+use std::marker::Model;
+use std::process::Abort;
+
+/// Two memories that hold the same. No call of it traps: a trap of the first ends the test.
+#[derive(Drop)]
+struct Both {
+    checked: CheckedMemory,
+    raw: RawMemory,
+}
+
+impl Model for Both {
+    ghost use Rattle.std.specs.Prelude.{◌≡◌};
+    ghost use Rattle.rb_bytes.specs.Memory.{Memory};
+
+    ghost Value = { Memory };
+
+    ghost view = { λ both. both.checked };
+
+    ghost invariant = { λ both. both.raw ≡ both.checked };
+}
+
+impl Both {
+    fn new(alloc: Global, limit: u64) -> Result<Both, AllocError>
+        requires { (64 ≤ limit) × (limit ≤ 16777216) }
+    {
+        Ok(Both {
+            checked: CheckedMemory::new(alloc, limit)?,
+            raw: RawMemory::new(alloc, limit)?,
+        })
+    }
+
+    /// What each says to a place.
+    fn place(&mut self, size: u64, align: u64) -> (u64, u64)
+        requires size { IsSize size }
+        requires align { IsAlign align }
+    {
+        let checked = self.checked.place(size, align);
+        let raw = self.raw.place(size, align);
+        (placed(checked), placed(raw))
+    }
+
+    fn store(&mut self, rt: &impl Abort, base: u64, offset: u64, width: u64, word: u64)
+        requires { IsWidth width }
+    {
+        let checked = self.checked.store(base, offset, width, word);
+        assert!(rt; checked.is_ok(), "{width} bits at {base} and {offset}");
+        let raw = self.raw.store(base, offset, width, word);
+        assert!(rt; raw.is_ok(), "{width} bits at {base} and {offset}");
+    }
+
+    /// What each says to a load.
+    fn load(&self, rt: &impl Abort, base: u64, offset: u64, width: u64) -> (u64, u64)
+        requires { IsWidth width }
+    {
+        let checked = self.checked.load(base, offset, width);
+        assert!(rt; checked.is_ok(), "{width} bits at {base} and {offset}");
+        let raw = self.raw.load(base, offset, width);
+        (loaded(checked), loaded(raw))
+    }
+
+    /// The limit, the next address and the number of blocks, as each tells them.
+    fn ends(&self) -> ((u64, u64, u64), (u64, u64, u64)) {
+        (
+            (
+                self.checked.limit(),
+                self.checked.next(),
+                self.checked.blocks(),
+            ),
+            (self.raw.limit(), self.raw.next(), self.raw.blocks()),
+        )
+    }
+}
+
+/// The address of a block, or 0 where it did not fit.
+fn placed(answer: Result<u64, Full>) -> u64 {
+    match answer {
+        Ok(address) => address,
+        Err(_) => 0,
+    }
+}
+
+/// The word, or all bits where there is none.
+fn loaded(answer: Result<u64, Trap>) -> u64 {
+    match answer {
+        Ok(word) => word,
+        Err(_) => u64::MAX,
+    }
+}
+
+/// Whether this is the width of an access.
+fn is_width(width: u64) -> bool
+    ensures { IsTrue result → IsWidth width }
+{
+    width == 8 || width == 16 || width == 32 || width == 64
+}
+
+/// A call on a memory: its sizes, bases and offsets in bytes, its widths in bits.
+#[derive(Clone, Copy, Drop)]
+enum Call {
+    /// Size, alignment as a power of two, and the address, or 0 where it does not fit.
+    Place(u64, u32, u64),
+    /// Base, offset, width and word.
+    Store(u64, u64, u64, u64),
+    /// Base, offset, width, and the word that is loaded.
+    Load(u64, u64, u64, u64),
+}
+
+/// A region of 320 bytes: blocks of one byte, neighbours without a gap, gaps, the largest alignment,
+/// and blocks that do not fit, up to the last byte.
+const CALLS: [Call; 50] = [
+    Call::Place(1, 0, 64),
+    Call::Store(64, 0, 8, 0xab),
+    Call::Load(64, 0, 8, 0xab),
+    Call::Place(1, 0, 65),
+    Call::Store(65, 0, 8, 0x1cd),
+    Call::Load(65, 0, 8, 0xcd),
+    Call::Load(64, 0, 8, 0xab),
+    Call::Place(8, 3, 72),
+    Call::Store(72, 0, 64, 0x8807_0605_0403_0201),
+    Call::Load(72, 0, 64, 0x8807_0605_0403_0201),
+    Call::Load(72, 0, 8, 0x01),
+    Call::Load(72, 7, 8, 0x88),
+    Call::Load(72, 1, 16, 0x0302),
+    Call::Load(72, 3, 32, 0x0706_0504),
+    Call::Store(72, 2, 32, 0xffff_ffff_aabb_ccdd),
+    Call::Load(72, 0, 64, 0x8807_aabb_ccdd_0201),
+    Call::Place(16, 0, 80),
+    Call::Store(80, 8, 64, u64::MAX),
+    Call::Store(80, 0, 64, 0),
+    Call::Load(80, 0, 64, 0),
+    Call::Load(80, 4, 64, 0xffff_ffff_0000_0000),
+    Call::Store(80, 7, 16, 0x1234),
+    Call::Load(80, 0, 64, 0x3400_0000_0000_0000),
+    Call::Load(80, 8, 64, 0xffff_ffff_ffff_ff12),
+    Call::Load(72, 0, 64, 0x8807_aabb_ccdd_0201),
+    Call::Place(3, 1, 96),
+    Call::Store(96, 0, 16, 0xbeef),
+    Call::Store(96, 2, 8, 0x7f),
+    Call::Load(96, 1, 16, 0x7fbe),
+    Call::Place(2, 6, 128),
+    Call::Store(128, 0, 16, 0xffff_0102),
+    Call::Load(128, 0, 16, 0x0102),
+    Call::Load(128, 1, 8, 0x01),
+    Call::Place(512, 0, 0),
+    Call::Place(191, 0, 0),
+    Call::Place(64, 6, 192),
+    Call::Store(192, 56, 64, 0x0123_4567_89ab_cdef),
+    Call::Store(192, 0, 32, 0x8000_0000),
+    Call::Load(192, 56, 64, 0x0123_4567_89ab_cdef),
+    Call::Load(192, 0, 32, 0x8000_0000),
+    Call::Load(192, 63, 8, 0x01),
+    Call::Place(65, 0, 0),
+    Call::Place(1, 6, 256),
+    Call::Place(63, 0, 257),
+    Call::Store(257, 59, 32, 0xdead_beef),
+    Call::Load(257, 59, 32, 0xdead_beef),
+    Call::Load(257, 62, 8, 0xde),
+    Call::Place(1, 0, 0),
+    Call::Load(64, 0, 8, 0xab),
+    Call::Load(65, 0, 8, 0xcd),
+];
+
+#[test]
+fn raw_and_checked_memory_answer_alike(rt: HostRuntime) {
+    let mut both = Both::new(rt.alloc(), 320).expect(&rt, "ample memory");
+    for call in CALLS {
+        match call {
+            Call::Place(size, power, want) => {
+                assert!(rt; 1 <= size && size <= 512 && power <= 6);
+                assert!(rt;
+                    both.place(size, 1 << power) == (want, want),
+                    "{size} bytes at a multiple of 2 to the {power}"
+                );
+            }
+            Call::Store(base, offset, width, word) => {
+                assert!(rt; is_width(width));
+                both.store(&rt, base, offset, width, word);
+            }
+            Call::Load(base, offset, width, want) => {
+                assert!(rt; is_width(width));
+                assert!(rt;
+                    both.load(&rt, base, offset, width) == (want, want),
+                    "{width} bits at {base} and {offset}"
+                );
+            }
+        }
+    }
+    assert!(rt; both.ends() == ((320, 320, 9), (320, 320, 9)));
+}
+
+#[test]
+fn raw_memory_at_its_least(rt: HostRuntime) {
+    let mut least = Both::new(rt.alloc(), 64).expect(&rt, "ample memory");
+    assert!(rt; least.place(1, 1) == (0, 0));
+    assert!(rt; least.ends() == ((64, 64, 0), (64, 64, 0)));
+}
+
+#[test]
+fn raw_memory_at_its_largest(rt: HostRuntime) {
+    let mut largest = RawMemory::new(rt.alloc(), 16_777_216).expect(&rt, "ample memory");
+    for (size, power, want) in [(512, 6, 64), (1, 0, 576)] {
+        assert!(rt; 1 <= size && size <= 512 && power <= 6);
+        assert!(rt; placed(largest.place(size, 1 << power)) == want);
+    }
+    assert!(rt; largest.next() == 577);
+}
