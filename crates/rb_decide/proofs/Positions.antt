@@ -438,8 +438,10 @@ module _ (types : List DataDecl) (all : List Pat) where
     module _ (c : Column) (cs : List Column) (rows : List Row) (a : Apart (c ∷ cs)) (s : AllSourced all (c ∷ cs) rows) (some : is_some (column_head rows) ≡ true) where
       one-longer : (ds : List Column) → ((r : List ℕ) → any_leads ds r ≡ true → (any_leads (c ∷ cs) r ≡ true) × (c.position ≡ r → ⊥)) → (way : Way) → IsFine ds way → IsFine (c ∷ cs) (c.position ∷ way)
       one-longer ds g way f = record {
-        below = (or-either (leads c.position c.position) (any_leads cs c.position) (inl (leads-self c.position)),
-            all-kept (λ q. any_leads ds q ≡ true) (λ q. any_leads (c ∷ cs) q ≡ true) (λ q h. (g q h).0) way f.below);
+        below = (
+          or-either (leads c.position c.position) (any_leads cs c.position) (inl (leads-self c.position)),
+          all-kept (λ q. any_leads ds q ≡ true) (λ q. any_leads (c ∷ cs) q ≡ true) (λ q h. (g q h).0) way f.below,
+        );
         once = (all-kept (λ q. any_leads ds q ≡ true) (λ q. c.position ≡ q → ⊥) (λ q h. (g q h).1) way f.below, f.once);
         heads = (tested-head all c cs rows s some, f.heads);
       }

@@ -11,7 +11,12 @@ use rb_matrix::matrix::Head;
 use std::alloc::{AllocError, Global};
 
 /// The specialised matrix's rows, for a head with so many fields.
-pub fn rows_by_head(alloc: Global, head: Head, fields: usize, rows: &[Row]) -> Result<Seq<Row>, AllocError>
+pub fn rows_by_head(
+    alloc: Global,
+    head: Head,
+    fields: usize,
+    rows: &[Row],
+) -> Result<Seq<Row>, AllocError>
     ensures { IfOk result (λ r. r ≡ special_rows head fields rows.now) }
 {
     let mut kept = Seq::new(alloc);

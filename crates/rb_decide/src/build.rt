@@ -10,9 +10,9 @@ ghost use Rattle.std.specs.Prelude.{map, true};
 
 use crate::branches::{columns_by_head, fields_of_head, other_rows, rows_by_head};
 use crate::clause_matrix::{Column, Row, columns_to_front, first_tested, rows_to_front};
+use crate::decision_tree::{Tree, TreeArm};
 use crate::heads::heads_of_column;
 use crate::signature::covers;
-use crate::decision_tree::{Tree, TreeArm};
 use rb_core::boxed::Boxed;
 use rb_core::seq::Seq;
 use rb_core::types::DataDecl;

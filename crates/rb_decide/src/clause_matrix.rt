@@ -81,7 +81,11 @@ fn push_patterns(alloc: Global, pats: &mut Seq<Pat>, more: &[Pat]) -> Result<(),
 }
 
 /// The columns, with the one of this number at the front.
-pub fn columns_to_front(alloc: Global, i: usize, columns: &[Column]) -> Result<Seq<Column>, AllocError>
+pub fn columns_to_front(
+    alloc: Global,
+    i: usize,
+    columns: &[Column],
+) -> Result<Seq<Column>, AllocError>
     ensures { IfOk result (λ r. r ≡ to_front i columns.now) }
 {
     let mut moved = Seq::new(alloc);

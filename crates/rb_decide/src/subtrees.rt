@@ -5,8 +5,8 @@ ghost use Rattle.rb_decide.specs.Graphs.{unfolding_of, LinksAreLower, NodesDiffe
 ghost use Rattle.rb_decide.specs.inner.Sharing.{IsFine, IsShared, AreShared, IsOtherShared};
 
 use crate::decision_graph::{Graph, GraphArm, GraphNode};
-use crate::sharing::Sharing;
 use crate::decision_tree::{Tree, TreeArm};
+use crate::sharing::Sharing;
 use rb_core::boxed::Boxed;
 use rb_core::seq::Seq;
 use std::alloc::{AllocError, Global};

@@ -44,10 +44,10 @@ pub build_arms-loop-head-preserved : goal.build_arms-loop-head-preserved
 build_arms-loop-head-preserved t c =
     record {
       arms = arm-done c.args.types.now c.args.column.now c.args.rest.now c.args.rows.now c.requires.heads c.args.heads.now c.loop-head.head-index _ c.loop-head-test.true
-    (get-same c.args.heads.now c.loop-head.head-index _ _ c.loop-head-test.true) _ c.fields_of_head-fields.ensures _ (c.as_slice.ensures ∙ c.in_ok-columns.ensures) _ refl _ (c.as_slice-in-loop-head.ensures ∙ c.in_ok-special.ensures)
+          (get-same c.args.heads.now c.loop-head.head-index _ _ c.loop-head-test.true) _ c.fields_of_head-fields.ensures _ (c.as_slice.ensures ∙ c.in_ok-columns.ensures) _ refl _ (c.as_slice-in-loop-head.ensures ∙ c.in_ok-special.ensures)
           c.args.left.now c.loop-head.left c.build.new.left c.loop-head.arms c.loop-head.invariant.left c.loop-head.invariant.arms c.in_ok-under.field-0 c.in_ok-under.ensures c.in-Some.under c.in-Some.is _ c.in_ok-push.ensures.ok;
       left = arm-sum c.args.types.now c.args.column.now c.args.rest.now c.args.rows.now c.requires.heads c.args.heads.now c.loop-head.head-index _ c.loop-head-test.true
-    (get-same c.args.heads.now c.loop-head.head-index _ _ c.loop-head-test.true) _ c.fields_of_head-fields.ensures _ (c.as_slice.ensures ∙ c.in_ok-columns.ensures) _ refl _ (c.as_slice-in-loop-head.ensures ∙ c.in_ok-special.ensures)
+          (get-same c.args.heads.now c.loop-head.head-index _ _ c.loop-head-test.true) _ c.fields_of_head-fields.ensures _ (c.as_slice.ensures ∙ c.in_ok-columns.ensures) _ refl _ (c.as_slice-in-loop-head.ensures ∙ c.in_ok-special.ensures)
           c.args.left.now c.loop-head.left c.build.new.left c.loop-head.arms c.loop-head.invariant.left c.loop-head.invariant.arms c.in_ok-under.field-0 c.in_ok-under.ensures c.in-Some.under c.in-Some.is _ c.in_ok-push.ensures.ok;
     }
 

@@ -16,7 +16,7 @@ pub add_tree-returns-in_ok-number-in-Test : goal.add_tree-returns-in_ok-number-i
 add_tree-returns-in_ok-number-in-Test t c =
     let arms = subst (λ l. AreShared l c.args.sharing.now c.add_arms.new.sharing c.in_ok-arms-in-Test.arms) c.as_slice.ensures c.in_ok-arms-in-Test.ensures in
     let added = subst (λ q. IsAdded c.add_other.new.sharing c.add-in-Test.new.self (Test q c.in_ok-arms-in-Test.arms c.in_ok-other-in-Test.other) c.in_ok-number-in-Test.number)
-        c.in_ok-position-in-Test.ensures c.in_ok-number-in-Test.ensures in
+    c.in_ok-position-in-Test.ensures c.in_ok-number-in-Test.ensures in
     subst (λ x. IsShared x c.args.sharing.now c.add-in-Test.new.self c.in_ok-number-in-Test.number) (sym c.in-Test.is)
     (test-shared c.args.sharing.now c.add_arms.new.sharing c.add_other.new.sharing c.add-in-Test.new.self c.in-Test.position c.in-Test.arms c.in_ok-arms-in-Test.arms
     c.in-Test.other c.in_ok-other-in-Test.other c.in_ok-number-in-Test.number arms c.in_ok-other-in-Test.ensures added)
