@@ -7,7 +7,7 @@ use Rattle.core.specs.Mem.Slots.{slots_items, slots_filled, slots_len, slots_ptr
 use Rattle.rb_bytes.specs.Memory.{byte_at, read_le, then_byte}
 use Rattle.rb_bytes.specs.declared.fault.Trap.{Trap}
 use Rattle.rb_bytes.proofs.ByteLemmas.{byte_at-set_same, byte_at-set_other}
-use Rattle.rb_raw.specs.Held.{IsHeld}
+use Rattle.rb_raw.specs.inner.Held.{IsHeld}
 use Rattle.rb_raw.specs.declared.bytes.RawBytes.TheInside.{Inside}
 
 module _ {A : Type 0} where

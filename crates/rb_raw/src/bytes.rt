@@ -22,7 +22,7 @@ impl Model for RawBytes {
 
     ghost Value = { List (Option ℕ) };
 
-    ghost use Rattle.rb_raw.specs.Held.{bytes_of, IsHeld};
+    ghost use Rattle.rb_raw.specs.inner.Held.{bytes_of, IsHeld};
 
     ghost view = { bytes_of };
 
