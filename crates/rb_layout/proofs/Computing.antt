@@ -1,5 +1,5 @@
 -- The flat form, form by form: what the examples compute by.
-use Rattle.std.proofs.Common.{◌≡◌, ℕ, List, map, Some, None}
+use Rattle.std.proofs.Common.{◌≡◌, ℕ, List, [], ◌∷◌, map, Some, None, ap}
 use Rattle.std.specs.Prelude.{Option}
 use Rattle.rb_core.specs.declared.types.Ty.{Ty}
 use Rattle.rb_core.specs.declared.types.ConRef.{ConRef}
@@ -25,6 +25,7 @@ use Rattle.rb_layout.specs.declared.layout.FlatWord.{FlatWord}
 use Rattle.rb_layout.specs.declared.layout.Part.{Part}
 use Rattle.rb_layout.specs.declared.layout.Kind.{Kind}
 use Rattle.rb_layout.specs.Positions.{Open, opens_of, opens_step, opens_below, types_or_none}
+use Rattle.rb_layout.specs.declared.layout.FlatTree as Flat
 use Rattle.rb_layout.specs.Splits.{Under}
 use Rattle.rb_layout.specs.Flattening.{Laying, Numbering, numbering, arm_numbering, tree_step, arm_step, item_laid, kind_laid, part_laid, item_step, kind_step, part_step}
 use Rattle.rb_layout.proofs.WrittenForms as W
@@ -70,4 +71,47 @@ opens-Wild types at = fold-Wild (Ty → List Open) (opens_step types) at
 pub opens-Con : (types : List DataDecl) (at : ℕ) (c : ConRef) (ps : List Pat) → opens_of types (Con at c ps) ≡ (λ ty. opens_below (map (opens_of types) ps) (types_or_none (fields_of types c)) 0)
 opens-Con types at c ps = fold-Con (Ty → List Open) (opens_step types) at c ps
 
-pub ruleset flat_rules = (word_laid, inline_laid, const_laid, whole_laid, slice_laid, word_of_laid, pointer_laid, part_laid_is, numbering-Leaf, numbering-Split, numbering-Split-else, arm_numbering-is, leaves-Leaf, leaves-Split, leaves-Split-else, arm_leaves-is, opens-Wild, opens-Con, outs-Con)
+-- Each form where so many blocks stand before -------------------------------------------------------
+
+module _ (decls : List LayoutDecl) (opens : List Open) (n : ℕ) where
+  pub word_at : (width : ℕ) (parts : List PartDecl) → item_laid decls opens (I.Word width parts) n ≡ item_step decls opens (item.LayItem::Word width (map (part_laid decls opens) parts)) n
+  word_at width parts = ap (λ (lay : Laying (List FlatWord)). lay n) (word_laid decls opens width parts)
+
+  pub inline_at : (path : List ℕ) → item_laid decls opens (I.Inline path) n ≡ item_step decls opens (item.Inline path) n
+  inline_at path = ap (λ (lay : Laying (List FlatWord)). lay n) (inline_laid decls opens path)
+
+  pub const_at : (c : ℕ) → kind_laid decls opens (K.Const c) n ≡ kind_step opens (item.Const c) n
+  const_at c = ap (λ (lay : Laying (Option Kind)). lay n) (const_laid decls opens c)
+
+  pub whole_at : (path : List ℕ) → kind_laid decls opens (K.Whole path) n ≡ kind_step opens (item.Whole path) n
+  whole_at path = ap (λ (lay : Laying (Option Kind)). lay n) (whole_laid decls opens path)
+
+  pub slice_at : (path : List ℕ) (a k : ℕ) → kind_laid decls opens (K.Slice path a k) n ≡ kind_step opens (item.Slice path a k) n
+  slice_at path a k = ap (λ (lay : Laying (Option Kind)). lay n) (slice_laid decls opens path a k)
+
+  pub pointer_at : (align : ℕ) (items : List LayItem) → kind_laid decls opens (K.Pointer align items) n ≡ kind_step opens (item.Pointer align (map (item_laid decls opens) items)) n
+  pointer_at align items = ap (λ (lay : Laying (Option Kind)). lay n) (pointer_laid decls opens align items)
+
+  pub part_at : (p : PartDecl) → part_laid decls opens p n ≡ part_step (record { o = p.o; l = p.l; kind = kind_laid decls opens p.kind }) n
+  part_at p = ap (λ (lay : Laying (List Part)). lay n) (part_laid_is decls opens p)
+
+pub from-Leaf : (at : ℕ) (prov : Pat) (items : List LayItem) (n : ℕ) → (numbering (S.Leaf at prov items)).from n ≡ Flat.Leaf n
+from-Leaf at prov items n = ap (λ (t : Numbering). t.from n) (numbering-Leaf at prov items)
+
+pub count-Leaf : (at : ℕ) (prov : Pat) (items : List LayItem) → (numbering (S.Leaf at prov items)).count ≡ 1
+count-Leaf at prov items = ap (λ (t : Numbering). t.count) (numbering-Leaf at prov items)
+
+pub from-Split : (loc : Loc) (arms : List Arm) (n : ℕ) → (numbering (S.Split loc arms None)).from n ≡ (tree_step (split.Split loc (map arm_numbering arms) None)).from n
+from-Split loc arms n = ap (λ (t : Numbering). t.from n) (numbering-Split loc arms)
+
+pub from-Split-else : (loc : Loc) (arms : List Arm) (other : LayTree) (n : ℕ)
+    → (numbering (S.Split loc arms (Some other))).from n ≡ (tree_step (split.Split loc (map arm_numbering arms) (Some (numbering other)))).from n
+from-Split-else loc arms other n = ap (λ (t : Numbering). t.from n) (numbering-Split-else loc arms other)
+
+pub opens-at-Wild : (types : List DataDecl) (at : ℕ) (ty : Ty) → opens_of types (Wild at) ty ≡ record { path = []; ty = ty } ∷ []
+opens-at-Wild types at ty = ap (λ (f : Ty → List Open). f ty) (opens-Wild types at)
+
+pub opens-at-Con : (types : List DataDecl) (at : ℕ) (c : ConRef) (ps : List Pat) (ty : Ty) → opens_of types (Con at c ps) ty ≡ opens_below (map (opens_of types) ps) (types_or_none (fields_of types c)) 0
+opens-at-Con types at c ps ty = ap (λ (f : Ty → List Open). f ty) (opens-Con types at c ps)
+
+pub ruleset flat_rules = (word_at, inline_at, const_at, whole_at, slice_at, pointer_at, part_at, from-Leaf, count-Leaf, from-Split, from-Split-else, arm_numbering-is, leaves-Leaf, leaves-Split, leaves-Split-else, arm_leaves-is, opens-at-Wild, opens-at-Con, outs-Con)

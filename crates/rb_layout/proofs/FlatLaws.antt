@@ -134,7 +134,7 @@ leaf_is_flat types decls w = good_is_flat (flat_leaf types decls w) (all_good de
 
 -- The leaves of a program -------------------------------------------------------------------------
 
-mapped : {A B : Type 0} (f : A → B) (xs : List A) (k : ℕ) (y : B) → slice_get (map f xs) k ≡ Some y → (x : A) × (slice_get xs k ≡ Some x) × (f x ≡ y)
+pub mapped : {A B : Type 0} (f : A → B) (xs : List A) (k : ℕ) (y : B) → slice_get (map f xs) k ≡ Some y → (x : A) × (slice_get xs k ≡ Some x) × (f x ≡ y)
 mapped f [] k y e = absurd cc
 mapped f (x ∷ xs) zero y e = (x, refl, same_Some (f x) y e)
 mapped f (x ∷ xs) (suc k) y e = mapped f xs k y e

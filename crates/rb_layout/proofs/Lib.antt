@@ -6,8 +6,11 @@ pub mod LayingLemmas
 pub mod TreeLemmas
 pub mod LayoutLists
 pub mod Computing
+pub mod Examples
 pub mod Blocks
 pub mod FlatLaws
+pub mod Placing
+pub mod FromLeft
 pub mod Places
 pub mod Readable
 pub mod Locating

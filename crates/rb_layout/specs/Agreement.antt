@@ -1,5 +1,5 @@
 -- Agreement: all ten rules.
-use Rattle.std.specs.Prelude.{List}
+use Rattle.std.specs.Prelude.{◌≡◌, List}
 use Rattle.rb_core.specs.declared.program.Program.{Program}
 use Rattle.rb_layout.specs.declared.layout.Layout.{Layout}
 use Rattle.rb_layout.specs.Flattening.{flat_layouts}
@@ -30,3 +30,7 @@ pub record Obeys (p : Program) (layouts : List Layout) : Type 0 where
 -- the layouts of a program agree with its types
 abbrev pub Agrees : Program → Type 0
 Agrees p = Obeys p (flat_layouts p)
+
+-- these are the flat forms of a program's layouts, and they agree
+abbrev pub AreAgreed : Program → List Layout → Type 0
+AreAgreed p layouts = (layouts ≡ flat_layouts p) × Agrees p

@@ -20,6 +20,7 @@ pub mod A8
 pub mod A9
 pub mod A10
 pub mod Flat
+pub mod Placing
 pub mod Agreement
 pub mod Spots
 pub mod inner

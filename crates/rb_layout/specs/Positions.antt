@@ -1,5 +1,5 @@
 -- The open positions of provenances, the leaf of a value, and the layout of a type.
-use Rattle.std.specs.Prelude.{ℕ, ◌+◌, List, [], ◌∷◌, ◌++◌, map, Option, Some, None, slice_get, if◌then◌else◌}
+use Rattle.std.specs.Prelude.{◌≡◌, ℕ, ◌+◌, ◌<◌, ◌⊎◌, List, [], ◌∷◌, ◌++◌, map, Option, Some, None, slice_get, if◌then◌else◌}
 use Rattle.rb_core.specs.declared.value.Value.{Value}
 use Rattle.rb_core.specs.declared.types.Ty.{Ty}
 use Rattle.rb_core.specs.declared.types.Ty.TheVariants.{Int, Named}
@@ -63,3 +63,16 @@ leaf_of layout v = leaf_from layout.leaves v 0
 -- the layout of a type: the layouts stand in the types' order
 abbrev pub layout_of : List Layout → ℕ → Option Layout
 layout_of layouts t = slice_get layouts t
+
+-- a position stands to the left of another: at the first field where they differ
+abbrev pub IsLeftOf : List ℕ → List ℕ → Type 0
+IsLeftOf [] q = ⊥
+IsLeftOf (i ∷ p) [] = ⊥
+IsLeftOf (i ∷ p) (j ∷ q) = (i < j) ⊎ ((i ≡ j) × IsLeftOf p q)
+
+-- each position stands to the left of those after it
+abbrev pub AreFromLeft : List Open → Type 0
+AreFromLeft os = (j k : ℕ) (a b : Open) → j < k → slice_get os j ≡ Some a → slice_get os k ≡ Some b → IsLeftOf a.path b.path
+
+abbrev pub OpensAreFromLeft : Type 0
+OpensAreFromLeft = (types : List DataDecl) (prov : Pat) → AreFromLeft (open_positions types prov)

@@ -27,11 +27,9 @@ pub struct Agreed {
 }
 
 impl Model for Agreed {
-    ghost use Rattle.std.specs.Prelude.{◌≡◌};
     ghost use Rattle.rb_layout.specs.declared.agreed.LaidOut.{LaidOut};
     ghost use Rattle.rb_layout.specs.contracts.agreed.LaidOut as laid_out_row;
-    ghost use Rattle.rb_layout.specs.Agreement.{Agrees};
-    ghost use Rattle.rb_layout.specs.Flattening.{flat_layouts};
+    ghost use Rattle.rb_layout.specs.Agreement.{AreAgreed};
 
     ghost Value = { LaidOut };
 
@@ -39,7 +37,7 @@ impl Model for Agreed {
 
     ghost view = { λ a. a.laid_out };
 
-    ghost invariant = { λ a. (a.laid_out.layouts ≡ flat_layouts a.laid_out.covered.program) × Agrees a.laid_out.covered.program };
+    ghost invariant = { λ a. AreAgreed a.laid_out.covered.program a.laid_out.layouts };
 }
 
 impl Agreed {

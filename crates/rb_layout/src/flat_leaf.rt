@@ -1,9 +1,10 @@
 //! The flat form of a leaf: its items become words, and what its pointers lead to becomes blocks.
 
-ghost use Rattle.std.specs.Prelude.{◌≡◌, ◌++◌, ◌∷◌, [], length, map, IfOk, OnOk};
+ghost use Rattle.std.specs.Prelude.{◌≡◌, ◌++◌, ◌∷◌, [], length, IfOk, OnOk};
 ghost use Rattle.rb_layout.specs.Positions.{open_positions};
-ghost use Rattle.rb_layout.specs.Flattening.{flat_leaf, items_laid, item_laid, part_laid, kind_laid, in_turn, inlined, kind_if_open, shape_of, type_at, whole_kind, word_of, words_of};
-ghost use Rattle.rb_layout.specs.inner.Laying.{Lays, LaysKind};
+ghost use Rattle.rb_layout.specs.Flattening.{kind_if_open, type_at, whole_kind, word_of, words_of};
+ghost use Rattle.rb_layout.specs.inner.Laying.{Lays, LaysKind, field_for, item_for, items_for, kind_for, leaf_for};
+ghost use Rattle.rb_layout.specs.inner.Laying.{part_for, parts_for};
 
 use crate::decls::shape_of;
 use crate::layout::{Block, FlatWord, Kind, Leaf, Part};
@@ -22,7 +23,7 @@ pub(crate) fn flat_leaf(
     items: &[LayItem],
     prov: &Pat,
 ) -> Result<Leaf, AllocError>
-    ensures { IfOk result (λ leaf. leaf ≡ flat_leaf program.now.types program.now.layouts (record { provenance = prov.now; items = items.now })) }
+    ensures { IfOk result (λ leaf. leaf ≡ leaf_for program.now prov.now items.now) }
 {
     let mut blocks = Seq::new(alloc);
     let root = flat_items(alloc, program, items, prov, &mut blocks)?;
@@ -42,7 +43,7 @@ fn flat_items(
     prov: &Pat,
     blocks: &mut Seq<Block>,
 ) -> Result<Seq<FlatWord>, AllocError>
-    ensures { IfOk result (λ words. Lays [] words blocks.old blocks.new (items_laid program.now.layouts (open_positions program.now.types prov.now) items.now)) }
+    ensures { IfOk result (λ words. Lays [] words blocks.old blocks.new (items_for program.now prov.now items.now)) }
 {
     let mut words = Seq::new(alloc);
     for item in items {
@@ -61,7 +62,7 @@ fn push_item(
     words: &mut Seq<FlatWord>,
     blocks: &mut Seq<Block>,
 ) -> Result<(), AllocError>
-    ensures { OnOk result (Lays words.old words.new blocks.old blocks.new (item_laid program.now.layouts (open_positions program.now.types prov.now) item.now)) }
+    ensures { OnOk result (Lays words.old words.new blocks.old blocks.new (item_for program.now prov.now item.now)) }
 {
     match item {
         LayItem::Word(width, parts) => {
@@ -84,7 +85,7 @@ fn flat_parts(
     prov: &Pat,
     blocks: &mut Seq<Block>,
 ) -> Result<Seq<Part>, AllocError>
-    ensures { IfOk result (λ flat. Lays [] flat blocks.old blocks.new (in_turn (map (part_laid program.now.layouts (open_positions program.now.types prov.now)) parts.now))) }
+    ensures { IfOk result (λ flat. Lays [] flat blocks.old blocks.new (parts_for program.now prov.now parts.now)) }
 {
     let mut flat = Seq::new(alloc);
     for part in parts {
@@ -103,7 +104,7 @@ fn push_part(
     flat: &mut Seq<Part>,
     blocks: &mut Seq<Block>,
 ) -> Result<(), AllocError>
-    ensures { OnOk result (Lays flat.old flat.new blocks.old blocks.new (part_laid program.now.layouts (open_positions program.now.types prov.now) part.now)) }
+    ensures { OnOk result (Lays flat.old flat.new blocks.old blocks.new (part_for program.now prov.now part.now)) }
 {
     match flat_kind(alloc, program, &part.kind, prov, blocks)? {
         None => Ok(()),
@@ -124,7 +125,7 @@ fn flat_kind(
     prov: &Pat,
     blocks: &mut Seq<Block>,
 ) -> Result<Option<Kind>, AllocError>
-    ensures { IfOk result (λ flat. LaysKind flat blocks.old blocks.new (kind_laid program.now.layouts (open_positions program.now.types prov.now) kind.now)) }
+    ensures { IfOk result (λ flat. LaysKind flat blocks.old blocks.new (kind_for program.now prov.now kind.now)) }
 {
     match kind {
         PartKind::Const(number) => Ok(Some(Kind::Const(*number))),
@@ -206,7 +207,7 @@ fn push_field(
     path: &Seq<u32>,
     words: &mut Seq<FlatWord>,
 ) -> Result<(), AllocError>
-    ensures { OnOk result (words.new ≡ words.old ++ inlined program.now.layouts (type_at (open_positions program.now.types prov.now) path.now) path.now) }
+    ensures { OnOk result (words.new ≡ words.old ++ field_for program.now prov.now path.now) }
 {
     match type_of(program, prov, path) {
         None => Ok(()),

@@ -2,7 +2,8 @@
 
 ghost use Rattle.std.specs.Prelude.{◌≡◌, ◌∷◌, ◌++◌, [], flat_map, length, map, IfOk, OnOk};
 ghost use Rattle.rb_core.specs.Layouts.{leaves, leaves_under};
-ghost use Rattle.rb_layout.specs.Flattening.{arm_numbering, arms_from, flat_leaf, numbering};
+ghost use Rattle.rb_layout.specs.Flattening.{arm_numbering, arms_from, numbering};
+ghost use Rattle.rb_layout.specs.inner.Laying.{arm_for, leaf_for, leaves_for};
 ghost use Rattle.rb_layout.specs.declared.layout.FlatTree as Flat;
 
 use crate::flat_leaf::flat_leaf;
@@ -23,7 +24,7 @@ pub(crate) fn flat_tree(
     flat: &mut Seq<Leaf>,
 ) -> Result<FlatTree, AllocError>
     ensures tree { IfOk result (λ r. r ≡ (numbering tree.now).from (length flat.old)) }
-    ensures leaves { OnOk result (flat.new ≡ flat.old ++ map (flat_leaf program.now.types program.now.layouts) (leaves tree.now)) }
+    ensures leaves { OnOk result (flat.new ≡ flat.old ++ leaves_for program.now (leaves tree.now)) }
 {
     match tree {
         LayTree::Leaf(_, prov, items) => push_leaf(alloc, program, prov, items.as_slice(), flat),
@@ -51,7 +52,7 @@ fn flat_arms(
     flat: &mut Seq<Leaf>,
 ) -> Result<Seq<FlatArm>, AllocError>
     ensures arms { IfOk result (λ r. r ≡ arms_from (map arm_numbering arms.now) (length flat.old)) }
-    ensures leaves { OnOk result (flat.new ≡ flat.old ++ map (flat_leaf program.now.types program.now.layouts) (flat_map leaves_under arms.now)) }
+    ensures leaves { OnOk result (flat.new ≡ flat.old ++ leaves_for program.now (flat_map leaves_under arms.now)) }
 {
     let mut flats = Seq::new(alloc);
     for arm in arms {
@@ -67,8 +68,8 @@ fn flat_arm(
     arm: &Arm,
     flat: &mut Seq<Leaf>,
 ) -> Result<FlatArm, AllocError>
-    ensures arm { IfOk result (λ r. r ≡ record { literal = arm.now.literal; under = (arm_numbering arm.now).of.from (length flat.old) }) }
-    ensures leaves { OnOk result (flat.new ≡ flat.old ++ map (flat_leaf program.now.types program.now.layouts) (leaves_under arm.now)) }
+    ensures arm { IfOk result (λ r. r ≡ arm_for arm.now (length flat.old)) }
+    ensures leaves { OnOk result (flat.new ≡ flat.old ++ leaves_for program.now (leaves_under arm.now)) }
 {
     let under = flat_tree(alloc, program, &arm.under, flat)?;
     Ok(FlatArm {
@@ -86,7 +87,7 @@ fn push_leaf(
     flat: &mut Seq<Leaf>,
 ) -> Result<FlatTree, AllocError>
     ensures tree { IfOk result (λ r. r ≡ Flat.Leaf (length flat.old)) }
-    ensures leaves { OnOk result (flat.new ≡ flat.old ++ flat_leaf program.now.types program.now.layouts (record { provenance = prov.now; items = items.now }) ∷ []) }
+    ensures leaves { OnOk result (flat.new ≡ flat.old ++ leaf_for program.now prov.now items.now ∷ []) }
 {
     let Ok(number) = u32::try_from(flat.len()) else {
         return Err(AllocError);

@@ -1,6 +1,8 @@
 //! The laws of flat forms and of agreement, as functions that carry them.
 
 ghost use Rattle.rb_layout.specs.Flat.{LeavesAreFlat};
+ghost use Rattle.rb_layout.specs.Placing.{EachStandsOnce};
+ghost use Rattle.rb_layout.specs.Positions.{OpensAreFromLeft};
 ghost use Rattle.rb_layout.specs.Spots.{NeverBeside, PlacesAreAll};
 
 /// In each leaf of a flat form each pointer leads to a block that is numbered below whatever points
@@ -17,4 +19,15 @@ pub fn evidence_never_beside()
 /// The rules hold at all places exactly where the ten of them hold.
 pub fn places_are_all()
     ensures { PlacesAreAll }
+{}
+
+/// The parts of a flat leaf are those that are written, each in one word of the width that it is
+/// written in, at its offset.
+pub fn each_stands_once()
+    ensures { EachStandsOnce }
+{}
+
+/// The open positions of a provenance stand from left to right.
+pub fn opens_are_from_left()
+    ensures { OpensAreFromLeft }
 {}

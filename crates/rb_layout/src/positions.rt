@@ -1,11 +1,11 @@
 //! The type at an open position.
 
-ghost use Rattle.std.specs.Prelude.{◌≡◌, MatchOption, None, Some, slice_get};
+ghost use Rattle.std.specs.Prelude.{◌≡◌, MatchOption, Some, slice_get};
 ghost use Rattle.rb_core.specs.declared.pattern.Pat.{out-Pat};
 ghost use Rattle.rb_core.specs.Values.{fields_of};
 ghost use Rattle.rb_layout.specs.Positions.{open_positions, root_type, types_or_none};
 ghost use Rattle.rb_layout.specs.Flattening.{type_at};
-ghost use Rattle.rb_layout.specs.inner.Walking.{sub_pattern, walked};
+ghost use Rattle.rb_layout.specs.inner.Walking.{HasNoSub, HasSub, walked};
 
 use rb_core::pattern::Pat;
 use rb_core::types::{ConRef, DataDecl, Ty};
@@ -63,7 +63,7 @@ fn field_type(types: &[DataDecl], con: ConRef, field: u32) -> Option<Ty>
 // The subpattern for a field, with its type.
 #[tactic(auto, using(crate::proofs::Walks::sub_found))]
 fn sub_pattern<'a>(types: &[DataDecl], pat: &'a Pat, field: u32) -> Option<(&'a Pat, Ty)>
-    ensures { MatchOption result (sub_pattern types.now pat.now field ≡ None) (λ x. sub_pattern types.now pat.now field ≡ Some (x.0.now, x.1)) }
+    ensures { MatchOption result (HasNoSub types.now pat.now field) (λ x. HasSub types.now pat.now field x.0.now x.1) }
 {
     match pat {
         Pat::Con(_, con, pats) => {

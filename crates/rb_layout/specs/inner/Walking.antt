@@ -1,5 +1,5 @@
 -- The type at a path of a pattern, field by field.
-use Rattle.std.specs.Prelude.{ℕ, List, [], ◌∷◌, Option, Some, None, slice_get}
+use Rattle.std.specs.Prelude.{◌≡◌, ℕ, List, [], ◌∷◌, Option, Some, None, slice_get}
 use Rattle.rb_core.specs.declared.types.Ty.{Ty}
 use Rattle.rb_core.specs.declared.types.DataDecl.{DataDecl}
 use Rattle.rb_core.specs.declared.pattern.Pat.{Pat, out-Pat}
@@ -23,6 +23,12 @@ sub_in types (P.Con at c ps) i = pair_of (slice_get ps i) (slice_get (types_or_n
 -- the subpattern for field i, with its type
 abbrev pub sub_pattern : List DataDecl → Pat → ℕ → Option (Pat × Ty)
 sub_pattern types p i = sub_in types (out-Pat p) i
+
+abbrev pub HasNoSub : List DataDecl → Pat → ℕ → Type 0
+HasNoSub types p i = sub_pattern types p i ≡ None
+
+abbrev pub HasSub : List DataDecl → Pat → ℕ → Pat → Ty → Type 0
+HasSub types p i sub ty = sub_pattern types p i ≡ Some (sub, ty)
 
 abbrev pub open_type : Pat-F Pat → Ty → Option Ty
 open_type (P.Wild at) ty = Some ty
