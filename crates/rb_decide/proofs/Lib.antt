@@ -1,0 +1,11 @@
+pub mod Building
+pub mod Covering
+pub mod Decided
+pub mod HeadOrder
+pub mod NodeKeys
+pub mod Moving
+pub mod Positions
+pub mod Taking
+pub mod TreeSteps
+pub mod Unfolding
+pub mod Weights

@@ -1,0 +1,74 @@
+-- What the tree of a match is for: it takes the chosen clause by few tests.
+use Rattle.std.specs.Prelude.{◌≡◌, ◌<◌, ◌≤◌, ℕ, List, [], ◌∷◌, Bool, true, false, ◌||◌, Option, Some, None, is_some, slice_get}
+use Rattle.std.specs.List.{AllByRecursion}
+use Rattle.rb_core.specs.declared.value.Value.{Value}
+use Rattle.rb_core.specs.declared.types.Ty.{Ty}
+use Rattle.rb_core.specs.declared.types.DataDecl.{DataDecl}
+use Rattle.rb_core.specs.declared.pattern.Pat.{Pat, out-Pat}
+use Rattle.rb_core.specs.declared.pattern.Pat.TheOpen as P
+use Rattle.rb_core.specs.declared.pattern.Pat.TheOpen.{Pat-F}
+use Rattle.rb_core.specs.Matching.{chosen_clause}
+use Rattle.rb_core.specs.Values.{is_of_type}
+use Rattle.rb_matrix.specs.Heads.{layer_head}
+use Rattle.rb_decide.specs.declared.decision_tree.Tree.{Tree}
+use Rattle.rb_decide.specs.declared.decision_tree.Tried.{Tried}
+use Rattle.rb_decide.specs.declared.decision_tree.Tried.TheVariants.{Built, Over}
+use Rattle.rb_decide.specs.Trees.{taken, size, Way, ways, match_tree}
+
+-- Heads at positions --------------------------------------------------------------------------------
+
+abbrev pub subpatterns : Pat-F Pat → List Pat
+subpatterns (P.Wild at) = []
+subpatterns (P.Var at x) = []
+subpatterns (P.Num at n) = []
+subpatterns (P.Con at c ps) = ps
+
+abbrev pub subpattern : Option Pat → ℕ → Option Pat
+subpattern None i = None
+subpattern (Some p) i = slice_get (subpatterns (out-Pat p)) i
+
+-- the subpattern at a position, where the pattern reaches there
+abbrev pub pattern_from : Option Pat → List ℕ → Option Pat
+pattern_from p [] = p
+pattern_from p (i ∷ is) = pattern_from (subpattern p i) is
+
+abbrev pub is_head : Option Pat → Bool
+is_head None = false
+is_head (Some p) = is_some (layer_head (out-Pat p))
+
+-- whether some pattern has a number or a constructor at a position
+abbrev pub any_head_at : List Pat → List ℕ → Bool
+any_head_at [] position = false
+any_head_at (p ∷ ps) position = is_head (pattern_from (Some p) position) || any_head_at ps position
+
+-- Laws of the tree ----------------------------------------------------------------------------------
+
+-- of each value of the type the tree takes the chosen clause
+abbrev pub TakesChosen : List DataDecl → Ty → List Pat → Tree → Type 0
+TakesChosen types ty ps t = (v : Value) → is_of_type types v ty ≡ true → taken t v ≡ chosen_clause ps v
+
+abbrev pub AreDistinct : Way → Type 0
+AreDistinct [] = Unit {0}
+AreDistinct (q ∷ qs) = AllByRecursion (λ r. q ≡ r → ⊥) qs × AreDistinct qs
+
+-- no way tests a position twice
+abbrev pub TestsOnce : Tree → Type 0
+TestsOnce t = AllByRecursion AreDistinct (ways t)
+
+abbrev pub HaveHeads : List Pat → Way → Type 0
+HaveHeads ps way = AllByRecursion (λ q. any_head_at ps q ≡ true) way
+
+-- each tested position is one at which some clause has a number or a constructor
+abbrev pub TestsHeads : List Pat → Tree → Type 0
+TestsHeads ps t = AllByRecursion (HaveHeads ps) (ways t)
+
+-- The answer ----------------------------------------------------------------------------------------
+
+-- the tree of the match, or that its size is over the limit
+abbrev pub IsTried : List DataDecl → Ty → List Pat → ℕ → Tried → Type 0
+IsTried types ty ps limit (Built t) = (t ≡ match_tree types ty ps) × (size t ≤ limit)
+IsTried types ty ps limit Over = limit < size (match_tree types ty ps)
+
+abbrev pub OnBuilt : Tried → (Tree → Type 0) → Type 0
+OnBuilt (Built t) P = P t
+OnBuilt Over P = Unit {0}

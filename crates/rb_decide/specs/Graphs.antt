@@ -1,0 +1,57 @@
+-- Decision graphs: the tree that a graph unfolds to, and what it shares.
+use Rattle.std.specs.Prelude.{◌≡◌, ◌<◌, ℕ, List, [], ◌∷◌, ◌++◌, map, Option, Some, None, unwrap_or, option_map, slice_get}
+use Rattle.std.specs.List.{AllByRecursion}
+use Rattle.rb_decide.specs.declared.decision_tree.Tree.{Tree}
+use Rattle.rb_decide.specs.declared.decision_tree.Tree as Trees
+use Rattle.rb_decide.specs.declared.decision_tree.TreeArm.{TreeArm}
+use Rattle.rb_decide.specs.declared.decision_graph.Graph.{Graph}
+use Rattle.rb_decide.specs.declared.decision_graph.GraphNode.{GraphNode}
+use Rattle.rb_decide.specs.declared.decision_graph.GraphNode.TheVariants.{Test, Clause}
+use Rattle.rb_decide.specs.declared.decision_graph.GraphArm.{GraphArm}
+
+-- The unfolding -------------------------------------------------------------------------------------
+
+-- the tree with this number, among the trees of lower nodes
+abbrev pub tree_under : List Tree → ℕ → Tree
+tree_under lower i = unwrap_or (slice_get lower i) (Trees.Clause 0)
+
+abbrev pub arm_under : List Tree → GraphArm → TreeArm
+arm_under lower a = record { head = a.head; under = tree_under lower a.under }
+
+-- a node's tree: that of a lower node in the place of each link
+abbrev pub node_tree : List Tree → GraphNode → Tree
+node_tree lower (Test position arms other) = Trees.Test position (map (arm_under lower) arms) (option_map (tree_under lower) other)
+node_tree lower (Clause k) = Trees.Clause k
+
+abbrev pub trees_onto : List Tree → List GraphNode → List Tree
+trees_onto lower [] = lower
+trees_onto lower (n ∷ ns) = trees_onto (lower ++ node_tree lower n ∷ []) ns
+
+-- the trees of all nodes, in their order
+abbrev pub node_trees : List GraphNode → List Tree
+node_trees nodes = trees_onto [] nodes
+
+-- the tree of the root
+abbrev pub unfolding_of : Graph → Option Tree
+unfolding_of g = slice_get (node_trees g.nodes) g.root
+
+-- Sharing -------------------------------------------------------------------------------------------
+
+abbrev pub arm_link : GraphArm → ℕ
+arm_link a = a.under
+
+abbrev pub other_link : Option ℕ → List ℕ
+other_link None = []
+other_link (Some i) = i ∷ []
+
+abbrev pub links : GraphNode → List ℕ
+links (Test position arms other) = map arm_link arms ++ other_link other
+links (Clause k) = []
+
+-- each link goes to a lower number
+abbrev pub LinksAreLower : List GraphNode → Type 0
+LinksAreLower nodes = (i : ℕ) (n : GraphNode) → slice_get nodes i ≡ Some n → AllByRecursion (λ j. j < i) (links n)
+
+-- no two nodes are equal
+abbrev pub NodesDiffer : List GraphNode → Type 0
+NodesDiffer nodes = (i j : ℕ) (n : GraphNode) → slice_get nodes i ≡ Some n → slice_get nodes j ≡ Some n → i ≡ j

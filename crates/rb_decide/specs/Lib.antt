@@ -1,0 +1,5 @@
+pub mod ClauseMatrices
+pub mod Decisions
+pub mod Graphs
+pub mod Trees
+pub mod inner

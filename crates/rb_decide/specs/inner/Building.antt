@@ -1,0 +1,32 @@
+-- What the steps of building a tree give.
+use Rattle.std.specs.Prelude.{◌≡◌, ◌+◌, ◌<◌, ℕ, List, [], ◌∷◌, ◌++◌, map, sum, if◌then◌else◌, Option, Some, None}
+use Rattle.rb_matrix.specs.declared.matrix.Head.{Head}
+use Rattle.rb_matrix.specs.Heads.{any_begins, sample}
+use Rattle.rb_decide.specs.declared.clause_matrix.Column.{Column}
+use Rattle.rb_decide.specs.declared.decision_tree.Tree.{Tree}
+use Rattle.rb_decide.specs.declared.decision_tree.TreeArm.{TreeArm}
+use Rattle.rb_decide.specs.Trees.{size}
+use Rattle.rb_core.specs.declared.types.Ty.{Ty}
+
+-- one more head, unless it is known
+abbrev pub with_head : List Head → Option Head → List Head
+with_head hs None = hs
+with_head hs (Some h) = if any_begins hs (sample h) then hs else hs ++ h ∷ []
+
+abbrev pub column_ty : Column → Ty
+column_ty c = c.ty
+
+-- of so many nodes that may be built, a tree takes its size, or there are too few
+abbrev pub IsBuilt : Tree → ℕ → ℕ → Option Tree → Type 0
+IsBuilt t old new None = old < size t
+IsBuilt t old new (Some x) = (x ≡ t) × (size t + new ≡ old)
+
+abbrev pub arm_tree : TreeArm → Tree
+arm_tree a = a.under
+
+abbrev pub arms_size : List TreeArm → ℕ
+arms_size arms = sum (map (λ a. size (arm_tree a)) arms)
+
+abbrev pub AreBuilt : List TreeArm → ℕ → ℕ → Option (List TreeArm) → Type 0
+AreBuilt ts old new None = old < arms_size ts
+AreBuilt ts old new (Some xs) = (xs ≡ ts) × (arms_size ts + new ≡ old)

@@ -1,0 +1,85 @@
+-- What sharing keeps while it adds nodes.
+use Rattle.std.specs.Prelude.{◌≡◌, ℕ, List, [], ◌∷◌, ◌++◌, length, Option, Some, None, slice_get, if◌then◌else◌}
+use Rattle.std.specs.List.{flat_map}
+use Rattle.std.specs.Map.{lookup}
+use Rattle.std.specs.Str.{bytes_eq}
+use Rattle.rb_matrix.specs.declared.matrix.Head.{Head}
+use Rattle.rb_matrix.specs.declared.matrix.Head.TheVariants as H
+use Rattle.rb_decide.specs.declared.decision_tree.Tree.{Tree}
+use Rattle.rb_decide.specs.declared.decision_tree.TreeArm.{TreeArm}
+use Rattle.rb_decide.specs.declared.decision_graph.GraphNode.{GraphNode}
+use Rattle.rb_decide.specs.declared.decision_graph.GraphNode.TheVariants.{Test, Clause}
+use Rattle.rb_decide.specs.declared.decision_graph.GraphArm.{GraphArm}
+use Rattle.rb_decide.specs.declared.sharing.Sharing.{Sharing}
+use Rattle.rb_decide.specs.Graphs.{node_trees, LinksAreLower}
+
+-- Keys ----------------------------------------------------------------------------------------------
+
+abbrev pub head_key : Head → List ℕ
+head_key (H.Num n) = 0 ∷ n ∷ 0 ∷ []
+head_key (H.Con c) = 1 ∷ c.ty ∷ c.con ∷ []
+
+abbrev pub arm_key : GraphArm → List ℕ
+arm_key a = head_key a.head ++ a.under ∷ []
+
+abbrev pub other_key : Option ℕ → List ℕ
+other_key None = 0 ∷ []
+other_key (Some i) = 1 ∷ i ∷ []
+
+-- a node as a list of numbers
+abbrev pub node_key : GraphNode → List ℕ
+node_key (Test position arms other) = 1 ∷ length position ∷ (position ++ (other_key other ++ flat_map arm_key arms))
+node_key (Clause k) = 0 ∷ k ∷ []
+
+-- Nodes with their numbers --------------------------------------------------------------------------
+
+-- the number kept for a key
+abbrev pub number_at : Sharing → List ℕ → Option ℕ
+number_at s key = lookup (λ k. bytes_eq key k.items) s.numbers.entries
+
+-- each node has its number, and no other key has one
+pub record IsFine (s : Sharing) : Type 0 where
+  pub lower : LinksAreLower s.nodes
+  pub known : (i : ℕ) (n : GraphNode) → slice_get s.nodes i ≡ Some n → number_at s (node_key n) ≡ Some i
+  pub sound : (key : List ℕ) (i : ℕ) → number_at s key ≡ Some i → (n : GraphNode) × (slice_get s.nodes i ≡ Some n) × (node_key n ≡ key)
+
+-- one key has a number, and the others what they had
+abbrev pub AddsKey : Sharing → Sharing → List ℕ → ℕ → Type 0
+AddsKey old new key i = (q : List ℕ) → number_at new q ≡ (if bytes_eq q key then Some i else number_at old q)
+
+abbrev pub Grows : Sharing → Sharing → Type 0
+Grows old new = (more : List GraphNode) × (new.nodes ≡ old.nodes ++ more)
+
+pub record IsAdded (old new : Sharing) (n : GraphNode) (i : ℕ) : Type 0 where
+  pub fine : IsFine new
+  pub grown : Grows old new
+  pub there : slice_get new.nodes i ≡ Some n
+
+-- a tree's root has this number
+pub record IsShared (t : Tree) (old new : Sharing) (i : ℕ) : Type 0 where
+  pub fine : IsFine new
+  pub grown : Grows old new
+  pub there : slice_get (node_trees new.nodes) i ≡ Some t
+
+-- arms with numbers in the place of trees
+abbrev pub Linked : List Tree → List TreeArm → List GraphArm → Type 0
+Linked trees [] [] = Unit {0}
+Linked trees [] (l ∷ ls) = ⊥
+Linked trees (a ∷ as') [] = ⊥
+Linked trees (a ∷ as') (l ∷ ls) = (l.head ≡ a.head) × (slice_get trees l.under ≡ Some a.under) × Linked trees as' ls
+
+pub record AreShared (arms : List TreeArm) (old new : Sharing) (ls : List GraphArm) : Type 0 where
+  pub fine : IsFine new
+  pub grown : Grows old new
+  pub there : Linked (node_trees new.nodes) arms ls
+
+abbrev pub OtherLinked : List Tree → Option Tree → Option ℕ → Type 0
+OtherLinked trees None None = Unit {0}
+OtherLinked trees None (Some i) = ⊥
+OtherLinked trees (Some t) None = ⊥
+OtherLinked trees (Some t) (Some i) = slice_get trees i ≡ Some t
+
+pub record IsOtherShared (other : Option Tree) (old new : Sharing) (link : Option ℕ) : Type 0 where
+  pub fine : IsFine new
+  pub grown : Grows old new
+  pub there : OtherLinked (node_trees new.nodes) other link

@@ -1,0 +1,160 @@
+//! Clause matrices: rows of patterns with their clauses, over columns with their positions.
+
+ghost use Rattle.std.specs.Prelude.{◌≡◌, ◌∷◌, ◌++◌, [], IfOk, OnOk, map, is_some};
+ghost use Rattle.std.specs.Option.{option_copied};
+ghost use Rattle.rb_matrix.specs.Heads.{layer_head};
+ghost use Rattle.rb_core.specs.declared.pattern.Pat as Pats;
+ghost use Rattle.rb_decide.specs.ClauseMatrices.{to_front, row_to_front, first_test, match_rows};
+
+use rb_core::pattern::{Pat, copy_patterns};
+use rb_core::seq::Seq;
+use rb_core::types::Ty;
+use std::alloc::{AllocError, Global};
+
+/// A column of a clause matrix: the position of its values in the scrutinee, by field numbers from
+/// the root, and their type.
+#[derive(Debug, Drop)]
+pub struct Column {
+    pub position: Seq<u32>,
+    pub ty: Ty,
+}
+
+/// A row of a clause matrix: its patterns, one for each column, and the number of its clause.
+#[derive(Debug, Drop)]
+pub struct Row {
+    pub pats: Seq<Pat>,
+    pub clause: u32,
+}
+
+impl Column {
+    /// An equal column.
+    pub fn copy(&self, alloc: Global) -> Result<Column, AllocError>
+        ensures { IfOk result (λ c. c ≡ self.now) }
+    {
+        Ok(Column {
+            position: self.position.copy(alloc)?,
+            ty: self.ty,
+        })
+    }
+}
+
+// Whether a pattern is a number or a constructor.
+fn has_head(pat: &Pat) -> bool
+    ensures { result ≡ is_some (layer_head (Pats.out-Pat pat.now)) }
+{
+    match pat {
+        Pat::Wild(_) => false,
+        Pat::Var(_, _) => false,
+        Pat::Num(_, _) => true,
+        Pat::Con(_, _, _) => true,
+    }
+}
+
+/// The first column in which a row has a number or a constructor.
+pub fn first_tested(pats: &[Pat]) -> Option<usize>
+    ensures { result ≡ first_test pats.now }
+{
+    for i in 0..pats.len() {
+        if has_head(&pats[i]) {
+            return Some(i);
+        }
+    }
+    None
+}
+
+fn push_columns(alloc: Global, columns: &mut Seq<Column>, more: &[Column]) -> Result<(), AllocError>
+    ensures { OnOk result (columns.new ≡ columns.old ++ more.now) }
+{
+    for column in more {
+        columns.push(column.copy(alloc)?)?;
+    }
+    Ok(())
+}
+
+fn push_patterns(alloc: Global, pats: &mut Seq<Pat>, more: &[Pat]) -> Result<(), AllocError>
+    ensures { OnOk result (pats.new ≡ pats.old ++ more.now) }
+{
+    for pat in more {
+        pats.push(pat.copy(alloc)?)?;
+    }
+    Ok(())
+}
+
+/// The columns, with the one of this number at the front.
+pub fn columns_to_front(
+    alloc: Global,
+    i: usize,
+    columns: &[Column],
+) -> Result<Seq<Column>, AllocError>
+    ensures { IfOk result (λ r. r ≡ to_front i columns.now) }
+{
+    let mut moved = Seq::new(alloc);
+    if i >= columns.len() {
+        push_columns(alloc, &mut moved, columns)?;
+        return Ok(moved);
+    }
+    moved.push(columns[i].copy(alloc)?)?;
+    push_columns(alloc, &mut moved, &columns[..i])?;
+    push_columns(alloc, &mut moved, &columns[i + 1..])?;
+    Ok(moved)
+}
+
+// The patterns, with the one of this number at the front.
+fn patterns_to_front(alloc: Global, i: usize, pats: &[Pat]) -> Result<Seq<Pat>, AllocError>
+    ensures { IfOk result (λ r. r ≡ to_front i pats.now) }
+{
+    if i >= pats.len() {
+        let copies = copy_patterns(alloc, pats)?;
+        return Ok(copies);
+    }
+    let mut moved = Seq::new(alloc);
+    moved.push(pats[i].copy(alloc)?)?;
+    push_patterns(alloc, &mut moved, &pats[..i])?;
+    push_patterns(alloc, &mut moved, &pats[i + 1..])?;
+    Ok(moved)
+}
+
+/// The rows, each with its pattern of this number at the front.
+pub fn rows_to_front(alloc: Global, i: usize, rows: &[Row]) -> Result<Seq<Row>, AllocError>
+    ensures { IfOk result (λ r. r ≡ map (row_to_front i) rows.now) }
+{
+    let mut moved = Seq::new(alloc);
+    for row in rows {
+        let pats = patterns_to_front(alloc, i, row.pats.as_slice())?;
+        moved.push(Row {
+            pats,
+            clause: row.clause,
+        })?;
+    }
+    Ok(moved)
+}
+
+// A row of one pattern.
+fn row_of(alloc: Global, pat: &Pat, clause: u32) -> Result<Row, AllocError>
+    ensures { IfOk result (λ r. r ≡ record { pats = pat.now ∷ []; clause = clause }) }
+{
+    let mut pats = Seq::new(alloc);
+    pats.push(pat.copy(alloc)?)?;
+    Ok(Row { pats, clause })
+}
+
+/// A number of 32 bits; a count of 2^32 and more meets want of memory.
+pub fn number_of(count: usize) -> Result<u32, AllocError>
+    ensures { IfOk result (λ n. n ≡ count) }
+{
+    match u32::try_from(count) {
+        Ok(number) => Ok(number),
+        Err(_) => Err(AllocError),
+    }
+}
+
+/// One row for each pattern of a match, with the number of its clause.
+pub fn rows_of_match(alloc: Global, pats: &[Pat]) -> Result<Seq<Row>, AllocError>
+    ensures { IfOk result (λ r. r ≡ match_rows 0 pats.now) }
+{
+    let mut rows = Seq::new(alloc);
+    for i in 0..pats.len() {
+        rows.push(row_of(alloc, &pats[i], number_of(i)?)?)?;
+    }
+    Ok(rows)
+}

@@ -1,0 +1,83 @@
+//! The tree of a match.
+
+ghost use Rattle.std.specs.Prelude.{◌≡◌, [], IfOk};
+ghost use Rattle.rb_core.specs.Matching.{IsExhaustive};
+ghost use Rattle.rb_matrix.specs.Search.{AreInhabited, IsTypeIn};
+ghost use Rattle.rb_decide.specs.Decisions.{IsTried, OnBuilt, TakesChosen, TestsOnce, TestsHeads};
+
+use crate::build::build;
+use crate::clause_matrix::{Column, rows_of_match};
+use crate::decision_tree::Tried;
+use rb_core::pattern::Pat;
+use rb_core::seq::Seq;
+use rb_core::types::{DataDecl, Ty};
+use std::alloc::{AllocError, Global};
+
+/// The greatest number of nodes of a tree that is built.
+pub const LARGEST_TREE: usize = 512;
+
+// The scrutinee's column.
+fn scrutinee(alloc: Global, ty: Ty) -> Column
+    ensures { result ≡ record { position = []; ty = ty } }
+{
+    Column {
+        position: Seq::new(alloc),
+        ty,
+    }
+}
+
+/// The tree of a match on a value of a type, unless it has more nodes than `limit`. No more nodes
+/// than these are built, and it takes stack to the depth of the tree.
+///
+/// # Errors
+///
+/// Want of memory.
+pub fn tree_up_to(
+    alloc: Global,
+    types: &[DataDecl],
+    ty: Ty,
+    rows: &[Pat],
+    limit: usize,
+) -> Result<Tried, AllocError>
+    requires inhabited { AreInhabited types.now }
+    requires live { IsTypeIn types.now ty }
+    requires exhaustive { IsExhaustive types.now ty rows.now }
+    ensures tried { IfOk result (λ r. IsTried types.now ty rows.now limit r) }
+
+    // Of each value of the type it takes the chosen clause.
+    ensures takes { IfOk result (λ r. OnBuilt r (TakesChosen types.now ty rows.now)) }
+
+    // It tests no position twice on a way, and only those at which some row has a head.
+    ensures once { IfOk result (λ r. OnBuilt r TestsOnce) }
+    ensures heads { IfOk result (λ r. OnBuilt r (TestsHeads rows.now)) }
+{
+    let columns = [scrutinee(alloc, ty)];
+    let rows = rows_of_match(alloc, rows)?;
+    let mut left = limit;
+    match build(alloc, types, &columns, rows.as_slice(), &mut left)? {
+        Some(tree) => Ok(Tried::Built(tree)),
+        None => Ok(Tried::Over),
+    }
+}
+
+/// The tree of a match on a value of a type, or `Over` where it has more than 512 nodes.
+///
+/// # Errors
+///
+/// Want of memory.
+pub fn tree(alloc: Global, types: &[DataDecl], ty: Ty, rows: &[Pat]) -> Result<Tried, AllocError>
+    requires inhabited { AreInhabited types.now }
+    requires live { IsTypeIn types.now ty }
+    requires exhaustive { IsExhaustive types.now ty rows.now }
+    ensures tried { IfOk result (λ r. IsTried types.now ty rows.now 512 r) }
+
+    // Of each value of the type it takes the chosen clause.
+    ensures takes { IfOk result (λ r. OnBuilt r (TakesChosen types.now ty rows.now)) }
+
+    // It tests no position twice on a way, and only those at which some row has a head.
+    ensures once { IfOk result (λ r. OnBuilt r TestsOnce) }
+    ensures heads { IfOk result (λ r. OnBuilt r (TestsHeads rows.now)) }
+{
+    let tried = tree_up_to(alloc, types, ty, rows, LARGEST_TREE)?;
+    Ok(tried)
+}

@@ -1,0 +1,76 @@
+//! Whether heads are a complete signature: all that values of a type can begin with.
+
+ghost use Rattle.std.specs.Prelude.{◌≡◌, ◌+◌, ◌^◌, ◌<◌, ◌≤◌, [], slice_get};
+ghost use Rattle.rb_core.specs.declared.value.Value.TheOpen as Layers;
+ghost use Rattle.rb_matrix.specs.Heads.{any_begins};
+ghost use Rattle.rb_matrix.specs.Search.{AreInhabited, IsTypeIn};
+ghost use Rattle.rb_decide.specs.ClauseMatrices.{all_below, con_count, is_complete};
+
+use rb_core::types::{ConRef, DataDecl, Ty};
+use rb_matrix::heads::is_known;
+use rb_matrix::matrix::Head;
+
+// The greatest number of an integer type.
+fn greatest(bits: u8) -> u64
+    requires { bits ≤ 64 }
+    ensures { result + 1 ≡ 2 ^ bits }
+{
+    if bits == 64 {
+        u64::MAX
+    } else {
+        (1u64 << bits) - 1
+    }
+}
+
+// Whether all numbers up to `most` are among the heads.
+fn has_numbers(heads: &[Head], most: u64) -> bool
+    ensures { result ≡ all_below (most + 1) (λ n. any_begins heads.now (Layers.Num n)) }
+{
+    let mut number = 0;
+    loop {
+        if !is_known(heads, Head::Num(number)) {
+            return false;
+        }
+        if number == most {
+            return true;
+        }
+        number += 1;
+    }
+}
+
+// How many constructors a type has; a type that there is not has none.
+fn constructors_of(types: &[DataDecl], ty: u32) -> usize
+    ensures { result ≡ con_count (slice_get types.now ty) }
+{
+    let ty = ty as usize;
+    if ty >= types.len() {
+        return 0;
+    }
+    types[ty].cons.len()
+}
+
+// Whether the first `count` constructors of a type are among the heads.
+fn has_constructors(heads: &[Head], ty: u32, count: usize) -> bool
+    requires { count < 2 ^ 32 }
+    ensures { result ≡ all_below count (λ k. any_begins heads.now (Layers.Con k [])) }
+{
+    for k in 0..count {
+        let con = k as u32;
+        if !is_known(heads, Head::Con(ConRef { ty, con })) {
+            return false;
+        }
+    }
+    true
+}
+
+/// Whether the heads are all constructors of the type, or all numbers of its width.
+pub fn covers(types: &[DataDecl], ty: Ty, heads: &[Head]) -> bool
+    requires inhabited { AreInhabited types.now }
+    requires live { IsTypeIn types.now ty }
+    ensures { result ≡ is_complete types.now ty heads.now }
+{
+    match ty {
+        Ty::Int(bits) => has_numbers(heads, greatest(bits)),
+        Ty::Named(t) => has_constructors(heads, t, constructors_of(types, t)),
+    }
+}
