@@ -1,5 +1,5 @@
 -- The steps of building a tree.
-use Rattle.std.proofs.Common.{◌≡◌, ℕ, zero, suc, ◌+◌, ◌-◌, ◌*◌, ◌<◌, ◌≤◌, List, [], ◌∷◌, ◌++◌, map, take, drop, length, get_or, sum, Bool, true, false, Option, Some, None, is_some, refl, sym, ap, ◌∙◌, arith, subst}
+use Rattle.std.proofs.Common.{◌≡◌, ℕ, zero, suc, ◌+◌, ◌-◌, ◌<◌, ◌≤◌, List, [], ◌∷◌, ◌++◌, map, take, drop, length, get_or, sum, Bool, true, false, Option, Some, None, is_some, refl, sym, ap, ◌∙◌, arith, subst}
 use Rattle.std.specs.Prelude.{slice_get, if◌then◌else◌, unwrap_or}
 use Rattle.std.proofs.Common.{length-drop, append_assoc}
 use Rattle.std.proofs.lemmas.Bool.{false≢true}
@@ -11,15 +11,14 @@ use Rattle.rb_matrix.specs.declared.matrix.Head.{Head}
 use Rattle.rb_matrix.specs.declared.matrix.Head.TheVariants as H
 use Rattle.rb_matrix.specs.Heads.{fields_at}
 use Rattle.rb_matrix.specs.Search.{AreInhabited, AreTypesIn, IsTypeIn}
-use Rattle.rb_matrix.proofs.Parts.{fields_at-live, live-append}
+use Rattle.rb_matrix.proofs.Parts.{fields_at-live}
 use Rattle.rb_decide.specs.declared.clause_matrix.Column.{Column}
 use Rattle.rb_decide.specs.declared.clause_matrix.Row.{Row}
 use Rattle.rb_decide.specs.declared.decision_tree.Tree.{Tree, Test, Clause}
 use Rattle.rb_decide.specs.declared.decision_tree.TreeArm.{TreeArm}
 use Rattle.rb_decide.specs.ClauseMatrices.{before, first_test, to_front, row_to_front, column_heads, is_complete, special_rows, default_rows, field_types, field_columns}
-use Rattle.rb_decide.specs.Trees.{size, arms_of, other_of, test_of, tree_at, tree_step, tree_within, row_pats, heads_in}
+use Rattle.rb_decide.specs.Trees.{size, arms_of, other_of, test_of, tree_at, tree_step, tree_within, heads_in}
 use Rattle.rb_decide.specs.inner.Building.{column_ty, IsBuilt, AreBuilt, arms_size}
-use Rattle.rb_decide.proofs.Moving.{front-there, front-past}
 use Rattle.rb_decide.proofs.TreeSteps.{size-Clause, size-None, size-Some, size-least, arms-cons, arms-append}
 use Rattle.rb_decide.proofs.Weights.{column_head, rows-front, front-column, special-less, default-less}
 

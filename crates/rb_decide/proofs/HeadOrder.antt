@@ -1,15 +1,11 @@
 -- Heads of a column in the order of first standing there.
-use Rattle.std.proofs.Common.{◌≡◌, ℕ, List, [], ◌∷◌, ◌++◌, Bool, true, false, ◌||◌, Option, Some, None, refl, sym, ap, ◌∙◌}
+use Rattle.std.proofs.Common.{◌≡◌, List, [], ◌∷◌, ◌++◌, Bool, true, false, ◌||◌, Option, Some, None, refl, sym, ap, ◌∙◌}
 use Rattle.std.specs.Prelude.{if◌then◌else◌}
 use Rattle.std.proofs.Common.{append_assoc}
-use Rattle.std.proofs.lemmas.Bool.{false≢true}
-use Rattle.rb_core.specs.declared.value.Value.{Value}
-use Rattle.rb_core.specs.declared.value.Value.TheOpen.{Value-F}
 use Rattle.rb_matrix.specs.declared.matrix.Head.{Head}
-use Rattle.rb_matrix.specs.Heads.{layer_begins, any_begins, option_begins, row_head, sample}
+use Rattle.rb_matrix.specs.Heads.{layer_begins, any_begins, sample}
 use Rattle.rb_matrix.proofs.HeadLemmas.{any_begins-append, any_begins-alike}
-use Rattle.rb_decide.specs.declared.clause_matrix.Row.{Row}
-use Rattle.rb_decide.specs.ClauseMatrices.{without, with_first, column_heads}
+use Rattle.rb_decide.specs.ClauseMatrices.{without, with_first}
 use Rattle.rb_decide.specs.inner.Building.{with_head}
 
 -- those that are not known

@@ -1,5 +1,5 @@
 -- Keys of nodes, and the numbers that are kept for them.
-use Rattle.std.proofs.Common.{◌≡◌, ℕ, zero, suc, ◌+◌, ◌<◌, ◌≤◌, List, [], ◌∷◌, ◌++◌, length, Bool, true, false, Option, Some, None, refl, sym, ap, ◌∙◌, arith, subst, ◌⊎◌, inl, inr}
+use Rattle.std.proofs.Common.{◌≡◌, ℕ, zero, suc, ◌<◌, List, [], ◌∷◌, ◌++◌, length, Bool, true, false, Option, Some, None, refl, sym, ap, ◌∙◌, arith, subst, ◌⊎◌, inl, inr}
 use Rattle.std.specs.Prelude.{slice_get, if◌then◌else◌, cond}
 use Rattle.std.specs.List.{AllByRecursion, flat_map}
 use Rattle.std.specs.Map.{lookup}
@@ -8,10 +8,8 @@ use Rattle.std.specs.Ordering.{is_eq, match_ordering}
 use Rattle.std.specs.declared.cmp.Ordering.{Ordering}
 use Rattle.std.specs.declared.cmp.Ordering.TheVariants.{Less, Equal, Greater}
 use Rattle.std.specs.BTreeMap.{insert_entry}
-use Rattle.std.specs.Cmp.Lexicographic.{slice_cmp, same_text, other_text}
-use Rattle.std.proofs.lemmas.Bool.{false≢true, cases_lt}
-use Rattle.std.proofs.lemmas.Option.{slice_get_within}
-use Rattle.std.proofs.lemmas.List.{length-append}
+use Rattle.std.specs.Cmp.Lexicographic.{same_text, other_text}
+use Rattle.std.proofs.lemmas.Bool.{false≢true}
 use Rattle.rb_core.specs.declared.types.ConRef.{ConRef}
 use Rattle.rb_matrix.specs.declared.matrix.Head.{Head}
 use Rattle.rb_matrix.specs.declared.matrix.Head.TheVariants as H
@@ -20,7 +18,7 @@ use Rattle.rb_decide.specs.declared.decision_graph.GraphNode.TheVariants.{Test, 
 use Rattle.rb_decide.specs.declared.decision_graph.GraphArm.{GraphArm}
 use Rattle.rb_decide.specs.declared.sharing.Sharing.{Sharing}
 use Rattle.rb_decide.specs.Graphs.{links}
-use Rattle.rb_decide.specs.inner.Sharing.{head_key, arm_key, other_key, node_key, number_at, IsFine, AddsKey, Grows, IsAdded}
+use Rattle.rb_decide.specs.inner.Sharing.{head_key, arm_key, other_key, node_key, number_at, IsFine, AddsKey, IsAdded}
 use Rattle.rb_decide.proofs.Unfolding.{get-left, get-last, grows-none}
 
 -- other nodes have other keys -----------------------------------------------------------------------

@@ -3,7 +3,6 @@ use Rattle.std.proofs.Common.{◌≡◌, ℕ, zero, suc, ◌+◌, ◌<◌, List,
 use Rattle.std.specs.Prelude.{◌^◌, nat_lt, slice_get, if◌then◌else◌, option_map, unwrap_or}
 use Rattle.std.specs.List.{AllByRecursion, flat_map}
 use Rattle.std.proofs.lemmas.Bool.{eqb-true, eqb-false, eq-eqb, false≢true, cases_lt}
-use Rattle.rb_core.specs.declared.types.ConRef.{ConRef}
 use Rattle.rb_core.specs.declared.types.DataDecl.{DataDecl}
 use Rattle.rb_core.specs.declared.types.Ty.{Ty}
 use Rattle.rb_core.specs.declared.types.Ty.TheVariants.{Int, Named}
@@ -12,14 +11,13 @@ use Rattle.rb_core.specs.declared.pattern.Pat.TheOpen as P
 use Rattle.rb_core.specs.declared.pattern.Pat.TheOpen.{Pat-F}
 use Rattle.rb_matrix.specs.declared.matrix.Head.{Head}
 use Rattle.rb_matrix.specs.declared.matrix.Head.TheVariants as H
-use Rattle.rb_matrix.specs.Heads.{layer_head, row_head, or_else, fields_at}
+use Rattle.rb_matrix.specs.Heads.{layer_head, row_head, or_else}
 use Rattle.rb_matrix.specs.Specialize.{wilds, number_image, con_image, special_image, special_row, default_image, default_row}
 use Rattle.rb_decide.specs.declared.clause_matrix.Column.{Column}
 use Rattle.rb_decide.specs.declared.clause_matrix.Row.{Row}
-use Rattle.rb_decide.specs.declared.decision_tree.Tree.{Tree, Test, Clause}
-use Rattle.rb_decide.specs.declared.decision_tree.TreeArm.{TreeArm}
+use Rattle.rb_decide.specs.declared.decision_tree.Tree.{Tree, Clause}
 use Rattle.rb_decide.specs.ClauseMatrices.{match_rows, match_column, first_test, to_front, row_to_front, column_heads, is_complete, keep_row, special_rows, default_rows, field_types, field_columns}
-use Rattle.rb_decide.specs.Trees.{Way, ways, Subtree, arms_of, other_of, test_of, tree_at, tree_step, tree_within, heads_in, tree_of, match_tree}
+use Rattle.rb_decide.specs.Trees.{Way, ways, Subtree, arms_of, other_of, test_of, tree_at, tree_step, tree_within, heads_in, match_tree}
 use Rattle.rb_decide.specs.Decisions.{subpatterns, subpattern, pattern_from, is_head, any_head_at, AreDistinct, TestsOnce, HaveHeads, TestsHeads}
 use Rattle.rb_decide.proofs.Moving.{swap, moved, front-moved, front-past}
 use Rattle.rb_decide.proofs.TreeSteps.{arm_ways, ways-Clause, ways-Test}

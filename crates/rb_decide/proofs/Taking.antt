@@ -1,11 +1,10 @@
 -- A matrix's tree takes the first row that matches.
-use Rattle.std.proofs.Common.{◌≡◌, ℕ, zero, suc, ◌+◌, ◌<◌, ◌≤◌, List, [], ◌∷◌, ◌++◌, map, take, drop, length, Bool, true, false, ◌&&◌, ◌||◌, ◌==◌, Option, Some, None, is_some, refl, sym, ap, ◌∙◌, arith, subst, ◌⊎◌, inl, inr}
+use Rattle.std.proofs.Common.{◌≡◌, ℕ, zero, suc, ◌+◌, ◌<◌, ◌≤◌, List, [], ◌∷◌, ◌++◌, map, length, Bool, true, false, ◌&&◌, ◌||◌, ◌==◌, Option, Some, None, is_some, refl, sym, ap, ◌∙◌, arith, subst}
 use Rattle.std.specs.Prelude.{◌^◌, nat_lt, slice_get, if◌then◌else◌, option_map, unwrap_or, IsSome}
 use Rattle.std.proofs.Math.Bool.{and-false}
-use Rattle.std.proofs.lemmas.Bool.{eqb-true, false≢true, cases_lt}
+use Rattle.std.proofs.lemmas.Bool.{eqb-true, false≢true}
 use Rattle.std.proofs.lemmas.List.{length-append}
 use Rattle.rb_core.specs.declared.value.Value.{Value, out-Value}
-use Rattle.rb_core.specs.declared.value.Value.TheOpen as V
 use Rattle.rb_core.specs.declared.value.Value.TheOpen.{Value-F}
 use Rattle.rb_core.specs.declared.pattern.Pat.{Pat, out-Pat}
 use Rattle.rb_core.specs.declared.pattern.Pat.TheOpen as P
@@ -20,17 +19,16 @@ use Rattle.rb_matrix.specs.declared.matrix.Head.TheVariants as H
 use Rattle.rb_matrix.specs.Heads.{layer_begins, begins, any_begins, option_begins, layer_head, row_head, sample, fields_at}
 use Rattle.rb_matrix.specs.Rows.{row_matches, image_matches, vector_of}
 use Rattle.rb_matrix.specs.Search.{sought}
-use Rattle.rb_matrix.specs.Specialize.{wilds, number_image, con_image, special_image, special_row, default_image, default_row}
+use Rattle.rb_matrix.specs.Specialize.{wilds, special_image, special_row, default_image, default_row}
 use Rattle.rb_matrix.proofs.HeadLemmas.{any_begins-alike}
 use Rattle.rb_matrix.proofs.Laws.{opened, open_matches, wilds-length, special-row, default-row}
 use Rattle.rb_matrix.proofs.Parts.{of-fields, no-fields}
 use Rattle.rb_matrix.proofs.Vectors.{and-left, and-right, vector-append, vector-length}
 use Rattle.rb_decide.specs.declared.clause_matrix.Column.{Column}
 use Rattle.rb_decide.specs.declared.clause_matrix.Row.{Row}
-use Rattle.rb_decide.specs.declared.decision_tree.Tree.{Tree, Test, Clause}
-use Rattle.rb_decide.specs.declared.decision_tree.TreeArm.{TreeArm}
+use Rattle.rb_decide.specs.declared.decision_tree.Tree.{Tree, Clause}
 use Rattle.rb_decide.specs.ClauseMatrices.{match_rows, match_column, first_test, next_column, to_front, row_to_front, without, with_first, column_heads, is_complete, keep_row, special_rows, default_rows, field_types, field_columns}
-use Rattle.rb_decide.specs.Trees.{Taking, take_other, take_arm, take_at, taken, Subtree, arms_of, other_of, test_of, tree_at, tree_step, tree_within, row_pats, heads_in, tree_of, match_tree}
+use Rattle.rb_decide.specs.Trees.{Taking, take_other, take_arm, take_at, taken, Subtree, arms_of, other_of, test_of, tree_at, tree_step, tree_within, heads_in, match_tree}
 use Rattle.rb_decide.specs.Decisions.{TakesChosen}
 use Rattle.rb_decide.specs.inner.Building.{column_ty}
 use Rattle.rb_decide.proofs.Covering.{covered}

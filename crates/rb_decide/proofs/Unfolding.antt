@@ -1,11 +1,10 @@
 -- The trees of a graph's nodes while nodes are added.
-use Rattle.std.proofs.Common.{◌≡◌, ℕ, zero, suc, ◌+◌, ◌<◌, ◌≤◌, List, [], ◌∷◌, ◌++◌, map, take, drop, length, Option, Some, None, refl, sym, ap, ◌∙◌, arith, subst}
+use Rattle.std.proofs.Common.{◌≡◌, ℕ, zero, suc, ◌+◌, ◌<◌, List, [], ◌∷◌, ◌++◌, map, length, Option, Some, None, refl, sym, ap, ◌∙◌, arith, subst}
 use Rattle.std.specs.Prelude.{slice_get, option_map, unwrap_or}
 use Rattle.std.specs.List.{AllByRecursion}
 use Rattle.std.proofs.Common.{append_assoc}
 use Rattle.std.proofs.lemmas.List.{length-append, append-nil}
 use Rattle.std.proofs.lemmas.Option.{slice_get_within}
-use Rattle.rb_matrix.specs.declared.matrix.Head.{Head}
 use Rattle.rb_decide.specs.declared.decision_tree.Tree.{Tree}
 use Rattle.rb_decide.specs.declared.decision_tree.Tree as Trees
 use Rattle.rb_decide.specs.declared.decision_tree.TreeArm.{TreeArm}
@@ -14,7 +13,7 @@ use Rattle.rb_decide.specs.declared.decision_graph.GraphNode.TheVariants.{Test, 
 use Rattle.rb_decide.specs.declared.decision_graph.GraphArm.{GraphArm}
 use Rattle.rb_decide.specs.declared.sharing.Sharing.{Sharing}
 use Rattle.rb_decide.specs.Graphs.{tree_under, arm_under, node_tree, trees_onto, node_trees, arm_link, other_link, links, LinksAreLower, NodesDiffer}
-use Rattle.rb_decide.specs.inner.Sharing.{node_key, number_at, IsFine, Grows, IsAdded, IsShared, Linked, AreShared, OtherLinked, IsOtherShared}
+use Rattle.rb_decide.specs.inner.Sharing.{IsFine, Grows, IsAdded, IsShared, Linked, AreShared, OtherLinked, IsOtherShared}
 
 -- lists ---------------------------------------------------------------------------------------------
 

@@ -1,5 +1,5 @@
 -- What the steps of building a tree give.
-use Rattle.std.specs.Prelude.{◌≡◌, ◌+◌, ◌<◌, ℕ, List, [], ◌∷◌, ◌++◌, map, sum, Bool, if◌then◌else◌, Option, Some, None}
+use Rattle.std.specs.Prelude.{◌≡◌, ◌+◌, ◌<◌, ℕ, List, [], ◌∷◌, ◌++◌, map, sum, if◌then◌else◌, Option, Some, None}
 use Rattle.rb_matrix.specs.declared.matrix.Head.{Head}
 use Rattle.rb_matrix.specs.Heads.{any_begins, sample}
 use Rattle.rb_decide.specs.declared.clause_matrix.Column.{Column}

@@ -1,6 +1,6 @@
-use Rattle.std.proofs.Common.{◌≡◌, ◌+◌, ◌<◌, ◌≤◌, ◌∷◌, ◌++◌, length, take, drop, Some, None, true, false, ℕ, List, [], ap, sym, ◌∙◌, subst, refl, arith, map}
+use Rattle.std.proofs.Common.{ap, sym, ◌∙◌, subst, refl, arith, map}
 use Rattle.rb_matrix.specs.Search.{AreTypesIn}
-use Rattle.rb_decide.specs.ClauseMatrices.{first_test, is_complete, to_front}
+use Rattle.rb_decide.specs.ClauseMatrices.{first_test, is_complete}
 use Rattle.rb_decide.specs.Trees.{heads_in}
 use Rattle.rb_decide.specs.inner.Building.{column_ty}
 use Rattle.rb_decide.proofs.Building.{split-rest, types-front, type-first, moved-column, moved-less, built-moved, arms-over, full-built, rest-over, rest-built, arm-less, arm-types, arm-over, arm-sum, arm-done, get-same, all-done}

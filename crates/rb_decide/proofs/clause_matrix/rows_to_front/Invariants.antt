@@ -1,4 +1,4 @@
-use Rattle.std.proofs.Common.{◌≡◌, ◌++◌, take, map}
+use Rattle.std.proofs.Common.{◌≡◌, take, map}
 use Rattle.rb_decide.specs.ClauseMatrices.{row_to_front}
 use Rattle.rb_decide.proofs.clause_matrix.rows_to_front.Given as goal
 

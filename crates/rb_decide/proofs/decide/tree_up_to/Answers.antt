@@ -1,4 +1,4 @@
-use Rattle.std.proofs.Common.{◌≡◌, [], ◌∷◌, subst, sym, ap, ◌∙◌}
+use Rattle.std.proofs.Common.{[], ◌∷◌, subst, sym, ap, ◌∙◌}
 use Rattle.rb_decide.specs.Decisions.{TakesChosen, TestsOnce, TestsHeads}
 use Rattle.rb_decide.proofs.Decided.{built-tree}
 use Rattle.rb_decide.proofs.Taking.{match-takes}

@@ -1,4 +1,4 @@
-use Rattle.std.proofs.Common.{◌≡◌, ◌<◌, ◌^◌, subst, sym, ap, ◌∙◌}
+use Rattle.std.proofs.Common.{◌<◌, ◌^◌, subst, sym}
 use Rattle.rb_decide.proofs.Covering.{few-constructors}
 use Rattle.rb_decide.proofs.signature.covers.Goals as goal
 

@@ -1,7 +1,6 @@
-use Rattle.std.proofs.Common.{arith, ◌≡◌, ◌+◌, [], false, sym, ap, ◌∙◌}
+use Rattle.std.proofs.Common.{arith, ◌≡◌, [], false, sym}
 use Rattle.rb_core.specs.declared.value.Value.TheOpen as V
 use Rattle.rb_matrix.specs.Heads.{any_begins}
-use Rattle.rb_decide.specs.ClauseMatrices.{all_below}
 use Rattle.rb_decide.proofs.Covering.{not-below}
 use Rattle.rb_decide.proofs.signature.has_constructors.Goals as goal
 

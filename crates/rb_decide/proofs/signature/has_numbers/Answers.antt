@@ -1,7 +1,6 @@
-use Rattle.std.proofs.Common.{◌≡◌, ◌+◌, ◌<◌, false, sym, ap, ◌∙◌, arith}
+use Rattle.std.proofs.Common.{◌≡◌, ◌+◌, false, sym, arith}
 use Rattle.rb_core.specs.declared.value.Value.TheOpen as V
 use Rattle.rb_matrix.specs.Heads.{any_begins}
-use Rattle.rb_decide.specs.ClauseMatrices.{all_below}
 use Rattle.rb_decide.proofs.Covering.{not-below}
 use Rattle.rb_decide.proofs.signature.has_numbers.Goals as goal
 

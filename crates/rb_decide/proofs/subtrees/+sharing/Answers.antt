@@ -1,4 +1,4 @@
-use Rattle.std.proofs.Common.{◌≡◌, ◌+◌, take, List, [], ◌∷◌, ◌++◌, refl, sym, ap, ◌∙◌, subst}
+use Rattle.std.proofs.Common.{take, [], ◌∷◌, ◌++◌, refl, sym, subst}
 use Rattle.std.proofs.lemmas.List.{take_all}
 use Rattle.rb_decide.specs.inner.Sharing.{AreShared, IsAdded, IsShared}
 use Rattle.rb_decide.specs.declared.decision_graph.GraphNode.TheVariants.{Test}

@@ -1,4 +1,4 @@
-use Rattle.std.proofs.Common.{◌≡◌, ap, sym, ◌∙◌, subst}
+use Rattle.std.proofs.Common.{ap, sym, ◌∙◌, subst}
 use Rattle.rb_decide.specs.inner.Sharing.{number_at, AddsKey}
 use Rattle.rb_decide.proofs.NodeKeys.{found-added, pushed-added}
 use Rattle.rb_decide.proofs.sharing.Sharing.add.Goals as goal

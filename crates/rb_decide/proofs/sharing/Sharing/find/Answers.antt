@@ -1,4 +1,4 @@
-use Rattle.std.proofs.Common.{◌≡◌, ◌∙◌}
+use Rattle.std.proofs.Common.{◌∙◌}
 use Rattle.std.proofs.lemmas.Map.Text.{is_eq-slice_cmp}
 use Rattle.rb_decide.proofs.NodeKeys.{lookup-same}
 use Rattle.rb_decide.proofs.sharing.Sharing.find.Goals as goal

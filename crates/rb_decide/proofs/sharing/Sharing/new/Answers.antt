@@ -1,4 +1,3 @@
-use Rattle.std.proofs.Common.{◌≡◌}
 use Rattle.rb_decide.proofs.NodeKeys.{none-fine}
 use Rattle.rb_decide.proofs.sharing.Sharing.new.Goals as goal
 
