@@ -1,3 +1,4 @@
 pub mod NodeLemmas
 pub mod PostLemmas
 pub mod PrintLemmas
+pub mod SpellingLemmas

@@ -136,6 +136,14 @@ EndsWell v = at (posts v) (length (posts v) - 1) ≡ v
 pub last_post : (v : Value) → EndsWell v
 last_post v = induction EndsWell (λ (n : ℕ). rw (posts-Num n) refl) (λ (k : ℕ) (vs : List Value) (e : Each EndsWell vs). rw (posts-Con k vs) (last_of (flat_map posts vs) (Con k vs))) v
 
+some_posts : (v : Value) → 0 < length (posts v)
+some_posts v = induction (λ (v : Value). 0 < length (posts v)) (λ (n : ℕ). rw (posts-Num n) (omega arith))
+    (λ (k : ℕ) (vs : List Value) (e : Each (λ (v : Value). 0 < length (posts v)) vs). rw (posts-Con k vs) (omega (arith, length-append (flat_map posts vs) (Con k vs ∷ [])))) v
+
+-- a forest has a node
+pub some_node : (nodes : List Value) (v : Value) → nodes ≡ posts v → 0 < length nodes
+some_node nodes v e = rw e (some_posts v)
+
 pub finished : (nodes : List Value) (done : List ℕ) (stack : List Value) → IsBuilt nodes done → map (at nodes) done ≡ stack → length stack ≡ 1 →
     (nodes ≡ posts (at nodes (length nodes - 1))) × (stack ≡ at nodes (length nodes - 1) ∷ [])
 finished nodes [] stack b e h = absurd (omega (arith, ap length e, h))

@@ -2,6 +2,9 @@
 #![tactic(auto)]
 
 pub mod builder;
+pub mod fault;
 pub mod forest;
 pub mod nodes;
+pub mod outline;
 pub mod print;
+pub mod sign;
