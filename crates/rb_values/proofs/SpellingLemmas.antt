@@ -1,11 +1,15 @@
 -- Reading by states gives what is spelled, and stops where nothing spelled goes on.
-use Rattle.std.proofs.Common.{◌≡◌, ℕ, ◌+◌, ◌≤◌, List, [], ◌∷◌, ◌++◌, length, refl, arith, ◌∙◌, ap, sym, append_assoc, Option, Some, None}
+use Rattle.std.proofs.Common.{◌≡◌, ℕ, ◌+◌, ◌-◌, ◌≤◌, ◌==◌, is_some, false, List, [], ◌∷◌, ◌++◌, length, refl, arith, ◌∙◌, ap, sym, append_assoc, Option, Some, None}
+use Rattle.std.proofs.lemmas.Grind.{common_steps}
 use Rattle.std.proofs.lemmas.List.{append-nil}
 use Rattle.rb_values.specs.declared.sign.Sign.{Sign}
 use Rattle.rb_values.specs.declared.sign.Sign.TheVariants as sign
-use Rattle.rb_values.specs.Terms.{Term, Terms, number, build, none, also, spelled, in_parens, others, term_nodes, terms_nodes, term_count}
+use Rattle.rb_values.specs.declared.outline.Mode.{Mode}
+use Rattle.rb_values.specs.declared.outline.Mode.TheVariants as mode
+use Rattle.rb_values.specs.declared.outline.Outline.{Outline}
+use Rattle.rb_values.specs.Terms.{Term, Terms, number, build, none, also, spelled, in_parens, others, term_nodes, terms_nodes}
 use Rattle.rb_values.specs.Reading.{Begins}
-use Rattle.rb_values.specs.inner.States.{Wait, snoc, waits, longer, whole, State, expecting, named, complete, then_on, first_of, after_name, step, end_of, term_of, on, answer, each, shown_waits, shown, Reached, waits_of, waits_nodes, outline_of}
+use Rattle.rb_values.specs.inner.States.{Wait, snoc, waits, longer, whole, State, expecting, named, complete, then_on, first_of, after_name, step, end_of, term_of, on, answer, each, shown_waits, shown, Reached, waits_nodes, outline_of, outlined, outline_behind, outline_on, outline_step, mode_whole}
 
 -- what follows a value opens nothing
 abbrev Closes : List Sign → Type 0
@@ -186,3 +190,87 @@ pub depth_within : (s : State) → (outline_of s).depth ≤ (outline_of s).nodes
 depth_within (expecting os) = depth_waits os
 depth_within (named at x os) = let h = depth_waits os in omega (arith, h)
 depth_within (complete t os) = let h = depth_waits os in omega (arith, h)
+
+nodes_snoc : (us : Terms) (t : Term) → terms_nodes (snoc us t) ≡ terms_nodes us + term_nodes t
+nodes_snoc none t = omega arith
+nodes_snoc (also u us) t = let h = nodes_snoc us t in omega (arith, h)
+
+same_outline : (m : Mode) (d n k : ℕ) → n ≡ k → ◌≡◌ {A = Option Outline} (Some (record { mode = m; depth = d; nodes = n })) (Some (record { mode = m; depth = d; nodes = k }))
+same_outline m d n k e = ap {A = ℕ} {B = Option Outline} (λ n. Some (record { mode = m; depth = d; nodes = n })) e
+
+outline_then : (m : Mode) (t : Term) (os : List Wait) (s : Sign) (n : ℕ) → n ≡ waits_nodes os + term_nodes t →
+    outline_on (record { mode = m; depth = length os; nodes = n }) s ≡ outlined (then_on t os s)
+outline_then m t [] s n e = refl
+outline_then m t (o ∷ os) s n e = rw (some_names o os) (behind s) where
+  some_names : (o : Wait) (os : List Wait) → (length (o ∷ os) == 0) ≡ false
+  some_names o os = grind (arith, common_steps)
+  behind : (s : Sign) → outline_behind (record { mode = m; depth = length (o ∷ os); nodes = n }) s ≡ outlined (then_on t (o ∷ os) s)
+  behind sign.Comma = let h = nodes_snoc o.fields t in same_outline _ _ _ _ (omega (arith, e, h))
+  behind sign.Close = let h = nodes_snoc o.fields t in let d : length (o ∷ os) - 1 ≡ length os = omega arith in rw d (same_outline _ _ _ _ (omega (arith, e, h)))
+  behind sign.Open = refl
+  behind (sign.Number b k) = refl
+  behind (sign.Name b x) = refl
+  behind sign.Other = refl
+
+same_open : (d e n k : ℕ) → d + 1 ≡ e → n ≡ k → ◌≡◌ {A = Option Outline} (Some (record { mode = mode.Begin; depth = d + 1; nodes = n })) (Some (record { mode = mode.Begin; depth = e; nodes = k }))
+same_open d e n k h g = rw (h, g) refl
+
+-- the outline is that of the state
+pub outline_same : (s : State) (t : Sign) → outline_step (outline_of s) t ≡ outlined (step s t)
+outline_same (expecting os) (sign.Number b n) = refl
+outline_same (expecting os) (sign.Name b x) = refl
+outline_same (expecting os) sign.Open = refl
+outline_same (expecting os) sign.Close = refl
+outline_same (expecting os) sign.Comma = refl
+outline_same (expecting os) sign.Other = refl
+outline_same (named at x os) sign.Open = same_open (length os) _ _ _ (omega arith) (omega arith)
+outline_same (named at x os) sign.Comma = outline_then mode.Name (build at x none) os sign.Comma _ (omega arith)
+outline_same (named at x os) sign.Close = outline_then mode.Name (build at x none) os sign.Close _ (omega arith)
+outline_same (named at x os) (sign.Number b n) = refl
+outline_same (named at x os) (sign.Name b y) = refl
+outline_same (named at x os) sign.Other = refl
+outline_same (complete t os) s = outline_then mode.Whole t os s (waits_nodes os + term_nodes t) refl
+
+whole_end : (t : Term) (os : List Wait) → (length os == 0) ≡ is_some (end_of t os)
+whole_end t [] = refl
+whole_end t (o ∷ os) = grind (arith, common_steps)
+
+pub whole_same : (s : State) → mode_whole (outline_of s).mode (outline_of s).depth ≡ is_some (term_of s)
+whole_same (expecting os) = refl
+whole_same (named at x os) = whole_end (build at x none) os
+whole_same (complete t os) = whole_end t os
+
+nodes_end : (t : Term) (os : List Wait) (v : Term) → end_of t os ≡ Some v → waits_nodes os + term_nodes t ≡ term_nodes v
+nodes_end t [] v e = let s : t ≡ v = cc in rw s (omega arith)
+nodes_end t (o ∷ os) v e = cc
+
+-- the nodes of a whole value
+pub nodes_whole : (s : State) (v : Term) → term_of s ≡ Some v → (outline_of s).nodes ≡ term_nodes v
+nodes_whole (expecting os) v e = cc
+nodes_whole (named at x os) v e = let h = nodes_end (build at x none) os v e in omega (arith, h)
+nodes_whole (complete t os) v e = nodes_end t os v e
+
+grows_then : (t : Term) (os : List Wait) (s : Sign) (next : State) → then_on t os s ≡ Some next → (outline_of next).nodes ≡ waits_nodes os + term_nodes t
+grows_then t [] s next e = cc
+grows_then t (o ∷ os) sign.Comma next e = let n : next ≡ expecting (longer o t ∷ os) = cc in let h = nodes_snoc o.fields t in rw n (omega (arith, h))
+grows_then t (o ∷ os) sign.Close next e = let n : next ≡ complete (whole (longer o t)) os = cc in let h = nodes_snoc o.fields t in rw n (omega (arith, h))
+grows_then t (o ∷ os) sign.Open next e = cc
+grows_then t (o ∷ os) (sign.Number b n) next e = cc
+grows_then t (o ∷ os) (sign.Name b x) next e = cc
+grows_then t (o ∷ os) sign.Other next e = cc
+
+-- nodes only become more, by one at a time
+pub grows : (s : State) (t : Sign) (next : State) → step s t ≡ Some next → ((outline_of s).nodes ≤ (outline_of next).nodes) × ((outline_of next).nodes ≤ (outline_of s).nodes + 1)
+grows (expecting os) (sign.Number b k) next e = let n : next ≡ complete (number b k) os = cc in rw n (omega arith, omega arith)
+grows (expecting os) (sign.Name b x) next e = let n : next ≡ named b x os = cc in rw n (omega arith, omega arith)
+grows (expecting os) sign.Open next e = cc
+grows (expecting os) sign.Close next e = cc
+grows (expecting os) sign.Comma next e = cc
+grows (expecting os) sign.Other next e = cc
+grows (named at x os) sign.Open next e = let n : next ≡ expecting (waits at x ∷ os) = cc in rw n (omega arith, omega arith)
+grows (named at x os) sign.Comma next e = let h = grows_then (build at x none) os sign.Comma next e in (omega (arith, h), omega (arith, h))
+grows (named at x os) sign.Close next e = let h = grows_then (build at x none) os sign.Close next e in (omega (arith, h), omega (arith, h))
+grows (named at x os) (sign.Number b n) next e = cc
+grows (named at x os) (sign.Name b y) next e = cc
+grows (named at x os) sign.Other next e = cc
+grows (complete t os) s next e = let h = grows_then t os s next e in (omega (arith, h), omega (arith, h))

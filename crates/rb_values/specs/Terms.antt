@@ -1,5 +1,5 @@
 -- What a value's text says before types are looked at: a term, whose constructors are names.
-use Rattle.std.specs.Prelude.{◌≡◌, ℕ, ◌+◌, List, [], ◌∷◌, ◌++◌, map, None}
+use Rattle.std.specs.Prelude.{◌≡◌, ℕ, suc, ◌+◌, List, [], ◌∷◌, ◌++◌, map, None}
 use Rattle.rb_syntax.specs.declared.token.Symbol.{Symbol}
 use Rattle.rb_syntax.specs.declared.token.Symbol.TheVariants as symbol
 use Rattle.rb_syntax.specs.declared.token.Token.{Token}
@@ -21,7 +21,7 @@ mutual
 
 abbrev pub term_count : Terms → ℕ
 term_count none = 0
-term_count (also t ts) = 1 + term_count ts
+term_count (also t ts) = suc (term_count ts)
 
 -- a number is one node, and a name one more than its fields have
 abbrev mutual

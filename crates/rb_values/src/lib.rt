@@ -7,4 +7,6 @@ pub mod forest;
 pub mod nodes;
 pub mod outline;
 pub mod print;
+pub mod read;
 pub mod sign;
+pub mod typing;

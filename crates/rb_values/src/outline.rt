@@ -1,7 +1,7 @@
 //! How far a value's text is read, types aside: it takes no memory, however long the text is.
 
-ghost use Rattle.std.specs.Prelude.{◌≡◌, ◌+◌, ◌-◌, ◌<◌, ◌≤◌, ◌^◌, IfSome, is_some};
-ghost use Rattle.rb_values.specs.inner.States.{State, outline_of, step, outlined, term_of};
+ghost use Rattle.std.specs.Prelude.{◌≡◌, ◌-◌, ◌<◌, ◌≤◌, ◌^◌, []};
+ghost use Rattle.rb_values.specs.inner.States.{expecting, outline_of, outline_begin, outline_on, outline_step, mode_whole};
 
 use crate::sign::Sign;
 
@@ -26,7 +26,9 @@ pub struct Outline {
 
 impl Outline {
     /// Nothing is read.
-    pub fn new() -> Outline {
+    pub fn new() -> Outline
+        ensures { result ≡ outline_of (expecting []) }
+    {
         Outline {
             mode: Mode::Begin,
             depth: 0,
@@ -37,6 +39,7 @@ impl Outline {
     // A sign where a value is to begin.
     fn begin(self, sign: &Sign) -> Option<Outline>
         requires { self.nodes < 2 ^ 64 - 1 }
+        ensures { result ≡ outline_begin self sign.now }
     {
         match sign {
             Sign::Number(..) => Some(Outline {
@@ -54,7 +57,9 @@ impl Outline {
     }
 
     // A sign behind a value.
-    fn go_on(self, sign: &Sign) -> Option<Outline> {
+    fn go_on(self, sign: &Sign) -> Option<Outline>
+        ensures { result ≡ outline_on self sign.now }
+    {
         if self.depth == 0 {
             return None;
         }
@@ -75,9 +80,8 @@ impl Outline {
     /// What one more sign leads to, if a value goes on with it.
     pub fn step(self, sign: &Sign) -> Option<Outline>
         requires nodes { self.nodes < 2 ^ 64 - 1 }
-        requires depth { self.depth < 2 ^ 64 - 1 }
-        ensures same { (s : State) → self ≡ outline_of s → result ≡ outlined (step s sign.now) }
-        ensures grows { IfSome result (λ next. next.nodes ≤ self.nodes + 1) }
+        requires depth { self.depth ≤ self.nodes }
+        ensures { result ≡ outline_step self sign.now }
     {
         match self.mode {
             Mode::Begin => self.begin(sign),
@@ -96,7 +100,7 @@ impl Outline {
 
     /// Whether what was read is a whole value.
     pub fn is_whole(self) -> bool
-        ensures { (s : State) → self ≡ outline_of s → result ≡ is_some (term_of s) }
+        ensures { result ≡ mode_whole self.mode self.depth }
     {
         match self.mode {
             Mode::Begin => false,

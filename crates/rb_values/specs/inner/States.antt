@@ -1,5 +1,5 @@
 -- Reading a term by its signs, from left to right.
-use Rattle.std.specs.Prelude.{◌≡◌, ℕ, ◌+◌, List, [], ◌∷◌, ◌++◌, length, Option, Some, None}
+use Rattle.std.specs.Prelude.{◌≡◌, ℕ, ◌+◌, ◌-◌, ◌==◌, if◌then◌else◌, Bool, false, List, [], ◌∷◌, ◌++◌, length, Option, Some, None}
 use Rattle.rb_values.specs.declared.sign.Sign.{Sign}
 use Rattle.rb_values.specs.declared.sign.Sign.TheVariants as sign
 use Rattle.rb_values.specs.declared.outline.Mode.{Mode}
@@ -118,3 +118,44 @@ outline_of (complete t os) = record { mode = mode.Whole; depth = length os; node
 abbrev pub outlined : Option State → Option Outline
 outlined None = None
 outlined (Some s) = Some (outline_of s)
+
+-- a sign where a value is to begin; behind a value, below so many names; behind a name
+abbrev pub outline_begin : Outline → Sign → Option Outline
+outline_begin o (sign.Number at n) = Some (record { mode = mode.Whole; depth = o.depth; nodes = o.nodes + 1 })
+outline_begin o (sign.Name at x) = Some (record { mode = mode.Name; depth = o.depth; nodes = o.nodes + 1 })
+outline_begin o sign.Open = None
+outline_begin o sign.Close = None
+outline_begin o sign.Comma = None
+outline_begin o sign.Other = None
+
+abbrev pub outline_behind : Outline → Sign → Option Outline
+outline_behind o sign.Comma = Some (record { mode = mode.Begin; depth = o.depth; nodes = o.nodes })
+outline_behind o sign.Close = Some (record { mode = mode.Whole; depth = o.depth - 1; nodes = o.nodes })
+outline_behind o sign.Open = None
+outline_behind o (sign.Number at n) = None
+outline_behind o (sign.Name at x) = None
+outline_behind o sign.Other = None
+
+abbrev pub outline_on : Outline → Sign → Option Outline
+outline_on o s = if o.depth == 0 then None else outline_behind o s
+
+abbrev pub outline_name : Outline → Sign → Option Outline
+outline_name o sign.Open = Some (record { mode = mode.Begin; depth = o.depth + 1; nodes = o.nodes })
+outline_name o sign.Comma = outline_on o sign.Comma
+outline_name o sign.Close = outline_on o sign.Close
+outline_name o (sign.Number at n) = None
+outline_name o (sign.Name at x) = None
+outline_name o sign.Other = None
+
+abbrev pub outline_mode : Mode → Outline → Sign → Option Outline
+outline_mode mode.Begin o s = outline_begin o s
+outline_mode mode.Name o s = outline_name o s
+outline_mode mode.Whole o s = outline_on o s
+
+abbrev pub outline_step : Outline → Sign → Option Outline
+outline_step o s = outline_mode o.mode o s
+
+abbrev pub mode_whole : Mode → ℕ → Bool
+mode_whole mode.Begin depth = false
+mode_whole mode.Name depth = depth == 0
+mode_whole mode.Whole depth = depth == 0
