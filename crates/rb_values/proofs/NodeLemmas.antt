@@ -110,7 +110,7 @@ node links (n ∷ ns) vs zero d b h =
     let inside : length vs < length (vs ++ v ∷ []) = omega (arith, length-append vs (v ∷ [])) in
     let first = kept links ns (vs ++ v ∷ []) (length vs) inside in
     let same = value_same all vs links (length vs) n
-        (λ (i : ℕ) (l : i < length vs). kept links ns (vs ++ v ∷ []) i (omega (arith, inside)) ∙ front vs v i l) here in
+    (λ (i : ℕ) (l : i < length vs). kept links ns (vs ++ v ∷ []) i (omega (arith, inside)) ∙ front vs v i l) here in
     rw z (first ∙ back vs v ∙ sym same)
 node links (n ∷ ns) vs (suc i) d b h =
     let v : Value = value_of links vs n in
@@ -121,8 +121,11 @@ node links (n ∷ ns) vs (suc i) d b h =
 
 below_more_links : (links new : List ℕ) (low : ℕ) (n : Node) → IsBelow links low n → IsBelow (links ++ new) low n
 below_more_links links new low (Number n) b = tt
-below_more_links links new low (Build k first count) b = (omega (arith, b.0, length-append links new), λ (j : ℕ) (h : j < count).
-    let e : get_or (links ++ new) (first + j) 0 ≡ get_or links (first + j) 0 = let r = b.0 in grind (arith, common_steps) in rw e (b.1 j h))
+below_more_links links new low (Build k first count) b = (
+  omega (arith, b.0, length-append links new),
+  λ (j : ℕ) (h : j < count).
+      let e : get_or (links ++ new) (first + j) 0 ≡ get_or links (first + j) 0 = let r = b.0 in grind (arith, common_steps) in rw e (b.1 j h),
+)
 
 pub all_below : (links : List ℕ) (ns : List Node) (n : Node) → AreBelow links 0 ns → IsBelow links (length ns) n → AreBelow links 0 (ns ++ n ∷ [])
 all_below links ns n b here i d h = grind (arith, common_steps, b i d, here)

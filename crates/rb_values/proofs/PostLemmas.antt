@@ -33,7 +33,7 @@ pub posts-Con : (k : ℕ) (vs : List Value) → posts (Con k vs) ≡ flat_map po
 unfolding X.roll-Value denote.Hole.Carrier.roll
 posts-Con k vs =
     let e : posts (Con k vs) ≡ flat_map (λ (p : Value × List Value). p.1) (map (λ (v : Value). (v, posts v)) vs) ++ Con k (map (λ (p : Value × List Value). p.0) (map (λ (v : Value). (v, posts v)) vs)) ∷ [] =
-        para-roll-Value (List Value) posts_step (V.Con k vs) in
+    para-roll-Value (List Value) posts_step (V.Con k vs) in
     rw (seconds vs, firsts vs) at e
 
 turn : (n : ℕ) → n + 1 ≡ 1 + n
@@ -50,7 +50,7 @@ pub count_posts : (v : Value) → length (posts v) ≡ node_count v
 count_posts v = induction HasLength
     (λ (n : ℕ). ap length (posts-Num n) ∙ sym (fold-Num ℕ nodes_step n))
     (λ (k : ℕ) (vs : List Value) (e : Each HasLength vs).
-        ap length (posts-Con k vs) ∙ length-append (flat_map posts vs) (Con k vs ∷ []) ∙ ap (λ (m : ℕ). m + 1) (length_all vs e) ∙ turn (sum (map node_count vs)) ∙ sym (fold-Con ℕ nodes_step k vs)) v
+    ap length (posts-Con k vs) ∙ length-append (flat_map posts vs) (Con k vs ∷ []) ∙ ap (λ (m : ℕ). m + 1) (length_all vs e) ∙ turn (sum (map node_count vs)) ∙ sym (fold-Con ℕ nodes_step k vs)) v
 
 every_count : (vs : List Value) → Each HasLength vs
 every_count [] = tt
@@ -81,8 +81,8 @@ pub over : (nodes : List Value) (front : List ℕ) (inner : List Value) (x : Val
     nodes ≡ flat_map posts (map (at nodes) front) ++ inner → posts x ≡ inner ++ x ∷ [] → Over nodes front x
 over nodes front inner x a e p =
     let shows : map (at (nodes ++ x ∷ [])) (front ++ length nodes ∷ []) ≡ map (at nodes) front ++ x ∷ [] =
-        map-append (at (nodes ++ x ∷ [])) front (length nodes ∷ []) ∙ ap (λ (l : List Value). l ++ at (nodes ++ x ∷ []) (length nodes) ∷ []) (map_kept nodes x front a)
-        ∙ ap (λ (v : Value). map (at nodes) front ++ v ∷ []) (back_at nodes x) in
+    map-append (at (nodes ++ x ∷ [])) front (length nodes ∷ []) ∙ ap (λ (l : List Value). l ++ at (nodes ++ x ∷ []) (length nodes) ∷ []) (map_kept nodes x front a)
+    ∙ ap (λ (v : Value). map (at nodes) front ++ v ∷ []) (back_at nodes x) in
     let fs : List Value = flat_map posts (map (at nodes) front) in
     let q : flat_map posts (map (at nodes) front ++ x ∷ []) ≡ fs ++ posts x = flat_map-append posts (map (at nodes) front) (x ∷ []) ∙ ap (λ (l : List Value). fs ++ l) (append-nil (posts x)) in
     record {
@@ -92,7 +92,6 @@ over nodes front inner x a e p =
       };
       shows = shows;
     }
-
 
 map_take : (f : ℕ → Value) (n : ℕ) (ks : List ℕ) → map f (take n ks) ≡ take n (map f ks)
 map_take f zero ks = refl
@@ -121,7 +120,7 @@ built_con nodes done start k b =
     let back : List Value = map (at nodes) (drop start done) in
     let cut : map (at nodes) done ≡ front ++ back = ap (map (at nodes)) (sym (join_at start done)) ∙ map-append (at nodes) (take start done) (drop start done) in
     over nodes (take start done) (flat_map posts back) (Con k back) (take_below (length nodes) start done b.below)
-      (b.order ∙ ap (flat_map posts) cut ∙ flat_map-append posts front back) (posts-Con k back)
+    (b.order ∙ ap (flat_map posts) cut ∙ flat_map-append posts front back) (posts-Con k back)
 
 pub stack_after : (nodes : List Value) (done : List ℕ) (old : List Value) (start k : ℕ) → map (at nodes) done ≡ old →
     map (at nodes) (take start done) ++ Con k (map (at nodes) (drop start done)) ∷ [] ≡ take start old ++ Con k (drop start old) ∷ []

@@ -98,7 +98,7 @@ turned_field types vs f child fs new out mid written a b h e w o =
     let d : drop f.next subvalues ≡ at vs child ∷ drop (f.next + 1) subvalues = rw e (drop_next subvalues f.next h) in
     let ty : Ty = field_of types f.ty f.con f.next in
     let t : frame_text types vs f ≡ before f.next ++ (text_of types (at vs child) ty ++ frame_text types vs g) =
-        ap (λ (l : List Value). fields_text (field_of types f.ty f.con) f.next (map (text_of types) l)) d in
+    ap (λ (l : List Value). fields_text (field_of types f.ty f.con) f.next (map (text_of types) l)) d in
     let c : sum (map node_count (drop f.next subvalues)) ≡ node_count (at vs child) + sum (map node_count (drop (f.next + 1) subvalues)) = ap (λ (l : List Value). sum (map node_count l)) d ∙ nodes-cons (at vs child) (drop (f.next + 1) subvalues) in
     let p = work-push vs fs g in
     record {

@@ -101,7 +101,7 @@ module _ (text : List ℕ) where
         record { term = g.0; spells = (h.fault ∙ ap (λ (f : Front). f.fault) e, ap signs (all-seen None e) ∙ is_whole (signs seen) s g.0 h.reached g.1); within = g.2; fits = g.3; value = g.4 }
     read-whole types ty limit (Err (ValueSyntax p)) e g =
         ended (h.fault ∙ ap (λ (f : Front). f.fault) e) g.0 (rw (all-seen None e) (begins (signs seen) s h.reached))
-          (λ t q. is_part (signs seen) s h.reached g.1 t (sym (ap signs (all-seen None e)) ∙ q))
+        (λ t q. is_part (signs seen) s h.reached g.1 t (sym (ap signs (all-seen None e)) ∙ q))
     read-whole types ty limit (Err ValueTooLarge) e g =
         (g.0, (h.fault ∙ ap (λ (f : Front). f.fault) e, ap signs (all-seen None e) ∙ is_whole (signs seen) s g.0 h.reached g.1), g.2)
     read-whole types ty limit (Err (ValueType p)) e g =

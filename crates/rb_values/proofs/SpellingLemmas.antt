@@ -204,6 +204,7 @@ outline_then m t [] s n e = refl
 outline_then m t (o ∷ os) s n e = rw (some_names o os) (behind s) where
   some_names : (o : Wait) (os : List Wait) → (length (o ∷ os) == 0) ≡ false
   some_names o os = grind (arith, common_steps)
+
   behind : (s : Sign) → outline_behind (record { mode = m; depth = length (o ∷ os); nodes = n }) s ≡ outlined (then_on t (o ∷ os) s)
   behind sign.Comma = let h = nodes_snoc o.fields t in same_outline _ _ _ _ (omega (arith, e, h))
   behind sign.Close = let h = nodes_snoc o.fields t in let d : length (o ∷ os) - 1 ≡ length os = omega arith in rw d (same_outline _ _ _ _ (omega (arith, e, h)))

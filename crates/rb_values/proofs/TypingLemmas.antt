@@ -239,7 +239,7 @@ module _ (types : List DataDecl) (root : Ty) where
       frames_are = h.frames_are;
       name_is = named-frame at x c e;
       fault_is = let q : Some tys ≡ con_fields types (con_named types ty x) = rw (e, ← t) at k in
-        h.fault_is ∙ ap first (sym (append-nil (faults types root os)) ∙ rw (← t, ← q) refl);
+          h.fault_is ∙ ap first (sym (append-nil (faults types root os)) ∙ rw (← t, ← q) refl);
       values_are = named-values at x;
     }
 
@@ -249,7 +249,7 @@ module _ (types : List DataDecl) (root : Ty) where
       frames_are = h.frames_are;
       name_is = named-frame at x c e;
       fault_is = let q : None ≡ con_fields types (con_named types ty x) = rw (e, ← t) at k in
-        rw (← t, ← q) (sym (first-none (faults types root os) (at ∷ []) (sym h.fault_is ∙ g)));
+          rw (← t, ← q) (sym (first-none (faults types root os) (at ∷ []) (sym h.fault_is ∙ g)));
       values_are = λ z. absurd (some-none at z);
     }
 
@@ -386,7 +386,7 @@ module _ (types : List DataDecl) (root : Ty) where
       → IsTypedAs types root (complete t os) fs nm f vs → (front : List Frame) (frame : Frame) → fs ≡ front ++ frame ∷ []
       → (n : ℕ) → n ≡ frame.next + 1 → (fs' : List Frame) (nm' : Option Frame) (f' : Option ℕ) (vs' : List Value)
       → ((o : Wait) (os : List Wait) → record { at = frame.at; con = frame.con; next = n; clean = frame.clean } ≡ frame_of types root o os
-        → IsClosing types root o os front nm f vs → IsTypedAs types root (complete (whole o) os) fs' nm' f' vs')
+      → IsClosing types root o os front nm f vs → IsTypedAs types root (complete (whole o) os) fs' nm' f' vs')
       → IsTypedAs types root next fs' nm' f' vs'
   close-next t [] next e fs nm f vs h front frame p n q fs' nm' f' vs' go = cc
   close-next t (o ∷ os) next e fs nm f vs h front frame p n q fs' nm' f' vs' go =
@@ -410,7 +410,7 @@ module _ (types : List DataDecl) (root : Ty) where
   settled-some (named at x os) fs nm f vs frame e h fs' nm' f' vs' go =
       let s : Some frame ≡ Some (frame_of types root (waits at x) os) = sym e ∙ h.name_is in
       go (waits at x) os (let q : frame ≡ frame_of types root (waits at x) os = cc in q)
-        (record { frames_are = h.frames_are; name_is = refl; fault_is = h.fault_is; values_are = h.values_are })
+      (record { frames_are = h.frames_are; name_is = refl; fault_is = h.fault_is; values_are = h.values_are })
   settled-some (complete t os) fs nm f vs frame e h fs' nm' f' vs' go = absurd (not-named frame (sym e ∙ h.name_is))
 
   -- Signs, of any kind -----------------------------------------------------------------------

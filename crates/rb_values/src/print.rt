@@ -116,7 +116,13 @@ fn open_value(
 }
 
 // One more field of a frame, or its end.
-fn turn(types: &[DataDecl], nodes: &Nodes, frame: Frame, out: &mut Vec<u8>, stack: &mut Vec<Frame>) -> Result<(), AllocError>
+fn turn(
+    types: &[DataDecl],
+    nodes: &Nodes,
+    frame: Frame,
+    out: &mut Vec<u8>,
+    stack: &mut Vec<Frame>,
+) -> Result<(), AllocError>
     requires frame { IsFrame nodes.now frame }
     requires frames { AreFrames nodes.now stack.old.items }
     ensures { OnOk result (Turned types.now nodes.now frame stack.old.items stack.new.items out.old.items out.new.items) }
@@ -138,7 +144,13 @@ fn turn(types: &[DataDecl], nodes: &Nodes, frame: Frame, out: &mut Vec<u8>, stac
     Ok(())
 }
 
-fn print_node(alloc: Global, types: &[DataDecl], ty: Ty, nodes: &Nodes, root: usize) -> Result<Vec<u8>, AllocError>
+fn print_node(
+    alloc: Global,
+    types: &[DataDecl],
+    ty: Ty,
+    nodes: &Nodes,
+    root: usize,
+) -> Result<Vec<u8>, AllocError>
     requires { root < length nodes.now }
     ensures { IfOk result (λ out. out.items ≡ text_of types.now (at nodes.now root) ty) }
 {
@@ -156,7 +168,12 @@ fn print_node(alloc: Global, types: &[DataDecl], ty: Ty, nodes: &Nodes, root: us
 /// # Errors
 ///
 /// Want of memory alone.
-pub fn print_value(alloc: Global, types: &[DataDecl], ty: Ty, value: &Forest) -> Result<Vec<u8>, AllocError>
+pub fn print_value(
+    alloc: Global,
+    types: &[DataDecl],
+    ty: Ty,
+    value: &Forest,
+) -> Result<Vec<u8>, AllocError>
     ensures { IfOk result (λ text. text.items ≡ text_of types.now value.now ty) }
 {
     print_node(alloc, types, ty, &value.nodes, value.nodes.len() - 1)

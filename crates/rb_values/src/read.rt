@@ -16,7 +16,14 @@ use rb_syntax::front::{Next, next_token};
 use std::alloc::Global;
 
 // What is kept of the value behind one more sign: nothing once it has too many nodes.
-fn go_on(typing: Option<Typing>, types: &[DataDecl], ty: Ty, sign: Sign, nodes: usize, limit: u64) -> Result<Option<Typing>, ValueFault>
+fn go_on(
+    typing: Option<Typing>,
+    types: &[DataDecl],
+    ty: Ty,
+    sign: Sign,
+    nodes: usize,
+    limit: u64,
+) -> Result<Option<Typing>, ValueFault>
     ensures { IfOk result (λ kept. (s next : State) → step s sign ≡ Some next → nodes ≡ (outline_of next).nodes → IsKept types.now ty limit s typing → IsKept types.now ty limit next kept) }
 {
     match typing {
@@ -32,7 +39,13 @@ fn go_on(typing: Option<Typing>, types: &[DataDecl], ty: Ty, sign: Sign, nodes: 
 }
 
 // The answer at the end of a text of `len` bytes.
-fn finish(outline: Outline, typing: Option<Typing>, types: &[DataDecl], len: usize, limit: u64) -> Result<Forest, ValueFault>
+fn finish(
+    outline: Outline,
+    typing: Option<Typing>,
+    types: &[DataDecl],
+    len: usize,
+    limit: u64,
+) -> Result<Forest, ValueFault>
     ensures { (ty : Type_) (s : State) → outline ≡ outline_of s → IsKept types.now ty limit s typing → IsFinished types.now ty limit s len result }
 {
     if !outline.is_whole() {
@@ -58,7 +71,13 @@ fn finish(outline: Outline, typing: Option<Typing>, types: &[DataDecl], len: usi
 ///
 /// `ValueSyntax` where the text spells no value, `ValueTooLarge` where it has more nodes than `limit`,
 /// `ValueType` at the first node that does not fit its type, in this order; or want of memory.
-pub fn read_value(alloc: Global, types: &[DataDecl], ty: Ty, text: &[u8], limit: u64) -> Result<Forest, ValueFault>
+pub fn read_value(
+    alloc: Global,
+    types: &[DataDecl],
+    ty: Ty,
+    text: &[u8],
+    limit: u64,
+) -> Result<Forest, ValueFault>
     ensures { IsRead types.now ty limit text.now result }
 {
     let mut typing = Some(Typing::new(alloc));

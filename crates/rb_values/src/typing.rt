@@ -182,7 +182,13 @@ impl Typing {
     }
 
     // A name where a value is to begin.
-    fn name(&mut self, types: &[DataDecl], root: Ty, at: usize, name: &[u8]) -> Result<(), ValueFault>
+    fn name(
+        &mut self,
+        types: &[DataDecl],
+        root: Ty,
+        at: usize,
+        name: &[u8],
+    ) -> Result<(), ValueFault>
         ensures { OnOk result ((os : List Wait) → keep.IsTyped types.now root (expecting os) self.old → keep.IsTyped types.now root (named at name.now os) self.new) }
     {
         let ty = self.expected(types, root);

@@ -13,7 +13,7 @@ invariant_of-self-in_err-push c = rw (c.in_err-push.ensures.items, c.in_ok-exten
 
 pub returns-in_err-push-clause-err : goal.returns-in_err-push-clause-err
 returns-in_err-push-clause-err c = let p : values_from c.extend_from_slice.new.self.items c.push.new.self.items [] ≡ c.args.self.now =
-        rw (c.in_err-push.ensures.items, c.in_ok-extend_from_slice.ensures.items) (nodes.more c.self.inside.links.items c.args.children.now c.self.inside.nodes.items [] 0 c.self.invariant ∙ c.self.view_is) in
+    rw (c.in_err-push.ensures.items, c.in_ok-extend_from_slice.ensures.items) (nodes.more c.self.inside.links.items c.args.children.now c.self.inside.nodes.items [] 0 c.self.invariant ∙ c.self.view_is) in
     search (rules, p)
 
 pub invariant_of-self-2 : goal.invariant_of-self-2
