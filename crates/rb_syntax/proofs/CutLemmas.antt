@@ -24,7 +24,7 @@ use Rattle.rb_syntax.proofs.LongestLemmas.{prefix-all, blank-longest, comment-lo
 use Rattle.rb_syntax.proofs.TokenLemmas.{none-empty, len-numeral, name_token-written, numeral-good, numeral-bad, underscore-bad, is-underscore}
 
 -- a piece is what stands at the front of these bytes
-abbrev IsFront : List ℕ → Piece → Type 0
+abbrev pub IsFront : List ℕ → Piece → Type 0
 IsFront bytes (piece.Gap n) = (0 < n) × IsLongest n bytes × IsGap (take n bytes)
 IsFront bytes (piece.Token t n) = (0 < n) × IsLongest n bytes × IsWritten t (take n bytes)
 IsFront bytes (piece.Bad k) = IsBadBehind k bytes
@@ -122,7 +122,7 @@ first-front b bs =
     (λ e. (comment-within (b ∷ bs) e, comment-longest b bs e, comment-gap b bs e))
     (λ no_comment. symbol-front-of b bs (symbol_at (b ∷ bs)) no_blank no_word no_comment refl)))
 
-piece_at-front : (bytes : List ℕ) → 0 < length bytes → IsFront bytes (piece_at bytes)
+pub piece_at-front : (bytes : List ℕ) → 0 < length bytes → IsFront bytes (piece_at bytes)
 unfolding piece_at
 piece_at-front [] h = absurd (omega arith)
 piece_at-front (b ∷ bs) h = first-front b bs

@@ -2,6 +2,7 @@ mod CutLemmas
 mod Examples
 pub mod ExpressionInduction
 pub mod LayoutSpelling
+mod FrontLemmas
 mod LexLemmas
 mod ListLemmas
 mod LongestLemmas

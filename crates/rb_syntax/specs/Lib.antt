@@ -1,6 +1,7 @@
 pub mod Backward
 pub mod Bytes
 pub mod Cutting
+pub mod Fronts
 pub mod Lexing
 pub mod Pieces
 pub mod Spelling

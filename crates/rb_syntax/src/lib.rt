@@ -2,6 +2,7 @@
 #![tactic(auto)]
 
 pub mod bytes;
+pub mod front;
 pub mod lex;
 pub mod piece;
 pub mod spell;

@@ -1,0 +1,6 @@
+pub mod NodeLemmas
+pub mod PostLemmas
+pub mod PrintLemmas
+pub mod ReadLemmas
+pub mod SpellingLemmas
+pub mod TypingLemmas

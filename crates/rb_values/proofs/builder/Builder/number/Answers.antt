@@ -1,0 +1,17 @@
+use Rattle.std.proofs.Common.{◌≡◌, ℕ, ◌+◌, ◌-◌, ◌<◌, ◌≤◌, List, [], ◌∷◌, ◌++◌, length, map, sum, ◌∙◌, ap, sym, arith, get_or, refl, rules, take, drop, flat_map}
+use Rattle.std.proofs.lemmas.Grind.{common_steps}
+use Rattle.rb_core.specs.declared.value.Value.{Value, Num, Con}
+use Rattle.rb_core.specs.Values.{node_count}
+use Rattle.rb_values.specs.inner.Nodes.{at, posts, IsBuilt}
+use Rattle.rb_values.proofs.PostLemmas as posts
+use Rattle.rb_values.proofs.builder.Builder.number.Goals as goal
+
+pub invariant_of-self-in-Ok : goal.invariant_of-self-in-Ok
+invariant_of-self-in-Ok c =
+    let o = posts.built_number c.self.inside.nodes c.self.inside.done.items c.args.n c.self.invariant in
+    rw (c.in-Ok.ensures.ok, c.in_ok-push.ensures.items, c.len-at.ensures) o.built
+
+pub returns-in-Ok : goal.returns-in-Ok
+returns-in-Ok c =
+    let o = posts.built_number c.self.inside.nodes c.self.inside.done.items c.args.n c.self.invariant in
+    rw (c.in-Ok.ensures.ok, c.in_ok-push.ensures.items, c.len-at.ensures, ← c.self.view_is) o.shows

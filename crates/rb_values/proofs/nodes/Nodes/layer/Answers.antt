@@ -1,0 +1,21 @@
+use Rattle.std.proofs.Common.{◌≡◌, ℕ, ◌+◌, ◌<◌, ◌≤◌, List, [], ◌∷◌, ◌++◌, length, map, ◌∙◌, ap, sym, arith, get_or, refl}
+use Rattle.std.proofs.lemmas.Grind.{common_steps}
+use Rattle.std.proofs.Math.ListN.{length-append}
+use Rattle.rb_core.specs.declared.value.Value.{Value, Num, Con}
+use Rattle.rb_core.specs.Values.{subs}
+use Rattle.rb_values.specs.inner.Nodes.{at, IsLayer, IsBelow, AreBelow, children, value_of, values_from}
+use Rattle.rb_values.specs.declared.nodes.Node.TheVariants.{Number, Build}
+use Rattle.rb_core.proofs.ValueLaws as eqs
+use Rattle.rb_values.proofs.NodeLemmas as nodes
+use Rattle.rb_values.proofs.nodes.Nodes.layer.Goals as goal
+
+pub index-requires : goal.index-requires
+index-requires c = let l = nodes.length_is c.self.inside.links.items c.self.inside.nodes.items c.args.self.now c.self.view_is in omega (arith, l)
+
+pub returns-in-Number : goal.returns-in-Number
+returns-in-Number c = nodes.number_at c.self.inside.links.items c.self.inside.nodes.items c.args.self.now c.args.i c.in-Number.n c.index.result.now c.self.invariant c.self.view_is c.requires c.index.ensures c.in-Number.is
+
+pub returns-in-Build : goal.returns-in-Build
+returns-in-Build c = let b = nodes.build_at c.self.inside.links.items c.self.inside.nodes.items c.args.self.now c.args.i c.in-Build.con c.in-Build.field-1 c.in-Build.count c.index.result.now c.self.invariant c.self.view_is c.requires c.index.ensures c.in-Build.is in
+    let s : subs (at c.args.self.now c.args.i) ≡ children c.args.self.now c.self.inside.links.items c.in-Build.field-1 c.in-Build.count = ap subs b.built ∙ eqs.subs-Con _ _ in
+    (rw s b.built, ap length s ∙ nodes.children-len c.args.self.now c.self.inside.links.items c.in-Build.field-1 c.in-Build.count)

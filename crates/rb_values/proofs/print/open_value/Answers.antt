@@ -1,0 +1,17 @@
+use Rattle.std.proofs.Common.{◌≡◌, ℕ, ◌+◌, ◌<◌, ◌≤◌, List, [], ◌∷◌, ◌++◌, length, map, ◌∙◌, ap, sym, arith, get_or, refl, rules}
+use Rattle.std.proofs.lemmas.Grind.{common_steps}
+use Rattle.rb_core.specs.Values.{subs}
+use Rattle.rb_values.specs.inner.Nodes.{at}
+use Rattle.rb_values.specs.Texts.{text_of}
+use Rattle.rb_values.specs.inner.Printing.{frame_text, pending, IsFrame, AreFrames, Opened, Turned}
+use Rattle.rb_values.proofs.PrintLemmas as print
+use Rattle.rb_values.proofs.print.open_value.Goals as goal
+
+pub returns-in_ok-write_number-in-Num : goal.returns-in_ok-write_number-in-Num
+returns-in_ok-write_number-in-Num c = print.opened_number c.args.types.now c.args.nodes.now c.args.node c.in-Num.n c.args.ty c.args.stack.now.items c.args.out.now.items c.write_number.new.out.items
+    c.in-Num.ensures c.in_ok-write_number-in-Num.ensures
+
+pub returns-in_ok-push-in-Con : goal.returns-in_ok-push-in-Con
+returns-in_ok-push-in-Con c = let t = c.type_index-ty.ensures in
+    rw c.in_ok-push-in-Con.ensures.items (rw t (print.opened_con c.args.types.now c.args.nodes.now c.args.node c.in-Con.con c.args.ty c.args.stack.now.items c.args.out.now.items c.write_name.new.out.items
+    c.requires c.in-Con.ensures.0 (rw t at c.in_ok-write_name-in-Con.ensures)))

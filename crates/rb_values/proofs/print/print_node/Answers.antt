@@ -1,0 +1,23 @@
+use Rattle.std.proofs.Common.{◌≡◌, ℕ, ◌+◌, ◌<◌, ◌≤◌, List, [], ◌∷◌, ◌++◌, length, map, ◌∙◌, ap, sym, arith, get_or, refl, rules}
+use Rattle.std.proofs.lemmas.Grind.{common_steps}
+use Rattle.rb_core.specs.Values.{subs}
+use Rattle.rb_values.specs.inner.Nodes.{at}
+use Rattle.rb_values.specs.Texts.{text_of}
+use Rattle.rb_values.specs.inner.Printing.{frame_text, pending, IsFrame, AreFrames, Opened, Turned}
+use Rattle.rb_values.proofs.PrintLemmas as print
+use Rattle.rb_values.proofs.print.print_node.Goals as goal
+
+pub turn-requires-clause-frame : goal.turn-requires-clause-frame
+turn-requires-clause-frame c = (print.frames-pop c.args.nodes.now c.pop.new.self.items c.in-Some.frame (rw c.in-Some.ensures.items at c.loop-frame.invariant.frames)).1
+
+pub turn-requires-clause-frames : goal.turn-requires-clause-frames
+turn-requires-clause-frames c = (print.frames-pop c.args.nodes.now c.pop.new.self.items c.in-Some.frame (rw c.in-Some.ensures.items at c.loop-frame.invariant.frames)).0
+
+pub loop-frame-preserved : goal.loop-frame-preserved
+loop-frame-preserved c =
+    let t = c.in_ok-turn.ensures in
+    let p = print.pending-push c.args.types.now c.args.nodes.now c.pop.new.self.items c.in-Some.frame in
+    record {
+      frames = t.frames;
+      text = t.text ∙ (rw (c.in-Some.ensures.items, p) at c.loop-frame.invariant.text);
+    }

@@ -1,0 +1,43 @@
+-- What is read from a text at a type.
+use Rattle.std.specs.Prelude.{◌≡◌, ℕ, ◌<◌, ◌≤◌, List, [], ◌∷◌, ◌++◌, length, Option, Some, None, Result, Ok, Err}
+use Rattle.rb_core.specs.declared.value.Value.{Value}
+use Rattle.rb_core.specs.declared.types.Ty.{Ty}
+use Rattle.rb_core.specs.declared.types.DataDecl.{DataDecl}
+use Rattle.rb_syntax.specs.declared.token.Placed.{Placed}
+use Rattle.rb_syntax.specs.Fronts.{front}
+use Rattle.rb_values.specs.declared.sign.Sign.{Sign}
+use Rattle.rb_values.specs.declared.fault.ValueFault.{ValueFault}
+use Rattle.rb_values.specs.declared.fault.ValueFault.TheVariants.{ValueSyntax, ValueTooLarge, ValueType, Memory}
+use Rattle.rb_values.specs.Terms.{Term, term_nodes, spelled, sign_of, signs, Spells}
+use Rattle.rb_values.specs.Fitting.{misfits, first, value_of}
+
+-- some value's spelling begins so
+abbrev pub Begins : List Sign → Type 0
+Begins before = (t : Term) × (more : List Sign) × (before ++ more ≡ spelled t [])
+
+-- no value is spelled so, from this byte on
+pub data StopsAt (text : List ℕ) (p : ℕ) : Type 0 where
+  -- a value goes on up to this token, which begins there, and none goes on with it
+  token : (before : List Placed) (here : Placed) (behind : List Placed) → (front text).tokens ≡ before ++ here ∷ behind → here.at ≡ p
+      → Begins (signs before) → (Begins (signs before ++ sign_of here ∷ []) → ⊥) → StopsAt text p
+  -- a value goes on up to the byte at which the text has no token
+  refused : (front text).fault ≡ Some p → Begins (signs (front text).tokens) → StopsAt text p
+  -- a value goes on up to the text's end, and is not whole there
+  ended : (front text).fault ≡ None → p ≡ length text → Begins (signs (front text).tokens)
+      → ((t : Term) → signs (front text).tokens ≡ spelled t [] → ⊥) → StopsAt text p
+
+-- the text spells a term of at most so many nodes, which fits the type
+pub record Reads (types : List DataDecl) (ty : Ty) (limit : ℕ) (text : List ℕ) (v : Value) : Type 0 where
+  pub term : Term
+  pub spells : Spells text term
+  pub within : term_nodes term ≤ limit
+  pub fits : misfits types term ty ≡ []
+  pub value : v ≡ value_of types term ty
+
+-- a value; or the first of these: no value is spelled, it has too many nodes, it has a node that does not fit
+abbrev pub IsRead : List DataDecl → Ty → ℕ → List ℕ → Result Value ValueFault → Type 0
+IsRead types ty limit text (Ok v) = Reads types ty limit text v
+IsRead types ty limit text (Err (ValueSyntax p)) = StopsAt text p
+IsRead types ty limit text (Err ValueTooLarge) = (t : Term) × Spells text t × (limit < term_nodes t)
+IsRead types ty limit text (Err (ValueType p)) = (t : Term) × Spells text t × (term_nodes t ≤ limit) × (first (misfits types t ty) ≡ Some p)
+IsRead types ty limit text (Err Memory) = Unit {0}

@@ -1,0 +1,64 @@
+-- The text of a value: a number in decimal, or its constructor's name and its fields with ', ' between.
+use Rattle.std.specs.Prelude.{ℕ, zero, suc, ◌+◌, List, [], ◌∷◌, ◌++◌, codes, Option, Some, None, slice_get, slice_index_or}
+use Rattle.std.specs.Fmt.{decimal}
+use Rattle.rb_core.specs.declared.value.Value.{Value}
+use Rattle.rb_core.specs.declared.value.Value.TheOpen as Layer
+use Rattle.rb_core.specs.declared.value.Value.TheOpen.{Value-F}
+use Rattle.rb_core.specs.declared.value.Value.TheFolds.{fold-Value}
+use Rattle.rb_core.specs.declared.types.Ty.{Ty}
+use Rattle.rb_core.specs.declared.types.Ty.TheVariants.{Int, Named}
+use Rattle.rb_core.specs.declared.types.Con.{Con}
+use Rattle.rb_core.specs.declared.types.DataDecl.{DataDecl}
+
+-- Constructors. What a value of its type never asks for is filled in: type 0, no name, a field of u1.
+
+abbrev pub type_index : Ty → ℕ
+type_index (Int bits) = 0
+type_index (Named t) = t
+
+abbrev pub con_in : Option DataDecl → ℕ → Option Con
+con_in None k = None
+con_in (Some d) k = slice_get d.cons k
+
+-- constructor k of type t
+abbrev pub con_of : List DataDecl → ℕ → ℕ → Option Con
+con_of types t k = con_in (slice_get types t) k
+
+abbrev pub name_in : Option Con → List ℕ
+name_in None = []
+name_in (Some c) = c.name
+
+unfoldable pub name_of : List DataDecl → ℕ → ℕ → List ℕ
+name_of types t k = name_in (con_of types t k)
+
+abbrev pub field_in : Option Con → ℕ → Ty
+field_in None j = Int 1
+field_in (Some c) j = slice_index_or c.fields j (Int 1)
+
+-- the type of field j of constructor k of type t
+unfoldable pub field_of : List DataDecl → ℕ → ℕ → ℕ → Ty
+field_of types t k j = field_in (con_of types t k) j
+
+-- Texts.
+
+-- what stands before field j, and behind the last of j fields
+unfoldable pub before : ℕ → List ℕ
+before zero = codes "("
+before (suc j) = codes ", "
+
+unfoldable pub after_last : ℕ → List ℕ
+after_last zero = []
+after_last (suc j) = codes ")"
+
+-- the fields from field j on, each at its type
+abbrev pub fields_text : (ℕ → Ty) → ℕ → List (Ty → List ℕ) → List ℕ
+fields_text tys j [] = after_last j
+fields_text tys j (f ∷ fs) = before j ++ (f (tys j) ++ fields_text tys (j + 1) fs)
+
+abbrev pub text_step : List DataDecl → Value-F (Ty → List ℕ) → Ty → List ℕ
+text_step types (Layer.Num n) ty = decimal n
+text_step types (Layer.Con k fs) ty = name_of types (type_index ty) k ++ fields_text (field_of types (type_index ty) k) 0 fs
+
+-- the text of a value at a type
+abbrev pub text_of : List DataDecl → Value → Ty → List ℕ
+text_of types = fold-Value (Ty → List ℕ) (text_step types)

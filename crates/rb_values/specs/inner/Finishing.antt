@@ -1,0 +1,32 @@
+-- What is kept of a value while it is read, and what is answered at its end.
+use Rattle.std.specs.Prelude.{◌≡◌, ℕ, ◌<◌, ◌≤◌, List, [], Option, Some, None, Result, Ok, Err}
+use Rattle.rb_core.specs.declared.value.Value.{Value}
+use Rattle.rb_core.specs.declared.types.Ty.{Ty}
+use Rattle.rb_core.specs.declared.types.DataDecl.{DataDecl}
+use Rattle.rb_values.specs.declared.typing.Typing.{Typing}
+use Rattle.rb_values.specs.declared.fault.ValueFault.{ValueFault}
+use Rattle.rb_values.specs.declared.fault.ValueFault.TheVariants.{ValueSyntax, ValueTooLarge, ValueType, Memory}
+use Rattle.rb_values.specs.Terms.{Term, term_nodes}
+use Rattle.rb_values.specs.Fitting.{misfits, first, value_of}
+use Rattle.rb_values.specs.inner.States.{State, term_of, outline_of}
+use Rattle.rb_values.specs.inner.Typing.{IsTyped}
+
+-- nothing where there are too many nodes
+abbrev pub IsKept : List DataDecl → Ty → ℕ → State → Option Typing → Type 0
+IsKept types root limit s None = limit < (outline_of s).nodes
+IsKept types root limit s (Some t) = IsTyped types root s t
+
+abbrev pub IsSettled : List DataDecl → Ty → Term → Result Value ValueFault → Type 0
+IsSettled types ty t (Ok v) = (misfits types t ty ≡ []) × (v ≡ value_of types t ty)
+IsSettled types ty t (Err (ValueSyntax p)) = ⊥
+IsSettled types ty t (Err ValueTooLarge) = ⊥
+IsSettled types ty t (Err (ValueType p)) = first (misfits types t ty) ≡ Some p
+IsSettled types ty t (Err Memory) = Unit {0}
+
+-- at the end of a text of so many bytes
+abbrev pub IsFinished : List DataDecl → Ty → ℕ → State → ℕ → Result Value ValueFault → Type 0
+IsFinished types ty limit s len (Ok v) = (t : Term) × (term_of s ≡ Some t) × (term_nodes t ≤ limit) × (misfits types t ty ≡ []) × (v ≡ value_of types t ty)
+IsFinished types ty limit s len (Err (ValueSyntax p)) = (p ≡ len) × (term_of s ≡ None)
+IsFinished types ty limit s len (Err ValueTooLarge) = (t : Term) × (term_of s ≡ Some t) × (limit < term_nodes t)
+IsFinished types ty limit s len (Err (ValueType p)) = (t : Term) × (term_of s ≡ Some t) × (term_nodes t ≤ limit) × (first (misfits types t ty) ≡ Some p)
+IsFinished types ty limit s len (Err Memory) = Unit {0}

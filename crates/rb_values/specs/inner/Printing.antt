@@ -1,0 +1,42 @@
+-- What the frames of the printer have still to write.
+use Rattle.std.specs.Prelude.{◌≡◌, ℕ, ◌+◌, ◌*◌, ◌<◌, ◌≤◌, List, [], ◌∷◌, ◌++◌, length, map, sum, drop}
+use Rattle.rb_core.specs.declared.value.Value.{Value}
+use Rattle.rb_core.specs.declared.types.Ty.{Ty}
+use Rattle.rb_core.specs.declared.types.DataDecl.{DataDecl}
+use Rattle.rb_core.specs.Values.{subs, node_count}
+use Rattle.rb_values.specs.Texts.{field_of, fields_text, text_of}
+use Rattle.rb_values.specs.inner.Nodes.{at}
+use Rattle.rb_values.specs.declared.print.Frame.{Frame}
+
+abbrev pub frame_text : List DataDecl → List Value → Frame → List ℕ
+frame_text types vs f = fields_text (field_of types f.ty f.con) f.next (map (text_of types) (drop f.next (subs (at vs f.node))))
+
+-- frames, outermost first
+abbrev pub pending : List DataDecl → List Value → List Frame → List ℕ
+pending types vs [] = []
+pending types vs (f ∷ fs) = pending types vs fs ++ frame_text types vs f
+
+abbrev pub frame_work : List Value → Frame → ℕ
+frame_work vs f = 1 + 2 * sum (map node_count (drop f.next (subs (at vs f.node))))
+
+abbrev pub work : List Value → List Frame → ℕ
+work vs fs = sum (map (frame_work vs) fs)
+
+abbrev pub IsFrame : List Value → Frame → Type 0
+IsFrame vs f = (f.node < length vs) × (f.next ≤ length (subs (at vs f.node)))
+
+abbrev pub AreFrames : List Value → List Frame → Type 0
+AreFrames vs [] = Unit {0}
+AreFrames vs (f ∷ fs) = IsFrame vs f × AreFrames vs fs
+
+-- a value's head is written and its fields wait
+pub record Opened (types : List DataDecl) (vs : List Value) (node : ℕ) (ty : Ty) (old new : List Frame) (out written : List ℕ) : Type 0 where
+  pub frames : AreFrames vs old → AreFrames vs new
+  pub text : written ++ pending types vs new ≡ out ++ (text_of types (at vs node) ty ++ pending types vs old)
+  pub less : work vs new + 1 ≤ work vs old + 2 * node_count (at vs node)
+
+-- one more field of a frame that was taken from the stack, or its end, is written
+pub record Turned (types : List DataDecl) (vs : List Value) (frame : Frame) (old new : List Frame) (out written : List ℕ) : Type 0 where
+  pub frames : AreFrames vs new
+  pub text : written ++ pending types vs new ≡ out ++ (frame_text types vs frame ++ pending types vs old)
+  pub less : work vs new < work vs old + frame_work vs frame

@@ -1,0 +1,161 @@
+-- Reading a term by its signs, from left to right.
+use Rattle.std.specs.Prelude.{◌≡◌, ℕ, ◌+◌, ◌-◌, ◌==◌, if◌then◌else◌, Bool, false, List, [], ◌∷◌, ◌++◌, length, Option, Some, None}
+use Rattle.rb_values.specs.declared.sign.Sign.{Sign}
+use Rattle.rb_values.specs.declared.sign.Sign.TheVariants as sign
+use Rattle.rb_values.specs.declared.outline.Mode.{Mode}
+use Rattle.rb_values.specs.declared.outline.Mode.TheVariants as mode
+use Rattle.rb_values.specs.declared.outline.Outline.{Outline}
+use Rattle.rb_values.specs.Terms.{Term, Terms, number, build, none, also, spelled, terms_nodes, term_nodes}
+
+-- a name whose fields have begun, with those that are whole
+pub record Wait : Type 0 where
+  pub at : ℕ
+  pub name : List ℕ
+  pub fields : Terms
+
+abbrev pub snoc : Terms → Term → Terms
+snoc none t = also t none
+snoc (also u us) t = also u (snoc us t)
+
+abbrev pub waits : ℕ → List ℕ → Wait
+waits at name = record { at = at; name = name; fields = none }
+
+abbrev pub longer : Wait → Term → Wait
+longer o t = record { at = o.at; name = o.name; fields = snoc o.fields t }
+
+abbrev pub whole : Wait → Term
+whole o = build o.at o.name o.fields
+
+-- names that wait, the innermost first; below them a value is to begin, or stands, or a name stands
+pub data State : Type 0 where
+  expecting : List Wait → State
+  named : ℕ → List ℕ → List Wait → State
+  complete : Term → List Wait → State
+
+abbrev pub then_on : Term → List Wait → Sign → Option State
+then_on t [] s = None
+then_on t (o ∷ os) sign.Comma = Some (expecting (longer o t ∷ os))
+then_on t (o ∷ os) sign.Close = Some (complete (whole (longer o t)) os)
+then_on t (o ∷ os) sign.Open = None
+then_on t (o ∷ os) (sign.Number at n) = None
+then_on t (o ∷ os) (sign.Name at x) = None
+then_on t (o ∷ os) sign.Other = None
+
+abbrev pub first_of : List Wait → Sign → Option State
+first_of os (sign.Number at n) = Some (complete (number at n) os)
+first_of os (sign.Name at x) = Some (named at x os)
+first_of os sign.Open = None
+first_of os sign.Close = None
+first_of os sign.Comma = None
+first_of os sign.Other = None
+
+abbrev pub after_name : ℕ → List ℕ → List Wait → Sign → Option State
+after_name at x os sign.Open = Some (expecting (waits at x ∷ os))
+after_name at x os sign.Comma = then_on (build at x none) os sign.Comma
+after_name at x os sign.Close = then_on (build at x none) os sign.Close
+after_name at x os (sign.Number b n) = None
+after_name at x os (sign.Name b y) = None
+after_name at x os sign.Other = None
+
+abbrev pub step : State → Sign → Option State
+step (expecting os) s = first_of os s
+step (named at x os) s = after_name at x os s
+step (complete t os) s = then_on t os s
+
+abbrev pub end_of : Term → List Wait → Option Term
+end_of t [] = Some t
+end_of t (o ∷ os) = None
+
+abbrev pub term_of : State → Option Term
+term_of (expecting os) = None
+term_of (named at x os) = end_of (build at x none) os
+term_of (complete t os) = end_of t os
+
+abbrev pub on : Option State → (State → Option Term) → Option Term
+on None f = None
+on (Some s) f = f s
+
+abbrev pub answer : State → List Sign → Option Term
+answer s [] = term_of s
+answer s (t ∷ ts) = on (step s t) (λ s. answer s ts)
+
+-- the signs that led to a state, then what follows
+abbrev pub each : Terms → List Sign → List Sign
+each none rest = rest
+each (also t ts) rest = spelled t (sign.Comma ∷ each ts rest)
+
+abbrev pub shown_waits : List Wait → List Sign → List Sign
+shown_waits [] rest = rest
+shown_waits (o ∷ os) rest = shown_waits os (sign.Name o.at o.name ∷ sign.Open ∷ each o.fields rest)
+
+abbrev pub shown : State → List Sign → List Sign
+shown (expecting os) rest = shown_waits os rest
+shown (named at x os) rest = shown_waits os (sign.Name at x ∷ rest)
+shown (complete t os) rest = shown_waits os (spelled t rest)
+
+-- these signs lead to a state
+pub record Reached (ss : List Sign) (s : State) : Type 0 where
+  pub said : (rest : List Sign) → shown s rest ≡ ss ++ rest
+  pub same : (rest : List Sign) → answer (expecting []) (ss ++ rest) ≡ answer s rest
+
+-- The outline of a state.
+
+abbrev pub waits_of : State → List Wait
+waits_of (expecting os) = os
+waits_of (named at x os) = os
+waits_of (complete t os) = os
+
+-- names that wait and their fields
+abbrev pub waits_nodes : List Wait → ℕ
+waits_nodes [] = 0
+waits_nodes (o ∷ os) = waits_nodes os + (1 + terms_nodes o.fields)
+
+abbrev pub outline_of : State → Outline
+outline_of (expecting os) = record { mode = mode.Begin; depth = length os; nodes = waits_nodes os }
+outline_of (named at x os) = record { mode = mode.Name; depth = length os; nodes = waits_nodes os + 1 }
+outline_of (complete t os) = record { mode = mode.Whole; depth = length os; nodes = waits_nodes os + term_nodes t }
+
+abbrev pub outlined : Option State → Option Outline
+outlined None = None
+outlined (Some s) = Some (outline_of s)
+
+-- a sign where a value is to begin; behind a value, below so many names; behind a name
+abbrev pub outline_begin : Outline → Sign → Option Outline
+outline_begin o (sign.Number at n) = Some (record { mode = mode.Whole; depth = o.depth; nodes = o.nodes + 1 })
+outline_begin o (sign.Name at x) = Some (record { mode = mode.Name; depth = o.depth; nodes = o.nodes + 1 })
+outline_begin o sign.Open = None
+outline_begin o sign.Close = None
+outline_begin o sign.Comma = None
+outline_begin o sign.Other = None
+
+abbrev pub outline_behind : Outline → Sign → Option Outline
+outline_behind o sign.Comma = Some (record { mode = mode.Begin; depth = o.depth; nodes = o.nodes })
+outline_behind o sign.Close = Some (record { mode = mode.Whole; depth = o.depth - 1; nodes = o.nodes })
+outline_behind o sign.Open = None
+outline_behind o (sign.Number at n) = None
+outline_behind o (sign.Name at x) = None
+outline_behind o sign.Other = None
+
+abbrev pub outline_on : Outline → Sign → Option Outline
+outline_on o s = if o.depth == 0 then None else outline_behind o s
+
+abbrev pub outline_name : Outline → Sign → Option Outline
+outline_name o sign.Open = Some (record { mode = mode.Begin; depth = o.depth + 1; nodes = o.nodes })
+outline_name o sign.Comma = outline_on o sign.Comma
+outline_name o sign.Close = outline_on o sign.Close
+outline_name o (sign.Number at n) = None
+outline_name o (sign.Name at x) = None
+outline_name o sign.Other = None
+
+abbrev pub outline_mode : Mode → Outline → Sign → Option Outline
+outline_mode mode.Begin o s = outline_begin o s
+outline_mode mode.Name o s = outline_name o s
+outline_mode mode.Whole o s = outline_on o s
+
+abbrev pub outline_step : Outline → Sign → Option Outline
+outline_step o s = outline_mode o.mode o s
+
+abbrev pub mode_whole : Mode → ℕ → Bool
+mode_whole mode.Begin depth = false
+mode_whole mode.Name depth = depth == 0
+mode_whole mode.Whole depth = depth == 0

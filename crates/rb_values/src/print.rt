@@ -1,0 +1,180 @@
+//! The text of a value, by frames in place of recursion.
+
+ghost use Rattle.std.specs.Prelude.{◌≡◌, ◌<◌, ◌++◌, length, IfOk, OnOk};
+ghost use Rattle.std.specs.Fmt.{decimal};
+ghost use Rattle.std.specs.Option.{option_copied};
+ghost use Rattle.rb_values.specs.Texts.{type_index, con_of, name_of, field_of, before, after_last, text_of};
+ghost use Rattle.rb_values.specs.inner.Nodes.{at};
+ghost use Rattle.rb_values.specs.inner.Printing.{IsFrame, AreFrames, Opened, Turned};
+
+use crate::forest::Forest;
+use crate::nodes::{Layer, Nodes};
+use rb_core::decimal::digits;
+use rb_core::types::{Con, DataDecl, Ty};
+use std::alloc::{AllocError, Global};
+
+// A construction whose fields from `next` on are still to be written: its node, its constructor's and
+// its type's number.
+#[derive(Clone, Copy)]
+pub struct Frame {
+    pub node: usize,
+    pub con: u32,
+    pub ty: u32,
+    pub next: usize,
+}
+
+fn type_index(ty: Ty) -> u32
+    ensures { result ≡ type_index ty }
+{
+    match ty {
+        Ty::Int(_) => 0,
+        Ty::Named(t) => t,
+    }
+}
+
+fn con_of(types: &[DataDecl], t: u32, k: u32) -> Option<&Con>
+    ensures { option_copied result ≡ con_of types.now t k }
+{
+    match types.get(t as usize) {
+        None => None,
+        Some(data) => data.cons.get(k as usize),
+    }
+}
+
+#[tactic(auto, unfolding(crate::specs::Texts::field_of))]
+fn field_of(types: &[DataDecl], t: u32, k: u32, j: usize) -> Ty
+    ensures { result ≡ field_of types.now t k j }
+{
+    match con_of(types, t, k) {
+        None => Ty::Int(1),
+        Some(con) => match con.fields.get(j) {
+            None => Ty::Int(1),
+            Some(ty) => *ty,
+        },
+    }
+}
+
+#[tactic(auto, unfolding(crate::specs::Texts::name_of))]
+fn write_name(types: &[DataDecl], t: u32, k: u32, out: &mut Vec<u8>) -> Result<(), AllocError>
+    ensures { OnOk result (out.new.items ≡ out.old.items ++ name_of types.now t k) }
+{
+    match con_of(types, t, k) {
+        None => Ok(()),
+        Some(con) => out.extend_from_slice(con.name.as_slice()),
+    }
+}
+
+fn write_number(n: u64, out: &mut Vec<u8>) -> Result<(), AllocError>
+    ensures { OnOk result (out.new.items ≡ out.old.items ++ decimal n) }
+{
+    out.extend_from_slice(digits(n).as_slice())
+}
+
+#[tactic(auto, unfolding(crate::specs::Texts::before))]
+fn write_before(j: usize, out: &mut Vec<u8>) -> Result<(), AllocError>
+    ensures { OnOk result (out.new.items ≡ out.old.items ++ before j) }
+{
+    out.extend_from_slice(if j == 0 { b"(" } else { b", " })
+}
+
+#[tactic(auto, unfolding(crate::specs::Texts::after_last))]
+fn write_after(j: usize, out: &mut Vec<u8>) -> Result<(), AllocError>
+    ensures { OnOk result (out.new.items ≡ out.old.items ++ after_last j) }
+{
+    out.extend_from_slice(if j == 0 { b"" } else { b")" })
+}
+
+// The head of a value, and a frame for its fields.
+fn open_value(
+    types: &[DataDecl],
+    nodes: &Nodes,
+    node: usize,
+    ty: Ty,
+    out: &mut Vec<u8>,
+    stack: &mut Vec<Frame>,
+) -> Result<(), AllocError>
+    requires { node < length nodes.now }
+    ensures { OnOk result (Opened types.now nodes.now node ty stack.old.items stack.new.items out.old.items out.new.items) }
+{
+    match nodes.layer(node) {
+        Layer::Num(n) => {
+            write_number(n, out)?;
+            Ok(())
+        }
+        Layer::Con(con, _) => {
+            let ty = type_index(ty);
+            write_name(types, ty, con, out)?;
+            stack.push(Frame {
+                node,
+                con,
+                ty,
+                next: 0,
+            })?;
+            Ok(())
+        }
+    }
+}
+
+// One more field of a frame, or its end.
+fn turn(
+    types: &[DataDecl],
+    nodes: &Nodes,
+    frame: Frame,
+    out: &mut Vec<u8>,
+    stack: &mut Vec<Frame>,
+) -> Result<(), AllocError>
+    requires frame { IsFrame nodes.now frame }
+    requires frames { AreFrames nodes.now stack.old.items }
+    ensures { OnOk result (Turned types.now nodes.now frame stack.old.items stack.new.items out.old.items out.new.items) }
+{
+    if frame.next == nodes.arity(frame.node) {
+        write_after(frame.next, out)?;
+        return Ok(());
+    }
+    write_before(frame.next, out)?;
+    let child = nodes.child(frame.node, frame.next);
+    let ty = field_of(types, frame.ty, frame.con, frame.next);
+    stack.push(Frame {
+        node: frame.node,
+        con: frame.con,
+        ty: frame.ty,
+        next: frame.next + 1,
+    })?;
+    open_value(types, nodes, child, ty, out, stack)?;
+    Ok(())
+}
+
+fn print_node(
+    alloc: Global,
+    types: &[DataDecl],
+    ty: Ty,
+    nodes: &Nodes,
+    root: usize,
+) -> Result<Vec<u8>, AllocError>
+    requires { root < length nodes.now }
+    ensures { IfOk result (λ out. out.items ≡ text_of types.now (at nodes.now root) ty) }
+{
+    let mut out = Vec::new(alloc);
+    let mut stack = Vec::new(alloc);
+    open_value(types, nodes, root, ty, &mut out, &mut stack)?;
+    while let Some(frame) = stack.pop() {
+        turn(types, nodes, frame, &mut out, &mut stack)?;
+    }
+    Ok(out)
+}
+
+/// The text of a value of this type.
+///
+/// # Errors
+///
+/// Want of memory alone.
+pub fn print_value(
+    alloc: Global,
+    types: &[DataDecl],
+    ty: Ty,
+    value: &Forest,
+) -> Result<Vec<u8>, AllocError>
+    ensures { IfOk result (λ text. text.items ≡ text_of types.now value.now ty) }
+{
+    print_node(alloc, types, ty, &value.nodes, value.nodes.len() - 1)
+}
