@@ -206,9 +206,15 @@ fn raw_memory_at_its_least(rt: HostRuntime) {
     assert!(rt; least.ends() == ((64, 64, 0), (64, 64, 0)));
 }
 
+/// A memory with the largest region. (Its size stays out of the proofs of those who use it.)
+fn largest_memory(alloc: Global) -> Result<RawMemory, AllocError> {
+    let memory = RawMemory::new(alloc, 16_777_216)?;
+    Ok(memory)
+}
+
 #[test]
 fn raw_memory_at_its_largest(rt: HostRuntime) {
-    let mut largest = RawMemory::new(rt.alloc(), 16_777_216).expect(&rt, "ample memory");
+    let mut largest = largest_memory(rt.alloc()).expect(&rt, "ample memory");
     for (size, power, want) in [(512, 6, 64), (1, 0, 576)] {
         assert!(rt; 1 <= size && size <= 512 && power <= 6);
         assert!(rt; placed(largest.place(size, 1 << power)) == want);
