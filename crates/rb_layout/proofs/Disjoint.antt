@@ -52,30 +52,30 @@ begins_apart e f (inl lt) = omega (arith, e, lt)
 begins_apart e f (inr both) = omega (arith, f, both.1)
 
 -- what is said of a part's range
-at_range : (P : ℕ → ℕ → Type 0) {parts : List WrittenPart} {o l : ℕ} (p : PartAt parts o l) → P p.part.o p.part.l → P o l
-at_range P {parts} {o} {l} p h = subst (λ k. P o k) p.length (subst (λ k. P k p.part.l) p.from h)
+at_range : (P : ℕ → ℕ → Type 0) {opens : List Open} {parts : List WrittenPart} {o l : ℕ} (p : PartAt opens parts o l) → P p.part.o p.part.l → P o l
+at_range P {opens} {parts} {o} {l} p h = subst (λ k. P o k) p.length (subst (λ k. P k p.part.l) p.from h)
 
 module _ (decls : List LayoutDecl) (opens : List Open) where
   -- the two parts stand at different numbers, in either order
-  not_either : (width : ℕ) (parts : List WrittenPart) → PartsFit decls opens width parts → (o l b m : ℕ) (x : Overlaps parts o l b m)
+  not_either : (width : ℕ) (parts : List WrittenPart) → PartsFit decls opens width parts → (o l b m : ℕ) (x : Overlaps opens parts o l b m)
       → ((x.first.number ≡ x.second.number) ⊎ ((x.first.number < x.second.number) ⊎ (x.second.number < x.first.number))) → ⊥
   not_either width parts h o l b m x (inl same) =
       let one = same_Some x.first.part x.second.part (sym x.first.is_part ∙ ap (λ k. slice_get parts k) same ∙ x.second.is_part) in
       begins_apart (sym x.first.from ∙ ap (λ (p : WrittenPart). p.o) one ∙ x.second.from) same x.order
   not_either width parts h o l b m x (inr (inl lt)) =
-      let apart = h.disjoint x.first.number x.second.number x.first.part x.second.part lt x.first.is_part x.second.is_part in
+      let apart = h.disjoint x.first.number x.second.number x.first.part x.second.part lt x.first.is_part x.second.is_part x.first.placed x.second.placed in
       apart_bits o l b m x.bit
       (at_range (λ b m. AreDisjoint o l b m) x.second (at_range (λ o l. AreDisjoint o l x.second.part.o x.second.part.l) x.first apart)) x.in_first x.in_second
   not_either width parts h o l b m x (inr (inr lt)) =
-      let apart = h.disjoint x.second.number x.first.number x.second.part x.first.part lt x.second.is_part x.first.is_part in
+      let apart = h.disjoint x.second.number x.first.number x.second.part x.first.part lt x.second.is_part x.first.is_part x.second.placed x.first.placed in
       apart_bits b m o l x.bit
       (at_range (λ o l. AreDisjoint b m o l) x.first (at_range (λ b m. AreDisjoint b m x.first.part.o x.first.part.l) x.second apart)) x.in_second x.in_first
 
-  not_overlap : (width : ℕ) (parts : List WrittenPart) → PartsFit decls opens width parts → (o l b m : ℕ) → Overlaps parts o l b m → ⊥
+  not_overlap : (width : ℕ) (parts : List WrittenPart) → PartsFit decls opens width parts → (o l b m : ℕ) → Overlaps opens parts o l b m → ⊥
   not_overlap width parts h o l b m x = not_either width parts h o l b m x (cases_order x.first.number x.second.number)
 
   not_parts : (width : ℕ) (parts : List WrittenPart) (why : Why) → PartsFit decls opens width parts → FailsParts decls opens width parts why → ⊥
-  not_parts width parts (Outside i o l) h f = f.1 (at_range (λ (o l : ℕ). LiesIn width o l) f.0 (h.inside f.0.number f.0.part f.0.is_part))
+  not_parts width parts (Outside i o l) h f = f.1 (at_range (λ (o l : ℕ). LiesIn width o l) f.0 (h.inside f.0.number f.0.part f.0.is_part f.0.placed))
   not_parts width parts (Overlap i o l b m) h f = not_overlap width parts h o l b m f
   not_parts width parts (ConstWide i c l) h f =
       let fit = subst (λ (x : Content). Fits decls opens f.1.part.l x) f.2 (h.fit f.1.number f.1.part f.1.is_part) in

@@ -1,4 +1,5 @@
--- A3: the parts of each written word lie in it, are disjoint, and fit what they hold.
+-- A3: the parts of each written word lie in it, are disjoint, and fit what they hold. A part whose path is not open places
+-- nothing, and nothing is demanded of it.
 use Rattle.std.specs.Prelude.{◌≡◌, ℕ, ◌+◌, ◌^◌, ◌<◌, ◌≤◌, ◌⊎◌, List, [], ◌∷◌, Option, Some, None, slice_get}
 use Rattle.rb_core.specs.declared.types.Ty.{Ty}
 use Rattle.rb_core.specs.declared.types.Ty.TheVariants.{Int, Named}
@@ -12,6 +13,19 @@ use Rattle.rb_layout.specs.Positions.{Open, open_positions}
 use Rattle.rb_layout.specs.Flattening.{shape_of, type_at}
 use Rattle.rb_layout.specs.Items.{Content, Number, Whole, Slice, WordOf, Address, WrittenPart, Item, AWord, AField, items_of, content_paths}
 use Rattle.rb_layout.specs.Each.{EachLeaf}
+
+-- where an open position is, there is a type
+abbrev pub HasType : Option Ty → Type 0
+HasType None = ⊥
+HasType (Some ty) = Unit {0}
+
+-- what is written is placed: its path, if it has one, is open
+abbrev pub IsPlaced : List Open → Content → Type 0
+IsPlaced opens (Number c) = Unit {0}
+IsPlaced opens (Whole path) = HasType (type_at opens path)
+IsPlaced opens (Slice path a k) = HasType (type_at opens path)
+IsPlaced opens (WordOf path j) = HasType (type_at opens path)
+IsPlaced opens (Address align) = Unit {0}
 
 -- the range has a bit and lies in the word
 abbrev pub LiesIn : ℕ → ℕ → ℕ → Type 0
@@ -44,8 +58,9 @@ Fits decls opens l (WordOf path j) = FitsWord decls (type_at opens path) l j
 Fits decls opens l (Address align) = Unit {0}
 
 pub record PartsFit (decls : List LayoutDecl) (opens : List Open) (width : ℕ) (parts : List WrittenPart) : Type 0 where
-  pub inside : (k : ℕ) (p : WrittenPart) → slice_get parts k ≡ Some p → LiesIn width p.o p.l
-  pub disjoint : (j k : ℕ) (p q : WrittenPart) → j < k → slice_get parts j ≡ Some p → slice_get parts k ≡ Some q → AreDisjoint p.o p.l q.o q.l
+  pub inside : (k : ℕ) (p : WrittenPart) → slice_get parts k ≡ Some p → IsPlaced opens p.content → LiesIn width p.o p.l
+  pub disjoint : (j k : ℕ) (p q : WrittenPart) → j < k → slice_get parts j ≡ Some p → slice_get parts k ≡ Some q
+      → IsPlaced opens p.content → IsPlaced opens q.content → AreDisjoint p.o p.l q.o q.l
   pub fit : (k : ℕ) (p : WrittenPart) → slice_get parts k ≡ Some p → Fits decls opens p.l p.content
 
 abbrev pub ItemFits : List LayoutDecl → List Open → Item → Type 0
@@ -56,11 +71,12 @@ abbrev pub A3 : Program → List Layout → Type 0
 A3 p layouts = EachLeaf layouts (λ t layout n leaf.
     (i : ℕ) (item : Item) → slice_get (items_of p.layouts t n) i ≡ Some item → ItemFits p.layouts (open_positions p.types leaf.prov) item)
 
--- a part with this range
-pub record PartAt (parts : List WrittenPart) (o l : ℕ) : Type 0 where
+-- a placed part with this range
+pub record PartAt (opens : List Open) (parts : List WrittenPart) (o l : ℕ) : Type 0 where
   pub number : ℕ
   pub part : WrittenPart
   pub is_part : slice_get parts number ≡ Some part
+  pub placed : IsPlaced opens part.content
   pub from : part.o ≡ o
   pub length : part.l ≡ l
 
@@ -68,10 +84,10 @@ pub record PartAt (parts : List WrittenPart) (o l : ℕ) : Type 0 where
 abbrev pub IsIn : ℕ → ℕ → ℕ → Type 0
 IsIn o l i = (o ≤ i) × (i < o + l)
 
--- two parts with a bit in common, the one that begins lower first; of two that begin alike, the one written first
-pub record Overlaps (parts : List WrittenPart) (o l b m : ℕ) : Type 0 where
-  pub first : PartAt parts o l
-  pub second : PartAt parts b m
+-- two placed parts with a bit in common, the one that begins lower first; of two that begin alike, the one written first
+pub record Overlaps (opens : List Open) (parts : List WrittenPart) (o l b m : ℕ) : Type 0 where
+  pub first : PartAt opens parts o l
+  pub second : PartAt opens parts b m
   pub order : (o < b) ⊎ ((o ≡ b) × (first.number < second.number))
   pub bit : ℕ
   pub in_first : IsIn o l bit
@@ -79,12 +95,12 @@ pub record Overlaps (parts : List WrittenPart) (o l b m : ℕ) : Type 0 where
 
 -- how a word's parts fail the rule, by evidence but for the item's number
 abbrev pub FailsParts : List LayoutDecl → List Open → ℕ → List WrittenPart → Why → Type 0
-FailsParts decls opens width parts (Outside i o l) = PartAt parts o l × (LiesIn width o l → ⊥)
-FailsParts decls opens width parts (Overlap i o l b m) = Overlaps parts o l b m
+FailsParts decls opens width parts (Outside i o l) = PartAt opens parts o l × (LiesIn width o l → ⊥)
+FailsParts decls opens width parts (Overlap i o l b m) = Overlaps opens parts o l b m
 FailsParts decls opens width parts (ConstWide i c l) =
-    (o : ℕ) × (p : PartAt parts o l) × (p.part.content ≡ Number c) × (c < 2 ^ l → ⊥)
+    (o : ℕ) × (p : PartAt opens parts o l) × (p.part.content ≡ Number c) × (c < 2 ^ l → ⊥)
 FailsParts decls opens width parts (Misfit i o l path) =
-    (p : PartAt parts o l) × (content_paths p.part.content ≡ path ∷ []) × (Fits decls opens l p.part.content → ⊥)
+    (p : PartAt opens parts o l) × (content_paths p.part.content ≡ path ∷ []) × (Fits decls opens l p.part.content → ⊥)
 FailsParts decls opens width parts why = ⊥
 
 -- the item that the evidence names

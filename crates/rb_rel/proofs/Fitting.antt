@@ -20,7 +20,7 @@ use Rattle.rb_layout.specs.declared.layout.Kind.TheVariants.{Const, Bits, Word, 
 use Rattle.rb_layout.specs.Positions.{Open}
 use Rattle.rb_layout.specs.Items.{Content, Number, Whole, Slice, WordOf, Address, WrittenPart, Item, AWord, AField, Around, items_inside, item_list}
 use Rattle.rb_layout.specs.Items as J
-use Rattle.rb_layout.specs.A3.{Fits, FitsWhole, FitsWord, PartsFit, ItemFits}
+use Rattle.rb_layout.specs.A3.{Fits, FitsWhole, FitsWord, HasType, IsPlaced, PartsFit, ItemFits}
 use Rattle.rb_layout.specs.Flattening.{type_at, Laid, Laying, without_blocks, in_turn, whole_kind, kind_if_open, kind_step, part_step, word_of, words_of, inlined, shape_of, item_step, item_laid, kind_laid, part_laid, parts_of, items_laid}
 use Rattle.rb_layout.specs.Flattening as P
 use Rattle.rb_layout.proofs.FlatForms.{Each}
@@ -77,6 +77,7 @@ module _ (decls : List LayoutDecl) (opens : List Open) where
   WellItem item = Demands (item_list item) → (n : ℕ) → LaidFits (item_laid decls opens item n)
 
   record WellKind (kind : PartKind) : Type 0 where
+    placed : (n : ℕ) (x : Kind) → (the_kinds kind n).it ≡ Some x → IsPlaced opens (around kind).it
     fits : (l : ℕ) → Fits decls opens l (around kind).it → (n : ℕ) (x : Kind) → (the_kinds kind n).it ≡ Some x → KindFits l x
     blocks : Demands (around kind).inside → (n : ℕ) → BlocksFit (the_kinds kind n).blocks
 
@@ -125,28 +126,28 @@ module _ (decls : List LayoutDecl) (opens : List Open) where
   writtens parts = map (λ (p : Around WrittenPart). p.it) (map around_part parts)
 
   record PartsAre (ws : List WrittenPart) (ps : List Part) : Type 0 where
-    from : (k : ℕ) (x : Part) → slice_get ps k ≡ Some x → (i : ℕ) × (w : WrittenPart) × (slice_get ws i ≡ Some w) × (x.o ≡ w.o) × (x.l ≡ w.l)
+    from : (k : ℕ) (x : Part) → slice_get ps k ≡ Some x → (i : ℕ) × (w : WrittenPart) × (slice_get ws i ≡ Some w) × (x.o ≡ w.o) × (x.l ≡ w.l) × IsPlaced opens w.content
     apart : (j k : ℕ) (p q : Part) → j < k → slice_get ps j ≡ Some p → slice_get ps k ≡ Some q → AreDisjoint p.o p.l q.o q.l
     kinds : (k : ℕ) (p : Part) → slice_get ps k ≡ Some p → KindFits p.l p.kind
 
   abbrev IsFrom : WrittenPart → Part → Type 0
-  IsFrom w x = (x.o ≡ w.o) × (x.l ≡ w.l) × KindFits x.l x.kind
+  IsFrom w x = (x.o ≡ w.o) × (x.l ≡ w.l) × IsPlaced opens w.content × KindFits x.l x.kind
 
   two_parts : (first rest : List Part) (w : WrittenPart) (ws : List WrittenPart) → ((k : ℕ) (x : Part) → slice_get first k ≡ Some x → IsFrom w x) → length first ≤ 1
-      → PartsAre ws rest → ((k : ℕ) (q : WrittenPart) → slice_get ws k ≡ Some q → AreDisjoint w.o w.l q.o q.l) → PartsAre (w ∷ ws) (first ++ rest)
+      → PartsAre ws rest → ((k : ℕ) (q : WrittenPart) → slice_get ws k ≡ Some q → IsPlaced opens w.content → IsPlaced opens q.content → AreDisjoint w.o w.l q.o q.l) → PartsAre (w ∷ ws) (first ++ rest)
   two_parts first rest w ws own one are disjoint = record {
     from = λ k x e. elim (get-append-at first rest k x e) [
-      | inl h ↦ let o = own k x h in (0, w, refl, o.0, o.1)
-      | inr h ↦ let f = are.from h.0 x h.1 in (suc f.0, f.1, f.2, f.3, f.4)
+      | inl h ↦ let o = own k x h in (0, w, refl, o.0, o.1, o.2)
+      | inr h ↦ let f = are.from h.0 x h.1 in (suc f.0, f.1, f.2, f.3, f.4, f.5)
     ];
-    kinds = λ k x e. elim (get-append-at first rest k x e) [ inl h ↦ (own k x h).2 | inr h ↦ are.kinds h.0 x h.1 ];
+    kinds = λ k x e. elim (get-append-at first rest k x e) [ inl h ↦ (own k x h).3 | inr h ↦ are.kinds h.0 x h.1 ];
     apart = λ j k p q lt a b. elim (get-append-at first rest j p a) [
       | inl x ↦ elim (get-append-at first rest k q b) [
         | inl y ↦ absurd (let s = slice_get_within first k q y in omega (arith, lt, s, one))
         | inr y ↦
             let o = own j p x in
             let f = are.from y.0 q y.1 in
-            let d = disjoint f.0 f.1 f.2 in
+            let d = disjoint f.0 f.1 f.2 o.2 f.5 in
             subst (λ i. AreDisjoint i p.l q.o q.l) (sym o.0) (subst (λ i. AreDisjoint w.o i q.o q.l) (sym o.1)
             (subst (λ i. AreDisjoint w.o w.l i q.l) (sym f.3) (subst (λ i. AreDisjoint w.o w.l f.1.o i) (sym f.4) d)))
       ]
@@ -168,10 +169,10 @@ module _ (decls : List LayoutDecl) (opens : List Open) where
   one_part o l None = omega arith
   one_part o l (Some kind) = omega arith
 
-  parts_own : (o l : ℕ) (kind : Option Kind) → ((x : Kind) → kind ≡ Some x → KindFits l x) → (k : ℕ) (x : Part) → slice_get (parts_of o l kind) k ≡ Some x → (x.o ≡ o) × (x.l ≡ l) × KindFits x.l x.kind
-  parts_own o l None h k x e = absurd cc
-  parts_own o l (Some kind) h zero x e = subst (λ (y : Part). (y.o ≡ o) × (y.l ≡ l) × KindFits y.l y.kind) (same_Some _ x e) (refl, refl, h kind refl)
-  parts_own o l (Some kind) h (suc k) x e = absurd cc
+  parts_own : (o l : ℕ) (kind : Option Kind) (A : Type 0) → ((x : Kind) → kind ≡ Some x → A × KindFits l x) → (k : ℕ) (x : Part) → slice_get (parts_of o l kind) k ≡ Some x → (x.o ≡ o) × (x.l ≡ l) × A × KindFits x.l x.kind
+  parts_own o l None A h k x e = absurd cc
+  parts_own o l (Some kind) A h zero x e = subst (λ (y : Part). (y.o ≡ o) × (y.l ≡ l) × A × KindFits y.l y.kind) (same_Some _ x e) (refl, refl, (h kind refl).0, (h kind refl).1)
+  parts_own o l (Some kind) A h (suc k) x e = absurd cc
 
   parts_are : (parts : List PartDecl) → Each (λ (p : PartDecl). WellKind p.kind) parts → (width n : ℕ) → PartsFit decls opens width (writtens parts)
       → PartsAre (writtens parts) (in_turn (map the_parts parts) n).it
@@ -187,8 +188,9 @@ module _ (decls : List LayoutDecl) (opens : List Open) where
       let e : lay.it ≡ parts_of p.o p.l (the_kinds p.kind n).it = ap (λ (y : Laid (List Part)). y.it) is in
       two_parts lay.it (in_turn (map the_parts parts) (n + length lay.blocks)).it w (writtens parts)
       (λ k x h.
-      let g = parts_own p.o p.l (the_kinds p.kind n).it (each.0.fits p.l fit n) k x (ap (λ (ys : List Part). slice_get ys k) (sym e) ∙ h) in
-      (g.0 ∙ sym wo, g.1 ∙ sym wl, g.2))
+      let own : (y : Kind) → (the_kinds p.kind n).it ≡ Some y → IsPlaced opens w.content × KindFits p.l y = λ y z. (subst (IsPlaced opens) (sym wc) (each.0.placed n y z), each.0.fits p.l fit n y z) in
+      let g = parts_own p.o p.l (the_kinds p.kind n).it (IsPlaced opens w.content) own k x (ap (λ (ys : List Part). slice_get ys k) (sym e) ∙ h) in
+      (g.0 ∙ sym wo, g.1 ∙ sym wl, g.2, g.3))
       (let o = one_part p.o p.l (the_kinds p.kind n).it in let q : length lay.it ≡ length (parts_of p.o p.l (the_kinds p.kind n).it) = ap length e in omega (arith, o, q))
       (parts_are parts each.1 width (n + length lay.blocks) (rest_fit width w (writtens parts) f))
       (λ k q e. f.disjoint 0 (suc k) w q (omega arith) refl e)
@@ -208,9 +210,9 @@ module _ (decls : List LayoutDecl) (opens : List Open) where
   word_fits width ws ps f are = record {
     tidy = record {
       apart = are.apart;
-      inside = λ k p e. let r = are.from k p e in let i = f.inside r.0 r.1 r.2 in omega (arith, i.1, r.3, r.4);
+      inside = λ k p e. let r = are.from k p e in let i = f.inside r.0 r.1 r.2 r.5 in omega (arith, i.1, r.3, r.4);
     };
-    some = λ k p e. let r = are.from k p e in let i = f.inside r.0 r.1 r.2 in omega (arith, i.0, r.4);
+    some = λ k p e. let r = are.from k p e in let i = f.inside r.0 r.1 r.2 r.5 in omega (arith, i.0, r.4);
     kinds = are.kinds;
   }
 
@@ -252,6 +254,14 @@ module _ (decls : List LayoutDecl) (opens : List Open) where
     inlined_fit path (Some (Named s)) is = words_fit path s is 0 (shape_of decls s) (λ i w e. let z : 0 + i ≡ i = omega arith in ap (slice_get (shape_of decls s)) z ∙ e)
 
     -- Kinds -------------------------------------------------------------------------------------
+    whole_placed : (path : List ℕ) (o : Option Ty) → (x : Kind) → whole_kind o path ≡ Some x → HasType o
+    whole_placed path None x e = absurd cc
+    whole_placed path (Some ty) x e = tt
+
+    if_open_placed : (kind : Kind) (o : Option Ty) → (x : Kind) → kind_if_open o kind ≡ Some x → HasType o
+    if_open_placed kind None x e = absurd cc
+    if_open_placed kind (Some ty) x e = tt
+
     whole_fits : (l : ℕ) (path : List ℕ) (o : Option Ty) → type_at opens path ≡ o → FitsWhole decls o l → (x : Kind) → whole_kind o path ≡ Some x → KindFits l x
     whole_fits l path None is f x e = absurd cc
     whole_fits l path (Some (Int bits)) is f x e = subst (KindFits l) (same_Some (Bits path 0) x e) tt
@@ -268,8 +278,10 @@ module _ (decls : List LayoutDecl) (opens : List Open) where
 
     -- a kind, by what it lays and what is written
     well_kind : (kind : PartKind) (lay : Laying (Option Kind)) (a : Around Content) → the_kinds kind ≡ lay → around kind ≡ a
+        → ((n : ℕ) (x : Kind) → (lay n).it ≡ Some x → IsPlaced opens a.it)
         → ((l : ℕ) → Fits decls opens l a.it → (n : ℕ) (x : Kind) → (lay n).it ≡ Some x → KindFits l x) → (Demands a.inside → (n : ℕ) → BlocksFit (lay n).blocks) → WellKind kind
-    well_kind kind lay a e1 e2 fits blocks = record {
+    well_kind kind lay a e1 e2 placed fits blocks = record {
+      placed = λ n x e. subst (λ (y : Around Content). IsPlaced opens y.it) (sym e2) (placed n x (ap (λ (y : Laying (Option Kind)). (y n).it) (sym e1) ∙ e));
       fits = λ l f n x e. fits l (subst (λ (y : Around Content). Fits decls opens l y.it) e2 f) n x (ap (λ (y : Laying (Option Kind)). (y n).it) (sym e1) ∙ e);
       blocks = λ d n. subst (λ (y : Laying (Option Kind)). BlocksFit (y n).blocks) (sym e1) (blocks (subst (λ (y : Around Content). Demands y.inside) e2 d) n);
     }
@@ -298,20 +310,21 @@ module _ (decls : List LayoutDecl) (opens : List Open) where
           subst (λ (y : F). LaidFits (y n)) (sym (D.fold-Inline F G H (item_step decls opens) (kind_step opens) part_step path)) (inlined_fit path (type_at opens path) refl, no_blocks);
       const = λ c. well_kind (K.Const c) (λ n. without_blocks (Some (Const c))) (J.plain (Number c)) (D.fold-Const F G H (item_step decls opens) (kind_step opens) part_step c)
           (D.fold-Const (List Item) (Around Content) (Around WrittenPart) J.item_step J.kind_step J.part_step c)
-          (λ l f n x e. subst (KindFits l) (same_Some (Const c) x e) f) (λ d n. no_blocks);
+          (λ n x e. tt) (λ l f n x e. subst (KindFits l) (same_Some (Const c) x e) f) (λ d n. no_blocks);
       whole = λ path. well_kind (K.Whole path) (λ n. without_blocks (whole_kind (type_at opens path) path)) (J.plain (Whole path)) (D.fold-Whole F G H (item_step decls opens) (kind_step opens) part_step path)
           (D.fold-Whole (List Item) (Around Content) (Around WrittenPart) J.item_step J.kind_step J.part_step path)
-          (λ l f n x e. whole_fits l path (type_at opens path) refl f x e) (λ d n. no_blocks);
+          (λ n x e. whole_placed path (type_at opens path) x e) (λ l f n x e. whole_fits l path (type_at opens path) refl f x e) (λ d n. no_blocks);
       slice = λ path a b. well_kind (K.Slice path a b) (λ n. without_blocks (kind_if_open (type_at opens path) (Bits path a))) (J.plain (Slice path a b)) (D.fold-Slice F G H (item_step decls opens) (kind_step opens) part_step path a b)
           (D.fold-Slice (List Item) (Around Content) (Around WrittenPart) J.item_step J.kind_step J.part_step path a b)
-          (λ l f n x e. slice_fits l a path (type_at opens path) x e) (λ d n. no_blocks);
+          (λ n x e. if_open_placed (Bits path a) (type_at opens path) x e) (λ l f n x e. slice_fits l a path (type_at opens path) x e) (λ d n. no_blocks);
       word_of = λ path j. well_kind (K.Word path j) (λ n. without_blocks (kind_if_open (type_at opens path) (Word path j))) (J.plain (WordOf path j)) (D.fold-WordOf F G H (item_step decls opens) (kind_step opens) part_step path j)
           (D.fold-WordOf (List Item) (Around Content) (Around WrittenPart) J.item_step J.kind_step J.part_step path j)
-          (λ l f n x e. word_of_fits l j path (type_at opens path) refl f x e) (λ d n. no_blocks);
+          (λ n x e. if_open_placed (Word path j) (type_at opens path) x e) (λ l f n x e. word_of_fits l j path (type_at opens path) refl f x e) (λ d n. no_blocks);
       pointer = λ align items each.
           let lay : Laying (List FlatWord) = in_turn (map (item_laid decls opens) items) in
           well_kind (K.Pointer align items) (λ n. P.pointed align n (lay n)) (record { it = Address align; inside = flat_map (λ xs. xs) (map item_list items) }) (D.fold-Pointer F G H (item_step decls opens) (kind_step opens) part_step align items)
           (D.fold-Pointer (List Item) (Around Content) (Around WrittenPart) J.item_step J.kind_step J.part_step align items)
+          (λ n x e. tt)
           (λ l f n x e. subst (KindFits l) (same_Some (Pointer align (n + length (lay n).blocks)) x e) tt)
           (λ d n.
           let a = items_fit items each (inside_demands items d) n in
