@@ -1,12 +1,12 @@
 -- A5: two provenances of a layout have no common value; every value of the type is matched by one of them.
-use Rattle.std.specs.Prelude.{◌≡◌, ℕ, ◌<◌, List, [], true, Some, slice_get}
+use Rattle.std.specs.Prelude.{◌≡◌, ℕ, ◌<◌, List, [], true, Some, Ok, slice_get}
 use Rattle.rb_core.specs.declared.value.Value.{Value}
 use Rattle.rb_core.specs.declared.pattern.Pat.{Pat}
 use Rattle.rb_core.specs.declared.types.Ty.TheVariants.{Named}
 use Rattle.rb_core.specs.declared.types.DataDecl.{DataDecl}
 use Rattle.rb_core.specs.Values.{is_of_type}
 use Rattle.rb_core.specs.Matching.{matches_of}
-use Rattle.rb_core.specs.WellNumbered.{vars_of}
+use Rattle.rb_core.specs.Typing.{pattern_binders}
 use Rattle.rb_layout.specs.declared.layout.Layout.{Layout}
 use Rattle.rb_layout.specs.declared.layout.Leaf.{Leaf}
 use Rattle.rb_layout.specs.declared.evidence.Why.{Why}
@@ -38,9 +38,9 @@ pub record A5 (types : List DataDecl) (layouts : List Layout) : Type 0 where
   pub apart : EachLeaf layouts (IsApart types)
   pub complete : EachLayout layouts (IsComplete types)
 
--- a pattern of numbers, constructors and wildcards that has a value, and no leaf for its values
+-- a pattern of the type that binds nothing and has a value, and no leaf for its values
 pub record IsWithoutLeaf (types : List DataDecl) (t : ℕ) (layout : Layout) (q : Pat) : Type 0 where
-  pub plain : vars_of q ≡ []
+  pub plain : pattern_binders types q (Named t) ≡ Ok []
   pub value : Value
   pub typed : IsOf types t value
   pub matched : Matches q value
