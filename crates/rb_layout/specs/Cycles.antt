@@ -1,5 +1,6 @@
 -- Cycles of types.
-use Rattle.std.specs.Prelude.{◌≡◌, ℕ, List, [], ◌∷◌}
+use Rattle.std.specs.Prelude.{◌≡◌, ℕ, List, [], ◌∷◌, true, nat_eq}
+use Rattle.rb_core.specs.WellNumbered.{is_distinct}
 
 -- each is related to the next, and the last to `last`
 abbrev pub IsChain : (ℕ → ℕ → Type 0) → ℕ → List ℕ → ℕ → Type 0
@@ -15,7 +16,7 @@ IsCycle R (t ∷ ts) = IsChain R t ts t
 abbrev pub HasNoCycle : (ℕ → ℕ → Type 0) → ℕ → Type 0
 HasNoCycle R t = (ts : List ℕ) → IsCycle R (t ∷ ts) → ⊥
 
--- a cycle that is listed from the type on
+-- a cycle that is listed from the type on, each of its types once
 abbrev pub IsCycleFrom : (ℕ → ℕ → Type 0) → ℕ → List ℕ → Type 0
 IsCycleFrom R t [] = ⊥
-IsCycleFrom R t (s ∷ ts) = (s ≡ t) × IsCycle R (s ∷ ts)
+IsCycleFrom R t (s ∷ ts) = (s ≡ t) × IsCycle R (s ∷ ts) × (is_distinct nat_eq (s ∷ ts) ≡ true)
