@@ -1,6 +1,6 @@
 -- The laws of representation. Those that rest on agreement are over all typed programs whose layouts
 -- agree with their types.
-use Rattle.std.specs.Prelude.{◌≡◌, ℕ, List, map, Bool, true, Some}
+use Rattle.std.specs.Prelude.{◌≡◌, ℕ, List, map, Bool, true, false, Some}
 use Rattle.rb_core.specs.declared.value.Value.{Value}
 use Rattle.rb_core.specs.declared.types.Ty.{Ty}
 use Rattle.rb_core.specs.declared.types.DataDecl.{DataDecl}
@@ -27,6 +27,11 @@ use Rattle.rb_core.specs.declared.types.Ty.TheVariants.{Named}
 abbrev pub GrowthKeeps : Type 0
 GrowthKeeps = (types : List DataDecl) (layouts : List Layout) (clean : Bool) (old new : Memory) → Extends old new
     → (ty : Ty) (v : Value) (ws : List ℕ) → Represents types layouts old clean ty v ws → Represents types layouts new clean ty v ws
+
+-- a clean representation is a representation
+abbrev pub CleanRepresents : Type 0
+CleanRepresents = (types : List DataDecl) (layouts : List Layout) (m : Memory) (ty : Ty) (v : Value) (ws : List ℕ)
+    → IsCleanlyRepresented types layouts m ty v ws → Represents types layouts m false ty v ws
 
 -- where a location resolves in the leaf of a represented value, reading it goes astray nowhere and gives
 -- the bits that stand there

@@ -1,11 +1,16 @@
 //! The laws of representation, each the contract of a function that does nothing.
 
-ghost use Rattle.rb_rel.specs.Laws.{GrowthKeeps, ListsHaveWords, MendingRecurs, ReadingGivesBits};
+ghost use Rattle.rb_rel.specs.Laws.{CleanRepresents, GrowthKeeps, ListsHaveWords, MendingRecurs, ReadingGivesBits};
 ghost use Rattle.rb_rel.specs.Laws.{RepresentedAreTyped, SplitsLead, ValuesHaveWords, WordsAreOneValue};
 
 /// What represents a value still does after blocks were placed and words stored in them.
 pub fn growth_keeps_representations()
     ensures { GrowthKeeps }
+{}
+
+/// A clean representation of a value is a representation of it.
+pub fn clean_representations_represent()
+    ensures { CleanRepresents }
 {}
 
 /// Where a location resolves in the leaf of a represented value, reading it gives the bits there: no

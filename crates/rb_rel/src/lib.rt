@@ -22,7 +22,8 @@
 //!
 //! The laws stand in [`laws`]: in layouts that agree, words represent one value at most, and its type and
 //! its leaf are found again; a location of the leaf reads the bits there; what represents a value goes on
-//! doing so while the memory grows; and every value whose blocks fit has a clean representation.
+//! doing so while the memory grows; a clean representation is a representation; and every value whose
+//! blocks fit has a clean one.
 #![tactic(auto)]
 
 pub mod laws;
