@@ -23,3 +23,4 @@ pub mod Derivations
 pub mod FindLemmas
 pub mod SettleLemmas
 pub mod Excluding
+pub mod ShortCycles

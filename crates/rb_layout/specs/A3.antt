@@ -10,21 +10,16 @@ use Rattle.rb_layout.specs.declared.layout.Layout.{Layout}
 use Rattle.rb_layout.specs.declared.evidence.Why.{Why}
 use Rattle.rb_layout.specs.declared.evidence.Why.TheVariants.{Outside, Overlap, ConstWide, Misfit}
 use Rattle.rb_layout.specs.Positions.{Open, open_positions}
-use Rattle.rb_layout.specs.Flattening.{shape_of, type_at}
+use Rattle.rb_layout.specs.Flattening.{shape_of, type_at, IsOpenIn}
 use Rattle.rb_layout.specs.Items.{Content, Number, Whole, Slice, WordOf, Address, WrittenPart, Item, AWord, AField, items_of, content_paths}
 use Rattle.rb_layout.specs.Each.{EachLeaf}
-
--- where an open position is, there is a type
-abbrev pub HasType : Option Ty → Type 0
-HasType None = ⊥
-HasType (Some ty) = Unit {0}
 
 -- what is written is placed: its path, if it has one, is open
 abbrev pub IsPlaced : List Open → Content → Type 0
 IsPlaced opens (Number c) = Unit {0}
-IsPlaced opens (Whole path) = HasType (type_at opens path)
-IsPlaced opens (Slice path a k) = HasType (type_at opens path)
-IsPlaced opens (WordOf path j) = HasType (type_at opens path)
+IsPlaced opens (Whole path) = IsOpenIn opens path
+IsPlaced opens (Slice path a k) = IsOpenIn opens path
+IsPlaced opens (WordOf path j) = IsOpenIn opens path
 IsPlaced opens (Address align) = Unit {0}
 
 -- the range has a bit and lies in the word

@@ -14,7 +14,7 @@ use Rattle.rb_layout.specs.declared.layout.Kind.TheVariants.{Const, Bits, Word, 
 use Rattle.rb_layout.specs.declared.evidence.Why.{Why}
 use Rattle.rb_layout.specs.declared.evidence.Why.TheVariants.{NotHeld, HeldTwice, NotOpen}
 use Rattle.rb_layout.specs.Positions.{Open, open_positions}
-use Rattle.rb_layout.specs.Flattening.{shape_of, same_path, type_at}
+use Rattle.rb_layout.specs.Flattening.{shape_of, same_path, IsOpenIn}
 use Rattle.rb_layout.specs.Items.{Item, items_of, paths_of}
 use Rattle.rb_layout.specs.Each.{EachLeaf}
 
@@ -51,7 +51,7 @@ abbrev pub HoldsEach : Program → Leaf → Type 0
 HoldsEach p leaf = (k : ℕ) (o : Open) (i : ℕ) → slice_get (open_positions p.types leaf.prov) k ≡ Some o → i < units_of p o.ty → held leaf o.ty o.path i ≡ 1
 
 abbrev pub IsOpen : List DataDecl → Leaf → List ℕ → Type 0
-IsOpen types leaf path = (ty : Ty) × (type_at (open_positions types leaf.prov) path ≡ Some ty)
+IsOpen types leaf path = IsOpenIn (open_positions types leaf.prov) path
 
 -- each path that the items name is that of an open position
 abbrev pub HoldsNoOther : List DataDecl → Leaf → List Item → Type 0

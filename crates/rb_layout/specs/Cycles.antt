@@ -20,3 +20,7 @@ HasNoCycle R t = (ts : List ℕ) → IsCycle R (t ∷ ts) → ⊥
 abbrev pub IsCycleFrom : (ℕ → ℕ → Type 0) → ℕ → List ℕ → Type 0
 IsCycleFrom R t [] = ⊥
 IsCycleFrom R t (s ∷ ts) = (s ≡ t) × IsCycle R (s ∷ ts) × (is_distinct nat_eq (s ∷ ts) ≡ true)
+
+-- where a cycle goes through a type, one is listed from that type on
+abbrev pub HasListed : (ℕ → ℕ → Type 0) → Type 0
+HasListed R = (t : ℕ) (ts : List ℕ) → IsCycle R (t ∷ ts) → (us : List ℕ) × IsCycleFrom R t us

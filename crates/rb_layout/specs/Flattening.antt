@@ -54,6 +54,10 @@ abbrev pub type_at : List Open → List ℕ → Option Ty
 type_at [] path = None
 type_at (o ∷ os) path = if same_path o.path path then Some o.ty else type_at os path
 
+-- the path is that of an open position
+abbrev pub IsOpenIn : List Open → List ℕ → Type 0
+IsOpenIn opens path = (ty : Ty) × (type_at opens path ≡ Some ty)
+
 -- Leaves --------------------------------------------------------------------------------------
 
 -- what is placed, and the blocks that are placed with it, in the order of their numbers

@@ -11,7 +11,7 @@ use Rattle.rb_layout.specs.Positions.{open_positions}
 use Rattle.rb_layout.specs.Flattening.{decl_of}
 use Rattle.rb_layout.specs.Items.{Item, items_of}
 use Rattle.rb_layout.specs.Agreement.{Obeys}
-use Rattle.rb_layout.specs.Cycles.{HasNoCycle}
+use Rattle.rb_layout.specs.Cycles.{HasNoCycle, HasListed}
 use Rattle.rb_layout.specs.A1.{HasShape, FailsShape}
 use Rattle.rb_layout.specs.A2.{HasRoot, FailsRoot}
 use Rattle.rb_layout.specs.A3.{ItemFits, FailsItem}
@@ -164,6 +164,10 @@ IsRefusedBy p layouts r = (spot : Spot) × Checked p layouts (all_spots p layout
 -- evidence that fails a rule at a place never stands beside the rule holding there
 abbrev pub NeverBeside : Type 0
 NeverBeside = (p : Program) (layouts : List Layout) (spot : Spot) (why : Why) → Holds p layouts spot → Fails p layouts spot why → ⊥
+
+-- where types flatten or hold each other in a cycle, there is one to list from each of its types on
+abbrev pub CyclesAreListed : Type 0
+CyclesAreListed = (types : List DataDecl) (layouts : List Layout) → HasListed (Flattens layouts) × HasListed (HoldsField types layouts)
 
 -- the rules hold at all places exactly where the ten of them hold
 abbrev pub PlacesAreAll : Type 0

@@ -20,8 +20,8 @@ use Rattle.rb_layout.specs.declared.layout.Kind.TheVariants.{Const, Bits, Word, 
 use Rattle.rb_layout.specs.Positions.{Open}
 use Rattle.rb_layout.specs.Items.{Content, Number, Whole, Slice, WordOf, Address, WrittenPart, Item, AWord, AField, Around, items_inside, item_list}
 use Rattle.rb_layout.specs.Items as J
-use Rattle.rb_layout.specs.A3.{Fits, FitsWhole, FitsWord, HasType, IsPlaced, PartsFit, ItemFits}
-use Rattle.rb_layout.specs.Flattening.{type_at, Laid, Laying, without_blocks, in_turn, whole_kind, kind_if_open, kind_step, part_step, word_of, words_of, inlined, shape_of, item_step, item_laid, kind_laid, part_laid, parts_of, items_laid}
+use Rattle.rb_layout.specs.A3.{Fits, FitsWhole, FitsWord, IsPlaced, PartsFit, ItemFits}
+use Rattle.rb_layout.specs.Flattening.{type_at, IsOpenIn, Laid, Laying, without_blocks, in_turn, whole_kind, kind_if_open, kind_step, part_step, word_of, words_of, inlined, shape_of, item_step, item_laid, kind_laid, part_laid, parts_of, items_laid}
 use Rattle.rb_layout.specs.Flattening as P
 use Rattle.rb_layout.proofs.FlatForms.{Each}
 use Rattle.rb_layout.proofs.WrittenForms as D
@@ -254,13 +254,13 @@ module _ (decls : List LayoutDecl) (opens : List Open) where
     inlined_fit path (Some (Named s)) is = words_fit path s is 0 (shape_of decls s) (λ i w e. let z : 0 + i ≡ i = omega arith in ap (slice_get (shape_of decls s)) z ∙ e)
 
     -- Kinds -------------------------------------------------------------------------------------
-    whole_placed : (path : List ℕ) (o : Option Ty) → (x : Kind) → whole_kind o path ≡ Some x → HasType o
-    whole_placed path None x e = absurd cc
-    whole_placed path (Some ty) x e = tt
+    whole_placed : (path : List ℕ) (o : Option Ty) → type_at opens path ≡ o → (x : Kind) → whole_kind o path ≡ Some x → IsOpenIn opens path
+    whole_placed path None is x e = absurd cc
+    whole_placed path (Some ty) is x e = (ty, is)
 
-    if_open_placed : (kind : Kind) (o : Option Ty) → (x : Kind) → kind_if_open o kind ≡ Some x → HasType o
-    if_open_placed kind None x e = absurd cc
-    if_open_placed kind (Some ty) x e = tt
+    if_open_placed : (path : List ℕ) (kind : Kind) (o : Option Ty) → type_at opens path ≡ o → (x : Kind) → kind_if_open o kind ≡ Some x → IsOpenIn opens path
+    if_open_placed path kind None is x e = absurd cc
+    if_open_placed path kind (Some ty) is x e = (ty, is)
 
     whole_fits : (l : ℕ) (path : List ℕ) (o : Option Ty) → type_at opens path ≡ o → FitsWhole decls o l → (x : Kind) → whole_kind o path ≡ Some x → KindFits l x
     whole_fits l path None is f x e = absurd cc
@@ -313,13 +313,13 @@ module _ (decls : List LayoutDecl) (opens : List Open) where
           (λ n x e. tt) (λ l f n x e. subst (KindFits l) (same_Some (Const c) x e) f) (λ d n. no_blocks);
       whole = λ path. well_kind (K.Whole path) (λ n. without_blocks (whole_kind (type_at opens path) path)) (J.plain (Whole path)) (D.fold-Whole F G H (item_step decls opens) (kind_step opens) part_step path)
           (D.fold-Whole (List Item) (Around Content) (Around WrittenPart) J.item_step J.kind_step J.part_step path)
-          (λ n x e. whole_placed path (type_at opens path) x e) (λ l f n x e. whole_fits l path (type_at opens path) refl f x e) (λ d n. no_blocks);
+          (λ n x e. whole_placed path (type_at opens path) refl x e) (λ l f n x e. whole_fits l path (type_at opens path) refl f x e) (λ d n. no_blocks);
       slice = λ path a b. well_kind (K.Slice path a b) (λ n. without_blocks (kind_if_open (type_at opens path) (Bits path a))) (J.plain (Slice path a b)) (D.fold-Slice F G H (item_step decls opens) (kind_step opens) part_step path a b)
           (D.fold-Slice (List Item) (Around Content) (Around WrittenPart) J.item_step J.kind_step J.part_step path a b)
-          (λ n x e. if_open_placed (Bits path a) (type_at opens path) x e) (λ l f n x e. slice_fits l a path (type_at opens path) x e) (λ d n. no_blocks);
+          (λ n x e. if_open_placed path (Bits path a) (type_at opens path) refl x e) (λ l f n x e. slice_fits l a path (type_at opens path) x e) (λ d n. no_blocks);
       word_of = λ path j. well_kind (K.Word path j) (λ n. without_blocks (kind_if_open (type_at opens path) (Word path j))) (J.plain (WordOf path j)) (D.fold-WordOf F G H (item_step decls opens) (kind_step opens) part_step path j)
           (D.fold-WordOf (List Item) (Around Content) (Around WrittenPart) J.item_step J.kind_step J.part_step path j)
-          (λ n x e. if_open_placed (Word path j) (type_at opens path) x e) (λ l f n x e. word_of_fits l j path (type_at opens path) refl f x e) (λ d n. no_blocks);
+          (λ n x e. if_open_placed path (Word path j) (type_at opens path) refl x e) (λ l f n x e. word_of_fits l j path (type_at opens path) refl f x e) (λ d n. no_blocks);
       pointer = λ align items each.
           let lay : Laying (List FlatWord) = in_turn (map (item_laid decls opens) items) in
           well_kind (K.Pointer align items) (λ n. P.pointed align n (lay n)) (record { it = Address align; inside = flat_map (λ xs. xs) (map item_list items) }) (D.fold-Pointer F G H (item_step decls opens) (kind_step opens) part_step align items)
