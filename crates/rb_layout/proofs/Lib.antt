@@ -7,6 +7,7 @@ pub mod TreeLemmas
 pub mod LayoutLists
 pub mod Computing
 pub mod Examples
+pub mod ClosedParts
 pub mod Blocks
 pub mod FlatLaws
 pub mod Placing
