@@ -1,7 +1,9 @@
-use Rattle.std.proofs.Common.{subst, arith}
+use Rattle.std.proofs.Common.{subst, arith, List, Ok}
+use Rattle.rb_read.specs.Files.{IsAnswer}
 use Rattle.rb_syntax.specs.Cutting.{IsRight}
 use Rattle.rb_syntax.specs.Lexing.{Lexed}
 use Rattle.rb_syntax.specs.Tokens.{tokens}
+use Rattle.rb_syntax.specs.declared.token.Placed.{Placed}
 use Rattle.ribbit_tool.proofs.Numbered.{is_written}
 use Rattle.ribbit_rows.proofs.meaning.typed.Goals as goal
 
@@ -9,4 +11,5 @@ pub check-requires : goal.check-requires
 check-requires c =
     let text = c.args.text.now in
     let right = subst (λ (read : Lexed). IsRight text read) c.in_ok-placed.ensures.answer c.in_ok-placed.ensures.right in
-    c.in_ok-program.ensures.well (tokens _) (is_written text _ _ (omega (arith, c.if-text-gt-MOST.false)) right (record { cut = c.in_ok-placed.ensures.answer; tree = c.in_ok-file.ensures.answer }))
+    let read = rw c.as_slice.ensures.value at c.in_ok-file.ensures.answer in
+    c.in_ok-program.ensures.well (tokens _) (is_written text _ _ (omega (arith, c.if-text-gt-MOST.false)) right (record { cut = c.in_ok-placed.ensures.answer; tree = read }))
