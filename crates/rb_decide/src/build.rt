@@ -1,11 +1,10 @@
 //! The tree of a matrix, unless it is too large.
 
-ghost use Rattle.std.specs.Prelude.{◌≡◌, ◌≤◌, ◌<◌, ℕ, suc, IfOk, Some, is_some};
+ghost use Rattle.std.specs.Prelude.{◌≡◌, ◌<◌, IfOk, is_some};
 ghost use Rattle.rb_matrix.specs.Heads.{first_head};
 ghost use Rattle.rb_matrix.specs.Search.{AreInhabited, AreTypesIn, IsTypeIn};
-ghost use Rattle.rb_decide.specs.ClauseMatrices.{column_heads};
-ghost use Rattle.rb_decide.specs.Trees.{tree_within, test_of, arms_of, heads_in, row_pats};
-ghost use Rattle.rb_decide.specs.inner.Building.{IsBuilt, AreBuilt, column_ty};
+ghost use Rattle.rb_decide.specs.Trees.{row_pats};
+ghost use Rattle.rb_decide.specs.inner.Building.{IsTreeBuilt, IsTestBuilt, AreArmsBuilt, column_ty};
 ghost use Rattle.std.specs.Prelude.{map, true};
 
 use crate::branches::{columns_by_head, fields_of_head, other_rows, rows_by_head};
@@ -31,7 +30,7 @@ pub fn build(
 ) -> Result<Option<Tree>, AllocError>
     requires inhabited { AreInhabited types.now }
     requires live { AreTypesIn types.now (map column_ty columns.now) }
-    ensures { (n : ℕ) → heads_in rows.now ≤ n → IfOk result (λ r. IsBuilt (tree_within types.now n columns.now rows.now) left.old left.new r) }
+    ensures { IfOk result (λ r. IsTreeBuilt types.now columns.now rows.now left.old left.new r) }
 {
     if *left == 0 {
         return Ok(None);
@@ -67,7 +66,7 @@ fn build_test(
     requires live { AreTypesIn types.now (map column_ty columns.now) }
     requires heads { is_some (first_head (map row_pats rows.now)) ≡ true }
     requires some { 0 < left.old }
-    ensures { (n : ℕ) → heads_in rows.now ≤ suc n → IfOk result (λ r. IsBuilt (test_of types.now (tree_within types.now n) columns.now rows.now) left.old left.new r) }
+    ensures { IfOk result (λ r. IsTestBuilt types.now columns.now rows.now left.old left.new r) }
 {
     *left -= 1;
     let [column, rest @ ..] = columns else {
@@ -104,7 +103,7 @@ fn build_arms(
     requires live { IsTypeIn types.now column.now.ty }
     requires rest { AreTypesIn types.now (map column_ty rest.now) }
     requires heads { is_some (first_head (map row_pats rows.now)) ≡ true }
-    ensures { (n : ℕ) → heads_in rows.now ≤ suc n → IfOk result (λ r. AreBuilt (arms_of types.now (tree_within types.now n) column.now rest.now rows.now heads.now) left.old left.new r) }
+    ensures { IfOk result (λ r. AreArmsBuilt types.now column.now rest.now rows.now heads.now left.old left.new r) }
 {
     let mut arms = Seq::new(alloc);
     for head in heads {

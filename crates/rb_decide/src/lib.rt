@@ -8,7 +8,7 @@
 //! matrix. Unless these heads are all that a value can begin with, there is one more branch for the
 //! others, by the default matrix.
 //!
-//! For `type K = A | B` and two fields, `(A, _) => 0, (_, A) => 1, _ => 2` has this tree of size 7,
+//! For `type K = A | B` and two fields, `(A, _) => 0, (_, A) => 1, _ => 2` has this tree of size 5,
 //! where `.0` and `.1` are the positions of the fields and `else` is the branch for the others:
 //!
 //! ```text

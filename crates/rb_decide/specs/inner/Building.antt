@@ -1,12 +1,14 @@
 -- What the steps of building a tree give.
-use Rattle.std.specs.Prelude.{◌≡◌, ◌+◌, ◌<◌, ℕ, List, [], ◌∷◌, ◌++◌, map, sum, if◌then◌else◌, Option, Some, None}
+use Rattle.std.specs.Prelude.{◌≡◌, ◌+◌, ◌<◌, ◌≤◌, ℕ, suc, List, [], ◌∷◌, ◌++◌, map, sum, if◌then◌else◌, Option, Some, None}
 use Rattle.rb_matrix.specs.declared.matrix.Head.{Head}
 use Rattle.rb_matrix.specs.Heads.{any_begins, sample}
 use Rattle.rb_decide.specs.declared.clause_matrix.Column.{Column}
+use Rattle.rb_decide.specs.declared.clause_matrix.Row.{Row}
 use Rattle.rb_decide.specs.declared.decision_tree.Tree.{Tree}
 use Rattle.rb_decide.specs.declared.decision_tree.TreeArm.{TreeArm}
-use Rattle.rb_decide.specs.Trees.{size}
+use Rattle.rb_decide.specs.Trees.{size, heads_in, tree_within, test_of, arms_of}
 use Rattle.rb_core.specs.declared.types.Ty.{Ty}
+use Rattle.rb_core.specs.declared.types.DataDecl.{DataDecl}
 
 -- one more head, unless it is known
 abbrev pub with_head : List Head → Option Head → List Head
@@ -30,3 +32,17 @@ arms_size arms = sum (map (λ a. size (arm_tree a)) arms)
 abbrev pub AreBuilt : List TreeArm → ℕ → ℕ → Option (List TreeArm) → Type 0
 AreBuilt ts old new None = old < arms_size ts
 AreBuilt ts old new (Some xs) = (xs ≡ ts) × (arms_size ts + new ≡ old)
+
+-- the tree of a matrix, of one with at most n heads by n steps
+abbrev pub IsTreeBuilt : List DataDecl → List Column → List Row → ℕ → ℕ → Option Tree → Type 0
+IsTreeBuilt types cols rows old new r = (n : ℕ) → heads_in rows ≤ n → IsBuilt (tree_within types n cols rows) old new r
+
+-- a test of the first column, with branches that have a head fewer
+abbrev pub IsTestBuilt : List DataDecl → List Column → List Row → ℕ → ℕ → Option Tree → Type 0
+IsTestBuilt types cols rows old new r =
+    (n : ℕ) → heads_in rows ≤ suc n → IsBuilt (test_of types (tree_within types n) cols rows) old new r
+
+-- the branches of such a test, one for each head
+abbrev pub AreArmsBuilt : List DataDecl → Column → List Column → List Row → List Head → ℕ → ℕ → Option (List TreeArm) → Type 0
+AreArmsBuilt types c cs rows hs old new r =
+    (n : ℕ) → heads_in rows ≤ suc n → AreBuilt (arms_of types (tree_within types n) c cs rows hs) old new r
