@@ -1,10 +1,10 @@
-use Rattle.std.proofs.Common.{◌≡◌, ◌+◌, ◌<◌, ◌≤◌, [], ◌∷◌, ◌++◌, length, Some, None, sym, ◌∙◌, ap, arith}
+use Rattle.std.proofs.Common.{◌≡◌, ◌+◌, ◌≤◌, [], ◌∷◌, ◌++◌, Some, None, sym, ◌∙◌, ap, arith}
 use Rattle.rb_syntax.specs.declared.front.Next.TheVariants as next
 use Rattle.rb_syntax.specs.Fronts.{front_at, IsNext}
 use Rattle.rb_values.specs.declared.outline.Outline.{Outline}
 use Rattle.rb_values.specs.declared.sign.Sign.{Sign}
 use Rattle.rb_values.specs.Terms.{sign_of}
-use Rattle.rb_values.specs.inner.States.{State, expecting, step, outline_of, outline_step}
+use Rattle.rb_values.specs.inner.States.{expecting, step, outline_of, outline_step}
 use Rattle.rb_values.proofs.SpellingLemmas.{outline_same, depth_within, grows}
 use Rattle.rb_values.proofs.ReadLemmas.{no-step, some-step, at-first, at-next, stops-token, stops-fault, read-whole}
 use Rattle.rb_values.proofs.read.read_value.Goals as goal
