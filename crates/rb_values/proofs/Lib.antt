@@ -1,3 +1,5 @@
+pub mod AnswerLemmas
+pub mod FittingLemmas
 pub mod NodeLemmas
 pub mod PostLemmas
 pub mod PrintLemmas

@@ -1,5 +1,5 @@
 -- Subterms in post-order.
-use Rattle.std.proofs.Common.{◌≡◌, ℕ, zero, suc, ◌+◌, ◌-◌, ◌<◌, ◌≤◌, List, [], ◌∷◌, ◌++◌, length, map, sum, take, drop, get_or, refl, arith, ◌∙◌, ap, sym, append_assoc, flat_map, All, add-one}
+use Rattle.std.proofs.Common.{◌≡◌, ℕ, zero, suc, ◌+◌, ◌-◌, ◌<◌, ◌≤◌, List, [], ◌∷◌, ◌++◌, length, map, sum, take, drop, refl, arith, ◌∙◌, ap, sym, append_assoc, flat_map, All, add-one}
 use Rattle.std.proofs.lemmas.Grind.{common_steps, flat_map-append}
 use Rattle.std.proofs.lemmas.List.{map-append, append-nil}
 use Rattle.std.proofs.Math.ListN.{length-append, set}
@@ -9,8 +9,8 @@ use Rattle.rb_core.specs.declared.value.Value as X
 use Rattle.rb_core.specs.declared.value.Value.{Value, Num, Con}
 use Rattle.rb_core.specs.declared.value.Value.TheOpen as V
 use Rattle.rb_core.specs.declared.value.Value.TheFolds.{para-roll-Value}
-use Rattle.rb_core.specs.Values.{subs, node_count, nodes_step}
-use Rattle.rb_core.proofs.ValueLaws.{Each, induction, fold-Num, fold-Con, subs-Num, subs-Con}
+use Rattle.rb_core.specs.Values.{node_count, nodes_step}
+use Rattle.rb_core.proofs.ValueLaws.{Each, induction, fold-Num, fold-Con}
 use Rattle.rb_values.specs.inner.Nodes.{at, posts, posts_step, IsBuilt}
 use Rattle.rb_values.proofs.PrintLemmas.{nodes-cons}
 

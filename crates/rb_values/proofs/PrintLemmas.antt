@@ -1,5 +1,5 @@
 -- What frames have still to write.
-use Rattle.std.proofs.Common.{◌≡◌, ℕ, zero, suc, ◌+◌, ◌*◌, ◌<◌, ◌≤◌, List, [], ◌∷◌, ◌++◌, length, map, sum, take, drop, get_or, refl, arith, ◌∙◌, ap, sym, append_assoc, add-one}
+use Rattle.std.proofs.Common.{◌≡◌, ℕ, ◌+◌, ◌<◌, List, [], ◌∷◌, ◌++◌, length, map, sum, drop, arith, ◌∙◌, ap, sym, append_assoc, add-one}
 use Rattle.std.proofs.lemmas.Grind.{common_steps}
 use Rattle.std.proofs.lemmas.List.{append-nil}
 use Rattle.std.proofs.Math.Seq.{drop-cons}
@@ -7,7 +7,7 @@ use Rattle.rb_core.specs.declared.value.Value.{Value, Num, Con}
 use Rattle.rb_core.specs.declared.types.Ty.{Ty}
 use Rattle.rb_core.specs.declared.types.DataDecl.{DataDecl}
 use Rattle.rb_core.specs.Values.{subs, node_count, nodes_step}
-use Rattle.rb_core.proofs.ValueLaws.{subs-Num, subs-Con, fold-Num, fold-Con}
+use Rattle.rb_core.proofs.ValueLaws.{fold-Num, fold-Con}
 use Rattle.rb_values.specs.inner.Nodes.{at}
 use Rattle.rb_values.specs.declared.print.Frame.{Frame}
 use Rattle.std.specs.Fmt.{decimal}

@@ -1,21 +1,19 @@
 -- Reading a text, token by token.
-use Rattle.std.proofs.Common.{◌≡◌, ℕ, ◌+◌, ◌-◌, ◌<◌, ◌≤◌, List, [], ◌∷◌, ◌++◌, length, map, refl, arith, ◌∙◌, ap, sym, append_assoc, Bool, true, false, is_some, Option, Some, None, Result, Ok, Err}
+use Rattle.std.proofs.Common.{◌≡◌, ℕ, ◌-◌, ◌≤◌, List, [], ◌∷◌, ◌++◌, length, refl, arith, ◌∙◌, ap, sym, append_assoc, true, false, is_some, Option, Some, None, Result, Ok, Err}
 use Rattle.std.proofs.lemmas.List.{map-append, append-nil}
 use Rattle.rb_core.specs.declared.value.Value.{Value}
 use Rattle.rb_core.specs.declared.types.Ty.{Ty}
 use Rattle.rb_core.specs.declared.types.DataDecl.{DataDecl}
 use Rattle.rb_syntax.specs.declared.token.Placed.{Placed}
-use Rattle.rb_syntax.specs.Fronts.{Front, ends, behind, front_from, front_at, front}
-use Rattle.rb_values.specs.declared.sign.Sign.{Sign}
+use Rattle.rb_syntax.specs.Fronts.{Front, ends, behind, front_at, front}
 use Rattle.rb_values.specs.declared.outline.Outline.{Outline}
-use Rattle.rb_values.specs.declared.typing.Frame.{Frame}
 use Rattle.rb_values.specs.declared.fault.ValueFault.{ValueFault}
 use Rattle.rb_values.specs.declared.fault.ValueFault.TheVariants.{ValueSyntax, ValueTooLarge, ValueType, Memory}
-use Rattle.rb_values.specs.Terms.{Term, build, none, term_nodes, spelled, sign_of, signs}
-use Rattle.rb_values.specs.Fitting.{misfits, first, value_of}
-use Rattle.rb_values.specs.Reading.{Begins, StopsAt, token, refused, ended, IsRead}
+use Rattle.rb_values.specs.Terms.{Term, build, none, term_nodes, sign_of, signs}
+use Rattle.rb_values.specs.Fitting.{first}
+use Rattle.rb_values.specs.Reading.{StopsAt, token, refused, ended, IsRead}
 use Rattle.rb_values.specs.inner.States.{Wait, State, expecting, named, complete, step, end_of, term_of, Reached, outline_of, outlined, mode_whole}
-use Rattle.rb_values.specs.inner.Typing.{settled, IsTypedAs}
+use Rattle.rb_values.specs.inner.Typing.{settled}
 use Rattle.rb_values.specs.inner.Finishing.{IsSettled, IsFinished}
 use Rattle.rb_values.proofs.SpellingLemmas.{begins, reached_first, reached_next, stops, is_part, is_whole, whole_same, nodes_whole}
 

@@ -9,7 +9,7 @@ use Rattle.rb_values.specs.declared.outline.Mode.TheVariants as mode
 use Rattle.rb_values.specs.declared.outline.Outline.{Outline}
 use Rattle.rb_values.specs.Terms.{Term, Terms, number, build, none, also, spelled, in_parens, others, term_nodes, terms_nodes}
 use Rattle.rb_values.specs.Reading.{Begins}
-use Rattle.rb_values.specs.inner.States.{Wait, snoc, waits, longer, whole, State, expecting, named, complete, then_on, first_of, after_name, step, end_of, term_of, on, answer, each, shown_waits, shown, Reached, waits_nodes, outline_of, outlined, outline_behind, outline_on, outline_step, mode_whole}
+use Rattle.rb_values.specs.inner.States.{Wait, snoc, waits, longer, whole, State, expecting, named, complete, then_on, step, end_of, term_of, on, answer, each, shown_waits, shown, Reached, waits_nodes, outline_of, outlined, outline_behind, outline_on, outline_step, mode_whole}
 
 -- what follows a value opens nothing
 abbrev Closes : List Sign → Type 0

@@ -1,5 +1,5 @@
 -- What is kept of a state goes with it, sign by sign.
-use Rattle.std.proofs.Common.{◌≡◌, ◌≢◌, ℕ, zero, suc, ◌+◌, ◌-◌, ◌<◌, ◌≤◌, ◌==◌, List, [], ◌∷◌, ◌++◌, length, take, drop, get_or, refl, arith, ◌∙◌, ap, sym, append_assoc, length-append, Bool, true, false, Option, Some, None, slice_get}
+use Rattle.std.proofs.Common.{◌≡◌, ◌≢◌, ℕ, suc, ◌+◌, ◌-◌, ◌≤◌, ◌==◌, List, [], ◌∷◌, ◌++◌, length, take, drop, get_or, refl, arith, ◌∙◌, ap, sym, append_assoc, length-append, true, false, Option, Some, None, slice_get}
 use Rattle.std.proofs.lemmas.Grind.{common_steps}
 use Rattle.std.proofs.lemmas.List.{append-nil}
 use Rattle.std.proofs.lemmas.Bool.Decides.{nat_tests}
@@ -10,11 +10,10 @@ use Rattle.rb_core.specs.declared.types.ConRef.{ConRef}
 use Rattle.rb_core.specs.declared.types.DataDecl.{DataDecl}
 use Rattle.rb_core.specs.Typing.{holds}
 use Rattle.rb_values.specs.declared.typing.Frame.{Frame}
-use Rattle.rb_values.specs.declared.sign.Sign.{Sign}
 use Rattle.rb_values.specs.declared.sign.Sign.TheVariants as sign
 use Rattle.rb_values.specs.Terms.{Term, Terms, number, build, none, also, term_count}
 use Rattle.rb_values.specs.Fitting.{con_named, con_fields, con_number, misfits, misfits_each, first, or_none, value_of, values_of}
-use Rattle.rb_values.specs.inner.States.{Wait, snoc, waits, longer, whole, State, expecting, named, complete, then_on, step, waits_of}
+use Rattle.rb_values.specs.inner.States.{Wait, snoc, waits, longer, whole, State, expecting, named, complete, then_on, step}
 use Rattle.rb_values.specs.inner.Typing.{con_at, field_at, tried, value_at, fields_misfits, wait_misfits, wait_values, is_clean, expected, faults, built, frame_of, frames_of, state_faults, state_values, state_name, IsTypedAs, IsClosing, settled}
 
 -- Lists ------------------------------------------------------------------------------------------

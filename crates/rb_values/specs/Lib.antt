@@ -1,4 +1,5 @@
 pub mod Fitting
+pub mod Laws
 pub mod Reading
 pub mod Terms
 pub mod Texts

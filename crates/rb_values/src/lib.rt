@@ -25,6 +25,7 @@
 pub mod builder;
 pub mod fault;
 pub mod forest;
+pub mod laws;
 pub mod nodes;
 pub mod outline;
 pub mod print;

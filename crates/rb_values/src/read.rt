@@ -1,6 +1,7 @@
 //! Reading a value: one pass over the text, token by token.
 
-ghost use Rattle.std.specs.Prelude.{◌≡◌, IfOk, Some};
+ghost use Rattle.std.specs.Prelude.{◌≡◌, ◌≤◌, true, IfOk, Some};
+ghost use Rattle.rb_core.specs.Values.{is_of_type, node_count};
 ghost use Rattle.rb_values.specs.Reading.{IsRead};
 ghost use Rattle.rb_values.specs.inner.States.{State, step, outline_of};
 ghost use Rattle.rb_values.specs.inner.Finishing.{IsKept, IsFinished};
@@ -78,7 +79,9 @@ pub fn read_value(
     text: &[u8],
     limit: u64,
 ) -> Result<Forest, ValueFault>
-    ensures { IsRead types.now ty limit text.now result }
+    ensures read { IsRead types.now ty limit text.now result }
+    ensures of_type { IfOk result (λ v. is_of_type types.now v ty ≡ true) }
+    ensures within { IfOk result (λ v. node_count v ≤ limit) }
 {
     let mut typing = Some(Typing::new(alloc));
     let mut outline = Outline::new();

@@ -1,12 +1,12 @@
 -- Fitting a term to a type while it is read.
-use Rattle.std.specs.Prelude.{◌≡◌, ℕ, ◌+◌, List, [], ◌∷◌, ◌++◌, Bool, true, false, Option, Some, None, slice_get}
+use Rattle.std.specs.Prelude.{◌≡◌, ℕ, List, [], ◌∷◌, ◌++◌, Bool, true, false, Option, Some, None, slice_get}
 use Rattle.rb_core.specs.declared.value.Value.{Value}
 use Rattle.rb_core.specs.declared.types.Ty.{Ty}
 use Rattle.rb_core.specs.declared.types.ConRef.{ConRef}
 use Rattle.rb_core.specs.declared.types.DataDecl.{DataDecl}
 use Rattle.rb_values.specs.declared.typing.Frame.{Frame}
 use Rattle.rb_values.specs.declared.typing.Typing.{Typing}
-use Rattle.rb_values.specs.Terms.{Term, Terms, build, none, term_count}
+use Rattle.rb_values.specs.Terms.{Term, build, none, term_count}
 use Rattle.rb_values.specs.Fitting.{con_named, con_fields, misfits, misfits_each, first, or_none, value_of, values_of}
 use Rattle.rb_values.specs.inner.States.{Wait, waits, State, expecting, named, complete, waits_of}
 

@@ -1,9 +1,3 @@
-use Rattle.std.proofs.Common.{◌≡◌, ℕ, ◌+◌, ◌<◌, ◌≤◌, List, [], ◌∷◌, ◌++◌, length, map, ◌∙◌, ap, sym, arith, get_or, refl, rules}
-use Rattle.std.proofs.lemmas.Grind.{common_steps}
-use Rattle.rb_core.specs.Values.{subs}
-use Rattle.rb_values.specs.inner.Nodes.{at}
-use Rattle.rb_values.specs.Texts.{text_of}
-use Rattle.rb_values.specs.inner.Printing.{frame_text, pending, IsFrame, AreFrames, Opened, Turned}
 use Rattle.rb_values.proofs.PrintLemmas as print
 use Rattle.rb_values.proofs.print.open_value.Goals as goal
 

@@ -1,5 +1,4 @@
-use Rattle.std.proofs.Common.{◌≡◌, ◌-◌, ◌<◌, ◌≤◌, length, ◌∙◌, ap, arith}
-use Rattle.rb_values.specs.inner.Nodes.{at}
+use Rattle.std.proofs.Common.{arith}
 use Rattle.rb_values.proofs.PostLemmas.{some_node}
 use Rattle.rb_values.proofs.print.print_value.Goals as goal
 

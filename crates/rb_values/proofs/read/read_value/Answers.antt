@@ -1,11 +1,12 @@
-use Rattle.std.proofs.Common.{◌≡◌, ◌+◌, ◌<◌, ◌≤◌, [], ◌∷◌, ◌++◌, length, Some, None, sym, ◌∙◌, ap, arith}
+use Rattle.std.proofs.Common.{◌≡◌, ◌+◌, ◌≤◌, [], ◌∷◌, ◌++◌, Some, None, sym, ◌∙◌, ap, arith}
 use Rattle.rb_syntax.specs.declared.front.Next.TheVariants as next
 use Rattle.rb_syntax.specs.Fronts.{front_at, IsNext}
 use Rattle.rb_values.specs.declared.outline.Outline.{Outline}
 use Rattle.rb_values.specs.declared.sign.Sign.{Sign}
 use Rattle.rb_values.specs.Terms.{sign_of}
-use Rattle.rb_values.specs.inner.States.{State, expecting, step, outline_of, outline_step}
+use Rattle.rb_values.specs.inner.States.{expecting, step, outline_of, outline_step}
 use Rattle.rb_values.proofs.SpellingLemmas.{outline_same, depth_within, grows}
+use Rattle.rb_values.proofs.FittingLemmas.{read-of_type, read-within}
 use Rattle.rb_values.proofs.ReadLemmas.{no-step, some-step, at-first, at-next, stops-token, stops-fault, read-whole}
 use Rattle.rb_values.proofs.read.read_value.Goals as goal
 
@@ -20,22 +21,28 @@ loop-typing-init c = record {
   kept = c.new.ensures c.args.types.now c.args.ty;
 }
 
-pub returns-in-Fault : goal.returns-in-Fault
-returns-in-Fault c =
+pub returns-in-Fault-clause-read : goal.returns-in-Fault-clause-read
+returns-in-Fault-clause-read c =
     let i = c.loop-typing.invariant in
     stops-fault c.args.text.now c.loop-typing.at i.seen i.state i.so_far c.in-Fault.place (rw c.in-Fault.is at c.in_ok-place.ensures)
 
-pub returns-in-End : goal.returns-in-End
-returns-in-End c =
+pub returns-in-End-clause-read : goal.returns-in-End-clause-read
+returns-in-End-clause-read c =
     let i = c.loop-typing.invariant in
     read-whole c.args.text.now c.loop-typing.at i.seen i.state i.so_far c.args.types.now c.args.ty c.args.limit c.finish.result
     (rw c.in-End.is at c.in_ok-place.ensures) (c.finish.ensures c.args.ty i.state i.outline i.kept)
 
+pub returns-in-End-clause-of_type : goal.returns-in-End-clause-of_type
+returns-in-End-clause-of_type c = read-of_type c.args.types.now c.args.ty c.args.limit c.args.text.now c.finish.result (returns-in-End-clause-read c)
+
+pub returns-in-End-clause-within : goal.returns-in-End-clause-within
+returns-in-End-clause-within c = read-within c.args.types.now c.args.ty c.args.limit c.args.text.now c.finish.result (returns-in-End-clause-read c)
+
 pub step-requires-clause-depth : goal.step-requires-clause-depth
 step-requires-clause-depth c = let i = c.loop-typing.invariant in rw i.outline (depth_within i.state)
 
-pub returns-in-None : goal.returns-in-None
-returns-in-None c =
+pub returns-in-None-clause-read : goal.returns-in-None-clause-read
+returns-in-None-clause-read c =
     let i = c.loop-typing.invariant in
     let t : IsNext c.args.text.now c.loop-typing.at (next.Token c.in-Token.placed c.in-Token.end) = rw c.in-Token.is at c.in_ok-place.ensures in
     let q : outline_step (outline_of i.state) (sign_of c.in-Token.placed) ≡ None = rw (i.outline, c.sign_of-sign.ensures) at (sym c.step.ensures ∙ c.in-None.is) in

@@ -1,8 +1,6 @@
-use Rattle.std.proofs.Common.{◌≡◌, ℕ, ◌+◌, ◌-◌, ◌<◌, ◌≤◌, List, [], ◌∷◌, ◌++◌, length, map, sum, ◌∙◌, ap, sym, arith, get_or, refl, rules, take, drop, flat_map}
-use Rattle.std.proofs.lemmas.Grind.{common_steps}
-use Rattle.rb_core.specs.declared.value.Value.{Value, Num, Con}
+use Rattle.std.proofs.Common.{length, map, sum, ◌∙◌, ap}
 use Rattle.rb_core.specs.Values.{node_count}
-use Rattle.rb_values.specs.inner.Nodes.{at, posts, IsBuilt}
+use Rattle.rb_values.specs.inner.Nodes.{at}
 use Rattle.rb_values.proofs.PostLemmas as posts
 use Rattle.rb_values.proofs.builder.Builder.count.Goals as goal
 

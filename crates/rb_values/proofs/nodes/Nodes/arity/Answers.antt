@@ -1,4 +1,4 @@
-use Rattle.std.proofs.Common.{◌≡◌, length, ◌∙◌, ap, sym, arith}
+use Rattle.std.proofs.Common.{length, ◌∙◌, ap, sym}
 use Rattle.rb_core.specs.Values.{subs}
 use Rattle.rb_core.proofs.ValueLaws as eqs
 use Rattle.rb_values.proofs.nodes.Nodes.arity.Goals as goal

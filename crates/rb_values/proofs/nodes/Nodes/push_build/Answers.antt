@@ -1,10 +1,5 @@
-use Rattle.std.proofs.Common.{◌≡◌, ℕ, ◌+◌, ◌<◌, ◌≤◌, List, [], ◌∷◌, ◌++◌, length, map, ◌∙◌, ap, sym, arith, get_or, refl, rules}
-use Rattle.std.proofs.lemmas.Grind.{common_steps}
-use Rattle.std.proofs.Math.ListN.{length-append}
-use Rattle.rb_core.specs.declared.value.Value.{Value, Num, Con}
-use Rattle.rb_core.specs.Values.{subs}
-use Rattle.rb_values.specs.inner.Nodes.{at, IsLayer, IsBelow, AreBelow, children, value_of, values_from}
-use Rattle.rb_values.specs.declared.nodes.Node.TheVariants.{Number, Build}
+use Rattle.std.proofs.Common.{◌≡◌, [], length, ◌∙◌, arith, rules}
+use Rattle.rb_values.specs.inner.Nodes.{values_from}
 use Rattle.rb_values.proofs.NodeLemmas as nodes
 use Rattle.rb_values.proofs.nodes.Nodes.push_build.Goals as goal
 

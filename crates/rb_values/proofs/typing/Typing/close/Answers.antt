@@ -1,4 +1,4 @@
-use Rattle.std.proofs.Common.{◌+◌, ◌≡◌, arith}
+use Rattle.std.proofs.Common.{arith}
 use Rattle.rb_values.proofs.TypingLemmas.{close-next}
 use Rattle.rb_values.proofs.typing.Typing.close.Goals as goal
 

@@ -1,4 +1,4 @@
-use Rattle.std.proofs.Common.{◌≡◌, ◌≤◌, length, arith}
+use Rattle.std.proofs.Common.{◌≡◌, length, arith}
 use Rattle.rb_values.proofs.TypingLemmas.{closed-none, closed-built}
 use Rattle.rb_values.proofs.typing.Typing.close_frame.Goals as goal
 

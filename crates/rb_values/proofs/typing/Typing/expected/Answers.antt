@@ -1,4 +1,4 @@
-use Rattle.std.proofs.Common.{◌∙◌, arith, ◌+◌, ◌≡◌, length}
+use Rattle.std.proofs.Common.{◌∙◌, arith}
 use Rattle.rb_values.proofs.TypingLemmas.{expected-none, expected-last}
 use Rattle.rb_values.proofs.typing.Typing.expected.Goals as goal
 
