@@ -1,0 +1,22 @@
+//! Code that reads represented values: the bits at a location.
+//!
+//! A layout says where each bit of a value stands: in a root word, or behind pointers in blocks. Take a
+//! list whose tag is the lowest bit of a pointer:
+//!
+//! ```text
+//! split 0[0:1] {
+//!     1 => Nil        : { word 64 { [0:1] = 1 } }
+//!     0 => Cons(_, _) : { word 64 { [0:1] = 0, [3:61] -> 8 { word 64 { [0:64] .0 }, inline .1 } } }
+//! }
+//! ```
+//!
+//! Where slot 0 holds a list with a cell, the number of its first cell stands behind bits 3 up to 64 of
+//! slot 0. [`fetch::fetch_loc`] takes these bits, so that the tag is left behind, multiplies them by 8, and
+//! loads the 64 bits at byte 0 from there. The location is said as a number that code can make (`Read` of
+//! `rb_fragment`), and made by `make`: that the code reads what the location says is a matter of meanings.
+//!
+//! That a range, a byte or a width is one of an instruction is no condition on the caller: it follows from
+//! agreement wherever the location resolves in some leaf.
+#![tactic(auto)]
+
+pub mod fetch;
