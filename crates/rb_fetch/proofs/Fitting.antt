@@ -23,12 +23,11 @@ use Rattle.rb_layout.specs.A1.{A1, HasShape}
 use Rattle.rb_layout.specs.A2.{widths_of}
 use Rattle.rb_layout.specs.A4.{IsBlockWidth, HasBlocks}
 use Rattle.rb_layout.specs.Agreement.{Agrees}
-use Rattle.rb_layout.specs.Flattening.{decl_of, flat_layouts, shape_in}
+use Rattle.rb_layout.specs.Flattening.{decl_of, flat_layouts}
 use Rattle.rb_layout.specs.Locations.{Reached, block_in, block_at, word_beginning, ref_in, next_ref, range_in, resolve_from, reached_at}
 use Rattle.rb_layout.specs.Positions.{layout_of}
 use Rattle.rb_layout.specs.Words.{words_in, words_of_block, flat_at, begins_at, bytes_in}
 use Rattle.rb_rel.specs.Relation.{IsFound}
-use Rattle.rb_rel.specs.Reading.{Stands, IsRead, read_loc}
 use Rattle.rb_rel.proofs.Declared.{declared, decl_at}
 use Rattle.rb_rel.proofs.Provenances.{all_at}
 use Rattle.rb_rel.proofs.Lists.{both, get-mapped}
@@ -39,7 +38,7 @@ use Rattle.rb_target.specs.Meaning.{slots_at}
 use Rattle.rb_target.specs.Sheet.{Sheet}
 use Rattle.rb_fragment.specs.Plan.{Plan}
 use Rattle.rb_fragment.proofs.Pieces.{straight_weaken}
-use Rattle.rb_fetch.specs.Fetching.{StepsFit, LocFits, IsReadAt, AreBitsAt, IsSound, FetchesLoc, FetchesBits}
+use Rattle.rb_fetch.specs.Fetching.{StepsFit, LocFits, IsReadAt, AreBitsAt, FetchesLoc, FetchesBits}
 
 -- what resolving needs of a leaf: its words are short, and its parts lie in them
 pub record IsReadable (leaf : Leaf) : Type 0 where

@@ -1,11 +1,10 @@
 -- What stands at a location as data means what is read there, and code can be made of it.
-use Rattle.std.proofs.Common.{◌≡◌, ℕ, zero, suc, ◌+◌, ◌*◌, ◌%◌, ◌^◌, ◌<◌, ◌≤◌, ◌==◌, ◌&&◌, inl, inr, Bool, true, false, List, [], ◌∷◌, length, Some, Result, Ok, Err, refl, sym, subst, ap, ◌∙◌, arith}
+use Rattle.std.proofs.Common.{◌≡◌, ℕ, zero, suc, ◌+◌, ◌*◌, ◌%◌, ◌^◌, ◌<◌, ◌≤◌, ◌&&◌, inl, inr, true, List, [], ◌∷◌, length, Some, Result, Ok, Err, refl, ap, ◌∙◌, arith}
 use Rattle.std.proofs.lemmas.Bool.Decides.{nat_tests}
 use Rattle.std.proofs.Math.Nat.{mod-eq_of_lt}
 use Rattle.std.specs.Prelude.{slice_get, slice_index, nat_lt, nat_le}
 use Rattle.rb_core.specs.declared.layout_decl.Loc.{Loc}
 use Rattle.rb_core.specs.declared.layout_decl.Step.{Step}
-use Rattle.rb_core.specs.WellNumbered.{either}
 use Rattle.rb_bits.specs.Words.{IsRange, take_of}
 use Rattle.rb_bytes.specs.Memory.{Memory, IsGood, IsWidth, load_of}
 use Rattle.rb_bytes.specs.declared.fault.Trap.{Trap}
@@ -13,8 +12,7 @@ use Rattle.rb_bytes.proofs.GrowthLemmas.{address_small}
 use Rattle.rb_target.specs.Meaning.{slots_at}
 use Rattle.rb_target.specs.Sheet.{Sheet}
 use Rattle.rb_rel.specs.Reading.{after, read_from, read_first, read_loc}
-use Rattle.rb_fragment.specs.declared.reads.Read.{Read, Slot, Bits, Address, Loaded}
-use Rattle.rb_fragment.specs.Plan.{Plan}
+use Rattle.rb_fragment.specs.declared.reads.Read.{Read, Slot, Address, Loaded}
 use Rattle.rb_fragment.specs.Reads.{where_some, loaded, mean, is_range, is_width, fits, MakesRead}
 use Rattle.rb_fragment.specs.Slots.{AllBelow}
 use Rattle.rb_fragment.proofs.Pieces.{straight_weaken}
