@@ -1,0 +1,7 @@
+pub mod Locations
+pub mod Fitting
+pub mod Numbers
+pub mod Trees
+pub mod Looking
+pub mod LookForms
+pub mod Finding

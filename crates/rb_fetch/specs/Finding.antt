@@ -1,0 +1,37 @@
+-- What code that finds a value's leaf owes.
+use Rattle.std.specs.Prelude.{◌≡◌, ℕ, List, Bool, Some, length}
+use Rattle.rb_core.specs.declared.value.Value.{Value}
+use Rattle.rb_core.specs.declared.types.Ty.TheVariants.{Named}
+use Rattle.rb_bytes.specs.Memory.{Memory}
+use Rattle.rb_target.specs.declared.body.Hole.{Hole}
+use Rattle.rb_target.specs.Meaning.{slots_at}
+use Rattle.rb_target.specs.Sheet.{Sheet}
+use Rattle.rb_layout.specs.declared.agreed.LaidOut.{LaidOut}
+use Rattle.rb_layout.specs.declared.layout.Layout.{Layout}
+use Rattle.rb_layout.specs.Positions.{leaf_of, layout_of}
+use Rattle.rb_rel.specs.Relation.{word_count}
+use Rattle.rb_rel.specs.Switches.{depth_of}
+use Rattle.rb_fragment.specs.Plan.{Plan, Rep}
+use Rattle.rb_fragment.specs.Pieces.{Branches}
+use Rattle.rb_fragment.specs.Slots.{AllBelow}
+
+-- the words represent a value of the type, whose leaf is number n
+pub record HasLeaf (plan : Plan) (t n : ℕ) (ws : List ℕ) (m : Memory) : Type 0 where
+  pub layout : Layout
+  pub is_layout : layout_of plan.layouts t ≡ Some layout
+  pub clean : Bool
+  pub value : Value
+  pub represents : Rep plan m clean (Named t) value ws
+  pub is_leaf : leaf_of layout value ≡ Some n
+
+-- the plan of an agreed program
+pub record IsPlanOf (agreed : LaidOut) (plan : Plan) : Type 0 where
+  pub program : plan.program ≡ agreed.covered.program
+  pub layouts : plan.layouts ≡ agreed.layouts
+
+-- Run on words of a value, the appended code leaves by a hole of the value's leaf, with at most as many
+-- switches as splits are nested, and keeps all slots that there were.
+abbrev pub FindsLeaf : LaidOut → ℕ → List ℕ → Sheet → Sheet → List Hole → Type 0
+FindsLeaf agreed t words old new holes =
+    (plan : Plan) → IsPlanOf agreed plan → AllBelow old.slots words → length words ≡ word_count plan.layouts (Named t)
+    → Branches plan old.slots old new holes (depth_of plan.layouts (Named t)) (λ n s m. HasLeaf plan t n (slots_at s words) m) (λ n s m. Unit {0})

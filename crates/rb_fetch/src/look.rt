@@ -1,0 +1,145 @@
+//! Code that finds the leaf of a value, by a tree of splits.
+
+ghost use Rattle.std.specs.Prelude.{◌≡◌, ◌+◌, ◌<◌, ◌≤◌, ◌^◌, IfOk, OnOk, length};
+ghost use Rattle.rb_target.specs.Growth.{Grows};
+ghost use Rattle.rb_fetch.specs.Finding.{FindsLeaf};
+ghost use Rattle.rb_fetch.specs.inner.Looking.{open_arms_of, open_else_of, Looks};
+
+use crate::fetch::fetch_loc;
+use rb_core::boxed::Boxed;
+use rb_core::seq::Seq;
+use rb_layout::agreed::Agreed;
+use rb_layout::layout::{FlatArm, FlatTree};
+use rb_target::body::{Body, Hole};
+use rb_target::instr::{Instr, SwitchArm};
+use std::alloc::{AllocError, Global};
+
+/// Code that leaves by a hole of the leaf of the value whose words stand in some slots. Arms of switches
+/// are holes themselves.
+///
+/// # Errors
+/// `AllocError` where memory is wanting.
+pub fn find_leaf(
+    alloc: Global,
+    body: &mut Body,
+    words: &[usize],
+    agreed: &Agreed,
+    ty: u32,
+) -> Result<Seq<Hole>, AllocError>
+    ensures leaf { IfOk result (λ holes. FindsLeaf agreed.now ty words.now body.old body.new holes) }
+    ensures grows { OnOk result (Grows body.old.code body.new.code) }
+{
+    let _typed = agreed.covered().program();
+    let mut holes = Seq::new(alloc);
+    match agreed.layouts().get(ty as usize) {
+        None => Ok(holes),
+        Some(layout) => {
+            look(alloc, body, words, &layout.tree, &mut holes)?;
+            Ok(holes)
+        }
+    }
+}
+
+// Code that leaves by a hole of the leaf to which the tree leads.
+#[cycle(looking)]
+fn look(
+    alloc: Global,
+    body: &mut Body,
+    words: &[usize],
+    tree: &FlatTree,
+    holes: &mut Seq<Hole>,
+) -> Result<(), AllocError>
+    ensures grows { OnOk result (Grows body.old.code body.new.code) }
+    ensures looks { OnOk result (Looks words.now tree.now body.old holes.old body.new holes.new) }
+{
+    match tree {
+        FlatTree::Leaf(leaf) => {
+            let pc = body.len();
+            body.push(Instr::Jump(pc + 1))?;
+            holes.push(Hole {
+                pc,
+                arm: None,
+                leaf: *leaf as usize,
+            })?;
+            Ok(())
+        }
+        FlatTree::Split(loc, arms, other) => {
+            let slot = fetch_loc(alloc, body, words, loc)?;
+            let pc = body.len();
+            let places = open_arms(alloc, arms.as_slice(), pc + 1)?;
+            body.push(Instr::Switch(slot, open_else(other, pc + 1), places))?;
+            for (k, arm) in arms.as_slice().iter().enumerate() {
+                match &arm.under {
+                    FlatTree::Leaf(leaf) => {
+                        holes.push(Hole {
+                            pc,
+                            arm: Some(k),
+                            leaf: *leaf as usize,
+                        })?;
+                    }
+                    FlatTree::Split(_, _, _) => {
+                        let here = body.len();
+                        body.patch(
+                            &Hole {
+                                pc,
+                                arm: Some(k),
+                                leaf: 0,
+                            },
+                            here,
+                        );
+                        look(alloc, body, words, &arm.under, holes)?;
+                    }
+                }
+            }
+            match other {
+                None => Ok(()),
+                Some(tree) => match tree.get() {
+                    FlatTree::Leaf(leaf) => {
+                        holes.push(Hole {
+                            pc,
+                            arm: None,
+                            leaf: *leaf as usize,
+                        })?;
+                        Ok(())
+                    }
+                    FlatTree::Split(_, _, _) => {
+                        let here = body.len();
+                        body.patch(
+                            &Hole {
+                                pc,
+                                arm: None,
+                                leaf: 0,
+                            },
+                            here,
+                        );
+                        look(alloc, body, words, tree.get(), holes)?;
+                        Ok(())
+                    }
+                },
+            }
+        }
+    }
+}
+
+// A switch's arms, each still open: it leads to the next instruction.
+fn open_arms(alloc: Global, arms: &[FlatArm], next: usize) -> Result<Seq<SwitchArm>, AllocError>
+    ensures { IfOk result (λ found. found ≡ open_arms_of next arms.now) }
+{
+    let mut found = Seq::new(alloc);
+    for arm in arms {
+        found.push(SwitchArm {
+            number: arm.literal,
+            target: next,
+        })?;
+    }
+    Ok(found)
+}
+
+fn open_else(other: &Option<Boxed<FlatTree>>, next: usize) -> Option<usize>
+    ensures { result ≡ open_else_of next other.now }
+{
+    match other {
+        None => None,
+        Some(_) => Some(next),
+    }
+}
