@@ -22,13 +22,13 @@
 //! Printing goes over the nodes with frames of the same kind, outermost first.
 #![tactic(auto)]
 
-pub mod builder;
+mod builder;
 pub mod fault;
 pub mod forest;
 pub mod laws;
-pub mod nodes;
-pub mod outline;
+mod nodes;
+mod outline;
 pub mod print;
 pub mod read;
-pub mod sign;
-pub mod typing;
+mod sign;
+mod typing;
