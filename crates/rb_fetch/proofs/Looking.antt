@@ -171,7 +171,7 @@ module _ (words : List ℕ) (loc : Loc) (arms : List FlatArm) (other : Option Fl
           fetched = d.fetched;
           shaped = d.shaped;
           long = d.long;
-                more = record {
+          more = record {
             old = λ y i. in-more y h hs (d.more.old y i);
             new = λ y i. elim (in-split y h hs i) [ inl j ↦ d.more.new y j | inr e ↦ (let is : pc ≡ y.pc = ap (λ (z : Hole). z.pc) e in inr (omega (arith, is), omega (arith, is, d.long))) ];
           };
