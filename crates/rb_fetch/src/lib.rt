@@ -28,3 +28,4 @@
 pub mod fetch;
 pub mod field;
 pub mod look;
+pub mod span;

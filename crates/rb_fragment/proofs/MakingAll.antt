@@ -1,6 +1,7 @@
 -- Lists of reads, made one after the other.
-use Rattle.std.proofs.Common.{◌≡◌, ℕ, zero, suc, ◌+◌, ◌<◌, ◌≤◌, ◌⊎◌, inl, inr, List, [], ◌∷◌, ◌++◌, length, take, true, Some, refl, sym, subst, ap, ◌∙◌, arith}
-use Rattle.std.specs.Prelude.{slice_get, slice_index}
+use Rattle.std.proofs.Common.{◌≡◌, ℕ, zero, suc, ◌+◌, ◌<◌, ◌≤◌, ◌⊎◌, inl, inr, List, [], ◌∷◌, ◌++◌, length, map, take, true, Some, refl, sym, subst, ap, ◌∙◌, arith}
+use Rattle.std.specs.Prelude.{slice_get, slice_index, nat_lt}
+use Rattle.std.proofs.lemmas.Bool.Decides.{nat_tests}
 use Rattle.std.proofs.lemmas.Option.{same_Some}
 use Rattle.rb_bytes.specs.Memory.{Memory, IsGood}
 use Rattle.rb_target.specs.Growth.{Keeps}
@@ -10,7 +11,7 @@ use Rattle.rb_fragment.specs.declared.reads.Read.{Read, Slot}
 use Rattle.rb_fragment.specs.Plan.{Plan}
 use Rattle.rb_fragment.specs.Pieces.{Straight, AtEnd}
 use Rattle.rb_fragment.specs.Reads.{mean, fits, Makes, MakesRead}
-use Rattle.rb_fragment.specs.Slots.{AllBelow}
+use Rattle.rb_fragment.specs.Slots.{AllBelow, IsOneOf}
 use Rattle.rb_fragment.specs.WordReads.{AreMeant, AllFit, IsSlotOf, MakesWords, MakesAll, AreNewOr}
 use Rattle.rb_fragment.proofs.Adding.{Adds-refl, Adds-trans}
 use Rattle.rb_fragment.proofs.Holds.{AllBelow-more, slots_at-kept}
@@ -145,6 +146,15 @@ new_more reads a b xs x i r at more h o =
 
 -- Reads of slots
 
-abbrev pub of_slots : List ℕ → List Read
-of_slots [] = []
-of_slots (x ∷ xs) = Slot x ∷ of_slots xs
+pub slots_fit : (n : ℕ) (xs : List ℕ) → AllBelow n xs → AllFit n (map (λ x. Slot x) xs)
+slots_fit n [] h = tt
+slots_fit n (x ∷ xs) h = (let lt = h.0 in let yes : nat_lt x n ≡ true = grind (arith, nat_tests, lt) in fits-Slot n x ∙ yes, slots_fit n xs h.1)
+
+pub slots_meant : (s : List ℕ) (m : Memory) (xs : List ℕ) → AreMeant (map (λ x. Slot x) xs) s m (slots_at s xs)
+slots_meant s m [] = tt
+slots_meant s m (x ∷ xs) = (mean-Slot x s m, slots_meant s m xs)
+
+pub slots_of : (xs : List ℕ) (x : ℕ) → IsSlotOf x (map (λ y. Slot y) xs) → IsOneOf x xs
+slots_of [] x h = absurd h
+slots_of (y ∷ xs) x (inl e) = inl (let same : y ≡ x = cc in sym same)
+slots_of (y ∷ xs) x (inr h) = inr (slots_of xs x h)
