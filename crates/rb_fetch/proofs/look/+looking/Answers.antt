@@ -9,7 +9,7 @@ use Rattle.rb_fetch.proofs.look.+looking.Goals.{in-Leaf-under+in_ok-push-in-Leaf
 pub loop-k-init : goal.loop-k-init
 loop-k-init t c =
     rw (c.as_slice-arm-items.ensures, c.in_ok-push-in-Split.ensures.ok, c.open_else.ensures, c.in_ok-places-in-Split.ensures, c.as_slice.ensures, c.len-pc-in-Split.ensures.value)
-    (looks_start c.args.words.now c.args.tree.now c.in-Split.arms c.in-Split.other c.args.body.now c.args.holes.now c.in-Split.loc c.fetch_loc.new.body c.in_ok-slot-in-Split.slot _ c.in-Split.is
+    (looks_start c.args.words.now c.args.tree.now c.in-Split.arms c.in-Split.other c.args.body.now c.args.holes.now c.in-Split.loc c.fetch_bits.new.body c.in_ok-slot-in-Split.slot _ c.in-Split.is
     c.in_ok-slot-in-Split.ensures.reads c.in_ok-slot-in-Split.ensures.grows refl)
 
 pub patch-requires-clause-inside : goal.patch-requires-clause-inside
