@@ -6,3 +6,4 @@ pub mod LeafNumbers
 pub mod Looking
 pub mod LookForms
 pub mod Finding
+pub mod Placing

@@ -28,4 +28,6 @@
 pub mod fetch;
 pub mod field;
 pub mod look;
+pub mod place;
 pub mod span;
+mod way;
