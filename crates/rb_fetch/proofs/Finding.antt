@@ -140,7 +140,7 @@ module _ (plan : Plan) (typed : IsTyped plan.program) (agreed : AreAgreed plan.p
 
 -- the plan of an agreed program is sound
 module _ (agreed : LaidOut) (typed : IsTyped agreed.covered.program) (flat : agreed.layouts ≡ flat_layouts agreed.covered.program) (agrees : Agrees agreed.covered.program) (t : ℕ) where
-  of_plan : (plan : Plan) → IsPlanOf agreed plan → IsTyped plan.program × AreAgreed plan.program plan.layouts
+  pub of_plan : (plan : Plan) → IsPlanOf agreed plan → IsTyped plan.program × AreAgreed plan.program plan.layouts
   of_plan plan of =
       (subst IsTyped (sym of.program) typed, (of.layouts ∙ flat ∙ ap flat_layouts (sym of.program), subst Agrees (sym of.program) agrees))
 

@@ -7,3 +7,6 @@ pub mod Looking
 pub mod LookForms
 pub mod Finding
 pub mod Placing
+pub mod Spans
+pub mod Slices
+pub mod Fields

@@ -22,7 +22,7 @@ use Rattle.rb_fragment.proofs.Pieces.{straight_weaken}
 use Rattle.rb_fragment.proofs.ReadForms.{mean-Bits, mean-Address, mean-Loaded, fits-Bits, fits-Address, fits-Loaded}
 use Rattle.rb_fetch.specs.Fetching.{StepsFit, LocFits, IsReadAt, FetchesAt, FetchesLoc}
 use Rattle.rb_fetch.specs.declared.span.Span.{Span}
-use Rattle.rb_fetch.specs.inner.Reads.{capped, span_on, read_or, loc_span, bits_of}
+use Rattle.rb_fetch.specs.inner.Reads.{Spans, capped, span_on, read_or, loc_span, bits_of}
 
 -- Fitting
 
@@ -83,12 +83,6 @@ module _ (n : ℕ) where
 after_some : (r : Result ℕ Trap) (go : ℕ → Rattle.std.specs.Prelude.Option ℕ) (x : ℕ) → after r go ≡ Some x → (w : ℕ) × (r ≡ Ok w) × (go w ≡ Some x)
 after_some (Ok w) go x e = (w, refl, e)
 after_some (Err t) go x e = absurd cc
-
--- a number is the range of what a read means
-pub record Spans (p : Span) (s : List ℕ) (m : Memory) (x : ℕ) : Type 0 where
-  pub word : ℕ
-  pub is_word : mean p.read s m ≡ Some word
-  pub are_bits : x ≡ take_of word p.o p.l
 
 module _ (s : List ℕ) (m : Memory) (good : IsGood m) (x : ℕ) where
   span_means : (steps : List Step) (r : Read) (o l w : ℕ) → StepsFit o l steps → mean r s m ≡ Some w → read_from m w o l steps ≡ Some x → Spans (span_on r o l steps) s m x

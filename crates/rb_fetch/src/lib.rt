@@ -29,5 +29,6 @@ pub mod fetch;
 pub mod field;
 pub mod look;
 pub mod place;
+mod slice;
 pub mod span;
 mod way;

@@ -4,10 +4,13 @@ ghost use Rattle.std.specs.Prelude.{◌≡◌, IfOk};
 ghost use Rattle.rb_rel.specs.Reading.{LeadsTo};
 ghost use Rattle.rb_layout.specs.Readable.{AreShort};
 ghost use Rattle.rb_fetch.specs.inner.Placing.{IsAgreedLeaf, IsSpot, step_of};
+ghost use Rattle.rb_fetch.specs.inner.Fields.{SpansPart};
 
 use crate::place::{Spot, Wanted, begins_at, find_part};
+use crate::span::{Span, span_at};
 use rb_core::layout_decl::{Loc, Step};
 use rb_core::seq::Seq;
+use rb_fragment::reads::Read;
 use rb_layout::layout::{Block, Leaf};
 use std::alloc::{AllocError, Global};
 
@@ -51,4 +54,23 @@ fn step_to(block: &Block, spot: Spot) -> Step
         o: spot.part.o,
         l: spot.part.l,
     }
+}
+
+/// The bits of a part, over reads of the words of a value of the leaf.
+///
+/// # Errors
+/// `AllocError` where memory is wanting.
+pub(crate) fn spot_span(
+    alloc: Global,
+    leaf: &Leaf,
+    spot: Spot,
+    words: &[Read],
+) -> Result<Span, AllocError>
+    requires leaf { IsAgreedLeaf leaf.now }
+    requires spot { IsSpot leaf.now spot }
+    ensures { IfOk result (λ span. SpansPart leaf.now words.now span spot.entry.part.now.l spot.entry.part.now.kind) }
+{
+    let loc = location(alloc, leaf, spot)?;
+    let span = span_at(alloc, words, &loc)?;
+    Ok(span)
 }

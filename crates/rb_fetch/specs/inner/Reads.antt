@@ -1,7 +1,10 @@
 -- What stands at a location, as data from which code is made.
-use Rattle.std.specs.Prelude.{ℕ, min, List, [], ◌∷◌, Option, Some, None, slice_get}
+use Rattle.std.specs.Prelude.{◌≡◌, ℕ, min, List, [], ◌∷◌, Option, Some, None, slice_get}
 use Rattle.rb_core.specs.declared.layout_decl.Loc.{Loc}
 use Rattle.rb_core.specs.declared.layout_decl.Step.{Step}
+use Rattle.rb_bits.specs.Words.{take_of}
+use Rattle.rb_bytes.specs.Memory.{Memory}
+use Rattle.rb_fragment.specs.Reads.{mean}
 use Rattle.rb_fragment.specs.declared.reads.Read.{Read, Number, Bits, Address, Loaded}
 use Rattle.rb_fetch.specs.declared.span.Span.{Span}
 
@@ -22,3 +25,9 @@ loc_span words loc = span_on (read_or (slice_get words loc.word)) loc.o loc.l lo
 
 abbrev pub bits_of : Span → Read
 bits_of p = Bits p.read (capped p.o) (capped p.l)
+
+-- a number is the range of what a read means
+pub record Spans (p : Span) (s : List ℕ) (m : Memory) (x : ℕ) : Type 0 where
+  pub word : ℕ
+  pub is_word : mean p.read s m ≡ Some word
+  pub are_bits : x ≡ take_of word p.o p.l
