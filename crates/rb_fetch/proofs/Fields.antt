@@ -1,18 +1,16 @@
 -- The reads of a field mean words that represent the part of a value there.
-use Rattle.std.proofs.Common.{◌≡◌, ℕ, zero, suc, ◌+◌, ◌<◌, ◌≤◌, ◌⊎◌, inl, inr, List, [], ◌∷◌, ◌++◌, length, map, Bool, true, Option, Some, None, refl, sym, subst, ap, ◌∙◌, arith, length-append}
+use Rattle.std.proofs.Common.{◌≡◌, ℕ, zero, suc, ◌+◌, ◌<◌, ◌≤◌, ◌⊎◌, inl, inr, List, [], ◌∷◌, ◌++◌, length, map, true, Option, Some, None, refl, sym, subst, ap, ◌∙◌, arith, length-append}
 use Rattle.std.specs.Prelude.{slice_get, slice_index, nat_le}
 use Rattle.std.proofs.lemmas.Bool.Decides.{nat_tests}
 use Rattle.std.proofs.lemmas.List.{length-map}
 use Rattle.std.proofs.lemmas.Option.{same_Some, slice_get_within}
 use Rattle.rb_bits.specs.Words.{take_of}
 use Rattle.rb_bits.proofs.RangeLemmas.{take_whole}
-use Rattle.rb_bytes.specs.Memory.{Memory, IsGood}
-use Rattle.rb_core.specs.declared.value.Value.{Value}
+use Rattle.rb_bytes.specs.Memory.{Memory}
 use Rattle.rb_core.specs.declared.types.Ty.{Ty}
 use Rattle.rb_core.specs.declared.types.Ty.TheVariants.{Int, Named}
 use Rattle.rb_core.specs.declared.program.Program.{Program}
 use Rattle.rb_core.specs.TypedPrograms.{IsTyped}
-use Rattle.rb_core.specs.Values.{part_at}
 use Rattle.rb_target.specs.Meaning.{slots_at}
 use Rattle.rb_target.specs.Sheet.{Sheet}
 use Rattle.rb_layout.specs.declared.agreed.LaidOut.{LaidOut}
@@ -21,7 +19,7 @@ use Rattle.rb_layout.specs.declared.layout.Leaf.{Leaf}
 use Rattle.rb_layout.specs.declared.layout.FlatWord.{FlatWord}
 use Rattle.rb_layout.specs.Agreement.{Agrees, AreAgreed}
 use Rattle.rb_layout.specs.Flattening.{flat_layouts, type_at}
-use Rattle.rb_layout.specs.Positions.{Open, open_positions, leaf_of, layout_of}
+use Rattle.rb_layout.specs.Positions.{Open, open_positions, layout_of}
 use Rattle.rb_layout.proofs.OpenPositions.{position-typed}
 use Rattle.rb_rel.specs.Relation.{shape_length, word_count}
 use Rattle.rb_rel.proofs.Agreeing.{lawful}
@@ -30,14 +28,13 @@ use Rattle.rb_rel.proofs.Represented.{Represents-int, Represents-count, opened_a
 use Rattle.rb_rel.proofs.Widths.{positions_typed}
 use Rattle.rb_fragment.specs.declared.reads.Read.{Read, Slot}
 use Rattle.rb_fragment.specs.Plan.{Plan, Rep, words_of}
-use Rattle.rb_fragment.specs.Slots.{AllBelow, IsOneOf}
+use Rattle.rb_fragment.specs.Slots.{IsOneOf}
 use Rattle.rb_fragment.specs.Reads.{mean, fits}
 use Rattle.rb_fragment.specs.WordReads.{AreMeant, AllFit, IsSlotOf, MakesAll, AreNewOr}
 use Rattle.rb_fragment.proofs.MakingAll.{slots_fit, slots_meant, slots_of}
 use Rattle.rb_fetch.specs.Finding.{IsPlanOf}
-use Rattle.rb_fetch.specs.Fields.{FieldAt, IsPartMeant, AreFieldReads, ReadsField, FetchesField}
-use Rattle.rb_fetch.specs.declared.place.Wanted.TheVariants.{UnitOf}
-use Rattle.rb_fetch.specs.inner.Placing.{IsAgreedLeaf, NoSpot}
+use Rattle.rb_fetch.specs.Fields.{FieldAt, AreFieldReads, ReadsField, FetchesField}
+use Rattle.rb_fetch.specs.inner.Placing.{IsAgreedLeaf}
 use Rattle.rb_fetch.specs.inner.Fields.{HoldsInt, ReadsAs, ReadsInt, ReadsWord, ReadWords, leaf_within, leaf_at, words_at}
 use Rattle.rb_fetch.proofs.Finding.{of_plan}
 use Rattle.rb_fetch.proofs.Fitting.{root_widths}

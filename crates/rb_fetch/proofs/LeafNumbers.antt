@@ -1,5 +1,5 @@
 -- Trees whose leaves are numbered below a number, form by form.
-use Rattle.std.proofs.Common.{◌≡◌, ℕ, zero, suc, ◌+◌, ◌<◌, List, [], ◌∷◌, ◌++◌, map, Option, Some, None, refl, sym, subst, ap, ◌∙◌, arith}
+use Rattle.std.proofs.Common.{◌≡◌, ℕ, zero, suc, ◌<◌, List, [], ◌∷◌, ◌++◌, map, Option, Some, None, subst, ap}
 use Rattle.std.specs.Prelude.{slice_get}
 use Rattle.std.specs.List.{flat_map}
 use Rattle.std.proofs.lemmas.Option.{same_Some}
@@ -7,7 +7,7 @@ use Rattle.rb_core.specs.declared.layout_decl.Loc.{Loc}
 use Rattle.rb_layout.specs.declared.layout.FlatTree.{FlatTree, Split, Leaf}
 use Rattle.rb_layout.specs.declared.layout.FlatTree.TheFolds.{fold_out-FlatArm}
 use Rattle.rb_layout.specs.declared.layout.FlatArm.{FlatArm}
-use Rattle.rb_layout.specs.Splits.{Test, Is, IsNone, Route, behind, Under, arm_routes, else_routes, literals_of, routes_step, routes_arm, routes_of, routes_under}
+use Rattle.rb_layout.specs.Splits.{Test, Is, IsNone, Route, behind, Under, arm_routes, literals_of, routes_step, routes_arm, routes_of, routes_under}
 use Rattle.rb_layout.proofs.FlatForms as F
 use Rattle.rb_rel.proofs.Lists.{get-left, get-right, get-mapped}
 use Rattle.rb_fetch.specs.inner.Looking.{LeavesBelow, under_arm, under_at}

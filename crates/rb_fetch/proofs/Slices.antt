@@ -1,29 +1,27 @@
 -- Integers in slices: shares side by side.
-use Rattle.std.proofs.Common.{◌≡◌, ℕ, zero, suc, ◌+◌, ◌-◌, ◌*◌, ◌/◌, ◌%◌, ◌^◌, ◌<◌, ◌≤◌, ◌==◌, ◌&&◌, min, List, [], ◌∷◌, ◌++◌, length, map, Bool, true, Option, Some, None, refl, sym, subst, ap, ◌∙◌, arith}
-use Rattle.std.specs.Prelude.{slice_get, slice_index, nat_le}
+use Rattle.std.proofs.Common.{◌≡◌, ℕ, ◌+◌, ◌-◌, ◌*◌, ◌%◌, ◌^◌, ◌<◌, ◌≤◌, ◌==◌, ◌&&◌, min, List, [], ◌∷◌, ◌++◌, map, Bool, true, Option, Some, None, refl, sym, subst, ap, ◌∙◌, arith}
+use Rattle.std.specs.Prelude.{slice_index, nat_le}
 use Rattle.std.specs.List.{list_all}
 use Rattle.std.proofs.lemmas.Bool.Decides.{nat_tests}
-use Rattle.std.proofs.lemmas.Nat.{pow_pos}
 use Rattle.std.proofs.Math.Nat.{div-eq_of_lt}
-use Rattle.rb_bits.specs.Words.{IsRange, take_of, put_of}
+use Rattle.rb_bits.specs.Words.{take_of, put_of}
 use Rattle.rb_bits.proofs.RangeLemmas.{take_take, take_split}
 use Rattle.rb_bits.proofs.WordLemmas.{take_fits, put_adds}
-use Rattle.rb_bytes.specs.Memory.{Memory, IsGood}
+use Rattle.rb_bytes.specs.Memory.{Memory}
 use Rattle.rb_core.specs.declared.types.Ty.TheVariants.{Int}
 use Rattle.rb_layout.specs.declared.layout.Leaf.{Leaf}
 use Rattle.rb_layout.specs.declared.layout.Part.{Part}
-use Rattle.rb_layout.specs.declared.layout.Kind.{Kind}
 use Rattle.rb_layout.specs.declared.layout.Kind.TheVariants.{Bits}
 use Rattle.rb_rel.specs.Relation.{HoldsKind}
 use Rattle.rb_rel.proofs.Lists.{both, and_true}
 use Rattle.rb_rel.proofs.Reading.{same_nat}
 use Rattle.rb_fragment.specs.declared.reads.Read.{Read, Joined}
 use Rattle.rb_fragment.specs.declared.reads.Share.{Share}
-use Rattle.rb_fragment.specs.Reads.{where_some, Meant, joined_over, mean, meant_of, is_range, fits, fits_share}
+use Rattle.rb_fragment.specs.Reads.{where_some, Meant, joined_over, meant_of, is_range, fits, fits_share}
 use Rattle.rb_fragment.proofs.ReadForms.{mean-Joined, meant-is, fits-Joined, fits-Share}
 use Rattle.rb_fetch.specs.declared.span.Span.{Span}
 use Rattle.rb_fetch.specs.declared.place.Wanted.TheVariants.{UnitOf}
-use Rattle.rb_fetch.specs.inner.Reads.{capped, bits_of}
+use Rattle.rb_fetch.specs.inner.Reads.{bits_of}
 use Rattle.rb_fetch.specs.inner.Placing.{is_wanted}
 use Rattle.rb_fetch.specs.inner.Fields.{SpansPart, ReadsAs, first_bit, is_whole, share_of, Slices}
 use Rattle.rb_fetch.proofs.Spans.{bit_part, part_reads}

@@ -8,11 +8,10 @@ use Rattle.rb_target.specs.Growth.{Keeps}
 use Rattle.rb_target.specs.Meaning.{slots_at}
 use Rattle.rb_target.specs.Sheet.{Sheet}
 use Rattle.rb_fragment.specs.declared.reads.Read.{Read, Slot}
-use Rattle.rb_fragment.specs.Plan.{Plan}
-use Rattle.rb_fragment.specs.Pieces.{Straight, AtEnd}
-use Rattle.rb_fragment.specs.Reads.{mean, fits, Makes, MakesRead}
+use Rattle.rb_fragment.specs.Pieces.{AtEnd}
+use Rattle.rb_fragment.specs.Reads.{mean, fits, MakesRead}
 use Rattle.rb_fragment.specs.Slots.{AllBelow, IsOneOf}
-use Rattle.rb_fragment.specs.WordReads.{AreMeant, AllFit, IsSlotOf, MakesWords, MakesAll, AreNewOr}
+use Rattle.rb_fragment.specs.WordReads.{AreMeant, AllFit, IsSlotOf, MakesAll, AreNewOr}
 use Rattle.rb_fragment.proofs.Adding.{Adds-refl, Adds-trans}
 use Rattle.rb_fragment.proofs.Holds.{AllBelow-more, slots_at-kept}
 use Rattle.rb_fragment.proofs.Making.{straight_some}

@@ -1,7 +1,6 @@
 -- What reads over the words of a leaf's values mean: its parts, integers in slices, and words of fields.
 use Rattle.std.specs.Prelude.{◌≡◌, ℕ, ◌+◌, ◌<◌, ◌≤◌, ◌==◌, ◌&&◌, List, map, length, Bool, true, Option, Some, None, slice_get, slice_index}
 use Rattle.std.specs.List.{list_all}
-use Rattle.std.specs.Option.{option_copied}
 use Rattle.rb_core.specs.declared.types.Ty.TheVariants.{Int, Named}
 use Rattle.rb_bits.specs.Words.{IsRange, take_of}
 use Rattle.rb_bytes.specs.Memory.{Memory, IsGood}

@@ -1,4 +1,3 @@
-use Rattle.std.proofs.Common.{◌≡◌}
 use Rattle.rb_fetch.specs.inner.Fields.{ReadWords}
 use Rattle.rb_fetch.proofs.field.word_reads.Given as goal
 

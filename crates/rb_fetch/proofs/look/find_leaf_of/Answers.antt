@@ -30,4 +30,3 @@ returns-in_ok-look-in-Some-clause-ways c =
     finds_ways c.args.agreed.now (rw c.covered.ensures.same at c.program-typed.ensures.typed) c.layouts.ensures.flat c.layouts.ensures.agree c.args.ty
     c.args.words.now c.args.body.now layout (ap (λ ls. slice_get ls c.args.ty) (sym c.layouts.ensures.same) ∙ known) c.look.new.body c.look.new.holes
     (rw c.new-holes.ensures at c.in_ok-look-in-Some.ensures.looks)
-

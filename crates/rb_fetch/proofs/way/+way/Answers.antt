@@ -1,9 +1,6 @@
-use Rattle.std.proofs.Common.{◌≡◌, [], ◌<◌, Some, None, refl, sym, subst, ap, ◌∙◌, arith}
-use Rattle.std.specs.Prelude.{slice_get}
-use Rattle.rb_layout.specs.declared.layout.Block.{Block}
-use Rattle.rb_layout.specs.declared.layout.Leaf.{Leaf}
+use Rattle.std.proofs.Common.{◌<◌, sym, subst, ap, ◌∙◌, arith}
 use Rattle.rb_fetch.specs.inner.Placing.{outer_count}
-use Rattle.rb_fetch.proofs.Placing.{some_block, some_pointer, above, further_out, root_leads, block_leads}
+use Rattle.rb_fetch.proofs.Placing.{some_pointer, above, further_out, root_leads, block_leads}
 use Rattle.rb_fetch.proofs.way.+way.Goals as goal
 
 pub returns-in_default : goal.returns-in_default

@@ -1,7 +1,6 @@
-use Rattle.std.proofs.Common.{◌≡◌, ◌+◌, ◌≤◌, ◌∷◌, [], ◌++◌, length, Some, sym, ap, subst, ◌∙◌, take, arith, length-append}
+use Rattle.std.proofs.Common.{◌∷◌, [], ◌++◌, Some, sym, ap, subst, ◌∙◌, take, arith, length-append}
 use Rattle.std.proofs.lemmas.Option.{slice_get-get_or}
 use Rattle.rb_target.proofs.Growing.{Grows-refl, Grows-trans}
-use Rattle.rb_fragment.specs.declared.reads.Read.{Read}
 use Rattle.rb_fragment.specs.WordReads.{MakesAll}
 use Rattle.rb_fragment.proofs.MakingAll.{makes_none, makes_more, new_more, take_more, take_all}
 use Rattle.rb_fragment.proofs.make.make_all.Goals as goal
