@@ -1,3 +1,4 @@
 pub mod Fetching
 pub mod Finding
 pub mod inner
+pub mod Plain
