@@ -2,3 +2,5 @@
 #![tactic(auto)]
 
 pub mod build;
+pub mod block;
+pub mod word;
