@@ -1,0 +1,6 @@
+pub mod Numbers
+pub mod Longer
+pub mod Running
+pub mod Fits
+pub mod Placing
+pub mod Choosing

@@ -2,11 +2,10 @@
 
 ghost use Rattle.std.specs.Prelude.{◌≡◌, slice_get, IfOk, OnOk};
 ghost use Rattle.std.specs.Option.{option_copied};
-ghost use Rattle.rb_core.specs.declared.types.Ty.TheVariants.{Named};
 ghost use Rattle.rb_core.specs.declared.pattern.Pat.{out-Pat};
 ghost use Rattle.rb_target.specs.Growth.{Grows};
 ghost use Rattle.rb_build.specs.Building.{Builds};
-ghost use Rattle.rb_build.specs.inner.Code.{is_root, leaf_for, roots_code, root_slots, leaf_code, leaf_slots};
+ghost use Rattle.rb_build.specs.inner.Code.{is_root, build_code, build_slots, leaf_for, leaves_of, roots_code, root_slots};
 
 use crate::block::emit_blocks;
 use crate::word::emit_word;
@@ -34,18 +33,22 @@ pub fn emit_build(
     ensures grows { OnOk result (Grows body.old.code body.new.code) }
 {
     let _typed = agreed.covered().program();
-    let leaf = match agreed.layouts().get(con.ty as usize) {
-        None => None,
-        Some(layout) => leaf_for(layout.leaves.as_slice(), con.con),
-    };
-    let slots = match leaf {
-        None => Seq::new(alloc),
-        Some(leaf) => emit_leaf(alloc, body, leaf, args)?,
-    };
+    let leaf = leaf_by(agreed, con);
+    let slots = emit_leaf(alloc, body, leaf, args)?;
     Ok(Held {
         ty: Ty::Named(con.ty),
         slots,
     })
+}
+
+// The leaf of the values by a constructor, in the layout of its type.
+fn leaf_by(agreed: &Agreed, con: ConRef) -> Option<&Leaf>
+    ensures { option_copied result ≡ leaf_for con.con (leaves_of (slice_get agreed.now.layouts con.ty)) }
+{
+    match agreed.layouts().get(con.ty as usize) {
+        None => None,
+        Some(layout) => leaf_for(layout.leaves.as_slice(), con.con),
+    }
 }
 
 // The leaf of the values by a constructor.
@@ -73,16 +76,21 @@ fn is_root(con: u32, prov: &Pat) -> bool
 fn emit_leaf(
     alloc: Global,
     body: &mut Body,
-    leaf: &Leaf,
+    leaf: Option<&Leaf>,
     args: &[Held],
 ) -> Result<Seq<usize>, AllocError>
-    ensures slots { IfOk result (λ slots. slots ≡ leaf_slots args.now leaf.now body.old) }
-    ensures code { OnOk result (body.new ≡ leaf_code args.now leaf.now body.old) }
+    ensures slots { IfOk result (λ slots. slots ≡ build_slots args.now (option_copied leaf.entry) body.old) }
+    ensures code { OnOk result (body.new ≡ build_code args.now (option_copied leaf.entry) body.old) }
 {
-    let mut blocks = Seq::new(alloc);
-    emit_blocks(body, leaf.blocks.as_slice(), args, &mut blocks)?;
-    let slots = emit_roots(alloc, body, leaf.root.as_slice(), args, blocks.as_slice())?;
-    Ok(slots)
+    match leaf {
+        None => Ok(Seq::new(alloc)),
+        Some(leaf) => {
+            let mut blocks = Seq::new(alloc);
+            emit_blocks(body, leaf.blocks.as_slice(), args, &mut blocks)?;
+            let slots = emit_roots(alloc, body, leaf.root.as_slice(), args, blocks.as_slice())?;
+            Ok(slots)
+        }
+    }
 }
 
 // The words of the value itself.
