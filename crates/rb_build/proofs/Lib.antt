@@ -4,3 +4,5 @@ pub mod Running
 pub mod Fits
 pub mod Placing
 pub mod Choosing
+pub mod Leaves
+pub mod Building

@@ -1,5 +1,5 @@
 -- The code of a construction is appended, whatever it is made from.
-use Rattle.std.proofs.Common.{◌≡◌, ℕ, ◌+◌, ◌≤◌, ◌/◌, List, [], ◌∷◌, ◌++◌, Option, Some, None, arith}
+use Rattle.std.proofs.Common.{◌≡◌, ℕ, ◌+◌, ◌≤◌, ◌/◌, List, [], ◌∷◌, ◌++◌, Option, Some, None, sym, subst, arith}
 use Rattle.rb_target.specs.declared.instr.Instr.{Instr}
 use Rattle.rb_target.specs.declared.instr.Instr.TheVariants as I
 use Rattle.rb_target.specs.Growth.{Grows}
@@ -88,3 +88,6 @@ module _ (hs : List Held) where
   pub build_longer : (leaf : Option Leaf) (b : Sheet) → IsLonger b (build_code hs leaf b)
   build_longer None b = longer-refl b
   build_longer (Some leaf) b = leaf_longer leaf b
+
+  pub build_grows : (leaf : Option Leaf) (b c : Sheet) → c ≡ build_code hs leaf b → Grows b.code c.code
+  build_grows leaf b c is = subst (λ (x : Sheet). Grows b.code x.code) (sym is) (build_longer leaf b).grows

@@ -14,7 +14,7 @@ use rb_core::seq::Seq;
 use rb_core::types::{ConRef, Ty};
 use rb_fragment::held::Held;
 use rb_layout::agreed::Agreed;
-use rb_layout::layout::{FlatWord, Leaf};
+use rb_layout::layout::{FlatWord, Layout, Leaf};
 use rb_target::body::Body;
 use std::alloc::{AllocError, Global};
 
@@ -33,7 +33,7 @@ pub fn emit_build(
     ensures grows { OnOk result (Grows body.old.code body.new.code) }
 {
     let _typed = agreed.covered().program();
-    let leaf = leaf_by(agreed, con);
+    let leaf = leaf_by(agreed.layouts(), con);
     let slots = emit_leaf(alloc, body, leaf, args)?;
     Ok(Held {
         ty: Ty::Named(con.ty),
@@ -42,10 +42,10 @@ pub fn emit_build(
 }
 
 // The leaf of the values by a constructor, in the layout of its type.
-fn leaf_by(agreed: &Agreed, con: ConRef) -> Option<&Leaf>
-    ensures { option_copied result ≡ leaf_for con.con (leaves_of (slice_get agreed.now.layouts con.ty)) }
+fn leaf_by(layouts: &[Layout], con: ConRef) -> Option<&Leaf>
+    ensures { option_copied result ≡ leaf_for con.con (leaves_of (slice_get layouts.now con.ty)) }
 {
-    match agreed.layouts().get(con.ty as usize) {
+    match layouts.get(con.ty as usize) {
         None => None,
         Some(layout) => leaf_for(layout.leaves.as_slice(), con.con),
     }
