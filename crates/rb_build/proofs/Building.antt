@@ -3,9 +3,11 @@ use Rattle.std.proofs.Common.{◌≡◌, ℕ, zero, suc, ◌+◌, ◌*◌, ◌/�
 use Rattle.std.specs.Prelude.{slice_get, slice_index, unwrap_or}
 use Rattle.std.proofs.lemmas.Option.{same_Some, slice_get_within}
 use Rattle.std.proofs.lemmas.List.{length-map}
+use Rattle.std.proofs.Math.Nat.{mod-eq_of_lt}
+use Rattle.rb_rel.proofs.Reading.{same_nat}
 use Rattle.rb_core.specs.declared.value.Value.{Value, Con}
 use Rattle.rb_core.specs.declared.types.Ty.{Ty}
-use Rattle.rb_core.specs.declared.types.Ty.TheVariants.{Named}
+use Rattle.rb_core.specs.declared.types.Ty.TheVariants.{Int, Named}
 use Rattle.rb_core.specs.declared.types.ConRef.{ConRef}
 use Rattle.rb_core.specs.declared.outcome.Event.{Event}
 use Rattle.rb_core.specs.declared.outcome.Event.TheVariants.{Built}
@@ -14,7 +16,7 @@ use Rattle.rb_core.specs.Meaning.{Calls, built}
 use Rattle.rb_core.specs.TypedPrograms.{IsTyped}
 use Rattle.rb_core.specs.Values.{fields_of, part_at}
 use Rattle.rb_core.proofs.ValueLaws.{subs-Con}
-use Rattle.rb_bytes.specs.Memory.{Memory, IsGood, aligned}
+use Rattle.rb_bytes.specs.Memory.{Memory, IsGood, aligned, write_le}
 use Rattle.rb_bytes.specs.Growth.{Grown}
 use Rattle.rb_target.specs.declared.instr.Instr.{Instr}
 use Rattle.rb_target.specs.Growth.{AgreesBut, Nowhere}
@@ -32,14 +34,15 @@ use Rattle.rb_layout.specs.declared.layout.Part.{Part}
 use Rattle.rb_layout.specs.declared.layout.WordRef.{WordRef}
 use Rattle.rb_layout.specs.Agreement.{Agrees}
 use Rattle.rb_layout.specs.A4.{IsAlignment}
-use Rattle.rb_layout.specs.Flattening.{flat_layouts}
+use Rattle.rb_bits.specs.Words.{put_of}
+use Rattle.rb_layout.specs.Flattening.{flat_layouts, type_at}
 use Rattle.rb_layout.specs.Pointers.{PointsTo}
-use Rattle.rb_layout.specs.Positions.{Open, leaf_of, layout_of}
+use Rattle.rb_layout.specs.Positions.{Open, open_positions, leaf_of, layout_of}
 use Rattle.rb_layout.specs.Words.{flat_at, size_of, words_in, words_of_block}
 use Rattle.rb_rel.specs.Placing.{Laid, Fits, Over, blocks_in, blocks_of, lay, leaf_in, leaf_numbered, request_of}
 use Rattle.rb_rel.specs.Relation.{shape_length}
-use Rattle.rb_rel.proofs.Fitting.{WordFits}
-use Rattle.rb_rel.proofs.Layers.{address_at, can_hold, layer_shown, numbered, placed_at, pointer_fits, stored}
+use Rattle.rb_rel.proofs.Fitting.{KindFits, WordFits}
+use Rattle.rb_rel.proofs.Layers.{Sound, open_of, address_at, can_hold, layer_shown, numbered, placed_at, pointer_fits, stored}
 use Rattle.rb_rel.proofs.Packing.{number_of, packed}
 use Rattle.rb_rel.proofs.Storing.{laid_more, with_block, with_blocks, written}
 use Rattle.rb_fragment.specs.declared.held.Held.{Held}
@@ -49,16 +52,18 @@ use Rattle.rb_fragment.specs.Holding.{AllGiven, AreHeld, held_type}
 use Rattle.rb_fragment.specs.Fragments.{Applies, Comes, Fragment}
 use Rattle.rb_fragment.proofs.Laying.{event_fits, event_over}
 use Rattle.rb_fragment.proofs.Moves.{one-from}
+use Rattle.rb_fragment.proofs.Represented.{Rep-int}
 use Rattle.rb_fetch.proofs.Fitting.{readable_leaf, root_widths}
 use Rattle.rb_fetch.specs.Finding.{IsPlanOf}
 use Rattle.rb_fetch.specs.Plain.{ArePlain, IsPlain}
 use Rattle.rb_build.specs.Building.{Builds}
-use Rattle.rb_build.specs.inner.Code.{blocks_code, build_code, build_slots, capped, field_slots, leaf_code, leaf_for, leaf_slots, leaves_of, roots_code, root_slots}
+use Rattle.rb_build.specs.inner.Code.{blocks_code, build_code, build_slots, capped, field_slots, is_int, leaf_code, leaf_for, leaf_slots, leaves_of, whole_of}
 use Rattle.rb_build.proofs.Choosing.{Chosen, chosen}
 use Rattle.rb_build.proofs.Fits.{leaf_adds, roots_below, roots_count, roots_from}
-use Rattle.rb_build.proofs.Leaves.{plan, is_sound, leaf_ok, bits_at, word_at, open_field, index_at, held_at, held_many}
+use Rattle.rb_build.proofs.Leaves.{type_held, width_low, plan, is_sound, leaf_ok, bits_at, word_at, open_field, index_at, held_at, held_many}
 use Rattle.rb_build.proofs.Longer.{blocks_longer}
-use Rattle.rb_build.proofs.Numbers.{IsPut, bits_put, capped-is, composed, const_put, pointer_put, source_value, word_put}
+use Rattle.rb_build.proofs.Numbers.{bits_put, capped-is, composed, const_put, from_zero, is_a_range, pointer_put, put_whole, source_value, word_number, word_put}
+use Rattle.rb_build.proofs.Wholes.{HasWhole, is_whole}
 use Rattle.rb_build.proofs.Placing.{Ran, addresses, field, leaf_run, made}
 use Rattle.rb_build.proofs.Running.{Runs}
 
@@ -75,8 +80,8 @@ module _ (f g : FlatWord → ℕ) where
   same_written : (fs : List FlatWord) (at : ℕ) (bytes : List (Option ℕ)) → SameIn fs → written f fs at bytes ≡ written g fs at bytes
   same_written [] at bytes same = refl
   same_written (x ∷ fs) at bytes same =
-      same_written fs (at + x.width / 8) (Rattle.rb_bytes.specs.Memory.write_le bytes (x.width / 8) at (f x)) (λ j y e. same (suc j) y e)
-      ∙ ap (λ n. written g fs (at + x.width / 8) (Rattle.rb_bytes.specs.Memory.write_le bytes (x.width / 8) at n)) (same 0 x refl)
+      same_written fs (at + x.width / 8) (write_le bytes (x.width / 8) at (f x)) (λ j y e. same (suc j) y e)
+      ∙ ap (λ n. written g fs (at + x.width / 8) (write_le bytes (x.width / 8) at n)) (same 0 x refl)
 
   same_blocks : (xs : List Block) (m : Memory) → ((b : ℕ) (x : Block) → slice_get xs b ≡ Some x → SameIn x.words) → with_blocks f m xs ≡ with_blocks g m xs
   same_blocks [] m same = refl
@@ -107,8 +112,11 @@ module _ (p : Program) (typed : IsTyped p) (agrees : Agrees p) (bound : ℕ → 
   abbrev leaf : Leaf
   leaf = c.leaf
 
-  abbrev ok : Rattle.rb_rel.proofs.Layers.Sound p agrees leaf
+  abbrev ok : Sound p agrees leaf
   ok = is_sound p typed agrees bound con fields is_fields c n hs kinds given
+
+  abbrev opens : List Open
+  opens = open_positions p.types leaf.prov
 
   abbrev new : Sheet
   new = leaf_code hs leaf old
@@ -138,7 +146,7 @@ module _ (p : Program) (typed : IsTyped p) (agrees : Agrees p) (bound : ℕ → 
     is_leaf = c.is_leaf vs many
 
     -- the subvalue at an open position
-    sub_held : (k : ℕ) (o : Open) → slice_get (Rattle.rb_layout.specs.Positions.open_positions p.types leaf.prov) k ≡ Some o
+    sub_held : (k : ℕ) (o : Open) → slice_get opens k ≡ Some o
         → (u : Value) × (part_at (value vs) o.path ≡ Some u) × Rep the_plan m clean o.ty u (subs o.path)
     sub_held k o at =
         let f = open_field p typed agrees bound con fields is_fields c n hs kinds given k o at in
@@ -147,7 +155,7 @@ module _ (p : Program) (typed : IsTyped p) (agrees : Agrees p) (bound : ℕ → 
         let rep = subst (λ xs. Rep the_plan m clean f.held.ty h.0 (slots_at s xs)) (sym f.slots) h.2 in
         (h.0, part, subst (λ ty. Rep the_plan m clean ty h.0 (subs o.path)) f.kind rep)
 
-    reps : (k : ℕ) (o : Open) → slice_get (Rattle.rb_layout.specs.Positions.open_positions p.types leaf.prov) k ≡ Some o → (u : Value) × Rep the_plan m clean o.ty u (subs o.path)
+    reps : (k : ℕ) (o : Open) → slice_get opens k ≡ Some o → (u : Value) × Rep the_plan m clean o.ty u (subs o.path)
     reps k o at = let h = sub_held k o at in (h.0, h.2)
 
     asked : blocks_of (flat_layouts p) con.ty (value vs) ≡ map request_of leaf.blocks
@@ -155,6 +163,9 @@ module _ (p : Program) (typed : IsTyped p) (agrees : Agrees p) (bound : ℕ → 
         ap (λ o. blocks_in (leaf_in o (value vs))) c.is_layout ∙ ap (λ o. blocks_in (leaf_numbered c.layout.leaves o)) is_leaf ∙ ap blocks_in c.is_number
 
     module _ (final : List Instr) (callee : Callee) (next : Next) (law : Law final callee next) where
+      abbrev reading : List ℕ → ℕ → ℕ
+      reading = field final callee next law hs ats n s
+
       abbrev run_made : FlatWord → ℕ
       run_made = made final callee next law hs ats n s
 
@@ -175,38 +186,78 @@ module _ (p : Program) (typed : IsTyped p) (agrees : Agrees p) (bound : ℕ → 
             let low : at b < 18446744073709551616 = omega (arith, within, limit, (ok.are b x is).some) in
             (same, subst (λ i. i < 18446744073709551616) (sym same) low)
 
-        put_value : (r : WordRef) (f : FlatWord) (k : ℕ) (q : Part) → flat_at leaf r ≡ Some f → slice_get f.parts k ≡ Some q → WordFits p.layouts (Rattle.rb_layout.specs.Positions.open_positions p.types leaf.prov) f → q.l ≤ 64 → number_of subs at q.l q.kind < 2 ^ q.l
-            → (kind : Kind) → q.kind ≡ kind → source_value (field final callee next law hs ats n s) ats q.l kind % 2 ^ q.l ≡ number_of subs at q.l kind
-        put_value r f k q is part fits low small (Const x) e = const_put (field final callee next law hs ats n s) ats subs at q.l x (subst (λ (y : Kind). number_of subs at q.l y < 2 ^ q.l) e small)
+        put_value : (r : WordRef) (f : FlatWord) (k : ℕ) (q : Part) → flat_at leaf r ≡ Some f → slice_get f.parts k ≡ Some q → WordFits p.layouts opens f → q.l ≤ 64 → number_of subs at q.l q.kind < 2 ^ q.l
+            → (kind : Kind) → q.kind ≡ kind → source_value reading ats q.l kind % 2 ^ q.l ≡ number_of subs at q.l kind
+        put_value r f k q is part fits low small (Const x) e = const_put reading ats subs at q.l x (subst (λ (y : Kind). number_of subs at q.l y < 2 ^ q.l) e small)
         put_value r f k q is part fits low small (Bits path a) e =
-            let b = bits_at p typed agrees bound con fields is_fields c n hs kinds given q.l a path (subst (λ (y : Kind). Rattle.rb_rel.proofs.Fitting.KindFits p.layouts (Rattle.rb_layout.specs.Positions.open_positions p.types leaf.prov) q.l y) e (fits.kinds k q part)) in
+            let b = bits_at p typed agrees bound con fields is_fields c n hs kinds given q.l a path (subst (λ (y : Kind). KindFits p.layouts opens q.l y) e (fits.kinds k q part)) in
             let le = b.0 in
-            bits_put (field final callee next law hs ats n s) ats subs at q.l a path (omega (arith, le)) low (index_at s (field_slots hs path) 0 b.1)
+            bits_put reading ats subs at q.l a path (omega (arith, le)) low (index_at s (field_slots hs path) 0 b.1)
         put_value r f k q is part fits low small (Word path j) e =
-            let b = word_at p typed agrees bound con fields is_fields c n hs kinds given q.l j path (subst (λ (y : Kind). Rattle.rb_rel.proofs.Fitting.KindFits p.layouts (Rattle.rb_layout.specs.Positions.open_positions p.types leaf.prov) q.l y) e (fits.kinds k q part)) in
-            word_put (field final callee next law hs ats n s) ats subs at q.l j path (subst (λ (y : Kind). number_of subs at q.l y < 2 ^ q.l) e small) (index_at s (field_slots hs path) j b.0)
+            let b = word_at p typed agrees bound con fields is_fields c n hs kinds given q.l j path (subst (λ (y : Kind). KindFits p.layouts opens q.l y) e (fits.kinds k q part)) in
+            word_put reading ats subs at q.l j path (subst (λ (y : Kind). number_of subs at q.l y < 2 ^ q.l) e small) (index_at s (field_slots hs path) j b.0)
         put_value r f k q is part fits low small (Pointer align x) e =
             let points : PointsTo leaf r q.l align x = record { word = f; number = k; part = q; is_word = is; is_part = part; is_length = refl; is_pointer = e } in
             let to = (ok.flat.below r q.l align x points).0 in
             let a = same_address x to.0 to.1 in
-            pointer_put (field final callee next law hs ats n s) ats subs at q.l align x (wide r q.l align x points).0 a.0 a.1 (subst (λ (y : Kind). number_of subs at q.l y < 2 ^ q.l) e small)
+            pointer_put reading ats subs at q.l align x (wide r q.l align x points).0 a.0 a.1 (subst (λ (y : Kind). number_of subs at q.l y < 2 ^ q.l) e small)
 
-        -- each word is what its parts pack
-        word_same : (r : WordRef) (f : FlatWord) → flat_at leaf r ≡ Some f → f.width ≤ 64 → WordFits p.layouts (Rattle.rb_layout.specs.Positions.open_positions p.types leaf.prov) f → run_made f ≡ packs f
-        word_same r f is low fits =
+        -- a number of a field fits the field's bits
+        int_low : (path : List ℕ) (bits : ℕ) → type_at opens path ≡ Some (Int bits) → slice_index (subs path) 0 < 2 ^ bits
+        int_low path bits e =
+            let o = open_of opens path (Int bits) e in
+            let h = sub_held o.0 o.1 o.2 in
+            let rep = subst (λ ty. Rep the_plan m clean ty h.0 (subs path)) o.4 (subst (λ q. Rep the_plan m clean o.1.ty h.0 (subs q)) o.3 h.2) in
+            let x = Rep-int the_plan clean m bits h.0 (subs path) rep in
+            subst (λ i. i < 2 ^ bits) (sym (ap (λ ws. slice_index ws 0) x.2)) x.3
+
+        -- a field's word that a word has whole is what its part packs
+        whole_value : (l : ℕ) (kind : Kind) (w : List ℕ × ℕ) → HasWhole hs l kind w → KindFits p.layouts opens l kind → reading w.0 w.1 ≡ number_of subs at l kind
+        whole_value l kind w (inl h) fits =
+            let b = word_at p typed agrees bound con fields is_fields c n hs kinds given l w.1 w.0 (subst (KindFits p.layouts opens l) h fits) in
+            index_at s (field_slots hs w.0) w.1 b.0 ∙ ap (number_of subs at l) (sym h)
+        whole_value l kind w (inr h) fits =
+            let f = subst (KindFits p.layouts opens l) h.0 fits in
+            let b = bits_at p typed agrees bound con fields is_fields c n hs kinds given l 0 w.0 f in
+            let x = slice_index (subs w.0) 0 in
+            let ty = type_held p typed agrees bound con fields is_fields c n hs kinds given w.0 (Int f.0) f.1 in
+            let same : f.0 ≡ l = same_nat f.0 l (ap (is_int l) (sym ty) ∙ h.2) in
+            let low : x < 2 ^ l = subst (λ i. x < 2 ^ i) same (int_low w.0 f.0 f.1) in
+            ap (reading w.0) h.1 ∙ index_at s (field_slots hs w.0) 0 b.1 ∙ sym (from_zero x l ∙ mod-eq_of_lt low) ∙ ap (number_of subs at l) (sym h.0)
+
+        whole_same : (f : FlatWord) → WordFits p.layouts opens f → (w : List ℕ × ℕ) → whole_of hs f.parts ≡ Some w → reading w.0 w.1 ≡ packed subs at f.parts
+        whole_same f fits w e =
+            let h = is_whole hs f.parts w e in
+            let q = h.part in
+            whole_value q.l q.kind w h.has (fits.kinds 0 q (ap (λ xs. slice_get xs 0) h.only))
+            ∙ sym (ap (packed subs at) h.only ∙ ap (λ o. put_of 0 o q.l (number_of subs at q.l q.kind)) h.first ∙ put_whole q.l (number_of subs at q.l q.kind))
+
+        -- a composed word is what its parts pack
+        parts_same : (r : WordRef) (f : FlatWord) → flat_at leaf r ≡ Some f → f.width ≤ 64 → WordFits p.layouts opens f → word_number reading ats None f.parts ≡ packed subs at f.parts
+        parts_same r f is low fits =
             let can = can_hold p agrees clean con.ty c.layout c.number leaf ok m good subs reps wide bs top laid r f is fits in
-            composed (field final callee next law hs ats n s) ats subs at f.parts
+            composed reading ats subs at f.parts
+            (λ k q part.
+            let inside = fits.tidy.inside k q part in
+            let some = fits.some k q part in
+            is_a_range (capped q.o) (capped q.l) (omega (arith, some)) (omega (arith, inside, low)))
             (λ k q part.
             let inside = fits.tidy.inside k q part in
             let few : q.l ≤ 64 = omega (arith, inside, low) in
-            let long = capped-is q.l few in
             record {
               first = capped-is q.o (omega (arith, inside, low));
-              long = long;
+              long = capped-is q.l few;
               fits = can.fit k q part;
               value = put_value r f k q is part fits few (can.fit k q part) q.kind refl;
             })
             fits.tidy.apart
+
+        word_same : (r : WordRef) (f : FlatWord) → flat_at leaf r ≡ Some f → f.width ≤ 64 → WordFits p.layouts opens f → run_made f ≡ packs f
+        word_same r f is low fits = go (whole_of hs f.parts) refl
+          where
+            go : (o : Option (List ℕ × ℕ)) → whole_of hs f.parts ≡ o → word_number reading ats o f.parts ≡ packed subs at f.parts
+            go None e = parts_same r f is low fits
+            go (Some w) e = whole_same f fits w e
 
         root_same : (j : ℕ) (f : FlatWord) → slice_get leaf.root j ≡ Some f → run_made f ≡ packs f
         root_same j f e = word_same (record { block = None; word = j }) f e ((readable_leaf p typed agrees con.ty c.layout c.number leaf c.is_layout c.is_number).root j f e) (ok.root j f e)
@@ -214,7 +265,7 @@ module _ (p : Program) (typed : IsTyped p) (agrees : Agrees p) (bound : ℕ → 
         block_same : (b : ℕ) (x : Block) → slice_get leaf.blocks b ≡ Some x → (j : ℕ) (f : FlatWord) → slice_get x.words j ≡ Some f → run_made f ≡ packs f
         block_same b x is j f e =
             let a4 = agrees.a4 con.ty c.layout c.number leaf c.is_layout c.is_number in
-            word_same (record { block = Some b; word = j }) f (ap (λ y. slice_get (words_of_block y) j) is ∙ e) (Rattle.rb_build.proofs.Leaves.width_low f.width (a4.widths b x j f is e)) (ok.inner b x is j f e)
+            word_same (record { block = Some b; word = j }) f (ap (λ y. slice_get (words_of_block y) j) is ∙ e) (width_low f.width (a4.widths b x j f is e)) (ok.inner b x is j f e)
 
         memory_same : (stored p agrees clean con.ty c.layout c.number leaf ok m good subs reps wide bs top laid).memory ≡ with_blocks run_made m leaf.blocks
         memory_same = (stored p agrees clean con.ty c.layout c.number leaf ok m good subs reps wide bs top laid).is_filled ∙ sym (same_blocks run_made packs leaf.blocks m block_same)

@@ -1,6 +1,6 @@
 -- What the code of a construction demands of a leaf, and that it is fitting then.
-use Rattle.std.proofs.Common.{◌≡◌, ℕ, zero, suc, ◌+◌, ◌-◌, ◌/◌, ◌^◌, ◌<◌, ◌≤◌, ◌⊎◌, inl, inr, List, [], ◌∷◌, ◌++◌, length, Some, refl, sym, subst, ap, ◌∙◌, arith, length-append}
-use Rattle.std.specs.Prelude.{slice_get, slice_index}
+use Rattle.std.proofs.Common.{◌≡◌, ℕ, zero, suc, ◌+◌, ◌-◌, ◌/◌, ◌^◌, ◌<◌, ◌≤◌, ◌==◌, ◌⊎◌, inl, inr, Bool, true, false, List, [], ◌∷◌, ◌++◌, length, Option, Some, None, refl, sym, subst, ap, ◌∙◌, arith, length-append}
+use Rattle.std.specs.Prelude.{slice_get, slice_index, if◌then◌else◌}
 use Rattle.std.proofs.lemmas.Bool.{cases_lt}
 use Rattle.rb_bits.specs.Words.{IsRange}
 use Rattle.rb_bytes.specs.Memory.{IsAlign, IsSize}
@@ -21,9 +21,10 @@ use Rattle.rb_fragment.specs.Slots.{AllBelow, AllFrom}
 use Rattle.rb_fragment.proofs.Adding.{Adds-one, Adds-refl, Adds-trans, push_adds}
 use Rattle.rb_fragment.proofs.Holds.{AllBelow-more}
 use Rattle.rb_rel.proofs.Storing.{IsBlock}
-use Rattle.rb_build.specs.inner.Code.{capped, field_slots, shift_of, source_code, source_slot, part_code, parts_code, word_code, stores_code, block_code, blocks_code, roots_code, root_slots, leaf_code, leaf_slots}
-use Rattle.rb_build.proofs.Longer.{IsLonger, source_longer, part_longer, parts_longer, word_longer, store_longer, stores_longer, block_longer, blocks_longer, roots_longer}
-use Rattle.rb_build.proofs.Numbers.{shift_small}
+use Rattle.rb_build.specs.inner.Code.{block_code, blocks_code, capped, constants, field_slots, kind_code, leaf_code, parts_code, put_code, root_code, root_slots, roots_code, shift_of, slot_of, stores_code, taken_code, taken_slot, value_code, value_slot, whole_of, whole_slot, word_code}
+use Rattle.rb_build.proofs.Longer.{block_longer, blocks_longer, fresh_root, fresh_word, kind_longer, root_longer, roots_longer, stores_longer, taken_longer, value_longer}
+use Rattle.rb_build.proofs.Numbers.{constants_small, shift_small}
+use Rattle.rb_build.proofs.Wholes.{HasWhole, is_whole}
 
 -- The address slots of blocks --------------------------------------------------------------------
 
@@ -63,7 +64,7 @@ module _ (hs : List Held) where
   Uses n count (Pointer align x) = x < count
 
   abbrev pub IsMade : ℕ → Kind → Type 0
-  IsMade l (Const c) = c < 2 ^ 64
+  IsMade l (Const c) = Unit {0}
   IsMade l (Bits path a) = IsRange (capped a) (capped l)
   IsMade l (Word path j) = Unit {0}
   IsMade l (Pointer align x) = Unit {0}
@@ -95,46 +96,62 @@ module _ (hs : List Held) where
   -- Fitting code ---------------------------------------------------------------------------------
 
   module _ (plan : Plan) (n : ℕ) (blocks : List ℕ) where
-    source_adds : (l : ℕ) (kind : Kind) (b : Sheet) → n ≤ b.slots → SlotsBelow blocks b.slots → Uses n (length blocks) kind → IsMade l kind
-        → Adds plan b (source_code hs blocks l kind b) × (source_slot hs kind b.slots < (source_code hs blocks l kind b).slots)
-    source_adds l (Const c) b le low u made =
-        (Adds-one plan b (I.Const b.slots c) (0, omega arith, refl) (record { bounded = made; slots_fit = omega arith; targets = tt; calls = tt }), omega arith)
-    source_adds l (Bits path a) b le low u made = (
-      Adds-one plan b (I.Take b.slots (slice_index (field_slots hs path) 0) (capped a) (capped l)) (0, omega arith, refl)
-      (record { bounded = made; slots_fit = (omega arith, omega (arith, le, u)); targets = tt; calls = tt }),
-      omega arith,
-    )
-    source_adds l (Word path j) b le low u made = (Adds-refl plan b, omega (arith, le, u))
-    source_adds l (Pointer align x) b le low u made =
-        let small = shift_small align in
-        let lt = low x u in (
-          Adds-one plan b (I.Take b.slots (slice_index blocks x) (shift_of align) (64 - shift_of align)) (0, omega arith, refl)
-          (record { bounded = (omega (arith, small), omega (arith, small)); slots_fit = (omega arith, omega (arith, lt)); targets = tt; calls = tt }),
-          omega arith,
-        )
+    taken_adds : (x o l : ℕ) (b : Sheet) → x < b.slots → IsRange o l → Adds plan b (taken_code x o l b) × (taken_slot x o b.slots < (taken_code x o l b).slots)
+    taken_adds x o l b lt range = elim (o == 0) as (λ t. Adds plan b (if t then b else pushed (with_slot b) (I.Take b.slots x o l)) × ((if t then x else b.slots) < (if t then b else pushed (with_slot b) (I.Take b.slots x o l)).slots)) [
+      | true ↦ (Adds-refl plan b, lt)
+      | false ↦ (Adds-one plan b (I.Take b.slots x o l) (0, omega arith, refl) (record { bounded = range; slots_fit = (omega arith, omega (arith, lt)); targets = tt; calls = tt }), omega arith)
+    ]
 
-    part_adds : (d : ℕ) (p : Part) (b : Sheet) → d < b.slots → n ≤ b.slots → SlotsBelow blocks b.slots → PartOk n (length blocks) p → Adds plan b (part_code hs blocks d p b)
-    part_adds d p b lt le low ok =
-        let c = source_code hs blocks p.l p.kind b in
-        let first = source_adds p.l p.kind b le low ok.uses ok.made in
-        let more = (source_longer hs blocks p.l p.kind b).more in
-        Adds-trans plan b c (part_code hs blocks d p b) first.0
-        (push_adds plan c (I.Put d (source_slot hs p.kind b.slots) (capped p.o) (capped p.l)) (record { bounded = ok.range; slots_fit = (omega (arith, lt, more), first.1); targets = tt; calls = tt }))
+    put_adds : (d x from long : ℕ) (p : Part) (b : Sheet) → d < b.slots → x < b.slots → IsRange from long → IsRange (capped p.o) (capped p.l) → Adds plan b (put_code d x from long p b)
+    put_adds d x from long p b ld lx taken put =
+        let c = taken_code x from long b in
+        let first = taken_adds x from long b lx taken in
+        let more = (taken_longer x from long b).more in
+        Adds-trans plan b c (put_code d x from long p b) first.0
+        (push_adds plan c (I.Put d (taken_slot x from b.slots) (capped p.o) (capped p.l)) (record { bounded = put; slots_fit = (omega (arith, ld, more), first.1); targets = tt; calls = tt }))
+
+    kind_adds : (d : ℕ) (p : Part) (kind : Kind) (b : Sheet) → d < b.slots → n ≤ b.slots → SlotsBelow blocks b.slots → Uses n (length blocks) kind → IsMade p.l kind → IsRange (capped p.o) (capped p.l) → Adds plan b (kind_code hs blocks d p kind b)
+    kind_adds d p (Const c) b lt le low u made range = Adds-refl plan b
+    kind_adds d p (Bits path a) b lt le low u made range = put_adds d (slice_index (field_slots hs path) 0) (capped a) (capped p.l) p b lt (omega (arith, le, u)) made range
+    kind_adds d p (Word path j) b lt le low u made range = put_adds d (slice_index (field_slots hs path) j) 0 64 p b lt (omega (arith, le, u)) (omega arith, omega arith) range
+    kind_adds d p (Pointer align x) b lt le low u made range =
+        let small = shift_small align in put_adds d (slice_index blocks x) (shift_of align) (64 - shift_of align) p b lt (low x u) (omega (arith, small), omega (arith, small)) range
 
     parts_adds : (d : ℕ) (ps : List Part) (b : Sheet) → d < b.slots → n ≤ b.slots → SlotsBelow blocks b.slots → PartsOk n (length blocks) ps → Adds plan b (parts_code hs blocks d ps b)
     parts_adds d [] b lt le low ok = Adds-refl plan b
     parts_adds d (p ∷ ps) b lt le low ok =
-        let c = part_code hs blocks d p b in
-        let more = (part_longer hs blocks d p b).more in
-        Adds-trans plan b c (parts_code hs blocks d ps c) (part_adds d p b lt le low (ok 0 p refl))
+        let c = kind_code hs blocks d p p.kind b in
+        let more = (kind_longer hs blocks d p p.kind b).more in
+        let part = ok 0 p refl in
+        Adds-trans plan b c (parts_code hs blocks d ps c) (kind_adds d p p.kind b lt le low part.uses part.made part.range)
         (parts_adds d ps c (omega (arith, lt, more)) (omega (arith, le, more)) (slots_below_more blocks b.slots c.slots more low) (λ k q e. ok (suc k) q e))
 
-    pub word_adds : (ps : List Part) (b : Sheet) → n ≤ b.slots → SlotsBelow blocks b.slots → PartsOk n (length blocks) ps → Adds plan b (word_code hs blocks ps b)
+    word_adds : (ps : List Part) (b : Sheet) → n ≤ b.slots → SlotsBelow blocks b.slots → PartsOk n (length blocks) ps → Adds plan b (word_code hs blocks ps b)
     word_adds ps b le low ok =
-        let c = pushed (with_slot b) (I.Const b.slots 0) in
+        let k = constants 0 ps in
+        let c = pushed (with_slot b) (I.Const b.slots k) in
         Adds-trans plan b c (word_code hs blocks ps b)
-        (Adds-one plan b (I.Const b.slots 0) (0, omega arith, refl) (record { bounded = omega arith; slots_fit = omega arith; targets = tt; calls = tt }))
+        (Adds-one plan b (I.Const b.slots k) (0, omega arith, refl) (record { bounded = constants_small ps 0 (omega arith); slots_fit = omega arith; targets = tt; calls = tt }))
         (parts_adds b.slots ps c (omega arith) (omega (arith, le)) (slots_below_more blocks b.slots c.slots (omega arith) low) ok)
+
+    -- a field's word that is a word whole is in a slot below n
+    whole_below : (ps : List Part) (w : List ℕ × ℕ) → whole_of hs ps ≡ Some w → PartsOk n (length blocks) ps → slice_index (field_slots hs w.0) w.1 < n
+    whole_below ps w e ok = let h = is_whole hs ps w e in by h.part.l h.part.kind h.has (ok 0 h.part (ap (λ xs. slice_get xs 0) h.only)).uses
+      where
+        by : (l : ℕ) (kind : Kind) → HasWhole hs l kind w → Uses n (length blocks) kind → slice_index (field_slots hs w.0) w.1 < n
+        by l kind (inl h) u = subst (Uses n (length blocks)) h u
+        by l kind (inr h) u = let v : slice_index (field_slots hs w.0) 0 < n = subst (Uses n (length blocks)) h.0 u in subst (λ j. slice_index (field_slots hs w.0) j < n) (sym h.1) v
+
+    value_adds : (o : Option (List ℕ × ℕ)) (ps : List Part) (b : Sheet) → whole_of hs ps ≡ o → n ≤ b.slots → SlotsBelow blocks b.slots → PartsOk n (length blocks) ps
+        → Adds plan b (value_code (slot_of hs o) hs blocks ps b) × (value_slot (slot_of hs o) b.slots < (value_code (slot_of hs o) hs blocks ps b).slots)
+    value_adds None ps b e le low ok = (word_adds ps b le low ok, fresh_word hs blocks ps b)
+    value_adds (Some w) ps b e le low ok = (Adds-refl plan b, (let lt = whole_below ps w e ok in omega (arith, lt, le)))
+
+    root_adds : (o : Option (List ℕ × ℕ)) (ps : List Part) (b : Sheet) → whole_of hs ps ≡ o → n ≤ b.slots → SlotsBelow blocks b.slots → PartsOk n (length blocks) ps → Adds plan b (root_code (slot_of hs o) hs blocks ps b)
+    root_adds None ps b e le low ok = word_adds ps b le low ok
+    root_adds (Some w) ps b e le low ok =
+        let lt = whole_below ps w e ok in
+        Adds-one plan b (I.Copy b.slots (slice_index (field_slots hs w.0) w.1)) (0, omega arith, refl) (record { bounded = tt; slots_fit = (omega arith, omega (arith, lt, le)); targets = tt; calls = tt })
 
     byte_some : (w : ℕ) → IsBlockWidth w → 1 ≤ w / 8
     byte_some w (inl e) = omega (arith, e)
@@ -152,15 +169,16 @@ module _ (hs : List Held) where
         → ((k : ℕ) (f : FlatWord) → slice_get fs k ≡ Some f → IsBlockWidth f.width) → WordsOk n (length blocks) fs → Adds plan b (stores_code hs blocks a fs at b)
     stores_adds a [] at b lt le low room wide ok = Adds-refl plan b
     stores_adds a (f ∷ fs) at b lt le low room wide ok =
-        let c = word_code hs blocks f.parts b in
-        let store = I.Store a at (capped f.width) b.slots in
+        let o = whole_of hs f.parts in
+        let c = value_code (slot_of hs o) hs blocks f.parts b in
+        let store = I.Store a at (capped f.width) (value_slot (slot_of hs o) b.slots) in
         let d = pushed c store in
-        let more = (word_longer hs blocks f.parts b).more in
-        let fresh = (parts_longer hs blocks b.slots f.parts (pushed (with_slot b) (I.Const b.slots 0))).more in
+        let more = (value_longer hs (slot_of hs o) blocks f.parts b).more in
         let some = byte_some f.width (wide 0 f refl) in
-        Adds-trans plan b c (stores_code hs blocks a (f ∷ fs) at b) (word_adds f.parts b le low (ok 0 f refl))
+        let value = value_adds o f.parts b refl le low (ok 0 f refl) in
+        Adds-trans plan b c (stores_code hs blocks a (f ∷ fs) at b) value.0
         (Adds-trans plan c d (stores_code hs blocks a (f ∷ fs) at b)
-        (push_adds plan c store (record { bounded = (omega (arith, room, some), capped_width f.width (wide 0 f refl)); slots_fit = (omega (arith, lt, more), omega (arith, fresh)); targets = tt; calls = tt }))
+        (push_adds plan c store (record { bounded = (omega (arith, room, some), capped_width f.width (wide 0 f refl)); slots_fit = (omega (arith, lt, more), value.1); targets = tt; calls = tt }))
         (stores_adds a fs (at + f.width / 8) d (omega (arith, lt, more)) (omega (arith, le, more)) (slots_below_more blocks b.slots d.slots more low) (omega (arith, room)) (λ k g e. wide (suc k) g e) (λ k g e. ok (suc k) g e)))
 
     block_adds : (x : Block) (b : Sheet) → n ≤ b.slots → SlotsBelow blocks b.slots → BlockOk n (length blocks) x → Adds plan b (block_code hs blocks x b)
@@ -175,9 +193,10 @@ module _ (hs : List Held) where
     roots_adds : (fs : List FlatWord) (b : Sheet) → n ≤ b.slots → SlotsBelow blocks b.slots → WordsOk n (length blocks) fs → Adds plan b (roots_code hs blocks fs b)
     roots_adds [] b le low ok = Adds-refl plan b
     roots_adds (f ∷ fs) b le low ok =
-        let c = word_code hs blocks f.parts b in
-        let more = (word_longer hs blocks f.parts b).more in
-        Adds-trans plan b c (roots_code hs blocks fs c) (word_adds f.parts b le low (ok 0 f refl))
+        let o = whole_of hs f.parts in
+        let c = root_code (slot_of hs o) hs blocks f.parts b in
+        let more = (root_longer hs (slot_of hs o) blocks f.parts b).more in
+        Adds-trans plan b c (roots_code hs blocks fs c) (root_adds o f.parts b refl le low (ok 0 f refl))
         (roots_adds fs c (omega (arith, le, more)) (slots_below_more blocks b.slots c.slots more low) (λ k g e. ok (suc k) g e))
 
   pub blocks_more : (n : ℕ) (blocks : List ℕ) (d : ℕ) (x : Block) (xs : List Block) → BlocksOk n (length blocks) (x ∷ xs) → BlocksOk n (length (blocks ++ d ∷ [])) xs
@@ -222,14 +241,15 @@ module _ (hs : List Held) where
   pub roots_below : (blocks : List ℕ) (fs : List FlatWord) (b : Sheet) → AllBelow (roots_code hs blocks fs b).slots (root_slots hs blocks fs b)
   roots_below blocks [] b = tt
   roots_below blocks (f ∷ fs) b =
-      let c = word_code hs blocks f.parts b in
-      let fresh = (parts_longer hs blocks b.slots f.parts (pushed (with_slot b) (I.Const b.slots 0))).more in
+      let c = root_code (whole_slot hs f.parts) hs blocks f.parts b in
+      let fresh = fresh_root hs (whole_slot hs f.parts) blocks f.parts b in
       let more = (roots_longer hs blocks fs c).more in (omega (arith, fresh, more), roots_below blocks fs c)
 
   pub roots_from : (blocks : List ℕ) (n : ℕ) (fs : List FlatWord) (b : Sheet) → n ≤ b.slots → AllFrom n (root_slots hs blocks fs b)
   roots_from blocks n [] b le = tt
-  roots_from blocks n (f ∷ fs) b le = let more = (word_longer hs blocks f.parts b).more in (le, roots_from blocks n fs (word_code hs blocks f.parts b) (omega (arith, le, more)))
+  roots_from blocks n (f ∷ fs) b le =
+      let more = (root_longer hs (whole_slot hs f.parts) blocks f.parts b).more in (le, roots_from blocks n fs (root_code (whole_slot hs f.parts) hs blocks f.parts b) (omega (arith, le, more)))
 
   pub roots_count : (blocks : List ℕ) (fs : List FlatWord) (b : Sheet) → length (root_slots hs blocks fs b) ≡ length fs
   roots_count blocks [] b = refl
-  roots_count blocks (f ∷ fs) b = ap suc (roots_count blocks fs (word_code hs blocks f.parts b))
+  roots_count blocks (f ∷ fs) b = ap suc (roots_count blocks fs (root_code (whole_slot hs f.parts) hs blocks f.parts b))

@@ -4,7 +4,6 @@ use Rattle.std.specs.Prelude.{slice_get, slice_index, nat_lt}
 use Rattle.std.specs.List.{list_all}
 use Rattle.std.proofs.lemmas.Option.{same_Some, slice_get_within}
 use Rattle.std.proofs.lemmas.Grind.{common_steps}
-use Rattle.std.proofs.Math.Pow.{pow_mono}
 use Rattle.rb_core.specs.declared.types.Ty.{Ty}
 use Rattle.rb_core.specs.declared.types.Ty.TheVariants.{Int, Named}
 use Rattle.rb_core.specs.declared.types.ConRef.{ConRef}
@@ -42,7 +41,7 @@ use Rattle.rb_fragment.specs.Holding.{AllGiven, AreHeld, held_type}
 use Rattle.rb_fragment.specs.Plan.{Plan, Rep, words_of}
 use Rattle.rb_fragment.specs.Slots.{AllBelow}
 use Rattle.rb_fetch.proofs.Fitting.{readable_leaf}
-use Rattle.rb_build.specs.inner.Code.{capped, field_slots, held_slots, slots_under}
+use Rattle.rb_build.specs.inner.Code.{capped, field_slots, field_type, held_slots, held_type_in}
 use Rattle.rb_build.proofs.Choosing.{Chosen}
 use Rattle.rb_build.proofs.Fits.{Uses, IsMade, PartOk, PartsOk, WordsOk, BlockOk, LeafOk}
 use Rattle.rb_build.proofs.Numbers.{capped-is}
@@ -148,6 +147,11 @@ module _ (p : Program) (typed : IsTyped p) (agrees : Agrees p) (bound : ℕ → 
         let o = open_of opens path ty e in
         subst (λ t. FieldAt path t) o.4 (subst (λ q. FieldAt q o.1.ty) o.3 (open_field o.0 o.1 o.2))
 
+    pub type_held : (path : List ℕ) (ty : Ty) → type_at opens path ≡ Some ty → field_type hs path ≡ Some ty
+    type_held path ty e =
+        let at = field_at path ty e in
+        ap (field_type hs) at.is_path ∙ ap held_type_in at.is_held ∙ ap Some at.kind
+
     is_declared : (j : ℕ) (ty : Ty) → slice_get fields j ≡ Some ty → is_type p.types ty ≡ true
     is_declared j ty e = all_at (is_type p.types) fields j ty (ap (λ o. list_all (is_type p.types) (types_or_none o)) (sym is_fields) ∙ fields_typed p.types typed.numbered.types con) e
 
@@ -187,7 +191,7 @@ module _ (p : Program) (typed : IsTyped p) (agrees : Agrees p) (bound : ℕ → 
     uses count l (Pointer align x) f pointers = pointers align x refl
 
     made : (l : ℕ) (kind : Kind) → 1 ≤ l → l ≤ 64 → Kinds l kind → IsMade hs l kind
-    made l (Const k) some low f = let most : 2 ^ l ≤ 2 ^ 64 = pow_mono low in omega (arith, f, most)
+    made l (Const k) some low f = tt
     made l (Bits path a) some low f = let small = (bits_at l a path f).0 in (omega (arith, some, small), omega (arith, small))
     made l (Word path j) some low f = tt
     made l (Pointer align x) some low f = tt

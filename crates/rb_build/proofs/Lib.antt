@@ -1,5 +1,6 @@
 pub mod Numbers
 pub mod Longer
+pub mod Wholes
 pub mod Running
 pub mod Fits
 pub mod Placing

@@ -1,5 +1,5 @@
 -- What the code of a construction does, run from any slots.
-use Rattle.std.proofs.Common.{◌≡◌, ◌≢◌, ℕ, zero, suc, ◌+◌, ◌-◌, ◌*◌, ◌/◌, ◌%◌, ◌^◌, ◌<◌, ◌≤◌, inl, inr, leb, Bool, true, false, map, List, [], ◌∷◌, ◌++◌, length, Option, Some, None, Result, Ok, Err, refl, sym, subst, ap, ◌∙◌, arith, length-append}
+use Rattle.std.proofs.Common.{◌≡◌, ◌≢◌, ℕ, zero, suc, ◌+◌, ◌-◌, ◌*◌, ◌/◌, ◌%◌, ◌^◌, ◌<◌, ◌≤◌, ◌==◌, inl, inr, leb, Bool, true, false, map, List, [], ◌∷◌, ◌++◌, length, Option, Some, None, Result, Ok, Err, refl, sym, subst, ap, ◌∙◌, arith, length-append}
 use Rattle.std.specs.Prelude.{slice_get, slice_index, slice_set, if◌then◌else◌}
 use Rattle.std.proofs.lemmas.Bool.Decides.{leb_tells}
 use Rattle.rb_bits.specs.Words.{take_of, put_of}
@@ -27,9 +27,10 @@ use Rattle.rb_fragment.specs.declared.held.Held.{Held}
 use Rattle.rb_fragment.proofs.Steps.{set_same, set_other}
 use Rattle.rb_rel.specs.Placing.{Laid, Fits, Over, Request, request_of, behind, lay}
 use Rattle.rb_rel.proofs.Storing.{IsBlock, written, with_block, with_blocks, above, filled_good}
-use Rattle.rb_build.specs.inner.Code.{capped, field_slots, shift_of, source_code, source_slot, part_code, parts_code, word_code, stores_code, block_code, blocks_code, roots_code, root_slots}
-use Rattle.rb_build.proofs.Longer.{IsLonger, longer-refl, longer-fresh, longer-push, source_longer, part_longer, parts_longer, word_longer, store_longer, stores_longer, block_longer, blocks_longer, roots_longer}
-use Rattle.rb_build.proofs.Numbers.{capped-is, source_value, with_part, with_parts}
+use Rattle.rb_build.specs.inner.Code.{block_code, blocks_code, capped, constants, field_slots, kind_code, parts_code, put_code, root_code, root_slots, roots_code, shift_of, slot_of, stores_code, taken_code, taken_slot, value_code, value_slot, whole_of, word_code}
+use Rattle.rb_build.proofs.Longer.{IsLonger, fresh_root, kind_longer, longer-fresh, longer-push, parts_longer, root_longer, roots_longer, store_longer, stored_code, stores_longer, taken_longer, value_longer}
+use Rattle.rb_build.proofs.Numbers.{other_kind, others, taken_value, word_number}
+use Rattle.rb_build.proofs.Wholes.{HasWhole, is_whole}
 
 -- the finished code has what stands from the end of b to that of c
 abbrev pub Stands : List Instr → Sheet → Sheet → Type 0
@@ -145,84 +146,115 @@ module _ (final : List Instr) (callee : Callee) (next : Next) (law : Law final c
     AllTell blocks s ps = (k : ℕ) (p : Part) → slice_get ps k ≡ Some p → Tells blocks s p.kind
 
     abbrev pub number : FlatWord → ℕ
-    number f = with_parts field ats 0 f.parts
+    number f = word_number field ats (whole_of hs f.parts) f.parts
+
+    -- bits of a slot from bit 0 of a slot on
+    taken_by : (t : Bool) (x from long v : ℕ) (b : Sheet) (s : List ℕ) (w : World) (m : Memory) → Stands final b (if t then b else pushed (with_slot b) (I.Take b.slots x from long)) → w.memory ≡ m
+        → (if t then b else pushed (with_slot b) (I.Take b.slots x from long)).slots ≤ length s → slice_index s x ≡ v
+        → Runs b.slots b (if t then b else pushed (with_slot b) (I.Take b.slots x from long)) s w m (λ s'. slice_index s' (if t then x else b.slots) ≡ (if t then v else take_of v from long))
+    taken_by true x from long v b s w m stands is room there = runs_none b.slots b s w m (λ s'. slice_index s' x ≡ v) is there
+    taken_by false x from long v b s w m stands is room there =
+        let c = pushed (with_slot b) (I.Take b.slots x from long) in
+        let word = take_of (slice_index s x) from long in
+        runs_weaken b.slots b.slots b c s w m m (λ s'. s' ≡ slice_set s b.slots word) (λ s'. slice_index s' b.slots ≡ take_of v from long) (omega arith) refl
+        (λ s' k e. ap (λ y. slice_index y b.slots) e ∙ set_same s b.slots word (omega (arith, room)) ∙ ap (λ y. take_of y from long) there)
+        (runs_set b.slots b c (I.Take b.slots x from long) b.slots word s w m refl stands (omega arith) is refl)
+
+    -- bits of a slot put over what stands in slot d
+    put_run : (d x from long v : ℕ) (p : Part) (b : Sheet) (s : List ℕ) (w : World) (m : Memory) → Stands final b (put_code d x from long p b) → w.memory ≡ m → d < b.slots → (put_code d x from long p b).slots ≤ length s → slice_index s x ≡ v
+        → Runs d b (put_code d x from long p b) s w m (λ s'. slice_index s' d ≡ put_of (slice_index s d) (capped p.o) (capped p.l) (taken_value v from long % 2 ^ capped p.l))
+    put_run d x from long v p b s w m stands is lt room there =
+        let c = taken_code x from long b in
+        let low = taken_slot x from b.slots in
+        let put = I.Put d low (capped p.o) (capped p.l) in
+        let u = taken_value v from long in
+        let more = taken_longer x from long b in
+        let first = taken_by (from == 0) x from long v b s w m (stands_first final b c (pushed c put) more (longer-push c put) stands) is room there in
+        runs_then d d b c (pushed c put) s w m m (λ s'. (slice_index s' low ≡ u) × (slice_index s' d ≡ slice_index s d) × (length s' ≡ length s)) (λ s'. slice_index s' d ≡ put_of (slice_index s d) (capped p.o) (capped p.l) (u % 2 ^ capped p.l)) (omega arith)
+        (runs_weaken b.slots d b c s w m m (λ s'. slice_index s' low ≡ u) (λ s'. (slice_index s' low ≡ u) × (slice_index s' d ≡ slice_index s d) × (length s' ≡ length s)) (omega (arith, lt)) refl (λ s' k e. (e, k.same d lt, k.long)) first)
+        (λ s1 w1 is1 k1 e1.
+        let word = put_of (slice_index s1 d) (capped p.o) (capped p.l) (slice_index s1 low % 2 ^ capped p.l) in
+        let within : d < length s1 = (let y = e1.2 in let q = more.more in omega (arith, lt, room, y, q)) in
+        runs_weaken d d c (pushed c put) s1 w1 m m (λ s'. s' ≡ slice_set s1 d word) (λ s'. slice_index s' d ≡ put_of (slice_index s d) (capped p.o) (capped p.l) (u % 2 ^ capped p.l)) (omega arith) refl
+        (λ s' k e. ap (λ y. slice_index y d) e ∙ set_same s1 d word within ∙ ap (λ y. put_of y (capped p.o) (capped p.l) (slice_index s1 low % 2 ^ capped p.l)) e1.1 ∙ ap (λ y. put_of (slice_index s d) (capped p.o) (capped p.l) (y % 2 ^ capped p.l)) e1.0)
+        (runs_set d c (pushed c put) put d word s1 w1 m refl (stands_rest final b c (pushed c put) more stands) (omega arith) is1 refl))
 
     module _ (blocks : List ℕ) where
-      source_run : (l : ℕ) (kind : Kind) (b : Sheet) (s : List ℕ) (w : World) (m : Memory) → Stands final b (source_code hs blocks l kind b) → w.memory ≡ m → (source_code hs blocks l kind b).slots ≤ length s → Tells blocks s kind
-          → Runs b.slots b (source_code hs blocks l kind b) s w m (λ s'. slice_index s' (source_slot hs kind b.slots) ≡ source_value field ats l kind)
-      source_run l (Const c) b s w m stands is long tells =
-          runs_weaken b.slots b.slots b (source_code hs blocks l (Const c) b) s w m m (λ s'. s' ≡ slice_set s b.slots c) (λ s'. slice_index s' b.slots ≡ c) (omega arith) refl
-          (λ s' k e. ap (λ x. slice_index x b.slots) e ∙ set_same s b.slots c (omega (arith, long)))
-          (runs_set b.slots b (source_code hs blocks l (Const c) b) (I.Const b.slots c) b.slots c s w m refl stands (omega arith) is refl)
-      source_run l (Bits path a) b s w m stands is long tells =
-          let from = slice_index (field_slots hs path) 0 in
-          let word = take_of (slice_index s from) (capped a) (capped l) in
-          runs_weaken b.slots b.slots b (source_code hs blocks l (Bits path a) b) s w m m (λ s'. s' ≡ slice_set s b.slots word) (λ s'. slice_index s' b.slots ≡ take_of (field path 0) (capped a) (capped l)) (omega arith) refl
-          (λ s' k e. ap (λ x. slice_index x b.slots) e ∙ set_same s b.slots word (omega (arith, long)) ∙ ap (λ x. take_of x (capped a) (capped l)) tells)
-          (runs_set b.slots b (source_code hs blocks l (Bits path a) b) (I.Take b.slots from (capped a) (capped l)) b.slots word s w m refl stands (omega arith) is refl)
-      source_run l (Word path j) b s w m stands is long tells = runs_none b.slots b s w m (λ s'. slice_index s' (slice_index (field_slots hs path) j) ≡ field path j) is tells
-      source_run l (Pointer align x) b s w m stands is long tells =
-          let from = slice_index blocks x in
-          let word = take_of (slice_index s from) (shift_of align) (64 - shift_of align) in
-          runs_weaken b.slots b.slots b (source_code hs blocks l (Pointer align x) b) s w m m (λ s'. s' ≡ slice_set s b.slots word) (λ s'. slice_index s' b.slots ≡ take_of (ats x) (shift_of align) (64 - shift_of align)) (omega arith) refl
-          (λ s' k e. ap (λ y. slice_index y b.slots) e ∙ set_same s b.slots word (omega (arith, long)) ∙ ap (λ y. take_of y (shift_of align) (64 - shift_of align)) tells)
-          (runs_set b.slots b (source_code hs blocks l (Pointer align x) b) (I.Take b.slots from (shift_of align) (64 - shift_of align)) b.slots word s w m refl stands (omega arith) is refl)
-
-      -- one part put over what stands in slot d
-      part_run : (d : ℕ) (p : Part) (b : Sheet) (s : List ℕ) (w : World) (m : Memory) → Stands final b (part_code hs blocks d p b) → w.memory ≡ m → d < b.slots → (part_code hs blocks d p b).slots ≤ length s → Tells blocks s p.kind
-          → Runs d b (part_code hs blocks d p b) s w m (λ s'. slice_index s' d ≡ with_part field ats (slice_index s d) p)
-      part_run d p b s w m stands is lt long tells =
-          let c = source_code hs blocks p.l p.kind b in
-          let from = source_slot hs p.kind b.slots in
-          let put = I.Put d from (capped p.o) (capped p.l) in
-          let v = source_value field ats p.l p.kind in
-          let more = source_longer hs blocks p.l p.kind b in
-          let first = source_run p.l p.kind b s w m (stands_first final b c (pushed c put) more (longer-push c put) stands) is long tells in
-          runs_then d d b c (pushed c put) s w m m (λ s'. (slice_index s' from ≡ v) × (slice_index s' d ≡ slice_index s d) × (length s' ≡ length s)) (λ s'. slice_index s' d ≡ with_part field ats (slice_index s d) p) (omega arith)
-          (runs_weaken b.slots d b c s w m m (λ s'. slice_index s' from ≡ v) (λ s'. (slice_index s' from ≡ v) × (slice_index s' d ≡ slice_index s d) × (length s' ≡ length s)) (omega (arith, lt)) refl (λ s' k e. (e, k.same d lt, k.long)) first)
-          (λ s1 w1 is1 k1 e1.
-          let word = put_of (slice_index s1 d) (capped p.o) (capped p.l) (slice_index s1 from % 2 ^ capped p.l) in
-          let within : d < length s1 = (let x = e1.2 in let q = more.more in omega (arith, lt, long, x, q)) in
-          runs_weaken d d c (pushed c put) s1 w1 m m (λ s'. s' ≡ slice_set s1 d word) (λ s'. slice_index s' d ≡ with_part field ats (slice_index s d) p) (omega arith) refl
-          (λ s' k e. ap (λ x. slice_index x d) e ∙ set_same s1 d word within ∙ ap (λ x. put_of x (capped p.o) (capped p.l) (slice_index s1 from % 2 ^ capped p.l)) e1.1 ∙ ap (λ x. put_of (slice_index s d) (capped p.o) (capped p.l) (x % 2 ^ capped p.l)) e1.0)
-          (runs_set d c (pushed c put) put d word s1 w1 m refl (stands_rest final b c (pushed c put) more stands) (omega arith) is1 refl))
+      kind_run : (d : ℕ) (p : Part) (kind : Kind) (b : Sheet) (s : List ℕ) (w : World) (m : Memory) → Stands final b (kind_code hs blocks d p kind b) → w.memory ≡ m → d < b.slots → (kind_code hs blocks d p kind b).slots ≤ length s
+          → Tells blocks s kind → Runs d b (kind_code hs blocks d p kind b) s w m (λ s'. slice_index s' d ≡ other_kind field ats (slice_index s d) p kind)
+      kind_run d p (Const c) b s w m stands is lt room tells = runs_none d b s w m (λ s'. slice_index s' d ≡ slice_index s d) is refl
+      kind_run d p (Bits path a) b s w m stands is lt room tells = put_run d (slice_index (field_slots hs path) 0) (capped a) (capped p.l) (field path 0) p b s w m stands is lt room tells
+      kind_run d p (Word path j) b s w m stands is lt room tells = put_run d (slice_index (field_slots hs path) j) 0 64 (field path j) p b s w m stands is lt room tells
+      kind_run d p (Pointer align x) b s w m stands is lt room tells = put_run d (slice_index blocks x) (shift_of align) (64 - shift_of align) (ats x) p b s w m stands is lt room tells
 
       parts_run : (d : ℕ) (ps : List Part) (b : Sheet) (s : List ℕ) (w : World) (m : Memory) → Stands final b (parts_code hs blocks d ps b) → w.memory ≡ m → d < b.slots → (parts_code hs blocks d ps b).slots ≤ length s
-          → AllBelow blocks d ps → AllTell blocks s ps → Runs d b (parts_code hs blocks d ps b) s w m (λ s'. slice_index s' d ≡ with_parts field ats (slice_index s d) ps)
+          → AllBelow blocks d ps → AllTell blocks s ps → Runs d b (parts_code hs blocks d ps b) s w m (λ s'. slice_index s' d ≡ others field ats (slice_index s d) ps)
       parts_run d [] b s w m stands is lt long below tells = runs_none d b s w m (λ s'. slice_index s' d ≡ slice_index s d) is refl
       parts_run d (p ∷ ps) b s w m stands is lt long below tells =
-          let c = part_code hs blocks d p b in
+          let c = kind_code hs blocks d p p.kind b in
           let e = parts_code hs blocks d ps c in
-          let x = part_longer hs blocks d p b in
+          let x = kind_longer hs blocks d p p.kind b in
           let y = parts_longer hs blocks d ps c in
+          let n1 = other_kind field ats (slice_index s d) p p.kind in
           let long1 : c.slots ≤ length s = (let q = y.more in omega (arith, q, long)) in
-          let first = part_run d p b s w m (stands_first final b c e x y stands) is lt long1 (tells 0 p refl) in
-          runs_then d d b c e s w m m (λ s'. (slice_index s' d ≡ with_part field ats (slice_index s d) p) × (length s' ≡ length s)) (λ s'. slice_index s' d ≡ with_parts field ats (with_part field ats (slice_index s d) p) ps) (omega arith)
-          (runs_weaken d d b c s w m m (λ s'. slice_index s' d ≡ with_part field ats (slice_index s d) p) (λ s'. (slice_index s' d ≡ with_part field ats (slice_index s d) p) × (length s' ≡ length s)) (omega arith) refl (λ s' k h. (h, k.long)) first)
+          let first = kind_run d p p.kind b s w m (stands_first final b c e x y stands) is lt long1 (tells 0 p refl) in
+          runs_then d d b c e s w m m (λ s'. (slice_index s' d ≡ n1) × (length s' ≡ length s)) (λ s'. slice_index s' d ≡ others field ats n1 ps) (omega arith)
+          (runs_weaken d d b c s w m m (λ s'. slice_index s' d ≡ n1) (λ s'. (slice_index s' d ≡ n1) × (length s' ≡ length s)) (omega arith) refl (λ s' k h. (h, k.long)) first)
           (λ s1 w1 is1 k1 e1.
           let lt1 : d < c.slots = (let q = x.more in omega (arith, lt, q)) in
           let long2 : e.slots ≤ length s1 = (let q = e1.1 in omega (arith, long, q)) in
-          runs_weaken d d c e s1 w1 m m (λ s'. slice_index s' d ≡ with_parts field ats (slice_index s1 d) ps) (λ s'. slice_index s' d ≡ with_parts field ats (with_part field ats (slice_index s d) p) ps) (omega arith) refl
-          (λ s' k h. h ∙ ap (λ n. with_parts field ats n ps) e1.0)
+          runs_weaken d d c e s1 w1 m m (λ s'. slice_index s' d ≡ others field ats (slice_index s1 d) ps) (λ s'. slice_index s' d ≡ others field ats n1 ps) (omega arith) refl
+          (λ s' k h. h ∙ ap (λ n. others field ats n ps) e1.0)
           (parts_run d ps c s1 w1 m (stands_rest final b c e x stands) is1 lt1 long2 (λ k q at. below (suc k) q at) (λ k q at. tells_kept blocks d s s1 q.kind k1 (below (suc k) q at) (tells (suc k) q at))))
 
       -- a composed word
-      pub word_run : (ps : List Part) (b : Sheet) (s : List ℕ) (w : World) (m : Memory) → Stands final b (word_code hs blocks ps b) → w.memory ≡ m → (word_code hs blocks ps b).slots ≤ length s
-          → AllBelow blocks b.slots ps → AllTell blocks s ps → Runs b.slots b (word_code hs blocks ps b) s w m (λ s'. slice_index s' b.slots ≡ with_parts field ats 0 ps)
+      word_run : (ps : List Part) (b : Sheet) (s : List ℕ) (w : World) (m : Memory) → Stands final b (word_code hs blocks ps b) → w.memory ≡ m → (word_code hs blocks ps b).slots ≤ length s
+          → AllBelow blocks b.slots ps → AllTell blocks s ps → Runs b.slots b (word_code hs blocks ps b) s w m (λ s'. slice_index s' b.slots ≡ others field ats (constants 0 ps) ps)
       word_run ps b s w m stands is long below tells =
           let d = b.slots in
-          let c = pushed (with_slot b) (I.Const d 0) in
+          let n0 = constants 0 ps in
+          let c = pushed (with_slot b) (I.Const d n0) in
           let e = word_code hs blocks ps b in
-          let x = longer-fresh b (I.Const d 0) in
+          let x = longer-fresh b (I.Const d n0) in
           let y = parts_longer hs blocks d ps c in
           let inside : d < length s = (let q = y.more in omega (arith, q, long)) in
-          runs_then d d b c e s w m m (λ s'. s' ≡ slice_set s d 0) (λ s'. slice_index s' d ≡ with_parts field ats 0 ps) (omega arith)
-          (runs_set d b c (I.Const d 0) d 0 s w m refl (stands_first final b c e x y stands) (omega arith) is refl)
+          runs_then d d b c e s w m m (λ s'. s' ≡ slice_set s d n0) (λ s'. slice_index s' d ≡ others field ats n0 ps) (omega arith)
+          (runs_set d b c (I.Const d n0) d n0 s w m refl (stands_first final b c e x y stands) (omega arith) is refl)
           (λ s1 w1 is1 k1 e1.
-          let zero_there : slice_index s1 d ≡ 0 = ap (λ z. slice_index z d) e1 ∙ set_same s d 0 inside in
-          runs_weaken d d c e s1 w1 m m (λ s'. slice_index s' d ≡ with_parts field ats (slice_index s1 d) ps) (λ s'. slice_index s' d ≡ with_parts field ats 0 ps) (omega arith) refl
-          (λ s' k h. h ∙ ap (λ n. with_parts field ats n ps) zero_there)
+          let there : slice_index s1 d ≡ n0 = ap (λ z. slice_index z d) e1 ∙ set_same s d n0 inside in
+          runs_weaken d d c e s1 w1 m m (λ s'. slice_index s' d ≡ others field ats (slice_index s1 d) ps) (λ s'. slice_index s' d ≡ others field ats n0 ps) (omega arith) refl
+          (λ s' k h. h ∙ ap (λ n. others field ats n ps) there)
           (parts_run d ps c s1 w1 m (stands_rest final b c e x stands) is1 (omega arith) (let q = k1.long in omega (arith, long, q)) below (λ k q at. tells_kept blocks d s s1 q.kind k1 (below k q at) (tells k q at))))
+
+      -- a word that is a field's stands there
+      whole_tells : (ps : List Part) (s : List ℕ) (w : List ℕ × ℕ) → whole_of hs ps ≡ Some w → AllTell blocks s ps → slice_index s (slice_index (field_slots hs w.0) w.1) ≡ field w.0 w.1
+      whole_tells ps s w e tells = let h = is_whole hs ps w e in by h.part.l h.part.kind h.has (tells 0 h.part (ap (λ xs. slice_get xs 0) h.only))
+        where
+          by : (l : ℕ) (kind : Kind) → HasWhole hs l kind w → Tells blocks s kind → slice_index s (slice_index (field_slots hs w.0) w.1) ≡ field w.0 w.1
+          by l kind (inl h) t = subst (Tells blocks s) h t
+          by l kind (inr h) t =
+              let u : slice_index s (slice_index (field_slots hs w.0) 0) ≡ field w.0 0 = subst (Tells blocks s) h.0 t in
+              ap (λ j. slice_index s (slice_index (field_slots hs w.0) j)) h.1 ∙ u ∙ ap (field w.0) (sym h.1)
+
+      -- a word to be stored
+      value_run : (o : Option (List ℕ × ℕ)) (ps : List Part) (b : Sheet) (s : List ℕ) (w : World) (m : Memory) → whole_of hs ps ≡ o → Stands final b (value_code (slot_of hs o) hs blocks ps b) → w.memory ≡ m
+          → (value_code (slot_of hs o) hs blocks ps b).slots ≤ length s → AllBelow blocks b.slots ps → AllTell blocks s ps
+          → Runs b.slots b (value_code (slot_of hs o) hs blocks ps b) s w m (λ s'. slice_index s' (value_slot (slot_of hs o) b.slots) ≡ word_number field ats o ps)
+      value_run None ps b s w m e stands is long below tells = word_run ps b s w m stands is long below tells
+      value_run (Some x) ps b s w m e stands is long below tells = runs_none b.slots b s w m (λ s'. slice_index s' (slice_index (field_slots hs x.0) x.1) ≡ field x.0 x.1) is (whole_tells ps s x e tells)
+
+      -- a word of the value
+      root_run : (o : Option (List ℕ × ℕ)) (ps : List Part) (b : Sheet) (s : List ℕ) (w : World) (m : Memory) → whole_of hs ps ≡ o → Stands final b (root_code (slot_of hs o) hs blocks ps b) → w.memory ≡ m
+          → (root_code (slot_of hs o) hs blocks ps b).slots ≤ length s → AllBelow blocks b.slots ps → AllTell blocks s ps
+          → Runs b.slots b (root_code (slot_of hs o) hs blocks ps b) s w m (λ s'. slice_index s' b.slots ≡ word_number field ats o ps)
+      root_run None ps b s w m e stands is long below tells = word_run ps b s w m stands is long below tells
+      root_run (Some x) ps b s w m e stands is long below tells =
+          let from = slice_index (field_slots hs x.0) x.1 in
+          let word = slice_index s from in
+          let c = pushed (with_slot b) (I.Copy b.slots from) in
+          runs_weaken b.slots b.slots b c s w m m (λ s'. s' ≡ slice_set s b.slots word) (λ s'. slice_index s' b.slots ≡ field x.0 x.1) (omega arith) refl
+          (λ s' k h. ap (λ y. slice_index y b.slots) h ∙ set_same s b.slots word (omega (arith, long)) ∙ whole_tells ps s x e tells)
+          (runs_set b.slots b c (I.Copy b.slots from) b.slots word s w m refl stands (omega arith) is refl)
 
     -- Words stored -------------------------------------------------------------------------------
     abbrev pub WordsBelow : List ℕ → ℕ → List FlatWord → Type 0
@@ -244,25 +276,27 @@ module _ (final : List Instr) (callee : Callee) (next : Next) (law : Law final c
     stored m base at f = record m { bytes = write_le m.bytes (f.width / 8) (base + at) (number f) }
 
     module _ (blocks : List ℕ) where
-      store_run : (n a base size at : ℕ) (f : FlatWord) (b : Sheet) (s : List ℕ) (w : World) (m : Memory) → Stands final b (pushed (word_code hs blocks f.parts b) (I.Store a at (capped f.width) b.slots)) → w.memory ≡ m
-          → (word_code hs blocks f.parts b).slots ≤ length s → n ≤ b.slots → a < n → slice_index s a ≡ base → size_at m.blocks base ≡ Some size → at + f.width / 8 ≤ size → IsBlockWidth f.width
+      store_run : (n a base size at : ℕ) (f : FlatWord) (b : Sheet) (s : List ℕ) (w : World) (m : Memory) → Stands final b (stored_code hs blocks a at f b) → w.memory ≡ m
+          → (stored_code hs blocks a at f b).slots ≤ length s → n ≤ b.slots → a < n → slice_index s a ≡ base → size_at m.blocks base ≡ Some size → at + f.width / 8 ≤ size → IsBlockWidth f.width
           → AllBelow blocks n f.parts → AllTell blocks s f.parts
-          → Runs n b (pushed (word_code hs blocks f.parts b) (I.Store a at (capped f.width) b.slots)) s w (stored m base at f) (λ s'. Unit {0})
+          → Runs n b (stored_code hs blocks a at f b) s w (stored m base at f) (λ s'. Unit {0})
       store_run n a base size at f b s w m stands is long le lt there sized room wide below tells =
-          let c = word_code hs blocks f.parts b in
-          let store = I.Store a at (capped f.width) b.slots in
+          let o = whole_of hs f.parts in
+          let c = value_code (slot_of hs o) hs blocks f.parts b in
+          let slot = value_slot (slot_of hs o) b.slots in
+          let store = I.Store a at (capped f.width) slot in
           let e = pushed c store in
-          let x = word_longer hs blocks f.parts b in
+          let x = value_longer hs (slot_of hs o) blocks f.parts b in
           let v = number f in
-          let first = word_run blocks f.parts b s w m (stands_first final b c e x (longer-push c store) stands) is long (λ k p h. below_more blocks n b.slots p.kind le (below k p h)) tells in
-          runs_then n n b c e s w m (stored m base at f) (λ s'. slice_index s' b.slots ≡ v) (λ s'. Unit {0}) (omega arith)
-          (runs_weaken b.slots n b c s w m m (λ s'. slice_index s' b.slots ≡ v) (λ s'. slice_index s' b.slots ≡ v) le refl (λ s' k h. h) first)
+          let first = value_run blocks o f.parts b s w m refl (stands_first final b c e x (longer-push c store) stands) is long (λ k p h. below_more blocks n b.slots p.kind le (below k p h)) tells in
+          runs_then n n b c e s w m (stored m base at f) (λ s'. slice_index s' slot ≡ v) (λ s'. Unit {0}) (omega arith)
+          (runs_weaken b.slots n b c s w m m (λ s'. slice_index s' slot ≡ v) (λ s'. slice_index s' slot ≡ v) le refl (λ s' k h. h) first)
           (λ s1 w1 is1 k1 e1.
           let P : Result (Unit {0}) Trap × Memory → Run = λ r. after_store r.0 (with_memory (taken w1) r.1) (next (length c.code + 1) s1 (with_memory (taken w1) r.1)) in
-          let same : store_of w1.memory (slice_index s1 a) at (capped f.width) (slice_index s1 b.slots) ≡ store_of m base at f.width v =
-          ap (λ y. store_of y (slice_index s1 a) at (capped f.width) (slice_index s1 b.slots)) is1
-          ∙ ap (λ y. store_of m y at (capped f.width) (slice_index s1 b.slots)) (k1.same a lt ∙ there)
-          ∙ ap (λ y. store_of m base at y (slice_index s1 b.slots)) (width_capped f.width wide) ∙ ap (store_of m base at f.width) e1 in
+          let same : store_of w1.memory (slice_index s1 a) at (capped f.width) (slice_index s1 slot) ≡ store_of m base at f.width v =
+          ap (λ y. store_of y (slice_index s1 a) at (capped f.width) (slice_index s1 slot)) is1
+          ∙ ap (λ y. store_of m y at (capped f.width) (slice_index s1 slot)) (k1.same a lt ∙ there)
+          ∙ ap (λ y. store_of m base at y (slice_index s1 slot)) (width_capped f.width wide) ∙ ap (store_of m base at f.width) e1 in
           let done = store_within m base at f.width v (within_yes (size_at m.blocks base) size (at + f.width / 8) sized room) in
           let len : length e.code ≡ length c.code + 1 = length-append c.code (store ∷ []) in
           record {
@@ -283,8 +317,7 @@ module _ (final : List Instr) (callee : Callee) (next : Next) (law : Law final c
           → Runs n b (stores_code hs blocks a fs at b) s w (record m { bytes = written number fs (base + at) m.bytes }) (λ s'. Unit {0})
       stores_run n a base size [] at b s w m stands is long le lt there sized room wide below tells = runs_none n b s w m (λ s'. Unit {0}) is tt
       stores_run n a base size (f ∷ fs) at b s w m stands is long le lt there sized room wide below tells =
-          let store = I.Store a at (capped f.width) b.slots in
-          let c = pushed (word_code hs blocks f.parts b) store in
+          let c = stored_code hs blocks a at f b in
           let e = stores_code hs blocks a fs (at + f.width / 8) c in
           let x = store_longer hs blocks a at f b in
           let y = stores_longer hs blocks a fs (at + f.width / 8) c in
@@ -365,12 +398,13 @@ module _ (final : List Instr) (callee : Callee) (next : Next) (law : Law final c
       roots_run [] b s w m stands is long below tells = runs_none b.slots b s w m (λ s'. [] ≡ []) is refl
       roots_run (f ∷ fs) b s w m stands is long below tells =
           let d = b.slots in
-          let c = word_code hs blocks f.parts b in
+          let o = whole_of hs f.parts in
+          let c = root_code (slot_of hs o) hs blocks f.parts b in
           let e = roots_code hs blocks fs c in
-          let x = word_longer hs blocks f.parts b in
+          let x = root_longer hs (slot_of hs o) blocks f.parts b in
           let y = roots_longer hs blocks fs c in
-          let fresh = (parts_longer hs blocks d f.parts (pushed (with_slot b) (I.Const d 0))).more in
-          let first = word_run blocks f.parts b s w m (stands_first final b c e x y stands) is (let q = y.more in omega (arith, q, long)) (below 0 f refl) (tells 0 f refl) in
+          let fresh = fresh_root hs (slot_of hs o) blocks f.parts b in
+          let first = root_run blocks o f.parts b s w m refl (stands_first final b c e x y stands) is (let q = y.more in omega (arith, q, long)) (below 0 f refl) (tells 0 f refl) in
           runs_then d c.slots b c e s w m m (λ s'. (slice_index s' d ≡ number f) × (length s' ≡ length s)) (λ s'. slots_at s' (d ∷ root_slots hs blocks fs c) ≡ map number (f ∷ fs)) (let q = x.more in omega (arith, q))
           (runs_weaken d d b c s w m m (λ s'. slice_index s' d ≡ number f) (λ s'. (slice_index s' d ≡ number f) × (length s' ≡ length s)) (omega arith) refl (λ s' k h. (h, k.long)) first)
           (λ s1 w1 is1 k1 e1.

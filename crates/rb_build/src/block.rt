@@ -4,7 +4,7 @@ ghost use Rattle.std.specs.Prelude.{◌≡◌, ◌+◌, ◌/◌, IfOk, OnOk};
 ghost use Rattle.rb_layout.specs.Words.{bytes_in};
 ghost use Rattle.rb_build.specs.inner.Code.{block_code, blocks_code, stores_code};
 
-use crate::word::{bits, emit_word};
+use crate::word::{bits, emit_value};
 use rb_core::seq::Seq;
 use rb_fragment::held::Held;
 use rb_layout::layout::{Block, FlatWord};
@@ -61,7 +61,7 @@ fn emit_stores(
 {
     let mut at = 0;
     for word in words {
-        let slot = emit_word(body, word.parts.as_slice(), args, blocks)?;
+        let slot = emit_value(body, word.parts.as_slice(), args, blocks)?;
         body.push(Instr::Store(address, at, bits(word.width), slot))?;
         at = behind(at, word)?;
     }

@@ -8,7 +8,7 @@ ghost use Rattle.rb_build.specs.Building.{Builds};
 ghost use Rattle.rb_build.specs.inner.Code.{is_root, build_code, build_slots, leaf_for, leaves_of, roots_code, root_slots};
 
 use crate::block::emit_blocks;
-use crate::word::emit_word;
+use crate::word::emit_root;
 use rb_core::pattern::Pat;
 use rb_core::seq::Seq;
 use rb_core::types::{ConRef, Ty};
@@ -106,7 +106,7 @@ fn emit_roots(
 {
     let mut slots = Seq::new(alloc);
     for word in words {
-        let slot = emit_word(body, word.parts.as_slice(), args, blocks)?;
+        let slot = emit_root(body, word.parts.as_slice(), args, blocks)?;
         slots.push(slot)?;
     }
     Ok(slots)
