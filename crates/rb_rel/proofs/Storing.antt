@@ -21,7 +21,7 @@ use Rattle.rb_rel.specs.Placing.{Laid, Fits, Over, Request, request_of, behind, 
 
 -- Words one after the other from an address on, each of them a number of its width
 module _ (number : FlatWord → ℕ) where
-  abbrev written : List FlatWord → ℕ → List (Option ℕ) → List (Option ℕ)
+  abbrev pub written : List FlatWord → ℕ → List (Option ℕ) → List (Option ℕ)
   written [] at bytes = bytes
   written (f ∷ fs) at bytes = written fs (at + f.width / 8) (write_le bytes (f.width / 8) at (number f))
 
@@ -118,21 +118,31 @@ pub record Stored (m m' : Memory) (block : Block) (number : FlatWord → ℕ) (a
   pub sized : size_at m'.blocks a ≡ Some (size_of block)
   pub loads : (j : ℕ) (f : FlatWord) → slice_get block.words j ≡ Some f → load_of m' a (begins_at block.words j) f.width ≡ Ok (number f)
 
-module _ (m : Memory) (good : IsGood m) (block : Block) (is : IsBlock block) (number : FlatWord → ℕ) (fits : (j : ℕ) (f : FlatWord) → slice_get block.words j ≡ Some f → number f < 2 ^ f.width) where
+-- a memory with a block more, which is filled with words
+abbrev pub with_block : (FlatWord → ℕ) → Memory → Block → Memory
+with_block number m block =
+    let a = aligned m.next block.align in
+    record { limit = m.limit; next = a + size_of block; blocks = m.blocks ++ (a, size_of block) ∷ []; bytes = written number block.words a m.bytes }
+
+abbrev pub with_blocks : (FlatWord → ℕ) → Memory → List Block → Memory
+with_blocks number m [] = m
+with_blocks number m (block ∷ blocks) = with_blocks number (with_block number m block) blocks
+
+module _ (m : Memory) (good : IsGood m) (block : Block) (is : IsBlock block) (number : FlatWord → ℕ) where
   abbrev a : ℕ
   a = aligned m.next block.align
 
   abbrev filled : Memory
-  filled = record { limit = m.limit; next = a + size_of block; blocks = m.blocks ++ (a, size_of block) ∷ []; bytes = written number block.words a m.bytes }
+  filled = with_block number m block
 
   module _ (room : a + size_of block ≤ m.limit) where
-    above : m.next ≤ a
+    pub above : m.next ≤ a
     above = aligned_from m.next block.align is.align
 
     long : a + bytes_in block.words ≤ length m.bytes
     long = let l = good.long in omega (arith, room, l)
 
-    filled_good : IsGood filled
+    pub filled_good : IsGood filled
     filled_good = record {
       blocks = AreBlocks_push m.blocks 64 m.next a (size_of block) good.blocks above is.some;
       next = ((let n = good.next.0 in omega (arith, n, above)), room);
@@ -156,20 +166,21 @@ module _ (m : Memory) (good : IsGood m) (block : Block) (is : IsBlock block) (nu
     filled_sized : size_at filled.blocks a ≡ Some (size_of block)
     filled_sized = size_at-push m.blocks 64 m.next a (size_of block) good.blocks above
 
-    filled_loads : (j : ℕ) (f : FlatWord) → slice_get block.words j ≡ Some f → load_of filled a (begins_at block.words j) f.width ≡ Ok (number f)
-    filled_loads j f at =
+    filled_loads : ((j : ℕ) (f : FlatWord) → slice_get block.words j ≡ Some f → number f < 2 ^ f.width) → (j : ℕ) (f : FlatWord) → slice_get block.words j ≡ Some f → load_of filled a (begins_at block.words j) f.width ≡ Ok (number f)
+    filled_loads fits j f at =
         let wide = width_bytes f.width (is.widths j f at) in
         load_within filled a (begins_at block.words j) f.width (ap (λ o. lies_within o (begins_at block.words j + f.width / 8)) filled_sized ∙ within_yes (size_of block) (begins_at block.words j + f.width / 8) (begins_within block.words j f at))
         ∙ written_read number block.words a m.bytes long j f at
         ∙ ap (λ k. Ok (number f % 2 ^ k)) wide ∙ ap Ok (mod-eq_of_lt (fits j f at))
 
-    pub filled_stored : Stored m filled block number a
-    filled_stored = record { sized = filled_sized; loads = filled_loads }
+    filled_stored : ((j : ℕ) (f : FlatWord) → slice_get block.words j ≡ Some f → number f < 2 ^ f.width) → Stored m filled block number a
+    filled_stored fits = record { sized = filled_sized; loads = filled_loads fits }
 
 -- Several blocks, one after the other
 module _ (number : FlatWord → ℕ) where
   pub record AllStored (m : Memory) (blocks : List Block) (bs : List (ℕ × ℕ)) (p : ℕ) : Type 0 where
     pub memory : Memory
+    pub is_filled : memory ≡ with_blocks number m blocks
     pub grown : Grown m memory bs p
     pub stored : (k : ℕ) (block : Block) → slice_get blocks k ≡ Some block → (at : ℕ × ℕ) × (slice_get bs k ≡ Some at) × Stored m memory block number at.0
 
@@ -203,18 +214,19 @@ module _ (number : FlatWord → ℕ) where
   all_stored [] are fit m good bs p e =
       let x : bs ≡ [] = cc in
       let y : m.next ≡ p = cc in
-      record { memory = m; grown = subst (λ q. Grown m m bs q) y (subst (λ cs. Grown m m cs m.next) (sym x) (Grown-refl m good)); stored = λ k block is. absurd cc }
+      record { memory = m; is_filled = refl; grown = subst (λ q. Grown m m bs q) y (subst (λ cs. Grown m m cs m.next) (sym x) (Grown-refl m good)); stored = λ k block is. absurd cc }
   all_stored (b ∷ blocks) are fit m good bs p e =
       let l = laid_more m.limit m.next (request_of b) (map request_of blocks) bs p e in
       let is = are 0 b refl in
       let fits = fit 0 b refl in
-      let m1 = filled m good b is number fits in
-      let g1 = filled_grown m good b is number fits l.0 in
-      let s1 = filled_stored m good b is number fits l.0 in
+      let m1 = filled m good b is number in
+      let g1 = filled_grown m good b is number l.0 in
+      let s1 = filled_stored m good b is number l.0 fits in
       let rest = all_stored blocks (λ k x h. are (suc k) x h) (λ k x h. fit (suc k) x h) m1 g1.good l.1 p l.2 in
       let g = Grown-trans m m1 rest.memory ((aligned m.next b.align, size_of b) ∷ []) l.1 (aligned m.next b.align + size_of b) p g1 rest.grown in
       record {
         memory = rest.memory;
+        is_filled = rest.is_filled;
         grown = subst (λ cs. Grown m rest.memory cs p) (sym l.3) g;
         stored = λ k block h. subst (λ cs. (at : ℕ × ℕ) × (slice_get cs k ≡ Some at) × Stored m rest.memory block number at.0) (sym l.3) (found k block h s1 g1.good rest);
       }
