@@ -1,0 +1,33 @@
+-- Ways to leaves, with the lines of their conditions.
+use Rattle.std.specs.Prelude.{◌≡◌, ℕ, List, ◌++◌, map, length, Option, Some, slice_get}
+use Rattle.std.specs.List.{flat_map}
+use Rattle.rb_core.specs.declared.types.DataDecl.{DataDecl}
+use Rattle.rb_layout.specs.declared.layout.Leaf.{Leaf}
+use Rattle.rb_layout.specs.declared.layout.FlatArm.{FlatArm}
+use Rattle.rb_layout.specs.declared.layout.Block.{Block}
+use Rattle.rb_layout.specs.A4.{HasBlocks}
+use Rattle.rb_layout.specs.Readable.{AreShort}
+use Rattle.rb_layout.specs.Splits.{Route}
+use Rattle.rb_show.specs.Lines.{condition_line, found_lines}
+use Rattle.rb_show.specs.declared.ways.Way.{Way}
+
+-- a way behind the lines of the conditions above it
+abbrev pub way_behind : List ℕ → Route → Way
+way_behind above r = record { leaf = r.leaf; conditions = above ++ flat_map condition_line r.tests }
+
+abbrev pub ways_behind : List ℕ → List Route → List Way
+ways_behind above routes = map (way_behind above) routes
+
+abbrev pub way_lines : List DataDecl → List Leaf → Way → List ℕ
+way_lines types leaves way = found_lines types way.conditions (slice_get leaves way.leaf)
+
+abbrev pub literals_in : List FlatArm → List ℕ
+literals_in arms = map (λ (arm : FlatArm). arm.literal) arms
+
+-- the blocks of each leaf are as they must be
+abbrev pub HaveBlocks : List Leaf → Type 0
+HaveBlocks leaves = (n : ℕ) (leaf : Leaf) → slice_get leaves n ≡ Some leaf → HasBlocks leaf
+
+-- the words of each block are few and short
+abbrev pub HaveShortWords : List Block → Type 0
+HaveShortWords blocks = (b : ℕ) (block : Block) → slice_get blocks b ≡ Some block → AreShort block.words
