@@ -3,7 +3,6 @@ use Rattle.std.specs.Prelude.{◌≡◌, ℕ, ◌+◌, ◌<◌, ◌≤◌, ◌�
 use Rattle.std.specs.List.{Contains, sum_by, range_with_len}
 use Rattle.rb_core.specs.declared.program.Program.{Program}
 use Rattle.rb_layout.specs.declared.layout.FlatWord.{FlatWord}
-use Rattle.rb_layout.specs.declared.layout.Layout.{Layout}
 use Rattle.rb_layout.specs.declared.layout.Part.{Part}
 use Rattle.rb_layout.specs.A3.{IsIn}
 use Rattle.rb_layout.specs.Each.{EachLayout}

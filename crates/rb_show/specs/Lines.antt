@@ -55,11 +55,16 @@ root_word_lines i word = codes "word " ++ decimal i ++ width_lines word
 abbrev pub block_word_lines : List FlatWord → ℕ → FlatWord → List ℕ
 block_word_lines words i word = codes "word " ++ decimal i ++ codes " at byte " ++ decimal (begins_at words i) ++ width_lines word
 
+-- the end of a block's first line
+abbrev pub size_line : ℕ → ℕ → List ℕ
+size_line size align = line (codes ": " ++ decimal size ++ codes " bytes, align " ++ decimal align)
+
+abbrev pub block_line : ℕ → ℕ → ℕ → List ℕ
+block_line i size align = codes "block " ++ decimal i ++ size_line size align
+
 -- block i of a leaf
 abbrev pub block_lines : ℕ → Block → List ℕ
-block_lines i block =
-    line (codes "block " ++ decimal i ++ codes ": " ++ decimal (size_of block) ++ codes " bytes, align " ++ decimal block.align)
-    ++ numbered (block_word_lines block.words) 0 block.words
+block_lines i block = block_line i (size_of block) block.align ++ numbered (block_word_lines block.words) 0 block.words
 
 -- Leaves ------------------------------------------------------------------------------------
 
@@ -92,9 +97,12 @@ abbrev pub type_name : Option DataDecl → List ℕ
 type_name None = []
 type_name (Some d) = d.name
 
+abbrev pub type_line : List DataDecl → ℕ → List ℕ
+type_line types t = line (codes "type " ++ type_name (slice_get types t))
+
 -- the leaves stand from left to right
 abbrev pub layout_lines : List DataDecl → Layout → List ℕ
-layout_lines types layout = line (codes "type " ++ type_name (slice_get types layout.ty)) ++ flat_map (route_lines types layout.leaves) (routes_of layout.tree)
+layout_lines types layout = type_line types layout.ty ++ flat_map (route_lines types layout.leaves) (routes_of layout.tree)
 
 -- the text of layouts
 abbrev pub layouts_text : List DataDecl → List Layout → List ℕ

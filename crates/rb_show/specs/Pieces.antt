@@ -1,5 +1,5 @@
 -- The pieces of a word: its parts, and the ranges of bits that no part holds.
-use Rattle.std.specs.Prelude.{◌≡◌, ℕ, zero, suc, ◌+◌, ◌-◌, ◌<◌, ◌≤◌, ◌==◌, ◌&&◌, ◌||◌, leb, ltb, List, [], ◌∷◌, ◌++◌, Bool, true, false, not, if◌then◌else◌}
+use Rattle.std.specs.Prelude.{ℕ, zero, suc, ◌+◌, ◌-◌, ◌==◌, ◌&&◌, ◌||◌, leb, ltb, List, [], ◌∷◌, ◌++◌, Bool, not, if◌then◌else◌}
 use Rattle.std.specs.List.{flat_map, list_any, range_with_len}
 use Rattle.rb_layout.specs.declared.layout.FlatWord.{FlatWord}
 use Rattle.rb_layout.specs.declared.layout.Part.{Part}
@@ -25,17 +25,16 @@ abbrev pub free_bits : FlatWord → ℕ → ℕ → ℕ
 free_bits word i zero = 0
 free_bits word i (suc n) = if is_free word i then suc (free_bits word (suc i) n) else 0
 
--- the parts that begin at bit i, as they are written
-abbrev pub held_at : ℕ → List Part → List Piece
-held_at i [] = []
-held_at i (p ∷ ps) = if p.o == i then Held p ∷ held_at i ps else held_at i ps
+-- the part, if it begins at bit i
+abbrev pub held_at : ℕ → Part → List Piece
+held_at i p = if p.o == i then Held p ∷ [] else []
 
 -- the free range that begins at bit i, if one does
 abbrev pub free_at : FlatWord → ℕ → List Piece
 free_at word i = if begins_free word i then Free i (free_bits word i (word.width - i)) ∷ [] else []
 
 abbrev pub pieces_at : FlatWord → ℕ → List Piece
-pieces_at word i = held_at i word.parts ++ free_at word i
+pieces_at word i = flat_map (held_at i) word.parts ++ free_at word i
 
 -- the pieces of a word, from bit to bit
 abbrev pub pieces_of : FlatWord → List Piece

@@ -14,7 +14,12 @@ use rb_layout::layout::FlatArm;
 use std::alloc::{AllocError, Global};
 
 /// The lines of conditions, and that of one more: that a literal stands at a location.
-pub(crate) fn and_is(alloc: Global, above: &[u8], loc: &Loc, literal: u64) -> Result<Vec<u8>, AllocError>
+pub(crate) fn and_is(
+    alloc: Global,
+    above: &[u8],
+    loc: &Loc,
+    literal: u64,
+) -> Result<Vec<u8>, AllocError>
     ensures { IfOk result (λ text. text.items ≡ above.now ++ condition_line (Is loc.now literal)) }
 {
     let mut text = Vec::from_slice(alloc, above)?;
@@ -53,7 +58,12 @@ fn push_none(text: &mut Vec<u8>, arms: &[FlatArm]) -> Result<(), AllocError>
 }
 
 /// The lines of conditions, and that of one more: that none of the arms' literals stands at a location.
-pub(crate) fn and_none(alloc: Global, above: &[u8], loc: &Loc, arms: &[FlatArm]) -> Result<Vec<u8>, AllocError>
+pub(crate) fn and_none(
+    alloc: Global,
+    above: &[u8],
+    loc: &Loc,
+    arms: &[FlatArm],
+) -> Result<Vec<u8>, AllocError>
     ensures { IfOk result (λ text. text.items ≡ above.now ++ condition_line (IsNone loc.now (literals_in arms.now))) }
 {
     let mut text = Vec::from_slice(alloc, above)?;

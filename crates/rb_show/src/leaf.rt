@@ -9,6 +9,7 @@ use crate::pattern::push_pattern;
 use crate::text::push;
 use crate::ways::Way;
 use crate::word::{push_blocks, push_root};
+use rb_core::seq::Seq;
 use rb_core::types::DataDecl;
 use rb_layout::layout::Leaf;
 use std::alloc::AllocError;
@@ -35,7 +36,7 @@ fn push_leaf(
 pub(crate) fn push_way(
     text: &mut Vec<u8>,
     types: &[DataDecl],
-    leaves: &[Leaf],
+    leaves: &Seq<Leaf>,
     way: &Way,
 ) -> Result<(), AllocError>
     requires { HaveBlocks leaves.now }

@@ -16,7 +16,7 @@ fn push_path(text: &mut Vec<u8>, path: &[u32]) -> Result<(), AllocError>
 {
     for field in path {
         push(text, b".")?;
-        push_number(text, u64::from(*field))?;
+        push_number(text, *field as u64)?;
     }
     Ok(())
 }
@@ -44,7 +44,7 @@ fn push_kind(text: &mut Vec<u8>, l: u64, kind: &Kind) -> Result<(), AllocError>
         }
         Kind::Pointer(_, block) => {
             push(text, b"pointer to block ")?;
-            push_number(text, u64::from(*block))?;
+            push_number(text, *block as u64)?;
         }
     }
     Ok(())
@@ -71,14 +71,22 @@ fn push_free(text: &mut Vec<u8>, o: u64, l: u64) -> Result<(), AllocError>
     Ok(())
 }
 
+// A part, if it begins at this bit.
+fn push_part_at(text: &mut Vec<u8>, part: &Part, bit: u64) -> Result<(), AllocError>
+    ensures { OnOk result (text.new.items ≡ text.old.items ++ flat_map piece_line (held_at bit part.now)) }
+{
+    if part.o == bit {
+        push_part(text, part)?;
+    }
+    Ok(())
+}
+
 // The parts that begin at a bit.
 fn push_held(text: &mut Vec<u8>, parts: &[Part], bit: u64) -> Result<(), AllocError>
-    ensures { OnOk result (text.new.items ≡ text.old.items ++ flat_map piece_line (held_at bit parts.now)) }
+    ensures { OnOk result (text.new.items ≡ text.old.items ++ flat_map piece_line (flat_map (held_at bit) parts.now)) }
 {
     for part in parts {
-        if part.o == bit {
-            push_part(text, part)?;
-        }
+        push_part_at(text, part, bit)?;
     }
     Ok(())
 }

@@ -2,18 +2,19 @@
 
 ghost use Rattle.std.specs.Prelude.{◌≡◌, ◌++◌, IfOk, OnOk, slice_get};
 ghost use Rattle.std.specs.List.{flat_map};
-ghost use Rattle.rb_show.specs.Lines.{layout_lines, layouts_text, type_name};
+ghost use Rattle.rb_show.specs.Lines.{layout_lines, layouts_text, type_line, type_name};
 ghost use Rattle.rb_show.specs.inner.Ways.{HaveBlocks, way_lines};
 
 use crate::leaf::push_way;
 use crate::text::push;
 use crate::ways::{Way, ways};
+use rb_core::seq::Seq;
 use rb_core::types::DataDecl;
 use rb_layout::agreed::Agreed;
 use rb_layout::layout::{Layout, Leaf};
 use std::alloc::{AllocError, Global};
 
-fn push_type_name(text: &mut Vec<u8>, types: &[DataDecl], ty: u32) -> Result<(), AllocError>
+fn push_name(text: &mut Vec<u8>, types: &[DataDecl], ty: u32) -> Result<(), AllocError>
     ensures { OnOk result (text.new.items ≡ text.old.items ++ type_name (slice_get types.now ty)) }
 {
     match types.get(ty as usize) {
@@ -22,11 +23,20 @@ fn push_type_name(text: &mut Vec<u8>, types: &[DataDecl], ty: u32) -> Result<(),
     }
 }
 
+fn push_type(text: &mut Vec<u8>, types: &[DataDecl], ty: u32) -> Result<(), AllocError>
+    ensures { OnOk result (text.new.items ≡ text.old.items ++ type_line types.now ty) }
+{
+    push(text, b"type ")?;
+    push_name(text, types, ty)?;
+    push(text, b"\n")?;
+    Ok(())
+}
+
 // The leaves to which ways lead.
 fn push_leaves(
     text: &mut Vec<u8>,
     types: &[DataDecl],
-    leaves: &[Leaf],
+    leaves: &Seq<Leaf>,
     ways: &[Way],
 ) -> Result<(), AllocError>
     requires { HaveBlocks leaves.now }
@@ -47,11 +57,9 @@ fn push_layout(
     requires { HaveBlocks layout.now.leaves }
     ensures { OnOk result (text.new.items ≡ text.old.items ++ layout_lines types.now layout.now) }
 {
-    push(text, b"type ")?;
-    push_type_name(text, types, layout.ty)?;
-    push(text, b"\n")?;
+    push_type(text, types, layout.ty)?;
     let ways = ways(alloc, &layout.tree)?;
-    push_leaves(text, types, layout.leaves.as_slice(), ways.as_slice())?;
+    push_leaves(text, types, &layout.leaves, ways.as_slice())?;
     Ok(())
 }
 

@@ -29,7 +29,12 @@ pub(crate) fn ways(alloc: Global, tree: &FlatTree) -> Result<Seq<Way>, AllocErro
 
 // The ways to the leaves of a tree that has these conditions above it.
 #[cycle(leading)]
-fn push_ways(alloc: Global, tree: &FlatTree, above: &[u8], ways: &mut Seq<Way>) -> Result<(), AllocError>
+fn push_ways(
+    alloc: Global,
+    tree: &FlatTree,
+    above: &[u8],
+    ways: &mut Seq<Way>,
+) -> Result<(), AllocError>
     ensures { OnOk result (ways.new ≡ ways.old ++ ways_behind above.now (routes_of tree.now)) }
 {
     match tree {

@@ -4,7 +4,7 @@ ghost use Rattle.std.specs.Prelude.{◌≡◌, ◌++◌, OnOk, codes};
 ghost use Rattle.std.specs.Fmt.{decimal};
 ghost use Rattle.rb_layout.specs.Readable.{AreShort};
 ghost use Rattle.rb_show.specs.inner.Ways.{HaveShortWords};
-ghost use Rattle.rb_show.specs.Lines.{numbered, block_lines, block_word_lines, root_word_lines, width_lines};
+ghost use Rattle.rb_show.specs.Lines.{numbered, block_line, block_lines, block_word_lines, root_word_lines, size_line, width_lines};
 
 use crate::piece::push_pieces;
 use crate::text::{push, push_number};
@@ -44,7 +44,12 @@ pub(crate) fn push_root(text: &mut Vec<u8>, words: &[FlatWord]) -> Result<(), Al
 }
 
 // A word of a block, with so many bytes below it.
-fn push_block_word(text: &mut Vec<u8>, number: u64, byte: u64, word: &FlatWord) -> Result<(), AllocError>
+fn push_block_word(
+    text: &mut Vec<u8>,
+    number: u64,
+    byte: u64,
+    word: &FlatWord,
+) -> Result<(), AllocError>
     ensures { OnOk result (text.new.items ≡ text.old.items ++ (codes "word " ++ decimal number ++ codes " at byte " ++ decimal byte ++ width_lines word.now)) }
 {
     push(text, b"word ")?;
@@ -68,17 +73,32 @@ fn push_block_words(text: &mut Vec<u8>, words: &[FlatWord]) -> Result<(), AllocE
     Ok(())
 }
 
+// The end of a block's first line.
+fn push_size(text: &mut Vec<u8>, size: u64, align: u64) -> Result<(), AllocError>
+    ensures { OnOk result (text.new.items ≡ text.old.items ++ size_line size align) }
+{
+    push(text, b": ")?;
+    push_number(text, size)?;
+    push(text, b" bytes, align ")?;
+    push_number(text, align)?;
+    push(text, b"\n")?;
+    Ok(())
+}
+
+fn push_block_line(text: &mut Vec<u8>, number: u64, size: u64, align: u64) -> Result<(), AllocError>
+    ensures { OnOk result (text.new.items ≡ text.old.items ++ block_line number size align) }
+{
+    push(text, b"block ")?;
+    push_number(text, number)?;
+    push_size(text, size, align)?;
+    Ok(())
+}
+
 fn push_block(text: &mut Vec<u8>, number: u64, block: &Block) -> Result<(), AllocError>
     requires { AreShort block.now.words }
     ensures { OnOk result (text.new.items ≡ text.old.items ++ block_lines number block.now) }
 {
-    push(text, b"block ")?;
-    push_number(text, number)?;
-    push(text, b": ")?;
-    push_number(text, block_size(block))?;
-    push(text, b" bytes, align ")?;
-    push_number(text, block.align)?;
-    push(text, b"\n")?;
+    push_block_line(text, number, block_size(block), block.align)?;
     push_block_words(text, block.words.as_slice())?;
     Ok(())
 }
