@@ -6,7 +6,7 @@ use Rattle.rb_layout.specs.declared.layout.Leaf.{Leaf}
 use Rattle.rb_layout.specs.declared.layout.FlatWord.{FlatWord}
 use Rattle.rb_layout.specs.A4.{IsBlockWidth, HasBlocks}
 use Rattle.rb_layout.specs.Words.{bytes_in}
-use Rattle.rb_show.specs.inner.Ways.{HaveShortWords}
+use Rattle.rb_show.specs.Short.{HaveShortWords}
 use Rattle.rb_show.specs.Pieces.{is_free, free_bits}
 
 bytes-push : (fs : List FlatWord) (f : FlatWord) → bytes_in (fs ++ f ∷ []) ≡ bytes_in fs + f.width / 8

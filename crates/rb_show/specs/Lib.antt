@@ -3,4 +3,5 @@ pub mod Lines
 pub mod Locations
 pub mod Patterns
 pub mod Pieces
+pub mod Short
 pub mod inner

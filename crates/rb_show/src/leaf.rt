@@ -1,9 +1,9 @@
 //! The lines of leaves.
 
 ghost use Rattle.std.specs.Prelude.{◌≡◌, ◌++◌, OnOk};
-ghost use Rattle.rb_layout.specs.A4.{HasBlocks};
 ghost use Rattle.rb_show.specs.Lines.{leaf_lines};
-ghost use Rattle.rb_show.specs.inner.Ways.{HaveBlocks, way_lines};
+ghost use Rattle.rb_show.specs.Short.{HaveShortBlocks, HaveShortWords};
+ghost use Rattle.rb_show.specs.inner.Ways.{way_lines};
 
 use crate::pattern::push_pattern;
 use crate::text::push;
@@ -20,7 +20,7 @@ fn push_leaf(
     conditions: &[u8],
     leaf: &Leaf,
 ) -> Result<(), AllocError>
-    requires { HasBlocks leaf.now }
+    requires { HaveShortWords leaf.now.blocks }
     ensures { OnOk result (text.new.items ≡ text.old.items ++ leaf_lines types.now conditions.now leaf.now) }
 {
     push(text, b"leaf ")?;
@@ -39,7 +39,7 @@ pub(crate) fn push_way(
     leaves: &Seq<Leaf>,
     way: &Way,
 ) -> Result<(), AllocError>
-    requires { HaveBlocks leaves.now }
+    requires { HaveShortBlocks leaves.now }
     ensures { OnOk result (text.new.items ≡ text.old.items ++ way_lines types.now leaves.now way.now) }
 {
     match leaves.get(way.leaf as usize) {

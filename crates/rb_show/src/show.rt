@@ -3,7 +3,8 @@
 ghost use Rattle.std.specs.Prelude.{◌≡◌, ◌++◌, IfOk, OnOk, slice_get};
 ghost use Rattle.std.specs.List.{flat_map};
 ghost use Rattle.rb_show.specs.Lines.{layout_lines, layouts_text, type_line, type_name};
-ghost use Rattle.rb_show.specs.inner.Ways.{HaveBlocks, way_lines};
+ghost use Rattle.rb_show.specs.Short.{HaveShortBlocks};
+ghost use Rattle.rb_show.specs.inner.Ways.{way_lines};
 
 use crate::leaf::push_way;
 use crate::text::push;
@@ -39,7 +40,7 @@ fn push_leaves(
     leaves: &Seq<Leaf>,
     ways: &[Way],
 ) -> Result<(), AllocError>
-    requires { HaveBlocks leaves.now }
+    requires { HaveShortBlocks leaves.now }
     ensures { OnOk result (text.new.items ≡ text.old.items ++ flat_map (way_lines types.now leaves.now) ways.now) }
 {
     for way in ways {
@@ -48,13 +49,19 @@ fn push_leaves(
     Ok(())
 }
 
-fn push_layout(
+/// Adds the text of one layout to a text, where the words of its blocks are few and short, as those of
+/// layouts that agree with their types are.
+///
+/// # Errors
+///
+/// `AllocError` where memory is wanting.
+pub fn push_layout(
     alloc: Global,
     text: &mut Vec<u8>,
     types: &[DataDecl],
     layout: &Layout,
 ) -> Result<(), AllocError>
-    requires { HaveBlocks layout.now.leaves }
+    requires { HaveShortBlocks layout.now.leaves }
     ensures { OnOk result (text.new.items ≡ text.old.items ++ layout_lines types.now layout.now) }
 {
     push_type(text, types, layout.ty)?;

@@ -3,7 +3,7 @@
 ghost use Rattle.std.specs.Prelude.{◌≡◌, ◌++◌, OnOk, codes};
 ghost use Rattle.std.specs.Fmt.{decimal};
 ghost use Rattle.rb_layout.specs.Readable.{AreShort};
-ghost use Rattle.rb_show.specs.inner.Ways.{HaveShortWords};
+ghost use Rattle.rb_show.specs.Short.{HaveShortWords};
 ghost use Rattle.rb_show.specs.Lines.{numbered, block_line, block_lines, block_word_lines, root_word_lines, size_line, width_lines};
 
 use crate::piece::push_pieces;

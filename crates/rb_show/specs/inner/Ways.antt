@@ -4,9 +4,6 @@ use Rattle.std.specs.List.{flat_map}
 use Rattle.rb_core.specs.declared.types.DataDecl.{DataDecl}
 use Rattle.rb_layout.specs.declared.layout.Leaf.{Leaf}
 use Rattle.rb_layout.specs.declared.layout.FlatArm.{FlatArm}
-use Rattle.rb_layout.specs.declared.layout.Block.{Block}
-use Rattle.rb_layout.specs.A4.{HasBlocks}
-use Rattle.rb_layout.specs.Readable.{AreShort}
 use Rattle.rb_layout.specs.Splits.{Route}
 use Rattle.rb_show.specs.Lines.{condition_line, found_lines}
 use Rattle.rb_show.specs.declared.ways.Way.{Way}
@@ -23,11 +20,3 @@ way_lines types leaves way = found_lines types way.conditions (slice_get leaves 
 
 abbrev pub literals_in : List FlatArm → List ℕ
 literals_in arms = map (λ (arm : FlatArm). arm.literal) arms
-
--- the blocks of each leaf are as they must be
-abbrev pub HaveBlocks : List Leaf → Type 0
-HaveBlocks leaves = (n : ℕ) (leaf : Leaf) → slice_get leaves n ≡ Some leaf → HasBlocks leaf
-
--- the words of each block are few and short
-abbrev pub HaveShortWords : List Block → Type 0
-HaveShortWords blocks = (b : ℕ) (block : Block) → slice_get blocks b ≡ Some block → AreShort block.words

@@ -1,5 +1,4 @@
-use Rattle.rb_show.proofs.Words.{short_words}
 use Rattle.rb_show.proofs.leaf.push_leaf.Goals as goal
 
 pub push_blocks-requires : goal.push_blocks-requires
-push_blocks-requires c = rw c.as_slice-2.ensures (short_words c.args.leaf.now c.requires)
+push_blocks-requires c = rw c.as_slice-2.ensures c.requires
