@@ -2,6 +2,7 @@
 use Rattle.std.proofs.Common.{◌≡◌, ℕ, ◌+◌, ◌<◌, List, [], ◌∷◌, ◌++◌, map, length, take, get_or, Some, None, refl, sym, ap, ◌∙◌, append_assoc, append-nil}
 use Rattle.std.proofs.lemmas.List.{map-append}
 use Rattle.std.proofs.lemmas.List.Folds.{flat_map-map}
+use Rattle.std.proofs.Math.Seq.{take-append_seam}
 use Rattle.std.specs.List.{flat_map}
 use Rattle.rb_core.specs.declared.layout_decl.Loc.{Loc}
 use Rattle.rb_core.specs.declared.types.DataDecl.{DataDecl}
@@ -13,7 +14,7 @@ use Rattle.rb_layout.specs.declared.layout.Leaf.{Leaf}
 use Rattle.rb_layout.specs.Splits.{Test, Is, IsNone, Route, behind, Under, arm_routes, literals_of, routes_step, routes_arm, routes_of, routes_under}
 use Rattle.rb_layout.proofs.FlatForms as F
 use Rattle.rb_show.specs.Lines.{condition_line, route_lines}
-use Rattle.rb_show.specs.inner.Ways.{literals_in, way_behind, way_lines, ways_behind}
+use Rattle.rb_show.specs.inner.Ways.{literals_in, way, way_behind, way_lines, ways_behind}
 use Rattle.rb_show.specs.declared.ways.Way.{Way}
 use Rattle.rb_show.proofs.Texts.{appended, flat_next}
 
@@ -38,9 +39,6 @@ pub routes-Split-else : (loc : Loc) (arms : List FlatArm) (other : FlatTree)
 routes-Split-else loc arms other =
     F.fold-Split-else (List Route) (Under (List Route)) routes_step routes_arm loc arms other
     ∙ ap (λ ls. arms_routes loc arms ++ map (behind (IsNone loc ls)) (routes_of other)) (literals-are arms)
-
-abbrev way : ℕ → List ℕ → Way
-way leaf conditions = record { leaf = leaf; conditions = conditions }
 
 -- the outermost test's line stands behind those above it
 pub ways-behind : (above : List ℕ) (t : Test) (rs : List Route) → ways_behind (above ++ condition_line t) rs ≡ ways_behind above (map (behind t) rs)
@@ -93,3 +91,7 @@ arms_next loc arms k x above below start before after lt is b e0 e1 =
 -- the lines of ways with no condition above them are those of the routes
 pub routes-shown : (types : List DataDecl) (leaves : List Leaf) (rs : List Route) → flat_map (way_lines types leaves) (ways_behind [] rs) ≡ flat_map (route_lines types leaves) rs
 routes-shown types leaves rs = flat_map-map (way_lines types leaves) (way_behind []) rs
+
+-- a text that was cut to its old length again
+pub restored : (n : ℕ) (old middle late new : List ℕ) (line : List ℕ) → n ≡ length old → middle ≡ old ++ line → late ≡ middle → new ≡ take n late → new ≡ old
+restored n old middle late new line e0 e1 e2 e3 = e3 ∙ ap (λ l. take n l) (e2 ∙ e1) ∙ ap (λ k. take k (old ++ line)) e0 ∙ take-append_seam old line

@@ -1,6 +1,6 @@
 //! The lines of the conditions that splits put on the leaves below them.
 
-ghost use Rattle.std.specs.Prelude.{◌≡◌, ◌++◌, OnOk, IfOk, codes};
+ghost use Rattle.std.specs.Prelude.{◌≡◌, ◌++◌, OnOk, codes};
 ghost use Rattle.std.specs.Fmt.{decimal};
 ghost use Rattle.std.specs.List.{flat_map};
 ghost use Rattle.rb_layout.specs.Splits.{Is, IsNone};
@@ -11,24 +11,18 @@ use crate::location::push_loc;
 use crate::text::{push, push_number};
 use rb_core::layout_decl::Loc;
 use rb_layout::layout::FlatArm;
-use std::alloc::{AllocError, Global};
+use std::alloc::AllocError;
 
-/// The lines of conditions, and that of one more: that a literal stands at a location.
-pub(crate) fn and_is(
-    alloc: Global,
-    above: &[u8],
-    loc: &Loc,
-    literal: u64,
-) -> Result<Vec<u8>, AllocError>
-    ensures { IfOk result (λ text. text.items ≡ above.now ++ condition_line (Is loc.now literal)) }
+/// Adds the line of a condition: that a literal stands at a location.
+pub(crate) fn push_is(text: &mut Vec<u8>, loc: &Loc, literal: u64) -> Result<(), AllocError>
+    ensures { OnOk result (text.new.items ≡ text.old.items ++ condition_line (Is loc.now literal)) }
 {
-    let mut text = Vec::from_slice(alloc, above)?;
-    push(&mut text, b"when ")?;
-    push_loc(&mut text, loc)?;
-    push(&mut text, b" = ")?;
-    push_number(&mut text, literal)?;
-    push(&mut text, b"\n")?;
-    Ok(text)
+    push(text, b"when ")?;
+    push_loc(text, loc)?;
+    push(text, b" = ")?;
+    push_number(text, literal)?;
+    push(text, b"\n")?;
+    Ok(())
 }
 
 // The literals behind the first, each behind a comma.
@@ -57,19 +51,17 @@ fn push_none(text: &mut Vec<u8>, arms: &[FlatArm]) -> Result<(), AllocError>
     }
 }
 
-/// The lines of conditions, and that of one more: that none of the arms' literals stands at a location.
-pub(crate) fn and_none(
-    alloc: Global,
-    above: &[u8],
+/// Adds the line of a condition: that none of the arms' literals stands at a location.
+pub(crate) fn push_is_none(
+    text: &mut Vec<u8>,
     loc: &Loc,
     arms: &[FlatArm],
-) -> Result<Vec<u8>, AllocError>
-    ensures { IfOk result (λ text. text.items ≡ above.now ++ condition_line (IsNone loc.now (literals_in arms.now))) }
+) -> Result<(), AllocError>
+    ensures { OnOk result (text.new.items ≡ text.old.items ++ condition_line (IsNone loc.now (literals_in arms.now))) }
 {
-    let mut text = Vec::from_slice(alloc, above)?;
-    push(&mut text, b"when ")?;
-    push_loc(&mut text, loc)?;
-    push_none(&mut text, arms)?;
-    push(&mut text, b"\n")?;
-    Ok(text)
+    push(text, b"when ")?;
+    push_loc(text, loc)?;
+    push_none(text, arms)?;
+    push(text, b"\n")?;
+    Ok(())
 }

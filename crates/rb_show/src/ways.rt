@@ -1,14 +1,12 @@
 //! The ways through a tree of splits to its leaves.
 
-ghost use Rattle.std.specs.Prelude.{◌≡◌, ◌++◌, [], IfOk, OnOk, map};
-ghost use Rattle.std.specs.List.{flat_map};
-ghost use Rattle.rb_layout.specs.Splits.{arm_routes, routes_of, routes_under};
-ghost use Rattle.rb_show.specs.inner.Ways.{ways_behind};
+ghost use Rattle.std.specs.Prelude.{◌≡◌, ◌++◌, ◌∷◌, [], IfOk, OnOk};
+ghost use Rattle.rb_layout.specs.Splits.{routes_of};
+ghost use Rattle.rb_show.specs.inner.Ways.{way, ways_behind};
 
-use crate::condition::{and_is, and_none};
-use rb_core::layout_decl::Loc;
+use crate::condition::{push_is, push_is_none};
 use rb_core::seq::Seq;
-use rb_layout::layout::{FlatArm, FlatTree};
+use rb_layout::layout::FlatTree;
 use std::alloc::{AllocError, Global};
 
 // A leaf's number, and the lines of the conditions of the splits above it, from the outside.
@@ -23,35 +21,38 @@ pub(crate) fn ways(alloc: Global, tree: &FlatTree) -> Result<Seq<Way>, AllocErro
     ensures { IfOk result (λ ways. ways ≡ ways_behind [] (routes_of tree.now)) }
 {
     let mut ways = Seq::new(alloc);
-    push_ways(alloc, tree, &[], &mut ways)?;
+    let mut above = Vec::new(alloc);
+    push_ways(alloc, tree, &mut above, &mut ways)?;
     Ok(ways)
 }
 
-// The ways to the leaves of a tree that has these conditions above it.
+// The ways to the leaves of a tree that has these conditions above it, which are there again afterwards.
 #[cycle(leading)]
 fn push_ways(
     alloc: Global,
     tree: &FlatTree,
-    above: &[u8],
+    above: &mut Vec<u8>,
     ways: &mut Seq<Way>,
 ) -> Result<(), AllocError>
-    ensures { OnOk result (ways.new ≡ ways.old ++ ways_behind above.now (routes_of tree.now)) }
+    ensures ways { OnOk result (ways.new ≡ ways.old ++ ways_behind above.old.items (routes_of tree.now)) }
+    ensures above { OnOk result (above.new.items ≡ above.old.items) }
 {
     match tree {
-        FlatTree::Leaf(leaf) => {
-            ways.push(Way {
-                leaf: *leaf,
-                conditions: Seq::from_vec(Vec::from_slice(alloc, above)?),
-            })?;
-            Ok(())
-        }
+        FlatTree::Leaf(leaf) => push_way(alloc, *leaf, above.as_slice(), ways),
         FlatTree::Split(loc, arms, other) => {
-            push_arms(alloc, loc, arms.as_slice(), above, ways)?;
+            for arm in arms.as_slice() {
+                let many = above.len();
+                push_is(above, loc, arm.literal)?;
+                push_ways(alloc, &arm.under, above, ways)?;
+                above.truncate(many);
+            }
             match other {
                 None => Ok(()),
                 Some(other) => {
-                    let below = and_none(alloc, above, loc, arms.as_slice())?;
-                    push_ways(alloc, other.get(), below.as_slice(), ways)?;
+                    let many = above.len();
+                    push_is_none(above, loc, arms.as_slice())?;
+                    push_ways(alloc, other.get(), above, ways)?;
+                    above.truncate(many);
                     Ok(())
                 }
             }
@@ -59,20 +60,17 @@ fn push_ways(
     }
 }
 
-// The ways below the arms of a split, from left to right.
-#[cycle(leading)]
-fn push_arms(
+fn push_way(
     alloc: Global,
-    loc: &Loc,
-    arms: &[FlatArm],
-    above: &[u8],
+    leaf: u32,
+    conditions: &[u8],
     ways: &mut Seq<Way>,
 ) -> Result<(), AllocError>
-    ensures { OnOk result (ways.new ≡ ways.old ++ ways_behind above.now (flat_map (arm_routes loc.now) (map routes_under arms.now))) }
+    ensures { OnOk result (ways.new ≡ ways.old ++ way leaf conditions.now ∷ []) }
 {
-    for arm in arms {
-        let below = and_is(alloc, above, loc, arm.literal)?;
-        push_ways(alloc, &arm.under, below.as_slice(), ways)?;
-    }
+    ways.push(Way {
+        leaf,
+        conditions: Seq::from_vec(Vec::from_slice(alloc, conditions)?),
+    })?;
     Ok(())
 }
