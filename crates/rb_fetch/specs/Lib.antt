@@ -1,4 +1,6 @@
 pub mod Fetching
 pub mod Finding
+pub mod Fields
+pub mod Plain
 pub mod inner
 pub mod Plain
