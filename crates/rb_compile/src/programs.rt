@@ -1,15 +1,18 @@
 //! From programs to code.
 
-ghost use Rattle.std.specs.Prelude.{◌≡◌, ◌↔◌, [], IfOk, IsTrue};
-ghost use Rattle.rb_rel.specs.Switches.{inner_heads};
-ghost use Rattle.rb_fetch.specs.Plain.{ArePlain, AreShallow};
+ghost use Rattle.std.specs.Prelude.{◌≡◌, ◌↔◌, [], length, IfOk, IsTrue};
+ghost use Rattle.rb_rel.specs.Switches.{heads_of, inner_heads};
+ghost use Rattle.rb_fetch.specs.Plain.{ArePlain, IsPlain};
 ghost use Rattle.rb_compile.specs.Plans.{plan_of};
 ghost use Rattle.rb_compile.specs.Refining.{Refines};
 ghost use Rattle.rb_compile.specs.Thrift.{IsThrifty};
+ghost use Rattle.rb_compile.specs.inner.Functions.{FirstCompile};
 
 use crate::functions::compile_fun;
+use rb_core::pattern::Pat;
 use rb_core::seq::Seq;
 use rb_layout::agreed::Agreed;
+use rb_layout::layout::{Layout, Leaf};
 use rb_target::code::{Code, CodeFun};
 use std::alloc::{AllocError, Global};
 
@@ -29,4 +32,50 @@ pub fn compile(alloc: Global, agreed: &Agreed) -> Result<Code, AllocError>
     }
     let funs = compile_all(alloc, agreed)?;
     Ok(Code::new(funs))
+}
+
+/// Whether no provenance of the layouts has a constructor below its root.
+pub fn are_plain(layouts: &[Layout]) -> bool
+    ensures { IsTrue result ↔ ArePlain layouts.now }
+{
+    layouts.iter().all(|layout| is_plain(layout))
+}
+
+fn is_plain(layout: &Layout) -> bool
+    ensures { IsTrue result ↔ IsPlain layout.now }
+{
+    layout.leaves.as_slice().iter().all(|leaf| is_shallow(leaf))
+}
+
+fn is_shallow(leaf: &Leaf) -> bool
+    ensures { IsTrue result ↔ (inner_heads leaf.now ≡ []) }
+{
+    match &leaf.prov {
+        Pat::Wild(_) | Pat::Var(_, _) | Pat::Num(_, _) => true,
+        Pat::Con(_, _, subs) => subs.as_slice().iter().all(|sub| is_open(sub)),
+    }
+}
+
+// Whether a pattern is no constructor.
+fn is_open(pat: &Pat) -> bool
+    ensures { IsTrue result ↔ (heads_of pat.now ≡ []) }
+{
+    match pat {
+        Pat::Wild(_) | Pat::Var(_, _) | Pat::Num(_, _) => true,
+        Pat::Con(_, _, _) => false,
+    }
+}
+
+// The code of all functions, in their order.
+fn compile_all(alloc: Global, agreed: &Agreed) -> Result<Seq<CodeFun>, AllocError>
+    requires { ArePlain agreed.now.layouts }
+    ensures { IfOk result (λ funs. FirstCompile (plan_of agreed.now) (length agreed.now.covered.program.funs) funs) }
+{
+    let program = agreed.covered().program();
+    let mut funs = Seq::new(alloc);
+    for (number, fun) in program.funs.as_slice().iter().enumerate() {
+        let code = compile_fun(alloc, agreed, number, fun)?;
+        funs.push(code)?;
+    }
+    Ok(funs)
 }

@@ -3,4 +3,3 @@ pub mod Finding
 pub mod Fields
 pub mod Plain
 pub mod inner
-pub mod Plain
