@@ -4,3 +4,9 @@ pub mod Forms
 pub mod Variables
 pub mod Operators
 pub mod Parts
+pub mod Arms
+pub mod Choices
+pub mod Accepted
+pub mod Plain
+pub mod Whole
+pub mod Refined

@@ -6,10 +6,11 @@ ghost use Rattle.rb_fetch.specs.Plain.{ArePlain, IsPlain};
 ghost use Rattle.rb_compile.specs.Plans.{plan_of};
 ghost use Rattle.rb_compile.specs.Refining.{Refines};
 ghost use Rattle.rb_compile.specs.Thrift.{IsThrifty};
-ghost use Rattle.rb_compile.specs.inner.Functions.{FirstCompile};
+ghost use Rattle.rb_compile.specs.inner.Functions.{FirstCompile, ProgramIsReady};
 
 use crate::functions::compile_fun;
 use rb_core::pattern::Pat;
+use rb_core::program::Fun;
 use rb_core::seq::Seq;
 use rb_layout::agreed::Agreed;
 use rb_layout::layout::{Layout, Leaf};
@@ -30,7 +31,8 @@ pub fn compile(alloc: Global, agreed: &Agreed) -> Result<Code, AllocError>
     if !are_plain(agreed.layouts()) {
         return Err(AllocError);
     }
-    let funs = compile_all(alloc, agreed)?;
+    let program = agreed.covered().program();
+    let funs = compile_all(alloc, agreed, program.funs.as_slice())?;
     Ok(Code::new(funs))
 }
 
@@ -67,15 +69,19 @@ fn is_open(pat: &Pat) -> bool
 }
 
 // The code of all functions, in their order.
-fn compile_all(alloc: Global, agreed: &Agreed) -> Result<Seq<CodeFun>, AllocError>
-    requires { ArePlain agreed.now.layouts }
-    ensures { IfOk result (λ funs. FirstCompile (plan_of agreed.now) (length agreed.now.covered.program.funs) funs) }
+fn compile_all(
+    alloc: Global,
+    agreed: &Agreed,
+    funs: &[Fun],
+) -> Result<Seq<CodeFun>, AllocError>
+    requires ready { ProgramIsReady (plan_of agreed.now) }
+    requires same { funs.now ≡ agreed.now.covered.program.funs }
+    ensures { IfOk result (λ code. FirstCompile (plan_of agreed.now) (length funs.now) code) }
 {
-    let program = agreed.covered().program();
-    let mut funs = Seq::new(alloc);
-    for (number, fun) in program.funs.as_slice().iter().enumerate() {
-        let code = compile_fun(alloc, agreed, number, fun)?;
-        funs.push(code)?;
+    let mut code = Seq::new(alloc);
+    for (number, fun) in funs.iter().enumerate() {
+        let compiled = compile_fun(alloc, agreed, number, fun)?;
+        code.push(compiled)?;
     }
-    Ok(funs)
+    Ok(code)
 }

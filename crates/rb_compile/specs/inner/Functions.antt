@@ -1,5 +1,5 @@
 -- What is known of functions, and of the code of the first of them.
-use Rattle.std.specs.Prelude.{◌≡◌, ℕ, ◌<◌, ◌≤◌, Bool, true, List, map, length, Some, Ok, slice_get}
+use Rattle.std.specs.Prelude.{◌≡◌, ℕ, ◌^◌, ◌<◌, ◌≤◌, Bool, true, List, map, length, Some, Ok, slice_get}
 use Rattle.rb_core.specs.declared.program.Fun.{Fun}
 use Rattle.rb_core.specs.Coverage.{function_sites}
 use Rattle.rb_core.specs.Typing.{binder_of, type_of}
@@ -19,6 +19,11 @@ pub record FunIsReady (plan : Plan) (g : ℕ) (f : Fun) : Type 0 where
   pub ready_sites : SitesAreReady plan g (function_sites plan.program.types plan.program.funs f)
   pub few : param_words plan f ≤ 256
   pub named : IsLower f.name
+
+-- all of them
+pub record ProgramIsReady (plan : Plan) : Type 0 where
+  pub few_funs : length plan.program.funs < 2 ^ 64
+  pub each_fun : (g : ℕ) (f : Fun) → slice_get plan.program.funs g ≡ Some f → FunIsReady plan g f
 
 -- the first functions have their code
 pub record FirstCompile (plan : Plan) (i : ℕ) (funs : List CodeFun) : Type 0 where
