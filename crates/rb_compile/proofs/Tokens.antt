@@ -117,11 +117,11 @@ Distinct xs = is_distinct nat_eq xs ≡ true
 
 not_any : (x : ℕ) (xs ys : List ℕ) → not (list_any (nat_eq x) (xs ++ ys)) ≡ true → not (list_any (nat_eq x) xs) ≡ true
 not_any x [] ys h = refl
-not_any x (y ∷ xs) ys h = pick (nat_eq x y) h
+not_any x (y ∷ xs) ys h = pick (nat_eq x y) h (not_any x xs ys)
   where
-    pick : (b : Bool) → not (b || list_any (nat_eq x) (xs ++ ys)) ≡ true → not (b || list_any (nat_eq x) xs) ≡ true
-    pick true e = cc
-    pick false e = not_any x xs ys e
+    pick : (b : Bool) → not (b || list_any (nat_eq x) (xs ++ ys)) ≡ true → (not (list_any (nat_eq x) (xs ++ ys)) ≡ true → not (list_any (nat_eq x) xs) ≡ true) → not (b || list_any (nat_eq x) xs) ≡ true
+    pick true e rest = cc
+    pick false e rest = rest e
 
 distinct-left : (xs ys : List ℕ) → Distinct (xs ++ ys) → Distinct xs
 distinct-left [] ys h = refl
@@ -152,11 +152,11 @@ other_token x s (y ∷ ss) (inl e) h = subst (λ (z : Site). nat_eq x z.at ≡ f
     pick : (b : Bool) → not (b || list_any (nat_eq x) (map token ss)) ≡ true → b ≡ false
     pick true e = cc
     pick false e = refl
-other_token x s (y ∷ ss) (inr i) h = pick (nat_eq x y.at) h
+other_token x s (y ∷ ss) (inr i) h = pick (nat_eq x y.at) h (other_token x s ss i)
   where
-    pick : (b : Bool) → not (b || list_any (nat_eq x) (map token ss)) ≡ true → nat_eq x s.at ≡ false
-    pick true e = cc
-    pick false e = other_token x s ss i e
+    pick : (b : Bool) → not (b || list_any (nat_eq x) (map token ss)) ≡ true → (not (list_any (nat_eq x) (map token ss)) ≡ true → nat_eq x s.at ≡ false) → nat_eq x s.at ≡ false
+    pick true e rest = cc
+    pick false e rest = rest e
 
 same : (n : ℕ) → (n == n) ≡ true
 same n = elim (eqb_tells n n) [ inl e ↦ e.0 | inr e ↦ absurd (e.1 refl) ]

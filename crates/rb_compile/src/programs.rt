@@ -1,6 +1,6 @@
 //! From programs to code.
 
-ghost use Rattle.std.specs.Prelude.{◌≡◌, ◌↔◌, [], length, IfOk, IsTrue};
+ghost use Rattle.std.specs.Prelude.{◌≡◌, ◌↔◌, [], length, All, IfOk, IsTrue};
 ghost use Rattle.rb_rel.specs.Switches.{heads_of, inner_heads};
 ghost use Rattle.rb_fetch.specs.Plain.{ArePlain, IsPlain};
 ghost use Rattle.rb_compile.specs.Plans.{plan_of};
@@ -17,28 +17,39 @@ use rb_layout::layout::{Layout, Leaf};
 use rb_target::code::{Code, CodeFun};
 use std::alloc::{AllocError, Global};
 
-/// The code of a program whose layouts agree: a function for each of its functions, in their order.
-///
-/// For now the layouts are to be plain: no provenance has a constructor below its root. Other programs are
-/// answered as if memory were wanting, which [`are_plain`] tells beforehand.
+/// The code of a program whose layouts agree and are plain: a function for each of its functions, in their
+/// order. Whether they are plain is told by [`are_plain`].
 ///
 /// # Errors
 /// `AllocError` where memory is wanting.
 pub fn compile(alloc: Global, agreed: &Agreed) -> Result<Code, AllocError>
-    ensures refines { IfOk result (λ code. ArePlain agreed.now.layouts → Refines (plan_of agreed.now) code) }
-    ensures thrifty { IfOk result (λ code. ArePlain agreed.now.layouts → IsThrifty (plan_of agreed.now) code) }
+    requires plain { ArePlain agreed.now.layouts }
+    ensures refines { IfOk result (λ code. Refines (plan_of agreed.now) code) }
+    ensures thrifty { IfOk result (λ code. IsThrifty (plan_of agreed.now) code) }
 {
-    if !are_plain(agreed.layouts()) {
-        return Err(AllocError);
-    }
-    let program = agreed.covered().program();
-    let funs = compile_all(alloc, agreed, program.funs.as_slice())?;
-    Ok(Code::new(funs))
+    let code = compile_all(alloc, agreed, functions(agreed))?;
+    Ok(Code::new(code))
+}
+
+// The program's functions, of which all is known that their code needs.
+fn functions(agreed: &Agreed) -> &[Fun]
+    requires { ArePlain agreed.now.layouts }
+    ensures same { result.now ≡ agreed.now.covered.program.funs }
+    ensures ready { ProgramIsReady (plan_of agreed.now) }
+{
+    let _layouts = agreed.layouts();
+    agreed.covered().program().funs.as_slice()
 }
 
 /// Whether no provenance of the layouts has a constructor below its root.
 pub fn are_plain(layouts: &[Layout]) -> bool
     ensures { IsTrue result ↔ ArePlain layouts.now }
+{
+    each_plain(layouts)
+}
+
+fn each_plain(layouts: &[Layout]) -> bool
+    ensures { IsTrue result ↔ All IsPlain layouts.now }
 {
     layouts.iter().all(|layout| is_plain(layout))
 }
@@ -46,7 +57,13 @@ pub fn are_plain(layouts: &[Layout]) -> bool
 fn is_plain(layout: &Layout) -> bool
     ensures { IsTrue result ↔ IsPlain layout.now }
 {
-    layout.leaves.as_slice().iter().all(|leaf| is_shallow(leaf))
+    each_shallow(layout.leaves.as_slice())
+}
+
+fn each_shallow(leaves: &[Leaf]) -> bool
+    ensures { IsTrue result ↔ All (λ leaf. inner_heads leaf ≡ []) leaves.now }
+{
+    leaves.iter().all(|leaf| is_shallow(leaf))
 }
 
 fn is_shallow(leaf: &Leaf) -> bool
@@ -54,8 +71,14 @@ fn is_shallow(leaf: &Leaf) -> bool
 {
     match &leaf.prov {
         Pat::Wild(_) | Pat::Var(_, _) | Pat::Num(_, _) => true,
-        Pat::Con(_, _, subs) => subs.as_slice().iter().all(|sub| is_open(sub)),
+        Pat::Con(_, _, subs) => each_open(subs.as_slice()),
     }
+}
+
+fn each_open(pats: &[Pat]) -> bool
+    ensures { IsTrue result ↔ All (λ pat. heads_of pat ≡ []) pats.now }
+{
+    pats.iter().all(|pat| is_open(pat))
 }
 
 // Whether a pattern is no constructor.
