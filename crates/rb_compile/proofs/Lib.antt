@@ -1,12 +1,12 @@
-pub mod Sites
-pub mod Tokens
-pub mod Forms
-pub mod Variables
-pub mod Operators
-pub mod Parts
-pub mod Arms
-pub mod Choices
-pub mod Accepted
-pub mod Plain
-pub mod Whole
-pub mod Refined
+mod Sites
+mod Tokens
+mod Forms
+mod Variables
+mod Operators
+mod Parts
+mod Arms
+mod Choices
+mod Accepted
+mod Plain
+mod Whole
+mod Refined

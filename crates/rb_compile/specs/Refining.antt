@@ -28,7 +28,8 @@ abbrev pub EndsAs : Plan → Bool → Ty → Memory → Laid → SourceEnd → R
 EndsAs plan clean t m (Over full) e run = run.ended ≡ target.Full full
 EndsAs plan clean t m (Fits blocks next) source.Spent run = run.ended ≡ target.Spent
 EndsAs plan clean t m (Fits blocks next) (source.Done v left) run =
-    (words : List ℕ) × (run.ended ≡ target.Returned words left) × Grown m run.world.memory blocks next × Rep plan run.world.memory clean t v words
+    (words : List ℕ) × (run.ended ≡ target.Returned words left)
+    × Grown m run.world.memory blocks next × Rep plan run.world.memory clean t v words
 
 -- a run does what the source does: the blocks are those of its log, in order, from the memory's next address on
 abbrev pub DoesAs : Plan → Bool → Ty → Memory → Meant → Run → Type 0
@@ -45,5 +46,7 @@ EachCall plan Does =
 -- memory and any number n of calls: where the arguments are clean, so is the result. No run is trapped.
 pub record Refines (plan : Plan) (code : List CodeFun) : Type 0 where
   pub count : length code ≡ length plan.program.funs
-  pub heads : (g : ℕ) (f : Fun) → slice_get plan.program.funs g ≡ Some f → (q : CodeFun) × (slice_get code g ≡ Some q) × HasHead plan f q
-  pub runs : EachCall plan (λ g f clean vs ws m n. DoesAs plan clean f.result m (call_of plan.program g n vs) (run_of code n g ws m))
+  pub heads : (g : ℕ) (f : Fun) → slice_get plan.program.funs g ≡ Some f
+      → (q : CodeFun) × (slice_get code g ≡ Some q) × HasHead plan f q
+  pub runs : EachCall plan (λ g f clean vs ws m n.
+      DoesAs plan clean f.result m (call_of plan.program g n vs) (run_of code n g ws m))

@@ -10,4 +10,5 @@ use Rattle.rb_compile.specs.Refining.{EachCall}
 -- the choice of a leaf for each construction
 abbrev pub IsThrifty : Plan → List CodeFun → Type 0
 IsThrifty plan code =
-    EachCall plan (λ g f clean vs ws m n. (run_of code n g ws m).world.switches ≤ cost_of plan (call_of plan.program g n vs).log)
+    EachCall plan (λ g f clean vs ws m n.
+    (run_of code n g ws m).world.switches ≤ cost_of plan (call_of plan.program g n vs).log)

@@ -3,15 +3,12 @@
 ghost use Rattle.std.specs.Prelude.{◌≡◌, ◌<◌, ◌^◌, ◌∷◌, [], None, IfOk, OnOk, unwrap_or, slice_get, slice_index};
 ghost use Rattle.rb_core.specs.declared.types.Ty.TheVariants.{Int};
 ghost use Rattle.rb_core.specs.Typing.{operand_wanted, operator_type};
-ghost use Rattle.rb_target.specs.declared.instr.Instr.TheVariants.{Alu, Call, Const, Take};
+ghost use Rattle.rb_target.specs.declared.instr.Instr.TheVariants.{Const};
 ghost use Rattle.rb_target.specs.Growth.{Grows};
 ghost use Rattle.rb_target.specs.Operators.{alu_op_of};
-ghost use Rattle.rb_target.specs.Sheet.{pushed};
 ghost use Rattle.rb_fragment.specs.Fragments.{calling};
-ghost use Rattle.rb_fragment.specs.Plan.{words_of};
-ghost use Rattle.rb_fragment.specs.Slots.{slots_from};
 ghost use Rattle.rb_compile.specs.Plans.{plan_of};
-ghost use Rattle.rb_compile.specs.inner.Forms.{IsOne, VariableIs, held_or, stated_width};
+ghost use Rattle.rb_compile.specs.inner.Forms.{IsOne, VariableIs, alu_on, held_or, new_held, stated_width, take_of};
 
 use rb_core::expression::Op;
 use rb_core::program::Fun;
@@ -33,7 +30,8 @@ pub(crate) fn emit_number(
     wanted: Option<Ty>,
 ) -> Result<Held, AllocError>
     ensures small { number < 2 ^ 64 }
-    ensures is { IfOk result (λ held. IsOne body.old (Const body.old.slots number) (unwrap_or wanted (Int 64)) body.new held) }
+    ensures is { IfOk result (λ held.
+        IsOne body.old (Const body.old.slots number) (unwrap_or wanted (Int 64)) body.new held) }
     ensures grows { OnOk result (Grows body.old.code body.new.code) }
 {
     let ty = wanted.unwrap_or(Ty::Int(64));
@@ -89,8 +87,7 @@ pub(crate) fn emit_operator(
     y: &Held,
 ) -> Result<Held, AllocError>
     ensures is { IfOk result (λ held.
-        IsOne body.old (Alu (alu_op_of op) (stated_width ty) body.old.slots (slice_index x.now.slots 0) (slice_index y.now.slots 0))
-        (operator_type op ty) body.new held) }
+        IsOne body.old (alu_on body.old op ty x.now y.now) (operator_type op ty) body.new held) }
     ensures grows { OnOk result (Grows body.old.code body.new.code) }
 {
     let left = first_slot(x.slots.as_slice());
@@ -107,7 +104,7 @@ pub(crate) fn emit_low_bits(
     x: &Held,
     bits: u8,
 ) -> Result<Held, AllocError>
-    ensures is { IfOk result (λ held. IsOne body.old (Take body.old.slots (slice_index x.now.slots 0) 0 bits) (Int bits) body.new held) }
+    ensures is { IfOk result (λ held. IsOne body.old (take_of body.old x.now bits) (Int bits) body.new held) }
     ensures grows { OnOk result (Grows body.old.code body.new.code) }
 {
     let from = first_slot(x.slots.as_slice());
@@ -125,7 +122,7 @@ pub(crate) fn emit_calling(
     fun: &Fun,
     args: &[Held],
 ) -> Result<Held, AllocError>
-    ensures held { IfOk result (λ h. h ≡ record { ty = fun.now.result; slots = slots_from body.old.slots (words_of (plan_of agreed.now) fun.now.result) }) }
+    ensures held { IfOk result (λ h. h ≡ new_held (plan_of agreed.now) body.old fun.now.result) }
     ensures code { OnOk result (body.new ≡ calling (plan_of agreed.now) body.old number fun.now args.now) }
 {
     let froms = joined_slots(alloc, args)?;

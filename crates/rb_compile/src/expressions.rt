@@ -38,7 +38,8 @@ pub(crate) fn emit_expr(
     expr: &Expr,
     wanted: Option<Ty>,
 ) -> Result<Held, AllocError>
-    ensures emits { IfOk result (λ held. (fun : ℕ) → EmitsExpr (plan_of agreed.now) fun expr.now wanted locals.old body.old body.new held) }
+    ensures emits { IfOk result (λ held. (fun : ℕ)
+        → EmitsExpr (plan_of agreed.now) fun expr.now wanted locals.old body.old body.new held) }
     ensures grows { OnOk result (Grows body.old.code body.new.code) }
     ensures locals { OnOk result (locals.new ≡ locals.old) }
 {
@@ -69,7 +70,9 @@ pub(crate) fn emit_expr(
             Ok(held)
         }
         Expr::Let(_, var, ty, a, b) => {
-            let held = emit_let(alloc, agreed, body, locals, *var, *ty, a.get(), b.get(), wanted)?;
+            let a = a.get();
+            let b = b.get();
+            let held = emit_let(alloc, agreed, body, locals, *var, *ty, a, b, wanted)?;
             Ok(held)
         }
         Expr::Match(_, e, clauses) => {
@@ -220,7 +223,8 @@ fn emit_choice(
     wanted: Option<Ty>,
 ) -> Result<Held, AllocError>
     ensures emits { IfOk result (λ held. (fun at : ℕ)
-        → EmitsExpr (plan_of agreed.now) fun (X.Match at scrutinee.now clauses.now) wanted locals.old body.old body.new held) }
+        → EmitsExpr (plan_of agreed.now) fun (X.Match at scrutinee.now clauses.now) wanted
+        locals.old body.old body.new held) }
     ensures grows { OnOk result (Grows body.old.code body.new.code) }
     ensures locals { OnOk result (locals.new ≡ locals.old) }
 {
@@ -237,7 +241,13 @@ fn emit_choice(
     let Some(held) = into else {
         return Err(AllocError);
     };
-    close_match(alloc, body, holes.as_slice(), starts.as_slice(), joins.as_slice())?;
+    close_match(
+        alloc,
+        body,
+        holes.as_slice(),
+        starts.as_slice(),
+        joins.as_slice(),
+    )?;
     Ok(held)
 }
 
@@ -252,7 +262,8 @@ fn emit_arms(
     clauses: &[Clause],
     wanted: Option<Ty>,
 ) -> Result<Arms, AllocError>
-    ensures emits { IfOk result (λ r. (fun : ℕ) → EmitsArms (plan_of agreed.now) fun (length clauses.now) clauses.now wanted
+    ensures emits { IfOk result (λ r. (fun : ℕ)
+        → EmitsArms (plan_of agreed.now) fun (length clauses.now) clauses.now wanted
         locals.old subject.now body.old body.new r.into r.joins r.starts) }
     ensures are { IfOk result (λ r. ArmsAre (length clauses.now) body.old body.new r.joins r.starts) }
     ensures reaches { IfOk result (λ r. Reaches (length clauses.now) r.into) }

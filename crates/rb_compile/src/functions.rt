@@ -32,7 +32,14 @@ pub(crate) fn compile_fun(
     let name = fun.name.copy(alloc)?;
     let mut body = Body::new(alloc, params.count);
     let locals = &mut params.locals;
-    let held = emit_expr(alloc, agreed, &mut body, locals, &fun.body, Some(fun.result))?;
+    let held = emit_expr(
+        alloc,
+        agreed,
+        &mut body,
+        locals,
+        &fun.body,
+        Some(fun.result),
+    )?;
     let results = count_of(&held.slots);
     body.push(Instr::Return(held.slots))?;
     let code = body.finish(name, results);

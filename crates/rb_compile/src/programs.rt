@@ -92,11 +92,7 @@ fn is_open(pat: &Pat) -> bool
 }
 
 // The code of all functions, in their order.
-fn compile_all(
-    alloc: Global,
-    agreed: &Agreed,
-    funs: &[Fun],
-) -> Result<Seq<CodeFun>, AllocError>
+fn compile_all(alloc: Global, agreed: &Agreed, funs: &[Fun]) -> Result<Seq<CodeFun>, AllocError>
     requires ready { ProgramIsReady (plan_of agreed.now) }
     requires same { funs.now ≡ agreed.now.covered.program.funs }
     ensures { IfOk result (λ code. FirstCompile (plan_of agreed.now) (length funs.now) code) }

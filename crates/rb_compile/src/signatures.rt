@@ -41,11 +41,7 @@ pub(crate) fn field_types(
     Ok(fields)
 }
 
-fn fields_in(
-    alloc: Global,
-    types: &[DataDecl],
-    con: ConRef,
-) -> Result<Option<Seq<Ty>>, AllocError>
+fn fields_in(alloc: Global, types: &[DataDecl], con: ConRef) -> Result<Option<Seq<Ty>>, AllocError>
     ensures { IfOk result (λ o. o ≡ fields_of types.now con) }
 {
     let Some(decl) = types.get(con.ty as usize) else {

@@ -1,18 +1,21 @@
 -- What is promised of the code of expressions.
-use Rattle.std.specs.Prelude.{◌≡◌, ◌==◌, ℕ, max, List, [], ◌∷◌, map, take, Option, Some, None, if◌then◌else◌}
+use Rattle.std.specs.Prelude.{◌≡◌, ◌==◌, ℕ, max, List, [], ◌∷◌, map, take, Option, Some, None, if◌then◌else◌, slice_index}
 use Rattle.rb_core.specs.declared.types.Ty.{Ty}
 use Rattle.rb_core.specs.declared.types.Ty.TheVariants.{Int}
 use Rattle.rb_core.specs.declared.binding.Binding.{Binding}
 use Rattle.rb_core.specs.declared.outcome.Outcome.{Outcome}
 use Rattle.rb_core.specs.declared.expression.Expr.{Expr}
+use Rattle.rb_core.specs.declared.expression.Op.{Op}
 use Rattle.rb_core.specs.Inference.{width_of}
 use Rattle.rb_core.specs.Meaning.{Calls, meaning_of}
 use Rattle.rb_target.specs.declared.instr.Instr.{Instr}
-use Rattle.rb_target.specs.declared.instr.Instr.TheVariants.{Const}
+use Rattle.rb_target.specs.declared.instr.Instr.TheVariants.{Alu, Const, Take}
+use Rattle.rb_target.specs.Operators.{alu_op_of}
 use Rattle.rb_target.specs.Sheet.{Sheet, pushed, with_slot}
 use Rattle.rb_fragment.specs.declared.held.Held.{Held}
 use Rattle.rb_fragment.specs.declared.held.Local.{Local}
-use Rattle.rb_fragment.specs.Plan.{Plan}
+use Rattle.rb_fragment.specs.Plan.{Plan, words_of}
+use Rattle.rb_fragment.specs.Slots.{slots_from}
 use Rattle.rb_fragment.specs.Fragments.{Emits, EmitsAll}
 use Rattle.rb_fragment.specs.Holding.{AreGiven, scope_of}
 use Rattle.rb_compile.specs.inner.Ready.{IsReady, AreReady}
@@ -24,7 +27,8 @@ meant plan f e wanted locals calls left env = meaning_of plan.program calls f e 
 -- where the expression is ready, the appended code leaves its value in the slots that are answered
 abbrev pub EmitsExpr : Plan → ℕ → Expr → Option Ty → List Local → Sheet → Sheet → Held → Type 0
 EmitsExpr plan f e wanted locals old new held =
-    (t : Ty) → IsReady plan f e wanted locals old.slots t → (held.ty ≡ t) × Emits plan (meant plan f e wanted locals) locals old new t held.slots
+    (t : Ty) → IsReady plan f e wanted locals old.slots t
+    → (held.ty ≡ t) × Emits plan (meant plan f e wanted locals) locals old new t held.slots
 
 -- of the first n of some expressions, each at its wanted type
 abbrev pub EmitsFirst : Plan → ℕ → ℕ → List Expr → List Ty → List Local → Sheet → Sheet → List Held → Type 0
@@ -32,9 +36,24 @@ EmitsFirst plan f n es ts locals old new hs =
     AreReady plan f es ts locals old.slots → AreGiven plan old.slots locals
     → EmitsAll plan (λ calls. map (meaning_of plan.program calls f) (take n es)) ts locals old new hs
 
+-- the width that an instruction states: no typed program has an integer of no bits
+abbrev pub stated_width : Ty → ℕ
+stated_width t = max 1 (width_of t)
+
 -- one instruction is appended, and its value of type t stands in a new slot
 abbrev pub IsOne : Sheet → Instr → Ty → Sheet → Held → Type 0
 IsOne old i t new held = (new ≡ pushed (with_slot old) i) × (held ≡ record { ty = t; slots = old.slots ∷ [] })
+
+-- an operator on values that are held, a word each
+abbrev pub alu_on : Sheet → Op → Ty → Held → Held → Instr
+alu_on b op t x y = Alu (alu_op_of op) (stated_width t) b.slots (slice_index x.slots 0) (slice_index y.slots 0)
+
+abbrev pub take_of : Sheet → Held → ℕ → Instr
+take_of b x bits = Take b.slots (slice_index x.slots 0) 0 bits
+
+-- new slots for a value of a type
+abbrev pub new_held : Plan → Sheet → Ty → Held
+new_held plan b t = record { ty = t; slots = slots_from b.slots (words_of plan t) }
 
 -- the slots of the last of the variables with a number
 abbrev pub held_or : Option Held → ℕ → List Local → Option Held
@@ -48,7 +67,3 @@ variable_is (Some h) old new held = (new ≡ old) × (held ≡ h)
 
 abbrev pub VariableIs : List Local → ℕ → Sheet → Sheet → Held → Type 0
 VariableIs ls x old new held = variable_is (held_or None x ls) old new held
-
--- the width that an instruction states: no typed program has an integer of no bits
-abbrev pub stated_width : Ty → ℕ
-stated_width t = max 1 (width_of t)

@@ -28,4 +28,5 @@ pub record ProgramIsReady (plan : Plan) : Type 0 where
 -- the first functions have their code
 pub record FirstCompile (plan : Plan) (i : ℕ) (funs : List CodeFun) : Type 0 where
   pub count : length funs ≡ i
-  pub each : (g : ℕ) (f : Fun) → g < i → slice_get plan.program.funs g ≡ Some f → (q : CodeFun) × (slice_get funs g ≡ Some q) × Compiles plan g f q
+  pub each : (g : ℕ) (f : Fun) → g < i → slice_get plan.program.funs g ≡ Some f
+      → (q : CodeFun) × (slice_get funs g ≡ Some q) × Compiles plan g f q

@@ -33,7 +33,8 @@ pub record IsAccepted (plan : Plan) : Type 0 where
 
 -- An expression of function f has a type where this one is wanted, its numbers name something, its matches
 -- are ready, and its variables have slots below n.
-pub record IsReady (plan : Plan) (f : ℕ) (e : Expr) (wanted : Option Ty) (locals : List Local) (n : ℕ) (t : Ty) : Type 0 where
+pub record IsReady (plan : Plan) (f : ℕ) (e : Expr) (wanted : Option Ty) (locals : List Local) (n : ℕ)
+    (t : Ty) : Type 0 where
   pub accepted : IsAccepted plan
   pub typed : type_of plan.program.types plan.program.funs e wanted (scope_of locals) ≡ Ok t
   pub within : List ℕ
@@ -44,4 +45,5 @@ pub record IsReady (plan : Plan) (f : ℕ) (e : Expr) (wanted : Option Ty) (loca
 -- each of some expressions is ready where its type is wanted
 abbrev pub AreReady : Plan → ℕ → List Expr → List Ty → List Local → ℕ → Type 0
 AreReady plan f es ts locals n =
-    (i : ℕ) (e : Expr) → slice_get es i ≡ Some e → (t : Ty) × (slice_get ts i ≡ Some t) × IsReady plan f e (Some t) locals n t
+    (i : ℕ) (e : Expr) → slice_get es i ≡ Some e
+    → (t : Ty) × (slice_get ts i ≡ Some t) × IsReady plan f e (Some t) locals n t

@@ -44,7 +44,7 @@ emit_expr-returns-in_ok-held-in-To-clause-emits t c = λ fun.
 
 pub emit_expr-returns-in_ok-held-in-Let-clause-emits : goal.emit_expr-returns-in_ok-held-in-Let-clause-emits
 emit_expr-returns-in_ok-held-in-Let-clause-emits t c = λ fun.
-    rw c.in-Let.is (rw (c.get-in-Let.ensures, c.get-in-Let-2.ensures) at (c.in_ok-held-in-Let.ensures.emits fun c.in-Let.field-0))
+    rw c.in-Let.is (rw (c.get-a.ensures, c.get-b.ensures) at (c.in_ok-held-in-Let.ensures.emits fun c.in-Let.field-0))
 
 pub emit_expr-returns-in_ok-held-in-Match-clause-emits : goal.emit_expr-returns-in_ok-held-in-Match-clause-emits
 emit_expr-returns-in_ok-held-in-Match-clause-emits t c = λ fun.
