@@ -1,5 +1,5 @@
 -- What is known of each function of a program whose layouts agree and are plain.
-use Rattle.std.proofs.Common.{◌≡◌, ◌==◌, ℕ, zero, suc, ◌+◌, ◌*◌, ◌^◌, ◌<◌, ◌≤◌, ◌⊎◌, inl, inr, Bool, true, ◌&&◌, List, [], ◌∷◌, map, length, Option, Some, None, Ok, refl, sym, subst, ap, ◌∙◌, arith}
+use Rattle.std.proofs.Common.{◌≡◌, ℕ, zero, suc, ◌*◌, ◌≤◌, true, ◌&&◌, List, [], ◌∷◌, map, length, Option, Some, None, refl, sym, subst, ap, ◌∙◌, arith}
 use Rattle.std.proofs.lemmas.Bool.Decides.{nat_tests}
 use Rattle.std.proofs.lemmas.List.{length-map}
 use Rattle.std.specs.Prelude.{slice_get, nat_eq, nat_le}
@@ -14,30 +14,27 @@ use Rattle.rb_core.specs.declared.program.Program.{Program}
 use Rattle.rb_core.specs.Coverage.{AreExhaustive, function_sites, sites_of}
 use Rattle.rb_core.specs.Layouts.{is_short_layout, provenances}
 use Rattle.rb_core.specs.Limits.{most_parameters, most_words}
-use Rattle.rb_core.specs.Matching.{IsExhaustive}
 use Rattle.rb_core.specs.Typing.{binder_of}
 use Rattle.rb_core.specs.TypedPrograms.{IsTyped}
-use Rattle.rb_core.specs.WellNumbered.{expression_is_numbered, is_between, is_distinct, is_lower, is_type, layout_is_numbered, match_tokens, param_is_numbered, provenance_is_numbered}
+use Rattle.rb_core.specs.WellNumbered.{is_between, is_distinct, is_lower, is_type, layout_is_numbered, param_is_numbered, provenance_is_numbered}
 use Rattle.rb_core.proofs.NumberedForms.{body_typed, both, function_numbered}
 use Rattle.rb_target.proofs.Names.{lower_name}
 use Rattle.rb_layout.specs.declared.agreed.LaidOut.{LaidOut}
 use Rattle.rb_layout.specs.declared.layout.Layout.{Layout}
 use Rattle.rb_layout.specs.A1.{A1}
-use Rattle.rb_layout.specs.Agreement.{Agrees, AreAgreed}
-use Rattle.rb_layout.specs.Flattening.{flat_layout, flat_layouts}
+use Rattle.rb_layout.specs.Agreement.{AreAgreed}
+use Rattle.rb_layout.specs.Flattening.{flat_layouts}
 use Rattle.rb_layout.specs.Positions.{layout_of}
 use Rattle.rb_rel.specs.Relation.{shape_length, word_count}
 use Rattle.rb_rel.proofs.Declared.{decl_at, declared}
 use Rattle.rb_fragment.specs.Plan.{Plan, types_of, words_in, words_of}
-use Rattle.rb_fragment.specs.Functions.{param_words}
-use Rattle.rb_fetch.specs.Fetching.{IsSound}
 use Rattle.rb_fetch.specs.Plain.{ArePlain}
 use Rattle.rb_match.specs.Bounding.{bound_of}
 use Rattle.rb_compile.specs.Plans.{bound_at, match_bound, plan_of, site_at, sites_in}
 use Rattle.rb_compile.specs.inner.Functions.{FunIsReady, ProgramIsReady}
-use Rattle.rb_compile.specs.inner.Ready.{IsAccepted, IsAmong, SiteIsReady, SitesAreReady}
+use Rattle.rb_compile.specs.inner.Ready.{IsAccepted, IsAmong, SitesAreReady}
 use Rattle.rb_compile.proofs.Sites.{among-left, among-right, exhaustive_at}
-use Rattle.rb_compile.proofs.Tokens.{distinct_at, site_found, token, tokens_of}
+use Rattle.rb_compile.proofs.Tokens.{distinct_at, site_found, tokens_of}
 
 -- Words
 

@@ -1,5 +1,5 @@
 -- The arms of a match: one, and one more.
-use Rattle.std.proofs.Common.{◌≡◌, ◌++◌, ℕ, zero, suc, ◌+◌, ◌<◌, ◌≤◌, ◌⊎◌, inl, inr, Bool, true, List, [], ◌∷◌, map, length, Option, Some, None, Ok, refl, sym, subst, ap, ◌∙◌, arith}
+use Rattle.std.proofs.Common.{◌≡◌, ◌++◌, ℕ, zero, suc, ◌+◌, ◌<◌, ◌≤◌, ◌⊎◌, inl, inr, Bool, true, List, [], ◌∷◌, length, Option, Some, None, Ok, refl, sym, subst, ap, ◌∙◌, arith}
 use Rattle.std.proofs.lemmas.List.{map-append}
 use Rattle.std.proofs.lemmas.Option.{same_Some}
 use Rattle.std.specs.Prelude.{slice_get}
@@ -12,7 +12,7 @@ use Rattle.rb_core.specs.Clauses.{wanted_of}
 use Rattle.rb_core.specs.Coverage.{sites}
 use Rattle.rb_core.specs.Inference.{binders}
 use Rattle.rb_core.specs.Matching.{bindings, matches_of}
-use Rattle.rb_core.specs.Meaning.{Calls, meaning_of}
+use Rattle.rb_core.specs.Meaning.{meaning_of}
 use Rattle.rb_core.specs.Typing.{type_of}
 use Rattle.rb_bytes.specs.Memory.{Memory, IsGood}
 use Rattle.rb_bytes.proofs.GrowthLemmas.{Grown-extends, Grown-refl}
@@ -24,12 +24,12 @@ use Rattle.rb_layout.specs.declared.agreed.LaidOut.{LaidOut}
 use Rattle.rb_fragment.specs.declared.held.Held.{Held}
 use Rattle.rb_fragment.specs.declared.held.Joined.{Joined}
 use Rattle.rb_fragment.specs.declared.held.Local.{Local}
-use Rattle.rb_fragment.specs.Plan.{Plan, Rep, words_of}
-use Rattle.rb_fragment.specs.Arms.{AreShared, Arm, ArmsAre, ArmsIn, IsJoin, JoinedIs}
+use Rattle.rb_fragment.specs.Plan.{Plan, Rep}
+use Rattle.rb_fragment.specs.Arms.{Arm, ArmsAre, ArmsIn, IsJoin, JoinedIs}
 use Rattle.rb_fragment.specs.Fragments.{Emits}
-use Rattle.rb_fragment.specs.Holding.{AreGiven, Holds, IsOfLocal, binder_in, scope_of}
+use Rattle.rb_fragment.specs.Holding.{AreGiven, Holds, binder_in, scope_of}
 use Rattle.rb_fragment.specs.Pieces.{AtEnd, Straight}
-use Rattle.rb_fragment.specs.Slots.{AllBelow, IsOneOf}
+use Rattle.rb_fragment.specs.Slots.{IsOneOf}
 use Rattle.rb_fragment.proofs.Adding.{Adds-refl, Adds-trans}
 use Rattle.rb_fragment.proofs.Arms.{IsArm, arm_first, arm_later, local-below}
 use Rattle.rb_fragment.proofs.Holds.{AllBelow-more, AreGiven-append, AreGiven-more, Holds-append, Holds-kept, IsOfLocal-append}
@@ -38,9 +38,9 @@ use Rattle.rb_fragment.proofs.Moves.{one-below}
 use Rattle.rb_fragment.proofs.Pieces.{piece_weaken, straight_frame}
 use Rattle.rb_fetch.specs.Finding.{IsPlanOf}
 use Rattle.rb_match.specs.Choosing.{Binds, BindsPattern}
-use Rattle.rb_compile.specs.inner.Ready.{IsReady, SitesAreReady}
+use Rattle.rb_compile.specs.inner.Ready.{SitesAreReady}
 use Rattle.rb_compile.specs.inner.Forms.{EmitsExpr, meant}
-use Rattle.rb_compile.specs.inner.Arms.{ArmIsDone, ArmsDone, ClauseIsReady, ClausesAreReady, DoesClause, DoesNumber, EmitsArm, EmitsArms, GroundIsReady, IsShared, Reaches, shared_slots, wanted_in}
+use Rattle.rb_compile.specs.inner.Arms.{ArmIsDone, ClauseIsReady, DoesClause, DoesNumber, EmitsArm, EmitsArms, GroundIsReady, IsShared, Reaches, shared_slots, wanted_in}
 
 -- One arm
 

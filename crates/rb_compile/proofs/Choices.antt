@@ -1,7 +1,7 @@
 -- A match, from its scrutinee, the choice of a clause and the arms.
-use Rattle.std.proofs.Common.{◌≡◌, ◌++◌, ℕ, zero, suc, ◌+◌, ◌<◌, ◌≤◌, ◌⊎◌, inl, inr, Bool, true, false, List, [], ◌∷◌, map, length, Option, Some, None, Ok, refl, sym, subst, ap, ◌∙◌, arith}
+use Rattle.std.proofs.Common.{◌≡◌, ◌++◌, ℕ, zero, suc, ◌<◌, inl, Bool, true, false, List, [], ◌∷◌, map, length, Option, Some, None, Ok, refl, sym, subst, ap, ◌∙◌, arith}
 use Rattle.std.proofs.lemmas.Option.{same_Some, slice_get_within}
-use Rattle.std.specs.Prelude.{slice_get, slice_index, is_some, if◌then◌else◌}
+use Rattle.std.specs.Prelude.{slice_get, is_some, if◌then◌else◌}
 use Rattle.rb_core.specs.declared.value.Value.{Value}
 use Rattle.rb_core.specs.declared.types.Ty.{Ty}
 use Rattle.rb_core.specs.declared.types.DataDecl.{DataDecl}
@@ -15,7 +15,7 @@ use Rattle.rb_core.specs.declared.expression.Expr as X
 use Rattle.rb_core.specs.declared.outcome.Event.TheVariants.{Matched}
 use Rattle.rb_core.specs.declared.outcome.Outcome.{Outcome}
 use Rattle.rb_core.specs.Clauses.{PatternIsTyped, pat_of, wanted_of}
-use Rattle.rb_core.specs.Inference.{binders, clause_inferred, inferred_type, match_type}
+use Rattle.rb_core.specs.Inference.{binders, inferred_type}
 use Rattle.rb_core.specs.Matching.{bindings, chosen_clause, matches_of, next_clause}
 use Rattle.rb_core.specs.Meaning.{Calls, after, clause_meaning, first_of, meaning_of, spent, then_do}
 use Rattle.rb_core.specs.Typing.{clause_rule, clauses, pattern_binders, type_of}
@@ -38,11 +38,11 @@ use Rattle.rb_rel.proofs.Agreeing.{lawful}
 use Rattle.rb_rel.proofs.Typing.{Represents-typed}
 use Rattle.rb_fragment.specs.declared.held.Held.{Held}
 use Rattle.rb_fragment.specs.declared.held.Local.{Local}
-use Rattle.rb_fragment.specs.Plan.{Plan, Rep, words_of}
+use Rattle.rb_fragment.specs.Plan.{Plan, Rep}
 use Rattle.rb_fragment.specs.Owing.{Does}
 use Rattle.rb_fragment.specs.Adding.{Adds}
-use Rattle.rb_fragment.specs.Arms.{AreHoles, AreOfOneWay, Arm, ArmIn, ArmsAre, ArmsIn, CanClose, closed, whole_match}
-use Rattle.rb_fragment.specs.Fragments.{Comes, Emits, Fragment}
+use Rattle.rb_fragment.specs.Arms.{AreHoles, AreOfOneWay, Arm, ArmsAre, ArmsIn, CanClose, closed, whole_match}
+use Rattle.rb_fragment.specs.Fragments.{Comes, Fragment}
 use Rattle.rb_fragment.specs.Holding.{AreGiven, Holds, scope_of}
 use Rattle.rb_fragment.specs.Pieces.{Branches}
 use Rattle.rb_fragment.specs.Slots.{AllBelow}
@@ -57,9 +57,9 @@ use Rattle.rb_fetch.specs.Fetching.{IsSound}
 use Rattle.rb_fetch.specs.Finding.{IsPlanOf}
 use Rattle.rb_match.specs.Bounding.{bound_of}
 use Rattle.rb_match.specs.Choosing.{Chooses, IsChosen, PatternsAreTyped}
-use Rattle.rb_compile.specs.inner.Ready.{IsReady, SiteIsReady}
+use Rattle.rb_compile.specs.inner.Ready.{SiteIsReady}
 use Rattle.rb_compile.specs.inner.Forms.{EmitsExpr, meant}
-use Rattle.rb_compile.specs.inner.Arms.{ArmsDone, ClausesAreReady, DoesClause, DoesNumber, EmitsArms, GroundIsReady, IsSubject}
+use Rattle.rb_compile.specs.inner.Arms.{ArmsDone, ClausesAreReady, DoesNumber, EmitsArms, GroundIsReady, IsSubject}
 use Rattle.rb_compile.proofs.Forms.{same_emits}
 use Rattle.rb_compile.proofs.Sites.{ready-Match}
 

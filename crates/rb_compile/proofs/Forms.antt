@@ -1,7 +1,7 @@
 -- Numbers, low bits and bindings.
-use Rattle.std.proofs.Common.{◌≡◌, ℕ, zero, suc, ◌+◌, ◌*◌, ◌/◌, ◌%◌, ◌^◌, ◌<◌, ◌≤◌, ◌⊎◌, inl, inr, Bool, true, List, [], ◌∷◌, ◌++◌, length, Option, Some, None, Ok, refl, sym, subst, ap, ◌∙◌, arith}
+use Rattle.std.proofs.Common.{◌≡◌, ℕ, ◌^◌, ◌<◌, ◌≤◌, ◌⊎◌, inl, inr, List, [], ◌∷◌, ◌++◌, length, Option, Some, Ok, refl, sym, subst, ap, ◌∙◌, arith}
 use Rattle.std.proofs.lemmas.List.{map-append}
-use Rattle.std.specs.Prelude.{slice_index, unwrap_or}
+use Rattle.std.specs.Prelude.{unwrap_or}
 use Rattle.rb_core.specs.declared.value.Value.{Num}
 use Rattle.rb_core.specs.declared.types.Ty.{Ty}
 use Rattle.rb_core.specs.declared.types.Ty.TheVariants.{Int}
@@ -17,23 +17,21 @@ use Rattle.rb_core.proofs.NumberedForms.{numbered-Let}
 use Rattle.rb_core.proofs.TypedForms.{typed-Num, typed-Let}
 use Rattle.rb_target.specs.declared.instr.Instr.{Instr}
 use Rattle.rb_target.specs.declared.instr.Instr.TheVariants.{Const}
-use Rattle.rb_target.specs.Meaning.{slots_at}
 use Rattle.rb_target.specs.Sheet.{Sheet, pushed, with_slot}
 use Rattle.rb_target.specs.Growth.{Grows}
 use Rattle.rb_target.proofs.Growing.{Grows-append}
 use Rattle.rb_rel.specs.Relation.{number}
 use Rattle.rb_fragment.specs.declared.held.Held.{Held}
 use Rattle.rb_fragment.specs.declared.held.Local.{Local}
-use Rattle.rb_fragment.specs.Plan.{Plan, Rep, words_of}
+use Rattle.rb_fragment.specs.Plan.{Plan}
 use Rattle.rb_fragment.specs.Owing.{Does}
 use Rattle.rb_fragment.specs.Adding.{Adds}
-use Rattle.rb_fragment.specs.Slots.{AllBelow, IsOneOf}
 use Rattle.rb_fragment.specs.Holding.{AreGiven, Holds, IsOfLocal, binder_in, scope_of}
 use Rattle.rb_fragment.specs.Fragments.{Comes, Emits}
 use Rattle.rb_fragment.proofs.Adding.{Adds-one, Adds-trans}
 use Rattle.rb_fragment.proofs.Fragments.{one, seq}
 use Rattle.rb_fragment.proofs.Holds.{AreGiven-append, AreGiven-more, Holds-append, Holds-kept, IsOfLocal-append}
-use Rattle.rb_compile.specs.inner.Ready.{IsReady, SitesAreReady}
+use Rattle.rb_compile.specs.inner.Ready.{SitesAreReady}
 use Rattle.rb_compile.specs.inner.Forms.{EmitsExpr, IsOne, meant}
 use Rattle.rb_compile.proofs.Sites.{ready-Let}
 

@@ -1,8 +1,8 @@
 -- Operators on integers, and low bits.
-use Rattle.std.proofs.Common.{◌≡◌, ℕ, zero, suc, ◌+◌, ◌/◌, ◌%◌, ◌^◌, ◌<◌, ◌≤◌, inl, inr, Bool, true, List, [], ◌∷◌, length, Option, Some, None, Ok, refl, sym, subst, ap, ◌∙◌, arith}
+use Rattle.std.proofs.Common.{◌≡◌, ℕ, zero, suc, ◌+◌, ◌%◌, ◌^◌, ◌<◌, ◌≤◌, inl, inr, Bool, true, List, [], ◌∷◌, length, Option, Some, None, Ok, refl, sym, subst, ap, ◌∙◌, arith}
 use Rattle.std.proofs.Math.Nat.{mod-lt, div-one}
 use Rattle.std.proofs.lemmas.Bool.Decides.{nat_tests}
-use Rattle.std.specs.Prelude.{slice_index, unwrap_or, max, nat_le}
+use Rattle.std.specs.Prelude.{slice_index, unwrap_or, nat_le}
 use Rattle.rb_core.specs.declared.value.Value.{Value, Num}
 use Rattle.rb_core.specs.declared.types.Ty.{Ty}
 use Rattle.rb_core.specs.declared.types.Ty.TheVariants.{Int}
@@ -38,7 +38,6 @@ use Rattle.rb_fragment.proofs.Adding.{Adds-one, Adds-trans}
 use Rattle.rb_fragment.proofs.Fragments.{one, seq, weaken}
 use Rattle.rb_fragment.proofs.Holds.{AreGiven-more, Holds-kept, slots_at-kept}
 use Rattle.rb_fragment.proofs.Represented.{Rep-int, Rep-kept}
-use Rattle.rb_compile.specs.inner.Ready.{IsReady}
 use Rattle.rb_compile.specs.inner.Forms.{EmitsExpr, IsOne, meant, stated_width}
 use Rattle.rb_compile.proofs.Forms.{one_is, same_emits}
 use Rattle.rb_compile.proofs.Sites.{ready-Binary, ready-To}

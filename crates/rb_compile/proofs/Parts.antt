@@ -1,13 +1,11 @@
 -- Arguments from left to right, and what is made of them: a call, a construction.
-use Rattle.std.proofs.Common.{◌≡◌, ℕ, zero, suc, ◌+◌, ◌<◌, true, List, [], ◌∷◌, ◌++◌, map, take, length, Option, Some, None, Ok, refl, sym, subst, ap, ◌∙◌, arith, get_or}
+use Rattle.std.proofs.Common.{◌≡◌, ℕ, zero, suc, ◌+◌, ◌<◌, true, List, [], ◌∷◌, ◌++◌, map, take, length, Option, Some, Ok, refl, sym, subst, ap, ◌∙◌, arith, get_or}
 use Rattle.std.proofs.lemmas.List.{map-append, length-map, take_more, take_all}
 use Rattle.std.proofs.lemmas.Option.{slice_get_within, same_Some}
 use Rattle.std.specs.Prelude.{slice_get, unwrap_or}
 use Rattle.rb_core.specs.declared.types.Ty.{Ty}
 use Rattle.rb_core.specs.declared.types.Ty.TheVariants.{Named}
 use Rattle.rb_core.specs.declared.types.ConRef.{ConRef}
-use Rattle.rb_core.specs.declared.value.Value.{Value}
-use Rattle.rb_core.specs.declared.outcome.Outcome.{Outcome}
 use Rattle.rb_core.specs.declared.program.Fun.{Fun}
 use Rattle.rb_core.specs.declared.expression.Expr.{Expr}
 use Rattle.rb_core.specs.declared.expression.Expr as X
@@ -24,14 +22,14 @@ use Rattle.rb_fragment.specs.declared.held.Held.{Held}
 use Rattle.rb_fragment.specs.declared.held.Local.{Local}
 use Rattle.rb_fragment.specs.Plan.{Plan, types_of, words_of}
 use Rattle.rb_fragment.specs.Slots.{slots_from}
-use Rattle.rb_fragment.specs.Holding.{AllGiven, AreGiven, held_type, scope_of}
-use Rattle.rb_fragment.specs.Fragments.{Applies, Emits, EmitsAll, calling}
+use Rattle.rb_fragment.specs.Holding.{AreGiven, held_type, scope_of}
+use Rattle.rb_fragment.specs.Fragments.{Emits, EmitsAll, calling}
 use Rattle.rb_fragment.proofs.Arguments.{applied, more_emits, none_emits}
 use Rattle.rb_fragment.proofs.Calling.{call_applies}
 use Rattle.rb_fragment.proofs.Holds.{AreGiven-more}
 use Rattle.rb_fetch.specs.Finding.{IsPlanOf}
 use Rattle.rb_build.specs.Building.{Builds}
-use Rattle.rb_compile.specs.inner.Ready.{AreReady, IsAccepted, IsReady, SitesAreReady}
+use Rattle.rb_compile.specs.inner.Ready.{AreReady, IsAccepted, IsReady}
 use Rattle.rb_compile.specs.inner.Forms.{EmitsExpr, EmitsFirst, meant}
 use Rattle.rb_compile.proofs.Forms.{same_emits}
 use Rattle.rb_compile.proofs.Sites.{Ready, ready-Build, ready-Call}

@@ -1,5 +1,5 @@
 -- Code whose functions do what the program's do refines the program, with few switches.
-use Rattle.std.proofs.Common.{◌≡◌, ℕ, ◌+◌, ◌≤◌, Bool, List, length, refl, sym, subst, ap, ◌∙◌, arith}
+use Rattle.std.proofs.Common.{ℕ, ◌+◌, ◌≤◌, Bool, List, length, sym, subst, ap, ◌∙◌, arith}
 use Rattle.rb_core.specs.declared.types.Ty.{Ty}
 use Rattle.rb_core.specs.declared.outcome.Outcome.{Outcome as Meant}
 use Rattle.rb_core.specs.declared.outcome.SourceEnd.{SourceEnd}

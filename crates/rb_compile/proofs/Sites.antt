@@ -1,5 +1,5 @@
 -- The matches of an expression's parts are among its own.
-use Rattle.std.proofs.Common.{◌≡◌, ℕ, zero, suc, ◌⊎◌, inl, inr, List, [], ◌∷◌, ◌++◌, map, Option, Some, None, refl, sym, subst, ap, ◌∙◌}
+use Rattle.std.proofs.Common.{◌≡◌, ℕ, zero, suc, inl, inr, List, [], ◌∷◌, ◌++◌, map, Some, None, refl, sym, subst, ap}
 use Rattle.std.specs.Prelude.{slice_get}
 use Rattle.std.specs.List.{flat_map}
 use Rattle.rb_core.specs.declared.types.Ty.{Ty}
@@ -14,12 +14,11 @@ use Rattle.rb_core.specs.declared.expression.Clause.{Clause}
 use Rattle.rb_core.specs.declared.expression.Expr.{Expr}
 use Rattle.rb_core.specs.declared.expression.Expr as X
 use Rattle.rb_core.specs.Clauses.{pat_of}
-use Rattle.rb_core.specs.Coverage.{AreExhaustive, Branch, branch_sites, function_sites, part_sites, sites}
+use Rattle.rb_core.specs.Coverage.{AreExhaustive, Branch, branch_sites, part_sites, sites}
 use Rattle.rb_core.specs.Inference.{binders, inferred_type, with_binder}
 use Rattle.rb_core.specs.Matching.{IsExhaustive}
 use Rattle.rb_core.proofs.CoverageForms.{part, branch, sites-Clause, sites-Call, sites-Build, sites-Binary, sites-To, sites-Let, sites-Match}
 use Rattle.rb_fragment.specs.Plan.{Plan}
-use Rattle.rb_match.specs.Bounding.{bound_of}
 use Rattle.rb_compile.specs.inner.Ready.{IsAmong, SiteIsReady, SitesAreReady}
 
 pub among-left : (xs ys : List Site) (s : Site) → IsAmong s xs → IsAmong s (xs ++ ys)

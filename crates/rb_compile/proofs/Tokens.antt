@@ -1,5 +1,5 @@
 -- No two matches stand at one token, so that a match is found at its token.
-use Rattle.std.proofs.Common.{◌≡◌, ◌==◌, ℕ, zero, suc, ◌≤◌, ◌⊎◌, inl, inr, Bool, true, false, ◌&&◌, List, [], ◌∷◌, ◌++◌, map, Option, Some, None, not, ◌||◌, refl, sym, subst, ap, ◌∙◌, arith}
+use Rattle.std.proofs.Common.{◌≡◌, ◌==◌, ℕ, zero, suc, inl, inr, Bool, true, false, ◌&&◌, List, [], ◌∷◌, ◌++◌, map, Some, None, not, ◌||◌, refl, sym, subst, ap, ◌∙◌}
 use Rattle.std.proofs.lemmas.Bool.Decides.{eqb_tells}
 use Rattle.std.proofs.lemmas.List.{map-append}
 use Rattle.std.specs.Prelude.{slice_get, nat_eq, if◌then◌else◌}
@@ -10,16 +10,14 @@ use Rattle.rb_core.specs.declared.types.DataDecl.{DataDecl}
 use Rattle.rb_core.specs.declared.typing.Binder.{Binder}
 use Rattle.rb_core.specs.declared.coverage.Site.{Site}
 use Rattle.rb_core.specs.declared.program.Fun.{Fun}
-use Rattle.rb_core.specs.declared.program.Program.{Program}
 use Rattle.rb_core.specs.declared.expression.Op.{Op}
 use Rattle.rb_core.specs.declared.expression.Clause.{Clause}
 use Rattle.rb_core.specs.declared.expression.Expr.{Expr}
 use Rattle.rb_core.specs.declared.expression.Expr as X
 use Rattle.rb_core.specs.declared.expression.Expr.TheOpen as E
 use Rattle.rb_core.specs.declared.expression.Expr.TheFolds.{fold-Clause, fold-roll-Expr, fold_out-Clause}
-use Rattle.rb_core.specs.Coverage.{branch_sites, function_sites, part_sites, sites}
+use Rattle.rb_core.specs.Coverage.{branch_sites, part_sites, sites}
 use Rattle.rb_core.specs.Inference.{binders, inferred_type, with_binder}
-use Rattle.rb_core.specs.Typing.{binder_of}
 use Rattle.rb_core.specs.WellNumbered.{all_tokens, clause_matches, is_distinct, match_tokens, matches_step}
 use Rattle.rb_core.proofs.CoverageForms.{part, branch, sites-Clause, sites-Num, sites-Var, sites-Call, sites-Build, sites-Binary, sites-To, sites-Let, sites-Match}
 use Rattle.rb_core.proofs.ExpressionLaws.{Each, EachBody, induction}

@@ -1,5 +1,5 @@
 -- Variables: the slots of the one that is bound last.
-use Rattle.std.proofs.Common.{◌≡◌, ◌==◌, ℕ, ◌^◌, ◌<◌, ◌⊎◌, inl, inr, Bool, true, false, List, [], ◌∷◌, map, length, Option, Some, None, refl, sym, subst, ap, ◌∙◌, arith}
+use Rattle.std.proofs.Common.{◌≡◌, ◌==◌, ℕ, ◌^◌, ◌<◌, inl, inr, Bool, true, false, List, [], ◌∷◌, map, length, Option, Some, None, refl, sym, subst, ap, ◌∙◌, arith}
 use Rattle.std.specs.Prelude.{if◌then◌else◌}
 use Rattle.rb_core.specs.declared.value.Value.{Value, Num}
 use Rattle.rb_core.specs.declared.types.Ty.{Ty}
@@ -15,8 +15,6 @@ use Rattle.rb_bytes.specs.Memory.{Memory}
 use Rattle.rb_target.specs.declared.instr.Instr.TheVariants.{Const}
 use Rattle.rb_target.specs.Meaning.{slots_at}
 use Rattle.rb_target.specs.Sheet.{Sheet, pushed, with_slot}
-use Rattle.rb_target.specs.Growth.{Grows}
-use Rattle.rb_target.proofs.Growing.{Grows-refl}
 use Rattle.rb_rel.specs.Relation.{number}
 use Rattle.rb_fragment.specs.declared.held.Held.{Held}
 use Rattle.rb_fragment.specs.declared.held.Local.{Local}
@@ -27,7 +25,7 @@ use Rattle.rb_fragment.specs.Fragments.{Emits}
 use Rattle.rb_fragment.proofs.Adding.{Adds-refl}
 use Rattle.rb_fragment.proofs.Fragments.{nothing, one}
 use Rattle.rb_compile.specs.inner.Forms.{EmitsExpr, VariableIs, held_or, meant, variable_is}
-use Rattle.rb_compile.proofs.Forms.{number_emits, one_grows, one_is, same_emits}
+use Rattle.rb_compile.proofs.Forms.{number_emits, one_is, same_emits}
 
 module _ (plan : Plan) (x : ℕ) where
   abbrev Found : ℕ → List Local → Option Held → Ty → Type 0

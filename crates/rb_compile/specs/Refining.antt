@@ -39,8 +39,8 @@ DoesAs plan clean t m o run = EndsAs plan clean t m (lay m.limit m.next (request
 abbrev pub EachCall : Plan → (ℕ → Fun → Bool → List Value → List ℕ → Memory → ℕ → Type 0) → Type 0
 EachCall plan Does =
     (g : ℕ) (f : Fun) → slice_get plan.program.funs g ≡ Some f
-    → (clean : Bool) (vs : List Value) (ws : List ℕ) (m : Memory) (n : ℕ) → IsGood m → Reps plan m clean (types_of f) vs ws
-    → Does g f clean vs ws m n
+    → (clean : Bool) (vs : List Value) (ws : List ℕ) (m : Memory) (n : ℕ)
+    → IsGood m → Reps plan m clean (types_of f) vs ws → Does g f clean vs ws m n
 
 -- Code has the program's functions, and each call of each does what the source's call does, from any good
 -- memory and any number n of calls: where the arguments are clean, so is the result. No run is trapped.

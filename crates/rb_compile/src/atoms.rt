@@ -8,7 +8,7 @@ ghost use Rattle.rb_target.specs.Growth.{Grows};
 ghost use Rattle.rb_target.specs.Operators.{alu_op_of};
 ghost use Rattle.rb_fragment.specs.Fragments.{calling};
 ghost use Rattle.rb_compile.specs.Plans.{plan_of};
-ghost use Rattle.rb_compile.specs.inner.Forms.{IsOne, VariableIs, alu_on, held_or, new_held, stated_width, take_of};
+ghost use Rattle.rb_compile.specs.inner.Forms.{IsOne, VariableIs, alu_on, held_or, low_bits_of, new_held, stated_width};
 
 use rb_core::expression::Op;
 use rb_core::program::Fun;
@@ -104,7 +104,7 @@ pub(crate) fn emit_low_bits(
     x: &Held,
     bits: u8,
 ) -> Result<Held, AllocError>
-    ensures is { IfOk result (λ held. IsOne body.old (take_of body.old x.now bits) (Int bits) body.new held) }
+    ensures is { IfOk result (λ held. IsOne body.old (low_bits_of body.old x.now bits) (Int bits) body.new held) }
     ensures grows { OnOk result (Grows body.old.code body.new.code) }
 {
     let from = first_slot(x.slots.as_slice());

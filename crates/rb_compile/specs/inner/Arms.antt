@@ -1,5 +1,5 @@
 -- What is promised of the code of a match's arms.
-use Rattle.std.specs.Prelude.{◌≡◌, ℕ, zero, suc, ◌≤◌, Bool, true, List, [], ◌∷◌, ◌++◌, length, Option, Some, None, Ok, slice_get}
+use Rattle.std.specs.Prelude.{◌≡◌, ℕ, zero, suc, ◌≤◌, Bool, true, List, [], ◌++◌, length, Option, Some, None, Ok, slice_get}
 use Rattle.rb_core.specs.declared.value.Value.{Value}
 use Rattle.rb_core.specs.declared.types.Ty.{Ty}
 use Rattle.rb_core.specs.declared.typing.Binder.{Binder}
@@ -55,7 +55,8 @@ abbrev pub clause_scope : Plan → Clause → List Local → Ty → List Binder
 clause_scope plan c ls s = scope_of ls ++ binders plan.program.types c.pat s
 
 -- a clause of a match of function f, whose scrutinee is of type s
-pub record ClauseIsReady (plan : Plan) (f : ℕ) (c : Clause) (wanted : Option Ty) (ls : List Local) (s t : Ty) : Type 0 where
+pub record ClauseIsReady (plan : Plan) (f : ℕ) (c : Clause) (wanted : Option Ty) (ls : List Local)
+    (s t : Ty) : Type 0 where
   pub accepted : IsAccepted plan
   pub typed : type_of plan.program.types plan.program.funs c.body wanted (clause_scope plan c ls s) ≡ Ok t
   pub pattern : PatternIsTyped plan.program.types s c.pat
@@ -80,7 +81,8 @@ pub record DoesClause (plan : Plan) (f : ℕ) (c : Clause) (wanted : Option Ty) 
   pub adds : Adds plan a d
   pub does : (calls : Calls) (clean : Bool) (env : List Binding) (v : Value) → matches_of c.pat v ≡ true
       → Arm plan clean calls n a d join (λ sl m. Rep plan m clean s v (slots_at sl xs) × Holds plan clean sl m ls env)
-      (λ left. meaning_of plan.program calls f c.body wanted (clause_scope plan c ls s) left (env ++ bindings c.pat v)) t into
+      (λ left. meaning_of plan.program calls f c.body wanted (clause_scope plan c ls s) left (env ++ bindings c.pat v))
+      t into
 
 -- one arm: its value is where the arms before it left theirs
 pub record ArmIsDone (plan : Plan) (f : ℕ) (c : Clause) (wanted : Option Ty) (ls : List Local) (s t : Ty)

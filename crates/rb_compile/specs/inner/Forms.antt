@@ -48,8 +48,8 @@ IsOne old i t new held = (new ≡ pushed (with_slot old) i) × (held ≡ record 
 abbrev pub alu_on : Sheet → Op → Ty → Held → Held → Instr
 alu_on b op t x y = Alu (alu_op_of op) (stated_width t) b.slots (slice_index x.slots 0) (slice_index y.slots 0)
 
-abbrev pub take_of : Sheet → Held → ℕ → Instr
-take_of b x bits = Take b.slots (slice_index x.slots 0) 0 bits
+abbrev pub low_bits_of : Sheet → Held → ℕ → Instr
+low_bits_of b x bits = Take b.slots (slice_index x.slots 0) 0 bits
 
 -- new slots for a value of a type
 abbrev pub new_held : Plan → Sheet → Ty → Held

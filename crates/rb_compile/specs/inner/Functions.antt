@@ -1,5 +1,5 @@
 -- What is known of functions, and of the code of the first of them.
-use Rattle.std.specs.Prelude.{◌≡◌, ℕ, ◌^◌, ◌<◌, ◌≤◌, Bool, true, List, map, length, Some, Ok, slice_get}
+use Rattle.std.specs.Prelude.{◌≡◌, ℕ, ◌^◌, ◌<◌, ◌≤◌, true, List, map, length, Some, Ok, slice_get}
 use Rattle.rb_core.specs.declared.program.Fun.{Fun}
 use Rattle.rb_core.specs.Coverage.{function_sites}
 use Rattle.rb_core.specs.Typing.{binder_of, type_of}

@@ -1,6 +1,4 @@
-use Rattle.std.proofs.Common.{◌≡◌, ℕ, suc, ◌+◌, ◌<◌, ◌≤◌, ◌∷◌, ◌++◌, [], take, Some, None, refl, sym, ap, ◌∙◌, length, length-append, arith}
-use Rattle.std.specs.Prelude.{slice_get}
-use Rattle.rb_target.specs.Sheet.{Sheet}
+use Rattle.std.proofs.Common.{◌≡◌, ℕ, suc, ◌+◌, ◌∷◌, [], Some, refl, sym, ap, ◌∙◌, length, length-append, arith}
 use Rattle.rb_target.proofs.Growing.{Grows-refl, Grows-trans, Grows-append}
 use Rattle.std.proofs.lemmas.List.{length-map}
 use Rattle.rb_core.specs.Clauses.{pat_of}
