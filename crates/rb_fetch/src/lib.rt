@@ -28,7 +28,7 @@
 pub mod fetch;
 pub mod field;
 pub mod look;
-pub mod place;
+mod place;
 mod slice;
-pub mod span;
+mod span;
 mod way;
