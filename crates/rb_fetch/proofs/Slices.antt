@@ -21,9 +21,8 @@ use Rattle.rb_fragment.specs.Reads.{where_some, Meant, joined_over, meant_of, is
 use Rattle.rb_fragment.proofs.ReadForms.{mean-Joined, meant-is, fits-Joined, fits-Share}
 use Rattle.rb_fetch.specs.declared.span.Span.{Span}
 use Rattle.rb_fetch.specs.declared.place.Wanted.TheVariants.{UnitOf}
-use Rattle.rb_fetch.specs.inner.Reads.{bits_of}
 use Rattle.rb_fetch.specs.inner.Placing.{is_wanted}
-use Rattle.rb_fetch.specs.inner.Fields.{SpansPart, ReadsAs, first_bit, is_whole, share_of, Slices}
+use Rattle.rb_fetch.specs.inner.Fields.{SpansPart, ReadsPart, ReadsAs, first_bit, is_whole, share_of, Slices}
 use Rattle.rb_fetch.proofs.Spans.{bit_part, part_reads}
 
 -- Numbers
@@ -125,9 +124,9 @@ module _ (width i : ℕ) (path : List ℕ) (p : Part) (wanted : is_wanted path (
   pub on_within : i + len ≤ width
   on_within = goes.within
 
-  pub slices_more : width ≤ 64 → (leaf : Leaf) (words : List Read) (span : Span) (shares : List Share) → SpansPart leaf words span p.l p.kind → Slices leaf words path i shares
+  pub slices_more : width ≤ 64 → (leaf : Leaf) (words : List Read) (span : Span) (bits : ℕ) (shares : List Share) → SpansPart leaf words span bits p.l p.kind → Slices leaf words path i shares
       → Slices leaf words path (i + len) (shares ++ share_of span skip len i ∷ [])
-  slices_more narrow leaf words span shares sp sl =
+  slices_more narrow leaf words span bits shares sp sl =
       let g = goes in
       let q = share_of span skip len i in
       let long = sp.long in
@@ -145,18 +144,18 @@ module _ (width i : ℕ) (path : List ℕ) (p : Part) (wanted : is_wanted path (
             let x = slice_index (subs path) 0 in
             let u = sp.means ws s m clean subs ats good meant placed in
             let w = u.1.word in
-            let held : u.0 ≡ take_of x g.a p.l = subst (λ y. HoldsKind subs ats u.0 p.l y) g.is_kind u.2 in
+            let held : u.0 ≡ take_of x g.a p.l = subst (λ y. HoldsKind subs ats u.0 p.l y) g.is_kind u.3 in
             let fit1 : skip + len ≤ span.l = omega (arith, long, g.inside) in
             let part : take_of w (span.o + skip) len ≡ take_of x i len =
             sym (take_take w span.o span.l skip len fit1) ∙ ap (λ y. take_of y skip len) (sym u.1.are_bits ∙ held) ∙ take_take x g.a p.l skip len g.inside ∙ ap (λ y. take_of x y len) g.at in
-            let bits : put_of (take_of x 0 i) q.a q.l (take_of w q.o q.l) ≡ take_of x 0 (i + len) =
+            let put : put_of (take_of x 0 i) q.a q.l (take_of w q.o q.l) ≡ take_of x 0 (i + len) =
             ap (λ y. put_of (take_of x 0 i) q.a q.l (take_of w y q.l)) o ∙ ap (λ y. put_of (take_of x 0 i) q.a y (take_of w (span.o + skip) y)) l ∙ ap (λ y. put_of (take_of x 0 i) y len (take_of w (span.o + skip) len)) a
             ∙ ap (put_of (take_of x 0 i) i len) part ∙ put_next x i len in
             ap (λ ps. joined_over 0 ps s m) (map_last meant_of shares q) ∙ joined_last 0 (map meant_of shares) (meant_of q) s m
             ∙ ap (λ y. where_some y (λ k. where_some ((meant_of q).reading s m) (λ v. Some (put_of k (meant_of q).a (meant_of q).l (take_of v (meant_of q).o (meant_of q).l))))) (sl.means ws s m clean subs ats good meant placed)
             ∙ ap (λ (y : Meant). where_some (y.reading s m) (λ v. Some (put_of (take_of x 0 i) y.a y.l (take_of v y.o y.l)))) (meant-is q)
             ∙ ap (λ y. where_some y (λ v. Some (put_of (take_of x 0 i) q.a q.l (take_of v q.o q.l)))) u.1.is_word
-            ∙ ap Some bits;
+            ∙ ap Some put;
       }
 
 -- all slices are the integer
@@ -169,12 +168,12 @@ slices_read leaf words path width shares sl = record {
 }
 
 -- a part that is the whole integer
-pub whole_reads : (leaf : Leaf) (words : List Read) (span : Span) (width : ℕ) (path : List ℕ) (p : Part) → is_wanted path (UnitOf (Int width) 0) p ≡ true → is_whole width p ≡ true
-    → SpansPart leaf words span p.l p.kind → ReadsAs leaf words (bits_of span) (λ subs. take_of (slice_index (subs path) 0) 0 width)
-whole_reads leaf words span width path p wanted whole sp =
+pub whole_reads : (leaf : Leaf) (words : List Read) (read : Read) (width : ℕ) (path : List ℕ) (p : Part) → is_wanted path (UnitOf (Int width) 0) p ≡ true → is_whole width p ≡ true
+    → ReadsPart leaf words read p.l p.kind → ReadsAs leaf words read (λ subs. take_of (slice_index (subs path) 0) 0 width)
+whole_reads leaf words read width path p wanted whole rp =
     let b = bit_part width 0 path p wanted in
     let w = both (p.l == width) (first_bit p.kind == 0) whole in
     let long : p.l ≡ width = same_nat p.l width w.0 in
     let first : b.0 ≡ 0 = sym (ap first_bit b.1) ∙ same_nat (first_bit p.kind) 0 w.1 in
-    part_reads leaf words span p.l p.kind sp (λ subs. take_of (slice_index (subs path) 0) 0 width)
+    part_reads leaf words read p.l p.kind rp (λ subs. take_of (slice_index (subs path) 0) 0 width)
     (λ subs ats n h. subst (λ k. HoldsKind subs ats n p.l k) b.1 h ∙ ap (λ a. take_of (slice_index (subs path) 0) a p.l) first ∙ ap (take_of (slice_index (subs path) 0) 0) long)

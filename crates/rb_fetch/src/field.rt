@@ -9,8 +9,7 @@ ghost use Rattle.rb_fetch.specs.inner.Placing.{IsAgreedLeaf};
 
 use crate::place::{Wanted, find_part};
 use crate::slice::int_read;
-use crate::span::span_bits;
-use crate::way::spot_span;
+use crate::way::spot_read;
 use rb_core::seq::Seq;
 use rb_core::types::Ty;
 use rb_fragment::make::make_all;
@@ -109,8 +108,7 @@ fn word_read(
     match find_part(leaf, path, Wanted::UnitOf(Ty::Named(ty), j)) {
         None => Ok(Read::Number(0)),
         Some(spot) => {
-            let span = spot_span(alloc, leaf, spot, words)?;
-            let read = span_bits(alloc, span)?;
+            let read = spot_read(alloc, leaf, spot, words)?;
             Ok(read)
         }
     }

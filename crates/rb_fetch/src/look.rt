@@ -95,11 +95,11 @@ fn look(
             body.push(Instr::Switch(slot, open_else(other, pc + 1), places))?;
             for (k, arm) in arms.as_slice().iter().enumerate() {
                 match &arm.under {
-                    FlatTree::Leaf(leaf) => {
+                    FlatTree::Leaf(number) => {
                         holes.push(Hole {
                             pc,
                             arm: Some(k),
-                            leaf: *leaf as usize,
+                            leaf: *number as usize,
                         })?;
                     }
                     FlatTree::Split(_, _, _) => {

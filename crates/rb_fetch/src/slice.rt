@@ -5,8 +5,8 @@ ghost use Rattle.rb_fetch.specs.inner.Placing.{IsAgreedLeaf};
 ghost use Rattle.rb_fetch.specs.inner.Fields as fields;
 
 use crate::place::{Wanted, find_part};
-use crate::span::{Span, bits, span_bits};
-use crate::way::spot_span;
+use crate::span::{Span, bits};
+use crate::way::{spot_read, spot_span};
 use rb_core::seq::Seq;
 use rb_core::types::Ty;
 use rb_fragment::reads::{Read, Share};
@@ -29,8 +29,7 @@ pub(crate) fn int_read(
 {
     if let Some(spot) = find_part(leaf, path, Wanted::UnitOf(Ty::Int(width), 0)) {
         if is_whole(spot.part, width) {
-            let span = spot_span(alloc, leaf, spot, words)?;
-            let read = span_bits(alloc, span)?;
+            let read = spot_read(alloc, leaf, spot, words)?;
             return Ok(read);
         }
     }

@@ -3,11 +3,11 @@
 ghost use Rattle.std.specs.Prelude.{◌≡◌, IfOk};
 ghost use Rattle.rb_rel.specs.Reading.{LeadsTo};
 ghost use Rattle.rb_layout.specs.Readable.{AreShort};
-ghost use Rattle.rb_fetch.specs.inner.Placing.{IsAgreedLeaf, IsSpot, step_of};
-ghost use Rattle.rb_fetch.specs.inner.Fields.{SpansPart};
+ghost use Rattle.rb_fetch.specs.inner.Placing.{EndsIn, IsAgreedLeaf, IsSpot, step_of};
+ghost use Rattle.rb_fetch.specs.inner.Fields.{ReadsPart, SpansPart};
 
 use crate::place::{Spot, Wanted, begins_at, find_part};
-use crate::span::{Span, span_at};
+use crate::span::{Span, span_at, span_bits};
 use rb_core::layout_decl::{Loc, Step};
 use rb_core::seq::Seq;
 use rb_fragment::reads::Read;
@@ -19,7 +19,8 @@ use std::alloc::{AllocError, Global};
 pub(crate) fn location(alloc: Global, leaf: &Leaf, spot: Spot) -> Result<Loc, AllocError>
     requires leaf { IsAgreedLeaf leaf.now }
     requires spot { IsSpot leaf.now spot }
-    ensures { IfOk result (λ loc. LeadsTo leaf.now loc spot.entry.part.now.l spot.entry.part.now.kind) }
+    ensures leads { IfOk result (λ loc. LeadsTo leaf.now loc spot.entry.part.now.l spot.entry.part.now.kind) }
+    ensures ends { IfOk result (λ loc. EndsIn loc spot.entry) }
 {
     let Some(b) = spot.block else {
         return Ok(Loc {
@@ -68,9 +69,31 @@ pub(crate) fn spot_span(
 ) -> Result<Span, AllocError>
     requires leaf { IsAgreedLeaf leaf.now }
     requires spot { IsSpot leaf.now spot }
-    ensures { IfOk result (λ span. SpansPart leaf.now words.now span spot.entry.part.now.l spot.entry.part.now.kind) }
+    ensures { IfOk result (λ span. SpansPart leaf.now words.now span spot.entry.flat.now.width spot.entry.part.now.l spot.entry.part.now.kind) }
 {
     let loc = location(alloc, leaf, spot)?;
     let span = span_at(alloc, words, &loc)?;
     Ok(span)
+}
+
+/// A part as a read: the word itself where the part is all of it.
+///
+/// # Errors
+/// `AllocError` where memory is wanting.
+pub(crate) fn spot_read(
+    alloc: Global,
+    leaf: &Leaf,
+    spot: Spot,
+    words: &[Read],
+) -> Result<Read, AllocError>
+    requires leaf { IsAgreedLeaf leaf.now }
+    requires spot { IsSpot leaf.now spot }
+    ensures { IfOk result (λ read. ReadsPart leaf.now words.now read spot.entry.part.now.l spot.entry.part.now.kind) }
+{
+    let span = spot_span(alloc, leaf, spot, words)?;
+    if span.o == 0 && span.l == spot.flat.width {
+        return Ok(span.read);
+    }
+    let read = span_bits(alloc, span)?;
+    Ok(read)
 }

@@ -27,7 +27,7 @@ loop-k-preserved t c =
     let at = slice_get-get_or c.as_slice-arm-items.result.now c.loop-k.k c.arm-item.result c.loop-k-test.true ∙ ap Some (sym c.arm-item.is) in
     elim c.match-arm.branch [
       | in-Leaf-under+in_ok-push-in-Leaf-under w ↦ rw (w.body-is, w.holes-is, w.in_ok-push-in-Leaf-under.ensures.ok)
-          (arm_leaf c.args.words.now c.args.tree.now _ c.in-Split.other c.args.body.now c.args.holes.now c.len-pc-in-Split.result c.loop-k.k c.loop-k.body c.loop-k.holes c.loop-k.invariant c.arm-item.result w.in-Leaf-under.leaf at w.in-Leaf-under.is)
+          (arm_leaf c.args.words.now c.args.tree.now _ c.in-Split.other c.args.body.now c.args.holes.now c.len-pc-in-Split.result c.loop-k.k c.loop-k.body c.loop-k.holes c.loop-k.invariant c.arm-item.result w.in-Leaf-under.number at w.in-Leaf-under.is)
       | in-Split-under+in_ok-look-in-Split-under w ↦ rw (w.body-is, w.holes-is)
           (arm_look c.args.words.now c.args.tree.now _ c.in-Split.other c.args.body.now c.args.holes.now c.len-pc-in-Split.result c.loop-k.k c.loop-k.body c.loop-k.holes c.loop-k.invariant c.arm-item.result _ _ at
           (rw (w.patch.ensures, w.len-here.ensures.value) at w.in_ok-look-in-Split-under.ensures.grows) (rw (w.patch.ensures, w.len-here.ensures.value) at w.in_ok-look-in-Split-under.ensures.looks))
