@@ -232,7 +232,7 @@ fn field_slots<'a>(args: &'a [Held], path: &[u32]) -> &'a [usize]
 {
     match path.get(0) {
         None => &[],
-        Some(field) => match args.get(*field as usize) {
+        Some(number) => match args.get(*number as usize) {
             None => &[],
             Some(held) => held.slots.as_slice(),
         },
