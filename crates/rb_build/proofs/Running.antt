@@ -386,11 +386,12 @@ module _ (final : List Instr) (callee : Callee) (next : Next) (law : Law final c
           let e = block_code hs blocks x b in
           let lx = longer-fresh b place in
           let ly = stores_longer hs blocks d x.words 0 c in
-          let P : Result ℕ Full × Memory → Run = λ r. after_place r.0 (with_memory (taken w) r.1) (λ i. next (length b.code + 1) (slice_set s d i) (with_memory (taken w) r.1)) in
-          (with_memory (taken w) m,
-          law.step (length b.code) place s w (stands_here final b c place refl (stands_first final b c e lx ly stands))
-          ∙ ap P (ap (λ y. place_of y (size_of x) x.align) is ∙ full_is m (size_of x) x.align none),
-          omega arith)
+          let P : Result ℕ Full × Memory → Run = λ r. after_place r.0 (with_memory (taken w) r.1) (λ i. next (length b.code + 1) (slice_set s d i) (with_memory (taken w) r.1)) in (
+            with_memory (taken w) m,
+            law.step (length b.code) place s w (stands_here final b c place refl (stands_first final b c e lx ly stands))
+                ∙ ap P (ap (λ y. place_of y (size_of x) x.align) is ∙ full_is m (size_of x) x.align none),
+            omega arith,
+          )
 
       -- Root words ------------------------------------------------------------------------------
       pub roots_run : (fs : List FlatWord) (b : Sheet) (s : List ℕ) (w : World) (m : Memory) → Stands final b (roots_code hs blocks fs b) → w.memory ≡ m → (roots_code hs blocks fs b).slots ≤ length s

@@ -97,7 +97,12 @@ fn with_constant(word: u64, part: &Part) -> u64
             let o = bits(part.o);
             let l = bits(part.l);
             if 1 <= l && o + l <= 64 {
-                put(word, u32::from(o), u32::from(l), take(*number, 0, u32::from(l)))
+                put(
+                    word,
+                    u32::from(o),
+                    u32::from(l),
+                    take(*number, 0, u32::from(l)),
+                )
             } else {
                 word
             }

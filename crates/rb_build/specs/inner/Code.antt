@@ -27,6 +27,10 @@ is_root k (P.Var at x) = false
 is_root k (P.Num at n) = false
 is_root k (P.Con at c ps) = c.con == k
 
+abbrev pub leaves_of : Option Layout → List Leaf
+leaves_of None = []
+leaves_of (Some layout) = layout.leaves
+
 -- the first leaf with this constructor at its root
 abbrev pub leaf_for : ℕ → List Leaf → Option Leaf
 leaf_for k [] = None
@@ -190,7 +194,3 @@ build_code hs (Some leaf) b = leaf_code hs leaf b
 abbrev pub build_slots : List Held → Option Leaf → Sheet → List ℕ
 build_slots hs None b = []
 build_slots hs (Some leaf) b = leaf_slots hs leaf b
-
-abbrev pub leaves_of : Option Layout → List Leaf
-leaves_of None = []
-leaves_of (Some layout) = layout.leaves
