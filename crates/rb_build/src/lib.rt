@@ -35,10 +35,11 @@
 //!
 //! What the code does is said against the source: it places exactly the blocks of the construction's one event,
 //! in their order and with their sizes, or asks in vain for the first that does not fit. The proof has two halves.
-//! The machine's side composes numbers, instruction by instruction, whatever they are; where all blocks fit, each
-//! of these numbers is the one that `rb_rel` packs of the same parts, and its lemma on a layer of a value does the rest.
+//! The machine's side composes numbers, instruction by instruction, whatever they are. Where all blocks fit, each
+//! of these numbers is the one that `rb_rel` packs of the same parts, and its lemma on one layer of a value says
+//! that these words in this memory represent the value.
 #![tactic(auto)]
 
-pub mod block;
+mod block;
 pub mod build;
-pub mod word;
+mod word;
