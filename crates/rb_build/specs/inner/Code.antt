@@ -165,7 +165,7 @@ root_made hs blocks parts b = root_code (whole_slot hs parts) hs blocks parts b
 
 -- Blocks ---------------------------------------------------------------------------------------
 
--- words composed and stored from a byte of the block on whose address is in slot a
+-- words composed and stored one behind the other, from a byte on, in the block whose address is in slot a
 abbrev pub stores_code : List Held → List ℕ → ℕ → List FlatWord → ℕ → Sheet → Sheet
 stores_code hs blocks a [] at b = b
 stores_code hs blocks a (f ∷ fs) at b =
