@@ -1,7 +1,6 @@
 -- The code of a construction does what the construction does.
-use Rattle.std.proofs.Common.{◌≡◌, ℕ, zero, suc, ◌+◌, ◌*◌, ◌/◌, ◌%◌, ◌^◌, ◌<◌, ◌≤◌, inl, inr, map, List, [], ◌∷◌, length, Bool, Option, Some, None, refl, sym, subst, ap, ◌∙◌, arith}
+use Rattle.std.proofs.Common.{◌≡◌, ℕ, zero, suc, ◌+◌, ◌/◌, ◌%◌, ◌^◌, ◌<◌, ◌≤◌, inl, inr, map, List, [], ◌∷◌, length, Bool, Option, Some, None, refl, sym, subst, ap, ◌∙◌, arith}
 use Rattle.std.specs.Prelude.{slice_get, slice_index, unwrap_or}
-use Rattle.std.proofs.lemmas.Option.{same_Some, slice_get_within}
 use Rattle.std.proofs.lemmas.List.{length-map}
 use Rattle.std.proofs.Math.Nat.{mod-eq_of_lt}
 use Rattle.rb_rel.proofs.Reading.{same_nat}
@@ -12,14 +11,13 @@ use Rattle.rb_core.specs.declared.types.ConRef.{ConRef}
 use Rattle.rb_core.specs.declared.outcome.Event.{Event}
 use Rattle.rb_core.specs.declared.outcome.Event.TheVariants.{Built}
 use Rattle.rb_core.specs.declared.program.Program.{Program}
-use Rattle.rb_core.specs.Meaning.{Calls, built}
+use Rattle.rb_core.specs.Meaning.{built}
 use Rattle.rb_core.specs.TypedPrograms.{IsTyped}
 use Rattle.rb_core.specs.Values.{fields_of, part_at}
 use Rattle.rb_core.proofs.ValueLaws.{subs-Con}
 use Rattle.rb_bytes.specs.Memory.{Memory, IsGood, aligned, write_le}
 use Rattle.rb_bytes.specs.Growth.{Grown}
 use Rattle.rb_target.specs.declared.instr.Instr.{Instr}
-use Rattle.rb_target.specs.Growth.{AgreesBut, Nowhere}
 use Rattle.rb_target.specs.Laws.{Law}
 use Rattle.rb_target.specs.Meaning.{World, Next, Callee, slots_at}
 use Rattle.rb_target.specs.Sheet.{Sheet}
@@ -37,25 +35,24 @@ use Rattle.rb_layout.specs.A4.{IsAlignment}
 use Rattle.rb_bits.specs.Words.{put_of}
 use Rattle.rb_layout.specs.Flattening.{flat_layouts, type_at}
 use Rattle.rb_layout.specs.Pointers.{PointsTo}
-use Rattle.rb_layout.specs.Positions.{Open, open_positions, leaf_of, layout_of}
-use Rattle.rb_layout.specs.Words.{flat_at, size_of, words_in, words_of_block}
+use Rattle.rb_layout.specs.Positions.{Open, open_positions, leaf_of}
+use Rattle.rb_layout.specs.Words.{flat_at, size_of, words_of_block}
 use Rattle.rb_rel.specs.Placing.{Laid, Fits, Over, blocks_in, blocks_of, lay, leaf_in, leaf_numbered, request_of}
 use Rattle.rb_rel.specs.Relation.{shape_length}
 use Rattle.rb_rel.proofs.Fitting.{KindFits, WordFits}
-use Rattle.rb_rel.proofs.Layers.{Sound, open_of, address_at, can_hold, layer_shown, numbered, placed_at, pointer_fits, stored}
+use Rattle.rb_rel.proofs.Layers.{Sound, open_of, address_at, can_hold, layer_shown, numbered, placed_at, stored}
 use Rattle.rb_rel.proofs.Packing.{number_of, packed}
 use Rattle.rb_rel.proofs.Storing.{laid_more, with_block, with_blocks, written}
 use Rattle.rb_fragment.specs.declared.held.Held.{Held}
-use Rattle.rb_fragment.specs.Plan.{Plan, Rep, words_of}
-use Rattle.rb_fragment.specs.Owing.{Does, Related}
+use Rattle.rb_fragment.specs.Plan.{Plan, Rep}
+use Rattle.rb_fragment.specs.Owing.{Does}
 use Rattle.rb_fragment.specs.Holding.{AllGiven, AreHeld, held_type}
-use Rattle.rb_fragment.specs.Fragments.{Applies, Comes, Fragment}
+use Rattle.rb_fragment.specs.Fragments.{Applies, Comes}
 use Rattle.rb_fragment.proofs.Laying.{event_fits, event_over}
 use Rattle.rb_fragment.proofs.Moves.{one-from}
 use Rattle.rb_fragment.proofs.Represented.{Rep-int}
 use Rattle.rb_fetch.proofs.Fitting.{readable_leaf, root_widths}
-use Rattle.rb_fetch.specs.Finding.{IsPlanOf}
-use Rattle.rb_fetch.specs.Plain.{ArePlain, IsPlain}
+use Rattle.rb_fetch.specs.Plain.{ArePlain}
 use Rattle.rb_build.specs.Building.{Builds}
 use Rattle.rb_build.specs.inner.Code.{blocks_code, build_code, build_slots, capped, field_slots, is_int, leaf_code, leaf_for, leaf_slots, leaves_of, whole_of}
 use Rattle.rb_build.proofs.Choosing.{Chosen, chosen}
@@ -65,7 +62,6 @@ use Rattle.rb_build.proofs.Longer.{blocks_longer}
 use Rattle.rb_build.proofs.Numbers.{bits_put, capped-is, composed, const_put, from_zero, is_a_range, pointer_put, put_whole, source_value, word_number, word_put}
 use Rattle.rb_build.proofs.Wholes.{HasWhole, is_whole}
 use Rattle.rb_build.proofs.Placing.{Ran, addresses, field, leaf_run, made}
-use Rattle.rb_build.proofs.Running.{Runs}
 
 -- Numbers that are the same ----------------------------------------------------------------------
 

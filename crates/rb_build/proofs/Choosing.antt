@@ -1,12 +1,12 @@
 -- The leaf of a construction in a plain layout: it is the first with its constructor.
-use Rattle.std.proofs.Common.{◌≡◌, ℕ, zero, suc, ◌+◌, ◌^◌, ◌<◌, ◌==◌, ◌&&◌, inl, inr, length, map, List, [], ◌∷◌, ◌++◌, Bool, true, false, Option, Some, None, drop, refl, sym, subst, ap, ◌∙◌, arith}
+use Rattle.std.proofs.Common.{◌≡◌, ℕ, zero, suc, ◌+◌, ◌^◌, ◌<◌, ◌==◌, inl, inr, length, map, List, [], ◌∷◌, ◌++◌, Bool, true, false, Some, drop, refl, sym, ap, ◌∙◌, arith}
 use Rattle.std.specs.Prelude.{slice_get, nat_lt, if◌then◌else◌}
 use Rattle.std.specs.List.{list_all}
 use Rattle.std.proofs.lemmas.Option.{same_Some}
 use Rattle.std.proofs.lemmas.List.{length-map}
 use Rattle.std.proofs.lemmas.Nat.{pow_pos}
 use Rattle.std.proofs.lemmas.Grind.{common_steps}
-use Rattle.rb_core.specs.declared.value.Value.{Value, Num, Con, out-Value}
+use Rattle.rb_core.specs.declared.value.Value.{Value, Num, Con}
 use Rattle.rb_core.specs.declared.value.Value.TheVariants.{outs-Con}
 use Rattle.rb_core.specs.declared.value.Value.TheOpen as V
 use Rattle.rb_core.specs.declared.value.Value.TheOpen.{Value-F}
@@ -14,8 +14,7 @@ use Rattle.rb_core.specs.declared.types.Ty.{Ty}
 use Rattle.rb_core.specs.declared.types.Ty.TheVariants.{Int, Named}
 use Rattle.rb_core.specs.declared.types.ConRef.{ConRef}
 use Rattle.rb_core.specs.declared.types.DataDecl.{DataDecl}
-use Rattle.rb_core.specs.declared.pattern.Pat.{Pat, out-Pat, Wild, Var, Num as NumPat, Con as ConPat}
-use Rattle.rb_core.specs.declared.pattern.Pat.TheOpen as P
+use Rattle.rb_core.specs.declared.pattern.Pat.{Pat, out-Pat, Con as ConPat}
 use Rattle.rb_core.specs.declared.pattern.Pat.TheFolds.{fold-Pat}
 use Rattle.rb_core.specs.declared.pattern.Pat.TheVariants.{outs-Wild, outs-Var, outs-Num, outs-Con as outs-ConPat}
 use Rattle.rb_core.specs.declared.program.Program.{Program}
@@ -31,12 +30,12 @@ use Rattle.rb_layout.specs.declared.layout.Layout.{Layout}
 use Rattle.rb_layout.specs.Agreement.{Agrees}
 use Rattle.rb_layout.specs.Flattening.{flat_layouts}
 use Rattle.rb_layout.specs.Positions.{Open, root_type, below, opens_below, opens_of, open_positions, types_or_none, leaf_from, leaf_of, layout_of}
-use Rattle.rb_rel.specs.Switches.{Head, head_below, heads_below, heads_of, heads_step, inner_heads}
+use Rattle.rb_rel.specs.Switches.{Head, head_below, heads_below, heads_of, heads_step}
 use Rattle.rb_rel.proofs.Agreeing.{lawful}
 use Rattle.rb_rel.proofs.Existence.{has_layout, declared_type}
 use Rattle.rb_rel.proofs.Lawful.{fits_type, is_named}
 use Rattle.rb_rel.proofs.Lists.{both, and_true, get-append, get-map}
-use Rattle.rb_rel.proofs.Opens.{fits-Con, opens-Con, opens-Wild, opens-Var, fitting}
+use Rattle.rb_rel.proofs.Opens.{fits-Con, opens-Con, opens-Wild, opens-Var}
 use Rattle.rb_rel.proofs.Reading.{same_nat}
 use Rattle.rb_rel.proofs.Widths.{fields_typed}
 use Rattle.rb_fetch.specs.Plain.{IsPlain}

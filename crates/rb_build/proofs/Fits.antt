@@ -1,9 +1,9 @@
 -- What the code of a construction demands of a leaf, and that it is fitting then.
-use Rattle.std.proofs.Common.{◌≡◌, ℕ, zero, suc, ◌+◌, ◌-◌, ◌/◌, ◌^◌, ◌<◌, ◌≤◌, ◌==◌, ◌⊎◌, inl, inr, Bool, true, false, List, [], ◌∷◌, ◌++◌, length, Option, Some, None, refl, sym, subst, ap, ◌∙◌, arith, length-append}
+use Rattle.std.proofs.Common.{◌≡◌, ℕ, zero, suc, ◌+◌, ◌-◌, ◌/◌, ◌<◌, ◌≤◌, ◌==◌, inl, inr, true, false, List, [], ◌∷◌, ◌++◌, length, Option, Some, None, refl, sym, subst, ap, ◌∙◌, arith, length-append}
 use Rattle.std.specs.Prelude.{slice_get, slice_index, if◌then◌else◌}
 use Rattle.std.proofs.lemmas.Bool.{cases_lt}
 use Rattle.rb_bits.specs.Words.{IsRange}
-use Rattle.rb_bytes.specs.Memory.{IsAlign, IsSize}
+use Rattle.rb_bytes.specs.Memory.{IsAlign}
 use Rattle.rb_target.specs.declared.instr.Instr.TheVariants as I
 use Rattle.rb_target.specs.Sheet.{Sheet, pushed, with_slot}
 use Rattle.rb_layout.specs.declared.layout.Block.{Block}
@@ -19,7 +19,6 @@ use Rattle.rb_fragment.specs.Plan.{Plan}
 use Rattle.rb_fragment.specs.Adding.{Adds}
 use Rattle.rb_fragment.specs.Slots.{AllBelow, AllFrom}
 use Rattle.rb_fragment.proofs.Adding.{Adds-one, Adds-refl, Adds-trans, push_adds}
-use Rattle.rb_fragment.proofs.Holds.{AllBelow-more}
 use Rattle.rb_rel.proofs.Storing.{IsBlock}
 use Rattle.rb_build.specs.inner.Code.{block_code, blocks_code, capped, constants, field_slots, kind_code, leaf_code, parts_code, put_code, root_code, root_slots, roots_code, shift_of, slot_of, stores_code, taken_code, taken_slot, value_code, value_slot, whole_of, whole_slot, word_code}
 use Rattle.rb_build.proofs.Longer.{block_longer, blocks_longer, fresh_root, fresh_word, kind_longer, root_longer, roots_longer, stores_longer, taken_longer, value_longer}

@@ -1,5 +1,5 @@
 -- A leaf of a plain layout, with one value held a field: each part is made from slots that there are.
-use Rattle.std.proofs.Common.{◌≡◌, ℕ, zero, suc, ◌+◌, ◌*◌, ◌/◌, ◌%◌, ◌^◌, ◌<◌, ◌≤◌, ◌==◌, inl, inr, map, List, [], ◌∷◌, length, Bool, true, Option, Some, None, refl, sym, subst, ap, ◌∙◌, arith}
+use Rattle.std.proofs.Common.{◌≡◌, ℕ, zero, suc, ◌+◌, ◌*◌, ◌<◌, ◌≤◌, inl, inr, map, List, [], ◌∷◌, length, Bool, true, Some, None, refl, sym, subst, ap, ◌∙◌, arith}
 use Rattle.std.specs.Prelude.{slice_get, slice_index, nat_lt}
 use Rattle.std.specs.List.{list_all}
 use Rattle.std.proofs.lemmas.Option.{same_Some, slice_get_within}
@@ -14,7 +14,6 @@ use Rattle.rb_core.specs.Values.{fields_of}
 use Rattle.rb_core.specs.WellNumbered.{is_type}
 use Rattle.rb_bytes.specs.Memory.{Memory}
 use Rattle.rb_target.specs.Meaning.{slots_at}
-use Rattle.rb_layout.specs.declared.layout.Block.{Block}
 use Rattle.rb_layout.specs.declared.layout.FlatWord.{FlatWord}
 use Rattle.rb_layout.specs.declared.layout.Kind.{Kind}
 use Rattle.rb_layout.specs.declared.layout.Kind.TheVariants.{Const, Bits, Word, Pointer}
@@ -23,10 +22,9 @@ use Rattle.rb_layout.specs.declared.layout.Leaf.{Leaf}
 use Rattle.rb_layout.specs.declared.layout.Part.{Part}
 use Rattle.rb_layout.specs.declared.layout.WordRef.{WordRef}
 use Rattle.rb_layout.specs.Agreement.{Agrees}
-use Rattle.rb_layout.specs.A4.{IsBlockWidth, IsAlignment}
+use Rattle.rb_layout.specs.A4.{IsBlockWidth}
 use Rattle.rb_layout.specs.Flattening.{flat_layouts, shape_in, shape_of, type_at}
-use Rattle.rb_layout.specs.Pointers.{PointsTo}
-use Rattle.rb_layout.specs.Positions.{Open, open_positions, types_or_none, layout_of}
+use Rattle.rb_layout.specs.Positions.{Open, open_positions, types_or_none}
 use Rattle.rb_layout.specs.Words.{bytes_in, flat_at, words_of_block}
 use Rattle.rb_rel.specs.Relation.{shape_length}
 use Rattle.rb_rel.proofs.Declared.{declared}
@@ -41,10 +39,9 @@ use Rattle.rb_fragment.specs.Holding.{AllGiven, AreHeld, held_type}
 use Rattle.rb_fragment.specs.Plan.{Plan, Rep, words_of}
 use Rattle.rb_fragment.specs.Slots.{AllBelow}
 use Rattle.rb_fetch.proofs.Fitting.{readable_leaf}
-use Rattle.rb_build.specs.inner.Code.{capped, field_slots, field_type, held_slots, held_type_in}
+use Rattle.rb_build.specs.inner.Code.{field_slots, field_type, held_slots, held_type_in}
 use Rattle.rb_build.proofs.Choosing.{Chosen}
-use Rattle.rb_build.proofs.Fits.{Uses, IsMade, PartOk, PartsOk, WordsOk, BlockOk, LeafOk}
-use Rattle.rb_build.proofs.Numbers.{capped-is}
+use Rattle.rb_build.proofs.Fits.{Uses, IsMade, PartsOk, BlockOk, LeafOk}
 
 index_below : (n : ℕ) (xs : List ℕ) (j : ℕ) → AllBelow n xs → j < length xs → slice_index xs j < n
 index_below n [] j all lt = absurd (omega (arith, lt))

@@ -1,6 +1,6 @@
 -- All blocks of a leaf and its root words: where the blocks fit the run comes to the end of the code.
-use Rattle.std.proofs.Common.{◌≡◌, ℕ, zero, suc, ◌+◌, ◌<◌, ◌≤◌, inl, inr, leb, Bool, true, false, map, List, [], ◌∷◌, ◌++◌, length, Some, refl, sym, subst, ap, ◌∙◌, arith, length-append}
-use Rattle.std.specs.Prelude.{slice_get, slice_index, if◌then◌else◌}
+use Rattle.std.proofs.Common.{◌≡◌, ℕ, suc, ◌+◌, ◌<◌, ◌≤◌, inl, inr, Bool, map, List, [], ◌∷◌, ◌++◌, length, refl, sym, subst, ap, ◌∙◌, arith, length-append}
+use Rattle.std.specs.Prelude.{slice_index, if◌then◌else◌}
 use Rattle.std.proofs.lemmas.Bool.{cases_lt}
 use Rattle.std.proofs.lemmas.Bool.Decides.{leb_tells}
 use Rattle.rb_bytes.specs.Memory.{Memory, IsGood, aligned}
@@ -20,7 +20,7 @@ use Rattle.rb_layout.specs.Words.{size_of}
 use Rattle.rb_fragment.specs.declared.held.Held.{Held}
 use Rattle.rb_rel.specs.Placing.{Laid, Fits, Over, request_of, behind, lay}
 use Rattle.rb_rel.proofs.Storing.{with_block, with_blocks, filled_good}
-use Rattle.rb_build.specs.inner.Code.{field_slots, block_code, blocks_code, roots_code, leaf_code, leaf_slots}
+use Rattle.rb_build.specs.inner.Code.{field_slots, block_code, blocks_code, leaf_code, leaf_slots}
 use Rattle.rb_build.proofs.Fits.{Uses, WordsOk, BlocksOk, LeafOk, SlotsBelow, at_left, at_end, slots_below_more, one_more_below, first_block, blocks_more, fresh_block, blocks_count}
 use Rattle.rb_build.proofs.Longer.{block_longer, blocks_longer, roots_longer}
 use Rattle.rb_build.proofs.Running.{Stands, stands_first, stands_rest, Runs, runs_none, runs_then, IsBelow, Tells, WordsBelow, WordsTell, number, block_run, block_full, roots_run}

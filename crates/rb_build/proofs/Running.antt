@@ -1,5 +1,5 @@
 -- What the code of a construction does, run from any slots.
-use Rattle.std.proofs.Common.{◌≡◌, ◌≢◌, ℕ, zero, suc, ◌+◌, ◌-◌, ◌*◌, ◌/◌, ◌%◌, ◌^◌, ◌<◌, ◌≤◌, ◌==◌, inl, inr, leb, Bool, true, false, map, List, [], ◌∷◌, ◌++◌, length, Option, Some, None, Result, Ok, Err, refl, sym, subst, ap, ◌∙◌, arith, length-append}
+use Rattle.std.proofs.Common.{◌≡◌, ℕ, suc, ◌+◌, ◌-◌, ◌/◌, ◌%◌, ◌^◌, ◌<◌, ◌≤◌, ◌==◌, inl, inr, Bool, true, false, map, List, [], ◌∷◌, ◌++◌, length, Option, Some, None, Result, refl, sym, subst, ap, ◌∙◌, arith, length-append}
 use Rattle.std.specs.Prelude.{slice_get, slice_index, slice_set, if◌then◌else◌}
 use Rattle.std.proofs.lemmas.Bool.Decides.{leb_tells}
 use Rattle.rb_bits.specs.Words.{take_of, put_of}
@@ -11,7 +11,7 @@ use Rattle.rb_bytes.proofs.MemoryLemmas.{store_within, placed_is, full_is}
 use Rattle.rb_target.specs.declared.instr.Instr.{Instr}
 use Rattle.rb_target.specs.declared.instr.Instr.TheVariants as I
 use Rattle.rb_target.specs.declared.outcome.End.TheVariants.{Full as Filled}
-use Rattle.rb_target.specs.Growth.{AgreesBut, Grows, Keeps, Nowhere}
+use Rattle.rb_target.specs.Growth.{AgreesBut, Keeps, Nowhere}
 use Rattle.rb_target.specs.Laws.{Law}
 use Rattle.rb_target.specs.Meaning.{World, Outcome as Run, Next, Callee, act, taken, over, slots_at, with_memory, after_store, after_place}
 use Rattle.rb_target.specs.Sheet.{Sheet, pushed, with_slot}
@@ -24,10 +24,9 @@ use Rattle.rb_layout.specs.declared.layout.Part.{Part}
 use Rattle.rb_layout.specs.A4.{IsBlockWidth}
 use Rattle.rb_layout.specs.Words.{bytes_in, size_of}
 use Rattle.rb_fragment.specs.declared.held.Held.{Held}
-use Rattle.rb_fragment.proofs.Steps.{set_same, set_other}
-use Rattle.rb_rel.specs.Placing.{Laid, Fits, Over, Request, request_of, behind, lay}
-use Rattle.rb_rel.proofs.Storing.{IsBlock, written, with_block, with_blocks, above, filled_good}
-use Rattle.rb_build.specs.inner.Code.{block_code, blocks_code, capped, constants, field_slots, kind_code, parts_code, put_code, root_code, root_slots, roots_code, shift_of, slot_of, stores_code, taken_code, taken_slot, value_code, value_slot, whole_of, word_code}
+use Rattle.rb_fragment.proofs.Steps.{set_same}
+use Rattle.rb_rel.proofs.Storing.{IsBlock, written, with_block, above}
+use Rattle.rb_build.specs.inner.Code.{block_code, capped, constants, field_slots, kind_code, parts_code, put_code, root_code, root_slots, roots_code, shift_of, slot_of, stores_code, taken_code, taken_slot, value_code, value_slot, whole_of, word_code}
 use Rattle.rb_build.proofs.Longer.{IsLonger, fresh_root, kind_longer, longer-fresh, longer-push, parts_longer, root_longer, roots_longer, store_longer, stored_code, stores_longer, taken_longer, value_longer}
 use Rattle.rb_build.proofs.Numbers.{other_kind, others, taken_value, word_number}
 use Rattle.rb_build.proofs.Wholes.{HasWhole, is_whole}
@@ -386,11 +385,12 @@ module _ (final : List Instr) (callee : Callee) (next : Next) (law : Law final c
           let e = block_code hs blocks x b in
           let lx = longer-fresh b place in
           let ly = stores_longer hs blocks d x.words 0 c in
-          let P : Result ℕ Full × Memory → Run = λ r. after_place r.0 (with_memory (taken w) r.1) (λ i. next (length b.code + 1) (slice_set s d i) (with_memory (taken w) r.1)) in
-          (with_memory (taken w) m,
-          law.step (length b.code) place s w (stands_here final b c place refl (stands_first final b c e lx ly stands))
-          ∙ ap P (ap (λ y. place_of y (size_of x) x.align) is ∙ full_is m (size_of x) x.align none),
-          omega arith)
+          let P : Result ℕ Full × Memory → Run = λ r. after_place r.0 (with_memory (taken w) r.1) (λ i. next (length b.code + 1) (slice_set s d i) (with_memory (taken w) r.1)) in (
+            with_memory (taken w) m,
+            law.step (length b.code) place s w (stands_here final b c place refl (stands_first final b c e lx ly stands))
+                ∙ ap P (ap (λ y. place_of y (size_of x) x.align) is ∙ full_is m (size_of x) x.align none),
+            omega arith,
+          )
 
       -- Root words ------------------------------------------------------------------------------
       pub roots_run : (fs : List FlatWord) (b : Sheet) (s : List ℕ) (w : World) (m : Memory) → Stands final b (roots_code hs blocks fs b) → w.memory ≡ m → (roots_code hs blocks fs b).slots ≤ length s

@@ -16,7 +16,7 @@ use std::alloc::AllocError;
 ///
 /// # Errors
 /// `AllocError` where memory is wanting.
-pub fn emit_blocks(
+pub(crate) fn emit_blocks(
     body: &mut Body,
     wanted: &[Block],
     args: &[Held],

@@ -2,7 +2,7 @@
 
 ghost use Rattle.std.specs.Prelude.{◌≡◌, ◌≤◌, IfOk, OnOk, slice_index};
 ghost use Rattle.std.specs.Option.{option_copied};
-ghost use Rattle.rb_build.specs.inner.Code.{capped, constants, field_slots, field_type, is_int, kind_code, put_code, root_code, shift_of, slot_of, taken_code, taken_slot, value_code, value_slot, whole_kind, whole_part, whole_slot, with_constant, word_code};
+ghost use Rattle.rb_build.specs.inner.Code.{capped, constants, field_slots, field_type, is_int, kind_code, put_code, root_made, shift_of, slot_of, taken_code, taken_slot, value_made, value_slot, whole_kind, whole_part, whole_slot, with_constant, word_code};
 
 use rb_bits::{put, take};
 use rb_core::types::Ty;
@@ -18,14 +18,14 @@ use std::alloc::AllocError;
 ///
 /// # Errors
 /// `AllocError` where memory is wanting.
-pub fn emit_value(
+pub(crate) fn emit_value(
     body: &mut Body,
     parts: &[Part],
     args: &[Held],
     blocks: &[usize],
 ) -> Result<usize, AllocError>
     ensures slot { IfOk result (λ d. d ≡ value_slot (whole_slot args.now parts.now) body.old.slots) }
-    ensures code { OnOk result (body.new ≡ value_code (whole_slot args.now parts.now) args.now blocks.now parts.now body.old) }
+    ensures code { OnOk result (body.new ≡ value_made args.now blocks.now parts.now body.old) }
 {
     match whole_slot(parts, args) {
         Some(slot) => Ok(slot),
@@ -40,14 +40,14 @@ pub fn emit_value(
 ///
 /// # Errors
 /// `AllocError` where memory is wanting.
-pub fn emit_root(
+pub(crate) fn emit_root(
     body: &mut Body,
     parts: &[Part],
     args: &[Held],
     blocks: &[usize],
 ) -> Result<usize, AllocError>
     ensures slot { IfOk result (λ d. d ≡ body.old.slots) }
-    ensures code { OnOk result (body.new ≡ root_code (whole_slot args.now parts.now) args.now blocks.now parts.now body.old) }
+    ensures code { OnOk result (body.new ≡ root_made args.now blocks.now parts.now body.old) }
 {
     match whole_slot(parts, args) {
         Some(from) => {
@@ -97,7 +97,12 @@ fn with_constant(word: u64, part: &Part) -> u64
             let o = bits(part.o);
             let l = bits(part.l);
             if 1 <= l && o + l <= 64 {
-                put(word, u32::from(o), u32::from(l), take(*number, 0, u32::from(l)))
+                put(
+                    word,
+                    u32::from(o),
+                    u32::from(l),
+                    take(*number, 0, u32::from(l)),
+                )
             } else {
                 word
             }
@@ -232,7 +237,7 @@ fn field_slots<'a>(args: &'a [Held], path: &[u32]) -> &'a [usize]
 {
     match path.get(0) {
         None => &[],
-        Some(field) => match args.get(*field as usize) {
+        Some(number) => match args.get(*number as usize) {
             None => &[],
             Some(held) => held.slots.as_slice(),
         },

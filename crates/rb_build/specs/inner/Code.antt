@@ -27,6 +27,10 @@ is_root k (P.Var at x) = false
 is_root k (P.Num at n) = false
 is_root k (P.Con at c ps) = c.con == k
 
+abbrev pub leaves_of : Option Layout → List Leaf
+leaves_of None = []
+leaves_of (Some layout) = layout.leaves
+
 -- the first leaf with this constructor at its root
 abbrev pub leaf_for : ℕ → List Leaf → Option Leaf
 leaf_for k [] = None
@@ -66,7 +70,8 @@ taken_slot x o n = if o == 0 then x else n
 
 -- the constants of parts, each in its place over a number
 abbrev pub with_constant : ℕ → ℕ → ℕ → Kind → ℕ
-with_constant n o l (Const c) = if is_range (capped o) (capped l) then put_of n (capped o) (capped l) (take_of c 0 (capped l)) else n
+with_constant n o l (Const c) =
+    if is_range (capped o) (capped l) then put_of n (capped o) (capped l) (take_of c 0 (capped l)) else n
 with_constant n o l (Bits path a) = n
 with_constant n o l (Word path j) = n
 with_constant n o l (Pointer align x) = n
@@ -77,14 +82,16 @@ constants n (p ∷ ps) = constants (with_constant n p.o p.l p.kind) ps
 
 -- bits of slot x put into the word in slot d
 abbrev pub put_code : ℕ → ℕ → ℕ → ℕ → Part → Sheet → Sheet
-put_code d x from long p b = pushed (taken_code x from long b) (I.Put d (taken_slot x from b.slots) (capped p.o) (capped p.l))
+put_code d x from long p b =
+    pushed (taken_code x from long b) (I.Put d (taken_slot x from b.slots) (capped p.o) (capped p.l))
 
 -- what a part holds put there; a constant is there already. `blocks` has the slots of addresses
 abbrev pub kind_code : List Held → List ℕ → ℕ → Part → Kind → Sheet → Sheet
 kind_code hs blocks d p (Const c) b = b
 kind_code hs blocks d p (Bits path a) b = put_code d (slice_index (field_slots hs path) 0) (capped a) (capped p.l) p b
 kind_code hs blocks d p (Word path j) b = put_code d (slice_index (field_slots hs path) j) 0 64 p b
-kind_code hs blocks d p (Pointer align x) b = put_code d (slice_index blocks x) (shift_of align) (64 - shift_of align) p b
+kind_code hs blocks d p (Pointer align x) b =
+    put_code d (slice_index blocks x) (shift_of align) (64 - shift_of align) p b
 
 abbrev pub parts_code : List Held → List ℕ → ℕ → List Part → Sheet → Sheet
 parts_code hs blocks d [] b = b
@@ -92,7 +99,8 @@ parts_code hs blocks d (p ∷ ps) b = parts_code hs blocks d ps (kind_code hs bl
 
 -- a word is its constants with the other parts put over them; it is the first slot that is new
 abbrev pub word_code : List Held → List ℕ → List Part → Sheet → Sheet
-word_code hs blocks parts b = parts_code hs blocks b.slots parts (pushed (with_slot b) (I.Const b.slots (constants 0 parts)))
+word_code hs blocks parts b =
+    parts_code hs blocks b.slots parts (pushed (with_slot b) (I.Const b.slots (constants 0 parts)))
 
 -- Words of fields ------------------------------------------------------------------------------
 
@@ -140,6 +148,9 @@ abbrev pub value_code : Option ℕ → List Held → List ℕ → List Part → 
 value_code None hs blocks parts b = word_code hs blocks parts b
 value_code (Some x) hs blocks parts b = b
 
+abbrev pub value_made : List Held → List ℕ → List Part → Sheet → Sheet
+value_made hs blocks parts b = value_code (whole_slot hs parts) hs blocks parts b
+
 abbrev pub value_slot : Option ℕ → ℕ → ℕ
 value_slot None n = n
 value_slot (Some x) n = x
@@ -149,17 +160,22 @@ abbrev pub root_code : Option ℕ → List Held → List ℕ → List Part → S
 root_code None hs blocks parts b = word_code hs blocks parts b
 root_code (Some x) hs blocks parts b = pushed (with_slot b) (I.Copy b.slots x)
 
+abbrev pub root_made : List Held → List ℕ → List Part → Sheet → Sheet
+root_made hs blocks parts b = root_code (whole_slot hs parts) hs blocks parts b
+
 -- Blocks ---------------------------------------------------------------------------------------
 
--- words composed and stored from a byte of the block on whose address is in slot a
+-- words composed and stored one behind the other, from a byte on, in the block whose address is in slot a
 abbrev pub stores_code : List Held → List ℕ → ℕ → List FlatWord → ℕ → Sheet → Sheet
 stores_code hs blocks a [] at b = b
 stores_code hs blocks a (f ∷ fs) at b =
     stores_code hs blocks a fs (at + f.width / 8)
-    (pushed (value_code (whole_slot hs f.parts) hs blocks f.parts b) (I.Store a at (capped f.width) (value_slot (whole_slot hs f.parts) b.slots)))
+    (pushed (value_made hs blocks f.parts b)
+    (I.Store a at (capped f.width) (value_slot (whole_slot hs f.parts) b.slots)))
 
 abbrev pub block_code : List Held → List ℕ → Block → Sheet → Sheet
-block_code hs blocks x b = stores_code hs blocks b.slots x.words 0 (pushed (with_slot b) (I.Place b.slots (size_of x) x.align))
+block_code hs blocks x b =
+    stores_code hs blocks b.slots x.words 0 (pushed (with_slot b) (I.Place b.slots (size_of x) x.align))
 
 -- the code, and the slots of all addresses
 abbrev pub blocks_code : List Held → List Block → List ℕ → Sheet → Sheet × List ℕ
@@ -170,11 +186,11 @@ blocks_code hs (x ∷ xs) blocks b = blocks_code hs xs (blocks ++ b.slots ∷ []
 
 abbrev pub roots_code : List Held → List ℕ → List FlatWord → Sheet → Sheet
 roots_code hs blocks [] b = b
-roots_code hs blocks (f ∷ fs) b = roots_code hs blocks fs (root_code (whole_slot hs f.parts) hs blocks f.parts b)
+roots_code hs blocks (f ∷ fs) b = roots_code hs blocks fs (root_made hs blocks f.parts b)
 
 abbrev pub root_slots : List Held → List ℕ → List FlatWord → Sheet → List ℕ
 root_slots hs blocks [] b = []
-root_slots hs blocks (f ∷ fs) b = b.slots ∷ root_slots hs blocks fs (root_code (whole_slot hs f.parts) hs blocks f.parts b)
+root_slots hs blocks (f ∷ fs) b = b.slots ∷ root_slots hs blocks fs (root_made hs blocks f.parts b)
 
 -- a leaf's blocks, inner ones first, and then its root words
 abbrev pub leaf_code : List Held → Leaf → Sheet → Sheet
@@ -190,7 +206,3 @@ build_code hs (Some leaf) b = leaf_code hs leaf b
 abbrev pub build_slots : List Held → Option Leaf → Sheet → List ℕ
 build_slots hs None b = []
 build_slots hs (Some leaf) b = leaf_slots hs leaf b
-
-abbrev pub leaves_of : Option Layout → List Leaf
-leaves_of None = []
-leaves_of (Some layout) = layout.leaves

@@ -1,4 +1,4 @@
-use Rattle.std.proofs.Common.{refl, sym, ap, ◌∙◌}
+use Rattle.std.proofs.Common.{refl}
 use Rattle.std.specs.Prelude.{slice_get}
 use Rattle.rb_build.specs.inner.Code.{leaf_for, leaves_of}
 use Rattle.rb_build.proofs.Building.{builds}
