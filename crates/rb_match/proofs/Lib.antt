@@ -1,0 +1,11 @@
+mod Bounds
+mod Chosen
+mod Edges
+mod Following
+mod Landing
+mod LeafTests
+mod Nodes
+mod NumberTests
+mod Passing
+mod Placing
+mod Testing
