@@ -27,11 +27,11 @@ place_is a b e =
     ap (λ q. record { path = q; ty = a.ty }) (path_is a.path b.path h.0) ∙ ap (λ u. record { path = b.path; ty = u }) (same_type-is a.ty b.ty h.1)
 
 kept : (f : Place → Bool) (q : Place) → f q ≡ true → (ps : List Place) → IsPlaceIn q ps → IsPlaceIn q (filter f ps)
-kept f q yes [] (k, at) = absurd cc
-kept f q yes (p ∷ ps) (zero, at) =
+kept f q holds [] (k, at) = absurd cc
+kept f q holds (p ∷ ps) (zero, at) =
     let same : p ≡ q = same_Some p q at in
-    subst (λ u. IsPlaceIn q (if u then p ∷ filter f ps else filter f ps)) (sym (ap f same ∙ yes)) (0, at)
-kept f q yes (p ∷ ps) (suc k, at) = let r = kept f q yes ps (k, at) in go (f p) r
+    subst (λ u. IsPlaceIn q (if u then p ∷ filter f ps else filter f ps)) (sym (ap f same ∙ holds)) (0, at)
+kept f q holds (p ∷ ps) (suc k, at) = let r = kept f q holds ps (k, at) in go (f p) r
   where
     go : (u : Bool) → IsPlaceIn q (filter f ps) → IsPlaceIn q (if u then p ∷ filter f ps else filter f ps)
     go true r = (suc r.0, r.1)

@@ -50,3 +50,7 @@ pub only-one : {A : Type 0} (xs : List A) (x : A) → 1 ≤ length xs → length
 only-one [] x lo hi e = absurd (omega (arith, lo))
 only-one (y ∷ []) x lo hi e = ap (λ z. z ∷ []) (sym e)
 only-one (y ∷ z ∷ xs) x lo hi e = absurd (omega (arith, hi))
+
+pub no-item : {A : Type 0} (xs : List A) → length xs < 1 → xs ≡ []
+no-item [] lt = refl
+no-item (x ∷ xs) lt = absurd (omega (arith, lt))

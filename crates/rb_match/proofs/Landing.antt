@@ -19,11 +19,11 @@ use Rattle.rb_match.specs.inner.Flowing.{landing_of, others_of, Job, IsOn, Arriv
 use Rattle.rb_match.proofs.Edges.{same-nat, other-nat, in_none, in_head, in_tail, in_append, in_left, in_right, to_hole, from_hole, open_edge, edge_open, landing, landed, landed_from, other_kept, other_from, all_holes_from, closable_from}
 
 -- some holes that are closed, where others stay open
-record IsLanded (final : List Instr) (b : Sheet) (hs ks : List Hole) (ts : List ℕ) (lo hi : ℕ) : Type 0 where
-  finishes : Finishes final b.code (hs ++ ks) lo hi
-  leads : (h : Hole) → IsIn h hs → lo ≤ h.pc → h.pc < hi → target_in (slice_get final h.pc) h.arm ≡ Some (slice_index ts h.leaf)
+pub record IsLanded (final : List Instr) (b : Sheet) (hs ks : List Hole) (ts : List ℕ) (lo hi : ℕ) : Type 0 where
+  pub finishes : Finishes final b.code (hs ++ ks) lo hi
+  pub leads : (h : Hole) → IsIn h hs → lo ≤ h.pc → h.pc < hi → target_in (slice_get final h.pc) h.arm ≡ Some (slice_index ts h.leaf)
 
-closed_open : (final : List Instr) (ks : List Hole) (ts : List ℕ) (lo hi : ℕ) (hs : List Hole) (b : Sheet) → Finishes final (closed b hs ts).code ks lo hi → AreAllHoles b.code hs → AreOfOneWay hs
+pub closed_open : (final : List Instr) (ks : List Hole) (ts : List ℕ) (lo hi : ℕ) (hs : List Hole) (b : Sheet) → Finishes final (closed b hs ts).code ks lo hi → AreAllHoles b.code hs → AreOfOneWay hs
     → ((h : Hole) → IsIn h hs → IsOpen ks h.pc h.arm → ⊥) → IsLanded final b hs ks ts lo hi
 closed_open final ks ts lo hi [] b fin holes one apart = record { finishes = fin; leads = λ h i. absurd (in_none h i) }
 closed_open final ks ts lo hi (h ∷ hs) b fin holes one apart =

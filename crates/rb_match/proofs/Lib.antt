@@ -1,5 +1,7 @@
+mod Bindings
 mod Bounds
 mod Chosen
+mod ClauseForms
 mod Edges
 mod Following
 mod Landing

@@ -64,7 +64,7 @@ has_in pc [] h = absurd h
 has_in pc (x ∷ hs) (inl e) = (x, (0, refl), e)
 has_in pc (x ∷ hs) (inr h) = let r = has_in pc hs h in (r.0, (suc r.1.0, r.1.1), r.2)
 
-closed_grows : (first b : Sheet) (hs : List Hole) (ts : List ℕ) → Grows first.code b.code → ((h : Hole) → IsIn h hs → length first.code ≤ h.pc) → Grows first.code (closed b hs ts).code
+pub closed_grows : (first b : Sheet) (hs : List Hole) (ts : List ℕ) → Grows first.code b.code → ((h : Hole) → IsIn h hs → length first.code ≤ h.pc) → Grows first.code (closed b hs ts).code
 closed_grows first b hs ts g low = record {
   longer = (let n = closed_length b hs ts in omega (arith, n, g.longer));
   same = λ pc lt. at_closed b hs ts pc ∙ retarget_none pc hs ts _ (λ h. let r = has_in pc hs h in let l = low r.0 r.1 in omega (arith, l, r.2, lt)) ∙ g.same pc lt;

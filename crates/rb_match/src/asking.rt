@@ -148,8 +148,8 @@ fn ask_number(
 
 // Constructors ----------------------------------------------------------------------------------
 
-// The constructor of a leaf's values.
-fn con_of(agreed: &Agreed, ty: u32, leaf: usize) -> Option<u32>
+/// The constructor of a leaf's values.
+pub fn con_of(agreed: &Agreed, ty: u32, leaf: usize) -> Option<u32>
     ensures { result ≡ leaf_con agreed.now ty leaf }
 {
     let layout = agreed.layouts().get(ty as usize)?;

@@ -7,6 +7,7 @@ ghost use Rattle.rb_fragment.specs.declared.reads.Read.{Slot};
 ghost use Rattle.rb_match.specs.Choosing.{Chooses};
 ghost use Rattle.rb_match.specs.inner.Trees.{TakesTree};
 
+use crate::clauses::emit_clauses;
 use crate::engine::emit_graph;
 use rb_core::pattern::Pat;
 use rb_core::seq::Seq;
@@ -30,8 +31,11 @@ fn slot_reads(alloc: Global, words: &[usize]) -> Result<Seq<Read>, AllocError>
     Ok(reads)
 }
 
-// Code of a decision tree, equal parts of it once.
-fn emit_tree(
+/// Code of a decision tree, equal parts of it once.
+///
+/// # Errors
+/// `AllocError` where memory is wanting.
+pub fn emit_tree(
     alloc: Global,
     body: &mut Body,
     agreed: &Agreed,
@@ -70,12 +74,16 @@ pub fn emit_match(
     ensures grows { OnOk result (Grows body.old.code body.new.code) }
 {
     let types = agreed.covered().program().types.as_slice();
+    let _flat = agreed.layouts();
     let words = slot_reads(alloc, words)?;
     match tree(alloc, types, ty, pats)? {
         Tried::Built(tree) => {
             let holes = emit_tree(alloc, body, agreed, ty, words.as_slice(), pats, &tree)?;
             Ok(holes)
         }
-        Tried::Over => Err(AllocError),
+        Tried::Over => {
+            let holes = emit_clauses(alloc, body, agreed, ty, words.as_slice(), pats)?;
+            Ok(holes)
+        }
     }
 }

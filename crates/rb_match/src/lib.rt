@@ -4,6 +4,7 @@
 pub mod asking;
 pub mod binding;
 pub mod choosing;
+pub mod clauses;
 pub mod engine;
 pub mod knowledge;
 pub mod place;

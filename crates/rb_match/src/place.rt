@@ -89,8 +89,8 @@ pub fn place_of(
     Ok(place)
 }
 
-// The types of a constructor's fields.
-fn fields_of(types: &[DataDecl], con: ConRef) -> &[Ty]
+/// The types of a constructor's fields.
+pub fn fields_of(types: &[DataDecl], con: ConRef) -> &[Ty]
     ensures { result.now ≡ field_types types.now con }
 {
     let Some(data) = types.get(con.ty as usize) else {
