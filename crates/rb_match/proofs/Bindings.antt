@@ -1,5 +1,5 @@
 -- Code that binds: nothing, a variable, a field, several fields, a constructor.
-use Rattle.std.proofs.Common.{◌≡◌, ℕ, zero, suc, ◌+◌, ◌<◌, ◌≤◌, ◌==◌, ◌⊎◌, inl, inr, Bool, true, false, List, [], ◌∷◌, ◌++◌, map, length, Option, Some, None, refl, sym, subst, ap, ◌∙◌, arith}
+use Rattle.std.proofs.Common.{◌≡◌, ℕ, suc, ◌+◌, ◌==◌, inl, inr, Bool, true, false, List, [], ◌∷◌, ◌++◌, map, length, Some, refl, sym, subst, ap, ◌∙◌, arith}
 use Rattle.std.specs.Prelude.{slice_get, ◌&&◌}
 use Rattle.std.proofs.lemmas.Bool.{false≢true}
 use Rattle.std.proofs.lemmas.Option.{same_Some, slice_get_within}
@@ -15,10 +15,10 @@ use Rattle.rb_core.specs.declared.binding.Binding.{Binding}
 use Rattle.rb_core.specs.declared.pattern.Pat.{Pat, Wild, Var, Num, Con, out-Pat}
 use Rattle.rb_core.specs.declared.pattern.Pat.TheVariants.{outs-Wild, outs-Var, outs-Num, outs-Con}
 use Rattle.rb_core.specs.Inference.{binders, binders_step, all_binders}
-use Rattle.rb_core.specs.Matching.{all_bound, all_pass, bindings, bound_within, is_con, is_number, matches_of}
+use Rattle.rb_core.specs.Matching.{all_bound, all_pass, bindings, bound_within, is_con, matches_of}
 use Rattle.rb_core.specs.Typing.{field_types}
 use Rattle.rb_core.specs.Values.{part_at, subs_in}
-use Rattle.rb_core.proofs.MatchingForms.{matches-Wild, matches-Var, matches-Num, matches-Con, bindings-Wild, bindings-Var, bindings-Num, bindings-Con}
+use Rattle.rb_core.proofs.MatchingForms.{matches-Con, bindings-Wild, bindings-Var, bindings-Num, bindings-Con}
 use Rattle.rb_core.proofs.PatternLaws.{fold-Wild, fold-Var, fold-Num, fold-Con, induction}
 use Rattle.rb_bytes.specs.Memory.{Memory, IsGood}
 use Rattle.rb_target.specs.Growth.{Keeps}
@@ -30,13 +30,12 @@ use Rattle.rb_layout.specs.Positions.{layout_of, leaf_of}
 use Rattle.rb_rel.proofs.Leaves.{leaf_matches}
 use Rattle.rb_rel.proofs.Represented.{opened}
 use Rattle.rb_fragment.specs.declared.held.Local.{Local}
-use Rattle.rb_fragment.specs.Adding.{Adds}
-use Rattle.rb_fragment.specs.Holding.{AreGiven, Holds, IsOfLocal, binder_in, scope_of}
+use Rattle.rb_fragment.specs.Holding.{AreGiven, Holds, binder_in, scope_of}
 use Rattle.rb_fragment.specs.Pieces.{AtEnd, Straight}
 use Rattle.rb_fragment.specs.Plan.{Plan, Rep, words_of}
-use Rattle.rb_fragment.specs.Slots.{AllBelow, IsOneOf}
+use Rattle.rb_fragment.specs.Slots.{AllBelow}
 use Rattle.rb_fragment.proofs.Adding.{Adds-refl, Adds-trans}
-use Rattle.rb_fragment.proofs.Holds.{AllBelow-more, AreGiven-more, AreGiven-append, Holds-append, Holds-kept, IsOfLocal-append, slots_at-kept}
+use Rattle.rb_fragment.proofs.Holds.{AllBelow-more, AreGiven-more, AreGiven-append, Holds-append, IsOfLocal-append, slots_at-kept}
 use Rattle.rb_fragment.proofs.Pieces.{piece_none, piece_weaken, straight_frame, straight_seq, straight_weaken}
 use Rattle.rb_fetch.specs.Fields.{FetchesField}
 use Rattle.rb_fetch.specs.Finding.{IsPlanOf, leaf_count, leaves_within}

@@ -1,12 +1,10 @@
 -- Looks at distinct places, all among those at which patterns have numbers and constructors, are within their sum.
-use Rattle.std.proofs.Common.{◌≡◌, ℕ, zero, suc, ◌+◌, ◌<◌, ◌≤◌, ◌==◌, ◌⊎◌, inl, inr, Bool, true, false, List, [], ◌∷◌, ◌++◌, map, length, Option, Some, None, refl, sym, subst, ap, ◌∙◌, arith}
+use Rattle.std.proofs.Common.{◌≡◌, ℕ, zero, suc, ◌+◌, ◌≤◌, Bool, true, false, List, [], ◌∷◌, map, Some, refl, sym, subst, ap, ◌∙◌, arith}
 use Rattle.std.specs.Prelude.{slice_get, filter, not, if◌then◌else◌, ◌&&◌}
 use Rattle.std.specs.List.{AllByRecursion}
 use Rattle.std.proofs.lemmas.Option.{same_Some}
-use Rattle.rb_core.specs.declared.types.Ty.{Ty}
 use Rattle.rb_core.specs.Typing.{same_type}
 use Rattle.rb_core.proofs.TypedForms.{same_type-is}
-use Rattle.rb_decide.specs.Trees.{Way}
 use Rattle.rb_decide.specs.Decisions.{AreDistinct}
 use Rattle.rb_layout.specs.declared.layout.Layout.{Layout}
 use Rattle.rb_layout.specs.Flattening.{same_path}

@@ -1,6 +1,6 @@
 -- From the code of a tree to the choice of a clause, within the bound.
-use Rattle.std.proofs.Common.{◌≡◌, ℕ, zero, suc, ◌+◌, ◌*◌, ◌<◌, ◌≤◌, Bool, true, false, List, [], ◌∷◌, ◌++◌, map, length, Option, Some, None, refl, sym, subst, ap, ◌∙◌, arith}
-use Rattle.std.specs.Prelude.{slice_get, nat_lt, unwrap_or, if◌then◌else◌}
+use Rattle.std.proofs.Common.{◌≡◌, ℕ, ◌*◌, ◌<◌, ◌≤◌, Bool, true, false, List, [], ◌∷◌, map, length, Some, sym, subst, ap, ◌∙◌, arith}
+use Rattle.std.specs.Prelude.{nat_lt, unwrap_or, if◌then◌else◌}
 use Rattle.std.proofs.lemmas.Bool.Decides.{nat_tests}
 use Rattle.std.proofs.lemmas.List.{length-map}
 use Rattle.rb_core.specs.declared.types.Ty.{Ty}
@@ -11,7 +11,7 @@ use Rattle.rb_decide.specs.declared.decision_tree.Tree.{Tree}
 use Rattle.rb_decide.specs.declared.decision_tree.Tree as T
 use Rattle.rb_decide.specs.declared.decision_graph.Graph.{Graph}
 use Rattle.rb_decide.specs.Decisions.{AreDistinct}
-use Rattle.rb_decide.specs.Graphs.{unfolding_of, LinksAreLower, node_trees}
+use Rattle.rb_decide.specs.Graphs.{unfolding_of, LinksAreLower}
 use Rattle.rb_decide.specs.Trees.{taken, ways, size, match_tree}
 use Rattle.rb_decide.proofs.Positions.{match-once}
 use Rattle.rb_decide.proofs.Taking.{match-takes}
@@ -33,7 +33,7 @@ use Rattle.rb_match.specs.Bounding.{Place, looks_of, places_of, rounds}
 use Rattle.rb_match.specs.Choosing.{Chooses}
 use Rattle.rb_match.specs.inner.Flowing.{tree_at, looks, path_of, HasWay, TakesGraph}
 use Rattle.rb_match.specs.inner.Places.{IsPlaceIn, IsLookedAt}
-use Rattle.rb_match.specs.inner.Trees.{LeavesTree, TakesTree}
+use Rattle.rb_match.specs.inner.Trees.{TakesTree}
 use Rattle.rb_match.proofs.Bounds.{in_distinct, within_sum, all_at}
 
 -- the code of a graph is that of the tree to which it unfolds

@@ -3,7 +3,6 @@ use Rattle.std.proofs.Common.{◌≡◌, ℕ, zero, suc, ◌+◌, ◌*◌, ◌<�
 use Rattle.std.specs.Prelude.{slice_get, slice_index, if◌then◌else◌, ◌&&◌, nat_lt}
 use Rattle.std.specs.List.{flat_map}
 use Rattle.std.proofs.lemmas.Grind.{common_steps}
-use Rattle.std.proofs.lemmas.Bool.{false≢true}
 use Rattle.std.proofs.lemmas.Option.{same_Some}
 use Rattle.rb_core.specs.declared.value.Value.{Value}
 use Rattle.rb_core.specs.declared.types.Ty.{Ty}
@@ -11,7 +10,6 @@ use Rattle.rb_core.specs.declared.types.DataDecl.{DataDecl}
 use Rattle.rb_core.specs.declared.pattern.Pat.{Pat, Wild}
 use Rattle.rb_core.specs.Matching.{IsExhaustive, chosen_clause, matches_of, next_clause}
 use Rattle.rb_core.specs.TypedPrograms.{IsTyped}
-use Rattle.rb_core.specs.Values.{is_of_type}
 use Rattle.rb_core.proofs.MatchingForms.{matches-Wild}
 use Rattle.rb_core.proofs.PatternLaws.{fold-Wild}
 use Rattle.rb_decide.specs.Decisions.{AreDistinct}
@@ -19,11 +17,9 @@ use Rattle.rb_decide.specs.Trees.{match_tree, size, taken, ways}
 use Rattle.rb_bytes.specs.Memory.{IsGood}
 use Rattle.rb_target.specs.declared.instr.Instr.{Instr}
 use Rattle.rb_target.specs.declared.body.Hole.{Hole}
-use Rattle.rb_target.specs.Growth.{Grows, Keeps}
-use Rattle.rb_target.specs.Laws.{Law}
-use Rattle.rb_target.specs.Meaning.{World, Next, Callee}
+use Rattle.rb_target.specs.Growth.{Grows}
 use Rattle.rb_target.specs.Sheet.{Sheet, IsHole, IsHoleIn}
-use Rattle.rb_target.specs.Targets.{Finishes, IsIn, IsOpen, target_in}
+use Rattle.rb_target.specs.Targets.{Finishes, IsIn, IsOpen}
 use Rattle.rb_target.proofs.Finishing.{agrees-sub}
 use Rattle.rb_target.proofs.Growing.{Grows-refl, Grows-trans, Keeps-refl, Keeps-trans, below_or}
 use Rattle.rb_layout.specs.declared.agreed.LaidOut.{LaidOut}
@@ -31,25 +27,24 @@ use Rattle.rb_layout.specs.Agreement.{Agrees}
 use Rattle.rb_layout.specs.Flattening.{flat_layouts}
 use Rattle.rb_fragment.specs.declared.reads.Read.{Read, Slot}
 use Rattle.rb_fragment.specs.Arms.{AreHoles, AreOfOneWay, ArePatchable, closed}
-use Rattle.rb_fragment.specs.Plan.{Plan, Rep}
-use Rattle.rb_fragment.specs.Adding.{Adds}
+use Rattle.rb_fragment.specs.Plan.{Rep}
 use Rattle.rb_fragment.specs.Pieces.{IsLater, Leaves}
 use Rattle.rb_fragment.specs.WordReads.{AreMeant}
 use Rattle.rb_fragment.proofs.Adding.{Adds-refl, Adds-trans}
 use Rattle.rb_fragment.proofs.Patching.{AreAllHoles, adds_closed, closed_hole, closed_length, closed_slots, hole_within}
-use Rattle.rb_fragment.proofs.Pieces.{later-refl, later-trans}
+use Rattle.rb_fragment.proofs.Pieces.{later-trans}
 use Rattle.rb_match.specs.Bounding.{Place, places_in, places_of, places_step, rounds}
 use Rattle.rb_match.specs.Choosing.{Chooses}
 use Rattle.rb_target.specs.Meaning.{slots_at}
 use Rattle.std.proofs.lemmas.List.{length-map}
 use Rattle.std.proofs.lemmas.Bool.Decides.{nat_tests}
-use Rattle.rb_match.specs.inner.Clauses.{way_holes, GoesOn, round_of, ClauseTried, IsFineFor, HolesStand, TriesClause, AllTried, TriesAll}
+use Rattle.rb_match.specs.inner.Clauses.{way_holes, round_of, HolesStand, TriesClause, TriesAll}
 use Rattle.rb_match.specs.inner.Flowing.{looks, path_of, HasWay}
 use Rattle.rb_match.specs.inner.Places.{IsLookedAt, IsPlaceIn}
 use Rattle.rb_match.specs.inner.Trees.{TakesTree}
 use Rattle.rb_match.proofs.Bounds.{all_at, in_distinct, within_sum}
 use Rattle.rb_match.proofs.Chosen.{value_takes, slots_fit, slots_meant}
-use Rattle.rb_match.proofs.Edges.{same-nat, in_head, in_tail, in_none, in_append, in_left, in_right, all_holes_from, closable_from, holes_from, patchable_from}
+use Rattle.rb_match.proofs.Edges.{same-nat, in_none, in_append, in_left, in_right, all_holes_from, closable_from, holes_from, patchable_from}
 use Rattle.rb_match.proofs.Landing.{IsLanded, closed_open}
 use Rattle.rb_match.proofs.Nodes.{closed_grows}
 use Rattle.rb_match.proofs.Placing.{in-flat}

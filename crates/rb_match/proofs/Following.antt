@@ -1,15 +1,13 @@
 -- What is known follows, is shared, and holds behind each edge to a node.
-use Rattle.std.proofs.Common.{◌≡◌, ℕ, ◌+◌, ◌<◌, ◌≤◌, ◌⊎◌, inl, inr, List, [], ◌∷◌, ◌++◌, take, length, get_or, Option, Some, None, refl, sym, subst, ap, ◌∙◌, arith, zero, suc}
+use Rattle.std.proofs.Common.{◌≡◌, ℕ, ◌+◌, ◌<◌, ◌≤◌, ◌⊎◌, inl, inr, List, [], ◌∷◌, ◌++◌, take, length, get_or, Option, Some, refl, sym, subst, ap, ◌∙◌, arith, zero, suc}
 use Rattle.std.specs.Prelude.{slice_get}
 use Rattle.std.proofs.lemmas.Option.{same_Some}
-use Rattle.rb_core.specs.declared.value.Value.{Value}
 use Rattle.rb_core.specs.Values.{part_at}
-use Rattle.rb_layout.specs.Positions.{leaf_of, layout_of}
+use Rattle.rb_layout.specs.Positions.{layout_of}
 use Rattle.rb_decide.proofs.Moving.{take-next}
-use Rattle.rb_fragment.specs.Plan.{Plan}
 use Rattle.rb_match.specs.declared.knowledge.Known.{Known}
 use Rattle.rb_match.specs.declared.knowledge.Edge.{Edge}
-use Rattle.rb_match.specs.inner.Knowing.{IsKnown, AreKnown, FollowsLeaf, SharesKnown, AreFound, IsMet, IsEdge, IsCommon}
+use Rattle.rb_match.specs.inner.Knowing.{IsKnown, AreKnown, FollowsLeaf, SharesKnown, IsMet, IsCommon}
 
 -- an item of a list with one more
 pub snoc-at : {A : Type 0} (xs : List A) (x y : A) (i : ℕ) → slice_get (xs ++ x ∷ []) i ≡ Some y → (slice_get xs i ≡ Some y) ⊎ (x ≡ y)

@@ -1,5 +1,5 @@
 -- A node's code begins: the targets of its edges are set to it.
-use Rattle.std.proofs.Common.{◌≡◌, ℕ, zero, suc, ◌+◌, ◌<◌, ◌≤◌, ◌==◌, ◌⊎◌, inl, inr, Bool, true, false, List, [], ◌∷◌, ◌++◌, length, Option, Some, None, refl, sym, subst, ap, ◌∙◌, arith}
+use Rattle.std.proofs.Common.{◌≡◌, ℕ, ◌<◌, ◌≤◌, ◌==◌, ◌⊎◌, inl, inr, Bool, true, false, List, [], ◌∷◌, ◌++◌, length, Option, Some, refl, sym, subst, ap, ◌∙◌, arith}
 use Rattle.std.specs.Prelude.{slice_get, slice_index}
 use Rattle.std.proofs.lemmas.Option.{same_Some}
 use Rattle.rb_target.specs.declared.instr.Instr.{Instr}
@@ -9,14 +9,14 @@ use Rattle.rb_target.specs.Targets.{Finishes, IsIn, IsOpen, target_in}
 use Rattle.rb_target.proofs.Finishing.{agrees-sub, finishes_patched, leads_patched}
 use Rattle.rb_target.proofs.Shapes.{patch_is}
 use Rattle.rb_fragment.proofs.Closing.{is_open}
-use Rattle.rb_fragment.proofs.Patching.{AreAllHoles, AreClosable, adds_closed, all_holes_patched, closed_hole, closed_length, closed_slots, hole_within}
+use Rattle.rb_fragment.proofs.Patching.{AreAllHoles, AreClosable, adds_closed, all_holes_patched, closed_length, closed_slots, hole_within}
 use Rattle.rb_fragment.specs.Arms.{AreOfOneWay, closed}
 use Rattle.rb_match.specs.declared.knowledge.Known.{Known}
 use Rattle.rb_match.specs.declared.knowledge.Edge.{Edge}
 use Rattle.rb_match.specs.inner.Knowing.{IsEdge, IsCommon}
-use Rattle.rb_match.specs.inner.Asking.{holes_of, AreOpen, LeadOneWay}
+use Rattle.rb_match.specs.inner.Asking.{holes_of, AreOpen}
 use Rattle.rb_match.specs.inner.Flowing.{landing_of, others_of, Job, IsOn, Arrives, Lands, Flows, FlowsHere, Stands}
-use Rattle.rb_match.proofs.Edges.{same-nat, other-nat, in_none, in_head, in_tail, in_append, in_left, in_right, to_hole, from_hole, open_edge, edge_open, landing, landed, landed_from, other_kept, other_from, all_holes_from, closable_from}
+use Rattle.rb_match.proofs.Edges.{same-nat, other-nat, in_none, in_head, in_tail, in_append, open_edge, edge_open, landing, landed, landed_from, other_kept, other_from, all_holes_from, closable_from}
 
 -- some holes that are closed, where others stay open
 pub record IsLanded (final : List Instr) (b : Sheet) (hs ks : List Hole) (ts : List ℕ) (lo hi : ℕ) : Type 0 where

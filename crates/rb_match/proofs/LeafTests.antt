@@ -1,6 +1,6 @@
 -- A test of a value of a data type: its leaf is found, and leads to the node of its constructor.
-use Rattle.std.proofs.Common.{◌≡◌, ℕ, zero, suc, ◌+◌, ◌*◌, ◌<◌, ◌≤◌, ◌==◌, ◌⊎◌, inl, inr, Bool, true, false, List, [], ◌∷◌, ◌++◌, map, length, Option, Some, None, refl, sym, subst, ap, ◌∙◌, arith}
-use Rattle.std.specs.Prelude.{slice_get, if◌then◌else◌, ◌&&◌, is_some}
+use Rattle.std.proofs.Common.{◌≡◌, ℕ, zero, suc, ◌+◌, ◌*◌, ◌≤◌, ◌==◌, inl, inr, Bool, true, false, List, [], ◌∷◌, ◌++◌, map, length, Option, Some, None, refl, sym, subst, ap, ◌∙◌, arith}
+use Rattle.std.specs.Prelude.{if◌then◌else◌, ◌&&◌, is_some}
 use Rattle.std.specs.List.{list_all}
 use Rattle.std.proofs.lemmas.Bool.{false≢true}
 use Rattle.std.proofs.lemmas.Option.{same_Some}
@@ -24,20 +24,19 @@ use Rattle.rb_target.specs.Sheet.{Sheet, IsHole}
 use Rattle.rb_target.specs.Targets.{Finishes, IsIn}
 use Rattle.rb_target.proofs.Finishing.{agrees-sub}
 use Rattle.rb_layout.specs.declared.agreed.LaidOut.{LaidOut}
-use Rattle.rb_layout.specs.declared.layout.Layout.{Layout}
-use Rattle.rb_layout.specs.Positions.{layout_of, leaf_of}
+use Rattle.rb_layout.specs.Positions.{layout_of}
 use Rattle.rb_rel.specs.Switches.{depth_of, look_of, leaves_in, is_shallow, mend_of}
 use Rattle.rb_rel.proofs.Leaves.{leaf_matches}
 use Rattle.rb_rel.proofs.Represented.{opened}
 use Rattle.rb_fragment.specs.declared.reads.Read.{Read}
 use Rattle.rb_fragment.specs.Arms.{AreHoles, AreOfOneWay}
 use Rattle.rb_fragment.specs.Plan.{Plan}
-use Rattle.rb_fetch.specs.Finding.{FindsLeafOf, IsPlanOf}
+use Rattle.rb_fetch.specs.Finding.{FindsLeafOf}
 use Rattle.rb_match.specs.declared.knowledge.Known.{Known}
 use Rattle.rb_match.specs.declared.knowledge.Edge.{Edge}
 use Rattle.rb_match.specs.inner.Knowing.{IsEdge, IsKnown}
 use Rattle.rb_match.specs.inner.Asking.{take_link, con_of_layer, con_in, leaf_in, leaf_con, link_at, edge_at, edge_to, edge_for, keep_edge, leaf_edges_of, has_con, have_cons, StandOpen, AsksLeaf, holes_of}
-use Rattle.rb_match.proofs.Edges.{same-nat, in_head, in_tail, open_edge}
+use Rattle.rb_match.proofs.Edges.{same-nat, in_tail, open_edge}
 use Rattle.rb_match.proofs.Following.{snoc-at}
 
 both : (a b : Bool) → (a && b) ≡ true → (a ≡ true) × (b ≡ true)

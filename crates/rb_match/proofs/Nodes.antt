@@ -1,20 +1,18 @@
 -- One node behind another: the edges that stand, and what runs do.
 use Rattle.std.proofs.Common.{◌≡◌, ℕ, zero, suc, ◌+◌, ◌<◌, ◌≤◌, ◌⊎◌, inl, inr, List, [], ◌∷◌, ◌++◌, length, Option, Some, None, refl, sym, subst, ap, ◌∙◌, arith, length-append}
-use Rattle.std.specs.Prelude.{slice_get, slice_index}
+use Rattle.std.specs.Prelude.{slice_get}
 use Rattle.std.proofs.lemmas.Option.{same_Some, slice_get_within}
-use Rattle.rb_core.specs.declared.value.Value.{Value}
 use Rattle.rb_core.specs.declared.types.Ty.{Ty}
 use Rattle.rb_core.specs.declared.pattern.Pat.{Pat}
 use Rattle.rb_decide.specs.declared.decision_graph.GraphArm.{GraphArm}
 use Rattle.rb_decide.specs.declared.decision_graph.GraphNode.{GraphNode}
 use Rattle.rb_decide.specs.declared.decision_graph.GraphNode.TheVariants.{Test, Clause}
-use Rattle.rb_target.specs.declared.instr.Instr.{Instr}
 use Rattle.rb_target.specs.declared.instr.Instr.TheVariants.{Jump}
 use Rattle.rb_target.specs.declared.body.Hole.{Hole}
 use Rattle.rb_target.specs.Growth.{Grows}
 use Rattle.rb_target.specs.Meaning.{taken}
 use Rattle.rb_target.specs.Sheet.{Sheet, pushed, IsHole, IsHoleIn}
-use Rattle.rb_target.specs.Targets.{Finishes, IsIn, IsOpen, shape_in, target_in}
+use Rattle.rb_target.specs.Targets.{Finishes, IsIn, shape_in, target_in}
 use Rattle.rb_target.proofs.Finishing.{agrees-sub}
 use Rattle.rb_target.proofs.Growing.{Grows-trans, Grows-append, Keeps-refl, get-seam}
 use Rattle.rb_target.proofs.Shapes.{jump_shape}
@@ -26,7 +24,6 @@ use Rattle.rb_fragment.specs.Plan.{Plan, Rep, words_of}
 use Rattle.rb_fragment.specs.WordReads.{AllFit}
 use Rattle.rb_fragment.proofs.Adding.{push_adds}
 use Rattle.rb_fragment.proofs.Patching.{at_closed, closed_hole, closed_length, hole_within, retarget_none}
-use Rattle.rb_fragment.proofs.Pieces.{later-refl}
 use Rattle.rb_fetch.specs.Finding.{IsPlanOf}
 use Rattle.rb_match.specs.declared.knowledge.Known.{Known}
 use Rattle.rb_match.specs.declared.knowledge.Edge.{Edge}
@@ -34,8 +31,8 @@ use Rattle.rb_match.specs.declared.place.Place.{Place}
 use Rattle.rb_match.specs.inner.Knowing.{IsEdge, IsCommon}
 use Rattle.rb_match.specs.inner.Places.{FindsPlace, IsLookedAt}
 use Rattle.rb_match.specs.inner.Asking.{holes_of, AreOpen, StandOpen, AskedAt, Asks, edge_at}
-use Rattle.rb_match.specs.inner.Flowing.{landing_of, others_of, Job, job_of, Flows, Stands, StepsNode, Begins, IsFineJob, IsClauseHole, AreClauseHoles, Takes, TakesGraph}
-use Rattle.rb_match.proofs.Edges.{edge_append, open_edge, edge_open, landed_from, other_from, holes_from, patchable_from}
+use Rattle.rb_match.specs.inner.Flowing.{landing_of, others_of, job_of, Flows, Stands, StepsNode, Begins, IsFineJob, IsClauseHole, AreClauseHoles, TakesGraph}
+use Rattle.rb_match.proofs.Edges.{edge_append, edge_open, other_from, holes_from, patchable_from}
 use Rattle.rb_match.proofs.Landing.{landing_hole, landing_target, land_flows}
 use Rattle.rb_match.proofs.Passing.{begins_on, ends_on}
 use Rattle.rb_match.proofs.Testing.{test_flows, root_flows}

@@ -1,14 +1,13 @@
 -- A test of an integer: one switch over its numbers.
-use Rattle.std.proofs.Common.{◌≡◌, ℕ, zero, suc, ◌+◌, ◌<◌, ◌≤◌, ◌^◌, ◌==◌, ◌⊎◌, inl, inr, Bool, true, false, List, [], ◌∷◌, ◌++◌, map, length, Option, Some, None, refl, sym, subst, ap, ◌∙◌, arith, length-append}
-use Rattle.std.specs.Prelude.{slice_get, slice_index, if◌then◌else◌, ◌&&◌, nat_eq, nat_lt, All, IfSome}
+use Rattle.std.proofs.Common.{◌≡◌, ℕ, zero, suc, ◌+◌, ◌<◌, ◌⊎◌, inl, inr, Bool, true, false, List, [], ◌∷◌, ◌++◌, length, Option, Some, None, refl, sym, subst, ap, ◌∙◌, arith, length-append}
+use Rattle.std.specs.Prelude.{slice_get, slice_index, if◌then◌else◌, ◌&&◌, nat_eq, All, IfSome}
 use Rattle.std.proofs.lemmas.Bool.{false≢true, ltb-true}
 use Rattle.std.proofs.lemmas.List.{length-map}
 use Rattle.std.proofs.lemmas.List.Elements.{All-nil, All-cons}
 use Rattle.std.proofs.lemmas.Option.{same_Some, slice_get_within}
-use Rattle.rb_core.specs.declared.value.Value.{Value, Num, out-Value}
+use Rattle.rb_core.specs.declared.value.Value.{out-Value}
 use Rattle.rb_core.specs.declared.value.Value.TheOpen as V
 use Rattle.rb_core.specs.declared.value.Value.TheVariants.{outs-Num}
-use Rattle.rb_core.specs.declared.types.Ty.TheVariants.{Int}
 use Rattle.rb_matrix.specs.declared.matrix.Head.{Head}
 use Rattle.rb_matrix.specs.declared.matrix.Head.TheVariants as H
 use Rattle.rb_matrix.specs.Heads.{layer_begins}
@@ -17,25 +16,22 @@ use Rattle.rb_bytes.specs.Memory.{Memory}
 use Rattle.rb_target.specs.declared.instr.SwitchArm.{SwitchArm}
 use Rattle.rb_target.specs.declared.instr.Instr.{Instr}
 use Rattle.rb_target.specs.declared.instr.Instr.TheVariants.{Switch}
-use Rattle.rb_target.specs.declared.body.Hole.{Hole}
 use Rattle.rb_target.specs.Growth.{AgreesBut, Grows, Nowhere}
 use Rattle.rb_target.specs.Meaning.{taken, switched, target_of, after_switch}
-use Rattle.rb_target.specs.Sheet.{Sheet, pushed, IsHole, IsHoleIn}
-use Rattle.rb_target.specs.Targets.{shape, shape_in, target_at, target_in, Finishes}
+use Rattle.rb_target.specs.Sheet.{Sheet, pushed, IsHoleIn}
+use Rattle.rb_target.specs.Targets.{shape, shape_in, target_in}
 use Rattle.rb_target.specs.Validity.{IsTarget}
-use Rattle.rb_target.proofs.Growing.{Grows-trans, Grows-append, Keeps-trans, get-append, get-seam}
+use Rattle.rb_target.proofs.Growing.{Grows-trans, Grows-append, get-append, get-seam}
 use Rattle.rb_target.proofs.Shapes.{arm_hole, else_hole, hole_in, hole_target, switch_shape, target_shaped, numbers, pick, next_arm}
 use Rattle.rb_rel.proofs.Represented.{Represents-int}
 use Rattle.rb_fragment.specs.declared.reads.Read.{Read}
-use Rattle.rb_fragment.specs.Adding.{Adds}
-use Rattle.rb_fragment.specs.Plan.{Plan}
 use Rattle.rb_fragment.specs.Reads.{MakesRead}
 use Rattle.rb_fragment.specs.WordReads.{AreMeant}
 use Rattle.rb_fragment.proofs.Adding.{Adds-trans, push_adds}
 use Rattle.rb_match.specs.declared.knowledge.Known.{Known}
 use Rattle.rb_match.specs.declared.knowledge.Edge.{Edge}
 use Rattle.rb_match.specs.inner.Knowing.{IsEdge}
-use Rattle.rb_match.specs.inner.Asking.{take_link, number_of, is_number, are_numbers, number_arm, number_arms, open_else_of, edge_at, arm_edges, else_edges, StandOpen, AsksNumber, holes_of}
+use Rattle.rb_match.specs.inner.Asking.{take_link, number_of, is_number, are_numbers, number_arm, number_arms, open_else_of, edge_at, arm_edges, else_edges, StandOpen, AsksNumber}
 use Rattle.rb_match.proofs.Edges.{edge_append, edge_left, edge_right, open_edge}
 
 both : (a b : Bool) → (a && b) ≡ true → (a ≡ true) × (b ≡ true)

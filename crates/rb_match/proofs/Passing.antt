@@ -1,5 +1,5 @@
 -- A value on its way through a graph: from a test to the node of the arm that is taken.
-use Rattle.std.proofs.Common.{◌≡◌, ℕ, zero, suc, ◌+◌, ◌⊎◌, inl, inr, Bool, true, false, List, [], ◌∷◌, ◌++◌, map, length, Option, Some, None, refl, sym, subst, ap, ◌∙◌, arith, append_assoc}
+use Rattle.std.proofs.Common.{◌≡◌, ℕ, inl, inr, Bool, true, false, List, [], ◌∷◌, ◌++◌, map, Option, Some, None, refl, sym, subst, ap, ◌∙◌, append_assoc}
 use Rattle.std.specs.Prelude.{slice_get, if◌then◌else◌, unwrap_or, option_map}
 use Rattle.std.specs.List.{flat_map}
 use Rattle.std.proofs.lemmas.Option.{same_Some}
@@ -16,15 +16,15 @@ use Rattle.rb_decide.specs.declared.decision_graph.GraphArm.{GraphArm}
 use Rattle.rb_decide.specs.declared.decision_graph.GraphNode.{GraphNode}
 use Rattle.rb_decide.specs.declared.decision_graph.GraphNode.TheVariants.{Test, Clause}
 use Rattle.rb_decide.specs.Graphs.{node_trees, node_tree, tree_under, arm_under, LinksAreLower}
-use Rattle.rb_decide.specs.Trees.{Taking, Way, taken, take_arm, take_at, take_other, ways}
+use Rattle.rb_decide.specs.Trees.{Taking, Way, taken, take_arm, take_at, ways}
 use Rattle.rb_decide.proofs.TreeSteps.{taken-Test, taken-Clause, taken_arm, taken-arm, arm_ways, ways-Test, ways-Clause}
 use Rattle.rb_decide.proofs.Unfolding.{node-tree}
 use Rattle.rb_rel.proofs.Lists.{get-left, get-right, get-mapped}
 use Rattle.rb_match.specs.Bounding.{Place}
 use Rattle.rb_match.proofs.Following.{snoc-at}
 use Rattle.rb_match.specs.inner.Asking.{take_link}
-use Rattle.rb_match.specs.inner.Places.{IsLookedAt, IsPlaceIn}
-use Rattle.rb_match.specs.inner.Flowing.{tree_at, HasWay, path_of, Job, IsOn, AllLookedAt}
+use Rattle.rb_match.specs.inner.Places.{IsLookedAt}
+use Rattle.rb_match.specs.inner.Flowing.{tree_at, HasWay, path_of, Job, IsOn}
 
 module _ (trees : List Tree) where
   abbrev below : GraphArm → TreeArm

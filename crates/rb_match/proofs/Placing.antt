@@ -1,5 +1,5 @@
 -- From a part of a value to its field, and the places of patterns.
-use Rattle.std.proofs.Common.{◌≡◌, ℕ, zero, suc, ◌+◌, ◌<◌, List, [], ◌∷◌, ◌++◌, map, length, Option, Some, None, refl, sym, subst, ap, ◌∙◌, arith}
+use Rattle.std.proofs.Common.{◌≡◌, ℕ, zero, suc, ◌+◌, List, [], ◌∷◌, ◌++◌, map, length, Option, Some, None, refl, sym, subst, ap, ◌∙◌, arith}
 use Rattle.std.specs.Prelude.{slice_get}
 use Rattle.std.specs.List.{flat_map}
 use Rattle.std.proofs.lemmas.Option.{same_Some}
@@ -12,25 +12,24 @@ use Rattle.rb_core.specs.declared.pattern.Pat.{Pat, Wild, Var, Num, Con, out-Pat
 use Rattle.rb_core.specs.declared.pattern.Pat.TheVariants.{outs-Wild, outs-Var, outs-Num, outs-Con}
 use Rattle.rb_match.specs.inner.Asking.{con_in, leaf_in, con_of_layer, leaf_con}
 use Rattle.rb_core.specs.Typing.{field_types}
-use Rattle.rb_core.specs.Values.{part_at, part_from, sub_at}
+use Rattle.rb_core.specs.Values.{part_from, sub_at}
 use Rattle.rb_core.proofs.PatternLaws.{fold-Con}
 use Rattle.rb_layout.specs.declared.agreed.LaidOut.{LaidOut}
 use Rattle.rb_layout.specs.declared.layout.Layout.{Layout}
 use Rattle.rb_layout.specs.declared.layout.Leaf.{Leaf}
-use Rattle.rb_layout.specs.Positions.{leaf_of, layout_of, open_positions, Open}
+use Rattle.rb_layout.specs.Positions.{leaf_of, layout_of, open_positions}
 use Rattle.rb_layout.specs.Flattening.{type_at}
 use Rattle.rb_layout.proofs.OpenPositions.{type-open}
 use Rattle.rb_rel.proofs.Lists.{get-left, get-right, get-mapped}
 use Rattle.rb_fragment.specs.declared.reads.Read.{Read}
-use Rattle.rb_fragment.specs.Plan.{Plan, Rep, words_of}
-use Rattle.rb_fetch.specs.Fields.{FieldAt, ReadsField}
-use Rattle.rb_fetch.specs.Finding.{IsPlanOf}
+use Rattle.rb_fragment.specs.Plan.{Rep, words_of}
+use Rattle.rb_fetch.specs.Fields.{ReadsField}
 use Rattle.rb_match.specs.declared.knowledge.Known.{Known}
 use Rattle.rb_match.specs.declared.place.Place.{Place}
 use Rattle.rb_match.specs.Bounding.{places_in, places_step, places_below, place_below}
 use Rattle.rb_match.specs.Bounding as bounding
 use Rattle.rb_match.specs.inner.Knowing.{FollowsLeaf}
-use Rattle.rb_match.specs.inner.Places.{IsFieldOf, FindsPlace, StepsPlace, IsPlaceIn, HasPlace, IsLookedAt}
+use Rattle.rb_match.specs.inner.Places.{IsFieldOf, FindsPlace, StepsPlace, IsPlaceIn, HasPlace}
 
 -- Parts
 
@@ -109,9 +108,11 @@ pub place-under : (types : List DataDecl) (t : Ty) (at : ℕ) (c : ConRef) (ps :
     → HasPlace types ty sub rest found → HasPlace types t (Con at c ps) (field ∷ rest) found
 place-under types t at c ps field rest sub ty found a b h =
     let r = in-below types ps (field_types types c) 0 field sub ty (record { path = rest; ty = found }) a b h in
-    let z : 0 + field ≡ field = omega arith in
-    (suc r.0, ap (λ (f : Ty → List bounding.Place). slice_get (f t) (suc r.0)) (fold-Con (Ty → List bounding.Place) (places_step types) at c ps)
-    ∙ r.1 ∙ ap (λ n. Some (place_below n (record { path = rest; ty = found }))) z)
+    let z : 0 + field ≡ field = omega arith in (
+      suc r.0,
+      ap (λ (f : Ty → List bounding.Place). slice_get (f t) (suc r.0)) (fold-Con (Ty → List bounding.Place) (places_step types) at c ps)
+          ∙ r.1 ∙ ap (λ n. Some (place_below n (record { path = rest; ty = found }))) z,
+    )
 
 pub in-flat : {A B : Type 0} (f : A → List B) (xs : List A) (i : ℕ) (x : A) (y : B) → slice_get xs i ≡ Some x → (k : ℕ) → slice_get (f x) k ≡ Some y → (j : ℕ) × (slice_get (flat_map f xs) j ≡ Some y)
 in-flat f [] i x y e k h = absurd cc

@@ -1,24 +1,20 @@
 -- A node's test behind the code that comes to it.
-use Rattle.std.proofs.Common.{◌≡◌, ℕ, zero, suc, ◌+◌, ◌<◌, ◌≤◌, ◌⊎◌, inl, inr, List, [], ◌∷◌, ◌++◌, length, Option, Some, None, refl, sym, subst, ap, ◌∙◌, arith}
-use Rattle.std.specs.Prelude.{slice_get, true}
-use Rattle.std.proofs.lemmas.Option.{same_Some}
-use Rattle.rb_core.specs.declared.value.Value.{Value}
+use Rattle.std.proofs.Common.{◌≡◌, ℕ, ◌+◌, inl, inr, List, [], ◌∷◌, ◌++◌, length, Option, Some, refl, sym, subst, ◌∙◌, arith}
+use Rattle.std.specs.Prelude.{slice_get}
 use Rattle.rb_decide.specs.declared.decision_graph.GraphArm.{GraphArm}
-use Rattle.rb_decide.specs.declared.decision_graph.GraphNode.TheVariants.{Test, Clause}
+use Rattle.rb_decide.specs.declared.decision_graph.GraphNode.TheVariants.{Test}
 use Rattle.rb_decide.specs.Graphs.{LinksAreLower}
 use Rattle.rb_bytes.specs.Memory.{Memory, IsGood}
 use Rattle.rb_target.specs.declared.instr.Instr.{Instr}
 use Rattle.rb_target.specs.Growth.{Grows, Keeps}
-use Rattle.rb_target.specs.Meaning.{World, Next}
 use Rattle.rb_target.specs.Sheet.{Sheet}
-use Rattle.rb_target.specs.Targets.{Finishes, IsOpen}
+use Rattle.rb_target.specs.Targets.{Finishes}
 use Rattle.rb_target.proofs.Finishing.{agrees-sub}
-use Rattle.rb_target.proofs.Growing.{Grows-trans, Keeps-refl, Keeps-trans}
+use Rattle.rb_target.proofs.Growing.{Keeps-refl, Keeps-trans}
 use Rattle.rb_rel.specs.Switches.{look_of}
 use Rattle.rb_fragment.specs.declared.reads.Read.{Read}
 use Rattle.rb_fragment.specs.Plan.{Plan, Rep}
 use Rattle.rb_fragment.specs.Pieces.{IsLater}
-use Rattle.rb_fragment.specs.Reads.{fits, mean}
 use Rattle.rb_fragment.specs.WordReads.{AreMeant, AllFit}
 use Rattle.rb_fragment.proofs.Adding.{Adds-refl, Adds-trans}
 use Rattle.rb_fragment.proofs.Patching.{hole_within}
@@ -27,11 +23,10 @@ use Rattle.rb_fragment.proofs.ReadForms.{mean-kept}
 use Rattle.rb_match.specs.declared.knowledge.Known.{Known}
 use Rattle.rb_match.specs.declared.knowledge.Edge.{Edge}
 use Rattle.rb_match.specs.Bounding.{Place}
-use Rattle.rb_match.specs.inner.Knowing.{IsEdge}
 use Rattle.rb_match.specs.inner.Asking.{holes_of, AreOpen, StandOpen, Asked}
-use Rattle.rb_match.specs.inner.Flowing.{Job, looks, IsOn, IsGiven, Arrives, Lands, Flows, FlowsHere, Stands, tree_at}
+use Rattle.rb_match.specs.inner.Flowing.{Job, looks, IsOn, Flows, FlowsHere}
 use Rattle.rb_match.proofs.Edges.{edge_append, edge_left, edge_right, open_edge, edge_open}
-use Rattle.rb_match.proofs.Passing.{IsTested, tested, passes, begins_on}
+use Rattle.rb_match.proofs.Passing.{tested, passes, begins_on}
 
 -- reads over kept slots mean what they meant
 pub meant-kept : (n : ℕ) (s s' : List ℕ) (m : Memory) → Keeps n s s' → (rs : List Read) (ws : List ℕ) → AllFit n rs → AreMeant rs s m ws → AreMeant rs s' m ws
@@ -79,19 +74,19 @@ module _ (job : Job) (b new : Sheet) (rest edges : List Edge) (known : List Know
         let more = asked.adds.more in
         elim (here.arrives final callee next law (first_part final fin) s w v (omega (arith, long, more)) given) [
           | inl a ↦ record {
-              edge = a.edge;
-              is_edge = edge_left rest edges a.edge a.is_edge;
-              target = a.target;
-              is_target = a.is_target;
-              slots = a.slots;
-              world = a.world;
-              runs = a.runs;
-              keeps = a.keeps;
-              path = a.path;
-              later = a.later;
-              known = a.known;
-              on = a.on;
-            }
+            edge = a.edge;
+            is_edge = edge_left rest edges a.edge a.is_edge;
+            target = a.target;
+            is_target = a.is_target;
+            slots = a.slots;
+            world = a.world;
+            runs = a.runs;
+            keeps = a.keeps;
+            path = a.path;
+            later = a.later;
+            known = a.known;
+            on = a.on;
+          }
           | inr l ↦
               let t = tested job lower n position arms other at v given.clause (l.on.same given.clause given.takes) in
               let mem = sym l.later.memory in

@@ -41,11 +41,7 @@ fn switch_arm(head: Head, target: usize) -> Result<SwitchArm, AllocError>
 }
 
 // A switch's arms, each still open: it leads to the next instruction.
-fn switch_arms(
-    alloc: Global,
-    arms: &[GraphArm],
-    next: usize,
-) -> Result<Seq<SwitchArm>, AllocError>
+fn switch_arms(alloc: Global, arms: &[GraphArm], next: usize) -> Result<Seq<SwitchArm>, AllocError>
     ensures arms { IfOk result (λ found. found ≡ number_arms next arms.now) }
     ensures numbers { IfOk result (λ found. are_numbers arms.now ≡ true) }
 {
@@ -250,7 +246,16 @@ fn ask_leaf(
     ensures grows { OnOk result (Grows body.old.code body.new.code) }
 {
     let holes = find_leaf_of(alloc, body, reads, agreed, ty)?;
-    let edges = edges_of_leaves(alloc, agreed, ty, holes.as_slice(), known, position, arms, other)?;
+    let edges = edges_of_leaves(
+        alloc,
+        agreed,
+        ty,
+        holes.as_slice(),
+        known,
+        position,
+        arms,
+        other,
+    )?;
     Ok(edges)
 }
 

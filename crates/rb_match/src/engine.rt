@@ -102,7 +102,9 @@ fn emit_node(
             let known = known.as_slice();
             let arms = arms.as_slice();
             let mut rest = land(alloc, body, edges.as_slice(), number)?;
-            let asked = ask(alloc, body, agreed, ty, words, pats, known, position, arms, *other)?;
+            let asked = ask(
+                alloc, body, agreed, ty, words, pats, known, position, arms, *other,
+            )?;
             match rest.append(asked) {
                 None => Ok(rest),
                 Some(_) => Err(AllocError),
@@ -130,7 +132,18 @@ fn begin(
     match node {
         GraphNode::Test(position, arms, other) => {
             let arms = arms.as_slice();
-            let edges = ask(alloc, body, agreed, ty, words, pats, &[], position, arms, *other)?;
+            let edges = ask(
+                alloc,
+                body,
+                agreed,
+                ty,
+                words,
+                pats,
+                &[],
+                position,
+                arms,
+                *other,
+            )?;
             Ok(edges)
         }
         GraphNode::Clause(_) => {

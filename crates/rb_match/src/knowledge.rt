@@ -95,11 +95,7 @@ fn is_known(known: &[Known], fact: &Known) -> bool
 }
 
 // What is in both lists.
-fn shared_known(
-    alloc: Global,
-    known: &[Known],
-    other: &[Known],
-) -> Result<Seq<Known>, AllocError>
+fn shared_known(alloc: Global, known: &[Known], other: &[Known]) -> Result<Seq<Known>, AllocError>
     ensures { IfOk result (λ both. SharesKnown known.now other.now both) }
 {
     let mut both = Seq::new(alloc);

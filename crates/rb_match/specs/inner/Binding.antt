@@ -12,7 +12,7 @@ use Rattle.rb_core.specs.declared.pattern.Pat.TheFolds.{fold-Pat}
 use Rattle.rb_core.specs.Inference.{binders, all_binders}
 use Rattle.rb_core.specs.Matching.{all_bound, all_pass, bindings, matches_of}
 use Rattle.rb_core.specs.Values.{part_at}
-use Rattle.rb_bytes.specs.Memory.{Memory, IsGood}
+use Rattle.rb_bytes.specs.Memory.{IsGood}
 use Rattle.rb_target.specs.Meaning.{slots_at}
 use Rattle.rb_target.specs.Sheet.{Sheet}
 use Rattle.rb_layout.specs.declared.agreed.LaidOut.{LaidOut}

@@ -3,7 +3,7 @@ use Rattle.std.specs.Prelude.{◌≡◌, ℕ, ◌+◌, ◌*◌, ◌<◌, ◌≤�
 use Rattle.rb_core.specs.declared.value.Value.{Value}
 use Rattle.rb_core.specs.declared.types.Ty.{Ty}
 use Rattle.rb_core.specs.declared.pattern.Pat.{Pat}
-use Rattle.rb_core.specs.Matching.{IsExhaustive, chosen_clause, matches_of}
+use Rattle.rb_core.specs.Matching.{chosen_clause, matches_of}
 use Rattle.rb_bytes.specs.Memory.{IsGood}
 use Rattle.rb_target.specs.declared.instr.Instr.{Instr}
 use Rattle.rb_target.specs.declared.body.Hole.{Hole}

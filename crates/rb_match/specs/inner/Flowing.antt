@@ -2,11 +2,10 @@
 use Rattle.std.specs.Prelude.{◌≡◌, ℕ, ◌<◌, ◌≤◌, ◌++◌, ◌⊎◌, ◌==◌, List, [], ◌∷◌, map, length, Bool, Some, slice_get, if◌then◌else◌}
 use Rattle.rb_core.specs.declared.value.Value.{Value}
 use Rattle.rb_core.specs.declared.types.Ty.{Ty}
-use Rattle.rb_core.specs.declared.types.DataDecl.{DataDecl}
 use Rattle.rb_core.specs.declared.pattern.Pat.{Pat}
 use Rattle.rb_decide.specs.declared.decision_tree.Tree.{Tree}
 use Rattle.rb_decide.specs.declared.decision_graph.GraphNode.{GraphNode}
-use Rattle.rb_decide.specs.declared.decision_graph.GraphNode.TheVariants.{Test, Clause}
+use Rattle.rb_decide.specs.declared.decision_graph.GraphNode.TheVariants.{Clause}
 use Rattle.rb_decide.specs.Graphs.{node_trees, tree_under, LinksAreLower}
 use Rattle.rb_decide.specs.Trees.{Way, taken, ways}
 use Rattle.rb_bytes.specs.Memory.{Memory, IsGood}
@@ -29,7 +28,7 @@ use Rattle.rb_match.specs.declared.knowledge.Edge.{Edge}
 use Rattle.rb_match.specs.Bounding.{Place, looks_of}
 use Rattle.rb_match.specs.inner.Knowing.{AreKnown, IsEdge}
 use Rattle.rb_match.specs.inner.Places.{IsLookedAt, IsPlaceIn}
-use Rattle.rb_match.specs.inner.Asking.{holes_of, AreOpen, LeadOneWay, StandOpen}
+use Rattle.rb_match.specs.inner.Asking.{holes_of, StandOpen}
 
 -- Edges -----------------------------------------------------------------------------------------
 

@@ -1,4 +1,4 @@
-use Rattle.std.proofs.Common.{◌≡◌, ◌∷◌, [], length, take, drop, ◌-◌, get_or, true, arith, refl, sym, ap, ◌∙◌, map, ℕ}
+use Rattle.std.proofs.Common.{◌≡◌, get_or, true, arith, ap, ◌∙◌, map, ℕ}
 use Rattle.rb_core.specs.declared.types.Ty.TheVariants.{Int}
 use Rattle.rb_core.proofs.PatternLaws.{fold-Con}
 use Rattle.rb_match.specs.inner.Binding.{weight, weights, weight_step}

@@ -1,4 +1,4 @@
-use Rattle.std.proofs.Common.{ℕ, ◌+◌, map}
+use Rattle.std.proofs.Common.{◌+◌, map}
 use Rattle.rb_match.specs.inner.Binding.{weight, weights}
 use Rattle.rb_match.proofs.binding.+binding.Given as goal
 

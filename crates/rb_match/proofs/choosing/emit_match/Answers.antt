@@ -1,5 +1,4 @@
-use Rattle.std.proofs.Common.{subst, sym, ◌∙◌}
-use Rattle.rb_core.specs.TypedPrograms.{IsTyped}
+use Rattle.std.proofs.Common.{subst}
 use Rattle.rb_decide.specs.Decisions.{IsTried}
 use Rattle.rb_match.proofs.Chosen.{chooses_tree}
 use Rattle.rb_match.proofs.ClauseForms.{chooses_all}

@@ -1,4 +1,3 @@
-use Rattle.rb_match.specs.inner.Clauses.{TriesClause}
 use Rattle.rb_match.proofs.ClauseForms.{clause_tries, others_patchable}
 use Rattle.rb_match.proofs.clauses.emit_clause.Goals as goal
 

@@ -1,4 +1,4 @@
-use Rattle.std.proofs.Common.{length, refl, Some, ap, ◌∙◌, ◌≡◌, sym}
+use Rattle.std.proofs.Common.{length, refl, Some, ap, ◌∙◌}
 use Rattle.std.proofs.lemmas.Option.{slice_get_read}
 use Rattle.rb_match.proofs.Nodes.{begins_test, begins_jump}
 use Rattle.rb_match.proofs.engine.begin.Goals as goal

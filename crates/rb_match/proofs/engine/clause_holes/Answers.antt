@@ -1,4 +1,4 @@
-use Rattle.std.proofs.Common.{Some, ap, sym, ◌∙◌, ◌≡◌, arith, length-append, ◌∷◌, []}
+use Rattle.std.proofs.Common.{Some, ap, sym, ◌∙◌, arith, length-append, ◌∷◌, []}
 use Rattle.std.proofs.lemmas.Option.{slice_get-get_or}
 use Rattle.rb_match.proofs.Nodes.{clause_push}
 use Rattle.rb_match.proofs.engine.clause_holes.Goals as goal

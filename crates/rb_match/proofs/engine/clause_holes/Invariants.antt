@@ -1,4 +1,4 @@
-use Rattle.std.proofs.Common.{◌≡◌, length, ℕ, ◌<◌, Some}
+use Rattle.std.proofs.Common.{◌≡◌, length, ℕ, Some}
 use Rattle.std.specs.Prelude.{slice_get}
 use Rattle.rb_target.specs.declared.body.Hole.{Hole}
 use Rattle.rb_match.specs.declared.knowledge.Edge.{Edge}

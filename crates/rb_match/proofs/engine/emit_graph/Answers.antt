@@ -1,4 +1,4 @@
-use Rattle.std.proofs.Common.{Some, ap, sym, ◌∙◌, ◌≡◌, ◌-◌, ◌<◌, length, arith}
+use Rattle.std.proofs.Common.{Some, ap, sym, ◌∙◌, ◌-◌, ◌<◌, length, arith}
 use Rattle.std.proofs.lemmas.Option.{slice_get-get_or}
 use Rattle.rb_match.proofs.Nodes.{graph_holes, graph_ways, graph_takes}
 use Rattle.rb_match.proofs.engine.emit_graph.Goals as goal

@@ -1,5 +1,3 @@
-use Rattle.std.proofs.Common.{◌≡◌, Some}
-use Rattle.std.specs.Prelude.{slice_get}
 use Rattle.rb_fragment.specs.Plan.{Plan}
 use Rattle.rb_match.specs.inner.Flowing.{Stands, IsFineJob, Flows, job_of}
 use Rattle.rb_match.proofs.engine.emit_graph.Given as goal

@@ -1,6 +1,6 @@
-use Rattle.std.proofs.Common.{Some, ◌≡◌, sym, subst}
+use Rattle.std.proofs.Common.{subst}
 use Rattle.rb_match.specs.inner.Knowing.{IsCommon}
-use Rattle.rb_match.proofs.Nodes.{steps_node, stays_node}
+use Rattle.rb_match.proofs.Nodes.{steps_node}
 use Rattle.rb_match.proofs.engine.emit_node.Goals as goal
 
 pub returns-in-None : goal.returns-in-None

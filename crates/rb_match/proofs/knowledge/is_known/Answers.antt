@@ -1,4 +1,4 @@
-use Rattle.std.proofs.Common.{◌≡◌, subst, sym, arith}
+use Rattle.std.proofs.Common.{◌≡◌, subst, arith}
 use Rattle.rb_match.specs.inner.Knowing.{FollowsLeaf}
 use Rattle.rb_match.proofs.knowledge.is_known.Goals as goal
 

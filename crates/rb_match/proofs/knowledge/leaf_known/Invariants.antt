@@ -1,4 +1,3 @@
-use Rattle.std.proofs.Common.{◌≤◌}
 use Rattle.rb_match.proofs.knowledge.leaf_known.Given as goal
 
 abbrev pub invariant-loop-fact : goal.invariant-loop-fact

@@ -1,4 +1,4 @@
-use Rattle.std.proofs.Common.{length, refl, sym, ap, ◌∙◌, ◌≡◌, Some, ◌∷◌, [], take, drop, get_or, ◌+◌, ◌-◌}
+use Rattle.std.proofs.Common.{length, refl, sym, ap, ◌∙◌, get_or}
 use Rattle.std.specs.Prelude.{slice_get}
 use Rattle.std.proofs.lemmas.Option.{slice_get_read}
 use Rattle.rb_decide.proofs.Building.{split-rest, get-same}
