@@ -65,7 +65,7 @@ fn push_block_words(text: &mut Vec<u8>, words: &[FlatWord]) -> Result<(), AllocE
     requires { AreShort words.now }
     ensures { OnOk result (text.new.items ≡ text.old.items ++ numbered (block_word_lines words.now) 0 words.now) }
 {
-    let mut byte = 0;
+    let mut byte: u64 = 0;
     for (i, word) in words.iter().enumerate() {
         push_block_word(text, i as u64, byte, word)?;
         byte += word.width / 8;
