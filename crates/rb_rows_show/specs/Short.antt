@@ -1,5 +1,5 @@
 -- Words of blocks that are few and short, as a test.
-use Rattle.std.specs.Prelude.{ℕ, ◌&&◌, leb, length, List, Bool}
+use Rattle.std.specs.Prelude.{◌&&◌, leb, length, List, Bool}
 use Rattle.std.specs.List.{list_all}
 use Rattle.rb_layout.specs.declared.layout.Leaf.{Leaf}
 use Rattle.rb_layout.specs.declared.layout.Block.{Block}

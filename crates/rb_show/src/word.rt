@@ -1,10 +1,9 @@
 //! The lines of words and of blocks.
 
-ghost use Rattle.std.specs.Prelude.{◌≡◌, ◌++◌, OnOk, codes};
-ghost use Rattle.std.specs.Fmt.{decimal};
+ghost use Rattle.std.specs.Prelude.{◌≡◌, ◌++◌, OnOk};
 ghost use Rattle.rb_layout.specs.Readable.{AreShort};
 ghost use Rattle.rb_show.specs.Short.{HaveShortWords};
-ghost use Rattle.rb_show.specs.Lines.{numbered, block_line, block_lines, block_word_lines, root_word_lines, size_line, width_lines};
+ghost use Rattle.rb_show.specs.Lines.{numbered, block_line, block_lines, block_word_lines, root_word_lines, size_line, width_lines, word_lines_at};
 
 use crate::piece::push_pieces;
 use crate::text::{push, push_number};
@@ -50,7 +49,7 @@ fn push_block_word(
     byte: u64,
     word: &FlatWord,
 ) -> Result<(), AllocError>
-    ensures { OnOk result (text.new.items ≡ text.old.items ++ (codes "word " ++ decimal number ++ codes " at byte " ++ decimal byte ++ width_lines word.now)) }
+    ensures { OnOk result (text.new.items ≡ text.old.items ++ word_lines_at byte number word.now) }
 {
     push(text, b"word ")?;
     push_number(text, number)?;
