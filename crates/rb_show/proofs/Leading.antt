@@ -93,5 +93,9 @@ pub routes-shown : (types : List DataDecl) (leaves : List Leaf) (rs : List Route
 routes-shown types leaves rs = flat_map-map (way_lines types leaves) (way_behind []) rs
 
 -- a text that was cut to its old length again
-pub restored : (n : ℕ) (old middle late new : List ℕ) (line : List ℕ) → n ≡ length old → middle ≡ old ++ line → late ≡ middle → new ≡ take n late → new ≡ old
-restored n old middle late new line e0 e1 e2 e3 = e3 ∙ ap (λ l. take n l) (e2 ∙ e1) ∙ ap (λ k. take k (old ++ line)) e0 ∙ take-append_seam old line
+pub restored : (n : ℕ) (above old middle late new : List ℕ) (line : List ℕ) → n ≡ length old → middle ≡ old ++ line → late ≡ middle → new ≡ take n late → old ≡ above → new ≡ above
+restored n above old middle late new line e0 e1 e2 e3 e4 = e3 ∙ ap (λ l. take n l) (e2 ∙ e1) ∙ ap (λ k. take k (old ++ line)) e0 ∙ take-append_seam old line ∙ e4
+
+-- a line behind a text that is as it was
+pub behind_kept : (above old now : List ℕ) (line : List ℕ) → now ≡ old ++ line → old ≡ above → now ≡ above ++ line
+behind_kept above old now line e0 e1 = e0 ∙ ap (λ t. t ++ line) e1

@@ -3,10 +3,9 @@ use Rattle.std.proofs.Common.{◌≡◌, ℕ, zero, suc, ◌+◌, ◌<◌, List,
 use Rattle.std.proofs.lemmas.List.{take_more, map-append, length-map}
 use Rattle.std.proofs.lemmas.List.Concat.{flat_map-append}
 use Rattle.std.proofs.lemmas.List.Folds.{flat_map-map}
-use Rattle.std.specs.Fmt.{decimal}
 use Rattle.std.specs.List.{flat_map, range_with_len}
 use Rattle.rb_layout.specs.declared.layout.FlatArm.{FlatArm}
-use Rattle.rb_show.specs.Lines.{numbered}
+use Rattle.rb_show.specs.Lines.{numbered, other_literal}
 use Rattle.rb_show.specs.Patterns.{opened, opening}
 use Rattle.rb_show.specs.inner.Ways.{literals_in}
 
@@ -110,9 +109,6 @@ opened_next f xs k d lt =
     ∙ ap (λ n. opened (map f (take k xs)) ++ (opening n ++ f (get_or xs k d))) many
 
 -- Literals ----------------------------------------------------------------------------------
-
-abbrev pub other_literal : ℕ → List ℕ
-other_literal d = codes ", " ++ decimal d
 
 pub literals_next : (arms : List FlatArm) (k : ℕ) (x : FlatArm) (start before after : List ℕ) → k < length arms → x ≡ get_or arms k x
     → before ≡ start ++ flat_map other_literal (literals_in (take k arms)) → after ≡ before ++ other_literal x.literal

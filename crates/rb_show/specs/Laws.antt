@@ -3,6 +3,7 @@ use Rattle.std.specs.Prelude.{◌≡◌, ℕ, ◌+◌, ◌<◌, ◌≤◌, ◌�
 use Rattle.std.specs.List.{Contains, sum_by, range_with_len}
 use Rattle.rb_core.specs.declared.program.Program.{Program}
 use Rattle.rb_layout.specs.declared.layout.FlatWord.{FlatWord}
+use Rattle.rb_layout.specs.declared.layout.Layout.{Layout}
 use Rattle.rb_layout.specs.declared.layout.Part.{Part}
 use Rattle.rb_layout.specs.A3.{IsIn}
 use Rattle.rb_layout.specs.Each.{EachLayout}
@@ -26,13 +27,21 @@ pub record IsMaximal (word : FlatWord) (o l : ℕ) : Type 0 where
 abbrev pub FreeAreMaximal : Type 0
 FreeAreMaximal = (word : FlatWord) (o l : ℕ) → Contains (pieces_of word) (Free o l) ↔ IsMaximal word o l
 
+abbrev pub IsPiece : FlatWord → ℕ → Piece → Type 0
+IsPiece word k x = slice_get (pieces_of word) k ≡ Some x
+
+-- a free range ends below the bit beneath the next one
+abbrev pub FreeAreApart : Type 0
+FreeAreApart = (word : FlatWord) (j k o l m n : ℕ) → j < k → IsPiece word j (Free o l) → IsPiece word k (Free m n) → o + l < m
+
 abbrev pub first_bit : Piece → ℕ
 first_bit (Held p) = p.o
 first_bit (Free o l) = o
 
 -- no piece begins below one that stands before it
 abbrev pub PiecesAscend : Type 0
-PiecesAscend = (word : FlatWord) (j k : ℕ) (a b : Piece) → j < k → slice_get (pieces_of word) j ≡ Some a → slice_get (pieces_of word) k ≡ Some b → first_bit a ≤ first_bit b
+PiecesAscend =
+    (word : FlatWord) (j k : ℕ) (a b : Piece) → j < k → IsPiece word j a → IsPiece word k b → first_bit a ≤ first_bit b
 
 abbrev pub parts_in : List Piece → List Part
 parts_in [] = []
@@ -42,10 +51,14 @@ parts_in (Free o l ∷ pieces) = parts_in pieces
 abbrev pub BeginInside : FlatWord → Type 0
 BeginInside word = (k : ℕ) (p : Part) → slice_get word.parts k ≡ Some p → p.o < word.width
 
--- the parts that are shown are the word's own, each as often as it is there: they weigh the same, however parts are weighed
+-- the parts that are shown are the word's own, each as often as it is there: however parts are weighed, they weigh the same
 abbrev pub EachPartIsShown : Type 0
-EachPartIsShown = (word : FlatWord) (weight : Part → ℕ) → BeginInside word → sum_by weight (parts_in (pieces_of word)) ≡ sum_by weight word.parts
+EachPartIsShown = (word : FlatWord) (weight : Part → ℕ) → BeginInside word
+    → sum_by weight (parts_in (pieces_of word)) ≡ sum_by weight word.parts
+
+abbrev pub leaves_shown : Layout → List ℕ
+leaves_shown layout = map (λ (r : Route). r.leaf) (routes_of layout.tree)
 
 -- each leaf of a layout is shown once, from left to right
 abbrev pub LeavesAreShown : Type 0
-LeavesAreShown = (p : Program) → EachLayout (flat_layouts p) (λ t layout. map (λ (r : Route). r.leaf) (routes_of layout.tree) ≡ range_with_len 0 (length layout.leaves))
+LeavesAreShown = (p : Program) → EachLayout (flat_layouts p) (λ t layout. leaves_shown layout ≡ range_with_len 0 (length layout.leaves))

@@ -51,9 +51,13 @@ width_lines word = line (codes ": " ++ decimal word.width ++ codes " bits") ++ p
 abbrev pub root_word_lines : ℕ → FlatWord → List ℕ
 root_word_lines i word = codes "word " ++ decimal i ++ width_lines word
 
--- word i of a block's words, of which it has so many bytes below it
+-- word i of a block, where it begins at this byte
+abbrev pub word_lines_at : ℕ → ℕ → FlatWord → List ℕ
+word_lines_at byte i word = codes "word " ++ decimal i ++ codes " at byte " ++ decimal byte ++ width_lines word
+
+-- word i of these words of a block
 abbrev pub block_word_lines : List FlatWord → ℕ → FlatWord → List ℕ
-block_word_lines words i word = codes "word " ++ decimal i ++ codes " at byte " ++ decimal (begins_at words i) ++ width_lines word
+block_word_lines words i word = word_lines_at (begins_at words i) i word
 
 -- the end of a block's first line
 abbrev pub size_line : ℕ → ℕ → List ℕ
@@ -68,10 +72,13 @@ block_lines i block = block_line i (size_of block) block.align ++ numbered (bloc
 
 -- Leaves ------------------------------------------------------------------------------------
 
+abbrev pub other_literal : ℕ → List ℕ
+other_literal d = codes ", " ++ decimal d
+
 -- the literals of a split, none of which stands there
 abbrev pub none_text : List ℕ → List ℕ
 none_text [] = codes " any"
-none_text (c ∷ cs) = codes " not " ++ decimal c ++ flat_map (λ d. codes ", " ++ decimal d) cs
+none_text (c ∷ cs) = codes " not " ++ decimal c ++ flat_map other_literal cs
 
 -- what a split asks of a leaf
 abbrev pub condition_line : Test → List ℕ
@@ -81,7 +88,8 @@ condition_line (IsNone loc cs) = line (codes "when " ++ loc_text loc ++ none_tex
 -- a leaf, with the lines of the conditions of the splits above it
 abbrev pub leaf_lines : List DataDecl → List ℕ → Leaf → List ℕ
 leaf_lines types conditions leaf =
-    line (codes "leaf " ++ pattern_text types leaf.prov) ++ conditions ++ numbered root_word_lines 0 leaf.root ++ numbered block_lines 0 leaf.blocks
+    line (codes "leaf " ++ pattern_text types leaf.prov) ++ conditions
+    ++ numbered root_word_lines 0 leaf.root ++ numbered block_lines 0 leaf.blocks
 
 abbrev pub found_lines : List DataDecl → List ℕ → Option Leaf → List ℕ
 found_lines types conditions None = []
@@ -102,7 +110,8 @@ type_line types t = line (codes "type " ++ type_name (slice_get types t))
 
 -- the leaves stand from left to right
 abbrev pub layout_lines : List DataDecl → Layout → List ℕ
-layout_lines types layout = type_line types layout.ty ++ flat_map (route_lines types layout.leaves) (routes_of layout.tree)
+layout_lines types layout =
+    type_line types layout.ty ++ flat_map (route_lines types layout.leaves) (routes_of layout.tree)
 
 -- the text of layouts
 abbrev pub layouts_text : List DataDecl → List Layout → List ℕ

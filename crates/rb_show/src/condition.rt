@@ -1,10 +1,9 @@
 //! The lines of the conditions that splits put on the leaves below them.
 
-ghost use Rattle.std.specs.Prelude.{◌≡◌, ◌++◌, OnOk, codes};
-ghost use Rattle.std.specs.Fmt.{decimal};
+ghost use Rattle.std.specs.Prelude.{◌≡◌, ◌++◌, OnOk};
 ghost use Rattle.std.specs.List.{flat_map};
 ghost use Rattle.rb_layout.specs.Splits.{Is, IsNone};
-ghost use Rattle.rb_show.specs.Lines.{condition_line, none_text};
+ghost use Rattle.rb_show.specs.Lines.{condition_line, none_text, other_literal};
 ghost use Rattle.rb_show.specs.inner.Ways.{literals_in};
 
 use crate::location::push_loc;
@@ -27,7 +26,7 @@ pub(crate) fn push_is(text: &mut Vec<u8>, loc: &Loc, literal: u64) -> Result<(),
 
 // The literals behind the first, each behind a comma.
 fn push_others(text: &mut Vec<u8>, arms: &[FlatArm]) -> Result<(), AllocError>
-    ensures { OnOk result (text.new.items ≡ text.old.items ++ flat_map (λ d. codes ", " ++ decimal d) (literals_in arms.now)) }
+    ensures { OnOk result (text.new.items ≡ text.old.items ++ flat_map other_literal (literals_in arms.now)) }
 {
     for arm in arms {
         push(text, b", ")?;

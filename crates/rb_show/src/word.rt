@@ -1,10 +1,9 @@
 //! The lines of words and of blocks.
 
-ghost use Rattle.std.specs.Prelude.{◌≡◌, ◌++◌, OnOk, codes};
-ghost use Rattle.std.specs.Fmt.{decimal};
+ghost use Rattle.std.specs.Prelude.{◌≡◌, ◌++◌, OnOk};
 ghost use Rattle.rb_layout.specs.Readable.{AreShort};
 ghost use Rattle.rb_show.specs.Short.{HaveShortWords};
-ghost use Rattle.rb_show.specs.Lines.{numbered, block_line, block_lines, block_word_lines, root_word_lines, size_line, width_lines};
+ghost use Rattle.rb_show.specs.Lines.{numbered, block_line, block_lines, block_word_lines, root_word_lines, size_line, width_lines, word_lines_at};
 
 use crate::piece::push_pieces;
 use crate::text::{push, push_number};
@@ -50,7 +49,7 @@ fn push_block_word(
     byte: u64,
     word: &FlatWord,
 ) -> Result<(), AllocError>
-    ensures { OnOk result (text.new.items ≡ text.old.items ++ (codes "word " ++ decimal number ++ codes " at byte " ++ decimal byte ++ width_lines word.now)) }
+    ensures { OnOk result (text.new.items ≡ text.old.items ++ word_lines_at byte number word.now) }
 {
     push(text, b"word ")?;
     push_number(text, number)?;
@@ -65,7 +64,7 @@ fn push_block_words(text: &mut Vec<u8>, words: &[FlatWord]) -> Result<(), AllocE
     requires { AreShort words.now }
     ensures { OnOk result (text.new.items ≡ text.old.items ++ numbered (block_word_lines words.now) 0 words.now) }
 {
-    let mut byte = 0;
+    let mut byte: u64 = 0;
     for (i, word) in words.iter().enumerate() {
         push_block_word(text, i as u64, byte, word)?;
         byte += word.width / 8;

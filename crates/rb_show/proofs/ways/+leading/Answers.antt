@@ -4,7 +4,7 @@ use Rattle.rb_layout.specs.declared.layout.FlatTree as T
 use Rattle.rb_layout.specs.Splits.{Is, IsNone}
 use Rattle.rb_show.specs.Lines.{condition_line}
 use Rattle.rb_show.specs.inner.Ways.{literals_in, ways_behind}
-use Rattle.rb_show.proofs.Leading.{arms_next, arms_routes, no_else, restored, with_else}
+use Rattle.rb_show.proofs.Leading.{arms_next, arms_routes, behind_kept, no_else, restored, with_else}
 use Rattle.rb_show.proofs.ways.+leading.Goals as goal
 
 pub loop-arm-preserved : goal.loop-arm-preserved
@@ -14,9 +14,9 @@ loop-arm-preserved n c =
     let kept = c.loop-arm.invariant.above in
     record {
       ways = arms_next c.in-Split.loc c.as_slice-arm-items.result.now c.loop-arm.arm-index c.arm-item.result above c.push_is.new.text.items _ _ _ c.loop-arm-test.true c.arm-item.is
-          (c.in_ok-push_is-in-Split.ensures ∙ ap (λ t. t ++ line) kept) c.loop-arm.invariant.ways c.in_ok-push_ways-in-Split.ensures.ways;
-      above = restored c.len-many.result c.loop-arm.above.items c.push_is.new.text.items c.push_ways.new.above.items c.truncate.new.self.items line
-          (omega (arith, c.len-many.ensures, c.loop-arm.above.ok.0)) c.in_ok-push_is-in-Split.ensures c.in_ok-push_ways-in-Split.ensures.above c.truncate.ensures.items ∙ kept;
+          (behind_kept above c.loop-arm.above.items c.push_is.new.text.items line c.in_ok-push_is-in-Split.ensures kept) c.loop-arm.invariant.ways c.in_ok-push_ways-in-Split.ensures.ways;
+      above = restored c.len-many.result above c.loop-arm.above.items c.push_is.new.text.items c.push_ways.new.above.items c.truncate.new.self.items line
+          (omega (arith, c.len-many.ensures, c.loop-arm.above.ok.0)) c.in_ok-push_is-in-Split.ensures c.in_ok-push_ways-in-Split.ensures.above c.truncate.ensures.items kept;
     }
 
 pub returns-in-None-clause-ways : goal.returns-in-None-clause-ways
@@ -33,5 +33,5 @@ returns-in_ok-push_ways-in-Some-clause-ways n c =
     with_else c.args.tree.now c.in-Split.loc c.in-Split.arms c.in-Some.other c.args.above.now.items c.push_is_none.new.text.items c.args.ways.now c.loop-arm.ways c.push_ways-in-Some.new.ways
     (c.in-Split.is ∙ ap (λ o. T.Split c.in-Split.loc c.in-Split.arms o) c.in-Some.is)
     (c.loop-arm.invariant.ways ∙ ap (λ arms. c.args.ways.now ++ ways_behind c.args.above.now.items (arms_routes c.in-Split.loc arms)) all)
-    ((rw c.as_slice-in-Some.ensures at c.in_ok-push_is_none-in-Some.ensures) ∙ ap (λ t. t ++ line) c.loop-arm.invariant.above)
+    (behind_kept c.args.above.now.items c.loop-arm.above.items c.push_is_none.new.text.items line (rw c.as_slice-in-Some.ensures at c.in_ok-push_is_none-in-Some.ensures) c.loop-arm.invariant.above)
     (rw c.get.ensures at c.in_ok-push_ways-in-Some.ensures.ways)

@@ -1,7 +1,6 @@
-use Rattle.std.proofs.Common.{◌++◌, ◌∙◌, ap, codes, arith}
-use Rattle.std.specs.Fmt.{decimal}
+use Rattle.std.proofs.Common.{◌++◌, ◌∙◌, ap, arith}
 use Rattle.rb_layout.proofs.Locating.{short-width}
-use Rattle.rb_show.specs.Lines.{block_word_lines, width_lines}
+use Rattle.rb_show.specs.Lines.{block_word_lines, word_lines_at}
 use Rattle.rb_show.proofs.Texts.{numbered_next}
 use Rattle.rb_show.proofs.Words.{bytes_next}
 use Rattle.rb_show.proofs.word.push_block_words.Goals as goal
@@ -23,7 +22,7 @@ loop-i-preserved c =
     let few = c.loop-i.invariant.few in
     record {
       text = numbered_next (block_word_lines c.args.words.now) c.args.words.now i word _ _ _ c.loop-i-test.true c.index-words-i.is c.loop-i.invariant.text
-          (c.in_ok-push_block_word.ensures ∙ ap (λ b. c.loop-i.text.items ++ (codes "word " ++ decimal i ++ codes " at byte " ++ decimal b ++ width_lines word)) byte);
+          (c.in_ok-push_block_word.ensures ∙ ap (λ b. c.loop-i.text.items ++ word_lines_at b i word) byte);
       byte = omega (arith, next, byte);
       few = omega (arith, next, byte, few, short);
     }
