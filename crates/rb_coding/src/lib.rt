@@ -27,6 +27,13 @@
 //! that are built refuses a value over the limit early, however often it shares a block.
 #![tactic(auto)]
 
+mod bits;
+mod blocks;
 pub mod decode;
 pub mod encode;
 pub mod fault;
+mod leaf;
+mod node;
+mod pack;
+mod posts;
+mod table;

@@ -161,7 +161,7 @@ module _ (p : Program) (agrees : Agrees p) where
       (reps : (k : ℕ) (o : Open) → slice_get (open_positions p.types leaf.prov) k ≡ Some o → (u : Value) × Shown m o.ty u (subs o.path))
       (wide : (r : WordRef) (l align b : ℕ) → PointsTo leaf r l align b → IsAlignment align × ((k : ℕ) → align ≡ 2 ^ k → 24 ≤ l + k))
       (bs : List (ℕ × ℕ)) (next : ℕ) (laid : lay m.limit m.next (map request_of leaf.blocks) ≡ Fits bs next) where
-    abbrev ats : ℕ → ℕ
+    abbrev pub ats : ℕ → ℕ
     ats = address_at bs
 
     abbrev pub numbered : FlatWord → ℕ
@@ -210,7 +210,7 @@ module _ (p : Program) (agrees : Agrees p) where
     part_fits r f k q is at (Word path j) e h = word_fits path j q.l h
     part_fits r f k q is at (Pointer align b) e h = (pointer_fits r q.l align b (record { word = f; number = k; part = q; is_word = is; is_part = at; is_length = refl; is_pointer = e })).0
 
-    can_hold : (r : WordRef) (f : FlatWord) → flat_at leaf r ≡ Some f → WordFits p.layouts (open_positions p.types leaf.prov) f → CanHold subs ats f.parts
+    pub can_hold : (r : WordRef) (f : FlatWord) → flat_at leaf r ≡ Some f → WordFits p.layouts (open_positions p.types leaf.prov) f → CanHold subs ats f.parts
     can_hold r f is w = record {
       fit = λ k q at. part_fits r f k q is at q.kind refl (w.kinds k q at);
       aligned = λ k q at align b e. (pointer_fits r q.l align b (record { word = f; number = k; part = q; is_word = is; is_part = at; is_length = refl; is_pointer = e })).1;
@@ -220,7 +220,7 @@ module _ (p : Program) (agrees : Agrees p) where
     in_block_fits b None j f is e = absurd cc
     in_block_fits b (Some block) j f is e = ok.inner b block is j f e
 
-    fits_at : (b : Option ℕ) (j : ℕ) (f : FlatWord) → slice_get (words_in leaf b) j ≡ Some f → WordFits p.layouts (open_positions p.types leaf.prov) f
+    pub fits_at : (b : Option ℕ) (j : ℕ) (f : FlatWord) → slice_get (words_in leaf b) j ≡ Some f → WordFits p.layouts (open_positions p.types leaf.prov) f
     fits_at None j f e = ok.root j f e
     fits_at (Some b) j f e = in_block_fits b (slice_get leaf.blocks b) j f refl e
 
