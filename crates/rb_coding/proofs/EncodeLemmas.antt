@@ -188,6 +188,18 @@ module _ (p : Program) (is_typed : IsTyped p) (agrees : Agrees p) (ty : Ty) (v :
   pub nth_ready : (i : ℕ) (n : Nth i) → IsReady the_layouts n.node.1 n.node.0
   nth_ready i n = ready p is_typed agrees n.node.0 n.node.1 n.is_at.typed
 
+  pub ready_at : (i : ℕ) (n : Nth i) (layouts' : List Layout) (nodes' : List Value) (t : Ty) → layouts' ≡ the_layouts → nodes' ≡ posts v → t ≡ n.node.1 → IsReady layouts' t (at nodes' i)
+  ready_at i n layouts' nodes' t el en et =
+      subst (λ ls. IsReady ls t (at nodes' i)) (sym el) (subst (λ u. IsReady the_layouts u (at nodes' i)) (sym et) (subst (λ u. IsReady the_layouts n.node.1 u) (sym (ap (λ ns. at ns i) en ∙ n.is_value)) (nth_ready i n)))
+
+  pub made_at : (i : ℕ) (n : Nth i) (layouts' : List Layout) (nodes' : List Value) (t : Ty) → layouts' ≡ the_layouts → nodes' ≡ posts v → t ≡ n.node.1 → (table : Table) (m m' : Memory) (r : Result (List ℕ) EncodeFault)
+      → IsNodeMade layouts' t (at nodes' i) (subs_of table nodes' i) m m' r → IsNodeMade the_layouts n.node.1 n.node.0 (subs_of table (posts v) i) m m' r
+  made_at i n layouts' nodes' t el en et table m m' r h =
+      subst (λ u. IsNodeMade the_layouts n.node.1 u (subs_of table (posts v) i) m m' r) n.is_value
+      (subst (λ ns. IsNodeMade the_layouts n.node.1 (at ns i) (subs_of table ns i) m m' r) en
+      (subst (λ u. IsNodeMade the_layouts u (at nodes' i) (subs_of table nodes' i) m m' r) et
+      (subst (λ ls. IsNodeMade ls t (at nodes' i) (subs_of table nodes' i) m m' r) el h)))
+
   pub encoding_none : (table : Table) → IsGood old → table.words ≡ [] → table.sizes ≡ map node_count (posts v) → Encoding p ty v old old table 0
   encoding_none table good none sizes = record { bs = []; progress = progress_none old good; count = ap length none; sizes = sizes; shown = λ j x lt e. absurd (omega (arith, lt)) }
 

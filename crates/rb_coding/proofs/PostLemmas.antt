@@ -410,3 +410,7 @@ module _ (types : List DataDecl) where
       let lt = g.1 in
       let r = path_at nodes sizes all are path (field_node nodes sizes i f) h.0 h.1 (λ j x le is. sized j x (omega (arith, le, lt)) is) g.0 s u h.4 in
       let le = r.1 in (r.0, omega (arith, le, lt))
+
+pub length-typed : (xs : List TN) → length (map type_of xs) ≡ length xs
+length-typed [] = refl
+length-typed (x ∷ xs) = ap suc (length-typed xs)
