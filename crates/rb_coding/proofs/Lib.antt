@@ -1,3 +1,4 @@
+pub mod AllLemmas
 pub mod BitLemmas
 pub mod EncodeLemmas
 pub mod GrowLemmas

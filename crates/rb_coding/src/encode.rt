@@ -70,5 +70,15 @@ pub fn encode_all<M: ByteMemory>(
     requires typed { all_of_types (map (is_of_type agreed.now.covered.program.types) values.now) tys.now ≡ true }
     ensures { AreEncoded agreed.now.covered.program tys.now values.now (M.memory memory.old) (M.memory memory.new) result }
 {
-    Err(EncodeFault::Memory)
+    let mut words = Seq::new(alloc);
+    for i in 0..values.len() {
+        match encode(alloc, agreed, tys[i], &values[i], memory) {
+            Ok(more) => match words.append(more) {
+                None => {}
+                Some(_) => return Err(EncodeFault::Memory),
+            },
+            Err(fault) => return Err(fault),
+        }
+    }
+    Ok(words)
 }
