@@ -1,6 +1,6 @@
 -- Several values, encoded in turn.
-use Rattle.std.proofs.Common.{◌≡◌, ℕ, zero, suc, ◌+◌, ◌<◌, ◌≤◌, inl, inr, length, map, take, get_or, List, [], ◌∷◌, ◌++◌, Bool, true, false, Option, Some, None, Result, Ok, Err, refl, sym, subst, ap, ◌∙◌, arith, append_assoc, append-nil}
-use Rattle.std.specs.Prelude.{slice_get, leb, if◌then◌else◌}
+use Rattle.std.proofs.Common.{◌≡◌, ℕ, zero, suc, ◌+◌, ◌<◌, ◌≤◌, inl, inr, length, map, take, get_or, List, [], ◌∷◌, ◌++◌, Bool, true, Some, Ok, Err, refl, sym, subst, ap, ◌∙◌, arith, append_assoc, append-nil}
+use Rattle.std.specs.Prelude.{slice_get, if◌then◌else◌}
 use Rattle.std.proofs.lemmas.Grind.{flat_map-append}
 use Rattle.std.proofs.lemmas.Bool.Decides.{leb_tells}
 use Rattle.std.proofs.lemmas.Option.{same_Some}
@@ -18,7 +18,7 @@ use Rattle.rb_bytes.proofs.GrowthLemmas.{Grown-extends}
 use Rattle.rb_layout.specs.declared.layout.Layout.{Layout}
 use Rattle.rb_layout.specs.Flattening.{flat_layouts}
 use Rattle.rb_rel.specs.Placing.{Laid, Fits, Over, Request, behind, lay, requests_of, requests_at}
-use Rattle.rb_rel.specs.Answers.{making_of, in_turn, all_makings}
+use Rattle.rb_rel.specs.Answers.{making_of, all_makings}
 use Rattle.rb_rel.specs.Relation.{Represents, Represent}
 use Rattle.rb_rel.proofs.Growth.{Represents-kept}
 use Rattle.rb_rel.proofs.Lists.{both}
@@ -57,8 +57,7 @@ fits_more limit next (r ∷ rs) bs p e qs = elim (leb_tells (aligned next r.alig
   | inl t ↦
       let b : ℕ × ℕ = (aligned next r.align, r.size) in
       let f = fits_behind b (lay limit (aligned next r.align + r.size) rs) bs p (sym (ap (lay_by limit next r rs) t.0) ∙ e) in
-      let q = fits_more limit (aligned next r.align + r.size) rs f.0 p f.1 qs in
-      (
+      let q = fits_more limit (aligned next r.align + r.size) rs f.0 p f.1 qs in (
         ap (lay_by limit next r (rs ++ qs)) t.0 ∙ ap (behind b) q.0 ∙ ap (λ cs. behind_all cs (lay limit p qs)) (sym f.2),
         ap (before_by limit next r (rs ++ qs)) t.0 ∙ ap (λ cs. b ∷ cs) q.1 ∙ ap (λ cs. cs ++ laid_before limit p qs) (sym f.2),
       )
@@ -72,8 +71,7 @@ over_more limit next (r ∷ rs) full e qs = elim (leb_tells (aligned next r.alig
   | inl t ↦
       let b : ℕ × ℕ = (aligned next r.align, r.size) in
       let o = over_behind b (lay limit (aligned next r.align + r.size) rs) full (sym (ap (lay_by limit next r rs) t.0) ∙ e) in
-      let q = over_more limit (aligned next r.align + r.size) rs full o qs in
-      (
+      let q = over_more limit (aligned next r.align + r.size) rs full o qs in (
         ap (lay_by limit next r (rs ++ qs)) t.0 ∙ ap (behind b) q.0,
         ap (before_by limit next r (rs ++ qs)) t.0 ∙ ap (λ cs. b ∷ cs) q.1 ∙ sym (ap (before_by limit next r rs) t.0),
       )
@@ -199,8 +197,7 @@ pub all_done : (p : Program) (ts : List Ty) (vs : List Value) (old m : Memory) (
 all_done p ts vs old m ws i e le same =
     let a = take_end vs i le in
     let b = take_end ts i (omega (arith, le, same)) in
-    let progress : Progress old m (requests_of (flat_layouts p) (all_makings p.types vs ts)) e.bs = subst (λ xs. Progress old m (requests_of (flat_layouts p) (all_makings p.types vs xs)) e.bs) b (subst (λ xs. Progress old m (requests_of (flat_layouts p) (all_makings p.types xs (take i ts))) e.bs) a e.progress) in
-    (
+    let progress : Progress old m (requests_of (flat_layouts p) (all_makings p.types vs ts)) e.bs = subst (λ xs. Progress old m (requests_of (flat_layouts p) (all_makings p.types vs xs)) e.bs) b (subst (λ xs. Progress old m (requests_of (flat_layouts p) (all_makings p.types xs (take i ts))) e.bs) a e.progress) in (
       e.bs,
       m.next,
       progress_fits old m (requests_of (flat_layouts p) (all_makings p.types vs ts)) e.bs progress,

@@ -1,6 +1,6 @@
 -- A value's nodes are made in post-order.
-use Rattle.std.proofs.Common.{◌≡◌, ℕ, zero, suc, ◌+◌, ◌-◌, ◌<◌, ◌≤◌, inl, inr, length, map, take, get_or, List, [], ◌∷◌, ◌++◌, Bool, true, false, Option, Some, None, Result, Ok, Err, refl, sym, subst, ap, ◌∙◌, arith, append_assoc, append-nil}
-use Rattle.std.specs.Prelude.{slice_get, slice_index, slice_index_or, nat_lt, ◌^◌}
+use Rattle.std.proofs.Common.{◌≡◌, ℕ, zero, suc, ◌+◌, ◌<◌, ◌≤◌, inl, inr, length, map, take, get_or, List, [], ◌∷◌, ◌++◌, true, Option, Some, None, Result, Ok, Err, refl, sym, subst, ap, ◌∙◌, arith, append_assoc, append-nil}
+use Rattle.std.specs.Prelude.{slice_get, slice_index, slice_index_or, ◌^◌}
 use Rattle.std.specs.List.{flat_map}
 use Rattle.std.proofs.lemmas.Grind.{flat_map-append}
 use Rattle.std.proofs.lemmas.List.{length-append}
@@ -22,8 +22,8 @@ use Rattle.rb_layout.specs.declared.layout.Layout.{Layout}
 use Rattle.rb_layout.specs.declared.layout.Leaf.{Leaf}
 use Rattle.rb_layout.specs.Agreement.{Agrees}
 use Rattle.rb_layout.specs.Flattening.{flat_layouts}
-use Rattle.rb_layout.specs.Positions.{Open, open_positions, layout_of, types_or_none}
-use Rattle.rb_rel.specs.Placing.{Request, request_of, requests_of, requests_at, blocks_of, blocks_in, leaf_in}
+use Rattle.rb_layout.specs.Positions.{Open, open_positions, types_or_none}
+use Rattle.rb_rel.specs.Placing.{Request, request_of, requests_of, requests_at, blocks_of, blocks_in}
 use Rattle.rb_rel.specs.Answers.{making_of, in_turn}
 use Rattle.rb_rel.specs.Relation.{Represents, number}
 use Rattle.rb_rel.proofs.Existence.{PartIs, con_log, declared_type, makings, part_is}
@@ -38,11 +38,11 @@ use Rattle.rb_coding.specs.declared.table.Table.{Table}
 use Rattle.rb_coding.specs.declared.fault.EncodeFault.{EncodeFault}
 use Rattle.rb_coding.specs.declared.fault.EncodeFault.TheVariants.{Full, Memory as NoMemory}
 use Rattle.rb_coding.specs.Encoding.{IsEncoded}
-use Rattle.rb_coding.specs.inner.Filling.{Progress, Stopped, IsMade, ArePlaceable}
-use Rattle.rb_coding.specs.inner.Making.{IsReady, IsNumber, IsNodeMade}
+use Rattle.rb_coding.specs.inner.Filling.{Progress, Stopped}
+use Rattle.rb_coding.specs.inner.Making.{IsReady, IsNodeMade}
 use Rattle.rb_coding.specs.inner.Nodes.{subs_of, node_at}
 use Rattle.rb_coding.proofs.GrowLemmas.{progress_none, progress_trans, progress_fits, stop_after, stop_wider, stopped_over}
-use Rattle.rb_coding.proofs.LeafShowing.{Chosen, chosen, chosen_in, placeable, OpenBelow, open_below, leaf_shown}
+use Rattle.rb_coding.proofs.LeafShowing.{Chosen, chosen, chosen_in, placeable, open_below, leaf_shown}
 use Rattle.rb_coding.proofs.PostLemmas.{TN, value_of, type_of, pairs, tposts, tposts-Num, tposts-Con, Typed, AllTyped, typed_all, Shape, construction, shape_of, At, at_get, each_at, Sized, path_below, nodes_are, count_typed, some_typed, length-mapped, layered, get_mid}
 use Rattle.rb_coding.proofs.PostLemmas as P
 use Rattle.rb_coding.proofs.WaitLemmas.{at_mapped, sized_take, take_end}
@@ -238,15 +238,15 @@ module _ (p : Program) (is_typed : IsTyped p) (agrees : Agrees p) (ty : Ty) (v :
           count = (let l = ap length words ∙ length-append table.words (ws ∷ []) in omega (arith, l, c));
           sizes = same ∙ e.sizes;
           shown = λ j y lt is. elim (cases_lt j i) [
-              | inl less ↦
-                  let kept = Represents-kept m m' (Grown-extends m m' bs m'.next good progress.grown) the_types the_layouts true (e.shown j y less is) in
-                  subst (λ xs. Represents the_types the_layouts m' true y.1 y.0 xs) (sym (ap (λ xs. slice_index_or xs j []) words ∙ words_before table.words ws j (omega (arith, less, c)))) kept
-              | inr le ↦
-                  let eq : j ≡ i = omega (arith, le, lt) in
-                  let same_node : x ≡ y = same_Some x y (sym n.is_node ∙ ap (slice_get all) (sym eq) ∙ is) in
-                  let at_y : Represents the_types the_layouts m' true y.1 y.0 ws = subst (λ (z : TN). Represents the_types the_layouts m' true z.1 z.0 ws) same_node here in
-                  subst (λ xs. Represents the_types the_layouts m' true y.1 y.0 xs) (sym (ap (λ xs. slice_index_or xs j []) words ∙ words_last table.words ws j (omega (arith, eq, c)))) at_y
-            ];
+            | inl less ↦
+                let kept = Represents-kept m m' (Grown-extends m m' bs m'.next good progress.grown) the_types the_layouts true (e.shown j y less is) in
+                subst (λ xs. Represents the_types the_layouts m' true y.1 y.0 xs) (sym (ap (λ xs. slice_index_or xs j []) words ∙ words_before table.words ws j (omega (arith, less, c)))) kept
+            | inr le ↦
+                let eq : j ≡ i = omega (arith, le, lt) in
+                let same_node : x ≡ y = same_Some x y (sym n.is_node ∙ ap (slice_get all) (sym eq) ∙ is) in
+                let at_y : Represents the_types the_layouts m' true y.1 y.0 ws = subst (λ (z : TN). Represents the_types the_layouts m' true z.1 z.0 ws) same_node here in
+                subst (λ xs. Represents the_types the_layouts m' true y.1 y.0 xs) (sym (ap (λ xs. slice_index_or xs j []) words ∙ words_last table.words ws j (omega (arith, eq, c)))) at_y
+          ];
         }
 
     -- the node is made: its blocks are laid, and its words show it
@@ -255,8 +255,7 @@ module _ (p : Program) (is_typed : IsTyped p) (agrees : Agrees p) (ty : Ty) (v :
     made_shown (Int bits) is ws good (k, value, words, same) =
         let of_int : is_of_type the_types (Num k) (Int bits) ≡ true = ap (λ u. is_of_type the_types u (Int bits)) (sym value) ∙ ap (is_of_type the_types x.0) (sym is) ∙ n.is_at.typed in
         let fits : k < 2 ^ bits = P.below_lt k (2 ^ bits) (sym (is_of_type-Num the_types k (Int bits)) ∙ of_int) in
-        let here : Represents the_types the_layouts m' true (Int bits) (Num k) (k ∷ []) = number bits k fits in
-        (
+        let here : Represents the_types the_layouts m' true (Int bits) (Num k) (k ∷ []) = number bits k fits in (
           [],
           subst (λ (y : Memory). Progress m y [] []) (sym same) (progress_none m good),
           subst (λ u. Represents the_types the_layouts m' true (Int bits) u ws) (sym value) (subst (λ xs. Represents the_types the_layouts m' true (Int bits) (Num k) xs) (sym words) here),
@@ -268,8 +267,7 @@ module _ (p : Program) (is_typed : IsTyped p) (agrees : Agrees p) (ty : Ty) (v :
         let progress' : Progress m m' (map request_of c.leaf.blocks) bs = subst (λ (l : Leaf). Progress m m' (map request_of l.blocks) bs) same progress in
         let filled' : m' ≡ fill (word_made ss (address_at bs)) m c.leaf.blocks = filled ∙ ap (λ (l : Leaf). fill (word_made ss (address_at bs)) m l.blocks) same in
         let words' : ws ≡ map (word_made ss (address_at bs)) c.leaf.root = words ∙ ap (λ (l : Leaf). map (word_made ss (address_at bs)) l.root) same in
-        let requests : map request_of c.leaf.blocks ≡ blocks_of the_layouts t x.0 = sym (ap blocks_in (chosen_in p is_typed agrees t x.0 c)) in
-        (
+        let requests : map request_of c.leaf.blocks ≡ blocks_of the_layouts t x.0 = sym (ap blocks_in (chosen_in p is_typed agrees t x.0 c)) in (
           bs,
           subst (λ rs. Progress m m' rs bs) requests progress',
           leaf_shown p is_typed agrees t x.0 c m good ss (opens t is c) bs m' progress' filled' ws words',

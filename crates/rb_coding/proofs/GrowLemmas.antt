@@ -1,9 +1,9 @@
 -- Memories that grow by blocks.
-use Rattle.std.proofs.Common.{◌≡◌, ℕ, zero, suc, ◌+◌, ◌/◌, ◌<◌, ◌≤◌, inl, inr, length, map, take, get_or, List, [], ◌∷◌, ◌++◌, Bool, true, false, Option, Some, None, Result, Ok, Err, refl, sym, subst, ap, ◌∙◌, arith, append_assoc, append-nil}
+use Rattle.std.proofs.Common.{◌≡◌, ℕ, zero, suc, ◌+◌, ◌/◌, ◌<◌, ◌≤◌, inl, inr, length, map, take, List, [], ◌∷◌, ◌++◌, Bool, true, false, Option, Some, Result, Ok, Err, refl, sym, subst, ap, ◌∙◌, arith, append_assoc, append-nil}
 use Rattle.std.specs.Prelude.{slice_get, slice_index, leb, if◌then◌else◌}
 use Rattle.std.proofs.lemmas.Bool.Decides.{leb_tells}
 use Rattle.std.proofs.lemmas.Option.{same_Some}
-use Rattle.rb_bytes.specs.Memory.{Memory, IsGood, aligned, place_of, write_le, size_at}
+use Rattle.rb_bytes.specs.Memory.{Memory, IsGood, aligned, place_of, write_le}
 use Rattle.rb_bytes.specs.Growth.{Grown}
 use Rattle.rb_bytes.specs.declared.fault.Full.{Full}
 use Rattle.rb_bytes.proofs.GrowthLemmas.{Grown-refl, Grown-trans}
@@ -12,14 +12,14 @@ use Rattle.rb_layout.specs.declared.layout.FlatWord.{FlatWord}
 use Rattle.rb_layout.specs.declared.layout.Part.{Part}
 use Rattle.rb_layout.specs.declared.layout.Kind.{Kind}
 use Rattle.rb_layout.specs.declared.layout.Kind.TheVariants.{Const, Bits, Word, Pointer}
-use Rattle.rb_layout.specs.Words.{size_of, bytes_in, begins_at}
+use Rattle.rb_layout.specs.Words.{size_of, begins_at}
 use Rattle.rb_rel.specs.Placing.{Laid, Fits, Over, Request, request_of, behind, lay}
 use Rattle.rb_rel.proofs.Packing.{number_of}
 use Rattle.rb_rel.proofs.Storing.{written, filled_of, fill, IsBlock, filled_grown}
 use Rattle.rb_rel.proofs.Layers.{address_at}
 use Rattle.rb_coding.specs.Encoding.{laid_before}
-use Rattle.rb_coding.specs.inner.Filling.{behind_all, Progress, Stopped, ArePlaceable}
-use Rattle.rb_coding.specs.inner.Packing.{put_into, made_of, word_made}
+use Rattle.rb_coding.specs.inner.Filling.{behind_all, Progress, Stopped}
+use Rattle.rb_coding.specs.inner.Packing.{put_into, made_of}
 
 behind_more : (bs cs : List (ℕ × ℕ)) (l : Laid) → behind_all bs (behind_all cs l) ≡ behind_all (bs ++ cs) l
 behind_more [] cs l = refl

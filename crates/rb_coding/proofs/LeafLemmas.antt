@@ -1,11 +1,9 @@
 -- Which pattern matches a node, by its outermost level, and the first leaf that does.
-use Rattle.std.proofs.Common.{◌≡◌, ℕ, zero, suc, ◌+◌, ◌<◌, ◌==◌, ◌&&◌, length, map, drop, get_or, List, [], ◌∷◌, Bool, true, false, Option, Some, None, refl, sym, subst, ap, ◌∙◌, arith}
+use Rattle.std.proofs.Common.{◌≡◌, ℕ, zero, suc, ◌+◌, ◌<◌, ◌==◌, ◌&&◌, length, map, drop, get_or, List, [], ◌∷◌, Bool, true, false, Some, None, refl, sym, ap, ◌∙◌, arith}
 use Rattle.std.specs.Prelude.{nat_eq, slice_get, if◌then◌else◌}
 use Rattle.std.proofs.lemmas.Grind.{common_steps}
 use Rattle.rb_core.specs.declared.value.Value.{Value, Num, Con, out-Value}
 use Rattle.rb_core.specs.declared.value.Value.TheVariants.{outs-Num, outs-Con}
-use Rattle.rb_core.specs.declared.value.Value.TheOpen as V
-use Rattle.rb_core.specs.declared.value.Value.TheOpen.{Value-F}
 use Rattle.rb_core.specs.declared.types.ConRef.{ConRef}
 use Rattle.rb_core.specs.declared.pattern.Pat.{Pat}
 use Rattle.rb_core.specs.declared.pattern.Pat as Q

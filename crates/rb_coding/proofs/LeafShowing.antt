@@ -1,45 +1,40 @@
 -- The leaf of a typed value: its blocks can be placed, and made words show the value.
-use Rattle.std.proofs.Common.{◌≡◌, ℕ, zero, suc, ◌+◌, ◌-◌, ◌*◌, ◌/◌, ◌%◌, ◌^◌, ◌<◌, ◌≤◌, inl, inr, length, map, List, [], ◌∷◌, ◌++◌, Bool, true, false, Option, Some, None, refl, sym, subst, ap, ◌∙◌, arith}
-use Rattle.std.specs.Prelude.{slice_get, slice_index, slice_index_or, unwrap_or, ltb, if◌then◌else◌}
-use Rattle.std.proofs.lemmas.Grind.{common_steps}
-use Rattle.std.proofs.lemmas.Option.{same_Some, slice_get_within}
+use Rattle.std.proofs.Common.{◌≡◌, ℕ, suc, ◌+◌, ◌-◌, ◌*◌, ◌/◌, ◌%◌, ◌^◌, ◌<◌, ◌≤◌, inl, inr, length, map, List, [], ◌∷◌, Bool, true, false, Option, Some, None, refl, sym, subst, ap, ◌∙◌, arith}
+use Rattle.std.specs.Prelude.{slice_get, unwrap_or, ltb, if◌then◌else◌}
 use Rattle.std.proofs.Math.Nat.{mod-eq_of_lt}
-use Rattle.rb_core.specs.declared.value.Value.{Value, Num, out-Value}
+use Rattle.rb_core.specs.declared.value.Value.{Value}
 use Rattle.rb_core.specs.declared.types.Ty.{Ty}
-use Rattle.rb_core.specs.declared.types.Ty.TheVariants.{Int, Named}
+use Rattle.rb_core.specs.declared.types.Ty.TheVariants.{Named}
 use Rattle.rb_core.specs.declared.types.DataDecl.{DataDecl}
 use Rattle.rb_core.specs.declared.program.Program.{Program}
 use Rattle.rb_core.specs.TypedPrograms.{IsTyped}
 use Rattle.rb_core.specs.Matching.{matches_of}
-use Rattle.rb_core.specs.Values.{is_of_type, all_of_types, fields_in, subs, part_at}
+use Rattle.rb_core.specs.Values.{is_of_type, part_at}
 use Rattle.rb_bits.specs.Words.{take_of, put_of}
 use Rattle.rb_bytes.specs.Memory.{Memory, IsGood}
-use Rattle.rb_bytes.proofs.GrowthLemmas.{Grown-extends}
 use Rattle.rb_layout.specs.declared.layout.Block.{Block}
 use Rattle.rb_layout.specs.declared.layout.FlatWord.{FlatWord}
 use Rattle.rb_layout.specs.declared.layout.Part.{Part}
-use Rattle.rb_layout.specs.declared.layout.Kind.TheVariants.{Pointer}
 use Rattle.rb_layout.specs.declared.layout.Leaf.{Leaf}
 use Rattle.rb_layout.specs.declared.layout.Layout.{Layout}
 use Rattle.rb_layout.specs.declared.layout.WordRef.{WordRef}
 use Rattle.rb_layout.specs.Agreement.{Agrees}
 use Rattle.rb_layout.specs.A1.{HasShape}
 use Rattle.rb_layout.specs.A2.{widths_of}
-use Rattle.rb_layout.specs.A4.{IsBlockWidth, IsAlignment, HasBlocks}
-use Rattle.rb_layout.specs.Flattening.{flat_layouts, shape_of, shape_in}
+use Rattle.rb_layout.specs.A4.{IsBlockWidth, IsAlignment}
+use Rattle.rb_layout.specs.Flattening.{flat_layouts}
 use Rattle.rb_layout.specs.Pointers.{PointsTo}
 use Rattle.rb_layout.specs.Positions.{Open, open_positions, opens_of, leaf_of, layout_of}
-use Rattle.rb_layout.specs.Words.{words_in, words_of_block, flat_at, bytes_in, size_of}
+use Rattle.rb_layout.specs.Words.{words_in, words_of_block, bytes_in}
 use Rattle.rb_rel.specs.Placing.{Fits, request_of, leaf_in, leaf_numbered, lay}
 use Rattle.rb_rel.specs.Relation.{Represents}
 use Rattle.rb_rel.proofs.Agreeing.{lawful}
 use Rattle.rb_rel.proofs.Declared.{declared}
-use Rattle.rb_rel.proofs.Existence.{PartIs, Below, below_is, root_opens, has_layout, declared_type, first_leaf, part_is}
-use Rattle.rb_rel.proofs.Fitting.{WordFits}
+use Rattle.rb_rel.proofs.Existence.{PartIs, below_is, root_opens, has_layout, first_leaf}
 use Rattle.rb_rel.proofs.Known.{ltb_is}
-use Rattle.rb_rel.proofs.Layers.{Sound, sound, stored, made, numbered, root_words, layer_shown, can_hold, fits_at, address_at}
-use Rattle.rb_rel.proofs.Lists.{get-map, get-mapped}
-use Rattle.rb_rel.proofs.Packing.{number_of, packed, CanHold}
+use Rattle.rb_rel.proofs.Layers.{Sound, sound, stored, made, numbered, layer_shown, can_hold, fits_at, address_at}
+use Rattle.rb_rel.proofs.Lists.{get-mapped}
+use Rattle.rb_rel.proofs.Packing.{number_of, packed}
 use Rattle.rb_rel.proofs.Storing.{fill}
 use Rattle.rb_coding.specs.inner.Filling.{ArePlaceable, Progress}
 use Rattle.rb_coding.specs.inner.Packing.{put_into, made_of, word_made}

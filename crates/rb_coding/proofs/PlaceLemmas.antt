@@ -1,26 +1,22 @@
 -- Placing and filling blocks in turn.
-use Rattle.std.proofs.Common.{◌≡◌, ℕ, zero, suc, ◌+◌, ◌/◌, ◌*◌, ◌<◌, ◌≤◌, inl, inr, length, map, take, get_or, List, [], ◌∷◌, ◌++◌, Bool, true, false, Option, Some, None, Result, Ok, Err, refl, sym, subst, ap, ◌∙◌, arith}
-use Rattle.std.specs.Prelude.{slice_get, slice_index, IsOk, if◌then◌else◌}
+use Rattle.std.proofs.Common.{◌≡◌, ℕ, zero, suc, ◌+◌, ◌/◌, ◌<◌, ◌≤◌, length, map, take, get_or, List, [], ◌∷◌, ◌++◌, true, Option, Some, Result, Ok, Err, refl, sym, subst, ap, ◌∙◌, arith}
+use Rattle.std.specs.Prelude.{slice_get, slice_index, if◌then◌else◌}
 use Rattle.std.proofs.lemmas.List.{map-append, length-append}
 use Rattle.std.proofs.lemmas.Nat.{pow_pos}
-use Rattle.rb_bytes.specs.Memory.{Memory, IsGood, IsSize, IsAlign, aligned, place_of, store_of, write_le, size_at, lies_within}
-use Rattle.rb_bytes.specs.Growth.{Grown}
+use Rattle.rb_bytes.specs.Memory.{Memory, IsGood, IsAlign, aligned, store_of, write_le, size_at, lies_within}
 use Rattle.rb_bytes.specs.declared.fault.Trap.{Trap}
 use Rattle.rb_bytes.specs.declared.fault.Trap.TheVariants.{Astray}
 use Rattle.rb_bytes.proofs.BlockLemmas.{size_at-push, aligned_from}
 use Rattle.rb_bytes.specs.declared.fault.Full.{Full}
 use Rattle.rb_layout.specs.declared.layout.Block.{Block}
 use Rattle.rb_layout.specs.declared.layout.FlatWord.{FlatWord}
-use Rattle.rb_layout.specs.declared.layout.Part.{Part}
-use Rattle.rb_layout.specs.declared.layout.Kind.TheVariants.{Pointer}
-use Rattle.rb_layout.specs.A4.{IsBlockWidth}
 use Rattle.rb_layout.specs.Words.{size_of, bytes_in, begins_at}
 use Rattle.rb_rel.specs.Placing.{Request, request_of}
 use Rattle.rb_rel.proofs.Storing.{written, filled_of, fill, IsBlock, begins_within, within_yes}
 use Rattle.rb_rel.proofs.Layers.{address_at}
 use Rattle.rb_coding.specs.inner.Filling.{Progress, Stopped, ArePlaceable}
 use Rattle.rb_coding.specs.inner.Packing.{word_made}
-use Rattle.rb_coding.proofs.GrowLemmas.{IsPlace, IsNoPlace, place_ok, place_err, progress_none, progress_one, progress_trans, stop_one, stop_after, stop_wider, fill_more, filled_same, made_same, written_more, begins_more, requests_more, address_is_index, index_before, take_whole}
+use Rattle.rb_coding.proofs.GrowLemmas.{IsPlace, IsNoPlace, progress_none, progress_one, progress_trans, stop_one, stop_after, stop_wider, fill_more, filled_same, made_same, written_more, requests_more, address_is_index, index_before, take_whole}
 
 -- Storing a word -----------------------------------------------------------------------------------
 pub got : {A : Type 0} (xs : List A) (i : ℕ) (x : A) → i < length xs → x ≡ get_or xs i x → slice_get xs i ≡ Some x

@@ -1,8 +1,8 @@
 -- Nodes in post-order with their types, and where those of fields stand.
-use Rattle.std.proofs.Common.{◌≡◌, ℕ, zero, suc, ◌+◌, ◌-◌, ◌<◌, ◌≤◌, ◌⊎◌, inl, inr, length, map, sum, take, drop, List, [], ◌∷◌, ◌++◌, Bool, true, false, Option, Some, None, refl, sym, subst, ap, ◌∙◌, arith, append_assoc, append-nil}
+use Rattle.std.proofs.Common.{◌≡◌, ℕ, zero, suc, ◌+◌, ◌-◌, ◌<◌, ◌≤◌, inl, inr, length, map, take, drop, List, [], ◌∷◌, ◌++◌, true, Option, Some, None, refl, sym, subst, ap, ◌∙◌, arith, append_assoc, append-nil}
 use Rattle.std.specs.Prelude.{slice_get, slice_index, nat_lt, ◌^◌}
 use Rattle.std.specs.List.{flat_map}
-use Rattle.std.proofs.lemmas.Grind.{common_steps, flat_map-append}
+use Rattle.std.proofs.lemmas.Grind.{common_steps}
 use Rattle.std.proofs.lemmas.List.{map-append, length-append}
 use Rattle.std.proofs.lemmas.Option.{same_Some}
 use Rattle.rb_core.specs.declared.value.Value.{Value, Num, Con, out-Value}
@@ -18,7 +18,7 @@ use Rattle.rb_core.specs.Values.{is_of_type, all_of_types, are_of, fields_in, su
 use Rattle.rb_core.proofs.ValueLaws.{Each, induction, subs-Con, subs-Num, is_of_type-Num, is_of_type-Con}
 use Rattle.rb_layout.specs.Positions.{types_or_none}
 use Rattle.rb_rel.proofs.Existence.{sub_types, PartIs}
-use Rattle.rb_rel.proofs.Lists.{both, get-append-at, get-behind, get-map}
+use Rattle.rb_rel.proofs.Lists.{both, get-append-at}
 use Rattle.rb_values.specs.Nodes.{at, posts, IsLayer}
 use Rattle.rb_values.specs.declared.nodes.Layer.{Layer}
 use Rattle.rb_values.specs.declared.nodes.Layer.TheVariants as L
@@ -376,9 +376,10 @@ module _ (types : List DataDecl) where
       let whole : all ≡ (a.before ++ typed_all qs) ++ (tposts p.0 p.1 ++ (typed_all rs ++ ((v, t) ∷ a.after))) =
       is ∙ ap (λ xs. a.before ++ (xs ++ ((v, t) ∷ a.after))) (typed_all-append (qs ++ p ∷ []) rs ∙ ap (λ xs. xs ++ typed_all rs) split)
       ∙ ap (λ xs. a.before ++ xs) (append_assoc (typed_all qs ++ tposts p.0 p.1) (typed_all rs) ((v, t) ∷ a.after) ∙ append_assoc (typed_all qs) (tposts p.0 p.1) (typed_all rs ++ ((v, t) ∷ a.after)))
-      ∙ sym (append_assoc a.before (typed_all qs) (tposts p.0 p.1 ++ (typed_all rs ++ ((v, t) ∷ a.after)))) in
-      (record { before = a.before ++ typed_all qs; after = typed_all rs ++ ((v, t) ∷ a.after); is = whole; here = omega (arith, e, l1, l3, some); typed = typed1.0 },
-        omega (arith, e, l1, l2, some, h, k1, k2))
+      ∙ sym (append_assoc a.before (typed_all qs) (tposts p.0 p.1 ++ (typed_all rs ++ ((v, t) ∷ a.after)))) in (
+        record { before = a.before ++ typed_all qs; after = typed_all rs ++ ((v, t) ∷ a.after); is = whole; here = omega (arith, e, l1, l3, some); typed = typed1.0 },
+        omega (arith, e, l1, l2, some, h, k1, k2),
+      )
 
   -- fields by number
   kid_of : (ps : List TN) (f : ℕ) (x : Value) (r : Ty) → slice_get (map value_of ps) f ≡ Some x → slice_get (map type_of ps) f ≡ Some r → slice_get ps f ≡ Some (x, r)

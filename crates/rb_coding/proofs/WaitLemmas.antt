@@ -1,18 +1,18 @@
 -- Sizes from the first node to the last, and types from the last to the first.
-use Rattle.std.proofs.Common.{◌≡◌, ℕ, zero, suc, ◌+◌, ◌-◌, ◌<◌, ◌≤◌, length, map, take, drop, List, [], ◌∷◌, ◌++◌, true, Option, Some, None, refl, sym, subst, ap, ◌∙◌, arith, append_assoc, append-nil}
+use Rattle.std.proofs.Common.{◌≡◌, ℕ, zero, suc, ◌+◌, ◌-◌, ◌<◌, ◌≤◌, length, map, take, drop, List, [], ◌∷◌, ◌++◌, Some, refl, sym, subst, ap, ◌∙◌, arith, append_assoc, append-nil}
 use Rattle.std.proofs.Math.ListN.{set}
 use Rattle.std.specs.Prelude.{slice_get, slice_index}
-use Rattle.std.proofs.lemmas.List.{map-append, length-append}
+use Rattle.std.proofs.lemmas.List.{length-append}
 use Rattle.std.proofs.lemmas.Option.{same_Some}
-use Rattle.rb_core.specs.declared.value.Value.{Value, out-Value}
+use Rattle.rb_core.specs.declared.value.Value.{Value}
 use Rattle.rb_core.specs.declared.types.Ty.{Ty}
 use Rattle.rb_core.specs.declared.types.DataDecl.{DataDecl}
-use Rattle.rb_core.specs.Values.{is_of_type, subs, node_count}
+use Rattle.rb_core.specs.Values.{subs, node_count}
 use Rattle.rb_rel.proofs.Lists.{got}
 use Rattle.rb_values.specs.Nodes.{at, posts, IsLayer}
 use Rattle.rb_values.specs.declared.nodes.Layer.{Layer}
-use Rattle.rb_coding.specs.inner.Nodes.{layer_fields, start_of, arity_of}
-use Rattle.rb_coding.proofs.PostLemmas.{TN, value_of, type_of, tposts, Typed, AllTyped, AllTyped-append, AllTyped-left, AllTyped-right, typed_all, typed_all-append, layered, nodes_are, count_typed, some_typed, At, at_get, each_at, Sized, start_whole, get_mid, length-mapped}
+use Rattle.rb_coding.specs.inner.Nodes.{layer_fields, start_of}
+use Rattle.rb_coding.proofs.PostLemmas.{TN, value_of, type_of, tposts, Typed, AllTyped, AllTyped-append, AllTyped-left, AllTyped-right, typed_all, typed_all-append, layered, nodes_are, each_at, Sized, start_whole, get_mid, length-mapped}
 
 pub start_le : (sizes : List ℕ) (end count : ℕ) → start_of sizes end count ≤ end
 start_le sizes end zero = omega arith

@@ -34,7 +34,10 @@ fn store_words<M: ByteMemory>(
     requires placed { size_at (M.memory memory.old).blocks base ≡ Some (bytes_in words.now) }
     requires room { base + bytes_in words.now ≤ 16777216 }
     requires widths { (j : ℕ) (f : Flat) → slice_get words.now j ≡ Some f → IsBlockWidth f.width }
-    ensures value { M.memory memory.new ≡ record (M.memory memory.old) { bytes = written (word_made (subs_of table.now nodes.now node) (slice_index addresses.now)) words.now base (M.memory memory.old).bytes } }
+    ensures value { M.memory memory.new ≡ record (M.memory memory.old) {
+      bytes = written (word_made (subs_of table.now nodes.now node) (slice_index addresses.now))
+          words.now base (M.memory memory.old).bytes;
+    } }
     ensures good { IsGood (M.memory memory.new) }
 {
     let mut offset = 0;
@@ -66,7 +69,15 @@ fn place_blocks<M: ByteMemory>(
         match memory.place(block_size(block), block.align) {
             Ok(base) => {
                 let words = block.words.as_slice();
-                store_words(memory, base, words, nodes, node, table, addresses.as_slice());
+                store_words(
+                    memory,
+                    base,
+                    words,
+                    nodes,
+                    node,
+                    table,
+                    addresses.as_slice(),
+                );
                 addresses.push(base)?;
             }
             Err(full) => return Err(EncodeFault::Full(full)),

@@ -32,7 +32,8 @@ pub fn encode<M: ByteMemory>(
 ) -> Result<Seq<u64>, EncodeFault>
     requires good { IsGood (M.memory memory.old) }
     requires typed { is_of_type agreed.now.covered.program.types value.now ty ≡ true }
-    ensures { IsEncoded agreed.now.covered.program ty value.now (M.memory memory.old) (M.memory memory.new) result }
+    ensures { IsEncoded agreed.now.covered.program ty value.now
+        (M.memory memory.old) (M.memory memory.new) result }
 {
     let program = agreed.covered().program();
     let layouts = agreed.layouts();
@@ -68,7 +69,8 @@ pub fn encode_all<M: ByteMemory>(
 ) -> Result<Seq<u64>, EncodeFault>
     requires good { IsGood (M.memory memory.old) }
     requires typed { all_of_types (map (is_of_type agreed.now.covered.program.types) values.now) tys.now ≡ true }
-    ensures { AreEncoded agreed.now.covered.program tys.now values.now (M.memory memory.old) (M.memory memory.new) result }
+    ensures { AreEncoded agreed.now.covered.program tys.now values.now
+        (M.memory memory.old) (M.memory memory.new) result }
 {
     let mut words = Seq::new(alloc);
     for i in 0..values.len() {

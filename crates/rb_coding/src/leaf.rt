@@ -50,7 +50,8 @@ fn matches(pat: &Pat, nodes: &Nodes, node: usize) -> bool
 #[cycle(matching)]
 #[tactic(auto, using(rb_core::proofs::MatchingLemmas::loop_lemmas))]
 fn all_match(pats: &[Pat], nodes: &Nodes, node: usize, count: usize) -> bool
-    ensures { count ≡ length (subs (at nodes.now node)) → result ≡ all_pass (map matches_of pats.now) (subs (at nodes.now node)) }
+    ensures { count ≡ length (subs (at nodes.now node))
+        → result ≡ all_pass (map matches_of pats.now) (subs (at nodes.now node)) }
 {
     if pats.len() != count {
         return false;

@@ -37,7 +37,8 @@ pub(crate) fn node_words<M: ByteMemory>(
 ) -> Result<Seq<u64>, EncodeFault>
     requires good { IsGood (M.memory memory.old) }
     requires ready { IsReady layouts.now ty (at nodes.now node) }
-    ensures { IsNodeMade layouts.now ty (at nodes.now node) (subs_of table.now nodes.now node) (M.memory memory.old) (M.memory memory.new) result }
+    ensures { IsNodeMade layouts.now ty (at nodes.now node) (subs_of table.now nodes.now node)
+        (M.memory memory.old) (M.memory memory.new) result }
 {
     match ty {
         Ty::Int(_) => match layer_at(nodes, node) {

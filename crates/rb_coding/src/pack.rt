@@ -30,7 +30,8 @@ fn scaled(address: u64, align: u64) -> u64
 
 // What a part of a node's word is to hold.
 fn number_of(part: &Part, nodes: &Nodes, node: usize, table: &Table, addresses: &[u64]) -> u64
-    ensures { result ≡ number_of (subs_of table.now nodes.now node) (slice_index addresses.now) part.now.l part.now.kind }
+    ensures { result ≡ number_of (subs_of table.now nodes.now node) (slice_index addresses.now)
+        part.now.l part.now.kind }
 {
     match &part.kind {
         Kind::Const(c) => *c,
@@ -68,7 +69,8 @@ pub(crate) fn pack_all(
     table: &Table,
     addresses: &[u64],
 ) -> Result<Seq<u64>, AllocError>
-    ensures { IfOk result (λ ws. ws ≡ map (word_made (subs_of table.now nodes.now node) (slice_index addresses.now)) words.now) }
+    ensures { IfOk result (λ ws. ws
+        ≡ map (word_made (subs_of table.now nodes.now node) (slice_index addresses.now)) words.now) }
 {
     let mut packed = Seq::new(alloc);
     for word in words {

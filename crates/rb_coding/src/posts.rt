@@ -17,7 +17,8 @@ use std::alloc::{AllocError, Global};
 
 /// How many nodes the value of each node has.
 pub(crate) fn sizes_of(alloc: Global, value: &Forest) -> Result<Seq<usize>, AllocError>
-    ensures { IfOk result (λ sizes. (types : List Decl) (ty : Type_) → is_of_type types value.now ty ≡ true → sizes ≡ map node_count (posts value.now)) }
+    ensures { IfOk result (λ sizes. (types : List Decl) (ty : Type_) → is_of_type types value.now ty ≡ true
+        → sizes ≡ map node_count (posts value.now)) }
 {
     let nodes = value.as_nodes();
     let mut sizes = Seq::new(alloc);
@@ -68,7 +69,8 @@ pub(crate) fn types_of(
     value: &Forest,
 ) -> Result<Vec<Ty>, AllocError>
     requires { is_of_type types.now value.now ty ≡ true }
-    ensures { IfOk result (λ tys. tys.items ≡ map (λ (n : Value × Type_). n.1) (typed_posts types.now value.now ty)) }
+    ensures { IfOk result (λ tys. tys.items
+        ≡ map (λ (n : Value × Type_). n.1) (typed_posts types.now value.now ty)) }
 {
     let nodes = value.as_nodes();
     let mut tys = Vec::from_elem(alloc, ty, nodes.len())?;

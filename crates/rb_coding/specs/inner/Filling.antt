@@ -1,5 +1,5 @@
 -- Memories that grow by blocks, request by request, and what a node's leaf comes to.
-use Rattle.std.specs.Prelude.{◌≡◌, ℕ, ◌<◌, ◌≤◌, length, map, List, [], ◌∷◌, ◌++◌, Some, Result, Ok, Err, slice_get}
+use Rattle.std.specs.Prelude.{◌≡◌, ℕ, ◌<◌, map, List, [], ◌∷◌, ◌++◌, Some, Result, Ok, Err, slice_get}
 use Rattle.rb_bytes.specs.Memory.{Memory, IsSize, IsAlign}
 use Rattle.rb_bytes.specs.Growth.{Grown}
 use Rattle.rb_bytes.specs.declared.fault.Full.{Full as Unplaced}
@@ -11,7 +11,7 @@ use Rattle.rb_layout.specs.declared.layout.Kind.TheVariants.{Pointer}
 use Rattle.rb_layout.specs.A4.{IsBlockWidth}
 use Rattle.rb_layout.specs.Readable.{AreShort}
 use Rattle.rb_layout.specs.Words.{size_of}
-use Rattle.rb_rel.specs.Placing.{Laid, Fits, Over, Request, request_of, behind, lay}
+use Rattle.rb_rel.specs.Placing.{Laid, Over, Request, request_of, behind, lay}
 use Rattle.rb_rel.proofs.Storing.{fill}
 use Rattle.rb_rel.proofs.Layers.{address_at}
 use Rattle.rb_coding.specs.declared.fault.EncodeFault.{EncodeFault}

@@ -1,5 +1,5 @@
 -- Words as they are made from their parts.
-use Rattle.std.specs.Prelude.{ℕ, ◌+◌, ◌-◌, ltb, List, [], ◌∷◌, if◌then◌else◌}
+use Rattle.std.specs.Prelude.{ℕ, ◌-◌, ltb, List, [], ◌∷◌, if◌then◌else◌}
 use Rattle.rb_bits.specs.Words.{take_of, put_of}
 use Rattle.rb_layout.specs.declared.layout.FlatWord.{FlatWord}
 use Rattle.rb_layout.specs.declared.layout.Part.{Part}

@@ -1,8 +1,4 @@
-use Rattle.std.proofs.Common.{◌≡◌, ℕ, ◌∷◌, List, Result, Ok, Err, sym, subst, ap, ◌∙◌, arith}
-use Rattle.rb_bytes.specs.Memory.{Memory, size_at}
-use Rattle.rb_layout.specs.A4.{IsBlockWidth}
-use Rattle.rb_layout.specs.Words.{bytes_in, size_of}
-use Rattle.rb_layout.specs.declared.layout.FlatWord.{FlatWord}
+use Rattle.rb_layout.specs.Words.{size_of}
 use Rattle.rb_coding.specs.inner.Nodes.{subs_of}
 use Rattle.rb_coding.proofs.GrowLemmas.{place_ok, place_err}
 use Rattle.rb_coding.proofs.PlaceLemmas.{got, block_is, placing_none, placing_next, placing_stops, placing_all, placed_found, placed_room, rest_of}

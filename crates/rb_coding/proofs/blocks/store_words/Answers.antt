@@ -1,4 +1,4 @@
-use Rattle.std.proofs.Common.{◌≡◌, ℕ, Result, Ok, Err, refl, sym, subst, ap, ◌∙◌, arith}
+use Rattle.std.proofs.Common.{◌≡◌, Result, Ok, Err, refl, sym, subst, ap, ◌∙◌, arith}
 use Rattle.std.specs.Prelude.{IsOk, slice_index}
 use Rattle.rb_bytes.specs.Memory.{Memory}
 use Rattle.rb_bytes.specs.declared.fault.Trap.{Trap}

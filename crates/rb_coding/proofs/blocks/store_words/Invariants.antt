@@ -1,6 +1,6 @@
 use Rattle.std.proofs.Common.{◌≡◌, take}
 use Rattle.std.specs.Prelude.{slice_index}
-use Rattle.rb_bytes.specs.Memory.{Memory, IsGood}
+use Rattle.rb_bytes.specs.Memory.{IsGood}
 use Rattle.rb_layout.specs.Words.{begins_at}
 use Rattle.rb_rel.proofs.Storing.{written}
 use Rattle.rb_coding.specs.inner.Nodes.{subs_of}

@@ -1,4 +1,4 @@
-use Rattle.std.proofs.Common.{◌<◌, length, Ok, Err, sym, ◌∙◌, arith}
+use Rattle.std.proofs.Common.{◌<◌, length, arith}
 use Rattle.rb_core.specs.declared.types.Ty.TheVariants.{Int}
 use Rattle.rb_coding.proofs.AllLemmas.{all_more, all_stops, all_done, lengths, nth_is, typed_nth}
 use Rattle.rb_coding.proofs.PlaceLemmas.{got}

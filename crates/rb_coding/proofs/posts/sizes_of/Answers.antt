@@ -1,8 +1,7 @@
 use Rattle.std.proofs.Common.{◌∙◌, length, ap, arith}
-use Rattle.rb_core.specs.Values.{subs, node_count}
+use Rattle.rb_core.specs.Values.{node_count}
 use Rattle.std.proofs.Common.{map}
-use Rattle.rb_values.specs.Nodes.{at, posts}
-use Rattle.rb_coding.specs.inner.Nodes.{start_of}
+use Rattle.rb_values.specs.Nodes.{posts}
 use Rattle.rb_coding.proofs.WaitLemmas.{start_le, sizes_more, take_end}
 use Rattle.rb_coding.proofs.posts.sizes_of.Goals as goal
 

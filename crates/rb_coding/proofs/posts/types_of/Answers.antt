@@ -1,4 +1,4 @@
-use Rattle.std.proofs.Common.{suc, ◌≡◌, ◌-◌, length, ap, sym, ◌∙◌, arith}
+use Rattle.std.proofs.Common.{suc, ◌≡◌, ◌-◌, length, ap, ◌∙◌, arith}
 use Rattle.rb_coding.proofs.WaitLemmas.{wait_start, wait_turn, wait_in}
 use Rattle.rb_coding.proofs.posts.types_of.Goals as goal
 
