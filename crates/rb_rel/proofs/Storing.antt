@@ -25,11 +25,11 @@ module _ (number : FlatWord → ℕ) where
   written [] at bytes = bytes
   written (f ∷ fs) at bytes = written fs (at + f.width / 8) (write_le bytes (f.width / 8) at (number f))
 
-  length-written : (fs : List FlatWord) (at : ℕ) (bytes : List (Option ℕ)) → length (written fs at bytes) ≡ length bytes
+  pub length-written : (fs : List FlatWord) (at : ℕ) (bytes : List (Option ℕ)) → length (written fs at bytes) ≡ length bytes
   length-written [] at bytes = refl
   length-written (f ∷ fs) at bytes = length-written fs (at + f.width / 8) (write_le bytes (f.width / 8) at (number f)) ∙ length-write_le bytes (f.width / 8) at (number f)
 
-  written_outside : (fs : List FlatWord) (at : ℕ) (bytes : List (Option ℕ)) (a : ℕ) → (a < at) ⊎ (at + bytes_in fs ≤ a) → byte_at (written fs at bytes) a ≡ byte_at bytes a
+  pub written_outside : (fs : List FlatWord) (at : ℕ) (bytes : List (Option ℕ)) (a : ℕ) → (a < at) ⊎ (at + bytes_in fs ≤ a) → byte_at (written fs at bytes) a ≡ byte_at bytes a
   written_outside [] at bytes a out = refl
   written_outside (f ∷ fs) at bytes a out =
       written_outside fs (at + f.width / 8) (write_le bytes (f.width / 8) at (number f)) a (rest out) ∙ byte_at-write_le_outside bytes (f.width / 8) at (number f) a (first out)
@@ -93,18 +93,18 @@ module _ (number : FlatWord → ℕ) where
         | inr up ↦ written_whole fs (at + n) next (omega (arith, le, long)) a up (omega (arith, high))
       ]
 
-begins_within : (fs : List FlatWord) (j : ℕ) (f : FlatWord) → slice_get fs j ≡ Some f → begins_at fs j + f.width / 8 ≤ bytes_in fs
+pub begins_within : (fs : List FlatWord) (j : ℕ) (f : FlatWord) → slice_get fs j ≡ Some f → begins_at fs j + f.width / 8 ≤ bytes_in fs
 begins_within [] j f is = absurd cc
 begins_within (g ∷ fs) zero f is = let e = ap (λ (x : FlatWord). x.width / 8) (same_Some g f is) in omega (arith, e)
 begins_within (g ∷ fs) (suc j) f is = let h = begins_within fs j f is in omega (arith, h)
 
-width_bytes : (width : ℕ) → IsBlockWidth width → 8 * (width / 8) ≡ width
+pub width_bytes : (width : ℕ) → IsBlockWidth width → 8 * (width / 8) ≡ width
 width_bytes width (inl e) = omega (arith, e)
 width_bytes width (inr (inl e)) = omega (arith, e)
 width_bytes width (inr (inr (inl e))) = omega (arith, e)
 width_bytes width (inr (inr (inr e))) = omega (arith, e)
 
-within_yes : (size to : ℕ) → to ≤ size → lies_within (Some size) to ≡ true
+pub within_yes : (size to : ℕ) → to ≤ size → lies_within (Some size) to ≡ true
 within_yes size to le = elim (leb_tells to size) [ inl h ↦ h.0 | inr h ↦ absurd (omega (arith, h.1, le)) ]
 
 -- what a block is: words of bytes, at least one of them
@@ -152,7 +152,7 @@ module _ (m : Memory) (good : IsGood m) (block : Block) (is : IsBlock block) (nu
       fresh = λ x le. written_outside number block.words a m.bytes x (inr le) ∙ good.fresh x (omega (arith, le, above));
     }
 
-    filled_grown : Grown m filled ((a, size_of block) ∷ []) (a + size_of block)
+    pub filled_grown : Grown m filled ((a, size_of block) ∷ []) (a + size_of block)
     filled_grown = record {
       limit = refl;
       next = refl;
@@ -173,7 +173,7 @@ module _ (m : Memory) (good : IsGood m) (block : Block) (is : IsBlock block) (nu
         ∙ written_read number block.words a m.bytes long j f at
         ∙ ap (λ k. Ok (number f % 2 ^ k)) wide ∙ ap Ok (mod-eq_of_lt (fits j f at))
 
-    filled_stored : ((j : ℕ) (f : FlatWord) → slice_get block.words j ≡ Some f → number f < 2 ^ f.width) → Stored m filled block number a
+    pub filled_stored : ((j : ℕ) (f : FlatWord) → slice_get block.words j ≡ Some f → number f < 2 ^ f.width) → Stored m filled block number a
     filled_stored fits = record { sized = filled_sized; loads = filled_loads fits }
 
 -- Several blocks, one after the other
