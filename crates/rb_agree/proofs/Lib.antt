@@ -1,0 +1,4 @@
+pub mod Lists
+pub mod Pointers
+pub mod Widths
+pub mod Finding
