@@ -1,2 +1,5 @@
 pub mod Lists
 pub mod Blocks
+pub mod Splits
+pub mod Tests
+pub mod Values

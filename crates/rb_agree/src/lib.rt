@@ -3,7 +3,12 @@
 #![tactic(auto)]
 
 pub mod blocks;
+pub mod items;
 mod numbers;
+pub mod parts;
 pub mod roots;
 pub mod rule;
 pub mod shapes;
+pub mod splits;
+pub mod tests;
+pub mod values;

@@ -1,6 +1,6 @@
-//! Numbers of items.
+//! Numbers of items, and numbers that fit so many bits.
 
-ghost use Rattle.std.specs.Prelude.{◌≡◌, IfOk};
+ghost use Rattle.std.specs.Prelude.{◌≡◌, ◌↔◌, ◌<◌, ◌^◌, IfOk, IsTrue};
 
 use std::alloc::AllocError;
 
@@ -12,4 +12,14 @@ pub(crate) fn number_of(i: usize) -> Result<u32, AllocError>
         Ok(number) => Ok(number),
         Err(_) => Err(AllocError),
     }
+}
+
+/// Whether a number has at most so many bits.
+pub(crate) fn fits(number: u64, bits: u64) -> bool
+    ensures { IsTrue result ↔ (number < 2 ^ bits) }
+{
+    if 64 <= bits {
+        return true;
+    }
+    number < 1u64 << bits
 }
