@@ -1,8 +1,10 @@
 pub mod Lists
-pub mod Pointers
+pub mod PointerParts
 pub mod Widths
 pub mod Finding
 pub mod Splitting
 pub mod Testing
 pub mod Covering
 pub mod Writing
+pub mod PartLists
+pub mod Marking

@@ -99,3 +99,21 @@ finds-rest {A} Good Bad x xs (Some why) good rest = some-more (λ (y : A). Bad y
 -- what is found in the rest is found in the whole
 abbrev pub PassesIn : {A W : Type 0} → (A → Type 0) → (A → W → Type 0) → List A → List A → Type 0
 PassesIn {A} {W} Good Bad rest whole = (r : Option W) → FindsIn Good Bad rest r → FindsIn Good Bad whole r
+
+-- What is found in lists that are made of the items of a list, one after the other
+module _ {A B W : Type 0} (Good : B → Type 0) (Bad : B → W → Type 0) (f : A → List B) (xs : List A) (i : ℕ) where
+  abbrev pub RestPasses : ℕ → Type 0
+  RestPasses k = PassesIn Good Bad (flat_map f (drop k xs)) (flat_map f xs)
+
+  pub flat-found : (x : A) (r : Option W) (why : W) → i < length xs → x ≡ get_or xs i x → FindsIn Good Bad (f x) r → r ≡ Some why → RestPasses i → FindsIn Good Bad (flat_map f xs) (Some why)
+  flat-found x r why lt is h some pass =
+      pass (Some why) (subst (λ (ys : List B). FindsIn Good Bad ys (Some why)) (sym (flat-next f xs i x lt is))
+      (finds-left Good Bad (f x) (flat_map f (drop (i + 1) xs)) why (subst (λ (y : Option W). FindsIn Good Bad (f x) y) some h)))
+
+  pub flat-passed : (x : A) (r : Option W) → i < length xs → x ≡ get_or xs i x → FindsIn Good Bad (f x) r → r ≡ None → RestPasses i → RestPasses (i + 1)
+  flat-passed x r lt is h none pass = λ s rest.
+      pass s (subst (λ (ys : List B). FindsIn Good Bad ys s) (sym (flat-next f xs i x lt is))
+      (finds-right Good Bad (f x) (flat_map f (drop (i + 1) xs)) s (subst (λ (y : Option W). FindsIn Good Bad (f x) y) none h) rest))
+
+  pub flat-ends : length xs ≤ i → RestPasses i → FindsIn Good Bad (flat_map f xs) None
+  flat-ends le pass = pass None (subst (λ (ys : List B). FindsIn Good Bad ys None) (sym (flat-end f xs i le)) (each-none Good))

@@ -1,3 +1,4 @@
 pub mod Answers
 pub mod Written
+pub mod Pointing
 pub mod inner

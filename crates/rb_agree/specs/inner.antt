@@ -3,3 +3,4 @@ pub mod Blocks
 pub mod Splits
 pub mod Tests
 pub mod Values
+pub mod Parts

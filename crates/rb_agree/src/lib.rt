@@ -6,6 +6,7 @@ pub mod blocks;
 pub mod items;
 mod numbers;
 pub mod parts;
+pub mod pointers;
 pub mod roots;
 pub mod rule;
 pub mod shapes;

@@ -1,6 +1,6 @@
 use Rattle.std.proofs.Common.{◌≡◌, ◌^◌, ◌∙◌, sym, arith}
 use borrow.Author.Count.{below_more}
-use Rattle.rb_agree.proofs.Pointers.{power-more, small-more, no-power}
+use Rattle.rb_agree.proofs.PointerParts.{power-more, small-more, no-power}
 use Rattle.rb_agree.proofs.blocks.bits_saved.Goals as goal
 
 pub loop-k-preserved : goal.loop-k-preserved

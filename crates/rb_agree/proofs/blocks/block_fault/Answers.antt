@@ -2,7 +2,7 @@ use Rattle.std.proofs.Common.{◌≡◌, ◌≤◌, Some, subst, ap, arith, leng
 use Rattle.std.specs.Prelude.{MatchOption}
 use Rattle.rb_agree.specs.inner.Blocks.{ArePointersFine, FailsPointers, HasWidth, FailsWidth}
 use Rattle.rb_agree.specs.inner.Lists.{EachOf, SomeOf}
-use Rattle.rb_agree.proofs.Pointers.{width-fails, in-block}
+use Rattle.rb_agree.proofs.PointerParts.{width-fails, in-block}
 use Rattle.rb_agree.proofs.blocks.block_fault.Goals as goal
 
 pub returns-in-Some : goal.returns-in-Some

@@ -3,7 +3,7 @@ use Rattle.std.specs.Prelude.{MatchOption}
 use Rattle.rb_layout.specs.declared.layout.Block.{Block}
 use Rattle.rb_agree.specs.inner.Blocks.{ArePointersFine, FailsPointers, FailsBlock, IsBlock}
 use Rattle.rb_agree.specs.inner.Lists.{EachOf, SomeOf}
-use Rattle.rb_agree.proofs.Pointers.{block-fails, in-leaf}
+use Rattle.rb_agree.proofs.PointerParts.{block-fails, in-leaf}
 use Rattle.rb_agree.proofs.blocks.blocks_fault.Goals as goal
 
 pub returns-in-Some : goal.returns-in-Some

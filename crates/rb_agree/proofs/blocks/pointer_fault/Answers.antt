@@ -1,5 +1,5 @@
 use Rattle.std.proofs.Common.{arith}
-use Rattle.rb_agree.proofs.Pointers.{is-wide, is-alignment}
+use Rattle.rb_agree.proofs.PointerParts.{is-wide, is-alignment}
 use Rattle.rb_agree.proofs.blocks.pointer_fault.Goals as goal
 
 pub returns-then-l-ge24 : goal.returns-then-l-ge24
