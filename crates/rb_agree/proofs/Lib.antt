@@ -8,3 +8,4 @@ pub mod Covering
 pub mod Writing
 pub mod PartLists
 pub mod Marking
+pub mod Searching

@@ -63,8 +63,8 @@ module _ (marks : List Bool) where
     whole = cons-Con p at c ps is ∙ ap (λ (xs : List Pat). c ∷ flat_map cons_of xs) (sym same)
 
     pub root-marked : (b : Bool) → b ≡ mark_of marks c.ty → b ≡ true → Finds (cons_of p) (Some c.ty)
-    root-marked b mark yes =
-        subst (λ (xs : List ConRef). Finds xs (Some c.ty)) (sym whole) (finds-first (IsUnmarked marks) (IsMarked marks) c (flat_map cons_of qs) c.ty (refl, sym mark ∙ yes))
+    root-marked b mark marked =
+        subst (λ (xs : List ConRef). Finds xs (Some c.ty)) (sym whole) (finds-first (IsUnmarked marks) (IsMarked marks) c (flat_map cons_of qs) c.ty (refl, sym mark ∙ marked))
 
     pub root-unmarked : (b : Bool) (r : Option ℕ) → b ≡ mark_of marks c.ty → b ≡ false → Finds (flat_map cons_of qs) r → Finds (cons_of p) r
     root-unmarked b r mark not rest =

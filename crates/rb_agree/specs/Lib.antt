@@ -1,4 +1,5 @@
 pub mod Answers
 pub mod Written
 pub mod Pointing
+pub mod Graphs
 pub mod inner

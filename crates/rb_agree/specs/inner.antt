@@ -4,3 +4,4 @@ pub mod Splits
 pub mod Tests
 pub mod Values
 pub mod Parts
+pub mod Ways

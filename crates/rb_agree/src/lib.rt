@@ -3,6 +3,7 @@
 #![tactic(auto)]
 
 pub mod blocks;
+pub mod cycles;
 pub mod items;
 mod numbers;
 pub mod parts;
