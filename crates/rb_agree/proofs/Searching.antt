@@ -1,6 +1,6 @@
 -- The search for a cycle: what it has found at each time, and what holds at its end.
 use Rattle.std.proofs.Common.{◌≡◌, ℕ, zero, suc, ◌+◌, ◌<◌, ◌≤◌, ◌⊎◌, inl, inr, nat_eq, not, List, [], ◌∷◌, ◌++◌, length, get_or, drop, drop-cons, add-one, Bool, true, false, Option, Some, None, refl, sym, ap, subst, ◌∙◌, arith}
-use Rattle.std.specs.Prelude.{slice_get, slice_set, ◌||◌, ◌&&◌}
+use Rattle.std.specs.Prelude.{slice_get, slice_set, MatchBool, ◌||◌, ◌&&◌}
 use Rattle.std.specs.List.{list_any}
 use Rattle.std.proofs.lemmas.Option.{same_Some, slice_get_within}
 use Rattle.std.proofs.lemmas.Bool.{cases_lt, eqb-true, ne_eqb}
@@ -270,6 +270,20 @@ module _ (graph : List (List ℕ)) (start : ℕ) where
   no-row past [] = λ leads. past-row graph start leads.0 start past leads.1
   no-row past (n ∷ ts) = λ chain. past-row graph start chain.0.0 n past chain.0.1
 
+  -- by what one number leads to
+  module _ (s t : State) (i : ℕ) (w : Way) (edges way : List ℕ) (b : Bool) (h : IsSearch s i) (at : slice_get s.found i ≡ Some w) (is_edges : edges ≡ edges_of graph w.number)
+      (is_way : way ≡ w.way) (leads : MatchBool b (HasEdge edges start) (HasNoEdge edges start)) where
+    pub found-branch : b ≡ true → IsCycleFrom (Leads graph) start way
+    found-branch e =
+        subst (λ (ns : List ℕ). IsCycleFrom (Leads graph) start ns) (sym is_way)
+        (cycle-found s i w h at (subst (λ (ns : List ℕ). HasEdge ns start) is_edges (subst (λ x. MatchBool x (HasEdge edges start) (HasNoEdge edges start)) e leads)))
+
+    pub next-branch : b ≡ false → MatchBool b (Unit {0}) (t ≡ all_added way edges s) → IsSearch t (i + 1)
+    next-branch e added =
+        let all : t ≡ all_added way edges s = subst (λ x. MatchBool x (Unit {0}) (t ≡ all_added way edges s)) e added in
+        search-next s t i w h at (subst (λ (ns : List ℕ). HasNoEdge ns start) is_edges (subst (λ x. MatchBool x (HasEdge edges start) (HasNoEdge edges start)) e leads))
+        (all ∙ ap (λ (ns : List ℕ). all_added ns edges s) is_way ∙ ap (λ (ns : List ℕ). all_added w.way ns s) is_edges)
+
   -- ---- the beginning
   unmarked-at : (marks : List Bool) (n : ℕ) → n < length marks → ((k : ℕ) (m : Bool) → slice_get marks k ≡ Some m → m ≡ false) → slice_get marks n ≡ Some false
   unmarked-at [] n lt all = absurd (omega (arith, lt))
@@ -303,3 +317,6 @@ module _ (graph : List (List ℕ)) (start : ℕ) where
 pub added-next : (way edges : List ℕ) (i : ℕ) (s : State) → i < length edges → all_added way (drop i edges) s ≡ all_added way (drop (i + 1) edges) (added way (get_or edges i 0) s)
 added-next way edges i s lt =
     ap (λ (xs : List ℕ). all_added way xs s) (drop-cons edges i 0 lt) ∙ ap (λ m. all_added way (drop m edges) (added way (get_or edges i 0) s)) (sym (add-one i))
+
+pub not-within : (i n : ℕ) → (i < n → false ≡ true) → n ≤ i
+not-within i n h = elim (cases_lt i n) [ | inl lt ↦ absurd (cc (h lt)) | inr le ↦ le ]
