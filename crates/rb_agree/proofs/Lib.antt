@@ -9,3 +9,4 @@ pub mod Writing
 pub mod PartLists
 pub mod Marking
 pub mod Searching
+pub mod Relating

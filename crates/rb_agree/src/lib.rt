@@ -4,6 +4,7 @@
 
 pub mod blocks;
 pub mod cycles;
+pub mod graphs;
 pub mod items;
 mod numbers;
 pub mod parts;
