@@ -9,10 +9,11 @@ use Rattle.rb_layout.specs.declared.layout.Layout.{Layout}
 use Rattle.rb_layout.specs.declared.layout.Leaf.{Leaf}
 use Rattle.rb_layout.specs.declared.evidence.Why.{Why}
 use Rattle.rb_layout.specs.declared.evidence.Refused.{Refused}
-use Rattle.rb_layout.specs.Spots.{Spot, Checked, Fails, Holds, IsRefusal, place_of, by_leaves, by_types, shape_spots, part_spots}
+use Rattle.rb_layout.specs.Spots.{Spot, Shape, Checked, Fails, Holds, IsRefusal, place_of, by_leaves, by_types, shape_spots, part_spots}
 use Rattle.rb_layout.specs.Items.{Item}
-use Rattle.rb_agree.specs.declared.rule.Rule.{Rule}
-use Rattle.rb_agree.specs.Answers.{Finds, refusal, places_of, all_places}
+use Rattle.rb_layout.specs.A1.{FailsShape, HasShape}
+use Rattle.rb_layout.specs.Flattening.{decl_of}
+use Rattle.rb_agree.specs.Answers.{Finds, refusal}
 
 module _ (p : Program) (layouts : List Layout) where
   first-found : (xs ys : List Spot) (x : Spot × Why) → Checked p layouts xs (Some x) → Checked p layouts (xs ++ ys) (Some x)
@@ -48,7 +49,7 @@ module _ (p : Program) (layouts : List Layout) where
   pub pass-found : (here rest whole : List Spot) (r : Refused) → Passes (here ++ rest) whole → Finds p layouts here (Some r) → Finds p layouts whole (Some r)
   pass-found here rest whole r pass found = pass (Some r) (found-first here rest r found)
 
-  -- Leaves, layouts and rules
+  -- Leaves, layouts and items
   pub leaves-next : (f : ℕ → Leaf → List Spot) (ls : List Leaf) (n : ℕ) (leaf : Leaf) → n < length ls → leaf ≡ get_or ls n leaf
       → by_leaves f n (drop n ls) ≡ f n leaf ++ by_leaves f (n + 1) (drop (n + 1) ls)
   leaves-next f ls n leaf lt is =
@@ -67,21 +68,6 @@ module _ (p : Program) (layouts : List Layout) where
   pub types-end : (f : ℕ → Layout → List Spot) (ls : List Layout) (n : ℕ) → length ls ≤ n → by_types f n (drop n ls) ≡ []
   types-end f ls n le = ap (λ (xs : List Layout). by_types f n xs) (drop_all n ls le)
 
-  pub rules-next : (rules : List Rule) (n : ℕ) (rule : Rule) → n < length rules → rule ≡ get_or rules n rule
-      → all_places p layouts (drop n rules) ≡ places_of p layouts rule ++ all_places p layouts (drop (n + 1) rules)
-  rules-next rules n rule lt is =
-      ap (λ (xs : List Rule). all_places p layouts xs) (drop-cons rules n rule lt ∙ ap (λ (x : Rule). x ∷ drop (suc n) rules) (sym is))
-      ∙ ap (λ m. places_of p layouts rule ++ all_places p layouts (drop m rules)) (sym (add-one n))
-
-  pub rules-end : (rules : List Rule) (n : ℕ) → length rules ≤ n → all_places p layouts (drop n rules) ≡ []
-  rules-end rules n le = ap (λ (xs : List Rule). all_places p layouts xs) (drop_all n rules le)
-
-  pub shapes-next : (decls : List LayoutDecl) (ds : List DataDecl) (n : ℕ) (d : DataDecl) → n < length ds
-      → shape_spots decls n (drop n ds) ≡ shape_spots decls n (get_or ds n d ∷ []) ++ shape_spots decls (n + 1) (drop (n + 1) ds)
-  shapes-next decls ds n d lt =
-      ap (λ (xs : List DataDecl). shape_spots decls n xs) (drop-cons ds n d lt)
-      ∙ ap (λ m. shape_spots decls n (get_or ds n d ∷ []) ++ shape_spots decls (n + 1) (drop m ds)) (sym (add-one n))
-
   pub items-next : (t n : ℕ) (leaf : Leaf) (items : List Item) (i : ℕ) (d : Item) → i < length items
       → part_spots t n leaf i (drop i items) ≡ part_spots t n leaf i (get_or items i d ∷ []) ++ part_spots t n leaf (i + 1) (drop (i + 1) items)
   items-next t n leaf items i d lt =
@@ -90,3 +76,45 @@ module _ (p : Program) (layouts : List Layout) where
 
   pub ends : (rest whole : List Spot) → Passes rest whole → rest ≡ [] → Finds p layouts whole None
   ends rest whole pass none = pass None (subst (λ ss. Finds p layouts ss None) (sym none) tt)
+
+-- Shapes --------------------------------------------------------------------------------------------------
+
+shapes-split : (decls : List LayoutDecl) (ds : List DataDecl) (n m : ℕ) → m < length ds
+    → shape_spots decls n (drop m ds) ≡ Shape n (decl_of decls n) ∷ shape_spots decls (n + 1) (drop (suc m) ds)
+shapes-split decls [] n m lt = absurd (omega (arith, lt))
+shapes-split decls (d ∷ ds) n zero lt = refl
+shapes-split decls (d ∷ ds) n (suc m) lt = shapes-split decls ds n m (omega (arith, lt))
+
+module _ (p : Program) where
+  abbrev pub rest-from : ℕ → List Spot
+  rest-from t = shape_spots p.layouts t (drop t p.types)
+
+  shapes-next : (t : ℕ) → t < length p.types → rest-from t ≡ (Shape t (decl_of p.layouts t) ∷ []) ++ rest-from (t + 1)
+  shapes-next t lt =
+      shapes-split p.layouts p.types t t lt ∙ ap (λ m. Shape t (decl_of p.layouts t) ∷ shape_spots p.layouts (t + 1) (drop m p.types)) (sym (add-one t))
+
+  -- what is found in the shapes from a type on is found in all
+  abbrev pub ShapesPass : ℕ → Type 0
+  ShapesPass t = (layouts : List Layout) → Passes p layouts (rest-from t) (shape_spots p.layouts 0 p.types)
+
+  abbrev Answer : Option LayoutDecl → Option Why → Type 0
+  Answer decl found = MatchOption found (HasShape decl) (FailsShape decl)
+
+  pub shape-passes : (t : ℕ) (decl : Option LayoutDecl) (found : Option Why) → t < length p.types → decl ≡ decl_of p.layouts t → Answer decl found → found ≡ None → ShapesPass t → ShapesPass (t + 1)
+  shape-passes t decl found lt is h none pass = λ layouts.
+      let here : Answer (decl_of p.layouts t) None = subst (λ (x : Option Why). Answer (decl_of p.layouts t) x) none (subst (λ (d : Option LayoutDecl). Answer d found) is h) in
+      pass-on p layouts (Shape t (decl_of p.layouts t) ∷ []) (rest-from (t + 1)) (shape_spots p.layouts 0 p.types)
+      (subst (λ (ss : List Spot). Passes p layouts ss (shape_spots p.layouts 0 p.types)) (shapes-next t lt) (pass layouts))
+      (one-place p layouts (Shape t (decl_of p.layouts t)) 1 t None None refl here)
+
+  pub shape-fails : (t n : ℕ) (decl : Option LayoutDecl) (found : Option Why) (why : Why) → t < length p.types → decl ≡ decl_of p.layouts t → Answer decl found → found ≡ Some why → n ≡ t → ShapesPass t
+      → (layouts : List Layout) → Finds p layouts (shape_spots p.layouts 0 p.types) (Some (record { rule = 1; ty = n; leaf = None; why = why }))
+  shape-fails t n decl found why lt is h some same pass = λ layouts.
+      let here : Answer (decl_of p.layouts t) (Some why) = subst (λ (x : Option Why). Answer (decl_of p.layouts t) x) some (subst (λ (d : Option LayoutDecl). Answer d found) is h) in
+      subst (λ m. Finds p layouts (shape_spots p.layouts 0 p.types) (Some (record { rule = 1; ty = m; leaf = None; why = why }))) (sym same)
+      (pass-found p layouts (Shape t (decl_of p.layouts t) ∷ []) (rest-from (t + 1)) (shape_spots p.layouts 0 p.types) (record { rule = 1; ty = t; leaf = None; why = why })
+      (subst (λ (ss : List Spot). Passes p layouts ss (shape_spots p.layouts 0 p.types)) (shapes-next t lt) (pass layouts))
+      (one-place p layouts (Shape t (decl_of p.layouts t)) 1 t None (Some why) refl here))
+
+  pub shapes-end : (t : ℕ) → length p.types ≤ t → ShapesPass t → (layouts : List Layout) → Finds p layouts (shape_spots p.layouts 0 p.types) None
+  shapes-end t le pass = λ layouts. ends p layouts (rest-from t) (shape_spots p.layouts 0 p.types) (pass layouts) (ap (λ (ds : List DataDecl). shape_spots p.layouts t ds) (drop_all t p.types le))

@@ -10,3 +10,4 @@ pub mod PartLists
 pub mod Marking
 pub mod Searching
 pub mod Relating
+pub mod Opening

@@ -2,4 +2,5 @@ pub mod Answers
 pub mod Written
 pub mod Pointing
 pub mod Graphs
+pub mod Placed
 pub mod inner

@@ -1,10 +1,9 @@
 //! Whether the parts of written words lie in them, are disjoint, and fit what they hold.
 
 ghost use Rattle.std.specs.Prelude.{◌≡◌, ◌↔◌, ℕ, ◌<◌, ◌≤◌, ◌^◌, length, IfOk, IsTrue, MatchOption, Some};
-ghost use Rattle.std.specs.Option.{option_copied};
 
 
-ghost use Rattle.rb_layout.specs.Flattening.{IsOpenIn, decl_of, shape_of, type_at};
+ghost use Rattle.rb_layout.specs.Flattening.{IsOpenIn, type_at};
 ghost use Rattle.rb_layout.specs.Positions.{open_positions};
 ghost use Rattle.rb_layout.specs.A3.{FailsItem, Fits, FitsSlice, FitsWhole, FitsWord, IsPlaced, ItemFits, LiesIn, PartsFit};
 ghost use Rattle.rb_layout.specs.declared.evidence.Why.TheVariants as Whys;
@@ -13,6 +12,7 @@ ghost use Rattle.rb_agree.specs.inner.Parts.{AreApart, AreFine, FailsApart, Fail
 ghost use Rattle.rb_agree.specs.Written.{shown_content, shown_item, shown_part, shown_parts};
 
 
+use crate::decls::shape_of;
 use crate::items::{Content, Item, Written};
 use crate::numbers::fits;
 use rb_core::layout_decl::LayoutDecl;
@@ -22,28 +22,6 @@ use rb_core::types::{DataDecl, Ty};
 use rb_layout::evidence::Why;
 use rb_layout::positions::type_at;
 use std::alloc::{AllocError, Global};
-
-/// The layout that is declared for a type.
-pub(crate) fn decl_of(decls: &[LayoutDecl], ty: u32) -> Option<&LayoutDecl>
-    ensures { option_copied result ≡ decl_of decls.now ty }
-{
-    for decl in decls {
-        if decl.ty == ty {
-            return Some(decl);
-        }
-    }
-    None
-}
-
-/// The widths of the words of a type's values, in bits; none where it has no layout.
-pub(crate) fn shape_of(decls: &[LayoutDecl], ty: u32) -> &[u64]
-    ensures { result.now ≡ shape_of decls.now ty }
-{
-    match decl_of(decls, ty) {
-        None => &[],
-        Some(decl) => decl.shape.as_slice(),
-    }
-}
 
 // Whether so many bits hold a field of this type, whole.
 fn fits_whole(decls: &[LayoutDecl], ty: Option<Ty>, l: u64) -> bool
