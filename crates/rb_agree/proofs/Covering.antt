@@ -1,5 +1,5 @@
 -- Leaves for values, from what a search of patterns answers.
-use Rattle.std.proofs.Common.{◌≡◌, ℕ, zero, suc, ◌⊎◌, inl, inr, get_or, ◌+◌, ◌<◌, ◌≤◌, List, [], ◌∷◌, map, length, Bool, true, false, Option, Some, None, Ok, Err, refl, sym, ap, subst, ◌∙◌, arith}
+use Rattle.std.proofs.Common.{◌≡◌, ℕ, zero, suc, inl, inr, get_or, ◌+◌, ◌<◌, ◌≤◌, List, [], ◌∷◌, map, length, Bool, true, false, Option, Some, None, Ok, Err, refl, sym, ap, subst, ◌∙◌, arith}
 use Rattle.std.specs.Prelude.{slice_get, IsSome, unwrap_or, ◌&&◌, ◌==◌, if◌then◌else◌}
 use Rattle.std.specs.Bool.{OnTrue, MatchBool}
 use Rattle.std.proofs.lemmas.Option.{same_Some, slice_get_within}
@@ -17,11 +17,11 @@ use Rattle.rb_core.specs.declared.pattern.Pat.TheOpen as P
 use Rattle.rb_core.specs.declared.typing.TypeFault.TheVariants.{Arity, Mismatch}
 use Rattle.rb_core.specs.Values.{is_of_type, all_of_types, are_of, fields_of}
 use Rattle.rb_core.specs.Matching.{IsExhaustive, all_pass, chosen_clause, is_con, matches_of, matches_step, next_clause}
-use Rattle.rb_core.specs.Typing.{PatternRule, also_bound, and_then, number_type, distinct_binders, fields_match, field_types, pattern_binders, pattern_params, pattern_step, same_type, subpatterns}
+use Rattle.rb_core.specs.Typing.{PatternRule, also_bound, and_then, number_type, distinct_binders, fields_match, field_types, pattern_binders, pattern_params, pattern_step, subpatterns}
 use Rattle.rb_core.proofs.PatternLaws.{fold-Wild, fold-Var, fold-Num, fold-Con, Each, induction}
 use Rattle.rb_layout.specs.declared.layout.Layout.{Layout}
 use Rattle.rb_layout.specs.declared.layout.Leaf.{Leaf}
-use Rattle.rb_layout.specs.A5.{HasLeaf, HaveCommon, IsComplete, IsOf, IsWithoutLeaf, Matches}
+use Rattle.rb_layout.specs.A5.{HaveCommon, IsComplete, IsWithoutLeaf, Matches}
 use Rattle.rb_matrix.specs.Search.{is_plain, plain_step}
 use Rattle.rb_matrix.specs.Exhaust.{IsCommon, IsMissing, both_match}
 use Rattle.rb_agree.specs.inner.Values.{AreDifferent, HaveDifferent, provenances_in}
@@ -202,9 +202,12 @@ module _ (types : List DataDecl) (t n : ℕ) (leaf : Leaf) (leaves : List Leaf) 
 
   pub common-at : (m k : ℕ) (later : Leaf) (b : Bool) → n + 1 ≤ m → m < length leaves → later ≡ get_or leaves m later → Answer (get_or leaves m later) b → b ≡ true → k ≡ m
       → (n < k) × (x : Leaf) × (slice_get leaves k ≡ Some x) × HaveCommon types t leaf.prov x.prov
-  common-at m k later b le lt is h e same =
-      (omega (arith, le, same), later, ap (λ j. slice_get leaves j) same ∙ at-item leaves m later lt is,
-      subst (λ x. Answer later x) e (subst (λ (x : Leaf). Answer x b) (sym is) h))
+  common-at m k later b le lt is h e same = (
+    omega (arith, le, same),
+    later,
+    ap (λ j. slice_get leaves j) same ∙ at-item leaves m later lt is,
+    subst (λ x. Answer later x) e (subst (λ (x : Leaf). Answer x b) (sym is) h),
+  )
 
   pub apart-more : (m : ℕ) (later : Leaf) (b : Bool) → m < length leaves → later ≡ get_or leaves m later → Answer (get_or leaves m later) b → b ≡ false → ApartBefore m → ApartBefore (m + 1)
   apart-more m later b lt is h e before = λ k x less le at. elim (cases_lt k m) [

@@ -1,5 +1,5 @@
 -- Places one after the other, and what is found in them.
-use Rattle.std.proofs.Common.{◌≡◌, ℕ, zero, suc, ◌+◌, ◌<◌, ◌≤◌, ◌⊎◌, inl, inr, List, [], ◌∷◌, ◌++◌, length, get_or, drop, Option, Some, None, refl, sym, ap, subst, ◌∙◌, add-one, drop-cons, arith}
+use Rattle.std.proofs.Common.{◌≡◌, ℕ, zero, suc, ◌+◌, ◌<◌, ◌≤◌, inl, inr, List, [], ◌∷◌, ◌++◌, length, get_or, drop, Option, Some, None, refl, sym, ap, subst, ◌∙◌, add-one, drop-cons, arith}
 use Rattle.std.specs.Prelude.{MatchOption}
 use Rattle.std.proofs.lemmas.List.{drop_all}
 use Rattle.rb_core.specs.declared.program.Program.{Program}
@@ -9,7 +9,7 @@ use Rattle.rb_layout.specs.declared.layout.Layout.{Layout}
 use Rattle.rb_layout.specs.declared.layout.Leaf.{Leaf}
 use Rattle.rb_layout.specs.declared.evidence.Why.{Why}
 use Rattle.rb_layout.specs.declared.evidence.Refused.{Refused}
-use Rattle.rb_layout.specs.Spots.{Spot, Shape, Checked, Fails, Holds, IsRefusal, place_of, by_leaves, by_types, shape_spots, part_spots}
+use Rattle.rb_layout.specs.Spots.{Spot, Shape, Checked, Fails, Holds, place_of, by_leaves, by_types, shape_spots, part_spots}
 use Rattle.rb_layout.specs.Items.{Item}
 use Rattle.rb_layout.specs.A1.{FailsShape, HasShape}
 use Rattle.rb_layout.specs.Flattening.{decl_of}

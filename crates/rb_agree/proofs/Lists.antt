@@ -11,7 +11,7 @@ pub at-item : {A : Type 0} (xs : List A) (k : ℕ) (x : A) → k < length xs →
 at-item xs k x lt is = slice_get-get_or xs k x lt ∙ ap Some (sym is)
 
 last_or : (i k : ℕ) → k < i + 1 → (k < i) ⊎ (i ≡ k)
-last_or i k lt = elim (cases_lt k i) [ | inl less ↦ inl less | inr most ↦ inr (omega arith) ]
+last_or i k lt = elim (cases_lt k i) [ inl less ↦ inl less | inr most ↦ inr (omega arith) ]
 
 pub before-more : {A : Type 0} (P : A → Type 0) (xs : List A) (i : ℕ) (x : A) → i < length xs → x ≡ get_or xs i x → P x → EachBefore P xs i → EachBefore P xs (i + 1)
 before-more P xs i x within is here before = λ k y lt e. elim (last_or i k lt) [

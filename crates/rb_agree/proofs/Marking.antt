@@ -1,28 +1,24 @@
 -- Types with a pointer part, and the constructors in patterns.
-use Rattle.std.proofs.Common.{◌≡◌, ℕ, zero, suc, ◌+◌, ◌<◌, ◌≤◌, ◌⊎◌, inl, inr, List, [], ◌∷◌, ◌++◌, map, length, take, get_or, add-one, Bool, true, false, Option, Some, None, refl, sym, ap, subst, ◌∙◌, arith}
-use Rattle.std.specs.Prelude.{slice_get, MatchBool, MatchOption}
+use Rattle.std.proofs.Common.{◌≡◌, ℕ, zero, suc, ◌+◌, ◌<◌, ◌⊎◌, inl, inr, List, [], ◌∷◌, ◌++◌, map, length, take, get_or, add-one, Bool, true, false, Option, Some, None, refl, sym, ap, subst, ◌∙◌, arith}
+use Rattle.std.specs.Prelude.{slice_get, MatchBool}
 use Rattle.std.specs.List.{flat_map}
 use Rattle.std.proofs.lemmas.Option.{same_Some, slice_get_within}
 use Rattle.std.proofs.lemmas.List.{length-append}
 use Rattle.std.proofs.Math.Seq.{take-suc}
 use Rattle.rb_core.specs.declared.types.ConRef.{ConRef}
-use Rattle.rb_core.specs.declared.pattern.Pat.{Pat, Wild, Var, Num, Con, out-Pat}
+use Rattle.rb_core.specs.declared.pattern.Pat.{Pat, Wild, Var, Num, Con}
 use Rattle.rb_core.specs.declared.pattern.Pat.TheVariants as X
-use Rattle.rb_core.specs.declared.pattern.Pat.TheOpen.{Pat-F}
 use Rattle.rb_core.proofs.PatternLaws.{fold-Wild, fold-Var, fold-Num, fold-Con}
 use Rattle.rb_layout.specs.declared.layout.Layout.{Layout}
 use Rattle.rb_layout.specs.declared.layout.Leaf.{Leaf}
 use Rattle.rb_layout.specs.declared.layout.Block.{Block}
-use Rattle.rb_layout.specs.declared.layout.FlatWord.{FlatWord}
-use Rattle.rb_layout.specs.declared.layout.Part.{Part}
 use Rattle.rb_layout.specs.declared.layout.WordRef.{WordRef}
-use Rattle.rb_layout.specs.declared.evidence.Why.{Why}
 use Rattle.rb_layout.specs.declared.evidence.Why.TheVariants as W
 use Rattle.rb_layout.specs.Words.{words_of_block, words_in}
 use Rattle.rb_layout.specs.Pointers.{PointsTo}
-use Rattle.rb_layout.specs.A9.{FailsNoPointer, FlattensNoPointer, HasPointerPart, LeafFlattens, cons_below, cons_below_root, cons_of, cons_step}
-use Rattle.rb_agree.specs.inner.Lists.{EachOf, EachBefore, SomeOf, FindsIn}
-use Rattle.rb_agree.specs.Pointing.{AreMarks, BlocksPoint, IsMarked, IsUnmarked, KindPoints, LeafPoints, LeavesPoint, PartsPoint, WordsPoint, mark_in, mark_of}
+use Rattle.rb_layout.specs.A9.{FailsNoPointer, FlattensNoPointer, HasPointerPart, cons_below, cons_below_root, cons_of, cons_step}
+use Rattle.rb_agree.specs.inner.Lists.{EachOf, SomeOf, FindsIn}
+use Rattle.rb_agree.specs.Pointing.{AreMarks, IsMarked, IsUnmarked, LeafPoints, LeavesPoint, WordsPoint, mark_in, mark_of}
 use Rattle.rb_agree.proofs.Lists.{finds-first, finds-rest}
 
 -- Searches for some -----------------------------------------------------------------------------------
@@ -147,7 +143,7 @@ snoc-get : {A : Type 0} (xs : List A) (x : A) (t : ℕ) (y : A) → slice_get (x
 snoc-get [] x zero y e = inr (refl, same_Some x y e)
 snoc-get [] x (suc t) y e = absurd cc
 snoc-get (z ∷ xs) x zero y e = inl e
-snoc-get (z ∷ xs) x (suc t) y e = elim (snoc-get xs x t y e) [ | inl h ↦ inl h | inr h ↦ inr (ap suc h.0, h.1) ]
+snoc-get (z ∷ xs) x (suc t) y e = elim (snoc-get xs x t y e) [ inl h ↦ inl h | inr h ↦ inr (ap suc h.0, h.1) ]
 
 abbrev Answer : Layout → Bool → Type 0
 Answer layout mark = MatchBool mark (LeavesPoint layout.leaves) (LeavesPoint layout.leaves → ⊥)
@@ -157,13 +153,13 @@ snoc-marks xs x marks m are here = record {
   count = (let a = are.count in let b = length-append xs (x ∷ []) in let c = length-append marks (m ∷ []) in omega (arith, a, b, c));
   each = λ t layout mark el em. elim (snoc-get xs x t layout el) [
     | inl old ↦ elim (snoc-get marks m t mark em) [
-        | inl same ↦ are.each t layout mark old same
-        | inr new ↦ absurd (let lt = slice_get_within xs t layout old in let a = are.count in omega (arith, lt, a, new.0))
-      ]
+      | inl same ↦ are.each t layout mark old same
+      | inr new ↦ absurd (let lt = slice_get_within xs t layout old in let a = are.count in omega (arith, lt, a, new.0))
+    ]
     | inr last ↦ elim (snoc-get marks m t mark em) [
-        | inl same ↦ absurd (let lt = slice_get_within marks t mark same in let a = are.count in omega (arith, lt, a, last.0))
-        | inr new ↦ subst (λ (b : Bool). Answer layout b) new.1 (subst (λ (l : Layout). Answer l m) last.1 here)
-      ]
+      | inl same ↦ absurd (let lt = slice_get_within marks t mark same in let a = are.count in omega (arith, lt, a, last.0))
+      | inr new ↦ subst (λ (b : Bool). Answer layout b) new.1 (subst (λ (l : Layout). Answer l m) last.1 here)
+    ]
   ];
 }
 
@@ -171,7 +167,7 @@ pub marks-more : (layouts : List Layout) (i : ℕ) (layout : Layout) (marks new 
     → AreMarks (take i layouts) marks → ls ≡ layout.leaves → MatchBool m (LeavesPoint ls) (LeavesPoint ls → ⊥) → new ≡ marks ++ m ∷ [] → AreMarks (take (i + 1) layouts) new
 marks-more layouts i layout marks new m ls lt is are same here pushed =
     let one : take (i + 1) layouts ≡ take i layouts ++ layout ∷ [] =
-        ap (λ n. take n layouts) (add-one i) ∙ take-suc layouts i layout lt ∙ ap (λ (x : Layout). take i layouts ++ x ∷ []) (sym is) in
+    ap (λ n. take n layouts) (add-one i) ∙ take-suc layouts i layout lt ∙ ap (λ (x : Layout). take i layouts ++ x ∷ []) (sym is) in
     subst (λ (ms : List Bool). AreMarks (take (i + 1) layouts) ms) (sym pushed)
     (subst (λ (xs : List Layout). AreMarks xs (marks ++ m ∷ [])) (sym one)
     (snoc-marks (take i layouts) layout marks m are (subst (λ (xs : List Leaf). MatchBool m (LeavesPoint xs) (LeavesPoint xs → ⊥)) same here)))

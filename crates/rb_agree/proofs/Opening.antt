@@ -1,17 +1,17 @@
 -- Open positions, form by form.
-use Rattle.std.proofs.Common.{◌≡◌, ℕ, zero, suc, ◌+◌, ◌<◌, ◌≤◌, List, [], ◌∷◌, ◌++◌, map, length, drop, get_or, add-one, drop-cons, Option, Some, None, refl, sym, ap, subst, ◌∙◌}
+use Rattle.std.proofs.Common.{◌≡◌, ℕ, zero, suc, ◌+◌, ◌≤◌, List, [], ◌∷◌, ◌++◌, map, length, drop, add-one, Some, None, refl, sym, ap, ◌∙◌}
 use Rattle.std.specs.Prelude.{slice_get}
 use Rattle.std.proofs.lemmas.List.{append-nil, append_assoc, map-append, drop_all}
 use Rattle.rb_core.specs.declared.types.Ty.{Ty}
 use Rattle.rb_core.specs.declared.types.ConRef.{ConRef}
 use Rattle.rb_core.specs.declared.types.DataDecl.{DataDecl}
-use Rattle.rb_core.specs.declared.pattern.Pat.{Pat, Wild, Var, Num, Con, out-Pat}
+use Rattle.rb_core.specs.declared.pattern.Pat.{Pat, Wild, Var, Con, out-Pat}
 use Rattle.rb_core.specs.Values.{fields_of}
-use Rattle.rb_core.proofs.PatternLaws.{fold-Wild, fold-Var, fold-Num, fold-Con}
+use Rattle.rb_core.proofs.PatternLaws.{fold-Wild, fold-Var, fold-Con}
 use Rattle.rb_layout.specs.Positions.{Open, below, opens_below, opens_of, opens_step, open_positions, root_type, types_or_none}
 use Rattle.rb_layout.proofs.Walks.{drop_from}
 use Rattle.rb_agree.specs.declared.positions.Place.{Place}
-use Rattle.rb_agree.specs.Placed.{shown_place, shown_places, under}
+use Rattle.rb_agree.specs.Placed.{shown_places, under}
 
 module _ (types : List DataDecl) where
   abbrev opens : Pat → Ty → List Open
@@ -57,7 +57,7 @@ module _ (types : List DataDecl) where
   pub places-stop : (path : List ℕ) (pats : List Pat) (fields : List Ty) (i : ℕ) (here start : List Open) → slice_get fields i ≡ None → here ++ rest path pats fields i ≡ start → here ≡ start
   places-stop path pats fields i here start none all =
       let nothing : rest path pats fields i ≡ [] =
-          ap (λ (ts : List Ty). map (under path) (opens_below (map opens (drop i pats)) ts i)) (past fields i none) ∙ ap (λ (os : List Open). map (under path) os) (no-fields (drop i pats) i) in
+      ap (λ (ts : List Ty). map (under path) (opens_below (map opens (drop i pats)) ts i)) (past fields i none) ∙ ap (λ (os : List Open). map (under path) os) (no-fields (drop i pats) i) in
       sym (append-nil here) ∙ ap (λ (xs : List Open). here ++ xs) (sym nothing) ∙ all
 
   pub places-end : (path : List ℕ) (pats : List Pat) (fields : List Ty) (i : ℕ) (here start : List Open) → length pats ≤ i → here ++ rest path pats fields i ≡ start → here ≡ start

@@ -1,5 +1,5 @@
 -- The parts of a word, from what is found of them one by one and two by two.
-use Rattle.std.proofs.Common.{◌≡◌, ℕ, zero, suc, ◌<◌, ◌≤◌, ◌⊎◌, inl, inr, List, [], ◌∷◌, map, Option, Some, None, refl, sym, ap, subst, arith}
+use Rattle.std.proofs.Common.{◌≡◌, ℕ, zero, suc, ◌<◌, inl, inr, List, [], ◌∷◌, Option, Some, None, refl, sym, subst, arith}
 use Rattle.std.specs.Prelude.{slice_get, MatchOption}
 use Rattle.std.proofs.lemmas.Option.{same_Some}
 use Rattle.std.proofs.lemmas.Bool.{cases_lt}
@@ -11,11 +11,11 @@ use Rattle.rb_layout.specs.declared.evidence.Why.TheVariants.{Outside, Overlap, 
 use Rattle.rb_layout.specs.Positions.{Open}
 use Rattle.rb_layout.specs.Flattening.{IsOpenIn, type_at}
 use Rattle.rb_layout.specs.Items.{Content, Number, Whole, Slice, WordOf, Address, WrittenPart}
-use Rattle.rb_layout.specs.A3.{Fits, FitsSlice, FitsWhole, FitsWord, IsPlaced, Overlaps, PartAt, PartsFit}
+use Rattle.rb_layout.specs.A3.{Fits, FitsSlice, FitsWhole, FitsWord, IsPlaced, PartAt, PartsFit}
 use Rattle.rb_agree.specs.declared.items.Written.{Written}
 use Rattle.rb_agree.specs.Written.{shown_part, shown_parts}
-use Rattle.rb_agree.specs.inner.Lists.{EachOf, SomeOf}
-use Rattle.rb_agree.specs.inner.Parts.{AreApart, AreFine, FailsApart, FailsPair, FailsSome, FailsWord, IsPartFine, IsSet}
+use Rattle.rb_agree.specs.inner.Lists.{EachOf}
+use Rattle.rb_agree.specs.inner.Parts.{AreApart, AreFine, FailsApart, FailsSome, FailsWord, IsPartFine, IsSet}
 use Rattle.rb_agree.proofs.Lists.{each-map, map-at}
 
 -- of what isn't placed nothing is demanded
@@ -52,17 +52,18 @@ module _ (decls : List LayoutDecl) (opens : List Open) (i width : ℕ) (parts : 
 
   pub apart-fails : (why : Why) → FailsApart opens i parts why → FailsWord decls opens i width (shown_parts parts) why
   apart-fails (Overlap x o l b m) h =
-      let pair = h.1.8 in
-      (pair.0, elim pair.1 [
-        | inl f ↦ record {
+      let pair = h.1.8 in (
+        pair.0,
+        elim pair.1 [
+          | inl f ↦ record {
             first = part-at h.1.0 h.1.1 o l h.1.4 h.1.6 f.0.0 f.0.1;
             second = part-at h.0 h.1.2 b m h.1.5 h.1.7 f.0.2 f.0.3;
-            order = elim (cases_lt o b) [ | inl less ↦ inl less | inr most ↦ inr (omega (arith, most, f.1), h.1.3) ];
+            order = elim (cases_lt o b) [ inl less ↦ inl less | inr most ↦ inr (omega (arith, most, f.1), h.1.3) ];
             bit = b;
             in_first = pair.2.0;
             in_second = pair.2.1;
           }
-        | inr f ↦ record {
+          | inr f ↦ record {
             first = part-at h.0 h.1.2 o l h.1.5 h.1.7 f.0.0 f.0.1;
             second = part-at h.1.0 h.1.1 b m h.1.4 h.1.6 f.0.2 f.0.3;
             order = inl f.1;
@@ -70,7 +71,8 @@ module _ (decls : List LayoutDecl) (opens : List Open) (i width : ℕ) (parts : 
             in_first = pair.2.0;
             in_second = pair.2.1;
           }
-      ])
+        ],
+      )
   apart-fails why h = absurd h.1.8
 
   disjoint-at : AreApart opens parts → (j k : ℕ) (p q : WrittenPart) → j < k → slice_get (shown_parts parts) j ≡ Some p → slice_get (shown_parts parts) k ≡ Some q

@@ -1,13 +1,11 @@
 -- Pointers and blocks of a leaf, from those of its words.
-use Rattle.std.proofs.Common.{◌≡◌, ℕ, ◌+◌, ◌^◌, ◌<◌, ◌≤◌, ◌⊎◌, inl, inr, List, length, Option, Some, None, refl, sym, ap, subst, ◌∙◌, ◌*◌, arith}
+use Rattle.std.proofs.Common.{◌≡◌, ℕ, ◌+◌, ◌^◌, ◌<◌, ◌≤◌, inl, inr, length, Option, Some, None, refl, sym, ap, subst, ◌∙◌, ◌*◌, arith}
 use Rattle.std.specs.Prelude.{slice_get, MatchOption}
 use Rattle.std.proofs.Math.Pow.{pow-lt}
 use Rattle.std.proofs.lemmas.Nat.{pow-add}
 use Rattle.std.proofs.lemmas.Bool.{cases_lt}
 use Rattle.rb_layout.specs.declared.layout.Leaf.{Leaf}
 use Rattle.rb_layout.specs.declared.layout.Block.{Block}
-use Rattle.rb_layout.specs.declared.layout.FlatWord.{FlatWord}
-use Rattle.rb_layout.specs.declared.layout.Part.{Part}
 use Rattle.rb_layout.specs.declared.layout.Kind.{Kind}
 use Rattle.rb_layout.specs.declared.layout.Kind.TheVariants.{Const, Bits, Word, Pointer}
 use Rattle.rb_layout.specs.declared.layout.WordRef.{WordRef}
@@ -28,7 +26,7 @@ same-power : (j k : ℕ) → 2 ^ j ≡ 2 ^ k → j ≡ k
 same-power j k e =
     elim (cases_lt j k) [
       | inl less ↦ absurd (not-less j k e less)
-      | inr most ↦ elim (cases_lt k j) [ | inl less ↦ absurd (not-less k j (sym e) less) | inr other ↦ omega arith ]
+      | inr most ↦ elim (cases_lt k j) [ inl less ↦ absurd (not-less k j (sym e) less) | inr other ↦ omega arith ]
     ]
 
 pub is-wide : (l align k : ℕ) → align ≡ 2 ^ k → 24 ≤ l + k → IsWide align l
@@ -66,15 +64,25 @@ module _ (leaf : Leaf) where
 
   align-fails : (block : Option ℕ) (a : ℕ) → FailsPointers (words_in leaf block) (Align a) → FailsBlocks leaf (Align a)
   align-fails block a h =
-      let kind = kind-align h.3.1.l h.3.1.kind a h.3.3 in
-      (ref block h.0, h.3.1.l, kind.0,
-      record { word = h.1; number = h.3.0; part = h.3.1; is_word = h.2; is_part = h.3.2; is_length = λ i. h.3.1.l; is_pointer = kind.1 }, kind.2)
+      let kind = kind-align h.3.1.l h.3.1.kind a h.3.3 in (
+        ref block h.0,
+        h.3.1.l,
+        kind.0,
+        record { word = h.1; number = h.3.0; part = h.3.1; is_word = h.2; is_part = h.3.2; is_length = λ i. h.3.1.l; is_pointer = kind.1 },
+        kind.2,
+      )
 
   short-fails : (block : Option ℕ) (n : ℕ) → FailsPointers (words_in leaf block) (ShortPointer n) → FailsBlocks leaf (ShortPointer n)
   short-fails block n h =
-      let kind = kind-short h.3.1.l h.3.1.kind n h.3.3 in
-      (ref block h.0, h.3.1.l, kind.0, kind.1,
-      record { word = h.1; number = h.3.0; part = h.3.1; is_word = h.2; is_part = h.3.2; is_length = λ i. h.3.1.l; is_pointer = kind.2 }, kind.3, kind.4)
+      let kind = kind-short h.3.1.l h.3.1.kind n h.3.3 in (
+        ref block h.0,
+        h.3.1.l,
+        kind.0,
+        kind.1,
+        record { word = h.1; number = h.3.0; part = h.3.1; is_word = h.2; is_part = h.3.2; is_length = λ i. h.3.1.l; is_pointer = kind.2 },
+        kind.3,
+        kind.4,
+      )
 
   pub pointers-fail : (block : Option ℕ) (why : Why) → FailsPointers (words_in leaf block) why → FailsBlocks leaf why
   pointers-fail block (Align a) h = align-fails block a h

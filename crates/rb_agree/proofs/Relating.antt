@@ -1,5 +1,5 @@
 -- Graphs of types, and the relations that they show.
-use Rattle.std.proofs.Common.{◌≡◌, ◌↔◌, ℕ, zero, suc, ◌+◌, ◌<◌, ◌≤◌, ◌⊎◌, inl, inr, List, [], ◌∷◌, ◌++◌, map, length, drop, Option, Some, None, refl, sym, ap, subst, ◌∙◌}
+use Rattle.std.proofs.Common.{◌≡◌, ℕ, zero, suc, ◌≤◌, ◌⊎◌, inl, inr, List, [], ◌∷◌, ◌++◌, map, length, drop, Option, Some, None, refl, sym, ap, subst, ◌∙◌}
 use Rattle.std.specs.Prelude.{slice_get, MatchOption}
 use Rattle.std.specs.List.{flat_map}
 use Rattle.std.proofs.lemmas.Option.{same_Some}
@@ -10,17 +10,14 @@ use Rattle.rb_core.specs.declared.types.Ty.TheVariants.{Int, Named}
 use Rattle.rb_core.specs.declared.types.DataDecl.{DataDecl}
 use Rattle.rb_core.specs.declared.pattern.Pat.{Pat, Con}
 use Rattle.rb_layout.specs.declared.layout.Layout.{Layout}
-use Rattle.rb_layout.specs.declared.layout.Leaf.{Leaf}
-use Rattle.rb_layout.specs.declared.layout.FlatWord.{FlatWord}
-use Rattle.rb_layout.specs.declared.layout.Part.{Part}
 use Rattle.rb_layout.specs.declared.layout.Kind.{Kind}
 use Rattle.rb_layout.specs.declared.layout.Kind.TheVariants.{Const, Bits, Word, Pointer}
-use Rattle.rb_layout.specs.Cycles.{HasNoCycle, IsChain, IsCycle, IsCycleFrom}
+use Rattle.rb_layout.specs.Cycles.{HasNoCycle, IsChain, IsCycleFrom}
 use Rattle.rb_layout.specs.Positions.{open_positions}
 use Rattle.rb_layout.specs.Flattening.{type_at}
-use Rattle.rb_layout.specs.A9.{Flattens, LeafFlattens, cons_below, cons_of}
+use Rattle.rb_layout.specs.A9.{Flattens, cons_below, cons_of}
 use Rattle.rb_layout.specs.A10.{HoldsField}
-use Rattle.rb_agree.specs.Graphs.{IsGraphOf, Leads, below_types, edges_of, flat_row, held_row, held_type, kind_holds, leaf_holds, leaf_types, part_holds, pattern_types, row_in, types_of_cons, word_holds}
+use Rattle.rb_agree.specs.Graphs.{IsGraphOf, Leads, below_types, flat_row, held_row, held_type, kind_holds, leaf_holds, leaf_types, part_holds, pattern_types, types_of_cons, word_holds}
 use Rattle.rb_agree.specs.inner.Lists.{SomeOf}
 use Rattle.rb_agree.proofs.Lists.{map-at}
 use Rattle.rb_agree.proofs.Marking.{cons-Con, below-Con}
@@ -47,7 +44,7 @@ Among {A} xs x = (k : ℕ) × (slice_get xs k ≡ Some x)
 among-append : {A : Type 0} (xs ys : List A) (x : A) → Among (xs ++ ys) x → Among xs x ⊎ Among ys x
 among-append [] ys x h = inr h
 among-append (z ∷ xs) ys x (zero, e) = inl (0, e)
-among-append (z ∷ xs) ys x (suc k, e) = elim (among-append xs ys x (k, e)) [ | inl h ↦ inl (suc h.0, h.1) | inr h ↦ inr h ]
+among-append (z ∷ xs) ys x (suc k, e) = elim (among-append xs ys x (k, e)) [ inl h ↦ inl (suc h.0, h.1) | inr h ↦ inr h ]
 
 among-left : {A : Type 0} (xs ys : List A) (x : A) → Among xs x → Among (xs ++ ys) x
 among-left [] ys x h = absurd (cc h.1)

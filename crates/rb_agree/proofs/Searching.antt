@@ -3,10 +3,10 @@ use Rattle.std.proofs.Common.{◌≡◌, ℕ, zero, suc, ◌+◌, ◌<◌, ◌�
 use Rattle.std.specs.Prelude.{slice_get, slice_set, MatchBool, ◌||◌, ◌&&◌}
 use Rattle.std.specs.List.{list_any}
 use Rattle.std.proofs.lemmas.Option.{same_Some, slice_get_within}
-use Rattle.std.proofs.lemmas.Bool.{cases_lt, eqb-true, ne_eqb}
+use Rattle.std.proofs.lemmas.Bool.{cases_lt, ne_eqb}
 use Rattle.std.proofs.lemmas.List.{length-append}
 use Rattle.rb_core.specs.WellNumbered.{is_distinct}
-use Rattle.rb_layout.specs.Cycles.{HasNoCycle, IsChain, IsCycle, IsCycleFrom}
+use Rattle.rb_layout.specs.Cycles.{HasNoCycle, IsChain, IsCycleFrom}
 use Rattle.rb_agree.specs.declared.cycles.Way.{Way}
 use Rattle.rb_agree.specs.Graphs.{Leads, edges_of, row_in}
 use Rattle.rb_agree.specs.Pointing.{mark_in, mark_of}
@@ -32,7 +32,7 @@ set-only [] n y e = inl e
 set-only (m ∷ ms) zero zero e = inr refl
 set-only (m ∷ ms) zero (suc y) e = inl e
 set-only (m ∷ ms) (suc n) zero e = inl e
-set-only (m ∷ ms) (suc n) (suc y) e = elim (set-only ms n y e) [ | inl h ↦ inl h | inr h ↦ inr (ap suc h) ]
+set-only (m ∷ ms) (suc n) (suc y) e = elim (set-only ms n y e) [ inl h ↦ inl h | inr h ↦ inr (ap suc h) ]
 
 set-length : (ms : List Bool) (n : ℕ) → length (slice_set ms n true) ≡ length ms
 set-length [] n = refl
@@ -57,7 +57,7 @@ get-of : {A : Type 0} (xs : List A) (x : A) (k : ℕ) (y : A) → slice_get (xs 
 get-of [] x zero y e = inr (refl, same_Some x y e)
 get-of [] x (suc k) y e = absurd cc
 get-of (z ∷ xs) x zero y e = inl e
-get-of (z ∷ xs) x (suc k) y e = elim (get-of xs x k y e) [ | inl h ↦ inl h | inr h ↦ inr (ap suc h.0, h.1) ]
+get-of (z ∷ xs) x (suc k) y e = elim (get-of xs x k y e) [ inl h ↦ inl h | inr h ↦ inr (ap suc h.0, h.1) ]
 
 -- No number twice -----------------------------------------------------------------------------------------
 
@@ -150,7 +150,7 @@ module _ (graph : List (List ℕ)) (start : ℕ) where
   grows-new : (way : List ℕ) (n : ℕ) (s : State) → Grows s (with-new way n s)
   grows-new way n s = record {
     marks = λ y e. set-keeps s.marks n y e;
-    same = λ k w lt e. elim (get-of s.found (record { number = n; way = way ++ n ∷ [] }) k w e) [ | inl h ↦ h | inr h ↦ absurd (omega (arith, lt, h.0)) ];
+    same = λ k w lt e. elim (get-of s.found (record { number = n; way = way ++ n ∷ [] }) k w e) [ inl h ↦ h | inr h ↦ absurd (omega (arith, lt, h.0)) ];
     longer = (let l = length-append s.found (record { number = n; way = way ++ n ∷ [] } ∷ []) in omega (arith, l));
   }
 
@@ -305,7 +305,7 @@ module _ (graph : List (List ℕ)) (start : ℕ) where
       let u = with-new [] start s in
       let empty : Base s = record { count = none.0; found = λ k w e. absurd cc; each = λ y e. absurd (not-marked marks y (slice_get marks y) refl none.1 e) } in
       let w : IsFound (slice_set marks start true) (record { number = start; way = [] ++ start ∷ [] }) =
-          record { before = []; is_way = refl; reaches = refl; distinct = refl; marked = λ k y e. one-way marks new k y e } in
+      record { before = []; is_way = refl; reaches = refl; distinct = refl; marked = λ k y e. one-way marks new k y e } in
       let same : t ≡ u = is ∙ ap (λ m. added_if m [] start s) new in
       subst (λ (x : State). IsSearch x 0) (sym same) (record {
         base = base-new [] start s new empty w;
@@ -319,4 +319,4 @@ added-next way edges i s lt =
     ap (λ (xs : List ℕ). all_added way xs s) (drop-cons edges i 0 lt) ∙ ap (λ m. all_added way (drop m edges) (added way (get_or edges i 0) s)) (sym (add-one i))
 
 pub not-within : (i n : ℕ) → (i < n → false ≡ true) → n ≤ i
-not-within i n h = elim (cases_lt i n) [ | inl lt ↦ absurd (cc (h lt)) | inr le ↦ le ]
+not-within i n h = elim (cases_lt i n) [ inl lt ↦ absurd (cc (h lt)) | inr le ↦ le ]

@@ -1,5 +1,5 @@
 -- The splits of a tree, form by form, and their literals.
-use Rattle.std.proofs.Common.{◌≡◌, ℕ, zero, suc, ◌⊎◌, inl, inr, ◌+◌, ◌<◌, ◌≤◌, ◌^◌, List, [], ◌∷◌, ◌++◌, map, length, take, drop, get_or, add-one, drop-cons, Bool, true, false, Option, Some, None, Result, Ok, Err, IfOk, refl, sym, ap, subst, ◌∙◌, arith}
+use Rattle.std.proofs.Common.{◌≡◌, ℕ, zero, suc, ◌⊎◌, inl, inr, ◌+◌, ◌<◌, ◌≤◌, List, [], ◌∷◌, ◌++◌, map, length, take, drop, get_or, add-one, drop-cons, Bool, true, false, Option, Some, None, Result, Ok, Err, IfOk, refl, sym, ap, subst, ◌∙◌, arith}
 use Rattle.std.specs.Prelude.{slice_get, is_some, MatchOption, ◌||◌, ◌==◌}
 use Rattle.std.specs.List.{flat_map, list_any}
 use Rattle.std.proofs.lemmas.Option.{same_Some}
@@ -17,8 +17,8 @@ use Rattle.rb_layout.specs.declared.evidence.Why.TheVariants.{LiteralWide, Liter
 use Rattle.rb_layout.specs.Splits.{SplitAt, Under, literals_of, splits_step, splits_arm, splits_of, splits_under}
 use Rattle.rb_layout.specs.A8.{AllSplitWell, FailsSplits, HasArm, SplitsWell, last_length, length_of}
 use Rattle.rb_layout.proofs.FlatForms.{fold-Leaf, fold-Split, fold-Split-else}
-use Rattle.rb_agree.specs.inner.Lists.{EachOf, SomeOf, FindsIn}
-use Rattle.rb_agree.specs.inner.Splits.{AreDistinct, AreFit, FailsSplit, IsAmong, IsTwice, arm_splits, literals_in, split_of}
+use Rattle.rb_agree.specs.inner.Lists.{EachOf, FindsIn}
+use Rattle.rb_agree.specs.inner.Splits.{AreDistinct, AreFit, FailsSplit, IsAmong, arm_splits, literals_in, split_of}
 use Rattle.rb_agree.proofs.Lists.{finds-left, finds-right, finds-first, finds-rest, flat-next, flat-end, PassesIn}
 
 pub splits-Leaf : (n : ℕ) → splits_of (F.Leaf n) ≡ []

@@ -1,8 +1,7 @@
 -- The ways to a leaf, tree by tree.
-use Rattle.std.proofs.Common.{◌≡◌, ℕ, ◌+◌, ◌<◌, ◌≤◌, List, [], ◌∷◌, ◌++◌, map, length, drop, get_or, Bool, true, false, Option, Some, None, refl, sym, ap, subst, ◌∙◌, arith}
-use Rattle.std.specs.Prelude.{slice_get, MatchOption, is_some}
+use Rattle.std.proofs.Common.{◌≡◌, ℕ, ◌+◌, ◌<◌, ◌≤◌, List, [], ◌∷◌, ◌++◌, map, length, drop, get_or, Bool, true, false, Option, Some, None, refl, sym, ap, subst, ◌∙◌}
+use Rattle.std.specs.Prelude.{slice_get, is_some}
 use Rattle.std.specs.List.{flat_map}
-use Rattle.std.proofs.lemmas.List.{append-nil}
 use Rattle.rb_core.specs.declared.types.DataDecl.{DataDecl}
 use Rattle.rb_core.specs.declared.layout_decl.Loc.{Loc}
 use Rattle.rb_layout.specs.declared.layout.FlatTree as F
@@ -123,9 +122,10 @@ module _ (types : List DataDecl) (layouts : List Layout) (leaf : Leaf) (n : ℕ)
   -- ---- trees
   pub leaf-here : (tree : FlatTree) (m : ℕ) → tree ≡ F.Leaf m → m ≡ n → B (routes_of tree) Passes
   leaf-here tree m is same =
-      subst (λ (rs : List Route). B rs Passes) (sym (ap (λ (t : FlatTree). routes_of t) is ∙ routes-Leaf m))
-      (some-first (Leads types layouts leaf n) (record { leaf = m; tests = [] }) [] same,
-      each-first (PassesRoute types layouts leaf n) (record { leaf = m; tests = [] }) [] (λ leads k t e. absurd cc) (λ k r e. absurd cc))
+      subst (λ (rs : List Route). B rs Passes) (sym (ap (λ (t : FlatTree). routes_of t) is ∙ routes-Leaf m)) (
+        some-first (Leads types layouts leaf n) (record { leaf = m; tests = [] }) [] same,
+        each-first (PassesRoute types layouts leaf n) (record { leaf = m; tests = [] }) [] (λ leads k t e. absurd cc) (λ k r e. absurd cc),
+      )
 
   pub leaf-elsewhere : (tree : FlatTree) (m : ℕ) → tree ≡ F.Leaf m → (m ≡ n → ⊥) → B (routes_of tree) Absent
   leaf-elsewhere tree m is other =
@@ -162,8 +162,8 @@ module _ (types : List DataDecl) (layouts : List Layout) (leaf : Leaf) (n : ℕ)
       → B (arm_routes loc (routes_under arm)) (Fails why) → Done loc arms i passes → B (arms_routes loc arms) (Fails why)
   fails-there loc arms i arm passes why lt is h done =
       let here : B (arms_routes loc (drop i arms)) (Fails why) =
-          subst (λ (rs : List Route). B rs (Fails why)) (sym (flat-next (λ (x : FlatArm). arm_routes loc (routes_under x)) arms i arm lt is))
-          (some-left (FailsRoute types layouts leaf n why) (arm_routes loc (routes_under arm)) (arms_routes loc (drop (i + 1) arms)) h) in
+      subst (λ (rs : List Route). B rs (Fails why)) (sym (flat-next (λ (x : FlatArm). arm_routes loc (routes_under x)) arms i arm lt is))
+      (some-left (FailsRoute types layouts leaf n why) (arm_routes loc (routes_under arm)) (arms_routes loc (drop (i + 1) arms)) h) in
       subst (λ x. B (arms_routes loc arms) x) (both-fails passes why) (done (Fails why) here)
 
   -- by what is known below an arm and behind its literal

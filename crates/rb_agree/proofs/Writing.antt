@@ -12,7 +12,7 @@ use Rattle.rb_layout.specs.Items.{Content, Number, Whole, Slice, WordOf, Address
 use Rattle.rb_layout.proofs.WrittenForms as W
 use Rattle.rb_agree.specs.declared.items.Written.{Written}
 use Rattle.rb_agree.specs.declared.items.Item as D
-use Rattle.rb_agree.specs.Written.{content_of, inside_of, kind_around, part_around, shown_content, shown_item, shown_items, shown_part, written_part}
+use Rattle.rb_agree.specs.Written.{content_of, inside_of, kind_around, part_around, shown_item, shown_items, shown_part, written_part}
 
 parts-it : (parts : List PartDecl) → map (λ (p : Around WrittenPart). p.it) (map part_around parts) ≡ map written_part parts
 parts-it [] = refl
@@ -108,7 +108,7 @@ pub more-of : {A : Type 0} (f : A → List Item) (xs : List A) (i : ℕ) (x : A)
     → next ≡ here ++ f x → here ++ flat_map f (drop i xs) ≡ start → next ++ flat_map f (drop (i + 1) xs) ≡ start
 more-of {A} f xs i x here next start lt is added all =
     let step : flat_map f (drop i xs) ≡ f x ++ flat_map f (drop (i + 1) xs) =
-        ap (λ (ys : List A). flat_map f ys) (drop-cons xs i x lt ∙ ap (λ (y : A). y ∷ drop (suc i) xs) (sym is)) ∙ ap (λ m. f x ++ flat_map f (drop m xs)) (sym (add-one i)) in
+    ap (λ (ys : List A). flat_map f ys) (drop-cons xs i x lt ∙ ap (λ (y : A). y ∷ drop (suc i) xs) (sym is)) ∙ ap (λ m. f x ++ flat_map f (drop m xs)) (sym (add-one i)) in
     ap (λ ys. ys ++ flat_map f (drop (i + 1) xs)) added ∙ append_assoc here (f x) (flat_map f (drop (i + 1) xs)) ∙ ap (λ ys. here ++ ys) (sym step) ∙ all
 
 pub all-of : {A : Type 0} (f : A → List Item) (xs : List A) (i : ℕ) (here start : List Item) → length xs ≤ i → here ++ flat_map f (drop i xs) ≡ start → here ≡ start
@@ -121,7 +121,7 @@ pub word-added : (item : LayItem) (width : ℕ) (parts ws : List PartDecl) (old 
     → middle ≡ old ++ AWord width (map shown_part written) ∷ [] → new ≡ middle ++ flat_map inside_of ws → new ≡ old ++ item_list item
 word-added item width parts ws old middle new written is same shown one rest =
     let first : middle ≡ old ++ AWord width (map written_part parts) ∷ [] =
-        one ∙ ap (λ (ps : List WrittenPart). old ++ AWord width ps ∷ []) (shown ∙ ap (λ (xs : List PartDecl). map written_part xs) same) in
+    one ∙ ap (λ (ps : List WrittenPart). old ++ AWord width ps ∷ []) (shown ∙ ap (λ (xs : List PartDecl). map written_part xs) same) in
     rest ∙ ap (λ (xs : List PartDecl). middle ++ flat_map inside_of xs) same ∙ ap (λ ys. ys ++ flat_map inside_of parts) first
     ∙ append_assoc old (AWord width (map written_part parts) ∷ []) (flat_map inside_of parts)
     ∙ ap (λ ys. old ++ ys) (sym (ap (λ (x : LayItem). item_list x) is ∙ list-Word width parts))

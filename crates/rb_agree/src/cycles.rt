@@ -94,7 +94,11 @@ fn follow(
 /// # Errors
 ///
 /// Want of memory.
-pub fn cycle_from(alloc: Global, graph: &[Seq<u32>], start: u32) -> Result<Option<Seq<u32>>, AllocError>
+pub fn cycle_from(
+    alloc: Global,
+    graph: &[Seq<u32>],
+    start: u32,
+) -> Result<Option<Seq<u32>>, AllocError>
     ensures { IfOk result (λ r. MatchOption r (HasNoCycle (Leads graph.now) start) (IsCycleFrom (Leads graph.now) start)) }
 {
     if start as usize >= graph.len() {
@@ -108,7 +112,14 @@ pub fn cycle_from(alloc: Global, graph: &[Seq<u32>], start: u32) -> Result<Optio
             None => return Ok(None),
             Some(last) => (last.number, last.way.copy(alloc)?),
         };
-        if follow(alloc, edges_of(graph, number), start, &way, &mut marks, &mut found)? {
+        if follow(
+            alloc,
+            edges_of(graph, number),
+            start,
+            &way,
+            &mut marks,
+            &mut found,
+        )? {
             return Ok(Some(way));
         }
     }

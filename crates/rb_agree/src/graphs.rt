@@ -81,7 +81,12 @@ pub fn flattened(alloc: Global, layouts: &[Layout]) -> Result<Seq<Seq<u32>>, All
 }
 
 // Adds the type of the field of which a part has a word.
-fn add_part(types: &[DataDecl], prov: &Pat, part: &Part, row: &mut Seq<u32>) -> Result<(), AllocError>
+fn add_part(
+    types: &[DataDecl],
+    prov: &Pat,
+    part: &Part,
+    row: &mut Seq<u32>,
+) -> Result<(), AllocError>
     ensures { OnOk result (row.new ≡ row.old ++ part_holds types.now prov.now part.now) }
 {
     match &part.kind {
@@ -96,7 +101,12 @@ fn add_part(types: &[DataDecl], prov: &Pat, part: &Part, row: &mut Seq<u32>) -> 
     }
 }
 
-fn add_parts(types: &[DataDecl], prov: &Pat, parts: &[Part], row: &mut Seq<u32>) -> Result<(), AllocError>
+fn add_parts(
+    types: &[DataDecl],
+    prov: &Pat,
+    parts: &[Part],
+    row: &mut Seq<u32>,
+) -> Result<(), AllocError>
     ensures { OnOk result (row.new ≡ row.old ++ flat_map (part_holds types.now prov.now) parts.now) }
 {
     for part in parts {
@@ -105,7 +115,12 @@ fn add_parts(types: &[DataDecl], prov: &Pat, parts: &[Part], row: &mut Seq<u32>)
     Ok(())
 }
 
-fn add_words(types: &[DataDecl], prov: &Pat, words: &[FlatWord], row: &mut Seq<u32>) -> Result<(), AllocError>
+fn add_words(
+    types: &[DataDecl],
+    prov: &Pat,
+    words: &[FlatWord],
+    row: &mut Seq<u32>,
+) -> Result<(), AllocError>
     ensures { OnOk result (row.new ≡ row.old ++ flat_map (word_holds types.now prov.now) words.now) }
 {
     for word in words {
@@ -129,7 +144,11 @@ fn held_row(alloc: Global, types: &[DataDecl], leaves: &[Leaf]) -> Result<Seq<u3
 /// # Errors
 ///
 /// Want of memory.
-pub fn held(alloc: Global, types: &[DataDecl], layouts: &[Layout]) -> Result<Seq<Seq<u32>>, AllocError>
+pub fn held(
+    alloc: Global,
+    types: &[DataDecl],
+    layouts: &[Layout],
+) -> Result<Seq<Seq<u32>>, AllocError>
     ensures { IfOk result (IsGraphOf (HoldsField types.now layouts.now)) }
 {
     let mut graph = Seq::new(alloc);

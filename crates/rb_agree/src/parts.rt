@@ -1,8 +1,6 @@
 //! Whether the parts of written words lie in them, are disjoint, and fit what they hold.
 
 ghost use Rattle.std.specs.Prelude.{◌≡◌, ◌↔◌, ℕ, ◌<◌, ◌≤◌, ◌^◌, length, IfOk, IsTrue, MatchOption, Some};
-
-
 ghost use Rattle.rb_layout.specs.Flattening.{IsOpenIn, type_at};
 ghost use Rattle.rb_layout.specs.Positions.{open_positions};
 ghost use Rattle.rb_layout.specs.A3.{FailsItem, Fits, FitsSlice, FitsWhole, FitsWord, IsPlaced, ItemFits, LiesIn, PartsFit};
@@ -10,7 +8,6 @@ ghost use Rattle.rb_layout.specs.declared.evidence.Why.TheVariants as Whys;
 ghost use Rattle.rb_bits.specs.Words.{AreDisjoint};
 ghost use Rattle.rb_agree.specs.inner.Parts.{AreApart, AreFine, FailsApart, FailsBefore, FailsFit, FailsPair, FailsPart, FailsSome, FailsWord, HaveBits, IsApartBefore, IsPartFine};
 ghost use Rattle.rb_agree.specs.Written.{shown_content, shown_item, shown_part, shown_parts};
-
 
 use crate::decls::shape_of;
 use crate::items::{Content, Item, Written};
@@ -204,13 +201,7 @@ fn pair_fault(i: u32, p: &Written, q: &Written) -> Option<Why>
 }
 
 // How part `k` of a word has a bit in common with one written before it.
-fn before_fault(
-    types: &[DataDecl],
-    prov: &Pat,
-    i: u32,
-    parts: &[Written],
-    k: usize,
-) -> Option<Why>
+fn before_fault(types: &[DataDecl], prov: &Pat, i: u32, parts: &[Written], k: usize) -> Option<Why>
     requires within { k < length parts.now }
     requires some { HaveBits (open_positions types.now prov.now) parts.now }
     ensures { MatchOption result (IsApartBefore (open_positions types.now prov.now) parts.now k) (FailsBefore (open_positions types.now prov.now) i parts.now k) }

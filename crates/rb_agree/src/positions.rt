@@ -106,6 +106,13 @@ pub fn places(alloc: Global, types: &[DataDecl], prov: &Pat) -> Result<Seq<Place
     ensures { IfOk result (λ list. shown_places list ≡ open_positions types.now prov.now) }
 {
     let mut out = Seq::new(alloc);
-    add_places(alloc, types, prov, type_of_root(prov), &Seq::new(alloc), &mut out)?;
+    add_places(
+        alloc,
+        types,
+        prov,
+        type_of_root(prov),
+        &Seq::new(alloc),
+        &mut out,
+    )?;
     Ok(out)
 }

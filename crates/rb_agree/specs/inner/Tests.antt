@@ -8,7 +8,7 @@ use Rattle.rb_layout.specs.declared.layout.Leaf.{Leaf}
 use Rattle.rb_layout.specs.declared.layout.FlatTree.{FlatTree}
 use Rattle.rb_layout.specs.declared.layout.FlatArm.{FlatArm}
 use Rattle.rb_layout.specs.declared.evidence.Why.{Why}
-use Rattle.rb_layout.specs.Splits.{Test, Is, IsNone, Route, behind, arm_routes, routes_of, routes_under}
+use Rattle.rb_layout.specs.Splits.{Test, IsNone, Route, behind, arm_routes, routes_of, routes_under}
 use Rattle.rb_layout.specs.A7.{FailsTest, Meets}
 use Rattle.rb_agree.specs.declared.tests.Below.{Below}
 use Rattle.rb_agree.specs.declared.tests.Below.TheVariants.{Absent, Passes, Fails}

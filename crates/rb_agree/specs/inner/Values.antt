@@ -1,5 +1,5 @@
 -- Provenances that no value matches together.
-use Rattle.std.specs.Prelude.{◌≡◌, ℕ, List, map, true, Some, slice_get}
+use Rattle.std.specs.Prelude.{◌≡◌, ℕ, List, map, Some, slice_get}
 use Rattle.rb_core.specs.declared.value.Value.{Value}
 use Rattle.rb_core.specs.declared.pattern.Pat.{Pat}
 use Rattle.rb_layout.specs.declared.layout.Leaf.{Leaf}

@@ -1,4 +1,4 @@
-use Rattle.std.proofs.Common.{◌≡◌, ◌^◌, ◌∙◌, sym, arith}
+use Rattle.std.proofs.Common.{◌≡◌, ◌^◌, ◌∙◌, sym}
 use borrow.Author.Count.{below_more}
 use Rattle.rb_agree.proofs.PointerParts.{power-more, small-more, no-power}
 use Rattle.rb_agree.proofs.blocks.bits_saved.Goals as goal

@@ -1,4 +1,4 @@
-use Rattle.std.proofs.Common.{◌≡◌, ◌≤◌, Some, subst, ap, arith, length, sym}
+use Rattle.std.proofs.Common.{subst, ap, arith, length}
 use Rattle.std.specs.Prelude.{MatchOption}
 use Rattle.rb_agree.specs.inner.Blocks.{ArePointersFine, FailsPointers, HasWidth, FailsWidth}
 use Rattle.rb_agree.specs.inner.Lists.{EachOf, SomeOf}

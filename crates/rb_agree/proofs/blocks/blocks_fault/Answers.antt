@@ -1,4 +1,4 @@
-use Rattle.std.proofs.Common.{◌≡◌, ◌≤◌, subst, arith}
+use Rattle.std.proofs.Common.{subst, arith}
 use Rattle.std.specs.Prelude.{MatchOption}
 use Rattle.rb_layout.specs.declared.layout.Block.{Block}
 use Rattle.rb_agree.specs.inner.Blocks.{ArePointersFine, FailsPointers, FailsBlock, IsBlock}

@@ -1,5 +1,4 @@
-use Rattle.std.proofs.Common.{subst}
-use Rattle.rb_agree.proofs.Lists.{before-more, before-all, at-item}
+use Rattle.rb_agree.proofs.Lists.{before-more, before-all}
 use Rattle.rb_agree.specs.inner.Blocks.{IsBlock}
 use Rattle.rb_agree.proofs.blocks.each_block_fault.Goals as goal
 

@@ -1,5 +1,5 @@
 use Rattle.std.proofs.Common.{subst}
-use Rattle.rb_agree.proofs.Lists.{before-more, before-all, at-item}
+use Rattle.rb_agree.proofs.Lists.{before-more, before-all}
 use Rattle.rb_layout.specs.declared.layout.FlatWord.{FlatWord}
 use Rattle.rb_agree.specs.inner.Blocks.{ArePartsFine}
 use Rattle.rb_agree.proofs.blocks.pointers_fault.Goals as goal

@@ -1,5 +1,5 @@
-use Rattle.std.proofs.Common.{subst, refl}
-use Rattle.rb_agree.proofs.Lists.{before-more, before-all, at-item}
+use Rattle.std.proofs.Common.{refl}
+use Rattle.rb_agree.proofs.Lists.{before-more, before-all}
 use Rattle.rb_agree.specs.inner.Blocks.{HasWidth}
 use Rattle.rb_agree.proofs.blocks.width_fault.Goals as goal
 

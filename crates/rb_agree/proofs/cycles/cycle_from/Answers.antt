@@ -1,5 +1,5 @@
-use Rattle.std.proofs.Common.{◌≡◌, ℕ, ap, sym, ◌∙◌, subst, arith}
-use Rattle.rb_agree.specs.inner.Ways.{State, state, added}
+use Rattle.std.proofs.Common.{sym}
+use Rattle.rb_agree.specs.inner.Ways.{state}
 use Rattle.rb_agree.proofs.Searching.{no-row, search-init, found-branch, next-branch, no-cycle, not-within}
 use Rattle.rb_agree.proofs.cycles.cycle_from.Goals as goal
 

@@ -1,4 +1,4 @@
-use Rattle.std.proofs.Common.{◌≡◌, ℕ, ap, sym, ◌∙◌, ◌+◌, drop, get_or}
+use Rattle.std.proofs.Common.{◌≡◌, ap, sym, ◌∙◌, ◌+◌, drop, get_or}
 use Rattle.std.proofs.lemmas.Option.{slice_get-get_or}
 use Rattle.rb_agree.specs.inner.Ways.{State, all_added}
 use Rattle.rb_agree.proofs.Lists.{before-next, before-all}

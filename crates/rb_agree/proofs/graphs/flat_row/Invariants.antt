@@ -1,4 +1,4 @@
-use Rattle.std.proofs.Common.{◌≡◌, ◌++◌, map, drop}
+use Rattle.std.proofs.Common.{◌≡◌, ◌++◌, drop}
 use Rattle.std.specs.List.{flat_map}
 use Rattle.rb_agree.specs.Graphs.{leaf_types}
 use Rattle.rb_agree.proofs.graphs.flat_row.Given as goal

@@ -1,5 +1,4 @@
 use Rattle.std.proofs.Common.{◌≡◌, ◌++◌, map, drop}
-use Rattle.std.specs.List.{flat_map}
 use Rattle.rb_agree.specs.Graphs.{flat_row}
 use Rattle.rb_agree.proofs.graphs.flattened.Given as goal
 

@@ -1,4 +1,3 @@
-use Rattle.std.proofs.Common.{Some}
 use Rattle.rb_layout.specs.declared.layout.Leaf.{Leaf}
 use Rattle.rb_agree.specs.Pointing.{LeafPoints}
 use Rattle.rb_agree.proofs.Lists.{at-item, before-more, before-all}

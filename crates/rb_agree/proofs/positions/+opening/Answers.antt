@@ -1,4 +1,4 @@
-use Rattle.std.proofs.Common.{◌≡◌, ◌∷◌, ◌++◌, [], ℕ, List, map, Some, ap, sym, ◌∙◌}
+use Rattle.std.proofs.Common.{◌∷◌, ◌++◌, [], ℕ, List, map, ap, ◌∙◌}
 use Rattle.rb_layout.specs.Positions.{opens_below, opens_of}
 use Rattle.rb_agree.specs.Placed.{shown_places, under}
 use Rattle.rb_agree.proofs.Lists.{at-item}

@@ -1,4 +1,4 @@
-use Rattle.std.proofs.Common.{◌≡◌, ap, subst, ◌∙◌, arith, length, sym, Some, get_or, List}
+use Rattle.std.proofs.Common.{◌≡◌, subst, arith, sym, Some, get_or, List}
 use Rattle.std.proofs.lemmas.Option.{slice_get-get_or}
 use Rattle.rb_layout.specs.declared.layout.FlatWord.{FlatWord}
 use Rattle.std.specs.Prelude.{slice_get}
@@ -19,11 +19,10 @@ returns c =
 pub returns-then-width-wanted : goal.returns-then-width-wanted
 returns-then-width-wanted c =
     let root = c.as_slice-root.result.now in
-    let n = c.in_ok-number_of.ensures in
-    (
-    subst (λ k. slice_get (widths_of c.args.leaf.now.root) k ≡ Some (get_or root c.loop-i.i c.index-root-i.result).width) (sym n)
-    (subst (λ (ws : List FlatWord). slice_get (widths_of ws) c.loop-i.i ≡ Some (get_or root c.loop-i.i c.index-root-i.result).width) c.as_slice-root.ensures
-    (width-found root c.loop-i.i c.index-root-i.result c.loop-i-test.true)),
-    subst (λ k. slice_get c.args.shape.now k ≡ Some (get_or c.args.shape.now c.loop-i.i 0)) (sym n) (slice_get-get_or c.args.shape.now c.loop-i.i 0 (omega arith)),
-    c.if-width-wanted.true,
+    let n = c.in_ok-number_of.ensures in (
+      subst (λ k. slice_get (widths_of c.args.leaf.now.root) k ≡ Some (get_or root c.loop-i.i c.index-root-i.result).width) (sym n)
+          (subst (λ (ws : List FlatWord). slice_get (widths_of ws) c.loop-i.i ≡ Some (get_or root c.loop-i.i c.index-root-i.result).width) c.as_slice-root.ensures
+          (width-found root c.loop-i.i c.index-root-i.result c.loop-i-test.true)),
+      subst (λ k. slice_get c.args.shape.now k ≡ Some (get_or c.args.shape.now c.loop-i.i 0)) (sym n) (slice_get-get_or c.args.shape.now c.loop-i.i 0 (omega arith)),
+      c.if-width-wanted.true,
     )

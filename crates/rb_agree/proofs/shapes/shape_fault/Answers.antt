@@ -1,8 +1,7 @@
-use Rattle.std.proofs.Common.{◌≡◌, Some, subst, sym, refl, length, ◌≤◌, ◌+◌, arith}
-use Rattle.std.specs.Prelude.{slice_get}
+use Rattle.std.proofs.Common.{subst, sym, refl, length, ◌≤◌, ◌+◌}
 use Rattle.std.proofs.lemmas.Option.{slice_get-get_or}
 use Rattle.rb_layout.specs.A1.{IsShapeWidth}
-use Rattle.rb_agree.specs.inner.Lists.{EachOf, EachBefore}
+use Rattle.rb_agree.specs.inner.Lists.{EachBefore}
 use Rattle.rb_agree.proofs.Lists.{before-next, before-all}
 use Rattle.rb_agree.proofs.shapes.shape_fault.Goals as goal
 

@@ -1,6 +1,5 @@
-use Rattle.std.proofs.Common.{Some, None, Option, refl, sym, subst, ◌∙◌, ap}
+use Rattle.std.proofs.Common.{Some, None, Option, subst, ◌∙◌, ap}
 use Rattle.std.specs.Prelude.{is_some}
-use Rattle.rb_core.specs.declared.layout_decl.Loc.{Loc}
 use Rattle.rb_layout.specs.declared.evidence.Why.{Why}
 use Rattle.rb_layout.specs.declared.layout.FlatTree as F
 use Rattle.rb_layout.specs.declared.layout.FlatTree.{FlatTree}

@@ -1,11 +1,11 @@
-use Rattle.std.proofs.Common.{List, Some, None, Option, refl, sym, subst, ◌∙◌, ap}
+use Rattle.std.proofs.Common.{List, Option, sym, subst, ◌∙◌, ap}
 use Rattle.rb_layout.specs.declared.layout.FlatTree as F
 use Rattle.rb_layout.specs.declared.layout.FlatTree.{FlatTree}
 use Rattle.rb_layout.specs.declared.layout.FlatArm.{FlatArm}
 use Rattle.rb_layout.specs.Splits.{routes_of}
 use Rattle.rb_agree.specs.declared.tests.Below.{Below}
 use Rattle.rb_agree.specs.inner.Tests.{IsBelow, both, status_of}
-use Rattle.rb_agree.proofs.Testing.{B, leaf-here, next-absent, next-passes, next-fails, all-done, split-fails, split-only, split-else, else-absent, else-passes, else-fails}
+use Rattle.rb_agree.proofs.Testing.{leaf-here, next-absent, next-passes, next-fails, all-done, split-fails, split-only, split-else, else-absent, else-passes, else-fails}
 use Rattle.rb_agree.proofs.tests.+testing.Goals as goal
 use Rattle.rb_agree.proofs.tests.+testing.Goals.{in-Absent, in-Passes}
 

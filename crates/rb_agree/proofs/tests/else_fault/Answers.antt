@@ -1,4 +1,3 @@
-use Rattle.std.proofs.Common.{refl, sym}
 use Rattle.rb_layout.specs.declared.layout.FlatArm.{FlatArm}
 use Rattle.rb_layout.specs.Excluded.{Excludes}
 use Rattle.rb_agree.proofs.Lists.{before-more, before-all, at-item}
@@ -21,5 +20,5 @@ pub returns : goal.returns
 returns c = (
   resolves c.args.leaf.now c.args.loc.now c.resolve_loc.result c.resolve_loc.ensures c.if-is_none.ensures,
   all-excluded c.args.types.now c.args.layouts.now c.args.leaf.now c.args.loc.now c.args.arms.now
-  (before-all (λ (a : FlatArm). Excludes c.args.types.now c.args.layouts.now c.args.leaf.now c.args.loc.now a.literal) c.args.arms.now c.loop-arm.arm-index c.loop-arm-test.false c.loop-arm.invariant),
+      (before-all (λ (a : FlatArm). Excludes c.args.types.now c.args.layouts.now c.args.leaf.now c.args.loc.now a.literal) c.args.arms.now c.loop-arm.arm-index c.loop-arm-test.false c.loop-arm.invariant),
 )

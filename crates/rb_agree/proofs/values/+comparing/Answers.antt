@@ -1,7 +1,3 @@
-use Rattle.std.proofs.Common.{List, Bool, true, false, subst}
-use Rattle.std.specs.Bool.{OnTrue}
-use Rattle.rb_core.specs.declared.pattern.Pat.{Pat}
-use Rattle.rb_agree.specs.inner.Values.{AreDifferent, HaveDifferent}
 use Rattle.rb_agree.proofs.Covering.{differ-where}
 use Rattle.rb_agree.proofs.values.+comparing.Goals as goal
 
