@@ -106,7 +106,8 @@ fn block_fault(block: &Block) -> Option<Why>
 }
 
 fn each_block_fault(blocks: &[Block]) -> Option<Why>
-    ensures { MatchOption result (EachOf IsBlock blocks.now) (λ why. SomeOf (λ block. FailsBlock block why) blocks.now) }
+    ensures { MatchOption result
+        (EachOf IsBlock blocks.now) (λ why. SomeOf (λ block. FailsBlock block why) blocks.now) }
 {
     for block in blocks {
         if let Some(why) = block_fault(block) {

@@ -77,7 +77,8 @@ fn follow(
     found: &mut Seq<Way>,
 ) -> Result<bool, AllocError>
     ensures leads { IfOk result (λ b. MatchBool b (HasEdge edges.now start) (HasNoEdge edges.now start)) }
-    ensures added { IfOk result (λ b. MatchBool b (Unit {0}) (state marks.new found.new ≡ all_added way.now edges.now (state marks.old found.old))) }
+    ensures added { IfOk result (λ b. MatchBool b
+        (Unit {0}) (state marks.new found.new ≡ all_added way.now edges.now (state marks.old found.old))) }
 {
     for next in edges {
         if *next == start {
@@ -99,7 +100,8 @@ pub fn cycle_from(
     graph: &[Seq<u32>],
     start: u32,
 ) -> Result<Option<Seq<u32>>, AllocError>
-    ensures { IfOk result (λ r. MatchOption r (HasNoCycle (Leads graph.now) start) (IsCycleFrom (Leads graph.now) start)) }
+    ensures { IfOk result (λ r. MatchOption r
+        (HasNoCycle (Leads graph.now) start) (IsCycleFrom (Leads graph.now) start)) }
 {
     if start as usize >= graph.len() {
         return Ok(None);

@@ -171,7 +171,8 @@ pub fn flattening_fault(
     ty: u32,
 ) -> Result<Option<Why>, AllocError>
     requires { IsGraphOf (Flattens layouts.now) graph.now }
-    ensures { IfOk result (λ found. MatchOption found (HasNoCycle (Flattens layouts.now) ty) (FailsFlattening layouts.now ty)) }
+    ensures { IfOk result (λ found. MatchOption found
+        (HasNoCycle (Flattens layouts.now) ty) (FailsFlattening layouts.now ty)) }
 {
     match cycle_from(alloc, graph, ty)? {
         None => Ok(None),
@@ -193,7 +194,8 @@ pub fn holding_fault(
     ty: u32,
 ) -> Result<Option<Why>, AllocError>
     requires { IsGraphOf (HoldsField types.now layouts.now) graph.now }
-    ensures { IfOk result (λ found. MatchOption found (HasNoCycle (HoldsField types.now layouts.now) ty) (FailsHolding types.now layouts.now ty)) }
+    ensures { IfOk result (λ found. MatchOption found
+        (HasNoCycle (HoldsField types.now layouts.now) ty) (FailsHolding types.now layouts.now ty)) }
 {
     match cycle_from(alloc, graph, ty)? {
         None => Ok(None),

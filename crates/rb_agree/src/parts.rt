@@ -100,7 +100,8 @@ fn fit_fault(
     i: u32,
     part: &Written,
 ) -> Result<Option<Why>, AllocError>
-    ensures { IfOk result (λ found. MatchOption found (Fits decls.now (open_positions types.now prov.now) part.now.l (shown_content part.now.content))
+    ensures { IfOk result (λ found. MatchOption found
+        (Fits decls.now (open_positions types.now prov.now) part.now.l (shown_content part.now.content))
         (FailsFit decls.now (open_positions types.now prov.now) i (shown_part part.now))) }
 {
     match &part.content {
@@ -149,7 +150,8 @@ fn part_fault(
     width: u64,
     part: &Written,
 ) -> Result<Option<Why>, AllocError>
-    ensures { IfOk result (λ found. MatchOption found (IsPartFine decls.now (open_positions types.now prov.now) width (shown_part part.now))
+    ensures { IfOk result (λ found. MatchOption found
+        (IsPartFine decls.now (open_positions types.now prov.now) width (shown_part part.now))
         (FailsPart decls.now (open_positions types.now prov.now) i width (shown_part part.now))) }
 {
     if !is_placed(types, prov, &part.content) {
@@ -171,7 +173,8 @@ fn each_fault(
     width: u64,
     parts: &[Written],
 ) -> Result<Option<Why>, AllocError>
-    ensures { IfOk result (λ found. MatchOption found (AreFine decls.now (open_positions types.now prov.now) width parts.now)
+    ensures { IfOk result (λ found. MatchOption found
+        (AreFine decls.now (open_positions types.now prov.now) width parts.now)
         (FailsSome decls.now (open_positions types.now prov.now) i width parts.now)) }
 {
     for part in parts {
@@ -204,7 +207,9 @@ fn pair_fault(i: u32, p: &Written, q: &Written) -> Option<Why>
 fn before_fault(types: &[DataDecl], prov: &Pat, i: u32, parts: &[Written], k: usize) -> Option<Why>
     requires within { k < length parts.now }
     requires some { HaveBits (open_positions types.now prov.now) parts.now }
-    ensures { MatchOption result (IsApartBefore (open_positions types.now prov.now) parts.now k) (FailsBefore (open_positions types.now prov.now) i parts.now k) }
+    ensures { MatchOption result
+        (IsApartBefore (open_positions types.now prov.now) parts.now k)
+        (FailsBefore (open_positions types.now prov.now) i parts.now k) }
 {
     let part = &parts[k];
     if !is_placed(types, prov, &part.content) {
@@ -224,7 +229,9 @@ fn before_fault(types: &[DataDecl], prov: &Pat, i: u32, parts: &[Written], k: us
 // How two parts of a word have a bit in common.
 fn overlap_fault(types: &[DataDecl], prov: &Pat, i: u32, parts: &[Written]) -> Option<Why>
     requires { HaveBits (open_positions types.now prov.now) parts.now }
-    ensures { MatchOption result (AreApart (open_positions types.now prov.now) parts.now) (FailsApart (open_positions types.now prov.now) i parts.now) }
+    ensures { MatchOption result
+        (AreApart (open_positions types.now prov.now) parts.now)
+        (FailsApart (open_positions types.now prov.now) i parts.now) }
 {
     for k in 0..parts.len() {
         if let Some(why) = before_fault(types, prov, i, parts, k) {
@@ -244,7 +251,8 @@ fn word_fault(
     width: u64,
     parts: &[Written],
 ) -> Result<Option<Why>, AllocError>
-    ensures { IfOk result (λ found. MatchOption found (PartsFit decls.now (open_positions types.now prov.now) width (shown_parts parts.now))
+    ensures { IfOk result (λ found. MatchOption found
+        (PartsFit decls.now (open_positions types.now prov.now) width (shown_parts parts.now))
         (FailsWord decls.now (open_positions types.now prov.now) i width (shown_parts parts.now))) }
 {
     if let Some(why) = each_fault(alloc, types, decls, prov, i, width, parts)? {
@@ -268,7 +276,8 @@ pub fn item_fault(
     i: u32,
     item: &Item,
 ) -> Result<Option<Why>, AllocError>
-    ensures { IfOk result (λ found. MatchOption found (ItemFits decls.now (open_positions types.now prov.now) (shown_item item.now))
+    ensures { IfOk result (λ found. MatchOption found
+        (ItemFits decls.now (open_positions types.now prov.now) (shown_item item.now))
         (FailsItem decls.now (open_positions types.now prov.now) i (shown_item item.now))) }
 {
     match item {

@@ -42,7 +42,8 @@ fn add_places(
     path: &Seq<u32>,
     out: &mut Seq<Place>,
 ) -> Result<(), AllocError>
-    ensures { OnOk result (shown_places out.new ≡ shown_places out.old ++ map (under path.now) (opens_of types.now pat.now ty)) }
+    ensures { OnOk result (shown_places out.new
+        ≡ shown_places out.old ++ map (under path.now) (opens_of types.now pat.now ty)) }
 {
     match pat {
         Pat::Num(_, _) => Ok(()),

@@ -38,7 +38,8 @@ fn shape_fault(decl: &LayoutDecl) -> Result<Option<Why>, AllocError>
 ///
 /// Want of memory.
 pub fn decl_fault(decl: Option<&LayoutDecl>) -> Result<Option<Why>, AllocError>
-    ensures { IfOk result (λ found. MatchOption found (HasShape (option_copied decl.entry)) (FailsShape (option_copied decl.entry))) }
+    ensures { IfOk result (λ found. MatchOption found
+        (HasShape (option_copied decl.entry)) (FailsShape (option_copied decl.entry))) }
 {
     match decl {
         None => Ok(Some(Why::NoLayout)),

@@ -67,7 +67,8 @@ fn split_fault(
     arms: &[FlatArm],
     has_else: bool,
 ) -> Result<Option<Why>, AllocError>
-    ensures { IfOk result (λ found. MatchOption found (SplitsWell (split_of loc.now arms.now has_else)) (FailsSplit (split_of loc.now arms.now has_else))) }
+    ensures { IfOk result (λ found. MatchOption found
+        (SplitsWell (split_of loc.now arms.now has_else)) (FailsSplit (split_of loc.now arms.now has_else))) }
 {
     let literals = literals_of(alloc, arms)?;
     if let Some(literal) = wide_literal(literals.as_slice(), length_of(loc)) {

@@ -62,7 +62,8 @@ fn else_fault(
     arms: &[FlatArm],
 ) -> Result<Option<Why>, AllocError>
     requires { IsReadable leaf.now }
-    ensures { IfOk result (λ found. MatchOption found (Meets types.now layouts.now leaf.now (IsNone loc.now (literals_in arms.now)))
+    ensures { IfOk result (λ found. MatchOption found
+        (Meets types.now layouts.now leaf.now (IsNone loc.now (literals_in arms.now)))
         (FailsTest types.now layouts.now leaf.now (IsNone loc.now (literals_in arms.now)))) }
 {
     if resolve_loc(leaf, loc).is_none() {
@@ -195,7 +196,9 @@ pub fn tests_fault(
     leaf: &Leaf,
 ) -> Result<Option<Why>, AllocError>
     requires { IsReadable leaf.now }
-    ensures { IfOk result (λ found. MatchOption found (MeetsAll types.now layouts.now tree.now n leaf.now) (FailsTests types.now layouts.now tree.now n leaf.now)) }
+    ensures { IfOk result (λ found. MatchOption found
+        (MeetsAll types.now layouts.now tree.now n leaf.now)
+        (FailsTests types.now layouts.now tree.now n leaf.now)) }
 {
     match tree_tests(alloc, types, layouts, n, leaf, tree)? {
         Below::Absent => Ok(None),

@@ -41,7 +41,8 @@ pub fn complete_fault(
 ) -> Result<Option<Why>, AllocError>
     requires inhabited { AreInhabited types.now }
     requires ty { IsTypeIn types.now (Tys.Named ty) }
-    ensures { IfOk result (λ found. MatchOption found (IsComplete types.now ty layout.now) (FailsComplete types.now ty layout.now)) }
+    ensures { IfOk result (λ found. MatchOption found
+        (IsComplete types.now ty layout.now) (FailsComplete types.now ty layout.now)) }
 {
     let pats = provenances(alloc, layout.leaves.as_slice())?;
     match exhaust(alloc, types, Ty::Named(ty), pats.as_slice()) {
@@ -98,7 +99,8 @@ fn have_common(
 ) -> Result<bool, AllocError>
     requires inhabited { AreInhabited types.now }
     requires ty { IsTypeIn types.now (Tys.Named ty) }
-    ensures { IfOk result (λ b. MatchBool b (HaveCommon types.now ty one.now other.now) (HaveCommon types.now ty one.now other.now → ⊥)) }
+    ensures { IfOk result (λ b. MatchBool b
+        (HaveCommon types.now ty one.now other.now) (HaveCommon types.now ty one.now other.now → ⊥)) }
 {
     if are_different(one, other) {
         return Ok(false);
@@ -125,7 +127,8 @@ pub fn apart_fault(
     requires inhabited { AreInhabited types.now }
     requires ty { IsTypeIn types.now (Tys.Named ty) }
     requires leaf { n < length layout.now.leaves }
-    ensures { IfOk result (λ found. MatchOption found (IsApart types.now ty layout.now n leaf.now) (FailsApart types.now ty layout.now n leaf.now)) }
+    ensures { IfOk result (λ found. MatchOption found
+        (IsApart types.now ty layout.now n leaf.now) (FailsApart types.now ty layout.now n leaf.now)) }
 {
     let leaves = layout.leaves.as_slice();
     for m in n + 1..leaves.len() {
