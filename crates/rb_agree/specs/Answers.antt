@@ -1,17 +1,11 @@
 -- What checking places in their order answers.
-use Rattle.std.specs.Prelude.{ℕ, List, Option, Some, None}
+use Rattle.std.specs.Prelude.{List, Option, Some, None}
 use Rattle.rb_core.specs.declared.program.Program.{Program}
 use Rattle.rb_layout.specs.declared.layout.Layout.{Layout}
 use Rattle.rb_layout.specs.declared.evidence.Refused.{Refused}
-use Rattle.rb_layout.specs.declared.evidence.Why.{Why}
 use Rattle.rb_layout.specs.Spots.{Spot, Checked, IsRefusal}
 
 -- no refusal where the rule holds at all of the places, and else that of the first at which it fails
 abbrev pub Finds : Program → List Layout → List Spot → Option Refused → Type 0
 Finds p layouts spots None = Checked p layouts spots None
 Finds p layouts spots (Some r) = (s : Spot) × Checked p layouts spots (Some (s, r.why)) × IsRefusal r s r.why
-
--- what is found in a place of this rule, type and leaf
-abbrev pub refusal : ℕ → ℕ → Option ℕ → Option Why → Option Refused
-refusal rule t leaf None = None
-refusal rule t leaf (Some why) = Some (record { rule = rule; ty = t; leaf = leaf; why = why })
