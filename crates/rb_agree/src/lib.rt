@@ -35,9 +35,11 @@
 //! have different constructors in one place are told apart before it is asked.
 #![tactic(auto)]
 
+pub mod agree;
 pub mod blocks;
 mod cycles;
 mod decls;
+pub mod fault;
 pub mod graphs;
 pub mod items;
 mod numbers;
@@ -49,3 +51,5 @@ pub mod shapes;
 pub mod splits;
 pub mod tests;
 pub mod values;
+
+pub use fault::AgreeFault;
