@@ -11,3 +11,4 @@ pub mod Marking
 pub mod Searching
 pub mod Relating
 pub mod Opening
+mod Holding

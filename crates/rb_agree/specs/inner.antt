@@ -5,3 +5,4 @@ pub mod Tests
 pub mod Values
 pub mod Parts
 pub mod Ways
+pub mod Held

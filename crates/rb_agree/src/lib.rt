@@ -41,6 +41,7 @@ mod cycles;
 mod decls;
 pub mod fault;
 pub mod graphs;
+pub mod held;
 pub mod items;
 mod numbers;
 pub mod parts;
