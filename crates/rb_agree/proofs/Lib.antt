@@ -12,3 +12,6 @@ pub mod Searching
 pub mod Relating
 pub mod Opening
 mod Holding
+mod Reading
+mod Ruling
+mod Agreeing

@@ -6,3 +6,5 @@ pub mod Values
 pub mod Parts
 pub mod Ways
 pub mod Held
+pub mod Leaves
+pub mod Rules
