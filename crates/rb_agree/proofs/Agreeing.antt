@@ -1,7 +1,7 @@
 -- From what the rules find to agreement, and to the first place that fails.
 use Rattle.std.proofs.Common.{◌≡◌, ℕ, zero, suc, ◌+◌, ◌<◌, ◌≤◌, List, [], ◌∷◌, ◌++◌, length, Bool, true, false, Option, Some, None, Result, IfOk, refl, sym, ap, subst, ◌∙◌, arith}
 use Rattle.std.specs.Prelude.{slice_get, nat_lt, nat_le, ◌&&◌, ◌==◌, if◌then◌else◌}
-use Rattle.std.specs.List.{flat_map, list_all}
+use Rattle.std.specs.List.{list_all}
 use Rattle.std.proofs.lemmas.Bool.{leb-true}
 use Rattle.std.proofs.lemmas.List.{append-nil, append_assoc}
 use Rattle.std.proofs.lemmas.List.Concat.{flat_map-append}
@@ -16,7 +16,7 @@ use Rattle.rb_layout.specs.declared.layout.Layout.{Layout}
 use Rattle.rb_layout.specs.declared.layout.Leaf.{Leaf}
 use Rattle.rb_layout.specs.declared.evidence.Refused.{Refused}
 use Rattle.rb_layout.specs.A1.{A1, HasShape}
-use Rattle.rb_layout.specs.Agreement.{Agrees, AreAgreed, Obeys}
+use Rattle.rb_layout.specs.Agreement.{AreAgreed}
 use Rattle.rb_layout.specs.Each.{EachLeaf}
 use Rattle.rb_layout.specs.Flattening.{AreInOrder, HaveLayouts, decl_of, flat_layout, flat_layouts}
 use Rattle.rb_layout.specs.Positions.{layout_of}

@@ -1,9 +1,8 @@
 -- What the parts of a leaf hold of an open position, counted by runs; and the paths that items name.
-use Rattle.std.proofs.Common.{◌≡◌, ℕ, ◌+◌, ◌<◌, ◌≤◌, inl, inr, List, [], ◌∷◌, ◌++◌, map, length, Bool, true, false, Option, Some, None, Result, Ok, Err, IfOk, refl, sym, ap, subst, ◌∙◌, arith}
-use Rattle.std.specs.Prelude.{◌&&◌, ◌==◌, leb, ltb, sum, slice_get, MatchOption, if◌then◌else◌}
+use Rattle.std.proofs.Common.{◌≡◌, ℕ, ◌+◌, ◌<◌, List, [], ◌∷◌, ◌++◌, map, Bool, true, false, Option, Some, None, Result, Ok, Err, IfOk, refl, sym, ap, subst, ◌∙◌, arith}
+use Rattle.std.specs.Prelude.{◌&&◌, ◌==◌, leb, ltb, sum, MatchOption, if◌then◌else◌}
 use Rattle.std.specs.List.{flat_map}
 use Rattle.std.proofs.lemmas.List.Sums.{sum_by-cons}
-use Rattle.std.proofs.lemmas.Bool.{eqb-true, eq-eqb, cases_lt, lt-ltb, le-leb}
 use Rattle.rb_core.specs.declared.types.DataDecl.{DataDecl}
 use Rattle.rb_core.specs.declared.types.Ty.{Ty}
 use Rattle.rb_core.specs.declared.types.Ty.TheVariants.{Int, Named}
@@ -27,7 +26,7 @@ use Rattle.rb_agree.specs.declared.positions.Place.{Place}
 use Rattle.rb_agree.specs.Placed.{shown_place, shown_places}
 use Rattle.rb_agree.specs.Written.{shown_item, shown_items, shown_part}
 use Rattle.rb_agree.specs.inner.Lists.{EachOf, SomeOf, FindsIn}
-use Rattle.rb_agree.specs.inner.Held.{AreOnce, FailsEach, FailsPath, FailsPlace, FailsUnits, HoldsPlace, IsOpenPath, block_runs, has_unit, kind_runs, leaf_runs, part_paths, part_runs, run_if, times, word_runs}
+use Rattle.rb_agree.specs.inner.Held.{AreOnce, FailsEach, FailsPath, FailsPlace, FailsUnits, HoldsPlace, IsOpenPath, block_runs, kind_runs, leaf_runs, part_paths, part_runs, run_if, times, word_runs}
 use Rattle.rb_agree.proofs.Lists.{each-first, each-map, each-none, some-first, some-map}
 
 none_more : (n : ℕ) → n + 0 ≡ n

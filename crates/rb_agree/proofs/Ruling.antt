@@ -1,11 +1,10 @@
 -- The places of rules, and what is found in them.
-use Rattle.std.proofs.Common.{◌≡◌, ℕ, zero, suc, ◌+◌, ◌<◌, ◌≤◌, List, [], ◌∷◌, ◌++◌, map, length, drop, get_or, add-one, drop-cons, Option, Some, None, Result, Ok, Err, IfOk, refl, sym, ap, subst, ◌∙◌, arith}
+use Rattle.std.proofs.Common.{◌≡◌, ℕ, ◌+◌, ◌<◌, ◌≤◌, List, [], ◌∷◌, ◌++◌, length, drop, get_or, add-one, Option, Some, None, Result, IfOk, refl, sym, ap, subst, ◌∙◌}
 use Rattle.std.specs.Prelude.{slice_get, MatchOption}
 use Rattle.std.specs.List.{flat_map}
 use Rattle.std.proofs.lemmas.Bool.{lt-ltb}
-use Rattle.std.proofs.lemmas.List.{append-nil, append_assoc, drop_all, length-map}
-use Rattle.std.proofs.lemmas.List.Concat.{flat_map-append}
-use Rattle.std.proofs.lemmas.Option.{same_Some, slice_get_within}
+use Rattle.std.proofs.lemmas.List.{drop_all, length-map}
+use Rattle.std.proofs.lemmas.Option.{slice_get_within}
 use Rattle.rb_core.specs.declared.program.Program.{Program}
 use Rattle.rb_core.specs.declared.types.DataDecl.{DataDecl}
 use Rattle.rb_core.specs.declared.types.Ty.TheVariants.{Named}
@@ -24,7 +23,7 @@ use Rattle.rb_layout.proofs.Walks.{drop_from}
 use Rattle.rb_matrix.specs.Search.{AreInhabited, IsTypeIn}
 use Rattle.rb_agree.specs.declared.items.Item as D
 use Rattle.rb_agree.specs.declared.rules.Rule.{Rule}
-use Rattle.rb_agree.specs.declared.rules.Rule.TheVariants.{Roots, Parts, Blocks, Values, Fields, Tests, Splits, Flattening, Holding}
+use Rattle.rb_agree.specs.declared.rules.Rule.TheVariants.{Parts}
 use Rattle.rb_agree.specs.declared.rules.Related.{Related}
 use Rattle.rb_agree.specs.Written.{shown_item, shown_items}
 use Rattle.rb_agree.specs.Answers.{Finds}

@@ -69,12 +69,7 @@ fn late_fault(
     requires ready { EachOf (IsReady layouts.now) late_rules }
     ensures { IfOk result (Finds program.now layouts.now (rules_spots program.now.layouts layouts.now late_rules)) }
 {
-    let rules = [
-        Rule::Tests,
-        Rule::Splits,
-        Rule::Flattening,
-        Rule::Holding,
-    ];
+    let rules = [Rule::Tests, Rule::Splits, Rule::Flattening, Rule::Holding];
     rules_fault(alloc, program, layouts, related, &rules)
 }
 

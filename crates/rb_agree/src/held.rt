@@ -103,12 +103,7 @@ fn add_words(
     Ok(())
 }
 
-fn add_blocks(
-    blocks: &[Block],
-    ty: Ty,
-    path: &[u32],
-    runs: &mut Seq<Run>,
-) -> Result<(), AllocError>
+fn add_blocks(blocks: &[Block], ty: Ty, path: &[u32], runs: &mut Seq<Run>) -> Result<(), AllocError>
     ensures { OnOk result (runs.new ≡ runs.old ++ flat_map (block_runs ty path.now) blocks.now) }
 {
     for block in blocks {
@@ -227,11 +222,7 @@ fn some_place_fault(
 }
 
 // How some open position fails to be held once.
-fn places_fault(
-    alloc: Global,
-    program: &Program,
-    leaf: &Leaf,
-) -> Result<Option<Why>, AllocError>
+fn places_fault(alloc: Global, program: &Program, leaf: &Leaf) -> Result<Option<Why>, AllocError>
     ensures { IfOk result (λ found. MatchOption found
         (HoldsEach program.now leaf.now) (FailsEach program.now leaf.now)) }
 {

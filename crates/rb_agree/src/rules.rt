@@ -267,9 +267,15 @@ fn rule_fault(
 {
     for t in 0..layouts.len() {
         let ty = number_of(t)?;
-        if let Some(refused) =
-            layout_fault(alloc, program, layouts, related, rule, ty, &layouts[t])?
-        {
+        if let Some(refused) = layout_fault(
+            alloc,
+            program,
+            layouts,
+            related,
+            rule,
+            ty,
+            &layouts[t],
+        )? {
             return Ok(Some(refused));
         }
     }

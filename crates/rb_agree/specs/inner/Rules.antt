@@ -1,5 +1,5 @@
 -- The rules behind that on shapes, each with its places.
-use Rattle.std.specs.Prelude.{◌≡◌, ℕ, ◌<◌, List, [], ◌∷◌, ◌++◌, length, Option, Some, None}
+use Rattle.std.specs.Prelude.{◌≡◌, ℕ, List, [], ◌∷◌, ◌++◌, length, Option, Some, None}
 use Rattle.std.specs.List.{flat_map}
 use Rattle.rb_core.specs.declared.layout_decl.LayoutDecl.{LayoutDecl}
 use Rattle.rb_core.specs.declared.program.Program.{Program}

@@ -1,7 +1,6 @@
 use Rattle.std.proofs.Common.{sym, subst, ◌∙◌}
 use Rattle.rb_core.specs.declared.program.Program.{Program}
 use Rattle.rb_core.specs.TypedPrograms.{IsTyped}
-use Rattle.rb_layout.specs.Flattening.{AreInOrder}
 use Rattle.rb_agree.proofs.Agreeing.{all-agreed, have-all, in-order-as, refused-later, refused-shape, shapes-all}
 use Rattle.rb_agree.proofs.agree.agree.Goals as goal
 

@@ -1,4 +1,3 @@
-use Rattle.rb_agree.specs.declared.positions.Place.{Place}
 use Rattle.rb_agree.proofs.Lists.{before-more, before-all}
 use Rattle.rb_agree.proofs.Holding.{ShownFails, ShownHolds, where-none}
 use Rattle.rb_agree.proofs.held.some_place_fault.Goals as goal

@@ -1,4 +1,3 @@
-use Rattle.std.proofs.Common.{arith}
 use Rattle.rb_agree.proofs.Lists.{at-item}
 use Rattle.rb_agree.proofs.Ruling.{item-fails, item-passes, items-end}
 use Rattle.rb_agree.proofs.rules.items_fault.Goals as goal

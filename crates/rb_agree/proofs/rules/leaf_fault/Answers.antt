@@ -1,4 +1,4 @@
-use Rattle.std.proofs.Common.{Bool, ℕ, List, Option, IfOk, refl, sym, ap, subst, ◌∙◌}
+use Rattle.std.proofs.Common.{Bool, ℕ, List, Option, IfOk, refl, sym, subst}
 use Rattle.std.specs.Prelude.{MatchOption}
 use Rattle.rb_core.specs.declared.types.DataDecl.{DataDecl}
 use Rattle.rb_layout.specs.A2.{FailsRoot, HasRoot}
@@ -8,7 +8,7 @@ use Rattle.rb_layout.specs.Items.{Item}
 use Rattle.rb_layout.specs.A7.{FailsTests, MeetsAll}
 use Rattle.rb_layout.specs.Spots as S
 use Rattle.rb_layout.specs.declared.evidence.Why.{Why}
-use Rattle.rb_agree.specs.declared.rules.Rule.TheVariants.{Roots, Parts, Blocks, Values, Fields, Tests, Splits, Flattening, Holding}
+use Rattle.rb_agree.specs.declared.rules.Rule.TheVariants.{Roots, Blocks, Values, Fields, Tests, Splits, Flattening, Holding}
 use Rattle.rb_agree.specs.inner.Rules.{IsReady}
 use Rattle.rb_agree.specs.Pointing.{AreMarks}
 use Rattle.rb_agree.specs.Written.{shown_items}
