@@ -1,0 +1,10 @@
+pub mod Lists
+pub mod Blocks
+pub mod Splits
+pub mod Tests
+pub mod Values
+pub mod Parts
+pub mod Ways
+pub mod Held
+pub mod Leaves
+pub mod Rules
