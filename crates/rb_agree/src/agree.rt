@@ -83,7 +83,8 @@ fn layouts_fault(
     requires shapes { A1 program.now }
     requires order { AreInOrder program.now layouts.now }
     ensures { IfOk result (Finds program.now layouts.now
-        (rules_spots program.now.layouts layouts.now early_rules ++ rules_spots program.now.layouts layouts.now late_rules)) }
+        (rules_spots program.now.layouts layouts.now early_rules
+        ++ rules_spots program.now.layouts layouts.now late_rules)) }
 {
     let related = related(alloc, program, layouts)?;
     if let Some(refused) = early_fault(alloc, program, layouts, &related)? {

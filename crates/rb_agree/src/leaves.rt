@@ -36,7 +36,8 @@ fn add_tree(alloc: Global, tree: &LayTree, out: &mut Seq<Seq<Item>>) -> Result<(
 
 #[cycle(reading)]
 fn add_arms(alloc: Global, arms: &[Arm], out: &mut Seq<Seq<Item>>) -> Result<(), AllocError>
-    ensures { OnOk result (shown_leaves out.new ≡ shown_leaves out.old ++ items_under (flat_map leaves_under arms.now)) }
+    ensures { OnOk result
+        (shown_leaves out.new ≡ shown_leaves out.old ++ items_under (flat_map leaves_under arms.now)) }
 {
     for arm in arms {
         add_tree(alloc, &arm.under, out)?;
