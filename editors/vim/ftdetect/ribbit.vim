@@ -1,0 +1,1 @@
+autocmd BufRead,BufNewFile *.rib set filetype=ribbit
