@@ -7,4 +7,5 @@ pub mod LeafShowing
 pub mod PlaceLemmas
 pub mod PostLemmas
 pub mod TableLemmas
+pub mod TodoLemmas
 pub mod WaitLemmas

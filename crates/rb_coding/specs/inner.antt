@@ -2,3 +2,4 @@ pub mod Filling
 pub mod Making
 pub mod Nodes
 pub mod Packing
+pub mod Todo
