@@ -54,7 +54,7 @@ module _ (p : Program) (m : Memory) where
   runs_pop [] s old new (mid, same, after) = (new, subst (λ vs. After p m s vs new) (sym same) after, refl)
   runs_pop (r ∷ rest) s old new (mid, runs, after) = let h = runs_pop rest s old mid runs in (h.0, h.1, (mid, h.2, after))
 
-  runs_more : (rest ss : List Step) (old mid new : List Value) → Runs p m rest mid new → Runs p m ss old mid → Runs p m (rest ++ ss) old new
+  pub runs_more : (rest ss : List Step) (old mid new : List Value) → Runs p m rest mid new → Runs p m ss old mid → Runs p m (rest ++ ss) old new
   runs_more [] ss old mid new same runs = subst (λ vs. Runs p m ss old vs) same runs
   runs_more (r ∷ rest) ss old mid new (x, runs, after) first = (x, runs_more rest ss old mid x runs first, after)
 
