@@ -35,7 +35,7 @@ use Rattle.rb_rel.proofs.Known.{ltb_is}
 use Rattle.rb_rel.proofs.Layers.{Sound, sound, stored, made, numbered, layer_shown, can_hold, fits_at, address_at}
 use Rattle.rb_rel.proofs.Lists.{get-mapped}
 use Rattle.rb_rel.proofs.Packing.{number_of, packed}
-use Rattle.rb_rel.proofs.Storing.{fill}
+use Rattle.rb_rel.proofs.Storing.{with_blocks}
 use Rattle.rb_coding.specs.inner.Filling.{ArePlaceable, Progress}
 use Rattle.rb_coding.specs.inner.Packing.{put_into, made_of, word_made}
 use Rattle.rb_coding.proofs.GrowLemmas.{fill_same, progress_fits}
@@ -166,7 +166,7 @@ module _ (p : Program) (typed : IsTyped p) (agrees : Agrees p) where
 
     module _ (m : Memory) (good : IsGood m) (ss : List ℕ → List ℕ)
         (shown : (k : ℕ) (o : Open) → slice_get (open_positions types leaf.prov) k ≡ Some o → (u : Value) × (part_at v o.path ≡ Some u) × Represents types layouts m true o.ty u (ss o.path))
-        (bs : List (ℕ × ℕ)) (m' : Memory) (progress : Progress m m' (map request_of leaf.blocks) bs) (is_filled : m' ≡ fill (word_made ss (address_at bs)) m leaf.blocks) where
+        (bs : List (ℕ × ℕ)) (m' : Memory) (progress : Progress m m' (map request_of leaf.blocks) bs) (is_filled : m' ≡ with_blocks (word_made ss (address_at bs)) m leaf.blocks) where
       laid : lay m.limit m.next (map request_of leaf.blocks) ≡ Fits bs m'.next
       laid = progress_fits m m' (map request_of leaf.blocks) bs progress
 
@@ -177,24 +177,24 @@ module _ (p : Program) (typed : IsTyped p) (agrees : Agrees p) where
       reps k o e = let q = shown k o e in (q.0, q.2)
 
       abbrev numbers : FlatWord → ℕ
-      numbers = numbered p agrees t c.layout c.number leaf ok m good ss reps wide bs m'.next laid
+      numbers = numbered p agrees true t c.layout c.number leaf ok m good ss reps wide bs m'.next laid
 
       word_is : (b : Option ℕ) (j : ℕ) (f : FlatWord) → slice_get (words_in leaf b) j ≡ Some f → word_made ss (address_at bs) f ≡ numbers f
       word_is b j f e =
-          let w = fits_at p agrees t c.layout c.number leaf ok m good ss reps wide bs m'.next laid b j f e in
-          let h = can_hold p agrees t c.layout c.number leaf ok m good ss reps wide bs m'.next laid (record { block = b; word = j }) f e w in
+          let w = fits_at p agrees true t c.layout c.number leaf ok m good ss reps wide bs m'.next laid b j f e in
+          let h = can_hold p agrees true t c.layout c.number leaf ok m good ss reps wide bs m'.next laid (record { block = b; word = j }) f e w in
           let n = narrow b j f e in
           made_packed ss (address_at bs) f.parts (λ k q at. (w.some k q at, (let i = w.tidy.inside k q at in omega (arith, i, n)), h.fit k q at))
 
-      same_memory : m' ≡ made p agrees t c.layout c.number leaf ok m good ss reps wide bs m'.next laid
+      same_memory : m' ≡ made p agrees true t c.layout c.number leaf ok m good ss reps wide bs m'.next laid
       same_memory =
           is_filled ∙ fill_same (word_made ss (address_at bs)) numbers m leaf.blocks (λ b block e j f h. word_is (Some b) j f (ap (λ x. slice_get (words_of_block x) j) e ∙ h))
-          ∙ sym (stored p agrees t c.layout c.number leaf ok m good ss reps wide bs m'.next laid).is_filled
+          ∙ sym (stored p agrees true t c.layout c.number leaf ok m good ss reps wide bs m'.next laid).is_filled
 
       -- the value is shown by its leaf's words
       pub leaf_shown : (ws : List ℕ) → ws ≡ map (word_made ss (address_at bs)) leaf.root → Represents types layouts m' true (Named t) v ws
       leaf_shown ws is =
-          let here = layer_shown p agrees t c.layout c.number leaf ok m good ss reps wide bs m'.next laid v c.is_layout c.is_leaf c.is_number (λ path. unwrap_or (part_at v path) v)
+          let here = layer_shown p agrees true t c.layout c.number leaf ok m good ss reps wide bs m'.next laid v c.is_layout c.is_leaf c.is_number (λ path. unwrap_or (part_at v path) v)
           (λ i o at. let q = shown i o at in let x = ap (λ y. unwrap_or y v) q.1 in (q.1 ∙ ap Some (sym x), subst (λ u. Represents types layouts m true o.ty u (ss o.path)) (sym x) q.2)) in
           let words : ws ≡ map numbers leaf.root = is ∙ map_same (word_made ss (address_at bs)) numbers leaf.root (λ j f e. word_is None j f e) in
           subst (λ xs. Represents types layouts m' true (Named t) v xs) (sym words) (subst (λ (x : Memory). Represents types layouts x true (Named t) v (map numbers leaf.root)) (sym same_memory) here)

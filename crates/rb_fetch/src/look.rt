@@ -2,12 +2,14 @@
 
 ghost use Rattle.std.specs.Prelude.{◌≡◌, ◌+◌, ◌<◌, ◌≤◌, ◌^◌, IfOk, OnOk, length};
 ghost use Rattle.rb_target.specs.Growth.{Grows};
-ghost use Rattle.rb_fetch.specs.Finding.{FindsLeaf};
+ghost use Rattle.rb_fragment.specs.Arms.{AreHoles, AreOfOneWay};
+ghost use Rattle.rb_fetch.specs.Finding.{FindsLeaf, FindsLeafOf, leaf_count};
 ghost use Rattle.rb_fetch.specs.inner.Looking.{open_arms_of, open_else_of, Looks};
 
-use crate::fetch::fetch_loc;
+use crate::fetch::fetch_bits;
 use rb_core::boxed::Boxed;
 use rb_core::seq::Seq;
+use rb_fragment::reads::{Read, slot_reads};
 use rb_layout::agreed::Agreed;
 use rb_layout::layout::{FlatArm, FlatTree};
 use rb_target::body::{Body, Hole};
@@ -27,6 +29,29 @@ pub fn find_leaf(
     ty: u32,
 ) -> Result<Seq<Hole>, AllocError>
     ensures leaf { IfOk result (λ holes. FindsLeaf agreed.now ty words.now body.old body.new holes) }
+    ensures holes { IfOk result (λ holes. AreHoles (length body.old.code) (leaf_count agreed.now ty) body.new.code holes) }
+    ensures ways { IfOk result (λ holes. AreOfOneWay holes) }
+    ensures grows { OnOk result (Grows body.old.code body.new.code) }
+{
+    let reads = slot_reads(alloc, words)?;
+    let holes = find_leaf_of(alloc, body, reads.as_slice(), agreed, ty)?;
+    Ok(holes)
+}
+
+/// The same from reads of the value's words, which may stand in memory still.
+///
+/// # Errors
+/// `AllocError` where memory is wanting.
+pub fn find_leaf_of(
+    alloc: Global,
+    body: &mut Body,
+    words: &[Read],
+    agreed: &Agreed,
+    ty: u32,
+) -> Result<Seq<Hole>, AllocError>
+    ensures leaf { IfOk result (λ holes. FindsLeafOf agreed.now ty words.now body.old body.new holes) }
+    ensures holes { IfOk result (λ holes. AreHoles (length body.old.code) (leaf_count agreed.now ty) body.new.code holes) }
+    ensures ways { IfOk result (λ holes. AreOfOneWay holes) }
     ensures grows { OnOk result (Grows body.old.code body.new.code) }
 {
     let _typed = agreed.covered().program();
@@ -45,7 +70,7 @@ pub fn find_leaf(
 fn look(
     alloc: Global,
     body: &mut Body,
-    words: &[usize],
+    words: &[Read],
     tree: &FlatTree,
     holes: &mut Seq<Hole>,
 ) -> Result<(), AllocError>
@@ -64,17 +89,17 @@ fn look(
             Ok(())
         }
         FlatTree::Split(loc, arms, other) => {
-            let slot = fetch_loc(alloc, body, words, loc)?;
+            let slot = fetch_bits(alloc, body, words, loc)?;
             let pc = body.len();
             let places = open_arms(alloc, arms.as_slice(), pc + 1)?;
             body.push(Instr::Switch(slot, open_else(other, pc + 1), places))?;
             for (k, arm) in arms.as_slice().iter().enumerate() {
                 match &arm.under {
-                    FlatTree::Leaf(leaf) => {
+                    FlatTree::Leaf(number) => {
                         holes.push(Hole {
                             pc,
                             arm: Some(k),
-                            leaf: *leaf as usize,
+                            leaf: *number as usize,
                         })?;
                     }
                     FlatTree::Split(_, _, _) => {

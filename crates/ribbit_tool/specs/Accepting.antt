@@ -1,12 +1,10 @@
 -- Files that are accepted, and why others are refused.
-use Rattle.std.specs.Prelude.{◌≡◌, ◌≢◌, ℕ, ◌-◌, List, [], ◌∷◌, ◌++◌, length, codes, Option, Some, None, slice_get, Ok, Err}
-use Rattle.std.specs.List.{flat_map}
+use Rattle.std.specs.Prelude.{◌≡◌, ◌≢◌, ℕ, List, length, codes, Option, Some, None, slice_get, Ok, Err}
 use Rattle.rb_check.specs.Covering.{IsCoverFault}
 use Rattle.rb_check.specs.declared.coverage.CoverFault.TheVariants.{Missing}
 use Rattle.rb_core.specs.Coverage.{AreExhaustive, sites_of}
 use Rattle.rb_core.specs.TypedPrograms.{IsTyped, IsFirstFault}
 use Rattle.rb_core.specs.declared.pattern.Pat.{Pat}
-use Rattle.rb_core.specs.declared.program.Note.{Note}
 use Rattle.rb_core.specs.declared.program.Program.{Program}
 use Rattle.rb_core.specs.declared.types.DataDecl.{DataDecl}
 use Rattle.rb_core.specs.declared.typing.TypeFault.{TypeFault}
@@ -22,12 +20,12 @@ use Rattle.rb_syntax.specs.Tokens.{tokens}
 use Rattle.rb_syntax.specs.declared.lex.LexFault.{LexFault}
 use Rattle.rb_syntax.specs.declared.lex.LexFault.TheVariants as lexing
 use Rattle.rb_syntax.specs.declared.token.Placed.{Placed}
-use Rattle.rb_syntax.specs.declared.tree.ItemTree.{ItemTree}
-use Rattle.rb_syntax.specs.declared.tree.ItemTree.TheVariants.{Types, Layouts, Funs, Derived}
 use Rattle.rb_syntax.specs.declared.tree.FileTree.{FileTree}
-use Rattle.ribbit_tool.specs.Answer.{Due, unrun}
-use Rattle.ribbit_tool.specs.Lines.{no_memory_line, unbuilt_line}
-use Rattle.ribbit_tool.specs.FileLines.{at_byte, limit_line, unknown_line, twice_line, no_main_line, empty_line, mismatch_line, arity_line, missing_line, note_line}
+use Rattle.ribbit_tool.specs.Answer.{Due, refusal}
+use Rattle.ribbit_tool.specs.Lines.{no_memory_line}
+use Rattle.ribbit_tool.specs.Unbuilt.{unbuilt_due}
+use Rattle.ribbit_tool.specs.declared.status.Status.TheVariants as status
+use Rattle.ribbit_tool.specs.FileLines.{at_byte, limit_line, unknown_line, twice_line, no_main_line, empty_line, mismatch_line, arity_line, missing_line}
 
 -- Places ------------------------------------------------------------------------------------
 
@@ -63,33 +61,33 @@ pub record IsAccepted (bytes : List ℕ) (p : Program) : Type 0 where
 -- Refused files -----------------------------------------------------------------------------
 
 abbrev pub lex_due : LexFault → Due
-lex_due (lexing.BadByte at) = unrun 1 (at_byte (codes "bad byte") at)
-lex_due (lexing.NumberTooWide at) = unrun 1 (at_byte (codes "number over 64 bits") at)
-lex_due lexing.Memory = unrun 9 no_memory_line
+lex_due (lexing.BadByte at) = refusal status.Syntax (at_byte (codes "bad byte") at)
+lex_due (lexing.NumberTooWide at) = refusal status.Syntax (at_byte (codes "number over 64 bits") at)
+lex_due lexing.Memory = refusal status.NoMemory no_memory_line
 
 -- of tokens in a file of so many bytes
 abbrev pub read_due : List Placed → ℕ → ReadFault → Due
-read_due placed size (reading.TooDeep t) = unrun 11 (at_byte (codes "nesting over 128") (byte_of placed size t))
-read_due placed size (reading.Syntax t) = unrun 1 (at_byte (codes "syntax") (byte_of placed size t))
-read_due placed size (reading.Unbuilt t) = unrun 15 (unbuilt_line (byte_of placed size t))
-read_due placed size (reading.Limit q count) = unrun 11 (limit_line q count)
-read_due placed size reading.Memory = unrun 9 no_memory_line
+read_due placed size (reading.TooDeep t) = refusal status.Limit (at_byte (codes "nesting over 128") (byte_of placed size t))
+read_due placed size (reading.Syntax t) = refusal status.Syntax (at_byte (codes "syntax") (byte_of placed size t))
+read_due placed size (reading.Unbuilt t) = unbuilt_due (byte_of placed size t)
+read_due placed size (reading.Limit q count) = refusal status.Limit (limit_line q count)
+read_due placed size reading.Memory = refusal status.NoMemory no_memory_line
 
 abbrev pub name_due : List Placed → ℕ → NameFault → Due
-name_due placed size (names.Twice name t) = unrun 2 (twice_line name (byte_of placed size t))
-name_due placed size (names.Unknown name t) = unrun 2 (unknown_line name (byte_of placed size t))
-name_due placed size names.NoMain = unrun 2 no_main_line
-name_due placed size names.Memory = unrun 9 no_memory_line
+name_due placed size (names.Twice name t) = refusal status.Meaning (twice_line name (byte_of placed size t))
+name_due placed size (names.Unknown name t) = refusal status.Meaning (unknown_line name (byte_of placed size t))
+name_due placed size names.NoMain = refusal status.Meaning no_main_line
+name_due placed size names.Memory = refusal status.NoMemory no_memory_line
 
 abbrev pub type_due : List DataDecl → List Placed → ℕ → TypeFault → Due
-type_due ts placed size (types.Empty t) = unrun 2 (empty_line ts t)
-type_due ts placed size (types.Mismatch t wanted found) = unrun 2 (mismatch_line ts wanted found (byte_of placed size t))
-type_due ts placed size (types.Arity t wanted found) = unrun 2 (arity_line wanted found (byte_of placed size t))
-type_due ts placed size (types.VariableTwice t) = unrun 2 (at_byte (codes "variable twice") (byte_of placed size t))
-type_due ts placed size types.Memory = unrun 9 no_memory_line
+type_due ts placed size (types.Empty t) = refusal status.Meaning (empty_line ts t)
+type_due ts placed size (types.Mismatch t wanted found) = refusal status.Meaning (mismatch_line ts wanted found (byte_of placed size t))
+type_due ts placed size (types.Arity t wanted found) = refusal status.Meaning (arity_line wanted found (byte_of placed size t))
+type_due ts placed size (types.VariableTwice t) = refusal status.Meaning (at_byte (codes "variable twice") (byte_of placed size t))
+type_due ts placed size types.Memory = refusal status.NoMemory no_memory_line
 
 abbrev pub match_due : List DataDecl → List Placed → ℕ → ℕ → Pat → Due
-match_due ts placed size t q = unrun 2 (missing_line ts q (byte_of placed size t))
+match_due ts placed size t q = refusal status.Meaning (missing_line ts q (byte_of placed size t))
 
 -- What is due to a file by the first of these that refuses it: tokens, grammar and limits, names,
 -- types, exhaustiveness.
@@ -104,32 +102,9 @@ pub data IsRefused (bytes : List ℕ) (due : Due) : Type 0 where
   uncovered : (placed : List Placed) (p : Program) → IsNamed bytes placed p → IsTyped p → (t : ℕ) (q : Pat) → IsCoverFault p (Missing t q)
       → due ≡ match_due p.types placed (length bytes) t q → IsRefused bytes due
 
--- What is not built yet ---------------------------------------------------------------------
+-- The step ----------------------------------------------------------------------------------
 
--- the number of an item's first token, if it is a type or a layout
-abbrev pub declared_by : ItemTree → Option ℕ
-declared_by (Types t) = Some (t.name.at - 1)
-declared_by (Layouts l) = Some l.at
-declared_by (Derived name a) = Some (name.at - 1)
-declared_by (Funs f) = None
-
-abbrev pub or_else : Option ℕ → Option ℕ → Option ℕ
-or_else (Some t) other = Some t
-or_else None other = other
-
-abbrev pub declared_in : List ItemTree → Option ℕ
-declared_in [] = None
-declared_in (i ∷ is) = or_else (declared_by i) (declared_in is)
-
--- the number of the first token of the first `type` or `layout`
-abbrev pub first_declared : FileTree → Option ℕ
-first_declared file = declared_in file.items
-
--- The check ---------------------------------------------------------------------------------
-
--- a line for each note, and then `ok`
-abbrev pub note_text : List Placed → ℕ → Note → List ℕ
-note_text placed size n = note_line n.clause (byte_of placed size n.at)
-
-abbrev pub check_text : List Placed → ℕ → List Note → List ℕ
-check_text placed size notes = flat_map (note_text placed size) notes ++ codes "ok\n"
+-- A file is refused; or it is accepted, and something follows.
+pub data Accepts (bytes : List ℕ) (Then : (p : Program) → IsAccepted bytes p → Due → Type 0) (due : Due) : Type 0 where
+  turned_down : IsRefused bytes due → Accepts bytes Then due
+  accepted : (p : Program) (a : IsAccepted bytes p) → Then p a due → Accepts bytes Then due

@@ -1,13 +1,26 @@
 -- What is due to the words of a command line.
 use Rattle.std.specs.Prelude.{ℕ, List}
+use Rattle.ribbit_tool.specs.declared.status.Status.{Status}
+use Rattle.ribbit_tool.specs.Numbers.{status_number}
 
--- a status, its text, which goes to the output at status 0 and else is the error line, and how many
--- instructions the command began
-pub record Due : Type 0 where
-  pub status : ℕ
-  pub text : List ℕ
-  pub steps : ℕ
+-- A text for the output, or a named status with its line for the error output; and how many instructions
+-- the command began.
+pub data Due : Type 0 where
+  printed : (text : List ℕ) → (steps : ℕ) → Due
+  refused : (status : Status) → (line : List ℕ) → (steps : ℕ) → Due
 
--- an answer that ran nothing
-abbrev pub unrun : ℕ → List ℕ → Due
-unrun status text = record { status = status; text = text; steps = 0 }
+-- a refusal before anything ran
+abbrev pub refusal : Status → List ℕ → Due
+refusal status line = refused status line 0
+
+abbrev pub status_of : Due → ℕ
+status_of (printed text steps) = 0
+status_of (refused status line steps) = status_number status
+
+abbrev pub text_of : Due → List ℕ
+text_of (printed text steps) = text
+text_of (refused status line steps) = line
+
+abbrev pub steps_of : Due → ℕ
+steps_of (printed text steps) = steps
+steps_of (refused status line steps) = steps

@@ -1,8 +1,9 @@
 -- How what is due is delivered to the output and the error output.
-use Rattle.std.specs.Prelude.{◌≡◌, ◌≢◌, ℕ, List, [], ◌++◌, take, IsTrue, Bool}
+use Rattle.std.specs.Prelude.{◌≡◌, ℕ, List, [], ◌++◌, take, IsTrue, Bool}
 use Rattle.rb_edge.specs.Faults.{Rose}
-use Rattle.ribbit_tool.specs.Answer.{Due}
+use Rattle.ribbit_tool.specs.Answer.{Due, printed, refused}
 use Rattle.ribbit_tool.specs.Lines.{write_fault_line}
+use Rattle.ribbit_tool.specs.Numbers.{status_number}
 
 -- a sink before and after a call: whether it tells what it took, what it took, and its count of faults
 pub record Change : Type 0 where
@@ -24,12 +25,22 @@ TookFront sink text = (n : ℕ) × Took sink (take n text)
 abbrev pub Stood : Change → Type 0
 Stood sink = Rose sink.before sink.now → ⊥
 
--- The text was taken whole, by the output at status 0 and else by the error output, and the other one
--- took nothing. Or a write failed: then the status is 8, and the sinks took fronts of their texts.
-pub data IsDelivered (due : Due) (out err : Change) (status : ℕ) : Type 0 where
-  output : due.status ≡ 0 → status ≡ 0 → Took out due.text → Took err [] → IsDelivered due out err status
-  error_line : due.status ≢ 0 → status ≡ due.status → Took out [] → Took err due.text → IsDelivered due out err status
-  output_failed : due.status ≡ 0 → status ≡ 8 → Rose out.before out.now → TookFront out due.text → TookFront err write_fault_line
-      → IsDelivered due out err status
-  error_failed : due.status ≢ 0 → status ≡ 8 → Rose err.before err.now → Took out [] → TookFront err due.text
-      → IsDelivered due out err status
+-- it took a front of the text, and all of it where it did not fail
+pub record Tried (sink : Change) (text : List ℕ) : Type 0 where
+  pub front : TookFront sink text
+  pub whole : Stood sink → Took sink text
+
+-- The output took the text whole, and the error output nothing. Or the output failed: then the line of a
+-- write fault was tried on the error output.
+pub data Prints (text : List ℕ) (out err : Change) (status : ℕ) : Type 0 where
+  output : status ≡ 0 → Took out text → Took err [] → Prints text out err status
+  output_failed : status ≡ 8 → Rose out.before out.now → TookFront out text → Tried err write_fault_line → Prints text out err status
+
+-- The error output took the line whole, or failed; the output took nothing.
+pub data Refuses (number : ℕ) (line : List ℕ) (out err : Change) (status : ℕ) : Type 0 where
+  error_line : status ≡ number → Took out [] → Took err line → Refuses number line out err status
+  error_failed : status ≡ 8 → Rose err.before err.now → Took out [] → TookFront err line → Refuses number line out err status
+
+abbrev pub Delivers : Due → Change → Change → ℕ → Type 0
+Delivers (printed text steps) out err status = Prints text out err status
+Delivers (refused named line steps) out err status = Refuses (status_number named) line out err status

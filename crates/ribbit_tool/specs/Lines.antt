@@ -6,6 +6,7 @@ use Rattle.rb_bytes.specs.declared.fault.Trap.{Trap}
 use Rattle.rb_bytes.specs.declared.fault.Trap.TheVariants.{Astray, Unwritten, Unmatched}
 use Rattle.rb_target.specs.declared.fault.CodeFault.{CodeFault}
 use Rattle.rb_target.specs.declared.fault.CodeFault.TheVariants.{CodeSyntax, BadSlot, BadJump, BadCall, Memory}
+use Rattle.ribbit_tool.specs.Numbers.{code_syntax, bad_slot, bad_jump, bad_call, trap_number}
 
 abbrev pub begun : List ℕ → List ℕ
 begun text = codes "ribbit: " ++ text
@@ -24,9 +25,6 @@ write_fault_line = codes "ribbit: write fault\n"
 
 abbrev pub no_memory_line : List ℕ
 no_memory_line = codes "ribbit: no memory\n"
-
-abbrev pub unbuilt_line : ℕ → List ℕ
-unbuilt_line at = ended (begun (codes "not built yet at byte ") ++ decimal at)
 
 -- a file's bytes over their limit
 abbrev pub file_bytes_line : ℕ → ℕ → List ℕ
@@ -48,9 +46,10 @@ full_line f = ended (begun (codes "region full: next ") ++ decimal f.next ++ cod
     ++ codes ", align " ++ decimal f.align ++ codes ", limit " ++ decimal f.limit)
 
 abbrev pub trap_line : Trap → List ℕ
-trap_line (Astray base offset) = ended (begun (codes "trap 30: base ") ++ decimal base ++ codes ", offset " ++ decimal offset)
-trap_line (Unwritten address) = ended (begun (codes "trap 31: address ") ++ decimal address)
-trap_line (Unmatched word) = ended (begun (codes "trap 32: word ") ++ decimal word)
+trap_line (Astray base offset) = ended (begun (codes "trap ") ++ decimal (trap_number (Astray base offset)) ++ codes ": base " ++ decimal base
+    ++ codes ", offset " ++ decimal offset)
+trap_line (Unwritten address) = ended (begun (codes "trap ") ++ decimal (trap_number (Unwritten address)) ++ codes ": address " ++ decimal address)
+trap_line (Unmatched word) = ended (begun (codes "trap ") ++ decimal (trap_number (Unmatched word)) ++ codes ": word " ++ decimal word)
 
 -- functions that are not valid together: the fault's kind, and where it stands
 abbrev pub at_instruction : ℕ → ℕ → ℕ → List ℕ
@@ -58,10 +57,10 @@ at_instruction kind function instruction = ended (begun (codes "code ") ++ decim
     ++ codes ": function " ++ decimal function ++ codes ", instruction " ++ decimal instruction)
 
 abbrev pub code_line : CodeFault → List ℕ
-code_line (CodeSyntax at) = ended (begun (codes "code 20 at byte ") ++ decimal at)
-code_line (BadSlot n pc) = at_instruction 21 n pc
-code_line (BadJump n pc) = at_instruction 22 n pc
-code_line (BadCall n pc) = at_instruction 23 n pc
+code_line (CodeSyntax at) = ended (begun (codes "code ") ++ decimal code_syntax ++ codes " at byte " ++ decimal at)
+code_line (BadSlot n pc) = at_instruction bad_slot n pc
+code_line (BadJump n pc) = at_instruction bad_jump n pc
+code_line (BadCall n pc) = at_instruction bad_call n pc
 code_line Memory = no_memory_line
 
 -- an argument, counted from 1, that is no value of uN

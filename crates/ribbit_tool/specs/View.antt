@@ -1,22 +1,24 @@
 -- Values of the program, as the definitions see them.
 use Rattle.std.specs.Prelude.{◌≡◌, ℕ, ◌+◌, List, length, Result, Ok, Err}
+use Rattle.std.specs.declared.vec.Vec.{Vec}
+use Rattle.std.specs.declared.alloc.Global.{Global}
 use Rattle.rb_core.specs.Coverage.{IsCovered}
 use Rattle.rb_core.specs.TypedPrograms.{IsTyped}
 use Rattle.rb_names.specs.Programs.{numbered}
-use Rattle.ribbit_tool.specs.declared.accepting.Accepted.{Accepted}
-use Rattle.ribbit_tool.specs.declared.refusal.Refusal as refusals
-use Rattle.ribbit_tool.specs.declared.refusal.Refusal.TheVariants as refusal
+use Rattle.rb_target.specs.declared.outcome.End.{End}
+use Rattle.rb_target.specs.declared.outcome.End.TheVariants.{Returned, Spent, Full, Trapped}
 use Rattle.ribbit_tool.specs.Accepting.{IsRead}
+use Rattle.ribbit_tool.specs.Answer.{Due, printed, refused}
+use Rattle.ribbit_tool.specs.Command.{Command, Limits, check, run, exec}
+use Rattle.ribbit_tool.specs.declared.accepting.Accepted.{Accepted}
 use Rattle.ribbit_tool.specs.declared.command.Command as declared
 use Rattle.ribbit_tool.specs.declared.command.Command.TheVariants as form
 use Rattle.ribbit_tool.specs.declared.command.CommandFault.{CommandFault}
 use Rattle.ribbit_tool.specs.declared.command.CommandFault.TheVariants as fault
 use Rattle.ribbit_tool.specs.declared.limits.Limits as limits
-use Rattle.rb_target.specs.declared.outcome.End.{End}
-use Rattle.rb_target.specs.declared.outcome.End.TheVariants.{Returned, Spent, Full, Trapped}
-use Rattle.ribbit_tool.specs.declared.answer.Composed.{Composed}
-use Rattle.ribbit_tool.specs.Answer.{Due}
-use Rattle.ribbit_tool.specs.Command.{Command, Limits, check, run, exec}
+use Rattle.ribbit_tool.specs.declared.refusal.Refused.{Refused}
+use Rattle.ribbit_tool.specs.declared.refusal.Refusal.{Refusal}
+use Rattle.ribbit_tool.specs.declared.refusal.Refusal.TheVariants as refusal
 
 abbrev pub limits_view : limits.Limits → Limits
 limits_view l = record { calls = l.calls; region = l.region }
@@ -31,12 +33,28 @@ abbrev pub IsUsage : {A : Type 0} → Result A ℕ → CommandFault → Type 0
 IsUsage parsed (fault.Usage n) = parsed ≡ Err n
 IsUsage parsed fault.Memory = Unit {0}
 
-abbrev pub due_of : Composed → ℕ → Due
-due_of c steps = record { status = c.status; text = c.text.items; steps = steps }
+-- what is due by a refusal after so many steps
+abbrev pub due_after : ℕ → Refused → Due
+due_after steps c = refused c.status c.line.items steps
 
--- an answer meets a demand with the steps that were taken
-abbrev pub Answers : (Due → Type 0) → Composed → ℕ → ℕ → Type 0
-Answers P c before now = (n : ℕ) × (now ≡ before + n) × P (due_of c n)
+-- before anything ran
+abbrev pub due_of : Refused → Due
+due_of c = due_after 0 c
+
+-- a refusal before anything ran meets a demand on what is due, or memory ran out
+abbrev pub IsRefusal : (Due → Type 0) → Refusal → Type 0
+IsRefusal P (refusal.Refused c) = P (due_of c)
+IsRefusal P refusal.Memory = Unit {0}
+
+-- a refusal meets a demand on what is due with the steps that were taken, or memory ran out
+abbrev pub MeetsRefused : (Due → Type 0) → ℕ → ℕ → Refusal → Type 0
+MeetsRefused P before now (refusal.Refused c) = (n : ℕ) × (now ≡ before + n) × P (due_after n c)
+MeetsRefused P before now refusal.Memory = Unit {0}
+
+-- what is printed or refused meets a demand on what is due with the steps that were taken, or memory ran out
+abbrev pub Meets : (Due → Type 0) → ℕ → ℕ → Result (Vec ℕ Global) Refusal → Type 0
+Meets P before now (Ok text) = (n : ℕ) × (now ≡ before + n) × P (printed text.items n)
+Meets P before now (Err r) = MeetsRefused P before now r
 
 -- the end of a call that gives one word, or is spent
 abbrev pub IsOneWord : End → Type 0
@@ -44,11 +62,6 @@ IsOneWord (Returned words left) = length words ≡ 1
 IsOneWord Spent = Unit {0}
 IsOneWord (Full f) = ⊥
 IsOneWord (Trapped t) = ⊥
-
--- a refusal meets a demand on what is due, or memory ran out
-abbrev pub IsRefusal : (Due → Type 0) → refusals.Refusal → Type 0
-IsRefusal P (refusal.Refused c) = P (due_of c 0)
-IsRefusal P refusal.Memory = Unit {0}
 
 -- an accepted file: its tokens, its tree, and its typed and covered program
 pub record IsAcceptance (bytes : List ℕ) (a : Accepted) : Type 0 where

@@ -44,8 +44,8 @@ fn cut(alloc: Global, bytes: &[u8]) -> Result<Vec<Placed>, Refusal>
     match lex(alloc, bytes) {
         Ok(placed) => Ok(placed),
         Err(fault) => {
-            let composed = refuse_bytes(alloc, fault)?;
-            Err(Refusal::Refused(composed))
+            let refused = refuse_bytes(alloc, fault)?;
+            Err(Refusal::Refused(refused))
         }
     }
 }
@@ -60,8 +60,8 @@ fn read(alloc: Global, bytes: &[u8], placed: &[Placed]) -> Result<FileTree, Refu
     match read_file(alloc, placed) {
         Ok(file) => Ok(file),
         Err(fault) => {
-            let composed = refuse_tokens(alloc, placed, bytes.len(), fault)?;
-            Err(Refusal::Refused(composed))
+            let refused = refuse_tokens(alloc, placed, bytes.len(), fault)?;
+            Err(Refusal::Refused(refused))
         }
     }
 }
@@ -78,8 +78,8 @@ fn name(alloc: Global, bytes: &[u8], placed: &[Placed], file: &FileTree) -> Resu
     match resolve(alloc, file) {
         Ok(program) => Ok(program),
         Err(fault) => {
-            let composed = refuse_names(alloc, placed, bytes.len(), &fault)?;
-            Err(Refusal::Refused(composed))
+            let refused = refuse_names(alloc, placed, bytes.len(), &fault)?;
+            Err(Refusal::Refused(refused))
         }
     }
 }
@@ -101,8 +101,8 @@ fn ascribe(
         Ok(()) => Ok(Typed::new(program)),
         Err(fault) => {
             let types = program.types.as_slice();
-            let composed = refuse_types(alloc, types, placed, bytes.len(), fault)?;
-            Err(Refusal::Refused(composed))
+            let refused = refuse_types(alloc, types, placed, bytes.len(), fault)?;
+            Err(Refusal::Refused(refused))
         }
     }
 }
@@ -125,8 +125,8 @@ fn annotate(
         Err(CoverFault::Memory) => Err(Refusal::Memory),
         Err(CoverFault::Missing(token, pattern)) => {
             let types = typed.program().types.as_slice();
-            let composed = refuse_match(alloc, types, placed, bytes.len(), token, &pattern)?;
-            Err(Refusal::Refused(composed))
+            let refused = refuse_match(alloc, types, placed, bytes.len(), token, &pattern)?;
+            Err(Refusal::Refused(refused))
         }
     }
 }

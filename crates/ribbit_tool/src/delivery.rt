@@ -1,15 +1,20 @@
-//! Delivery: the text that is due goes to the output or to the error output.
+//! Delivery: a text goes to the output, or a line to the error output.
 
 ghost use Rattle.std.specs.Prelude.{◌≡◌, ◌++◌, ℕ, List, Bool, take, IsTrue};
-ghost use Rattle.ribbit_tool.specs.Delivery.{IsDelivered};
+ghost use Rattle.ribbit_tool.specs.Delivery.{Prints, Refuses, Tried};
+ghost use Rattle.ribbit_tool.specs.Numbers.{status_number};
 
 use crate::line::WRITE_FAULT;
+use crate::status::Status;
 use rb_edge::sink::Sink;
 use rb_edge::whole::write_whole;
 
+/// The status where a write failed.
+const WRITE_FAILED: u8 = 8;
+
 // Writes what the sink takes of the text.
 fn try_write<K: Sink>(sink: &mut K, text: &[u8])
-    ensures { (n : ℕ) × (IsTrue (K.tells sink.old) → K.taken sink.new ≡ K.taken sink.old ++ take n text.now) }
+    ensures { Tried (record { tells = K.tells sink.old; old = K.taken sink.old; new = K.taken sink.new; before = K.faults sink.old; now = K.faults sink.new }) text.now }
 {
     match write_whole(sink, text) {
         Ok(()) => {}
@@ -17,26 +22,31 @@ fn try_write<K: Sink>(sink: &mut K, text: &[u8])
     }
 }
 
-/// Writes the text to the output at status 0 and else to the error output, and gives the status, which
-/// is 8 where a write failed. Where the output fails, the line of a write fault is tried on the error
-/// output.
-pub fn deliver<O: Sink, E: Sink>(status: u8, text: &[u8], out: &mut O, err: &mut E) -> u8
-    ensures { (steps : ℕ) → IsDelivered (record { status = status; text = text.now; steps = steps })
+/// Writes the text to the output, and gives status 0. Where the output fails, the line of a write fault is
+/// tried on the error output, and the status is 8.
+pub fn print<O: Sink, E: Sink>(text: &[u8], out: &mut O, err: &mut E) -> u8
+    ensures { Prints text.now
         (record { tells = O.tells out.old; old = O.taken out.old; new = O.taken out.new; before = O.faults out.old; now = O.faults out.new })
         (record { tells = E.tells err.old; old = E.taken err.old; new = E.taken err.new; before = E.faults err.old; now = E.faults err.new }) result }
 {
-    if status == 0 {
-        match write_whole(out, text) {
-            Ok(()) => 0,
-            Err(_) => {
-                try_write(err, WRITE_FAULT);
-                8
-            }
+    match write_whole(out, text) {
+        Ok(()) => 0,
+        Err(_) => {
+            try_write(err, WRITE_FAULT);
+            WRITE_FAILED
         }
-    } else {
-        match write_whole(err, text) {
-            Ok(()) => status,
-            Err(_) => 8,
-        }
+    }
+}
+
+/// Writes the line to the error output, and gives the status, which is 8 where that fails. The output takes
+/// nothing.
+pub fn refuse<O: Sink, E: Sink>(status: Status, line: &[u8], out: &mut O, err: &mut E) -> u8
+    ensures { Refuses (status_number status) line.now
+        (record { tells = O.tells out.old; old = O.taken out.old; new = O.taken out.new; before = O.faults out.old; now = O.faults out.new })
+        (record { tells = E.tells err.old; old = E.taken err.old; new = E.taken err.new; before = E.faults err.old; now = E.faults err.new }) result }
+{
+    match write_whole(err, line) {
+        Ok(()) => status.number(),
+        Err(_) => WRITE_FAILED,
     }
 }

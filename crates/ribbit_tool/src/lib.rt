@@ -2,17 +2,18 @@
 #![tactic(auto)]
 
 pub mod accepting;
-pub mod answer;
-pub mod arguments;
-pub mod checking;
+pub mod check;
 pub mod command;
-pub mod compile;
 pub mod delivery;
-pub mod executing;
-pub mod integer_program;
+pub mod exec;
+pub mod integers;
+pub mod laws;
 pub mod limits;
 pub mod line;
 pub mod place;
+pub mod reading;
 pub mod refusal;
-pub mod running;
+pub mod run;
+pub mod status;
 pub mod top;
+pub mod unbuilt;

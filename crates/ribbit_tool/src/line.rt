@@ -20,6 +20,22 @@ pub const WRITE_FAULT: &[u8] = b"ribbit: write fault\n";
 
 pub const NO_MEMORY: &[u8] = b"ribbit: no memory\n";
 
+/// The numbers of traps.
+const ASTRAY: u64 = 30;
+
+const UNWRITTEN: u64 = 31;
+
+const UNMATCHED: u64 = 32;
+
+/// The numbers of codes that are refused.
+const CODE_SYNTAX: u64 = 20;
+
+const BAD_SLOT: u64 = 21;
+
+const BAD_JUMP: u64 = 22;
+
+const BAD_CALL: u64 = 23;
+
 pub(crate) fn push(text: &mut Vec<u8>, bytes: &[u8]) -> Result<(), AllocError>
     ensures { OnOk result (text.new.items ≡ text.old.items ++ bytes.now) }
 {
@@ -56,15 +72,6 @@ pub fn usage(alloc: Global, word: u64) -> Result<Vec<u8>, AllocError>
 {
     let mut text = begin(alloc, b"usage at word ")?;
     push_number(&mut text, word)?;
-    end(text)
-}
-
-/// The line of what is not built yet.
-pub fn unbuilt(alloc: Global, at: u64) -> Result<Vec<u8>, AllocError>
-    ensures { IfOk result (λ text. text.items ≡ line.unbuilt_line at) }
-{
-    let mut text = begin(alloc, b"not built yet at byte ")?;
-    push_number(&mut text, at)?;
     end(text)
 }
 
@@ -135,25 +142,37 @@ pub fn full(alloc: Global, full: Full) -> Result<Vec<u8>, AllocError>
     end(text)
 }
 
+// What a trap's line begins with.
+fn begin_trap(alloc: Global, number: u64) -> Result<Vec<u8>, AllocError>
+    ensures { IfOk result (λ text. text.items ≡ line.begun (codes "trap ") ++ decimal number) }
+{
+    let mut text = begin(alloc, b"trap ")?;
+    push_number(&mut text, number)?;
+    Ok(text)
+}
+
 /// The line of a trap.
 pub fn trap(alloc: Global, trap: Trap) -> Result<Vec<u8>, AllocError>
     ensures { IfOk result (λ text. text.items ≡ line.trap_line trap) }
 {
     match trap {
         Trap::Astray(base, offset) => {
-            let mut text = begin(alloc, b"trap 30: base ")?;
+            let mut text = begin_trap(alloc, ASTRAY)?;
+            push(&mut text, b": base ")?;
             push_number(&mut text, base)?;
             push(&mut text, b", offset ")?;
             push_number(&mut text, offset)?;
             end(text)
         }
         Trap::Unwritten(address) => {
-            let mut text = begin(alloc, b"trap 31: address ")?;
+            let mut text = begin_trap(alloc, UNWRITTEN)?;
+            push(&mut text, b": address ")?;
             push_number(&mut text, address)?;
             end(text)
         }
         Trap::Unmatched(word) => {
-            let mut text = begin(alloc, b"trap 32: word ")?;
+            let mut text = begin_trap(alloc, UNMATCHED)?;
+            push(&mut text, b": word ")?;
             push_number(&mut text, word)?;
             end(text)
         }
@@ -184,18 +203,20 @@ pub fn code(alloc: Global, fault: CodeFault) -> Result<Vec<u8>, AllocError>
 {
     match fault {
         CodeFault::CodeSyntax(at) => {
-            let mut text = begin(alloc, b"code 20 at byte ")?;
+            let mut text = begin(alloc, b"code ")?;
+            push_number(&mut text, CODE_SYNTAX)?;
+            push(&mut text, b" at byte ")?;
             push_number(&mut text, at as u64)?;
             end(text)
         }
         CodeFault::BadSlot(function, instruction) => {
-            at_instruction(alloc, 21, function, instruction)
+            at_instruction(alloc, BAD_SLOT, function, instruction)
         }
         CodeFault::BadJump(function, instruction) => {
-            at_instruction(alloc, 22, function, instruction)
+            at_instruction(alloc, BAD_JUMP, function, instruction)
         }
         CodeFault::BadCall(function, instruction) => {
-            at_instruction(alloc, 23, function, instruction)
+            at_instruction(alloc, BAD_CALL, function, instruction)
         }
         CodeFault::Memory => Vec::from_slice(alloc, NO_MEMORY),
     }

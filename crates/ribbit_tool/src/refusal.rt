@@ -1,19 +1,19 @@
 //! Why a file is refused, as it is answered.
 
-ghost use Rattle.std.specs.Prelude.{◌≡◌, ◌≢◌, ℕ, List, IfOk};
+ghost use Rattle.std.specs.Prelude.{◌≡◌, ◌≢◌, IfOk};
 ghost use Rattle.rb_core.specs.declared.typing.TypeFault.TheVariants as typing;
 ghost use Rattle.rb_names.specs.declared.fault.NameFault.TheVariants as names;
 ghost use Rattle.rb_read.specs.declared.fault.ReadFault.TheVariants as reading;
 ghost use Rattle.rb_syntax.specs.declared.lex.LexFault.TheVariants as lexing;
 ghost use Rattle.ribbit_tool.specs.declared.refusal.Refusal.TheVariants.{Memory};
 ghost use Rattle.ribbit_tool.specs.Accepting as accepting;
-ghost use Rattle.ribbit_tool.specs.View.{due_of, IsRefusal};
+ghost use Rattle.ribbit_tool.specs.View.{due_of};
 
-use crate::answer::Composed;
-use crate::line;
 use crate::line::pattern::missing;
 use crate::line::{fault as fault_line, types as type_line};
 use crate::place::byte_of;
+use crate::status::Status;
+use crate::unbuilt::refuse_unbuilt;
 use rb_check::TypeFault;
 use rb_core::pattern::Pat;
 use rb_core::types::DataDecl;
@@ -24,12 +24,19 @@ use rb_syntax::token::Placed;
 use std::alloc::{AllocError, Global};
 use thiserror::Error;
 
-/// Why a file is not accepted.
+/// A status, and its line for the error output.
+#[derive(Debug, Drop)]
+pub struct Refused {
+    pub status: Status,
+    pub line: Vec<u8>,
+}
+
+/// Why nothing is printed.
 #[derive(Debug, Drop, Error)]
 pub enum Refusal {
-    /// The answer that it is refused with.
-    #[error("the file is refused")]
-    Refused(Composed),
+    /// The answer in its place.
+    #[error("refused")]
+    Refused(Refused),
     /// Memory ran out.
     #[error("no memory")]
     Memory,
@@ -43,29 +50,25 @@ impl From<AllocError> for Refusal {
     }
 }
 
-/// The answer that a file is refused with.
-pub fn answer_refusal(refusal: Refusal) -> Result<Composed, AllocError>
-    ensures { (bytes : List ℕ) → IsRefusal (accepting.IsRefused bytes) refusal → IfOk result (λ c. accepting.IsRefused bytes (due_of c 0)) }
-{
-    match refusal {
-        Refusal::Refused(composed) => Ok(composed),
-        Refusal::Memory => Err(AllocError),
-    }
-}
-
 /// The answer to bytes without tokens.
-pub fn refuse_bytes(alloc: Global, fault: LexFault) -> Result<Composed, AllocError>
-    ensures due { IfOk result (λ c. due_of c 0 ≡ accepting.lex_due fault) }
+pub fn refuse_bytes(alloc: Global, fault: LexFault) -> Result<Refused, AllocError>
+    ensures due { IfOk result (λ c. due_of c ≡ accepting.lex_due fault) }
     ensures other { IfOk result (λ c. fault ≢ lexing.Memory) }
 {
     match fault {
         LexFault::BadByte(at) => {
-            let text = fault_line::at_byte(alloc, b"bad byte", at as u64)?;
-            Ok(Composed { status: 1, text })
+            let line = fault_line::at_byte(alloc, b"bad byte", at as u64)?;
+            Ok(Refused {
+                status: Status::Syntax,
+                line,
+            })
         }
         LexFault::NumberTooWide(at) => {
-            let text = fault_line::at_byte(alloc, b"number over 64 bits", at as u64)?;
-            Ok(Composed { status: 1, text })
+            let line = fault_line::at_byte(alloc, b"number over 64 bits", at as u64)?;
+            Ok(Refused {
+                status: Status::Syntax,
+                line,
+            })
         }
         LexFault::Memory => Err(AllocError),
     }
@@ -77,28 +80,37 @@ pub fn refuse_tokens(
     placed: &[Placed],
     length: usize,
     fault: ReadFault,
-) -> Result<Composed, AllocError>
-    ensures due { IfOk result (λ c. due_of c 0 ≡ accepting.read_due placed.now length fault) }
+) -> Result<Refused, AllocError>
+    ensures due { IfOk result (λ c. due_of c ≡ accepting.read_due placed.now length fault) }
     ensures other { IfOk result (λ c. fault ≢ reading.Memory) }
 {
     match fault {
         ReadFault::TooDeep(token) => {
             let at = byte_of(placed, length, token);
-            let text = fault_line::at_byte(alloc, b"nesting over 128", at)?;
-            Ok(Composed { status: 11, text })
+            let line = fault_line::at_byte(alloc, b"nesting over 128", at)?;
+            Ok(Refused {
+                status: Status::Limit,
+                line,
+            })
         }
         ReadFault::Syntax(token) => {
             let at = byte_of(placed, length, token);
-            let text = fault_line::at_byte(alloc, b"syntax", at)?;
-            Ok(Composed { status: 1, text })
+            let line = fault_line::at_byte(alloc, b"syntax", at)?;
+            Ok(Refused {
+                status: Status::Syntax,
+                line,
+            })
         }
         ReadFault::Unbuilt(token) => {
-            let text = line::unbuilt(alloc, byte_of(placed, length, token))?;
-            Ok(Composed { status: 15, text })
+            let refused = refuse_unbuilt(alloc, byte_of(placed, length, token))?;
+            Ok(refused)
         }
         ReadFault::Limit(over, count) => {
-            let text = fault_line::limit(alloc, over, count)?;
-            Ok(Composed { status: 11, text })
+            let line = fault_line::limit(alloc, over, count)?;
+            Ok(Refused {
+                status: Status::Limit,
+                line,
+            })
         }
         ReadFault::Memory => Err(AllocError),
     }
@@ -110,24 +122,33 @@ pub fn refuse_names(
     placed: &[Placed],
     length: usize,
     fault: &NameFault,
-) -> Result<Composed, AllocError>
-    ensures due { IfOk result (λ c. due_of c 0 ≡ accepting.name_due placed.now length fault.now) }
+) -> Result<Refused, AllocError>
+    ensures due { IfOk result (λ c. due_of c ≡ accepting.name_due placed.now length fault.now) }
     ensures other { IfOk result (λ c. fault.now ≢ names.Memory) }
 {
     match fault {
         NameFault::Twice(name, token) => {
             let at = byte_of(placed, length, *token);
-            let text = fault_line::twice(alloc, name.as_slice(), at)?;
-            Ok(Composed { status: 2, text })
+            let line = fault_line::twice(alloc, name.as_slice(), at)?;
+            Ok(Refused {
+                status: Status::Meaning,
+                line,
+            })
         }
         NameFault::Unknown(name, token) => {
             let at = byte_of(placed, length, *token);
-            let text = fault_line::unknown(alloc, name.as_slice(), at)?;
-            Ok(Composed { status: 2, text })
+            let line = fault_line::unknown(alloc, name.as_slice(), at)?;
+            Ok(Refused {
+                status: Status::Meaning,
+                line,
+            })
         }
         NameFault::NoMain => {
-            let text = fault_line::no_main(alloc)?;
-            Ok(Composed { status: 2, text })
+            let line = fault_line::no_main(alloc)?;
+            Ok(Refused {
+                status: Status::Meaning,
+                line,
+            })
         }
         NameFault::Memory => Err(AllocError),
     }
@@ -140,29 +161,41 @@ pub fn refuse_types(
     placed: &[Placed],
     length: usize,
     fault: TypeFault,
-) -> Result<Composed, AllocError>
-    ensures due { IfOk result (λ c. due_of c 0 ≡ accepting.type_due types.now placed.now length fault) }
+) -> Result<Refused, AllocError>
+    ensures due { IfOk result (λ c. due_of c ≡ accepting.type_due types.now placed.now length fault) }
     ensures other { IfOk result (λ c. fault ≢ typing.Memory) }
 {
     match fault {
         TypeFault::Empty(ty) => {
-            let text = type_line::empty(alloc, types, ty)?;
-            Ok(Composed { status: 2, text })
+            let line = type_line::empty(alloc, types, ty)?;
+            Ok(Refused {
+                status: Status::Meaning,
+                line,
+            })
         }
         TypeFault::Mismatch(token, wanted, found) => {
             let at = byte_of(placed, length, token);
-            let text = type_line::mismatch(alloc, types, wanted, found, at)?;
-            Ok(Composed { status: 2, text })
+            let line = type_line::mismatch(alloc, types, wanted, found, at)?;
+            Ok(Refused {
+                status: Status::Meaning,
+                line,
+            })
         }
         TypeFault::Arity(token, wanted, found) => {
             let at = byte_of(placed, length, token);
-            let text = type_line::arity(alloc, wanted, found, at)?;
-            Ok(Composed { status: 2, text })
+            let line = type_line::arity(alloc, wanted, found, at)?;
+            Ok(Refused {
+                status: Status::Meaning,
+                line,
+            })
         }
         TypeFault::VariableTwice(token) => {
             let at = byte_of(placed, length, token);
-            let text = fault_line::at_byte(alloc, b"variable twice", at)?;
-            Ok(Composed { status: 2, text })
+            let line = fault_line::at_byte(alloc, b"variable twice", at)?;
+            Ok(Refused {
+                status: Status::Meaning,
+                line,
+            })
         }
         TypeFault::Memory => Err(AllocError),
     }
@@ -176,10 +209,13 @@ pub fn refuse_match(
     length: usize,
     token: u32,
     pattern: &Pat,
-) -> Result<Composed, AllocError>
-    ensures { IfOk result (λ c. due_of c 0 ≡ accepting.match_due types.now placed.now length token pattern.now) }
+) -> Result<Refused, AllocError>
+    ensures { IfOk result (λ c. due_of c ≡ accepting.match_due types.now placed.now length token pattern.now) }
 {
     let at = byte_of(placed, length, token);
-    let text = missing(alloc, types, pattern, at)?;
-    Ok(Composed { status: 2, text })
+    let line = missing(alloc, types, pattern, at)?;
+    Ok(Refused {
+        status: Status::Meaning,
+        line,
+    })
 }

@@ -1,154 +1,86 @@
 //! The top call.
 
 ghost use Rattle.std.specs.Prelude.{◌≡◌, ◌≤◌, ℕ, List, IfOk, Ok};
-ghost use Rattle.rb_edge.specs.declared.whole.ReadFault.TheVariants.{Failed};
-ghost use Rattle.ribbit_tool.specs.Answer.{unrun};
-ghost use Rattle.ribbit_tool.specs.Command.{command_of, check, run, exec};
-ghost use Rattle.ribbit_tool.specs.Lines.{read_fault_line};
-ghost use Rattle.ribbit_tool.specs.Promise.{IsRun, IsRight};
-ghost use Rattle.ribbit_tool.specs.Results.{IsComposed};
-ghost use Rattle.ribbit_tool.specs.View.{command_view, limits_view, due_of, Answers};
+ghost use Rattle.ribbit_tool.specs.Answer.{refusal};
+ghost use Rattle.ribbit_tool.specs.Answers.{Owes};
+ghost use Rattle.ribbit_tool.specs.Command.{command_of};
+ghost use Rattle.ribbit_tool.specs.Headline.{Headline};
+ghost use Rattle.ribbit_tool.specs.Lines.{usage_line};
+ghost use Rattle.ribbit_tool.specs.Promise.{Performs, IsRight};
+ghost use Rattle.ribbit_tool.specs.View.{command_view, due_of, Meets};
+ghost use Rattle.ribbit_tool.specs.declared.status.Status.TheVariants as status;
 
-use crate::answer::Composed;
-use crate::checking::check_file;
+use crate::check::check_file;
 use crate::command::{Command, CommandFault, parse};
-use crate::delivery::deliver;
-use crate::executing::{CODE_LIMIT, run_code};
-use crate::limits::Limits;
-use crate::line::{self, NO_MEMORY, READ_FAULT};
-use crate::running::{FILE_LIMIT, run_file};
+use crate::delivery::{print, refuse};
+use crate::exec::run_code_file;
+use crate::line::{self, NO_MEMORY};
+use crate::refusal::{Refusal, Refused};
+use crate::run::run_file;
+use crate::status::Status;
 use rb_edge::seq::Name;
 use rb_edge::sink::Sink;
 use rb_edge::source::Source;
 use rb_edge::steps::{Ledger, Steps};
-use rb_edge::whole::{ReadFault, read_whole};
 use rb_edge::words::Words;
 use std::alloc::{AllocError, Global};
 
-// The answer where a file was not read.
-fn refuse_reading(alloc: Global, fault: ReadFault) -> Result<Composed, AllocError>
-    ensures failed { IfOk result (λ c. fault ≡ Failed) }
-    ensures due { IfOk result (λ c. due_of c 0 ≡ unrun 7 read_fault_line) }
-{
-    match fault {
-        ReadFault::Memory => Err(AllocError),
-        ReadFault::Failed => {
-            let text = Vec::from_slice(alloc, READ_FAULT)?;
-            Ok(Composed { status: 7, text })
-        }
-    }
-}
-
-// The command `check`.
-fn check_command<S: Source>(alloc: Global, src: &mut S, file: &[u8]) -> Result<Composed, AllocError>
-    ensures later { S.faults src.old ≤ S.faults src.new }
-    ensures due { IfOk result (λ c. IsComposed (Ok (check file.now)) (S.tells src.old) (S.held src.old) (S.faults src.old) (S.faults src.new) (due_of c 0)) }
-{
-    match read_whole(alloc, src, file, FILE_LIMIT) {
-        Ok(bytes) => {
-            let composed = check_file(alloc, bytes.as_slice())?;
-            Ok(composed)
-        }
-        Err(fault) => refuse_reading(alloc, fault),
-    }
-}
-
-// The command `run`.
-fn run_command<S: Source, L: Ledger>(
-    alloc: Global,
-    src: &mut S,
-    file: &[u8],
-    limits: Limits,
-    values: &[Name],
-    steps: &mut Steps<L>,
-) -> Result<Composed, AllocError>
-    ensures later { S.faults src.old ≤ S.faults src.new }
-    ensures due { IfOk result (λ c. Answers (IsComposed (Ok (run file.now (limits_view limits) values.now)) (S.tells src.old) (S.held src.old) (S.faults src.old) (S.faults src.new))
-        c steps.old.taken steps.new.taken) }
-{
-    match read_whole(alloc, src, file, FILE_LIMIT) {
-        Ok(bytes) => {
-            let composed = run_file(alloc, bytes.as_slice(), limits, values, steps)?;
-            Ok(composed)
-        }
-        Err(fault) => refuse_reading(alloc, fault),
-    }
-}
-
-// The command `exec`.
-fn exec_command<S: Source, L: Ledger>(
-    alloc: Global,
-    src: &mut S,
-    code: &[u8],
-    function: &[u8],
-    limits: Limits,
-    words: &[u64],
-    steps: &mut Steps<L>,
-) -> Result<Composed, AllocError>
-    ensures later { S.faults src.old ≤ S.faults src.new }
-    ensures due { IfOk result (λ c. Answers (IsComposed (Ok (exec code.now function.now (limits_view limits) words.now)) (S.tells src.old) (S.held src.old) (S.faults src.old) (S.faults src.new))
-        c steps.old.taken steps.new.taken) }
-{
-    match read_whole(alloc, src, code, CODE_LIMIT) {
-        Ok(bytes) => {
-            let composed = run_code(alloc, bytes.as_slice(), function, limits, words, steps)?;
-            Ok(composed)
-        }
-        Err(fault) => refuse_reading(alloc, fault),
-    }
-}
-
-// The answer to a command.
+// The text of a command.
 fn obey<S: Source, L: Ledger>(
     alloc: Global,
     command: &Command,
     src: &mut S,
     steps: &mut Steps<L>,
-) -> Result<Composed, AllocError>
+) -> Result<Vec<u8>, Refusal>
     ensures later { S.faults src.old ≤ S.faults src.new }
-    ensures due { IfOk result (λ c. Answers (IsComposed (Ok (command_view command.now)) (S.tells src.old) (S.held src.old) (S.faults src.old) (S.faults src.new))
-        c steps.old.taken steps.new.taken) }
+    ensures owed { Meets (Owes (Ok (command_view command.now)) (S.tells src.old) (S.held src.old) (S.faults src.old) (S.faults src.new))
+        steps.old.taken steps.new.taken result }
 {
     match command {
-        Command::Check { file } => {
-            let composed = check_command(alloc, src, file)?;
-            Ok(composed)
-        }
+        Command::Check { file } => check_file(alloc, src, file),
         Command::Run {
             file,
             limits,
             values,
-        } => run_command(alloc, src, file, *limits, values, steps),
+        } => run_file(alloc, src, file, *limits, values, steps),
         Command::Exec {
             code,
             function,
             limits,
             words,
-        } => exec_command(alloc, src, code, function, *limits, words.as_slice(), steps),
+        } => run_code_file(alloc, src, code, function, *limits, words.as_slice(), steps),
     }
 }
 
-// The answer to the words.
+// The answer to words that are no command.
+fn refuse_words(alloc: Global, word: usize) -> Result<Refused, AllocError>
+    ensures { IfOk result (λ c. due_of c ≡ refusal status.Usage (usage_line word)) }
+{
+    let line = line::usage(alloc, word as u64)?;
+    Ok(Refused {
+        status: Status::Usage,
+        line,
+    })
+}
+
+// The text for the words.
 fn compose<S: Source, L: Ledger>(
     alloc: Global,
     words: &[Name],
     src: &mut S,
     steps: &mut Steps<L>,
-) -> Result<Composed, AllocError>
+) -> Result<Vec<u8>, Refusal>
     ensures later { S.faults src.old ≤ S.faults src.new }
-    ensures due { IfOk result (λ c. Answers (IsComposed (command_of words.now) (S.tells src.old) (S.held src.old) (S.faults src.old) (S.faults src.new))
-        c steps.old.taken steps.new.taken) }
+    ensures owed { Meets (Owes (command_of words.now) (S.tells src.old) (S.held src.old) (S.faults src.old) (S.faults src.new))
+        steps.old.taken steps.new.taken result }
 {
     match parse(alloc, words) {
-        Ok(command) => {
-            let composed = obey(alloc, &command, src, steps)?;
-            Ok(composed)
-        }
+        Ok(command) => obey(alloc, &command, src, steps),
         Err(CommandFault::Usage(word)) => {
-            let text = line::usage(alloc, word as u64)?;
-            Ok(Composed { status: 6, text })
+            let refused = refuse_words(alloc, word)?;
+            Err(Refusal::Refused(refused))
         }
-        Err(CommandFault::Memory) => Err(AllocError),
+        Err(CommandFault::Memory) => Err(Refusal::Memory),
     }
 }
 
@@ -161,15 +93,16 @@ fn answer<S: Source, O: Sink, E: Sink, L: Ledger>(
     err: &mut E,
     steps: &mut Steps<L>,
 ) -> u8
-    ensures { IsRun words.now
+    ensures { Performs words.now
         (record { tells = S.tells src.old; held = S.held src.old; before = S.faults src.old; now = S.faults src.new })
         (record { tells = O.tells out.old; old = O.taken out.old; new = O.taken out.new; before = O.faults out.old; now = O.faults out.new })
         (record { tells = E.tells err.old; old = E.taken err.old; new = E.taken err.new; before = E.faults err.old; now = E.faults err.new })
         (record { before = steps.old.taken; now = steps.new.taken }) result }
 {
     match compose(alloc, words, src, steps) {
-        Ok(due) => deliver(due.status, due.text.as_slice(), out, err),
-        Err(_) => deliver(9, NO_MEMORY, out, err),
+        Ok(text) => print(text.as_slice(), out, err),
+        Err(Refusal::Refused(refused)) => refuse(refused.status, refused.line.as_slice(), out, err),
+        Err(Refusal::Memory) => refuse(Status::NoMemory, NO_MEMORY, out, err),
     }
 }
 
@@ -185,12 +118,17 @@ pub fn ribbit<S: Source, O: Sink, E: Sink, L: Ledger>(
     steps: &mut Steps<L>,
 ) -> u8
     // What was due, and how it was delivered.
-    ensures run { IsRun words.now
+    ensures performs { Performs words.now
         (record { tells = S.tells src.old; held = S.held src.old; before = S.faults src.old; now = S.faults src.new })
         (record { tells = O.tells out.old; old = O.taken out.old; new = O.taken out.new; before = O.faults out.old; now = O.faults out.new })
         (record { tells = E.tells err.old; old = E.taken err.old; new = E.taken err.new; before = E.faults err.old; now = E.faults err.new })
         (record { before = steps.old.taken; now = steps.new.taken }) result }
-    // The main theorem: the answer is the source's meaning, or names the limit that it passes.
+    // The headline, for accepted files: the value of the source's meaning, or the limit that it passes.
+    ensures headline { Headline words.now
+        (record { tells = S.tells src.old; held = S.held src.old; before = S.faults src.old; now = S.faults src.new })
+        (record { tells = O.tells out.old; old = O.taken out.old; new = O.taken out.new; before = O.faults out.old; now = O.faults out.new })
+        (record { tells = E.tells err.old; old = E.taken err.old; new = E.taken err.new; before = E.faults err.old; now = E.faults err.new }) result }
+    // The main theorem, for all words and files, and with faults of the source and the sinks.
     ensures right { IsRight words.now
         (record { tells = S.tells src.old; held = S.held src.old; before = S.faults src.old; now = S.faults src.new })
         (record { tells = O.tells out.old; old = O.taken out.old; new = O.taken out.new; before = O.faults out.old; now = O.faults out.new })

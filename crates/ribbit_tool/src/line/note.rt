@@ -2,7 +2,7 @@
 
 ghost use Rattle.std.specs.Prelude.{◌≡◌, ◌++◌, IfOk, OnOk};
 ghost use Rattle.std.specs.List.{flat_map};
-ghost use Rattle.ribbit_tool.specs.Accepting as accepting;
+ghost use Rattle.ribbit_tool.specs.Check as check;
 ghost use Rattle.ribbit_tool.specs.FileLines as line;
 
 use crate::line::{push, push_number};
@@ -29,7 +29,7 @@ fn push_note(
     length: usize,
     unreached: Note,
 ) -> Result<(), AllocError>
-    ensures { OnOk result (text.new.items ≡ text.old.items ++ accepting.note_text placed.now length unreached) }
+    ensures { OnOk result (text.new.items ≡ text.old.items ++ check.note_text placed.now length unreached) }
 {
     let at = byte_of(placed, length, unreached.at);
     let line = note(alloc, unreached.clause as u64, at)?;
@@ -44,7 +44,7 @@ fn push_notes(
     length: usize,
     notes: &[Note],
 ) -> Result<(), AllocError>
-    ensures { OnOk result (text.new.items ≡ text.old.items ++ flat_map (accepting.note_text placed.now length) notes.now) }
+    ensures { OnOk result (text.new.items ≡ text.old.items ++ flat_map (check.note_text placed.now length) notes.now) }
 {
     for unreached in notes {
         push_note(alloc, text, placed, length, *unreached)?;
@@ -59,7 +59,7 @@ pub fn checked(
     length: usize,
     notes: &[Note],
 ) -> Result<Vec<u8>, AllocError>
-    ensures { IfOk result (λ text. text.items ≡ accepting.check_text placed.now length notes.now) }
+    ensures { IfOk result (λ text. text.items ≡ check.check_text placed.now length notes.now) }
 {
     let mut text = Vec::new(alloc);
     push_notes(alloc, &mut text, placed, length, notes)?;

@@ -12,4 +12,4 @@ returns-clause-refused c =
     let types = c.as_slice-types.ensures ∙ ap (λ (p : Program). p.types) c.program.ensures.same in
     uncovered c.args.placed.now c.args.typed c.requires.named c.requires.typed m.token m.pattern
     (subst (λ (f : CoverFault). IsCoverFault c.args.typed f) m.field-0-is m.ensures.refused)
-    (c.in_ok-composed-in-Err-Missing.ensures ∙ ap (λ (ts : List DataDecl). match_due ts c.args.placed.now (length c.args.bytes.now) m.token m.pattern) types)
+    (c.in_ok-refused-in-Err-Missing.ensures ∙ ap (λ (ts : List DataDecl). match_due ts c.args.placed.now (length c.args.bytes.now) m.token m.pattern) types)

@@ -5,9 +5,9 @@ use Rattle.ribbit_tool.specs.Accepting.{uncut}
 use Rattle.ribbit_tool.proofs.Faults.{lex_fault}
 use Rattle.ribbit_tool.proofs.accepting.cut.Goals as goal
 
-pub returns-in_ok-composed-in-Err-clause-refused : goal.returns-in_ok-composed-in-Err-clause-refused
-returns-in_ok-composed-in-Err-clause-refused c =
-    let shown = c.in_ok-composed-in-Err.ensures in
+pub returns-in_ok-refused-in-Err-clause-refused : goal.returns-in_ok-refused-in-Err-clause-refused
+returns-in_ok-refused-in-Err-clause-refused c =
+    let shown = c.in_ok-refused-in-Err.ensures in
     uncut c.in-Err.fault (lex_fault (lexed c.args.bytes.now) c.in-Err.fault shown.other c.in-Err.ensures.answer) shown.due
 
 pub returns-in-Ok-clause-tokens : goal.returns-in-Ok-clause-tokens

@@ -10,8 +10,8 @@ returns-in-Ok-clause-well c =
     let r = c.requires in
     c.in-Ok.ensures.well (tokens c.args.placed.now) (is_written c.args.bytes.now c.args.placed.now c.args.file.now r.few r.tokens r.read)
 
-pub returns-in_ok-composed-in-Err-clause-refused : goal.returns-in_ok-composed-in-Err-clause-refused
-returns-in_ok-composed-in-Err-clause-refused c =
-    let shown = c.in_ok-composed-in-Err.ensures in
+pub returns-in_ok-refused-in-Err-clause-refused : goal.returns-in_ok-refused-in-Err-clause-refused
+returns-in_ok-refused-in-Err-clause-refused c =
+    let shown = c.in_ok-refused-in-Err.ensures in
     misnamed c.args.placed.now c.args.file.now c.requires.read c.in-Err.fault
     (name_fault (numbered c.args.file.now) c.in-Err.fault shown.other c.in-Err.ensures.answers) shown.due

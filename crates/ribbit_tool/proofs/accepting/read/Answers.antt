@@ -10,7 +10,7 @@ read_file-requires c =
     let few = short_tokens c.args.bytes.now c.args.placed.now c.requires.cut in
     omega (arith, few, c.requires.few)
 
-pub returns-in_ok-composed-in-Err-clause-refused : goal.returns-in_ok-composed-in-Err-clause-refused
-returns-in_ok-composed-in-Err-clause-refused c =
-    let shown = c.in_ok-composed-in-Err.ensures in
+pub returns-in_ok-refused-in-Err-clause-refused : goal.returns-in_ok-refused-in-Err-clause-refused
+returns-in_ok-refused-in-Err-clause-refused c =
+    let shown = c.in_ok-refused-in-Err.ensures in
     misread c.args.placed.now c.requires.cut c.in-Err.fault (read_fault (tokens c.args.placed.now) c.in-Err.fault shown.other c.in-Err.ensures.answer) shown.due

@@ -1,36 +1,62 @@
 use Rattle.std.proofs.Common.{refl, List, ℕ, subst}
-use Rattle.ribbit_tool.specs.Answer.{unrun}
-use Rattle.ribbit_tool.specs.Delivery.{Change, IsDelivered}
+use Rattle.ribbit_tool.specs.Answer.{printed, refusal}
+use Rattle.ribbit_tool.specs.Answers.{out_of_memory}
+use Rattle.ribbit_tool.specs.Delivery.{Change, Prints, Refuses}
 use Rattle.ribbit_tool.specs.Lines.{no_memory_line}
-use Rattle.ribbit_tool.specs.Results.{composed, out_of_memory}
-use Rattle.ribbit_tool.specs.View.{due_of}
+use Rattle.ribbit_tool.specs.Numbers.{status_number}
+use Rattle.ribbit_tool.specs.View.{due_after}
+use Rattle.ribbit_tool.specs.declared.status.Status.TheVariants.{NoMemory}
 use Rattle.ribbit_tool.proofs.top.answer.Goals as goal
 
 pub returns-in-Ok : goal.returns-in-Ok
 returns-in-Ok g c =
-    let a = c.in-Ok.ensures.due in
+    let a = c.in-Ok.ensures.owed in
     let out : Change = record {
       tells = g.O.Sink.tells c.args.out.now;
       old = g.O.Sink.taken c.args.out.now;
-      new = g.O.Sink.taken c.deliver.new.out;
+      new = g.O.Sink.taken c.print.new.out;
       before = g.O.Sink.faults c.args.out.now;
-      now = g.O.Sink.faults c.deliver.new.out;
+      now = g.O.Sink.faults c.print.new.out;
     } in
     let err : Change = record {
       tells = g.E.Sink.tells c.args.err.now;
       old = g.E.Sink.taken c.args.err.now;
-      new = g.E.Sink.taken c.deliver.new.err;
+      new = g.E.Sink.taken c.print.new.err;
       before = g.E.Sink.faults c.args.err.now;
-      now = g.E.Sink.faults c.deliver.new.err;
+      now = g.E.Sink.faults c.print.new.err;
     } in
     record {
-      due = due_of c.in-Ok.due a.0;
-      is_due = composed a.2;
-      is_delivered = subst (λ (t : List ℕ). IsDelivered (record { status = c.in-Ok.due.status; text = t; steps = a.0 }) out err c.deliver.result)
-          c.as_slice.ensures.value (c.deliver.ensures a.0);
+      due = printed c.in-Ok.text.items a.0;
+      owes = a.2;
+      delivers = subst (λ (t : List ℕ). Prints t out err c.print.result) c.as_slice.ensures.value c.print.ensures;
       counted = λ ne. a.1;
     }
 
-pub returns-in-Err : goal.returns-in-Err
-returns-in-Err g c =
-    record { due = unrun 9 no_memory_line; is_due = out_of_memory refl; is_delivered = c.deliver-in-Err.ensures 0; counted = λ ne. absurd (ne refl) }
+pub returns-in-Err-Refused : goal.returns-in-Err-Refused
+returns-in-Err-Refused g c =
+    let a = rw c.in-Err-Refused.field-0-is at c.in-Err-Refused.ensures.owed in
+    let out : Change = record {
+      tells = g.O.Sink.tells c.args.out.now;
+      old = g.O.Sink.taken c.args.out.now;
+      new = g.O.Sink.taken c.refuse.new.out;
+      before = g.O.Sink.faults c.args.out.now;
+      now = g.O.Sink.faults c.refuse.new.out;
+    } in
+    let err : Change = record {
+      tells = g.E.Sink.tells c.args.err.now;
+      old = g.E.Sink.taken c.args.err.now;
+      new = g.E.Sink.taken c.refuse.new.err;
+      before = g.E.Sink.faults c.args.err.now;
+      now = g.E.Sink.faults c.refuse.new.err;
+    } in
+    let refused = c.in-Err-Refused.refused in
+    record {
+      due = due_after a.0 refused;
+      owes = a.2;
+      delivers = subst (λ (t : List ℕ). Refuses (status_number refused.status) t out err c.refuse.result) c.as_slice-in-Err-Refused.ensures.value c.refuse.ensures;
+      counted = λ ne. a.1;
+    }
+
+pub returns-in-Err-Memory : goal.returns-in-Err-Memory
+returns-in-Err-Memory g c =
+    record { due = refusal NoMemory no_memory_line; owes = out_of_memory refl; delivers = c.refuse-in-Err-Memory.ensures; counted = λ ne. absurd (ne refl) }

@@ -1,12 +1,13 @@
 use Rattle.std.proofs.Common.{List, ℕ, subst}
 use Rattle.ribbit_tool.specs.Delivery.{Change}
-use Rattle.ribbit_tool.specs.Promise.{Reading, Counting, IsRun}
+use Rattle.ribbit_tool.specs.Promise.{Source, Counting, Performs}
+use Rattle.ribbit_tool.proofs.HeadlineLaws.{headlined}
 use Rattle.ribbit_tool.proofs.PromiseLaws.{promised}
 use Rattle.ribbit_tool.proofs.top.ribbit.Goals as goal
 
 pub returns-clause-right : goal.returns-clause-right
 returns-clause-right g c =
-    let source : Reading = record {
+    let source : Source = record {
       tells = g.S.Source.tells c.args.src.now;
       held = g.S.Source.held c.args.src.now;
       before = g.S.Source.faults c.args.src.now;
@@ -28,4 +29,30 @@ returns-clause-right g c =
     } in
     let steps : Counting = record { before = c.args.steps.now.taken; now = c.answer.new.steps.taken } in
     promised c.args.words.now source out err steps c.answer.result
-    (subst (λ (ws : List (List ℕ)). IsRun ws source out err steps c.answer.result) c.as_slice.ensures c.answer.ensures)
+    (subst (λ (ws : List (List ℕ)). Performs ws source out err steps c.answer.result) c.as_slice.ensures c.answer.ensures)
+
+pub returns-clause-headline : goal.returns-clause-headline
+returns-clause-headline g c =
+    let source : Source = record {
+      tells = g.S.Source.tells c.args.src.now;
+      held = g.S.Source.held c.args.src.now;
+      before = g.S.Source.faults c.args.src.now;
+      now = g.S.Source.faults c.answer.new.src;
+    } in
+    let out : Change = record {
+      tells = g.O.Sink.tells c.args.out.now;
+      old = g.O.Sink.taken c.args.out.now;
+      new = g.O.Sink.taken c.answer.new.out;
+      before = g.O.Sink.faults c.args.out.now;
+      now = g.O.Sink.faults c.answer.new.out;
+    } in
+    let err : Change = record {
+      tells = g.E.Sink.tells c.args.err.now;
+      old = g.E.Sink.taken c.args.err.now;
+      new = g.E.Sink.taken c.answer.new.err;
+      before = g.E.Sink.faults c.args.err.now;
+      now = g.E.Sink.faults c.answer.new.err;
+    } in
+    let steps : Counting = record { before = c.args.steps.now.taken; now = c.answer.new.steps.taken } in
+    headlined c.args.words.now source out err steps c.answer.result (promised c.args.words.now source out err steps c.answer.result
+    (subst (λ (ws : List (List ℕ)). Performs ws source out err steps c.answer.result) c.as_slice.ensures c.answer.ensures))

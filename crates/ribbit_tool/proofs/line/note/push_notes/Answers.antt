@@ -1,4 +1,4 @@
-use Rattle.ribbit_tool.specs.Accepting.{note_text}
+use Rattle.ribbit_tool.specs.Check.{note_text}
 use Rattle.rb_target.proofs.Texts.{appended}
 use Rattle.ribbit_tool.proofs.TextLaws.{flat_map_next}
 use Rattle.ribbit_tool.proofs.line.note.push_notes.Goals as goal

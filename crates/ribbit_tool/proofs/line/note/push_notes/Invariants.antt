@@ -1,6 +1,6 @@
 use Rattle.std.proofs.Common.{◌≡◌, ◌++◌, take}
 use Rattle.std.specs.List.{flat_map}
-use Rattle.ribbit_tool.specs.Accepting.{note_text}
+use Rattle.ribbit_tool.specs.Check.{note_text}
 use Rattle.ribbit_tool.proofs.line.note.push_notes.Given as goal
 
 abbrev pub invariant-loop-unreached : goal.invariant-loop-unreached

@@ -1,0 +1,56 @@
+-- What is due to a code text, the name of a function, limits and words.
+use Rattle.std.specs.Prelude.{◌≡◌, ℕ, List, length, ◌==◌, if◌then◌else◌, Option, Some, None, slice_get}
+use Rattle.std.specs.List.{position}
+use Rattle.std.specs.Str.{bytes_eq}
+use Rattle.rb_bytes.specs.Memory.{empty_memory}
+use Rattle.rb_machine.specs.Runs.{params_in}
+use Rattle.rb_target.specs.declared.code.CodeFun.{CodeFun}
+use Rattle.rb_target.specs.declared.fault.CodeFault.{CodeFault}
+use Rattle.rb_target.specs.declared.fault.CodeFault.TheVariants.{CodeSyntax}
+use Rattle.rb_target.specs.declared.outcome.End.{End}
+use Rattle.rb_target.specs.declared.outcome.End.TheVariants.{Returned, Spent, Full, Trapped}
+use Rattle.rb_target.specs.Faults.{IsFirstFault}
+use Rattle.rb_target.specs.Meaning.{Outcome, run_of}
+use Rattle.rb_target.specs.Stopping.{IsTextOf, StopsAt}
+use Rattle.rb_target.specs.Text.{code_text}
+use Rattle.rb_target.specs.Validity.{IsValid}
+use Rattle.ribbit_tool.specs.Answer.{Due, printed, refused, refusal}
+use Rattle.ribbit_tool.specs.Command.{Limits}
+use Rattle.ribbit_tool.specs.Lines.{words_line, spent_line, full_line, trap_line, no_function_line, count_line, code_line}
+use Rattle.ribbit_tool.specs.declared.status.Status.TheVariants as status
+
+-- the returned words, or the line of any other end
+abbrev pub end_due : End → ℕ → ℕ → Due
+end_due (Returned words left) calls steps = printed (words_line words) steps
+end_due Spent calls steps = refused status.Spent (spent_line calls) steps
+end_due (Full f) calls steps = refused status.Full (full_line f) steps
+end_due (Trapped t) calls steps = refused status.Trap (trap_line t) steps
+
+abbrev pub outcome_due : Outcome → ℕ → Due
+outcome_due o calls = end_due o.ended calls o.world.taken
+
+-- the number of the first function of this name
+abbrev pub fun_named : List CodeFun → List ℕ → Option ℕ
+fun_named funs name = position (λ f. bytes_eq f.name name) funs
+
+-- a function is given as many words as it has parameters, and runs over an empty memory
+abbrev pub call_due : List CodeFun → Limits → List ℕ → ℕ → Due
+call_due funs limits words f =
+    if length words == params_in (slice_get funs f)
+    then outcome_due (run_of funs limits.calls f words (empty_memory limits.region)) limits.calls
+    else refusal status.Argument (count_line (params_in (slice_get funs f)) (length words))
+
+abbrev pub named_due : List CodeFun → List ℕ → Limits → List ℕ → Option ℕ → Due
+named_due funs name limits words None = refusal status.Argument (no_function_line name)
+named_due funs name limits words (Some f) = call_due funs limits words f
+
+abbrev pub exec_due : List CodeFun → List ℕ → Limits → List ℕ → Due
+exec_due funs name limits words = named_due funs name limits words (fun_named funs name)
+
+-- What is due to the bytes of a code text: valid code is run, and of other functions the first fault is
+-- shown. Where the bytes are no text of functions, it is the first byte from which none goes on.
+pub data Executes (name : List ℕ) (limits : Limits) (words : List ℕ) (bytes : List ℕ) (due : Due) : Type 0 where
+  executed : (funs : List CodeFun) → IsValid funs → bytes ≡ code_text funs → due ≡ exec_due funs name limits words → Executes name limits words bytes due
+  faulty : (funs : List CodeFun) → IsTextOf bytes funs → (fault : CodeFault) → IsFirstFault funs fault → due ≡ refusal status.Code (code_line fault)
+      → Executes name limits words bytes due
+  no_code : (at : ℕ) → StopsAt bytes at → due ≡ refusal status.Code (code_line (CodeSyntax at)) → Executes name limits words bytes due

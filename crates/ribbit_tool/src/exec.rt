@@ -1,0 +1,172 @@
+//! The command `exec`: a function of a code text is run.
+
+ghost use Rattle.std.specs.Prelude.{◌≡◌, ◌≢◌, ◌≤◌, ◌<◌, ◌+◌, ℕ, length, IfOk, IfSome, Ok, slice_get};
+ghost use Rattle.rb_bytes.specs.Memory.{empty_memory};
+ghost use Rattle.rb_machine.specs.Runs.{params_in};
+ghost use Rattle.rb_target.specs.Meaning.{run_of};
+ghost use Rattle.rb_target.specs.declared.fault.CodeFault.TheVariants.{Memory};
+ghost use Rattle.ribbit_tool.specs.Answer.{refusal};
+ghost use Rattle.ribbit_tool.specs.Answers.{Owes};
+ghost use Rattle.ribbit_tool.specs.Command as spec;
+ghost use Rattle.ribbit_tool.specs.Exec.{Executes, call_due, end_due, exec_due, fun_named, outcome_due};
+ghost use Rattle.ribbit_tool.specs.Lines.{code_line};
+ghost use Rattle.ribbit_tool.specs.View.{limits_view, due_of, Meets};
+ghost use Rattle.ribbit_tool.specs.declared.status.Status.TheVariants as status;
+
+use crate::limits::Limits;
+use crate::line;
+use crate::reading::{CODE_LIMIT, read_within};
+use crate::refusal::{Refusal, Refused};
+use crate::status::Status;
+use rb_bytes::checked::CheckedMemory;
+use rb_edge::source::Source;
+use rb_edge::steps::{Ledger, Steps};
+use rb_machine::run::run;
+use rb_target::code::{Code, CodeFun};
+use rb_target::fault::CodeFault;
+use rb_target::outcome::End;
+use rb_target::read::read_code;
+use std::alloc::{AllocError, Global};
+
+// The text of a run's end, or the refusal in its place.
+fn show(alloc: Global, end: &End, calls: u64) -> Result<Vec<u8>, Refusal>
+    ensures { (before steps : ℕ) → Meets (λ due. due ≡ end_due end.now calls steps) before (before + steps) result }
+{
+    let (status, line) = match end {
+        End::Returned { words, .. } => {
+            let text = line::words(alloc, words.as_slice())?;
+            return Ok(text);
+        }
+        End::Spent => (Status::Spent, line::spent(alloc, calls)?),
+        End::Full(full) => (Status::Full, line::full(alloc, *full)?),
+        End::Trapped(trap) => (Status::Trap, line::trap(alloc, *trap)?),
+    };
+    Err(Refusal::Refused(Refused { status, line }))
+}
+
+// The number of the first function of this name.
+fn find(funs: &[CodeFun], name: &[u8]) -> Option<usize>
+    ensures value { result ≡ fun_named funs.now name.now }
+    ensures within { IfSome result (λ f. f < length funs.now) }
+{
+    funs.iter().position(|fun| fun.name.as_slice() == name)
+}
+
+// Runs the function of this number over an empty memory.
+fn run_words<L: Ledger>(
+    alloc: Global,
+    code: &Code,
+    number: usize,
+    limits: Limits,
+    words: &[u64],
+    steps: &mut Steps<L>,
+) -> Result<Vec<u8>, Refusal>
+    requires known { number < length code.now }
+    requires many { length words.now ≡ params_in (slice_get code.now number) }
+    ensures { Meets (λ due. due ≡ outcome_due (run_of code.now limits.calls number words.now (empty_memory limits.region)) limits.calls)
+        steps.old.taken steps.new.taken result }
+{
+    let mut memory = CheckedMemory::new(alloc, limits.region)?;
+    let ran = run(alloc, code, number, words, &mut memory, limits.calls, steps)?;
+    show(alloc, &ran.end, limits.calls)
+}
+
+// Runs the function of this number, where it takes so many words.
+fn run_fun<L: Ledger>(
+    alloc: Global,
+    code: &Code,
+    number: usize,
+    limits: Limits,
+    words: &[u64],
+    steps: &mut Steps<L>,
+) -> Result<Vec<u8>, Refusal>
+    requires { number < length code.now }
+    ensures { Meets (λ due. due ≡ call_due code.now (limits_view limits) words.now number) steps.old.taken steps.new.taken result }
+{
+    let wanted = code.funs()[number].params;
+    if words.len() != wanted {
+        let line = line::count(alloc, wanted as u64, words.len() as u64)?;
+        return Err(Refusal::Refused(Refused {
+            status: Status::Argument,
+            line,
+        }));
+    }
+    run_words(alloc, code, number, limits, words, steps)
+}
+
+// Runs the code's first function of this name.
+fn run_named<L: Ledger>(
+    alloc: Global,
+    code: &Code,
+    name: &[u8],
+    limits: Limits,
+    words: &[u64],
+    steps: &mut Steps<L>,
+) -> Result<Vec<u8>, Refusal>
+    ensures { Meets (λ due. due ≡ exec_due code.now name.now (limits_view limits) words.now) steps.old.taken steps.new.taken result }
+{
+    match find(code.funs(), name) {
+        None => {
+            let line = line::no_function(alloc, name)?;
+            Err(Refusal::Refused(Refused {
+                status: Status::Argument,
+                line,
+            }))
+        }
+        Some(number) => run_fun(alloc, code, number, limits, words, steps),
+    }
+}
+
+// The answer to bytes that are no code.
+fn refuse_code(alloc: Global, fault: CodeFault) -> Result<Refused, AllocError>
+    ensures fault { IfOk result (λ c. fault ≢ Memory) }
+    ensures due { IfOk result (λ c. due_of c ≡ refusal status.Code (code_line fault)) }
+{
+    if matches!(fault, CodeFault::Memory) {
+        return Err(AllocError);
+    }
+    let line = line::code(alloc, fault)?;
+    Ok(Refused {
+        status: Status::Code,
+        line,
+    })
+}
+
+// The text for a code text within the limit.
+fn run_code<L: Ledger>(
+    alloc: Global,
+    bytes: &[u8],
+    function: &[u8],
+    limits: Limits,
+    words: &[u64],
+    steps: &mut Steps<L>,
+) -> Result<Vec<u8>, Refusal>
+    ensures { Meets (Executes function.now (limits_view limits) words.now bytes.now) steps.old.taken steps.new.taken result }
+{
+    match read_code(alloc, bytes) {
+        Ok(code) => run_named(alloc, &code, function, limits, words, steps),
+        Err(fault) => {
+            let refused = refuse_code(alloc, fault)?;
+            Err(Refusal::Refused(refused))
+        }
+    }
+}
+
+/// The words that a function of a code text returns on these words, within limits.
+pub fn run_code_file<S: Source, L: Ledger>(
+    alloc: Global,
+    src: &mut S,
+    code: &[u8],
+    function: &[u8],
+    limits: Limits,
+    words: &[u64],
+    steps: &mut Steps<L>,
+) -> Result<Vec<u8>, Refusal>
+    ensures later { S.faults src.old ≤ S.faults src.new }
+    ensures owed { Meets
+        (Owes (Ok (spec.exec code.now function.now (limits_view limits) words.now)) (S.tells src.old) (S.held src.old) (S.faults src.old) (S.faults src.new))
+        steps.old.taken steps.new.taken result }
+{
+    let bytes = read_within(alloc, src, code, CODE_LIMIT)?;
+    run_code(alloc, bytes.as_slice(), function, limits, words, steps)
+}
