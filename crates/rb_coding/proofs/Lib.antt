@@ -5,6 +5,7 @@ pub mod GrowLemmas
 pub mod LeafLemmas
 pub mod LeafShowing
 pub mod PlaceLemmas
+pub mod PlanForms
 pub mod PlanLemmas
 pub mod PostLemmas
 pub mod TableLemmas
