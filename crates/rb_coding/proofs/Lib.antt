@@ -4,6 +4,7 @@ pub mod EncodeLemmas
 pub mod GrowLemmas
 pub mod LeafLemmas
 pub mod LeafShowing
+pub mod OpenWords
 pub mod PlaceLemmas
 pub mod PlanForms
 pub mod PlanLemmas

@@ -1,6 +1,6 @@
 -- Plans pattern by pattern: their equations, a constructor's fields from the last one on, and that the
 -- plan of a value's leaf opens the words of the value.
-use Rattle.std.proofs.Common.{◌≡◌, ℕ, zero, suc, ◌+◌, ◌*◌, ◌<◌, ◌≤◌, length, map, drop, List, [], ◌∷◌, ◌++◌, true, false, Some, refl, sym, subst, ap, ◌∙◌, arith, append_assoc, append-nil}
+use Rattle.std.proofs.Common.{◌≡◌, ℕ, zero, suc, ◌+◌, ◌*◌, ◌<◌, ◌≤◌, length, map, drop, List, [], ◌∷◌, ◌++◌, true, false, Some, None, refl, sym, subst, ap, ◌∙◌, arith, append_assoc, append-nil}
 use Rattle.std.specs.Prelude.{slice_get}
 use Rattle.std.proofs.lemmas.Option.{same_Some}
 use Rattle.rb_core.specs.declared.value.Value.{Value}
@@ -71,6 +71,28 @@ module _ (types : List DataDecl) (ss : List ℕ → List ℕ) where
   -- behind the last field there is none
   pub plan_end : (ps : List Pat) (ts : List Ty) (path : List ℕ) (i : ℕ) → length ps ≤ i → plan_from ps ts path i ≡ []
   plan_end ps ts path i le = ap (λ (xs : List Pat). fields_plan (map (plan_of types ss) xs) (drop i ts) path i) (past ps i le)
+
+  none_typed : (fs : List Planned) (path : List ℕ) (k : ℕ) → fields_plan fs [] path k ≡ []
+  none_typed [] path k = refl
+  none_typed (f ∷ fs) path k = refl
+
+  untyped : (ps : List Pat) (ts : List Ty) (path : List ℕ) (i k : ℕ) → slice_get ts i ≡ None → fields_plan (map (plan_of types ss) (drop i ps)) (drop i ts) path k ≡ []
+  untyped ps [] path zero k e = none_typed (map (plan_of types ss) ps) path k
+  untyped ps [] path (suc i) k e = none_typed (map (plan_of types ss) (drop (suc i) ps)) path k
+  untyped ps (t ∷ ts) path zero k e = absurd cc
+  untyped [] (t ∷ ts) path (suc i) k e = refl
+  untyped (q ∷ ps) (t ∷ ts) path (suc i) k e = untyped ps ts path i k e
+
+  untyped_next : (ts : List Ty) (i : ℕ) → slice_get ts i ≡ None → slice_get ts (suc i) ≡ None
+  untyped_next [] i e = refl
+  untyped_next (t ∷ ts) zero e = absurd cc
+  untyped_next (t ∷ ts) (suc i) e = untyped_next ts i e
+
+  -- and a subpattern without a field has no steps
+  pub plan_no_field : (ps : List Pat) (ts : List Ty) (path : List ℕ) (i : ℕ) → slice_get ts i ≡ None → plan_from ps ts path i ≡ plan_from ps ts path (i + 1)
+  plan_no_field ps ts path i e =
+      let z : suc i ≡ i + 1 = omega arith in
+      untyped ps ts path i i e ∙ sym (untyped ps ts path (i + 1) (i + 1) (ap (slice_get ts) (sym z) ∙ untyped_next ts i e))
 
   field_next : (ps : List Pat) (ts : List Ty) (i : ℕ) (q : Pat) (t : Ty) (path : List ℕ) (k : ℕ) → slice_get ps i ≡ Some q → slice_get ts i ≡ Some t
       → fields_plan (map (plan_of types ss) (drop i ps)) (drop i ts) path k
@@ -213,12 +235,28 @@ module _ (p : Program) (typed : IsTyped p) (agrees : Agrees p) (m : Memory) (goo
   abbrev pub AreSubs : Leaf → (List ℕ → List ℕ) → Type 0
   AreSubs leaf subs = AtOpens (λ path ty. (u : Value) × AreOf p m ty (subs path) u) (open_positions p.types leaf.prov) []
 
-  made_leaf : (v : Value) (b : Made p.types (flat_layouts p) m false t v ws) (layout : Layout) (n : ℕ) (leaf : Leaf)
-      → layout_of (flat_layouts p) t ≡ Some layout → leaf_of layout v ≡ Some n → slice_get layout.leaves n ≡ Some leaf → b.leaf ≡ leaf
-  made_leaf v b layout n leaf is_layout is_leaf is_number =
+  made_number : (v : Value) (b : Made p.types (flat_layouts p) m false t v ws) (layout : Layout) (n : ℕ) → layout_of (flat_layouts p) t ≡ Some layout → leaf_of layout v ≡ Some n → slice_get layout.leaves n ≡ Some b.leaf
+  made_number v b layout n is_layout is_leaf =
       let e1 : b.layout ≡ layout = same_Some b.layout layout (sym b.is_layout ∙ is_layout) in
       let e2 : b.number ≡ n = same_Some b.number n (sym b.is_leaf ∙ ap (λ (y : Layout). leaf_of y v) e1 ∙ is_leaf) in
-      same_Some b.leaf leaf (sym b.is_number ∙ ap (λ (y : Layout). slice_get y.leaves b.number) e1 ∙ ap (slice_get layout.leaves) e2 ∙ is_number)
+      ap (slice_get layout.leaves) (sym e2) ∙ ap (λ (y : Layout). slice_get y.leaves b.number) (sym e1) ∙ b.is_number
+
+  -- the leaf to which the splits lead is the value's
+  led : (v : Value) → AreOf p m (Named t) ws v → (layout : Layout) (n : ℕ) → layout_of (flat_layouts p) t ≡ Some layout → walk layout.tree ws m ≡ Some n → leaf_of layout v ≡ Some n
+  led v rep layout n is_layout walks =
+      let l = leads p.types (flat_layouts p) m false good (lawful p agrees typed) t v ws layout is_layout rep in l.1 ∙ ap Some (same_Some l.0 n (sym l.2 ∙ walks))
+
+  -- where a value is represented, its type has a layout, the splits lead somewhere, and there a leaf is
+  pub no_layout : layout_of (flat_layouts p) t ≡ None → (v : Value) → AreOf p m (Named t) ws v → ⊥
+  no_layout e v rep = let d = (opened p.types (flat_layouts p) m false rep).made in let h = sym d.is_layout ∙ e in cc
+
+  pub no_way : (layout : Layout) → layout_of (flat_layouts p) t ≡ Some layout → walk layout.tree ws m ≡ None → (v : Value) → AreOf p m (Named t) ws v → ⊥
+  no_way layout is_layout e v rep = let l = leads p.types (flat_layouts p) m false good (lawful p agrees typed) t v ws layout is_layout rep in let h = sym l.2 ∙ e in cc
+
+  pub no_leaf : (layout : Layout) (n : ℕ) → layout_of (flat_layouts p) t ≡ Some layout → walk layout.tree ws m ≡ Some n → slice_get layout.leaves n ≡ None → (v : Value) → AreOf p m (Named t) ws v → ⊥
+  no_leaf layout n is_layout walks e v rep =
+      let d = (opened p.types (flat_layouts p) m false rep).made in
+      let h = sym (made_number v d layout n is_layout (led v rep layout n is_layout walks)) ∙ e in cc
 
   module _ (layout : Layout) (n : ℕ) (leaf : Leaf) (is_layout : layout_of (flat_layouts p) t ≡ Some layout) (walks : walk layout.tree ws m ≡ Some n) (is_number : slice_get layout.leaves n ≡ Some leaf)
       (old new : List Step) where
@@ -226,11 +264,10 @@ module _ (p : Program) (typed : IsTyped p) (agrees : Agrees p) (m : Memory) (goo
     pub opens : ((subs : List ℕ → List ℕ) (ats : ℕ → ℕ) → Placed leaf ws m false subs ats → AreSubs leaf subs → new ≡ old ++ plan_of p.types subs leaf.prov (Named t) []) → IsOpened p m t ws old new
     opens planned = λ v rep.
         (let law = lawful p agrees typed in
-        let l = leads p.types (flat_layouts p) m false good law t v ws layout is_layout rep in
-        let is_leaf : leaf_of layout v ≡ Some n = l.1 ∙ ap Some (same_Some l.0 n (sym l.2 ∙ walks)) in
+        let is_leaf = led v rep layout n is_layout walks in
         let o = opened p.types (flat_layouts p) m false rep in
         let d = o.made in
-        let e = made_leaf v d layout n leaf is_layout is_leaf is_number in
+        let e : d.leaf ≡ leaf = same_Some d.leaf leaf (sym (made_number v d layout n is_layout is_leaf) ∙ is_number) in
         let placed : Placed leaf ws m false d.subs d.ats = subst (λ (y : Leaf). Placed y ws m false d.subs d.ats) e d.placed in
         let at : (k : ℕ) (q : Open) → slice_get (open_positions p.types leaf.prov) k ≡ Some q → slice_get (open_positions p.types d.leaf.prov) k ≡ Some q =
         λ k q x. ap (λ (y : Leaf). slice_get (open_positions p.types y.prov) k) e ∙ x in
