@@ -230,7 +230,7 @@ root_is_con t = induction (RootIsCon t) (record {
   con = λ at c ps each e. (at, c, ps, refl);
 })
 
-module _ (p : Program) (typed : IsTyped p) (agrees : Agrees p) (m : Memory) (good : IsGood m) (t : ℕ) (ws : List ℕ) where
+module _ (p : Program) (typed : IsTyped p) (agrees : Agrees p) (m : Memory) (t : ℕ) (ws : List ℕ) where
   -- the words at each open position of a leaf represent some value there
   abbrev pub AreSubs : Leaf → (List ℕ → List ℕ) → Type 0
   AreSubs leaf subs = AtOpens (λ path ty. (u : Value) × AreOf p m ty (subs path) u) (open_positions p.types leaf.prov) []
@@ -242,32 +242,33 @@ module _ (p : Program) (typed : IsTyped p) (agrees : Agrees p) (m : Memory) (goo
       ap (slice_get layout.leaves) (sym e2) ∙ ap (λ (y : Layout). slice_get y.leaves b.number) (sym e1) ∙ b.is_number
 
   -- the leaf to which the splits lead is the value's
-  led : (v : Value) → AreOf p m (Named t) ws v → (layout : Layout) (n : ℕ) → layout_of (flat_layouts p) t ≡ Some layout → walk layout.tree ws m ≡ Some n → leaf_of layout v ≡ Some n
-  led v rep layout n is_layout walks =
+  pub led : IsGood m → (layout : Layout) (n : ℕ) → layout_of (flat_layouts p) t ≡ Some layout → walk layout.tree ws m ≡ Some n → (v : Value) → AreOf p m (Named t) ws v → leaf_of layout v ≡ Some n
+  led good layout n is_layout walks v rep =
       let l = leads p.types (flat_layouts p) m false good (lawful p agrees typed) t v ws layout is_layout rep in l.1 ∙ ap Some (same_Some l.0 n (sym l.2 ∙ walks))
 
-  -- where a value is represented, its type has a layout, the splits lead somewhere, and there a leaf is
+  -- where a value is represented, its type has a layout, the splits lead somewhere, and there its leaf is
   pub no_layout : layout_of (flat_layouts p) t ≡ None → (v : Value) → AreOf p m (Named t) ws v → ⊥
   no_layout e v rep = let d = (opened p.types (flat_layouts p) m false rep).made in let h = sym d.is_layout ∙ e in cc
 
-  pub no_way : (layout : Layout) → layout_of (flat_layouts p) t ≡ Some layout → walk layout.tree ws m ≡ None → (v : Value) → AreOf p m (Named t) ws v → ⊥
-  no_way layout is_layout e v rep = let l = leads p.types (flat_layouts p) m false good (lawful p agrees typed) t v ws layout is_layout rep in let h = sym l.2 ∙ e in cc
+  pub no_way : IsGood m → (layout : Layout) → layout_of (flat_layouts p) t ≡ Some layout → walk layout.tree ws m ≡ None → (v : Value) → AreOf p m (Named t) ws v → ⊥
+  no_way good layout is_layout e v rep =
+      let l = leads p.types (flat_layouts p) m false good (lawful p agrees typed) t v ws layout is_layout rep in
+      let h = sym l.2 ∙ e in cc
 
-  pub no_leaf : (layout : Layout) (n : ℕ) → layout_of (flat_layouts p) t ≡ Some layout → walk layout.tree ws m ≡ Some n → slice_get layout.leaves n ≡ None → (v : Value) → AreOf p m (Named t) ws v → ⊥
-  no_leaf layout n is_layout walks e v rep =
+  pub no_leaf : (layout : Layout) (n : ℕ) → layout_of (flat_layouts p) t ≡ Some layout → slice_get layout.leaves n ≡ None → (v : Value) → AreOf p m (Named t) ws v → leaf_of layout v ≡ Some n → ⊥
+  no_leaf layout n is_layout e v rep is_leaf =
       let d = (opened p.types (flat_layouts p) m false rep).made in
-      let h = sym (made_number v d layout n is_layout (led v rep layout n is_layout walks)) ∙ e in cc
+      let h = sym (made_number v d layout n is_layout is_leaf) ∙ e in cc
 
-  module _ (layout : Layout) (n : ℕ) (leaf : Leaf) (is_layout : layout_of (flat_layouts p) t ≡ Some layout) (walks : walk layout.tree ws m ≡ Some n) (is_number : slice_get layout.leaves n ≡ Some leaf)
-      (old new : List Step) where
+  module _ (layout : Layout) (n : ℕ) (leaf : Leaf) (is_layout : layout_of (flat_layouts p) t ≡ Some layout) (is_leaf : (v : Value) → AreOf p m (Named t) ws v → leaf_of layout v ≡ Some n)
+      (is_number : slice_get layout.leaves n ≡ Some leaf) (old new : List Step) where
     -- steps are added that open the words, where they are the leaf's plan for any words at its open positions that these can have
     pub opens : ((subs : List ℕ → List ℕ) (ats : ℕ → ℕ) → Placed leaf ws m false subs ats → AreSubs leaf subs → new ≡ old ++ plan_of p.types subs leaf.prov (Named t) []) → IsOpened p m t ws old new
     opens planned = λ v rep.
         (let law = lawful p agrees typed in
-        let is_leaf = led v rep layout n is_layout walks in
         let o = opened p.types (flat_layouts p) m false rep in
         let d = o.made in
-        let e : d.leaf ≡ leaf = same_Some d.leaf leaf (sym (made_number v d layout n is_layout is_leaf) ∙ is_number) in
+        let e : d.leaf ≡ leaf = same_Some d.leaf leaf (sym (made_number v d layout n is_layout (is_leaf v rep)) ∙ is_number) in
         let placed : Placed leaf ws m false d.subs d.ats = subst (λ (y : Leaf). Placed y ws m false d.subs d.ats) e d.placed in
         let at : (k : ℕ) (q : Open) → slice_get (open_positions p.types leaf.prov) k ≡ Some q → slice_get (open_positions p.types d.leaf.prov) k ≡ Some q =
         λ k q x. ap (λ (y : Leaf). slice_get (open_positions p.types y.prov) k) e ∙ x in
@@ -275,7 +276,7 @@ module _ (p : Program) (typed : IsTyped p) (agrees : Agrees p) (m : Memory) (goo
         let from_root : (k : ℕ) (q : Open) → slice_get (opens_of p.types leaf.prov (Named t)) k ≡ Some q → slice_get (open_positions p.types leaf.prov) k ≡ Some q =
         λ k q x. ap (λ (ty : Ty). slice_get (opens_of p.types leaf.prov ty) k) root ∙ x in
         let z : 0 + n ≡ n = omega arith in
-        let matches = leaf_matches layout.leaves v 0 n leaf is_leaf n z is_number in
+        let matches = leaf_matches layout.leaves v 0 n leaf (is_leaf v rep) n z is_number in
         let fits = law.provenances.fits t layout n leaf is_layout is_number in
         let runs = plans p m d.subs leaf.prov (Named t) v [] fits matches (λ k q x. (d.at q.path, d.is_at k q (at k q (from_root k q x)), o.below k q (at k q (from_root k q x)))) in
         let c = root_is_con t leaf.prov root in
