@@ -1,6 +1,7 @@
 pub mod AllLemmas
 pub mod BitLemmas
 pub mod EncodeLemmas
+pub mod FieldWords
 pub mod GrowLemmas
 pub mod LeafLemmas
 pub mod LeafShowing
