@@ -2,7 +2,7 @@
 -- plan of a value's leaf opens the words of the value.
 use Rattle.std.proofs.Common.{◌≡◌, ℕ, zero, suc, ◌+◌, ◌*◌, ◌<◌, ◌≤◌, length, map, drop, List, [], ◌∷◌, ◌++◌, true, false, Some, None, refl, sym, subst, ap, ◌∙◌, arith, append_assoc, append-nil}
 use Rattle.std.specs.Prelude.{slice_get}
-use Rattle.std.proofs.lemmas.Option.{same_Some}
+use Rattle.std.proofs.lemmas.Option.{same_Some, slice_get_past}
 use Rattle.rb_core.specs.declared.value.Value.{Value}
 use Rattle.rb_core.specs.declared.types.Ty.{Ty}
 use Rattle.rb_core.specs.declared.types.Ty.TheVariants.{Int, Named}
@@ -111,6 +111,18 @@ module _ (types : List DataDecl) (ss : List ℕ → List ℕ) where
       let z : suc i ≡ i + 1 = omega arith in
       field_next ps ts i q t path i a b
       ∙ ap (λ j. fields_plan (map (plan_of types ss) (drop j ps)) (drop j ts) path (i + 1) ++ plan_of types ss q t (path ++ i ∷ [])) z
+
+  -- nor is there one behind the last type
+  pub plan_past : (ps : List Pat) (ts : List Ty) (path : List ℕ) (i : ℕ) → length ts ≤ i → plan_from ps ts path i ≡ []
+  plan_past ps ts path i le = untyped ps ts path i i (slice_get_past ts i le)
+
+  -- steps that are added grow by a field, from the last one to the first
+  pub plan_more : (ps : List Pat) (ts : List Ty) (path : List ℕ) (i k : ℕ) (q : Pat) (t : Ty) → k ≡ i + 1 → slice_get ps i ≡ Some q → slice_get ts i ≡ Some t
+      → (old mid new : List Step) → mid ≡ old ++ plan_from ps ts path k → new ≡ mid ++ plan_of types ss q t (path ++ i ∷ []) → new ≡ old ++ plan_from ps ts path i
+  plan_more ps ts path i k q t up a b old mid new is more =
+      more ∙ ap (λ xs. xs ++ plan_of types ss q t (path ++ i ∷ [])) (is ∙ ap (λ j. old ++ plan_from ps ts path j) up)
+      ∙ append_assoc old (plan_from ps ts path (i + 1)) (plan_of types ss q t (path ++ i ∷ []))
+      ∙ ap (λ xs. old ++ xs) (sym (plan_field ps ts path i q t a b))
 
   -- so the things to do grow by a field, from the last one to the first
   pub plan_pushed : (ps : List Pat) (ts : List Ty) (path : List ℕ) (i : ℕ) (q : Pat) (t : Ty) → slice_get ps i ≡ Some q → slice_get ts i ≡ Some t
