@@ -1,9 +1,8 @@
 -- The tests on the way to the leaf of a value pass, and what they read is loaded by widths of block words.
-use Rattle.std.proofs.Common.{◌≡◌, ℕ, zero, suc, ◌+◌, List, [], ◌∷◌, false, Option, Some, None, refl, sym, subst, ap, ◌∙◌}
+use Rattle.std.proofs.Common.{◌≡◌, ℕ, zero, suc, List, [], ◌∷◌, false, Option, Some, None, refl, sym, subst, ap, ◌∙◌}
 use Rattle.std.specs.Prelude.{slice_get}
 use Rattle.std.proofs.lemmas.Option.{same_Some}
 use Rattle.rb_core.specs.declared.value.Value.{Value}
-use Rattle.rb_core.specs.declared.types.Ty.TheVariants.{Named}
 use Rattle.rb_core.specs.declared.program.Program.{Program}
 use Rattle.rb_core.specs.declared.layout_decl.Loc.{Loc}
 use Rattle.rb_core.specs.declared.layout_decl.Step.{Step}
@@ -12,7 +11,6 @@ use Rattle.rb_bits.specs.Words.{take_of}
 use Rattle.rb_bytes.specs.Memory.{Memory, IsGood, IsWidth}
 use Rattle.rb_layout.specs.declared.layout.Block.{Block}
 use Rattle.rb_layout.specs.declared.layout.FlatWord.{FlatWord}
-use Rattle.rb_layout.specs.declared.layout.Layout.{Layout}
 use Rattle.rb_layout.specs.declared.layout.Leaf.{Leaf}
 use Rattle.rb_layout.specs.declared.layout.WordRef.{WordRef}
 use Rattle.rb_layout.specs.A4.{IsBlockWidth}
@@ -22,7 +20,6 @@ use Rattle.rb_layout.specs.Excluded.{Excludes}
 use Rattle.rb_layout.specs.Flat.{IsFlat}
 use Rattle.rb_layout.specs.Flattening.{flat_layouts}
 use Rattle.rb_layout.specs.Locations.{Reached, reached_at, known_in, next_ref, ref_in, block_at, word_beginning, resolve_from}
-use Rattle.rb_layout.specs.Positions.{open_positions}
 use Rattle.rb_layout.specs.Splits.{Test, Is, IsNone}
 use Rattle.rb_layout.specs.Words.{words_in, words_of_block, flat_at}
 use Rattle.rb_rel.specs.Reading.{read_loc}
@@ -31,7 +28,7 @@ use Rattle.rb_rel.proofs.Barred.{never, no_null}
 use Rattle.rb_rel.proofs.Known.{constant_bits-is}
 use Rattle.rb_rel.proofs.Reading.{word_beginning-is, reads_loc}
 use Rattle.rb_rel.proofs.Represented.{Opened}
-use Rattle.rb_coding.specs.inner.Leading.{Reads, Passes, Leads}
+use Rattle.rb_coding.specs.inner.Leading.{Passes, Leads}
 
 module _ (leaf : Leaf) (wide : (b : ℕ) (block : Block) (j : ℕ) (f : FlatWord) → slice_get leaf.blocks b ≡ Some block → slice_get block.words j ≡ Some f → IsBlockWidth f.width) where
   in_block : (b : ℕ) (o : Option Block) (j : ℕ) (f : FlatWord) → slice_get leaf.blocks b ≡ o → slice_get (words_of_block o) j ≡ Some f → IsWidth f.width

@@ -1,7 +1,6 @@
 pub mod AllLemmas
 pub mod BitLemmas
 pub mod EncodeLemmas
-pub mod FieldLemmas
 pub mod FieldWords
 pub mod GatherLemmas
 pub mod GrowLemmas
@@ -10,7 +9,6 @@ pub mod LeafLemmas
 pub mod LeafShowing
 pub mod LoadLemmas
 pub mod OpenLemmas
-pub mod OpenTop
 pub mod OpenWords
 pub mod PlaceLemmas
 pub mod PlanForms

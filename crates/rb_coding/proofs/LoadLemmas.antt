@@ -1,5 +1,5 @@
 -- Blocks are loaded from the last to the first, each at the address that a pointer before it gave.
-use Rattle.std.proofs.Common.{◌≡◌, ℕ, zero, suc, ◌+◌, ◌-◌, ◌*◌, ◌/◌, ◌<◌, ◌≤◌, ◌⊎◌, inl, inr, List, [], ◌∷◌, ◌++◌, length, replicate, false, Option, Some, None, Ok, refl, sym, subst, ap, ◌∙◌, arith, Fits, w64}
+use Rattle.std.proofs.Common.{◌≡◌, ℕ, zero, suc, ◌+◌, ◌/◌, ◌<◌, ◌≤◌, inl, inr, List, [], ◌∷◌, ◌++◌, length, replicate, false, Option, Some, None, Ok, refl, sym, subst, ap, ◌∙◌, arith, Fits, w64}
 use Rattle.std.specs.Prelude.{slice_get, slice_index, slice_index_or}
 use Rattle.std.proofs.lemmas.Bool.{cases_eq}
 use Rattle.std.proofs.lemmas.List.{length-append, length-replicate}
@@ -12,7 +12,6 @@ use Rattle.rb_layout.specs.declared.layout.FlatWord.{FlatWord}
 use Rattle.rb_layout.specs.declared.layout.Kind.TheVariants.{Pointer}
 use Rattle.rb_layout.specs.declared.layout.Leaf.{Leaf}
 use Rattle.rb_layout.specs.declared.layout.Part.{Part}
-use Rattle.rb_layout.specs.declared.layout.WordRef.{WordRef}
 use Rattle.rb_layout.specs.Flat.{IsAbove}
 use Rattle.rb_layout.specs.Words.{words_in, words_of_block, flat_at, begins_at, size_of}
 use Rattle.rb_rel.specs.Relation.{Holds, Placed}

@@ -1,9 +1,11 @@
--- A value that is opened: what its leaf and its blocks are, and what its steps come to.
-use Rattle.std.proofs.Common.{◌≡◌, ℕ, List, [], ◌∷◌, ◌++◌, false, Option, Some, None, refl, sym, subst, ap, ◌∙◌}
-use Rattle.std.specs.Prelude.{slice_get}
+-- The words of a value of a data type are opened: its leaf is found, its blocks are loaded, and the plan
+-- of its provenance is added.
+use Rattle.std.proofs.Common.{◌≡◌, ℕ, List, [], ◌++◌, false, Some, None, Result, Ok, Err, sym, subst, ap, ◌∙◌}
+use Rattle.std.specs.Prelude.{slice_get, OnOk}
 use Rattle.std.proofs.lemmas.Option.{same_Some}
 use Rattle.rb_core.specs.declared.value.Value.{Value}
 use Rattle.rb_core.specs.declared.types.Ty.TheVariants.{Named}
+use Rattle.rb_core.specs.declared.types.DataDecl.{DataDecl}
 use Rattle.rb_core.specs.declared.program.Program.{Program}
 use Rattle.rb_core.specs.TypedPrograms.{IsTyped}
 use Rattle.rb_bytes.specs.Memory.{Memory, IsGood}
@@ -11,65 +13,72 @@ use Rattle.rb_layout.specs.declared.layout.Layout.{Layout}
 use Rattle.rb_layout.specs.declared.layout.Leaf.{Leaf}
 use Rattle.rb_layout.specs.Agreement.{Agrees}
 use Rattle.rb_layout.specs.Flattening.{flat_layouts}
-use Rattle.rb_layout.specs.Positions.{layout_of}
+use Rattle.rb_layout.specs.Positions.{leaf_of}
 use Rattle.rb_rel.specs.Relation.{Placed}
-use Rattle.rb_rel.specs.Reading.{walk}
 use Rattle.rb_rel.proofs.Agreeing.{lawful}
-use Rattle.rb_rel.proofs.Leading.{leads_made}
 use Rattle.rb_rel.proofs.Represented.{Opened, opened}
 use Rattle.rb_coding.specs.Decoding.{AreOf}
+use Rattle.rb_coding.specs.declared.todo.Step.{Step}
 use Rattle.rb_coding.specs.inner.Gathering.{field_words}
 use Rattle.rb_coding.specs.inner.Leading.{Leads}
 use Rattle.rb_coding.specs.inner.Loading.{AreWordsOf, IsLoadable}
 use Rattle.rb_coding.specs.inner.Planning.{plan_of}
 use Rattle.rb_coding.specs.inner.Todo.{IsOpened}
-use Rattle.rb_coding.specs.declared.todo.Step.{Step}
-use Rattle.rb_coding.proofs.FieldLemmas.{gathered}
+use Rattle.rb_coding.proofs.FieldWords.{opens_gathered}
 use Rattle.rb_coding.proofs.LeadLemmas.{leads_to}
-use Rattle.rb_coding.proofs.PlanForms.{opens_read}
+use Rattle.rb_coding.proofs.PlanForms.{no_leaf}
 
-module _ (p : Program) (typed : IsTyped p) (agrees : Agrees p) (m : Memory) (good : IsGood m) (t : ℕ) (ws : List ℕ) (v : Value) (rep : AreOf p m (Named t) ws v) where
-  -- how the value is represented
-  pub shown : Opened p.types (flat_layouts p) m false t v ws
-  shown = opened p.types (flat_layouts p) m false rep
+pub on_ok : {A E : Type 0} (r : Result A E) (P Q : Type 0) → (P → Q) → OnOk r P → OnOk r Q
+on_ok (Ok a) P Q f h = f h
+on_ok (Err e) P Q f h = h
 
-  pub layout_is : (layout : Option Layout) → layout ≡ layout_of (flat_layouts p) t → layout ≡ Some shown.made.layout
-  layout_is layout is = is ∙ shown.made.is_layout
+module _ (p : Program) (typed : IsTyped p) (agrees : Agrees p) (m : Memory) (good : IsGood m) (t : ℕ) (ws : List ℕ) (layout : Layout) (is_layout : slice_get (flat_layouts p) t ≡ Some layout) where
+  abbrev View : Value → Type 0
+  View v = Opened p.types (flat_layouts p) m false t v ws
 
-  -- its type's layout leads to its leaf
-  pub way : (layout : Layout) → Some layout ≡ layout_of (flat_layouts p) t → (n : ℕ) × Leads ws m layout.tree n
-  way layout is =
-      (shown.made.number, subst (λ (x : Layout). Leads ws m x.tree shown.made.number) (same_Some shown.made.layout layout (sym (layout_is (Some layout) is))) (leads_to p typed agrees m good t v ws shown))
+  view : (v : Value) → AreOf p m (Named t) ws v → View v
+  view v rep = opened p.types (flat_layouts p) m false rep
 
-  module _ (layout : Layout) (is : Some layout ≡ layout_of (flat_layouts p) t) (n : ℕ) (found : (k : ℕ) → Leads ws m layout.tree k → n ≡ k) where
-    same_layout : layout ≡ shown.made.layout
-    same_layout = same_Some layout shown.made.layout (layout_is (Some layout) is)
+  same : (v : Value) (o : View v) → o.made.layout ≡ layout
+  same v o = same_Some o.made.layout layout (sym o.made.is_layout ∙ is_layout)
 
-    number_is : n ≡ shown.made.number
-    number_is = found (way layout is).0 (way layout is).1
+  leads_in : (v : Value) (o : View v) → Leads ws m layout.tree o.made.number
+  leads_in v o = subst (λ (y : Layout). Leads ws m y.tree o.made.number) (same v o) (leads_to p typed agrees m good t v ws o)
 
-    pub leaf_is : (leaf : Option Leaf) → leaf ≡ slice_get layout.leaves n → leaf ≡ Some shown.made.leaf
-    leaf_is leaf at = at ∙ ap (slice_get layout.leaves) number_is ∙ ap (λ (x : Layout). slice_get x.leaves shown.made.number) same_layout ∙ shown.made.is_number
+  -- the splits lead to some leaf
+  pub some_leaf : (v : Value) → AreOf p m (Named t) ws v → (n : ℕ) × Leads ws m layout.tree n
+  some_leaf v rep = let o = view v rep in (o.made.number, leads_in v o)
 
-    module _ (leaf : Leaf) (at : Some leaf ≡ slice_get layout.leaves n) where
-      same_leaf : shown.made.leaf ≡ leaf
-      same_leaf = sym (same_Some leaf shown.made.leaf (leaf_is (Some leaf) at))
+  -- a leaf to which they lead, and no other
+  module _ (n : ℕ) (only : (k : ℕ) → Leads ws m layout.tree k → n ≡ k) where
+    is_leaf : (v : Value) → AreOf p m (Named t) ws v → leaf_of layout v ≡ Some n
+    is_leaf v rep = let o = view v rep in ap (λ (y : Layout). leaf_of y v) (sym (same v o)) ∙ o.made.is_leaf ∙ ap Some (sym (only o.made.number (leads_in v o)))
 
-      pub loadable : IsLoadable leaf ws m
-      loadable = record {
-        flat = (lawful p agrees typed).flat t layout n leaf (sym is) (sym at);
-        widths = (agrees.a4 t layout n leaf (sym is) (sym at)).widths;
-        subs = shown.made.subs;
-        ats = shown.made.ats;
-        placed = subst (λ (x : Leaf). Placed x ws m false shown.made.subs shown.made.ats) same_leaf shown.made.placed;
-      }
+    -- it is there
+    pub leaf_there : slice_get layout.leaves n ≡ None → (v : Value) → AreOf p m (Named t) ws v → ⊥
+    leaf_there e v rep = no_leaf p typed agrees m t ws layout n is_layout e v rep (is_leaf v rep)
 
-      walks : walk layout.tree ws m ≡ Some n
-      walks = ap (λ (x : Layout). walk x.tree ws m) same_layout ∙ leads_made p.types (flat_layouts p) m false good (lawful p agrees typed) t v ws shown ∙ ap Some (sym number_is)
+    module _ (leaf : Leaf) (is_number : slice_get layout.leaves n ≡ Some leaf) where
+      own_leaf : (v : Value) (o : View v) → o.made.leaf ≡ leaf
+      own_leaf v o =
+          same_Some o.made.leaf leaf (sym o.made.is_number ∙ ap (λ (y : Layout). slice_get y.leaves o.made.number) (same v o) ∙ ap (slice_get layout.leaves) (sym (only o.made.number (leads_in v o))) ∙ is_number)
 
-      pub is_opened : (loaded : List (List ℕ)) → AreWordsOf leaf ws m loaded → (old new : List Step) → new ≡ old ++ plan_of p.types (field_words p.types (flat_layouts p) leaf ws loaded) leaf.prov (Named t) []
-          → IsOpened p m t ws old new
-      is_opened loaded are old new is_new =
-          opens_read p typed agrees m good t ws layout n leaf (sym is) walks (sym at) old new (field_words p.types (flat_layouts p) leaf ws loaded)
-          (λ subs ats placed subbed k o e. let u = subbed k o e in sym (gathered p typed agrees m t layout n leaf (sym is) (sym at) ws loaded are subs ats placed k o u.0 e u.1))
-          is_new
+      -- its blocks can be loaded
+      pub loadable : (v : Value) → AreOf p m (Named t) ws v → IsLoadable leaf ws m
+      loadable v rep =
+          let o = view v rep in
+          record {
+            flat = (lawful p agrees typed).flat t layout n leaf is_layout is_number;
+            widths = (agrees.a4 t layout n leaf is_layout is_number).widths;
+            subs = o.made.subs;
+            ats = o.made.ats;
+            placed = subst (λ (y : Leaf). Placed y ws m false o.made.subs o.made.ats) (own_leaf v o) o.made.placed;
+          }
+
+      -- and once they are, its plan opens the words
+      pub planned : (types : List DataDecl) (layouts : List Layout) → types ≡ p.types → layouts ≡ flat_layouts p → (loaded : List (List ℕ)) → AreWordsOf leaf ws m loaded → (old new : List Step)
+          → new ≡ old ++ plan_of types (field_words types layouts leaf ws loaded) leaf.prov (Named t) [] → IsOpened p m t ws old new
+      planned types layouts same_types same_layouts loaded are old new is =
+          opens_gathered p typed agrees m t ws layout n leaf is_layout is_number loaded are is_leaf old new
+          (is ∙ ap (λ (ts : List DataDecl). old ++ plan_of ts (field_words ts layouts leaf ws loaded) leaf.prov (Named t) []) same_types
+          ∙ ap (λ (ls : List Layout). old ++ plan_of p.types (field_words p.types ls leaf ws loaded) leaf.prov (Named t) []) same_layouts)

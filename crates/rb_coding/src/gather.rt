@@ -159,7 +159,6 @@ pub(crate) fn zeros(alloc: Global, count: usize) -> Result<Seq<u64>, AllocError>
     Ok(table)
 }
 
-
 /// The words of the field at a path of a leaf with these root words and words of blocks.
 pub(crate) fn field_words(
     alloc: Global,

@@ -47,7 +47,13 @@ pub(crate) fn load_blocks<M: ByteMemory>(
 {
     let blocks = leaf.blocks.as_slice();
     let mut addresses = zeros(alloc, blocks.len())?;
-    put_words(&mut addresses, Wanted::Addresses, &[], leaf.root.as_slice(), words);
+    put_words(
+        &mut addresses,
+        Wanted::Addresses,
+        &[],
+        leaf.root.as_slice(),
+        words,
+    );
     let mut loaded = Seq::new(alloc);
     for b in (0..blocks.len()).rev() {
         let flats = blocks[b].words.as_slice();
@@ -56,7 +62,13 @@ pub(crate) fn load_blocks<M: ByteMemory>(
             Some(address) => *address,
         };
         let found = load_words(alloc, memory, base, flats)?;
-        put_words(&mut addresses, Wanted::Addresses, &[], flats, found.as_slice());
+        put_words(
+            &mut addresses,
+            Wanted::Addresses,
+            &[],
+            flats,
+            found.as_slice(),
+        );
         loaded.push(found)?;
     }
     Ok(loaded)

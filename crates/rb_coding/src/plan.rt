@@ -101,7 +101,11 @@ fn plan_fields(
     ensures { OnOk result (todo.new.items
         ≡ todo.old.items ++ fields_plan (map (steps_of opening.now) pats.now) tys.now path.now 0) }
 {
-    let count = if pats.len() < tys.len() { pats.len() } else { tys.len() };
+    let count = if pats.len() < tys.len() {
+        pats.len()
+    } else {
+        tys.len()
+    };
     for i in (0..count).rev() {
         let field = below(alloc, path, i)?;
         plan(alloc, opening, &pats[i], tys[i], field.as_slice(), todo)?;

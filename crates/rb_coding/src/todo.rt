@@ -45,7 +45,10 @@ pub(crate) fn open<M: ByteMemory>(
         None => unreachable!(),
         Some(layout) => layout,
     };
-    let leaf = match layout.leaves.get(leaf_number(memory, words, &layout.tree) as usize) {
+    let leaf = match layout
+        .leaves
+        .get(leaf_number(memory, words, &layout.tree) as usize)
+    {
         None => unreachable!(),
         Some(leaf) => leaf,
     };

@@ -1,4 +1,4 @@
-use Rattle.std.proofs.Common.{◌≡◌, Some, None, sym, ap, ◌∙◌}
+use Rattle.std.proofs.Common.{None, sym, ap, ◌∙◌}
 use Rattle.std.specs.Option.{option_copied}
 use Rattle.rb_coding.specs.inner.Leading.{under_number}
 use Rattle.rb_coding.proofs.SplitLemmas.{leaf_only, turn, turned, turned_to, fewer}

@@ -1,10 +1,10 @@
-use Rattle.std.proofs.Common.{◌≡◌, length, Some, None, refl, sym, ap, ◌∙◌}
+use Rattle.std.proofs.Common.{◌≡◌, length, Some, refl, sym, ap, ◌∙◌}
 use Rattle.std.specs.Prelude.{slice_get}
 use Rattle.std.specs.Option.{option_copied}
 use Rattle.std.proofs.lemmas.Option.{slice_get_read}
 use Rattle.rb_core.specs.TypedPrograms.{IsTyped}
 use Rattle.rb_layout.specs.Flattening.{flat_layouts}
-use Rattle.rb_coding.proofs.OpenTop.{on_ok, some_leaf, leaf_there, loadable, planned}
+use Rattle.rb_coding.proofs.OpenLemmas.{on_ok, some_leaf, leaf_there, loadable, planned}
 use Rattle.rb_coding.proofs.todo.open.Goals as goal
 
 pub leaf_number-requires-clause-leads : goal.leaf_number-requires-clause-leads
