@@ -26,10 +26,16 @@
 
 mod bits;
 mod blocks;
+pub mod decode;
 pub mod encode;
 pub mod fault;
+mod gather;
 mod leaf;
+mod loading;
 mod node;
 mod pack;
+mod plan;
 mod posts;
+mod splits;
 mod table;
+mod todo;
