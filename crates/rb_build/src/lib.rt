@@ -1,0 +1,4 @@
+//! Code that constructs values.
+#![tactic(auto)]
+
+pub mod build;

@@ -1,0 +1,12 @@
+mod Sites
+mod Tokens
+mod Forms
+mod Variables
+mod Operators
+mod Parts
+mod Arms
+mod Choices
+mod Accepted
+mod Plain
+mod Whole
+mod Refined

@@ -1,0 +1,4 @@
+pub mod Plans
+pub mod Refining
+pub mod Thrift
+pub mod inner

@@ -1,0 +1,4 @@
+pub mod Ready
+pub mod Forms
+pub mod Arms
+pub mod Functions

@@ -1,0 +1,116 @@
+-- What is promised of the code of a match's arms.
+use Rattle.std.specs.Prelude.{◌≡◌, ℕ, zero, suc, ◌≤◌, Bool, true, List, [], ◌++◌, length, Option, Some, None, Ok, slice_get}
+use Rattle.rb_core.specs.declared.value.Value.{Value}
+use Rattle.rb_core.specs.declared.types.Ty.{Ty}
+use Rattle.rb_core.specs.declared.typing.Binder.{Binder}
+use Rattle.rb_core.specs.declared.binding.Binding.{Binding}
+use Rattle.rb_core.specs.declared.expression.Clause.{Clause}
+use Rattle.rb_core.specs.Clauses.{PatternIsTyped, wanted_of}
+use Rattle.rb_core.specs.Coverage.{sites}
+use Rattle.rb_core.specs.Inference.{binders}
+use Rattle.rb_core.specs.Matching.{bindings, matches_of}
+use Rattle.rb_core.specs.Meaning.{Calls, meaning_of}
+use Rattle.rb_core.specs.Typing.{type_of}
+use Rattle.rb_core.specs.WellNumbered.{expression_is_numbered}
+use Rattle.rb_target.specs.declared.body.Hole.{Hole}
+use Rattle.rb_target.specs.Meaning.{slots_at}
+use Rattle.rb_target.specs.Sheet.{Sheet}
+use Rattle.rb_fragment.specs.declared.held.Held.{Held}
+use Rattle.rb_fragment.specs.declared.held.Joined.{Joined}
+use Rattle.rb_fragment.specs.declared.held.Local.{Local}
+use Rattle.rb_fragment.specs.Adding.{Adds}
+use Rattle.rb_fragment.specs.Arms.{AreShared, Arm, ArmsIn}
+use Rattle.rb_fragment.specs.Holding.{AreGiven, Holds, scope_of}
+use Rattle.rb_fragment.specs.Plan.{Plan, Rep, words_of}
+use Rattle.rb_fragment.specs.Slots.{AllBelow}
+use Rattle.rb_compile.specs.inner.Ready.{IsAccepted, SitesAreReady}
+
+-- slots below n that hold a value of type s
+abbrev pub IsSubject : Plan → ℕ → Held → Ty → Type 0
+IsSubject plan n held s = (held.ty ≡ s) × AllBelow n held.slots × (length held.slots ≡ words_of plan s)
+
+-- what is wanted of the next arm: what is wanted of the match, then what the arms before it gave
+abbrev pub wanted_in : Option Ty → Option Held → Option Ty
+wanted_in wanted None = wanted
+wanted_in wanted (Some h) = Some h.ty
+
+-- the slots that the arms share, once there are some
+abbrev pub IsShared : Plan → ℕ → ℕ → Ty → Option Held → Type 0
+IsShared plan n m t None = Unit {0}
+IsShared plan n m t (Some h) = (h.ty ≡ t) × AreShared n m (words_of plan t) h.slots
+
+abbrev pub shared_slots : Option Held → List ℕ
+shared_slots None = []
+shared_slots (Some h) = h.slots
+
+-- they are there once an arm is
+abbrev pub Reaches : ℕ → Option Held → Type 0
+Reaches zero None = Unit {0}
+Reaches zero (Some h) = ⊥
+Reaches (suc i) None = ⊥
+Reaches (suc i) (Some h) = Unit {0}
+
+-- a clause's body stands within what its pattern binds
+abbrev pub clause_scope : Plan → Clause → List Local → Ty → List Binder
+clause_scope plan c ls s = scope_of ls ++ binders plan.program.types c.pat s
+
+-- a clause of a match of function f, whose scrutinee is of type s
+pub record ClauseIsReady (plan : Plan) (f : ℕ) (c : Clause) (wanted : Option Ty) (ls : List Local)
+    (s t : Ty) : Type 0 where
+  pub accepted : IsAccepted plan
+  pub typed : type_of plan.program.types plan.program.funs c.body wanted (clause_scope plan c ls s) ≡ Ok t
+  pub pattern : PatternIsTyped plan.program.types s c.pat
+  pub within : List ℕ
+  pub numbered : expression_is_numbered plan.program.types plan.program.funs c.body within ≡ true
+  pub ready_sites : SitesAreReady plan f (sites plan.program.types plan.program.funs c.body (clause_scope plan c ls s))
+
+-- of the first clause one type is wanted, of the others that of the match
+abbrev pub ClausesAreReady : Plan → ℕ → List Clause → Option Ty → List Local → Ty → Ty → Type 0
+ClausesAreReady plan f cs wanted ls s t =
+    (k : ℕ) (c : Clause) → slice_get cs k ≡ Some c → ClauseIsReady plan f c (wanted_of k wanted (Some t)) ls s t
+
+-- the slots below n hold the scrutinee and the variables
+pub record GroundIsReady (plan : Plan) (ls : List Local) (held : Held) (s : Ty) (n m : ℕ) : Type 0 where
+  pub subject : IsSubject plan n held s
+  pub given : AreGiven plan n ls
+  pub low : n ≤ m
+
+-- the code from a to d is an arm, which does clause c on each value that its pattern matches
+pub record DoesClause (plan : Plan) (f : ℕ) (c : Clause) (wanted : Option Ty) (ls : List Local) (s t : Ty)
+    (xs : List ℕ) (n : ℕ) (into : List ℕ) (a d : Sheet) (join : ℕ) : Type 0 where
+  pub adds : Adds plan a d
+  pub does : (calls : Calls) (clean : Bool) (env : List Binding) (v : Value) → matches_of c.pat v ≡ true
+      → Arm plan clean calls n a d join (λ sl m. Rep plan m clean s v (slots_at sl xs) × Holds plan clean sl m ls env)
+      (λ left. meaning_of plan.program calls f c.body wanted (clause_scope plan c ls s) left (env ++ bindings c.pat v))
+      t into
+
+-- one arm: its value is where the arms before it left theirs
+pub record ArmIsDone (plan : Plan) (f : ℕ) (c : Clause) (wanted : Option Ty) (ls : List Local) (s t : Ty)
+    (xs : List ℕ) (n : ℕ) (into : Option Held) (a d : Sheet) (r : Joined) : Type 0 where
+  pub shared : IsShared plan n d.slots t (Some r.into)
+  pub same : (h : Held) → into ≡ Some h → r.into ≡ h
+  pub clause : DoesClause plan f c wanted ls s t xs n r.into.slots a d r.join.pc
+
+abbrev pub EmitsArm : Plan → ℕ → Clause → Option Ty → List Local → Held → Option Held → Sheet → Sheet → Joined → Type 0
+EmitsArm plan f c wanted ls held into a d r =
+    (s t : Ty) (n : ℕ) → ClauseIsReady plan f c wanted ls s t → GroundIsReady plan ls held s n a.slots
+    → IsShared plan n a.slots t into → ArmIsDone plan f c wanted ls s t held.slots n into a d r
+
+-- the arm with number k, of the clauses cs
+abbrev pub DoesNumber : Plan → ℕ → List Clause → Option Ty → List Local → Ty → Ty → List ℕ → ℕ → List ℕ
+    → ℕ → Sheet → Sheet → ℕ → Type 0
+DoesNumber plan f cs wanted ls s t xs n into k a d join =
+    (c : Clause) → slice_get cs k ≡ Some c → DoesClause plan f c (wanted_of k wanted (Some t)) ls s t xs n into a d join
+
+-- the first i arms stand behind e
+pub record ArmsDone (plan : Plan) (f i : ℕ) (cs : List Clause) (wanted : Option Ty) (ls : List Local) (s t : Ty)
+    (xs : List ℕ) (n : ℕ) (e q : Sheet) (into : Option Held) (joins : List Hole) (starts : List ℕ) : Type 0 where
+  pub adds : Adds plan e q
+  pub shared : IsShared plan n q.slots t into
+  pub arms : ArmsIn i e q joins starts (DoesNumber plan f cs wanted ls s t xs n (shared_slots into))
+
+abbrev pub EmitsArms : Plan → ℕ → ℕ → List Clause → Option Ty → List Local → Held → Sheet → Sheet
+    → Option Held → List Hole → List ℕ → Type 0
+EmitsArms plan f i cs wanted ls held e q into joins starts =
+    (s t : Ty) (n : ℕ) → ClausesAreReady plan f cs wanted ls s t → GroundIsReady plan ls held s n e.slots
+    → ArmsDone plan f i cs wanted ls s t held.slots n e q into joins starts

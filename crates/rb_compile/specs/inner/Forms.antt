@@ -1,0 +1,69 @@
+-- What is promised of the code of expressions.
+use Rattle.std.specs.Prelude.{◌≡◌, ◌==◌, ℕ, max, List, [], ◌∷◌, map, take, Option, Some, None, if◌then◌else◌, slice_index}
+use Rattle.rb_core.specs.declared.types.Ty.{Ty}
+use Rattle.rb_core.specs.declared.types.Ty.TheVariants.{Int}
+use Rattle.rb_core.specs.declared.binding.Binding.{Binding}
+use Rattle.rb_core.specs.declared.outcome.Outcome.{Outcome}
+use Rattle.rb_core.specs.declared.expression.Expr.{Expr}
+use Rattle.rb_core.specs.declared.expression.Op.{Op}
+use Rattle.rb_core.specs.Inference.{width_of}
+use Rattle.rb_core.specs.Meaning.{Calls, meaning_of}
+use Rattle.rb_target.specs.declared.instr.Instr.{Instr}
+use Rattle.rb_target.specs.declared.instr.Instr.TheVariants.{Alu, Const, Take}
+use Rattle.rb_target.specs.Operators.{alu_op_of}
+use Rattle.rb_target.specs.Sheet.{Sheet, pushed, with_slot}
+use Rattle.rb_fragment.specs.declared.held.Held.{Held}
+use Rattle.rb_fragment.specs.declared.held.Local.{Local}
+use Rattle.rb_fragment.specs.Plan.{Plan, words_of}
+use Rattle.rb_fragment.specs.Slots.{slots_from}
+use Rattle.rb_fragment.specs.Fragments.{Emits, EmitsAll}
+use Rattle.rb_fragment.specs.Holding.{AreGiven, scope_of}
+use Rattle.rb_compile.specs.inner.Ready.{IsReady, AreReady}
+
+-- what an expression of function f does within its variables
+abbrev pub meant : Plan → ℕ → Expr → Option Ty → List Local → Calls → ℕ → List Binding → Outcome
+meant plan f e wanted locals calls left env = meaning_of plan.program calls f e wanted (scope_of locals) left env
+
+-- where the expression is ready, the appended code leaves its value in the slots that are answered
+abbrev pub EmitsExpr : Plan → ℕ → Expr → Option Ty → List Local → Sheet → Sheet → Held → Type 0
+EmitsExpr plan f e wanted locals old new held =
+    (t : Ty) → IsReady plan f e wanted locals old.slots t
+    → (held.ty ≡ t) × Emits plan (meant plan f e wanted locals) locals old new t held.slots
+
+-- of the first n of some expressions, each at its wanted type
+abbrev pub EmitsFirst : Plan → ℕ → ℕ → List Expr → List Ty → List Local → Sheet → Sheet → List Held → Type 0
+EmitsFirst plan f n es ts locals old new hs =
+    AreReady plan f es ts locals old.slots → AreGiven plan old.slots locals
+    → EmitsAll plan (λ calls. map (meaning_of plan.program calls f) (take n es)) ts locals old new hs
+
+-- the width that an instruction states: no typed program has an integer of no bits
+abbrev pub stated_width : Ty → ℕ
+stated_width t = max 1 (width_of t)
+
+-- one instruction is appended, and its value of type t stands in a new slot
+abbrev pub IsOne : Sheet → Instr → Ty → Sheet → Held → Type 0
+IsOne old i t new held = (new ≡ pushed (with_slot old) i) × (held ≡ record { ty = t; slots = old.slots ∷ [] })
+
+-- an operator on values that are held, a word each
+abbrev pub alu_on : Sheet → Op → Ty → Held → Held → Instr
+alu_on b op t x y = Alu (alu_op_of op) (stated_width t) b.slots (slice_index x.slots 0) (slice_index y.slots 0)
+
+abbrev pub low_bits_of : Sheet → Held → ℕ → Instr
+low_bits_of b x bits = Take b.slots (slice_index x.slots 0) 0 bits
+
+-- new slots for a value of a type
+abbrev pub new_held : Plan → Sheet → Ty → Held
+new_held plan b t = record { ty = t; slots = slots_from b.slots (words_of plan t) }
+
+-- the slots of the last of the variables with a number
+abbrev pub held_or : Option Held → ℕ → List Local → Option Held
+held_or d x [] = d
+held_or d x (l ∷ ls) = held_or (if l.var == x then Some (record { ty = l.ty; slots = l.slots }) else d) x ls
+
+-- a variable takes no code where it is bound, and is 0 elsewhere, as in the meaning
+abbrev pub variable_is : Option Held → Sheet → Sheet → Held → Type 0
+variable_is None old new held = IsOne old (Const old.slots 0) (Int 64) new held
+variable_is (Some h) old new held = (new ≡ old) × (held ≡ h)
+
+abbrev pub VariableIs : List Local → ℕ → Sheet → Sheet → Held → Type 0
+VariableIs ls x old new held = variable_is (held_or None x ls) old new held

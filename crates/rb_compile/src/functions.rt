@@ -1,0 +1,96 @@
+//! From functions to code.
+
+ghost use Rattle.std.specs.Prelude.{◌≡◌, ◌+◌, ◌<◌, ◌^◌, ℕ, map, length, IfOk, Some, slice_get};
+ghost use Rattle.rb_fragment.specs.Functions.{Compiles, param_locals};
+ghost use Rattle.rb_fragment.specs.Plan.{words_in};
+ghost use Rattle.rb_fragment.specs.Slots.{slots_from};
+ghost use Rattle.rb_compile.specs.Plans.{plan_of};
+ghost use Rattle.rb_compile.specs.inner.Functions.{FunIsReady};
+
+use crate::expressions::emit_expr;
+use rb_core::program::{Fun, Param};
+use rb_core::seq::Seq;
+use rb_fragment::held::Local;
+use rb_fragment::slots::word_count;
+use rb_layout::agreed::Agreed;
+use rb_target::body::Body;
+use rb_target::code::CodeFun;
+use rb_target::instr::Instr;
+use std::alloc::{AllocError, Global};
+
+// The code of a function: its parameters in the first slots, its body, and a return.
+pub(crate) fn compile_fun(
+    alloc: Global,
+    agreed: &Agreed,
+    number: usize,
+    fun: &Fun,
+) -> Result<CodeFun, AllocError>
+    requires { FunIsReady (plan_of agreed.now) number fun.now }
+    ensures { IfOk result (λ q. Compiles (plan_of agreed.now) number fun.now q) }
+{
+    let mut params = param_slots(alloc, agreed, fun.params.as_slice())?;
+    let name = fun.name.copy(alloc)?;
+    let mut body = Body::new(alloc, params.count);
+    let locals = &mut params.locals;
+    let held = emit_expr(
+        alloc,
+        agreed,
+        &mut body,
+        locals,
+        &fun.body,
+        Some(fun.result),
+    )?;
+    let results = count_of(&held.slots);
+    body.push(Instr::Return(held.slots))?;
+    let code = body.finish(name, results);
+    Ok(code)
+}
+
+#[derive(Drop)]
+struct Params {
+    locals: Seq<Local>,
+    count: usize,
+}
+
+// The parameters' slots, one behind the other, and how many there are.
+fn param_slots(alloc: Global, agreed: &Agreed, params: &[Param]) -> Result<Params, AllocError>
+    ensures locals { IfOk result (λ p. p.locals ≡ param_locals (plan_of agreed.now) 0 params.now) }
+    ensures count { IfOk result (λ p. p.count ≡ words_in (plan_of agreed.now) (map (λ p. p.ty) params.now)) }
+{
+    let mut locals = Seq::new(alloc);
+    let mut count = 0usize;
+    for param in params {
+        let here = word_count(agreed.layouts(), param.ty);
+        let Some(end) = count.checked_add(here) else {
+            return Err(AllocError);
+        };
+        let slots = row(alloc, count, here)?;
+        locals.push(Local {
+            var: param.var,
+            ty: param.ty,
+            slots,
+        })?;
+        count = end;
+    }
+    Ok(Params { locals, count })
+}
+
+// So many slots in a row.
+fn row(alloc: Global, from: usize, count: usize) -> Result<Seq<usize>, AllocError>
+    requires { from + count < 2 ^ 64 }
+    ensures { IfOk result (λ s. s ≡ slots_from from count) }
+{
+    let mut slots = Seq::new(alloc);
+    for i in 0..count {
+        slots.push(from + i)?;
+    }
+    Ok(slots)
+}
+
+// The number of some slots, which a machine word holds.
+fn count_of(slots: &Seq<usize>) -> usize
+    ensures value { result ≡ length slots.now }
+    ensures small { length slots.now < 2 ^ 64 }
+{
+    slots.len()
+}

@@ -1,0 +1,47 @@
+//! Whole programs to code.
+//!
+//! [`programs::compile`] writes for each function a function of code, which does what the function does. An
+//! expression is compiled where its value is wanted: its code leaves the value in slots, a word each, and
+//! the slots are answered. Parts stand from left to right, and what is done with their values stands behind
+//! them. A variable takes no code, since its value is in slots already. So
+//!
+//! ```text
+//! fun f(x: u8): u8 = let y: u8 = mul(x, 3) in add(x, y);
+//! ```
+//!
+//! has `x` in slot 0, and becomes
+//!
+//! ```text
+//! fun f 1 1 4
+//! const 1 3
+//! alu mul 8 2 0 1
+//! alu add 8 3 0 2
+//! return 3
+//! end
+//! ```
+//!
+//! A call has its arguments' words in the slots that it names, and its result in new ones; where it stands last
+//! in a function, it is as everywhere. In
+//!
+//! ```text
+//! fun sum(list: List, so_far: u64): u64 =
+//!     match list { Nil => so_far, Cons(head, tail) => sum(tail, add(head, so_far)) };
+//! ```
+//!
+//! the match first has code that chooses a clause, and leaves by a hole of it. Then come the arms, one behind
+//! the other: an arm binds its pattern's variables, has its body's code, moves the value to slots that all
+//! arms share, and ends in an open jump. When all arms stand, the holes are set to where the arms begin, and
+//! the jumps to behind the last. So code only ever grows at its end, and no target is known too early.
+//!
+//! What is promised of an expression's code stands behind all that is known of the expression: that it has a
+//! type, that its numbers name something, that its matches are exhaustive and paid for, that its variables
+//! have slots (`IsReady`). So the functions that call one another here ask for nothing, and a program whose
+//! layouts agree meets each premise.
+#![tactic(auto)]
+
+mod atoms;
+mod expressions;
+mod functions;
+mod matches;
+pub mod programs;
+mod signatures;

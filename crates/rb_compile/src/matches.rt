@@ -1,0 +1,53 @@
+//! What a match needs beside its code.
+
+ghost use Rattle.std.specs.Prelude.{◌≡◌, ◌++◌, map, IfOk, OnOk};
+ghost use Rattle.rb_core.specs.Clauses.{pat_of};
+ghost use Rattle.rb_compile.specs.inner.Arms.{wanted_in};
+
+use rb_core::expression::Clause;
+use rb_core::pattern::Pat;
+use rb_core::seq::Seq;
+use rb_core::types::Ty;
+use rb_fragment::held::{Held, Local};
+use rb_target::body::Hole;
+use std::alloc::{AllocError, Global};
+
+// Arms, one behind the other: where they leave their values, their open jumps, and the number of the
+// first instruction of each.
+#[derive(Drop)]
+pub(crate) struct Arms {
+    pub into: Option<Held>,
+    pub joins: Seq<Hole>,
+    pub starts: Seq<usize>,
+}
+
+// The patterns of clauses, in their order.
+pub(crate) fn patterns(alloc: Global, clauses: &[Clause]) -> Result<Seq<Pat>, AllocError>
+    ensures { IfOk result (λ pats. pats ≡ map pat_of clauses.now) }
+{
+    let mut pats = Seq::new(alloc);
+    for clause in clauses {
+        pats.push(clause.pat.copy(alloc)?)?;
+    }
+    Ok(pats)
+}
+
+// What is wanted of the next arm: where none stands yet, what is wanted of the match.
+pub(crate) fn next_wanted(wanted: Option<Ty>, into: &Option<Held>) -> Option<Ty>
+    ensures { result ≡ wanted_in wanted into.now }
+{
+    match into {
+        None => wanted,
+        Some(held) => Some(held.ty),
+    }
+}
+
+// Adds what a pattern binds to the variables.
+pub(crate) fn extend(locals: &mut Seq<Local>, bound: Seq<Local>) -> Result<(), AllocError>
+    ensures { OnOk result (locals.new ≡ locals.old ++ bound) }
+{
+    match locals.append(bound) {
+        None => Ok(()),
+        Some(_) => Err(AllocError),
+    }
+}

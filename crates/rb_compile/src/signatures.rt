@@ -1,0 +1,55 @@
+//! What functions and constructors take and give.
+
+ghost use Rattle.std.specs.Prelude.{◌≡◌, map, IfOk, option_copied, slice_get};
+ghost use Rattle.rb_core.specs.Values.{fields_of};
+
+use rb_core::program::{Fun, Param};
+use rb_core::seq::Seq;
+use rb_core::types::{ConRef, DataDecl, Ty};
+use rb_layout::agreed::Agreed;
+use std::alloc::{AllocError, Global};
+
+// A function of the program.
+pub(crate) fn function_at(agreed: &Agreed, number: u32) -> Option<&Fun>
+    ensures { option_copied result ≡ slice_get agreed.now.covered.program.funs number }
+{
+    let program = agreed.covered().program();
+    program.funs.get(number as usize)
+}
+
+// The types of parameters.
+pub(crate) fn param_types(alloc: Global, params: &[Param]) -> Result<Seq<Ty>, AllocError>
+    ensures { IfOk result (λ ts. ts ≡ map (λ p. p.ty) params.now) }
+{
+    let mut tys = Seq::new(alloc);
+    for param in params {
+        tys.push(param.ty)?;
+    }
+    Ok(tys)
+}
+
+// The types of a constructor's fields, where the program has it.
+pub(crate) fn field_types(
+    alloc: Global,
+    agreed: &Agreed,
+    con: ConRef,
+) -> Result<Option<Seq<Ty>>, AllocError>
+    ensures { IfOk result (λ o. o ≡ fields_of agreed.now.covered.program.types con) }
+{
+    let program = agreed.covered().program();
+    let fields = fields_in(alloc, program.types.as_slice(), con)?;
+    Ok(fields)
+}
+
+fn fields_in(alloc: Global, types: &[DataDecl], con: ConRef) -> Result<Option<Seq<Ty>>, AllocError>
+    ensures { IfOk result (λ o. o ≡ fields_of types.now con) }
+{
+    let Some(decl) = types.get(con.ty as usize) else {
+        return Ok(None);
+    };
+    let Some(found) = decl.cons.get(con.con as usize) else {
+        return Ok(None);
+    };
+    let fields = found.fields.copy(alloc)?;
+    Ok(Some(fields))
+}
