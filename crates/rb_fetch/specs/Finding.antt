@@ -1,5 +1,5 @@
 -- What code that finds a value's leaf owes.
-use Rattle.std.specs.Prelude.{◌≡◌, ℕ, List, Bool, Some, length}
+use Rattle.std.specs.Prelude.{◌≡◌, ℕ, List, Bool, Option, Some, None, length}
 use Rattle.rb_core.specs.declared.value.Value.{Value}
 use Rattle.rb_core.specs.declared.types.Ty.TheVariants.{Named}
 use Rattle.rb_bytes.specs.Memory.{Memory}
@@ -14,6 +14,8 @@ use Rattle.rb_rel.specs.Switches.{depth_of}
 use Rattle.rb_fragment.specs.Plan.{Plan, Rep}
 use Rattle.rb_fragment.specs.Pieces.{Branches}
 use Rattle.rb_fragment.specs.Slots.{AllBelow}
+use Rattle.rb_fragment.specs.WordReads.{AreMeant, AllFit}
+use Rattle.rb_fragment.specs.declared.reads.Read.{Read}
 
 -- the words represent a value of the type, whose leaf is number n
 pub record HasLeaf (plan : Plan) (t n : ℕ) (ws : List ℕ) (m : Memory) : Type 0 where
@@ -35,3 +37,22 @@ abbrev pub FindsLeaf : LaidOut → ℕ → List ℕ → Sheet → Sheet → List
 FindsLeaf agreed t words old new holes =
     (plan : Plan) → IsPlanOf agreed plan → AllBelow old.slots words → length words ≡ word_count plan.layouts (Named t)
     → Branches plan old.slots old new holes (depth_of plan.layouts (Named t)) (λ n s m. HasLeaf plan t n (slots_at s words) m) (λ n s m. Unit {0})
+
+-- the same over reads of the words, which may stand in memory still
+pub record HasLeafMeant (plan : Plan) (t n : ℕ) (reads : List Read) (s : List ℕ) (m : Memory) : Type 0 where
+  pub words : List ℕ
+  pub are_meant : AreMeant reads s m words
+  pub has_leaf : HasLeaf plan t n words m
+
+abbrev pub FindsLeafOf : LaidOut → ℕ → List Read → Sheet → Sheet → List Hole → Type 0
+FindsLeafOf agreed t reads old new holes =
+    (plan : Plan) → IsPlanOf agreed plan → AllFit old.slots reads → length reads ≡ word_count plan.layouts (Named t)
+    → Branches plan old.slots old new holes (depth_of plan.layouts (Named t)) (λ n s m. HasLeafMeant plan t n reads s m) (λ n s m. Unit {0})
+
+-- the leaves of a type's layout
+abbrev pub leaves_within : Option Layout → ℕ
+leaves_within None = 0
+leaves_within (Some layout) = length layout.leaves
+
+abbrev pub leaf_count : LaidOut → ℕ → ℕ
+leaf_count agreed t = leaves_within (layout_of agreed.layouts t)

@@ -1,3 +1,5 @@
 pub mod Fetching
 pub mod Finding
+pub mod Fields
+pub mod Plain
 pub mod inner

@@ -26,4 +26,5 @@
 #![tactic(auto)]
 
 pub mod fetch;
+pub mod field;
 pub mod look;

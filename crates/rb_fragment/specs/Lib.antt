@@ -8,5 +8,6 @@ pub mod Fragments
 pub mod Arms
 pub mod Functions
 pub mod Reads
+pub mod WordReads
 pub mod Laws
 pub mod inner

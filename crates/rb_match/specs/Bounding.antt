@@ -1,0 +1,58 @@
+-- How many switches a match may cost.
+use Rattle.std.specs.Prelude.{ℕ, ◌+◌, ◌*◌, List, [], ◌∷◌, ◌++◌, map, filter, length, Bool, ◌&&◌, not, nat_lt, if◌then◌else◌}
+use Rattle.std.specs.List.{flat_map, sum_by}
+use Rattle.rb_core.specs.declared.types.Ty.{Ty}
+use Rattle.rb_core.specs.declared.types.DataDecl.{DataDecl}
+use Rattle.rb_core.specs.declared.pattern.Pat.{Pat}
+use Rattle.rb_core.specs.declared.pattern.Pat.TheOpen as P
+use Rattle.rb_core.specs.declared.pattern.Pat.TheOpen.{Pat-F}
+use Rattle.rb_core.specs.declared.pattern.Pat.TheFolds.{fold-Pat}
+use Rattle.rb_core.specs.Typing.{field_types, same_type}
+use Rattle.rb_layout.specs.declared.layout.Layout.{Layout}
+use Rattle.rb_layout.specs.Flattening.{same_path}
+use Rattle.rb_rel.specs.Switches.{look_of}
+use Rattle.rb_decide.specs.Trees.{match_tree, size}
+
+-- a position, and the type there
+pub record Place : Type 0 where
+  pub path : List ℕ
+  pub ty : Ty
+
+abbrev pub place_below : ℕ → Place → Place
+place_below i p = record { path = i ∷ p.path; ty = p.ty }
+
+-- those of subpatterns at the types of their fields, the first of which is field i
+abbrev pub places_below : List (Ty → List Place) → List Ty → ℕ → List Place
+places_below [] ts i = []
+places_below (p ∷ ps) [] i = []
+places_below (p ∷ ps) (t ∷ ts) i = map (place_below i) (p t) ++ places_below ps ts (i + 1)
+
+abbrev pub places_step : List DataDecl → Pat-F (Ty → List Place) → Ty → List Place
+places_step types (P.Wild at) t = []
+places_step types (P.Var at x) t = []
+places_step types (P.Num at n) t = record { path = []; ty = t } ∷ []
+places_step types (P.Con at c ps) t = record { path = []; ty = t } ∷ places_below ps (field_types types c) 0
+
+-- where a pattern of this type has a number or a constructor
+abbrev pub places_in : List DataDecl → Pat → Ty → List Place
+places_in types = fold-Pat (Ty → List Place) (places_step types)
+
+abbrev pub same_place : Place → Place → Bool
+same_place a b = same_path a.path b.path && same_type a.ty b.ty
+
+-- each place once
+abbrev pub distinct_places : List Place → List Place
+distinct_places [] = []
+distinct_places (p ∷ ps) = p ∷ filter (λ other. not (same_place p other)) (distinct_places ps)
+
+-- where some clause has a number or a constructor
+abbrev pub places_of : List DataDecl → Ty → List Pat → List Place
+places_of types t pats = distinct_places (flat_map (λ pat. places_in types pat t) pats)
+
+-- how often places are looked at: once, or once a clause where the decision tree is too large to be made
+abbrev pub rounds : List DataDecl → Ty → List Pat → ℕ
+rounds types t pats = if nat_lt 512 (size (match_tree types t pats)) then length pats else 1
+
+-- the switches that a match may cost
+abbrev pub bound_of : List DataDecl → List Layout → Ty → List Pat → ℕ
+bound_of types layouts t pats = rounds types t pats * sum_by (λ (p : Place). look_of layouts p.ty) (places_of types t pats)
