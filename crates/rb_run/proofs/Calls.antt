@@ -14,7 +14,7 @@ use Rattle.rb_core.specs.declared.program.Program.{Program}
 use Rattle.rb_core.specs.Meaning.{call_of}
 use Rattle.rb_core.specs.TypedPrograms.{IsTyped}
 use Rattle.rb_core.specs.Typing.{param_types, params_of, result_of, result_type}
-use Rattle.rb_bytes.specs.Memory.{Memory, IsGood}
+use Rattle.rb_bytes.specs.Memory.{Memory}
 use Rattle.rb_bytes.specs.Growth.{Grown}
 use Rattle.rb_bytes.specs.declared.fault.Full.{Full}
 use Rattle.rb_bytes.proofs.GrowthLemmas.{Grown-trans}
@@ -98,7 +98,7 @@ module _ (agreed : LaidOut) (args : List Value) (old : Memory) (flat : agreed.la
     fits = sym laid_as ∙ e.2;
     grown = e.3;
     represents = subst (λ ts. Represent agreed.covered.program.types agreed.layouts m true ts args ws) tys_are (
-      subst (λ layouts. Represent agreed.covered.program.types layouts m true tys args ws) (sym flat) e.4);
+        subst (λ layouts. Represent agreed.covered.program.types layouts m true tys args ws) (sym flat) e.4);
   }
 
   pub is_unfit : (m : Memory) (full : Full) → AreEncoded agreed.covered.program tys args old m (Err (Unfit full)) → laid_arguments agreed args old ≡ Over full

@@ -1,5 +1,5 @@
 -- What the end of a call comes to.
-use Rattle.std.proofs.Common.{◌≡◌, ℕ, ◌<◌, ◌≤◌, Bool, true, false, List, refl, sym, subst, ap, ◌∙◌, arith}
+use Rattle.std.proofs.Common.{◌≡◌, ℕ, ◌<◌, ◌≤◌, true, false, List, refl, sym, subst, ap, ◌∙◌, arith}
 use Rattle.std.specs.Prelude.{nat_le, if◌then◌else◌}
 use Rattle.std.proofs.lemmas.Bool.Decides.{nat_tests}
 use Rattle.rb_core.specs.declared.value.Value.{Value}
@@ -10,7 +10,6 @@ use Rattle.rb_core.specs.Values.{node_count}
 use Rattle.rb_core.specs.Typing.{result_type}
 use Rattle.rb_core.specs.Meaning.{call_of}
 use Rattle.rb_bytes.specs.Memory.{Memory, IsGood}
-use Rattle.rb_bytes.specs.Growth.{Grown}
 use Rattle.rb_bytes.specs.declared.fault.Full.{Full}
 use Rattle.rb_bytes.specs.declared.fault.Trap.{Trap}
 use Rattle.rb_layout.specs.declared.agreed.LaidOut.{LaidOut}

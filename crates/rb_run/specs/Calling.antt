@@ -10,8 +10,7 @@ use Rattle.rb_bytes.specs.Growth.{Grown}
 use Rattle.rb_layout.specs.declared.agreed.LaidOut.{LaidOut}
 use Rattle.rb_target.specs.declared.code.CodeFun.{CodeFun}
 use Rattle.rb_target.specs.declared.outcome.End.{End}
-use Rattle.rb_target.specs.declared.outcome.Ran.{Ran}
-use Rattle.rb_target.specs.Meaning.{Outcome, World, over, run_of}
+use Rattle.rb_target.specs.Meaning.{Outcome, over, run_of}
 use Rattle.rb_rel.specs.Answers.{all_makings}
 use Rattle.rb_rel.specs.Placing.{Laid, Fits, Over, lay, requests_of}
 use Rattle.rb_rel.specs.Relation.{Represent}

@@ -17,8 +17,8 @@ use crate::call::call_main;
 use rb_bytes::fault::Full;
 use rb_coding::decode::decode;
 use rb_coding::fault::DecodeFault;
-use rb_core::types::Ty;
 use rb_core::program::Program;
+use rb_core::types::Ty;
 use rb_edge::steps::{Ledger, Steps};
 use rb_layout::agreed::Agreed;
 use rb_raw::memory::RawMemory;
@@ -89,7 +89,7 @@ fn answer_to(
     requires { IsEndOf agreed.now end memory.now }
     ensures { (args : List Value) (calls : ℕ) (old : Memory) → IsCalled agreed.now args calls old end memory.now
         → IfOk result (λ a. meant_by a ≡ answer_at (laid_call agreed.now args calls old)
-            (call_of agreed.now.covered.program agreed.now.covered.program.main calls args).end nodes) }
+        (call_of agreed.now.covered.program agreed.now.covered.program.main calls args).end nodes) }
 {
     let _flat = agreed.layouts();
     match end {

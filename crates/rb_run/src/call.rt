@@ -4,6 +4,8 @@ ghost use Rattle.std.specs.Prelude.{◌≡◌, ℕ, ◌+◌, ◌≤◌, map, tru
 ghost use Rattle.rb_bytes.specs.Memory.{IsGood};
 ghost use Rattle.rb_bytes.specs.declared.fault.Full.{Full as Unplaced};
 ghost use Rattle.rb_core.specs.Typing.{param_types};
+ghost use Rattle.rb_core.specs.TypedPrograms.{IsTyped};
+ghost use Rattle.rb_layout.specs.Flattening.{flat_layouts};
 ghost use Rattle.rb_core.specs.Values.{all_of_types, is_of_type};
 ghost use Rattle.rb_compile.specs.Plans.{plan_of};
 ghost use Rattle.rb_compile.specs.Refining.{Refines};
@@ -12,7 +14,7 @@ ghost use Rattle.rb_run.specs.Calling.{IsCalled, IsCounted};
 use rb_bytes::memory::ByteMemory;
 use rb_coding::encode::encode_all;
 use rb_coding::fault::EncodeFault;
-use rb_core::program::{Param, Program};
+use rb_core::program::Param;
 use rb_core::seq::Seq;
 use rb_core::types::Ty;
 use rb_edge::steps::{Ledger, Steps};
@@ -47,12 +49,10 @@ pub fn call_main<M: ByteMemory, L: Ledger>(
     ensures counted { IfOk result (λ ran. (taken : ℕ) × (steps.new.taken ≡ steps.old.taken + taken)
         × IsCounted agreed.now code.now args.now calls (M.memory memory.old) taken ran.switches) }
 {
-    let program = agreed.covered().program();
-    let layouts = agreed.layouts();
-    let tys = parameters_of_main(alloc, program)?;
+    let main = main_of(agreed);
+    let tys = parameters_of_main(alloc, agreed)?;
     match encode_all(alloc, agreed, tys.as_slice(), args, memory) {
         Ok(words) => {
-            let main = program.main as usize;
             let ran = run(alloc, code, main, words.as_slice(), memory, calls, steps)?;
             Ok(ran)
         }
@@ -76,10 +76,21 @@ fn not_begun(fault: EncodeFault) -> Result<Ran, AllocError>
     }
 }
 
-// The types of the parameters of `main`.
-fn parameters_of_main(alloc: Global, program: &Program) -> Result<Seq<Ty>, AllocError>
-    ensures { IfOk result (λ tys. tys ≡ param_types program.now.funs program.now.main) }
+// The number of `main`, and that the program is typed.
+fn main_of(agreed: &Agreed) -> usize
+    ensures number { result ≡ agreed.now.covered.program.main }
+    ensures typed { IsTyped agreed.now.covered.program }
+    ensures flat { agreed.now.layouts ≡ flat_layouts agreed.now.covered.program }
 {
+    let _flat = agreed.layouts();
+    agreed.covered().program().main as usize
+}
+
+// The types of the parameters of `main`.
+fn parameters_of_main(alloc: Global, agreed: &Agreed) -> Result<Seq<Ty>, AllocError>
+    ensures { IfOk result (λ tys. tys ≡ param_types agreed.now.covered.program.funs agreed.now.covered.program.main) }
+{
+    let program = agreed.covered().program();
     match program.funs.get(program.main as usize) {
         None => Ok(Seq::new(alloc)),
         Some(main) => {

@@ -1,4 +1,4 @@
-use Rattle.std.proofs.Common.{◌≡◌, ℕ, ap, subst, ◌∙◌}
+use Rattle.std.proofs.Common.{ap, subst, ◌∙◌}
 use Rattle.rb_bytes.specs.Memory.{Memory}
 use Rattle.rb_core.specs.Meaning.{call_of}
 use Rattle.rb_rel.specs.Answers.{answer_at}

@@ -1,10 +1,9 @@
-use Rattle.std.proofs.Common.{◌≡◌, ℕ, List, refl, sym, subst, ap, ◌∙◌}
-use Rattle.rb_bytes.specs.Memory.{Memory}
+use Rattle.std.proofs.Common.{sym, subst}
 use Rattle.rb_coding.specs.Decoding.{AreOf}
 use Rattle.rb_core.specs.declared.value.Value.{Value}
 use Rattle.rb_core.specs.Typing.{result_type}
 use Rattle.rb_run.specs.Calling.{IsCalled, IsEndOf}
-use Rattle.rb_run.specs.Answering.{meant_by, shown_within}
+use Rattle.rb_run.specs.Answering.{meant_by}
 use Rattle.rb_run.proofs.Ends.{returned_answer, returned_value}
 use Rattle.rb_run.proofs.answer.answer_to.Goals as goal
 
