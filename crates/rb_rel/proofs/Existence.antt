@@ -67,7 +67,7 @@ laid_parts limit next (r ∷ rs) qs bs p e =
 -- Typed positions ------------------------------------------------------------------------------
 module _ (types : List DataDecl) where
   -- the types of a value's subvalues
-  abbrev sub_types : Ty → Value-F Value → List Ty
+  abbrev pub sub_types : Ty → Value-F Value → List Ty
   sub_types ty (V.Num n) = []
   sub_types (Int bits) (V.Con k vs) = []
   sub_types (Named t) (V.Con k vs) = types_or_none (fields_in (slice_get types t) k)
@@ -78,7 +78,7 @@ module _ (types : List DataDecl) where
   PartIs v ty (i ∷ path) s u =
       (x : Value) × (t : Ty) × (slice_get (subs v) i ≡ Some x) × (slice_get (sub_types ty (out-Value v)) i ≡ Some t) × PartIs x t path s u
 
-  part_is : (v : Value) (ty : Ty) (path : List ℕ) (s : Ty) (u : Value) → PartIs v ty path s u → part_from (Some v) path ≡ Some u
+  pub part_is : (v : Value) (ty : Ty) (path : List ℕ) (s : Ty) (u : Value) → PartIs v ty path s u → part_from (Some v) path ≡ Some u
   part_is v ty [] s u h = ap Some h.0
   part_is v ty (i ∷ path) s u h = ap (λ o. part_from o path) h.2 ∙ part_is h.0 h.1 path s u h.4
 
@@ -86,16 +86,16 @@ module _ (types : List DataDecl) where
   AreParts opens v ty = (k : ℕ) (o : Open) → slice_get opens k ≡ Some o → (u : Value) × PartIs v ty o.path o.ty u
 
   -- an open position below the root
-  record Below (vs : List Value) (ts : List Ty) (i : ℕ) (o : Open) : Type 0 where
-    field : ℕ
-    path : List ℕ
-    is_path : o.path ≡ (i + field) ∷ path
-    value : Value
-    ty : Ty
-    is_value : slice_get vs field ≡ Some value
-    is_type : slice_get ts field ≡ Some ty
-    part : Value
-    is_part : PartIs value ty path o.ty part
+  pub record Below (vs : List Value) (ts : List Ty) (i : ℕ) (o : Open) : Type 0 where
+    pub field : ℕ
+    pub path : List ℕ
+    pub is_path : o.path ≡ (i + field) ∷ path
+    pub value : Value
+    pub ty : Ty
+    pub is_value : slice_get vs field ≡ Some value
+    pub is_type : slice_get ts field ≡ Some ty
+    pub part : Value
+    pub is_part : PartIs value ty path o.ty part
 
   abbrev OpensAre : Pat → Type 0
   OpensAre q = (ty : Ty) (v : Value) → fits_type types q ty ≡ true → matches_of q v ≡ true → AreParts (opens_of types q ty) v ty
@@ -156,7 +156,7 @@ module _ (types : List DataDecl) where
       field_list (Int bits) e2 l = absurd cc
       field_list (Named t) e2 l = ap (λ (x : Value-F Value). sub_types (Named t) x) l.is_layer ∙ ap (λ i. types_or_none (fields_in (slice_get types i) c.con)) (same_nat t c.ty e2)
 
-  below_is : (v : Value) (ty : Ty) (o : Open) → Below (subs v) (sub_types ty (out-Value v)) 0 o → (u : Value) × PartIs v ty o.path o.ty u
+  pub below_is : (v : Value) (ty : Ty) (o : Open) → Below (subs v) (sub_types ty (out-Value v)) 0 o → (u : Value) × PartIs v ty o.path o.ty u
   below_is v ty o b =
       let z : 0 + b.field ≡ b.field = omega arith in
       (b.part, subst (λ path. PartIs v ty path o.ty b.part) (sym (b.is_path ∙ ap (λ j. j ∷ b.path) z)) (b.value, b.ty, b.is_value, b.is_type, b.is_part))
@@ -181,11 +181,11 @@ module _ (types : List DataDecl) where
   all_opens (q ∷ ps) = (opens_are q, all_opens ps)
 
   -- those of a provenance, with a constructor at its root, are below the root
-  abbrev RootOpens : Pat → Type 0
+  abbrev pub RootOpens : Pat → Type 0
   RootOpens q = (t : ℕ) (v : Value) → root_type (out-Pat q) ≡ Named t → fits_type types q (Named t) ≡ true → matches_of q v ≡ true
       → (k : ℕ) (o : Open) → slice_get (opens_of types q (Named t)) k ≡ Some o → Below (subs v) (sub_types (Named t) (out-Value v)) 0 o
 
-  root_opens : (q : Pat) → RootOpens q
+  pub root_opens : (q : Pat) → RootOpens q
   root_opens = PL.induction RootOpens (record {
     wild = λ at t v r f m k o e. absurd (let h : Int 64 ≡ Named t = sym (ap root_type (outs-Wild at)) ∙ r in cc);
     var = λ at x t v r f m k o e. absurd (let h : Int 64 ≡ Named t = sym (ap root_type (outs-Var at x)) ∙ r in cc);
@@ -235,7 +235,7 @@ module _ (p : Program) (typed : IsTyped p) (agrees : Agrees p) where
       behind_first l ls all e zero rest h = (l, ap (λ (ys : List Layout). slice_get ys 0) e)
       behind_first l ls all e (suc j) rest h = let r = rest j (omega (arith, h)) in (r.0, ap (λ (ys : List Layout). slice_get ys (suc j)) e ∙ r.1)
 
-  has_layout : (t : ℕ) → t < length types → (layout : Layout) × (layout_of layouts t ≡ Some layout)
+  pub has_layout : (t : ℕ) → t < length types → (layout : Layout) × (layout_of layouts t ≡ Some layout)
   has_layout t lt =
       flat_some types 0 (λ k le. let s = some_decl (decl_of p.layouts k) (agrees.a1 k le) in let z : 0 + k ≡ k = omega arith in (s.0, ap (decl_of p.layouts) z ∙ s.1)) t lt
 
@@ -263,7 +263,7 @@ module _ (p : Program) (typed : IsTyped p) (agrees : Agrees p) where
       let y : m.next ≡ next = cc in
       subst (λ q. Grown m m bs q) y (subst (λ cs. Grown m m cs m.next) (sym x) (Grown-refl m good))
 
-  below_lt : (a b : ℕ) → nat_lt a b ≡ true → a < b
+  pub below_lt : (a b : ℕ) → nat_lt a b ≡ true → a < b
   below_lt a b e = grind (arith, common_steps)
 
   num_encodes : (n : ℕ) → Encodes (Num n)
@@ -279,7 +279,7 @@ module _ (p : Program) (typed : IsTyped p) (agrees : Agrees p) where
       shown [] s u h = subst (λ ty. Shown m ty u (n ∷ [])) h.1 (subst (λ v. Shown m (Int bits) v (n ∷ [])) h.0 (number bits n (below_lt n (2 ^ bits) (sym (is_of_type-Num types n (Int bits)) ∙ of_type))))
       shown (i ∷ path) s u h = absurd (let q = sym (ap (λ xs. slice_get xs i) (subs-Num n)) ∙ h.2 in cc)
 
-  abbrev makings : List Value → List Making
+  abbrev pub makings : List Value → List Making
   makings vs = map (making_of types) vs
 
   abbrev words_of_fields : (List ℕ → List ℕ) → (ℕ → List ℕ → List ℕ) → ℕ → List ℕ → List ℕ
@@ -332,14 +332,14 @@ module _ (p : Program) (typed : IsTyped p) (agrees : Agrees p) where
   seconds [] = refl
   seconds (v ∷ vs) = ap (λ xs. making_of types v ∷ xs) (seconds vs)
 
-  con_log : (t k : ℕ) (vs : List Value) (ts : List Ty) → fields_in (slice_get types t) k ≡ Some ts → making_of types (Con k vs) (Named t) ≡ in_turn (makings vs) ts ++ Built t (Con k vs) ∷ []
+  pub con_log : (t k : ℕ) (vs : List Value) (ts : List Ty) → fields_in (slice_get types t) k ≡ Some ts → making_of types (Con k vs) (Named t) ≡ in_turn (makings vs) ts ++ Built t (Con k vs) ∷ []
   con_log t k vs ts is =
       making-Con types k vs (Named t)
       ∙ ap (λ xs. in_turn xs (unwrap_or (fields_in (slice_get types t) k) []) ++ Built t (Con k (map (λ (x : Value × Making). x.0) (map (λ v. (v, making_of types v)) vs))) ∷ []) (seconds vs)
       ∙ ap (λ xs. in_turn (makings vs) (unwrap_or (fields_in (slice_get types t) k) []) ++ Built t (Con k xs) ∷ []) (firsts vs)
       ∙ ap (λ o. in_turn (makings vs) (unwrap_or o []) ++ Built t (Con k vs) ∷ []) is
 
-  declared_type : (t k : ℕ) (ts : List Ty) → fields_in (slice_get types t) k ≡ Some ts → t < length types
+  pub declared_type : (t k : ℕ) (ts : List Ty) → fields_in (slice_get types t) k ≡ Some ts → t < length types
   declared_type t k ts is = go (slice_get types t) refl is
     where
       go : (o : Option DataDecl) → slice_get types t ≡ o → fields_in o k ≡ Some ts → t < length types
@@ -357,7 +357,7 @@ module _ (p : Program) (typed : IsTyped p) (agrees : Agrees p) where
   abbrev FieldsShown : List Value → List Ty → Memory → (ℕ → List ℕ → List ℕ) → Type 0
   FieldsShown xs ys m fields = (i : ℕ) (x : Value) (t : Ty) → slice_get xs i ≡ Some x → slice_get ys i ≡ Some t → (path : List ℕ) (s : Ty) (u : Value) → PartIs types x t path s u → Shown m s u (fields i path)
 
-  con_types : (t k : ℕ) (vs : List Value) (ts : List Ty) → fields_in (slice_get types t) k ≡ Some ts → sub_types types (Named t) (out-Value (Con k vs)) ≡ ts
+  pub con_types : (t k : ℕ) (vs : List Value) (ts : List Ty) → fields_in (slice_get types t) k ≡ Some ts → sub_types types (Named t) (out-Value (Con k vs)) ≡ ts
   con_types t k vs ts is = ap (λ (x : Value-F Value). sub_types types (Named t) x) (outs-Con k vs) ∙ ap types_or_none is
 
   open_shown : (t k : ℕ) (vs : List Value) (ts : List Ty) → fields_in (slice_get types t) k ≡ Some ts → (m : Memory) (fields : ℕ → List ℕ → List ℕ) → FieldsShown vs ts m fields

@@ -21,15 +21,15 @@ use Rattle.rb_rel.specs.Placing.{Laid, Fits, Over, Request, request_of, behind, 
 
 -- Words one after the other from an address on, each of them a number of its width
 module _ (number : FlatWord → ℕ) where
-  abbrev written : List FlatWord → ℕ → List (Option ℕ) → List (Option ℕ)
+  abbrev pub written : List FlatWord → ℕ → List (Option ℕ) → List (Option ℕ)
   written [] at bytes = bytes
   written (f ∷ fs) at bytes = written fs (at + f.width / 8) (write_le bytes (f.width / 8) at (number f))
 
-  length-written : (fs : List FlatWord) (at : ℕ) (bytes : List (Option ℕ)) → length (written fs at bytes) ≡ length bytes
+  pub length-written : (fs : List FlatWord) (at : ℕ) (bytes : List (Option ℕ)) → length (written fs at bytes) ≡ length bytes
   length-written [] at bytes = refl
   length-written (f ∷ fs) at bytes = length-written fs (at + f.width / 8) (write_le bytes (f.width / 8) at (number f)) ∙ length-write_le bytes (f.width / 8) at (number f)
 
-  written_outside : (fs : List FlatWord) (at : ℕ) (bytes : List (Option ℕ)) (a : ℕ) → (a < at) ⊎ (at + bytes_in fs ≤ a) → byte_at (written fs at bytes) a ≡ byte_at bytes a
+  pub written_outside : (fs : List FlatWord) (at : ℕ) (bytes : List (Option ℕ)) (a : ℕ) → (a < at) ⊎ (at + bytes_in fs ≤ a) → byte_at (written fs at bytes) a ≡ byte_at bytes a
   written_outside [] at bytes a out = refl
   written_outside (f ∷ fs) at bytes a out =
       written_outside fs (at + f.width / 8) (write_le bytes (f.width / 8) at (number f)) a (rest out) ∙ byte_at-write_le_outside bytes (f.width / 8) at (number f) a (first out)
@@ -93,18 +93,18 @@ module _ (number : FlatWord → ℕ) where
         | inr up ↦ written_whole fs (at + n) next (omega (arith, le, long)) a up (omega (arith, high))
       ]
 
-begins_within : (fs : List FlatWord) (j : ℕ) (f : FlatWord) → slice_get fs j ≡ Some f → begins_at fs j + f.width / 8 ≤ bytes_in fs
+pub begins_within : (fs : List FlatWord) (j : ℕ) (f : FlatWord) → slice_get fs j ≡ Some f → begins_at fs j + f.width / 8 ≤ bytes_in fs
 begins_within [] j f is = absurd cc
 begins_within (g ∷ fs) zero f is = let e = ap (λ (x : FlatWord). x.width / 8) (same_Some g f is) in omega (arith, e)
 begins_within (g ∷ fs) (suc j) f is = let h = begins_within fs j f is in omega (arith, h)
 
-width_bytes : (width : ℕ) → IsBlockWidth width → 8 * (width / 8) ≡ width
+pub width_bytes : (width : ℕ) → IsBlockWidth width → 8 * (width / 8) ≡ width
 width_bytes width (inl e) = omega (arith, e)
 width_bytes width (inr (inl e)) = omega (arith, e)
 width_bytes width (inr (inr (inl e))) = omega (arith, e)
 width_bytes width (inr (inr (inr e))) = omega (arith, e)
 
-within_yes : (size to : ℕ) → to ≤ size → lies_within (Some size) to ≡ true
+pub within_yes : (size to : ℕ) → to ≤ size → lies_within (Some size) to ≡ true
 within_yes size to le = elim (leb_tells to size) [ inl h ↦ h.0 | inr h ↦ absurd (omega (arith, h.1, le)) ]
 
 -- what a block is: words of bytes, at least one of them
@@ -118,12 +118,23 @@ pub record Stored (m m' : Memory) (block : Block) (number : FlatWord → ℕ) (a
   pub sized : size_at m'.blocks a ≡ Some (size_of block)
   pub loads : (j : ℕ) (f : FlatWord) → slice_get block.words j ≡ Some f → load_of m' a (begins_at block.words j) f.width ≡ Ok (number f)
 
-module _ (m : Memory) (good : IsGood m) (block : Block) (is : IsBlock block) (number : FlatWord → ℕ) (fits : (j : ℕ) (f : FlatWord) → slice_get block.words j ≡ Some f → number f < 2 ^ f.width) where
+-- a block that is placed, with these words in it
+abbrev pub filled_of : (FlatWord → ℕ) → Memory → Block → Memory
+filled_of number m block =
+    let a = aligned m.next block.align in
+    record { limit = m.limit; next = a + size_of block; blocks = m.blocks ++ (a, size_of block) ∷ []; bytes = written number block.words a m.bytes }
+
+-- blocks one after the other
+abbrev pub fill : (FlatWord → ℕ) → Memory → List Block → Memory
+fill number m [] = m
+fill number m (block ∷ blocks) = fill number (filled_of number m block) blocks
+
+module _ (m : Memory) (good : IsGood m) (block : Block) (is : IsBlock block) (number : FlatWord → ℕ) where
   abbrev a : ℕ
   a = aligned m.next block.align
 
   abbrev filled : Memory
-  filled = record { limit = m.limit; next = a + size_of block; blocks = m.blocks ++ (a, size_of block) ∷ []; bytes = written number block.words a m.bytes }
+  filled = filled_of number m block
 
   module _ (room : a + size_of block ≤ m.limit) where
     above : m.next ≤ a
@@ -142,7 +153,7 @@ module _ (m : Memory) (good : IsGood m) (block : Block) (is : IsBlock block) (nu
       fresh = λ x le. written_outside number block.words a m.bytes x (inr le) ∙ good.fresh x (omega (arith, le, above));
     }
 
-    filled_grown : Grown m filled ((a, size_of block) ∷ []) (a + size_of block)
+    pub filled_grown : Grown m filled ((a, size_of block) ∷ []) (a + size_of block)
     filled_grown = record {
       limit = refl;
       next = refl;
@@ -156,20 +167,22 @@ module _ (m : Memory) (good : IsGood m) (block : Block) (is : IsBlock block) (nu
     filled_sized : size_at filled.blocks a ≡ Some (size_of block)
     filled_sized = size_at-push m.blocks 64 m.next a (size_of block) good.blocks above
 
-    filled_loads : (j : ℕ) (f : FlatWord) → slice_get block.words j ≡ Some f → load_of filled a (begins_at block.words j) f.width ≡ Ok (number f)
-    filled_loads j f at =
-        let wide = width_bytes f.width (is.widths j f at) in
-        load_within filled a (begins_at block.words j) f.width (ap (λ o. lies_within o (begins_at block.words j + f.width / 8)) filled_sized ∙ within_yes (size_of block) (begins_at block.words j + f.width / 8) (begins_within block.words j f at))
-        ∙ written_read number block.words a m.bytes long j f at
-        ∙ ap (λ k. Ok (number f % 2 ^ k)) wide ∙ ap Ok (mod-eq_of_lt (fits j f at))
+    module _ (fits : (j : ℕ) (f : FlatWord) → slice_get block.words j ≡ Some f → number f < 2 ^ f.width) where
+      filled_loads : (j : ℕ) (f : FlatWord) → slice_get block.words j ≡ Some f → load_of filled a (begins_at block.words j) f.width ≡ Ok (number f)
+      filled_loads j f at =
+          let wide = width_bytes f.width (is.widths j f at) in
+          load_within filled a (begins_at block.words j) f.width (ap (λ o. lies_within o (begins_at block.words j + f.width / 8)) filled_sized ∙ within_yes (size_of block) (begins_at block.words j + f.width / 8) (begins_within block.words j f at))
+          ∙ written_read number block.words a m.bytes long j f at
+          ∙ ap (λ k. Ok (number f % 2 ^ k)) wide ∙ ap Ok (mod-eq_of_lt (fits j f at))
 
-    pub filled_stored : Stored m filled block number a
-    filled_stored = record { sized = filled_sized; loads = filled_loads }
+      pub filled_stored : Stored m filled block number a
+      filled_stored = record { sized = filled_sized; loads = filled_loads }
 
 -- Several blocks, one after the other
 module _ (number : FlatWord → ℕ) where
   pub record AllStored (m : Memory) (blocks : List Block) (bs : List (ℕ × ℕ)) (p : ℕ) : Type 0 where
     pub memory : Memory
+    pub is_filled : memory ≡ fill number m blocks
     pub grown : Grown m memory bs p
     pub stored : (k : ℕ) (block : Block) → slice_get blocks k ≡ Some block → (at : ℕ × ℕ) × (slice_get bs k ≡ Some at) × Stored m memory block number at.0
 
@@ -203,18 +216,19 @@ module _ (number : FlatWord → ℕ) where
   all_stored [] are fit m good bs p e =
       let x : bs ≡ [] = cc in
       let y : m.next ≡ p = cc in
-      record { memory = m; grown = subst (λ q. Grown m m bs q) y (subst (λ cs. Grown m m cs m.next) (sym x) (Grown-refl m good)); stored = λ k block is. absurd cc }
+      record { memory = m; is_filled = refl; grown = subst (λ q. Grown m m bs q) y (subst (λ cs. Grown m m cs m.next) (sym x) (Grown-refl m good)); stored = λ k block is. absurd cc }
   all_stored (b ∷ blocks) are fit m good bs p e =
       let l = laid_more m.limit m.next (request_of b) (map request_of blocks) bs p e in
       let is = are 0 b refl in
       let fits = fit 0 b refl in
-      let m1 = filled m good b is number fits in
-      let g1 = filled_grown m good b is number fits l.0 in
-      let s1 = filled_stored m good b is number fits l.0 in
+      let m1 = filled_of number m b in
+      let g1 = filled_grown m good b is number l.0 in
+      let s1 = filled_stored m good b is number l.0 fits in
       let rest = all_stored blocks (λ k x h. are (suc k) x h) (λ k x h. fit (suc k) x h) m1 g1.good l.1 p l.2 in
       let g = Grown-trans m m1 rest.memory ((aligned m.next b.align, size_of b) ∷ []) l.1 (aligned m.next b.align + size_of b) p g1 rest.grown in
       record {
         memory = rest.memory;
+        is_filled = rest.is_filled;
         grown = subst (λ cs. Grown m rest.memory cs p) (sym l.3) g;
         stored = λ k block h. subst (λ cs. (at : ℕ × ℕ) × (slice_get cs k ≡ Some at) × Stored m rest.memory block number at.0) (sym l.3) (found k block h s1 g1.good rest);
       }

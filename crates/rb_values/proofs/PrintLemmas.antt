@@ -8,7 +8,7 @@ use Rattle.rb_core.specs.declared.types.Ty.{Ty}
 use Rattle.rb_core.specs.declared.types.DataDecl.{DataDecl}
 use Rattle.rb_core.specs.Values.{subs, node_count, nodes_step}
 use Rattle.rb_core.proofs.ValueLaws.{fold-Num, fold-Con}
-use Rattle.rb_values.specs.inner.Nodes.{at}
+use Rattle.rb_values.specs.Nodes.{at}
 use Rattle.rb_values.specs.declared.print.Frame.{Frame}
 use Rattle.std.specs.Fmt.{decimal}
 use Rattle.rb_values.specs.Texts.{type_index, name_of, field_of, before, after_last, fields_text, text_step, text_of}

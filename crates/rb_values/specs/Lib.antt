@@ -1,5 +1,6 @@
 pub mod Fitting
 pub mod Laws
+pub mod Nodes
 pub mod Reading
 pub mod Terms
 pub mod Texts

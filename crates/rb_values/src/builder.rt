@@ -26,7 +26,7 @@ impl Model for Builder {
 
     ghost coded = { coded_list value_row.the_row.coded };
 
-    ghost use Rattle.rb_values.specs.inner.Nodes.{at, IsBuilt};
+    ghost use Rattle.rb_values.specs.Nodes.{at, IsBuilt};
 
     ghost view = { λ s. map (at s.nodes) s.done.items };
 

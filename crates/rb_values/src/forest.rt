@@ -2,6 +2,7 @@
 
 ghost use Rattle.std.specs.Prelude.{◌≡◌};
 ghost use Rattle.rb_core.specs.Values.{node_count};
+ghost use Rattle.rb_values.specs.Nodes.{posts};
 
 use crate::nodes::Nodes;
 use std::marker::Model;
@@ -22,7 +23,7 @@ impl Model for Forest {
 
     ghost coded = { value_row.the_row.coded };
 
-    ghost use Rattle.rb_values.specs.inner.Nodes.{at, posts};
+    ghost use Rattle.rb_values.specs.Nodes.{at, posts};
 
     ghost view = { λ s. at s.nodes (length s.nodes - 1) };
 
@@ -35,5 +36,12 @@ impl Forest {
         ensures { result ≡ node_count self.now }
     {
         self.nodes.len() as u64
+    }
+
+    /// The nodes in post-order, each with its value.
+    pub fn as_nodes(&self) -> &Nodes
+        ensures { result.now ≡ posts self.now }
+    {
+        &self.nodes
     }
 }

@@ -22,11 +22,11 @@
 //! Printing goes over the nodes with frames of the same kind, outermost first.
 #![tactic(auto)]
 
-mod builder;
+pub mod builder;
 pub mod fault;
 pub mod forest;
 pub mod laws;
-mod nodes;
+pub mod nodes;
 mod outline;
 pub mod print;
 pub mod read;

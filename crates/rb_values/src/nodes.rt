@@ -3,7 +3,7 @@
 ghost use Rattle.std.specs.Prelude.{◌≡◌, ◌<◌, ◌∷◌, ◌++◌, [], length, map, OnOk, OnErr, All};
 ghost use Rattle.rb_core.specs.declared.value.Value.{Num, Con};
 ghost use Rattle.rb_core.specs.Values.{subs};
-ghost use Rattle.rb_values.specs.inner.Nodes.{at, IsLayer};
+ghost use Rattle.rb_values.specs.Nodes.{at, IsLayer};
 
 use std::alloc::{AllocError, Global};
 use std::marker::Model;
@@ -39,7 +39,7 @@ impl Model for Nodes {
 
     ghost coded = { coded_list value_row.the_row.coded };
 
-    ghost use Rattle.rb_values.specs.inner.Nodes.{values_from, AreBelow};
+    ghost use Rattle.rb_values.specs.Nodes.{values_from, AreBelow};
 
     ghost view = { λ s. values_from s.links.items s.nodes.items [] };
 

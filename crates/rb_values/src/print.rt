@@ -4,7 +4,7 @@ ghost use Rattle.std.specs.Prelude.{◌≡◌, ◌<◌, ◌++◌, length, IfOk, 
 ghost use Rattle.std.specs.Fmt.{decimal};
 ghost use Rattle.std.specs.Option.{option_copied};
 ghost use Rattle.rb_values.specs.Texts.{type_index, con_of, name_of, field_of, before, after_last, text_of};
-ghost use Rattle.rb_values.specs.inner.Nodes.{at};
+ghost use Rattle.rb_values.specs.Nodes.{at};
 ghost use Rattle.rb_values.specs.inner.Printing.{IsFrame, AreFrames, Opened, Turned};
 
 use crate::forest::Forest;

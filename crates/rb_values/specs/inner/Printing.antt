@@ -5,7 +5,7 @@ use Rattle.rb_core.specs.declared.types.Ty.{Ty}
 use Rattle.rb_core.specs.declared.types.DataDecl.{DataDecl}
 use Rattle.rb_core.specs.Values.{subs, node_count}
 use Rattle.rb_values.specs.Texts.{field_of, fields_text, text_of}
-use Rattle.rb_values.specs.inner.Nodes.{at}
+use Rattle.rb_values.specs.Nodes.{at}
 use Rattle.rb_values.specs.declared.print.Frame.{Frame}
 
 abbrev pub frame_text : List DataDecl → List Value → Frame → List ℕ

@@ -1,5 +1,5 @@
 use Rattle.std.proofs.Common.{◌≡◌, ◌++◌}
-use Rattle.rb_values.specs.inner.Nodes.{at}
+use Rattle.rb_values.specs.Nodes.{at}
 use Rattle.rb_values.specs.Texts.{text_of}
 use Rattle.rb_values.specs.inner.Printing.{pending, work, AreFrames}
 use Rattle.rb_values.proofs.print.print_node.Given as goal

@@ -1,6 +1,6 @@
 use Rattle.std.proofs.Common.{◌<◌, length, arith}
 use Rattle.rb_core.specs.Values.{subs}
-use Rattle.rb_values.specs.inner.Nodes.{at}
+use Rattle.rb_values.specs.Nodes.{at}
 use Rattle.rb_values.proofs.PrintLemmas as print
 use Rattle.rb_values.proofs.print.turn.Goals as goal
 

@@ -1,7 +1,7 @@
 use Rattle.std.proofs.Common.{◌≡◌, ℕ, ◌-◌, List, [], ◌∷◌, ◌++◌, length, map, ◌∙◌, ap, sym, arith, take, drop}
 use Rattle.std.proofs.lemmas.List.{length-map}
 use Rattle.rb_core.specs.declared.value.Value.{Con}
-use Rattle.rb_values.specs.inner.Nodes.{at}
+use Rattle.rb_values.specs.Nodes.{at}
 use Rattle.rb_values.proofs.PostLemmas as posts
 use Rattle.rb_values.proofs.builder.Builder.build.Goals as goal
 

@@ -1,6 +1,6 @@
 use Rattle.std.proofs.Common.{length, map, sum, ◌∙◌, ap}
 use Rattle.rb_core.specs.Values.{node_count}
-use Rattle.rb_values.specs.inner.Nodes.{at}
+use Rattle.rb_values.specs.Nodes.{at}
 use Rattle.rb_values.proofs.PostLemmas as posts
 use Rattle.rb_values.proofs.builder.Builder.count.Goals as goal
 

@@ -1,0 +1,54 @@
+//! Words and blocks of a value.
+
+ghost use Rattle.std.specs.Prelude.{◌≡◌, map, true};
+ghost use Rattle.rb_core.specs.Values.{all_of_types, is_of_type};
+ghost use Rattle.rb_bytes.specs.Memory.{IsGood};
+ghost use Rattle.rb_coding.specs.Encoding.{AreEncoded, IsEncoded};
+
+use crate::fault::EncodeFault;
+use rb_bytes::memory::ByteMemory;
+use rb_core::seq::Seq;
+use rb_core::types::Ty;
+use rb_layout::agreed::Agreed;
+use rb_values::forest::Forest;
+use std::alloc::Global;
+
+/// The words of a value of this type, with free bits 0. The memory grows by just the blocks that the
+/// value's constructions ask for, inner before outer and from left to right.
+///
+/// # Errors
+///
+/// `Full` exactly where one of these blocks doesn't fit, the first one; those before it are placed and
+/// written. Or want of memory.
+pub fn encode<M: ByteMemory>(
+    alloc: Global,
+    agreed: &Agreed,
+    ty: Ty,
+    value: &Forest,
+    memory: &mut M,
+) -> Result<Seq<u64>, EncodeFault>
+    requires good { IsGood (M.memory memory.old) }
+    requires typed { is_of_type agreed.now.covered.program.types value.now ty ≡ true }
+    ensures { IsEncoded agreed.now.covered.program ty value.now (M.memory memory.old) (M.memory memory.new) result }
+{
+    Err(EncodeFault::Memory)
+}
+
+/// The words of values of these types, one behind the other. The values are encoded in turn.
+///
+/// # Errors
+///
+/// As for one value.
+pub fn encode_all<M: ByteMemory>(
+    alloc: Global,
+    agreed: &Agreed,
+    tys: &[Ty],
+    values: &[Forest],
+    memory: &mut M,
+) -> Result<Seq<u64>, EncodeFault>
+    requires good { IsGood (M.memory memory.old) }
+    requires typed { all_of_types (map (is_of_type agreed.now.covered.program.types) values.now) tys.now ≡ true }
+    ensures { AreEncoded agreed.now.covered.program tys.now values.now (M.memory memory.old) (M.memory memory.new) result }
+{
+    Err(EncodeFault::Memory)
+}

@@ -1,0 +1,32 @@
+//! Words of values: a value is encoded into words and blocks of a memory, and decoded from them, over
+//! any layouts that agree with their types.
+//!
+//! Take a list whose tag is the lowest bit of a pointer, and whose items lie behind it:
+//!
+//! ```text
+//! type List = Nil | Cons(u64, List);
+//! 1 => Nil        : { word 64 { [0:1] = 1 } }
+//! 0 => Cons(_, _) : { word 64 { [0:1] = 0, [3:61] -> 8 { word 64 { [0:64] .0 }, inline .1 } } }
+//! ```
+//!
+//! `Cons(1, Cons(2, Nil))` is five nodes in post-order: `1`, `2`, `Nil`, `Cons(2, Nil)` and the whole.
+//! Encoding finds the type of each node in one pass from the last to the first, since a construction
+//! stands behind its fields, and then gives each node its words in one pass from the first to the last.
+//! `Nil` is the word 1. `Cons(2, Nil)` asks for a block of 16 bytes, which is placed at 64 and filled
+//! with the words of its fields, 2 and 1; its own word is 64. The whole has a block at 80 and the
+//! word 80. So the blocks are those that the constructions ask for, inner before outer and from left to
+//! right, and where one doesn't fit, those before it are placed.
+//!
+//! A field that a leaf has taken apart, as the color of a red node whose leaf is for red nodes alone, is
+//! encoded like any other node, and its words are not looked at.
+//!
+//! Decoding goes the other way by a list of things to do. To visit words at a type is to find the leaf
+//! by its splits, to find the blocks by its pointers, outer before inner, and to gather the words of
+//! each open position of the leaf. These are visited in turn, and joined by the constructors of the
+//! leaf's provenance. Each thing to do is a node of the value, so that counting them beside the nodes
+//! that are built refuses a value over the limit early, however often it shares a block.
+#![tactic(auto)]
+
+pub mod decode;
+pub mod encode;
+pub mod fault;

@@ -1,0 +1,61 @@
+-- What a call of `main` comes to over a memory: its end, its steps and its switches.
+use Rattle.std.specs.Prelude.{◌≡◌, ℕ, List, ◌++◌, true}
+use Rattle.rb_core.specs.declared.value.Value.{Value}
+use Rattle.rb_core.specs.declared.outcome.Event.{Event}
+use Rattle.rb_core.specs.declared.program.Program.{Program}
+use Rattle.rb_core.specs.Meaning.{call_of}
+use Rattle.rb_core.specs.Typing.{param_types, result_type}
+use Rattle.rb_bytes.specs.Memory.{Memory}
+use Rattle.rb_bytes.specs.Growth.{Grown}
+use Rattle.rb_layout.specs.declared.agreed.LaidOut.{LaidOut}
+use Rattle.rb_target.specs.declared.code.CodeFun.{CodeFun}
+use Rattle.rb_target.specs.declared.outcome.End.{End}
+use Rattle.rb_target.specs.Meaning.{Outcome, over, run_of}
+use Rattle.rb_rel.specs.Answers.{all_makings}
+use Rattle.rb_rel.specs.Placing.{Laid, Fits, Over, lay, requests_of}
+use Rattle.rb_rel.specs.Relation.{Represent}
+use Rattle.rb_compile.specs.Plans.{plan_of}
+use Rattle.rb_compile.specs.Refining.{EndsAs}
+
+-- what makes the arguments of `main`, one after the other
+abbrev pub making_arguments : Program → List Value → List Event
+making_arguments p args = all_makings p.types args (param_types p.funs p.main)
+
+-- what a call of `main` asks for: the blocks of its arguments, and then those of its log, laid in a memory
+abbrev pub laid_call : LaidOut → List Value → ℕ → Memory → Laid
+laid_call agreed args calls m =
+    let p = agreed.covered.program in
+    lay m.limit m.next (requests_of agreed.layouts (making_arguments p args ++ (call_of p p.main calls args).log))
+
+-- an end over a memory, whatever was counted
+abbrev pub end_over : End → Memory → Outcome
+end_over end m = over end (record { left = 0; memory = m; switches = 0; taken = 0 })
+
+-- The call of `main` does what the source does, from the memory as it was to the memory as it is: the end is
+-- Full with the first request that does not fit, or Spent, or words that represent the value, with clean
+-- free bits, and as many calls left.
+abbrev pub IsCalled : LaidOut → List Value → ℕ → Memory → End → Memory → Type 0
+IsCalled agreed args calls old end new =
+    let p = agreed.covered.program in
+    EndsAs (plan_of agreed) true (result_type p.funs p.main) old (laid_call agreed args calls old) (call_of p p.main calls args).end (end_over end new)
+
+-- The steps and the switches of a call: those of the code's run on words that represent the arguments, in a
+-- memory with just their blocks more; none, where these do not fit.
+abbrev pub CountsAs : LaidOut → List CodeFun → List Value → ℕ → Memory → Laid → ℕ → ℕ → Type 0
+CountsAs agreed code args calls old (Over full) steps switches = (steps ≡ 0) × (switches ≡ 0)
+CountsAs agreed code args calls old (Fits blocks next) steps switches =
+    let p = agreed.covered.program in
+    (ws : List ℕ) × (m : Memory) × Grown old m blocks next × Represent p.types agreed.layouts m true (param_types p.funs p.main) args ws
+    × (steps ≡ (run_of code calls p.main ws m).world.taken) × (switches ≡ (run_of code calls p.main ws m).world.switches)
+
+-- where the blocks of the arguments end up
+abbrev pub laid_arguments : LaidOut → List Value → Memory → Laid
+laid_arguments agreed args m = lay m.limit m.next (requests_of agreed.layouts (making_arguments agreed.covered.program args))
+
+abbrev pub IsCounted : LaidOut → List CodeFun → List Value → ℕ → Memory → ℕ → ℕ → Type 0
+IsCounted agreed code args calls old steps switches =
+    CountsAs agreed code args calls old (laid_arguments agreed args old) steps switches
+
+-- some call of `main` ended so
+abbrev pub IsEndOf : LaidOut → End → Memory → Type 0
+IsEndOf agreed end new = (args : List Value) × (calls : ℕ) × (old : Memory) × IsCalled agreed args calls old end new
