@@ -1,6 +1,6 @@
 -- The steps of building a tree.
 use Rattle.std.proofs.Common.{◌≡◌, ℕ, zero, suc, ◌+◌, ◌-◌, ◌<◌, ◌≤◌, List, [], ◌∷◌, ◌++◌, map, take, drop, length, get_or, sum, Bool, true, false, Option, Some, None, is_some, refl, sym, ap, ◌∙◌, arith, subst}
-use Rattle.std.specs.Prelude.{slice_get, if◌then◌else◌, unwrap_or}
+use Rattle.std.specs.Prelude.{if◌then◌else◌}
 use Rattle.std.proofs.Common.{length-drop, append_assoc}
 use Rattle.std.proofs.lemmas.Bool.{false≢true}
 use Rattle.std.proofs.lemmas.List.{take_all, append-nil}
@@ -9,16 +9,13 @@ use Rattle.rb_core.specs.declared.types.DataDecl.{DataDecl}
 use Rattle.rb_core.specs.declared.types.Ty.{Ty}
 use Rattle.rb_matrix.specs.declared.matrix.Head.{Head}
 use Rattle.rb_matrix.specs.declared.matrix.Head.TheVariants as H
-use Rattle.rb_matrix.specs.Heads.{fields_at}
-use Rattle.rb_matrix.specs.Search.{AreInhabited, AreTypesIn, IsTypeIn}
-use Rattle.rb_matrix.proofs.Parts.{fields_at-live}
 use Rattle.rb_decide.specs.declared.clause_matrix.Column.{Column}
 use Rattle.rb_decide.specs.declared.clause_matrix.Row.{Row}
 use Rattle.rb_decide.specs.declared.decision_tree.Tree.{Tree, Test, Clause}
 use Rattle.rb_decide.specs.declared.decision_tree.TreeArm.{TreeArm}
-use Rattle.rb_decide.specs.ClauseMatrices.{before, first_test, to_front, row_to_front, column_heads, is_complete, special_rows, default_rows, field_types, field_columns}
+use Rattle.rb_decide.specs.ClauseMatrices.{first_test, to_front, row_to_front, column_heads, is_complete, special_rows, default_rows, field_types, field_columns}
 use Rattle.rb_decide.specs.Trees.{size, arms_of, other_of, test_of, tree_at, tree_step, tree_within, heads_in}
-use Rattle.rb_decide.specs.inner.Building.{column_ty, IsBuilt, AreBuilt, arms_size}
+use Rattle.rb_decide.specs.inner.Building.{IsBuilt, AreBuilt, arms_size}
 use Rattle.rb_decide.proofs.TreeSteps.{size-Clause, size-None, size-Some, size-least, arms-cons, arms-append}
 use Rattle.rb_decide.proofs.Weights.{column_head, rows-front, front-column, special-less, default-less}
 
@@ -28,41 +25,6 @@ split-first (y ∷ ys) x le e = ap (λ z. z ∷ ys) (sym e)
 
 pub split-rest : {A : Type 0} (xs : List A) (x : A) → 1 ≤ length xs → x ≡ get_or xs 0 x → xs ≡ x ∷ take (length xs - 1) (drop 1 xs)
 split-rest xs x le e = split-first xs x le e ∙ ap (λ l. x ∷ l) (sym (take_all (length xs - 1) (drop 1 xs) (let a = length-drop 1 xs in omega (arith, a))))
-
--- the types of the columns --------------------------------------------------------------------------
-
-module _ (types : List DataDecl) where
-  types-get : (cs : List Column) (i : ℕ) (c : Column) → slice_get cs i ≡ Some c → AreTypesIn types (map column_ty cs) → IsTypeIn types c.ty
-  types-get [] i c e h = cc
-  types-get (d ∷ cs) zero c e h = let same : d ≡ c = cc in subst (λ (x : Column). IsTypeIn types x.ty) same h.0
-  types-get (d ∷ cs) (suc i) c e h = types-get cs i c e h.1
-
-  types-without : (cs : List Column) (i : ℕ) → AreTypesIn types (map column_ty cs) → AreTypesIn types (map column_ty (take i cs ++ drop (suc i) cs))
-  types-without [] zero h = tt
-  types-without [] (suc i) h = tt
-  types-without (c ∷ cs) zero h = h.1
-  types-without (c ∷ cs) (suc i) h = (h.0, types-without cs i h.1)
-
-  pub types-front : (i : ℕ) (cs : List Column) → AreTypesIn types (map column_ty cs) → AreTypesIn types (map column_ty (to_front i cs))
-  types-front i cs h = by (slice_get cs i) refl
-    where
-      by : (o : Option Column) → slice_get cs i ≡ o → AreTypesIn types (map column_ty (before o (take i cs ++ drop (suc i) cs)))
-      by None e = types-without cs i h
-      by (Some c) e = (types-get cs i c e h, types-without cs i h)
-
-  types-fields : (q : List ℕ) (i : ℕ) (ts : List Ty) (cs : List Column) → AreTypesIn types ts → AreTypesIn types (map column_ty cs) → AreTypesIn types (map column_ty (field_columns q i ts ++ cs))
-  types-fields q i [] cs h k = k
-  types-fields q i (t ∷ ts) cs h k = (h.0, types-fields q (suc i) ts cs h.1 k)
-
-  pub types-under : AreInhabited types → (c : Column) (h : Head) (cs : List Column) → AreTypesIn types (map column_ty cs) → AreTypesIn types (map column_ty (field_columns c.position 0 (field_types types c.ty h) ++ cs))
-  types-under i c h cs k = types-fields c.position 0 (field_types types c.ty h) cs (by (fields_at types c.ty h) refl) k
-    where
-      by : (o : Option (List Ty)) → fields_at types c.ty h ≡ o → AreTypesIn types (unwrap_or o [])
-      by None e = tt
-      by (Some fs) e = fields_at-live types i c.ty h fs e
-
-  pub type-first : (columns : List Column) (c : Column) (cs : List Column) → columns ≡ c ∷ cs → AreTypesIn types (map column_ty columns) → IsTypeIn types c.ty × AreTypesIn types (map column_ty cs)
-  type-first columns c cs e h = subst (λ l. AreTypesIn types (map column_ty l)) e h
 
 -- the first row's test ------------------------------------------------------------------------------
 
@@ -181,9 +143,6 @@ module _ (types : List DataDecl) (c : Column) (cs : List Column) (rows : List Ro
 
   pub arm-less : heads_in sp < heads_in rows
   arm-less = rw special (special-less head count rows some)
-
-  pub arm-types : AreInhabited types → AreTypesIn types (map column_ty cs) → AreTypesIn types (map column_ty cols)
-  arm-types i k = subst (λ l. AreTypesIn types (map column_ty l)) (ap (λ l. field_columns c.position 0 l ++ cs) (sym fields) ∙ sym columns) (types-under types i c head cs k)
 
   module _ (old mid new : ℕ) (done : List TreeArm) (sum : arms_size done + mid ≡ old) (so_far : (n : ℕ) → heads_in rows ≤ suc n → done ++ all_at n (drop i hs) ≡ all_at n hs)
       (tree : Option Tree) (h : (n : ℕ) → heads_in sp ≤ n → IsBuilt (tree_within types n cols sp) mid new tree) where

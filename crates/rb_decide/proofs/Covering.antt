@@ -1,5 +1,5 @@
 -- Heads that are a complete signature.
-use Rattle.std.proofs.Common.{◌≡◌, ℕ, zero, suc, ◌+◌, ◌^◌, ◌<◌, List, [], length, Bool, true, false, ◌&&◌, Option, Some, None, refl, sym, ap, ◌∙◌, arith, subst, inl, inr}
+use Rattle.std.proofs.Common.{◌≡◌, ℕ, zero, suc, ◌+◌, ◌^◌, ◌<◌, List, [], length, Bool, true, false, ◌&&◌, Option, Some, None, sym, ap, ◌∙◌, arith, subst, inl, inr}
 use Rattle.std.specs.Prelude.{slice_get}
 use Rattle.std.proofs.lemmas.Bool.{false≢true, cases_lt, ltb-true}
 use Rattle.std.proofs.Math.Bool.{and-false}
@@ -12,9 +12,7 @@ use Rattle.rb_core.specs.declared.types.Ty.TheVariants.{Int, Named}
 use Rattle.rb_core.specs.Values.{is_of_type, fields_in, fields_of_con, are_of}
 use Rattle.rb_matrix.specs.declared.matrix.Head.{Head}
 use Rattle.rb_matrix.specs.Heads.{any_begins}
-use Rattle.rb_matrix.specs.Search.{AreInhabited}
 use Rattle.rb_matrix.proofs.HeadLemmas.{any_begins-con}
-use Rattle.rb_matrix.proofs.Inhabited.{con-count}
 use Rattle.rb_matrix.proofs.Vectors.{and-left, and-right, con-of, con-of_int, num-of, num-of_int}
 use Rattle.rb_decide.specs.ClauseMatrices.{all_below, con_count, is_complete}
 
@@ -40,13 +38,6 @@ one-below n f e g = subst (λ m. all_below m f ≡ true) (next n) (ap (λ b. b &
     next n = omega arith
 
 module _ (types : List DataDecl) where
-  pub few-constructors : AreInhabited types → (t : ℕ) → con_count (slice_get types t) < 2 ^ 32
-  few-constructors i t = by (slice_get types t) refl
-    where
-      by : (d : Option DataDecl) → slice_get types t ≡ d → con_count d < 2 ^ 32
-      by None e = omega arith
-      by (Some d) e = let a = con-count types i t d e in omega (arith, a)
-
   in-cons : (d : Option DataDecl) (k : ℕ) (ts : List (Ty → Bool)) → are_of ts (fields_in d k) ≡ true → k < con_count d
   in-cons None k ts e = absurd (false≢true e)
   in-cons (Some d) k ts e = elim (cases_lt k (length d.cons)) [

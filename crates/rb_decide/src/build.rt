@@ -2,9 +2,8 @@
 
 ghost use Rattle.std.specs.Prelude.{◌≡◌, ◌<◌, IfOk, is_some};
 ghost use Rattle.rb_matrix.specs.Heads.{first_head};
-ghost use Rattle.rb_matrix.specs.Search.{AreInhabited, AreTypesIn, IsTypeIn};
 ghost use Rattle.rb_decide.specs.Trees.{row_pats};
-ghost use Rattle.rb_decide.specs.inner.Building.{IsTreeBuilt, IsTestBuilt, AreArmsBuilt, column_ty};
+ghost use Rattle.rb_decide.specs.inner.Building.{IsTreeBuilt, IsTestBuilt, AreArmsBuilt};
 ghost use Rattle.std.specs.Prelude.{map, true};
 
 use crate::branches::{columns_by_head, fields_of_head, other_rows, rows_by_head};
@@ -28,8 +27,6 @@ pub fn build(
     rows: &[Row],
     left: &mut usize,
 ) -> Result<Option<Tree>, AllocError>
-    requires inhabited { AreInhabited types.now }
-    requires live { AreTypesIn types.now (map column_ty columns.now) }
     ensures { IfOk result (λ r. IsTreeBuilt types.now columns.now rows.now left.old left.new r) }
 {
     if *left == 0 {
@@ -62,8 +59,6 @@ fn build_test(
     rows: &[Row],
     left: &mut usize,
 ) -> Result<Option<Tree>, AllocError>
-    requires inhabited { AreInhabited types.now }
-    requires live { AreTypesIn types.now (map column_ty columns.now) }
     requires heads { is_some (first_head (map row_pats rows.now)) ≡ true }
     requires some { 0 < left.old }
     ensures { IfOk result (λ r. IsTestBuilt types.now columns.now rows.now left.old left.new r) }
@@ -77,7 +72,8 @@ fn build_test(
         return Ok(None);
     };
     let position = column.position.copy(alloc)?;
-    if covers(types, column.ty, heads.as_slice()) {
+    let full = covers(types, column.ty, heads.as_slice())?;
+    if full {
         return Ok(Some(Tree::Test(position, arms, None)));
     }
     let others = other_rows(alloc, rows)?;
@@ -99,9 +95,6 @@ fn build_arms(
     heads: &[Head],
     left: &mut usize,
 ) -> Result<Option<Seq<TreeArm>>, AllocError>
-    requires inhabited { AreInhabited types.now }
-    requires live { IsTypeIn types.now column.now.ty }
-    requires rest { AreTypesIn types.now (map column_ty rest.now) }
     requires heads { is_some (first_head (map row_pats rows.now)) ≡ true }
     ensures { IfOk result (λ r. AreArmsBuilt types.now column.now rest.now rows.now heads.now left.old left.new r) }
 {

@@ -2,7 +2,6 @@
 
 ghost use Rattle.std.specs.Prelude.{◌≡◌, [], IfOk};
 ghost use Rattle.rb_core.specs.Matching.{IsExhaustive};
-ghost use Rattle.rb_matrix.specs.Search.{AreInhabited, IsTypeIn};
 ghost use Rattle.rb_decide.specs.Decisions.{IsTried, OnBuilt, TakesChosen, TestsOnce, TestsHeads};
 
 use crate::build::build;
@@ -39,13 +38,10 @@ pub fn tree_up_to(
     rows: &[Pat],
     limit: usize,
 ) -> Result<Tried, AllocError>
-    requires inhabited { AreInhabited types.now }
-    requires live { IsTypeIn types.now ty }
-    requires exhaustive { IsExhaustive types.now ty rows.now }
     ensures tried { IfOk result (λ r. IsTried types.now ty rows.now limit r) }
 
-    // Of each value of the type it takes the chosen clause.
-    ensures takes { IfOk result (λ r. OnBuilt r (TakesChosen types.now ty rows.now)) }
+    // Where the match is exhaustive, it takes the chosen clause of each value of the type.
+    ensures takes { IfOk result (λ r. IsExhaustive types.now ty rows.now → OnBuilt r (TakesChosen types.now ty rows.now)) }
 
     // It tests no position twice on a way, and only those at which some row has a head.
     ensures once { IfOk result (λ r. OnBuilt r TestsOnce) }
@@ -66,13 +62,10 @@ pub fn tree_up_to(
 ///
 /// Want of memory.
 pub fn tree(alloc: Global, types: &[DataDecl], ty: Ty, rows: &[Pat]) -> Result<Tried, AllocError>
-    requires inhabited { AreInhabited types.now }
-    requires live { IsTypeIn types.now ty }
-    requires exhaustive { IsExhaustive types.now ty rows.now }
     ensures tried { IfOk result (λ r. IsTried types.now ty rows.now 512 r) }
 
-    // Of each value of the type it takes the chosen clause.
-    ensures takes { IfOk result (λ r. OnBuilt r (TakesChosen types.now ty rows.now)) }
+    // Where the match is exhaustive, it takes the chosen clause of each value of the type.
+    ensures takes { IfOk result (λ r. IsExhaustive types.now ty rows.now → OnBuilt r (TakesChosen types.now ty rows.now)) }
 
     // It tests no position twice on a way, and only those at which some row has a head.
     ensures once { IfOk result (λ r. OnBuilt r TestsOnce) }

@@ -1,25 +1,27 @@
 //! Whether heads are a complete signature: all that values of a type can begin with.
 
-ghost use Rattle.std.specs.Prelude.{◌≡◌, ◌+◌, ◌^◌, ◌<◌, ◌≤◌, [], slice_get};
+ghost use Rattle.std.specs.Prelude.{◌≡◌, ◌+◌, ◌^◌, [], IfOk, slice_get};
 ghost use Rattle.rb_core.specs.declared.value.Value.TheOpen as Layers;
 ghost use Rattle.rb_matrix.specs.Heads.{any_begins};
-ghost use Rattle.rb_matrix.specs.Search.{AreInhabited, IsTypeIn};
 ghost use Rattle.rb_decide.specs.ClauseMatrices.{all_below, con_count, is_complete};
 
+use crate::clause_matrix::number_of;
 use rb_core::types::{ConRef, DataDecl, Ty};
 use rb_matrix::heads::is_known;
 use rb_matrix::matrix::Head;
+use std::alloc::AllocError;
 
-// The greatest number of an integer type.
-fn greatest(bits: u8) -> u64
-    requires { bits ≤ 64 }
-    ensures { result + 1 ≡ 2 ^ bits }
+// The greatest number of an integer type, which has at most 64 bits.
+fn greatest(bits: u8) -> Result<u64, AllocError>
+    ensures { IfOk result (λ n. n + 1 ≡ 2 ^ bits) }
 {
-    if bits == 64 {
-        u64::MAX
-    } else {
-        (1u64 << bits) - 1
+    if bits > 64 {
+        return Err(AllocError);
     }
+    if bits == 64 {
+        return Ok(u64::MAX);
+    }
+    Ok((1u64 << bits) - 1)
 }
 
 // Whether all numbers up to `most` are among the heads.
@@ -50,27 +52,27 @@ fn constructors_of(types: &[DataDecl], ty: u32) -> usize
 }
 
 // Whether the first `count` constructors of a type are among the heads.
-fn has_constructors(heads: &[Head], ty: u32, count: usize) -> bool
-    requires { count < 2 ^ 32 }
+fn has_constructors(heads: &[Head], ty: u32, count: u32) -> bool
     ensures { result ≡ all_below count (λ k. any_begins heads.now (Layers.Con k [])) }
 {
     for k in 0..count {
-        let con = k as u32;
-        if !is_known(heads, Head::Con(ConRef { ty, con })) {
+        if !is_known(heads, Head::Con(ConRef { ty, con: k })) {
             return false;
         }
     }
     true
 }
 
-/// Whether the heads are all constructors of the type, or all numbers of its width.
-pub fn covers(types: &[DataDecl], ty: Ty, heads: &[Head]) -> bool
-    requires inhabited { AreInhabited types.now }
-    requires live { IsTypeIn types.now ty }
-    ensures { result ≡ is_complete types.now ty heads.now }
+/// Whether the heads are all constructors of the type, or all numbers of its width. A type of over 64
+/// bits or of 2^32 constructors, of which there is none, meets want of memory.
+pub fn covers(types: &[DataDecl], ty: Ty, heads: &[Head]) -> Result<bool, AllocError>
+    ensures { IfOk result (λ full. full ≡ is_complete types.now ty heads.now) }
 {
     match ty {
-        Ty::Int(bits) => has_numbers(heads, greatest(bits)),
-        Ty::Named(t) => has_constructors(heads, t, constructors_of(types, t)),
+        Ty::Int(bits) => Ok(has_numbers(heads, greatest(bits)?)),
+        Ty::Named(t) => {
+            let count = number_of(constructors_of(types, t))?;
+            Ok(has_constructors(heads, t, count))
+        }
     }
 }

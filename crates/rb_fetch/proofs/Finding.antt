@@ -1,8 +1,8 @@
 -- From a represented value: its leaf is found.
-use Rattle.std.proofs.Common.{◌≡◌, ℕ, ◌<◌, ◌≤◌, ◌^◌, List, [], ◌∷◌, length, Some, None, refl, sym, subst, ap, ◌∙◌, arith}
+use Rattle.std.proofs.Common.{◌≡◌, inl, inr, ℕ, ◌<◌, ◌≤◌, ◌^◌, suc, List, [], ◌∷◌, map, length, Some, None, refl, sym, subst, ap, ◌∙◌, arith}
 use Rattle.std.specs.Prelude.{slice_get}
 use Rattle.std.proofs.lemmas.List.{length-map}
-use Rattle.std.proofs.lemmas.Option.{same_Some}
+use Rattle.std.proofs.lemmas.Option.{same_Some, slice_get_within}
 use Rattle.std.proofs.Math.Pow.{pow_mono}
 use Rattle.rb_core.specs.declared.types.Ty.TheVariants.{Named}
 use Rattle.rb_core.specs.declared.layout_decl.Loc.{Loc}
@@ -11,6 +11,8 @@ use Rattle.rb_core.specs.declared.program.Program.{Program}
 use Rattle.rb_core.specs.Layouts.{leaves}
 use Rattle.rb_core.specs.TypedPrograms.{IsTyped}
 use Rattle.rb_target.specs.declared.body.Hole.{Hole}
+use Rattle.rb_target.specs.declared.instr.Instr.{Instr}
+use Rattle.rb_target.specs.Targets.{IsIn}
 use Rattle.rb_target.specs.Meaning.{slots_at}
 use Rattle.rb_target.specs.Sheet.{Sheet}
 use Rattle.rb_layout.specs.declared.agreed.LaidOut.{LaidOut}
@@ -24,22 +26,34 @@ use Rattle.rb_layout.specs.Flattening.{flat_leaf, flat_layouts}
 use Rattle.rb_layout.specs.Positions.{leaf_of, layout_of}
 use Rattle.rb_layout.specs.Splits.{Test, Is, IsNone, Route, routes_of, SplitAt, splits_of}
 use Rattle.rb_layout.proofs.TreeLemmas.{count-is}
-use Rattle.rb_rel.specs.Relation.{word_count, shape_length}
+use Rattle.rb_rel.specs.Relation.{word_count, shape_length, Represents}
 use Rattle.rb_rel.specs.Reading.{walk}
 use Rattle.rb_rel.specs.Switches.{nesting, depth_in, depth_of}
 use Rattle.rb_rel.proofs.Agreeing.{lawful}
 use Rattle.rb_rel.proofs.Declared.{declared}
 use Rattle.rb_rel.proofs.Leading.{leads}
 use Rattle.rb_rel.proofs.Lists.{got}
+use Rattle.rb_fragment.specs.declared.reads.Read.{Read, Slot}
 use Rattle.rb_fragment.specs.Plan.{Plan}
+use Rattle.rb_fragment.specs.Arms.{AreHoles, AreOfOneWay}
 use Rattle.rb_fragment.specs.Pieces.{Leaves, Branches}
-use Rattle.rb_fragment.specs.Slots.{AllBelow}
+use Rattle.rb_fragment.specs.WordReads.{AllFit}
+use Rattle.rb_fragment.proofs.MakingAll.{slots_fit, slots_meant}
 use Rattle.rb_fragment.proofs.Adding.{Adds-refl}
 use Rattle.rb_fetch.specs.Fetching.{StepsFit, LocFits}
-use Rattle.rb_fetch.specs.Finding.{HasLeaf, FindsLeaf}
-use Rattle.rb_fetch.specs.inner.Looking.{TreeFits, Looks}
+use Rattle.rb_fetch.specs.Finding.{HasLeafMeant, IsPlanOf, FindsLeaf, FindsLeafOf, leaves_within, leaf_count}
+use Rattle.rb_fetch.specs.inner.Looking.{TreeFits, LeavesBelow, IsLeafHole, Looks}
 use Rattle.rb_fetch.proofs.Fitting.{readable_leaf, resolved_fits, root_widths}
 use Rattle.rb_fetch.proofs.Numbers.{loc_of, counted, stands}
+
+-- no hole is one of none
+nothing : (h : Hole) → IsIn h [] → ⊥
+nothing h i = absurd (let e = i.1 in cc)
+
+-- hole by hole
+are_holes : (from count : ℕ) (code : List Instr) (hs : List Hole) → ((h : Hole) → IsIn h hs → (from ≤ h.pc) × IsLeafHole count code h) → AreHoles from count code hs
+are_holes from count code [] f = tt
+are_holes from count code (h ∷ hs) f = let x = f h (0, refl) in (x.0, x.1.0, x.1.1, are_holes from count code hs (λ k i. f k (suc i.0, i.1)))
 
 last_low : (steps : List Step) (o l : ℕ) → StepsFit o l steps → last_length l steps ≤ 64
 last_low [] o l h = omega (arith, h.1)
@@ -74,6 +88,10 @@ module _ (p : Program) (typed : IsTyped p) (agrees : Agrees p) (t : ℕ) (layout
       let n : length l.0.root ≡ length layout.shape = sym (length-map l.0.root (λ (g : FlatWord). g.width)) ∙ ap length (root_widths p typed agrees t layout a.route.leaf l.0 is l.1) in
       (f.0, omega (arith, f.1, n))
 
+  -- the leaves of the tree are the layout's
+  pub leaves_below : LeavesBelow (length layout.leaves) layout.tree
+  leaves_below k r e = let l = route_leaf k r e in slice_get_within layout.leaves r.leaf l.0 l.1
+
   pub tree_fits : TreeFits (length layout.shape) layout.tree
   tree_fits k s e =
       let f = split_fits k s e in
@@ -86,11 +104,11 @@ module _ (p : Program) (typed : IsTyped p) (agrees : Agrees p) (t : ℕ) (layout
             omega (arith, lt, low);
       }
 
-module _ (plan : Plan) (typed : IsTyped plan.program) (agreed : AreAgreed plan.program plan.layouts) (t : ℕ) (words : List ℕ) where
+module _ (plan : Plan) (typed : IsTyped plan.program) (agreed : AreAgreed plan.program plan.layouts) (t : ℕ) (words : List Read) where
   -- what looks finds the leaf
   pub branches : (layout : Layout) → layout_of plan.layouts t ≡ Some layout → (old new : Sheet) (holes : List Hole) → Looks words layout.tree old [] new holes
-      → AllBelow old.slots words → length words ≡ word_count plan.layouts (Named t)
-      → Branches plan old.slots old new holes (depth_of plan.layouts (Named t)) (λ n s m. HasLeaf plan t n (slots_at s words) m) (λ n s m. Unit {0})
+      → AllFit old.slots words → length words ≡ word_count plan.layouts (Named t)
+      → Branches plan old.slots old new holes (depth_of plan.layouts (Named t)) (λ n s m. HasLeafMeant plan t n words s m) (λ n s m. Unit {0})
   branches layout is old new holes looks all count =
       let is1 : layout_of (flat_layouts plan.program) t ≡ Some layout = ap (λ ls. layout_of ls t) (sym agreed.0) ∙ is in
       let n : length words ≡ length layout.shape = count ∙ ap shape_length is in
@@ -98,42 +116,65 @@ module _ (plan : Plan) (typed : IsTyped plan.program) (agreed : AreAgreed plan.p
       let deep : nesting layout.tree ≡ depth_of plan.layouts (Named t) = ap depth_in (sym is) in
       let law = lawful plan.program agreed.1 typed in
       record {
-        adds = looks.adds plan all fits;
+        adds = looks.adds plan old.slots (omega arith) all fits;
         low = omega arith;
-        leaves = λ final callee next steps finishes s w k long good has.
-            let rep = subst (λ ls. Rattle.rb_rel.specs.Relation.Represents plan.program.types ls w.memory has.clean (Named t) has.value (slots_at s words)) agreed.0 has.represents in
-            let led = leads plan.program.types (flat_layouts plan.program) w.memory has.clean good law t has.value (slots_at s words) layout is1 rep in
+        leaves = λ final callee next steps finishes s w k long good meant.
+            let has = meant.has_leaf in
+            let ws = meant.words in
+            let rep = subst (λ ls. Represents plan.program.types ls w.memory has.clean (Named t) has.value ws) agreed.0 has.represents in
+            let led = leads plan.program.types (flat_layouts plan.program) w.memory has.clean good law t has.value ws layout is1 rep in
             let l : has.layout ≡ layout = same_Some has.layout layout (sym has.is_layout ∙ is) in
             let leaf : led.0 ≡ k = same_Some led.0 k (sym led.1 ∙ ap (λ (y : Layout). leaf_of y has.value) (sym l) ∙ has.is_leaf) in
-            let goes : walk layout.tree (slots_at s words) w.memory ≡ Some k = led.2 ∙ ap Some leaf in
+            let goes : walk layout.tree ws w.memory ≡ Some k = led.2 ∙ ap Some leaf in
             subst (λ most. Leaves final next holes old.slots most (length old.code) s w k (λ s' m. Unit {0})) deep
-            (looks.runs plan final callee next old.slots new.slots steps all (omega arith) (omega arith) fits (λ h i. absurd (nothing h i.0 i.1)) finishes s w k long good goes);
+            (looks.runs plan final callee next old.slots new.slots steps all (omega arith) (omega arith) fits (λ h i. absurd (nothing h i)) finishes s w k ws long good meant.are_meant goes);
       }
-    where
-      nothing : (h : Hole) (k : ℕ) → slice_get [] k ≡ Some h → ⊥
-      nothing h k e = cc
 
   -- a type without a layout has no values
-  pub no_branches : layout_of plan.layouts t ≡ None → (old : Sheet) → Branches plan old.slots old old [] (depth_of plan.layouts (Named t)) (λ n s m. HasLeaf plan t n (slots_at s words) m) (λ n s m. Unit {0})
+  pub no_branches : layout_of plan.layouts t ≡ None → (old : Sheet) → Branches plan old.slots old old [] (depth_of plan.layouts (Named t)) (λ n s m. HasLeafMeant plan t n words s m) (λ n s m. Unit {0})
   no_branches none old = record {
     adds = Adds-refl plan old;
     low = omega arith;
-    leaves = λ final callee next steps finishes s w k long good has. absurd (let z = sym has.is_layout ∙ none in cc);
+    leaves = λ final callee next steps finishes s w k long good has. absurd (let z = sym has.has_leaf.is_layout ∙ none in cc);
   }
 
 -- the plan of an agreed program is sound
-pub finds : (agreed : LaidOut) → IsTyped agreed.covered.program → agreed.layouts ≡ flat_layouts agreed.covered.program → Agrees agreed.covered.program → (t : ℕ) (layout : Layout) → layout_of agreed.layouts t ≡ Some layout
-    → (words : List ℕ) (old new : Sheet) (holes : List Hole) → Looks words layout.tree old [] new holes → FindsLeaf agreed t words old new holes
-finds agreed typed flat agrees t layout is words old new holes looks plan of all count =
-    let typed1 = subst IsTyped (sym of.program) typed in
-    let agrees1 = subst Agrees (sym of.program) agrees in
-    let flat1 : plan.layouts ≡ flat_layouts plan.program = of.layouts ∙ flat ∙ ap flat_layouts (sym of.program) in
-    branches plan typed1 (flat1, agrees1) t words layout (ap (λ ls. layout_of ls t) of.layouts ∙ is) old new holes looks all count
+module _ (agreed : LaidOut) (typed : IsTyped agreed.covered.program) (flat : agreed.layouts ≡ flat_layouts agreed.covered.program) (agrees : Agrees agreed.covered.program) (t : ℕ) where
+  pub of_plan : (plan : Plan) → IsPlanOf agreed plan → IsTyped plan.program × AreAgreed plan.program plan.layouts
+  of_plan plan of =
+      (subst IsTyped (sym of.program) typed, (of.layouts ∙ flat ∙ ap flat_layouts (sym of.program), subst Agrees (sym of.program) agrees))
 
-pub finds_none : (agreed : LaidOut) → IsTyped agreed.covered.program → agreed.layouts ≡ flat_layouts agreed.covered.program → Agrees agreed.covered.program → (t : ℕ) → layout_of agreed.layouts t ≡ None
-    → (words : List ℕ) (old : Sheet) → FindsLeaf agreed t words old old []
-finds_none agreed typed flat agrees t none words old plan of all count =
-    let typed1 = subst IsTyped (sym of.program) typed in
-    let agrees1 = subst Agrees (sym of.program) agrees in
-    let flat1 : plan.layouts ≡ flat_layouts plan.program = of.layouts ∙ flat ∙ ap flat_layouts (sym of.program) in
-    no_branches plan typed1 (flat1, agrees1) t words (ap (λ ls. layout_of ls t) of.layouts ∙ none) old
+  module _ (words : List Read) (old : Sheet) where
+    pub finds_none : layout_of agreed.layouts t ≡ None → FindsLeafOf agreed t words old old []
+    finds_none none plan of all count =
+        let p = of_plan plan of in no_branches plan p.0 p.1 t words (ap (λ ls. layout_of ls t) of.layouts ∙ none) old
+
+    module _ (layout : Layout) (is : layout_of agreed.layouts t ≡ Some layout) (new : Sheet) (holes : List Hole) (looks : Looks words layout.tree old [] new holes) where
+      pub finds : FindsLeafOf agreed t words old new holes
+      finds plan of all count =
+          let p = of_plan plan of in branches plan p.0 p.1 t words layout (ap (λ ls. layout_of ls t) of.layouts ∙ is) old new holes looks all count
+
+      -- its holes are of the layout's leaves
+      pub finds_holes : AreHoles (length old.code) (leaf_count agreed t) new.code holes
+      finds_holes =
+          let is1 : layout_of (flat_layouts agreed.covered.program) t ≡ Some layout = ap (λ ls. layout_of ls t) (sym flat) ∙ is in
+          let below = leaves_below agreed.covered.program typed agrees t layout is1 in
+          subst (λ n. AreHoles (length old.code) n new.code holes) (ap leaves_within (sym is)) (are_holes (length old.code) (length layout.leaves) new.code holes
+          (λ h i. (
+            elim (looks.more.new h i) [ inl j ↦ absurd (nothing h j) | inr r ↦ r.0 ],
+            elim (looks.leaves (length layout.leaves) below h i) [ inl j ↦ absurd (nothing h j) | inr r ↦ r ],
+          )))
+
+      pub finds_ways : AreOfOneWay holes
+      finds_ways = looks.ways (λ h i. absurd (nothing h i)) (λ h k i. absurd (nothing h i))
+
+-- from words in slots
+pub finds_slots : (agreed : LaidOut) (t : ℕ) (words : List ℕ) (old new : Sheet) (holes : List Hole) → FindsLeafOf agreed t (map (λ x. Slot x) words) old new holes → FindsLeaf agreed t words old new holes
+finds_slots agreed t words old new holes finds plan of all count =
+    let b = finds plan of (slots_fit old.slots words all) (length-map words (λ x. Slot x) ∙ count) in
+    record {
+      adds = b.adds;
+      low = b.low;
+      leaves = λ final callee next law finishes s w k long good has.
+          b.leaves final callee next law finishes s w k long good (record { words = slots_at s words; are_meant = slots_meant s w.memory words; has_leaf = has });
+    }

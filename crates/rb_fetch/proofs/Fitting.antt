@@ -46,7 +46,7 @@ pub record IsReadable (leaf : Leaf) : Type 0 where
   pub blocks : HasBlocks leaf
   pub root : (j : ℕ) (f : FlatWord) → slice_get leaf.root j ≡ Some f → f.width ≤ 64
 
-width_low : (w : ℕ) → IsBlockWidth w → w ≤ 64
+pub width_low : (w : ℕ) → IsBlockWidth w → w ≤ 64
 width_low w (inl e) = omega (arith, e)
 width_low w (inr (inl e)) = omega (arith, e)
 width_low w (inr (inr (inl e))) = omega (arith, e)

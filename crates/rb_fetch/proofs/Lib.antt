@@ -2,6 +2,11 @@ pub mod Locations
 pub mod Fitting
 pub mod Numbers
 pub mod Trees
+pub mod LeafNumbers
 pub mod Looking
 pub mod LookForms
 pub mod Finding
+pub mod Placing
+pub mod Spans
+pub mod Slices
+pub mod Fields

@@ -10,7 +10,8 @@ use Rattle.rb_target.proofs.Growing.{below_or, Grows-trans, Grows-append}
 use Rattle.rb_target.proofs.Shapes.{patch_is}
 use Rattle.rb_layout.specs.declared.layout.FlatTree.{FlatTree, Split, Leaf}
 use Rattle.rb_layout.specs.declared.layout.FlatArm.{FlatArm}
-use Rattle.rb_fetch.specs.Fetching.{FetchesLoc}
+use Rattle.rb_fragment.specs.declared.reads.Read.{Read}
+use Rattle.rb_fetch.specs.Fetching.{FetchesAt}
 use Rattle.rb_fetch.specs.inner.Looking.{Looks, under_arm, under_at, switch_of, IsBefore, ArmsDone}
 use Rattle.rb_fetch.proofs.Looking.{hole_at, split_start, split_rename, split_hole, split_look, split_looks, arm_within}
 
@@ -24,8 +25,8 @@ before_less k None (inr e) = absurd cc
 before_less k (Some j) (inl h) = omega (arith, h)
 before_less k (Some j) (inr e) = let s = same_Some j k e in omega (arith, s)
 
-module _ (words : List ℕ) (tree : FlatTree) (arms : List FlatArm) (other : Option FlatTree) (old : Sheet) (hs0 : List Hole) where
-  pub looks_start : (loc : Loc) (c : Sheet) (slot pc : ℕ) → tree ≡ Split loc arms other → FetchesLoc words loc old c slot → Grows old.code c.code → pc ≡ length c.code
+module _ (words : List Read) (tree : FlatTree) (arms : List FlatArm) (other : Option FlatTree) (old : Sheet) (hs0 : List Hole) where
+  pub looks_start : (loc : Loc) (c : Sheet) (slot pc : ℕ) → tree ≡ Split loc arms other → FetchesAt words loc old c slot → Grows old.code c.code → pc ≡ length c.code
       → ArmsDone words tree arms other old hs0 pc 0 (pushed c (switch_of c slot arms other)) hs0
   looks_start loc c slot pc is fetches grown at = record {
     grows = Grows-trans _ _ _ grown (Grows-append _ _);

@@ -9,9 +9,9 @@ use Rattle.rb_target.specs.declared.instr.SwitchArm.{SwitchArm}
 use Rattle.rb_target.specs.declared.instr.Instr.{Instr}
 use Rattle.rb_target.specs.declared.instr.Instr.TheVariants.{Jump, Switch}
 use Rattle.rb_target.specs.declared.body.Hole.{Hole}
-use Rattle.rb_target.specs.Growth.{AgreesBut, Nowhere, Grows}
-use Rattle.rb_target.specs.Meaning.{Next, taken, switched, slots_at, target_of, after_switch}
-use Rattle.rb_target.specs.Sheet.{Sheet, pushed, IsHoleIn, patched}
+use Rattle.rb_target.specs.Growth.{AgreesBut, Nowhere, Grows, Keeps}
+use Rattle.rb_target.specs.Meaning.{Next, taken, switched, target_of, after_switch}
+use Rattle.rb_target.specs.Sheet.{Sheet, pushed, IsHoleIn, IsHole, patched}
 use Rattle.rb_target.specs.Targets.{shape, shape_in, target_at, target_in, IsIn, IsOpen}
 use Rattle.rb_target.specs.Validity.{IsTarget}
 use Rattle.rb_target.proofs.Finishing.{agrees-sub}
@@ -21,12 +21,14 @@ use Rattle.rb_layout.specs.declared.layout.FlatTree.{FlatTree, Split, Leaf}
 use Rattle.rb_layout.specs.declared.layout.FlatArm.{FlatArm}
 use Rattle.rb_rel.specs.Reading.{walk}
 use Rattle.rb_fragment.proofs.Adding.{Adds-trans, push_adds}
-use Rattle.rb_fragment.proofs.Holds.{AllBelow-more, slots_at-kept}
-use Rattle.rb_fragment.proofs.Patching.{patch_adds}
+use Rattle.rb_fragment.proofs.MakingAll.{meant-kept}
+use Rattle.rb_fragment.proofs.Patching.{patch_adds, patched_hole, hole_within}
+use Rattle.rb_fragment.specs.declared.reads.Read.{Read}
 use Rattle.rb_fragment.specs.Plan.{Plan}
-use Rattle.rb_fragment.specs.Slots.{AllBelow}
-use Rattle.rb_fetch.specs.Fetching.{FetchesLoc}
-use Rattle.rb_fetch.specs.inner.Looking.{TreeFits, Does, AreBefore, Looks, open_arm, open_arms_of, open_else_of, under_arm, under_at, switch_of, SplitDone}
+use Rattle.rb_fragment.specs.WordReads.{AreMeant, AllFit}
+use Rattle.rb_fetch.specs.Fetching.{FetchesAt}
+use Rattle.rb_fetch.specs.inner.Looking.{TreeFits, Does, IsLeafHole, AreBefore, Looks, open_arm, open_arms_of, open_else_of, under_arm, under_at, switch_of, SplitDone}
+use Rattle.rb_fetch.proofs.LeafNumbers.{leaf_below, under_below}
 use Rattle.rb_fetch.proofs.Trees.{AllSmall, literals, walk-Leaf, walked, nested, fit-under, fit-split}
 
 -- Lists of holes
@@ -46,14 +48,18 @@ in-split h x (y ∷ hs) (suc k, e) = elim (in-split h x hs (k, e)) [ inl i ↦ i
 open-sub : (hs hs' : List Hole) (q : ℕ) (arm : Option ℕ) → ((h : Hole) → IsIn h hs' → h.pc ≡ q → h.arm ≡ arm → IsIn h hs) → IsOpen hs' q arm → IsOpen hs q arm
 open-sub hs hs' q arm f o = (o.0, f o.0 o.1 o.2 o.3, o.2, o.3)
 
-widen : (final : List Instr) (next : Next) (words : List ℕ) (tree : FlatTree) (hs hs' : List Hole) (n0 top start : ℕ) → ((h : Hole) → IsIn h hs → IsIn h hs') → Does final next words tree hs n0 top start → Does final next words tree hs' n0 top start
-widen final next words tree hs hs' n0 top start f d = λ s w n long good walks.
-    let r = d s w n long good walks in
+widen : (final : List Instr) (next : Next) (words : List Read) (tree : FlatTree) (hs hs' : List Hole) (n0 top start : ℕ) → ((h : Hole) → IsIn h hs → IsIn h hs') → Does final next words tree hs n0 top start → Does final next words tree hs' n0 top start
+widen final next words tree hs hs' n0 top start f d = λ s w n ws long good meant walks.
+    let r = d s w n ws long good meant walks in
     record { hole = r.hole; is_hole = f r.hole r.is_hole; is_way = r.is_way; target = r.target; is_target = r.is_target; slots = r.slots; world = r.world; runs = r.runs; keeps = r.keeps; later = r.later; exit = r.exit }
+
+-- a hole of code is one of longer code
+hole_kept : (old new : List Instr) (h : Hole) → Grows old new → IsHole old h → IsHole new h
+hole_kept old new h g hole = subst (λ o. IsHoleIn o h.arm) (sym (g.same h.pc (hole_within old h hole))) hole
 
 -- A leaf
 
-pub looks_leaf : (words : List ℕ) (n : ℕ) (old : Sheet) (hs0 : List Hole) → let h : Hole = record { pc = length old.code; arm = None; leaf = n } in Looks words (Leaf n) old hs0 (pushed old (Jump (length old.code + 1))) (hs0 ++ h ∷ [])
+pub looks_leaf : (words : List Read) (n : ℕ) (old : Sheet) (hs0 : List Hole) → let h : Hole = record { pc = length old.code; arm = None; leaf = n } in Looks words (Leaf n) old hs0 (pushed old (Jump (length old.code + 1))) (hs0 ++ h ∷ [])
 looks_leaf words n old hs0 =
     let h : Hole = record { pc = length old.code; arm = None; leaf = n } in
     let pc = length old.code in
@@ -64,14 +70,29 @@ looks_leaf words n old hs0 =
         old = λ x i. in-more x h hs0 i;
         new = λ x i. elim (in-split x h hs0 i) [ inl j ↦ inl j | inr e ↦ (let at : pc ≡ x.pc = ap (λ (y : Hole). y.pc) e in inr (omega (arith, at), omega (arith, at, len))) ];
       };
-      adds = λ plan all fits. push_adds plan old (Jump (pc + 1)) (record { bounded = tt; slots_fit = tt; targets = (omega arith, omega arith); calls = tt });
-      runs = λ plan final callee next n0 top law all le le' fits below fin s w k long good walks.
+      leaves = λ count below x i. elim (in-split x h hs0 i) [
+        | inl j ↦ inl j
+        | inr e ↦ inr (subst (λ (y : Hole). IsLeafHole count code y) e (leaf_below count n below, subst (λ o. IsHoleIn o None) (sym (get-seam old.code (Jump (pc + 1)) [])) tt))
+      ];
+      ways = λ below one x y i j at same.
+          elim (in-split x h hs0 i) [
+            | inl a ↦ elim (in-split y h hs0 j) [
+              | inl b ↦ one x y a b at same
+              | inr e ↦ (let lt = below x a in let is : pc ≡ y.pc = ap (λ (z : Hole). z.pc) e in absurd (omega (arith, lt, is, at)))
+            ]
+            | inr d ↦ elim (in-split y h hs0 j) [
+              | inl b ↦ (let lt = below y b in let is : pc ≡ x.pc = ap (λ (z : Hole). z.pc) d in absurd (omega (arith, lt, is, at)))
+              | inr e ↦ ap (λ (z : Hole). z.leaf) (sym d ∙ e)
+            ]
+          ];
+      adds = λ plan m le all fits. push_adds plan old (Jump (pc + 1)) (record { bounded = tt; slots_fit = tt; targets = (omega arith, omega arith); calls = tt });
+      runs = λ plan final callee next n0 top law all le le' fits below fin s w k ws long good meant walks.
           let a = fin pc (omega arith) (omega (arith, len)) in
           let j = jump_shape (slice_get final pc) (pc + 1) (a.shapes ∙ ap shape_in (get-seam old.code (Jump (pc + 1)) [])) in
           record {
             hole = h;
             is_hole = in-last h hs0;
-            is_way = same_Some n k (sym (walk-Leaf n (slots_at s words) w.memory) ∙ walks);
+            is_way = same_Some n k (sym (walk-Leaf n ws w.memory) ∙ walks);
             target = j.0;
             is_target = ap (λ o. target_in o None) j.1;
             slots = s;
@@ -85,7 +106,7 @@ looks_leaf words n old hs0 =
 
 -- Splits
 
-module _ (words : List ℕ) (loc : Loc) (arms : List FlatArm) (other : Option FlatTree) (c : Sheet) (slot : ℕ) (hs0 : List Hole) where
+module _ (words : List Read) (loc : Loc) (arms : List FlatArm) (other : Option FlatTree) (c : Sheet) (slot : ℕ) (hs0 : List Hole) where
   abbrev pc : ℕ
   pc = length c.code
 
@@ -139,7 +160,9 @@ module _ (words : List ℕ) (loc : Loc) (arms : List FlatArm) (other : Option Fl
         long = omega (arith, len);
         more = record { old = λ x i. i; new = λ x i. inl i };
         done = λ h i e. inl i;
-        adds = λ plan lt all fits.
+        leaves = λ count below h i. inl i;
+        ways = λ below one. one;
+        adds = λ plan m lt le all fits.
             let f = fit-split (length words) loc arms other fits in
             push_adds plan c switch (record { bounded = arms_small (pc + 1) arms f.2; slots_fit = lt; targets = (else_forward pc other, arms_forward pc arms); calls = tt });
         runs = λ plan final callee next n0 top law all le lts le' fits below shaped targets fin arm tree d at. absurd d;
@@ -153,6 +176,8 @@ module _ (words : List ℕ) (loc : Loc) (arms : List FlatArm) (other : Option Fl
     long = d.long;
     more = d.more;
     done = λ h i e. elim (d.done h i e) [ inl j ↦ inl j | inr y ↦ inr (g h.arm y) ];
+    leaves = d.leaves;
+    ways = d.ways;
     adds = d.adds;
     runs = λ plan final callee next n0 top law all le lts le' fits below shaped targets fin arm tree y at.
         d.runs plan final callee next n0 top law all le lts le' fits below shaped (λ z dz no. targets z (g z dz) no) fin arm tree (f arm y) at;
@@ -176,6 +201,23 @@ module _ (words : List ℕ) (loc : Loc) (arms : List FlatArm) (other : Option Fl
             new = λ y i. elim (in-split y h hs i) [ inl j ↦ d.more.new y j | inr e ↦ (let is : pc ≡ y.pc = ap (λ (z : Hole). z.pc) e in inr (omega (arith, is), omega (arith, is, d.long))) ];
           };
           done = λ y i e. elim (in-split y h hs i) [ inl j ↦ elim (d.done y j e) [ inl k ↦ inl k | inr k ↦ inr (inl k) ] | inr s ↦ inr (inr (sym (ap (λ (z : Hole). z.arm) s))) ];
+          leaves = λ count below y i. elim (in-split y h hs i) [
+            | inl j ↦ d.leaves count below y j
+            | inr s ↦ inr (subst (λ (z : Hole). IsLeafHole count b.code z) s (leaf_below count n (under_below count loc arms other x (Leaf n) at below), hole_at (slice_get b.code pc) x (Leaf n) at d.shaped))
+          ];
+          ways = λ below one y z i j same arm.
+              let apart : (k : Hole) → IsIn k hs → k.pc ≡ pc → k.arm ≡ x → ⊥ =
+              (λ k a e e'. elim (d.done k a e) [ inl c0 ↦ (let lt = below k c0 in absurd (omega (arith, lt, e))) | inr q ↦ new (subst D e' q) ]) in
+              elim (in-split y h hs i) [
+                | inl a ↦ elim (in-split z h hs j) [
+                  | inl e ↦ d.ways below one y z a e same arm
+                  | inr s ↦ absurd (apart y a (same ∙ sym (ap (λ (q : Hole). q.pc) s)) (arm ∙ sym (ap (λ (q : Hole). q.arm) s)))
+                ]
+                | inr r ↦ elim (in-split z h hs j) [
+                  | inl e ↦ absurd (apart z e (sym same ∙ sym (ap (λ (q : Hole). q.pc) r)) (sym arm ∙ sym (ap (λ (q : Hole). q.arm) r)))
+                  | inr s ↦ ap (λ (q : Hole). q.leaf) (sym r ∙ s)
+                ]
+              ];
           adds = d.adds;
           runs = λ plan final callee next n0 top law all le lts le' fits below shaped targets fin arm tree y is.
               elim y [
@@ -192,10 +234,10 @@ module _ (words : List ℕ) (loc : Loc) (arms : List FlatArm) (other : Option Fl
                     let same : Leaf n ≡ tree = same_Some (Leaf n) tree (sym at ∙ ap (under_at arms other) (sym e) ∙ is) in (
                       t.0,
                       ap (target_in (slice_get final pc)) e ∙ go,
-                      subst (λ (u : FlatTree). Does final next words u hs' n0 top t.0) same (λ s w k long good walks. record {
+                      subst (λ (u : FlatTree). Does final next words u hs' n0 top t.0) same (λ s w k ws long good meant walks. record {
                         hole = h;
                         is_hole = in-last h hs;
-                        is_way = same_Some n k (sym (walk-Leaf n (slots_at s words) w.memory) ∙ walks);
+                        is_way = same_Some n k (sym (walk-Leaf n ws w.memory) ∙ walks);
                         target = t.0;
                         is_target = go;
                         slots = s;
@@ -225,11 +267,10 @@ module _ (words : List ℕ) (loc : Loc) (arms : List FlatArm) (other : Option Fl
       behind h i lt = elim (look.more.new h i) [ inl j ↦ j | inr r ↦ absurd (omega (arith, p.long, r.0, lt)) ]
 
       -- slots are added
-      mids : (plan : Plan) (n0 : ℕ) → AllBelow n0 words → n0 ≤ c.slots → slot < c.slots → TreeFits (length words) Tree → (c.slots ≤ b.slots) × (b.slots ≤ b'.slots)
+      mids : (plan : Plan) (n0 : ℕ) → AllFit n0 words → n0 ≤ c.slots → slot < c.slots → TreeFits (length words) Tree → (c.slots ≤ b.slots) × (b.slots ≤ b'.slots)
       mids plan n0 all le lts fits =
-          let all1 = AllBelow-more n0 c.slots words le all in
-          let g = d.adds plan lts all1 fits in
-          let h = look.adds plan (AllBelow-more c.slots b.slots words g.more all1) (fit-under (length words) loc arms other x tree at fits) in
+          let g = d.adds plan n0 lts le all fits in
+          let h = look.adds plan n0 (omega (arith, le, g.more)) all (fit-under (length words) loc arms other x tree at fits) in
           (g.more, h.more)
 
       pub split_look : Done D' b' hs'
@@ -245,10 +286,19 @@ module _ (words : List ℕ) (loc : Loc) (arms : List FlatArm) (other : Option Fl
           ];
         };
         done = λ h i is. elim (d.done h (behind h i (omega (arith, is, d.long))) is) [ inl j ↦ inl j | inr j ↦ inr (inl j) ];
-        adds = λ plan lts all fits.
-            let g = d.adds plan lts all fits in
+        leaves = λ count below h i. elim (look.leaves count (under_below count loc arms other x tree at below) h i) [
+          | inl j ↦ elim (d.leaves count below h j) [
+            | inl k ↦ inl k
+            | inr k ↦ inr (k.0, hole_kept e.code b'.code h grows (patched_hole b (here x 0) (length b.code) h k.1))
+          ]
+          | inr k ↦ inr k
+        ];
+        ways = λ below one. look.ways
+            (λ h i. elim (d.more.new h i) [ inl j ↦ (let lt = below h j in omega (arith, lt, d.long, p.long)) | inr r ↦ omega (arith, r.1, p.long) ]) (d.ways below one);
+        adds = λ plan m lts le all fits.
+            let g = d.adds plan m lts le all fits in
             let g1 = patch_adds plan c b (here x 0) (length b.code) g p (omega arith) d.long (omega arith) in
-            Adds-trans plan c e b' g1 (look.adds plan (AllBelow-more c.slots b.slots words g.more all) (fit-under (length words) loc arms other x tree at fits));
+            Adds-trans plan c e b' g1 (look.adds plan m (omega (arith, le, g.more)) all (fit-under (length words) loc arms other x tree at fits));
         runs = λ plan final callee next n0 top law all le lts le' fits below shaped targets fin arm u y is.
             let shut : (z : Option ℕ) → IsOpen hs' pc z → IsOpen hs pc z = λ z o. open-sub hs hs' pc z (λ k i e1 e2. behind k i (omega (arith, e1, d.long))) o in
             let done_before : IsOpen hs pc x → ⊥ = λ o. elim (d.done o.0 o.1 o.2) [ inl j ↦ (let lt = below o.0 j in absurd (omega (arith, lt, o.2))) | inr j ↦ new (subst D o.3 j) ] in
@@ -281,28 +331,29 @@ module _ (words : List ℕ) (loc : Loc) (arms : List FlatArm) (other : Option Fl
   numbers-open t (a ∷ ys) = ap (λ l. a.literal ∷ l) (numbers-open t ys)
 
   -- all is done
-  pub split_looks : (old : Sheet) → FetchesLoc words loc old c slot → Grows old.code c.code → (D : Option ℕ → Type 0) (b : Sheet) (hs : List Hole) → Done D b hs
+  pub split_looks : (old : Sheet) → FetchesAt words loc old c slot → Grows old.code c.code → (D : Option ℕ → Type 0) (b : Sheet) (hs : List Hole) → Done D b hs
       → ((x : Option ℕ) (t : FlatTree) → under_at arms other x ≡ Some t → D x) → Looks words Tree old hs0 b hs
   split_looks old fetches grown D b hs d covers =
       let low = grown.longer in
       record {
         more = record { old = d.more.old; new = λ h i. elim (d.more.new h i) [ inl j ↦ inl j | inr r ↦ inr (omega (arith, r.0, low), r.1) ] };
-        adds = λ plan all fits.
+        leaves = d.leaves;
+        ways = λ below one. d.ways (λ h i. let lt = below h i in omega (arith, lt, low)) one;
+        adds = λ plan m le all fits.
             let f = fit-split (length words) loc arms other fits in
-            let st = fetches plan all f.1 f.0 in
-            Adds-trans plan old c b st.adds (d.adds plan st.given (AllBelow-more old.slots c.slots words st.adds.more all) fits);
-        runs = λ plan final callee next n0 top law all le le' fits below fin s w n long good walks.
-            let wk = walked loc arms other (slots_at s words) w.memory n walks in
+            let st = fetches plan m le all f.1 f.0 in
+            Adds-trans plan old c b st.adds (d.adds plan m st.given (omega (arith, le, st.adds.more)) all fits);
+        runs = λ plan final callee next n0 top law all le le' fits below fin s w n ws long good meant walks.
+            let wk = walked loc arms other ws w.memory n walks in
             let f = fit-split (length words) loc arms other fits in
-            let all1 : AllBelow old.slots words = AllBelow-more n0 old.slots words le all in
-            let st = fetches plan all1 f.1 f.0 in
+            let st = fetches plan n0 le all f.1 f.0 in
             let more : old.slots ≤ c.slots = st.adds.more in
-            let more1 = (d.adds plan st.given (AllBelow-more old.slots c.slots words more all1) fits).more in
+            let more1 = (d.adds plan n0 st.given (omega (arith, le, more)) all fits).more in
             let below1 : AreBefore pc hs0 = (λ h i. let lt = below h i in omega (arith, lt, low)) in
             let agrees : AgreesBut final c.code (length old.code) pc Nowhere = record {
               same = λ q lo hi out. (fin q lo (omega (arith, hi, d.long))).same (λ arm o. elim (d.more.new o.0 o.1) [ inl j ↦ (let lt = below o.0 j in let z = o.2 in omega (arith, lt, z, lo)) | inr r ↦ (let z = o.2 in omega (arith, r.0, z, hi)) ]) ∙ d.fetched q hi;
             } in
-            let r = (st.runs wk.value).runs final callee next law agrees s w (omega (arith, more1, le', long)) (good, wk.is_read) in
+            let r = (st.runs ws wk.value).runs final callee next law agrees s w (omega (arith, more1, le', long)) (good, meant, wk.is_read) in
             let s1 = r.1 in
             let w1 = switched (taken r.2) in
             let a = fin pc low d.long in
@@ -316,9 +367,9 @@ module _ (words : List ℕ) (loc : Loc) (arms : List FlatArm) (other : Option Fl
             ∙ sym (ap (λ o. target_in o arm) sw.is) ∙ ld.1 in
             let ran : next pc s1 r.2 ≡ next ld.0 s1 w1 =
             law.step pc (Switch slot sw.other sw.list) s1 r.2 sw.is ∙ ap (λ o. after_switch o (slice_index s1 slot) w1 (λ t. next t s1 w1)) goes in
-            let words1 : slots_at s1 words ≡ slots_at s words = slots_at-kept old.slots s s1 words all1 r.4 in
-            let out = ld.2 s1 w1 n (omega (arith, long, r.4.long)) (subst IsGood (sym r.5.memory) good)
-            (ap (λ ws. walk wk.tree ws r.2.memory) words1 ∙ ap (λ m. walk wk.tree (slots_at s words) m) r.5.memory ∙ wk.walks) in
+            let kept : Keeps n0 s s1 = record { long = r.4.long; same = λ i lt. r.4.same i (omega (arith, lt, le)) } in
+            let meant1 : AreMeant words s1 r.2.memory ws = subst (λ m. AreMeant words s1 m ws) (sym r.5.memory) (meant-kept n0 s s1 w.memory kept words ws all meant) in
+            let out = ld.2 s1 w1 n ws (omega (arith, long, r.4.long)) (subst IsGood (sym r.5.memory) good) meant1 (ap (λ m. walk wk.tree ws m) r.5.memory ∙ wk.walks) in
             let deep = nested loc arms other arm wk.tree wk.is_tree in
             record {
               hole = out.hole;

@@ -15,10 +15,12 @@ use Rattle.rb_layout.specs.Locations.{Reached, reached_at}
 use Rattle.rb_layout.specs.Positions.{layout_of}
 use Rattle.rb_rel.specs.Relation.{Made}
 use Rattle.rb_rel.specs.Reading.{Stands, read_loc}
+use Rattle.rb_fragment.specs.declared.reads.Read.{Read}
 use Rattle.rb_fragment.specs.Plan.{Plan}
 use Rattle.rb_fragment.specs.Adding.{Adds}
 use Rattle.rb_fragment.specs.Pieces.{Straight}
 use Rattle.rb_fragment.specs.Slots.{AllBelow}
+use Rattle.rb_fragment.specs.WordReads.{AreMeant, AllFit}
 
 -- Locations that instructions can read ---------------------------------------------------------
 
@@ -44,6 +46,16 @@ IsReadAt loc ws m x = read_loc ws m loc ≡ Some x
 abbrev pub FetchesLoc : List ℕ → Loc → Sheet → Sheet → ℕ → Type 0
 FetchesLoc words loc old new slot =
     (plan : Plan) → AllBelow old.slots words → loc.word < length words → LocFits loc → Fetches plan words (IsReadAt loc) old new slot
+
+-- the same from reads of the words: wherever they mean words at which the location comes to a number
+pub record FetchesMeant (plan : Plan) (words : List Read) (loc : Loc) (old new : Sheet) (slot : ℕ) : Type 0 where
+  pub adds : Adds plan old new
+  pub given : slot < new.slots
+  pub runs : (ws : List ℕ) (x : ℕ) → Straight plan old.slots old new (λ s m. IsGood m × AreMeant words s m ws × IsReadAt loc ws m x) (λ s m. slice_index s slot ≡ x)
+
+abbrev pub FetchesAt : List Read → Loc → Sheet → Sheet → ℕ → Type 0
+FetchesAt words loc old new slot =
+    (plan : Plan) (k : ℕ) → k ≤ old.slots → AllFit k words → loc.word < length words → LocFits loc → FetchesMeant plan words loc old new slot
 
 -- Represented values ---------------------------------------------------------------------------
 

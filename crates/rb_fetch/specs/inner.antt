@@ -1,2 +1,4 @@
 pub mod Reads
 pub mod Looking
+pub mod Placing
+pub mod Fields

@@ -1,12 +1,22 @@
 //! Fields of represented values: what their words are, and code that makes them.
 
-ghost use Rattle.std.specs.Prelude.{◌≡◌, IfOk, OnOk};
+ghost use Rattle.std.specs.Prelude.{◌≡◌, Some, IfOk, IfSome, OnOk, slice_get};
+ghost use Rattle.std.specs.Option.{option_copied};
 ghost use Rattle.rb_target.specs.Growth.{Grows};
 ghost use Rattle.rb_fetch.specs.Fields.{FetchesField, ReadsField};
+ghost use Rattle.rb_fetch.specs.inner.Fields as fields;
+ghost use Rattle.rb_fetch.specs.inner.Placing.{IsAgreedLeaf};
 
+use crate::place::{Wanted, find_part};
+use crate::slice::int_read;
+use crate::way::spot_read;
 use rb_core::seq::Seq;
-use rb_fragment::reads::Read;
+use rb_core::types::Ty;
+use rb_fragment::make::make_all;
+use rb_fragment::reads::{Read, slot_reads};
 use rb_layout::agreed::Agreed;
+use rb_layout::layout::{Layout, Leaf};
+use rb_layout::positions::type_at;
 use rb_target::body::Body;
 use std::alloc::{AllocError, Global};
 
@@ -16,7 +26,7 @@ use std::alloc::{AllocError, Global};
 /// # Errors
 /// `AllocError` where memory is wanting.
 pub fn field_reads(
-    _alloc: Global,
+    alloc: Global,
     agreed: &Agreed,
     ty: u32,
     leaf: usize,
@@ -25,7 +35,83 @@ pub fn field_reads(
 ) -> Result<Seq<Read>, AllocError>
     ensures reads { IfOk result (λ reads. ReadsField agreed.now ty leaf path.now words.now reads) }
 {
-    Err(AllocError)
+    let program = agreed.covered().program();
+    let mut reads = Seq::new(alloc);
+    let Some(leaf) = leaf_at(agreed.layouts(), ty, leaf) else {
+        return Ok(reads);
+    };
+    match type_at(program.types.as_slice(), &leaf.prov, path) {
+        None => Ok(reads),
+        Some(Ty::Int(width)) => {
+            let read = int_read(alloc, leaf, width, path, words)?;
+            reads.push(read)?;
+            Ok(reads)
+        }
+        Some(Ty::Named(field)) => {
+            let count = word_count(agreed.layouts(), field);
+            let reads = word_reads(alloc, leaf, field, path, words, count)?;
+            Ok(reads)
+        }
+    }
+}
+
+fn leaf_at(layouts: &[Layout], ty: u32, leaf: usize) -> Option<&Leaf>
+    ensures { option_copied result ≡ fields.leaf_at layouts.now ty leaf }
+{
+    match layouts.get(ty as usize) {
+        None => None,
+        Some(layout) => layout.leaves.get(leaf),
+    }
+}
+
+// How many words a data type's values have.
+fn word_count(layouts: &[Layout], ty: u32) -> usize
+    ensures { result ≡ fields.words_at layouts.now ty }
+{
+    match layouts.get(ty as usize) {
+        None => 0,
+        Some(layout) => layout.shape.len(),
+    }
+}
+
+// The first words of a field of a data type.
+fn word_reads(
+    alloc: Global,
+    leaf: &Leaf,
+    ty: u32,
+    path: &[u32],
+    words: &[Read],
+    count: usize,
+) -> Result<Seq<Read>, AllocError>
+    requires leaf { IsAgreedLeaf leaf.now }
+    ensures { IfOk result (λ reads. fields.ReadWords leaf.now words.now path.now ty count reads) }
+{
+    let mut reads = Seq::new(alloc);
+    for j in 0..count {
+        let read = word_read(alloc, leaf, ty, path, words, j as u64)?;
+        reads.push(read)?;
+    }
+    Ok(reads)
+}
+
+fn word_read(
+    alloc: Global,
+    leaf: &Leaf,
+    ty: u32,
+    path: &[u32],
+    words: &[Read],
+    j: u64,
+) -> Result<Read, AllocError>
+    requires leaf { IsAgreedLeaf leaf.now }
+    ensures { IfOk result (λ read. fields.ReadsWord leaf.now words.now path.now ty j read) }
+{
+    match find_part(leaf, path, Wanted::UnitOf(Ty::Named(ty), j)) {
+        None => Ok(Read::Number(0)),
+        Some(spot) => {
+            let read = spot_read(alloc, leaf, spot, words)?;
+            Ok(read)
+        }
+    }
 }
 
 /// Code that leaves the words of a field in slots, from the slots of the words of a value of a leaf. The
@@ -34,7 +120,7 @@ pub fn field_reads(
 /// # Errors
 /// `AllocError` where memory is wanting.
 pub fn fetch_field(
-    _alloc: Global,
+    alloc: Global,
     body: &mut Body,
     words: &[usize],
     agreed: &Agreed,
@@ -45,5 +131,8 @@ pub fn fetch_field(
     ensures fetches { IfOk result (λ slots. FetchesField agreed.now ty leaf path.now words.now body.old body.new slots) }
     ensures grows { OnOk result (Grows body.old.code body.new.code) }
 {
-    Err(AllocError)
+    let words = slot_reads(alloc, words)?;
+    let reads = field_reads(alloc, agreed, ty, leaf, path, words.as_slice())?;
+    let slots = make_all(alloc, body, reads.as_slice())?;
+    Ok(slots)
 }

@@ -6,10 +6,10 @@ ghost use Rattle.rb_fragment.specs.Arms.{AreHoles, AreOfOneWay};
 ghost use Rattle.rb_fetch.specs.Finding.{FindsLeaf, FindsLeafOf, leaf_count};
 ghost use Rattle.rb_fetch.specs.inner.Looking.{open_arms_of, open_else_of, Looks};
 
-use crate::fetch::fetch_loc;
+use crate::fetch::fetch_bits;
 use rb_core::boxed::Boxed;
 use rb_core::seq::Seq;
-use rb_fragment::reads::Read;
+use rb_fragment::reads::{Read, slot_reads};
 use rb_layout::agreed::Agreed;
 use rb_layout::layout::{FlatArm, FlatTree};
 use rb_target::body::{Body, Hole};
@@ -33,16 +33,17 @@ pub fn find_leaf(
     ensures ways { IfOk result (λ holes. AreOfOneWay holes) }
     ensures grows { OnOk result (Grows body.old.code body.new.code) }
 {
-    Err(AllocError)
+    let reads = slot_reads(alloc, words)?;
+    let holes = find_leaf_of(alloc, body, reads.as_slice(), agreed, ty)?;
+    Ok(holes)
 }
 
-/// Code that leaves by a hole of the leaf of the value whose words some reads are. Arms of switches are
-/// holes themselves.
+/// The same from reads of the value's words, which may stand in memory still.
 ///
 /// # Errors
 /// `AllocError` where memory is wanting.
 pub fn find_leaf_of(
-    _alloc: Global,
+    alloc: Global,
     body: &mut Body,
     words: &[Read],
     agreed: &Agreed,
@@ -53,7 +54,15 @@ pub fn find_leaf_of(
     ensures ways { IfOk result (λ holes. AreOfOneWay holes) }
     ensures grows { OnOk result (Grows body.old.code body.new.code) }
 {
-    Err(AllocError)
+    let _typed = agreed.covered().program();
+    let mut holes = Seq::new(alloc);
+    match agreed.layouts().get(ty as usize) {
+        None => Ok(holes),
+        Some(layout) => {
+            look(alloc, body, words, &layout.tree, &mut holes)?;
+            Ok(holes)
+        }
+    }
 }
 
 // Code that leaves by a hole of the leaf to which the tree leads.
@@ -61,7 +70,7 @@ pub fn find_leaf_of(
 fn look(
     alloc: Global,
     body: &mut Body,
-    words: &[usize],
+    words: &[Read],
     tree: &FlatTree,
     holes: &mut Seq<Hole>,
 ) -> Result<(), AllocError>
@@ -80,17 +89,17 @@ fn look(
             Ok(())
         }
         FlatTree::Split(loc, arms, other) => {
-            let slot = fetch_loc(alloc, body, words, loc)?;
+            let slot = fetch_bits(alloc, body, words, loc)?;
             let pc = body.len();
             let places = open_arms(alloc, arms.as_slice(), pc + 1)?;
             body.push(Instr::Switch(slot, open_else(other, pc + 1), places))?;
             for (k, arm) in arms.as_slice().iter().enumerate() {
                 match &arm.under {
-                    FlatTree::Leaf(leaf) => {
+                    FlatTree::Leaf(number) => {
                         holes.push(Hole {
                             pc,
                             arm: Some(k),
-                            leaf: *leaf as usize,
+                            leaf: *number as usize,
                         })?;
                     }
                     FlatTree::Split(_, _, _) => {

@@ -9,6 +9,7 @@ pub mod Pieces
 pub mod Steps
 pub mod ReadForms
 pub mod Making
+pub mod MakingAll
 pub mod Moves
 pub mod Arms
 pub mod Matches

@@ -60,7 +60,7 @@ drop_past (x ∷ xs) (suc i) le = drop_past xs i (omega (arith, le))
 
 module _ (plan : Plan) where
   -- straight code from where some number is known
-  straight_some : (n : ℕ) (a b : Sheet) (W : Type 0) (PreW : W → List ℕ → Memory → Type 0) (Pre Post : List ℕ → Memory → Type 0) → Adds plan a b → n ≤ a.slots
+  pub straight_some : (n : ℕ) (a b : Sheet) (W : Type 0) (PreW : W → List ℕ → Memory → Type 0) (Pre Post : List ℕ → Memory → Type 0) → Adds plan a b → n ≤ a.slots
       → ((s : List ℕ) (m : Memory) → Pre s m → (w : W) × PreW w s m) → ((w : W) → Straight plan n a b (PreW w) Post) → Straight plan n a b Pre Post
   straight_some n a b W PreW Pre Post adds le pick each = record {
     adds = adds;

@@ -1,6 +1,6 @@
 //! Code that makes reads.
 
-ghost use Rattle.std.specs.Prelude.{◌≡◌, IfOk, OnOk, length};
+ghost use Rattle.std.specs.Prelude.{◌≡◌, ◌≤◌, ◌⊎◌, IfOk, OnOk, length};
 ghost use Rattle.rb_target.specs.Growth.{Grows};
 ghost use Rattle.rb_fragment.specs.declared.reads.Read as reads;
 ghost use Rattle.rb_fragment.specs.Reads.{MakesRead};
@@ -21,6 +21,8 @@ use std::alloc::{AllocError, Global};
 #[cycle(making)]
 pub fn make(body: &mut Body, read: &Read) -> Result<usize, AllocError>
     ensures makes { IfOk result (λ slot. MakesRead read.now body.old body.new slot) }
+    ensures origin { IfOk result (λ slot. (body.old.slots ≤ slot) ⊎ (read.now ≡ reads.Slot slot)) }
+    ensures more { OnOk result (body.old.slots ≤ body.new.slots) }
     ensures grows { OnOk result (Grows body.old.code body.new.code) }
 {
     match read {
@@ -57,6 +59,8 @@ pub fn make(body: &mut Body, read: &Read) -> Result<usize, AllocError>
 #[cycle(making)]
 fn make_joined(body: &mut Body, shares: &[Share]) -> Result<usize, AllocError>
     ensures makes { IfOk result (λ slot. MakesRead (reads.Joined shares.now) body.old body.new slot) }
+    ensures origin { IfOk result (λ slot. body.old.slots ≤ slot) }
+    ensures more { OnOk result (body.old.slots ≤ body.new.slots) }
     ensures grows { OnOk result (Grows body.old.code body.new.code) }
 {
     let slot = emit_const(body, 0)?;
@@ -70,6 +74,7 @@ fn make_joined(body: &mut Body, shares: &[Share]) -> Result<usize, AllocError>
 #[cycle(making)]
 fn make_share(body: &mut Body, share: &Share, slot: usize) -> Result<(), AllocError>
     ensures puts { OnOk result (PutsShare share.now slot body.old body.new) }
+    ensures more { OnOk result (body.old.slots ≤ body.new.slots) }
     ensures grows { OnOk result (Grows body.old.code body.new.code) }
 {
     let from = make(body, &share.read)?;
@@ -82,15 +87,16 @@ fn make_share(body: &mut Body, share: &Share, slot: usize) -> Result<(), AllocEr
 ///
 /// # Errors
 /// `AllocError` where memory is wanting.
-pub fn make_all(
-    _alloc: Global,
-    body: &mut Body,
-    reads: &[Read],
-) -> Result<Seq<usize>, AllocError>
+pub fn make_all(alloc: Global, body: &mut Body, reads: &[Read]) -> Result<Seq<usize>, AllocError>
     ensures makes { IfOk result (λ slots. MakesAll reads.now body.old body.new slots) }
     ensures origin { IfOk result (λ slots. AreNewOr reads.now body.old slots) }
     ensures count { IfOk result (λ slots. length slots ≡ length reads.now) }
     ensures grows { OnOk result (Grows body.old.code body.new.code) }
 {
-    Err(AllocError)
+    let mut slots = Seq::new(alloc);
+    for read in reads {
+        let slot = make(body, read)?;
+        slots.push(slot)?;
+    }
+    Ok(slots)
 }

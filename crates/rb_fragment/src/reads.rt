@@ -1,6 +1,7 @@
 //! Numbers that code can make: what a location, a field or a word of it is, as data.
 
-ghost use Rattle.std.specs.Prelude.{◌≡◌, IfOk};
+ghost use Rattle.std.specs.Prelude.{◌≡◌, IfOk, map};
+ghost use Rattle.rb_fragment.specs.declared.reads.Read as reads;
 
 use rb_core::boxed::Boxed;
 use rb_core::seq::Seq;
@@ -82,4 +83,18 @@ fn copy_shares(alloc: Global, shares: &[Share]) -> Result<Seq<Share>, AllocError
         })?;
     }
     Ok(copies)
+}
+
+/// The words in some slots.
+///
+/// # Errors
+/// `AllocError` where memory is wanting.
+pub fn slot_reads(alloc: Global, slots: &[usize]) -> Result<Seq<Read>, AllocError>
+    ensures { IfOk result (λ found. found ≡ map (λ x. reads.Slot x) slots.now) }
+{
+    let mut found = Seq::new(alloc);
+    for slot in slots {
+        found.push(Read::Slot(*slot))?;
+    }
+    Ok(found)
 }

@@ -1,0 +1,13 @@
+mod Bindings
+mod Bounds
+mod Chosen
+mod ClauseForms
+mod Edges
+mod Following
+mod Landing
+mod LeafTests
+mod Nodes
+mod NumberTests
+mod Passing
+mod Placing
+mod Testing

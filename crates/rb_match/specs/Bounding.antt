@@ -1,6 +1,6 @@
 -- How many switches a match may cost.
 use Rattle.std.specs.Prelude.{ℕ, ◌+◌, ◌*◌, List, [], ◌∷◌, ◌++◌, map, filter, length, Bool, ◌&&◌, not, nat_lt, if◌then◌else◌}
-use Rattle.std.specs.List.{flat_map, sum_by}
+use Rattle.std.specs.List.{flat_map}
 use Rattle.rb_core.specs.declared.types.Ty.{Ty}
 use Rattle.rb_core.specs.declared.types.DataDecl.{DataDecl}
 use Rattle.rb_core.specs.declared.pattern.Pat.{Pat}
@@ -53,6 +53,11 @@ places_of types t pats = distinct_places (flat_map (λ pat. places_in types pat 
 abbrev pub rounds : List DataDecl → Ty → List Pat → ℕ
 rounds types t pats = if nat_lt 512 (size (match_tree types t pats)) then length pats else 1
 
+-- what a look at each of some places costs
+abbrev pub looks_of : List Layout → List Place → ℕ
+looks_of layouts [] = 0
+looks_of layouts (p ∷ ps) = look_of layouts p.ty + looks_of layouts ps
+
 -- the switches that a match may cost
 abbrev pub bound_of : List DataDecl → List Layout → Ty → List Pat → ℕ
-bound_of types layouts t pats = rounds types t pats * sum_by (λ (p : Place). look_of layouts p.ty) (places_of types t pats)
+bound_of types layouts t pats = rounds types t pats * looks_of layouts (places_of types t pats)

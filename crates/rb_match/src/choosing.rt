@@ -1,16 +1,59 @@
 //! Code that chooses a match's clause.
 
-ghost use Rattle.std.specs.Prelude.{◌≡◌, IfOk, OnOk, length};
+ghost use Rattle.std.specs.Prelude.{◌≡◌, IfOk, OnOk, length, map};
 ghost use Rattle.rb_target.specs.Growth.{Grows};
 ghost use Rattle.rb_fragment.specs.Arms.{AreHoles, AreOfOneWay};
+ghost use Rattle.rb_fragment.specs.declared.reads.Read.{Slot};
 ghost use Rattle.rb_match.specs.Choosing.{Chooses};
+ghost use Rattle.rb_match.specs.inner.Trees.{TakesTree};
 
+use crate::clauses::emit_clauses;
+use crate::engine::emit_graph;
 use rb_core::pattern::Pat;
 use rb_core::seq::Seq;
 use rb_core::types::Ty;
+use rb_decide::decide::tree;
+use rb_decide::decision_tree::{Tree, Tried};
+use rb_decide::subtrees::share;
+use rb_fragment::reads::Read;
 use rb_layout::agreed::Agreed;
 use rb_target::body::{Body, Hole};
 use std::alloc::{AllocError, Global};
+
+// The words in slots, as reads.
+fn slot_reads(alloc: Global, words: &[usize]) -> Result<Seq<Read>, AllocError>
+    ensures { IfOk result (λ reads. reads ≡ map Slot words.now) }
+{
+    let mut reads = Seq::new(alloc);
+    for word in words {
+        reads.push(Read::Slot(*word))?;
+    }
+    Ok(reads)
+}
+
+/// Code of a decision tree, equal parts of it once.
+///
+/// # Errors
+/// `AllocError` where memory is wanting.
+pub fn emit_tree(
+    alloc: Global,
+    body: &mut Body,
+    agreed: &Agreed,
+    ty: Ty,
+    words: &[Read],
+    pats: &[Pat],
+    tree: &Tree,
+) -> Result<Seq<Hole>, AllocError>
+    ensures holes { IfOk result (λ holes. AreHoles (length body.old.code) (length pats.now) body.new.code holes) }
+    ensures ways { IfOk result (λ holes. AreOfOneWay holes) }
+    ensures takes { IfOk result (λ holes. TakesTree agreed.now ty words.now pats.now tree.now body.old body.new holes) }
+    ensures grows { OnOk result (Grows body.old.code body.new.code) }
+{
+    let graph = share(alloc, tree)?;
+    let nodes = graph.nodes.as_slice();
+    let holes = emit_graph(alloc, body, agreed, ty, words, pats, nodes, graph.root)?;
+    Ok(holes)
+}
 
 /// Code that leaves by a hole of the first clause that matches the value whose words stand in some
 /// slots. Switches' arms are holes themselves.
@@ -26,9 +69,21 @@ pub fn emit_match(
     pats: &[Pat],
 ) -> Result<Seq<Hole>, AllocError>
     ensures holes { IfOk result (λ holes. AreHoles (length body.old.code) (length pats.now) body.new.code holes) }
-    ensures ways { IfOk result AreOfOneWay }
+    ensures ways { IfOk result (λ holes. AreOfOneWay holes) }
     ensures chooses { IfOk result (λ holes. Chooses agreed.now ty pats.now words.now body.old body.new holes) }
     ensures grows { OnOk result (Grows body.old.code body.new.code) }
 {
-    Err(AllocError)
+    let types = agreed.covered().program().types.as_slice();
+    let _flat = agreed.layouts();
+    let words = slot_reads(alloc, words)?;
+    match tree(alloc, types, ty, pats)? {
+        Tried::Built(tree) => {
+            let holes = emit_tree(alloc, body, agreed, ty, words.as_slice(), pats, &tree)?;
+            Ok(holes)
+        }
+        Tried::Over => {
+            let holes = emit_clauses(alloc, body, agreed, ty, words.as_slice(), pats)?;
+            Ok(holes)
+        }
+    }
 }

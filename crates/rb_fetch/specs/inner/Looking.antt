@@ -8,19 +8,21 @@ use Rattle.rb_target.specs.declared.instr.Instr.TheVariants.{Switch}
 use Rattle.rb_target.specs.declared.body.Hole.{Hole}
 use Rattle.rb_target.specs.Growth.{Grows}
 use Rattle.rb_target.specs.Laws.{Law}
-use Rattle.rb_target.specs.Meaning.{World, Next, Callee, slots_at}
-use Rattle.rb_target.specs.Sheet.{Sheet}
+use Rattle.rb_target.specs.Meaning.{World, Next, Callee}
+use Rattle.rb_target.specs.Sheet.{Sheet, IsHole}
 use Rattle.rb_target.specs.Targets.{shape, shape_in, target_in, IsIn, IsOpen, Finishes}
 use Rattle.rb_layout.specs.declared.layout.FlatTree.{FlatTree, Split}
 use Rattle.rb_layout.specs.declared.layout.FlatArm.{FlatArm}
-use Rattle.rb_layout.specs.Splits.{SplitAt, splits_of}
+use Rattle.rb_layout.specs.Splits.{Route, routes_of, SplitAt, splits_of}
 use Rattle.rb_rel.specs.Reading.{walk}
 use Rattle.rb_rel.specs.Switches.{nesting}
+use Rattle.rb_fragment.specs.declared.reads.Read.{Read}
 use Rattle.rb_fragment.specs.Plan.{Plan}
 use Rattle.rb_fragment.specs.Adding.{Adds}
+use Rattle.rb_fragment.specs.Arms.{AreOfOneWay}
 use Rattle.rb_fragment.specs.Pieces.{Leaves}
-use Rattle.rb_fragment.specs.Slots.{AllBelow}
-use Rattle.rb_fetch.specs.Fetching.{LocFits, FetchesLoc}
+use Rattle.rb_fragment.specs.WordReads.{AreMeant, AllFit}
+use Rattle.rb_fetch.specs.Fetching.{LocFits, FetchesAt}
 
 -- Splits that instructions can do
 
@@ -36,13 +38,13 @@ TreeFits n tree = (k : ℕ) (split : SplitAt) → slice_get (splits_of tree) k �
 -- Runs
 
 -- from a number on the run leaves by a hole of the leaf to which the tree leads
-abbrev pub Does : List Instr → Next → List ℕ → FlatTree → List Hole → ℕ → ℕ → ℕ → Type 0
+abbrev pub Does : List Instr → Next → List Read → FlatTree → List Hole → ℕ → ℕ → ℕ → Type 0
 Does final next words tree hs n top start =
-    (s : List ℕ) (w : World) (k : ℕ) → top ≤ length s → IsGood w.memory → walk tree (slots_at s words) w.memory ≡ Some k
+    (s : List ℕ) (w : World) (k : ℕ) (ws : List ℕ) → top ≤ length s → IsGood w.memory → AreMeant words s w.memory ws → walk tree ws w.memory ≡ Some k
     → Leaves final next hs n (nesting tree) start s w k (λ s' m. Unit {0})
 
 -- a target from which on the run does the tree
-abbrev pub Leads : List Instr → Next → List ℕ → FlatTree → List Hole → ℕ → ℕ → ℕ → Option ℕ → Type 0
+abbrev pub Leads : List Instr → Next → List Read → FlatTree → List Hole → ℕ → ℕ → ℕ → Option ℕ → Type 0
 Leads final next words tree hs n top pc arm =
     (t : ℕ) × (target_in (slice_get final pc) arm ≡ Some t) × Does final next words tree hs n top t
 
@@ -53,15 +55,25 @@ pub record MoreHoles (hs0 hs : List Hole) (a b : ℕ) : Type 0 where
   pub old : (h : Hole) → IsIn h hs0 → IsIn h hs
   pub new : (h : Hole) → IsIn h hs → IsIn h hs0 ⊎ ((a ≤ h.pc) × (h.pc < b))
 
+-- the leaves of a tree are numbered below this
+abbrev pub LeavesBelow : ℕ → FlatTree → Type 0
+LeavesBelow count tree = (k : ℕ) (r : Route) → slice_get (routes_of tree) k ≡ Some r → r.leaf < count
+
+-- a hole of the code, for a leaf that is numbered below this
+abbrev pub IsLeafHole : ℕ → List Instr → Hole → Type 0
+IsLeafHole count code h = (h.leaf < count) × IsHole code h
+
 -- holes stand in front of the code from a on
 abbrev pub AreBefore : ℕ → List Hole → Type 0
 AreBefore a hs = (h : Hole) → IsIn h hs → h.pc < a
 
 -- The code from the end of the old one on does the tree, and leaves by holes of its leaves.
-pub record Looks (words : List ℕ) (tree : FlatTree) (old : Sheet) (hs0 : List Hole) (new : Sheet) (hs : List Hole) : Type 0 where
+pub record Looks (words : List Read) (tree : FlatTree) (old : Sheet) (hs0 : List Hole) (new : Sheet) (hs : List Hole) : Type 0 where
   pub more : MoreHoles hs0 hs (length old.code) (length new.code)
-  pub adds : (plan : Plan) → AllBelow old.slots words → TreeFits (length words) tree → Adds plan old new
-  pub runs : (plan : Plan) (final : List Instr) (callee : Callee) (next : Next) (n top : ℕ) → Law final callee next → AllBelow n words → n ≤ old.slots → new.slots ≤ top → TreeFits (length words) tree
+  pub leaves : (count : ℕ) → LeavesBelow count tree → (h : Hole) → IsIn h hs → IsIn h hs0 ⊎ IsLeafHole count new.code h
+  pub ways : AreBefore (length old.code) hs0 → AreOfOneWay hs0 → AreOfOneWay hs
+  pub adds : (plan : Plan) (k : ℕ) → k ≤ old.slots → AllFit k words → TreeFits (length words) tree → Adds plan old new
+  pub runs : (plan : Plan) (final : List Instr) (callee : Callee) (next : Next) (n top : ℕ) → Law final callee next → AllFit n words → n ≤ old.slots → new.slots ≤ top → TreeFits (length words) tree
       → AreBefore (length old.code) hs0 → Finishes final new.code hs (length old.code) (length new.code)
       → Does final next words tree hs n top (length old.code)
 
@@ -92,14 +104,16 @@ abbrev pub switch_of : Sheet → ℕ → List FlatArm → Option FlatTree → In
 switch_of c slot arms other = Switch slot (open_else_of (length c.code + 1) other) (open_arms_of (length c.code + 1) arms)
 
 -- A split whose word is fetched by the code c, whose switch stands, and some of whose targets are done.
-pub record SplitDone (words : List ℕ) (loc : Loc) (arms : List FlatArm) (other : Option FlatTree) (c : Sheet) (slot : ℕ) (hs0 : List Hole) (Done : Option ℕ → Type 0) (b : Sheet) (hs : List Hole) : Type 0 where
+pub record SplitDone (words : List Read) (loc : Loc) (arms : List FlatArm) (other : Option FlatTree) (c : Sheet) (slot : ℕ) (hs0 : List Hole) (Done : Option ℕ → Type 0) (b : Sheet) (hs : List Hole) : Type 0 where
   pub fetched : (q : ℕ) → q < length c.code → slice_get b.code q ≡ slice_get c.code q
   pub shaped : shape_in (slice_get b.code (length c.code)) ≡ Some (shape (switch_of c slot arms other))
   pub long : length c.code < length b.code
   pub more : MoreHoles hs0 hs (length c.code) (length b.code)
   pub done : (h : Hole) → IsIn h hs → h.pc ≡ length c.code → IsIn h hs0 ⊎ Done h.arm
-  pub adds : (plan : Plan) → slot < c.slots → AllBelow c.slots words → TreeFits (length words) (Split loc arms other) → Adds plan c b
-  pub runs : (plan : Plan) (final : List Instr) (callee : Callee) (next : Next) (n top : ℕ) → Law final callee next → AllBelow n words → n ≤ c.slots → slot < c.slots → b.slots ≤ top
+  pub leaves : (count : ℕ) → LeavesBelow count (Split loc arms other) → (h : Hole) → IsIn h hs → IsIn h hs0 ⊎ IsLeafHole count b.code h
+  pub ways : AreBefore (length c.code) hs0 → AreOfOneWay hs0 → AreOfOneWay hs
+  pub adds : (plan : Plan) (k : ℕ) → slot < c.slots → k ≤ c.slots → AllFit k words → TreeFits (length words) (Split loc arms other) → Adds plan c b
+  pub runs : (plan : Plan) (final : List Instr) (callee : Callee) (next : Next) (n top : ℕ) → Law final callee next → AllFit n words → n ≤ c.slots → slot < c.slots → b.slots ≤ top
       → TreeFits (length words) (Split loc arms other) → AreBefore (length c.code) hs0
       → shape_in (slice_get final (length c.code)) ≡ Some (shape (switch_of c slot arms other))
       → ((arm : Option ℕ) → Done arm → (IsOpen hs (length c.code) arm → ⊥) → target_in (slice_get final (length c.code)) arm ≡ target_in (slice_get b.code (length c.code)) arm)
@@ -112,13 +126,13 @@ IsBefore k None = ⊥
 IsBefore k (Some j) = j < k
 
 -- a split's switch at pc, of whose arms the first k are done
-pub record ArmsDone (words : List ℕ) (tree : FlatTree) (arms : List FlatArm) (other : Option FlatTree) (old : Sheet) (hs0 : List Hole) (pc k : ℕ) (b : Sheet) (hs : List Hole) : Type 0 where
+pub record ArmsDone (words : List Read) (tree : FlatTree) (arms : List FlatArm) (other : Option FlatTree) (old : Sheet) (hs0 : List Hole) (pc k : ℕ) (b : Sheet) (hs : List Hole) : Type 0 where
   pub grows : Grows old.code b.code
   pub loc : Loc
   pub is_tree : tree ≡ Split loc arms other
   pub fetched : Sheet
   pub slot : ℕ
-  pub fetches : FetchesLoc words loc old fetched slot
+  pub fetches : FetchesAt words loc old fetched slot
   pub longer : Grows old.code fetched.code
   pub at : pc ≡ length fetched.code
   pub done : SplitDone words loc arms other fetched slot hs0 (IsBefore k) b hs

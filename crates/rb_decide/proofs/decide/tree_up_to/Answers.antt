@@ -6,9 +6,9 @@ use Rattle.rb_decide.proofs.Positions.{match-once, match-heads}
 use Rattle.rb_decide.proofs.decide.tree_up_to.Goals as goal
 
 pub returns-in-Some-clause-takes : goal.returns-in-Some-clause-takes
-returns-in-Some-clause-takes c =
+returns-in-Some-clause-takes c exhaustive =
     let is = built-tree c.args.types.now c.args.ty c.args.rows.now _ _ _ _ _ _ (ap (λ x. x ∷ []) c.scrutinee.ensures) (c.as_slice.ensures ∙ c.in_ok-rows.ensures) c.in_ok-tree.ensures c.in-Some.is in
-    subst (TakesChosen c.args.types.now c.args.ty c.args.rows.now) (sym is) (match-takes c.args.types.now c.args.ty c.args.rows.now c.requires.exhaustive)
+    subst (TakesChosen c.args.types.now c.args.ty c.args.rows.now) (sym is) (match-takes c.args.types.now c.args.ty c.args.rows.now exhaustive)
 
 pub returns-in-Some-clause-once : goal.returns-in-Some-clause-once
 returns-in-Some-clause-once c =

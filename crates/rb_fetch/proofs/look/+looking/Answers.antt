@@ -9,7 +9,7 @@ use Rattle.rb_fetch.proofs.look.+looking.Goals.{in-Leaf-under+in_ok-push-in-Leaf
 pub loop-k-init : goal.loop-k-init
 loop-k-init t c =
     rw (c.as_slice-arm-items.ensures, c.in_ok-push-in-Split.ensures.ok, c.open_else.ensures, c.in_ok-places-in-Split.ensures, c.as_slice.ensures, c.len-pc-in-Split.ensures.value)
-    (looks_start c.args.words.now c.args.tree.now c.in-Split.arms c.in-Split.other c.args.body.now c.args.holes.now c.in-Split.loc c.fetch_loc.new.body c.in_ok-slot-in-Split.slot _ c.in-Split.is
+    (looks_start c.args.words.now c.args.tree.now c.in-Split.arms c.in-Split.other c.args.body.now c.args.holes.now c.in-Split.loc c.fetch_bits.new.body c.in_ok-slot-in-Split.slot _ c.in-Split.is
     c.in_ok-slot-in-Split.ensures.reads c.in_ok-slot-in-Split.ensures.grows refl)
 
 pub patch-requires-clause-inside : goal.patch-requires-clause-inside
@@ -27,7 +27,7 @@ loop-k-preserved t c =
     let at = slice_get-get_or c.as_slice-arm-items.result.now c.loop-k.k c.arm-item.result c.loop-k-test.true ∙ ap Some (sym c.arm-item.is) in
     elim c.match-arm.branch [
       | in-Leaf-under+in_ok-push-in-Leaf-under w ↦ rw (w.body-is, w.holes-is, w.in_ok-push-in-Leaf-under.ensures.ok)
-          (arm_leaf c.args.words.now c.args.tree.now _ c.in-Split.other c.args.body.now c.args.holes.now c.len-pc-in-Split.result c.loop-k.k c.loop-k.body c.loop-k.holes c.loop-k.invariant c.arm-item.result w.in-Leaf-under.leaf at w.in-Leaf-under.is)
+          (arm_leaf c.args.words.now c.args.tree.now _ c.in-Split.other c.args.body.now c.args.holes.now c.len-pc-in-Split.result c.loop-k.k c.loop-k.body c.loop-k.holes c.loop-k.invariant c.arm-item.result w.in-Leaf-under.number at w.in-Leaf-under.is)
       | in-Split-under+in_ok-look-in-Split-under w ↦ rw (w.body-is, w.holes-is)
           (arm_look c.args.words.now c.args.tree.now _ c.in-Split.other c.args.body.now c.args.holes.now c.len-pc-in-Split.result c.loop-k.k c.loop-k.body c.loop-k.holes c.loop-k.invariant c.arm-item.result _ _ at
           (rw (w.patch.ensures, w.len-here.ensures.value) at w.in_ok-look-in-Split-under.ensures.grows) (rw (w.patch.ensures, w.len-here.ensures.value) at w.in_ok-look-in-Split-under.ensures.looks))

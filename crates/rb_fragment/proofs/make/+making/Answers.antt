@@ -1,4 +1,4 @@
-use Rattle.std.proofs.Common.{◌≡◌, ◌+◌, ◌≤◌, ◌∷◌, length, sym, ap, ◌∙◌, drop, arith}
+use Rattle.std.proofs.Common.{◌≡◌, inl, inr, ◌+◌, ◌≤◌, ◌∷◌, length, sym, ap, ◌∙◌, drop, arith}
 use Rattle.rb_target.proofs.Growing.{Grows-append, Grows-trans}
 use Rattle.rb_fragment.specs.declared.reads.Share.{Share}
 use Rattle.rb_fragment.proofs.Moves.{drop_item}
@@ -72,6 +72,7 @@ make_joined-loop-share-init t c =
     let e = c.in_ok-slot.ensures in
     record {
       joins = λ plan k le fit. rw (e.code, e.slot) (joined_none plan c.args.shares.now c.args.body.now k le fit);
+      more = rw (e.code, e.slot) (omega arith, omega arith);
       grows = rw e.code (Grows-append c.args.body.now.code _);
     }
 
@@ -85,6 +86,7 @@ make_joined-loop-share-preserved t c =
     record {
       joins = λ plan k le fit.
           joined_more plan shares i p c.args.body.now c.loop-share.body c.make_share.new.body c.in_ok-slot.slot k item le fit (inv.joins plan k le fit) c.in_ok-make_share.ensures.puts;
+      more = (omega (arith, inv.more.0, c.in_ok-make_share.ensures.more), inv.more.1);
       grows = Grows-trans c.args.body.now.code c.loop-share.body.code c.make_share.new.body.code inv.grows c.in_ok-make_share.ensures.grows;
     }
 
@@ -94,3 +96,22 @@ make_joined-returns-clause-makes t c plan k le fit =
     let i = c.loop-share.share-index in
     let past : length shares ≤ i = omega (arith, c.loop-share-test.false) in
     joined_all plan shares i c.args.body.now c.loop-share.body c.in_ok-slot.slot (drop_past shares i past) (c.loop-share.invariant.joins plan k le fit)
+
+pub make-returns-in-Slot-clause-origin : goal.make-returns-in-Slot-clause-origin
+make-returns-in-Slot-clause-origin t c = inr c.in-Slot.is
+
+pub make-returns-in_ok-slot-in-Number-clause-origin : goal.make-returns-in_ok-slot-in-Number-clause-origin
+make-returns-in_ok-slot-in-Number-clause-origin t c = inl (omega (arith, c.in_ok-slot-in-Number.ensures.slot))
+
+pub make-returns-in_ok-slot-in-Bits-clause-origin : goal.make-returns-in_ok-slot-in-Bits-clause-origin
+make-returns-in_ok-slot-in-Bits-clause-origin t c = inl (omega (arith, c.in_ok-slot-in-Bits.ensures.slot, c.in_ok-from-in-Bits.ensures.more))
+
+pub make-returns-in_ok-slot-in-Address-clause-origin : goal.make-returns-in_ok-slot-in-Address-clause-origin
+make-returns-in_ok-slot-in-Address-clause-origin t c =
+    inl (rw (c.in_ok-slot-in-Address.ensures.slot, c.in_ok-unit-in-Address.ensures.code, c.in_ok-part-in-Address.ensures.code) (omega (arith, c.in_ok-from-in-Address.ensures.more)))
+
+pub make-returns-in_ok-slot-in-Loaded-clause-origin : goal.make-returns-in_ok-slot-in-Loaded-clause-origin
+make-returns-in_ok-slot-in-Loaded-clause-origin t c = inl (omega (arith, c.in_ok-slot-in-Loaded.ensures.slot, c.in_ok-base-in-Loaded.ensures.more))
+
+pub make-returns-in_ok-slot-in-Joined-clause-origin : goal.make-returns-in_ok-slot-in-Joined-clause-origin
+make-returns-in_ok-slot-in-Joined-clause-origin t c = inl c.in_ok-slot-in-Joined.ensures.origin

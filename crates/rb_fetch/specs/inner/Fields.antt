@@ -1,0 +1,99 @@
+-- What reads over the words of a leaf's values mean: its parts, integers in slices, and words of fields.
+use Rattle.std.specs.Prelude.{◌≡◌, ℕ, ◌+◌, ◌^◌, ◌<◌, ◌≤◌, ◌==◌, ◌&&◌, List, map, length, Bool, true, Option, Some, None, slice_get, slice_index}
+use Rattle.std.specs.List.{list_all}
+use Rattle.rb_core.specs.declared.types.Ty.TheVariants.{Int, Named}
+use Rattle.rb_bits.specs.Words.{IsRange, take_of}
+use Rattle.rb_bytes.specs.Memory.{Memory, IsGood}
+use Rattle.rb_layout.specs.declared.layout.Layout.{Layout}
+use Rattle.rb_layout.specs.declared.layout.Leaf.{Leaf}
+use Rattle.rb_layout.specs.declared.layout.Part.{Part}
+use Rattle.rb_layout.specs.declared.layout.Kind.{Kind}
+use Rattle.rb_layout.specs.declared.layout.Kind.TheVariants.{Const, Bits, Word, Pointer}
+use Rattle.rb_layout.specs.Positions.{layout_of}
+use Rattle.rb_rel.specs.Relation.{HoldsKind, Placed, shape_length}
+use Rattle.rb_fragment.specs.declared.reads.Read.{Read, Slot}
+use Rattle.rb_fragment.specs.declared.reads.Share.{Share}
+use Rattle.rb_fragment.specs.Reads.{mean, meant_of, joined_over, fits, fits_share}
+use Rattle.rb_fragment.specs.WordReads.{AreMeant, AllFit, IsSlotOf}
+use Rattle.rb_fetch.specs.declared.span.Span.{Span}
+use Rattle.rb_fetch.specs.declared.place.Wanted.TheVariants.{UnitOf}
+use Rattle.rb_fetch.specs.inner.Reads.{Spans, capped}
+use Rattle.rb_fetch.specs.inner.Placing.{NoSpot}
+
+-- Parts
+
+-- the range has the bits of a part of a word of this width, wherever the reads mean the words of a value of the leaf
+pub record SpansPart (leaf : Leaf) (words : List Read) (span : Span) (width l : ℕ) (kind : Kind) : Type 0 where
+  pub long : span.l ≡ l
+  pub range : IsRange span.o span.l
+  pub fit : (k : ℕ) → AllFit k words → length words ≡ length leaf.root → fits k span.read ≡ true
+  pub means : (ws s : List ℕ) (m : Memory) (clean : Bool) (subs : List ℕ → List ℕ) (ats : ℕ → ℕ) → IsGood m → AreMeant words s m ws → Placed leaf ws m clean subs ats
+      → (n : ℕ) × (found : Spans span s m n) × (found.word < 2 ^ width) × HoldsKind subs ats n l kind
+  pub origin : (x : ℕ) → span.read ≡ Slot x → IsSlotOf x words
+
+-- the read means what a part holds
+pub record ReadsPart (leaf : Leaf) (words : List Read) (read : Read) (l : ℕ) (kind : Kind) : Type 0 where
+  pub fit : (k : ℕ) → AllFit k words → length words ≡ length leaf.root → fits k read ≡ true
+  pub origin : (x : ℕ) → read ≡ Slot x → IsSlotOf x words
+  pub means : (ws s : List ℕ) (m : Memory) (clean : Bool) (subs : List ℕ → List ℕ) (ats : ℕ → ℕ) → IsGood m → AreMeant words s m ws → Placed leaf ws m clean subs ats
+      → (n : ℕ) × (mean read s m ≡ Some n) × HoldsKind subs ats n l kind
+
+-- the read means a number of the words at open positions
+pub record ReadsAs (leaf : Leaf) (words : List Read) (read : Read) (number : (List ℕ → List ℕ) → ℕ) : Type 0 where
+  pub fit : (k : ℕ) → AllFit k words → length words ≡ length leaf.root → fits k read ≡ true
+  pub origin : (x : ℕ) → read ≡ Slot x → IsSlotOf x words
+  pub means : (ws s : List ℕ) (m : Memory) (clean : Bool) (subs : List ℕ → List ℕ) (ats : ℕ → ℕ) → IsGood m → AreMeant words s m ws → Placed leaf ws m clean subs ats
+      → mean read s m ≡ Some (number subs)
+
+-- Integers
+
+abbrev pub first_bit : Kind → ℕ
+first_bit (Const c) = 0
+first_bit (Bits path a) = a
+first_bit (Word path j) = 0
+first_bit (Pointer align b) = 0
+
+abbrev pub is_whole : ℕ → Part → Bool
+is_whole width p = (p.l == width) && (first_bit p.kind == 0)
+
+abbrev pub share_of : Span → ℕ → ℕ → ℕ → Share
+share_of span skip len a = record { read = span.read; o = capped span.o + capped skip; l = capped len; a = capped a }
+
+-- the leaf holds each of the first so many bits of the integer at a path
+abbrev pub HoldsInt : Leaf → List ℕ → ℕ → Type 0
+HoldsInt leaf path width = (i : ℕ) → i < width → NoSpot leaf path (UnitOf (Int width) i) → ⊥
+
+-- the first i bits of the integer at a path, by shares side by side
+pub record Slices (leaf : Leaf) (words : List Read) (path : List ℕ) (i : ℕ) (shares : List Share) : Type 0 where
+  pub fit : (k : ℕ) → AllFit k words → length words ≡ length leaf.root → list_all (λ b. b) (map (fits_share k) shares) ≡ true
+  pub means : (ws s : List ℕ) (m : Memory) (clean : Bool) (subs : List ℕ → List ℕ) (ats : ℕ → ℕ) → IsGood m → AreMeant words s m ws → Placed leaf ws m clean subs ats
+      → joined_over 0 (map meant_of shares) s m ≡ Some (take_of (slice_index (subs path) 0) 0 i)
+
+abbrev pub JoinsInt : Leaf → List Read → List ℕ → ℕ → List Share → Type 0
+JoinsInt leaf words path width shares = width ≤ 64 → HoldsInt leaf path width → Slices leaf words path width shares
+
+abbrev pub ReadsInt : Leaf → List Read → List ℕ → ℕ → Read → Type 0
+ReadsInt leaf words path width read =
+    width ≤ 64 → HoldsInt leaf path width → ReadsAs leaf words read (λ subs. take_of (slice_index (subs path) 0) 0 width)
+
+-- Words of fields
+
+abbrev pub ReadsWord : Leaf → List Read → List ℕ → ℕ → ℕ → Read → Type 0
+ReadsWord leaf words path ty j read =
+    (NoSpot leaf path (UnitOf (Named ty) j) → ⊥) → ReadsAs leaf words read (λ subs. slice_index (subs path) j)
+
+pub record ReadWords (leaf : Leaf) (words : List Read) (path : List ℕ) (ty count : ℕ) (reads : List Read) : Type 0 where
+  pub count_is : length reads ≡ count
+  pub each : (j : ℕ) (r : Read) → slice_get reads j ≡ Some r → ReadsWord leaf words path ty j r
+
+-- Leaves and types by number
+
+abbrev pub leaf_within : Option Layout → ℕ → Option Leaf
+leaf_within None n = None
+leaf_within (Some layout) n = slice_get layout.leaves n
+
+abbrev pub leaf_at : List Layout → ℕ → ℕ → Option Leaf
+leaf_at layouts t n = leaf_within (layout_of layouts t) n
+
+abbrev pub words_at : List Layout → ℕ → ℕ
+words_at layouts t = shape_length (layout_of layouts t)

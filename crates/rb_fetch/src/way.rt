@@ -1,0 +1,99 @@
+//! The way to a part of a leaf: its location, and the read of its bits.
+
+ghost use Rattle.std.specs.Prelude.{◌≡◌, IfOk};
+ghost use Rattle.rb_rel.specs.Reading.{LeadsTo};
+ghost use Rattle.rb_layout.specs.Readable.{AreShort};
+ghost use Rattle.rb_fetch.specs.inner.Placing.{EndsIn, IsAgreedLeaf, IsSpot, step_of};
+ghost use Rattle.rb_fetch.specs.inner.Fields.{ReadsPart, SpansPart};
+
+use crate::place::{Spot, Wanted, begins_at, find_part};
+use crate::span::{Span, span_at, span_bits};
+use rb_core::layout_decl::{Loc, Step};
+use rb_core::seq::Seq;
+use rb_fragment::reads::Read;
+use rb_layout::layout::{Block, Leaf};
+use std::alloc::{AllocError, Global};
+
+// The location of a part. In a block it is that of the pointer to the block, with one step more.
+#[cycle(way)]
+pub(crate) fn location(alloc: Global, leaf: &Leaf, spot: Spot) -> Result<Loc, AllocError>
+    requires leaf { IsAgreedLeaf leaf.now }
+    requires spot { IsSpot leaf.now spot }
+    ensures leads { IfOk result (λ loc. LeadsTo leaf.now loc spot.entry.part.now.l spot.entry.part.now.kind) }
+    ensures ends { IfOk result (λ loc. EndsIn loc spot.entry) }
+{
+    let Some(b) = spot.block else {
+        return Ok(Loc {
+            word: spot.word as u64,
+            o: spot.part.o,
+            l: spot.part.l,
+            steps: Seq::new(alloc),
+        });
+    };
+    match leaf.blocks.get(b) {
+        None => unreachable!(),
+        Some(block) => match find_part(leaf, &[], Wanted::WayTo(b)) {
+            None => unreachable!(),
+            Some(pointer) => {
+                let mut loc = location(alloc, leaf, pointer)?;
+                loc.steps.push(step_to(block, spot))?;
+                Ok(loc)
+            }
+        },
+    }
+}
+
+// From the pointer to a block to a part in it.
+fn step_to(block: &Block, spot: Spot) -> Step
+    requires { AreShort block.now.words }
+    ensures { result ≡ step_of block.now spot.entry }
+{
+    Step {
+        align: block.align,
+        byte: begins_at(block.words.as_slice(), spot.word),
+        width: spot.flat.width,
+        o: spot.part.o,
+        l: spot.part.l,
+    }
+}
+
+/// The bits of a part, over reads of the words of a value of the leaf.
+///
+/// # Errors
+/// `AllocError` where memory is wanting.
+pub(crate) fn spot_span(
+    alloc: Global,
+    leaf: &Leaf,
+    spot: Spot,
+    words: &[Read],
+) -> Result<Span, AllocError>
+    requires leaf { IsAgreedLeaf leaf.now }
+    requires spot { IsSpot leaf.now spot }
+    ensures { IfOk result (λ span. SpansPart leaf.now words.now span spot.entry.flat.now.width spot.entry.part.now.l spot.entry.part.now.kind) }
+{
+    let loc = location(alloc, leaf, spot)?;
+    let span = span_at(alloc, words, &loc)?;
+    Ok(span)
+}
+
+/// A part as a read: the word itself where the part is all of it.
+///
+/// # Errors
+/// `AllocError` where memory is wanting.
+pub(crate) fn spot_read(
+    alloc: Global,
+    leaf: &Leaf,
+    spot: Spot,
+    words: &[Read],
+) -> Result<Read, AllocError>
+    requires leaf { IsAgreedLeaf leaf.now }
+    requires spot { IsSpot leaf.now spot }
+    ensures { IfOk result (λ read. ReadsPart leaf.now words.now read spot.entry.part.now.l spot.entry.part.now.kind) }
+{
+    let span = spot_span(alloc, leaf, spot, words)?;
+    if span.o == 0 && span.l == spot.flat.width {
+        return Ok(span.read);
+    }
+    let read = span_bits(alloc, span)?;
+    Ok(read)
+}

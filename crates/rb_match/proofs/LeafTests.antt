@@ -1,0 +1,189 @@
+-- A test of a value of a data type: its leaf is found, and leads to the node of its constructor.
+use Rattle.std.proofs.Common.{◌≡◌, ℕ, zero, suc, ◌+◌, ◌*◌, ◌≤◌, ◌==◌, inl, inr, Bool, true, false, List, [], ◌∷◌, ◌++◌, map, length, Option, Some, None, refl, sym, subst, ap, ◌∙◌, arith}
+use Rattle.std.specs.Prelude.{if◌then◌else◌, ◌&&◌, is_some}
+use Rattle.std.specs.List.{list_all}
+use Rattle.std.proofs.lemmas.Bool.{false≢true}
+use Rattle.std.proofs.lemmas.Option.{same_Some}
+use Rattle.rb_core.specs.declared.value.Value.{Value, out-Value}
+use Rattle.rb_core.specs.declared.value.Value.TheOpen as V
+use Rattle.rb_core.specs.declared.value.Value.TheOpen.{Value-F}
+use Rattle.rb_core.specs.declared.types.Ty.TheVariants.{Named}
+use Rattle.rb_core.specs.declared.types.ConRef.{ConRef}
+use Rattle.rb_core.specs.declared.pattern.Pat.{Pat, out-Pat}
+use Rattle.rb_core.specs.declared.pattern.Pat.TheVariants.{outs-Wild, outs-Var, outs-Num, outs-Con}
+use Rattle.rb_core.specs.Matching.{matches_of, is_con, all_pass}
+use Rattle.rb_core.proofs.MatchingForms.{matches-Con}
+use Rattle.rb_core.proofs.PatternLaws.{induction}
+use Rattle.rb_matrix.specs.declared.matrix.Head.{Head}
+use Rattle.rb_matrix.specs.declared.matrix.Head.TheVariants as H
+use Rattle.rb_matrix.specs.Heads.{layer_begins}
+use Rattle.rb_decide.specs.declared.decision_graph.GraphArm.{GraphArm}
+use Rattle.rb_target.specs.declared.instr.Instr.{Instr}
+use Rattle.rb_target.specs.declared.body.Hole.{Hole}
+use Rattle.rb_target.specs.Sheet.{Sheet, IsHole}
+use Rattle.rb_target.specs.Targets.{Finishes, IsIn}
+use Rattle.rb_target.proofs.Finishing.{agrees-sub}
+use Rattle.rb_layout.specs.declared.agreed.LaidOut.{LaidOut}
+use Rattle.rb_layout.specs.Positions.{layout_of}
+use Rattle.rb_rel.specs.Switches.{depth_of, look_of, leaves_in, is_shallow, mend_of}
+use Rattle.rb_rel.proofs.Leaves.{leaf_matches}
+use Rattle.rb_rel.proofs.Represented.{opened}
+use Rattle.rb_fragment.specs.declared.reads.Read.{Read}
+use Rattle.rb_fragment.specs.Arms.{AreHoles, AreOfOneWay}
+use Rattle.rb_fragment.specs.Plan.{Plan}
+use Rattle.rb_fetch.specs.Finding.{FindsLeafOf}
+use Rattle.rb_match.specs.declared.knowledge.Known.{Known}
+use Rattle.rb_match.specs.declared.knowledge.Edge.{Edge}
+use Rattle.rb_match.specs.inner.Knowing.{IsEdge, IsKnown}
+use Rattle.rb_match.specs.inner.Asking.{take_link, con_of_layer, con_in, leaf_in, leaf_con, link_at, edge_at, edge_to, edge_for, keep_edge, leaf_edges_of, has_con, have_cons, StandOpen, AsksLeaf, holes_of}
+use Rattle.rb_match.proofs.Edges.{same-nat, in_tail, open_edge}
+use Rattle.rb_match.proofs.Following.{snoc-at}
+
+both : (a b : Bool) → (a && b) ≡ true → (a ≡ true) × (b ≡ true)
+both true true e = (refl, refl)
+both true false e = absurd cc
+both false b e = absurd cc
+
+-- a value that a provenance matches begins with its constructor
+abbrev Begins : Pat → Type 0
+Begins p = (v : Value) (c : ℕ) → con_of_layer (out-Pat p) ≡ Some c → matches_of p v ≡ true → (us : List Value) × (out-Value v ≡ V.Con c us)
+
+con_begins : (c : ConRef) (ts : List (Value → Bool)) (k : ℕ) (l : Value-F Value) → c.con ≡ k → is_con c.con ts l ≡ true → (us : List Value) × (l ≡ V.Con k us)
+con_begins c ts k (V.Num m) same e = absurd (false≢true e)
+con_begins c ts k (V.Con j us) same e = let b = both (c.con == j) (all_pass ts us) e in let is : j ≡ k = sym (same-nat c.con j b.0) ∙ same in (us, ap (λ n. V.Con n us) is)
+
+begins : (p : Pat) → Begins p
+begins = induction Begins (record {
+  wild = λ at v c e m. absurd (let z = sym (ap con_of_layer (outs-Wild at)) ∙ e in cc);
+  var = λ at x v c e m. absurd (let z = sym (ap con_of_layer (outs-Var at x)) ∙ e in cc);
+  num = λ at n v c e m. absurd (let z = sym (ap con_of_layer (outs-Num at n)) ∙ e in cc);
+  con = λ at cr ps each v c e m. con_begins cr (map matches_of ps) c (out-Value v) (same_Some cr.con c (sym (ap con_of_layer (outs-Con at cr ps)) ∙ e)) (sym (matches-Con v at cr ps) ∙ m);
+})
+
+-- only the constructor counts
+head_same : (h : Head) (c : ℕ) (us : List Value) → layer_begins h (V.Con c us) ≡ layer_begins h (V.Con c [])
+head_same (H.Num n) c us = refl
+head_same (H.Con d) c us = refl
+
+link_same : (arms : List GraphArm) (other : Option ℕ) (c : ℕ) (us : List Value) → take_link arms other (V.Con c us) ≡ take_link arms other (V.Con c [])
+link_same [] other c us = refl
+link_same (a ∷ arms) other c us =
+    ap (λ u. if u then Some a.under else take_link arms other (V.Con c us)) (head_same a.head c us) ∙ ap (λ r. if layer_begins a.head (V.Con c []) then Some a.under else r) (link_same arms other c us)
+
+-- a look costs what its splits do at least
+look_deep : (plan : Plan) (t : ℕ) → depth_of plan.layouts (Named t) ≤ look_of plan.layouts (Named t)
+look_deep plan t = go (list_all is_shallow (leaves_in (layout_of plan.layouts t)))
+  where
+    go : (u : Bool) → depth_of plan.layouts (Named t) ≤ (if u then depth_of plan.layouts (Named t) else 2 * (depth_of plan.layouts (Named t) + mend_of plan.layouts t))
+    go true = omega arith
+    go false = omega arith
+
+module _ (agreed : LaidOut) (t : ℕ) (position : List ℕ) (known : List Known) (arms : List GraphArm) (other : Option ℕ) where
+  abbrev fact : ℕ → Known
+  fact l = record { position = position; ty = t; leaf = l }
+
+  abbrev to : Hole → ℕ → Edge
+  to h node = edge_at h.pc h.arm node (known ++ fact h.leaf ∷ [])
+
+  abbrev pub leaf_edges : List Hole → List Edge
+  leaf_edges hs = leaf_edges_of agreed t position known arms other hs
+
+  abbrev link : Hole → Option ℕ
+  link h = link_at arms other (leaf_con agreed t h.leaf)
+
+  -- the hole of an edge
+  view_to : (h : Hole) (o : Option ℕ) (e : Edge) → edge_to h position t known o ≡ Some e → (node : ℕ) × (o ≡ Some node) × (e ≡ to h node)
+  view_to h None e is = absurd cc
+  view_to h (Some node) e is = (node, refl, sym (same_Some _ e is))
+
+  view : (hs : List Hole) (e : Edge) → IsEdge e (leaf_edges hs) → (h : Hole) × IsIn h hs × (node : ℕ) × (link h ≡ Some node) × (e ≡ to h node)
+  view [] e (k, at) = absurd cc
+  view (h ∷ hs) e i = go (λ j. view hs e j) (edge_for agreed t position known arms other h) refl i
+    where
+      later : (x : Hole) × IsIn x hs × (node : ℕ) × (link x ≡ Some node) × (e ≡ to x node) → (x : Hole) × IsIn x (h ∷ hs) × (node : ℕ) × (link x ≡ Some node) × (e ≡ to x node)
+      later r = (r.0, in_tail h hs r.0 r.1, r.2, r.3, r.4)
+
+      go : (IsEdge e (leaf_edges hs) → (x : Hole) × IsIn x hs × (node : ℕ) × (link x ≡ Some node) × (e ≡ to x node)) → (o : Option Edge) → edge_for agreed t position known arms other h ≡ o → IsEdge e (keep_edge o (leaf_edges hs))
+          → (x : Hole) × IsIn x (h ∷ hs) × (node : ℕ) × (link x ≡ Some node) × (e ≡ to x node)
+      go rest None is j = later (rest j)
+      go rest (Some f) is (zero, at) = let r = view_to h (link h) e (is ∙ at) in (h, (0, refl), r.0, r.1, r.2)
+      go rest (Some f) is (suc k, at) = later (rest (k, at))
+
+  -- the edge of a hole
+  edge_of : (hs : List Hole) (h : Hole) (node : ℕ) → IsIn h hs → link h ≡ Some node → IsEdge (to h node) (leaf_edges hs)
+  edge_of [] h node (k, at) is = absurd cc
+  edge_of (x ∷ hs) h node (zero, at) is =
+      let same : x ≡ h = same_Some x h at in
+      let e : edge_for agreed t position known arms other x ≡ Some (to h node) = ap (edge_for agreed t position known arms other) same ∙ ap (edge_to h position t known) is in
+      subst (λ o. IsEdge (to h node) (keep_edge o (leaf_edges hs))) (sym e) (0, refl)
+  edge_of (x ∷ hs) h node (suc k, at) is = let r = edge_of hs h node (k, at) is in go (edge_for agreed t position known arms other x) r
+    where
+      go : (o : Option Edge) → IsEdge (to h node) (leaf_edges hs) → IsEdge (to h node) (keep_edge o (leaf_edges hs))
+      go None r = r
+      go (Some f) r = (suc r.0, r.1)
+
+  cons_at : (hs : List Hole) → have_cons agreed t hs ≡ true → (h : Hole) → IsIn h hs → (c : ℕ) × (leaf_con agreed t h.leaf ≡ Some c)
+  cons_at [] all h (k, at) = absurd cc
+  cons_at (x ∷ hs) all h (zero, at) =
+      let b = both (has_con agreed t x) (have_cons agreed t hs) all in
+      let same : x ≡ h = same_Some x h at in
+      some (leaf_con agreed t h.leaf) (ap (λ (y : Hole). has_con agreed t y) (sym same) ∙ b.0)
+    where
+      some : (o : Option ℕ) → is_some o ≡ true → (c : ℕ) × (o ≡ Some c)
+      some None e = absurd (false≢true e)
+      some (Some c) e = (c, refl)
+  cons_at (x ∷ hs) all h (suc k, at) = let b = both (has_con agreed t x) (have_cons agreed t hs) all in cons_at hs b.1 h (k, at)
+
+  hole_at : (from count : ℕ) (code : List Instr) (hs : List Hole) → AreHoles from count code hs → (h : Hole) → IsIn h hs → (from ≤ h.pc) × IsHole code h
+  hole_at from count code [] a h (k, at) = absurd cc
+  hole_at from count code (x ∷ hs) a h (zero, at) = subst (λ (y : Hole). (from ≤ y.pc) × IsHole code y) (same_Some x h at) (a.0, a.2)
+  hole_at from count code (x ∷ hs) a h (suc k, at) = hole_at from count code hs a.3 h (k, at)
+
+  pub leaf_stand : (old new : Sheet) (count : ℕ) (holes : List Hole) → AreHoles (length old.code) count new.code holes → AreOfOneWay holes → StandOpen old new (leaf_edges holes)
+  leaf_stand old new count holes are one = record {
+    are_open = λ e i.
+        let w = view holes e i in
+        subst (λ (y : Edge). (length old.code ≤ y.hole.pc) × IsHole new.code y.hole) (sym w.4) (hole_at (length old.code) count new.code holes are w.0 w.1);
+    one = λ e f i j p s.
+        let a = view holes e i in
+        let b = view holes f j in
+        let leaf = one a.0 b.0 a.1 b.1 (sym (ap (λ (y : Edge). y.hole.pc) a.4) ∙ p ∙ ap (λ (y : Edge). y.hole.pc) b.4) (sym (ap (λ (y : Edge). y.hole.arm) a.4) ∙ s ∙ ap (λ (y : Edge). y.hole.arm) b.4) in
+        let node : a.2 ≡ b.2 = same_Some a.2 b.2 (sym a.3 ∙ ap (λ l. link_at arms other (leaf_con agreed t l)) leaf ∙ b.3) in
+        ap (λ (y : Edge). y.hole.leaf) a.4 ∙ node ∙ sym (ap (λ (y : Edge). y.hole.leaf) b.4);
+  }
+
+  pub asks_leaf : (reads : List Read) (old new : Sheet) (holes : List Hole) → FindsLeafOf agreed t reads old new holes → have_cons agreed t holes ≡ true → AsksLeaf agreed t reads known position arms other old new (leaf_edges holes)
+  asks_leaf reads old new holes finds cons = λ plan of fit count.
+      let br = finds plan of fit count in
+      record {
+        adds = br.adds;
+        leaves = λ final callee next law fin s w v part clean ws node long good meant rep all at takes.
+            let b = (opened plan.program.types plan.layouts w.memory clean rep).made in
+            let fin1 : Finishes final new.code holes (length old.code) (length new.code) = λ q l h. agrees-sub final new.code new.code holes (holes_of (leaf_edges holes)) q refl
+            (λ arm o. let e = open_edge (leaf_edges holes) q arm o in let x = view holes e.0 e.1 in (x.0, x.1, sym (ap (λ (y : Edge). y.hole.pc) x.4) ∙ e.2, sym (ap (λ (y : Edge). y.hole.arm) x.4) ∙ e.3)) (fin q l h) in
+            let r = br.leaves final callee next law fin1 s w b.number long good
+            (record { words = ws; are_meant = meant; has_leaf = record { layout = b.layout; is_layout = b.is_layout; clean = clean; value = part; represents = rep; is_leaf = b.is_leaf } }) in
+            let con = cons_at holes cons r.hole r.is_hole in
+            let is_con : con_of_layer (out-Pat b.leaf.prov) ≡ Some con.0 =
+            sym (ap con_in b.is_number) ∙ ap (λ o. con_in (leaf_in o b.number)) (sym b.is_layout ∙ ap (λ ls. layout_of ls t) of.layouts) ∙ ap (leaf_con agreed t) (sym r.is_way) ∙ con.1 in
+            let start : 0 + b.number ≡ b.number = omega arith in
+            let begin = begins b.leaf.prov part con.0 is_con (leaf_matches b.layout.leaves part 0 b.number b.leaf b.is_leaf b.number start b.is_number) in
+            let goes : link r.hole ≡ Some node = ap (link_at arms other) con.1 ∙ sym (link_same arms other con.0 begin.0) ∙ ap (take_link arms other) (sym begin.1) ∙ takes in
+            let deep = look_deep plan t in
+            record {
+              edge = to r.hole node;
+              is_edge = edge_of holes r.hole node r.is_hole goes;
+              is_node = refl;
+              target = r.target;
+              is_target = r.is_target;
+              slots = r.slots;
+              world = r.world;
+              runs = r.runs;
+              keeps = r.keeps;
+              later = record { memory = r.later.memory; left = r.later.left; switches = omega (arith, r.later.switches, deep) };
+              known = λ i x e. elim (snoc-at known (fact r.hole.leaf) x i e) [
+                | inl j ↦ all i x j
+                | inr is ↦ subst (IsKnown plan v) is (part, b.layout, at, b.is_layout, b.is_leaf ∙ ap Some (sym r.is_way))
+              ];
+            };
+      }

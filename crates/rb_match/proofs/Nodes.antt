@@ -1,0 +1,259 @@
+-- One node behind another: the edges that stand, and what runs do.
+use Rattle.std.proofs.Common.{◌≡◌, ℕ, zero, suc, ◌+◌, ◌<◌, ◌≤◌, ◌⊎◌, inl, inr, List, [], ◌∷◌, ◌++◌, length, Option, Some, None, refl, sym, subst, ap, ◌∙◌, arith, length-append}
+use Rattle.std.specs.Prelude.{slice_get}
+use Rattle.std.proofs.lemmas.Option.{same_Some, slice_get_within}
+use Rattle.rb_core.specs.declared.types.Ty.{Ty}
+use Rattle.rb_core.specs.declared.pattern.Pat.{Pat}
+use Rattle.rb_decide.specs.declared.decision_graph.GraphArm.{GraphArm}
+use Rattle.rb_decide.specs.declared.decision_graph.GraphNode.{GraphNode}
+use Rattle.rb_decide.specs.declared.decision_graph.GraphNode.TheVariants.{Test, Clause}
+use Rattle.rb_target.specs.declared.instr.Instr.TheVariants.{Jump}
+use Rattle.rb_target.specs.declared.body.Hole.{Hole}
+use Rattle.rb_target.specs.Growth.{Grows}
+use Rattle.rb_target.specs.Meaning.{taken}
+use Rattle.rb_target.specs.Sheet.{Sheet, pushed, IsHole, IsHoleIn}
+use Rattle.rb_target.specs.Targets.{Finishes, IsIn, shape_in, target_in}
+use Rattle.rb_target.proofs.Finishing.{agrees-sub}
+use Rattle.rb_target.proofs.Growing.{Grows-trans, Grows-append, Keeps-refl, get-seam}
+use Rattle.rb_target.proofs.Shapes.{jump_shape}
+use Rattle.rb_layout.specs.declared.agreed.LaidOut.{LaidOut}
+use Rattle.rb_rel.proofs.Lists.{got, get-append-at}
+use Rattle.rb_fragment.specs.declared.reads.Read.{Read}
+use Rattle.rb_fragment.specs.Arms.{AreHoles, AreOfOneWay, ArePatchable, HasHole, closed}
+use Rattle.rb_fragment.specs.Plan.{Plan, Rep, words_of}
+use Rattle.rb_fragment.specs.WordReads.{AllFit}
+use Rattle.rb_fragment.proofs.Adding.{push_adds}
+use Rattle.rb_fragment.proofs.Patching.{at_closed, closed_hole, closed_length, hole_within, retarget_none}
+use Rattle.rb_fetch.specs.Finding.{IsPlanOf}
+use Rattle.rb_match.specs.declared.knowledge.Known.{Known}
+use Rattle.rb_match.specs.declared.knowledge.Edge.{Edge}
+use Rattle.rb_match.specs.declared.place.Place.{Place}
+use Rattle.rb_match.specs.inner.Knowing.{IsEdge, IsCommon}
+use Rattle.rb_match.specs.inner.Places.{FindsPlace, IsLookedAt}
+use Rattle.rb_match.specs.inner.Asking.{holes_of, AreOpen, StandOpen, AskedAt, Asks, edge_at}
+use Rattle.rb_match.specs.inner.Flowing.{landing_of, others_of, job_of, Flows, Stands, StepsNode, Begins, IsFineJob, IsClauseHole, AreClauseHoles, TakesGraph}
+use Rattle.rb_match.proofs.Edges.{edge_append, edge_open, other_from, holes_from, patchable_from}
+use Rattle.rb_match.proofs.Landing.{landing_hole, landing_target, land_flows}
+use Rattle.rb_match.proofs.Passing.{begins_on, ends_on}
+use Rattle.rb_match.proofs.Testing.{test_flows, root_flows}
+
+-- from reads of the part to reads of the whole value
+pub asks_of : (agreed : LaidOut) (ty : Ty) (words : List Read) (pats : List Pat) (known : List Known) (position : List ℕ) (arms : List GraphArm) (other : Option ℕ) (old new : Sheet) (edges : List Edge) (place : Place)
+    → FindsPlace agreed ty words known position place → IsLookedAt agreed.covered.program.types ty pats position place.ty
+    → ((plan : Plan) → IsPlanOf agreed plan → AllFit old.slots place.reads → length place.reads ≡ words_of plan place.ty → AskedAt plan place.ty place.reads known position arms other old new edges)
+    → Asks agreed ty words pats known position arms other old new edges
+asks_of agreed ty words pats known position arms other old new edges place finds looked asks = λ plan of fit count.
+    let p = finds plan of count in
+    let a = asks plan of (p.fit old.slots fit) p.count in
+    record {
+      at = place.ty;
+      looked = subst (λ (g : Rattle.rb_core.specs.declared.program.Program.Program). IsLookedAt g.types ty pats position place.ty) (sym of.program) looked;
+      adds = a.adds;
+      leaves = λ final callee next law fin s w v part clean ws node long good meant rep all is takes.
+          let m = p.means clean v ws s w.memory good meant rep all in
+          let same : m.part ≡ part = same_Some m.part part (sym m.is_part ∙ is) in
+          a.leaves final callee next law fin s w v part clean m.words node long good m.are_meant (subst (λ u. Rep plan w.memory clean place.ty u m.words) same m.represents) all is takes;
+    }
+
+-- where no hole is, code that is closed stays
+has_in : (pc : ℕ) (hs : List Hole) → HasHole pc hs → (h : Hole) × IsIn h hs × (pc ≡ h.pc)
+has_in pc [] h = absurd h
+has_in pc (x ∷ hs) (inl e) = (x, (0, refl), e)
+has_in pc (x ∷ hs) (inr h) = let r = has_in pc hs h in (r.0, (suc r.1.0, r.1.1), r.2)
+
+pub closed_grows : (first b : Sheet) (hs : List Hole) (ts : List ℕ) → Grows first.code b.code → ((h : Hole) → IsIn h hs → length first.code ≤ h.pc) → Grows first.code (closed b hs ts).code
+closed_grows first b hs ts g low = record {
+  longer = (let n = closed_length b hs ts in omega (arith, n, g.longer));
+  same = λ pc lt. at_closed b hs ts pc ∙ retarget_none pc hs ts _ (λ h. let r = has_in pc hs h in let l = low r.0 r.1 in omega (arith, l, r.2, lt)) ∙ g.same pc lt;
+}
+
+module _ (agreed : LaidOut) (ty : Ty) (words : List Read) (pats : List Pat) (position : List ℕ) (arms : List GraphArm) (other : Option ℕ) (n : ℕ) (old : Sheet) (edges : List Edge) where
+  abbrev node : GraphNode
+  node = Test position arms other
+
+  -- a node that stays: nothing is done
+  pub stays_node : (node : GraphNode) → StepsNode agreed ty words pats node n old edges old edges
+  stays_node node = record { stands = λ first st. st; flows = λ plan nodes root first fine at st f. f }
+
+  module _ (known : List Known) (common : IsCommon edges n (Some known)) (new : Sheet) (asked : List Edge) where
+    abbrev b : Sheet
+    b = closed old (landing_of n edges) (length old.code ∷ [])
+
+    abbrev rest : List Edge
+    rest = others_of n edges
+
+    module _ (asks : Asks agreed ty words pats known position arms other b new asked) (stand : StandOpen b new asked) (grows : Grows b.code new.code) where
+      module _ (first : Sheet) (st : Stands first old edges) where
+        from_low : Grows first.code b.code
+        from_low = closed_grows first old (landing_of n edges) (length old.code ∷ []) st.grows (λ h i. (landing_hole old edges n (length first.code) st.stand.are_open h i).0)
+
+        before : AreOpen (length first.code) b.code rest
+        before e i =
+            let o = other_from n edges e i in
+            let s = st.stand.are_open e o.0 in
+            (s.0, closed_hole old (landing_of n edges) (length old.code ∷ []) e.hole s.1)
+
+        below : (e : Edge) → IsEdge e rest → e.hole.pc < length b.code
+        below e i = hole_within b.code e.hole (before e i).1
+
+        keeps_hole : (e : Edge) → IsEdge e rest → IsHole new.code e.hole
+        keeps_hole e i = subst (λ o. IsHoleIn o e.hole.arm) (sym (grows.same e.hole.pc (below e i))) (before e i).1
+
+        all_stand : Stands first new (rest ++ asked)
+        all_stand = record {
+          grows = Grows-trans _ _ _ from_low grows;
+          stand = record {
+            are_open = λ e i. elim (edge_append rest asked e i) [
+              | inl j ↦ ((before e j).0, keeps_hole e j)
+              | inr j ↦ (let s = stand.are_open e j in (omega (arith, s.0, from_low.longer), s.1))
+            ];
+            one = λ e f i j p s. both e f (edge_append rest asked e i) (edge_append rest asked f j) p s;
+          };
+        }
+          where
+            both : (e f : Edge) → IsEdge e rest ⊎ IsEdge e asked → IsEdge f rest ⊎ IsEdge f asked → e.hole.pc ≡ f.hole.pc → e.hole.arm ≡ f.hole.arm → e.hole.leaf ≡ f.hole.leaf
+            both e f (inl i) (inl j) p s = st.stand.one e f (other_from n edges e i).0 (other_from n edges f j).0 p s
+            both e f (inl i) (inr j) p s = absurd (let a = below e i in let c = stand.are_open f j in omega (arith, a, c.0, p))
+            both e f (inr i) (inl j) p s = absurd (let a = below f j in let c = stand.are_open e i in omega (arith, a, c.0, p))
+            both e f (inr i) (inr j) p s = stand.one e f i j p s
+
+      pub steps_node : StepsNode agreed ty words pats node n old edges new (rest ++ asked)
+      steps_node = record {
+        stands = λ first st. all_stand first st;
+        flows = λ plan nodes root first fine at st f.
+            let job = job_of plan ty words pats nodes root first in
+            let h = land_flows job old edges n known f st common in
+            test_flows job b new rest asked known n position arms other fine.lower (fine.fit first.slots (omega arith)) at h (before first st) (asks plan fine.of (fine.fit b.slots h.adds.more) fine.count) stand;
+      }
+
+-- the root
+pub begins_test : (agreed : LaidOut) (ty : Ty) (words : List Read) (pats : List Pat) (nodes : List GraphNode) (root : ℕ) (position : List ℕ) (arms : List GraphArm) (other : Option ℕ) (old new : Sheet) (edges : List Edge)
+    → slice_get nodes root ≡ Some (Test position arms other) → Asks agreed ty words pats [] position arms other old new edges → StandOpen old new edges → Grows old.code new.code → Begins agreed ty words pats nodes root old new edges
+begins_test agreed ty words pats nodes root position arms other old new edges at asks stand grows = record {
+  stands = record { grows = grows; stand = stand };
+  flows = λ plan fine.
+      let job = job_of plan ty words pats nodes root old in
+      let fit = fine.fit old.slots (omega arith) in
+      test_flows job old new [] edges [] root position arms other fine.lower fit at (root_flows job) (λ e i. absurd (let z = i.1 in cc)) (asks plan fine.of fit fine.count) stand;
+}
+
+pub begins_jump : (agreed : LaidOut) (ty : Ty) (words : List Read) (pats : List Pat) (nodes : List GraphNode) (root : ℕ) (old : Sheet) → Begins agreed ty words pats nodes root old (pushed old (Jump (length old.code + 1))) (edge_at (length old.code) None root [] ∷ [])
+begins_jump agreed ty words pats nodes root old =
+    let pc = length old.code in
+    let code = old.code ++ Jump (pc + 1) ∷ [] in
+    let here = edge_at pc None root [] in
+    let len : length code ≡ pc + 1 = length-append old.code (Jump (pc + 1) ∷ []) in
+    record {
+      stands = record {
+        grows = Grows-append old.code (Jump (pc + 1) ∷ []);
+        stand = record {
+          are_open = λ e i. subst (λ (x : Edge). (pc ≤ x.hole.pc) × IsHole code x.hole) (single here e i) (omega arith, subst (λ o. IsHoleIn o None) (sym (get-seam old.code (Jump (pc + 1)) [])) tt);
+          one = λ e f i j p s. sym (ap (λ (x : Edge). x.hole.leaf) (single here e i)) ∙ ap (λ (x : Edge). x.hole.leaf) (single here f j);
+        };
+      };
+      flows = λ plan fine. record {
+        adds = push_adds plan old (Jump (pc + 1)) (record { bounded = tt; slots_fit = tt; targets = (omega arith, omega arith); calls = tt });
+        arrives = λ final callee next law fin s w v long given.
+            let a = fin pc (omega arith) (omega (arith, len)) in
+            let j = jump_shape (slice_get final pc) (pc + 1) (a.shapes ∙ ap shape_in (get-seam old.code (Jump (pc + 1)) [])) in
+            record {
+              edge = here;
+              is_edge = (0, refl);
+              target = j.0;
+              is_target = ap (λ o. target_in o None) j.1;
+              slots = s;
+              world = taken w;
+              runs = law.step pc (Jump j.0) s w j.1;
+              keeps = Keeps-refl old.slots s;
+              path = [];
+              later = record { memory = refl; left = refl; switches = omega arith };
+              known = λ i x e. absurd (let z = e in cc);
+              on = begins_on (job_of plan ty words pats nodes root old) v;
+            };
+      };
+    }
+  where
+    single : (x e : Edge) → IsEdge e (x ∷ []) → x ≡ e
+    single x e (zero, at) = same_Some x e at
+    single x e (suc k, at) = absurd cc
+
+-- clauses
+module _ (nodes : List GraphNode) (count : ℕ) (edges : List Edge) (holes : List Hole) (are : AreClauseHoles nodes count edges holes) where
+  edge_at_hole : (h : Hole) → IsIn h holes → (e : Edge) × IsEdge e edges × IsClauseHole nodes count e.hole h
+  edge_at_hole h (k, at) =
+      let lt = slice_get_within holes k h at in
+      let e = got edges k (omega (arith, lt, are.long)) in
+      (e.0, (k, e.1), are.each k e.0 h e.1 at)
+
+  hole_at_edge : (e : Edge) → IsEdge e edges → (h : Hole) × IsIn h holes × IsClauseHole nodes count e.hole h
+  hole_at_edge e (k, at) =
+      let lt = slice_get_within edges k e at in
+      let h = got holes k (omega (arith, lt, are.long)) in
+      (h.0, (k, h.1), are.each k e h.0 at h.1)
+
+  pub graph_holes : (first new : Sheet) → Stands first new edges → AreHoles (length first.code) count new.code holes
+  graph_holes first new st = holes_from (length first.code) count new.code holes (λ h i.
+      let r = edge_at_hole h i in
+      let s = st.stand.are_open r.0 r.1 in
+      (omega (arith, s.0, r.2.pc), r.2.few, subst (λ a. IsHoleIn (slice_get new.code h.pc) a) (sym r.2.arm) (subst (λ q. IsHoleIn (slice_get new.code q) r.0.hole.arm) (sym r.2.pc) s.1)))
+
+  pub graph_ways : (first new : Sheet) → Stands first new edges → AreOfOneWay holes
+  graph_ways first new st = λ h k i j p s.
+      let a = edge_at_hole h i in
+      let c = edge_at_hole k j in
+      let same = st.stand.one a.0 c.0 a.1 c.1 (sym a.2.pc ∙ p ∙ c.2.pc) (sym a.2.arm ∙ s ∙ c.2.arm) in
+      let is = same_Some (Clause h.leaf) (Clause k.leaf) (sym a.2.node ∙ ap (slice_get nodes) same ∙ c.2.node) in cc
+
+  pub graph_takes : (agreed : LaidOut) (ty : Ty) (words : List Read) (pats : List Pat) (root : ℕ) (first new : Sheet)
+      → ((plan : Plan) → let job = job_of plan ty words pats nodes root first in IsFineJob agreed job → Flows job new edges) → TakesGraph agreed ty words pats nodes root first new holes
+  graph_takes agreed ty words pats root first new flows = λ plan fine.
+      let job = job_of plan ty words pats nodes root first in
+      let f = flows plan fine in
+      record {
+        adds = f.adds;
+        leaves = λ final callee next law fin s w v long g.
+            let fin1 : Finishes final new.code (holes_of edges) (length first.code) (length new.code) = λ q l h. agrees-sub final new.code new.code (holes_of edges) holes q refl
+            (λ arm o. let r = edge_at_hole o.0 o.1 in edge_open edges q arm r.0 r.1 (sym r.2.pc ∙ o.2) (sym r.2.arm ∙ o.3)) (fin q l h) in
+            let a = f.arrives final callee next law fin1 s w v long g in
+            let h = hole_at_edge a.edge a.is_edge in
+            let e = ends_on job fine.lower v a.edge.hole.leaf h.0.leaf g.clause a.path h.2.node a.on g.takes in
+            record {
+              path = a.path;
+              is_way = e.1;
+              looked = a.on.looked;
+              leaves = record {
+                hole = h.0;
+                is_hole = h.1;
+                is_way = e.0;
+                target = a.target;
+                is_target = ap (λ q. target_in (slice_get final q) h.0.arm) h.2.pc ∙ ap (λ m. target_in (slice_get final a.edge.hole.pc) m) h.2.arm ∙ a.is_target;
+                slots = a.slots;
+                world = a.world;
+                runs = a.runs;
+                keeps = a.keeps;
+                later = a.later;
+                exit = tt;
+              };
+            };
+      }
+
+-- one more clause's hole
+pub clause_push : (nodes : List GraphNode) (count : ℕ) (edges : List Edge) (holes : List Hole) (i : ℕ) (e0 : Edge) (h0 : Hole) → slice_get edges i ≡ Some e0 → length holes ≡ i → IsClauseHole nodes count e0.hole h0
+    → ((k : ℕ) (e : Edge) (h : Hole) → slice_get edges k ≡ Some e → slice_get holes k ≡ Some h → IsClauseHole nodes count e.hole h)
+    → (k : ℕ) (e : Edge) (h : Hole) → slice_get edges k ≡ Some e → slice_get (holes ++ h0 ∷ []) k ≡ Some h → IsClauseHole nodes count e.hole h
+clause_push nodes count edges holes i e0 h0 at len one all k e h a b = elim (get-append-at holes (h0 ∷ []) k h b) [
+  | inl c ↦ all k e h a c
+  | inr c ↦ last c
+]
+  where
+    last : (j : ℕ) × (slice_get (h0 ∷ []) j ≡ Some h) × (k ≡ length holes + j) → IsClauseHole nodes count e.hole h
+    last (zero, c, is) =
+        let same : k ≡ i = omega (arith, is, len) in
+        let e1 : e0 ≡ e = same_Some e0 e (sym at ∙ ap (slice_get edges) (sym same) ∙ a) in
+        subst (λ (x : Hole). IsClauseHole nodes count e.hole x) (same_Some h0 h c) (subst (λ (x : Edge). IsClauseHole nodes count x.hole h0) e1 one)
+    last (suc j, c, is) = absurd cc
+
+pub land_patchable : (b : Sheet) (edges : List Edge) (n : ℕ) → AreOpen 0 b.code edges → ArePatchable b.code (landing_of n edges) (length b.code ∷ [])
+land_patchable b edges n st = patchable_from b.code (landing_of n edges) (length b.code ∷ []) (λ h i.
+    let x = landing_hole b edges n 0 st h i in
+    let t = landing_target b edges n 0 st h i in (x.1, t.0, t.1))

@@ -1,0 +1,72 @@
+use Rattle.std.proofs.Common.{◌≡◌, get_or, true, arith, ap, ◌∙◌, map, ℕ}
+use Rattle.rb_core.specs.declared.types.Ty.TheVariants.{Int}
+use Rattle.rb_core.proofs.PatternLaws.{fold-Con}
+use Rattle.rb_match.specs.inner.Binding.{weight, weights, weight_step}
+use Rattle.rb_decide.proofs.Building.{split-rest, get-same}
+use Rattle.rb_match.proofs.Following.{no-item}
+use Rattle.rb_match.proofs.Bindings.{wild_binds, num_binds, var_binds, con_binds, field_wild, field_num, field_binds, fields_none, fields_binds}
+use Rattle.rb_match.proofs.binding.+binding.Goals as goal
+
+pub bind_at-returns-in-Wild-clause-binds : goal.bind_at-returns-in-Wild-clause-binds
+bind_at-returns-in-Wild-clause-binds t c = rw (c.in-Wild.is, c.new.ensures) (wild_binds c.args.agreed.now c.args.ty c.in-Wild.field-0 c.args.words.now c.args.body.now)
+
+pub bind_at-returns-in-Num-clause-binds : goal.bind_at-returns-in-Num-clause-binds
+bind_at-returns-in-Num-clause-binds t c = rw (c.in-Num.is, c.new-in-Num.ensures) (num_binds c.args.agreed.now c.args.ty c.in-Num.field-0 c.in-Num.field-1 c.args.words.now c.args.body.now)
+
+pub bind_at-returns-in_ok-push-in-Var-clause-binds : goal.bind_at-returns-in_ok-push-in-Var-clause-binds
+bind_at-returns-in_ok-push-in-Var-clause-binds t c =
+    rw (c.in-Var.is, c.in_ok-push-in-Var.ensures.ok, c.new-bound.ensures, c.in_ok-slots-in-Var.ensures) (var_binds c.args.agreed.now c.args.ty c.in-Var.field-0 c.in-Var.var c.args.words.now c.args.body.now)
+
+pub bind_at-returns-in_ok-bound-in-Con-clause-binds : goal.bind_at-returns-in_ok-bound-in-Con-clause-binds
+bind_at-returns-in_ok-bound-in-Con-clause-binds t c =
+    rw c.in-Con.is (con_binds c.args.agreed.now c.args.ty c.in-Con.field-0 c.in-Con.con c.in-Con.subs c.in-Some.leaf c.args.words.now c.args.body.now c.bind_fields.new.body c.in_ok-bound-in-Con.bound c.in-Some.ensures.0 c.in-Some.ensures.1
+    (rw (c.as_slice-subs.ensures, c.fields_of-fields.ensures, c.as_slice-types.ensures, c.program.ensures.same, c.covered.ensures.same) at c.in_ok-bound-in-Con.ensures.binds))
+
+pub bind_field-returns-in-Wild-clause-binds : goal.bind_field-returns-in-Wild-clause-binds
+bind_field-returns-in-Wild-clause-binds t c = rw (c.in-Wild.is, c.new.ensures) (field_wild c.args.agreed.now c.args.ty c.args.leaf c.args.words.now c.in-Wild.field-0 c.args.field c.args.i c.args.body.now)
+
+pub bind_field-returns-in-Num-clause-binds : goal.bind_field-returns-in-Num-clause-binds
+bind_field-returns-in-Num-clause-binds t c = rw (c.in-Num.is, c.new-in-Num.ensures) (field_num c.args.agreed.now c.args.ty c.args.leaf c.args.words.now c.in-Num.field-0 c.in-Num.field-1 c.args.field c.args.i c.args.body.now)
+
+pub bind_field-returns-in_ok-bound-in-Var-clause-binds : goal.bind_field-returns-in_ok-bound-in-Var-clause-binds
+bind_field-returns-in_ok-bound-in-Var-clause-binds t c =
+    let there : c.is_field.result ≡ true = grind (arith, c.if-not-is_field.false) in
+    field_binds c.args.agreed.now c.args.ty c.args.leaf c.args.words.now c.args.sub.now c.args.field c.args.i c.args.body.now c.fetch_field.new.body c.bind_at.new.body c.in_ok-slots-in-Var.slots c.in_ok-bound-in-Var.bound
+    (c.is_field.ensures there) c.in_ok-slots-in-Var.ensures.fetches (rw c.as_slice.ensures at c.in_ok-bound-in-Var.ensures.binds)
+
+pub bind_fields-returns-in_default-clause-binds : goal.bind_fields-returns-in_default-clause-binds
+bind_fields-returns-in_default-clause-binds t c =
+    let none = no-item c.args.subs.now c.in_default.len_below in
+    rw (none, c.new.ensures) (fields_none c.args.agreed.now c.args.ty c.args.leaf c.args.words.now c.args.fields.now c.args.i c.args.body.now)
+
+pub bind_fields-bind_fields-requires : goal.bind_fields-bind_fields-requires
+bind_fields-bind_fields-requires t c =
+    let first = c.sub-item.result in
+    let whole = split-rest c.args.subs.now first c.in-len1-up.len_at_least c.sub-item.is in
+    let sum = ap (λ l. weights (map weight l)) whole in
+    omega (arith, sum, c.decreases)
+
+pub bind_fields-bind_field-requires : goal.bind_fields-bind_field-requires
+bind_fields-bind_field-requires t c =
+    let first = c.sub-item.result in
+    let whole = split-rest c.args.subs.now first c.in-len1-up.len_at_least c.sub-item.is in
+    let sum = ap (λ l. weights (map weight l)) whole in
+    omega (arith, sum, c.decreases)
+
+pub bind_field-bind_at-requires : goal.bind_field-bind_at-requires
+bind_field-bind_at-requires t c = omega (arith, c.decreases)
+
+pub bind_at-bind_fields-requires : goal.bind_at-bind_fields-requires
+bind_at-bind_fields-requires t c =
+    let sum = ap weight c.in-Con.is ∙ fold-Con ℕ weight_step c.in-Con.field-0 c.in-Con.con c.in-Con.subs in
+    let subs = ap (λ l. weights (map weight l)) c.as_slice-subs.ensures in
+    omega (arith, sum, subs, c.decreases)
+
+pub bind_fields-returns-in-None-clause-binds : goal.bind_fields-returns-in-None-clause-binds
+bind_fields-returns-in-None-clause-binds t c =
+    let first = c.sub-item.result in
+    let whole = split-rest c.args.subs.now first c.in-len1-up.len_at_least c.sub-item.is in
+    let field = get_or c.args.fields.now 0 (Int 0) in
+    let fields = split-rest c.args.fields.now field c.in-len1-up-fields.len_at_least (get-same c.args.fields.now 0 (Int 0) field c.in-len1-up-fields.len_at_least) in
+    rw (whole, fields, c.in-None.ensures) (fields_binds c.args.agreed.now c.args.ty c.args.leaf c.args.words.now first _ field _ c.args.i c.args.body.now c.bind_field.new.body c.bind_fields.new.body c.in_ok-bound.bound c.in_ok-more.more
+    (rw c.in_ok-number.ensures at c.in_ok-bound.ensures.binds) c.in_ok-more.ensures.binds)

@@ -1,0 +1,12 @@
+use Rattle.std.proofs.Common.{◌+◌, map}
+use Rattle.rb_match.specs.inner.Binding.{weight, weights}
+use Rattle.rb_match.proofs.binding.+binding.Given as goal
+
+abbrev pub decreases-bind_at : goal.decreases-bind_at
+decreases-bind_at l = weight l.pat.now
+
+abbrev pub decreases-bind_field : goal.decreases-bind_field
+decreases-bind_field l = weight l.sub.now + 1
+
+abbrev pub decreases-bind_fields : goal.decreases-bind_fields
+decreases-bind_fields l = weights (map weight l.subs.now) + 1

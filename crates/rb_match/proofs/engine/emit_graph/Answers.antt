@@ -1,0 +1,28 @@
+use Rattle.std.proofs.Common.{Some, ap, sym, ◌∙◌, ◌-◌, ◌<◌, length, arith}
+use Rattle.std.proofs.lemmas.Option.{slice_get-get_or}
+use Rattle.rb_match.proofs.Nodes.{graph_holes, graph_ways, graph_takes}
+use Rattle.rb_match.proofs.engine.emit_graph.Goals as goal
+
+pub loop-i-preserved : goal.loop-i-preserved
+loop-i-preserved c =
+    let step = c.in_ok-edges-2.ensures in
+    let inv = c.loop-i.invariant in
+    let within : length c.args.nodes.now - 1 - c.loop-i.i < length c.args.nodes.now = omega (arith, c.loop-i-test.true) in
+    let at = slice_get-get_or c.args.nodes.now (length c.args.nodes.now - 1 - c.loop-i.i) c.index-nodes-number.result within ∙ ap Some (sym c.index-nodes-number.is) in
+    record {
+      stands = step.stands c.args.body.now inv.stands;
+      flows = λ plan fine. step.flows plan c.args.nodes.now c.args.root c.args.body.now fine at inv.stands (inv.flows plan fine);
+    }
+
+pub returns-clause-holes : goal.returns-clause-holes
+returns-clause-holes c =
+    graph_holes c.args.nodes.now _ c.loop-i.edges c.in_ok-holes.holes (rw c.as_slice.ensures at c.in_ok-holes.ensures) c.args.body.now c.loop-i.body c.loop-i.invariant.stands
+
+pub returns-clause-ways : goal.returns-clause-ways
+returns-clause-ways c =
+    graph_ways c.args.nodes.now _ c.loop-i.edges c.in_ok-holes.holes (rw c.as_slice.ensures at c.in_ok-holes.ensures) c.args.body.now c.loop-i.body c.loop-i.invariant.stands
+
+pub returns-clause-takes : goal.returns-clause-takes
+returns-clause-takes c =
+    graph_takes c.args.nodes.now _ c.loop-i.edges c.in_ok-holes.holes (rw c.as_slice.ensures at c.in_ok-holes.ensures) c.args.agreed.now c.args.ty c.args.words.now c.args.pats.now c.args.root c.args.body.now c.loop-i.body
+    c.loop-i.invariant.flows

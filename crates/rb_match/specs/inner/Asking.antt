@@ -1,0 +1,197 @@
+-- The code of one test.
+use Rattle.std.specs.Prelude.{◌≡◌, ℕ, ◌+◌, ◌≤◌, ◌^◌, List, [], ◌∷◌, ◌++◌, map, length, Bool, true, false, ◌&&◌, nat_lt, is_some, Option, Some, None, slice_get, if◌then◌else◌}
+use Rattle.rb_core.specs.declared.value.Value.{Value, out-Value}
+use Rattle.rb_core.specs.declared.value.Value.TheOpen as V
+use Rattle.rb_core.specs.declared.value.Value.TheOpen.{Value-F}
+use Rattle.rb_core.specs.declared.types.Ty.{Ty}
+use Rattle.rb_core.specs.declared.types.Ty.TheVariants.{Int, Named}
+use Rattle.rb_core.specs.declared.pattern.Pat.{Pat, out-Pat}
+use Rattle.rb_core.specs.declared.pattern.Pat.TheOpen as P
+use Rattle.rb_core.specs.declared.pattern.Pat.TheOpen.{Pat-F}
+use Rattle.rb_core.specs.Values.{part_at}
+use Rattle.rb_matrix.specs.declared.matrix.Head.{Head}
+use Rattle.rb_matrix.specs.declared.matrix.Head.TheVariants as H
+use Rattle.rb_matrix.specs.Heads.{layer_begins}
+use Rattle.rb_decide.specs.declared.decision_graph.GraphArm.{GraphArm}
+use Rattle.rb_bytes.specs.Memory.{IsGood}
+use Rattle.rb_target.specs.declared.instr.SwitchArm.{SwitchArm}
+use Rattle.rb_target.specs.declared.instr.Instr.{Instr}
+use Rattle.rb_target.specs.declared.body.Hole.{Hole}
+use Rattle.rb_target.specs.Growth.{Keeps}
+use Rattle.rb_target.specs.Laws.{Law}
+use Rattle.rb_target.specs.Meaning.{World, Next, Callee}
+use Rattle.rb_target.specs.Sheet.{Sheet, IsHole}
+use Rattle.rb_target.specs.Targets.{target_in, Finishes}
+use Rattle.rb_layout.specs.declared.agreed.LaidOut.{LaidOut}
+use Rattle.rb_layout.specs.declared.layout.Layout.{Layout}
+use Rattle.rb_layout.specs.declared.layout.Leaf.{Leaf}
+use Rattle.rb_layout.specs.Positions.{layout_of}
+use Rattle.rb_rel.specs.Switches.{look_of}
+use Rattle.rb_fragment.specs.declared.reads.Read.{Read}
+use Rattle.rb_fragment.specs.Plan.{Plan, Rep, words_of}
+use Rattle.rb_fragment.specs.Adding.{Adds}
+use Rattle.rb_fragment.specs.Pieces.{IsLater}
+use Rattle.rb_fragment.specs.WordReads.{AreMeant, AllFit}
+use Rattle.rb_fetch.specs.Finding.{IsPlanOf}
+use Rattle.rb_match.specs.declared.knowledge.Known.{Known}
+use Rattle.rb_match.specs.declared.knowledge.Edge.{Edge}
+use Rattle.rb_match.specs.inner.Knowing.{AreKnown, IsEdge}
+use Rattle.rb_match.specs.inner.Places.{IsLookedAt}
+
+-- Links -----------------------------------------------------------------------------------------
+
+-- the node of the first arm with whose head a value begins, or else the other one
+abbrev pub take_link : List GraphArm → Option ℕ → Value-F Value → Option ℕ
+take_link [] other tested = other
+take_link (a ∷ arms) other tested = if layer_begins a.head tested then Some a.under else take_link arms other tested
+
+-- Numbers ---------------------------------------------------------------------------------------
+
+abbrev pub number_of : Head → ℕ
+number_of (H.Num n) = n
+number_of (H.Con c) = 0
+
+abbrev pub is_number : Head → Bool
+is_number (H.Num n) = nat_lt n (2 ^ 64)
+is_number (H.Con c) = false
+
+abbrev pub number_arm : ℕ → Head → SwitchArm
+number_arm next head = record { number = number_of head; target = next }
+
+abbrev pub number_arms : ℕ → List GraphArm → List SwitchArm
+number_arms next arms = map (λ (a : GraphArm). number_arm next a.head) arms
+
+abbrev pub are_numbers : List GraphArm → Bool
+are_numbers [] = true
+are_numbers (a ∷ arms) = is_number a.head && are_numbers arms
+
+abbrev pub open_else_of : ℕ → Option ℕ → Option ℕ
+open_else_of next None = None
+open_else_of next (Some link) = Some next
+
+abbrev pub edge_at : ℕ → Option ℕ → ℕ → List Known → Edge
+edge_at pc arm node known = record { hole = record { pc = pc; arm = arm; leaf = node }; known = known }
+
+abbrev pub arm_edges : ℕ → List Known → List GraphArm → ℕ → List Edge
+arm_edges pc known [] k = []
+arm_edges pc known (a ∷ arms) k = edge_at pc (Some k) a.under known ∷ arm_edges pc known arms (k + 1)
+
+abbrev pub else_edges : ℕ → List Known → Option ℕ → List Edge
+else_edges pc known None = []
+else_edges pc known (Some link) = edge_at pc None link known ∷ []
+
+-- Constructors ----------------------------------------------------------------------------------
+
+abbrev pub con_of_layer : Pat-F Pat → Option ℕ
+con_of_layer (P.Wild at) = None
+con_of_layer (P.Var at x) = None
+con_of_layer (P.Num at n) = None
+con_of_layer (P.Con at c ps) = Some c.con
+
+abbrev pub con_in : Option Leaf → Option ℕ
+con_in None = None
+con_in (Some leaf) = con_of_layer (out-Pat leaf.prov)
+
+abbrev pub leaf_in : Option Layout → ℕ → Option Leaf
+leaf_in None l = None
+leaf_in (Some layout) l = slice_get layout.leaves l
+
+-- the constructor of a leaf's values
+abbrev pub leaf_con : LaidOut → ℕ → ℕ → Option ℕ
+leaf_con agreed t l = con_in (leaf_in (layout_of agreed.layouts t) l)
+
+abbrev pub link_at : List GraphArm → Option ℕ → Option ℕ → Option ℕ
+link_at arms other None = None
+link_at arms other (Some c) = take_link arms other (V.Con c [])
+
+abbrev pub edge_to : Hole → List ℕ → ℕ → List Known → Option ℕ → Option Edge
+edge_to h position t known None = None
+edge_to h position t known (Some node) =
+    Some (edge_at h.pc h.arm node (known ++ record { position = position; ty = t; leaf = h.leaf } ∷ []))
+
+abbrev pub edge_for : LaidOut → ℕ → List ℕ → List Known → List GraphArm → Option ℕ → Hole → Option Edge
+edge_for agreed t position known arms other h = edge_to h position t known (link_at arms other (leaf_con agreed t h.leaf))
+
+abbrev pub keep_edge : Option Edge → List Edge → List Edge
+keep_edge None es = es
+keep_edge (Some e) es = e ∷ es
+
+abbrev pub leaf_edges_of : LaidOut → ℕ → List ℕ → List Known → List GraphArm → Option ℕ → List Hole → List Edge
+leaf_edges_of agreed t position known arms other [] = []
+leaf_edges_of agreed t position known arms other (h ∷ hs) =
+    keep_edge (edge_for agreed t position known arms other h) (leaf_edges_of agreed t position known arms other hs)
+
+abbrev pub has_con : LaidOut → ℕ → Hole → Bool
+has_con agreed t h = is_some (leaf_con agreed t h.leaf)
+
+abbrev pub have_cons : LaidOut → ℕ → List Hole → Bool
+have_cons agreed t [] = true
+have_cons agreed t (h ∷ hs) = has_con agreed t h && have_cons agreed t hs
+
+-- Edges -----------------------------------------------------------------------------------------
+
+abbrev pub hole_of : Edge → Hole
+hole_of e = e.hole
+
+abbrev pub holes_of : List Edge → List Hole
+holes_of es = map hole_of es
+
+-- each edge is a hole of an instruction from a number on
+abbrev pub AreOpen : ℕ → List Instr → List Edge → Type 0
+AreOpen from code edges = (e : Edge) → IsEdge e edges → (from ≤ e.hole.pc) × IsHole code e.hole
+
+-- one target leads to one node
+abbrev pub LeadOneWay : List Edge → Type 0
+LeadOneWay edges = (e f : Edge) → IsEdge e edges → IsEdge f edges → e.hole.pc ≡ f.hole.pc → e.hole.arm ≡ f.hole.arm → e.hole.leaf ≡ f.hole.leaf
+
+pub record StandOpen (old new : Sheet) (edges : List Edge) : Type 0 where
+  pub are_open : AreOpen (length old.code) new.code edges
+  pub one : LeadOneWay edges
+
+-- the run goes out by an edge to a node, whatever its target, with what is known there
+pub record LeavesBy (plan : Plan) (final : List Instr) (next : Next) (edges : List Edge) (n most start : ℕ) (s : List ℕ) (w : World) (v : Value) (node : ℕ) : Type 0 where
+  pub edge : Edge
+  pub is_edge : IsEdge edge edges
+  pub is_node : edge.hole.leaf ≡ node
+  pub target : ℕ
+  pub is_target : target_in (slice_get final edge.hole.pc) edge.hole.arm ≡ Some target
+  pub slots : List ℕ
+  pub world : World
+  pub runs : next start s w ≡ next target slots world
+  pub keeps : Keeps n s slots
+  pub later : IsLater most w world
+  pub known : AreKnown plan v edge.known
+
+-- Tests -----------------------------------------------------------------------------------------
+
+-- over reads of the part that is tested
+pub record AskedAt (plan : Plan) (ty : Ty) (reads : List Read) (known : List Known) (position : List ℕ) (arms : List GraphArm) (other : Option ℕ) (old new : Sheet) (edges : List Edge) : Type 0 where
+  pub adds : Adds plan old new
+  pub leaves : (final : List Instr) (callee : Callee) (next : Next) → Law final callee next → Finishes final new.code (holes_of edges) (length old.code) (length new.code)
+      → (s : List ℕ) (w : World) (v part : Value) (clean : Bool) (ws : List ℕ) (node : ℕ) → new.slots ≤ length s → IsGood w.memory → AreMeant reads s w.memory ws → Rep plan w.memory clean ty part ws
+      → AreKnown plan v known → part_at v position ≡ Some part → take_link arms other (out-Value part) ≡ Some node
+      → LeavesBy plan final next edges old.slots (look_of plan.layouts ty) (length old.code) s w v node
+
+abbrev pub AsksNumber : List Read → List Known → List GraphArm → Option ℕ → Sheet → Sheet → List Edge → Type 0
+AsksNumber reads known arms other old new edges =
+    (plan : Plan) (bits : ℕ) (position : List ℕ) → AllFit old.slots reads → AskedAt plan (Int bits) reads known position arms other old new edges
+
+abbrev pub AsksLeaf : LaidOut → ℕ → List Read → List Known → List ℕ → List GraphArm → Option ℕ → Sheet → Sheet → List Edge → Type 0
+AsksLeaf agreed t reads known position arms other old new edges =
+    (plan : Plan) → IsPlanOf agreed plan → AllFit old.slots reads → length reads ≡ words_of plan (Named t)
+    → AskedAt plan (Named t) reads known position arms other old new edges
+
+-- over reads of the whole value
+pub record Asked (plan : Plan) (ty : Ty) (words : List Read) (pats : List Pat) (known : List Known) (position : List ℕ) (arms : List GraphArm) (other : Option ℕ) (old new : Sheet) (edges : List Edge) : Type 0 where
+  pub at : Ty
+  pub looked : IsLookedAt plan.program.types ty pats position at
+  pub adds : Adds plan old new
+  pub leaves : (final : List Instr) (callee : Callee) (next : Next) → Law final callee next → Finishes final new.code (holes_of edges) (length old.code) (length new.code)
+      → (s : List ℕ) (w : World) (v part : Value) (clean : Bool) (ws : List ℕ) (node : ℕ) → new.slots ≤ length s → IsGood w.memory → AreMeant words s w.memory ws → Rep plan w.memory clean ty v ws
+      → AreKnown plan v known → part_at v position ≡ Some part → take_link arms other (out-Value part) ≡ Some node
+      → LeavesBy plan final next edges old.slots (look_of plan.layouts at) (length old.code) s w v node
+
+abbrev pub Asks : LaidOut → Ty → List Read → List Pat → List Known → List ℕ → List GraphArm → Option ℕ → Sheet → Sheet → List Edge → Type 0
+Asks agreed ty words pats known position arms other old new edges =
+    (plan : Plan) → IsPlanOf agreed plan → AllFit old.slots words → length words ≡ words_of plan ty
+    → Asked plan ty words pats known position arms other old new edges

@@ -1,0 +1,78 @@
+-- Clause by clause.
+use Rattle.std.specs.Prelude.{◌≡◌, ℕ, ◌+◌, ◌*◌, ◌<◌, ◌≤◌, ◌==◌, List, [], ◌∷◌, length, Bool, true, false, Some, slice_get, if◌then◌else◌}
+use Rattle.rb_core.specs.declared.value.Value.{Value}
+use Rattle.rb_core.specs.declared.types.Ty.{Ty}
+use Rattle.rb_core.specs.declared.pattern.Pat.{Pat}
+use Rattle.rb_core.specs.Matching.{chosen_clause, matches_of}
+use Rattle.rb_bytes.specs.Memory.{IsGood}
+use Rattle.rb_target.specs.declared.instr.Instr.{Instr}
+use Rattle.rb_target.specs.declared.body.Hole.{Hole}
+use Rattle.rb_target.specs.Growth.{Grows, Keeps}
+use Rattle.rb_target.specs.Laws.{Law}
+use Rattle.rb_target.specs.Meaning.{World, Next, Callee}
+use Rattle.rb_target.specs.Sheet.{Sheet}
+use Rattle.rb_target.specs.Targets.{Finishes}
+use Rattle.rb_layout.specs.declared.agreed.LaidOut.{LaidOut}
+use Rattle.rb_fragment.specs.declared.reads.Read.{Read}
+use Rattle.rb_fragment.specs.Arms.{AreHoles, AreOfOneWay}
+use Rattle.rb_fragment.specs.Plan.{Plan, Rep, words_of}
+use Rattle.rb_fragment.specs.Adding.{Adds}
+use Rattle.rb_fragment.specs.Pieces.{IsLater, Leaves}
+use Rattle.rb_fragment.specs.WordReads.{AreMeant, AllFit}
+use Rattle.rb_fetch.specs.Finding.{IsPlanOf}
+use Rattle.rb_match.specs.Bounding.{looks_of, places_of}
+
+-- the holes of a way, by another name
+abbrev pub way_holes : ℕ → ℕ → List Hole → List Hole
+way_holes way name [] = []
+way_holes way name (h ∷ hs) = if h.leaf == way then record { pc = h.pc; arm = h.arm; leaf = name } ∷ way_holes way name hs else way_holes way name hs
+
+-- the run comes to the end of the code, after at most so many switches
+pub record GoesOn (next : Next) (n most start end : ℕ) (s : List ℕ) (w : World) : Type 0 where
+  pub slots : List ℕ
+  pub world : World
+  pub runs : next start s w ≡ next end slots world
+  pub keeps : Keeps n s slots
+  pub later : IsLater most w world
+
+-- what the looks of one clause cost at most
+abbrev pub round_of : Plan → Ty → List Pat → ℕ
+round_of plan ty pats = looks_of plan.layouts (places_of plan.program.types ty pats)
+
+-- of each value that is represented, whatever the open targets are
+abbrev pub OnValues : Plan → Ty → List Read → Sheet → Sheet → List Hole → (List Instr → Next → List ℕ → World → Value → Type 0) → Type 0
+OnValues plan ty words old new holes Ends =
+    (final : List Instr) (callee : Callee) (next : Next) → Law final callee next → Finishes final new.code holes (length old.code) (length new.code)
+    → (s : List ℕ) (w : World) (v : Value) (clean : Bool) (ws : List ℕ) → new.slots ≤ length s → IsGood w.memory → AreMeant words s w.memory ws → Rep plan w.memory clean ty v ws → Ends final next s w v
+
+-- where it matches the run leaves by a hole of the clause, else it goes on behind the code
+pub record ClauseTried (plan : Plan) (ty : Ty) (words : List Read) (pats : List Pat) (pat : Pat) (number : ℕ) (old new : Sheet) (holes : List Hole) : Type 0 where
+  pub adds : Adds plan old new
+  pub matched : OnValues plan ty words old new holes (λ final next s w v. matches_of pat v ≡ true → Leaves final next holes old.slots (round_of plan ty pats) (length old.code) s w number (λ s' m. Unit {0}))
+  pub other : OnValues plan ty words old new holes (λ final next s w v. matches_of pat v ≡ false → GoesOn next old.slots (round_of plan ty pats) (length old.code) (length new.code) s w)
+
+pub record IsFineFor (agreed : LaidOut) (plan : Plan) (ty : Ty) (words : List Read) (old : Sheet) : Type 0 where
+  pub of : IsPlanOf agreed plan
+  pub fit : (k : ℕ) → old.slots ≤ k → AllFit k words
+  pub count : length words ≡ words_of plan ty
+
+pub record HolesStand (old new : Sheet) (count : ℕ) (holes : List Hole) : Type 0 where
+  pub grows : Grows old.code new.code
+  pub holes_are : AreHoles (length old.code) count new.code holes
+  pub ways : AreOfOneWay holes
+
+pub record TriesClause (agreed : LaidOut) (ty : Ty) (words : List Read) (pat : Pat) (number : ℕ) (old new : Sheet) (holes : List Hole) : Type 0 where
+  pub stand : HolesStand old new (number + 1) holes
+  pub tries : (plan : Plan) → IsFineFor agreed plan ty words old → (pats : List Pat) (k : ℕ) → slice_get pats k ≡ Some pat → ClauseTried plan ty words pats pat number old new holes
+
+-- the first so many clauses are tried
+pub record AllTried (plan : Plan) (ty : Ty) (words : List Read) (pats : List Pat) (count : ℕ) (old new : Sheet) (holes : List Hole) : Type 0 where
+  pub adds : Adds plan old new
+  pub chosen : OnValues plan ty words old new holes (λ final next s w v. (k : ℕ) → chosen_clause pats v ≡ Some k → k < count
+      → Leaves final next holes old.slots (count * round_of plan ty pats) (length old.code) s w k (λ s' m. Unit {0}))
+  pub later : OnValues plan ty words old new holes (λ final next s w v. (k : ℕ) → chosen_clause pats v ≡ Some k → count ≤ k
+      → GoesOn next old.slots (count * round_of plan ty pats) (length old.code) (length new.code) s w)
+
+pub record TriesAll (agreed : LaidOut) (ty : Ty) (words : List Read) (pats : List Pat) (count : ℕ) (old new : Sheet) (holes : List Hole) : Type 0 where
+  pub stand : HolesStand old new count holes
+  pub tries : (plan : Plan) → IsFineFor agreed plan ty words old → AllTried plan ty words pats count old new holes

@@ -1,0 +1,187 @@
+-- The code of a graph while it is made: the edges that are open, and what a run has done when it leaves by one.
+use Rattle.std.specs.Prelude.{◌≡◌, ℕ, ◌<◌, ◌≤◌, ◌++◌, ◌⊎◌, ◌==◌, List, [], ◌∷◌, map, length, Bool, Some, slice_get, if◌then◌else◌}
+use Rattle.rb_core.specs.declared.value.Value.{Value}
+use Rattle.rb_core.specs.declared.types.Ty.{Ty}
+use Rattle.rb_core.specs.declared.pattern.Pat.{Pat}
+use Rattle.rb_decide.specs.declared.decision_tree.Tree.{Tree}
+use Rattle.rb_decide.specs.declared.decision_graph.GraphNode.{GraphNode}
+use Rattle.rb_decide.specs.declared.decision_graph.GraphNode.TheVariants.{Clause}
+use Rattle.rb_decide.specs.Graphs.{node_trees, tree_under, LinksAreLower}
+use Rattle.rb_decide.specs.Trees.{Way, taken, ways}
+use Rattle.rb_bytes.specs.Memory.{Memory, IsGood}
+use Rattle.rb_target.specs.declared.instr.Instr.{Instr}
+use Rattle.rb_target.specs.declared.body.Hole.{Hole}
+use Rattle.rb_target.specs.Growth.{Grows, Keeps}
+use Rattle.rb_target.specs.Laws.{Law}
+use Rattle.rb_target.specs.Meaning.{World, Next, Callee}
+use Rattle.rb_target.specs.Sheet.{Sheet}
+use Rattle.rb_target.specs.Targets.{target_in, Finishes}
+use Rattle.rb_layout.specs.declared.agreed.LaidOut.{LaidOut}
+use Rattle.rb_fragment.specs.declared.reads.Read.{Read}
+use Rattle.rb_fragment.specs.Plan.{Plan, Rep, words_of}
+use Rattle.rb_fragment.specs.Adding.{Adds}
+use Rattle.rb_fragment.specs.Pieces.{IsLater, Leaves}
+use Rattle.rb_fragment.specs.WordReads.{AreMeant, AllFit}
+use Rattle.rb_fetch.specs.Finding.{IsPlanOf}
+use Rattle.rb_match.specs.declared.knowledge.Known.{Known}
+use Rattle.rb_match.specs.declared.knowledge.Edge.{Edge}
+use Rattle.rb_match.specs.Bounding.{Place, looks_of}
+use Rattle.rb_match.specs.inner.Knowing.{AreKnown, IsEdge}
+use Rattle.rb_match.specs.inner.Places.{IsLookedAt, IsPlaceIn}
+use Rattle.rb_match.specs.inner.Asking.{holes_of, StandOpen}
+
+-- Edges -----------------------------------------------------------------------------------------
+
+-- the holes of a node's edges, as ways to one target
+abbrev pub landing_of : ℕ → List Edge → List Hole
+landing_of node [] = []
+landing_of node (e ∷ es) =
+    if e.hole.leaf == node then record { pc = e.hole.pc; arm = e.hole.arm; leaf = 0 } ∷ landing_of node es else landing_of node es
+
+abbrev pub others_of : ℕ → List Edge → List Edge
+others_of node [] = []
+others_of node (e ∷ es) = if e.hole.leaf == node then others_of node es else e ∷ others_of node es
+
+-- Ways through a graph --------------------------------------------------------------------------
+
+abbrev pub tree_at : List GraphNode → ℕ → Tree
+tree_at nodes n = tree_under (node_trees nodes) n
+
+abbrev pub HasWay : List Way → Way → Type 0
+HasWay ws way = (k : ℕ) × (slice_get ws k ≡ Some way)
+
+abbrev pub path_of : Place → List ℕ
+path_of p = p.path
+
+-- what the looks at some places cost
+abbrev pub looks : Plan → List Place → ℕ
+looks plan path = looks_of plan.layouts path
+
+-- what is asked of the code, and where it begins
+pub record Job : Type 0 where
+  pub plan : Plan
+  pub ty : Ty
+  pub words : List Read
+  pub pats : List Pat
+  pub nodes : List GraphNode
+  pub root : ℕ
+  pub first : Sheet
+
+abbrev pub AllLookedAt : Job → List Place → Type 0
+AllLookedAt job path = (p : Place) → IsPlaceIn p path → IsLookedAt job.plan.program.types job.ty job.pats p.path p.ty
+
+-- a value that came from the root to a node, at which these places were looked at on the way
+pub record IsOn (job : Job) (v : Value) (n : ℕ) (path : List Place) : Type 0 where
+  pub same : (k : ℕ) → taken (tree_at job.nodes job.root) v ≡ Some k → taken (tree_at job.nodes n) v ≡ Some k
+  pub onward : (tail : Way) → HasWay (ways (tree_at job.nodes n)) tail → HasWay (ways (tree_at job.nodes job.root)) (map path_of path ++ tail)
+  pub looked : AllLookedAt job path
+
+-- Runs ------------------------------------------------------------------------------------------
+
+-- the run goes out by an edge, whatever its target
+pub record Arrives (job : Job) (final : List Instr) (next : Next) (edges : List Edge) (s : List ℕ) (w : World) (v : Value) : Type 0 where
+  pub edge : Edge
+  pub is_edge : IsEdge edge edges
+  pub target : ℕ
+  pub is_target : target_in (slice_get final edge.hole.pc) edge.hole.arm ≡ Some target
+  pub slots : List ℕ
+  pub world : World
+  pub runs : next (length job.first.code) s w ≡ next target slots world
+  pub keeps : Keeps job.first.slots s slots
+  pub path : List Place
+  pub later : IsLater (looks job.plan path) w world
+  pub known : AreKnown job.plan v edge.known
+  pub on : IsOn job v edge.hole.leaf path
+
+-- the run comes to an instruction at which the code of a node begins
+pub record Lands (job : Job) (next : Next) (here : ℕ) (known : List Known) (n : ℕ) (s : List ℕ) (w : World) (v : Value) : Type 0 where
+  pub slots : List ℕ
+  pub world : World
+  pub runs : next (length job.first.code) s w ≡ next here slots world
+  pub keeps : Keeps job.first.slots s slots
+  pub path : List Place
+  pub later : IsLater (looks job.plan path) w world
+  pub is_known : AreKnown job.plan v known
+  pub on : IsOn job v n path
+
+-- the words mean a value of which the graph takes a clause
+pub record IsGiven (job : Job) (s : List ℕ) (m : Memory) (v : Value) : Type 0 where
+  pub good : IsGood m
+  pub ws : List ℕ
+  pub meant : AreMeant job.words s m ws
+  pub clean : Bool
+  pub represents : Rep job.plan m clean job.ty v ws
+  pub clause : ℕ
+  pub takes : taken (tree_at job.nodes job.root) v ≡ Some clause
+
+abbrev pub Run : Type 1
+Run = List Instr → Next → List ℕ → World → Value → Type 0
+
+-- whatever the open targets are, runs over given values do this
+abbrev pub Runs : Job → Sheet → List Edge → Run → Type 0
+Runs job new edges Does =
+    (final : List Instr) (callee : Callee) (next : Next) → Law final callee next → Finishes final new.code (holes_of edges) (length job.first.code) (length new.code)
+    → (s : List ℕ) (w : World) (v : Value) → new.slots ≤ length s → IsGiven job s w.memory v → Does final next s w v
+
+pub record Flows (job : Job) (new : Sheet) (edges : List Edge) : Type 0 where
+  pub adds : Adds job.plan job.first new
+  pub arrives : Runs job new edges (λ final next s w v. Arrives job final next edges s w v)
+
+pub record FlowsHere (job : Job) (new : Sheet) (edges : List Edge) (known : List Known) (n : ℕ) : Type 0 where
+  pub adds : Adds job.plan job.first new
+  pub arrives : Runs job new edges (λ final next s w v. Arrives job final next edges s w v ⊎ Lands job next (length new.code) known n s w v)
+
+pub record IsFineJob (agreed : LaidOut) (job : Job) : Type 0 where
+  pub of : IsPlanOf agreed job.plan
+  pub fit : (k : ℕ) → job.first.slots ≤ k → AllFit k job.words
+  pub count : length job.words ≡ words_of job.plan job.ty
+  pub lower : LinksAreLower job.nodes
+
+-- Nodes -----------------------------------------------------------------------------------------
+
+-- the job that is done for a graph from some code on
+abbrev pub job_of : Plan → Ty → List Read → List Pat → List GraphNode → ℕ → Sheet → Job
+job_of plan ty words pats nodes root first = record { plan = plan; ty = ty; words = words; pats = pats; nodes = nodes; root = root; first = first }
+
+-- what stands in any case
+pub record Stands (first new : Sheet) (edges : List Edge) : Type 0 where
+  pub grows : Grows first.code new.code
+  pub stand : StandOpen first new edges
+
+pub record StepsNode (agreed : LaidOut) (ty : Ty) (words : List Read) (pats : List Pat) (node : GraphNode) (n : ℕ) (old : Sheet) (edges : List Edge) (new : Sheet) (more : List Edge) : Type 0 where
+  pub stands : (first : Sheet) → Stands first old edges → Stands first new more
+  pub flows : (plan : Plan) (nodes : List GraphNode) (root : ℕ) (first : Sheet) → let job = job_of plan ty words pats nodes root first in
+      IsFineJob agreed job → slice_get nodes n ≡ Some node → Stands first old edges → Flows job old edges → Flows job new more
+
+pub record Begins (agreed : LaidOut) (ty : Ty) (words : List Read) (pats : List Pat) (nodes : List GraphNode) (root : ℕ) (old new : Sheet) (edges : List Edge) : Type 0 where
+  pub stands : Stands old new edges
+  pub flows : (plan : Plan) → let job = job_of plan ty words pats nodes root old in IsFineJob agreed job → Flows job new edges
+
+-- Clauses ---------------------------------------------------------------------------------------
+
+pub record IsClauseHole (nodes : List GraphNode) (count : ℕ) (old new : Hole) : Type 0 where
+  pub pc : new.pc ≡ old.pc
+  pub arm : new.arm ≡ old.arm
+  pub few : new.leaf < count
+  pub node : slice_get nodes old.leaf ≡ Some (Clause new.leaf)
+
+-- the holes are the edges, each with its clause
+pub record AreClauseHoles (nodes : List GraphNode) (count : ℕ) (edges : List Edge) (holes : List Hole) : Type 0 where
+  pub long : length holes ≡ length edges
+  pub each : (k : ℕ) (e : Edge) (h : Hole) → slice_get edges k ≡ Some e → slice_get holes k ≡ Some h → IsClauseHole nodes count e.hole h
+
+-- the run leaves by a hole of the clause, after looks at places on one way through the graph
+pub record LeavesOn (job : Job) (final : List Instr) (next : Next) (holes : List Hole) (s : List ℕ) (w : World) (k : ℕ) : Type 0 where
+  pub path : List Place
+  pub is_way : HasWay (ways (tree_at job.nodes job.root)) (map path_of path)
+  pub looked : AllLookedAt job path
+  pub leaves : Leaves final next holes job.first.slots (looks job.plan path) (length job.first.code) s w k (λ s' m. Unit {0})
+
+pub record Takes (job : Job) (new : Sheet) (holes : List Hole) : Type 0 where
+  pub adds : Adds job.plan job.first new
+  pub leaves : (final : List Instr) (callee : Callee) (next : Next) → Law final callee next → Finishes final new.code holes (length job.first.code) (length new.code)
+      → (s : List ℕ) (w : World) (v : Value) → new.slots ≤ length s → (g : IsGiven job s w.memory v) → LeavesOn job final next holes s w g.clause
+
+abbrev pub TakesGraph : LaidOut → Ty → List Read → List Pat → List GraphNode → ℕ → Sheet → Sheet → List Hole → Type 0
+TakesGraph agreed ty words pats nodes root old new holes =
+    (plan : Plan) → let job = job_of plan ty words pats nodes root old in IsFineJob agreed job → Takes job new holes

@@ -1,0 +1,48 @@
+-- Where the words of a part of a value are, and which places are looked at.
+use Rattle.std.specs.Prelude.{◌≡◌, ℕ, ◌++◌, ◌∷◌, [], List, Bool, Some, length, slice_get}
+use Rattle.std.specs.List.{flat_map}
+use Rattle.rb_core.specs.declared.value.Value.{Value}
+use Rattle.rb_core.specs.declared.types.Ty.{Ty}
+use Rattle.rb_core.specs.declared.types.DataDecl.{DataDecl}
+use Rattle.rb_core.specs.declared.pattern.Pat.{Pat}
+use Rattle.rb_bytes.specs.Memory.{Memory, IsGood}
+use Rattle.rb_layout.specs.declared.agreed.LaidOut.{LaidOut}
+use Rattle.rb_fragment.specs.declared.reads.Read.{Read}
+use Rattle.rb_fragment.specs.Plan.{Plan, Rep, words_of}
+use Rattle.rb_fragment.specs.WordReads.{AreMeant, AllFit}
+use Rattle.rb_fetch.specs.Fields.{FieldAt, IsPartMeant}
+use Rattle.rb_fetch.specs.Finding.{IsPlanOf}
+use Rattle.rb_match.specs.declared.knowledge.Known.{Known}
+use Rattle.rb_match.specs.declared.place.Place.{Place}
+use Rattle.rb_match.specs.Bounding.{places_in}
+use Rattle.rb_match.specs.Bounding as bounding
+use Rattle.rb_match.specs.inner.Knowing.{AreKnown}
+
+abbrev pub IsFieldOf : LaidOut → ℕ → ℕ → List ℕ → Ty → Type 0
+IsFieldOf agreed t leaf path ty = (plan : Plan) → IsPlanOf agreed plan → FieldAt plan t leaf path ty
+
+-- Over reads of a value's words: where these are known of the value, the place is where its part at the position is.
+pub record ReadsPlace (plan : Plan) (ty : Ty) (words : List Read) (known : List Known) (position : List ℕ) (place : Place) : Type 0 where
+  pub count : length place.reads ≡ words_of plan place.ty
+  pub fit : (k : ℕ) → AllFit k words → AllFit k place.reads
+  pub means : (clean : Bool) (v : Value) (ws s : List ℕ) (m : Memory) → IsGood m → AreMeant words s m ws → Rep plan m clean ty v ws → AreKnown plan v known
+      → IsPartMeant plan clean place.ty v position place.reads s m
+
+abbrev pub FindsPlace : LaidOut → Ty → List Read → List Known → List ℕ → Place → Type 0
+FindsPlace agreed ty words known position place =
+    (plan : Plan) → IsPlanOf agreed plan → length words ≡ words_of plan ty → ReadsPlace plan ty words known position place
+
+-- one field further
+abbrev pub StepsPlace : LaidOut → Place → List Known → List ℕ → ℕ → Place → Type 0
+StepsPlace agreed place known prefix field next =
+    (ty : Ty) (words : List Read) → FindsPlace agreed ty words known prefix place → FindsPlace agreed ty words known (prefix ++ field ∷ []) next
+
+-- the place is one of those
+abbrev pub IsPlaceIn : bounding.Place → List bounding.Place → Type 0
+IsPlaceIn p ps = (k : ℕ) × (slice_get ps k ≡ Some p)
+
+abbrev pub HasPlace : List DataDecl → Ty → Pat → List ℕ → Ty → Type 0
+HasPlace types t pat position at = IsPlaceIn (record { path = position; ty = at }) (places_in types pat t)
+
+abbrev pub IsLookedAt : List DataDecl → Ty → List Pat → List ℕ → Ty → Type 0
+IsLookedAt types t pats position at = IsPlaceIn (record { path = position; ty = at }) (flat_map (λ pat. places_in types pat t) pats)

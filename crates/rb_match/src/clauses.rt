@@ -1,0 +1,122 @@
+//! Clause by clause: code of a match whose decision tree is too large to be made.
+
+ghost use Rattle.std.specs.Prelude.{◌≡◌, ◌∷◌, ◌<◌, [], IfOk, OnOk, length};
+ghost use Rattle.rb_core.specs.declared.pattern.Pat.{Wild};
+ghost use Rattle.rb_target.specs.Growth.{Grows};
+ghost use Rattle.rb_fragment.specs.Arms.{AreHoles, AreOfOneWay};
+ghost use Rattle.rb_decide.specs.Trees.{match_tree};
+ghost use Rattle.rb_match.specs.inner.Trees.{TakesTree};
+ghost use Rattle.rb_match.specs.inner.Clauses.{way_holes, TriesClause, TriesAll};
+
+use crate::choosing::emit_tree;
+use rb_core::pattern::Pat;
+use rb_core::seq::Seq;
+use rb_core::types::Ty;
+use rb_decide::decide::tree_up_to;
+use rb_decide::decision_tree::Tried;
+use rb_fragment::patch::patch_all;
+use rb_fragment::reads::Read;
+use rb_layout::agreed::Agreed;
+use rb_target::body::{Body, Hole};
+use std::alloc::{AllocError, Global};
+
+// A clause's pattern, and one for all other values.
+fn alone(alloc: Global, pat: &Pat) -> Result<Seq<Pat>, AllocError>
+    ensures { IfOk result (λ pats. pats ≡ pat.now ∷ Wild 0 ∷ []) }
+{
+    let mut pats = Seq::new(alloc);
+    pats.push(pat.copy(alloc)?)?;
+    pats.push(Pat::Wild(0))?;
+    Ok(pats)
+}
+
+// Code of one clause alone, which has as many tests as its pattern has numbers and constructors.
+fn emit_alone(
+    alloc: Global,
+    body: &mut Body,
+    agreed: &Agreed,
+    ty: Ty,
+    words: &[Read],
+    pat: &Pat,
+) -> Result<Seq<Hole>, AllocError>
+    ensures holes { IfOk result (λ holes. AreHoles (length body.old.code) 2 body.new.code holes) }
+    ensures ways { IfOk result (λ holes. AreOfOneWay holes) }
+    ensures takes { IfOk result (λ holes. TakesTree agreed.now ty words.now (pat.now ∷ Wild 0 ∷ []) (match_tree agreed.now.covered.program.types ty (pat.now ∷ Wild 0 ∷ [])) body.old body.new holes) }
+    ensures grows { OnOk result (Grows body.old.code body.new.code) }
+{
+    let types = agreed.covered().program().types.as_slice();
+    let pats = alone(alloc, pat)?;
+    match tree_up_to(alloc, types, ty, pats.as_slice(), usize::MAX)? {
+        Tried::Built(tree) => {
+            let holes = emit_tree(alloc, body, agreed, ty, words, pats.as_slice(), &tree)?;
+            Ok(holes)
+        }
+        Tried::Over => Err(AllocError),
+    }
+}
+
+// The holes of a way, by another name.
+fn holes_of(alloc: Global, holes: &[Hole], way: usize, name: usize) -> Result<Seq<Hole>, AllocError>
+    ensures { IfOk result (λ found. found ≡ way_holes way name holes.now) }
+{
+    let mut found = Seq::new(alloc);
+    for hole in holes {
+        if hole.leaf == way {
+            found.push(Hole {
+                pc: hole.pc,
+                arm: hole.arm,
+                leaf: name,
+            })?;
+        }
+    }
+    Ok(found)
+}
+
+// Code of one clause: values that it doesn't match go on behind it.
+fn emit_clause(
+    alloc: Global,
+    body: &mut Body,
+    agreed: &Agreed,
+    ty: Ty,
+    words: &[Read],
+    pat: &Pat,
+    number: usize,
+) -> Result<Seq<Hole>, AllocError>
+    ensures tries { IfOk result (λ holes. TriesClause agreed.now ty words.now pat.now number body.old body.new holes) }
+{
+    let _typed = agreed.covered().program();
+    let _flat = agreed.layouts();
+    let found = emit_alone(alloc, body, agreed, ty, words, pat)?;
+    let matched = holes_of(alloc, found.as_slice(), 0, number)?;
+    let others = holes_of(alloc, found.as_slice(), 1, 0)?;
+    let mut here = Seq::new(alloc);
+    here.push(body.len())?;
+    patch_all(body, others.as_slice(), here.as_slice());
+    Ok(matched)
+}
+
+/// Code that tries one clause behind the other. What the last one doesn't match is no value of an
+/// exhaustive match.
+///
+/// # Errors
+/// `AllocError` where memory is wanting.
+pub fn emit_clauses(
+    alloc: Global,
+    body: &mut Body,
+    agreed: &Agreed,
+    ty: Ty,
+    words: &[Read],
+    pats: &[Pat],
+) -> Result<Seq<Hole>, AllocError>
+    ensures tries { IfOk result (λ holes. TriesAll agreed.now ty words.now pats.now (length pats.now) body.old body.new holes) }
+{
+    let mut holes = Seq::new(alloc);
+    for (i, pat) in pats.iter().enumerate() {
+        let matched = emit_clause(alloc, body, agreed, ty, words, pat, i)?;
+        match holes.append(matched) {
+            None => {}
+            Some(_) => return Err(AllocError),
+        }
+    }
+    Ok(holes)
+}

@@ -1,0 +1,222 @@
+//! Code of a shared graph: each node once, from the root down.
+
+ghost use Rattle.std.specs.Prelude.{◌≡◌, ◌∷◌, [], IfOk, OnOk, length};
+ghost use Rattle.rb_target.specs.Growth.{Grows};
+ghost use Rattle.rb_fragment.specs.Arms.{AreHoles, AreOfOneWay, closed};
+ghost use Rattle.rb_match.specs.inner.Asking.{AreOpen};
+ghost use Rattle.rb_match.specs.inner.Flowing.{landing_of, others_of, StepsNode, Begins, IsClauseHole, AreClauseHoles, TakesGraph};
+
+use crate::asking::{ask, edge};
+use crate::knowledge::{Edge, copy_known, node_known};
+use rb_core::pattern::Pat;
+use rb_core::seq::Seq;
+use rb_core::types::Ty;
+use rb_decide::decision_graph::GraphNode;
+use rb_fragment::patch::patch_all;
+use rb_fragment::reads::Read;
+use rb_layout::agreed::Agreed;
+use rb_target::body::{Body, Hole};
+use rb_target::instr::Instr;
+use std::alloc::{AllocError, Global};
+
+// The holes that lead to a node, as ways to the one target.
+fn landing(alloc: Global, edges: &[Edge], node: usize) -> Result<Seq<Hole>, AllocError>
+    ensures { IfOk result (λ holes. holes ≡ landing_of node edges.now) }
+{
+    let mut holes = Seq::new(alloc);
+    for edge in edges {
+        if edge.hole.leaf == node {
+            holes.push(Hole {
+                pc: edge.hole.pc,
+                arm: edge.hole.arm,
+                leaf: 0,
+            })?;
+        }
+    }
+    Ok(holes)
+}
+
+fn copy_edge(alloc: Global, edge: &Edge) -> Result<Edge, AllocError>
+    ensures { IfOk result (λ e. e ≡ edge.now) }
+{
+    let known = copy_known(alloc, edge.known.as_slice())?;
+    Ok(Edge {
+        hole: edge.hole,
+        known,
+    })
+}
+
+// The edges that lead elsewhere.
+fn others(alloc: Global, edges: &[Edge], node: usize) -> Result<Seq<Edge>, AllocError>
+    ensures { IfOk result (λ rest. rest ≡ others_of node edges.now) }
+{
+    let mut rest = Seq::new(alloc);
+    for edge in edges {
+        if edge.hole.leaf != node {
+            rest.push(copy_edge(alloc, edge)?)?;
+        }
+    }
+    Ok(rest)
+}
+
+// Sets the targets of a node's edges to the end of the code.
+fn land(
+    alloc: Global,
+    body: &mut Body,
+    edges: &[Edge],
+    node: usize,
+) -> Result<Seq<Edge>, AllocError>
+    requires { AreOpen 0 body.old.code edges.now }
+    ensures code { OnOk result (body.new ≡ closed body.old (landing_of node edges.now) (length body.old.code ∷ [])) }
+    ensures rest { IfOk result (λ rest. rest ≡ others_of node edges.now) }
+{
+    let mut targets = Seq::new(alloc);
+    targets.push(body.len())?;
+    let holes = landing(alloc, edges, node)?;
+    let rest = others(alloc, edges, node)?;
+    patch_all(body, holes.as_slice(), targets.as_slice());
+    Ok(rest)
+}
+
+// The code of a node to which edges lead. A clause has none, and keeps its edges.
+fn emit_node(
+    alloc: Global,
+    body: &mut Body,
+    agreed: &Agreed,
+    ty: Ty,
+    words: &[Read],
+    pats: &[Pat],
+    node: &GraphNode,
+    number: usize,
+    edges: Seq<Edge>,
+) -> Result<Seq<Edge>, AllocError>
+    requires { AreOpen 0 body.old.code edges }
+    ensures { IfOk result (λ more. StepsNode agreed.now ty words.now pats.now node.now number body.old edges body.new more) }
+{
+    match node {
+        GraphNode::Clause(_) => Ok(edges),
+        GraphNode::Test(position, arms, other) => {
+            let Some(known) = node_known(alloc, edges.as_slice(), number)? else {
+                return Ok(edges);
+            };
+            let known = known.as_slice();
+            let arms = arms.as_slice();
+            let mut rest = land(alloc, body, edges.as_slice(), number)?;
+            let asked = ask(
+                alloc, body, agreed, ty, words, pats, known, position, arms, *other,
+            )?;
+            match rest.append(asked) {
+                None => Ok(rest),
+                Some(_) => Err(AllocError),
+            }
+        }
+    }
+}
+
+// The edge to the root: a root that tests needs none, since its code comes first.
+fn begin(
+    alloc: Global,
+    body: &mut Body,
+    agreed: &Agreed,
+    ty: Ty,
+    words: &[Read],
+    pats: &[Pat],
+    nodes: &[GraphNode],
+    root: u32,
+) -> Result<Seq<Edge>, AllocError>
+    ensures { IfOk result (λ edges. Begins agreed.now ty words.now pats.now nodes.now root body.old body.new edges) }
+{
+    let Some(node) = nodes.get(root as usize) else {
+        return Err(AllocError);
+    };
+    match node {
+        GraphNode::Test(position, arms, other) => {
+            let arms = arms.as_slice();
+            let edges = ask(
+                alloc,
+                body,
+                agreed,
+                ty,
+                words,
+                pats,
+                &[],
+                position,
+                arms,
+                *other,
+            )?;
+            Ok(edges)
+        }
+        GraphNode::Clause(_) => {
+            let pc = body.len();
+            body.push(Instr::Jump(pc + 1))?;
+            let mut edges = Seq::new(alloc);
+            edges.push(edge(alloc, pc, None, root, &[])?)?;
+            Ok(edges)
+        }
+    }
+}
+
+// The hole of an edge to a clause. No edge leads elsewhere when all nodes have their code.
+fn clause_hole(nodes: &[GraphNode], hole: &Hole, count: usize) -> Result<Hole, AllocError>
+    ensures { IfOk result (λ h. IsClauseHole nodes.now count hole.now h) }
+{
+    match nodes.get(hole.leaf) {
+        None | Some(GraphNode::Test(_, _, _)) => Err(AllocError),
+        Some(GraphNode::Clause(clause)) => {
+            let clause = *clause as usize;
+            if clause >= count {
+                return Err(AllocError);
+            }
+            Ok(Hole {
+                pc: hole.pc,
+                arm: hole.arm,
+                leaf: clause,
+            })
+        }
+    }
+}
+
+fn clause_holes(
+    alloc: Global,
+    nodes: &[GraphNode],
+    edges: &[Edge],
+    count: usize,
+) -> Result<Seq<Hole>, AllocError>
+    ensures { IfOk result (λ holes. AreClauseHoles nodes.now count edges.now holes) }
+{
+    let mut holes = Seq::new(alloc);
+    for edge in edges {
+        holes.push(clause_hole(nodes, &edge.hole, count)?)?;
+    }
+    Ok(holes)
+}
+
+/// Code that leaves by a hole of the clause that a graph takes of the value whose words the reads are.
+///
+/// # Errors
+/// `AllocError` where memory is wanting.
+pub fn emit_graph(
+    alloc: Global,
+    body: &mut Body,
+    agreed: &Agreed,
+    ty: Ty,
+    words: &[Read],
+    pats: &[Pat],
+    nodes: &[GraphNode],
+    root: u32,
+) -> Result<Seq<Hole>, AllocError>
+    ensures holes { IfOk result (λ holes. AreHoles (length body.old.code) (length pats.now) body.new.code holes) }
+    ensures ways { IfOk result (λ holes. AreOfOneWay holes) }
+    ensures takes { IfOk result (λ holes. TakesGraph agreed.now ty words.now pats.now nodes.now root body.old body.new holes) }
+    ensures grows { OnOk result (Grows body.old.code body.new.code) }
+{
+    let mut edges = begin(alloc, body, agreed, ty, words, pats, nodes, root)?;
+    let count = nodes.len();
+    for i in 0..count {
+        let number = count - 1 - i;
+        let node = &nodes[number];
+        edges = emit_node(alloc, body, agreed, ty, words, pats, node, number, edges)?;
+    }
+    let holes = clause_holes(alloc, nodes, edges.as_slice(), pats.len())?;
+    Ok(holes)
+}
