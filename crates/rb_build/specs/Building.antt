@@ -20,5 +20,6 @@ use Rattle.rb_fetch.specs.Plain.{ArePlain}
 abbrev pub Builds : LaidOut → ConRef → List Held → Sheet → Sheet → Held → Type 0
 Builds agreed con hs old new held =
     (plan : Plan) → IsPlanOf agreed plan → ArePlain plan.layouts
-    → (fields : List Ty) → fields_of plan.program.types con ≡ Some fields → map held_type hs ≡ fields → AllGiven plan old.slots hs
+    → (fields : List Ty) → fields_of plan.program.types con ≡ Some fields → map held_type hs ≡ fields
+    → AllGiven plan old.slots hs
     → (held.ty ≡ Named con.ty) × Applies plan (λ calls. built con) hs old new (Named con.ty) held.slots

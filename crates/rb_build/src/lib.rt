@@ -1,4 +1,45 @@
-//! Code that constructs values.
+//! Code that constructs a value: the words of its leaf composed of its fields' words, and its blocks placed
+//! and filled.
+//!
+//! A layout says where each bit of a value stands. Take a list whose tag is the lowest bit of a pointer:
+//!
+//! ```text
+//! split 0[0:1] {
+//!     1 => Nil        : { word 64 { [0:1] = 1 } }
+//!     0 => Cons(_, _) : { word 64 { [0:1] = 0, [3:61] -> 8 { word 64 { [0:64] .0 }, inline .1 } } }
+//! }
+//! ```
+//!
+//! [`build::emit_build`] of `Cons`, where slot 0 holds the number and slot 1 the list, appends
+//!
+//! ```text
+//! place 2 16 8         a block of 16 bytes at a multiple of 8; its address in slot 2
+//! store 2 0 64 0       the number, at byte 0
+//! store 2 8 64 1       the list, at byte 8
+//! const 3 0            the word of the value: its constants, which is the tag alone
+//! take 4 2 3 61        the address without its three low bits, which are 0
+//! put 3 4 3 61         in its place
+//! ```
+//!
+//! and of `Nil` only `const 2 1`. In general:
+//!
+//! - **Which leaf.** Here layouts are plain: no provenance has a constructor below its root. So the leaf of a
+//!   construction is the first with its constructor at the root, and no switch is needed to choose it.
+//! - **A word** begins as its constants, and the other parts are put over them: slices of numbers, words of
+//!   data fields, and addresses by their alignment (`word.rt`). Bits that stand at bit 0 of a slot need no
+//!   `take`. A word that is a field's word whole is no code at all where it is stored, and a `copy` among the
+//!   value's own words, which have new slots. All bits outside parts are 0: the value is as clean as its fields.
+//! - **Blocks** are placed by number, inner ones before the outer ones that point to them, so that each address
+//!   is known when it is put into a word. Every word of a block is stored, also one without parts, so that each
+//!   byte is written (`block.rt`).
+//!
+//! What the code does is said against the source: it places exactly the blocks of the construction's one event,
+//! in their order and with their sizes, or asks in vain for the first that does not fit. The proof has two halves.
+//! The machine's side composes numbers, instruction by instruction, whatever they are. Where all blocks fit, each
+//! of these numbers is the one that `rb_rel` packs of the same parts, and its lemma on one layer of a value says
+//! that these words in this memory represent the value.
 #![tactic(auto)]
 
+mod block;
 pub mod build;
+mod word;

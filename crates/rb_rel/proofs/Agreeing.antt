@@ -76,14 +76,17 @@ module _ (p : Program) (agrees : Agrees p) where
         let c = faultless p.types d.ty w.provenance b in
         ap (λ s. fits_type p.types w.provenance (Named s)) (sym at.1) ∙ typed_fits p.types w.provenance (Named d.ty) c.0 (numbered t d k n w at).1 c.1
 
-    prov_fits : (t : ℕ) (layout : Layout) (n : ℕ) (leaf : Leaf) → FromWritten t layout n leaf → (root_type (out-Pat leaf.prov) ≡ Named t) × (fits_type p.types leaf.prov (Named t) ≡ true)
+    prov_fits : (t : ℕ) (layout : Layout) (n : ℕ) (leaf : Leaf) → FromWritten t layout n leaf
+        → (root_type (out-Pat leaf.prov) ≡ Named t) × (fits_type p.types leaf.prov (Named t) ≡ true) × (is_provenance leaf.prov ≡ true)
     prov_fits t layout n leaf w =
         let d = decl_at p.layouts t w.decl.decl w.decl.is_declared in
         let at : is_written_provenance t w.decl.decl d.0 n w.written = (d.1, d.2, w.is_written) in
         let f = fits t w.decl.decl d.0 n w.written at in
-        let r = rooted p.types w.written.provenance t (numbered t w.decl.decl d.0 n w.written at).0 f in (
+        let s = (numbered t w.decl.decl d.0 n w.written at).0 in
+        let r = rooted p.types w.written.provenance t s f in (
           ap (λ (l : Leaf). root_type (out-Pat l.prov)) w.is_leaf ∙ r,
           ap (λ (l : Leaf). fits_type p.types l.prov (Named t)) w.is_leaf ∙ f,
+          ap (λ (l : Leaf). is_provenance l.prov) w.is_leaf ∙ s,
         )
 
     pub lawful : Lawful p.types (flat_layouts p)
@@ -100,5 +103,6 @@ module _ (p : Program) (agrees : Agrees p) where
       provenances = record {
         root = λ t layout n leaf is at. (prov_fits t layout n leaf (from_written t layout n leaf is at)).0;
         fits = λ t layout n leaf is at. (prov_fits t layout n leaf (from_written t layout n leaf is at)).1;
+        shaped = λ t layout n leaf is at. (prov_fits t layout n leaf (from_written t layout n leaf is at)).2;
       };
     }

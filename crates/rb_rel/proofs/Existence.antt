@@ -413,9 +413,9 @@ module _ (p : Program) (typed : IsTyped p) (agrees : Agrees p) where
       (root_opens types leaf.prov t v root fits f.4 i o (ap (λ (ty : Ty). slice_get (opens_of types leaf.prov ty) i) (sym root) ∙ at)) in
       let wide : (r : WordRef) (x align b : ℕ) → PointsTo leaf r x align b → IsAlignment align × ((j : ℕ) → align ≡ 2 ^ j → 24 ≤ x + j) = λ r x align b q. (a4.alignments r x align b q, a4.wide r x align b q) in
       let reps : (i : ℕ) (o : Open) → slice_get (open_positions types leaf.prov) i ≡ Some o → (u : Value) × Shown m1 o.ty u (ss o.path) = λ i o at. let q = opens i o at in (q.0, q.2) in
-      let st = stored p agrees t layout n leaf ok m1 g1.good ss reps wide h.2 next e1 in
-      let ws = root_words p agrees t layout n leaf ok m1 g1.good ss reps wide h.2 next e1 in
-      let here = layer_shown p agrees t layout n leaf ok m1 g1.good ss reps wide h.2 next e1 v l.1 is_leaf f.3 (λ path. unwrap_or (part_at v path) v)
+      let st = stored p agrees true t layout n leaf ok m1 g1.good ss reps wide h.2 next e1 in
+      let ws = root_words p agrees true t layout n leaf ok m1 g1.good ss reps wide h.2 next e1 in
+      let here = layer_shown p agrees true t layout n leaf ok m1 g1.good ss reps wide h.2 next e1 v l.1 is_leaf f.3 (λ path. unwrap_or (part_at v path) v)
       (λ i o at. let q = opens i o at in let x = ap (λ y. unwrap_or y v) q.1 in (q.1 ∙ ap Some (sym x), subst (λ u. Shown m1 o.ty u (ss o.path)) (sym x) q.2)) in
       record {
         memory = st.memory;

@@ -20,7 +20,7 @@ use Rattle.rb_layout.specs.declared.layout.Kind.TheVariants.{Const, Bits, Word, 
 use Rattle.rb_layout.specs.Positions.{Open}
 use Rattle.rb_layout.specs.Items.{Content, Number, Whole, Slice, WordOf, Address, WrittenPart, Item, AWord, AField, Around, items_inside, item_list}
 use Rattle.rb_layout.specs.Items as J
-use Rattle.rb_layout.specs.A3.{Fits, FitsWhole, FitsWord, IsPlaced, PartsFit, ItemFits}
+use Rattle.rb_layout.specs.A3.{Fits, FitsWhole, FitsSlice, FitsWord, IsPlaced, PartsFit, ItemFits}
 use Rattle.rb_layout.specs.Flattening.{type_at, IsOpenIn, Laid, Laying, without_blocks, in_turn, whole_kind, kind_if_open, kind_step, part_step, word_of, words_of, inlined, shape_of, item_step, item_laid, kind_laid, part_laid, parts_of, items_laid}
 use Rattle.rb_layout.specs.Flattening as P
 use Rattle.rb_layout.proofs.FlatForms.{Each}
@@ -32,7 +32,7 @@ module _ (decls : List LayoutDecl) (opens : List Open) where
   -- what is held has a place of so many bits
   abbrev pub KindFits : ℕ → Kind → Type 0
   KindFits l (Const c) = c < 2 ^ l
-  KindFits l (Bits path a) = Unit {0}
+  KindFits l (Bits path a) = (bits : ℕ) × (type_at opens path ≡ Some (Int bits)) × (a + l ≤ bits)
   KindFits l (Word path j) = (s : ℕ) × (type_at opens path ≡ Some (Named s)) × (slice_get (shape_of decls s) j ≡ Some l)
   KindFits l (Pointer align b) = Unit {0}
 
@@ -250,7 +250,7 @@ module _ (decls : List LayoutDecl) (opens : List Open) where
 
     inlined_fit : (path : List ℕ) (o : Option Ty) → type_at opens path ≡ o → AllFit (inlined decls o path)
     inlined_fit path None is = no_words
-    inlined_fit path (Some (Int bits)) is = only_word (word_of bits (Bits path 0)) (one_fits bits (Bits path 0) (ints path bits is) tt)
+    inlined_fit path (Some (Int bits)) is = only_word (word_of bits (Bits path 0)) (one_fits bits (Bits path 0) (ints path bits is) (bits, is, omega arith))
     inlined_fit path (Some (Named s)) is = words_fit path s is 0 (shape_of decls s) (λ i w e. let z : 0 + i ≡ i = omega arith in ap (slice_get (shape_of decls s)) z ∙ e)
 
     -- Kinds -------------------------------------------------------------------------------------
@@ -264,12 +264,13 @@ module _ (decls : List LayoutDecl) (opens : List Open) where
 
     whole_fits : (l : ℕ) (path : List ℕ) (o : Option Ty) → type_at opens path ≡ o → FitsWhole decls o l → (x : Kind) → whole_kind o path ≡ Some x → KindFits l x
     whole_fits l path None is f x e = absurd cc
-    whole_fits l path (Some (Int bits)) is f x e = subst (KindFits l) (same_Some (Bits path 0) x e) tt
+    whole_fits l path (Some (Int bits)) is f x e = subst (KindFits l) (same_Some (Bits path 0) x e) (bits, is, omega (arith, f))
     whole_fits l path (Some (Named s)) is f x e = subst (KindFits l) (same_Some (Word path 0) x e) (s, is, ap (λ ws. slice_get ws 0) f)
 
-    slice_fits : (l a : ℕ) (path : List ℕ) (o : Option Ty) → (x : Kind) → kind_if_open o (Bits path a) ≡ Some x → KindFits l x
-    slice_fits l a path None x e = absurd cc
-    slice_fits l a path (Some ty) x e = subst (KindFits l) (same_Some (Bits path a) x e) tt
+    slice_fits : (l a k : ℕ) (path : List ℕ) (o : Option Ty) → type_at opens path ≡ o → FitsSlice o l a k → (x : Kind) → kind_if_open o (Bits path a) ≡ Some x → KindFits l x
+    slice_fits l a k path None is f x e = absurd cc
+    slice_fits l a k path (Some (Int bits)) is f x e = subst (KindFits l) (same_Some (Bits path a) x e) (bits, is, omega (arith, f.0, f.1))
+    slice_fits l a k path (Some (Named s)) is f x e = absurd f
 
     word_of_fits : (l j : ℕ) (path : List ℕ) (o : Option Ty) → type_at opens path ≡ o → FitsWord decls o l j → (x : Kind) → kind_if_open o (Word path j) ≡ Some x → KindFits l x
     word_of_fits l j path None is f x e = absurd cc
@@ -316,7 +317,7 @@ module _ (decls : List LayoutDecl) (opens : List Open) where
           (λ n x e. whole_placed path (type_at opens path) refl x e) (λ l f n x e. whole_fits l path (type_at opens path) refl f x e) (λ d n. no_blocks);
       slice = λ path a b. well_kind (K.Slice path a b) (λ n. without_blocks (kind_if_open (type_at opens path) (Bits path a))) (J.plain (Slice path a b)) (D.fold-Slice F G H (item_step decls opens) (kind_step opens) part_step path a b)
           (D.fold-Slice (List Item) (Around Content) (Around WrittenPart) J.item_step J.kind_step J.part_step path a b)
-          (λ n x e. if_open_placed path (Bits path a) (type_at opens path) refl x e) (λ l f n x e. slice_fits l a path (type_at opens path) x e) (λ d n. no_blocks);
+          (λ n x e. if_open_placed path (Bits path a) (type_at opens path) refl x e) (λ l f n x e. slice_fits l a b path (type_at opens path) refl f x e) (λ d n. no_blocks);
       word_of = λ path j. well_kind (K.Word path j) (λ n. without_blocks (kind_if_open (type_at opens path) (Word path j))) (J.plain (WordOf path j)) (D.fold-WordOf F G H (item_step decls opens) (kind_step opens) part_step path j)
           (D.fold-WordOf (List Item) (Around Content) (Around WrittenPart) J.item_step J.kind_step J.part_step path j)
           (λ n x e. if_open_placed path (Word path j) (type_at opens path) refl x e) (λ l f n x e. word_of_fits l j path (type_at opens path) refl f x e) (λ d n. no_blocks);

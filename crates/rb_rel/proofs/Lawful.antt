@@ -8,6 +8,7 @@ use Rattle.rb_core.specs.declared.pattern.Pat.TheOpen.{Pat-F}
 use Rattle.rb_core.specs.declared.pattern.Pat.TheFolds.{fold-Pat}
 use Rattle.rb_core.specs.Values.{are_of, fields_of}
 use Rattle.rb_core.specs.Typing.{holds}
+use Rattle.rb_core.specs.WellNumbered.{is_provenance}
 use Rattle.rb_core.specs.declared.types.DataDecl.{DataDecl}
 use Rattle.rb_layout.specs.declared.layout.Leaf.{Leaf}
 use Rattle.rb_layout.specs.declared.layout.FlatWord.{FlatWord}
@@ -47,10 +48,11 @@ fits_step types (P.Con at c ps) ty = is_named c.ty ty && are_of ps (fields_of ty
 abbrev pub fits_type : List DataDecl → Pat → Ty → Bool
 fits_type types = fold-Pat (Ty → Bool) (fits_step types)
 
--- the provenances are patterns of their types, with constructors at their roots
+-- the provenances are patterns of their types, with constructors at their roots and wildcards or constructors below
 pub record ProvenancesFit (types : List DataDecl) (layouts : List Layout) : Type 0 where
   pub root : EachLeaf layouts (λ t layout n leaf. root_type (out-Pat leaf.prov) ≡ Named t)
   pub fits : EachLeaf layouts (λ t layout n leaf. fits_type types leaf.prov (Named t) ≡ true)
+  pub shaped : EachLeaf layouts (λ t layout n leaf. is_provenance leaf.prov ≡ true)
 
 -- Holding -------------------------------------------------------------------------------------
 

@@ -1,5 +1,5 @@
--- A value whose subvalues at the open positions of its leaf are represented cleanly has a clean
--- representation, in a memory with its own blocks more.
+-- A value whose subvalues at the open positions of its leaf are represented is represented, in a memory with
+-- its own blocks more; and cleanly, where they are.
 use Rattle.std.proofs.Common.{◌≡◌, ℕ, zero, suc, ◌+◌, ◌-◌, ◌*◌, ◌/◌, ◌^◌, ◌<◌, ◌≤◌, inl, inr, length, map, List, [], ◌∷◌, Bool, true, false, Option, Some, None, Ok, refl, sym, subst, ap, ◌∙◌, arith}
 use Rattle.std.specs.Prelude.{slice_get, slice_index, if◌then◌else◌}
 use Rattle.std.proofs.lemmas.Option.{same_Some, get_or_from_slice_get}
@@ -54,16 +54,16 @@ address_at [] b = 0
 address_at (x ∷ xs) zero = x.0
 address_at (x ∷ xs) (suc b) = address_at xs b
 
-address_is : (bs : List (ℕ × ℕ)) (b : ℕ) (at : ℕ × ℕ) → slice_get bs b ≡ Some at → address_at bs b ≡ at.0
+pub address_is : (bs : List (ℕ × ℕ)) (b : ℕ) (at : ℕ × ℕ) → slice_get bs b ≡ Some at → address_at bs b ≡ at.0
 address_is [] b at e = absurd cc
 address_is (x ∷ xs) zero at e = ap (λ (y : ℕ × ℕ). y.0) (same_Some x at e)
 address_is (x ∷ xs) (suc b) at e = address_is xs b at e
 
 -- a block that is laid begins at a multiple of its alignment, and ends within the limit
-record LaidAt (limit : ℕ) (r : Request) (a : ℕ) : Type 0 where
-  times : ℕ
-  multiple : a ≡ times * r.align
-  within : a + r.size ≤ limit
+pub record LaidAt (limit : ℕ) (r : Request) (a : ℕ) : Type 0 where
+  pub times : ℕ
+  pub multiple : a ≡ times * r.align
+  pub within : a + r.size ≤ limit
 
 laid_at : (limit next : ℕ) (rs : List Request) (bs : List (ℕ × ℕ)) (p : ℕ) → lay limit next rs ≡ Fits bs p → (b : ℕ) (r : Request) → slice_get rs b ≡ Some r → LaidAt limit r (address_at bs b)
 laid_at limit next [] bs p e b r is = absurd cc
@@ -76,7 +76,7 @@ laid_at limit next (q ∷ rs) bs p e (suc b) r is =
     subst (λ cs. LaidAt limit r (address_at cs (suc b))) (sym l.3) (laid_at limit (aligned next q.align + q.size) rs l.1 p l.2 b r is)
 
 -- the open position at a path
-open_of : (os : List Open) (path : List ℕ) (ty : Ty) → type_at os path ≡ Some ty → (k : ℕ) × (o : Open) × (slice_get os k ≡ Some o) × (o.path ≡ path) × (o.ty ≡ ty)
+pub open_of : (os : List Open) (path : List ℕ) (ty : Ty) → type_at os path ≡ Some ty → (k : ℕ) × (o : Open) × (slice_get os k ≡ Some o) × (o.path ≡ path) × (o.ty ≡ ty)
 open_of [] path ty e = absurd cc
 open_of (o ∷ os) path ty e = here (same_path o.path path) refl (open_of os path ty) e
   where
@@ -89,13 +89,13 @@ module _ (p : Program) (agrees : Agrees p) where
   abbrev layouts : List Layout
   layouts = flat_layouts p
 
-  abbrev Shown : Memory → Ty → Value → List ℕ → Type 0
-  Shown m = Represents p.types layouts m true
+  abbrev Shown : Bool → Memory → Ty → Value → List ℕ → Type 0
+  Shown clean m = Represents p.types layouts m clean
 
   -- words of a represented value are of their widths
-  shown_fits : (m : Memory) (s : ℕ) (u : Value) (ws : List ℕ) → Shown m (Named s) u ws → (j l : ℕ) → slice_get (shape_of p.layouts s) j ≡ Some l → slice_index ws j < 2 ^ l
-  shown_fits m s u ws r j l is =
-      let o = opened p.types layouts m true r in
+  shown_fits : (clean : Bool) (m : Memory) (s : ℕ) (u : Value) (ws : List ℕ) → Shown clean m (Named s) u ws → (j l : ℕ) → slice_get (shape_of p.layouts s) j ≡ Some l → slice_index ws j < 2 ^ l
+  shown_fits clean m s u ws r j l is =
+      let o = opened p.types layouts m clean r in
       let b = o.made in
       let d = declared p agrees.a1 s b.layout b.is_layout in
       let shape : shape_of p.layouts s ≡ b.layout.shape = ap shape_in d.is_declared ∙ sym (ap (λ (y : Layout). y.shape) d.is_flat) in
@@ -157,17 +157,17 @@ module _ (p : Program) (agrees : Agrees p) where
       }
 
   -- One layer ---------------------------------------------------------------------------------
-  module _ (t : ℕ) (layout : Layout) (n : ℕ) (leaf : Leaf) (ok : Sound leaf) (m : Memory) (good : IsGood m) (subs : List ℕ → List ℕ)
-      (reps : (k : ℕ) (o : Open) → slice_get (open_positions p.types leaf.prov) k ≡ Some o → (u : Value) × Shown m o.ty u (subs o.path))
+  module _ (clean : Bool) (t : ℕ) (layout : Layout) (n : ℕ) (leaf : Leaf) (ok : Sound leaf) (m : Memory) (good : IsGood m) (subs : List ℕ → List ℕ)
+      (reps : (k : ℕ) (o : Open) → slice_get (open_positions p.types leaf.prov) k ≡ Some o → (u : Value) × Shown clean m o.ty u (subs o.path))
       (wide : (r : WordRef) (l align b : ℕ) → PointsTo leaf r l align b → IsAlignment align × ((k : ℕ) → align ≡ 2 ^ k → 24 ≤ l + k))
       (bs : List (ℕ × ℕ)) (next : ℕ) (laid : lay m.limit m.next (map request_of leaf.blocks) ≡ Fits bs next) where
-    abbrev ats : ℕ → ℕ
+    abbrev pub ats : ℕ → ℕ
     ats = address_at bs
 
     abbrev pub numbered : FlatWord → ℕ
     numbered f = packed subs ats f.parts
 
-    placed_at : (b : ℕ) (block : Block) → slice_get leaf.blocks b ≡ Some block → LaidAt m.limit (request_of block) (ats b)
+    pub placed_at : (b : ℕ) (block : Block) → slice_get leaf.blocks b ≡ Some block → LaidAt m.limit (request_of block) (ats b)
     placed_at b block is = laid_at m.limit m.next (map request_of leaf.blocks) bs next laid b (request_of block) (get-mapped request_of leaf.blocks b block is)
 
     small_power : (i : ℕ) → 24 ≤ i → 16777216 ≤ 2 ^ i
@@ -180,10 +180,10 @@ module _ (p : Program) (agrees : Agrees p) where
     word_fits path j l f =
         let o = open_of (open_positions p.types leaf.prov) path (Named f.0) f.1 in
         let r = reps o.0 o.1 o.2 in
-        let shown : Shown m (Named f.0) r.0 (subs path) = subst (λ (ty : Ty). Shown m ty r.0 (subs path)) o.4 (subst (λ q. Shown m o.1.ty r.0 (subs q)) o.3 r.1) in
-        shown_fits m f.0 r.0 (subs path) shown j l f.2
+        let shown : Shown clean m (Named f.0) r.0 (subs path) = subst (λ (ty : Ty). Shown clean m ty r.0 (subs path)) o.4 (subst (λ q. Shown clean m o.1.ty r.0 (subs q)) o.3 r.1) in
+        shown_fits clean m f.0 r.0 (subs path) shown j l f.2
 
-    pointer_fits : (r : WordRef) (l align b : ℕ) → PointsTo leaf r l align b → (ats b / align < 2 ^ l) × (ats b / align * align ≡ ats b)
+    pub pointer_fits : (r : WordRef) (l align b : ℕ) → PointsTo leaf r l align b → (ats b / align < 2 ^ l) × (ats b / align * align ≡ ats b)
     pointer_fits r l align b points =
         let x = (ok.flat.below r l align b points).0 in
         let a = placed_at b x.0 x.1 in
@@ -210,7 +210,7 @@ module _ (p : Program) (agrees : Agrees p) where
     part_fits r f k q is at (Word path j) e h = word_fits path j q.l h
     part_fits r f k q is at (Pointer align b) e h = (pointer_fits r q.l align b (record { word = f; number = k; part = q; is_word = is; is_part = at; is_length = refl; is_pointer = e })).0
 
-    can_hold : (r : WordRef) (f : FlatWord) → flat_at leaf r ≡ Some f → WordFits p.layouts (open_positions p.types leaf.prov) f → CanHold subs ats f.parts
+    pub can_hold : (r : WordRef) (f : FlatWord) → flat_at leaf r ≡ Some f → WordFits p.layouts (open_positions p.types leaf.prov) f → CanHold subs ats f.parts
     can_hold r f is w = record {
       fit = λ k q at. part_fits r f k q is at q.kind refl (w.kinds k q at);
       aligned = λ k q at align b e. (pointer_fits r q.l align b (record { word = f; number = k; part = q; is_word = is; is_part = at; is_length = refl; is_pointer = e })).1;
@@ -220,16 +220,16 @@ module _ (p : Program) (agrees : Agrees p) where
     in_block_fits b None j f is e = absurd cc
     in_block_fits b (Some block) j f is e = ok.inner b block is j f e
 
-    fits_at : (b : Option ℕ) (j : ℕ) (f : FlatWord) → slice_get (words_in leaf b) j ≡ Some f → WordFits p.layouts (open_positions p.types leaf.prov) f
+    pub fits_at : (b : Option ℕ) (j : ℕ) (f : FlatWord) → slice_get (words_in leaf b) j ≡ Some f → WordFits p.layouts (open_positions p.types leaf.prov) f
     fits_at None j f e = ok.root j f e
     fits_at (Some b) j f e = in_block_fits b (slice_get leaf.blocks b) j f refl e
 
-    word_holds : (clean : Bool) (r : WordRef) (f : FlatWord) → flat_at leaf r ≡ Some f → WordHolds subs ats clean f (numbered f)
-    word_holds clean r f is = let w = fits_at r.block r.word f is in packed_holds subs ats f w.tidy (can_hold r f is w) clean
+    word_holds : (r : WordRef) (f : FlatWord) → flat_at leaf r ≡ Some f → WordHolds subs ats clean f (numbered f)
+    word_holds r f is = let w = fits_at r.block r.word f is in packed_holds subs ats f w.tidy (can_hold r f is w) clean
 
     pub stored : AllStored numbered m leaf.blocks bs next
     stored = all_stored numbered leaf.blocks ok.are
-        (λ b block is j f at. (word_holds true (record { block = Some b; word = j }) f (ap (λ x. slice_get (words_of_block x) j) is ∙ at)).fits) m good bs next laid
+        (λ b block is j f at. (word_holds (record { block = Some b; word = j }) f (ap (λ x. slice_get (words_of_block x) j) is ∙ at)).fits) m good bs next laid
 
     abbrev pub made : Memory
     made = stored.memory
@@ -248,16 +248,16 @@ module _ (p : Program) (agrees : Agrees p) where
     found_at None j f e = get-mapped numbered leaf.root j f e
     found_at (Some b) j f e = found_in b (slice_get leaf.blocks b) j f refl e
 
-    pub layer_placed : Placed leaf root_words made true subs ats
+    pub layer_placed : Placed leaf root_words made clean subs ats
     layer_placed = record {
       count = length-map leaf.root numbered;
       blocks = λ b block is. let s = stored.stored b block is in ap (λ i. size_at made.blocks i) (address_is bs b s.0 s.1) ∙ s.2.sized;
-      words = λ r f is. (numbered f, found_at r.block r.word f is, word_holds true r f is);
+      words = λ r f is. (numbered f, found_at r.block r.word f is, word_holds r f is);
     }
 
     pub layer_shown : (v : Value) → layout_of layouts t ≡ Some layout → leaf_of layout v ≡ Some n → slice_get layout.leaves n ≡ Some leaf → (at : List ℕ → Value)
-        → ((k : ℕ) (o : Open) → slice_get (open_positions p.types leaf.prov) k ≡ Some o → (part_at v o.path ≡ Some (at o.path)) × Shown m o.ty (at o.path) (subs o.path))
-        → Shown made (Named t) v root_words
+        → ((k : ℕ) (o : Open) → slice_get (open_positions p.types leaf.prov) k ≡ Some o → (part_at v o.path ≡ Some (at o.path)) × Shown clean m o.ty (at o.path) (subs o.path))
+        → Shown clean made (Named t) v root_words
     layer_shown v is_layout is_leaf is_number at opens =
         let grows = Grown-extends m made bs next good stored.grown in
         let root : widths_of leaf.root ≡ layout.shape = agrees.a2 t layout n leaf is_layout is_number in
@@ -274,4 +274,4 @@ module _ (p : Program) (agrees : Agrees p) where
           at = at;
           is_at = λ k o e. (opens k o e).0;
           placed = layer_placed;
-        }) (λ k o e. Represents-kept m made grows p.types layouts true (opens k o e).1)
+        }) (λ k o e. Represents-kept m made grows p.types layouts clean (opens k o e).1)

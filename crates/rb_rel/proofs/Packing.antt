@@ -41,7 +41,7 @@ pub record CanHold (subs : List ℕ → List ℕ) (ats : ℕ → ℕ) (ps : List
 low_fits : (n k : ℕ) → n % 2 ^ k < 2 ^ k
 low_fits n k = let p = pow_pos k in omega arith
 
-put_below : (w o l part width : ℕ) → o + l ≤ width → w < 2 ^ width → part < 2 ^ l → put_of w o l part < 2 ^ width
+pub put_below : (w o l part width : ℕ) → o + l ≤ width → w < 2 ^ width → part < 2 ^ l → put_of w o l part < 2 ^ width
 put_below w o l part width le fits small =
     let rest = width - (o + l) in
     let all : rest + (o + l) ≡ width = omega arith in

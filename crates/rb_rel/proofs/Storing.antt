@@ -118,32 +118,31 @@ pub record Stored (m m' : Memory) (block : Block) (number : FlatWord → ℕ) (a
   pub sized : size_at m'.blocks a ≡ Some (size_of block)
   pub loads : (j : ℕ) (f : FlatWord) → slice_get block.words j ≡ Some f → load_of m' a (begins_at block.words j) f.width ≡ Ok (number f)
 
--- a block that is placed, with these words in it
-abbrev pub filled_of : (FlatWord → ℕ) → Memory → Block → Memory
-filled_of number m block =
+-- a memory with a block more, which is filled with words
+abbrev pub with_block : (FlatWord → ℕ) → Memory → Block → Memory
+with_block number m block =
     let a = aligned m.next block.align in
     record { limit = m.limit; next = a + size_of block; blocks = m.blocks ++ (a, size_of block) ∷ []; bytes = written number block.words a m.bytes }
 
--- blocks one after the other
-abbrev pub fill : (FlatWord → ℕ) → Memory → List Block → Memory
-fill number m [] = m
-fill number m (block ∷ blocks) = fill number (filled_of number m block) blocks
+abbrev pub with_blocks : (FlatWord → ℕ) → Memory → List Block → Memory
+with_blocks number m [] = m
+with_blocks number m (block ∷ blocks) = with_blocks number (with_block number m block) blocks
 
 module _ (m : Memory) (good : IsGood m) (block : Block) (is : IsBlock block) (number : FlatWord → ℕ) where
   abbrev a : ℕ
   a = aligned m.next block.align
 
   abbrev filled : Memory
-  filled = filled_of number m block
+  filled = with_block number m block
 
   module _ (room : a + size_of block ≤ m.limit) where
-    above : m.next ≤ a
+    pub above : m.next ≤ a
     above = aligned_from m.next block.align is.align
 
     long : a + bytes_in block.words ≤ length m.bytes
     long = let l = good.long in omega (arith, room, l)
 
-    filled_good : IsGood filled
+    pub filled_good : IsGood filled
     filled_good = record {
       blocks = AreBlocks_push m.blocks 64 m.next a (size_of block) good.blocks above is.some;
       next = ((let n = good.next.0 in omega (arith, n, above)), room);
@@ -167,22 +166,21 @@ module _ (m : Memory) (good : IsGood m) (block : Block) (is : IsBlock block) (nu
     filled_sized : size_at filled.blocks a ≡ Some (size_of block)
     filled_sized = size_at-push m.blocks 64 m.next a (size_of block) good.blocks above
 
-    module _ (fits : (j : ℕ) (f : FlatWord) → slice_get block.words j ≡ Some f → number f < 2 ^ f.width) where
-      filled_loads : (j : ℕ) (f : FlatWord) → slice_get block.words j ≡ Some f → load_of filled a (begins_at block.words j) f.width ≡ Ok (number f)
-      filled_loads j f at =
-          let wide = width_bytes f.width (is.widths j f at) in
-          load_within filled a (begins_at block.words j) f.width (ap (λ o. lies_within o (begins_at block.words j + f.width / 8)) filled_sized ∙ within_yes (size_of block) (begins_at block.words j + f.width / 8) (begins_within block.words j f at))
-          ∙ written_read number block.words a m.bytes long j f at
-          ∙ ap (λ k. Ok (number f % 2 ^ k)) wide ∙ ap Ok (mod-eq_of_lt (fits j f at))
+    filled_loads : ((j : ℕ) (f : FlatWord) → slice_get block.words j ≡ Some f → number f < 2 ^ f.width) → (j : ℕ) (f : FlatWord) → slice_get block.words j ≡ Some f → load_of filled a (begins_at block.words j) f.width ≡ Ok (number f)
+    filled_loads fits j f at =
+        let wide = width_bytes f.width (is.widths j f at) in
+        load_within filled a (begins_at block.words j) f.width (ap (λ o. lies_within o (begins_at block.words j + f.width / 8)) filled_sized ∙ within_yes (size_of block) (begins_at block.words j + f.width / 8) (begins_within block.words j f at))
+        ∙ written_read number block.words a m.bytes long j f at
+        ∙ ap (λ k. Ok (number f % 2 ^ k)) wide ∙ ap Ok (mod-eq_of_lt (fits j f at))
 
-      pub filled_stored : Stored m filled block number a
-      filled_stored = record { sized = filled_sized; loads = filled_loads }
+    pub filled_stored : ((j : ℕ) (f : FlatWord) → slice_get block.words j ≡ Some f → number f < 2 ^ f.width) → Stored m filled block number a
+    filled_stored fits = record { sized = filled_sized; loads = filled_loads fits }
 
 -- Several blocks, one after the other
 module _ (number : FlatWord → ℕ) where
   pub record AllStored (m : Memory) (blocks : List Block) (bs : List (ℕ × ℕ)) (p : ℕ) : Type 0 where
     pub memory : Memory
-    pub is_filled : memory ≡ fill number m blocks
+    pub is_filled : memory ≡ with_blocks number m blocks
     pub grown : Grown m memory bs p
     pub stored : (k : ℕ) (block : Block) → slice_get blocks k ≡ Some block → (at : ℕ × ℕ) × (slice_get bs k ≡ Some at) × Stored m memory block number at.0
 
@@ -221,7 +219,7 @@ module _ (number : FlatWord → ℕ) where
       let l = laid_more m.limit m.next (request_of b) (map request_of blocks) bs p e in
       let is = are 0 b refl in
       let fits = fit 0 b refl in
-      let m1 = filled_of number m b in
+      let m1 = filled m good b is number in
       let g1 = filled_grown m good b is number l.0 in
       let s1 = filled_stored m good b is number l.0 fits in
       let rest = all_stored blocks (λ k x h. are (suc k) x h) (λ k x h. fit (suc k) x h) m1 g1.good l.1 p l.2 in

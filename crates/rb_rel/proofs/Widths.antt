@@ -45,7 +45,7 @@ module _ (types : List DataDecl) (numbered : list_all (type_is_numbered types) t
           let d = both (nat_le (length c.fields) 32) (list_all (is_type types) c.fields) b.1 in
           let x : c.fields ≡ ts = cc in ap (list_all (is_type types)) (sym x) ∙ d.1
 
-  fields_typed : (c : ConRef) → list_all (is_type types) (types_or_none (fields_of types c)) ≡ true
+  pub fields_typed : (c : ConRef) → list_all (is_type types) (types_or_none (fields_of types c)) ≡ true
   fields_typed c = go (slice_get types c.ty) refl
     where
       fields : (d : DataDecl) (o : Option (List Ty)) → list_all (con_is_numbered types) d.cons ≡ true → fields_of_con (slice_get d.cons c.con) ≡ o → list_all (is_type types) (types_or_none o) ≡ true
@@ -108,9 +108,12 @@ module _ (types : List DataDecl) (numbered : list_all (type_is_numbered types) t
     con = λ at c ps each t r. con_typed at c ps (each_typed ps) (root_type (out-Pat (ConPat at c ps)));
   })
 
-  -- an integer at an open position has a bit
+  -- an integer at an open position has a bit, and at most 64
   pub int_wide : (bits : ℕ) → is_type types (Int bits) ≡ true → 1 ≤ bits
   int_wide bits e = le_is 1 bits (both (nat_le 1 bits) (nat_le bits 64) e).0
+
+  pub int_small : (bits : ℕ) → is_type types (Int bits) ≡ true → bits ≤ 64
+  int_small bits e = le_is bits 64 (both (nat_le 1 bits) (nat_le bits 64) e).1
 
 -- a word of a shape has a bit
 pub shape_wide : (p : Program) → IsTyped p → A1 p → (s j w : ℕ) → slice_get (shape_of p.layouts s) j ≡ Some w → 1 ≤ w
