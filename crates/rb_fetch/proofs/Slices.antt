@@ -21,7 +21,6 @@ use Rattle.rb_fragment.specs.Reads.{where_some, Meant, joined_over, meant_of, is
 use Rattle.rb_fragment.proofs.ReadForms.{mean-Joined, meant-is, fits-Joined, fits-Share}
 use Rattle.rb_fetch.specs.declared.span.Span.{Span}
 use Rattle.rb_fetch.specs.declared.place.Wanted.TheVariants.{UnitOf}
-use Rattle.rb_fetch.specs.inner.Reads.{bits_of}
 use Rattle.rb_fetch.specs.inner.Placing.{is_wanted}
 use Rattle.rb_fetch.specs.inner.Fields.{SpansPart, ReadsPart, ReadsAs, first_bit, is_whole, share_of, Slices}
 use Rattle.rb_fetch.proofs.Spans.{bit_part, part_reads}
