@@ -1,0 +1,10 @@
+pub mod AllLemmas
+pub mod BitLemmas
+pub mod EncodeLemmas
+pub mod GrowLemmas
+pub mod LeafLemmas
+pub mod LeafShowing
+pub mod PlaceLemmas
+pub mod PostLemmas
+pub mod TableLemmas
+pub mod WaitLemmas

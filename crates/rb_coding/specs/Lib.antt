@@ -1,2 +1,2 @@
-pub mod Decoding
 pub mod Encoding
+pub mod inner

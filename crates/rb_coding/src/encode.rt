@@ -6,6 +6,9 @@ ghost use Rattle.rb_bytes.specs.Memory.{IsGood};
 ghost use Rattle.rb_coding.specs.Encoding.{AreEncoded, IsEncoded};
 
 use crate::fault::EncodeFault;
+use crate::node::node_words;
+use crate::posts::{sizes_of, types_of};
+use crate::table::Table;
 use rb_bytes::memory::ByteMemory;
 use rb_core::seq::Seq;
 use rb_core::types::Ty;
@@ -29,9 +32,27 @@ pub fn encode<M: ByteMemory>(
 ) -> Result<Seq<u64>, EncodeFault>
     requires good { IsGood (M.memory memory.old) }
     requires typed { is_of_type agreed.now.covered.program.types value.now ty ≡ true }
-    ensures { IsEncoded agreed.now.covered.program ty value.now (M.memory memory.old) (M.memory memory.new) result }
+    ensures { IsEncoded agreed.now.covered.program ty value.now
+        (M.memory memory.old) (M.memory memory.new) result }
 {
-    Err(EncodeFault::Memory)
+    let program = agreed.covered().program();
+    let layouts = agreed.layouts();
+    let nodes = value.as_nodes();
+    let tys = types_of(alloc, program.types.as_slice(), ty, value)?;
+    let mut table = Table {
+        sizes: sizes_of(alloc, value)?,
+        words: Seq::new(alloc),
+    };
+    for node in 0..nodes.len() {
+        match node_words(alloc, memory, layouts, tys[node], nodes, node, &table) {
+            Ok(words) => table.words.push(words)?,
+            Err(fault) => return Err(fault),
+        }
+    }
+    match table.words.pop() {
+        None => unreachable!(),
+        Some(words) => Ok(words),
+    }
 }
 
 /// The words of values of these types, one behind the other. The values are encoded in turn.
@@ -48,7 +69,18 @@ pub fn encode_all<M: ByteMemory>(
 ) -> Result<Seq<u64>, EncodeFault>
     requires good { IsGood (M.memory memory.old) }
     requires typed { all_of_types (map (is_of_type agreed.now.covered.program.types) values.now) tys.now ≡ true }
-    ensures { AreEncoded agreed.now.covered.program tys.now values.now (M.memory memory.old) (M.memory memory.new) result }
+    ensures { AreEncoded agreed.now.covered.program tys.now values.now
+        (M.memory memory.old) (M.memory memory.new) result }
 {
-    Err(EncodeFault::Memory)
+    let mut words = Seq::new(alloc);
+    for i in 0..values.len() {
+        match encode(alloc, agreed, tys[i], &values[i], memory) {
+            Ok(more) => match words.append(more) {
+                None => {}
+                Some(_) => return Err(EncodeFault::Memory),
+            },
+            Err(fault) => return Err(fault),
+        }
+    }
+    Ok(words)
 }

@@ -1,5 +1,5 @@
-//! Words of values: a value is encoded into words and blocks of a memory, and decoded from them, over
-//! any layouts that agree with their types.
+//! Words of values: a value is encoded into words and blocks of a memory, over any layouts that agree
+//! with their types.
 //!
 //! Take a list whose tag is the lowest bit of a pointer, and whose items lie behind it:
 //!
@@ -20,13 +20,16 @@
 //! A field that a leaf has taken apart, as the color of a red node whose leaf is for red nodes alone, is
 //! encoded like any other node, and its words are not looked at.
 //!
-//! Decoding goes the other way by a list of things to do. To visit words at a type is to find the leaf
-//! by its splits, to find the blocks by its pointers, outer before inner, and to gather the words of
-//! each open position of the leaf. These are visited in turn, and joined by the constructors of the
-//! leaf's provenance. Each thing to do is a node of the value, so that counting them beside the nodes
-//! that are built refuses a value over the limit early, however often it shares a block.
+//! Nothing recurs on a value. Where the nodes of a field stand is told by the sizes of the nodes, since
+//! those of the last field stand right before the construction, and those of each field before them.
 #![tactic(auto)]
 
-pub mod decode;
+mod bits;
+mod blocks;
 pub mod encode;
 pub mod fault;
+mod leaf;
+mod node;
+mod pack;
+mod posts;
+mod table;

@@ -20,7 +20,7 @@ use Rattle.rb_rel.proofs.Packing.{number_of, packed, packed_holds}
 use Rattle.rb_rel.proofs.Reading.{leb_is}
 use Rattle.rb_rel.proofs.Known.{ltb_is}
 
-nat_is : (a b : ℕ) → nat_eq a b ≡ true → a ≡ b
+pub nat_is : (a b : ℕ) → nat_eq a b ≡ true → a ≡ b
 nat_is a b e = grind (arith, common_steps)
 
 -- of each of a list, and of the one with a number

@@ -1,0 +1,4 @@
+pub mod Filling
+pub mod Making
+pub mod Nodes
+pub mod Packing

@@ -1,0 +1,63 @@
+-- Memories that grow by blocks, request by request, and what a node's leaf comes to.
+use Rattle.std.specs.Prelude.{◌≡◌, ℕ, ◌<◌, map, List, [], ◌∷◌, ◌++◌, Some, Result, Ok, Err, slice_get}
+use Rattle.rb_bytes.specs.Memory.{Memory, IsSize, IsAlign}
+use Rattle.rb_bytes.specs.Growth.{Grown}
+use Rattle.rb_bytes.specs.declared.fault.Full.{Full as Unplaced}
+use Rattle.rb_layout.specs.declared.layout.Block.{Block}
+use Rattle.rb_layout.specs.declared.layout.Leaf.{Leaf}
+use Rattle.rb_layout.specs.declared.layout.FlatWord.{FlatWord}
+use Rattle.rb_layout.specs.declared.layout.Part.{Part}
+use Rattle.rb_layout.specs.declared.layout.Kind.TheVariants.{Pointer}
+use Rattle.rb_layout.specs.A4.{IsBlockWidth}
+use Rattle.rb_layout.specs.Readable.{AreShort}
+use Rattle.rb_layout.specs.Words.{size_of}
+use Rattle.rb_rel.specs.Placing.{Laid, Over, Request, request_of, behind, lay}
+use Rattle.rb_rel.proofs.Storing.{fill}
+use Rattle.rb_rel.proofs.Layers.{address_at}
+use Rattle.rb_coding.specs.declared.fault.EncodeFault.{EncodeFault}
+use Rattle.rb_coding.specs.declared.fault.EncodeFault.TheVariants.{Full, Memory as NoMemory}
+use Rattle.rb_coding.specs.Encoding.{laid_before}
+use Rattle.rb_coding.specs.inner.Packing.{word_made}
+
+-- the blocks before what is laid behind them
+abbrev pub behind_all : List (ℕ × ℕ) → Laid → Laid
+behind_all [] laid = laid
+behind_all (b ∷ bs) laid = behind b (behind_all bs laid)
+
+-- requests were laid as these blocks, and the memory has grown by them
+pub record Progress (old new : Memory) (rs : List Request) (bs : List (ℕ × ℕ)) : Type 0 where
+  pub lays : (qs : List Request) → lay old.limit old.next (rs ++ qs) ≡ behind_all bs (lay new.limit new.next qs)
+  pub before : (qs : List Request) → laid_before old.limit old.next (rs ++ qs) ≡ bs ++ laid_before new.limit new.next qs
+  pub grown : Grown old new bs new.next
+
+-- one of the requests did not fit, and the memory has grown by those before it
+pub record Stopped (old new : Memory) (rs : List Request) (full : Unplaced) : Type 0 where
+  pub bs : List (ℕ × ℕ)
+  pub over : (qs : List Request) → lay old.limit old.next (rs ++ qs) ≡ Over full
+  pub before : (qs : List Request) → laid_before old.limit old.next (rs ++ qs) ≡ bs
+  pub grown : Grown old new bs full.next
+
+-- blocks that can be placed and filled one after the other: each points to earlier ones alone
+pub record ArePlaceable (blocks : List Block) : Type 0 where
+  pub short : (b : ℕ) (block : Block) → slice_get blocks b ≡ Some block → AreShort block.words
+  pub sizes : (b : ℕ) (block : Block) → slice_get blocks b ≡ Some block → IsSize (size_of block)
+  pub aligns : (b : ℕ) (block : Block) → slice_get blocks b ≡ Some block → IsAlign block.align
+  pub widths : (b : ℕ) (block : Block) → slice_get blocks b ≡ Some block → (j : ℕ) (f : FlatWord) → slice_get block.words j ≡ Some f → IsBlockWidth f.width
+  pub below : (b : ℕ) (block : Block) → slice_get blocks b ≡ Some block → (j : ℕ) (f : FlatWord) → slice_get block.words j ≡ Some f
+      → (k : ℕ) (p : Part) → slice_get f.parts k ≡ Some p → (align c : ℕ) → p.kind ≡ Pointer align c → c < b
+
+-- blocks are placed at addresses and filled with the words that their parts make
+abbrev pub ArePlaced : (List ℕ → List ℕ) → List Block → Memory → Memory → Result (List ℕ) EncodeFault → Type 0
+ArePlaced subs blocks old new (Ok addresses) =
+    (bs : List (ℕ × ℕ)) × (addresses ≡ map (λ (b : ℕ × ℕ). b.0) bs) × Progress old new (map request_of blocks) bs
+    × (new ≡ fill (word_made subs (address_at bs)) old blocks)
+ArePlaced subs blocks old new (Err (Full full)) = Stopped old new (map request_of blocks) full
+ArePlaced subs blocks old new (Err NoMemory) = Unit {0}
+
+-- so are those of a leaf, and its root words are made
+abbrev pub IsMade : (List ℕ → List ℕ) → Leaf → Memory → Memory → Result (List ℕ) EncodeFault → Type 0
+IsMade subs leaf old new (Ok ws) =
+    (bs : List (ℕ × ℕ)) × Progress old new (map request_of leaf.blocks) bs
+    × (new ≡ fill (word_made subs (address_at bs)) old leaf.blocks) × (ws ≡ map (word_made subs (address_at bs)) leaf.root)
+IsMade subs leaf old new (Err (Full full)) = Stopped old new (map request_of leaf.blocks) full
+IsMade subs leaf old new (Err NoMemory) = Unit {0}

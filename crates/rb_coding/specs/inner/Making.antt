@@ -1,0 +1,28 @@
+-- What making one node comes to.
+use Rattle.std.specs.Prelude.{◌≡◌, ℕ, List, [], ◌∷◌, Some, Result, Ok, Err}
+use Rattle.rb_core.specs.declared.value.Value.{Value, Num}
+use Rattle.rb_core.specs.declared.types.Ty.{Ty}
+use Rattle.rb_core.specs.declared.types.Ty.TheVariants.{Int, Named}
+use Rattle.rb_bytes.specs.Memory.{Memory}
+use Rattle.rb_layout.specs.declared.layout.Layout.{Layout}
+use Rattle.rb_layout.specs.declared.layout.Leaf.{Leaf}
+use Rattle.rb_layout.specs.Positions.{layout_of}
+use Rattle.rb_rel.specs.Placing.{leaf_in}
+use Rattle.rb_coding.specs.declared.fault.EncodeFault.{EncodeFault}
+use Rattle.rb_coding.specs.declared.fault.EncodeFault.TheVariants.{Full, Memory as NoMemory}
+use Rattle.rb_coding.specs.inner.Filling.{ArePlaceable, IsMade}
+
+-- a number at an integer type; at a data type, a value with a leaf
+abbrev pub IsReady : List Layout → Ty → Value → Type 0
+IsReady layouts (Int bits) v = (n : ℕ) × (v ≡ Num n)
+IsReady layouts (Named t) v = (leaf : Leaf) × (leaf_in (layout_of layouts t) v ≡ Some leaf) × ArePlaceable leaf.blocks
+
+abbrev pub IsNumber : Value → Memory → Memory → Result (List ℕ) EncodeFault → Type 0
+IsNumber v old new (Ok ws) = (n : ℕ) × (v ≡ Num n) × (ws ≡ n ∷ []) × (new ≡ old)
+IsNumber v old new (Err (Full full)) = ⊥
+IsNumber v old new (Err NoMemory) = Unit {0}
+
+-- the word of a number is itself, and a value of a data type has the words of its leaf
+abbrev pub IsNodeMade : List Layout → Ty → Value → (List ℕ → List ℕ) → Memory → Memory → Result (List ℕ) EncodeFault → Type 0
+IsNodeMade layouts (Int bits) v subs old new result = IsNumber v old new result
+IsNodeMade layouts (Named t) v subs old new result = (leaf : Leaf) × (leaf_in (layout_of layouts t) v ≡ Some leaf) × IsMade subs leaf old new result

@@ -1,0 +1,64 @@
+-- Nodes in post-order with their types and sizes, and where the nodes of subvalues stand.
+use Rattle.std.specs.Prelude.{ℕ, zero, suc, ◌+◌, ◌-◌, List, [], ◌∷◌, ◌++◌, length, map, slice_get, slice_index, slice_index_or}
+use Rattle.rb_core.specs.declared.value.Value.{Value, Num, Con}
+use Rattle.rb_core.specs.declared.value.Value.TheOpen as V
+use Rattle.rb_core.specs.declared.value.Value.TheOpen.{Value-F}
+use Rattle.rb_core.specs.declared.value.Value.TheFolds.{para-Value}
+use Rattle.rb_core.specs.declared.types.Ty.{Ty}
+use Rattle.rb_core.specs.declared.types.Ty.TheVariants.{Int, Named}
+use Rattle.rb_core.specs.declared.types.DataDecl.{DataDecl}
+use Rattle.rb_core.specs.Values.{subs, fields_in}
+use Rattle.rb_layout.specs.Positions.{types_or_none}
+use Rattle.rb_values.specs.Nodes.{at}
+use Rattle.rb_values.specs.declared.nodes.Layer.{Layer}
+use Rattle.rb_values.specs.declared.nodes.Layer.TheVariants as L
+use Rattle.rb_coding.specs.declared.table.Table.{Table}
+
+-- the types of the fields of constructor k, at a type
+abbrev pub field_list : List DataDecl → Ty → ℕ → List Ty
+field_list types (Int bits) k = []
+field_list types (Named t) k = types_or_none (fields_in (slice_get types t) k)
+
+abbrev pub layer_fields : List DataDecl → Ty → Layer → List Ty
+layer_fields types ty (L.Num n) = []
+layer_fields types ty (L.Con k count) = field_list types ty k
+
+abbrev pub Typing : Type 0
+Typing = Ty → List (Value × Ty)
+
+abbrev pub typed_in_turn : List Typing → List Ty → List (Value × Ty)
+typed_in_turn [] ts = []
+typed_in_turn (f ∷ fs) [] = []
+typed_in_turn (f ∷ fs) (t ∷ ts) = f t ++ typed_in_turn fs ts
+
+abbrev pub typed_step : List DataDecl → Value-F (Value × Typing) → Typing
+typed_step types (V.Num n) ty = (Num n, ty) ∷ []
+typed_step types (V.Con k ps) ty =
+    typed_in_turn (map (λ (p : Value × Typing). p.1) ps) (field_list types ty k) ++ (Con k (map (λ (p : Value × Typing). p.0) ps), ty) ∷ []
+
+-- the nodes of a value in post-order, each with its type
+abbrev pub typed_posts : List DataDecl → Value → Typing
+typed_posts types = para-Value Typing (typed_step types)
+
+-- Where nodes stand: the nodes of a subvalue end with its own, behind those of the fields before it, and
+-- `sizes` has the number of nodes of each ----------------------------------------------------------
+
+-- where the nodes of the last `count` subvalues before a node begin
+abbrev pub start_of : List ℕ → ℕ → ℕ → ℕ
+start_of sizes end zero = end
+start_of sizes end (suc count) = let start = start_of sizes end count in start - slice_index sizes (start - 1)
+
+abbrev pub arity_of : List Value → ℕ → ℕ
+arity_of nodes node = length (subs (at nodes node))
+
+abbrev pub field_node : List Value → List ℕ → ℕ → ℕ → ℕ
+field_node nodes sizes node field = start_of sizes node (arity_of nodes node - (field + 1)) - 1
+
+-- the node at a path
+abbrev pub node_at : List Value → List ℕ → ℕ → List ℕ → ℕ
+node_at nodes sizes node [] = node
+node_at nodes sizes node (field ∷ path) = node_at nodes sizes (field_node nodes sizes node field) path
+
+-- the words of the node at a path
+abbrev pub subs_of : Table → List Value → ℕ → List ℕ → List ℕ
+subs_of table nodes node path = slice_index_or table.words (node_at nodes table.sizes node path) []
