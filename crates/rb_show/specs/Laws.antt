@@ -1,0 +1,64 @@
+-- What the pieces of a word are, and which leaves are shown.
+use Rattle.std.specs.Prelude.{◌≡◌, ℕ, ◌+◌, ◌<◌, ◌≤◌, ◌↔◌, List, [], ◌∷◌, map, length, Some, slice_get}
+use Rattle.std.specs.List.{Contains, sum_by, range_with_len}
+use Rattle.rb_core.specs.declared.program.Program.{Program}
+use Rattle.rb_layout.specs.declared.layout.FlatWord.{FlatWord}
+use Rattle.rb_layout.specs.declared.layout.Layout.{Layout}
+use Rattle.rb_layout.specs.declared.layout.Part.{Part}
+use Rattle.rb_layout.specs.A3.{IsIn}
+use Rattle.rb_layout.specs.Each.{EachLayout}
+use Rattle.rb_layout.specs.Flattening.{flat_layouts}
+use Rattle.rb_layout.specs.Splits.{Route, routes_of}
+use Rattle.rb_show.specs.Pieces.{Piece, Held, Free, pieces_of}
+
+-- bit i is a bit of the word, and in no part
+pub record IsFree (word : FlatWord) (i : ℕ) : Type 0 where
+  pub inside : i < word.width
+  pub outside : (k : ℕ) (p : Part) → slice_get word.parts k ≡ Some p → IsIn p.o p.l i → ⊥
+
+-- l bits from bit o on, which are free, and none beside them is
+pub record IsMaximal (word : FlatWord) (o l : ℕ) : Type 0 where
+  pub some : 1 ≤ l
+  pub free : (i : ℕ) → IsIn o l i → IsFree word i
+  pub below : (i : ℕ) → i + 1 ≡ o → IsFree word i → ⊥
+  pub above : IsFree word (o + l) → ⊥
+
+-- the free ranges that are shown are exactly the maximal ones
+abbrev pub FreeAreMaximal : Type 0
+FreeAreMaximal = (word : FlatWord) (o l : ℕ) → Contains (pieces_of word) (Free o l) ↔ IsMaximal word o l
+
+abbrev pub IsPiece : FlatWord → ℕ → Piece → Type 0
+IsPiece word k x = slice_get (pieces_of word) k ≡ Some x
+
+-- a free range ends below the bit beneath the next one
+abbrev pub FreeAreApart : Type 0
+FreeAreApart = (word : FlatWord) (j k o l m n : ℕ) → j < k → IsPiece word j (Free o l) → IsPiece word k (Free m n) → o + l < m
+
+abbrev pub first_bit : Piece → ℕ
+first_bit (Held p) = p.o
+first_bit (Free o l) = o
+
+-- no piece begins below one that stands before it
+abbrev pub PiecesAscend : Type 0
+PiecesAscend =
+    (word : FlatWord) (j k : ℕ) (a b : Piece) → j < k → IsPiece word j a → IsPiece word k b → first_bit a ≤ first_bit b
+
+abbrev pub parts_in : List Piece → List Part
+parts_in [] = []
+parts_in (Held p ∷ pieces) = p ∷ parts_in pieces
+parts_in (Free o l ∷ pieces) = parts_in pieces
+
+abbrev pub BeginInside : FlatWord → Type 0
+BeginInside word = (k : ℕ) (p : Part) → slice_get word.parts k ≡ Some p → p.o < word.width
+
+-- the parts that are shown are the word's own, each as often as it is there: however parts are weighed, they weigh the same
+abbrev pub EachPartIsShown : Type 0
+EachPartIsShown = (word : FlatWord) (weight : Part → ℕ) → BeginInside word
+    → sum_by weight (parts_in (pieces_of word)) ≡ sum_by weight word.parts
+
+abbrev pub leaves_shown : Layout → List ℕ
+leaves_shown layout = map (λ (r : Route). r.leaf) (routes_of layout.tree)
+
+-- each leaf of a layout is shown once, from left to right
+abbrev pub LeavesAreShown : Type 0
+LeavesAreShown = (p : Program) → EachLayout (flat_layouts p) (λ t layout. leaves_shown layout ≡ range_with_len 0 (length layout.leaves))

@@ -1,0 +1,118 @@
+-- The text of layouts, line by line.
+use Rattle.std.specs.Prelude.{ℕ, ◌+◌, List, [], ◌∷◌, ◌++◌, codes, Option, Some, None, slice_get}
+use Rattle.std.specs.Fmt.{decimal}
+use Rattle.std.specs.List.{flat_map}
+use Rattle.rb_core.specs.declared.types.DataDecl.{DataDecl}
+use Rattle.rb_layout.specs.declared.layout.Layout.{Layout}
+use Rattle.rb_layout.specs.declared.layout.Leaf.{Leaf}
+use Rattle.rb_layout.specs.declared.layout.Block.{Block}
+use Rattle.rb_layout.specs.declared.layout.FlatWord.{FlatWord}
+use Rattle.rb_layout.specs.declared.layout.Kind.{Kind}
+use Rattle.rb_layout.specs.declared.layout.Kind.TheVariants.{Const, Bits, Word, Pointer}
+use Rattle.rb_layout.specs.Splits.{Test, Is, IsNone, Route, routes_of}
+use Rattle.rb_layout.specs.Words.{begins_at, size_of}
+use Rattle.rb_show.specs.Locations.{range_text, loc_text}
+use Rattle.rb_show.specs.Patterns.{pattern_text}
+use Rattle.rb_show.specs.Pieces.{Piece, Held, Free, pieces_of}
+
+abbrev pub line : List ℕ → List ℕ
+line text = text ++ codes "\n"
+
+-- one after the other, each with its number, the first of which is n
+abbrev pub numbered : {X : Type 0} → (ℕ → X → List ℕ) → ℕ → List X → List ℕ
+numbered f n [] = []
+numbered f n (x ∷ xs) = f n x ++ numbered f (n + 1) xs
+
+-- Words -------------------------------------------------------------------------------------
+
+-- the numbers of a path, each behind a point
+abbrev pub path_text : List ℕ → List ℕ
+path_text path = flat_map (λ i. codes "." ++ decimal i) path
+
+-- what l bits hold
+abbrev pub kind_text : ℕ → Kind → List ℕ
+kind_text l (Const c) = codes "= " ++ decimal c
+kind_text l (Bits path a) = codes "field " ++ path_text path ++ codes " bits " ++ range_text a l
+kind_text l (Word path j) = codes "field " ++ path_text path ++ codes " word " ++ decimal j
+kind_text l (Pointer align b) = codes "pointer to block " ++ decimal b
+
+abbrev pub piece_line : Piece → List ℕ
+piece_line (Held p) = line (codes "  " ++ range_text p.o p.l ++ codes " " ++ kind_text p.l p.kind)
+piece_line (Free o l) = line (codes "  " ++ range_text o l ++ codes " free")
+
+abbrev pub piece_lines : FlatWord → List ℕ
+piece_lines word = flat_map piece_line (pieces_of word)
+
+-- the end of a word's first line, and the lines of its pieces
+abbrev pub width_lines : FlatWord → List ℕ
+width_lines word = line (codes ": " ++ decimal word.width ++ codes " bits") ++ piece_lines word
+
+-- word i of the root
+abbrev pub root_word_lines : ℕ → FlatWord → List ℕ
+root_word_lines i word = codes "word " ++ decimal i ++ width_lines word
+
+-- word i of a block, where it begins at this byte
+abbrev pub word_lines_at : ℕ → ℕ → FlatWord → List ℕ
+word_lines_at byte i word = codes "word " ++ decimal i ++ codes " at byte " ++ decimal byte ++ width_lines word
+
+-- word i of these words of a block
+abbrev pub block_word_lines : List FlatWord → ℕ → FlatWord → List ℕ
+block_word_lines words i word = word_lines_at (begins_at words i) i word
+
+-- the end of a block's first line
+abbrev pub size_line : ℕ → ℕ → List ℕ
+size_line size align = line (codes ": " ++ decimal size ++ codes " bytes, align " ++ decimal align)
+
+abbrev pub block_line : ℕ → ℕ → ℕ → List ℕ
+block_line i size align = codes "block " ++ decimal i ++ size_line size align
+
+-- block i of a leaf
+abbrev pub block_lines : ℕ → Block → List ℕ
+block_lines i block = block_line i (size_of block) block.align ++ numbered (block_word_lines block.words) 0 block.words
+
+-- Leaves ------------------------------------------------------------------------------------
+
+abbrev pub other_literal : ℕ → List ℕ
+other_literal d = codes ", " ++ decimal d
+
+-- the literals of a split, none of which stands there
+abbrev pub none_text : List ℕ → List ℕ
+none_text [] = codes " any"
+none_text (c ∷ cs) = codes " not " ++ decimal c ++ flat_map other_literal cs
+
+-- what a split asks of a leaf
+abbrev pub condition_line : Test → List ℕ
+condition_line (Is loc c) = line (codes "when " ++ loc_text loc ++ codes " = " ++ decimal c)
+condition_line (IsNone loc cs) = line (codes "when " ++ loc_text loc ++ none_text cs)
+
+-- a leaf, with the lines of the conditions of the splits above it
+abbrev pub leaf_lines : List DataDecl → List ℕ → Leaf → List ℕ
+leaf_lines types conditions leaf =
+    line (codes "leaf " ++ pattern_text types leaf.prov) ++ conditions
+    ++ numbered root_word_lines 0 leaf.root ++ numbered block_lines 0 leaf.blocks
+
+abbrev pub found_lines : List DataDecl → List ℕ → Option Leaf → List ℕ
+found_lines types conditions None = []
+found_lines types conditions (Some leaf) = leaf_lines types conditions leaf
+
+-- the leaf to which a way through the splits leads, the condition of the outermost split first
+abbrev pub route_lines : List DataDecl → List Leaf → Route → List ℕ
+route_lines types leaves route = found_lines types (flat_map condition_line route.tests) (slice_get leaves route.leaf)
+
+-- Layouts -----------------------------------------------------------------------------------
+
+abbrev pub type_name : Option DataDecl → List ℕ
+type_name None = []
+type_name (Some d) = d.name
+
+abbrev pub type_line : List DataDecl → ℕ → List ℕ
+type_line types t = line (codes "type " ++ type_name (slice_get types t))
+
+-- the leaves stand from left to right
+abbrev pub layout_lines : List DataDecl → Layout → List ℕ
+layout_lines types layout =
+    type_line types layout.ty ++ flat_map (route_lines types layout.leaves) (routes_of layout.tree)
+
+-- the text of layouts
+abbrev pub layouts_text : List DataDecl → List Layout → List ℕ
+layouts_text types layouts = flat_map (layout_lines types) layouts

@@ -1,0 +1,50 @@
+//! The bits of a word that no part holds.
+
+ghost use Rattle.std.specs.Prelude.{◌≡◌, ◌-◌, ◌<◌};
+ghost use Rattle.std.specs.List.{list_any};
+ghost use Rattle.rb_show.specs.Pieces.{begins_free, free_bits, holds_bit, is_free};
+
+use rb_layout::layout::{FlatWord, Part};
+
+fn holds_bit(part: &Part, bit: u64) -> bool
+    ensures { result ≡ holds_bit bit part.now }
+{
+    part.o <= bit && bit - part.o < part.l
+}
+
+fn is_held(parts: &[Part], bit: u64) -> bool
+    ensures { result ≡ list_any (holds_bit bit) parts.now }
+{
+    parts.iter().any(|part| holds_bit(part, bit))
+}
+
+// Whether this is a bit of the word that no part holds.
+fn is_free(word: &FlatWord, bit: u64) -> bool
+    ensures { result ≡ is_free word.now bit }
+{
+    bit < word.width && !is_held(word.parts.as_slice(), bit)
+}
+
+// Whether a maximal range of free bits begins here.
+pub(crate) fn begins_free(word: &FlatWord, bit: u64) -> bool
+    ensures { result ≡ begins_free word.now bit }
+{
+    if !is_free(word, bit) {
+        return false;
+    }
+    bit == 0 || !is_free(word, bit - 1)
+}
+
+// How many bits from this one on are free, up to the first that isn't.
+pub(crate) fn free_bits(word: &FlatWord, bit: u64) -> u64
+    requires { bit < word.now.width }
+    ensures { result ≡ free_bits word.now bit (word.now.width - bit) }
+{
+    let most = word.width - bit;
+    for count in 0..most {
+        if !is_free(word, bit + count) {
+            return count;
+        }
+    }
+    most
+}

@@ -1,0 +1,54 @@
+//! Locations as they are shown.
+
+ghost use Rattle.std.specs.Prelude.{◌≡◌, ◌++◌, OnOk};
+ghost use Rattle.std.specs.List.{flat_map};
+ghost use Rattle.rb_show.specs.Locations.{bits_text, loc_text, step_text};
+
+use crate::text::{push, push_number, push_range};
+use rb_core::layout_decl::{Loc, Step};
+use std::alloc::AllocError;
+
+// So many bits from that bit on, as `[o:l]`.
+fn push_bits(text: &mut Vec<u8>, o: u64, l: u64) -> Result<(), AllocError>
+    ensures { OnOk result (text.new.items ≡ text.old.items ++ bits_text o l) }
+{
+    push(text, b"[")?;
+    push_range(text, o, l)?;
+    push(text, b"]")?;
+    Ok(())
+}
+
+fn push_step(text: &mut Vec<u8>, step: &Step) -> Result<(), AllocError>
+    ensures { OnOk result (text.new.items ≡ text.old.items ++ step_text step.now) }
+{
+    push(text, b" -> ")?;
+    push_number(text, step.align)?;
+    push(text, b" @")?;
+    push_range(text, step.byte, step.width)?;
+    push_bits(text, step.o, step.l)?;
+    Ok(())
+}
+
+fn push_steps(text: &mut Vec<u8>, steps: &[Step]) -> Result<(), AllocError>
+    ensures { OnOk result (text.new.items ≡ text.old.items ++ flat_map step_text steps.now) }
+{
+    for step in steps {
+        push_step(text, step)?;
+    }
+    Ok(())
+}
+
+/// Adds a location to a text, such as `0[0:32] -> 4 @0:8[0:8]`: the bits of a root word, and for each
+/// pointer its alignment, the byte and the width of a word of its block, and bits of that.
+///
+/// # Errors
+///
+/// `AllocError` where memory is wanting.
+pub fn push_loc(text: &mut Vec<u8>, loc: &Loc) -> Result<(), AllocError>
+    ensures { OnOk result (text.new.items ≡ text.old.items ++ loc_text loc.now) }
+{
+    push_number(text, loc.word)?;
+    push_bits(text, loc.o, loc.l)?;
+    push_steps(text, loc.steps.as_slice())?;
+    Ok(())
+}

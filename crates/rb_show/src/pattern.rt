@@ -1,0 +1,74 @@
+//! Patterns as they are shown.
+
+ghost use Rattle.std.specs.Prelude.{◌≡◌, ◌++◌, ℕ, List, OnOk, map};
+ghost use Rattle.rb_core.specs.declared.pattern.Pat.{Pat as Pattern};
+ghost use Rattle.rb_show.specs.Patterns.{closed, con_text, opened, opening, pattern_text};
+
+use crate::text::{push, push_number};
+use rb_core::pattern::Pat;
+use rb_core::types::{ConRef, DataDecl};
+use std::alloc::AllocError;
+
+// A constructor's name.
+fn push_con(text: &mut Vec<u8>, types: &[DataDecl], con: ConRef) -> Result<(), AllocError>
+    ensures { OnOk result (text.new.items ≡ text.old.items ++ con_text types.now con) }
+{
+    match types.get(con.ty as usize) {
+        Some(decl) => match decl.cons.get(con.con as usize) {
+            Some(con) => push(text, con.name.as_slice()),
+            None => Ok(()),
+        },
+        None => Ok(()),
+    }
+}
+
+// What stands before the field of this number.
+fn opening(number: usize) -> &'static [u8]
+    ensures { result.now ≡ opening number }
+{
+    if number == 0 { b"(" } else { b", " }
+}
+
+// What stands behind so many fields.
+fn push_closing(text: &mut Vec<u8>, fields: &[Pat]) -> Result<(), AllocError>
+    ensures { (f : Pattern → List ℕ) → OnOk result (text.new.items ≡ text.old.items ++ closed (map f fields.now)) }
+{
+    match fields {
+        [] => Ok(()),
+        [_, ..] => push(text, b")"),
+    }
+}
+
+/// Adds a pattern to a text: a number, or a constructor's name with its fields in parentheses, `_` for
+/// what matches every value.
+///
+/// # Errors
+///
+/// `AllocError` where memory is wanting.
+#[cycle(showing)]
+pub fn push_pattern(text: &mut Vec<u8>, types: &[DataDecl], pat: &Pat) -> Result<(), AllocError>
+    ensures { OnOk result (text.new.items ≡ text.old.items ++ pattern_text types.now pat.now) }
+{
+    match pat {
+        Pat::Wild(_) | Pat::Var(_, _) => push(text, b"_"),
+        Pat::Num(_, number) => push_number(text, *number),
+        Pat::Con(_, con, fields) => {
+            push_con(text, types, *con)?;
+            push_fields(text, types, fields.as_slice())?;
+            push_closing(text, fields.as_slice())?;
+            Ok(())
+        }
+    }
+}
+
+// The fields of a constructor, without the `)` behind them.
+#[cycle(showing)]
+fn push_fields(text: &mut Vec<u8>, types: &[DataDecl], pats: &[Pat]) -> Result<(), AllocError>
+    ensures { OnOk result (text.new.items ≡ text.old.items ++ opened (map (pattern_text types.now) pats.now)) }
+{
+    for (i, pat) in pats.iter().enumerate() {
+        push(text, opening(i))?;
+        push_pattern(text, types, pat)?;
+    }
+    Ok(())
+}

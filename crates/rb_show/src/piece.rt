@@ -1,0 +1,114 @@
+//! The lines of the pieces of a word: its parts, and the ranges of its bits that no part holds.
+
+ghost use Rattle.std.specs.Prelude.{◌≡◌, ◌++◌, ◌<◌, OnOk};
+ghost use Rattle.std.specs.List.{flat_map};
+ghost use Rattle.rb_layout.specs.declared.layout.Kind as spec;
+ghost use Rattle.rb_show.specs.Lines.{kind_text, path_text, piece_line, piece_lines};
+ghost use Rattle.rb_show.specs.Pieces.{Held, Free, held_at, pieces_at};
+
+use crate::free::{begins_free, free_bits};
+use crate::text::{push, push_number, push_range};
+use rb_layout::layout::{FlatWord, Kind, Part};
+use std::alloc::AllocError;
+
+fn push_path(text: &mut Vec<u8>, path: &[u32]) -> Result<(), AllocError>
+    ensures { OnOk result (text.new.items ≡ text.old.items ++ path_text path.now) }
+{
+    for field in path {
+        push(text, b".")?;
+        push_number(text, *field as u64)?;
+    }
+    Ok(())
+}
+
+// What so many bits hold.
+fn push_kind(text: &mut Vec<u8>, l: u64, kind: &Kind) -> Result<(), AllocError>
+    ensures { OnOk result (text.new.items ≡ text.old.items ++ kind_text l kind.now) }
+{
+    match kind {
+        Kind::Const(number) => {
+            push(text, b"= ")?;
+            push_number(text, *number)?;
+        }
+        Kind::Bits(path, first) => {
+            push(text, b"field ")?;
+            push_path(text, path.as_slice())?;
+            push(text, b" bits ")?;
+            push_range(text, *first, l)?;
+        }
+        Kind::Word(path, word) => {
+            push(text, b"field ")?;
+            push_path(text, path.as_slice())?;
+            push(text, b" word ")?;
+            push_number(text, *word)?;
+        }
+        Kind::Pointer(_, block) => {
+            push(text, b"pointer to block ")?;
+            push_number(text, *block as u64)?;
+        }
+    }
+    Ok(())
+}
+
+fn push_part(text: &mut Vec<u8>, part: &Part) -> Result<(), AllocError>
+    ensures { OnOk result (text.new.items ≡ text.old.items ++ piece_line (Held part.now)) }
+{
+    push(text, b"  ")?;
+    push_range(text, part.o, part.l)?;
+    push(text, b" ")?;
+    push_kind(text, part.l, &part.kind)?;
+    push(text, b"\n")?;
+    Ok(())
+}
+
+fn push_free(text: &mut Vec<u8>, o: u64, l: u64) -> Result<(), AllocError>
+    ensures { OnOk result (text.new.items ≡ text.old.items ++ piece_line (Free o l)) }
+{
+    push(text, b"  ")?;
+    push_range(text, o, l)?;
+    push(text, b" free")?;
+    push(text, b"\n")?;
+    Ok(())
+}
+
+// A part, if it begins at this bit.
+fn push_part_at(text: &mut Vec<u8>, part: &Part, bit: u64) -> Result<(), AllocError>
+    ensures { OnOk result (text.new.items ≡ text.old.items ++ flat_map piece_line (held_at bit part.now)) }
+{
+    if part.o == bit {
+        push_part(text, part)?;
+    }
+    Ok(())
+}
+
+// The parts that begin at a bit.
+fn push_held(text: &mut Vec<u8>, parts: &[Part], bit: u64) -> Result<(), AllocError>
+    ensures { OnOk result (text.new.items ≡ text.old.items ++ flat_map piece_line (flat_map (held_at bit) parts.now)) }
+{
+    for part in parts {
+        push_part_at(text, part, bit)?;
+    }
+    Ok(())
+}
+
+// The pieces that begin at a bit.
+fn push_pieces_at(text: &mut Vec<u8>, word: &FlatWord, bit: u64) -> Result<(), AllocError>
+    requires { bit < word.now.width }
+    ensures { OnOk result (text.new.items ≡ text.old.items ++ flat_map piece_line (pieces_at word.now bit)) }
+{
+    push_held(text, word.parts.as_slice(), bit)?;
+    if begins_free(word, bit) {
+        push_free(text, bit, free_bits(word, bit))?;
+    }
+    Ok(())
+}
+
+// The pieces of a word, by ascending offset.
+pub(crate) fn push_pieces(text: &mut Vec<u8>, word: &FlatWord) -> Result<(), AllocError>
+    ensures { OnOk result (text.new.items ≡ text.old.items ++ piece_lines word.now) }
+{
+    for bit in 0..word.width {
+        push_pieces_at(text, word, bit)?;
+    }
+    Ok(())
+}

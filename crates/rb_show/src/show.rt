@@ -1,0 +1,89 @@
+//! The text of layouts.
+
+ghost use Rattle.std.specs.Prelude.{◌≡◌, ◌++◌, IfOk, OnOk, slice_get};
+ghost use Rattle.std.specs.List.{flat_map};
+ghost use Rattle.rb_show.specs.Lines.{layout_lines, layouts_text, type_line, type_name};
+ghost use Rattle.rb_show.specs.Short.{HaveShortBlocks};
+ghost use Rattle.rb_show.specs.inner.Ways.{way_lines};
+
+use crate::leaf::push_way;
+use crate::text::push;
+use crate::ways::{Way, ways};
+use rb_core::seq::Seq;
+use rb_core::types::DataDecl;
+use rb_layout::agreed::Agreed;
+use rb_layout::layout::{Layout, Leaf};
+use std::alloc::{AllocError, Global};
+
+fn push_name(text: &mut Vec<u8>, types: &[DataDecl], ty: u32) -> Result<(), AllocError>
+    ensures { OnOk result (text.new.items ≡ text.old.items ++ type_name (slice_get types.now ty)) }
+{
+    match types.get(ty as usize) {
+        None => Ok(()),
+        Some(decl) => push(text, decl.name.as_slice()),
+    }
+}
+
+fn push_type(text: &mut Vec<u8>, types: &[DataDecl], ty: u32) -> Result<(), AllocError>
+    ensures { OnOk result (text.new.items ≡ text.old.items ++ type_line types.now ty) }
+{
+    push(text, b"type ")?;
+    push_name(text, types, ty)?;
+    push(text, b"\n")?;
+    Ok(())
+}
+
+// The leaves to which ways lead.
+fn push_leaves(
+    text: &mut Vec<u8>,
+    types: &[DataDecl],
+    leaves: &Seq<Leaf>,
+    ways: &[Way],
+) -> Result<(), AllocError>
+    requires { HaveShortBlocks leaves.now }
+    ensures { OnOk result (text.new.items ≡ text.old.items ++ flat_map (way_lines types.now leaves.now) ways.now) }
+{
+    for way in ways {
+        push_way(text, types, leaves, way)?;
+    }
+    Ok(())
+}
+
+/// Adds the text of one layout to a text, where the words of its blocks are few and short, as those of
+/// layouts that agree with their types are.
+///
+/// # Errors
+///
+/// `AllocError` where memory is wanting.
+pub fn push_layout(
+    alloc: Global,
+    text: &mut Vec<u8>,
+    types: &[DataDecl],
+    layout: &Layout,
+) -> Result<(), AllocError>
+    requires { HaveShortBlocks layout.now.leaves }
+    ensures { OnOk result (text.new.items ≡ text.old.items ++ layout_lines types.now layout.now) }
+{
+    push_type(text, types, layout.ty)?;
+    let ways = ways(alloc, &layout.tree)?;
+    push_leaves(text, types, &layout.leaves, ways.as_slice())?;
+    Ok(())
+}
+
+/// The text of the layouts of a program, in the order of its types: for each leaf its provenance, the
+/// conditions of the splits above it from the outside, and its words and blocks with their parts and
+/// their free bits.
+///
+/// # Errors
+///
+/// `AllocError` where memory is wanting.
+pub fn show_layouts(alloc: Global, agreed: &Agreed) -> Result<Vec<u8>, AllocError>
+    ensures { IfOk result (λ text. text.items ≡ layouts_text agreed.now.covered.program.types agreed.now.layouts) }
+{
+    let mut text = Vec::new(alloc);
+    let types = agreed.covered().program().types.as_slice();
+    for layout in agreed.layouts() {
+        push_layout(alloc, &mut text, types, layout)?;
+    }
+    Ok(text)
+}

@@ -1,0 +1,114 @@
+//! The lines of words and of blocks.
+
+ghost use Rattle.std.specs.Prelude.{◌≡◌, ◌++◌, OnOk};
+ghost use Rattle.rb_layout.specs.Readable.{AreShort};
+ghost use Rattle.rb_show.specs.Short.{HaveShortWords};
+ghost use Rattle.rb_show.specs.Lines.{numbered, block_line, block_lines, block_word_lines, root_word_lines, size_line, width_lines, word_lines_at};
+
+use crate::piece::push_pieces;
+use crate::text::{push, push_number};
+use rb_layout::block_size;
+use rb_layout::layout::{Block, FlatWord};
+use std::alloc::AllocError;
+
+// The end of a word's first line, and the lines of its pieces.
+fn push_width(text: &mut Vec<u8>, word: &FlatWord) -> Result<(), AllocError>
+    ensures { OnOk result (text.new.items ≡ text.old.items ++ width_lines word.now) }
+{
+    push(text, b": ")?;
+    push_number(text, word.width)?;
+    push(text, b" bits")?;
+    push(text, b"\n")?;
+    push_pieces(text, word)?;
+    Ok(())
+}
+
+fn push_root_word(text: &mut Vec<u8>, number: u64, word: &FlatWord) -> Result<(), AllocError>
+    ensures { OnOk result (text.new.items ≡ text.old.items ++ root_word_lines number word.now) }
+{
+    push(text, b"word ")?;
+    push_number(text, number)?;
+    push_width(text, word)?;
+    Ok(())
+}
+
+/// Adds the lines of the words of a root, which are numbered from 0.
+pub(crate) fn push_root(text: &mut Vec<u8>, words: &[FlatWord]) -> Result<(), AllocError>
+    ensures { OnOk result (text.new.items ≡ text.old.items ++ numbered root_word_lines 0 words.now) }
+{
+    for (i, word) in words.iter().enumerate() {
+        push_root_word(text, i as u64, word)?;
+    }
+    Ok(())
+}
+
+// A word of a block, with so many bytes below it.
+fn push_block_word(
+    text: &mut Vec<u8>,
+    number: u64,
+    byte: u64,
+    word: &FlatWord,
+) -> Result<(), AllocError>
+    ensures { OnOk result (text.new.items ≡ text.old.items ++ word_lines_at byte number word.now) }
+{
+    push(text, b"word ")?;
+    push_number(text, number)?;
+    push(text, b" at byte ")?;
+    push_number(text, byte)?;
+    push_width(text, word)?;
+    Ok(())
+}
+
+// The words of a block, one after the other.
+fn push_block_words(text: &mut Vec<u8>, words: &[FlatWord]) -> Result<(), AllocError>
+    requires { AreShort words.now }
+    ensures { OnOk result (text.new.items ≡ text.old.items ++ numbered (block_word_lines words.now) 0 words.now) }
+{
+    let mut byte: u64 = 0;
+    for (i, word) in words.iter().enumerate() {
+        push_block_word(text, i as u64, byte, word)?;
+        byte += word.width / 8;
+    }
+    Ok(())
+}
+
+// The end of a block's first line.
+fn push_size(text: &mut Vec<u8>, size: u64, align: u64) -> Result<(), AllocError>
+    ensures { OnOk result (text.new.items ≡ text.old.items ++ size_line size align) }
+{
+    push(text, b": ")?;
+    push_number(text, size)?;
+    push(text, b" bytes, align ")?;
+    push_number(text, align)?;
+    push(text, b"\n")?;
+    Ok(())
+}
+
+fn push_block_line(text: &mut Vec<u8>, number: u64, size: u64, align: u64) -> Result<(), AllocError>
+    ensures { OnOk result (text.new.items ≡ text.old.items ++ block_line number size align) }
+{
+    push(text, b"block ")?;
+    push_number(text, number)?;
+    push_size(text, size, align)?;
+    Ok(())
+}
+
+fn push_block(text: &mut Vec<u8>, number: u64, block: &Block) -> Result<(), AllocError>
+    requires { AreShort block.now.words }
+    ensures { OnOk result (text.new.items ≡ text.old.items ++ block_lines number block.now) }
+{
+    push_block_line(text, number, block_size(block), block.align)?;
+    push_block_words(text, block.words.as_slice())?;
+    Ok(())
+}
+
+/// Adds the lines of blocks, which are numbered from 0.
+pub(crate) fn push_blocks(text: &mut Vec<u8>, blocks: &[Block]) -> Result<(), AllocError>
+    requires { HaveShortWords blocks.now }
+    ensures { OnOk result (text.new.items ≡ text.old.items ++ numbered block_lines 0 blocks.now) }
+{
+    for (i, block) in blocks.iter().enumerate() {
+        push_block(text, i as u64, block)?;
+    }
+    Ok(())
+}
