@@ -31,7 +31,7 @@ use Rattle.rb_rel.proofs.Growth.{Represents-kept}
 use Rattle.rb_rel.proofs.Lists.{both, got}
 use Rattle.rb_rel.proofs.Makings.{making-Num}
 use Rattle.rb_rel.proofs.Layers.{address_at}
-use Rattle.rb_rel.proofs.Storing.{fill}
+use Rattle.rb_rel.proofs.Storing.{with_blocks}
 use Rattle.rb_coding.specs.inner.Packing.{word_made}
 use Rattle.rb_values.specs.Nodes.{at, posts}
 use Rattle.rb_coding.specs.declared.table.Table.{Table}
@@ -265,7 +265,7 @@ module _ (p : Program) (is_typed : IsTyped p) (agrees : Agrees p) (ty : Ty) (v :
         let c = chosen p is_typed agrees t x.0 (small_by p is_typed agrees (shape_of the_types x.0 (Named t) typed_here)) typed_here in
         let same : leaf ≡ c.leaf = same_Some leaf c.leaf (sym is_leaf ∙ chosen_in p is_typed agrees t x.0 c) in
         let progress' : Progress m m' (map request_of c.leaf.blocks) bs = subst (λ (l : Leaf). Progress m m' (map request_of l.blocks) bs) same progress in
-        let filled' : m' ≡ fill (word_made ss (address_at bs)) m c.leaf.blocks = filled ∙ ap (λ (l : Leaf). fill (word_made ss (address_at bs)) m l.blocks) same in
+        let filled' : m' ≡ with_blocks (word_made ss (address_at bs)) m c.leaf.blocks = filled ∙ ap (λ (l : Leaf). with_blocks (word_made ss (address_at bs)) m l.blocks) same in
         let words' : ws ≡ map (word_made ss (address_at bs)) c.leaf.root = words ∙ ap (λ (l : Leaf). map (word_made ss (address_at bs)) l.root) same in
         let requests : map request_of c.leaf.blocks ≡ blocks_of the_layouts t x.0 = sym (ap blocks_in (chosen_in p is_typed agrees t x.0 c)) in (
           bs,

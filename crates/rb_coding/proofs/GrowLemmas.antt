@@ -15,7 +15,7 @@ use Rattle.rb_layout.specs.declared.layout.Kind.TheVariants.{Const, Bits, Word, 
 use Rattle.rb_layout.specs.Words.{size_of, begins_at}
 use Rattle.rb_rel.specs.Placing.{Laid, Fits, Over, Request, request_of, behind, lay}
 use Rattle.rb_rel.proofs.Packing.{number_of}
-use Rattle.rb_rel.proofs.Storing.{written, filled_of, fill, IsBlock, filled_grown}
+use Rattle.rb_rel.proofs.Storing.{written, with_block, with_blocks, IsBlock, filled_grown}
 use Rattle.rb_rel.proofs.Layers.{address_at}
 use Rattle.rb_coding.specs.Encoding.{laid_before}
 use Rattle.rb_coding.specs.inner.Filling.{behind_all, Progress, Stopped}
@@ -106,7 +106,7 @@ module _ (m : Memory) (size align : ℕ) where
   ]
 
 pub progress_one : (m : Memory) → IsGood m → (block : Block) → IsBlock block → (number : FlatWord → ℕ) → leb (aligned m.next block.align + size_of block) m.limit ≡ true
-    → aligned m.next block.align + size_of block ≤ m.limit → Progress m (filled_of number m block) (request_of block ∷ []) ((aligned m.next block.align, size_of block) ∷ [])
+    → aligned m.next block.align + size_of block ≤ m.limit → Progress m (with_block number m block) (request_of block ∷ []) ((aligned m.next block.align, size_of block) ∷ [])
 progress_one m good block is number fits room =
     let a = aligned m.next block.align in
     record {
@@ -159,23 +159,23 @@ written_same number number' (f ∷ fs) at bytes s =
     ap (λ n. written number fs (at + f.width / 8) (write_le bytes (f.width / 8) at n)) (s 0 f refl)
     ∙ written_same number number' fs (at + f.width / 8) (write_le bytes (f.width / 8) at (number' f)) (λ j x e. s (suc j) x e)
 
-pub filled_same : (number number' : FlatWord → ℕ) (m : Memory) (block : Block) → SameOn number number' block.words → filled_of number m block ≡ filled_of number' m block
+pub filled_same : (number number' : FlatWord → ℕ) (m : Memory) (block : Block) → SameOn number number' block.words → with_block number m block ≡ with_block number' m block
 filled_same number number' m block s =
     let a = aligned m.next block.align in
     ap (λ (bytes : List (Option ℕ)). record { limit = m.limit; next = a + size_of block; blocks = m.blocks ++ (a, size_of block) ∷ []; bytes = bytes }) (written_same number number' block.words a m.bytes s)
 
-pub fill_same : (number number' : FlatWord → ℕ) (m : Memory) (blocks : List Block) → ((b : ℕ) (block : Block) → slice_get blocks b ≡ Some block → SameOn number number' block.words) → fill number m blocks ≡ fill number' m blocks
+pub fill_same : (number number' : FlatWord → ℕ) (m : Memory) (blocks : List Block) → ((b : ℕ) (block : Block) → slice_get blocks b ≡ Some block → SameOn number number' block.words) → with_blocks number m blocks ≡ with_blocks number' m blocks
 fill_same number number' m [] s = refl
 fill_same number number' m (block ∷ blocks) s =
-    ap (λ (x : Memory). fill number x blocks) (filled_same number number' m block (s 0 block refl)) ∙ fill_same number number' (filled_of number' m block) blocks (λ b x e. s (suc b) x e)
+    ap (λ (x : Memory). with_blocks number x blocks) (filled_same number number' m block (s 0 block refl)) ∙ fill_same number number' (with_block number' m block) blocks (λ b x e. s (suc b) x e)
 
-fill_more' : (number : FlatWord → ℕ) (m : Memory) (blocks : List Block) (i : ℕ) (block : Block) → slice_get blocks i ≡ Some block → fill number m (take (suc i) blocks) ≡ filled_of number (fill number m (take i blocks)) block
+fill_more' : (number : FlatWord → ℕ) (m : Memory) (blocks : List Block) (i : ℕ) (block : Block) → slice_get blocks i ≡ Some block → with_blocks number m (take (suc i) blocks) ≡ with_block number (with_blocks number m (take i blocks)) block
 fill_more' number m [] i block is = absurd cc
-fill_more' number m (x ∷ blocks) zero block is = ap (filled_of number m) (same_Some x block is)
-fill_more' number m (x ∷ blocks) (suc i) block is = fill_more' number (filled_of number m x) blocks i block is
+fill_more' number m (x ∷ blocks) zero block is = ap (with_block number m) (same_Some x block is)
+fill_more' number m (x ∷ blocks) (suc i) block is = fill_more' number (with_block number m x) blocks i block is
 
-pub fill_more : (number : FlatWord → ℕ) (m : Memory) (blocks : List Block) (i : ℕ) (block : Block) → slice_get blocks i ≡ Some block → fill number m (take (i + 1) blocks) ≡ filled_of number (fill number m (take i blocks)) block
-fill_more number m blocks i block is = let z : suc i ≡ i + 1 = omega arith in subst (λ n. fill number m (take n blocks) ≡ filled_of number (fill number m (take i blocks)) block) z (fill_more' number m blocks i block is)
+pub fill_more : (number : FlatWord → ℕ) (m : Memory) (blocks : List Block) (i : ℕ) (block : Block) → slice_get blocks i ≡ Some block → with_blocks number m (take (i + 1) blocks) ≡ with_block number (with_blocks number m (take i blocks)) block
+fill_more number m blocks i block is = let z : suc i ≡ i + 1 = omega arith in subst (λ n. with_blocks number m (take n blocks) ≡ with_block number (with_blocks number m (take i blocks)) block) z (fill_more' number m blocks i block is)
 
 -- words whose pointers lead to the same addresses are the same
 number_same : (subs : List ℕ → List ℕ) (ats ats' : ℕ → ℕ) (l : ℕ) (kind : Kind) → ((align c : ℕ) → kind ≡ Pointer align c → ats c ≡ ats' c) → number_of subs ats l kind ≡ number_of subs ats' l kind

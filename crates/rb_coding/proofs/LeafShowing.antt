@@ -35,7 +35,7 @@ use Rattle.rb_rel.proofs.Known.{ltb_is}
 use Rattle.rb_rel.proofs.Layers.{Sound, sound, stored, made, numbered, layer_shown, can_hold, fits_at, address_at}
 use Rattle.rb_rel.proofs.Lists.{get-mapped}
 use Rattle.rb_rel.proofs.Packing.{number_of, packed}
-use Rattle.rb_rel.proofs.Storing.{fill}
+use Rattle.rb_rel.proofs.Storing.{with_blocks}
 use Rattle.rb_coding.specs.inner.Filling.{ArePlaceable, Progress}
 use Rattle.rb_coding.specs.inner.Packing.{put_into, made_of, word_made}
 use Rattle.rb_coding.proofs.GrowLemmas.{fill_same, progress_fits}
@@ -166,7 +166,7 @@ module _ (p : Program) (typed : IsTyped p) (agrees : Agrees p) where
 
     module _ (m : Memory) (good : IsGood m) (ss : List ℕ → List ℕ)
         (shown : (k : ℕ) (o : Open) → slice_get (open_positions types leaf.prov) k ≡ Some o → (u : Value) × (part_at v o.path ≡ Some u) × Represents types layouts m true o.ty u (ss o.path))
-        (bs : List (ℕ × ℕ)) (m' : Memory) (progress : Progress m m' (map request_of leaf.blocks) bs) (is_filled : m' ≡ fill (word_made ss (address_at bs)) m leaf.blocks) where
+        (bs : List (ℕ × ℕ)) (m' : Memory) (progress : Progress m m' (map request_of leaf.blocks) bs) (is_filled : m' ≡ with_blocks (word_made ss (address_at bs)) m leaf.blocks) where
       laid : lay m.limit m.next (map request_of leaf.blocks) ≡ Fits bs m'.next
       laid = progress_fits m m' (map request_of leaf.blocks) bs progress
 

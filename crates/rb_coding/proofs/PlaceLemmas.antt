@@ -12,7 +12,7 @@ use Rattle.rb_layout.specs.declared.layout.Block.{Block}
 use Rattle.rb_layout.specs.declared.layout.FlatWord.{FlatWord}
 use Rattle.rb_layout.specs.Words.{size_of, bytes_in, begins_at}
 use Rattle.rb_rel.specs.Placing.{Request, request_of}
-use Rattle.rb_rel.proofs.Storing.{written, filled_of, fill, IsBlock, begins_within, within_yes}
+use Rattle.rb_rel.proofs.Storing.{written, with_block, with_blocks, IsBlock, begins_within, within_yes}
 use Rattle.rb_rel.proofs.Layers.{address_at}
 use Rattle.rb_coding.specs.inner.Filling.{Progress, Stopped, ArePlaceable}
 use Rattle.rb_coding.specs.inner.Packing.{word_made}
@@ -54,7 +54,7 @@ pub record Placing (subs : List ℕ → List ℕ) (blocks : List Block) (old new
   pub is_addresses : addresses ≡ map (λ (b : ℕ × ℕ). b.0) bs
   pub count : length addresses ≡ i
   pub progress : Progress old new (map request_of (take i blocks)) bs
-  pub filled : (ats : ℕ → ℕ) → ((b : ℕ) → b < i → ats b ≡ slice_index addresses b) → new ≡ fill (word_made subs ats) old (take i blocks)
+  pub filled : (ats : ℕ → ℕ) → ((b : ℕ) → b < i → ats b ≡ slice_index addresses b) → new ≡ with_blocks (word_made subs ats) old (take i blocks)
 
 pub placing_none : (subs : List ℕ → List ℕ) (blocks : List Block) (m : Memory) → IsGood m → Placing subs blocks m m [] 0
 placing_none subs blocks m good = record { bs = []; is_addresses = refl; count = refl; progress = progress_none m good; filled = λ ats h. refl }
@@ -73,24 +73,24 @@ module _ (subs : List ℕ → List ℕ) (blocks : List Block) (can : ArePlaceabl
   placing_next m1 m2 base place stored =
       let a = aligned m.next block.align in
       let number = word_made subs (slice_index addresses) in
-      let e1 : record m1 { bytes = written number block.words base m1.bytes } ≡ filled_of number m block =
+      let e1 : record m1 { bytes = written number block.words base m1.bytes } ≡ with_block number m block =
       ap (λ (x : Memory). record x { bytes = written number block.words base x.bytes }) place.is_memory
       ∙ ap (λ b. record m { next = a + size_of block; blocks = m.blocks ++ (a, size_of block) ∷ []; bytes = written number block.words b m.bytes }) place.is_base in
-      let e : m2 ≡ filled_of number m block = stored ∙ e1 in
+      let e : m2 ≡ with_block number m block = stored ∙ e1 in
       let one = progress_one m p.progress.grown.good block (block_is blocks can i block is) number place.fits place.room in
-      let both = progress_trans old m (filled_of number m block) (map request_of (take i blocks)) (request_of block ∷ []) p.bs ((a, size_of block) ∷ []) p.progress one in
+      let both = progress_trans old m (with_block number m block) (map request_of (take i blocks)) (request_of block ∷ []) p.bs ((a, size_of block) ∷ []) p.progress one in
       record {
         bs = p.bs ++ (a, size_of block) ∷ [];
         is_addresses = ap (λ x. addresses ++ x ∷ []) place.is_base ∙ ap (λ xs. xs ++ a ∷ []) p.is_addresses ∙ sym (map-append (λ (b : ℕ × ℕ). b.0) p.bs ((a, size_of block) ∷ []));
         count = (let l = length-append addresses (base ∷ []) in let c = p.count in omega (arith, l, c));
         progress = subst (λ (x : Memory). Progress old x (map request_of (take (i + 1) blocks)) (p.bs ++ (a, size_of block) ∷ [])) (sym e)
-            (subst (λ rs. Progress old (filled_of number m block) rs (p.bs ++ (a, size_of block) ∷ [])) (sym (requests_more blocks i block is)) both);
+            (subst (λ rs. Progress old (with_block number m block) rs (p.bs ++ (a, size_of block) ∷ [])) (sym (requests_more blocks i block is)) both);
         filled = λ ats h.
             (let c = p.count in
             let earlier : (b : ℕ) → b < i → ats b ≡ slice_index addresses b = λ b lt. h b (omega (arith, lt)) ∙ index_before addresses base b (omega (arith, lt, c)) in
             let words = filled_same number (word_made subs ats) m block
             (λ j f at. made_same subs (slice_index addresses) ats f.parts (λ k q kat align b pointer. sym (earlier b (can.below i block is j f at k q kat align b pointer)))) in
-            e ∙ words ∙ ap (λ (x : Memory). filled_of (word_made subs ats) x block) (p.filled ats earlier) ∙ sym (fill_more (word_made subs ats) old blocks i block is));
+            e ∙ words ∙ ap (λ (x : Memory). with_block (word_made subs ats) x block) (p.filled ats earlier) ∙ sym (fill_more (word_made subs ats) old blocks i block is));
       }
 
   -- where it does not fit
@@ -114,13 +114,13 @@ rest_of (x ∷ blocks) (suc i) block is = let r = rest_of blocks i block is in (
 
 -- all are placed
 pub placing_all : (subs : List ℕ → List ℕ) (blocks : List Block) (old m : Memory) (addresses : List ℕ) (i : ℕ) → length blocks ≤ i → Placing subs blocks old m addresses i
-    → (bs : List (ℕ × ℕ)) × (addresses ≡ map (λ (b : ℕ × ℕ). b.0) bs) × Progress old m (map request_of blocks) bs × (m ≡ fill (word_made subs (address_at bs)) old blocks)
+    → (bs : List (ℕ × ℕ)) × (addresses ≡ map (λ (b : ℕ × ℕ). b.0) bs) × Progress old m (map request_of blocks) bs × (m ≡ with_blocks (word_made subs (address_at bs)) old blocks)
 placing_all subs blocks old m addresses i le p =
     let w = take_whole blocks i le in (
       p.bs,
       p.is_addresses,
       subst (λ (xs : List Block). Progress old m (map request_of xs) p.bs) w p.progress,
-      p.filled (address_at p.bs) (λ b lt. address_is_index p.bs b ∙ ap (λ xs. slice_index xs b) (sym p.is_addresses)) ∙ ap (fill (word_made subs (address_at p.bs)) old) w,
+      p.filled (address_at p.bs) (λ b lt. address_is_index p.bs b ∙ ap (λ xs. slice_index xs b) (sym p.is_addresses)) ∙ ap (with_blocks (word_made subs (address_at p.bs)) old) w,
     )
 
 pub placed_found : (m m' : Memory) (block : Block) (base : ℕ) → IsGood m → IsBlock block → IsPlace m (size_of block) block.align m' base → size_at m'.blocks base ≡ Some (size_of block)

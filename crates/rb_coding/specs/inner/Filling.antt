@@ -12,7 +12,7 @@ use Rattle.rb_layout.specs.A4.{IsBlockWidth}
 use Rattle.rb_layout.specs.Readable.{AreShort}
 use Rattle.rb_layout.specs.Words.{size_of}
 use Rattle.rb_rel.specs.Placing.{Laid, Over, Request, request_of, behind, lay}
-use Rattle.rb_rel.proofs.Storing.{fill}
+use Rattle.rb_rel.proofs.Storing.{with_blocks}
 use Rattle.rb_rel.proofs.Layers.{address_at}
 use Rattle.rb_coding.specs.declared.fault.EncodeFault.{EncodeFault}
 use Rattle.rb_coding.specs.declared.fault.EncodeFault.TheVariants.{Full, Memory as NoMemory}
@@ -50,7 +50,7 @@ pub record ArePlaceable (blocks : List Block) : Type 0 where
 abbrev pub ArePlaced : (List ℕ → List ℕ) → List Block → Memory → Memory → Result (List ℕ) EncodeFault → Type 0
 ArePlaced subs blocks old new (Ok addresses) =
     (bs : List (ℕ × ℕ)) × (addresses ≡ map (λ (b : ℕ × ℕ). b.0) bs) × Progress old new (map request_of blocks) bs
-    × (new ≡ fill (word_made subs (address_at bs)) old blocks)
+    × (new ≡ with_blocks (word_made subs (address_at bs)) old blocks)
 ArePlaced subs blocks old new (Err (Full full)) = Stopped old new (map request_of blocks) full
 ArePlaced subs blocks old new (Err NoMemory) = Unit {0}
 
@@ -58,6 +58,6 @@ ArePlaced subs blocks old new (Err NoMemory) = Unit {0}
 abbrev pub IsMade : (List ℕ → List ℕ) → Leaf → Memory → Memory → Result (List ℕ) EncodeFault → Type 0
 IsMade subs leaf old new (Ok ws) =
     (bs : List (ℕ × ℕ)) × Progress old new (map request_of leaf.blocks) bs
-    × (new ≡ fill (word_made subs (address_at bs)) old leaf.blocks) × (ws ≡ map (word_made subs (address_at bs)) leaf.root)
+    × (new ≡ with_blocks (word_made subs (address_at bs)) old leaf.blocks) × (ws ≡ map (word_made subs (address_at bs)) leaf.root)
 IsMade subs leaf old new (Err (Full full)) = Stopped old new (map request_of leaf.blocks) full
 IsMade subs leaf old new (Err NoMemory) = Unit {0}
