@@ -177,24 +177,24 @@ module _ (p : Program) (typed : IsTyped p) (agrees : Agrees p) where
       reps k o e = let q = shown k o e in (q.0, q.2)
 
       abbrev numbers : FlatWord → ℕ
-      numbers = numbered p agrees t c.layout c.number leaf ok m good ss reps wide bs m'.next laid
+      numbers = numbered p agrees true t c.layout c.number leaf ok m good ss reps wide bs m'.next laid
 
       word_is : (b : Option ℕ) (j : ℕ) (f : FlatWord) → slice_get (words_in leaf b) j ≡ Some f → word_made ss (address_at bs) f ≡ numbers f
       word_is b j f e =
-          let w = fits_at p agrees t c.layout c.number leaf ok m good ss reps wide bs m'.next laid b j f e in
-          let h = can_hold p agrees t c.layout c.number leaf ok m good ss reps wide bs m'.next laid (record { block = b; word = j }) f e w in
+          let w = fits_at p agrees true t c.layout c.number leaf ok m good ss reps wide bs m'.next laid b j f e in
+          let h = can_hold p agrees true t c.layout c.number leaf ok m good ss reps wide bs m'.next laid (record { block = b; word = j }) f e w in
           let n = narrow b j f e in
           made_packed ss (address_at bs) f.parts (λ k q at. (w.some k q at, (let i = w.tidy.inside k q at in omega (arith, i, n)), h.fit k q at))
 
-      same_memory : m' ≡ made p agrees t c.layout c.number leaf ok m good ss reps wide bs m'.next laid
+      same_memory : m' ≡ made p agrees true t c.layout c.number leaf ok m good ss reps wide bs m'.next laid
       same_memory =
           is_filled ∙ fill_same (word_made ss (address_at bs)) numbers m leaf.blocks (λ b block e j f h. word_is (Some b) j f (ap (λ x. slice_get (words_of_block x) j) e ∙ h))
-          ∙ sym (stored p agrees t c.layout c.number leaf ok m good ss reps wide bs m'.next laid).is_filled
+          ∙ sym (stored p agrees true t c.layout c.number leaf ok m good ss reps wide bs m'.next laid).is_filled
 
       -- the value is shown by its leaf's words
       pub leaf_shown : (ws : List ℕ) → ws ≡ map (word_made ss (address_at bs)) leaf.root → Represents types layouts m' true (Named t) v ws
       leaf_shown ws is =
-          let here = layer_shown p agrees t c.layout c.number leaf ok m good ss reps wide bs m'.next laid v c.is_layout c.is_leaf c.is_number (λ path. unwrap_or (part_at v path) v)
+          let here = layer_shown p agrees true t c.layout c.number leaf ok m good ss reps wide bs m'.next laid v c.is_layout c.is_leaf c.is_number (λ path. unwrap_or (part_at v path) v)
           (λ i o at. let q = shown i o at in let x = ap (λ y. unwrap_or y v) q.1 in (q.1 ∙ ap Some (sym x), subst (λ u. Represents types layouts m true o.ty u (ss o.path)) (sym x) q.2)) in
           let words : ws ≡ map numbers leaf.root = is ∙ map_same (word_made ss (address_at bs)) numbers leaf.root (λ j f e. word_is None j f e) in
           subst (λ xs. Represents types layouts m' true (Named t) v xs) (sym words) (subst (λ (x : Memory). Represents types layouts x true (Named t) v (map numbers leaf.root)) (sym same_memory) here)

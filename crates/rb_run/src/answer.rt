@@ -126,8 +126,8 @@ fn answer_value(
     }
 }
 
-// The result type of `main`.
-fn result_of_main(program: &Program) -> Ty
+/// The result type of `main`.
+pub fn result_of_main(program: &Program) -> Ty
     ensures { result ≡ result_type program.now.funs program.now.main }
 {
     match program.funs.get(program.main as usize) {

@@ -14,4 +14,3 @@ pub mod TextLaws
 pub mod Tokens
 pub mod WordTexts
 pub mod WordsRead
-pub mod integer_laws

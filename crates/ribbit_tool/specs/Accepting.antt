@@ -9,6 +9,7 @@ use Rattle.rb_core.specs.declared.program.Program.{Program}
 use Rattle.rb_core.specs.declared.types.DataDecl.{DataDecl}
 use Rattle.rb_core.specs.declared.typing.TypeFault.{TypeFault}
 use Rattle.rb_core.specs.declared.typing.TypeFault.TheVariants as types
+use Rattle.rb_layout.specs.Agreement.{Agrees}
 use Rattle.rb_names.specs.Programs.{numbered}
 use Rattle.rb_names.specs.declared.fault.NameFault.{NameFault}
 use Rattle.rb_names.specs.declared.fault.NameFault.TheVariants as names
@@ -51,12 +52,13 @@ pub record IsNamed (bytes : List ℕ) (placed : List Placed) (p : Program) : Typ
   pub read : IsRead bytes placed file
   pub named : numbered file ≡ Ok p
 
--- and it is typed, and each of its matches is exhaustive
+-- and it is typed, each of its matches is exhaustive, and its layouts agree
 pub record IsAccepted (bytes : List ℕ) (p : Program) : Type 0 where
   pub placed : List Placed
   pub named : IsNamed bytes placed p
   pub typed : IsTyped p
   pub exhaustive : AreExhaustive p.types (sites_of p)
+  pub agrees : Agrees p
 
 -- Refused files -----------------------------------------------------------------------------
 

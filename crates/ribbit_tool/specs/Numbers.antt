@@ -17,6 +17,7 @@ status_number status.NoMemory = 9
 status_number status.Argument = 10
 status_number status.Limit = 11
 status_number status.Trap = 12
+status_number status.TooLarge = 13
 status_number status.Code = 14
 status_number status.Unbuilt = 15
 

@@ -5,10 +5,13 @@ ghost use Rattle.std.specs.Prelude.{◌≡◌, ◌≤◌, length, IfOk, IfErr, O
 ghost use Rattle.rb_core.specs.Coverage.{IsCovered};
 ghost use Rattle.rb_core.specs.TypedPrograms.{IsTyped};
 ghost use Rattle.rb_core.specs.WellNumbered.{IsWellNumbered};
+ghost use Rattle.rb_layout.specs.Agreement.{Agrees};
+ghost use Rattle.rb_layout.specs.Flattening.{flat_layouts};
 ghost use Rattle.rb_names.specs.Programs.{numbered};
 ghost use Rattle.rb_syntax.specs.Cutting.{HasTokens};
 ghost use Rattle.rb_syntax.specs.Lexing.{lexed};
 ghost use Rattle.ribbit_tool.specs.Accepting.{IsNamed, IsRead, IsRefused};
+ghost use Rattle.ribbit_tool.specs.declared.refusal.Refusal.TheVariants.{Memory};
 ghost use Rattle.ribbit_tool.specs.View.{IsAcceptance, IsRefusal};
 
 use crate::refusal::{
@@ -17,6 +20,7 @@ use crate::refusal::{
 use rb_check::{CoverFault, check, cover};
 use rb_core::program::Program;
 use rb_core::typed::{Covered, Typed};
+use rb_layout::agreed::Agreed;
 use rb_names::resolve;
 use rb_read::read::read_file;
 use rb_syntax::lex::lex;
@@ -31,8 +35,8 @@ pub struct Accepted {
     pub placed: Vec<Placed>,
     /// Its tree.
     pub file: FileTree,
-    /// Its program.
-    pub covered: Covered,
+    /// Its program, with the flat forms of its layouts.
+    pub agreed: Agreed,
 }
 
 // The tokens of the bytes.
@@ -131,6 +135,16 @@ fn annotate(
     }
 }
 
+// The program with the flat forms of its layouts.
+fn lay_out(alloc: Global, covered: Covered) -> Result<Agreed, Refusal>
+    ensures same { IfOk result (λ agreed. agreed.covered ≡ covered) }
+    ensures flat { IfOk result (λ agreed. agreed.layouts ≡ flat_layouts agreed.covered.program) }
+    ensures agree { IfOk result (λ agreed. Agrees agreed.covered.program) }
+    ensures refused { IfErr result (λ r. r ≡ Memory) }
+{
+    Err(Refusal::Memory)
+}
+
 /// The file of these bytes, if it is accepted, or the answer that refuses it.
 pub fn accept(alloc: Global, bytes: &[u8]) -> Result<Accepted, Refusal>
     requires { length bytes.now ≤ 262144 }
@@ -143,9 +157,10 @@ pub fn accept(alloc: Global, bytes: &[u8]) -> Result<Accepted, Refusal>
     let program = name(alloc, bytes, tokens, &file)?;
     let typed = ascribe(alloc, bytes, tokens, program)?;
     let covered = annotate(alloc, bytes, tokens, typed)?;
+    let agreed = lay_out(alloc, covered)?;
     Ok(Accepted {
         placed,
         file,
-        covered,
+        agreed,
     })
 }

@@ -26,6 +26,8 @@ pub enum Status {
     Limit,
     /// The code traps.
     Trap,
+    /// The value has too many nodes to be shown.
+    TooLarge,
     /// The bytes are no valid code.
     Code,
     /// Not built yet.
@@ -48,6 +50,7 @@ impl Status {
             Status::Argument => 10,
             Status::Limit => 11,
             Status::Trap => 12,
+            Status::TooLarge => 13,
             Status::Code => 14,
             Status::Unbuilt => 15,
         }
