@@ -5,6 +5,8 @@ pub mod GrowLemmas
 pub mod LeafLemmas
 pub mod LeafShowing
 pub mod PlaceLemmas
+pub mod PlanLemmas
 pub mod PostLemmas
 pub mod TableLemmas
+pub mod TodoLemmas
 pub mod WaitLemmas

@@ -1,7 +1,8 @@
 //! Why a value is not encoded.
 
 ghost use Rattle.std.specs.Prelude.{◌≡◌};
-ghost use Rattle.rb_coding.specs.declared.fault.EncodeFault.TheVariants.{Memory};
+ghost use Rattle.rb_coding.specs.declared.fault.EncodeFault.TheVariants as encoding;
+ghost use Rattle.rb_coding.specs.declared.fault.DecodeFault.TheVariants as decoding;
 
 use rb_bytes::fault::Full;
 use std::alloc::{AllocError, AllocFailed};
@@ -18,8 +19,19 @@ pub enum EncodeFault {
     Memory,
 }
 
+/// Why words are not decoded.
+#[derive(Debug, Drop, Error)]
+pub enum DecodeFault {
+    /// The value has more nodes than the limit.
+    #[error("over the limit of nodes")]
+    TooLarge,
+    /// Want of memory.
+    #[error("no memory")]
+    Memory,
+}
+
 impl From<AllocError> for EncodeFault {
-    ghost from_gives = { λ _ e. e ≡ Memory };
+    ghost from_gives = { λ _ e. e ≡ encoding.Memory };
 
     fn from(_e: AllocError) -> EncodeFault {
         EncodeFault::Memory
@@ -27,9 +39,25 @@ impl From<AllocError> for EncodeFault {
 }
 
 impl<T: Drop> From<AllocFailed<T>> for EncodeFault {
-    ghost from_gives = { λ _ e. e ≡ Memory };
+    ghost from_gives = { λ _ e. e ≡ encoding.Memory };
 
     fn from(_e: AllocFailed<T>) -> EncodeFault {
         EncodeFault::Memory
+    }
+}
+
+impl From<AllocError> for DecodeFault {
+    ghost from_gives = { λ _ e. e ≡ decoding.Memory };
+
+    fn from(_e: AllocError) -> DecodeFault {
+        DecodeFault::Memory
+    }
+}
+
+impl<T: Drop> From<AllocFailed<T>> for DecodeFault {
+    ghost from_gives = { λ _ e. e ≡ decoding.Memory };
+
+    fn from(_e: AllocFailed<T>) -> DecodeFault {
+        DecodeFault::Memory
     }
 }

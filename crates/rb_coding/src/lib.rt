@@ -26,6 +26,7 @@
 
 mod bits;
 mod blocks;
+pub mod decode;
 pub mod encode;
 pub mod fault;
 mod leaf;
@@ -33,3 +34,4 @@ mod node;
 mod pack;
 mod posts;
 mod table;
+mod todo;

@@ -1,0 +1,40 @@
+//! What is still to be done while words are decoded.
+
+ghost use Rattle.std.specs.Prelude.{OnOk};
+ghost use Rattle.rb_core.specs.declared.value.Value.{Value};
+ghost use Rattle.rb_core.specs.declared.types.Ty.TheVariants.{Named};
+ghost use Rattle.rb_bytes.specs.Memory.{IsGood};
+ghost use Rattle.rb_coding.specs.Decoding.{AreOf};
+ghost use Rattle.rb_coding.specs.inner.Todo.{IsOpened};
+
+use rb_bytes::memory::ByteMemory;
+use rb_core::seq::Seq;
+use rb_core::types::Ty;
+use rb_layout::agreed::Agreed;
+use std::alloc::{AllocError, Global};
+
+/// One thing to do: each is one node of the value at least.
+#[derive(Drop)]
+pub enum Step {
+    /// These words at this type are a value.
+    Visit(Ty, Seq<u64>),
+    /// A construction by this constructor of the last so many values.
+    Join(u32, usize),
+}
+
+/// What the words of a value of a data type come to: its leaf's constructors and open positions, so
+/// that the last thing is to be done first.
+pub(crate) fn open<M: ByteMemory>(
+    alloc: Global,
+    agreed: &Agreed,
+    ty: u32,
+    words: &[u64],
+    memory: &M,
+    todo: &mut Vec<Step>,
+) -> Result<(), AllocError>
+    requires good { IsGood (M.memory memory.now) }
+    requires represented { (v : Value) × AreOf agreed.now.covered.program (M.memory memory.now) (Named ty) words.now v }
+    ensures { OnOk result (IsOpened agreed.now.covered.program (M.memory memory.now) ty words.now todo.old.items todo.new.items) }
+{
+    Err(AllocError)
+}
