@@ -1,4 +1,5 @@
 pub mod Accepted
+pub mod ArgumentLaws
 pub mod Counted
 pub mod ExecLaws
 pub mod Faults
@@ -8,6 +9,7 @@ pub mod Named
 pub mod Numbered
 pub mod OneProgram
 pub mod Owing
+pub mod Plainness
 pub mod PromiseLaws
 pub mod ReadLaws
 pub mod TextLaws

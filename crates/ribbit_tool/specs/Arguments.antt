@@ -8,7 +8,7 @@ use Rattle.rb_core.specs.declared.types.Ty.{Ty}
 use Rattle.rb_core.specs.declared.value.Value.{Value}
 use Rattle.rb_values.specs.Reading.{IsRead}
 use Rattle.rb_values.specs.declared.fault.ValueFault.{ValueFault}
-use Rattle.rb_values.specs.declared.fault.ValueFault.TheVariants as fault
+use Rattle.rb_values.specs.declared.fault.ValueFault.TheVariants as kind
 use Rattle.ribbit_tool.specs.Answer.{Due, refusal}
 use Rattle.ribbit_tool.specs.FileLines.{type_text}
 use Rattle.ribbit_tool.specs.Lines.{begun, ended, count_line, no_memory_line}
@@ -49,17 +49,17 @@ abbrev pub misfit_line : List DataDecl → ℕ → Ty → ℕ → List ℕ
 misfit_line types number ty at = ended (argument_begun number ++ codes "no value of " ++ type_text types ty ++ codes " at byte " ++ decimal at)
 
 abbrev pub argument_line : List DataDecl → ℕ → Ty → ValueFault → List ℕ
-argument_line types number ty (fault.ValueSyntax at) = syntax_line number at
-argument_line types number ty fault.ValueTooLarge = large_line number
-argument_line types number ty (fault.ValueType at) = misfit_line types number ty at
-argument_line types number ty fault.Memory = no_memory_line
+argument_line types number ty (kind.ValueSyntax at) = syntax_line number at
+argument_line types number ty kind.ValueTooLarge = large_line number
+argument_line types number ty (kind.ValueType at) = misfit_line types number ty at
+argument_line types number ty kind.Memory = no_memory_line
 
 -- a word is no value of its type within the limit
 pub record IsRefusedAt (types : List DataDecl) (number : ℕ) (ty : Ty) (word : List ℕ) (due : Due) : Type 0 where
   pub fault : ValueFault
-  pub known : fault ≢ fault.Memory
+  pub known : fault ≢ kind.Memory
   pub refused : IsRead types ty node_limit word (Err fault)
-  pub due : due ≡ refusal Argument (argument_line types number ty fault)
+  pub shown : due ≡ refusal Argument (argument_line types number ty fault)
 
 -- the first word that spells no value of its type
 pub record IsFirstRefused (types : List DataDecl) (tys : List Ty) (words : List (List ℕ)) (due : Due) : Type 0 where

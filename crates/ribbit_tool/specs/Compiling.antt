@@ -33,7 +33,7 @@ pub record IsUncompiled (p : Program) (placed : List Placed) (size : ℕ) (due :
   pub deep : ArePlain (flat_layouts p) → ⊥
   pub token : ℕ
   pub first : IsUnplain (flat_layouts p) p.layouts token
-  pub due : due ≡ unbuilt_due (byte_of placed size token)
+  pub shown : due ≡ unbuilt_due (byte_of placed size token)
 
 -- Code --------------------------------------------------------------------------------------
 

@@ -58,7 +58,7 @@ pub record IsAnswered (agreed : LaidOut) (code : List CodeFun) (args : List Valu
   pub taken : ℕ
   pub switches : ℕ
   pub counted : IsCounted agreed code args limits.calls (empty_memory limits.region) taken switches
-  pub due : due ≡ answer_due agreed.covered.program limits.calls (source_answer agreed limits args) taken
+  pub shown : due ≡ answer_due agreed.covered.program limits.calls (source_answer agreed limits args) taken
 
 -- What is due to the run of an accepted file: it is not prepared; or it is, and the source's answer is
 -- given, with the steps of code that does what the source means.
