@@ -1,0 +1,13 @@
+pub mod Lists
+pub mod PointerParts
+pub mod Widths
+pub mod Finding
+pub mod Splitting
+pub mod Testing
+pub mod Covering
+pub mod Writing
+pub mod PartLists
+pub mod Marking
+pub mod Searching
+pub mod Relating
+pub mod Opening

@@ -1,0 +1,15 @@
+use Rattle.std.proofs.Common.{subst, arith}
+use Rattle.std.specs.Prelude.{MatchOption}
+use Rattle.rb_layout.specs.declared.layout.Block.{Block}
+use Rattle.rb_agree.specs.inner.Blocks.{ArePointersFine, FailsPointers, FailsBlock, IsBlock}
+use Rattle.rb_agree.specs.inner.Lists.{EachOf, SomeOf}
+use Rattle.rb_agree.proofs.PointerParts.{block-fails, in-leaf}
+use Rattle.rb_agree.proofs.blocks.blocks_fault.Goals as goal
+
+pub returns-in-Some : goal.returns-in-Some
+returns-in-Some c = block-fails c.args.leaf.now c.in-Some.why (subst (λ bs. SomeOf (λ (b : Block). FailsBlock b c.in-Some.why) bs) c.as_slice.ensures c.in-Some.ensures)
+
+pub returns : goal.returns
+returns c =
+    in-leaf c.args.leaf.now c.pointers_fault.result (omega (arith, c.len.ensures)) (subst (λ bs. EachOf IsBlock bs) c.as_slice.ensures c.in_default.ensures)
+    (subst (λ ws. MatchOption c.pointers_fault.result (ArePointersFine ws) (FailsPointers ws)) c.as_slice-2.ensures c.pointers_fault.ensures)

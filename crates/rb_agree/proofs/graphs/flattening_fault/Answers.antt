@@ -1,0 +1,9 @@
+use Rattle.rb_layout.specs.A9.{Flattens}
+use Rattle.rb_agree.proofs.Relating.{none-found, some-found}
+use Rattle.rb_agree.proofs.graphs.flattening_fault.Goals as goal
+
+pub returns-in-None : goal.returns-in-None
+returns-in-None c = none-found (Flattens c.args.layouts.now) c.args.graph.now c.requires c.args.ty c.in_ok-cycle_from.field-0 c.in-None.is c.in_ok-cycle_from.ensures
+
+pub returns-in-Some : goal.returns-in-Some
+returns-in-Some c = some-found (Flattens c.args.layouts.now) c.args.graph.now c.requires c.args.ty c.in_ok-cycle_from.field-0 c.in-Some.cycle c.in-Some.is c.in_ok-cycle_from.ensures

@@ -1,0 +1,71 @@
+-- Graphs of numbers: for each number those to which it leads; and the graphs of types.
+use Rattle.std.specs.Prelude.{◌≡◌, ◌↔◌, ℕ, List, [], ◌∷◌, map, Option, Some, None, slice_get}
+use Rattle.std.specs.List.{flat_map}
+use Rattle.rb_core.specs.declared.types.ConRef.{ConRef}
+use Rattle.rb_core.specs.declared.types.Ty.{Ty}
+use Rattle.rb_core.specs.declared.types.Ty.TheVariants.{Int, Named}
+use Rattle.rb_core.specs.declared.types.DataDecl.{DataDecl}
+use Rattle.rb_core.specs.declared.pattern.Pat.{Pat}
+use Rattle.rb_layout.specs.declared.layout.Layout.{Layout}
+use Rattle.rb_layout.specs.declared.layout.Leaf.{Leaf}
+use Rattle.rb_layout.specs.declared.layout.FlatWord.{FlatWord}
+use Rattle.rb_layout.specs.declared.layout.Part.{Part}
+use Rattle.rb_layout.specs.declared.layout.Kind.{Kind}
+use Rattle.rb_layout.specs.declared.layout.Kind.TheVariants.{Const, Bits, Word, Pointer}
+use Rattle.rb_layout.specs.Positions.{open_positions}
+use Rattle.rb_layout.specs.Flattening.{type_at}
+use Rattle.rb_layout.specs.A9.{cons_below, cons_of}
+
+abbrev pub row_in : Option (List ℕ) → List ℕ
+row_in None = []
+row_in (Some row) = row
+
+abbrev pub edges_of : List (List ℕ) → ℕ → List ℕ
+edges_of graph t = row_in (slice_get graph t)
+
+abbrev pub Leads : List (List ℕ) → ℕ → ℕ → Type 0
+Leads graph t s = (k : ℕ) × (slice_get (edges_of graph t) k ≡ Some s)
+
+-- the graph leads from a number to another just where they are related
+abbrev pub IsGraphOf : (ℕ → ℕ → Type 0) → List (List ℕ) → Type 0
+IsGraphOf R graph = (t s : ℕ) → Leads graph t s ↔ R t s
+
+abbrev pub types_of_cons : List ConRef → List ℕ
+types_of_cons cs = map (λ (c : ConRef). c.ty) cs
+
+-- the types of the constructors of a pattern, and of those below its root
+abbrev pub pattern_types : Pat → List ℕ
+pattern_types p = types_of_cons (cons_of p)
+
+abbrev pub below_types : Pat → List ℕ
+below_types p = types_of_cons (cons_below p)
+
+abbrev pub leaf_types : Leaf → List ℕ
+leaf_types leaf = below_types leaf.prov
+
+abbrev pub flat_row : Layout → List ℕ
+flat_row layout = flat_map leaf_types layout.leaves
+
+-- the type of the field of which a part has a word
+abbrev pub held_type : Option Ty → List ℕ
+held_type None = []
+held_type (Some (Int bits)) = []
+held_type (Some (Named s)) = s ∷ []
+
+abbrev pub kind_holds : List DataDecl → Pat → Kind → List ℕ
+kind_holds types prov (Const c) = []
+kind_holds types prov (Bits path a) = []
+kind_holds types prov (Word path j) = held_type (type_at (open_positions types prov) path)
+kind_holds types prov (Pointer align b) = []
+
+abbrev pub part_holds : List DataDecl → Pat → Part → List ℕ
+part_holds types prov p = kind_holds types prov p.kind
+
+abbrev pub word_holds : List DataDecl → Pat → FlatWord → List ℕ
+word_holds types prov f = flat_map (part_holds types prov) f.parts
+
+abbrev pub leaf_holds : List DataDecl → Leaf → List ℕ
+leaf_holds types leaf = flat_map (word_holds types leaf.prov) leaf.root
+
+abbrev pub held_row : List DataDecl → Layout → List ℕ
+held_row types layout = flat_map (leaf_holds types) layout.leaves

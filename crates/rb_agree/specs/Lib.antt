@@ -1,0 +1,6 @@
+pub mod Answers
+pub mod Written
+pub mod Pointing
+pub mod Graphs
+pub mod Placed
+pub mod inner

@@ -1,0 +1,48 @@
+-- Which layouts have a pointer part in a leaf.
+use Rattle.std.specs.Prelude.{◌≡◌, ℕ, ◌⊎◌, List, length, Bool, true, false, Option, Some, None, MatchBool, slice_get}
+use Rattle.rb_core.specs.declared.types.ConRef.{ConRef}
+use Rattle.rb_layout.specs.declared.layout.Layout.{Layout}
+use Rattle.rb_layout.specs.declared.layout.Leaf.{Leaf}
+use Rattle.rb_layout.specs.declared.layout.Block.{Block}
+use Rattle.rb_layout.specs.declared.layout.FlatWord.{FlatWord}
+use Rattle.rb_layout.specs.declared.layout.Part.{Part}
+use Rattle.rb_layout.specs.declared.layout.Kind.TheVariants.{Pointer}
+use Rattle.rb_agree.specs.inner.Lists.{SomeOf}
+
+abbrev pub KindPoints : Part → Type 0
+KindPoints p = (align : ℕ) × (b : ℕ) × (p.kind ≡ Pointer align b)
+
+abbrev pub PartsPoint : List Part → Type 0
+PartsPoint parts = SomeOf KindPoints parts
+
+abbrev pub WordsPoint : List FlatWord → Type 0
+WordsPoint words = SomeOf (λ (f : FlatWord). PartsPoint f.parts) words
+
+abbrev pub BlocksPoint : List Block → Type 0
+BlocksPoint blocks = SomeOf (λ (b : Block). WordsPoint b.words) blocks
+
+-- a leaf has a pointer part
+abbrev pub LeafPoints : Leaf → Type 0
+LeafPoints leaf = WordsPoint leaf.root ⊎ BlocksPoint leaf.blocks
+
+abbrev pub LeavesPoint : List Leaf → Type 0
+LeavesPoint leaves = SomeOf LeafPoints leaves
+
+abbrev pub mark_in : Option Bool → Bool
+mark_in None = false
+mark_in (Some mark) = mark
+
+abbrev pub mark_of : List Bool → ℕ → Bool
+mark_of marks t = mark_in (slice_get marks t)
+
+-- a mark for each layout, whether one of its leaves has a pointer part
+pub record AreMarks (layouts : List Layout) (marks : List Bool) : Type 0 where
+  pub count : length marks ≡ length layouts
+  pub each : (t : ℕ) (layout : Layout) (mark : Bool) → slice_get layouts t ≡ Some layout → slice_get marks t ≡ Some mark
+      → MatchBool mark (LeavesPoint layout.leaves) (LeavesPoint layout.leaves → ⊥)
+
+abbrev pub IsUnmarked : List Bool → ConRef → Type 0
+IsUnmarked marks c = mark_of marks c.ty ≡ false
+
+abbrev pub IsMarked : List Bool → ConRef → ℕ → Type 0
+IsMarked marks c t = (c.ty ≡ t) × (mark_of marks c.ty ≡ true)

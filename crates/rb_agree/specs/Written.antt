@@ -1,0 +1,48 @@
+-- The items of a leaf, as values of a program.
+use Rattle.std.specs.Prelude.{List, map}
+use Rattle.rb_core.specs.declared.layout_decl.LayItem.TheFolds.{fold-PartKind, fold-PartDecl}
+use Rattle.rb_core.specs.declared.layout_decl.PartKind.{PartKind}
+use Rattle.rb_core.specs.declared.layout_decl.PartDecl.{PartDecl}
+use Rattle.rb_layout.specs.Items.{Around, item_step, kind_step, part_step}
+use Rattle.rb_layout.specs.Items as I
+use Rattle.rb_agree.specs.declared.items.Content.{Content}
+use Rattle.rb_agree.specs.declared.items.Content.TheVariants.{Number, Whole, Slice, WordOf, Address}
+use Rattle.rb_agree.specs.declared.items.Written.{Written}
+use Rattle.rb_agree.specs.declared.items.Item.{Item}
+use Rattle.rb_agree.specs.declared.items.Item.TheVariants.{Parts, Field}
+
+abbrev pub shown_content : Content → I.Content
+shown_content (Number c) = I.Number c
+shown_content (Whole path) = I.Whole path
+shown_content (Slice path a k) = I.Slice path a k
+shown_content (WordOf path j) = I.WordOf path j
+shown_content (Address align) = I.Address align
+
+abbrev pub shown_part : Written → I.WrittenPart
+shown_part w = record { o = w.o; l = w.l; content = shown_content w.content }
+
+abbrev pub shown_parts : List Written → List I.WrittenPart
+shown_parts ws = map shown_part ws
+
+abbrev pub shown_item : Item → I.Item
+shown_item (Parts width parts) = I.AWord width (map shown_part parts)
+shown_item (Field path) = I.AField path
+
+abbrev pub shown_items : List Item → List I.Item
+shown_items items = map shown_item items
+
+-- what a kind of part is written to hold, a part as it is written, and the items behind its pointer
+abbrev pub kind_around : PartKind → Around I.Content
+kind_around = fold-PartKind (List I.Item) (Around I.Content) (Around I.WrittenPart) item_step kind_step part_step
+
+abbrev pub part_around : PartDecl → Around I.WrittenPart
+part_around = fold-PartDecl (List I.Item) (Around I.Content) (Around I.WrittenPart) item_step kind_step part_step
+
+abbrev pub content_of : PartKind → I.Content
+content_of kind = (kind_around kind).it
+
+abbrev pub written_part : PartDecl → I.WrittenPart
+written_part p = (part_around p).it
+
+abbrev pub inside_of : PartDecl → List I.Item
+inside_of p = (part_around p).inside

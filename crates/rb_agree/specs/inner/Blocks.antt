@@ -1,0 +1,60 @@
+-- Blocks and pointers, part by part, word by word and block by block.
+use Rattle.std.specs.Prelude.{◌≡◌, ℕ, ◌+◌, ◌^◌, ◌<◌, List, length}
+use Rattle.rb_layout.specs.declared.layout.Block.{Block}
+use Rattle.rb_layout.specs.declared.layout.FlatWord.{FlatWord}
+use Rattle.rb_layout.specs.declared.layout.Part.{Part}
+use Rattle.rb_layout.specs.declared.layout.Kind.{Kind}
+use Rattle.rb_layout.specs.declared.layout.Kind.TheVariants.{Const, Bits, Word, Pointer}
+use Rattle.rb_layout.specs.declared.evidence.Why.{Why}
+use Rattle.rb_layout.specs.declared.evidence.Why.TheVariants.{BlockWord, BlockWords, Align, ShortPointer}
+use Rattle.rb_layout.specs.A4.{IsAlignment, IsBlockLength, IsBlockWidth, IsWide}
+use Rattle.rb_agree.specs.inner.Lists.{EachOf, SomeOf}
+
+abbrev pub FailsPointer : ℕ → ℕ → Why → Type 0
+FailsPointer l align (Align a) = (a ≡ align) × (IsAlignment align → ⊥)
+FailsPointer l align (ShortPointer n) = ((k : ℕ) × (align ≡ 2 ^ k) × (n ≡ l + k)) × (n < 24)
+FailsPointer l align why = ⊥
+
+abbrev pub IsKind : ℕ → Kind → Type 0
+IsKind l (Const c) = Unit {0}
+IsKind l (Bits path a) = Unit {0}
+IsKind l (Word path j) = Unit {0}
+IsKind l (Pointer align b) = IsAlignment align × IsWide align l
+
+abbrev pub FailsKind : ℕ → Kind → Why → Type 0
+FailsKind l (Const c) why = ⊥
+FailsKind l (Bits path a) why = ⊥
+FailsKind l (Word path j) why = ⊥
+FailsKind l (Pointer align b) why = FailsPointer l align why
+
+abbrev pub ArePartsFine : List Part → Type 0
+ArePartsFine parts = EachOf (λ (p : Part). IsKind p.l p.kind) parts
+
+abbrev pub FailsParts : List Part → Why → Type 0
+FailsParts parts why = SomeOf (λ (p : Part). FailsKind p.l p.kind why) parts
+
+abbrev pub ArePointersFine : List FlatWord → Type 0
+ArePointersFine words = EachOf (λ (f : FlatWord). ArePartsFine f.parts) words
+
+abbrev pub FailsPointers : List FlatWord → Why → Type 0
+FailsPointers words why = SomeOf (λ (f : FlatWord). FailsParts f.parts why) words
+
+abbrev pub HasWidth : FlatWord → Type 0
+HasWidth f = IsBlockWidth f.width
+
+abbrev pub FailsWidth : Why → FlatWord → Type 0
+FailsWidth (BlockWord w) f = (f.width ≡ w) × (IsBlockWidth w → ⊥)
+FailsWidth why f = ⊥
+
+pub record IsBlock (block : Block) : Type 0 where
+  pub length : IsBlockLength (length block.words)
+  pub widths : EachOf HasWidth block.words
+  pub pointers : ArePointersFine block.words
+
+-- a block fails by its length, a word's width or a pointer
+abbrev pub FailsBlock : Block → Why → Type 0
+FailsBlock block (BlockWords n) = (length block.words ≡ n) × (IsBlockLength n → ⊥)
+FailsBlock block (BlockWord w) = SomeOf (FailsWidth (BlockWord w)) block.words
+FailsBlock block (Align a) = FailsPointers block.words (Align a)
+FailsBlock block (ShortPointer n) = FailsPointers block.words (ShortPointer n)
+FailsBlock block why = ⊥

@@ -1,0 +1,76 @@
+-- The parts of written words, one by one and two by two.
+use Rattle.std.specs.Prelude.{◌≡◌, ℕ, ◌^◌, ◌<◌, ◌≤◌, ◌⊎◌, List, [], ◌∷◌, Some, slice_get}
+use Rattle.rb_bits.specs.Words.{AreDisjoint}
+use Rattle.rb_core.specs.declared.layout_decl.LayoutDecl.{LayoutDecl}
+use Rattle.rb_layout.specs.declared.evidence.Why.{Why}
+use Rattle.rb_layout.specs.declared.evidence.Why.TheVariants.{Outside, Overlap, ConstWide, Misfit}
+use Rattle.rb_layout.specs.Positions.{Open}
+use Rattle.rb_layout.specs.Items.{Number, WrittenPart, content_paths}
+use Rattle.rb_layout.specs.A3.{FailsParts, Fits, IsIn, IsOfItem, IsPlaced, LiesIn}
+use Rattle.rb_agree.specs.declared.items.Written.{Written}
+use Rattle.rb_agree.specs.Written.{shown_part}
+use Rattle.rb_agree.specs.inner.Lists.{EachOf, SomeOf}
+
+module _ (decls : List LayoutDecl) (opens : List Open) where
+  -- how a part of item i fails to fit what it holds
+  abbrev pub FailsFit : ℕ → WrittenPart → Why → Type 0
+  FailsFit i p (ConstWide j c l) = (j ≡ i) × (p.l ≡ l) × (p.content ≡ Number c) × (c < 2 ^ l → ⊥)
+  FailsFit i p (Misfit j o l path) = (j ≡ i) × (p.o ≡ o) × (p.l ≡ l) × (content_paths p.content ≡ path ∷ []) × (Fits decls opens l p.content → ⊥)
+  FailsFit i p why = ⊥
+
+  pub record IsPartFine (width : ℕ) (p : WrittenPart) : Type 0 where
+    pub inside : IsPlaced opens p.content → LiesIn width p.o p.l
+    pub fit : Fits decls opens p.l p.content
+
+  -- how a placed part fails by itself
+  abbrev pub FailsPlaced : ℕ → ℕ → WrittenPart → Why → Type 0
+  FailsPlaced i width p (Outside j o l) = (j ≡ i) × (p.o ≡ o) × (p.l ≡ l) × (LiesIn width o l → ⊥)
+  FailsPlaced i width p (ConstWide j c l) = FailsFit i p (ConstWide j c l)
+  FailsPlaced i width p (Misfit j o l path) = FailsFit i p (Misfit j o l path)
+  FailsPlaced i width p why = ⊥
+
+  abbrev pub FailsPart : ℕ → ℕ → WrittenPart → Why → Type 0
+  FailsPart i width p why = IsPlaced opens p.content × FailsPlaced i width p why
+
+  abbrev pub AreFine : ℕ → List Written → Type 0
+  AreFine width parts = EachOf (λ (w : Written). IsPartFine width (shown_part w)) parts
+
+  abbrev pub FailsSome : ℕ → ℕ → List Written → Why → Type 0
+  FailsSome i width parts why = SomeOf (λ (w : Written). FailsPart i width (shown_part w) why) parts
+
+  -- how item i, a word, fails
+  abbrev pub FailsWord : ℕ → ℕ → List WrittenPart → Why → Type 0
+  FailsWord i width parts why = IsOfItem i why × FailsParts decls opens width parts why
+
+-- how two parts of item i, the first of which is written before the second, have a bit in common
+abbrev pub IsFirst : Written → Written → ℕ → ℕ → ℕ → ℕ → Type 0
+IsFirst p q o l b m = (p.o ≡ o) × (p.l ≡ l) × (q.o ≡ b) × (q.l ≡ m)
+
+abbrev pub HasBit : ℕ → ℕ → ℕ → ℕ → Type 0
+HasBit o l b m = IsIn o l b × IsIn b m b
+
+abbrev pub FailsPair : ℕ → Written → Written → Why → Type 0
+FailsPair i p q (Overlap j o l b m) = (j ≡ i) × ((IsFirst p q o l b m × (o ≤ b)) ⊎ (IsFirst q p o l b m × (o < b))) × HasBit o l b m
+FailsPair i p q why = ⊥
+
+module _ (opens : List Open) where
+  abbrev pub IsSet : Written → Type 0
+  IsSet w = IsPlaced opens (shown_part w).content
+
+  -- each placed part has a bit
+  abbrev pub HaveBits : List Written → Type 0
+  HaveBits parts = EachOf (λ (w : Written). IsSet w → 1 ≤ w.l) parts
+
+  -- part k has no bit in common with one before it
+  abbrev pub IsApartBefore : List Written → ℕ → Type 0
+  IsApartBefore parts k = (j : ℕ) (p q : Written) → j < k → slice_get parts j ≡ Some p → slice_get parts k ≡ Some q → IsSet p → IsSet q → AreDisjoint p.o p.l q.o q.l
+
+  abbrev pub FailsBefore : ℕ → List Written → ℕ → Why → Type 0
+  FailsBefore i parts k why =
+      (j : ℕ) × (p : Written) × (q : Written) × (j < k) × (slice_get parts j ≡ Some p) × (slice_get parts k ≡ Some q) × IsSet p × IsSet q × FailsPair i p q why
+
+  abbrev pub AreApart : List Written → Type 0
+  AreApart parts = (k : ℕ) → IsApartBefore parts k
+
+  abbrev pub FailsApart : ℕ → List Written → Why → Type 0
+  FailsApart i parts why = (k : ℕ) × FailsBefore i parts k why

@@ -1,0 +1,38 @@
+-- Splits one by one.
+use Rattle.std.specs.Prelude.{◌≡◌, ℕ, ◌^◌, ◌<◌, List, map, Bool, Some, slice_get}
+use Rattle.std.specs.List.{flat_map}
+use Rattle.rb_core.specs.declared.layout_decl.Loc.{Loc}
+use Rattle.rb_layout.specs.declared.layout.FlatArm.{FlatArm}
+use Rattle.rb_layout.specs.declared.evidence.Why.{Why}
+use Rattle.rb_layout.specs.declared.evidence.Why.TheVariants.{LiteralWide, LiteralTwice, NoArm}
+use Rattle.rb_layout.specs.Splits.{SplitAt, splits_under}
+use Rattle.rb_layout.specs.A8.{HasArm, length_of}
+
+abbrev pub literals_in : List FlatArm → List ℕ
+literals_in arms = map (λ (a : FlatArm). a.literal) arms
+
+abbrev pub split_of : Loc → List FlatArm → Bool → SplitAt
+split_of loc arms other = record { loc = loc; literals = literals_in arms; other = other }
+
+-- the splits below arms
+abbrev pub arm_splits : List FlatArm → List SplitAt
+arm_splits arms = flat_map (λ (a : FlatArm). (splits_under a).of) arms
+
+abbrev pub IsAmong : List ℕ → ℕ → Type 0
+IsAmong cs c = (k : ℕ) × (slice_get cs k ≡ Some c)
+
+abbrev pub IsTwice : List ℕ → ℕ → Type 0
+IsTwice cs c = (j : ℕ) × (k : ℕ) × (j < k) × (slice_get cs j ≡ Some c) × (slice_get cs k ≡ Some c)
+
+abbrev pub AreFit : ℕ → List ℕ → Type 0
+AreFit bits cs = (k c : ℕ) → slice_get cs k ≡ Some c → c < 2 ^ bits
+
+abbrev pub AreDistinct : List ℕ → Type 0
+AreDistinct cs = (j k c : ℕ) → j < k → slice_get cs j ≡ Some c → slice_get cs k ≡ Some c → ⊥
+
+-- how a split fails
+abbrev pub FailsSplit : SplitAt → Why → Type 0
+FailsSplit split (LiteralWide loc c) = (split.loc ≡ loc) × IsAmong split.literals c × (c < 2 ^ length_of loc → ⊥)
+FailsSplit split (LiteralTwice loc c) = (split.loc ≡ loc) × IsTwice split.literals c
+FailsSplit split (NoArm loc) = (split.loc ≡ loc) × (HasArm split → ⊥)
+FailsSplit split why = ⊥

@@ -1,0 +1,64 @@
+-- The tests on the ways to a leaf, way by way.
+use Rattle.std.specs.Prelude.{◌≡◌, ℕ, List, [], map, Bool, true, false, Option, Some, None}
+use Rattle.std.specs.List.{flat_map}
+use Rattle.rb_core.specs.declared.types.DataDecl.{DataDecl}
+use Rattle.rb_core.specs.declared.layout_decl.Loc.{Loc}
+use Rattle.rb_layout.specs.declared.layout.Layout.{Layout}
+use Rattle.rb_layout.specs.declared.layout.Leaf.{Leaf}
+use Rattle.rb_layout.specs.declared.layout.FlatTree.{FlatTree}
+use Rattle.rb_layout.specs.declared.layout.FlatArm.{FlatArm}
+use Rattle.rb_layout.specs.declared.evidence.Why.{Why}
+use Rattle.rb_layout.specs.Splits.{Test, IsNone, Route, behind, arm_routes, routes_of, routes_under}
+use Rattle.rb_layout.specs.A7.{FailsTest, Meets}
+use Rattle.rb_agree.specs.declared.tests.Below.{Below}
+use Rattle.rb_agree.specs.declared.tests.Below.TheVariants.{Absent, Passes, Fails}
+use Rattle.rb_agree.specs.inner.Lists.{EachOf, SomeOf}
+
+abbrev pub arms_routes : Loc → List FlatArm → List Route
+arms_routes loc arms = flat_map (λ (a : FlatArm). arm_routes loc (routes_under a)) arms
+
+abbrev pub other_routes : Loc → List ℕ → Option FlatTree → List Route
+other_routes loc literals None = []
+other_routes loc literals (Some tree) = map (behind (IsNone loc literals)) (routes_of tree)
+
+-- what is known of a leaf where no test fails
+abbrev pub status_of : Bool → Below
+status_of true = Passes
+status_of false = Absent
+
+-- what is known of it in two trees
+abbrev pub both : Below → Below → Below
+both Absent b = b
+both (Fails why) b = Fails why
+both Passes Absent = Passes
+both Passes Passes = Passes
+both Passes (Fails why) = Fails why
+
+module _ (types : List DataDecl) (layouts : List Layout) (leaf : Leaf) where
+  -- what is known behind a test, by what is known below it
+  abbrev pub IsAfter : Test → Below → Below → Type 0
+  IsAfter t Absent b = b ≡ Absent
+  IsAfter t (Fails why) b = b ≡ Fails why
+  IsAfter t Passes Absent = ⊥
+  IsAfter t Passes Passes = Meets types layouts leaf t
+  IsAfter t Passes (Fails why) = FailsTest types layouts leaf t why
+
+module _ (types : List DataDecl) (layouts : List Layout) (leaf : Leaf) (n : ℕ) where
+  -- a way leads to the leaf
+  abbrev pub Leads : Route → Type 0
+  Leads r = r.leaf ≡ n
+
+  abbrev pub Misses : Route → Type 0
+  Misses r = Leads r → ⊥
+
+  -- where it does, its tests pass
+  abbrev pub PassesRoute : Route → Type 0
+  PassesRoute r = Leads r → EachOf (Meets types layouts leaf) r.tests
+
+  abbrev pub FailsRoute : Why → Route → Type 0
+  FailsRoute why r = Leads r × SomeOf (λ (t : Test). FailsTest types layouts leaf t why) r.tests
+
+  abbrev pub IsBelow : List Route → Below → Type 0
+  IsBelow routes Absent = EachOf Misses routes
+  IsBelow routes Passes = SomeOf Leads routes × EachOf PassesRoute routes
+  IsBelow routes (Fails why) = SomeOf (FailsRoute why) routes

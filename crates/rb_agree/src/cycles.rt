@@ -1,0 +1,129 @@
+//! Cycles in a graph of numbers.
+//!
+//! From a number on, all numbers to which it leads are found, each once, with a way to it, until one of
+//! them leads back. Take the edges 0 to 1, 1 to 2 and 2 to 0. From 1 on, 2 is found by the way 1, 2, and
+//! then 0 by the way 1, 2, 0; it leads back to 1, so the cycle is 1, 2, 0.
+
+ghost use Rattle.std.specs.Prelude.{◌≡◌, IfOk, MatchOption, OnOk, MatchBool};
+ghost use Rattle.rb_layout.specs.Cycles.{HasNoCycle, IsCycleFrom};
+ghost use Rattle.rb_agree.specs.Graphs.{Leads, edges_of};
+ghost use Rattle.rb_agree.specs.inner.Ways.{AreUnmarked, HasEdge, HasNoEdge, all_added, added, state};
+
+use rb_core::seq::Seq;
+use std::alloc::{AllocError, Global};
+
+/// The way to a number that was found: the first number, each after it, and it itself.
+#[derive(Debug, Drop)]
+pub struct Way {
+    pub number: u32,
+    pub way: Seq<u32>,
+}
+
+// No number of so many is marked.
+fn no_marks(alloc: Global, count: usize) -> Result<Seq<bool>, AllocError>
+    ensures { IfOk result (λ marks. AreUnmarked count marks) }
+{
+    let mut marks = Seq::new(alloc);
+    for _i in 0..count {
+        marks.push(false)?;
+    }
+    Ok(marks)
+}
+
+fn edges_of(graph: &[Seq<u32>], number: u32) -> &[u32]
+    ensures { result.now ≡ edges_of graph.now number }
+{
+    match graph.get(number as usize) {
+        None => &[],
+        Some(row) => row.as_slice(),
+    }
+}
+
+// Marks and adds a number that was not found, with the way to it.
+fn add(
+    alloc: Global,
+    way: &Seq<u32>,
+    next: u32,
+    marks: &mut Seq<bool>,
+    found: &mut Seq<Way>,
+) -> Result<(), AllocError>
+    ensures { OnOk result (state marks.new found.new ≡ added way.now next (state marks.old found.old)) }
+{
+    match marks.get(next as usize) {
+        None => return Ok(()),
+        Some(mark) => {
+            if *mark {
+                return Ok(());
+            }
+        }
+    }
+    let mut longer = way.copy(alloc)?;
+    longer.push(next)?;
+    found.push(Way {
+        number: next,
+        way: longer,
+    })?;
+    marks.replace(next as usize, true);
+    Ok(())
+}
+
+// Adds what a number leads to, until that is the first number. Tells whether it is.
+fn follow(
+    alloc: Global,
+    edges: &[u32],
+    start: u32,
+    way: &Seq<u32>,
+    marks: &mut Seq<bool>,
+    found: &mut Seq<Way>,
+) -> Result<bool, AllocError>
+    ensures leads { IfOk result (λ b. MatchBool b (HasEdge edges.now start) (HasNoEdge edges.now start)) }
+    ensures added { IfOk result (λ b. MatchBool b
+        (Unit {0}) (state marks.new found.new ≡ all_added way.now edges.now (state marks.old found.old))) }
+{
+    for next in edges {
+        if *next == start {
+            return Ok(true);
+        }
+        add(alloc, way, *next, marks, found)?;
+    }
+    Ok(false)
+}
+
+/// A cycle from a number on, none of whose numbers stands twice, if there is one; `graph` lists for each
+/// number those to which it leads.
+///
+/// # Errors
+///
+/// Want of memory.
+pub fn cycle_from(
+    alloc: Global,
+    graph: &[Seq<u32>],
+    start: u32,
+) -> Result<Option<Seq<u32>>, AllocError>
+    ensures { IfOk result (λ r. MatchOption r
+        (HasNoCycle (Leads graph.now) start) (IsCycleFrom (Leads graph.now) start)) }
+{
+    if start as usize >= graph.len() {
+        return Ok(None);
+    }
+    let mut marks = no_marks(alloc, graph.len())?;
+    let mut found = Seq::new(alloc);
+    add(alloc, &Seq::new(alloc), start, &mut marks, &mut found)?;
+    for i in 0..usize::MAX {
+        let (number, way) = match found.get(i) {
+            None => return Ok(None),
+            Some(last) => (last.number, last.way.copy(alloc)?),
+        };
+        if follow(
+            alloc,
+            edges_of(graph, number),
+            start,
+            &way,
+            &mut marks,
+            &mut found,
+        )? {
+            return Ok(Some(way));
+        }
+    }
+    Err(AllocError)
+}

@@ -1,0 +1,55 @@
+//! The checker of agreement: how the layouts of a program fail the rules, place by place.
+//!
+//! Each rule has a call that looks at one place, a type or a leaf of its layout, and answers that the rule
+//! holds there or with evidence that it fails. Take the type and the layout
+//!
+//! ```text
+//! type Bit = Off | On;
+//! layout Bit <8> = split 0[0:1] {
+//!     0 => Off : { word 8 { [0:1] = 0 } }
+//!     1 => On : { word 8 { [0:1] = 0 } }
+//! };
+//! ```
+//!
+//! Leaf 1, `On`, stands below the literal 1, but its bit 0 is 0. So `tests_fault` answers for that leaf
+//! `NotKnown` with the split's location and 1, and for leaf 0 that nothing fails.
+//!
+//! | rule | call | where |
+//! |---|---|---|
+//! | A1 shapes | `shapes::decl_fault` | a type |
+//! | A1 shapes | `shapes::shapes_fault` | all types, in their order |
+//! | A2 root words | `roots::root_fault` | a leaf |
+//! | A3 parts | `parts::item_fault`, over `items::items_of` | an item of a leaf |
+//! | A4 blocks and pointers | `blocks::blocks_fault` | a leaf |
+//! | A5 a leaf for each value | `values::complete_fault` | a type |
+//! | A5 no value has two | `values::apart_fault` | a leaf |
+//! | A7 tests | `tests::tests_fault` | a leaf |
+//! | A8 splits | `splits::splits_fault` | a type |
+//! | A9 no cycle | `graphs::flattening_fault`, over `graphs::flattened` | a type |
+//! | A9 no pointer | `pointers::pointer_fault`, over `pointers::pointing` | a leaf |
+//! | A10 no cycle | `graphs::holding_fault`, over `graphs::held` | a type |
+//!
+//! `positions::places` lists the open positions of a provenance.
+//!
+//! Missing values and common ones are found by the search in matrices of patterns; two provenances that
+//! have different constructors in one place are told apart before it is asked.
+#![tactic(auto)]
+
+pub mod agree;
+pub mod blocks;
+mod cycles;
+mod decls;
+pub mod fault;
+pub mod graphs;
+pub mod items;
+mod numbers;
+pub mod parts;
+pub mod pointers;
+pub mod positions;
+pub mod roots;
+pub mod shapes;
+pub mod splits;
+pub mod tests;
+pub mod values;
+
+pub use fault::AgreeFault;

@@ -1,0 +1,31 @@
+//! Whether the root words of a leaf have the shape's widths.
+
+ghost use Rattle.std.specs.Prelude.{◌≡◌, IfOk, MatchOption};
+ghost use Rattle.rb_layout.specs.A2.{FailsRoot, HasRoot};
+
+use crate::numbers::number_of;
+use rb_layout::evidence::Why;
+use rb_layout::layout::Leaf;
+use std::alloc::AllocError;
+
+/// How a leaf's root words fail to have the widths of a shape.
+///
+/// # Errors
+///
+/// Want of memory.
+pub fn root_fault(shape: &[u64], leaf: &Leaf) -> Result<Option<Why>, AllocError>
+    ensures { IfOk result (λ found. MatchOption found (HasRoot shape.now leaf.now) (FailsRoot shape.now leaf.now)) }
+{
+    let root = leaf.root.as_slice();
+    if shape.len() != root.len() {
+        return Ok(Some(Why::WordCount(shape.len() as u64, root.len() as u64)));
+    }
+    for i in 0..root.len() {
+        let width = root[i].width;
+        let wanted = shape[i];
+        if width != wanted {
+            return Ok(Some(Why::WordWidth(number_of(i)?, width, wanted)));
+        }
+    }
+    Ok(None)
+}

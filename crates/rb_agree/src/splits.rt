@@ -1,0 +1,133 @@
+//! Whether the literals of splits are distinct and fit, and each split has an arm.
+
+ghost use Rattle.std.specs.Prelude.{◌≡◌, ◌<◌, ◌^◌, map, IfOk, MatchOption};
+ghost use Rattle.rb_layout.specs.declared.layout.FlatArm.{FlatArm};
+ghost use Rattle.rb_layout.specs.Splits.{splits_of};
+ghost use Rattle.rb_layout.specs.A8.{AllSplitWell, FailsSplits, SplitsWell, length_of};
+ghost use Rattle.rb_agree.specs.inner.Lists.{EachOf, FindsIn};
+ghost use Rattle.rb_agree.specs.inner.Splits.{AreDistinct, AreFit, FailsSplit, IsAmong, IsTwice, arm_splits, literals_in, split_of};
+
+use crate::numbers::fits;
+use rb_core::layout_decl::Loc;
+use rb_core::seq::Seq;
+use rb_layout::evidence::Why;
+use rb_layout::layout::{FlatArm, FlatTree, Layout};
+use std::alloc::{AllocError, Global};
+
+// How many bits a location's last range has.
+fn length_of(loc: &Loc) -> u64
+    ensures { result ≡ length_of loc.now }
+{
+    let mut l = loc.l;
+    for step in loc.steps.as_slice() {
+        l = step.l;
+    }
+    l
+}
+
+// The literals of arms.
+fn literals_of(alloc: Global, arms: &[FlatArm]) -> Result<Seq<u64>, AllocError>
+    ensures { IfOk result (λ literals. literals ≡ literals_in arms.now) }
+{
+    let mut literals = Seq::new(alloc);
+    for arm in arms {
+        literals.push(arm.literal)?;
+    }
+    Ok(literals)
+}
+
+// A literal of more than so many bits.
+fn wide_literal(literals: &[u64], bits: u64) -> Option<u64>
+    ensures { MatchOption result (AreFit bits literals.now) (λ c. IsAmong literals.now c × (c < 2 ^ bits → ⊥)) }
+{
+    for k in 0..literals.len() {
+        if !fits(literals[k], bits) {
+            return Some(literals[k]);
+        }
+    }
+    None
+}
+
+// A literal that stands twice.
+fn twice(literals: &[u64]) -> Option<u64>
+    ensures { MatchOption result (AreDistinct literals.now) (IsTwice literals.now) }
+{
+    for k in 0..literals.len() {
+        if literals[..k].contains(&literals[k]) {
+            return Some(literals[k]);
+        }
+    }
+    None
+}
+
+// How a split at a location with these arms fails.
+fn split_fault(
+    alloc: Global,
+    loc: &Loc,
+    arms: &[FlatArm],
+    has_else: bool,
+) -> Result<Option<Why>, AllocError>
+    ensures { IfOk result (λ found. MatchOption found
+        (SplitsWell (split_of loc.now arms.now has_else)) (FailsSplit (split_of loc.now arms.now has_else))) }
+{
+    let literals = literals_of(alloc, arms)?;
+    if let Some(literal) = wide_literal(literals.as_slice(), length_of(loc)) {
+        return Ok(Some(Why::LiteralWide(loc.copy(alloc)?, literal)));
+    }
+    if let Some(literal) = twice(literals.as_slice()) {
+        return Ok(Some(Why::LiteralTwice(loc.copy(alloc)?, literal)));
+    }
+    if has_else {
+        return Ok(None);
+    }
+    if literals.is_empty() {
+        return Ok(Some(Why::NoArm(loc.copy(alloc)?)));
+    }
+    Ok(None)
+}
+
+// How a split of a tree fails.
+#[cycle(splitting)]
+fn tree_fault(alloc: Global, tree: &FlatTree) -> Result<Option<Why>, AllocError>
+    ensures { IfOk result (FindsIn SplitsWell FailsSplit (splits_of tree.now)) }
+{
+    match tree {
+        FlatTree::Leaf(_) => Ok(None),
+        FlatTree::Split(loc, arms, other) => {
+            if let Some(why) = split_fault(alloc, loc, arms.as_slice(), other.is_some())? {
+                return Ok(Some(why));
+            }
+            if let Some(why) = arms_fault(alloc, arms.as_slice())? {
+                return Ok(Some(why));
+            }
+            match other {
+                None => Ok(None),
+                Some(tree) => tree_fault(alloc, tree.get()),
+            }
+        }
+    }
+}
+
+// How a split below some arm fails.
+#[cycle(splitting)]
+fn arms_fault(alloc: Global, arms: &[FlatArm]) -> Result<Option<Why>, AllocError>
+    ensures { IfOk result (FindsIn SplitsWell FailsSplit (arm_splits arms.now)) }
+{
+    for arm in arms {
+        if let Some(why) = tree_fault(alloc, &arm.under)? {
+            return Ok(Some(why));
+        }
+    }
+    Ok(None)
+}
+
+/// How a split of a layout fails to have distinct literals that fit its range, and an arm or an `else`.
+///
+/// # Errors
+///
+/// Want of memory.
+pub fn splits_fault(alloc: Global, layout: &Layout) -> Result<Option<Why>, AllocError>
+    ensures { IfOk result (λ found. MatchOption found (AllSplitWell layout.now) (FailsSplits layout.now)) }
+{
+    tree_fault(alloc, &layout.tree)
+}

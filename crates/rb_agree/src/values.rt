@@ -1,0 +1,140 @@
+//! Whether each value of a type has exactly one leaf.
+
+ghost use Rattle.std.specs.Prelude.{◌≡◌, ◌<◌, length, map, IfOk, IsTrue, MatchBool, MatchOption};
+ghost use Rattle.std.specs.Bool.{OnTrue};
+ghost use Rattle.rb_core.specs.declared.types.Ty.TheVariants as Tys;
+ghost use Rattle.rb_layout.specs.declared.layout.Leaf.{Leaf};
+ghost use Rattle.rb_layout.specs.A5.{FailsApart, FailsComplete, HaveCommon, IsApart, IsComplete};
+ghost use Rattle.rb_matrix.specs.Search.{AreInhabited, IsTypeIn};
+ghost use Rattle.rb_agree.specs.inner.Values.{AreDifferent, HaveDifferent, provenances_in};
+
+use crate::numbers::number_of;
+use rb_core::pattern::Pat;
+use rb_core::seq::Seq;
+use rb_core::types::{DataDecl, Ty};
+use rb_layout::evidence::Why;
+use rb_layout::layout::{Layout, Leaf};
+use rb_matrix::{MatrixFault, common, exhaust};
+use std::alloc::{AllocError, Global};
+
+// The provenances of leaves.
+fn provenances(alloc: Global, leaves: &[Leaf]) -> Result<Seq<Pat>, AllocError>
+    ensures { IfOk result (λ pats. pats ≡ provenances_in leaves.now) }
+{
+    let mut pats = Seq::new(alloc);
+    for leaf in leaves {
+        pats.push(leaf.prov.copy(alloc)?)?;
+    }
+    Ok(pats)
+}
+
+/// How a layout fails to have a leaf for each value of its type: a pattern whose values have none.
+///
+/// # Errors
+///
+/// Want of memory.
+pub fn complete_fault(
+    alloc: Global,
+    types: &[DataDecl],
+    ty: u32,
+    layout: &Layout,
+) -> Result<Option<Why>, AllocError>
+    requires inhabited { AreInhabited types.now }
+    requires ty { IsTypeIn types.now (Tys.Named ty) }
+    ensures { IfOk result (λ found. MatchOption found
+        (IsComplete types.now ty layout.now) (FailsComplete types.now ty layout.now)) }
+{
+    let pats = provenances(alloc, layout.leaves.as_slice())?;
+    match exhaust(alloc, types, Ty::Named(ty), pats.as_slice()) {
+        Ok(()) => Ok(None),
+        Err(MatrixFault::Missing(pat)) => Ok(Some(Why::NoLeaf(pat))),
+        Err(MatrixFault::Memory) => Err(AllocError),
+    }
+}
+
+// Whether two patterns have different constructors in one place, so that no value matches both.
+#[cycle(comparing)]
+fn are_different(one: &Pat, other: &Pat) -> bool
+    ensures { OnTrue result (AreDifferent one.now other.now) }
+{
+    match one {
+        Pat::Wild(_) => false,
+        Pat::Var(_, _) => false,
+        Pat::Num(_, _) => false,
+        Pat::Con(_, con, pats) => match other {
+            Pat::Wild(_) => false,
+            Pat::Var(_, _) => false,
+            Pat::Num(_, _) => false,
+            Pat::Con(_, con_2, pats_2) => {
+                if con.con != con_2.con {
+                    return true;
+                }
+                differ_somewhere(pats.as_slice(), pats_2.as_slice())
+            }
+        },
+    }
+}
+
+#[cycle(comparing)]
+fn differ_somewhere(ones: &[Pat], others: &[Pat]) -> bool
+    ensures { OnTrue result (HaveDifferent ones.now others.now) }
+{
+    for (i, one) in ones.iter().enumerate() {
+        if let Some(other) = others.get(i) {
+            if are_different(one, other) {
+                return true;
+            }
+        }
+    }
+    false
+}
+
+// Whether two provenances of a type have a common value.
+fn have_common(
+    alloc: Global,
+    types: &[DataDecl],
+    ty: u32,
+    one: &Pat,
+    other: &Pat,
+) -> Result<bool, AllocError>
+    requires inhabited { AreInhabited types.now }
+    requires ty { IsTypeIn types.now (Tys.Named ty) }
+    ensures { IfOk result (λ b. MatchBool b
+        (HaveCommon types.now ty one.now other.now) (HaveCommon types.now ty one.now other.now → ⊥)) }
+{
+    if are_different(one, other) {
+        return Ok(false);
+    }
+    match common(alloc, types, Ty::Named(ty), one, other)? {
+        None => Ok(false),
+        Some(_) => Ok(true),
+    }
+}
+
+/// How leaf `n` of a layout fails to have no value in common with a later one.
+///
+/// # Errors
+///
+/// Want of memory.
+pub fn apart_fault(
+    alloc: Global,
+    types: &[DataDecl],
+    ty: u32,
+    layout: &Layout,
+    n: usize,
+    leaf: &Leaf,
+) -> Result<Option<Why>, AllocError>
+    requires inhabited { AreInhabited types.now }
+    requires ty { IsTypeIn types.now (Tys.Named ty) }
+    requires leaf { n < length layout.now.leaves }
+    ensures { IfOk result (λ found. MatchOption found
+        (IsApart types.now ty layout.now n leaf.now) (FailsApart types.now ty layout.now n leaf.now)) }
+{
+    let leaves = layout.leaves.as_slice();
+    for m in n + 1..leaves.len() {
+        if have_common(alloc, types, ty, &leaf.prov, &leaves[m].prov)? {
+            return Ok(Some(Why::Common(number_of(m)?)));
+        }
+    }
+    Ok(None)
+}
