@@ -5,3 +5,4 @@ pub mod Patterns
 pub mod Pieces
 pub mod Short
 pub mod inner
+pub mod Refusals

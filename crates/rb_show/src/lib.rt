@@ -23,15 +23,19 @@
 //! leaf's number with the lines of its own conditions. Then each leaf is written. The lines of a word go
 //! from bit to bit: at each stand the parts that begin there, or the range of free bits that does. A word
 //! has at most 64 bits, so the work is in proportion to the text.
+//!
+//! [`refusal::show_refusal`] says why layouts are refused, as `layout of T: A4: leaf C(_): alignment 3`.
 #![tactic(auto)]
 
 mod condition;
+mod evidence;
 mod free;
 pub mod laws;
 mod leaf;
 pub mod location;
 pub mod pattern;
 mod piece;
+pub mod refusal;
 pub mod show;
 mod text;
 mod ways;

@@ -9,7 +9,7 @@ use rb_core::layout_decl::{Loc, Step};
 use std::alloc::AllocError;
 
 // So many bits from that bit on, as `[o:l]`.
-fn push_bits(text: &mut Vec<u8>, o: u64, l: u64) -> Result<(), AllocError>
+pub(crate) fn push_bits(text: &mut Vec<u8>, o: u64, l: u64) -> Result<(), AllocError>
     ensures { OnOk result (text.new.items ≡ text.old.items ++ bits_text o l) }
 {
     push(text, b"[")?;

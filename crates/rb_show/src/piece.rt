@@ -11,7 +11,7 @@ use crate::text::{push, push_number, push_range};
 use rb_layout::layout::{FlatWord, Kind, Part};
 use std::alloc::AllocError;
 
-fn push_path(text: &mut Vec<u8>, path: &[u32]) -> Result<(), AllocError>
+pub(crate) fn push_path(text: &mut Vec<u8>, path: &[u32]) -> Result<(), AllocError>
     ensures { OnOk result (text.new.items ≡ text.old.items ++ path_text path.now) }
 {
     for field in path {

@@ -1,0 +1,155 @@
+-- The text of a refusal of layouts: the type, the rule, and what fails there.
+use Rattle.std.specs.Prelude.{ℕ, List, [], ◌∷◌, ◌++◌, Bool, codes, if◌then◌else◌, nat_eq, Option, Some, None, slice_get}
+use Rattle.std.specs.Fmt.{decimal}
+use Rattle.std.specs.List.{flat_map, list_any}
+use Rattle.rb_core.specs.declared.layout_decl.Loc.{Loc}
+use Rattle.rb_core.specs.declared.pattern.Pat.{Pat}
+use Rattle.rb_core.specs.declared.types.DataDecl.{DataDecl}
+use Rattle.rb_core.specs.declared.types.Ty.{Ty}
+use Rattle.rb_core.specs.declared.types.Ty.TheVariants.{Int, Named}
+use Rattle.rb_layout.specs.declared.evidence.Refused.{Refused}
+use Rattle.rb_layout.specs.declared.evidence.Why.{Why}
+use Rattle.rb_layout.specs.declared.evidence.Why.TheVariants.{NoLayout, ShapeWidth, WordCount, WordWidth, Outside, Overlap, ConstWide, Misfit, BlockWord, BlockWords, Blocks, Align, ShortPointer, Common, NoLeaf, NotHeld, HeldTwice, NotOpen, Unresolved, NotKnown, NotExcluded, LiteralWide, LiteralTwice, NoArm, HasPointer, FlatCycle, HoldCycle}
+use Rattle.rb_layout.specs.declared.layout.Layout.{Layout}
+use Rattle.rb_layout.specs.declared.layout.Leaf.{Leaf}
+use Rattle.rb_layout.specs.A8.{length_of}
+use Rattle.rb_layout.specs.Flattening.{type_at}
+use Rattle.rb_layout.specs.Positions.{open_positions}
+use Rattle.rb_show.specs.Lines.{path_text, type_name}
+use Rattle.rb_show.specs.Locations.{bits_text, loc_text}
+use Rattle.rb_show.specs.Patterns.{pattern_text}
+
+-- Names -------------------------------------------------------------------------------------
+
+abbrev pub name_of : List DataDecl → ℕ → List ℕ
+name_of types t = type_name (slice_get types t)
+
+abbrev pub later_name : List DataDecl → ℕ → List ℕ
+later_name types t = codes ", " ++ name_of types t
+
+-- names of types, with commas between them
+abbrev pub names_text : List DataDecl → List ℕ → List ℕ
+names_text types [] = []
+names_text types (t ∷ ts) = name_of types t ++ flat_map (later_name types) ts
+
+-- Leaves ------------------------------------------------------------------------------------
+
+abbrev pub leaves_in : Option Layout → List Leaf
+leaves_in None = []
+leaves_in (Some layout) = layout.leaves
+
+-- a leaf is named by its provenance
+abbrev pub provenance_text : List DataDecl → Option Leaf → List ℕ
+provenance_text types None = []
+provenance_text types (Some leaf) = pattern_text types leaf.prov
+
+-- a field's bits are counted, or its words where it is of a data type
+abbrev pub unit_text : Option Ty → List ℕ
+unit_text (Some (Named t)) = codes " word "
+unit_text (Some (Int bits)) = codes " bit "
+unit_text None = codes " bit "
+
+abbrev pub unit_in : List DataDecl → Option Leaf → List ℕ → List ℕ
+unit_in types None path = codes " bit "
+unit_in types (Some leaf) path = unit_text (type_at (open_positions types leaf.prov) path)
+
+abbrev pub field_text : List ℕ → List ℕ
+field_text path = codes "field " ++ path_text path
+
+-- What fails --------------------------------------------------------------------------------
+
+abbrev pub width_text : ℕ → ℕ → List ℕ
+width_text word width = codes "word " ++ decimal word ++ codes " has " ++ decimal width ++ codes " bits"
+
+abbrev pub item_text : ℕ → List ℕ
+item_text item = codes "item " ++ decimal item ++ codes ": "
+
+abbrev pub literal_text : ℕ → List ℕ
+literal_text c = codes "literal " ++ decimal c
+
+abbrev pub counts_text : ℕ → ℕ → List ℕ
+counts_text wanted found = codes "wanted " ++ decimal wanted ++ codes " words, found " ++ decimal found
+
+abbrev pub unresolved_text : Loc → List ℕ
+unresolved_text loc = loc_text loc ++ codes " does not resolve"
+
+-- a literal, what it is not, and where
+abbrev pub literal_at : ℕ → List ℕ → Loc → List ℕ
+literal_at c fault loc = literal_text c ++ fault ++ loc_text loc
+
+abbrev pub missing_text : List DataDecl → Pat → List ℕ
+missing_text types pat = codes "no leaf for " ++ pattern_text types pat
+
+abbrev pub pointer_text : List DataDecl → ℕ → List ℕ
+pointer_text types t = name_of types t ++ codes " has a pointer"
+
+abbrev pub flattening_text : List DataDecl → List ℕ → List ℕ
+flattening_text types ts = codes "flattening cycle " ++ names_text types ts
+
+abbrev pub holding_text : List DataDecl → List ℕ → List ℕ
+holding_text types ts = codes "holding cycle " ++ names_text types ts
+
+abbrev pub split_text : Loc → List ℕ
+split_text loc = codes "split " ++ loc_text loc ++ codes ": "
+
+module _ (types : List DataDecl) (leaves : List Leaf) where
+  abbrev pub leaf_text : ℕ → List ℕ
+  leaf_text n = provenance_text types (slice_get leaves n)
+
+  -- bit or word i of the field at a path of leaf n
+  abbrev pub unit_of_field : ℕ → List ℕ → ℕ → List ℕ
+  unit_of_field n path i = field_text path ++ unit_in types (slice_get leaves n) path ++ decimal i
+
+  abbrev pub common_text : ℕ → ℕ → List ℕ
+  common_text n later = codes "leaves " ++ leaf_text n ++ codes " and " ++ leaf_text later ++ codes " have a common value"
+
+  -- what fails, at leaf n where it fails at a leaf
+  abbrev pub evidence_text : ℕ → Why → List ℕ
+  evidence_text n NoLayout = codes "no layout"
+  evidence_text n (ShapeWidth i width) = width_text i width
+  evidence_text n (WordCount wanted found) = counts_text wanted found
+  evidence_text n (WordWidth i width wanted) = width_text i width ++ codes ", wanted " ++ decimal wanted
+  evidence_text n (Outside item o l) = item_text item ++ codes "part " ++ bits_text o l ++ codes " outside its word"
+  evidence_text n (Overlap item o l p m) = item_text item ++ codes "parts " ++ bits_text o l ++ codes " and " ++ bits_text p m ++ codes " overlap"
+  evidence_text n (ConstWide item c l) = item_text item ++ codes "constant " ++ decimal c ++ codes " over " ++ decimal l ++ codes " bits"
+  evidence_text n (Misfit item o l path) = item_text item ++ codes "part " ++ bits_text o l ++ codes " does not fit " ++ field_text path
+  evidence_text n (BlockWord width) = codes "block word of " ++ decimal width ++ codes " bits"
+  evidence_text n (BlockWords count) = codes "block of " ++ decimal count ++ codes " words"
+  evidence_text n (Blocks count) = decimal count ++ codes " blocks"
+  evidence_text n (Align align) = codes "alignment " ++ decimal align
+  evidence_text n (ShortPointer bits) = codes "pointer of " ++ decimal bits ++ codes " bits"
+  evidence_text n (Common later) = common_text n later
+  evidence_text n (NoLeaf pat) = missing_text types pat
+  evidence_text n (NotHeld path i) = unit_of_field n path i ++ codes " not held"
+  evidence_text n (HeldTwice path i) = unit_of_field n path i ++ codes " held twice"
+  evidence_text n (NotOpen path) = field_text path ++ codes " not open"
+  evidence_text n (Unresolved loc) = unresolved_text loc
+  evidence_text n (NotKnown loc c) = literal_at c (codes " not known at ") loc
+  evidence_text n (NotExcluded loc c) = literal_at c (codes " not excluded at ") loc
+  evidence_text n (LiteralWide loc c) = split_text loc ++ literal_text c ++ codes " over " ++ decimal (length_of loc) ++ codes " bits"
+  evidence_text n (LiteralTwice loc c) = split_text loc ++ literal_text c ++ codes " twice"
+  evidence_text n (NoArm loc) = split_text loc ++ codes "no arm"
+  evidence_text n (HasPointer t) = pointer_text types t
+  evidence_text n (FlatCycle ts) = flattening_text types ts
+  evidence_text n (HoldCycle ts) = holding_text types ts
+
+-- A refusal ---------------------------------------------------------------------------------
+
+-- rules of a leaf by itself: its words, its parts, its blocks, its fields, and the splits above it
+abbrev pub is_of_one_leaf : ℕ → Bool
+is_of_one_leaf rule = list_any (nat_eq rule) (2 ∷ 3 ∷ 4 ∷ 6 ∷ 7 ∷ [])
+
+-- the leaf is named where the rule is of one
+abbrev pub at_leaf : List DataDecl → List Leaf → ℕ → ℕ → List ℕ
+at_leaf types leaves rule n = if is_of_one_leaf rule then codes "leaf " ++ leaf_text types leaves n ++ codes ": " else []
+
+abbrev pub number_of : Option ℕ → ℕ
+number_of None = 0
+number_of (Some n) = n
+
+-- such as `layout of T: A4: leaf C(_): alignment 3`
+abbrev pub refusal_text : List DataDecl → List Layout → Refused → List ℕ
+refusal_text types layouts r =
+    let leaves = leaves_in (slice_get layouts r.ty) in
+    codes "layout of " ++ name_of types r.ty ++ codes ": A" ++ decimal r.rule ++ codes ": "
+    ++ at_leaf types leaves r.rule (number_of r.leaf) ++ evidence_text types leaves (number_of r.leaf) r.why

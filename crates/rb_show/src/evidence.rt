@@ -1,0 +1,338 @@
+//! What fails at a place, as it is said.
+
+ghost use Rattle.std.specs.Prelude.{◌≡◌, ◌++◌, OnOk, slice_get};
+ghost use Rattle.std.specs.Fmt.{decimal};
+ghost use Rattle.std.specs.List.{flat_map};
+ghost use Rattle.rb_layout.specs.A8 as a8;
+ghost use Rattle.rb_show.specs.Refusals.{common_text, counts_text, evidence_text, field_text, flattening_text, holding_text, item_text, later_name, leaf_text, literal_at, literal_text, missing_text, names_text, pointer_text, split_text, unit_in, unit_of_field, unit_text, unresolved_text, width_text};
+
+use crate::location::{push_bits, push_loc};
+use crate::pattern::push_pattern;
+use crate::piece::push_path;
+use crate::show::push_name;
+use crate::text::{push, push_number};
+use rb_core::layout_decl::Loc;
+use rb_core::pattern::Pat;
+use rb_core::types::{DataDecl, Ty};
+use rb_layout::evidence::Why;
+use rb_layout::layout::Leaf;
+use rb_layout::positions::type_at;
+use std::alloc::AllocError;
+
+// A number between two words.
+fn push_between(
+    text: &mut Vec<u8>,
+    before: &[u8],
+    number: u64,
+    after: &[u8],
+) -> Result<(), AllocError>
+    ensures { OnOk result (text.new.items ≡ text.old.items ++ before.now ++ decimal number ++ after.now) }
+{
+    push(text, before)?;
+    push_number(text, number)?;
+    push(text, after)?;
+    Ok(())
+}
+
+// A leaf's provenance.
+pub(crate) fn push_leaf(
+    text: &mut Vec<u8>,
+    types: &[DataDecl],
+    leaves: &[Leaf],
+    leaf: u32,
+) -> Result<(), AllocError>
+    ensures { OnOk result (text.new.items ≡ text.old.items ++ leaf_text types.now leaves.now leaf) }
+{
+    match leaves.get(leaf as usize) {
+        None => Ok(()),
+        Some(leaf) => push_pattern(text, types, &leaf.prov),
+    }
+}
+
+fn push_width(text: &mut Vec<u8>, word: u32, width: u64) -> Result<(), AllocError>
+    ensures { OnOk result (text.new.items ≡ text.old.items ++ width_text word width) }
+{
+    push_between(text, b"word ", word as u64, b" has ")?;
+    push_number(text, width)?;
+    push(text, b" bits")?;
+    Ok(())
+}
+
+fn push_item(text: &mut Vec<u8>, item: u32) -> Result<(), AllocError>
+    ensures { OnOk result (text.new.items ≡ text.old.items ++ item_text item) }
+{
+    push_between(text, b"item ", item as u64, b": ")
+}
+
+fn push_literal(text: &mut Vec<u8>, literal: u64) -> Result<(), AllocError>
+    ensures { OnOk result (text.new.items ≡ text.old.items ++ literal_text literal) }
+{
+    push(text, b"literal ")?;
+    push_number(text, literal)?;
+    Ok(())
+}
+
+fn push_split(text: &mut Vec<u8>, loc: &Loc) -> Result<(), AllocError>
+    ensures { OnOk result (text.new.items ≡ text.old.items ++ split_text loc.now) }
+{
+    push(text, b"split ")?;
+    push_loc(text, loc)?;
+    push(text, b": ")?;
+    Ok(())
+}
+
+fn push_field(text: &mut Vec<u8>, path: &[u32]) -> Result<(), AllocError>
+    ensures { OnOk result (text.new.items ≡ text.old.items ++ field_text path.now) }
+{
+    push(text, b"field ")?;
+    push_path(text, path)?;
+    Ok(())
+}
+
+// What a field of this type is counted in.
+fn unit(ty: Option<Ty>) -> &'static [u8]
+    ensures { result.now ≡ unit_text ty }
+{
+    match ty {
+        Some(Ty::Named(_)) => b" word ",
+        Some(Ty::Int(_)) | None => b" bit ",
+    }
+}
+
+fn unit_of(types: &[DataDecl], leaves: &[Leaf], leaf: u32, path: &[u32]) -> &'static [u8]
+    ensures { result.now ≡ unit_in types.now (slice_get leaves.now leaf) path.now }
+{
+    match leaves.get(leaf as usize) {
+        None => b" bit ",
+        Some(leaf) => unit(type_at(types, &leaf.prov, path)),
+    }
+}
+
+// A bit or a word of a field.
+fn push_unit(
+    text: &mut Vec<u8>,
+    types: &[DataDecl],
+    leaves: &[Leaf],
+    leaf: u32,
+    path: &[u32],
+    number: u64,
+) -> Result<(), AllocError>
+    ensures { OnOk result (text.new.items ≡ text.old.items ++ unit_of_field types.now leaves.now leaf path.now number) }
+{
+    push_field(text, path)?;
+    push(text, unit_of(types, leaves, leaf, path))?;
+    push_number(text, number)?;
+    Ok(())
+}
+
+// The names of types behind the first, each behind a comma.
+fn push_later(text: &mut Vec<u8>, types: &[DataDecl], tys: &[u32]) -> Result<(), AllocError>
+    ensures { OnOk result (text.new.items ≡ text.old.items ++ flat_map (later_name types.now) tys.now) }
+{
+    for ty in tys {
+        push(text, b", ")?;
+        push_name(text, types, *ty)?;
+    }
+    Ok(())
+}
+
+fn push_names(text: &mut Vec<u8>, types: &[DataDecl], tys: &[u32]) -> Result<(), AllocError>
+    ensures { OnOk result (text.new.items ≡ text.old.items ++ names_text types.now tys.now) }
+{
+    match tys {
+        [] => Ok(()),
+        [first, rest @ ..] => {
+            push_name(text, types, *first)?;
+            push_later(text, types, rest)?;
+            Ok(())
+        }
+    }
+}
+
+// The length of a location's last range, in bits.
+fn length_of(loc: &Loc) -> u64
+    ensures { result ≡ a8.length_of loc.now }
+{
+    let mut length = loc.l;
+    for step in loc.steps.as_slice() {
+        length = step.l;
+    }
+    length
+}
+
+fn push_counts(text: &mut Vec<u8>, wanted: u64, found: u64) -> Result<(), AllocError>
+    ensures { OnOk result (text.new.items ≡ text.old.items ++ counts_text wanted found) }
+{
+    push(text, b"wanted ")?;
+    push_number(text, wanted)?;
+    push(text, b" words, found ")?;
+    push_number(text, found)?;
+    Ok(())
+}
+
+fn push_common(
+    text: &mut Vec<u8>,
+    types: &[DataDecl],
+    leaves: &[Leaf],
+    leaf: u32,
+    later: u32,
+) -> Result<(), AllocError>
+    ensures { OnOk result (text.new.items ≡ text.old.items ++ common_text types.now leaves.now leaf later) }
+{
+    push(text, b"leaves ")?;
+    push_leaf(text, types, leaves, leaf)?;
+    push(text, b" and ")?;
+    push_leaf(text, types, leaves, later)?;
+    push(text, b" have a common value")?;
+    Ok(())
+}
+
+fn push_missing(text: &mut Vec<u8>, types: &[DataDecl], pat: &Pat) -> Result<(), AllocError>
+    ensures { OnOk result (text.new.items ≡ text.old.items ++ missing_text types.now pat.now) }
+{
+    push(text, b"no leaf for ")?;
+    push_pattern(text, types, pat)?;
+    Ok(())
+}
+
+fn push_unresolved(text: &mut Vec<u8>, loc: &Loc) -> Result<(), AllocError>
+    ensures { OnOk result (text.new.items ≡ text.old.items ++ unresolved_text loc.now) }
+{
+    push_loc(text, loc)?;
+    push(text, b" does not resolve")?;
+    Ok(())
+}
+
+// A literal, what it is not, and where.
+fn push_literal_at(
+    text: &mut Vec<u8>,
+    literal: u64,
+    fault: &[u8],
+    loc: &Loc,
+) -> Result<(), AllocError>
+    ensures { OnOk result (text.new.items ≡ text.old.items ++ literal_at literal fault.now loc.now) }
+{
+    push_literal(text, literal)?;
+    push(text, fault)?;
+    push_loc(text, loc)?;
+    Ok(())
+}
+
+fn push_pointer(text: &mut Vec<u8>, types: &[DataDecl], ty: u32) -> Result<(), AllocError>
+    ensures { OnOk result (text.new.items ≡ text.old.items ++ pointer_text types.now ty) }
+{
+    push_name(text, types, ty)?;
+    push(text, b" has a pointer")?;
+    Ok(())
+}
+
+fn push_flattening(text: &mut Vec<u8>, types: &[DataDecl], tys: &[u32]) -> Result<(), AllocError>
+    ensures { OnOk result (text.new.items ≡ text.old.items ++ flattening_text types.now tys.now) }
+{
+    push(text, b"flattening cycle ")?;
+    push_names(text, types, tys)?;
+    Ok(())
+}
+
+fn push_holding(text: &mut Vec<u8>, types: &[DataDecl], tys: &[u32]) -> Result<(), AllocError>
+    ensures { OnOk result (text.new.items ≡ text.old.items ++ holding_text types.now tys.now) }
+{
+    push(text, b"holding cycle ")?;
+    push_names(text, types, tys)?;
+    Ok(())
+}
+
+/// Adds what fails at a place to a text; `leaf` is the leaf where it fails at a leaf.
+///
+/// # Errors
+///
+/// `AllocError` where memory is wanting.
+pub(crate) fn push_evidence(
+    text: &mut Vec<u8>,
+    types: &[DataDecl],
+    leaves: &[Leaf],
+    leaf: u32,
+    why: &Why,
+) -> Result<(), AllocError>
+    ensures { OnOk result (text.new.items ≡ text.old.items ++ evidence_text types.now leaves.now leaf why.now) }
+{
+    match why {
+        Why::NoLayout => push(text, b"no layout")?,
+        Why::ShapeWidth(word, width) => push_width(text, *word, *width)?,
+        Why::WordCount(wanted, found) => push_counts(text, *wanted, *found)?,
+        Why::WordWidth(word, width, wanted) => {
+            push_width(text, *word, *width)?;
+            push(text, b", wanted ")?;
+            push_number(text, *wanted)?;
+        }
+        Why::Outside(item, o, l) => {
+            push_item(text, *item)?;
+            push(text, b"part ")?;
+            push_bits(text, *o, *l)?;
+            push(text, b" outside its word")?;
+        }
+        Why::Overlap(item, o, l, p, m) => {
+            push_item(text, *item)?;
+            push(text, b"parts ")?;
+            push_bits(text, *o, *l)?;
+            push(text, b" and ")?;
+            push_bits(text, *p, *m)?;
+            push(text, b" overlap")?;
+        }
+        Why::ConstWide(item, number, l) => {
+            push_item(text, *item)?;
+            push_between(text, b"constant ", *number, b" over ")?;
+            push_number(text, *l)?;
+            push(text, b" bits")?;
+        }
+        Why::Misfit(item, o, l, path) => {
+            push_item(text, *item)?;
+            push(text, b"part ")?;
+            push_bits(text, *o, *l)?;
+            push(text, b" does not fit ")?;
+            push_field(text, path.as_slice())?;
+        }
+        Why::BlockWord(width) => push_between(text, b"block word of ", *width, b" bits")?,
+        Why::BlockWords(count) => push_between(text, b"block of ", *count, b" words")?,
+        Why::Blocks(count) => push_between(text, b"", *count, b" blocks")?,
+        Why::Align(align) => push_between(text, b"alignment ", *align, b"")?,
+        Why::ShortPointer(bits) => push_between(text, b"pointer of ", *bits, b" bits")?,
+        Why::Common(later) => push_common(text, types, leaves, leaf, *later)?,
+        Why::NoLeaf(pat) => push_missing(text, types, pat)?,
+        Why::NotHeld(path, number) => {
+            push_unit(text, types, leaves, leaf, path.as_slice(), *number)?;
+            push(text, b" not held")?;
+        }
+        Why::HeldTwice(path, number) => {
+            push_unit(text, types, leaves, leaf, path.as_slice(), *number)?;
+            push(text, b" held twice")?;
+        }
+        Why::NotOpen(path) => {
+            push_field(text, path.as_slice())?;
+            push(text, b" not open")?;
+        }
+        Why::Unresolved(loc) => push_unresolved(text, loc)?,
+        Why::NotKnown(loc, literal) => push_literal_at(text, *literal, b" not known at ", loc)?,
+        Why::NotExcluded(loc, literal) => {
+            push_literal_at(text, *literal, b" not excluded at ", loc)?;
+        }
+        Why::LiteralWide(loc, literal) => {
+            push_split(text, loc)?;
+            push_literal(text, *literal)?;
+            push_between(text, b" over ", length_of(loc), b" bits")?;
+        }
+        Why::LiteralTwice(loc, literal) => {
+            push_split(text, loc)?;
+            push_literal(text, *literal)?;
+            push(text, b" twice")?;
+        }
+        Why::NoArm(loc) => {
+            push_split(text, loc)?;
+            push(text, b"no arm")?;
+        }
+        Why::HasPointer(ty) => push_pointer(text, types, *ty)?,
+        Why::FlatCycle(tys) => push_flattening(text, types, tys.as_slice())?,
+        Why::HoldCycle(tys) => push_holding(text, types, tys.as_slice())?,
+    }
+    Ok(())
+}

@@ -1,0 +1,83 @@
+//! The text of a refusal of layouts: the type, the rule, and what fails there.
+
+ghost use Rattle.std.specs.Prelude.{◌≡◌, ◌++◌, ℕ, IfOk, OnOk, Option, slice_get};
+ghost use Rattle.std.specs.List.{list_any};
+ghost use Rattle.rb_show.specs.Refusals.{at_leaf, is_of_one_leaf, leaves_in, number_of, refusal_text};
+
+use crate::evidence::{push_evidence, push_leaf};
+use crate::show::push_name;
+use crate::text::{push, push_number};
+use rb_core::types::DataDecl;
+use rb_layout::evidence::Refused;
+use rb_layout::layout::{Layout, Leaf};
+use std::alloc::{AllocError, Global};
+
+// The leaves of a type's layout.
+fn leaves_of(layouts: &[Layout], ty: u32) -> &[Leaf]
+    ensures { result.now ≡ leaves_in (slice_get layouts.now ty) }
+{
+    match layouts.get(ty as usize) {
+        None => &[],
+        Some(layout) => layout.leaves.as_slice(),
+    }
+}
+
+// The leaf's number, where the refusal is of a leaf.
+fn leaf_number(leaf: Option<u32>) -> u32
+    ensures { result ≡ number_of leaf }
+{
+    leaf.unwrap_or(0)
+}
+
+// Whether the rule is of a leaf by itself.
+fn is_of_one_leaf(rule: u8) -> bool
+    ensures { result ≡ is_of_one_leaf rule }
+{
+    matches!(rule, 2 | 3 | 4 | 6 | 7)
+}
+
+// The leaf, where the rule is of one.
+fn push_place(
+    text: &mut Vec<u8>,
+    types: &[DataDecl],
+    leaves: &[Leaf],
+    rule: u8,
+    leaf: u32,
+) -> Result<(), AllocError>
+    ensures { OnOk result (text.new.items ≡ text.old.items ++ at_leaf types.now leaves.now rule leaf) }
+{
+    if !is_of_one_leaf(rule) {
+        return Ok(());
+    }
+    push(text, b"leaf ")?;
+    push_leaf(text, types, leaves, leaf)?;
+    push(text, b": ")?;
+    Ok(())
+}
+
+/// The text of a refusal, such as `layout of T: A4: leaf C(_): alignment 3`. Leaves are named by their
+/// provenances, fields by their paths.
+///
+/// # Errors
+///
+/// `AllocError` where memory is wanting.
+pub fn show_refusal(
+    alloc: Global,
+    types: &[DataDecl],
+    layouts: &[Layout],
+    refused: &Refused,
+) -> Result<Vec<u8>, AllocError>
+    ensures { IfOk result (λ text. text.items ≡ refusal_text types.now layouts.now refused.now) }
+{
+    let mut text = Vec::new(alloc);
+    push(&mut text, b"layout of ")?;
+    push_name(&mut text, types, refused.ty)?;
+    push(&mut text, b": A")?;
+    push_number(&mut text, refused.rule as u64)?;
+    push(&mut text, b": ")?;
+    let leaves = leaves_of(layouts, refused.ty);
+    let leaf = leaf_number(refused.leaf);
+    push_place(&mut text, types, leaves, refused.rule, leaf)?;
+    push_evidence(&mut text, types, leaves, leaf, &refused.why)?;
+    Ok(text)
+}
