@@ -10,5 +10,5 @@ is_accepted bytes a h = record {
   named = record { file = a.file; read = h.read; named = h.named };
   typed = h.typed;
   exhaustive = h.covered.exhaustive;
-  agrees = h.agree;
+  agrees = h.agreed.1;
 }

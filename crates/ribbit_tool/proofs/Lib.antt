@@ -4,6 +4,7 @@ pub mod Counted
 pub mod ExecLaws
 pub mod Faults
 pub mod HeadlineLaws
+pub mod LayoutRefusals
 pub mod Meeting
 pub mod Named
 pub mod Numbered

@@ -9,6 +9,7 @@ use Rattle.ribbit_tool.specs.declared.status.Status.TheVariants as status
 abbrev pub status_number : Status → ℕ
 status_number status.Syntax = 1
 status_number status.Meaning = 2
+status_number status.Layout = 3
 status_number status.Spent = 4
 status_number status.Full = 5
 status_number status.Usage = 6

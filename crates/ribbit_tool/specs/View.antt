@@ -4,8 +4,7 @@ use Rattle.std.specs.declared.vec.Vec.{Vec}
 use Rattle.std.specs.declared.alloc.Global.{Global}
 use Rattle.rb_core.specs.Coverage.{IsCovered}
 use Rattle.rb_core.specs.TypedPrograms.{IsTyped}
-use Rattle.rb_layout.specs.Agreement.{Agrees}
-use Rattle.rb_layout.specs.Flattening.{flat_layouts}
+use Rattle.rb_layout.specs.Agreement.{AreAgreed}
 use Rattle.rb_names.specs.Programs.{numbered}
 use Rattle.ribbit_tool.specs.Accepting.{IsRead}
 use Rattle.ribbit_tool.specs.Answer.{Due, printed, refused}
@@ -63,5 +62,4 @@ pub record IsAcceptance (bytes : List ℕ) (a : Accepted) : Type 0 where
   pub named : numbered a.file ≡ Ok a.agreed.covered.program
   pub typed : IsTyped a.agreed.covered.program
   pub covered : IsCovered a.agreed.covered.program a.agreed.covered.notes
-  pub flat : a.agreed.layouts ≡ flat_layouts a.agreed.covered.program
-  pub agree : Agrees a.agreed.covered.program
+  pub agreed : AreAgreed a.agreed.covered.program a.agreed.layouts

@@ -10,6 +10,8 @@ pub enum Status {
     Syntax,
     /// The names, types or matches of a file have no meaning.
     Meaning,
+    /// The layouts of a file do not agree with its types.
+    Layout,
     /// The calls are spent.
     Spent,
     /// A block does not fit into the region.
@@ -42,6 +44,7 @@ impl Status {
         match self {
             Status::Syntax => 1,
             Status::Meaning => 2,
+            Status::Layout => 3,
             Status::Spent => 4,
             Status::Full => 5,
             Status::Usage => 6,
