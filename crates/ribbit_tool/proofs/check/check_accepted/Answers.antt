@@ -23,4 +23,4 @@ returns-in_ok-text-in-None-clause-text c =
     let size = length c.args.bytes.now in
     accepted a.agreed.covered.program (is_accepted c.args.bytes.now a c.requires) (checked (sym c.first_declared.ensures ∙ c.in-None.is) a.agreed.covered.notes c.requires.covered
     (ap (λ (text : List ℕ). printed text 0) (c.in_ok-text-in-None.ensures ∙ ap (λ (ps : List Placed). check_text ps size c.notes.result.now) c.as_slice-placed.ensures.value
-    ∙ ap (λ (ns : List Note). check_text a.placed.items size ns) c.notes.ensures)))
+    ∙ ap (λ (ns : List Note). check_text a.placed.items size ns) (c.notes.ensures ∙ ap (λ x. x.notes) c.covered.ensures.same))))

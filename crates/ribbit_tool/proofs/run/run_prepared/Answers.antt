@@ -5,6 +5,7 @@ use Rattle.rb_core.specs.Values.{all_of_types, is_of_type}
 use Rattle.rb_core.specs.declared.program.Program.{Program}
 use Rattle.rb_core.specs.declared.value.Value.{Value}
 use Rattle.rb_rel.specs.Answers as answer
+use Rattle.rb_run.specs.Answering.{meant_by}
 use Rattle.rb_run.specs.Calling.{IsCounted}
 use Rattle.ribbit_tool.specs.Run.{IsAnswered, answer_due, source_answer}
 use Rattle.ribbit_tool.specs.View.{limits_view, Meets}
@@ -14,7 +15,7 @@ use Rattle.ribbit_tool.proofs.run.run_prepared.Goals as goal
 pub answer_main-requires-clause-typed : goal.answer_main-requires-clause-typed
 answer_main-requires-clause-typed g c =
     let p = c.args.agreed.now.covered.program in
-    subst (λ (vs : List Value). all_of_types (map (is_of_type p.types) vs) (param_types p.funs p.main) ≡ true) (sym c.as_slice.ensures) c.requires.typed
+    subst (λ (vs : List Value). all_of_types (map (is_of_type p.types) vs) (param_types p.funs p.main) ≡ true) (sym c.as_slice-args.ensures) c.requires.typed
 
 pub returns : goal.returns
 returns g c =
@@ -23,8 +24,8 @@ returns g c =
     let r = c.args.prepared.now in
     let limits = limits_view c.args.limits in
     let k = c.in_ok-answer.ensures.counted in
-    let counted = subst (λ (vs : List Value). IsCounted agreed r.code vs limits.calls (empty_memory limits.region) k.0 k.1) c.as_slice.ensures k.3 in
-    let answered = c.in_ok-answer.ensures.answer ∙ ap (λ (vs : List Value). source_answer agreed limits vs) c.as_slice.ensures in
+    let counted = subst (λ (vs : List Value). IsCounted agreed r.code vs limits.calls (empty_memory limits.region) k.0 k.1) c.as_slice-args.ensures k.3 in
+    let answered = c.in_ok-answer.ensures.answer ∙ ap (λ (vs : List Value). source_answer agreed limits vs) c.as_slice-args.ensures in
     let before = c.args.steps.now.taken in
     let same = c.program.ensures.same ∙ ap (λ x. x.program) c.covered.ensures.same in
     let Said : Program → answer.Answer → ℕ → Type 0 = λ x s now. Meets (λ due. due ≡ answer_due x limits.calls s k.0) before now c.show.result in
@@ -32,4 +33,4 @@ returns g c =
     (λ due e. record { taken = k.0; switches = k.1; counted = counted; shown = e })
     before c.answer_main.new.steps.taken c.show.result
     (subst (λ now. Said p (source_answer agreed limits r.args) now) (sym k.2)
-    (subst (λ s. Said p s (before + k.0)) answered (subst (λ x. Said x _ (before + k.0)) same (c.show.ensures before k.0))))
+    (subst (λ s. Said p s (before + k.0)) answered (subst (λ x. Said x (meant_by c.in_ok-answer.answer) (before + k.0)) same (c.show.ensures before k.0))))
