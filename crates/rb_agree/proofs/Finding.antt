@@ -14,11 +14,7 @@ use Rattle.rb_layout.specs.Items.{Item}
 use Rattle.rb_layout.specs.A1.{FailsShape, HasShape}
 use Rattle.rb_layout.specs.Flattening.{decl_of}
 use Rattle.rb_agree.specs.Answers.{Finds}
-
--- what is found in a place of this rule, type and leaf
-abbrev pub refusal : ℕ → ℕ → Option ℕ → Option Why → Option Refused
-refusal rule t leaf None = None
-refusal rule t leaf (Some why) = Some (record { rule = rule; ty = t; leaf = leaf; why = why })
+use Rattle.rb_agree.specs.inner.Rules.{refusal}
 
 module _ (p : Program) (layouts : List Layout) where
   first-found : (xs ys : List Spot) (x : Spot × Why) → Checked p layouts xs (Some x) → Checked p layouts (xs ++ ys) (Some x)

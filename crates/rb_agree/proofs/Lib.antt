@@ -11,3 +11,7 @@ pub mod Marking
 pub mod Searching
 pub mod Relating
 pub mod Opening
+mod Holding
+mod Reading
+mod Ruling
+mod Agreeing

@@ -5,3 +5,6 @@ pub mod Tests
 pub mod Values
 pub mod Parts
 pub mod Ways
+pub mod Held
+pub mod Leaves
+pub mod Rules

@@ -1,14 +1,96 @@
 //! Whether the layouts of a program agree with its types.
 
-ghost use Rattle.std.specs.Prelude.{IfErr, IfOk};
+ghost use Rattle.std.specs.Prelude.{◌≡◌, ◌++◌, length, IfErr, IfOk};
+ghost use Rattle.rb_core.specs.TypedPrograms.{IsTyped};
+ghost use Rattle.rb_layout.specs.A1.{A1};
 ghost use Rattle.rb_layout.specs.Agreement.{AreAgreed};
-ghost use Rattle.rb_agree.specs.Answers.{IsAgreeFault};
+ghost use Rattle.rb_layout.specs.Flattening.{AreInOrder};
+ghost use Rattle.rb_agree.specs.Answers.{Finds, IsAgreeFault};
+ghost use Rattle.rb_agree.specs.inner.Lists.{EachOf};
+ghost use Rattle.rb_agree.specs.inner.Rules.{IsKnown, IsReady, early_rules, late_rules, rules_spots};
 
 use crate::fault::AgreeFault;
+use crate::graphs::{flattened, held};
+use crate::pointers::pointing;
+use crate::rules::{Related, Rule, rules_fault};
+use crate::shapes::shapes_fault;
+use rb_core::program::Program;
 use rb_core::seq::Seq;
 use rb_core::typed::Covered;
+use rb_layout::evidence::Refused;
+use rb_layout::flatten;
 use rb_layout::layout::Layout;
-use std::alloc::Global;
+use std::alloc::{AllocError, Global};
+
+// How the layouts of a program are related.
+fn related(alloc: Global, program: &Program, layouts: &[Layout]) -> Result<Related, AllocError>
+    requires typed { IsTyped program.now }
+    requires count { length layouts.now ≡ length program.now.types }
+    ensures { IfOk result (IsKnown program.now layouts.now) }
+{
+    let marks = pointing(alloc, layouts)?;
+    let flattened = flattened(alloc, layouts)?;
+    let held = held(alloc, program.types.as_slice(), layouts)?;
+    Ok(Related {
+        marks,
+        flattened,
+        held,
+    })
+}
+
+// The refusal by the first place that fails a rule between that on shapes and that on tests.
+fn early_fault(
+    alloc: Global,
+    program: &Program,
+    layouts: &[Layout],
+    related: &Related,
+) -> Result<Option<Refused>, AllocError>
+    requires { IsKnown program.now layouts.now related.now }
+    ensures { IfOk result (Finds program.now layouts.now (rules_spots program.now.layouts layouts.now early_rules)) }
+{
+    let rules = [
+        Rule::Roots,
+        Rule::Parts,
+        Rule::Blocks,
+        Rule::Values,
+        Rule::Fields,
+    ];
+    rules_fault(alloc, program, layouts, related, &rules)
+}
+
+// The refusal by the first place that fails a rule from that on tests on.
+fn late_fault(
+    alloc: Global,
+    program: &Program,
+    layouts: &[Layout],
+    related: &Related,
+) -> Result<Option<Refused>, AllocError>
+    requires known { IsKnown program.now layouts.now related.now }
+    requires ready { EachOf (IsReady layouts.now) late_rules }
+    ensures { IfOk result (Finds program.now layouts.now (rules_spots program.now.layouts layouts.now late_rules)) }
+{
+    let rules = [Rule::Tests, Rule::Splits, Rule::Flattening, Rule::Holding];
+    rules_fault(alloc, program, layouts, related, &rules)
+}
+
+// The refusal by the first place that fails a rule behind that on shapes.
+fn layouts_fault(
+    alloc: Global,
+    program: &Program,
+    layouts: &[Layout],
+) -> Result<Option<Refused>, AllocError>
+    requires typed { IsTyped program.now }
+    requires shapes { A1 program.now }
+    requires order { AreInOrder program.now layouts.now }
+    ensures { IfOk result (Finds program.now layouts.now
+        (rules_spots program.now.layouts layouts.now early_rules ++ rules_spots program.now.layouts layouts.now late_rules)) }
+{
+    let related = related(alloc, program, layouts)?;
+    if let Some(refused) = early_fault(alloc, program, layouts, &related)? {
+        return Ok(Some(refused));
+    }
+    late_fault(alloc, program, layouts, &related)
+}
 
 /// The flat forms of a program's layouts, in the types' order, where they agree with its types.
 ///
@@ -16,9 +98,17 @@ use std::alloc::Global;
 ///
 /// `Rule` where a rule fails: the first place that fails, by rule, type, leaf and item, and why. `Memory`
 /// where memory is wanting, which says nothing of the layouts.
-pub fn agree(_alloc: Global, _covered: &Covered) -> Result<Seq<Layout>, AgreeFault>
-    ensures agreed { IfOk result (AreAgreed _covered.now.program) }
-    ensures refused { IfErr result (IsAgreeFault _covered.now.program) }
+pub fn agree(alloc: Global, covered: &Covered) -> Result<Seq<Layout>, AgreeFault>
+    ensures agreed { IfOk result (AreAgreed covered.now.program) }
+    ensures refused { IfErr result (IsAgreeFault covered.now.program) }
 {
-    Err(AgreeFault::Memory)
+    let program = covered.program();
+    if let Some(refused) = shapes_fault(program)? {
+        return Err(AgreeFault::Rule(refused));
+    }
+    let layouts = flatten(alloc, covered)?;
+    if let Some(refused) = layouts_fault(alloc, program, layouts.as_slice())? {
+        return Err(AgreeFault::Rule(refused));
+    }
+    Ok(layouts)
 }

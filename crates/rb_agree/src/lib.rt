@@ -1,7 +1,9 @@
-//! The checker of agreement: how the layouts of a program fail the rules, place by place.
+//! The checker of agreement: whether the layouts of a program agree with its types, and else the first
+//! place at which a rule fails.
 //!
-//! Each rule has a call that looks at one place, a type or a leaf of its layout, and answers that the rule
-//! holds there or with evidence that it fails. Take the type and the layout
+//! `agree::agree` goes rule after rule, in a rule type after type, and in a type leaf after leaf. Each rule
+//! has a call that looks at one place, a type or a leaf of its layout, and answers that the rule holds there
+//! or with evidence that it fails. Take the type and the layout
 //!
 //! ```text
 //! type Bit = Off | On;
@@ -23,6 +25,7 @@
 //! | A4 blocks and pointers | `blocks::blocks_fault` | a leaf |
 //! | A5 a leaf for each value | `values::complete_fault` | a type |
 //! | A5 no value has two | `values::apart_fault` | a leaf |
+//! | A6 fields held once | `held::held_fault` | a leaf |
 //! | A7 tests | `tests::tests_fault` | a leaf |
 //! | A8 splits | `splits::splits_fault` | a type |
 //! | A9 no cycle | `graphs::flattening_fault`, over `graphs::flattened` | a type |
@@ -41,12 +44,15 @@ mod cycles;
 mod decls;
 pub mod fault;
 pub mod graphs;
+pub mod held;
 pub mod items;
+mod leaves;
 mod numbers;
 pub mod parts;
 pub mod pointers;
 pub mod positions;
 pub mod roots;
+mod rules;
 pub mod shapes;
 pub mod splits;
 pub mod tests;

@@ -62,7 +62,7 @@ fn fits_word(decls: &[LayoutDecl], ty: Option<Ty>, l: u64, j: u64) -> bool
     }
 }
 
-fn is_open(types: &[DataDecl], prov: &Pat, path: &Seq<u32>) -> bool
+pub(crate) fn is_open(types: &[DataDecl], prov: &Pat, path: &Seq<u32>) -> bool
     ensures { IsTrue result ↔ IsOpenIn (open_positions types.now prov.now) path.now }
 {
     match type_at(types, prov, path.as_slice()) {

@@ -1,0 +1,63 @@
+use Rattle.std.proofs.Common.{ℕ, List, Option, IfOk, refl, sym, subst}
+use Rattle.std.specs.Prelude.{MatchOption}
+use Rattle.rb_core.specs.declared.types.DataDecl.{DataDecl}
+use Rattle.rb_layout.specs.Cycles.{HasNoCycle}
+use Rattle.rb_layout.specs.A5.{FailsComplete, IsComplete}
+use Rattle.rb_layout.specs.A10.{FailsHolding, HoldsField}
+use Rattle.rb_layout.specs.A9.{Flattens}
+use Rattle.rb_agree.specs.Graphs.{IsGraphOf}
+use Rattle.rb_layout.specs.Spots as S
+use Rattle.rb_layout.specs.declared.evidence.Why.{Why}
+use Rattle.rb_agree.specs.declared.rules.Rule.TheVariants.{Roots, Parts, Blocks, Values, Fields, Tests, Splits, Flattening, Holding}
+use Rattle.rb_agree.proofs.Ruling.{inhabited, type-in, type-none, type-one}
+use Rattle.rb_agree.proofs.rules.type_fault.Goals as goal
+
+pub returns-in-Roots : goal.returns-in-Roots
+returns-in-Roots c = type-none c.args.program.now c.args.layouts.now c.args.ty c.args.layout.now c.args.rule Roots c.in-Roots.is refl
+
+pub returns-in-Parts : goal.returns-in-Parts
+returns-in-Parts c = type-none c.args.program.now c.args.layouts.now c.args.ty c.args.layout.now c.args.rule Parts c.in-Parts.is refl
+
+pub returns-in-Blocks : goal.returns-in-Blocks
+returns-in-Blocks c = type-none c.args.program.now c.args.layouts.now c.args.ty c.args.layout.now c.args.rule Blocks c.in-Blocks.is refl
+
+pub returns-in-Fields : goal.returns-in-Fields
+returns-in-Fields c = type-none c.args.program.now c.args.layouts.now c.args.ty c.args.layout.now c.args.rule Fields c.in-Fields.is refl
+
+pub returns-in-Tests : goal.returns-in-Tests
+returns-in-Tests c = type-none c.args.program.now c.args.layouts.now c.args.ty c.args.layout.now c.args.rule Tests c.in-Tests.is refl
+
+pub returns-in-Values : goal.returns-in-Values
+returns-in-Values c =
+    type-one c.args.program.now c.args.layouts.now c.args.ty c.args.layout.now c.args.rule Values (S.Complete c.args.ty c.args.layout.now) c.in-Values.is refl refl c.complete_fault.result
+    (subst (λ (ts : List DataDecl). IfOk c.complete_fault.result (λ (x : Option Why). MatchOption x (IsComplete ts c.args.ty c.args.layout.now) (FailsComplete ts c.args.ty c.args.layout.now)))
+    c.as_slice.ensures c.complete_fault.ensures)
+
+pub returns-in-Splits : goal.returns-in-Splits
+returns-in-Splits c =
+    type-one c.args.program.now c.args.layouts.now c.args.ty c.args.layout.now c.args.rule Splits (S.Splits c.args.ty c.args.layout.now) c.in-Splits.is refl refl c.splits_fault.result c.splits_fault.ensures
+
+pub returns-in-Flattening : goal.returns-in-Flattening
+returns-in-Flattening c =
+    type-one c.args.program.now c.args.layouts.now c.args.ty c.args.layout.now c.args.rule Flattening (S.Flattening c.args.ty) c.in-Flattening.is refl refl c.flattening_fault.result c.flattening_fault.ensures
+
+pub returns-in-Holding : goal.returns-in-Holding
+returns-in-Holding c =
+    type-one c.args.program.now c.args.layouts.now c.args.ty c.args.layout.now c.args.rule Holding (S.Holding c.args.ty) c.in-Holding.is refl refl c.holding_fault.result
+    (subst (λ (ts : List DataDecl). IfOk c.holding_fault.result (λ (x : Option Why). MatchOption x (HasNoCycle (HoldsField ts c.args.layouts.now) c.args.ty) (FailsHolding ts c.args.layouts.now c.args.ty)))
+    c.as_slice-in-Holding.ensures c.holding_fault.ensures)
+
+pub complete_fault-requires-clause-inhabited : goal.complete_fault-requires-clause-inhabited
+complete_fault-requires-clause-inhabited c = inhabited c.args.program.now c.as_slice.result.now c.as_slice.ensures c.requires.known.typed
+
+pub complete_fault-requires-clause-ty : goal.complete_fault-requires-clause-ty
+complete_fault-requires-clause-ty c =
+    type-in c.args.program.now c.args.layouts.now c.args.related.now c.as_slice.result.now c.args.ty c.args.layout.now c.as_slice.ensures c.requires.known c.requires.layout
+
+pub flattening_fault-requires : goal.flattening_fault-requires
+flattening_fault-requires c = subst (λ (g : List (List ℕ)). IsGraphOf (Flattens c.args.layouts.now) g) (sym c.as_slice-in-Flattening.ensures) c.requires.known.flattened
+
+pub holding_fault-requires : goal.holding_fault-requires
+holding_fault-requires c =
+    subst (λ (ts : List DataDecl). IsGraphOf (HoldsField ts c.args.layouts.now) c.as_slice-in-Holding-2.result.now) (sym c.as_slice-in-Holding.ensures)
+    (subst (λ (g : List (List ℕ)). IsGraphOf (HoldsField c.args.program.now.types c.args.layouts.now) g) (sym c.as_slice-in-Holding-2.ensures) c.requires.known.held)

@@ -1,0 +1,94 @@
+-- The rules behind that on shapes, each with its places.
+use Rattle.std.specs.Prelude.{◌≡◌, ℕ, List, [], ◌∷◌, ◌++◌, length, Option, Some, None}
+use Rattle.std.specs.List.{flat_map}
+use Rattle.rb_core.specs.declared.layout_decl.LayoutDecl.{LayoutDecl}
+use Rattle.rb_core.specs.declared.program.Program.{Program}
+use Rattle.rb_core.specs.TypedPrograms.{IsTyped}
+use Rattle.rb_layout.specs.declared.layout.Layout.{Layout}
+use Rattle.rb_layout.specs.declared.layout.Leaf.{Leaf}
+use Rattle.rb_layout.specs.declared.evidence.Why.{Why}
+use Rattle.rb_layout.specs.declared.evidence.Refused.{Refused}
+use Rattle.rb_layout.specs.Items.{items_of}
+use Rattle.rb_layout.specs.Each.{EachLeaf}
+use Rattle.rb_layout.specs.Readable.{IsReadable}
+use Rattle.rb_layout.specs.A9.{Flattens}
+use Rattle.rb_layout.specs.A10.{HoldsField}
+use Rattle.rb_layout.specs.Spots.{Spot, by_leaves, by_types, part_spots}
+use Rattle.rb_layout.specs.Spots as S
+use Rattle.rb_agree.specs.declared.rules.Rule.{Rule}
+use Rattle.rb_agree.specs.declared.rules.Rule.TheVariants.{Roots, Parts, Blocks, Values, Fields, Tests, Splits, Flattening, Holding}
+use Rattle.rb_agree.specs.declared.rules.Related.{Related}
+use Rattle.rb_agree.specs.Graphs.{IsGraphOf}
+use Rattle.rb_agree.specs.Pointing.{AreMarks}
+
+abbrev pub rule_number : Rule → ℕ
+rule_number Roots = 2
+rule_number Parts = 3
+rule_number Blocks = 4
+rule_number Values = 5
+rule_number Fields = 6
+rule_number Tests = 7
+rule_number Splits = 8
+rule_number Flattening = 9
+rule_number Holding = 10
+
+-- its places at a type, before those at leaves
+abbrev pub type_spots : Rule → ℕ → Layout → List Spot
+type_spots Roots t layout = []
+type_spots Parts t layout = []
+type_spots Blocks t layout = []
+type_spots Values t layout = S.Complete t layout ∷ []
+type_spots Fields t layout = []
+type_spots Tests t layout = []
+type_spots Splits t layout = S.Splits t layout ∷ []
+type_spots Flattening t layout = S.Flattening t ∷ []
+type_spots Holding t layout = S.Holding t ∷ []
+
+-- and those at a leaf
+abbrev pub leaf_spots : List LayoutDecl → Rule → ℕ → Layout → ℕ → Leaf → List Spot
+leaf_spots decls Roots t layout n leaf = S.Root t n layout leaf ∷ []
+leaf_spots decls Parts t layout n leaf = part_spots t n leaf 0 (items_of decls t n)
+leaf_spots decls Blocks t layout n leaf = S.Blocks t n leaf ∷ []
+leaf_spots decls Values t layout n leaf = S.Apart t n layout leaf ∷ []
+leaf_spots decls Fields t layout n leaf = S.Held t n leaf ∷ []
+leaf_spots decls Tests t layout n leaf = S.Tests t n layout leaf ∷ []
+leaf_spots decls Splits t layout n leaf = []
+leaf_spots decls Flattening t layout n leaf = S.NoPointer t n leaf ∷ []
+leaf_spots decls Holding t layout n leaf = []
+
+abbrev pub leaves_spots : List LayoutDecl → Rule → ℕ → Layout → List Spot
+leaves_spots decls rule t layout = by_leaves (leaf_spots decls rule t layout) 0 layout.leaves
+
+abbrev pub spots_of : List LayoutDecl → Rule → ℕ → Layout → List Spot
+spots_of decls rule t layout = type_spots rule t layout ++ leaves_spots decls rule t layout
+
+abbrev pub rule_spots : List LayoutDecl → List Layout → Rule → List Spot
+rule_spots decls layouts rule = by_types (spots_of decls rule) 0 layouts
+
+abbrev pub rules_spots : List LayoutDecl → List Layout → List Rule → List Spot
+rules_spots decls layouts rules = flat_map (rule_spots decls layouts) rules
+
+-- the rules before that on tests, and the others
+abbrev pub early_rules : List Rule
+early_rules = Roots ∷ Parts ∷ Blocks ∷ Values ∷ Fields ∷ []
+
+abbrev pub late_rules : List Rule
+late_rules = Tests ∷ Splits ∷ Flattening ∷ Holding ∷ []
+
+-- what is found at a place of a rule, a type and a leaf
+abbrev pub refusal : ℕ → ℕ → Option ℕ → Option Why → Option Refused
+refusal rule t leaf None = None
+refusal rule t leaf (Some why) = Some (record { rule = rule; ty = t; leaf = leaf; why = why })
+
+-- tests are checked where leaves can be read
+abbrev pub IsReady : List Layout → Rule → Type 0
+IsReady layouts Tests = EachLeaf layouts (λ t layout n leaf. IsReadable leaf)
+IsReady layouts rule = Unit {0}
+
+-- a typed program, its layouts, and how they are related
+pub record IsKnown (p : Program) (layouts : List Layout) (related : Related) : Type 0 where
+  pub typed : IsTyped p
+  pub count : length layouts ≡ length p.types
+  pub marks : AreMarks layouts related.marks
+  pub flattened : IsGraphOf (Flattens layouts) related.flattened
+  pub held : IsGraphOf (HoldsField p.types layouts) related.held

@@ -1,0 +1,73 @@
+//! The items of each leaf of a layout, from left to right.
+
+ghost use Rattle.std.specs.Prelude.{◌≡◌, ◌++◌, IfOk, OnOk, slice_get};
+ghost use Rattle.std.specs.List.{flat_map};
+ghost use Rattle.rb_core.specs.Layouts.{leaves, leaves_under};
+ghost use Rattle.rb_layout.specs.Flattening.{decl_of};
+ghost use Rattle.rb_layout.specs.Items.{leaves_in};
+ghost use Rattle.rb_agree.specs.Written.{shown_items};
+ghost use Rattle.rb_agree.specs.inner.Leaves.{items_or_none, items_under, shown_leaves};
+
+use crate::decls::decl_of;
+use crate::items::{Item, items_of};
+use rb_core::layout_decl::{Arm, LayTree, LayoutDecl};
+use rb_core::seq::Seq;
+use std::alloc::{AllocError, Global};
+
+// Adds the items of each leaf of a tree.
+#[cycle(reading)]
+fn add_tree(alloc: Global, tree: &LayTree, out: &mut Seq<Seq<Item>>) -> Result<(), AllocError>
+    ensures { OnOk result (shown_leaves out.new ≡ shown_leaves out.old ++ items_under (leaves tree.now)) }
+{
+    match tree {
+        LayTree::Leaf(_, _, items) => {
+            let written = items_of(alloc, items.as_slice())?;
+            out.push(written)
+        }
+        LayTree::Split(_, arms, other) => {
+            add_arms(alloc, arms.as_slice(), out)?;
+            match other {
+                None => Ok(()),
+                Some(tree) => add_tree(alloc, tree.get(), out),
+            }
+        }
+    }
+}
+
+#[cycle(reading)]
+fn add_arms(alloc: Global, arms: &[Arm], out: &mut Seq<Seq<Item>>) -> Result<(), AllocError>
+    ensures { OnOk result (shown_leaves out.new ≡ shown_leaves out.old ++ items_under (flat_map leaves_under arms.now)) }
+{
+    for arm in arms {
+        add_tree(alloc, &arm.under, out)?;
+    }
+    Ok(())
+}
+
+/// The items of each leaf of a type's layout; none where it has no layout.
+pub(crate) fn leaves_of(
+    alloc: Global,
+    decls: &[LayoutDecl],
+    ty: u32,
+) -> Result<Seq<Seq<Item>>, AllocError>
+    ensures { IfOk result (λ out. shown_leaves out ≡ items_under (leaves_in (decl_of decls.now ty))) }
+{
+    let mut out = Seq::new(alloc);
+    match decl_of(decls, ty) {
+        None => Ok(out),
+        Some(decl) => {
+            add_tree(alloc, &decl.tree, &mut out)?;
+            Ok(out)
+        }
+    }
+}
+
+/// The items of leaf `n`; none where there is no such leaf.
+pub(crate) fn items_at(leaves: &[Seq<Item>], n: usize) -> &[Item]
+    ensures { shown_items result.now ≡ items_or_none (slice_get leaves.now n) }
+{
+    match leaves.get(n) {
+        None => &[],
+        Some(items) => items.as_slice(),
+    }
+}

@@ -1,0 +1,307 @@
+//! The rules behind that on shapes, each at its places in their order: by type, and in a type those
+//! without a leaf before those with one.
+
+ghost use Rattle.std.specs.Prelude.{◌≡◌, ℕ, IfOk, List, None, Option, Some, slice_get};
+ghost use Rattle.rb_layout.specs.declared.layout.Layout.{Layout};
+ghost use Rattle.rb_layout.specs.Items.{items_of, leaves_in};
+ghost use Rattle.rb_layout.specs.Flattening.{decl_of};
+ghost use Rattle.rb_layout.specs.Positions.{layout_of};
+ghost use Rattle.rb_layout.specs.Spots.{part_spots};
+ghost use Rattle.rb_agree.specs.Answers.{Finds};
+ghost use Rattle.rb_agree.specs.Written.{shown_items};
+ghost use Rattle.rb_agree.specs.inner.Lists.{EachOf};
+ghost use Rattle.rb_agree.specs.inner.Leaves.{items_under, shown_leaves};
+ghost use Rattle.rb_agree.specs.inner.Rules.{IsKnown, IsReady, leaf_spots, leaves_spots, refusal, rule_number, rule_spots, rules_spots, spots_of, type_spots};
+
+use crate::blocks::blocks_fault;
+use crate::graphs::{flattening_fault, holding_fault};
+use crate::held::held_fault;
+use crate::items::Item;
+use crate::leaves::{items_at, leaves_of};
+use crate::numbers::number_of;
+use crate::parts::item_fault;
+use crate::pointers::pointer_fault;
+use crate::roots::root_fault;
+use crate::splits::splits_fault;
+use crate::tests::tests_fault;
+use crate::values::{apart_fault, complete_fault};
+use rb_core::program::Program;
+use rb_core::seq::Seq;
+use rb_layout::evidence::{Refused, Why};
+use rb_layout::layout::{Layout, Leaf};
+use std::alloc::{AllocError, Global};
+
+/// A rule.
+#[derive(Clone, Copy, Debug)]
+pub enum Rule {
+    /// Root words have the shape's widths.
+    Roots,
+    /// Parts lie in their words, are disjoint, and fit what they hold.
+    Parts,
+    /// Blocks and pointers are as they must be.
+    Blocks,
+    /// Each value has exactly one leaf.
+    Values,
+    /// Each open position is held exactly once.
+    Fields,
+    /// Each leaf passes the tests above it.
+    Tests,
+    /// Splits have distinct literals that fit, and an arm.
+    Splits,
+    /// Flattening has no cycle, and flattened types have no pointer.
+    Flattening,
+    /// Holding in root words has no cycle.
+    Holding,
+}
+
+/// How all layouts are related.
+#[derive(Debug, Drop)]
+pub struct Related {
+    /// For each type whether a leaf has a pointer.
+    pub marks: Seq<bool>,
+    /// For each type those that it flattens.
+    pub flattened: Seq<Seq<u32>>,
+    /// For each type those of whose fields its root words have words.
+    pub held: Seq<Seq<u32>>,
+}
+
+fn rule_number(rule: Rule) -> u8
+    ensures { result ≡ rule_number rule }
+{
+    match rule {
+        Rule::Roots => 2,
+        Rule::Parts => 3,
+        Rule::Blocks => 4,
+        Rule::Values => 5,
+        Rule::Fields => 6,
+        Rule::Tests => 7,
+        Rule::Splits => 8,
+        Rule::Flattening => 9,
+        Rule::Holding => 10,
+    }
+}
+
+// How the first item that fails does.
+fn items_fault(
+    alloc: Global,
+    program: &Program,
+    leaf: &Leaf,
+    items: &[Item],
+) -> Result<Option<Why>, AllocError>
+    ensures { IfOk result (λ found. (layouts : List Layout) (t n : ℕ)
+        → Finds program.now layouts (part_spots t n leaf.now 0 (shown_items items.now)) (refusal 3 t (Some n) found)) }
+{
+    for i in 0..items.len() {
+        let number = number_of(i)?;
+        if let Some(why) = item_fault(
+            alloc,
+            program.types.as_slice(),
+            program.layouts.as_slice(),
+            &leaf.prov,
+            number,
+            &items[i],
+        )? {
+            return Ok(Some(why));
+        }
+    }
+    Ok(None)
+}
+
+// How leaf `n` of a type's layout fails a rule.
+fn leaf_fault(
+    alloc: Global,
+    program: &Program,
+    layouts: &[Layout],
+    related: &Related,
+    rule: Rule,
+    ty: u32,
+    layout: &Layout,
+    n: usize,
+    leaf: &Leaf,
+    items: &[Item],
+) -> Result<Option<Why>, AllocError>
+    requires known { IsKnown program.now layouts.now related.now }
+    requires layout { layout_of layouts.now ty ≡ Some layout.now }
+    requires leaf { slice_get layout.now.leaves n ≡ Some leaf.now }
+    requires items { shown_items items.now ≡ items_of program.now.layouts ty n }
+    requires ready { IsReady layouts.now rule }
+    ensures { IfOk result (λ found. Finds program.now layouts.now
+        (leaf_spots program.now.layouts rule ty layout.now n leaf.now) (refusal (rule_number rule) ty (Some n) found)) }
+{
+    match rule {
+        Rule::Roots => root_fault(layout.shape.as_slice(), leaf),
+        Rule::Parts => items_fault(alloc, program, leaf, items),
+        Rule::Blocks => Ok(blocks_fault(leaf)),
+        Rule::Values => apart_fault(alloc, program.types.as_slice(), ty, layout, n, leaf),
+        Rule::Fields => held_fault(alloc, program, leaf, items),
+        Rule::Tests => tests_fault(
+            alloc,
+            program.types.as_slice(),
+            layouts,
+            &layout.tree,
+            n,
+            leaf,
+        ),
+        Rule::Splits => Ok(None),
+        Rule::Flattening => Ok(pointer_fault(layouts, related.marks.as_slice(), leaf)),
+        Rule::Holding => Ok(None),
+    }
+}
+
+// How a type fails a rule at no leaf.
+fn type_fault(
+    alloc: Global,
+    program: &Program,
+    layouts: &[Layout],
+    related: &Related,
+    rule: Rule,
+    ty: u32,
+    layout: &Layout,
+) -> Result<Option<Why>, AllocError>
+    requires known { IsKnown program.now layouts.now related.now }
+    requires layout { layout_of layouts.now ty ≡ Some layout.now }
+    ensures { IfOk result (λ found. Finds program.now layouts.now
+        (type_spots rule ty layout.now) (refusal (rule_number rule) ty None found)) }
+{
+    match rule {
+        Rule::Roots => Ok(None),
+        Rule::Parts => Ok(None),
+        Rule::Blocks => Ok(None),
+        Rule::Values => complete_fault(alloc, program.types.as_slice(), ty, layout),
+        Rule::Fields => Ok(None),
+        Rule::Tests => Ok(None),
+        Rule::Splits => splits_fault(alloc, layout),
+        Rule::Flattening => flattening_fault(alloc, layouts, related.flattened.as_slice(), ty),
+        Rule::Holding => holding_fault(
+            alloc,
+            program.types.as_slice(),
+            layouts,
+            related.held.as_slice(),
+            ty,
+        ),
+    }
+}
+
+// The refusal by the first leaf of a type's layout that fails a rule, where these are the leaves' items.
+fn leaves_fault(
+    alloc: Global,
+    program: &Program,
+    layouts: &[Layout],
+    related: &Related,
+    rule: Rule,
+    ty: u32,
+    layout: &Layout,
+    written: &[Seq<Item>],
+) -> Result<Option<Refused>, AllocError>
+    requires known { IsKnown program.now layouts.now related.now }
+    requires layout { layout_of layouts.now ty ≡ Some layout.now }
+    requires written { shown_leaves written.now ≡ items_under (leaves_in (decl_of program.now.layouts ty)) }
+    requires ready { IsReady layouts.now rule }
+    ensures { IfOk result (Finds program.now layouts.now (leaves_spots program.now.layouts rule ty layout.now)) }
+{
+    let leaves = layout.leaves.as_slice();
+    for n in 0..leaves.len() {
+        let items = items_at(written, n);
+        let leaf = number_of(n)?;
+        if let Some(why) = leaf_fault(
+            alloc, program, layouts, related, rule, ty, layout, n, &leaves[n], items,
+        )? {
+            return Ok(Some(Refused {
+                rule: rule_number(rule),
+                ty,
+                leaf: Some(leaf),
+                why,
+            }));
+        }
+    }
+    Ok(None)
+}
+
+// The refusal by the first place of a type that fails a rule.
+fn layout_fault(
+    alloc: Global,
+    program: &Program,
+    layouts: &[Layout],
+    related: &Related,
+    rule: Rule,
+    ty: u32,
+    layout: &Layout,
+) -> Result<Option<Refused>, AllocError>
+    requires known { IsKnown program.now layouts.now related.now }
+    requires layout { layout_of layouts.now ty ≡ Some layout.now }
+    requires ready { IsReady layouts.now rule }
+    ensures { IfOk result (Finds program.now layouts.now (spots_of program.now.layouts rule ty layout.now)) }
+{
+    if let Some(why) = type_fault(alloc, program, layouts, related, rule, ty, layout)? {
+        return Ok(Some(Refused {
+            rule: rule_number(rule),
+            ty,
+            leaf: None,
+            why,
+        }));
+    }
+    let written = leaves_of(alloc, program.layouts.as_slice(), ty)?;
+    leaves_fault(
+        alloc,
+        program,
+        layouts,
+        related,
+        rule,
+        ty,
+        layout,
+        written.as_slice(),
+    )
+}
+
+// The refusal by the first place that fails a rule.
+fn rule_fault(
+    alloc: Global,
+    program: &Program,
+    layouts: &[Layout],
+    related: &Related,
+    rule: Rule,
+) -> Result<Option<Refused>, AllocError>
+    requires known { IsKnown program.now layouts.now related.now }
+    requires ready { IsReady layouts.now rule }
+    ensures { IfOk result (Finds program.now layouts.now (rule_spots program.now.layouts layouts.now rule)) }
+{
+    for t in 0..layouts.len() {
+        let ty = number_of(t)?;
+        if let Some(refused) = layout_fault(
+            alloc,
+            program,
+            layouts,
+            related,
+            rule,
+            ty,
+            &layouts[t],
+        )? {
+            return Ok(Some(refused));
+        }
+    }
+    Ok(None)
+}
+
+/// The refusal by the first place that fails one of these rules, one rule after the other.
+///
+/// # Errors
+///
+/// Want of memory.
+pub(crate) fn rules_fault(
+    alloc: Global,
+    program: &Program,
+    layouts: &[Layout],
+    related: &Related,
+    rules: &[Rule],
+) -> Result<Option<Refused>, AllocError>
+    requires known { IsKnown program.now layouts.now related.now }
+    requires ready { EachOf (IsReady layouts.now) rules.now }
+    ensures { IfOk result (Finds program.now layouts.now (rules_spots program.now.layouts layouts.now rules.now)) }
+{
+    for rule in rules {
+        if let Some(refused) = rule_fault(alloc, program, layouts, related, *rule)? {
+            return Ok(Some(refused));
+        }
+    }
+    Ok(None)
+}
