@@ -54,7 +54,8 @@ fn each_plain(layouts: &[Layout]) -> bool
     layouts.iter().all(|layout| is_plain(layout))
 }
 
-fn is_plain(layout: &Layout) -> bool
+/// Whether no provenance of the layout has a constructor below its root.
+pub fn is_plain(layout: &Layout) -> bool
     ensures { IsTrue result ↔ IsPlain layout.now }
 {
     each_shallow(layout.leaves.as_slice())

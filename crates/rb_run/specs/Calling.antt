@@ -55,3 +55,7 @@ laid_arguments agreed args m = lay m.limit m.next (requests_of agreed.layouts (m
 abbrev pub IsCounted : LaidOut → List CodeFun → List Value → ℕ → Memory → ℕ → ℕ → Type 0
 IsCounted agreed code args calls old steps switches =
     CountsAs agreed code args calls old (laid_arguments agreed args old) steps switches
+
+-- some call of `main` ended so
+abbrev pub IsEndOf : LaidOut → End → Memory → Type 0
+IsEndOf agreed end new = (args : List Value) × (calls : ℕ) × (old : Memory) × IsCalled agreed args calls old end new

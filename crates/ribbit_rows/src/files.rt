@@ -75,10 +75,10 @@ fun main(b: Bit): Bit = b; layout Bit <8> = split 0[0:1] { 0 => Off : { word 8 {
 /// Files that are accepted, with values, and the answer to `run`.
 const RUN: &str = "fun main(): u8 = 7;~~0 7;\n\
 fun main(x: u8): u8 = to u8(add(x, 1));~255~0 0;\n\
-fun main(x: u1): u8 = match x { 0 => 5, 1 => 6 };~1~15 ribbit: not built yet at byte 0;\n\
-\x20 fun f(): u8 = 0; fun main(): u8 = 0;~~15 ribbit: not built yet at byte 2;\n\
-fun main(x: u8): u8 = let y: u8 = x in y;~1~15 ribbit: not built yet at byte 0;\n\
-type T = A; fun main(): u8 = 0;~~15 ribbit: not built yet at byte 0;";
+fun main(x: u1): u8 = match x { 0 => 5, 1 => 6 };~1~0 6;\n\
+\x20 fun f(): u8 = 0; fun main(): u8 = 0;~~0 0;\n\
+fun main(x: u8): u8 = let y: u8 = x in y;~1~0 1;\n\
+type T = A; fun main(): u8 = 0;~~3 ribbit: layout of T: A1: no layout;";
 
 #[test]
 fn refused_files(rt: HostRuntime) -> Result<(), Fail> {

@@ -9,6 +9,8 @@ mod codes;
 #[cfg(test)]
 mod files;
 #[cfg(test)]
+mod layouts;
+#[cfg(test)]
 mod matches;
 #[cfg(test)]
 mod meaning;

@@ -31,7 +31,7 @@ fn words_and_arguments(rt: HostRuntime) -> Result<(), Fail> {
         (
             "run E 1 64 007 2",
             10,
-            b"ribbit: argument 1: no value of u8 at byte 0\n",
+            b"ribbit: argument 1: syntax at byte 1\n",
         ),
         ("run E 0 64 250 2", 4, b"ribbit: calls spent: 0\n"),
     ];

@@ -4,10 +4,11 @@ use Rattle.ribbit_tool.specs.Accepting.{IsAccepted}
 use Rattle.ribbit_tool.specs.View.{IsAcceptance}
 use Rattle.ribbit_tool.specs.declared.accepting.Accepted.{Accepted}
 
-abbrev pub is_accepted : (bytes : List ℕ) (a : Accepted) → IsAcceptance bytes a → IsAccepted bytes a.covered.program
+abbrev pub is_accepted : (bytes : List ℕ) (a : Accepted) → IsAcceptance bytes a → IsAccepted bytes a.agreed.covered.program
 is_accepted bytes a h = record {
   placed = a.placed.items;
   named = record { file = a.file; read = h.read; named = h.named };
   typed = h.typed;
   exhaustive = h.covered.exhaustive;
+  agrees = h.agreed.1;
 }

@@ -12,6 +12,14 @@ use Rattle.rb_core.specs.declared.program.Program.{Program}
 use Rattle.rb_core.specs.declared.types.DataDecl.{DataDecl}
 use Rattle.rb_core.specs.declared.typing.TypeFault.{TypeFault}
 use Rattle.rb_core.specs.declared.typing.TypeFault.TheVariants as types
+use Rattle.rb_layout.proofs.Disjoint.{not_beside}
+use Rattle.rb_layout.proofs.Places.{places_are_all}
+use Rattle.rb_layout.specs.Agreement.{Agrees}
+use Rattle.rb_layout.specs.Flattening.{flat_layouts}
+use Rattle.rb_layout.specs.Spots.{Spot, Checked, IsRefusedBy, all_spots}
+use Rattle.rb_layout.specs.declared.evidence.Refused.{Refused as Disagreed}
+use Rattle.rb_layout.specs.declared.evidence.Why.{Why}
+use Rattle.rb_layout.specs.declared.layout.Layout.{Layout}
 use Rattle.rb_names.specs.Numbering.{Resolved}
 use Rattle.rb_names.specs.Programs.{numbered}
 use Rattle.rb_read.proofs.OneAnswer.{answered}
@@ -22,7 +30,7 @@ use Rattle.rb_syntax.specs.Tokens.{tokens}
 use Rattle.rb_syntax.specs.declared.token.Placed.{Placed}
 use Rattle.rb_syntax.specs.declared.token.Token.{Token}
 use Rattle.rb_syntax.specs.declared.tree.FileTree.{FileTree}
-use Rattle.ribbit_tool.specs.Accepting.{IsRead, IsNamed, IsAccepted, IsRefused, uncut, misread, misnamed, mistyped, uncovered}
+use Rattle.ribbit_tool.specs.Accepting.{IsRead, IsNamed, IsAccepted, IsRefused, uncut, misread, misnamed, mistyped, uncovered, mislaid}
 use Rattle.ribbit_tool.specs.Answer.{Due}
 use Rattle.ribbit_tool.proofs.Tokens.{ok_tokens}
 
@@ -96,6 +104,17 @@ never_uncovered p t q h fault =
     none_chosen (chosen_clause fault.site.patterns missing.value) (missing.none missing.value missing.typed missing.matched)
     (here missing.value missing.typed)
 
+-- layouts that agree are not refused
+
+never_found : (p : Program) (layouts : List Layout) (spots : List Spot) (found : Spot × Why) → Checked p layouts spots None → Checked p layouts spots (Some found) → ⊥
+never_found p layouts [] found h k = absurd k
+never_found p layouts (s ∷ ss) found h (inl k) = not_beside p layouts s found.1 h.0 k.1
+never_found p layouts (s ∷ ss) found h (inr k) = never_found p layouts ss found h.1 k.1
+
+never_mislaid : (p : Program) (fault : Disagreed) → Agrees p → IsRefusedBy p (flat_layouts p) fault → ⊥
+never_mislaid p fault h refused =
+    never_found p (flat_layouts p) (all_spots p (flat_layouts p)) (refused.0, fault.why) ((places_are_all p (flat_layouts p)).1 h) refused.1
+
 pub accepted_unrefused : (bytes : List ℕ) (p : Program) (due : Due) → IsAccepted bytes p → IsRefused bytes due → ⊥
 accepted_unrefused bytes p due a (uncut fault cut e) = absurd (cc (sym a.named.read.cut ∙ cut))
 accepted_unrefused bytes p due a (misread placed cut fault answer e) =
@@ -110,3 +129,6 @@ accepted_unrefused bytes p due a (mistyped placed q named fault known first e) =
 accepted_unrefused bytes p due a (uncovered placed q named typed t pat fault e) =
     let same : p ≡ q = same_program bytes a.placed placed p q a.named named in
     never_uncovered q t pat (subst (λ (x : Program). AreExhaustive x.types (sites_of x)) same a.exhaustive) fault
+accepted_unrefused bytes p due a (mislaid placed q named typed exhaustive fault refused e) =
+    let same : p ≡ q = same_program bytes a.placed placed p q a.named named in
+    never_mislaid q fault (subst (λ (x : Program). Agrees x) same a.agrees) refused

@@ -4,7 +4,8 @@ use Rattle.rb_edge.specs.Faults.{Rose}
 use Rattle.ribbit_tool.specs.Answer.{Due, printed, refused, status_of}
 use Rattle.ribbit_tool.specs.Answers.{Answers, AnswersWords, answered, source_failed, out_of_memory}
 use Rattle.ribbit_tool.specs.Check.{ChecksFile}
-use Rattle.ribbit_tool.specs.Command.{Parsed, check, run, exec, command_of}
+use Rattle.ribbit_tool.specs.Command.{Parsed, check, compile, run, exec, command_of}
+use Rattle.ribbit_tool.specs.Compiling.{CompilesFile}
 use Rattle.ribbit_tool.specs.Delivery.{Change, Stood, Delivers, output, output_failed, error_line, error_failed}
 use Rattle.ribbit_tool.specs.Exec.{Executes}
 use Rattle.ribbit_tool.specs.Numbers.{status_number}
@@ -19,6 +20,8 @@ same_answer : (parsed : Parsed) (seen held : Holds) (due : Due) → ((name : Lis
 same_answer (Err word) seen held due e h = h
 same_answer (Ok (check file)) seen held due e h =
     subst (λ (o : Option (List ℕ)). Reads o file_limit (λ bytes d. ChecksFile bytes d) due) (e file) h
+same_answer (Ok (compile file)) seen held due e h =
+    subst (λ (o : Option (List ℕ)). Reads o file_limit (λ bytes d. CompilesFile bytes d) due) (e file) h
 same_answer (Ok (run file limits values)) seen held due e h =
     subst (λ (o : Option (List ℕ)). Reads o file_limit (λ bytes d. RunsFile limits values bytes d) due) (e file) h
 same_answer (Ok (exec code function limits words)) seen held due e h =
@@ -36,6 +39,7 @@ is_named status.NoMemory = (λ e. omega (arith, e), λ e. omega (arith, e))
 is_named status.Argument = (λ e. omega (arith, e), λ e. omega (arith, e))
 is_named status.Limit = (λ e. omega (arith, e), λ e. omega (arith, e))
 is_named status.Trap = (λ e. omega (arith, e), λ e. omega (arith, e))
+is_named status.TooLarge = (λ e. omega (arith, e), λ e. omega (arith, e))
 is_named status.Code = (λ e. omega (arith, e), λ e. omega (arith, e))
 is_named status.Unbuilt = (λ e. omega (arith, e), λ e. omega (arith, e))
 

@@ -9,12 +9,17 @@ use Rattle.rb_core.specs.declared.program.Program.{Program}
 use Rattle.rb_core.specs.declared.types.DataDecl.{DataDecl}
 use Rattle.rb_core.specs.declared.typing.TypeFault.{TypeFault}
 use Rattle.rb_core.specs.declared.typing.TypeFault.TheVariants as types
+use Rattle.rb_layout.specs.Agreement.{Agrees}
+use Rattle.rb_layout.specs.Flattening.{flat_layouts}
+use Rattle.rb_layout.specs.Spots.{IsRefusedBy}
+use Rattle.rb_layout.specs.declared.evidence.Refused.{Refused as Disagreed}
 use Rattle.rb_names.specs.Programs.{numbered}
 use Rattle.rb_names.specs.declared.fault.NameFault.{NameFault}
 use Rattle.rb_names.specs.declared.fault.NameFault.TheVariants as names
 use Rattle.rb_read.specs.Files.{IsAnswer}
 use Rattle.rb_read.specs.declared.fault.ReadFault.{ReadFault}
 use Rattle.rb_read.specs.declared.fault.ReadFault.TheVariants as reading
+use Rattle.rb_show.specs.Refusals.{refusal_text}
 use Rattle.rb_syntax.specs.Lexing.{lexed}
 use Rattle.rb_syntax.specs.Tokens.{tokens}
 use Rattle.rb_syntax.specs.declared.lex.LexFault.{LexFault}
@@ -22,7 +27,7 @@ use Rattle.rb_syntax.specs.declared.lex.LexFault.TheVariants as lexing
 use Rattle.rb_syntax.specs.declared.token.Placed.{Placed}
 use Rattle.rb_syntax.specs.declared.tree.FileTree.{FileTree}
 use Rattle.ribbit_tool.specs.Answer.{Due, refusal}
-use Rattle.ribbit_tool.specs.Lines.{no_memory_line}
+use Rattle.ribbit_tool.specs.Lines.{begun, ended, no_memory_line}
 use Rattle.ribbit_tool.specs.Unbuilt.{unbuilt_due}
 use Rattle.ribbit_tool.specs.declared.status.Status.TheVariants as status
 use Rattle.ribbit_tool.specs.FileLines.{at_byte, limit_line, unknown_line, twice_line, no_main_line, empty_line, mismatch_line, arity_line, missing_line}
@@ -51,12 +56,13 @@ pub record IsNamed (bytes : List ℕ) (placed : List Placed) (p : Program) : Typ
   pub read : IsRead bytes placed file
   pub named : numbered file ≡ Ok p
 
--- and it is typed, and each of its matches is exhaustive
+-- and it is typed, each of its matches is exhaustive, and its layouts agree
 pub record IsAccepted (bytes : List ℕ) (p : Program) : Type 0 where
   pub placed : List Placed
   pub named : IsNamed bytes placed p
   pub typed : IsTyped p
   pub exhaustive : AreExhaustive p.types (sites_of p)
+  pub agrees : Agrees p
 
 -- Refused files -----------------------------------------------------------------------------
 
@@ -89,8 +95,11 @@ type_due ts placed size types.Memory = refusal status.NoMemory no_memory_line
 abbrev pub match_due : List DataDecl → List Placed → ℕ → ℕ → Pat → Due
 match_due ts placed size t q = refusal status.Meaning (missing_line ts q (byte_of placed size t))
 
+abbrev pub layout_due : Program → Disagreed → Due
+layout_due p fault = refusal status.Layout (ended (begun (refusal_text p.types (flat_layouts p) fault)))
+
 -- What is due to a file by the first of these that refuses it: tokens, grammar and limits, names,
--- types, exhaustiveness.
+-- types, exhaustiveness, layouts.
 pub data IsRefused (bytes : List ℕ) (due : Due) : Type 0 where
   uncut : (fault : LexFault) → lexed bytes ≡ Err fault → due ≡ lex_due fault → IsRefused bytes due
   misread : (placed : List Placed) → lexed bytes ≡ Ok placed → (fault : ReadFault) → IsAnswer (tokens placed) (Err fault)
@@ -101,6 +110,8 @@ pub data IsRefused (bytes : List ℕ) (due : Due) : Type 0 where
       → due ≡ type_due p.types placed (length bytes) fault → IsRefused bytes due
   uncovered : (placed : List Placed) (p : Program) → IsNamed bytes placed p → IsTyped p → (t : ℕ) (q : Pat) → IsCoverFault p (Missing t q)
       → due ≡ match_due p.types placed (length bytes) t q → IsRefused bytes due
+  mislaid : (placed : List Placed) (p : Program) → IsNamed bytes placed p → IsTyped p → AreExhaustive p.types (sites_of p)
+      → (fault : Disagreed) → IsRefusedBy p (flat_layouts p) fault → due ≡ layout_due p fault → IsRefused bytes due
 
 -- The step ----------------------------------------------------------------------------------
 

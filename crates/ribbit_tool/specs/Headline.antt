@@ -1,29 +1,35 @@
 -- The headline: where a file is accepted and its arguments are of `main`'s types, the run prints the value
--- of the source's meaning, or names the limit exactly where the source passes it.
+-- of the source's meaning, or names it as over the node limit, or says that the calls are spent or the
+-- region is full exactly where the source, with the blocks that its layouts ask for, first passes that limit.
 use Rattle.std.specs.Prelude.{◌≡◌, ◌≢◌, ◌≤◌, ℕ, List, [], length, IsTrue, Some, Ok}
-use Rattle.rb_core.specs.Meaning.{number_of}
 use Rattle.rb_core.specs.declared.program.Program.{Program}
+use Rattle.rb_core.specs.declared.value.Value.{Value}
 use Rattle.rb_edge.specs.Faults.{Rose}
+use Rattle.rb_fetch.specs.Plain.{ArePlain}
+use Rattle.rb_layout.specs.Flattening.{flat_layouts}
+use Rattle.rb_rel.specs.Answers as answer
+use Rattle.rb_rel.specs.Answers.{answer_of}
 use Rattle.ribbit_tool.specs.Accepting.{IsAccepted}
+use Rattle.ribbit_tool.specs.Arguments.{node_limit, Spell}
 use Rattle.ribbit_tool.specs.Command.{Limits, run, command_of}
 use Rattle.ribbit_tool.specs.Delivery.{Change, Took, Stood}
-use Rattle.ribbit_tool.specs.Lines.{number_line, spent_line, full_line}
+use Rattle.ribbit_tool.specs.Lines.{spent_line, full_line, large_line}
 use Rattle.ribbit_tool.specs.Promise.{Source}
 use Rattle.ribbit_tool.specs.Reading.{file_limit}
-use Rattle.ribbit_tool.specs.Run.{SourceAnswer, value, spent, full, SpellsNumbers, source_answer}
-use Rattle.ribbit_tool.specs.integers.Programs.{IsIntegerProgram}
+use Rattle.ribbit_tool.specs.Run.{value_line}
 
 -- the status and the very text of the source's answer
-abbrev pub Says : SourceAnswer → Limits → Change → Change → ℕ → Type 0
-Says (value v) limits out err status = (status ≡ 0) × Took out (number_line (number_of v)) × Took err []
-Says spent limits out err status = (status ≡ 4) × Took out [] × Took err (spent_line limits.calls)
-Says (full f) limits out err status = (status ≡ 5) × Took out [] × Took err (full_line f)
+abbrev pub Says : Program → Limits → answer.Answer → Change → Change → ℕ → Type 0
+Says p limits (answer.Shown v) out err status = (status ≡ 0) × Took out (value_line p v) × Took err []
+Says p limits answer.Spent out err status = (status ≡ 4) × Took out [] × Took err (spent_line limits.calls)
+Says p limits (answer.Full f) out err status = (status ≡ 5) × Took out [] × Took err (full_line f)
+Says p limits answer.TooLarge out err status = (status ≡ 13) × Took out [] × Took err (large_line node_limit)
 
 abbrev pub Headline : List (List ℕ) → Source → Change → Change → ℕ → Type 0
 Headline words source out err status =
     (file : List ℕ) (limits : Limits) (values : List (List ℕ)) → command_of words ≡ Ok (run file limits values)
     → (bytes : List ℕ) → IsTrue source.tells → source.held file ≡ Some bytes → length bytes ≤ file_limit
-    → (p : Program) → IsAccepted bytes p → IsIntegerProgram p
-    → (numbers : List ℕ) → SpellsNumbers p values numbers
+    → (p : Program) → IsAccepted bytes p → ArePlain (flat_layouts p)
+    → (args : List Value) → Spell p values args
     → (Rose source.before source.now → ⊥) → Stood out → Stood err → status ≢ 9
-    → Says (source_answer p limits numbers) limits out err status
+    → Says p limits (answer_of p (flat_layouts p) args limits.calls limits.region node_limit) out err status

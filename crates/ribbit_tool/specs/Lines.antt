@@ -63,13 +63,9 @@ code_line (BadJump n pc) = at_instruction bad_jump n pc
 code_line (BadCall n pc) = at_instruction bad_call n pc
 code_line Memory = no_memory_line
 
--- an argument, counted from 1, that is no value of uN
-abbrev pub misfit_line : ℕ → ℕ → List ℕ
-misfit_line number bits = ended (begun (codes "argument ") ++ decimal number ++ codes ": no value of u" ++ decimal bits ++ codes " at byte 0")
-
--- a number on a line of its own
-abbrev pub number_line : ℕ → List ℕ
-number_line n = ended (decimal n)
+-- a value with more nodes than this
+abbrev pub large_line : ℕ → List ℕ
+large_line limit = ended (begun (codes "value over ") ++ decimal limit ++ codes " nodes")
 
 -- numbers, each after a blank
 abbrev pub spaced : List ℕ → List ℕ

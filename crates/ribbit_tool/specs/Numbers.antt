@@ -9,6 +9,7 @@ use Rattle.ribbit_tool.specs.declared.status.Status.TheVariants as status
 abbrev pub status_number : Status → ℕ
 status_number status.Syntax = 1
 status_number status.Meaning = 2
+status_number status.Layout = 3
 status_number status.Spent = 4
 status_number status.Full = 5
 status_number status.Usage = 6
@@ -17,6 +18,7 @@ status_number status.NoMemory = 9
 status_number status.Argument = 10
 status_number status.Limit = 11
 status_number status.Trap = 12
+status_number status.TooLarge = 13
 status_number status.Code = 14
 status_number status.Unbuilt = 15
 

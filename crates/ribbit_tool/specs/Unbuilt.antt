@@ -1,14 +1,12 @@
 -- What is not built yet.
 use Rattle.std.specs.Prelude.{ℕ, ◌-◌, List, [], ◌∷◌, ◌++◌, codes, Option, Some, None}
 use Rattle.std.specs.Fmt.{decimal}
-use Rattle.rb_core.specs.declared.program.Program.{Program}
 use Rattle.rb_syntax.specs.declared.tree.ItemTree.{ItemTree}
 use Rattle.rb_syntax.specs.declared.tree.ItemTree.TheVariants.{Types, Layouts, Funs, Derived}
 use Rattle.rb_syntax.specs.declared.tree.FileTree.{FileTree}
 use Rattle.ribbit_tool.specs.Answer.{Due, refusal}
 use Rattle.ribbit_tool.specs.Lines.{begun, ended}
 use Rattle.ribbit_tool.specs.declared.status.Status.TheVariants.{Unbuilt}
-use Rattle.ribbit_tool.specs.integers.Programs.{IsIntegerProgram}
 
 abbrev pub unbuilt_line : ℕ → List ℕ
 unbuilt_line at = ended (begun (codes "not built yet at byte ") ++ decimal at)
@@ -34,7 +32,3 @@ declared_in (i ∷ is) = or_else (declared_by i) (declared_in is)
 -- the number of the first token of the first `type` or `layout`
 abbrev pub first_declared : FileTree → Option ℕ
 first_declared file = declared_in file.items
-
--- No other program than an integer program is compiled.
-abbrev pub IsUncompiled : Program → Type 0
-IsUncompiled p = IsIntegerProgram p → ⊥

@@ -1,15 +1,14 @@
 -- Values of the program, as the definitions see them.
-use Rattle.std.specs.Prelude.{◌≡◌, ℕ, ◌+◌, List, length, Result, Ok, Err}
+use Rattle.std.specs.Prelude.{◌≡◌, ℕ, ◌+◌, List, Result, Ok, Err}
 use Rattle.std.specs.declared.vec.Vec.{Vec}
 use Rattle.std.specs.declared.alloc.Global.{Global}
 use Rattle.rb_core.specs.Coverage.{IsCovered}
 use Rattle.rb_core.specs.TypedPrograms.{IsTyped}
+use Rattle.rb_layout.specs.Agreement.{AreAgreed}
 use Rattle.rb_names.specs.Programs.{numbered}
-use Rattle.rb_target.specs.declared.outcome.End.{End}
-use Rattle.rb_target.specs.declared.outcome.End.TheVariants.{Returned, Spent, Full, Trapped}
 use Rattle.ribbit_tool.specs.Accepting.{IsRead}
 use Rattle.ribbit_tool.specs.Answer.{Due, printed, refused}
-use Rattle.ribbit_tool.specs.Command.{Command, Limits, check, run, exec}
+use Rattle.ribbit_tool.specs.Command.{Command, Limits, check, compile, run, exec}
 use Rattle.ribbit_tool.specs.declared.accepting.Accepted.{Accepted}
 use Rattle.ribbit_tool.specs.declared.command.Command as declared
 use Rattle.ribbit_tool.specs.declared.command.Command.TheVariants as form
@@ -25,6 +24,7 @@ limits_view l = record { calls = l.calls; region = l.region }
 
 abbrev pub command_view : declared.Command → Command
 command_view (form.Check file) = check file.now
+command_view (form.Compile file) = compile file.now
 command_view (form.Run file limits values) = run file.now (limits_view limits) values.now
 command_view (form.Exec code function limits words) = exec code.now function.now (limits_view limits) words
 
@@ -56,16 +56,10 @@ abbrev pub Meets : (Due → Type 0) → ℕ → ℕ → Result (Vec ℕ Global) 
 Meets P before now (Ok text) = (n : ℕ) × (now ≡ before + n) × P (printed text.items n)
 Meets P before now (Err r) = MeetsRefused P before now r
 
--- the end of a call that gives one word, or is spent
-abbrev pub IsOneWord : End → Type 0
-IsOneWord (Returned words left) = length words ≡ 1
-IsOneWord Spent = Unit {0}
-IsOneWord (Full f) = ⊥
-IsOneWord (Trapped t) = ⊥
-
--- an accepted file: its tokens, its tree, and its typed and covered program
+-- an accepted file: its tokens, its tree, and its typed and covered program, whose layouts agree
 pub record IsAcceptance (bytes : List ℕ) (a : Accepted) : Type 0 where
   pub read : IsRead bytes a.placed.items a.file
-  pub named : numbered a.file ≡ Ok a.covered.program
-  pub typed : IsTyped a.covered.program
-  pub covered : IsCovered a.covered.program a.covered.notes
+  pub named : numbered a.file ≡ Ok a.agreed.covered.program
+  pub typed : IsTyped a.agreed.covered.program
+  pub covered : IsCovered a.agreed.covered.program a.agreed.covered.notes
+  pub agreed : AreAgreed a.agreed.covered.program a.agreed.layouts

@@ -1,10 +1,11 @@
-//! Accepting files: their tokens, their tree, their program, its types, and its matches, one after the
-//! other. The first step that refuses a file gives the answer.
+//! Accepting files: their tokens, their tree, their program, its types, its matches, and its layouts, one
+//! after the other. The first step that refuses a file gives the answer.
 
 ghost use Rattle.std.specs.Prelude.{◌≡◌, ◌≤◌, length, IfOk, IfErr, Ok};
 ghost use Rattle.rb_core.specs.Coverage.{IsCovered};
 ghost use Rattle.rb_core.specs.TypedPrograms.{IsTyped};
 ghost use Rattle.rb_core.specs.WellNumbered.{IsWellNumbered};
+ghost use Rattle.rb_layout.specs.Agreement.{AreAgreed};
 ghost use Rattle.rb_names.specs.Programs.{numbered};
 ghost use Rattle.rb_syntax.specs.Cutting.{HasTokens};
 ghost use Rattle.rb_syntax.specs.Lexing.{lexed};
@@ -12,11 +13,14 @@ ghost use Rattle.ribbit_tool.specs.Accepting.{IsNamed, IsRead, IsRefused};
 ghost use Rattle.ribbit_tool.specs.View.{IsAcceptance, IsRefusal};
 
 use crate::refusal::{
-    Refusal, refuse_bytes, refuse_match, refuse_names, refuse_tokens, refuse_types,
+    Refusal, refuse_bytes, refuse_layouts, refuse_match, refuse_names, refuse_tokens, refuse_types,
 };
+use rb_agree::AgreeFault;
+use rb_agree::agree::agree;
 use rb_check::{CoverFault, check, cover};
 use rb_core::program::Program;
 use rb_core::typed::{Covered, Typed};
+use rb_layout::agreed::Agreed;
 use rb_names::resolve;
 use rb_read::read::read_file;
 use rb_syntax::lex::lex;
@@ -31,8 +35,8 @@ pub struct Accepted {
     pub placed: Vec<Placed>,
     /// Its tree.
     pub file: FileTree,
-    /// Its program.
-    pub covered: Covered,
+    /// Its program, with the flat forms of its layouts.
+    pub agreed: Agreed,
 }
 
 // The tokens of the bytes.
@@ -131,6 +135,30 @@ fn annotate(
     }
 }
 
+// The program with the flat forms of its layouts, which agree with its types.
+fn lay_out(
+    alloc: Global,
+    bytes: &[u8],
+    placed: &[Placed],
+    covered: Covered,
+) -> Result<Agreed, Refusal>
+    requires named { IsNamed bytes.now placed.now covered.program }
+    requires typed { IsTyped covered.program }
+    requires covered { IsCovered covered.program covered.notes }
+    ensures same { IfOk result (λ agreed. agreed.covered ≡ covered) }
+    ensures agreed { IfOk result (λ agreed. AreAgreed agreed.covered.program agreed.layouts) }
+    ensures refused { IfErr result (IsRefusal (IsRefused bytes.now)) }
+{
+    match agree(alloc, &covered) {
+        Ok(layouts) => Ok(Agreed::new(covered, layouts)),
+        Err(AgreeFault::Memory) => Err(Refusal::Memory),
+        Err(AgreeFault::Rule(fault)) => {
+            let refused = refuse_layouts(alloc, &covered, &fault)?;
+            Err(Refusal::Refused(refused))
+        }
+    }
+}
+
 /// The file of these bytes, if it is accepted, or the answer that refuses it.
 pub fn accept(alloc: Global, bytes: &[u8]) -> Result<Accepted, Refusal>
     requires { length bytes.now ≤ 262144 }
@@ -143,9 +171,10 @@ pub fn accept(alloc: Global, bytes: &[u8]) -> Result<Accepted, Refusal>
     let program = name(alloc, bytes, tokens, &file)?;
     let typed = ascribe(alloc, bytes, tokens, program)?;
     let covered = annotate(alloc, bytes, tokens, typed)?;
+    let agreed = lay_out(alloc, bytes, tokens, covered)?;
     Ok(Accepted {
         placed,
         file,
-        covered,
+        agreed,
     })
 }

@@ -29,7 +29,7 @@ fn check_accepted(alloc: Global, bytes: &[u8], accepted: &Accepted) -> Result<Ve
             Err(Refusal::Refused(refused))
         }
         None => {
-            let text = checked(alloc, placed, bytes.len(), accepted.covered.notes())?;
+            let text = checked(alloc, placed, bytes.len(), accepted.agreed.covered().notes())?;
             Ok(text)
         }
     }

@@ -2,7 +2,7 @@
 
 ghost use Rattle.std.specs.Prelude.{◌≡◌, ◌≤◌, List, MatchResult, Ok, ℕ};
 ghost use Rattle.ribbit_tool.specs.declared.command.CommandFault.TheVariants.{Memory};
-ghost use Rattle.ribbit_tool.specs.Command.{Limits as LimitsValue, Parsed, check_words, command_of, exec_words, function_words, numbers_from, run_words, with_limits};
+ghost use Rattle.ribbit_tool.specs.Command.{Limits as LimitsValue, Parsed, check_words, command_of, compile_words, exec_words, function_words, numbers_from, run_words, with_limits};
 ghost use Rattle.ribbit_tool.specs.View.{command_view, limits_view, IsUsage};
 
 use crate::limits::Limits;
@@ -17,6 +17,10 @@ use thiserror::Error;
 pub enum Command<'a> {
     /// A check of a file.
     Check {
+        file: &'a [u8],
+    },
+    /// The code of a file.
+    Compile {
         file: &'a [u8],
     },
     /// A run of the function `main` of a file on these values.
@@ -97,6 +101,19 @@ fn parse_check<'a>(words: &'a [Name]) -> Result<Command<'a>, CommandFault>
     }
 }
 
+// The words behind `compile`.
+fn parse_compile<'a>(words: &'a [Name]) -> Result<Command<'a>, CommandFault>
+    ensures { MatchResult result (λ c. compile_words words.now ≡ Ok (command_view c)) (IsUsage (compile_words words.now)) }
+{
+    match words {
+        [] => Err(CommandFault::Usage(2)),
+        [file] => Ok(Command::Compile {
+            file: file.as_slice(),
+        }),
+        [_, _, ..] => Err(CommandFault::Usage(3)),
+    }
+}
+
 // The words behind `run`.
 fn parse_run<'a>(words: &'a [Name]) -> Result<Command<'a>, CommandFault>
     ensures { MatchResult result (λ c. run_words words.now ≡ Ok (command_view c)) (IsUsage (run_words words.now)) }
@@ -167,6 +184,9 @@ pub fn parse<'a>(alloc: Global, words: &'a [Name]) -> Result<Command<'a>, Comman
         [first, rest @ ..] => {
             if first.as_slice() == b"check".as_slice() {
                 return parse_check(rest);
+            }
+            if first.as_slice() == b"compile".as_slice() {
+                return parse_compile(rest);
             }
             if first.as_slice() == b"run".as_slice() {
                 return parse_run(rest);

@@ -2,11 +2,12 @@
 #![tactic(auto)]
 
 pub mod accepting;
+pub mod arguments;
 pub mod check;
 pub mod command;
+pub mod compile;
 pub mod delivery;
 pub mod exec;
-pub mod integers;
 pub mod laws;
 pub mod limits;
 pub mod line;

@@ -9,6 +9,7 @@ use rb_core::decimal::digits;
 use rb_target::fault::CodeFault;
 use std::alloc::{AllocError, Global};
 
+pub mod argument;
 pub mod fault;
 pub mod note;
 pub mod pattern;
@@ -106,15 +107,13 @@ pub fn count(alloc: Global, wanted: u64, found: u64) -> Result<Vec<u8>, AllocErr
     end(text)
 }
 
-/// The line of an argument, counted from 1, that is no integer of so many bits.
-pub fn misfit(alloc: Global, number: u64, bits: u64) -> Result<Vec<u8>, AllocError>
-    ensures { IfOk result (λ text. text.items ≡ line.misfit_line number bits) }
+/// The line of a value with more nodes than this.
+pub fn large(alloc: Global, limit: u64) -> Result<Vec<u8>, AllocError>
+    ensures { IfOk result (λ text. text.items ≡ line.large_line limit) }
 {
-    let mut text = begin(alloc, b"argument ")?;
-    push_number(&mut text, number)?;
-    push(&mut text, b": no value of u")?;
-    push_number(&mut text, bits)?;
-    push(&mut text, b" at byte 0")?;
+    let mut text = begin(alloc, b"value over ")?;
+    push_number(&mut text, limit)?;
+    push(&mut text, b" nodes")?;
     end(text)
 }
 
@@ -220,15 +219,6 @@ pub fn code(alloc: Global, fault: CodeFault) -> Result<Vec<u8>, AllocError>
         }
         CodeFault::Memory => Vec::from_slice(alloc, NO_MEMORY),
     }
-}
-
-/// A number on a line of its own.
-pub fn number(alloc: Global, number: u64) -> Result<Vec<u8>, AllocError>
-    ensures { IfOk result (λ text. text.items ≡ line.number_line number) }
-{
-    let mut text = Vec::new(alloc);
-    push_number(&mut text, number)?;
-    end(text)
 }
 
 // A number after a blank.

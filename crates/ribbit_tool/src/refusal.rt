@@ -1,6 +1,8 @@
 //! Why a file is refused, as it is answered.
 
 ghost use Rattle.std.specs.Prelude.{◌≡◌, ◌≢◌, IfOk};
+ghost use Rattle.rb_layout.specs.Flattening.{HaveLayouts, flat_layouts};
+ghost use Rattle.rb_layout.specs.Spots.{IsRefusedBy};
 ghost use Rattle.rb_core.specs.declared.typing.TypeFault.TheVariants as typing;
 ghost use Rattle.rb_names.specs.declared.fault.NameFault.TheVariants as names;
 ghost use Rattle.rb_read.specs.declared.fault.ReadFault.TheVariants as reading;
@@ -10,15 +12,21 @@ ghost use Rattle.ribbit_tool.specs.Accepting as accepting;
 ghost use Rattle.ribbit_tool.specs.View.{due_of};
 
 use crate::line::pattern::missing;
-use crate::line::{fault as fault_line, types as type_line};
+use crate::line::{begin, end, fault as fault_line, types as type_line};
 use crate::place::byte_of;
 use crate::status::Status;
 use crate::unbuilt::refuse_unbuilt;
 use rb_check::TypeFault;
 use rb_core::pattern::Pat;
+use rb_core::seq::Seq;
+use rb_core::typed::Covered;
 use rb_core::types::DataDecl;
+use rb_layout::evidence::Refused as Disagreed;
+use rb_layout::flat_layouts::flatten;
+use rb_layout::layout::Layout;
 use rb_names::NameFault;
 use rb_read::fault::ReadFault;
+use rb_show::refusal::show_refusal;
 use rb_syntax::lex::LexFault;
 use rb_syntax::token::Placed;
 use std::alloc::{AllocError, Global};
@@ -216,6 +224,38 @@ pub fn refuse_match(
     let line = missing(alloc, types, pattern, at)?;
     Ok(Refused {
         status: Status::Meaning,
+        line,
+    })
+}
+
+// The flat forms of the layouts, where a refusal by this rule may name their leaves: at the first rule a
+// type may have no layout.
+fn named_layouts(alloc: Global, covered: &Covered, rule: u8) -> Result<Seq<Layout>, AllocError>
+    requires { rule ≢ 1 → HaveLayouts covered.now.program }
+    ensures { IfOk result (λ layouts. rule ≢ 1 → layouts ≡ flat_layouts covered.now.program) }
+{
+    if rule == 1 {
+        return Ok(Seq::new(alloc));
+    }
+    flatten(alloc, covered)
+}
+
+/// The answer to a program whose layouts do not agree with its types.
+pub fn refuse_layouts(
+    alloc: Global,
+    covered: &Covered,
+    fault: &Disagreed,
+) -> Result<Refused, AllocError>
+    requires { IsRefusedBy covered.now.program (flat_layouts covered.now.program) fault.now }
+    ensures { IfOk result (λ c. due_of c ≡ accepting.layout_due covered.now.program fault.now) }
+{
+    let layouts = named_layouts(alloc, covered, fault.rule)?;
+    let types = covered.program().types.as_slice();
+    let text = show_refusal(alloc, types, layouts.as_slice(), fault)?;
+    let line = begin(alloc, text.as_slice())?;
+    let line = end(line)?;
+    Ok(Refused {
+        status: Status::Layout,
         line,
     })
 }

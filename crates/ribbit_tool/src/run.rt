@@ -1,41 +1,41 @@
 //! The command `run`: a file is accepted, prepared and run.
 
 ghost use Rattle.std.specs.Prelude.{◌≡◌, ◌≤◌, ◌+◌, ℕ, length, IfOk, IfErr, Ok};
-ghost use Rattle.rb_core.specs.declared.outcome.SourceEnd.{SourceEnd};
-ghost use Rattle.ribbit_tool.specs.Accepting as accepting;
+ghost use Rattle.rb_run.specs.Answering.{meant_by};
 ghost use Rattle.ribbit_tool.specs.Answers.{Owes};
+ghost use Rattle.ribbit_tool.specs.Arguments.{Spell};
 ghost use Rattle.ribbit_tool.specs.Command as spec;
-ghost use Rattle.ribbit_tool.specs.Run.{IsPrepared, IsUnprepared, RunsFile, SpellsNumbers, answer_due, answer_of, source_answer, steps_taken};
-ghost use Rattle.ribbit_tool.specs.View.{limits_view, IsAcceptance, IsOneWord, IsRefusal, Meets};
-ghost use Rattle.ribbit_tool.specs.integers.Refining.{end_of};
+ghost use Rattle.ribbit_tool.specs.Run.{IsAnswered, IsPrepared, IsUnprepared, RunsFile, answer_due, value_line};
+ghost use Rattle.ribbit_tool.specs.View.{limits_view, IsAcceptance, IsRefusal, Meets};
 
 use crate::accepting::{Accepted, accept};
-use crate::integers::prepare::prepare_integers;
-use crate::integers::program::is_integer_program;
+use crate::arguments::read_arguments;
+use crate::compile::code_of;
 use crate::limits::Limits;
 use crate::line;
-use crate::place::byte_of;
+use crate::line::argument::NODES;
 use crate::reading::{FILE_LIMIT, read_within};
 use crate::refusal::{Refusal, Refused};
 use crate::status::Status;
-use crate::unbuilt::refuse_unbuilt;
-use rb_bytes::checked::CheckedMemory;
 use rb_core::program::Program;
+use rb_core::seq::Seq;
 use rb_edge::seq::Name;
 use rb_edge::source::Source;
 use rb_edge::steps::{Ledger, Steps};
-use rb_machine::run::run;
+use rb_layout::agreed::Agreed;
+use rb_run::answer::{Answer, Bounds, answer_main, result_of_main};
 use rb_target::code::Code;
-use rb_target::outcome::End;
-use std::alloc::Global;
+use rb_values::forest::Forest;
+use rb_values::print::print_value;
+use std::alloc::{AllocError, Global};
 
 /// What a run of `main` needs.
 #[derive(Drop)]
 pub struct Prepared {
     /// Code that does what the program means.
     pub code: Code,
-    /// The arguments, a word each.
-    pub numbers: Vec<u64>,
+    /// The arguments.
+    pub args: Seq<Forest>,
 }
 
 /// Prepares an accepted file: its code, and the arguments that the words spell.
@@ -46,65 +46,69 @@ pub fn prepare(
     words: &[Name],
 ) -> Result<Prepared, Refusal>
     requires { IsAcceptance bytes.now accepted.now }
-    ensures prepared { IfOk result (λ r. IsPrepared accepted.now.covered.program r.code r.numbers.items) }
-    ensures spelled { IfOk result (λ r. SpellsNumbers accepted.now.covered.program words.now r.numbers.items) }
-    ensures refused { IfErr result (IsRefusal (IsUnprepared accepted.now.covered.program
-        (accepting.byte_of accepted.now.placed.items (length bytes.now) 0) words.now)) }
+    ensures prepared { IfOk result (λ r. IsPrepared accepted.now.agreed r.code r.args) }
+    ensures spelled { IfOk result (λ r. Spell accepted.now.agreed.covered.program words.now r.args) }
+    ensures refused { IfErr result (IsRefusal (IsUnprepared accepted.now.agreed.covered.program
+        accepted.now.placed.items (length bytes.now) words.now)) }
 {
-    let program = accepted.covered.program();
-    if is_integer_program(program) {
-        return prepare_integers(alloc, program, words);
-    }
-    let at = byte_of(accepted.placed.as_slice(), bytes.len(), 0);
-    let refused = refuse_unbuilt(alloc, at)?;
-    Err(Refusal::Refused(refused))
+    let code = code_of(alloc, bytes, accepted)?;
+    let args = read_arguments(alloc, accepted.agreed.covered().program(), words)?;
+    Ok(Prepared { code, args })
 }
 
-// The text of a run's end.
-fn show(alloc: Global, end: &End, calls: u64) -> Result<Vec<u8>, Refusal>
-    requires { IsOneWord end.now }
-    ensures { (source : SourceEnd) (before steps : ℕ) → end.now ≡ end_of source
-        → Meets (λ due. due ≡ answer_due (answer_of source) calls steps) before (before + steps) result }
+// The text of a value of the result type of `main`.
+fn show_value(alloc: Global, program: &Program, value: &Forest) -> Result<Vec<u8>, AllocError>
+    ensures { IfOk result (λ text. text.items ≡ value_line program.now value.now) }
 {
-    match end {
-        End::Returned { words, .. } => {
-            let text = line::number(alloc, words.as_slice()[0])?;
-            Ok(text)
+    let text = print_value(
+        alloc,
+        program.types.as_slice(),
+        result_of_main(program),
+        value,
+    )?;
+    line::end(text)
+}
+
+// The text of a run's answer.
+fn show(
+    alloc: Global,
+    program: &Program,
+    answer: &Answer,
+    calls: u64,
+) -> Result<Vec<u8>, Refusal>
+    ensures { (before steps : ℕ) → Meets (λ due. due ≡ answer_due program.now calls (meant_by answer.now) steps) before (before + steps) result }
+{
+    let (status, line) = match answer {
+        Answer::Shown(value) => {
+            let text = show_value(alloc, program, value)?;
+            return Ok(text);
         }
-        End::Spent => {
-            let line = line::spent(alloc, calls)?;
-            Err(Refusal::Refused(Refused {
-                status: Status::Spent,
-                line,
-            }))
-        }
-        _ => unreachable!(),
-    }
+        Answer::Spent => (Status::Spent, line::spent(alloc, calls)?),
+        Answer::Full(full) => (Status::Full, line::full(alloc, *full)?),
+        Answer::TooLarge => (Status::TooLarge, line::large(alloc, NODES)?),
+    };
+    Err(Refusal::Refused(Refused { status, line }))
 }
 
 // Runs `main` over a fresh region.
 fn run_prepared<L: Ledger>(
     alloc: Global,
-    program: &Program,
+    agreed: &Agreed,
     prepared: &Prepared,
     limits: Limits,
     steps: &mut Steps<L>,
 ) -> Result<Vec<u8>, Refusal>
-    requires { IsPrepared program.now prepared.now.code prepared.now.numbers.items }
-    ensures { Meets (λ due. due ≡ answer_due (source_answer program.now (limits_view limits) prepared.now.numbers.items) limits.calls
-        (steps_taken prepared.now.code program.now (limits_view limits) prepared.now.numbers.items)) steps.old.taken steps.new.taken result }
+    requires { IsPrepared agreed.now prepared.now.code prepared.now.args }
+    ensures { Meets (IsAnswered agreed.now prepared.now.code prepared.now.args (limits_view limits)) steps.old.taken steps.new.taken result }
 {
-    let mut memory = CheckedMemory::new(alloc, limits.region)?;
-    let ran = run(
-        alloc,
-        &prepared.code,
-        program.main as usize,
-        prepared.numbers.as_slice(),
-        &mut memory,
-        limits.calls,
-        steps,
-    )?;
-    show(alloc, &ran.end, limits.calls)
+    let bounds = Bounds {
+        calls: limits.calls,
+        region: limits.region,
+        nodes: NODES,
+    };
+    let args = prepared.args.as_slice();
+    let answer = answer_main(alloc, agreed, &prepared.code, args, bounds, steps)?;
+    show(alloc, agreed.covered().program(), &answer, limits.calls)
 }
 
 // The text for a file within the limit.
@@ -120,7 +124,7 @@ fn run_bytes<L: Ledger>(
 {
     let accepted = accept(alloc, bytes)?;
     let prepared = prepare(alloc, bytes, &accepted, words)?;
-    run_prepared(alloc, accepted.covered.program(), &prepared, limits, steps)
+    run_prepared(alloc, &accepted.agreed, &prepared, limits, steps)
 }
 
 /// The value of `main` of a file on these values, within limits.

@@ -10,6 +10,8 @@ pub enum Status {
     Syntax,
     /// The names, types or matches of a file have no meaning.
     Meaning,
+    /// The layouts of a file do not agree with its types.
+    Layout,
     /// The calls are spent.
     Spent,
     /// A block does not fit into the region.
@@ -26,6 +28,8 @@ pub enum Status {
     Limit,
     /// The code traps.
     Trap,
+    /// The value has too many nodes to be shown.
+    TooLarge,
     /// The bytes are no valid code.
     Code,
     /// Not built yet.
@@ -40,6 +44,7 @@ impl Status {
         match self {
             Status::Syntax => 1,
             Status::Meaning => 2,
+            Status::Layout => 3,
             Status::Spent => 4,
             Status::Full => 5,
             Status::Usage => 6,
@@ -48,6 +53,7 @@ impl Status {
             Status::Argument => 10,
             Status::Limit => 11,
             Status::Trap => 12,
+            Status::TooLarge => 13,
             Status::Code => 14,
             Status::Unbuilt => 15,
         }

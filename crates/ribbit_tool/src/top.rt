@@ -12,6 +12,7 @@ ghost use Rattle.ribbit_tool.specs.declared.status.Status.TheVariants as status;
 
 use crate::check::check_file;
 use crate::command::{Command, CommandFault, parse};
+use crate::compile::compile_file;
 use crate::delivery::{print, refuse};
 use crate::exec::run_code_file;
 use crate::line::{self, NO_MEMORY};
@@ -38,6 +39,7 @@ fn obey<S: Source, L: Ledger>(
 {
     match command {
         Command::Check { file } => check_file(alloc, src, file),
+        Command::Compile { file } => compile_file(alloc, src, file),
         Command::Run {
             file,
             limits,

@@ -17,7 +17,7 @@ fn push_name(text: &mut Vec<u8>, types: &[DataDecl], ty: u32) -> Result<(), Allo
     }
 }
 
-fn push_type(text: &mut Vec<u8>, types: &[DataDecl], ty: Ty) -> Result<(), AllocError>
+pub(crate) fn push_type(text: &mut Vec<u8>, types: &[DataDecl], ty: Ty) -> Result<(), AllocError>
     ensures { OnOk result (text.new.items ≡ text.old.items ++ line.type_text types.now ty) }
 {
     match ty {

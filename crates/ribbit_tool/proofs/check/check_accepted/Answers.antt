@@ -13,7 +13,7 @@ returns-in_ok-refused-in-Some-clause-refused c =
     let a = c.args.accepted.now in
     let size = length c.args.bytes.now in
     let t = c.in-Some.token in
-    accepted a.covered.program (is_accepted c.args.bytes.now a c.requires) (unchecked t (sym c.first_declared.ensures ∙ c.in-Some.is)
+    accepted a.agreed.covered.program (is_accepted c.args.bytes.now a c.requires) (unchecked t (sym c.first_declared.ensures ∙ c.in-Some.is)
     (c.in_ok-refused-in-Some.ensures ∙ ap (λ n. unbuilt_due n)
     (c.byte_of.ensures ∙ ap (λ (ps : List Placed). byte_of ps size t) c.as_slice-placed.ensures.value)))
 
@@ -21,6 +21,6 @@ pub returns-in_ok-text-in-None-clause-text : goal.returns-in_ok-text-in-None-cla
 returns-in_ok-text-in-None-clause-text c =
     let a = c.args.accepted.now in
     let size = length c.args.bytes.now in
-    accepted a.covered.program (is_accepted c.args.bytes.now a c.requires) (checked (sym c.first_declared.ensures ∙ c.in-None.is) a.covered.notes c.requires.covered
+    accepted a.agreed.covered.program (is_accepted c.args.bytes.now a c.requires) (checked (sym c.first_declared.ensures ∙ c.in-None.is) a.agreed.covered.notes c.requires.covered
     (ap (λ (text : List ℕ). printed text 0) (c.in_ok-text-in-None.ensures ∙ ap (λ (ps : List Placed). check_text ps size c.notes.result.now) c.as_slice-placed.ensures.value
-    ∙ ap (λ (ns : List Note). check_text a.placed.items size ns) c.notes.ensures)))
+    ∙ ap (λ (ns : List Note). check_text a.placed.items size ns) (c.notes.ensures ∙ ap (λ x. x.notes) c.covered.ensures.same))))

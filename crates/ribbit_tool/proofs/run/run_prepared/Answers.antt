@@ -1,20 +1,36 @@
-use Rattle.std.proofs.Common.{ℕ, List, ap, subst, length, ◌∙◌}
-use Rattle.rb_machine.specs.Runs.{RanAs}
-use Rattle.rb_target.specs.Meaning.{run_of}
-use Rattle.ribbit_tool.specs.View.{limits_view}
-use Rattle.ribbit_tool.proofs.integer_laws.RunLaws.{as_many, ran_meets}
+use Rattle.std.proofs.Common.{◌≡◌, ℕ, ◌+◌, List, true, map, ap, sym, subst, ◌∙◌}
+use Rattle.rb_bytes.specs.Memory.{empty_memory}
+use Rattle.rb_core.specs.Typing.{param_types}
+use Rattle.rb_core.specs.Values.{all_of_types, is_of_type}
+use Rattle.rb_core.specs.declared.program.Program.{Program}
+use Rattle.rb_core.specs.declared.value.Value.{Value}
+use Rattle.rb_rel.specs.Answers as answer
+use Rattle.rb_run.specs.Answering.{meant_by}
+use Rattle.rb_run.specs.Calling.{IsCounted}
+use Rattle.ribbit_tool.specs.Run.{IsAnswered, answer_due, source_answer}
+use Rattle.ribbit_tool.specs.View.{limits_view, Meets}
+use Rattle.ribbit_tool.proofs.Meeting.{met}
 use Rattle.ribbit_tool.proofs.run.run_prepared.Goals as goal
 
-pub run-requires-clause-words : goal.run-requires-clause-words
-run-requires-clause-words g c =
-    let r = c.args.prepared.now in
-    ap (λ (ns : List ℕ). length ns) c.as_slice.ensures.value ∙ as_many c.args.program.now r.code r.numbers.items c.requires
+pub answer_main-requires-clause-typed : goal.answer_main-requires-clause-typed
+answer_main-requires-clause-typed g c =
+    let p = c.args.agreed.now.covered.program in
+    subst (λ (vs : List Value). all_of_types (map (is_of_type p.types) vs) (param_types p.funs p.main) ≡ true) (sym c.as_slice-args.ensures) c.requires.typed
 
 pub returns : goal.returns
 returns g c =
+    let agreed = c.args.agreed.now in
+    let p = agreed.covered.program in
     let r = c.args.prepared.now in
-    let memory = c.in_ok-memory.memory in
-    let outcome = subst (λ (ns : List ℕ). RanAs (run_of r.code c.args.limits.calls c.args.program.now.main ns memory) c.in_ok-ran.ran c.run.new.memory c.args.steps.now.taken c.run.new.steps.taken)
-    c.as_slice.ensures.value c.in_ok-ran.ensures in
-    ran_meets c.args.program.now r.code r.numbers.items c.requires (limits_view c.args.limits) memory c.in_ok-memory.ensures.value c.in_ok-memory.ensures.good
-    c.in_ok-ran.ran c.run.new.memory c.args.steps.now.taken c.run.new.steps.taken outcome c.show.result c.show.ensures
+    let limits = limits_view c.args.limits in
+    let k = c.in_ok-answer.ensures.counted in
+    let counted = subst (λ (vs : List Value). IsCounted agreed r.code vs limits.calls (empty_memory limits.region) k.0 k.1) c.as_slice-args.ensures k.3 in
+    let answered = c.in_ok-answer.ensures.answer ∙ ap (λ (vs : List Value). source_answer agreed limits vs) c.as_slice-args.ensures in
+    let before = c.args.steps.now.taken in
+    let same = c.program.ensures.same ∙ ap (λ x. x.program) c.covered.ensures.same in
+    let Said : Program → answer.Answer → ℕ → Type 0 = λ x s now. Meets (λ due. due ≡ answer_due x limits.calls s k.0) before now c.show.result in
+    met (λ due. due ≡ answer_due p limits.calls (source_answer agreed limits r.args) k.0) (λ due. IsAnswered agreed r.code r.args limits due)
+    (λ due e. record { taken = k.0; switches = k.1; counted = counted; shown = e })
+    before c.answer_main.new.steps.taken c.show.result
+    (subst (λ now. Said p (source_answer agreed limits r.args) now) (sym k.2)
+    (subst (λ s. Said p s (before + k.0)) answered (subst (λ x. Said x (meant_by c.in_ok-answer.answer) (before + k.0)) same (c.show.ensures before k.0))))

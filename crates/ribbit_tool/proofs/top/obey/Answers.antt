@@ -11,6 +11,12 @@ returns-in-Check-clause-owed g c =
     (g.S.Source.faults c.args.src.now) (g.S.Source.faults c.check_file.new.src)) c.args.steps.now.taken c.args.steps.now.taken c.check_file.result)
     (sym c.in-Check.is) (c.check_file.ensures.owed c.args.steps.now.taken)
 
+pub returns-in-Compile-clause-owed : goal.returns-in-Compile-clause-owed
+returns-in-Compile-clause-owed g c =
+    subst (λ (command : Command). Meets (Owes (Ok (command_view command)) (g.S.Source.tells c.args.src.now) (g.S.Source.held c.args.src.now)
+    (g.S.Source.faults c.args.src.now) (g.S.Source.faults c.compile_file.new.src)) c.args.steps.now.taken c.args.steps.now.taken c.compile_file.result)
+    (sym c.in-Compile.is) (c.compile_file.ensures.owed c.args.steps.now.taken)
+
 pub returns-in-Run-clause-owed : goal.returns-in-Run-clause-owed
 returns-in-Run-clause-owed g c =
     subst (λ (command : Command). Meets (Owes (Ok (command_view command)) (g.S.Source.tells c.args.src.now) (g.S.Source.held c.args.src.now)

@@ -1,0 +1,115 @@
+//! Runs of files with layouts. The answers were given by a program apart from this one, written from the
+//! language's pages alone.
+
+use crate::call::{call, expect_answer};
+use std::test::Fail;
+
+/// A list is summed; its tag is the lowest bit of a pointer.
+const SUM: &str =
+    "type List = Nil | Cons(u64, List); layout List <64> = split 0[0:1] { 1 => Nil : { word 64 { [0:1] = 1 } } 0 => Cons(_, _) : { word 64 { [0:1] = 0, [3:61] -> 8 { word 64 { [0:64] .0 }, inline .1 } } } };fun sum(l: List): u64 = match l { Nil => 0, Cons(x, r) => add(x, sum(r)) };fun main(l: List): u64 = sum(l);";
+
+/// The same list, as it is.
+const LIST: &str =
+    "type List = Nil | Cons(u64, List); layout List <64> = split 0[0:1] { 1 => Nil : { word 64 { [0:1] = 1 } } 0 => Cons(_, _) : { word 64 { [0:1] = 0, [3:61] -> 8 { word 64 { [0:64] .0 }, inline .1 } } } };fun main(l: List): List = l;";
+
+/// A tree with a node's color in the lowest bit of a pointer; a number is inserted.
+const INSERT: &str =
+    "type Color = Red | Black;layout Color <1> = split 0[0:1] { 0 => Red : { word 1 { [0:1] = 0 } } 1 => Black : { word 1 { [0:1] = 1 } } };type Tree = Empty | Node(Color, Tree, u32, Tree);layout Tree <32> = split 0[0:32] { 0 => Empty : { word 32 { [0:32] = 0 } } else => Node(_, _, _, _) : { word 32 { [0:1] .0, [2:22] -> 4 { word 32 { [0:32] .2 }, inline .1, inline .3 } } } };fun insert(t: Tree, x: u32): Tree = match t { Empty => Node(Red, Empty, x, Empty), Node(c, l, y, r) => match lt(x, y) { 1 => Node(c, insert(l, x), y, r), 0 => match lt(y, x) { 1 => Node(c, l, y, insert(r, x)), 0 => t } } };fun main(t: Tree, x: u32): Tree = insert(t, x);";
+
+/// A shape whose tag stands behind its pointer.
+const SHAPE: &str =
+    "type Shape = Dot(u8) | Box(u32, u32);layout Shape <32> = split 0[0:32] -> 4 @0:8[0:8] { 0 => Dot(_) : { word 32 { [0:32] -> 4 { word 8 { [0:8] = 0 }, word 8 { [0:8] .0 } } } } 1 => Box(_, _) : { word 32 { [0:32] -> 4 { word 8 { [0:8] = 1 }, word 32 { [0:32] .0 }, word 32 { [0:32] .1 } } } } };fun main(s: Shape): u32 = match s { Dot(b) => to u32(b), Box(x, y) => add(x, y) };";
+
+/// Two such shapes, which are not looked at.
+const SHAPES: &str =
+    "type Shape = Dot(u8) | Box(u32, u32);layout Shape <32> = split 0[0:32] -> 4 @0:8[0:8] { 0 => Dot(_) : { word 32 { [0:32] -> 4 { word 8 { [0:8] = 0 }, word 8 { [0:8] .0 } } } } 1 => Box(_, _) : { word 32 { [0:32] -> 4 { word 8 { [0:8] = 1 }, word 32 { [0:32] .0 }, word 32 { [0:32] .1 } } } } };fun main(s: Shape, t: Shape): u32 = 0;";
+
+/// A pair in two blocks.
+const PAIR: &str =
+    "type Pair = Two(u64, u64);layout Pair <64> = Two(_, _) : { word 64 { [0:64] -> 8 { word 64 { [0:64] .0 }, word 64 { [0:64] -> 8 { word 64 { [0:64] .1 } } } } } };fun main(p: Pair): Pair = p;";
+
+/// An instruction whose numbers are cut into slices.
+const BRANCH: &str =
+    "type Instr = Branch(u3, u5, u5, u12);layout Instr <32> = Branch(_, _, _, _) : { word 32 { [0:7] = 99, [7:1] .3[10:1], [8:4] .3[0:4], [12:3] .0, [15:5] .1, [20:5] .2, [25:6] .3[4:6], [31:1] .3[11:1] } };fun main(i: Instr): Instr = i;";
+
+/// A tree of shared halves, which is small in memory and large as a value.
+const TWIN: &str =
+    "type Twin = Tip | Fork(Twin, Twin);layout Twin <64> = split 0[0:1] { 1 => Tip : { word 64 { [0:1] = 1 } } 0 => Fork(_, _) : { word 64 { [0:1] = 0, [3:61] -> 8 { inline .0, inline .1 } } } };fun grow(n: u64, t: Twin): Twin = match n { 0 => t, _ => grow(sub(n, 1), Fork(t, t)) };fun main(n: u64): Twin = grow(n, Tip);";
+
+/// One bit.
+const COLOR: &str =
+    "type Color = Red | Black; layout Color <1> = split 0[0:1] { 0 => Red : { word 1 { [0:1] = 0 } } 1 => Black : { word 1 { [0:1] = 1 } } }; fun other(c: Color): Color = match c { Red => Black, Black => Red }; fun main(c: Color): Color = other(c);";
+
+/// File, limits and values, answer.
+const ROWS: [(&str, &str, &str); 32] = [
+    (SUM, "10 1024 Cons(1,Cons(2,Nil))", "0 3;"),
+    (SUM, "4 1024 Cons(1,Cons(2,Nil))", "0 3;"),
+    (SUM, "3 1024 Cons(1,Cons(2,Nil))", "4 ribbit: calls spent: 3;"),
+    (SUM, "10 96 Cons(1,Cons(2,Nil))", "0 3;"),
+    (SUM, "10 95 Cons(1,Cons(2,Nil))", "5 ribbit: region full: next 80, size 16, align 8, limit 95;"),
+    (SUM, "2 64 Nil", "0 0;"),
+    (SUM, "0 1024 Nil", "4 ribbit: calls spent: 0;"),
+    (SUM, "0 64 Cons(1,Nil)", "5 ribbit: region full: next 64, size 16, align 8, limit 64;"),
+    (SUM, "10 1024", "10 ribbit: wanted 1 arguments, found 0;"),
+    (SUM, "10 1024 Nil Nil", "10 ribbit: wanted 1 arguments, found 2;"),
+    (SUM, "10 1024 Cons(1)", "10 ribbit: argument 1: no value of List at byte 0;"),
+    (SUM, "10 1024 Cons(1,Cons(Nil,Nil))", "10 ribbit: argument 1: no value of List at byte 12;"),
+    (SUM, "10 1024 Cons(1,Nil", "10 ribbit: argument 1: syntax at byte 10;"),
+    (SUM, "10 1024 Cons(1,5)", "10 ribbit: argument 1: no value of List at byte 7;"),
+    (LIST, "1 1024 Cons(18446744073709551615,Cons(2,Nil))", "0 Cons(18446744073709551615, Cons(2, Nil));"),
+    (INSERT, "3 100 Node(Black,Empty,7,Empty) 9", "0 Node(Black, Empty, 7, Node(Red, Empty, 9, Empty));"),
+    (INSERT, "3 99 Node(Black,Empty,7,Empty) 9", "5 ribbit: region full: next 88, size 12, align 4, limit 99;"),
+    (INSERT, "2 100 Node(Black,Empty,7,Empty) 9", "4 ribbit: calls spent: 2;"),
+    (INSERT, "9 1024 Node(Black,Empty,7,Empty) 4294967296", "10 ribbit: argument 2: no value of u32 at byte 0;"),
+    (INSERT, "9 1024 Node(Black,Empty,7,Empty) 7", "0 Node(Black, Empty, 7, Empty);"),
+    (INSERT, "9 1024 Node(Blue,Empty,7,Empty) 7", "10 ribbit: argument 1: no value of Tree at byte 5;"),
+    (SHAPE, "1 1024 Box(1,2)", "0 3;"),
+    (SHAPE, "1 1024 Dot(255)", "0 255;"),
+    (SHAPES, "1 78 Box(1,2) Dot(5)", "0 0;"),
+    (SHAPES, "1 77 Box(1,2) Dot(5)", "5 ribbit: region full: next 73, size 2, align 4, limit 77;"),
+    (PAIR, "1 1024 Two(5,6)", "0 Two(5, 6);"),
+    (BRANCH, "1 64 Branch(7,31,30,2730)", "0 Branch(7, 31, 30, 2730);"),
+    (BRANCH, "1 64 Branch(8,31,30,2730)", "10 ribbit: argument 1: no value of Instr at byte 7;"),
+    (TWIN, "40 1024 2", "0 Fork(Fork(Tip, Tip), Fork(Tip, Tip));"),
+    (TWIN, "40 1024 30", "13 ribbit: value over 1000000 nodes;"),
+    (COLOR, "4 64 Red", "0 Black;"),
+    (COLOR, "4 64 Black", "0 Red;"),
+];
+
+#[test]
+fn runs_with_layouts(rt: HostRuntime) -> Result<(), Fail> {
+    let alloc = rt.alloc();
+    for (file, words, wanted) in ROWS {
+        let words = format!(in alloc; "run E {words}")?;
+        expect_answer(&rt, alloc, words.as_str(), file.as_bytes(), wanted)?;
+    }
+    Ok(())
+}
+
+/// A layout that is not plain is not compiled yet. The place is that of its word `layout`.
+#[test]
+fn layouts_that_are_not_plain(rt: HostRuntime) -> Result<(), Fail> {
+    let alloc = rt.alloc();
+    let file =
+        "type C = R | K; layout C <1> = split 0[0:1] { 0 => R : { word 1 { [0:1] = 0 } } 1 => K : { word 1 { [0:1] = 1 } } }; type D = D(C); layout D <1> = split 0[0:1] { 0 => D(R) : { word 1 { [0:1] = 0 } } 1 => D(K) : { word 1 { [0:1] = 1 } } }; fun main(): u8 = 0;";
+    for words in ["run E 1 64", "compile E", "run E 1 64 x"] {
+        expect_answer(
+            &rt,
+            alloc,
+            words,
+            file.as_bytes(),
+            "15 ribbit: not built yet at byte 132;",
+        )?;
+    }
+    Ok(())
+}
+
+/// The text of compiled code runs as the file does.
+#[test]
+fn code_texts_run(rt: HostRuntime) -> Result<(), Fail> {
+    let alloc = rt.alloc();
+    let file = b"fun main(x: u8): u8 = add(x, 1);";
+    let did = call(alloc, "compile E", file, &[], &[])?;
+    assert_eq!(rt; (did.status, did.steps), (0, 0));
+    expect_answer(&rt, alloc, "exec E main 1 64 255", did.out.as_slice(), "0 0;")
+}
