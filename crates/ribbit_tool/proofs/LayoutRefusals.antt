@@ -1,6 +1,6 @@
 -- What is known where layouts are refused: behind the first rule each type has a layout, and at the first
 -- rule the text names no leaf.
-use Rattle.std.proofs.Common.{◌≡◌, ◌≢◌, ◌<◌, ◌+◌, ◌⊎◌, ℕ, zero, suc, List, [], ◌∷◌, ◌++◌, length, codes, Option, Some, None, inl, inr, refl, sym, ap, subst, ◌∙◌, arith}
+use Rattle.std.proofs.Common.{◌≡◌, ◌≢◌, ◌<◌, ◌+◌, ◌⊎◌, ℕ, zero, suc, List, [], ◌∷◌, ◌++◌, length, codes, Option, Some, None, inl, inr, refl, sym, ap, subst, ◌∙◌, append_assoc, append-nil, arith}
 use Rattle.std.specs.Fmt.{decimal}
 use Rattle.std.specs.List.{slice_get}
 use Rattle.rb_core.specs.declared.layout_decl.LayoutDecl.{LayoutDecl}
@@ -8,7 +8,7 @@ use Rattle.rb_core.specs.declared.program.Program.{Program}
 use Rattle.rb_core.specs.declared.types.DataDecl.{DataDecl}
 use Rattle.rb_layout.specs.A1.{HasShape, FailsShape}
 use Rattle.rb_layout.specs.Flattening.{HaveLayouts, decl_of, flat_layouts}
-use Rattle.rb_layout.specs.Spots.{Spot, Shape, Root, Parts, Blocks, Complete, Apart, Held, Tests, Splits, Flattening, NoPointer, Holding, Place, place_of, Checked, Fails, IsRefusal, IsRefusedBy, shape_spots}
+use Rattle.rb_layout.specs.Spots.{Spot, Shape, Root, Parts, Blocks, Complete, Apart, Held, Tests, Splits, Flattening, NoPointer, Holding, Place, place_of, Checked, Fails, IsRefusal, IsRefusedBy, shape_spots, all_spots}
 use Rattle.rb_layout.specs.declared.evidence.Refused.{Refused as Disagreed}
 use Rattle.rb_layout.specs.declared.evidence.Why.{Why}
 use Rattle.rb_layout.specs.declared.evidence.Why.TheVariants as why
@@ -17,6 +17,20 @@ use Rattle.rb_layout.specs.declared.layout.Leaf.{Leaf}
 use Rattle.rb_show.specs.Refusals.{refusal_text, evidence_text, at_leaf, number_of, leaves_in, name_of}
 
 -- Behind the first rule ---------------------------------------------------------------------
+
+-- a list begins with another
+abbrev Begins : List Spot → List Spot → Type 0
+Begins front xs = (rest : List Spot) × (xs ≡ front ++ rest)
+
+more : (front xs ys : List Spot) → Begins front xs → Begins front (xs ++ ys)
+more front xs ys b = (b.0 ++ ys, ap (λ (zs : List Spot). zs ++ ys) b.1 ∙ append_assoc front b.0 ys)
+
+-- all places begin with those of the first rule
+shapes_first : (p : Program) (layouts : List Layout) → Begins (shape_spots p.layouts 0 p.types) (all_spots p layouts)
+shapes_first p layouts =
+    let shapes = shape_spots p.layouts 0 p.types in
+    more shapes _ _ (more shapes _ _ (more shapes _ _ (more shapes _ _ (more shapes _ _ (more shapes _ _ (more shapes _ _ (more shapes _ _ (more shapes _ _
+    ([], sym (append-nil shapes))))))))))
 
 module _ (p : Program) (layouts : List Layout) where
   has_shape : (ds : List DataDecl) (t : ℕ) (rest : List Spot) (found : Spot × Why) → ((place_of found.0).rule ≡ 1 → ⊥)
@@ -41,7 +55,10 @@ declared_by (Some d) h = (d, refl)
 pub have_layouts : (p : Program) (r : Disagreed) → IsRefusedBy p (flat_layouts p) r → r.rule ≢ 1 → HaveLayouts p
 have_layouts p r (spot, h, is) late t lt =
     let rule : r.rule ≡ (place_of spot).rule = ap (λ (x : Place). x.rule) is.0 in
-    declared_by (decl_of p.layouts t) (has_shape p (flat_layouts p) p.types 0 _ (spot, r.why) (λ e. late (rule ∙ e)) h t lt)
+    let first = shapes_first p (flat_layouts p) in
+    let found = subst (λ (ss : List Spot). Checked p (flat_layouts p) ss (Some (spot, r.why))) first.1 h in
+    let z : 0 + t ≡ t = omega arith in
+    declared_by (decl_of p.layouts t) (subst (λ n. HasShape (decl_of p.layouts n)) z (has_shape p (flat_layouts p) p.types 0 first.0 (spot, r.why) (λ e. late (rule ∙ e)) found t lt))
 
 -- At the first rule -------------------------------------------------------------------------
 
@@ -51,7 +68,59 @@ IsPlainEvidence w = (types : List DataDecl) (xs ys : List Leaf) (n : ℕ) → ev
 
 shape_evidence : (o : Option LayoutDecl) (w : Why) → FailsShape o w → IsPlainEvidence w
 shape_evidence None why.NoLayout h types xs ys n = refl
+shape_evidence None (why.ShapeWidth i width) h types xs ys n = absurd h
+shape_evidence None (why.WordCount _ _) h types xs ys n = absurd h
+shape_evidence None (why.WordWidth _ _ _) h types xs ys n = absurd h
+shape_evidence None (why.Outside _ _ _) h types xs ys n = absurd h
+shape_evidence None (why.Overlap _ _ _ _ _) h types xs ys n = absurd h
+shape_evidence None (why.ConstWide _ _ _) h types xs ys n = absurd h
+shape_evidence None (why.Misfit _ _ _ _) h types xs ys n = absurd h
+shape_evidence None (why.BlockWord _) h types xs ys n = absurd h
+shape_evidence None (why.BlockWords _) h types xs ys n = absurd h
+shape_evidence None (why.Blocks _) h types xs ys n = absurd h
+shape_evidence None (why.Align _) h types xs ys n = absurd h
+shape_evidence None (why.ShortPointer _) h types xs ys n = absurd h
+shape_evidence None (why.Common _) h types xs ys n = absurd h
+shape_evidence None (why.NoLeaf _) h types xs ys n = absurd h
+shape_evidence None (why.NotHeld _ _) h types xs ys n = absurd h
+shape_evidence None (why.HeldTwice _ _) h types xs ys n = absurd h
+shape_evidence None (why.NotOpen _) h types xs ys n = absurd h
+shape_evidence None (why.Unresolved _) h types xs ys n = absurd h
+shape_evidence None (why.NotKnown _ _) h types xs ys n = absurd h
+shape_evidence None (why.NotExcluded _ _) h types xs ys n = absurd h
+shape_evidence None (why.LiteralWide _ _) h types xs ys n = absurd h
+shape_evidence None (why.LiteralTwice _ _) h types xs ys n = absurd h
+shape_evidence None (why.NoArm _) h types xs ys n = absurd h
+shape_evidence None (why.HasPointer _) h types xs ys n = absurd h
+shape_evidence None (why.FlatCycle _) h types xs ys n = absurd h
+shape_evidence None (why.HoldCycle _) h types xs ys n = absurd h
+shape_evidence (Some d) why.NoLayout h types xs ys n = absurd h
 shape_evidence (Some d) (why.ShapeWidth i width) h types xs ys n = refl
+shape_evidence (Some d) (why.WordCount _ _) h types xs ys n = absurd h
+shape_evidence (Some d) (why.WordWidth _ _ _) h types xs ys n = absurd h
+shape_evidence (Some d) (why.Outside _ _ _) h types xs ys n = absurd h
+shape_evidence (Some d) (why.Overlap _ _ _ _ _) h types xs ys n = absurd h
+shape_evidence (Some d) (why.ConstWide _ _ _) h types xs ys n = absurd h
+shape_evidence (Some d) (why.Misfit _ _ _ _) h types xs ys n = absurd h
+shape_evidence (Some d) (why.BlockWord _) h types xs ys n = absurd h
+shape_evidence (Some d) (why.BlockWords _) h types xs ys n = absurd h
+shape_evidence (Some d) (why.Blocks _) h types xs ys n = absurd h
+shape_evidence (Some d) (why.Align _) h types xs ys n = absurd h
+shape_evidence (Some d) (why.ShortPointer _) h types xs ys n = absurd h
+shape_evidence (Some d) (why.Common _) h types xs ys n = absurd h
+shape_evidence (Some d) (why.NoLeaf _) h types xs ys n = absurd h
+shape_evidence (Some d) (why.NotHeld _ _) h types xs ys n = absurd h
+shape_evidence (Some d) (why.HeldTwice _ _) h types xs ys n = absurd h
+shape_evidence (Some d) (why.NotOpen _) h types xs ys n = absurd h
+shape_evidence (Some d) (why.Unresolved _) h types xs ys n = absurd h
+shape_evidence (Some d) (why.NotKnown _ _) h types xs ys n = absurd h
+shape_evidence (Some d) (why.NotExcluded _ _) h types xs ys n = absurd h
+shape_evidence (Some d) (why.LiteralWide _ _) h types xs ys n = absurd h
+shape_evidence (Some d) (why.LiteralTwice _ _) h types xs ys n = absurd h
+shape_evidence (Some d) (why.NoArm _) h types xs ys n = absurd h
+shape_evidence (Some d) (why.HasPointer _) h types xs ys n = absurd h
+shape_evidence (Some d) (why.FlatCycle _) h types xs ys n = absurd h
+shape_evidence (Some d) (why.HoldCycle _) h types xs ys n = absurd h
 
 first_evidence : (p : Program) (layouts : List Layout) (spot : Spot) (w : Why) → (place_of spot).rule ≡ 1 → Fails p layouts spot w → IsPlainEvidence w
 first_evidence p layouts (Shape t decl) w e h = shape_evidence decl w h
@@ -72,7 +141,7 @@ pub first_text : (p : Program) (r : Disagreed) → IsRefusedBy p (flat_layouts p
     → refusal_text p.types layouts r ≡ refusal_text p.types (flat_layouts p) r
 first_text p r (spot, h, is) one layouts =
     let rule : (place_of spot).rule ≡ 1 = sym (ap (λ (x : Place). x.rule) is.0) ∙ one in
-    let same = first_evidence p (flat_layouts p) spot r.why rule (fails_found p (flat_layouts p) _ (spot, r.why) h) in
+    let same = first_evidence p (flat_layouts p) spot r.why rule (fails_found p (flat_layouts p) (all_spots p (flat_layouts p)) (spot, r.why) h) in
     let xs : List Leaf = leaves_in (slice_get layouts r.ty) in
     let ys : List Leaf = leaves_in (slice_get (flat_layouts p) r.ty) in
     let at : at_leaf p.types xs r.rule (number_of r.leaf) ≡ at_leaf p.types ys r.rule (number_of r.leaf) =

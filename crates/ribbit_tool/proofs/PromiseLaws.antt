@@ -4,10 +4,11 @@ use Rattle.rb_edge.specs.Faults.{Rose}
 use Rattle.ribbit_tool.specs.Answer.{Due, printed, refused, status_of}
 use Rattle.ribbit_tool.specs.Answers.{Answers, AnswersWords, answered, source_failed, out_of_memory}
 use Rattle.ribbit_tool.specs.Check.{ChecksFile}
-use Rattle.ribbit_tool.specs.Command.{Parsed, check, compile, run, exec, command_of}
+use Rattle.ribbit_tool.specs.Command.{Parsed, check, layout, compile, run, exec, command_of}
 use Rattle.ribbit_tool.specs.Compiling.{CompilesFile}
 use Rattle.ribbit_tool.specs.Delivery.{Change, Stood, Delivers, output, output_failed, error_line, error_failed}
 use Rattle.ribbit_tool.specs.Exec.{Executes}
+use Rattle.ribbit_tool.specs.Layout.{LaysOutFile}
 use Rattle.ribbit_tool.specs.Numbers.{status_number}
 use Rattle.ribbit_tool.specs.Promise.{Source, Counting, Shows, GivesAnswer, OwesWords, Performs, IsCutOff, IsRight}
 use Rattle.ribbit_tool.specs.Reading.{Holds, Reads, file_limit, code_limit}
@@ -20,6 +21,8 @@ same_answer : (parsed : Parsed) (seen held : Holds) (due : Due) → ((name : Lis
 same_answer (Err word) seen held due e h = h
 same_answer (Ok (check file)) seen held due e h =
     subst (λ (o : Option (List ℕ)). Reads o file_limit (λ bytes d. ChecksFile bytes d) due) (e file) h
+same_answer (Ok (layout file)) seen held due e h =
+    subst (λ (o : Option (List ℕ)). Reads o file_limit (λ bytes d. LaysOutFile bytes d) due) (e file) h
 same_answer (Ok (compile file)) seen held due e h =
     subst (λ (o : Option (List ℕ)). Reads o file_limit (λ bytes d. CompilesFile bytes d) due) (e file) h
 same_answer (Ok (run file limits values)) seen held due e h =
@@ -31,6 +34,7 @@ same_answer (Ok (exec code function limits words)) seen held due e h =
 is_named : (s : Status) → (status_number s ≢ 0) × (status_number s ≢ 8)
 is_named status.Syntax = (λ e. omega (arith, e), λ e. omega (arith, e))
 is_named status.Meaning = (λ e. omega (arith, e), λ e. omega (arith, e))
+is_named status.Layout = (λ e. omega (arith, e), λ e. omega (arith, e))
 is_named status.Spent = (λ e. omega (arith, e), λ e. omega (arith, e))
 is_named status.Full = (λ e. omega (arith, e), λ e. omega (arith, e))
 is_named status.Usage = (λ e. omega (arith, e), λ e. omega (arith, e))

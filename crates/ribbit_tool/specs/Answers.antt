@@ -3,9 +3,10 @@ use Rattle.std.specs.Prelude.{◌≡◌, ℕ, List, Bool, IsTrue, Ok, Err}
 use Rattle.rb_edge.specs.Faults.{Rose}
 use Rattle.ribbit_tool.specs.Answer.{Due, refusal}
 use Rattle.ribbit_tool.specs.Check.{ChecksFile}
-use Rattle.ribbit_tool.specs.Command.{Parsed, check, compile, run, exec, command_of}
+use Rattle.ribbit_tool.specs.Command.{Parsed, check, layout, compile, run, exec, command_of}
 use Rattle.ribbit_tool.specs.Compiling.{CompilesFile}
 use Rattle.ribbit_tool.specs.Exec.{Executes}
+use Rattle.ribbit_tool.specs.Layout.{LaysOutFile}
 use Rattle.ribbit_tool.specs.Lines.{usage_line, read_fault_line, no_memory_line}
 use Rattle.ribbit_tool.specs.Reading.{Holds, Reads, file_limit, code_limit}
 use Rattle.ribbit_tool.specs.Run.{RunsFile}
@@ -14,6 +15,7 @@ use Rattle.ribbit_tool.specs.declared.status.Status.TheVariants.{Usage, Unread, 
 -- a line for each command; or the words are none
 abbrev pub Answers : Parsed → Holds → Due → Type 0
 Answers (Ok (check file)) held due = Reads (held file) file_limit (λ bytes d. ChecksFile bytes d) due
+Answers (Ok (layout file)) held due = Reads (held file) file_limit (λ bytes d. LaysOutFile bytes d) due
 Answers (Ok (compile file)) held due = Reads (held file) file_limit (λ bytes d. CompilesFile bytes d) due
 Answers (Ok (run file limits values)) held due = Reads (held file) file_limit (λ bytes d. RunsFile limits values bytes d) due
 Answers (Ok (exec code function limits words)) held due = Reads (held code) code_limit (λ bytes d. Executes function limits words bytes d) due

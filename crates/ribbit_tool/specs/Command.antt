@@ -10,6 +10,7 @@ pub record Limits : Type 0 where
 
 pub data Command : Type 0 where
   check : (file : List ℕ) → Command
+  layout : (file : List ℕ) → Command
   compile : (file : List ℕ) → Command
   run : (file : List ℕ) → (limits : Limits) → (values : List (List ℕ)) → Command
   exec : (code : List ℕ) → (function : List ℕ) → (limits : Limits) → (words : List ℕ) → Command
@@ -47,6 +48,9 @@ alone n command (w ∷ ws) = Err n
 abbrev pub check_words : List (List ℕ) → Parsed
 check_words words = with_word 2 words (λ file ws. alone 3 (check file) ws)
 
+abbrev pub layout_words : List (List ℕ) → Parsed
+layout_words words = with_word 2 words (λ file ws. alone 3 (layout file) ws)
+
 abbrev pub compile_words : List (List ℕ) → Parsed
 compile_words words = with_word 2 words (λ file ws. alone 3 (compile file) ws)
 
@@ -82,6 +86,7 @@ exec_words words = with_word 2 words (λ code ws. function_words code ws)
 unfoldable pub command_of : List (List ℕ) → Parsed
 command_of words = with_word 1 words (λ w ws.
     if bytes_eq w (codes "check") then check_words ws else
+    if bytes_eq w (codes "layout") then layout_words ws else
     if bytes_eq w (codes "compile") then compile_words ws else
     if bytes_eq w (codes "run") then run_words ws else
     if bytes_eq w (codes "exec") then exec_words ws else Err 1)

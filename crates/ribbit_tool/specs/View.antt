@@ -8,7 +8,7 @@ use Rattle.rb_layout.specs.Agreement.{AreAgreed}
 use Rattle.rb_names.specs.Programs.{numbered}
 use Rattle.ribbit_tool.specs.Accepting.{IsRead}
 use Rattle.ribbit_tool.specs.Answer.{Due, printed, refused}
-use Rattle.ribbit_tool.specs.Command.{Command, Limits, check, compile, run, exec}
+use Rattle.ribbit_tool.specs.Command.{Command, Limits, check, layout, compile, run, exec}
 use Rattle.ribbit_tool.specs.declared.accepting.Accepted.{Accepted}
 use Rattle.ribbit_tool.specs.declared.command.Command as declared
 use Rattle.ribbit_tool.specs.declared.command.Command.TheVariants as form
@@ -24,6 +24,7 @@ limits_view l = record { calls = l.calls; region = l.region }
 
 abbrev pub command_view : declared.Command → Command
 command_view (form.Check file) = check file.now
+command_view (form.Layout file) = layout file.now
 command_view (form.Compile file) = compile file.now
 command_view (form.Run file limits values) = run file.now (limits_view limits) values.now
 command_view (form.Exec code function limits words) = exec code.now function.now (limits_view limits) words

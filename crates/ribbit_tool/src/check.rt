@@ -9,30 +9,24 @@ ghost use Rattle.ribbit_tool.specs.View.{IsAcceptance, IsRefusal, Meets};
 
 use crate::accepting::{Accepted, accept};
 use crate::line::note::checked;
-use crate::place::byte_of;
 use crate::reading::{FILE_LIMIT, read_within};
 use crate::refusal::Refusal;
-use crate::unbuilt::{first_declared, refuse_unbuilt};
 use rb_edge::source::Source;
-use std::alloc::Global;
+use std::alloc::{AllocError, Global};
 
 // The text for an accepted file.
-fn check_accepted(alloc: Global, bytes: &[u8], accepted: &Accepted) -> Result<Vec<u8>, Refusal>
+fn check_accepted(
+    alloc: Global,
+    bytes: &[u8],
+    accepted: &Accepted,
+) -> Result<Vec<u8>, AllocError>
     requires { IsAcceptance bytes.now accepted.now }
-    ensures text { IfOk result (λ text. ChecksFile bytes.now (printed text.items 0)) }
-    ensures refused { IfErr result (IsRefusal (ChecksFile bytes.now)) }
+    ensures { IfOk result (λ text. ChecksFile bytes.now (printed text.items 0)) }
 {
     let placed = accepted.placed.as_slice();
-    match first_declared(&accepted.file) {
-        Some(token) => {
-            let refused = refuse_unbuilt(alloc, byte_of(placed, bytes.len(), token))?;
-            Err(Refusal::Refused(refused))
-        }
-        None => {
-            let text = checked(alloc, placed, bytes.len(), accepted.agreed.covered().notes())?;
-            Ok(text)
-        }
-    }
+    let notes = accepted.agreed.covered().notes();
+    let text = checked(alloc, placed, bytes.len(), notes)?;
+    Ok(text)
 }
 
 // The text for a file within the limit.
@@ -42,7 +36,8 @@ fn check_bytes(alloc: Global, bytes: &[u8]) -> Result<Vec<u8>, Refusal>
     ensures refused { IfErr result (IsRefusal (ChecksFile bytes.now)) }
 {
     let accepted = accept(alloc, bytes)?;
-    check_accepted(alloc, bytes, &accepted)
+    let text = check_accepted(alloc, bytes, &accepted)?;
+    Ok(text)
 }
 
 /// The notes on the clauses of a file that no value reaches, and `ok`, where it is accepted.

@@ -2,7 +2,7 @@
 
 ghost use Rattle.std.specs.Prelude.{◌≡◌, ◌≤◌, List, MatchResult, Ok, ℕ};
 ghost use Rattle.ribbit_tool.specs.declared.command.CommandFault.TheVariants.{Memory};
-ghost use Rattle.ribbit_tool.specs.Command.{Limits as LimitsValue, Parsed, check_words, command_of, compile_words, exec_words, function_words, numbers_from, run_words, with_limits};
+ghost use Rattle.ribbit_tool.specs.Command.{Limits as LimitsValue, Parsed, check_words, command_of, compile_words, layout_words, exec_words, function_words, numbers_from, run_words, with_limits};
 ghost use Rattle.ribbit_tool.specs.View.{command_view, limits_view, IsUsage};
 
 use crate::limits::Limits;
@@ -17,6 +17,10 @@ use thiserror::Error;
 pub enum Command<'a> {
     /// A check of a file.
     Check {
+        file: &'a [u8],
+    },
+    /// The flat forms of a file's layouts.
+    Layout {
         file: &'a [u8],
     },
     /// The code of a file.
@@ -95,6 +99,19 @@ fn parse_check<'a>(words: &'a [Name]) -> Result<Command<'a>, CommandFault>
     match words {
         [] => Err(CommandFault::Usage(2)),
         [file] => Ok(Command::Check {
+            file: file.as_slice(),
+        }),
+        [_, _, ..] => Err(CommandFault::Usage(3)),
+    }
+}
+
+// The words behind `layout`.
+fn parse_layout<'a>(words: &'a [Name]) -> Result<Command<'a>, CommandFault>
+    ensures { MatchResult result (λ c. layout_words words.now ≡ Ok (command_view c)) (IsUsage (layout_words words.now)) }
+{
+    match words {
+        [] => Err(CommandFault::Usage(2)),
+        [file] => Ok(Command::Layout {
             file: file.as_slice(),
         }),
         [_, _, ..] => Err(CommandFault::Usage(3)),
@@ -184,6 +201,9 @@ pub fn parse<'a>(alloc: Global, words: &'a [Name]) -> Result<Command<'a>, Comman
         [first, rest @ ..] => {
             if first.as_slice() == b"check".as_slice() {
                 return parse_check(rest);
+            }
+            if first.as_slice() == b"layout".as_slice() {
+                return parse_layout(rest);
             }
             if first.as_slice() == b"compile".as_slice() {
                 return parse_compile(rest);

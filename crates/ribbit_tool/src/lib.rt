@@ -9,6 +9,7 @@ pub mod compile;
 pub mod delivery;
 pub mod exec;
 pub mod laws;
+pub mod layout;
 pub mod limits;
 pub mod line;
 pub mod place;

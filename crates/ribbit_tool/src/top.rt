@@ -15,6 +15,7 @@ use crate::command::{Command, CommandFault, parse};
 use crate::compile::compile_file;
 use crate::delivery::{print, refuse};
 use crate::exec::run_code_file;
+use crate::layout::layout_file;
 use crate::line::{self, NO_MEMORY};
 use crate::refusal::{Refusal, Refused};
 use crate::run::run_file;
@@ -39,6 +40,7 @@ fn obey<S: Source, L: Ledger>(
 {
     match command {
         Command::Check { file } => check_file(alloc, src, file),
+        Command::Layout { file } => layout_file(alloc, src, file),
         Command::Compile { file } => compile_file(alloc, src, file),
         Command::Run {
             file,

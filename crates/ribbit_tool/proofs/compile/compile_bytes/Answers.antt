@@ -25,5 +25,5 @@ returns-clause-text c =
     let a = c.in_ok-accepted.accepted in
     let acceptance = c.in_ok-accepted.ensures.accepted in
     accepted a.agreed.covered.program (is_accepted c.args.bytes.now a acceptance)
-    (compiled a.agreed (record { program = refl; layouts = acceptance.flat }) c.in_ok-code.code c.in_ok-code.ensures.compiled
+    (compiled a.agreed (record { program = refl; layouts = acceptance.agreed.0 }) c.in_ok-code.code c.in_ok-code.ensures.compiled
     (ap (λ (text : List ℕ). printed text 0) c.in_ok-text.ensures.text))

@@ -20,4 +20,4 @@ returns c =
         ∙ ap (λ (ls : List Layout). refusal_text p.types ls r) c.as_slice.ensures
         ∙ given_text p r c.requires c.in_ok-layouts.layouts c.in_ok-layouts.ensures in
     ap (λ (t : List ℕ). refusal status.Layout t)
-    (c.in_ok-line-2.ensures ∙ ap (λ t. ended t) (c.in_ok-line.ensures ∙ ap (λ t. begun t) (c.as_slice-2.ensures ∙ text)))
+    (c.in_ok-line-2.ensures ∙ ap (λ t. ended t) (c.in_ok-line.ensures ∙ ap (λ t. begun t) (c.as_slice-2.ensures.value ∙ text)))

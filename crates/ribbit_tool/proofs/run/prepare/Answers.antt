@@ -26,7 +26,7 @@ returns-in_err-args-clause-refused c =
     let program = a.agreed.covered.program in
     let size = length c.args.bytes.now in
     let same = c.program.ensures.same ∙ ap (λ x. x.program) c.covered.ensures.same in
-    let plain = subst (λ (ls : List Layout). ArePlain ls) c.requires.flat c.in_ok-code.ensures.compiled.plain in
+    let plain = subst (λ (ls : List Layout). ArePlain ls) c.requires.agreed.0 c.in_ok-code.ensures.compiled.plain in
     let p = err_from_is_err_and c.from_residual-in_err-args.result c.from_residual-in_err-args.ensures.1 in
     rw (p.1, p.2) (refusal_met (λ due. IsMisfit program c.args.words.now due) (λ due. IsUnprepared program a.placed.items size c.args.words.now due)
     (λ due h. misfit plain h) _ (rw same at c.in_err-args.ensures.refused))

@@ -33,5 +33,5 @@ returns g c =
     let known = is_accepted c.args.bytes.now a acceptance in
     met (λ due. IsAnswered a.agreed r.code r.args limits due) (λ due. RunsFile limits c.args.words.now c.args.bytes.now due)
     (λ due h. accepted a.agreed.covered.program known
-    (ran a.agreed (record { program = refl; layouts = acceptance.flat }) r.code r.args c.in_ok-prepared.ensures.prepared c.in_ok-prepared.ensures.spelled h))
+    (ran a.agreed (record { program = refl; layouts = acceptance.agreed.0 }) r.code r.args c.in_ok-prepared.ensures.prepared c.in_ok-prepared.ensures.spelled h))
     c.args.steps.now.taken c.run_prepared.new.steps.taken c.run_prepared.result c.run_prepared.ensures

@@ -11,6 +11,12 @@ returns-in-Check-clause-owed g c =
     (g.S.Source.faults c.args.src.now) (g.S.Source.faults c.check_file.new.src)) c.args.steps.now.taken c.args.steps.now.taken c.check_file.result)
     (sym c.in-Check.is) (c.check_file.ensures.owed c.args.steps.now.taken)
 
+pub returns-in-Layout-clause-owed : goal.returns-in-Layout-clause-owed
+returns-in-Layout-clause-owed g c =
+    subst (λ (command : Command). Meets (Owes (Ok (command_view command)) (g.S.Source.tells c.args.src.now) (g.S.Source.held c.args.src.now)
+    (g.S.Source.faults c.args.src.now) (g.S.Source.faults c.layout_file.new.src)) c.args.steps.now.taken c.args.steps.now.taken c.layout_file.result)
+    (sym c.in-Layout.is) (c.layout_file.ensures.owed c.args.steps.now.taken)
+
 pub returns-in-Compile-clause-owed : goal.returns-in-Compile-clause-owed
 returns-in-Compile-clause-owed g c =
     subst (λ (command : Command). Meets (Owes (Ok (command_view command)) (g.S.Source.tells c.args.src.now) (g.S.Source.held c.args.src.now)

@@ -1,0 +1,14 @@
+-- What is due to the command `layout`: the flat form of each type's layout.
+use Rattle.std.specs.Prelude.{◌≡◌, ℕ, List}
+use Rattle.rb_core.specs.declared.program.Program.{Program}
+use Rattle.rb_layout.specs.Flattening.{flat_layouts}
+use Rattle.rb_show.specs.Lines.{layouts_text}
+use Rattle.ribbit_tool.specs.Accepting.{Accepts}
+use Rattle.ribbit_tool.specs.Answer.{Due, printed}
+
+abbrev pub layout_text : Program → List ℕ
+layout_text p = layouts_text p.types (flat_layouts p)
+
+-- of a file within the limit
+abbrev pub LaysOutFile : List ℕ → Due → Type 0
+LaysOutFile bytes due = Accepts bytes (λ p a d. d ≡ printed (layout_text p) 0) due

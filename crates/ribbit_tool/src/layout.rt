@@ -1,0 +1,36 @@
+//! The command `layout`.
+
+ghost use Rattle.std.specs.Prelude.{◌≤◌, ℕ, length, IfOk, IfErr, Ok};
+ghost use Rattle.ribbit_tool.specs.Answer.{printed};
+ghost use Rattle.ribbit_tool.specs.Answers.{Owes};
+ghost use Rattle.ribbit_tool.specs.Command as spec;
+ghost use Rattle.ribbit_tool.specs.Layout.{LaysOutFile};
+ghost use Rattle.ribbit_tool.specs.View.{IsRefusal, Meets};
+
+use crate::accepting::accept;
+use crate::reading::{FILE_LIMIT, read_within};
+use crate::refusal::Refusal;
+use rb_edge::source::Source;
+use rb_show::show::show_layouts;
+use std::alloc::Global;
+
+// The text for a file within the limit.
+fn layout_bytes(alloc: Global, bytes: &[u8]) -> Result<Vec<u8>, Refusal>
+    requires { length bytes.now ≤ 262144 }
+    ensures text { IfOk result (λ text. LaysOutFile bytes.now (printed text.items 0)) }
+    ensures refused { IfErr result (IsRefusal (LaysOutFile bytes.now)) }
+{
+    let accepted = accept(alloc, bytes)?;
+    let text = show_layouts(alloc, &accepted.agreed)?;
+    Ok(text)
+}
+
+/// The flat forms of the layouts of a file, where it is accepted.
+pub fn layout_file<S: Source>(alloc: Global, src: &mut S, file: &[u8]) -> Result<Vec<u8>, Refusal>
+    ensures later { S.faults src.old ≤ S.faults src.new }
+    ensures owed { (steps : ℕ) → Meets
+        (Owes (Ok (spec.layout file.now)) (S.tells src.old) (S.held src.old) (S.faults src.old) (S.faults src.new)) steps steps result }
+{
+    let bytes = read_within(alloc, src, file, FILE_LIMIT)?;
+    layout_bytes(alloc, bytes.as_slice())
+}
