@@ -1,6 +1,7 @@
 pub mod AllLemmas
 pub mod BitLemmas
 pub mod EncodeLemmas
+pub mod FewFields
 pub mod FieldWords
 pub mod GatherLemmas
 pub mod GrowLemmas

@@ -1,9 +1,9 @@
 //! The steps that a leaf's provenance comes to.
 
-ghost use Rattle.std.specs.Prelude.{◌≡◌, ◌∷◌, [], ◌++◌, IfOk, OnOk, map};
+ghost use Rattle.std.specs.Prelude.{◌≡◌, ◌<◌, ◌∷◌, [], ◌++◌, IfOk, OnOk, map};
 ghost use Rattle.rb_coding.specs.inner.Gathering.{field_words};
 ghost use Rattle.rb_coding.specs.inner.Planning.{fields_plan};
-ghost use Rattle.rb_coding.specs.inner.Opening.{steps_of, words_of};
+ghost use Rattle.rb_coding.specs.inner.Opening.{AreFew, HaveFewFields, steps_of, words_of};
 
 use crate::gather::field_words;
 use crate::node::one_word;
@@ -45,11 +45,9 @@ impl<'a> Opening<'a> {
 
 // A path with one field more.
 fn below(alloc: Global, path: &[u32], field: usize) -> Result<Seq<u32>, AllocError>
+    requires { field < 4294967296 }
     ensures { IfOk result (λ found. found ≡ path.now ++ field ∷ []) }
 {
-    if field >= 4294967296 {
-        return Err(AllocError);
-    }
     let mut found = Seq::from_vec(Vec::from_slice(alloc, path)?);
     found.push(field as u32)?;
     Ok(found)
@@ -65,6 +63,7 @@ pub(crate) fn plan(
     path: &[u32],
     todo: &mut Vec<Step>,
 ) -> Result<(), AllocError>
+    requires few { HaveFewFields opening.now.types.now }
     ensures { OnOk result (todo.new.items ≡ todo.old.items ++ steps_of opening.now prov.now ty path.now) }
 {
     match prov {
@@ -98,6 +97,8 @@ fn plan_fields(
     path: &[u32],
     todo: &mut Vec<Step>,
 ) -> Result<(), AllocError>
+    requires few { HaveFewFields opening.now.types.now }
+    requires types { AreFew tys.now }
     ensures { OnOk result (todo.new.items
         ≡ todo.old.items ++ fields_plan (map (steps_of opening.now) pats.now) tys.now path.now 0) }
 {

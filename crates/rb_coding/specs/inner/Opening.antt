@@ -1,8 +1,11 @@
 -- A value of a data type that is opened: the words of its fields, and what it comes to.
-use Rattle.std.specs.Prelude.{ℕ, List}
+use Rattle.std.specs.Prelude.{ℕ, ◌≤◌, List, length}
+use Rattle.rb_core.specs.declared.types.DataDecl.{DataDecl}
+use Rattle.rb_core.specs.declared.types.Ty.TheVariants.{Named}
 use Rattle.rb_core.specs.declared.pattern.Pat.{Pat}
 use Rattle.rb_coding.specs.declared.plan.Opening.{Opening}
 use Rattle.rb_coding.specs.inner.Gathering.{field_words}
+use Rattle.rb_coding.specs.inner.Nodes.{field_list}
 use Rattle.rb_coding.specs.inner.Planning.{Planned, plan_of}
 
 -- the words of the field at a path
@@ -12,3 +15,10 @@ words_of x = field_words x.types.now x.layouts.now x.leaf.now x.words.now x.load
 -- the steps of a provenance
 abbrev pub steps_of : Opening → Pat → Planned
 steps_of x = plan_of x.types.now (words_of x)
+
+-- so few fields that 32 bits number them
+abbrev pub AreFew : {A : Type 0} → List A → Type 0
+AreFew fields = length fields ≤ 4294967296
+
+abbrev pub HaveFewFields : List DataDecl → Type 0
+HaveFewFields types = (t k : ℕ) → AreFew (field_list types (Named t) k)

@@ -1,4 +1,4 @@
-use Rattle.std.proofs.Common.{◌≡◌, ◌+◌, ◌-◌, ◌<◌, ◌++◌, length, refl, ap, sym, ◌∙◌, arith, append-nil}
+use Rattle.std.proofs.Common.{◌≡◌, ◌+◌, ◌-◌, ◌<◌, ◌≤◌, ◌++◌, length, refl, ap, sym, ◌∙◌, arith, append-nil}
 use Rattle.std.proofs.lemmas.Option.{slice_get_read, slice_get-get_or}
 use Rattle.rb_core.specs.declared.types.Ty.TheVariants.{Int}
 use Rattle.rb_coding.specs.inner.Opening.{words_of}
@@ -34,3 +34,12 @@ plan_fields-loop-i-preserved t c =
     (slice_get_read ps (length ps) i c.index-pats-i.result refl in_ps c.index-pats-i.is) (slice_get-get_or ts i (Int 0) in_ts)
     c.args.todo.now.items c.loop-i.todo.items c.plan.new.todo.items c.loop-i.invariant
     (rw (c.as_slice.ensures, c.in_ok-field.ensures) at c.in_ok-plan.ensures)
+
+pub plan_fields-below-requires : goal.plan_fields-below-requires
+plan_fields-below-requires t c =
+    let most = c.requires.types in
+    let few : c.if-pats-tys.count ≤ length c.args.tys.now = elim c.if-pats-tys.branch [
+      | plan_fields-then-pats-tys w ↦ omega (arith, w.count-is, w.if-pats-tys.true)
+      | plan_fields-else-pats-tys w ↦ omega (arith, w.count-is)
+    ] in
+    omega (arith, c.loop-i-test.true, c.loop-i.auto.i, few, most)

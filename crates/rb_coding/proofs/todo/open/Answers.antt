@@ -1,9 +1,11 @@
-use Rattle.std.proofs.Common.{◌≡◌, length, Some, refl, sym, ap, ◌∙◌}
+use Rattle.std.proofs.Common.{◌≡◌, length, Some, refl, sym, subst, ap, ◌∙◌}
 use Rattle.std.specs.Prelude.{slice_get}
 use Rattle.std.specs.Option.{option_copied}
 use Rattle.std.proofs.lemmas.Option.{slice_get_read}
 use Rattle.rb_core.specs.TypedPrograms.{IsTyped}
 use Rattle.rb_layout.specs.Flattening.{flat_layouts}
+use Rattle.rb_coding.specs.inner.Opening.{HaveFewFields}
+use Rattle.rb_coding.proofs.FewFields.{few_fields}
 use Rattle.rb_coding.proofs.OpenLemmas.{on_ok, some_leaf, leaf_there, loadable, planned}
 use Rattle.rb_coding.proofs.todo.open.Goals as goal
 
@@ -54,3 +56,10 @@ returns g c =
     on_ok c.plan.result _ _ (planned p typed c.layouts-layouts.ensures.agree m c.requires.good c.args.ty c.args.words.now c.in-Some.layout.now is_layout c.leaf_number.result c.leaf_number.ensures c.in-Some-get.leaf.now is_number
     c.as_slice-types.result.now ls (c.as_slice-types.ensures ∙ ap (λ q. q.types) (c.program.ensures.same ∙ ap (λ k. k.program) c.covered.ensures.same)) (c.layouts-layouts.ensures.same ∙ c.layouts-layouts.ensures.flat)
     c.as_slice.result.now (rw (sym c.as_slice.ensures) at c.in_ok-loaded.ensures) c.args.todo.now.items c.plan.new.todo.items) c.plan.ensures
+
+pub plan-requires : goal.plan-requires
+plan-requires g c =
+    let p = c.args.agreed.now.covered.program in
+    let typed : IsTyped p = rw c.covered.ensures.same at c.program.ensures.typed in
+    let types : c.as_slice-types.result.now ≡ p.types = c.as_slice-types.ensures ∙ ap (λ q. q.types) (c.program.ensures.same ∙ ap (λ k. k.program) c.covered.ensures.same) in
+    record { few = subst HaveFewFields (sym types) (few_fields p.types typed.numbered.types) }
