@@ -1,13 +1,17 @@
 -- What is known follows, is shared, and holds behind each edge to a node.
-use Rattle.std.proofs.Common.{◌≡◌, ℕ, ◌+◌, ◌<◌, ◌≤◌, ◌⊎◌, inl, inr, List, [], ◌∷◌, ◌++◌, take, length, get_or, Option, Some, refl, sym, subst, ap, ◌∙◌, arith, zero, suc}
-use Rattle.std.specs.Prelude.{slice_get}
+use Rattle.std.proofs.Common.{◌≡◌, ℕ, ◌+◌, ◌<◌, ◌≤◌, ◌⊎◌, inl, inr, Bool, true, false, List, [], ◌∷◌, ◌++◌, take, length, get_or, Option, Some, refl, sym, subst, ap, ◌∙◌, arith, zero, suc}
+use Rattle.std.specs.Prelude.{slice_get, if◌then◌else◌}
 use Rattle.std.proofs.lemmas.Option.{same_Some}
+use Rattle.rb_core.specs.declared.value.Value.{Value}
 use Rattle.rb_core.specs.Values.{part_at}
 use Rattle.rb_layout.specs.Positions.{layout_of}
+use Rattle.rb_decide.specs.declared.decision_graph.GraphNode.{GraphNode}
 use Rattle.rb_decide.proofs.Moving.{take-next}
 use Rattle.rb_match.specs.declared.knowledge.Known.{Known}
 use Rattle.rb_match.specs.declared.knowledge.Edge.{Edge}
+use Rattle.rb_fragment.specs.Plan.{Plan}
 use Rattle.rb_match.specs.inner.Knowing.{IsKnown, AreKnown, FollowsLeaf, SharesKnown, IsMet, IsCommon}
+use Rattle.rb_match.specs.inner.Asking.{is_test, carried}
 
 -- an item of a list with one more
 pub snoc-at : {A : Type 0} (xs : List A) (x y : A) (i : ℕ) → slice_get (xs ++ x ∷ []) i ≡ Some y → (slice_get xs i ≡ Some y) ⊎ (x ≡ y)
@@ -42,6 +46,14 @@ common-next edges i x node found r lt is c m = λ plan v e at leaf all.
       | inl k ↦ inl (c plan v e (at.0, k) leaf all)
       | inr same ↦ inr (ap (λ (y : Edge). y.hole.leaf) same ∙ leaf, subst (λ (y : Edge). AreKnown plan v y.known) (sym same) all)
     ])
+
+-- what an edge carries is so, too
+pub carried_known : (nodes : List GraphNode) (node : ℕ) (plan : Plan) (v : Value) (known : List Known) → AreKnown plan v known → AreKnown plan v (carried nodes node known)
+carried_known nodes node plan v known all = go (is_test (slice_get nodes node))
+  where
+    go : (u : Bool) → AreKnown plan v (if u then known else [])
+    go true = all
+    go false = λ i x at. absurd cc
 
 -- a list of one item
 pub only-one : {A : Type 0} (xs : List A) (x : A) → 1 ≤ length xs → length xs < 2 → x ≡ get_or xs 0 x → xs ≡ x ∷ []

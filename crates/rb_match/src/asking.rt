@@ -1,16 +1,16 @@
 //! Code of one test: from the words of a value to the edges of its arms.
 
-ghost use Rattle.std.specs.Prelude.{◌≡◌, ◌∷◌, ◌++◌, ◌<◌, ◌^◌, [], IfOk, OnOk, true};
+ghost use Rattle.std.specs.Prelude.{◌≡◌, ◌∷◌, ◌++◌, ◌<◌, ◌^◌, [], IfOk, OnOk, true, slice_get};
 ghost use Rattle.rb_core.specs.declared.value.Value.TheOpen as Layers;
 ghost use Rattle.rb_target.specs.Growth.{Grows};
-ghost use Rattle.rb_match.specs.inner.Asking.{number_arm, number_arms, is_number, are_numbers, open_else_of, edge_at, arm_edges, else_edges, leaf_con, take_link, edge_for, leaf_edges_of, has_con, have_cons, StandOpen, AsksNumber, AsksLeaf, Asks};
+ghost use Rattle.rb_match.specs.inner.Asking.{number_arm, number_arms, is_number, are_numbers, open_else_of, is_test, carried, edge_at, edge_in, arm_edges, else_edges, leaf_con, take_link, edge_for, leaf_edges_of, has_con, have_cons, StandOpen, AsksNumber, AsksLeaf, Asks};
 
 use crate::knowledge::{Edge, Known, copy_known, with_known};
 use crate::place::{is_looked_at, place_of};
 use rb_core::pattern::Pat;
 use rb_core::seq::Seq;
 use rb_core::types::Ty;
-use rb_decide::decision_graph::GraphArm;
+use rb_decide::decision_graph::{GraphArm, GraphNode};
 use rb_fetch::look::find_leaf_of;
 use rb_fragment::make::make;
 use rb_fragment::reads::Read;
@@ -61,6 +61,16 @@ fn open_else(other: Option<u32>, next: usize) -> Option<usize>
     }
 }
 
+// Whether a node asks for more.
+fn is_test_at(nodes: &[GraphNode], node: u32) -> bool
+    ensures { result ≡ is_test (slice_get nodes.now node) }
+{
+    match nodes.get(node as usize) {
+        Some(GraphNode::Test(_, _, _)) => true,
+        None | Some(GraphNode::Clause(_)) => false,
+    }
+}
+
 /// A way out at an instruction, to a node.
 pub fn edge(
     alloc: Global,
@@ -82,18 +92,35 @@ pub fn edge(
     })
 }
 
+// The same to a node of a graph: an edge to a clause, of which there are many, carries no facts.
+fn edge_within(
+    alloc: Global,
+    nodes: &[GraphNode],
+    pc: usize,
+    arm: Option<usize>,
+    node: u32,
+    known: &[Known],
+) -> Result<Edge, AllocError>
+    ensures { IfOk result (λ e. e ≡ edge_in nodes.now pc arm node known.now) }
+{
+    let known = if is_test_at(nodes, node) { known } else { &[] };
+    let found = edge(alloc, pc, arm, node, known)?;
+    Ok(found)
+}
+
 // The edges of a switch's arms.
 fn edges_of_arms(
     alloc: Global,
+    nodes: &[GraphNode],
     pc: usize,
     known: &[Known],
     arms: &[GraphArm],
 ) -> Result<Seq<Edge>, AllocError>
-    ensures { IfOk result (λ edges. edges ≡ arm_edges pc known.now arms.now 0) }
+    ensures { IfOk result (λ edges. edges ≡ arm_edges nodes.now pc known.now arms.now 0) }
 {
     let mut edges = Seq::new(alloc);
     for (k, arm) in arms.iter().enumerate() {
-        edges.push(edge(alloc, pc, Some(k), arm.under, known)?)?;
+        edges.push(edge_within(alloc, nodes, pc, Some(k), arm.under, known)?)?;
     }
     Ok(edges)
 }
@@ -101,18 +128,19 @@ fn edges_of_arms(
 // The edges of a switch.
 fn edges_of_switch(
     alloc: Global,
+    nodes: &[GraphNode],
     pc: usize,
     known: &[Known],
     arms: &[GraphArm],
     other: Option<u32>,
 ) -> Result<Seq<Edge>, AllocError>
-    ensures { IfOk result (λ edges. edges ≡ arm_edges pc known.now arms.now 0 ++ else_edges pc known.now other) }
+    ensures { IfOk result (λ edges. edges ≡ arm_edges nodes.now pc known.now arms.now 0 ++ else_edges nodes.now pc known.now other) }
 {
-    let mut edges = edges_of_arms(alloc, pc, known, arms)?;
+    let mut edges = edges_of_arms(alloc, nodes, pc, known, arms)?;
     match other {
         None => Ok(edges),
         Some(link) => {
-            edges.push(edge(alloc, pc, None, link, known)?)?;
+            edges.push(edge_within(alloc, nodes, pc, None, link, known)?)?;
             Ok(edges)
         }
     }
@@ -122,6 +150,7 @@ fn edges_of_switch(
 fn ask_number(
     alloc: Global,
     body: &mut Body,
+    nodes: &[GraphNode],
     reads: &[Read],
     known: &[Known],
     arms: &[GraphArm],
@@ -138,7 +167,7 @@ fn ask_number(
     let pc = body.len();
     let ways = switch_arms(alloc, arms, pc + 1)?;
     body.push(Instr::Switch(slot, open_else(other, pc + 1), ways))?;
-    let edges = edges_of_switch(alloc, pc, known, arms, other)?;
+    let edges = edges_of_switch(alloc, nodes, pc, known, arms, other)?;
     Ok(edges)
 }
 
@@ -175,10 +204,31 @@ fn link_of(arms: &[GraphArm], other: Option<u32>, con: u32) -> Option<u32>
     other
 }
 
+// What an edge carries behind a look that found a leaf.
+fn known_within(
+    alloc: Global,
+    nodes: &[GraphNode],
+    node: u32,
+    known: &[Known],
+    position: &Seq<u32>,
+    ty: u32,
+    leaf: usize,
+) -> Result<Seq<Known>, AllocError>
+    ensures { IfOk result (λ k. k ≡ carried nodes.now node (known.now ++ record { position = position.now; ty = ty; leaf = leaf } ∷ [])) }
+{
+    if is_test_at(nodes, node) {
+        let more = with_known(alloc, known, position, ty, leaf)?;
+        Ok(more)
+    } else {
+        Ok(Seq::new(alloc))
+    }
+}
+
 // The edge of a leaf; a leaf of a constructor that can't be here has none.
 fn leaf_edge(
     alloc: Global,
     agreed: &Agreed,
+    nodes: &[GraphNode],
     ty: u32,
     hole: &Hole,
     known: &[Known],
@@ -186,7 +236,7 @@ fn leaf_edge(
     arms: &[GraphArm],
     other: Option<u32>,
 ) -> Result<Option<Edge>, AllocError>
-    ensures edge { IfOk result (λ e. e ≡ edge_for agreed.now ty position.now known.now arms.now other hole.now) }
+    ensures edge { IfOk result (λ e. e ≡ edge_for agreed.now nodes.now ty position.now known.now arms.now other hole.now) }
     ensures con { IfOk result (λ e. has_con agreed.now ty hole.now ≡ true) }
 {
     let Some(con) = con_of(agreed, ty, hole.leaf) else {
@@ -195,7 +245,7 @@ fn leaf_edge(
     let Some(node) = link_of(arms, other, con) else {
         return Ok(None);
     };
-    let known = with_known(alloc, known, position, ty, hole.leaf)?;
+    let known = known_within(alloc, nodes, node, known, position, ty, hole.leaf)?;
     Ok(Some(Edge {
         hole: Hole {
             pc: hole.pc,
@@ -210,6 +260,7 @@ fn leaf_edge(
 fn edges_of_leaves(
     alloc: Global,
     agreed: &Agreed,
+    nodes: &[GraphNode],
     ty: u32,
     holes: &[Hole],
     known: &[Known],
@@ -217,12 +268,12 @@ fn edges_of_leaves(
     arms: &[GraphArm],
     other: Option<u32>,
 ) -> Result<Seq<Edge>, AllocError>
-    ensures edges { IfOk result (λ edges. edges ≡ leaf_edges_of agreed.now ty position.now known.now arms.now other holes.now) }
+    ensures edges { IfOk result (λ edges. edges ≡ leaf_edges_of agreed.now nodes.now ty position.now known.now arms.now other holes.now) }
     ensures cons { IfOk result (λ edges. have_cons agreed.now ty holes.now ≡ true) }
 {
     let mut edges = Seq::new(alloc);
     for hole in holes {
-        if let Some(found) = leaf_edge(alloc, agreed, ty, hole, known, position, arms, other)? {
+        if let Some(found) = leaf_edge(alloc, agreed, nodes, ty, hole, known, position, arms, other)? {
             edges.push(found)?;
         }
     }
@@ -234,6 +285,7 @@ fn ask_leaf(
     alloc: Global,
     body: &mut Body,
     agreed: &Agreed,
+    nodes: &[GraphNode],
     ty: u32,
     reads: &[Read],
     known: &[Known],
@@ -249,6 +301,7 @@ fn ask_leaf(
     let edges = edges_of_leaves(
         alloc,
         agreed,
+        nodes,
         ty,
         holes.as_slice(),
         known,
@@ -262,7 +315,8 @@ fn ask_leaf(
 // Tests -----------------------------------------------------------------------------------------
 
 /// Code of a test at a position of a value of a type: it leaves by an edge to the node of the arm that is
-/// taken. A position that no pattern looks at is never tested.
+/// taken, which carries what is known there only where that node tests, too. A position that no pattern
+/// looks at is never tested.
 pub fn ask(
     alloc: Global,
     body: &mut Body,
@@ -270,6 +324,7 @@ pub fn ask(
     ty: Ty,
     words: &[Read],
     pats: &[Pat],
+    nodes: &[GraphNode],
     known: &[Known],
     position: &Seq<u32>,
     arms: &[GraphArm],
@@ -287,11 +342,11 @@ pub fn ask(
     let reads = place.reads.as_slice();
     match place.ty {
         Ty::Int(_) => {
-            let edges = ask_number(alloc, body, reads, known, arms, other)?;
+            let edges = ask_number(alloc, body, nodes, reads, known, arms, other)?;
             Ok(edges)
         }
         Ty::Named(t) => {
-            let edges = ask_leaf(alloc, body, agreed, t, reads, known, position, arms, other)?;
+            let edges = ask_leaf(alloc, body, agreed, nodes, t, reads, known, position, arms, other)?;
             Ok(edges)
         }
     }
