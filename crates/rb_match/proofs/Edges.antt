@@ -121,11 +121,11 @@ module _ (n : ℕ) where
   -- what is kept where the node's edges are left out
   pub others_kept : (es : List Edge) → filter (λ (e : Edge). not (e.hole.leaf == n)) es ≡ others_of n es
   others_kept [] = refl
-  others_kept (x ∷ es) = go (x.hole.leaf == n)
+  others_kept (x ∷ es) = go (others_kept es) (x.hole.leaf == n)
     where
-      go : (u : Bool) → cond (not u) (x ∷ filter (λ (e : Edge). not (e.hole.leaf == n)) es) (filter (λ (e : Edge). not (e.hole.leaf == n)) es) ≡ (if u then others_of n es else x ∷ others_of n es)
-      go true = others_kept es
-      go false = ap (λ l. x ∷ l) (others_kept es)
+      go : filter (λ (e : Edge). not (e.hole.leaf == n)) es ≡ others_of n es → (u : Bool) → cond (not u) (x ∷ filter (λ (e : Edge). not (e.hole.leaf == n)) es) (filter (λ (e : Edge). not (e.hole.leaf == n)) es) ≡ (if u then others_of n es else x ∷ others_of n es)
+      go rest true = rest
+      go rest false = ap (λ l. x ∷ l) rest
 
 -- lists from each of their holes
 pub all_holes_from : (code : List Instr) (hs : List Hole) → ((h : Hole) → IsIn h hs → IsHole code h) → AreAllHoles code hs

@@ -1,4 +1,5 @@
 -- A test of a value of a data type: its leaf is found, and leads to the node of its constructor.
+use denote.Ref.{Bor}
 use Rattle.std.proofs.Common.{◌≡◌, ℕ, zero, suc, ◌+◌, ◌*◌, ◌≤◌, ◌==◌, inl, inr, Bool, true, false, List, [], ◌∷◌, ◌++◌, map, length, Option, Some, None, refl, sym, subst, ap, ◌∙◌, arith}
 use Rattle.std.specs.Prelude.{if◌then◌else◌, ◌&&◌, is_some}
 use Rattle.std.specs.List.{list_all}
@@ -79,7 +80,7 @@ look_deep plan t = go (list_all is_shallow (leaves_in (layout_of plan.layouts t)
     go true = omega arith
     go false = omega arith
 
-module _ (agreed : LaidOut) (nodes : List GraphNode) (t : ℕ) (position : List ℕ) (known : List Known) (arms : List GraphArm) (other : Option ℕ) where
+module _ (agreed : LaidOut) (nodes : List GraphNode) (t : ℕ) (position : Bor (List ℕ)) (known : List Known) (arms : List GraphArm) (other : Option ℕ) where
   abbrev fact : ℕ → Known
   fact l = record { position = position; ty = t; leaf = l }
 
@@ -153,7 +154,7 @@ module _ (agreed : LaidOut) (nodes : List GraphNode) (t : ℕ) (position : List 
         ap (λ (y : Edge). y.hole.leaf) a.4 ∙ node ∙ sym (ap (λ (y : Edge). y.hole.leaf) b.4);
   }
 
-  pub asks_leaf : (reads : List Read) (old new : Sheet) (holes : List Hole) → FindsLeafOf agreed t reads old new holes → have_cons agreed t holes ≡ true → AsksLeaf agreed t reads known position arms other old new (leaf_edges holes)
+  pub asks_leaf : (reads : List Read) (old new : Sheet) (holes : List Hole) → FindsLeafOf agreed t reads old new holes → have_cons agreed t holes ≡ true → AsksLeaf agreed t reads known position.now arms other old new (leaf_edges holes)
   asks_leaf reads old new holes finds cons = λ plan of fit count.
       let br = finds plan of fit count in
       record {

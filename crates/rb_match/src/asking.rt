@@ -72,13 +72,13 @@ fn is_test_at(nodes: &[GraphNode], node: u32) -> bool
 }
 
 /// A way out at an instruction, to a node.
-pub fn edge(
+pub fn edge<'a>(
     alloc: Global,
     pc: usize,
     arm: Option<usize>,
     node: u32,
-    known: &[Known],
-) -> Result<Edge, AllocError>
+    known: &[Known<'a>],
+) -> Result<Edge<'a>, AllocError>
     ensures { IfOk result (λ e. e ≡ edge_at pc arm node known.now) }
 {
     let known = copy_known(alloc, known)?;
@@ -93,29 +93,33 @@ pub fn edge(
 }
 
 // The same to a node of a graph: an edge to a clause, of which there are many, carries no facts.
-fn edge_within(
+fn edge_within<'a>(
     alloc: Global,
     nodes: &[GraphNode],
     pc: usize,
     arm: Option<usize>,
     node: u32,
-    known: &[Known],
-) -> Result<Edge, AllocError>
+    known: &[Known<'a>],
+) -> Result<Edge<'a>, AllocError>
     ensures { IfOk result (λ e. e ≡ edge_in nodes.now pc arm node known.now) }
 {
-    let known = if is_test_at(nodes, node) { known } else { &[] };
-    let found = edge(alloc, pc, arm, node, known)?;
-    Ok(found)
+    if is_test_at(nodes, node) {
+        let found = edge(alloc, pc, arm, node, known)?;
+        Ok(found)
+    } else {
+        let found = edge(alloc, pc, arm, node, &[])?;
+        Ok(found)
+    }
 }
 
 // The edges of a switch's arms.
-fn edges_of_arms(
+fn edges_of_arms<'a>(
     alloc: Global,
     nodes: &[GraphNode],
     pc: usize,
-    known: &[Known],
+    known: &[Known<'a>],
     arms: &[GraphArm],
-) -> Result<Seq<Edge>, AllocError>
+) -> Result<Seq<Edge<'a>>, AllocError>
     ensures { IfOk result (λ edges. edges ≡ arm_edges nodes.now pc known.now arms.now 0) }
 {
     let mut edges = Seq::new(alloc);
@@ -126,14 +130,14 @@ fn edges_of_arms(
 }
 
 // The edges of a switch.
-fn edges_of_switch(
+fn edges_of_switch<'a>(
     alloc: Global,
     nodes: &[GraphNode],
     pc: usize,
-    known: &[Known],
+    known: &[Known<'a>],
     arms: &[GraphArm],
     other: Option<u32>,
-) -> Result<Seq<Edge>, AllocError>
+) -> Result<Seq<Edge<'a>>, AllocError>
     ensures { IfOk result (λ edges. edges ≡ arm_edges nodes.now pc known.now arms.now 0 ++ else_edges nodes.now pc known.now other) }
 {
     let mut edges = edges_of_arms(alloc, nodes, pc, known, arms)?;
@@ -147,15 +151,15 @@ fn edges_of_switch(
 }
 
 // One switch over all numbers.
-fn ask_number(
+fn ask_number<'a>(
     alloc: Global,
     body: &mut Body,
     nodes: &[GraphNode],
     reads: &[Read],
-    known: &[Known],
+    known: &[Known<'a>],
     arms: &[GraphArm],
     other: Option<u32>,
-) -> Result<Seq<Edge>, AllocError>
+) -> Result<Seq<Edge<'a>>, AllocError>
     ensures asks { IfOk result (λ edges. AsksNumber reads.now known.now arms.now other body.old body.new edges) }
     ensures stand { IfOk result (λ edges. StandOpen body.old body.new edges) }
     ensures grows { OnOk result (Grows body.old.code body.new.code) }
@@ -205,16 +209,16 @@ fn link_of(arms: &[GraphArm], other: Option<u32>, con: u32) -> Option<u32>
 }
 
 // What an edge carries behind a look that found a leaf.
-fn known_within(
+fn known_within<'a>(
     alloc: Global,
     nodes: &[GraphNode],
     node: u32,
-    known: &[Known],
-    position: &Seq<u32>,
+    known: &[Known<'a>],
+    position: &'a [u32],
     ty: u32,
     leaf: usize,
-) -> Result<Seq<Known>, AllocError>
-    ensures { IfOk result (λ k. k ≡ carried nodes.now node (known.now ++ record { position = position.now; ty = ty; leaf = leaf } ∷ [])) }
+) -> Result<Seq<Known<'a>>, AllocError>
+    ensures { IfOk result (λ k. k ≡ carried nodes.now node (known.now ++ record { position = position.entry; ty = ty; leaf = leaf } ∷ [])) }
 {
     if is_test_at(nodes, node) {
         let more = with_known(alloc, known, position, ty, leaf)?;
@@ -225,18 +229,18 @@ fn known_within(
 }
 
 // The edge of a leaf; a leaf of a constructor that can't be here has none.
-fn leaf_edge(
+fn leaf_edge<'a>(
     alloc: Global,
     agreed: &Agreed,
     nodes: &[GraphNode],
     ty: u32,
     hole: &Hole,
-    known: &[Known],
-    position: &Seq<u32>,
+    known: &[Known<'a>],
+    position: &'a [u32],
     arms: &[GraphArm],
     other: Option<u32>,
-) -> Result<Option<Edge>, AllocError>
-    ensures edge { IfOk result (λ e. e ≡ edge_for agreed.now nodes.now ty position.now known.now arms.now other hole.now) }
+) -> Result<Option<Edge<'a>>, AllocError>
+    ensures edge { IfOk result (λ e. e ≡ edge_for agreed.now nodes.now ty position.entry known.now arms.now other hole.now) }
     ensures con { IfOk result (λ e. has_con agreed.now ty hole.now ≡ true) }
 {
     let Some(con) = con_of(agreed, ty, hole.leaf) else {
@@ -257,23 +261,25 @@ fn leaf_edge(
 }
 
 // The edges of leaves.
-fn edges_of_leaves(
+fn edges_of_leaves<'a>(
     alloc: Global,
     agreed: &Agreed,
     nodes: &[GraphNode],
     ty: u32,
     holes: &[Hole],
-    known: &[Known],
-    position: &Seq<u32>,
+    known: &[Known<'a>],
+    position: &&'a [u32],
     arms: &[GraphArm],
     other: Option<u32>,
-) -> Result<Seq<Edge>, AllocError>
+) -> Result<Seq<Edge<'a>>, AllocError>
     ensures edges { IfOk result (λ edges. edges ≡ leaf_edges_of agreed.now nodes.now ty position.now known.now arms.now other holes.now) }
     ensures cons { IfOk result (λ edges. have_cons agreed.now ty holes.now ≡ true) }
 {
     let mut edges = Seq::new(alloc);
     for hole in holes {
-        if let Some(found) = leaf_edge(alloc, agreed, nodes, ty, hole, known, position, arms, other)? {
+        if let Some(found) = leaf_edge(
+            alloc, agreed, nodes, ty, hole, known, *position, arms, other,
+        )? {
             edges.push(found)?;
         }
     }
@@ -281,18 +287,18 @@ fn edges_of_leaves(
 }
 
 // The leaf of the value there decides.
-fn ask_leaf(
+fn ask_leaf<'a>(
     alloc: Global,
     body: &mut Body,
     agreed: &Agreed,
     nodes: &[GraphNode],
     ty: u32,
     reads: &[Read],
-    known: &[Known],
-    position: &Seq<u32>,
+    known: &[Known<'a>],
+    position: &'a [u32],
     arms: &[GraphArm],
     other: Option<u32>,
-) -> Result<Seq<Edge>, AllocError>
+) -> Result<Seq<Edge<'a>>, AllocError>
     ensures asks { IfOk result (λ edges. AsksLeaf agreed.now ty reads.now known.now position.now arms.now other body.old body.new edges) }
     ensures stand { IfOk result (λ edges. StandOpen body.old body.new edges) }
     ensures grows { OnOk result (Grows body.old.code body.new.code) }
@@ -305,7 +311,7 @@ fn ask_leaf(
         ty,
         holes.as_slice(),
         known,
-        position,
+        &position,
         arms,
         other,
     )?;
@@ -317,7 +323,7 @@ fn ask_leaf(
 /// Code of a test at a position of a value of a type: it leaves by an edge to the node of the arm that is
 /// taken, which carries what is known there only where that node tests, too. A position that no pattern
 /// looks at is never tested.
-pub fn ask(
+pub fn ask<'a>(
     alloc: Global,
     body: &mut Body,
     agreed: &Agreed,
@@ -325,18 +331,18 @@ pub fn ask(
     words: &[Read],
     pats: &[Pat],
     nodes: &[GraphNode],
-    known: &[Known],
-    position: &Seq<u32>,
+    known: &[Known<'a>],
+    position: &'a [u32],
     arms: &[GraphArm],
     other: Option<u32>,
-) -> Result<Seq<Edge>, AllocError>
+) -> Result<Seq<Edge<'a>>, AllocError>
     ensures asks { IfOk result (λ edges. Asks agreed.now ty words.now pats.now known.now position.now arms.now other body.old body.new edges) }
     ensures stand { IfOk result (λ edges. StandOpen body.old body.new edges) }
     ensures grows { OnOk result (Grows body.old.code body.new.code) }
 {
-    let place = place_of(alloc, agreed, ty, words, known, position.as_slice())?;
+    let place = place_of(alloc, agreed, ty, words, known, position)?;
     let types = agreed.covered().program().types.as_slice();
-    if !is_looked_at(types, ty, pats, position.as_slice(), place.ty) {
+    if !is_looked_at(types, ty, pats, position, place.ty) {
         return Err(AllocError);
     }
     let reads = place.reads.as_slice();
@@ -346,7 +352,9 @@ pub fn ask(
             Ok(edges)
         }
         Ty::Named(t) => {
-            let edges = ask_leaf(alloc, body, agreed, nodes, t, reads, known, position, arms, other)?;
+            let edges = ask_leaf(
+                alloc, body, agreed, nodes, t, reads, known, position, arms, other,
+            )?;
             Ok(edges)
         }
     }

@@ -37,8 +37,8 @@ fn landing(alloc: Global, edges: &[Edge], node: usize) -> Result<Seq<Hole>, Allo
 }
 
 // The edges that lead elsewhere, in their order. They move, since there may be as many as nodes.
-fn others(edges: Seq<Edge>, node: usize) -> Seq<Edge>
-    ensures { result ≡ others_of node edges }
+fn others<'a>(edges: Seq<Edge<'a>>, node: usize) -> Seq<Edge<'a>>
+    ensures { result ≡ others_of node edges.entry }
 {
     let mut rest = edges.into_vec();
     rest.retain(|edge| edge.hole.leaf != node);
@@ -46,15 +46,15 @@ fn others(edges: Seq<Edge>, node: usize) -> Seq<Edge>
 }
 
 // Sets the targets of a node's edges to the end of the code.
-fn land(
+fn land<'a>(
     alloc: Global,
     body: &mut Body,
-    edges: Seq<Edge>,
+    edges: Seq<Edge<'a>>,
     node: usize,
-) -> Result<Seq<Edge>, AllocError>
+) -> Result<Seq<Edge<'a>>, AllocError>
     requires { AreOpen 0 body.old.code edges }
-    ensures code { OnOk result (body.new ≡ closed body.old (landing_of node edges) (length body.old.code ∷ [])) }
-    ensures rest { IfOk result (λ rest. rest ≡ others_of node edges) }
+    ensures code { OnOk result (body.new ≡ closed body.old (landing_of node edges.entry) (length body.old.code ∷ [])) }
+    ensures rest { IfOk result (λ rest. rest ≡ others_of node edges.entry) }
 {
     let mut targets = Seq::new(alloc);
     targets.push(body.len())?;
@@ -64,7 +64,7 @@ fn land(
 }
 
 // The code of a node to which edges lead. A clause has none, and keeps its edges.
-fn emit_node(
+fn emit_node<'a>(
     alloc: Global,
     body: &mut Body,
     agreed: &Agreed,
@@ -72,12 +72,12 @@ fn emit_node(
     words: &[Read],
     pats: &[Pat],
     nodes: &[GraphNode],
-    node: &GraphNode,
+    node: &'a GraphNode,
     number: usize,
-    edges: Seq<Edge>,
-) -> Result<Seq<Edge>, AllocError>
+    edges: Seq<Edge<'a>>,
+) -> Result<Seq<Edge<'a>>, AllocError>
     requires { AreOpen 0 body.old.code edges }
-    ensures { IfOk result (λ more. StepsNode agreed.now ty words.now pats.now node.now number body.old edges body.new more) }
+    ensures { IfOk result (λ more. StepsNode agreed.now ty words.now pats.now node.now number body.old edges.entry body.new more) }
 {
     match node {
         GraphNode::Clause(_) => Ok(edges),
@@ -86,6 +86,7 @@ fn emit_node(
                 return Ok(edges);
             };
             let known = known.as_slice();
+            let position = position.as_slice();
             let arms = arms.as_slice();
             let mut rest = land(alloc, body, edges, number)?;
             let asked = ask(
@@ -100,16 +101,16 @@ fn emit_node(
 }
 
 // The edge to the root: a root that tests needs none, since its code comes first.
-fn begin(
+fn begin<'a>(
     alloc: Global,
     body: &mut Body,
     agreed: &Agreed,
     ty: Ty,
     words: &[Read],
     pats: &[Pat],
-    nodes: &[GraphNode],
+    nodes: &'a [GraphNode],
     root: u32,
-) -> Result<Seq<Edge>, AllocError>
+) -> Result<Seq<Edge<'a>>, AllocError>
     ensures { IfOk result (λ edges. Begins agreed.now ty words.now pats.now nodes.now root body.old body.new edges) }
 {
     let Some(node) = nodes.get(root as usize) else {
@@ -117,6 +118,7 @@ fn begin(
     };
     match node {
         GraphNode::Test(position, arms, other) => {
+            let position = position.as_slice();
             let arms = arms.as_slice();
             let edges = ask(
                 alloc,
@@ -202,7 +204,9 @@ pub fn emit_graph(
     for i in 0..count {
         let number = count - 1 - i;
         let node = &nodes[number];
-        edges = emit_node(alloc, body, agreed, ty, words, pats, nodes, node, number, edges)?;
+        edges = emit_node(
+            alloc, body, agreed, ty, words, pats, nodes, node, number, edges,
+        )?;
     }
     let holes = clause_holes(alloc, nodes, edges.as_slice(), pats.len())?;
     Ok(holes)

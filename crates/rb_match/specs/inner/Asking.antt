@@ -1,4 +1,5 @@
 -- The code of one test.
+use denote.Ref.{Bor}
 use Rattle.std.specs.Prelude.{◌≡◌, ℕ, ◌+◌, ◌≤◌, ◌^◌, List, [], ◌∷◌, ◌++◌, map, length, Bool, true, false, ◌&&◌, nat_lt, is_some, Option, Some, None, slice_get, if◌then◌else◌}
 use Rattle.rb_core.specs.declared.value.Value.{Value, out-Value}
 use Rattle.rb_core.specs.declared.value.Value.TheOpen as V
@@ -121,12 +122,12 @@ abbrev pub link_at : List GraphArm → Option ℕ → Option ℕ → Option ℕ
 link_at arms other None = None
 link_at arms other (Some c) = take_link arms other (V.Con c [])
 
-abbrev pub edge_to : List GraphNode → Hole → List ℕ → ℕ → List Known → Option ℕ → Option Edge
+abbrev pub edge_to : List GraphNode → Hole → Bor (List ℕ) → ℕ → List Known → Option ℕ → Option Edge
 edge_to nodes h position t known None = None
 edge_to nodes h position t known (Some node) =
     Some (edge_in nodes h.pc h.arm node (known ++ record { position = position; ty = t; leaf = h.leaf } ∷ []))
 
-abbrev pub edge_for : LaidOut → List GraphNode → ℕ → List ℕ → List Known → List GraphArm → Option ℕ → Hole → Option Edge
+abbrev pub edge_for : LaidOut → List GraphNode → ℕ → Bor (List ℕ) → List Known → List GraphArm → Option ℕ → Hole → Option Edge
 edge_for agreed nodes t position known arms other h =
     edge_to nodes h position t known (link_at arms other (leaf_con agreed t h.leaf))
 
@@ -134,7 +135,7 @@ abbrev pub keep_edge : Option Edge → List Edge → List Edge
 keep_edge None es = es
 keep_edge (Some e) es = e ∷ es
 
-abbrev pub leaf_edges_of : LaidOut → List GraphNode → ℕ → List ℕ → List Known → List GraphArm → Option ℕ → List Hole → List Edge
+abbrev pub leaf_edges_of : LaidOut → List GraphNode → ℕ → Bor (List ℕ) → List Known → List GraphArm → Option ℕ → List Hole → List Edge
 leaf_edges_of agreed nodes t position known arms other [] = []
 leaf_edges_of agreed nodes t position known arms other (h ∷ hs) =
     keep_edge (edge_for agreed nodes t position known arms other h) (leaf_edges_of agreed nodes t position known arms other hs)
