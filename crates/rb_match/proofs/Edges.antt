@@ -1,5 +1,5 @@
 -- Lists of edges: their holes, those of a node and the others.
-use Rattle.std.proofs.Common.{◌≡◌, ℕ, zero, suc, ◌<◌, ◌≤◌, ◌==◌, ◌⊎◌, inl, inr, Bool, true, false, List, [], ◌∷◌, ◌++◌, length, Option, Some, refl, sym, subst, ap, ◌∙◌, arith}
+use Rattle.std.proofs.Common.{◌≡◌, ℕ, zero, suc, ◌<◌, ◌≤◌, ◌==◌, ◌⊎◌, inl, inr, Bool, true, false, cond, not, filter, List, [], ◌∷◌, ◌++◌, length, Option, Some, refl, sym, subst, ap, ◌∙◌, arith}
 use Rattle.std.specs.Prelude.{slice_get, slice_index, if◌then◌else◌}
 use Rattle.std.proofs.lemmas.Grind.{common_steps}
 use Rattle.std.proofs.lemmas.Option.{same_Some}
@@ -117,6 +117,15 @@ module _ (n : ℕ) where
       go more true t j = more j
       go more false t (zero, at) = ((0, at), λ is. other-nat x.hole.leaf n t (ap (λ (y : Edge). y.hole.leaf) (same_Some x e at) ∙ is))
       go more false t (suc k, at) = more (k, at)
+
+  -- what is kept where the node's edges are left out
+  pub others_kept : (es : List Edge) → filter (λ (e : Edge). not (e.hole.leaf == n)) es ≡ others_of n es
+  others_kept [] = refl
+  others_kept (x ∷ es) = go (others_kept es) (x.hole.leaf == n)
+    where
+      go : filter (λ (e : Edge). not (e.hole.leaf == n)) es ≡ others_of n es → (u : Bool) → cond (not u) (x ∷ filter (λ (e : Edge). not (e.hole.leaf == n)) es) (filter (λ (e : Edge). not (e.hole.leaf == n)) es) ≡ (if u then others_of n es else x ∷ others_of n es)
+      go rest true = rest
+      go rest false = ap (λ l. x ∷ l) rest
 
 -- lists from each of their holes
 pub all_holes_from : (code : List Instr) (hs : List Hole) → ((h : Hole) → IsIn h hs → IsHole code h) → AreAllHoles code hs

@@ -1,4 +1,5 @@
 -- A test of a value of a data type: its leaf is found, and leads to the node of its constructor.
+use denote.Ref.{Bor}
 use Rattle.std.proofs.Common.{◌≡◌, ℕ, zero, suc, ◌+◌, ◌*◌, ◌≤◌, ◌==◌, inl, inr, Bool, true, false, List, [], ◌∷◌, ◌++◌, map, length, Option, Some, None, refl, sym, subst, ap, ◌∙◌, arith}
 use Rattle.std.specs.Prelude.{if◌then◌else◌, ◌&&◌, is_some}
 use Rattle.std.specs.List.{list_all}
@@ -18,6 +19,7 @@ use Rattle.rb_matrix.specs.declared.matrix.Head.{Head}
 use Rattle.rb_matrix.specs.declared.matrix.Head.TheVariants as H
 use Rattle.rb_matrix.specs.Heads.{layer_begins}
 use Rattle.rb_decide.specs.declared.decision_graph.GraphArm.{GraphArm}
+use Rattle.rb_decide.specs.declared.decision_graph.GraphNode.{GraphNode}
 use Rattle.rb_target.specs.declared.instr.Instr.{Instr}
 use Rattle.rb_target.specs.declared.body.Hole.{Hole}
 use Rattle.rb_target.specs.Sheet.{Sheet, IsHole}
@@ -35,9 +37,9 @@ use Rattle.rb_fetch.specs.Finding.{FindsLeafOf}
 use Rattle.rb_match.specs.declared.knowledge.Known.{Known}
 use Rattle.rb_match.specs.declared.knowledge.Edge.{Edge}
 use Rattle.rb_match.specs.inner.Knowing.{IsEdge, IsKnown}
-use Rattle.rb_match.specs.inner.Asking.{take_link, con_of_layer, con_in, leaf_in, leaf_con, link_at, edge_at, edge_to, edge_for, keep_edge, leaf_edges_of, has_con, have_cons, StandOpen, AsksLeaf, holes_of}
+use Rattle.rb_match.specs.inner.Asking.{take_link, con_of_layer, con_in, leaf_in, leaf_con, link_at, edge_in, edge_to, edge_for, keep_edge, leaf_edges_of, has_con, have_cons, StandOpen, AsksLeaf, holes_of}
 use Rattle.rb_match.proofs.Edges.{same-nat, in_tail, open_edge}
-use Rattle.rb_match.proofs.Following.{snoc-at}
+use Rattle.rb_match.proofs.Following.{carried_known, snoc-at}
 
 both : (a b : Bool) → (a && b) ≡ true → (a ≡ true) × (b ≡ true)
 both true true e = (refl, refl)
@@ -78,32 +80,32 @@ look_deep plan t = go (list_all is_shallow (leaves_in (layout_of plan.layouts t)
     go true = omega arith
     go false = omega arith
 
-module _ (agreed : LaidOut) (t : ℕ) (position : List ℕ) (known : List Known) (arms : List GraphArm) (other : Option ℕ) where
+module _ (agreed : LaidOut) (nodes : List GraphNode) (t : ℕ) (position : Bor (List ℕ)) (known : List Known) (arms : List GraphArm) (other : Option ℕ) where
   abbrev fact : ℕ → Known
   fact l = record { position = position; ty = t; leaf = l }
 
   abbrev to : Hole → ℕ → Edge
-  to h node = edge_at h.pc h.arm node (known ++ fact h.leaf ∷ [])
+  to h node = edge_in nodes h.pc h.arm node (known ++ fact h.leaf ∷ [])
 
   abbrev pub leaf_edges : List Hole → List Edge
-  leaf_edges hs = leaf_edges_of agreed t position known arms other hs
+  leaf_edges hs = leaf_edges_of agreed nodes t position known arms other hs
 
   abbrev link : Hole → Option ℕ
   link h = link_at arms other (leaf_con agreed t h.leaf)
 
   -- the hole of an edge
-  view_to : (h : Hole) (o : Option ℕ) (e : Edge) → edge_to h position t known o ≡ Some e → (node : ℕ) × (o ≡ Some node) × (e ≡ to h node)
+  view_to : (h : Hole) (o : Option ℕ) (e : Edge) → edge_to nodes h position t known o ≡ Some e → (node : ℕ) × (o ≡ Some node) × (e ≡ to h node)
   view_to h None e is = absurd cc
   view_to h (Some node) e is = (node, refl, sym (same_Some _ e is))
 
   view : (hs : List Hole) (e : Edge) → IsEdge e (leaf_edges hs) → (h : Hole) × IsIn h hs × (node : ℕ) × (link h ≡ Some node) × (e ≡ to h node)
   view [] e (k, at) = absurd cc
-  view (h ∷ hs) e i = go (λ j. view hs e j) (edge_for agreed t position known arms other h) refl i
+  view (h ∷ hs) e i = go (λ j. view hs e j) (edge_for agreed nodes t position known arms other h) refl i
     where
       later : (x : Hole) × IsIn x hs × (node : ℕ) × (link x ≡ Some node) × (e ≡ to x node) → (x : Hole) × IsIn x (h ∷ hs) × (node : ℕ) × (link x ≡ Some node) × (e ≡ to x node)
       later r = (r.0, in_tail h hs r.0 r.1, r.2, r.3, r.4)
 
-      go : (IsEdge e (leaf_edges hs) → (x : Hole) × IsIn x hs × (node : ℕ) × (link x ≡ Some node) × (e ≡ to x node)) → (o : Option Edge) → edge_for agreed t position known arms other h ≡ o → IsEdge e (keep_edge o (leaf_edges hs))
+      go : (IsEdge e (leaf_edges hs) → (x : Hole) × IsIn x hs × (node : ℕ) × (link x ≡ Some node) × (e ≡ to x node)) → (o : Option Edge) → edge_for agreed nodes t position known arms other h ≡ o → IsEdge e (keep_edge o (leaf_edges hs))
           → (x : Hole) × IsIn x (h ∷ hs) × (node : ℕ) × (link x ≡ Some node) × (e ≡ to x node)
       go rest None is j = later (rest j)
       go rest (Some f) is (zero, at) = let r = view_to h (link h) e (is ∙ at) in (h, (0, refl), r.0, r.1, r.2)
@@ -114,9 +116,9 @@ module _ (agreed : LaidOut) (t : ℕ) (position : List ℕ) (known : List Known)
   edge_of [] h node (k, at) is = absurd cc
   edge_of (x ∷ hs) h node (zero, at) is =
       let same : x ≡ h = same_Some x h at in
-      let e : edge_for agreed t position known arms other x ≡ Some (to h node) = ap (edge_for agreed t position known arms other) same ∙ ap (edge_to h position t known) is in
+      let e : edge_for agreed nodes t position known arms other x ≡ Some (to h node) = ap (edge_for agreed nodes t position known arms other) same ∙ ap (edge_to nodes h position t known) is in
       subst (λ o. IsEdge (to h node) (keep_edge o (leaf_edges hs))) (sym e) (0, refl)
-  edge_of (x ∷ hs) h node (suc k, at) is = let r = edge_of hs h node (k, at) is in go (edge_for agreed t position known arms other x) r
+  edge_of (x ∷ hs) h node (suc k, at) is = let r = edge_of hs h node (k, at) is in go (edge_for agreed nodes t position known arms other x) r
     where
       go : (o : Option Edge) → IsEdge (to h node) (leaf_edges hs) → IsEdge (to h node) (keep_edge o (leaf_edges hs))
       go None r = r
@@ -152,7 +154,7 @@ module _ (agreed : LaidOut) (t : ℕ) (position : List ℕ) (known : List Known)
         ap (λ (y : Edge). y.hole.leaf) a.4 ∙ node ∙ sym (ap (λ (y : Edge). y.hole.leaf) b.4);
   }
 
-  pub asks_leaf : (reads : List Read) (old new : Sheet) (holes : List Hole) → FindsLeafOf agreed t reads old new holes → have_cons agreed t holes ≡ true → AsksLeaf agreed t reads known position arms other old new (leaf_edges holes)
+  pub asks_leaf : (reads : List Read) (old new : Sheet) (holes : List Hole) → FindsLeafOf agreed t reads old new holes → have_cons agreed t holes ≡ true → AsksLeaf agreed t reads known position.now arms other old new (leaf_edges holes)
   asks_leaf reads old new holes finds cons = λ plan of fit count.
       let br = finds plan of fit count in
       record {
@@ -181,9 +183,9 @@ module _ (agreed : LaidOut) (t : ℕ) (position : List ℕ) (known : List Known)
               runs = r.runs;
               keeps = r.keeps;
               later = record { memory = r.later.memory; left = r.later.left; switches = omega (arith, r.later.switches, deep) };
-              known = λ i x e. elim (snoc-at known (fact r.hole.leaf) x i e) [
+              known = carried_known nodes node plan v (known ++ fact r.hole.leaf ∷ []) (λ i x e. elim (snoc-at known (fact r.hole.leaf) x i e) [
                 | inl j ↦ all i x j
                 | inr is ↦ subst (IsKnown plan v) is (part, b.layout, at, b.is_layout, b.is_leaf ∙ ap Some (sym r.is_way))
-              ];
+              ]);
             };
       }

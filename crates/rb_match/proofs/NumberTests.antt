@@ -12,6 +12,7 @@ use Rattle.rb_matrix.specs.declared.matrix.Head.{Head}
 use Rattle.rb_matrix.specs.declared.matrix.Head.TheVariants as H
 use Rattle.rb_matrix.specs.Heads.{layer_begins}
 use Rattle.rb_decide.specs.declared.decision_graph.GraphArm.{GraphArm}
+use Rattle.rb_decide.specs.declared.decision_graph.GraphNode.{GraphNode}
 use Rattle.rb_bytes.specs.Memory.{Memory}
 use Rattle.rb_target.specs.declared.instr.SwitchArm.{SwitchArm}
 use Rattle.rb_target.specs.declared.instr.Instr.{Instr}
@@ -31,8 +32,9 @@ use Rattle.rb_fragment.proofs.Adding.{Adds-trans, push_adds}
 use Rattle.rb_match.specs.declared.knowledge.Known.{Known}
 use Rattle.rb_match.specs.declared.knowledge.Edge.{Edge}
 use Rattle.rb_match.specs.inner.Knowing.{IsEdge}
-use Rattle.rb_match.specs.inner.Asking.{take_link, number_of, is_number, are_numbers, number_arm, number_arms, open_else_of, edge_at, arm_edges, else_edges, StandOpen, AsksNumber}
+use Rattle.rb_match.specs.inner.Asking.{take_link, number_of, is_number, are_numbers, number_arm, number_arms, open_else_of, edge_in, arm_edges, else_edges, StandOpen, AsksNumber}
 use Rattle.rb_match.proofs.Edges.{edge_append, edge_left, edge_right, open_edge}
+use Rattle.rb_match.proofs.Following.{carried_known}
 
 both : (a b : Bool) → (a && b) ≡ true → (a ≡ true) × (b ≡ true)
 both true true e = (refl, refl)
@@ -50,7 +52,7 @@ head_step (H.Num m) under rest p x node num e = go (nat_eq m x) e
     go true h = inl (same_Some under node h, refl)
     go false h = inr (h, refl)
 
-module _ (read : Read) (known : List Known) (arms : List GraphArm) (other : Option ℕ) (old mid : Sheet) (slot : ℕ) where
+module _ (nodes : List GraphNode) (read : Read) (known : List Known) (arms : List GraphArm) (other : Option ℕ) (old mid : Sheet) (slot : ℕ) where
   abbrev pc : ℕ
   pc = length mid.code
 
@@ -64,42 +66,42 @@ module _ (read : Read) (known : List Known) (arms : List GraphArm) (other : Opti
   new = pushed mid switch
 
   abbrev pub edges : List Edge
-  edges = arm_edges pc known arms 0 ++ else_edges pc known other
+  edges = arm_edges nodes pc known arms 0 ++ else_edges nodes pc known other
 
   abbrev picked : List GraphArm → ℕ → Option ℕ
   picked ys x = pick (numbers (number_arms (pc + 1) ys)) x
 
   -- what an edge is
-  arm_view : (ys : List GraphArm) (j : ℕ) (e : Edge) → IsEdge e (arm_edges pc known ys j) → (k : ℕ) × (a : GraphArm) × (slice_get ys k ≡ Some a) × (e ≡ edge_at pc (Some (j + k)) a.under known)
+  arm_view : (ys : List GraphArm) (j : ℕ) (e : Edge) → IsEdge e (arm_edges nodes pc known ys j) → (k : ℕ) × (a : GraphArm) × (slice_get ys k ≡ Some a) × (e ≡ edge_in nodes pc (Some (j + k)) a.under known)
   arm_view [] j e (k, at) = absurd cc
-  arm_view (y ∷ ys) j e (zero, at) = let z : j ≡ j + 0 = omega arith in (0, y, refl, sym (same_Some _ e at) ∙ ap (λ n. edge_at pc (Some n) y.under known) z)
-  arm_view (y ∷ ys) j e (suc k, at) = let r = arm_view ys (j + 1) e (k, at) in let z : j + 1 + r.0 ≡ j + suc r.0 = omega arith in (suc r.0, r.1, r.2, r.3 ∙ ap (λ n. edge_at pc (Some n) r.1.under known) z)
+  arm_view (y ∷ ys) j e (zero, at) = let z : j ≡ j + 0 = omega arith in (0, y, refl, sym (same_Some _ e at) ∙ ap (λ n. edge_in nodes pc (Some n) y.under known) z)
+  arm_view (y ∷ ys) j e (suc k, at) = let r = arm_view ys (j + 1) e (k, at) in let z : j + 1 + r.0 ≡ j + suc r.0 = omega arith in (suc r.0, r.1, r.2, r.3 ∙ ap (λ n. edge_in nodes pc (Some n) r.1.under known) z)
 
-  else_view : (o : Option ℕ) (e : Edge) → IsEdge e (else_edges pc known o) → (link : ℕ) × (o ≡ Some link) × (e ≡ edge_at pc None link known)
+  else_view : (o : Option ℕ) (e : Edge) → IsEdge e (else_edges nodes pc known o) → (link : ℕ) × (o ≡ Some link) × (e ≡ edge_in nodes pc None link known)
   else_view None e (k, at) = absurd cc
   else_view (Some link) e (zero, at) = (link, refl, sym (same_Some _ e at))
   else_view (Some link) e (suc k, at) = absurd cc
 
   abbrev IsArm : Edge → Type 0
-  IsArm e = (k : ℕ) × (a : GraphArm) × (slice_get arms k ≡ Some a) × (e ≡ edge_at pc (Some k) a.under known)
+  IsArm e = (k : ℕ) × (a : GraphArm) × (slice_get arms k ≡ Some a) × (e ≡ edge_in nodes pc (Some k) a.under known)
 
   abbrev IsElse : Edge → Type 0
-  IsElse e = (link : ℕ) × (other ≡ Some link) × (e ≡ edge_at pc None link known)
+  IsElse e = (link : ℕ) × (other ≡ Some link) × (e ≡ edge_in nodes pc None link known)
 
   view : (e : Edge) → IsEdge e edges → IsArm e ⊎ IsElse e
-  view e i = elim (edge_append (arm_edges pc known arms 0) (else_edges pc known other) e i) [
-    | inl j ↦ (let r = arm_view arms 0 e j in let z : 0 + r.0 ≡ r.0 = omega arith in inl (r.0, r.1, r.2, r.3 ∙ ap (λ n. edge_at pc (Some n) r.1.under known) z))
+  view e i = elim (edge_append (arm_edges nodes pc known arms 0) (else_edges nodes pc known other) e i) [
+    | inl j ↦ (let r = arm_view arms 0 e j in let z : 0 + r.0 ≡ r.0 = omega arith in inl (r.0, r.1, r.2, r.3 ∙ ap (λ n. edge_in nodes pc (Some n) r.1.under known) z))
     | inr j ↦ inr (else_view other e j)
   ]
 
-  arm_edge : (ys : List GraphArm) (j k : ℕ) (a : GraphArm) → slice_get ys k ≡ Some a → IsEdge (edge_at pc (Some (j + k)) a.under known) (arm_edges pc known ys j)
+  arm_edge : (ys : List GraphArm) (j k : ℕ) (a : GraphArm) → slice_get ys k ≡ Some a → IsEdge (edge_in nodes pc (Some (j + k)) a.under known) (arm_edges nodes pc known ys j)
   arm_edge [] j k a at = absurd cc
-  arm_edge (y ∷ ys) j zero a at = let z : j ≡ j + 0 = omega arith in (0, ap (λ (b : GraphArm). Some (edge_at pc (Some j) b.under known)) (same_Some y a at) ∙ ap (λ n. Some (edge_at pc (Some n) a.under known)) z)
-  arm_edge (y ∷ ys) j (suc k) a at = let r = arm_edge ys (j + 1) k a at in let z : j + 1 + k ≡ j + suc k = omega arith in (suc r.0, r.1 ∙ ap (λ n. Some (edge_at pc (Some n) a.under known)) z)
+  arm_edge (y ∷ ys) j zero a at = let z : j ≡ j + 0 = omega arith in (0, ap (λ (b : GraphArm). Some (edge_in nodes pc (Some j) b.under known)) (same_Some y a at) ∙ ap (λ n. Some (edge_in nodes pc (Some n) a.under known)) z)
+  arm_edge (y ∷ ys) j (suc k) a at = let r = arm_edge ys (j + 1) k a at in let z : j + 1 + k ≡ j + suc k = omega arith in (suc r.0, r.1 ∙ ap (λ n. Some (edge_in nodes pc (Some n) a.under known)) z)
 
-  else_edge : (o : Option ℕ) (link : ℕ) → o ≡ Some link → IsEdge (edge_at pc None link known) (else_edges pc known o)
+  else_edge : (o : Option ℕ) (link : ℕ) → o ≡ Some link → IsEdge (edge_in nodes pc None link known) (else_edges nodes pc known o)
   else_edge None link e = absurd cc
-  else_edge (Some l) link e = (0, ap (λ n. Some (edge_at pc None n known)) (same_Some l link e))
+  else_edge (Some l) link e = (0, ap (λ n. Some (edge_in nodes pc None n known)) (same_Some l link e))
 
   -- each is a hole of the switch
   is_hole : (o : Option Instr) → shape_in o ≡ Some (shape switch) → (e : Edge) → IsEdge e edges → IsHoleIn o e.hole.arm
@@ -152,12 +154,12 @@ module _ (read : Read) (known : List Known) (arms : List GraphArm) (other : Opti
         ]
       ]
 
-  edge_of : (x node : ℕ) → Goes arms x node → IsEdge (edge_at pc (picked arms x) node known) edges
+  edge_of : (x node : ℕ) → Goes arms x node → IsEdge (edge_in nodes pc (picked arms x) node known) edges
   edge_of x node (inl r) =
       let z : 0 + r.0 ≡ r.0 = omega arith in
-      subst (λ p. IsEdge (edge_at pc p node known) edges) (sym r.4) (subst (λ n. IsEdge (edge_at pc (Some r.0) n known) edges) r.3
-      (subst (λ n. IsEdge (edge_at pc (Some n) r.1.under known) edges) z (edge_left _ (else_edges pc known other) _ (arm_edge arms 0 r.0 r.1 r.2))))
-  edge_of x node (inr r) = subst (λ p. IsEdge (edge_at pc p node known) edges) (sym r.1) (edge_right (arm_edges pc known arms 0) (else_edges pc known other) _ (else_edge other node r.0))
+      subst (λ p. IsEdge (edge_in nodes pc p node known) edges) (sym r.4) (subst (λ n. IsEdge (edge_in nodes pc (Some r.0) n known) edges) r.3
+      (subst (λ n. IsEdge (edge_in nodes pc (Some n) r.1.under known) edges) z (edge_left _ (else_edges nodes pc known other) _ (arm_edge arms 0 r.0 r.1 r.2))))
+  edge_of x node (inr r) = subst (λ p. IsEdge (edge_in nodes pc p node known) edges) (sym r.1) (edge_right (arm_edges nodes pc known arms 0) (else_edges nodes pc known other) _ (else_edge other node r.0))
 
   arms_small : (ys : List GraphArm) → are_numbers ys ≡ true → All (λ (x : SwitchArm). x.number < 18446744073709551616) (number_arms (pc + 1) ys)
   arms_small [] nums = All-nil (λ (x : SwitchArm). x.number < 18446744073709551616)
@@ -201,7 +203,7 @@ module _ (read : Read) (known : List Known) (arms : List GraphArm) (other : Opti
             let sw = switch_shape (slice_get final pc) slot (open_else_of (pc + 1) other) ways shaped in
             let link : take_link arms other (V.Num x) ≡ Some node = ap (take_link arms other) (sym (outs-Num x)) ∙ ap (λ u. take_link arms other (out-Value u)) (sym int.1) ∙ takes in
             let i = edge_of x node (goes arms x node nums link) in
-            let hole = hole_in (slice_get final pc) (picked arms x) (is_hole (slice_get final pc) shaped (edge_at pc (picked arms x) node known) i) in
+            let hole = hole_in (slice_get final pc) (picked arms x) (is_hole (slice_get final pc) shaped (edge_in nodes pc (picked arms x) node known) i) in
             let t = hole_target hole.0 (picked arms x) hole.2 in
             let to : target_in (slice_get final pc) (picked arms x) ≡ Some t.0 = ap (λ o. target_in o (picked arms x)) hole.1 ∙ t.1 in
             let goes_to : target_of sw.list sw.other (slice_index r.1 slot) ≡ Some t.0 =
@@ -209,7 +211,7 @@ module _ (read : Read) (known : List Known) (arms : List GraphArm) (other : Opti
             let w1 = switched (taken r.2) in
             let ran : next pc r.1 r.2 ≡ next t.0 r.1 w1 = law.step pc (Switch slot sw.other sw.list) r.1 r.2 sw.is ∙ ap (λ o. after_switch o (slice_index r.1 slot) w1 (λ k. next k r.1 w1)) goes_to in
             record {
-              edge = edge_at pc (picked arms x) node known;
+              edge = edge_in nodes pc (picked arms x) node known;
               is_edge = i;
               is_node = refl;
               target = t.0;
@@ -219,6 +221,6 @@ module _ (read : Read) (known : List Known) (arms : List GraphArm) (other : Opti
               runs = r.3 ∙ ap (λ q. next q r.1 r.2) r.6.0 ∙ ran;
               keeps = r.4;
               later = record { memory = r.5.memory; left = r.5.left; switches = omega (arith, r.5.switches) };
-              known = all;
+              known = carried_known nodes node plan v known all;
             };
       }

@@ -1,16 +1,16 @@
 //! Code of one test: from the words of a value to the edges of its arms.
 
-ghost use Rattle.std.specs.Prelude.{◌≡◌, ◌∷◌, ◌++◌, ◌<◌, ◌^◌, [], IfOk, OnOk, true};
+ghost use Rattle.std.specs.Prelude.{◌≡◌, ◌∷◌, ◌++◌, ◌<◌, ◌^◌, [], IfOk, OnOk, true, slice_get};
 ghost use Rattle.rb_core.specs.declared.value.Value.TheOpen as Layers;
 ghost use Rattle.rb_target.specs.Growth.{Grows};
-ghost use Rattle.rb_match.specs.inner.Asking.{number_arm, number_arms, is_number, are_numbers, open_else_of, edge_at, arm_edges, else_edges, leaf_con, take_link, edge_for, leaf_edges_of, has_con, have_cons, StandOpen, AsksNumber, AsksLeaf, Asks};
+ghost use Rattle.rb_match.specs.inner.Asking.{number_arm, number_arms, is_number, are_numbers, open_else_of, is_test, carried, edge_at, edge_in, arm_edges, else_edges, leaf_con, take_link, edge_for, leaf_edges_of, has_con, have_cons, StandOpen, AsksNumber, AsksLeaf, Asks};
 
 use crate::knowledge::{Edge, Known, copy_known, with_known};
 use crate::place::{is_looked_at, place_of};
 use rb_core::pattern::Pat;
 use rb_core::seq::Seq;
 use rb_core::types::Ty;
-use rb_decide::decision_graph::GraphArm;
+use rb_decide::decision_graph::{GraphArm, GraphNode};
 use rb_fetch::look::find_leaf_of;
 use rb_fragment::make::make;
 use rb_fragment::reads::Read;
@@ -61,14 +61,24 @@ fn open_else(other: Option<u32>, next: usize) -> Option<usize>
     }
 }
 
+// Whether a node asks for more.
+fn is_test_at(nodes: &[GraphNode], node: u32) -> bool
+    ensures { result ≡ is_test (slice_get nodes.now node) }
+{
+    match nodes.get(node as usize) {
+        Some(GraphNode::Test(_, _, _)) => true,
+        None | Some(GraphNode::Clause(_)) => false,
+    }
+}
+
 /// A way out at an instruction, to a node.
-pub fn edge(
+pub fn edge<'a>(
     alloc: Global,
     pc: usize,
     arm: Option<usize>,
     node: u32,
-    known: &[Known],
-) -> Result<Edge, AllocError>
+    known: &[Known<'a>],
+) -> Result<Edge<'a>, AllocError>
     ensures { IfOk result (λ e. e ≡ edge_at pc arm node known.now) }
 {
     let known = copy_known(alloc, known)?;
@@ -82,51 +92,74 @@ pub fn edge(
     })
 }
 
-// The edges of a switch's arms.
-fn edges_of_arms(
+// The same to a node of a graph: an edge to a clause, of which there are many, carries no facts.
+fn edge_within<'a>(
     alloc: Global,
+    nodes: &[GraphNode],
     pc: usize,
-    known: &[Known],
+    arm: Option<usize>,
+    node: u32,
+    known: &[Known<'a>],
+) -> Result<Edge<'a>, AllocError>
+    ensures { IfOk result (λ e. e ≡ edge_in nodes.now pc arm node known.now) }
+{
+    if is_test_at(nodes, node) {
+        let found = edge(alloc, pc, arm, node, known)?;
+        Ok(found)
+    } else {
+        let found = edge(alloc, pc, arm, node, &[])?;
+        Ok(found)
+    }
+}
+
+// The edges of a switch's arms.
+fn edges_of_arms<'a>(
+    alloc: Global,
+    nodes: &[GraphNode],
+    pc: usize,
+    known: &[Known<'a>],
     arms: &[GraphArm],
-) -> Result<Seq<Edge>, AllocError>
-    ensures { IfOk result (λ edges. edges ≡ arm_edges pc known.now arms.now 0) }
+) -> Result<Seq<Edge<'a>>, AllocError>
+    ensures { IfOk result (λ edges. edges ≡ arm_edges nodes.now pc known.now arms.now 0) }
 {
     let mut edges = Seq::new(alloc);
     for (k, arm) in arms.iter().enumerate() {
-        edges.push(edge(alloc, pc, Some(k), arm.under, known)?)?;
+        edges.push(edge_within(alloc, nodes, pc, Some(k), arm.under, known)?)?;
     }
     Ok(edges)
 }
 
 // The edges of a switch.
-fn edges_of_switch(
+fn edges_of_switch<'a>(
     alloc: Global,
+    nodes: &[GraphNode],
     pc: usize,
-    known: &[Known],
+    known: &[Known<'a>],
     arms: &[GraphArm],
     other: Option<u32>,
-) -> Result<Seq<Edge>, AllocError>
-    ensures { IfOk result (λ edges. edges ≡ arm_edges pc known.now arms.now 0 ++ else_edges pc known.now other) }
+) -> Result<Seq<Edge<'a>>, AllocError>
+    ensures { IfOk result (λ edges. edges ≡ arm_edges nodes.now pc known.now arms.now 0 ++ else_edges nodes.now pc known.now other) }
 {
-    let mut edges = edges_of_arms(alloc, pc, known, arms)?;
+    let mut edges = edges_of_arms(alloc, nodes, pc, known, arms)?;
     match other {
         None => Ok(edges),
         Some(link) => {
-            edges.push(edge(alloc, pc, None, link, known)?)?;
+            edges.push(edge_within(alloc, nodes, pc, None, link, known)?)?;
             Ok(edges)
         }
     }
 }
 
 // One switch over all numbers.
-fn ask_number(
+fn ask_number<'a>(
     alloc: Global,
     body: &mut Body,
+    nodes: &[GraphNode],
     reads: &[Read],
-    known: &[Known],
+    known: &[Known<'a>],
     arms: &[GraphArm],
     other: Option<u32>,
-) -> Result<Seq<Edge>, AllocError>
+) -> Result<Seq<Edge<'a>>, AllocError>
     ensures asks { IfOk result (λ edges. AsksNumber reads.now known.now arms.now other body.old body.new edges) }
     ensures stand { IfOk result (λ edges. StandOpen body.old body.new edges) }
     ensures grows { OnOk result (Grows body.old.code body.new.code) }
@@ -138,7 +171,7 @@ fn ask_number(
     let pc = body.len();
     let ways = switch_arms(alloc, arms, pc + 1)?;
     body.push(Instr::Switch(slot, open_else(other, pc + 1), ways))?;
-    let edges = edges_of_switch(alloc, pc, known, arms, other)?;
+    let edges = edges_of_switch(alloc, nodes, pc, known, arms, other)?;
     Ok(edges)
 }
 
@@ -175,18 +208,39 @@ fn link_of(arms: &[GraphArm], other: Option<u32>, con: u32) -> Option<u32>
     other
 }
 
+// What an edge carries behind a look that found a leaf.
+fn known_within<'a>(
+    alloc: Global,
+    nodes: &[GraphNode],
+    node: u32,
+    known: &[Known<'a>],
+    position: &'a [u32],
+    ty: u32,
+    leaf: usize,
+) -> Result<Seq<Known<'a>>, AllocError>
+    ensures { IfOk result (λ k. k ≡ carried nodes.now node (known.now ++ record { position = position.entry; ty = ty; leaf = leaf } ∷ [])) }
+{
+    if is_test_at(nodes, node) {
+        let more = with_known(alloc, known, position, ty, leaf)?;
+        Ok(more)
+    } else {
+        Ok(Seq::new(alloc))
+    }
+}
+
 // The edge of a leaf; a leaf of a constructor that can't be here has none.
-fn leaf_edge(
+fn leaf_edge<'a>(
     alloc: Global,
     agreed: &Agreed,
+    nodes: &[GraphNode],
     ty: u32,
     hole: &Hole,
-    known: &[Known],
-    position: &Seq<u32>,
+    known: &[Known<'a>],
+    position: &'a [u32],
     arms: &[GraphArm],
     other: Option<u32>,
-) -> Result<Option<Edge>, AllocError>
-    ensures edge { IfOk result (λ e. e ≡ edge_for agreed.now ty position.now known.now arms.now other hole.now) }
+) -> Result<Option<Edge<'a>>, AllocError>
+    ensures edge { IfOk result (λ e. e ≡ edge_for agreed.now nodes.now ty position.entry known.now arms.now other hole.now) }
     ensures con { IfOk result (λ e. has_con agreed.now ty hole.now ≡ true) }
 {
     let Some(con) = con_of(agreed, ty, hole.leaf) else {
@@ -195,7 +249,7 @@ fn leaf_edge(
     let Some(node) = link_of(arms, other, con) else {
         return Ok(None);
     };
-    let known = with_known(alloc, known, position, ty, hole.leaf)?;
+    let known = known_within(alloc, nodes, node, known, position, ty, hole.leaf)?;
     Ok(Some(Edge {
         hole: Hole {
             pc: hole.pc,
@@ -207,22 +261,25 @@ fn leaf_edge(
 }
 
 // The edges of leaves.
-fn edges_of_leaves(
+fn edges_of_leaves<'a>(
     alloc: Global,
     agreed: &Agreed,
+    nodes: &[GraphNode],
     ty: u32,
     holes: &[Hole],
-    known: &[Known],
-    position: &Seq<u32>,
+    known: &[Known<'a>],
+    position: &&'a [u32],
     arms: &[GraphArm],
     other: Option<u32>,
-) -> Result<Seq<Edge>, AllocError>
-    ensures edges { IfOk result (λ edges. edges ≡ leaf_edges_of agreed.now ty position.now known.now arms.now other holes.now) }
+) -> Result<Seq<Edge<'a>>, AllocError>
+    ensures edges { IfOk result (λ edges. edges ≡ leaf_edges_of agreed.now nodes.now ty position.now known.now arms.now other holes.now) }
     ensures cons { IfOk result (λ edges. have_cons agreed.now ty holes.now ≡ true) }
 {
     let mut edges = Seq::new(alloc);
     for hole in holes {
-        if let Some(found) = leaf_edge(alloc, agreed, ty, hole, known, position, arms, other)? {
+        if let Some(found) = leaf_edge(
+            alloc, agreed, nodes, ty, hole, known, *position, arms, other,
+        )? {
             edges.push(found)?;
         }
     }
@@ -230,17 +287,18 @@ fn edges_of_leaves(
 }
 
 // The leaf of the value there decides.
-fn ask_leaf(
+fn ask_leaf<'a>(
     alloc: Global,
     body: &mut Body,
     agreed: &Agreed,
+    nodes: &[GraphNode],
     ty: u32,
     reads: &[Read],
-    known: &[Known],
-    position: &Seq<u32>,
+    known: &[Known<'a>],
+    position: &'a [u32],
     arms: &[GraphArm],
     other: Option<u32>,
-) -> Result<Seq<Edge>, AllocError>
+) -> Result<Seq<Edge<'a>>, AllocError>
     ensures asks { IfOk result (λ edges. AsksLeaf agreed.now ty reads.now known.now position.now arms.now other body.old body.new edges) }
     ensures stand { IfOk result (λ edges. StandOpen body.old body.new edges) }
     ensures grows { OnOk result (Grows body.old.code body.new.code) }
@@ -249,10 +307,11 @@ fn ask_leaf(
     let edges = edges_of_leaves(
         alloc,
         agreed,
+        nodes,
         ty,
         holes.as_slice(),
         known,
-        position,
+        &position,
         arms,
         other,
     )?;
@@ -262,36 +321,40 @@ fn ask_leaf(
 // Tests -----------------------------------------------------------------------------------------
 
 /// Code of a test at a position of a value of a type: it leaves by an edge to the node of the arm that is
-/// taken. A position that no pattern looks at is never tested.
-pub fn ask(
+/// taken, which carries what is known there only where that node tests, too. A position that no pattern
+/// looks at is never tested.
+pub fn ask<'a>(
     alloc: Global,
     body: &mut Body,
     agreed: &Agreed,
     ty: Ty,
     words: &[Read],
     pats: &[Pat],
-    known: &[Known],
-    position: &Seq<u32>,
+    nodes: &[GraphNode],
+    known: &[Known<'a>],
+    position: &'a [u32],
     arms: &[GraphArm],
     other: Option<u32>,
-) -> Result<Seq<Edge>, AllocError>
+) -> Result<Seq<Edge<'a>>, AllocError>
     ensures asks { IfOk result (λ edges. Asks agreed.now ty words.now pats.now known.now position.now arms.now other body.old body.new edges) }
     ensures stand { IfOk result (λ edges. StandOpen body.old body.new edges) }
     ensures grows { OnOk result (Grows body.old.code body.new.code) }
 {
-    let place = place_of(alloc, agreed, ty, words, known, position.as_slice())?;
+    let place = place_of(alloc, agreed, ty, words, known, position)?;
     let types = agreed.covered().program().types.as_slice();
-    if !is_looked_at(types, ty, pats, position.as_slice(), place.ty) {
+    if !is_looked_at(types, ty, pats, position, place.ty) {
         return Err(AllocError);
     }
     let reads = place.reads.as_slice();
     match place.ty {
         Ty::Int(_) => {
-            let edges = ask_number(alloc, body, reads, known, arms, other)?;
+            let edges = ask_number(alloc, body, nodes, reads, known, arms, other)?;
             Ok(edges)
         }
         Ty::Named(t) => {
-            let edges = ask_leaf(alloc, body, agreed, t, reads, known, position, arms, other)?;
+            let edges = ask_leaf(
+                alloc, body, agreed, nodes, t, reads, known, position, arms, other,
+            )?;
             Ok(edges)
         }
     }

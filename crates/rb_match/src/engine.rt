@@ -7,7 +7,7 @@ ghost use Rattle.rb_match.specs.inner.Asking.{AreOpen};
 ghost use Rattle.rb_match.specs.inner.Flowing.{landing_of, others_of, StepsNode, Begins, IsClauseHole, AreClauseHoles, TakesGraph};
 
 use crate::asking::{ask, edge};
-use crate::knowledge::{Edge, copy_known, node_known};
+use crate::knowledge::{Edge, node_known};
 use rb_core::pattern::Pat;
 use rb_core::seq::Seq;
 use rb_core::types::Ty;
@@ -36,62 +36,48 @@ fn landing(alloc: Global, edges: &[Edge], node: usize) -> Result<Seq<Hole>, Allo
     Ok(holes)
 }
 
-fn copy_edge(alloc: Global, edge: &Edge) -> Result<Edge, AllocError>
-    ensures { IfOk result (λ e. e ≡ edge.now) }
+// The edges that lead elsewhere, in their order. They move, since there may be as many as nodes.
+fn others<'a>(edges: Seq<Edge<'a>>, node: usize) -> Seq<Edge<'a>>
+    ensures { result ≡ others_of node edges.entry }
 {
-    let known = copy_known(alloc, edge.known.as_slice())?;
-    Ok(Edge {
-        hole: edge.hole,
-        known,
-    })
-}
-
-// The edges that lead elsewhere.
-fn others(alloc: Global, edges: &[Edge], node: usize) -> Result<Seq<Edge>, AllocError>
-    ensures { IfOk result (λ rest. rest ≡ others_of node edges.now) }
-{
-    let mut rest = Seq::new(alloc);
-    for edge in edges {
-        if edge.hole.leaf != node {
-            rest.push(copy_edge(alloc, edge)?)?;
-        }
-    }
-    Ok(rest)
+    let mut rest = edges.into_vec();
+    rest.retain(|edge| edge.hole.leaf != node);
+    Seq::from_vec(rest)
 }
 
 // Sets the targets of a node's edges to the end of the code.
-fn land(
+fn land<'a>(
     alloc: Global,
     body: &mut Body,
-    edges: &[Edge],
+    edges: Seq<Edge<'a>>,
     node: usize,
-) -> Result<Seq<Edge>, AllocError>
-    requires { AreOpen 0 body.old.code edges.now }
-    ensures code { OnOk result (body.new ≡ closed body.old (landing_of node edges.now) (length body.old.code ∷ [])) }
-    ensures rest { IfOk result (λ rest. rest ≡ others_of node edges.now) }
+) -> Result<Seq<Edge<'a>>, AllocError>
+    requires { AreOpen 0 body.old.code edges }
+    ensures code { OnOk result (body.new ≡ closed body.old (landing_of node edges.entry) (length body.old.code ∷ [])) }
+    ensures rest { IfOk result (λ rest. rest ≡ others_of node edges.entry) }
 {
     let mut targets = Seq::new(alloc);
     targets.push(body.len())?;
-    let holes = landing(alloc, edges, node)?;
-    let rest = others(alloc, edges, node)?;
+    let holes = landing(alloc, edges.as_slice(), node)?;
     patch_all(body, holes.as_slice(), targets.as_slice());
-    Ok(rest)
+    Ok(others(edges, node))
 }
 
 // The code of a node to which edges lead. A clause has none, and keeps its edges.
-fn emit_node(
+fn emit_node<'a>(
     alloc: Global,
     body: &mut Body,
     agreed: &Agreed,
     ty: Ty,
     words: &[Read],
     pats: &[Pat],
-    node: &GraphNode,
+    nodes: &[GraphNode],
+    node: &'a GraphNode,
     number: usize,
-    edges: Seq<Edge>,
-) -> Result<Seq<Edge>, AllocError>
+    edges: Seq<Edge<'a>>,
+) -> Result<Seq<Edge<'a>>, AllocError>
     requires { AreOpen 0 body.old.code edges }
-    ensures { IfOk result (λ more. StepsNode agreed.now ty words.now pats.now node.now number body.old edges body.new more) }
+    ensures { IfOk result (λ more. StepsNode agreed.now ty words.now pats.now node.now number body.old edges.entry body.new more) }
 {
     match node {
         GraphNode::Clause(_) => Ok(edges),
@@ -100,10 +86,11 @@ fn emit_node(
                 return Ok(edges);
             };
             let known = known.as_slice();
+            let position = position.as_slice();
             let arms = arms.as_slice();
-            let mut rest = land(alloc, body, edges.as_slice(), number)?;
+            let mut rest = land(alloc, body, edges, number)?;
             let asked = ask(
-                alloc, body, agreed, ty, words, pats, known, position, arms, *other,
+                alloc, body, agreed, ty, words, pats, nodes, known, position, arms, *other,
             )?;
             match rest.append(asked) {
                 None => Ok(rest),
@@ -114,16 +101,16 @@ fn emit_node(
 }
 
 // The edge to the root: a root that tests needs none, since its code comes first.
-fn begin(
+fn begin<'a>(
     alloc: Global,
     body: &mut Body,
     agreed: &Agreed,
     ty: Ty,
     words: &[Read],
     pats: &[Pat],
-    nodes: &[GraphNode],
+    nodes: &'a [GraphNode],
     root: u32,
-) -> Result<Seq<Edge>, AllocError>
+) -> Result<Seq<Edge<'a>>, AllocError>
     ensures { IfOk result (λ edges. Begins agreed.now ty words.now pats.now nodes.now root body.old body.new edges) }
 {
     let Some(node) = nodes.get(root as usize) else {
@@ -131,6 +118,7 @@ fn begin(
     };
     match node {
         GraphNode::Test(position, arms, other) => {
+            let position = position.as_slice();
             let arms = arms.as_slice();
             let edges = ask(
                 alloc,
@@ -139,6 +127,7 @@ fn begin(
                 ty,
                 words,
                 pats,
+                nodes,
                 &[],
                 position,
                 arms,
@@ -215,7 +204,9 @@ pub fn emit_graph(
     for i in 0..count {
         let number = count - 1 - i;
         let node = &nodes[number];
-        edges = emit_node(alloc, body, agreed, ty, words, pats, node, number, edges)?;
+        edges = emit_node(
+            alloc, body, agreed, ty, words, pats, nodes, node, number, edges,
+        )?;
     }
     let holes = clause_holes(alloc, nodes, edges.as_slice(), pats.len())?;
     Ok(holes)

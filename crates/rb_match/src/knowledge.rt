@@ -1,16 +1,17 @@
 //! What is known of a value on its way through a graph, and the ways out of code that lead on.
 
 ghost use Rattle.std.specs.Prelude.{◌≡◌, ◌∷◌, ◌++◌, [], IfOk, IfSome, true};
-ghost use Rattle.rb_match.specs.inner.Knowing.{FollowsLeaf, IsMet, IsCommon, SharesKnown};
+ghost use Rattle.rb_match.specs.inner.Knowing.{FollowsLeaf, IsMet, IsCommon, IsShared, SharesKnown};
 
 use rb_core::seq::Seq;
 use rb_target::body::Hole;
 use std::alloc::{AllocError, Global};
 
-/// The part of a value at a position is of a data type, and this is its leaf.
-#[derive(Debug, Drop)]
-pub struct Known {
-    pub position: Seq<u32>,
+/// The part of a value at a position is of a data type, and this is its leaf. The position is that of the
+/// test that found the leaf, so a list of facts is copied as one piece.
+#[derive(Debug, Clone, Copy)]
+pub struct Known<'a> {
+    pub position: &'a [u32],
     pub ty: u32,
     pub leaf: usize,
 }
@@ -18,51 +19,31 @@ pub struct Known {
 /// A way out of emitted code, whose `leaf` is the number of the node to which it leads, with what is
 /// known of the value there.
 #[derive(Debug, Drop)]
-pub struct Edge {
+pub struct Edge<'a> {
     pub hole: Hole,
-    pub known: Seq<Known>,
-}
-
-impl Known {
-    /// An equal one.
-    pub fn copy(&self, alloc: Global) -> Result<Known, AllocError>
-        ensures { IfOk result (λ k. k ≡ self.now) }
-    {
-        Ok(Known {
-            position: self.position.copy(alloc)?,
-            ty: self.ty,
-            leaf: self.leaf,
-        })
-    }
+    pub known: Seq<Known<'a>>,
 }
 
 /// An equal list.
-pub fn copy_known(alloc: Global, known: &[Known]) -> Result<Seq<Known>, AllocError>
+pub fn copy_known<'a>(alloc: Global, known: &[Known<'a>]) -> Result<Seq<Known<'a>>, AllocError>
     ensures { IfOk result (λ copies. copies ≡ known.now) }
 {
-    let mut copies = Seq::new(alloc);
-    for fact in known {
-        copies.push(fact.copy(alloc)?)?;
-    }
-    Ok(copies)
+    let facts = Vec::from_slice(alloc, known)?;
+    Ok(Seq::from_vec(facts))
 }
 
 /// The list with one more.
-pub fn with_known(
+pub fn with_known<'a>(
     alloc: Global,
-    known: &[Known],
-    position: &Seq<u32>,
+    known: &[Known<'a>],
+    position: &'a [u32],
     ty: u32,
     leaf: usize,
-) -> Result<Seq<Known>, AllocError>
-    ensures { IfOk result (λ more. more ≡ known.now ++ record { position = position.now; ty = ty; leaf = leaf } ∷ []) }
+) -> Result<Seq<Known<'a>>, AllocError>
+    ensures { IfOk result (λ more. more ≡ known.now ++ record { position = position.entry; ty = ty; leaf = leaf } ∷ []) }
 {
     let mut more = copy_known(alloc, known)?;
-    more.push(Known {
-        position: position.copy(alloc)?,
-        ty,
-        leaf,
-    })?;
+    more.push(Known { position, ty, leaf })?;
     Ok(more)
 }
 
@@ -72,49 +53,75 @@ fn same_position(a: &[u32], b: &[u32]) -> bool
     a == b
 }
 
+// The same of one fact of a list.
+fn leaf_at(known: &[Known], place: usize, ty: u32, position: &[u32]) -> Option<usize>
+    ensures { IfSome result (λ leaf. FollowsLeaf known.now ty position.now leaf) }
+{
+    let fact = known.get(place)?;
+    if fact.ty == ty && same_position(fact.position, position) {
+        return Some(fact.leaf);
+    }
+    None
+}
+
 /// The leaf of the part of a data type at a position, where it is known.
 pub fn leaf_known(known: &[Known], ty: u32, position: &[u32]) -> Option<usize>
     ensures { IfSome result (λ leaf. FollowsLeaf known.now ty position.now leaf) }
 {
-    for fact in known {
-        if fact.ty == ty && same_position(fact.position.as_slice(), position) {
-            return Some(fact.leaf);
+    for place in 0..known.len() {
+        if let Some(leaf) = leaf_at(known, place, ty, position) {
+            return Some(leaf);
         }
     }
     None
 }
 
-// Whether a list has this, too.
-fn is_known(known: &[Known], fact: &Known) -> bool
-    ensures { result ≡ true → FollowsLeaf known.now fact.now.ty fact.now.position fact.now.leaf }
+// A fact of a list, where another has it, too: at this place, or anywhere.
+fn shared_fact<'a>(
+    known: &[Known<'a>],
+    i: usize,
+    other: &[Known<'a>],
+    place: usize,
+) -> Option<Known<'a>>
+    ensures { IfSome result (λ fact. IsShared known.now other.now fact) }
 {
-    match leaf_known(known, fact.ty, fact.position.as_slice()) {
-        None => false,
-        Some(leaf) => leaf == fact.leaf,
+    let fact = known.get(i)?;
+    let found = match leaf_at(other, place, fact.ty, fact.position) {
+        None => leaf_known(other, fact.ty, fact.position)?,
+        Some(leaf) => leaf,
+    };
+    if found == fact.leaf {
+        return Some(*fact);
     }
+    None
 }
 
-// What is in both lists.
-fn shared_known(alloc: Global, known: &[Known], other: &[Known]) -> Result<Seq<Known>, AllocError>
+// What is in both lists. Those of one test's edges begin alike, so each fact is looked for first behind
+// those that are in both.
+fn shared_known<'a>(
+    alloc: Global,
+    known: &[Known<'a>],
+    other: &[Known<'a>],
+) -> Result<Seq<Known<'a>>, AllocError>
     ensures { IfOk result (λ both. SharesKnown known.now other.now both) }
 {
     let mut both = Seq::new(alloc);
-    for fact in known {
-        if is_known(other, fact) {
-            both.push(fact.copy(alloc)?)?;
+    for i in 0..known.len() {
+        if let Some(fact) = shared_fact(known, i, other, both.len()) {
+            both.push(fact)?;
         }
     }
     Ok(both)
 }
 
 // What is known behind one more edge.
-fn meet(
+fn meet<'a>(
     alloc: Global,
-    found: Option<Seq<Known>>,
-    edge: &Edge,
+    found: Option<Seq<Known<'a>>>,
+    edge: &Edge<'a>,
     node: usize,
-) -> Result<Option<Seq<Known>>, AllocError>
-    ensures { IfOk result (λ r. IsMet found edge.now node r) }
+) -> Result<Option<Seq<Known<'a>>>, AllocError>
+    ensures { IfOk result (λ r. IsMet found.entry edge.now node r) }
 {
     if edge.hole.leaf != node {
         return Ok(found);
@@ -132,11 +139,11 @@ fn meet(
 }
 
 /// What is known at a node, by whatever edge it is reached; None where no edge leads there.
-pub fn node_known(
+pub fn node_known<'a>(
     alloc: Global,
-    edges: &[Edge],
+    edges: &[Edge<'a>],
     node: usize,
-) -> Result<Option<Seq<Known>>, AllocError>
+) -> Result<Option<Seq<Known<'a>>>, AllocError>
     ensures { IfOk result (λ r. IsCommon edges.now node r) }
 {
     let mut found = None;

@@ -14,7 +14,7 @@
 //! first field is bits of them, said as a read (`rb_fragment`) and made only now. A switch on its leaf has
 //! two arms, and each is an *edge*: a target that is still open, with the number of the node to which it
 //! leads, and with the leaves that are known there (`knowledge`). The arm of A leads to clause 0, which
-//! has no code: its edges are the answer's holes. The arm of B leads to the next node. When that node's
+//! has no code and needs no facts: its edges are the answer's holes. The arm of B leads to the next node. When that node's
 //! turn comes, all edges that lead to it are set to the end of the code, what all of them know is known
 //! there, and its test is emitted: so the second field is read from the same slots. A number is tested by
 //! one switch over all literals of its column.

@@ -1,4 +1,5 @@
 -- The code of one test.
+use denote.Ref.{Bor}
 use Rattle.std.specs.Prelude.{◌≡◌, ℕ, ◌+◌, ◌≤◌, ◌^◌, List, [], ◌∷◌, ◌++◌, map, length, Bool, true, false, ◌&&◌, nat_lt, is_some, Option, Some, None, slice_get, if◌then◌else◌}
 use Rattle.rb_core.specs.declared.value.Value.{Value, out-Value}
 use Rattle.rb_core.specs.declared.value.Value.TheOpen as V
@@ -13,6 +14,8 @@ use Rattle.rb_matrix.specs.declared.matrix.Head.{Head}
 use Rattle.rb_matrix.specs.declared.matrix.Head.TheVariants as H
 use Rattle.rb_matrix.specs.Heads.{layer_begins}
 use Rattle.rb_decide.specs.declared.decision_graph.GraphArm.{GraphArm}
+use Rattle.rb_decide.specs.declared.decision_graph.GraphNode.{GraphNode}
+use Rattle.rb_decide.specs.declared.decision_graph.GraphNode.TheVariants.{Test, Clause}
 use Rattle.rb_bytes.specs.Memory.{IsGood}
 use Rattle.rb_target.specs.declared.instr.SwitchArm.{SwitchArm}
 use Rattle.rb_target.specs.declared.instr.Instr.{Instr}
@@ -45,6 +48,17 @@ abbrev pub take_link : List GraphArm → Option ℕ → Value-F Value → Option
 take_link [] other tested = other
 take_link (a ∷ arms) other tested = if layer_begins a.head tested then Some a.under else take_link arms other tested
 
+-- What edges carry -----------------------------------------------------------------------------
+
+abbrev pub is_test : Option GraphNode → Bool
+is_test None = false
+is_test (Some (Clause k)) = false
+is_test (Some (Test position arms other)) = true
+
+-- of what is known, all that an edge to a node has to say: at a clause nothing is asked any more
+abbrev pub carried : List GraphNode → ℕ → List Known → List Known
+carried nodes node known = if is_test (slice_get nodes node) then known else []
+
 -- Numbers ---------------------------------------------------------------------------------------
 
 abbrev pub number_of : Head → ℕ
@@ -72,13 +86,17 @@ open_else_of next (Some link) = Some next
 abbrev pub edge_at : ℕ → Option ℕ → ℕ → List Known → Edge
 edge_at pc arm node known = record { hole = record { pc = pc; arm = arm; leaf = node }; known = known }
 
-abbrev pub arm_edges : ℕ → List Known → List GraphArm → ℕ → List Edge
-arm_edges pc known [] k = []
-arm_edges pc known (a ∷ arms) k = edge_at pc (Some k) a.under known ∷ arm_edges pc known arms (k + 1)
+-- an edge to a node of a graph
+abbrev pub edge_in : List GraphNode → ℕ → Option ℕ → ℕ → List Known → Edge
+edge_in nodes pc arm node known = edge_at pc arm node (carried nodes node known)
 
-abbrev pub else_edges : ℕ → List Known → Option ℕ → List Edge
-else_edges pc known None = []
-else_edges pc known (Some link) = edge_at pc None link known ∷ []
+abbrev pub arm_edges : List GraphNode → ℕ → List Known → List GraphArm → ℕ → List Edge
+arm_edges nodes pc known [] k = []
+arm_edges nodes pc known (a ∷ arms) k = edge_in nodes pc (Some k) a.under known ∷ arm_edges nodes pc known arms (k + 1)
+
+abbrev pub else_edges : List GraphNode → ℕ → List Known → Option ℕ → List Edge
+else_edges nodes pc known None = []
+else_edges nodes pc known (Some link) = edge_in nodes pc None link known ∷ []
 
 -- Constructors ----------------------------------------------------------------------------------
 
@@ -104,22 +122,23 @@ abbrev pub link_at : List GraphArm → Option ℕ → Option ℕ → Option ℕ
 link_at arms other None = None
 link_at arms other (Some c) = take_link arms other (V.Con c [])
 
-abbrev pub edge_to : Hole → List ℕ → ℕ → List Known → Option ℕ → Option Edge
-edge_to h position t known None = None
-edge_to h position t known (Some node) =
-    Some (edge_at h.pc h.arm node (known ++ record { position = position; ty = t; leaf = h.leaf } ∷ []))
+abbrev pub edge_to : List GraphNode → Hole → Bor (List ℕ) → ℕ → List Known → Option ℕ → Option Edge
+edge_to nodes h position t known None = None
+edge_to nodes h position t known (Some node) =
+    Some (edge_in nodes h.pc h.arm node (known ++ record { position = position; ty = t; leaf = h.leaf } ∷ []))
 
-abbrev pub edge_for : LaidOut → ℕ → List ℕ → List Known → List GraphArm → Option ℕ → Hole → Option Edge
-edge_for agreed t position known arms other h = edge_to h position t known (link_at arms other (leaf_con agreed t h.leaf))
+abbrev pub edge_for : LaidOut → List GraphNode → ℕ → Bor (List ℕ) → List Known → List GraphArm → Option ℕ → Hole → Option Edge
+edge_for agreed nodes t position known arms other h =
+    edge_to nodes h position t known (link_at arms other (leaf_con agreed t h.leaf))
 
 abbrev pub keep_edge : Option Edge → List Edge → List Edge
 keep_edge None es = es
 keep_edge (Some e) es = e ∷ es
 
-abbrev pub leaf_edges_of : LaidOut → ℕ → List ℕ → List Known → List GraphArm → Option ℕ → List Hole → List Edge
-leaf_edges_of agreed t position known arms other [] = []
-leaf_edges_of agreed t position known arms other (h ∷ hs) =
-    keep_edge (edge_for agreed t position known arms other h) (leaf_edges_of agreed t position known arms other hs)
+abbrev pub leaf_edges_of : LaidOut → List GraphNode → ℕ → Bor (List ℕ) → List Known → List GraphArm → Option ℕ → List Hole → List Edge
+leaf_edges_of agreed nodes t position known arms other [] = []
+leaf_edges_of agreed nodes t position known arms other (h ∷ hs) =
+    keep_edge (edge_for agreed nodes t position known arms other h) (leaf_edges_of agreed nodes t position known arms other hs)
 
 abbrev pub has_con : LaidOut → ℕ → Hole → Bool
 has_con agreed t h = is_some (leaf_con agreed t h.leaf)

@@ -9,16 +9,23 @@ use Rattle.rb_match.specs.declared.knowledge.Known.{Known}
 use Rattle.rb_match.specs.declared.knowledge.Edge.{Edge}
 
 -- the part of the value at the position has this leaf
+abbrev pub IsLeafAt : Plan → Value → List ℕ → ℕ → ℕ → Type 0
+IsLeafAt plan v position ty leaf =
+    (part : Value) × (layout : Layout) × (part_at v position ≡ Some part) × (layout_of plan.layouts ty ≡ Some layout) × (leaf_of layout part ≡ Some leaf)
+
 abbrev pub IsKnown : Plan → Value → Known → Type 0
-IsKnown plan v x =
-    (part : Value) × (layout : Layout) × (part_at v x.position ≡ Some part) × (layout_of plan.layouts x.ty ≡ Some layout) × (leaf_of layout part ≡ Some x.leaf)
+IsKnown plan v x = IsLeafAt plan v x.position.now x.ty x.leaf
 
 abbrev pub AreKnown : Plan → Value → List Known → Type 0
 AreKnown plan v known = (i : ℕ) (x : Known) → slice_get known i ≡ Some x → IsKnown plan v x
 
 abbrev pub FollowsLeaf : List Known → ℕ → List ℕ → ℕ → Type 0
 FollowsLeaf known ty position leaf =
-    (plan : Plan) (v : Value) → AreKnown plan v known → IsKnown plan v (record { position = position; ty = ty; leaf = leaf })
+    (plan : Plan) (v : Value) → AreKnown plan v known → IsLeafAt plan v position ty leaf
+
+-- a fact is known where either list is
+abbrev pub IsShared : List Known → List Known → Known → Type 0
+IsShared known other x = (plan : Plan) (v : Value) → AreKnown plan v known ⊎ AreKnown plan v other → IsKnown plan v x
 
 -- what is shared is known where either list is
 abbrev pub SharesKnown : List Known → List Known → List Known → Type 0

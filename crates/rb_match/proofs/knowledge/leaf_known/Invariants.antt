@@ -1,4 +1,4 @@
 use Rattle.rb_match.proofs.knowledge.leaf_known.Given as goal
 
-abbrev pub invariant-loop-fact : goal.invariant-loop-fact
-invariant-loop-fact l = Unit {0}
+abbrev pub invariant-loop-place : goal.invariant-loop-place
+invariant-loop-place l = Unit {0}
