@@ -44,32 +44,104 @@ const COLOR: &str =
 const ROWS: [(&str, &str, &str); 32] = [
     (SUM, "10 1024 Cons(1,Cons(2,Nil))", "0 3;"),
     (SUM, "4 1024 Cons(1,Cons(2,Nil))", "0 3;"),
-    (SUM, "3 1024 Cons(1,Cons(2,Nil))", "4 ribbit: calls spent: 3;"),
+    (
+        SUM,
+        "3 1024 Cons(1,Cons(2,Nil))",
+        "4 ribbit: calls spent: 3;",
+    ),
     (SUM, "10 96 Cons(1,Cons(2,Nil))", "0 3;"),
-    (SUM, "10 95 Cons(1,Cons(2,Nil))", "5 ribbit: region full: next 80, size 16, align 8, limit 95;"),
+    (
+        SUM,
+        "10 95 Cons(1,Cons(2,Nil))",
+        "5 ribbit: region full: next 80, size 16, align 8, limit 95;",
+    ),
     (SUM, "2 64 Nil", "0 0;"),
     (SUM, "0 1024 Nil", "4 ribbit: calls spent: 0;"),
-    (SUM, "0 64 Cons(1,Nil)", "5 ribbit: region full: next 64, size 16, align 8, limit 64;"),
+    (
+        SUM,
+        "0 64 Cons(1,Nil)",
+        "5 ribbit: region full: next 64, size 16, align 8, limit 64;",
+    ),
     (SUM, "10 1024", "10 ribbit: wanted 1 arguments, found 0;"),
-    (SUM, "10 1024 Nil Nil", "10 ribbit: wanted 1 arguments, found 2;"),
-    (SUM, "10 1024 Cons(1)", "10 ribbit: argument 1: no value of List at byte 0;"),
-    (SUM, "10 1024 Cons(1,Cons(Nil,Nil))", "10 ribbit: argument 1: no value of List at byte 12;"),
-    (SUM, "10 1024 Cons(1,Nil", "10 ribbit: argument 1: syntax at byte 10;"),
-    (SUM, "10 1024 Cons(1,5)", "10 ribbit: argument 1: no value of List at byte 7;"),
-    (LIST, "1 1024 Cons(18446744073709551615,Cons(2,Nil))", "0 Cons(18446744073709551615, Cons(2, Nil));"),
-    (INSERT, "3 100 Node(Black,Empty,7,Empty) 9", "0 Node(Black, Empty, 7, Node(Red, Empty, 9, Empty));"),
-    (INSERT, "3 99 Node(Black,Empty,7,Empty) 9", "5 ribbit: region full: next 88, size 12, align 4, limit 99;"),
-    (INSERT, "2 100 Node(Black,Empty,7,Empty) 9", "4 ribbit: calls spent: 2;"),
-    (INSERT, "9 1024 Node(Black,Empty,7,Empty) 4294967296", "10 ribbit: argument 2: no value of u32 at byte 0;"),
-    (INSERT, "9 1024 Node(Black,Empty,7,Empty) 7", "0 Node(Black, Empty, 7, Empty);"),
-    (INSERT, "9 1024 Node(Blue,Empty,7,Empty) 7", "10 ribbit: argument 1: no value of Tree at byte 5;"),
+    (
+        SUM,
+        "10 1024 Nil Nil",
+        "10 ribbit: wanted 1 arguments, found 2;",
+    ),
+    (
+        SUM,
+        "10 1024 Cons(1)",
+        "10 ribbit: argument 1: no value of List at byte 0;",
+    ),
+    (
+        SUM,
+        "10 1024 Cons(1,Cons(Nil,Nil))",
+        "10 ribbit: argument 1: no value of List at byte 12;",
+    ),
+    (
+        SUM,
+        "10 1024 Cons(1,Nil",
+        "10 ribbit: argument 1: syntax at byte 10;",
+    ),
+    (
+        SUM,
+        "10 1024 Cons(1,5)",
+        "10 ribbit: argument 1: no value of List at byte 7;",
+    ),
+    (
+        LIST,
+        "1 1024 Cons(18446744073709551615,Cons(2,Nil))",
+        "0 Cons(18446744073709551615, Cons(2, Nil));",
+    ),
+    (
+        INSERT,
+        "3 100 Node(Black,Empty,7,Empty) 9",
+        "0 Node(Black, Empty, 7, Node(Red, Empty, 9, Empty));",
+    ),
+    (
+        INSERT,
+        "3 99 Node(Black,Empty,7,Empty) 9",
+        "5 ribbit: region full: next 88, size 12, align 4, limit 99;",
+    ),
+    (
+        INSERT,
+        "2 100 Node(Black,Empty,7,Empty) 9",
+        "4 ribbit: calls spent: 2;",
+    ),
+    (
+        INSERT,
+        "9 1024 Node(Black,Empty,7,Empty) 4294967296",
+        "10 ribbit: argument 2: no value of u32 at byte 0;",
+    ),
+    (
+        INSERT,
+        "9 1024 Node(Black,Empty,7,Empty) 7",
+        "0 Node(Black, Empty, 7, Empty);",
+    ),
+    (
+        INSERT,
+        "9 1024 Node(Blue,Empty,7,Empty) 7",
+        "10 ribbit: argument 1: no value of Tree at byte 5;",
+    ),
     (SHAPE, "1 1024 Box(1,2)", "0 3;"),
     (SHAPE, "1 1024 Dot(255)", "0 255;"),
     (SHAPES, "1 78 Box(1,2) Dot(5)", "0 0;"),
-    (SHAPES, "1 77 Box(1,2) Dot(5)", "5 ribbit: region full: next 73, size 2, align 4, limit 77;"),
+    (
+        SHAPES,
+        "1 77 Box(1,2) Dot(5)",
+        "5 ribbit: region full: next 73, size 2, align 4, limit 77;",
+    ),
     (PAIR, "1 1024 Two(5,6)", "0 Two(5, 6);"),
-    (BRANCH, "1 64 Branch(7,31,30,2730)", "0 Branch(7, 31, 30, 2730);"),
-    (BRANCH, "1 64 Branch(8,31,30,2730)", "10 ribbit: argument 1: no value of Instr at byte 7;"),
+    (
+        BRANCH,
+        "1 64 Branch(7,31,30,2730)",
+        "0 Branch(7, 31, 30, 2730);",
+    ),
+    (
+        BRANCH,
+        "1 64 Branch(8,31,30,2730)",
+        "10 ribbit: argument 1: no value of Instr at byte 7;",
+    ),
     (TWIN, "40 1024 2", "0 Fork(Fork(Tip, Tip), Fork(Tip, Tip));"),
     (TWIN, "40 1024 30", "13 ribbit: value over 1000000 nodes;"),
     (COLOR, "4 64 Red", "0 Black;"),
@@ -84,6 +156,56 @@ fn runs_with_layouts(rt: HostRuntime) -> Result<(), Fail> {
         expect_answer(&rt, alloc, words.as_str(), file.as_bytes(), wanted)?;
     }
     Ok(())
+}
+
+/// Files whose layouts are checked, and the answer to `check`.
+const LAYOUTS: [(&str, &str); 7] = [
+    (
+        "type Instr = Branch(u3, u5, u5, u12);layout Instr <32> = Branch(_, _, _, _) : { word 32 { [0:7] = 99, [8:4] .3[0:4], [12:3] .0, [15:5] .1, [20:5] .2, [25:6] .3[4:6], [31:1] .3[11:1] } };fun main(i: Instr): Instr = i;",
+        "3 ribbit: layout of Instr: A6: leaf Branch(_, _, _, _): field .3 bit 10 not held;",
+    ),
+    (
+        "type Color = Red | Black;layout Color <1> = split 0[0:1] { 0 => Red : { word 1 { [0:1] = 0 } } 1 => Black : { word 1 { [0:1] = 1 } } };type Tree = Empty | Node(Color, Tree, u32, Tree);layout Tree <32> = split 0[0:32] { 0 => Empty : { word 32 { [0:32] = 0 } } else => Node(_, _, _, _) : { word 32 { [0:1] .0, [2:21] -> 4 { word 32 { [0:32] .2 }, inline .1, inline .3 } } } };fun main(): u8 = 0;",
+        "3 ribbit: layout of Tree: A4: leaf Node(_, _, _, _): pointer of 23 bits;",
+    ),
+    (
+        "type Bit = Off | On;layout Bit <8> = split 0[0:1] { 0 => Off : { word 8 { [0:1] = 1 } } 1 => On : { word 8 { [0:1] = 1 } } };fun main(b: Bit): Bit = b;",
+        "3 ribbit: layout of Bit: A7: leaf Off: literal 0 not known at 0[0:1];",
+    ),
+    (
+        "type Color = Red | Black;layout Color <1> = split 0[0:1] { 0 => Red : { word 1 { [0:1] = 0 } } 1 => Black : { word 1 { [0:1] = 1 } } };type Tree = Empty | Node(Color, Tree, u32, Tree);layout Tree <32> = split 0[24:8] { 0 => Empty : { word 32 { [0:32] = 0 } } else => Node(_, _, _, _) : { word 32 { [0:1] .0, [2:22] -> 4 { word 32 { [0:32] .2 }, inline .1, inline .3 } } } };fun main(): u8 = 0;",
+        "3 ribbit: layout of Tree: A7: leaf Node(_, _, _, _): literal 0 not excluded at 0[24:8];",
+    ),
+    (
+        "type Bit = Off | On;layout Bit <8> = split 0[0:1] { 0 => Off : { word 8 { [0:2] = 0, [1:3] = 1 } } 1 => On : { word 8 { [0:1] = 1 } } };fun main(b: Bit): Bit = b;",
+        "3 ribbit: layout of Bit: A3: leaf Off: item 0: parts [0:2] and [1:3] overlap;",
+    ),
+    (
+        "type Color = Red | Black;layout Color <1> = split 0[0:1] { 0 => Red : { word 1 { [0:1] = 0 } } 1 => Black : { word 1 { [0:1] = 1 } } };type Tree = Empty | Node(Color, Tree, u32, Tree);layout Tree <32> = split 0[0:32] { 0 => Empty : { word 32 { [0:32] = 0 } } else => Node(_, _, _, _) : { word 32 { [0:1] .0, [2:22] -> 4 { word 32 { [0:32] .2 }, inline .1, inline .3 } } } };fun main(): u8 = 0;",
+        "0 ok;",
+    ),
+    (
+        "type Crate = Cr(u64); layout Crate <64> = Cr(_) : { word 64 { [0:64] -> 8 { word 64 { [0:64] .0 } } } }; type Hold = Hd(Crate); layout Hold <64> = Hd(Cr(_)) : { word 64 { [0:64] .0.0 } }; fun main(): u8 = 0;",
+        "3 ribbit: layout of Hold: A9: Crate has a pointer;",
+    ),
+];
+
+#[test]
+fn layouts_are_checked(rt: HostRuntime) -> Result<(), Fail> {
+    for (file, wanted) in LAYOUTS {
+        expect_answer(&rt, rt.alloc(), "check E", file.as_bytes(), wanted)?;
+    }
+    Ok(())
+}
+
+/// The flat form of a bit in a byte.
+#[test]
+fn layouts_are_shown(rt: HostRuntime) -> Result<(), Fail> {
+    let file =
+        "type Bit = Off | On;layout Bit <8> = split 0[0:1] { 0 => Off : { word 8 { [0:1] = 0 } } 1 => On : { word 8 { [0:1] = 1 } } };fun main(b: Bit): Bit = b;";
+    let wanted =
+        "0 type Bit;leaf Off;when 0[0:1] = 0;word 0: 8 bits;  0:1 = 0;  1:7 free;leaf On;when 0[0:1] = 1;word 0: 8 bits;  0:1 = 1;  1:7 free;";
+    expect_answer(&rt, rt.alloc(), "layout E", file.as_bytes(), wanted)
 }
 
 /// A layout that is not plain is not compiled yet. The place is that of its word `layout`.
@@ -111,5 +233,11 @@ fn code_texts_run(rt: HostRuntime) -> Result<(), Fail> {
     let file = b"fun main(x: u8): u8 = add(x, 1);";
     let did = call(alloc, "compile E", file, &[], &[])?;
     assert_eq!(rt; (did.status, did.steps), (0, 0));
-    expect_answer(&rt, alloc, "exec E main 1 64 255", did.out.as_slice(), "0 0;")
+    expect_answer(
+        &rt,
+        alloc,
+        "exec E main 1 64 255",
+        did.out.as_slice(),
+        "0 0;",
+    )
 }
