@@ -51,7 +51,7 @@ no_less a b le = go (ltb a b) refl
     go true e = absurd (let lt = ltb_is a b e in omega (arith, lt, le))
     go false e = e
 
-put_fits : (w o l part : ℕ) → 1 ≤ l → o + l ≤ 64 → part < 2 ^ l → put_into w o l part ≡ put_of w o l part
+pub put_fits : (w o l part : ℕ) → 1 ≤ l → o + l ≤ 64 → part < 2 ^ l → put_into w o l part ≡ put_of w o l part
 put_fits w o l part some inside fits =
     let a : ltb l 1 ≡ false = no_less l 1 some in
     let b : ltb 64 l ≡ false = no_less 64 l (omega (arith, inside)) in

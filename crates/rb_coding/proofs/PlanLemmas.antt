@@ -1,5 +1,5 @@
 -- The steps of a provenance put the value that it matches on the stack.
-use Rattle.std.proofs.Common.{◌≡◌, ℕ, zero, suc, ◌+◌, ◌-◌, ◌*◌, ◌^◌, ◌<◌, ◌≤◌, ◌==◌, ◌&&◌, ◌⊎◌, inl, inr, length, map, take, drop, List, [], ◌∷◌, ◌++◌, Bool, true, Option, Some, refl, sym, subst, ap, ◌∙◌, arith, append_assoc, append-nil}
+use Rattle.std.proofs.Common.{◌≡◌, ℕ, suc, ◌+◌, ◌-◌, ◌*◌, ◌^◌, ◌<◌, ◌≤◌, ◌==◌, ◌&&◌, ◌⊎◌, inl, inr, length, map, take, drop, List, [], ◌∷◌, ◌++◌, true, Some, refl, sym, subst, ap, ◌∙◌, arith, append_assoc, append-nil}
 use Rattle.std.specs.Prelude.{slice_get}
 use Rattle.std.proofs.lemmas.List.{length-append}
 use Rattle.std.proofs.lemmas.Option.{same_Some}
@@ -14,22 +14,20 @@ use Rattle.rb_core.specs.declared.types.DataDecl.{DataDecl}
 use Rattle.rb_core.specs.declared.pattern.Pat.{Pat, Wild, Var, Num as NumPat, Con as ConPat}
 use Rattle.rb_core.specs.declared.program.Program.{Program}
 use Rattle.rb_core.specs.Matching.{matches_of, all_pass, is_con, is_number}
-use Rattle.rb_core.specs.Typing.{holds}
-use Rattle.rb_core.specs.Values.{all_of_types, are_of, fields_of, subs, subs_in, sub_at, part_from}
+use Rattle.rb_core.specs.Values.{all_of_types, are_of, fields_of, subs_in, sub_at, part_from}
 use Rattle.rb_core.proofs.MatchingForms.{matches-Num, matches-Con}
 use Rattle.rb_core.proofs.PatternLaws.{Each, induction, fold-Wild, fold-Var, fold-Num, fold-Con}
 use Rattle.rb_core.proofs.ValueLaws as VL
 use Rattle.rb_bytes.specs.Memory.{Memory}
-use Rattle.rb_layout.specs.Flattening.{flat_layouts}
 use Rattle.rb_layout.specs.Positions.{Open, below, opens_below, opens_of, types_or_none}
-use Rattle.rb_rel.specs.Relation.{Represents, number}
+use Rattle.rb_rel.specs.Relation.{number}
 use Rattle.rb_rel.proofs.Lawful.{fits_type, is_named}
 use Rattle.rb_rel.proofs.Lists.{both, get-left, get-right, get-mapped}
 use Rattle.rb_rel.proofs.Opens.{fits-Con, fits-Num, opens-Con, opens-Wild, opens-Var, fitting}
 use Rattle.rb_rel.proofs.Reading.{same_nat}
 use Rattle.rb_coding.specs.Decoding.{AreOf}
 use Rattle.rb_coding.specs.inner.Planning.{Planned, fields_plan, plan_step, plan_of}
-use Rattle.rb_coding.specs.inner.Todo.{After, Runs, weight, weights}
+use Rattle.rb_coding.specs.inner.Todo.{Runs, weights}
 use Rattle.rb_coding.specs.declared.todo.Step.{Step}
 use Rattle.rb_coding.specs.declared.todo.Step.TheVariants.{Visit, Join}
 use Rattle.rb_coding.proofs.PostLemmas.{below_lt}

@@ -7,7 +7,7 @@ use Rattle.rb_core.specs.declared.types.Ty.{Ty}
 use Rattle.rb_core.specs.declared.types.Ty.TheVariants.{Int, Named}
 use Rattle.rb_core.specs.declared.program.Program.{Program}
 use Rattle.rb_core.specs.Values.{node_count}
-use Rattle.rb_core.proofs.ValueLaws.{Each, induction, node_count-Num, node_count-Con}
+use Rattle.rb_core.proofs.ValueLaws.{induction, node_count-Num, node_count-Con}
 use Rattle.rb_bytes.specs.Memory.{Memory}
 use Rattle.rb_layout.specs.Flattening.{flat_layouts}
 use Rattle.rb_rel.proofs.Represented.{Represents-int}

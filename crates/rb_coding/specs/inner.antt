@@ -1,6 +1,10 @@
 pub mod Filling
+pub mod Gathering
+pub mod Leading
+pub mod Loading
 pub mod Making
 pub mod Nodes
+pub mod Opening
 pub mod Packing
 pub mod Planning
 pub mod Todo

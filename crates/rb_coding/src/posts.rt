@@ -29,8 +29,8 @@ pub(crate) fn sizes_of(alloc: Global, value: &Forest) -> Result<Seq<usize>, Allo
     Ok(sizes)
 }
 
-// The types of the fields of a constructor of a type.
-fn field_list(types: &[DataDecl], ty: Ty, con: u32) -> &[Ty]
+/// The types of the fields of a constructor of a type.
+pub(crate) fn field_list(types: &[DataDecl], ty: Ty, con: u32) -> &[Ty]
     ensures { result.now ≡ field_list types.now ty con }
 {
     let Ty::Named(ty) = ty else {

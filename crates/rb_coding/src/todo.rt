@@ -7,6 +7,9 @@ ghost use Rattle.rb_bytes.specs.Memory.{IsGood};
 ghost use Rattle.rb_coding.specs.Decoding.{AreOf};
 ghost use Rattle.rb_coding.specs.inner.Todo.{IsOpened};
 
+use crate::loading::load_blocks;
+use crate::plan::{Opening, plan};
+use crate::splits::leaf_number;
 use rb_bytes::memory::ByteMemory;
 use rb_core::seq::Seq;
 use rb_core::types::Ty;
@@ -36,5 +39,26 @@ pub(crate) fn open<M: ByteMemory>(
     requires represented { (v : Value) × AreOf agreed.now.covered.program (M.memory memory.now) (Named ty) words.now v }
     ensures { OnOk result (IsOpened agreed.now.covered.program (M.memory memory.now) ty words.now todo.old.items todo.new.items) }
 {
-    Err(AllocError)
+    let layouts = agreed.layouts();
+    let types = agreed.covered().program().types.as_slice();
+    let layout = match layouts.get(ty as usize) {
+        None => unreachable!(),
+        Some(layout) => layout,
+    };
+    let leaf = match layout
+        .leaves
+        .get(leaf_number(memory, words, &layout.tree) as usize)
+    {
+        None => unreachable!(),
+        Some(leaf) => leaf,
+    };
+    let loaded = load_blocks(alloc, memory, leaf, words)?;
+    let opening = Opening {
+        types,
+        layouts,
+        leaf,
+        words,
+        loaded: loaded.as_slice(),
+    };
+    plan(alloc, &opening, &leaf.prov, Ty::Named(ty), &[], todo)
 }

@@ -4,9 +4,7 @@ ghost use Rattle.std.specs.Prelude.{◌≡◌, ◌∷◌, ◌<◌, [], IfOk, OnO
 ghost use Rattle.rb_core.specs.declared.pattern.Pat.{Wild};
 ghost use Rattle.rb_target.specs.Growth.{Grows};
 ghost use Rattle.rb_fragment.specs.Arms.{AreHoles, AreOfOneWay};
-ghost use Rattle.rb_decide.specs.Trees.{match_tree};
-ghost use Rattle.rb_match.specs.inner.Trees.{TakesTree};
-ghost use Rattle.rb_match.specs.inner.Clauses.{way_holes, TriesClause, TriesAll};
+ghost use Rattle.rb_match.specs.inner.Clauses.{way_holes, TakesAlone, TriesClause, TriesAll};
 
 use crate::choosing::emit_tree;
 use rb_core::pattern::Pat;
@@ -41,7 +39,7 @@ fn emit_alone(
 ) -> Result<Seq<Hole>, AllocError>
     ensures holes { IfOk result (λ holes. AreHoles (length body.old.code) 2 body.new.code holes) }
     ensures ways { IfOk result (λ holes. AreOfOneWay holes) }
-    ensures takes { IfOk result (λ holes. TakesTree agreed.now ty words.now (pat.now ∷ Wild 0 ∷ []) (match_tree agreed.now.covered.program.types ty (pat.now ∷ Wild 0 ∷ [])) body.old body.new holes) }
+    ensures takes { IfOk result (λ holes. TakesAlone agreed.now ty words.now pat.now body.old body.new holes) }
     ensures grows { OnOk result (Grows body.old.code body.new.code) }
 {
     let types = agreed.covered().program().types.as_slice();

@@ -2,7 +2,8 @@
 use Rattle.std.specs.Prelude.{◌≡◌, ℕ, ◌+◌, ◌*◌, ◌<◌, ◌≤◌, ◌==◌, List, [], ◌∷◌, length, Bool, true, false, Some, slice_get, if◌then◌else◌}
 use Rattle.rb_core.specs.declared.value.Value.{Value}
 use Rattle.rb_core.specs.declared.types.Ty.{Ty}
-use Rattle.rb_core.specs.declared.pattern.Pat.{Pat}
+use Rattle.rb_core.specs.declared.pattern.Pat.{Pat, Wild}
+use Rattle.rb_decide.specs.Trees.{match_tree}
 use Rattle.rb_core.specs.Matching.{chosen_clause, matches_of}
 use Rattle.rb_bytes.specs.Memory.{IsGood}
 use Rattle.rb_target.specs.declared.instr.Instr.{Instr}
@@ -21,11 +22,17 @@ use Rattle.rb_fragment.specs.Pieces.{IsLater, Leaves}
 use Rattle.rb_fragment.specs.WordReads.{AreMeant, AllFit}
 use Rattle.rb_fetch.specs.Finding.{IsPlanOf}
 use Rattle.rb_match.specs.Bounding.{looks_of, places_of}
+use Rattle.rb_match.specs.inner.Trees.{TakesTree}
 
 -- the holes of a way, by another name
 abbrev pub way_holes : ℕ → ℕ → List Hole → List Hole
 way_holes way name [] = []
 way_holes way name (h ∷ hs) = if h.leaf == way then record { pc = h.pc; arm = h.arm; leaf = name } ∷ way_holes way name hs else way_holes way name hs
+
+-- the code of a match of one clause and a wildcard
+abbrev pub TakesAlone : LaidOut → Ty → List Read → Pat → Sheet → Sheet → List Hole → Type 0
+TakesAlone agreed ty words pat old new holes =
+    TakesTree agreed ty words (pat ∷ Wild 0 ∷ []) (match_tree agreed.covered.program.types ty (pat ∷ Wild 0 ∷ [])) old new holes
 
 -- the run comes to the end of the code, after at most so many switches
 pub record GoesOn (next : Next) (n most start end : ℕ) (s : List ℕ) (w : World) : Type 0 where

@@ -1,6 +1,5 @@
 use Rattle.std.proofs.Common.{ap, ◌∙◌, arith}
-use Rattle.rb_core.specs.declared.types.Ty.TheVariants.{Int, Named}
-use Rattle.rb_coding.specs.declared.todo.Step.TheVariants.{Visit, Join}
+use Rattle.rb_coding.specs.declared.todo.Step.TheVariants.{Visit}
 use Rattle.rb_coding.proofs.TodoLemmas.{some_node, join_some, join_runs, join_within, join_less, number_runs, number_within, number_less, visit_some, visit_runs, visit_over, visit_less}
 use Rattle.rb_coding.proofs.decode.decode.Goals as goal
 

@@ -1,0 +1,63 @@
+-- Tables that are gathered from the parts of a leaf: the addresses of its blocks, or the words of one
+-- of its fields. Each part that has an entry of the table puts it there.
+use Rattle.std.specs.Prelude.{ℕ, ◌+◌, ◌*◌, ◌%◌, List, [], ◌∷◌, length, replicate, Option, Some, None, slice_index, slice_index_or, slice_set, if◌then◌else◌}
+use Rattle.rb_core.specs.declared.types.Ty.{Ty}
+use Rattle.rb_core.specs.declared.types.DataDecl.{DataDecl}
+use Rattle.rb_bits.specs.Words.{take_of}
+use Rattle.rb_layout.specs.declared.layout.Block.{Block}
+use Rattle.rb_layout.specs.declared.layout.FlatWord.{FlatWord}
+use Rattle.rb_layout.specs.declared.layout.Kind.{Kind}
+use Rattle.rb_layout.specs.declared.layout.Kind.TheVariants.{Const, Bits, Word, Pointer}
+use Rattle.rb_layout.specs.declared.layout.Layout.{Layout}
+use Rattle.rb_layout.specs.declared.layout.Leaf.{Leaf}
+use Rattle.rb_layout.specs.declared.layout.Part.{Part}
+use Rattle.rb_layout.specs.Flattening.{same_path, type_at}
+use Rattle.rb_layout.specs.Positions.{open_positions}
+use Rattle.rb_rel.specs.Relation.{word_count}
+use Rattle.rb_coding.specs.inner.Packing.{put_into}
+use Rattle.rb_coding.specs.declared.gather.Wanted.{Wanted}
+use Rattle.rb_coding.specs.declared.gather.Wanted.TheVariants.{Addresses, Field}
+
+-- the entry of the table for which a part of l bits stands, and what it is to be: the number n in the
+-- part's bits, put into the first entry so far where it is a slice of an integer
+abbrev pub entry : Wanted → List ℕ → ℕ → ℕ → ℕ → Kind → Option (ℕ × ℕ)
+entry Addresses path first n l (Const c) = None
+entry Addresses path first n l (Bits own a) = None
+entry Addresses path first n l (Word own j) = None
+entry Addresses path first n l (Pointer align b) = Some (b, n * align % 18446744073709551616)
+entry Field path first n l (Const c) = None
+entry Field path first n l (Bits own a) = if same_path own path then Some (0, put_into first a l n) else None
+entry Field path first n l (Word own j) = if same_path own path then Some (j, n) else None
+entry Field path first n l (Pointer align b) = None
+
+abbrev pub put_entry : List ℕ → Option (ℕ × ℕ) → List ℕ
+put_entry table None = table
+put_entry table (Some e) = slice_set table e.0 e.1
+
+-- what a part of word w puts
+abbrev pub put_part : Wanted → List ℕ → ℕ → List ℕ → Part → List ℕ
+put_part wanted path w table p = put_entry table (entry wanted path (slice_index table 0) (take_of w p.o p.l) p.l p.kind)
+
+abbrev pub put_parts : Wanted → List ℕ → ℕ → List Part → List ℕ → List ℕ
+put_parts wanted path w [] table = table
+put_parts wanted path w (p ∷ ps) table = put_parts wanted path w ps (put_part wanted path w table p)
+
+-- flat words, the first of which is word j
+abbrev pub put_words : Wanted → List ℕ → List FlatWord → List ℕ → ℕ → List ℕ → List ℕ
+put_words wanted path [] ws j table = table
+put_words wanted path (f ∷ fs) ws j table = put_words wanted path fs ws (j + 1) (put_parts wanted path (slice_index ws j) f.parts table)
+
+-- blocks, whose words were loaded from the last block to the first
+abbrev pub put_blocks : List ℕ → List Block → List (List ℕ) → List ℕ → List ℕ
+put_blocks path [] loaded table = table
+put_blocks path (b ∷ bs) loaded table = put_blocks path bs loaded (put_words Field path b.words (slice_index_or loaded (length bs) []) 0 table)
+
+abbrev pub count_at : List Layout → Option Ty → ℕ
+count_at layouts None = 0
+count_at layouts (Some ty) = word_count layouts ty
+
+-- the words of the field at a path
+abbrev pub field_words : List DataDecl → List Layout → Leaf → List ℕ → List (List ℕ) → List ℕ → List ℕ
+field_words types layouts leaf ws loaded path =
+    put_blocks path leaf.blocks loaded
+    (put_words Field path leaf.root ws 0 (replicate (count_at layouts (type_at (open_positions types leaf.prov) path)) 0))

@@ -1,0 +1,35 @@
+-- Splits that are read on the way to one leaf.
+use Rattle.std.specs.Prelude.{◌≡◌, ℕ, List, [], ◌∷◌, nat_eq, Option, Some, slice_get, if◌then◌else◌}
+use Rattle.rb_core.specs.declared.layout_decl.Loc.{Loc}
+use Rattle.rb_core.specs.declared.layout_decl.Step.{Step}
+use Rattle.rb_bytes.specs.Memory.{Memory, IsWidth}
+use Rattle.rb_layout.specs.declared.layout.FlatTree.{FlatTree}
+use Rattle.rb_layout.specs.declared.layout.FlatArm.{FlatArm}
+use Rattle.rb_layout.specs.Splits.{Test, Is, IsNone, Route, routes_of, splits_of}
+use Rattle.rb_layout.specs.A7.{IsLiteral}
+use Rattle.rb_rel.specs.Reading.{read_loc}
+use Rattle.rb_rel.proofs.Trees.{LiteralsDistinct}
+
+-- this number is read at a location, by loads of widths that a memory has
+pub record Reads (ws : List ℕ) (m : Memory) (loc : Loc) (n : ℕ) : Type 0 where
+  pub is_read : read_loc ws m loc ≡ Some n
+  pub widths : (k : ℕ) (s : Step) → slice_get loc.steps k ≡ Some s → IsWidth s.width
+
+-- a test, done on words
+abbrev pub Passes : List ℕ → Memory → Test → Type 0
+Passes ws m (Is loc c) = Reads ws m loc c
+Passes ws m (IsNone loc literals) = (n : ℕ) × Reads ws m loc n × (IsLiteral literals n → ⊥)
+
+-- the tests on a way to this leaf pass
+pub record Leads (ws : List ℕ) (m : Memory) (tree : FlatTree) (leaf : ℕ) : Type 0 where
+  pub distinct : LiteralsDistinct (splits_of tree)
+  pub number : ℕ
+  pub route : Route
+  pub is_route : slice_get (routes_of tree) number ≡ Some route
+  pub is_leaf : route.leaf ≡ leaf
+  pub passes : (k : ℕ) (t : Test) → slice_get route.tests k ≡ Some t → Passes ws m t
+
+-- what stands under a number: under the first arm with this literal, or else under `else`
+abbrev pub under_number : List FlatArm → Option FlatTree → ℕ → Option FlatTree
+under_number [] other n = other
+under_number (arm ∷ arms) other n = if nat_eq arm.literal n then Some arm.under else under_number arms other n

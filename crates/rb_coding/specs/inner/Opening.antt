@@ -1,0 +1,14 @@
+-- A value of a data type that is opened: the words of its fields, and what it comes to.
+use Rattle.std.specs.Prelude.{ℕ, List}
+use Rattle.rb_core.specs.declared.pattern.Pat.{Pat}
+use Rattle.rb_coding.specs.declared.plan.Opening.{Opening}
+use Rattle.rb_coding.specs.inner.Gathering.{field_words}
+use Rattle.rb_coding.specs.inner.Planning.{Planned, plan_of}
+
+-- the words of the field at a path
+abbrev pub words_of : Opening → List ℕ → List ℕ
+words_of x = field_words x.types.now x.layouts.now x.leaf.now x.words.now x.loaded.now
+
+-- the steps of a provenance
+abbrev pub steps_of : Opening → Pat → Planned
+steps_of x = plan_of x.types.now (words_of x)

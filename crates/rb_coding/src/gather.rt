@@ -1,0 +1,178 @@
+//! Tables gathered from the parts of a leaf: the addresses of its blocks, or the words of a field.
+
+ghost use Rattle.std.specs.Prelude.{◌≡◌, ◌∷◌, [], IfOk, replicate, slice_index, slice_index_or, slice_set};
+ghost use Rattle.rb_layout.specs.Flattening.{same_path};
+ghost use Rattle.rb_rel.specs.Relation.{word_count};
+ghost use Rattle.rb_coding.specs.inner.Gathering.{count_at, entry, field_words, put_blocks, put_entry, put_part, put_parts, put_words};
+
+use crate::bits::{put_into, take_from};
+use rb_core::seq::Seq;
+use rb_core::types::{DataDecl, Ty};
+use rb_layout::layout::{Block, FlatWord, Kind, Layout, Leaf, Part};
+use rb_layout::positions::type_at;
+use std::alloc::{AllocError, Global};
+
+/// What a table is of.
+#[derive(Clone, Copy)]
+pub enum Wanted {
+    /// The addresses of the leaf's blocks, by number.
+    Addresses,
+    /// The words of the field at a path.
+    Field,
+}
+
+fn item(table: &[u64], i: usize) -> u64
+    ensures { result ≡ slice_index table.now i }
+{
+    match table.get(i) {
+        None => 0,
+        Some(number) => *number,
+    }
+}
+
+fn same_path(own: &[u32], path: &[u32]) -> bool
+    ensures { result ≡ same_path own.now path.now }
+{
+    own == path
+}
+
+// The entry for which a part of `l` bits with a number in them stands, and what it is to be.
+fn entry(
+    wanted: Wanted,
+    path: &[u32],
+    first: u64,
+    number: u64,
+    l: u64,
+    kind: &Kind,
+) -> Option<(u64, u64)>
+    ensures { result ≡ entry wanted path.now first number l kind.now }
+{
+    match wanted {
+        Wanted::Addresses => match kind {
+            Kind::Const(_) => None,
+            Kind::Bits(_, _) => None,
+            Kind::Word(_, _) => None,
+            Kind::Pointer(align, block) => Some((*block as u64, number.wrapping_mul(*align))),
+        },
+        Wanted::Field => match kind {
+            Kind::Const(_) => None,
+            Kind::Bits(own, a) => if same_path(own.as_slice(), path) {
+                Some((0, put_into(first, *a, l, number)))
+            } else {
+                None
+            },
+            Kind::Word(own, j) => if same_path(own.as_slice(), path) {
+                Some((*j, number))
+            } else {
+                None
+            },
+            Kind::Pointer(_, _) => None,
+        },
+    }
+}
+
+fn put_at(table: &mut Seq<u64>, i: u64, number: u64)
+    ensures { table.new ≡ slice_set table.old i number }
+{
+    if (i as usize) < table.len() {
+        let _old = table.replace(i as usize, number);
+    }
+}
+
+// Puts what the parts of a word stand for.
+fn put_parts(table: &mut Seq<u64>, wanted: Wanted, path: &[u32], parts: &[Part], word: u64)
+    ensures { table.new ≡ put_parts wanted path.now word parts.now table.old }
+{
+    for part in parts {
+        let number = take_from(word, part.o, part.l);
+        let first = item(table.as_slice(), 0);
+        match entry(wanted, path, first, number, part.l, &part.kind) {
+            None => {}
+            Some((i, found)) => put_at(table, i, found),
+        }
+    }
+}
+
+/// Puts what the parts of words stand for.
+pub(crate) fn put_words(
+    table: &mut Seq<u64>,
+    wanted: Wanted,
+    path: &[u32],
+    flats: &[FlatWord],
+    words: &[u64],
+)
+    ensures { table.new ≡ put_words wanted path.now flats.now words.now 0 table.old }
+{
+    for (j, flat) in flats.iter().enumerate() {
+        put_parts(table, wanted, path, flat.parts.as_slice(), item(words, j));
+    }
+}
+
+fn words_at(loaded: &[Seq<u64>], i: usize) -> &[u64]
+    ensures { result.now ≡ slice_index_or loaded.now i [] }
+{
+    match loaded.get(i) {
+        None => &[],
+        Some(words) => words.as_slice(),
+    }
+}
+
+// Puts what the parts of blocks stand for, whose words were loaded from the last block to the first.
+fn put_blocks(table: &mut Seq<u64>, path: &[u32], blocks: &[Block], loaded: &[Seq<u64>])
+    ensures { table.new ≡ put_blocks path.now blocks.now loaded.now table.old }
+{
+    for (b, block) in blocks.iter().enumerate() {
+        let words = words_at(loaded, blocks.len() - 1 - b);
+        put_words(table, Wanted::Field, path, block.words.as_slice(), words);
+    }
+}
+
+fn word_count(layouts: &[Layout], ty: Ty) -> usize
+    ensures { result ≡ word_count layouts.now ty }
+{
+    match ty {
+        Ty::Int(_) => 1,
+        Ty::Named(ty) => match layouts.get(ty as usize) {
+            None => 0,
+            Some(layout) => layout.shape.len(),
+        },
+    }
+}
+
+fn count_at(layouts: &[Layout], ty: Option<Ty>) -> usize
+    ensures { result ≡ count_at layouts.now ty }
+{
+    match ty {
+        None => 0,
+        Some(ty) => word_count(layouts, ty),
+    }
+}
+
+/// A table of so many zeros.
+pub(crate) fn zeros(alloc: Global, count: usize) -> Result<Seq<u64>, AllocError>
+    ensures { IfOk result (λ table. table ≡ replicate count 0) }
+{
+    let mut table = Seq::new(alloc);
+    for _turn in 0..count {
+        table.push(0)?;
+    }
+    Ok(table)
+}
+
+/// The words of the field at a path of a leaf with these root words and words of blocks.
+pub(crate) fn field_words(
+    alloc: Global,
+    types: &[DataDecl],
+    layouts: &[Layout],
+    leaf: &Leaf,
+    words: &[u64],
+    loaded: &[Seq<u64>],
+    path: &[u32],
+) -> Result<Seq<u64>, AllocError>
+    ensures { IfOk result (λ found. found ≡ field_words types.now layouts.now leaf.now words.now loaded.now path.now) }
+{
+    let mut table = zeros(alloc, count_at(layouts, type_at(types, &leaf.prov, path)))?;
+    put_words(&mut table, Wanted::Field, path, leaf.root.as_slice(), words);
+    put_blocks(&mut table, path, leaf.blocks.as_slice(), loaded);
+    Ok(table)
+}
