@@ -60,7 +60,9 @@ fun main(x: u1): u8 = match x { 0 => 5 };~2 ribbit: match at byte 22 misses 1;\n
 fun main(x: u2): u8 = match x { 0 => 1, 1 => 2, 3 => 4 };~2 ribbit: match at byte 22 misses 2;\n\
 fun main(x: u1): u8 = match x { 0 => match x { 1 => 2 }, _ => 3 };~2 ribbit: match at byte 37 misses 0;\n\
 type T = A | B; fun main(x: T): u8 = match x { A => 1 };~2 ribbit: match at byte 37 misses B;\n\
-type C = R | K; type T = E | N(C, T); fun main(x: T): u8 = match x { E => 0, N(R, _) => 1, N(K, N(_, _)) => 2 };~2 ribbit: match at byte 59 misses N(K, E);";
+type C = R | K; type T = E | N(C, T); fun main(x: T): u8 = match x { E => 0, N(R, _) => 1, N(K, N(_, _)) => 2 };~2 ribbit: match at byte 59 misses N(K, E);\n\
+type T = A; fun main(): u8 = 0;~3 ribbit: layout of T: A1: no layout;\n\
+fun main(): u8 = 0; type T = A;~3 ribbit: layout of T: A1: no layout;";
 
 /// Files that are accepted, each with its answer to `check`.
 const CHECKED: &str = "fun main(): u8 = 0;~0 ok;\n\
@@ -68,17 +70,14 @@ fun main(x: u1): u8 = match x { 0 => 5, 1 => 6 };~0 ok;\n\
 fun main(x: u8): u8 = match x { _ => 5, 0 => 6 };~0 note: clause 1 of the match at byte 22 is never reached;ok;\n\
 fun main(x: u8): u8 = match x { 0 => 1, 0 => 2, _ => 3, 4 => 5 };~0 note: clause 1 of the match at byte 22 is never reached;note: clause 3 of the match at byte 22 is never reached;ok;\n\
 fun f(x: u1): u1 = match x { _ => 0, 1 => match x { _ => 1, _ => 0 } }; fun main(): u8 = 0;~0 note: clause 1 of the match at byte 19 is never reached;note: clause 1 of the match at byte 42 is never reached;ok;\n\
-type T = A; fun main(): u8 = 0;~15 ribbit: not built yet at byte 0;\n\
-fun main(): u8 = 0; type T = A;~15 ribbit: not built yet at byte 20;\n\
-fun main(b: Bit): Bit = b; layout Bit <8> = split 0[0:1] { 0 => Off : { word 8 { [0:1] = 0 } } 1 => On : { word 8 { [0:1] = 1 } } }; type Bit = Off | On;~15 ribbit: not built yet at byte 27;";
+fun main(b: Bit): Bit = b; layout Bit <8> = split 0[0:1] { 0 => Off : { word 8 { [0:1] = 0 } } 1 => On : { word 8 { [0:1] = 1 } } }; type Bit = Off | On;~0 ok;";
 
 /// Files that are accepted, with values, and the answer to `run`.
 const RUN: &str = "fun main(): u8 = 7;~~0 7;\n\
 fun main(x: u8): u8 = to u8(add(x, 1));~255~0 0;\n\
 fun main(x: u1): u8 = match x { 0 => 5, 1 => 6 };~1~0 6;\n\
 \x20 fun f(): u8 = 0; fun main(): u8 = 0;~~0 0;\n\
-fun main(x: u8): u8 = let y: u8 = x in y;~1~0 1;\n\
-type T = A; fun main(): u8 = 0;~~3 ribbit: layout of T: A1: no layout;";
+fun main(x: u8): u8 = let y: u8 = x in y;~1~0 1;";
 
 #[test]
 fn refused_files(rt: HostRuntime) -> Result<(), Fail> {
@@ -87,6 +86,7 @@ fn refused_files(rt: HostRuntime) -> Result<(), Fail> {
         let columns: Vec<&str> = row.split('~').collect(alloc)?;
         if let [file, wanted] = columns.as_slice() {
             expect_answer(&rt, alloc, "check E", file.as_bytes(), wanted)?;
+            expect_answer(&rt, alloc, "layout E", file.as_bytes(), wanted)?;
             expect_answer(&rt, alloc, "run E 9 64 x", file.as_bytes(), wanted)?;
         } else {
             assert!(rt; false);
@@ -206,7 +206,7 @@ fn limits_of_files(rt: HostRuntime) -> Result<(), Fail> {
         alloc,
         "check E",
         types.as_slice(),
-        "15 ribbit: not built yet at byte 0;",
+        "3 ribbit: layout of T0: A1: no layout;",
     )?;
     let types = declared(alloc, "type T", "=C", ";", 1001)?;
     let wanted = "11 ribbit: limit types: 1001 over 1000;";
@@ -225,7 +225,7 @@ fn limits_of_items(rt: HostRuntime) -> Result<(), Fail> {
         alloc,
         "check E",
         text.as_slice(),
-        "15 ribbit: not built yet at byte 0;",
+        "3 ribbit: layout of T: A1: no layout;",
     )?;
     let text = repeated(alloc, "type T = A(u8", ", u8", 32, "); fun main(): u8 = 0;")?;
     let wanted = "11 ribbit: limit fields: 33 over 32;";

@@ -1,5 +1,5 @@
-//! Runs of files with layouts. The answers were given by a program apart from this one, written from the
-//! language's pages alone.
+//! Files with layouts: runs, checks and texts of layouts. The answers were given by a program apart from
+//! this one, written from the language's pages alone.
 
 use crate::call::{call, expect_answer};
 use std::test::Fail;
@@ -44,32 +44,104 @@ const COLOR: &str =
 const ROWS: [(&str, &str, &str); 32] = [
     (SUM, "10 1024 Cons(1,Cons(2,Nil))", "0 3;"),
     (SUM, "4 1024 Cons(1,Cons(2,Nil))", "0 3;"),
-    (SUM, "3 1024 Cons(1,Cons(2,Nil))", "4 ribbit: calls spent: 3;"),
+    (
+        SUM,
+        "3 1024 Cons(1,Cons(2,Nil))",
+        "4 ribbit: calls spent: 3;",
+    ),
     (SUM, "10 96 Cons(1,Cons(2,Nil))", "0 3;"),
-    (SUM, "10 95 Cons(1,Cons(2,Nil))", "5 ribbit: region full: next 80, size 16, align 8, limit 95;"),
+    (
+        SUM,
+        "10 95 Cons(1,Cons(2,Nil))",
+        "5 ribbit: region full: next 80, size 16, align 8, limit 95;",
+    ),
     (SUM, "2 64 Nil", "0 0;"),
     (SUM, "0 1024 Nil", "4 ribbit: calls spent: 0;"),
-    (SUM, "0 64 Cons(1,Nil)", "5 ribbit: region full: next 64, size 16, align 8, limit 64;"),
+    (
+        SUM,
+        "0 64 Cons(1,Nil)",
+        "5 ribbit: region full: next 64, size 16, align 8, limit 64;",
+    ),
     (SUM, "10 1024", "10 ribbit: wanted 1 arguments, found 0;"),
-    (SUM, "10 1024 Nil Nil", "10 ribbit: wanted 1 arguments, found 2;"),
-    (SUM, "10 1024 Cons(1)", "10 ribbit: argument 1: no value of List at byte 0;"),
-    (SUM, "10 1024 Cons(1,Cons(Nil,Nil))", "10 ribbit: argument 1: no value of List at byte 12;"),
-    (SUM, "10 1024 Cons(1,Nil", "10 ribbit: argument 1: syntax at byte 10;"),
-    (SUM, "10 1024 Cons(1,5)", "10 ribbit: argument 1: no value of List at byte 7;"),
-    (LIST, "1 1024 Cons(18446744073709551615,Cons(2,Nil))", "0 Cons(18446744073709551615, Cons(2, Nil));"),
-    (INSERT, "3 100 Node(Black,Empty,7,Empty) 9", "0 Node(Black, Empty, 7, Node(Red, Empty, 9, Empty));"),
-    (INSERT, "3 99 Node(Black,Empty,7,Empty) 9", "5 ribbit: region full: next 88, size 12, align 4, limit 99;"),
-    (INSERT, "2 100 Node(Black,Empty,7,Empty) 9", "4 ribbit: calls spent: 2;"),
-    (INSERT, "9 1024 Node(Black,Empty,7,Empty) 4294967296", "10 ribbit: argument 2: no value of u32 at byte 0;"),
-    (INSERT, "9 1024 Node(Black,Empty,7,Empty) 7", "0 Node(Black, Empty, 7, Empty);"),
-    (INSERT, "9 1024 Node(Blue,Empty,7,Empty) 7", "10 ribbit: argument 1: no value of Tree at byte 5;"),
+    (
+        SUM,
+        "10 1024 Nil Nil",
+        "10 ribbit: wanted 1 arguments, found 2;",
+    ),
+    (
+        SUM,
+        "10 1024 Cons(1)",
+        "10 ribbit: argument 1: no value of List at byte 0;",
+    ),
+    (
+        SUM,
+        "10 1024 Cons(1,Cons(Nil,Nil))",
+        "10 ribbit: argument 1: no value of List at byte 12;",
+    ),
+    (
+        SUM,
+        "10 1024 Cons(1,Nil",
+        "10 ribbit: argument 1: syntax at byte 10;",
+    ),
+    (
+        SUM,
+        "10 1024 Cons(1,5)",
+        "10 ribbit: argument 1: no value of List at byte 7;",
+    ),
+    (
+        LIST,
+        "1 1024 Cons(18446744073709551615,Cons(2,Nil))",
+        "0 Cons(18446744073709551615, Cons(2, Nil));",
+    ),
+    (
+        INSERT,
+        "3 100 Node(Black,Empty,7,Empty) 9",
+        "0 Node(Black, Empty, 7, Node(Red, Empty, 9, Empty));",
+    ),
+    (
+        INSERT,
+        "3 99 Node(Black,Empty,7,Empty) 9",
+        "5 ribbit: region full: next 88, size 12, align 4, limit 99;",
+    ),
+    (
+        INSERT,
+        "2 100 Node(Black,Empty,7,Empty) 9",
+        "4 ribbit: calls spent: 2;",
+    ),
+    (
+        INSERT,
+        "9 1024 Node(Black,Empty,7,Empty) 4294967296",
+        "10 ribbit: argument 2: no value of u32 at byte 0;",
+    ),
+    (
+        INSERT,
+        "9 1024 Node(Black,Empty,7,Empty) 7",
+        "0 Node(Black, Empty, 7, Empty);",
+    ),
+    (
+        INSERT,
+        "9 1024 Node(Blue,Empty,7,Empty) 7",
+        "10 ribbit: argument 1: no value of Tree at byte 5;",
+    ),
     (SHAPE, "1 1024 Box(1,2)", "0 3;"),
     (SHAPE, "1 1024 Dot(255)", "0 255;"),
     (SHAPES, "1 78 Box(1,2) Dot(5)", "0 0;"),
-    (SHAPES, "1 77 Box(1,2) Dot(5)", "5 ribbit: region full: next 73, size 2, align 4, limit 77;"),
+    (
+        SHAPES,
+        "1 77 Box(1,2) Dot(5)",
+        "5 ribbit: region full: next 73, size 2, align 4, limit 77;",
+    ),
     (PAIR, "1 1024 Two(5,6)", "0 Two(5, 6);"),
-    (BRANCH, "1 64 Branch(7,31,30,2730)", "0 Branch(7, 31, 30, 2730);"),
-    (BRANCH, "1 64 Branch(8,31,30,2730)", "10 ribbit: argument 1: no value of Instr at byte 7;"),
+    (
+        BRANCH,
+        "1 64 Branch(7,31,30,2730)",
+        "0 Branch(7, 31, 30, 2730);",
+    ),
+    (
+        BRANCH,
+        "1 64 Branch(8,31,30,2730)",
+        "10 ribbit: argument 1: no value of Instr at byte 7;",
+    ),
     (TWIN, "40 1024 2", "0 Fork(Fork(Tip, Tip), Fork(Tip, Tip));"),
     (TWIN, "40 1024 30", "13 ribbit: value over 1000000 nodes;"),
     (COLOR, "4 64 Red", "0 Black;"),
@@ -84,6 +156,124 @@ fn runs_with_layouts(rt: HostRuntime) -> Result<(), Fail> {
         expect_answer(&rt, alloc, words.as_str(), file.as_bytes(), wanted)?;
     }
     Ok(())
+}
+
+/// A tree with a leaf for each color of a node.
+const DEEP: &str =
+    "type Color = Red | Black;layout Color <1> = split 0[0:1] { 0 => Red : { word 1 { [0:1] = 0 } } 1 => Black : { word 1 { [0:1] = 1 } } };type Tree = Empty | Node(Color, Tree, u32, Tree);layout Tree <32> = split 0[0:32] { 0 => Empty : { word 32 { [0:32] = 0 } } else => split 0[0:1] { 0 => Node(Red, _, _, _) : { word 32 { [0:1] = 0, [2:22] -> 4 { word 32 { [0:32] .2 }, inline .1, inline .3 } } } 1 => Node(Black, _, _, _) : { word 32 { [0:1] = 1, [2:22] -> 4 { word 32 { [0:32] .2 }, inline .1, inline .3 } } } } };fun main(t: Tree): Color = match t { Empty => Black, Node(c, l, x, r) => c };";
+
+/// One bit in a byte.
+const BIT: &str =
+    "type Bit = Off | On; layout Bit <8> = split 0[0:1] { 0 => Off : { word 8 { [0:1] = 0 } } 1 => On : { word 8 { [0:1] = 1 } } }; fun main(b: Bit): Bit = b;";
+
+#[test]
+fn layouts_that_agree(rt: HostRuntime) -> Result<(), Fail> {
+    let alloc = rt.alloc();
+    for file in [SUM, INSERT, SHAPE, PAIR, BRANCH, TWIN, COLOR, DEEP, BIT] {
+        expect_answer(&rt, alloc, "check E", file.as_bytes(), "0 ok;")?;
+    }
+    Ok(())
+}
+
+/// Files whose layouts break a rule, one of each rule at least, and the answer to each command.
+const DISAGREEING: [(&str, &str); 14] = [
+    (
+        "type Bit = Off | On; fun main(): u8 = 0;",
+        "3 ribbit: layout of Bit: A1: no layout;",
+    ),
+    (
+        "type Bit = Off | On; layout Bit <8> = split 0[0:1] { 0 => Off : { word 16 { [0:1] = 0 } } 1 => On : { word 8 { [0:1] = 1 } } }; fun main(b: Bit): Bit = b;",
+        "3 ribbit: layout of Bit: A2: leaf Off: word 0 has 16 bits, wanted 8;",
+    ),
+    (
+        "type Bit = Off | On; layout Bit <8> = split 0[0:1] { 0 => Off : { word 8 { [0:2] = 0, [1:3] = 1 } } 1 => On : { word 8 { [0:1] = 1 } } }; fun main(b: Bit): Bit = b;",
+        "3 ribbit: layout of Bit: A3: leaf Off: item 0: parts [0:2] and [1:3] overlap;",
+    ),
+    (
+        "type Color = Red | Black;layout Color <1> = split 0[0:1] { 0 => Red : { word 1 { [0:1] = 0 } } 1 => Black : { word 1 { [0:1] = 1 } } };type Tree = Empty | Node(Color, Tree, u32, Tree);layout Tree <32> = split 0[0:32] { 0 => Empty : { word 32 { [0:32] = 0 } } else => Node(_, _, _, _) : { word 32 { [0:1] .0, [2:21] -> 4 { word 32 { [0:32] .2 }, inline .1, inline .3 } } } };fun main(t: Tree): Tree = t;",
+        "3 ribbit: layout of Tree: A4: leaf Node(_, _, _, _): pointer of 23 bits;",
+    ),
+    (
+        "type Color = Red | Black;layout Color <1> = split 0[0:1] { 0 => Red : { word 1 { [0:1] = 0 } } 1 => Black : { word 1 { [0:1] = 1 } } };type Tree = Empty | Node(Color, Tree, u32, Tree);layout Tree <32> = split 0[0:32] { else => Node(_, _, _, _) : { word 32 { [0:1] .0, [2:22] -> 4 { word 32 { [0:32] .2 }, inline .1, inline .3 } } } };fun main(t: Tree): Tree = t;",
+        "3 ribbit: layout of Tree: A5: no leaf for Empty;",
+    ),
+    (
+        "type Color = Red | Black;layout Color <1> = split 0[0:1] { 0 => Red : { word 1 { [0:1] = 0 } } 1 => Black : { word 1 { [0:1] = 1 } } };type Tree = Empty | Node(Color, Tree, u32, Tree);layout Tree <32> = split 0[0:32] { 0 => Empty : { word 32 { [0:32] = 0 } } else => Node(_, _, _, _) : { word 32 { [0:1] .0, [2:22] -> 4 { word 32 { [0:32] .2 }, inline .1 } } } };fun main(t: Tree): Tree = t;",
+        "3 ribbit: layout of Tree: A6: leaf Node(_, _, _, _): field .3 word 0 not held;",
+    ),
+    (
+        "type Instr = Branch(u3, u5, u5, u12);layout Instr <32> = Branch(_, _, _, _) : { word 32 { [0:7] = 99, [8:4] .3[0:4], [12:3] .0, [15:5] .1, [20:5] .2, [25:6] .3[4:6], [31:1] .3[11:1] } };fun main(i: Instr): Instr = i;",
+        "3 ribbit: layout of Instr: A6: leaf Branch(_, _, _, _): field .3 bit 10 not held;",
+    ),
+    (
+        "type Bit = Off | On; layout Bit <8> = split 0[0:1] { 0 => Off : { word 8 { [0:1] = 1 } } 1 => On : { word 8 { [0:1] = 1 } } }; fun main(b: Bit): Bit = b;",
+        "3 ribbit: layout of Bit: A7: leaf Off: literal 0 not known at 0[0:1];",
+    ),
+    (
+        "type Color = Red | Black;layout Color <1> = split 0[0:1] { 0 => Red : { word 1 { [0:1] = 0 } } 1 => Black : { word 1 { [0:1] = 1 } } };type Tree = Empty | Node(Color, Tree, u32, Tree);layout Tree <32> = split 0[24:8] { 0 => Empty : { word 32 { [0:32] = 0 } } else => Node(_, _, _, _) : { word 32 { [0:1] .0, [2:22] -> 4 { word 32 { [0:32] .2 }, inline .1, inline .3 } } } };fun main(t: Tree): Tree = t;",
+        "3 ribbit: layout of Tree: A7: leaf Node(_, _, _, _): literal 0 not excluded at 0[24:8];",
+    ),
+    (
+        "type Opt = No | Yes(u64); layout Opt <64> = split 0[0:64] { 0 => No : { word 64 { [0:64] = 0 } } else => Yes(_) : { word 64 { [0:64] .0 } } }; fun main(): u8 = 0;",
+        "3 ribbit: layout of Opt: A7: leaf Yes(_): literal 0 not excluded at 0[0:64];",
+    ),
+    (
+        "type Bit = Off | On; layout Bit <8> = split 0[0:1] { 0 => Off : { word 8 { [0:1] = 0 } } 0 => On : { word 8 { [0:1] = 0 } } }; fun main(b: Bit): Bit = b;",
+        "3 ribbit: layout of Bit: A8: split 0[0:1]: literal 0 twice;",
+    ),
+    (
+        "type Crate = Cr(u64); layout Crate <64> = Cr(_) : { word 64 { [0:64] -> 8 { word 64 { [0:64] .0 } } } }; type Hold = Hd(Crate); layout Hold <64> = Hd(Cr(_)) : { word 64 { [0:64] -> 8 { word 64 { [0:64] .0.0 } } } }; fun main(): u8 = 0;",
+        "3 ribbit: layout of Hold: A9: Crate has a pointer;",
+    ),
+    (
+        "type T = C(T) | D; layout T <8, 64, 64> = split 0[0:1] { 0 => C(_) : { word 8 { [0:1] = 0 }, word 64 { [0:64] .0 word 1 }, word 64 { [0:64] -> 8 { word 8 { [0:8] .0 word 0 }, word 64 { [0:64] .0 word 2 } } } } 1 => D : { word 8 { [0:1] = 1 }, word 64 { }, word 64 { } } }; fun main(): u8 = 0;",
+        "3 ribbit: layout of T: A10: holding cycle T;",
+    ),
+    (
+        "type List = Nil | Cons(u64, List); layout List <64> = split 0[0:1] { 1 => Nil : { word 64 { [0:1] = 1 } } 0 => Cons(_, _) : { word 64 { [0:1] = 0, [0:61] -> 8 { word 64 { [0:64] .0 }, inline .1 } } } };fun main(l: List): List = l;",
+        "3 ribbit: layout of List: A3: leaf Cons(_, _): item 0: parts [0:1] and [0:61] overlap;",
+    ),
+];
+
+#[test]
+fn layouts_that_do_not_agree(rt: HostRuntime) -> Result<(), Fail> {
+    let alloc = rt.alloc();
+    for (file, wanted) in DISAGREEING {
+        for words in ["check E", "layout E", "compile E", "run E 9 1024"] {
+            expect_answer(&rt, alloc, words, file.as_bytes(), wanted)?;
+        }
+    }
+    Ok(())
+}
+
+/// File, and the text of its layouts.
+const SHOWN: [(&str, &str); 4] = [
+    (
+        BIT,
+        "0 type Bit;leaf Off;when 0[0:1] = 0;word 0: 8 bits;  0:1 = 0;  1:7 free;leaf On;when 0[0:1] = 1;word 0: 8 bits;  0:1 = 1;  1:7 free;",
+    ),
+    (
+        SUM,
+        "0 type List;leaf Nil;when 0[0:1] = 1;word 0: 64 bits;  0:1 = 1;  1:63 free;leaf Cons(_, _);when 0[0:1] = 0;word 0: 64 bits;  0:1 = 0;  1:2 free;  3:61 pointer to block 0;block 0: 16 bytes, align 8;word 0 at byte 0: 64 bits;  0:64 field .0 bits 0:64;word 1 at byte 8: 64 bits;  0:64 field .1 word 0;",
+    ),
+    (
+        SHAPE,
+        "0 type Shape;leaf Dot(_);when 0[0:32] -> 4 @0:8[0:8] = 0;word 0: 32 bits;  0:32 pointer to block 0;block 0: 2 bytes, align 4;word 0 at byte 0: 8 bits;  0:8 = 0;word 1 at byte 1: 8 bits;  0:8 field .0 bits 0:8;leaf Box(_, _);when 0[0:32] -> 4 @0:8[0:8] = 1;word 0: 32 bits;  0:32 pointer to block 0;block 0: 9 bytes, align 4;word 0 at byte 0: 8 bits;  0:8 = 1;word 1 at byte 1: 32 bits;  0:32 field .0 bits 0:32;word 2 at byte 5: 32 bits;  0:32 field .1 bits 0:32;",
+    ),
+    (
+        DEEP,
+        "0 type Color;leaf Red;when 0[0:1] = 0;word 0: 1 bits;  0:1 = 0;leaf Black;when 0[0:1] = 1;word 0: 1 bits;  0:1 = 1;type Tree;leaf Empty;when 0[0:32] = 0;word 0: 32 bits;  0:32 = 0;leaf Node(Red, _, _, _);when 0[0:32] not 0;when 0[0:1] = 0;word 0: 32 bits;  0:1 = 0;  1:1 free;  2:22 pointer to block 0;  24:8 free;block 0: 12 bytes, align 4;word 0 at byte 0: 32 bits;  0:32 field .2 bits 0:32;word 1 at byte 4: 32 bits;  0:32 field .1 word 0;word 2 at byte 8: 32 bits;  0:32 field .3 word 0;leaf Node(Black, _, _, _);when 0[0:32] not 0;when 0[0:1] = 1;word 0: 32 bits;  0:1 = 1;  1:1 free;  2:22 pointer to block 0;  24:8 free;block 0: 12 bytes, align 4;word 0 at byte 0: 32 bits;  0:32 field .2 bits 0:32;word 1 at byte 4: 32 bits;  0:32 field .1 word 0;word 2 at byte 8: 32 bits;  0:32 field .3 word 0;",
+    ),
+];
+
+#[test]
+fn texts_of_layouts(rt: HostRuntime) -> Result<(), Fail> {
+    let alloc = rt.alloc();
+    for (file, wanted) in SHOWN {
+        expect_answer(&rt, alloc, "layout E", file.as_bytes(), wanted)?;
+    }
+    // A file without types has no layouts.
+    expect_answer(&rt, alloc, "layout E", b"fun main(): u8 = 0;", "0 ")
 }
 
 /// A layout that is not plain is not compiled yet. The place is that of its word `layout`.
@@ -111,5 +301,11 @@ fn code_texts_run(rt: HostRuntime) -> Result<(), Fail> {
     let file = b"fun main(x: u8): u8 = add(x, 1);";
     let did = call(alloc, "compile E", file, &[], &[])?;
     assert_eq!(rt; (did.status, did.steps), (0, 0));
-    expect_answer(&rt, alloc, "exec E main 1 64 255", did.out.as_slice(), "0 0;")
+    expect_answer(
+        &rt,
+        alloc,
+        "exec E main 1 64 255",
+        did.out.as_slice(),
+        "0 0;",
+    )
 }

@@ -9,9 +9,12 @@ const FILE: &[u8] = b"fun main(x: u8, y: u8): u8 = add(x, mul(y, 3));";
 
 #[test]
 fn words_and_arguments(rt: HostRuntime) -> Result<(), Fail> {
-    let rows: [(&str, u8, &[u8]); 12] = [
+    let rows: [(&str, u8, &[u8]); 15] = [
         ("", 6, b"ribbit: usage at word 1\n"),
-        ("layout E", 6, b"ribbit: usage at word 1\n"),
+        ("layouts E", 6, b"ribbit: usage at word 1\n"),
+        ("layout", 6, b"ribbit: usage at word 2\n"),
+        ("layout E E", 6, b"ribbit: usage at word 3\n"),
+        ("compile E E", 6, b"ribbit: usage at word 3\n"),
         ("run", 6, b"ribbit: usage at word 2\n"),
         ("run E 01 64 250 2", 6, b"ribbit: usage at word 3\n"),
         ("run E 1000000001 64 250 2", 6, b"ribbit: usage at word 3\n"),

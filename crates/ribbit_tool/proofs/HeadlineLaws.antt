@@ -38,7 +38,7 @@ module _ (limits : Limits) (values : List (List ℕ)) (bytes : List ℕ) (p : Pr
       absurd (never_misfit q values args due (subst (λ (x : Program). Spell x values args) same spelled) m)
   as_run q b same due (ran agreed laid code others prepared spells said) =
       let alike : others ≡ args =
-          same_values q.types (param_types q.funs q.main) values others args spells (subst (λ (x : Program). Spell x values args) same spelled) in
+      same_values q.types (param_types q.funs q.main) values others args spells (subst (λ (x : Program). Spell x values args) same spelled) in
       let program : agreed.covered.program ≡ p = laid.program ∙ sym same in
       let layouts : agreed.layouts ≡ flat_layouts p = laid.layouts ∙ ap (λ (x : Program). flat_layouts x) (sym same) in (
         said.taken,

@@ -145,7 +145,7 @@ first_text p r (spot, h, is) one layouts =
     let xs : List Leaf = leaves_in (slice_get layouts r.ty) in
     let ys : List Leaf = leaves_in (slice_get (flat_layouts p) r.ty) in
     let at : at_leaf p.types xs r.rule (number_of r.leaf) ≡ at_leaf p.types ys r.rule (number_of r.leaf) =
-        ap (λ k. at_leaf p.types xs k (number_of r.leaf)) one ∙ ap (λ k. at_leaf p.types ys k (number_of r.leaf)) (sym one) in
+    ap (λ k. at_leaf p.types xs k (number_of r.leaf)) one ∙ ap (λ k. at_leaf p.types ys k (number_of r.leaf)) (sym one) in
     ap (λ (t : List ℕ). codes "layout of " ++ name_of p.types r.ty ++ codes ": A" ++ decimal r.rule ++ codes ": " ++ t ++ evidence_text p.types xs (number_of r.leaf) r.why) at
     ∙ ap (λ (t : List ℕ). codes "layout of " ++ name_of p.types r.ty ++ codes ": A" ++ decimal r.rule ++ codes ": "
     ++ at_leaf p.types ys r.rule (number_of r.leaf) ++ t) (same p.types xs ys (number_of r.leaf))
@@ -159,6 +159,6 @@ is_one (suc (suc n)) = inr (λ e. absurd (omega (arith, e)))
 pub given_text : (p : Program) (r : Disagreed) → IsRefusedBy p (flat_layouts p) r → (layouts : List Layout) → (r.rule ≢ 1 → layouts ≡ flat_layouts p)
     → refusal_text p.types layouts r ≡ refusal_text p.types (flat_layouts p) r
 given_text p r refused layouts given = elim (is_one r.rule) [
-    | inl one ↦ first_text p r refused one layouts
-    | inr late ↦ ap (λ (ls : List Layout). refusal_text p.types ls r) (given late)
-  ]
+  | inl one ↦ first_text p r refused one layouts
+  | inr late ↦ ap (λ (ls : List Layout). refusal_text p.types ls r) (given late)
+]

@@ -15,11 +15,7 @@ use rb_edge::source::Source;
 use std::alloc::{AllocError, Global};
 
 // The text for an accepted file.
-fn check_accepted(
-    alloc: Global,
-    bytes: &[u8],
-    accepted: &Accepted,
-) -> Result<Vec<u8>, AllocError>
+fn check_accepted(alloc: Global, bytes: &[u8], accepted: &Accepted) -> Result<Vec<u8>, AllocError>
     requires { IsAcceptance bytes.now accepted.now }
     ensures { IfOk result (λ text. ChecksFile bytes.now (printed text.items 0)) }
 {

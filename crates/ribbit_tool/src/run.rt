@@ -70,12 +70,7 @@ fn show_value(alloc: Global, program: &Program, value: &Forest) -> Result<Vec<u8
 }
 
 // The text of a run's answer.
-fn show(
-    alloc: Global,
-    program: &Program,
-    answer: &Answer,
-    calls: u64,
-) -> Result<Vec<u8>, Refusal>
+fn show(alloc: Global, program: &Program, answer: &Answer, calls: u64) -> Result<Vec<u8>, Refusal>
     ensures { (before steps : ℕ) → Meets (λ due. due ≡ answer_due program.now calls (meant_by answer.now) steps) before (before + steps) result }
 {
     let (status, line) = match answer {

@@ -17,7 +17,7 @@ returns c =
     let r = c.args.fault.now in
     let types = c.as_slice-types.ensures ∙ ap (λ x. x.types) c.program.ensures.same in
     let text = c.in_ok-text.ensures ∙ ap (λ (ts : List DataDecl). refusal_text ts c.as_slice.result.now r) types
-        ∙ ap (λ (ls : List Layout). refusal_text p.types ls r) c.as_slice.ensures
-        ∙ given_text p r c.requires c.in_ok-layouts.layouts c.in_ok-layouts.ensures in
+    ∙ ap (λ (ls : List Layout). refusal_text p.types ls r) c.as_slice.ensures
+    ∙ given_text p r c.requires c.in_ok-layouts.layouts c.in_ok-layouts.ensures in
     ap (λ (t : List ℕ). refusal status.Layout t)
     (c.in_ok-line-2.ensures ∙ ap (λ t. ended t) (c.in_ok-line.ensures ∙ ap (λ t. begun t) (c.as_slice-2.ensures.value ∙ text)))
