@@ -18,6 +18,10 @@ use rb_layout::agreed::Agreed;
 use rb_target::body::{Body, Hole};
 use std::alloc::{AllocError, Global};
 
+// The greatest number of nodes of one clause's tree. Trees are made by recursion, a level for each number or
+// constructor of the pattern, so that a larger one is answered as if memory were wanting.
+const LARGEST_CLAUSE: usize = 4096;
+
 // A clause's pattern, and one for all other values.
 fn alone(alloc: Global, pat: &Pat) -> Result<Seq<Pat>, AllocError>
     ensures { IfOk result (λ pats. pats ≡ pat.now ∷ Wild 0 ∷ []) }
@@ -44,7 +48,7 @@ fn emit_alone(
 {
     let types = agreed.covered().program().types.as_slice();
     let pats = alone(alloc, pat)?;
-    match tree_up_to(alloc, types, ty, pats.as_slice(), usize::MAX)? {
+    match tree_up_to(alloc, types, ty, pats.as_slice(), LARGEST_CLAUSE)? {
         Tried::Built(tree) => {
             let holes = emit_tree(alloc, body, agreed, ty, words, pats.as_slice(), &tree)?;
             Ok(holes)
