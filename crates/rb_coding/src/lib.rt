@@ -1,5 +1,5 @@
-//! Words of values: a value is encoded into words and blocks of a memory, over any layouts that agree
-//! with their types.
+//! Words of values: a value is encoded into words and blocks of a memory, and words are decoded to the
+//! value that they represent, over any layouts that agree with their types.
 //!
 //! Take a list whose tag is the lowest bit of a pointer, and whose items lie behind it:
 //!
@@ -19,6 +19,13 @@
 //!
 //! A field that a leaf has taken apart, as the color of a red node whose leaf is for red nodes alone, is
 //! encoded like any other node, and its words are not looked at.
+//!
+//! Decoding goes from the outside in. The splits of the layout, read on the word 80, lead to the leaf of
+//! `Cons`. Its blocks are loaded from the last to the first, since what points to a block stands in the
+//! root words or in a block behind it, and the words of each field are gathered from the parts. This
+//! leaves a list of things to do, of which the last is done first: a `Cons` of the last two values, the
+//! word 64 at `List`, the word 1 at `u64`. Each is at least one node of the value, so decoding stops as
+//! soon as there are more than the limit leaves, however often the value shares a block.
 //!
 //! Nothing recurs on a value. Where the nodes of a field stand is told by the sizes of the nodes, since
 //! those of the last field stand right before the construction, and those of each field before them.
