@@ -1,4 +1,6 @@
 pub mod Building
+pub mod Chaining
+pub mod Chains
 pub mod Covering
 pub mod Decided
 pub mod HeadOrder

@@ -10,6 +10,7 @@ use Rattle.std.specs.declared.cmp.Ordering.TheVariants.{Less, Equal, Greater}
 use Rattle.std.specs.BTreeMap.{insert_entry}
 use Rattle.std.specs.Cmp.Lexicographic.{same_text, other_text}
 use Rattle.std.proofs.lemmas.Bool.{false≢true}
+use Rattle.std.proofs.lemmas.List.{length-append}
 use Rattle.rb_core.specs.declared.types.ConRef.{ConRef}
 use Rattle.rb_matrix.specs.declared.matrix.Head.{Head}
 use Rattle.rb_matrix.specs.declared.matrix.Head.TheVariants as H
@@ -146,7 +147,7 @@ none-fine s e f = record {
 }
 
 -- an item of a longer list
-last-or : {A : Type 0} (xs : List A) (x y : A) (i : ℕ) → slice_get (xs ++ x ∷ []) i ≡ Some y → (slice_get xs i ≡ Some y) ⊎ ((i ≡ length xs) × (x ≡ y))
+pub last-or : {A : Type 0} (xs : List A) (x y : A) (i : ℕ) → slice_get (xs ++ x ∷ []) i ≡ Some y → (slice_get xs i ≡ Some y) ⊎ ((i ≡ length xs) × (x ≡ y))
 last-or [] x y zero e = inr (refl, cc)
 last-or [] x y (suc i) e = cc
 last-or (z ∷ xs) x y zero e = inl e
@@ -194,6 +195,7 @@ pushed-added old new node i f low none is nodes adds = record {
   fine = pushed-fine old new node f low none nodes (subst (AddsKey old new (node_key node)) is adds);
   grown = (node ∷ [], nodes);
   there = ap (λ l. slice_get l i) nodes ∙ ap (slice_get (old.nodes ++ node ∷ [])) is ∙ get-last old.nodes [] node;
+  alone = λ k le lt. let a = ap length nodes ∙ length-append old.nodes (node ∷ []) in omega (arith, a, is, le, lt);
 }
 
 pub found-added : (s : Sharing) (node : GraphNode) (i : ℕ) → IsFine s → number_at s (node_key node) ≡ Some i → IsAdded s s node i
@@ -201,4 +203,5 @@ found-added s node i f e = let h = f.sound (node_key node) i e in record {
   fine = f;
   grown = grows-none s;
   there = h.1 ∙ ap (λ n. Some n) (same-node h.0 node h.2);
+  alone = λ k le lt. absurd (omega (arith, le, lt));
 }

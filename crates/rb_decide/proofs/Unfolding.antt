@@ -1,5 +1,6 @@
 -- The trees of a graph's nodes while nodes are added.
-use Rattle.std.proofs.Common.{◌≡◌, ℕ, zero, suc, ◌+◌, ◌<◌, List, [], ◌∷◌, ◌++◌, map, length, Option, Some, None, refl, sym, ap, ◌∙◌, arith, subst}
+use Rattle.std.proofs.Common.{◌≡◌, ℕ, zero, suc, ◌+◌, ◌<◌, ◌⊎◌, inl, inr, List, [], ◌∷◌, ◌++◌, map, length, Option, Some, None, refl, sym, ap, ◌∙◌, arith, subst}
+use Rattle.std.proofs.lemmas.Bool.{cases_lt}
 use Rattle.std.specs.Prelude.{slice_get, option_map, unwrap_or}
 use Rattle.std.specs.List.{AllByRecursion}
 use Rattle.std.proofs.Common.{append_assoc}
@@ -12,8 +13,8 @@ use Rattle.rb_decide.specs.declared.decision_graph.GraphNode.{GraphNode}
 use Rattle.rb_decide.specs.declared.decision_graph.GraphNode.TheVariants.{Test, Clause}
 use Rattle.rb_decide.specs.declared.decision_graph.GraphArm.{GraphArm}
 use Rattle.rb_decide.specs.declared.sharing.Sharing.{Sharing}
-use Rattle.rb_decide.specs.Graphs.{tree_under, arm_under, node_tree, trees_onto, node_trees, arm_link, other_link, links, LinksAreLower, NodesDiffer}
-use Rattle.rb_decide.specs.inner.Sharing.{IsFine, Grows, IsAdded, IsShared, Linked, AreShared, OtherLinked, IsOtherShared}
+use Rattle.rb_decide.specs.Graphs.{tree_under, arm_under, node_tree, trees_onto, node_trees, arm_link, other_link, links, LinksAreLower, NodesDiffer, IsAmong, IsLinked}
+use Rattle.rb_decide.specs.inner.Sharing.{IsFine, Grows, AddsReached, IsAdded, IsShared, Linked, AreShared, OtherLinked, IsOtherShared}
 
 -- lists ---------------------------------------------------------------------------------------------
 
@@ -167,9 +168,60 @@ grows-twice a b c g h = (g.0 ++ h.0, h.1 ∙ ap (λ l. l ++ h.0) g.1 ∙ append_
 pub grows-none : (a : Sharing) → Grows a a
 grows-none a = ([], sym (append-nil a.nodes))
 
+-- what is reached -----------------------------------------------------------------------------------
+
+linked-stays : (ns ms : List GraphNode) (i : ℕ) → IsLinked ns i → IsLinked (ns ++ ms) i
+linked-stays ns ms i h = record { from = h.from; node = h.node; there = get-left ns ms h.from h.node h.there; link = h.link }
+
+linked-grown : (old new : Sharing) (i : ℕ) → Grows old new → IsLinked old.nodes i → IsLinked new.nodes i
+linked-grown old new i g h = subst (λ l. IsLinked l i) (sym g.1) (linked-stays old.nodes g.0 i h)
+
+among-left : (xs ys : List ℕ) (i : ℕ) → IsAmong i xs → IsAmong i (xs ++ ys)
+among-left xs ys i h = (h.0, get-left xs ys h.0 i h.1)
+
+among-right : (xs ys : List ℕ) (i : ℕ) → IsAmong i ys → IsAmong i (xs ++ ys)
+among-right [] ys i h = h
+among-right (x ∷ xs) ys i h = let r = among-right xs ys i h in (suc r.0, r.1)
+
+among-one : (i k : ℕ) → k ≡ i → IsAmong k (i ∷ [])
+among-one i k e = (0, ap (λ n. Some n) (sym e))
+
+links-append : (ls : List GraphArm) (l : GraphArm) → map arm_link (ls ++ l ∷ []) ≡ map arm_link ls ++ l.under ∷ []
+links-append [] l = refl
+links-append (m ∷ ls) l = ap (λ is. m.under ∷ is) (links-append ls l)
+
+pub none-reached : (s : Sharing) (IsEnd : ℕ → Type 0) → AddsReached s s IsEnd
+none-reached s IsEnd k le lt = absurd (omega (arith, le, lt))
+
+-- in two steps
+both-reached : (old mid new : Sharing) (IsEnd IsFirst IsSecond : ℕ → Type 0) → Grows mid new → AddsReached old mid IsFirst → AddsReached mid new IsSecond
+    → ((k : ℕ) → IsFirst k → IsEnd k ⊎ IsLinked new.nodes k) → ((k : ℕ) → IsSecond k → IsEnd k ⊎ IsLinked new.nodes k) → AddsReached old new IsEnd
+both-reached old mid new IsEnd IsFirst IsSecond g a b first second k le lt = elim (cases_lt k (length mid.nodes)) [
+  | inl less ↦ by-first (a k le less)
+  | inr most ↦ by-second (b k most lt)
+]
+  where
+    by-first : IsFirst k ⊎ IsLinked mid.nodes k → IsEnd k ⊎ IsLinked new.nodes k
+    by-first (inl h) = first k h
+    by-first (inr h) = inr (linked-grown mid new k g h)
+
+    by-second : IsSecond k ⊎ IsLinked new.nodes k → IsEnd k ⊎ IsLinked new.nodes k
+    by-second (inl h) = second k h
+    by-second (inr h) = inr h
+
+-- what is reached from a test's links is reached from the test
+test-reached : (old s1 s2 new : Sharing) (q : List ℕ) (ls : List GraphArm) (o : Option ℕ) (i : ℕ) → Grows s1 s2 → AddsReached old s1 (λ k. IsAmong k (map arm_link ls)) → AddsReached s1 s2 (λ k. IsAmong k (other_link o))
+    → IsAdded s2 new (Test q ls o) i → AddsReached old new (λ k. k ≡ i)
+test-reached old s1 s2 new q ls o i g a b d =
+    both-reached old s2 new (λ k. k ≡ i) (λ k. IsAmong k (links (Test q ls o))) (λ k. k ≡ i) d.grown
+    (both-reached old s1 s2 (λ k. IsAmong k (links (Test q ls o))) (λ k. IsAmong k (map arm_link ls)) (λ k. IsAmong k (other_link o)) g a b
+    (λ k h. inl (among-left (map arm_link ls) (other_link o) k h)) (λ k h. inl (among-right (map arm_link ls) (other_link o) k h)))
+    (λ k le lt. inl (d.alone k le lt))
+    (λ k h. inr (record { from = i; node = Test q ls o; there = d.there; link = h })) (λ k h. inl h)
+
 -- a clause
 pub clause-shared : (old new : Sharing) (k i : ℕ) → IsAdded old new (Clause k) i → IsShared (Trees.Clause k) old new i
-clause-shared old new k i a = record { fine = a.fine; grown = a.grown; there = node-tree new.nodes a.fine.lower i (Clause k) a.there }
+clause-shared old new k i a = record { fine = a.fine; grown = a.grown; there = node-tree new.nodes a.fine.lower i (Clause k) a.there; reached = λ j le lt. inl (a.alone j le lt) }
 
 -- a test
 pub test-links : (s1 s2 : Sharing) (arms : List TreeArm) (ls : List GraphArm) (other : Option Tree) (o : Option ℕ) (old : Sharing) (q : List ℕ)
@@ -192,11 +244,12 @@ test-shared old s1 s2 new q arms ls other o i a b d =
       there = node-tree new.nodes d.fine.lower i (Test q ls o) d.there
           ∙ ap (λ l. Some (Trees.Test q l (option_map (tree_under (node_trees new.nodes)) o))) (linked-arms (node_trees new.nodes) arms ls three)
           ∙ ap (λ l. Some (Trees.Test q arms l)) (linked-other (node_trees new.nodes) other o last);
+      reached = test-reached old s1 s2 new q ls o i b.grown a.reached b.reached d;
     }
 
 -- arms
 pub arms-none : (s : Sharing) → IsFine s → AreShared [] s s []
-arms-none s f = record { fine = f; grown = grows-none s; there = tt }
+arms-none s f = record { fine = f; grown = grows-none s; there = tt; reached = none-reached s (λ k. IsAmong k []) }
 
 pub arms-more : (old s1 s2 : Sharing) (arms : List TreeArm) (ls : List GraphArm) (a : TreeArm) (l : GraphArm)
     → AreShared arms old s1 ls → IsShared a.under s1 s2 l.under → l.head ≡ a.head → AreShared (arms ++ a ∷ []) old s2 (ls ++ l ∷ [])
@@ -204,14 +257,21 @@ arms-more old s1 s2 arms ls a l h k e = record {
   fine = k.fine;
   grown = grows-twice old s1 s2 h.grown k.grown;
   there = linked-push (node_trees s2.nodes) arms ls a l (subst (λ x. Linked (node_trees x) arms ls) (sym k.grown.1) (linked-more s1.nodes k.grown.0 arms ls h.there)) e k.there;
+  reached = subst (λ is. AddsReached old s2 (λ j. IsAmong j is)) (sym (links-append ls l))
+      (both-reached old s1 s2 (λ j. IsAmong j (map arm_link ls ++ l.under ∷ [])) (λ j. IsAmong j (map arm_link ls)) (λ j. j ≡ l.under) k.grown h.reached k.reached
+      (λ j x. inl (among-left (map arm_link ls) (l.under ∷ []) j x)) (λ j x. inl (among-right (map arm_link ls) (l.under ∷ []) j (among-one l.under j x))));
 }
 
 -- the root's other branch
 pub other-none : (s : Sharing) → IsFine s → IsOtherShared None s s None
-other-none s f = record { fine = f; grown = grows-none s; there = tt }
+other-none s f = record { fine = f; grown = grows-none s; there = tt; reached = none-reached s (λ k. IsAmong k []) }
 
 pub other-some : (old new : Sharing) (t : Tree) (i : ℕ) → IsShared t old new i → IsOtherShared (Some t) old new (Some i)
-other-some old new t i h = record { fine = h.fine; grown = h.grown; there = h.there }
+other-some old new t i h = record { fine = h.fine; grown = h.grown; there = h.there; reached = λ k le lt. one k (h.reached k le lt) }
+  where
+    one : (k : ℕ) → (k ≡ i) ⊎ IsLinked new.nodes k → IsAmong k (i ∷ []) ⊎ IsLinked new.nodes k
+    one k (inl e) = inl (among-one i k e)
+    one k (inr x) = inr x
 
 -- no two nodes are equal
 pub nodes-differ : (s : Sharing) → IsFine s → NodesDiffer s.nodes
@@ -219,3 +279,7 @@ nodes-differ s f i j n a b = some-back (sym (f.known i n a) ∙ f.known j n b)
   where
     some-back : Some i ≡ Some j → i ≡ j
     some-back e = cc
+
+-- from no nodes on, each is the root, or some node links to it
+pub all-reached : (old new : Sharing) (i : ℕ) → old.nodes ≡ [] → AddsReached old new (λ k. k ≡ i) → (k : ℕ) → k < length new.nodes → (k ≡ i) ⊎ IsLinked new.nodes k
+all-reached old new i none h k lt = h k (let e = ap length none in omega (arith, e)) lt

@@ -13,6 +13,8 @@ use Rattle.rb_matrix.specs.Heads.{layer_head}
 use Rattle.rb_decide.specs.declared.decision_tree.Tree.{Tree}
 use Rattle.rb_decide.specs.declared.decision_tree.Tried.{Tried}
 use Rattle.rb_decide.specs.declared.decision_tree.Tried.TheVariants.{Built, Over}
+use Rattle.rb_decide.specs.declared.decision_graph.Graph.{Graph}
+use Rattle.rb_decide.specs.Graphs.{unfolding_of}
 use Rattle.rb_decide.specs.Trees.{taken, size, Way, ways, match_tree}
 
 -- Heads at positions --------------------------------------------------------------------------------
@@ -72,3 +74,7 @@ IsTried types ty ps limit Over = limit < size (match_tree types ty ps)
 abbrev pub OnBuilt : Tried → (Tree → Type 0) → Type 0
 OnBuilt (Built t) P = P t
 OnBuilt Over P = Unit {0}
+
+-- of the tree to which a graph unfolds
+abbrev pub OnUnfolded : Graph → (Tree → Type 0) → Type 0
+OnUnfolded g P = (t : Tree) → unfolding_of g ≡ Some t → P t

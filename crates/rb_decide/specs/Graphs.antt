@@ -1,5 +1,5 @@
 -- Decision graphs: the tree that a graph unfolds to, and what it shares.
-use Rattle.std.specs.Prelude.{◌≡◌, ◌<◌, ℕ, List, [], ◌∷◌, ◌++◌, map, Option, Some, None, unwrap_or, option_map, slice_get}
+use Rattle.std.specs.Prelude.{◌≡◌, ◌<◌, ◌⊎◌, ℕ, List, [], ◌∷◌, ◌++◌, map, length, Option, Some, None, unwrap_or, option_map, slice_get}
 use Rattle.std.specs.List.{AllByRecursion}
 use Rattle.rb_decide.specs.declared.decision_tree.Tree.{Tree}
 use Rattle.rb_decide.specs.declared.decision_tree.Tree as Trees
@@ -55,3 +55,17 @@ LinksAreLower nodes = (i : ℕ) (n : GraphNode) → slice_get nodes i ≡ Some n
 -- no two nodes are equal
 abbrev pub NodesDiffer : List GraphNode → Type 0
 NodesDiffer nodes = (i j : ℕ) (n : GraphNode) → slice_get nodes i ≡ Some n → slice_get nodes j ≡ Some n → i ≡ j
+
+abbrev pub IsAmong : ℕ → List ℕ → Type 0
+IsAmong i is = (place : ℕ) × (slice_get is place ≡ Some i)
+
+-- some node links to this one
+pub record IsLinked (nodes : List GraphNode) (i : ℕ) : Type 0 where
+  pub from : ℕ
+  pub node : GraphNode
+  pub there : slice_get nodes from ≡ Some node
+  pub link : IsAmong i (links node)
+
+-- each node is the root, or some node links to it; where links go to lower numbers, all are reached from the root
+abbrev pub NodesAreReached : Graph → Type 0
+NodesAreReached g = (i : ℕ) → i < length g.nodes → (i ≡ g.root) ⊎ IsLinked g.nodes i

@@ -23,7 +23,8 @@ pub struct Sharing {
 impl Sharing {
     /// No nodes.
     pub fn new(alloc: Global) -> Sharing
-        ensures { IsFine result }
+        ensures fine { IsFine result }
+        ensures none { result.nodes ≡ [] }
     {
         Sharing {
             nodes: Seq::new(alloc),

@@ -1,7 +1,7 @@
 //! From trees to graphs.
 
 ghost use Rattle.std.specs.Prelude.{◌≡◌, IfOk, Some};
-ghost use Rattle.rb_decide.specs.Graphs.{unfolding_of, LinksAreLower, NodesDiffer};
+ghost use Rattle.rb_decide.specs.Graphs.{unfolding_of, LinksAreLower, NodesDiffer, NodesAreReached};
 ghost use Rattle.rb_decide.specs.inner.Sharing.{IsFine, IsShared, AreShared, IsOtherShared};
 
 use crate::decision_graph::{Graph, GraphArm, GraphNode};
@@ -81,6 +81,7 @@ pub fn share(alloc: Global, tree: &Tree) -> Result<Graph, AllocError>
     ensures unfolds { IfOk result (λ g. unfolding_of g ≡ Some tree.now) }
     ensures lower { IfOk result (λ g. LinksAreLower g.nodes) }
     ensures differ { IfOk result (λ g. NodesDiffer g.nodes) }
+    ensures reached { IfOk result (λ g. NodesAreReached g) }
 {
     let mut sharing = Sharing::new(alloc);
     let root = add_tree(alloc, &mut sharing, tree)?;

@@ -14,7 +14,7 @@ ghost use Rattle.rb_rows_decisions.specs.Examples.{letter_decl, four_decl, examp
 use rb_core::pattern::Pat;
 use rb_core::seq::Seq;
 use rb_core::types::{Con, ConRef, DataDecl, Ty};
-use rb_decide::{Graph, GraphNode, Tree, Tried, share, tree, tree_up_to};
+use rb_decide::{Graph, GraphNode, Tree, Tried, pattern_graph, share, tree, tree_up_to};
 use rb_matrix::{Head, MatrixFault, exhaust};
 use std::alloc::{AllocError, Global};
 use std::test::Fail;
@@ -164,6 +164,32 @@ fn literals(alloc: Global, count: u64) -> Result<Vec<Pat>, AllocError> {
     Ok(pats)
 }
 
+// `type T = L | N(T, T, T, T)` is type 0.
+fn growing(alloc: Global) -> Result<Vec<DataDecl>, AllocError> {
+    let field = Ty::Named(0);
+    let fields = [field, field, field, field];
+    let mut cons = Seq::new(alloc);
+    cons.push(con(alloc, b"L", &[])?)?;
+    cons.push(con(alloc, b"N", &fields)?)?;
+    let name = Seq::from_vec(Vec::from_slice(alloc, b"T")?);
+    let mut types = Vec::new(alloc);
+    types.push(DataDecl { name, cons })?;
+    Ok(types)
+}
+
+// The pattern of the tree in which each way to an `L` goes through so many `N`.
+fn full(alloc: Global, depth: usize) -> Result<Pat, AllocError> {
+    let mut pat = Pat::Con(0, ConRef { ty: 0, con: 0 }, Seq::new(alloc));
+    for _i in 0..depth {
+        let mut subs = Seq::new(alloc);
+        for _j in 0..4 {
+            subs.push(pat.copy(alloc)?)?;
+        }
+        pat = Pat::Con(0, ConRef { ty: 0, con: 1 }, subs);
+    }
+    Ok(pat)
+}
+
 // How many nodes a tree has.
 fn size(tree: &Tree) -> usize {
     match tree {
@@ -298,5 +324,40 @@ fn at_most_512_nodes(rt: HostRuntime) -> Result<(), Fail> {
             Some(Tried::Over)
         )
     );
+    Ok(())
+}
+
+#[test]
+fn graphs_of_one_pattern(rt: HostRuntime) -> Result<(), Fail> {
+    let alloc = rt.alloc();
+    let types = growing(alloc)?;
+    // the depth of a full pattern, and its constructors
+    for (depth, heads) in [(0, 1), (1, 5), (3, 85), (7, 21845)] {
+        let pat = full(alloc, depth)?;
+        let graph = pattern_graph(alloc, types.as_slice(), Ty::Named(0), &pat)?;
+        assert_eq!(rt; forms(&graph), (heads, 2));
+        assert_eq!(rt; graph.root, heads as u32 + 1);
+    }
+    Ok(())
+}
+
+// The graph of one pattern is that of the tree of the pattern and `_`, which has a test for each
+// constructor and a clause behind each, and one clause more.
+#[test]
+fn one_pattern_and_its_tree(rt: HostRuntime) -> Result<(), Fail> {
+    let alloc = rt.alloc();
+    let types = growing(alloc)?;
+    let types = types.as_slice();
+    for (depth, heads) in [(1, 5), (3, 85)] {
+        let rows = [full(alloc, depth)?, Pat::Wild(0)];
+        let Tried::Built(tree) = tree(alloc, types, Ty::Named(0), &rows)? else {
+            panic!(rt; "no tree");
+        };
+        assert_eq!(rt; size(&tree), 2 * heads + 1);
+        assert_eq!(rt; forms(&share(alloc, &tree)?), (heads, 2));
+    }
+    let rows = [full(alloc, 4)?, Pat::Wild(0)];
+    let tried = tree(alloc, types, Ty::Named(0), &rows)?;
+    assert!(rt; matches!(&tried, Tried::Over));
     Ok(())
 }

@@ -1,5 +1,5 @@
 -- What sharing keeps while it adds nodes.
-use Rattle.std.specs.Prelude.{◌≡◌, ℕ, List, [], ◌∷◌, ◌++◌, length, Option, Some, None, slice_get, if◌then◌else◌}
+use Rattle.std.specs.Prelude.{◌≡◌, ◌<◌, ◌≤◌, ◌⊎◌, ℕ, List, [], ◌∷◌, ◌++◌, map, length, Option, Some, None, slice_get, if◌then◌else◌}
 use Rattle.std.specs.List.{flat_map}
 use Rattle.std.specs.Map.{lookup}
 use Rattle.std.specs.Str.{bytes_eq}
@@ -11,7 +11,7 @@ use Rattle.rb_decide.specs.declared.decision_graph.GraphNode.{GraphNode}
 use Rattle.rb_decide.specs.declared.decision_graph.GraphNode.TheVariants.{Test, Clause}
 use Rattle.rb_decide.specs.declared.decision_graph.GraphArm.{GraphArm}
 use Rattle.rb_decide.specs.declared.sharing.Sharing.{Sharing}
-use Rattle.rb_decide.specs.Graphs.{node_trees, LinksAreLower}
+use Rattle.rb_decide.specs.Graphs.{node_trees, arm_link, other_link, LinksAreLower, IsAmong, IsLinked}
 
 -- Keys ----------------------------------------------------------------------------------------------
 
@@ -50,16 +50,22 @@ AddsKey old new key i = (q : List ℕ) → number_at new q ≡ (if bytes_eq q ke
 abbrev pub Grows : Sharing → Sharing → Type 0
 Grows old new = (more : List GraphNode) × (new.nodes ≡ old.nodes ++ more)
 
+-- each node that is new is an end, or some node links to it
+abbrev pub AddsReached : Sharing → Sharing → (ℕ → Type 0) → Type 0
+AddsReached old new IsEnd = (k : ℕ) → length old.nodes ≤ k → k < length new.nodes → IsEnd k ⊎ IsLinked new.nodes k
+
 pub record IsAdded (old new : Sharing) (n : GraphNode) (i : ℕ) : Type 0 where
   pub fine : IsFine new
   pub grown : Grows old new
   pub there : slice_get new.nodes i ≡ Some n
+  pub alone : (k : ℕ) → length old.nodes ≤ k → k < length new.nodes → k ≡ i
 
 -- a tree's root has this number
 pub record IsShared (t : Tree) (old new : Sharing) (i : ℕ) : Type 0 where
   pub fine : IsFine new
   pub grown : Grows old new
   pub there : slice_get (node_trees new.nodes) i ≡ Some t
+  pub reached : AddsReached old new (λ k. k ≡ i)
 
 -- arms with numbers in the place of trees
 abbrev pub Linked : List Tree → List TreeArm → List GraphArm → Type 0
@@ -72,6 +78,7 @@ pub record AreShared (arms : List TreeArm) (old new : Sharing) (ls : List GraphA
   pub fine : IsFine new
   pub grown : Grows old new
   pub there : Linked (node_trees new.nodes) arms ls
+  pub reached : AddsReached old new (λ k. IsAmong k (map arm_link ls))
 
 abbrev pub OtherLinked : List Tree → Option Tree → Option ℕ → Type 0
 OtherLinked trees None None = Unit {0}
@@ -83,3 +90,4 @@ pub record IsOtherShared (other : Option Tree) (old new : Sharing) (link : Optio
   pub fine : IsFine new
   pub grown : Grows old new
   pub there : OtherLinked (node_trees new.nodes) other link
+  pub reached : AddsReached old new (λ k. IsAmong k (other_link link))

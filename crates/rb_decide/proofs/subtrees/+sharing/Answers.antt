@@ -1,9 +1,9 @@
-use Rattle.std.proofs.Common.{take, [], ◌∷◌, ◌++◌, refl, sym, subst}
+use Rattle.std.proofs.Common.{take, [], ◌∷◌, ◌++◌, Some, refl, sym, subst}
 use Rattle.std.proofs.lemmas.List.{take_all}
-use Rattle.rb_decide.specs.inner.Sharing.{AreShared, IsAdded, IsShared}
+use Rattle.rb_decide.specs.inner.Sharing.{AreShared, IsAdded, IsOtherShared, IsShared}
 use Rattle.rb_decide.specs.declared.decision_graph.GraphNode.TheVariants.{Test}
 use Rattle.rb_decide.proofs.Moving.{take-next}
-use Rattle.rb_decide.proofs.Unfolding.{arms-none, arms-more, clause-shared, test-links, test-shared}
+use Rattle.rb_decide.proofs.Unfolding.{arms-none, arms-more, clause-shared, test-links, test-shared, other-some}
 use Rattle.rb_decide.proofs.subtrees.+sharing.Goals as goal
 
 pub add_tree-add-requires-in-Test-clause-links : goal.add_tree-add-requires-in-Test-clause-links
@@ -39,3 +39,9 @@ add_arms-loop-arm-preserved t c =
 pub add_arms-returns : goal.add_arms-returns
 add_arms-returns t c =
     subst (λ l. AreShared l c.args.sharing.now c.loop-arm.sharing c.loop-arm.links) (take_all c.loop-arm.arm-index c.args.arms.now c.loop-arm-test.false) c.loop-arm.invariant
+
+pub add_other-returns-in_ok-number-in-Some : goal.add_other-returns-in_ok-number-in-Some
+add_other-returns-in_ok-number-in-Some t c =
+    let shared = subst (λ x. IsShared x c.args.sharing.now c.add_tree.new.sharing c.in_ok-number-in-Some.number) c.get.ensures c.in_ok-number-in-Some.ensures in
+    subst (λ x. IsOtherShared x c.args.sharing.now c.add_tree.new.sharing (Some c.in_ok-number-in-Some.number)) (sym c.in-Some.is)
+    (other-some c.args.sharing.now c.add_tree.new.sharing c.in-Some.tree c.in_ok-number-in-Some.number shared)

@@ -1,0 +1,61 @@
+-- Chains: the tests of one pattern in pre-order, each with one arm, and clause 1 for all other values.
+use Rattle.std.specs.Prelude.{◌≡◌, ℕ, ◌+◌, ◌<◌, ◌≤◌, ◌==◌, List, [], ◌∷◌, length, if◌then◌else◌, Some, None, slice_get}
+use Rattle.rb_core.specs.declared.types.Ty.{Ty}
+use Rattle.rb_core.specs.declared.types.DataDecl.{DataDecl}
+use Rattle.rb_core.specs.declared.pattern.Pat.{Pat}
+use Rattle.rb_core.specs.declared.pattern.Pat.TheOpen as P
+use Rattle.rb_core.specs.declared.pattern.Pat.TheOpen.{Pat-F}
+use Rattle.rb_core.specs.declared.pattern.Pat.TheFolds.{fold-Pat}
+use Rattle.rb_matrix.specs.declared.matrix.Head.{Head}
+use Rattle.rb_matrix.specs.declared.matrix.Head.TheVariants as H
+use Rattle.rb_decide.specs.declared.clause_matrix.Column.{Column}
+use Rattle.rb_decide.specs.declared.decision_tree.Tree.{Tree, Test, Clause}
+use Rattle.rb_decide.specs.declared.decision_graph.GraphNode.{GraphNode}
+use Rattle.rb_decide.specs.declared.decision_graph.GraphNode.TheVariants as G
+use Rattle.rb_decide.specs.ClauseMatrices.{is_complete, field_types, field_columns}
+use Rattle.rb_decide.specs.Graphs.{node_trees, LinksAreLower}
+
+-- The chain -----------------------------------------------------------------------------------------
+
+-- what a pattern at a column puts before the tree of the values that it matches
+abbrev pub Chain : Type 0
+Chain = Column → Tree → Tree
+
+-- a test of one head
+abbrev pub one_test : List DataDecl → Head → Chain
+one_test types h c t =
+    Test c.position (record { head = h; under = t } ∷ []) (if is_complete types c.ty (h ∷ []) then None else Some (Clause 1))
+
+-- the first pattern's tests first
+abbrev pub chain_row : List Chain → List Column → Tree → Tree
+chain_row [] cs t = t
+chain_row (f ∷ fs) [] t = t
+chain_row (f ∷ fs) (c ∷ cs) t = f c (chain_row fs cs t)
+
+-- those of a constructor's fields; a pattern with another number of subpatterns matches nothing
+abbrev pub chain_fields : List Chain → List ℕ → List Ty → Tree → Tree
+chain_fields fs position tys t = if length fs == length tys then chain_row fs (field_columns position 0 tys) t else Clause 1
+
+abbrev pub chain_step : List DataDecl → Pat-F Chain → Chain
+chain_step types (P.Wild at) c t = t
+chain_step types (P.Var at x) c t = t
+chain_step types (P.Num at n) c t = one_test types (H.Num n) c t
+chain_step types (P.Con at con fs) c t =
+    one_test types (H.Con con) c (chain_fields fs c.position (field_types types c.ty (H.Con con)) t)
+
+abbrev pub chain : List DataDecl → Pat → Chain
+chain types = fold-Pat Chain (chain_step types)
+
+-- Its nodes -----------------------------------------------------------------------------------------
+
+-- nodes of which the first is clause 1
+pub record AreChained (nodes : List GraphNode) : Type 0 where
+  pub lower : LinksAreLower nodes
+  pub others : slice_get nodes 0 ≡ Some (G.Clause 1)
+
+-- at most so many nodes were added before the one at a number: to its tree this one's tree is as the chain says
+pub record IsChained (put : Tree → Tree) (most : ℕ) (old : List GraphNode) (under : ℕ) (new : List GraphNode) (i : ℕ) : Type 0 where
+  pub fine : AreChained new
+  pub within : i < length new
+  pub few : length new ≤ length old + most
+  pub there : (t : Tree) → slice_get (node_trees old) under ≡ Some t → slice_get (node_trees new) i ≡ Some (put t)
