@@ -1,9 +1,1 @@
-pub mod Numbers
-pub mod Longer
-pub mod Wholes
-pub mod Running
-pub mod Fits
-pub mod Placing
-pub mod Choosing
-pub mod Leaves
 pub mod Building

@@ -12,14 +12,13 @@ use Rattle.rb_fragment.specs.Plan.{Plan}
 use Rattle.rb_fragment.specs.Holding.{AllGiven, held_type}
 use Rattle.rb_fragment.specs.Fragments.{Applies}
 use Rattle.rb_fetch.specs.Finding.{IsPlanOf}
-use Rattle.rb_fetch.specs.Plain.{ArePlain}
 
 -- Over values that are held, one a field of the constructor, the appended code does what the source's
 -- construction does: where the blocks of its one event fit, the memory has exactly these more, and new slots
 -- represent the value; else the first that does not fit is asked for in vain.
 abbrev pub Builds : LaidOut → ConRef → List Held → Sheet → Sheet → Held → Type 0
 Builds agreed con hs old new held =
-    (plan : Plan) → IsPlanOf agreed plan → ArePlain plan.layouts
+    (plan : Plan) → IsPlanOf agreed plan
     → (fields : List Ty) → fields_of plan.program.types con ≡ Some fields → map held_type hs ≡ fields
     → AllGiven plan old.slots hs
     → (held.ty ≡ Named con.ty) × Applies plan (λ calls. built con) hs old new (Named con.ty) held.slots

@@ -1,45 +1,25 @@
-//! Code that constructs a value: the words of its leaf composed of its fields' words, and its blocks placed
-//! and filled.
+//! Code that constructs a value, against the source's construction.
 //!
-//! A layout says where each bit of a value stands. Take a list whose tag is the lowest bit of a pointer:
+//! `construct` of `rb_fetch` appends code that makes the value of a constructor from its fields: it chooses the
+//! leaf of the value, composes the leaf's words, and places and fills its blocks. Here this is said against the
+//! source. [`build::emit_build`] does what the source's construction does: its one event is that the value is
+//! built. Where the blocks of the event fit, the memory has exactly these more, in their order and with their
+//! sizes, and new slots represent the value as cleanly as the fields are; else the first that does not fit is
+//! asked for in vain. The event pays for the switches that choose the leaf.
+//!
+//! Take colours and trees, where the colour of a node stands in the two low bits of a pointer:
 //!
 //! ```text
-//! split 0[0:1] {
-//!     1 => Nil        : { word 64 { [0:1] = 1 } }
-//!     0 => Cons(_, _) : { word 64 { [0:1] = 0, [3:61] -> 8 { word 64 { [0:64] .0 }, inline .1 } } }
+//! layout Tree <64> = split 0[0:2] {
+//!     0 => Empty               : { word 64 { [0:64] = 0 } }
+//!     1 => Node(Red, _, _, _)   : { word 64 { [0:2] = 1, [3:61] -> 8 { inline .1, inline .3, word 32 { [0:32] .2 } } } }
+//!     2 => Node(Black, _, _, _) : { word 64 { [0:2] = 2, [3:61] -> 8 { inline .1, inline .3, word 32 { [0:32] .2 } } } }
 //! }
 //! ```
 //!
-//! [`build::emit_build`] of `Cons`, where slot 0 holds the number and slot 1 the list, appends
-//!
-//! ```text
-//! place 2 16 8         a block of 16 bytes at a multiple of 8; its address in slot 2
-//! store 2 0 64 0       the number, at byte 0
-//! store 2 8 64 1       the list, at byte 8
-//! const 3 0            the word of the value: its constants, which is the tag alone
-//! take 4 2 3 61        the address without its three low bits, which are 0
-//! put 3 4 3 61         in its place
-//! ```
-//!
-//! and of `Nil` only `const 2 1`. In general:
-//!
-//! - **Which leaf.** Here layouts are plain: no provenance has a constructor below its root. So the leaf of a
-//!   construction is the first with its constructor at the root, and no switch is needed to choose it.
-//! - **A word** begins as its constants, and the other parts are put over them: slices of numbers, words of
-//!   data fields, and addresses by their alignment (`word.rt`). Bits that stand at bit 0 of a slot need no
-//!   `take`. A word that is a field's word whole is no code at all where it is stored, and a `copy` among the
-//!   value's own words, which have new slots. All bits outside parts are 0: the value is as clean as its fields.
-//! - **Blocks** are placed by number, inner ones before the outer ones that point to them, so that each address
-//!   is known when it is put into a word. Every word of a block is stored, also one without parts, so that each
-//!   byte is written (`block.rt`).
-//!
-//! What the code does is said against the source: it places exactly the blocks of the construction's one event,
-//! in their order and with their sizes, or asks in vain for the first that does not fit. The proof has two halves.
-//! The machine's side composes numbers, instruction by instruction, whatever they are. Where all blocks fit, each
-//! of these numbers is the one that `rb_rel` packs of the same parts, and its lemma on one layer of a value says
-//! that these words in this memory represent the value.
+//! A construction by `Empty` is one `const`. A construction by `Node` has to know its colour: one switch on the
+//! word of its first field leads to the code of either leaf, which places a block of 20 bytes, fills it, and
+//! composes the word of its address and its tag. Both ways meet behind.
 #![tactic(auto)]
 
-mod block;
 pub mod build;
-mod word;

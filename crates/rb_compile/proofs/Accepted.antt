@@ -1,4 +1,4 @@
--- What is known of each function of a program whose layouts agree and are plain.
+-- What is known of each function of a program whose layouts agree.
 use Rattle.std.proofs.Common.{◌≡◌, ℕ, zero, suc, ◌*◌, ◌≤◌, true, ◌&&◌, List, [], ◌∷◌, map, length, Option, Some, None, refl, sym, subst, ap, ◌∙◌, arith}
 use Rattle.std.proofs.lemmas.Bool.Decides.{nat_tests}
 use Rattle.std.proofs.lemmas.List.{length-map}
@@ -28,11 +28,11 @@ use Rattle.rb_layout.specs.Positions.{layout_of}
 use Rattle.rb_rel.specs.Relation.{shape_length, word_count}
 use Rattle.rb_rel.proofs.Declared.{decl_at, declared}
 use Rattle.rb_fragment.specs.Plan.{Plan, types_of, words_in, words_of}
-use Rattle.rb_fetch.specs.Plain.{ArePlain}
+use Rattle.rb_fetch.specs.Fetching.{IsSound}
 use Rattle.rb_match.specs.Bounding.{bound_of}
 use Rattle.rb_compile.specs.Plans.{bound_at, match_bound, plan_of, site_at, sites_in}
 use Rattle.rb_compile.specs.inner.Functions.{FunIsReady, ProgramIsReady}
-use Rattle.rb_compile.specs.inner.Ready.{IsAccepted, IsAmong, SitesAreReady}
+use Rattle.rb_compile.specs.inner.Ready.{IsAmong, SitesAreReady}
 use Rattle.rb_compile.proofs.Sites.{among-left, among-right, exhaustive_at}
 use Rattle.rb_compile.proofs.Tokens.{distinct_at, site_found, tokens_of}
 
@@ -74,15 +74,15 @@ among_at types funs (x ∷ fs) zero f at s i =
     among-left (function_sites types funs x) (flat_map (function_sites types funs) fs) s (subst (λ (y : Fun). IsAmong s (function_sites types funs y)) (sym is) i)
 among_at types funs (x ∷ fs) (suc g) f at s i = among-right (function_sites types funs x) (flat_map (function_sites types funs) fs) s (among_at types funs fs g f at s i)
 
-module _ (agreed : LaidOut) (typed : IsTyped agreed.covered.program) (covered : AreExhaustive agreed.covered.program.types (sites_of agreed.covered.program)) (are : AreAgreed agreed.covered.program agreed.layouts) (plain : ArePlain agreed.layouts) where
+module _ (agreed : LaidOut) (typed : IsTyped agreed.covered.program) (covered : AreExhaustive agreed.covered.program.types (sites_of agreed.covered.program)) (are : AreAgreed agreed.covered.program agreed.layouts) where
   abbrev p : Program
   p = agreed.covered.program
 
   abbrev plan : Plan
   plan = plan_of agreed
 
-  accepted : IsAccepted plan
-  accepted = record { sound = record { typed = typed; agreed = are }; plain = plain }
+  sound : IsSound plan
+  sound = record { typed = typed; agreed = are }
 
   paid_at : (g : ℕ) (f : Fun) → slice_get p.funs g ≡ Some f → (s : Site) → IsAmong s (function_sites p.types p.funs f) → match_bound p agreed.layouts g s.at ≡ bound_of p.types agreed.layouts s.scrutinee s.patterns
   paid_at g f at s i =
@@ -108,7 +108,7 @@ module _ (agreed : LaidOut) (typed : IsTyped agreed.covered.program) (covered : 
       let same = length-map f.params (λ p. p.ty) in
       let words = words_few plan (λ t. subst (λ l. word_count l t ≤ 8) (sym are.0) (few_words p typed are.1.a1 t)) (types_of f) in
       record {
-        accepted = accepted;
+        sound = sound;
         typed = body_typed p typed g f at;
         within = map (λ p. p.var) f.params;
         numbered = body.1;

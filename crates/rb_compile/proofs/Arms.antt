@@ -28,15 +28,16 @@ use Rattle.rb_fragment.specs.Plan.{Plan, Rep}
 use Rattle.rb_fragment.specs.Arms.{Arm, ArmsAre, ArmsIn, IsJoin, JoinedIs}
 use Rattle.rb_fragment.specs.Fragments.{Emits}
 use Rattle.rb_fragment.specs.Holding.{AreGiven, Holds, binder_in, scope_of}
-use Rattle.rb_fragment.specs.Pieces.{AtEnd, Straight}
+use Rattle.rb_fragment.specs.Pieces.{AtEnd, Piece}
 use Rattle.rb_fragment.specs.Slots.{IsOneOf}
 use Rattle.rb_fragment.proofs.Adding.{Adds-refl, Adds-trans}
 use Rattle.rb_fragment.proofs.Arms.{IsArm, arm_first, arm_later, local-below}
 use Rattle.rb_fragment.proofs.Holds.{AllBelow-more, AreGiven-append, AreGiven-more, Holds-append, Holds-kept, IsOfLocal-append}
 use Rattle.rb_fragment.proofs.Matches.{arms_more}
 use Rattle.rb_fragment.proofs.Moves.{one-below}
-use Rattle.rb_fragment.proofs.Pieces.{piece_weaken, straight_frame}
+use Rattle.rb_fragment.proofs.Pieces.{piece_frame, piece_weaken}
 use Rattle.rb_fetch.specs.Finding.{IsPlanOf}
+use Rattle.rb_match.specs.Bounding.{binding_bound}
 use Rattle.rb_match.specs.Choosing.{Binds, BindsPattern}
 use Rattle.rb_compile.specs.inner.Ready.{SitesAreReady}
 use Rattle.rb_compile.specs.inner.Forms.{EmitsExpr, meant}
@@ -63,7 +64,11 @@ module _ (plan : Plan) (f : ℕ) (c : Clause) (wanted : Option Ty) (ls : List Lo
   abbrev env_of : Case → List Binding
   env_of i = i.1 ++ bindings c.pat i.2
 
-  bound_runs : (i : Case) → Straight plan n a b (Before i) (λ sl m. Holds plan i.0 sl m inner (env_of i))
+  -- the switches that bind the pattern's variables
+  abbrev own : ℕ
+  own = binding_bound plan.program.types plan.layouts s c.pat
+
+  bound_runs : (i : Case) → Piece plan n a b Nowhere own (Before i) (AtEnd b (λ sl m. Holds plan i.0 sl m inner (env_of i)))
   bound_runs i =
       let clean = i.0 in
       let env = i.1 in
@@ -74,9 +79,9 @@ module _ (plan : Plan) (f : ℕ) (c : Clause) (wanted : Option Ty) (ls : List Lo
       let given = AreGiven-more plan n a.slots ls ground.low ground.given in
       let stays : (sl sl' : List ℕ) (m : Memory) → Keeps a.slots sl sl' → F sl m → F sl' m = λ sl sl' m keeps h.
       (h.0, Holds-kept plan clean m m (Grown-extends m m [] m.next h.0 (Grown-refl m h.0)) a.slots sl sl' keeps ls env given h.1) in
-      let framed = straight_frame plan a.slots a b F Pre Post stays (B.runs clean v i.3) in
-      piece_weaken plan a.slots n a b Nowhere 0 0 (λ sl m. F sl m × Pre sl m) (Before i) (AtEnd b (λ sl m. F sl m × Post sl m)) (AtEnd b (λ sl m. Holds plan clean sl m inner (env_of i)))
-      ground.low (omega arith) (λ sl m x. ((x.0, x.1.1), (x.0, x.1.0))) (λ pc sl m x. (x.0, Holds-append plan clean sl m ls bound env (bindings c.pat v) x.1.0.1 x.1.1)) framed
+      let framed = piece_frame plan a.slots a b Nowhere own F Pre (AtEnd b Post) stays (B.runs clean v i.3) in
+      piece_weaken plan a.slots n a b Nowhere own own (λ sl m. F sl m × Pre sl m) (Before i) (λ pc sl m. F sl m × AtEnd b Post pc sl m) (AtEnd b (λ sl m. Holds plan clean sl m inner (env_of i)))
+      ground.low (omega arith) (λ sl m x. ((x.0, x.1.1), (x.0, x.1.0))) (λ pc sl m x. (x.1.0, Holds-append plan clean sl m ls bound env (bindings c.pat v) x.0.1 x.1.1)) framed
 
   outside : (x : ℕ) → IsOneOf x hy.slots → (x < n) ⊎ (a.slots ≤ x)
   outside x i = elim (body.origin x i) [
@@ -91,14 +96,14 @@ module _ (plan : Plan) (f : ℕ) (c : Clause) (wanted : Option Ty) (ls : List Lo
   ]
 
   abbrev Done : Type 0
-  Done = IsArm plan t n a b q d inner hy r (meant plan f c.body wanted inner) ground.low B.adds body outside Case (λ i. i.0) env_of Before bound_runs
+  Done = IsArm plan t n a b q d inner hy r (meant plan f c.body wanted inner) own ground.low B.adds body outside Case (λ i. i.0) env_of Before bound_runs
 
   clause_of : Done → DoesClause plan f c wanted ls s t held.slots n r.into.slots a d r.join.pc
   clause_of x = record {
     adds = x.adds;
     does = λ calls clean env v matches.
         let k = x.does calls (clean, env, v, matches) in
-        subst (λ sc. Arm plan clean calls n a d r.join.pc (λ sl m. Rep plan m clean s v (slots_at sl held.slots) × Holds plan clean sl m ls env) (λ left. meaning_of plan.program calls f c.body wanted sc left (env ++ bindings c.pat v)) t r.into.slots) scope (record {
+        subst (λ sc. Arm plan clean calls n a d r.join.pc own (λ sl m. Rep plan m clean s v (slots_at sl held.slots) × Holds plan clean sl m ls env) (λ left. meaning_of plan.program calls f c.body wanted sc left (env ++ bindings c.pat v)) t r.into.slots) scope (record {
           adds = k.adds;
           runs = λ final callee next law rel agrees sl w long good pre. k.runs final callee next law rel agrees sl w long good (good, pre);
         });
@@ -106,21 +111,21 @@ module _ (plan : Plan) (f : ℕ) (c : Clause) (wanted : Option Ty) (ls : List Lo
 
   done : hy.ty ≡ t → (o : Option Held) → JoinedIs o hy q d r → IsShared plan n a.slots t o → ArmIsDone plan f c wanted ls s t held.slots n o a d r
   done same None j shared =
-      let x = arm_first plan t n a b q d inner hy r (meant plan f c.body wanted inner) ground.low B.adds body outside Case (λ i. i.0) env_of Before bound_runs j in
+      let x = arm_first plan t n a b q d inner hy r (meant plan f c.body wanted inner) own ground.low B.adds body outside Case (λ i. i.0) env_of Before bound_runs j in
       record { shared = (ap (λ (h : Held). h.ty) j.shared ∙ same, x.shared); same = λ h e. cc e; clause = clause_of x }
   done same (Some h) j shared =
-      let x = arm_later plan t n a b q d inner hy r (meant plan f c.body wanted inner) ground.low B.adds body outside Case (λ i. i.0) env_of Before bound_runs h shared.1 j in
+      let x = arm_later plan t n a b q d inner hy r (meant plan f c.body wanted inner) own ground.low B.adds body outside Case (λ i. i.0) env_of Before bound_runs h shared.1 j in
       record { shared = (ap (λ (k : Held). k.ty) j.shared ∙ shared.0, x.shared); same = λ k e. j.shared ∙ same_Some h k e; clause = clause_of x }
 
 pub arm_emits : (agreed : LaidOut) (plan : Plan) (f : ℕ) (c : Clause) (wanted : Option Ty) (ls : List Local) (held : Held) (a b q d : Sheet) (bound : List Local) (hy : Held) (r : Joined) (into : Option Held) → IsPlanOf agreed plan
     → BindsPattern agreed held.ty c.pat held.slots a b bound → EmitsExpr plan f c.body wanted (ls ++ bound) b q hy → JoinedIs into hy q d r → EmitsArm plan f c wanted ls held into a d r
 arm_emits agreed plan f c wanted ls held a b q d bound hy r into of_agreed binds body joined = λ s t n ready ground shared.
     let types = plan.program.types in let funs = plan.program.funs in
-    let B = subst (λ u. BindsPattern agreed u c.pat held.slots a b bound) ground.subject.0 binds plan of_agreed ready.accepted.plain ready.pattern (AllBelow-more n a.slots held.slots ground.low ground.subject.1) ground.subject.2 in
+    let B = subst (λ u. BindsPattern agreed u c.pat held.slots a b bound) ground.subject.0 binds plan of_agreed ready.pattern (AllBelow-more n a.slots held.slots ground.low ground.subject.1) ground.subject.2 in
     let sc : scope_of (ls ++ bound) ≡ scope_of ls ++ binders types c.pat s = map-append binder_in ls bound ∙ ap (λ (k : List Binder). scope_of ls ++ k) B.scope in
     let given1 : AreGiven plan b.slots (ls ++ bound) = AreGiven-append plan b.slots ls bound (AreGiven-more plan n b.slots ls (omega (arith, ground.low, B.adds.more)) ground.given) B.given in
     let E = body t (record {
-      accepted = ready.accepted;
+      sound = ready.sound;
       typed = subst (λ k. type_of types funs c.body wanted k ≡ Ok t) (sym sc) ready.typed;
       within = ready.within;
       numbered = ready.numbered;

@@ -1,5 +1,5 @@
 -- A match, from its scrutinee, the choice of a clause and the arms.
-use Rattle.std.proofs.Common.{◌≡◌, ◌++◌, ℕ, zero, suc, ◌<◌, inl, Bool, true, false, List, [], ◌∷◌, map, length, Option, Some, None, Ok, refl, sym, subst, ap, ◌∙◌, arith}
+use Rattle.std.proofs.Common.{◌≡◌, ◌++◌, ℕ, zero, suc, ◌+◌, ◌<◌, ◌≤◌, inl, Bool, true, false, List, [], ◌∷◌, map, length, Option, Some, None, Ok, refl, sym, subst, ap, ◌∙◌, arith}
 use Rattle.std.proofs.lemmas.Option.{same_Some, slice_get_within}
 use Rattle.std.specs.Prelude.{slice_get, is_some, if◌then◌else◌}
 use Rattle.rb_core.specs.declared.value.Value.{Value}
@@ -35,6 +35,7 @@ use Rattle.rb_layout.specs.declared.agreed.LaidOut.{LaidOut}
 use Rattle.rb_layout.specs.Flattening.{flat_layouts}
 use Rattle.rb_rel.specs.Relation.{Represents}
 use Rattle.rb_rel.proofs.Agreeing.{lawful}
+use Rattle.rb_rel.proofs.Lists.{get-mapped}
 use Rattle.rb_rel.proofs.Typing.{Represents-typed}
 use Rattle.rb_fragment.specs.declared.held.Held.{Held}
 use Rattle.rb_fragment.specs.declared.held.Local.{Local}
@@ -55,7 +56,8 @@ use Rattle.rb_fragment.proofs.Patching.{at_closed, closed_length, hole_from, joi
 use Rattle.rb_fragment.proofs.Pieces.{branches_frame, branches_weaken}
 use Rattle.rb_fetch.specs.Fetching.{IsSound}
 use Rattle.rb_fetch.specs.Finding.{IsPlanOf}
-use Rattle.rb_match.specs.Bounding.{bound_of}
+use Rattle.rb_match.specs.Bounding.{binding_bound, choosing_bound}
+use Rattle.rb_match.proofs.Sharing.{bound_shared}
 use Rattle.rb_match.specs.Choosing.{Chooses, IsChosen, PatternsAreTyped}
 use Rattle.rb_compile.specs.inner.Ready.{SiteIsReady}
 use Rattle.rb_compile.specs.inner.Forms.{EmitsExpr, meant}
@@ -144,14 +146,30 @@ arms_map count e q joins starts P Q g arms k lt =
 
 module _ (plan : Plan) (f at : ℕ) (cs : List Clause) (wanted : Option Ty) (ls : List Local) (b c q : Sheet) (held : Held) (holes joins : List Hole) (starts : List ℕ) (s t : Ty) (xs : List ℕ)
     (sound : IsSound plan) (site : SiteIsReady plan f (record { at = at; scrutinee = s; patterns = map pat_of cs })) (given : AreGiven plan b.slots ls) (low : AllBelow b.slots xs)
-    (choice : Branches plan b.slots b c holes (bound_of plan.program.types plan.layouts s (map pat_of cs)) (λ k sl m. IsChosen plan s (map pat_of cs) k (slots_at sl xs) m) (λ k sl m. Unit {0}))
+    (choice : Branches plan b.slots b c holes (choosing_bound plan.program.types plan.layouts s (map pat_of cs)) (λ k sl m. IsChosen plan s (map pat_of cs) k (slots_at sl xs) m) (λ k sl m. Unit {0}))
     (holes_are : AreHoles (length b.code) (length cs) c.code holes) (ways : AreOfOneWay holes) (are : ArmsAre (length cs) c q joins starts)
     (done : ArmsDone plan f (length cs) cs wanted ls s t xs b.slots c q (Some held) joins starts) where
   abbrev pats : List Pat
   pats = map pat_of cs
 
   abbrev most : ℕ
-  most = bound_of plan.program.types plan.layouts s pats
+  most = choosing_bound plan.program.types plan.layouts s pats
+
+  -- the switches that bind the variables of a clause's pattern
+  abbrev binding_in : Option Clause → ℕ
+  binding_in None = 0
+  binding_in (Some x) = binding_bound plan.program.types plan.layouts s x.pat
+
+  abbrev own : ℕ → ℕ
+  own k = binding_in (slice_get cs k)
+
+  shares : (k : ℕ) → k < length cs → most + own k ≤ plan.bound f at
+  shares k lt =
+      let x = some_at cs k lt in
+      let share = bound_shared plan.program.types plan.layouts s pats k x.0.pat (get-mapped pat_of cs k x.0 x.1) in
+      let same : own k ≡ binding_bound plan.program.types plan.layouts s x.0.pat = ap binding_in x.1 in
+      let paid = site.paid in
+      omega (arith, share, same, paid)
 
   abbrev Chosen : ℕ → List ℕ → Memory → Type 0
   Chosen k sl m = IsChosen plan s pats k (slots_at sl xs) m
@@ -190,8 +208,8 @@ module _ (plan : Plan) (f at : ℕ) (cs : List Clause) (wanted : Option Ty) (ls 
     abbrev outcome : ℕ → ℕ → Outcome
     outcome k left = outcome_of (slice_get cs k) k left
 
-    arms_do : ArmsIn (length cs) c q joins starts (λ k a d join. Arm plan clean calls b.slots a d join (Taken k) (outcome k) t held.slots)
-    arms_do = arms_map (length cs) c q joins starts (DoesNumber plan f cs wanted ls s t xs b.slots held.slots) (λ k a d join. Arm plan clean calls b.slots a d join (Taken k) (outcome k) t held.slots)
+    arms_do : ArmsIn (length cs) c q joins starts (λ k a d join. Arm plan clean calls b.slots a d join (own k) (Taken k) (outcome k) t held.slots)
+    arms_do = arms_map (length cs) c q joins starts (DoesNumber plan f cs wanted ls s t xs b.slots held.slots) (λ k a d join. Arm plan clean calls b.slots a d join (own k) (Taken k) (outcome k) t held.slots)
         (λ k a d join lt does.
         let x = some_at cs k lt in
         let one = does x.0 x.1 in
@@ -202,7 +220,7 @@ module _ (plan : Plan) (f at : ℕ) (cs : List Clause) (wanted : Option Ty) (ls 
               let same : y.0 ≡ x.0 = same_Some y.0 x.0 (sym y.1 ∙ x.1) in
               let matches = subst (λ (z : Clause). matches_of z.pat v ≡ true) same y.2 in
               let out = next (length a.code) sl w in
-              subst (λ o. Does plan w.switches out w.memory (outcome_of o k w.left) (Comes plan clean out next join b.slots t held.slots sl)) (sym x.1)
+              subst (λ o. Does plan (w.switches + binding_in o) out w.memory (outcome_of o k w.left) (Comes plan clean out next join b.slots t held.slots sl)) (sym x.1)
               ((one.does calls clean env v matches).runs final callee next law rel agrees sl w long good (pre.1, pre.2));
         }) done.arms
 
@@ -211,7 +229,7 @@ module _ (plan : Plan) (f at : ℕ) (cs : List Clause) (wanted : Option Ty) (ls 
 
     pub choice_fragment : Fragment plan clean calls b (whole_match q holes starts joins) (λ sl m. Rep plan m clean s v (slots_at sl xs) × Holds plan clean sl m ls env) (λ left. after (Matched f at ∷ []) (chosen_does left)) t held.slots
     choice_fragment =
-        match_fragment plan b.slots most (length cs) b c q holes joins starts Taken Taken takes holes_are ways done.adds are clean calls outcome t held.slots arms_do f at site.paid refl
+        match_fragment plan b.slots most (length cs) b c q holes joins starts Taken Taken takes holes_are ways done.adds are clean calls outcome t held.slots own arms_do f at shares refl
         (λ sl m. Rep plan m clean s v (slots_at sl xs) × Holds plan clean sl m ls env) chosen_does
         (λ sl m good from.
         let k = some_of (chosen_clause pats v) (site.exhaustive v (rep_typed plan sound clean m s v (slots_at sl xs) from.0)) in
@@ -238,15 +256,16 @@ module _ (agreed : LaidOut) (plan : Plan) (of_agreed : IsPlanOf agreed plan) (f 
       let nm = numbered-Match types funs at e cs ready.within ready.numbered in
       let sites = ready-Match plan f at e cs scope s tm.2 ready.ready_sites in
       let patterns = patterns_typed types funs at e cs wanted scope t s ready.typed tm.1 in
-      let A = first s (record { accepted = ready.accepted; typed = tm.1; within = ready.within; numbered = nm.0; given = ready.given; ready_sites = sites.1 }) in
+      let A = first s (record { sound = ready.sound; typed = tm.1; within = ready.within; numbered = nm.0; given = ready.given; ready_sites = sites.1 }) in
       let sub : IsSubject plan b.slots subject s = (A.0, A.1.given, A.1.count) in
       let given1 = AreGiven-more plan a.slots b.slots ls A.1.adds.more ready.given in
       let chooses = subst (λ u. Chooses agreed u (map pat_of cs) subject.slots b c holes) A.0 choose in
-      let choice = chooses plan of_agreed ready.accepted.plain (patterns_are types s cs patterns) sites.0.exhaustive A.1.given A.1.count in
-      let each : ClausesAreReady plan f cs wanted ls s t = (λ k x there. record { accepted = ready.accepted; typed = tm.4 k x there; pattern = patterns k x there; within = _; numbered = nm.1 k x there; ready_sites = sites.2 k x there }) in
+      let pats = map pat_of cs in
+      let choice = chooses plan of_agreed (patterns_are types s cs patterns) sites.0.exhaustive A.1.given A.1.count in
+      let each : ClausesAreReady plan f cs wanted ls s t = (λ k x there. record { sound = ready.sound; typed = tm.4 k x there; pattern = patterns k x there; within = _; numbered = nm.1 k x there; ready_sites = sites.2 k x there }) in
       let ground : GroundIsReady plan ls subject s b.slots c.slots = record { subject = sub; given = given1; low = choice.adds.more } in
       let done = arms s t b.slots each ground in
-      let sound = ready.accepted.sound in
+      let sound = ready.sound in
       let slots = choice_slots plan f at cs wanted ls b c q held holes joins starts s t subject.slots sound sites.0 given1 A.1.given choice holes_are ways are done in
       let adds = choice_adds plan f at cs wanted ls b c q held holes joins starts s t subject.slots sound sites.0 given1 A.1.given choice holes_are ways are done in
       let goes = λ (calls : Calls) (env : List Binding) (v : Value) (rest : ℕ). after (Matched f at ∷ []) (first_of types s (map (clause_meaning plan.program calls f) cs) wanted (Some t) scope v rest env) in (

@@ -131,11 +131,11 @@ module _ (plan : Plan) (f : ℕ) (at x : ℕ) (u : Ty) (ea eb : Expr) (wanted : 
       let wn = numbered-Let types funs at x u ea eb ready.within ready.numbered in
       let h = typed-Let types funs at x u ea eb wanted (scope_of ls) t ready.typed in
       let sites = ready-Let plan f at x u ea eb (scope_of ls) ready.ready_sites in
-      let A = first u (record { accepted = ready.accepted; typed = h.0; within = ready.within; numbered = wn.0; given = ready.given; ready_sites = sites.0 }) in
+      let A = first u (record { sound = ready.sound; typed = h.0; within = ready.within; numbered = wn.0; given = ready.given; ready_sites = sites.0 }) in
       let typed1 : type_of types funs eb wanted (scope_of inner) ≡ Ok t = subst (λ k. type_of types funs eb wanted k ≡ Ok t) (sym inner_scope) h.1 in
       let given1 : AreGiven plan b.slots inner = AreGiven-append plan b.slots ls _ (AreGiven-more plan a.slots b.slots ls A.1.adds.more ready.given) (A.1.given, A.1.count, tt) in
       let B = second t (record {
-        accepted = ready.accepted;
+        sound = ready.sound;
         typed = typed1;
         within = x ∷ ready.within;
         numbered = wn.1;

@@ -7,6 +7,5 @@ mod Parts
 mod Arms
 mod Choices
 mod Accepted
-mod Plain
 mod Whole
 mod Refined

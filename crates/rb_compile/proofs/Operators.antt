@@ -146,11 +146,11 @@ module _ (plan : Plan) (f at : ℕ) (op : Op) (ea eb : Expr) (wanted : Option Ty
       let p = typed-Binary types funs at op ea eb wanted (scope_of ls) t ready.typed in
       let n = p.0 in
       let sites = ready-Binary plan f at op ea eb (scope_of ls) ready.ready_sites in
-      let A = first (Int n) (record { accepted = ready.accepted; typed = p.2; within = ready.within; numbered = wn.0; given = given; ready_sites = sites.0 }) in
+      let A = first (Int n) (record { sound = ready.sound; typed = p.2; within = ready.within; numbered = wn.0; given = given; ready_sites = sites.0 }) in
       let is : ty ≡ Int n = ap (λ u. unwrap_or (operand_wanted op wanted) u) A.0 ∙ p.4 in
       let typed1 = subst (λ u. type_of types funs eb (Some u) (scope_of ls) ≡ Ok (Int n)) (sym is) p.3 in
       let given1 = AreGiven-more plan a.slots b.slots ls A.1.adds.more given in
-      let B = second (Int n) (record { accepted = ready.accepted; typed = typed1; within = ready.within; numbered = wn.1; given = given1; ready_sites = sites.1 }) in
+      let B = second (Int n) (record { sound = ready.sound; typed = typed1; within = ready.within; numbered = wn.1; given = given1; ready_sites = sites.1 }) in
       let second1 = subst (λ u. Emits plan (meant plan f eb (Some u) ls) ls b c (Int n) hy.slots) is B.1 in
       let all = operator_emits plan (meant plan f ea (operand_wanted op wanted) ls) (meant plan f eb (Some (Int n)) ls) op n t ls a b c hx.slots hy.slots p.5 given A.1 second1 in
       let named = same_emits plan (meant plan f (X.Binary at op ea eb) wanted ls) (λ calls left env. then_do (meant plan f ea (operand_wanted op wanted) ls calls left env) (λ v rest. then_do (meant plan f eb (Some (Int n)) ls calls rest env) (combined op (width_of (Int n)) v)))
@@ -212,7 +212,7 @@ to_expr plan f at bits ea wanted ls a b d hx held first it =
     let wn = numbered-To types funs at bits ea ready.within ready.numbered in
     let range = between 1 64 bits wn.0 in
     let p = typed-To types funs at bits ea wanted (scope_of ls) t ready.typed in
-    let A = first (Int p.0) (record { accepted = ready.accepted; typed = p.1; within = ready.within; numbered = wn.1; given = ready.given; ready_sites = ready-To plan f at bits ea (scope_of ls) ready.ready_sites }) in
+    let A = first (Int p.0) (record { sound = ready.sound; typed = p.1; within = ready.within; numbered = wn.1; given = ready.given; ready_sites = ready-To plan f at bits ea (scope_of ls) ready.ready_sites }) in
     let all = cut_emits plan (meant plan f ea None ls) p.0 bits ls a b hx.slots range.0 range.1 ready.given A.1 in (
       p.2,
       subst (λ u. Emits plan (meant plan f (X.To at bits ea) wanted ls) ls a (pushed (with_slot b) i) u (b.slots ∷ [])) p.2

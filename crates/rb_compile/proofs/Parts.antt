@@ -29,7 +29,8 @@ use Rattle.rb_fragment.proofs.Calling.{call_applies}
 use Rattle.rb_fragment.proofs.Holds.{AreGiven-more}
 use Rattle.rb_fetch.specs.Finding.{IsPlanOf}
 use Rattle.rb_build.specs.Building.{Builds}
-use Rattle.rb_compile.specs.inner.Ready.{AreReady, IsAccepted, IsReady}
+use Rattle.rb_fetch.specs.Fetching.{IsSound}
+use Rattle.rb_compile.specs.inner.Ready.{AreReady, IsReady}
 use Rattle.rb_compile.specs.inner.Forms.{EmitsExpr, EmitsFirst, meant}
 use Rattle.rb_compile.proofs.Forms.{same_emits}
 use Rattle.rb_compile.proofs.Sites.{Ready, ready-Build, ready-Call}
@@ -59,7 +60,7 @@ module _ (plan : Plan) (f : ℕ) (es : List Expr) (ts : List Ty) (ls : List Loca
       let r = ready i e at in
       let all = first ready given in
       let here : IsReady plan f e (slice_get ts i) ls b.slots r.0 = record {
-        accepted = r.2.accepted;
+        sound = r.2.sound;
         typed = subst (λ w. type_of plan.program.types plan.program.funs e w (scope_of ls) ≡ Ok r.0) (sym r.1) r.2.typed;
         within = r.2.within;
         numbered = r.2.numbered;
@@ -76,7 +77,7 @@ module _ (plan : Plan) (f : ℕ) (es : List Expr) (ts : List Ty) (ls : List Loca
       given at_hs (take_get ts (length hs) h.ty at_hs) all e2
 
 -- What is done with the values of all parts, whose types are ts
-module _ (plan : Plan) (f : ℕ) (es : List Expr) (ts : List Ty) (ls : List Local) (a b : Sheet) (hs : List Held) (accepted : IsAccepted plan) (within : List ℕ) (given : AreGiven plan a.slots ls)
+module _ (plan : Plan) (f : ℕ) (es : List Expr) (ts : List Ty) (ls : List Local) (a b : Sheet) (hs : List Held) (sound : IsSound plan) (within : List ℕ) (given : AreGiven plan a.slots ls)
     (long : length (map (rule_of plan.program.types plan.program.funs) es) ≡ length ts) (typed : each_argument (map (rule_of plan.program.types plan.program.funs) es) ts (scope_of ls) ≡ Ok tt)
     (numbered : all_within (map (expression_is_numbered plan.program.types plan.program.funs) es) within ≡ true)
     (sites : (k : ℕ) (e : Expr) → slice_get es k ≡ Some e → Ready plan f e (scope_of ls)) (first : EmitsFirst plan f (length es) es ts ls a b hs) where
@@ -86,7 +87,7 @@ module _ (plan : Plan) (f : ℕ) (es : List Expr) (ts : List Ty) (ls : List Loca
   parts_ready : AreReady plan f es ts ls a.slots
   parts_ready = λ i e at.
       let t = typed_argument plan.program.types plan.program.funs es ts (scope_of ls) many typed i e at in
-      (t.0, t.1, record { accepted = accepted; typed = t.2; within = within; numbered = numbered_part plan.program.types plan.program.funs es within numbered i e at; given = given; ready_sites = sites i e at })
+      (t.0, t.1, record { sound = sound; typed = t.2; within = within; numbered = numbered_part plan.program.types plan.program.funs es within numbered i e at; given = given; ready_sites = sites i e at })
 
   pub all_emits : EmitsAll plan (λ calls. map (meaning_of plan.program calls f) es) ts ls a b hs
   all_emits =
@@ -117,8 +118,8 @@ module _ (plan : Plan) (f at g : ℕ) (es : List Expr) (wanted : Option Ty) (ls 
       let long : length (map (rule_of types funs) es) ≡ length (types_of fun) = tc.0 ∙ ap length params_are in
       let typed = subst (λ ts. each_argument (map (rule_of types funs) es) ts (scope_of ls) ≡ Ok tt) params_are tc.1 in
       let sites = ready-Call plan f at g es (scope_of ls) ready.ready_sites in
-      let all = all_emits plan f es (types_of fun) ls a b hs ready.accepted ready.within ready.given long typed nc.1 sites first in
-      let kinds = kinds_are plan f es (types_of fun) ls a b hs ready.accepted ready.within ready.given long typed nc.1 sites first in
+      let all = all_emits plan f es (types_of fun) ls a b hs ready.sound ready.within ready.given long typed nc.1 sites first in
+      let kinds = kinds_are plan f es (types_of fun) ls a b hs ready.sound ready.within ready.given long typed nc.1 sites first in
       let result : fun.result ≡ t = sym (ap result_of is) ∙ tc.2 in
       let e = applied plan (types_of fun) ls (λ calls. map (meaning_of plan.program calls f) es) (λ calls vs left. calls g left vs) a b (calling plan b g fun hs) hs fun.result ds all (call_applies plan b g fun hs is kinds all.given) in (
         result,
@@ -140,9 +141,9 @@ build_expr agreed plan f at con es wanted ls fields a b c hs held of_agreed is f
     let long : length (map (rule_of types funs) es) ≡ length fields = tc.0 ∙ ap length fields_are in
     let typed = subst (λ ts. each_argument (map (rule_of types funs) es) ts (scope_of ls) ≡ Ok tt) fields_are tc.1 in
     let sites = ready-Build plan f at con es (scope_of ls) ready.ready_sites in
-    let all = all_emits plan f es fields ls a b hs ready.accepted ready.within ready.given long typed nc.1 sites first in
-    let kinds = kinds_are plan f es fields ls a b hs ready.accepted ready.within ready.given long typed nc.1 sites first in
-    let done = builds plan of_agreed ready.accepted.plain fields is kinds all.given in
+    let all = all_emits plan f es fields ls a b hs ready.sound ready.within ready.given long typed nc.1 sites first in
+    let kinds = kinds_are plan f es fields ls a b hs ready.sound ready.within ready.given long typed nc.1 sites first in
+    let done = builds plan of_agreed fields is kinds all.given in
     let e = applied plan fields ls (λ calls. map (meaning_of plan.program calls f) es) (λ calls. built con) a b c hs (Named con.ty) held.slots all done.1 in (
       done.0 ∙ tc.2,
       subst (λ u. Emits plan (meant plan f (X.Build at con es) wanted ls) ls a c u held.slots) tc.2

@@ -26,7 +26,7 @@ fun_emits plan g f b held ready emits =
     let types = plan.program.types in let funs = plan.program.funs in
     let scope = params_scope plan 0 f.params in
     let r : IsReady plan g f.body (Some f.result) (param_locals plan 0 f.params) (param_words plan f) f.result = record {
-      accepted = ready.accepted;
+      sound = ready.sound;
       typed = subst (λ k. type_of types funs f.body (Some f.result) k ≡ Ok f.result) (sym scope) ready.typed;
       within = ready.within;
       numbered = ready.numbered;

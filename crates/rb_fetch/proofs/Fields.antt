@@ -33,8 +33,9 @@ use Rattle.rb_fragment.specs.Reads.{mean, fits}
 use Rattle.rb_fragment.specs.WordReads.{AreMeant, AllFit, IsSlotOf, MakesAll, AreNewOr}
 use Rattle.rb_fragment.proofs.MakingAll.{slots_fit, slots_meant, slots_of}
 use Rattle.rb_fetch.specs.Finding.{IsPlanOf}
-use Rattle.rb_fetch.specs.Fields.{FieldAt, AreFieldReads, ReadsField, FetchesField}
+use Rattle.rb_fetch.specs.Fields.{FieldAt, AreFieldReads, ReadsField}
 use Rattle.rb_fetch.specs.inner.Placing.{IsAgreedLeaf}
+use Rattle.rb_fetch.specs.inner.Rebuilding.{FetchesOpen}
 use Rattle.rb_fetch.specs.inner.Fields.{HoldsInt, ReadsAs, ReadsInt, ReadsWord, ReadWords, leaf_within, leaf_at, words_at}
 use Rattle.rb_fetch.proofs.Finding.{of_plan}
 use Rattle.rb_fetch.proofs.Fitting.{root_widths}
@@ -202,9 +203,9 @@ new_or words reads old (y ∷ xs) x from h (inl e) =
     elim h.0 [ inl le ↦ inl (omega (arith, le, e)) | inr o ↦ inr (slots_of words x (from x (subst (λ z. IsSlotOf z reads) (sym e) o))) ]
 new_or words reads old (y ∷ xs) x from h (inr i) = new_or words reads old xs x from h.1 i
 
-pub fetches_field : (agreed : LaidOut) (t n : ℕ) (path : List ℕ) (words : List ℕ) (reads : List Read) (old new : Sheet) (slots : List ℕ) → ReadsField agreed t n path (map (λ x. Slot x) words) reads
-    → MakesAll reads old new slots → AreNewOr reads old slots → length slots ≡ length reads → FetchesField agreed t n path words old new slots
-fetches_field agreed t n path words reads old new slots field makes from count plan of ty f all long =
+pub fetches_open : (agreed : LaidOut) (t n : ℕ) (path : List ℕ) (words : List ℕ) (reads : List Read) (old new : Sheet) (slots : List ℕ) → ReadsField agreed t n path (map (λ x. Slot x) words) reads
+    → MakesAll reads old new slots → AreNewOr reads old slots → length slots ≡ length reads → FetchesOpen agreed t n path words old new slots
+fetches_open agreed t n path words reads old new slots field makes from count plan of ty f all long =
     let a = field plan of ty f (length-map words (λ x. Slot x) ∙ long) in
     let made = makes plan old.slots (omega arith) (a.fit old.slots (slots_fit old.slots words all)) in
     record {

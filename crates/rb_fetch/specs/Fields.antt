@@ -5,6 +5,7 @@ use Rattle.rb_core.specs.declared.types.Ty.{Ty}
 use Rattle.rb_core.specs.declared.types.Ty.TheVariants.{Named}
 use Rattle.rb_core.specs.Values.{part_at}
 use Rattle.rb_bytes.specs.Memory.{Memory, IsGood}
+use Rattle.rb_target.specs.Growth.{Nowhere}
 use Rattle.rb_target.specs.Meaning.{slots_at}
 use Rattle.rb_target.specs.Sheet.{Sheet}
 use Rattle.rb_layout.specs.declared.agreed.LaidOut.{LaidOut}
@@ -14,10 +15,11 @@ use Rattle.rb_layout.specs.Positions.{open_positions, leaf_of, layout_of}
 use Rattle.rb_fragment.specs.declared.reads.Read.{Read}
 use Rattle.rb_fragment.specs.Plan.{Plan, Rep, words_of}
 use Rattle.rb_fragment.specs.Adding.{Adds}
-use Rattle.rb_fragment.specs.Pieces.{Straight}
+use Rattle.rb_fragment.specs.Pieces.{AtEnd, Piece}
 use Rattle.rb_fragment.specs.Slots.{AllBelow, IsOneOf}
 use Rattle.rb_fragment.specs.WordReads.{AreMeant, AllFit, IsSlotOf}
 use Rattle.rb_fetch.specs.Finding.{IsPlanOf}
+use Rattle.rb_fetch.specs.Positions.{PositionAt, mend_under}
 
 -- the path leads to an open position of leaf n of a type's layout, at which this type is
 pub record FieldAt (plan : Plan) (t n : ℕ) (path : List ℕ) (ty : Ty) : Type 0 where
@@ -54,17 +56,20 @@ ReadsField agreed t n path words reads =
 
 -- Slots --------------------------------------------------------------------------------------
 
--- The appended code leaves words of a field in slots, without a switch, and keeps all slots that there were.
--- Each of the field's slots is new, or is one of the value's.
-pub record FieldIsFetched (plan : Plan) (t n : ℕ) (path : List ℕ) (ty : Ty) (layout : Layout) (words : List ℕ) (old new : Sheet) (slots : List ℕ) : Type 0 where
+-- The appended code leaves words of the part at a position in slots, as cleanly as the value is, and keeps all
+-- slots that there were. Each of the part's slots is new, or is one of the value's. A part at a constructor is
+-- rebuilt in its own type's layout, with at most as many switches as that takes; one at a wildcard is there,
+-- and takes none.
+pub record FieldIsFetched (plan : Plan) (t n : ℕ) (path : List ℕ) (ty : Ty) (f : PositionAt plan t n path ty) (words : List ℕ) (old new : Sheet) (slots : List ℕ) : Type 0 where
   pub adds : Adds plan old new
   pub given : AllBelow new.slots slots
   pub count : length slots ≡ words_of plan ty
   pub origin : (x : ℕ) → IsOneOf x slots → (old.slots ≤ x) ⊎ IsOneOf x words
-  pub runs : (clean : Bool) (v part : Value) → leaf_of layout v ≡ Some n → part_at v path ≡ Some part
-      → Straight plan old.slots old new (λ s m. IsGood m × Rep plan m clean (Named t) v (slots_at s words)) (λ s m. Rep plan m clean ty part (slots_at s slots))
+  pub runs : (clean : Bool) (v part : Value) → leaf_of f.layout v ≡ Some n → part_at v path ≡ Some part
+      → Piece plan old.slots old new Nowhere (mend_under plan.layouts f.pat)
+      (λ s m. IsGood m × Rep plan m clean (Named t) v (slots_at s words)) (AtEnd new (λ s m. Rep plan m clean ty part (slots_at s slots)))
 
 abbrev pub FetchesField : LaidOut → ℕ → ℕ → List ℕ → List ℕ → Sheet → Sheet → List ℕ → Type 0
 FetchesField agreed t n path words old new slots =
-    (plan : Plan) → IsPlanOf agreed plan → (ty : Ty) (f : FieldAt plan t n path ty) → AllBelow old.slots words → length words ≡ words_of plan (Named t)
-    → FieldIsFetched plan t n path ty f.layout words old new slots
+    (plan : Plan) → IsPlanOf agreed plan → (ty : Ty) (f : PositionAt plan t n path ty) → AllBelow old.slots words → length words ≡ words_of plan (Named t)
+    → FieldIsFetched plan t n path ty f words old new slots

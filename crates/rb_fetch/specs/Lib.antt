@@ -1,5 +1,7 @@
 pub mod Fetching
 pub mod Finding
+pub mod Positions
 pub mod Fields
-pub mod Plain
+pub mod Constructing
 pub mod inner
+pub mod Choosing

@@ -8,12 +8,12 @@ ghost use Rattle.rb_fetch.specs.inner.Fields as fields;
 ghost use Rattle.rb_fetch.specs.inner.Placing.{IsAgreedLeaf};
 
 use crate::place::{Wanted, find_part};
+use crate::rebuild::{DEPTH, fetch_field_at};
 use crate::slice::int_read;
 use crate::way::spot_read;
 use rb_core::seq::Seq;
 use rb_core::types::Ty;
-use rb_fragment::make::make_all;
-use rb_fragment::reads::{Read, slot_reads};
+use rb_fragment::reads::Read;
 use rb_layout::agreed::Agreed;
 use rb_layout::layout::{Layout, Leaf};
 use rb_layout::positions::type_at;
@@ -114,8 +114,9 @@ fn word_read(
     }
 }
 
-/// Code that leaves the words of a field in slots, from the slots of the words of a value of a leaf. The
-/// path is an open position of the leaf's provenance.
+/// Code that leaves the part of a value at a position of its leaf's provenance in slots, from the slots of the
+/// value's words. At a wildcard that takes no switch. At a constructor the part is rebuilt in its own type's
+/// layout, which places no block. At the root it is the value itself.
 ///
 /// # Errors
 /// `AllocError` where memory is wanting.
@@ -131,8 +132,6 @@ pub fn fetch_field(
     ensures fetches { IfOk result (λ slots. FetchesField agreed.now ty leaf path.now words.now body.old body.new slots) }
     ensures grows { OnOk result (Grows body.old.code body.new.code) }
 {
-    let words = slot_reads(alloc, words)?;
-    let reads = field_reads(alloc, agreed, ty, leaf, path, words.as_slice())?;
-    let slots = make_all(alloc, body, reads.as_slice())?;
+    let slots = fetch_field_at(alloc, body, words, agreed, DEPTH, ty, leaf, path)?;
     Ok(slots)
 }

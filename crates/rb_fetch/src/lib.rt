@@ -1,4 +1,5 @@
-//! Code that reads represented values: the bits at a location, and the leaf of a value.
+//! Code that reads represented values, and code that constructs them: the bits at a location, the leaf of a
+//! value and its parts, and the choice of the leaf of a construction.
 //!
 //! A layout says where each bit of a value stands: in a root word, or behind pointers in blocks. Take a
 //! list whose tag is the lowest bit of a pointer:
@@ -28,15 +29,66 @@
 //! word, and nothing is taken from it. An integer may be held in slices, of which each gives its bits to
 //! the whole. [`field::fetch_field`] makes these numbers into slots.
 //!
+//! A leaf may take a field apart. Take colours of one bit, and trees with the colour beside the pointer:
+//!
+//! ```text
+//! layout Color <1> = split 0[0:1] { 0 => Red : { word 1 { [0:1] = 0 } } 1 => Black : { word 1 { [0:1] = 1 } } };
+//! layout Tree <64> = split 0[0:2] {
+//!     0 => Empty            : { word 64 { [0:64] = 0 } }
+//!     1 => Node(Red, _, _)   : { word 64 { [0:2] = 1, [3:61] -> 8 { inline .1, inline .2 } } }
+//!     2 => Node(Black, _, _) : { word 64 { [0:2] = 2, [3:61] -> 8 { inline .1, inline .2 } } }
+//! };
+//! ```
+//!
+//! No word of a tree is that of its colour. Behind the hole of leaf 1 the colour is known all the same, and
+//! [`field::fetch_field`] at position 0 **rebuilds** it in its own layout: `const d 0`. In general the parts at
+//! the fields of a constructor are fetched first, and then the constructor is applied to them, as it is where a
+//! program does so ([`construct::construct`]). A type that is taken apart has no pointers, so this places no
+//! block; and no type is taken apart by one that it takes apart, so it ends.
+//!
+//! A construction has to know its leaf. For `Empty` there is one leaf, and its code stands alone. For
+//! `Node` and the colour in slot 0, the tree's two leaves differ at position 0, so [`choice::choose_leaf`] looks
+//! there, and each way out goes to the code of its leaf:
+//!
+//! ```text
+//! 0  take 3 0 0 1
+//! 1  switch 3 - 0 2 1 3     the leaf of the colour
+//! 2  jump 4                 red
+//! 3  jump 11                black
+//! 4  place 4 16 8           a block with the fields 1 and 2, which are in slots 1 and 2
+//! 5  store 4 0 64 1
+//! 6  store 4 8 64 2
+//! 7  const 5 1              the word of a red node, in slot 5
+//! 8  take 6 4 3 61
+//! 9  put 5 6 3 61
+//! 10 jump 19
+//! 11 place 7 16 8           the same for a black node, its word in slot 8
+//!    ..
+//! 17 copy 5 8               to where the first way left its word
+//! 18 jump 19
+//! ```
+//!
+//! A look is taken where the first leaf that is still possible has a constructor and nothing is known; behind
+//! it only leaves that fit what was found go on (`choosing.rt`), and what was found is fetched only where one of
+//! them takes it apart. Once all places of the first one are looked at, it is the leaf: the value has all its
+//! constructors, and no two leaves have a value in common. A place is looked at once on a way, so a run does no
+//! more switches than `choose_of` counts.
+//!
 //! That a range, a byte or a width is one of an instruction is no condition on the caller: it follows from
 //! agreement wherever a location resolves in some leaf, and each split of a layout that agrees stands above
 //! a leaf in which its location does.
 #![tactic(auto)]
 
+pub mod choice;
+mod choosing;
+pub mod construct;
 pub mod fetch;
 pub mod field;
+mod heads;
 pub mod look;
+mod parts;
 mod place;
+mod rebuild;
 mod slice;
 mod span;
 mod way;

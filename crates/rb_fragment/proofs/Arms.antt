@@ -21,7 +21,7 @@ use Rattle.rb_fragment.specs.Arms.{AreShared, Arm, IsJoin, JoinedIs, shared_held
 use Rattle.rb_fragment.specs.Fragments.{Comes, Emits}
 use Rattle.rb_fragment.specs.Holding.{AreGiven, Holds, IsOfLocal}
 use Rattle.rb_fragment.specs.Owing.{Does}
-use Rattle.rb_fragment.specs.Pieces.{IsLater, Straight}
+use Rattle.rb_fragment.specs.Pieces.{AtEnd, IsLater, Piece}
 use Rattle.rb_fragment.specs.Plan.{Plan, Rep, words_of}
 use Rattle.rb_fragment.specs.Slots.{AllBelow, AllFrom, AreApart, IsDistinct, IsOneOf, Stands, copied, copies, joining, slots_from}
 use Rattle.rb_fragment.specs.declared.held.Held.{Held}
@@ -35,11 +35,11 @@ local-below plan n [] x given h = absurd h
 local-below plan n (l ∷ ls) x given (inl h) = one-below n x l.slots given.0 h
 local-below plan n (l ∷ ls) x given (inr h) = local-below plan n ls x given.2 h
 
--- An arm: its variables, its body, and its value where all arms leave it.
-module _ (plan : Plan) (clean : Bool) (calls : Calls) (n : ℕ) (t : Ty) (a b c : Sheet) (inner : List Local) (ys : List ℕ) (Pre : List ℕ → Memory → Type 0) (env : List Binding) (eb : Calls → ℕ → List Binding → Outcome)
+-- An arm: its variables, with their switches, its body, and its value where all arms leave it.
+module _ (plan : Plan) (clean : Bool) (calls : Calls) (n : ℕ) (t : Ty) (a b c : Sheet) (inner : List Local) (ys : List ℕ) (Pre : List ℕ → Memory → Type 0) (env : List Binding) (eb : Calls → ℕ → List Binding → Outcome) (extra : ℕ)
     (m : ℕ) (into : List ℕ) (room_into : c.slots ≤ m) (from : AllFrom n into) (below : AllBelow m into) (distinct : IsDistinct into) (count : length into ≡ words_of plan t)
     (new : (s : ℕ) → c.slots ≤ s → s < m → IsOneOf s into)
-    (bind : Straight plan n a b Pre (λ s m. Holds plan clean s m inner env))
+    (bind : Piece plan n a b Nowhere extra Pre (AtEnd b (λ s m. Holds plan clean s m inner env)))
     (body : Emits plan eb inner b c t ys)
     (apart : AreApart into ys) where
   abbrev wide : Sheet
@@ -57,7 +57,7 @@ module _ (plan : Plan) (clean : Bool) (calls : Calls) (n : ℕ) (t : Ty) (a b c 
   same_words : length into ≡ length ys
   same_words = count ∙ sym body.count
 
-  pub arm : Arm plan clean calls n a whole join Pre (λ left. eb calls left env) t into
+  pub arm : Arm plan clean calls n a whole join extra Pre (λ left. eb calls left env) t into
   arm = record {
     adds = Adds-trans plan a c whole (Adds-trans plan a b c bind.adds body.adds) (joining_adds plan c m into ys room_into below ys_low same_words new);
     runs = λ final callee next law rel agrees s w room good pre.
@@ -80,9 +80,9 @@ module _ (plan : Plan) (clean : Bool) (calls : Calls) (n : ℕ) (t : Ty) (a b c 
         let d2 = subst (λ l. Does plan r.2.switches (next (length b.code) r.1 r.2) r.2.memory (eb calls l env) Mid) r.5.left d1 in
         let d3 = subst (λ m. Does plan r.2.switches (next (length b.code) r.1 r.2) m (eb calls w.left env) Mid) r.5.memory d2 in
         let Ok1 = λ (v : Value) (w' : World). (s2 : List ℕ) × (out ≡ next (length c.code) s2 w') × Keeps n s s2 × (length s2 ≡ length s) × Rep plan w'.memory clean t v (slots_at s2 ys) in
-        let d4 = does_map plan w.switches r.2.switches out (next (length b.code) r.1 r.2) Ok1 Mid w.memory (eb calls w.left env) (omega (arith, r.5.switches)) (r.3 ∙ ap (λ pc. next pc r.1 r.2) r.6.0)
+        let d4 = does_map plan (w.switches + extra) r.2.switches out (next (length b.code) r.1 r.2) Ok1 Mid w.memory (eb calls w.left env) (omega (arith, r.5.switches)) (r.3 ∙ ap (λ pc. next pc r.1 r.2) r.6.0)
         (λ v w' q. (q.0, r.3 ∙ ap (λ pc. next pc r.1 r.2) r.6.0 ∙ q.1, Keeps-trans n n s r.1 q.0 (omega arith) r.4 (record { long = q.2.long; same = λ x lt. q.2.same x (omega (arith, lt, bind.low, bind.adds.more)) }), q.2.long ∙ r.4.long, q.3)) d3 in
-        does_later plan w.switches out (Comes plan clean out next join n t into s) Ok1 w.memory (eb calls w.left env)
+        does_later plan (w.switches + extra) out (Comes plan clean out next join n t into s) Ok1 w.memory (eb calls w.left env)
         (λ v w' q.
         let ran = copies_run final callee next law into ys (length c.code) q.0 w' there in
         let w2 = ran.0 in
@@ -140,15 +140,15 @@ arm_join into held c d r j =
 
 -- An arm behind its variables and its body, with its words where all arms leave theirs: the slots that the
 -- arms before it share, or new ones.
-module _ (plan : Plan) (t : Ty) (n : ℕ) (a b q d : Sheet) (inner : List Local) (hy : Held) (r : Joined) (eb : Calls → ℕ → List Binding → Outcome) (below_a : n ≤ a.slots) (ab : Adds plan a b)
+module _ (plan : Plan) (t : Ty) (n : ℕ) (a b q d : Sheet) (inner : List Local) (hy : Held) (r : Joined) (eb : Calls → ℕ → List Binding → Outcome) (extra : ℕ) (below_a : n ≤ a.slots) (ab : Adds plan a b)
     (body : Emits plan eb inner b q t hy.slots)
     (outside : (x : ℕ) → IsOneOf x hy.slots → (x < n) ⊎ (a.slots ≤ x))
-    (Case : Type 0) (clean : Case → Bool) (env : Case → List Binding) (Pre : Case → List ℕ → Memory → Type 0) (bind : (i : Case) → Straight plan n a b (Pre i) (λ s m. Holds plan (clean i) s m inner (env i))) where
+    (Case : Type 0) (clean : Case → Bool) (env : Case → List Binding) (Pre : Case → List ℕ → Memory → Type 0) (bind : (i : Case) → Piece plan n a b Nowhere extra (Pre i) (AtEnd b (λ s m. Holds plan (clean i) s m inner (env i)))) where
   -- what is known of the shared slots, and what the arm does in each case
   pub record IsArm : Type 0 where
     pub adds : Adds plan a d
     pub shared : AreShared n d.slots (words_of plan t) r.into.slots
-    pub does : (calls : Calls) (i : Case) → Arm plan (clean i) calls n a d r.join.pc (Pre i) (λ left. eb calls left (env i)) t r.into.slots
+    pub does : (calls : Calls) (i : Case) → Arm plan (clean i) calls n a d r.join.pc extra (Pre i) (λ left. eb calls left (env i)) t r.into.slots
 
   done : (m : ℕ) → d ≡ joining (record q { slots = m }) r.into.slots hy.slots → r.join.pc ≡ length q.code + length (copies r.into.slots hy.slots) → q.slots ≤ m
       → AreShared n m (words_of plan t) r.into.slots → ((x : ℕ) → q.slots ≤ x → x < m → IsOneOf x r.into.slots) → AreApart r.into.slots hy.slots → IsArm
@@ -161,9 +161,9 @@ module _ (plan : Plan) (t : Ty) (n : ℕ) (a b q d : Sheet) (inner : List Local)
         adds = subst (λ (k : Sheet). Adds plan a k) (sym code) adds0;
         shared = record { from = sh.from; below = subst (λ (k : Sheet). AllBelow k.slots zs) (sym code) sh.below; distinct = sh.distinct; count = sh.count };
         does = λ calls i.
-            subst (λ (k : Sheet). Arm plan (clean i) calls n a k r.join.pc (Pre i) (λ left. eb calls left (env i)) t zs) (sym code)
-            (subst (λ k. Arm plan (clean i) calls n a w k (Pre i) (λ left. eb calls left (env i)) t zs) (sym join)
-            (arm plan (clean i) calls n t a b q inner hy.slots (Pre i) (env i) eb m zs room sh.from sh.below sh.distinct sh.count new (bind i) body apart));
+            subst (λ (k : Sheet). Arm plan (clean i) calls n a k r.join.pc extra (Pre i) (λ left. eb calls left (env i)) t zs) (sym code)
+            (subst (λ k. Arm plan (clean i) calls n a w k extra (Pre i) (λ left. eb calls left (env i)) t zs) (sym join)
+            (arm plan (clean i) calls n t a b q inner hy.slots (Pre i) (env i) eb extra m zs room sh.from sh.below sh.distinct sh.count new (bind i) body apart));
       }
 
   -- the first arm: its slots are new

@@ -257,10 +257,10 @@ module _ (plan : Plan) (n most count : ℕ) (b e q : Sheet) (holes joins : List 
         one_hole h (x ∷ hs) (suc k, at) a = one_hole h hs (k, at) a.3
 
   -- from the end of b the run does what the way that is taken does, and comes to behind all
-  module _ (clean : Bool) (calls : Calls) (o : ℕ → ℕ → Outcome) (t : Ty) (into : List ℕ) (stand : ArmsIn count e q joins starts (λ k a d join. Arm plan clean calls n a d join (Mid k) (o k) t into)) where
+  module _ (clean : Bool) (calls : Calls) (o : ℕ → ℕ → Outcome) (t : Ty) (into : List ℕ) (extra : ℕ → ℕ) (stand : ArmsIn count e q joins starts (λ k a d join. Arm plan clean calls n a d join (extra k) (Mid k) (o k) t into)) where
     pub match_does : (final : List Instr) (callee : Callee) (next : Next) → Law final callee next → Related plan calls callee → AgreesBut final whole.code (length b.code) (length whole.code) Nowhere
         → (s : List ℕ) (w : World) (k : ℕ) → k < count → whole.slots ≤ length s → IsGood w.memory → Pre k s w.memory
-        → Does plan (w.switches + most) (next (length b.code) s w) w.memory (o k w.left) (Comes plan clean (next (length b.code) s w) next (length whole.code) n t into s)
+        → Does plan (w.switches + (most + extra k)) (next (length b.code) s w) w.memory (o k w.left) (Comes plan clean (next (length b.code) s w) next (length whole.code) n t into s)
     match_does final callee next law rel agrees s w k lt room good pre =
         let x = stand k lt in
         let r = match_chooses final callee next law agrees s w k room good pre in
@@ -272,18 +272,18 @@ module _ (plan : Plan) (n most count : ℕ) (b e q : Sheet) (holes joins : List 
         let ok = o k r.2.left in
         let Ok1 = Comes plan clean out1 next x.join n t into r.1 in
         let Ok2 = Comes plan clean out1 next (length q.code) n t into r.1 in
-        let d1 : Does plan r.2.switches out1 r.2.memory ok Ok1 =
-        x.does.runs final callee next law rel (of_arm final callee next law agrees (slice_index starts k) (λ a d join. Arm plan clean calls n a d join (Mid k) (o k) t into) x) r.1 r.2 long_d good1 mid1 in
-        let d2 : Does plan r.2.switches out1 r.2.memory ok Ok2 = does_later plan r.2.switches out1 Ok2 Ok1 r.2.memory ok
+        let d1 : Does plan (r.2.switches + extra k) out1 r.2.memory ok Ok1 =
+        x.does.runs final callee next law rel (of_arm final callee next law agrees (slice_index starts k) (λ a d join. Arm plan clean calls n a d join (extra k) (Mid k) (o k) t into) x) r.1 r.2 long_d good1 mid1 in
+        let d2 : Does plan (r.2.switches + extra k) out1 r.2.memory ok Ok2 = does_later plan (r.2.switches + extra k) out1 Ok2 Ok1 r.2.memory ok
         (λ u w' y. (taken w', refl, refl, omega arith, (y.0, y.1 ∙ jumps final callee next law x.join (length q.code) y.0 w' (join_is final callee next law agrees x.join x.jumps), y.2, y.3))) d1 in
-        let d3 : Does plan r.2.switches (next r.0 r.1 r.2) r.2.memory ok Ok2 = subst (λ pc. Does plan r.2.switches (next pc r.1 r.2) r.2.memory ok Ok2) (sym to) d2 in
+        let d3 : Does plan (r.2.switches + extra k) (next r.0 r.1 r.2) r.2.memory ok Ok2 = subst (λ pc. Does plan (r.2.switches + extra k) (next pc r.1 r.2) r.2.memory ok Ok2) (sym to) d2 in
         let Ok = Comes plan clean (next (length b.code) s w) next (length whole.code) n t into s in
-        let d4 = reached_does plan next (length b.code) n most (λ pc s' m. (pc ≡ slice_index starts k) × Mid k s' m) s w ok Ok Ok2 r
+        let d4 = reached_does plan next (length b.code) n most (extra k) (λ pc s' m. (pc ≡ slice_index starts k) × Mid k s' m) s w ok Ok Ok2 r
         (λ u w' y. (y.0, r.3 ∙ ap (λ pc. next pc r.1 r.2) to ∙ y.1 ∙ ap (λ pc. next pc y.0 w') (sym len), Keeps-trans n n s r.1 y.0 (omega arith) r.4 y.2, y.3)) d3 in
-        subst (λ l. Does plan (w.switches + most) (next (length b.code) s w) w.memory (o k l) Ok) r.5.left d4
+        subst (λ l. Does plan (w.switches + (most + extra k)) (next (length b.code) s w) w.memory (o k l) Ok) r.5.left d4
 
-    -- a whole match: its event pays for the switches that choose
-    pub match_fragment : (f at : ℕ) → most ≤ plan.bound f at → n ≡ b.slots → (From : List ℕ → Memory → Type 0) (meaning : ℕ → Outcome)
+    -- a whole match: its event pays for the switches that choose, and for those of the chosen arm
+    pub match_fragment : (f at : ℕ) → ((k : ℕ) → k < count → most + extra k ≤ plan.bound f at) → n ≡ b.slots → (From : List ℕ → Memory → Type 0) (meaning : ℕ → Outcome)
         → ((s : List ℕ) (m : Memory) → IsGood m → From s m → (k : ℕ) × (k < count) × Pre k s m × ((left : ℕ) → meaning left ≡ o k left))
         → Fragment plan clean calls b whole From (λ left. after (Matched f at ∷ []) (meaning left)) t into
     match_fragment f at few same From meaning choose = record {
@@ -293,8 +293,9 @@ module _ (plan : Plan) (n most count : ℕ) (b e q : Sheet) (holes joins : List 
           let Ok = Comes plan clean out next (length whole.code) b.slots t into s in
           let Ok1 = Comes plan clean out next (length whole.code) n t into s in
           let d = match_does final callee next law rel agrees s w c.0 c.1 long good c.2 in
-          let most1 : w.switches + most ≤ w.switches + plan.bound f at = omega (arith, few) in
-          let d1 = does_map plan (w.switches + plan.bound f at) (w.switches + most) out out Ok Ok1 w.memory (o c.0 w.left) most1 refl (λ v w' y. (y.0, y.1, record { long = y.2.long; same = λ x lt. y.2.same x (omega (arith, lt, same)) }, y.3)) d in
+          let paid = few c.0 c.1 in
+          let most1 : w.switches + (most + extra c.0) ≤ w.switches + plan.bound f at = omega (arith, paid) in
+          let d1 = does_map plan (w.switches + plan.bound f at) (w.switches + (most + extra c.0)) out out Ok Ok1 w.memory (o c.0 w.left) most1 refl (λ v w' y. (y.0, y.1, record { long = y.2.long; same = λ x lt. y.2.same x (omega (arith, lt, same)) }, y.3)) d in
           does_event plan w.switches out w.memory (Matched f at) (meaning w.left) Ok refl
           (subst (λ r. Does plan (w.switches + plan.bound f at) out w.memory r Ok) (sym (c.3 w.left)) d1);
     }

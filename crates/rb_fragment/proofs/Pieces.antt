@@ -36,11 +36,11 @@ pub later-trans : (k j : ℕ) (w w1 w2 : World) → IsLater k w w1 → IsLater j
 later-trans k j w w1 w2 a b = record { memory = b.memory ∙ a.memory; left = b.left ∙ a.left; switches = omega (arith, a.switches, b.switches) }
 
 -- What a run owes, where a piece comes first: its switches are added to the base.
-pub reached_does : (plan : Plan) (next : Next) (start n most : ℕ) (Exit : ℕ → List ℕ → Memory → Type 0) (s : List ℕ) (w : World) (o : Outcome) (Ok Ok1 : Value → World → Type 0) (r : Reached next start n most Exit s w)
-    → ((v : Value) (w' : World) → Ok1 v w' → Ok v w') → Does plan r.2.switches (next r.0 r.1 r.2) r.2.memory o Ok1 → Does plan (w.switches + most) (next start s w) w.memory o Ok
-reached_does plan next start n most Exit s w o Ok Ok1 r f d =
-    does_map plan (w.switches + most) r.2.switches (next start s w) (next r.0 r.1 r.2) Ok Ok1 w.memory o r.5.switches r.3 f
-    (subst (λ m. Does plan r.2.switches (next r.0 r.1 r.2) m o Ok1) r.5.memory d)
+pub reached_does : (plan : Plan) (next : Next) (start n most extra : ℕ) (Exit : ℕ → List ℕ → Memory → Type 0) (s : List ℕ) (w : World) (o : Outcome) (Ok Ok1 : Value → World → Type 0) (r : Reached next start n most Exit s w)
+    → ((v : Value) (w' : World) → Ok1 v w' → Ok v w') → Does plan (r.2.switches + extra) (next r.0 r.1 r.2) r.2.memory o Ok1 → Does plan (w.switches + (most + extra)) (next start s w) w.memory o Ok
+reached_does plan next start n most extra Exit s w o Ok Ok1 r f d =
+    does_map plan (w.switches + (most + extra)) (r.2.switches + extra) (next start s w) (next r.0 r.1 r.2) Ok Ok1 w.memory o (let few = r.5.switches in omega (arith, few)) r.3 f
+    (subst (λ m. Does plan (r.2.switches + extra) (next r.0 r.1 r.2) m o Ok1) r.5.memory d)
 
 -- An event that places nothing pays for the switches before it.
 pub does_event : (plan : Plan) (base : ℕ) (out : Run) (m : Memory) (e : Event) (o : Outcome) (Ok : Value → World → Type 0) → requests_at plan.layouts e ≡ []

@@ -59,15 +59,15 @@ HasHole pc (h ∷ hs) = (pc ≡ h.pc) ⊎ HasHole pc hs
 
 -- Arms
 
--- From the end of a, where Pre holds, the run does what o does, leaves the value in slots that all arms
--- share, and comes to an open jump. The first n slots are kept.
-pub record Arm (plan : Plan) (clean : Bool) (calls : Calls) (n : ℕ) (a d : Sheet) (join : ℕ) (Pre : List ℕ → Memory → Type 0)
-    (o : ℕ → Outcome) (t : Ty) (into : List ℕ) : Type 0 where
+-- From the end of a, where Pre holds, the run does what o does, with at most so many extra switches, leaves the
+-- value in slots that all arms share, and comes to an open jump. The first n slots are kept.
+pub record Arm (plan : Plan) (clean : Bool) (calls : Calls) (n : ℕ) (a d : Sheet) (join extra : ℕ)
+    (Pre : List ℕ → Memory → Type 0) (o : ℕ → Outcome) (t : Ty) (into : List ℕ) : Type 0 where
   pub adds : Adds plan a d
   pub runs : (final : List Instr) (callee : Callee) (next : Next) → Law final callee next → Related plan calls callee
       → AgreesBut final d.code (length a.code) (length d.code) (λ pc. pc ≡ join)
       → (s : List ℕ) (w : World) → d.slots ≤ length s → IsGood w.memory → Pre s w.memory
-      → Does plan w.switches (next (length a.code) s w) w.memory (o w.left)
+      → Does plan (w.switches + extra) (next (length a.code) s w) w.memory (o w.left)
       (Comes plan clean (next (length a.code) s w) next join n t into s)
 
 -- where an arm leaves its value: the slots that the arms before it share, or new ones for the first

@@ -2,7 +2,7 @@
 use Rattle.std.proofs.Common.{◌≡◌, ℕ, suc, ◌+◌, ◌==◌, inl, inr, Bool, true, false, List, [], ◌∷◌, ◌++◌, map, length, Some, refl, sym, subst, ap, ◌∙◌, arith}
 use Rattle.std.specs.Prelude.{slice_get, ◌&&◌}
 use Rattle.std.proofs.lemmas.Bool.{false≢true}
-use Rattle.std.proofs.lemmas.Option.{same_Some, slice_get_within}
+use Rattle.std.proofs.lemmas.Option.{slice_get_within}
 use Rattle.rb_core.specs.declared.value.Value.{Value, out-Value}
 use Rattle.rb_core.specs.declared.value.Value.TheOpen as V
 use Rattle.rb_core.specs.declared.value.Value.TheOpen.{Value-F}
@@ -31,24 +31,37 @@ use Rattle.rb_rel.proofs.Leaves.{leaf_matches}
 use Rattle.rb_rel.proofs.Represented.{opened}
 use Rattle.rb_fragment.specs.declared.held.Local.{Local}
 use Rattle.rb_fragment.specs.Holding.{AreGiven, Holds, binder_in, scope_of}
-use Rattle.rb_fragment.specs.Pieces.{AtEnd, Straight}
+use Rattle.std.specs.Prelude.{if◌then◌else◌}
+use Rattle.std.proofs.Common.{◌≤◌}
+use Rattle.rb_target.specs.Growth.{Nowhere}
+use Rattle.rb_layout.specs.Agreement.{Agrees}
+use Rattle.rb_layout.specs.Flattening.{flat_layouts}
+use Rattle.rb_rel.specs.Switches.{choose_of, depth_of, greatest, leaves_in, mend_leaf, mend_of}
+use Rattle.rb_rel.proofs.Mending.{mending_recurs}
+use Rattle.rb_match.specs.Bounding.{Place, binding_bound, binding_look, is_plain, looks_with, place_below, places_below, places_in, places_step, rebuilding}
+use Rattle.rb_match.specs.inner.Saving.{FetchesPart, mend_at, mends_at, mends_from}
+use Rattle.rb_match.proofs.Composing.{pieces, piece_framed, piece_less}
+use Rattle.rb_match.proofs.Mending.{mends_within}
+use Rattle.rb_fragment.specs.Pieces.{AtEnd, Piece}
 use Rattle.rb_fragment.specs.Plan.{Plan, Rep, words_of}
 use Rattle.rb_fragment.specs.Slots.{AllBelow}
 use Rattle.rb_fragment.proofs.Adding.{Adds-refl, Adds-trans}
 use Rattle.rb_fragment.proofs.Holds.{AllBelow-more, AreGiven-more, AreGiven-append, Holds-append, IsOfLocal-append, slots_at-kept}
-use Rattle.rb_fragment.proofs.Pieces.{piece_none, piece_weaken, straight_frame, straight_seq, straight_weaken}
-use Rattle.rb_fetch.specs.Fields.{FetchesField}
+use Rattle.rb_fragment.proofs.Pieces.{piece_none}
 use Rattle.rb_fetch.specs.Finding.{IsPlanOf, leaf_count, leaves_within}
 use Rattle.rb_match.specs.Choosing.{Binds}
 use Rattle.rb_match.specs.inner.Asking.{con_of_layer, con_in, leaf_in, leaf_con}
-use Rattle.rb_match.specs.inner.Binding.{may_be, IsOnlyLeaf, BindsAt, BindsParts, FieldsMatch, BindsFields, FieldMatches, BindsField}
-use Rattle.rb_match.specs.inner.Places.{IsFieldOf}
+use Rattle.rb_match.specs.inner.Binding.{may_be, IsOnlyLeaf, BindsAt, BindsParts, FieldsMatch, BindsFields, FieldMatches, BindsField, fields_bound}
 use Rattle.rb_match.proofs.Edges.{same-nat}
 
 both : (a b : Bool) → (a && b) ≡ true → (a ≡ true) × (b ≡ true)
 both true true e = (refl, refl)
 both true false e = absurd cc
 both false b e = absurd cc
+
+-- nothing is done
+nothing : (plan : Plan) (b : Sheet) (most : ℕ) (Pre Post : List ℕ → Memory → Type 0) → ((s : List ℕ) (m : Memory) → Pre s m → Post s m) → Piece plan b.slots b b Nowhere most Pre (AtEnd b Post)
+nothing plan b most Pre Post f = piece_less plan b.slots b.slots b b 0 most Pre Pre Post Post (omega arith) (omega arith) (λ s m x. x) (λ s m x. x) (piece_none plan b.slots b Pre Post (omega arith) f)
 
 -- nothing is bound
 none_bound : (plan : Plan) (pat : Pat) (t : Ty) (words : List ℕ) (old : Sheet) → binders plan.program.types pat t ≡ [] → ((v : Value) → bindings pat v ≡ []) → Binds plan pat t words old old []
@@ -57,7 +70,7 @@ none_bound plan pat t words old scope bound = record {
   scope = sym scope;
   given = tt;
   origin = λ x o. absurd o;
-  runs = λ clean v m. piece_none plan old.slots old (λ s m. IsGood m × Rep plan m clean t v (slots_at s words)) (λ s m. Holds plan clean s m [] (bindings pat v)) (omega arith) (λ s m pre. subst (λ bs. Holds plan clean s m [] bs) (sym (bound v)) tt);
+  runs = λ clean v m. nothing plan old (binding_bound plan.program.types plan.layouts t pat) (λ s m. IsGood m × Rep plan m clean t v (slots_at s words)) (λ s m. Holds plan clean s m [] (bindings pat v)) (λ s m pre. subst (λ bs. Holds plan clean s m [] bs) (sym (bound v)) tt);
 }
 
 binders-at : (types : List DataDecl) (t : Ty) → (Ty → List Binder) → List Binder
@@ -76,7 +89,7 @@ var_binds agreed t at x words old = λ plan of all count. record {
   scope = sym (ap (λ (f : Ty → List Binder). f t) (fold-Var (Ty → List Binder) (binders_step plan.program.types) at x));
   given = (all, count, tt);
   origin = λ y o. elim o [ inl h ↦ inr h | inr h ↦ absurd h ];
-  runs = λ clean v m. piece_none plan old.slots old (λ s m. IsGood m × Rep plan m clean t v (slots_at s words)) (λ s m. Holds plan clean s m (record { var = x; ty = t; slots = words } ∷ []) (bindings (Var at x) v)) (omega arith)
+  runs = λ clean v m. nothing plan old (binding_bound plan.program.types plan.layouts t (Var at x)) (λ s m. IsGood m × Rep plan m clean t v (slots_at s words)) (λ s m. Holds plan clean s m (record { var = x; ty = t; slots = words } ∷ []) (bindings (Var at x) v))
       (λ s m pre. subst (λ bs. Holds plan clean s m (record { var = x; ty = t; slots = words } ∷ []) bs) (sym (bindings-Var v at x)) (refl, pre.1, tt));
 }
 
@@ -91,7 +104,7 @@ field_none agreed t leaf words sub field i old b none = λ plan of all count.
       given = tt;
       origin = λ x o. absurd o;
       runs = λ clean v bs layout is_layout is_leaf parts.
-          piece_none plan old.slots old (λ s m. IsGood m × Rep plan m clean (Named t) v (slots_at s words)) (λ s m. Holds plan clean s m [] bs) (omega arith) (λ s m pre. subst (λ l. Holds plan clean s m [] l) (sym (parts.3 ∙ n.1 parts.0)) tt);
+          nothing plan old (mend_at plan.layouts t leaf i + binding_bound plan.program.types plan.layouts field sub) (λ s m. IsGood m × Rep plan m clean (Named t) v (slots_at s words)) (λ s m. Holds plan clean s m [] bs) (λ s m pre. subst (λ l. Holds plan clean s m [] l) (sym (parts.3 ∙ n.1 parts.0)) tt);
     }
 
 pub field_wild : (agreed : LaidOut) (t leaf : ℕ) (words : List ℕ) (at : ℕ) (field : Ty) (i : ℕ) (old : Sheet) → BindsField agreed t leaf words (Wild at) field i old old []
@@ -103,11 +116,10 @@ field_num agreed t leaf words at n field i old = field_none agreed t leaf words 
     (λ plan. (ap (λ (f : Ty → List Binder). f field) (fold-Num (Ty → List Binder) (binders_step plan.program.types) at n), λ v. bindings-Num v at n))
 
 -- a field that is fetched, and then bound
-pub field_binds : (agreed : LaidOut) (t leaf : ℕ) (words : List ℕ) (sub : Pat) (field : Ty) (i : ℕ) (old mid new : Sheet) (slots : List ℕ) (bound : List Local) → IsFieldOf agreed t leaf (i ∷ []) field
-    → FetchesField agreed t leaf (i ∷ []) words old mid slots → BindsAt agreed field sub slots mid new bound → BindsField agreed t leaf words sub field i old new bound
-field_binds agreed t leaf words sub field i old mid new slots bound is_field fetches binds = λ plan of all count.
-    let f = is_field plan of in
-    let g = fetches plan of field f all count in
+pub field_binds : (agreed : LaidOut) (t leaf : ℕ) (words : List ℕ) (sub : Pat) (field : Ty) (i : ℕ) (old mid new : Sheet) (slots : List ℕ) (bound : List Local)
+    → FetchesPart agreed t leaf i field words old mid slots → BindsAt agreed field sub slots mid new bound → BindsField agreed t leaf words sub field i old new bound
+field_binds agreed t leaf words sub field i old mid new slots bound fetches binds = λ plan of all count.
+    let g = fetches plan of all count in
     let b = binds plan of g.given g.count in
     record {
       adds = Adds-trans plan old mid new g.adds b.adds;
@@ -115,17 +127,16 @@ field_binds agreed t leaf words sub field i old mid new slots bound is_field fet
       given = b.given;
       origin = λ x o. elim (b.origin x o) [ inl h ↦ (let m = g.adds.more in inl (omega (arith, h, m))) | inr h ↦ g.origin x h ];
       runs = λ clean v bs layout is_layout is_leaf parts.
-          let same : layout ≡ f.layout = same_Some layout f.layout (sym is_layout ∙ f.is_layout) in
-          let leaf1 = ap (λ (y : Layout). leaf_of y v) (sym same) ∙ is_leaf in
           let Pre : List ℕ → Memory → Type 0 = λ s m. IsGood m × Rep plan m clean (Named t) v (slots_at s words) in
           let Part : List ℕ → Memory → Type 0 = λ s m. Rep plan m clean field parts.0 (slots_at s slots) in
-          let first = straight_frame plan old.slots old mid (λ s m. IsGood m) Pre Part (λ s s' m k x. x) (g.runs clean v parts.0 leaf1 parts.1) in
-          let first1 = straight_weaken plan old.slots old mid (λ s m. IsGood m × Pre s m) Pre (λ s m. IsGood m × Part s m) (λ s m. IsGood m × Part s m) (λ s m x. (x.0, x)) (λ s m x. x) first in
-          let second = b.runs clean parts.0 parts.2 in
-          let second1 : Straight plan old.slots mid new (λ s m. IsGood m × Part s m) (λ s m. Holds plan clean s m bound bs) =
-          piece_weaken plan mid.slots old.slots mid new (λ pc. ⊥) 0 0 (λ s m. IsGood m × Part s m) (λ s m. IsGood m × Part s m) (AtEnd new (λ s m. Holds plan clean s m bound (bindings sub parts.0))) (AtEnd new (λ s m. Holds plan clean s m bound bs)) g.adds.more (omega arith)
-          (λ s m x. x) (λ pc s m x. (x.0, subst (λ l. Holds plan clean s m bound l) (sym parts.3) x.1)) second in
-          straight_seq plan old.slots old mid new Pre (λ s m. IsGood m × Part s m) (λ s m. Holds plan clean s m bound bs) first1 second1;
+          let Mid : List ℕ → Memory → Type 0 = λ s m. IsGood m × Part s m in
+          let Post : List ℕ → Memory → Type 0 = λ s m. Holds plan clean s m bound bs in
+          let k1 = mend_at plan.layouts t leaf i in
+          let k2 = binding_bound plan.program.types plan.layouts field sub in
+          let framed = piece_framed plan old.slots old mid k1 (λ s m. IsGood m) Pre Part (λ s s' m k x. x) (g.runs clean v parts.0 layout is_layout is_leaf parts.1) in
+          let first = piece_less plan old.slots old.slots old mid k1 k1 (λ s m. IsGood m × Pre s m) Pre Mid Mid (omega arith) (omega arith) (λ s m x. (x.0, x)) (λ s m x. x) framed in
+          let second = piece_less plan mid.slots old.slots mid new k2 k2 Mid Mid (λ s m. Holds plan clean s m bound (bindings sub parts.0)) Post g.adds.more (omega arith) (λ s m x. x) (λ s m x. subst (λ l. Holds plan clean s m bound l) (sym parts.3) x) (b.runs clean parts.0 parts.2) in
+          pieces plan old.slots old mid new k1 k2 Pre Mid Post first second;
     }
 
 -- no field
@@ -136,12 +147,47 @@ fields_none agreed t leaf words fields i old = λ plan of all count. record {
   given = tt;
   origin = λ x o. absurd o;
   runs = λ clean v bs layout is_layout is_leaf parts.
-      piece_none plan old.slots old (λ s m. IsGood m × Rep plan m clean (Named t) v (slots_at s words)) (λ s m. Holds plan clean s m [] bs) (omega arith) (λ s m pre. subst (λ l. Holds plan clean s m [] l) (sym parts.3) tt);
+      nothing plan old (mends_from plan.layouts t leaf [] i + fields_bound plan [] fields) (λ s m. IsGood m × Rep plan m clean (Named t) v (slots_at s words)) (λ s m. Holds plan clean s m [] bs) (λ s m pre. subst (λ l. Holds plan clean s m [] l) (sym parts.3) tt);
 }
 
-scope-append : (ls ks : List Local) → scope_of (ls ++ ks) ≡ scope_of ls ++ scope_of ks
+pub scope-append : (ls ks : List Local) → scope_of (ls ++ ks) ≡ scope_of ls ++ scope_of ks
 scope-append [] ks = refl
 scope-append (l ∷ ls) ks = ap (λ r. binder_in l ∷ r) (scope-append ls ks)
+
+-- what is held in slots that are kept
+pub kept : (plan : Plan) (n : ℕ) (s s' : List ℕ) (m : Memory) → Keeps n s s' → (clean : Bool) (ls : List Local) (cs : List Binding) → AreGiven plan n ls → Holds plan clean s m ls cs → Holds plan clean s' m ls cs
+kept plan n s s' m k clean [] [] given h = tt
+kept plan n s s' m k clean [] (c ∷ cs) given h = h
+kept plan n s s' m k clean (l ∷ ls) [] given h = h
+kept plan n s s' m k clean (l ∷ ls) (c ∷ cs) given h = (h.0, subst (λ ws. Rep plan m clean l.ty c.value ws) (sym (slots_at-kept n s s' l.slots given.0 k)) h.1, kept plan n s s' m k clean ls cs given.2 h.2)
+
+looks-append : (look : Ty → ℕ) (ps qs : List Place) → looks_with look (ps ++ qs) ≡ looks_with look ps + looks_with look qs
+looks-append look [] qs = omega arith
+looks-append look (p ∷ ps) qs = let h = looks-append look ps qs in omega (arith, h)
+
+looks-below : (look : Ty → ℕ) (i : ℕ) (ps : List Place) → looks_with look (map (place_below i) ps) ≡ looks_with look ps
+looks-below look i [] = refl
+looks-below look i (p ∷ ps) = ap (λ n. look p.ty + n) (looks-below look i ps)
+
+-- where the fields are counted from does not matter
+looks-from : (look : Ty → ℕ) (ps : List (Ty → List Place)) (ts : List Ty) (i j : ℕ) → looks_with look (places_below ps ts i) ≡ looks_with look (places_below ps ts j)
+looks-from look [] ts i j = refl
+looks-from look (p ∷ ps) [] i j = refl
+looks-from look (p ∷ ps) (t ∷ ts) i j =
+    let a = looks-append look (map (place_below i) (p t)) (places_below ps ts (i + 1)) in
+    let b = looks-append look (map (place_below j) (p t)) (places_below ps ts (j + 1)) in
+    let c = looks-below look i (p t) in
+    let d = looks-below look j (p t) in
+    let e = looks-from look ps ts (i + 1) (j + 1) in omega (arith, a, b, c, d, e)
+
+pub fields_more : (plan : Plan) (sub : Pat) (subs : List Pat) (field : Ty) (fields : List Ty) → fields_bound plan (sub ∷ subs) (field ∷ fields) ≡ binding_bound plan.program.types plan.layouts field sub + fields_bound plan subs fields
+fields_more plan sub subs field fields =
+    let look = binding_look plan.layouts in
+    let ps = places_in plan.program.types sub field in
+    let more = places_below (map (places_in plan.program.types) subs) fields (0 + 1) in
+    let a = looks-append look (map (place_below 0) ps) more in
+    let b = looks-below look 0 ps in
+    let c = looks-from look (map (places_in plan.program.types) subs) fields (0 + 1) 0 in omega (arith, a, b, c)
 
 -- a field, and the others behind it
 pub fields_binds : (agreed : LaidOut) (t leaf : ℕ) (words : List ℕ) (sub : Pat) (subs : List Pat) (field : Ty) (fields : List Ty) (i : ℕ) (old mid new : Sheet) (bound more : List Local)
@@ -163,10 +209,11 @@ fields_binds agreed t leaf words sub subs field fields i old mid new bound more 
     shifted : (i j : ℕ) → i + suc j ≡ i + 1 + j
     shifted i j = omega arith
 
-    go : (plan : Plan) (f : BindsParts plan t leaf words (binders plan.program.types sub field) old mid bound (FieldMatches sub i)) (o : BindsParts plan t leaf words (all_binders (map (binders plan.program.types) subs) fields) mid new more (FieldsMatch subs (i + 1)))
+    go : (plan : Plan) (f : BindsParts plan (mend_at plan.layouts t leaf i + binding_bound plan.program.types plan.layouts field sub) t leaf words (binders plan.program.types sub field) old mid bound (FieldMatches sub i))
+        (o : BindsParts plan (mends_from plan.layouts t leaf subs (i + 1) + fields_bound plan subs fields) t leaf words (all_binders (map (binders plan.program.types) subs) fields) mid new more (FieldsMatch subs (i + 1)))
         → AllBelow old.slots words → (clean : Bool) (v : Value) (bs : List Binding) (layout : Layout) → layout_of plan.layouts t ≡ Some layout → leaf_of layout v ≡ Some leaf
         → (vs : List Value) → ((j : ℕ) → part_at v ((i + j) ∷ []) ≡ slice_get vs j) → all_pass (map matches_of (sub ∷ subs)) vs ≡ true → bs ≡ all_bound (map bindings (sub ∷ subs)) vs
-        → Straight plan old.slots old new (λ s m. IsGood m × Rep plan m clean (Named t) v (slots_at s words)) (λ s m. Holds plan clean s m (bound ++ more) bs)
+        → Piece plan old.slots old new Nowhere (mends_from plan.layouts t leaf (sub ∷ subs) i + fields_bound plan (sub ∷ subs) (field ∷ fields)) (λ s m. IsGood m × Rep plan m clean (Named t) v (slots_at s words)) (AtEnd new (λ s m. Holds plan clean s m (bound ++ more) bs))
     go plan f o all clean v bs layout is_layout is_leaf [] at pass is = absurd (false≢true pass)
     go plan f o all clean v bs layout is_layout is_leaf (u ∷ vs) at pass is =
         let b = both (matches_of sub u) (all_pass (map matches_of subs) vs) pass in
@@ -178,20 +225,18 @@ fields_binds agreed t leaf words sub subs field fields i old mid new bound more 
         let Has1 : List ℕ → Memory → Type 0 = λ s m. Holds plan clean s m bound bs1 in
         let Has2 : List ℕ → Memory → Type 0 = λ s m. Holds plan clean s m more bs2 in
         let keep_pre : (s s' : List ℕ) (m : Memory) → Keeps old.slots s s' → Pre s m → Pre s' m = λ s s' m k x. (x.0, subst (λ ws. Rep plan m clean (Named t) v ws) (sym (slots_at-kept old.slots s s' words all k)) x.1) in
-        let first = straight_frame plan old.slots old mid Pre Pre Has1 keep_pre (f.runs clean v bs1 layout is_layout is_leaf (u, here, b.0, refl)) in
-        let first1 = straight_weaken plan old.slots old mid (λ s m. Pre s m × Pre s m) Pre (λ s m. Pre s m × Has1 s m) (λ s m. Has1 s m × Pre s m) (λ s m x. (x, x)) (λ s m x. (x.1, x.0)) first in
-        let second = straight_frame plan mid.slots mid new Has1 Pre Has2 (λ s s' m k x. kept plan mid.slots s s' m k clean bound bs1 f.given x)
+        let k1 = mend_at plan.layouts t leaf i + binding_bound plan.program.types plan.layouts field sub in
+        let k2 = mends_from plan.layouts t leaf subs (i + 1) + fields_bound plan subs fields in
+        let Post : List ℕ → Memory → Type 0 = λ s m. Holds plan clean s m (bound ++ more) bs in
+        let Mid : List ℕ → Memory → Type 0 = λ s m. Has1 s m × Pre s m in
+        let framed = piece_framed plan old.slots old mid k1 Pre Pre Has1 keep_pre (f.runs clean v bs1 layout is_layout is_leaf (u, here, b.0, refl)) in
+        let first = piece_less plan old.slots old.slots old mid k1 k1 (λ s m. Pre s m × Pre s m) Pre (λ s m. Pre s m × Has1 s m) Mid (omega arith) (omega arith) (λ s m x. (x, x)) (λ s m x. (x.1, x.0)) framed in
+        let framed2 = piece_framed plan mid.slots mid new k2 Has1 Pre Has2 (λ s s' m k x. kept plan mid.slots s s' m k clean bound bs1 f.given x)
         (o.runs clean v bs2 layout is_layout is_leaf (vs, (λ j. ap (λ n. part_at v (n ∷ [])) (sym (shifted i j)) ∙ at (suc j)), b.1, refl)) in
-        let second1 : Straight plan old.slots mid new (λ s m. Has1 s m × Pre s m) (λ s m. Holds plan clean s m (bound ++ more) bs) =
-        piece_weaken plan mid.slots old.slots mid new (λ pc. ⊥) 0 0 (λ s m. Has1 s m × Pre s m) (λ s m. Has1 s m × Pre s m) (AtEnd new (λ s m. Has1 s m × Has2 s m)) (AtEnd new (λ s m. Holds plan clean s m (bound ++ more) bs)) f.adds.more (omega arith)
-        (λ s m x. x) (λ pc s m x. (x.0, subst (λ l. Holds plan clean s m (bound ++ more) l) (sym is) (Holds-append plan clean s m bound more bs1 bs2 x.1.0 x.1.1))) second in
-        straight_seq plan old.slots old mid new Pre (λ s m. Has1 s m × Pre s m) (λ s m. Holds plan clean s m (bound ++ more) bs) first1 second1
-      where
-        kept : (plan : Plan) (n : ℕ) (s s' : List ℕ) (m : Memory) → Keeps n s s' → (clean : Bool) (ls : List Local) (cs : List Binding) → AreGiven plan n ls → Holds plan clean s m ls cs → Holds plan clean s' m ls cs
-        kept plan n s s' m k clean [] [] given h = tt
-        kept plan n s s' m k clean [] (c ∷ cs) given h = h
-        kept plan n s s' m k clean (l ∷ ls) [] given h = h
-        kept plan n s s' m k clean (l ∷ ls) (c ∷ cs) given h = (h.0, subst (λ ws. Rep plan m clean l.ty c.value ws) (sym (slots_at-kept n s s' l.slots given.0 k)) h.1, kept plan n s s' m k clean ls cs given.2 h.2)
+        let second = piece_less plan mid.slots old.slots mid new k2 k2 Mid Mid (λ s m. Has1 s m × Has2 s m) Post f.adds.more (omega arith) (λ s m x. x) (λ s m x. subst (λ l. Holds plan clean s m (bound ++ more) l) (sym is) (Holds-append plan clean s m bound more bs1 bs2 x.0 x.1)) framed2 in
+        let most = fields_more plan sub subs field fields in
+        piece_less plan old.slots old.slots old new (k1 + k2) (mends_from plan.layouts t leaf (sub ∷ subs) i + fields_bound plan (sub ∷ subs) (field ∷ fields)) Pre Pre Post Post (omega arith) (omega (arith, most)) (λ s m x. x) (λ s m x. x)
+        (pieces plan old.slots old mid new k1 k2 Pre Mid Post first second)
 
 -- the leaf of a value that a constructor's pattern matches
 may_match : (c : ℕ) (p : Pat) (v : Value) (us : List Value) → out-Value v ≡ V.Con c us → matches_of p v ≡ true → may_be c (con_of_layer (out-Pat p)) ≡ true
@@ -204,27 +249,68 @@ may_match c p v us is = induction (λ p. matches_of p v ≡ true → may_be c (c
       ap (λ l. may_be c (con_of_layer l)) (outs-Con at d ps) ∙ (both (d.con == c) (all_pass (map matches_of ps) us) h).0;
 }) p
 
-begins_with : (d : ℕ) (ts : List (Value → Bool)) (l : Value-F Value) → is_con d ts l ≡ true → (us : List Value) × (l ≡ V.Con d us) × (all_pass ts us ≡ true)
+pub begins_with : (d : ℕ) (ts : List (Value → Bool)) (l : Value-F Value) → is_con d ts l ≡ true → (us : List Value) × (l ≡ V.Con d us) × (all_pass ts us ≡ true)
 begins_with d ts (V.Num n) e = absurd (false≢true e)
 begins_with d ts (V.Con k us) e = let b = both (d == k) (all_pass ts us) e in (us, ap (λ n. V.Con n us) (sym (same-nat d k b.0)), b.1)
 
+mends_more : (layouts : List Layout) (t leaf : ℕ) (subs : List Pat) (i : ℕ) → mends_at layouts t leaf i + mends_from layouts t leaf subs i ≡ mends_at layouts t leaf (i + length subs)
+mends_more layouts t leaf [] i = let z : i + 0 ≡ i = omega arith in (let e = ap (mends_at layouts t leaf) z in omega (arith, e))
+mends_more layouts t leaf (p ∷ ps) i =
+    let up : suc i ≡ i + 1 = omega arith in
+    let z : i + 1 + length ps ≡ i + suc (length ps) = omega arith in
+    let h = mends_more layouts t leaf ps (i + 1) in
+    let a = ap (mends_at layouts t leaf) up in
+    let b = ap (mends_at layouts t leaf) z in omega (arith, h, a, b)
+
+pub look_more : (layouts : List Layout) (t : ℕ) → rebuilding layouts (Named t) ≤ binding_look layouts (Named t)
+look_more layouts t = go (is_plain layouts t)
+  where
+    go : (u : Bool) → (if u then 0 else mend_of layouts t) ≤ (if u then 0 else depth_of layouts (Named t) + mend_of layouts t)
+    go true = omega arith
+    go false = omega arith
+
+-- the bound at a constructor
+pub con_bound : (plan : Plan) (t : Ty) (at : ℕ) (c : ConRef) (subs : List Pat) → binding_bound plan.program.types plan.layouts t (Con at c subs) ≡ binding_look plan.layouts t + fields_bound plan subs (field_types plan.program.types c)
+con_bound plan t at c subs = ap (λ (f : Ty → List Place). looks_with (binding_look plan.layouts) (f t)) (fold-Con (Ty → List Place) (places_step plan.program.types) at c subs)
+
+-- mending is what its recursion says, in each plan of the agreed program
+abbrev pub MendsIn : LaidOut → Type 0
+MendsIn agreed = (plan : Plan) → IsPlanOf agreed plan → (t : ℕ) → mend_of plan.layouts t ≡ greatest (map (mend_leaf (choose_of plan.layouts)) (leaves_in (layout_of plan.layouts t)))
+
+pub mends_in : (agreed : LaidOut) → Agrees agreed.covered.program → agreed.layouts ≡ flat_layouts agreed.covered.program → MendsIn agreed
+mends_in agreed agrees flat = λ plan of t.
+    subst (λ ls. mend_of ls t ≡ greatest (map (mend_leaf (choose_of ls)) (leaves_in (layout_of ls t)))) (sym (of.layouts ∙ flat)) (mending_recurs (flat_layouts agreed.covered.program) agrees.a9 t)
+
 -- a constructor
-pub con_binds : (agreed : LaidOut) (t : Ty) (at : ℕ) (c : ConRef) (subs : List Pat) (leaf : ℕ) (words : List ℕ) (old new : Sheet) (bound : List Local) → t ≡ Named c.ty → IsOnlyLeaf agreed c.ty c.con leaf
+pub con_binds : (agreed : LaidOut) (t : Ty) (at : ℕ) (c : ConRef) (subs : List Pat) (leaf : ℕ) (words : List ℕ) (old new : Sheet) (bound : List Local) → MendsIn agreed → t ≡ Named c.ty → IsOnlyLeaf agreed c.ty c.con leaf
     → BindsFields agreed c.ty leaf words subs (field_types agreed.covered.program.types c) 0 old new bound → BindsAt agreed t (Con at c subs) words old new bound
-con_binds agreed t at c subs leaf words old new bound named only fields = λ plan of all count.
+con_binds agreed t at c subs leaf words old new bound mends named only fields = λ plan of all count.
+    let types_is : field_types agreed.covered.program.types c ≡ field_types plan.program.types c = ap (λ (g : Rattle.rb_core.specs.declared.program.Program.Program). field_types g.types c) (sym of.program) in
     let f = fields plan of all (count ∙ ap (words_of plan) named) in
+    let sum = con_bound plan t at c subs in
+    let look = ap (binding_look plan.layouts) named in
+    let some = ap (fields_bound plan subs) types_is in
+    let a = mends_more plan.layouts c.ty leaf subs 0 in
+    let within = mends_within plan.layouts c.ty (mends plan of c.ty) leaf (0 + length subs) in
+    let more = look_more plan.layouts c.ty in
+    let le : mends_from plan.layouts c.ty leaf subs 0 + fields_bound plan subs (field_types agreed.covered.program.types c) ≤ binding_bound plan.program.types plan.layouts t (Con at c subs) = omega (arith, sum, look, some, a, within, more) in
     record {
       adds = f.adds;
       scope = f.is_scope ∙ ap (λ (g : Rattle.rb_core.specs.declared.program.Program.Program). all_binders (map (binders plan.program.types) subs) (field_types g.types c)) (sym of.program)
           ∙ sym (ap (λ (b : Ty → List Binder). b t) (fold-Con (Ty → List Binder) (binders_step plan.program.types) at c subs));
       given = f.given;
       origin = f.origin;
-      runs = λ clean v matches. go plan of f clean v (begins_with c.con (map matches_of subs) (out-Value v) (sym (matches-Con v at c subs) ∙ matches));
+      runs = λ clean v matches.
+          let Pre : List ℕ → Memory → Type 0 = λ s m. IsGood m × Rep plan m clean t v (slots_at s words) in
+          let Post : List ℕ → Memory → Type 0 = λ s m. Holds plan clean s m bound (bindings (Con at c subs) v) in
+          piece_less plan old.slots old.slots old new (mends_from plan.layouts c.ty leaf subs 0 + fields_bound plan subs (field_types agreed.covered.program.types c)) (binding_bound plan.program.types plan.layouts t (Con at c subs)) Pre Pre Post Post (omega arith) le (λ s m x. x) (λ s m x. x)
+          (go plan of f clean v (begins_with c.con (map matches_of subs) (out-Value v) (sym (matches-Con v at c subs) ∙ matches)));
     }
   where
-    go : (plan : Plan) (of : IsPlanOf agreed plan) (f : BindsParts plan c.ty leaf words (all_binders (map (binders plan.program.types) subs) (field_types agreed.covered.program.types c)) old new bound (FieldsMatch subs 0)) (clean : Bool) (v : Value)
+    go : (plan : Plan) (of : IsPlanOf agreed plan)
+        (f : BindsParts plan (mends_from plan.layouts c.ty leaf subs 0 + fields_bound plan subs (field_types agreed.covered.program.types c)) c.ty leaf words (all_binders (map (binders plan.program.types) subs) (field_types agreed.covered.program.types c)) old new bound (FieldsMatch subs 0)) (clean : Bool) (v : Value)
         → (us : List Value) × (out-Value v ≡ V.Con c.con us) × (all_pass (map matches_of subs) us ≡ true)
-        → Straight plan old.slots old new (λ s m. IsGood m × Rep plan m clean t v (slots_at s words)) (λ s m. Holds plan clean s m bound (bindings (Con at c subs) v))
+        → Piece plan old.slots old new Nowhere (mends_from plan.layouts c.ty leaf subs 0 + fields_bound plan subs (field_types agreed.covered.program.types c)) (λ s m. IsGood m × Rep plan m clean t v (slots_at s words)) (AtEnd new (λ s m. Holds plan clean s m bound (bindings (Con at c subs) v)))
     go plan of f clean v (us, is, pass) = record {
       adds = f.adds;
       low = omega arith;

@@ -6,11 +6,10 @@ use Rattle.std.proofs.lemmas.Option.{same_Some}
 use Rattle.rb_core.specs.Typing.{same_type}
 use Rattle.rb_core.proofs.TypedForms.{same_type-is}
 use Rattle.rb_decide.specs.Decisions.{AreDistinct}
-use Rattle.rb_layout.specs.declared.layout.Layout.{Layout}
+use Rattle.rb_core.specs.declared.types.Ty.{Ty}
 use Rattle.rb_layout.specs.Flattening.{same_path}
-use Rattle.rb_rel.specs.Switches.{look_of}
 use Rattle.rb_rel.proofs.Holding.{path_is}
-use Rattle.rb_match.specs.Bounding.{Place, same_place, distinct_places, looks_of}
+use Rattle.rb_match.specs.Bounding.{Place, same_place, distinct_places, looks_with}
 use Rattle.rb_match.specs.inner.Flowing.{path_of}
 use Rattle.rb_match.specs.inner.Places.{IsPlaceIn}
 
@@ -51,10 +50,10 @@ without k [] = []
 without zero (p ∷ ps) = ps
 without (suc k) (p ∷ ps) = p ∷ without k ps
 
-without_sum : (layouts : List Layout) (ps : List Place) (k : ℕ) (p : Place) → slice_get ps k ≡ Some p → looks_of layouts ps ≡ look_of layouts p.ty + looks_of layouts (without k ps)
-without_sum layouts [] k p at = absurd cc
-without_sum layouts (x ∷ ps) zero p at = ap (λ (y : Place). look_of layouts y.ty + looks_of layouts ps) (same_Some x p at)
-without_sum layouts (x ∷ ps) (suc k) p at = let h = without_sum layouts ps k p at in omega (arith, h)
+without_sum : (look : Ty → ℕ) (ps : List Place) (k : ℕ) (p : Place) → slice_get ps k ≡ Some p → looks_with look ps ≡ look p.ty + looks_with look (without k ps)
+without_sum look [] k p at = absurd cc
+without_sum look (x ∷ ps) zero p at = ap (λ (y : Place). look y.ty + looks_with look ps) (same_Some x p at)
+without_sum look (x ∷ ps) (suc k) p at = let h = without_sum look ps k p at in omega (arith, h)
 
 in_without : (ps : List Place) (k : ℕ) (p q : Place) → slice_get ps k ≡ Some p → (p ≡ q → ⊥) → IsPlaceIn q ps → IsPlaceIn q (without k ps)
 in_without [] k p q at ne (j, e) = absurd cc
@@ -68,12 +67,12 @@ apart_at q [] h x (k, at) e = cc at
 apart_at q (y ∷ path) h x (zero, at) e = h.0 (e ∙ sym (ap path_of (same_Some y x at)))
 apart_at q (y ∷ path) h x (suc k, at) e = apart_at q path h.1 x (k, at) e
 
-pub within_sum : (layouts : List Layout) (path ds : List Place) → AreDistinct (map path_of path) → ((p : Place) → IsPlaceIn p path → IsPlaceIn p ds) → looks_of layouts path ≤ looks_of layouts ds
-within_sum layouts [] ds once all = omega arith
-within_sum layouts (p ∷ path) ds once all =
+pub within_sum : (look : Ty → ℕ) (path ds : List Place) → AreDistinct (map path_of path) → ((p : Place) → IsPlaceIn p path → IsPlaceIn p ds) → looks_with look path ≤ looks_with look ds
+within_sum look [] ds once all = omega arith
+within_sum look (p ∷ path) ds once all =
     let i = all p (0, refl) in
-    let sum = without_sum layouts ds i.0 p i.1 in
-    let rest = within_sum layouts path (without i.0 ds) once.1 (λ q j. in_without ds i.0 p q i.1 (λ e. apart_at p.path path once.0 q j (ap path_of e)) (all q (suc j.0, j.1))) in
+    let sum = without_sum look ds i.0 p i.1 in
+    let rest = within_sum look path (without i.0 ds) once.1 (λ q j. in_without ds i.0 p q i.1 (λ e. apart_at p.path path once.0 q j (ap path_of e)) (all q (suc j.0, j.1))) in
     omega (arith, sum, rest)
 
 pub all_at : {A : Type 0} (P : A → Type 0) (xs : List A) → AllByRecursion P xs → (k : ℕ) (x : A) → slice_get xs k ≡ Some x → P x

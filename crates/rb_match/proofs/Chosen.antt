@@ -26,27 +26,74 @@ use Rattle.rb_rel.proofs.Agreeing.{lawful}
 use Rattle.rb_rel.proofs.Typing.{Represents-typed}
 use Rattle.rb_fragment.specs.declared.reads.Read.{Read, Slot}
 use Rattle.rb_fragment.specs.Plan.{Plan, Rep}
+use Rattle.rb_bytes.specs.Memory.{IsGood}
+use Rattle.rb_target.specs.Growth.{AgreesBut, Grows, Nowhere}
+use Rattle.rb_target.specs.Targets.{Finishes}
+use Rattle.rb_target.proofs.Growing.{Keeps-trans}
+use Rattle.rb_fragment.specs.Arms.{AreHoles}
+use Rattle.rb_fragment.proofs.Adding.{Adds-trans}
+use Rattle.rb_fragment.proofs.MakingAll.{meant-kept}
+use Rattle.rb_fragment.proofs.Pieces.{later-trans}
 use Rattle.rb_fragment.specs.Slots.{AllBelow}
+use Rattle.rb_match.specs.declared.knowledge.Spot.{Spot}
+use Rattle.rb_match.specs.inner.Saving.{GivesSpots}
+use Rattle.rb_match.proofs.Edges.{hole_at}
 use Rattle.rb_fragment.specs.WordReads.{AreMeant, AllFit}
 use Rattle.rb_fragment.proofs.ReadForms.{mean-Slot, fits-Slot}
-use Rattle.rb_match.specs.Bounding.{Place, looks_of, places_of, rounds}
+use Rattle.rb_match.specs.Bounding.{Place, choosing_look, looks_with, places_of, rounds}
 use Rattle.rb_match.specs.Choosing.{Chooses}
 use Rattle.rb_match.specs.inner.Flowing.{tree_at, looks, path_of, HasWay, TakesGraph}
 use Rattle.rb_match.specs.inner.Places.{IsPlaceIn, IsLookedAt}
 use Rattle.rb_match.specs.inner.Trees.{TakesTree}
 use Rattle.rb_match.proofs.Bounds.{in_distinct, within_sum, all_at}
 
--- the code of a graph is that of the tree to which it unfolds
-pub tree_takes : (agreed : LaidOut) (ty : Ty) (words : List Read) (pats : List Pat) (tree : Tree) (graph : Graph) (old new : Sheet) (holes : List Hole) → unfolding_of graph ≡ Some tree → LinksAreLower graph.nodes
-    → TakesGraph agreed ty words pats graph.nodes graph.root old new holes → TakesTree agreed ty words pats tree old new holes
-tree_takes agreed ty words pats tree graph old new holes unfolds lower takes = λ plan of fit count.
-    let t = takes plan (record { of = of; fit = fit; count = count; lower = lower }) in
+-- the code of a graph, behind that of its spots, is that of the tree to which it unfolds
+pub tree_takes : (agreed : LaidOut) (ty : Ty) (words : List Read) (pats : List Pat) (spots : List Spot) (tree : Tree) (graph : Graph) (old mid new : Sheet) (holes : List Hole) → unfolding_of graph ≡ Some tree → LinksAreLower graph.nodes
+    → GivesSpots agreed old mid spots → Grows old.code mid.code → AreHoles (length mid.code) (length pats) new.code holes → TakesGraph agreed ty words pats spots graph.nodes graph.root mid new holes → TakesTree agreed ty words pats tree old new holes
+tree_takes agreed ty words pats spots tree graph old mid new holes unfolds lower gives grows are takes = λ plan of fit count.
+    let g = gives plan of in
+    let t = takes plan old.slots (record { of = of; spots = g.are; fit = fit; count = count; lower = lower }) in
     let is : tree_at graph.nodes graph.root ≡ tree = ap (λ o. unwrap_or o (T.Clause 0)) unfolds in
+    let l1 = grows.longer in
+    let l2 = t.adds.grows.longer in
     record {
-      adds = t.adds;
+      adds = Adds-trans plan old mid new g.straight.adds t.adds;
       leaves = λ final callee next law fin s w v clean ws k long good meant rep e.
-          let l = t.leaves final callee next law fin s w v long (record { good = good; ws = ws; meant = meant; clean = clean; represents = rep; clause = k; takes = ap (λ u. taken u v) is ∙ e }) in
-          record { path = l.path; is_way = subst (λ u. HasWay (ways u) (map path_of l.path)) is l.is_way; looked = l.looked; leaves = l.leaves };
+          let agrees1 : AgreesBut final mid.code (length old.code) (length mid.code) Nowhere = record {
+            same = λ pc lo hi out.
+                (fin pc lo (omega (arith, hi, l2))).same (λ arm o. let h = (hole_at (length mid.code) (length pats) new.code holes are o.0 o.1).0 in absurd (omega (arith, h, o.2, hi))) ∙ t.adds.grows.same pc hi;
+          } in
+          let fin2 : Finishes final new.code holes (length mid.code) (length new.code) = λ pc lo hi. fin pc (omega (arith, lo, l1)) hi in
+          let r = g.straight.runs final callee next law agrees1 s w (omega (arith, t.adds.more, long)) tt in
+          let mem = sym r.5.memory in
+          let meant1 = meant-kept old.slots s r.1 w.memory r.4 words ws (fit old.slots (omega arith)) meant in
+          let l = t.leaves final callee next law fin2 r.1 r.2 clean v (omega (arith, r.4.long, long)) (record {
+            good = subst IsGood mem good;
+            ws = ws;
+            meant = subst (λ m. AreMeant words r.1 m ws) mem meant1;
+            represents = subst (λ m. Rep plan m clean ty v ws) mem rep;
+            clause = k;
+            takes = ap (λ u. taken u v) is ∙ e;
+          }) in
+          let q = l.leaves in
+          record {
+            path = l.path;
+            is_way = subst (λ u. HasWay (ways u) (map path_of l.path)) is l.is_way;
+            looked = l.looked;
+            leaves = record {
+              hole = q.hole;
+              is_hole = q.is_hole;
+              is_way = q.is_way;
+              target = q.target;
+              is_target = q.is_target;
+              slots = q.slots;
+              world = q.world;
+              runs = r.3 ∙ ap (λ pc. next pc r.1 r.2) r.6.0 ∙ q.runs;
+              keeps = Keeps-trans old.slots old.slots s r.1 q.slots (omega arith) r.4 q.keeps;
+              later = (let x = later-trans 0 (looks plan l.path) w r.2 q.world r.5 q.later in record { memory = x.memory; left = x.left; switches = (let y = x.switches in omega (arith, y)) });
+              exit = tt;
+            };
+          };
     }
 
 -- the words in slots
@@ -63,10 +110,10 @@ slots_fit n k (x ∷ words) all le =
 
 -- looks on one way of the match's tree are within the sum
 pub way_within : (plan : Plan) (ty : Ty) (pats : List Pat) (path : List Place) → HasWay (ways (match_tree plan.program.types ty pats)) (map path_of path)
-    → ((p : Place) → IsPlaceIn p path → IsLookedAt plan.program.types ty pats p.path p.ty) → looks plan path ≤ looks_of plan.layouts (places_of plan.program.types ty pats)
+    → ((p : Place) → IsPlaceIn p path → IsLookedAt plan.program.types ty pats p.path p.ty) → looks plan path ≤ looks_with (choosing_look plan.layouts) (places_of plan.program.types ty pats)
 way_within plan ty pats path way looked =
     let once = all_at AreDistinct (ways (match_tree plan.program.types ty pats)) (match-once plan.program.types ty pats) way.0 (map path_of path) way.1 in
-    within_sum plan.layouts path (places_of plan.program.types ty pats) once (λ p i. in_distinct p _ (looked p i))
+    within_sum (choosing_look plan.layouts) path (places_of plan.program.types ty pats) once (λ p i. in_distinct p _ (looked p i))
 
 pub one_round : (plan : Plan) (ty : Ty) (pats : List Pat) → size (match_tree plan.program.types ty pats) ≤ 512 → rounds plan.program.types ty pats ≡ 1
 one_round plan ty pats le =
@@ -82,7 +129,7 @@ value_takes plan ty pats typed agrees flat exhaustive m clean v ws rep k e =
 
 pub chooses_tree : (agreed : LaidOut) (ty : Ty) (pats : List Pat) (words : List ℕ) (tree : Tree) (old new : Sheet) (holes : List Hole) → IsTyped agreed.covered.program → Agrees agreed.covered.program → agreed.layouts ≡ flat_layouts agreed.covered.program
     → tree ≡ match_tree agreed.covered.program.types ty pats → size tree ≤ 512 → TakesTree agreed ty (map Slot words) pats tree old new holes → Chooses agreed ty pats words old new holes
-chooses_tree agreed ty pats words tree old new holes typed agrees flat is small takes = λ plan of plain typed_pats exhaustive low count.
+chooses_tree agreed ty pats words tree old new holes typed agrees flat is small takes = λ plan of typed_pats exhaustive low count.
     let typed1 = subst IsTyped (sym of.program) typed in
     let agrees1 = subst Agrees (sym of.program) agrees in
     let flat1 : plan.layouts ≡ flat_layouts plan.program = of.layouts ∙ flat ∙ ap flat_layouts (sym of.program) in
@@ -107,7 +154,7 @@ chooses_tree agreed ty pats words tree old new holes typed agrees flat is small 
             world = r.world;
             runs = r.runs;
             keeps = r.keeps;
-            later = record { memory = r.later.memory; left = r.later.left; switches = (let b = within (rounds plan.program.types ty pats) (looks_of plan.layouts (places_of plan.program.types ty pats)) one in omega (arith, r.later.switches, sum, b)) };
+            later = record { memory = r.later.memory; left = r.later.left; switches = (let b = within (rounds plan.program.types ty pats) (looks_with (choosing_look plan.layouts) (places_of plan.program.types ty pats)) one in omega (arith, r.later.switches, sum, b)) };
             exit = tt;
           };
     }

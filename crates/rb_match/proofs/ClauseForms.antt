@@ -33,7 +33,7 @@ use Rattle.rb_fragment.specs.WordReads.{AreMeant}
 use Rattle.rb_fragment.proofs.Adding.{Adds-refl, Adds-trans}
 use Rattle.rb_fragment.proofs.Patching.{AreAllHoles, adds_closed, closed_hole, closed_length, closed_slots, hole_within}
 use Rattle.rb_fragment.proofs.Pieces.{later-trans}
-use Rattle.rb_match.specs.Bounding.{Place, places_in, places_of, places_step, rounds}
+use Rattle.rb_match.specs.Bounding.{choosing_look, Place, places_in, places_of, places_step, rounds}
 use Rattle.rb_match.specs.Choosing.{Chooses}
 use Rattle.rb_target.specs.Meaning.{slots_at}
 use Rattle.std.proofs.lemmas.List.{length-map}
@@ -208,7 +208,7 @@ module _ (agreed : LaidOut) (ty : Ty) (words : List Read) (pat : Pat) (number : 
           let flat1 : plan.layouts ≡ flat_layouts plan.program = fine.of.layouts ∙ flat ∙ ap flat_layouts (sym fine.of.program) in
           let slots = closed_slots mid others targets in
           let once : (path : List Place) → HasWay (ways (match_tree agreed.covered.program.types ty pair)) (map path_of path) → ((p : Place) → IsPlaceIn p path → IsLookedAt plan.program.types ty pair p.path p.ty) → looks plan path ≤ round_of plan ty pats =
-          λ path way looked. within_sum plan.layouts path (places_of plan.program.types ty pats)
+          λ path way looked. within_sum (choosing_look plan.layouts) path (places_of plan.program.types ty pats)
           (all_at AreDistinct (ways (match_tree agreed.covered.program.types ty pair)) (Rattle.rb_decide.proofs.Positions.match-once agreed.covered.program.types ty pair) way.0 (map path_of path) way.1)
           (λ p i. in_distinct p _ (looked_all plan.program.types ty pats pat k p.path p.ty at (looked p i))) in
           record {
@@ -417,7 +417,7 @@ chosen_few (p ∷ pats) v k e = go (matches_of p v) (λ j h. chosen_few pats v j
 
 pub chooses_all : (agreed : LaidOut) (ty : Ty) (pats : List Pat) (words : List ℕ) (old new : Sheet) (holes : List Hole) → 512 < size (match_tree agreed.covered.program.types ty pats) → TriesAll agreed ty (map Slot words) pats (length pats) old new holes
     → Chooses agreed ty pats words old new holes
-chooses_all agreed ty pats words old new holes large tries = λ plan of plain typed_pats exhaustive1 below1 count.
+chooses_all agreed ty pats words old new holes large tries = λ plan of typed_pats exhaustive1 below1 count.
     let large1 : 512 < size (match_tree plan.program.types ty pats) = subst (λ (g : Rattle.rb_core.specs.declared.program.Program.Program). 512 < size (match_tree g.types ty pats)) (sym of.program) large in
     let a = tries.tries plan (record { of = of; fit = λ k le. slots_fit old.slots k words below1 le; count = length-map words Slot ∙ count }) in
     let all_rounds : rounds plan.program.types ty pats ≡ length pats = (let over : nat_lt 512 (size (match_tree plan.program.types ty pats)) ≡ true = grind (arith, nat_tests, large1) in ap (λ u. if u then length pats else 1) over) in

@@ -143,3 +143,14 @@ patchable_from code (h ∷ hs) ts f = let x = f h (0, refl) in (x.0, x.1, x.2, p
 pub holes_from : (from count : ℕ) (code : List Instr) (hs : List Hole) → ((h : Hole) → IsIn h hs → (from ≤ h.pc) × (h.leaf < count) × IsHole code h) → AreHoles from count code hs
 holes_from from count code [] f = tt
 holes_from from count code (h ∷ hs) f = let x = f h (0, refl) in (x.0, x.1, x.2, holes_from from count code hs (λ k i. f k (in_tail h hs k i)))
+
+-- each of some holes is one
+pub hole_at : (from count : ℕ) (code : List Instr) (hs : List Hole) → AreHoles from count code hs → (h : Hole) → IsIn h hs → (from ≤ h.pc) × (h.leaf < count) × IsHole code h
+hole_at from count code [] a h (k, at) = absurd cc
+hole_at from count code (x ∷ hs) a h (zero, at) = subst (λ (y : Hole). (from ≤ y.pc) × (y.leaf < count) × IsHole code y) (same_Some x h at) (a.0, a.1, a.2)
+hole_at from count code (x ∷ hs) a h (suc k, at) = hole_at from count code hs a.3 h (k, at)
+
+-- holes of later code
+pub holes-low : (from from1 count : ℕ) (code : List Instr) (hs : List Hole) → from1 ≤ from → AreHoles from count code hs → AreHoles from1 count code hs
+holes-low from from1 count code [] le a = tt
+holes-low from from1 count code (h ∷ hs) le a = (let x = a.0 in omega (arith, x, le), a.1, a.2, holes-low from from1 count code hs le a.3)

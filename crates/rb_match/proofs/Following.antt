@@ -9,8 +9,14 @@ use Rattle.rb_decide.specs.declared.decision_graph.GraphNode.{GraphNode}
 use Rattle.rb_decide.proofs.Moving.{take-next}
 use Rattle.rb_match.specs.declared.knowledge.Known.{Known}
 use Rattle.rb_match.specs.declared.knowledge.Edge.{Edge}
-use Rattle.rb_fragment.specs.Plan.{Plan}
-use Rattle.rb_match.specs.inner.Knowing.{IsLeafAt, IsKnown, AreKnown, FollowsLeaf, IsShared, SharesKnown, IsMet, IsCommon}
+use denote.Ref.{Bor}
+use Rattle.rb_bytes.specs.Memory.{Memory}
+use Rattle.rb_target.specs.Growth.{Keeps}
+use Rattle.rb_fragment.specs.Plan.{Plan, Rep}
+use Rattle.rb_fragment.proofs.Holds.{slots_at-kept}
+use Rattle.rb_match.specs.declared.knowledge.Known.TheVariants.{Leaf, Saved}
+use Rattle.rb_match.specs.declared.knowledge.Spot.{Spot}
+use Rattle.rb_match.specs.inner.Knowing.{View, seen, SpotsBelow, IsSaved, IsKnown, AreKnown, FollowsLeaf, FollowsSaved, IsShared, SharesKnown, IsMet, IsCommon}
 use Rattle.rb_match.specs.inner.Asking.{is_test, carried}
 
 -- an item of a list with one more
@@ -20,43 +26,54 @@ snoc-at [] x y (suc i) e = absurd cc
 snoc-at (z ∷ xs) x y zero e = inl e
 snoc-at (z ∷ xs) x y (suc i) e = snoc-at xs x y i e
 
-pub follows : (known : List Known) (i : ℕ) (x : Known) (t : ℕ) (position : List ℕ) → slice_get known i ≡ Some x → x.ty ≡ t → x.position.now ≡ position → FollowsLeaf known t position x.leaf
-follows known i x t position at ty path = λ plan v all.
-    let h = all i x at in
-    (h.0, h.1, ap (λ q. part_at v q) (sym path) ∙ h.2, ap (layout_of plan.layouts) (sym ty) ∙ h.3, h.4)
+pub follows : (known : List Known) (i : ℕ) (at : Bor (List ℕ)) (u leaf t : ℕ) (position : List ℕ) → slice_get known i ≡ Some (Leaf at u leaf) → u ≡ t → at.now ≡ position → FollowsLeaf known t position leaf
+follows known i q u leaf t position is ty path = λ at all.
+    let h = all i (Leaf q u leaf) is in
+    (h.0, h.1, ap (λ q. part_at at.value q) (sym path) ∙ h.2, ap (layout_of at.plan.layouts) (sym ty) ∙ h.3, h.4)
+
+pub follows-saved : (known : List Known) (i spot k : ℕ) → slice_get known i ≡ Some (Saved spot) → spot ≡ k → FollowsSaved known k
+follows-saved known i spot k is same = λ at all. subst (IsSaved at) same (all i (Saved spot) is)
 
 pub shares-none : (known other : List Known) → SharesKnown known other []
-shares-none known other = λ plan v either i x at. absurd cc
+shares-none known other = λ view either i x at. absurd cc
 
-pub is-shared : (known other : List Known) (i : ℕ) (x : Known) (leaf : ℕ) → slice_get known i ≡ Some x → FollowsLeaf other x.ty x.position.now leaf → leaf ≡ x.leaf → IsShared known other x
-is-shared known other i x leaf at f same = λ plan v either.
-    elim either [ inl a ↦ a i x at | inr b ↦ subst (λ l. IsLeafAt plan v x.position.now x.ty l) same (f plan v b) ]
+-- a fact that follows from the other list, too
+pub is-shared : (known other : List Known) (i : ℕ) (x : Known) → slice_get known i ≡ Some x → ((at : View) → AreKnown at other → IsKnown at x) → IsShared known other x
+is-shared known other i x at f = λ view either. elim either [ inl a ↦ a i x at | inr b ↦ f view b ]
 
 pub shares-push : (known other both : List Known) (x : Known) → IsShared known other x → SharesKnown known other both → SharesKnown known other (both ++ x ∷ [])
-shares-push known other both x shared s = λ plan v either j y e. elim (snoc-at both x y j e) [
-  | inl k ↦ s plan v either j y k
-  | inr is ↦ subst (IsKnown plan v) is (shared plan v either)
+shares-push known other both x shared s = λ view either j y e. elim (snoc-at both x y j e) [
+  | inl k ↦ s view either j y k
+  | inr is ↦ subst (IsKnown view) is (shared view either)
 ]
 
 pub meets : (known : List Known) (edge : Edge) (node : ℕ) (both : List Known) → SharesKnown known edge.known both → IsMet (Some known) edge node (Some both)
-meets known edge node both s = λ plan v either. s plan v (elim either [ inl a ↦ inl a | inr b ↦ inr b.1 ])
+meets known edge node both s = λ view either. s view (elim either [ inl a ↦ inl a | inr b ↦ inr b.1 ])
 
 pub common-next : (edges : List Edge) (i : ℕ) (x : Edge) (node : ℕ) (found r : Option (List Known)) → i < length edges → x ≡ get_or edges i x
     → IsCommon (take i edges) node found → IsMet found x node r → IsCommon (take (i + 1) edges) node r
-common-next edges i x node found r lt is c m = λ plan v e at leaf all.
+common-next edges i x node found r lt is c m = λ view e at leaf all.
     let here = ap (λ l. slice_get l at.0) (sym (take-next edges i x lt is)) ∙ at.1 in
-    m plan v (elim (snoc-at (take i edges) x e at.0 here) [
-      | inl k ↦ inl (c plan v e (at.0, k) leaf all)
-      | inr same ↦ inr (ap (λ (y : Edge). y.hole.leaf) same ∙ leaf, subst (λ (y : Edge). AreKnown plan v y.known) (sym same) all)
+    m view (elim (snoc-at (take i edges) x e at.0 here) [
+      | inl k ↦ inl (c view e (at.0, k) leaf all)
+      | inr same ↦ inr (ap (λ (y : Edge). y.hole.leaf) same ∙ leaf, subst (λ (y : Edge). AreKnown view y.known) (sym same) all)
     ])
 
 -- what an edge carries is so, too
-pub carried_known : (nodes : List GraphNode) (node : ℕ) (plan : Plan) (v : Value) (known : List Known) → AreKnown plan v known → AreKnown plan v (carried nodes node known)
-carried_known nodes node plan v known all = go (is_test (slice_get nodes node))
+pub carried_known : (nodes : List GraphNode) (node : ℕ) (view : View) (known : List Known) → AreKnown view known → AreKnown view (carried nodes node known)
+carried_known nodes node view known all = go (is_test (slice_get nodes node))
   where
-    go : (u : Bool) → AreKnown plan v (if u then known else [])
+    go : (u : Bool) → AreKnown view (if u then known else [])
     go true = all
     go false = λ i x at. absurd cc
+
+-- facts on slots that are kept
+pub known-kept : (n : ℕ) (plan : Plan) (clean : Bool) (v : Value) (spots : List Spot) (s s' : List ℕ) (m : Memory) → Keeps n s s' → SpotsBelow n spots → (known : List Known) → AreKnown (seen plan clean v spots s m) known → AreKnown (seen plan clean v spots s' m) known
+known-kept n plan clean v spots s s' m k below known all i x at = go x (all i x at)
+  where
+    go : (x : Known) → IsKnown (seen plan clean v spots s m) x → IsKnown (seen plan clean v spots s' m) x
+    go (Leaf q t l) h = h
+    go (Saved j) h = (h.0, h.1, (h.2.0, h.2.1, subst (λ ws. Rep plan m clean h.0.ty h.2.0 ws) (sym (slots_at-kept n s s' h.0.slots (below j h.0 h.1) k)) h.2.2))
 
 -- a list of one item
 pub only-one : {A : Type 0} (xs : List A) (x : A) → 1 ≤ length xs → length xs < 2 → x ≡ get_or xs 0 x → xs ≡ x ∷ []

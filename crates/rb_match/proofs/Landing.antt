@@ -13,7 +13,7 @@ use Rattle.rb_fragment.proofs.Patching.{AreAllHoles, AreClosable, adds_closed, a
 use Rattle.rb_fragment.specs.Arms.{AreOfOneWay, closed}
 use Rattle.rb_match.specs.declared.knowledge.Known.{Known}
 use Rattle.rb_match.specs.declared.knowledge.Edge.{Edge}
-use Rattle.rb_match.specs.inner.Knowing.{IsEdge, IsCommon}
+use Rattle.rb_match.specs.inner.Knowing.{IsEdge, IsCommon, seen}
 use Rattle.rb_match.specs.inner.Asking.{holes_of, AreOpen}
 use Rattle.rb_match.specs.inner.Flowing.{landing_of, others_of, Job, IsOn, Arrives, Lands, Flows, FlowsHere, Stands}
 use Rattle.rb_match.proofs.Edges.{same-nat, other-nat, in_none, in_head, in_tail, in_append, open_edge, edge_open, landing, landed, landed_from, other_kept, other_from, all_holes_from, closable_from}
@@ -129,15 +129,15 @@ module _ (job : Job) (b : Sheet) (edges : List Edge) (n : ℕ) (known : List Kno
   pub land_flows : FlowsHere job landed_code rest known n
   land_flows = record {
     adds = adds_closed job.plan job.first b L (length b.code ∷ []) (length b.code) refl f.adds (landing_holes b edges n lo st.stand.are_open) (landing_closable b edges n lo st.stand.are_open);
-    arrives = λ final callee next law fin s w v long given.
+    arrives = λ final callee next law fin s w clean v long given.
         let slots = closed_slots b L (length b.code ∷ []) in
-        let a = f.arrives final callee next law (all_open final fin) s w v (omega (arith, long, slots)) given in
-        at final next s w v fin a (a.edge.hole.leaf == n) refl;
+        let a = f.arrives final callee next law (all_open final fin) s w clean v (omega (arith, long, slots)) given in
+        at final next s w clean v fin a (a.edge.hole.leaf == n) refl;
   }
     where
-      at : (final : List Instr) (next : Rattle.rb_target.specs.Meaning.Next) (s : List ℕ) (w : Rattle.rb_target.specs.Meaning.World) (v : Rattle.rb_core.specs.declared.value.Value.Value) → Finishes final landed_code.code (holes_of rest) lo (length landed_code.code)
-          → (a : Arrives job final next edges s w v) → (u : Bool) → (a.edge.hole.leaf == n) ≡ u → Arrives job final next rest s w v ⊎ Lands job next (length landed_code.code) known n s w v
-      at final next s w v fin a true t =
+      at : (final : List Instr) (next : Rattle.rb_target.specs.Meaning.Next) (s : List ℕ) (w : Rattle.rb_target.specs.Meaning.World) (clean : Bool) (v : Rattle.rb_core.specs.declared.value.Value.Value) → Finishes final landed_code.code (holes_of rest) lo (length landed_code.code)
+          → (a : Arrives job final next edges s w clean v) → (u : Bool) → (a.edge.hole.leaf == n) ≡ u → Arrives job final next rest s w clean v ⊎ Lands job next (length landed_code.code) known n s w clean v
+      at final next s w clean v fin a true t =
           let is = same-nat a.edge.hole.leaf n t in
           let to : a.target ≡ length landed_code.code = same_Some a.target (length b.code) (sym a.is_target ∙ leads_here final fin a.edge a.is_edge is) ∙ sym len in
           inr (record {
@@ -147,10 +147,10 @@ module _ (job : Job) (b : Sheet) (edges : List Edge) (n : ℕ) (known : List Kno
             keeps = a.keeps;
             path = a.path;
             later = a.later;
-            is_known = common job.plan v a.edge a.is_edge is a.known;
+            is_known = common (seen job.plan clean v job.spots a.slots w.memory) a.edge a.is_edge is a.known;
             on = subst (λ k. IsOn job v k a.path) is a.on;
           })
-      at final next s w v fin a false t = inl (record {
+      at final next s w clean v fin a false t = inl (record {
         edge = a.edge;
         is_edge = other_kept n edges a.edge a.is_edge (other-nat a.edge.hole.leaf n t);
         target = a.target;

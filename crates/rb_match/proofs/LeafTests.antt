@@ -1,14 +1,12 @@
 -- A test of a value of a data type: its leaf is found, and leads to the node of its constructor.
 use denote.Ref.{Bor}
-use Rattle.std.proofs.Common.{◌≡◌, ℕ, zero, suc, ◌+◌, ◌*◌, ◌≤◌, ◌==◌, inl, inr, Bool, true, false, List, [], ◌∷◌, ◌++◌, map, length, Option, Some, None, refl, sym, subst, ap, ◌∙◌, arith}
+use Rattle.std.proofs.Common.{◌≡◌, ℕ, zero, suc, ◌+◌, ◌≤◌, ◌==◌, inl, inr, Bool, true, false, List, [], ◌∷◌, ◌++◌, map, length, Option, Some, None, refl, sym, subst, ap, ◌∙◌, arith}
 use Rattle.std.specs.Prelude.{if◌then◌else◌, ◌&&◌, is_some}
-use Rattle.std.specs.List.{list_all}
 use Rattle.std.proofs.lemmas.Bool.{false≢true}
 use Rattle.std.proofs.lemmas.Option.{same_Some}
 use Rattle.rb_core.specs.declared.value.Value.{Value, out-Value}
 use Rattle.rb_core.specs.declared.value.Value.TheOpen as V
 use Rattle.rb_core.specs.declared.value.Value.TheOpen.{Value-F}
-use Rattle.rb_core.specs.declared.types.Ty.TheVariants.{Named}
 use Rattle.rb_core.specs.declared.types.ConRef.{ConRef}
 use Rattle.rb_core.specs.declared.pattern.Pat.{Pat, out-Pat}
 use Rattle.rb_core.specs.declared.pattern.Pat.TheVariants.{outs-Wild, outs-Var, outs-Num, outs-Con}
@@ -20,14 +18,16 @@ use Rattle.rb_matrix.specs.declared.matrix.Head.TheVariants as H
 use Rattle.rb_matrix.specs.Heads.{layer_begins}
 use Rattle.rb_decide.specs.declared.decision_graph.GraphArm.{GraphArm}
 use Rattle.rb_decide.specs.declared.decision_graph.GraphNode.{GraphNode}
-use Rattle.rb_target.specs.declared.instr.Instr.{Instr}
 use Rattle.rb_target.specs.declared.body.Hole.{Hole}
 use Rattle.rb_target.specs.Sheet.{Sheet, IsHole}
 use Rattle.rb_target.specs.Targets.{Finishes, IsIn}
 use Rattle.rb_target.proofs.Finishing.{agrees-sub}
 use Rattle.rb_layout.specs.declared.agreed.LaidOut.{LaidOut}
-use Rattle.rb_layout.specs.Positions.{layout_of}
-use Rattle.rb_rel.specs.Switches.{depth_of, look_of, leaves_in, is_shallow, mend_of}
+use Rattle.std.specs.Prelude.{slice_get}
+use Rattle.rb_layout.specs.declared.layout.Layout.{Layout}
+use Rattle.rb_layout.specs.declared.layout.Leaf.{Leaf}
+use Rattle.rb_layout.specs.Positions.{layout_of, leaf_of}
+use Rattle.rb_fetch.specs.Finding.{IsPlanOf}
 use Rattle.rb_rel.proofs.Leaves.{leaf_matches}
 use Rattle.rb_rel.proofs.Represented.{opened}
 use Rattle.rb_fragment.specs.declared.reads.Read.{Read}
@@ -36,10 +36,12 @@ use Rattle.rb_fragment.specs.Plan.{Plan}
 use Rattle.rb_fetch.specs.Finding.{FindsLeafOf}
 use Rattle.rb_match.specs.declared.knowledge.Known.{Known}
 use Rattle.rb_match.specs.declared.knowledge.Edge.{Edge}
-use Rattle.rb_match.specs.inner.Knowing.{IsEdge, IsKnown}
+use Rattle.rb_match.specs.declared.knowledge.Known.TheVariants as K
+use Rattle.rb_match.specs.inner.Knowing.{IsEdge, IsKnown, seen}
 use Rattle.rb_match.specs.inner.Asking.{take_link, con_of_layer, con_in, leaf_in, leaf_con, link_at, edge_in, edge_to, edge_for, keep_edge, leaf_edges_of, has_con, have_cons, StandOpen, AsksLeaf, holes_of}
-use Rattle.rb_match.proofs.Edges.{same-nat, in_tail, open_edge}
-use Rattle.rb_match.proofs.Following.{carried_known, snoc-at}
+use Rattle.rb_match.proofs.Edges.{same-nat, hole_at, in_tail, open_edge}
+use Rattle.rb_match.proofs.Following.{carried_known, known-kept, snoc-at}
+use Rattle.rb_match.proofs.NumberTests.{Keeps-less}
 
 both : (a b : Bool) → (a && b) ≡ true → (a ≡ true) × (b ≡ true)
 both true true e = (refl, refl)
@@ -72,17 +74,27 @@ link_same [] other c us = refl
 link_same (a ∷ arms) other c us =
     ap (λ u. if u then Some a.under else take_link arms other (V.Con c us)) (head_same a.head c us) ∙ ap (λ r. if layer_begins a.head (V.Con c []) then Some a.under else r) (link_same arms other c us)
 
--- a look costs what its splits do at least
-look_deep : (plan : Plan) (t : ℕ) → depth_of plan.layouts (Named t) ≤ look_of plan.layouts (Named t)
-look_deep plan t = go (list_all is_shallow (leaves_in (layout_of plan.layouts t)))
+-- a value of a leaf begins with the leaf's constructor
+pub leaf_begins : (agreed : LaidOut) (t l c : ℕ) → leaf_con agreed t l ≡ Some c → (plan : Plan) → IsPlanOf agreed plan → (layout : Layout) (part : Value) → layout_of plan.layouts t ≡ Some layout → leaf_of layout part ≡ Some l → (us : List Value) × (out-Value part ≡ V.Con c us)
+leaf_begins agreed t l c con plan of layout part is is_leaf =
+    go (slice_get layout.leaves l) refl (ap (λ o. con_in (leaf_in o l)) (sym (sym (ap (λ ls. layout_of ls t) of.layouts) ∙ is)) ∙ con)
   where
-    go : (u : Bool) → depth_of plan.layouts (Named t) ≤ (if u then depth_of plan.layouts (Named t) else 2 * (depth_of plan.layouts (Named t) + mend_of plan.layouts t))
-    go true = omega arith
-    go false = omega arith
+    go : (o : Option Leaf) → slice_get layout.leaves l ≡ o → con_in (slice_get layout.leaves l) ≡ Some c → (us : List Value) × (out-Value part ≡ V.Con c us)
+    go None at e = absurd (let z = sym (ap con_in at) ∙ e in cc)
+    go (Some leaf) at e =
+        let start : 0 + l ≡ l = omega arith in
+        begins leaf.prov part c (sym (ap con_in at) ∙ e) (leaf_matches layout.leaves part 0 l leaf is_leaf l start at)
+
+-- and goes where that constructor goes
+pub leaf_links : (agreed : LaidOut) (t l c : ℕ) (arms : List GraphArm) (other : Option ℕ) → leaf_con agreed t l ≡ Some c → (plan : Plan) → IsPlanOf agreed plan → (layout : Layout) (part : Value) → layout_of plan.layouts t ≡ Some layout → leaf_of layout part ≡ Some l
+    → take_link arms other (out-Value part) ≡ take_link arms other (V.Con c [])
+leaf_links agreed t l c arms other con plan of layout part is is_leaf =
+    let b = leaf_begins agreed t l c con plan of layout part is is_leaf in
+    ap (take_link arms other) b.1 ∙ link_same arms other c b.0
 
 module _ (agreed : LaidOut) (nodes : List GraphNode) (t : ℕ) (position : Bor (List ℕ)) (known : List Known) (arms : List GraphArm) (other : Option ℕ) where
   abbrev fact : ℕ → Known
-  fact l = record { position = position; ty = t; leaf = l }
+  fact l = K.Leaf position t l
 
   abbrev to : Hole → ℕ → Edge
   to h node = edge_in nodes h.pc h.arm node (known ++ fact h.leaf ∷ [])
@@ -136,16 +148,11 @@ module _ (agreed : LaidOut) (nodes : List GraphNode) (t : ℕ) (position : Bor (
       some (Some c) e = (c, refl)
   cons_at (x ∷ hs) all h (suc k, at) = let b = both (has_con agreed t x) (have_cons agreed t hs) all in cons_at hs b.1 h (k, at)
 
-  hole_at : (from count : ℕ) (code : List Instr) (hs : List Hole) → AreHoles from count code hs → (h : Hole) → IsIn h hs → (from ≤ h.pc) × IsHole code h
-  hole_at from count code [] a h (k, at) = absurd cc
-  hole_at from count code (x ∷ hs) a h (zero, at) = subst (λ (y : Hole). (from ≤ y.pc) × IsHole code y) (same_Some x h at) (a.0, a.2)
-  hole_at from count code (x ∷ hs) a h (suc k, at) = hole_at from count code hs a.3 h (k, at)
-
   pub leaf_stand : (old new : Sheet) (count : ℕ) (holes : List Hole) → AreHoles (length old.code) count new.code holes → AreOfOneWay holes → StandOpen old new (leaf_edges holes)
   leaf_stand old new count holes are one = record {
     are_open = λ e i.
         let w = view holes e i in
-        subst (λ (y : Edge). (length old.code ≤ y.hole.pc) × IsHole new.code y.hole) (sym w.4) (hole_at (length old.code) count new.code holes are w.0 w.1);
+        subst (λ (y : Edge). (length old.code ≤ y.hole.pc) × IsHole new.code y.hole) (sym w.4) (let h = hole_at (length old.code) count new.code holes are w.0 w.1 in (h.0, h.2));
     one = λ e f i j p s.
         let a = view holes e i in
         let b = view holes f j in
@@ -155,7 +162,7 @@ module _ (agreed : LaidOut) (nodes : List GraphNode) (t : ℕ) (position : Bor (
   }
 
   pub asks_leaf : (reads : List Read) (old new : Sheet) (holes : List Hole) → FindsLeafOf agreed t reads old new holes → have_cons agreed t holes ≡ true → AsksLeaf agreed t reads known position.now arms other old new (leaf_edges holes)
-  asks_leaf reads old new holes finds cons = λ plan of fit count.
+  asks_leaf reads old new holes finds cons = λ plan n spots of are fit count.
       let br = finds plan of fit count in
       record {
         adds = br.adds;
@@ -171,7 +178,6 @@ module _ (agreed : LaidOut) (nodes : List GraphNode) (t : ℕ) (position : Bor (
             let start : 0 + b.number ≡ b.number = omega arith in
             let begin = begins b.leaf.prov part con.0 is_con (leaf_matches b.layout.leaves part 0 b.number b.leaf b.is_leaf b.number start b.is_number) in
             let goes : link r.hole ≡ Some node = ap (link_at arms other) con.1 ∙ sym (link_same arms other con.0 begin.0) ∙ ap (take_link arms other) (sym begin.1) ∙ takes in
-            let deep = look_deep plan t in
             record {
               edge = to r.hole node;
               is_edge = edge_of holes r.hole node r.is_hole goes;
@@ -181,11 +187,11 @@ module _ (agreed : LaidOut) (nodes : List GraphNode) (t : ℕ) (position : Bor (
               slots = r.slots;
               world = r.world;
               runs = r.runs;
-              keeps = r.keeps;
-              later = record { memory = r.later.memory; left = r.later.left; switches = omega (arith, r.later.switches, deep) };
-              known = carried_known nodes node plan v (known ++ fact r.hole.leaf ∷ []) (λ i x e. elim (snoc-at known (fact r.hole.leaf) x i e) [
-                | inl j ↦ all i x j
-                | inr is ↦ subst (IsKnown plan v) is (part, b.layout, at, b.is_layout, b.is_leaf ∙ ap Some (sym r.is_way))
+              keeps = Keeps-less n old.slots s r.slots are.low r.keeps;
+              later = record { memory = r.later.memory; left = r.later.left; switches = omega (arith, r.later.switches) };
+              known = carried_known nodes node (seen plan clean v spots r.slots w.memory) (known ++ fact r.hole.leaf ∷ []) (λ i x e. elim (snoc-at known (fact r.hole.leaf) x i e) [
+                | inl j ↦ known-kept old.slots plan clean v spots s r.slots w.memory r.keeps are.below known all i x j
+                | inr is ↦ subst (IsKnown (seen plan clean v spots r.slots w.memory)) is (part, b.layout, at, b.is_layout, b.is_leaf ∙ ap Some (sym r.is_way))
               ]);
             };
       }

@@ -2,12 +2,20 @@ mod Bindings
 mod Bounds
 mod Chosen
 mod ClauseForms
+mod Composing
+mod Deepness
 mod Edges
 mod Following
 mod Landing
 mod LeafTests
+mod Mending
 mod Nodes
 mod NumberTests
+mod Opening
 mod Passing
 mod Placing
+mod SavedBindings
+mod SavedParts
+pub mod Sharing
 mod Testing
+mod Together

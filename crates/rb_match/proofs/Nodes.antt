@@ -27,10 +27,12 @@ use Rattle.rb_fragment.proofs.Patching.{at_closed, closed_hole, closed_length, h
 use Rattle.rb_fetch.specs.Finding.{IsPlanOf}
 use Rattle.rb_match.specs.declared.knowledge.Known.{Known}
 use Rattle.rb_match.specs.declared.knowledge.Edge.{Edge}
+use Rattle.rb_match.specs.declared.knowledge.Spot.{Spot}
 use Rattle.rb_match.specs.declared.place.Place.{Place}
+use Rattle.rb_fragment.proofs.Holds.{AllBelow-more}
 use Rattle.rb_match.specs.inner.Knowing.{IsEdge, IsCommon}
 use Rattle.rb_match.specs.inner.Places.{FindsPlace, IsLookedAt}
-use Rattle.rb_match.specs.inner.Asking.{holes_of, AreOpen, StandOpen, AskedAt, Asks, edge_at}
+use Rattle.rb_match.specs.inner.Asking.{AreSpots, holes_of, AreOpen, StandOpen, AskedAt, Asks, edge_at}
 use Rattle.rb_match.specs.inner.Flowing.{landing_of, others_of, job_of, Flows, Stands, StepsNode, Begins, IsFineJob, IsClauseHole, AreClauseHoles, TakesGraph}
 use Rattle.rb_match.proofs.Edges.{edge_append, edge_open, other_from, holes_from, patchable_from}
 use Rattle.rb_match.proofs.Landing.{landing_hole, landing_target, land_flows}
@@ -38,13 +40,13 @@ use Rattle.rb_match.proofs.Passing.{begins_on, ends_on}
 use Rattle.rb_match.proofs.Testing.{test_flows, root_flows}
 
 -- from reads of the part to reads of the whole value
-pub asks_of : (agreed : LaidOut) (ty : Ty) (words : List Read) (pats : List Pat) (known : List Known) (position : List ℕ) (arms : List GraphArm) (other : Option ℕ) (old new : Sheet) (edges : List Edge) (place : Place)
-    → FindsPlace agreed ty words known position place → IsLookedAt agreed.covered.program.types ty pats position place.ty
-    → ((plan : Plan) → IsPlanOf agreed plan → AllFit old.slots place.reads → length place.reads ≡ words_of plan place.ty → AskedAt plan place.ty place.reads known position arms other old new edges)
-    → Asks agreed ty words pats known position arms other old new edges
-asks_of agreed ty words pats known position arms other old new edges place finds looked asks = λ plan of fit count.
-    let p = finds plan of count in
-    let a = asks plan of (p.fit old.slots fit) p.count in
+pub asks_of : (agreed : LaidOut) (ty : Ty) (words : List Read) (pats : List Pat) (spots : List Spot) (known : List Known) (position : List ℕ) (arms : List GraphArm) (other : Option ℕ) (old new : Sheet) (edges : List Edge) (place : Place)
+    → FindsPlace agreed ty words spots known position place → IsLookedAt agreed.covered.program.types ty pats position place.ty
+    → ((plan : Plan) (n : ℕ) → IsPlanOf agreed plan → AreSpots plan n old.slots spots → AllFit old.slots place.reads → length place.reads ≡ words_of plan place.ty → AskedAt plan place.ty n spots place.reads known position arms other old new edges)
+    → Asks agreed ty words pats spots known position arms other old new edges
+asks_of agreed ty words pats spots known position arms other old new edges place finds looked asks = λ plan n of are fit count.
+    let p = finds plan of count are.count in
+    let a = asks plan n of are (p.fit old.slots fit are.below) p.count in
     record {
       at = place.ty;
       looked = subst (λ (g : Rattle.rb_core.specs.declared.program.Program.Program). IsLookedAt g.types ty pats position place.ty) (sym of.program) looked;
@@ -54,6 +56,17 @@ asks_of agreed ty words pats known position arms other old new edges place finds
           let same : m.part ≡ part = same_Some m.part part (sym m.is_part ∙ is) in
           a.leaves final callee next law fin s w v part clean m.words node long good m.are_meant (subst (λ u. Rep plan w.memory clean place.ty u m.words) same m.represents) all is takes;
     }
+
+-- spots of code with more slots
+pub spots-more : (plan : Plan) (n m m1 : ℕ) (spots : List Spot) → m ≤ m1 → AreSpots plan n m spots → AreSpots plan n m1 spots
+spots-more plan n m m1 spots le a = record {
+  low = (let l = a.low in omega (arith, l, le));
+  from = a.from;
+  below = λ k spot at. AllBelow-more m m1 spot.slots le (a.below k spot at);
+  count = a.count;
+  distinct = a.distinct;
+  apart = a.apart;
+}
 
 -- where no hole is, code that is closed stays
 has_in : (pc : ℕ) (hs : List Hole) → HasHole pc hs → (h : Hole) × IsIn h hs × (pc ≡ h.pc)
@@ -67,13 +80,13 @@ closed_grows first b hs ts g low = record {
   same = λ pc lt. at_closed b hs ts pc ∙ retarget_none pc hs ts _ (λ h. let r = has_in pc hs h in let l = low r.0 r.1 in omega (arith, l, r.2, lt)) ∙ g.same pc lt;
 }
 
-module _ (agreed : LaidOut) (ty : Ty) (words : List Read) (pats : List Pat) (position : List ℕ) (arms : List GraphArm) (other : Option ℕ) (n : ℕ) (old : Sheet) (edges : List Edge) where
+module _ (agreed : LaidOut) (ty : Ty) (words : List Read) (pats : List Pat) (spots : List Spot) (position : List ℕ) (arms : List GraphArm) (other : Option ℕ) (n : ℕ) (old : Sheet) (edges : List Edge) where
   abbrev node : GraphNode
   node = Test position arms other
 
   -- a node that stays: nothing is done
-  pub stays_node : (node : GraphNode) → StepsNode agreed ty words pats node n old edges old edges
-  stays_node node = record { stands = λ first st. st; flows = λ plan nodes root first fine at st f. f }
+  pub stays_node : (node : GraphNode) → StepsNode agreed ty words pats spots node n old edges old edges
+  stays_node node = record { stands = λ first st. st; flows = λ plan base nodes root first fine at st f. f }
 
   module _ (known : List Known) (common : IsCommon edges n (Some known)) (new : Sheet) (asked : List Edge) where
     abbrev b : Sheet
@@ -82,7 +95,7 @@ module _ (agreed : LaidOut) (ty : Ty) (words : List Read) (pats : List Pat) (pos
     abbrev rest : List Edge
     rest = others_of n edges
 
-    module _ (asks : Asks agreed ty words pats known position arms other b new asked) (stand : StandOpen b new asked) (grows : Grows b.code new.code) where
+    module _ (asks : Asks agreed ty words pats spots known position arms other b new asked) (stand : StandOpen b new asked) (grows : Grows b.code new.code) where
       module _ (first : Sheet) (st : Stands first old edges) where
         from_low : Grows first.code b.code
         from_low = closed_grows first old (landing_of n edges) (length old.code ∷ []) st.grows (λ h i. (landing_hole old edges n (length first.code) st.stand.are_open h i).0)
@@ -117,28 +130,30 @@ module _ (agreed : LaidOut) (ty : Ty) (words : List Read) (pats : List Pat) (pos
             both e f (inr i) (inl j) p s = absurd (let a = below f j in let c = stand.are_open e i in omega (arith, a, c.0, p))
             both e f (inr i) (inr j) p s = stand.one e f i j p s
 
-      pub steps_node : StepsNode agreed ty words pats node n old edges new (rest ++ asked)
+      pub steps_node : StepsNode agreed ty words pats spots node n old edges new (rest ++ asked)
       steps_node = record {
         stands = λ first st. all_stand first st;
-        flows = λ plan nodes root first fine at st f.
-            let job = job_of plan ty words pats nodes root first in
+        flows = λ plan base nodes root first fine at st f.
+            let job = job_of plan base spots ty words pats nodes root first in
             let h = land_flows job old edges n known f st common in
-            test_flows job b new rest asked known n position arms other fine.lower (fine.fit first.slots (omega arith)) at h (before first st) (asks plan fine.of (fine.fit b.slots h.adds.more) fine.count) stand;
+            let low = fine.spots.low in
+            let more = h.adds.more in
+            test_flows job b new rest asked known n position arms other fine.lower (fine.fit base (omega arith)) at h (before first st) (asks plan base fine.of (spots-more plan base first.slots b.slots spots more fine.spots) (fine.fit b.slots (omega (arith, low, more))) fine.count) stand;
       }
 
 -- the root
-pub begins_test : (agreed : LaidOut) (ty : Ty) (words : List Read) (pats : List Pat) (nodes : List GraphNode) (root : ℕ) (position : List ℕ) (arms : List GraphArm) (other : Option ℕ) (old new : Sheet) (edges : List Edge)
-    → slice_get nodes root ≡ Some (Test position arms other) → Asks agreed ty words pats [] position arms other old new edges → StandOpen old new edges → Grows old.code new.code → Begins agreed ty words pats nodes root old new edges
-begins_test agreed ty words pats nodes root position arms other old new edges at asks stand grows = record {
+pub begins_test : (agreed : LaidOut) (ty : Ty) (words : List Read) (pats : List Pat) (spots : List Spot) (nodes : List GraphNode) (root : ℕ) (position : List ℕ) (arms : List GraphArm) (other : Option ℕ) (old new : Sheet) (edges : List Edge)
+    → slice_get nodes root ≡ Some (Test position arms other) → Asks agreed ty words pats spots [] position arms other old new edges → StandOpen old new edges → Grows old.code new.code → Begins agreed ty words pats spots nodes root old new edges
+begins_test agreed ty words pats spots nodes root position arms other old new edges at asks stand grows = record {
   stands = record { grows = grows; stand = stand };
-  flows = λ plan fine.
-      let job = job_of plan ty words pats nodes root old in
-      let fit = fine.fit old.slots (omega arith) in
-      test_flows job old new [] edges [] root position arms other fine.lower fit at (root_flows job) (λ e i. absurd (let z = i.1 in cc)) (asks plan fine.of fit fine.count) stand;
+  flows = λ plan base fine.
+      let job = job_of plan base spots ty words pats nodes root old in
+      let low = fine.spots.low in
+      test_flows job old new [] edges [] root position arms other fine.lower (fine.fit base (omega arith)) at (root_flows job) (λ e i. absurd (let z = i.1 in cc)) (asks plan base fine.of fine.spots (fine.fit old.slots low) fine.count) stand;
 }
 
-pub begins_jump : (agreed : LaidOut) (ty : Ty) (words : List Read) (pats : List Pat) (nodes : List GraphNode) (root : ℕ) (old : Sheet) → Begins agreed ty words pats nodes root old (pushed old (Jump (length old.code + 1))) (edge_at (length old.code) None root [] ∷ [])
-begins_jump agreed ty words pats nodes root old =
+pub begins_jump : (agreed : LaidOut) (ty : Ty) (words : List Read) (pats : List Pat) (spots : List Spot) (nodes : List GraphNode) (root : ℕ) (old : Sheet) → Begins agreed ty words pats spots nodes root old (pushed old (Jump (length old.code + 1))) (edge_at (length old.code) None root [] ∷ [])
+begins_jump agreed ty words pats spots nodes root old =
     let pc = length old.code in
     let code = old.code ++ Jump (pc + 1) ∷ [] in
     let here = edge_at pc None root [] in
@@ -151,9 +166,9 @@ begins_jump agreed ty words pats nodes root old =
           one = λ e f i j p s. sym (ap (λ (x : Edge). x.hole.leaf) (single here e i)) ∙ ap (λ (x : Edge). x.hole.leaf) (single here f j);
         };
       };
-      flows = λ plan fine. record {
+      flows = λ plan base fine. record {
         adds = push_adds plan old (Jump (pc + 1)) (record { bounded = tt; slots_fit = tt; targets = (omega arith, omega arith); calls = tt });
-        arrives = λ final callee next law fin s w v long given.
+        arrives = λ final callee next law fin s w clean v long given.
             let a = fin pc (omega arith) (omega (arith, len)) in
             let j = jump_shape (slice_get final pc) (pc + 1) (a.shapes ∙ ap shape_in (get-seam old.code (Jump (pc + 1)) [])) in
             record {
@@ -164,11 +179,11 @@ begins_jump agreed ty words pats nodes root old =
               slots = s;
               world = taken w;
               runs = law.step pc (Jump j.0) s w j.1;
-              keeps = Keeps-refl old.slots s;
+              keeps = Keeps-refl base s;
               path = [];
               later = record { memory = refl; left = refl; switches = omega arith };
               known = λ i x e. absurd (let z = e in cc);
-              on = begins_on (job_of plan ty words pats nodes root old) v;
+              on = begins_on (job_of plan base spots ty words pats nodes root old) v;
             };
       };
     }
@@ -204,17 +219,17 @@ module _ (nodes : List GraphNode) (count : ℕ) (edges : List Edge) (holes : Lis
       let same = st.stand.one a.0 c.0 a.1 c.1 (sym a.2.pc ∙ p ∙ c.2.pc) (sym a.2.arm ∙ s ∙ c.2.arm) in
       let is = same_Some (Clause h.leaf) (Clause k.leaf) (sym a.2.node ∙ ap (slice_get nodes) same ∙ c.2.node) in cc
 
-  pub graph_takes : (agreed : LaidOut) (ty : Ty) (words : List Read) (pats : List Pat) (root : ℕ) (first new : Sheet)
-      → ((plan : Plan) → let job = job_of plan ty words pats nodes root first in IsFineJob agreed job → Flows job new edges) → TakesGraph agreed ty words pats nodes root first new holes
-  graph_takes agreed ty words pats root first new flows = λ plan fine.
-      let job = job_of plan ty words pats nodes root first in
-      let f = flows plan fine in
+  pub graph_takes : (agreed : LaidOut) (ty : Ty) (words : List Read) (pats : List Pat) (spots : List Spot) (root : ℕ) (first new : Sheet)
+      → ((plan : Plan) (base : ℕ) → let job = job_of plan base spots ty words pats nodes root first in IsFineJob agreed job → Flows job new edges) → TakesGraph agreed ty words pats spots nodes root first new holes
+  graph_takes agreed ty words pats spots root first new flows = λ plan base fine.
+      let job = job_of plan base spots ty words pats nodes root first in
+      let f = flows plan base fine in
       record {
         adds = f.adds;
-        leaves = λ final callee next law fin s w v long g.
+        leaves = λ final callee next law fin s w clean v long g.
             let fin1 : Finishes final new.code (holes_of edges) (length first.code) (length new.code) = λ q l h. agrees-sub final new.code new.code (holes_of edges) holes q refl
             (λ arm o. let r = edge_at_hole o.0 o.1 in edge_open edges q arm r.0 r.1 (sym r.2.pc ∙ o.2) (sym r.2.arm ∙ o.3)) (fin q l h) in
-            let a = f.arrives final callee next law fin1 s w v long g in
+            let a = f.arrives final callee next law fin1 s w clean v long g in
             let h = hole_at_edge a.edge a.is_edge in
             let e = ends_on job fine.lower v a.edge.hole.leaf h.0.leaf g.clause a.path h.2.node a.on g.takes in
             record {

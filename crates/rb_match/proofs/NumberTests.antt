@@ -1,5 +1,5 @@
 -- A test of an integer: one switch over its numbers.
-use Rattle.std.proofs.Common.{◌≡◌, ℕ, zero, suc, ◌+◌, ◌<◌, ◌⊎◌, inl, inr, Bool, true, false, List, [], ◌∷◌, ◌++◌, length, Option, Some, None, refl, sym, subst, ap, ◌∙◌, arith, length-append}
+use Rattle.std.proofs.Common.{◌≡◌, ℕ, ◌≤◌, zero, suc, ◌+◌, ◌<◌, ◌⊎◌, inl, inr, Bool, true, false, List, [], ◌∷◌, ◌++◌, length, Option, Some, None, refl, sym, subst, ap, ◌∙◌, arith, length-append}
 use Rattle.std.specs.Prelude.{slice_get, slice_index, if◌then◌else◌, ◌&&◌, nat_eq, All, IfSome}
 use Rattle.std.proofs.lemmas.Bool.{false≢true, ltb-true}
 use Rattle.std.proofs.lemmas.List.{length-map}
@@ -17,7 +17,7 @@ use Rattle.rb_bytes.specs.Memory.{Memory}
 use Rattle.rb_target.specs.declared.instr.SwitchArm.{SwitchArm}
 use Rattle.rb_target.specs.declared.instr.Instr.{Instr}
 use Rattle.rb_target.specs.declared.instr.Instr.TheVariants.{Switch}
-use Rattle.rb_target.specs.Growth.{AgreesBut, Grows, Nowhere}
+use Rattle.rb_target.specs.Growth.{Keeps, AgreesBut, Grows, Nowhere}
 use Rattle.rb_target.specs.Meaning.{taken, switched, target_of, after_switch}
 use Rattle.rb_target.specs.Sheet.{Sheet, pushed, IsHoleIn}
 use Rattle.rb_target.specs.Targets.{shape, shape_in, target_in}
@@ -31,10 +31,10 @@ use Rattle.rb_fragment.specs.WordReads.{AreMeant}
 use Rattle.rb_fragment.proofs.Adding.{Adds-trans, push_adds}
 use Rattle.rb_match.specs.declared.knowledge.Known.{Known}
 use Rattle.rb_match.specs.declared.knowledge.Edge.{Edge}
-use Rattle.rb_match.specs.inner.Knowing.{IsEdge}
+use Rattle.rb_match.specs.inner.Knowing.{IsEdge, seen}
 use Rattle.rb_match.specs.inner.Asking.{take_link, number_of, is_number, are_numbers, number_arm, number_arms, open_else_of, edge_in, arm_edges, else_edges, StandOpen, AsksNumber}
 use Rattle.rb_match.proofs.Edges.{edge_append, edge_left, edge_right, open_edge}
-use Rattle.rb_match.proofs.Following.{carried_known}
+use Rattle.rb_match.proofs.Following.{carried_known, known-kept}
 
 both : (a b : Bool) → (a && b) ≡ true → (a ≡ true) × (b ≡ true)
 both true true e = (refl, refl)
@@ -51,6 +51,9 @@ head_step (H.Num m) under rest p x node num e = go (nat_eq m x) e
         → ((under ≡ node) × ((if u then Some 0 else next_arm p) ≡ Some 0)) ⊎ ((rest ≡ Some node) × ((if u then Some 0 else next_arm p) ≡ next_arm p))
     go true h = inl (same_Some under node h, refl)
     go false h = inr (h, refl)
+
+pub Keeps-less : (n m : ℕ) (s s' : List ℕ) → n ≤ m → Keeps m s s' → Keeps n s s'
+Keeps-less n m s s' le k = record { long = k.long; same = λ i lt. k.same i (omega (arith, lt, le)) }
 
 module _ (nodes : List GraphNode) (read : Read) (known : List Known) (arms : List GraphArm) (other : Option ℕ) (old mid : Sheet) (slot : ℕ) where
   abbrev pc : ℕ
@@ -183,11 +186,11 @@ module _ (nodes : List GraphNode) (read : Read) (known : List Known) (arms : Lis
   one_word s m ws x h e = (subst (λ us. AreMeant (read ∷ []) s m us) e h).0
 
   pub asks_number : MakesRead read old mid slot → are_numbers arms ≡ true → AsksNumber (read ∷ []) known arms other old new edges
-  asks_number makes nums = λ plan bits position fit.
+  asks_number makes nums = λ plan n bits position spots low below fit.
       let mk = makes plan old.slots (omega arith) fit.0 in
       let last = push_adds plan mid switch (record { bounded = arms_small arms nums; slots_fit = mk.given; targets = (else_forward other, arms_forward arms); calls = tt }) in
       let len : length new.code ≡ pc + 1 = length-append mid.code (switch ∷ []) in
-      let low = mk.adds.grows.longer in
+      let longer = mk.adds.grows.longer in
       record {
         adds = Adds-trans plan old mid new mk.adds last;
         leaves = λ final callee next law fin s w v part clean ws node long good meant rep all at takes.
@@ -198,7 +201,7 @@ module _ (nodes : List GraphNode) (read : Read) (known : List Known) (arms : Lis
               same = λ q lo hi out. (fin q lo (omega (arith, hi, len))).same (λ arm o. let e = open_edge edges q arm o in let p = is_pc e.0 e.1 in let z = e.2 in omega (arith, p, z, hi)) ∙ get-append mid.code (switch ∷ []) q hi;
             } in
             let r = (mk.runs x).runs final callee next law agrees s w (omega (arith, long)) (good, word) in
-            let a = fin pc low (omega (arith, len)) in
+            let a = fin pc longer (omega (arith, len)) in
             let shaped = a.shapes ∙ ap shape_in (get-seam mid.code switch []) in
             let sw = switch_shape (slice_get final pc) slot (open_else_of (pc + 1) other) ways shaped in
             let link : take_link arms other (V.Num x) ≡ Some node = ap (take_link arms other) (sym (outs-Num x)) ∙ ap (λ u. take_link arms other (out-Value u)) (sym int.1) ∙ takes in
@@ -219,8 +222,8 @@ module _ (nodes : List GraphNode) (read : Read) (known : List Known) (arms : Lis
               slots = r.1;
               world = w1;
               runs = r.3 ∙ ap (λ q. next q r.1 r.2) r.6.0 ∙ ran;
-              keeps = r.4;
+              keeps = Keeps-less n old.slots s r.1 low r.4;
               later = record { memory = r.5.memory; left = r.5.left; switches = omega (arith, r.5.switches) };
-              known = carried_known nodes node plan v known all;
+              known = carried_known nodes node (seen plan clean v spots r.1 w.memory) known (known-kept old.slots plan clean v spots s r.1 w.memory r.4 below known all);
             };
       }

@@ -21,15 +21,20 @@ use Rattle.rb_layout.specs.Positions.{leaf_of, layout_of, open_positions}
 use Rattle.rb_layout.specs.Flattening.{type_at}
 use Rattle.rb_layout.proofs.OpenPositions.{type-open}
 use Rattle.rb_rel.proofs.Lists.{get-left, get-right, get-mapped}
-use Rattle.rb_fragment.specs.declared.reads.Read.{Read}
+use Rattle.std.proofs.lemmas.List.{length-map}
+use Rattle.rb_core.specs.Values.{part_at}
+use Rattle.rb_target.specs.Meaning.{slots_at}
+use Rattle.rb_fragment.specs.declared.reads.Read.{Read, Slot}
+use Rattle.rb_fragment.proofs.MakingAll.{slots_fit, slots_meant}
 use Rattle.rb_fragment.specs.Plan.{Rep, words_of}
 use Rattle.rb_fetch.specs.Fields.{ReadsField}
 use Rattle.rb_match.specs.declared.knowledge.Known.{Known}
 use Rattle.rb_match.specs.declared.place.Place.{Place}
 use Rattle.rb_match.specs.Bounding.{places_in, places_step, places_below, place_below}
 use Rattle.rb_match.specs.Bounding as bounding
-use Rattle.rb_match.specs.inner.Knowing.{FollowsLeaf}
-use Rattle.rb_match.specs.inner.Places.{IsFieldOf, FindsPlace, StepsPlace, IsPlaceIn, HasPlace}
+use Rattle.rb_match.specs.declared.knowledge.Spot.{Spot}
+use Rattle.rb_match.specs.inner.Knowing.{FollowsLeaf, FollowsSaved, seen}
+use Rattle.rb_match.specs.inner.Places.{IsFieldOf, FindsPlace, IsSpotOf, StepsPlace, IsPlaceIn, HasPlace}
 
 -- Parts
 
@@ -55,17 +60,17 @@ is-field agreed t l path layout leaf ty is_layout is_leaf at = λ plan of.
 -- one field further
 pub steps : (agreed : LaidOut) (place : Place) (known : List Known) (prefix : List ℕ) (field t leaf : ℕ) (ty : Ty) (reads : List Read) → place.ty ≡ Named t → FollowsLeaf known t prefix leaf
     → IsFieldOf agreed t leaf (field ∷ []) ty → ReadsField agreed t leaf (field ∷ []) place.reads reads → StepsPlace agreed place known prefix field (record { ty = ty; reads = reads })
-steps agreed place known prefix field t leaf ty reads named follow field_of read = λ root words finds plan of count.
-    let p = finds plan of count in
+steps agreed place known prefix field t leaf ty reads named follow field_of read = λ root words spots finds plan of count have.
+    let p = finds plan of count have in
     let f = field_of plan of in
     let n : length place.reads ≡ words_of plan (Named t) = p.count ∙ ap (words_of plan) named in
     let r = read plan of ty f n in
     record {
       count = r.count;
-      fit = λ k h. r.fit k (p.fit k h);
+      fit = λ k h b. r.fit k (p.fit k h b);
       means = λ clean v ws s m good meant rep all.
           let a = p.means clean v ws s m good meant rep all in
-          let k = follow plan v all in
+          let k = follow (seen plan clean v spots s m) all in
           let part : k.0 ≡ a.part = same_Some k.0 a.part (sym k.2 ∙ a.is_part) in
           let layout : k.1 ≡ f.layout = same_Some k.1 f.layout (sym k.3 ∙ f.is_layout) in
           let is_leaf : leaf_of f.layout a.part ≡ Some leaf = sym (ap (λ (y : Layout). leaf_of y a.part) layout) ∙ sym (ap (leaf_of k.1) part) ∙ k.4 in
@@ -80,11 +85,29 @@ steps agreed place known prefix field t leaf ty reads named follow field_of read
     }
 
 -- the whole value
-pub whole : (agreed : LaidOut) (ty : Ty) (words : List Read) (known : List Known) → FindsPlace agreed ty words known [] (record { ty = ty; reads = words })
-whole agreed ty words known = λ plan of count. record {
+pub whole : (agreed : LaidOut) (ty : Ty) (words : List Read) (spots : List Spot) (known : List Known) → FindsPlace agreed ty words spots known [] (record { ty = ty; reads = words })
+whole agreed ty words spots known = λ plan of count have. record {
   count = count;
-  fit = λ k h. h;
+  fit = λ k h b. h;
   means = λ clean v ws s m good meant rep all. record { part = v; words = ws; is_part = refl; are_meant = meant; represents = rep };
+}
+
+-- what is saved in a spot
+pub spot_place : (agreed : LaidOut) (spots : List Spot) (known : List Known) (position : List ℕ) (k : ℕ) (spot : Spot) → slice_get spots k ≡ Some spot → spot.position ≡ position → FollowsSaved known k
+    → IsSpotOf agreed spots known position (record { ty = spot.ty; reads = map (λ x. Slot x) spot.slots })
+spot_place agreed spots known position k spot at same follows = λ ty words plan of count have. record {
+  count = length-map spot.slots (λ x. Slot x) ∙ have k spot at;
+  fit = λ n h b. slots_fit n spot.slots (b k spot at);
+  means = λ clean v ws s m good meant rep all.
+      let h = follows (seen plan clean v spots s m) all in
+      let is : h.0 ≡ spot = same_Some h.0 spot (sym h.1 ∙ at) in
+      record {
+        part = h.2.0;
+        words = slots_at s spot.slots;
+        is_part = ap (part_at v) (sym same) ∙ ap (λ (x : Spot). part_at v x.position) (sym is) ∙ h.2.1;
+        are_meant = slots_meant s m spot.slots;
+        represents = subst (λ (x : Spot). Rep plan m clean x.ty h.2.0 (slots_at s x.slots)) is h.2.2;
+      };
 }
 
 -- Places

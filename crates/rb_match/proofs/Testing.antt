@@ -11,7 +11,6 @@ use Rattle.rb_target.specs.Sheet.{Sheet}
 use Rattle.rb_target.specs.Targets.{Finishes}
 use Rattle.rb_target.proofs.Finishing.{agrees-sub}
 use Rattle.rb_target.proofs.Growing.{Keeps-refl, Keeps-trans}
-use Rattle.rb_rel.specs.Switches.{look_of}
 use Rattle.rb_fragment.specs.declared.reads.Read.{Read}
 use Rattle.rb_fragment.specs.Plan.{Plan, Rep}
 use Rattle.rb_fragment.specs.Pieces.{IsLater}
@@ -22,7 +21,8 @@ use Rattle.rb_fragment.proofs.Pieces.{later-refl, later-trans}
 use Rattle.rb_fragment.proofs.ReadForms.{mean-kept}
 use Rattle.rb_match.specs.declared.knowledge.Known.{Known}
 use Rattle.rb_match.specs.declared.knowledge.Edge.{Edge}
-use Rattle.rb_match.specs.Bounding.{Place}
+use Rattle.rb_match.specs.Bounding.{Place, choosing_look}
+use Rattle.rb_match.specs.inner.Knowing.{AreKnown, seen}
 use Rattle.rb_match.specs.inner.Asking.{holes_of, AreOpen, StandOpen, Asked}
 use Rattle.rb_match.specs.inner.Flowing.{Job, looks, IsOn, Flows, FlowsHere}
 use Rattle.rb_match.proofs.Edges.{edge_append, edge_left, edge_right, open_edge, edge_open}
@@ -35,13 +35,13 @@ meant-kept n s s' m k [] (w ∷ ws) fit h = h
 meant-kept n s s' m k (r ∷ rs) [] fit h = h
 meant-kept n s s' m k (r ∷ rs) (w ∷ ws) fit h = (mean-kept n s s' m k r fit.0 ∙ h.0, meant-kept n s s' m k rs ws fit.1 h.1)
 
-looks-snoc : (plan : Plan) (path : List Place) (p : Place) → looks plan (path ++ p ∷ []) ≡ looks plan path + look_of plan.layouts p.ty
+looks-snoc : (plan : Plan) (path : List Place) (p : Place) → looks plan (path ++ p ∷ []) ≡ looks plan path + choosing_look plan.layouts p.ty
 looks-snoc plan [] p = omega arith
 looks-snoc plan (x ∷ path) p = let h = looks-snoc plan path p in omega (arith, h)
 
-module _ (job : Job) (b new : Sheet) (rest edges : List Edge) (known : List Known) (n : ℕ) (position : List ℕ) (arms : List GraphArm) (other : Option ℕ) (lower : LinksAreLower job.nodes) (fit : AllFit job.first.slots job.words)
+module _ (job : Job) (b new : Sheet) (rest edges : List Edge) (known : List Known) (n : ℕ) (position : List ℕ) (arms : List GraphArm) (other : Option ℕ) (lower : LinksAreLower job.nodes) (fit : AllFit job.base job.words)
     (at : slice_get job.nodes n ≡ Some (Test position arms other)) (here : FlowsHere job b rest known n) (before : AreOpen (length job.first.code) b.code rest)
-    (asked : Asked job.plan job.ty job.words job.pats known position arms other b new edges) (stand : StandOpen b new edges) where
+    (asked : Asked job.plan job.ty job.base job.words job.pats job.spots known position arms other b new edges) (stand : StandOpen b new edges) where
   abbrev lo : ℕ
   lo = length job.first.code
 
@@ -70,9 +70,9 @@ module _ (job : Job) (b new : Sheet) (rest edges : List Edge) (known : List Know
   pub test_flows : Flows job new all
   test_flows = record {
     adds = Adds-trans job.plan job.first b new here.adds asked.adds;
-    arrives = λ final callee next law fin s w v long given.
+    arrives = λ final callee next law fin s w clean v long given.
         let more = asked.adds.more in
-        elim (here.arrives final callee next law (first_part final fin) s w v (omega (arith, long, more)) given) [
+        elim (here.arrives final callee next law (first_part final fin) s w clean v (omega (arith, long, more)) given) [
           | inl a ↦ record {
             edge = a.edge;
             is_edge = edge_left rest edges a.edge a.is_edge;
@@ -90,9 +90,9 @@ module _ (job : Job) (b new : Sheet) (rest edges : List Edge) (known : List Know
           | inr l ↦
               let t = tested job lower n position arms other at v given.clause (l.on.same given.clause given.takes) in
               let mem = sym l.later.memory in
-              let meant = meant-kept job.first.slots s l.slots w.memory l.keeps job.words given.ws fit given.meant in
-              let r = asked.leaves final callee next law (second_part final fin) l.slots l.world v t.part given.clean given.ws t.node (omega (arith, long, l.keeps.long)) (subst IsGood mem given.good)
-              (subst (λ m. AreMeant job.words l.slots m given.ws) mem meant) (subst (λ m. Rep job.plan m given.clean job.ty v given.ws) mem given.represents) l.is_known t.is_part t.is_node in
+              let meant = meant-kept job.base s l.slots w.memory l.keeps job.words given.ws fit given.meant in
+              let r = asked.leaves final callee next law (second_part final fin) l.slots l.world v t.part clean given.ws t.node (omega (arith, long, l.keeps.long)) (subst IsGood mem given.good)
+              (subst (λ m. AreMeant job.words l.slots m given.ws) mem meant) (subst (λ m. Rep job.plan m clean job.ty v given.ws) mem given.represents) (subst (λ m. AreKnown (seen job.plan clean v job.spots l.slots m) known) mem l.is_known) t.is_part t.is_node in
               let place : Place = record { path = position; ty = asked.at } in
               let p = passes job lower n position arms other at v given.clause l.path asked.at given.takes l.on asked.looked t in
               let sum = looks-snoc job.plan l.path place in
@@ -104,10 +104,10 @@ module _ (job : Job) (b new : Sheet) (rest edges : List Edge) (known : List Know
                 slots = r.slots;
                 world = r.world;
                 runs = l.runs ∙ r.runs;
-                keeps = Keeps-trans job.first.slots b.slots s l.slots r.slots here.adds.more l.keeps r.keeps;
+                keeps = Keeps-trans job.base job.base s l.slots r.slots (omega arith) l.keeps r.keeps;
                 path = l.path ++ place ∷ [];
-                later = subst (λ k. IsLater k w r.world) (sym sum) (later-trans (looks job.plan l.path) (look_of job.plan.layouts asked.at) w l.world r.world l.later r.later);
-                known = r.known;
+                later = subst (λ k. IsLater k w r.world) (sym sum) (later-trans (looks job.plan l.path) (choosing_look job.plan.layouts asked.at) w l.world r.world l.later r.later);
+                known = subst (λ m. AreKnown (seen job.plan clean v job.spots r.slots m) r.edge.known) l.later.memory r.known;
                 on = subst (λ k. IsOn job v k (l.path ++ place ∷ [])) (sym r.is_node) p;
               }
         ];
@@ -117,11 +117,11 @@ module _ (job : Job) (b new : Sheet) (rest edges : List Edge) (known : List Know
 pub root_flows : (job : Job) → FlowsHere job job.first [] [] job.root
 root_flows job = record {
   adds = Adds-refl job.plan job.first;
-  arrives = λ final callee next law fin s w v long given. inr (record {
+  arrives = λ final callee next law fin s w clean v long given. inr (record {
     slots = s;
     world = w;
     runs = refl;
-    keeps = Keeps-refl job.first.slots s;
+    keeps = Keeps-refl job.base s;
     path = [];
     later = later-refl w;
     is_known = λ i x at. absurd cc;

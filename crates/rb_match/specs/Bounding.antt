@@ -1,7 +1,8 @@
 -- How many switches a match may cost.
-use Rattle.std.specs.Prelude.{ℕ, ◌+◌, ◌*◌, List, [], ◌∷◌, ◌++◌, map, filter, length, Bool, ◌&&◌, not, nat_lt, if◌then◌else◌}
-use Rattle.std.specs.List.{flat_map}
+use Rattle.std.specs.Prelude.{◌≡◌, ◌≤◌, Some, slice_get, ℕ, ◌+◌, ◌*◌, List, [], ◌∷◌, ◌++◌, map, filter, length, Bool, ◌&&◌, not, nat_lt, if◌then◌else◌}
+use Rattle.std.specs.List.{flat_map, list_all}
 use Rattle.rb_core.specs.declared.types.Ty.{Ty}
+use Rattle.rb_core.specs.declared.types.Ty.TheVariants.{Int, Named}
 use Rattle.rb_core.specs.declared.types.DataDecl.{DataDecl}
 use Rattle.rb_core.specs.declared.pattern.Pat.{Pat}
 use Rattle.rb_core.specs.declared.pattern.Pat.TheOpen as P
@@ -10,7 +11,8 @@ use Rattle.rb_core.specs.declared.pattern.Pat.TheFolds.{fold-Pat}
 use Rattle.rb_core.specs.Typing.{field_types, same_type}
 use Rattle.rb_layout.specs.declared.layout.Layout.{Layout}
 use Rattle.rb_layout.specs.Flattening.{same_path}
-use Rattle.rb_rel.specs.Switches.{look_of}
+use Rattle.rb_layout.specs.Positions.{layout_of}
+use Rattle.rb_rel.specs.Switches.{depth_of, is_shallow, leaves_in, look_of, mend_of}
 use Rattle.rb_decide.specs.Trees.{match_tree, size}
 
 -- a position, and the type there
@@ -53,11 +55,48 @@ places_of types t pats = distinct_places (flat_map (λ pat. places_in types pat 
 abbrev pub rounds : List DataDecl → Ty → List Pat → ℕ
 rounds types t pats = if nat_lt 512 (size (match_tree types t pats)) then length pats else 1
 
+-- what some looks at the types of places cost together
+abbrev pub looks_with : (Ty → ℕ) → List Place → ℕ
+looks_with look [] = 0
+looks_with look (p ∷ ps) = look p.ty + looks_with look ps
+
 -- what a look at each of some places costs
 abbrev pub looks_of : List Layout → List Place → ℕ
-looks_of layouts [] = 0
-looks_of layouts (p ∷ ps) = look_of layouts p.ty + looks_of layouts ps
+looks_of layouts = looks_with (look_of layouts)
 
 -- the switches that a match may cost
 abbrev pub bound_of : List DataDecl → List Layout → Ty → List Pat → ℕ
 bound_of types layouts t pats = rounds types t pats * looks_of layouts (places_of types t pats)
+
+-- Choosing and binding ---------------------------------------------------------------------------
+
+-- whether no leaf of the type takes a subvalue apart
+abbrev pub is_plain : List Layout → ℕ → Bool
+is_plain layouts t = list_all is_shallow (leaves_in (layout_of layouts t))
+
+-- rebuilding what the leaf of a value has taken apart
+abbrev pub rebuilding : List Layout → Ty → ℕ
+rebuilding layouts (Int bits) = 0
+rebuilding layouts (Named t) = if is_plain layouts t then 0 else mend_of layouts t
+
+-- the switches of a test: those that find the leaf, and those that rebuild what is saved of it
+abbrev pub choosing_look : List Layout → Ty → ℕ
+choosing_look layouts t = depth_of layouts t + rebuilding layouts t
+
+-- the switches that choose a match's clause
+abbrev pub choosing_bound : List DataDecl → List Layout → Ty → List Pat → ℕ
+choosing_bound types layouts t pats = rounds types t pats * looks_with (choosing_look layouts) (places_of types t pats)
+
+-- the switches that bind what stands below a constructor: none where the constructor has one leaf, which takes nothing apart
+abbrev pub binding_look : List Layout → Ty → ℕ
+binding_look layouts (Int bits) = 0
+binding_look layouts (Named t) = if is_plain layouts t then 0 else depth_of layouts (Named t) + mend_of layouts t
+
+-- the switches that bind a pattern's variables
+abbrev pub binding_bound : List DataDecl → List Layout → Ty → Pat → ℕ
+binding_bound types layouts t pat = looks_with (binding_look layouts) (places_in types pat t)
+
+-- together they cost at most the bound
+abbrev pub BoundIsShared : Type 0
+BoundIsShared = (types : List DataDecl) (layouts : List Layout) (t : Ty) (pats : List Pat) (k : ℕ) (pat : Pat) → slice_get pats k ≡ Some pat
+    → choosing_bound types layouts t pats + binding_bound types layouts t pat ≤ bound_of types layouts t pats

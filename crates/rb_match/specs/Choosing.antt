@@ -9,18 +9,18 @@ use Rattle.rb_core.specs.Inference.{binders}
 use Rattle.rb_core.specs.Matching.{IsExhaustive, bindings, chosen_clause, matches_of}
 use Rattle.rb_bytes.specs.Memory.{Memory, IsGood}
 use Rattle.rb_target.specs.declared.body.Hole.{Hole}
+use Rattle.rb_target.specs.Growth.{Nowhere}
 use Rattle.rb_target.specs.Meaning.{slots_at}
 use Rattle.rb_target.specs.Sheet.{Sheet}
 use Rattle.rb_layout.specs.declared.agreed.LaidOut.{LaidOut}
 use Rattle.rb_fragment.specs.declared.held.Local.{Local}
 use Rattle.rb_fragment.specs.Adding.{Adds}
 use Rattle.rb_fragment.specs.Holding.{AreGiven, Holds, IsOfLocal, scope_of}
-use Rattle.rb_fragment.specs.Pieces.{Branches, Straight}
+use Rattle.rb_fragment.specs.Pieces.{AtEnd, Branches, Piece}
 use Rattle.rb_fragment.specs.Plan.{Plan, Rep, words_of}
 use Rattle.rb_fragment.specs.Slots.{AllBelow, IsOneOf}
 use Rattle.rb_fetch.specs.Finding.{IsPlanOf}
-use Rattle.rb_fetch.specs.Plain.{ArePlain}
-use Rattle.rb_match.specs.Bounding.{bound_of}
+use Rattle.rb_match.specs.Bounding.{binding_bound, choosing_bound}
 
 -- Choosing --------------------------------------------------------------------------------------
 
@@ -37,28 +37,29 @@ pub record IsChosen (plan : Plan) (t : Ty) (pats : List Pat) (k : ℕ) (ws : Lis
   pub chosen : chosen_clause pats value ≡ Some k
 
 -- Run on words of a value, the appended code leaves by a hole of the clause that the value chooses, within the
--- bound, and keeps all slots that there were.
+-- share of the bound that is left to choosing, and keeps all slots that there were.
 abbrev pub Chooses : LaidOut → Ty → List Pat → List ℕ → Sheet → Sheet → List Hole → Type 0
 Chooses agreed t pats words old new holes =
-    (plan : Plan) → IsPlanOf agreed plan → ArePlain plan.layouts → PatternsAreTyped plan.program.types t pats
+    (plan : Plan) → IsPlanOf agreed plan → PatternsAreTyped plan.program.types t pats
     → IsExhaustive plan.program.types t pats → AllBelow old.slots words → length words ≡ words_of plan t
-    → Branches plan old.slots old new holes (bound_of plan.program.types plan.layouts t pats)
+    → Branches plan old.slots old new holes (choosing_bound plan.program.types plan.layouts t pats)
     (λ k s m. IsChosen plan t pats k (slots_at s words) m) (λ k s m. Unit {0})
 
 -- Binding ---------------------------------------------------------------------------------------
 
--- the appended code leaves what a pattern binds in slots that are new or the value's own
+-- the appended code leaves what a pattern binds in slots that are new or the value's own, within the share of the
+-- bound that is left to binding
 pub record Binds (plan : Plan) (pat : Pat) (t : Ty) (words : List ℕ) (old new : Sheet) (bound : List Local) : Type 0 where
   pub adds : Adds plan old new
   pub scope : scope_of bound ≡ binders plan.program.types pat t
   pub given : AreGiven plan new.slots bound
   pub origin : (x : ℕ) → IsOfLocal x bound → (old.slots ≤ x) ⊎ IsOneOf x words
   pub runs : (clean : Bool) (v : Value) → matches_of pat v ≡ true
-      → Straight plan old.slots old new (λ s m. IsGood m × Rep plan m clean t v (slots_at s words))
-      (λ s m. Holds plan clean s m bound (bindings pat v))
+      → Piece plan old.slots old new Nowhere (binding_bound plan.program.types plan.layouts t pat) (λ s m. IsGood m × Rep plan m clean t v (slots_at s words))
+      (AtEnd new (λ s m. Holds plan clean s m bound (bindings pat v)))
 
 -- run on words of a value that the pattern matches, the appended code binds the pattern's variables
 abbrev pub BindsPattern : LaidOut → Ty → Pat → List ℕ → Sheet → Sheet → List Local → Type 0
 BindsPattern agreed t pat words old new bound =
-    (plan : Plan) → IsPlanOf agreed plan → ArePlain plan.layouts → PatternIsTyped plan.program.types t pat
+    (plan : Plan) → IsPlanOf agreed plan → PatternIsTyped plan.program.types t pat
     → AllBelow old.slots words → length words ≡ words_of plan t → Binds plan pat t words old new bound

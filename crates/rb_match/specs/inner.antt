@@ -3,5 +3,7 @@ pub mod Binding
 pub mod Clauses
 pub mod Flowing
 pub mod Knowing
+pub mod Opening
 pub mod Places
+pub mod Saving
 pub mod Trees

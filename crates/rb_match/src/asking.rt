@@ -3,10 +3,14 @@
 ghost use Rattle.std.specs.Prelude.{◌≡◌, ◌∷◌, ◌++◌, ◌<◌, ◌^◌, [], IfOk, OnOk, true, slice_get};
 ghost use Rattle.rb_core.specs.declared.value.Value.TheOpen as Layers;
 ghost use Rattle.rb_target.specs.Growth.{Grows};
+ghost use Rattle.rb_fetch.specs.Finding.{leaf_count};
+ghost use Rattle.rb_match.specs.declared.knowledge.Known.TheVariants.{Leaf};
 ghost use Rattle.rb_match.specs.inner.Asking.{number_arm, number_arms, is_number, are_numbers, open_else_of, is_test, carried, edge_at, edge_in, arm_edges, else_edges, leaf_con, take_link, edge_for, leaf_edges_of, has_con, have_cons, StandOpen, AsksNumber, AsksLeaf, Asks};
 
-use crate::knowledge::{Edge, Known, copy_known, with_known};
+use crate::deep::ask_deep;
+use crate::knowledge::{Edge, Known, Spot, copy_known, with_known};
 use crate::place::{is_looked_at, place_of};
+use crate::spots::has_spot_below;
 use rb_core::pattern::Pat;
 use rb_core::seq::Seq;
 use rb_core::types::Ty;
@@ -191,8 +195,18 @@ pub fn con_of(agreed: &Agreed, ty: u32, leaf: usize) -> Option<u32>
     }
 }
 
-// The node to which a constructor leads.
-fn link_of(arms: &[GraphArm], other: Option<u32>, con: u32) -> Option<u32>
+/// How many leaves a type has.
+pub fn count_leaves(agreed: &Agreed, ty: u32) -> usize
+    ensures { result ≡ leaf_count agreed.now ty }
+{
+    match agreed.layouts().get(ty as usize) {
+        None => 0,
+        Some(layout) => layout.leaves.len(),
+    }
+}
+
+/// The node to which a constructor leads.
+pub fn link_of(arms: &[GraphArm], other: Option<u32>, con: u32) -> Option<u32>
     ensures { result ≡ take_link arms.now other (Layers.Con con []) }
 {
     for arm in arms {
@@ -218,7 +232,7 @@ fn known_within<'a>(
     ty: u32,
     leaf: usize,
 ) -> Result<Seq<Known<'a>>, AllocError>
-    ensures { IfOk result (λ k. k ≡ carried nodes.now node (known.now ++ record { position = position.entry; ty = ty; leaf = leaf } ∷ [])) }
+    ensures { IfOk result (λ k. k ≡ carried nodes.now node (known.now ++ Leaf position.entry ty leaf ∷ [])) }
 {
     if is_test_at(nodes, node) {
         let more = with_known(alloc, known, position, ty, leaf)?;
@@ -321,8 +335,8 @@ fn ask_leaf<'a>(
 // Tests -----------------------------------------------------------------------------------------
 
 /// Code of a test at a position of a value of a type: it leaves by an edge to the node of the arm that is
-/// taken, which carries what is known there only where that node tests, too. A position that no pattern
-/// looks at is never tested.
+/// taken, which carries what is known there. Fields of the part there that have spots are saved in them. A
+/// position that no pattern looks at is never tested.
 pub fn ask<'a>(
     alloc: Global,
     body: &mut Body,
@@ -330,17 +344,18 @@ pub fn ask<'a>(
     ty: Ty,
     words: &[Read],
     pats: &[Pat],
+    spots: &[Spot],
     nodes: &[GraphNode],
     known: &[Known<'a>],
     position: &'a [u32],
     arms: &[GraphArm],
     other: Option<u32>,
 ) -> Result<Seq<Edge<'a>>, AllocError>
-    ensures asks { IfOk result (λ edges. Asks agreed.now ty words.now pats.now known.now position.now arms.now other body.old body.new edges) }
+    ensures asks { IfOk result (λ edges. Asks agreed.now ty words.now pats.now spots.now known.now position.now arms.now other body.old body.new edges) }
     ensures stand { IfOk result (λ edges. StandOpen body.old body.new edges) }
     ensures grows { OnOk result (Grows body.old.code body.new.code) }
 {
-    let place = place_of(alloc, agreed, ty, words, known, position)?;
+    let place = place_of(alloc, agreed, ty, words, spots, known, position)?;
     let types = agreed.covered().program().types.as_slice();
     if !is_looked_at(types, ty, pats, position, place.ty) {
         return Err(AllocError);
@@ -352,10 +367,17 @@ pub fn ask<'a>(
             Ok(edges)
         }
         Ty::Named(t) => {
-            let edges = ask_leaf(
-                alloc, body, agreed, nodes, t, reads, known, position, arms, other,
-            )?;
-            Ok(edges)
+            if has_spot_below(spots, position) {
+                let edges = ask_deep(
+                    alloc, body, agreed, t, reads, spots, known, position, arms, other,
+                )?;
+                Ok(edges)
+            } else {
+                let edges = ask_leaf(
+                    alloc, body, agreed, nodes, t, reads, known, position, arms, other,
+                )?;
+                Ok(edges)
+            }
         }
     }
 }

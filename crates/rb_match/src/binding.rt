@@ -1,23 +1,32 @@
 //! Code that binds a pattern's variables.
 
-ghost use Rattle.std.specs.Prelude.{◌≡◌, IfOk, IfSome, OnOk, true};
+ghost use Rattle.std.specs.Prelude.{◌≡◌, ◌∷◌, [], IfOk, IfSome, OnOk, true, false};
 ghost use Rattle.rb_core.specs.declared.types.Ty.TheVariants.{Named};
 ghost use Rattle.rb_target.specs.Growth.{Grows};
 ghost use Rattle.rb_fetch.specs.Finding.{leaf_count};
 ghost use Rattle.rb_match.specs.Choosing.{BindsPattern};
 ghost use Rattle.rb_match.specs.inner.Asking.{leaf_con};
-ghost use Rattle.rb_match.specs.inner.Places.{IsFieldOf};
-ghost use Rattle.rb_match.specs.inner.Binding.{may_be, IsOnly, IsOnlyLeaf, BindsAt, BindsFields, BindsField};
+ghost use Rattle.rb_match.specs.inner.Binding.{may_be, IsOnly, IsOnlyLeaf, BindsAt, BindsDeep, BindsFields, BindsField, BindsSpot, BindsSpots, SavesTogether};
+ghost use Rattle.rb_match.specs.Bounding.{is_plain};
+ghost use Rattle.rb_match.specs.inner.Knowing.{FollowsSaved};
+ghost use Rattle.rb_match.specs.inner.Saving.{IsSpotAt};
 
-use crate::asking::con_of;
-use crate::place::{field_of, fields_of};
+use crate::asking::{con_of, count_leaves};
+use crate::deep::ask_deep;
+use crate::engine::land;
+use crate::knowledge::{Known, Spot, node_known, saved_known};
+use crate::place::fields_of;
+use crate::saving::{fetch_part, spot_at};
+use crate::spots::{Wanted, field_below, give_spots, is_deep};
 use rb_core::pattern::Pat;
 use rb_core::seq::Seq;
 use rb_core::types::{ConRef, Ty};
 use rb_decide::clause_matrix::number_of;
-use rb_fetch::field::fetch_field;
+use rb_decide::decision_graph::GraphArm;
 use rb_fragment::held::Local;
+use rb_fragment::reads::slot_reads;
 use rb_layout::agreed::Agreed;
+use rb_matrix::matrix::Head;
 use rb_target::body::Body;
 use std::alloc::{AllocError, Global};
 
@@ -28,15 +37,6 @@ fn may_begin(agreed: &Agreed, ty: u32, leaf: usize, con: u32) -> bool
     match con_of(agreed, ty, leaf) {
         None => true,
         Some(found) => found == con,
-    }
-}
-
-fn count_leaves(agreed: &Agreed, ty: u32) -> usize
-    ensures { result ≡ leaf_count agreed.now ty }
-{
-    match agreed.layouts().get(ty as usize) {
-        None => 0,
-        Some(layout) => layout.leaves.len(),
     }
 }
 
@@ -108,13 +108,20 @@ fn bind_at(
         }
         Pat::Con(_, con, subs) => {
             let types = agreed.covered().program().types.as_slice();
-            let Some(leaf) = leaf_for(agreed, ty, *con) else {
-                return Err(AllocError);
-            };
+            let _flat = agreed.layouts();
             let fields = fields_of(types, *con);
             let subs = subs.as_slice();
-            let bound = bind_fields(alloc, body, agreed, con.ty, leaf, words, subs, fields, 0)?;
-            Ok(bound)
+            match leaf_for(agreed, ty, *con) {
+                Some(leaf) => {
+                    let t = con.ty;
+                    let bound = bind_fields(alloc, body, agreed, t, leaf, words, subs, fields, 0)?;
+                    Ok(bound)
+                }
+                None => {
+                    let bound = bind_deep(alloc, body, agreed, ty, *con, words, subs, fields)?;
+                    Ok(bound)
+                }
+            }
         }
     }
 }
@@ -135,14 +142,159 @@ fn leaf_for(agreed: &Agreed, ty: Ty, con: ConRef) -> Option<usize>
     }
 }
 
-// Whether the leaf leaves a field open, at which this type is.
-fn is_field(agreed: &Agreed, ty: u32, leaf: usize, path: &[u32], field: Ty) -> bool
-    ensures { result ≡ true → IsFieldOf agreed.now ty leaf path.now field }
+// Whether a type is a data type of which some leaf takes a subvalue apart.
+fn is_deep_at(agreed: &Agreed, ty: Ty, number: u32) -> bool
+    ensures { result ≡ true → (ty ≡ Named number) × (is_plain agreed.now.layouts number ≡ false) }
 {
-    match field_of(agreed, ty, leaf, path) {
-        None => false,
-        Some(found) => found == field,
+    match ty {
+        Ty::Int(_) => false,
+        Ty::Named(found) => found == number && is_deep(agreed, number),
     }
+}
+
+// The fields that some patterns bind.
+fn bound_fields(alloc: Global, subs: &[Pat], fields: &[Ty]) -> Result<Seq<Wanted>, AllocError> {
+    let mut wanted = Seq::new(alloc);
+    for (i, field) in fields.iter().enumerate() {
+        match subs.get(i) {
+            None | Some(Pat::Wild(_)) | Some(Pat::Num(_, _)) => {}
+            Some(Pat::Var(_, _)) | Some(Pat::Con(_, _, _)) => {
+                let position = field_below(alloc, &[], number_of(i)?)?;
+                wanted.push(Wanted {
+                    position,
+                    ty: *field,
+                })?;
+            }
+        }
+    }
+    Ok(wanted)
+}
+
+// Code that saves fields in spots, where the value begins with a constructor that has several leaves, whose
+// ways meet. The answer is what is known then.
+fn save_together(
+    alloc: Global,
+    body: &mut Body,
+    agreed: &Agreed,
+    con: ConRef,
+    words: &[usize],
+    spots: &[Spot],
+) -> Result<Seq<Known<'static>>, AllocError>
+    ensures saves { IfOk result (λ known. SavesTogether agreed.now con words.now spots.now known body.old body.new) }
+    ensures grows { OnOk result (Grows body.old.code body.new.code) }
+{
+    let reads = slot_reads(alloc, words)?;
+    let arms = [GraphArm {
+        head: Head::Con(con),
+        under: 0,
+    }];
+    let ty = con.ty;
+    let reads = reads.as_slice();
+    let edges = ask_deep(alloc, body, agreed, ty, reads, spots, &[], &[], &arms, None)?;
+    let Some(known) = node_known(alloc, edges.as_slice(), 0)? else {
+        return Err(AllocError);
+    };
+    let _rest = land(alloc, body, edges, 0)?;
+    Ok(known)
+}
+
+// The spot of a field that is known to be saved.
+fn saved_spot(spots: &[Spot], known: &[Known], field: u32, ty: Ty) -> Option<usize>
+    ensures { IfSome result (λ k. IsSpotAt spots.now (field ∷ []) ty k × FollowsSaved known.now k) }
+{
+    let path = [field];
+    let k = spot_at(spots, &path, ty)?;
+    if saved_known(known, k) {
+        return Some(k);
+    }
+    None
+}
+
+// What the pattern of one saved field binds.
+#[cycle(binding)]
+fn bind_spot(
+    alloc: Global,
+    body: &mut Body,
+    agreed: &Agreed,
+    spots: &[Spot],
+    known: &[Known],
+    sub: &Pat,
+    field: Ty,
+    i: u32,
+) -> Result<Seq<Local>, AllocError>
+    ensures binds { IfOk result (λ bound. BindsSpot agreed.now spots.now known.now sub.now field i body.old body.new bound) }
+    ensures grows { OnOk result (Grows body.old.code body.new.code) }
+{
+    match sub {
+        Pat::Wild(_) => Ok(Seq::new(alloc)),
+        Pat::Num(_, _) => Ok(Seq::new(alloc)),
+        Pat::Var(_, _) | Pat::Con(_, _, _) => {
+            let Some(k) = saved_spot(spots, known, i, field) else {
+                return Err(AllocError);
+            };
+            let slots = spots[k].slots.as_slice();
+            let bound = bind_at(alloc, body, agreed, field, slots, sub)?;
+            Ok(bound)
+        }
+    }
+}
+
+// What the patterns of saved fields bind, from field i on.
+#[cycle(binding)]
+fn bind_spots(
+    alloc: Global,
+    body: &mut Body,
+    agreed: &Agreed,
+    spots: &[Spot],
+    known: &[Known],
+    subs: &[Pat],
+    fields: &[Ty],
+    i: usize,
+) -> Result<Seq<Local>, AllocError>
+    ensures binds { IfOk result (λ bound. BindsSpots agreed.now spots.now known.now subs.now fields.now i body.old body.new bound) }
+    ensures grows { OnOk result (Grows body.old.code body.new.code) }
+{
+    let [sub, subs @ ..] = subs else {
+        return Ok(Seq::new(alloc));
+    };
+    let [field, fields @ ..] = fields else {
+        return Err(AllocError);
+    };
+    let number = number_of(i)?;
+    let mut bound = bind_spot(alloc, body, agreed, spots, known, sub, *field, number)?;
+    let more = bind_spots(alloc, body, agreed, spots, known, subs, fields, i + 1)?;
+    match bound.append(more) {
+        None => Ok(bound),
+        Some(_) => Err(AllocError),
+    }
+}
+
+// What a constructor with several leaves binds: the ways of its leaves save its fields and meet. Where no leaf
+// takes a subvalue apart each constructor has one leaf, so that this is never met.
+#[cycle(binding)]
+fn bind_deep(
+    alloc: Global,
+    body: &mut Body,
+    agreed: &Agreed,
+    ty: Ty,
+    con: ConRef,
+    words: &[usize],
+    subs: &[Pat],
+    fields: &[Ty],
+) -> Result<Seq<Local>, AllocError>
+    ensures binds { IfOk result (λ bound. BindsDeep agreed.now ty con words.now subs.now fields.now body.old body.new bound) }
+    ensures grows { OnOk result (Grows body.old.code body.new.code) }
+{
+    if !is_deep_at(agreed, ty, con.ty) {
+        return Err(AllocError);
+    }
+    let wanted = bound_fields(alloc, subs, fields)?;
+    let spots = give_spots(alloc, body, agreed, wanted.as_slice())?;
+    let spots = spots.as_slice();
+    let known = save_together(alloc, body, agreed, con, words, spots)?;
+    let known = known.as_slice();
+    let bound = bind_spots(alloc, body, agreed, spots, known, subs, fields, 0)?;
+    Ok(bound)
 }
 
 // What the patterns of a value's fields bind, from field i on.
@@ -176,8 +328,7 @@ fn bind_fields(
     }
 }
 
-// What the pattern of one field binds. A field that the leaf takes apart is never met where layouts
-// are plain.
+// What the pattern of one field binds. A field that the leaf takes apart is rebuilt.
 #[cycle(binding)]
 fn bind_field(
     alloc: Global,
@@ -197,11 +348,7 @@ fn bind_field(
         Pat::Wild(_) => Ok(Seq::new(alloc)),
         Pat::Num(_, _) => Ok(Seq::new(alloc)),
         Pat::Var(_, _) | Pat::Con(_, _, _) => {
-            let path = [i];
-            if !is_field(agreed, ty, leaf, &path, field) {
-                return Err(AllocError);
-            }
-            let slots = fetch_field(alloc, body, words, agreed, ty, leaf, &path)?;
+            let slots = fetch_part(alloc, body, agreed, ty, leaf, words, i, field)?;
             let bound = bind_at(alloc, body, agreed, field, slots.as_slice(), sub)?;
             Ok(bound)
         }

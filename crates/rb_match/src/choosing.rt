@@ -5,14 +5,16 @@ ghost use Rattle.rb_target.specs.Growth.{Grows};
 ghost use Rattle.rb_fragment.specs.Arms.{AreHoles, AreOfOneWay};
 ghost use Rattle.rb_fragment.specs.declared.reads.Read.{Slot};
 ghost use Rattle.rb_match.specs.Choosing.{Chooses};
-ghost use Rattle.rb_match.specs.inner.Trees.{TakesTree};
+ghost use Rattle.rb_match.specs.inner.Trees.{TakesShared, TakesTree};
 
 use crate::clauses::emit_clauses;
 use crate::engine::emit_graph;
+use crate::spots::{give_spots, parts_to_save};
 use rb_core::pattern::Pat;
 use rb_core::seq::Seq;
 use rb_core::types::Ty;
 use rb_decide::decide::tree;
+use rb_decide::decision_graph::Graph;
 use rb_decide::decision_tree::{Tree, Tried};
 use rb_decide::subtrees::share;
 use rb_fragment::reads::Read;
@@ -29,6 +31,34 @@ fn slot_reads(alloc: Global, words: &[usize]) -> Result<Seq<Read>, AllocError>
         reads.push(Read::Slot(*word))?;
     }
     Ok(reads)
+}
+
+/// Code of a decision graph, each node once. The parts that its tests need saved have slots of their own.
+///
+/// # Errors
+/// `AllocError` where memory is wanting.
+pub fn emit_shared(
+    alloc: Global,
+    body: &mut Body,
+    agreed: &Agreed,
+    ty: Ty,
+    words: &[Read],
+    pats: &[Pat],
+    graph: &Graph,
+) -> Result<Seq<Hole>, AllocError>
+    ensures holes { IfOk result (λ holes. AreHoles (length body.old.code) (length pats.now) body.new.code holes) }
+    ensures ways { IfOk result (λ holes. AreOfOneWay holes) }
+    ensures takes { IfOk result (λ holes. TakesShared agreed.now ty words.now pats.now graph.now body.old body.new holes) }
+    ensures grows { OnOk result (Grows body.old.code body.new.code) }
+{
+    let nodes = graph.nodes.as_slice();
+    let parts = parts_to_save(alloc, agreed, pats)?;
+    let spots = give_spots(alloc, body, agreed, parts.as_slice())?;
+    let spots = spots.as_slice();
+    let holes = emit_graph(
+        alloc, body, agreed, ty, words, pats, spots, nodes, graph.root,
+    )?;
+    Ok(holes)
 }
 
 /// Code of a decision tree, equal parts of it once.
@@ -50,8 +80,7 @@ pub fn emit_tree(
     ensures grows { OnOk result (Grows body.old.code body.new.code) }
 {
     let graph = share(alloc, tree)?;
-    let nodes = graph.nodes.as_slice();
-    let holes = emit_graph(alloc, body, agreed, ty, words, pats, nodes, graph.root)?;
+    let holes = emit_shared(alloc, body, agreed, ty, words, pats, &graph)?;
     Ok(holes)
 }
 

@@ -6,21 +6,16 @@ ghost use Rattle.rb_target.specs.Growth.{Grows};
 ghost use Rattle.rb_fragment.specs.Arms.{AreHoles, AreOfOneWay};
 ghost use Rattle.rb_match.specs.inner.Clauses.{way_holes, TakesAlone, TriesClause, TriesAll};
 
-use crate::choosing::emit_tree;
+use crate::choosing::emit_shared;
 use rb_core::pattern::Pat;
 use rb_core::seq::Seq;
 use rb_core::types::Ty;
-use rb_decide::decide::tree_up_to;
-use rb_decide::decision_tree::Tried;
+use rb_decide::one_pattern::pattern_graph;
 use rb_fragment::patch::patch_all;
 use rb_fragment::reads::Read;
 use rb_layout::agreed::Agreed;
 use rb_target::body::{Body, Hole};
 use std::alloc::{AllocError, Global};
-
-// The greatest number of nodes of one clause's tree. Trees are made by recursion, a level for each number or
-// constructor of the pattern, so that a larger one is answered as if memory were wanting.
-const LARGEST_CLAUSE: usize = 4096;
 
 // A clause's pattern, and one for all other values.
 fn alone(alloc: Global, pat: &Pat) -> Result<Seq<Pat>, AllocError>
@@ -32,7 +27,7 @@ fn alone(alloc: Global, pat: &Pat) -> Result<Seq<Pat>, AllocError>
     Ok(pats)
 }
 
-// Code of one clause alone, which has as many tests as its pattern has numbers and constructors.
+// Code of one clause alone: a test for each number and constructor of its pattern, in their order.
 fn emit_alone(
     alloc: Global,
     body: &mut Body,
@@ -48,17 +43,19 @@ fn emit_alone(
 {
     let types = agreed.covered().program().types.as_slice();
     let pats = alone(alloc, pat)?;
-    match tree_up_to(alloc, types, ty, pats.as_slice(), LARGEST_CLAUSE)? {
-        Tried::Built(tree) => {
-            let holes = emit_tree(alloc, body, agreed, ty, words, pats.as_slice(), &tree)?;
-            Ok(holes)
-        }
-        Tried::Over => Err(AllocError),
-    }
+    let graph = pattern_graph(alloc, types, ty, pat)?;
+    let pats = pats.as_slice();
+    let holes = emit_shared(alloc, body, agreed, ty, words, pats, &graph)?;
+    Ok(holes)
 }
 
-// The holes of a way, by another name.
-fn holes_of(alloc: Global, holes: &[Hole], way: usize, name: usize) -> Result<Seq<Hole>, AllocError>
+/// The holes of a way, by another name.
+pub fn holes_of(
+    alloc: Global,
+    holes: &[Hole],
+    way: usize,
+    name: usize,
+) -> Result<Seq<Hole>, AllocError>
     ensures { IfOk result (λ found. found ≡ way_holes way name holes.now) }
 {
     let mut found = Seq::new(alloc);

@@ -7,7 +7,7 @@ ghost use Rattle.rb_match.specs.inner.Asking.{AreOpen};
 ghost use Rattle.rb_match.specs.inner.Flowing.{landing_of, others_of, StepsNode, Begins, IsClauseHole, AreClauseHoles, TakesGraph};
 
 use crate::asking::{ask, edge};
-use crate::knowledge::{Edge, node_known};
+use crate::knowledge::{Edge, Spot, node_known};
 use rb_core::pattern::Pat;
 use rb_core::seq::Seq;
 use rb_core::types::Ty;
@@ -45,8 +45,8 @@ fn others<'a>(edges: Seq<Edge<'a>>, node: usize) -> Seq<Edge<'a>>
     Seq::from_vec(rest)
 }
 
-// Sets the targets of a node's edges to the end of the code.
-fn land<'a>(
+/// Sets the targets of a node's edges to the end of the code.
+pub fn land<'a>(
     alloc: Global,
     body: &mut Body,
     edges: Seq<Edge<'a>>,
@@ -71,13 +71,14 @@ fn emit_node<'a>(
     ty: Ty,
     words: &[Read],
     pats: &[Pat],
+    spots: &[Spot],
     nodes: &[GraphNode],
     node: &'a GraphNode,
     number: usize,
     edges: Seq<Edge<'a>>,
 ) -> Result<Seq<Edge<'a>>, AllocError>
     requires { AreOpen 0 body.old.code edges }
-    ensures { IfOk result (λ more. StepsNode agreed.now ty words.now pats.now node.now number body.old edges.entry body.new more) }
+    ensures { IfOk result (λ more. StepsNode agreed.now ty words.now pats.now spots.now node.now number body.old edges.entry body.new more) }
 {
     match node {
         GraphNode::Clause(_) => Ok(edges),
@@ -90,7 +91,7 @@ fn emit_node<'a>(
             let arms = arms.as_slice();
             let mut rest = land(alloc, body, edges, number)?;
             let asked = ask(
-                alloc, body, agreed, ty, words, pats, nodes, known, position, arms, *other,
+                alloc, body, agreed, ty, words, pats, spots, nodes, known, position, arms, *other,
             )?;
             match rest.append(asked) {
                 None => Ok(rest),
@@ -108,10 +109,11 @@ fn begin<'a>(
     ty: Ty,
     words: &[Read],
     pats: &[Pat],
+    spots: &[Spot],
     nodes: &'a [GraphNode],
     root: u32,
 ) -> Result<Seq<Edge<'a>>, AllocError>
-    ensures { IfOk result (λ edges. Begins agreed.now ty words.now pats.now nodes.now root body.old body.new edges) }
+    ensures { IfOk result (λ edges. Begins agreed.now ty words.now pats.now spots.now nodes.now root body.old body.new edges) }
 {
     let Some(node) = nodes.get(root as usize) else {
         return Err(AllocError);
@@ -127,6 +129,7 @@ fn begin<'a>(
                 ty,
                 words,
                 pats,
+                spots,
                 nodes,
                 &[],
                 position,
@@ -191,21 +194,22 @@ pub fn emit_graph(
     ty: Ty,
     words: &[Read],
     pats: &[Pat],
+    spots: &[Spot],
     nodes: &[GraphNode],
     root: u32,
 ) -> Result<Seq<Hole>, AllocError>
     ensures holes { IfOk result (λ holes. AreHoles (length body.old.code) (length pats.now) body.new.code holes) }
     ensures ways { IfOk result (λ holes. AreOfOneWay holes) }
-    ensures takes { IfOk result (λ holes. TakesGraph agreed.now ty words.now pats.now nodes.now root body.old body.new holes) }
+    ensures takes { IfOk result (λ holes. TakesGraph agreed.now ty words.now pats.now spots.now nodes.now root body.old body.new holes) }
     ensures grows { OnOk result (Grows body.old.code body.new.code) }
 {
-    let mut edges = begin(alloc, body, agreed, ty, words, pats, nodes, root)?;
+    let mut edges = begin(alloc, body, agreed, ty, words, pats, spots, nodes, root)?;
     let count = nodes.len();
     for i in 0..count {
         let number = count - 1 - i;
         let node = &nodes[number];
         edges = emit_node(
-            alloc, body, agreed, ty, words, pats, nodes, node, number, edges,
+            alloc, body, agreed, ty, words, pats, spots, nodes, node, number, edges,
         )?;
     }
     let holes = clause_holes(alloc, nodes, edges.as_slice(), pats.len())?;

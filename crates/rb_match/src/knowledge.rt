@@ -1,19 +1,37 @@
 //! What is known of a value on its way through a graph, and the ways out of code that lead on.
 
 ghost use Rattle.std.specs.Prelude.{◌≡◌, ◌∷◌, ◌++◌, [], IfOk, IfSome, true};
-ghost use Rattle.rb_match.specs.inner.Knowing.{FollowsLeaf, IsMet, IsCommon, IsShared, SharesKnown};
+ghost use Rattle.rb_match.specs.declared.knowledge.Known.TheVariants.{Leaf, Saved};
+ghost use Rattle.rb_match.specs.inner.Knowing.{FollowsLeaf, FollowsSaved, IsMet, IsCommon, IsShared, SharesKnown};
 
 use rb_core::seq::Seq;
+use rb_core::types::Ty;
 use rb_target::body::Hole;
 use std::alloc::{AllocError, Global};
 
-/// The part of a value at a position is of a data type, and this is its leaf. The position is that of the
-/// test that found the leaf, so a list of facts is copied as one piece.
+/// Slots for the part of a value at a position, a word each, and the part's type. All code that saves
+/// the part saves it here.
+#[derive(Debug, Drop)]
+pub struct Spot {
+    pub position: Seq<u32>,
+    pub ty: Ty,
+    pub slots: Seq<usize>,
+}
+
+/// A fact on a value. A position is that of the test that found a leaf, so a list of facts is copied as
+/// one piece.
 #[derive(Debug, Clone, Copy)]
-pub struct Known<'a> {
-    pub position: &'a [u32],
-    pub ty: u32,
-    pub leaf: usize,
+pub enum Known<'a> {
+    /// The part of the value at a position is of a data type, and this is its leaf.
+    Leaf {
+        position: &'a [u32],
+        ty: u32,
+        leaf: usize,
+    },
+    /// The slots of the spot with this number hold the part at its position.
+    Saved {
+        spot: usize,
+    },
 }
 
 /// A way out of emitted code, whose `leaf` is the number of the node to which it leads, with what is
@@ -40,14 +58,15 @@ pub fn with_known<'a>(
     ty: u32,
     leaf: usize,
 ) -> Result<Seq<Known<'a>>, AllocError>
-    ensures { IfOk result (λ more. more ≡ known.now ++ record { position = position.entry; ty = ty; leaf = leaf } ∷ []) }
+    ensures { IfOk result (λ more. more ≡ known.now ++ Leaf position.entry ty leaf ∷ []) }
 {
     let mut more = copy_known(alloc, known)?;
-    more.push(Known { position, ty, leaf })?;
+    more.push(Known::Leaf { position, ty, leaf })?;
     Ok(more)
 }
 
-fn same_position(a: &[u32], b: &[u32]) -> bool
+/// Whether two positions are the same.
+pub fn same_position(a: &[u32], b: &[u32]) -> bool
     ensures { result ≡ true → a.now ≡ b.now }
 {
     a == b
@@ -57,11 +76,20 @@ fn same_position(a: &[u32], b: &[u32]) -> bool
 fn leaf_at(known: &[Known], place: usize, ty: u32, position: &[u32]) -> Option<usize>
     ensures { IfSome result (λ leaf. FollowsLeaf known.now ty position.now leaf) }
 {
-    let fact = known.get(place)?;
-    if fact.ty == ty && same_position(fact.position, position) {
-        return Some(fact.leaf);
+    let fact = *known.get(place)?;
+    match fact {
+        Known::Saved { .. } => None,
+        Known::Leaf {
+            position: found,
+            ty: of,
+            leaf,
+        } => {
+            if of == ty && same_position(found, position) {
+                return Some(leaf);
+            }
+            None
+        }
     }
-    None
 }
 
 /// The leaf of the part of a data type at a position, where it is known.
@@ -76,7 +104,52 @@ pub fn leaf_known(known: &[Known], ty: u32, position: &[u32]) -> Option<usize>
     None
 }
 
-// A fact of a list, where another has it, too: at this place, or anywhere.
+/// Whether a spot is known to hold its part.
+pub fn saved_known(known: &[Known], spot: usize) -> bool
+    ensures { result ≡ true → FollowsSaved known.now spot }
+{
+    for i in 0..known.len() {
+        if saved_at(known, i, spot) {
+            return true;
+        }
+    }
+    false
+}
+
+// The same of one fact of a list.
+fn saved_at(known: &[Known], place: usize, spot: usize) -> bool
+    ensures { result ≡ true → FollowsSaved known.now spot }
+{
+    let Some(fact) = known.get(place) else {
+        return false;
+    };
+    match *fact {
+        Known::Leaf { .. } => false,
+        Known::Saved { spot: found } => found == spot,
+    }
+}
+
+// Whether this leaf is known.
+fn is_leaf_known(known: &[Known], position: &[u32], ty: u32, leaf: usize) -> bool
+    ensures { result ≡ true → FollowsLeaf known.now ty position.now leaf }
+{
+    match leaf_known(known, ty, position) {
+        None => false,
+        Some(found) => found == leaf,
+    }
+}
+
+// Whether a list has a fact on a leaf: at this place, or anywhere.
+fn shared_leaf(other: &[Known], place: usize, position: &[u32], ty: u32, leaf: usize) -> bool
+    ensures { result ≡ true → FollowsLeaf other.now ty position.now leaf }
+{
+    match leaf_at(other, place, ty, position) {
+        None => is_leaf_known(other, position, ty, leaf),
+        Some(found) => found == leaf,
+    }
+}
+
+// A fact of a list, where another has it, too.
 fn shared_fact<'a>(
     known: &[Known<'a>],
     i: usize,
@@ -85,13 +158,13 @@ fn shared_fact<'a>(
 ) -> Option<Known<'a>>
     ensures { IfSome result (λ fact. IsShared known.now other.now fact) }
 {
-    let fact = known.get(i)?;
-    let found = match leaf_at(other, place, fact.ty, fact.position) {
-        None => leaf_known(other, fact.ty, fact.position)?,
-        Some(leaf) => leaf,
+    let fact = *known.get(i)?;
+    let both = match fact {
+        Known::Leaf { position, ty, leaf } => shared_leaf(other, place, position, ty, leaf),
+        Known::Saved { spot } => saved_known(other, spot),
     };
-    if found == fact.leaf {
-        return Some(*fact);
+    if both {
+        return Some(fact);
     }
     None
 }

@@ -23,17 +23,47 @@
 //! takes, what the edge knows is so, and the switches so far are those of looks at distinct places, at
 //! which some clause has a number or a constructor. So a match costs at most the sum of its places.
 //!
+//! # Saved places
+//!
+//! A leaf may take a field apart, and two leaves may do so in two ways. Let the pair stand in two bits as
+//!
+//! ```text
+//! split 0[0:1] {
+//!     0 => P(A, _) : { word 2 { [0:1] = 0, [1:1] .1 } }
+//!     1 => P(B, _) : { word 2 { [0:1] = 1, [1:1] .1 } }
+//! }
+//! ```
+//!
+//! No bits hold the first field here: the leaf says which constructor it is, and it is rebuilt as a K where
+//! it is wanted. And a node behind both leaves can't read the second field from either alone. So a look at
+//! a part of such a type *saves* what later tests need ([`deep`]). Before the first node each field at which
+//! some pattern looks is given a *spot*: slots of its own, the same ones whichever leaf it comes from
+//! ([`spots`]). The look finds the leaf; on the way of leaf 0 the field `.0`, which is A there, is rebuilt and copied into
+//! its spot, `.1` is taken and copied into the other one, and an open jump leads on ([`saving`]). Its edge
+//! knows two facts more: that these spots hold their parts. Where the edges of both leaves meet, both facts
+//! are known, since the spots are the same; so [`place::place_of`] begins at the nearest saved part at or
+//! above a position, and reads fields from there downward.
+//!
+//! A look at such a type costs the switches that find its leaf and those that rebuild, which is half of what
+//! the bound allows a match at such a place. The other half is left to binding, which looks again where a
+//! pattern's constructor has several leaves. Where no leaf takes a field apart there are no spots, no jumps
+//! and no rebuilding, and binding takes no switch.
+//!
 //! Where the tree has more than 512 nodes, clauses are tried one by one ([`clauses`]), each by the same
 //! code for the two patterns `p` and `_`; what it doesn't match goes on at the next clause.
 //!
-//! [`binding::bind`] needs no switch: a pattern's own constructors say the leaves, and each field that
-//! holds a variable is fetched on the way to it.
+//! [`binding::bind`] follows the pattern: where its constructor has one leaf, each field that holds a
+//! variable is fetched on the way to it.
 #![tactic(auto)]
 
 pub mod asking;
 pub mod binding;
 pub mod choosing;
 pub mod clauses;
+pub mod deep;
 pub mod engine;
 pub mod knowledge;
+pub mod laws;
 pub mod place;
+pub mod saving;
+pub mod spots;

@@ -2,14 +2,14 @@
 
 ghost use Rattle.std.specs.Prelude.{◌≡◌, IfOk, IfSome, true};
 ghost use Rattle.rb_core.specs.Typing.{field_types};
-ghost use Rattle.rb_match.specs.inner.Places.{FindsPlace, IsFieldOf, StepsPlace, IsLookedAt, HasPlace};
+ghost use Rattle.rb_match.specs.inner.Places.{BeginsPlace, FindsPlace, IsFieldOf, IsSpotOf, StepsPlace, IsLookedAt, HasPlace};
 
-use crate::knowledge::{Known, leaf_known};
+use crate::knowledge::{Known, Spot, leaf_known, same_position, saved_known};
 use rb_core::pattern::Pat;
 use rb_core::seq::Seq;
 use rb_core::types::{ConRef, DataDecl, Ty};
 use rb_fetch::field::field_reads;
-use rb_fragment::reads::Read;
+use rb_fragment::reads::{Read, slot_reads};
 use rb_layout::agreed::Agreed;
 use rb_layout::positions::type_at;
 use std::alloc::{AllocError, Global};
@@ -19,6 +19,13 @@ use std::alloc::{AllocError, Global};
 pub struct Place {
     pub ty: Ty,
     pub reads: Seq<Read>,
+}
+
+// The place at so many first fields of a position.
+#[derive(Debug, Drop)]
+pub struct Begun {
+    pub place: Place,
+    pub from: usize,
 }
 
 /// The type at an open position of a leaf.
@@ -42,8 +49,8 @@ fn copy_reads(alloc: Global, reads: &[Read]) -> Result<Seq<Read>, AllocError>
     Ok(copies)
 }
 
-// From a part to its field. That a part has no known leaf, or that its leaf takes the field apart, is
-// never met where layouts are plain.
+// From a part to its field. Each part above a test has a known leaf, and what a leaf takes apart is saved,
+// so that neither is ever met.
 fn step_place(
     alloc: Global,
     agreed: &Agreed,
@@ -68,22 +75,69 @@ fn step_place(
     Ok(Place { ty, reads })
 }
 
-/// Where the part at a position is, of a value of a type with these words.
+// The slots of a spot at a position that is known to hold its part.
+fn saved_place(
+    alloc: Global,
+    agreed: &Agreed,
+    spots: &[Spot],
+    known: &[Known],
+    position: &[u32],
+) -> Result<Option<Place>, AllocError>
+    ensures { IfOk result (λ found. IfSome found (λ place. IsSpotOf agreed.now spots.now known.now position.now place)) }
+{
+    for (k, spot) in spots.iter().enumerate() {
+        if same_position(spot.position.as_slice(), position) {
+            if saved_known(known, k) {
+                let reads = slot_reads(alloc, spot.slots.as_slice())?;
+                return Ok(Some(Place { ty: spot.ty, reads }));
+            }
+        }
+    }
+    Ok(None)
+}
+
+// The nearest part at or above a position that is saved, or else the whole value.
+fn begin_place(
+    alloc: Global,
+    agreed: &Agreed,
+    ty: Ty,
+    words: &[Read],
+    spots: &[Spot],
+    known: &[Known],
+    position: &[u32],
+) -> Result<Begun, AllocError>
+    ensures { IfOk result (λ begun. BeginsPlace agreed.now ty words.now spots.now known.now position.now begun) }
+{
+    let count = position.len();
+    for i in 0..count {
+        let from = count - i;
+        if let Some(place) = saved_place(alloc, agreed, spots, known, &position[..from])? {
+            return Ok(Begun { place, from });
+        }
+    }
+    let reads = copy_reads(alloc, words)?;
+    Ok(Begun {
+        place: Place { ty, reads },
+        from: 0,
+    })
+}
+
+/// Where the part at a position is, of a value of a type with these words, some of whose parts are saved.
 pub fn place_of(
     alloc: Global,
     agreed: &Agreed,
     ty: Ty,
     words: &[Read],
+    spots: &[Spot],
     known: &[Known],
     position: &[u32],
 ) -> Result<Place, AllocError>
-    ensures { IfOk result (λ place. FindsPlace agreed.now ty words.now known.now position.now place) }
+    ensures { IfOk result (λ place. FindsPlace agreed.now ty words.now spots.now known.now position.now place) }
 {
-    let mut place = Place {
-        ty,
-        reads: copy_reads(alloc, words)?,
-    };
-    for i in 0..position.len() {
+    let begun = begin_place(alloc, agreed, ty, words, spots, known, position)?;
+    let from = begun.from;
+    let mut place = begun.place;
+    for i in from..position.len() {
         place = step_place(alloc, agreed, &place, known, &position[..i], position[i])?;
     }
     Ok(place)

@@ -23,7 +23,9 @@ use Rattle.rb_fragment.specs.Arms.{AreShared, Arm, ArmsIn}
 use Rattle.rb_fragment.specs.Holding.{AreGiven, Holds, scope_of}
 use Rattle.rb_fragment.specs.Plan.{Plan, Rep, words_of}
 use Rattle.rb_fragment.specs.Slots.{AllBelow}
-use Rattle.rb_compile.specs.inner.Ready.{IsAccepted, SitesAreReady}
+use Rattle.rb_fetch.specs.Fetching.{IsSound}
+use Rattle.rb_match.specs.Bounding.{binding_bound}
+use Rattle.rb_compile.specs.inner.Ready.{SitesAreReady}
 
 -- slots below n that hold a value of type s
 abbrev pub IsSubject : Plan → ℕ → Held → Ty → Type 0
@@ -57,7 +59,7 @@ clause_scope plan c ls s = scope_of ls ++ binders plan.program.types c.pat s
 -- a clause of a match of function f, whose scrutinee is of type s
 pub record ClauseIsReady (plan : Plan) (f : ℕ) (c : Clause) (wanted : Option Ty) (ls : List Local)
     (s t : Ty) : Type 0 where
-  pub accepted : IsAccepted plan
+  pub sound : IsSound plan
   pub typed : type_of plan.program.types plan.program.funs c.body wanted (clause_scope plan c ls s) ≡ Ok t
   pub pattern : PatternIsTyped plan.program.types s c.pat
   pub within : List ℕ
@@ -75,12 +77,14 @@ pub record GroundIsReady (plan : Plan) (ls : List Local) (held : Held) (s : Ty) 
   pub given : AreGiven plan n ls
   pub low : n ≤ m
 
--- the code from a to d is an arm, which does clause c on each value that its pattern matches
+-- the code from a to d is an arm, which does clause c on each value that its pattern matches, and takes no more
+-- switches of its own than those that bind the pattern's variables
 pub record DoesClause (plan : Plan) (f : ℕ) (c : Clause) (wanted : Option Ty) (ls : List Local) (s t : Ty)
     (xs : List ℕ) (n : ℕ) (into : List ℕ) (a d : Sheet) (join : ℕ) : Type 0 where
   pub adds : Adds plan a d
   pub does : (calls : Calls) (clean : Bool) (env : List Binding) (v : Value) → matches_of c.pat v ≡ true
-      → Arm plan clean calls n a d join (λ sl m. Rep plan m clean s v (slots_at sl xs) × Holds plan clean sl m ls env)
+      → Arm plan clean calls n a d join (binding_bound plan.program.types plan.layouts s c.pat)
+      (λ sl m. Rep plan m clean s v (slots_at sl xs) × Holds plan clean sl m ls env)
       (λ left. meaning_of plan.program calls f c.body wanted (clause_scope plan c ls s) left (env ++ bindings c.pat v))
       t into
 

@@ -11,7 +11,6 @@ use Rattle.rb_fragment.specs.declared.held.Local.{Local}
 use Rattle.rb_fragment.specs.Plan.{Plan}
 use Rattle.rb_fragment.specs.Holding.{AreGiven, scope_of}
 use Rattle.rb_fetch.specs.Fetching.{IsSound}
-use Rattle.rb_fetch.specs.Plain.{ArePlain}
 use Rattle.rb_match.specs.Bounding.{bound_of}
 
 -- a match of function f is exhaustive, and the plan pays for its switches
@@ -26,16 +25,11 @@ IsAmong s (x ∷ xs) = (x ≡ s) ⊎ IsAmong s xs
 abbrev pub SitesAreReady : Plan → ℕ → List Site → Type 0
 SitesAreReady plan f ss = (s : Site) → IsAmong s ss → SiteIsReady plan f s
 
--- a typed program, whose layouts agree and are plain
-pub record IsAccepted (plan : Plan) : Type 0 where
-  pub sound : IsSound plan
-  pub plain : ArePlain plan.layouts
-
 -- An expression of function f has a type where this one is wanted, its numbers name something, its matches
 -- are ready, and its variables have slots below n.
 pub record IsReady (plan : Plan) (f : ℕ) (e : Expr) (wanted : Option Ty) (locals : List Local) (n : ℕ)
     (t : Ty) : Type 0 where
-  pub accepted : IsAccepted plan
+  pub sound : IsSound plan
   pub typed : type_of plan.program.types plan.program.funs e wanted (scope_of locals) ≡ Ok t
   pub within : List ℕ
   pub numbered : expression_is_numbered plan.program.types plan.program.funs e within ≡ true

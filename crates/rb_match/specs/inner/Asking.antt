@@ -29,17 +29,20 @@ use Rattle.rb_layout.specs.declared.agreed.LaidOut.{LaidOut}
 use Rattle.rb_layout.specs.declared.layout.Layout.{Layout}
 use Rattle.rb_layout.specs.declared.layout.Leaf.{Leaf}
 use Rattle.rb_layout.specs.Positions.{layout_of}
-use Rattle.rb_rel.specs.Switches.{look_of}
 use Rattle.rb_fragment.specs.declared.reads.Read.{Read}
 use Rattle.rb_fragment.specs.Plan.{Plan, Rep, words_of}
 use Rattle.rb_fragment.specs.Adding.{Adds}
 use Rattle.rb_fragment.specs.Pieces.{IsLater}
+use Rattle.rb_fragment.specs.Slots.{AllFrom, AreApart, IsDistinct}
 use Rattle.rb_fragment.specs.WordReads.{AreMeant, AllFit}
 use Rattle.rb_fetch.specs.Finding.{IsPlanOf}
 use Rattle.rb_match.specs.declared.knowledge.Known.{Known}
+use Rattle.rb_match.specs.declared.knowledge.Known.TheVariants as K
+use Rattle.rb_match.specs.declared.knowledge.Spot.{Spot}
+use Rattle.rb_match.specs.Bounding.{choosing_look}
 use Rattle.rb_match.specs.declared.knowledge.Edge.{Edge}
-use Rattle.rb_match.specs.inner.Knowing.{AreKnown, IsEdge}
-use Rattle.rb_match.specs.inner.Places.{IsLookedAt}
+use Rattle.rb_match.specs.inner.Knowing.{AreKnown, IsEdge, SpotsBelow, seen}
+use Rattle.rb_match.specs.inner.Places.{HaveWords, IsLookedAt}
 
 -- Links -----------------------------------------------------------------------------------------
 
@@ -125,7 +128,7 @@ link_at arms other (Some c) = take_link arms other (V.Con c [])
 abbrev pub edge_to : List GraphNode → Hole → Bor (List ℕ) → ℕ → List Known → Option ℕ → Option Edge
 edge_to nodes h position t known None = None
 edge_to nodes h position t known (Some node) =
-    Some (edge_in nodes h.pc h.arm node (known ++ record { position = position; ty = t; leaf = h.leaf } ∷ []))
+    Some (edge_in nodes h.pc h.arm node (known ++ K.Leaf position t h.leaf ∷ []))
 
 abbrev pub edge_for : LaidOut → List GraphNode → ℕ → Bor (List ℕ) → List Known → List GraphArm → Option ℕ → Hole → Option Edge
 edge_for agreed nodes t position known arms other h =
@@ -167,8 +170,8 @@ pub record StandOpen (old new : Sheet) (edges : List Edge) : Type 0 where
   pub are_open : AreOpen (length old.code) new.code edges
   pub one : LeadOneWay edges
 
--- the run goes out by an edge to a node, whatever its target, with what is known there
-pub record LeavesBy (plan : Plan) (final : List Instr) (next : Next) (edges : List Edge) (n most start : ℕ) (s : List ℕ) (w : World) (v : Value) (node : ℕ) : Type 0 where
+-- the run goes out by an edge to a node, whatever its target, with what is known there; the first n slots are kept
+pub record LeavesBy (plan : Plan) (final : List Instr) (next : Next) (edges : List Edge) (n most start : ℕ) (s : List ℕ) (w : World) (clean : Bool) (v : Value) (spots : List Spot) (node : ℕ) : Type 0 where
   pub edge : Edge
   pub is_edge : IsEdge edge edges
   pub is_node : edge.hole.leaf ≡ node
@@ -179,38 +182,48 @@ pub record LeavesBy (plan : Plan) (final : List Instr) (next : Next) (edges : Li
   pub runs : next start s w ≡ next target slots world
   pub keeps : Keeps n s slots
   pub later : IsLater most w world
-  pub known : AreKnown plan v edge.known
+  pub known : AreKnown (seen plan clean v spots slots w.memory) edge.known
 
 -- Tests -----------------------------------------------------------------------------------------
 
+-- spots that code may write: their slots are from n on and below m, as many as their types have words, and no two share one
+pub record AreSpots (plan : Plan) (n m : ℕ) (spots : List Spot) : Type 0 where
+  pub low : n ≤ m
+  pub from : (k : ℕ) (spot : Spot) → slice_get spots k ≡ Some spot → AllFrom n spot.slots
+  pub below : SpotsBelow m spots
+  pub count : HaveWords plan spots
+  pub distinct : (k : ℕ) (spot : Spot) → slice_get spots k ≡ Some spot → IsDistinct spot.slots
+  pub apart : (j k : ℕ) (a b : Spot) → slice_get spots j ≡ Some a → slice_get spots k ≡ Some b → (j ≡ k → ⊥) → AreApart a.slots b.slots
+
 -- over reads of the part that is tested
-pub record AskedAt (plan : Plan) (ty : Ty) (reads : List Read) (known : List Known) (position : List ℕ) (arms : List GraphArm) (other : Option ℕ) (old new : Sheet) (edges : List Edge) : Type 0 where
+pub record AskedAt (plan : Plan) (ty : Ty) (n : ℕ) (spots : List Spot) (reads : List Read) (known : List Known) (position : List ℕ) (arms : List GraphArm) (other : Option ℕ) (old new : Sheet) (edges : List Edge) : Type 0 where
   pub adds : Adds plan old new
   pub leaves : (final : List Instr) (callee : Callee) (next : Next) → Law final callee next → Finishes final new.code (holes_of edges) (length old.code) (length new.code)
       → (s : List ℕ) (w : World) (v part : Value) (clean : Bool) (ws : List ℕ) (node : ℕ) → new.slots ≤ length s → IsGood w.memory → AreMeant reads s w.memory ws → Rep plan w.memory clean ty part ws
-      → AreKnown plan v known → part_at v position ≡ Some part → take_link arms other (out-Value part) ≡ Some node
-      → LeavesBy plan final next edges old.slots (look_of plan.layouts ty) (length old.code) s w v node
+      → AreKnown (seen plan clean v spots s w.memory) known → part_at v position ≡ Some part → take_link arms other (out-Value part) ≡ Some node
+      → LeavesBy plan final next edges n (choosing_look plan.layouts ty) (length old.code) s w clean v spots node
 
 abbrev pub AsksNumber : List Read → List Known → List GraphArm → Option ℕ → Sheet → Sheet → List Edge → Type 0
 AsksNumber reads known arms other old new edges =
-    (plan : Plan) (bits : ℕ) (position : List ℕ) → AllFit old.slots reads → AskedAt plan (Int bits) reads known position arms other old new edges
+    (plan : Plan) (n bits : ℕ) (position : List ℕ) (spots : List Spot) → n ≤ old.slots → SpotsBelow old.slots spots → AllFit old.slots reads → AskedAt plan (Int bits) n spots reads known position arms other old new edges
 
+-- wherever parts are saved
 abbrev pub AsksLeaf : LaidOut → ℕ → List Read → List Known → List ℕ → List GraphArm → Option ℕ → Sheet → Sheet → List Edge → Type 0
 AsksLeaf agreed t reads known position arms other old new edges =
-    (plan : Plan) → IsPlanOf agreed plan → AllFit old.slots reads → length reads ≡ words_of plan (Named t)
-    → AskedAt plan (Named t) reads known position arms other old new edges
+    (plan : Plan) (n : ℕ) (spots : List Spot) → IsPlanOf agreed plan → AreSpots plan n old.slots spots → AllFit old.slots reads → length reads ≡ words_of plan (Named t)
+    → AskedAt plan (Named t) n spots reads known position arms other old new edges
 
 -- over reads of the whole value
-pub record Asked (plan : Plan) (ty : Ty) (words : List Read) (pats : List Pat) (known : List Known) (position : List ℕ) (arms : List GraphArm) (other : Option ℕ) (old new : Sheet) (edges : List Edge) : Type 0 where
+pub record Asked (plan : Plan) (ty : Ty) (n : ℕ) (words : List Read) (pats : List Pat) (spots : List Spot) (known : List Known) (position : List ℕ) (arms : List GraphArm) (other : Option ℕ) (old new : Sheet) (edges : List Edge) : Type 0 where
   pub at : Ty
   pub looked : IsLookedAt plan.program.types ty pats position at
   pub adds : Adds plan old new
   pub leaves : (final : List Instr) (callee : Callee) (next : Next) → Law final callee next → Finishes final new.code (holes_of edges) (length old.code) (length new.code)
       → (s : List ℕ) (w : World) (v part : Value) (clean : Bool) (ws : List ℕ) (node : ℕ) → new.slots ≤ length s → IsGood w.memory → AreMeant words s w.memory ws → Rep plan w.memory clean ty v ws
-      → AreKnown plan v known → part_at v position ≡ Some part → take_link arms other (out-Value part) ≡ Some node
-      → LeavesBy plan final next edges old.slots (look_of plan.layouts at) (length old.code) s w v node
+      → AreKnown (seen plan clean v spots s w.memory) known → part_at v position ≡ Some part → take_link arms other (out-Value part) ≡ Some node
+      → LeavesBy plan final next edges n (choosing_look plan.layouts at) (length old.code) s w clean v spots node
 
-abbrev pub Asks : LaidOut → Ty → List Read → List Pat → List Known → List ℕ → List GraphArm → Option ℕ → Sheet → Sheet → List Edge → Type 0
-Asks agreed ty words pats known position arms other old new edges =
-    (plan : Plan) → IsPlanOf agreed plan → AllFit old.slots words → length words ≡ words_of plan ty
-    → Asked plan ty words pats known position arms other old new edges
+abbrev pub Asks : LaidOut → Ty → List Read → List Pat → List Spot → List Known → List ℕ → List GraphArm → Option ℕ → Sheet → Sheet → List Edge → Type 0
+Asks agreed ty words pats spots known position arms other old new edges =
+    (plan : Plan) (n : ℕ) → IsPlanOf agreed plan → AreSpots plan n old.slots spots → AllFit old.slots words → length words ≡ words_of plan ty
+    → Asked plan ty n words pats spots known position arms other old new edges

@@ -21,7 +21,7 @@ use Rattle.rb_fragment.specs.Adding.{Adds}
 use Rattle.rb_fragment.specs.Pieces.{IsLater, Leaves}
 use Rattle.rb_fragment.specs.WordReads.{AreMeant, AllFit}
 use Rattle.rb_fetch.specs.Finding.{IsPlanOf}
-use Rattle.rb_match.specs.Bounding.{looks_of, places_of}
+use Rattle.rb_match.specs.Bounding.{choosing_look, looks_with, places_of}
 use Rattle.rb_match.specs.inner.Trees.{TakesTree}
 
 -- the holes of a way, by another name
@@ -44,7 +44,7 @@ pub record GoesOn (next : Next) (n most start end : ℕ) (s : List ℕ) (w : Wor
 
 -- what the looks of one clause cost at most
 abbrev pub round_of : Plan → Ty → List Pat → ℕ
-round_of plan ty pats = looks_of plan.layouts (places_of plan.program.types ty pats)
+round_of plan ty pats = looks_with (choosing_look plan.layouts) (places_of plan.program.types ty pats)
 
 -- of each value that is represented, whatever the open targets are
 abbrev pub OnValues : Plan → Ty → List Read → Sheet → Sheet → List Hole → (List Instr → Next → List ℕ → World → Value → Type 0) → Type 0

@@ -25,10 +25,11 @@ use Rattle.rb_fragment.specs.WordReads.{AreMeant, AllFit}
 use Rattle.rb_fetch.specs.Finding.{IsPlanOf}
 use Rattle.rb_match.specs.declared.knowledge.Known.{Known}
 use Rattle.rb_match.specs.declared.knowledge.Edge.{Edge}
-use Rattle.rb_match.specs.Bounding.{Place, looks_of}
-use Rattle.rb_match.specs.inner.Knowing.{AreKnown, IsEdge}
+use Rattle.rb_match.specs.declared.knowledge.Spot.{Spot}
+use Rattle.rb_match.specs.Bounding.{Place, choosing_look, looks_with}
+use Rattle.rb_match.specs.inner.Knowing.{AreKnown, IsEdge, seen}
 use Rattle.rb_match.specs.inner.Places.{IsLookedAt, IsPlaceIn}
-use Rattle.rb_match.specs.inner.Asking.{holes_of, StandOpen}
+use Rattle.rb_match.specs.inner.Asking.{AreSpots, holes_of, StandOpen}
 
 -- Edges -----------------------------------------------------------------------------------------
 
@@ -55,10 +56,12 @@ path_of p = p.path
 
 -- what the looks at some places cost
 abbrev pub looks : Plan → List Place → ℕ
-looks plan path = looks_of plan.layouts path
+looks plan path = looks_with (choosing_look plan.layouts) path
 
--- what is asked of the code, and where it begins
+-- what is asked of the code, and where it begins; the slots below the base are kept, and parts are saved in spots above it
 pub record Job : Type 0 where
+  pub base : ℕ
+  pub spots : List Spot
   pub plan : Plan
   pub ty : Ty
   pub words : List Read
@@ -79,7 +82,7 @@ pub record IsOn (job : Job) (v : Value) (n : ℕ) (path : List Place) : Type 0 w
 -- Runs ------------------------------------------------------------------------------------------
 
 -- the run goes out by an edge, whatever its target
-pub record Arrives (job : Job) (final : List Instr) (next : Next) (edges : List Edge) (s : List ℕ) (w : World) (v : Value) : Type 0 where
+pub record Arrives (job : Job) (final : List Instr) (next : Next) (edges : List Edge) (s : List ℕ) (w : World) (clean : Bool) (v : Value) : Type 0 where
   pub edge : Edge
   pub is_edge : IsEdge edge edges
   pub target : ℕ
@@ -87,75 +90,75 @@ pub record Arrives (job : Job) (final : List Instr) (next : Next) (edges : List 
   pub slots : List ℕ
   pub world : World
   pub runs : next (length job.first.code) s w ≡ next target slots world
-  pub keeps : Keeps job.first.slots s slots
+  pub keeps : Keeps job.base s slots
   pub path : List Place
   pub later : IsLater (looks job.plan path) w world
-  pub known : AreKnown job.plan v edge.known
+  pub known : AreKnown (seen job.plan clean v job.spots slots w.memory) edge.known
   pub on : IsOn job v edge.hole.leaf path
 
 -- the run comes to an instruction at which the code of a node begins
-pub record Lands (job : Job) (next : Next) (here : ℕ) (known : List Known) (n : ℕ) (s : List ℕ) (w : World) (v : Value) : Type 0 where
+pub record Lands (job : Job) (next : Next) (here : ℕ) (known : List Known) (n : ℕ) (s : List ℕ) (w : World) (clean : Bool) (v : Value) : Type 0 where
   pub slots : List ℕ
   pub world : World
   pub runs : next (length job.first.code) s w ≡ next here slots world
-  pub keeps : Keeps job.first.slots s slots
+  pub keeps : Keeps job.base s slots
   pub path : List Place
   pub later : IsLater (looks job.plan path) w world
-  pub is_known : AreKnown job.plan v known
+  pub is_known : AreKnown (seen job.plan clean v job.spots slots w.memory) known
   pub on : IsOn job v n path
 
 -- the words mean a value of which the graph takes a clause
-pub record IsGiven (job : Job) (s : List ℕ) (m : Memory) (v : Value) : Type 0 where
+pub record IsGiven (job : Job) (s : List ℕ) (m : Memory) (clean : Bool) (v : Value) : Type 0 where
   pub good : IsGood m
   pub ws : List ℕ
   pub meant : AreMeant job.words s m ws
-  pub clean : Bool
   pub represents : Rep job.plan m clean job.ty v ws
   pub clause : ℕ
   pub takes : taken (tree_at job.nodes job.root) v ≡ Some clause
 
 abbrev pub Run : Type 1
-Run = List Instr → Next → List ℕ → World → Value → Type 0
+Run = List Instr → Next → List ℕ → World → Bool → Value → Type 0
 
 -- whatever the open targets are, runs over given values do this
 abbrev pub Runs : Job → Sheet → List Edge → Run → Type 0
 Runs job new edges Does =
     (final : List Instr) (callee : Callee) (next : Next) → Law final callee next → Finishes final new.code (holes_of edges) (length job.first.code) (length new.code)
-    → (s : List ℕ) (w : World) (v : Value) → new.slots ≤ length s → IsGiven job s w.memory v → Does final next s w v
+    → (s : List ℕ) (w : World) (clean : Bool) (v : Value) → new.slots ≤ length s → IsGiven job s w.memory clean v → Does final next s w clean v
 
 pub record Flows (job : Job) (new : Sheet) (edges : List Edge) : Type 0 where
   pub adds : Adds job.plan job.first new
-  pub arrives : Runs job new edges (λ final next s w v. Arrives job final next edges s w v)
+  pub arrives : Runs job new edges (λ final next s w clean v. Arrives job final next edges s w clean v)
 
 pub record FlowsHere (job : Job) (new : Sheet) (edges : List Edge) (known : List Known) (n : ℕ) : Type 0 where
   pub adds : Adds job.plan job.first new
-  pub arrives : Runs job new edges (λ final next s w v. Arrives job final next edges s w v ⊎ Lands job next (length new.code) known n s w v)
+  pub arrives : Runs job new edges (λ final next s w clean v. Arrives job final next edges s w clean v ⊎ Lands job next (length new.code) known n s w clean v)
 
 pub record IsFineJob (agreed : LaidOut) (job : Job) : Type 0 where
   pub of : IsPlanOf agreed job.plan
-  pub fit : (k : ℕ) → job.first.slots ≤ k → AllFit k job.words
+  pub spots : AreSpots job.plan job.base job.first.slots job.spots
+  pub fit : (k : ℕ) → job.base ≤ k → AllFit k job.words
   pub count : length job.words ≡ words_of job.plan job.ty
   pub lower : LinksAreLower job.nodes
 
 -- Nodes -----------------------------------------------------------------------------------------
 
 -- the job that is done for a graph from some code on
-abbrev pub job_of : Plan → Ty → List Read → List Pat → List GraphNode → ℕ → Sheet → Job
-job_of plan ty words pats nodes root first = record { plan = plan; ty = ty; words = words; pats = pats; nodes = nodes; root = root; first = first }
+abbrev pub job_of : Plan → ℕ → List Spot → Ty → List Read → List Pat → List GraphNode → ℕ → Sheet → Job
+job_of plan base spots ty words pats nodes root first = record { base = base; spots = spots; plan = plan; ty = ty; words = words; pats = pats; nodes = nodes; root = root; first = first }
 
 -- what stands in any case
 pub record Stands (first new : Sheet) (edges : List Edge) : Type 0 where
   pub grows : Grows first.code new.code
   pub stand : StandOpen first new edges
 
-pub record StepsNode (agreed : LaidOut) (ty : Ty) (words : List Read) (pats : List Pat) (node : GraphNode) (n : ℕ) (old : Sheet) (edges : List Edge) (new : Sheet) (more : List Edge) : Type 0 where
+pub record StepsNode (agreed : LaidOut) (ty : Ty) (words : List Read) (pats : List Pat) (spots : List Spot) (node : GraphNode) (n : ℕ) (old : Sheet) (edges : List Edge) (new : Sheet) (more : List Edge) : Type 0 where
   pub stands : (first : Sheet) → Stands first old edges → Stands first new more
-  pub flows : (plan : Plan) (nodes : List GraphNode) (root : ℕ) (first : Sheet) → let job = job_of plan ty words pats nodes root first in
+  pub flows : (plan : Plan) (base : ℕ) (nodes : List GraphNode) (root : ℕ) (first : Sheet) → let job = job_of plan base spots ty words pats nodes root first in
       IsFineJob agreed job → slice_get nodes n ≡ Some node → Stands first old edges → Flows job old edges → Flows job new more
 
-pub record Begins (agreed : LaidOut) (ty : Ty) (words : List Read) (pats : List Pat) (nodes : List GraphNode) (root : ℕ) (old new : Sheet) (edges : List Edge) : Type 0 where
+pub record Begins (agreed : LaidOut) (ty : Ty) (words : List Read) (pats : List Pat) (spots : List Spot) (nodes : List GraphNode) (root : ℕ) (old new : Sheet) (edges : List Edge) : Type 0 where
   pub stands : Stands old new edges
-  pub flows : (plan : Plan) → let job = job_of plan ty words pats nodes root old in IsFineJob agreed job → Flows job new edges
+  pub flows : (plan : Plan) (base : ℕ) → let job = job_of plan base spots ty words pats nodes root old in IsFineJob agreed job → Flows job new edges
 
 -- Clauses ---------------------------------------------------------------------------------------
 
@@ -175,13 +178,13 @@ pub record LeavesOn (job : Job) (final : List Instr) (next : Next) (holes : List
   pub path : List Place
   pub is_way : HasWay (ways (tree_at job.nodes job.root)) (map path_of path)
   pub looked : AllLookedAt job path
-  pub leaves : Leaves final next holes job.first.slots (looks job.plan path) (length job.first.code) s w k (λ s' m. Unit {0})
+  pub leaves : Leaves final next holes job.base (looks job.plan path) (length job.first.code) s w k (λ s' m. Unit {0})
 
 pub record Takes (job : Job) (new : Sheet) (holes : List Hole) : Type 0 where
   pub adds : Adds job.plan job.first new
   pub leaves : (final : List Instr) (callee : Callee) (next : Next) → Law final callee next → Finishes final new.code holes (length job.first.code) (length new.code)
-      → (s : List ℕ) (w : World) (v : Value) → new.slots ≤ length s → (g : IsGiven job s w.memory v) → LeavesOn job final next holes s w g.clause
+      → (s : List ℕ) (w : World) (clean : Bool) (v : Value) → new.slots ≤ length s → (g : IsGiven job s w.memory clean v) → LeavesOn job final next holes s w g.clause
 
-abbrev pub TakesGraph : LaidOut → Ty → List Read → List Pat → List GraphNode → ℕ → Sheet → Sheet → List Hole → Type 0
-TakesGraph agreed ty words pats nodes root old new holes =
-    (plan : Plan) → let job = job_of plan ty words pats nodes root old in IsFineJob agreed job → Takes job new holes
+abbrev pub TakesGraph : LaidOut → Ty → List Read → List Pat → List Spot → List GraphNode → ℕ → Sheet → Sheet → List Hole → Type 0
+TakesGraph agreed ty words pats spots nodes root old new holes =
+    (plan : Plan) (base : ℕ) → let job = job_of plan base spots ty words pats nodes root old in IsFineJob agreed job → Takes job new holes

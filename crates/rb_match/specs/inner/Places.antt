@@ -1,5 +1,5 @@
 -- Where the words of a part of a value are, and which places are looked at.
-use Rattle.std.specs.Prelude.{◌≡◌, ℕ, ◌++◌, ◌∷◌, [], List, Bool, Some, length, slice_get}
+use Rattle.std.specs.Prelude.{◌≡◌, ℕ, ◌≤◌, ◌++◌, ◌∷◌, [], List, take, Bool, Some, length, slice_get}
 use Rattle.std.specs.List.{flat_map}
 use Rattle.rb_core.specs.declared.value.Value.{Value}
 use Rattle.rb_core.specs.declared.types.Ty.{Ty}
@@ -13,29 +13,44 @@ use Rattle.rb_fragment.specs.WordReads.{AreMeant, AllFit}
 use Rattle.rb_fetch.specs.Fields.{FieldAt, IsPartMeant}
 use Rattle.rb_fetch.specs.Finding.{IsPlanOf}
 use Rattle.rb_match.specs.declared.knowledge.Known.{Known}
+use Rattle.rb_match.specs.declared.knowledge.Spot.{Spot}
 use Rattle.rb_match.specs.declared.place.Place.{Place}
+use Rattle.rb_match.specs.declared.place.Begun.{Begun}
 use Rattle.rb_match.specs.Bounding.{places_in}
 use Rattle.rb_match.specs.Bounding as bounding
-use Rattle.rb_match.specs.inner.Knowing.{AreKnown}
+use Rattle.rb_match.specs.inner.Knowing.{AreKnown, SpotsBelow, seen}
 
 abbrev pub IsFieldOf : LaidOut → ℕ → ℕ → List ℕ → Ty → Type 0
 IsFieldOf agreed t leaf path ty = (plan : Plan) → IsPlanOf agreed plan → FieldAt plan t leaf path ty
 
--- Over reads of a value's words: where these are known of the value, the place is where its part at the position is.
-pub record ReadsPlace (plan : Plan) (ty : Ty) (words : List Read) (known : List Known) (position : List ℕ) (place : Place) : Type 0 where
+-- each spot has as many slots as its type has words
+abbrev pub HaveWords : Plan → List Spot → Type 0
+HaveWords plan spots = (k : ℕ) (spot : Spot) → slice_get spots k ≡ Some spot → length spot.slots ≡ words_of plan spot.ty
+
+-- Over reads of a value's words, and spots: where these facts are known of the value, the place is where its part at the position is.
+pub record ReadsPlace (plan : Plan) (ty : Ty) (words : List Read) (spots : List Spot) (known : List Known) (position : List ℕ) (place : Place) : Type 0 where
   pub count : length place.reads ≡ words_of plan place.ty
-  pub fit : (k : ℕ) → AllFit k words → AllFit k place.reads
-  pub means : (clean : Bool) (v : Value) (ws s : List ℕ) (m : Memory) → IsGood m → AreMeant words s m ws → Rep plan m clean ty v ws → AreKnown plan v known
+  pub fit : (k : ℕ) → AllFit k words → SpotsBelow k spots → AllFit k place.reads
+  pub means : (clean : Bool) (v : Value) (ws s : List ℕ) (m : Memory) → IsGood m → AreMeant words s m ws → Rep plan m clean ty v ws → AreKnown (seen plan clean v spots s m) known
       → IsPartMeant plan clean place.ty v position place.reads s m
 
-abbrev pub FindsPlace : LaidOut → Ty → List Read → List Known → List ℕ → Place → Type 0
-FindsPlace agreed ty words known position place =
-    (plan : Plan) → IsPlanOf agreed plan → length words ≡ words_of plan ty → ReadsPlace plan ty words known position place
+abbrev pub FindsPlace : LaidOut → Ty → List Read → List Spot → List Known → List ℕ → Place → Type 0
+FindsPlace agreed ty words spots known position place =
+    (plan : Plan) → IsPlanOf agreed plan → length words ≡ words_of plan ty → HaveWords plan spots → ReadsPlace plan ty words spots known position place
+
+-- from a place at so many first fields of a position
+abbrev pub BeginsPlace : LaidOut → Ty → List Read → List Spot → List Known → List ℕ → Begun → Type 0
+BeginsPlace agreed ty words spots known position begun =
+    (begun.from ≤ length position) × FindsPlace agreed ty words spots known (take begun.from position) begun.place
 
 -- one field further
 abbrev pub StepsPlace : LaidOut → Place → List Known → List ℕ → ℕ → Place → Type 0
 StepsPlace agreed place known prefix field next =
-    (ty : Ty) (words : List Read) → FindsPlace agreed ty words known prefix place → FindsPlace agreed ty words known (prefix ++ field ∷ []) next
+    (ty : Ty) (words : List Read) (spots : List Spot) → FindsPlace agreed ty words spots known prefix place → FindsPlace agreed ty words spots known (prefix ++ field ∷ []) next
+
+-- the spot that a part is known to be saved in
+abbrev pub IsSpotOf : LaidOut → List Spot → List Known → List ℕ → Place → Type 0
+IsSpotOf agreed spots known position place = (ty : Ty) (words : List Read) → FindsPlace agreed ty words spots known position place
 
 -- the place is one of those
 abbrev pub IsPlaceIn : bounding.Place → List bounding.Place → Type 0

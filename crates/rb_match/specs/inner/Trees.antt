@@ -3,7 +3,9 @@ use Rattle.std.specs.Prelude.{◌≡◌, ℕ, ◌≤◌, List, map, length, Bool
 use Rattle.rb_core.specs.declared.value.Value.{Value}
 use Rattle.rb_core.specs.declared.types.Ty.{Ty}
 use Rattle.rb_core.specs.declared.pattern.Pat.{Pat}
+use Rattle.rb_decide.specs.declared.decision_graph.Graph.{Graph}
 use Rattle.rb_decide.specs.declared.decision_tree.Tree.{Tree}
+use Rattle.rb_decide.specs.Graphs.{LinksAreLower, unfolding_of}
 use Rattle.rb_decide.specs.Trees.{taken, ways}
 use Rattle.rb_bytes.specs.Memory.{IsGood}
 use Rattle.rb_target.specs.declared.instr.Instr.{Instr}
@@ -39,3 +41,8 @@ pub record TreeTakes (plan : Plan) (ty : Ty) (words : List Read) (pats : List Pa
 abbrev pub TakesTree : LaidOut → Ty → List Read → List Pat → Tree → Sheet → Sheet → List Hole → Type 0
 TakesTree agreed ty words pats tree old new holes =
     (plan : Plan) → IsPlanOf agreed plan → ((k : ℕ) → old.slots ≤ k → AllFit k words) → length words ≡ words_of plan ty → TreeTakes plan ty words pats tree old new holes
+
+-- the same of a graph, whatever tree it unfolds to
+abbrev pub TakesShared : LaidOut → Ty → List Read → List Pat → Graph → Sheet → Sheet → List Hole → Type 0
+TakesShared agreed ty words pats graph old new holes =
+    (tree : Tree) → unfolding_of graph ≡ Some tree → LinksAreLower graph.nodes → TakesTree agreed ty words pats tree old new holes

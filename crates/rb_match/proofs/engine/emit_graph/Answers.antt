@@ -11,7 +11,7 @@ loop-i-preserved c =
     let at = slice_get-get_or c.args.nodes.now (length c.args.nodes.now - 1 - c.loop-i.i) c.index-nodes-number.result within ∙ ap Some (sym c.index-nodes-number.is) in
     record {
       stands = step.stands c.args.body.now inv.stands;
-      flows = λ plan fine. step.flows plan c.args.nodes.now c.args.root c.args.body.now fine at inv.stands (inv.flows plan fine);
+      flows = λ plan base fine. step.flows plan base c.args.nodes.now c.args.root c.args.body.now fine at inv.stands (inv.flows plan base fine);
     }
 
 pub returns-clause-holes : goal.returns-clause-holes
@@ -24,5 +24,5 @@ returns-clause-ways c =
 
 pub returns-clause-takes : goal.returns-clause-takes
 returns-clause-takes c =
-    graph_takes c.args.nodes.now _ c.loop-i.edges c.in_ok-holes.holes (rw c.as_slice.ensures at c.in_ok-holes.ensures) c.args.agreed.now c.args.ty c.args.words.now c.args.pats.now c.args.root c.args.body.now c.loop-i.body
+    graph_takes c.args.nodes.now _ c.loop-i.edges c.in_ok-holes.holes (rw c.as_slice.ensures at c.in_ok-holes.ensures) c.args.agreed.now c.args.ty c.args.words.now c.args.pats.now c.args.spots.now c.args.root c.args.body.now c.loop-i.body
     c.loop-i.invariant.flows

@@ -3,4 +3,4 @@ use Rattle.rb_match.specs.inner.Places.{FindsPlace}
 use Rattle.rb_match.proofs.place.place_of.Given as goal
 
 abbrev pub invariant-loop-i : goal.invariant-loop-i
-invariant-loop-i l = FindsPlace l.agreed l.fn.ty l.words l.known (take l.i l.position) l.place
+invariant-loop-i l = FindsPlace l.agreed l.fn.ty l.words l.spots l.known (take l.i l.position) l.place

@@ -1,0 +1,3 @@
+pub mod Subvalues
+pub mod Making
+pub mod inner

@@ -1,0 +1,173 @@
+-- The code of a leaf, instruction by instruction: its words composed, and its blocks placed and filled.
+use Rattle.std.specs.Prelude.{ℕ, ◌+◌, ◌-◌, ◌/◌, ◌==◌, ◌&&◌, min, length, Bool, false, List, [], ◌∷◌, ◌++◌, Option, Some, None, slice_get, slice_index, if◌then◌else◌}
+use Rattle.rb_core.specs.declared.types.Ty.{Ty}
+use Rattle.rb_core.specs.declared.types.Ty.TheVariants.{Int, Named}
+use Rattle.rb_bits.specs.Words.{put_of, take_of}
+use Rattle.rb_target.specs.declared.instr.Instr.TheVariants as I
+use Rattle.rb_target.specs.Sheet.{Sheet, pushed, with_slot}
+use Rattle.rb_layout.specs.declared.layout.Block.{Block}
+use Rattle.rb_layout.specs.declared.layout.FlatWord.{FlatWord}
+use Rattle.rb_layout.specs.declared.layout.Kind.{Kind}
+use Rattle.rb_layout.specs.declared.layout.Kind.TheVariants.{Const, Bits, Word, Pointer}
+use Rattle.rb_layout.specs.declared.layout.Leaf.{Leaf}
+use Rattle.rb_layout.specs.declared.layout.Part.{Part}
+use Rattle.rb_layout.specs.Words.{size_of}
+use Rattle.rb_fragment.specs.declared.held.Held.{Held}
+use Rattle.rb_fragment.specs.Reads.{is_range}
+use Rattle.rb_compose.specs.declared.subvalue.Subvalue.{Subvalue}
+use Rattle.rb_compose.specs.Subvalues.{subvalue_at}
+
+-- Where bits come from -------------------------------------------------------------------------
+
+abbrev pub held_slots : Option Held → List ℕ
+held_slots None = []
+held_slots (Some h) = h.slots
+
+-- the slots of the subvalue at a path
+abbrev pub field_slots : List Subvalue → List ℕ → List ℕ
+field_slots xs path = held_slots (subvalue_at xs path)
+
+-- the power of two that an alignment is
+abbrev pub shift_of : ℕ → ℕ
+shift_of align =
+    if align == 2 then 1 else if align == 4 then 2 else if align == 8 then 3
+    else if align == 16 then 4 else if align == 32 then 5 else if align == 64 then 6 else 0
+
+abbrev pub capped : ℕ → ℕ
+capped n = min n 64
+
+-- bits of a slot from bit o on are made into a slot, where they do not begin at bit 0
+abbrev pub taken_code : ℕ → ℕ → ℕ → Sheet → Sheet
+taken_code x o l b = if o == 0 then b else pushed (with_slot b) (I.Take b.slots x o l)
+
+abbrev pub taken_slot : ℕ → ℕ → ℕ → ℕ
+taken_slot x o n = if o == 0 then x else n
+
+-- Words ----------------------------------------------------------------------------------------
+
+-- the constants of parts, each in its place over a number
+abbrev pub with_constant : ℕ → ℕ → ℕ → Kind → ℕ
+with_constant n o l (Const c) =
+    if is_range (capped o) (capped l) then put_of n (capped o) (capped l) (take_of c 0 (capped l)) else n
+with_constant n o l (Bits path a) = n
+with_constant n o l (Word path j) = n
+with_constant n o l (Pointer align x) = n
+
+abbrev pub constants : ℕ → List Part → ℕ
+constants n [] = n
+constants n (p ∷ ps) = constants (with_constant n p.o p.l p.kind) ps
+
+-- bits of slot x put into the word in slot d
+abbrev pub put_code : ℕ → ℕ → ℕ → ℕ → Part → Sheet → Sheet
+put_code d x from long p b =
+    pushed (taken_code x from long b) (I.Put d (taken_slot x from b.slots) (capped p.o) (capped p.l))
+
+-- what a part holds put there; a constant is there already. `blocks` has the slots of addresses
+abbrev pub kind_code : List Subvalue → List ℕ → ℕ → Part → Kind → Sheet → Sheet
+kind_code hs blocks d p (Const c) b = b
+kind_code hs blocks d p (Bits path a) b = put_code d (slice_index (field_slots hs path) 0) (capped a) (capped p.l) p b
+kind_code hs blocks d p (Word path j) b = put_code d (slice_index (field_slots hs path) j) 0 64 p b
+kind_code hs blocks d p (Pointer align x) b =
+    put_code d (slice_index blocks x) (shift_of align) (64 - shift_of align) p b
+
+abbrev pub parts_code : List Subvalue → List ℕ → ℕ → List Part → Sheet → Sheet
+parts_code hs blocks d [] b = b
+parts_code hs blocks d (p ∷ ps) b = parts_code hs blocks d ps (kind_code hs blocks d p p.kind b)
+
+-- a word is its constants with the other parts put over them; it is the first slot that is new
+abbrev pub word_code : List Subvalue → List ℕ → List Part → Sheet → Sheet
+word_code hs blocks parts b =
+    parts_code hs blocks b.slots parts (pushed (with_slot b) (I.Const b.slots (constants 0 parts)))
+
+-- Words of fields ------------------------------------------------------------------------------
+
+abbrev pub is_int : ℕ → Option Ty → Bool
+is_int l None = false
+is_int l (Some (Int bits)) = bits == l
+is_int l (Some (Named s)) = false
+
+abbrev pub held_type_in : Option Held → Option Ty
+held_type_in None = None
+held_type_in (Some h) = Some h.ty
+
+-- the type of the subvalue at a path
+abbrev pub field_type : List Subvalue → List ℕ → Option Ty
+field_type xs path = held_type_in (subvalue_at xs path)
+
+-- the word of a field, by path and number, that a part of so many bits has whole
+abbrev pub whole_kind : List Subvalue → ℕ → Kind → Option (List ℕ × ℕ)
+whole_kind hs l (Const c) = None
+whole_kind hs l (Bits path a) = if a == 0 && is_int l (field_type hs path) then Some (path, 0) else None
+whole_kind hs l (Word path j) = Some (path, j)
+whole_kind hs l (Pointer align x) = None
+
+abbrev pub whole_part : List Subvalue → Option Part → Option (List ℕ × ℕ)
+whole_part hs None = None
+whole_part hs (Some p) = if p.o == 0 then whole_kind hs p.l p.kind else None
+
+-- the word of a field that a word with one part is
+abbrev pub whole_of : List Subvalue → List Part → Option (List ℕ × ℕ)
+whole_of hs parts = if length parts == 1 then whole_part hs (slice_get parts 0) else None
+
+abbrev pub slot_of : List Subvalue → Option (List ℕ × ℕ) → Option ℕ
+slot_of hs None = None
+slot_of hs (Some w) = Some (slice_index (field_slots hs w.0) w.1)
+
+abbrev pub whole_slot : List Subvalue → List Part → Option ℕ
+whole_slot hs parts = slot_of hs (whole_of hs parts)
+
+-- a word to be stored stands in a slot already, or is composed
+abbrev pub value_code : Option ℕ → List Subvalue → List ℕ → List Part → Sheet → Sheet
+value_code None hs blocks parts b = word_code hs blocks parts b
+value_code (Some x) hs blocks parts b = b
+
+abbrev pub value_made : List Subvalue → List ℕ → List Part → Sheet → Sheet
+value_made hs blocks parts b = value_code (whole_slot hs parts) hs blocks parts b
+
+abbrev pub value_slot : Option ℕ → ℕ → ℕ
+value_slot None n = n
+value_slot (Some x) n = x
+
+-- a word of the value has a slot of its own
+abbrev pub root_code : Option ℕ → List Subvalue → List ℕ → List Part → Sheet → Sheet
+root_code None hs blocks parts b = word_code hs blocks parts b
+root_code (Some x) hs blocks parts b = pushed (with_slot b) (I.Copy b.slots x)
+
+abbrev pub root_made : List Subvalue → List ℕ → List Part → Sheet → Sheet
+root_made hs blocks parts b = root_code (whole_slot hs parts) hs blocks parts b
+
+-- Blocks ---------------------------------------------------------------------------------------
+
+-- words composed and stored one behind the other, from a byte on, in the block whose address is in slot a
+abbrev pub stores_code : List Subvalue → List ℕ → ℕ → List FlatWord → ℕ → Sheet → Sheet
+stores_code hs blocks a [] at b = b
+stores_code hs blocks a (f ∷ fs) at b =
+    stores_code hs blocks a fs (at + f.width / 8)
+    (pushed (value_made hs blocks f.parts b)
+    (I.Store a at (capped f.width) (value_slot (whole_slot hs f.parts) b.slots)))
+
+abbrev pub block_code : List Subvalue → List ℕ → Block → Sheet → Sheet
+block_code hs blocks x b =
+    stores_code hs blocks b.slots x.words 0 (pushed (with_slot b) (I.Place b.slots (size_of x) x.align))
+
+-- the code, and the slots of all addresses
+abbrev pub blocks_code : List Subvalue → List Block → List ℕ → Sheet → Sheet × List ℕ
+blocks_code hs [] blocks b = (b, blocks)
+blocks_code hs (x ∷ xs) blocks b = blocks_code hs xs (blocks ++ b.slots ∷ []) (block_code hs blocks x b)
+
+-- The value ------------------------------------------------------------------------------------
+
+abbrev pub roots_code : List Subvalue → List ℕ → List FlatWord → Sheet → Sheet
+roots_code hs blocks [] b = b
+roots_code hs blocks (f ∷ fs) b = roots_code hs blocks fs (root_made hs blocks f.parts b)
+
+abbrev pub root_slots : List Subvalue → List ℕ → List FlatWord → Sheet → List ℕ
+root_slots hs blocks [] b = []
+root_slots hs blocks (f ∷ fs) b = b.slots ∷ root_slots hs blocks fs (root_made hs blocks f.parts b)
+
+-- a leaf's blocks, inner ones first, and then its root words
+abbrev pub leaf_code : List Subvalue → Leaf → Sheet → Sheet
+leaf_code hs leaf b = let placed = blocks_code hs leaf.blocks [] b in roots_code hs placed.1 leaf.root placed.0
+
+abbrev pub leaf_slots : List Subvalue → Leaf → Sheet → List ℕ
+leaf_slots hs leaf b = let placed = blocks_code hs leaf.blocks [] b in root_slots hs placed.1 leaf.root placed.0

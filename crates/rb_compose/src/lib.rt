@@ -1,0 +1,48 @@
+//! Code that makes the values of one leaf of a layout, of the subvalues at its open positions: its words
+//! composed, and its blocks placed and filled.
+//!
+//! A layout says where each bit of a value stands. Take a list whose tag is the lowest bit of a pointer:
+//!
+//! ```text
+//! split 0[0:1] {
+//!     1 => Nil        : { word 64 { [0:1] = 1 } }
+//!     0 => Cons(_, _) : { word 64 { [0:1] = 0, [3:61] -> 8 { word 64 { [0:64] .0 }, inline .1 } } }
+//! }
+//! ```
+//!
+//! [`leaf::emit_leaf`] of the leaf of `Cons`, where slot 0 holds the number and slot 1 the list, appends
+//!
+//! ```text
+//! place 2 16 8         a block of 16 bytes at a multiple of 8; its address in slot 2
+//! store 2 0 64 0       the number, at byte 0
+//! store 2 8 64 1       the list, at byte 8
+//! const 3 0            the word of the value: its constants, which is the tag alone
+//! take 4 2 3 61        the address without its three low bits, which are 0
+//! put 3 4 3 61         in its place
+//! ```
+//!
+//! and of the leaf of `Nil` only `const 2 1`. In general:
+//!
+//! - **A word** begins as its constants, and the other parts are put over them: slices of numbers, words of
+//!   data fields, and addresses by their alignment (`word.rt`). Bits that stand at bit 0 of a slot need no
+//!   `take`. A word that is a field's word whole is no code at all where it is stored, and a `copy` among the
+//!   value's own words, which have new slots. All bits outside parts are 0: the value is as clean as its fields.
+//! - **Blocks** are placed by number, inner ones before the outer ones that point to them, so that each address
+//!   is known when it is put into a word. Every word of a block is stored, also one without parts, so that each
+//!   byte is written (`block.rt`).
+//!
+//! The subvalues are looked up by their positions, which may be of any length: a leaf for `Node(Red, _, _, _)`
+//! needs those at the fields 1, 2 and 3 alone, and one for `P(Q(_, A), _)` those at 0.0 and 1. Which leaf it is
+//! to be is not decided here.
+//!
+//! What the code does is said of any value of the leaf: it places exactly the value's blocks, in their order and
+//! with their sizes, or asks in vain for the first that does not fit. The proof has two halves. The machine's side
+//! composes numbers, instruction by instruction, whatever they are. Where all blocks fit, each of these numbers is
+//! the one that `rb_rel` packs of the same parts, and its lemma on one layer of a value says that these words in
+//! this memory represent the value.
+#![tactic(auto)]
+
+mod block;
+pub mod leaf;
+pub mod subvalue;
+mod word;

@@ -1,0 +1,36 @@
+//! Values at positions, in slots.
+
+ghost use Rattle.std.specs.Prelude.{◌≡◌};
+ghost use Rattle.std.specs.Option.{option_copied};
+ghost use Rattle.rb_layout.specs.Flattening.{same_path};
+ghost use Rattle.rb_compose.specs.Subvalues.{subvalue_at};
+
+use rb_core::seq::Seq;
+use rb_fragment::held::Held;
+
+/// The value at a position of another value, in slots, a word each. The path is a list of field numbers
+/// from the root.
+#[derive(Debug, Drop)]
+pub struct Subvalue {
+    pub path: Seq<u32>,
+    pub held: Held,
+}
+
+/// The first value at a position.
+pub fn subvalue_at<'a>(subs: &'a [Subvalue], path: &[u32]) -> Option<&'a Held>
+    ensures { option_copied result ≡ subvalue_at subs.now path.now }
+{
+    for sub in subs {
+        if same_path(sub.path.as_slice(), path) {
+            return Some(&sub.held);
+        }
+    }
+    None
+}
+
+// Whether two positions are the same.
+fn same_path(own: &[u32], path: &[u32]) -> bool
+    ensures { result ≡ same_path own.now path.now }
+{
+    own == path
+}

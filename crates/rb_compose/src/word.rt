@@ -1,0 +1,277 @@
+//! Code that composes a word of its parts.
+
+ghost use Rattle.std.specs.Prelude.{◌≡◌, ◌≤◌, IfOk, OnOk, slice_index};
+ghost use Rattle.std.specs.Option.{option_copied};
+ghost use Rattle.rb_compose.specs.inner.Code.{capped, constants, field_slots, field_type, is_int, kind_code, put_code, root_made, shift_of, slot_of, taken_code, taken_slot, value_made, value_slot, whole_kind, whole_part, whole_slot, with_constant, word_code};
+
+use crate::subvalue::{Subvalue, subvalue_at};
+use rb_bits::{put, take};
+use rb_core::types::Ty;
+use rb_fragment::emit::{emit_const, emit_copy, emit_take};
+use rb_layout::layout::{Kind, Part};
+use rb_target::body::Body;
+use rb_target::instr::Instr;
+use std::alloc::AllocError;
+
+/// A word in some slot: that of a subvalue whose word it is, or else a new one. `blocks` has the slots of
+/// the addresses of blocks.
+///
+/// # Errors
+/// `AllocError` where memory is wanting.
+pub(crate) fn emit_value(
+    body: &mut Body,
+    parts: &[Part],
+    subs: &[Subvalue],
+    blocks: &[usize],
+) -> Result<usize, AllocError>
+    ensures slot { IfOk result (λ d. d ≡ value_slot (whole_slot subs.now parts.now) body.old.slots) }
+    ensures code { OnOk result (body.new ≡ value_made subs.now blocks.now parts.now body.old) }
+{
+    match whole_slot(parts, subs) {
+        Some(slot) => Ok(slot),
+        None => {
+            let slot = emit_word(body, parts, subs, blocks)?;
+            Ok(slot)
+        }
+    }
+}
+
+/// A word in a new slot.
+///
+/// # Errors
+/// `AllocError` where memory is wanting.
+pub(crate) fn emit_root(
+    body: &mut Body,
+    parts: &[Part],
+    subs: &[Subvalue],
+    blocks: &[usize],
+) -> Result<usize, AllocError>
+    ensures slot { IfOk result (λ d. d ≡ body.old.slots) }
+    ensures code { OnOk result (body.new ≡ root_made subs.now blocks.now parts.now body.old) }
+{
+    match whole_slot(parts, subs) {
+        Some(from) => {
+            let slot = emit_copy(body, from)?;
+            Ok(slot)
+        }
+        None => {
+            let slot = emit_word(body, parts, subs, blocks)?;
+            Ok(slot)
+        }
+    }
+}
+
+// Composes a word of its parts in a new slot: its constants, and the other parts put over them.
+fn emit_word(
+    body: &mut Body,
+    parts: &[Part],
+    subs: &[Subvalue],
+    blocks: &[usize],
+) -> Result<usize, AllocError>
+    ensures slot { IfOk result (λ d. d ≡ body.old.slots) }
+    ensures code { OnOk result (body.new ≡ word_code subs.now blocks.now parts.now body.old) }
+{
+    let slot = emit_const(body, constants(parts))?;
+    for part in parts {
+        emit_part(body, slot, part, subs, blocks)?;
+    }
+    Ok(slot)
+}
+
+// The constants of parts, each in its place.
+fn constants(parts: &[Part]) -> u64
+    ensures { result ≡ constants 0 parts.now }
+{
+    let mut word = 0;
+    for part in parts {
+        word = with_constant(word, part);
+    }
+    word
+}
+
+fn with_constant(word: u64, part: &Part) -> u64
+    ensures { result ≡ with_constant word part.now.o part.now.l part.now.kind }
+{
+    match &part.kind {
+        Kind::Const(number) => {
+            let o = bits(part.o);
+            let l = bits(part.l);
+            if 1 <= l && o + l <= 64 {
+                put(
+                    word,
+                    u32::from(o),
+                    u32::from(l),
+                    take(*number, 0, u32::from(l)),
+                )
+            } else {
+                word
+            }
+        }
+        Kind::Bits(_, _) | Kind::Word(_, _) | Kind::Pointer(_, _) => word,
+    }
+}
+
+// Puts what a part holds into the word in a slot. Constants are there already.
+fn emit_part(
+    body: &mut Body,
+    into: usize,
+    part: &Part,
+    subs: &[Subvalue],
+    blocks: &[usize],
+) -> Result<(), AllocError>
+    ensures { OnOk result (body.new ≡ kind_code subs.now blocks.now into part.now part.now.kind body.old) }
+{
+    match &part.kind {
+        Kind::Const(_) => Ok(()),
+        Kind::Bits(path, a) => {
+            let field = slot_at(field_slots(subs, path.as_slice()), 0);
+            emit_put(body, into, field, bits(*a), bits(part.l), part)
+        }
+        Kind::Word(path, word) => {
+            let field = slot_at(field_slots(subs, path.as_slice()), *word);
+            emit_put(body, into, field, 0, 64, part)
+        }
+        Kind::Pointer(align, block) => {
+            let address = slot_at(blocks, u64::from(*block));
+            let shift = shift_of(*align);
+            emit_put(body, into, address, shift, 64 - shift, part)
+        }
+    }
+}
+
+// Puts bits of a slot into the range of a part.
+fn emit_put(
+    body: &mut Body,
+    into: usize,
+    slot: usize,
+    from: u8,
+    long: u8,
+    part: &Part,
+) -> Result<(), AllocError>
+    ensures { OnOk result (body.new ≡ put_code into slot from long part.now body.old) }
+{
+    let low = emit_low(body, slot, from, long)?;
+    body.push(Instr::Put(into, low, bits(part.o), bits(part.l)))?;
+    Ok(())
+}
+
+// Bits of a slot from bit 0 of a slot on: the slot itself where they stand there already.
+fn emit_low(body: &mut Body, slot: usize, from: u8, long: u8) -> Result<usize, AllocError>
+    ensures slot { IfOk result (λ s. s ≡ taken_slot slot from body.old.slots) }
+    ensures code { OnOk result (body.new ≡ taken_code slot from long body.old) }
+{
+    if from == 0 {
+        return Ok(slot);
+    }
+    let low = emit_take(body, slot, from, long)?;
+    Ok(low)
+}
+
+// The slot of a field's word that a word with one part is.
+fn whole_slot(parts: &[Part], subs: &[Subvalue]) -> Option<usize>
+    ensures { result ≡ whole_slot subs.now parts.now }
+{
+    if parts.len() != 1 {
+        return None;
+    }
+    whole_part(parts.get(0), subs)
+}
+
+fn whole_part(part: Option<&Part>, subs: &[Subvalue]) -> Option<usize>
+    ensures { result ≡ slot_of subs.now (whole_part subs.now (option_copied part.entry)) }
+{
+    match part {
+        None => None,
+        Some(part) => {
+            if part.o == 0 {
+                whole_kind(part.l, &part.kind, subs)
+            } else {
+                None
+            }
+        }
+    }
+}
+
+// A part of so many bits that is at bit 0 and has a field's word whole.
+fn whole_kind(l: u64, kind: &Kind, subs: &[Subvalue]) -> Option<usize>
+    ensures { result ≡ slot_of subs.now (whole_kind subs.now l kind.now) }
+{
+    match kind {
+        Kind::Const(_) | Kind::Pointer(_, _) => None,
+        Kind::Bits(path, a) => {
+            if *a == 0 && is_int(l, field_type(subs, path.as_slice())) {
+                Some(slot_at(field_slots(subs, path.as_slice()), 0))
+            } else {
+                None
+            }
+        }
+        Kind::Word(path, word) => Some(slot_at(field_slots(subs, path.as_slice()), *word)),
+    }
+}
+
+fn is_int(l: u64, ty: Option<Ty>) -> bool
+    ensures { result ≡ is_int l ty }
+{
+    match ty {
+        None | Some(Ty::Named(_)) => false,
+        Some(Ty::Int(bits)) => u64::from(bits) == l,
+    }
+}
+
+// The type of the subvalue at a path.
+fn field_type(subs: &[Subvalue], path: &[u32]) -> Option<Ty>
+    ensures { result ≡ field_type subs.now path.now }
+{
+    match subvalue_at(subs, path) {
+        None => None,
+        Some(held) => Some(held.ty),
+    }
+}
+
+// The slots of the subvalue at a path.
+fn field_slots<'a>(subs: &'a [Subvalue], path: &[u32]) -> &'a [usize]
+    ensures { result.now ≡ field_slots subs.now path.now }
+{
+    match subvalue_at(subs, path) {
+        None => &[],
+        Some(held) => held.slots.as_slice(),
+    }
+}
+
+fn slot_at(slots: &[usize], number: u64) -> usize
+    ensures { result ≡ slice_index slots.now number }
+{
+    match slots.get(number as usize) {
+        None => 0,
+        Some(slot) => *slot,
+    }
+}
+
+// A number of bits, of which no word has more than 64.
+pub(crate) fn bits(count: u64) -> u8
+    ensures { result ≡ capped count }
+{
+    count.min(64) as u8
+}
+
+// The power of two that an alignment is.
+fn shift_of(align: u64) -> u8
+    ensures value { result ≡ shift_of align }
+    ensures small { result ≤ 6 }
+{
+    if align == 2 {
+        1
+    } else if align == 4 {
+        2
+    } else if align == 8 {
+        3
+    } else if align == 16 {
+        4
+    } else if align == 32 {
+        5
+    } else if align == 64 {
+        6
+    } else {
+        0
+    }
+}

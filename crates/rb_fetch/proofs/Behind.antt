@@ -1,0 +1,159 @@
+-- A look with the code of all leaves behind it.
+use Rattle.std.proofs.Common.{◌≡◌, ℕ, ◌+◌, ◌<◌, ◌≤◌, length, List, [], ◌∷◌, ◌++◌, Bool, true, false, Some, sym, subst, ap, ◌∙◌, arith}
+use Rattle.std.specs.Prelude.{slice_get, slice_index}
+use Rattle.std.proofs.lemmas.Option.{same_Some, slice_get_within}
+use Rattle.rb_core.specs.declared.value.Value.{Value}
+use Rattle.rb_core.specs.declared.types.Ty.TheVariants.{Named}
+use Rattle.rb_core.specs.Values.{is_of_type, part_at}
+use Rattle.rb_bytes.specs.Memory.{Memory, IsGood}
+use Rattle.rb_target.specs.declared.body.Hole.{Hole}
+use Rattle.rb_target.specs.Growth.{Grows}
+use Rattle.rb_target.specs.Meaning.{slots_at}
+use Rattle.rb_target.specs.Sheet.{Sheet}
+use Rattle.rb_layout.specs.declared.agreed.LaidOut.{LaidOut}
+use Rattle.rb_layout.specs.declared.layout.Layout.{Layout}
+use Rattle.rb_layout.specs.declared.layout.Leaf.{Leaf}
+use Rattle.rb_layout.specs.Agreement.{Agrees}
+use Rattle.rb_layout.specs.Flattening.{flat_layouts}
+use Rattle.rb_layout.specs.Positions.{leaf_of, layout_of}
+use Rattle.rb_rel.specs.Switches.{depth_of, inner_heads, mend_of}
+use Rattle.rb_fragment.specs.Adding.{Adds}
+use Rattle.rb_fragment.specs.Arms.{AreHoles, AreOfOneWay, ArePatchable, closed}
+use Rattle.rb_fragment.specs.Pieces.{Branches, Piece}
+use Rattle.rb_fragment.specs.Plan.{Plan, Rep, words_of}
+use Rattle.rb_fragment.specs.Slots.{AllBelow}
+use Rattle.rb_fragment.proofs.Holds.{AllBelow-more}
+use Rattle.rb_fragment.proofs.Patching.{closed_slots, holes_patchable}
+use Rattle.rb_fragment.proofs.Pieces.{piece_weaken}
+use Rattle.rb_compose.specs.declared.subvalue.Subvalue.{Subvalue}
+use Rattle.rb_fetch.specs.declared.choice.Way.{Way}
+use Rattle.rb_fetch.specs.Finding.{FindsLeaf, HasLeaf, leaf_count, leaves_within}
+use Rattle.rb_fetch.specs.inner.Choosing.{AreOpen, AreWaysOf, BranchIn, BranchesDone, BranchesStand, ChoosesBelow, ChoosesBy, HasLeaves, IsPartIn, IsPlaceOf, IsRead, IsReady, IsWayAt, PartsHold, Takes, left_of, look_cost}
+use Rattle.rb_fetch.specs.inner.Heads.{is_among}
+use Rattle.rb_fetch.proofs.Branching.{behind_same, way_piece, whole_adds, whole_grows}
+use Rattle.rb_fetch.proofs.Chosen.{leaf_found}
+use Rattle.rb_fetch.proofs.Costs.{left_less}
+use Rattle.rb_fetch.proofs.Ways.{given-more, hold-kept, open-low, open-same, way_within}
+
+module _ (agreed : LaidOut) (flat : agreed.layouts ≡ flat_layouts agreed.covered.program) (agrees : Agrees agreed.covered.program) (t : ℕ) (leaves : List ℕ) (looked : List (List ℕ)) (xs : List Subvalue)
+    (path : List ℕ) (s : ℕ) (words : List ℕ) (old e q : Sheet) (holes : List Hole) (starts : List ℕ) (ways : List Way) (count : ℕ) (has : HasLeaves agreed.layouts s count)
+    (finds : FindsLeaf agreed s words old e holes) (holes_are : AreHoles (length old.code) (leaf_count agreed s) e.code holes) (one : AreOfOneWay holes)
+    (done : BranchesDone agreed t leaves looked xs path s words count e q starts ways) where
+  many_holes : AreHoles (length old.code) count e.code holes
+  many_holes = subst (λ n. AreHoles (length old.code) n e.code holes) (ap leaves_within has.1 ∙ has.2) holes_are
+
+  abbrev whole : Sheet
+  whole = closed q holes starts
+
+  pub look_open : Grows old.code e.code → AreOpen (length old.code) whole.code ways
+  look_open g =
+      open-low (length e.code) (length old.code) whole.code ways g.longer
+      (open-same (length e.code) q.code whole.code ways (λ pc lo hi. behind_same old e q count holes starts many_holes done.grows pc lo) done.are_open)
+
+  pub look_grows : Grows old.code e.code → Grows old.code whole.code
+  look_grows g = whole_grows old e q count holes starts many_holes done.grows g
+
+  -- the holes may be closed
+  pub look_patchable : ArePatchable q.code holes starts
+  look_patchable = holes_patchable (length old.code) e q holes starts done.grows (subst (λ n. AreHoles (length old.code) n e.code holes) (sym done.many) many_holes) done.starts_from
+
+  module _ (part : IsPartIn xs path s words) (plan : Plan) (k : ℕ) (layout : Layout) (ready : IsReady agreed plan t k layout leaves xs old.slots) (place : IsPlaceOf layout leaves looked path s) where
+    abbrev inner : Layout
+    inner = has.0
+
+    abbrev x : Subvalue
+    x = part.1
+
+    is_inner : layout_of plan.layouts s ≡ Some has.0
+    is_inner = ap (λ ls. layout_of ls s) ready.of.layouts ∙ has.1
+
+    below : AllBelow old.slots words
+    below = subst (AllBelow old.slots) part.5 (ready.given part.0 part.1 part.2).0
+
+    long : length words ≡ words_of plan (Named s)
+    long = ap length (sym part.5) ∙ (ready.given part.0 part.1 part.2).1 ∙ ap (words_of plan) part.4
+
+    abbrev most : ℕ
+    most = depth_of plan.layouts (Named s)
+
+    choice : Branches plan old.slots old e holes most (λ n s1 m. HasLeaf plan s n (slots_at s1 words) m) (λ n s1 m. Unit {0})
+    choice = finds plan ready.of below long
+
+    ready1 : IsReady agreed plan t k layout leaves xs e.slots
+    ready1 = record { of = ready.of; is_layout = ready.is_layout; are_leaves = ready.are_leaves; given = given-more plan old.slots e.slots xs choice.adds.more ready.given }
+
+    read1 : IsRead plan s has.0 words e.slots
+    read1 = record { is_inner = is_inner; below = AllBelow-more old.slots e.slots words choice.adds.more below; count = long }
+
+    stand : BranchesStand agreed plan t k layout leaves looked xs path s has.0 words count e q starts ways
+    stand = done.stand plan k layout has.0 ready1 read1
+
+    adds : Adds plan old whole
+    adds = whole_adds old e q count holes starts many_holes done.grows plan old.slots most (λ n s1 m. HasLeaf plan s n (slots_at s1 words) m) (λ n s1 m. Unit {0}) choice one stand.adds done.many done.starts_from done.starts_below
+
+    costs : most + (mend_of plan.layouts s + left_of plan.layouts t k (looked ++ path ∷ [])) ≤ left_of plan.layouts t k looked
+    costs =
+        let own = ready.are_leaves place.index place.number place.is_number in
+        let same = same_Some own.0 place.leaf (sym own.1 ∙ place.is_leaf) in
+        let new : is_among looked place.head.path ≡ false = ap (is_among looked) place.is_path ∙ place.is_new in
+        let le = left_less plan.layouts t k layout ready.is_layout place.number own.0 own.1 own.2 place.place place.head (ap (λ (y : Leaf). slice_get (inner_heads y) place.place) same ∙ place.is_head) looked new in
+        let cost : look_cost plan.layouts place.head ≡ most + mend_of plan.layouts s = ap (λ u. depth_of plan.layouts (Named u) + mend_of plan.layouts u) place.is_type in
+        let rest : left_of plan.layouts t k (looked ++ place.head.path ∷ []) ≡ left_of plan.layouts t k (looked ++ path ∷ []) = ap (λ p. left_of plan.layouts t k (looked ++ p ∷ [])) place.is_path in
+        omega (arith, le, cost, rest)
+
+    module _ (v u : Value) (at : part_at v path ≡ Some u) (l : ℕ) (is_l : leaf_of has.0 u ≡ Some l) (n : ℕ) where
+      abbrev Under : Bool → List ℕ → Memory → Type 0
+      Under clean s1 m = IsGood m × PartsHold plan clean v s1 m xs × Rep plan m clean (Named s) u (slots_at s1 words)
+
+      rep_of : (clean : Bool) (s1 : List ℕ) (m : Memory) → PartsHold plan clean v s1 m xs → Rep plan m clean (Named s) u (slots_at s1 words)
+      rep_of clean s1 m hold =
+          let r = hold part.0 part.1 part.2 u (ap (part_at v) part.3 ∙ at) in
+          subst (λ ws. Rep plan m clean (Named s) u (slots_at s1 ws)) part.5 (subst (λ ty. Rep plan m clean ty u (slots_at s1 part.1.held.slots)) part.4 r)
+
+      module _ (br : BranchIn e q (slice_index starts l) ways (λ first last own. ChoosesBelow plan t k layout leaves looked xs path s has.0 words l first last own))
+          (tk : Takes plan br.first br.last br.own v n (mend_of plan.layouts s + left_of plan.layouts t k (looked ++ path ∷ [])) Under) where
+        taken : Takes plan old whole ways v n (left_of plan.layouts t k looked) (λ clean s1 m. IsGood m × PartsHold plan clean v s1 m xs)
+        taken =
+            let am = br.among tk.number tk.way tk.is_way in
+            record {
+              number = am.0;
+              way = tk.way;
+              is_way = am.1;
+              is_leaf = tk.is_leaf;
+              parts = tk.parts;
+              does = λ clean. go clean;
+            }
+          where
+            go : (clean : Bool) → Piece plan old.slots old whole (IsWayAt ways) (left_of plan.layouts t k looked) (λ s1 m. IsGood m × PartsHold plan clean v s1 m xs) (λ pc s1 m. (pc ≡ tk.way.pc) × PartsHold plan clean v s1 m tk.way.fields)
+            go clean =
+                let j = mend_of plan.layouts s + left_of plan.layouts t k (looked ++ path ∷ []) in
+                let P : List ℕ → Memory → Type 0 = λ s1 m. IsGood m × PartsHold plan clean v s1 m xs in
+                let Exit : ℕ → List ℕ → Memory → Type 0 = λ pc s1 m. (pc ≡ tk.way.pc) × PartsHold plan clean v s1 m tk.way.fields in
+                let up : old.slots ≤ br.first.slots = let a = choice.adds.more in let b = br.low in omega (arith, a, b) in
+                let arm = piece_weaken plan br.first.slots old.slots br.first br.last (IsWayAt br.own) j j (Under clean) (Under clean) Exit Exit up (omega arith) (λ s1 m y. y) (λ pc s1 m y. y) (tk.does clean) in
+                let all = way_piece old e q count holes starts many_holes done.grows plan old.slots most (λ i s1 m. HasLeaf plan s i (slots_at s1 words) m) (λ i s1 m. Unit {0}) choice one stand.adds done.many done.starts_from done.starts_below
+                l br.first br.last br.begins br.behind br.longer br.more (IsWayAt ways) (IsWayAt br.own) (λ pc w. (way_within (length e.code) q.code ways pc done.are_open w).0) br.alone j P (Under clean) Exit arm
+                (λ s1 m y. (y.0, record { layout = has.0; is_layout = is_inner; clean = clean; value = u; represents = rep_of clean s1 m y.1; is_leaf = is_l }))
+                (λ s1 s2 m y keeps mid. let h = hold-kept plan clean v m old.slots s1 s2 xs ready.given keeps y.1 in (y.0, h, rep_of clean s2 m h)) in
+                let le = costs in
+                piece_weaken plan old.slots old.slots old whole (IsWayAt ways) (most + j) (left_of plan.layouts t k looked) P P Exit Exit (omega arith) le (λ s1 m y. y) (λ pc s1 m y. y) all
+
+  pub look_chooses : IsPartIn xs path s words → ChoosesBy agreed t leaves looked xs path s old whole ways
+  look_chooses part plan k layout ready place =
+      let st = stand part plan k layout ready place in
+      let slots : whole.slots ≡ q.slots = closed_slots q holes starts in
+      let same : plan.layouts ≡ flat_layouts plan.program = ready.of.layouts ∙ flat ∙ ap flat_layouts (sym ready.of.program) in
+      let ag : Agrees plan.program = subst Agrees (sym ready.of.program) agrees in
+      let is_flat : layout_of (flat_layouts plan.program) s ≡ Some has.0 = ap (λ ls. layout_of ls s) (sym same) ∙ is_inner part plan k layout ready place in
+      record {
+        adds = adds part plan k layout ready place;
+        are_ways = subst (λ n. AreWaysOf plan layout n ways) (sym slots) st.are_ways;
+        takes = λ v typed parts follows n i en at_n.
+            let p = parts part.0 part.1 part.2 in
+            let at : part_at v path ≡ Some p.0 = ap (part_at v) (sym part.3) ∙ p.1 in
+            let of : is_of_type plan.program.types p.0 (Named s) ≡ true = ap (is_of_type plan.program.types p.0) (sym part.4) ∙ p.2 in
+            let f = leaf_found plan.program ag s has.0 is_flat p.0 of in
+            let lt : f.number < count = let w = slice_get_within has.0.leaves f.number f.leaf f.is_number in let c = has.2 in omega (arith, w, c) in
+            let br = st.each f.number lt in
+            taken part plan k layout ready place v p.0 at f.number f.is_leaf n br (br.does.takes v p.0 typed parts follows at of f.is_leaf n i en at_n);
+      }

@@ -1,0 +1,356 @@
+-- The code of the leaves of a part: below one leaf, one leaf more, and all of them behind the look.
+use Rattle.std.proofs.Common.{◌≡◌, ℕ, zero, suc, ◌+◌, ◌<◌, ◌≤◌, ◌==◌, ◌⊎◌, inl, inr, length, List, [], ◌∷◌, ◌++◌, Bool, true, false, Some, refl, sym, subst, ap, ◌∙◌, arith, length-append}
+use Rattle.std.specs.Prelude.{slice_get, slice_index, if◌then◌else◌}
+use Rattle.std.proofs.lemmas.Option.{same_Some}
+use Rattle.rb_core.specs.declared.value.Value.{Value, out-Value}
+use Rattle.rb_core.specs.declared.types.Ty.TheVariants.{Named}
+use Rattle.rb_core.specs.declared.types.ConRef.{ConRef}
+use Rattle.rb_core.specs.Matching.{matches_of}
+use Rattle.rb_layout.specs.Agreement.{Agrees}
+use Rattle.rb_core.specs.Values.{is_of_type, part_at}
+use Rattle.rb_bytes.specs.Memory.{Memory, IsGood}
+use Rattle.rb_target.specs.Growth.{Grows, Nowhere}
+use Rattle.rb_target.specs.Meaning.{slots_at}
+use Rattle.rb_target.specs.Sheet.{Sheet}
+use Rattle.rb_target.proofs.Growing.{Grows-refl, Grows-trans, below_or}
+use Rattle.rb_layout.specs.declared.agreed.LaidOut.{LaidOut}
+use Rattle.rb_layout.specs.declared.layout.Layout.{Layout}
+use Rattle.rb_layout.specs.declared.layout.Leaf.{Leaf}
+use Rattle.rb_layout.specs.Flattening.{flat_layouts, same_path}
+use Rattle.rb_layout.specs.Positions.{leaf_of, layout_of}
+use Rattle.rb_rel.specs.Switches.{Head, choose_of, inner_heads, is_leaf_for, mend_leaf, mend_of}
+use Rattle.rb_rel.proofs.Lists.{both, and_true, get-append, get-left, get-right}
+use Rattle.rb_rel.proofs.Reading.{same_nat}
+use Rattle.rb_fragment.specs.Pieces.{AtEnd, Piece}
+use Rattle.rb_fragment.specs.Plan.{Plan, Rep}
+use Rattle.rb_fragment.specs.Slots.{AllBelow, AllFrom}
+use Rattle.rb_fragment.proofs.Adding.{Adds-refl, Adds-trans}
+use Rattle.rb_fragment.proofs.Holds.{AllBelow-more}
+use Rattle.rb_fragment.proofs.Pieces.{piece_frame, piece_seq, piece_weaken}
+use Rattle.rb_compose.specs.declared.subvalue.Subvalue.{Subvalue}
+use Rattle.rb_fetch.specs.declared.choice.Way.{Way}
+use Rattle.rb_fetch.specs.inner.Choosing.{AreOpen, BranchIn, BranchesDone, BranchesStand, ChoosesBelow, ChoosesFrom, ChoosesUnder, FetchesFields, Follows, GivesFields, HasCon, HasParts, HasRoot, IsRead, IsReady, IsWayAt, IsWayOf, PartsGiven, PartsHold, Takes, left_of, root_con}
+use Rattle.rb_fetch.specs.inner.Fields.{leaf_at, leaf_within}
+use Rattle.rb_fetch.specs.inner.Heads.{can_be, can_be_leaf, is_among, is_at, leaves_that_can_be}
+use Rattle.rb_fetch.proofs.Chosen.{con_same, inner_shows, matched_leaf, rooted}
+use Rattle.rb_fetch.proofs.Constructors.{shows}
+use Rattle.rb_fetch.proofs.Costs.{among-split, mend_less, path_same, path_self}
+use Rattle.rb_fetch.proofs.Ways.{given-append, given-more, given_at-more, hold-append, hold-kept, open-append, parts-append, way-split, way_within}
+
+-- Leaves that can still be here -------------------------------------------------------------------
+
+at-of : (path : List ℕ) (con : ℕ) (h : Head) → is_at path con h ≡ true → h.path ≡ path → h.con.con ≡ con
+at-of path con h e same = go (same_path h.path path) (ap (λ p. same_path p path) same ∙ path_self path) e
+  where
+    go : (b : Bool) → b ≡ true → (if b then h.con.con == con else true) ≡ true → h.con.con ≡ con
+    go true is x = same_nat h.con.con con x
+    go false is x = absurd cc
+
+at-from : (path : List ℕ) (con : ℕ) (h : Head) → (h.path ≡ path → h.con.con ≡ con) → is_at path con h ≡ true
+at-from path con h f = go (same_path h.path path) refl
+  where
+    self : (n : ℕ) → (n == n) ≡ true
+    self n = grind arith
+
+    go : (b : Bool) → same_path h.path path ≡ b → (if b then h.con.con == con else true) ≡ true
+    go true is = ap (λ n. n == con) (f (path_same h.path path is)) ∙ self con
+    go false is = refl
+
+can-of : (path : List ℕ) (con : ℕ) (hs : List Head) → can_be path con hs ≡ true → (k : ℕ) (h : Head) → slice_get hs k ≡ Some h → h.path ≡ path → h.con.con ≡ con
+can-of path con [] e k h is same = absurd cc
+can-of path con (x ∷ hs) e zero h is same =
+    let b = both (is_at path con x) (can_be path con hs) e in at-of path con h (ap (is_at path con) (sym (same_Some x h is)) ∙ b.0) same
+can-of path con (x ∷ hs) e (suc k) h is same = can-of path con hs (both (is_at path con x) (can_be path con hs) e).1 k h is same
+
+can-from : (path : List ℕ) (con : ℕ) (hs : List Head) → ((k : ℕ) (h : Head) → slice_get hs k ≡ Some h → h.path ≡ path → h.con.con ≡ con) → can_be path con hs ≡ true
+can-from path con [] f = refl
+can-from path con (x ∷ hs) f = and_true (is_at path con x) (can_be path con hs) (at-from path con x (f 0 x refl)) (can-from path con hs (λ k h e. f (suc k) h e))
+
+module _ (layouts : List Layout) (t : ℕ) (path : List ℕ) (con : ℕ) where
+  abbrev Can : ℕ → Type 0
+  Can n = can_be_leaf path con (leaf_at layouts t n) ≡ true
+
+  kept-of : (ns : List ℕ) (i n : ℕ) → slice_get (leaves_that_can_be layouts t path con ns) i ≡ Some n → ((j : ℕ) × (slice_get ns j ≡ Some n)) × Can n
+  kept-of [] i n e = absurd cc
+  kept-of (x ∷ ns) i n e = go (can_be_leaf path con (leaf_at layouts t x)) refl i e (kept-of ns)
+    where
+      go : (b : Bool) → can_be_leaf path con (leaf_at layouts t x) ≡ b → (i : ℕ) → slice_get (if b then x ∷ leaves_that_can_be layouts t path con ns else leaves_that_can_be layouts t path con ns) i ≡ Some n
+          → ((i n : ℕ) → slice_get (leaves_that_can_be layouts t path con ns) i ≡ Some n → ((j : ℕ) × (slice_get ns j ≡ Some n)) × Can n) → ((j : ℕ) × (slice_get (x ∷ ns) j ≡ Some n)) × Can n
+      go true is zero e1 rest = ((0, e1), subst Can (same_Some x n e1) is)
+      go true is (suc i1) e1 rest = let r = rest i1 n e1 in ((suc r.0.0, r.0.1), r.1)
+      go false is i1 e1 rest = let r = rest i1 n e1 in ((suc r.0.0, r.0.1), r.1)
+
+  kept-from : (ns : List ℕ) (j n : ℕ) → slice_get ns j ≡ Some n → Can n → (i : ℕ) × (slice_get (leaves_that_can_be layouts t path con ns) i ≡ Some n)
+  kept-from [] j n e can = absurd cc
+  kept-from (x ∷ ns) zero n e can =
+      (0, ap (λ b. slice_get (if b then x ∷ leaves_that_can_be layouts t path con ns else leaves_that_can_be layouts t path con ns) 0) (subst Can (sym (same_Some x n e)) can) ∙ e)
+  kept-from (x ∷ ns) (suc j) n e can = go (can_be_leaf path con (leaf_at layouts t x)) (kept-from ns j n e can)
+    where
+      go : (b : Bool) → (i : ℕ) × (slice_get (leaves_that_can_be layouts t path con ns) i ≡ Some n)
+          → (i : ℕ) × (slice_get (if b then x ∷ leaves_that_can_be layouts t path con ns else leaves_that_can_be layouts t path con ns) i ≡ Some n)
+      go true r = (suc r.0, r.1)
+      go false r = r
+
+-- Below one leaf ----------------------------------------------------------------------------------
+
+-- a value that a provenance matches is by the constructor at its root
+root_shown : (leaf : Leaf) (k : ℕ) (u : Value) → is_leaf_for k leaf ≡ true → matches_of leaf.prov u ≡ true → root_con (out-Value u) ≡ Some k
+root_shown leaf k u is m =
+    let r = rooted k leaf.prov is in
+    let h = shows leaf.prov u m 0 (record { path = []; con = r.con }) r.is_root in
+    ap (λ x. root_con (out-Value x)) (same_Some u h.0 h.1) ∙ h.2 ∙ ap Some r.is_con
+
+module _ (agreed : LaidOut) (flat : agreed.layouts ≡ flat_layouts agreed.covered.program) (agrees : Agrees agreed.covered.program) (t : ℕ) (leaves : List ℕ) (looked : List (List ℕ)) (xs : List Subvalue) (path : List ℕ) where
+  module _ (words : List ℕ) (l : ℕ) (con : ConRef) (root : HasRoot agreed.layouts con.ty l con.con) (a b c : Sheet) (ys : List Subvalue) (ways : List Way)
+      (fetches : FetchesFields agreed path con l words a b xs ys) (chooses : ChoosesFrom agreed t (leaves_that_can_be agreed.layouts t path con.con leaves) (looked ++ path ∷ []) ys b c ways)
+      (opened : AreOpen (length b.code) c.code ways) where
+    abbrev kept : List ℕ
+    kept = leaves_that_can_be agreed.layouts t path con.con leaves
+
+    abbrev looked1 : List (List ℕ)
+    looked1 = looked ++ path ∷ []
+
+    module _ (plan : Plan) (k : ℕ) (layout inner : Layout) (ready : IsReady agreed plan t k layout leaves xs a.slots) (read : IsRead plan con.ty inner words a.slots) where
+      leaf : Leaf
+      leaf = root.0
+
+      is_inner_leaf : slice_get inner.leaves l ≡ Some root.0
+      is_inner_leaf = ap (λ o. leaf_within o l) (sym (ap (λ ls. layout_of ls con.ty) (sym ready.of.layouts) ∙ read.is_inner)) ∙ root.1
+
+      abbrev leaf_in_plan : (n : ℕ) (x : Leaf) → slice_get layout.leaves n ≡ Some x → leaf_at agreed.layouts t n ≡ Some x
+      leaf_in_plan n x e = ap (λ o. leaf_within o n) (ap (λ ls. layout_of ls t) (sym ready.of.layouts) ∙ ready.is_layout) ∙ e
+
+      mended : mend_leaf (choose_of plan.layouts) root.0 ≤ mend_of plan.layouts con.ty
+      mended =
+          let e : plan.layouts ≡ flat_layouts plan.program = ready.of.layouts ∙ flat ∙ ap flat_layouts (sym ready.of.program) in
+          let ag : Agrees plan.program = subst Agrees (sym ready.of.program) agrees in
+          subst (λ ls. layout_of ls con.ty ≡ Some inner → mend_leaf (choose_of ls) root.0 ≤ mend_of ls con.ty) (sym e)
+          (λ is. mend_less plan.program ag con.ty inner is l root.0 is_inner_leaf) read.is_inner
+
+      module _ (f : GivesFields plan path con.ty l inner root.0 words a b xs ys) where
+        ready1 : IsReady agreed plan t k layout kept ys b.slots
+        ready1 = record {
+          of = ready.of;
+          is_layout = ready.is_layout;
+          are_leaves = λ i n e. let r = kept-of agreed.layouts t path con.con leaves i n e in ready.are_leaves r.0.0 n r.0.1;
+          given = subst (PartsGiven plan b.slots) (sym f.more) (given-append plan b.slots xs f.fresh (given-more plan a.slots b.slots xs f.adds.more ready.given) f.given);
+        }
+
+        module _ (v u : Value) (parts : HasParts plan.program.types v xs) (follows : Follows layout v leaves looked) (at : part_at v path ≡ Some u) (of : is_of_type plan.program.types u (Named con.ty) ≡ true) (is : leaf_of inner u ≡ Some l) where
+          has_con : HasCon v path con.con
+          has_con = (u, at, root_shown root.0 con.con u root.2 (matched_leaf inner u l root.0 is is_inner_leaf))
+
+          parts1 : HasParts plan.program.types v ys
+          parts1 = subst (HasParts plan.program.types v) (sym f.more) (parts-append plan.program.types v xs f.fresh parts (f.parts v u at of is))
+
+          follows1 : Follows layout v kept looked1
+          follows1 i n x j h en el eh among = go (is_among looked h.path) refl
+            where
+              go : (y : Bool) → is_among looked h.path ≡ y → HasCon v h.path h.con.con
+              go true e = let r = kept-of agreed.layouts t path con.con leaves i n en in follows r.0.0 n x j h r.0.1 el eh e
+              go false e =
+                  let r = kept-of agreed.layouts t path con.con leaves i n en in
+                  let same : path ≡ h.path = among-split looked path h.path among e in
+                  let can : can_be path con.con (inner_heads x) ≡ true = ap (can_be_leaf path con.con) (sym (leaf_in_plan n x el)) ∙ r.1 in
+                  let con_is : h.con.con ≡ con.con = can-of path con.con (inner_heads x) can j h eh (sym same) in
+                  subst (λ q. HasCon v h.path q) (sym con_is) (subst (λ q. HasCon v q con.con) same has_con)
+
+          still : (n i : ℕ) → leaf_of layout v ≡ Some n → slice_get leaves i ≡ Some n → (j : ℕ) × (slice_get kept j ≡ Some n)
+          still n i en at_n =
+              let own = ready.are_leaves i n at_n in
+              let m = matched_leaf layout v n own.0 en own.1 in
+              let can : can_be path con.con (inner_heads own.0) ≡ true = can-from path con.con (inner_heads own.0)
+              (λ j h e same. con_same v path h.con.con con.con (subst (λ q. HasCon v q h.con.con) same (inner_shows own.0 v m j h e)) has_con) in
+              kept-from agreed.layouts t path con.con leaves i n at_n (ap (can_be_leaf path con.con) (leaf_in_plan n own.0 own.1) ∙ can)
+
+          module _ (n : ℕ) (tk : Takes plan b c ways v n (left_of plan.layouts t k looked1) (λ clean s m. IsGood m × PartsHold plan clean v s m ys)) (clean : Bool) where
+            abbrev F : List ℕ → Memory → Type 0
+            F s m = IsGood m × PartsHold plan clean v s m xs
+
+            abbrev Here : List ℕ → Memory → Type 0
+            Here s m = IsGood m × Rep plan m clean (Named con.ty) u (slots_at s words)
+
+            abbrev Got : List ℕ → Memory → Type 0
+            Got s m = PartsHold plan clean v s m f.fresh
+
+            abbrev Mid : List ℕ → Memory → Type 0
+            Mid s m = IsGood m × PartsHold plan clean v s m ys
+
+            abbrev Exit : ℕ → List ℕ → Memory → Type 0
+            Exit pc s m = (pc ≡ tk.way.pc) × PartsHold plan clean v s m tk.way.fields
+
+            abbrev Pre : List ℕ → Memory → Type 0
+            Pre s m = IsGood m × PartsHold plan clean v s m xs × Rep plan m clean (Named con.ty) u (slots_at s words)
+
+            abbrev k1 : ℕ
+            k1 = mend_leaf (choose_of plan.layouts) root.0
+
+            abbrev k2 : ℕ
+            k2 = left_of plan.layouts t k looked1
+
+            first : Piece plan a.slots a b Nowhere k1 Pre (λ pc s m. F s m × AtEnd b Got pc s m)
+            first =
+                let framed = piece_frame plan a.slots a b Nowhere k1 F Here (AtEnd b Got) (λ s s' m keeps x. (x.0, hold-kept plan clean v m a.slots s s' xs ready.given keeps x.1)) (f.does v u at of is clean) in
+                piece_weaken plan a.slots a.slots a b Nowhere k1 k1 (λ s m. F s m × Here s m) Pre (λ pc s m. F s m × AtEnd b Got pc s m) (λ pc s m. F s m × AtEnd b Got pc s m) (omega arith) (omega arith)
+                (λ s m x. ((x.0, x.1), (x.0, x.2))) (λ pc s m x. x) framed
+
+            second : Piece plan a.slots b c (IsWayAt ways) k2 Mid Exit
+            second = piece_weaken plan b.slots a.slots b c (IsWayAt ways) k2 k2 Mid Mid Exit Exit f.adds.more (omega arith) (λ s m x. x) (λ pc s m x. x) (tk.does clean)
+
+            both_pieces : Piece plan a.slots a c (λ pc. Nowhere pc ⊎ IsWayAt ways pc) (k1 + k2) Pre Exit
+            both_pieces = piece_seq plan a.slots a b c Nowhere (IsWayAt ways) k1 k2 Pre Mid (λ pc s m. F s m × AtEnd b Got pc s m) Exit first second (λ pc x. absurd x)
+                (λ pc x. (way_within (length b.code) c.code ways pc opened x).0)
+                (λ pc s m x. inl (x.1.0, (x.0.0, subst (PartsHold plan clean v s m) (sym f.more) (hold-append plan clean v m s xs f.fresh x.0.1 x.1.1))))
+
+            one_piece : Piece plan a.slots a c (IsWayAt ways) (k1 + k2) Pre Exit
+            one_piece = record {
+              adds = both_pieces.adds;
+              low = both_pieces.low;
+              runs = λ final callee next law agrees1 s w long pre.
+                  both_pieces.runs final callee next law (record { same = λ pc lo hi out. agrees1.same pc lo hi (λ x. out (inr x)) }) s w long pre;
+            }
+
+            goes_under : Piece plan a.slots a c (IsWayAt ways) (mend_of plan.layouts con.ty + k2) Pre Exit
+            goes_under =
+                let le = mended in
+                piece_weaken plan a.slots a.slots a c (IsWayAt ways) (k1 + k2) (mend_of plan.layouts con.ty + k2) Pre Pre Exit Exit (omega arith) (omega (arith, le)) (λ s m x. x) (λ pc s m x. x) one_piece
+
+    pub chooses_under : ChoosesUnder agreed t leaves looked xs path con.ty words l a c ways
+    chooses_under plan k layout inner ready read =
+        let f = fetches plan inner root.0 ready.of read (is_inner_leaf plan k layout inner ready read) root.2 in
+        let ch = chooses plan k layout (ready1 plan k layout inner ready read f) in
+        record {
+          adds = Adds-trans plan a b c f.adds ch.adds;
+          are_ways = ch.are_ways;
+          takes = λ v u typed parts follows at of is n i en at_n.
+              let st = still plan k layout inner ready read f v u parts follows at of is n i en at_n in
+              let tk = ch.takes v typed (parts1 plan k layout inner ready read f v u parts follows at of is) (follows1 plan k layout inner ready read f v u parts follows at of is) n st.0 en st.1 in
+              record {
+                number = tk.number;
+                way = tk.way;
+                is_way = tk.is_way;
+                is_leaf = tk.is_leaf;
+                parts = tk.parts;
+                does = λ clean. goes_under plan k layout inner ready read f v u parts follows at of is n tk clean;
+              };
+        }
+
+-- One leaf more -----------------------------------------------------------------------------------
+
+index-append : (ns : List ℕ) (y k : ℕ) → k < length ns → slice_index (ns ++ y ∷ []) k ≡ slice_index ns k
+index-append [] y k lt = absurd (omega (arith, lt))
+index-append (x ∷ ns) y zero lt = refl
+index-append (x ∷ ns) y (suc k) lt = index-append ns y k (omega (arith, lt))
+
+index-last : (ns : List ℕ) (y : ℕ) → slice_index (ns ++ y ∷ []) (length ns) ≡ y
+index-last [] y = refl
+index-last (x ∷ ns) y = index-last ns y
+
+AllFrom-append : (n : ℕ) (ns : List ℕ) (y : ℕ) → AllFrom n ns → n ≤ y → AllFrom n (ns ++ y ∷ [])
+AllFrom-append n [] y all le = (le, tt)
+AllFrom-append n (x ∷ ns) y all le = (all.0, AllFrom-append n ns y all.1 le)
+
+AllBelow-append : (n : ℕ) (ns : List ℕ) (y : ℕ) → AllBelow n ns → y < n → AllBelow n (ns ++ y ∷ [])
+AllBelow-append n [] y all lt = (lt, tt)
+AllBelow-append n (x ∷ ns) y all lt = (all.0, AllBelow-append n ns y all.1 lt)
+
+ways-of-more : (plan : Plan) (layout : Layout) (n m : ℕ) (way : Way) → n ≤ m → IsWayOf plan layout n way → IsWayOf plan layout m way
+ways-of-more plan layout n m way le w = (w.0, w.1, given_at-more plan n m _ way.fields le w.2)
+
+module _ (agreed : LaidOut) (t : ℕ) (leaves : List ℕ) (looked : List (List ℕ)) (xs : List Subvalue) (path : List ℕ) (s : ℕ) (words : List ℕ) where
+  abbrev Done : ℕ → Sheet → Sheet → List ℕ → List Way → Type 0
+  Done = BranchesDone agreed t leaves looked xs path s words
+
+  pub branches_none : (e : Sheet) → Done 0 e e [] []
+  branches_none e = record {
+    grows = Grows-refl e.code;
+    starts_from = tt;
+    starts_below = tt;
+    many = refl;
+    are_open = tt;
+    stand = λ plan k layout inner ready read. record {
+      adds = Adds-refl plan e;
+      are_ways = λ i way h. absurd cc;
+      each = λ l lt. absurd (omega (arith, lt));
+    };
+  }
+
+  module _ (i : ℕ) (e q d : Sheet) (starts : List ℕ) (ways own : List Way) (done : Done i e q starts ways) (grows : Grows q.code d.code) (opened : AreOpen (length q.code) d.code own)
+      (under : ChoosesUnder agreed t leaves looked xs path s words i q d own) where
+    abbrev starts1 : List ℕ
+    starts1 = starts ++ length q.code ∷ []
+
+    ready_more : (plan : Plan) (k : ℕ) (layout : Layout) → e.slots ≤ q.slots → IsReady agreed plan t k layout leaves xs e.slots → IsReady agreed plan t k layout leaves xs q.slots
+    ready_more plan k layout le r = record { of = r.of; is_layout = r.is_layout; are_leaves = r.are_leaves; given = given-more plan e.slots q.slots xs le r.given }
+
+    read_more : (plan : Plan) (inner : Layout) → e.slots ≤ q.slots → IsRead plan s inner words e.slots → IsRead plan s inner words q.slots
+    read_more plan inner le r = record { is_inner = r.is_inner; below = AllBelow-more e.slots q.slots words le r.below; count = r.count }
+
+    module _ (plan : Plan) (k : ℕ) (layout inner : Layout) (ready : IsReady agreed plan t k layout leaves xs e.slots) (read : IsRead plan s inner words e.slots) where
+      abbrev Does : ℕ → Sheet → Sheet → List Way → Type 0
+      Does l first last ws = ChoosesBelow plan t k layout leaves looked xs path s inner words l first last ws
+
+      old_one : (l : ℕ) → l < i → q.slots ≤ d.slots → BranchIn e q (slice_index starts l) ways (Does l) → BranchIn e d (slice_index starts1 l) (ways ++ own) (Does l)
+      old_one l lt le b =
+          let few : l < length starts = let m = done.many in omega (arith, lt, m) in
+          record {
+            first = b.first;
+            last = b.last;
+            own = b.own;
+            begins = index-append starts (length q.code) l few ∙ b.begins;
+            behind = b.behind;
+            low = b.low;
+            longer = Grows-trans b.last.code q.code d.code b.longer grows;
+            more = let m = b.more in omega (arith, m, le);
+            among = λ j way h. let r = b.among j way h in (r.0, get-left ways own r.0 way r.1);
+            alone = λ pc w lo hi. elim (way-split ways own pc w) [
+              | inl x ↦ b.alone pc x lo hi
+              | inr x ↦ (let r = way_within (length q.code) d.code own pc opened x in let g = b.longer.longer in absurd (omega (arith, hi, g, r.0)))
+            ];
+            does = b.does;
+          }
+
+      new_one : e.slots ≤ q.slots → BranchIn e d (slice_index starts1 i) (ways ++ own) (Does i)
+      new_one le = record {
+        first = q;
+        last = d;
+        own = own;
+        begins = ap (λ n. slice_index starts1 n) (sym done.many) ∙ index-last starts (length q.code);
+        behind = done.grows.longer;
+        low = le;
+        longer = Grows-refl d.code;
+        more = omega arith;
+        among = λ j way h. get-right ways own j way h;
+        alone = λ pc w lo hi. elim (way-split ways own pc w) [
+          | inl x ↦ (let r = way_within (length e.code) q.code ways pc done.are_open x in absurd (omega (arith, lo, r.1)))
+          | inr x ↦ x
+        ];
+        does = under plan k layout inner (ready_more plan k layout le ready) (read_more plan inner le read);
+      }
+
+      stands_more : BranchesStand agreed plan t k layout leaves looked xs path s inner words (i + 1) e d starts1 (ways ++ own)
+      stands_more =
+          let st = done.stand plan k layout inner ready read in
+          let le = st.adds.more in
+          let b = under plan k layout inner (ready_more plan k layout le ready) (read_more plan inner le read) in
+          let up = b.adds.more in
+          record {
+            adds = Adds-trans plan e q d st.adds b.adds;
+            are_ways = λ j way h. elim (get-append ways own j way h) [ inl x ↦ ways-of-more plan layout q.slots d.slots way up (st.are_ways j way x) | inr x ↦ b.are_ways x.0 way x.1 ];
+            each = λ l lt. elim (below_or l i) [
+              | inl less ↦ old_one l less up (st.each l less)
+              | inr high ↦ (let same : i ≡ l = omega (arith, lt, high) in subst (λ n. BranchIn e d (slice_index starts1 n) (ways ++ own) (Does n)) same (new_one le))
+            ];
+          }
+
+    pub branches_more : Done (i + 1) e d starts1 (ways ++ own)
+    branches_more = record {
+      grows = Grows-trans e.code q.code d.code done.grows grows;
+      starts_from = AllFrom-append (length e.code) starts (length q.code) done.starts_from done.grows.longer;
+      starts_below =
+          let g = grows.longer in
+          AllBelow-append (length d.code + 1) starts (length q.code) (AllBelow-more (length q.code + 1) (length d.code + 1) starts (omega (arith, g)) done.starts_below) (omega (arith, g));
+      many = length-append starts (length q.code ∷ []) ∙ ap (λ n. n + 1) done.many;
+      are_open = open-append (length e.code) (length q.code) q.code d.code ways own grows done.grows.longer (omega arith) done.are_open opened;
+      stand = λ plan k layout inner ready read. stands_more plan k layout inner ready read;
+    }

@@ -1,0 +1,80 @@
+-- Constructors of patterns by position, form by form.
+use Rattle.std.proofs.Common.{◌≡◌, ℕ, suc, ◌+◌, ◌≤◌, List, [], ◌∷◌, ◌++◌, map, length, drop, add-one, Some, refl, sym, ap, ◌∙◌}
+use Rattle.std.specs.Prelude.{slice_get}
+use Rattle.std.proofs.lemmas.List.{append-nil, append_assoc, map-append, drop_all}
+use Rattle.rb_core.specs.declared.types.ConRef.{ConRef}
+use Rattle.rb_core.specs.declared.pattern.Pat.{Pat, Wild, Var, Num, Con}
+use Rattle.rb_core.proofs.PatternLaws.{fold-Wild, fold-Var, fold-Num, fold-Con}
+use Rattle.rb_layout.specs.declared.layout.Leaf.{Leaf}
+use Rattle.rb_layout.proofs.Walks.{drop_from}
+use Rattle.rb_rel.specs.Switches.{Head, head_below, heads_below, heads_of, heads_step, inner_heads}
+use Rattle.rb_fetch.specs.declared.heads.Place.{Place}
+use Rattle.rb_fetch.specs.inner.Heads.{head_under, shown_heads}
+
+under-below : (path : List ℕ) (i : ℕ) (hs : List Head) → map (head_under path) (map (head_below i) hs) ≡ map (head_under (path ++ i ∷ [])) hs
+under-below path i [] = refl
+under-below path i (h ∷ hs) =
+    let here : path ++ i ∷ h.path ≡ (path ++ i ∷ []) ++ h.path = sym (append_assoc path (i ∷ []) h.path) in
+    ap (λ (p : List ℕ). record { path = p; con = h.con } ∷ map (head_under path) (map (head_below i) hs)) here
+    ∙ ap (λ (xs : List Head). record { path = (path ++ i ∷ []) ++ h.path; con = h.con } ∷ xs) (under-below path i hs)
+
+abbrev rest : List ℕ → List Pat → ℕ → List Head
+rest path pats i = map (head_under path) (heads_below (map heads_of (drop i pats)) i)
+
+rest-more : (path : List ℕ) (pats : List Pat) (i : ℕ) (p : Pat) → slice_get pats i ≡ Some p → rest path pats i ≡ map (head_under (path ++ i ∷ [])) (heads_of p) ++ rest path pats (i + 1)
+rest-more path pats i p is =
+    ap (λ (ps : List Pat). map (head_under path) (heads_below (map heads_of ps) i)) (drop_from pats i p is)
+    ∙ map-append (head_under path) (map (head_below i) (heads_of p)) (heads_below (map heads_of (drop (suc i) pats)) (i + 1))
+    ∙ ap (λ (xs : List Head). xs ++ map (head_under path) (heads_below (map heads_of (drop (suc i) pats)) (i + 1))) (under-below path i (heads_of p))
+    ∙ ap (λ n. map (head_under (path ++ i ∷ [])) (heads_of p) ++ map (head_under path) (heads_below (map heads_of (drop n pats)) (i + 1))) (sym (add-one i))
+
+pub heads-more : (path longer : List ℕ) (pats : List Pat) (i : ℕ) (p : Pat) (here next start : List Head) → slice_get pats i ≡ Some p → longer ≡ path ++ i ∷ []
+    → next ≡ here ++ map (head_under longer) (heads_of p) → here ++ rest path pats i ≡ start → next ++ rest path pats (i + 1) ≡ start
+heads-more path longer pats i p here next start is long added all =
+    ap (λ (xs : List Head). xs ++ rest path pats (i + 1)) (added ∙ ap (λ (q : List ℕ). here ++ map (head_under q) (heads_of p)) long)
+    ∙ append_assoc here (map (head_under (path ++ i ∷ [])) (heads_of p)) (rest path pats (i + 1))
+    ∙ ap (λ (xs : List Head). here ++ xs) (sym (rest-more path pats i p is)) ∙ all
+
+pub heads-end : (path : List ℕ) (pats : List Pat) (i : ℕ) (here start : List Head) → length pats ≤ i → here ++ rest path pats i ≡ start → here ≡ start
+heads-end path pats i here start le all =
+    let nothing : rest path pats i ≡ [] = ap (λ (ps : List Pat). map (head_under path) (heads_below (map heads_of ps) i)) (drop_all i pats le) in
+    sym (append-nil here) ∙ ap (λ (xs : List Head). here ++ xs) (sym nothing) ∙ all
+
+shown-more : (ps : List Place) (p : Place) → shown_heads (ps ++ p ∷ []) ≡ shown_heads ps ++ record { path = p.path; con = p.con } ∷ []
+shown-more [] p = refl
+shown-more (q ∷ ps) p = ap (λ (hs : List Head). record { path = q.path; con = q.con } ∷ hs) (shown-more ps p)
+
+pub heads_of_con : (pat : Pat) (at : ℕ) (c : ConRef) (pats : List Pat) (path here : List ℕ) (old one new : List Place) → pat ≡ Con at c pats → here ≡ path
+    → one ≡ old ++ record { path = here; con = c } ∷ [] → shown_heads new ≡ shown_heads one ++ map (head_under path) (heads_below (map heads_of pats) 0)
+    → shown_heads new ≡ shown_heads old ++ map (head_under path) (heads_of pat)
+heads_of_con pat at c pats path here old one new is same first rest1 =
+    let below = map (head_under path) (heads_below (map heads_of pats) 0) in
+    rest1 ∙ ap (λ (ps : List Place). shown_heads ps ++ below) first
+    ∙ ap (λ (hs : List Head). hs ++ below) (shown-more old (record { path = here; con = c }))
+    ∙ append_assoc (shown_heads old) (record { path = here; con = c } ∷ []) below
+    ∙ ap (λ (q : List ℕ). shown_heads old ++ record { path = q; con = c } ∷ below) (same ∙ sym (append-nil path))
+    ∙ ap (λ (hs : List Head). shown_heads old ++ map (head_under path) hs) (sym (fold-Con (List Head) heads_step at c pats))
+    ∙ ap (λ (p : Pat). shown_heads old ++ map (head_under path) (heads_of p)) (sym is)
+
+under-root : (hs : List Head) → map (head_under []) hs ≡ hs
+under-root [] = refl
+under-root (h ∷ hs) = ap (λ (xs : List Head). h ∷ xs) (under-root hs)
+
+pub inner_con : (leaf : Leaf) (at : ℕ) (c : ConRef) (pats : List Pat) (path : List ℕ) (old new : List Place) → leaf.prov ≡ Con at c pats → path ≡ [] → old ≡ []
+    → shown_heads new ≡ shown_heads old ++ map (head_under path) (heads_below (map heads_of pats) 0) → shown_heads new ≡ inner_heads leaf
+inner_con leaf at c pats path old new is root none all =
+    all ∙ ap (λ (ps : List Place). shown_heads ps ++ map (head_under path) (heads_below (map heads_of pats) 0)) none
+    ∙ ap (λ (q : List ℕ). map (head_under q) (heads_below (map heads_of pats) 0)) root
+    ∙ under-root (heads_below (map heads_of pats) 0)
+    ∙ ap (λ (hs : List Head). drop 1 hs) (sym (fold-Con (List Head) heads_step at c pats))
+    ∙ ap (λ (p : Pat). drop 1 (heads_of p)) (sym is)
+
+-- the other forms have none
+pub no-heads-Wild : (at : ℕ) → heads_of (Wild at) ≡ []
+no-heads-Wild at = fold-Wild (List Head) heads_step at
+
+pub no-heads-Var : (at x : ℕ) → heads_of (Var at x) ≡ []
+no-heads-Var at x = fold-Var (List Head) heads_step at x
+
+pub no-heads-Num : (at n : ℕ) → heads_of (Num at n) ≡ []
+no-heads-Num at n = fold-Num (List Head) heads_step at n

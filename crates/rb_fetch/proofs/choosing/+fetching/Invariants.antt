@@ -1,0 +1,45 @@
+use Rattle.std.proofs.Common.{◌≡◌}
+use Rattle.rb_target.specs.Growth.{Grows}
+use Rattle.rb_fetch.specs.inner.Choosing.{BranchesDone}
+use Rattle.rb_fetch.specs.inner.Rebuilding.{FetchesParts}
+use Rattle.rb_fetch.proofs.choosing.+fetching.Given as goal
+
+abbrev pub decreases-choose_leaf_at : goal.decreases-choose_leaf_at
+decreases-choose_leaf_at l = l.depth
+
+abbrev pub decreases-choose : goal.decreases-choose
+decreases-choose l = l.depth
+
+abbrev pub decreases-look : goal.decreases-look
+decreases-look l = l.depth
+
+abbrev pub decreases-choose_each : goal.decreases-choose_each
+decreases-choose_each l = l.depth
+
+abbrev pub decreases-choose_under : goal.decreases-choose_under
+decreases-choose_under l = l.depth
+
+abbrev pub decreases-fetch_fields : goal.decreases-fetch_fields
+decreases-fetch_fields l = l.depth
+
+abbrev pub decreases-fetch_parts : goal.decreases-fetch_parts
+decreases-fetch_parts l = l.depth
+
+abbrev pub invariant-choose_each-loop-inner : goal.invariant-choose_each-loop-inner
+invariant-choose_each-loop-inner l = record {
+  done : BranchesDone l.agreed l.ty l.leaves l.fn.looked l.fn.parts l.place.path l.place.con.ty l.words l.inner l.fn.body l.body l.starts l.ways;
+  parts : l.parts ≡ l.fn.parts;
+  looked : l.looked ≡ l.fn.looked;
+}
+
+abbrev pub decreases-fetch_part : goal.decreases-fetch_part
+decreases-fetch_part l = l.depth
+
+abbrev pub decreases-construct_at : goal.decreases-construct_at
+decreases-construct_at l = l.depth
+
+abbrev pub invariant-fetch_parts-loop-j : goal.invariant-fetch_parts-loop-j
+invariant-fetch_parts-loop-j l = record {
+  grows : Grows l.fn.body.code l.body.code;
+  fetches : FetchesParts l.agreed l.ty l.leaf l.fn.con l.subs l.j l.path l.words l.fn.body l.body l.args;
+}

@@ -1,0 +1,50 @@
+-- What code that chooses the leaf of a construction owes.
+use Rattle.std.specs.Prelude.{◌≡◌, ℕ, List, map, Bool, true, Some, slice_get}
+use Rattle.rb_core.specs.declared.value.Value.{Value, Con}
+use Rattle.rb_core.specs.declared.types.Ty.{Ty}
+use Rattle.rb_core.specs.declared.types.Ty.TheVariants.{Named}
+use Rattle.rb_core.specs.declared.types.ConRef.{ConRef}
+use Rattle.rb_core.specs.Values.{fields_of, is_of_type}
+use Rattle.rb_target.specs.Sheet.{Sheet}
+use Rattle.rb_layout.specs.declared.agreed.LaidOut.{LaidOut}
+use Rattle.rb_layout.specs.declared.layout.Layout.{Layout}
+use Rattle.rb_layout.specs.declared.layout.Leaf.{Leaf}
+use Rattle.rb_layout.specs.Positions.{leaf_of, layout_of, open_positions}
+use Rattle.rb_rel.specs.Switches.{choose_of}
+use Rattle.rb_fragment.specs.declared.held.Held.{Held}
+use Rattle.rb_fragment.specs.Adding.{Adds}
+use Rattle.rb_fragment.specs.Holding.{AllGiven, AreHeld, held_type}
+use Rattle.rb_fragment.specs.Pieces.{Branches}
+use Rattle.rb_fragment.specs.Plan.{Plan}
+use Rattle.rb_compose.specs.Subvalues.{AreGivenAt, ArePartsHeld}
+use Rattle.rb_fetch.specs.declared.choice.Choices.{Choices}
+use Rattle.rb_fetch.specs.declared.choice.Way.{Way}
+use Rattle.rb_fetch.specs.Finding.{IsPlanOf}
+
+-- a way of a leaf of the layout, with a value at each open position of the leaf
+pub record IsWay (plan : Plan) (layout : Layout) (n : ℕ) (way : Way) : Type 0 where
+  pub leaf : Leaf
+  pub is_leaf : slice_get layout.leaves way.leaf ≡ Some leaf
+  pub given : AreGivenAt plan n (open_positions plan.program.types leaf.prov) way.fields
+
+-- Of the arguments one way follows, which is of the construction's leaf: where slots represent the arguments, the
+-- run leaves by that way's hole, and slots represent, as cleanly, the parts at the leaf's open positions.
+pub record TakesWay (plan : Plan) (layout : Layout) (con : ConRef) (hs : List Held) (old new : Sheet) (choices : Choices) (vs : List Value) : Type 0 where
+  pub number : ℕ
+  pub way : Way
+  pub is_way : slice_get choices.ways number ≡ Some way
+  pub is_leaf : leaf_of layout (Con con.con vs) ≡ Some way.leaf
+  pub leaves : (clean : Bool) (leaf : Leaf) → slice_get layout.leaves way.leaf ≡ Some leaf
+      → Branches plan old.slots old new choices.holes (choose_of plan.layouts con.ty con.con) (λ k s m. (k ≡ number) × AreHeld plan clean s m hs vs)
+      (λ k s m. ArePartsHeld plan clean s m (open_positions plan.program.types leaf.prov) way.fields (Con con.con vs))
+
+-- The appended code looks into the arguments of a construction until its leaf is known.
+pub record Chooses (plan : Plan) (layout : Layout) (con : ConRef) (hs : List Held) (old new : Sheet) (choices : Choices) : Type 0 where
+  pub adds : Adds plan old new
+  pub ways : (k : ℕ) (way : Way) → slice_get choices.ways k ≡ Some way → IsWay plan layout new.slots way
+  pub takes : (vs : List Value) → is_of_type plan.program.types (Con con.con vs) (Named con.ty) ≡ true → TakesWay plan layout con hs old new choices vs
+
+abbrev pub ChoosesLeaf : LaidOut → ConRef → List Held → Sheet → Sheet → Choices → Type 0
+ChoosesLeaf agreed con hs old new choices =
+    (plan : Plan) → IsPlanOf agreed plan → (fields : List Ty) → fields_of plan.program.types con ≡ Some fields → map held_type hs ≡ fields
+    → AllGiven plan old.slots hs → (layout : Layout) → layout_of plan.layouts con.ty ≡ Some layout → Chooses plan layout con hs old new choices

@@ -1,0 +1,34 @@
+-- Positions of the provenances of leaves: what stands there, and what it takes to rebuild it.
+use Rattle.std.specs.Prelude.{◌≡◌, ℕ, List, [], ◌∷◌, Option, Some, None, slice_get}
+use Rattle.std.specs.List.{sum_by}
+use Rattle.rb_core.specs.declared.types.Ty.{Ty}
+use Rattle.rb_core.specs.declared.types.Ty.TheVariants.{Named}
+use Rattle.rb_core.specs.declared.types.DataDecl.{DataDecl}
+use Rattle.rb_core.specs.declared.pattern.Pat.{Pat}
+use Rattle.rb_layout.specs.declared.layout.Layout.{Layout}
+use Rattle.rb_layout.specs.declared.layout.Leaf.{Leaf}
+use Rattle.rb_layout.specs.Positions.{layout_of}
+use Rattle.rb_layout.specs.inner.Walking.{sub_pattern}
+use Rattle.rb_rel.specs.Switches.{Head, choose_of, heads_of}
+use Rattle.rb_fragment.specs.Plan.{Plan}
+
+-- the pattern at a path of a pattern, with the type there
+abbrev pub found_at : List DataDecl → Option (Pat × Ty) → List ℕ → Option (Pat × Ty)
+found_at types None path = None
+found_at types (Some p) [] = Some p
+found_at types (Some p) (i ∷ path) = found_at types (sub_pattern types p.0 i) path
+
+-- The path leads to a position of leaf n of a type's layout, at which this type is: to a wildcard of its
+-- provenance, or to a constructor.
+pub record PositionAt (plan : Plan) (t n : ℕ) (path : List ℕ) (ty : Ty) : Type 0 where
+  pub layout : Layout
+  pub leaf : Leaf
+  pub pat : Pat
+  pub is_layout : layout_of plan.layouts t ≡ Some layout
+  pub is_leaf : slice_get layout.leaves n ≡ Some leaf
+  pub is_position : found_at plan.program.types (Some (leaf.prov, Named t)) path ≡ Some (pat, ty)
+
+-- the switches that rebuild a value of what stands at the wildcards of its pattern: for each constructor
+-- those that choose the leaf of its construction
+abbrev pub mend_under : List Layout → Pat → ℕ
+mend_under layouts pat = sum_by (λ (h : Head). choose_of layouts h.con.ty h.con.con) (heads_of pat)

@@ -1,0 +1,272 @@
+-- The choice of a construction's leaf, look by look: what is known on a way, and which leaves can still be its value's.
+use Rattle.std.specs.Prelude.{◌≡◌, ℕ, ◌+◌, ◌<◌, ◌≤◌, Bool, true, false, not, List, [], ◌∷◌, ◌++◌, Option, Some, None, length, slice_get, slice_index, sum_by}
+use Rattle.std.specs.List.{filter}
+use Rattle.rb_core.specs.declared.value.Value.{Value, out-Value}
+use Rattle.rb_core.specs.declared.value.Value.TheOpen as V
+use Rattle.rb_core.specs.declared.value.Value.TheOpen.{Value-F}
+use Rattle.rb_core.specs.declared.types.ConRef.{ConRef}
+use Rattle.rb_core.specs.declared.types.DataDecl.{DataDecl}
+use Rattle.rb_core.specs.declared.types.Ty.{Ty}
+use Rattle.rb_core.specs.declared.types.Ty.TheVariants.{Named}
+use Rattle.rb_core.specs.Values.{is_of_type, part_at}
+use Rattle.rb_bytes.specs.Memory.{Memory, IsGood}
+use Rattle.rb_target.specs.declared.body.Hole.{Hole}
+use Rattle.rb_target.specs.declared.instr.Instr.{Instr}
+use Rattle.rb_target.specs.declared.instr.Instr.TheVariants.{Jump}
+use Rattle.rb_target.specs.Growth.{Grows, Nowhere}
+use Rattle.rb_target.specs.Meaning.{slots_at}
+use Rattle.rb_target.specs.Sheet.{Sheet, pushed}
+use Rattle.rb_layout.specs.declared.agreed.LaidOut.{LaidOut}
+use Rattle.rb_layout.specs.declared.layout.Layout.{Layout}
+use Rattle.rb_layout.specs.declared.layout.Leaf.{Leaf}
+use Rattle.rb_layout.specs.Positions.{Open, leaf_of, layout_of, open_positions, opens_of}
+use Rattle.rb_rel.specs.Switches.{Head, choose_of, depth_of, inner_heads, is_leaf_for, mend_leaf, mend_of, places_of}
+use Rattle.rb_fragment.specs.declared.held.Held.{Held}
+use Rattle.rb_fragment.specs.Adding.{Adds}
+use Rattle.rb_fragment.specs.Pieces.{AtEnd, Piece}
+use Rattle.rb_fragment.specs.Plan.{Plan, Rep, words_of}
+use Rattle.rb_fragment.specs.Slots.{AllBelow, AllFrom}
+use Rattle.rb_compose.specs.declared.subvalue.Subvalue.{Subvalue}
+use Rattle.rb_compose.specs.Subvalues.{AreGivenAt, subvalue_at}
+use Rattle.rb_fetch.specs.declared.choice.Way.{Way}
+use Rattle.rb_fetch.specs.Finding.{IsPlanOf}
+use Rattle.rb_fetch.specs.inner.Fields.{leaf_at}
+use Rattle.rb_fetch.specs.inner.Heads.{is_among}
+
+-- Values -------------------------------------------------------------------------------------
+
+abbrev pub root_con : Value-F Value → Option ℕ
+root_con (V.Num n) = None
+root_con (V.Con k vs) = Some k
+
+-- the part of a value at a position is a construction by this constructor
+abbrev pub HasCon : Value → List ℕ → ℕ → Type 0
+HasCon v path con = (u : Value) × (part_at v path ≡ Some u) × (root_con (out-Value u) ≡ Some con)
+
+-- Parts in slots -----------------------------------------------------------------------------
+
+-- arguments are the parts at the positions of length one, the first of them at field i
+abbrev pub parts_from : ℕ → List Held → List Subvalue
+parts_from i [] = []
+parts_from i (h ∷ hs) = record { path = i ∷ []; held = h } ∷ parts_from (i + 1) hs
+
+-- values of the fields of the part at a path, the first of them at field i
+abbrev pub parts_under : List ℕ → ℕ → List Held → List Subvalue
+parts_under path i [] = []
+parts_under path i (h ∷ hs) = record { path = path ++ i ∷ []; held = h } ∷ parts_under path (i + 1) hs
+
+-- the value has parts there, of these types
+abbrev pub HasParts : List DataDecl → Value → List Subvalue → Type 0
+HasParts types v xs =
+    (k : ℕ) (x : Subvalue) → slice_get xs k ≡ Some x → (u : Value) × (part_at v x.path ≡ Some u) × (is_of_type types u x.held.ty ≡ true)
+
+-- each has as many slots as its type has words, all below n
+abbrev pub PartsGiven : Plan → ℕ → List Subvalue → Type 0
+PartsGiven plan n xs =
+    (k : ℕ) (x : Subvalue) → slice_get xs k ≡ Some x → AllBelow n x.held.slots × (length x.held.slots ≡ words_of plan x.held.ty)
+
+-- the slots represent the value's parts
+abbrev pub PartsHold : Plan → Bool → Value → List ℕ → Memory → List Subvalue → Type 0
+PartsHold plan clean v s m xs =
+    (k : ℕ) (x : Subvalue) → slice_get xs k ≡ Some x → (u : Value) → part_at v x.path ≡ Some u → Rep plan m clean x.held.ty u (slots_at s x.held.slots)
+
+-- a part of a data type at a position stands in these slots
+abbrev pub IsPartIn : List Subvalue → List ℕ → ℕ → List ℕ → Type 0
+IsPartIn xs path t words = (k : ℕ) × (x : Subvalue) × (slice_get xs k ≡ Some x) × (x.path ≡ path) × (x.held.ty ≡ Named t) × (x.held.slots ≡ words)
+
+-- the first part at a position is of this type
+abbrev pub HasType : List Subvalue → List ℕ → Ty → Type 0
+HasType xs path ty = (h : Held) × (subvalue_at xs path ≡ Some h) × (h.ty ≡ ty)
+
+-- there are parts at these positions below a path, each of its type
+abbrev pub HasOpens : List Open → List ℕ → List Subvalue → Type 0
+HasOpens opens path xs = (k : ℕ) (o : Open) → slice_get opens k ≡ Some o → HasType xs (path ++ o.path) o.ty
+
+-- Leaves -------------------------------------------------------------------------------------
+
+-- a leaf's provenance has constructor k at its root
+abbrev pub HasRoot : List Layout → ℕ → ℕ → ℕ → Type 0
+HasRoot layouts t n k = (leaf : Leaf) × (leaf_at layouts t n ≡ Some leaf) × (is_leaf_for k leaf ≡ true)
+
+-- the type's layout has so many leaves
+abbrev pub HasLeaves : List Layout → ℕ → ℕ → Type 0
+HasLeaves layouts t count = (layout : Layout) × (layout_of layouts t ≡ Some layout) × (length layout.leaves ≡ count)
+
+-- leaves of a layout by number, for the values of constructor k
+abbrev pub AreLeavesOf : Layout → ℕ → List ℕ → Type 0
+AreLeavesOf layout k leaves =
+    (i n : ℕ) → slice_get leaves i ≡ Some n → (leaf : Leaf) × (slice_get layout.leaves n ≡ Some leaf) × (is_leaf_for k leaf ≡ true)
+
+-- where a look was, the value has the constructor of each of these leaves
+abbrev pub Follows : Layout → Value → List ℕ → List (List ℕ) → Type 0
+Follows layout v leaves looked =
+    (i n : ℕ) (leaf : Leaf) (j : ℕ) (h : Head) → slice_get leaves i ≡ Some n → slice_get layout.leaves n ≡ Some leaf
+    → slice_get (inner_heads leaf) j ≡ Some h → is_among looked h.path ≡ true → HasCon v h.path h.con.con
+
+-- a constructor of one of these leaves, where no look was
+pub record IsPlaceOf (layout : Layout) (leaves : List ℕ) (looked : List (List ℕ)) (path : List ℕ) (s : ℕ) : Type 0 where
+  pub index : ℕ
+  pub number : ℕ
+  pub leaf : Leaf
+  pub place : ℕ
+  pub head : Head
+  pub is_number : slice_get leaves index ≡ Some number
+  pub is_leaf : slice_get layout.leaves number ≡ Some leaf
+  pub is_head : slice_get (inner_heads leaf) place ≡ Some head
+  pub is_path : head.path ≡ path
+  pub is_type : head.con.ty ≡ s
+  pub is_new : is_among looked path ≡ false
+
+-- Switches -----------------------------------------------------------------------------------
+
+-- a look at a place, and rebuilding what the leaf there has taken apart
+abbrev pub look_cost : List Layout → Head → ℕ
+look_cost layouts h = depth_of layouts (Named h.con.ty) + mend_of layouts h.con.ty
+
+-- whether no look was at the place yet
+abbrev pub is_left : List (List ℕ) → Head → Bool
+is_left looked h = not (is_among looked h.path)
+
+-- the looks at which a leaf of constructor k is chosen, where some are behind already
+abbrev pub left_of : List Layout → ℕ → ℕ → List (List ℕ) → ℕ
+left_of layouts t k looked = sum_by (look_cost layouts) (filter (is_left looked) (places_of layouts t k))
+
+-- Ways ---------------------------------------------------------------------------------------
+
+-- a way's jump stands there
+abbrev pub IsWayAt : List Way → ℕ → Type 0
+IsWayAt ways pc = (k : ℕ) × (way : Way) × (slice_get ways k ≡ Some way) × (way.pc ≡ pc)
+
+-- open jumps of ways, one behind the other from an instruction on
+abbrev pub AreOpen : ℕ → List Instr → List Way → Type 0
+AreOpen from code [] = Unit {0}
+AreOpen from code (way ∷ ways) = (from ≤ way.pc) × ((t : ℕ) × (slice_get code way.pc ≡ Some (Jump t))) × AreOpen (way.pc + 1) code ways
+
+-- the holes of ways, the first of which is way k
+abbrev pub holes_from : ℕ → List Way → List Hole
+holes_from k [] = []
+holes_from k (way ∷ ways) = record { pc = way.pc; arm = None; leaf = k } ∷ holes_from (k + 1) ways
+
+-- the end of a way to leaf n: its jump is open, and the parts are all that it has
+pub record IsEndOf (agreed : LaidOut) (t n : ℕ) (xs : List Subvalue) (old new : Sheet) (way : Way) : Type 0 where
+  pub leaf : Leaf
+  pub is_leaf : leaf_at agreed.layouts t n ≡ Some leaf
+  pub opens : HasOpens (opens_of agreed.covered.program.types leaf.prov (Named t)) [] xs
+  pub is_way : way ≡ record { pc = length old.code; leaf = n; fields = xs }
+  pub code : new ≡ pushed old (Jump (length old.code + 1))
+
+-- all parts at open positions of the way's leaf are given
+abbrev pub IsWayOf : Plan → Layout → ℕ → Way → Type 0
+IsWayOf plan layout n way =
+    (leaf : Leaf) × (slice_get layout.leaves way.leaf ≡ Some leaf) × AreGivenAt plan n (open_positions plan.program.types leaf.prov) way.fields
+
+abbrev pub AreWaysOf : Plan → Layout → ℕ → List Way → Type 0
+AreWaysOf plan layout n ways = (k : ℕ) (way : Way) → slice_get ways k ≡ Some way → IsWayOf plan layout n way
+
+-- where the value's leaf is n, the run comes to the jump of one way, the same for all runs, which is of that leaf
+pub record Takes (plan : Plan) (old new : Sheet) (ways : List Way) (v : Value) (n most : ℕ) (Pre : Bool → List ℕ → Memory → Type 0) : Type 0 where
+  pub number : ℕ
+  pub way : Way
+  pub is_way : slice_get ways number ≡ Some way
+  pub is_leaf : way.leaf ≡ n
+  pub parts : HasParts plan.program.types v way.fields
+  pub does : (clean : Bool) → Piece plan old.slots old new (IsWayAt ways) most (Pre clean) (λ pc s m. (pc ≡ way.pc) × PartsHold plan clean v s m way.fields)
+
+-- Choosing -----------------------------------------------------------------------------------
+
+-- the plan of an agreed program, some leaves for values of constructor k of type t, and parts in slots below n
+pub record IsReady (agreed : LaidOut) (plan : Plan) (t k : ℕ) (layout : Layout) (leaves : List ℕ) (xs : List Subvalue) (n : ℕ) : Type 0 where
+  pub of : IsPlanOf agreed plan
+  pub is_layout : layout_of plan.layouts t ≡ Some layout
+  pub are_leaves : AreLeavesOf layout k leaves
+  pub given : PartsGiven plan n xs
+
+-- the code takes each value of one of the leaves to a way of its leaf
+pub record ChoosesWays (plan : Plan) (t k : ℕ) (layout : Layout) (leaves : List ℕ) (looked : List (List ℕ)) (xs : List Subvalue) (old new : Sheet) (ways : List Way) : Type 0 where
+  pub adds : Adds plan old new
+  pub are_ways : AreWaysOf plan layout new.slots ways
+  pub takes : (v : Value) → is_of_type plan.program.types v (Named t) ≡ true → HasParts plan.program.types v xs → Follows layout v leaves looked
+      → (n i : ℕ) → leaf_of layout v ≡ Some n → slice_get leaves i ≡ Some n
+      → Takes plan old new ways v n (left_of plan.layouts t k looked) (λ clean s m. IsGood m × PartsHold plan clean v s m xs)
+
+abbrev pub ChoosesFrom : LaidOut → ℕ → List ℕ → List (List ℕ) → List Subvalue → Sheet → Sheet → List Way → Type 0
+ChoosesFrom agreed t leaves looked xs old new ways =
+    (plan : Plan) (k : ℕ) (layout : Layout) → IsReady agreed plan t k layout leaves xs old.slots → ChoosesWays plan t k layout leaves looked xs old new ways
+
+-- the same by a look at a place
+abbrev pub ChoosesBy : LaidOut → ℕ → List ℕ → List (List ℕ) → List Subvalue → List ℕ → ℕ → Sheet → Sheet → List Way → Type 0
+ChoosesBy agreed t leaves looked xs path s old new ways =
+    (plan : Plan) (k : ℕ) (layout : Layout) → IsReady agreed plan t k layout leaves xs old.slots → IsPlaceOf layout leaves looked path s
+    → ChoosesWays plan t k layout leaves looked xs old new ways
+
+-- Below one leaf -----------------------------------------------------------------------------
+
+-- words of a data type with this layout
+pub record IsRead (plan : Plan) (s : ℕ) (inner : Layout) (words : List ℕ) (n : ℕ) : Type 0 where
+  pub is_inner : layout_of plan.layouts s ≡ Some inner
+  pub below : AllBelow n words
+  pub count : length words ≡ words_of plan (Named s)
+
+-- the fields of a part whose leaf is known are fetched, as parts of the whole value
+pub record GivesFields (plan : Plan) (path : List ℕ) (s l : ℕ) (inner : Layout) (leaf : Leaf) (words : List ℕ) (old new : Sheet) (xs ys : List Subvalue) : Type 0 where
+  pub adds : Adds plan old new
+  pub fresh : List Subvalue
+  pub more : ys ≡ xs ++ fresh
+  pub given : PartsGiven plan new.slots fresh
+  pub parts : (v u : Value) → part_at v path ≡ Some u → is_of_type plan.program.types u (Named s) ≡ true → leaf_of inner u ≡ Some l → HasParts plan.program.types v fresh
+  pub does : (v u : Value) → part_at v path ≡ Some u → is_of_type plan.program.types u (Named s) ≡ true → leaf_of inner u ≡ Some l → (clean : Bool)
+      → Piece plan old.slots old new Nowhere (mend_leaf (choose_of plan.layouts) leaf) (λ s1 m. IsGood m × Rep plan m clean (Named s) u (slots_at s1 words))
+      (AtEnd new (λ s1 m. PartsHold plan clean v s1 m fresh))
+
+abbrev pub FetchesFields : LaidOut → List ℕ → ConRef → ℕ → List ℕ → Sheet → Sheet → List Subvalue → List Subvalue → Type 0
+FetchesFields agreed path con l words old new xs ys =
+    (plan : Plan) (inner : Layout) (leaf : Leaf) → IsPlanOf agreed plan → IsRead plan con.ty inner words old.slots → slice_get inner.leaves l ≡ Some leaf
+    → is_leaf_for con.con leaf ≡ true → GivesFields plan path con.ty l inner leaf words old new xs ys
+
+-- where the part at the place has leaf l, the code takes each value of one of the leaves to a way of its leaf
+pub record ChoosesBelow (plan : Plan) (t k : ℕ) (layout : Layout) (leaves : List ℕ) (looked : List (List ℕ)) (xs : List Subvalue) (path : List ℕ) (s : ℕ) (inner : Layout) (words : List ℕ) (l : ℕ)
+    (old new : Sheet) (ways : List Way) : Type 0 where
+  pub adds : Adds plan old new
+  pub are_ways : AreWaysOf plan layout new.slots ways
+  pub takes : (v u : Value) → is_of_type plan.program.types v (Named t) ≡ true → HasParts plan.program.types v xs → Follows layout v leaves looked
+      → part_at v path ≡ Some u → is_of_type plan.program.types u (Named s) ≡ true → leaf_of inner u ≡ Some l
+      → (n i : ℕ) → leaf_of layout v ≡ Some n → slice_get leaves i ≡ Some n
+      → Takes plan old new ways v n (mend_of plan.layouts s + left_of plan.layouts t k (looked ++ path ∷ []))
+      (λ clean s1 m. IsGood m × PartsHold plan clean v s1 m xs × Rep plan m clean (Named s) u (slots_at s1 words))
+
+abbrev pub ChoosesUnder : LaidOut → ℕ → List ℕ → List (List ℕ) → List Subvalue → List ℕ → ℕ → List ℕ → ℕ → Sheet → Sheet → List Way → Type 0
+ChoosesUnder agreed t leaves looked xs path s words l old new ways =
+    (plan : Plan) (k : ℕ) (layout inner : Layout) → IsReady agreed plan t k layout leaves xs old.slots → IsRead plan s inner words old.slots
+    → ChoosesBelow plan t k layout leaves looked xs path s inner words l old new ways
+
+-- the code of one leaf behind e in longer code q
+pub record BranchIn (e q : Sheet) (start : ℕ) (ways : List Way) (DoesBranch : Sheet → Sheet → List Way → Type 0) : Type 0 where
+  pub first : Sheet
+  pub last : Sheet
+  pub own : List Way
+  pub begins : start ≡ length first.code
+  pub behind : length e.code ≤ length first.code
+  pub low : e.slots ≤ first.slots
+  pub longer : Grows last.code q.code
+  pub more : last.slots ≤ q.slots
+  pub among : (k : ℕ) (way : Way) → slice_get own k ≡ Some way → (j : ℕ) × (slice_get ways j ≡ Some way)
+  pub alone : (pc : ℕ) → IsWayAt ways pc → length first.code ≤ pc → pc < length last.code → IsWayAt own pc
+  pub does : DoesBranch first last own
+
+pub record BranchesStand (agreed : LaidOut) (plan : Plan) (t k : ℕ) (layout : Layout) (leaves : List ℕ) (looked : List (List ℕ)) (xs : List Subvalue) (path : List ℕ) (s : ℕ) (inner : Layout) (words : List ℕ)
+    (count : ℕ) (e q : Sheet) (starts : List ℕ) (ways : List Way) : Type 0 where
+  pub adds : Adds plan e q
+  pub are_ways : AreWaysOf plan layout q.slots ways
+  pub each : (l : ℕ) → l < count
+      → BranchIn e q (slice_index starts l) ways (λ first last own. ChoosesBelow plan t k layout leaves looked xs path s inner words l first last own)
+
+-- the first so many leaves have their code behind e
+pub record BranchesDone (agreed : LaidOut) (t : ℕ) (leaves : List ℕ) (looked : List (List ℕ)) (xs : List Subvalue) (path : List ℕ) (s : ℕ) (words : List ℕ)
+    (count : ℕ) (e q : Sheet) (starts : List ℕ) (ways : List Way) : Type 0 where
+  pub grows : Grows e.code q.code
+  pub starts_from : AllFrom (length e.code) starts
+  pub starts_below : AllBelow (length q.code + 1) starts
+  pub many : length starts ≡ count
+  pub are_open : AreOpen (length e.code) q.code ways
+  pub stand : (plan : Plan) (k : ℕ) (layout inner : Layout) → IsReady agreed plan t k layout leaves xs e.slots → IsRead plan s inner words e.slots
+      → BranchesStand agreed plan t k layout leaves looked xs path s inner words count e q starts ways

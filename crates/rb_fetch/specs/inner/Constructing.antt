@@ -1,0 +1,125 @@
+-- The code of a construction: its arms, one a way to a leaf, and where they meet.
+use Rattle.std.specs.Prelude.{◌≡◌, ℕ, zero, suc, ◌+◌, ◌<◌, ◌≤◌, Bool, true, List, [], ◌++◌, length, Option, Some, None, slice_get}
+use Rattle.rb_core.specs.declared.value.Value.{Value}
+use Rattle.rb_core.specs.declared.types.Ty.TheVariants.{Named}
+use Rattle.rb_core.specs.TypedPrograms.{IsTyped}
+use Rattle.rb_bytes.specs.Memory.{IsGood}
+use Rattle.rb_target.specs.declared.body.Hole.{Hole}
+use Rattle.rb_target.specs.declared.instr.Instr.{Instr}
+use Rattle.rb_target.specs.Growth.{AgreesBut}
+use Rattle.rb_target.specs.Laws.{Law}
+use Rattle.rb_target.specs.Meaning.{World, Next, Callee}
+use Rattle.rb_target.specs.Sheet.{Sheet}
+use Rattle.rb_layout.specs.declared.layout.Layout.{Layout}
+use Rattle.rb_layout.specs.declared.layout.Leaf.{Leaf}
+use Rattle.rb_layout.specs.Agreement.{AreAgreed}
+use Rattle.rb_layout.specs.Positions.{leaf_of, layout_of, open_positions}
+use Rattle.rb_rel.specs.Switches.{inner_heads, is_leaf_for}
+use Rattle.rb_fragment.specs.declared.held.Held.{Held}
+use Rattle.rb_fragment.specs.Adding.{Adds}
+use Rattle.rb_fragment.specs.Arms.{ArmsAre, ArmsIn, AreShared, whole_match}
+use Rattle.rb_fragment.specs.Plan.{Plan, words_of}
+use Rattle.rb_fragment.specs.Slots.{copies, joining}
+use Rattle.rb_compose.specs.Making.{Makes}
+use Rattle.rb_compose.specs.Subvalues.{ArePartsHeld}
+use Rattle.rb_fetch.specs.declared.choice.Choices.{Choices}
+use Rattle.rb_fetch.specs.declared.choice.Way.{Way}
+use Rattle.rb_fetch.specs.declared.construct.Met.{Met}
+use Rattle.rb_fetch.specs.Choosing.{IsWay}
+
+-- One leaf -------------------------------------------------------------------------------------
+
+-- the first leaf for a constructor, which takes no field apart: it is that of all its values
+pub record IsAlone (con : ℕ) (leaves : List Leaf) (leaf : Leaf) : Type 0 where
+  pub number : ℕ
+  pub is_number : slice_get leaves number ≡ Some leaf
+  pub root : is_leaf_for con leaf ≡ true
+  pub shallow : inner_heads leaf ≡ []
+  pub before : (i : ℕ) (x : Leaf) → i < number → slice_get leaves i ≡ Some x → is_leaf_for con x ≡ true → ⊥
+
+-- none of the first so many leaves is for the constructor
+abbrev pub NoneFor : ℕ → List Leaf → ℕ → Type 0
+NoneFor con leaves n = (i : ℕ) (x : Leaf) → i < n → slice_get leaves i ≡ Some x → is_leaf_for con x ≡ true → ⊥
+
+-- Where arms meet ------------------------------------------------------------------------------
+
+abbrev pub moved_to : Option (List ℕ) → List ℕ
+moved_to None = []
+moved_to (Some xs) = xs
+
+abbrev pub moved_from : Option (List ℕ) → List ℕ → List ℕ
+moved_from None slots = []
+moved_from (Some xs) slots = slots
+
+abbrev pub met_in : Option (List ℕ) → List ℕ → List ℕ
+met_in None slots = slots
+met_in (Some xs) slots = xs
+
+abbrev pub moved : Sheet → Option (List ℕ) → List ℕ → Sheet
+moved b None slots = b
+moved b (Some xs) slots = record b { code = b.code ++ copies xs slots }
+
+-- Behind the code c of an arm's value its words stay in their slots, or go to those of the arms before it; and
+-- a jump is open.
+pub record IsMet (into : Option (List ℕ)) (slots : List ℕ) (c d : Sheet) (r : Met) : Type 0 where
+  pub shared : r.into ≡ met_in into slots
+  pub code : d ≡ joining c (moved_to into) (moved_from into slots)
+  pub join : r.join ≡ record { pc = length c.code + length (copies (moved_to into) (moved_from into slots)); arm = None; leaf = 0 }
+
+-- the slots that the arms share, once there are some
+abbrev pub IsShared : Plan → ℕ → ℕ → ℕ → Option (List ℕ) → Type 0
+IsShared plan n m t None = Unit {0}
+IsShared plan n m t (Some xs) = AreShared n m (words_of plan (Named t)) xs
+
+abbrev pub Reaches : ℕ → Option (List ℕ) → Type 0
+Reaches zero None = Unit {0}
+Reaches zero (Some xs) = ⊥
+Reaches (suc i) None = ⊥
+Reaches (suc i) (Some xs) = Unit {0}
+
+-- Arms -----------------------------------------------------------------------------------------
+
+-- the code from a to d makes the values of the way's leaf, and comes to an open jump with them in the shared slots
+abbrev pub MakesArm : Plan → ℕ → Layout → Way → ℕ → List ℕ → Sheet → Sheet → ℕ → Type 0
+MakesArm plan t layout way n into a d join =
+    (leaf : Leaf) → slice_get layout.leaves way.leaf ≡ Some leaf → (clean : Bool) (v : Value) → leaf_of layout v ≡ Some way.leaf
+    → (final : List Instr) (callee : Callee) (next : Next) → Law final callee next → AgreesBut final d.code (length a.code) (length d.code) (λ pc. pc ≡ join)
+    → (s : List ℕ) (w : World) → d.slots ≤ length s → IsGood w.memory → ArePartsHeld plan clean s w.memory (open_positions plan.program.types leaf.prov) way.fields v
+    → Makes plan clean w.switches next (length a.code) join n t into v s w
+
+pub record ArmIsMade (plan : Plan) (t : ℕ) (layout : Layout) (way : Way) (n : ℕ) (into : Option (List ℕ)) (a d : Sheet) (r : Met) : Type 0 where
+  pub adds : Adds plan a d
+  pub shared : IsShared plan n d.slots t (Some r.into)
+  pub same : (xs : List ℕ) → into ≡ Some xs → r.into ≡ xs
+  pub makes : MakesArm plan t layout way n r.into a d r.join.pc
+
+-- in every program whose layouts agree, where the way's subvalues are in slots below n
+abbrev pub EmitsArm : ℕ → List Leaf → Way → Option (List ℕ) → Sheet → Sheet → Met → Type 0
+EmitsArm t leaves way into a d r =
+    (plan : Plan) → IsTyped plan.program → AreAgreed plan.program plan.layouts → (layout : Layout) → layout_of plan.layouts t ≡ Some layout → layout.leaves ≡ leaves
+    → (n : ℕ) → n ≤ a.slots → IsWay plan layout n way → IsShared plan n a.slots t into → ArmIsMade plan t layout way n into a d r
+
+-- the arm with number k
+abbrev pub MakesNumber : Plan → ℕ → Layout → List Way → ℕ → List ℕ → ℕ → Sheet → Sheet → ℕ → Type 0
+MakesNumber plan t layout ways n into k a d join = (way : Way) → slice_get ways k ≡ Some way → MakesArm plan t layout way n into a d join
+
+-- the first i arms stand behind e
+pub record ArmsAreMade (plan : Plan) (t : ℕ) (layout : Layout) (ways : List Way) (i : ℕ) (e q : Sheet) (into : Option (List ℕ)) (joins : List Hole) (starts : List ℕ) : Type 0 where
+  pub adds : Adds plan e q
+  pub shared : IsShared plan e.slots q.slots t into
+  pub arms : ArmsIn i e q joins starts (MakesNumber plan t layout ways e.slots (moved_to into))
+
+abbrev pub EmitsArms : ℕ → List Leaf → List Way → ℕ → Sheet → Sheet → Option (List ℕ) → List Hole → List ℕ → Type 0
+EmitsArms t leaves ways i e q into joins starts =
+    (plan : Plan) → IsTyped plan.program → AreAgreed plan.program plan.layouts → (layout : Layout) → layout_of plan.layouts t ≡ Some layout → layout.leaves ≡ leaves
+    → ((k : ℕ) (way : Way) → slice_get ways k ≡ Some way → IsWay plan layout e.slots way) → ArmsAreMade plan t layout ways i e q into joins starts
+
+-- all arms behind e, which meet behind them
+pub record WaysMeet (t : ℕ) (leaves : List Leaf) (choices : Choices) (e new : Sheet) (held : Held) : Type 0 where
+  pub kind : held.ty ≡ Named t
+  pub last : Sheet
+  pub joins : List Hole
+  pub starts : List ℕ
+  pub are : ArmsAre (length choices.ways) e last joins starts
+  pub emits : EmitsArms t leaves choices.ways (length choices.ways) e last (Some held.slots) joins starts
+  pub code : new ≡ whole_match last choices.holes starts joins

@@ -1,0 +1,216 @@
+//! Code that constructs a value of its fields.
+
+ghost use Rattle.std.specs.Prelude.{◌≡◌, ℕ, Some, IfOk, OnOk, length};
+ghost use Rattle.std.specs.Option.{option_copied};
+ghost use Rattle.rb_layout.specs.declared.layout.Leaf.{Leaf as LeafValue};
+ghost use Rattle.rb_core.specs.declared.types.Ty.TheVariants.{Named};
+ghost use Rattle.rb_target.specs.Growth.{Grows};
+ghost use Rattle.rb_fragment.specs.Arms.{AreHoles, ArmsAre, IsJoin};
+ghost use Rattle.rb_compose.specs.Making.{MakesLeaf};
+ghost use Rattle.rb_fetch.specs.Constructing.{Constructs};
+ghost use Rattle.rb_fetch.specs.inner.Choosing.{parts_from};
+ghost use Rattle.rb_fetch.specs.inner.Constructing.{EmitsArm, EmitsArms, IsAlone, IsMet, WaysMeet, met_in, moved};
+
+use crate::choice::{Choices, Way};
+use crate::choosing::construct_at;
+use crate::heads::heads;
+use crate::parts::{is_leaf_for, parts_of};
+use crate::rebuild::DEPTH;
+use rb_compose::leaf::emit_leaf;
+use rb_core::seq::Seq;
+use rb_core::types::{ConRef, Ty};
+use rb_fragment::emit::emit_copies;
+use rb_fragment::held::Held;
+use rb_fragment::patch::close_match;
+use rb_layout::agreed::Agreed;
+use rb_layout::layout::Leaf;
+use rb_target::body::{Body, Hole};
+use rb_target::instr::Instr;
+use std::alloc::{AllocError, Global};
+
+/// Code that constructs a value by a constructor, of values that are held, one a field.
+///
+/// # Errors
+/// `AllocError` where memory is wanting.
+pub fn construct(
+    alloc: Global,
+    body: &mut Body,
+    agreed: &Agreed,
+    con: ConRef,
+    args: &[Held],
+) -> Result<Held, AllocError>
+    ensures constructs { IfOk result (λ held. Constructs agreed.now con args.now body.old body.new held) }
+    ensures grows { OnOk result (Grows body.old.code body.new.code) }
+{
+    let held = construct_at(alloc, body, agreed, DEPTH, con, args)?;
+    Ok(held)
+}
+
+// The first leaf for a constructor, where it takes no field apart: it is the leaf of all its values then.
+pub(crate) fn alone(alloc: Global, leaves: &[Leaf], con: u32) -> Result<Option<&Leaf>, AllocError>
+    ensures { IfOk result (λ found. (leaf : LeafValue) → option_copied found ≡ Some leaf → IsAlone con leaves.now leaf) }
+{
+    for leaf in leaves {
+        if is_leaf_for(leaf, con) {
+            let places = heads(alloc, leaf)?;
+            if places.is_empty() {
+                return Ok(Some(leaf));
+            }
+            return Ok(None);
+        }
+    }
+    Ok(None)
+}
+
+// The value of the one leaf for a constructor.
+pub(crate) fn emit_alone(
+    alloc: Global,
+    body: &mut Body,
+    leaf: &Leaf,
+    con: ConRef,
+    args: &[Held],
+) -> Result<Held, AllocError>
+    ensures makes { IfOk result (λ held. (held.ty ≡ Named con.ty) × MakesLeaf leaf.now (parts_from 0 args.now) body.old body.new held.slots) }
+    ensures grows { OnOk result (Grows body.old.code body.new.code) }
+{
+    let subs = parts_of(alloc, args)?;
+    let slots = emit_leaf(alloc, body, leaf, subs.as_slice())?;
+    Ok(Held {
+        ty: Ty::Named(con.ty),
+        slots,
+    })
+}
+
+// Where an arm leaves its words, and its open jump to where all arms meet.
+#[derive(Drop)]
+struct Met {
+    into: Seq<usize>,
+    join: Hole,
+}
+
+// Arms, one behind the other: where they leave their words once there is one, their open jumps, and where they begin.
+#[derive(Drop)]
+struct Arms {
+    into: Option<Seq<usize>>,
+    joins: Seq<Hole>,
+    starts: Seq<usize>,
+}
+
+// The ways to leaves: each makes its leaf, and all meet behind.
+pub(crate) fn emit_ways(
+    alloc: Global,
+    body: &mut Body,
+    leaves: &[Leaf],
+    con: ConRef,
+    choices: Choices,
+) -> Result<Held, AllocError>
+    requires holes { (from : ℕ) × AreHoles from (length choices.ways) body.old.code choices.holes }
+    ensures meets { IfOk result (λ held. WaysMeet con.ty leaves.now choices body.old body.new held) }
+{
+    let Choices { holes, ways } = choices;
+    let arms = emit_arms(alloc, body, con.ty, leaves, ways.as_slice())?;
+    let Arms {
+        into,
+        joins,
+        starts,
+    } = arms;
+    let Some(slots) = into else {
+        return Err(AllocError);
+    };
+    close_match(
+        alloc,
+        body,
+        holes.as_slice(),
+        starts.as_slice(),
+        joins.as_slice(),
+    )?;
+    Ok(Held {
+        ty: Ty::Named(con.ty),
+        slots,
+    })
+}
+
+// The arms of the ways, one behind the other.
+fn emit_arms(
+    alloc: Global,
+    body: &mut Body,
+    ty: u32,
+    leaves: &[Leaf],
+    ways: &[Way],
+) -> Result<Arms, AllocError>
+    ensures emits { IfOk result (λ r. EmitsArms ty leaves.now ways.now (length ways.now) body.old body.new r.into r.joins r.starts) }
+    ensures are { IfOk result (λ r. ArmsAre (length ways.now) body.old body.new r.joins r.starts) }
+{
+    let mut starts = Seq::new(alloc);
+    let mut joins = Seq::new(alloc);
+    let mut into = None;
+    for way in ways {
+        starts.push(body.len())?;
+        let met = emit_arm(alloc, body, ty, leaves, way, into)?;
+        joins.push(met.join)?;
+        into = Some(met.into);
+    }
+    Ok(Arms {
+        into,
+        joins,
+        starts,
+    })
+}
+
+// One arm: the leaf of its way, and its words where the arms before it left theirs.
+fn emit_arm(
+    alloc: Global,
+    body: &mut Body,
+    ty: u32,
+    leaves: &[Leaf],
+    way: &Way,
+    into: Option<Seq<usize>>,
+) -> Result<Met, AllocError>
+    ensures emits { IfOk result (λ r. EmitsArm ty leaves.now way.now into body.old body.new r) }
+    ensures join { IfOk result (λ r. IsJoin (length body.old.code) body.new.code r.join) }
+    ensures grows { OnOk result (Grows body.old.code body.new.code) }
+{
+    let Some(leaf) = leaves.get(way.leaf) else {
+        return Err(AllocError);
+    };
+    let slots = emit_leaf(alloc, body, leaf, way.fields.as_slice())?;
+    let met = emit_meeting(body, into, slots)?;
+    Ok(met)
+}
+
+// Behind an arm's words: they go to where the arms before it left theirs. Then comes an open jump.
+fn emit_meeting(
+    body: &mut Body,
+    into: Option<Seq<usize>>,
+    slots: Seq<usize>,
+) -> Result<Met, AllocError>
+    ensures { IfOk result (λ r. IsMet into slots body.old body.new r) }
+{
+    let into = emit_moved(body, into, slots)?;
+    let pc = body.len();
+    body.push(Instr::Jump(pc + 1))?;
+    let join = Hole {
+        pc,
+        arm: None,
+        leaf: 0,
+    };
+    Ok(Met { into, join })
+}
+
+// The words of the first arm stay in their slots, and those of the others go there.
+fn emit_moved(
+    body: &mut Body,
+    into: Option<Seq<usize>>,
+    slots: Seq<usize>,
+) -> Result<Seq<usize>, AllocError>
+    ensures shared { IfOk result (λ xs. xs ≡ met_in into slots) }
+    ensures code { OnOk result (body.new ≡ moved body.old into slots) }
+{
+    match into {
+        None => Ok(slots),
+        Some(into) => {
+            emit_copies(body, into.as_slice(), slots.as_slice())?;
+            Ok(into)
+        }
+    }
+}

@@ -1,0 +1,256 @@
+//! The constructors below the root of a provenance, and what they say of leaves that can be here.
+
+ghost use Rattle.std.specs.Prelude.{◌≡◌, ◌++◌, ◌∷◌, [], map, IfOk, MatchOption, OnOk, slice_get};
+ghost use Rattle.std.specs.Option.{option_copied};
+ghost use Rattle.rb_layout.specs.Flattening.{same_path};
+ghost use Rattle.rb_rel.specs.Switches.{heads_below, heads_of, inner_heads};
+ghost use Rattle.rb_fetch.specs.inner.Heads.{are_looked_at, can_be, can_be_leaf, head_under, IsNext, is_among, leaves_that_can_be, shown_heads, stands_at, take_apart, takes_apart};
+ghost use Rattle.rb_fetch.specs.inner.Fields.{leaf_at};
+
+use rb_core::pattern::Pat;
+use rb_core::seq::Seq;
+use rb_core::types::ConRef;
+use rb_layout::layout::{Layout, Leaf};
+use std::alloc::{AllocError, Global};
+
+/// A constructor of a provenance: its position, a list of field numbers from the root, and itself.
+#[derive(Debug, Drop)]
+pub(crate) struct Place {
+    pub path: Seq<u32>,
+    pub con: ConRef,
+}
+
+/// The number of a field.
+///
+/// # Errors
+/// `AllocError` where it is past all numbers of fields, as it never is.
+pub(crate) fn number_of(field: usize) -> Result<u32, AllocError>
+    ensures { IfOk result (λ n. n ≡ field) }
+{
+    match u32::try_from(field) {
+        Ok(number) => Ok(number),
+        Err(_) => Err(AllocError),
+    }
+}
+
+/// The position of a field of the part at a position.
+///
+/// # Errors
+/// `AllocError` where memory is wanting.
+pub(crate) fn field_path(
+    alloc: Global,
+    path: &Seq<u32>,
+    field: usize,
+) -> Result<Seq<u32>, AllocError>
+    ensures { IfOk result (λ longer. longer ≡ path.now ++ field ∷ []) }
+{
+    let mut longer = path.copy(alloc)?;
+    longer.push(number_of(field)?)?;
+    Ok(longer)
+}
+
+// Adds the constructors of a pattern that stands at a path.
+#[cycle(heads)]
+fn add_heads(
+    alloc: Global,
+    pat: &Pat,
+    path: &Seq<u32>,
+    out: &mut Seq<Place>,
+) -> Result<(), AllocError>
+    ensures { OnOk result (shown_heads out.new ≡ shown_heads out.old ++ map (head_under path.now) (heads_of pat.now)) }
+{
+    match pat {
+        Pat::Wild(_) | Pat::Var(_, _) | Pat::Num(_, _) => Ok(()),
+        Pat::Con(_, con, pats) => {
+            let path_here = path.copy(alloc)?;
+            out.push(Place {
+                path: path_here,
+                con: *con,
+            })?;
+            add_heads_below(alloc, pats.as_slice(), path, out)?;
+            Ok(())
+        }
+    }
+}
+
+// Adds those of subpatterns, one a field.
+#[cycle(heads)]
+fn add_heads_below(
+    alloc: Global,
+    pats: &[Pat],
+    path: &Seq<u32>,
+    out: &mut Seq<Place>,
+) -> Result<(), AllocError>
+    ensures { OnOk result (shown_heads out.new
+        ≡ shown_heads out.old ++ map (head_under path.now) (heads_below (map heads_of pats.now) 0)) }
+{
+    for (i, pat) in pats.iter().enumerate() {
+        let longer = field_path(alloc, path, i)?;
+        add_heads(alloc, pat, &longer, out)?;
+    }
+    Ok(())
+}
+
+/// The constructors below the root of a leaf's provenance, outer ones before inner ones and from left to right.
+///
+/// # Errors
+/// `AllocError` where memory is wanting.
+pub(crate) fn heads(alloc: Global, leaf: &Leaf) -> Result<Seq<Place>, AllocError>
+    ensures { IfOk result (λ found. shown_heads found ≡ inner_heads leaf.now) }
+{
+    let mut found = Seq::new(alloc);
+    match &leaf.prov {
+        Pat::Wild(_) | Pat::Var(_, _) | Pat::Num(_, _) => Ok(found),
+        Pat::Con(_, _, pats) => {
+            let root = Seq::new(alloc);
+            add_heads_below(alloc, pats.as_slice(), &root, &mut found)?;
+            Ok(found)
+        }
+    }
+}
+
+pub(crate) fn same_path(own: &[u32], path: &[u32]) -> bool
+    ensures { result ≡ same_path own.now path.now }
+{
+    own == path
+}
+
+fn is_among(paths: &[Seq<u32>], path: &[u32]) -> bool
+    ensures { result ≡ is_among paths.now path.now }
+{
+    for own in paths {
+        if same_path(own.as_slice(), path) {
+            return true;
+        }
+    }
+    false
+}
+
+/// The first constructor whose position is not among some.
+pub(crate) fn next_place<'a>(places: &'a [Place], looked: &[Seq<u32>]) -> Option<&'a Place>
+    ensures { MatchOption result (are_looked_at looked.now places.now) (λ place. IsNext looked.now places.now place.now) }
+{
+    for place in places {
+        if !is_among(looked, place.path.as_slice()) {
+            return Some(place);
+        }
+    }
+    None
+}
+
+// Whether a constructor stands at a position, or none does.
+fn can_be(places: &[Place], path: &[u32], con: u32) -> bool
+    ensures { result ≡ can_be path.now con (shown_heads places.now) }
+{
+    for place in places {
+        if same_path(place.path.as_slice(), path) {
+            if place.con.con != con {
+                return false;
+            }
+        }
+    }
+    true
+}
+
+pub(crate) fn leaf_at(layouts: &[Layout], ty: u32, leaf: usize) -> Option<&Leaf>
+    ensures { option_copied result ≡ leaf_at layouts.now ty leaf }
+{
+    match layouts.get(ty as usize) {
+        None => None,
+        Some(layout) => layout.leaves.get(leaf),
+    }
+}
+
+fn can_be_leaf(
+    alloc: Global,
+    layouts: &[Layout],
+    ty: u32,
+    leaf: usize,
+    path: &[u32],
+    con: u32,
+) -> Result<bool, AllocError>
+    ensures { IfOk result (λ can. can ≡ can_be_leaf path.now con (leaf_at layouts.now ty leaf)) }
+{
+    match leaf_at(layouts, ty, leaf) {
+        None => Ok(false),
+        Some(found) => {
+            let places = heads(alloc, found)?;
+            Ok(can_be(places.as_slice(), path, con))
+        }
+    }
+}
+
+/// The leaves of some that can still be here where this constructor stands at a position: those whose
+/// provenances have it there, or none.
+///
+/// # Errors
+/// `AllocError` where memory is wanting.
+pub(crate) fn leaves_with(
+    alloc: Global,
+    layouts: &[Layout],
+    ty: u32,
+    leaves: &[usize],
+    path: &[u32],
+    con: u32,
+) -> Result<Seq<usize>, AllocError>
+    ensures { IfOk result (λ kept. kept ≡ leaves_that_can_be layouts.now ty path.now con leaves.now) }
+{
+    let mut kept = Seq::new(alloc);
+    for leaf in leaves {
+        if can_be_leaf(alloc, layouts, ty, *leaf, path, con)? {
+            kept.push(*leaf)?;
+        }
+    }
+    Ok(kept)
+}
+
+// Whether a constructor stands at a position.
+fn stands_at(places: &[Place], path: &[u32]) -> bool
+    ensures { result ≡ stands_at path.now (shown_heads places.now) }
+{
+    for place in places {
+        if same_path(place.path.as_slice(), path) {
+            return true;
+        }
+    }
+    false
+}
+
+fn takes_apart(
+    alloc: Global,
+    layouts: &[Layout],
+    ty: u32,
+    leaf: usize,
+    path: &[u32],
+) -> Result<bool, AllocError>
+    ensures { IfOk result (λ takes. takes ≡ takes_apart path.now (leaf_at layouts.now ty leaf)) }
+{
+    match leaf_at(layouts, ty, leaf) {
+        None => Ok(false),
+        Some(found) => {
+            let places = heads(alloc, found)?;
+            Ok(stands_at(places.as_slice(), path))
+        }
+    }
+}
+
+/// Whether one of some leaves takes the part at a position apart: its provenance has a constructor there.
+///
+/// # Errors
+/// `AllocError` where memory is wanting.
+pub(crate) fn take_apart(
+    alloc: Global,
+    layouts: &[Layout],
+    ty: u32,
+    leaves: &[usize],
+    path: &[u32],
+) -> Result<bool, AllocError>
+    ensures { IfOk result (λ take. take ≡ take_apart layouts.now ty path.now leaves.now) }
+{
+    for leaf in leaves {
+        if takes_apart(alloc, layouts, ty, *leaf, path)? {
+            return Ok(true);
+        }
+    }
+    Ok(false)
+}

@@ -1,0 +1,239 @@
+//! Leaves of a construction by number, and the parts of it that are in slots.
+
+ghost use Rattle.std.specs.Prelude.{◌≡◌, ◌++◌, [], IfOk, IfSome, OnOk, map};
+ghost use Rattle.rb_core.specs.declared.types.Ty.TheVariants.{Named};
+ghost use Rattle.rb_layout.specs.Positions.{layout_of, opens_below, opens_of};
+ghost use Rattle.rb_rel.specs.Switches.{is_leaf_for, leaves_in};
+ghost use Rattle.rb_fetch.specs.inner.Choosing.{HasLeaves, HasOpens, HasRoot, HasType, IsPartIn, parts_from, parts_under};
+ghost use Rattle.rb_fetch.specs.inner.Heads.{leaves_for};
+
+use crate::heads::{field_path, leaf_at, same_path};
+use rb_compose::subvalue::Subvalue;
+use rb_core::inference::types_of_fields;
+use rb_core::pattern::Pat;
+use rb_core::seq::Seq;
+use rb_core::types::{ConRef, DataDecl, Ty};
+use rb_fragment::held::Held;
+use rb_layout::layout::{Layout, Leaf};
+use std::alloc::{AllocError, Global};
+
+// Leaves ----------------------------------------------------------------------------------------
+
+// The constructor at the root of a leaf's provenance.
+pub(crate) fn root_of(layouts: &[Layout], ty: u32, leaf: usize) -> Option<u32>
+    ensures { IfSome result (λ con. HasRoot layouts.now ty leaf con) }
+{
+    let found = leaf_at(layouts, ty, leaf)?;
+    match &found.prov {
+        Pat::Con(_, con, _) => Some(con.con),
+        Pat::Wild(_) | Pat::Var(_, _) | Pat::Num(_, _) => None,
+    }
+}
+
+// Whether a leaf's provenance has a constructor at its root.
+pub(crate) fn is_leaf_for(leaf: &Leaf, con: u32) -> bool
+    ensures { result ≡ is_leaf_for con leaf.now }
+{
+    match &leaf.prov {
+        Pat::Con(_, root, _) => root.con == con,
+        Pat::Wild(_) | Pat::Var(_, _) | Pat::Num(_, _) => false,
+    }
+}
+
+fn leaves_of(alloc: Global, leaves: &[Leaf], con: u32) -> Result<Seq<usize>, AllocError>
+    ensures { IfOk result (λ found. found ≡ leaves_for con leaves.now 0) }
+{
+    let mut found = Seq::new(alloc);
+    for (n, leaf) in leaves.iter().enumerate() {
+        if is_leaf_for(leaf, con) {
+            found.push(n)?;
+        }
+    }
+    Ok(found)
+}
+
+// The leaves for the values of a constructor, by number.
+pub(crate) fn leaves_by(
+    alloc: Global,
+    layouts: &[Layout],
+    con: ConRef,
+) -> Result<Seq<usize>, AllocError>
+    ensures { IfOk result (λ found. found ≡ leaves_for con.con (leaves_in (layout_of layouts.now con.ty)) 0) }
+{
+    match layouts.get(con.ty as usize) {
+        None => Ok(Seq::new(alloc)),
+        Some(layout) => {
+            let found = leaves_of(alloc, layout.leaves.as_slice(), con.con)?;
+            Ok(found)
+        }
+    }
+}
+
+// How many leaves a type's layout has.
+pub(crate) fn count_leaves(layouts: &[Layout], ty: u32) -> Option<usize>
+    ensures { IfSome result (λ count. HasLeaves layouts.now ty count) }
+{
+    match layouts.get(ty as usize) {
+        None => None,
+        Some(layout) => Some(layout.leaves.len()),
+    }
+}
+
+// Parts -----------------------------------------------------------------------------------------
+
+fn copy_held(alloc: Global, held: &Held) -> Result<Held, AllocError>
+    ensures { IfOk result (λ copy. copy ≡ held.now) }
+{
+    let slots = held.slots.copy(alloc)?;
+    Ok(Held { ty: held.ty, slots })
+}
+
+pub(crate) fn copy_parts(alloc: Global, parts: &[Subvalue]) -> Result<Seq<Subvalue>, AllocError>
+    ensures { IfOk result (λ copies. copies ≡ parts.now) }
+{
+    let mut copies = Seq::new(alloc);
+    for part in parts {
+        let path = part.path.copy(alloc)?;
+        let held = copy_held(alloc, &part.held)?;
+        copies.push(Subvalue { path, held })?;
+    }
+    Ok(copies)
+}
+
+// Arguments as the parts at the positions of length one.
+pub(crate) fn parts_of(alloc: Global, args: &[Held]) -> Result<Seq<Subvalue>, AllocError>
+    ensures { IfOk result (λ parts. parts ≡ parts_from 0 args.now) }
+{
+    let root = Seq::new(alloc);
+    let mut parts = Seq::new(alloc);
+    for (i, arg) in args.iter().enumerate() {
+        let path = field_path(alloc, &root, i)?;
+        let held = copy_held(alloc, arg)?;
+        parts.push(Subvalue { path, held })?;
+    }
+    Ok(parts)
+}
+
+/// Adds the values of the fields of the part at a position.
+///
+/// # Errors
+/// `AllocError` where memory is wanting.
+pub(crate) fn add_parts(
+    alloc: Global,
+    path: &Seq<u32>,
+    fields: &[Held],
+    parts: &mut Seq<Subvalue>,
+) -> Result<(), AllocError>
+    ensures { OnOk result (parts.new ≡ parts.old ++ parts_under path.now 0 fields.now) }
+{
+    for (i, field) in fields.iter().enumerate() {
+        let longer = field_path(alloc, path, i)?;
+        let held = copy_held(alloc, field)?;
+        parts.push(Subvalue { path: longer, held })?;
+    }
+    Ok(())
+}
+
+// The slots of the part of a data type at a position. It was found by the look at the position above.
+pub(crate) fn words_at(
+    alloc: Global,
+    parts: &[Subvalue],
+    path: &[u32],
+    ty: u32,
+) -> Result<Seq<usize>, AllocError>
+    ensures { IfOk result (λ words. IsPartIn parts.now path.now ty words) }
+{
+    for part in parts {
+        if same_path(part.path.as_slice(), path) {
+            if part.held.ty == Ty::Named(ty) {
+                let words = part.held.slots.copy(alloc)?;
+                return Ok(words);
+            }
+        }
+    }
+    Err(AllocError)
+}
+
+// The part of this type at a position is there.
+fn find_part(parts: &[Subvalue], path: &[u32], ty: Ty) -> Result<(), AllocError>
+    ensures { OnOk result (HasType parts.now path.now ty) }
+{
+    for part in parts {
+        if same_path(part.path.as_slice(), path) {
+            if part.held.ty == ty {
+                return Ok(());
+            }
+            return Err(AllocError);
+        }
+    }
+    Err(AllocError)
+}
+
+// The parts at the open positions of a pattern that stands at a path are there.
+#[cycle(finding)]
+fn find_parts(
+    alloc: Global,
+    types: &[DataDecl],
+    pat: &Pat,
+    ty: Ty,
+    path: &Seq<u32>,
+    parts: &[Subvalue],
+) -> Result<(), AllocError>
+    ensures { OnOk result (HasOpens (opens_of types.now pat.now ty) path.now parts.now) }
+{
+    match pat {
+        Pat::Num(_, _) => Ok(()),
+        Pat::Wild(_) | Pat::Var(_, _) => {
+            find_part(parts, path.as_slice(), ty)?;
+            Ok(())
+        }
+        Pat::Con(_, con, pats) => {
+            let fields = types_of_fields(types, *con);
+            find_below(alloc, types, pats.as_slice(), fields, path, parts)?;
+            Ok(())
+        }
+    }
+}
+
+// Those of subpatterns at the types of their fields.
+#[cycle(finding)]
+fn find_below(
+    alloc: Global,
+    types: &[DataDecl],
+    pats: &[Pat],
+    fields: &[Ty],
+    path: &Seq<u32>,
+    parts: &[Subvalue],
+) -> Result<(), AllocError>
+    ensures { OnOk result (HasOpens (opens_below (map (opens_of types.now) pats.now) fields.now 0) path.now parts.now) }
+{
+    for (i, pat) in pats.iter().enumerate() {
+        match fields.get(i) {
+            None => return Ok(()),
+            Some(ty) => {
+                let longer = field_path(alloc, path, i)?;
+                find_parts(alloc, types, pat, *ty, &longer, parts)?;
+            }
+        }
+    }
+    Ok(())
+}
+
+/// The parts at all open positions of a leaf's provenance, each of its type, are there: the looks at the
+/// positions above them found them.
+///
+/// # Errors
+/// `AllocError` where memory is wanting.
+pub(crate) fn find_fields(
+    alloc: Global,
+    types: &[DataDecl],
+    ty: u32,
+    leaf: &Leaf,
+    parts: &[Subvalue],
+) -> Result<(), AllocError>
+    ensures { OnOk result (HasOpens (opens_of types.now leaf.now.prov (Named ty)) [] parts.now) }
+{
+    let root = Seq::new(alloc);
+    find_parts(alloc, types, &leaf.prov, Ty::Named(ty), &root, parts)?;
+    Ok(())
+}

@@ -1,0 +1,127 @@
+//! Code that fetches the part of a value at a position of its leaf. What the leaf has taken apart is rebuilt,
+//! each part in its own type's layout.
+
+ghost use Rattle.std.specs.Prelude.{◌≡◌, Some, IfOk, OnOk};
+ghost use Rattle.std.specs.Option.{option_copied};
+ghost use Rattle.rb_target.specs.Growth.{Grows};
+ghost use Rattle.rb_fetch.specs.Fields.{FetchesField};
+ghost use Rattle.rb_fetch.specs.inner.Rebuilding.{FetchesOpen, pattern_at, sub_at};
+
+use crate::choosing::fetch_part;
+use crate::field::field_reads;
+use crate::heads::leaf_at;
+use rb_core::pattern::Pat;
+use rb_core::seq::Seq;
+use rb_fragment::make::make_all;
+use rb_fragment::reads::slot_reads;
+use rb_layout::agreed::Agreed;
+use rb_target::body::Body;
+use std::alloc::{AllocError, Global};
+
+/// So many calls of fetching, constructing and choosing may be nested. They always end before: flattening has no
+/// cycle, and patterns are finite.
+pub(crate) const DEPTH: usize = 4294967295;
+
+/// What `fetch_field` appends, where so many calls may be nested still.
+///
+/// # Errors
+/// `AllocError` where memory is wanting.
+pub(crate) fn fetch_field_at(
+    alloc: Global,
+    body: &mut Body,
+    words: &[usize],
+    agreed: &Agreed,
+    depth: usize,
+    ty: u32,
+    leaf: usize,
+    path: &[u32],
+) -> Result<Seq<usize>, AllocError>
+    ensures fetches { IfOk result (λ slots. FetchesField agreed.now ty leaf path.now words.now body.old body.new slots) }
+    ensures grows { OnOk result (Grows body.old.code body.new.code) }
+{
+    if depth == 0 {
+        return Err(AllocError);
+    }
+    let _typed = agreed.covered().program();
+    match path {
+        [] => {
+            let slots = copy_slots(alloc, words)?;
+            Ok(slots)
+        }
+        [_, ..] => {
+            let Some(found) = leaf_at(agreed.layouts(), ty, leaf) else {
+                return Err(AllocError);
+            };
+            let Some(pat) = pattern_at(&found.prov, path) else {
+                return Err(AllocError);
+            };
+            let path = copy_path(alloc, path)?;
+            let slots = fetch_part(alloc, body, words, agreed, depth - 1, ty, leaf, pat, &path)?;
+            Ok(slots)
+        }
+    }
+}
+
+fn copy_slots(alloc: Global, slots: &[usize]) -> Result<Seq<usize>, AllocError>
+    ensures { IfOk result (λ copy. copy ≡ slots.now) }
+{
+    let mut copy = Seq::new(alloc);
+    for slot in slots {
+        copy.push(*slot)?;
+    }
+    Ok(copy)
+}
+
+fn copy_path(alloc: Global, path: &[u32]) -> Result<Seq<u32>, AllocError>
+    ensures { IfOk result (λ copy. copy ≡ path.now) }
+{
+    let mut copy = Seq::new(alloc);
+    for field in path {
+        copy.push(*field)?;
+    }
+    Ok(copy)
+}
+
+// The pattern at a position of a pattern.
+fn pattern_at<'a>(pat: &'a Pat, path: &[u32]) -> Option<&'a Pat>
+    ensures { option_copied result ≡ pattern_at (Some pat.now) path.now }
+{
+    match path {
+        [] => Some(pat),
+        [field, rest @ ..] => match sub_at(pat, *field) {
+            None => None,
+            Some(sub) => pattern_at(sub, rest),
+        },
+    }
+}
+
+fn sub_at(pat: &Pat, field: u32) -> Option<&Pat>
+    ensures { option_copied result ≡ sub_at pat.now field }
+{
+    match pat {
+        Pat::Wild(_) | Pat::Var(_, _) | Pat::Num(_, _) => None,
+        Pat::Con(_, _, subs) => subs.get(field as usize),
+    }
+}
+
+/// Code that leaves the words of a field at an open position in slots.
+///
+/// # Errors
+/// `AllocError` where memory is wanting.
+pub(crate) fn fetch_open(
+    alloc: Global,
+    body: &mut Body,
+    words: &[usize],
+    agreed: &Agreed,
+    ty: u32,
+    leaf: usize,
+    path: &[u32],
+) -> Result<Seq<usize>, AllocError>
+    ensures fetches { IfOk result (λ slots. FetchesOpen agreed.now ty leaf path.now words.now body.old body.new slots) }
+    ensures grows { OnOk result (Grows body.old.code body.new.code) }
+{
+    let words = slot_reads(alloc, words)?;
+    let reads = field_reads(alloc, agreed, ty, leaf, path, words.as_slice())?;
+    let slots = make_all(alloc, body, reads.as_slice())?;
+    Ok(slots)
+}

@@ -1,0 +1,164 @@
+-- What rebuilding the fields of one leaf costs is within its type's mending, and the fields are there.
+use Rattle.std.proofs.Common.{◌≡◌, ℕ, zero, suc, ◌+◌, ◌≤◌, ◌==◌, Bool, true, false, List, [], ◌∷◌, map, length, Option, Some, None, refl, sym, ap, ◌∙◌, arith}
+use Rattle.std.specs.Prelude.{slice_get, drop, if◌then◌else◌, ◌&&◌}
+use Rattle.std.specs.List.{list_all, sum_by}
+use Rattle.std.proofs.lemmas.Bool.{false≢true}
+use Rattle.std.proofs.lemmas.List.Sums.{sum_by-append, sum_by-cons}
+use Rattle.std.proofs.lemmas.Option.{same_Some}
+use Rattle.rb_core.specs.declared.value.Value.{Value, out-Value}
+use Rattle.rb_core.specs.declared.value.Value.TheOpen as V
+use Rattle.rb_core.specs.declared.value.Value.TheOpen.{Value-F}
+use Rattle.rb_core.specs.declared.types.Ty.TheVariants.{Named}
+use Rattle.rb_core.specs.declared.pattern.Pat.{Pat, out-Pat}
+use Rattle.rb_core.specs.declared.pattern.Pat.TheVariants.{outs-Wild, outs-Var, outs-Num, outs-Con}
+use Rattle.rb_core.specs.Matching.{all_pass, is_con, matches_of}
+use Rattle.rb_core.specs.Values.{part_at, subs_in}
+use Rattle.rb_core.proofs.MatchingForms.{matches-Con}
+use Rattle.rb_core.proofs.PatternLaws.{fold-Con, induction}
+use Rattle.rb_decide.specs.Decisions.{subpatterns}
+use Rattle.rb_layout.specs.declared.layout.Layout.{Layout}
+use Rattle.rb_layout.specs.declared.layout.Leaf.{Leaf}
+use Rattle.rb_layout.specs.Positions.{layout_of, leaf_of}
+use Rattle.rb_rel.specs.Switches.{Head, choose_of, greatest, head_below, heads_below, heads_of, heads_step, inner_heads, is_shallow, leaves_in, mend_leaf, mend_of}
+use Rattle.rb_rel.proofs.Leaves.{leaf_matches}
+use Rattle.rb_fragment.specs.Plan.{Plan}
+use Rattle.rb_match.specs.Bounding.{is_plain, rebuilding}
+use Rattle.rb_match.specs.inner.Asking.{leaf_in}
+use Rattle.rb_match.specs.inner.Saving.{HasField, mend_at, mend_field, mend_pattern, mends_at}
+use Rattle.rb_match.proofs.Edges.{same-nat}
+
+both : (a b : Bool) → (a && b) ≡ true → (a ≡ true) × (b ≡ true)
+both true true e = (refl, refl)
+both true false e = absurd cc
+both false b e = absurd cc
+
+-- Sums
+
+module _ (layouts : List Layout) where
+  abbrev cost : Head → ℕ
+  cost h = choose_of layouts h.con.ty h.con.con
+
+  sum-below : (i : ℕ) (hs : List Head) → sum_by cost (map (head_below i) hs) ≡ sum_by cost hs
+  sum-below i [] = refl
+  sum-below i (h ∷ hs) = (let a = sum_by-cons cost (head_below i h) (map (head_below i) hs) in let b = sum_by-cons cost h hs in let r = sum-below i hs in omega (arith, a, b, r))
+
+  -- the patterns from the first one on, so many of them
+  abbrev some : List Pat → ℕ → ℕ
+  some ps zero = 0
+  some ps (suc i) = some ps i + mend_pattern layouts (slice_get ps i)
+
+  some-cons : (p : Pat) (ps : List Pat) (i : ℕ) → some (p ∷ ps) (suc i) ≡ sum_by cost (heads_of p) + some ps i
+  some-cons p ps zero = omega arith
+  some-cons p ps (suc i) = (let r = some-cons p ps i in omega (arith, r))
+
+  some-none : (i : ℕ) → some [] i ≡ 0
+  some-none zero = refl
+  some-none (suc i) = (let r = some-none i in omega (arith, r))
+
+  some-within : (ps : List Pat) (k i : ℕ) → some ps i ≤ sum_by cost (heads_below (map heads_of ps) k)
+  some-within [] k i = (let r = some-none i in omega (arith, r))
+  some-within (p ∷ ps) k zero = omega arith
+  some-within (p ∷ ps) k (suc i) =
+      let a = some-cons p ps i in
+      let r = some-within ps (k + 1) i in
+      let b = sum_by-append cost (map (head_below k) (heads_of p)) (heads_below (map heads_of ps) (k + 1)) in
+      let c = sum-below k (heads_of p) in omega (arith, a, b, c, r)
+
+  some-all : (q : Pat) (i : ℕ) → some (subpatterns (out-Pat q)) i ≤ sum_by cost (drop 1 (heads_of q))
+  some-all q i = induction (λ q. some (subpatterns (out-Pat q)) i ≤ sum_by cost (drop 1 (heads_of q))) (record {
+    wild = λ at. (let e = ap (λ l. some (subpatterns l) i) (outs-Wild at) in let r = some-none i in omega (arith, e, r));
+    var = λ at x. (let e = ap (λ l. some (subpatterns l) i) (outs-Var at x) in let r = some-none i in omega (arith, e, r));
+    num = λ at n. (let e = ap (λ l. some (subpatterns l) i) (outs-Num at n) in let r = some-none i in omega (arith, e, r));
+    con = λ at c ps each.
+        let e = ap (λ l. some (subpatterns l) i) (outs-Con at c ps) in
+        let h = ap (λ hs. sum_by cost (drop 1 hs)) (fold-Con (List Head) heads_step at c ps) in
+        let r = some-within ps 0 i in omega (arith, e, h, r);
+  }) q
+
+  mends-some : (t number : ℕ) (leaf : Leaf) (i : ℕ) → leaf_in (layout_of layouts t) number ≡ Some leaf → mends_at layouts t number i ≡ some (subpatterns (out-Pat leaf.prov)) i
+  mends-some t number leaf zero is = refl
+  mends-some t number leaf (suc i) is =
+      let r = mends-some t number leaf i is in
+      let e : mend_at layouts t number i ≡ mend_pattern layouts (slice_get (subpatterns (out-Pat leaf.prov)) i) = ap (λ o. mend_field layouts o i) is in omega (arith, r, e)
+
+  mends-none : (t number i : ℕ) → leaf_in (layout_of layouts t) number ≡ None → mends_at layouts t number i ≡ 0
+  mends-none t number zero is = refl
+  mends-none t number (suc i) is =
+      let r = mends-none t number i is in
+      let e : mend_at layouts t number i ≡ 0 = ap (λ o. mend_field layouts o i) is in omega (arith, r, e)
+
+  greatest-at : (ls : List Leaf) (k : ℕ) (leaf : Leaf) → slice_get ls k ≡ Some leaf → mend_leaf (choose_of layouts) leaf ≤ greatest (map (mend_leaf (choose_of layouts)) ls)
+  greatest-at [] k leaf e = absurd cc
+  greatest-at (l ∷ ls) zero leaf e = (let same = ap (mend_leaf (choose_of layouts)) (same_Some l leaf e) in omega (arith, same))
+  greatest-at (l ∷ ls) (suc k) leaf e = (let r = greatest-at ls k leaf e in omega (arith, r))
+
+  shallow-at : (ls : List Leaf) → list_all is_shallow ls ≡ true → (k : ℕ) (leaf : Leaf) → slice_get ls k ≡ Some leaf → is_shallow leaf ≡ true
+  shallow-at [] all k leaf e = absurd cc
+  shallow-at (l ∷ ls) all zero leaf e = ap is_shallow (sym (same_Some l leaf e)) ∙ (both (is_shallow l) (list_all is_shallow ls) all).0
+  shallow-at (l ∷ ls) all (suc k) leaf e = shallow-at ls (both (is_shallow l) (list_all is_shallow ls) all).1 k leaf e
+
+  no-heads : (hs : List Head) → (length hs == 0) ≡ true → sum_by cost hs ≡ 0
+  no-heads [] e = refl
+  no-heads (h ∷ hs) e = absurd (let x = same-nat (length (h ∷ hs)) 0 e in omega (arith, x))
+
+  -- rebuilding fields of one leaf, each once
+  pub mends_within : (t : ℕ) → mend_of layouts t ≡ greatest (map (mend_leaf (choose_of layouts)) (leaves_in (layout_of layouts t))) → (number i : ℕ) → mends_at layouts t number i ≤ rebuilding layouts (Named t)
+  mends_within t recurs number i = in_layout (layout_of layouts t) refl
+    where
+      in_both : (layout : Layout) → layout_of layouts t ≡ Some layout → (leaf : Leaf) → slice_get layout.leaves number ≡ Some leaf → (u : Bool) → is_plain layouts t ≡ u → mends_at layouts t number i ≤ (if u then 0 else mend_of layouts t)
+      in_both layout is leaf at true plain =
+          let a = mends-some t number leaf i (ap (λ o. leaf_in o number) is ∙ at) in
+          let b = some-all leaf.prov i in
+          let s = shallow-at layout.leaves (ap (λ o. list_all is_shallow (leaves_in o)) (sym is) ∙ plain) number leaf at in
+          let c = no-heads (inner_heads leaf) s in omega (arith, a, b, c)
+      in_both layout is leaf at false plain =
+          let a = mends-some t number leaf i (ap (λ o. leaf_in o number) is ∙ at) in
+          let b = some-all leaf.prov i in
+          let g = greatest-at layout.leaves number leaf at in
+          let e = ap (λ o. greatest (map (mend_leaf (choose_of layouts)) (leaves_in o))) is in omega (arith, a, b, g, e, recurs)
+
+      in_leaf : (layout : Layout) → layout_of layouts t ≡ Some layout → (o : Option Leaf) → slice_get layout.leaves number ≡ o → mends_at layouts t number i ≤ rebuilding layouts (Named t)
+      in_leaf layout is None none = (let z = mends-none t number i (ap (λ o. leaf_in o number) is ∙ none) in omega (arith, z))
+      in_leaf layout is (Some leaf) at = in_both layout is leaf at (is_plain layouts t) refl
+
+      in_layout : (o : Option Layout) → layout_of layouts t ≡ o → mends_at layouts t number i ≤ rebuilding layouts (Named t)
+      in_layout None is = (let z = mends-none t number i (ap (λ o. leaf_in o number) is) in omega (arith, z))
+      in_layout (Some layout) is = in_leaf layout is (slice_get layout.leaves number) refl
+
+-- Fields that are there
+
+passed : (ts : List (Value → Bool)) (us : List Value) (k : ℕ) (t : Value → Bool) → all_pass ts us ≡ true → slice_get ts k ≡ Some t → (u : Value) × (slice_get us k ≡ Some u)
+passed [] us k t all e = absurd cc
+passed (x ∷ ts) [] k t all e = absurd (false≢true all)
+passed (x ∷ ts) (u ∷ us) zero t all e = (u, refl)
+passed (x ∷ ts) (u ∷ us) (suc k) t all e = passed ts us k t (both (x u) (all_pass ts us) all).1 e
+
+get-tests : (ps : List Pat) (k : ℕ) (p : Pat) → slice_get ps k ≡ Some p → slice_get (map matches_of ps) k ≡ Some (matches_of p)
+get-tests [] k p e = absurd cc
+get-tests (q ∷ ps) zero p e = ap (λ (x : Pat). Some (matches_of x)) (same_Some q p e)
+get-tests (q ∷ ps) (suc k) p e = get-tests ps k p e
+
+begun : (d : ℕ) (ts : List (Value → Bool)) (l : Value-F Value) → is_con d ts l ≡ true → (us : List Value) × (subs_in l ≡ us) × (all_pass ts us ≡ true)
+begun d ts (V.Num n) e = absurd (false≢true e)
+begun d ts (V.Con k us) e = let b = both (d == k) (all_pass ts us) e in (us, refl, b.1)
+
+-- a value that a pattern matches has a part at each subpattern
+pub has_sub : (q : Pat) (v : Value) (field : ℕ) (sub : Pat) → slice_get (subpatterns (out-Pat q)) field ≡ Some sub → matches_of q v ≡ true → (part : Value) × (part_at v (field ∷ []) ≡ Some part)
+has_sub q v field sub = induction (λ q. slice_get (subpatterns (out-Pat q)) field ≡ Some sub → matches_of q v ≡ true → (part : Value) × (part_at v (field ∷ []) ≡ Some part)) (record {
+  wild = λ at e m. absurd (let z = ap (λ l. slice_get (subpatterns l) field) (sym (outs-Wild at)) ∙ e in cc);
+  var = λ at x e m. absurd (let z = ap (λ l. slice_get (subpatterns l) field) (sym (outs-Var at x)) ∙ e in cc);
+  num = λ at n e m. absurd (let z = ap (λ l. slice_get (subpatterns l) field) (sym (outs-Num at n)) ∙ e in cc);
+  con = λ at c ps each e m.
+      let b = begun c.con (map matches_of ps) (out-Value v) (sym (matches-Con v at c ps) ∙ m) in
+      let s = get-tests ps field sub (ap (λ l. slice_get (subpatterns l) field) (sym (outs-Con at c ps)) ∙ e) in
+      let r = passed (map matches_of ps) b.0 field (matches_of sub) b.2 s in
+      (r.0, ap (λ us. slice_get us field) b.1 ∙ r.1);
+}) q
+
+pub has_field : (plan : Plan) (t number field : ℕ) (layout : Layout) (leaf : Leaf) (sub : Pat) → layout_of plan.layouts t ≡ Some layout → slice_get layout.leaves number ≡ Some leaf → slice_get (subpatterns (out-Pat leaf.prov)) field ≡ Some sub
+    → HasField plan t number field
+has_field plan t number field layout leaf sub is at is_sub = λ v layout1 is1 is_leaf.
+    let same : layout1 ≡ layout = same_Some layout1 layout (sym is1 ∙ is) in
+    let e : leaf_of layout v ≡ Some number = ap (λ (y : Layout). leaf_of y v) (sym same) ∙ is_leaf in
+    let start : 0 + number ≡ number = omega arith in
+    has_sub leaf.prov v field sub is_sub (leaf_matches layout.leaves v 0 number leaf e number start at)

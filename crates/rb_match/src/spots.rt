@@ -1,0 +1,199 @@
+//! Spots: slots in which parts of a value are saved, so that they are there on all ways.
+
+ghost use Rattle.std.specs.Prelude.{◌≡◌, ◌++◌, ◌∷◌, [], IfOk, OnOk, true, false};
+ghost use Rattle.rb_target.specs.Growth.{Grows};
+ghost use Rattle.rb_fragment.specs.Slots.{slots_from};
+ghost use Rattle.rb_rel.specs.Switches.{is_shallow};
+ghost use Rattle.rb_match.specs.Bounding.{is_plain};
+ghost use Rattle.rb_match.specs.inner.Saving.{GivesSpots, HasConstructor, Zeroes};
+
+use crate::knowledge::{Spot, same_position};
+use crate::place::fields_of;
+use rb_core::pattern::Pat;
+use rb_core::seq::Seq;
+use rb_core::types::Ty;
+use rb_decide::clause_matrix::number_of;
+use rb_fragment::emit::emit_const;
+use rb_fragment::slots::word_count;
+use rb_layout::agreed::Agreed;
+use rb_layout::layout::Leaf;
+use rb_target::body::Body;
+use std::alloc::{AllocError, Global};
+
+/// A position at which a part is to be saved, and its type.
+#[derive(Debug, Drop)]
+pub struct Wanted {
+    pub position: Seq<u32>,
+    pub ty: Ty,
+}
+
+// Which parts are saved --------------------------------------------------------------------------
+
+// Whether a leaf takes a subvalue apart.
+fn takes_apart(leaf: &Leaf) -> bool
+    ensures { result ≡ true → is_shallow leaf.now ≡ false }
+{
+    match &leaf.prov {
+        Pat::Wild(_) | Pat::Var(_, _) | Pat::Num(_, _) => false,
+        Pat::Con(_, _, subs) => has_constructor(subs.as_slice()),
+    }
+}
+
+fn has_constructor(subs: &[Pat]) -> bool
+    ensures { result ≡ true → HasConstructor subs.now }
+{
+    for sub in subs {
+        match sub {
+            Pat::Con(_, _, _) => return true,
+            Pat::Wild(_) | Pat::Var(_, _) | Pat::Num(_, _) => {}
+        }
+    }
+    false
+}
+
+/// Whether some leaf of a type takes a subvalue apart.
+pub fn is_deep(agreed: &Agreed, ty: u32) -> bool
+    ensures { result ≡ true → is_plain agreed.now.layouts ty ≡ false }
+{
+    match agreed.layouts().get(ty as usize) {
+        None => false,
+        Some(layout) => {
+            for leaf in layout.leaves.as_slice() {
+                if takes_apart(leaf) {
+                    return true;
+                }
+            }
+            false
+        }
+    }
+}
+
+/// A position with one field more.
+pub fn field_below(alloc: Global, position: &[u32], field: u32) -> Result<Seq<u32>, AllocError>
+    ensures { IfOk result (λ below. below ≡ position.now ++ field ∷ []) }
+{
+    let fields = Vec::from_slice(alloc, position)?;
+    let mut below = Seq::from_vec(fields);
+    below.push(field)?;
+    Ok(below)
+}
+
+// Each part once.
+fn add_wanted(found: &mut Seq<Wanted>, position: Seq<u32>, ty: Ty) -> Result<(), AllocError> {
+    for wanted in found.as_slice() {
+        if wanted.ty == ty && same_position(wanted.position.as_slice(), position.as_slice()) {
+            return Ok(());
+        }
+    }
+    found.push(Wanted { position, ty })?;
+    Ok(())
+}
+
+// The parts below a pattern at a position.
+fn add_parts(
+    alloc: Global,
+    agreed: &Agreed,
+    pat: &Pat,
+    position: &[u32],
+    found: &mut Seq<Wanted>,
+) -> Result<(), AllocError> {
+    match pat {
+        Pat::Wild(_) | Pat::Var(_, _) | Pat::Num(_, _) => Ok(()),
+        Pat::Con(_, con, subs) => {
+            let types = agreed.covered().program().types.as_slice();
+            let fields = fields_of(types, *con);
+            let deep = is_deep(agreed, con.ty);
+            for (j, sub) in subs.as_slice().iter().enumerate() {
+                match sub {
+                    Pat::Wild(_) | Pat::Var(_, _) => {}
+                    Pat::Num(_, _) | Pat::Con(_, _, _) => {
+                        let below = field_below(alloc, position, number_of(j)?)?;
+                        add_parts(alloc, agreed, sub, below.as_slice(), found)?;
+                        if deep {
+                            if let Some(ty) = fields.get(j) {
+                                add_wanted(found, below, *ty)?;
+                            }
+                        }
+                    }
+                }
+            }
+            Ok(())
+        }
+    }
+}
+
+/// The parts at which some pattern looks, or below which one does, directly below a part of a type with
+/// a leaf that takes subvalues apart.
+pub fn parts_to_save(
+    alloc: Global,
+    agreed: &Agreed,
+    pats: &[Pat],
+) -> Result<Seq<Wanted>, AllocError> {
+    let mut found = Seq::new(alloc);
+    for pat in pats {
+        add_parts(alloc, agreed, pat, &[], &mut found)?;
+    }
+    Ok(found)
+}
+
+/// Whether there is a spot for a field of the part at a position.
+pub fn has_spot_below(spots: &[Spot], position: &[u32]) -> bool {
+    for spot in spots {
+        match spot.position.as_slice() {
+            [] => {}
+            [above @ .., _] => {
+                if same_position(above, position) {
+                    return true;
+                }
+            }
+        }
+    }
+    false
+}
+
+// Their slots ------------------------------------------------------------------------------------
+
+// New slots, each of which is 0 at first: every slot of a function is written.
+fn zeroes(alloc: Global, body: &mut Body, count: usize) -> Result<Seq<usize>, AllocError>
+    ensures slots { IfOk result (λ slots. slots ≡ slots_from body.old.slots count) }
+    ensures zeroes { OnOk result (Zeroes body.old body.new count) }
+{
+    let mut slots = Seq::new(alloc);
+    for _given in 0..count {
+        let slot = emit_const(body, 0)?;
+        slots.push(slot)?;
+    }
+    Ok(slots)
+}
+
+fn copy_position(alloc: Global, position: &[u32]) -> Result<Seq<u32>, AllocError> {
+    let fields = Vec::from_slice(alloc, position)?;
+    Ok(Seq::from_vec(fields))
+}
+
+/// Slots for some parts, a spot for each.
+///
+/// # Errors
+/// `AllocError` where memory is wanting.
+pub fn give_spots(
+    alloc: Global,
+    body: &mut Body,
+    agreed: &Agreed,
+    parts: &[Wanted],
+) -> Result<Seq<Spot>, AllocError>
+    ensures gives { IfOk result (λ spots. GivesSpots agreed.now body.old body.new spots) }
+    ensures grows { OnOk result (Grows body.old.code body.new.code) }
+{
+    let mut spots = Seq::new(alloc);
+    for part in parts {
+        let count = word_count(agreed.layouts(), part.ty);
+        let slots = zeroes(alloc, body, count)?;
+        let position = copy_position(alloc, part.position.as_slice())?;
+        spots.push(Spot {
+            position,
+            ty: part.ty,
+            slots,
+        })?;
+    }
+    Ok(spots)
+}
