@@ -12,6 +12,8 @@ pub mod Searching
 pub mod Relating
 pub mod Opening
 mod Holding
+mod Walking
+mod Grouping
 mod Reading
 mod Ruling
 mod Agreeing

@@ -1,5 +1,5 @@
 -- The items of leaves, form by form.
-use Rattle.std.proofs.Common.{◌≡◌, ℕ, zero, suc, ◌+◌, ◌<◌, ◌≤◌, List, [], ◌∷◌, ◌++◌, length, drop, get_or, Option, Some, None, refl, sym, ap, ◌∙◌}
+use Rattle.std.proofs.Common.{◌≡◌, ℕ, zero, suc, ◌+◌, ◌<◌, ◌≤◌, List, [], ◌∷◌, ◌++◌, length, drop, get_or, inl, inr, subst, arith, Option, Some, None, refl, sym, ap, ◌∙◌}
 use Rattle.std.specs.Prelude.{slice_get}
 use Rattle.std.specs.List.{flat_map}
 use Rattle.std.proofs.lemmas.List.{append-nil, append_assoc, map-append}
@@ -15,8 +15,12 @@ use Rattle.rb_layout.specs.Items.{item_lists, items_in}
 use Rattle.rb_layout.proofs.TreeLemmas.{leaves-Leaf, leaves-Split, leaves-Split-else, arm_leaves-is}
 use Rattle.rb_agree.specs.declared.items.Item.{Item}
 use Rattle.rb_agree.specs.Written.{shown_items}
-use Rattle.rb_agree.specs.inner.Leaves.{items_or_none, items_under, leaf_items, shown_leaves}
+use Rattle.rb_agree.specs.inner.Leaves.{AreWritten, items_or_none, items_under, leaf_items, leaves_or_none, shown_leaves}
 use Rattle.rb_agree.proofs.Lists.{flat-next, flat-end}
+use Rattle.rb_agree.proofs.Grouping.{at-new, at-old, length-more}
+use Rattle.std.proofs.lemmas.Bool.{cases_lt}
+use Rattle.rb_core.specs.declared.layout_decl.LayoutDecl.{LayoutDecl}
+use Rattle.rb_layout.specs.Flattening.{decl_of}
 
 -- one leaf more
 pub leaf-added : (old new : List (List Item)) (written : List Item) (tree : LayTree) (at : ℕ) (prov : Pat) (items ws : List LayItem) → tree ≡ S.Leaf at prov items → ws ≡ items
@@ -78,3 +82,23 @@ pick-written (w ∷ ws) (suc n) = pick-written ws n
 
 pub items-are : (out : List (List Item)) (ws : List WrittenLeaf) (n : ℕ) → shown_leaves out ≡ items_under ws → items_or_none (slice_get out n) ≡ items_in (slice_get ws n)
 items-are out ws n is = sym (pick-shown out n) ∙ ap (λ (xs : List (List I.Item)). pick xs n) is ∙ pick-written ws n
+
+-- types one after the other
+abbrev pub WrittenBefore : List LayoutDecl → ℕ → List (List (List Item)) → Type 0
+WrittenBefore decls t written = (length written ≡ t) × AreWritten decls t written
+
+pub type-added : (decls : List LayoutDecl) (t n : ℕ) (leaves : List (List Item)) (written new : List (List (List Item))) → WrittenBefore decls t written → n ≡ t
+    → shown_leaves leaves ≡ items_under (I.leaves_in (decl_of decls n)) → new ≡ written ++ leaves ∷ [] → WrittenBefore decls (t + 1) new
+type-added decls t n leaves written new before same here added = subst (λ ws. WrittenBefore decls (t + 1) ws) (sym added) (
+  length-more written leaves ∙ ap (λ k. k + 1) before.0,
+  λ s lt. elim (cases_lt s t) [
+    | inl less ↦ ap (λ x. shown_leaves (leaves_or_none x)) (at-old written leaves s (subst (λ k. s < k) (sym before.0) less)) ∙ before.1 s less
+    | inr most ↦ (let last : s ≡ t = omega (arith, most, lt) in
+        ap (λ x. shown_leaves (leaves_or_none x)) (ap (λ k. slice_get (written ++ leaves ∷ []) k) (last ∙ sym before.0) ∙ at-new written leaves) ∙ here
+        ∙ ap (λ k. items_under (I.leaves_in (decl_of decls k))) (same ∙ sym last))
+  ],
+)
+
+pub leaves-of-type : (decls : List LayoutDecl) (count t : ℕ) (all : List (List (List Item))) (got : List (List Item)) (xs : List (List (List Item))) → AreWritten decls count all → t < count → xs ≡ all
+    → got ≡ leaves_or_none (slice_get xs t) → shown_leaves got ≡ items_under (I.leaves_in (decl_of decls t))
+leaves-of-type decls count t all got xs written lt same is = ap (λ ls. shown_leaves ls) (is ∙ ap (λ ws. leaves_or_none (slice_get ws t)) same) ∙ written t lt

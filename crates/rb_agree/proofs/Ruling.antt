@@ -1,5 +1,5 @@
 -- The places of rules, and what is found in them.
-use Rattle.std.proofs.Common.{◌≡◌, ℕ, ◌+◌, ◌<◌, ◌≤◌, List, [], ◌∷◌, ◌++◌, length, drop, get_or, add-one, Option, Some, None, Result, IfOk, refl, sym, ap, subst, ◌∙◌}
+use Rattle.std.proofs.Common.{◌≡◌, ℕ, ◌+◌, ◌<◌, ◌≤◌, List, [], ◌∷◌, ◌++◌, length, drop, get_or, add-one, Bool, Option, Some, None, Result, IfOk, refl, sym, ap, subst, ◌∙◌}
 use Rattle.std.specs.Prelude.{slice_get, MatchOption}
 use Rattle.std.specs.List.{flat_map}
 use Rattle.std.proofs.lemmas.Bool.{lt-ltb}
@@ -19,15 +19,19 @@ use Rattle.rb_layout.specs.Spots as S
 use Rattle.rb_layout.specs.Items.{Item, items_of}
 use Rattle.rb_layout.specs.Positions.{layout_of, open_positions}
 use Rattle.rb_layout.specs.A3.{FailsItem, ItemFits}
+use Rattle.rb_layout.specs.A5.{IsApart}
+use Rattle.rb_layout.specs.A7.{MeetsAll}
 use Rattle.rb_layout.proofs.Walks.{drop_from}
 use Rattle.rb_matrix.specs.Search.{AreInhabited, IsTypeIn}
 use Rattle.rb_agree.specs.declared.items.Item as D
 use Rattle.rb_agree.specs.declared.rules.Rule.{Rule}
-use Rattle.rb_agree.specs.declared.rules.Rule.TheVariants.{Parts}
+use Rattle.rb_agree.specs.declared.rules.Rule.TheVariants.{Parts, Tests, Values}
 use Rattle.rb_agree.specs.declared.rules.Related.{Related}
 use Rattle.rb_agree.specs.Written.{shown_item, shown_items}
 use Rattle.rb_agree.specs.Answers.{Finds}
-use Rattle.rb_agree.specs.inner.Rules.{IsKnown, leaf_spots, leaves_spots, refusal, rule_number, rule_spots, rules_spots, spots_of, type_spots}
+use Rattle.rb_agree.specs.inner.Passing.{PassWhereOff}
+use Rattle.rb_agree.specs.inner.Sharing.{ApartWhereOff}
+use Rattle.rb_agree.specs.inner.Rules.{HoldsWhereOff, IsKnown, leaf_spots, leaves_spots, refusal, rule_number, rule_spots, rules_spots, spots_of, type_spots}
 use Rattle.rb_agree.proofs.Lists.{map-at, flat-end}
 use Rattle.rb_agree.proofs.Holding.{if-ok}
 use Rattle.rb_agree.proofs.Finding.{Passes, pass-on, pass-found, one-place, ends, found-first, found-later, leaves-next, leaves-end, types-next, types-end}
@@ -43,6 +47,22 @@ type-in p layouts related types t layout is known at =
     let within : t < length layouts = slice_get_within layouts t layout at in
     let here : t < length p.types = subst (λ n. t < n) known.count within in
     subst (λ (ts : List DataDecl). IsTypeIn ts (Named t)) (sym is) (lt-ltb t (length p.types) here)
+
+-- Marks -----------------------------------------------------------------------------------------------------
+
+module _ (p : Program) (layouts : List Layout) (t : ℕ) (layout : Layout) (rule : Rule) where
+  pub holds-nowhere : (marks : List Bool) → marks ≡ [] → HoldsWhereOff p layouts rule t layout marks
+  holds-nowhere marks none = λ n leaf off at. absurd (cc (ap (λ (ms : List Bool). slice_get ms n) (sym none) ∙ off))
+
+  pub holds-values : {E : Type 0} (types : List DataDecl) (r : Result (List Bool) E) → rule ≡ Values → types ≡ p.types → IfOk r (ApartWhereOff types t layout.leaves) → IfOk r (HoldsWhereOff p layouts rule t layout)
+  holds-values types r is same h = if-ok r (ApartWhereOff types t layout.leaves) (HoldsWhereOff p layouts rule t layout) (λ marks apart n leaf off at.
+      subst (λ (x : Rule). Checked p layouts (leaf_spots p.layouts x t layout n leaf) None) (sym is)
+      (subst (λ (ts : List DataDecl). IsApart ts t layout n leaf) same (apart n leaf off at), tt)) h
+
+  pub holds-tests : {E : Type 0} (types : List DataDecl) (r : Result (List Bool) E) → rule ≡ Tests → types ≡ p.types → IfOk r (PassWhereOff types layouts layout) → IfOk r (HoldsWhereOff p layouts rule t layout)
+  holds-tests types r is same h = if-ok r (PassWhereOff types layouts layout) (HoldsWhereOff p layouts rule t layout) (λ marks pass n leaf off at.
+      subst (λ (x : Rule). Checked p layouts (leaf_spots p.layouts x t layout n leaf) None) (sym is)
+      (subst (λ (ts : List DataDecl). MeetsAll ts layouts layout.tree n leaf) same (pass n leaf off at), tt)) h
 
 -- Items -----------------------------------------------------------------------------------------------------
 

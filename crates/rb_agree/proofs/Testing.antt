@@ -26,10 +26,10 @@ use Rattle.rb_agree.proofs.Lists.{each-append, each-first, each-map, each-none, 
 
 -- Routes, form by form ----------------------------------------------------------------------------
 
-routes-Leaf : (m : ℕ) → routes_of (F.Leaf m) ≡ record { leaf = m; tests = [] } ∷ []
+pub routes-Leaf : (m : ℕ) → routes_of (F.Leaf m) ≡ record { leaf = m; tests = [] } ∷ []
 routes-Leaf m = fold-Leaf (List Route) (Under (List Route)) routes_step routes_arm m
 
-under-routes : (a : FlatArm) → routes_under a ≡ record { literal = a.literal; of = routes_of a.under }
+pub under-routes : (a : FlatArm) → routes_under a ≡ record { literal = a.literal; of = routes_of a.under }
 under-routes a = fold_out-FlatArm (List Route) (Under (List Route)) routes_step routes_arm a
 
 joined-routes : (loc : Loc) (arms : List FlatArm) → flat_map (arm_routes loc) (map routes_under arms) ≡ arms_routes loc arms
@@ -42,7 +42,7 @@ literals-are (a ∷ arms) =
     let here : (routes_under a).literal ≡ a.literal = ap (λ (u : Under (List Route)). u.literal) (under-routes a) in
     ap (λ n. n ∷ literals_of (map routes_under arms)) here ∙ ap (λ (ns : List ℕ). a.literal ∷ ns) (literals-are arms)
 
-routes-Split : (loc : Loc) (arms : List FlatArm) (other : Option FlatTree) → routes_of (F.Split loc arms other) ≡ arms_routes loc arms ++ other_routes loc (literals_in arms) other
+pub routes-Split : (loc : Loc) (arms : List FlatArm) (other : Option FlatTree) → routes_of (F.Split loc arms other) ≡ arms_routes loc arms ++ other_routes loc (literals_in arms) other
 routes-Split loc arms None =
     fold-Split (List Route) (Under (List Route)) routes_step routes_arm loc arms ∙ ap (λ (rs : List Route). rs ++ []) (joined-routes loc arms)
 routes-Split loc arms (Some tree) =

@@ -8,3 +8,5 @@ pub mod Ways
 pub mod Held
 pub mod Leaves
 pub mod Rules
+pub mod Passing
+pub mod Sharing

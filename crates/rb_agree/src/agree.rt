@@ -11,6 +11,7 @@ ghost use Rattle.rb_agree.specs.inner.Rules.{IsKnown, IsReady, early_rules, late
 
 use crate::fault::AgreeFault;
 use crate::graphs::{flattened, held};
+use crate::leaves::all_leaves;
 use crate::pointers::pointing;
 use crate::rules::{Related, Rule, rules_fault};
 use crate::shapes::shapes_fault;
@@ -28,10 +29,12 @@ fn related(alloc: Global, program: &Program, layouts: &[Layout]) -> Result<Relat
     requires count { length layouts.now ≡ length program.now.types }
     ensures { IfOk result (IsKnown program.now layouts.now) }
 {
+    let written = all_leaves(alloc, program.layouts.as_slice(), layouts.len())?;
     let marks = pointing(alloc, layouts)?;
     let flattened = flattened(alloc, layouts)?;
     let held = held(alloc, program.types.as_slice(), layouts)?;
     Ok(Related {
+        written,
         marks,
         flattened,
         held,

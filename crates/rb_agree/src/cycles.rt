@@ -19,8 +19,8 @@ pub struct Way {
     pub way: Seq<u32>,
 }
 
-// No number of so many is marked.
-fn no_marks(alloc: Global, count: usize) -> Result<Seq<bool>, AllocError>
+/// No number of so many is marked.
+pub(crate) fn no_marks(alloc: Global, count: usize) -> Result<Seq<bool>, AllocError>
     ensures { IfOk result (λ marks. AreUnmarked count marks) }
 {
     let mut marks = Seq::new(alloc);

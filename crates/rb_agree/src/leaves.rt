@@ -6,10 +6,11 @@ ghost use Rattle.rb_core.specs.Layouts.{leaves, leaves_under};
 ghost use Rattle.rb_layout.specs.Flattening.{decl_of};
 ghost use Rattle.rb_layout.specs.Items.{leaves_in};
 ghost use Rattle.rb_agree.specs.Written.{shown_items};
-ghost use Rattle.rb_agree.specs.inner.Leaves.{items_or_none, items_under, shown_leaves};
+ghost use Rattle.rb_agree.specs.inner.Leaves.{AreWritten, items_or_none, items_under, leaves_or_none, shown_leaves};
 
 use crate::decls::decl_of;
 use crate::items::{Item, items_of};
+use crate::numbers::number_of;
 use rb_core::layout_decl::{Arm, LayTree, LayoutDecl};
 use rb_core::seq::Seq;
 use std::alloc::{AllocError, Global};
@@ -45,12 +46,8 @@ fn add_arms(alloc: Global, arms: &[Arm], out: &mut Seq<Seq<Item>>) -> Result<(),
     Ok(())
 }
 
-/// The items of each leaf of a type's layout; none where it has no layout.
-pub(crate) fn leaves_of(
-    alloc: Global,
-    decls: &[LayoutDecl],
-    ty: u32,
-) -> Result<Seq<Seq<Item>>, AllocError>
+// The items of each leaf of a type's layout; none where it has no layout.
+fn leaves_of(alloc: Global, decls: &[LayoutDecl], ty: u32) -> Result<Seq<Seq<Item>>, AllocError>
     ensures { IfOk result (λ out. shown_leaves out ≡ items_under (leaves_in (decl_of decls.now ty))) }
 {
     let mut out = Seq::new(alloc);
@@ -60,6 +57,31 @@ pub(crate) fn leaves_of(
             add_tree(alloc, &decl.tree, &mut out)?;
             Ok(out)
         }
+    }
+}
+
+/// For each of so many types the items of each leaf of its layout.
+pub(crate) fn all_leaves(
+    alloc: Global,
+    decls: &[LayoutDecl],
+    count: usize,
+) -> Result<Seq<Seq<Seq<Item>>>, AllocError>
+    ensures { IfOk result (AreWritten decls.now count) }
+{
+    let mut written = Seq::new(alloc);
+    for t in 0..count {
+        written.push(leaves_of(alloc, decls, number_of(t)?)?)?;
+    }
+    Ok(written)
+}
+
+/// The items of each leaf of type `ty`; none where there is no such type.
+pub(crate) fn leaves_at(written: &[Seq<Seq<Item>>], ty: u32) -> &[Seq<Item>]
+    ensures { result.now ≡ leaves_or_none (slice_get written.now ty) }
+{
+    match written.get(ty as usize) {
+        None => &[],
+        Some(leaves) => leaves.as_slice(),
     }
 }
 

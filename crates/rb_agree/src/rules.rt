@@ -2,6 +2,7 @@
 //! without a leaf before those with one.
 
 ghost use Rattle.std.specs.Prelude.{◌≡◌, ℕ, IfOk, List, None, Option, Some, slice_get};
+ghost use Rattle.std.specs.Bool.{OnTrue};
 ghost use Rattle.rb_layout.specs.declared.layout.Layout.{Layout};
 ghost use Rattle.rb_layout.specs.Items.{items_of, leaves_in};
 ghost use Rattle.rb_layout.specs.Flattening.{decl_of};
@@ -11,17 +12,20 @@ ghost use Rattle.rb_agree.specs.Answers.{Finds};
 ghost use Rattle.rb_agree.specs.Written.{shown_items};
 ghost use Rattle.rb_agree.specs.inner.Lists.{EachOf};
 ghost use Rattle.rb_agree.specs.inner.Leaves.{items_under, shown_leaves};
-ghost use Rattle.rb_agree.specs.inner.Rules.{IsKnown, IsReady, leaf_spots, leaves_spots, refusal, rule_number, rule_spots, rules_spots, spots_of, type_spots};
+ghost use Rattle.rb_agree.specs.inner.Passing.{IsOff};
+ghost use Rattle.rb_agree.specs.inner.Rules.{HoldsWhereOff, IsKnown, IsReady, leaf_spots, leaves_spots, refusal, rule_number, rule_spots, rules_spots, spots_of, type_spots};
 
 use crate::blocks::blocks_fault;
 use crate::graphs::{flattening_fault, holding_fault};
 use crate::held::held_fault;
 use crate::items::Item;
-use crate::leaves::{items_at, leaves_of};
+use crate::leaves::{items_at, leaves_at};
 use crate::numbers::number_of;
 use crate::parts::item_fault;
+use crate::passing::failing;
 use crate::pointers::pointer_fault;
 use crate::roots::root_fault;
+use crate::sharing::sharing;
 use crate::splits::splits_fault;
 use crate::tests::tests_fault;
 use crate::values::{apart_fault, complete_fault};
@@ -57,6 +61,8 @@ pub enum Rule {
 /// How all layouts are related.
 #[derive(Debug, Drop)]
 pub struct Related {
+    /// For each type the items of each leaf of its layout.
+    pub written: Seq<Seq<Seq<Item>>>,
     /// For each type whether a leaf has a pointer.
     pub marks: Seq<bool>,
     /// For each type those that it flattens.
@@ -148,6 +154,74 @@ fn leaf_fault(
     }
 }
 
+// A mark for each leaf of a type's layout, off only where a rule holds there; none where nothing is known.
+fn doubts(
+    alloc: Global,
+    program: &Program,
+    layouts: &[Layout],
+    related: &Related,
+    rule: Rule,
+    ty: u32,
+    layout: &Layout,
+) -> Result<Seq<bool>, AllocError>
+    requires known { IsKnown program.now layouts.now related.now }
+    requires layout { layout_of layouts.now ty ≡ Some layout.now }
+    requires ready { IsReady layouts.now rule }
+    ensures { IfOk result (HoldsWhereOff program.now layouts.now rule ty layout.now) }
+{
+    match rule {
+        Rule::Roots => Ok(Seq::new(alloc)),
+        Rule::Parts => Ok(Seq::new(alloc)),
+        Rule::Blocks => Ok(Seq::new(alloc)),
+        Rule::Values => sharing(alloc, program.types.as_slice(), ty, layout),
+        Rule::Fields => Ok(Seq::new(alloc)),
+        Rule::Tests => failing(alloc, program.types.as_slice(), layouts, layout),
+        Rule::Splits => Ok(Seq::new(alloc)),
+        Rule::Flattening => Ok(Seq::new(alloc)),
+        Rule::Holding => Ok(Seq::new(alloc)),
+    }
+}
+
+fn is_off(marks: &[bool], n: usize) -> bool
+    ensures { OnTrue result (IsOff marks.now n) }
+{
+    match marks.get(n) {
+        None => false,
+        Some(mark) => !*mark,
+    }
+}
+
+// How leaf `n` of a type's layout fails a rule, if its mark is on.
+fn doubted_fault(
+    alloc: Global,
+    program: &Program,
+    layouts: &[Layout],
+    related: &Related,
+    rule: Rule,
+    ty: u32,
+    layout: &Layout,
+    n: usize,
+    leaf: &Leaf,
+    items: &[Item],
+    marks: &[bool],
+) -> Result<Option<Why>, AllocError>
+    requires known { IsKnown program.now layouts.now related.now }
+    requires layout { layout_of layouts.now ty ≡ Some layout.now }
+    requires leaf { slice_get layout.now.leaves n ≡ Some leaf.now }
+    requires items { shown_items items.now ≡ items_of program.now.layouts ty n }
+    requires ready { IsReady layouts.now rule }
+    requires marks { HoldsWhereOff program.now layouts.now rule ty layout.now marks.now }
+    ensures { IfOk result (λ found. Finds program.now layouts.now
+        (leaf_spots program.now.layouts rule ty layout.now n leaf.now) (refusal (rule_number rule) ty (Some n) found)) }
+{
+    if is_off(marks, n) {
+        return Ok(None);
+    }
+    leaf_fault(
+        alloc, program, layouts, related, rule, ty, layout, n, leaf, items,
+    )
+}
+
 // How a type fails a rule at no leaf.
 fn type_fault(
     alloc: Global,
@@ -192,19 +266,21 @@ fn leaves_fault(
     ty: u32,
     layout: &Layout,
     written: &[Seq<Item>],
+    marks: &[bool],
 ) -> Result<Option<Refused>, AllocError>
     requires known { IsKnown program.now layouts.now related.now }
     requires layout { layout_of layouts.now ty ≡ Some layout.now }
     requires written { shown_leaves written.now ≡ items_under (leaves_in (decl_of program.now.layouts ty)) }
     requires ready { IsReady layouts.now rule }
+    requires marks { HoldsWhereOff program.now layouts.now rule ty layout.now marks.now }
     ensures { IfOk result (Finds program.now layouts.now (leaves_spots program.now.layouts rule ty layout.now)) }
 {
     let leaves = layout.leaves.as_slice();
     for n in 0..leaves.len() {
         let items = items_at(written, n);
         let leaf = number_of(n)?;
-        if let Some(why) = leaf_fault(
-            alloc, program, layouts, related, rule, ty, layout, n, &leaves[n], items,
+        if let Some(why) = doubted_fault(
+            alloc, program, layouts, related, rule, ty, layout, n, &leaves[n], items, marks,
         )? {
             return Ok(Some(Refused {
                 rule: rule_number(rule),
@@ -240,7 +316,7 @@ fn layout_fault(
             why,
         }));
     }
-    let written = leaves_of(alloc, program.layouts.as_slice(), ty)?;
+    let marks = doubts(alloc, program, layouts, related, rule, ty, layout)?;
     leaves_fault(
         alloc,
         program,
@@ -249,7 +325,8 @@ fn layout_fault(
         rule,
         ty,
         layout,
-        written.as_slice(),
+        leaves_at(related.written.as_slice(), ty),
+        marks.as_slice(),
     )
 }
 

@@ -25,8 +25,8 @@ pub enum Below {
     Fails(Why),
 }
 
-// How a leaf fails to have a literal at a location.
-fn literal_fault(
+/// How a leaf fails to have a literal at a location.
+pub(crate) fn literal_fault(
     alloc: Global,
     types: &[DataDecl],
     layouts: &[Layout],
@@ -52,8 +52,8 @@ fn literal_fault(
     }
 }
 
-// How a leaf fails to exclude the literals of arms at a location.
-fn else_fault(
+/// How a leaf fails to exclude the literals of arms at a location.
+pub(crate) fn else_fault(
     alloc: Global,
     types: &[DataDecl],
     layouts: &[Layout],

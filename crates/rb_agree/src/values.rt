@@ -89,8 +89,8 @@ fn differ_somewhere(ones: &[Pat], others: &[Pat]) -> bool
     false
 }
 
-// Whether two provenances of a type have a common value.
-fn have_common(
+/// Whether two provenances of a type have a common value.
+pub(crate) fn have_common(
     alloc: Global,
     types: &[DataDecl],
     ty: u32,

@@ -1,8 +1,10 @@
 -- The items of leaves.
-use Rattle.std.specs.Prelude.{List, [], map, Option, Some, None}
+use Rattle.std.specs.Prelude.{◌≡◌, ℕ, ◌<◌, List, [], map, Option, Some, None, slice_get}
 use Rattle.rb_core.specs.Layouts.{WrittenLeaf}
+use Rattle.rb_core.specs.declared.layout_decl.LayoutDecl.{LayoutDecl}
+use Rattle.rb_layout.specs.Flattening.{decl_of}
 use Rattle.rb_layout.specs.Items as I
-use Rattle.rb_layout.specs.Items.{item_lists}
+use Rattle.rb_layout.specs.Items.{item_lists, leaves_in}
 use Rattle.rb_agree.specs.declared.items.Item.{Item}
 use Rattle.rb_agree.specs.Written.{shown_items}
 
@@ -18,3 +20,11 @@ items_under ws = map leaf_items ws
 abbrev pub items_or_none : Option (List Item) → List I.Item
 items_or_none None = []
 items_or_none (Some items) = shown_items items
+
+abbrev pub leaves_or_none : Option (List (List Item)) → List (List Item)
+leaves_or_none None = []
+leaves_or_none (Some leaves) = leaves
+
+-- for each of so many types the items of each leaf of its layout
+abbrev pub AreWritten : List LayoutDecl → ℕ → List (List (List Item)) → Type 0
+AreWritten decls count written = (t : ℕ) → t < count → shown_leaves (leaves_or_none (slice_get written t)) ≡ items_under (leaves_in (decl_of decls t))

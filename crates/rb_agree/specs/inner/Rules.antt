@@ -1,5 +1,5 @@
 -- The rules behind that on shapes, each with its places.
-use Rattle.std.specs.Prelude.{◌≡◌, ℕ, List, [], ◌∷◌, ◌++◌, length, Option, Some, None}
+use Rattle.std.specs.Prelude.{◌≡◌, ℕ, List, [], ◌∷◌, ◌++◌, length, Bool, Option, Some, None, slice_get}
 use Rattle.std.specs.List.{flat_map}
 use Rattle.rb_core.specs.declared.layout_decl.LayoutDecl.{LayoutDecl}
 use Rattle.rb_core.specs.declared.program.Program.{Program}
@@ -13,13 +13,15 @@ use Rattle.rb_layout.specs.Each.{EachLeaf}
 use Rattle.rb_layout.specs.Readable.{IsReadable}
 use Rattle.rb_layout.specs.A9.{Flattens}
 use Rattle.rb_layout.specs.A10.{HoldsField}
-use Rattle.rb_layout.specs.Spots.{Spot, by_leaves, by_types, part_spots}
+use Rattle.rb_layout.specs.Spots.{Spot, Checked, by_leaves, by_types, part_spots}
 use Rattle.rb_layout.specs.Spots as S
 use Rattle.rb_agree.specs.declared.rules.Rule.{Rule}
 use Rattle.rb_agree.specs.declared.rules.Rule.TheVariants.{Roots, Parts, Blocks, Values, Fields, Tests, Splits, Flattening, Holding}
 use Rattle.rb_agree.specs.declared.rules.Related.{Related}
 use Rattle.rb_agree.specs.Graphs.{IsGraphOf}
 use Rattle.rb_agree.specs.Pointing.{AreMarks}
+use Rattle.rb_agree.specs.inner.Leaves.{AreWritten}
+use Rattle.rb_agree.specs.inner.Passing.{IsOff}
 
 abbrev pub rule_number : Rule → ℕ
 rule_number Roots = 2
@@ -89,6 +91,12 @@ IsReady layouts rule = Unit {0}
 pub record IsKnown (p : Program) (layouts : List Layout) (related : Related) : Type 0 where
   pub typed : IsTyped p
   pub count : length layouts ≡ length p.types
+  pub written : AreWritten p.layouts (length layouts) related.written
   pub marks : AreMarks layouts related.marks
   pub flattened : IsGraphOf (Flattens layouts) related.flattened
   pub held : IsGraphOf (HoldsField p.types layouts) related.held
+
+-- at each leaf whose mark is off the rule holds
+abbrev pub HoldsWhereOff : Program → List Layout → Rule → ℕ → Layout → List Bool → Type 0
+HoldsWhereOff p layouts rule t layout marks =
+    (n : ℕ) (leaf : Leaf) → IsOff marks n → slice_get layout.leaves n ≡ Some leaf → Checked p layouts (leaf_spots p.layouts rule t layout n leaf) None

@@ -25,11 +25,11 @@ pub returns : goal.returns
 returns c =
     leaves-done c.args.program.now c.args.layouts.now c.args.ty c.args.layout.now c.args.rule c.as_slice-leaves.result.now c.loop-n.n c.as_slice-leaves.ensures c.loop-n-test.false c.loop-n.invariant
 
-pub leaf_fault-requires-clause-leaf : goal.leaf_fault-requires-clause-leaf
-leaf_fault-requires-clause-leaf c =
+pub doubted_fault-requires-clause-leaf : goal.doubted_fault-requires-clause-leaf
+doubted_fault-requires-clause-leaf c =
     subst (λ (ls : List Leaf). slice_get ls c.loop-n.n ≡ Some c.index-leaves-n.result) c.as_slice-leaves.ensures
     (at-item c.as_slice-leaves.result.now c.loop-n.n c.index-leaves-n.result c.loop-n-test.true c.index-leaves-n.is)
 
-pub leaf_fault-requires-clause-items : goal.leaf_fault-requires-clause-items
-leaf_fault-requires-clause-items c =
+pub doubted_fault-requires-clause-items : goal.doubted_fault-requires-clause-items
+doubted_fault-requires-clause-items c =
     c.items_at-items.ensures ∙ items-are c.args.written.now (leaves_in (decl_of c.args.program.now.layouts c.args.ty)) c.loop-n.n c.requires.written

@@ -1,0 +1,57 @@
+-- What a walk over a tree of splits finds: which leaves may fail a test on a way to them. A leaf whose mark is off passes.
+use Rattle.std.specs.Prelude.{◌≡◌, ℕ, ◌<◌, ◌≤◌, List, Bool, false, Option, Some, None, slice_get}
+use Rattle.rb_core.specs.declared.types.DataDecl.{DataDecl}
+use Rattle.rb_core.specs.declared.layout_decl.Loc.{Loc}
+use Rattle.rb_layout.specs.declared.layout.Layout.{Layout}
+use Rattle.rb_layout.specs.declared.layout.Leaf.{Leaf}
+use Rattle.rb_layout.specs.declared.layout.FlatArm.{FlatArm}
+use Rattle.rb_layout.specs.Splits.{Test, Is, IsNone, Route}
+use Rattle.rb_layout.specs.A7.{Meets, MeetsAll}
+use Rattle.rb_agree.specs.declared.passing.Span.{Span}
+use Rattle.rb_agree.specs.inner.Lists.{EachOf}
+use Rattle.rb_agree.specs.inner.Splits.{literals_in}
+
+-- what a split asks of the leaves below one of its literals, and of those below its `else`
+abbrev pub test_at : Loc → List FlatArm → Option ℕ → Test
+test_at loc arms (Some c) = Is loc c
+test_at loc arms None = IsNone loc (literals_in arms)
+
+-- the mark of leaf n is off
+abbrev pub IsOff : List Bool → ℕ → Type 0
+IsOff marks n = slice_get marks n ≡ Some false
+
+-- marks are put on, and not off
+abbrev pub Keeps : List Bool → List Bool → Type 0
+Keeps old new = (n : ℕ) → IsOff new n → IsOff old n
+
+abbrev pub IsAmong : Span → ℕ → Type 0
+IsAmong span n = (span.first ≤ n) × (n < span.end)
+
+abbrev pub Covers : Span → Span → Type 0
+Covers whole span = (whole.first ≤ span.first) × (span.end ≤ whole.end)
+
+module _ (types : List DataDecl) (layouts : List Layout) (leaves : List Leaf) where
+  -- where the mark of leaf n is off, it meets the test
+  abbrev pub MeetsWhereOff : List Bool → ℕ → Test → Type 0
+  MeetsWhereOff marks n test = IsOff marks n → (leaf : Leaf) → slice_get leaves n ≡ Some leaf → Meets types layouts leaf test
+
+  -- a leaf was asked
+  pub record IsAsked (test : Test) (n : ℕ) (old new : List Bool) : Type 0 where
+    pub keeps : Keeps old new
+    pub meets : MeetsWhereOff new n test
+
+  -- some leaves were asked
+  pub record AreAsked (test : Test) (span : Span) (old new : List Bool) : Type 0 where
+    pub keeps : Keeps old new
+    pub meet : (n : ℕ) → IsAmong span n → MeetsWhereOff new n test
+
+  -- ways to leaves were walked: the leaves are among these, and were asked each test on the ways
+  pub record AreWalked (routes : List Route) (span : Span) (old new : List Bool) : Type 0 where
+    pub among : EachOf (λ (r : Route). IsAmong span r.leaf) routes
+    pub keeps : Keeps old new
+    pub meet : EachOf (λ (r : Route). EachOf (MeetsWhereOff new r.leaf) r.tests) routes
+
+-- each leaf whose mark is off passes the tests on each way to it
+abbrev pub PassWhereOff : List DataDecl → List Layout → Layout → List Bool → Type 0
+PassWhereOff types layouts layout marks =
+    (n : ℕ) (leaf : Leaf) → IsOff marks n → slice_get layout.leaves n ≡ Some leaf → MeetsAll types layouts layout.tree n leaf

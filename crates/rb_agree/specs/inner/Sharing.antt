@@ -1,0 +1,74 @@
+-- Leaves that may share a value: those whose provenances have no different constructors at a path of fields.
+use Rattle.std.specs.Prelude.{◌≡◌, ℕ, ◌<◌, List, [], ◌∷◌, map, Bool, false, Option, Some, None, slice_get}
+use Rattle.rb_core.specs.declared.types.DataDecl.{DataDecl}
+use Rattle.rb_core.specs.declared.pattern.Pat.{Pat, out-Pat}
+use Rattle.rb_core.specs.declared.pattern.Pat.TheOpen as P
+use Rattle.rb_core.specs.declared.pattern.Pat.TheOpen.{Pat-F}
+use Rattle.rb_layout.specs.declared.layout.Leaf.{Leaf}
+use Rattle.rb_layout.specs.A5.{HaveCommon}
+use Rattle.rb_agree.specs.inner.Passing.{IsOff}
+
+abbrev pub root_con : Pat-F Pat → Option ℕ
+root_con (P.Wild at) = None
+root_con (P.Var at x) = None
+root_con (P.Num at n) = None
+root_con (P.Con at c ps) = Some c.con
+
+abbrev pub sub_at : Pat-F Pat → ℕ → Option Pat
+sub_at (P.Wild at) i = None
+sub_at (P.Var at x) i = None
+sub_at (P.Num at n) i = None
+sub_at (P.Con at c ps) i = slice_get ps i
+
+-- the number of the constructor at a path of fields, if one stands there
+abbrev pub con_from : Option Pat → List ℕ → Option ℕ
+con_from None path = None
+con_from (Some p) [] = root_con (out-Pat p)
+con_from (Some p) (i ∷ path) = con_from (sub_at (out-Pat p) i) path
+
+abbrev pub con_at : Pat → List ℕ → Option ℕ
+con_at p path = con_from (Some p) path
+
+abbrev pub heads_in : List ℕ → List Leaf → List (Option ℕ)
+heads_in path leaves = map (λ (leaf : Leaf). con_at leaf.prov path) leaves
+
+-- leaf m may have this constructor
+abbrev pub MayBe : Option ℕ → ℕ → Type 0
+MayBe None con = Unit {0}
+MayBe (Some d) con = d ≡ con
+
+abbrev pub IsIn : List ℕ → ℕ → Type 0
+IsIn members m = (k : ℕ) × (slice_get members k ≡ Some m)
+
+-- all before number i that may have a constructor
+abbrev pub HaveBefore : List (Option ℕ) → ℕ → ℕ → List ℕ → Type 0
+HaveBefore heads con i members = (m : ℕ) (head : Option ℕ) → m < i → slice_get heads m ≡ Some head → MayBe head con → IsIn members m
+
+abbrev pub HaveAll : List (Option ℕ) → ℕ → List ℕ → Type 0
+HaveAll heads con members = (m : ℕ) (head : Option ℕ) → slice_get heads m ≡ Some head → MayBe head con → IsIn members m
+
+-- for each constructor all that may have it
+abbrev pub AreGroups : List (Option ℕ) → List (List ℕ) → Type 0
+AreGroups heads groups = (c : ℕ) (members : List ℕ) → slice_get groups c ≡ Some members → HaveAll heads c members
+
+-- the members of leaf n's group
+abbrev pub IsGroupOf : List (Option ℕ) → ℕ → List ℕ → Type 0
+IsGroupOf heads n members = (c : ℕ) × (slice_get heads n ≡ Some (Some c)) × HaveAll heads c members
+
+-- the constructors of leaves at some path
+abbrev pub AreHeads : List Leaf → List (Option ℕ) → Type 0
+AreHeads leaves heads = (path : List ℕ) × (heads ≡ heads_in path leaves)
+
+module _ (types : List DataDecl) (t : ℕ) where
+  -- leaf n shares no value with a later one of these, up to the i-th
+  abbrev pub SharesNone : List Leaf → ℕ → Leaf → List ℕ → ℕ → Type 0
+  SharesNone leaves n leaf members i =
+      (k m : ℕ) (later : Leaf) → k < i → slice_get members k ≡ Some m → n < m → slice_get leaves m ≡ Some later → HaveCommon types t leaf.prov later.prov → ⊥
+
+  -- leaf n shares no value with a later one
+  abbrev pub IsAlone : List Leaf → ℕ → Leaf → Type 0
+  IsAlone leaves n leaf = (m : ℕ) (later : Leaf) → n < m → slice_get leaves m ≡ Some later → HaveCommon types t leaf.prov later.prov → ⊥
+
+  -- each leaf whose mark is off shares no value with a later one
+  abbrev pub ApartWhereOff : List Leaf → List Bool → Type 0
+  ApartWhereOff leaves marks = (n : ℕ) (leaf : Leaf) → IsOff marks n → slice_get leaves n ≡ Some leaf → IsAlone leaves n leaf

@@ -1,0 +1,216 @@
+//! Which leaves pass the tests on the ways to them, in one walk over the tree of splits.
+//!
+//! The leaves below a part of a tree stand side by side. So behind each arm of a split the walk knows the
+//! first and the last of the leaves below it, asks each of them the arm's literal, and marks those that
+//! fail. Take the tree
+//!
+//! ```text
+//! split 0[0:1] { 0 => A : .. 1 => split 0[1:1] { 0 => B : .. 1 => C : .. } }
+//! ```
+//!
+//! Leaf 0 is asked for the outer 0. Below the outer 1, leaf 1 is asked for the inner 0 and leaf 2 for the
+//! inner 1, and then both for the outer 1. A leaf is asked as often as splits stand above it, where a walk
+//! of its own for each leaf goes through the whole tree each time.
+
+ghost use Rattle.std.specs.Prelude.{IfOk, OnOk};
+ghost use Rattle.std.specs.Bool.{OnTrue};
+ghost use Rattle.rb_layout.specs.A7.{Meets};
+ghost use Rattle.rb_layout.specs.Readable.{IsReadable};
+ghost use Rattle.rb_layout.specs.Splits.{routes_of};
+ghost use Rattle.rb_agree.specs.inner.Lists.{EachOf};
+ghost use Rattle.rb_agree.specs.inner.Passing.{AreAsked, AreWalked, Covers, IsAsked, IsOff, Keeps, PassWhereOff, test_at};
+ghost use Rattle.rb_agree.specs.inner.Tests.{arms_routes};
+
+use crate::cycles::no_marks;
+use crate::tests::{else_fault, literal_fault};
+use rb_core::layout_decl::Loc;
+use rb_core::seq::Seq;
+use rb_core::types::DataDecl;
+use rb_layout::layout::{FlatArm, FlatTree, Layout, Leaf};
+use std::alloc::{AllocError, Global};
+
+/// The leaves from number `first` on, before number `end`.
+#[derive(Clone, Copy, Debug)]
+pub struct Span {
+    pub first: usize,
+    pub end: usize,
+}
+
+// All leaves from the first of both on to the last of both.
+fn joined(one: Span, other: Span) -> Span
+    ensures one { Covers result one }
+    ensures other { Covers result other }
+{
+    let first = if one.first < other.first {
+        one.first
+    } else {
+        other.first
+    };
+    let end = if one.end < other.end {
+        other.end
+    } else {
+        one.end
+    };
+    Span { first, end }
+}
+
+// Puts a leaf's mark on.
+fn mark(marks: &mut Seq<bool>, n: usize)
+    ensures keeps { Keeps marks.old marks.new }
+    ensures on { IsOff marks.new n → ⊥ }
+{
+    if n < marks.len() {
+        marks.replace(n, true);
+    }
+}
+
+// Whether a leaf meets what a split asks: to have a literal, or to exclude those of all arms.
+fn meets(
+    alloc: Global,
+    types: &[DataDecl],
+    layouts: &[Layout],
+    leaf: &Leaf,
+    loc: &Loc,
+    arms: &[FlatArm],
+    literal: Option<u64>,
+) -> Result<bool, AllocError>
+    requires { IsReadable leaf.now }
+    ensures { IfOk result
+        (λ b. OnTrue b (Meets types.now layouts.now leaf.now (test_at loc.now arms.now literal))) }
+{
+    match literal {
+        Some(number) => Ok(literal_fault(alloc, types, layouts, leaf, loc, number)?.is_none()),
+        None => Ok(else_fault(alloc, types, layouts, leaf, loc, arms)?.is_none()),
+    }
+}
+
+// Marks leaf `n` where it fails what a split asks.
+fn ask(
+    alloc: Global,
+    types: &[DataDecl],
+    layouts: &[Layout],
+    leaves: &[Leaf],
+    loc: &Loc,
+    arms: &[FlatArm],
+    literal: Option<u64>,
+    n: usize,
+    marks: &mut Seq<bool>,
+) -> Result<(), AllocError>
+    requires { EachOf IsReadable leaves.now }
+    ensures { OnOk result
+        (IsAsked types.now layouts.now leaves.now (test_at loc.now arms.now literal) n marks.old marks.new) }
+{
+    let Some(leaf) = leaves.get(n) else {
+        return Ok(());
+    };
+    if meets(alloc, types, layouts, leaf, loc, arms, literal)? {
+        return Ok(());
+    }
+    mark(marks, n);
+    Ok(())
+}
+
+// Marks those of these leaves that fail what a split asks.
+fn ask_all(
+    alloc: Global,
+    types: &[DataDecl],
+    layouts: &[Layout],
+    leaves: &[Leaf],
+    loc: &Loc,
+    arms: &[FlatArm],
+    literal: Option<u64>,
+    span: Span,
+    marks: &mut Seq<bool>,
+) -> Result<(), AllocError>
+    requires { EachOf IsReadable leaves.now }
+    ensures { OnOk result
+        (AreAsked types.now layouts.now leaves.now (test_at loc.now arms.now literal) span marks.old marks.new) }
+{
+    for n in span.first..span.end {
+        ask(alloc, types, layouts, leaves, loc, arms, literal, n, marks)?;
+    }
+    Ok(())
+}
+
+// Marks the leaves of a tree that fail a test in it, and answers which leaves stand there.
+#[cycle(walking)]
+fn walk_tree(
+    alloc: Global,
+    types: &[DataDecl],
+    layouts: &[Layout],
+    leaves: &[Leaf],
+    tree: &FlatTree,
+    marks: &mut Seq<bool>,
+) -> Result<Span, AllocError>
+    requires { EachOf IsReadable leaves.now }
+    ensures { IfOk result
+        (λ span. AreWalked types.now layouts.now leaves.now (routes_of tree.now) span marks.old marks.new) }
+{
+    match tree {
+        FlatTree::Leaf(number) => {
+            let first = *number as usize;
+            Ok(Span {
+                first,
+                end: first + 1,
+            })
+        }
+        FlatTree::Split(loc, arms, other) => {
+            let arms = arms.as_slice();
+            let span = walk_arms(alloc, types, layouts, leaves, loc, arms, marks)?;
+            match other {
+                None => Ok(span),
+                Some(tree) => {
+                    let under = walk_tree(alloc, types, layouts, leaves, tree.get(), marks)?;
+                    ask_all(alloc, types, layouts, leaves, loc, arms, None, under, marks)?;
+                    Ok(joined(span, under))
+                }
+            }
+        }
+    }
+}
+
+// Marks the leaves below arms that fail a test there, and answers which leaves stand there.
+#[cycle(walking)]
+fn walk_arms(
+    alloc: Global,
+    types: &[DataDecl],
+    layouts: &[Layout],
+    leaves: &[Leaf],
+    loc: &Loc,
+    arms: &[FlatArm],
+    marks: &mut Seq<bool>,
+) -> Result<Span, AllocError>
+    requires { EachOf IsReadable leaves.now }
+    ensures { IfOk result
+        (λ span. AreWalked types.now layouts.now leaves.now (arms_routes loc.now arms.now) span marks.old marks.new) }
+{
+    let mut span = Span {
+        first: usize::MAX,
+        end: 0,
+    };
+    for arm in arms {
+        let under = walk_tree(alloc, types, layouts, leaves, &arm.under, marks)?;
+        let literal = Some(arm.literal);
+        ask_all(
+            alloc, types, layouts, leaves, loc, arms, literal, under, marks,
+        )?;
+        span = joined(span, under);
+    }
+    Ok(span)
+}
+
+/// A mark for each leaf of a layout, off only where the leaf passes the tests on each way to it.
+pub(crate) fn failing(
+    alloc: Global,
+    types: &[DataDecl],
+    layouts: &[Layout],
+    layout: &Layout,
+) -> Result<Seq<bool>, AllocError>
+    requires { EachOf IsReadable layout.now.leaves }
+    ensures { IfOk result (PassWhereOff types.now layouts.now layout.now) }
+{
+    let leaves = layout.leaves.as_slice();
+    let mut marks = no_marks(alloc, leaves.len())?;
+    walk_tree(alloc, types, layouts, leaves, &layout.tree, &mut marks)?;
+    Ok(marks)
+}

@@ -1,0 +1,289 @@
+//! Which leaves may share a value with a later one, without a look at all pairs of leaves.
+//!
+//! Two provenances with different constructors in one place have no common value. So a place is chosen
+//! that tells most leaves apart, and a leaf is compared with those alone that have its constructor there
+//! or none. Take
+//!
+//! ```text
+//! D(A, E) D(A, F) D(B, E) D(_, F)
+//! ```
+//!
+//! In field 0 stand A, A, B and nothing. The first leaf is compared with the second and the fourth, the
+//! third with the fourth.
+
+ghost use Rattle.std.specs.Prelude.{◌≡◌, false, length, slice_get, IfOk, MatchOption, Some};
+ghost use Rattle.std.specs.Option.{option_copied};
+ghost use Rattle.rb_core.specs.declared.pattern.Pat.{out-Pat};
+ghost use Rattle.rb_core.specs.declared.types.Ty.TheVariants as Tys;
+ghost use Rattle.rb_layout.specs.declared.layout.Leaf.{Leaf};
+ghost use Rattle.rb_matrix.specs.Search.{AreInhabited, IsTypeIn};
+ghost use Rattle.rb_agree.specs.inner.Sharing.{ApartWhereOff, AreGroups, AreHeads, HaveAll, IsAlone, IsGroupOf, MayBe, SharesNone, con_at, heads_in, root_con, sub_at};
+
+use crate::cycles::no_marks;
+use crate::numbers::number_of;
+use crate::values::{apart_fault, have_common};
+use rb_core::pattern::Pat;
+use rb_core::seq::Seq;
+use rb_core::types::DataDecl;
+use rb_layout::layout::{Layout, Leaf};
+use std::alloc::{AllocError, Global};
+
+/// How many constructors a type has at most.
+const CONSTRUCTORS: usize = 256;
+
+fn sub_at(pat: &Pat, field: u32) -> Option<&Pat>
+    ensures { option_copied result ≡ sub_at (out-Pat pat.now) field }
+{
+    match pat {
+        Pat::Wild(_) => None,
+        Pat::Var(_, _) => None,
+        Pat::Num(_, _) => None,
+        Pat::Con(_, _, pats) => pats.get(field as usize),
+    }
+}
+
+fn root_con(pat: &Pat) -> Option<u32>
+    ensures { result ≡ root_con (out-Pat pat.now) }
+{
+    match pat {
+        Pat::Wild(_) => None,
+        Pat::Var(_, _) => None,
+        Pat::Num(_, _) => None,
+        Pat::Con(_, con, _) => Some(con.con),
+    }
+}
+
+// The number of the constructor at a path of fields, if one stands there.
+fn con_at(pat: &Pat, path: &[u32]) -> Option<u32>
+    ensures { result ≡ con_at pat.now path.now }
+{
+    let mut here = pat;
+    for field in path {
+        match sub_at(here, *field) {
+            None => return None,
+            Some(sub) => {
+                here = sub;
+            }
+        }
+    }
+    root_con(here)
+}
+
+// The constructor of each leaf at a path.
+fn heads_in(alloc: Global, path: &[u32], leaves: &[Leaf]) -> Result<Seq<Option<u32>>, AllocError>
+    ensures { IfOk result (λ heads. heads ≡ heads_in path.now leaves.now) }
+{
+    let mut heads = Seq::new(alloc);
+    for leaf in leaves {
+        heads.push(con_at(&leaf.prov, path))?;
+    }
+    Ok(heads)
+}
+
+// Adds the paths of a pattern's constructors.
+#[cycle(finding)]
+fn add_paths(
+    alloc: Global,
+    pat: &Pat,
+    path: &Seq<u32>,
+    paths: &mut Seq<Seq<u32>>,
+) -> Result<(), AllocError> {
+    match pat {
+        Pat::Wild(_) => Ok(()),
+        Pat::Var(_, _) => Ok(()),
+        Pat::Num(_, _) => Ok(()),
+        Pat::Con(_, _, pats) => {
+            paths.push(path.copy(alloc)?)?;
+            add_paths_below(alloc, pats.as_slice(), path, paths)
+        }
+    }
+}
+
+#[cycle(finding)]
+fn add_paths_below(
+    alloc: Global,
+    pats: &[Pat],
+    path: &Seq<u32>,
+    paths: &mut Seq<Seq<u32>>,
+) -> Result<(), AllocError> {
+    for (i, pat) in pats.iter().enumerate() {
+        let mut longer = path.copy(alloc)?;
+        longer.push(number_of(i)?)?;
+        add_paths(alloc, pat, &longer, paths)?;
+    }
+    Ok(())
+}
+
+// How many constructors stand there.
+fn distinct(alloc: Global, heads: &[Option<u32>]) -> Result<usize, AllocError> {
+    let mut seen = no_marks(alloc, CONSTRUCTORS)?;
+    for head in heads {
+        if let Some(con) = head {
+            let con = *con as usize;
+            if con < seen.len() {
+                seen.replace(con, true);
+            }
+        }
+    }
+    let mut count = 0;
+    for is_seen in seen.as_slice() {
+        if *is_seen {
+            count += 1;
+        }
+    }
+    Ok(count)
+}
+
+// The constructors of the leaves at the place of the first leaf's where most of them stand.
+fn telling(alloc: Global, leaves: &[Leaf]) -> Result<Seq<u32>, AllocError> {
+    let mut best = Seq::new(alloc);
+    let Some(first) = leaves.get(0) else {
+        return Ok(best);
+    };
+    let mut paths = Seq::new(alloc);
+    add_paths(alloc, &first.prov, &Seq::new(alloc), &mut paths)?;
+    let mut most = 0;
+    for path in paths.as_slice() {
+        let heads = heads_in(alloc, path.as_slice(), leaves)?;
+        let count = distinct(alloc, heads.as_slice())?;
+        if count > most {
+            most = count;
+            best = path.copy(alloc)?;
+        }
+    }
+    Ok(best)
+}
+
+fn may_be(head: Option<u32>, con: u32) -> bool
+    ensures { result ≡ false → MayBe head con → ⊥ }
+{
+    match head {
+        None => true,
+        Some(other) => other == con,
+    }
+}
+
+// The numbers of the leaves that may have a constructor.
+fn members(alloc: Global, heads: &[Option<u32>], con: u32) -> Result<Seq<u32>, AllocError>
+    ensures { IfOk result (HaveAll heads.now con) }
+{
+    let mut members = Seq::new(alloc);
+    for m in 0..heads.len() {
+        if may_be(heads[m], con) {
+            members.push(number_of(m)?)?;
+        }
+    }
+    Ok(members)
+}
+
+// For each constructor the numbers of the leaves that may have it.
+fn groups(alloc: Global, heads: &[Option<u32>]) -> Result<Seq<Seq<u32>>, AllocError>
+    ensures { IfOk result (AreGroups heads.now) }
+{
+    let mut groups = Seq::new(alloc);
+    for con in 0..CONSTRUCTORS as u32 {
+        groups.push(members(alloc, heads, con)?)?;
+    }
+    Ok(groups)
+}
+
+// Whether leaf `n` shares a value with a later one of these.
+fn shares_with(
+    alloc: Global,
+    types: &[DataDecl],
+    ty: u32,
+    leaves: &[Leaf],
+    n: usize,
+    leaf: &Leaf,
+    members: &[u32],
+) -> Result<bool, AllocError>
+    requires inhabited { AreInhabited types.now }
+    requires ty { IsTypeIn types.now (Tys.Named ty) }
+    ensures { IfOk result
+        (λ b. b ≡ false → SharesNone types.now ty leaves.now n leaf.now members.now (length members.now)) }
+{
+    for k in 0..members.len() {
+        let m = members[k] as usize;
+        if n < m {
+            if let Some(later) = leaves.get(m) {
+                if have_common(alloc, types, ty, &leaf.prov, &later.prov)? {
+                    return Ok(true);
+                }
+            }
+        }
+    }
+    Ok(false)
+}
+
+// The leaves that leaf `n` is to be compared with, where it has a constructor at the chosen place.
+fn group_of<'a>(heads: &[Option<u32>], groups: &'a [Seq<u32>], n: usize) -> Option<&'a [u32]>
+    requires { AreGroups heads.now groups.now }
+    ensures { MatchOption result (Unit {0}) (λ members. IsGroupOf heads.now n members.now) }
+{
+    match heads.get(n) {
+        None => None,
+        Some(None) => None,
+        Some(Some(con)) => match groups.get(*con as usize) {
+            None => None,
+            Some(members) => Some(members.as_slice()),
+        },
+    }
+}
+
+// Whether leaf `n` shares a value with a later one.
+fn shares(
+    alloc: Global,
+    types: &[DataDecl],
+    ty: u32,
+    layout: &Layout,
+    heads: &[Option<u32>],
+    groups: &[Seq<u32>],
+    n: usize,
+    leaf: &Leaf,
+) -> Result<bool, AllocError>
+    requires inhabited { AreInhabited types.now }
+    requires ty { IsTypeIn types.now (Tys.Named ty) }
+    requires heads { AreHeads layout.now.leaves heads.now }
+    requires groups { AreGroups heads.now groups.now }
+    requires leaf { slice_get layout.now.leaves n ≡ Some leaf.now }
+    ensures { IfOk result (λ b. b ≡ false → IsAlone types.now ty layout.now.leaves n leaf.now) }
+{
+    match group_of(heads, groups, n) {
+        Some(members) => shares_with(alloc, types, ty, layout.leaves.as_slice(), n, leaf, members),
+        None => match apart_fault(alloc, types, ty, layout, n, leaf)? {
+            None => Ok(false),
+            Some(_) => Ok(true),
+        },
+    }
+}
+
+/// A mark for each leaf of a layout, off only where the leaf shares no value with a later one.
+pub(crate) fn sharing(
+    alloc: Global,
+    types: &[DataDecl],
+    ty: u32,
+    layout: &Layout,
+) -> Result<Seq<bool>, AllocError>
+    requires inhabited { AreInhabited types.now }
+    requires ty { IsTypeIn types.now (Tys.Named ty) }
+    ensures { IfOk result (ApartWhereOff types.now ty layout.now.leaves) }
+{
+    let leaves = layout.leaves.as_slice();
+    let path = telling(alloc, leaves)?;
+    let heads = heads_in(alloc, path.as_slice(), leaves)?;
+    let groups = groups(alloc, heads.as_slice())?;
+    let mut marks = Seq::new(alloc);
+    for n in 0..leaves.len() {
+        marks.push(shares(
+            alloc,
+            types,
+            ty,
+            layout,
+            heads.as_slice(),
+            groups.as_slice(),
+            n,
+            &leaves[n],
+        )?)?;
+    }
+    Ok(marks)
+}
