@@ -1,0 +1,24 @@
+-- What an image holds, whatever the places of its blocks.
+use Rattle.std.specs.Prelude.{ℕ, ◌^◌, ◌<◌, ◌≤◌, List, [], ◌∷◌, length}
+use Rattle.rb_image_text.specs.declared.image.ImageBlock.{ImageBlock}
+use Rattle.rb_image_text.specs.declared.image.Image.{Image}
+
+abbrev pub AreBelow : ℕ → List ℕ → Type 0
+AreBelow high [] = Unit {0}
+AreBelow high (n ∷ ns) = (n < high) × AreBelow high ns
+
+-- an address of 64 bits, and 1 to 512 bytes
+pub record IsBlock (b : ImageBlock) : Type 0 where
+  pub at : b.at < 2 ^ 64
+  pub some : 1 ≤ length b.bytes
+  pub few : length b.bytes ≤ 512
+  pub bytes : AreBelow 256 b.bytes
+
+abbrev pub AreBlocks : List ImageBlock → Type 0
+AreBlocks [] = Unit {0}
+AreBlocks (b ∷ bs) = IsBlock b × AreBlocks bs
+
+-- root words of 64 bits, and blocks
+pub record IsImage (i : Image) : Type 0 where
+  pub root : AreBelow (2 ^ 64) i.root
+  pub blocks : AreBlocks i.blocks

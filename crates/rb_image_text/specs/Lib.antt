@@ -1,0 +1,6 @@
+pub mod Images
+pub mod Places
+pub mod Refusals
+pub mod Stopping
+pub mod Text
+pub mod inner

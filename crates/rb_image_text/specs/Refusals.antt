@@ -1,0 +1,20 @@
+-- Why bytes are no text of an image whose blocks are in their places, and that nothing else is refused.
+use Rattle.std.specs.Prelude.{◌≡◌, ℕ, List, Result, Ok, Err}
+use Rattle.rb_image_text.specs.Stopping.{IsTextOf, StopsAt}
+use Rattle.rb_image_text.specs.Places.{IsFirstMisplaced}
+use Rattle.rb_image_text.specs.declared.image.Image.{Image}
+use Rattle.rb_image_text.specs.declared.fault.ImageFault.{ImageFault}
+use Rattle.rb_image_text.specs.declared.fault.ImageFault.TheVariants.{ImageSyntax, ImageBlock, Memory}
+
+-- the bytes stop being a text at a byte, or are that of an image whose first block out of its place this is
+abbrev pub IsRefusal : List ℕ → ImageFault → Type 0
+IsRefusal bytes (ImageSyntax at) = StopsAt bytes at
+IsRefusal bytes (ImageBlock n) = (i : Image) × IsTextOf bytes i × IsFirstMisplaced i.blocks n
+IsRefusal bytes Memory = Unit {0}
+IsRefusal bytes fault = ⊥
+
+-- this image, unless memory is wanting
+abbrev pub IsThis : Image → Result Image ImageFault → Type 0
+IsThis i (Ok read) = read ≡ i
+IsThis i (Err Memory) = Unit {0}
+IsThis i (Err fault) = ⊥

@@ -1,0 +1,165 @@
+-- Reading an image's text byte by byte.
+use Rattle.std.specs.Prelude.{◌≡◌, ℕ, ◌+◌, ◌-◌, ◌*◌, ◌^◌, ◌<◌, List, [], ◌∷◌, ◌++◌, length, codes, Bool, true, false, ◌&&◌, ◌==◌, nat_le, nat_lt, slice_index, if◌then◌else◌, Option, Some, None, Result, Ok, Err}
+use Rattle.rb_image_text.specs.Stopping.{IsTextOf, StopsAt}
+use Rattle.rb_image_text.specs.declared.image.ImageBlock.{ImageBlock}
+use Rattle.rb_image_text.specs.declared.image.Image.{Image}
+use Rattle.rb_image_text.specs.declared.spot.Spot.{Spot}
+use Rattle.rb_image_text.specs.declared.spot.Spot.TheVariants.{Root, Prefix, Word, Line, Address, Sizing, Size, Bytes, Half}
+use Rattle.rb_image_text.specs.declared.spot.Move.{Move}
+use Rattle.rb_image_text.specs.declared.spot.Move.TheVariants as move
+use Rattle.rb_image_text.specs.declared.step.Reader.{Reader}
+use Rattle.rb_image_text.specs.declared.fault.ImageFault.{ImageFault}
+use Rattle.rb_image_text.specs.declared.fault.ImageFault.TheVariants.{ImageSyntax, Memory}
+
+-- digits -----------------------------------------------------------------------------------------
+
+abbrev pub hex_of : ℕ → Option ℕ
+hex_of b =
+    if nat_le 48 b && nat_le b 57 then Some (b - 48)
+    else (if nat_le 97 b && nat_le b 102 then Some (b - 97 + 10) else None)
+
+abbrev pub digit_of : ℕ → Option ℕ
+digit_of b = if nat_le 48 b && nat_le b 57 then Some (b - 48) else None
+
+-- what one byte does ---------------------------------------------------------------------------------
+
+-- the next byte of a word that is always the same
+abbrev pub keyed : List ℕ → ℕ → ℕ → Spot → Move
+keyed word read b next = if b == slice_index word read then move.To next else move.Refused
+
+abbrev pub root_end : ℕ → Move
+root_end b = if b == 32 then move.To (Prefix 0) else (if b == 10 then move.To (Line 0) else move.Refused)
+
+abbrev pub root_step : ℕ → ℕ → Move
+root_step read b = if nat_lt read 4 then keyed (codes "root") read b (Root (read + 1)) else root_end b
+
+abbrev pub first_hex : Option ℕ → Move
+first_hex None = move.Refused
+first_hex (Some d) = move.To (Word d)
+
+abbrev pub prefix_step : ℕ → ℕ → Move
+prefix_step read b = if nat_lt read 2 then keyed (codes "0x") read b (Prefix (read + 1)) else first_hex (hex_of b)
+
+abbrev pub more_hex : ℕ → Option ℕ → Move
+more_hex w None = move.Refused
+more_hex w (Some d) = if nat_lt 0 w && nat_lt w (2 ^ 60) then move.To (Word (w * 16 + d)) else move.Refused
+
+abbrev pub word_step : ℕ → ℕ → Move
+word_step w b =
+    if b == 32 then move.Word w (Prefix 0) else (if b == 10 then move.Word w (Line 0) else more_hex w (hex_of b))
+
+abbrev pub first_address : Option ℕ → Move
+first_address None = move.Refused
+first_address (Some d) = move.To (Address d)
+
+abbrev pub line_step : ℕ → ℕ → Move
+line_step read b = if nat_lt read 6 then keyed (codes "block ") read b (Line (read + 1)) else first_address (digit_of b)
+
+abbrev pub more_address : ℕ → Option ℕ → Move
+more_address n None = move.Refused
+more_address n (Some d) = if nat_lt 0 n && nat_lt (n * 10 + d) (2 ^ 64) then move.To (Address (n * 10 + d)) else move.Refused
+
+abbrev pub address_step : ℕ → ℕ → Move
+address_step n b = if b == 32 then move.To (Sizing n) else more_address n (digit_of b)
+
+abbrev pub first_size : ℕ → Option ℕ → Move
+first_size n None = move.Refused
+first_size n (Some d) = if nat_lt 0 d then move.To (Size n d) else move.Refused
+
+abbrev pub sizing_step : ℕ → ℕ → Move
+sizing_step n b = first_size n (digit_of b)
+
+abbrev pub more_size : ℕ → ℕ → Option ℕ → Move
+more_size n s None = move.Refused
+more_size n s (Some d) = if nat_le (s * 10 + d) 512 then move.To (Size n (s * 10 + d)) else move.Refused
+
+abbrev pub empty_at : ℕ → ImageBlock
+empty_at n = record { at = n; bytes = [] }
+
+abbrev pub size_step : ℕ → ℕ → ℕ → Move
+size_step n s b = if b == 32 then move.To (Bytes (empty_at n) s) else more_size n s (digit_of b)
+
+abbrev pub upper_half : ImageBlock → ℕ → Option ℕ → Move
+upper_half block s None = move.Refused
+upper_half block s (Some d) = move.To (Half block s d)
+
+abbrev pub bytes_step : ImageBlock → ℕ → ℕ → Move
+bytes_step block s b =
+    if nat_lt (length block.bytes) s then upper_half block s (hex_of b)
+    else (if b == 10 then move.Block block else move.Refused)
+
+abbrev pub with_byte : ImageBlock → ℕ → ImageBlock
+with_byte block b = record block { bytes = block.bytes ++ b ∷ [] }
+
+abbrev pub lower_half : ImageBlock → ℕ → ℕ → Option ℕ → Move
+lower_half block s upper None = move.Refused
+lower_half block s upper (Some d) = move.To (Bytes (with_byte block (upper * 16 + d)) s)
+
+abbrev pub half_step : ImageBlock → ℕ → ℕ → ℕ → Move
+half_step block s upper b = lower_half block s upper (hex_of b)
+
+abbrev pub step : Spot → ℕ → Move
+step (Root read) b = root_step read b
+step (Prefix read) b = prefix_step read b
+step (Word w) b = word_step w b
+step (Line read) b = line_step read b
+step (Address n) b = address_step n b
+step (Sizing n) b = sizing_step n b
+step (Size n s) b = size_step n s b
+step (Bytes block s) b = bytes_step block s b
+step (Half block s upper) b = half_step block s upper b
+
+-- the half of a byte is the number of one digit
+abbrev pub IsHalved : Spot → Type 0
+IsHalved (Half block s upper) = upper < 16
+IsHalved spot = Unit {0}
+
+-- what all bytes do -----------------------------------------------------------------------------------
+
+abbrev pub start : Reader
+start = record { root = []; blocks = []; spot = Root 0 }
+
+abbrev pub moved : Reader → Move → Option Reader
+moved r (move.To spot) = Some (record r { spot = spot })
+moved r (move.Word w spot) = Some (record r { root = r.root ++ w ∷ []; spot = spot })
+moved r (move.Block block) = Some (record r { blocks = r.blocks ++ block ∷ []; spot = Line 0 })
+moved r move.Refused = None
+
+abbrev pub feed : Reader → ℕ → Option Reader
+feed r b = moved r (step r.spot b)
+
+abbrev pub then_feed : Option Reader → ℕ → Option Reader
+then_feed None b = None
+then_feed (Some r) b = feed r b
+
+-- what is read after so many bytes, or None where one of them was refused
+abbrev pub run : Option Reader → List ℕ → Option Reader
+run o [] = o
+run o (b ∷ bs) = run (then_feed o b) bs
+
+-- a text may end here
+abbrev pub is_done : Spot → Bool
+is_done (Line read) = read == 0
+is_done spot = false
+
+abbrev pub image_of : Reader → Image
+image_of r = record { root = r.root; blocks = r.blocks }
+
+-- where a byte was read, what it leaves is this; else there is nothing
+abbrev pub IsFed : Option Reader → Reader → Bool → Type 0
+IsFed o r true = o ≡ Some r
+IsFed o r false = o ≡ None
+
+-- all bytes are read, or the place of the first that is refused
+abbrev pub IsRun : List ℕ → Result Reader ImageFault → Type 0
+IsRun bytes (Ok r) = run (Some start) bytes ≡ Some r
+IsRun bytes (Err (ImageSyntax at)) = StopsAt bytes at
+IsRun bytes (Err Memory) = Unit {0}
+IsRun bytes (Err fault) = ⊥
+
+-- the image whose text bytes are, or the byte at which no text goes on
+abbrev pub IsReading : List ℕ → Result Image ImageFault → Type 0
+IsReading bytes (Ok i) = IsTextOf bytes i
+IsReading bytes (Err (ImageSyntax at)) = StopsAt bytes at
+IsReading bytes (Err Memory) = Unit {0}
+IsReading bytes (Err fault) = ⊥

@@ -1,0 +1,26 @@
+//! Images of a part of a memory.
+
+use rb_core::seq::Seq;
+
+/// The bytes of a memory in which blocks of an image stand: all lie below this address.
+pub const MOST_REGION: u64 = 16_777_216;
+
+/// The least address of a block.
+pub const LEAST_ADDRESS: u64 = 64;
+
+/// The most bytes of a block.
+pub const MOST_BLOCK_BYTES: usize = 512;
+
+/// A block of an image: its address in bytes, and its bytes, all of them written.
+#[derive(Debug, Drop)]
+pub struct ImageBlock {
+    pub at: u64,
+    pub bytes: Seq<u8>,
+}
+
+/// The words of a value, and the blocks of the memory in which it stands.
+#[derive(Debug, Drop)]
+pub struct Image {
+    pub root: Seq<u64>,
+    pub blocks: Seq<ImageBlock>,
+}

@@ -1,0 +1,31 @@
+//! Whether blocks ascend without overlap.
+
+ghost use Rattle.std.specs.Prelude.{◌≡◌, IsTrue, ◌↔◌, MatchOption};
+ghost use Rattle.rb_image_text.specs.Places.{IsInPlace, AreInPlace, IsFirstMisplaced};
+
+use crate::image::{ImageBlock, LEAST_ADDRESS, MOST_REGION};
+
+// Whether a block lies from 64 on behind the address `before`, and up to the greatest region.
+fn is_in_place(before: u64, block: &ImageBlock) -> bool
+    ensures { IsTrue result ↔ IsInPlace before block.now }
+{
+    LEAST_ADDRESS <= block.at
+        && before <= block.at
+        && block.at <= MOST_REGION
+        && block.bytes.len() as u64 <= MOST_REGION - block.at
+}
+
+/// The number of the first block out of its place, if there is one.
+pub fn first_misplaced(blocks: &[ImageBlock]) -> Option<usize>
+    ensures { MatchOption result (AreInPlace blocks.now) (λ i. IsFirstMisplaced blocks.now i) }
+{
+    let mut end = 0;
+    for i in 0..blocks.len() {
+        let block = &blocks[i];
+        if !is_in_place(end, block) {
+            return Some(i);
+        }
+        end = block.at + block.bytes.len() as u64;
+    }
+    None
+}

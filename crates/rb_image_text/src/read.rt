@@ -1,0 +1,61 @@
+//! Reading images.
+
+ghost use Rattle.std.specs.Prelude.{◌≡◌, IfOk, IfErr, ℕ};
+ghost use Rattle.rb_image_text.specs.Images.{IsImage};
+ghost use Rattle.rb_image_text.specs.Text.{image_text};
+ghost use Rattle.rb_image_text.specs.Stopping.{IsTextOf};
+ghost use Rattle.rb_image_text.specs.Places.{AreInPlace};
+ghost use Rattle.rb_image_text.specs.Refusals.{IsRefusal, IsThis};
+ghost use Rattle.rb_image_text.specs.inner.Reading.{IsRun, IsReading};
+ghost use Rattle.rb_image_text.specs.declared.image.Image.{Image as Image_};
+
+use crate::fault::ImageFault;
+use crate::image::Image;
+use crate::order::first_misplaced;
+use crate::step::Reader;
+use std::alloc::Global;
+
+// Reads all bytes.
+fn read_bytes(alloc: Global, bytes: &[u8]) -> Result<Reader, ImageFault>
+    ensures { IsRun bytes.now result }
+{
+    let mut reader = Reader::new(alloc);
+    for at in 0..bytes.len() {
+        if !reader.feed(alloc, bytes[at])? {
+            return Err(ImageFault::ImageSyntax(at));
+        }
+    }
+    Ok(reader)
+}
+
+// The image whose text the bytes are, wherever its blocks lie; or the byte at which no text goes on.
+fn read_whole(alloc: Global, bytes: &[u8]) -> Result<Image, ImageFault>
+    ensures reading { IsReading bytes.now result }
+    ensures only { (i : Image_) → IsTextOf bytes.now i → IfOk result (λ read. read ≡ i) }
+{
+    let reader = read_bytes(alloc, bytes)?;
+    if !reader.is_done() {
+        return Err(ImageFault::ImageSyntax(bytes.len()));
+    }
+    let Reader { root, blocks, .. } = reader;
+    Ok(Image { root, blocks })
+}
+
+/// The image whose text the bytes are, its blocks ascending without overlap from 64 on.
+///
+/// # Errors
+///
+/// `ImageSyntax` at the first byte at which no text of an image goes on, at the length where the bytes
+/// only begin one; else `ImageBlock` with the first block out of its place; or want of memory.
+pub fn read_image_text(alloc: Global, bytes: &[u8]) -> Result<Image, ImageFault>
+    ensures text { IfOk result (λ i. IsTextOf bytes.now i) }
+    ensures placed { IfOk result (λ i. AreInPlace i.blocks) }
+    ensures each { (i : Image_) → IsImage i → AreInPlace i.blocks → bytes.now ≡ image_text i → IsThis i result }
+    ensures refusal { IfErr result (λ fault. IsRefusal bytes.now fault) }
+{
+    let image = read_whole(alloc, bytes)?;
+    match first_misplaced(image.blocks.as_slice()) {
+        None => Ok(image),
+        Some(i) => Err(ImageFault::ImageBlock(i as u64)),
+    }
+}
