@@ -1,0 +1,16 @@
+pub mod Searching
+pub mod Fielding
+pub mod Settling
+pub mod Tags
+pub mod Groups
+pub mod Leaves
+pub mod Rooting
+pub mod Matching
+pub mod Splitting
+pub mod Knowing
+pub mod Opens
+pub mod Unblocked
+pub mod Written
+pub mod Fitting
+pub mod Holding
+pub mod Reaching

@@ -1,0 +1,35 @@
+-- The words of a constructor's fields, in order.
+use Rattle.std.specs.Prelude.{ℕ, ◌+◌, List, [], ◌∷◌, ◌++◌, Option, Some, None}
+use Rattle.rb_core.specs.declared.types.Ty.{Ty}
+use Rattle.rb_core.specs.declared.program.Program.{Program}
+use Rattle.rb_core.specs.declared.layout_decl.PartKind.{PartKind}
+use Rattle.rb_core.specs.declared.layout_decl.PartKind.TheVariants as K
+use Rattle.rb_auto.specs.declared.field_words.FieldWord.{FieldWord}
+use Rattle.rb_auto.specs.declared.room.Room.{Room}
+use Rattle.rb_auto.specs.Widths.{widths}
+
+-- the only word of field i is written `.i`, and word j of several `.i word j`
+abbrev pub content_in : ℕ → Option ℕ → PartKind
+content_in i None = K.Whole (i ∷ [])
+content_in i (Some j) = K.Word (i ∷ []) j
+
+abbrev pub content : FieldWord → PartKind
+content w = content_in w.field w.word
+
+abbrev pub words_from : ℕ → ℕ → List ℕ → List FieldWord
+words_from i j [] = []
+words_from i j (w ∷ ws) = record { field = i; word = Some j; width = w } ∷ words_from i (j + 1) ws
+
+-- field i with words of these widths
+abbrev pub field_words : ℕ → List ℕ → List FieldWord
+field_words i [] = []
+field_words i (w ∷ []) = record { field = i; word = None; width = w } ∷ []
+field_words i (w ∷ v ∷ ws) = words_from i 0 (w ∷ v ∷ ws)
+
+-- fields of these types, the first of which is field i
+abbrev pub fields_words : Program → List Room → ℕ → List Ty → List FieldWord
+fields_words p rooms i [] = []
+fields_words p rooms i (ty ∷ tys) = field_words i (widths p rooms ty) ++ fields_words p rooms (i + 1) tys
+
+abbrev pub words_of : Program → List Room → List Ty → List FieldWord
+words_of p rooms tys = fields_words p rooms 0 tys

@@ -1,0 +1,12 @@
+pub mod Fields
+pub mod Widths
+pub mod Rooms
+pub mod FieldWords
+pub mod Items
+pub mod Derived
+pub mod Answers
+pub mod Standing
+pub mod Rules
+pub mod PackedRules
+pub mod HoldingRules
+pub mod inner

@@ -1,0 +1,33 @@
+-- The rooms of a program's types.
+use Rattle.std.specs.Prelude.{◌≡◌, ℕ, List, length, Option, Some, None, slice_get}
+use Rattle.rb_core.specs.declared.types.Auto.{Auto}
+use Rattle.rb_core.specs.declared.types.Auto.TheVariants.{Packed}
+use Rattle.rb_core.specs.declared.program.Program.{Program}
+use Rattle.rb_auto.specs.declared.room.Room.{Room}
+use Rattle.rb_auto.specs.declared.room.Room.TheVariants.{Word, Recursive, Bits}
+use Rattle.rb_auto.specs.Fields.{IsRecursive, IsFinite}
+use Rattle.rb_auto.specs.Widths.{need}
+
+abbrev pub kind_in : Option (Option Auto) → Option Auto
+kind_in None = None
+kind_in (Some kind) = kind
+
+-- which layout is derived for a type, if any
+abbrev pub kind_of : List (Option Auto) → ℕ → Option Auto
+kind_of kinds t = kind_in (slice_get kinds t)
+
+-- a packed type reaches itself or needs so many bits; any other has a whole word
+abbrev pub IsRoom : Program → List (Option Auto) → List Room → ℕ → Room → Type 0
+IsRoom p kinds rooms t Word = kind_of kinds t ≡ Some Packed → ⊥
+IsRoom p kinds rooms t Recursive = (kind_of kinds t ≡ Some Packed) × IsRecursive p.types t
+IsRoom p kinds rooms t (Bits n) = (kind_of kinds t ≡ Some Packed) × IsFinite p.types t × (n ≡ need p rooms t)
+
+-- a room for each type, where the need of each packed one is counted by the rooms of its fields' types
+pub record AreRooms (p : Program) (kinds : List (Option Auto)) (rooms : List Room) : Type 0 where
+  pub count : length rooms ≡ length p.types
+  pub each : (t : ℕ) (room : Room) → slice_get rooms t ≡ Some room → IsRoom p kinds rooms t room
+
+-- these are the rooms, and there are no others
+pub record AreTheRooms (p : Program) (kinds : List (Option Auto)) (rooms : List Room) : Type 0 where
+  pub are : AreRooms p kinds rooms
+  pub only : (others : List Room) → AreRooms p kinds others → others ≡ rooms

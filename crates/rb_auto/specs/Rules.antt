@@ -1,0 +1,46 @@
+-- Derived layouts obey the rules of agreement.
+use Rattle.std.specs.Prelude.{ℕ, List, Some}
+use Rattle.rb_core.specs.declared.program.Program.{Program}
+use Rattle.rb_core.specs.declared.layout_decl.LayoutDecl.{LayoutDecl}
+use Rattle.rb_layout.specs.declared.layout.Layout.{Layout}
+use Rattle.rb_layout.specs.A1.{HasShape}
+use Rattle.rb_layout.specs.A2.{HasRoot}
+use Rattle.rb_layout.specs.A5.{IsApart, IsComplete}
+use Rattle.rb_layout.specs.A7.{MeetsAll}
+use Rattle.rb_layout.specs.A8.{AllSplitWell}
+use Rattle.rb_layout.specs.A9.{LeafFlattens}
+use Rattle.rb_auto.specs.declared.form.Form.{Form}
+use Rattle.rb_auto.specs.declared.room.Room.{Room}
+use Rattle.rb_auto.specs.Derived.{derived}
+use Rattle.rb_auto.specs.Standing.{TagFits, EachDerivedLeaf, flat_derived}
+
+abbrev pub OfEach : (Program → List LayoutDecl → List Room → ℕ → Form → Type 0) → Type 0
+OfEach P = (p : Program) (decls : List LayoutDecl) (rooms : List Room) (t : ℕ) (form : Form) → P p decls rooms t form
+
+-- A1: its word has 1 to 64 bits
+abbrev pub HasAShape : Type 0
+HasAShape = OfEach (λ p decls rooms t form. TagFits p t form → HasShape (Some (derived p rooms t form)))
+
+-- A2: each leaf has one root word of the shape's width
+abbrev pub HasItsRoot : Type 0
+HasItsRoot = OfEach (λ p decls rooms t form. EachDerivedLeaf p decls rooms t form (λ n leaf. HasRoot (flat_derived p decls rooms t form).shape leaf))
+
+-- A5: no value has two leaves, and each has one
+abbrev pub HasOneLeaf : Type 0
+HasOneLeaf = OfEach (λ p decls rooms t form. EachDerivedLeaf p decls rooms t form (IsApart p.types t (flat_derived p decls rooms t form)))
+
+abbrev pub HasALeaf : Type 0
+HasALeaf = OfEach (λ p decls rooms t form. IsComplete p.types t (flat_derived p decls rooms t form))
+
+-- A7: the tag is known in each leaf
+abbrev pub MeetsItsTests : Type 0
+MeetsItsTests = OfEach (λ p decls rooms t form. TagFits p t form → (layouts : List Layout)
+    → EachDerivedLeaf p decls rooms t form (λ n leaf. MeetsAll p.types layouts (flat_derived p decls rooms t form).tree n leaf))
+
+-- A8: the tags are different and fit
+abbrev pub SplitsItsTag : Type 0
+SplitsItsTag = OfEach (λ p decls rooms t form. TagFits p t form → AllSplitWell (flat_derived p decls rooms t form))
+
+-- A9: it flattens nothing
+abbrev pub FlattensNothing : Type 0
+FlattensNothing = OfEach (λ p decls rooms t form. EachDerivedLeaf p decls rooms t form (λ n leaf. (s : ℕ) → LeafFlattens leaf s → ⊥))

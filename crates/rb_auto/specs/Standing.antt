@@ -1,0 +1,32 @@
+-- A derived layout in a program that has other layouts beside the written ones, and its flat form there.
+use Rattle.std.specs.Prelude.{◌≡◌, ℕ, ◌^◌, ◌<◌, ◌≤◌, length, List, Some, slice_get}
+use Rattle.rb_core.specs.declared.program.Program.{Program}
+use Rattle.rb_core.specs.declared.layout_decl.LayoutDecl.{LayoutDecl}
+use Rattle.rb_layout.specs.declared.layout.Layout.{Layout}
+use Rattle.rb_layout.specs.declared.layout.Leaf.{Leaf}
+use Rattle.rb_layout.specs.Flattening.{flat_layout}
+use Rattle.rb_layout.specs.A1.{IsShapeWidth}
+use Rattle.rb_auto.specs.declared.form.Form.{Form}
+use Rattle.rb_auto.specs.declared.room.Room.{Room}
+use Rattle.rb_auto.specs.Fields.{cons_of}
+use Rattle.rb_auto.specs.Items.{form_tag, form_width}
+use Rattle.rb_auto.specs.Derived.{derived}
+
+-- the program with these layouts
+abbrev pub with_layouts : Program → List LayoutDecl → Program
+with_layouts p decls = record p { layouts = decls }
+
+-- the tag tells the type's constructors apart, of which there is one at least, and the word has room for it
+pub record TagFits (p : Program) (t : ℕ) (form : Form) : Type 0 where
+  pub some : 0 < length (cons_of p.types t)
+  pub told : length (cons_of p.types t) ≤ 2 ^ form_tag form
+  pub width : IsShapeWidth (form_width form)
+  pub tag : form_tag form ≤ form_width form
+
+module _ (p : Program) (decls : List LayoutDecl) (rooms : List Room) (t : ℕ) (form : Form) where
+  abbrev pub flat_derived : Layout
+  flat_derived = flat_layout (with_layouts p decls) (derived p rooms t form)
+
+  -- of each leaf of the derived layout, with its number
+  abbrev pub EachDerivedLeaf : (ℕ → Leaf → Type 0) → Type 0
+  EachDerivedLeaf P = (n : ℕ) (leaf : Leaf) → slice_get flat_derived.leaves n ≡ Some leaf → P n leaf

@@ -1,0 +1,27 @@
+-- Rooms that are known so far.
+use Rattle.std.specs.Prelude.{◌≡◌, ℕ, List, length, Option, Some, None, slice_get}
+use Rattle.rb_core.specs.declared.types.Auto.{Auto}
+use Rattle.rb_core.specs.declared.types.Auto.TheVariants.{Packed}
+use Rattle.rb_core.specs.declared.program.Program.{Program}
+use Rattle.rb_auto.specs.declared.room.Room.{Room}
+use Rattle.rb_auto.specs.Fields.{IsFinite}
+use Rattle.rb_auto.specs.Rooms.{kind_of, IsRoom, AreRooms}
+
+-- rooms of which these are some
+abbrev pub Extends : List (Option Room) → List Room → Type 0
+Extends settled rooms = (t : ℕ) (room : Room) → slice_get settled t ≡ Some (Some room) → slice_get rooms t ≡ Some room
+
+-- a room is right whatever the others are; a type without one is packed and does not reach itself
+abbrev pub IsSettled : Program → List (Option Auto) → List (Option Room) → ℕ → Option Room → Type 0
+IsSettled p kinds settled t None = (kind_of kinds t ≡ Some Packed) × IsFinite p.types t
+IsSettled p kinds settled t (Some room) = (rooms : List Room) → Extends settled rooms → IsRoom p kinds rooms t room
+
+pub record AreSettled (p : Program) (kinds : List (Option Auto)) (settled : List (Option Room)) : Type 0 where
+  pub count : length settled ≡ length p.types
+  pub each : (t : ℕ) (room : Option Room) → slice_get settled t ≡ Some room → IsSettled p kinds settled t room
+  pub only : (rooms : List Room) → AreRooms p kinds rooms → Extends settled rooms
+
+-- what is known of a type at first
+abbrev pub IsFirst : Program → List (Option Auto) → ℕ → Option Room → Type 0
+IsFirst p kinds t None = (kind_of kinds t ≡ Some Packed) × IsFinite p.types t
+IsFirst p kinds t (Some room) = (rooms : List Room) → IsRoom p kinds rooms t room

@@ -1,0 +1,106 @@
+//! The words of a constructor's fields.
+
+ghost use Rattle.std.specs.Prelude.{◌≡◌, ◌++◌, IfOk, OnOk, map};
+ghost use Rattle.rb_auto.specs.FieldWords.{content, field_words, words_from, words_of};
+ghost use Rattle.rb_auto.specs.Widths.{counted, widths};
+
+use crate::decls::decl_of;
+use crate::numbers::number_of;
+use crate::room::{Room, counted, room_width};
+use rb_core::layout_decl::PartKind;
+use rb_core::program::Program;
+use rb_core::seq::Seq;
+use rb_core::types::Ty;
+use std::alloc::{AllocError, Global};
+
+/// A word of a field: the field's number, the word's own where the field has several, and its width
+/// in bits.
+#[derive(Clone, Copy, PartialEq, Eq, Debug)]
+pub struct FieldWord {
+    pub field: u32,
+    pub word: Option<u64>,
+    pub width: u64,
+}
+
+/// What a part that holds the word is written as.
+pub(crate) fn content(alloc: Global, word: &FieldWord) -> Result<PartKind, AllocError>
+    ensures { IfOk result (λ kind. kind ≡ content word.now) }
+{
+    let mut path = Seq::new(alloc);
+    path.push(word.field)?;
+    match word.word {
+        None => Ok(PartKind::Whole(path)),
+        Some(number) => Ok(PartKind::Word(path, number)),
+    }
+}
+
+// Adds a word for each word of a shape.
+fn add_words(field: u32, shape: &[u64], words: &mut Seq<FieldWord>) -> Result<(), AllocError>
+    ensures { OnOk result (words.new ≡ words.old ++ words_from field 0 (map counted shape.now)) }
+{
+    for (number, width) in shape.iter().enumerate() {
+        words.push(FieldWord {
+            field,
+            word: Some(number as u64),
+            width: counted(*width),
+        })?;
+    }
+    Ok(())
+}
+
+// Adds the words of a field whose type has this written shape.
+fn add_shape(field: u32, shape: &[u64], words: &mut Seq<FieldWord>) -> Result<(), AllocError>
+    ensures { OnOk result (words.new ≡ words.old ++ field_words field (map counted shape.now)) }
+{
+    if let [width] = shape {
+        return words.push(FieldWord {
+            field,
+            word: None,
+            width: counted(*width),
+        });
+    }
+    add_words(field, shape, words)
+}
+
+// Adds the words of a field.
+fn add_field(
+    program: &Program,
+    rooms: &[Room],
+    field: u32,
+    ty: Ty,
+    words: &mut Seq<FieldWord>,
+) -> Result<(), AllocError>
+    ensures { OnOk result (words.new ≡ words.old ++ field_words field (widths program.now rooms.now ty)) }
+{
+    match ty {
+        Ty::Int(bits) => words.push(FieldWord {
+            field,
+            word: None,
+            width: bits as u64,
+        }),
+        Ty::Named(ty) => match decl_of(program.layouts.as_slice(), ty) {
+            None => words.push(FieldWord {
+                field,
+                word: None,
+                width: room_width(rooms.get(ty as usize)),
+            }),
+            Some(decl) => add_shape(field, decl.shape.as_slice(), words),
+        },
+    }
+}
+
+/// The words of fields of these types, in order.
+pub(crate) fn words_of(
+    alloc: Global,
+    program: &Program,
+    rooms: &[Room],
+    fields: &[Ty],
+) -> Result<Seq<FieldWord>, AllocError>
+    ensures { IfOk result (λ words. words ≡ words_of program.now rooms.now fields.now) }
+{
+    let mut words = Seq::new(alloc);
+    for (field, ty) in fields.iter().enumerate() {
+        add_field(program, rooms, number_of(field)?, *ty, &mut words)?;
+    }
+    Ok(words)
+}

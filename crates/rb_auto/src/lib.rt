@@ -1,0 +1,33 @@
+//! Layouts that are left to the compiler: `layout T = boxed;` and `layout T = packed;`.
+//!
+//! Either is one word that begins with a tag, the number of the constructor. A boxed type's tag has 8
+//! bits, and behind it stands a pointer to a block with the words of the fields. A packed type's tag has
+//! as few bits as tell its constructors apart, and the words of the fields stand behind it without a
+//! gap. Take `type Rgb = Gray(u8) | Full(u5, u6, u5)`. Packed, its layout is
+//!
+//! ```text
+//! layout Rgb <17> = split 0[0:1] {
+//!     0 => Gray(_) : { word 17 { [0:1] = 0, [1:8] .0 } }
+//!     1 => Full(_, _, _) : { word 17 { [0:1] = 1, [1:5] .0, [6:6] .1, [12:5] .2 } }
+//! };
+//! ```
+//!
+//! [`rooms::find_rooms`] says for each type how wide its word is, [`answer::derive`] derives a layout,
+//! and [`laws`] says which rules of agreement every derived layout obeys.
+#![tactic(auto)]
+
+pub mod answer;
+mod decls;
+mod derived;
+mod fault;
+pub mod field_words;
+pub mod form;
+mod items;
+pub mod laws;
+mod numbers;
+mod recursion;
+pub mod room;
+pub mod rooms;
+
+pub use answer::{derive, derive_by};
+pub use fault::AutoFault;

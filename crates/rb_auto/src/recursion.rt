@@ -1,0 +1,136 @@
+//! Whether a type reaches itself through its fields.
+//!
+//! From a type on, all types to which fields lead are found, each once, until one of them has a field
+//! of the first type. Take `type A = A1(B, u8)` and `type B = B1 | B2(A)`. From `A` on, `B` is found; it has
+//! a field of type `A`, so `A` reaches itself.
+
+ghost use Rattle.std.specs.Prelude.{◌≡◌, ◌++◌, IfOk, MatchBool, OnOk};
+ghost use Rattle.std.specs.List.{flat_map};
+ghost use Rattle.rb_layout.specs.Cycles.{HasNoCycle};
+ghost use Rattle.rb_auto.specs.inner.Graphs.{AreUnmarked, HasCycle, HasEdge, HasNoEdge, Leads, added, all_added, con_types, edges_of, field_graph, named_types, state};
+
+use rb_core::seq::Seq;
+use rb_core::types::{Con, DataDecl, Ty};
+use std::alloc::{AllocError, Global};
+
+// Adds the types of fields.
+fn add_fields(fields: &[Ty], row: &mut Seq<u32>) -> Result<(), AllocError>
+    ensures { OnOk result (row.new ≡ row.old ++ flat_map named_types fields.now) }
+{
+    for ty in fields {
+        match ty {
+            Ty::Int(_) => {}
+            Ty::Named(ty) => row.push(*ty)?,
+        }
+    }
+    Ok(())
+}
+
+fn field_row(alloc: Global, cons: &[Con]) -> Result<Seq<u32>, AllocError>
+    ensures { IfOk result (λ row. row ≡ flat_map con_types cons.now) }
+{
+    let mut row = Seq::new(alloc);
+    for con in cons {
+        add_fields(con.fields.as_slice(), &mut row)?;
+    }
+    Ok(row)
+}
+
+/// For each type those that it has as fields.
+pub(crate) fn field_graph(alloc: Global, types: &[DataDecl]) -> Result<Seq<Seq<u32>>, AllocError>
+    ensures { IfOk result (λ graph. graph ≡ field_graph types.now) }
+{
+    let mut graph = Seq::new(alloc);
+    for data in types {
+        graph.push(field_row(alloc, data.cons.as_slice())?)?;
+    }
+    Ok(graph)
+}
+
+// No number of so many is marked.
+fn no_marks(alloc: Global, count: usize) -> Result<Seq<bool>, AllocError>
+    ensures { IfOk result (λ marks. AreUnmarked count marks) }
+{
+    let mut marks = Seq::new(alloc);
+    for _i in 0..count {
+        marks.push(false)?;
+    }
+    Ok(marks)
+}
+
+fn edges_of(graph: &[Seq<u32>], number: u32) -> &[u32]
+    ensures { result.now ≡ edges_of graph.now number }
+{
+    match graph.get(number as usize) {
+        None => &[],
+        Some(row) => row.as_slice(),
+    }
+}
+
+// Marks and adds a number that was not found.
+fn add(next: u32, marks: &mut Seq<bool>, found: &mut Seq<u32>) -> Result<(), AllocError>
+    ensures { OnOk result (state marks.new found.new ≡ added next (state marks.old found.old)) }
+{
+    match marks.get(next as usize) {
+        None => return Ok(()),
+        Some(mark) => {
+            if *mark {
+                return Ok(());
+            }
+        }
+    }
+    found.push(next)?;
+    marks.replace(next as usize, true);
+    Ok(())
+}
+
+// Adds what a number leads to, until that is the first number. Tells whether it is.
+fn follow(
+    edges: &[u32],
+    start: u32,
+    marks: &mut Seq<bool>,
+    found: &mut Seq<u32>,
+) -> Result<bool, AllocError>
+    ensures leads { IfOk result (λ b. MatchBool b (HasEdge edges.now start) (HasNoEdge edges.now start)) }
+    ensures added { IfOk result (λ b. MatchBool b
+        (Unit {0}) (state marks.new found.new ≡ all_added edges.now (state marks.old found.old))) }
+{
+    for next in edges {
+        if *next == start {
+            return Ok(true);
+        }
+        add(*next, marks, found)?;
+    }
+    Ok(false)
+}
+
+/// Whether a cycle goes through a number; `graph` lists for each number those to which it leads.
+///
+/// # Errors
+///
+/// Want of memory.
+pub(crate) fn is_recursive(
+    alloc: Global,
+    graph: &[Seq<u32>],
+    start: u32,
+) -> Result<bool, AllocError>
+    ensures { IfOk result (λ b. MatchBool b
+        (HasCycle (Leads graph.now) start) (HasNoCycle (Leads graph.now) start)) }
+{
+    if start as usize >= graph.len() {
+        return Ok(false);
+    }
+    let mut marks = no_marks(alloc, graph.len())?;
+    let mut found = Seq::new(alloc);
+    add(start, &mut marks, &mut found)?;
+    for i in 0..usize::MAX {
+        let number = match found.get(i) {
+            None => return Ok(false),
+            Some(last) => *last,
+        };
+        if follow(edges_of(graph, number), start, &mut marks, &mut found)? {
+            return Ok(true);
+        }
+    }
+    Err(AllocError)
+}

@@ -1,0 +1,221 @@
+//! The rooms of a program's types.
+//!
+//! A packed type that reaches itself has no room. Another needs the bits of its tag and of its longest
+//! constructor, which are known once those of its fields' types are. So the types are gone over until
+//! all are known. Take `type Rgb = Gray(Byte) | Full(u5, u6, u5)` and `type Byte = B(u8)`, both packed. First
+//! `Byte` comes to 8 bits, then `Rgb` to 1 and the greater of 8 and 16, so 17.
+
+ghost use Rattle.std.specs.Prelude.{◌≡◌, List, Option, Some, IfOk, IfSome, OnOk, map, sum_by};
+ghost use Rattle.rb_core.specs.declared.types.Auto.{Auto as Kind};
+ghost use Rattle.rb_auto.specs.declared.room.Room.{Room as TheRoom};
+ghost use Rattle.rb_auto.specs.Rooms.{AreTheRooms, kind_of};
+ghost use Rattle.rb_auto.specs.Widths.{con_width, counted, field_width, greatest, need, tag_bits};
+ghost use Rattle.rb_auto.specs.inner.Graphs.{field_graph};
+ghost use Rattle.rb_auto.specs.inner.Settling.{AreSettled, Extends, IsFirst};
+
+use crate::decls::decl_of;
+use crate::derived::cons_of;
+use crate::numbers::number_of;
+use crate::recursion::{field_graph, is_recursive};
+use crate::room::{Room, counted, room_width};
+use rb_core::program::Program;
+use rb_core::seq::Seq;
+use rb_core::types::{Auto, Con, Ty};
+use std::alloc::{AllocError, Global};
+
+/// The least number of bits that tell so many constructors apart.
+pub(crate) fn tag_bits(count: usize) -> u64
+    ensures { result ≡ tag_bits count }
+{
+    for bits in 0..63u64 {
+        if count as u64 <= 1 << bits {
+            return bits;
+        }
+    }
+    63
+}
+
+// The sum of the widths of a written shape.
+fn shape_width(shape: &[u64]) -> Option<u64>
+    ensures { IfSome result (λ bits. bits ≡ sum_by counted shape.now) }
+{
+    let mut bits: u64 = 0;
+    for width in shape {
+        bits = bits.checked_add(counted(*width))?;
+    }
+    Some(bits)
+}
+
+// The width of a field, where the room of its type is known.
+fn field_width(program: &Program, settled: &[Option<Room>], ty: Ty) -> Option<u64>
+    ensures { IfSome result (λ bits. (rooms : List TheRoom) → Extends settled.now rooms → bits ≡ field_width program.now rooms ty) }
+{
+    match ty {
+        Ty::Int(bits) => Some(bits as u64),
+        Ty::Named(ty) => match decl_of(program.layouts.as_slice(), ty) {
+            Some(decl) => shape_width(decl.shape.as_slice()),
+            None => match settled.get(ty as usize) {
+                Some(Some(room)) => Some(room_width(Some(room))),
+                Some(None) => None,
+                None => None,
+            },
+        },
+    }
+}
+
+// The width of a constructor, where the rooms of its fields' types are known.
+fn con_width(program: &Program, settled: &[Option<Room>], con: &Con) -> Option<u64>
+    ensures { IfSome result (λ bits. (rooms : List TheRoom) → Extends settled.now rooms → bits ≡ con_width program.now rooms con.now) }
+{
+    let mut bits: u64 = 0;
+    for ty in con.fields.as_slice() {
+        bits = bits.checked_add(field_width(program, settled, *ty)?)?;
+    }
+    Some(bits)
+}
+
+// The greatest width of some constructors.
+fn greatest_width(program: &Program, settled: &[Option<Room>], cons: &[Con]) -> Option<u64>
+    ensures { IfSome result (λ bits. (rooms : List TheRoom) → Extends settled.now rooms
+        → bits ≡ greatest (map (con_width program.now rooms) cons.now)) }
+{
+    let mut most: u64 = 0;
+    for con in cons {
+        most = most.max(con_width(program, settled, con)?);
+    }
+    Some(most)
+}
+
+// What a type needs to be packed, where the rooms of its fields' types are known.
+fn need(program: &Program, settled: &[Option<Room>], ty: u32) -> Option<u64>
+    ensures { IfSome result (λ bits. (rooms : List TheRoom) → Extends settled.now rooms → bits ≡ need program.now rooms ty) }
+{
+    let cons = cons_of(program.types.as_slice(), ty);
+    let most = greatest_width(program, settled, cons)?;
+    tag_bits(cons.len()).checked_add(most)
+}
+
+// Which layout is derived for a type, if any.
+pub(crate) fn kind_of(kinds: &[Option<Auto>], ty: u32) -> Option<Auto>
+    ensures { result ≡ kind_of kinds.now ty }
+{
+    match kinds.get(ty as usize) {
+        None => None,
+        Some(kind) => *kind,
+    }
+}
+
+// The room of a type, but for what a packed one that doesn't reach itself needs.
+fn first_room(
+    alloc: Global,
+    program: &Program,
+    kinds: &[Option<Auto>],
+    graph: &[Seq<u32>],
+    ty: u32,
+) -> Result<Option<Room>, AllocError>
+    requires { graph.now ≡ field_graph program.now.types }
+    ensures { IfOk result (λ room. IsFirst program.now kinds.now ty room) }
+{
+    match kind_of(kinds, ty) {
+        None => Ok(Some(Room::Word)),
+        Some(Auto::Boxed) => Ok(Some(Room::Word)),
+        Some(Auto::Packed) => {
+            if is_recursive(alloc, graph, ty)? {
+                Ok(Some(Room::Recursive))
+            } else {
+                Ok(None)
+            }
+        }
+    }
+}
+
+// The rooms that are known at first.
+fn first_rooms(
+    alloc: Global,
+    program: &Program,
+    kinds: &[Option<Auto>],
+) -> Result<Seq<Option<Room>>, AllocError>
+    ensures { IfOk result (AreSettled program.now kinds.now) }
+{
+    let graph = field_graph(alloc, program.types.as_slice())?;
+    let mut settled = Seq::new(alloc);
+    for t in 0..program.types.len() {
+        let room = first_room(alloc, program, kinds, graph.as_slice(), number_of(t)?)?;
+        settled.push(room)?;
+    }
+    Ok(settled)
+}
+
+// Counts what a type needs, where it isn't known and now can be. Tells whether it could.
+fn settle_type(program: &Program, settled: &mut Seq<Option<Room>>, ty: u32) -> bool
+    ensures { (kinds : List (Option Kind)) → AreSettled program.now kinds settled.old → AreSettled program.now kinds settled.new }
+{
+    match settled.get(ty as usize) {
+        None => return false,
+        Some(Some(_)) => return false,
+        Some(None) => {}
+    }
+    match need(program, settled.as_slice(), ty) {
+        None => false,
+        Some(bits) => {
+            settled.replace(ty as usize, Some(Room::Bits(bits)));
+            true
+        }
+    }
+}
+
+// Counts what types need, in their order. Tells whether any could be counted.
+fn settle_all(program: &Program, settled: &mut Seq<Option<Room>>) -> Result<bool, AllocError>
+    ensures { (kinds : List (Option Kind)) → OnOk result (AreSettled program.now kinds settled.old → AreSettled program.now kinds settled.new) }
+{
+    let mut some = false;
+    for t in 0..program.types.len() {
+        if settle_type(program, settled, number_of(t)?) {
+            some = true;
+        }
+    }
+    Ok(some)
+}
+
+// Counts what types need, until all are known or none more can be.
+fn settle(program: &Program, settled: &mut Seq<Option<Room>>) -> Result<(), AllocError>
+    ensures { (kinds : List (Option Kind)) → OnOk result (AreSettled program.now kinds settled.old → AreSettled program.now kinds settled.new) }
+{
+    for _turn in 0..program.types.len() {
+        if !settle_all(program, settled)? {
+            return Ok(());
+        }
+    }
+    Ok(())
+}
+
+// The rooms, all of which are known.
+fn all_settled(alloc: Global, settled: &[Option<Room>]) -> Result<Seq<Room>, AllocError>
+    ensures { IfOk result (λ rooms. map Some rooms ≡ settled.now) }
+{
+    let mut rooms = Seq::new(alloc);
+    for room in settled {
+        match room {
+            None => return Err(AllocError),
+            Some(room) => rooms.push(*room)?,
+        }
+    }
+    Ok(rooms)
+}
+
+/// The rooms of a program's types; `kinds` says for each type which layout is derived for it.
+///
+/// # Errors
+///
+/// Want of memory.
+pub fn find_rooms(
+    alloc: Global,
+    program: &Program,
+    kinds: &[Option<Auto>],
+) -> Result<Seq<Room>, AllocError>
+    ensures { IfOk result (AreTheRooms program.now kinds.now) }
+{
+    let mut settled = first_rooms(alloc, program, kinds)?;
+    settle(program, &mut settled)?;
+    all_settled(alloc, settled.as_slice())
+}
