@@ -12,21 +12,19 @@ use Rattle.rb_core.specs.declared.program.Program.{Program}
 use Rattle.rb_core.specs.Values.{is_of_type, all_of_types}
 use Rattle.rb_bytes.specs.Memory.{Memory, IsGood, aligned}
 use Rattle.rb_bytes.specs.Growth.{Grown}
-use Rattle.rb_bytes.specs.Laws.{Extends}
 use Rattle.rb_bytes.specs.declared.fault.Full.{Full as Unplaced}
 use Rattle.rb_bytes.proofs.GrowthLemmas.{Grown-extends}
 use Rattle.rb_layout.specs.declared.layout.Layout.{Layout}
 use Rattle.rb_layout.specs.Flattening.{flat_layouts}
 use Rattle.rb_rel.specs.Placing.{Laid, Fits, Over, Request, behind, lay, requests_of, requests_at}
 use Rattle.rb_rel.specs.Answers.{making_of, all_makings}
-use Rattle.rb_rel.specs.Relation.{Represents, Represent}
-use Rattle.rb_rel.proofs.Growth.{Represents-kept}
 use Rattle.rb_rel.proofs.Lists.{both}
 use Rattle.rb_coding.specs.declared.fault.EncodeFault.{EncodeFault}
 use Rattle.rb_coding.specs.declared.fault.EncodeFault.TheVariants.{Full, Memory as NoMemory}
-use Rattle.rb_coding.specs.Encoding.{laid_before, IsEncoded, AreEncoded}
+use Rattle.rb_coding.specs.Encoding.{laid_before, IsEncoded, AreEncoded, StandApart}
 use Rattle.rb_coding.specs.inner.Filling.{behind_all, Progress, Stopped}
 use Rattle.rb_coding.proofs.GrowLemmas.{progress_none, progress_trans, progress_fits, stop_after, stop_wider, stopped_over}
+use Rattle.rb_coding.proofs.OnlyLemmas.{apart_kept, apart_snoc}
 use Rattle.rb_coding.proofs.WaitLemmas.{take_end}
 
 -- What was laid, with more behind it ----------------------------------------------------------------
@@ -95,19 +93,6 @@ stopped_of m m' rs full e g = record { bs = laid_before m.limit m.next rs; over 
 
 -- Values one behind the other -------------------------------------------------------------------------
 module _ (types : List DataDecl) (layouts : List Layout) where
-  kept : (m m' : Memory) → Extends m m' → (ts : List Ty) (vs : List Value) (ws : List ℕ) → Represent types layouts m true ts vs ws → Represent types layouts m' true ts vs ws
-  kept m m' ex [] [] ws r = r
-  kept m m' ex [] (v ∷ vs) ws r = absurd r
-  kept m m' ex (t ∷ ts) [] ws r = absurd r
-  kept m m' ex (t ∷ ts) (v ∷ vs) ws (first, rest, is, here, more) = (first, rest, is, Represents-kept m m' ex types layouts true here, kept m m' ex ts vs rest more)
-
-  snoc : (m : Memory) (ts : List Ty) (vs : List Value) (ws : List ℕ) (t : Ty) (v : Value) (w : List ℕ) → Represent types layouts m true ts vs ws → Represents types layouts m true t v w
-      → Represent types layouts m true (ts ++ t ∷ []) (vs ++ v ∷ []) (ws ++ w)
-  snoc m [] [] ws t v w r h = (w, [], ap (λ xs. xs ++ w) r ∙ sym (append-nil w), h, refl)
-  snoc m [] (u ∷ vs) ws t v w r h = absurd r
-  snoc m (s ∷ ts) [] ws t v w r h = absurd r
-  snoc m (s ∷ ts) (u ∷ vs) ws t v w (first, rest, is, here, more) h = (first, rest ++ w, ap (λ xs. xs ++ w) is ∙ append_assoc first rest w, here, snoc m ts vs rest t v w more h)
-
   turn_snoc : (ts : List Ty) (vs : List Value) (t : Ty) (v : Value) → length ts ≡ length vs → all_makings types (vs ++ v ∷ []) (ts ++ t ∷ []) ≡ all_makings types vs ts ++ making_of types v t
   turn_snoc [] [] t v e = append-nil (making_of types v t)
   turn_snoc [] (u ∷ vs) t v e = absurd (omega (arith, e))
@@ -143,10 +128,10 @@ typed_nth types (u ∷ vs) (s ∷ ts) e (suc i) v t a b = typed_nth types vs ts 
 pub record EncodingAll (p : Program) (ts : List Ty) (vs : List Value) (old m : Memory) (ws : List ℕ) (i : ℕ) : Type 0 where
   pub bs : List (ℕ × ℕ)
   pub progress : Progress old m (requests_of (flat_layouts p) (all_makings p.types (take i vs) (take i ts))) bs
-  pub represent : Represent p.types (flat_layouts p) m true (take i ts) (take i vs) ws
+  pub stand : StandApart p.types (flat_layouts p) m (take i ts) (take i vs) old.next bs m.next ws
 
 pub all_none : (p : Program) (ts : List Ty) (vs : List Value) (m : Memory) → IsGood m → EncodingAll p ts vs m m [] 0
-all_none p ts vs m good = record { bs = []; progress = progress_none m good; represent = refl }
+all_none p ts vs m good = record { bs = []; progress = progress_none m good; stand = (refl, refl, refl) }
 
 length_take : {A : Type 0} (xs : List A) (i : ℕ) (x : A) → slice_get xs i ≡ Some x → length (take i xs) ≡ i
 length_take [] i x e = absurd cc
@@ -173,12 +158,14 @@ module _ (p : Program) (ts : List Ty) (vs : List Value) (old m m' : Memory) (ws 
       let makings : all_makings p.types (take (suc i) vs) (take (suc i) ts) ≡ all_makings p.types (take i vs) (take i ts) ++ making_of p.types v t =
       ap (λ xs. all_makings p.types xs (take (suc i) ts)) tv ∙ ap (all_makings p.types (take i vs ++ v ∷ [])) tt' ∙ turn_snoc p.types layouts (take i ts) (take i vs) t v (length_take ts i t is_t ∙ sym (length_take vs i v is_v)) in
       let rs : requests_of layouts (all_makings p.types (take (suc i) vs) (take (suc i) ts)) ≡ so_far ++ here = ap (requests_of layouts) makings ∙ flat_map-append (requests_at layouts) (all_makings p.types (take i vs) (take i ts)) (making_of p.types v t) in
-      let old_words = kept p.types layouts m m' (Grown-extends m m' blocks next e.progress.grown.good grown) (take i ts) (take i vs) ws e.represent in
-      let new_words = snoc p.types layouts m' (take i ts) (take i vs) ws t v w old_words shown in
+      let old_words = apart_kept p.types layouts m m' (Grown-extends m m' blocks next e.progress.grown.good grown) (take i ts) (take i vs) old.next e.bs m.next ws e.stand in
+      let new_laid : lay m'.limit m.next here ≡ Fits blocks m'.next = ap (λ limit. lay limit m.next here) grown.limit ∙ laid ∙ ap (Fits blocks) (sym grown.next) in
+      let new_words = apart_snoc p.types layouts m' (take i ts) (take i vs) old.next e.bs m.next ws t v blocks m'.next w old_words (record { laid = new_laid; represents = shown }) in
       subst (λ n. EncodingAll p ts vs old m' (ws ++ w) n) z (record {
         bs = e.bs ++ blocks;
         progress = subst (λ xs. Progress old m' xs (e.bs ++ blocks)) (sym rs) both_laid;
-        represent = subst (λ xs. Represent p.types layouts m' true xs (take (suc i) vs) (ws ++ w)) (sym tt') (subst (λ xs. Represent p.types layouts m' true (take i ts ++ t ∷ []) xs (ws ++ w)) (sym tv) new_words);
+        stand = subst (λ xs. StandApart p.types layouts m' xs (take (suc i) vs) old.next (e.bs ++ blocks) m'.next (ws ++ w)) (sym tt') (
+            subst (λ xs. StandApart p.types layouts m' (take i ts ++ t ∷ []) xs old.next (e.bs ++ blocks) m'.next (ws ++ w)) (sym tv) new_words);
       })
 
   pub all_stops : (fault : EncodeFault) → IsEncoded p t v m m' (Err fault) → AreEncoded p ts vs old m' (Err fault)
@@ -202,7 +189,7 @@ all_done p ts vs old m ws i e le same =
       m.next,
       progress_fits old m (requests_of (flat_layouts p) (all_makings p.types vs ts)) e.bs progress,
       progress.grown,
-      subst (λ xs. Represent p.types (flat_layouts p) m true ts xs ws) a (subst (λ xs. Represent p.types (flat_layouts p) m true xs (take i vs) ws) b e.represent),
+      subst (λ xs. StandApart p.types (flat_layouts p) m ts xs old.next e.bs m.next ws) a (subst (λ xs. StandApart p.types (flat_layouts p) m xs (take i vs) old.next e.bs m.next ws) b e.stand),
     )
 
 pub nth_is : (ts : List Ty) (i : ℕ) (d : Ty) → i < length ts → slice_get ts i ≡ Some (get_or ts i d)

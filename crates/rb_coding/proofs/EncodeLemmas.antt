@@ -19,6 +19,7 @@ use Rattle.rb_bytes.specs.Memory.{Memory, IsGood}
 use Rattle.rb_bytes.specs.declared.fault.Full.{Full as Unplaced}
 use Rattle.rb_bytes.proofs.GrowthLemmas.{Grown-extends}
 use Rattle.rb_layout.specs.declared.layout.Layout.{Layout}
+use Rattle.rb_layout.specs.declared.layout.FlatWord.{FlatWord}
 use Rattle.rb_layout.specs.declared.layout.Leaf.{Leaf}
 use Rattle.rb_layout.specs.Agreement.{Agrees}
 use Rattle.rb_layout.specs.Flattening.{flat_layouts}
@@ -37,11 +38,12 @@ use Rattle.rb_values.specs.Nodes.{at, posts}
 use Rattle.rb_coding.specs.declared.table.Table.{Table}
 use Rattle.rb_coding.specs.declared.fault.EncodeFault.{EncodeFault}
 use Rattle.rb_coding.specs.declared.fault.EncodeFault.TheVariants.{Full, Memory as NoMemory}
-use Rattle.rb_coding.specs.Encoding.{IsEncoded}
+use Rattle.rb_coding.specs.Encoding.{IsEncoded, only}
 use Rattle.rb_coding.specs.inner.Filling.{Progress, Stopped}
 use Rattle.rb_coding.specs.inner.Making.{IsReady, IsNodeMade}
 use Rattle.rb_coding.specs.inner.Nodes.{subs_of, node_at}
 use Rattle.rb_coding.proofs.GrowLemmas.{progress_none, progress_trans, progress_fits, stop_after, stop_wider, stopped_over}
+use Rattle.rb_coding.proofs.OnlyLemmas.{good_only, progress_only, filled_only}
 use Rattle.rb_coding.proofs.LeafShowing.{Chosen, chosen, chosen_in, placeable, open_below, leaf_shown}
 use Rattle.rb_coding.proofs.PostLemmas.{TN, value_of, type_of, pairs, tposts, tposts-Num, tposts-Con, Typed, AllTyped, typed_all, Shape, construction, shape_of, At, at_get, each_at, Sized, path_below, nodes_are, count_typed, some_typed, length-mapped, layered, get_mid}
 use Rattle.rb_coding.proofs.PostLemmas as P
@@ -139,7 +141,7 @@ pub record Encoding (p : Program) (ty : Ty) (v : Value) (old m : Memory) (table 
   pub progress : Progress old m (nodes_requests (flat_layouts p) (take i (tposts p.types v ty))) bs
   pub count : length table.words ≡ i
   pub sizes : table.sizes ≡ map node_count (posts v)
-  pub shown : (j : ℕ) (x : TN) → j < i → slice_get (tposts p.types v ty) j ≡ Some x → Represents p.types (flat_layouts p) m true x.1 x.0 (slice_index_or table.words j [])
+  pub shown : (j : ℕ) (x : TN) → j < i → slice_get (tposts p.types v ty) j ≡ Some x → Represents p.types (flat_layouts p) (only m bs) true x.1 x.0 (slice_index_or table.words j [])
 
 words_before : (xs : List (List ℕ)) (y : List ℕ) (j : ℕ) → j < length xs → slice_index_or (xs ++ y ∷ []) j [] ≡ slice_index_or xs j []
 words_before [] y j lt = absurd (omega (arith, lt))
@@ -218,16 +220,19 @@ module _ (p : Program) (is_typed : IsTyped p) (agrees : Agrees p) (ty : Ty) (v :
     are_nodes j y is = ap (λ ps. at ps j) (sym (nodes_are the_types v ty of_type)) ∙ at_mapped all j y is
 
     opens : (t : ℕ) → x.1 ≡ Named t → (c : Chosen p is_typed agrees t x.0) → (k : ℕ) (o : Open) → slice_get (open_positions the_types c.leaf.prov) k ≡ Some o
-        → (u : Value) × (part_at x.0 o.path ≡ Some u) × Represents the_types the_layouts m true o.ty u (ss o.path)
+        → (u : Value) × (part_at x.0 o.path ≡ Some u) × Represents the_types the_layouts (only m e.bs) true o.ty u (ss o.path)
     opens t is_named c k o is =
         let b = open_below p is_typed agrees t x.0 c k o is in
         let a : At the_types all i x.0 (Named t) = subst (λ s. At the_types all i x.0 s) is_named n.is_at in
         let g = path_below the_types (posts v) table.sizes all are_nodes b.field b.path i x.0 (Named t) sized a o.ty b.value (subst (λ path. PartIs the_types x.0 (Named t) path o.ty b.value) b.is_path b.is_part) in
         let r = e.shown (node_at (posts v) table.sizes i (b.field ∷ b.path)) (b.value, o.ty) g.1 (at_get the_types all (node_at (posts v) table.sizes i (b.field ∷ b.path)) b.value o.ty g.0) in
-        (b.value, part_is the_types x.0 (Named t) o.path o.ty b.value b.is_part, subst (λ path. Represents the_types the_layouts m true o.ty b.value (ss path)) (sym b.is_path) r)
+        (b.value, part_is the_types x.0 (Named t) o.path o.ty b.value b.is_part, subst (λ path. Represents the_types the_layouts (only m e.bs) true o.ty b.value (ss path)) (sym b.is_path) r)
+
+    here_good : IsGood (only m e.bs)
+    here_good = good_only old m e.bs m.next e.progress.grown
 
     -- one more node
-    pub more : (table' : Table) (ws : List ℕ) (bs : List (ℕ × ℕ)) → Progress m m' (node_requests the_layouts x) bs → Represents the_types the_layouts m' true x.1 x.0 ws → IsGood m
+    pub more : (table' : Table) (ws : List ℕ) (bs : List (ℕ × ℕ)) → Progress m m' (node_requests the_layouts x) bs → Represents the_types the_layouts (only m' (e.bs ++ bs)) true x.1 x.0 ws → IsGood m
         → table'.sizes ≡ table.sizes → table'.words ≡ table.words ++ ws ∷ [] → Encoding p ty v old m' table' (i + 1)
     more table' ws bs progress here good same words =
         let both = progress_trans old m m' (nodes_requests the_layouts (take i all)) (node_requests the_layouts x) e.bs bs e.progress progress in
@@ -239,26 +244,40 @@ module _ (p : Program) (is_typed : IsTyped p) (agrees : Agrees p) (ty : Ty) (v :
           sizes = same ∙ e.sizes;
           shown = λ j y lt is. elim (cases_lt j i) [
             | inl less ↦
-                let kept = Represents-kept m m' (Grown-extends m m' bs m'.next good progress.grown) the_types the_layouts true (e.shown j y less is) in
-                subst (λ xs. Represents the_types the_layouts m' true y.1 y.0 xs) (sym (ap (λ xs. slice_index_or xs j []) words ∙ words_before table.words ws j (omega (arith, less, c)))) kept
+                let over = progress_only m m' (node_requests the_layouts x) e.bs bs progress (good_only old m' (e.bs ++ bs) m'.next both.grown) in
+                let kept = Represents-kept (only m e.bs) (only m' (e.bs ++ bs)) (Grown-extends (only m e.bs) (only m' (e.bs ++ bs)) bs m'.next here_good over.grown) the_types the_layouts true (e.shown j y less is) in
+                subst (λ xs. Represents the_types the_layouts (only m' (e.bs ++ bs)) true y.1 y.0 xs) (sym (ap (λ xs. slice_index_or xs j []) words ∙ words_before table.words ws j (omega (arith, less, c)))) kept
             | inr le ↦
                 let eq : j ≡ i = omega (arith, le, lt) in
                 let same_node : x ≡ y = same_Some x y (sym n.is_node ∙ ap (slice_get all) (sym eq) ∙ is) in
-                let at_y : Represents the_types the_layouts m' true y.1 y.0 ws = subst (λ (z : TN). Represents the_types the_layouts m' true z.1 z.0 ws) same_node here in
-                subst (λ xs. Represents the_types the_layouts m' true y.1 y.0 xs) (sym (ap (λ xs. slice_index_or xs j []) words ∙ words_last table.words ws j (omega (arith, eq, c)))) at_y
+                let at_y : Represents the_types the_layouts (only m' (e.bs ++ bs)) true y.1 y.0 ws = subst (λ (z : TN). Represents the_types the_layouts (only m' (e.bs ++ bs)) true z.1 z.0 ws) same_node here in
+                subst (λ xs. Represents the_types the_layouts (only m' (e.bs ++ bs)) true y.1 y.0 xs) (sym (ap (λ xs. slice_index_or xs j []) words ∙ words_last table.words ws j (omega (arith, eq, c)))) at_y
           ];
         }
 
+    -- the blocks of a leaf, over those of this value alone
+    module _ (leaf : Leaf) (bs : List (ℕ × ℕ)) (number : FlatWord → ℕ) (progress : Progress m m' (map request_of leaf.blocks) bs) where
+      pub over : Progress (only m e.bs) (only m' (e.bs ++ bs)) (map request_of leaf.blocks) bs
+      over =
+          let both = progress_trans old m m' (nodes_requests the_layouts (take i all)) (map request_of leaf.blocks) e.bs bs e.progress progress in
+          progress_only m m' (map request_of leaf.blocks) e.bs bs progress (good_only old m' (e.bs ++ bs) m'.next both.grown)
+
+      pub filled_over : m' ≡ with_blocks number m leaf.blocks → only m' (e.bs ++ bs) ≡ with_blocks number (only m e.bs) leaf.blocks
+      filled_over is =
+          ap (λ (y : Memory). only y (e.bs ++ bs)) is
+          ∙ sym (filled_only number leaf.blocks m e.bs bs m'.next (progress_fits m m' (map request_of leaf.blocks) bs progress))
+
     -- the node is made: its blocks are laid, and its words show it
     pub made_shown : (t : Ty) → x.1 ≡ t → (ws : List ℕ) → IsGood m → IsNodeMade the_layouts t x.0 ss m m' (Ok ws)
-        → (bs : List (ℕ × ℕ)) × Progress m m' (requests_at_type the_layouts t x.0) bs × Represents the_types the_layouts m' true t x.0 ws
+        → (bs : List (ℕ × ℕ)) × Progress m m' (requests_at_type the_layouts t x.0) bs × Represents the_types the_layouts (only m' (e.bs ++ bs)) true t x.0 ws
     made_shown (Int bits) is ws good (k, value, words, same) =
         let of_int : is_of_type the_types (Num k) (Int bits) ≡ true = ap (λ u. is_of_type the_types u (Int bits)) (sym value) ∙ ap (is_of_type the_types x.0) (sym is) ∙ n.is_at.typed in
         let fits : k < 2 ^ bits = P.below_lt k (2 ^ bits) (sym (is_of_type-Num the_types k (Int bits)) ∙ of_int) in
-        let here : Represents the_types the_layouts m' true (Int bits) (Num k) (k ∷ []) = number bits k fits in (
+        let whole : Memory = only m' (e.bs ++ []) in
+        let here : Represents the_types the_layouts whole true (Int bits) (Num k) (k ∷ []) = number bits k fits in (
           [],
           subst (λ (y : Memory). Progress m y [] []) (sym same) (progress_none m good),
-          subst (λ u. Represents the_types the_layouts m' true (Int bits) u ws) (sym value) (subst (λ xs. Represents the_types the_layouts m' true (Int bits) (Num k) xs) (sym words) here),
+          subst (λ u. Represents the_types the_layouts whole true (Int bits) u ws) (sym value) (subst (λ xs. Represents the_types the_layouts whole true (Int bits) (Num k) xs) (sym words) here),
         )
     made_shown (Named t) is ws good (leaf, is_leaf, (bs, progress, filled, words)) =
         let typed_here : Typed the_types x.0 (Named t) = ap (is_of_type the_types x.0) (sym is) ∙ n.is_at.typed in
@@ -270,7 +289,7 @@ module _ (p : Program) (is_typed : IsTyped p) (agrees : Agrees p) (ty : Ty) (v :
         let requests : map request_of c.leaf.blocks ≡ blocks_of the_layouts t x.0 = sym (ap blocks_in (chosen_in p is_typed agrees t x.0 c)) in (
           bs,
           subst (λ rs. Progress m m' rs bs) requests progress',
-          leaf_shown p is_typed agrees t x.0 c m good ss (opens t is c) bs m' progress' filled' ws words',
+          leaf_shown p is_typed agrees t x.0 c (only m e.bs) here_good ss (opens t is c) bs (only m' (e.bs ++ bs)) (over c.leaf bs (word_made ss (address_at bs)) progress') (filled_over c.leaf bs (word_made ss (address_at bs)) progress' filled') ws words',
         )
 
     pub made_stops : (t : Ty) (full : Unplaced) → IsNodeMade the_layouts t x.0 ss m m' (Err (Full full)) → Stopped m m' (requests_at_type the_layouts t x.0) full
@@ -301,7 +320,7 @@ module _ (p : Program) (is_typed : IsTyped p) (agrees : Agrees p) (ty : Ty) (v :
       let last : slice_get all (length rest) ≡ Some (v, ty) = ap (λ xs. slice_get xs (length rest)) l.is ∙ get_mid the_types (typed_all the_types l.kids) (v, ty) [] (length rest) (omega (arith, kl, k, cr, c, ei)) in
       let r = e.shown (length rest) (v, ty) (omega (arith, cr, c)) last in
       let words : slice_index_or table.words (length rest) [] ≡ ws = ap (λ xs. slice_index_or xs (length rest) []) is ∙ words_last rest ws (length rest) refl in
-      (e.bs, m.next, progress_fits old m (requests_of the_layouts (making_of the_types v ty)) e.bs progress, progress.grown, subst (λ xs. Represents the_types the_layouts m true ty v xs) words r)
+      (e.bs, m.next, progress_fits old m (requests_of the_layouts (making_of the_types v ty)) e.bs progress, progress.grown, subst (λ xs. Represents the_types the_layouts (only m e.bs) true ty v xs) words r)
 
   pub some_nodes : 0 < length (posts v)
   some_nodes = let k = all_long in let s = some_typed the_types v ty of_type in omega (arith, k, s)

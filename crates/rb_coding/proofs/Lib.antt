@@ -9,6 +9,7 @@ pub mod LeadLemmas
 pub mod LeafLemmas
 pub mod LeafShowing
 pub mod LoadLemmas
+pub mod OnlyLemmas
 pub mod OpenLemmas
 pub mod OpenWords
 pub mod PlaceLemmas

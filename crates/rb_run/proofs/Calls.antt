@@ -14,14 +14,16 @@ use Rattle.rb_core.specs.declared.program.Program.{Program}
 use Rattle.rb_core.specs.Meaning.{call_of}
 use Rattle.rb_core.specs.TypedPrograms.{IsTyped}
 use Rattle.rb_core.specs.Typing.{param_types, params_of, result_of, result_type}
-use Rattle.rb_bytes.specs.Memory.{Memory}
+use Rattle.rb_bytes.specs.Memory.{Memory, IsGood}
+use Rattle.rb_bytes.specs.Laws.{Extends}
 use Rattle.rb_bytes.specs.Growth.{Grown}
 use Rattle.rb_bytes.specs.declared.fault.Full.{Full}
-use Rattle.rb_bytes.proofs.GrowthLemmas.{Grown-trans}
+use Rattle.rb_bytes.proofs.GrowthLemmas.{Grown-extends, Grown-trans}
 use Rattle.rb_layout.specs.declared.agreed.LaidOut.{LaidOut}
 use Rattle.rb_layout.specs.declared.layout.Layout.{Layout}
 use Rattle.rb_layout.specs.Flattening.{flat_layouts}
-use Rattle.rb_coding.specs.Encoding.{AreEncoded}
+use Rattle.rb_coding.proofs.OnlyLemmas.{apart_kept, represented_apart}
+use Rattle.rb_coding.specs.Encoding.{AreEncoded, StandApart}
 use Rattle.rb_coding.specs.declared.fault.EncodeFault.TheVariants.{Full as Unfit}
 use Rattle.rb_machine.specs.Runs.{IsNotTrapped, params_in}
 use Rattle.rb_target.specs.declared.code.CodeFun.{CodeFun}
@@ -37,7 +39,7 @@ use Rattle.rb_fragment.proofs.Laying.{all_behind, lay-append, then_lay}
 use Rattle.rb_fragment.proofs.Represented.{Rep-count}
 use Rattle.rb_compile.specs.Plans.{plan_of}
 use Rattle.rb_compile.specs.Refining.{EndsAs, Refines}
-use Rattle.rb_run.specs.Calling.{CountsAs, IsCalled, IsCounted, end_over, laid_arguments, laid_call, making_arguments}
+use Rattle.rb_run.specs.Calling.{CountsAs, HoldArguments, IsCalled, IsCounted, end_over, laid_arguments, laid_call, making_arguments}
 
 module _ (plan : Plan) (clean : Bool) (t : Ty) (run : Outcome) where
   -- blocks that stand before others do not change how a run ends
@@ -50,6 +52,13 @@ module _ (plan : Plan) (clean : Bool) (t : Ty) (run : Outcome) where
   not_trapped m (Over full) e h = subst IsNotTrapped (sym h) tt
   not_trapped m (Fits cs q) source.Spent h = subst IsNotTrapped (sym h) tt
   not_trapped m (Fits cs q) (source.Done v left) h = subst IsNotTrapped (sym h.1) tt
+
+  -- where it returned, the memory has what it had before
+  pub returned_extends : (m : Memory) (l : Laid) (e : SourceEnd) → IsGood m → EndsAs plan clean t m l e run → (words : List ℕ) (left : ℕ) → run.ended ≡ target.Returned words left
+      → Extends m run.world.memory
+  returned_extends m (Over full) e good h words left is = absurd (let x = sym h ∙ is in cc)
+  returned_extends m (Fits cs q) source.Spent good h words left is = absurd (let x = sym h ∙ is in cc)
+  returned_extends m (Fits cs q) (source.Done v k) good h words left is = Grown-extends m run.world.memory cs q good h.2
 
   -- what is said of a run speaks of its end and its memory alone
   ends_seen : (m : Memory) (l : Laid) (e : SourceEnd) → EndsAs plan clean t m l e run → (end : End) (new : Memory) → end ≡ run.ended → new ≡ run.world.memory
@@ -82,7 +91,7 @@ pub record Encoded (agreed : LaidOut) (args : List Value) (old m : Memory) (ws :
   pub next : ℕ
   pub fits : laid_arguments agreed args old ≡ Fits blocks next
   pub grown : Grown old m blocks next
-  pub represents : Represent agreed.covered.program.types agreed.layouts m true (param_types agreed.covered.program.funs agreed.covered.program.main) args ws
+  pub hold : HoldArguments agreed args old m blocks next ws
 
 module _ (agreed : LaidOut) (args : List Value) (old : Memory) (flat : agreed.layouts ≡ flat_layouts agreed.covered.program) (tys : List Ty)
     (tys_are : tys ≡ param_types agreed.covered.program.funs agreed.covered.program.main) where
@@ -97,8 +106,9 @@ module _ (agreed : LaidOut) (args : List Value) (old : Memory) (flat : agreed.la
     next = e.1;
     fits = sym laid_as ∙ e.2;
     grown = e.3;
-    represents = subst (λ ts. Represent agreed.covered.program.types agreed.layouts m true ts args ws) tys_are (
-        subst (λ layouts. Represent agreed.covered.program.types layouts m true tys args ws) (sym flat) e.4);
+    hold = subst (λ ts. StandApart agreed.covered.program.types agreed.layouts m ts args old.next e.0 e.1 ws) tys_are (
+        subst (λ layouts. StandApart agreed.covered.program.types layouts m tys args old.next e.0 e.1 ws) (sym flat) (
+        subst (λ next. StandApart agreed.covered.program.types (flat_layouts agreed.covered.program) m tys args old.next e.0 next ws) e.3.next e.4));
   }
 
   pub is_unfit : (m : Memory) (full : Full) → AreEncoded agreed.covered.program tys args old m (Err (Unfit full)) → laid_arguments agreed args old ≡ Over full
@@ -133,7 +143,10 @@ module _ (agreed : LaidOut) (code : List CodeFun) (r : Refines (plan_of agreed) 
     pub called_unfit : (new : Memory) → IsCalled agreed args calls old (target.Full full) new
     called_unfit new =
         let laid : laid_call agreed args calls old ≡ Over full = laid_is ∙ ap (λ l. then_lay old.limit l log_requests) over in
-        subst (λ l. EndsAs (plan_of agreed) true (result_type p.funs p.main) old l meant.end (end_over (target.Full full) new)) (sym laid) refl
+        record {
+          ends = subst (λ l. EndsAs (plan_of agreed) true (result_type p.funs p.main) old l meant.end (end_over (target.Full full) new)) (sym laid) refl;
+          arguments = λ words left is. absurd (cc is);
+        }
 
     pub counted_unfit : IsCounted agreed code args calls old 0 0
     counted_unfit = subst (λ l. CountsAs agreed code args calls old l 0 0) (sym over) (refl, refl)
@@ -144,7 +157,8 @@ module _ (agreed : LaidOut) (code : List CodeFun) (r : Refines (plan_of agreed) 
     run = run_of code calls p.main ws m
 
     reps_of_main : Reps (plan_of agreed) m true (types_of main_at.0) args ws
-    reps_of_main = subst (λ ts. Represent p.types agreed.layouts m true ts args ws) main_types e.represents
+    reps_of_main = subst (λ ts. Represent p.types agreed.layouts m true ts args ws) main_types
+        (represented_apart p.types agreed.layouts old m (param_types p.funs p.main) args e.blocks e.next old.next e.next ws e.grown e.hold)
 
     does : EndsAs (plan_of agreed) true main_at.0.result m (lay m.limit m.next log_requests) meant.end run
     does = r.runs p.main main_at.0 main_at.1 true args ws m calls e.grown.good reps_of_main
@@ -162,13 +176,35 @@ module _ (agreed : LaidOut) (code : List CodeFun) (r : Refines (plan_of agreed) 
         laid_is ∙ ap (λ l. then_lay old.limit l log_requests) e.fits
         ∙ ap (λ k. all_behind e.blocks (lay k e.next log_requests)) (sym e.grown.limit) ∙ ap (λ k. all_behind e.blocks (lay m.limit k log_requests)) (sym e.grown.next)
 
-    pub main_called : (end : End) (new : Memory) → end ≡ run.ended → new ≡ run.world.memory → IsCalled agreed args calls old end new
-    main_called end new is same =
+    ends_right : (end : End) (new : Memory) → end ≡ run.ended → new ≡ run.world.memory
+        → EndsAs (plan_of agreed) true (result_type p.funs p.main) old (laid_call agreed args calls old) meant.end (end_over end new)
+    ends_right end new is same =
         let here = ends_behind (plan_of agreed) true main_at.0.result run old m e.blocks e.next e.grown (lay m.limit m.next log_requests) meant.end does in
         let there = subst (λ l. EndsAs (plan_of agreed) true main_at.0.result old l meant.end run) (sym laid_behind) here in
         let typed_so = subst (λ t. EndsAs (plan_of agreed) true t old (laid_call agreed args calls old) meant.end run) (sym main_result) there in
         ends_seen (plan_of agreed) true (result_type p.funs p.main) run old (laid_call agreed args calls old) meant.end typed_so end new is same
 
+    -- the memory of a run that returns has what it had before
+    later_hold : (words : List ℕ) (left : ℕ) → run.ended ≡ target.Returned words left → HoldArguments agreed args old run.world.memory e.blocks e.next ws
+    later_hold words left is =
+        let later = returned_extends (plan_of agreed) true main_at.0.result run m (lay m.limit m.next log_requests) meant.end e.grown.good does words left is in
+        apart_kept p.types agreed.layouts m run.world.memory later (param_types p.funs p.main) args old.next e.blocks e.next ws e.hold
+
+    pub main_called : (end : End) (new : Memory) → end ≡ run.ended → new ≡ run.world.memory → IsCalled agreed args calls old end new
+    main_called end new is same = record {
+      ends = ends_right end new is same;
+      arguments = λ words left returned blocks next fits.
+          let laid : Fits e.blocks e.next ≡ Fits blocks next = sym e.fits ∙ fits in
+          let bs : e.blocks ≡ blocks = cc in
+          let to : e.next ≡ next = cc in
+          let held = later_hold words left (sym is ∙ returned) in (
+            ws,
+            subst (λ (k : Memory). HoldArguments agreed args old k blocks next ws) (sym same) (
+                subst (λ n. HoldArguments agreed args old run.world.memory blocks n ws) to (
+                subst (λ xs. HoldArguments agreed args old run.world.memory xs e.next ws) bs held)),
+          );
+    }
+
     pub main_counted : (taken switches : ℕ) → taken ≡ run.world.taken → switches ≡ run.world.switches → IsCounted agreed code args calls old taken switches
     main_counted taken switches steps_are switches_are =
-        subst (λ l. CountsAs agreed code args calls old l taken switches) (sym e.fits) (ws, m, e.grown, e.represents, steps_are, switches_are)
+        subst (λ l. CountsAs agreed code args calls old l taken switches) (sym e.fits) (ws, m, e.grown, e.hold, steps_are, switches_are)

@@ -1,5 +1,5 @@
 -- What the end of a call comes to.
-use Rattle.std.proofs.Common.{◌≡◌, ℕ, ◌<◌, ◌≤◌, true, false, List, refl, sym, subst, ap, ◌∙◌, arith}
+use Rattle.std.proofs.Common.{◌≡◌, ℕ, ◌-◌, ◌<◌, ◌≤◌, true, false, List, [], ◌++◌, length, refl, sym, subst, ap, ◌∙◌, arith}
 use Rattle.std.specs.Prelude.{nat_le, if◌then◌else◌}
 use Rattle.std.proofs.lemmas.Bool.Decides.{nat_tests}
 use Rattle.rb_core.specs.declared.value.Value.{Value}
@@ -15,6 +15,7 @@ use Rattle.rb_bytes.specs.declared.fault.Trap.{Trap}
 use Rattle.rb_layout.specs.declared.agreed.LaidOut.{LaidOut}
 use Rattle.rb_layout.specs.declared.layout.Layout.{Layout}
 use Rattle.rb_layout.specs.Flattening.{flat_layouts}
+use Rattle.rb_target.specs.declared.outcome.End.{End}
 use Rattle.rb_target.specs.declared.outcome.End.TheVariants as target
 use Rattle.rb_rel.specs.Answers.{Answer, answer_at}
 use Rattle.rb_rel.specs.Answers as answers
@@ -26,6 +27,8 @@ use Rattle.rb_coding.specs.Decoding.{AreOf}
 use Rattle.rb_compile.specs.Plans.{plan_of}
 use Rattle.rb_compile.specs.Refining.{EndsAs}
 use Rattle.rb_run.specs.Answering.{shown_within}
+use Rattle.rb_run.specs.Counting.{IsTally, left_at}
+use Rattle.rb_run.specs.declared.count.Tally.{Tally}
 use Rattle.rb_run.specs.Calling.{IsCalled, IsEndOf, end_over, laid_call}
 
 -- a value that was returned, with the memory that holds it
@@ -61,6 +64,17 @@ module _ (plan : Plan) (t : Ty) (m new : Memory) where
   never_trapped (Fits bs p) source.Spent trap h = absurd (cc h)
   never_trapped (Fits bs p) (source.Done v k) trap h = absurd (cc h.1)
 
+  -- what a run that returns did, from a memory without blocks on
+  pub tallied : m.blocks ≡ [] → (l : Laid) (e : SourceEnd) (end : End) (calls : ℕ) (tally : Tally) → EndsAs plan true t m l e (end_over end new)
+      → tally.calls ≡ calls - left_at end → tally.blocks ≡ length new.blocks → tally.bytes ≡ new.next - 64 → IsTally l e calls tally
+  tallied none (Over full) e end calls tally h made blocks bytes = tt
+  tallied none (Fits bs p) source.Spent end calls tally h made blocks bytes = tt
+  tallied none (Fits bs p) (source.Done v left) end calls tally h made blocks bytes = (
+    made ∙ ap (λ (x : End). calls - left_at x) h.1,
+    blocks ∙ ap (λ (xs : List (ℕ × ℕ)). length xs) (h.2.behind ∙ ap (λ xs. xs ++ bs) none),
+    bytes ∙ ap (λ n. n - 64) h.2.next,
+  )
+
 -- enough room, or not
 pub few_enough : (nodes : ℕ) (v : Value) → node_count v ≤ nodes → shown_within nodes v ≡ answers.Shown v
 few_enough nodes v le =
@@ -84,7 +98,7 @@ module _ (agreed : LaidOut) (flat : agreed.layouts ≡ flat_layouts agreed.cover
   abbrev returned : (args : List Value) (calls : ℕ) (old : Memory) → IsCalled agreed args calls old (target.Returned words left) new
       → IsReturned (plan_of agreed) result new (laid_call agreed args calls old) (call_of agreed.covered.program agreed.covered.program.main calls args).end words
   returned args calls old called =
-      returned_is (plan_of agreed) result old new (laid_call agreed args calls old) (call_of agreed.covered.program agreed.covered.program.main calls args).end words left called
+      returned_is (plan_of agreed) result old new (laid_call agreed args calls old) (call_of agreed.covered.program agreed.covered.program.main calls args).end words left called.ends
 
   -- what was returned represents a value
   pub returned_value : IsEndOf agreed (target.Returned words left) new → (v : Value) × AreOf agreed.covered.program new result words v

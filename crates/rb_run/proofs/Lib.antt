@@ -1,2 +1,2 @@
 mod Calls
-mod Ends
+pub mod Ends

@@ -10,10 +10,11 @@ use Rattle.rb_bytes.specs.Growth.{Grown}
 use Rattle.rb_layout.specs.declared.agreed.LaidOut.{LaidOut}
 use Rattle.rb_target.specs.declared.code.CodeFun.{CodeFun}
 use Rattle.rb_target.specs.declared.outcome.End.{End}
+use Rattle.rb_target.specs.declared.outcome.End.TheVariants.{Returned}
 use Rattle.rb_target.specs.Meaning.{Outcome, over, run_of}
 use Rattle.rb_rel.specs.Answers.{all_makings}
 use Rattle.rb_rel.specs.Placing.{Laid, Fits, Over, lay, requests_of}
-use Rattle.rb_rel.specs.Relation.{Represent}
+use Rattle.rb_coding.specs.Encoding.{StandApart}
 use Rattle.rb_compile.specs.Plans.{plan_of}
 use Rattle.rb_compile.specs.Refining.{EndsAs}
 
@@ -31,13 +32,27 @@ laid_call agreed args calls m =
 abbrev pub end_over : End → Memory → Outcome
 end_over end m = over end (record { left = 0; memory = m; switches = 0; taken = 0 })
 
--- The call of `main` does what the source does, from the memory as it was to the memory as it is: the end is
--- Full with the first request that does not fit, or Spent, or words that represent the value, with clean
--- free bits, and as many calls left.
-abbrev pub IsCalled : LaidOut → List Value → ℕ → Memory → End → Memory → Type 0
-IsCalled agreed args calls old end new =
+-- where the blocks of the arguments end up
+abbrev pub laid_arguments : LaidOut → List Value → Memory → Laid
+laid_arguments agreed args m = lay m.limit m.next (requests_of agreed.layouts (making_arguments agreed.covered.program args))
+
+-- the words represent the arguments in a memory that has grown from the old one: each argument cleanly, and
+-- over just the blocks that its own constructions ask for
+abbrev pub HoldArguments : LaidOut → List Value → Memory → Memory → List (ℕ × ℕ) → ℕ → List ℕ → Type 0
+HoldArguments agreed args old m blocks next ws =
     let p = agreed.covered.program in
-    EndsAs (plan_of agreed) true (result_type p.funs p.main) old (laid_call agreed args calls old) (call_of p p.main calls args).end (end_over end new)
+    StandApart p.types agreed.layouts m (param_types p.funs p.main) args old.next blocks next ws
+
+-- The call of `main` does what the source does, from the memory as it was to the memory as it is.
+pub record IsCalled (agreed : LaidOut) (args : List Value) (calls : ℕ) (old : Memory) (end : End) (new : Memory) : Type 0 where
+  -- the end is Full with the first request that does not fit, or Spent, or words that represent the value,
+  -- with clean free bits, and as many calls left
+  pub ends : EndsAs (plan_of agreed) true (result_type agreed.covered.program.funs agreed.covered.program.main) old
+      (laid_call agreed args calls old) (call_of agreed.covered.program agreed.covered.program.main calls args).end (end_over end new)
+  -- where it returns, some words represent each argument over its own blocks
+  pub arguments : (words : List ℕ) (left : ℕ) → end ≡ Returned words left
+      → (blocks : List (ℕ × ℕ)) (next : ℕ) → laid_arguments agreed args old ≡ Fits blocks next
+      → (ws : List ℕ) × HoldArguments agreed args old new blocks next ws
 
 -- The steps and the switches of a call: those of the code's run on words that represent the arguments, in a
 -- memory with just their blocks more; none, where these do not fit.
@@ -45,12 +60,8 @@ abbrev pub CountsAs : LaidOut → List CodeFun → List Value → ℕ → Memory
 CountsAs agreed code args calls old (Over full) steps switches = (steps ≡ 0) × (switches ≡ 0)
 CountsAs agreed code args calls old (Fits blocks next) steps switches =
     let p = agreed.covered.program in
-    (ws : List ℕ) × (m : Memory) × Grown old m blocks next × Represent p.types agreed.layouts m true (param_types p.funs p.main) args ws
+    (ws : List ℕ) × (m : Memory) × Grown old m blocks next × HoldArguments agreed args old m blocks next ws
     × (steps ≡ (run_of code calls p.main ws m).world.taken) × (switches ≡ (run_of code calls p.main ws m).world.switches)
-
--- where the blocks of the arguments end up
-abbrev pub laid_arguments : LaidOut → List Value → Memory → Laid
-laid_arguments agreed args m = lay m.limit m.next (requests_of agreed.layouts (making_arguments agreed.covered.program args))
 
 abbrev pub IsCounted : LaidOut → List CodeFun → List Value → ℕ → Memory → ℕ → ℕ → Type 0
 IsCounted agreed code args calls old steps switches =

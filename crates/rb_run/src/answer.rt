@@ -13,7 +13,7 @@ ghost use Rattle.rb_compile.specs.Refining.{Refines};
 ghost use Rattle.rb_run.specs.Answering.{meant_by, shown_within};
 ghost use Rattle.rb_run.specs.Calling.{IsCalled, IsCounted, IsEndOf, laid_call};
 
-use crate::call::call_main;
+use crate::count::count_main;
 use rb_bytes::fault::Full;
 use rb_coding::decode::decode;
 use rb_coding::fault::DecodeFault;
@@ -72,14 +72,12 @@ pub fn answer_main<L: Ledger>(
     ensures counted { IfOk result (λ a. (taken switches : ℕ) × (steps.new.taken ≡ steps.old.taken + taken)
         × IsCounted agreed.now code.now args.now bounds.calls (empty_memory bounds.region) taken switches) }
 {
-    let mut memory = RawMemory::new(alloc, bounds.region)?;
-    let ran = call_main(alloc, agreed, code, args, &mut memory, bounds.calls, steps)?;
-    let answer = answer_to(alloc, agreed, ran.end, &memory, bounds.nodes)?;
-    Ok(answer)
+    let counted = count_main(alloc, agreed, code, args, bounds, steps)?;
+    Ok(counted.answer)
 }
 
-// What the end of a call of `main` comes to, over the memory that it left.
-fn answer_to(
+/// What the end of a call of `main` comes to, over the memory that it left.
+pub(crate) fn answer_to(
     alloc: Global,
     agreed: &Agreed,
     end: End,

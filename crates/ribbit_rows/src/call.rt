@@ -6,6 +6,9 @@ use std::alloc::{AllocError, Global};
 use std::process::Abort;
 use std::test::Fail;
 
+/// The most bytes that the output takes.
+const ROOM: usize = 262_144;
+
 /// What a call of `ribbit` did.
 #[derive(Drop)]
 pub struct Did {
@@ -34,7 +37,7 @@ pub fn call(
         bytes: list(alloc, file)?,
     })?;
     let mut src = MemSource::new(files, 10, list(alloc, source_fails)?);
-    let mut out = MemSink::new(alloc, 1000, 1, list(alloc, output_fails)?)?;
+    let mut out = MemSink::new(alloc, ROOM, 1, list(alloc, output_fails)?)?;
     let mut err = MemSink::new(alloc, 1000, 7, Seq::new(alloc))?;
     let mut given = Words::new(alloc);
     for word in words.split(' ') {

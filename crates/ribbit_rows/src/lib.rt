@@ -7,7 +7,17 @@ mod call;
 #[cfg(test)]
 mod codes;
 #[cfg(test)]
+mod counts;
+#[cfg(test)]
+mod deep;
+#[cfg(test)]
+mod examples;
+#[cfg(test)]
 mod files;
+#[cfg(test)]
+mod generated;
+#[cfg(test)]
+mod images;
 #[cfg(test)]
 mod layouts;
 #[cfg(test)]

@@ -8,7 +8,7 @@ use Rattle.rb_core.specs.declared.program.Program.{Program}
 use Rattle.rb_core.specs.declared.types.DataDecl.{DataDecl}
 use Rattle.rb_layout.specs.A1.{HasShape, FailsShape}
 use Rattle.rb_layout.specs.Flattening.{HaveLayouts, decl_of, flat_layouts}
-use Rattle.rb_layout.specs.Spots.{Spot, Shape, Root, Parts, Blocks, Complete, Apart, Held, Tests, Splits, Flattening, NoPointer, Holding, Place, place_of, Checked, Fails, IsRefusal, IsRefusedBy, shape_spots, all_spots}
+use Rattle.rb_layout.specs.Spots.{Spot, Shape, Root, Parts, Blocks, Complete, Apart, Held, Tests, Splits, Flattening, NoPointer, Holding, Place, place_of, Checked, Fails, IsRefusedBy, shape_spots, all_spots}
 use Rattle.rb_layout.specs.declared.evidence.Refused.{Refused as Disagreed}
 use Rattle.rb_layout.specs.declared.evidence.Why.{Why}
 use Rattle.rb_layout.specs.declared.evidence.Why.TheVariants as why

@@ -26,3 +26,7 @@ module _ (command : Command) (file : List ℕ) (limit : ℕ) (Then : List ℕ �
   owes_unread tells due (missing told none e) = answered held (λ t name. refl) (reads held due (subst (λ (o : Option (List ℕ)). Read o due) (sym none) e))
   owes_unread tells due (over bytes told long e) =
       seen_so tells bytes told due (record { long = λ known. e; short = λ within. absurd (omega (arith, within, long)) })
+
+-- a command that reads nothing owes its answer
+pub owes_as : (command : Command) (held : Holds) (before now : ℕ) (tells : Bool) (due : Due) → Answers (Ok command) held due → Owes (Ok command) tells held before now due
+owes_as command held before now tells due h = answered held (λ t name. refl) h

@@ -4,10 +4,12 @@ use Rattle.rb_edge.specs.Faults.{Rose}
 use Rattle.ribbit_tool.specs.Answer.{Due, printed, refused, status_of}
 use Rattle.ribbit_tool.specs.Answers.{Answers, AnswersWords, answered, source_failed, out_of_memory}
 use Rattle.ribbit_tool.specs.Check.{ChecksFile}
-use Rattle.ribbit_tool.specs.Command.{Parsed, check, layout, compile, run, exec, command_of}
+use Rattle.ribbit_tool.specs.Command.{Parsed, check, layout, compile, run, image, count, gen, genrun, exec, command_of}
 use Rattle.ribbit_tool.specs.Compiling.{CompilesFile}
+use Rattle.ribbit_tool.specs.Count.{CountsFile}
 use Rattle.ribbit_tool.specs.Delivery.{Change, Stood, Delivers, output, output_failed, error_line, error_failed}
 use Rattle.ribbit_tool.specs.Exec.{Executes}
+use Rattle.ribbit_tool.specs.Image.{ImagesFile}
 use Rattle.ribbit_tool.specs.Layout.{LaysOutFile}
 use Rattle.ribbit_tool.specs.Numbers.{status_number}
 use Rattle.ribbit_tool.specs.Promise.{Source, Counting, Shows, GivesAnswer, OwesWords, Performs, IsCutOff, IsRight}
@@ -27,6 +29,12 @@ same_answer (Ok (compile file)) seen held due e h =
     subst (λ (o : Option (List ℕ)). Reads o file_limit (λ bytes d. CompilesFile bytes d) due) (e file) h
 same_answer (Ok (run file limits values)) seen held due e h =
     subst (λ (o : Option (List ℕ)). Reads o file_limit (λ bytes d. RunsFile limits values bytes d) due) (e file) h
+same_answer (Ok (image file limits values)) seen held due e h =
+    subst (λ (o : Option (List ℕ)). Reads o file_limit (λ bytes d. ImagesFile limits values bytes d) due) (e file) h
+same_answer (Ok (count file limits values)) seen held due e h =
+    subst (λ (o : Option (List ℕ)). Reads o file_limit (λ bytes d. CountsFile limits values bytes d) due) (e file) h
+same_answer (Ok (gen functions)) seen held due e h = h
+same_answer (Ok (genrun functions limits)) seen held due e h = h
 same_answer (Ok (exec code function limits words)) seen held due e h =
     subst (λ (o : Option (List ℕ)). Reads o code_limit (λ bytes d. Executes function limits words bytes d) due) (e code) h
 

@@ -3,9 +3,12 @@ use Rattle.std.specs.Prelude.{◌≡◌, ℕ, List, Bool, IsTrue, Ok, Err}
 use Rattle.rb_edge.specs.Faults.{Rose}
 use Rattle.ribbit_tool.specs.Answer.{Due, refusal}
 use Rattle.ribbit_tool.specs.Check.{ChecksFile}
-use Rattle.ribbit_tool.specs.Command.{Parsed, check, layout, compile, run, exec, command_of}
+use Rattle.ribbit_tool.specs.Command.{Parsed, check, layout, compile, run, image, count, gen, genrun, exec, command_of}
 use Rattle.ribbit_tool.specs.Compiling.{CompilesFile}
+use Rattle.ribbit_tool.specs.Count.{CountsFile}
 use Rattle.ribbit_tool.specs.Exec.{Executes}
+use Rattle.ribbit_tool.specs.Generate.{Generates, CountsGenerated}
+use Rattle.ribbit_tool.specs.Image.{ImagesFile}
 use Rattle.ribbit_tool.specs.Layout.{LaysOutFile}
 use Rattle.ribbit_tool.specs.Lines.{usage_line, read_fault_line, no_memory_line}
 use Rattle.ribbit_tool.specs.Reading.{Holds, Reads, file_limit, code_limit}
@@ -18,6 +21,10 @@ Answers (Ok (check file)) held due = Reads (held file) file_limit (λ bytes d. C
 Answers (Ok (layout file)) held due = Reads (held file) file_limit (λ bytes d. LaysOutFile bytes d) due
 Answers (Ok (compile file)) held due = Reads (held file) file_limit (λ bytes d. CompilesFile bytes d) due
 Answers (Ok (run file limits values)) held due = Reads (held file) file_limit (λ bytes d. RunsFile limits values bytes d) due
+Answers (Ok (image file limits values)) held due = Reads (held file) file_limit (λ bytes d. ImagesFile limits values bytes d) due
+Answers (Ok (count file limits values)) held due = Reads (held file) file_limit (λ bytes d. CountsFile limits values bytes d) due
+Answers (Ok (gen functions)) held due = Generates functions due
+Answers (Ok (genrun functions limits)) held due = CountsGenerated functions limits due
 Answers (Ok (exec code function limits words)) held due = Reads (held code) code_limit (λ bytes d. Executes function limits words bytes d) due
 Answers (Err word) held due = due ≡ refusal Usage (usage_line word)
 

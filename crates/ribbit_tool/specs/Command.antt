@@ -13,6 +13,10 @@ pub data Command : Type 0 where
   layout : (file : List ℕ) → Command
   compile : (file : List ℕ) → Command
   run : (file : List ℕ) → (limits : Limits) → (values : List (List ℕ)) → Command
+  image : (file : List ℕ) → (limits : Limits) → (values : List (List ℕ)) → Command
+  count : (file : List ℕ) → (limits : Limits) → (values : List (List ℕ)) → Command
+  gen : (functions : ℕ) → Command
+  genrun : (functions : ℕ) → (limits : Limits) → Command
   exec : (code : List ℕ) → (function : List ℕ) → (limits : Limits) → (words : List ℕ) → Command
 
 -- the command, or the number of the first word at fault; words are counted from 1
@@ -55,8 +59,32 @@ abbrev pub compile_words : List (List ℕ) → Parsed
 compile_words words = with_word 2 words (λ file ws. alone 3 (compile file) ws)
 
 -- FILE CALLS REGION and zero or more VALUE
+abbrev pub with_call : List (List ℕ) → (List ℕ → Limits → List (List ℕ) → Command) → Parsed
+with_call words command = with_word 2 words (λ file ws. with_limits 3 ws (λ limits values. Ok (command file limits values)))
+
 abbrev pub run_words : List (List ℕ) → Parsed
-run_words words = with_word 2 words (λ file ws. with_limits 3 ws (λ limits values. Ok (run file limits values)))
+run_words words = with_call words run
+
+abbrev pub image_words : List (List ℕ) → Parsed
+image_words words = with_call words image
+
+abbrev pub count_words : List (List ℕ) → Parsed
+count_words words = with_call words count
+
+-- N, how many functions a generated file has beside `up` and `main`
+abbrev pub with_functions : List (List ℕ) → (ℕ → List (List ℕ) → Parsed) → Parsed
+with_functions words go = with_number 2 1 2000 words go
+
+-- N and no more
+abbrev pub gen_words : List (List ℕ) → Parsed
+gen_words words = with_functions words (λ functions ws. alone 3 (gen functions) ws)
+
+-- N CALLS REGION and no more
+abbrev pub genrun_words : List (List ℕ) → Parsed
+genrun_words words =
+    with_functions words (λ functions ws.
+    with_limits 3 ws (λ limits rest.
+    alone 5 (genrun functions limits) rest))
 
 abbrev pub first_number : ℕ → Option ℕ → Result (List ℕ) ℕ → Result (List ℕ) ℕ
 first_number n None rest = Err n
@@ -89,4 +117,8 @@ command_of words = with_word 1 words (λ w ws.
     if bytes_eq w (codes "layout") then layout_words ws else
     if bytes_eq w (codes "compile") then compile_words ws else
     if bytes_eq w (codes "run") then run_words ws else
+    if bytes_eq w (codes "image") then image_words ws else
+    if bytes_eq w (codes "count") then count_words ws else
+    if bytes_eq w (codes "gen") then gen_words ws else
+    if bytes_eq w (codes "genrun") then genrun_words ws else
     if bytes_eq w (codes "exec") then exec_words ws else Err 1)

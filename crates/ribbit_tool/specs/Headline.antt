@@ -5,13 +5,12 @@ use Rattle.std.specs.Prelude.{◌≡◌, ◌≢◌, ◌≤◌, ℕ, List, [], le
 use Rattle.rb_core.specs.declared.program.Program.{Program}
 use Rattle.rb_core.specs.declared.value.Value.{Value}
 use Rattle.rb_edge.specs.Faults.{Rose}
-use Rattle.rb_fetch.specs.Plain.{ArePlain}
 use Rattle.rb_layout.specs.Flattening.{flat_layouts}
 use Rattle.rb_rel.specs.Answers as answer
 use Rattle.rb_rel.specs.Answers.{answer_of}
 use Rattle.ribbit_tool.specs.Accepting.{IsAccepted}
 use Rattle.ribbit_tool.specs.Arguments.{node_limit, Spell}
-use Rattle.ribbit_tool.specs.Command.{Limits, run, command_of}
+use Rattle.ribbit_tool.specs.Command.{Command, Limits, run, command_of}
 use Rattle.ribbit_tool.specs.Delivery.{Change, Took, Stood}
 use Rattle.ribbit_tool.specs.Lines.{spent_line, full_line, large_line}
 use Rattle.ribbit_tool.specs.Promise.{Source}
@@ -25,11 +24,20 @@ Says p limits answer.Spent out err status = (status ≡ 4) × Took out [] × Too
 Says p limits (answer.Full f) out err status = (status ≡ 5) × Took out [] × Took err (full_line f)
 Says p limits answer.TooLarge out err status = (status ≡ 13) × Took out [] × Took err (large_line node_limit)
 
-abbrev pub Headline : List (List ℕ) → Source → Change → Change → ℕ → Type 0
-Headline words source out err status =
-    (file : List ℕ) (limits : Limits) (values : List (List ℕ)) → command_of words ≡ Ok (run file limits values)
+-- Nothing failed, and memory did not run out.
+abbrev pub IsCalm : Source → Change → Change → ℕ → Type 0
+IsCalm source out err status = (Rose source.before source.now → ⊥) × Stood out × Stood err × (status ≢ 9)
+
+-- What is promised of a command that calls `main`, where its file is accepted, its values are of `main`'s
+-- types, and nothing failed.
+abbrev pub OfCalls : (List ℕ → Limits → List (List ℕ) → Command) → (Program → List Value → Limits → Change → Change → ℕ → Type 0)
+    → List (List ℕ) → Source → Change → Change → ℕ → Type 0
+OfCalls command Promised words source out err status =
+    (file : List ℕ) (limits : Limits) (values : List (List ℕ)) → command_of words ≡ Ok (command file limits values)
     → (bytes : List ℕ) → IsTrue source.tells → source.held file ≡ Some bytes → length bytes ≤ file_limit
-    → (p : Program) → IsAccepted bytes p → ArePlain (flat_layouts p)
-    → (args : List Value) → Spell p values args
-    → (Rose source.before source.now → ⊥) → Stood out → Stood err → status ≢ 9
-    → Says p limits (answer_of p (flat_layouts p) args limits.calls limits.region node_limit) out err status
+    → (p : Program) → IsAccepted bytes p → (args : List Value) → Spell p values args
+    → IsCalm source out err status → Promised p args limits out err status
+
+abbrev pub Headline : List (List ℕ) → Source → Change → Change → ℕ → Type 0
+Headline = OfCalls run (λ p args limits out err status.
+    Says p limits (answer_of p (flat_layouts p) args limits.calls limits.region node_limit) out err status)

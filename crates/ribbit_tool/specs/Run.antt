@@ -1,24 +1,21 @@
 -- What is due to the run of a file.
-use Rattle.std.specs.Prelude.{◌≡◌, ℕ, List, map, length, true}
+use Rattle.std.specs.Prelude.{◌≡◌, ℕ, List, map, true}
 use Rattle.rb_bytes.specs.Memory.{empty_memory}
 use Rattle.rb_core.specs.Typing.{param_types, result_type}
 use Rattle.rb_core.specs.Values.{all_of_types, is_of_type}
 use Rattle.rb_core.specs.declared.program.Program.{Program}
 use Rattle.rb_core.specs.declared.value.Value.{Value}
-use Rattle.rb_fetch.specs.Plain.{ArePlain}
-use Rattle.rb_layout.specs.Flattening.{flat_layouts}
 use Rattle.rb_layout.specs.declared.agreed.LaidOut.{LaidOut}
 use Rattle.rb_rel.specs.Answers as answer
 use Rattle.rb_rel.specs.Answers.{answer_of}
 use Rattle.rb_run.specs.Calling.{IsCounted}
-use Rattle.rb_syntax.specs.declared.token.Placed.{Placed}
 use Rattle.rb_target.specs.declared.code.CodeFun.{CodeFun}
 use Rattle.rb_values.specs.Texts.{text_of}
-use Rattle.ribbit_tool.specs.Accepting.{IsAccepted, Accepts}
+use Rattle.ribbit_tool.specs.Accepting.{Accepts}
 use Rattle.ribbit_tool.specs.Answer.{Due, printed, refused}
 use Rattle.ribbit_tool.specs.Arguments.{node_limit, Spell, IsMisfit}
 use Rattle.ribbit_tool.specs.Command.{Limits}
-use Rattle.ribbit_tool.specs.Compiling.{IsCompiled, IsLaidOut, IsUncompiled}
+use Rattle.ribbit_tool.specs.Compiling.{IsCompiled, IsLaidOut}
 use Rattle.ribbit_tool.specs.Lines.{ended, spent_line, full_line, large_line}
 use Rattle.ribbit_tool.specs.declared.status.Status.TheVariants as status
 
@@ -29,11 +26,17 @@ pub record IsPrepared (agreed : LaidOut) (code : List CodeFun) (args : List Valu
   pub compiled : IsCompiled agreed code
   pub typed : all_of_types (map (is_of_type agreed.covered.program.types) args) (param_types agreed.covered.program.funs agreed.covered.program.main) ≡ true
 
--- What is due where an accepted program, of a file with these tokens and so many bytes, is not prepared: it
--- is not compiled yet; or the words spell no arguments of `main`.
-pub data IsUnprepared (p : Program) (placed : List Placed) (size : ℕ) (words : List (List ℕ)) (due : Due) : Type 0 where
-  uncompiled : IsUncompiled p placed size due → IsUnprepared p placed size words due
-  misfit : ArePlain (flat_layouts p) → IsMisfit p words due → IsUnprepared p placed size words due
+-- What is due to an accepted program and words: they spell no arguments of `main`; or they do, there is code
+-- that does what the source means, and something follows.
+pub data Prepares (words : List (List ℕ)) (Then : LaidOut → List CodeFun → List Value → Due → Type 0) (p : Program)
+    (due : Due) : Type 0 where
+  misfit : IsMisfit p words due → Prepares words Then p due
+  prepared : (agreed : LaidOut) → IsLaidOut p agreed → (code : List CodeFun) (args : List Value) → IsPrepared agreed code args → Spell p words args
+      → Then agreed code args due → Prepares words Then p due
+
+-- of a file within the limit
+abbrev pub PreparesFile : List (List ℕ) → List ℕ → (LaidOut → List CodeFun → List Value → Due → Type 0) → Due → Type 0
+PreparesFile words bytes Then due = Accepts bytes (λ p a d. Prepares words Then p d) due
 
 -- The answer of the source ------------------------------------------------------------------
 
@@ -60,13 +63,6 @@ pub record IsAnswered (agreed : LaidOut) (code : List CodeFun) (args : List Valu
   pub counted : IsCounted agreed code args limits.calls (empty_memory limits.region) taken switches
   pub shown : due ≡ answer_due agreed.covered.program limits.calls (source_answer agreed limits args) taken
 
--- What is due to the run of an accepted file: it is not prepared; or it is, and the source's answer is
--- given, with the steps of code that does what the source means.
-pub data Runs (limits : Limits) (words : List (List ℕ)) (bytes : List ℕ) (p : Program) (a : IsAccepted bytes p) (due : Due) : Type 0 where
-  unprepared : IsUnprepared p a.placed (length bytes) words due → Runs limits words bytes p a due
-  ran : (agreed : LaidOut) → IsLaidOut p agreed → (code : List CodeFun) (args : List Value) → IsPrepared agreed code args → Spell p words args
-      → IsAnswered agreed code args limits due → Runs limits words bytes p a due
-
 -- of a file within the limit
 abbrev pub RunsFile : Limits → List (List ℕ) → List ℕ → Due → Type 0
-RunsFile limits words bytes due = Accepts bytes (λ p a d. Runs limits words bytes p a d) due
+RunsFile limits words bytes due = PreparesFile words bytes (λ agreed code args d. IsAnswered agreed code args limits d) due

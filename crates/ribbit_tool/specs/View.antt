@@ -8,7 +8,7 @@ use Rattle.rb_layout.specs.Agreement.{AreAgreed}
 use Rattle.rb_names.specs.Programs.{numbered}
 use Rattle.ribbit_tool.specs.Accepting.{IsRead}
 use Rattle.ribbit_tool.specs.Answer.{Due, printed, refused}
-use Rattle.ribbit_tool.specs.Command.{Command, Limits, check, layout, compile, run, exec}
+use Rattle.ribbit_tool.specs.Command.{Command, Limits, check, layout, compile, run, image, count, gen, genrun, exec}
 use Rattle.ribbit_tool.specs.declared.accepting.Accepted.{Accepted}
 use Rattle.ribbit_tool.specs.declared.command.Command as declared
 use Rattle.ribbit_tool.specs.declared.command.Command.TheVariants as form
@@ -27,6 +27,10 @@ command_view (form.Check file) = check file.now
 command_view (form.Layout file) = layout file.now
 command_view (form.Compile file) = compile file.now
 command_view (form.Run file limits values) = run file.now (limits_view limits) values.now
+command_view (form.Image file limits values) = image file.now (limits_view limits) values.now
+command_view (form.Count file limits values) = count file.now (limits_view limits) values.now
+command_view (form.Gen functions) = gen functions.count
+command_view (form.GenRun functions limits) = genrun functions.count (limits_view limits)
 command_view (form.Exec code function limits words) = exec code.now function.now (limits_view limits) words
 
 -- words that are no command: the number of the first at fault

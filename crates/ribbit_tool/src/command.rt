@@ -2,10 +2,10 @@
 
 ghost use Rattle.std.specs.Prelude.{◌≡◌, ◌≤◌, List, MatchResult, Ok, ℕ};
 ghost use Rattle.ribbit_tool.specs.declared.command.CommandFault.TheVariants.{Memory};
-ghost use Rattle.ribbit_tool.specs.Command.{Limits as LimitsValue, Parsed, check_words, command_of, compile_words, layout_words, exec_words, function_words, numbers_from, run_words, with_limits};
+ghost use Rattle.ribbit_tool.specs.Command.{Command as CommandValue, Limits as LimitsValue, Parsed, check_words, command_of, compile_words, count_words, exec_words, function_words, gen_words, genrun_words, image_words, layout_words, numbers_from, run_words, with_call, with_functions, with_limits};
 ghost use Rattle.ribbit_tool.specs.View.{command_view, limits_view, IsUsage};
 
-use crate::limits::Limits;
+use crate::limits::{Functions, Limits};
 use rb_core::decimal::number_in;
 use rb_core::seq::Seq;
 use rb_edge::seq::Name;
@@ -32,6 +32,27 @@ pub enum Command<'a> {
         file: &'a [u8],
         limits: Limits,
         values: &'a [Name],
+    },
+    /// The image of such a run's value.
+    Image {
+        file: &'a [u8],
+        limits: Limits,
+        values: &'a [Name],
+    },
+    /// The value of such a run, and what the run did.
+    Count {
+        file: &'a [u8],
+        limits: Limits,
+        values: &'a [Name],
+    },
+    /// A generated file.
+    Gen {
+        functions: Functions,
+    },
+    /// What the run of a generated file did.
+    GenRun {
+        functions: Functions,
+        limits: Limits,
     },
     /// A run of a code's first function of this name on these words.
     Exec {
@@ -66,6 +87,9 @@ const CALLS: u64 = 1_000_000_000;
 const LEAST_REGION: u64 = 64;
 
 const REGION: u64 = 16_777_216;
+
+/// The most functions of a generated file, `up` and `main` apart.
+const FUNCTIONS: u64 = 2_000;
 
 /// The number of the first WORD behind `exec`.
 const FIRST_WORD: usize = 6;
@@ -131,19 +155,91 @@ fn parse_compile<'a>(words: &'a [Name]) -> Result<Command<'a>, CommandFault>
     }
 }
 
-// The words behind `run`.
-fn parse_run<'a>(words: &'a [Name]) -> Result<Command<'a>, CommandFault>
-    ensures { MatchResult result (λ c. run_words words.now ≡ Ok (command_view c)) (IsUsage (run_words words.now)) }
+// FILE, CALLS and REGION, and the VALUEs behind them.
+fn parse_call<'a>(words: &'a [Name]) -> Result<(&'a [u8], Limits, &'a [Name]), CommandFault>
+    ensures { (command : List ℕ → LimitsValue → List (List ℕ) → CommandValue) → MatchResult result
+        (λ p. with_call words.now command ≡ Ok (command p.0.now (limits_view p.1) p.2.now))
+        (IsUsage (with_call words.now command)) }
 {
     let [file, words @ ..] = words else {
         return Err(CommandFault::Usage(2));
     };
     let (limits, values) = parse_limits(3, words)?;
+    Ok((file.as_slice(), limits, values))
+}
+
+// The words behind `run`.
+fn parse_run<'a>(words: &'a [Name]) -> Result<Command<'a>, CommandFault>
+    ensures { MatchResult result (λ c. run_words words.now ≡ Ok (command_view c)) (IsUsage (run_words words.now)) }
+{
+    let (file, limits, values) = parse_call(words)?;
     Ok(Command::Run {
-        file: file.as_slice(),
+        file,
         limits,
         values,
     })
+}
+
+// The words behind `image`.
+fn parse_image<'a>(words: &'a [Name]) -> Result<Command<'a>, CommandFault>
+    ensures { MatchResult result (λ c. image_words words.now ≡ Ok (command_view c)) (IsUsage (image_words words.now)) }
+{
+    let (file, limits, values) = parse_call(words)?;
+    Ok(Command::Image {
+        file,
+        limits,
+        values,
+    })
+}
+
+// The words behind `count`.
+fn parse_count<'a>(words: &'a [Name]) -> Result<Command<'a>, CommandFault>
+    ensures { MatchResult result (λ c. count_words words.now ≡ Ok (command_view c)) (IsUsage (count_words words.now)) }
+{
+    let (file, limits, values) = parse_call(words)?;
+    Ok(Command::Count {
+        file,
+        limits,
+        values,
+    })
+}
+
+// N, and the words behind it.
+fn parse_functions<'a>(words: &'a [Name]) -> Result<(Functions, &'a [Name]), CommandFault>
+    ensures { (go : ℕ → List (List ℕ) → Parsed) → MatchResult result
+        (λ p. with_functions words.now go ≡ go p.0.count p.1.now)
+        (IsUsage (with_functions words.now go)) }
+{
+    let [word, words @ ..] = words else {
+        return Err(CommandFault::Usage(2));
+    };
+    let Some(count) = number_in(1, FUNCTIONS, word.as_slice()) else {
+        return Err(CommandFault::Usage(2));
+    };
+    Ok((Functions { count }, words))
+}
+
+// The words behind `gen`.
+fn parse_gen<'a>(words: &'a [Name]) -> Result<Command<'a>, CommandFault>
+    ensures { MatchResult result (λ c. gen_words words.now ≡ Ok (command_view c)) (IsUsage (gen_words words.now)) }
+{
+    let (functions, rest) = parse_functions(words)?;
+    match rest {
+        [] => Ok(Command::Gen { functions }),
+        [_, ..] => Err(CommandFault::Usage(3)),
+    }
+}
+
+// The words behind `genrun`.
+fn parse_genrun<'a>(words: &'a [Name]) -> Result<Command<'a>, CommandFault>
+    ensures { MatchResult result (λ c. genrun_words words.now ≡ Ok (command_view c)) (IsUsage (genrun_words words.now)) }
+{
+    let (functions, words) = parse_functions(words)?;
+    let (limits, rest) = parse_limits(3, words)?;
+    match rest {
+        [] => Ok(Command::GenRun { functions, limits }),
+        [_, ..] => Err(CommandFault::Usage(5)),
+    }
 }
 
 // The numbers that words spell, the first of which has the number 6.
@@ -210,6 +306,18 @@ pub fn parse<'a>(alloc: Global, words: &'a [Name]) -> Result<Command<'a>, Comman
             }
             if first.as_slice() == b"run".as_slice() {
                 return parse_run(rest);
+            }
+            if first.as_slice() == b"image".as_slice() {
+                return parse_image(rest);
+            }
+            if first.as_slice() == b"count".as_slice() {
+                return parse_count(rest);
+            }
+            if first.as_slice() == b"gen".as_slice() {
+                return parse_gen(rest);
+            }
+            if first.as_slice() == b"genrun".as_slice() {
+                return parse_genrun(rest);
             }
             if first.as_slice() == b"exec".as_slice() {
                 return parse_exec(alloc, rest);

@@ -1,4 +1,4 @@
-//! How far a run may go.
+//! How far a run may go, and how large a generated file may be.
 
 ghost use Rattle.std.specs.Prelude.{◌≤◌};
 
@@ -12,4 +12,12 @@ pub struct Limits {
     ghost few: { calls ≤ 1000000000 },
     ghost low: { 64 ≤ region },
     ghost high: { region ≤ 16777216 },
+}
+
+/// How many functions a generated file has beside `up` and `main`.
+#[derive(Clone, Copy, Debug)]
+pub struct Functions {
+    pub count: u64,
+    ghost some: { 1 ≤ count },
+    ghost few: { count ≤ 2000 },
 }

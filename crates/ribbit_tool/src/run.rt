@@ -3,12 +3,12 @@
 ghost use Rattle.std.specs.Prelude.{◌≡◌, ◌≤◌, ◌+◌, ℕ, length, IfOk, IfErr, Ok};
 ghost use Rattle.rb_run.specs.Answering.{meant_by};
 ghost use Rattle.ribbit_tool.specs.Answers.{Owes};
-ghost use Rattle.ribbit_tool.specs.Arguments.{Spell};
+ghost use Rattle.ribbit_tool.specs.Arguments.{IsMisfit, Spell};
 ghost use Rattle.ribbit_tool.specs.Command as spec;
-ghost use Rattle.ribbit_tool.specs.Run.{IsAnswered, IsPrepared, IsUnprepared, RunsFile, answer_due, value_line};
-ghost use Rattle.ribbit_tool.specs.View.{limits_view, IsAcceptance, IsRefusal, Meets};
+ghost use Rattle.ribbit_tool.specs.Run.{IsAnswered, IsPrepared, RunsFile, answer_due, value_line};
+ghost use Rattle.ribbit_tool.specs.View.{limits_view, IsRefusal, Meets};
 
-use crate::accepting::{Accepted, accept};
+use crate::accepting::accept;
 use crate::arguments::read_arguments;
 use crate::compile::code_of;
 use crate::limits::Limits;
@@ -38,26 +38,23 @@ pub struct Prepared {
     pub args: Seq<Forest>,
 }
 
-/// Prepares an accepted file: its code, and the arguments that the words spell.
-pub fn prepare(
-    alloc: Global,
-    bytes: &[u8],
-    accepted: &Accepted,
-    words: &[Name],
-) -> Result<Prepared, Refusal>
-    requires { IsAcceptance bytes.now accepted.now }
-    ensures prepared { IfOk result (λ r. IsPrepared accepted.now.agreed r.code r.args) }
-    ensures spelled { IfOk result (λ r. Spell accepted.now.agreed.covered.program words.now r.args) }
-    ensures refused { IfErr result (IsRefusal (IsUnprepared accepted.now.agreed.covered.program
-        accepted.now.placed.items (length bytes.now) words.now)) }
+/// Prepares a program: its code, and the arguments that the words spell.
+pub fn prepare(alloc: Global, agreed: &Agreed, words: &[Name]) -> Result<Prepared, Refusal>
+    ensures prepared { IfOk result (λ r. IsPrepared agreed.now r.code r.args) }
+    ensures spelled { IfOk result (λ r. Spell agreed.now.covered.program words.now r.args) }
+    ensures refused { IfErr result (IsRefusal (IsMisfit agreed.now.covered.program words.now)) }
 {
-    let code = code_of(alloc, bytes, accepted)?;
-    let args = read_arguments(alloc, accepted.agreed.covered().program(), words)?;
+    let code = code_of(alloc, agreed)?;
+    let args = read_arguments(alloc, agreed.covered().program(), words)?;
     Ok(Prepared { code, args })
 }
 
-// The text of a value of the result type of `main`.
-fn show_value(alloc: Global, program: &Program, value: &Forest) -> Result<Vec<u8>, AllocError>
+/// The text of a value of the result type of `main`, on a line.
+pub(crate) fn show_value(
+    alloc: Global,
+    program: &Program,
+    value: &Forest,
+) -> Result<Vec<u8>, AllocError>
     ensures { IfOk result (λ text. text.items ≡ value_line program.now value.now) }
 {
     let text = print_value(
@@ -118,7 +115,7 @@ fn run_bytes<L: Ledger>(
     ensures { Meets (RunsFile (limits_view limits) words.now bytes.now) steps.old.taken steps.new.taken result }
 {
     let accepted = accept(alloc, bytes)?;
-    let prepared = prepare(alloc, bytes, &accepted, words)?;
+    let prepared = prepare(alloc, &accepted.agreed, words)?;
     run_prepared(alloc, &accepted.agreed, &prepared, limits, steps)
 }
 

@@ -5,6 +5,7 @@ ghost use Rattle.ribbit_tool.specs.Answer.{refusal};
 ghost use Rattle.ribbit_tool.specs.Answers.{Owes};
 ghost use Rattle.ribbit_tool.specs.Command.{command_of};
 ghost use Rattle.ribbit_tool.specs.Headline.{Headline};
+ghost use Rattle.ribbit_tool.specs.Headlines.{CountHeadline, GenerateHeadline, ImageHeadline};
 ghost use Rattle.ribbit_tool.specs.Lines.{usage_line};
 ghost use Rattle.ribbit_tool.specs.Promise.{Performs, IsRight};
 ghost use Rattle.ribbit_tool.specs.View.{command_view, due_of, Meets};
@@ -13,8 +14,11 @@ ghost use Rattle.ribbit_tool.specs.declared.status.Status.TheVariants as status;
 use crate::check::check_file;
 use crate::command::{Command, CommandFault, parse};
 use crate::compile::compile_file;
+use crate::count::count_file;
 use crate::delivery::{print, refuse};
 use crate::exec::run_code_file;
+use crate::generate::{count_generated, generate_file};
+use crate::image::image_file;
 use crate::layout::layout_file;
 use crate::line::{self, NO_MEMORY};
 use crate::refusal::{Refusal, Refused};
@@ -47,6 +51,20 @@ fn obey<S: Source, L: Ledger>(
             limits,
             values,
         } => run_file(alloc, src, file, *limits, values, steps),
+        Command::Image {
+            file,
+            limits,
+            values,
+        } => image_file(alloc, src, file, *limits, values, steps),
+        Command::Count {
+            file,
+            limits,
+            values,
+        } => count_file(alloc, src, file, *limits, values, steps),
+        Command::Gen { functions } => generate_file(alloc, *functions),
+        Command::GenRun { functions, limits } => {
+            count_generated(alloc, *functions, *limits, steps)
+        }
         Command::Exec {
             code,
             function,
@@ -129,6 +147,21 @@ pub fn ribbit<S: Source, O: Sink, E: Sink, L: Ledger>(
         (record { before = steps.old.taken; now = steps.new.taken }) result }
     // The headline, for accepted files: the value of the source's meaning, or the limit that it passes.
     ensures headline { Headline words.now
+        (record { tells = S.tells src.old; held = S.held src.old; before = S.faults src.old; now = S.faults src.new })
+        (record { tells = O.tells out.old; old = O.taken out.old; new = O.taken out.new; before = O.faults out.old; now = O.faults out.new })
+        (record { tells = E.tells err.old; old = E.taken err.old; new = E.taken err.new; before = E.faults err.old; now = E.faults err.new }) result }
+    // The image of that value, with just the blocks that are asked for.
+    ensures image { ImageHeadline words.now
+        (record { tells = S.tells src.old; held = S.held src.old; before = S.faults src.old; now = S.faults src.new })
+        (record { tells = O.tells out.old; old = O.taken out.old; new = O.taken out.new; before = O.faults out.old; now = O.faults out.new })
+        (record { tells = E.tells err.old; old = E.taken err.old; new = E.taken err.new; before = E.faults err.old; now = E.faults err.new }) result }
+    // That value, and what the run did.
+    ensures count { CountHeadline words.now
+        (record { tells = S.tells src.old; held = S.held src.old; before = S.faults src.old; now = S.faults src.new })
+        (record { tells = O.tells out.old; old = O.taken out.old; new = O.taken out.new; before = O.faults out.old; now = O.faults out.new })
+        (record { tells = E.tells err.old; old = E.taken err.old; new = E.taken err.new; before = E.faults err.old; now = E.faults err.new }) result }
+    // The generated file, and what its run did.
+    ensures generate { GenerateHeadline words.now
         (record { tells = S.tells src.old; held = S.held src.old; before = S.faults src.old; now = S.faults src.new })
         (record { tells = O.tells out.old; old = O.taken out.old; new = O.taken out.new; before = O.faults out.old; now = O.faults out.new })
         (record { tells = E.tells err.old; old = E.taken err.old; new = E.taken err.new; before = E.faults err.old; now = E.faults err.new }) result }

@@ -1,4 +1,4 @@
-use Rattle.std.proofs.Common.{List, ℕ, length, ap, sym, subst, ◌∙◌, ◌<◌, arith, Some, Ok}
+use Rattle.std.proofs.Common.{length, ap, sym, ◌∙◌, ◌<◌, arith, Some}
 use Rattle.std.proofs.lemmas.Option.{slice_get-get_or}
 use Rattle.ribbit_tool.proofs.ArgumentLaws.{argument_read}
 use Rattle.ribbit_tool.proofs.arguments.read_each.Goals as goal

@@ -1,8 +1,8 @@
-use Rattle.std.proofs.Common.{List, ℕ, length, refl, ap}
+use Rattle.std.proofs.Common.{List, ℕ, refl, ap}
 use Rattle.std.proofs.lemmas.Result.{err_from_is_err_and}
 use Rattle.ribbit_tool.specs.Accepting.{IsRefused, turned_down, accepted}
 use Rattle.ribbit_tool.specs.Answer.{printed}
-use Rattle.ribbit_tool.specs.Compiling.{CompilesFile, IsUncompiled, uncompiled, compiled}
+use Rattle.ribbit_tool.specs.Compiling.{CompilesFile}
 use Rattle.ribbit_tool.proofs.Accepted.{is_accepted}
 use Rattle.ribbit_tool.proofs.Meeting.{refusal_met}
 use Rattle.ribbit_tool.proofs.compile.compile_bytes.Goals as goal
@@ -12,18 +12,15 @@ returns-in_err-accepted-clause-refused c =
     let p = err_from_is_err_and c.from_residual.result c.from_residual.ensures.1 in
     rw (p.1, p.2) (refusal_met (λ due. IsRefused c.args.bytes.now due) (λ due. CompilesFile c.args.bytes.now due) (λ due h. turned_down h) _ c.in_err-accepted.ensures.refused)
 
-pub returns-in_err-code-clause-refused : goal.returns-in_err-code-clause-refused
-returns-in_err-code-clause-refused c =
-    let a = c.in_ok-accepted.accepted in
-    let known = is_accepted c.args.bytes.now a c.in_ok-accepted.ensures.accepted in
-    let p = err_from_is_err_and c.from_residual-in_err-code.result c.from_residual-in_err-code.ensures.1 in
-    rw (p.1, p.2) (refusal_met (λ due. IsUncompiled a.agreed.covered.program a.placed.items (length c.args.bytes.now) due) (λ due. CompilesFile c.args.bytes.now due)
-    (λ due h. accepted a.agreed.covered.program known (uncompiled h)) _ c.in_err-code.ensures.refused)
-
 pub returns-clause-text : goal.returns-clause-text
 returns-clause-text c =
     let a = c.in_ok-accepted.accepted in
     let acceptance = c.in_ok-accepted.ensures.accepted in
     accepted a.agreed.covered.program (is_accepted c.args.bytes.now a acceptance)
-    (compiled a.agreed (record { program = refl; layouts = acceptance.agreed.0 }) c.in_ok-code.code c.in_ok-code.ensures.compiled
-    (ap (λ (text : List ℕ). printed text 0) c.in_ok-text.ensures.text))
+    (record {
+      agreed = a.agreed;
+      laid = record { program = refl; layouts = acceptance.agreed.0 };
+      code = c.in_ok-code.code;
+      compiled = c.in_ok-code.ensures;
+      shown = ap (λ (text : List ℕ). printed text 0) c.in_ok-text.ensures.text;
+    })

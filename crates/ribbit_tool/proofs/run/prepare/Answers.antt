@@ -1,42 +1,25 @@
-use Rattle.std.proofs.Common.{List, ℕ, length, ap, subst, ◌∙◌}
+use Rattle.std.proofs.Common.{ap, subst, ◌∙◌}
 use Rattle.std.proofs.lemmas.Result.{err_from_is_err_and}
 use Rattle.rb_core.specs.declared.program.Program.{Program}
-use Rattle.rb_fetch.specs.Plain.{ArePlain}
-use Rattle.rb_layout.specs.declared.layout.Layout.{Layout}
 use Rattle.ribbit_tool.specs.Arguments.{IsMisfit, Spell}
-use Rattle.ribbit_tool.specs.Compiling.{IsUncompiled}
-use Rattle.ribbit_tool.specs.Run.{IsUnprepared, uncompiled, misfit}
-use Rattle.ribbit_tool.specs.View.{IsRefusal}
 use Rattle.ribbit_tool.proofs.ArgumentLaws.{spelled_typed}
 use Rattle.ribbit_tool.proofs.Meeting.{refusal_met}
 use Rattle.ribbit_tool.proofs.run.prepare.Goals as goal
 
-pub returns-in_err-code-clause-refused : goal.returns-in_err-code-clause-refused
-returns-in_err-code-clause-refused c =
-    let a = c.args.accepted.now in
-    let program = a.agreed.covered.program in
-    let size = length c.args.bytes.now in
-    let p = err_from_is_err_and c.from_residual.result c.from_residual.ensures.1 in
-    rw (p.1, p.2) (refusal_met (λ due. IsUncompiled program a.placed.items size due) (λ due. IsUnprepared program a.placed.items size c.args.words.now due)
-    (λ due h. uncompiled h) _ c.in_err-code.ensures.refused)
-
 pub returns-in_err-args-clause-refused : goal.returns-in_err-args-clause-refused
 returns-in_err-args-clause-refused c =
-    let a = c.args.accepted.now in
-    let program = a.agreed.covered.program in
-    let size = length c.args.bytes.now in
+    let program = c.args.agreed.now.covered.program in
     let same = c.program.ensures.same ∙ ap (λ x. x.program) c.covered.ensures.same in
-    let plain = subst (λ (ls : List Layout). ArePlain ls) c.requires.agreed.0 c.in_ok-code.ensures.compiled.plain in
     let p = err_from_is_err_and c.from_residual-in_err-args.result c.from_residual-in_err-args.ensures.1 in
-    rw (p.1, p.2) (refusal_met (λ due. IsMisfit program c.args.words.now due) (λ due. IsUnprepared program a.placed.items size c.args.words.now due)
-    (λ due h. misfit plain h) _ (rw same at c.in_err-args.ensures.refused))
+    rw (p.1, p.2) (refusal_met (λ due. IsMisfit program c.args.words.now due) (λ due. IsMisfit program c.args.words.now due) (λ due h. h) _
+    (rw same at c.in_err-args.ensures.refused))
 
 pub returns-clause-prepared : goal.returns-clause-prepared
 returns-clause-prepared c =
     let same = c.program.ensures.same ∙ ap (λ x. x.program) c.covered.ensures.same in
     record {
-      compiled = c.in_ok-code.ensures.compiled;
-      typed = spelled_typed c.args.accepted.now.agreed.covered.program c.args.words.now c.in_ok-args.args
+      compiled = c.in_ok-code.ensures;
+      typed = spelled_typed c.args.agreed.now.covered.program c.args.words.now c.in_ok-args.args
           (subst (λ (x : Program). Spell x c.args.words.now c.in_ok-args.args) same c.in_ok-args.ensures.read);
     }
 

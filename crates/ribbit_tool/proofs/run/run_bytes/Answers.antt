@@ -1,37 +1,41 @@
-use Rattle.std.proofs.Common.{◌≡◌, length, refl, subst}
+use Rattle.std.proofs.Common.{List}
 use Rattle.std.proofs.lemmas.Result.{err_from_is_err_and}
-use Rattle.ribbit_tool.specs.Accepting.{IsRefused, turned_down, accepted}
-use Rattle.ribbit_tool.specs.Run.{IsAnswered, IsUnprepared, unprepared, ran, RunsFile}
+use Rattle.rb_core.specs.declared.value.Value.{Value}
+use Rattle.rb_layout.specs.declared.agreed.LaidOut.{LaidOut}
+use Rattle.rb_target.specs.declared.code.CodeFun.{CodeFun}
+use Rattle.ribbit_tool.specs.Accepting.{IsRefused}
+use Rattle.ribbit_tool.specs.Answer.{Due}
+use Rattle.ribbit_tool.specs.Arguments.{IsMisfit}
+use Rattle.ribbit_tool.specs.Run.{IsAnswered, RunsFile}
 use Rattle.ribbit_tool.specs.View.{limits_view}
-use Rattle.ribbit_tool.proofs.Accepted.{is_accepted}
 use Rattle.ribbit_tool.proofs.Meeting.{met, refused_met}
+use Rattle.ribbit_tool.proofs.Preparing.{refused_due, misfit_due, prepared_due}
 use Rattle.ribbit_tool.proofs.run.run_bytes.Goals as goal
 
 pub returns-in_err-accepted : goal.returns-in_err-accepted
 returns-in_err-accepted g c =
     let limits = limits_view c.args.limits in
+    let Then : LaidOut → List CodeFun → List Value → Due → Type 0 = λ agreed code args d. IsAnswered agreed code args limits d in
     let p = err_from_is_err_and c.from_residual.result c.from_residual.ensures.1 in
-    rw (p.1, p.2) (refused_met (λ due. IsRefused c.args.bytes.now due) (λ due. RunsFile limits c.args.words.now c.args.bytes.now due) (λ due h. turned_down h)
-    c.args.steps.now.taken _ c.in_err-accepted.ensures.refused)
+    rw (p.1, p.2) (refused_met (λ due. IsRefused c.args.bytes.now due) (λ due. RunsFile limits c.args.words.now c.args.bytes.now due)
+    (refused_due c.args.words.now c.args.bytes.now Then) c.args.steps.now.taken _ c.in_err-accepted.ensures.refused)
 
 pub returns-in_err-prepared : goal.returns-in_err-prepared
 returns-in_err-prepared g c =
     let limits = limits_view c.args.limits in
+    let Then : LaidOut → List CodeFun → List Value → Due → Type 0 = λ agreed code args d. IsAnswered agreed code args limits d in
     let a = c.in_ok-accepted.accepted in
-    let known = is_accepted c.args.bytes.now a c.in_ok-accepted.ensures.accepted in
     let p = err_from_is_err_and c.from_residual-in_err-prepared.result c.from_residual-in_err-prepared.ensures.1 in
-    rw (p.1, p.2) (refused_met (λ due. IsUnprepared a.agreed.covered.program a.placed.items (length c.args.bytes.now) c.args.words.now due)
-    (λ due. RunsFile limits c.args.words.now c.args.bytes.now due) (λ due h. accepted a.agreed.covered.program known (unprepared h))
-    c.args.steps.now.taken _ c.in_err-prepared.ensures.refused)
+    rw (p.1, p.2) (refused_met (λ due. IsMisfit a.agreed.covered.program c.args.words.now due)
+    (λ due. RunsFile limits c.args.words.now c.args.bytes.now due)
+    (misfit_due c.args.words.now c.args.bytes.now Then a c.in_ok-accepted.ensures.accepted) c.args.steps.now.taken _ c.in_err-prepared.ensures.refused)
 
 pub returns : goal.returns
 returns g c =
     let limits = limits_view c.args.limits in
+    let Then : LaidOut → List CodeFun → List Value → Due → Type 0 = λ agreed code args d. IsAnswered agreed code args limits d in
     let a = c.in_ok-accepted.accepted in
-    let acceptance = c.in_ok-accepted.ensures.accepted in
     let r = c.in_ok-prepared.prepared in
-    let known = is_accepted c.args.bytes.now a acceptance in
     met (λ due. IsAnswered a.agreed r.code r.args limits due) (λ due. RunsFile limits c.args.words.now c.args.bytes.now due)
-    (λ due h. accepted a.agreed.covered.program known
-    (ran a.agreed (record { program = refl; layouts = acceptance.agreed.0 }) r.code r.args c.in_ok-prepared.ensures.prepared c.in_ok-prepared.ensures.spelled h))
+    (prepared_due c.args.words.now c.args.bytes.now Then a c.in_ok-accepted.ensures.accepted r.code r.args c.in_ok-prepared.ensures.prepared c.in_ok-prepared.ensures.spelled)
     c.args.steps.now.taken c.run_prepared.new.steps.taken c.run_prepared.result c.run_prepared.ensures

@@ -1,8 +1,11 @@
 use Rattle.std.proofs.Common.{ℕ, List, sym, subst, Ok}
 use Rattle.ribbit_tool.specs.Answers.{Owes}
-use Rattle.ribbit_tool.specs.Command.{exec}
+use Rattle.ribbit_tool.specs.Command.{gen, genrun, exec}
+use Rattle.ribbit_tool.specs.Generate.{Generates, CountsGenerated}
 use Rattle.ribbit_tool.specs.View.{command_view, limits_view, Meets}
 use Rattle.ribbit_tool.specs.declared.command.Command.{Command}
+use Rattle.ribbit_tool.proofs.Meeting.{met}
+use Rattle.ribbit_tool.proofs.Owing.{owes_as}
 use Rattle.ribbit_tool.proofs.top.obey.Goals as goal
 
 pub returns-in-Check-clause-owed : goal.returns-in-Check-clause-owed
@@ -28,6 +31,40 @@ returns-in-Run-clause-owed g c =
     subst (λ (command : Command). Meets (Owes (Ok (command_view command)) (g.S.Source.tells c.args.src.now) (g.S.Source.held c.args.src.now)
     (g.S.Source.faults c.args.src.now) (g.S.Source.faults c.run_file.new.src)) c.args.steps.now.taken c.run_file.new.steps.taken c.run_file.result)
     (sym c.in-Run.is) c.run_file.ensures.owed
+
+pub returns-in-Image-clause-owed : goal.returns-in-Image-clause-owed
+returns-in-Image-clause-owed g c =
+    subst (λ (command : Command). Meets (Owes (Ok (command_view command)) (g.S.Source.tells c.args.src.now) (g.S.Source.held c.args.src.now)
+    (g.S.Source.faults c.args.src.now) (g.S.Source.faults c.image_file.new.src)) c.args.steps.now.taken c.image_file.new.steps.taken c.image_file.result)
+    (sym c.in-Image.is) c.image_file.ensures.owed
+
+pub returns-in-Count-clause-owed : goal.returns-in-Count-clause-owed
+returns-in-Count-clause-owed g c =
+    subst (λ (command : Command). Meets (Owes (Ok (command_view command)) (g.S.Source.tells c.args.src.now) (g.S.Source.held c.args.src.now)
+    (g.S.Source.faults c.args.src.now) (g.S.Source.faults c.count_file.new.src)) c.args.steps.now.taken c.count_file.new.steps.taken c.count_file.result)
+    (sym c.in-Count.is) c.count_file.ensures.owed
+
+pub returns-in-Gen-clause-owed : goal.returns-in-Gen-clause-owed
+returns-in-Gen-clause-owed g c =
+    let faults = g.S.Source.faults c.args.src.now in
+    let n = c.in-Gen.functions in
+    let steps = c.args.steps.now.taken in
+    subst (λ (command : Command). Meets (Owes (Ok (command_view command)) (g.S.Source.tells c.args.src.now) (g.S.Source.held c.args.src.now) faults faults)
+    steps steps c.generate_file.result) (sym c.in-Gen.is)
+    (met (λ due. Generates n.count due) (λ due. Owes (Ok (gen n.count)) (g.S.Source.tells c.args.src.now) (g.S.Source.held c.args.src.now) faults faults due)
+    (λ due h. owes_as (gen n.count) (g.S.Source.held c.args.src.now) faults faults (g.S.Source.tells c.args.src.now) due h) steps steps c.generate_file.result (c.generate_file.ensures steps))
+
+pub returns-in-GenRun-clause-owed : goal.returns-in-GenRun-clause-owed
+returns-in-GenRun-clause-owed g c =
+    let faults = g.S.Source.faults c.args.src.now in
+    let n = c.in-GenRun.functions in
+    let limits = limits_view c.in-GenRun.limits in
+    let steps = c.args.steps.now.taken in
+    subst (λ (command : Command). Meets (Owes (Ok (command_view command)) (g.S.Source.tells c.args.src.now) (g.S.Source.held c.args.src.now) faults faults)
+    steps c.count_generated.new.steps.taken c.count_generated.result) (sym c.in-GenRun.is)
+    (met (λ due. CountsGenerated n.count limits due) (λ due. Owes (Ok (genrun n.count limits)) (g.S.Source.tells c.args.src.now) (g.S.Source.held c.args.src.now) faults faults due)
+    (λ due h. owes_as (genrun n.count limits) (g.S.Source.held c.args.src.now) faults faults (g.S.Source.tells c.args.src.now) due h)
+    steps c.count_generated.new.steps.taken c.count_generated.result c.count_generated.ensures)
 
 pub returns-in-Exec-clause-owed : goal.returns-in-Exec-clause-owed
 returns-in-Exec-clause-owed g c =

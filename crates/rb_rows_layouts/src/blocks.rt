@@ -1,0 +1,118 @@
+//! Blocks of words and of numbers that are none, and pointers that are too short. Worked out by hand from the
+//! rules.
+
+use crate::call::{expect_agreed, expect_refused, repeated};
+use std::test::Fail;
+
+/// File, and what is refused.
+const REFUSED: [(&str, &str); 12] = [
+    (
+        "type A = A(u12); layout A <64> = A(_) : { word 64 { [0:64] -> 8 { word 12 { [0:12] .0 } } } };",
+        "A: A4: leaf A(_): block word of 12 bits",
+    ),
+    (
+        "type A = A(u1); layout A <64> = A(_) : { word 64 { [0:64] -> 8 { inline .0 } } };",
+        "A: A4: leaf A(_): block word of 1 bits",
+    ),
+    (
+        "type A = A(u8); layout A <64> = A(_) : { word 64 { [0:64] -> 8 { word 8 { [0:8] .0 }, word 128 { } } } };",
+        "A: A4: leaf A(_): block word of 128 bits",
+    ),
+    (
+        "type A = A; layout A <64> = A : { word 64 { [0:64] -> 8 { } } };",
+        "A: A4: leaf A: block of 0 words",
+    ),
+    (
+        "type A = A(u8); layout A <64> = A(_) : { word 64 { [0:40] -> 8 { inline .5 }, [40:8] .0 } };",
+        "A: A4: leaf A(_): block of 0 words",
+    ),
+    (
+        "type A = A; layout A <64> = A : { word 64 { [0:64] -> 3 { word 8 { } } } };",
+        "A: A4: leaf A: alignment 3",
+    ),
+    (
+        "type A = A; layout A <64> = A : { word 64 { [0:64] -> 0 { word 8 { } } } };",
+        "A: A4: leaf A: alignment 0",
+    ),
+    (
+        "type A = A(u8); layout A <64> = A(_) : { word 64 { [0:64] -> 8 { word 8 { [0:8] .0 }, word 64 { [0:64] -> 128 { word 8 { } } } } } };",
+        "A: A4: leaf A(_): alignment 128",
+    ),
+    (
+        "type Color = Red | Black; layout Color <1> = split 0[0:1] { 0 => Red : { word 1 { [0:1] = 0 } } 1 => Black : { word 1 { [0:1] = 1 } } }; type Tree = Empty | Node(Color, Tree, u32, Tree); layout Tree <32> = split 0[0:32] { 0 => Empty : { word 32 { [0:32] = 0 } } else => Node(_, _, _, _) : { word 32 { [0:1] .0, [2:21] -> 4 { word 32 { [0:32] .2 }, inline .1, inline .3 } } } };",
+        "Tree: A4: leaf Node(_, _, _, _): pointer of 23 bits",
+    ),
+    (
+        "type A = A; layout A <64> = A : { word 64 { [0:23] -> 1 { word 8 { } } } };",
+        "A: A4: leaf A: pointer of 23 bits",
+    ),
+    (
+        "type A = A; layout A <64> = A : { word 64 { [0:17] -> 64 { word 8 { } } } };",
+        "A: A4: leaf A: pointer of 23 bits",
+    ),
+    (
+        "type A = A; layout A <64> = A : { word 64 { [0:64] -> 8 { word 8 { [0:8] -> 8 { word 8 { } } } } } };",
+        "A: A4: leaf A: pointer of 11 bits",
+    ),
+];
+
+#[test]
+fn blocks_and_pointers(rt: HostRuntime) -> Result<(), Fail> {
+    for (file, wanted) in REFUSED {
+        expect_refused(&rt, rt.alloc(), file, wanted)?;
+    }
+    Ok(())
+}
+
+/// What stands before, a part, how often it stands, what stands behind, and what is refused.
+const LONG: [(&str, &str, usize, &str, &str); 4] = [
+    (
+        "type A = A; layout A <64> = A : { word 64 { [0:64] -> 8 { word 8 { }",
+        ", word 8 { }",
+        64,
+        " } } };",
+        "A: A4: leaf A: block of 65 words",
+    ),
+    (
+        "type A = A; layout A <64> = A : { word 64 { [0:64] -> 8 { word 64 { [0:64] -> 1 { word 8 { } } }",
+        ", word 64 { [0:64] -> 1 { word 8 { } } }",
+        63,
+        " } } };",
+        "A: A4: leaf A: 65 blocks",
+    ),
+    (
+        "type A = A; layout A <64, 64> = A : { word 64 { [0:32] -> 1 { word 8 { } } }, word 64 { [0:64] -> 8 { word 64 { [0:64] -> 1 { word 8 { } } }",
+        ", word 64 { [0:32] -> 1 { word 8 { } }, [32:32] -> 1 { word 8 { } } }",
+        63,
+        " } } };",
+        "A: A4: leaf A: 129 blocks",
+    ),
+    (
+        "type A = A; layout A <64> = A : { word 64 { [0:32] -> 1 { word 8 { } }, [32:32] -> 8 { word 64 { [0:64] -> 1 { word 8 { } } }",
+        ", word 64 { [0:64] -> 1 { word 8 { } } }",
+        63,
+        " } } };",
+        "A: A4: leaf A: 66 blocks",
+    ),
+];
+
+#[test]
+fn many_words_and_blocks(rt: HostRuntime) -> Result<(), Fail> {
+    let alloc = rt.alloc();
+    for (before, part, times, behind, wanted) in LONG {
+        let file = repeated(alloc, before, part, times, behind)?;
+        expect_refused(&rt, alloc, file.as_str(), wanted)?;
+    }
+    Ok(())
+}
+
+/// One word less, and one block less.
+#[test]
+fn as_many_words_and_blocks_as_there_may_be(rt: HostRuntime) -> Result<(), Fail> {
+    let alloc = rt.alloc();
+    for (before, part, times, behind, _) in [LONG[0], LONG[1]] {
+        let file = repeated(alloc, before, part, times - 1, behind)?;
+        expect_agreed(&rt, alloc, file.as_str())?;
+    }
+    Ok(())
+}

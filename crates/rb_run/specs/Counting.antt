@@ -1,0 +1,23 @@
+-- What a run that returns did.
+use Rattle.std.specs.Prelude.{◌≡◌, ℕ, ◌-◌, length}
+use Rattle.rb_core.specs.declared.outcome.SourceEnd.{SourceEnd}
+use Rattle.rb_core.specs.declared.outcome.SourceEnd.TheVariants as source
+use Rattle.rb_rel.specs.Placing.{Laid, Fits, Over}
+use Rattle.rb_target.specs.declared.outcome.End.{End}
+use Rattle.rb_target.specs.declared.outcome.End.TheVariants.{Returned, Spent, Full, Trapped}
+use Rattle.rb_run.specs.declared.count.Tally.{Tally}
+
+-- how many calls an end leaves
+abbrev pub left_at : End → ℕ
+left_at (Returned words left) = left
+left_at Spent = 0
+left_at (Full full) = 0
+left_at (Trapped trap) = 0
+
+-- Where the blocks fit and the source returns: how many of the calls were made, how many blocks there are,
+-- and the bytes up to the next address. Of another end nothing is said.
+abbrev pub IsTally : Laid → SourceEnd → ℕ → Tally → Type 0
+IsTally (Over full) end calls tally = Unit {0}
+IsTally (Fits blocks next) source.Spent calls tally = Unit {0}
+IsTally (Fits blocks next) (source.Done v left) calls tally =
+    (tally.calls ≡ calls - left) × (tally.blocks ≡ length blocks) × (tally.bytes ≡ next - 64)

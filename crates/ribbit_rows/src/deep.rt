@@ -1,0 +1,90 @@
+//! Files whose layouts take subvalues apart: the colour of a node is told by its leaf, and stands in no part.
+//! The answers were given by the language's pages.
+
+use crate::call::expect_answer;
+use crate::counts::expect_counts;
+use std::test::Fail;
+
+/// The colour of a tree's root, which is made where the clause names it.
+const COLOUR: &str =
+    "type Color = Red | Black;layout Color <1> = split 0[0:1] { 0 => Red : { word 1 { [0:1] = 0 } } 1 => Black : { word 1 { [0:1] = 1 } } };type Tree = Empty | Node(Color, Tree, u32, Tree);layout Tree <32> = split 0[0:32] { 0 => Empty : { word 32 { [0:32] = 0 } } else => split 0[0:1] { 0 => Node(Red, _, _, _) : { word 32 { [0:1] = 0, [2:22] -> 4 { word 32 { [0:32] .2 }, inline .1, inline .3 } } } 1 => Node(Black, _, _, _) : { word 32 { [0:1] = 1, [2:22] -> 4 { word 32 { [0:32] .2 }, inline .1, inline .3 } } } } };fun main(t: Tree): Color = match t { Empty => Black, Node(c, l, x, r) => c };";
+
+/// Clauses by colour.
+const BY_COLOUR: &str =
+    "type Color = Red | Black;layout Color <1> = split 0[0:1] { 0 => Red : { word 1 { [0:1] = 0 } } 1 => Black : { word 1 { [0:1] = 1 } } };type Tree = Empty | Node(Color, Tree, u32, Tree);layout Tree <32> = split 0[0:32] { 0 => Empty : { word 32 { [0:32] = 0 } } else => split 0[0:1] { 0 => Node(Red, _, _, _) : { word 32 { [0:1] = 0, [2:22] -> 4 { word 32 { [0:32] .2 }, inline .1, inline .3 } } } 1 => Node(Black, _, _, _) : { word 32 { [0:1] = 1, [2:22] -> 4 { word 32 { [0:32] .2 }, inline .1, inline .3 } } } } };fun main(t: Tree): u32 = match t { Node(Red, _, x, _) => x, Empty => 1, Node(Black, _, _, _) => 2 };";
+
+/// A tree as it is.
+const KEPT: &str =
+    "type Color = Red | Black;layout Color <1> = split 0[0:1] { 0 => Red : { word 1 { [0:1] = 0 } } 1 => Black : { word 1 { [0:1] = 1 } } };type Tree = Empty | Node(Color, Tree, u32, Tree);layout Tree <32> = split 0[0:32] { 0 => Empty : { word 32 { [0:32] = 0 } } else => split 0[0:1] { 0 => Node(Red, _, _, _) : { word 32 { [0:1] = 0, [2:22] -> 4 { word 32 { [0:32] .2 }, inline .1, inline .3 } } } 1 => Node(Black, _, _, _) : { word 32 { [0:1] = 1, [2:22] -> 4 { word 32 { [0:32] .2 }, inline .1, inline .3 } } } } };fun main(t: Tree): Tree = t;";
+
+/// A number is inserted: constructions look at the colour to choose their leaf.
+const INSERTED: &str =
+    "type Color = Red | Black;layout Color <1> = split 0[0:1] { 0 => Red : { word 1 { [0:1] = 0 } } 1 => Black : { word 1 { [0:1] = 1 } } };type Tree = Empty | Node(Color, Tree, u32, Tree);layout Tree <32> = split 0[0:32] { 0 => Empty : { word 32 { [0:32] = 0 } } else => split 0[0:1] { 0 => Node(Red, _, _, _) : { word 32 { [0:1] = 0, [2:22] -> 4 { word 32 { [0:32] .2 }, inline .1, inline .3 } } } 1 => Node(Black, _, _, _) : { word 32 { [0:1] = 1, [2:22] -> 4 { word 32 { [0:32] .2 }, inline .1, inline .3 } } } } };fun insert(t: Tree, x: u32): Tree = match t { Empty => Node(Red, Empty, x, Empty), Node(c, l, y, r) => match lt(x, y) { 1 => Node(c, insert(l, x), y, r), 0 => match lt(y, x) { 1 => Node(c, l, y, insert(r, x)), 0 => t } } };fun main(t: Tree, x: u32): Tree = insert(t, x);";
+
+/// A box of a bit, whose word is the bit's; no value of it is made.
+const UNUSED: &str =
+    "type C = R | K; layout C <1> = split 0[0:1] { 0 => R : { word 1 { [0:1] = 0 } } 1 => K : { word 1 { [0:1] = 1 } } }; type D = D(C); layout D <1> = split 0[0:1] { 0 => D(R) : { word 1 { [0:1] = 0 } } 1 => D(K) : { word 1 { [0:1] = 1 } } }; fun main(): u8 = 0;";
+
+/// File, words, answer.
+const ROWS: [(&str, &str, &str); 13] = [
+    (COLOUR, "run E 1 76 Node(Red,Empty,7,Empty)", "0 Red;"),
+    (COLOUR, "run E 1 76 Node(Black,Empty,7,Empty)", "0 Black;"),
+    (COLOUR, "run E 1 64 Empty", "0 Black;"),
+    (BY_COLOUR, "run E 1 76 Node(Red,Empty,7,Empty)", "0 7;"),
+    (BY_COLOUR, "run E 1 76 Node(Black,Empty,7,Empty)", "0 2;"),
+    (BY_COLOUR, "run E 1 64 Empty", "0 1;"),
+    (
+        KEPT,
+        "image E 1 76 Node(Red,Empty,7,Empty)",
+        "0 root 0x40;block 64 12 070000000000000000000000;",
+    ),
+    (
+        INSERTED,
+        "run E 3 100 Node(Black,Empty,7,Empty) 9",
+        "0 Node(Black, Empty, 7, Node(Red, Empty, 9, Empty));",
+    ),
+    (
+        INSERTED,
+        "image E 3 100 Node(Black,Empty,7,Empty) 9",
+        "0 root 0x59;block 64 12 070000000000000000000000;block 76 12 090000000000000000000000;block 88 12 07000000000000004c000000;",
+    ),
+    (
+        INSERTED,
+        "run E 3 99 Node(Black,Empty,7,Empty) 9",
+        "5 ribbit: region full: next 88, size 12, align 4, limit 99;",
+    ),
+    (
+        INSERTED,
+        "run E 2 100 Node(Black,Empty,7,Empty) 9",
+        "4 ribbit: calls spent: 2;",
+    ),
+    (UNUSED, "run E 1 64", "0 0;"),
+    (
+        UNUSED,
+        "run E 1 64 x",
+        "10 ribbit: wanted 0 arguments, found 1;",
+    ),
+];
+
+#[test]
+fn leaves_that_take_subvalues_apart(rt: HostRuntime) -> Result<(), Fail> {
+    let alloc = rt.alloc();
+    for (file, words, wanted) in ROWS {
+        expect_answer(&rt, alloc, words, file.as_bytes(), wanted)?;
+    }
+    Ok(())
+}
+
+/// Two matches on a tree may take 4 switches each, two on a comparison 1 each, and two constructions 1 each.
+#[test]
+fn counts_over_them(rt: HostRuntime) -> Result<(), Fail> {
+    expect_counts(
+        &rt,
+        rt.alloc(),
+        "count E 3 100 Node(Black,Empty,7,Empty) 9",
+        INSERTED.as_bytes(),
+        "value Node(Black, Empty, 7, Node(Red, Empty, 9, Empty));calls 3;",
+        12,
+        "blocks 3;bytes 36;",
+    )
+}

@@ -1,0 +1,130 @@
+//! Images of values: the words and the blocks in which they are represented. The answers were given by
+//! the language's pages, and by a program apart from this one that was written from them alone.
+
+use crate::call::expect_answer;
+use crate::layouts::{BRANCH, INSERT, LIST, PAIR, SHAPE, TWIN};
+use std::test::Fail;
+
+/// The second of two lists.
+const LISTS: &str =
+    "type List = Nil | Cons(u64, List); layout List <64> = split 0[0:1] { 1 => Nil : { word 64 { [0:1] = 1 } } 0 => Cons(_, _) : { word 64 { [0:1] = 0, [3:61] -> 8 { word 64 { [0:64] .0 }, inline .1 } } } };fun main(l: List, m: List): List = m;";
+
+/// The tree of [`INSERT`], as it is.
+const TREE: &str =
+    "type Color = Red | Black;layout Color <1> = split 0[0:1] { 0 => Red : { word 1 { [0:1] = 0 } } 1 => Black : { word 1 { [0:1] = 1 } } };type Tree = Empty | Node(Color, Tree, u32, Tree);layout Tree <32> = split 0[0:32] { 0 => Empty : { word 32 { [0:32] = 0 } } else => Node(_, _, _, _) : { word 32 { [0:1] .0, [2:22] -> 4 { word 32 { [0:32] .2 }, inline .1, inline .3 } } } };fun main(t: Tree): Tree = t;";
+
+/// The shape of [`SHAPE`], as it is.
+const SAME: &str =
+    "type Shape = Dot(u8) | Box(u32, u32);layout Shape <32> = split 0[0:32] -> 4 @0:8[0:8] { 0 => Dot(_) : { word 32 { [0:32] -> 4 { word 8 { [0:8] = 0 }, word 8 { [0:8] .0 } } } } 1 => Box(_, _) : { word 32 { [0:32] -> 4 { word 8 { [0:8] = 1 }, word 32 { [0:32] .0 }, word 32 { [0:32] .1 } } } } };fun main(s: Shape): Shape = s;";
+
+/// A tree or none, in the word of a tree: a pointer to it is never 1.
+const OPTION: &str =
+    "type Color = Red | Black;layout Color <1> = split 0[0:1] { 0 => Red : { word 1 { [0:1] = 0 } } 1 => Black : { word 1 { [0:1] = 1 } } };type Tree = Empty | Node(Color, Tree, u32, Tree);layout Tree <32> = split 0[0:32] { 0 => Empty : { word 32 { [0:32] = 0 } } else => Node(_, _, _, _) : { word 32 { [0:1] .0, [2:22] -> 4 { word 32 { [0:32] .2 }, inline .1, inline .3 } } } };type Opt = No | Yes(Tree);layout Opt <32> = split 0[0:32] { 1 => No : { word 32 { [0:32] = 1 } } else => Yes(_) : { word 32 { [0:32] .0 } } };fun main(o: Opt): Opt = o;";
+
+/// A pair in a block, with free bits between its numbers.
+const PADDED: &str =
+    "type Pair = Two(u8, u8);layout Pair <64> = Two(_, _) : { word 64 { [0:64] -> 8 { word 16 { [0:8] .0 }, word 32 { [24:8] .1 } } } };fun main(x: u8): Pair = Two(x, x);";
+
+/// Three root words, of which the first holds nothing.
+const WIDE: &str =
+    "type Wide = Wide(u64, u64);layout Wide <8, 64, 64> = Wide(_, _) : { word 8 { }, word 64 { [0:64] .1 }, word 64 { [0:64] .0 } };fun main(x: u64, y: u64): Wide = Wide(x, y);";
+
+/// File, limits and values, answer.
+const ROWS: [(&str, &str, &str); 20] = [
+    (
+        LIST,
+        "1 1024 Cons(1,Cons(2,Nil))",
+        "0 root 0x50;block 64 16 02000000000000000100000000000000;block 80 16 01000000000000004000000000000000;",
+    ),
+    (LIST, "1 64 Nil", "0 root 0x1;"),
+    (LIST, "0 1024 Nil", "4 ribbit: calls spent: 0;"),
+    (
+        LIST,
+        "0 64 Cons(1,Nil)",
+        "5 ribbit: region full: next 64, size 16, align 8, limit 64;",
+    ),
+    (LIST, "1 1024", "10 ribbit: wanted 1 arguments, found 0;"),
+    (
+        LIST,
+        "1 1024 Cons(1)",
+        "10 ribbit: argument 1: no value of List at byte 0;",
+    ),
+    (
+        LISTS,
+        "1 1024 Cons(5,Nil) Cons(5,Nil)",
+        "0 root 0x50;block 64 16 05000000000000000100000000000000;block 80 16 05000000000000000100000000000000;",
+    ),
+    (
+        LISTS,
+        "1 95 Cons(5,Nil) Cons(5,Nil)",
+        "5 ribbit: region full: next 80, size 16, align 8, limit 95;",
+    ),
+    (
+        INSERT,
+        "3 100 Node(Black,Empty,7,Empty) 9",
+        "0 root 0x59;block 64 12 070000000000000000000000;block 76 12 090000000000000000000000;block 88 12 07000000000000004c000000;",
+    ),
+    (
+        INSERT,
+        "3 99 Node(Black,Empty,7,Empty) 9",
+        "5 ribbit: region full: next 88, size 12, align 4, limit 99;",
+    ),
+    (
+        TREE,
+        "1 76 Node(Black,Empty,7,Empty)",
+        "0 root 0x41;block 64 12 070000000000000000000000;",
+    ),
+    (BRANCH, "1 64 Branch(0,1,2,4)", "0 root 0x208463;"),
+    (
+        SHAPE,
+        "1 1024 Box(1,2)",
+        "0 root 0x3;block 64 9 010100000002000000;",
+    ),
+    (
+        SAME,
+        "1 1024 Box(1,2)",
+        "0 root 0x10;block 64 9 010100000002000000;",
+    ),
+    (
+        PAIR,
+        "1 1024 Two(5,6)",
+        "0 root 0x9;block 64 8 0600000000000000;block 72 16 05000000000000000800000000000000;",
+    ),
+    (
+        OPTION,
+        "1 1024 Yes(Node(Black,Empty,7,Empty))",
+        "0 root 0x41;block 64 12 070000000000000000000000;",
+    ),
+    (OPTION, "1 64 No", "0 root 0x1;"),
+    (OPTION, "1 64 Yes(Empty)", "0 root 0x0;"),
+    (PADDED, "1 80 255", "0 root 0x8;block 64 6 ff00000000ff;"),
+    (
+        WIDE,
+        "1 64 18446744073709551615 4096",
+        "0 root 0x0 0x1000 0xffffffffffffffff;",
+    ),
+];
+
+#[test]
+fn images_of_values(rt: HostRuntime) -> Result<(), Fail> {
+    let alloc = rt.alloc();
+    for (file, words, wanted) in ROWS {
+        let words = format!(in alloc; "image E {words}")?;
+        expect_answer(&rt, alloc, words.as_str(), file.as_bytes(), wanted)?;
+    }
+    Ok(())
+}
+
+/// A value of two billion nodes has an image of few lines.
+#[test]
+fn an_image_of_a_large_value(rt: HostRuntime) -> Result<(), Fail> {
+    let wanted =
+        "0 root 0x60;block 64 16 01000000000000000100000000000000;block 80 16 40000000000000004000000000000000;block 96 16 50000000000000005000000000000000;";
+    expect_answer(
+        &rt,
+        rt.alloc(),
+        "image E 40 1024 3",
+        TWIN.as_bytes(),
+        wanted,
+    )
+}

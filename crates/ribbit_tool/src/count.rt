@@ -1,0 +1,143 @@
+//! The command `count`: the value of a run, and what the run did.
+
+ghost use Rattle.std.specs.Prelude.{◌≡◌, ◌≤◌, ◌+◌, ◌++◌, ℕ, length, IfOk, OnOk, Ok};
+ghost use Rattle.rb_core.specs.declared.outcome.SourceEnd.{SourceEnd};
+ghost use Rattle.rb_rel.specs.Answers.{answer_at};
+ghost use Rattle.rb_rel.specs.Placing.{Laid};
+ghost use Rattle.rb_run.specs.Answering.{meant_by};
+ghost use Rattle.rb_run.specs.Counting.{IsTally};
+ghost use Rattle.ribbit_tool.specs.Answers.{Owes};
+ghost use Rattle.ribbit_tool.specs.Arguments.{node_limit};
+ghost use Rattle.ribbit_tool.specs.Command as spec;
+ghost use Rattle.ribbit_tool.specs.Count.{CountsFile, IsCount, count_due, count_text, number_line};
+ghost use Rattle.ribbit_tool.specs.Run.{IsPrepared};
+ghost use Rattle.ribbit_tool.specs.View.{limits_view, Meets};
+
+use crate::accepting::accept;
+use crate::limits::Limits;
+use crate::line::argument::NODES;
+use crate::line::{self, push};
+use crate::reading::{FILE_LIMIT, read_within};
+use crate::refusal::{Refusal, Refused};
+use crate::run::{Prepared, prepare, show_value};
+use crate::status::Status;
+use rb_core::program::Program;
+use rb_edge::seq::Name;
+use rb_edge::source::Source;
+use rb_edge::steps::{Ledger, Steps};
+use rb_layout::agreed::Agreed;
+use rb_run::answer::{Answer, Bounds};
+use rb_run::count::{Counted, Tally, count_main};
+use rb_values::forest::Forest;
+use std::alloc::{AllocError, Global};
+
+// A line of a count behind its name.
+fn number(alloc: Global, name: &[u8], count: u128) -> Result<Vec<u8>, AllocError>
+    ensures { IfOk result (λ text. text.items ≡ number_line name.now count) }
+{
+    let digits = format!(in alloc; "{count}")?;
+    let mut text = Vec::from_slice(alloc, name)?;
+    push(&mut text, b" ")?;
+    push(&mut text, digits.as_bytes())?;
+    line::end(text)
+}
+
+fn push_line(alloc: Global, text: &mut Vec<u8>, name: &[u8], count: u128) -> Result<(), AllocError>
+    ensures { OnOk result (text.new.items ≡ text.old.items ++ number_line name.now count) }
+{
+    let line = number(alloc, name, count)?;
+    push(text, line.as_slice())
+}
+
+// The text of a value, and what its run did.
+fn counts(
+    alloc: Global,
+    program: &Program,
+    value: &Forest,
+    tally: Tally,
+) -> Result<Vec<u8>, AllocError>
+    ensures { IfOk result (λ text. text.items
+        ≡ count_text program.now value.now tally.calls tally.switches tally.blocks tally.bytes) }
+{
+    let shown = show_value(alloc, program, value)?;
+    let mut text = Vec::from_slice(alloc, b"value ")?;
+    push(&mut text, shown.as_slice())?;
+    push_line(alloc, &mut text, b"calls", u128::from(tally.calls))?;
+    push_line(alloc, &mut text, b"switches", tally.switches)?;
+    push_line(alloc, &mut text, b"blocks", u128::from(tally.blocks))?;
+    push_line(alloc, &mut text, b"bytes", u128::from(tally.bytes))?;
+    Ok(text)
+}
+
+// The text of a run's answer and of its counts, or the refusal in its place.
+fn show(alloc: Global, program: &Program, counted: &Counted, calls: u64) -> Result<Vec<u8>, Refusal>
+    ensures { (laid : Laid) (end : SourceEnd) → meant_by counted.now.answer ≡ answer_at laid end node_limit
+        → IsTally laid end calls counted.now.tally → (before steps : ℕ)
+        → Meets (λ due. due ≡ count_due program.now calls laid end counted.now.tally.switches steps) before (before + steps) result }
+{
+    let (status, line) = match &counted.answer {
+        Answer::Shown(value) => {
+            let text = counts(alloc, program, value, counted.tally)?;
+            return Ok(text);
+        }
+        Answer::Spent => (Status::Spent, line::spent(alloc, calls)?),
+        Answer::Full(full) => (Status::Full, line::full(alloc, *full)?),
+        Answer::TooLarge => (Status::TooLarge, line::large(alloc, NODES)?),
+    };
+    Err(Refusal::Refused(Refused { status, line }))
+}
+
+// Runs `main` over a fresh region, and counts.
+fn count_prepared<L: Ledger>(
+    alloc: Global,
+    agreed: &Agreed,
+    prepared: &Prepared,
+    limits: Limits,
+    steps: &mut Steps<L>,
+) -> Result<Vec<u8>, Refusal>
+    requires { IsPrepared agreed.now prepared.now.code prepared.now.args }
+    ensures { Meets (IsCount agreed.now prepared.now.code prepared.now.args (limits_view limits)) steps.old.taken steps.new.taken result }
+{
+    let bounds = Bounds {
+        calls: limits.calls,
+        region: limits.region,
+        nodes: NODES,
+    };
+    let args = prepared.args.as_slice();
+    let counted = count_main(alloc, agreed, &prepared.code, args, bounds, steps)?;
+    show(alloc, agreed.covered().program(), &counted, limits.calls)
+}
+
+/// The text for a file within the limit.
+pub(crate) fn count_bytes<L: Ledger>(
+    alloc: Global,
+    bytes: &[u8],
+    limits: Limits,
+    words: &[Name],
+    steps: &mut Steps<L>,
+) -> Result<Vec<u8>, Refusal>
+    requires { length bytes.now ≤ 262144 }
+    ensures { Meets (CountsFile (limits_view limits) words.now bytes.now) steps.old.taken steps.new.taken result }
+{
+    let accepted = accept(alloc, bytes)?;
+    let prepared = prepare(alloc, &accepted.agreed, words)?;
+    count_prepared(alloc, &accepted.agreed, &prepared, limits, steps)
+}
+
+/// The value of `main` of a file on these values, within limits, and what its run did.
+pub fn count_file<S: Source, L: Ledger>(
+    alloc: Global,
+    src: &mut S,
+    file: &[u8],
+    limits: Limits,
+    values: &[Name],
+    steps: &mut Steps<L>,
+) -> Result<Vec<u8>, Refusal>
+    ensures later { S.faults src.old ≤ S.faults src.new }
+    ensures owed { Meets
+        (Owes (Ok (spec.count file.now (limits_view limits) values.now)) (S.tells src.old) (S.held src.old) (S.faults src.old) (S.faults src.new))
+        steps.old.taken steps.new.taken result }
+{
+    let bytes = read_within(alloc, src, file, FILE_LIMIT)?;
+    count_bytes(alloc, bytes.as_slice(), limits, values, steps)
+}
