@@ -3,6 +3,8 @@
 #![tactic(auto)]
 
 #[cfg(test)]
+mod editors;
+#[cfg(test)]
 mod files;
 #[cfg(test)]
 mod levels;

@@ -1,16 +1,16 @@
 //! Words, symbols, numbers and refusals of texts. The rows are the language's tables of words and
 //! symbols, and texts cut by hand by its rule that the longest piece counts.
 
+use crate::editors::RESERVED;
 use rb_syntax::lex::{LexFault, lex};
 use rb_syntax::token::{Placed, Symbol, Token, WORDS, Word};
 use std::alloc::Global;
 use std::test::Fail;
 
+/// The syntax files in editors/ have the lexer's words, in its order.
 #[test]
 fn reserved_words(rt: HostRuntime) -> Result<(), Fail> {
-    let text =
-        b"type layout fun let in match word split else inline boxed packed add sub mul and or xor eq lt to";
-    let tokens = lex(rt.alloc(), text)?;
+    let tokens = lex(rt.alloc(), RESERVED)?;
     assert_eq!(rt; tokens.len(), 21);
     for (placed, word) in tokens.iter().zip(WORDS.iter()) {
         assert!(rt;
