@@ -1,9 +1,11 @@
 """Files of Ribbit whose length grows with a number: what bench/run times.
 
 GROUPS at the end names them, each with the number at the whole size; at half of it a file is about half as long. FILES are
-given to `check`, those of layouts that agree to `layout` too; RUNS are programs with their words.
+given to `check`, those of layouts that agree to `layout` too; RUNS are programs with their words. CODES are code texts of
+bench/code that are run by `exec`.
 """
 import itertools
+import os
 
 LIMIT = 262_144
 MAIN = "fun main(): u8 = 0;\n"
@@ -337,6 +339,24 @@ def summed(n):
     return LIST + BUILD + SUM + again + "fun main(n: u64): u64 = again(10, n);\n", ["1000000000", "16777216", str(1000 * n)]
 
 
+REDBLACK = open(f"{os.path.dirname(os.path.realpath(__file__))}/../examples/redblack/redblack.rib").read().rpartition("fun main")[0]
+RISCVB = open(f"{os.path.dirname(os.path.realpath(__file__))}/../examples/riscvb/riscvb.rib").read().rpartition("fun main")[0]
+
+
+def inserted(n):
+    """1,000 n numbers put into a red-black tree, one after the other, and summed."""
+    put_all = "fun put_all(n: u64, t: Tree): Tree = match n { 0 => t, _ => put_all(sub(n, 1), blacken(put(t, to u64(to u16(mul(n, 7919)))))) };\n"
+    total = "fun total(t: Tree): u64 = match t { Leaf => 0, Node(_, l, x, r) => add(x, add(total(l), total(r))) };\n"
+    return REDBLACK + put_all + total + "fun main(n: u64): u64 = total(put_all(n, Leaf));\n", ["1000000000", "16777216", str(1000 * n)]
+
+
+def decoded(n):
+    """1,000 n RISC-V branches put together and their offsets taken out again, by a thousand each."""
+    inner = "fun inner(i: u64): u64 = match i { 0 => 0, _ => add(to u64(offset(equal(1, 2, to u12(i)))), inner(sub(i, 1))) };\n"
+    outer = "fun outer(k: u64): u64 = match k { 0 => 0, _ => add(inner(1000), outer(sub(k, 1))) };\n"
+    return RISCVB + inner + outer + "fun main(n: u64): u64 = outer(n);\n", ["1000000000", "64", str(n)]
+
+
 # What is made, and how large ----------------------------------------------------------------------------------------------
 
 AGREEING = [
@@ -346,4 +366,10 @@ AGREEING = [
 REFUSED = [(closed, 300), (twice, 64), (ring, 900)]
 MATCHES = [(literals, 16), (wilds, 52), (columns, 32), (heads, 40), (pattern, 32), (binders, 28), (unknown, 36)]
 PLAIN = [(functions, 9998), (levels, 280), (text, 2000)]
-RUNS = [(lists, 24), (trees, 14), (printed, 500), (grown, 20), (summed, 100)]
+RUNS = [(lists, 24), (trees, 14), (printed, 500), (grown, 20), (summed, 100), (inserted, 10), (decoded, 1000)]
+# By name: how many instructions the run of `main` begins, and CALLS, REGION and WORD.
+CODES = [
+    ("list", 14_000_125, 1_000_000_000, 16_777_216, 100_000),
+    ("redblack", 3_632_325, 1_000_000_000, 16_777_216, 10_000),
+    ("decode", 27_010_002, 1_000_000_000, 64, 1_000),
+]

@@ -1,7 +1,8 @@
 -- What the calls that wait make of the current one, and where valid code goes on.
-use Rattle.std.proofs.Common.{◌≡◌, ℕ, zero, suc, ◌+◌, ◌-◌, ◌<◌, ◌≤◌, inl, inr, List, [], ◌∷◌, ◌++◌, length, Option, Some, None, refl, sym, ap, subst, ◌∙◌, arith}
+use Rattle.std.proofs.Common.{◌≡◌, ℕ, zero, suc, ◌+◌, ◌-◌, ◌<◌, ◌≤◌, inl, inr, List, [], ◌∷◌, ◌++◌, length, take, drop, Option, Some, None, refl, sym, ap, subst, ◌∙◌, arith}
 use Rattle.std.specs.Prelude.{slice_get}
 use Rattle.std.proofs.lemmas.Bool.Decides.{eqb_tells}
+use Rattle.std.proofs.lemmas.List.{take_all, take-append-le, drop-append-le, length-drop}
 use Rattle.std.proofs.lemmas.Option.{slice_get_within, same_Some}
 use Rattle.rb_target.specs.Meaning.{World, Outcome, over, from, enter, body_of, slots_in, first_slots, with_left, after_one_call}
 use Rattle.rb_target.specs.Validity.{IsValidFun, IsValid, FitsCall}
@@ -10,8 +11,8 @@ use Rattle.rb_target.specs.declared.outcome.End.{End}
 use Rattle.rb_target.specs.declared.outcome.End.TheVariants.{Spent}
 use Rattle.rb_target.specs.declared.code.CodeFun.{CodeFun}
 use Rattle.rb_target.specs.declared.instr.Instr.{Instr}
-use Rattle.rb_target.specs.declared.instr.Instr.TheVariants.{Return}
-use Rattle.rb_machine.specs.Turns.{IsCallOrReturn, resume, unwind, room_at, room_in}
+use Rattle.rb_target.specs.declared.instr.Instr.TheVariants.{Call, Return}
+use Rattle.rb_machine.specs.Turns.{IsCallOrReturn, resume, width_of, unwind, room_at, room_in, held_in}
 use Rattle.rb_machine.specs.declared.state.Frame.{Frame}
 
 -- the function of a number
@@ -48,6 +49,12 @@ pub no_return : (i : Instr) → (IsCallOrReturn i → ⊥) → IsNoReturn i
 no_return (Return froms) h = h tt
 no_return i h = tt
 
+-- a call or a return is one of these two
+pub no_other : (i : Instr) → IsCallOrReturn i → ((f : ℕ) (ds froms : List ℕ) → i ≡ Call f ds froms → ⊥) → ((froms : List ℕ) → i ≡ Return froms → ⊥) → ⊥
+no_other (Call f ds froms) h no_call no_return = no_call f ds froms refl
+no_other (Return froms) h no_call no_return = no_return froms refl
+no_other i h no_call no_return = absurd h
+
 begins : (body : List Instr) (i : Instr) → slice_get body (length body - 1) ≡ Some i → 0 < length body
 begins body i e = omega (arith, slice_get_within body (length body - 1) i e)
 
@@ -70,18 +77,35 @@ pub room_in-push : (funs : List CodeFun) (frames : List Frame) (frame : Frame) �
 room_in-push funs [] frame = omega arith
 room_in-push funs (x ∷ frames) frame = let h = room_in-push funs frames frame in omega arith
 
+pub held_in-push : (funs : List CodeFun) (frames : List Frame) (frame : Frame) → held_in funs (frames ++ frame ∷ []) ≡ held_in funs frames + width_of funs frame.fun
+held_in-push funs [] frame = omega arith
+held_in-push funs (x ∷ frames) frame = let h = held_in-push funs frames frame in omega arith
+
 -- the last call that waits goes on first
-pub unwind_push : (funs : List CodeFun) (depth : ℕ) (frames : List Frame) (frame : Frame) (o : Outcome) → unwind funs depth (frames ++ frame ∷ []) o ≡ unwind funs depth frames (resume funs (depth - length frames) frame o)
-unwind_push funs depth [] frame o = let e : depth ≡ depth - 0 = omega arith in ap (λ d. resume funs d frame o) e
-unwind_push funs depth (x ∷ frames) frame o =
+pub unwind_push : (funs : List CodeFun) (depth : ℕ) (frames : List Frame) (frame : Frame) (below slots : List ℕ) (o : Outcome) → length below ≡ held_in funs frames → length slots ≡ width_of funs frame.fun
+    → unwind funs depth (frames ++ frame ∷ []) (below ++ slots) o ≡ unwind funs depth frames below (resume funs (depth - length frames) frame slots o)
+unwind_push funs depth [] frame [] slots o held width =
+    let e : depth ≡ depth - 0 = omega arith in
+    let whole : take (width_of funs frame.fun) slots ≡ slots = take_all (width_of funs frame.fun) slots (omega arith) in
+    ap (λ d. resume funs d frame (take (width_of funs frame.fun) slots) o) e ∙ ap (λ xs. resume funs (depth - 0) frame xs o) whole
+unwind_push funs depth [] frame (b ∷ below) slots o held width = absurd (omega arith)
+unwind_push funs depth (x ∷ frames) frame below slots o held width =
+    let n = width_of funs x.fun in
+    let fits : n ≤ length below = omega arith in
     let e : depth - 1 - length frames ≡ depth - length (x ∷ frames) = omega arith in
-    ap (λ r. resume funs depth x r) (unwind_push funs (depth - 1) frames frame o ∙ ap (λ d. unwind funs (depth - 1) frames (resume funs d frame o)) e)
+    let rest : length (drop n below) ≡ held_in funs frames = omega (arith, length-drop n below) in
+    ap (λ xs. resume funs depth x xs (unwind funs (depth - 1) (frames ++ frame ∷ []) (drop n (below ++ slots)) o)) (take-append-le n below slots fits)
+    ∙ ap (λ xs. resume funs depth x (take n below) (unwind funs (depth - 1) (frames ++ frame ∷ []) xs o)) (drop-append-le n below slots fits)
+    ∙ ap (λ r. resume funs depth x (take n below) r) (unwind_push funs (depth - 1) frames frame (drop n below) slots o rest width ∙ ap (λ d. unwind funs (depth - 1) frames (drop n below) (resume funs d frame slots o)) e)
 
 -- any other end than a return ends all calls
-pub unwind_final : (funs : List CodeFun) (laws : IsLawful funs) (depth : ℕ) (frames : List Frame) (e : End) (w : World) → IsFinal e → unwind funs depth frames (over e w) ≡ over e w
-unwind_final funs laws depth [] e w final = refl
-unwind_final funs laws depth (x ∷ frames) e w final =
-    ap (λ r. resume funs depth x r) (unwind_final funs laws (depth - 1) frames e w final) ∙ laws.final (over e w) _ final
+pub unwind_end : (funs : List CodeFun) (laws : IsLawful funs) (depth : ℕ) (frames : List Frame) (stack : List ℕ) (o : Outcome) → IsFinal o.ended → unwind funs depth frames stack o ≡ o
+unwind_end funs laws depth [] stack o final = refl
+unwind_end funs laws depth (x ∷ frames) stack o final =
+    ap (λ r. resume funs depth x (take (width_of funs x.fun) stack) r) (unwind_end funs laws (depth - 1) frames (drop (width_of funs x.fun) stack) o final) ∙ laws.final o _ final
+
+pub unwind_final : (funs : List CodeFun) (laws : IsLawful funs) (depth : ℕ) (frames : List Frame) (stack : List ℕ) (e : End) (w : World) → IsFinal e → unwind funs depth frames stack (over e w) ≡ over e w
+unwind_final funs laws depth frames stack e w final = unwind_end funs laws depth frames stack (over e w) final
 
 -- a call with calls left, and one without
 pub enter_some : (funs : List CodeFun) (depth left f : ℕ) (words : List ℕ) (w : World) → w.left ≡ suc left → 0 < depth → enter funs depth f words w ≡ from (body_of funs f) (enter funs (depth - 1)) 0 (first_slots funs f words) (with_left w left)

@@ -1,5 +1,5 @@
 -- The machine's own state, what is still to come from it, and what one instruction does to that.
-use Rattle.std.specs.Prelude.{◌≡◌, ℕ, ◌+◌, ◌-◌, ◌*◌, ◌^◌, ◌<◌, ◌≤◌, List, [], ◌∷◌, length, Option, Some, None, IsOk, slice_get, slice_index, All}
+use Rattle.std.specs.Prelude.{◌≡◌, ℕ, ◌+◌, ◌-◌, ◌*◌, ◌^◌, ◌<◌, ◌≤◌, List, [], ◌∷◌, length, Option, Some, None, IsOk, take, drop, slice_get, slice_index, All}
 use Rattle.rb_bytes.specs.Memory.{Memory, load_of, store_of}
 use Rattle.rb_target.specs.Meaning.{World, Outcome, over, Next, after_call, put_slots, from, enter, body_of, slots_in}
 use Rattle.rb_target.specs.Validity.{IsTarget}
@@ -19,15 +19,28 @@ abbrev pub dests_in : Option Instr → List ℕ
 dests_in (Some (Call f ds froms)) = ds
 dests_in o = []
 
--- a call that waits goes on where the end is a return
-abbrev pub resume : List CodeFun → ℕ → Frame → Outcome → Outcome
-resume funs depth frame o =
-    after_call o.ended o.world (λ words. from (body_of funs frame.fun) (enter funs depth) (frame.pc + 1) (put_slots frame.slots.items (dests_in (slice_get (body_of funs frame.fun) frame.pc)) words) o.world)
+-- a call that waits, with its slots, goes on where the end is a return
+abbrev pub resume : List CodeFun → ℕ → Frame → List ℕ → Outcome → Outcome
+resume funs depth frame slots o =
+    after_call o.ended o.world (λ words. from (body_of funs frame.fun) (enter funs depth) (frame.pc + 1) (put_slots slots (dests_in (slice_get (body_of funs frame.fun) frame.pc)) words) o.world)
 
--- what the calls that wait make of an end; the outermost is first, and depth calls can be nested in it
-abbrev pub unwind : List CodeFun → ℕ → List Frame → Outcome → Outcome
-unwind funs depth [] o = o
-unwind funs depth (frame ∷ frames) o = resume funs depth frame (unwind funs (depth - 1) frames o)
+-- how many slots a function has
+abbrev pub width_of : List CodeFun → ℕ → ℕ
+width_of funs fun = slots_in (slice_get funs fun)
+
+-- what the calls that wait make of an end; the outermost is first, as its slots are on the stack, and depth calls
+-- can be nested in it
+abbrev pub unwind : List CodeFun → ℕ → List Frame → List ℕ → Outcome → Outcome
+unwind funs depth [] stack o = o
+unwind funs depth (frame ∷ frames) stack o =
+    resume funs depth frame (take (width_of funs frame.fun) stack) (unwind funs (depth - 1) frames (drop (width_of funs frame.fun) stack) o)
+
+-- the slots of the calls that wait, and those of the current one
+abbrev pub waiting_slots : State → List ℕ
+waiting_slots s = take s.base s.stack.items
+
+abbrev pub current_slots : State → List ℕ
+current_slots s = drop s.base s.stack.items
 
 abbrev pub world_of : State → Memory → ℕ → World
 world_of s m taken = record { left = s.left; memory = m; switches = s.switches; taken = taken }
@@ -35,7 +48,7 @@ world_of s m taken = record { left = s.left; memory = m; switches = s.switches; 
 -- what is still to come
 abbrev pub rest_of : List CodeFun → ℕ → State → Memory → ℕ → Outcome
 rest_of funs depth s m taken =
-    unwind funs depth s.frames.items (from (body_of funs s.fun) (enter funs (depth - length s.frames.items)) s.pc s.slots.items (world_of s m taken))
+    unwind funs depth s.frames.items (waiting_slots s) (from (body_of funs s.fun) (enter funs (depth - length s.frames.items)) s.pc (current_slots s) (world_of s m taken))
 
 -- how many instructions can still come at this place
 abbrev pub room_at : List CodeFun → ℕ → ℕ → ℕ
@@ -49,15 +62,20 @@ room_in funs (frame ∷ frames) = room_at funs frame.fun frame.pc + room_in funs
 abbrev pub work : List CodeFun → State → ℕ
 work funs s = s.left * 2 ^ 65 + room_in funs s.frames.items + room_at funs s.fun s.pc
 
+-- how many slots the calls that wait have together
+abbrev pub held_in : List CodeFun → List Frame → ℕ
+held_in funs [] = 0
+held_in funs (frame ∷ frames) = width_of funs frame.fun + held_in funs frames
+
 -- a place in the code, with its slots
 pub record IsPlace (funs : List CodeFun) (fun pc : ℕ) (held : List ℕ) : Type 0 where
   pub known : fun < length funs
   pub inside : pc < length (body_of funs fun)
-  pub slots : length held ≡ slots_in (slice_get funs fun)
+  pub slots : length held ≡ width_of funs fun
 
 -- a call that waits is not at the end of its body
 pub record IsFrame (funs : List CodeFun) (frame : Frame) : Type 0 where
-  pub place : IsPlace funs frame.fun frame.pc frame.slots.items
+  pub known : frame.fun < length funs
   pub goes_on : frame.pc + 1 < length (body_of funs frame.fun)
 
 -- the function that was called first
@@ -70,8 +88,10 @@ results_in None = 0
 results_in (Some f) = f.results
 
 pub record IsSound (funs : List CodeFun) (depth : ℕ) (s : State) : Type 0 where
-  pub place : IsPlace funs s.fun s.pc s.slots.items
+  pub place : IsPlace funs s.fun s.pc (current_slots s)
   pub frames : All (λ (frame : Frame). IsFrame funs frame) s.frames.items
+  pub base : s.base ≡ held_in funs s.frames.items
+  pub fits : s.base ≤ length s.stack.items
   pub nested : s.left + length s.frames.items ≤ depth
   pub results : length s.results.items ≡ results_in (slice_get funs (outermost s.frames.items s.fun))
   -- so the count of switches never overflows
@@ -98,16 +118,15 @@ IsCallOrReturn (Call f ds froms) = Unit {0}
 IsCallOrReturn (Return froms) = Unit {0}
 IsCallOrReturn i = ⊥
 
--- from the state s over the memory m one instruction leads to s' over m'
-pub record Turned (funs : List CodeFun) (depth : ℕ) (s : State) (m : Memory) (s' : State) (m' : Memory) : Type 0 where
+-- from the state s over the memory m so many instructions lead to s' over m'
+pub record Turned (funs : List CodeFun) (depth : ℕ) (s : State) (m : Memory) (s' : State) (m' : Memory) (count : ℕ) : Type 0 where
   pub sound : IsSound funs depth s'
-  pub less : work funs s' < work funs s
-  pub same : (taken : ℕ) → rest_of funs depth s m taken ≡ rest_of funs depth s' m' (taken + 1)
+  pub less : work funs s' + count ≤ work funs s
+  pub same : (taken : ℕ) → rest_of funs depth s m taken ≡ rest_of funs depth s' m' (taken + count)
 
--- one instruction ends the run
-pub record Ended (funs : List CodeFun) (depth : ℕ) (s : State) (m : Memory) (e : End) (s' : State) (m' : Memory) : Type 0 where
-  pub bounded : s'.switches < 2 ^ 127
-  pub same : (taken : ℕ) → rest_of funs depth s m taken ≡ over e (world_of s' m' (taken + 1))
+-- from there so many instructions end the run
+abbrev pub Ended : List CodeFun → ℕ → State → Memory → End → State → Memory → ℕ → Type 0
+Ended funs depth s m e s' m' count = (taken : ℕ) → rest_of funs depth s m taken ≡ over e (world_of s' m' (taken + count))
 
 -- the rest does not trap
 abbrev pub IsQuiet : List CodeFun → ℕ → State → Memory → Type 0
@@ -117,7 +136,11 @@ IsQuiet funs depth s m = (taken : ℕ) × IsNotTrapped (rest_of funs depth s m t
 abbrev pub IsCallAt : List CodeFun → ℕ → ℕ → ℕ → List ℕ → Type 0
 IsCallAt funs fun pc f froms = (ds : List ℕ) × (slice_get (body_of funs fun) pc ≡ Some (Call f ds froms))
 
--- one instruction, which ends the run or not
-abbrev pub TurnGives : List CodeFun → ℕ → State → Memory → Option End → State → Memory → Type 0
-TurnGives funs depth s m None s' m' = Turned funs depth s m s' m'
-TurnGives funs depth s m (Some e) s' m' = Ended funs depth s m e s' m'
+-- so many instructions, which end the run or not
+abbrev pub TurnGives : List CodeFun → ℕ → State → Memory → Option End → State → Memory → ℕ → Type 0
+TurnGives funs depth s m None s' m' count = Turned funs depth s m s' m' count
+TurnGives funs depth s m (Some e) s' m' count = Ended funs depth s m e s' m' count
+
+-- the current call stands at a call or a return
+abbrev pub Leaves : List CodeFun → State → Type 0
+Leaves funs s = (i : Instr) → slice_get (body_of funs s.fun) s.pc ≡ Some i → IsCallOrReturn i

@@ -1,11 +1,11 @@
 //! Calls and returns.
 
-ghost use Rattle.std.specs.Prelude.{◌≡◌, ℕ, ◌<◌, ◌-◌, Some, List, length, slice_get, IfOk, ◌++◌, replicate};
+ghost use Rattle.std.specs.Prelude.{◌≡◌, ℕ, ◌<◌, ◌≤◌, ◌+◌, ◌-◌, Some, List, length, take, drop, slice_get, IfOk, ◌++◌, replicate, vec_len, vec_capacity};
 ghost use Rattle.rb_bytes.specs.Memory.{Memory};
 ghost use Rattle.rb_target.specs.Meaning.{body_of, slots_at, put_slots};
 ghost use Rattle.rb_target.specs.Validity.{IsValid, AreSlots};
 ghost use Rattle.rb_target.specs.Laws.{IsLawful};
-ghost use Rattle.rb_machine.specs.Turns.{IsSound, IsCallAt, Turned, TurnGives, IsPlace, dests_in};
+ghost use Rattle.rb_machine.specs.Turns.{IsSound, IsCallAt, Turned, TurnGives, IsPlace, current_slots, dests_in};
 
 use crate::state::{Frame, State};
 use rb_core::seq::Seq;
@@ -24,39 +24,59 @@ pub fn instr_at<'a>(funs: &'a [CodeFun], fun: usize, pc: usize) -> &'a Instr
     &body[pc]
 }
 
+// Adds zeros at the end, where there is room.
+fn add_zeros(words: &mut Vec<u64>, zeros: usize)
+    requires room { vec_len words.old + zeros ≤ vec_capacity words.old }
+    ensures { words.new.items ≡ words.old.items ++ replicate zeros 0 }
+{
+    for i in 0..zeros {
+        words.push_reserved(0);
+    }
+}
+
 /// Adds zeros at the end.
 pub fn push_zeros(words: &mut Vec<u64>, zeros: usize) -> Result<(), AllocError>
     ensures { IfOk result (λ _. words.new.items ≡ words.old.items ++ replicate zeros 0) }
 {
-    for i in 0..zeros {
-        words.push(0)?;
-    }
+    words.reserve(zeros)?;
+    add_zeros(words, zeros);
     Ok(())
 }
 
-// The words in some slots, and zeros up to a number of words.
-fn words_at(
-    alloc: Global,
-    slots: &[u64],
+// Adds the words in some of the slots from `base` on at the end, where there is room.
+fn add_words(stack: &mut Vec<u64>, base: usize, froms: &[usize])
+    requires room { vec_len stack.old + length froms.now ≤ vec_capacity stack.old }
+    requires froms { AreSlots (length (drop base stack.old.items)) froms.now }
+    ensures items { stack.new.items ≡ stack.old.items ++ slots_at (drop base stack.old.items) froms.now }
+    ensures len { vec_len stack.new ≡ vec_len stack.old + length froms.now }
+    ensures capacity { vec_capacity stack.new ≡ vec_capacity stack.old }
+{
+    for from in froms {
+        let word = stack[base + *from];
+        stack.push_reserved(word);
+    }
+}
+
+// Adds the first slots of a call at the end: the words in some of the slots from `base` on, and zeros up to
+// a number of slots.
+fn push_slots(
+    stack: &mut Vec<u64>,
+    base: usize,
     froms: &[usize],
     count: usize,
-) -> Result<Vec<u64>, AllocError>
-    requires { AreSlots (length slots.now) froms.now }
-    ensures { IfOk result (λ v. v.items ≡ slots_at slots.now froms.now ++ replicate (count - length froms.now) 0) }
+) -> Result<(), AllocError>
+    requires froms { AreSlots (length (drop base stack.old.items)) froms.now }
+    requires few { length froms.now ≤ count }
+    ensures { IfOk result (λ _. stack.new.items ≡ stack.old.items ++ (slots_at (drop base stack.old.items) froms.now ++ replicate (count - length froms.now) 0)) }
 {
-    let mut words = Vec::new(alloc);
-    for from in froms {
-        words.push(slots[*from])?;
-    }
-    if froms.len() < count {
-        push_zeros(&mut words, count - froms.len())?;
-    }
-    Ok(words)
+    stack.reserve(count)?;
+    add_words(stack, base, froms);
+    add_zeros(stack, count - froms.len());
+    Ok(())
 }
 
 /// The current function waits, and another begins with the words of some slots.
 pub fn call_turn(
-    alloc: Global,
     funs: &[CodeFun],
     depth: u64,
     state: &mut State,
@@ -68,20 +88,21 @@ pub fn call_turn(
     requires sound { IsSound funs.now depth state.old }
     requires instr { IsCallAt funs.now state.old.fun state.old.pc callee froms.now }
     requires known { callee < length funs.now }
-    requires froms { AreSlots (length state.old.slots.items) froms.now }
+    requires froms { AreSlots (length (current_slots state.old)) froms.now }
     requires left { 0 < state.old.left }
-    ensures { IfOk result (λ _. (m : Memory) → Turned funs.now depth state.old m state.new m) }
+    ensures { IfOk result (λ _. (m : Memory) → Turned funs.now depth state.old m state.new m 1) }
 {
-    let slots = words_at(alloc, state.slots.as_slice(), froms, funs[callee].slots)?;
-    let slots = std::mem::replace(&mut state.slots, slots);
+    let top = state.stack.len();
+    let called = &funs[callee];
+    push_slots(&mut state.stack, state.base, froms, called.slots)?;
     let frame = Frame {
         fun: state.fun,
         pc: state.pc,
-        slots,
     };
     state.frames.push(frame)?;
     state.fun = callee;
     state.pc = 0;
+    state.base = top;
     state.left -= 1;
     Ok(())
 }
@@ -119,6 +140,27 @@ fn put_results(
     }
 }
 
+// The same on the stack, where the slots of the call that ended begin at `top`, and those of the one that
+// waited for it at `base`.
+fn give_back(
+    funs: &[CodeFun],
+    frame: &Frame,
+    stack: &mut [u64],
+    base: usize,
+    top: usize,
+    froms: &[usize],
+)
+    requires valid { IsValid funs.now }
+    requires order { (base ≤ top) × (top ≤ length stack.old) }
+    requires place { IsPlace funs.now frame.now.fun frame.now.pc (drop base (take top stack.old)) }
+    requires froms { AreSlots (length (drop top stack.old)) froms.now }
+    ensures { stack.new ≡ (take base stack.old ++ put_slots (drop base (take top stack.old)) (dests_in (slice_get (body_of funs.now frame.now.fun) frame.now.pc)) (slots_at (drop top stack.old) froms.now)) ++ drop top stack.old }
+{
+    let (below, words) = stack.split_at_mut(top);
+    let (_, slots) = below.split_at_mut(base);
+    put_results(funs, frame.fun, frame.pc, slots, words, froms);
+}
+
 // Puts the words of some slots into a list of just as many.
 fn fill(words: &mut [u64], slots: &[u64], froms: &[usize])
     requires long { length words.old ≡ length froms.now }
@@ -130,7 +172,8 @@ fn fill(words: &mut [u64], slots: &[u64], froms: &[usize])
     }
 }
 
-/// The function that waited goes on, or the run ends.
+/// The function that waited goes on, or the run ends: then the slots of the outermost call are the whole
+/// stack.
 pub fn return_turn(
     alloc: Global,
     funs: &[CodeFun],
@@ -142,31 +185,27 @@ pub fn return_turn(
     requires laws { IsLawful funs.now }
     requires sound { IsSound funs.now depth state.old }
     requires instr { slice_get (body_of funs.now state.old.fun) state.old.pc ≡ Some (Instr.Return froms.now) }
-    requires froms { AreSlots (length state.old.slots.items) froms.now }
-    ensures { (m : Memory) → TurnGives funs.now depth state.old m result state.new m }
+    requires froms { AreSlots (length (current_slots state.old)) froms.now }
+    ensures { (m : Memory) → TurnGives funs.now depth state.old m result state.new m 1 }
 {
     match state.frames.pop() {
         None => {
             let mut words = std::mem::replace(&mut state.results, Vec::new(alloc));
-            fill(words.as_mut_slice(), state.slots.as_slice(), froms);
+            fill(words.as_mut_slice(), state.stack.as_slice(), froms);
             Some(End::Returned {
                 words: Seq::from_vec(words),
                 calls_left: state.left,
             })
         }
         Some(frame) => {
-            let Frame { fun, pc, mut slots } = frame;
-            put_results(
-                funs,
-                fun,
-                pc,
-                slots.as_mut_slice(),
-                state.slots.as_slice(),
-                froms,
-            );
-            state.fun = fun;
-            state.pc = pc + 1;
-            state.slots = slots;
+            let top = state.base;
+            let caller = &funs[frame.fun];
+            let base = top - caller.slots;
+            give_back(funs, &frame, state.stack.as_mut_slice(), base, top, froms);
+            state.stack.truncate(top);
+            state.fun = frame.fun;
+            state.pc = frame.pc + 1;
+            state.base = base;
             None
         }
     }

@@ -9,7 +9,7 @@ ghost use Rattle.rb_machine.specs.Turns.{IsSound, rest_of};
 
 use crate::calls::push_zeros;
 use crate::state::State;
-use crate::turn::turn;
+use crate::turn::{stretch_turn, turn};
 use rb_bytes::memory::ByteMemory;
 use rb_edge::steps::{Ledger, Steps};
 use rb_target::code::{Code, CodeFun};
@@ -17,8 +17,8 @@ use rb_target::outcome::{End, Ran};
 use std::alloc::{AllocError, Global};
 
 /// Runs a function of the code over a memory, with at most so many calls, its own included. One step
-/// is ticked for each instruction that is begun. Memory is taken here and at calls alone, a frame for
-/// each call that waits; after want of memory the steps stand anywhere between.
+/// is ticked for each instruction that is begun. Memory is taken here and at calls alone, for their slots
+/// and for a frame for each call that waits; after want of memory the steps stand anywhere between.
 pub fn run<M: ByteMemory, L: Ledger>(
     alloc: Global,
     code: &Code,
@@ -44,8 +44,14 @@ pub fn run<M: ByteMemory, L: Ledger>(
     let funs = code.funs();
     let mut state = first_state(alloc, funs, fun, words, calls - 1)?;
     loop {
+        if let Some(end) = stretch_turn(funs, calls - 1, &mut state, memory, steps) {
+            return Ok(Ran {
+                end,
+                switches: state.switches,
+            });
+        }
         steps.tick();
-        if let Some(end) = turn(alloc, funs, calls - 1, &mut state, memory)? {
+        if let Some(end) = turn(alloc, funs, calls - 1, &mut state)? {
             return Ok(Ran {
                 end,
                 switches: state.switches,
@@ -70,14 +76,15 @@ fn first_state(
     ensures whole { IfOk result (λ s. (m : Memory) → run_of funs.now (left + 1) fun words.now m ≡ rest_of funs.now left s m 0) }
 {
     let outermost = &funs[fun];
-    let mut slots = Vec::from_slice(alloc, words)?;
-    push_zeros(&mut slots, outermost.slots - words.len())?;
+    let mut stack = Vec::from_slice(alloc, words)?;
+    push_zeros(&mut stack, outermost.slots - words.len())?;
     let mut results = Vec::new(alloc);
     push_zeros(&mut results, outermost.results)?;
     Ok(State {
         fun,
         pc: 0,
-        slots,
+        base: 0,
+        stack,
         left,
         frames: Vec::new(alloc),
         switches: 0,

@@ -1,20 +1,24 @@
 //! A run as it stands.
 
-/// A call that waits for another: its function, the number of its call instruction, and its slots.
+use rb_target::outcome::End;
+
+/// A call that waits for another: its function, and the number of its call instruction.
 #[derive(Drop)]
 pub struct Frame {
     pub fun: usize,
     pub pc: usize,
-    pub slots: Vec<u64>,
 }
 
-/// The current call, and the calls that wait, the outermost first. `results` has room for what the
-/// outermost function returns, so that a return takes no memory.
+/// The current call, and the calls that wait, the outermost first. The slots of all of them stand on one
+/// stack in the same order: those of the current call begin at `base` and go to the stack's end, and those
+/// of a call that waits are as many as its function has. `results` has room for what the outermost function
+/// returns, so that a return takes no memory.
 #[derive(Drop)]
 pub struct State {
     pub fun: usize,
     pub pc: usize,
-    pub slots: Vec<u64>,
+    pub base: usize,
+    pub stack: Vec<u64>,
     pub left: u64,
     pub frames: Vec<Frame>,
     pub switches: u128,
@@ -28,4 +32,9 @@ pub enum Flow {
     Ends(End),
 }
 
-use rb_target::outcome::End;
+/// Where instructions of a call stop: at a call or a return, which is not begun, or at the end of the run.
+#[derive(Drop)]
+pub enum Stop {
+    At(usize),
+    Ends(End),
+}

@@ -21,16 +21,16 @@ returns-clause-sound c =
     let f = c.index-funs-fun.result in
     let known = slice_get_read funs (length funs) c.args.fun f refl c.requires.known c.index-funs-fun.is in
     let words : length c.args.words.now ≡ f.params = c.requires.words ∙ ap params_in known in
-    let s : State = record { fun = c.args.fun; pc = 0; slots = c.push_zeros.new.words; left = c.args.left; frames = c.new.result; switches = 0; results = c.push_zeros-2.new.words } in
-    let slots : s.slots.items ≡ c.args.words.now ++ replicate (f.slots - length c.args.words.now) 0 = rw c.in_ok-slots.ensures.items at c.in_ok-push_zeros.ensures in
+    let s : State = record { fun = c.args.fun; pc = 0; base = 0; stack = c.push_zeros.new.words; left = c.args.left; frames = c.new.result; switches = 0; results = c.push_zeros-2.new.words } in
+    let stack : s.stack.items ≡ c.args.words.now ++ replicate (f.slots - length c.args.words.now) 0 = rw c.in_ok-stack.ensures.items at c.in_ok-push_zeros.ensures in
     let results : s.results.items ≡ [] ++ replicate f.results 0 = rw c.new-results.ensures.items at c.in_ok-push_zeros-2.ensures in
-    first_sound funs c.args.left s f c.args.words.now known refl c.new.ensures.items refl refl slots c.requires.valid words c.requires.left results
+    first_sound funs c.args.left s f c.args.words.now known refl refl c.new.ensures.items refl refl stack c.requires.valid words c.requires.left results
 
 pub returns-clause-whole : goal.returns-clause-whole
 returns-clause-whole c m =
     let funs = c.args.funs.now in
     let f = c.index-funs-fun.result in
     let known = slice_get_read funs (length funs) c.args.fun f refl c.requires.known c.index-funs-fun.is in
-    let s : State = record { fun = c.args.fun; pc = 0; slots = c.push_zeros.new.words; left = c.args.left; frames = c.new.result; switches = 0; results = c.push_zeros-2.new.words } in
-    let slots : s.slots.items ≡ c.args.words.now ++ replicate (f.slots - length c.args.words.now) 0 = rw c.in_ok-slots.ensures.items at c.in_ok-push_zeros.ensures in
-    first_whole funs c.args.left s f c.args.words.now known refl c.new.ensures.items refl refl slots m
+    let s : State = record { fun = c.args.fun; pc = 0; base = 0; stack = c.push_zeros.new.words; left = c.args.left; frames = c.new.result; switches = 0; results = c.push_zeros-2.new.words } in
+    let stack : s.stack.items ≡ c.args.words.now ++ replicate (f.slots - length c.args.words.now) 0 = rw c.in_ok-stack.ensures.items at c.in_ok-push_zeros.ensures in
+    first_whole funs c.args.left s f c.args.words.now known refl refl c.new.ensures.items refl refl stack m

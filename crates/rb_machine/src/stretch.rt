@@ -1,0 +1,93 @@
+//! A stretch: the instructions of one call up to where it calls another, returns, or ends the run.
+
+ghost use Rattle.std.specs.Prelude.{◌≡◌, ℕ, ◌<◌, ◌≤◌, ◌+◌, ◌-◌, ◌^◌, false, length, take, drop, MatchBool};
+ghost use Rattle.rb_bytes.specs.Memory.{Memory};
+ghost use Rattle.rb_target.specs.Meaning.{Callee, from};
+ghost use Rattle.rb_target.specs.Validity.{IsValidFun};
+ghost use Rattle.rb_target.specs.Laws.{Law};
+ghost use Rattle.rb_machine.specs.Turns.{IsCallOrReturn};
+ghost use Rattle.rb_machine.specs.Stretches.{stop_to, IsStop, IsQuietFrom};
+
+use crate::state::{Flow, Stop};
+use crate::step::step;
+use rb_bytes::memory::ByteMemory;
+use rb_edge::steps::{Ledger, Steps};
+use rb_target::code::CodeFun;
+use rb_target::instr::Instr;
+
+// Whether the instruction is a call or a return.
+fn leaves(instr: &Instr) -> bool
+    ensures { MatchBool result (IsCallOrReturn instr.now) (IsCallOrReturn instr.now → ⊥) }
+{
+    match instr {
+        Instr::Call(..) | Instr::Return(_) => true,
+        _ => false,
+    }
+}
+
+/// Runs a function from one of its instructions on, over its slots. One step is ticked for each instruction
+/// that is begun. Its contract speaks of whatever calls do.
+pub fn stretch<M: ByteMemory, L: Ledger>(
+    funs: &[CodeFun],
+    fun: &CodeFun,
+    start: usize,
+    slots: &mut [u64],
+    memory: &mut M,
+    switches: &mut u128,
+    steps: &mut Steps<L>,
+) -> Stop
+    requires valid { IsValidFun funs.now fun.now }
+    requires laws { (callee : Callee) → Law fun.now.body callee (from fun.now.body callee) }
+    requires inside { start < length fun.now.body }
+    requires slots { length slots.old ≡ fun.now.slots }
+    requires switches { switches.old + length fun.now.body < 2 ^ 127 + start }
+    requires checks { M.CHECKS ≡ false → IsQuietFrom fun.now.body start slots.old (M.memory memory.old) switches.old }
+    ensures same { (callee : Callee) (left taken : ℕ) →
+        from fun.now.body callee start slots.old (record { left = left; memory = M.memory memory.old; switches = switches.old; taken = taken })
+        ≡ stop_to fun.now.body callee result slots.new (record { left = left; memory = M.memory memory.new; switches = switches.new; taken = taken + (steps.new.taken - steps.old.taken) }) }
+    ensures stop { IsStop fun.now.body start result (steps.new.taken - steps.old.taken) (switches.new - switches.old) }
+    ensures ticks { steps.old.taken ≤ steps.new.taken }
+{
+    let body = fun.body.as_slice();
+    let mut pc = start;
+    loop {
+        let instr = &body[pc];
+        if leaves(instr) {
+            return Stop::At(pc);
+        }
+        steps.tick();
+        match step(funs, fun, pc, instr, slots, memory, switches) {
+            Flow::Goes(next) => pc = next,
+            Flow::Ends(end) => return Stop::Ends(end),
+        }
+    }
+}
+
+/// The same over a stack of words of which the function's slots are those from `base` on. The others stay.
+pub fn stretch_above<M: ByteMemory, L: Ledger>(
+    funs: &[CodeFun],
+    fun: &CodeFun,
+    start: usize,
+    stack: &mut [u64],
+    base: usize,
+    memory: &mut M,
+    switches: &mut u128,
+    steps: &mut Steps<L>,
+) -> Stop
+    requires valid { IsValidFun funs.now fun.now }
+    requires laws { (callee : Callee) → Law fun.now.body callee (from fun.now.body callee) }
+    requires inside { start < length fun.now.body }
+    requires base { base ≤ length stack.old }
+    requires slots { length (drop base stack.old) ≡ fun.now.slots }
+    requires switches { switches.old + length fun.now.body < 2 ^ 127 + start }
+    requires checks { M.CHECKS ≡ false → IsQuietFrom fun.now.body start (drop base stack.old) (M.memory memory.old) switches.old }
+    ensures below { take base stack.new ≡ take base stack.old }
+    ensures same { (callee : Callee) (left taken : ℕ) →
+        from fun.now.body callee start (drop base stack.old) (record { left = left; memory = M.memory memory.old; switches = switches.old; taken = taken })
+        ≡ stop_to fun.now.body callee result (drop base stack.new) (record { left = left; memory = M.memory memory.new; switches = switches.new; taken = taken + (steps.new.taken - steps.old.taken) }) }
+    ensures stop { IsStop fun.now.body start result (steps.new.taken - steps.old.taken) (switches.new - switches.old) }
+    ensures ticks { steps.old.taken ≤ steps.new.taken }
+{
+    let (_, slots) = stack.split_at_mut(base);
+    stretch(funs, fun, start, slots, memory, switches, steps)
+}
