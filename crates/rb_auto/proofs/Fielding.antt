@@ -11,7 +11,7 @@ use Rattle.rb_auto.specs.Fields.{cons_of, cons_in, HasField, IsRecursive, IsFini
 use Rattle.rb_auto.specs.inner.Graphs.{HasCycle, Leads, con_types, field_graph, field_types, named_types, row_in}
 
 -- something stands in a list
-abbrev In : {A : Type 0} → A → List A → Type 0
+abbrev pub In : {A : Type 0} → A → List A → Type 0
 In x xs = (k : ℕ) × (slice_get xs k ≡ Some x)
 
 in-left : {A : Type 0} (x : A) (xs ys : List A) → In x xs → In x (xs ++ ys)
@@ -23,7 +23,7 @@ in-right : {A : Type 0} (x : A) (xs ys : List A) → In x ys → In x (xs ++ ys)
 in-right x [] ys h = h
 in-right x (z ∷ xs) ys h = let rest = in-right x xs ys h in (suc rest.0, rest.1)
 
-in-either : {A : Type 0} (x : A) (xs ys : List A) → In x (xs ++ ys) → In x xs ⊎ In x ys
+pub in-either : {A : Type 0} (x : A) (xs ys : List A) → In x (xs ++ ys) → In x xs ⊎ In x ys
 in-either x [] ys h = inr h
 in-either x (z ∷ xs) ys (zero, e) = inl (0, e)
 in-either x (z ∷ xs) ys (suc k, e) = elim (in-either x xs ys (k, e)) [ inl h ↦ inl (suc h.0, h.1) | inr h ↦ inr h ]

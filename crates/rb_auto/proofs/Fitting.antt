@@ -12,6 +12,7 @@ use Rattle.rb_core.specs.Layouts.{WrittenLeaf}
 use Rattle.rb_layout.specs.Positions.{Open, open_positions}
 use Rattle.rb_layout.specs.Flattening.{decl_of, shape_of}
 use Rattle.rb_layout.specs.Items.{Item, AWord, Number, WrittenPart, items_in, items_of, leaves_in}
+use Rattle.rb_layout.specs.A1.{IsShapeWidth}
 use Rattle.rb_layout.specs.A3.{Fits, FitsWhole, FitsWord, ItemFits, PartsFit}
 use Rattle.rb_layout.proofs.FlatForms.{Each}
 use Rattle.rb_auto.specs.declared.field_words.FieldWord.{FieldWord}
@@ -21,7 +22,7 @@ use Rattle.rb_auto.specs.declared.room.Room.TheVariants.{Word, Recursive, Bits}
 use Rattle.rb_auto.specs.Fields.{cons_of}
 use Rattle.rb_auto.specs.FieldWords.{field_words, fields_words, words_from, words_of}
 use Rattle.rb_auto.specs.Widths.{counted, field_width, packed_width, room_width, shape, shape_or, widths, word_width}
-use Rattle.rb_auto.specs.PackedRules.{FieldFits, HasFittingParts}
+use Rattle.rb_auto.specs.inner.PackedRules.{FieldFits, HasFittingParts}
 use Rattle.rb_auto.proofs.Leaves.{leaf-is, leaf-written}
 use Rattle.rb_auto.proofs.Opens.{field_opens, field-type, opens-are}
 use Rattle.rb_auto.proofs.Written.{items-are, written, written_from, written_parts}
@@ -29,7 +30,7 @@ use Rattle.rb_auto.proofs.Written.{items-are, written, written_from, written_par
 -- Parts one after the other ---------------------------------------------------------------------------
 
 -- from a bit up to another, without a gap, each of a bit or more
-abbrev Stacked : ℕ → ℕ → List WrittenPart → Type 0
+abbrev pub Stacked : ℕ → ℕ → List WrittenPart → Type 0
 Stacked from to [] = from ≤ to
 Stacked from to (p ∷ ps) = (p.o ≡ from) × (1 ≤ p.l) × Stacked (from + p.l) to ps
 
@@ -37,14 +38,14 @@ stacked-le : (from to : ℕ) (ps : List WrittenPart) → Stacked from to ps → 
 stacked-le from to [] h = h
 stacked-le from to (p ∷ ps) h = let rest = stacked-le (from + p.l) to ps h.2 in omega (arith, rest)
 
-stacked-in : (from to : ℕ) (ps : List WrittenPart) (k : ℕ) (q : WrittenPart) → Stacked from to ps → slice_get ps k ≡ Some q → (from ≤ q.o) × (1 ≤ q.l) × (q.o + q.l ≤ to)
+pub stacked-in : (from to : ℕ) (ps : List WrittenPart) (k : ℕ) (q : WrittenPart) → Stacked from to ps → slice_get ps k ≡ Some q → (from ≤ q.o) × (1 ≤ q.l) × (q.o + q.l ≤ to)
 stacked-in from to [] k q h e = absurd cc
 stacked-in from to (p ∷ ps) zero q h e =
     let rest = stacked-le (from + p.l) to ps h.2 in
     subst (λ (x : WrittenPart). (from ≤ x.o) × (1 ≤ x.l) × (x.o + x.l ≤ to)) (same_Some p q e) (omega (arith, h.0), h.1, omega (arith, h.0, rest))
 stacked-in from to (p ∷ ps) (suc k) q h e = let r = stacked-in (from + p.l) to ps k q h.2 e in (omega (arith, r.0), r.1, r.2)
 
-stacked-apart : (from to : ℕ) (ps : List WrittenPart) (j k : ℕ) (q r : WrittenPart) → Stacked from to ps → j < k → slice_get ps j ≡ Some q → slice_get ps k ≡ Some r → q.o + q.l ≤ r.o
+pub stacked-apart : (from to : ℕ) (ps : List WrittenPart) (j k : ℕ) (q r : WrittenPart) → Stacked from to ps → j < k → slice_get ps j ≡ Some q → slice_get ps k ≡ Some r → q.o + q.l ≤ r.o
 stacked-apart from to [] j k q r h lt a b = absurd cc
 stacked-apart from to (p ∷ ps) j zero q r h lt a b = absurd (omega (arith, lt))
 stacked-apart from to (p ∷ ps) zero (suc k) q r h lt a b =
@@ -85,62 +86,62 @@ module _ (p : Program) (rooms : List Room) where
       let s = sum_by-cons (field_width p rooms) ty tys in
       omega (arith, both, here, rest, s)
 
--- Widths are positive -------------------------------------------------------------------------------------
+-- Widths are those of words ---------------------------------------------------------------------------------
 
-counted-positive : (w : ℕ) → 1 ≤ counted w
-counted-positive w = by_test (nat_le 1 w && nat_le w 64) refl
+counted-width : (w : ℕ) → IsShapeWidth (counted w)
+counted-width w = by_test (nat_le 1 w && nat_le w 64) refl
   where
-    by_test : (b : Bool) → (nat_le 1 w && nat_le w 64) ≡ b → 1 ≤ (if b then w else 64)
-    by_test true e = leb-true 1 w (and_parts (nat_le 1 w) (nat_le w 64) e).0
-    by_test false e = omega arith
+    by_test : (b : Bool) → (nat_le 1 w && nat_le w 64) ≡ b → IsShapeWidth (if b then w else 64)
+    by_test true e = let h = and_parts (nat_le 1 w) (nat_le w 64) e in (leb-true 1 w h.0, leb-true w 64 h.1)
+    by_test false e = (omega arith, omega arith)
 
-chosen-positive : (b : Bool) (n : ℕ) → 1 ≤ (if b then suc n else 64)
-chosen-positive true n = omega arith
-chosen-positive false n = omega arith
+chosen-width : (n : ℕ) (b : Bool) → nat_le (suc n) 64 ≡ b → IsShapeWidth (if b then suc n else 64)
+chosen-width n true e = (omega arith, leb-true (suc n) 64 e)
+chosen-width n false e = (omega arith, omega arith)
 
-packed-positive : (n : ℕ) → 1 ≤ packed_width n
-packed-positive zero = omega arith
-packed-positive (suc n) = chosen-positive (nat_le (suc n) 64) n
+packed-width : (n : ℕ) → IsShapeWidth (packed_width n)
+packed-width zero = (omega arith, omega arith)
+packed-width (suc n) = chosen-width n (nat_le (suc n) 64) refl
 
-word-positive : (room : Room) → 1 ≤ word_width room
-word-positive Word = omega arith
-word-positive Recursive = omega arith
-word-positive (Bits n) = packed-positive n
+word-width : (room : Room) → IsShapeWidth (word_width room)
+word-width Word = (omega arith, omega arith)
+word-width Recursive = (omega arith, omega arith)
+word-width (Bits n) = packed-width n
 
-room-positive : (room : Option Room) → 1 ≤ room_width room
-room-positive None = omega arith
-room-positive (Some room) = word-positive room
+room-wide : (room : Option Room) → IsShapeWidth (room_width room)
+room-wide None = (omega arith, omega arith)
+room-wide (Some room) = word-width room
 
-abbrev ArePositive : List ℕ → Type 0
-ArePositive ws = (k w : ℕ) → slice_get ws k ≡ Some w → 1 ≤ w
+abbrev AreWidths : List ℕ → Type 0
+AreWidths ws = (k w : ℕ) → slice_get ws k ≡ Some w → IsShapeWidth w
 
-counted-all : (ws : List ℕ) → ArePositive (map counted ws)
+counted-all : (ws : List ℕ) → AreWidths (map counted ws)
 counted-all [] k w e = absurd cc
-counted-all (x ∷ ws) zero w e = subst (λ n. 1 ≤ n) (same_Some (counted x) w e) (counted-positive x)
+counted-all (x ∷ ws) zero w e = subst IsShapeWidth (same_Some (counted x) w e) (counted-width x)
 counted-all (x ∷ ws) (suc k) w e = counted-all ws k w e
 
-shape-positive : (decl : Option LayoutDecl) (room : Option Room) → ArePositive (shape_or decl room)
-shape-positive None room zero w e = subst (λ n. 1 ≤ n) (same_Some (room_width room) w e) (room-positive room)
-shape-positive None room (suc k) w e = absurd cc
-shape-positive (Some d) room k w e = counted-all d.shape k w e
+shape-widths : (decl : Option LayoutDecl) (room : Option Room) → AreWidths (shape_or decl room)
+shape-widths None room zero w e = subst IsShapeWidth (same_Some (room_width room) w e) (room-wide room)
+shape-widths None room (suc k) w e = absurd cc
+shape-widths (Some d) room k w e = counted-all d.shape k w e
 
 -- Each word fits ------------------------------------------------------------------------------------------
 
 module _ (p : Program) (decls : List LayoutDecl) (rooms : List Room) (all : List Ty) where
-  abbrev opens : List Open
+  abbrev pub opens : List Open
   opens = field_opens 0 all
 
-  abbrev WordFits : FieldWord → Type 0
-  WordFits w = (1 ≤ w.width) × Fits decls opens w.width (written w)
+  abbrev pub WordFits : FieldWord → Type 0
+  WordFits w = IsShapeWidth w.width × Fits decls opens w.width (written w)
 
   each-append : (xs ys : List FieldWord) → Each WordFits xs → Each WordFits ys → Each WordFits (xs ++ ys)
   each-append [] ys h g = g
   each-append (x ∷ xs) ys h g = (h.0, each-append xs ys h.1 g)
 
-  integer-fits : (i bits : ℕ) → slice_get all i ≡ Some (Int bits) → 1 ≤ bits → Each WordFits (field_words i (bits ∷ []))
+  integer-fits : (i bits : ℕ) → slice_get all i ≡ Some (Int bits) → IsShapeWidth bits → Each WordFits (field_words i (bits ∷ []))
   integer-fits i bits at some = ((some, subst (λ (ty : Option Ty). FitsWhole decls ty bits) (sym (field-type all i (Int bits) at)) refl), tt)
 
-  words-fit : (i s j : ℕ) (ws : List ℕ) → slice_get all i ≡ Some (Named s) → ((k w : ℕ) → slice_get ws k ≡ Some w → (1 ≤ w) × (slice_get (shape_of decls s) (j + k) ≡ Some w))
+  words-fit : (i s j : ℕ) (ws : List ℕ) → slice_get all i ≡ Some (Named s) → ((k w : ℕ) → slice_get ws k ≡ Some w → IsShapeWidth w × (slice_get (shape_of decls s) (j + k) ≡ Some w))
       → Each WordFits (words_from i j ws)
   words-fit i s j [] at each = tt
   words-fit i s j (w ∷ ws) at each =
@@ -156,7 +157,7 @@ module _ (p : Program) (decls : List LayoutDecl) (rooms : List Room) (all : List
       shift : (m k : ℕ) → m + 1 + k ≡ m + suc k
       shift m k = omega arith
 
-  data-fits : (i s : ℕ) (ws : List ℕ) → slice_get all i ≡ Some (Named s) → shape_of decls s ≡ ws → ArePositive ws → Each WordFits (field_words i ws)
+  data-fits : (i s : ℕ) (ws : List ℕ) → slice_get all i ≡ Some (Named s) → shape_of decls s ≡ ws → AreWidths ws → Each WordFits (field_words i ws)
   data-fits i s [] at is positive = tt
   data-fits i s (w ∷ []) at is positive = ((positive 0 w refl, subst (λ (ty : Option Ty). FitsWhole decls ty w) (sym (field-type all i (Named s) at)) is), tt)
   data-fits i s (w ∷ v ∷ ws) at is positive =
@@ -164,10 +165,10 @@ module _ (p : Program) (decls : List LayoutDecl) (rooms : List Room) (all : List
       (λ k x e. (positive k x e, ap (λ m. slice_get (shape_of decls s) m) (zero-add k) ∙ ap (λ (xs : List ℕ). slice_get xs k) is ∙ e))
 
   field-fits : (i : ℕ) (ty : Ty) → slice_get all i ≡ Some ty → FieldFits p decls rooms ty → Each WordFits (field_words i (widths p rooms ty))
-  field-fits i (Int bits) at fits = integer-fits i bits at fits.0
-  field-fits i (Named s) at fits = data-fits i s (shape p rooms s) at fits (shape-positive (decl_of p.layouts s) (slice_get rooms s))
+  field-fits i (Int bits) at fits = integer-fits i bits at fits
+  field-fits i (Named s) at fits = data-fits i s (shape p rooms s) at fits (shape-widths (decl_of p.layouts s) (slice_get rooms s))
 
-  fields-fit : (i : ℕ) (tys : List Ty) → ((k : ℕ) (ty : Ty) → slice_get tys k ≡ Some ty → (slice_get all (i + k) ≡ Some ty) × FieldFits p decls rooms ty) → Each WordFits (fields_words p rooms i tys)
+  pub fields-fit : (i : ℕ) (tys : List Ty) → ((k : ℕ) (ty : Ty) → slice_get tys k ≡ Some ty → (slice_get all (i + k) ≡ Some ty) × FieldFits p decls rooms ty) → Each WordFits (fields_words p rooms i tys)
   fields-fit i [] each = tt
   fields-fit i (ty ∷ tys) each =
       let first = each 0 ty refl in
@@ -184,7 +185,7 @@ module _ (p : Program) (decls : List LayoutDecl) (rooms : List Room) (all : List
   -- the words stand one after the other, and their parts fit
   words-stacked : (o to : ℕ) (ws : List FieldWord) → Each WordFits ws → o + total ws ≤ to → Stacked o to (written_from o ws)
   words-stacked o to [] h le = omega (arith, le)
-  words-stacked o to (w ∷ ws) h le = (refl, h.0.0, words-stacked (o + w.width) to ws h.1 (omega (arith, le)))
+  words-stacked o to (w ∷ ws) h le = (refl, h.0.0.0, words-stacked (o + w.width) to ws h.1 (omega (arith, le)))
 
   abbrev PartFits : WrittenPart → Type 0
   PartFits q = Fits decls opens q.l q.content
@@ -213,7 +214,7 @@ module _ (p : Program) (decls : List LayoutDecl) (rooms : List Room) (all : List
         fit = parts-fit tag n ws lt h;
       }
 
-one-item : (a : Item) (i : ℕ) (item : Item) (P : Item → Type 0) → slice_get (a ∷ []) i ≡ Some item → P a → P item
+pub one-item : (a : Item) (i : ℕ) (item : Item) (P : Item → Type 0) → slice_get (a ∷ []) i ≡ Some item → P a → P item
 one-item a zero item P e h = subst P (same_Some a item e) h
 one-item a (suc i) item P e h = absurd cc
 

@@ -29,8 +29,9 @@ use Rattle.rb_auto.specs.declared.room.Room.{Room}
 use Rattle.rb_auto.specs.FieldWords.{content, content_in, field_words, fields_words, words_from, words_of}
 use Rattle.rb_auto.specs.Items.{packed_parts, part, parts_from}
 use Rattle.rb_auto.specs.Widths.{widths, shape}
-use Rattle.rb_auto.specs.Standing.{with_layouts}
-use Rattle.rb_auto.specs.PackedRules.{FieldFits, HoldsItsFields}
+use Rattle.rb_auto.specs.Completed.{with_layouts}
+use Rattle.rb_auto.specs.inner.PackedRules.{FieldFits, HoldsItsFields}
+use Rattle.rb_auto.proofs.Boxes.{word_kind}
 use Rattle.rb_auto.proofs.Leaves.{leaf-is, leaf-written, opens_at, parts_at, root-is, blocks-are}
 use Rattle.rb_auto.proofs.Opens.{field_opens, field-type, open-field, opens-are}
 use Rattle.rb_auto.proofs.Unblocked.{packed-plain}
@@ -42,7 +43,7 @@ one_if b = if b then 1 else 0
 yes : (b : Bool) → b ≡ true → one_if b ≡ 1
 yes b e = ap one_if e
 
-no : (b : Bool) → b ≡ false → one_if b ≡ 0
+pub no : (b : Bool) → b ≡ false → one_if b ≡ 0
 no b e = ap one_if e
 
 both-false : (a b : Bool) → a ≡ false → (a && b) ≡ false
@@ -57,7 +58,7 @@ own-path i = ap (λ b. b && true) (eq-eqb i i refl)
 -- Unit i of field f, which has type ty -------------------------------------------------------------------
 
 module _ (ty : Ty) (f i : ℕ) where
-  abbrev units_in : ℕ → Option Kind → ℕ
+  abbrev pub units_in : ℕ → Option Kind → ℕ
   units_in l None = 0
   units_in l (Some kind) = if holds_unit ty (f ∷ []) i l kind then 1 else 0
 
@@ -81,15 +82,14 @@ module _ (ty : Ty) (f i : ℕ) where
 
   module _ (decls : List LayoutDecl) (opens : List Open) where
     abbrev kind_of_word : ℕ → Option ℕ → Option Kind
-    kind_of_word g None = whole_kind (type_at opens (g ∷ [])) (g ∷ [])
-    kind_of_word g (Some j) = kind_if_open (type_at opens (g ∷ [])) (Word (g ∷ []) j)
+    kind_of_word g word = word_kind opens g word
 
     -- how many of the words hold it
-    abbrev count : List FieldWord → ℕ
+    abbrev pub count : List FieldWord → ℕ
     count [] = 0
     count (w ∷ ws) = units_in w.width (kind_of_word w.field w.word) + count ws
 
-    count-append : (xs ys : List FieldWord) → count (xs ++ ys) ≡ count xs + count ys
+    pub count-append : (xs ys : List FieldWord) → count (xs ++ ys) ≡ count xs + count ys
     count-append [] ys = sym (zero-add (count ys))
     count-append (x ∷ xs) ys = let rest = count-append xs ys in omega (arith, rest)
 
@@ -107,10 +107,10 @@ module _ (ty : Ty) (f i : ℕ) where
     field-none g (w ∷ v ∷ ws) ne = from-none g 0 (w ∷ v ∷ ws) ne
 
     -- what parts hold of it
-    abbrev in_parts : List Part → ℕ
+    abbrev pub in_parts : List Part → ℕ
     in_parts ps = sum (map (held_in_part ty (f ∷ []) i) ps)
 
-    parts-append : (xs ys : List Part) → in_parts (xs ++ ys) ≡ in_parts xs + in_parts ys
+    pub parts-append : (xs ys : List Part) → in_parts (xs ++ ys) ≡ in_parts xs + in_parts ys
     parts-append [] ys = sym (zero-add (in_parts ys))
     parts-append (x ∷ xs) ys =
         let rest = parts-append xs ys in
@@ -118,7 +118,7 @@ module _ (ty : Ty) (f i : ℕ) where
         let b = sum_by-cons (λ n. n) (held_in_part ty (f ∷ []) i x) (map (held_in_part ty (f ∷ []) i) xs) in
         omega (arith, rest, a, b)
 
-    in-kind : (o l : ℕ) (kind : Option Kind) → in_parts (parts_of o l kind) ≡ units_in l kind
+    pub in-kind : (o l : ℕ) (kind : Option Kind) → in_parts (parts_of o l kind) ≡ units_in l kind
     in-kind o l None = refl
     in-kind o l (Some kind) = zero-add (if holds_unit ty (f ∷ []) i l kind then 1 else 0)
 
@@ -140,7 +140,7 @@ module _ (ty : Ty) (f i : ℕ) where
         parts-append first.it rest.it ∙ ap (λ m. m + in_parts rest.it) (word-laid o w n)
         ∙ ap (λ m. units_in w.width (kind_of_word w.field w.word) + m) (words-laid (o + w.width) ws (n + length first.blocks))
 
-    const-none : (ty' : Ty) (l k : ℕ) → holds_unit ty' (f ∷ []) i l (Const k) ≡ false
+    pub const-none : (ty' : Ty) (l k : ℕ) → holds_unit ty' (f ∷ []) i l (Const k) ≡ false
     const-none (Int bits) l k = refl
     const-none (Named s) l k = refl
 
@@ -203,7 +203,7 @@ module _ (s f i : ℕ) (decls : List LayoutDecl) (opens : List Open) (at : type_
   own-data (w ∷ []) lt = let here = own-whole w (omega (arith, lt)) in omega (arith, here)
   own-data (w ∷ v ∷ ws) lt = own-words 0 i (w ∷ v ∷ ws) (zero-add i) lt
 
-own-field : (p : Program) (decls : List LayoutDecl) (rooms : List Room) (ty : Ty) (f i : ℕ) (opens : List Open) → type_at opens (f ∷ []) ≡ Some ty → FieldFits p decls rooms ty
+pub own-field : (p : Program) (decls : List LayoutDecl) (rooms : List Room) (ty : Ty) (f i : ℕ) (opens : List Open) → type_at opens (f ∷ []) ≡ Some ty → FieldFits p decls rooms ty
     → i < units_of (with_layouts p decls) ty → count ty f i decls opens (field_words f (widths p rooms ty)) ≡ 1
 own-field p decls rooms (Int bits) f i opens at fits lt = own-integer bits f i decls opens at lt
 own-field p decls rooms (Named s) f i opens at fits lt =
@@ -218,7 +218,7 @@ module _ (p : Program) (decls : List LayoutDecl) (rooms : List Room) (ty : Ty) (
       let rest = past-fields (g + 1) tys (omega (arith, lt)) in
       omega (arith, both, here, rest)
 
-  own-fields : (g n : ℕ) (tys : List Ty) → g + n ≡ f → slice_get tys n ≡ Some ty → count ty f i decls opens (field_words f (widths p rooms ty)) ≡ 1
+  pub own-fields : (g n : ℕ) (tys : List Ty) → g + n ≡ f → slice_get tys n ≡ Some ty → count ty f i decls opens (field_words f (widths p rooms ty)) ≡ 1
       → count ty f i decls opens (fields_words p rooms g tys) ≡ 1
   own-fields g n [] e at own = absurd cc
   own-fields g zero (t ∷ tys) e at own =
@@ -237,16 +237,16 @@ module _ (p : Program) (decls : List LayoutDecl) (rooms : List Room) (ty : Ty) (
 
 -- The paths that are written are fields -----------------------------------------------------------------------
 
-abbrev EachPath : List Open → List (List ℕ) → Type 0
+abbrev pub EachPath : List Open → List (List ℕ) → Type 0
 EachPath opens paths = (k : ℕ) (path : List ℕ) → slice_get paths k ≡ Some path → IsOpenIn opens path
 
-paths-append : (opens : List Open) (xs ys : List (List ℕ)) → EachPath opens xs → EachPath opens ys → EachPath opens (xs ++ ys)
+pub paths-append : (opens : List Open) (xs ys : List (List ℕ)) → EachPath opens xs → EachPath opens ys → EachPath opens (xs ++ ys)
 paths-append opens [] ys h g k path e = g k path e
 paths-append opens (x ∷ xs) ys h g zero path e = h 0 path e
 paths-append opens (x ∷ xs) ys h g (suc k) path e = paths-append opens xs ys (λ j q at. h (suc j) q at) g k path e
 
 module _ (all : List Ty) where
-  abbrev IsField : FieldWord → Type 0
+  abbrev pub IsField : FieldWord → Type 0
   IsField w = (ty : Ty) × (slice_get all w.field ≡ Some ty)
 
   each-field-append : (xs ys : List FieldWord) → Each IsField xs → Each IsField ys → Each IsField (xs ++ ys)
@@ -262,7 +262,7 @@ module _ (all : List Ty) where
   of-field g (w ∷ []) is = (is, tt)
   of-field g (w ∷ v ∷ ws) is = from-field g 0 (w ∷ v ∷ ws) is
 
-  of-fields : (p : Program) (rooms : List Room) (g : ℕ) (tys : List Ty) → ((k : ℕ) (ty : Ty) → slice_get tys k ≡ Some ty → slice_get all (g + k) ≡ Some ty) → Each IsField (fields_words p rooms g tys)
+  pub of-fields : (p : Program) (rooms : List Room) (g : ℕ) (tys : List Ty) → ((k : ℕ) (ty : Ty) → slice_get tys k ≡ Some ty → slice_get all (g + k) ≡ Some ty) → Each IsField (fields_words p rooms g tys)
   of-fields p rooms g [] each = tt
   of-fields p rooms g (ty ∷ tys) each =
       each-field-append (field_words g (widths p rooms ty)) (fields_words p rooms (g + 1) tys)
@@ -275,7 +275,7 @@ module _ (all : List Ty) where
       shift : (m k : ℕ) → m + 1 + k ≡ m + suc k
       shift m k = omega arith
 
-  word-path : (g : ℕ) (word : Option ℕ) → (ty : Ty) × (slice_get all g ≡ Some ty) → EachPath (field_opens 0 all) (content_paths (written (record { field = g; word = word; width = 0 })))
+  pub word-path : (g : ℕ) (word : Option ℕ) → (ty : Ty) × (slice_get all g ≡ Some ty) → EachPath (field_opens 0 all) (content_paths (written (record { field = g; word = word; width = 0 })))
   word-path g None is zero path e = subst (λ (q : List ℕ). IsOpenIn (field_opens 0 all) q) (same_Some (g ∷ []) path e) (is.0, field-type all g is.0 is.1)
   word-path g None is (suc k) path e = absurd cc
   word-path g (Some j) is zero path e = subst (λ (q : List ℕ). IsOpenIn (field_opens 0 all) q) (same_Some (g ∷ []) path e) (is.0, field-type all g is.0 is.1)
@@ -291,7 +291,7 @@ module _ (all : List Ty) where
   parts-paths zero n ws each = words-paths 0 ws each
   parts-paths (suc tag) n ws each = words-paths (suc tag) ws each
 
-  no-path : EachPath (field_opens 0 all) []
+  pub no-path : EachPath (field_opens 0 all) []
   no-path k path e = absurd cc
 
 pub holds-its-fields : HoldsItsFields

@@ -30,7 +30,7 @@ use Rattle.rb_auto.specs.Fields.{cons_of}
 use Rattle.rb_auto.specs.FieldWords.{words_of}
 use Rattle.rb_auto.specs.Items.{form_parts, form_tag, form_width, part, parts_from, pointer_parts}
 use Rattle.rb_auto.specs.Derived.{tag_loc}
-use Rattle.rb_auto.specs.Rules.{MeetsItsTests}
+use Rattle.rb_auto.specs.inner.Rules.{MeetsItsTests}
 use Rattle.rb_auto.proofs.Leaves.{leaf-is, leaf_at, opens_at, parts_at, root-is}
 use Rattle.rb_auto.proofs.Splitting.{test-is}
 

@@ -23,7 +23,7 @@ use Rattle.rb_auto.specs.Fields.{cons_of}
 use Rattle.rb_auto.specs.FieldWords.{words_of}
 use Rattle.rb_auto.specs.Items.{form_parts, form_tag, form_width, leaf_items}
 use Rattle.rb_auto.specs.Derived.{arms_from, derived, leaf, provenance, tag_loc, tree_of}
-use Rattle.rb_auto.specs.Standing.{flat_derived}
+use Rattle.rb_auto.specs.inner.Standing.{flat_derived}
 
 pub get-map : {A B : Type 0} (f : A → B) (xs : List A) (n : ℕ) (y : B) → slice_get (map f xs) n ≡ Some y → (x : A) × (slice_get xs n ≡ Some x) × (y ≡ f x)
 get-map f [] n y e = absurd cc

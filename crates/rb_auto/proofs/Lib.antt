@@ -1,3 +1,4 @@
+pub mod Lists
 pub mod Searching
 pub mod Fielding
 pub mod Settling
@@ -14,3 +15,14 @@ pub mod Written
 pub mod Fitting
 pub mod Holding
 pub mod Reaching
+pub mod Numbering
+pub mod Tagging
+pub mod Boxes
+pub mod BoxBlocks
+pub mod BoxItems
+pub mod BoxFits
+pub mod BoxHolds
+pub mod Provenances
+pub mod Typed
+pub mod Obeying
+pub mod Agreeing

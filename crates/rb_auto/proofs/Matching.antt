@@ -23,7 +23,7 @@ use Rattle.rb_core.proofs.PatternLaws.{fold-Wild}
 use Rattle.rb_layout.specs.A9.{cons_below, cons_below_root, cons_of, cons_step}
 use Rattle.rb_auto.specs.Fields.{cons_in}
 use Rattle.rb_auto.specs.Derived.{provenance}
-use Rattle.rb_auto.specs.Rules.{FlattensNothing, HasOneLeaf, HasALeaf}
+use Rattle.rb_auto.specs.inner.Rules.{FlattensNothing, HasOneLeaf, HasALeaf}
 use Rattle.rb_auto.proofs.Leaves.{leaf-is, has-leaf}
 
 -- Nothing is flattened --------------------------------------------------------------------------------

@@ -25,8 +25,8 @@ use Rattle.rb_auto.specs.declared.room.Room.{Room}
 use Rattle.rb_auto.specs.Fields.{HasField}
 use Rattle.rb_auto.specs.FieldWords.{words_of}
 use Rattle.rb_auto.specs.Items.{block_items, boxed_parts, part, pointer_parts}
-use Rattle.rb_auto.specs.Standing.{flat_derived}
-use Rattle.rb_auto.specs.HoldingRules.{OpensItsFields, BoxIsOnNoCycle, FiniteIsOnNoCycle, HoldWhatTheyReach}
+use Rattle.rb_auto.specs.inner.Standing.{flat_derived}
+use Rattle.rb_auto.specs.inner.HoldingRules.{OpensItsFields, BoxIsOnNoCycle, FiniteIsOnNoCycle, HoldWhatTheyReach}
 use Rattle.rb_auto.proofs.Leaves.{leaf-is, opens_at, parts_at, root-is}
 use Rattle.rb_auto.proofs.Opens.{open-field, opens-are}
 
@@ -95,7 +95,7 @@ box-is-on-no-cycle p decls rooms t layouts is (n ∷ ts) chain = holds-none p de
 
 -- Types that don't reach themselves ------------------------------------------------------------------------
 
-chain-on : (R : ℕ → ℕ → Type 0) (a : ℕ) (ts : List ℕ) (b : ℕ) (us : List ℕ) (c : ℕ) → IsChain R a ts b → IsChain R b us c → IsChain R a (ts ++ b ∷ us) c
+pub chain-on : (R : ℕ → ℕ → Type 0) (a : ℕ) (ts : List ℕ) (b : ℕ) (us : List ℕ) (c : ℕ) → IsChain R a ts b → IsChain R b us c → IsChain R a (ts ++ b ∷ us) c
 chain-on R a [] b us c h g = (h, g)
 chain-on R a (t ∷ ts) b us c h g = (h.0, chain-on R t ts b us c h.1 g)
 

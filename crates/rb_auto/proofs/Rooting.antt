@@ -6,10 +6,10 @@ use Rattle.rb_layout.specs.declared.layout.Leaf.{Leaf}
 use Rattle.rb_layout.specs.A1.{IsShapeWidth}
 use Rattle.rb_layout.specs.A2.{widths_of}
 use Rattle.rb_auto.specs.Items.{form_width}
-use Rattle.rb_auto.specs.Rules.{HasAShape, HasItsRoot}
+use Rattle.rb_auto.specs.inner.Rules.{HasAShape, HasItsRoot}
 use Rattle.rb_auto.proofs.Leaves.{leaf-is, root-is}
 
-one-width : (w i x : ℕ) → IsShapeWidth w → slice_get (w ∷ []) i ≡ Some x → IsShapeWidth x
+pub one-width : (w i x : ℕ) → IsShapeWidth w → slice_get (w ∷ []) i ≡ Some x → IsShapeWidth x
 one-width w zero x h e = subst IsShapeWidth (same_Some w x e) h
 one-width w (suc i) x h e = absurd cc
 

@@ -24,7 +24,7 @@ use Rattle.rb_auto.specs.Fields.{cons_of}
 use Rattle.rb_auto.specs.FieldWords.{words_of}
 use Rattle.rb_auto.specs.Items.{form_tag, leaf_items}
 use Rattle.rb_auto.specs.Derived.{arms_from, leaf, provenance, tag_loc, tree_of}
-use Rattle.rb_auto.specs.Rules.{SplitsItsTag}
+use Rattle.rb_auto.specs.inner.Rules.{SplitsItsTag}
 
 -- the arm of leaf k
 abbrev tag_arms : ℕ → List Con → List FlatArm

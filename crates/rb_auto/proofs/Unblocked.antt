@@ -4,6 +4,7 @@ use Rattle.std.specs.Prelude.{slice_get}
 use Rattle.std.proofs.lemmas.Option.{same_Some}
 use Rattle.rb_core.specs.declared.types.Ty.{Ty}
 use Rattle.rb_core.specs.declared.types.Ty.TheVariants.{Int, Named}
+use Rattle.rb_core.specs.declared.program.Program.{Program}
 use Rattle.rb_core.specs.declared.layout_decl.LayoutDecl.{LayoutDecl}
 use Rattle.rb_core.specs.declared.layout_decl.PartDecl.{PartDecl}
 use Rattle.rb_core.specs.declared.layout_decl.PartKind.TheVariants as K
@@ -22,15 +23,17 @@ use Rattle.rb_layout.proofs.FlatForms.{Each}
 use Rattle.rb_layout.proofs.Computing.{part_at, const_at, whole_at, word_of_laid}
 use Rattle.rb_auto.specs.declared.field_words.FieldWord.{FieldWord}
 use Rattle.rb_auto.specs.declared.form.Form.TheVariants.{Packed}
+use Rattle.rb_auto.specs.declared.room.Room.{Room}
 use Rattle.rb_auto.specs.FieldWords.{content, content_in, words_of}
 use Rattle.rb_auto.specs.Items.{packed_parts, part, parts_from}
-use Rattle.rb_auto.specs.PackedRules.{HasNoBlocks}
+use Rattle.rb_auto.specs.inner.Standing.{EachDerivedLeaf}
+use Rattle.rb_auto.specs.inner.PackedRules.{HasNoBlocks}
 use Rattle.rb_auto.proofs.Leaves.{leaf-is, opens_at, parts_at, root-is, blocks-are}
 
 abbrev IsPlain : Part → Type 0
 IsPlain p = (align b : ℕ) → p.kind ≡ Pointer align b → ⊥
 
-abbrev IsPlainKind : Option Kind → Type 0
+abbrev pub IsPlainKind : Option Kind → Type 0
 IsPlainKind None = Unit {0}
 IsPlainKind (Some kind) = (align b : ℕ) → kind ≡ Pointer align b → ⊥
 
@@ -48,12 +51,12 @@ each-get [] k x h e = absurd cc
 each-get (y ∷ xs) zero x h e = subst IsPlain (same_Some y x e) h.0
 each-get (y ∷ xs) (suc k) x h e = each-get xs k x h.1 e
 
-whole-plain : (ty : Option Ty) (path : List ℕ) → IsPlainKind (whole_kind ty path)
+pub whole-plain : (ty : Option Ty) (path : List ℕ) → IsPlainKind (whole_kind ty path)
 whole-plain None path = tt
 whole-plain (Some (Int bits)) path = λ align b e. cc
 whole-plain (Some (Named s)) path = λ align b e. cc
 
-word-plain : (ty : Option Ty) (path : List ℕ) (j : ℕ) → IsPlainKind (kind_if_open ty (Word path j))
+pub word-plain : (ty : Option Ty) (path : List ℕ) (j : ℕ) → IsPlainKind (kind_if_open ty (Word path j))
 word-plain None path j = tt
 word-plain (Some ty) path j = λ align b e. cc
 
@@ -119,17 +122,27 @@ one-plain leaf width parts root none plain r l align b points =
         let gone : slice_get (words_of_block (slice_get leaf.blocks a)) r.word ≡ Some points.word = ap (λ (x : Option ℕ). slice_get (words_in leaf x) r.word) (sym is) ∙ points.is_word in
         absurd (cc (ap (λ (bs : List Block). slice_get (words_of_block (slice_get bs a)) r.word) (sym none) ∙ gone))
 
-pub has-no-blocks : HasNoBlocks
-has-no-blocks p decls rooms t tag width n leaf e =
+-- a packed leaf has no pointer
+pub has-no-pointer : (p : Program) (decls : List LayoutDecl) (rooms : List Room) (t tag width : ℕ)
+    → EachDerivedLeaf p decls rooms t (Packed tag width) (λ n leaf. (r : WordRef) (l align b : ℕ) → PointsTo leaf r l align b → ⊥)
+has-no-pointer p decls rooms t tag width n leaf e =
     let form = Packed tag width in
     let c = leaf-is p rooms t form decls n leaf e in
     let plain = packed-plain decls (opens_at p rooms t form decls n c.0) tag n (words_of p rooms c.0.fields) in
     let root = ap (λ (l : Leaf). l.root) c.2 ∙ root-is p rooms t form decls n c.0 in
     let none = ap (λ (l : Leaf). l.blocks) c.2 ∙ blocks-are p rooms t form decls n c.0 ∙ plain.none in
+    one-plain leaf width (parts_at p rooms t form decls n c.0).it root none plain.plain
+
+pub has-no-blocks : HasNoBlocks
+has-no-blocks p decls rooms t tag width n leaf e =
+    let form = Packed tag width in
+    let c = leaf-is p rooms t form decls n leaf e in
+    let plain = packed-plain decls (opens_at p rooms t form decls n c.0) tag n (words_of p rooms c.0.fields) in
+    let none = ap (λ (l : Leaf). l.blocks) c.2 ∙ blocks-are p rooms t form decls n c.0 ∙ plain.none in
     record {
       widths = λ b block j f at word. absurd (no-block leaf.blocks b block none at);
       lengths = λ b block at. absurd (no-block leaf.blocks b block none at);
       count = (let l = ap (λ (bs : List Block). length bs) none in omega (arith, l));
-      alignments = λ r l align b points. absurd (one-plain leaf width (parts_at p rooms t form decls n c.0).it root none plain.plain r l align b points);
-      wide = λ r l align b points. absurd (one-plain leaf width (parts_at p rooms t form decls n c.0).it root none plain.plain r l align b points);
+      alignments = λ r l align b points. absurd (has-no-pointer p decls rooms t tag width n leaf e r l align b points);
+      wide = λ r l align b points. absurd (has-no-pointer p decls rooms t tag width n leaf e r l align b points);
     }

@@ -45,7 +45,7 @@ part-around o l kind c is =
     fold_out-PartDecl (List Item) (Around Content) (Around WrittenPart) item_step kind_step part_step (part o l kind)
     ∙ ap (λ (a : Around Content). record { it = record { o = o; l = l; content = a.it }; inside = a.inside }) is
 
-content-around : (i : ℕ) (word : Option ℕ) → kind_around (content_in i word) ≡ plain (written_in i word)
+pub content-around : (i : ℕ) (word : Option ℕ) → kind_around (content_in i word) ≡ plain (written_in i word)
 content-around i None = fold-Whole (List Item) (Around Content) (Around WrittenPart) item_step kind_step part_step (i ∷ [])
 content-around i (Some j) = fold-WordOf (List Item) (Around Content) (Around WrittenPart) item_step kind_step part_step (i ∷ []) j
 

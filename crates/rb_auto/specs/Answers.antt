@@ -18,7 +18,8 @@ Derives = Result LayoutDecl AutoFault
 
 -- a packed type that does not reach itself and needs n bits
 abbrev pub packed_fit : Program → List Room → ℕ → ℕ → Derives
-packed_fit p rooms t n = if nat_le n 64 then Ok (derived p rooms t (Packed (tag_of p t) (max n 1))) else Err (PackedWide t n)
+packed_fit p rooms t n =
+    if nat_le n 64 then Ok (derived p rooms t (Packed (tag_of p t) (max n 1))) else Err (PackedWide t n)
 
 -- a packed type of this room: refused where it reaches itself, or else needs over 64 bits
 abbrev pub packed_answer : Program → List Room → ℕ → Option Room → Derives

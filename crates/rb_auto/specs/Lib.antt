@@ -5,8 +5,7 @@ pub mod FieldWords
 pub mod Items
 pub mod Derived
 pub mod Answers
-pub mod Standing
-pub mod Rules
-pub mod PackedRules
-pub mod HoldingRules
+pub mod Completed
+pub mod Obeying
+pub mod Agreeing
 pub mod inner

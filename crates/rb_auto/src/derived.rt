@@ -89,7 +89,8 @@ fn split(
     form: Form,
     cons: &[Con],
 ) -> Result<LayTree, AllocError>
-    ensures { IfOk result (λ tree. tree ≡ S.Split (tag_loc (form_tag form)) (arms_from program.now rooms.now ty form 0 cons.now) None) }
+    ensures { IfOk result (λ tree. tree
+        ≡ S.Split (tag_loc (form_tag form)) (arms_from program.now rooms.now ty form 0 cons.now) None) }
 {
     let arms = arms(alloc, program, rooms, ty, form, cons)?;
     let loc = Loc {

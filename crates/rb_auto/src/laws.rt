@@ -1,73 +1,33 @@
 //! Derived layouts obey the rules of agreement, as functions that carry the laws.
+//!
+//! A program is completed by its derived layouts, which stand after the written ones. Where the written
+//! ones obey the rules, and none of them flattens a boxed type, the completed program agrees.
 
-ghost use Rattle.rb_auto.specs.HoldingRules.{BoxIsOnNoCycle, FiniteIsOnNoCycle, OpensItsFields};
-ghost use Rattle.rb_auto.specs.PackedRules.{HasFittingParts, HasNoBlocks, HoldsItsFields};
-ghost use Rattle.rb_auto.specs.Rules.{FlattensNothing, HasALeaf, HasAShape, HasItsRoot, HasOneLeaf, MeetsItsTests, SplitsItsTag};
+ghost use Rattle.rb_auto.specs.Agreeing.{CompletedAgree};
+ghost use Rattle.rb_auto.specs.Obeying.{DerivedAreOnNoCycle, DerivedFlattenNothing, DerivedObey, PackedHaveNoPointer};
 
-/// The word of a derived layout has 1 to 64 bits.
-pub fn derived_shapes()
-    ensures { HasAShape }
-{}
-
-/// Each leaf of a derived layout has one root word, of the shape's width.
-pub fn derived_roots()
-    ensures { HasItsRoot }
-{}
-
-/// No value has two leaves of a derived layout.
-pub fn derived_leaves_are_apart()
-    ensures { HasOneLeaf }
-{}
-
-/// Each value has a leaf of a derived layout of its type.
-pub fn derived_leaves_are_complete()
-    ensures { HasALeaf }
+/// A derived layout obeys the rules A1 to A8, where the types of its fields have shapes.
+pub fn derived_layouts_obey()
+    ensures { DerivedObey }
 {}
 
 /// A derived layout flattens nothing.
 pub fn derived_layouts_flatten_nothing()
-    ensures { FlattensNothing }
+    ensures { DerivedFlattenNothing }
 {}
 
-/// The split of a derived layout has different tags, which fit its bits.
-pub fn derived_splits()
-    ensures { SplitsItsTag }
+/// A packed layout has no pointer, so that it may be flattened.
+pub fn packed_layouts_have_no_pointer()
+    ensures { PackedHaveNoPointer }
 {}
 
-/// The tag of a derived layout is known in each of its leaves.
-pub fn derived_tests()
-    ensures { MeetsItsTests }
+/// A derived layout stands on no cycle of types that hold each other in their root words.
+pub fn derived_layouts_are_on_no_cycle()
+    ensures { DerivedAreOnNoCycle }
 {}
 
-/// A packed layout has no blocks and no pointers.
-pub fn packed_blocks()
-    ensures { HasNoBlocks }
-{}
-
-/// The parts of a packed layout's words lie in them, are disjoint, and fit what they hold, where the types
-/// of its fields have the shapes by which it was derived.
-pub fn packed_parts()
-    ensures { HasFittingParts }
-{}
-
-/// A packed layout's word holds each unit of each field once, and nothing else, where the types of its
-/// fields have the shapes by which it was derived.
-pub fn packed_fields()
-    ensures { HoldsItsFields }
-{}
-
-/// What is open in a leaf of a derived layout is a field of its type.
-pub fn derived_positions()
-    ensures { OpensItsFields }
-{}
-
-/// A boxed layout stands on no cycle of types that hold each other in their root words.
-pub fn boxed_cycles()
-    ensures { BoxIsOnNoCycle }
-{}
-
-/// Nor does the layout of a type that does not reach itself, where fields lead from each type to those
-/// that it holds.
-pub fn finite_cycles()
-    ensures { FiniteIsOnNoCycle }
+/// A program agrees where its written layouts obey the rules and flatten no boxed type, and all layouts
+/// that are to be derived stand after them.
+pub fn completed_programs_agree()
+    ensures { CompletedAgree }
 {}

@@ -12,8 +12,9 @@
 //! };
 //! ```
 //!
-//! [`rooms::find_rooms`] says for each type how wide its word is, [`answer::derive`] derives a layout,
-//! and [`laws`] says which rules of agreement every derived layout obeys.
+//! [`rooms::find_rooms`] says for each type how wide its word is, and [`answer::derive`] derives a layout.
+//! [`laws`] says that derived layouts obey the rules of agreement in the program that they complete, and
+//! when such a program agrees.
 #![tactic(auto)]
 
 pub mod answer;

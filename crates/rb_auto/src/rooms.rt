@@ -48,7 +48,8 @@ fn shape_width(shape: &[u64]) -> Option<u64>
 
 // The width of a field, where the room of its type is known.
 fn field_width(program: &Program, settled: &[Option<Room>], ty: Ty) -> Option<u64>
-    ensures { IfSome result (λ bits. (rooms : List TheRoom) → Extends settled.now rooms → bits ≡ field_width program.now rooms ty) }
+    ensures { IfSome result (λ bits. (rooms : List TheRoom)
+        → Extends settled.now rooms → bits ≡ field_width program.now rooms ty) }
 {
     match ty {
         Ty::Int(bits) => Some(bits as u64),
@@ -65,7 +66,8 @@ fn field_width(program: &Program, settled: &[Option<Room>], ty: Ty) -> Option<u6
 
 // The width of a constructor, where the rooms of its fields' types are known.
 fn con_width(program: &Program, settled: &[Option<Room>], con: &Con) -> Option<u64>
-    ensures { IfSome result (λ bits. (rooms : List TheRoom) → Extends settled.now rooms → bits ≡ con_width program.now rooms con.now) }
+    ensures { IfSome result (λ bits. (rooms : List TheRoom)
+        → Extends settled.now rooms → bits ≡ con_width program.now rooms con.now) }
 {
     let mut bits: u64 = 0;
     for ty in con.fields.as_slice() {
@@ -88,7 +90,8 @@ fn greatest_width(program: &Program, settled: &[Option<Room>], cons: &[Con]) -> 
 
 // What a type needs to be packed, where the rooms of its fields' types are known.
 fn need(program: &Program, settled: &[Option<Room>], ty: u32) -> Option<u64>
-    ensures { IfSome result (λ bits. (rooms : List TheRoom) → Extends settled.now rooms → bits ≡ need program.now rooms ty) }
+    ensures { IfSome result (λ bits. (rooms : List TheRoom)
+        → Extends settled.now rooms → bits ≡ need program.now rooms ty) }
 {
     let cons = cons_of(program.types.as_slice(), ty);
     let most = greatest_width(program, settled, cons)?;
@@ -148,7 +151,8 @@ fn first_rooms(
 
 // Counts what a type needs, where it isn't known and now can be. Tells whether it could.
 fn settle_type(program: &Program, settled: &mut Seq<Option<Room>>, ty: u32) -> bool
-    ensures { (kinds : List (Option Kind)) → AreSettled program.now kinds settled.old → AreSettled program.now kinds settled.new }
+    ensures { (kinds : List (Option Kind))
+        → AreSettled program.now kinds settled.old → AreSettled program.now kinds settled.new }
 {
     match settled.get(ty as usize) {
         None => return false,
@@ -166,7 +170,8 @@ fn settle_type(program: &Program, settled: &mut Seq<Option<Room>>, ty: u32) -> b
 
 // Counts what types need, in their order. Tells whether any could be counted.
 fn settle_all(program: &Program, settled: &mut Seq<Option<Room>>) -> Result<bool, AllocError>
-    ensures { (kinds : List (Option Kind)) → OnOk result (AreSettled program.now kinds settled.old → AreSettled program.now kinds settled.new) }
+    ensures { (kinds : List (Option Kind))
+        → OnOk result (AreSettled program.now kinds settled.old → AreSettled program.now kinds settled.new) }
 {
     let mut some = false;
     for t in 0..program.types.len() {
@@ -179,7 +184,8 @@ fn settle_all(program: &Program, settled: &mut Seq<Option<Room>>) -> Result<bool
 
 // Counts what types need, until all are known or none more can be.
 fn settle(program: &Program, settled: &mut Seq<Option<Room>>) -> Result<(), AllocError>
-    ensures { (kinds : List (Option Kind)) → OnOk result (AreSettled program.now kinds settled.old → AreSettled program.now kinds settled.new) }
+    ensures { (kinds : List (Option Kind))
+        → OnOk result (AreSettled program.now kinds settled.old → AreSettled program.now kinds settled.new) }
 {
     for _turn in 0..program.types.len() {
         if !settle_all(program, settled)? {

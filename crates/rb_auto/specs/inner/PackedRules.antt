@@ -17,7 +17,8 @@ use Rattle.rb_auto.specs.declared.room.Room.{Room}
 use Rattle.rb_auto.specs.Fields.{cons_of}
 use Rattle.rb_auto.specs.Widths.{con_width, shape}
 use Rattle.rb_auto.specs.Derived.{derived}
-use Rattle.rb_auto.specs.Standing.{EachDerivedLeaf, TagFits, with_layouts}
+use Rattle.rb_auto.specs.Completed.{with_layouts}
+use Rattle.rb_auto.specs.inner.Standing.{EachDerivedLeaf, TagFits}
 
 -- A4: there are no blocks and no pointers
 abbrev pub HasNoBlocks : Type 0
@@ -30,22 +31,25 @@ FieldFits p decls rooms (Int bits) = IsShapeWidth bits
 FieldFits p decls rooms (Named s) = shape_of decls s ≡ shape p rooms s
 
 pub record FieldsFit (p : Program) (decls : List LayoutDecl) (rooms : List Room) (t : ℕ) : Type 0 where
-  pub each : (k : ℕ) (c : Con) (i : ℕ) (ty : Ty) → slice_get (cons_of p.types t) k ≡ Some c → slice_get c.fields i ≡ Some ty → FieldFits p decls rooms ty
+  pub each : (k : ℕ) (c : Con) (i : ℕ) (ty : Ty) → slice_get (cons_of p.types t) k ≡ Some c
+      → slice_get c.fields i ≡ Some ty → FieldFits p decls rooms ty
 
 -- each constructor has room behind the tag
 abbrev pub HasRoom : Program → List Room → ℕ → ℕ → ℕ → Type 0
-HasRoom p rooms t tag width = (k : ℕ) (c : Con) → slice_get (cons_of p.types t) k ≡ Some c → tag + con_width p rooms c ≤ width
+HasRoom p rooms t tag width =
+    (k : ℕ) (c : Con) → slice_get (cons_of p.types t) k ≡ Some c → tag + con_width p rooms c ≤ width
 
 -- A3: the parts lie in the word, are disjoint and fit what they hold
 abbrev pub HasFittingParts : Type 0
 HasFittingParts = (p : Program) (decls : List LayoutDecl) (rooms : List Room) (t tag width : ℕ)
     → TagFits p t (Packed tag width) → FieldsFit p decls rooms t → HasRoom p rooms t tag width
     → decl_of decls t ≡ Some (derived p rooms t (Packed tag width))
-    → EachDerivedLeaf p decls rooms t (Packed tag width) (λ n leaf. (i : ℕ) (item : Item) → slice_get (items_of decls t n) i ≡ Some item
-    → ItemFits decls (open_positions p.types leaf.prov) item)
+    → EachDerivedLeaf p decls rooms t (Packed tag width) (λ n leaf. (i : ℕ) (item : Item)
+    → slice_get (items_of decls t n) i ≡ Some item → ItemFits decls (open_positions p.types leaf.prov) item)
 
 -- A6: each unit of each field is held once, and nothing else
 abbrev pub HoldsItsFields : Type 0
 HoldsItsFields = (p : Program) (decls : List LayoutDecl) (rooms : List Room) (t tag width : ℕ)
     → FieldsFit p decls rooms t → decl_of decls t ≡ Some (derived p rooms t (Packed tag width))
-    → EachDerivedLeaf p decls rooms t (Packed tag width) (λ n leaf. HoldsOnce (with_layouts p decls) leaf (items_of decls t n))
+    → EachDerivedLeaf p decls rooms t (Packed tag width)
+    (λ n leaf. HoldsOnce (with_layouts p decls) leaf (items_of decls t n))

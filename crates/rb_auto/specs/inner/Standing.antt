@@ -11,10 +11,7 @@ use Rattle.rb_auto.specs.declared.room.Room.{Room}
 use Rattle.rb_auto.specs.Fields.{cons_of}
 use Rattle.rb_auto.specs.Items.{form_tag, form_width}
 use Rattle.rb_auto.specs.Derived.{derived}
-
--- the program with these layouts
-abbrev pub with_layouts : Program → List LayoutDecl → Program
-with_layouts p decls = record p { layouts = decls }
+use Rattle.rb_auto.specs.Completed.{with_layouts}
 
 -- the tag tells the type's constructors apart, of which there is one at least, and the word has room for it
 pub record TagFits (p : Program) (t : ℕ) (form : Form) : Type 0 where

@@ -12,7 +12,7 @@ use Rattle.rb_layout.specs.A9.{LeafFlattens}
 use Rattle.rb_auto.specs.declared.form.Form.{Form}
 use Rattle.rb_auto.specs.declared.room.Room.{Room}
 use Rattle.rb_auto.specs.Derived.{derived}
-use Rattle.rb_auto.specs.Standing.{TagFits, EachDerivedLeaf, flat_derived}
+use Rattle.rb_auto.specs.inner.Standing.{TagFits, EachDerivedLeaf, flat_derived}
 
 abbrev pub OfEach : (Program → List LayoutDecl → List Room → ℕ → Form → Type 0) → Type 0
 OfEach P = (p : Program) (decls : List LayoutDecl) (rooms : List Room) (t : ℕ) (form : Form) → P p decls rooms t form
@@ -23,11 +23,13 @@ HasAShape = OfEach (λ p decls rooms t form. TagFits p t form → HasShape (Some
 
 -- A2: each leaf has one root word of the shape's width
 abbrev pub HasItsRoot : Type 0
-HasItsRoot = OfEach (λ p decls rooms t form. EachDerivedLeaf p decls rooms t form (λ n leaf. HasRoot (flat_derived p decls rooms t form).shape leaf))
+HasItsRoot = OfEach (λ p decls rooms t form. EachDerivedLeaf p decls rooms t form
+    (λ n leaf. HasRoot (flat_derived p decls rooms t form).shape leaf))
 
 -- A5: no value has two leaves, and each has one
 abbrev pub HasOneLeaf : Type 0
-HasOneLeaf = OfEach (λ p decls rooms t form. EachDerivedLeaf p decls rooms t form (IsApart p.types t (flat_derived p decls rooms t form)))
+HasOneLeaf = OfEach (λ p decls rooms t form. EachDerivedLeaf p decls rooms t form
+    (IsApart p.types t (flat_derived p decls rooms t form)))
 
 abbrev pub HasALeaf : Type 0
 HasALeaf = OfEach (λ p decls rooms t form. IsComplete p.types t (flat_derived p decls rooms t form))
@@ -35,7 +37,8 @@ HasALeaf = OfEach (λ p decls rooms t form. IsComplete p.types t (flat_derived p
 -- A7: the tag is known in each leaf
 abbrev pub MeetsItsTests : Type 0
 MeetsItsTests = OfEach (λ p decls rooms t form. TagFits p t form → (layouts : List Layout)
-    → EachDerivedLeaf p decls rooms t form (λ n leaf. MeetsAll p.types layouts (flat_derived p decls rooms t form).tree n leaf))
+    → EachDerivedLeaf p decls rooms t form
+    (λ n leaf. MeetsAll p.types layouts (flat_derived p decls rooms t form).tree n leaf))
 
 -- A8: the tags are different and fit
 abbrev pub SplitsItsTag : Type 0
@@ -43,4 +46,5 @@ SplitsItsTag = OfEach (λ p decls rooms t form. TagFits p t form → AllSplitWel
 
 -- A9: it flattens nothing
 abbrev pub FlattensNothing : Type 0
-FlattensNothing = OfEach (λ p decls rooms t form. EachDerivedLeaf p decls rooms t form (λ n leaf. (s : ℕ) → LeafFlattens leaf s → ⊥))
+FlattensNothing = OfEach (λ p decls rooms t form. EachDerivedLeaf p decls rooms t form
+    (λ n leaf. (s : ℕ) → LeafFlattens leaf s → ⊥))

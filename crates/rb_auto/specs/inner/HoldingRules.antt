@@ -11,8 +11,8 @@ use Rattle.rb_layout.specs.A10.{HoldsField}
 use Rattle.rb_auto.specs.declared.form.Form.TheVariants.{Boxed}
 use Rattle.rb_auto.specs.declared.room.Room.{Room}
 use Rattle.rb_auto.specs.Fields.{HasField, IsFinite}
-use Rattle.rb_auto.specs.Standing.{EachDerivedLeaf, flat_derived}
-use Rattle.rb_auto.specs.Rules.{OfEach}
+use Rattle.rb_auto.specs.inner.Standing.{EachDerivedLeaf, flat_derived}
+use Rattle.rb_auto.specs.inner.Rules.{OfEach}
 
 -- what is open in a leaf of a derived layout is a field of its type
 abbrev pub OpensItsFields : Type 0
@@ -26,8 +26,10 @@ BoxIsOnNoCycle = (p : Program) (decls : List LayoutDecl) (rooms : List Room) (t 
 
 -- fields lead from each type to those that it holds
 abbrev pub HoldWhatTheyReach : Program → List Layout → Type 0
-HoldWhatTheyReach p layouts = (t s : ℕ) → HoldsField p.types layouts t s → (ts : List ℕ) × IsChain (HasField p.types) t ts s
+HoldWhatTheyReach p layouts =
+    (t s : ℕ) → HoldsField p.types layouts t s → (ts : List ℕ) × IsChain (HasField p.types) t ts s
 
 -- a type that does not reach itself is on no cycle
 abbrev pub FiniteIsOnNoCycle : Type 0
-FiniteIsOnNoCycle = (p : Program) (layouts : List Layout) (t : ℕ) → HoldWhatTheyReach p layouts → IsFinite p.types t → HasNoCycle (HoldsField p.types layouts) t
+FiniteIsOnNoCycle = (p : Program) (layouts : List Layout) (t : ℕ)
+    → HoldWhatTheyReach p layouts → IsFinite p.types t → HasNoCycle (HoldsField p.types layouts) t

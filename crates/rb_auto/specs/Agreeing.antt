@@ -1,0 +1,42 @@
+-- A completed program agrees where its written layouts obey the rules and flatten no boxed type.
+use Rattle.std.specs.Prelude.{◌≡◌, ℕ, ◌<◌, List, length, Option, Some, None}
+use Rattle.rb_core.specs.declared.types.Auto.{Auto}
+use Rattle.rb_core.specs.declared.types.Auto.TheVariants.{Boxed}
+use Rattle.rb_core.specs.declared.program.Program.{Program}
+use Rattle.rb_core.specs.declared.layout_decl.LayoutDecl.{LayoutDecl}
+use Rattle.rb_core.specs.WellNumbered.{IsWellNumbered}
+use Rattle.rb_layout.specs.declared.layout.Layout.{Layout}
+use Rattle.rb_layout.specs.Flattening.{flat_layouts}
+use Rattle.rb_layout.specs.Cycles.{HasNoCycle}
+use Rattle.rb_layout.specs.A9.{Flattens, HasPointerPart}
+use Rattle.rb_layout.specs.A10.{HoldsField}
+use Rattle.rb_layout.specs.Agreement.{Agrees}
+use Rattle.rb_auto.specs.Rooms.{kind_of}
+use Rattle.rb_auto.specs.Completed.{Completes, HaveTypedProvenances, completed}
+use Rattle.rb_auto.specs.Obeying.{ObeysAt}
+
+module _ (kinds : List (Option Auto)) where
+  -- no layout is derived for the type
+  abbrev pub IsWritten : ℕ → Type 0
+  IsWritten t = kind_of kinds t ≡ None
+
+  -- a relation among types whose layouts are written
+  abbrev pub AmongWritten : (ℕ → ℕ → Type 0) → ℕ → ℕ → Type 0
+  AmongWritten R t s = IsWritten t × IsWritten s × R t s
+
+-- the written layouts of a completed program obey the rules: those on pointers and cycles among themselves
+pub record WrittenObey (p : Program) (kinds : List (Option Auto)) (layouts : List Layout) : Type 0 where
+  pub each : (t : ℕ) → t < length p.types → IsWritten kinds t → ObeysAt p layouts t
+  pub no_pointer : (t s : ℕ) → AmongWritten kinds (Flattens layouts) t s → HasPointerPart layouts s → ⊥
+  pub no_flattening : (t : ℕ) → HasNoCycle (AmongWritten kinds (Flattens layouts)) t
+  pub no_holding : (t : ℕ) → HasNoCycle (AmongWritten kinds (HoldsField p.types layouts)) t
+
+-- no written layout flattens a boxed type
+abbrev pub FlattenNoBoxed : List (Option Auto) → List Layout → Type 0
+FlattenNoBoxed kinds layouts = (t s : ℕ) → IsWritten kinds t → Flattens layouts t s → kind_of kinds s ≡ Some Boxed → ⊥
+
+abbrev pub CompletedAgree : Type 0
+CompletedAgree = (p : Program) (kinds : List (Option Auto)) (derived : List LayoutDecl)
+    → IsWellNumbered p → HaveTypedProvenances p → Completes p kinds derived
+    → WrittenObey (completed p derived) kinds (flat_layouts (completed p derived))
+    → FlattenNoBoxed kinds (flat_layouts (completed p derived)) → Agrees (completed p derived)
