@@ -15,7 +15,6 @@ ghost use Rattle.rb_agree.specs.Written.{shown_content, shown_item, shown_items,
 ghost use Rattle.rb_agree.specs.inner.Lists.{FindsIn};
 ghost use Rattle.rb_agree.specs.inner.Held.{AreOnce, FailsEach, FailsPath, FailsPlace, FailsUnit, FailsUnits, HoldsPlace, IsOpenPath, block_runs, has_unit, leaf_runs, part_paths, part_runs, times, word_runs};
 
-use crate::decls::shape_of;
 use crate::items::{Content, Item, Written};
 use crate::parts::is_open;
 use crate::positions::{Place, places};
@@ -23,6 +22,7 @@ use rb_core::pattern::Pat;
 use rb_core::program::Program;
 use rb_core::seq::Seq;
 use rb_core::types::{DataDecl, Ty};
+use rb_layout::decls::shape_of;
 use rb_layout::evidence::Why;
 use rb_layout::layout::{Block, FlatWord, Kind, Leaf, Part};
 use std::alloc::{AllocError, Global};

@@ -41,7 +41,6 @@
 pub mod agree;
 pub mod blocks;
 mod cycles;
-mod decls;
 pub mod fault;
 pub mod graphs;
 pub mod held;

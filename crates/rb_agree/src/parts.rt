@@ -9,13 +9,13 @@ ghost use Rattle.rb_bits.specs.Words.{AreDisjoint};
 ghost use Rattle.rb_agree.specs.inner.Parts.{AreApart, AreFine, FailsApart, FailsBefore, FailsFit, FailsPair, FailsPart, FailsSome, FailsWord, HaveBits, IsApartBefore, IsPartFine};
 ghost use Rattle.rb_agree.specs.Written.{shown_content, shown_item, shown_part, shown_parts};
 
-use crate::decls::shape_of;
 use crate::items::{Content, Item, Written};
 use crate::numbers::fits;
 use rb_core::layout_decl::LayoutDecl;
 use rb_core::pattern::Pat;
 use rb_core::seq::Seq;
 use rb_core::types::{DataDecl, Ty};
+use rb_layout::decls::shape_of;
 use rb_layout::evidence::Why;
 use rb_layout::positions::type_at;
 use std::alloc::{AllocError, Global};

@@ -7,10 +7,10 @@ ghost use Rattle.rb_layout.specs.Spots.{shape_spots};
 ghost use Rattle.rb_agree.specs.Answers.{Finds};
 ghost use Rattle.rb_layout.specs.A1.{FailsShape, HasShape, IsShapeWidth};
 
-use crate::decls::decl_of;
 use crate::numbers::number_of;
 use rb_core::layout_decl::LayoutDecl;
 use rb_core::program::Program;
+use rb_layout::decls::decl_of;
 use rb_layout::evidence::{Refused, Why};
 use std::alloc::AllocError;
 

@@ -18,7 +18,6 @@
 #![tactic(auto)]
 
 pub mod answer;
-mod decls;
 mod derived;
 mod fault;
 pub mod field_words;

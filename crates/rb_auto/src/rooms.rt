@@ -13,7 +13,6 @@ ghost use Rattle.rb_auto.specs.Widths.{con_width, counted, field_width, greatest
 ghost use Rattle.rb_auto.specs.inner.Graphs.{field_graph};
 ghost use Rattle.rb_auto.specs.inner.Settling.{AreSettled, Extends, IsFirst};
 
-use crate::decls::decl_of;
 use crate::derived::cons_of;
 use crate::numbers::number_of;
 use crate::recursion::{field_graph, is_recursive};
@@ -21,6 +20,7 @@ use crate::room::{Room, counted, room_width};
 use rb_core::program::Program;
 use rb_core::seq::Seq;
 use rb_core::types::{Auto, Con, Ty};
+use rb_layout::decls::decl_of;
 use std::alloc::{AllocError, Global};
 
 /// The least number of bits that tell so many constructors apart.

@@ -117,7 +117,10 @@ fn type_call(
     wanted: Option<Ty>,
     scope: &mut Seq<Param>,
 ) -> Result<Ty, TypeFault>
-    ensures answers { Answers result (and_then (arguments at (map (rule_of program.now.types program.now.funs) parts.now) (param_types program.now.funs fun) (binders scope.old)) (λ typed. fits at wanted (result_type program.now.funs fun))) }
+    ensures answers { Answers result (and_then
+        (arguments at (map (rule_of program.now.types program.now.funs) parts.now)
+        (param_types program.now.funs fun) (binders scope.old))
+        (λ typed. fits at wanted (result_type program.now.funs fun))) }
     ensures scope { OnOk result (scope.new ≡ scope.old) }
 {
     type_arguments(
@@ -140,7 +143,9 @@ fn type_build(
     wanted: Option<Ty>,
     scope: &mut Seq<Param>,
 ) -> Result<Ty, TypeFault>
-    ensures answers { Answers result (and_then (arguments at (map (rule_of program.now.types program.now.funs) parts.now) (field_types program.now.types con) (binders scope.old)) (λ typed. fits at wanted (Named con.ty))) }
+    ensures answers { Answers result (and_then
+        (arguments at (map (rule_of program.now.types program.now.funs) parts.now)
+        (field_types program.now.types con) (binders scope.old)) (λ typed. fits at wanted (Named con.ty))) }
     ensures scope { OnOk result (scope.new ≡ scope.old) }
 {
     let fields = fields_of(program.types.as_slice(), con);
@@ -157,7 +162,8 @@ fn type_arguments(
     wanted: Wanted,
     scope: &mut Seq<Param>,
 ) -> Result<(), TypeFault>
-    ensures answers { Answers result (arguments at (map (rule_of program.now.types program.now.funs) parts.now) (wanted_types wanted.entry) (binders scope.old)) }
+    ensures answers { Answers result (arguments at (map (rule_of program.now.types program.now.funs) parts.now)
+        (wanted_types wanted.entry) (binders scope.old)) }
     ensures scope { OnOk result (scope.new ≡ scope.old) }
 {
     if parts.len() != wanted.len() {
@@ -180,7 +186,10 @@ fn type_binary(
     wanted: Option<Ty>,
     scope: &mut Seq<Param>,
 ) -> Result<Ty, TypeFault>
-    ensures answers { Answers result (and_then (operands op (rule_of program.now.types program.now.funs a.now) (rule_of program.now.types program.now.funs b.now) wanted (binders scope.old)) (λ t. fits at wanted (operator_type op t))) }
+    ensures answers { Answers result (and_then
+        (operands op (rule_of program.now.types program.now.funs a.now)
+        (rule_of program.now.types program.now.funs b.now) wanted (binders scope.old))
+        (λ t. fits at wanted (operator_type op t))) }
     ensures scope { OnOk result (scope.new ≡ scope.old) }
 {
     let first = type_integer(program, a, operand_wanted(op, wanted), scope)?;
@@ -196,7 +205,8 @@ fn type_integer(
     wanted: Option<Ty>,
     scope: &mut Seq<Param>,
 ) -> Result<Ty, TypeFault>
-    ensures answers { Answers result (integer_operand (rule_of program.now.types program.now.funs expr.now) wanted (binders scope.old)) }
+    ensures answers { Answers result (integer_operand (rule_of program.now.types program.now.funs expr.now) wanted
+        (binders scope.old)) }
     ensures scope { OnOk result (scope.new ≡ scope.old) }
 {
     let found = type_expression(program, expr, wanted, scope)?;
@@ -213,7 +223,10 @@ fn type_let(
     wanted: Option<Ty>,
     scope: &mut Seq<Param>,
 ) -> Result<Ty, TypeFault>
-    ensures answers { Answers result (and_then (type_of program.now.types program.now.funs a.now (Some param.ty) (binders scope.old)) (λ t. type_of program.now.types program.now.funs b.now wanted (binders scope.old ++ record { var = param.var; ty = param.ty } ∷ []))) }
+    ensures answers { Answers result (and_then
+        (type_of program.now.types program.now.funs a.now (Some param.ty) (binders scope.old))
+        (λ t. type_of program.now.types program.now.funs b.now wanted
+        (binders scope.old ++ record { var = param.var; ty = param.ty } ∷ []))) }
     ensures scope { OnOk result (scope.new ≡ scope.old) }
 {
     type_expression(program, a, Some(param.ty), scope)?;
@@ -233,7 +246,9 @@ fn type_match(
     wanted: Option<Ty>,
     scope: &mut Seq<Param>,
 ) -> Result<Ty, TypeFault>
-    ensures answers { Answers result (and_then (type_of program.now.types program.now.funs scrutinee.now None (binders scope.old)) (λ t. clauses (map (clause_rule program.now.types program.now.funs) cases.now) t wanted (binders scope.old))) }
+    ensures answers { Answers result (and_then
+        (type_of program.now.types program.now.funs scrutinee.now None (binders scope.old))
+        (λ t. clauses (map (clause_rule program.now.types program.now.funs) cases.now) t wanted (binders scope.old))) }
     ensures scope { OnOk result (scope.new ≡ scope.old) }
 {
     let scrutinee = type_expression(program, scrutinee, None, scope)?;
@@ -249,7 +264,8 @@ fn type_clauses(
     wanted: Option<Ty>,
     scope: &mut Seq<Param>,
 ) -> Result<Ty, TypeFault>
-    ensures answers { Answers result (clauses (map (clause_rule program.now.types program.now.funs) cases.now) scrutinee wanted (binders scope.old)) }
+    ensures answers { Answers result (clauses
+        (map (clause_rule program.now.types program.now.funs) cases.now) scrutinee wanted (binders scope.old)) }
     ensures scope { OnOk result (scope.new ≡ scope.old) }
 {
     let mut found = wanted;
@@ -268,7 +284,8 @@ fn type_clause(
     wanted: Option<Ty>,
     scope: &mut Seq<Param>,
 ) -> Result<Ty, TypeFault>
-    ensures answers { Answers result (clause_rule program.now.types program.now.funs case.now scrutinee wanted (binders scope.old)) }
+    ensures answers { Answers result (clause_rule program.now.types program.now.funs case.now scrutinee wanted
+        (binders scope.old)) }
     ensures scope { OnOk result (scope.new ≡ scope.old) }
 {
     let depth = scope.len();

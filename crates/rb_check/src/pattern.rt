@@ -51,7 +51,8 @@ pub fn bind_whole(
     ty: Ty,
     scope: &mut Seq<Param>,
 ) -> Result<(), TypeFault>
-    ensures binds { Leaves result (binders scope.new) (within (binders scope.old) (pattern_binders types.now pattern.now ty)) }
+    ensures binds { Leaves result (binders scope.new)
+        (within (binders scope.old) (pattern_binders types.now pattern.now ty)) }
     ensures kept { OnOk result (take (length scope.old) scope.new ≡ scope.old) }
 {
     let depth = scope.len();
@@ -122,7 +123,8 @@ fn bind_fields(
     fields: &[Ty],
     bound: &mut Seq<Param>,
 ) -> Result<(), TypeFault>
-    ensures binds { Leaves result bound.new (also_bound bound.old (fields_match at (map (pattern_params types.now) subpatterns.now) fields.now)) }
+    ensures binds { Leaves result bound.new (also_bound bound.old
+        (fields_match at (map (pattern_params types.now) subpatterns.now) fields.now)) }
 {
     if subpatterns.len() != fields.len() {
         return Err(TypeFault::Arity(at, fields.len() as u64, subpatterns.len() as u64));

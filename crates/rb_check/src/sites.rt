@@ -119,7 +119,8 @@ fn add_arguments(
     scope: &mut Seq<Binder>,
     found: &mut Seq<Site>,
 ) -> Result<(), AllocError>
-    ensures added { OnOk result (found.new ≡ found.old ++ argument_sites program.now.types program.now.funs scope.old parts.now) }
+    ensures added { OnOk result (found.new ≡ found.old
+        ++ argument_sites program.now.types program.now.funs scope.old parts.now) }
     ensures scope { OnOk result (scope.new ≡ scope.old) }
 {
     for part in parts {
@@ -138,7 +139,8 @@ fn add_under(
     scope: &mut Seq<Binder>,
     found: &mut Seq<Site>,
 ) -> Result<(), AllocError>
-    ensures added { OnOk result (found.new ≡ found.old ++ sites program.now.types program.now.funs body.now (scope.old ++ binder ∷ [])) }
+    ensures added { OnOk result (found.new ≡ found.old
+        ++ sites program.now.types program.now.funs body.now (scope.old ++ binder ∷ [])) }
     ensures scope { OnOk result (scope.new ≡ scope.old) }
 {
     let depth = scope.len();
@@ -158,7 +160,8 @@ fn add_bodies(
     scope: &mut Seq<Binder>,
     found: &mut Seq<Site>,
 ) -> Result<(), AllocError>
-    ensures added { OnOk result (found.new ≡ found.old ++ flat_map (body_sites program.now.types program.now.funs ty scope.old) clauses.now) }
+    ensures added { OnOk result (found.new ≡ found.old
+        ++ flat_map (body_sites program.now.types program.now.funs ty scope.old) clauses.now) }
     ensures scope { OnOk result (scope.new ≡ scope.old) }
 {
     for clause in clauses {
@@ -177,7 +180,8 @@ fn add_body(
     scope: &mut Seq<Binder>,
     found: &mut Seq<Site>,
 ) -> Result<(), AllocError>
-    ensures added { OnOk result (found.new ≡ found.old ++ body_sites program.now.types program.now.funs ty scope.old clause.now) }
+    ensures added { OnOk result (found.new ≡ found.old
+        ++ body_sites program.now.types program.now.funs ty scope.old clause.now) }
     ensures scope { OnOk result (scope.new ≡ scope.old) }
 {
     let depth = scope.len();

@@ -62,7 +62,8 @@ fn place_blocks<M: ByteMemory>(
 ) -> Result<Seq<u64>, EncodeFault>
     requires good { IsGood (M.memory memory.old) }
     requires placeable { ArePlaceable blocks.now }
-    ensures { ArePlaced (subs_of table.now nodes.now node) blocks.now (M.memory memory.old) (M.memory memory.new) result }
+    ensures { ArePlaced (subs_of table.now nodes.now node) blocks.now (M.memory memory.old)
+        (M.memory memory.new) result }
 {
     let mut addresses = Seq::new(alloc);
     for block in blocks {

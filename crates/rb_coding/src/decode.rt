@@ -31,7 +31,8 @@ pub fn decode<M: ByteMemory>(
 ) -> Result<Forest, DecodeFault>
     requires good { IsGood (M.memory memory.now) }
     requires represented { (v : Value) × AreOf agreed.now.covered.program (M.memory memory.now) ty words.now v }
-    ensures { (v : Value) → AreOf agreed.now.covered.program (M.memory memory.now) ty words.now v → IsDecoded v limit result }
+    ensures { (v : Value) → AreOf agreed.now.covered.program (M.memory memory.now) ty words.now v
+        → IsDecoded v limit result }
 {
     if limit == 0 {
         return Err(DecodeFault::TooLarge);

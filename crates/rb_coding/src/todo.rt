@@ -37,7 +37,8 @@ pub(crate) fn open<M: ByteMemory>(
 ) -> Result<(), AllocError>
     requires good { IsGood (M.memory memory.now) }
     requires represented { (v : Value) × AreOf agreed.now.covered.program (M.memory memory.now) (Named ty) words.now v }
-    ensures { OnOk result (IsOpened agreed.now.covered.program (M.memory memory.now) ty words.now todo.old.items todo.new.items) }
+    ensures { OnOk result (IsOpened agreed.now.covered.program
+        (M.memory memory.now) ty words.now todo.old.items todo.new.items) }
 {
     let layouts = agreed.layouts();
     let types = agreed.covered().program().types.as_slice();

@@ -77,7 +77,10 @@ impl Frame {
 
     // Lets the variables behind a depth go.
     pub(crate) fn truncate(&mut self, depth: Depth)
-        ensures { self.new ≡ record self.old { scope = take depth.scope self.old.scope; values = take depth.values self.old.values } }
+        ensures { self.new ≡ record self.old {
+          scope = take depth.scope self.old.scope;
+          values = take depth.values self.old.values;
+        } }
     {
         self.scope.truncate(depth.scope);
         self.values.truncate(depth.values);

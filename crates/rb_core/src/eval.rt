@@ -61,7 +61,8 @@ fn eval_call(
     left: u64,
     log: &mut Seq<Event>,
 ) -> Result<SourceEnd, AllocError>
-    ensures gives { IfOk result (λ end. (k : ℕ) → left ≤ k → Gives (call_within program.now k fun left args.now) log.old log.new end) }
+    ensures gives { IfOk result (λ end. (k : ℕ) → left ≤ k
+        → Gives (call_within program.now k fun left args.now) log.old log.new end) }
     ensures fewer { IfOk result (IsWithinCalls left) }
 {
     if left == 0 {
@@ -96,7 +97,9 @@ fn eval_expr(
     frame: &mut Frame,
     log: &mut Seq<Event>,
 ) -> Result<SourceEnd, AllocError>
-    ensures gives { IfOk result (λ end. (k : ℕ) → left ≤ k → Gives (meaning_of program.now (call_within program.now k) frame.old.fun expr.now wanted frame.old.scope left frame.old.values) log.old log.new end) }
+    ensures gives { IfOk result (λ end. (k : ℕ) → left ≤ k
+        → Gives (meaning_of program.now (call_within program.now k) frame.old.fun expr.now wanted frame.old.scope
+        left frame.old.values) log.old log.new end) }
     ensures fewer { IfOk result (IsWithinCalls left) }
     ensures frame { OnOk result (frame.new ≡ frame.old) }
 {
@@ -164,7 +167,11 @@ fn eval_invoke(
     frame: &mut Frame,
     log: &mut Seq<Event>,
 ) -> Result<SourceEnd, AllocError>
-    ensures gives { IfOk result (λ end. (k : ℕ) → calls ≤ k → Gives (then_with (all_of (map (meaning_of program.now (call_within program.now k) frame.old.fun) parts.now) (param_types program.now.funs fun) frame.old.scope [] calls frame.old.values) (λ vs rest. call_within program.now k fun rest vs)) log.old log.new end) }
+    ensures gives { IfOk result (λ end. (k : ℕ) → calls ≤ k
+        → Gives (then_with (all_of (map (meaning_of program.now
+        (call_within program.now k) frame.old.fun) parts.now)
+        (param_types program.now.funs fun) frame.old.scope [] calls frame.old.values)
+        (λ vs rest. call_within program.now k fun rest vs)) log.old log.new end) }
     ensures fewer { IfOk result (IsWithinCalls calls) }
     ensures frame { OnOk result (frame.new ≡ frame.old) }
 {
@@ -188,7 +195,11 @@ fn eval_build(
     frame: &mut Frame,
     log: &mut Seq<Event>,
 ) -> Result<SourceEnd, AllocError>
-    ensures gives { IfOk result (λ end. (k : ℕ) → calls ≤ k → Gives (then_with (all_of (map (meaning_of program.now (call_within program.now k) frame.old.fun) parts.now) (field_types program.now.types con) frame.old.scope [] calls frame.old.values) (built con)) log.old log.new end) }
+    ensures gives { IfOk result (λ end. (k : ℕ) → calls ≤ k
+        → Gives (then_with (all_of (map (meaning_of program.now
+        (call_within program.now k) frame.old.fun) parts.now)
+        (field_types program.now.types con) frame.old.scope [] calls frame.old.values)
+        (built con)) log.old log.new end) }
     ensures fewer { IfOk result (IsWithinCalls calls) }
     ensures frame { OnOk result (frame.new ≡ frame.old) }
 {
@@ -215,7 +226,14 @@ fn eval_binary(
     frame: &mut Frame,
     log: &mut Seq<Event>,
 ) -> Result<SourceEnd, AllocError>
-    ensures gives { IfOk result (λ end. (k : ℕ) → calls ≤ k → Gives (then_do (meaning_of program.now (call_within program.now k) frame.old.fun a.now (operand_wanted op wanted) frame.old.scope calls frame.old.values) (λ v rest. then_do (meaning_of program.now (call_within program.now k) frame.old.fun b.now (Some (operands_type op wanted (inferred_type program.now.types program.now.funs a.now None frame.old.scope))) frame.old.scope rest frame.old.values) (combined op (width_of (operands_type op wanted (inferred_type program.now.types program.now.funs a.now None frame.old.scope))) v))) log.old log.new end) }
+    ensures gives { IfOk result (λ end. (k : ℕ) → calls ≤ k
+        → Gives (then_do (meaning_of program.now (call_within program.now k) frame.old.fun a.now
+        (operand_wanted op wanted) frame.old.scope calls frame.old.values)
+        (λ v rest. then_do (meaning_of program.now (call_within program.now k) frame.old.fun b.now
+        (Some (operands_type op wanted (inferred_type program.now.types program.now.funs a.now None
+        frame.old.scope))) frame.old.scope rest frame.old.values)
+        (combined op (width_of (operands_type op wanted
+        (inferred_type program.now.types program.now.funs a.now None frame.old.scope))) v))) log.old log.new end) }
     ensures fewer { IfOk result (IsWithinCalls calls) }
     ensures frame { OnOk result (frame.new ≡ frame.old) }
 {
@@ -244,7 +262,10 @@ fn eval_to(
     frame: &mut Frame,
     log: &mut Seq<Event>,
 ) -> Result<SourceEnd, AllocError>
-    ensures gives { IfOk result (λ end. (k : ℕ) → calls ≤ k → Gives (then_do (meaning_of program.now (call_within program.now k) frame.old.fun a.now None frame.old.scope calls frame.old.values) (cut_to bits)) log.old log.new end) }
+    ensures gives { IfOk result (λ end. (k : ℕ) → calls ≤ k
+        → Gives (then_do (meaning_of program.now
+        (call_within program.now k) frame.old.fun a.now None frame.old.scope calls frame.old.values)
+        (cut_to bits)) log.old log.new end) }
     ensures fewer { IfOk result (IsWithinCalls calls) }
     ensures frame { OnOk result (frame.new ≡ frame.old) }
 {
@@ -269,7 +290,12 @@ fn eval_let(
     frame: &mut Frame,
     log: &mut Seq<Event>,
 ) -> Result<SourceEnd, AllocError>
-    ensures gives { IfOk result (λ end. (k : ℕ) → calls ≤ k → Gives (then_do (meaning_of program.now (call_within program.now k) frame.old.fun a.now (Some binder.ty) frame.old.scope calls frame.old.values) (λ v rest. meaning_of program.now (call_within program.now k) frame.old.fun b.now wanted (with_binder frame.old.scope binder.var binder.ty) rest (with_value frame.old.values binder.var v))) log.old log.new end) }
+    ensures gives { IfOk result (λ end. (k : ℕ) → calls ≤ k
+        → Gives (then_do (meaning_of program.now (call_within program.now k) frame.old.fun a.now
+        (Some binder.ty) frame.old.scope calls frame.old.values)
+        (λ v rest. meaning_of program.now (call_within program.now k) frame.old.fun b.now wanted
+        (with_binder frame.old.scope binder.var binder.ty) rest
+        (with_value frame.old.values binder.var v))) log.old log.new end) }
     ensures fewer { IfOk result (IsWithinCalls calls) }
     ensures frame { OnOk result (frame.new ≡ frame.old) }
 {
@@ -297,7 +323,16 @@ fn eval_match(
     frame: &mut Frame,
     log: &mut Seq<Event>,
 ) -> Result<SourceEnd, AllocError>
-    ensures gives { IfOk result (λ end. (k : ℕ) → calls ≤ k → Gives (then_do (meaning_of program.now (call_within program.now k) frame.old.fun scrutinee.now None frame.old.scope calls frame.old.values) (λ v rest. after (Matched frame.old.fun at ∷ []) (first_of program.now.types (inferred_type program.now.types program.now.funs scrutinee.now None frame.old.scope) (map (clause_meaning program.now (call_within program.now k) frame.old.fun) clauses.now) wanted (Some (match_type program.now.types wanted (map (clause_inferred program.now.types program.now.funs) clauses.now) (inferred_type program.now.types program.now.funs scrutinee.now None frame.old.scope) frame.old.scope)) frame.old.scope v rest frame.old.values))) log.old log.new end) }
+    ensures gives { IfOk result (λ end. (k : ℕ) → calls ≤ k
+        → Gives (then_do (meaning_of program.now
+        (call_within program.now k) frame.old.fun scrutinee.now None frame.old.scope calls frame.old.values)
+        (λ v rest. after (Matched frame.old.fun at ∷ [])
+        (first_of program.now.types (inferred_type program.now.types program.now.funs scrutinee.now None
+        frame.old.scope) (map (clause_meaning program.now (call_within program.now k) frame.old.fun) clauses.now)
+        wanted (Some (match_type program.now.types wanted
+        (map (clause_inferred program.now.types program.now.funs) clauses.now)
+        (inferred_type program.now.types program.now.funs scrutinee.now None frame.old.scope) frame.old.scope))
+        frame.old.scope v rest frame.old.values))) log.old log.new end) }
     ensures fewer { IfOk result (IsWithinCalls calls) }
     ensures frame { OnOk result (frame.new ≡ frame.old) }
 {
@@ -329,7 +364,10 @@ fn eval_clauses(
     frame: &mut Frame,
     log: &mut Seq<Event>,
 ) -> Result<SourceEnd, AllocError>
-    ensures gives { IfOk result (λ end. (k : ℕ) → calls ≤ k → Gives (first_of program.now.types ty (map (clause_meaning program.now (call_within program.now k) frame.old.fun) clauses.now) first_wanted others frame.old.scope value.now calls frame.old.values) log.old log.new end) }
+    ensures gives { IfOk result (λ end. (k : ℕ) → calls ≤ k
+        → Gives (first_of program.now.types ty
+        (map (clause_meaning program.now (call_within program.now k) frame.old.fun) clauses.now) first_wanted others
+        frame.old.scope value.now calls frame.old.values) log.old log.new end) }
     ensures fewer { IfOk result (IsWithinCalls calls) }
     ensures frame { OnOk result (frame.new ≡ frame.old) }
 {
@@ -357,7 +395,9 @@ fn eval_all(
     frame: &mut Frame,
     log: &mut Seq<Event>,
 ) -> Result<PartsEnd, AllocError>
-    ensures gives { IfOk result (λ end. (k : ℕ) → calls ≤ k → GivesParts (all_of (map (meaning_of program.now (call_within program.now k) frame.old.fun) parts.now) tys.now frame.old.scope [] calls frame.old.values) log.old log.new end) }
+    ensures gives { IfOk result (λ end. (k : ℕ) → calls ≤ k
+        → GivesParts (all_of (map (meaning_of program.now (call_within program.now k) frame.old.fun) parts.now)
+        tys.now frame.old.scope [] calls frame.old.values) log.old log.new end) }
     ensures fewer { IfOk result (IsPartsWithinCalls calls) }
     ensures frame { OnOk result (frame.new ≡ frame.old) }
 {

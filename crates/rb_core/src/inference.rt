@@ -52,7 +52,8 @@ pub fn infer_operands(
     wanted: Option<Ty>,
     scope: &mut Seq<Binder>,
 ) -> Result<Ty, AllocError>
-    ensures ty { IfOk result (λ t. t ≡ operands_type op wanted (inferred_type program.now.types program.now.funs first.now None scope.old)) }
+    ensures ty { IfOk result (λ t. t ≡ operands_type op wanted
+        (inferred_type program.now.types program.now.funs first.now None scope.old)) }
     ensures scope { OnOk result (scope.new ≡ scope.old) }
 {
     let found = infer(program, first, None, scope)?;
@@ -68,7 +69,8 @@ fn infer_let(
     wanted: Option<Ty>,
     scope: &mut Seq<Binder>,
 ) -> Result<Ty, AllocError>
-    ensures ty { IfOk result (λ t. t ≡ inferred_type program.now.types program.now.funs body.now wanted (scope.old ++ record { var = var; ty = ty } ∷ [])) }
+    ensures ty { IfOk result (λ t. t ≡ inferred_type program.now.types program.now.funs body.now wanted
+        (scope.old ++ record { var = var; ty = ty } ∷ [])) }
     ensures scope { OnOk result (scope.new ≡ scope.old) }
 {
     let depth = scope.len();
@@ -87,7 +89,8 @@ pub fn infer_match(
     wanted: Option<Ty>,
     scope: &mut Seq<Binder>,
 ) -> Result<Ty, AllocError>
-    ensures ty { IfOk result (λ t. t ≡ match_type program.now.types wanted (map (clause_inferred program.now.types program.now.funs) clauses.now) ty scope.old) }
+    ensures ty { IfOk result (λ t. t ≡ match_type program.now.types wanted
+        (map (clause_inferred program.now.types program.now.funs) clauses.now) ty scope.old) }
     ensures scope { OnOk result (scope.new ≡ scope.old) }
 {
     if let Some(wanted) = wanted {

@@ -60,8 +60,10 @@ impl Value {
     // The next value to take apart, and the list that is open then: the first subvalue, in whose
     // place a link to the list that was open is left; else the last value of that list.
     fn take_apart(self, list: Seq<Value>) -> Option<(Value, Seq<Value>)>
-        ensures total { IfSome result (λ r. node_count r.0 + sum (map node_count r.1) ≤ node_count self + sum (map node_count list)) }
-        ensures falls { IfSome result (λ r. node_count r.0 + sum (map node_count r.1) ≡ node_count self + sum (map node_count list) → node_count r.0 < node_count self) }
+        ensures total { IfSome result (λ r. node_count r.0 + sum (map node_count r.1)
+            ≤ node_count self + sum (map node_count list)) }
+        ensures falls { IfSome result (λ r. node_count r.0 + sum (map node_count r.1)
+            ≡ node_count self + sum (map node_count list) → node_count r.0 < node_count self) }
     {
         match self {
             Value::Num(_) => Value::last_of(list),

@@ -41,7 +41,8 @@ pub fn tree_up_to(
     ensures tried { IfOk result (λ r. IsTried types.now ty rows.now limit r) }
 
     // Where the match is exhaustive, it takes the chosen clause of each value of the type.
-    ensures takes { IfOk result (λ r. IsExhaustive types.now ty rows.now → OnBuilt r (TakesChosen types.now ty rows.now)) }
+    ensures takes { IfOk result (λ r. IsExhaustive types.now ty rows.now
+        → OnBuilt r (TakesChosen types.now ty rows.now)) }
 
     // It tests no position twice on a way, and only those at which some row has a head.
     ensures once { IfOk result (λ r. OnBuilt r TestsOnce) }
@@ -65,7 +66,8 @@ pub fn tree(alloc: Global, types: &[DataDecl], ty: Ty, rows: &[Pat]) -> Result<T
     ensures tried { IfOk result (λ r. IsTried types.now ty rows.now 512 r) }
 
     // Where the match is exhaustive, it takes the chosen clause of each value of the type.
-    ensures takes { IfOk result (λ r. IsExhaustive types.now ty rows.now → OnBuilt r (TakesChosen types.now ty rows.now)) }
+    ensures takes { IfOk result (λ r. IsExhaustive types.now ty rows.now
+        → OnBuilt r (TakesChosen types.now ty rows.now)) }
 
     // It tests no position twice on a way, and only those at which some row has a head.
     ensures once { IfOk result (λ r. OnBuilt r TestsOnce) }

@@ -10,9 +10,8 @@ ghost use Rattle.rb_core.specs.declared.pattern.Pat.{Wild};
 ghost use Rattle.rb_decide.specs.Decisions.{OnUnfolded, TakesChosen, TestsOnce, TestsHeads};
 ghost use Rattle.rb_decide.specs.Graphs.{unfolding_of, LinksAreLower};
 ghost use Rattle.rb_decide.specs.Trees.{match_tree};
-ghost use Rattle.rb_decide.specs.inner.Chains.{chain, chain_fields, one_test, AreChained, IsChained};
-ghost use Rattle.rb_matrix.specs.Problems.{head_count, row_heads};
-ghost use Rattle.std.specs.Prelude.{map};
+ghost use Rattle.rb_decide.specs.inner.Chains.{AreChained, IsFieldChain, IsPatternChain, IsTest};
+ghost use Rattle.rb_matrix.specs.Problems.{head_count};
 
 use crate::branches::fields_of_head;
 use crate::clause_matrix::number_of;
@@ -42,7 +41,8 @@ fn add_test(
 ) -> Result<u32, AllocError>
     requires fine { AreChained nodes.old }
     requires within { under < length nodes.old }
-    ensures { IfOk result (λ i. IsChained (one_test types.now head (record { position = position.now; ty = ty })) 1 nodes.old under nodes.new i) }
+    ensures { IfOk result (IsTest types.now head
+        (record { position = position.now; ty = ty }) nodes.old under nodes.new) }
 {
     let number = number_of(nodes.len())?;
     let full = covers(types, ty, &[head])?;
@@ -76,7 +76,8 @@ fn add_pattern(
 ) -> Result<u32, AllocError>
     requires fine { AreChained nodes.old }
     requires within { under < length nodes.old }
-    ensures { IfOk result (λ i. IsChained (chain types.now pat.now (record { position = position.now; ty = ty })) (head_count pat.now) nodes.old under nodes.new i) }
+    ensures { IfOk result
+        (IsPatternChain types.now pat.now (record { position = position.now; ty = ty }) nodes.old under nodes.new) }
 {
     match pat {
         Pat::Wild(_) => Ok(under),
@@ -110,7 +111,7 @@ fn add_fields(
 ) -> Result<u32, AllocError>
     requires fine { AreChained nodes.old }
     requires within { under < length nodes.old }
-    ensures { IfOk result (λ i. IsChained (chain_fields (map (chain types.now) subs.now) position.now fields.now) (row_heads subs.now) nodes.old under nodes.new i) }
+    ensures { IfOk result (IsFieldChain types.now subs.now position.now fields.now nodes.old under nodes.new) }
 {
     let count = subs.len();
     if fields.len() != count {

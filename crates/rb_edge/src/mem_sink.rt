@@ -51,7 +51,14 @@ impl MemSink {
         fail: Seq<u64>,
     ) -> Result<MemSink, AllocError>
         requires { 1 ≤ step }
-        ensures { IfOk result (λ s. s ≡ record { room = room; step = step; fail = fail; calls = 0; taken = []; faults = 0 }) }
+        ensures { IfOk result (λ s. s ≡ record {
+          room = room;
+          step = step;
+          fail = fail;
+          calls = 0;
+          taken = [];
+          faults = 0;
+        }) }
     {
         let bytes = Vec::with_capacity(alloc, room)?;
         Ok(MemSink {

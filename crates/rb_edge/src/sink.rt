@@ -26,7 +26,8 @@ pub trait Sink {
 
         ensures within { IfOk result (λ n. n ≤ length bytes.now) }
         ensures some { IfOk result (λ n. 0 < length bytes.now → 0 < n) }
-        ensures taken { IfOk result (λ n. IsTrue (tells self.old) → taken self.new ≡ taken self.old ++ take n bytes.now) }
+        ensures taken { IfOk result (λ n. IsTrue (tells self.old)
+            → taken self.new ≡ taken self.old ++ take n bytes.now) }
         ensures err { OnErr result (IsTrue (tells self.old) → taken self.new ≡ taken self.old) }
         ensures cause { OnErr result (Rose (faults self.old) (faults self.new)) };
 }

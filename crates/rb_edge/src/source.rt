@@ -39,7 +39,8 @@ pub trait Source {
 
         // A name under which nothing is held is never opened, and that is no fault.
         ensures not_held { IsTrue (tells self.old) → held self.old name.now ≡ None → IsErr result }
-        ensures no_fault { IsTrue (tells self.old) → held self.old name.now ≡ None → faults self.new ≡ faults self.old };
+        ensures no_fault { IsTrue (tells self.old) → held self.old name.now ≡ None
+            → faults self.new ≡ faults self.old };
 
     /// Reads the next bytes into the front of the buffer, and says how many. What stands behind them
     /// in the buffer is left open.

@@ -48,7 +48,8 @@ fn read_left<S: Source>(alloc: Global, source: &mut S, limit: usize) -> Result<V
     requires { limit < usize.MAX }
     ensures same { HoldsTheSame S.tells S.held source.old source.new }
     ensures later { S.faults source.old ≤ S.faults source.new }
-    ensures bytes { IfOk result (λ bytes. IsTrue (S.tells source.old) → bytes.items ≡ take (limit + 1) (S.left source.old)) }
+    ensures bytes { IfOk result (λ bytes. IsTrue (S.tells source.old)
+        → bytes.items ≡ take (limit + 1) (S.left source.old)) }
     ensures within { IfOk result (λ bytes. length bytes.items ≤ limit + 1) }
     ensures cause { IsErrOf result ReadFault.Failed → Rose (S.faults source.old) (S.faults source.new) }
 {
@@ -89,8 +90,10 @@ pub fn read_whole<S: Source>(
         FailsToOpen S.tells S.held S.faults source.old source.new name.now }
 
     // A name under which nothing is held is answered so, and that is no fault.
-    ensures not_held { IsTrue (S.tells source.old) → S.held source.old name.now ≡ None → IsErrOf result ReadFault.Failed }
-    ensures no_fault { IsTrue (S.tells source.old) → S.held source.old name.now ≡ None → S.faults source.new ≡ S.faults source.old }
+    ensures not_held { IsTrue (S.tells source.old) → S.held source.old name.now ≡ None
+        → IsErrOf result ReadFault.Failed }
+    ensures no_fault { IsTrue (S.tells source.old) → S.held source.old name.now ≡ None
+        → S.faults source.new ≡ S.faults source.old }
 {
     source.open_file(name)?;
     let bytes = read_left(alloc, source, limit)?;
@@ -103,7 +106,8 @@ pub fn write_whole<K: Sink>(sink: &mut K, bytes: &[u8]) -> Result<(), Failed>
     ensures later { K.faults sink.old ≤ K.faults sink.new }
 
     ensures all { OnOk result (IsTrue (K.tells sink.old) → K.taken sink.new ≡ K.taken sink.old ++ bytes.now) }
-    ensures front { OnErr result (IsTrue (K.tells sink.old) → TakesFront bytes.now (K.taken sink.old) (K.taken sink.new)) }
+    ensures front { OnErr result (IsTrue (K.tells sink.old)
+        → TakesFront bytes.now (K.taken sink.old) (K.taken sink.new)) }
     ensures cause { OnErr result (Rose (K.faults sink.old) (K.faults sink.new)) }
 {
     let mut done = 0;

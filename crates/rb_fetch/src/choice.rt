@@ -44,7 +44,8 @@ pub fn choose_leaf(
     args: &[Held],
 ) -> Result<Choices, AllocError>
     ensures chooses { IfOk result (λ choices. ChoosesLeaf agreed.now con args.now body.old body.new choices) }
-    ensures holes { IfOk result (λ choices. AreHoles (length body.old.code) (length choices.ways) body.new.code choices.holes) }
+    ensures holes { IfOk result (λ choices. AreHoles (length body.old.code)
+        (length choices.ways) body.new.code choices.holes) }
     ensures ways { IfOk result (λ choices. AreOfOneWay choices.holes) }
     ensures grows { OnOk result (Grows body.old.code body.new.code) }
 {

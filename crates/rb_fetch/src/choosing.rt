@@ -87,7 +87,8 @@ pub(crate) fn choose_leaf_at(
     args: &[Held],
 ) -> Result<Choices, AllocError>
     ensures chooses { IfOk result (λ choices. ChoosesLeaf agreed.now con args.now body.old body.new choices) }
-    ensures holes { IfOk result (λ choices. AreHoles (length body.old.code) (length choices.ways) body.new.code choices.holes) }
+    ensures holes { IfOk result (λ choices. AreHoles (length body.old.code)
+        (length choices.ways) body.new.code choices.holes) }
     ensures ways { IfOk result (λ choices. AreOfOneWay choices.holes) }
     ensures grows { OnOk result (Grows body.old.code body.new.code) }
 {
@@ -125,7 +126,8 @@ fn choose(
     parts: &mut Seq<Subvalue>,
     looked: &mut Seq<Seq<u32>>,
 ) -> Result<Seq<Way>, AllocError>
-    ensures chooses { IfOk result (λ ways. ChoosesFrom agreed.now ty leaves.now looked.old parts.old body.old body.new ways) }
+    ensures chooses { IfOk result
+        (λ ways. ChoosesFrom agreed.now ty leaves.now looked.old parts.old body.old body.new ways) }
     ensures ways { IfOk result (λ ways. AreOpen (length body.old.code) body.new.code ways) }
     ensures grows { OnOk result (Grows body.old.code body.new.code) }
     ensures parts { OnOk result (parts.new ≡ parts.old) }
@@ -179,7 +181,8 @@ fn look(
     looked: &mut Seq<Seq<u32>>,
     place: &Place,
 ) -> Result<Seq<Way>, AllocError>
-    ensures chooses { IfOk result (λ ways. ChoosesBy agreed.now ty leaves.now looked.old parts.old place.now.path place.now.con.ty body.old body.new ways) }
+    ensures chooses { IfOk result (λ ways. ChoosesBy agreed.now ty leaves.now looked.old parts.old place.now.path
+        place.now.con.ty body.old body.new ways) }
     ensures ways { IfOk result (λ ways. AreOpen (length body.old.code) body.new.code ways) }
     ensures grows { OnOk result (Grows body.old.code body.new.code) }
     ensures parts { OnOk result (parts.new ≡ parts.old) }
@@ -225,7 +228,8 @@ fn choose_each(
     words: &[usize],
     count: usize,
 ) -> Result<Branches, AllocError>
-    ensures done { IfOk result (λ b. BranchesDone agreed.now ty leaves.now looked.old parts.old place.now.path place.now.con.ty words.now count body.old body.new b.starts b.ways) }
+    ensures done { IfOk result (λ b. BranchesDone agreed.now ty leaves.now looked.old parts.old place.now.path
+        place.now.con.ty words.now count body.old body.new b.starts b.ways) }
     ensures parts { OnOk result (parts.new ≡ parts.old) }
     ensures looked { OnOk result (looked.new ≡ looked.old) }
 {
@@ -271,7 +275,8 @@ fn choose_under(
     words: &[usize],
     inner: usize,
 ) -> Result<Seq<Way>, AllocError>
-    ensures chooses { IfOk result (λ ways. ChoosesUnder agreed.now ty leaves.now looked.old parts.old place.now.path place.now.con.ty words.now inner body.old body.new ways) }
+    ensures chooses { IfOk result (λ ways. ChoosesUnder agreed.now ty leaves.now looked.old parts.old place.now.path
+        place.now.con.ty words.now inner body.old body.new ways) }
     ensures ways { IfOk result (λ ways. AreOpen (length body.old.code) body.new.code ways) }
     ensures grows { OnOk result (Grows body.old.code body.new.code) }
     ensures parts { OnOk result (parts.new ≡ parts.old) }
@@ -334,7 +339,8 @@ fn fetch_fields(
     needed: bool,
     parts: &mut Seq<Subvalue>,
 ) -> Result<(), AllocError>
-    ensures fetches { OnOk result (FetchesFields agreed.now path.now con leaf words.now body.old body.new parts.old parts.new) }
+    ensures fetches { OnOk result
+        (FetchesFields agreed.now path.now con leaf words.now body.old body.new parts.old parts.new) }
     ensures parts { OnOk result (take (length parts.old) parts.new ≡ parts.old) }
     ensures grows { OnOk result (Grows body.old.code body.new.code) }
 {
@@ -385,7 +391,8 @@ pub(crate) fn fetch_part(
     pat: &Pat,
     path: &Seq<u32>,
 ) -> Result<Seq<usize>, AllocError>
-    ensures fetches { IfOk result (λ slots. FetchesPart agreed.now ty leaf pat.now path.now words.now body.old body.new slots) }
+    ensures fetches { IfOk result
+        (λ slots. FetchesPart agreed.now ty leaf pat.now path.now words.now body.old body.new slots) }
     ensures grows { OnOk result (Grows body.old.code body.new.code) }
 {
     if depth == 0 {
@@ -433,7 +440,8 @@ fn fetch_parts(
     subs: &[Pat],
     path: &Seq<u32>,
 ) -> Result<Seq<Held>, AllocError>
-    ensures fetches { IfOk result (λ args. FetchesParts agreed.now ty leaf con subs.now (length subs.now) path.now words.now body.old body.new args) }
+    ensures fetches { IfOk result (λ args. FetchesParts agreed.now ty leaf con subs.now
+        (length subs.now) path.now words.now body.old body.new args) }
     ensures grows { OnOk result (Grows body.old.code body.new.code) }
 {
     let mut args = Seq::new(alloc);

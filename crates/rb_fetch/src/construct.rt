@@ -48,7 +48,8 @@ pub fn construct(
 
 // The first leaf for a constructor, where it takes no field apart: it is the leaf of all its values then.
 pub(crate) fn alone(alloc: Global, leaves: &[Leaf], con: u32) -> Result<Option<&Leaf>, AllocError>
-    ensures { IfOk result (λ found. (leaf : LeafValue) → option_copied found ≡ Some leaf → IsAlone con leaves.now leaf) }
+    ensures { IfOk result (λ found. (leaf : LeafValue) → option_copied found ≡ Some leaf
+        → IsAlone con leaves.now leaf) }
 {
     for leaf in leaves {
         if is_leaf_for(leaf, con) {
@@ -70,7 +71,8 @@ pub(crate) fn emit_alone(
     con: ConRef,
     args: &[Held],
 ) -> Result<Held, AllocError>
-    ensures makes { IfOk result (λ held. (held.ty ≡ Named con.ty) × MakesLeaf leaf.now (parts_from 0 args.now) body.old body.new held.slots) }
+    ensures makes { IfOk result (λ held. (held.ty ≡ Named con.ty)
+        × MakesLeaf leaf.now (parts_from 0 args.now) body.old body.new held.slots) }
     ensures grows { OnOk result (Grows body.old.code body.new.code) }
 {
     let subs = parts_of(alloc, args)?;
@@ -138,7 +140,8 @@ fn emit_arms(
     leaves: &[Leaf],
     ways: &[Way],
 ) -> Result<Arms, AllocError>
-    ensures emits { IfOk result (λ r. EmitsArms ty leaves.now ways.now (length ways.now) body.old body.new r.into r.joins r.starts) }
+    ensures emits { IfOk result (λ r. EmitsArms ty leaves.now ways.now
+        (length ways.now) body.old body.new r.into r.joins r.starts) }
     ensures are { IfOk result (λ r. ArmsAre (length ways.now) body.old body.new r.joins r.starts) }
 {
     let mut starts = Seq::new(alloc);

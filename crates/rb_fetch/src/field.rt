@@ -129,7 +129,8 @@ pub fn fetch_field(
     leaf: usize,
     path: &[u32],
 ) -> Result<Seq<usize>, AllocError>
-    ensures fetches { IfOk result (λ slots. FetchesField agreed.now ty leaf path.now words.now body.old body.new slots) }
+    ensures fetches { IfOk result
+        (λ slots. FetchesField agreed.now ty leaf path.now words.now body.old body.new slots) }
     ensures grows { OnOk result (Grows body.old.code body.new.code) }
 {
     let slots = fetch_field_at(alloc, body, words, agreed, DEPTH, ty, leaf, path)?;

@@ -128,7 +128,8 @@ fn is_among(paths: &[Seq<u32>], path: &[u32]) -> bool
 
 /// The first constructor whose position is not among some.
 pub(crate) fn next_place<'a>(places: &'a [Place], looked: &[Seq<u32>]) -> Option<&'a Place>
-    ensures { MatchOption result (are_looked_at looked.now places.now) (λ place. IsNext looked.now places.now place.now) }
+    ensures { MatchOption result (are_looked_at looked.now places.now)
+        (λ place. IsNext looked.now places.now place.now) }
 {
     for place in places {
         if !is_among(looked, place.path.as_slice()) {

@@ -29,7 +29,8 @@ pub fn find_leaf(
     ty: u32,
 ) -> Result<Seq<Hole>, AllocError>
     ensures leaf { IfOk result (λ holes. FindsLeaf agreed.now ty words.now body.old body.new holes) }
-    ensures holes { IfOk result (λ holes. AreHoles (length body.old.code) (leaf_count agreed.now ty) body.new.code holes) }
+    ensures holes { IfOk result (λ holes. AreHoles (length body.old.code)
+        (leaf_count agreed.now ty) body.new.code holes) }
     ensures ways { IfOk result (λ holes. AreOfOneWay holes) }
     ensures grows { OnOk result (Grows body.old.code body.new.code) }
 {
@@ -50,7 +51,8 @@ pub fn find_leaf_of(
     ty: u32,
 ) -> Result<Seq<Hole>, AllocError>
     ensures leaf { IfOk result (λ holes. FindsLeafOf agreed.now ty words.now body.old body.new holes) }
-    ensures holes { IfOk result (λ holes. AreHoles (length body.old.code) (leaf_count agreed.now ty) body.new.code holes) }
+    ensures holes { IfOk result (λ holes. AreHoles (length body.old.code)
+        (leaf_count agreed.now ty) body.new.code holes) }
     ensures ways { IfOk result (λ holes. AreOfOneWay holes) }
     ensures grows { OnOk result (Grows body.old.code body.new.code) }
 {

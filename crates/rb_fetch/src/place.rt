@@ -96,7 +96,8 @@ fn is_wanted(part: &Part, path: &[u32], wanted: Wanted) -> bool
 }
 
 fn part_of<'a>(flat: &'a FlatWord, path: &[u32], wanted: Wanted) -> Option<&'a Part>
-    ensures { MatchOption result (placing.NoneIn path.now wanted flat.now.parts) (λ x. placing.HasPart path.now wanted flat.now.parts x.now) }
+    ensures { MatchOption result (placing.NoneIn path.now wanted flat.now.parts)
+        (λ x. placing.HasPart path.now wanted flat.now.parts x.now) }
 {
     for part in flat.parts.as_slice() {
         if is_wanted(part, path, wanted) {
@@ -112,7 +113,8 @@ fn spot_in<'a>(
     path: &[u32],
     wanted: Wanted,
 ) -> Option<Spot<'a>>
-    ensures { MatchOption result (placing.NoneOf path.now wanted words.now) (λ x. placing.IsSpotOf path.now wanted words.now block x) }
+    ensures { MatchOption result (placing.NoneOf path.now wanted words.now)
+        (λ x. placing.IsSpotOf path.now wanted words.now block x) }
 {
     for (word, flat) in words.iter().enumerate() {
         if let Some(part) = part_of(flat, path, wanted) {
@@ -129,7 +131,8 @@ fn spot_in<'a>(
 
 /// Where the wanted part of a leaf stands. The path is that of the field, where one of its units is wanted.
 pub fn find_part<'a>(leaf: &'a Leaf, path: &[u32], wanted: Wanted) -> Option<Spot<'a>>
-    ensures { MatchOption result (placing.NoSpot leaf.now path.now wanted) (λ x. placing.IsWantedSpot leaf.now path.now wanted x) }
+    ensures { MatchOption result (placing.NoSpot leaf.now path.now wanted)
+        (λ x. placing.IsWantedSpot leaf.now path.now wanted x) }
 {
     if let Some(spot) = spot_in(leaf.root.as_slice(), None, path, wanted) {
         return Some(spot);

@@ -36,7 +36,8 @@ pub(crate) fn fetch_field_at(
     leaf: usize,
     path: &[u32],
 ) -> Result<Seq<usize>, AllocError>
-    ensures fetches { IfOk result (λ slots. FetchesField agreed.now ty leaf path.now words.now body.old body.new slots) }
+    ensures fetches { IfOk result
+        (λ slots. FetchesField agreed.now ty leaf path.now words.now body.old body.new slots) }
     ensures grows { OnOk result (Grows body.old.code body.new.code) }
 {
     if depth == 0 {

@@ -69,7 +69,8 @@ pub(crate) fn spot_span(
 ) -> Result<Span, AllocError>
     requires leaf { IsAgreedLeaf leaf.now }
     requires spot { IsSpot leaf.now spot }
-    ensures { IfOk result (λ span. SpansPart leaf.now words.now span spot.entry.flat.now.width spot.entry.part.now.l spot.entry.part.now.kind) }
+    ensures { IfOk result (λ span. SpansPart leaf.now words.now span spot.entry.flat.now.width spot.entry.part.now.l
+        spot.entry.part.now.kind) }
 {
     let loc = location(alloc, leaf, spot)?;
     let span = span_at(alloc, words, &loc)?;

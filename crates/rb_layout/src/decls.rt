@@ -7,7 +7,7 @@ ghost use Rattle.rb_layout.specs.Flattening.{decl_of, shape_of};
 use rb_core::layout_decl::LayoutDecl;
 
 /// The layout that is declared for a type.
-pub(crate) fn decl_of(decls: &[LayoutDecl], ty: u32) -> Option<&LayoutDecl>
+pub fn decl_of(decls: &[LayoutDecl], ty: u32) -> Option<&LayoutDecl>
     ensures { option_copied result ≡ decl_of decls.now ty }
 {
     for decl in decls {
@@ -19,7 +19,7 @@ pub(crate) fn decl_of(decls: &[LayoutDecl], ty: u32) -> Option<&LayoutDecl>
 }
 
 /// The widths of the words of a type's values, in bits; none where it has no layout.
-pub(crate) fn shape_of(decls: &[LayoutDecl], ty: u32) -> &[u64]
+pub fn shape_of(decls: &[LayoutDecl], ty: u32) -> &[u64]
     ensures { result.now ≡ shape_of decls.now ty }
 {
     match decl_of(decls, ty) {

@@ -18,7 +18,7 @@
 
 pub mod agreed;
 mod barring;
-mod decls;
+pub mod decls;
 pub mod evidence;
 pub mod exclude;
 mod finding;

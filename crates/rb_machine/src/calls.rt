@@ -67,7 +67,8 @@ fn push_slots(
 ) -> Result<(), AllocError>
     requires froms { AreSlots (length (drop base stack.old.items)) froms.now }
     requires few { length froms.now ≤ count }
-    ensures { IfOk result (λ _. stack.new.items ≡ stack.old.items ++ (slots_at (drop base stack.old.items) froms.now ++ replicate (count - length froms.now) 0)) }
+    ensures { IfOk result (λ _. stack.new.items ≡ stack.old.items
+        ++ (slots_at (drop base stack.old.items) froms.now ++ replicate (count - length froms.now) 0)) }
 {
     stack.reserve(count)?;
     add_words(stack, base, froms);
@@ -133,7 +134,8 @@ fn put_results(
     requires valid { IsValid funs.now }
     requires place { IsPlace funs.now fun pc slots.old }
     requires froms { AreSlots (length words.now) froms.now }
-    ensures { slots.new ≡ put_slots slots.old (dests_in (slice_get (body_of funs.now fun) pc)) (slots_at words.now froms.now) }
+    ensures { slots.new ≡ put_slots slots.old (dests_in (slice_get (body_of funs.now fun) pc))
+        (slots_at words.now froms.now) }
 {
     if let Instr::Call(_, dests, _) = instr_at(funs, fun, pc) {
         put_back(slots, dests.as_slice(), words, froms);
@@ -154,7 +156,10 @@ fn give_back(
     requires order { (base ≤ top) × (top ≤ length stack.old) }
     requires place { IsPlace funs.now frame.now.fun frame.now.pc (drop base (take top stack.old)) }
     requires froms { AreSlots (length (drop top stack.old)) froms.now }
-    ensures { stack.new ≡ (take base stack.old ++ put_slots (drop base (take top stack.old)) (dests_in (slice_get (body_of funs.now frame.now.fun) frame.now.pc)) (slots_at (drop top stack.old) froms.now)) ++ drop top stack.old }
+    ensures { stack.new ≡ (take base stack.old
+        ++ put_slots (drop base (take top stack.old))
+        (dests_in (slice_get (body_of funs.now frame.now.fun) frame.now.pc))
+        (slots_at (drop top stack.old) froms.now)) ++ drop top stack.old }
 {
     let (below, words) = stack.split_at_mut(top);
     let (_, slots) = below.split_at_mut(base);

@@ -32,8 +32,10 @@ pub fn run<M: ByteMemory, L: Ledger>(
     requires words { length words.now ≡ params_in (slice_get code.now fun) }
     requires calls { calls ≤ 1000000000 }
     // a memory that does not check is run only over code that does not trap
-    requires checks { M.CHECKS ≡ false → IsNotTrapped (run_of code.now calls fun words.now (M.memory memory.old)).ended }
-    ensures { IfOk result (λ ran. RanAs (run_of code.now calls fun words.now (M.memory memory.old)) ran (M.memory memory.new) steps.old.taken steps.new.taken) }
+    requires checks { M.CHECKS ≡ false → IsNotTrapped
+        (run_of code.now calls fun words.now (M.memory memory.old)).ended }
+    ensures { IfOk result (λ ran. RanAs (run_of code.now calls fun words.now (M.memory memory.old)) ran
+        (M.memory memory.new) steps.old.taken steps.new.taken) }
 {
     if calls == 0 {
         return Ok(Ran {
@@ -73,7 +75,8 @@ fn first_state(
     requires words { length words.now ≡ params_in (slice_get funs.now fun) }
     requires left { left < 1000000000 }
     ensures sound { IfOk result (λ s. IsSound funs.now left s) }
-    ensures whole { IfOk result (λ s. (m : Memory) → run_of funs.now (left + 1) fun words.now m ≡ rest_of funs.now left s m 0) }
+    ensures whole { IfOk result (λ s. (m : Memory)
+        → run_of funs.now (left + 1) fun words.now m ≡ rest_of funs.now left s m 0) }
 {
     let outermost = &funs[fun];
     let mut stack = Vec::from_slice(alloc, words)?;

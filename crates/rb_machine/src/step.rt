@@ -33,8 +33,14 @@ pub fn step<M: ByteMemory>(
     requires switches { switches.old < 2 ^ 127 }
     requires checks { M.CHECKS ≡ false → MayRun (M.memory memory.old) slots.old instr.now }
     ensures flow { (next : Next) (callee : Callee) (left taken : ℕ) →
-        act instr.now next callee pc slots.old (record { left = left; memory = M.memory memory.old; switches = switches.old; taken = taken })
-        ≡ flow_to result next slots.new (record { left = left; memory = M.memory memory.new; switches = switches.new; taken = taken }) }
+        act instr.now next callee pc slots.old
+        (record { left = left; memory = M.memory memory.old; switches = switches.old; taken = taken })
+        ≡ flow_to result next slots.new (record {
+          left = left;
+          memory = M.memory memory.new;
+          switches = switches.new;
+          taken = taken;
+        }) }
     ensures target { IsFlow (length fun.now.body) pc result }
     ensures switches { switches.new ≤ switches.old + 1 }
 {

@@ -43,8 +43,15 @@ pub fn stretch<M: ByteMemory, L: Ledger>(
     requires switches { switches.old + length fun.now.body < 2 ^ 127 + start }
     requires checks { M.CHECKS ≡ false → IsQuietFrom fun.now.body start slots.old (M.memory memory.old) switches.old }
     ensures same { (callee : Callee) (left taken : ℕ) →
-        from fun.now.body callee start slots.old (record { left = left; memory = M.memory memory.old; switches = switches.old; taken = taken })
-        ≡ stop_to fun.now.body callee result slots.new (record { left = left; memory = M.memory memory.new; switches = switches.new; taken = taken + (steps.new.taken - steps.old.taken) }) }
+        from fun.now.body callee start slots.old
+        (record { left = left; memory = M.memory memory.old; switches = switches.old; taken = taken })
+        ≡ stop_to fun.now.body callee result slots.new
+        (record {
+          left = left;
+          memory = M.memory memory.new;
+          switches = switches.new;
+          taken = taken + (steps.new.taken - steps.old.taken);
+        }) }
     ensures stop { IsStop fun.now.body start result (steps.new.taken - steps.old.taken) (switches.new - switches.old) }
     ensures ticks { steps.old.taken ≤ steps.new.taken }
 {
@@ -80,11 +87,19 @@ pub fn stretch_above<M: ByteMemory, L: Ledger>(
     requires base { base ≤ length stack.old }
     requires slots { length (drop base stack.old) ≡ fun.now.slots }
     requires switches { switches.old + length fun.now.body < 2 ^ 127 + start }
-    requires checks { M.CHECKS ≡ false → IsQuietFrom fun.now.body start (drop base stack.old) (M.memory memory.old) switches.old }
+    requires checks { M.CHECKS ≡ false → IsQuietFrom fun.now.body start (drop base stack.old)
+        (M.memory memory.old) switches.old }
     ensures below { take base stack.new ≡ take base stack.old }
     ensures same { (callee : Callee) (left taken : ℕ) →
-        from fun.now.body callee start (drop base stack.old) (record { left = left; memory = M.memory memory.old; switches = switches.old; taken = taken })
-        ≡ stop_to fun.now.body callee result (drop base stack.new) (record { left = left; memory = M.memory memory.new; switches = switches.new; taken = taken + (steps.new.taken - steps.old.taken) }) }
+        from fun.now.body callee start (drop base stack.old)
+        (record { left = left; memory = M.memory memory.old; switches = switches.old; taken = taken })
+        ≡ stop_to fun.now.body callee result (drop base stack.new)
+        (record {
+          left = left;
+          memory = M.memory memory.new;
+          switches = switches.new;
+          taken = taken + (steps.new.taken - steps.old.taken);
+        }) }
     ensures stop { IsStop fun.now.body start result (steps.new.taken - steps.old.taken) (switches.new - switches.old) }
     ensures ticks { steps.old.taken ≤ steps.new.taken }
 {

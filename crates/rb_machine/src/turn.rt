@@ -28,7 +28,8 @@ pub fn stretch_turn<M: ByteMemory, L: Ledger>(
     requires laws { IsLawful funs.now }
     requires sound { IsSound funs.now depth state.old }
     requires checks { M.CHECKS ≡ false → IsQuiet funs.now depth state.old (M.memory memory.old) }
-    ensures gives { TurnGives funs.now depth state.old (M.memory memory.old) result state.new (M.memory memory.new) (steps.new.taken - steps.old.taken) }
+    ensures gives { TurnGives funs.now depth state.old (M.memory memory.old) result state.new (M.memory memory.new)
+        (steps.new.taken - steps.old.taken) }
     ensures leaves { result ≡ None → Leaves funs.now state.new }
     ensures ticks { steps.old.taken ≤ steps.new.taken }
 {

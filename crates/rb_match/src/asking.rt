@@ -142,7 +142,8 @@ fn edges_of_switch<'a>(
     arms: &[GraphArm],
     other: Option<u32>,
 ) -> Result<Seq<Edge<'a>>, AllocError>
-    ensures { IfOk result (λ edges. edges ≡ arm_edges nodes.now pc known.now arms.now 0 ++ else_edges nodes.now pc known.now other) }
+    ensures { IfOk result (λ edges. edges ≡ arm_edges nodes.now pc known.now arms.now 0
+        ++ else_edges nodes.now pc known.now other) }
 {
     let mut edges = edges_of_arms(alloc, nodes, pc, known, arms)?;
     match other {
@@ -254,7 +255,8 @@ fn leaf_edge<'a>(
     arms: &[GraphArm],
     other: Option<u32>,
 ) -> Result<Option<Edge<'a>>, AllocError>
-    ensures edge { IfOk result (λ e. e ≡ edge_for agreed.now nodes.now ty position.entry known.now arms.now other hole.now) }
+    ensures edge { IfOk result
+        (λ e. e ≡ edge_for agreed.now nodes.now ty position.entry known.now arms.now other hole.now) }
     ensures con { IfOk result (λ e. has_con agreed.now ty hole.now ≡ true) }
 {
     let Some(con) = con_of(agreed, ty, hole.leaf) else {
@@ -286,7 +288,8 @@ fn edges_of_leaves<'a>(
     arms: &[GraphArm],
     other: Option<u32>,
 ) -> Result<Seq<Edge<'a>>, AllocError>
-    ensures edges { IfOk result (λ edges. edges ≡ leaf_edges_of agreed.now nodes.now ty position.now known.now arms.now other holes.now) }
+    ensures edges { IfOk result (λ edges. edges
+        ≡ leaf_edges_of agreed.now nodes.now ty position.now known.now arms.now other holes.now) }
     ensures cons { IfOk result (λ edges. have_cons agreed.now ty holes.now ≡ true) }
 {
     let mut edges = Seq::new(alloc);
@@ -313,7 +316,8 @@ fn ask_leaf<'a>(
     arms: &[GraphArm],
     other: Option<u32>,
 ) -> Result<Seq<Edge<'a>>, AllocError>
-    ensures asks { IfOk result (λ edges. AsksLeaf agreed.now ty reads.now known.now position.now arms.now other body.old body.new edges) }
+    ensures asks { IfOk result
+        (λ edges. AsksLeaf agreed.now ty reads.now known.now position.now arms.now other body.old body.new edges) }
     ensures stand { IfOk result (λ edges. StandOpen body.old body.new edges) }
     ensures grows { OnOk result (Grows body.old.code body.new.code) }
 {
@@ -351,7 +355,8 @@ pub fn ask<'a>(
     arms: &[GraphArm],
     other: Option<u32>,
 ) -> Result<Seq<Edge<'a>>, AllocError>
-    ensures asks { IfOk result (λ edges. Asks agreed.now ty words.now pats.now spots.now known.now position.now arms.now other body.old body.new edges) }
+    ensures asks { IfOk result (λ edges. Asks agreed.now ty words.now pats.now spots.now known.now position.now
+        arms.now other body.old body.new edges) }
     ensures stand { IfOk result (λ edges. StandOpen body.old body.new edges) }
     ensures grows { OnOk result (Grows body.old.code body.new.code) }
 {

@@ -222,7 +222,8 @@ fn bind_spot(
     field: Ty,
     i: u32,
 ) -> Result<Seq<Local>, AllocError>
-    ensures binds { IfOk result (λ bound. BindsSpot agreed.now spots.now known.now sub.now field i body.old body.new bound) }
+    ensures binds { IfOk result
+        (λ bound. BindsSpot agreed.now spots.now known.now sub.now field i body.old body.new bound) }
     ensures grows { OnOk result (Grows body.old.code body.new.code) }
 {
     match sub {
@@ -251,7 +252,8 @@ fn bind_spots(
     fields: &[Ty],
     i: usize,
 ) -> Result<Seq<Local>, AllocError>
-    ensures binds { IfOk result (λ bound. BindsSpots agreed.now spots.now known.now subs.now fields.now i body.old body.new bound) }
+    ensures binds { IfOk result
+        (λ bound. BindsSpots agreed.now spots.now known.now subs.now fields.now i body.old body.new bound) }
     ensures grows { OnOk result (Grows body.old.code body.new.code) }
 {
     let [sub, subs @ ..] = subs else {
@@ -282,7 +284,8 @@ fn bind_deep(
     subs: &[Pat],
     fields: &[Ty],
 ) -> Result<Seq<Local>, AllocError>
-    ensures binds { IfOk result (λ bound. BindsDeep agreed.now ty con words.now subs.now fields.now body.old body.new bound) }
+    ensures binds { IfOk result
+        (λ bound. BindsDeep agreed.now ty con words.now subs.now fields.now body.old body.new bound) }
     ensures grows { OnOk result (Grows body.old.code body.new.code) }
 {
     if !is_deep_at(agreed, ty, con.ty) {
@@ -310,7 +313,8 @@ fn bind_fields(
     fields: &[Ty],
     i: usize,
 ) -> Result<Seq<Local>, AllocError>
-    ensures binds { IfOk result (λ bound. BindsFields agreed.now ty leaf words.now subs.now fields.now i body.old body.new bound) }
+    ensures binds { IfOk result
+        (λ bound. BindsFields agreed.now ty leaf words.now subs.now fields.now i body.old body.new bound) }
     ensures grows { OnOk result (Grows body.old.code body.new.code) }
 {
     let [sub, subs @ ..] = subs else {
@@ -341,7 +345,8 @@ fn bind_field(
     field: Ty,
     i: u32,
 ) -> Result<Seq<Local>, AllocError>
-    ensures binds { IfOk result (λ bound. BindsField agreed.now ty leaf words.now sub.now field i body.old body.new bound) }
+    ensures binds { IfOk result
+        (λ bound. BindsField agreed.now ty leaf words.now sub.now field i body.old body.new bound) }
     ensures grows { OnOk result (Grows body.old.code body.new.code) }
 {
     match sub {

@@ -48,7 +48,8 @@ pub fn emit_shared(
 ) -> Result<Seq<Hole>, AllocError>
     ensures holes { IfOk result (λ holes. AreHoles (length body.old.code) (length pats.now) body.new.code holes) }
     ensures ways { IfOk result (λ holes. AreOfOneWay holes) }
-    ensures takes { IfOk result (λ holes. TakesShared agreed.now ty words.now pats.now graph.now body.old body.new holes) }
+    ensures takes { IfOk result
+        (λ holes. TakesShared agreed.now ty words.now pats.now graph.now body.old body.new holes) }
     ensures grows { OnOk result (Grows body.old.code body.new.code) }
 {
     let nodes = graph.nodes.as_slice();

@@ -107,7 +107,8 @@ pub fn emit_clauses(
     words: &[Read],
     pats: &[Pat],
 ) -> Result<Seq<Hole>, AllocError>
-    ensures tries { IfOk result (λ holes. TriesAll agreed.now ty words.now pats.now (length pats.now) body.old body.new holes) }
+    ensures tries { IfOk result (λ holes. TriesAll agreed.now ty words.now pats.now
+        (length pats.now) body.old body.new holes) }
 {
     let mut holes = Seq::new(alloc);
     for (i, pat) in pats.iter().enumerate() {

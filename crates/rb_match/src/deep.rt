@@ -54,7 +54,8 @@ fn open_way<'a>(
     edges: Seq<Edge<'a>>,
 ) -> Result<Seq<Edge<'a>>, AllocError>
     requires { CanOpen body.old.code holes.now leaf }
-    ensures steps { IfOk result (λ more. StepsWay agreed.now ty words.now spots.now known.now position.now.now arms.now other holes.now leaf body.old edges.entry body.new more) }
+    ensures steps { IfOk result (λ more. StepsWay agreed.now ty words.now spots.now known.now position.now.now
+        arms.now other holes.now leaf body.old edges.entry body.new more) }
 {
     let Some(con) = con_of(agreed, ty, leaf) else {
         return Err(AllocError);
@@ -88,7 +89,8 @@ fn open_ways<'a>(
     arms: &[GraphArm],
     other: Option<u32>,
 ) -> Result<Seq<Edge<'a>>, AllocError>
-    ensures leads { IfOk result (λ edges. LeadsWays agreed.now ty words.now spots.now known.now position.now.now arms.now other body.old body.new edges) }
+    ensures leads { IfOk result (λ edges. LeadsWays agreed.now ty words.now spots.now known.now position.now.now
+        arms.now other body.old body.new edges) }
     ensures stands { IfOk result (λ edges. StandsWays body.old body.new edges) }
     ensures grows { OnOk result (Grows body.old.code body.new.code) }
 {
@@ -120,7 +122,8 @@ pub fn ask_deep<'a>(
     arms: &[GraphArm],
     other: Option<u32>,
 ) -> Result<Seq<Edge<'a>>, AllocError>
-    ensures asks { IfOk result (λ edges. AsksDeep agreed.now ty spots.now reads.now known.now position.now arms.now other body.old body.new edges) }
+    ensures asks { IfOk result (λ edges. AsksDeep agreed.now ty spots.now reads.now known.now position.now arms.now
+        other body.old body.new edges) }
     ensures stand { IfOk result (λ edges. StandOpen body.old body.new edges) }
     ensures grows { OnOk result (Grows body.old.code body.new.code) }
 {

@@ -78,7 +78,8 @@ fn emit_node<'a>(
     edges: Seq<Edge<'a>>,
 ) -> Result<Seq<Edge<'a>>, AllocError>
     requires { AreOpen 0 body.old.code edges }
-    ensures { IfOk result (λ more. StepsNode agreed.now ty words.now pats.now spots.now node.now number body.old edges.entry body.new more) }
+    ensures { IfOk result (λ more. StepsNode agreed.now ty words.now pats.now spots.now node.now number body.old
+        edges.entry body.new more) }
 {
     match node {
         GraphNode::Clause(_) => Ok(edges),
@@ -113,7 +114,8 @@ fn begin<'a>(
     nodes: &'a [GraphNode],
     root: u32,
 ) -> Result<Seq<Edge<'a>>, AllocError>
-    ensures { IfOk result (λ edges. Begins agreed.now ty words.now pats.now spots.now nodes.now root body.old body.new edges) }
+    ensures { IfOk result
+        (λ edges. Begins agreed.now ty words.now pats.now spots.now nodes.now root body.old body.new edges) }
 {
     let Some(node) = nodes.get(root as usize) else {
         return Err(AllocError);
@@ -200,7 +202,8 @@ pub fn emit_graph(
 ) -> Result<Seq<Hole>, AllocError>
     ensures holes { IfOk result (λ holes. AreHoles (length body.old.code) (length pats.now) body.new.code holes) }
     ensures ways { IfOk result (λ holes. AreOfOneWay holes) }
-    ensures takes { IfOk result (λ holes. TakesGraph agreed.now ty words.now pats.now spots.now nodes.now root body.old body.new holes) }
+    ensures takes { IfOk result
+        (λ holes. TakesGraph agreed.now ty words.now pats.now spots.now nodes.now root body.old body.new holes) }
     ensures grows { OnOk result (Grows body.old.code body.new.code) }
 {
     let mut edges = begin(alloc, body, agreed, ty, words, pats, spots, nodes, root)?;

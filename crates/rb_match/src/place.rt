@@ -83,7 +83,8 @@ fn saved_place(
     known: &[Known],
     position: &[u32],
 ) -> Result<Option<Place>, AllocError>
-    ensures { IfOk result (λ found. IfSome found (λ place. IsSpotOf agreed.now spots.now known.now position.now place)) }
+    ensures { IfOk result (λ found. IfSome found
+        (λ place. IsSpotOf agreed.now spots.now known.now position.now place)) }
 {
     for (k, spot) in spots.iter().enumerate() {
         if same_position(spot.position.as_slice(), position) {

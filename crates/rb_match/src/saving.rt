@@ -138,7 +138,8 @@ fn save_field<'a>(
     at: Ty,
     mut known: Seq<Known<'a>>,
 ) -> Result<Seq<Known<'a>>, AllocError>
-    ensures saves { IfOk result (λ more. SavesField agreed.now ty leaf words.now spots.now position.now field known.entry more body.old body.new) }
+    ensures saves { IfOk result (λ more. SavesField agreed.now ty leaf words.now spots.now position.now field
+        known.entry more body.old body.new) }
     ensures grows { OnOk result (Grows body.old.code body.new.code) }
 {
     let below = field_below(alloc, position, field)?;
@@ -168,7 +169,8 @@ pub fn save_fields<'a>(
     position: &[u32],
     known: Seq<Known<'a>>,
 ) -> Result<Seq<Known<'a>>, AllocError>
-    ensures saves { IfOk result (λ more. SavesFields agreed.now con.ty leaf words.now spots.now position.now known.entry more body.old body.new) }
+    ensures saves { IfOk result (λ more. SavesFields agreed.now con.ty leaf words.now spots.now position.now
+        known.entry more body.old body.new) }
     ensures grows { OnOk result (Grows body.old.code body.new.code) }
 {
     let types = agreed.covered().program().types.as_slice();

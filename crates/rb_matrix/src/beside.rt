@@ -29,7 +29,8 @@ fn greatest(bits: u8) -> u64
 
 // The least number up to `most` that is not among the heads.
 fn least_missing(heads: &[Head], most: u64) -> Option<u64>
-    ensures { MatchOption result ((m : ℕ) → m ≤ most → any_begins heads.now (Layers.Num m) ≡ true) (λ m. (m ≤ most) × (any_begins heads.now (Layers.Num m) ≡ false)) }
+    ensures { MatchOption result ((m : ℕ) → m ≤ most → any_begins heads.now (Layers.Num m) ≡ true)
+        (λ m. (m ≤ most) × (any_begins heads.now (Layers.Num m) ≡ false)) }
 {
     let mut number = 0;
     loop {
@@ -46,7 +47,8 @@ fn least_missing(heads: &[Head], most: u64) -> Option<u64>
 // The first of so many constructors of a type that is not among the heads.
 fn missing_con(heads: &[Head], ty: u32, count: usize) -> Option<u32>
     requires { count < 2 ^ 32 }
-    ensures { MatchOption result ((k : ℕ) → k < count → any_begins heads.now (Layers.Con k []) ≡ true) (λ k. (k < count) × (any_begins heads.now (Layers.Con k []) ≡ false)) }
+    ensures { MatchOption result ((k : ℕ) → k < count → any_begins heads.now (Layers.Con k []) ≡ true)
+        (λ k. (k < count) × (any_begins heads.now (Layers.Con k []) ≡ false)) }
 {
     for k in 0..count {
         let con = k as u32;

@@ -70,7 +70,8 @@ pub fn is_known(known: &[Head], head: Head) -> bool
 }
 
 fn add_head(heads: &mut Vec<Head>, head: Option<Head>) -> Result<(), AllocError>
-    ensures heads { OnOk result ((l : Layers.Value-F Values.Value) → any_begins heads.new.items l ≡ (any_begins heads.old.items l || option_begins head l)) }
+    ensures heads { OnOk result ((l : Layers.Value-F Values.Value)
+        → any_begins heads.new.items l ≡ (any_begins heads.old.items l || option_begins head l)) }
     ensures few { OnOk result (length heads.new.items ≤ length heads.old.items + some_head head) }
 {
     let Some(head) = head else {
@@ -85,7 +86,8 @@ fn add_head(heads: &mut Vec<Head>, head: Option<Head>) -> Result<(), AllocError>
 
 /// The heads that stand in the first column, each once.
 pub fn column_heads(alloc: Global, rows: &[Seq<Pat>]) -> Result<Vec<Head>, AllocError>
-    ensures heads { IfOk result (λ heads. (l : Layers.Value-F Values.Value) → any_begins heads.items l ≡ column_begins rows.now l) }
+    ensures heads { IfOk result (λ heads. (l : Layers.Value-F Values.Value)
+        → any_begins heads.items l ≡ column_begins rows.now l) }
     ensures few { IfOk result (λ heads. length heads.items ≤ rows_heads rows.now) }
 {
     let mut heads = Vec::new(alloc);

@@ -108,7 +108,8 @@ pub fn specialize_row(
 
     // The law of S: the row matches a vector that begins with the head exactly where its image
     // matches that vector unfolded.
-    ensures same { IfOk result (λ r. (v : Values.Value) (vs : List Values.Value) → begins head v ≡ true → length (subs v) ≡ fields → row_matches row.now (v ∷ vs) ≡ image_matches r (unfolded (v ∷ vs))) }
+    ensures same { IfOk result (λ r. (v : Values.Value) (vs : List Values.Value) → begins head v ≡ true
+        → length (subs v) ≡ fields → row_matches row.now (v ∷ vs) ≡ image_matches r (unfolded (v ∷ vs))) }
 {
     let image = special_of_row(alloc, head, fields, row)?;
     Ok(image)
@@ -120,7 +121,9 @@ pub fn default_of_row(alloc: Global, row: &[Pat]) -> Result<Option<Seq<Pat>>, Al
 
     // The law of D: the row matches a vector that begins with another head than the row exactly
     // where its image matches the rest.
-    ensures same { IfOk result (λ r. (v : Values.Value) (vs : List Values.Value) → option_begins (row_head row.now) (Values.out-Value v) ≡ false → row_matches row.now (v ∷ vs) ≡ image_matches r vs) }
+    ensures same { IfOk result (λ r. (v : Values.Value) (vs : List Values.Value)
+        → option_begins (row_head row.now) (Values.out-Value v) ≡ false
+        → row_matches row.now (v ∷ vs) ≡ image_matches r vs) }
 {
     let image = rest_of_row(alloc, row)?;
     Ok(image)

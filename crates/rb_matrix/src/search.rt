@@ -69,7 +69,12 @@ fn root(
     wanted: &[Seq<Pat>],
     unwanted: &[Seq<Pat>],
 ) -> Result<Problem, AllocError>
-    ensures { IfOk result (λ p. p ≡ record { tys = tys.now; wanted = wanted.now; unwanted = unwanted.now; steps = [] }) }
+    ensures { IfOk result (λ p. p ≡ record {
+      tys = tys.now;
+      wanted = wanted.now;
+      unwanted = unwanted.now;
+      steps = [];
+    }) }
 {
     Ok(Problem {
         tys: Seq::from_vec(Vec::from_slice(alloc, tys)?),

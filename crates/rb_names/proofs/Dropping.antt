@@ -29,7 +29,8 @@ use Rattle.rb_syntax.specs.Written.{Written, Writing, token, number, node, check
 use Rattle.rb_syntax.specs.Spelling.{Deep, at_level, is_width, uint_written, ty_written, fields_written, pat_written, expr_written, clause_written, con_written, type_written, param_written, fun_written, layout_written, item_written, split_written, arm_written, range_written, field_written, path_written, loc_step_written, loc_written, lay_item_written, kind_written, part_written, below_written, prov_written, root_checked, width_written}
 use Rattle.rb_syntax.proofs.SpellingLemmas as spelled
 use Rattle.rb_syntax.proofs.LayoutSpelling as shapes
-use Rattle.rb_names.proofs.LayoutInduction as layouts
+use Rattle.rb_core.proofs.LayoutInduction as layouts
+use Rattle.rb_syntax.proofs.SplitInduction as splits
 use Rattle.rb_syntax.proofs.PatternInduction as patterns
 use Rattle.rb_syntax.proofs.ExpressionInduction as expressions
 
@@ -237,7 +238,7 @@ module _ (P : List Written → Type 0) (next : (w : Written) (ws : List Written)
   listed-arms (a ∷ xs) all l = (arm-drops a all.0 l, listed-arms xs all.1 l)
 
   pub tree-drops : (t : SplitTree) → TreeDrops t
-  tree-drops = layouts.tree-induction TreeDrops (record {
+  tree-drops = splits.tree-induction TreeDrops (record {
     split = λ loc arms all l rest h. drops (each-drops (at_level (suc l) (map arm_written arms)) (listed-arms arms all (suc l)) (close_brace rest)
         (drops (loc-drops loc _ (drops (drops (subst P (spelled.split-None loc arms l rest) h))))));
     split_else = λ loc arms other all f l rest h. drops (f (suc l) (close_brace rest) (drops (drops

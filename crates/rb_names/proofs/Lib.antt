@@ -4,7 +4,6 @@ pub mod Dropping
 pub mod Examples
 pub mod ExpressionEquations
 pub mod Inverting
-pub mod LayoutInduction
 pub mod ListLemmas
 pub mod PartLemmas
 pub mod PatternEquations

@@ -36,7 +36,8 @@ use Rattle.rb_names.specs.Tables.{Name, meaning}
 use Rattle.rb_names.specs.Numbering.{Resolved, and_then, all_of, known, numbered_pattern, numbered_else, split_step, arm_step, numbered_split, numbered_arm, numbered_layout}
 use Rattle.rb_names.proofs.Rising.{Right}
 use Rattle.rb_names.proofs.Inverting.{then-ok, known-ok, ok-is}
-use Rattle.rb_names.proofs.LayoutInduction as induction
+use Rattle.rb_core.proofs.LayoutInduction as lay-items
+use Rattle.rb_syntax.proofs.SplitInduction as induction
 use Rattle.rb_names.proofs.WellLists.{Each, each-of, each-passes, both, length-of-map, all-ok, off-token, off-number, off-node, right-as, Is, Fine, is-as, Are, AreWell, are-each, are-some}
 use Rattle.rb_names.proofs.WellProvenances.{at_level-of, short-of, both-of, provenance-well}
 use Rattle.rb_names.proofs.WellLeaves.{leaf-well}
@@ -194,7 +195,7 @@ module _ (total : ℕ) (small : total < 2 ^ 32) (types : List DataDecl) (t : Tab
       let v = x.well f.0 f.1 in
       rw (← ok-is (record { literal = a.literal; under = f.0 }) b f.2) (omega (arith, v.0), v.1))
 
-  each-arm : (l : ℕ) (arms : List ArmTree) → induction.Each (λ (a : ArmTree). TreeFine a.under) arms → Each (ArmsOf l) arms
+  each-arm : (l : ℕ) (arms : List ArmTree) → lay-items.Each (λ (a : ArmTree). TreeFine a.under) arms → Each (ArmsOf l) arms
   each-arm l [] h = tt
   each-arm l (a ∷ arms) h = (arm-fine l a h.0, each-arm l arms h.1)
 
@@ -233,7 +234,7 @@ module _ (total : ℕ) (small : total < 2 ^ 32) (types : List DataDecl) (t : Tab
   abbrev opened : ℕ → Loc → List Written → List Written
   opened l loc ws = node l ∷ token (tok.Reserved word.Split) ∷ loc_written loc (token (tok.Symbol symbol.OpenBrace) ∷ ws)
 
-  split-none : (loc : Loc) (arms : List ArmTree) → induction.Each (λ (a : ArmTree). TreeFine a.under) arms → TreeFine (S.Split loc arms None)
+  split-none : (loc : Loc) (arms : List ArmTree) → lay-items.Each (λ (a : ArmTree). TreeFine a.under) arms → TreeFine (S.Split loc arms None)
   split-none loc arms h l rest r =
       let close : List Written = token (tok.Symbol symbol.CloseBrace) ∷ rest in
       let inner : List Written = each (map (arm_at (suc l)) arms) close in
@@ -259,7 +260,7 @@ module _ (total : ℕ) (small : total < 2 ^ 32) (types : List DataDecl) (t : Tab
         },
       ))
 
-  split-else : (loc : Loc) (arms : List ArmTree) (other : SplitTree) → induction.Each (λ (a : ArmTree). TreeFine a.under) arms → TreeFine other
+  split-else : (loc : Loc) (arms : List ArmTree) (other : SplitTree) → lay-items.Each (λ (a : ArmTree). TreeFine a.under) arms → TreeFine other
       → TreeFine (S.Split loc arms (Some other))
   split-else loc arms other h o l rest r =
       let close : List Written = token (tok.Symbol symbol.CloseBrace) ∷ rest in

@@ -24,7 +24,7 @@ use Rattle.rb_names.specs.Numbering.{Resolved, all_of}
 use Rattle.rb_names.proofs.Rising.{Right}
 use Rattle.rb_names.proofs.Inverting.{ok-is}
 use Rattle.rb_names.proofs.WellTypes.{checked-right}
-use Rattle.rb_names.proofs.LayoutInduction as induction
+use Rattle.rb_core.proofs.LayoutInduction as induction
 use Rattle.rb_names.proofs.WellLists.{Each, each-of, each-passes, both, length-of-map, all-ok, off-token, off-number, off-node, right-as, Is, Fine, is-as, Are, AreWell, are-each, are-any, are-some}
 use Rattle.rb_names.proofs.WellProvenances.{at_level-of, short-of}
 

@@ -94,7 +94,8 @@ fn number_inside<'a>(
     scope: &mut Scope<'a>,
     next: &mut u32,
 ) -> Result<Boxed<Expr>, NameFault>
-    ensures answers { AnswersFrom result next.new (numbered_expression tables.now tree.now ((name.now, var) ∷ scope.old) next.old) }
+    ensures answers { AnswersFrom result next.new
+        (numbered_expression tables.now tree.now ((name.now, var) ∷ scope.old) next.old) }
     ensures scope { OnOk result (scope.new ≡ scope.old) }
 {
     let depth = scope.depth();
@@ -112,7 +113,8 @@ fn number_expressions<'a>(
     scope: &mut Scope<'a>,
     next: &mut u32,
 ) -> Result<Seq<Expr>, NameFault>
-    ensures answers { AnswersFrom result next.new (in_turn (map (numbered_expression tables.now) trees.now) scope.old next.old) }
+    ensures answers { AnswersFrom result next.new
+        (in_turn (map (numbered_expression tables.now) trees.now) scope.old next.old) }
     ensures scope { OnOk result (scope.new ≡ scope.old) }
 {
     let mut exprs = Seq::new(alloc);
@@ -131,7 +133,8 @@ fn number_clauses<'a>(
     scope: &mut Scope<'a>,
     next: &mut u32,
 ) -> Result<Seq<Clause>, NameFault>
-    ensures answers { AnswersFrom result next.new (in_turn (map (numbered_clause tables.now) trees.now) scope.old next.old) }
+    ensures answers { AnswersFrom result next.new
+        (in_turn (map (numbered_clause tables.now) trees.now) scope.old next.old) }
     ensures scope { OnOk result (scope.new ≡ scope.old) }
 {
     let mut clauses = Seq::new(alloc);

@@ -49,8 +49,11 @@ fn number_item(
     tree: &ItemTree,
     items: &mut Items,
 ) -> Result<(), NameFault>
-    ensures ok { OnOk result ((rest : List Tree) → behind_items items.new (numbered_items tables.now rest) ≡ behind_items items.old (numbered_items tables.now (tree.now ∷ rest))) }
-    ensures err { IfErr result (λ e. (rest : List Tree) → Answers {A = Parts} (Err e) (numbered_items tables.now (tree.now ∷ rest))) }
+    ensures ok { OnOk result ((rest : List Tree)
+        → behind_items items.new (numbered_items tables.now rest)
+        ≡ behind_items items.old (numbered_items tables.now (tree.now ∷ rest))) }
+    ensures err { IfErr result (λ e. (rest : List Tree)
+        → Answers {A = Parts} (Err e) (numbered_items tables.now (tree.now ∷ rest))) }
 {
     match tree {
         ItemTree::Types(tree) => {

@@ -36,7 +36,8 @@ pub fn add_name<'a>(names: &mut Vec<&'a [u8]>, name: &'a [u8]) -> Result<(), All
 /// Adds the names of a pattern's variables, each once.
 #[cycle(binding)]
 pub fn add_names<'a>(names: &mut Vec<&'a [u8]>, tree: &'a PatTree) -> Result<(), AllocError>
-    ensures { OnOk result (map (λ n. n.now) names.new.items ≡ with_names (map (λ n. n.now) names.old.items) (names_in tree.now)) }
+    ensures { OnOk result (map (λ n. n.now) names.new.items
+        ≡ with_names (map (λ n. n.now) names.old.items) (names_in tree.now)) }
 {
     match tree {
         PatTree::Wild(_) | PatTree::Num(_, _) => Ok(()),
@@ -53,7 +54,8 @@ pub fn add_names<'a>(names: &mut Vec<&'a [u8]>, tree: &'a PatTree) -> Result<(),
 
 #[cycle(binding)]
 fn add_all_names<'a>(names: &mut Vec<&'a [u8]>, trees: &'a [PatTree]) -> Result<(), AllocError>
-    ensures { OnOk result (map (λ n. n.now) names.new.items ≡ with_names (map (λ n. n.now) names.old.items) (flat_map names_in trees.now)) }
+    ensures { OnOk result (map (λ n. n.now) names.new.items
+        ≡ with_names (map (λ n. n.now) names.old.items) (flat_map names_in trees.now)) }
 {
     for tree in trees {
         add_names(names, tree)?;
@@ -82,7 +84,8 @@ pub fn enter_all<'a>(
     names: &[&'a [u8]],
     next: &mut u32,
 ) -> Result<(), NameFault>
-    ensures ok { OnOk result ((scope.new ≡ inside (map (λ n. n.now) names.now) next.old scope.old) × (next.new ≡ next.old + length names.now)) }
+    ensures ok { OnOk result ((scope.new ≡ inside (map (λ n. n.now) names.now) next.old scope.old)
+        × (next.new ≡ next.old + length names.now)) }
     ensures memory { IfErr result (λ e. e ≡ Memory) }
 {
     for name in names {

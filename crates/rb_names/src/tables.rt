@@ -68,7 +68,8 @@ fn type_names<'a>(alloc: Global, items: &'a [ItemTree]) -> Result<Table<'a, u32>
 
 // The name of the item, if it is a type.
 fn add_type_name<'a>(types: &mut Table<'a, u32>, item: &'a ItemTree) -> Result<(), AllocError>
-    ensures { OnOk result ((name : Name) → is_some (meaning types.new name) ≡ (is_some (meaning types.old name) || list_any (bytes_eq name) (spec.type_names (item.now ∷ [])))) }
+    ensures { OnOk result ((name : Name) → is_some (meaning types.new name)
+        ≡ (is_some (meaning types.old name) || list_any (bytes_eq name) (spec.type_names (item.now ∷ [])))) }
 {
     match item {
         ItemTree::Types(tree) => {
@@ -85,9 +86,12 @@ fn define_item<'a>(
     item: &'a ItemTree,
     known: &mut Defining<'a>,
 ) -> Result<(), NameFault>
-    ensures tables { OnOk result ((rest : List Tree) → with_rest known.new.tables rest ≡ with_rest known.old.tables (item.now ∷ rest)) }
-    ensures added { OnOk result ((names : List Name) (before : List Definition) → HasNames types.now names → AreKnown before known.old → AreAdded before (definitions names item.now) known.new) }
-    ensures again { IfErr result (λ e. (names : List Name) (before : List Definition) → HasNames types.now names → AreKnown before known.old → IsAgain before (definitions names item.now) e) }
+    ensures tables { OnOk result ((rest : List Tree)
+        → with_rest known.new.tables rest ≡ with_rest known.old.tables (item.now ∷ rest)) }
+    ensures added { OnOk result ((names : List Name) (before : List Definition) → HasNames types.now names
+        → AreKnown before known.old → AreAdded before (definitions names item.now) known.new) }
+    ensures again { IfErr result (λ e. (names : List Name) (before : List Definition) → HasNames types.now names
+        → AreKnown before known.old → IsAgain before (definitions names item.now) e) }
 {
     match item {
         ItemTree::Types(tree) => {
@@ -115,9 +119,12 @@ fn define_type<'a>(
     tree: &'a TypeTree,
     known: &mut Defining<'a>,
 ) -> Result<(), NameFault>
-    ensures tables { OnOk result ((rest : List Tree) → with_rest known.new.tables rest ≡ with_rest known.old.tables (Types tree.now ∷ rest)) }
-    ensures added { OnOk result ((before : List Definition) → AreKnown before known.old → AreAdded before (definitions [] (Types tree.now)) known.new) }
-    ensures again { IfErr result (λ e. (before : List Definition) → AreKnown before known.old → IsAgain before (definitions [] (Types tree.now)) e) }
+    ensures tables { OnOk result ((rest : List Tree)
+        → with_rest known.new.tables rest ≡ with_rest known.old.tables (Types tree.now ∷ rest)) }
+    ensures added { OnOk result ((before : List Definition) → AreKnown before known.old
+        → AreAdded before (definitions [] (Types tree.now)) known.new) }
+    ensures again { IfErr result (λ e. (before : List Definition) → AreKnown before known.old
+        → IsAgain before (definitions [] (Types tree.now)) e) }
 {
     let ty = number_behind(known.tables.types.len())?;
     define(alloc, &mut known.tables.types, &tree.name, ty)?;
@@ -132,11 +139,14 @@ fn define_constructors<'a>(
     cons: &'a [ConTree],
     known: &mut Defining<'a>,
 ) -> Result<(), NameFault>
-    ensures constructors { OnOk result (known.new.tables.constructors ≡ known.old.tables.constructors ++ constructors_from ty 0 cons.now) }
+    ensures constructors { OnOk result (known.new.tables.constructors ≡ known.old.tables.constructors
+        ++ constructors_from ty 0 cons.now) }
     ensures types { OnOk result (known.new.tables.types ≡ known.old.tables.types) }
     ensures functions { OnOk result (known.new.tables.functions ≡ known.old.tables.functions) }
-    ensures added { OnOk result ((before : List Definition) → AreKnown before known.old → AreAdded before (map constructor_definition cons.now) known.new) }
-    ensures again { IfErr result (λ e. (before : List Definition) → AreKnown before known.old → IsAgain before (map constructor_definition cons.now) e) }
+    ensures added { OnOk result ((before : List Definition) → AreKnown before known.old
+        → AreAdded before (map constructor_definition cons.now) known.new) }
+    ensures again { IfErr result (λ e. (before : List Definition) → AreKnown before known.old
+        → IsAgain before (map constructor_definition cons.now) e) }
 {
     for (i, con) in cons.iter().enumerate() {
         let number = number_behind(i)?;
@@ -151,11 +161,14 @@ fn define_function<'a>(
     name: &'a NameTree,
     known: &mut Defining<'a>,
 ) -> Result<(), NameFault>
-    ensures functions { OnOk result (known.new.tables.functions ≡ known.old.tables.functions ++ (name.now.text, length known.old.tables.functions) ∷ []) }
+    ensures functions { OnOk result (known.new.tables.functions ≡ known.old.tables.functions
+        ++ (name.now.text, length known.old.tables.functions) ∷ []) }
     ensures types { OnOk result (known.new.tables.types ≡ known.old.tables.types) }
     ensures constructors { OnOk result (known.new.tables.constructors ≡ known.old.tables.constructors) }
-    ensures added { OnOk result ((before : List Definition) → AreKnown before known.old → AreAdded before (record { kind = OfFunction; name = name.now } ∷ []) known.new) }
-    ensures again { IfErr result (λ e. (before : List Definition) → AreKnown before known.old → IsAgain before (record { kind = OfFunction; name = name.now } ∷ []) e) }
+    ensures added { OnOk result ((before : List Definition) → AreKnown before known.old
+        → AreAdded before (record { kind = OfFunction; name = name.now } ∷ []) known.new) }
+    ensures again { IfErr result (λ e. (before : List Definition) → AreKnown before known.old
+        → IsAgain before (record { kind = OfFunction; name = name.now } ∷ []) e) }
 {
     let number = number_behind(known.tables.functions.len())?;
     define(alloc, &mut known.tables.functions, name, number)?;
@@ -170,8 +183,10 @@ fn define_layout<'a>(
     known: &mut Defining<'a>,
 ) -> Result<(), NameFault>
     ensures tables { OnOk result (known.new.tables ≡ known.old.tables) }
-    ensures added { OnOk result ((names : List Name) (before : List Definition) → HasNames types.now names → AreKnown before known.old → AreAdded before (layout_definition names name.now) known.new) }
-    ensures again { IfErr result (λ e. (names : List Name) (before : List Definition) → HasNames types.now names → AreKnown before known.old → IsAgain before (layout_definition names name.now) e) }
+    ensures added { OnOk result ((names : List Name) (before : List Definition) → HasNames types.now names
+        → AreKnown before known.old → AreAdded before (layout_definition names name.now) known.new) }
+    ensures again { IfErr result (λ e. (names : List Name) (before : List Definition) → HasNames types.now names
+        → AreKnown before known.old → IsAgain before (layout_definition names name.now) e) }
 {
     if types.get(name.text.as_slice()).is_none() {
         return Ok(());
@@ -189,7 +204,8 @@ fn define<'a, T: Copy>(
 ) -> Result<(), NameFault>
     ensures table { OnOk result (table.new ≡ table.old ++ (name.now.text, stands_for) ∷ []) }
     ensures new { OnOk result (is_some (meaning table.old name.now.text) ≡ false) }
-    ensures again { IfErr result (λ e. Answers {A = Unit {0}} (Err e) (no_twice (made_again (is_some (meaning table.old name.now.text)) name.now))) }
+    ensures again { IfErr result (λ e. Answers {A = Unit {0}} (Err e)
+        (no_twice (made_again (is_some (meaning table.old name.now.text)) name.now))) }
 {
     if table.define(name.text.as_slice(), stands_for)? {
         return Ok(());

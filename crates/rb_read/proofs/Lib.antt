@@ -9,7 +9,6 @@ pub mod FileReading
 pub mod FormLaws
 pub mod Forms
 pub mod ItemForms
-pub mod LayoutInduction
 pub mod LeafForms
 mod LimitExamples
 pub mod LimitLemmas

@@ -32,7 +32,8 @@ use Rattle.rb_syntax.proofs.PatternInduction as patterns
 use Rattle.rb_syntax.proofs.ExpressionInduction as expressions
 use Rattle.rb_syntax.proofs.SpellingLemmas.{pat-Wild, pat-Var, pat-Num, pat-Con, clause-is, expr-Num, expr-Var, expr-Call, expr-Build, expr-Binary, expr-To, expr-Let, expr-Match, arm-is, split-Leaf, split-None, split-Some}
 use Rattle.rb_syntax.proofs.LayoutSpelling.{item-Word, item-Inline, part-is, kind-Const, kind-Whole, kind-Slice, kind-Word, kind-Pointer, below-Wild, below-Var, below-Num, below-Con}
-use Rattle.rb_read.proofs.LayoutInduction.{Each, item-induction, tree-induction}
+use Rattle.rb_core.proofs.LayoutInduction.{Each, item-induction}
+use Rattle.rb_syntax.proofs.SplitInduction.{tree-induction}
 
 -- what is written, but for its numbers
 abbrev bare : List Written → List Written

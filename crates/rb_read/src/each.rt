@@ -28,7 +28,8 @@ pub(crate) fn read_each<T: Repeat + Drop>(
     placed: &[Placed],
 ) -> Result<(Seq<T>, &[Placed]), Stop>
     requires { total < 2 ^ 32 }
-    ensures { Gives (λ x. (x.0, tokens x.1.now)) result (combining.each_of T.begins (T.reader total) (tokens placed.now)) }
+    ensures { Gives (λ x. (x.0, tokens x.1.now)) result
+        (combining.each_of T.begins (T.reader total) (tokens placed.now)) }
 {
     let mut parts = Seq::new(alloc);
     let mut rest = placed;

@@ -72,7 +72,9 @@ fn read_expression_node<'a>(
     placed: &'a [Placed],
 ) -> Result<(ExprTree, &'a [Placed]), Stop>
     requires { total < 2 ^ 32 }
-    ensures { Gives (λ x. (x.0, tokens x.1.now)) result (reading.expression_one (λ ts. reading.pattern levels total ts) (λ ts. reading.expression levels total ts) total (tokens placed.now)) }
+    ensures { Gives (λ x. (x.0, tokens x.1.now)) result
+        (reading.expression_one (λ ts. reading.pattern levels total ts)
+        (λ ts. reading.expression levels total ts) total (tokens placed.now)) }
 {
     match placed {
         [] => Err(Stop::Stuck(0)),
@@ -101,7 +103,10 @@ fn read_called<'a>(
     placed: &'a [Placed],
 ) -> Result<(ExprTree, &'a [Placed]), Stop>
     requires { total < 2 ^ 32 }
-    ensures { Gives (λ x. (x.0, tokens x.1.now)) result (combining.into (λ o. reading.called at name.now o) (reading.arguments (λ ts. reading.pattern levels total ts) (λ ts. reading.expression levels total ts) total at) (tokens placed.now)) }
+    ensures { Gives (λ x. (x.0, tokens x.1.now)) result
+        (combining.into (λ o. reading.called at name.now o)
+        (reading.arguments (λ ts. reading.pattern levels total ts)
+        (λ ts. reading.expression levels total ts) total at) (tokens placed.now)) }
 {
     let text = name.copy(alloc)?;
     let name = NameTree { at, text };
@@ -123,7 +128,8 @@ fn read_arguments<'a>(
     placed: &'a [Placed],
 ) -> Result<(Seq<ExprTree>, &'a [Placed]), Stop>
     requires { total < 2 ^ 32 }
-    ensures { Gives (λ x. (x.0, tokens x.1.now)) result (combining.any_closed (λ ts. reading.expression levels total ts) symbols.CloseParen (tokens placed.now)) }
+    ensures { Gives (λ x. (x.0, tokens x.1.now)) result
+        (combining.any_closed (λ ts. reading.expression levels total ts) symbols.CloseParen (tokens placed.now)) }
 {
     if begins_with(Symbol::CloseParen, placed) {
         return Ok((Seq::new(alloc), &placed[1..]));
@@ -143,7 +149,9 @@ fn read_built<'a>(
     placed: &'a [Placed],
 ) -> Result<(ExprTree, &'a [Placed]), Stop>
     requires { total < 2 ^ 32 }
-    ensures { Gives (λ x. (x.0, tokens x.1.now)) result (combining.into (λ es. exprs.Build at (reading.named at name.now) es) (combining.in_parens (λ ts. reading.expression levels total ts)) (tokens placed.now)) }
+    ensures { Gives (λ x. (x.0, tokens x.1.now)) result
+        (combining.into (λ es. exprs.Build at (reading.named at name.now) es)
+        (combining.in_parens (λ ts. reading.expression levels total ts)) (tokens placed.now)) }
 {
     let text = name.copy(alloc)?;
     let (fields, rest) = read_fields(alloc, levels, total, placed)?;
@@ -160,7 +168,8 @@ fn read_fields<'a>(
     placed: &'a [Placed],
 ) -> Result<(Seq<ExprTree>, &'a [Placed]), Stop>
     requires { total < 2 ^ 32 }
-    ensures { Gives (λ x. (x.0, tokens x.1.now)) result (combining.in_parens (λ ts. reading.expression levels total ts) (tokens placed.now)) }
+    ensures { Gives (λ x. (x.0, tokens x.1.now)) result
+        (combining.in_parens (λ ts. reading.expression levels total ts) (tokens placed.now)) }
 {
     if begins_with(Symbol::OpenParen, placed) {
         return read_some_expressions(alloc, levels, total, &placed[1..]);
@@ -177,7 +186,9 @@ fn read_some_expressions<'a>(
     placed: &'a [Placed],
 ) -> Result<(Seq<ExprTree>, &'a [Placed]), Stop>
     requires { total < 2 ^ 32 }
-    ensures { Gives (λ x. (x.0, tokens x.1.now)) result (combining.some_closed (λ ts. reading.expression levels total ts) symbols.Comma symbols.CloseParen (tokens placed.now)) }
+    ensures { Gives (λ x. (x.0, tokens x.1.now)) result
+        (combining.some_closed (λ ts. reading.expression levels total ts) symbols.Comma symbols.CloseParen
+        (tokens placed.now)) }
 {
     let mut parts = Seq::new(alloc);
     let mut rest = placed;
@@ -205,7 +216,9 @@ fn read_form<'a>(
     placed: &'a [Placed],
 ) -> Result<(ExprTree, &'a [Placed]), Stop>
     requires { total < 2 ^ 32 }
-    ensures { Gives (λ x. (x.0, tokens x.1.now)) result (reading.from_form (λ ts. reading.pattern levels total ts) (λ ts. reading.expression levels total ts) total at form (tokens placed.now)) }
+    ensures { Gives (λ x. (x.0, tokens x.1.now)) result
+        (reading.from_form (λ ts. reading.pattern levels total ts)
+        (λ ts. reading.expression levels total ts) total at form (tokens placed.now)) }
 {
     match form {
         Form::Operation(op) => read_operation(alloc, levels, total, at, op, placed),
@@ -228,7 +241,9 @@ fn read_operation<'a>(
     placed: &'a [Placed],
 ) -> Result<(ExprTree, &'a [Placed]), Stop>
     requires { total < 2 ^ 32 }
-    ensures { Gives (λ x. (x.0, tokens x.1.now)) result (reading.operation (λ ts. reading.pattern levels total ts) (λ ts. reading.expression levels total ts) total at op (tokens placed.now)) }
+    ensures { Gives (λ x. (x.0, tokens x.1.now)) result
+        (reading.operation (λ ts. reading.pattern levels total ts)
+        (λ ts. reading.expression levels total ts) total at op (tokens placed.now)) }
 {
     let rest = expect(Symbol::OpenParen, placed)?;
     let (first, rest) = read_expression(alloc, levels, total, rest)?;
@@ -251,7 +266,9 @@ fn read_conversion<'a>(
     placed: &'a [Placed],
 ) -> Result<(ExprTree, &'a [Placed]), Stop>
     requires { total < 2 ^ 32 }
-    ensures { Gives (λ x. (x.0, tokens x.1.now)) result (reading.conversion (λ ts. reading.pattern levels total ts) (λ ts. reading.expression levels total ts) total at (tokens placed.now)) }
+    ensures { Gives (λ x. (x.0, tokens x.1.now)) result
+        (reading.conversion (λ ts. reading.pattern levels total ts)
+        (λ ts. reading.expression levels total ts) total at (tokens placed.now)) }
 {
     let (bits, rest) = read_width(placed)?;
     let rest = expect(Symbol::OpenParen, rest)?;
@@ -272,7 +289,9 @@ fn read_binding<'a>(
     placed: &'a [Placed],
 ) -> Result<(ExprTree, &'a [Placed]), Stop>
     requires { total < 2 ^ 32 }
-    ensures { Gives (λ x. (x.0, tokens x.1.now)) result (reading.binding (λ ts. reading.pattern levels total ts) (λ ts. reading.expression levels total ts) total at (tokens placed.now)) }
+    ensures { Gives (λ x. (x.0, tokens x.1.now)) result
+        (reading.binding (λ ts. reading.pattern levels total ts) (λ ts. reading.expression levels total ts) total at
+        (tokens placed.now)) }
 {
     let (name, rest) = read_lower(alloc, total, placed)?;
     let rest = expect(Symbol::Colon, rest)?;
@@ -297,7 +316,9 @@ fn read_matching<'a>(
     placed: &'a [Placed],
 ) -> Result<(ExprTree, &'a [Placed]), Stop>
     requires { total < 2 ^ 32 }
-    ensures { Gives (λ x. (x.0, tokens x.1.now)) result (reading.matching (λ ts. reading.pattern levels total ts) (λ ts. reading.expression levels total ts) total at (tokens placed.now)) }
+    ensures { Gives (λ x. (x.0, tokens x.1.now)) result
+        (reading.matching (λ ts. reading.pattern levels total ts)
+        (λ ts. reading.expression levels total ts) total at (tokens placed.now)) }
 {
     let (matched, rest) = read_expression(alloc, levels, total, placed)?;
     let rest = expect(Symbol::OpenBrace, rest)?;
@@ -316,7 +337,9 @@ fn read_clauses<'a>(
     placed: &'a [Placed],
 ) -> Result<(Seq<ClauseTree>, &'a [Placed]), Stop>
     requires { total < 2 ^ 32 }
-    ensures { Gives (λ x. (x.0, tokens x.1.now)) result (combining.some_closed (reading.clause_tree (λ ts. reading.pattern levels total ts) (λ ts. reading.expression levels total ts) total 0) symbols.Comma symbols.CloseBrace (tokens placed.now)) }
+    ensures { Gives (λ x. (x.0, tokens x.1.now)) result
+        (combining.some_closed (reading.clause_tree (λ ts. reading.pattern levels total ts)
+        (λ ts. reading.expression levels total ts) total 0) symbols.Comma symbols.CloseBrace (tokens placed.now)) }
 {
     let mut parts = Seq::new(alloc);
     let mut rest = placed;
@@ -342,7 +365,9 @@ fn read_clause<'a>(
     placed: &'a [Placed],
 ) -> Result<(ClauseTree, &'a [Placed]), Stop>
     requires { total < 2 ^ 32 }
-    ensures { Gives (λ x. (x.0, tokens x.1.now)) result (reading.clause_tree (λ ts. reading.pattern levels total ts) (λ ts. reading.expression levels total ts) total 0 (tokens placed.now)) }
+    ensures { Gives (λ x. (x.0, tokens x.1.now)) result
+        (reading.clause_tree (λ ts. reading.pattern levels total ts)
+        (λ ts. reading.expression levels total ts) total 0 (tokens placed.now)) }
 {
     let (pat, rest) = read_pattern(alloc, levels, total, placed)?;
     let rest = expect(Symbol::FatArrow, rest)?;

@@ -59,7 +59,8 @@ fn read_auto(placed: &[Placed]) -> Result<(Auto, &[Placed]), Stop>
 /// `boxed;` behind the equals sign.
 #[tactic(auto, unfolding(crate::specs::Reading::layout_rest_from, crate::specs::Combining::pair, crate::specs::Combining::into))]
 fn read_derived(placed: &[Placed]) -> Result<(LayoutRest, &[Placed]), Stop>
-    ensures { Gives (λ x. (seen_rest x.0, tokens x.1.now)) result (reading.layout_rest_from 0 0 (token.Symbol symbol.Equals) (tokens placed.now)) }
+    ensures { Gives (λ x. (seen_rest x.0, tokens x.1.now)) result
+        (reading.layout_rest_from 0 0 (token.Symbol symbol.Equals) (tokens placed.now)) }
 {
     let (auto, rest) = read_auto(placed)?;
     let rest = expect(Symbol::Semicolon, rest)?;
@@ -75,7 +76,8 @@ fn read_laid_out(
     placed: &[Placed],
 ) -> Result<(LayoutRest, &[Placed]), Stop>
     requires { total < 2 ^ 32 }
-    ensures { Gives (λ x. (seen_rest x.0, tokens x.1.now)) result (reading.layout_rest_from levels total (token.Symbol symbol.Less) (tokens placed.now)) }
+    ensures { Gives (λ x. (seen_rest x.0, tokens x.1.now)) result
+        (reading.layout_rest_from levels total (token.Symbol symbol.Less) (tokens placed.now)) }
 {
     let (shape, rest) = read_some_closed(alloc, total, Symbol::Comma, Symbol::Greater, placed)?;
     let rest = expect(Symbol::Equals, rest)?;
@@ -93,7 +95,8 @@ fn read_layout_rest(
     placed: &[Placed],
 ) -> Result<(LayoutRest, &[Placed]), Stop>
     requires { total < 2 ^ 32 }
-    ensures { Gives (λ x. (seen_rest x.0, tokens x.1.now)) result (reading.layout_rest levels total (tokens placed.now)) }
+    ensures { Gives (λ x. (seen_rest x.0, tokens x.1.now)) result
+        (reading.layout_rest levels total (tokens placed.now)) }
 {
     match placed {
         [] => Err(Stop::Stuck(0)),

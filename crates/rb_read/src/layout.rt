@@ -69,7 +69,8 @@ fn read_leaf(
     placed: &[Placed],
 ) -> Result<(SplitTree, &[Placed]), Stop>
     requires { total < 2 ^ 32 }
-    ensures { Gives (λ x. (x.0, tokens x.1.now)) result (reading.leaf levels total (total - length placed.now) (tokens placed.now)) }
+    ensures { Gives (λ x. (x.0, tokens x.1.now)) result
+        (reading.leaf levels total (total - length placed.now) (tokens placed.now)) }
 {
     let at = number_of(total, placed);
     let (provenance, rest) = read_provenance(alloc, levels, total, placed)?;
@@ -89,7 +90,8 @@ fn read_arm<'a>(
     placed: &'a [Placed],
 ) -> Result<(ArmTree, &'a [Placed]), Stop>
     requires { total < 2 ^ 32 }
-    ensures { Gives (λ x. (x.0, tokens x.1.now)) result (reading.arm_tree (λ us. reading.layout_tree levels total us) (tokens placed.now)) }
+    ensures { Gives (λ x. (x.0, tokens x.1.now)) result
+        (reading.arm_tree (λ us. reading.layout_tree levels total us) (tokens placed.now)) }
 {
     let (literal, rest) = read_number(placed)?;
     let rest = expect(Symbol::FatArrow, rest)?;
@@ -106,7 +108,9 @@ fn read_arms<'a>(
     placed: &'a [Placed],
 ) -> Result<(Seq<ArmTree>, &'a [Placed]), Stop>
     requires { total < 2 ^ 32 }
-    ensures { Gives (λ x. (x.0, tokens x.1.now)) result (combining.each_of starting.is_number (reading.arm_tree (λ us. reading.layout_tree levels total us)) (tokens placed.now)) }
+    ensures { Gives (λ x. (x.0, tokens x.1.now)) result
+        (combining.each_of starting.is_number (reading.arm_tree (λ us. reading.layout_tree levels total us))
+        (tokens placed.now)) }
 {
     let mut arms = Seq::new(alloc);
     let mut rest = placed;
@@ -131,7 +135,9 @@ fn read_else<'a>(
     placed: &'a [Placed],
 ) -> Result<(Option<Boxed<SplitTree>>, &'a [Placed]), Stop>
     requires { total < 2 ^ 32 }
-    ensures { Gives (λ x. (x.0, tokens x.1.now)) result (combining.optional (λ t. starting.is_word word.Else t) (reading.else_tree (λ us. reading.layout_tree levels total us)) (tokens placed.now)) }
+    ensures { Gives (λ x. (x.0, tokens x.1.now)) result
+        (combining.optional (λ t. starting.is_word word.Else t)
+        (reading.else_tree (λ us. reading.layout_tree levels total us)) (tokens placed.now)) }
 {
     if !begins_else(placed) {
         return Ok((None, placed));
@@ -153,7 +159,8 @@ fn read_split<'a>(
     placed: &'a [Placed],
 ) -> Result<(SplitTree, &'a [Placed]), Stop>
     requires { total < 2 ^ 32 }
-    ensures { Gives (λ x. (x.0, tokens x.1.now)) result (reading.split_rest (λ us. reading.layout_tree levels total us) (tokens placed.now)) }
+    ensures { Gives (λ x. (x.0, tokens x.1.now)) result
+        (reading.split_rest (λ us. reading.layout_tree levels total us) (tokens placed.now)) }
 {
     let (loc, rest) = read_location(alloc, total, placed)?;
     let rest = expect(Symbol::OpenBrace, rest)?;
@@ -173,7 +180,9 @@ fn read_tree_node<'a>(
     placed: &'a [Placed],
 ) -> Result<(SplitTree, &'a [Placed]), Stop>
     requires { total < 2 ^ 32 }
-    ensures { Gives (λ x. (x.0, tokens x.1.now)) result (reading.tree_by (λ us. reading.layout_tree levels total us) (λ us. reading.leaf levels total (total - length us) us) (tokens placed.now)) }
+    ensures { Gives (λ x. (x.0, tokens x.1.now)) result
+        (reading.tree_by (λ us. reading.layout_tree levels total us)
+        (λ us. reading.leaf levels total (total - length us) us) (tokens placed.now)) }
 {
     match placed {
         [] => Err(Stop::Stuck(0)),

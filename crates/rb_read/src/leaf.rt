@@ -31,7 +31,8 @@ pub enum PathEnd {
 /// `[0:8]` or `word 1` behind a path, or nothing.
 #[tactic(auto, unfolding(crate::specs::Combining::optional, crate::specs::Reading::path_end, crate::specs::Reading::path_end_from, crate::specs::Combining::into))]
 fn read_path_end(placed: &[Placed]) -> Result<(Option<PathEnd>, &[Placed]), Stop>
-    ensures { Gives (λ x. (seen_end x.0, tokens x.1.now)) result (combining.optional reading.ends_path reading.path_end (tokens placed.now)) }
+    ensures { Gives (λ x. (seen_end x.0, tokens x.1.now)) result
+        (combining.optional reading.ends_path reading.path_end (tokens placed.now)) }
 {
     match placed {
         [] => Ok((None, placed)),
@@ -64,7 +65,8 @@ fn held(path: Seq<u32>, end: Option<PathEnd>) -> PartKind
 #[tactic(auto, unfolding(crate::specs::Reading::part_kind_from, crate::specs::Reading::more_fields, crate::specs::Combining::pair, crate::specs::Combining::into))]
 fn read_held(alloc: Global, total: usize, placed: &[Placed]) -> Result<(PartKind, &[Placed]), Stop>
     requires { total < 2 ^ 32 }
-    ensures { Gives (λ x. (x.0, tokens x.1.now)) result (reading.part_kind_from reading.no_pointer (token.Symbol symbol.Dot) (tokens placed.now)) }
+    ensures { Gives (λ x. (x.0, tokens x.1.now)) result
+        (reading.part_kind_from reading.no_pointer (token.Symbol symbol.Dot) (tokens placed.now)) }
 {
     let (first, rest) = read_field(placed)?;
     let (others, rest) = read_each(alloc, total, rest)?;
@@ -147,7 +149,8 @@ fn read_some_parts<'a>(
     placed: &'a [Placed],
 ) -> Result<(Seq<PartDecl>, &'a [Placed]), Stop>
     requires { total < 2 ^ 32 }
-    ensures { Gives (λ x. (x.0, tokens x.1.now)) result (combining.some_closed (reading.part (pointed levels)) symbol.Comma symbol.CloseBrace (tokens placed.now)) }
+    ensures { Gives (λ x. (x.0, tokens x.1.now)) result
+        (combining.some_closed (reading.part (pointed levels)) symbol.Comma symbol.CloseBrace (tokens placed.now)) }
 {
     let mut parts = Seq::new(alloc);
     let mut rest = placed;
@@ -173,7 +176,8 @@ fn read_parts<'a>(
     placed: &'a [Placed],
 ) -> Result<(Seq<PartDecl>, &'a [Placed]), Stop>
     requires { total < 2 ^ 32 }
-    ensures { Gives (λ x. (x.0, tokens x.1.now)) result (combining.any_closed (reading.part (pointed levels)) symbol.CloseBrace (tokens placed.now)) }
+    ensures { Gives (λ x. (x.0, tokens x.1.now)) result
+        (combining.any_closed (reading.part (pointed levels)) symbol.CloseBrace (tokens placed.now)) }
 {
     if begins_with(Symbol::CloseBrace, placed) {
         return Ok((Seq::new(alloc), &placed[1..]));
@@ -191,7 +195,8 @@ fn read_word<'a>(
     placed: &'a [Placed],
 ) -> Result<(LayItem, &'a [Placed]), Stop>
     requires { total < 2 ^ 32 }
-    ensures { Gives (λ x. (x.0, tokens x.1.now)) result (reading.item_from (pointed levels) (token.Reserved word.Word) (tokens placed.now)) }
+    ensures { Gives (λ x. (x.0, tokens x.1.now)) result
+        (reading.item_from (pointed levels) (token.Reserved word.Word) (tokens placed.now)) }
 {
     let (bits, rest) = read_number(placed)?;
     let rest = expect(Symbol::OpenBrace, rest)?;
@@ -233,7 +238,9 @@ pub(crate) fn read_some_items<'a>(
     placed: &'a [Placed],
 ) -> Result<(Seq<LayItem>, &'a [Placed]), Stop>
     requires { total < 2 ^ 32 }
-    ensures { Gives (λ x. (x.0, tokens x.1.now)) result (combining.some_closed (λ us. reading.lay_item_tree levels us) symbol.Comma symbol.CloseBrace (tokens placed.now)) }
+    ensures { Gives (λ x. (x.0, tokens x.1.now)) result
+        (combining.some_closed (λ us. reading.lay_item_tree levels us) symbol.Comma symbol.CloseBrace
+        (tokens placed.now)) }
 {
     let mut items = Seq::new(alloc);
     let mut rest = placed;
@@ -259,7 +266,8 @@ fn read_items<'a>(
     placed: &'a [Placed],
 ) -> Result<(Seq<LayItem>, &'a [Placed]), Stop>
     requires { total < 2 ^ 32 }
-    ensures { Gives (λ x. (x.0, tokens x.1.now)) result (combining.any_closed (λ us. reading.lay_item_tree levels us) symbol.CloseBrace (tokens placed.now)) }
+    ensures { Gives (λ x. (x.0, tokens x.1.now)) result
+        (combining.any_closed (λ us. reading.lay_item_tree levels us) symbol.CloseBrace (tokens placed.now)) }
 {
     if begins_with(Symbol::CloseBrace, placed) {
         return Ok((Seq::new(alloc), &placed[1..]));

@@ -32,7 +32,8 @@ pub(crate) fn read_some_closed<T: Read + Drop>(
     placed: &[Placed],
 ) -> Result<(Seq<T>, &[Placed]), Stop>
     requires { total < 2 ^ 32 }
-    ensures { Gives (λ x. (x.0, tokens x.1.now)) result (combining.some_closed (T.reader total) separator close (tokens placed.now)) }
+    ensures { Gives (λ x. (x.0, tokens x.1.now)) result
+        (combining.some_closed (T.reader total) separator close (tokens placed.now)) }
 {
     let mut parts = Seq::new(alloc);
     let mut rest = placed;
@@ -57,7 +58,8 @@ pub(crate) fn read_any_closed<T: Read + Drop>(
     placed: &[Placed],
 ) -> Result<(Seq<T>, &[Placed]), Stop>
     requires { total < 2 ^ 32 }
-    ensures { Gives (λ x. (x.0, tokens x.1.now)) result (combining.any_closed (T.reader total) close (tokens placed.now)) }
+    ensures { Gives (λ x. (x.0, tokens x.1.now)) result
+        (combining.any_closed (T.reader total) close (tokens placed.now)) }
 {
     if begins_with(close, placed) {
         return Ok((Seq::new(alloc), &placed[1..]));

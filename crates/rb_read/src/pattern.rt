@@ -58,7 +58,8 @@ fn read_pattern_node<'a>(
     placed: &'a [Placed],
 ) -> Result<(PatTree, &'a [Placed]), Stop>
     requires { total < 2 ^ 32 }
-    ensures { Gives (λ x. (x.0, tokens x.1.now)) result (reading.pattern_one (λ ts. reading.pattern levels total ts) total (tokens placed.now)) }
+    ensures { Gives (λ x. (x.0, tokens x.1.now)) result
+        (reading.pattern_one (λ ts. reading.pattern levels total ts) total (tokens placed.now)) }
 {
     match placed {
         [] => Err(Stop::Stuck(0)),
@@ -90,7 +91,9 @@ fn read_constructed<'a>(
     placed: &'a [Placed],
 ) -> Result<(PatTree, &'a [Placed]), Stop>
     requires { total < 2 ^ 32 }
-    ensures { Gives (λ x. (x.0, tokens x.1.now)) result (combining.into (λ parts. pats.Con at (reading.named at name.now) parts) (combining.in_parens (λ ts. reading.pattern levels total ts)) (tokens placed.now)) }
+    ensures { Gives (λ x. (x.0, tokens x.1.now)) result
+        (combining.into (λ parts. pats.Con at (reading.named at name.now) parts)
+        (combining.in_parens (λ ts. reading.pattern levels total ts)) (tokens placed.now)) }
 {
     let text = name.copy(alloc)?;
     let (parts, rest) = read_subpatterns(alloc, levels, total, placed)?;
@@ -107,7 +110,8 @@ fn read_subpatterns<'a>(
     placed: &'a [Placed],
 ) -> Result<(Seq<PatTree>, &'a [Placed]), Stop>
     requires { total < 2 ^ 32 }
-    ensures { Gives (λ x. (x.0, tokens x.1.now)) result (combining.in_parens (λ ts. reading.pattern levels total ts) (tokens placed.now)) }
+    ensures { Gives (λ x. (x.0, tokens x.1.now)) result
+        (combining.in_parens (λ ts. reading.pattern levels total ts) (tokens placed.now)) }
 {
     if begins_with(Symbol::OpenParen, placed) {
         return read_some_patterns(alloc, levels, total, &placed[1..]);
@@ -124,7 +128,9 @@ fn read_some_patterns<'a>(
     placed: &'a [Placed],
 ) -> Result<(Seq<PatTree>, &'a [Placed]), Stop>
     requires { total < 2 ^ 32 }
-    ensures { Gives (λ x. (x.0, tokens x.1.now)) result (combining.some_closed (λ ts. reading.pattern levels total ts) symbols.Comma symbols.CloseParen (tokens placed.now)) }
+    ensures { Gives (λ x. (x.0, tokens x.1.now)) result
+        (combining.some_closed (λ ts. reading.pattern levels total ts) symbols.Comma symbols.CloseParen
+        (tokens placed.now)) }
 {
     let mut parts = Seq::new(alloc);
     let mut rest = placed;

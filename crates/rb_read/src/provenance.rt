@@ -69,7 +69,8 @@ fn read_provenance_node(
     placed: &[Placed],
 ) -> Result<(PatTree, &[Placed]), Stop>
     requires { total < 2 ^ 32 }
-    ensures { Gives (λ x. (x.0, tokens x.1.now)) result (reading.provenance_one (λ ts. reading.below levels total ts) total (tokens placed.now)) }
+    ensures { Gives (λ x. (x.0, tokens x.1.now)) result
+        (reading.provenance_one (λ ts. reading.below levels total ts) total (tokens placed.now)) }
 {
     match placed {
         [] => Err(Stop::Stuck(0)),
@@ -111,7 +112,8 @@ fn read_below_node<'a>(
     placed: &'a [Placed],
 ) -> Result<(PatTree, &'a [Placed]), Stop>
     requires { total < 2 ^ 32 }
-    ensures { Gives (λ x. (x.0, tokens x.1.now)) result (reading.below_one (λ ts. reading.below levels total ts) total (tokens placed.now)) }
+    ensures { Gives (λ x. (x.0, tokens x.1.now)) result
+        (reading.below_one (λ ts. reading.below levels total ts) total (tokens placed.now)) }
 {
     match placed {
         [] => Err(Stop::Stuck(0)),
@@ -138,7 +140,9 @@ fn read_constructed<'a>(
     placed: &'a [Placed],
 ) -> Result<(PatTree, &'a [Placed]), Stop>
     requires { total < 2 ^ 32 }
-    ensures { Gives (λ x. (x.0, tokens x.1.now)) result (combining.into (λ parts. pats.Con at (reading.named at name.now) parts) (combining.in_parens (λ ts. reading.below levels total ts)) (tokens placed.now)) }
+    ensures { Gives (λ x. (x.0, tokens x.1.now)) result
+        (combining.into (λ parts. pats.Con at (reading.named at name.now) parts)
+        (combining.in_parens (λ ts. reading.below levels total ts)) (tokens placed.now)) }
 {
     let text = name.copy(alloc)?;
     let (parts, rest) = read_parts(alloc, levels, total, placed)?;
@@ -155,7 +159,8 @@ fn read_parts<'a>(
     placed: &'a [Placed],
 ) -> Result<(Seq<PatTree>, &'a [Placed]), Stop>
     requires { total < 2 ^ 32 }
-    ensures { Gives (λ x. (x.0, tokens x.1.now)) result (combining.in_parens (λ ts. reading.below levels total ts) (tokens placed.now)) }
+    ensures { Gives (λ x. (x.0, tokens x.1.now)) result
+        (combining.in_parens (λ ts. reading.below levels total ts) (tokens placed.now)) }
 {
     if begins_with(Symbol::OpenParen, placed) {
         return read_some_below(alloc, levels, total, &placed[1..]);
@@ -172,7 +177,9 @@ fn read_some_below<'a>(
     placed: &'a [Placed],
 ) -> Result<(Seq<PatTree>, &'a [Placed]), Stop>
     requires { total < 2 ^ 32 }
-    ensures { Gives (λ x. (x.0, tokens x.1.now)) result (combining.some_closed (λ ts. reading.below levels total ts) symbols.Comma symbols.CloseParen (tokens placed.now)) }
+    ensures { Gives (λ x. (x.0, tokens x.1.now)) result
+        (combining.some_closed (λ ts. reading.below levels total ts) symbols.Comma symbols.CloseParen
+        (tokens placed.now)) }
 {
     let mut parts = Seq::new(alloc);
     let mut rest = placed;

@@ -83,7 +83,8 @@ pub fn read_file(alloc: Global, placed: &[Placed]) -> Result<FileTree, ReadFault
     requires { length placed.now < 2 ^ 32 }
     ensures answer { Answers (tokens placed.now) result }
     // there is no other answer
-    ensures only { (r : Result FileTree ReadFault) → IsAnswer (tokens placed.now) r → (result ≡ r) ⊎ (result ≡ Err Memory) }
+    ensures only { (r : Result FileTree ReadFault) → IsAnswer (tokens placed.now) r
+        → (result ≡ r) ⊎ (result ≡ Err Memory) }
 {
     read_limited(alloc, placed)
 }

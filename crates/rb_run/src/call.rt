@@ -45,7 +45,8 @@ pub fn call_main<M: ByteMemory, L: Ledger>(
     requires typed { all_of_types (map (is_of_type agreed.now.covered.program.types) args.now)
         (param_types agreed.now.covered.program.funs agreed.now.covered.program.main) ≡ true }
     requires calls { calls ≤ 1000000000 }
-    ensures called { IfOk result (λ ran. IsCalled agreed.now args.now calls (M.memory memory.old) ran.end (M.memory memory.new)) }
+    ensures called { IfOk result (λ ran. IsCalled agreed.now args.now calls (M.memory memory.old) ran.end
+        (M.memory memory.new)) }
     ensures counted { IfOk result (λ ran. (taken : ℕ) × (steps.new.taken ≡ steps.old.taken + taken)
         × IsCounted agreed.now code.now args.now calls (M.memory memory.old) taken ran.switches) }
 {
@@ -65,7 +66,8 @@ pub fn call_main<M: ByteMemory, L: Ledger>(
 
 // A run that does not begin, since a block of its arguments does not fit.
 fn not_begun(fault: EncodeFault) -> Result<Ran, AllocError>
-    ensures { IfOk result (λ ran. (full : Unplaced) × (fault ≡ EncodeFault.Full full) × (ran ≡ record { end = End.Full full; switches = 0 })) }
+    ensures { IfOk result (λ ran. (full : Unplaced) × (fault ≡ EncodeFault.Full full)
+        × (ran ≡ record { end = End.Full full; switches = 0 })) }
 {
     match fault {
         EncodeFault::Full(full) => Ok(Ran {

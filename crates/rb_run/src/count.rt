@@ -67,8 +67,10 @@ pub fn count_main<L: Ledger>(
         ≡ answer_of agreed.now.covered.program agreed.now.layouts args.now bounds.calls bounds.region bounds.nodes) }
     ensures counted { IfOk result (λ c. (taken : ℕ) × (steps.new.taken ≡ steps.old.taken + taken)
         × IsCounted agreed.now code.now args.now bounds.calls (empty_memory bounds.region) taken c.tally.switches) }
-    ensures tallied { IfOk result (λ c. IsTally (laid_call agreed.now args.now bounds.calls (empty_memory bounds.region))
-        (call_of agreed.now.covered.program agreed.now.covered.program.main bounds.calls args.now).end bounds.calls c.tally) }
+    ensures tallied { IfOk result (λ c. IsTally
+        (laid_call agreed.now args.now bounds.calls (empty_memory bounds.region))
+        (call_of agreed.now.covered.program agreed.now.covered.program.main bounds.calls args.now).end bounds.calls
+        c.tally) }
 {
     let mut memory = RawMemory::new(alloc, bounds.region)?;
     let ran = call_main(alloc, agreed, code, args, &mut memory, bounds.calls, steps)?;

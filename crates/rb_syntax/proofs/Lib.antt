@@ -10,5 +10,6 @@ mod NumberLemmas
 pub mod PatternInduction
 mod PieceLemmas
 pub mod SpellingLemmas
+pub mod SplitInduction
 mod SymbolLemmas
 mod TokenLemmas

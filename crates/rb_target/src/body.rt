@@ -101,7 +101,13 @@ impl Body {
     /// The function. Its slots are the parameters and the slots given, each of which some instruction writes.
     pub fn finish(self, name: Name, results: usize) -> CodeFun
         requires { AreWritten self }
-        ensures value { result ≡ record { name = name; params = self.params; results = results; slots = self.slots; body = self.code } }
+        ensures value { result ≡ record {
+          name = name;
+          params = self.params;
+          results = results;
+          slots = self.slots;
+          body = self.code;
+        } }
         ensures written { self.slots ≤ self.params + dest_count self.code }
         ensures small { (self.slots < 2 ^ 64) × (length self.code ≤ 2 ^ 32) }
     {

@@ -76,7 +76,8 @@ impl Builder {
     /// Puts a construction of the last `n` values in their place.
     pub fn build(&mut self, con: u32, n: usize) -> Result<(), AllocError>
         requires { n ≤ length self.old }
-        ensures { OnOk result (self.new ≡ take (length self.old - n) self.old ++ Con con (drop (length self.old - n) self.old) ∷ []) }
+        ensures { OnOk result (self.new ≡ take (length self.old - n) self.old
+            ++ Con con (drop (length self.old - n) self.old) ∷ []) }
     {
         let start = self.done.len() - n;
         let at = self.nodes.len();

@@ -94,7 +94,8 @@ fn open_value(
     stack: &mut Vec<Frame>,
 ) -> Result<(), AllocError>
     requires { node < length nodes.now }
-    ensures { OnOk result (Opened types.now nodes.now node ty stack.old.items stack.new.items out.old.items out.new.items) }
+    ensures { OnOk result
+        (Opened types.now nodes.now node ty stack.old.items stack.new.items out.old.items out.new.items) }
 {
     match nodes.layer(node) {
         Layer::Num(n) => {
@@ -125,7 +126,8 @@ fn turn(
 ) -> Result<(), AllocError>
     requires frame { IsFrame nodes.now frame }
     requires frames { AreFrames nodes.now stack.old.items }
-    ensures { OnOk result (Turned types.now nodes.now frame stack.old.items stack.new.items out.old.items out.new.items) }
+    ensures { OnOk result
+        (Turned types.now nodes.now frame stack.old.items stack.new.items out.old.items out.new.items) }
 {
     if frame.next == nodes.arity(frame.node) {
         write_after(frame.next, out)?;

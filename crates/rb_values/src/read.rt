@@ -25,7 +25,8 @@ fn go_on(
     nodes: usize,
     limit: u64,
 ) -> Result<Option<Typing>, ValueFault>
-    ensures { IfOk result (λ kept. (s next : State) → step s sign ≡ Some next → nodes ≡ (outline_of next).nodes → IsKept types.now ty limit s typing → IsKept types.now ty limit next kept) }
+    ensures { IfOk result (λ kept. (s next : State) → step s sign ≡ Some next → nodes ≡ (outline_of next).nodes
+        → IsKept types.now ty limit s typing → IsKept types.now ty limit next kept) }
 {
     match typing {
         None => Ok(None),
@@ -47,7 +48,8 @@ fn finish(
     len: usize,
     limit: u64,
 ) -> Result<Forest, ValueFault>
-    ensures { (ty : Type_) (s : State) → outline ≡ outline_of s → IsKept types.now ty limit s typing → IsFinished types.now ty limit s len result }
+    ensures { (ty : Type_) (s : State) → outline ≡ outline_of s → IsKept types.now ty limit s typing
+        → IsFinished types.now ty limit s len result }
 {
     if !outline.is_whole() {
         return Err(ValueFault::ValueSyntax(len));

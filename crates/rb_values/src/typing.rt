@@ -151,7 +151,8 @@ impl Typing {
 
     // The type of the next value, where it is tried.
     fn expected(&self, types: &[DataDecl], root: Ty) -> Option<Ty>
-        ensures { (os : List Wait) → self.now.frames.items ≡ keep.frames_of types.now root os → result ≡ keep.expected types.now root os }
+        ensures { (os : List Wait) → self.now.frames.items ≡ keep.frames_of types.now root os
+            → result ≡ keep.expected types.now root os }
     {
         let count = self.frames.len();
         if count == 0 {
@@ -163,7 +164,8 @@ impl Typing {
 
     // A number where a value is to begin.
     fn number(&mut self, types: &[DataDecl], root: Ty, at: usize, n: u64) -> Result<(), AllocError>
-        ensures { OnOk result ((os : List Wait) → keep.IsTyped types.now root (expecting os) self.old → keep.IsTyped types.now root (complete (number at n) os) self.new) }
+        ensures { OnOk result ((os : List Wait) → keep.IsTyped types.now root (expecting os) self.old
+            → keep.IsTyped types.now root (complete (number at n) os) self.new) }
     {
         let ty = match self.expected(types, root) {
             None => return Ok(()),
@@ -189,7 +191,8 @@ impl Typing {
         at: usize,
         name: &[u8],
     ) -> Result<(), ValueFault>
-        ensures { OnOk result ((os : List Wait) → keep.IsTyped types.now root (expecting os) self.old → keep.IsTyped types.now root (named at name.now os) self.new) }
+        ensures { OnOk result ((os : List Wait) → keep.IsTyped types.now root (expecting os) self.old
+            → keep.IsTyped types.now root (named at name.now os) self.new) }
     {
         let ty = self.expected(types, root);
         let con = con_at(types, ty, name)?;
@@ -217,7 +220,9 @@ impl Typing {
 
     // The fields of the name that stands last begin.
     fn open(&mut self) -> Result<(), AllocError>
-        ensures { OnOk result ((types : List Decl) (root : Type_) (at : ℕ) (x : List ℕ) (os : List Wait) → keep.IsTyped types root (named at x os) self.old → keep.IsTyped types root (expecting (waits at x ∷ os)) self.new) }
+        ensures { OnOk result ((types : List Decl) (root : Type_) (at : ℕ) (x : List ℕ) (os : List Wait)
+            → keep.IsTyped types root (named at x os) self.old
+            → keep.IsTyped types root (expecting (waits at x ∷ os)) self.new) }
     {
         if let Some(frame) = self.name {
             self.name = None;
@@ -228,7 +233,10 @@ impl Typing {
 
     // All fields of a name are there.
     fn close_frame(&mut self, types: &[DataDecl], frame: Frame) -> Result<(), AllocError>
-        ensures { OnOk result ((root : Type_) (o : Wait) (os : List Wait) → frame ≡ keep.frame_of types.now root o os → keep.IsClosing types.now root o os self.old.frames.items self.old.name self.old.fault self.old.builder → keep.IsTyped types.now root (complete (whole o) os) self.new) }
+        ensures { OnOk result ((root : Type_) (o : Wait) (os : List Wait)
+            → frame ≡ keep.frame_of types.now root o os
+            → keep.IsClosing types.now root o os self.old.frames.items self.old.name self.old.fault self.old.builder
+            → keep.IsTyped types.now root (complete (whole o) os) self.new) }
     {
         let fields = match con_fields(types, frame.con) {
             None => return Ok(()),
@@ -251,7 +259,8 @@ impl Typing {
 
     /// A name that stands last is whole without fields.
     pub fn settle(&mut self, types: &[DataDecl]) -> Result<(), AllocError>
-        ensures { OnOk result ((root : Type_) (s : State) → keep.IsTyped types.now root s self.old → keep.IsTyped types.now root (keep.settled s) self.new) }
+        ensures { OnOk result ((root : Type_) (s : State) → keep.IsTyped types.now root s self.old
+            → keep.IsTyped types.now root (keep.settled s) self.new) }
     {
         match self.name {
             None => Ok(()),
@@ -265,7 +274,9 @@ impl Typing {
 
     // The innermost name has one more field, and another begins.
     fn comma(&mut self) -> Result<(), ValueFault>
-        ensures { OnOk result ((types : List Decl) (root : Type_) (t : Term) (os : List Wait) (next : State) → then_on t os sign.Comma ≡ Some next → keep.IsTyped types root (complete t os) self.old → keep.IsTyped types root next self.new) }
+        ensures { OnOk result ((types : List Decl) (root : Type_) (t : Term) (os : List Wait) (next : State)
+            → then_on t os sign.Comma ≡ Some next → keep.IsTyped types root (complete t os) self.old
+            → keep.IsTyped types root next self.new) }
     {
         if let Some(frame) = self.frames.pop() {
             let Some(next) = frame.next.checked_add(1) else {
@@ -278,7 +289,9 @@ impl Typing {
 
     // The innermost name has one more field, which is the last.
     fn close(&mut self, types: &[DataDecl]) -> Result<(), ValueFault>
-        ensures { OnOk result ((root : Type_) (t : Term) (os : List Wait) (next : State) → then_on t os sign.Close ≡ Some next → keep.IsTyped types.now root (complete t os) self.old → keep.IsTyped types.now root next self.new) }
+        ensures { OnOk result ((root : Type_) (t : Term) (os : List Wait) (next : State)
+            → then_on t os sign.Close ≡ Some next → keep.IsTyped types.now root (complete t os) self.old
+            → keep.IsTyped types.now root next self.new) }
     {
         if let Some(frame) = self.frames.pop() {
             let Some(next) = frame.next.checked_add(1) else {
@@ -291,7 +304,8 @@ impl Typing {
 
     /// One more sign, with which a value goes on.
     pub fn step(&mut self, types: &[DataDecl], root: Ty, sign: Sign) -> Result<(), ValueFault>
-        ensures { OnOk result ((s next : State) → step s sign ≡ Some next → keep.IsTyped types.now root s self.old → keep.IsTyped types.now root next self.new) }
+        ensures { OnOk result ((s next : State) → step s sign ≡ Some next → keep.IsTyped types.now root s self.old
+            → keep.IsTyped types.now root next self.new) }
     {
         match sign {
             Sign::Number(at, n) => self.number(types, root, at, n)?,
@@ -312,7 +326,8 @@ impl Typing {
 
     /// The value that was read, or the first node that does not fit.
     pub fn finish(self) -> Result<Forest, ValueFault>
-        ensures { (types : List Decl) (root : Type_) (t : Term) → keep.IsTyped types root (complete t []) self → IsSettled types root t result }
+        ensures { (types : List Decl) (root : Type_) (t : Term) → keep.IsTyped types root (complete t []) self
+            → IsSettled types root t result }
     {
         let Typing {
             frames: _,

@@ -131,7 +131,8 @@ fn parse_check<'a>(words: &'a [Name]) -> Result<Command<'a>, CommandFault>
 
 // The words behind `layout`.
 fn parse_layout<'a>(words: &'a [Name]) -> Result<Command<'a>, CommandFault>
-    ensures { MatchResult result (λ c. layout_words words.now ≡ Ok (command_view c)) (IsUsage (layout_words words.now)) }
+    ensures { MatchResult result (λ c. layout_words words.now ≡ Ok (command_view c))
+        (IsUsage (layout_words words.now)) }
 {
     match words {
         [] => Err(CommandFault::Usage(2)),
@@ -144,7 +145,8 @@ fn parse_layout<'a>(words: &'a [Name]) -> Result<Command<'a>, CommandFault>
 
 // The words behind `compile`.
 fn parse_compile<'a>(words: &'a [Name]) -> Result<Command<'a>, CommandFault>
-    ensures { MatchResult result (λ c. compile_words words.now ≡ Ok (command_view c)) (IsUsage (compile_words words.now)) }
+    ensures { MatchResult result (λ c. compile_words words.now ≡ Ok (command_view c))
+        (IsUsage (compile_words words.now)) }
 {
     match words {
         [] => Err(CommandFault::Usage(2)),
@@ -232,7 +234,8 @@ fn parse_gen<'a>(words: &'a [Name]) -> Result<Command<'a>, CommandFault>
 
 // The words behind `genrun`.
 fn parse_genrun<'a>(words: &'a [Name]) -> Result<Command<'a>, CommandFault>
-    ensures { MatchResult result (λ c. genrun_words words.now ≡ Ok (command_view c)) (IsUsage (genrun_words words.now)) }
+    ensures { MatchResult result (λ c. genrun_words words.now ≡ Ok (command_view c))
+        (IsUsage (genrun_words words.now)) }
 {
     let (functions, words) = parse_functions(words)?;
     let (limits, rest) = parse_limits(3, words)?;
@@ -244,7 +247,8 @@ fn parse_genrun<'a>(words: &'a [Name]) -> Result<Command<'a>, CommandFault>
 
 // The numbers that words spell, the first of which has the number 6.
 fn parse_numbers(alloc: Global, words: &[Name]) -> Result<Seq<u64>, CommandFault>
-    ensures { MatchResult result (λ numbers. numbers_from 6 words.now ≡ Ok numbers) (IsUsage (numbers_from 6 words.now)) }
+    ensures { MatchResult result (λ numbers. numbers_from 6 words.now ≡ Ok numbers)
+        (IsUsage (numbers_from 6 words.now)) }
 {
     let mut numbers = Seq::new(alloc);
     for (i, word) in words.iter().enumerate() {
@@ -262,7 +266,8 @@ fn parse_function<'a>(
     code: &'a [u8],
     words: &'a [Name],
 ) -> Result<Command<'a>, CommandFault>
-    ensures { MatchResult result (λ c. function_words code.now words.now ≡ Ok (command_view c)) (IsUsage (function_words code.now words.now)) }
+    ensures { MatchResult result (λ c. function_words code.now words.now ≡ Ok (command_view c))
+        (IsUsage (function_words code.now words.now)) }
 {
     let [function, words @ ..] = words else {
         return Err(CommandFault::Usage(3));

@@ -41,7 +41,8 @@ fn compile_bytes(alloc: Global, bytes: &[u8]) -> Result<Vec<u8>, Refusal>
 pub fn compile_file<S: Source>(alloc: Global, src: &mut S, file: &[u8]) -> Result<Vec<u8>, Refusal>
     ensures later { S.faults src.old ≤ S.faults src.new }
     ensures owed { (steps : ℕ) → Meets
-        (Owes (Ok (spec.compile file.now)) (S.tells src.old) (S.held src.old) (S.faults src.old) (S.faults src.new)) steps steps result }
+        (Owes (Ok (spec.compile file.now)) (S.tells src.old) (S.held src.old) (S.faults src.old)
+        (S.faults src.new)) steps steps result }
 {
     let bytes = read_within(alloc, src, file, FILE_LIMIT)?;
     compile_bytes(alloc, bytes.as_slice())

@@ -73,7 +73,8 @@ fn counts(
 fn show(alloc: Global, program: &Program, counted: &Counted, calls: u64) -> Result<Vec<u8>, Refusal>
     ensures { (laid : Laid) (end : SourceEnd) → meant_by counted.now.answer ≡ answer_at laid end node_limit
         → IsTally laid end calls counted.now.tally → (before steps : ℕ)
-        → Meets (λ due. due ≡ count_due program.now calls laid end counted.now.tally.switches steps) before (before + steps) result }
+        → Meets (λ due. due ≡ count_due program.now calls laid end counted.now.tally.switches steps) before
+        (before + steps) result }
 {
     let (status, line) = match &counted.answer {
         Answer::Shown(value) => {
@@ -96,7 +97,8 @@ fn count_prepared<L: Ledger>(
     steps: &mut Steps<L>,
 ) -> Result<Vec<u8>, Refusal>
     requires { IsPrepared agreed.now prepared.now.code prepared.now.args }
-    ensures { Meets (IsCount agreed.now prepared.now.code prepared.now.args (limits_view limits)) steps.old.taken steps.new.taken result }
+    ensures { Meets (IsCount agreed.now prepared.now.code prepared.now.args
+        (limits_view limits)) steps.old.taken steps.new.taken result }
 {
     let bounds = Bounds {
         calls: limits.calls,
@@ -135,7 +137,8 @@ pub fn count_file<S: Source, L: Ledger>(
 ) -> Result<Vec<u8>, Refusal>
     ensures later { S.faults src.old ≤ S.faults src.new }
     ensures owed { Meets
-        (Owes (Ok (spec.count file.now (limits_view limits) values.now)) (S.tells src.old) (S.held src.old) (S.faults src.old) (S.faults src.new))
+        (Owes (Ok (spec.count file.now (limits_view limits) values.now)) (S.tells src.old) (S.held src.old)
+        (S.faults src.old) (S.faults src.new))
         steps.old.taken steps.new.taken result }
 {
     let bytes = read_within(alloc, src, file, FILE_LIMIT)?;

@@ -14,7 +14,13 @@ const WRITE_FAILED: u8 = 8;
 
 // Writes what the sink takes of the text.
 fn try_write<K: Sink>(sink: &mut K, text: &[u8])
-    ensures { Tried (record { tells = K.tells sink.old; old = K.taken sink.old; new = K.taken sink.new; before = K.faults sink.old; now = K.faults sink.new }) text.now }
+    ensures { Tried (record {
+      tells = K.tells sink.old;
+      old = K.taken sink.old;
+      new = K.taken sink.new;
+      before = K.faults sink.old;
+      now = K.faults sink.new;
+    }) text.now }
 {
     match write_whole(sink, text) {
         Ok(()) => {}
@@ -26,8 +32,20 @@ fn try_write<K: Sink>(sink: &mut K, text: &[u8])
 /// tried on the error output, and the status is 8.
 pub fn print<O: Sink, E: Sink>(text: &[u8], out: &mut O, err: &mut E) -> u8
     ensures { Prints text.now
-        (record { tells = O.tells out.old; old = O.taken out.old; new = O.taken out.new; before = O.faults out.old; now = O.faults out.new })
-        (record { tells = E.tells err.old; old = E.taken err.old; new = E.taken err.new; before = E.faults err.old; now = E.faults err.new }) result }
+        (record {
+          tells = O.tells out.old;
+          old = O.taken out.old;
+          new = O.taken out.new;
+          before = O.faults out.old;
+          now = O.faults out.new;
+        })
+        (record {
+          tells = E.tells err.old;
+          old = E.taken err.old;
+          new = E.taken err.new;
+          before = E.faults err.old;
+          now = E.faults err.new;
+        }) result }
 {
     match write_whole(out, text) {
         Ok(()) => 0,
@@ -42,8 +60,20 @@ pub fn print<O: Sink, E: Sink>(text: &[u8], out: &mut O, err: &mut E) -> u8
 /// nothing.
 pub fn refuse<O: Sink, E: Sink>(status: Status, line: &[u8], out: &mut O, err: &mut E) -> u8
     ensures { Refuses (status_number status) line.now
-        (record { tells = O.tells out.old; old = O.taken out.old; new = O.taken out.new; before = O.faults out.old; now = O.faults out.new })
-        (record { tells = E.tells err.old; old = E.taken err.old; new = E.taken err.new; before = E.faults err.old; now = E.faults err.new }) result }
+        (record {
+          tells = O.tells out.old;
+          old = O.taken out.old;
+          new = O.taken out.new;
+          before = O.faults out.old;
+          now = O.faults out.new;
+        })
+        (record {
+          tells = E.tells err.old;
+          old = E.taken err.old;
+          new = E.taken err.new;
+          before = E.faults err.old;
+          now = E.faults err.new;
+        }) result }
 {
     match write_whole(err, line) {
         Ok(()) => status.number(),

@@ -63,7 +63,8 @@ fn run_words<L: Ledger>(
 ) -> Result<Vec<u8>, Refusal>
     requires known { number < length code.now }
     requires many { length words.now ≡ params_in (slice_get code.now number) }
-    ensures { Meets (λ due. due ≡ outcome_due (run_of code.now limits.calls number words.now (empty_memory limits.region)) limits.calls)
+    ensures { Meets (λ due. due ≡ outcome_due
+        (run_of code.now limits.calls number words.now (empty_memory limits.region)) limits.calls)
         steps.old.taken steps.new.taken result }
 {
     let mut memory = CheckedMemory::new(alloc, limits.region)?;
@@ -81,7 +82,8 @@ fn run_fun<L: Ledger>(
     steps: &mut Steps<L>,
 ) -> Result<Vec<u8>, Refusal>
     requires { number < length code.now }
-    ensures { Meets (λ due. due ≡ call_due code.now (limits_view limits) words.now number) steps.old.taken steps.new.taken result }
+    ensures { Meets (λ due. due ≡ call_due code.now
+        (limits_view limits) words.now number) steps.old.taken steps.new.taken result }
 {
     let wanted = code.funs()[number].params;
     if words.len() != wanted {
@@ -103,7 +105,8 @@ fn run_named<L: Ledger>(
     words: &[u64],
     steps: &mut Steps<L>,
 ) -> Result<Vec<u8>, Refusal>
-    ensures { Meets (λ due. due ≡ exec_due code.now name.now (limits_view limits) words.now) steps.old.taken steps.new.taken result }
+    ensures { Meets (λ due. due ≡ exec_due code.now name.now
+        (limits_view limits) words.now) steps.old.taken steps.new.taken result }
 {
     match find(code.funs(), name) {
         None => {
@@ -141,7 +144,8 @@ fn run_code<L: Ledger>(
     words: &[u64],
     steps: &mut Steps<L>,
 ) -> Result<Vec<u8>, Refusal>
-    ensures { Meets (Executes function.now (limits_view limits) words.now bytes.now) steps.old.taken steps.new.taken result }
+    ensures { Meets
+        (Executes function.now (limits_view limits) words.now bytes.now) steps.old.taken steps.new.taken result }
 {
     match read_code(alloc, bytes) {
         Ok(code) => run_named(alloc, &code, function, limits, words, steps),
@@ -164,7 +168,8 @@ pub fn run_code_file<S: Source, L: Ledger>(
 ) -> Result<Vec<u8>, Refusal>
     ensures later { S.faults src.old ≤ S.faults src.new }
     ensures owed { Meets
-        (Owes (Ok (spec.exec code.now function.now (limits_view limits) words.now)) (S.tells src.old) (S.held src.old) (S.faults src.old) (S.faults src.new))
+        (Owes (Ok (spec.exec code.now function.now (limits_view limits) words.now)) (S.tells src.old)
+        (S.held src.old) (S.faults src.old) (S.faults src.new))
         steps.old.taken steps.new.taken result }
 {
     let bytes = read_within(alloc, src, code, CODE_LIMIT)?;

@@ -159,7 +159,8 @@ fn show(
 ) -> Result<Vec<u8>, Refusal>
     requires good { IsGood memory.now }
     requires ended { IsEndOf agreed.now end.now memory.now }
-    ensures { (before steps : ℕ) → Meets (λ due. due ≡ image_due end.now calls memory.now steps) before (before + steps) result }
+    ensures { (before steps : ℕ) → Meets (λ due. due ≡ image_due end.now calls memory.now steps) before
+        (before + steps) result }
 {
     let (status, line) = match end {
         End::Returned { words, .. } => {
@@ -182,7 +183,8 @@ fn image_prepared<L: Ledger>(
     steps: &mut Steps<L>,
 ) -> Result<Vec<u8>, Refusal>
     requires { IsPrepared agreed.now prepared.now.code prepared.now.args }
-    ensures { Meets (IsImage agreed.now prepared.now.code prepared.now.args (limits_view limits)) steps.old.taken steps.new.taken result }
+    ensures { Meets (IsImage agreed.now prepared.now.code prepared.now.args
+        (limits_view limits)) steps.old.taken steps.new.taken result }
 {
     let mut memory = CheckedMemory::new(alloc, limits.region)?;
     let args = prepared.args.as_slice();
@@ -218,7 +220,8 @@ pub fn image_file<S: Source, L: Ledger>(
 ) -> Result<Vec<u8>, Refusal>
     ensures later { S.faults src.old ≤ S.faults src.new }
     ensures owed { Meets
-        (Owes (Ok (spec.image file.now (limits_view limits) values.now)) (S.tells src.old) (S.held src.old) (S.faults src.old) (S.faults src.new))
+        (Owes (Ok (spec.image file.now (limits_view limits) values.now)) (S.tells src.old) (S.held src.old)
+        (S.faults src.old) (S.faults src.new))
         steps.old.taken steps.new.taken result }
 {
     let bytes = read_within(alloc, src, file, FILE_LIMIT)?;

@@ -29,7 +29,8 @@ fn layout_bytes(alloc: Global, bytes: &[u8]) -> Result<Vec<u8>, Refusal>
 pub fn layout_file<S: Source>(alloc: Global, src: &mut S, file: &[u8]) -> Result<Vec<u8>, Refusal>
     ensures later { S.faults src.old ≤ S.faults src.new }
     ensures owed { (steps : ℕ) → Meets
-        (Owes (Ok (spec.layout file.now)) (S.tells src.old) (S.held src.old) (S.faults src.old) (S.faults src.new)) steps steps result }
+        (Owes (Ok (spec.layout file.now)) (S.tells src.old) (S.held src.old) (S.faults src.old)
+        (S.faults src.new)) steps steps result }
 {
     let bytes = read_within(alloc, src, file, FILE_LIMIT)?;
     layout_bytes(alloc, bytes.as_slice())

@@ -65,7 +65,8 @@ pub fn read_within<S: Source>(
     ensures later { S.faults src.old ≤ S.faults src.new }
     ensures seen { IfOk result (λ bytes. IsTrue (S.tells src.old) → S.held src.old name.now ≡ Some bytes) }
     ensures within { IfOk result (λ bytes. length bytes ≤ limit) }
-    ensures refused { IfErr result (IsRefusal (IsUnread (S.tells src.old) (S.held src.old) (S.faults src.old) (S.faults src.new) name.now limit)) }
+    ensures refused { IfErr result (IsRefusal
+        (IsUnread (S.tells src.old) (S.held src.old) (S.faults src.old) (S.faults src.new) name.now limit)) }
 {
     match read_whole(alloc, src, name, limit) {
         Ok(bytes) => {

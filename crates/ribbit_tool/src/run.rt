@@ -68,7 +68,8 @@ pub(crate) fn show_value(
 
 // The text of a run's answer.
 fn show(alloc: Global, program: &Program, answer: &Answer, calls: u64) -> Result<Vec<u8>, Refusal>
-    ensures { (before steps : ℕ) → Meets (λ due. due ≡ answer_due program.now calls (meant_by answer.now) steps) before (before + steps) result }
+    ensures { (before steps : ℕ) → Meets (λ due. due
+        ≡ answer_due program.now calls (meant_by answer.now) steps) before (before + steps) result }
 {
     let (status, line) = match answer {
         Answer::Shown(value) => {
@@ -91,7 +92,8 @@ fn run_prepared<L: Ledger>(
     steps: &mut Steps<L>,
 ) -> Result<Vec<u8>, Refusal>
     requires { IsPrepared agreed.now prepared.now.code prepared.now.args }
-    ensures { Meets (IsAnswered agreed.now prepared.now.code prepared.now.args (limits_view limits)) steps.old.taken steps.new.taken result }
+    ensures { Meets (IsAnswered agreed.now prepared.now.code prepared.now.args
+        (limits_view limits)) steps.old.taken steps.new.taken result }
 {
     let bounds = Bounds {
         calls: limits.calls,
@@ -130,7 +132,8 @@ pub fn run_file<S: Source, L: Ledger>(
 ) -> Result<Vec<u8>, Refusal>
     ensures later { S.faults src.old ≤ S.faults src.new }
     ensures owed { Meets
-        (Owes (Ok (spec.run file.now (limits_view limits) values.now)) (S.tells src.old) (S.held src.old) (S.faults src.old) (S.faults src.new))
+        (Owes (Ok (spec.run file.now (limits_view limits) values.now)) (S.tells src.old) (S.held src.old)
+        (S.faults src.old) (S.faults src.new))
         steps.old.taken steps.new.taken result }
 {
     let bytes = read_within(alloc, src, file, FILE_LIMIT)?;

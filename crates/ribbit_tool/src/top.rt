@@ -39,7 +39,8 @@ fn obey<S: Source, L: Ledger>(
     steps: &mut Steps<L>,
 ) -> Result<Vec<u8>, Refusal>
     ensures later { S.faults src.old ≤ S.faults src.new }
-    ensures owed { Meets (Owes (Ok (command_view command.now)) (S.tells src.old) (S.held src.old) (S.faults src.old) (S.faults src.new))
+    ensures owed { Meets (Owes (Ok (command_view command.now)) (S.tells src.old) (S.held src.old) (S.faults src.old)
+        (S.faults src.new))
         steps.old.taken steps.new.taken result }
 {
     match command {
@@ -93,7 +94,8 @@ fn compose<S: Source, L: Ledger>(
     steps: &mut Steps<L>,
 ) -> Result<Vec<u8>, Refusal>
     ensures later { S.faults src.old ≤ S.faults src.new }
-    ensures owed { Meets (Owes (command_of words.now) (S.tells src.old) (S.held src.old) (S.faults src.old) (S.faults src.new))
+    ensures owed { Meets (Owes (command_of words.now) (S.tells src.old) (S.held src.old) (S.faults src.old)
+        (S.faults src.new))
         steps.old.taken steps.new.taken result }
 {
     match parse(alloc, words) {
@@ -117,8 +119,20 @@ fn answer<S: Source, O: Sink, E: Sink, L: Ledger>(
 ) -> u8
     ensures { Performs words.now
         (record { tells = S.tells src.old; held = S.held src.old; before = S.faults src.old; now = S.faults src.new })
-        (record { tells = O.tells out.old; old = O.taken out.old; new = O.taken out.new; before = O.faults out.old; now = O.faults out.new })
-        (record { tells = E.tells err.old; old = E.taken err.old; new = E.taken err.new; before = E.faults err.old; now = E.faults err.new })
+        (record {
+          tells = O.tells out.old;
+          old = O.taken out.old;
+          new = O.taken out.new;
+          before = O.faults out.old;
+          now = O.faults out.new;
+        })
+        (record {
+          tells = E.tells err.old;
+          old = E.taken err.old;
+          new = E.taken err.new;
+          before = E.faults err.old;
+          now = E.faults err.new;
+        })
         (record { before = steps.old.taken; now = steps.new.taken }) result }
 {
     match compose(alloc, words, src, steps) {
@@ -142,34 +156,106 @@ pub fn ribbit<S: Source, O: Sink, E: Sink, L: Ledger>(
     // What was due, and how it was delivered.
     ensures performs { Performs words.now
         (record { tells = S.tells src.old; held = S.held src.old; before = S.faults src.old; now = S.faults src.new })
-        (record { tells = O.tells out.old; old = O.taken out.old; new = O.taken out.new; before = O.faults out.old; now = O.faults out.new })
-        (record { tells = E.tells err.old; old = E.taken err.old; new = E.taken err.new; before = E.faults err.old; now = E.faults err.new })
+        (record {
+          tells = O.tells out.old;
+          old = O.taken out.old;
+          new = O.taken out.new;
+          before = O.faults out.old;
+          now = O.faults out.new;
+        })
+        (record {
+          tells = E.tells err.old;
+          old = E.taken err.old;
+          new = E.taken err.new;
+          before = E.faults err.old;
+          now = E.faults err.new;
+        })
         (record { before = steps.old.taken; now = steps.new.taken }) result }
     // The headline, for accepted files: the value of the source's meaning, or the limit that it passes.
     ensures headline { Headline words.now
         (record { tells = S.tells src.old; held = S.held src.old; before = S.faults src.old; now = S.faults src.new })
-        (record { tells = O.tells out.old; old = O.taken out.old; new = O.taken out.new; before = O.faults out.old; now = O.faults out.new })
-        (record { tells = E.tells err.old; old = E.taken err.old; new = E.taken err.new; before = E.faults err.old; now = E.faults err.new }) result }
+        (record {
+          tells = O.tells out.old;
+          old = O.taken out.old;
+          new = O.taken out.new;
+          before = O.faults out.old;
+          now = O.faults out.new;
+        })
+        (record {
+          tells = E.tells err.old;
+          old = E.taken err.old;
+          new = E.taken err.new;
+          before = E.faults err.old;
+          now = E.faults err.new;
+        }) result }
     // The image of that value, with just the blocks that are asked for.
     ensures image { ImageHeadline words.now
         (record { tells = S.tells src.old; held = S.held src.old; before = S.faults src.old; now = S.faults src.new })
-        (record { tells = O.tells out.old; old = O.taken out.old; new = O.taken out.new; before = O.faults out.old; now = O.faults out.new })
-        (record { tells = E.tells err.old; old = E.taken err.old; new = E.taken err.new; before = E.faults err.old; now = E.faults err.new }) result }
+        (record {
+          tells = O.tells out.old;
+          old = O.taken out.old;
+          new = O.taken out.new;
+          before = O.faults out.old;
+          now = O.faults out.new;
+        })
+        (record {
+          tells = E.tells err.old;
+          old = E.taken err.old;
+          new = E.taken err.new;
+          before = E.faults err.old;
+          now = E.faults err.new;
+        }) result }
     // That value, and what the run did.
     ensures count { CountHeadline words.now
         (record { tells = S.tells src.old; held = S.held src.old; before = S.faults src.old; now = S.faults src.new })
-        (record { tells = O.tells out.old; old = O.taken out.old; new = O.taken out.new; before = O.faults out.old; now = O.faults out.new })
-        (record { tells = E.tells err.old; old = E.taken err.old; new = E.taken err.new; before = E.faults err.old; now = E.faults err.new }) result }
+        (record {
+          tells = O.tells out.old;
+          old = O.taken out.old;
+          new = O.taken out.new;
+          before = O.faults out.old;
+          now = O.faults out.new;
+        })
+        (record {
+          tells = E.tells err.old;
+          old = E.taken err.old;
+          new = E.taken err.new;
+          before = E.faults err.old;
+          now = E.faults err.new;
+        }) result }
     // The generated file, and what its run did.
     ensures generate { GenerateHeadline words.now
         (record { tells = S.tells src.old; held = S.held src.old; before = S.faults src.old; now = S.faults src.new })
-        (record { tells = O.tells out.old; old = O.taken out.old; new = O.taken out.new; before = O.faults out.old; now = O.faults out.new })
-        (record { tells = E.tells err.old; old = E.taken err.old; new = E.taken err.new; before = E.faults err.old; now = E.faults err.new }) result }
+        (record {
+          tells = O.tells out.old;
+          old = O.taken out.old;
+          new = O.taken out.new;
+          before = O.faults out.old;
+          now = O.faults out.new;
+        })
+        (record {
+          tells = E.tells err.old;
+          old = E.taken err.old;
+          new = E.taken err.new;
+          before = E.faults err.old;
+          now = E.faults err.new;
+        }) result }
     // The main theorem, for all words and files, and with faults of the source and the sinks.
     ensures right { IsRight words.now
         (record { tells = S.tells src.old; held = S.held src.old; before = S.faults src.old; now = S.faults src.new })
-        (record { tells = O.tells out.old; old = O.taken out.old; new = O.taken out.new; before = O.faults out.old; now = O.faults out.new })
-        (record { tells = E.tells err.old; old = E.taken err.old; new = E.taken err.new; before = E.faults err.old; now = E.faults err.new })
+        (record {
+          tells = O.tells out.old;
+          old = O.taken out.old;
+          new = O.taken out.new;
+          before = O.faults out.old;
+          now = O.faults out.new;
+        })
+        (record {
+          tells = E.tells err.old;
+          old = E.taken err.old;
+          new = E.taken err.new;
+          before = E.faults err.old;
+          now = E.faults err.new;
+        })
         (record { before = steps.old.taken; now = steps.new.taken }) result }
 {
     answer(alloc, words.as_slice(), src, out, err, steps)

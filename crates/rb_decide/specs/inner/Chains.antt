@@ -1,11 +1,12 @@
 -- Chains: the tests of one pattern in pre-order, each with one arm, and clause 1 for all other values.
-use Rattle.std.specs.Prelude.{◌≡◌, ℕ, ◌+◌, ◌<◌, ◌≤◌, ◌==◌, List, [], ◌∷◌, length, if◌then◌else◌, Some, None, slice_get}
+use Rattle.std.specs.Prelude.{◌≡◌, ℕ, ◌+◌, ◌<◌, ◌≤◌, ◌==◌, List, [], ◌∷◌, length, map, if◌then◌else◌, Some, None, slice_get}
 use Rattle.rb_core.specs.declared.types.Ty.{Ty}
 use Rattle.rb_core.specs.declared.types.DataDecl.{DataDecl}
 use Rattle.rb_core.specs.declared.pattern.Pat.{Pat}
 use Rattle.rb_core.specs.declared.pattern.Pat.TheOpen as P
 use Rattle.rb_core.specs.declared.pattern.Pat.TheOpen.{Pat-F}
 use Rattle.rb_core.specs.declared.pattern.Pat.TheFolds.{fold-Pat}
+use Rattle.rb_matrix.specs.Problems.{head_count, row_heads}
 use Rattle.rb_matrix.specs.declared.matrix.Head.{Head}
 use Rattle.rb_matrix.specs.declared.matrix.Head.TheVariants as H
 use Rattle.rb_decide.specs.declared.clause_matrix.Column.{Column}
@@ -59,3 +60,14 @@ pub record IsChained (put : Tree → Tree) (most : ℕ) (old : List GraphNode) (
   pub within : i < length new
   pub few : length new ≤ length old + most
   pub there : (t : Tree) → slice_get (node_trees old) under ≡ Some t → slice_get (node_trees new) i ≡ Some (put t)
+
+-- The same of a test of one head, of a pattern, and of the patterns of a constructor's fields.
+abbrev pub IsTest : List DataDecl → Head → Column → List GraphNode → ℕ → List GraphNode → ℕ → Type 0
+IsTest types h c = IsChained (one_test types h c) 1
+
+abbrev pub IsPatternChain : List DataDecl → Pat → Column → List GraphNode → ℕ → List GraphNode → ℕ → Type 0
+IsPatternChain types p c = IsChained (chain types p c) (head_count p)
+
+abbrev pub IsFieldChain : List DataDecl → List Pat → List ℕ → List Ty → List GraphNode → ℕ → List GraphNode → ℕ → Type 0
+IsFieldChain types ps position fields =
+    IsChained (chain_fields (map (chain types) ps) position fields) (row_heads ps)

@@ -79,7 +79,8 @@ fn put_call(
     args: &[ExprTree],
 ) -> Result<(), AllocError>
     ensures { OnOk result ((l : ℕ) → Wrote (λ rest. lower_written name.now (spelling.sym symbol.OpenParen
-        ∷ any_with comma (at_level l (map expr_written args.now)) (spelling.sym symbol.CloseParen ∷ rest))) out.old.items out.new.items) }
+        ∷ any_with comma (at_level l (map expr_written args.now))
+        (spelling.sym symbol.CloseParen ∷ rest))) out.old.items out.new.items) }
 {
     put_symbol(out, Symbol::CloseParen)?;
     put_args(alloc, out, args)?;
@@ -98,7 +99,8 @@ fn put_binary(
     b: &ExprTree,
 ) -> Result<(), AllocError>
     ensures { OnOk result ((l : ℕ) → Wrote (λ rest. spelling.reserved (op_word op) ∷ spelling.sym symbol.OpenParen
-        ∷ expr_written a.now l (written.token comma ∷ expr_written b.now l (spelling.sym symbol.CloseParen ∷ rest))) out.old.items out.new.items) }
+        ∷ expr_written a.now l (written.token comma
+        ∷ expr_written b.now l (spelling.sym symbol.CloseParen ∷ rest))) out.old.items out.new.items) }
 {
     put_symbol(out, Symbol::CloseParen)?;
     put_expr(alloc, out, b)?;
@@ -119,8 +121,10 @@ fn put_let(
     a: &ExprTree,
     b: &ExprTree,
 ) -> Result<(), AllocError>
-    ensures { OnOk result ((l : ℕ) → Wrote (λ rest. spelling.reserved word.Let ∷ lower_written name.now (spelling.sym symbol.Colon
-        ∷ ty_written ty.now (spelling.sym symbol.Equals ∷ expr_written a.now l (spelling.reserved word.In ∷ expr_written b.now l rest))))
+    ensures { OnOk result ((l : ℕ) → Wrote (λ rest. spelling.reserved word.Let
+        ∷ lower_written name.now (spelling.sym symbol.Colon
+        ∷ ty_written ty.now (spelling.sym symbol.Equals
+        ∷ expr_written a.now l (spelling.reserved word.In ∷ expr_written b.now l rest))))
         out.old.items out.new.items) }
 {
     put_expr(alloc, out, b)?;
@@ -142,8 +146,10 @@ fn put_match(
     scrutinee: &ExprTree,
     clauses: &[ClauseTree],
 ) -> Result<(), AllocError>
-    ensures { OnOk result ((l : ℕ) → Wrote (λ rest. spelling.reserved word.Match ∷ expr_written scrutinee.now l (spelling.sym symbol.OpenBrace
-        ∷ some_with comma (at_level l (map clause_written clauses.now)) (spelling.sym symbol.CloseBrace ∷ rest))) out.old.items out.new.items) }
+    ensures { OnOk result ((l : ℕ) → Wrote (λ rest. spelling.reserved word.Match
+        ∷ expr_written scrutinee.now l (spelling.sym symbol.OpenBrace
+        ∷ some_with comma (at_level l (map clause_written clauses.now))
+        (spelling.sym symbol.CloseBrace ∷ rest))) out.old.items out.new.items) }
 {
     put_symbol(out, Symbol::CloseBrace)?;
     put_clauses(alloc, out, clauses)?;
@@ -156,7 +162,8 @@ fn put_match(
 /// Arguments with commas between, or nothing.
 #[cycle(expression)]
 fn put_args(alloc: Global, out: &mut Vec<Token>, args: &[ExprTree]) -> Result<(), AllocError>
-    ensures { OnOk result ((l : ℕ) → Wrote (any_with comma (at_level l (map expr_written args.now))) out.old.items out.new.items) }
+    ensures { OnOk result ((l : ℕ) → Wrote (any_with comma
+        (at_level l (map expr_written args.now))) out.old.items out.new.items) }
 {
     match args {
         [] => Ok(()),
@@ -170,7 +177,8 @@ fn put_args(alloc: Global, out: &mut Vec<Token>, args: &[ExprTree]) -> Result<()
 /// Fields in parentheses, or nothing.
 #[cycle(expression)]
 fn put_fields(alloc: Global, out: &mut Vec<Token>, fields: &[ExprTree]) -> Result<(), AllocError>
-    ensures { OnOk result ((l : ℕ) → Wrote (fields_written (at_level l (map expr_written fields.now))) out.old.items out.new.items) }
+    ensures { OnOk result ((l : ℕ) → Wrote (fields_written
+        (at_level l (map expr_written fields.now))) out.old.items out.new.items) }
 {
     match fields {
         [] => Ok(()),
@@ -193,7 +201,8 @@ fn put_exprs(
     others: &[ExprTree],
 ) -> Result<(), AllocError>
     requires { exprs.now ≡ first.now ∷ others.now }
-    ensures { OnOk result ((l : ℕ) → Wrote (any_with comma (at_level l (map expr_written exprs.now))) out.old.items out.new.items) }
+    ensures { OnOk result ((l : ℕ) → Wrote (any_with comma
+        (at_level l (map expr_written exprs.now))) out.old.items out.new.items) }
 {
     for i in (0..others.len()).rev() {
         put_expr(alloc, out, &others[i])?;
@@ -210,7 +219,8 @@ fn put_clauses(
     out: &mut Vec<Token>,
     clauses: &[ClauseTree],
 ) -> Result<(), AllocError>
-    ensures { OnOk result ((l : ℕ) → Wrote (some_with comma (at_level l (map clause_written clauses.now))) out.old.items out.new.items) }
+    ensures { OnOk result ((l : ℕ) → Wrote (some_with comma
+        (at_level l (map clause_written clauses.now))) out.old.items out.new.items) }
 {
     match clauses {
         [] => Ok(()),
@@ -231,7 +241,8 @@ fn put_some_clauses(
     others: &[ClauseTree],
 ) -> Result<(), AllocError>
     requires { clauses.now ≡ first.now ∷ others.now }
-    ensures { OnOk result ((l : ℕ) → Wrote (some_with comma (at_level l (map clause_written clauses.now))) out.old.items out.new.items) }
+    ensures { OnOk result ((l : ℕ) → Wrote (some_with comma
+        (at_level l (map clause_written clauses.now))) out.old.items out.new.items) }
 {
     for i in (0..others.len()).rev() {
         put_clause(alloc, out, &others[i])?;

@@ -135,7 +135,8 @@ fn put_derived(
     name: &NameTree,
     auto: Auto,
 ) -> Result<(), AllocError>
-    ensures { OnOk result (Wrote (λ rest. spelling.reserved word.Layout ∷ upper_written name.now (spelling.sym symbol.Equals
+    ensures { OnOk result (Wrote (λ rest. spelling.reserved word.Layout
+        ∷ upper_written name.now (spelling.sym symbol.Equals
         ∷ spelling.reserved (auto_word auto) ∷ spelling.sym symbol.Semicolon ∷ rest)) out.old.items out.new.items) }
 {
     put_symbol(out, Symbol::Semicolon)?;

@@ -73,7 +73,8 @@ pub(crate) fn put_loc(alloc: Global, out: &mut Vec<Token>, loc: &Loc) -> Result<
 
 /// `= 5`
 fn put_const(out: &mut Vec<Token>, n: u64) -> Result<(), AllocError>
-    ensures { OnOk result (Wrote (λ rest. spelling.sym symbol.Equals ∷ spelling.num n ∷ rest) out.old.items out.new.items) }
+    ensures { OnOk result (Wrote (λ rest. spelling.sym symbol.Equals ∷ spelling.num n
+        ∷ rest) out.old.items out.new.items) }
 {
     put_num(out, n)?;
     put_symbol(out, Symbol::Equals)?;
@@ -82,7 +83,8 @@ fn put_const(out: &mut Vec<Token>, n: u64) -> Result<(), AllocError>
 
 /// `.0 word 1`
 fn put_word_of(alloc: Global, out: &mut Vec<Token>, path: &[u32], j: u64) -> Result<(), AllocError>
-    ensures { OnOk result (Wrote (λ rest. path_written path.now (spelling.reserved word.Word ∷ spelling.num j ∷ rest)) out.old.items out.new.items) }
+    ensures { OnOk result (Wrote (λ rest. path_written path.now
+        (spelling.reserved word.Word ∷ spelling.num j ∷ rest)) out.old.items out.new.items) }
 {
     put_num(out, j)?;
     put_word(out, Word::Word)?;
@@ -116,8 +118,10 @@ fn put_word_item(
     bits: u64,
     parts: &[PartDecl],
 ) -> Result<(), AllocError>
-    ensures { OnOk result ((l : ℕ) → Wrote (λ rest. spelling.reserved word.Word ∷ spelling.num bits ∷ spelling.sym symbol.OpenBrace
-        ∷ any_with comma (at_level l (map part_written parts.now)) (spelling.sym symbol.CloseBrace ∷ rest)) out.old.items out.new.items) }
+    ensures { OnOk result ((l : ℕ) → Wrote (λ rest. spelling.reserved word.Word ∷ spelling.num bits
+        ∷ spelling.sym symbol.OpenBrace
+        ∷ any_with comma (at_level l (map part_written parts.now))
+        (spelling.sym symbol.CloseBrace ∷ rest)) out.old.items out.new.items) }
 {
     put_symbol(out, Symbol::CloseBrace)?;
     put_parts(alloc, out, parts)?;
@@ -135,8 +139,10 @@ fn put_pointer(
     align: u64,
     items: &[LayItem],
 ) -> Result<(), AllocError>
-    ensures { OnOk result ((l : ℕ) → Wrote (λ rest. spelling.sym symbol.Arrow ∷ spelling.num align ∷ spelling.sym symbol.OpenBrace
-        ∷ any_with comma (at_level l (map lay_item_written items.now)) (spelling.sym symbol.CloseBrace ∷ rest)) out.old.items out.new.items) }
+    ensures { OnOk result ((l : ℕ) → Wrote (λ rest. spelling.sym symbol.Arrow ∷ spelling.num align
+        ∷ spelling.sym symbol.OpenBrace
+        ∷ any_with comma (at_level l (map lay_item_written items.now))
+        (spelling.sym symbol.CloseBrace ∷ rest)) out.old.items out.new.items) }
 {
     put_symbol(out, Symbol::CloseBrace)?;
     put_items(alloc, out, items)?;
@@ -189,7 +195,8 @@ fn put_part(alloc: Global, out: &mut Vec<Token>, part: &PartDecl) -> Result<(), 
 /// The parts of a word with commas between, or nothing.
 #[cycle(item)]
 fn put_parts(alloc: Global, out: &mut Vec<Token>, parts: &[PartDecl]) -> Result<(), AllocError>
-    ensures { OnOk result ((l : ℕ) → Wrote (any_with comma (at_level l (map part_written parts.now))) out.old.items out.new.items) }
+    ensures { OnOk result ((l : ℕ) → Wrote (any_with comma
+        (at_level l (map part_written parts.now))) out.old.items out.new.items) }
 {
     match parts {
         [] => Ok(()),
@@ -210,7 +217,8 @@ fn put_some_parts(
     others: &[PartDecl],
 ) -> Result<(), AllocError>
     requires { parts.now ≡ first.now ∷ others.now }
-    ensures { OnOk result ((l : ℕ) → Wrote (any_with comma (at_level l (map part_written parts.now))) out.old.items out.new.items) }
+    ensures { OnOk result ((l : ℕ) → Wrote (any_with comma
+        (at_level l (map part_written parts.now))) out.old.items out.new.items) }
 {
     for i in (0..others.len()).rev() {
         put_part(alloc, out, &others[i])?;
@@ -227,7 +235,8 @@ pub(crate) fn put_items(
     out: &mut Vec<Token>,
     items: &[LayItem],
 ) -> Result<(), AllocError>
-    ensures { OnOk result ((l : ℕ) → Wrote (any_with comma (at_level l (map lay_item_written items.now))) out.old.items out.new.items) }
+    ensures { OnOk result ((l : ℕ) → Wrote (any_with comma
+        (at_level l (map lay_item_written items.now))) out.old.items out.new.items) }
 {
     match items {
         [] => Ok(()),
@@ -248,7 +257,8 @@ fn put_some_items(
     others: &[LayItem],
 ) -> Result<(), AllocError>
     requires { items.now ≡ first.now ∷ others.now }
-    ensures { OnOk result ((l : ℕ) → Wrote (any_with comma (at_level l (map lay_item_written items.now))) out.old.items out.new.items) }
+    ensures { OnOk result ((l : ℕ) → Wrote (any_with comma
+        (at_level l (map lay_item_written items.now))) out.old.items out.new.items) }
 {
     for i in (0..others.len()).rev() {
         put_item(alloc, out, &others[i])?;

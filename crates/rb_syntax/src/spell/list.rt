@@ -39,7 +39,8 @@ fn put_behind<T: Spell>(
     separator: Symbol,
     parts: &[T],
 ) -> Result<(), AllocError>
-    ensures { OnOk result (Wrote (each_behind (tok.Symbol separator) (map T.writing parts.now)) out.old.items out.new.items) }
+    ensures { OnOk result (Wrote (each_behind (tok.Symbol separator)
+        (map T.writing parts.now)) out.old.items out.new.items) }
 {
     for i in (0..parts.len()).rev() {
         parts[i].put(alloc, out)?;
@@ -55,7 +56,8 @@ pub(crate) fn put_list<T: Spell>(
     separator: Symbol,
     parts: &[T],
 ) -> Result<(), AllocError>
-    ensures { OnOk result (Wrote (any_with (tok.Symbol separator) (map T.writing parts.now)) out.old.items out.new.items) }
+    ensures { OnOk result (Wrote (any_with (tok.Symbol separator)
+        (map T.writing parts.now)) out.old.items out.new.items) }
 {
     match parts {
         [] => Ok(()),

@@ -39,7 +39,8 @@ fn put_subpats(
     others: &[PatTree],
 ) -> Result<(), AllocError>
     requires { pats.now ≡ first.now ∷ others.now }
-    ensures { OnOk result ((l : ℕ) → Wrote (fields_written (at_level l (map pat_written pats.now))) out.old.items out.new.items) }
+    ensures { OnOk result ((l : ℕ) → Wrote (fields_written
+        (at_level l (map pat_written pats.now))) out.old.items out.new.items) }
 {
     put_symbol(out, Symbol::CloseParen)?;
     for i in (0..others.len()).rev() {

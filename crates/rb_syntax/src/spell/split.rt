@@ -45,7 +45,8 @@ fn put_parts_below(
     others: &[PatTree],
 ) -> Result<(), AllocError>
     requires { pats.now ≡ first.now ∷ others.now }
-    ensures { OnOk result ((l : ℕ) → Wrote (fields_written (at_level l (map below_written pats.now))) out.old.items out.new.items) }
+    ensures { OnOk result ((l : ℕ) → Wrote (fields_written
+        (at_level l (map below_written pats.now))) out.old.items out.new.items) }
 {
     put_symbol(out, Symbol::CloseParen)?;
     for i in (0..others.len()).rev() {
@@ -72,8 +73,10 @@ fn put_leaf(
     prov: &PatTree,
     items: &[LayItem],
 ) -> Result<(), AllocError>
-    ensures { OnOk result ((l : ℕ) → Wrote (λ rest. prov_written prov.now l (spelling.sym symbol.Colon ∷ spelling.sym symbol.OpenBrace
-        ∷ some_with comma (map (λ (i : LayItem). lay_item_written i l) items.now) (spelling.sym symbol.CloseBrace ∷ rest))) out.old.items out.new.items) }
+    ensures { OnOk result ((l : ℕ) → Wrote (λ rest.
+        prov_written prov.now l (spelling.sym symbol.Colon ∷ spelling.sym symbol.OpenBrace
+        ∷ some_with comma (map (λ (i : LayItem). lay_item_written i l) items.now)
+        (spelling.sym symbol.CloseBrace ∷ rest))) out.old.items out.new.items) }
 {
     put_symbol(out, Symbol::CloseBrace)?;
     put_items(alloc, out, items)?;
@@ -131,7 +134,8 @@ fn put_arms(
     loc: &Loc,
     arms: &[ArmTree],
 ) -> Result<(), AllocError>
-    ensures { OnOk result ((l : ℕ) → Wrote (λ rest. spelling.reserved word.Split ∷ loc_written loc.now (spelling.sym symbol.OpenBrace
+    ensures { OnOk result ((l : ℕ) → Wrote (λ rest. spelling.reserved word.Split
+        ∷ loc_written loc.now (spelling.sym symbol.OpenBrace
         ∷ each (at_level l (map arm_written arms.now)) rest)) out.old.items out.new.items) }
 {
     for i in (0..arms.len()).rev() {

@@ -231,7 +231,8 @@ impl Reader {
 
     // Reads a blank or a line's end.
     fn feed_gap(&mut self, gap: u8) -> Result<bool, AllocError>
-        ensures { IfOk result (λ fed. spec.IsFed (spec.moved self.old.funs (spec.step self.old.spot self.old.word gap)) self.new fed) }
+        ensures { IfOk result (λ fed. spec.IsFed
+            (spec.moved self.old.funs (spec.step self.old.spot self.old.word gap)) self.new fed) }
     {
         let spot = mem::replace(&mut self.spot, Spot::Outside);
         let next = step(self.alloc, spot, self.word.as_slice(), gap)?;

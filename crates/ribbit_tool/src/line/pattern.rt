@@ -59,7 +59,8 @@ fn push_pattern(text: &mut Vec<u8>, types: &[DataDecl], pat: &Pat) -> Result<(),
 // The fields of a constructor, without the `)` behind them.
 #[cycle(showing)]
 fn push_fields(text: &mut Vec<u8>, types: &[DataDecl], pats: &[Pat]) -> Result<(), AllocError>
-    ensures { OnOk result (text.new.items ≡ text.old.items ++ line.opened (map (line.pattern_text types.now) pats.now)) }
+    ensures { OnOk result (text.new.items ≡ text.old.items
+        ++ line.opened (map (line.pattern_text types.now) pats.now)) }
 {
     for (i, pat) in pats.iter().enumerate() {
         push(text, opening(i))?;
