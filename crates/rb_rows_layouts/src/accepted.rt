@@ -1,6 +1,7 @@
 //! Files that are accepted, and the texts of their layouts, worked out by hand.
 
-use crate::call::{expect_agreed, expect_answer};
+use crate::refusals::expect_agreed;
+use rb_rows_calls::call::expect_answer;
 use std::test::Fail;
 
 /// A list, its tag in the lowest bit of the pointer to an item.
@@ -38,7 +39,7 @@ const BIT: &str =
 #[test]
 fn layouts_that_agree(rt: HostRuntime) -> Result<(), Fail> {
     for file in [LIST, TREE, BRANCH, SHAPE, PAIR, FLAT, NICHE, BIT] {
-        expect_agreed(&rt, rt.alloc(), file)?;
+        expect_agreed(rt.alloc(), file)?;
     }
     Ok(())
 }
@@ -62,7 +63,8 @@ fn a_niche_through_forty_types(rt: HostRuntime) -> Result<(), Fail> {
     file.push_str(
         "type Top = F | G(C40); layout Top <42> = split 0[0:2] { 2 => F : { word 42 { [0:2] = 2 } } else => G(_) : { word 42 { [0:42] .0 } } };",
     )?;
-    expect_agreed(&rt, alloc, file.as_str())
+    expect_agreed(alloc, file.as_str())?;
+    Ok(())
 }
 
 /// File, and the text of its layouts; each `;` ends a line.
@@ -98,8 +100,9 @@ fn texts_of_layouts(rt: HostRuntime) -> Result<(), Fail> {
     let alloc = rt.alloc();
     for (file, wanted) in SHOWN {
         let file = format!(in alloc; "{file} fun main(): u8 = 0;")?;
-        expect_answer(&rt, alloc, "layout E", file.as_str(), wanted)?;
+        expect_answer(alloc, "layout E", file.as_bytes(), wanted)?;
     }
     // A file without types has no layouts.
-    expect_answer(&rt, alloc, "layout E", "fun main(): u8 = 0;", "0 ")
+    expect_answer(alloc, "layout E", b"fun main(): u8 = 0;", "0 ")?;
+    Ok(())
 }

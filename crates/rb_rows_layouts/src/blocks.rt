@@ -1,7 +1,8 @@
 //! Blocks of words and of numbers that are none, and pointers that are too short. Worked out by hand from the
 //! rules.
 
-use crate::call::{expect_agreed, expect_refused, repeated};
+use crate::refusals::{expect_agreed, expect_refused};
+use rb_rows_calls::call::repeated;
 use std::test::Fail;
 
 /// File, and what is refused.
@@ -59,7 +60,7 @@ const REFUSED: [(&str, &str); 12] = [
 #[test]
 fn blocks_and_pointers(rt: HostRuntime) -> Result<(), Fail> {
     for (file, wanted) in REFUSED {
-        expect_refused(&rt, rt.alloc(), file, wanted)?;
+        expect_refused(rt.alloc(), file, wanted)?;
     }
     Ok(())
 }
@@ -101,7 +102,7 @@ fn many_words_and_blocks(rt: HostRuntime) -> Result<(), Fail> {
     let alloc = rt.alloc();
     for (before, part, times, behind, wanted) in LONG {
         let file = repeated(alloc, before, part, times, behind)?;
-        expect_refused(&rt, alloc, file.as_str(), wanted)?;
+        expect_refused(alloc, file.as_str(), wanted)?;
     }
     Ok(())
 }
@@ -112,7 +113,7 @@ fn as_many_words_and_blocks_as_there_may_be(rt: HostRuntime) -> Result<(), Fail>
     let alloc = rt.alloc();
     for (before, part, times, behind, _) in [LONG[0], LONG[1]] {
         let file = repeated(alloc, before, part, times - 1, behind)?;
-        expect_agreed(&rt, alloc, file.as_str())?;
+        expect_agreed(alloc, file.as_str())?;
     }
     Ok(())
 }

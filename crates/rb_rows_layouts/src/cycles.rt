@@ -1,7 +1,7 @@
 //! Flattened types with a pointer, types that flatten each other, and types that hold each other in their root
 //! words. Worked out by hand from the rules.
 
-use crate::call::expect_refused;
+use crate::refusals::expect_refused;
 use std::test::Fail;
 
 /// File, and what is refused.
@@ -47,7 +47,7 @@ const REFUSED: [(&str, &str); 9] = [
 #[test]
 fn pointers_and_cycles(rt: HostRuntime) -> Result<(), Fail> {
     for (file, wanted) in REFUSED {
-        expect_refused(&rt, rt.alloc(), file, wanted)?;
+        expect_refused(rt.alloc(), file, wanted)?;
     }
     Ok(())
 }

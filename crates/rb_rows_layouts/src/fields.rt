@@ -1,7 +1,7 @@
 //! Bits and words of fields that are held by no part or by two, and parts of fields that are not open. Worked out
 //! by hand from the rules.
 
-use crate::call::{expect_either, expect_refused};
+use crate::refusals::{expect_either, expect_refused};
 use std::test::Fail;
 
 /// File, and what is refused.
@@ -59,7 +59,7 @@ const REFUSED: [(&str, &str); 12] = [
 #[test]
 fn fields_held_once(rt: HostRuntime) -> Result<(), Fail> {
     for (file, wanted) in REFUSED {
-        expect_refused(&rt, rt.alloc(), file, wanted)?;
+        expect_refused(rt.alloc(), file, wanted)?;
     }
     Ok(())
 }
@@ -73,5 +73,6 @@ fn a_bit_twice_in_the_place_of_another(rt: HostRuntime) -> Result<(), Fail> {
         "Instr: A6: leaf Branch(_, _, _, _): field .3 bit 10 not held",
         "Instr: A6: leaf Branch(_, _, _, _): field .3 bit 0 held twice",
     ];
-    expect_either(&rt, rt.alloc(), file, wanted)
+    expect_either(rt.alloc(), file, wanted)?;
+    Ok(())
 }

@@ -6,8 +6,6 @@ mod accepted;
 #[cfg(test)]
 mod blocks;
 #[cfg(test)]
-mod call;
-#[cfg(test)]
 mod cycles;
 #[cfg(test)]
 mod fields;
@@ -15,6 +13,8 @@ mod fields;
 mod parts;
 #[cfg(test)]
 mod places;
+#[cfg(test)]
+mod refusals;
 #[cfg(test)]
 mod shapes;
 #[cfg(test)]

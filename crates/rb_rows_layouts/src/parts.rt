@@ -1,7 +1,7 @@
 //! Parts outside their word, parts that overlap, constants that are too wide, and parts that do not fit what
 //! they hold. Worked out by hand from the rules.
 
-use crate::call::expect_refused;
+use crate::refusals::expect_refused;
 use std::test::Fail;
 
 /// File, and what is refused.
@@ -87,7 +87,7 @@ const REFUSED: [(&str, &str); 19] = [
 #[test]
 fn parts_of_words(rt: HostRuntime) -> Result<(), Fail> {
     for (file, wanted) in REFUSED {
-        expect_refused(&rt, rt.alloc(), file, wanted)?;
+        expect_refused(rt.alloc(), file, wanted)?;
     }
     Ok(())
 }

@@ -1,7 +1,8 @@
 //! The first place where several fail: by rule, type, leaf and item, and without a leaf before those with one.
 //! Worked out by hand from the rules.
 
-use crate::call::{expect_answer, expect_refused};
+use crate::refusals::expect_refused;
+use rb_rows_calls::call::expect_answer;
 use std::test::Fail;
 
 /// File, and what is refused.
@@ -47,7 +48,7 @@ const REFUSED: [(&str, &str); 9] = [
 #[test]
 fn first_places(rt: HostRuntime) -> Result<(), Fail> {
     for (file, wanted) in REFUSED {
-        expect_refused(&rt, rt.alloc(), file, wanted)?;
+        expect_refused(rt.alloc(), file, wanted)?;
     }
     Ok(())
 }
@@ -59,7 +60,7 @@ fn layouts_between_matches_and_words(rt: HostRuntime) -> Result<(), Fail> {
     let bit = "type Bit = Off | On; layout Bit <8> = Off : { word 16 { } };";
     let missing = format!(in alloc; "{bit} fun main(b: Bit): u8 = match b {{ Off => 0 }};")?;
     let wanted = "2 ribbit: match at byte 84 misses On;";
-    expect_answer(&rt, alloc, "check E", missing.as_str(), wanted)?;
+    expect_answer(alloc, "check E", missing.as_bytes(), wanted)?;
     let whole = format!(in alloc; "{bit} fun main(b: Bit): u8 = 0;")?;
     let wanted = "3 ribbit: layout of Bit: A2: leaf Off: word 0 has 16 bits, wanted 8;";
     for words in [
@@ -69,7 +70,7 @@ fn layouts_between_matches_and_words(rt: HostRuntime) -> Result<(), Fail> {
         "run E 1 64",
         "run E 1 64 Off Off",
     ] {
-        expect_answer(&rt, alloc, words, whole.as_str(), wanted)?;
+        expect_answer(alloc, words, whole.as_bytes(), wanted)?;
     }
     Ok(())
 }

@@ -1,7 +1,7 @@
 //! Types without a layout, shapes with words that are none, and leaves whose root words are not the shape's.
 //! Worked out by hand from the rules.
 
-use crate::call::expect_refused;
+use crate::refusals::expect_refused;
 use std::test::Fail;
 
 /// File, and what is refused.
@@ -56,7 +56,7 @@ const REFUSED: [(&str, &str); 12] = [
 #[test]
 fn shapes_and_roots(rt: HostRuntime) -> Result<(), Fail> {
     for (file, wanted) in REFUSED {
-        expect_refused(&rt, rt.alloc(), file, wanted)?;
+        expect_refused(rt.alloc(), file, wanted)?;
     }
     Ok(())
 }

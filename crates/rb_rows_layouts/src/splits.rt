@@ -1,7 +1,7 @@
 //! Leaves that fail a test above them, and splits with literals twice, with literals that are too wide, or without
 //! an arm. Worked out by hand from the rules.
 
-use crate::call::{expect_either, expect_refused};
+use crate::refusals::{expect_either, expect_refused};
 use std::test::Fail;
 
 /// File, and what is refused.
@@ -71,7 +71,7 @@ const FAILING: [(&str, &str); 15] = [
 #[test]
 fn leaves_that_fail_a_test(rt: HostRuntime) -> Result<(), Fail> {
     for (file, wanted) in FAILING {
-        expect_refused(&rt, rt.alloc(), file, wanted)?;
+        expect_refused(rt.alloc(), file, wanted)?;
     }
     Ok(())
 }
@@ -107,7 +107,7 @@ const REFUSED: [(&str, &str); 6] = [
 #[test]
 fn splits_of_layouts(rt: HostRuntime) -> Result<(), Fail> {
     for (file, wanted) in REFUSED {
-        expect_refused(&rt, rt.alloc(), file, wanted)?;
+        expect_refused(rt.alloc(), file, wanted)?;
     }
     Ok(())
 }
@@ -140,7 +140,7 @@ const WIDE: [(&str, [&str; 2]); 3] = [
 #[test]
 fn literals_of_too_many_bits(rt: HostRuntime) -> Result<(), Fail> {
     for (file, wanted) in WIDE {
-        expect_either(&rt, rt.alloc(), file, wanted)?;
+        expect_either(rt.alloc(), file, wanted)?;
     }
     Ok(())
 }

@@ -1,7 +1,7 @@
 //! Values that two leaves hold, and values that none holds. Worked out by hand from the rules; each pattern that is
 //! missed is the only one.
 
-use crate::call::expect_refused;
+use crate::refusals::expect_refused;
 use std::test::Fail;
 
 /// File, and what is refused.
@@ -43,7 +43,7 @@ const REFUSED: [(&str, &str); 8] = [
 #[test]
 fn values_of_leaves(rt: HostRuntime) -> Result<(), Fail> {
     for (file, wanted) in REFUSED {
-        expect_refused(&rt, rt.alloc(), file, wanted)?;
+        expect_refused(rt.alloc(), file, wanted)?;
     }
     Ok(())
 }

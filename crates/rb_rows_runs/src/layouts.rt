@@ -1,7 +1,7 @@
 //! Files with layouts that are run. The answers were given by a program apart from
 //! this one, written from the language's pages alone.
 
-use crate::call::{call, expect_answer};
+use rb_rows_calls::call::{call, expect_answer};
 use std::test::Fail;
 
 /// A list is summed; its tag is the lowest bit of a pointer.
@@ -152,7 +152,7 @@ fn runs_with_layouts(rt: HostRuntime) -> Result<(), Fail> {
     let alloc = rt.alloc();
     for (file, words, wanted) in ROWS {
         let words = format!(in alloc; "run E {words}")?;
-        expect_answer(&rt, alloc, words.as_str(), file.as_bytes(), wanted)?;
+        expect_answer(alloc, words.as_str(), file.as_bytes(), wanted)?;
     }
     Ok(())
 }
@@ -161,7 +161,8 @@ fn runs_with_layouts(rt: HostRuntime) -> Result<(), Fail> {
 #[test]
 fn a_value_over_the_limit(rt: HostRuntime) -> Result<(), Fail> {
     let wanted = "13 ribbit: value over 1000000 nodes;";
-    expect_answer(&rt, rt.alloc(), "run E 40 1024 30", TWIN.as_bytes(), wanted)
+    expect_answer(rt.alloc(), "run E 40 1024 30", TWIN.as_bytes(), wanted)?;
+    Ok(())
 }
 
 /// The text of compiled code runs as the file does.
@@ -171,11 +172,6 @@ fn code_texts_run(rt: HostRuntime) -> Result<(), Fail> {
     let file = b"fun main(x: u8): u8 = add(x, 1);";
     let did = call(alloc, "compile E", file, &[], &[])?;
     assert_eq!(rt; (did.status, did.steps), (0, 0));
-    expect_answer(
-        &rt,
-        alloc,
-        "exec E main 1 64 255",
-        did.out.as_slice(),
-        "0 0;",
-    )
+    expect_answer(alloc, "exec E main 1 64 255", did.out.as_slice(), "0 0;")?;
+    Ok(())
 }

@@ -2,47 +2,14 @@
 //! by a program apart from this one that was written from them alone. How many switches code does is its
 //! own; the greatest number that it may do is given.
 
-use crate::call::{call, expect_answer, lines};
 use crate::layouts::{INSERT, LIST, PAIR, SUM, TWIN};
-use std::alloc::Global;
-use std::process::Abort;
+use rb_rows_calls::call::expect_answer;
+use rb_rows_calls::counts::expect_counts;
 use std::test::Fail;
 
 /// Four bits are told apart in at most four switches.
 const FOUR: &str =
     "type K = A | B;layout K <1> = split 0[0:1] { 0 => A : { word 1 { [0:1] = 0 } } 1 => B : { word 1 { [0:1] = 1 } } };type Q = Q4(K, K, K, K);layout Q <4> = Q4(_, _, _, _) : { word 4 { [0:1] .0, [1:1] .1, [2:1] .2, [3:1] .3 } };fun main(q: Q): u8 = match q { Q4(A, A, _, _) => 1, Q4(_, _, A, A) => 2, _ => 3 };";
-
-/// The answer of words to a file: its status and the lines before that of the switches, the number of
-/// switches, and the lines behind it.
-pub fn expect_counts(
-    rt: &impl Abort,
-    alloc: Global,
-    words: &str,
-    file: &[u8],
-    before: &str,
-    most: u64,
-    behind: &str,
-) -> Result<(), Fail> {
-    let did = call(alloc, words, file, &[], &[])?;
-    assert_eq!(rt; (did.status, did.err.len()), (0, 0));
-    let text = std::str::from_utf8(did.out.as_slice())?;
-    let parts: Vec<&str> = text.split("switches ").collect(alloc)?;
-    if let [first, rest] = parts.as_slice() {
-        let before = lines(alloc, before)?;
-        assert_eq!(rt; first.as_bytes(), before.as_slice());
-        let numbers: Vec<&str> = rest.splitn(2, '\n').collect(alloc)?;
-        if let [switches, last] = numbers.as_slice() {
-            let behind = lines(alloc, behind)?;
-            assert_eq!(rt; last.as_bytes(), behind.as_slice());
-            assert!(rt; switches.parse::<u64>()? <= most);
-        } else {
-            assert!(rt; false);
-        }
-    } else {
-        assert!(rt; false);
-    }
-    Ok(())
-}
 
 /// File, limits and values, lines, switches, lines.
 const ROWS: [(&str, &str, &str, u64, &str); 7] = [
@@ -102,15 +69,7 @@ fn counts_of_runs(rt: HostRuntime) -> Result<(), Fail> {
     let alloc = rt.alloc();
     for (file, words, before, most, behind) in ROWS {
         let words = format!(in alloc; "count E {words}")?;
-        expect_counts(
-            &rt,
-            alloc,
-            words.as_str(),
-            file.as_bytes(),
-            before,
-            most,
-            behind,
-        )?;
+        expect_counts(alloc, words.as_str(), file.as_bytes(), before, most, behind)?;
     }
     Ok(())
 }
@@ -145,7 +104,7 @@ fn counts_refused(rt: HostRuntime) -> Result<(), Fail> {
     let alloc = rt.alloc();
     for (file, words, wanted) in REFUSED {
         let words = format!(in alloc; "count E {words}")?;
-        expect_answer(&rt, alloc, words.as_str(), file.as_bytes(), wanted)?;
+        expect_answer(alloc, words.as_str(), file.as_bytes(), wanted)?;
     }
     Ok(())
 }
@@ -154,10 +113,10 @@ fn counts_refused(rt: HostRuntime) -> Result<(), Fail> {
 #[test]
 fn counts_of_a_value_over_the_limit(rt: HostRuntime) -> Result<(), Fail> {
     expect_answer(
-        &rt,
         rt.alloc(),
         "count E 40 1024 30",
         TWIN.as_bytes(),
         "13 ribbit: value over 1000000 nodes;",
-    )
+    )?;
+    Ok(())
 }

@@ -1,7 +1,7 @@
 //! Words of the command line and an outside that fails. The answers were worked out by hand from the
 //! tables of words and statuses.
 
-use crate::call::call;
+use rb_rows_calls::call::call;
 use std::test::Fail;
 
 /// The file of the rows, under the name `E`.

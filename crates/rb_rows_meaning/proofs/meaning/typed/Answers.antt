@@ -5,7 +5,7 @@ use Rattle.rb_syntax.specs.Lexing.{Lexed}
 use Rattle.rb_syntax.specs.Tokens.{tokens}
 use Rattle.rb_syntax.specs.declared.token.Placed.{Placed}
 use Rattle.ribbit_tool.proofs.Numbered.{is_written}
-use Rattle.ribbit_rows.proofs.meaning.typed.Goals as goal
+use Rattle.rb_rows_meaning.proofs.meaning.typed.Goals as goal
 
 pub check-requires : goal.check-requires
 check-requires c =

@@ -1,7 +1,7 @@
 //! Rows of files, with their answers worked out from the language's pages, and the bytes counted by
 //! hand.
 
-use crate::call::{call, expect_answer, repeated};
+use rb_rows_calls::call::{call, expect_answer, repeated};
 use std::alloc::{AllocError, Global};
 use std::test::Fail;
 
@@ -85,9 +85,9 @@ fn refused_files(rt: HostRuntime) -> Result<(), Fail> {
     for row in REFUSED.split('\n') {
         let columns: Vec<&str> = row.split('~').collect(alloc)?;
         if let [file, wanted] = columns.as_slice() {
-            expect_answer(&rt, alloc, "check E", file.as_bytes(), wanted)?;
-            expect_answer(&rt, alloc, "layout E", file.as_bytes(), wanted)?;
-            expect_answer(&rt, alloc, "run E 9 64 x", file.as_bytes(), wanted)?;
+            expect_answer(alloc, "check E", file.as_bytes(), wanted)?;
+            expect_answer(alloc, "layout E", file.as_bytes(), wanted)?;
+            expect_answer(alloc, "run E 9 64 x", file.as_bytes(), wanted)?;
         } else {
             assert!(rt; false);
         }
@@ -101,7 +101,7 @@ fn checked_files(rt: HostRuntime) -> Result<(), Fail> {
     for row in CHECKED.split('\n') {
         let columns: Vec<&str> = row.split('~').collect(alloc)?;
         if let [file, wanted] = columns.as_slice() {
-            expect_answer(&rt, alloc, "check E", file.as_bytes(), wanted)?;
+            expect_answer(alloc, "check E", file.as_bytes(), wanted)?;
         } else {
             assert!(rt; false);
         }
@@ -116,7 +116,7 @@ fn run_files(rt: HostRuntime) -> Result<(), Fail> {
         let columns: Vec<&str> = row.split('~').collect(alloc)?;
         if let [file, values, wanted] = columns.as_slice() {
             let words = format!(in alloc; "run E 9 64 {values}")?;
-            expect_answer(&rt, alloc, words.as_str(), file.as_bytes(), wanted)?;
+            expect_answer(alloc, words.as_str(), file.as_bytes(), wanted)?;
         } else {
             assert!(rt; false);
         }
@@ -128,20 +128,13 @@ fn run_files(rt: HostRuntime) -> Result<(), Fail> {
 #[test]
 fn words_and_bytes(rt: HostRuntime) -> Result<(), Fail> {
     let alloc = rt.alloc();
-    expect_answer(&rt, alloc, "check", b"", "6 ribbit: usage at word 2;")?;
-    expect_answer(&rt, alloc, "check E E", b"", "6 ribbit: usage at word 3;")?;
-    expect_answer(&rt, alloc, "check F", b"", "7 ribbit: read fault;")?;
+    expect_answer(alloc, "check", b"", "6 ribbit: usage at word 2;")?;
+    expect_answer(alloc, "check E E", b"", "6 ribbit: usage at word 3;")?;
+    expect_answer(alloc, "check F", b"", "7 ribbit: read fault;")?;
     let bytes: &[u8] = b"fun main(): u8 = \xFF;";
-    expect_answer(
-        &rt,
-        alloc,
-        "check E",
-        bytes,
-        "1 ribbit: bad byte at byte 17;",
-    )?;
+    expect_answer(alloc, "check E", bytes, "1 ribbit: bad byte at byte 17;")?;
     let comment: &[u8] = b"// fun\nfun main(): u8 = // 1\n y;";
     expect_answer(
-        &rt,
         alloc,
         "check E",
         comment,
@@ -149,16 +142,17 @@ fn words_and_bytes(rt: HostRuntime) -> Result<(), Fail> {
     )?;
     let blanks = vec![in alloc; b' '; 262_145]?;
     let wanted = "11 ribbit: limit file bytes: 262145 over 262144;";
-    expect_answer(&rt, alloc, "check E", blanks.as_slice(), wanted)
+    expect_answer(alloc, "check E", blanks.as_slice(), wanted)?;
+    Ok(())
 }
 
 /// `main` with so many conversions round its body, and so many `)` behind.
-fn nested(alloc: Global, times: usize, body: &str, closed: usize) -> Result<Vec<u8>, AllocError> {
+fn nested(alloc: Global, times: usize, body: &str, closed: usize) -> Result<String, AllocError> {
     let mut text = repeated(alloc, "fun main(x: u8): u8 = ", "to u8(", times, body)?;
     for _ in 0..closed {
-        text.push(b')')?;
+        text.push(')')?;
     }
-    text.push(b';')?;
+    text.push(';')?;
     Ok(text)
 }
 
@@ -166,18 +160,18 @@ fn nested(alloc: Global, times: usize, body: &str, closed: usize) -> Result<Vec<
 fn depths(rt: HostRuntime) -> Result<(), Fail> {
     let alloc = rt.alloc();
     let deepest = nested(alloc, 127, "x", 127)?;
-    expect_answer(&rt, alloc, "run E 9 64 7", deepest.as_slice(), "0 7;")?;
+    expect_answer(alloc, "run E 9 64 7", deepest.as_bytes(), "0 7;")?;
     let deeper = nested(alloc, 128, "x", 128)?;
     let wanted = "11 ribbit: nesting over 128 at byte 790;";
-    expect_answer(&rt, alloc, "run E 9 64 7", deeper.as_slice(), wanted)?;
+    expect_answer(alloc, "run E 9 64 7", deeper.as_bytes(), wanted)?;
     let cut = repeated(alloc, "fun main(x: u8): u8 = ", "to u8(", 128, "")?;
     expect_answer(
-        &rt,
         alloc,
         "check E",
-        cut.as_slice(),
+        cut.as_bytes(),
         "1 ribbit: syntax at byte 790;",
-    )
+    )?;
+    Ok(())
 }
 
 /// Declarations with the numbers from 0 on in them, and `main`.
@@ -202,7 +196,6 @@ fn limits_of_files(rt: HostRuntime) -> Result<(), Fail> {
     let alloc = rt.alloc();
     let types = declared(alloc, "type T", "=C", ";", 1000)?;
     expect_answer(
-        &rt,
         alloc,
         "check E",
         types.as_slice(),
@@ -210,10 +203,11 @@ fn limits_of_files(rt: HostRuntime) -> Result<(), Fail> {
     )?;
     let types = declared(alloc, "type T", "=C", ";", 1001)?;
     let wanted = "11 ribbit: limit types: 1001 over 1000;";
-    expect_answer(&rt, alloc, "check E", types.as_slice(), wanted)?;
+    expect_answer(alloc, "check E", types.as_slice(), wanted)?;
     let functions = declared(alloc, "fun f", "():u64=", ";", 10_000)?;
     let wanted = "11 ribbit: limit functions: 10001 over 10000;";
-    expect_answer(&rt, alloc, "check E", functions.as_slice(), wanted)
+    expect_answer(alloc, "check E", functions.as_slice(), wanted)?;
+    Ok(())
 }
 
 #[test]
@@ -221,36 +215,35 @@ fn limits_of_items(rt: HostRuntime) -> Result<(), Fail> {
     let alloc = rt.alloc();
     let text = repeated(alloc, "type T = A(u8", ", u8", 31, "); fun main(): u8 = 0;")?;
     expect_answer(
-        &rt,
         alloc,
         "check E",
-        text.as_slice(),
+        text.as_bytes(),
         "3 ribbit: layout of T: A1: no layout;",
     )?;
     let text = repeated(alloc, "type T = A(u8", ", u8", 32, "); fun main(): u8 = 0;")?;
     let wanted = "11 ribbit: limit fields: 33 over 32;";
-    expect_answer(&rt, alloc, "check E", text.as_slice(), wanted)?;
+    expect_answer(alloc, "check E", text.as_bytes(), wanted)?;
     let text = repeated(alloc, "type T = A", " | B", 255, "; fun main(): u8 = 0;")?;
     let wanted = "2 ribbit: name B twice at byte 17;";
-    expect_answer(&rt, alloc, "check E", text.as_slice(), wanted)?;
+    expect_answer(alloc, "check E", text.as_bytes(), wanted)?;
     let text = repeated(alloc, "type T = A", " | B", 256, "; fun main(): u8 = 0;")?;
     let wanted = "11 ribbit: limit constructors: 257 over 256;";
-    expect_answer(&rt, alloc, "check E", text.as_slice(), wanted)?;
+    expect_answer(alloc, "check E", text.as_bytes(), wanted)?;
     let text = repeated(alloc, "fun main(x: u8", ", x: u8", 31, "): u8 = 0;")?;
     let wanted = "2 ribbit: variable twice at byte 16;";
-    expect_answer(&rt, alloc, "check E", text.as_slice(), wanted)?;
+    expect_answer(alloc, "check E", text.as_bytes(), wanted)?;
     let text = repeated(alloc, "fun main(x: u8", ", x: u8", 32, "): u8 = 0;")?;
     let wanted = "11 ribbit: limit parameters: 33 over 32;";
-    expect_answer(&rt, alloc, "check E", text.as_slice(), wanted)?;
+    expect_answer(alloc, "check E", text.as_bytes(), wanted)?;
     let text = repeated(alloc, "layout T <8", ", 8", 7, "> = A : { word 8 { } };")?;
     expect_answer(
-        &rt,
         alloc,
         "check E",
-        text.as_slice(),
+        text.as_bytes(),
         "2 ribbit: unknown name T at byte 7;",
     )?;
     let text = repeated(alloc, "layout T <8", ", 8", 8, "> = A : { word 8 { } };")?;
     let wanted = "11 ribbit: limit shape words: 9 over 8;";
-    expect_answer(&rt, alloc, "check E", text.as_slice(), wanted)
+    expect_answer(alloc, "check E", text.as_bytes(), wanted)?;
+    Ok(())
 }

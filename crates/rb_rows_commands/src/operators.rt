@@ -1,7 +1,7 @@
 //! The operators at widths from 1 to 64 bits, at their ends and in between. The answers are those of
 //! Python's integers, cut to the width.
 
-use crate::call::call;
+use rb_rows_calls::call::call;
 use std::str;
 use std::test::Fail;
 

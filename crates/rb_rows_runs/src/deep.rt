@@ -1,8 +1,8 @@
 //! Files whose layouts take subvalues apart: the colour of a node is told by its leaf, and stands in no part.
 //! The answers were given by the language's pages.
 
-use crate::call::expect_answer;
-use crate::counts::expect_counts;
+use rb_rows_calls::call::expect_answer;
+use rb_rows_calls::counts::expect_counts;
 use std::test::Fail;
 
 /// The colour of a tree's root, which is made where the clause names it.
@@ -70,7 +70,7 @@ const ROWS: [(&str, &str, &str); 13] = [
 fn leaves_that_take_subvalues_apart(rt: HostRuntime) -> Result<(), Fail> {
     let alloc = rt.alloc();
     for (file, words, wanted) in ROWS {
-        expect_answer(&rt, alloc, words, file.as_bytes(), wanted)?;
+        expect_answer(alloc, words, file.as_bytes(), wanted)?;
     }
     Ok(())
 }
@@ -79,12 +79,12 @@ fn leaves_that_take_subvalues_apart(rt: HostRuntime) -> Result<(), Fail> {
 #[test]
 fn counts_over_them(rt: HostRuntime) -> Result<(), Fail> {
     expect_counts(
-        &rt,
         rt.alloc(),
         "count E 3 100 Node(Black,Empty,7,Empty) 9",
         INSERTED.as_bytes(),
         "value Node(Black, Empty, 7, Node(Red, Empty, 9, Empty));calls 3;",
         12,
         "blocks 3;bytes 36;",
-    )
+    )?;
+    Ok(())
 }

@@ -1,8 +1,8 @@
 //! Images of values: the words and the blocks in which they are represented. The answers were given by
 //! the language's pages, and by a program apart from this one that was written from them alone.
 
-use crate::call::expect_answer;
 use crate::layouts::{BRANCH, INSERT, LIST, PAIR, SHAPE, TWIN};
+use rb_rows_calls::call::expect_answer;
 use std::test::Fail;
 
 /// The second of two lists.
@@ -110,7 +110,7 @@ fn images_of_values(rt: HostRuntime) -> Result<(), Fail> {
     let alloc = rt.alloc();
     for (file, words, wanted) in ROWS {
         let words = format!(in alloc; "image E {words}")?;
-        expect_answer(&rt, alloc, words.as_str(), file.as_bytes(), wanted)?;
+        expect_answer(alloc, words.as_str(), file.as_bytes(), wanted)?;
     }
     Ok(())
 }
@@ -120,11 +120,6 @@ fn images_of_values(rt: HostRuntime) -> Result<(), Fail> {
 fn an_image_of_a_large_value(rt: HostRuntime) -> Result<(), Fail> {
     let wanted =
         "0 root 0x60;block 64 16 01000000000000000100000000000000;block 80 16 40000000000000004000000000000000;block 96 16 50000000000000005000000000000000;";
-    expect_answer(
-        &rt,
-        rt.alloc(),
-        "image E 40 1024 3",
-        TWIN.as_bytes(),
-        wanted,
-    )
+    expect_answer(rt.alloc(), "image E 40 1024 3", TWIN.as_bytes(), wanted)?;
+    Ok(())
 }

@@ -1,7 +1,7 @@
 //! The examples, each with its words, its file and what it is to answer. Written by examples/make from the
 //! folder examples/.
 
-use crate::call::expect_answer;
+use rb_rows_calls::call::expect_answer;
 use std::test::Fail;
 
 /// Words, file and answer; in an answer each `;` ends a line.
@@ -185,7 +185,7 @@ const EXAMPLES: [(&str, &str, &str); 29] = [
 #[test]
 fn examples_answer_as_they_say(rt: HostRuntime) -> Result<(), Fail> {
     for (words, file, wanted) in EXAMPLES {
-        expect_answer(&rt, rt.alloc(), words, file.as_bytes(), wanted)?;
+        expect_answer(rt.alloc(), words, file.as_bytes(), wanted)?;
     }
     Ok(())
 }

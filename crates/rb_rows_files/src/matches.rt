@@ -2,7 +2,7 @@
 //! reaches, match by match in the order of the file. The answers were worked out by hand, and the bytes
 //! of the matches counted.
 
-use crate::call::{call, expect_answer};
+use rb_rows_calls::call::{call, expect_answer};
 use std::alloc::{AllocError, Global};
 use std::str;
 use std::test::Fail;
@@ -27,7 +27,7 @@ fn nested_matches(rt: HostRuntime) -> Result<(), Fail> {
     let alloc = rt.alloc();
     for row in CHECKED.split('\n') {
         if let Some((file, wanted)) = row.split_once('~') {
-            expect_answer(&rt, alloc, "check E", file.as_bytes(), wanted)?;
+            expect_answer(alloc, "check E", file.as_bytes(), wanted)?;
         } else {
             assert!(rt; false);
         }
@@ -100,10 +100,11 @@ fn long_matches(rt: HostRuntime) -> Result<(), Fail> {
     let alloc = rt.alloc();
     for (below, without, last, wanted) in LONG {
         let text = function(alloc, "fun main(x: u8)", below, without, last)?;
-        expect_answer(&rt, alloc, "check E", text.as_slice(), wanted)?;
+        expect_answer(alloc, "check E", text.as_slice(), wanted)?;
     }
     let mut text = function(alloc, "fun main(x: u64)", 39, 39, "_ => 0")?;
     let other = function(alloc, "fun f(x: u64)", 39, 39, "_ => 0")?;
     text.extend_from_slice(other.as_slice())?;
-    expect_answer(&rt, alloc, "check E", text.as_slice(), "0 ok;")
+    expect_answer(alloc, "check E", text.as_slice(), "0 ok;")?;
+    Ok(())
 }

@@ -1,7 +1,7 @@
 //! Generated files, and their runs.
 
-use crate::call::{call, expect_answer, lines};
-use crate::counts::expect_counts;
+use rb_rows_calls::call::{call, expect_answer, lines};
+use rb_rows_calls::counts::expect_counts;
 use std::test::Fail;
 
 /// The file with one function.
@@ -26,8 +26,9 @@ fn many_functions(rt: HostRuntime) -> Result<(), Fail> {
     let alloc = rt.alloc();
     let did = call(alloc, "gen 2000", b"", &[], &[])?;
     let file = did.out.as_slice();
-    expect_answer(&rt, alloc, "check E", file, "0 ok;")?;
-    expect_answer(&rt, alloc, "run E 6003 48064", file, "0 4501500;")
+    expect_answer(alloc, "check E", file, "0 ok;")?;
+    expect_answer(alloc, "run E 6003 48064", file, "0 4501500;")?;
+    Ok(())
 }
 
 #[test]
@@ -35,7 +36,6 @@ fn runs_of_generated_files(rt: HostRuntime) -> Result<(), Fail> {
     let alloc = rt.alloc();
     for words in ["genrun 1 6003 48064", "genrun 3 6003 48064"] {
         expect_counts(
-            &rt,
             alloc,
             words,
             b"",
@@ -51,7 +51,7 @@ fn runs_of_generated_files(rt: HostRuntime) -> Result<(), Fail> {
             "5 ribbit: region full: next 48048, size 16, align 8, limit 48063;",
         ),
     ] {
-        expect_answer(&rt, alloc, words, b"", wanted)?;
+        expect_answer(alloc, words, b"", wanted)?;
     }
     Ok(())
 }
@@ -81,7 +81,7 @@ fn words_that_are_no_command(rt: HostRuntime) -> Result<(), Fail> {
     let alloc = rt.alloc();
     for (words, place) in WORDS {
         let wanted = format!(in alloc; "6 ribbit: usage at word {place};")?;
-        expect_answer(&rt, alloc, words, b"", wanted.as_str())?;
+        expect_answer(alloc, words, b"", wanted.as_str())?;
     }
     Ok(())
 }
@@ -91,7 +91,7 @@ fn words_that_are_no_command(rt: HostRuntime) -> Result<(), Fail> {
 fn files_that_are_read(rt: HostRuntime) -> Result<(), Fail> {
     let alloc = rt.alloc();
     for words in ["image F 1 64", "count F 1 64"] {
-        expect_answer(&rt, alloc, words, b"", "7 ribbit: read fault;")?;
+        expect_answer(alloc, words, b"", "7 ribbit: read fault;")?;
     }
     for words in ["image E 1 64", "count E 1 64"] {
         let did = call(alloc, words, b"fun main(): u8 = 0;", &[1], &[])?;

@@ -1,7 +1,7 @@
 //! Rows of the command `exec`. The answers were worked out from the table of instructions, outside the
 //! program.
 
-use crate::call::{call, lines};
+use rb_rows_calls::call::{call, lines};
 use std::alloc::{AllocError, Global};
 use std::process::Abort;
 use std::test::Fail;

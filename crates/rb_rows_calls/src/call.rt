@@ -1,10 +1,9 @@
 //! Calls of the program, with a file in memory, and its answers as text.
 
+use crate::surprise::{Surprise, text_of};
 use rb_edge::{CountLedger, MemSink, MemSource, NamedBytes, Seq, Steps, Words};
 use ribbit_tool::top::ribbit;
 use std::alloc::{AllocError, Global};
-use std::process::Abort;
-use std::test::Fail;
 
 /// The most bytes that the output takes.
 const ROOM: usize = 262_144;
@@ -64,28 +63,37 @@ pub fn lines(alloc: Global, row: &str) -> Result<Vec<u8>, AllocError> {
     Ok(text)
 }
 
-/// What these words answer to a file: the status, and what was written.
-fn answer(alloc: Global, words: &str, file: &[u8]) -> Result<Vec<u8>, AllocError> {
+/// What these words answer to a file: the status, and what was written, in which each line ends with a
+/// `;`.
+pub fn answer(alloc: Global, words: &str, file: &[u8]) -> Result<Vec<u8>, AllocError> {
     let did = call(alloc, words, file, &[], &[])?;
     let status = did.status;
     let mut answer = Vec::from_slice(alloc, format!(in alloc; "{status} ")?.as_bytes())?;
-    answer.extend_from_slice(did.out.as_slice())?;
-    answer.extend_from_slice(did.err.as_slice())?;
+    for text in [did.out.as_slice(), did.err.as_slice()] {
+        for byte in text {
+            answer.push(if *byte == b'\n' { b';' } else { *byte })?;
+        }
+    }
     Ok(answer)
 }
 
-/// Checks that a file has this answer, in which each `;` ends a line.
+/// Looks whether a file has this answer: the status, and what is written, in which each line ends with a
+/// `;`.
+///
+/// # Errors
+///
+/// Another answer, or want of memory.
 pub fn expect_answer(
-    rt: &impl Abort,
     alloc: Global,
     words: &str,
     file: &[u8],
     wanted: &str,
-) -> Result<(), Fail> {
-    let wanted = lines(alloc, wanted)?;
+) -> Result<(), Surprise> {
     let answer = answer(alloc, words, file)?;
-    assert_eq!(rt; answer.as_slice(), wanted.as_slice());
-    Ok(())
+    if answer.as_slice() == wanted.as_bytes() {
+        return Ok(());
+    }
+    Err(Surprise::Answer(text_of(alloc, answer.as_slice())?))
 }
 
 /// A text, so many times another, and a text.
@@ -95,11 +103,12 @@ pub fn repeated(
     part: &str,
     times: usize,
     behind: &str,
-) -> Result<Vec<u8>, AllocError> {
-    let mut text = Vec::from_slice(alloc, before.as_bytes())?;
+) -> Result<String, AllocError> {
+    let mut text = String::new(alloc);
+    text.push_str(before)?;
     for _ in 0..times {
-        text.extend_from_slice(part.as_bytes())?;
+        text.push_str(part)?;
     }
-    text.extend_from_slice(behind.as_bytes())?;
+    text.push_str(behind)?;
     Ok(text)
 }

@@ -1,0 +1,40 @@
+//! Counts of runs, as tests look at them: how many switches code does is its own, so the greatest number
+//! that it may do is given.
+
+use crate::call::{call, lines};
+use crate::surprise::{Surprise, text_of};
+use std::alloc::Global;
+
+/// Looks whether words answer so to a file, with status 0: lines, then that of the switches, of which there
+/// are at most so many, and then lines. In the lines that are given each `;` ends a line.
+///
+/// # Errors
+///
+/// Another answer, or want of memory.
+pub fn expect_counts(
+    alloc: Global,
+    words: &str,
+    file: &[u8],
+    before: &str,
+    most: u64,
+    behind: &str,
+) -> Result<(), Surprise> {
+    let did = call(alloc, words, file, &[], &[])?;
+    let text = did.out.as_slice();
+    let before = lines(alloc, format!(in alloc; "{before}switches ")?.as_str())?;
+    let behind = lines(alloc, format!(in alloc; ";{behind}")?.as_str())?;
+    let is_right = did.status == 0
+        && did.err.is_empty()
+        && switches(text, before.as_slice(), behind.as_slice()).is_some_and(|n| n <= most);
+    if is_right {
+        return Ok(());
+    }
+    Err(Surprise::Answer(text_of(alloc, text)?))
+}
+
+// The number between two texts.
+fn switches(text: &[u8], before: &[u8], behind: &[u8]) -> Option<u64> {
+    let rest = text.strip_prefix(before)?;
+    let number = rest.strip_suffix(behind)?;
+    std::str::from_utf8(number).ok()?.parse().ok()
+}

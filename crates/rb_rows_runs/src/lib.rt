@@ -1,0 +1,11 @@
+//! Rows of runs of files with layouts: values, images, and counts. It has tests alone.
+#![tactic(auto)]
+
+#[cfg(test)]
+mod counts;
+#[cfg(test)]
+mod deep;
+#[cfg(test)]
+mod images;
+#[cfg(test)]
+mod layouts;
