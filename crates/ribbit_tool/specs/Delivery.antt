@@ -13,6 +13,11 @@ pub record Change : Type 0 where
   pub before : ℕ
   pub now : ℕ
 
+-- that of a sink by what the trait says of it
+abbrev pub change : {S : Type 0} → (S → Bool) → (S → List ℕ) → (S → ℕ) → S → S → Change
+change tells taken faults old new =
+    record { tells = tells old; old = taken old; new = taken new; before = faults old; now = faults new }
+
 -- it took this text
 abbrev pub Took : Change → List ℕ → Type 0
 Took sink text = IsTrue sink.tells → sink.new ≡ sink.old ++ text

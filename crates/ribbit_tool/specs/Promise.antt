@@ -15,6 +15,11 @@ pub record Source : Type 0 where
   pub before : ℕ
   pub now : ℕ
 
+-- that of a source by what the trait says of it
+abbrev pub source_of : {S : Type 0} → (S → Bool) → (S → Holds) → (S → ℕ) → S → S → Source
+source_of tells held faults old new =
+    record { tells = tells old; held = held old; before = faults old; now = faults new }
+
 -- how many steps were counted before and after a call
 pub record Counting : Type 0 where
   pub before : ℕ

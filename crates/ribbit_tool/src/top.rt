@@ -4,10 +4,11 @@ ghost use Rattle.std.specs.Prelude.{◌≡◌, ◌≤◌, ℕ, List, IfOk, Ok};
 ghost use Rattle.ribbit_tool.specs.Answer.{refusal};
 ghost use Rattle.ribbit_tool.specs.Answers.{Owes};
 ghost use Rattle.ribbit_tool.specs.Command.{command_of};
+ghost use Rattle.ribbit_tool.specs.Delivery.{change};
 ghost use Rattle.ribbit_tool.specs.Headline.{Headline};
 ghost use Rattle.ribbit_tool.specs.Headlines.{CountHeadline, GenerateHeadline, ImageHeadline};
 ghost use Rattle.ribbit_tool.specs.Lines.{usage_line};
-ghost use Rattle.ribbit_tool.specs.Promise.{Performs, IsRight};
+ghost use Rattle.ribbit_tool.specs.Promise.{Performs, IsRight, source_of};
 ghost use Rattle.ribbit_tool.specs.View.{command_view, due_of, Meets};
 ghost use Rattle.ribbit_tool.specs.declared.status.Status.TheVariants as status;
 
@@ -118,21 +119,9 @@ fn answer<S: Source, O: Sink, E: Sink, L: Ledger>(
     steps: &mut Steps<L>,
 ) -> u8
     ensures { Performs words.now
-        (record { tells = S.tells src.old; held = S.held src.old; before = S.faults src.old; now = S.faults src.new })
-        (record {
-          tells = O.tells out.old;
-          old = O.taken out.old;
-          new = O.taken out.new;
-          before = O.faults out.old;
-          now = O.faults out.new;
-        })
-        (record {
-          tells = E.tells err.old;
-          old = E.taken err.old;
-          new = E.taken err.new;
-          before = E.faults err.old;
-          now = E.faults err.new;
-        })
+        (source_of S.tells S.held S.faults src.old src.new)
+        (change O.tells O.taken O.faults out.old out.new)
+        (change E.tells E.taken E.faults err.old err.new)
         (record { before = steps.old.taken; now = steps.new.taken }) result }
 {
     match compose(alloc, words, src, steps) {
@@ -155,107 +144,35 @@ pub fn ribbit<S: Source, O: Sink, E: Sink, L: Ledger>(
 ) -> u8
     // What was due, and how it was delivered.
     ensures performs { Performs words.now
-        (record { tells = S.tells src.old; held = S.held src.old; before = S.faults src.old; now = S.faults src.new })
-        (record {
-          tells = O.tells out.old;
-          old = O.taken out.old;
-          new = O.taken out.new;
-          before = O.faults out.old;
-          now = O.faults out.new;
-        })
-        (record {
-          tells = E.tells err.old;
-          old = E.taken err.old;
-          new = E.taken err.new;
-          before = E.faults err.old;
-          now = E.faults err.new;
-        })
+        (source_of S.tells S.held S.faults src.old src.new)
+        (change O.tells O.taken O.faults out.old out.new)
+        (change E.tells E.taken E.faults err.old err.new)
         (record { before = steps.old.taken; now = steps.new.taken }) result }
     // The headline, for accepted files: the value of the source's meaning, or the limit that it passes.
     ensures headline { Headline words.now
-        (record { tells = S.tells src.old; held = S.held src.old; before = S.faults src.old; now = S.faults src.new })
-        (record {
-          tells = O.tells out.old;
-          old = O.taken out.old;
-          new = O.taken out.new;
-          before = O.faults out.old;
-          now = O.faults out.new;
-        })
-        (record {
-          tells = E.tells err.old;
-          old = E.taken err.old;
-          new = E.taken err.new;
-          before = E.faults err.old;
-          now = E.faults err.new;
-        }) result }
+        (source_of S.tells S.held S.faults src.old src.new)
+        (change O.tells O.taken O.faults out.old out.new)
+        (change E.tells E.taken E.faults err.old err.new) result }
     // The image of that value, with just the blocks that are asked for.
     ensures image { ImageHeadline words.now
-        (record { tells = S.tells src.old; held = S.held src.old; before = S.faults src.old; now = S.faults src.new })
-        (record {
-          tells = O.tells out.old;
-          old = O.taken out.old;
-          new = O.taken out.new;
-          before = O.faults out.old;
-          now = O.faults out.new;
-        })
-        (record {
-          tells = E.tells err.old;
-          old = E.taken err.old;
-          new = E.taken err.new;
-          before = E.faults err.old;
-          now = E.faults err.new;
-        }) result }
+        (source_of S.tells S.held S.faults src.old src.new)
+        (change O.tells O.taken O.faults out.old out.new)
+        (change E.tells E.taken E.faults err.old err.new) result }
     // That value, and what the run did.
     ensures count { CountHeadline words.now
-        (record { tells = S.tells src.old; held = S.held src.old; before = S.faults src.old; now = S.faults src.new })
-        (record {
-          tells = O.tells out.old;
-          old = O.taken out.old;
-          new = O.taken out.new;
-          before = O.faults out.old;
-          now = O.faults out.new;
-        })
-        (record {
-          tells = E.tells err.old;
-          old = E.taken err.old;
-          new = E.taken err.new;
-          before = E.faults err.old;
-          now = E.faults err.new;
-        }) result }
+        (source_of S.tells S.held S.faults src.old src.new)
+        (change O.tells O.taken O.faults out.old out.new)
+        (change E.tells E.taken E.faults err.old err.new) result }
     // The generated file, and what its run did.
     ensures generate { GenerateHeadline words.now
-        (record { tells = S.tells src.old; held = S.held src.old; before = S.faults src.old; now = S.faults src.new })
-        (record {
-          tells = O.tells out.old;
-          old = O.taken out.old;
-          new = O.taken out.new;
-          before = O.faults out.old;
-          now = O.faults out.new;
-        })
-        (record {
-          tells = E.tells err.old;
-          old = E.taken err.old;
-          new = E.taken err.new;
-          before = E.faults err.old;
-          now = E.faults err.new;
-        }) result }
+        (source_of S.tells S.held S.faults src.old src.new)
+        (change O.tells O.taken O.faults out.old out.new)
+        (change E.tells E.taken E.faults err.old err.new) result }
     // The main theorem, for all words and files, and with faults of the source and the sinks.
     ensures right { IsRight words.now
-        (record { tells = S.tells src.old; held = S.held src.old; before = S.faults src.old; now = S.faults src.new })
-        (record {
-          tells = O.tells out.old;
-          old = O.taken out.old;
-          new = O.taken out.new;
-          before = O.faults out.old;
-          now = O.faults out.new;
-        })
-        (record {
-          tells = E.tells err.old;
-          old = E.taken err.old;
-          new = E.taken err.new;
-          before = E.faults err.old;
-          now = E.faults err.new;
-        })
+        (source_of S.tells S.held S.faults src.old src.new)
+        (change O.tells O.taken O.faults out.old out.new)
+        (change E.tells E.taken E.faults err.old err.new)
         (record { before = steps.old.taken; now = steps.new.taken }) result }
 {
     answer(alloc, words.as_slice(), src, out, err, steps)
