@@ -1,0 +1,58 @@
+//! Types that cannot be packed.
+
+use crate::types::{con, data, seq};
+use rb_auto::{AutoFault, derive};
+use rb_core::program::Program;
+use rb_core::seq::Seq;
+use rb_core::types::{Auto, DataDecl, Ty};
+use std::alloc::{AllocError, Global};
+use std::test::Fail;
+
+/// Why a single type cannot be packed, if it cannot.
+fn refusal(alloc: Global, ty: DataDecl) -> Result<Option<AutoFault>, AllocError> {
+    let program = Program {
+        types: seq(alloc, [ty])?,
+        layouts: Seq::new(alloc),
+        funs: Seq::new(alloc),
+        main: 0,
+    };
+    if program.types.len() != 1 {
+        return Ok(None);
+    }
+    match derive(alloc, &program, &[Some(Auto::Packed)], 0) {
+        Ok(_) => Ok(None),
+        Err(fault) => Ok(Some(fault)),
+    }
+}
+
+// type List = Nil | Cons(u8, List);
+#[test]
+fn a_type_that_reaches_itself(rt: HostRuntime) -> Result<(), Fail> {
+    let alloc = rt.alloc();
+    let nil = con(alloc, &[])?;
+    let cons = con(alloc, &[Ty::Int(8), Ty::Named(0)])?;
+    let list = data(alloc, seq(alloc, [nil, cons])?);
+    let fault = refusal(alloc, list)?;
+    assert!(rt; matches!(fault, Some(AutoFault::PackedRecursive(0))));
+    Ok(())
+}
+
+/// Of two constructors, one with a number: 63 bits of it and the tag fill a word, 64 do not.
+#[test]
+fn a_type_that_is_too_wide(rt: HostRuntime) -> Result<(), Fail> {
+    let alloc = rt.alloc();
+    for (bits, needed) in [(63, None), (64, Some(65))] {
+        let some = con(alloc, &[Ty::Int(bits)])?;
+        let none = con(alloc, &[])?;
+        let fault = refusal(alloc, data(alloc, seq(alloc, [some, none])?))?;
+        match fault {
+            None => assert_eq!(rt; needed, None),
+            Some(AutoFault::PackedWide(ty, found)) => {
+                assert_eq!(rt; (ty, Some(found)), (0, needed));
+            }
+            Some(AutoFault::PackedRecursive(_)) => assert!(rt; false),
+            Some(AutoFault::Memory) => assert!(rt; false),
+        }
+    }
+    Ok(())
+}

@@ -1,0 +1,67 @@
+//! Types without names, and what is derived for them.
+
+use rb_auto::derive;
+use rb_core::layout_decl::{LayTree, LayoutDecl};
+use rb_core::pattern::Pat;
+use rb_core::program::Program;
+use rb_core::seq::Seq;
+use rb_core::types::{Auto, Con, DataDecl, Ty};
+use std::alloc::{AllocError, Global};
+use std::test::Fail;
+
+pub fn seq<T: Drop, const N: usize>(alloc: Global, items: [T; N]) -> Result<Seq<T>, AllocError> {
+    Ok(Seq::from_vec(Vec::from_array(alloc, items)?))
+}
+
+/// A constructor with these fields.
+pub fn con(alloc: Global, fields: &[Ty]) -> Result<Con, AllocError> {
+    Ok(Con {
+        name: Seq::new(alloc),
+        fields: Seq::from_vec(Vec::from_slice(alloc, fields)?),
+    })
+}
+
+/// A type with these constructors.
+pub fn data(alloc: Global, cons: Seq<Con>) -> DataDecl {
+    DataDecl {
+        name: Seq::new(alloc),
+        cons,
+    }
+}
+
+/// A written layout of a type: of this shape, and one leaf without items.
+pub fn written(alloc: Global, ty: u32, shape: &[u64]) -> Result<LayoutDecl, AllocError> {
+    Ok(LayoutDecl {
+        at: 0,
+        ty,
+        shape: Seq::from_vec(Vec::from_slice(alloc, shape)?),
+        tree: LayTree::Leaf(0, Pat::Wild(0), Seq::new(alloc)),
+    })
+}
+
+/// What is derived for a type of these, for each of which the kind is given, if any.
+pub fn derived(
+    alloc: Global,
+    types: Seq<DataDecl>,
+    layouts: Seq<LayoutDecl>,
+    kinds: &[Option<Auto>],
+    ty: u32,
+) -> Result<LayoutDecl, Fail> {
+    let program = Program {
+        types,
+        layouts,
+        funs: Seq::new(alloc),
+        main: 0,
+    };
+    if kinds.len() != program.types.len() {
+        return Err(AllocError.into());
+    }
+    match kinds.get(ty as usize) {
+        Some(Some(_kind)) => {
+            let decl = derive(alloc, &program, kinds, ty)?;
+            Ok(decl)
+        }
+        Some(None) => Err(AllocError.into()),
+        None => Err(AllocError.into()),
+    }
+}
