@@ -1,4 +1,6 @@
 pub mod AnswerLemmas
+pub mod BackLemmas
+pub mod CuttingLemmas
 pub mod FittingLemmas
 pub mod NodeLemmas
 pub mod PostLemmas

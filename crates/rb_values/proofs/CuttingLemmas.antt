@@ -1,0 +1,297 @@
+-- The signs of a text that is put together from pieces: names, numbers and what stands between them.
+use Rattle.std.proofs.Common.{◌≡◌, ℕ, zero, suc, ◌+◌, ◌-◌, ◌*◌, ◌<◌, ◌≤◌, ◌^◌, List, [], ◌∷◌, ◌++◌, length, drop, take, map, codes, take_while, nat_lt, nat_le, Bool, true, false, ◌&&◌, ◌||◌, ◌==◌, if◌then◌else◌, None, refl, sym, ◌∙◌, ap, subst, arith, length-append, eqb-true}
+use Rattle.std.specs.Fmt.{decimal}
+use Rattle.std.specs.Char.{is_ascii_digit, is_ascii_uppercase, is_ascii_lowercase, is_ascii_alphabetic, digit_value}
+use Rattle.std.specs.Int.{is_in_range}
+use Rattle.std.specs.Int.Digits.{number_from_digits_after}
+use Rattle.std.specs.List.{list_all, prefix_len}
+use Rattle.std.specs.Str.Parse.{digits_value_after}
+use Rattle.std.proofs.lemmas.Bool.{leb-true, lt-ltb, eq-eqb}
+use Rattle.std.proofs.lemmas.Str.{digit_value_digit}
+use Rattle.std.proofs.lemmas.Grind.{common_steps}
+use Rattle.rb_core.specs.Decimal.{is_numeral}
+use Rattle.rb_core.specs.WellNumbered.{is_upper, is_capital, is_small, is_between, either}
+use Rattle.rb_core.specs.WellNumbered as well
+use Rattle.rb_core.proofs.Decimals.{numeral-decimal, value-decimal, digits-numeral, some-numeral, first-numeral}
+use Rattle.rb_syntax.specs.declared.token.Symbol.TheVariants as symbol
+use Rattle.rb_syntax.specs.declared.token.Token.{Token}
+use Rattle.rb_syntax.specs.declared.token.Token.TheVariants as tok
+use Rattle.rb_syntax.specs.declared.token.Placed.{Placed}
+use Rattle.rb_syntax.specs.declared.piece.Piece.{Piece}
+use Rattle.rb_syntax.specs.declared.piece.Piece.TheVariants as piece
+use Rattle.rb_syntax.specs.Bytes.{is_blank, is_word_byte, numeral_len, value_of}
+use Rattle.rb_syntax.specs.Pieces.{name_token, number_piece, run_piece, symbol_piece, first_piece, piece_at}
+use Rattle.rb_syntax.specs.Fronts.{Front, ends, behind, with_front, front_from}
+use Rattle.rb_values.specs.declared.sign.Sign.{Sign}
+use Rattle.rb_values.specs.declared.sign.Sign.TheVariants as sign
+use Rattle.rb_values.specs.Terms.{sign_of, signs}
+
+clash : {P : Type 0} → true ≡ false → P
+clash e = cc
+
+both : (a b : Bool) → (a && b) ≡ true → (a ≡ true) × (b ≡ true)
+both true b e = (refl, e)
+both false b e = cc
+
+joined : (a b : Bool) → a ≡ true → b ≡ true → (a && b) ≡ true
+joined true b d e = e
+joined false b d e = cc
+
+-- Pieces one after the other -------------------------------------------------------------------
+
+one-more : (n at : ℕ) (bytes : List ℕ) → 0 < length bytes → front_from (suc n) at bytes ≡ with_front at (piece_at bytes) (λ len. front_from n (at + len) (drop len bytes))
+unfolding front_from
+one-more n at bytes h = let e : (length bytes == 0) ≡ false = grind (arith, common_steps) in rw e refl
+
+gap-front : (at len : ℕ) (rest : ℕ → Front) → with_front at (piece.Gap len) rest ≡ rest len
+unfolding with_front
+gap-front at len rest = refl
+
+token-front : (at len : ℕ) (t : Token) (rest : ℕ → Front) → with_front at (piece.Token t len) rest ≡ behind (record { token = t; at = at }) (rest len)
+unfolding with_front
+token-front at len t rest = refl
+
+none-left : (n at : ℕ) → front_from n at [] ≡ ends None
+unfolding front_from
+none-left zero at = refl
+none-left (suc n) at = refl
+
+drop-front : (xs ys : List ℕ) → drop (length xs) (xs ++ ys) ≡ ys
+drop-front [] ys = refl
+drop-front (x ∷ xs) ys = drop-front xs ys
+
+take-front : (xs ys : List ℕ) → take (length xs) (xs ++ ys) ≡ xs
+take-front [] ys = refl
+take-front (x ∷ xs) ys = ap (λ (zs : List ℕ). x ∷ zs) (take-front xs ys)
+
+-- some bytes have tokens, which are these signs
+pub record Shows (at : ℕ) (bytes : List ℕ) (ss : List Sign) : Type 0 where
+  pub tokens : List Placed
+  pub cut : (n : ℕ) → length bytes ≤ n → front_from n at bytes ≡ record { tokens = tokens; fault = None }
+  pub are : signs tokens ≡ ss
+
+pub shows-end : (at : ℕ) → Shows at [] []
+shows-end at = record { tokens = []; cut = λ n h. none-left n at; are = refl }
+
+module _ (at len : ℕ) (xs rest : List ℕ) (ss : List Sign) (some : 0 < length xs) (all : len ≡ length xs) (next : Shows (at + len) rest ss) where
+  left : drop len (xs ++ rest) ≡ rest
+  left = ap (λ (n : ℕ). drop n (xs ++ rest)) all ∙ drop-front xs rest
+
+  rest-cut : (n : ℕ) → length (xs ++ rest) ≤ suc n → front_from n (at + len) (drop len (xs ++ rest)) ≡ record { tokens = next.tokens; fault = None }
+  rest-cut n h = ap (λ (bs : List ℕ). front_from n (at + len) bs) left ∙ next.cut n (omega (arith, h, some, length-append xs rest))
+
+  by-piece : (n : ℕ) (p : Piece) → piece_at (xs ++ rest) ≡ p
+      → front_from (suc n) at (xs ++ rest) ≡ with_front at p (λ len. front_from n (at + len) (drop len (xs ++ rest)))
+  by-piece n p e = one-more n at (xs ++ rest) (omega (arith, some, length-append xs rest))
+      ∙ ap (λ (p : Piece). with_front at p (λ len. front_from n (at + len) (drop len (xs ++ rest)))) e
+
+  shows-gap : piece_at (xs ++ rest) ≡ piece.Gap len → Shows at (xs ++ rest) ss
+  shows-gap e = record { tokens = next.tokens; cut = cut; are = next.are } where
+    cut : (n : ℕ) → length (xs ++ rest) ≤ n → front_from n at (xs ++ rest) ≡ record { tokens = next.tokens; fault = None }
+    cut zero h = absurd (omega (arith, h, some, length-append xs rest))
+    cut (suc n) h = by-piece n (piece.Gap len) e ∙ gap-front at len _ ∙ rest-cut n h
+
+  shows-token : (t : Token) (s : Sign) → sign_of (record { token = t; at = at }) ≡ s → piece_at (xs ++ rest) ≡ piece.Token t len → Shows at (xs ++ rest) (s ∷ ss)
+  shows-token t s is e = record {
+    tokens = record { token = t; at = at } ∷ next.tokens;
+    cut = cut;
+    are = ap (λ (s : Sign). s ∷ signs next.tokens) is ∙ ap (λ (ss : List Sign). s ∷ ss) next.are;
+  } where
+    cut : (n : ℕ) → length (xs ++ rest) ≤ n → front_from n at (xs ++ rest) ≡ record { tokens = record { token = t; at = at } ∷ next.tokens; fault = None }
+    cut zero h = absurd (omega (arith, h, some, length-append xs rest))
+    cut (suc n) h = by-piece n (piece.Token t len) e ∙ token-front at len t _ ∙ ap (behind (record { token = t; at = at })) (rest-cut n h)
+
+-- Signs between names and numbers ---------------------------------------------------------------
+
+open-piece : (rest : List ℕ) → piece_at (40 ∷ rest) ≡ piece.Token (tok.Symbol symbol.OpenParen) 1
+unfolding piece_at first_piece symbol_piece
+open-piece rest = refl
+
+close-piece : (rest : List ℕ) → piece_at (41 ∷ rest) ≡ piece.Token (tok.Symbol symbol.CloseParen) 1
+unfolding piece_at first_piece symbol_piece
+close-piece rest = refl
+
+comma-piece : (rest : List ℕ) → piece_at (44 ∷ rest) ≡ piece.Token (tok.Symbol symbol.Comma) 1
+unfolding piece_at first_piece symbol_piece
+comma-piece rest = refl
+
+blank-piece : (rest : List ℕ) → piece_at (32 ∷ rest) ≡ piece.Gap 1
+unfolding piece_at first_piece
+blank-piece rest = refl
+
+shows-from : (at from : ℕ) (bytes : List ℕ) (ss : List Sign) → from ≡ at → Shows from bytes ss → Shows at bytes ss
+shows-from at from bytes ss e = subst (λ (n : ℕ). Shows n bytes ss) e
+
+pub shows-open : (at from : ℕ) (rest : List ℕ) (ss : List Sign) → from ≡ at + 1 → Shows from rest ss → Shows at (codes "(" ++ rest) (sign.Open ∷ ss)
+shows-open at from rest ss e next =
+    shows-token at 1 (40 ∷ []) rest ss (omega arith) refl (shows-from (at + 1) from rest ss e next) (tok.Symbol symbol.OpenParen) sign.Open refl (open-piece rest)
+
+pub shows-close : (at from : ℕ) (rest : List ℕ) (ss : List Sign) → from ≡ at + 1 → Shows from rest ss → Shows at (codes ")" ++ rest) (sign.Close ∷ ss)
+shows-close at from rest ss e next =
+    shows-token at 1 (41 ∷ []) rest ss (omega arith) refl (shows-from (at + 1) from rest ss e next) (tok.Symbol symbol.CloseParen) sign.Close refl (close-piece rest)
+
+pub shows-comma : (at from : ℕ) (rest : List ℕ) (ss : List Sign) → from ≡ at + 2 → Shows from rest ss → Shows at (codes ", " ++ rest) (sign.Comma ∷ ss)
+shows-comma at from rest ss e next =
+    shows-token at 1 (44 ∷ []) (32 ∷ rest) ss (omega arith) refl
+    (shows-gap (at + 1) 1 (32 ∷ []) rest ss (omega arith) refl (shows-from (at + 1 + 1) from rest ss (omega (arith, e)) next) (blank-piece rest))
+    (tok.Symbol symbol.Comma) sign.Comma refl (comma-piece (32 ∷ rest))
+
+-- Runs of letters, digits and underscores -------------------------------------------------------
+
+-- no such run goes on here
+abbrev pub Stops : List ℕ → Type 0
+Stops rest = prefix_len is_word_byte rest ≡ 0
+
+or-cases : (a b : Bool) (P : Type 0) → (a ≡ true → P) → (b ≡ true → P) → (a || b) ≡ true → P
+or-cases true b P f g e = f refl
+or-cases false b P f g e = g e
+
+in-range : (low high b : ℕ) → is_in_range low high b ≡ true → low ≤ b
+in-range low high b e = leb-true low b (both (nat_le low b) (nat_le b high) e).0
+
+word-high : (b : ℕ) → is_word_byte b ≡ true → 33 ≤ b
+word-high b = or-cases ((is_in_range 48 57 b || is_in_range 65 90 b) || is_in_range 97 122 b) (b == 95) (33 ≤ b)
+    (or-cases (is_in_range 48 57 b || is_in_range 65 90 b) (is_in_range 97 122 b) (33 ≤ b)
+    (or-cases (is_in_range 48 57 b) (is_in_range 65 90 b) (33 ≤ b) (λ e. omega (arith, in-range 48 57 b e)) (λ e. omega (arith, in-range 65 90 b e)))
+    (λ e. omega (arith, in-range 97 122 b e)))
+    (λ e. omega (arith, eqb-true b 95 e))
+
+other : (b c : ℕ) → c < b → (b == c) ≡ false
+other b c h = grind (arith, common_steps)
+
+no-blank : (b : ℕ) → 33 ≤ b → is_blank b ≡ false
+no-blank b h = rw (other b 9 (omega arith), other b 10 (omega arith), other b 13 (omega arith), other b 32 (omega arith)) refl
+
+run-length : (run rest : List ℕ) → list_all is_word_byte run ≡ true → Stops rest → prefix_len is_word_byte (run ++ rest) ≡ length run
+run-length [] rest all stops = stops
+run-length (b ∷ bs) rest all stops =
+    let h = both (is_word_byte b) (list_all is_word_byte bs) all in
+    let i : prefix_len is_word_byte (bs ++ rest) ≡ length bs = run-length bs rest h.1 stops in
+    rw h.0 (omega (arith, i))
+
+run-front : (run rest : List ℕ) → list_all is_word_byte run ≡ true → Stops rest → take_while is_word_byte (run ++ rest) ≡ run
+run-front run rest all stops = ap (λ (n : ℕ). take n (run ++ rest)) (run-length run rest all stops) ∙ take-front run rest
+
+first-run : (b : ℕ) (bytes : List ℕ) → is_blank b ≡ false → is_word_byte b ≡ true → first_piece b bytes ≡ run_piece b (take_while is_word_byte bytes)
+unfolding first_piece
+first-run b bytes e f = rw (e, f) refl
+
+run-at : (b : ℕ) (bs rest : List ℕ) → list_all is_word_byte (b ∷ bs) ≡ true → Stops rest → piece_at ((b ∷ bs) ++ rest) ≡ run_piece b (b ∷ bs)
+unfolding piece_at
+run-at b bs rest all stops =
+    let word = (both (is_word_byte b) (list_all is_word_byte bs) all).0 in
+    first-run b ((b ∷ bs) ++ rest) (no-blank b (word-high b word)) word ∙ ap (run_piece b) (run-front (b ∷ bs) rest all stops)
+
+-- the same kinds of bytes in another order
+reordered : (d u l x : Bool) → either u (either l (either d x)) ≡ true → (((d || u) || l) || x) ≡ true
+reordered true true l x e = refl
+reordered true false true x e = refl
+reordered true false false x e = refl
+reordered false true l x e = refl
+reordered false false true x e = refl
+reordered false false false x e = e
+
+word-bytes : (bs : List ℕ) → list_all well.is_word_byte bs ≡ true → list_all is_word_byte bs ≡ true
+word-bytes [] e = refl
+word-bytes (b ∷ bs) e =
+    let h = both (well.is_word_byte b) (list_all well.is_word_byte bs) e in
+    joined (is_word_byte b) (list_all is_word_byte bs) (reordered (is_ascii_digit b) (is_ascii_uppercase b) (is_ascii_lowercase b) (b == 95) h.0) (word-bytes bs h.1)
+
+or-left : (a b : Bool) → a ≡ true → (a || b) ≡ true
+or-left true b e = refl
+or-left false b e = cc
+
+or-right : (a b : Bool) → b ≡ true → (a || b) ≡ true
+or-right true b e = refl
+or-right false b e = e
+
+capital-word : (b : ℕ) → is_capital b ≡ true → is_word_byte b ≡ true
+capital-word b e =
+    or-left ((is_in_range 48 57 b || is_in_range 65 90 b) || is_in_range 97 122 b) (b == 95)
+    (or-left (is_in_range 48 57 b || is_in_range 65 90 b) (is_in_range 97 122 b) (or-right (is_in_range 48 57 b) (is_in_range 65 90 b) e))
+
+capital-piece : (b : ℕ) (bs : List ℕ) → is_capital b ≡ true → run_piece b (b ∷ bs) ≡ piece.Token (tok.Upper (b ∷ bs)) (length (b ∷ bs))
+unfolding run_piece name_token
+capital-piece b bs e = let letter : is_ascii_alphabetic b ≡ true = or-left (is_in_range 65 90 b) (is_in_range 97 122 b) e in
+    let capital : is_ascii_uppercase b ≡ true = e in rw (letter, capital) refl
+
+pub shows-name : (at from : ℕ) (name rest : List ℕ) (ss : List Sign) → is_upper name ≡ true → Stops rest → from ≡ at + length name → Shows from rest ss
+    → Shows at (name ++ rest) (sign.Name at name ∷ ss)
+shows-name at from [] rest ss e stops f next = cc
+shows-name at from (b ∷ bs) rest ss e stops f next =
+    let h = both (is_capital b) (list_all well.is_word_byte bs) e in
+    let all : list_all is_word_byte (b ∷ bs) ≡ true = joined (is_word_byte b) (list_all is_word_byte bs) (capital-word b h.0) (word-bytes bs h.1) in
+    shows-token at (length (b ∷ bs)) (b ∷ bs) rest ss (omega arith) refl (shows-from (at + length (b ∷ bs)) from rest ss f next)
+    (tok.Upper (b ∷ bs)) (sign.Name at (b ∷ bs)) refl (run-at b bs rest all stops ∙ capital-piece b bs h.0)
+
+-- Numbers ---------------------------------------------------------------------------------------
+
+digit-word : (b : ℕ) → is_ascii_digit b ≡ true → is_word_byte b ≡ true
+digit-word b e =
+    or-left ((is_in_range 48 57 b || is_in_range 65 90 b) || is_in_range 97 122 b) (b == 95)
+    (or-left (is_in_range 48 57 b || is_in_range 65 90 b) (is_in_range 97 122 b) (or-left (is_in_range 48 57 b) (is_in_range 65 90 b) e))
+
+digit-words : (bs : List ℕ) → list_all is_ascii_digit bs ≡ true → list_all is_word_byte bs ≡ true
+digit-words [] e = refl
+digit-words (b ∷ bs) e =
+    let h = both (is_ascii_digit b) (list_all is_ascii_digit bs) e in
+    joined (is_word_byte b) (list_all is_word_byte bs) (digit-word b h.0) (digit-words bs h.1)
+
+digit-range : (b : ℕ) → is_ascii_digit b ≡ true → (48 ≤ b) × (b ≤ 57)
+digit-range b e = let h = both (nat_le 48 b) (nat_le b 57) e in (leb-true 48 b h.0, leb-true b 57 h.1)
+
+no-letter : (b : ℕ) → is_ascii_digit b ≡ true → is_ascii_alphabetic b ≡ false
+no-letter b e =
+    let h = digit-range b e in
+    let up : nat_le 65 b ≡ false = grind (arith, common_steps, h.1) in
+    let low : nat_le 97 b ≡ false = grind (arith, common_steps, h.1) in
+    rw (up, low) refl
+
+same-value : (n : ℕ) (ds : List ℕ) → list_all is_ascii_digit ds ≡ true → number_from_digits_after 10 n (map (λ d. d - 48) ds) ≡ digits_value_after 10 n ds
+same-value n [] e = refl
+same-value n (d ∷ ds) e =
+    let h = both (is_ascii_digit d) (list_all is_ascii_digit ds) e in
+    let one : n * 10 + (d - 48) ≡ n * 10 + digit_value d = omega (arith, digit_value_digit d (digit-range d h.0)) in
+    ap (λ (m : ℕ). number_from_digits_after 10 m (map (λ d. d - 48) ds)) one ∙ same-value (n * 10 + digit_value d) ds h.1
+
+all-digits : (ds : List ℕ) → list_all is_ascii_digit ds ≡ true → prefix_len is_ascii_digit ds ≡ length ds
+all-digits [] e = refl
+all-digits (d ∷ ds) e =
+    let h = both (is_ascii_digit d) (list_all is_ascii_digit ds) e in
+    let i : prefix_len is_ascii_digit ds ≡ length ds = all-digits ds h.1 in
+    rw h.0 (omega (arith, i))
+
+whole-numeral : (d : ℕ) (ds : List ℕ) → is_numeral (d ∷ ds) ≡ true → numeral_len (d ∷ ds) ≡ length (d ∷ ds)
+whole-numeral d ds e = elim (d == 48) as (λ (b : Bool). (d == 48) ≡ b → (if b then 1 else prefix_len is_ascii_digit (d ∷ ds)) ≡ length (d ∷ ds)) [
+  | true ↦ λ z. sym (first-numeral (d ∷ ds) e (eqb-true d 48 z))
+  | false ↦ λ z. all-digits (d ∷ ds) (digits-numeral (d ∷ ds) e)
+] refl
+
+digit-run : (d : ℕ) (run : List ℕ) → is_ascii_alphabetic d ≡ false → is_ascii_digit d ≡ true → run_piece d run ≡ number_piece run
+unfolding run_piece
+digit-run d run e f = rw (e, f) refl
+
+number-run : (run : List ℕ) (n : ℕ) → (numeral_len run == length run) ≡ true → value_of run ≡ n → nat_lt n (2 ^ 64) ≡ true
+    → number_piece run ≡ piece.Token (tok.Num n) (length run)
+unfolding number_piece
+number-run run n whole v fits = rw (whole, v, fits) refl
+
+digits-piece : (d : ℕ) (ds : List ℕ) (n : ℕ) → is_numeral (d ∷ ds) ≡ true → value_of (d ∷ ds) ≡ n → n < 2 ^ 64
+    → run_piece d (d ∷ ds) ≡ piece.Token (tok.Num n) (length (d ∷ ds))
+digits-piece d ds n e v small =
+    let digit : is_ascii_digit d ≡ true = (both (is_ascii_digit d) (list_all is_ascii_digit ds) (digits-numeral (d ∷ ds) e)).0 in
+    let whole : (numeral_len (d ∷ ds) == length (d ∷ ds)) ≡ true = eq-eqb (numeral_len (d ∷ ds)) (length (d ∷ ds)) (whole-numeral d ds e) in
+    digit-run d (d ∷ ds) (no-letter d digit) digit ∙ number-run (d ∷ ds) n whole v (lt-ltb n (2 ^ 64) small)
+
+numeral-piece : (ds rest : List ℕ) (n : ℕ) → is_numeral ds ≡ true → value_of ds ≡ n → n < 2 ^ 64 → Stops rest → piece_at (ds ++ rest) ≡ piece.Token (tok.Num n) (length ds)
+numeral-piece [] rest n e v small stops = let h : 0 < length {A = ℕ} [] = some-numeral [] e in absurd (omega (arith, h))
+numeral-piece (d ∷ ds) rest n e v small stops =
+    run-at d ds rest (digit-words (d ∷ ds) (digits-numeral (d ∷ ds) e)) stops ∙ digits-piece d ds n e v small
+
+pub shows-number : (at from n : ℕ) (rest : List ℕ) (ss : List Sign) → n < 2 ^ 64 → Stops rest → from ≡ at + length (decimal n) → Shows from rest ss
+    → Shows at (decimal n ++ rest) (sign.Number at n ∷ ss)
+shows-number at from n rest ss small stops f next =
+    let e : is_numeral (decimal n) ≡ true = numeral-decimal n small in
+    let v : value_of (decimal n) ≡ n = same-value 0 (decimal n) (digits-numeral (decimal n) e) ∙ value-decimal n small in
+    shows-token at (length (decimal n)) (decimal n) rest ss (some-numeral (decimal n) e) refl (shows-from (at + length (decimal n)) from rest ss f next)
+    (tok.Num n) (sign.Number at n) refl (numeral-piece (decimal n) rest n e v small stops)
