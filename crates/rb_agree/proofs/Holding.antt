@@ -19,7 +19,7 @@ use Rattle.rb_layout.specs.Positions.{Open, open_positions}
 use Rattle.rb_layout.specs.Flattening.{same_path, IsOpenIn}
 use Rattle.rb_layout.specs.Items.{Item, WrittenPart, content_paths, item_paths, paths_of}
 use Rattle.rb_layout.specs.A6.{FailsHeld, HoldsEach, HoldsOnce, units_of, holds_unit, held, held_in_part, held_in_word, held_in_block}
-use Rattle.rb_agree.specs.declared.held.Run.{Run}
+use Rattle.rb_agree.specs.declared.runs.Run.{Run}
 use Rattle.rb_agree.specs.declared.items.Written.{Written}
 use Rattle.rb_agree.specs.declared.items.Item as D
 use Rattle.rb_agree.specs.declared.positions.Place.{Place}

@@ -12,6 +12,10 @@ pub mod Searching
 pub mod Relating
 pub mod Opening
 mod Holding
+mod Falling
+mod Alikeness
+mod Halving
+mod Gathering
 mod Walking
 mod Grouping
 mod Reading

@@ -1,4 +1,5 @@
 pub mod Lists
+pub mod Alike
 pub mod Blocks
 pub mod Splits
 pub mod Tests
@@ -6,7 +7,10 @@ pub mod Values
 pub mod Parts
 pub mod Ways
 pub mod Held
+pub mod Gathered
+pub mod Search
 pub mod Leaves
+pub mod Order
 pub mod Rules
 pub mod Passing
 pub mod Sharing

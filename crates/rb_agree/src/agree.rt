@@ -12,6 +12,7 @@ ghost use Rattle.rb_agree.specs.inner.Rules.{IsKnown, IsReady, early_rules, late
 use crate::fault::AgreeFault;
 use crate::graphs::{flattened, held};
 use crate::leaves::all_leaves;
+use crate::order::has_no_cycle;
 use crate::pointers::pointing;
 use crate::rules::{Related, Rule, rules_fault};
 use crate::shapes::shapes_fault;
@@ -33,11 +34,15 @@ fn related(alloc: Global, program: &Program, layouts: &[Layout]) -> Result<Relat
     let marks = pointing(alloc, layouts)?;
     let flattened = flattened(alloc, layouts)?;
     let held = held(alloc, program.types.as_slice(), layouts)?;
+    let flattens_in_order = has_no_cycle(alloc, flattened.as_slice())?;
+    let holds_in_order = has_no_cycle(alloc, held.as_slice())?;
     Ok(Related {
         written,
         marks,
         flattened,
         held,
+        flattens_in_order,
+        holds_in_order,
     })
 }
 

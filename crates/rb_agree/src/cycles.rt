@@ -30,7 +30,8 @@ pub(crate) fn no_marks(alloc: Global, count: usize) -> Result<Seq<bool>, AllocEr
     Ok(marks)
 }
 
-fn edges_of(graph: &[Seq<u32>], number: u32) -> &[u32]
+/// The numbers to which a number leads; none for a number that the graph hasn't.
+pub(crate) fn edges_of(graph: &[Seq<u32>], number: u32) -> &[u32]
     ensures { result.now ≡ edges_of graph.now number }
 {
     match graph.get(number as usize) {

@@ -1,125 +1,37 @@
 //! Whether each open position of a leaf is held exactly once, and no other path is held.
 //!
 //! A unit is a bit of an integer or a word of a data type. What the parts of the leaf hold of a position
-//! is listed as runs of units. Take a field of type u8, bits 0 up to 4 of which stand in one part and bits
+//! is a list of runs of units. Take a field of type u8, bits 0 up to 4 of which stand in one part and bits
 //! 3 up to 8 in another. The runs are 4 units from 0 on and 5 units from 3 on, so unit 3 is held twice.
 
-ghost use Rattle.std.specs.Prelude.{◌≡◌, ◌↔◌, ◌++◌, IfOk, IsTrue, MatchOption, OnOk};
+ghost use Rattle.std.specs.Prelude.{◌≡◌, IfOk, MatchOption};
 ghost use Rattle.std.specs.List.{flat_map};
-ghost use Rattle.rb_layout.specs.Flattening.{same_path};
 ghost use Rattle.rb_layout.specs.Items.{content_paths, item_paths, paths_of};
 ghost use Rattle.rb_layout.specs.Positions.{open_positions};
 ghost use Rattle.rb_layout.specs.A6.{FailsHeld, HoldsEach, HoldsOnce, units_of};
 ghost use Rattle.rb_agree.specs.Placed.{shown_place};
 ghost use Rattle.rb_agree.specs.Written.{shown_content, shown_item, shown_items, shown_parts};
 ghost use Rattle.rb_agree.specs.inner.Lists.{FindsIn};
-ghost use Rattle.rb_agree.specs.inner.Held.{AreOnce, FailsEach, FailsPath, FailsPlace, FailsUnit, FailsUnits, HoldsPlace, IsOpenPath, block_runs, has_unit, leaf_runs, part_paths, part_runs, times, word_runs};
+ghost use Rattle.rb_agree.specs.inner.Held.{AreOnce, FailsEach, FailsPath, FailsPlace, FailsUnit, FailsUnits, HoldsPlace, IsOpenPath, has_unit, leaf_runs, part_paths, times};
+ghost use Rattle.rb_agree.specs.inner.Gathered.{AreGathered};
 
 use crate::items::{Content, Item, Written};
 use crate::parts::is_open;
 use crate::positions::{Place, places};
+use crate::runs::{Run, runs_at, runs_of};
 use rb_core::pattern::Pat;
 use rb_core::program::Program;
 use rb_core::seq::Seq;
 use rb_core::types::{DataDecl, Ty};
 use rb_layout::decls::shape_of;
 use rb_layout::evidence::Why;
-use rb_layout::layout::{Block, FlatWord, Kind, Leaf, Part};
+use rb_layout::layout::Leaf;
 use std::alloc::{AllocError, Global};
-
-/// So many units of a position, from this one on.
-#[derive(Clone, Copy, Debug)]
-pub struct Run {
-    pub first: u64,
-    pub count: u64,
-}
-
-fn same_path(one: &[u32], other: &[u32]) -> bool
-    ensures { result ≡ same_path one.now other.now }
-{
-    one == other
-}
 
 fn has_unit(run: &Run, unit: u64) -> bool
     ensures { result ≡ has_unit run.now unit }
 {
     run.first <= unit && unit - run.first < run.count
-}
-
-// Adds what a part holds of the position of this type at a path.
-fn add_part(part: &Part, ty: Ty, path: &[u32], runs: &mut Seq<Run>) -> Result<(), AllocError>
-    ensures { OnOk result (runs.new ≡ runs.old ++ part_runs ty path.now part.now) }
-{
-    match &part.kind {
-        Kind::Const(_) => Ok(()),
-        Kind::Pointer(_, _) => Ok(()),
-        Kind::Bits(held, first) => match ty {
-            Ty::Named(_) => Ok(()),
-            Ty::Int(_) => {
-                if same_path(held.as_slice(), path) {
-                    return runs.push(Run {
-                        first: *first,
-                        count: part.l,
-                    });
-                }
-                Ok(())
-            }
-        },
-        Kind::Word(held, number) => match ty {
-            Ty::Int(_) => Ok(()),
-            Ty::Named(_) => {
-                if same_path(held.as_slice(), path) {
-                    return runs.push(Run {
-                        first: *number,
-                        count: 1,
-                    });
-                }
-                Ok(())
-            }
-        },
-    }
-}
-
-fn add_parts(parts: &[Part], ty: Ty, path: &[u32], runs: &mut Seq<Run>) -> Result<(), AllocError>
-    ensures { OnOk result (runs.new ≡ runs.old ++ flat_map (part_runs ty path.now) parts.now) }
-{
-    for part in parts {
-        add_part(part, ty, path, runs)?;
-    }
-    Ok(())
-}
-
-fn add_words(
-    words: &[FlatWord],
-    ty: Ty,
-    path: &[u32],
-    runs: &mut Seq<Run>,
-) -> Result<(), AllocError>
-    ensures { OnOk result (runs.new ≡ runs.old ++ flat_map (word_runs ty path.now) words.now) }
-{
-    for word in words {
-        add_parts(word.parts.as_slice(), ty, path, runs)?;
-    }
-    Ok(())
-}
-
-fn add_blocks(blocks: &[Block], ty: Ty, path: &[u32], runs: &mut Seq<Run>) -> Result<(), AllocError>
-    ensures { OnOk result (runs.new ≡ runs.old ++ flat_map (block_runs ty path.now) blocks.now) }
-{
-    for block in blocks {
-        add_words(block.words.as_slice(), ty, path, runs)?;
-    }
-    Ok(())
-}
-
-// What the parts of a leaf hold of the position of this type at a path.
-fn runs_of(alloc: Global, leaf: &Leaf, ty: Ty, path: &[u32]) -> Result<Seq<Run>, AllocError>
-    ensures { IfOk result (λ runs. runs ≡ leaf_runs leaf.now ty path.now) }
-{
-    let mut runs = Seq::new(alloc);
-    add_words(leaf.root.as_slice(), ty, path, &mut runs)?;
-    add_blocks(leaf.blocks.as_slice(), ty, path, &mut runs)?;
-    Ok(runs)
 }
 
 // How many runs have a unit.
@@ -182,39 +94,37 @@ fn units_fault(
     Ok(None)
 }
 
-// How some unit of an open position fails to be held once.
+// How some unit of an open position fails to be held once, where these are its runs.
 fn place_fault(
     alloc: Global,
     program: &Program,
     leaf: &Leaf,
     place: &Place,
+    runs: &[Run],
 ) -> Result<Option<Why>, AllocError>
+    requires { runs.now ≡ leaf_runs leaf.now place.now.ty place.now.path }
     ensures { IfOk result (λ found. MatchOption found
         (HoldsPlace program.now leaf.now (shown_place place.now))
         (FailsPlace program.now leaf.now (shown_place place.now))) }
 {
-    let runs = runs_of(alloc, leaf, place.ty, place.path.as_slice())?;
-    units_fault(
-        alloc,
-        &place.path,
-        runs.as_slice(),
-        units_of(program, place.ty),
-    )
+    units_fault(alloc, &place.path, runs, units_of(program, place.ty))
 }
 
-// How some open position of these fails to be held once.
+// How some open position of these fails to be held once, where these are their runs.
 fn some_place_fault(
     alloc: Global,
     program: &Program,
     leaf: &Leaf,
     places: &[Place],
+    rows: &[Seq<Run>],
 ) -> Result<Option<Why>, AllocError>
+    requires { AreGathered leaf.now places.now rows.now }
     ensures { IfOk result (λ found. FindsIn
         (λ (place : Place). HoldsPlace program.now leaf.now (shown_place place))
         (λ (place : Place). FailsPlace program.now leaf.now (shown_place place)) places.now found) }
 {
-    for place in places {
-        if let Some(why) = place_fault(alloc, program, leaf, place)? {
+    for n in 0..places.len() {
+        if let Some(why) = place_fault(alloc, program, leaf, &places[n], runs_at(rows, n))? {
             return Ok(Some(why));
         }
     }
@@ -227,7 +137,8 @@ fn places_fault(alloc: Global, program: &Program, leaf: &Leaf) -> Result<Option<
         (HoldsEach program.now leaf.now) (FailsEach program.now leaf.now)) }
 {
     let list = places(alloc, program.types.as_slice(), &leaf.prov)?;
-    some_place_fault(alloc, program, leaf, list.as_slice())
+    let rows = runs_of(alloc, leaf, list.as_slice())?;
+    some_place_fault(alloc, program, leaf, list.as_slice(), rows.as_slice())
 }
 
 // How a path fails to be that of an open position.

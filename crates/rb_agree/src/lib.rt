@@ -36,9 +36,20 @@
 //!
 //! Missing values and common ones are found by the search in matrices of patterns; two provenances that
 //! have different constructors in one place are told apart before it is asked.
+//!
+//! A file may have thousands of leaves, literals, positions or types, so no rule looks at all pairs of them:
+//!
+//! | module | what it spares |
+//! |---|---|
+//! | `sharing` | comparing all pairs of leaves: they are grouped by their constructors at the place that tells most apart, and compared in their groups |
+//! | `passing` | going through a whole tree of splits for each leaf: in one walk each leaf is asked what the splits above it ask |
+//! | `alike` | asking a leaf for each literal beside an `else`, where one that is alike there excludes them all |
+//! | `runs`, `search` | looking through all parts for each open position: each part's position is looked up, and gets its run |
+//! | `order` | a search for a cycle from each type: one walk finds an order, and no cycle is where all edges lead down |
 #![tactic(auto)]
 
 pub mod agree;
+mod alike;
 pub mod blocks;
 mod cycles;
 pub mod fault;
@@ -47,12 +58,15 @@ pub mod held;
 pub mod items;
 mod leaves;
 mod numbers;
+mod order;
 pub mod parts;
 mod passing;
 pub mod pointers;
 pub mod positions;
 pub mod roots;
 mod rules;
+mod runs;
+mod search;
 pub mod shapes;
 mod sharing;
 pub mod splits;

@@ -10,17 +10,19 @@
 //!
 //! Leaf 0 is asked for the outer 0. Below the outer 1, leaf 1 is asked for the inner 0 and leaf 2 for the
 //! inner 1, and then both for the outer 1. A leaf is asked as often as splits stand above it, where a walk
-//! of its own for each leaf goes through the whole tree each time.
+//! of its own for each leaf goes through the whole tree each time. Below an `else`, where it is asked for
+//! each literal of the arms, a leaf that is alike to one that excludes them all is not asked again.
 
-ghost use Rattle.std.specs.Prelude.{IfOk, OnOk};
+ghost use Rattle.std.specs.Prelude.{IfOk, None, OnOk};
 ghost use Rattle.std.specs.Bool.{OnTrue};
 ghost use Rattle.rb_layout.specs.A7.{Meets};
 ghost use Rattle.rb_layout.specs.Readable.{IsReadable};
 ghost use Rattle.rb_layout.specs.Splits.{routes_of};
 ghost use Rattle.rb_agree.specs.inner.Lists.{EachOf};
-ghost use Rattle.rb_agree.specs.inner.Passing.{AreAsked, AreWalked, Covers, IsAsked, IsOff, Keeps, PassWhereOff, test_at};
+ghost use Rattle.rb_agree.specs.inner.Passing.{AreAsked, AreWalked, Covers, IsAsked, IsLike, IsOff, IsPrior, Keeps, PassWhereOff, test_at};
 ghost use Rattle.rb_agree.specs.inner.Tests.{arms_routes};
 
+use crate::alike::are_alike;
 use crate::cycles::no_marks;
 use crate::tests::{else_fault, literal_fault};
 use rb_core::layout_decl::Loc;
@@ -64,27 +66,56 @@ fn mark(marks: &mut Seq<bool>, n: usize)
     }
 }
 
-// Whether a leaf meets what a split asks: to have a literal, or to exclude those of all arms.
+// Whether a leaf is alike at a location to one with this number.
+fn is_like(
+    types: &[DataDecl],
+    leaves: &[Leaf],
+    leaf: &Leaf,
+    loc: &Loc,
+    prior: Option<usize>,
+) -> bool
+    ensures { OnTrue result (IsLike types.now leaves.now leaf.now loc.now prior) }
+{
+    match prior {
+        None => false,
+        Some(n) => match leaves.get(n) {
+            None => false,
+            Some(one) => are_alike(types, one, leaf, loc),
+        },
+    }
+}
+
+// Whether a leaf meets what a split asks: to have a literal, or to exclude those of all arms, as one that
+// is alike may be known to do.
 fn meets(
     alloc: Global,
     types: &[DataDecl],
     layouts: &[Layout],
+    leaves: &[Leaf],
     leaf: &Leaf,
     loc: &Loc,
     arms: &[FlatArm],
     literal: Option<u64>,
+    prior: Option<usize>,
 ) -> Result<bool, AllocError>
-    requires { IsReadable leaf.now }
+    requires readable { IsReadable leaf.now }
+    requires prior { IsPrior types.now layouts.now leaves.now (test_at loc.now arms.now None) prior }
     ensures { IfOk result
         (λ b. OnTrue b (Meets types.now layouts.now leaf.now (test_at loc.now arms.now literal))) }
 {
     match literal {
         Some(number) => Ok(literal_fault(alloc, types, layouts, leaf, loc, number)?.is_none()),
-        None => Ok(else_fault(alloc, types, layouts, leaf, loc, arms)?.is_none()),
+        None => {
+            if is_like(types, leaves, leaf, loc, prior) {
+                return Ok(true);
+            }
+            Ok(else_fault(alloc, types, layouts, leaf, loc, arms)?.is_none())
+        }
     }
 }
 
-// Marks leaf `n` where it fails what a split asks.
+// Marks leaf `n` where it fails what a split asks, and answers the number of a leaf that is known to
+// exclude the literals of all arms, if there is one.
 fn ask(
     alloc: Global,
     types: &[DataDecl],
@@ -93,21 +124,29 @@ fn ask(
     loc: &Loc,
     arms: &[FlatArm],
     literal: Option<u64>,
+    prior: Option<usize>,
     n: usize,
     marks: &mut Seq<bool>,
-) -> Result<(), AllocError>
-    requires { EachOf IsReadable leaves.now }
-    ensures { OnOk result
+) -> Result<Option<usize>, AllocError>
+    requires readable { EachOf IsReadable leaves.now }
+    requires prior { IsPrior types.now layouts.now leaves.now (test_at loc.now arms.now None) prior }
+    ensures asked { OnOk result
         (IsAsked types.now layouts.now leaves.now (test_at loc.now arms.now literal) n marks.old marks.new) }
+    ensures prior { IfOk result (IsPrior types.now layouts.now leaves.now (test_at loc.now arms.now None)) }
 {
     let Some(leaf) = leaves.get(n) else {
-        return Ok(());
+        return Ok(prior);
     };
-    if meets(alloc, types, layouts, leaf, loc, arms, literal)? {
-        return Ok(());
+    if meets(
+        alloc, types, layouts, leaves, leaf, loc, arms, literal, prior,
+    )? {
+        return match literal {
+            None => Ok(Some(n)),
+            Some(_) => Ok(prior),
+        };
     }
     mark(marks, n);
-    Ok(())
+    Ok(prior)
 }
 
 // Marks those of these leaves that fail what a split asks.
@@ -126,8 +165,11 @@ fn ask_all(
     ensures { OnOk result
         (AreAsked types.now layouts.now leaves.now (test_at loc.now arms.now literal) span marks.old marks.new) }
 {
+    let mut prior = None;
     for n in span.first..span.end {
-        ask(alloc, types, layouts, leaves, loc, arms, literal, n, marks)?;
+        prior = ask(
+            alloc, types, layouts, leaves, loc, arms, literal, prior, n, marks,
+        )?;
     }
     Ok(())
 }

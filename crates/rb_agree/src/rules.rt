@@ -1,9 +1,12 @@
 //! The rules behind that on shapes, each at its places in their order: by type, and in a type those
 //! without a leaf before those with one.
 
-ghost use Rattle.std.specs.Prelude.{◌≡◌, ℕ, IfOk, List, None, Option, Some, slice_get};
+ghost use Rattle.std.specs.Prelude.{◌≡◌, ℕ, IfOk, List, MatchOption, None, Option, Some, slice_get};
 ghost use Rattle.std.specs.Bool.{OnTrue};
 ghost use Rattle.rb_layout.specs.declared.layout.Layout.{Layout};
+ghost use Rattle.rb_layout.specs.A9.{FailsFlattening, Flattens};
+ghost use Rattle.rb_layout.specs.A10.{FailsHolding, HoldsField};
+ghost use Rattle.rb_layout.specs.Cycles.{HasNoCycle};
 ghost use Rattle.rb_layout.specs.Items.{items_of, leaves_in};
 ghost use Rattle.rb_layout.specs.Flattening.{decl_of};
 ghost use Rattle.rb_layout.specs.Positions.{layout_of};
@@ -69,6 +72,10 @@ pub struct Related {
     pub flattened: Seq<Seq<u32>>,
     /// For each type those of whose fields its root words have words.
     pub held: Seq<Seq<u32>>,
+    /// Whether flattening is known to have no cycle.
+    pub flattens_in_order: bool,
+    /// Whether holding in root words is known to have no cycle.
+    pub holds_in_order: bool,
 }
 
 fn rule_number(rule: Rule) -> u8
@@ -222,6 +229,49 @@ fn doubted_fault(
     )
 }
 
+// A cycle of flattening through a type: it is searched for where it is not known that there is none.
+fn flat_cycle(
+    alloc: Global,
+    program: &Program,
+    layouts: &[Layout],
+    related: &Related,
+    ty: u32,
+) -> Result<Option<Why>, AllocError>
+    requires { IsKnown program.now layouts.now related.now }
+    ensures { IfOk result (λ found. MatchOption found
+        (HasNoCycle (Flattens layouts.now) ty) (FailsFlattening layouts.now ty)) }
+{
+    if related.flattens_in_order {
+        return Ok(None);
+    }
+    flattening_fault(alloc, layouts, related.flattened.as_slice(), ty)
+}
+
+// A cycle of holding through a type, likewise.
+fn hold_cycle(
+    alloc: Global,
+    program: &Program,
+    layouts: &[Layout],
+    related: &Related,
+    ty: u32,
+) -> Result<Option<Why>, AllocError>
+    requires { IsKnown program.now layouts.now related.now }
+    ensures { IfOk result (λ found. MatchOption found
+        (HasNoCycle (HoldsField program.now.types layouts.now) ty)
+        (FailsHolding program.now.types layouts.now ty)) }
+{
+    if related.holds_in_order {
+        return Ok(None);
+    }
+    holding_fault(
+        alloc,
+        program.types.as_slice(),
+        layouts,
+        related.held.as_slice(),
+        ty,
+    )
+}
+
 // How a type fails a rule at no leaf.
 fn type_fault(
     alloc: Global,
@@ -245,14 +295,8 @@ fn type_fault(
         Rule::Fields => Ok(None),
         Rule::Tests => Ok(None),
         Rule::Splits => splits_fault(alloc, layout),
-        Rule::Flattening => flattening_fault(alloc, layouts, related.flattened.as_slice(), ty),
-        Rule::Holding => holding_fault(
-            alloc,
-            program.types.as_slice(),
-            layouts,
-            related.held.as_slice(),
-            ty,
-        ),
+        Rule::Flattening => flat_cycle(alloc, program, layouts, related, ty),
+        Rule::Holding => hold_cycle(alloc, program, layouts, related, ty),
     }
 }
 

@@ -16,7 +16,7 @@ use Rattle.rb_layout.specs.Positions.{Open, open_positions}
 use Rattle.rb_layout.specs.Flattening.{same_path, IsOpenIn}
 use Rattle.rb_layout.specs.Items.{content_paths}
 use Rattle.rb_layout.specs.A6.{held, units_of}
-use Rattle.rb_agree.specs.declared.held.Run.{Run}
+use Rattle.rb_agree.specs.declared.runs.Run.{Run}
 use Rattle.rb_agree.specs.declared.items.Written.{Written}
 use Rattle.rb_agree.specs.Written.{shown_part}
 use Rattle.rb_agree.specs.inner.Lists.{SomeOf}

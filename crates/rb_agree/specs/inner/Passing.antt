@@ -8,6 +8,7 @@ use Rattle.rb_layout.specs.declared.layout.FlatArm.{FlatArm}
 use Rattle.rb_layout.specs.Splits.{Test, Is, IsNone, Route}
 use Rattle.rb_layout.specs.A7.{Meets, MeetsAll}
 use Rattle.rb_agree.specs.declared.passing.Span.{Span}
+use Rattle.rb_agree.specs.inner.Alike.{AreAlike}
 use Rattle.rb_agree.specs.inner.Lists.{EachOf}
 use Rattle.rb_agree.specs.inner.Splits.{literals_in}
 
@@ -35,6 +36,11 @@ module _ (types : List DataDecl) (layouts : List Layout) (leaves : List Leaf) wh
   abbrev pub MeetsWhereOff : List Bool → ℕ → Test → Type 0
   MeetsWhereOff marks n test = IsOff marks n → (leaf : Leaf) → slice_get leaves n ≡ Some leaf → Meets types layouts leaf test
 
+  -- a leaf with this number, if there is one, meets the test
+  abbrev pub IsPrior : Test → Option ℕ → Type 0
+  IsPrior test None = Unit {0}
+  IsPrior test (Some n) = (leaf : Leaf) → slice_get leaves n ≡ Some leaf → Meets types layouts leaf test
+
   -- a leaf was asked
   pub record IsAsked (test : Test) (n : ℕ) (old new : List Bool) : Type 0 where
     pub keeps : Keeps old new
@@ -50,6 +56,10 @@ module _ (types : List DataDecl) (layouts : List Layout) (leaves : List Leaf) wh
     pub among : EachOf (λ (r : Route). IsAmong span r.leaf) routes
     pub keeps : Keeps old new
     pub meet : EachOf (λ (r : Route). EachOf (MeetsWhereOff new r.leaf) r.tests) routes
+
+-- a leaf is alike at a location to the one with this number
+abbrev pub IsLike : List DataDecl → List Leaf → Leaf → Loc → Option ℕ → Type 0
+IsLike types leaves leaf loc prior = (n : ℕ) × (one : Leaf) × (prior ≡ Some n) × (slice_get leaves n ≡ Some one) × AreAlike types one leaf loc
 
 -- each leaf whose mark is off passes the tests on each way to it
 abbrev pub PassWhereOff : List DataDecl → List Layout → Layout → List Bool → Type 0

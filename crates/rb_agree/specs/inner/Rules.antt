@@ -1,5 +1,6 @@
 -- The rules behind that on shapes, each with its places.
 use Rattle.std.specs.Prelude.{◌≡◌, ℕ, List, [], ◌∷◌, ◌++◌, length, Bool, Option, Some, None, slice_get}
+use Rattle.std.specs.Bool.{OnTrue}
 use Rattle.std.specs.List.{flat_map}
 use Rattle.rb_core.specs.declared.layout_decl.LayoutDecl.{LayoutDecl}
 use Rattle.rb_core.specs.declared.program.Program.{Program}
@@ -9,6 +10,7 @@ use Rattle.rb_layout.specs.declared.layout.Leaf.{Leaf}
 use Rattle.rb_layout.specs.declared.evidence.Why.{Why}
 use Rattle.rb_layout.specs.declared.evidence.Refused.{Refused}
 use Rattle.rb_layout.specs.Items.{items_of}
+use Rattle.rb_layout.specs.Cycles.{HasNoCycle}
 use Rattle.rb_layout.specs.Each.{EachLeaf}
 use Rattle.rb_layout.specs.Readable.{IsReadable}
 use Rattle.rb_layout.specs.A9.{Flattens}
@@ -95,6 +97,8 @@ pub record IsKnown (p : Program) (layouts : List Layout) (related : Related) : T
   pub marks : AreMarks layouts related.marks
   pub flattened : IsGraphOf (Flattens layouts) related.flattened
   pub held : IsGraphOf (HoldsField p.types layouts) related.held
+  pub flattens_in_order : OnTrue related.flattens_in_order ((t : ℕ) → HasNoCycle (Flattens layouts) t)
+  pub holds_in_order : OnTrue related.holds_in_order ((t : ℕ) → HasNoCycle (HoldsField p.types layouts) t)
 
 -- at each leaf whose mark is off the rule holds
 abbrev pub HoldsWhereOff : Program → List Layout → Rule → ℕ → Layout → List Bool → Type 0

@@ -4,5 +4,5 @@ use Rattle.rb_agree.specs.inner.Lists.{EachBefore}
 use Rattle.rb_agree.specs.inner.Held.{HoldsPlace}
 use Rattle.rb_agree.proofs.held.some_place_fault.Given as goal
 
-abbrev pub invariant-loop-place : goal.invariant-loop-place
-invariant-loop-place l = EachBefore (λ (place : Place). HoldsPlace l.program l.leaf (shown_place place)) l.places l.place-index
+abbrev pub invariant-loop-n : goal.invariant-loop-n
+invariant-loop-n l = EachBefore (λ (place : Place). HoldsPlace l.program l.leaf (shown_place place)) l.places l.n

@@ -1,11 +1,7 @@
-use Rattle.std.proofs.Common.{ℕ, List, Option, IfOk, refl, sym, subst}
+use Rattle.std.proofs.Common.{List, Option, IfOk, refl, subst}
 use Rattle.std.specs.Prelude.{MatchOption}
 use Rattle.rb_core.specs.declared.types.DataDecl.{DataDecl}
-use Rattle.rb_layout.specs.Cycles.{HasNoCycle}
 use Rattle.rb_layout.specs.A5.{FailsComplete, IsComplete}
-use Rattle.rb_layout.specs.A10.{FailsHolding, HoldsField}
-use Rattle.rb_layout.specs.A9.{Flattens}
-use Rattle.rb_agree.specs.Graphs.{IsGraphOf}
 use Rattle.rb_layout.specs.Spots as S
 use Rattle.rb_layout.specs.declared.evidence.Why.{Why}
 use Rattle.rb_agree.specs.declared.rules.Rule.TheVariants.{Roots, Parts, Blocks, Values, Fields, Tests, Splits, Flattening, Holding}
@@ -39,13 +35,11 @@ returns-in-Splits c =
 
 pub returns-in-Flattening : goal.returns-in-Flattening
 returns-in-Flattening c =
-    type-one c.args.program.now c.args.layouts.now c.args.ty c.args.layout.now c.args.rule Flattening (S.Flattening c.args.ty) c.in-Flattening.is refl refl c.flattening_fault.result c.flattening_fault.ensures
+    type-one c.args.program.now c.args.layouts.now c.args.ty c.args.layout.now c.args.rule Flattening (S.Flattening c.args.ty) c.in-Flattening.is refl refl c.flat_cycle.result c.flat_cycle.ensures
 
 pub returns-in-Holding : goal.returns-in-Holding
 returns-in-Holding c =
-    type-one c.args.program.now c.args.layouts.now c.args.ty c.args.layout.now c.args.rule Holding (S.Holding c.args.ty) c.in-Holding.is refl refl c.holding_fault.result
-    (subst (λ (ts : List DataDecl). IfOk c.holding_fault.result (λ (x : Option Why). MatchOption x (HasNoCycle (HoldsField ts c.args.layouts.now) c.args.ty) (FailsHolding ts c.args.layouts.now c.args.ty)))
-    c.as_slice-in-Holding.ensures c.holding_fault.ensures)
+    type-one c.args.program.now c.args.layouts.now c.args.ty c.args.layout.now c.args.rule Holding (S.Holding c.args.ty) c.in-Holding.is refl refl c.hold_cycle.result c.hold_cycle.ensures
 
 pub complete_fault-requires-clause-inhabited : goal.complete_fault-requires-clause-inhabited
 complete_fault-requires-clause-inhabited c = inhabited c.args.program.now c.as_slice.result.now c.as_slice.ensures c.requires.known.typed
@@ -53,11 +47,3 @@ complete_fault-requires-clause-inhabited c = inhabited c.args.program.now c.as_s
 pub complete_fault-requires-clause-ty : goal.complete_fault-requires-clause-ty
 complete_fault-requires-clause-ty c =
     type-in c.args.program.now c.args.layouts.now c.args.related.now c.as_slice.result.now c.args.ty c.args.layout.now c.as_slice.ensures c.requires.known c.requires.layout
-
-pub flattening_fault-requires : goal.flattening_fault-requires
-flattening_fault-requires c = subst (λ (g : List (List ℕ)). IsGraphOf (Flattens c.args.layouts.now) g) (sym c.as_slice-in-Flattening.ensures) c.requires.known.flattened
-
-pub holding_fault-requires : goal.holding_fault-requires
-holding_fault-requires c =
-    subst (λ (ts : List DataDecl). IsGraphOf (HoldsField ts c.args.layouts.now) c.as_slice-in-Holding-2.result.now) (sym c.as_slice-in-Holding.ensures)
-    (subst (λ (g : List (List ℕ)). IsGraphOf (HoldsField c.args.program.now.types c.args.layouts.now) g) (sym c.as_slice-in-Holding-2.ensures) c.requires.known.held)

@@ -1,0 +1,54 @@
+-- Leaves whose parts are alike in a range of a root word, so that they exclude the same numbers there.
+use Rattle.std.specs.Prelude.{◌≡◌, ◌⊎◌, ℕ, ◌+◌, ◌≤◌, List, [], length, Some, slice_get}
+use Rattle.rb_core.specs.declared.types.DataDecl.{DataDecl}
+use Rattle.rb_core.specs.declared.pattern.Pat.{Pat}
+use Rattle.rb_core.specs.declared.layout_decl.Loc.{Loc}
+use Rattle.rb_layout.specs.declared.layout.Leaf.{Leaf}
+use Rattle.rb_layout.specs.declared.layout.FlatWord.{FlatWord}
+use Rattle.rb_layout.specs.declared.layout.Part.{Part}
+use Rattle.rb_layout.specs.declared.layout.Kind.{Kind}
+use Rattle.rb_layout.specs.declared.layout.Kind.TheVariants.{Const, Bits, Word, Pointer}
+use Rattle.rb_layout.specs.Positions.{open_positions}
+use Rattle.rb_layout.specs.Flattening.{type_at}
+
+-- a part has a bit, and none in the range [o:l]
+abbrev pub IsBeside : ℕ → ℕ → Part → Type 0
+IsBeside o l p = (1 ≤ p.l) × ((p.o + p.l ≤ o) ⊎ (o + l ≤ p.o))
+
+module _ (types : List DataDecl) (one other : Pat) where
+  -- they hold the same number, or each a pointer, or each bits, or the same word of fields of one type
+  abbrev pub AreKinds : Kind → Kind → Type 0
+  AreKinds (Const c) (Const d) = c ≡ d
+  AreKinds (Const c) (Bits q b) = ⊥
+  AreKinds (Const c) (Word q k) = ⊥
+  AreKinds (Const c) (Pointer a b) = ⊥
+  AreKinds (Bits p a) (Const d) = ⊥
+  AreKinds (Bits p a) (Bits q b) = Unit {0}
+  AreKinds (Bits p a) (Word q k) = ⊥
+  AreKinds (Bits p a) (Pointer b c) = ⊥
+  AreKinds (Word p j) (Const d) = ⊥
+  AreKinds (Word p j) (Bits q b) = ⊥
+  AreKinds (Word p j) (Word q k) = (j ≡ k) × (type_at (open_positions types one) p ≡ type_at (open_positions types other) q)
+  AreKinds (Word p j) (Pointer b c) = ⊥
+  AreKinds (Pointer a b) (Const d) = ⊥
+  AreKinds (Pointer a b) (Bits q c) = ⊥
+  AreKinds (Pointer a b) (Word q k) = ⊥
+  AreKinds (Pointer a b) (Pointer c d) = Unit {0}
+
+  -- two parts lie beside the range, or take the same bits and are of one kind
+  abbrev pub IsPartAlike : ℕ → ℕ → Part → Part → Type 0
+  IsPartAlike o l p q = (IsBeside o l p × IsBeside o l q) ⊎ ((p.o ≡ q.o) × (p.l ≡ q.l) × AreKinds p.kind q.kind)
+
+  abbrev pub ArePartsAlike : ℕ → ℕ → List Part → List Part → Type 0
+  ArePartsAlike o l ps qs = (length ps ≡ length qs)
+      × ((k : ℕ) (p q : Part) → slice_get ps k ≡ Some p → slice_get qs k ≡ Some q → IsPartAlike o l p q)
+
+-- the location is one of a root word, whose parts are alike in the range
+pub record AreAlike (types : List DataDecl) (one other : Leaf) (loc : Loc) : Type 0 where
+  pub root : loc.steps ≡ []
+  pub first : FlatWord
+  pub second : FlatWord
+  pub is_first : slice_get one.root loc.word ≡ Some first
+  pub is_second : slice_get other.root loc.word ≡ Some second
+  pub width : first.width ≡ second.width
+  pub parts : ArePartsAlike types one.prov other.prov loc.o loc.l first.parts second.parts

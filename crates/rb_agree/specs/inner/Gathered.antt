@@ -1,0 +1,57 @@
+-- What the parts of a leaf hold of each of its open positions, a row of runs for each.
+use Rattle.std.specs.Prelude.{◌≡◌, ℕ, ◌&&◌, List, [], ◌∷◌, ◌++◌, length, Bool, true, false, Some, slice_get, slice_index_or, if◌then◌else◌}
+use Rattle.std.specs.List.{flat_map}
+use Rattle.rb_core.specs.declared.types.Ty.{Ty}
+use Rattle.rb_core.specs.declared.types.Ty.TheVariants.{Int, Named}
+use Rattle.rb_layout.specs.declared.layout.Leaf.{Leaf}
+use Rattle.rb_layout.specs.declared.layout.Block.{Block}
+use Rattle.rb_layout.specs.declared.layout.FlatWord.{FlatWord}
+use Rattle.rb_layout.specs.declared.layout.Part.{Part}
+use Rattle.rb_layout.specs.Flattening.{same_path}
+use Rattle.rb_agree.specs.declared.positions.Place.{Place}
+use Rattle.rb_agree.specs.declared.runs.Run.{Run}
+use Rattle.rb_agree.specs.inner.Held.{block_runs, leaf_runs, part_runs, word_runs}
+
+-- what is held of the position of each type at each path
+abbrev pub Runs : Type 0
+Runs = Ty → List ℕ → List Run
+
+abbrev pub parts_runs : List Part → Runs
+parts_runs parts ty path = flat_map (part_runs ty path) parts
+
+abbrev pub words_runs : List FlatWord → Runs
+words_runs words ty path = flat_map (word_runs ty path) words
+
+abbrev pub blocks_runs : List Block → Runs
+blocks_runs blocks ty path = flat_map (block_runs ty path) blocks
+
+-- whether units of a type are words, of a data type, or bits
+abbrev pub has_words : Ty → Bool
+has_words (Int bits) = false
+has_words (Named s) = true
+
+abbrev pub same_units : Bool → Bool → Bool
+same_units true b = b
+same_units false true = false
+same_units false false = true
+
+-- a run of words or of bits at a path
+abbrev pub run_there : List ℕ → Bool → Run → Runs
+run_there there words run ty path = if same_units words (has_words ty) && same_path there path then run ∷ [] else []
+
+abbrev pub row : List (List Run) → ℕ → List Run
+row rows n = slice_index_or rows n []
+
+-- the row of each position grows by what is held of it
+pub record Gathers (places : List Place) (runs : Runs) (old new : List (List Run)) : Type 0 where
+  pub count : length new ≡ length old
+  pub each : (n : ℕ) (place : Place) → slice_get places n ≡ Some place → row new n ≡ row old n ++ runs place.ty place.path
+
+-- so many empty rows
+pub record AreNone (count : ℕ) (rows : List (List Run)) : Type 0 where
+  pub count_is : length rows ≡ count
+  pub each : (n : ℕ) → row rows n ≡ []
+
+-- the row of each position is what the leaf holds of it
+abbrev pub AreGathered : Leaf → List Place → List (List Run) → Type 0
+AreGathered leaf places rows = (n : ℕ) (place : Place) → slice_get places n ≡ Some place → row rows n ≡ leaf_runs leaf place.ty place.path
