@@ -1,9 +1,13 @@
 pub mod AnswerLemmas
+pub mod CompletingLemmas
 pub mod DefiningLemmas
+pub mod DerivingLemmas
+pub mod DistinctNumbers
 pub mod Dropping
 pub mod Examples
 pub mod ExpressionEquations
 pub mod Inverting
+pub mod LeftLemmas
 pub mod ListLemmas
 pub mod PartLemmas
 pub mod PatternEquations
@@ -12,6 +16,7 @@ pub mod ScopeLemmas
 pub mod TableLemmas
 pub mod TablesLemmas
 pub mod WellData
+pub mod WellDerived
 pub mod WellExpressions
 pub mod WellFunctions
 pub mod WellItems

@@ -63,10 +63,10 @@ module _ (t : Tables) where
   numbered-arm : (a : ArmTree) → numbered_arm t a ≡ and_then (numbered_split t a.under) (λ u. Ok (record { literal = a.literal; under = u }))
   numbered-arm a = fold_out-ArmTree (Resolved LayTree) (Resolved Arm) (split_step t) arm_step a
 
-abbrev tree_short : LayTree → Bool
+abbrev pub tree_short : LayTree → Bool
 tree_short = fold-LayTree Bool Bool tree_step arm_is_short
 
-abbrev under_short : Arm → Bool
+abbrev pub under_short : Arm → Bool
 under_short = fold-Arm Bool Bool tree_step arm_is_short
 
 leaves-Leaf : (at : ℕ) (p : Pat) (items : List LayItem) → leaves (L.Leaf at p items) ≡ record { provenance = p; items = items } ∷ []
@@ -84,11 +84,11 @@ leaves-Some loc arms other = fold-roll-LayTree (List WrittenLeaf) (List WrittenL
 leaves-arm : (a : Arm) → leaves_under a ≡ leaves a.under
 leaves-arm a = fold_out-Arm (List WrittenLeaf) (List WrittenLeaf) leaves_step arm_leaves a
 
-short-Leaf : (at : ℕ) (p : Pat) (items : List LayItem) → tree_short (L.Leaf at p items) ≡ leaf_is_short items
+pub short-Leaf : (at : ℕ) (p : Pat) (items : List LayItem) → tree_short (L.Leaf at p items) ≡ leaf_is_short items
 unfolding L.roll-LayTree denote.Hole.Carrier.roll
 short-Leaf at p items = fold-roll-LayTree Bool Bool tree_step arm_is_short (T.Leaf at p items)
 
-short-None : (loc : Loc) (arms : List Arm) → tree_short (L.Split loc arms None) ≡ tree_step (T.Split loc (map under_short arms) None)
+pub short-None : (loc : Loc) (arms : List Arm) → tree_short (L.Split loc arms None) ≡ tree_step (T.Split loc (map under_short arms) None)
 unfolding L.roll-LayTree denote.Hole.Carrier.roll
 short-None loc arms = fold-roll-LayTree Bool Bool tree_step arm_is_short (T.Split loc arms None)
 
@@ -96,7 +96,7 @@ short-Some : (loc : Loc) (arms : List Arm) (other : LayTree) → tree_short (L.S
 unfolding L.roll-LayTree denote.Hole.Carrier.roll
 short-Some loc arms other = fold-roll-LayTree Bool Bool tree_step arm_is_short (T.Split loc arms (Some other))
 
-short-arm : (a : Arm) → under_short a ≡ tree_short a.under
+pub short-arm : (a : Arm) → under_short a ≡ tree_short a.under
 short-arm a = fold_out-Arm Bool Bool tree_step arm_is_short a
 
 -- Lists of leaves.

@@ -29,13 +29,13 @@ use Rattle.rb_names.proofs.WellLists.{Each, each-of, each-passes, both, length-o
 use Rattle.rb_names.proofs.WellProvenances.{at_level-of, short-of}
 
 -- an item, a kind and a part as they are counted
-abbrev kind_counted : PartKind → lay.Written
+abbrev pub kind_counted : PartKind → lay.Written
 kind_counted = fold-PartKind lay.Written lay.Written lay.Written item_step kind_step part_step
 
-abbrev part_counted : PartDecl → lay.Written
+abbrev pub part_counted : PartDecl → lay.Written
 part_counted = fold-PartDecl lay.Written lay.Written lay.Written item_step kind_step part_step
 
-counted-Word : (bits : ℕ) (parts : List PartDecl) → written (I.Word bits parts) ≡ written_round 1 0 (map part_counted parts)
+pub counted-Word : (bits : ℕ) (parts : List PartDecl) → written (I.Word bits parts) ≡ written_round 1 0 (map part_counted parts)
 unfolding I.roll-LayItem denote.Hole.Carrier.roll
 counted-Word bits parts = fold-roll-LayItem lay.Written lay.Written lay.Written item_step kind_step part_step (item.LayItem::Word bits parts)
 
@@ -43,14 +43,14 @@ counted-Inline : (path : List ℕ) → written (I.Inline path) ≡ item_step (it
 unfolding I.roll-LayItem denote.Hole.Carrier.roll
 counted-Inline path = fold-roll-LayItem lay.Written lay.Written lay.Written item_step kind_step part_step (item.Inline path)
 
-counted-part : (p : PartDecl) → part_counted p ≡ record { items = (kind_counted p.kind).items; parts = (kind_counted p.kind).parts + 1; short = (kind_counted p.kind).short }
+pub counted-part : (p : PartDecl) → part_counted p ≡ record { items = (kind_counted p.kind).items; parts = (kind_counted p.kind).parts + 1; short = (kind_counted p.kind).short }
 counted-part p = fold_out-PartDecl lay.Written lay.Written lay.Written item_step kind_step part_step p
 
-counted-Const : (c : ℕ) → kind_counted (K.Const c) ≡ written_path []
+pub counted-Const : (c : ℕ) → kind_counted (K.Const c) ≡ written_path []
 unfolding V.roll-PartKind denote.Hole.Carrier.roll
 counted-Const c = fold-roll-PartKind lay.Written lay.Written lay.Written item_step kind_step part_step (item.Const c)
 
-counted-Whole : (path : List ℕ) → kind_counted (K.Whole path) ≡ written_path path
+pub counted-Whole : (path : List ℕ) → kind_counted (K.Whole path) ≡ written_path path
 unfolding V.roll-PartKind denote.Hole.Carrier.roll
 counted-Whole path = fold-roll-PartKind lay.Written lay.Written lay.Written item_step kind_step part_step (item.Whole path)
 
@@ -58,19 +58,19 @@ counted-Slice : (path : List ℕ) (first bits : ℕ) → kind_counted (K.Slice p
 unfolding V.roll-PartKind denote.Hole.Carrier.roll
 counted-Slice path first bits = fold-roll-PartKind lay.Written lay.Written lay.Written item_step kind_step part_step (item.Slice path first bits)
 
-counted-PartWord : (path : List ℕ) (j : ℕ) → kind_counted (K.Word path j) ≡ written_path path
+pub counted-PartWord : (path : List ℕ) (j : ℕ) → kind_counted (K.Word path j) ≡ written_path path
 unfolding V.roll-PartKind denote.Hole.Carrier.roll
 counted-PartWord path j = fold-roll-PartKind lay.Written lay.Written lay.Written item_step kind_step part_step (item.PartKind::Word path j)
 
-counted-Pointer : (align : ℕ) (items : List LayItem) → kind_counted (K.Pointer align items) ≡ written_round 0 0 (map written items)
+pub counted-Pointer : (align : ℕ) (items : List LayItem) → kind_counted (K.Pointer align items) ≡ written_round 0 0 (map written items)
 unfolding V.roll-PartKind denote.Hole.Carrier.roll
 counted-Pointer align items = fold-roll-PartKind lay.Written lay.Written lay.Written item_step kind_step part_step (item.Pointer align items)
 
-abbrev counted : lay.Written → ℕ
+abbrev pub counted : lay.Written → ℕ
 counted c = c.items + c.parts
 
 -- items and parts in all
-counted-all : {A : Type 0} (f : A → lay.Written) (xs : List A)
+pub counted-all : {A : Type 0} (f : A → lay.Written) (xs : List A)
     → sum_by (λ (c : lay.Written). c.items) (map f xs) + sum_by (λ (c : lay.Written). c.parts) (map f xs) ≡ sum_by (λ x. counted (f x)) xs
 counted-all f [] = refl
 counted-all f (x ∷ xs) = omega (
@@ -129,7 +129,7 @@ module _ (total : ℕ) (small : total < 2 ^ 32) where
 
   -- Items and kinds of parts.
 
-  abbrev OfItem : LayItem → Type 0
+  abbrev pub OfItem : LayItem → Type 0
   OfItem i = (written i).short ≡ true
 
   abbrev OfPart : PartDecl → Type 0
@@ -186,7 +186,7 @@ module _ (total : ℕ) (small : total < 2 ^ 32) where
   each-item l [] h = tt
   each-item l (i ∷ items) h = (h.0 l, each-item l items h.1)
 
-  short-round : {A : Type 0} (items parts : ℕ) (f : A → lay.Written) (xs : List A) → length xs ≤ total → Each (λ x. (f x).short ≡ true) xs
+  pub short-round : {A : Type 0} (items parts : ℕ) (f : A → lay.Written) (xs : List A) → length xs ≤ total → Each (λ x. (f x).short ≡ true) xs
       → (written_round items parts (map f xs)).short ≡ true
   short-round items parts f xs h g = both _ _ (short-of total small (map f xs) (omega (arith, h, length-of-map f xs)))
       (each-passes f (λ (c : lay.Written). c.short) xs g)
@@ -270,6 +270,13 @@ module _ (total : ℕ) (small : total < 2 ^ 32) where
   below_limit : (n : ℕ) → n ≤ total → nat_lt n (2 ^ 32) ≡ true
   below_limit n h = let k : n < 2 ^ 32 = omega (arith, h, small) in grind (arith, common_steps, k)
 
+  -- items that come to so few with what stands in them
+  pub few-short : (items : List LayItem) → length items ≤ total → sum_by (λ i. counted (written i)) items ≤ total → Each OfItem items → leaf_is_short items ≡ true
+  few-short items long few good =
+      both _ _ (short-round 0 0 written items long good)
+      (both _ _ (below_limit (0 + sum_by (λ (c : lay.Written). c.items) (map written items)) (omega (arith, few, counted-all written items)))
+      (below_limit (0 + sum_by (λ (c : lay.Written). c.parts) (map written items)) (omega (arith, few, counted-all written items))))
+
   pub leaf-well : (l : ℕ) (items : List LayItem) (rest : List Written) → Right total (some_with comma (map (item_at l) items) rest)
       → Leaf items (some_with comma (map (item_at l) items) rest) rest
   leaf-well l items rest r =
@@ -277,7 +284,5 @@ module _ (total : ℕ) (small : total < 2 ^ 32) where
       let v = a.1.well items (all-ok items) in record {
         right = a.1.right;
         count = omega (arith, a.0, a.1.count);
-        short = both _ _ (short-round 0 0 written items (omega (arith, a.1.count, r.fits)) v.good)
-            (both _ _ (below_limit (0 + sum_by (λ (c : lay.Written). c.items) (map written items)) (omega (arith, v.few, r.fits, counted-all written items)))
-            (below_limit (0 + sum_by (λ (c : lay.Written). c.parts) (map written items)) (omega (arith, v.few, r.fits, counted-all written items))));
+        short = few-short items (omega (arith, a.1.count, r.fits)) (omega (arith, v.few, r.fits)) v.good;
       }

@@ -27,7 +27,9 @@ use Rattle.rb_names.specs.Scopes.{param_binders, inside}
 use Rattle.rb_names.specs.Definitions.{Kind, OfType, OfConstructor, OfFunction, OfLayout, Definition, same_kind, same_definition, constructor_definition, layout_definition, definitions, first_again, defined_twice, types_in, functions_in, numbered_from, constructors_from, constructors_of, type_names, function_names, tables_of}
 use Rattle.rb_names.specs.Numbering.{Resolved, and_then, all_of, known, numbered_type, numbered_constructor, numbered_data, numbered_split, numbered_layout, numbered_function, numbered_param, numbered_expression}
 use Rattle.rb_names.specs.Programs.{with_type, with_layout, with_function, numbered_items, main_number}
+use Rattle.rb_names.specs.Completing.{left_in, numbers_of, with_number}
 use Rattle.rb_names.proofs.DefiningLemmas.{any-append}
+use Rattle.rb_names.proofs.DistinctNumbers.{AreDistinct, front-distinct, moved-distinct, moved-not-in}
 use Rattle.rb_names.proofs.Inverting.{then-ok, known-ok, ok-is}
 
 -- Parts that are all numbered.
@@ -171,18 +173,18 @@ below-lt n m h = grind (arith, common_steps, h)
 
 -- Distinct names -----------------------------------------------------------------------------
 
-bytes-symm : (xs ys : Name) → bytes_eq xs ys ≡ bytes_eq ys xs
+pub bytes-symm : (xs ys : Name) → bytes_eq xs ys ≡ bytes_eq ys xs
 bytes-symm xs ys = nat_list_eq_equiv.symm xs ys
 
-both-true : (a b : Bool) → (a && b) ≡ true → (a ≡ true) × (b ≡ true)
+pub both-true : (a b : Bool) → (a && b) ≡ true → (a ≡ true) × (b ≡ true)
 both-true true b e = (refl, e)
 both-true false b e = absurd cc
 
-both-false : (a b : Bool) → (a || b) ≡ false → (a ≡ false) × (b ≡ false)
+pub both-false : (a b : Bool) → (a || b) ≡ false → (a ≡ false) × (b ≡ false)
 both-false true b e = absurd cc
 both-false false b e = (refl, e)
 
-not-true : (b : Bool) → not b ≡ true → b ≡ false
+pub not-true : (b : Bool) → not b ≡ true → b ≡ false
 not-true true e = cc
 not-true false e = refl
 
@@ -312,19 +314,13 @@ module _ (types : List Name) where
   skip-type : (d : TypeTree) (ds : List Definition) → names_of OfLayout (definitions types (top.Types d) ++ ds) ≡ names_of OfLayout ds
   skip-type d ds = skip-constructors OfLayout refl d.cons ds
 
--- Layouts of distinct types have distinct types' numbers.
+-- Layouts of distinct types have distinct types' numbers: the written ones, and behind them those that are left to the compiler.
 module _ (t : Tables) (types : List Name)
     (named : (name : Name) (n : ℕ) → meaning t.types name ≡ Some n → list_any (bytes_eq name) types ≡ true)
     (one : (a b : Name) (n : ℕ) → meaning t.types a ≡ Some n → meaning t.types b ≡ Some n → bytes_eq a b ≡ true) where
   record Apart (names : List Name) (numbers : List ℕ) : Type 0 where
     absent : (q : Name) (n : ℕ) → meaning t.types q ≡ Some n → list_any (bytes_eq q) names ≡ false → list_any (nat_eq n) numbers ≡ false
     distinct : is_distinct bytes_eq names ≡ true → is_distinct nat_eq numbers ≡ true
-
-  apart-more : (names : List Name) (numbers : List ℕ) (name : Name) → Apart names numbers → Apart (name ∷ names) numbers
-  apart-more names numbers name a = record {
-    absent = λ q n m e. a.absent q n m (both-false (bytes_eq q name) (list_any (bytes_eq q) names) e).1;
-    distinct = λ e. a.distinct (both-true (not (list_any (bytes_eq name) names)) (is_distinct bytes_eq names) e).1;
-  }
 
   apart-both : (names : List Name) (numbers : List ℕ) (name : Name) (k : ℕ) → meaning t.types name ≡ Some k → Apart names numbers → Apart (name ∷ names) (k ∷ numbers)
   apart-both names numbers name k is a = record {
@@ -346,7 +342,19 @@ module _ (t : Tables) (types : List Name)
           true-false false p q = cc
       other q n m f false e = e
 
-  apart : (items : List ItemTree) (all : Items) → numbered_items t items ≡ Ok all → Apart (names_of OfLayout (defs types items)) (map (λ l. l.ty) all.layouts)
+  apart-inside : (names : List Name) (written left : List ℕ) (name : Name) (k : ℕ) → meaning t.types name ≡ Some k → Apart names (written ++ left)
+      → Apart (name ∷ names) (written ++ k ∷ left)
+  apart-inside names written left name k is a =
+      let b = apart-both names (written ++ left) name k is a in
+      record {
+        absent = λ q n m e. moved-not-in n k written left (b.absent q n m e);
+        distinct = λ e. moved-distinct k written left (b.distinct e);
+      }
+
+  abbrev laid : List ItemTree → Items → List ℕ
+  laid items all = map (λ l. l.ty) all.layouts ++ numbers_of t.types (left_in items)
+
+  apart : (items : List ItemTree) (all : Items) → numbered_items t items ≡ Ok all → Apart (names_of OfLayout (defs types items)) (laid items all)
   apart [] all e = rw (← ok-is _ all e) (record { absent = λ q n m f. refl; distinct = λ f. refl })
   apart (top.Types d ∷ items) all e =
       let a = then-ok (numbered_data t d) _ all e in
@@ -367,7 +375,9 @@ module _ (t : Tables) (types : List Name)
       rw (← ok-is (with_function a.0 b.0) all b.2) (apart items b.0 b.1)
   apart (top.Derived name auto ∷ items) all e =
       let a = then-ok (known name (meaning t.types name.text)) _ all e in
-      rw (layout-named types name (defs types items) (named name.text a.0 (known-ok name _ a.0 a.1))) (apart-more _ _ name.text (apart items all a.2))
+      let is : meaning t.types name.text ≡ Some a.0 = known-ok name _ a.0 a.1 in
+      rw (layout-named types name (defs types items) (named name.text a.0 is), is)
+      (apart-inside _ (map (λ l. l.ty) all.layouts) (numbers_of t.types (left_in items)) name.text a.0 is (apart items all a.2))
 
 number-named : (k : ℕ) (names : List Name) (name : Name) (n : ℕ) → meaning (numbered_from k names) name ≡ Some n → (k ≤ n) × (list_any (bytes_eq name) names ≡ true)
 number-named k [] name n e = absurd cc
@@ -395,7 +405,7 @@ module _ (items : List ItemTree) (all : Items) (found : numbered_items (tables_o
   abbrev t : Tables
   t = tables_of items
 
-  count-types : length all.types ≡ length (type_names items)
+  pub count-types : length all.types ≡ length (type_names items)
   count-types = all-length (numbered_data t) (types_in items) all.types (items-types t items all found) ∙ sym (length-map (types_in items) (λ (t : TypeTree). t.name.text))
 
   count-functions : length all.functions ≡ length (function_names items)
@@ -425,10 +435,13 @@ module _ (items : List ItemTree) (all : Items) (found : numbered_items (tables_o
     distinct-of : (k : Kind) → is_distinct bytes_eq (names_of k (defs (type_names items) items)) ≡ true
     distinct-of k = first-distinct k [] (defs (type_names items) items) once refl
 
+    pub distinct-names : is_distinct bytes_eq (type_names items) ≡ true
+    distinct-names = ap (is_distinct bytes_eq) (sym (defined-types (type_names items) items)) ∙ distinct-of OfType
+
     pub distinct-types : is_distinct bytes_eq (map (λ d. d.name) all.types) ≡ true
     distinct-types =
-        ap (is_distinct bytes_eq) (all-map (numbered_data t) (λ (d : TypeTree). d.name.text) (λ (d : DataDecl). d.name) (data-name t) (types_in items) all.types (items-types t items all found)
-        ∙ sym (defined-types (type_names items) items)) ∙ distinct-of OfType
+        ap (is_distinct bytes_eq) (all-map (numbered_data t) (λ (d : TypeTree). d.name.text) (λ (d : DataDecl). d.name) (data-name t) (types_in items) all.types (items-types t items all found))
+        ∙ distinct-names
 
     pub distinct-functions : is_distinct bytes_eq (map (λ f. f.name) all.functions) ≡ true
     distinct-functions =
@@ -441,6 +454,9 @@ module _ (items : List ItemTree) (all : Items) (found : numbered_items (tables_o
         (λ d x e. all-map (numbered_constructor t) (λ (c : ConTree). c.name.text) (λ (c : Con). c.name) (constructor-name t) d.cons x.cons (data-cons t d x e))
         (types_in items) all.types (items-types t items all found) ∙ sym (defined-constructors (type_names items) items)) ∙ distinct-of OfConstructor
 
-    pub distinct-layouts : is_distinct nat_eq (map (λ l. l.ty) all.layouts) ≡ true
-    distinct-layouts =
+    pub distinct-laid : AreDistinct (map (λ l. l.ty) all.layouts ++ numbers_of t.types (left_in items))
+    distinct-laid =
         (apart t (type_names items) (λ name n e. (number-named 0 (type_names items) name n e).1) (number-one 0 (type_names items)) items all found).distinct (distinct-of OfLayout)
+
+    pub distinct-layouts : is_distinct nat_eq (map (λ l. l.ty) all.layouts) ≡ true
+    distinct-layouts = front-distinct (map (λ l. l.ty) all.layouts) (numbers_of t.types (left_in items)) distinct-laid

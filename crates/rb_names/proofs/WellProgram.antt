@@ -63,7 +63,7 @@ module _ (total : ℕ) (small : total < 2 ^ 32) (types : List DataDecl) (t : Tab
       let a = then-ok (known name (meaning t.types name.text)) _ all e in
       layouts-well items rest (right-behind total (top.Derived name k) ws r) (and-second (item_is_counted (top.Derived name k)) _ c) all a.2
 
-once-ok : (o : Option NameTree) (u : Unit {0}) → no_twice o ≡ Ok u → o ≡ None
+pub once-ok : (o : Option NameTree) (u : Unit {0}) → no_twice o ≡ Ok u → o ≡ None
 once-ok None u e = refl
 once-ok (Some name) u e = absurd cc
 

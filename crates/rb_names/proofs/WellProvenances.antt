@@ -54,7 +54,7 @@ module _ (total : ℕ) (small : total < 2 ^ 32) (types : List DataDecl) (t : Tab
   abbrev no_size : Pat → ℕ
   no_size q = 0
 
-  abbrev IsBelow : Pat → Type 0
+  abbrev pub IsBelow : Pat → Type 0
   IsBelow q = (may_be_below (fold-Pat Below below_step q) ≡ true) × (pattern_is_numbered types q ≡ true)
 
   abbrev pub IsProvenance : Pat → Type 0
@@ -97,7 +97,7 @@ module _ (total : ℕ) (small : total < 2 ^ 32) (types : List DataDecl) (t : Tab
   abbrev ConIs : (l : ℕ) (p : PatTree) (rest : List Written) → Type 0
   ConIs l p rest = Is total PatTree Pat (numbered_pattern t []) no_size IsProvenance (below_at l) p rest
 
-  con-good : (at : ℕ) (c : ConRef) (qs : List Pat) → is_constructor types c ≡ true → length qs ≤ total → Each IsBelow qs → IsProvenance (C.Con at c qs)
+  pub con-good : (at : ℕ) (c : ConRef) (qs : List Pat) → is_constructor types c ≡ true → length qs ≤ total → Each IsBelow qs → IsProvenance (C.Con at c qs)
   con-good at c qs k h g =
       let provenance : is_provenance (C.Con at c qs) ≡ true =
       ap (λ (b : Below). b.provenance) (fold-Con Below below_step at c qs)

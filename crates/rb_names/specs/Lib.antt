@@ -1,4 +1,5 @@
 pub mod Answers
+pub mod Completing
 pub mod Defining
 pub mod Definitions
 pub mod Joining
@@ -7,3 +8,4 @@ pub mod Programs
 pub mod Scopes
 pub mod Tables
 pub mod Written
+pub mod inner

@@ -25,7 +25,7 @@ with_layout l rest = record { types = rest.types; layouts = l ∷ rest.layouts; 
 abbrev pub with_function : Fun → Items → Items
 with_function f rest = record { types = rest.types; layouts = rest.layouts; functions = f ∷ rest.functions }
 
--- items in the file's order; a derived layout is none yet, but its type has to be there
+-- items in the file's order; a layout that is left to the compiler is none yet, but its type has to be there
 abbrev pub numbered_items : Tables → List ItemTree → Resolved Items
 numbered_items t [] = Ok (record { types = []; layouts = []; functions = [] })
 numbered_items t (top.Types d ∷ items) = and_then (numbered_data t d) (λ x. and_then (numbered_items t items) (λ rest. Ok (with_type x rest)))

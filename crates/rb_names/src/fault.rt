@@ -13,7 +13,8 @@ use thiserror::Error;
 /// Why a tree has no program. Places are token numbers.
 #[derive(Debug, Drop, Error)]
 pub enum NameFault {
-    /// The name was defined before in its table, or its type has a layout before this one.
+    /// The name was defined before in its table, or its type has a layout before this one, written or
+    /// left to the compiler.
     #[error("a name is defined twice")]
     Twice(Name, u32),
     /// The name is not defined; as a variable, it is not bound round its place.

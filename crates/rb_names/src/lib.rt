@@ -2,6 +2,22 @@
 //!
 //! Types, constructors and functions have a table each. A variable is that of the innermost binder
 //! of its name round it. No call recurses deeper than the tree is nested.
+//!
+//! A file may leave layouts to the compiler, and [`complete::complete`] adds them. Take
+//!
+//! ```text
+//! type Byte = B(u8);
+//! type Pair = P(Byte, Byte);
+//! layout Pair = packed;
+//! layout Byte <8> = B(_) : { word 8 { [0:8] .0 } };
+//! ```
+//!
+//! `Pair` is type 1, so the kinds are none and packed, and type 1 alone is left. What is derived for it
+//! by the written layout of `Byte` stands behind that layout:
+//!
+//! ```text
+//! layout Pair <16> = P(_, _) : { word 16 { [0:8] .0, [8:8] .1 } };
+//! ```
 #![tactic(auto)]
 
 ghost use Rattle.std.specs.Prelude.{List, IfOk};
@@ -11,12 +27,15 @@ ghost use Rattle.rb_names.specs.Answers.{Answers};
 ghost use Rattle.rb_names.specs.Programs.{numbered};
 ghost use Rattle.rb_names.specs.Written.{IsWritten};
 
+pub mod complete;
+mod derivation;
 mod expression;
 mod fault;
 mod function;
 mod items;
 mod layout;
 mod layout_items;
+mod left;
 mod pattern;
 mod scope;
 mod table;

@@ -1,0 +1,75 @@
+-- A program completed by the layouts that its file leaves to the compiler.
+use Rattle.std.specs.Prelude.{◌≡◌, ℕ, List, [], ◌∷◌, map, Option, Some, None, Ok, Err}
+use Rattle.rb_core.specs.declared.types.Auto.{Auto}
+use Rattle.rb_core.specs.declared.program.Program.{Program}
+use Rattle.rb_core.specs.declared.layout_decl.LayoutDecl.{LayoutDecl}
+use Rattle.rb_syntax.specs.declared.tree.ItemTree.{ItemTree}
+use Rattle.rb_syntax.specs.declared.tree.ItemTree.TheVariants as top
+use Rattle.rb_syntax.specs.declared.tree.FileTree.{FileTree}
+use Rattle.rb_auto.specs.declared.fault.AutoFault.{AutoFault}
+use Rattle.rb_auto.specs.declared.fault.AutoFault.TheVariants.{Memory}
+use Rattle.rb_auto.specs.Answers.{Derives, IsAnswer}
+use Rattle.rb_auto.specs.Completed.{Completes, completed}
+use Rattle.rb_names.specs.declared.complete.Completed.{Completed}
+use Rattle.rb_names.specs.Tables.{Table, meaning}
+use Rattle.rb_names.specs.Definitions.{tables_of, type_names}
+
+-- the types whose layouts are left to the compiler, each with the layout that is asked for, in the file's order
+abbrev pub left_in : List ItemTree → Table Auto
+left_in [] = []
+left_in (top.Types t ∷ items) = left_in items
+left_in (top.Layouts l ∷ items) = left_in items
+left_in (top.Funs f ∷ items) = left_in items
+left_in (top.Derived ty kind ∷ items) = (ty.text, kind) ∷ left_in items
+
+-- for each type of the file which layout is derived, if any
+abbrev pub kinds_of : FileTree → List (Option Auto)
+kinds_of file = map (meaning (left_in file.items)) (type_names file.items)
+
+abbrev pub with_number : Option ℕ → List ℕ → List ℕ
+with_number None ts = ts
+with_number (Some t) ts = t ∷ ts
+
+-- the numbers of types of these names
+abbrev pub numbers_of : Table ℕ → Table Auto → List ℕ
+numbers_of types [] = []
+numbers_of types (l ∷ ls) = with_number (meaning types l.0) (numbers_of types ls)
+
+abbrev pub left_types : FileTree → List ℕ
+left_types file = numbers_of (tables_of file.items).types (left_in file.items)
+
+-- what is derived for a type is its layout or a refusal; want of memory is no answer
+abbrev pub IsDerived : Program → List (Option Auto) → ℕ → Derives → Type 0
+IsDerived p kinds t (Err Memory) = ⊥
+IsDerived p kinds t r = IsAnswer p kinds t r
+
+-- one answer for each of these types, in their order
+abbrev pub AreDerived : Program → List (Option Auto) → List ℕ → List Derives → Type 0
+AreDerived p kinds [] [] = Unit {0}
+AreDerived p kinds [] (r ∷ rs) = ⊥
+AreDerived p kinds (t ∷ ts) [] = ⊥
+AreDerived p kinds (t ∷ ts) (r ∷ rs) = IsDerived p kinds t r × AreDerived p kinds ts rs
+
+-- a type that is refused gets no layout
+abbrev pub layouts_in : List Derives → List LayoutDecl
+layouts_in [] = []
+layouts_in (Ok d ∷ rs) = d ∷ layouts_in rs
+layouts_in (Err e ∷ rs) = layouts_in rs
+
+abbrev pub first_refusal : List Derives → Option AutoFault
+first_refusal [] = None
+first_refusal (Ok d ∷ rs) = first_refusal rs
+first_refusal (Err e ∷ rs) = Some e
+
+-- The layouts are derived by the written ones alone and stand after them, in the file's order; the first refusal is kept.
+pub record IsCompleted (file : FileTree) (p : Program) (c : Completed) : Type 0 where
+  pub answers : List Derives
+  pub are_derived : AreDerived p (kinds_of file) (left_types file) answers
+  pub program : c.program ≡ completed p (layouts_in answers)
+  pub refused : c.refused ≡ first_refusal answers
+
+-- each type whose layout is left to the compiler has what is derived for it, and no written layout
+pub record IsWhole (file : FileTree) (p : Program) (c : Completed) : Type 0 where
+  pub derived : List LayoutDecl
+  pub completes : Completes p (kinds_of file) derived
+  pub program : c.program ≡ completed p derived

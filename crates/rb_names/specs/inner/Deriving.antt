@@ -1,0 +1,38 @@
+-- Layouts that are derived one after the other.
+use Rattle.std.specs.Prelude.{◌≡◌, ℕ, List, [], ◌∷◌, ◌++◌, Option, Some, None}
+use Rattle.rb_core.specs.declared.types.Auto.{Auto}
+use Rattle.rb_core.specs.declared.program.Program.{Program}
+use Rattle.rb_auto.specs.declared.fault.AutoFault.{AutoFault}
+use Rattle.rb_auto.specs.Answers.{Derives}
+use Rattle.rb_auto.specs.Completed.{completed}
+use Rattle.rb_names.specs.declared.complete.Completed.{Completed}
+use Rattle.rb_names.specs.declared.derivation.Derived.{Derived}
+use Rattle.rb_names.specs.Tables.{Name, Table, meaning}
+use Rattle.rb_names.specs.Completing.{AreDerived, IsDerived, first_refusal, layouts_in}
+
+-- each name stands for the same in both tables
+abbrev pub MeanTheSame : {A : Type 0} → Table A → Table A → Type 0
+MeanTheSame t u = (name : Name) → meaning t name ≡ meaning u name
+
+abbrev pub first_of : Option AutoFault → Option AutoFault → Option AutoFault
+first_of None later = later
+first_of (Some fault) later = Some fault
+
+-- one more answer is counted in
+pub record IsNext (p : Program) (kinds : List (Option Auto)) (t : ℕ) (before after : Derived) : Type 0 where
+  pub answer : Derives
+  pub is_derived : IsDerived p kinds t answer
+  pub layouts : after.layouts ≡ before.layouts ++ layouts_in (answer ∷ [])
+  pub refused : after.refused ≡ first_of before.refused (first_refusal (answer ∷ []))
+
+-- the layouts that are derived for these types, and the first refusal
+pub record IsAllDerived (p : Program) (kinds : List (Option Auto)) (ts : List ℕ) (d : Derived) : Type 0 where
+  pub answers : List Derives
+  pub are_derived : AreDerived p kinds ts answers
+  pub layouts : d.layouts ≡ layouts_in answers
+  pub refused : d.refused ≡ first_refusal answers
+
+-- the program with these layouts behind its own, and the refusal
+pub record IsWith (p : Program) (d : Derived) (c : Completed) : Type 0 where
+  pub program : c.program ≡ completed p d.layouts
+  pub refused : c.refused ≡ d.refused

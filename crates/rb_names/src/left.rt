@@ -1,0 +1,108 @@
+//! The types whose layouts are left to the compiler.
+
+ghost use Rattle.std.specs.Prelude.{◌≡◌, ◌++◌, [], ◌∷◌, List, None, IfOk, OnOk, map};
+ghost use Rattle.rb_syntax.specs.declared.tree.ItemTree.{ItemTree as Tree};
+ghost use Rattle.rb_names.specs.Completing as spec;
+ghost use Rattle.rb_names.specs.Completing.{numbers_of};
+ghost use Rattle.rb_names.specs.Definitions.{defined_twice, type_names};
+ghost use Rattle.rb_names.specs.Tables.{meaning};
+ghost use Rattle.rb_names.specs.inner.Deriving.{MeanTheSame};
+
+use crate::table::Table;
+use crate::tables::define_all;
+use rb_core::seq::Seq;
+use rb_core::types::Auto;
+use rb_syntax::tree::{FileTree, ItemTree};
+use std::alloc::{AllocError, Global};
+
+/// For each type which layout is derived, if any.
+pub fn kinds_of(alloc: Global, tree: &FileTree) -> Result<Seq<Option<Auto>>, AllocError>
+    ensures { IfOk result (λ kinds. kinds ≡ spec.kinds_of tree.now) }
+{
+    let items = tree.items.as_slice();
+    let left = left_in(alloc, items)?;
+    kinds_by(alloc, &left, items)
+}
+
+// For each type which layout is derived, by a table of those that are.
+fn kinds_by(
+    alloc: Global,
+    left: &Table<Auto>,
+    items: &[ItemTree],
+) -> Result<Seq<Option<Auto>>, AllocError>
+    ensures { IfOk result (λ kinds. kinds ≡ map (meaning left.now) (type_names items.now)) }
+{
+    let mut kinds = Seq::new(alloc);
+    for item in items {
+        add_kind(left, item, &mut kinds)?;
+    }
+    Ok(kinds)
+}
+
+// The kind of the item, if it is a type.
+fn add_kind(
+    left: &Table<Auto>,
+    item: &ItemTree,
+    kinds: &mut Seq<Option<Auto>>,
+) -> Result<(), AllocError>
+    ensures { OnOk result (kinds.new ≡ kinds.old ++ map (meaning left.now) (type_names (item.now ∷ []))) }
+{
+    match item {
+        ItemTree::Types(tree) => kinds.push(left.get(tree.name.text.as_slice())),
+        ItemTree::Layouts(_) | ItemTree::Funs(_) | ItemTree::Derived(_, _) => Ok(()),
+    }
+}
+
+// The types whose layouts are left to the compiler, each with the layout that is asked for.
+fn left_in<'a>(alloc: Global, items: &'a [ItemTree]) -> Result<Table<'a, Auto>, AllocError>
+    ensures { IfOk result (λ left. MeanTheSame left (spec.left_in items.now)) }
+{
+    let mut left = Table::new(alloc);
+    for item in items {
+        add_left(&mut left, item)?;
+    }
+    Ok(left)
+}
+
+// The type of the item, if its layout is left to the compiler.
+fn add_left<'a>(left: &mut Table<'a, Auto>, item: &'a ItemTree) -> Result<(), AllocError>
+    ensures { OnOk result ((rest : List Tree)
+        → MeanTheSame (left.new ++ spec.left_in rest) (left.old ++ spec.left_in (item.now ∷ rest))) }
+{
+    match item {
+        ItemTree::Derived(name, kind) => {
+            left.define(name.text.as_slice(), *kind)?;
+            Ok(())
+        }
+        ItemTree::Types(_) | ItemTree::Layouts(_) | ItemTree::Funs(_) => Ok(()),
+    }
+}
+
+/// The numbers of the types whose layouts are left to the compiler, in the file's order.
+pub fn left_types(alloc: Global, tree: &FileTree) -> Result<Seq<u32>, AllocError>
+    requires { defined_twice tree.now.items ≡ None }
+    ensures { IfOk result (λ numbers. numbers ≡ spec.left_types tree.now) }
+{
+    let items = tree.items.as_slice();
+    let Ok(tables) = define_all(alloc, items) else {
+        return Err(AllocError);
+    };
+    let mut numbers = Seq::new(alloc);
+    for item in items {
+        add_number(&tables.types, item, &mut numbers)?;
+    }
+    Ok(numbers)
+}
+
+// The number of the item's type, if its layout is left to the compiler.
+fn add_number(types: &Table<u32>, item: &ItemTree, numbers: &mut Seq<u32>) -> Result<(), AllocError>
+    ensures { OnOk result (numbers.new ≡ numbers.old ++ numbers_of types.now (spec.left_in (item.now ∷ []))) }
+{
+    match item {
+        ItemTree::Derived(name, _) => match types.get(name.text.as_slice()) {
+            Some(number) => numbers.push(number),
+            None => Ok(()),
+        },
+        ItemTree::Types(_) | ItemTree::Layouts(_) | ItemTree::Funs(_) => Ok(()),
+    }
+}
