@@ -1,14 +1,13 @@
--- Counts at their limit and over it, and a derived layout, computed by the checker.
+-- Counts at their limit and over it, computed by the checker.
 use Rattle.std.proofs.Common.{◌≡◌, ℕ, List, [], ◌∷◌, Some, None, refl}
 use Rattle.std.proofs.Math.ListN.{replicate}
-use Rattle.rb_core.specs.declared.types.Auto.TheVariants as auto
 use Rattle.rb_syntax.specs.declared.tree.NameTree.{NameTree}
 use Rattle.rb_syntax.specs.declared.tree.TyTree.TheVariants as ty
 use Rattle.rb_syntax.specs.declared.tree.ConTree.{ConTree}
 use Rattle.rb_syntax.specs.declared.tree.ItemTree.{ItemTree}
 use Rattle.rb_syntax.specs.declared.tree.ItemTree.TheVariants as top
 use Rattle.rb_read.specs.declared.fault.Quantity.TheVariants.{Types, Constructors, Fields}
-use Rattle.rb_read.specs.Limits.{counted, first_over, first_derived}
+use Rattle.rb_read.specs.Limits.{counted, first_over}
 
 abbrev named : ℕ → NameTree
 named at = record { at = at; text = 65 ∷ [] }
@@ -36,7 +35,3 @@ two-types = refl
 -- the types of a file are counted before all else
 over-types : first_over (record { items = replicate 1001 (type_of (con 33 ∷ [])) }) ≡ Some (counted Types 1001)
 over-types = refl
-
--- the word `layout` stands right before the name
-derived : first_derived (record { items = type_of (con 0 ∷ []) ∷ top.Derived (named 6) auto.Boxed ∷ [] }) ≡ Some 5
-derived = refl

@@ -7,11 +7,11 @@ use Rattle.std.proofs.lemmas.List.{append-nil}
 use Rattle.rb_syntax.specs.declared.token.Token.{Token}
 use Rattle.rb_syntax.specs.declared.tree.FileTree.{FileTree}
 use Rattle.rb_read.specs.declared.fault.ReadFault.{ReadFault}
-use Rattle.rb_read.specs.declared.fault.ReadFault.TheVariants.{TooDeep, Syntax, Unbuilt, Limit, Memory}
+use Rattle.rb_read.specs.declared.fault.ReadFault.TheVariants.{TooDeep, Syntax, Limit, Memory}
 use Rattle.rb_read.specs.declared.limits.Count.{Count}
 use Rattle.rb_read.specs.Combining.{Fault, stuck, deep}
 use Rattle.rb_read.specs.Exact.{IsSpelled, IsPrefix, StopsAt, IsFirstTooDeep, IsNowhereTooDeep}
-use Rattle.rb_read.specs.Limits.{first_derived, first_over}
+use Rattle.rb_read.specs.Limits.{first_over}
 use Rattle.rb_read.specs.Files.{IsFile, IsAnswer, Answers}
 use Rattle.rb_read.proofs.FileReading.{file_of, read-ok, read-only, read-stuck, read-deep}
 
@@ -53,13 +53,12 @@ first-deep ts p q h k = le_antisymm (h.is_first q k.too_deep) (k.is_first p h.to
 
 -- What is answered, by what the readers give.
 
-by_counts : FileTree → Option ℕ → Option Count → Result FileTree ReadFault
-by_counts file (Some p) o = Err (Unbuilt p)
-by_counts file None (Some c) = Err (Limit c.quantity c.count)
-by_counts file None None = Ok file
+by_counts : FileTree → Option Count → Result FileTree ReadFault
+by_counts file (Some c) = Err (Limit c.quantity c.count)
+by_counts file None = Ok file
 
 by_reading : List Token → Result FileTree Fault → Result FileTree ReadFault
-by_reading ts (Ok file) = by_counts file (first_derived file) (first_over file)
+by_reading ts (Ok file) = by_counts file (first_over file)
 by_reading ts (Err (stuck m)) = Err (Syntax (length ts - m))
 by_reading ts (Err (deep m)) = Err (TooDeep (length ts - m))
 
@@ -75,18 +74,16 @@ stuck-answer ts p (Ok file) e n h = let o = read-ok ts file e in absurd (stops-w
 stuck-answer ts p (Err (stuck m)) e n h = let o = read-stuck ts m e in ap (λ q. Err (Syntax q)) (one-stop ts p (length ts - m) h o.0)
 stuck-answer ts p (Err (deep m)) e n h = let o = read-deep ts m e in absurd (n (length ts - m) o.too_deep)
 
-file-answer : (ts : List Token) (file : FileTree) (o : Option ℕ) (c : Option Count) → IsFile ts file → first_derived file ≡ o → first_over file ≡ c
-    → by_counts file o c ≡ by_reading ts (file_of ts)
+file-answer : (ts : List Token) (file : FileTree) (c : Option Count) → IsFile ts file → first_over file ≡ c → by_counts file c ≡ by_reading ts (file_of ts)
 unfolding by_counts by_reading
-file-answer ts file o c h d l = let e = read-only ts file h.tree h.within in rw (e, d, l) refl
+file-answer ts file c h l = let e = read-only ts file h.tree h.within in rw (e, l) refl
 
 the-answer : (ts : List Token) (r : Result FileTree ReadFault) → IsAnswer ts r → r ≡ by_reading ts (file_of ts)
 unfolding by_counts
-the-answer ts (Ok file) h = file-answer ts file None None h.0 h.1 h.2
+the-answer ts (Ok file) h = file-answer ts file None h.0 h.1
 the-answer ts (Err (TooDeep p)) h = deep-answer ts p (file_of ts) refl h
 the-answer ts (Err (Syntax p)) h = stuck-answer ts p (file_of ts) refl h.0 h.1
-the-answer ts (Err (Unbuilt p)) h = file-answer ts h.0 (Some p) (first_over h.0) h.1 h.2 refl
-the-answer ts (Err (Limit q n)) h = file-answer ts h.0 None (Some (record { quantity = q; count = n })) h.1 h.2 h.3
+the-answer ts (Err (Limit q n)) h = file-answer ts h.0 (Some (record { quantity = q; count = n })) h.1 h.2
 the-answer ts (Err Memory) h = absurd h
 
 one-answer : (ts : List Token) (r q : Result FileTree ReadFault) → IsAnswer ts r → IsAnswer ts q → r ≡ q
@@ -97,6 +94,5 @@ pub answered : (ts : List Token) (result r : Result FileTree ReadFault) → Answ
 answered ts (Ok file) r h k = inl (one-answer ts (Ok file) r h k)
 answered ts (Err (TooDeep p)) r h k = inl (one-answer ts (Err (TooDeep p)) r h k)
 answered ts (Err (Syntax p)) r h k = inl (one-answer ts (Err (Syntax p)) r h k)
-answered ts (Err (Unbuilt p)) r h k = inl (one-answer ts (Err (Unbuilt p)) r h k)
 answered ts (Err (Limit q n)) r h k = inl (one-answer ts (Err (Limit q n)) r h k)
 answered ts (Err Memory) r h k = inr refl

@@ -1,26 +1,25 @@
 -- What tokens are as a file: its tree, or the first reason why it is none that is read.
-use Rattle.std.specs.Prelude.{◌≡◌, ℕ, List, Option, Some, None, Result, Ok, Err}
+use Rattle.std.specs.Prelude.{◌≡◌, List, Some, None, Result, Ok, Err}
 use Rattle.rb_syntax.specs.declared.token.Token.{Token}
 use Rattle.rb_syntax.specs.declared.tree.FileTree.{FileTree}
 use Rattle.rb_syntax.specs.Written.{AreWithin}
 use Rattle.rb_syntax.specs.Spelling.{IsTreeOf, file_written}
 use Rattle.rb_read.specs.declared.fault.ReadFault.{ReadFault}
-use Rattle.rb_read.specs.declared.fault.ReadFault.TheVariants.{TooDeep, Syntax, Unbuilt, Limit, Memory}
+use Rattle.rb_read.specs.declared.fault.ReadFault.TheVariants.{TooDeep, Syntax, Limit, Memory}
 use Rattle.rb_read.specs.Exact.{StopsAt, IsFirstTooDeep, IsNowhereTooDeep}
-use Rattle.rb_read.specs.Limits.{counted, first_over, first_derived}
+use Rattle.rb_read.specs.Limits.{counted, first_over}
 
 -- the tree that they spell, of at most 128 levels
 pub record IsFile (ts : List Token) (file : FileTree) : Type 0 where
   pub tree : IsTreeOf ts file
   pub within : AreWithin 128 (file_written file)
 
--- the refusals in their order: depth, syntax, derived layouts, limits
+-- the refusals in their order: depth, syntax, limits
 abbrev pub IsAnswer : List Token → Result FileTree ReadFault → Type 0
-IsAnswer ts (Ok file) = IsFile ts file × (first_derived file ≡ None) × (first_over file ≡ None)
+IsAnswer ts (Ok file) = IsFile ts file × (first_over file ≡ None)
 IsAnswer ts (Err (TooDeep p)) = IsFirstTooDeep ts p
 IsAnswer ts (Err (Syntax p)) = IsNowhereTooDeep ts × StopsAt ts p
-IsAnswer ts (Err (Unbuilt p)) = (file : FileTree) × IsFile ts file × (first_derived file ≡ Some p)
-IsAnswer ts (Err (Limit q n)) = (file : FileTree) × IsFile ts file × (first_derived file ≡ None) × (first_over file ≡ Some (counted q n))
+IsAnswer ts (Err (Limit q n)) = (file : FileTree) × IsFile ts file × (first_over file ≡ Some (counted q n))
 IsAnswer ts (Err Memory) = ⊥
 
 -- the answer, or want of memory

@@ -1,5 +1,5 @@
 -- The counts of a file that have a limit.
-use Rattle.std.specs.Prelude.{ℕ, ◌-◌, List, [], ◌∷◌, map, length, Bool, nat_lt, Option, Some, None, find}
+use Rattle.std.specs.Prelude.{ℕ, List, [], ◌∷◌, map, length, Bool, nat_lt, Option, Some, None, find}
 use Rattle.std.specs.List.{flat_map}
 use Rattle.rb_syntax.specs.declared.tree.ConTree.{ConTree}
 use Rattle.rb_syntax.specs.declared.tree.TypeTree.{TypeTree}
@@ -57,12 +57,3 @@ counts items = counted Types (length (types_in items)) ∷ counted Functions (le
 -- the first count over its limit
 abbrev pub first_over : FileTree → Option Count
 first_over file = find is_over (counts file.items)
-
--- the number of the word `layout` in front of the first derived layout's name
-abbrev pub derived_in : List ItemTree → Option ℕ
-derived_in [] = None
-derived_in (top.Derived name a ∷ items) = Some (name.at - 1)
-derived_in (_ ∷ items) = derived_in items
-
-abbrev pub first_derived : FileTree → Option ℕ
-first_derived file = derived_in file.items

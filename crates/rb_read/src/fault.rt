@@ -34,9 +34,6 @@ pub enum ReadFault {
     /// The first token at which no file goes on, or the number of tokens where they are no whole file.
     #[error("syntax at token {0}")]
     Syntax(u32),
-    /// The first token of the first derived layout: there is none yet.
-    #[error("not built yet at token {0}")]
-    Unbuilt(u32),
     /// The first count that is over its limit.
     #[error("a count of {1} is over its limit")]
     Limit(Quantity, u64),

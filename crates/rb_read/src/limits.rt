@@ -1,4 +1,4 @@
-//! The counts of a file that have a limit, and layouts that are derived.
+//! The counts of a file that have a limit.
 
 ghost use Rattle.std.specs.Prelude.{◌≡◌, ◌∷◌, ◌≤◌, [], map, length, find};
 ghost use Rattle.std.specs.List.{flat_map};
@@ -145,17 +145,4 @@ pub(crate) fn first_over(file: &FileTree) -> Option<Count>
         return Some(count);
     }
     items_over(items)
-}
-
-/// The number of the word `layout` of the first derived layout. The word stands right before the
-/// type's name, whose number the tree holds.
-pub(crate) fn first_derived(file: &FileTree) -> Option<u32>
-    ensures { result ≡ limits.first_derived file.now }
-{
-    for item in file.items.as_slice() {
-        if let ItemTree::Derived(name, _) = item {
-            return Some(name.at.saturating_sub(1));
-        }
-    }
-    None
 }

@@ -13,7 +13,7 @@ ghost use Rattle.rb_read.specs.Reading as reading;
 
 use crate::each::read_each;
 use crate::fault::ReadFault;
-use crate::limits::{first_derived, first_over};
+use crate::limits::first_over;
 use crate::stop::Stop;
 use rb_core::seq::Seq;
 use rb_syntax::token::Placed;
@@ -51,13 +51,10 @@ fn place(total: usize, left: usize) -> u32
     total.saturating_sub(left) as u32
 }
 
-/// The file, unless it has a derived layout or a count over its limit.
+/// The file, unless a count of it is over its limit.
 fn checked(file: FileTree) -> Result<FileTree, ReadFault>
     ensures { (ts : List Token) → IsFile ts file → Answers ts result }
 {
-    if let Some(at) = first_derived(&file) {
-        return Err(ReadFault::Unbuilt(at));
-    }
     if let Some(count) = first_over(&file) {
         return Err(ReadFault::Limit(count.quantity, count.count));
     }
@@ -78,7 +75,7 @@ fn read_limited(alloc: Global, placed: &[Placed]) -> Result<FileTree, ReadFault>
 }
 
 /// The file that the tokens spell, or the first fault: a node too deep, else a token at which no
-/// file goes on, else a derived layout, else a count over its limit.
+/// file goes on, else a count over its limit.
 pub fn read_file(alloc: Global, placed: &[Placed]) -> Result<FileTree, ReadFault>
     requires { length placed.now < 2 ^ 32 }
     ensures answer { Answers (tokens placed.now) result }

@@ -5,7 +5,7 @@ use rb_rows_calls::call::expect_answer;
 use std::test::Fail;
 
 /// Words, file and answer; in an answer each `;` ends a line.
-const EXAMPLES: [(&str, &str, &str); 29] = [
+const EXAMPLES: [(&str, &str, &str); 30] = [
     // assembled
     (
         "image E 1 64 Branch(0,1,2,4)",
@@ -29,6 +29,12 @@ const EXAMPLES: [(&str, &str, &str); 29] = [
         "image E 1 74 Large(70000)",
         "// a number in a block of its own, in two bytes or in eight; the first byte of the block says which\ntype Item = Small(u16) | Large(u64);\n\nlayout Item <64> = split 0[0:64] -> 8 @0:16[0:8] {\n  0 => Small(_) : {\n    word 64 { [0:64] -> 8 { word 16 { [0:8] = 0 }, word 16 { [0:16] .0 } } }\n  }\n  1 => Large(_) : {\n    word 64 { [0:64] -> 8 { word 16 { [0:8] = 1 }, word 64 { [0:64] .0 } } }\n  }\n};\n\nfun main(i: Item): u64 = match i { Small(n) => to u64(n), Large(n) => n };\n",
         "0 root 0x11170;block 64 10 01007011010000000000;",
+    ),
+    // derived
+    (
+        "image E 1 128 Pixel(Full(1,2,3),Pixel(Gray(9),End))",
+        "// a row of pixels: how a colour stands in its bits, and a row in its blocks, is left to the compiler\ntype Rgb = Gray(u8) | Full(u5, u6, u5);\ntype Row = End | Pixel(Rgb, Row);\n\nlayout Rgb = packed;\nlayout Row = boxed;\n\nfun main(row: Row): Row = match row {\n  Pixel(Full(r, g, b), rest) => Pixel(Full(b, g, r), rest),\n  other => other\n};\n",
+        "0 root 0xc01;block 64 16 12000000000000000000000000000000;block 80 16 83300000000000000108000000000000;block 96 16 87100000000000000108000000000000;",
     ),
     // dostime
     (

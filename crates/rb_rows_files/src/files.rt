@@ -21,8 +21,8 @@ fun main(): u8 = match 0 { };~1 ribbit: syntax at byte 27;\n\
 fun main(x: u64): u64 = add(x, 18446744073709551616);~1 ribbit: number over 64 bits at byte 31;\n\
 fun main(): u8 = 0x;~1 ribbit: bad byte at byte 18;\n\
 fun main(): u8 = #;~1 ribbit: bad byte at byte 17;\n\
-layout T = boxed; fun main(): u8 = 0;~15 ribbit: not built yet at byte 0;\n\
-type T = A; layout T = packed; fun main(): u8 = y;~15 ribbit: not built yet at byte 12;\n\
+layout T = boxed; fun main(): u8 = 0;~2 ribbit: unknown name T at byte 7;\n\
+type T = A; layout T = packed; fun main(): u8 = y;~2 ribbit: unknown name y at byte 48;\n\
 fun main(): u8 = 0; fun main(): u8 = 0;~2 ribbit: name main twice at byte 24;\n\
 type T = A | A; fun main(): u8 = 0;~2 ribbit: name A twice at byte 13;\n\
 type T = A; type T = B; fun main(): u8 = 0;~2 ribbit: name T twice at byte 17;\n\

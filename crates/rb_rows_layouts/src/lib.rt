@@ -8,6 +8,8 @@ mod blocks;
 #[cfg(test)]
 mod cycles;
 #[cfg(test)]
+mod derived;
+#[cfg(test)]
 mod fields;
 #[cfg(test)]
 mod parts;

@@ -34,8 +34,8 @@ layout T <~> = A : { inline .0 };
 layout T <8> = A : { ~};
 layout T <8> = A : { inline .~4294967296 };
 layout T <8> = ~x : { inline .0 };
-type A = B; ?layout A = boxed;
-?layout A = packed; layout B = boxed;
+type A = B; layout A = boxed;
+layout A = packed; layout B = boxed;
 layout A = packed; layout B = ~boxes;
 layout A = packed~";
 

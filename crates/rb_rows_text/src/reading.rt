@@ -1,8 +1,7 @@
 //! What reading a text gives, and texts with their answers in them.
 //!
-//! In a row, `~` stands before the first token at which no file goes on, `!` before the first that
-//! begins a node too deep, and `?` before a layout that is left to the compiler. A row without a mark
-//! is a file.
+//! In a row, `~` stands before the first token at which no file goes on, and `!` before the first that
+//! begins a node too deep. A row without a mark is a file.
 
 use crate::same::are_same;
 use rb_read::fault::{Quantity, ReadFault};
@@ -20,7 +19,6 @@ pub enum Found {
     File,
     TooDeep(usize),
     Syntax(usize),
-    Unbuilt(usize),
     Limit(Quantity, u64),
     /// Want of memory, or another file than the text's.
     Other,
@@ -37,7 +35,6 @@ fn place_of(fault: &ReadFault, placed: &[Placed], end: usize) -> Found {
     match fault {
         ReadFault::TooDeep(at) => Found::TooDeep(byte_of(placed, *at, end)),
         ReadFault::Syntax(at) => Found::Syntax(byte_of(placed, *at, end)),
-        ReadFault::Unbuilt(at) => Found::Unbuilt(byte_of(placed, *at, end)),
         ReadFault::Limit(quantity, count) => Found::Limit(*quantity, *count),
         ReadFault::Memory => Found::Other,
     }
@@ -86,7 +83,6 @@ pub fn expect(rt: &impl Abort, alloc: Global, row: &[u8]) -> Result<(), Fail> {
         match *byte {
             b'~' => wanted = Found::Syntax(text.len()),
             b'!' => wanted = Found::TooDeep(text.len()),
-            b'?' => wanted = Found::Unbuilt(text.len()),
             byte => text.push(byte)?,
         }
     }

@@ -7,7 +7,7 @@ use Rattle.ribbit_tool.specs.declared.accepting.Accepted.{Accepted}
 abbrev pub is_accepted : (bytes : List ℕ) (a : Accepted) → IsAcceptance bytes a → IsAccepted bytes a.agreed.covered.program
 is_accepted bytes a h = record {
   placed = a.placed.items;
-  named = record { file = a.file; read = h.read; named = h.named };
+  named = h.named;
   typed = h.typed;
   exhaustive = h.covered.exhaustive;
   agrees = h.agreed.1;

@@ -20,7 +20,6 @@ lex_fault text lex.Memory ne h = absurd (ne refl)
 pub read_fault : (ts : List Token) (f : ReadFault) → f ≢ read.Memory → Answers ts (Err f) → IsAnswer ts (Err f)
 read_fault ts (read.TooDeep t) ne h = h
 read_fault ts (read.Syntax t) ne h = h
-read_fault ts (read.Unbuilt t) ne h = h
 read_fault ts (read.Limit q n) ne h = h
 read_fault ts read.Memory ne h = absurd (ne refl)
 

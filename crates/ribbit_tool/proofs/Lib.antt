@@ -12,6 +12,7 @@ pub mod LayoutRefusals
 pub mod Meeting
 pub mod Named
 pub mod Numbered
+pub mod OneCompletion
 pub mod OneProgram
 pub mod Owing
 pub mod Preparing

@@ -16,5 +16,5 @@ is_written bytes placed file few cut read = record {
   tree = read.tree.0.tree;
   short = (let short = short_tokens bytes placed read.cut in let many = length-map placed (λ (p : Placed). p.token) in omega (arith, few, short, many));
   named = cut-named _ 0 bytes placed cut;
-  counted = are_counted file.items read.tree.2;
+  counted = are_counted file.items read.tree.1;
 }

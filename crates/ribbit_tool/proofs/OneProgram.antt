@@ -1,6 +1,7 @@
 -- A text has at most one program, and a text that has one is not refused.
 use Rattle.std.proofs.Common.{◌≡◌, inl, inr, ℕ, List, [], ◌∷◌, ◌++◌, IsSome, Option, Some, None, Result, Ok, Err, refl, sym, ap, subst, ◌∙◌}
 use Rattle.std.proofs.lemmas.Bool.{false≢true}
+use Rattle.rb_auto.specs.declared.fault.AutoFault.{AutoFault}
 use Rattle.rb_check.specs.Covering.{IsCoverFault}
 use Rattle.rb_check.specs.declared.coverage.CoverFault.TheVariants.{Missing}
 use Rattle.rb_core.specs.Coverage.{AreExhaustive, sites_of}
@@ -20,8 +21,10 @@ use Rattle.rb_layout.specs.Spots.{Spot, Checked, IsRefusedBy, all_spots}
 use Rattle.rb_layout.specs.declared.evidence.Refused.{Refused as Disagreed}
 use Rattle.rb_layout.specs.declared.evidence.Why.{Why}
 use Rattle.rb_layout.specs.declared.layout.Layout.{Layout}
+use Rattle.rb_names.specs.Completing.{IsCompleted}
 use Rattle.rb_names.specs.Numbering.{Resolved}
 use Rattle.rb_names.specs.Programs.{numbered}
+use Rattle.rb_names.specs.declared.complete.Completed.{Completed}
 use Rattle.rb_read.proofs.OneAnswer.{answered}
 use Rattle.rb_read.specs.Files.{IsAnswer}
 use Rattle.rb_read.specs.declared.fault.ReadFault.{ReadFault}
@@ -30,8 +33,9 @@ use Rattle.rb_syntax.specs.Tokens.{tokens}
 use Rattle.rb_syntax.specs.declared.token.Placed.{Placed}
 use Rattle.rb_syntax.specs.declared.token.Token.{Token}
 use Rattle.rb_syntax.specs.declared.tree.FileTree.{FileTree}
-use Rattle.ribbit_tool.specs.Accepting.{IsRead, IsNamed, IsAccepted, IsRefused, uncut, misread, misnamed, mistyped, uncovered, mislaid}
+use Rattle.ribbit_tool.specs.Accepting.{IsRead, IsNamedWith, IsNamed, IsProgramOf, completed_as, IsAccepted, IsRefused, uncut, misread, misnamed, mistyped, uncovered, underived, mislaid}
 use Rattle.ribbit_tool.specs.Answer.{Due}
+use Rattle.ribbit_tool.proofs.OneCompletion.{one_completion}
 use Rattle.ribbit_tool.proofs.Tokens.{ok_tokens}
 
 -- the same tokens
@@ -69,14 +73,32 @@ the_program : Program → Resolved Program → Program
 the_program p (Ok q) = q
 the_program p (Err fault) = p
 
-same_program : (bytes : List ℕ) (placed qs : List Placed) (p q : Program) → IsNamed bytes placed p → IsNamed bytes qs q → p ≡ q
+same_written : (file : FileTree) (p q : Program) → numbered file ≡ Ok p → numbered file ≡ Ok q → p ≡ q
 unfolding the_program
-same_program bytes placed qs p q h k =
-    let same : k.file ≡ h.file = same_file bytes qs placed k.file h.file k.read h.read in
-    ap (λ (r : Resolved Program). the_program p r) (sym h.named ∙ ap (λ (file : FileTree). numbered file) (sym same) ∙ k.named)
+same_written file p q h k = ap (λ (r : Resolved Program). the_program p r) (sym h ∙ k)
+
+-- completed in the same way
+
+same_completed : (bytes : List ℕ) (placed qs : List Placed) (c d : Completed) → IsNamedWith bytes placed c → IsNamedWith bytes qs d → c ≡ d
+same_completed bytes placed qs c d h k =
+    let file : k.file ≡ h.file = same_file bytes qs placed k.file h.file k.read h.read in
+    let named : numbered h.file ≡ Ok k.written = subst (λ (f : FileTree). numbered f ≡ Ok k.written) file k.named in
+    let written : k.written ≡ h.written = same_written h.file k.written h.written named h.named in
+    let here : IsCompleted h.file k.written d = subst (λ (f : FileTree). IsCompleted f k.written d) file k.completed in
+    one_completion h.file h.written c d h.completed (subst (λ (p : Program). IsCompleted h.file p d) written here)
+
+same_program : (bytes : List ℕ) (placed qs : List Placed) (p q : Program) → IsNamed bytes placed p → IsProgramOf bytes qs q → p ≡ q
+same_program bytes placed qs p q h k = ap (λ (c : Completed). c.program) (same_completed bytes placed qs (completed_as p None) (completed_as q k.0) h k.1)
 
 pub one_program : (bytes : List ℕ) (p q : Program) → IsAccepted bytes p → IsAccepted bytes q → p ≡ q
-one_program bytes p q a b = same_program bytes a.placed b.placed p q a.named b.named
+one_program bytes p q a b = same_program bytes a.placed b.placed p q a.named (None, b.named)
+
+never_underived : (bytes : List ℕ) (placed qs : List Placed) (p q : Program) (fault : AutoFault) → IsNamed bytes placed p
+    → IsNamedWith bytes qs (completed_as q (Some fault)) → ⊥
+never_underived bytes placed qs p q fault h k =
+    let none : None ≡ Some fault =
+    ap (λ (c : Completed). c.refused) (same_completed bytes placed qs (completed_as p None) (completed_as q (Some fault)) h k) in
+    absurd (cc none)
 
 -- what is typed has no first fault, and where matches are exhaustive none misses a pattern
 
@@ -129,6 +151,7 @@ accepted_unrefused bytes p due a (mistyped placed q named fault known first e) =
 accepted_unrefused bytes p due a (uncovered placed q named typed t pat fault e) =
     let same : p ≡ q = same_program bytes a.placed placed p q a.named named in
     never_uncovered q t pat (subst (λ (x : Program). AreExhaustive x.types (sites_of x)) same a.exhaustive) fault
+accepted_unrefused bytes p due a (underived placed q fault named typed exhaustive e) = never_underived bytes a.placed placed p q fault a.named named
 accepted_unrefused bytes p due a (mislaid placed q named typed exhaustive fault refused e) =
-    let same : p ≡ q = same_program bytes a.placed placed p q a.named named in
+    let same : p ≡ q = same_program bytes a.placed placed p q a.named (None, named) in
     never_mislaid q fault (subst (λ (x : Program). Agrees x) same a.agrees) refused

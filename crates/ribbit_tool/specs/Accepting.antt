@@ -1,5 +1,7 @@
 -- Files that are accepted, and why others are refused.
 use Rattle.std.specs.Prelude.{◌≡◌, ◌≢◌, ℕ, List, length, codes, Option, Some, None, slice_get, Ok, Err}
+use Rattle.rb_auto.specs.declared.fault.AutoFault.{AutoFault}
+use Rattle.rb_auto.specs.declared.fault.AutoFault.TheVariants as auto
 use Rattle.rb_check.specs.Covering.{IsCoverFault}
 use Rattle.rb_check.specs.declared.coverage.CoverFault.TheVariants.{Missing}
 use Rattle.rb_core.specs.Coverage.{AreExhaustive, sites_of}
@@ -13,7 +15,9 @@ use Rattle.rb_layout.specs.Agreement.{Agrees}
 use Rattle.rb_layout.specs.Flattening.{flat_layouts}
 use Rattle.rb_layout.specs.Spots.{IsRefusedBy}
 use Rattle.rb_layout.specs.declared.evidence.Refused.{Refused as Disagreed}
+use Rattle.rb_names.specs.Completing.{IsCompleted}
 use Rattle.rb_names.specs.Programs.{numbered}
+use Rattle.rb_names.specs.declared.complete.Completed.{Completed}
 use Rattle.rb_names.specs.declared.fault.NameFault.{NameFault}
 use Rattle.rb_names.specs.declared.fault.NameFault.TheVariants as names
 use Rattle.rb_read.specs.Files.{IsAnswer}
@@ -28,9 +32,8 @@ use Rattle.rb_syntax.specs.declared.token.Placed.{Placed}
 use Rattle.rb_syntax.specs.declared.tree.FileTree.{FileTree}
 use Rattle.ribbit_tool.specs.Answer.{Due, refusal}
 use Rattle.ribbit_tool.specs.Lines.{begun, ended, no_memory_line}
-use Rattle.ribbit_tool.specs.Unbuilt.{unbuilt_due}
 use Rattle.ribbit_tool.specs.declared.status.Status.TheVariants as status
-use Rattle.ribbit_tool.specs.FileLines.{at_byte, limit_line, unknown_line, twice_line, no_main_line, empty_line, mismatch_line, arity_line, missing_line}
+use Rattle.ribbit_tool.specs.FileLines.{at_byte, limit_line, unknown_line, twice_line, no_main_line, empty_line, mismatch_line, arity_line, missing_line, recursive_line, wide_line}
 
 -- Places ------------------------------------------------------------------------------------
 
@@ -50,11 +53,24 @@ pub record IsRead (bytes : List ℕ) (placed : List Placed) (file : FileTree) : 
   pub cut : lexed bytes ≡ Ok placed
   pub tree : IsAnswer (tokens placed) (Ok file)
 
--- and this is its program
-pub record IsNamed (bytes : List ℕ) (placed : List Placed) (p : Program) : Type 0 where
+-- and this is its program with the layouts that are left to the compiler, and the first of them that is refused
+pub record IsNamedWith (bytes : List ℕ) (placed : List Placed) (c : Completed) : Type 0 where
   pub file : FileTree
   pub read : IsRead bytes placed file
-  pub named : numbered file ≡ Ok p
+  pub written : Program
+  pub named : numbered file ≡ Ok written
+  pub completed : IsCompleted file written c
+
+abbrev pub completed_as : Program → Option AutoFault → Completed
+completed_as p refused = record { program = p; refused = refused }
+
+-- none is refused
+abbrev pub IsNamed : List ℕ → List Placed → Program → Type 0
+IsNamed bytes placed p = IsNamedWith bytes placed (completed_as p None)
+
+-- whatever is refused
+abbrev pub IsProgramOf : List ℕ → List Placed → Program → Type 0
+IsProgramOf bytes placed p = (refused : Option AutoFault) × IsNamedWith bytes placed (completed_as p refused)
 
 -- and it is typed, each of its matches is exhaustive, and its layouts agree
 pub record IsAccepted (bytes : List ℕ) (p : Program) : Type 0 where
@@ -75,7 +91,6 @@ lex_due lexing.Memory = refusal status.NoMemory no_memory_line
 abbrev pub read_due : List Placed → ℕ → ReadFault → Due
 read_due placed size (reading.TooDeep t) = refusal status.Limit (at_byte (codes "nesting over 128") (byte_of placed size t))
 read_due placed size (reading.Syntax t) = refusal status.Syntax (at_byte (codes "syntax") (byte_of placed size t))
-read_due placed size (reading.Unbuilt t) = unbuilt_due (byte_of placed size t)
 read_due placed size (reading.Limit q count) = refusal status.Limit (limit_line q count)
 read_due placed size reading.Memory = refusal status.NoMemory no_memory_line
 
@@ -95,21 +110,28 @@ type_due ts placed size types.Memory = refusal status.NoMemory no_memory_line
 abbrev pub match_due : List DataDecl → List Placed → ℕ → ℕ → Pat → Due
 match_due ts placed size t q = refusal status.Meaning (missing_line ts q (byte_of placed size t))
 
+abbrev pub derived_due : List DataDecl → AutoFault → Due
+derived_due ts (auto.PackedRecursive t) = refusal status.Layout (recursive_line ts t)
+derived_due ts (auto.PackedWide t bits) = refusal status.Layout (wide_line ts t bits)
+derived_due ts auto.Memory = refusal status.NoMemory no_memory_line
+
 abbrev pub layout_due : Program → Disagreed → Due
 layout_due p fault = refusal status.Layout (ended (begun (refusal_text p.types (flat_layouts p) fault)))
 
 -- What is due to a file by the first of these that refuses it: tokens, grammar and limits, names,
--- types, exhaustiveness, layouts.
+-- types, exhaustiveness, layouts that are derived, layouts.
 pub data IsRefused (bytes : List ℕ) (due : Due) : Type 0 where
   uncut : (fault : LexFault) → lexed bytes ≡ Err fault → due ≡ lex_due fault → IsRefused bytes due
   misread : (placed : List Placed) → lexed bytes ≡ Ok placed → (fault : ReadFault) → IsAnswer (tokens placed) (Err fault)
       → due ≡ read_due placed (length bytes) fault → IsRefused bytes due
   misnamed : (placed : List Placed) (file : FileTree) → IsRead bytes placed file → (fault : NameFault) → numbered file ≡ Err fault
       → due ≡ name_due placed (length bytes) fault → IsRefused bytes due
-  mistyped : (placed : List Placed) (p : Program) → IsNamed bytes placed p → (fault : TypeFault) → fault ≢ types.Memory → IsFirstFault p fault
+  mistyped : (placed : List Placed) (p : Program) → IsProgramOf bytes placed p → (fault : TypeFault) → fault ≢ types.Memory → IsFirstFault p fault
       → due ≡ type_due p.types placed (length bytes) fault → IsRefused bytes due
-  uncovered : (placed : List Placed) (p : Program) → IsNamed bytes placed p → IsTyped p → (t : ℕ) (q : Pat) → IsCoverFault p (Missing t q)
+  uncovered : (placed : List Placed) (p : Program) → IsProgramOf bytes placed p → IsTyped p → (t : ℕ) (q : Pat) → IsCoverFault p (Missing t q)
       → due ≡ match_due p.types placed (length bytes) t q → IsRefused bytes due
+  underived : (placed : List Placed) (p : Program) (fault : AutoFault) → IsNamedWith bytes placed (completed_as p (Some fault)) → IsTyped p
+      → AreExhaustive p.types (sites_of p) → due ≡ derived_due p.types fault → IsRefused bytes due
   mislaid : (placed : List Placed) (p : Program) → IsNamed bytes placed p → IsTyped p → AreExhaustive p.types (sites_of p)
       → (fault : Disagreed) → IsRefusedBy p (flat_layouts p) fault → due ≡ layout_due p fault → IsRefused bytes due
 

@@ -67,6 +67,16 @@ abbrev pub arity_line : ℕ → ℕ → ℕ → List ℕ
 arity_line wanted found at = ended (begun (codes "wanted ") ++ decimal wanted ++ codes " arguments, found " ++ decimal found
     ++ codes " at byte " ++ decimal at)
 
+-- Derived layouts ---------------------------------------------------------------------------
+
+-- a packed type that reaches itself
+abbrev pub recursive_line : List DataDecl → ℕ → List ℕ
+recursive_line types t = ended (begun (codes "layout of ") ++ type_name (slice_get types t) ++ codes ": packed: recursive")
+
+-- a packed type that needs so many bits
+abbrev pub wide_line : List DataDecl → ℕ → ℕ → List ℕ
+wide_line types t bits = ended (begun (codes "layout of ") ++ type_name (slice_get types t) ++ codes ": packed: " ++ decimal bits ++ codes " bits")
+
 -- Patterns ----------------------------------------------------------------------------------
 
 abbrev pub con_name : Option Con → List ℕ

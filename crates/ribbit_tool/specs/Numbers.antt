@@ -20,7 +20,6 @@ status_number status.Limit = 11
 status_number status.Trap = 12
 status_number status.TooLarge = 13
 status_number status.Code = 14
-status_number status.Unbuilt = 15
 
 -- bytes that are no code text
 abbrev pub code_syntax : ℕ

@@ -5,8 +5,7 @@ use Rattle.std.specs.declared.alloc.Global.{Global}
 use Rattle.rb_core.specs.Coverage.{IsCovered}
 use Rattle.rb_core.specs.TypedPrograms.{IsTyped}
 use Rattle.rb_layout.specs.Agreement.{AreAgreed}
-use Rattle.rb_names.specs.Programs.{numbered}
-use Rattle.ribbit_tool.specs.Accepting.{IsRead}
+use Rattle.ribbit_tool.specs.Accepting.{IsNamed}
 use Rattle.ribbit_tool.specs.Answer.{Due, printed, refused}
 use Rattle.ribbit_tool.specs.Command.{Command, Limits, check, layout, compile, run, image, count, gen, genrun, exec}
 use Rattle.ribbit_tool.specs.declared.accepting.Accepted.{Accepted}
@@ -61,10 +60,9 @@ abbrev pub Meets : (Due → Type 0) → ℕ → ℕ → Result (Vec ℕ Global) 
 Meets P before now (Ok text) = (n : ℕ) × (now ≡ before + n) × P (printed text.items n)
 Meets P before now (Err r) = MeetsRefused P before now r
 
--- an accepted file: its tokens, its tree, and its typed and covered program, whose layouts agree
+-- an accepted file: its tokens, and its typed and covered program, whose layouts agree
 pub record IsAcceptance (bytes : List ℕ) (a : Accepted) : Type 0 where
-  pub read : IsRead bytes a.placed.items a.file
-  pub named : numbered a.file ≡ Ok a.agreed.covered.program
+  pub named : IsNamed bytes a.placed.items a.agreed.covered.program
   pub typed : IsTyped a.agreed.covered.program
   pub covered : IsCovered a.agreed.covered.program a.agreed.covered.notes
   pub agreed : AreAgreed a.agreed.covered.program a.agreed.layouts

@@ -1,7 +1,8 @@
-//! Accepting files: their tokens, their tree, their program, its types, its matches, and its layouts, one
-//! after the other. The first step that refuses a file gives the answer.
+//! Accepting files: their tokens, their tree, their program, the layouts that they leave to the compiler,
+//! the program's types, its matches, and its layouts, one after the other. The first step that refuses a
+//! file gives the answer; only a layout that cannot be derived waits until types and matches were checked.
 
-ghost use Rattle.std.specs.Prelude.{◌≡◌, ◌≤◌, length, IfOk, IfErr, Ok};
+ghost use Rattle.std.specs.Prelude.{◌≡◌, ◌≤◌, length, IfOk, IfErr, OnOk, Ok};
 ghost use Rattle.rb_core.specs.Coverage.{IsCovered};
 ghost use Rattle.rb_core.specs.TypedPrograms.{IsTyped};
 ghost use Rattle.rb_core.specs.WellNumbered.{IsWellNumbered};
@@ -9,18 +10,21 @@ ghost use Rattle.rb_layout.specs.Agreement.{AreAgreed};
 ghost use Rattle.rb_names.specs.Programs.{numbered};
 ghost use Rattle.rb_syntax.specs.Cutting.{HasTokens};
 ghost use Rattle.rb_syntax.specs.Lexing.{lexed};
-ghost use Rattle.ribbit_tool.specs.Accepting.{IsNamed, IsRead, IsRefused};
+ghost use Rattle.ribbit_tool.specs.Accepting.{IsNamed, IsNamedWith, IsProgramOf, IsRead, IsRefused, completed_as};
 ghost use Rattle.ribbit_tool.specs.View.{IsAcceptance, IsRefusal};
 
 use crate::refusal::{
-    Refusal, refuse_bytes, refuse_layouts, refuse_match, refuse_names, refuse_tokens, refuse_types,
+    Refusal, refuse_bytes, refuse_derived, refuse_layouts, refuse_match, refuse_names,
+    refuse_tokens, refuse_types,
 };
 use rb_agree::AgreeFault;
 use rb_agree::agree::agree;
+use rb_auto::AutoFault;
 use rb_check::{CoverFault, check, cover};
 use rb_core::program::Program;
 use rb_core::typed::{Covered, Typed};
 use rb_layout::agreed::Agreed;
+use rb_names::complete::{Completed, complete};
 use rb_names::resolve;
 use rb_read::read::read_file;
 use rb_syntax::lex::lex;
@@ -33,9 +37,7 @@ use std::alloc::Global;
 pub struct Accepted {
     /// Its tokens.
     pub placed: Vec<Placed>,
-    /// Its tree.
-    pub file: FileTree,
-    /// Its program, with the flat forms of its layouts.
+    /// Its program with the layouts that are derived, and with the flat forms of all its layouts.
     pub agreed: Agreed,
 }
 
@@ -70,7 +72,7 @@ fn read(alloc: Global, bytes: &[u8], placed: &[Placed]) -> Result<FileTree, Refu
     }
 }
 
-// The program of the tree.
+// The program of the tree, with the layouts that are written.
 fn name(alloc: Global, bytes: &[u8], placed: &[Placed], file: &FileTree) -> Result<Program, Refusal>
     requires few { length bytes.now ≤ 262144 }
     requires tokens { HasTokens bytes.now placed.now }
@@ -88,6 +90,25 @@ fn name(alloc: Global, bytes: &[u8], placed: &[Placed], file: &FileTree) -> Resu
     }
 }
 
+// The program with the layouts that are derived, and the first of them that is refused.
+fn add_layouts(
+    alloc: Global,
+    bytes: &[u8],
+    placed: &[Placed],
+    file: &FileTree,
+    program: Program,
+) -> Result<Completed, Refusal>
+    requires read { IsRead bytes.now placed.now file.now }
+    requires named { numbered file.now ≡ Ok program }
+    requires well { IsWellNumbered program }
+    ensures named { IfOk result (IsNamedWith bytes.now placed.now) }
+    ensures well { IfOk result (λ c. IsWellNumbered c.program) }
+    ensures refused { IfErr result (IsRefusal (IsRefused bytes.now)) }
+{
+    let completed = complete(alloc, file, program)?;
+    Ok(completed)
+}
+
 // The program with its types.
 fn ascribe(
     alloc: Global,
@@ -95,7 +116,7 @@ fn ascribe(
     placed: &[Placed],
     program: Program,
 ) -> Result<Typed, Refusal>
-    requires named { IsNamed bytes.now placed.now program }
+    requires named { IsProgramOf bytes.now placed.now program }
     requires well { IsWellNumbered program }
     ensures same { IfOk result (λ typed. typed ≡ program) }
     ensures typed { IfOk result IsTyped }
@@ -118,7 +139,7 @@ fn annotate(
     placed: &[Placed],
     typed: Typed,
 ) -> Result<Covered, Refusal>
-    requires named { IsNamed bytes.now placed.now typed }
+    requires named { IsProgramOf bytes.now placed.now typed }
     requires typed { IsTyped typed }
     ensures same { IfOk result (λ covered. covered.program ≡ typed) }
     ensures covered { IfOk result (λ covered. IsCovered covered.program covered.notes) }
@@ -130,6 +151,30 @@ fn annotate(
         Err(CoverFault::Missing(token, pattern)) => {
             let types = typed.program().types.as_slice();
             let refused = refuse_match(alloc, types, placed, bytes.len(), token, &pattern)?;
+            Err(Refusal::Refused(refused))
+        }
+    }
+}
+
+// Whether each layout that is left to the compiler is derived.
+fn have_derived(
+    alloc: Global,
+    bytes: &[u8],
+    placed: &[Placed],
+    covered: &Covered,
+    refused: &Option<AutoFault>,
+) -> Result<(), Refusal>
+    requires named { IsNamedWith bytes.now placed.now (completed_as covered.now.program refused.now) }
+    requires typed { IsTyped covered.now.program }
+    requires covered { IsCovered covered.now.program covered.now.notes }
+    ensures named { OnOk result (IsNamed bytes.now placed.now covered.now.program) }
+    ensures refused { IfErr result (IsRefusal (IsRefused bytes.now)) }
+{
+    match refused {
+        None => Ok(()),
+        Some(fault) => {
+            let types = covered.program().types.as_slice();
+            let refused = refuse_derived(alloc, types, fault)?;
             Err(Refusal::Refused(refused))
         }
     }
@@ -168,13 +213,11 @@ pub fn accept(alloc: Global, bytes: &[u8]) -> Result<Accepted, Refusal>
     let placed = cut(alloc, bytes)?;
     let tokens = placed.as_slice();
     let file = read(alloc, bytes, tokens)?;
-    let program = name(alloc, bytes, tokens, &file)?;
-    let typed = ascribe(alloc, bytes, tokens, program)?;
+    let written = name(alloc, bytes, tokens, &file)?;
+    let completed = add_layouts(alloc, bytes, tokens, &file, written)?;
+    let typed = ascribe(alloc, bytes, tokens, completed.program)?;
     let covered = annotate(alloc, bytes, tokens, typed)?;
+    have_derived(alloc, bytes, tokens, &covered, &completed.refused)?;
     let agreed = lay_out(alloc, bytes, tokens, covered)?;
-    Ok(Accepted {
-        placed,
-        file,
-        agreed,
-    })
+    Ok(Accepted { placed, agreed })
 }

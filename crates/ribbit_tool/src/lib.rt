@@ -21,4 +21,3 @@ pub mod refusal;
 pub mod run;
 pub mod status;
 pub mod top;
-pub mod unbuilt;

@@ -10,6 +10,7 @@ use rb_target::fault::CodeFault;
 use std::alloc::{AllocError, Global};
 
 pub mod argument;
+pub mod derived;
 pub mod fault;
 pub mod note;
 pub mod pattern;

@@ -12,10 +12,10 @@ ghost use Rattle.ribbit_tool.specs.Accepting as accepting;
 ghost use Rattle.ribbit_tool.specs.View.{due_of};
 
 use crate::line::pattern::missing;
-use crate::line::{begin, end, fault as fault_line, types as type_line};
+use crate::line::{begin, derived as derived_line, end, fault as fault_line, types as type_line};
 use crate::place::byte_of;
 use crate::status::Status;
-use crate::unbuilt::refuse_unbuilt;
+use rb_auto::AutoFault;
 use rb_check::TypeFault;
 use rb_core::pattern::Pat;
 use rb_core::seq::Seq;
@@ -108,10 +108,6 @@ pub fn refuse_tokens(
                 status: Status::Syntax,
                 line,
             })
-        }
-        ReadFault::Unbuilt(token) => {
-            let refused = refuse_unbuilt(alloc, byte_of(placed, length, token))?;
-            Ok(refused)
         }
         ReadFault::Limit(over, count) => {
             let line = fault_line::limit(alloc, over, count)?;
@@ -226,6 +222,33 @@ pub fn refuse_match(
         status: Status::Meaning,
         line,
     })
+}
+
+/// The answer to a program with a layout that cannot be derived.
+pub fn refuse_derived(
+    alloc: Global,
+    types: &[DataDecl],
+    fault: &AutoFault,
+) -> Result<Refused, AllocError>
+    ensures { IfOk result (λ c. due_of c ≡ accepting.derived_due types.now fault.now) }
+{
+    match fault {
+        AutoFault::PackedRecursive(ty) => {
+            let line = derived_line::recursive(alloc, types, *ty)?;
+            Ok(Refused {
+                status: Status::Layout,
+                line,
+            })
+        }
+        AutoFault::PackedWide(ty, bits) => {
+            let line = derived_line::wide(alloc, types, *ty, *bits)?;
+            Ok(Refused {
+                status: Status::Layout,
+                line,
+            })
+        }
+        AutoFault::Memory => Err(AllocError),
+    }
 }
 
 // The flat forms of the layouts, where a refusal by this rule may name their leaves: at the first rule a

@@ -32,8 +32,6 @@ pub enum Status {
     TooLarge,
     /// The bytes are no valid code.
     Code,
-    /// Not built yet.
-    Unbuilt,
 }
 
 impl Status {
@@ -55,7 +53,6 @@ impl Status {
             Status::Trap => 12,
             Status::TooLarge => 13,
             Status::Code => 14,
-            Status::Unbuilt => 15,
         }
     }
 }

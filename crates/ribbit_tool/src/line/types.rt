@@ -8,7 +8,7 @@ use rb_core::types::{DataDecl, Ty};
 use std::alloc::{AllocError, Global};
 
 // A type's name.
-fn push_name(text: &mut Vec<u8>, types: &[DataDecl], ty: u32) -> Result<(), AllocError>
+pub(crate) fn push_name(text: &mut Vec<u8>, types: &[DataDecl], ty: u32) -> Result<(), AllocError>
     ensures { OnOk result (text.new.items ≡ text.old.items ++ line.type_name (slice_get types.now ty)) }
 {
     match types.get(ty as usize) {
