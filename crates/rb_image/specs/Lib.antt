@@ -1,0 +1,6 @@
+pub mod Blocks
+pub mod Given
+pub mod Orders
+pub mod Parts
+pub mod Splits
+pub mod inner

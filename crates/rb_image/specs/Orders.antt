@@ -1,0 +1,58 @@
+-- The order in which the parts of a leaf are examined.
+use Rattle.std.specs.Prelude.{ℕ, zero, suc, ◌+◌, ◌/◌, ◌==◌, List, [], ◌∷◌, ◌++◌, filter, length, Option, Some, None}
+use Rattle.std.specs.List.{flat_map}
+use Rattle.rb_layout.specs.declared.layout.Leaf.{Leaf}
+use Rattle.rb_layout.specs.declared.layout.FlatWord.{FlatWord}
+use Rattle.rb_layout.specs.declared.layout.Kind.{Kind}
+use Rattle.rb_layout.specs.declared.layout.Kind.TheVariants.{Const, Bits, Word, Pointer}
+use Rattle.rb_layout.specs.declared.layout.Part.{Part}
+use Rattle.rb_layout.specs.Words.{words_in}
+
+-- a part, and the word that it is of: root word number `word`, or the word of a block that begins at a byte
+pub record PartAt : Type 0 where
+  pub block : Option ℕ
+  pub word : ℕ
+  pub byte : ℕ
+  pub width : ℕ
+  pub part : Part
+
+-- the parts that begin at a bit
+abbrev pub beginning_at : List Part → ℕ → List Part
+beginning_at parts o = filter (λ p. p.o == o) parts
+
+-- those that begin at one of n bits from a bit on
+abbrev pub beginning_from : List Part → ℕ → ℕ → List Part
+beginning_from parts o zero = []
+beginning_from parts o (suc n) = beginning_at parts o ++ beginning_from parts (o + 1) n
+
+-- the parts of a word by offset
+abbrev pub by_offset : FlatWord → List Part
+by_offset f = beginning_from f.parts 0 f.width
+
+-- the parts that come right behind a part: those of the block to which it points
+abbrev pub behind : (ℕ → List PartAt) → Kind → List PartAt
+behind inner (Const c) = []
+behind inner (Bits path a) = []
+behind inner (Word path j) = []
+behind inner (Pointer align b) = inner b
+
+abbrev pub with_inner : (ℕ → List PartAt) → Option ℕ → ℕ → ℕ → ℕ → Part → List PartAt
+with_inner inner block j byte width p = record { block = block; word = j; byte = byte; width = width; part = p } ∷ behind inner p.kind
+
+abbrev pub word_order : (ℕ → List PartAt) → Option ℕ → ℕ → ℕ → FlatWord → List PartAt
+word_order inner block j byte f = flat_map (with_inner inner block j byte f.width) (by_offset f)
+
+-- words, the first of which is word j and begins at a byte
+abbrev pub words_order : (ℕ → List PartAt) → Option ℕ → ℕ → ℕ → List FlatWord → List PartAt
+words_order inner block j byte [] = []
+words_order inner block j byte (f ∷ fs) = word_order inner block j byte f ++ words_order inner block (j + 1) (byte + f.width / 8) fs
+
+-- the parts of a block, and of those that it leads to through fewer than `depth` pointers more
+abbrev pub block_order : Leaf → ℕ → ℕ → List PartAt
+block_order leaf zero b = []
+block_order leaf (suc depth) b = words_order (block_order leaf depth) (Some b) 0 0 (words_in leaf (Some b))
+
+-- all parts of a leaf by word and offset; those of a pointer's block come right behind the pointer, which leads to a
+-- block of a lower number than its own
+abbrev pub order_of : Leaf → List PartAt
+order_of leaf = words_order (block_order leaf (length leaf.blocks)) None 0 0 leaf.root

@@ -1,0 +1,130 @@
+-- The parts of a leaf, examined on words of an image, and the places below it.
+use Rattle.std.specs.Prelude.{ℕ, zero, suc, ◌+◌, ◌*◌, ◌==◌, ◌&&◌, List, [], ◌∷◌, length, map, replicate, Bool, false, Option, Some, None, Result, Ok, Err, slice_get, slice_index, slice_set, if◌then◌else◌}
+use Rattle.std.specs.List.{flat_map}
+use Rattle.rb_core.specs.declared.types.Ty.{Ty}
+use Rattle.rb_core.specs.declared.types.Ty.TheVariants.{Int, Named}
+use Rattle.rb_core.specs.declared.types.DataDecl.{DataDecl}
+use Rattle.rb_layout.specs.declared.layout.Block.{Block}
+use Rattle.rb_layout.specs.declared.layout.Leaf.{Leaf}
+use Rattle.rb_layout.specs.declared.layout.Layout.{Layout}
+use Rattle.rb_layout.specs.declared.layout.Kind.{Kind}
+use Rattle.rb_layout.specs.declared.layout.Kind.TheVariants.{Const, Bits, Word, Pointer}
+use Rattle.rb_layout.specs.Flattening.{same_path}
+use Rattle.rb_layout.specs.Positions.{Open, layout_of, open_positions}
+use Rattle.rb_layout.specs.Words.{size_of}
+use Rattle.rb_rel.specs.Relation.{word_count}
+use Rattle.rb_image_text.specs.declared.fault.ImageFault.{ImageFault}
+use Rattle.rb_image_text.specs.declared.fault.ImageFault.TheVariants.{BadBits, BadPointer}
+use Rattle.rb_image_text.specs.declared.image.ImageBlock.{ImageBlock}
+use Rattle.rb_image.specs.declared.kept.Kept.{Kept}
+use Rattle.rb_image.specs.declared.kept.Place.{Place}
+use Rattle.rb_image.specs.Blocks.{size_at, word_in}
+use Rattle.rb_image.specs.Orders.{PartAt, order_of}
+use Rattle.rb_image.specs.Splits.{and_then, nothing, or_fault, pointed_from, range_of, word_at, leaf_at}
+
+-- Parts --------------------------------------------------------------------------------------
+
+abbrev pub or_zero : Option ℕ → ℕ
+or_zero None = 0
+or_zero (Some n) = n
+
+-- the word of a part, where the addresses of the leaf's blocks are known
+abbrev pub kept_at : List ImageBlock → List Kept → List ℕ → Option ℕ → PartAt → Kept
+kept_at m ws ats None s = word_at ws s.word
+kept_at m ws ats (Some b) s = record { number = or_zero (word_in m (slice_index ats b) s.byte s.width); base = slice_index ats b; place = s.byte }
+
+-- the bits of a part
+abbrev pub bits_at : List ImageBlock → List Kept → List ℕ → PartAt → Kept
+bits_at m ws ats s = range_of (kept_at m ws ats s.block s) s.part.o s.part.l
+
+abbrev pub block_size : Option Block → ℕ
+block_size None = 0
+block_size (Some b) = size_of b
+
+abbrev pub if_size : ℕ → ℕ → Option ℕ → Option ℕ
+if_size at wanted None = None
+if_size at wanted (Some size) = if size == wanted then Some at else None
+
+-- the address, where a block of this size begins at it
+abbrev pub block_from : List ImageBlock → Option ℕ → ℕ → Option ℕ
+block_from m None size = None
+block_from m (Some at) size = if_size at size (size_at m at)
+
+-- the address to which the bits of a pointer lead
+abbrev pub followed : List ImageBlock → Leaf → Kept → ℕ → ℕ → Result ℕ ImageFault
+followed m leaf bits align b =
+    let at = bits.number * align in
+    or_fault (block_from m (pointed_from bits.base at) (block_size (slice_get leaf.blocks b))) (BadPointer bits.base at)
+
+-- the addresses of blocks once a part is examined: a constant is its number, and a pointer leads to a block of the size
+-- of the leaf's block
+abbrev pub examine_kind : List ImageBlock → Leaf → List ℕ → Kept → Kind → Result (List ℕ) ImageFault
+examine_kind m leaf ats bits (Bits path a) = Ok ats
+examine_kind m leaf ats bits (Word path j) = Ok ats
+examine_kind m leaf ats bits (Const c) = if bits.number == c then Ok ats else Err (BadBits bits.base bits.place)
+examine_kind m leaf ats bits (Pointer align b) = and_then (followed m leaf bits align b) (λ at. Ok (slice_set ats b at))
+
+abbrev pub examine_part : List ImageBlock → Leaf → List Kept → List ℕ → PartAt → Result (List ℕ) ImageFault
+examine_part m leaf ws ats s = examine_kind m leaf ats (bits_at m ws ats s) s.part.kind
+
+-- parts, one after the other
+abbrev pub examine : List ImageBlock → Leaf → List Kept → List ℕ → List PartAt → Result (List ℕ) ImageFault
+examine m leaf ws ats [] = Ok ats
+examine m leaf ws ats (s ∷ ss) = and_then (examine_part m leaf ws ats s) (λ found. examine m leaf ws found ss)
+
+-- the addresses of a leaf's blocks, or the first fault of its parts
+abbrev pub addresses_of : List ImageBlock → Leaf → List Kept → Result (List ℕ) ImageFault
+addresses_of m leaf ws = examine m leaf ws (replicate (length leaf.blocks) 0) (order_of leaf)
+
+-- Subvalues ----------------------------------------------------------------------------------
+
+-- a place where a value of a data type is to stand: the type's number, and the words
+pub record At : Type 0 where
+  pub ty : ℕ
+  pub words : List Kept
+
+abbrev pub at_of : Place → At
+at_of p = record { ty = p.ty; words = p.words.items }
+
+abbrev pub ats_of : List Place → List At
+ats_of places = map at_of places
+
+abbrev pub holds : Kind → List ℕ → ℕ → Bool
+holds (Const c) path j = false
+holds (Bits own a) path j = false
+holds (Word own i) path j = same_path own path && (i == j)
+holds (Pointer align b) path j = false
+
+-- word j of the field at a path: the part that holds it
+abbrev pub field_word : List ImageBlock → List Kept → List ℕ → List PartAt → List ℕ → ℕ → Kept
+field_word m ws ats [] path j = nothing
+field_word m ws ats (s ∷ ss) path j = if holds s.part.kind path j then bits_at m ws ats s else field_word m ws ats ss path j
+
+-- n words of the field, from word j on
+abbrev pub field_words : (List ℕ → ℕ → Kept) → List ℕ → ℕ → ℕ → List Kept
+field_words word path j zero = []
+field_words word path j (suc n) = word path j ∷ field_words word path (j + 1) n
+
+-- the place at an open position, if it is of a data type
+abbrev pub place_at : List Layout → (List ℕ → ℕ → Kept) → List ℕ → Ty → List At
+place_at layouts word path (Int bits) = []
+place_at layouts word path (Named t) = record { ty = t; words = field_words word path 0 (word_count layouts (Named t)) } ∷ []
+
+-- the places at the open positions of a leaf, from left to right
+abbrev pub places_of : List DataDecl → List Layout → List ImageBlock → Leaf → List Kept → List ℕ → List At
+places_of types layouts m leaf ws ats =
+    flat_map (λ (o : Open). place_at layouts (field_word m ws ats (order_of leaf)) o.path o.ty) (open_positions types leaf.prov)
+
+-- One place ----------------------------------------------------------------------------------
+
+abbrev pub look_leaf : List DataDecl → List Layout → List ImageBlock → List Kept → Option Leaf → Result (List At) ImageFault
+look_leaf types layouts m ws None = Ok []
+look_leaf types layouts m ws (Some leaf) = and_then (addresses_of m leaf ws) (λ ats. Ok (places_of types layouts m leaf ws ats))
+
+abbrev pub look_layout : List DataDecl → List Layout → List ImageBlock → List Kept → Option Layout → Result (List At) ImageFault
+look_layout types layouts m ws None = Ok []
+look_layout types layouts m ws (Some layout) = and_then (leaf_at layout.tree m ws) (λ n. look_leaf types layouts m ws (slice_get layout.leaves n))
+
+-- the first fault of a place by itself, of its splits before its parts, or the places below it
+abbrev pub look : List DataDecl → List Layout → List ImageBlock → At → Result (List At) ImageFault
+look types layouts m p = look_layout types layouts m p.words (layout_of layouts p.ty)

@@ -1,0 +1,94 @@
+-- The leaf to which the splits of a layout lead, read on words of an image, or the first fault on the way.
+use Rattle.std.specs.Prelude.{ℕ, ◌*◌, ◌==◌, ◌&&◌, ◌||◌, nat_eq, nat_lt, List, [], ◌∷◌, Option, Some, None, Result, Ok, Err, slice_index_or, if◌then◌else◌}
+use Rattle.rb_core.specs.declared.layout_decl.Loc.{Loc}
+use Rattle.rb_core.specs.declared.layout_decl.Step.{Step}
+use Rattle.rb_bits.specs.Words.{take_of}
+use Rattle.rb_layout.specs.declared.layout.FlatTree.{FlatTree}
+use Rattle.rb_layout.specs.declared.layout.FlatTree.TheOpen as T
+use Rattle.rb_layout.specs.declared.layout.FlatTree.TheOpen.{FlatTree-F}
+use Rattle.rb_layout.specs.declared.layout.FlatTree.TheFolds.{fold-FlatTree, fold-FlatArm}
+use Rattle.rb_layout.specs.declared.layout.FlatArm.{FlatArm, FlatArm-F}
+use Rattle.rb_layout.specs.Splits.{Under}
+use Rattle.rb_image_text.specs.declared.fault.ImageFault.{ImageFault}
+use Rattle.rb_image_text.specs.declared.fault.ImageFault.TheVariants.{BadBits, BadPointer}
+use Rattle.rb_image_text.specs.declared.image.ImageBlock.{ImageBlock}
+use Rattle.rb_image.specs.declared.kept.Kept.{Kept}
+use Rattle.rb_image.specs.Blocks.{word_in}
+
+-- what comes first is a fault, or one goes on with what it gives
+abbrev pub and_then : {A B : Type 0} → Result A ImageFault → (A → Result B ImageFault) → Result B ImageFault
+and_then (Err fault) go = Err fault
+and_then (Ok x) go = go x
+
+abbrev pub or_fault : {A : Type 0} → Option A → ImageFault → Result A ImageFault
+or_fault None fault = Err fault
+or_fault (Some x) fault = Ok x
+
+-- Words --------------------------------------------------------------------------------------
+
+abbrev pub nothing : Kept
+nothing = record { number = 0; base = 0; place = 0 }
+
+-- the word with this number
+abbrev pub word_at : List Kept → ℕ → Kept
+word_at ws j = slice_index_or ws j nothing
+
+-- a range of a word; it is kept where the word is
+abbrev pub range_of : Kept → ℕ → ℕ → Kept
+range_of w o l = record w { number = take_of w.number o l }
+
+-- the address to which a pointer may lead that is kept in the block at `base`: any address of 64 bits from a root word, at
+-- base 0, and a lower one from a block
+abbrev pub pointed_from : ℕ → ℕ → Option ℕ
+pointed_from base at = if nat_lt at 18446744073709551616 && ((base == 0) || nat_lt at base) then Some at else None
+
+-- Locations ----------------------------------------------------------------------------------
+
+abbrev pub with_base : ℕ → ℕ → Option ℕ → Option Kept
+with_base at byte None = None
+with_base at byte (Some w) = Some (record { number = w; base = at; place = byte })
+
+abbrev pub kept_in : List ImageBlock → Option ℕ → ℕ → ℕ → Option Kept
+kept_in m None byte width = None
+kept_in m (Some at) byte width = with_base at byte (word_in m at byte width)
+
+-- the word to which a step leads from the pointer in a range
+abbrev pub step_over : List ImageBlock → Kept → Step → Result Kept ImageFault
+step_over m range s =
+    let at = range.number * s.align in
+    or_fault (kept_in m (pointed_from range.base at) s.byte s.width) (BadPointer range.base at)
+
+abbrev pub range_from : List ImageBlock → Kept → List Step → Result Kept ImageFault
+range_from m range [] = Ok range
+range_from m range (s ∷ ss) = and_then (step_over m range s) (λ w. range_from m (range_of w s.o s.l) ss)
+
+-- the range at a location
+abbrev pub range_at : List ImageBlock → List Kept → Loc → Result Kept ImageFault
+range_at m ws loc = range_from m (range_of (word_at ws loc.word) loc.o loc.l) loc.steps
+
+-- Trees --------------------------------------------------------------------------------------
+
+abbrev pub Walk : Type 0
+Walk = List ImageBlock → List Kept → Result ℕ ImageFault
+
+abbrev pub walk_else : Kept → Option Walk → Walk
+walk_else range None m ws = Err (BadBits range.base range.place)
+walk_else range (Some go) m ws = go m ws
+
+abbrev pub walk_arms : Kept → List (Under Walk) → Option Walk → Walk
+walk_arms range [] other m ws = walk_else range other m ws
+walk_arms range (arm ∷ arms) other m ws = if nat_eq arm.literal range.number then arm.of m ws else walk_arms range arms other m ws
+
+abbrev pub walk_step : FlatTree-F Walk (Under Walk) → Walk
+walk_step (T.Split loc arms other) m ws = and_then (range_at m ws loc) (λ range. walk_arms range arms other m ws)
+walk_step (T.Leaf n) m ws = Ok n
+
+abbrev pub walk_arm : FlatArm-F Walk (Under Walk) → Under Walk
+walk_arm arm = record { literal = arm.literal; of = arm.under }
+
+-- the leaf to which the splits lead; a split that no arm takes is the fault of the word in which its bits stand
+abbrev pub leaf_at : FlatTree → Walk
+leaf_at = fold-FlatTree Walk (Under Walk) walk_step walk_arm
+
+abbrev pub walk_under : FlatArm → Under Walk
+walk_under = fold-FlatArm Walk (Under Walk) walk_step walk_arm

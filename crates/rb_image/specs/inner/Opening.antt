@@ -1,0 +1,19 @@
+-- The places below a leaf that was examined.
+use Rattle.std.specs.Prelude.{ℕ, ◌++◌, List}
+use Rattle.std.specs.List.{flat_map}
+use Rattle.rb_layout.specs.Positions.{Open}
+use Rattle.rb_image.specs.declared.below.Examined.{Examined}
+use Rattle.rb_image.specs.declared.kept.Kept.{Kept}
+use Rattle.rb_image.specs.Parts.{At, field_word, place_at}
+use Rattle.rb_image.specs.inner.Viewing.{spots_of}
+
+-- word j of the field at a path
+abbrev pub word_of : Examined → List ℕ → ℕ → Kept
+word_of x = field_word x.memory.now x.words.now x.addresses.now (spots_of x.order.now)
+
+-- the place at an open position below a path
+abbrev pub place_below : Examined → List ℕ → Open → List At
+place_below x path o = place_at x.layouts.now (word_of x) (path ++ o.path) o.ty
+
+abbrev pub opened : Examined → List ℕ → List Open → List At
+opened x path opens = flat_map (place_below x path) opens

@@ -1,0 +1,179 @@
+//! The places below a place: the subvalues of data types at its leaf's open positions.
+
+ghost use Rattle.std.specs.Prelude.{◌≡◌, ◌<◌, ◌++◌, ◌∷◌, [], map, IfOk, OnOk};
+ghost use Rattle.rb_core.specs.Values.{fields_of};
+ghost use Rattle.rb_core.specs.declared.types.Ty.TheVariants.{Named};
+ghost use Rattle.rb_layout.specs.Positions.{opens_below, opens_of, types_or_none};
+ghost use Rattle.rb_rel.specs.Relation.{word_count};
+ghost use Rattle.rb_coding.specs.inner.Opening.{AreFew, HaveFewFields};
+ghost use Rattle.rb_image.specs.Parts as spec;
+ghost use Rattle.rb_image.specs.Parts.{ats_of};
+ghost use Rattle.rb_image.specs.inner.Opening.{opened, word_of};
+
+use crate::kept::{Kept, Place};
+use crate::order::Spot;
+use crate::parts::kept_at;
+use crate::splits::range_of;
+use rb_core::pattern::Pat;
+use rb_core::seq::Seq;
+use rb_core::types::{ConRef, DataDecl, Ty};
+use rb_image_text::image::ImageBlock;
+use rb_layout::layout::{Kind, Layout};
+use std::alloc::{AllocError, Global};
+
+/// A leaf that was examined: the types and layouts that it is over, the image's blocks, the place's words, the leaf's
+/// parts in their order, and the addresses of its blocks.
+#[derive(Drop)]
+pub struct Examined<'a> {
+    pub types: &'a [DataDecl],
+    pub layouts: &'a [Layout],
+    pub memory: &'a [ImageBlock],
+    pub words: &'a [Kept],
+    pub order: &'a [Spot<'a>],
+    pub addresses: &'a [u64],
+}
+
+// Whether a part holds a word of the field at a path.
+fn holds(kind: &Kind, path: &[u32], number: u64) -> bool
+    ensures { result ≡ spec.holds kind.now path.now number }
+{
+    match kind {
+        Kind::Const(_) => false,
+        Kind::Bits(_, _) => false,
+        Kind::Word(own, j) => own.as_slice() == path && *j == number,
+        Kind::Pointer(_, _) => false,
+    }
+}
+
+impl<'a> Examined<'a> {
+    // A word of the field at a path: the part that holds it.
+    fn word(&self, path: &[u32], number: u64) -> Kept
+        ensures { result ≡ word_of self.now path.now number }
+    {
+        for spot in self.order {
+            if holds(&spot.part.kind, path, number) {
+                let word = kept_at(self.memory, self.words, self.addresses, spot);
+                return range_of(word, spot.part.o, spot.part.l);
+            }
+        }
+        Kept {
+            number: 0,
+            base: 0,
+            place: 0,
+        }
+    }
+
+    // The words of the field at a path.
+    fn words_of(&self, alloc: Global, path: &[u32], count: usize) -> Result<Vec<Kept>, AllocError>
+        ensures { IfOk result (λ words. words.items ≡ spec.field_words (word_of self.now) path.now 0 count) }
+    {
+        let mut words = Vec::new(alloc);
+        for number in 0..count {
+            words.push(self.word(path, number as u64))?;
+        }
+        Ok(words)
+    }
+}
+
+fn word_count(layouts: &[Layout], ty: u32) -> usize
+    ensures { result ≡ word_count layouts.now (Named ty) }
+{
+    match layouts.get(ty as usize) {
+        None => 0,
+        Some(layout) => layout.shape.len(),
+    }
+}
+
+// The types of the fields of a constructor.
+fn fields_of(types: &[DataDecl], con: ConRef) -> &[Ty]
+    ensures { result.now ≡ types_or_none (fields_of types.now con) }
+{
+    match types.get(con.ty as usize) {
+        None => &[],
+        Some(data) => match data.cons.get(con.con as usize) {
+            None => &[],
+            Some(con) => con.fields.as_slice(),
+        },
+    }
+}
+
+// A path with one field more.
+fn longer(alloc: Global, path: &[u32], field: usize) -> Result<Seq<u32>, AllocError>
+    requires { field < 4294967296 }
+    ensures { IfOk result (λ found. found ≡ path.now ++ field ∷ []) }
+{
+    let mut found = Seq::from_vec(Vec::from_slice(alloc, path)?);
+    found.push(field as u32)?;
+    Ok(found)
+}
+
+// Adds the place at an open position, where that is of a data type.
+fn add_place(
+    alloc: Global,
+    examined: &Examined,
+    ty: Ty,
+    path: &[u32],
+    places: &mut Vec<Place>,
+) -> Result<(), AllocError>
+    ensures { OnOk result (ats_of places.new.items
+        ≡ ats_of places.old.items ++ spec.place_at examined.now.layouts.now (word_of examined.now) path.now ty) }
+{
+    match ty {
+        Ty::Int(_) => Ok(()),
+        Ty::Named(ty) => {
+            let words = examined.words_of(alloc, path, word_count(examined.layouts, ty))?;
+            places.push(Place { ty, words })?;
+            Ok(())
+        }
+    }
+}
+
+/// Adds the places at the open positions of a provenance, from left to right. The call nests as deep as the provenance.
+#[cycle(opening)]
+pub(crate) fn add_places(
+    alloc: Global,
+    examined: &Examined,
+    pat: &Pat,
+    ty: Ty,
+    path: &[u32],
+    places: &mut Vec<Place>,
+) -> Result<(), AllocError>
+    requires few { HaveFewFields examined.now.types.now }
+    ensures { OnOk result (ats_of places.new.items
+        ≡ ats_of places.old.items ++ opened examined.now path.now (opens_of examined.now.types.now pat.now ty)) }
+{
+    match pat {
+        Pat::Wild(_) => add_place(alloc, examined, ty, path, places),
+        Pat::Var(_, _) => add_place(alloc, examined, ty, path, places),
+        Pat::Num(_, _) => Ok(()),
+        Pat::Con(_, con, pats) => {
+            let tys = fields_of(examined.types, *con);
+            add_fields(alloc, examined, pats.as_slice(), tys, path, places)
+        }
+    }
+}
+
+// Adds those of the fields of a constructor.
+#[cycle(opening)]
+fn add_fields(
+    alloc: Global,
+    examined: &Examined,
+    pats: &[Pat],
+    tys: &[Ty],
+    path: &[u32],
+    places: &mut Vec<Place>,
+) -> Result<(), AllocError>
+    requires few { HaveFewFields examined.now.types.now }
+    requires types { AreFew tys.now }
+    ensures { OnOk result (ats_of places.new.items ≡ ats_of places.old.items
+        ++ opened examined.now path.now (opens_below (map (opens_of examined.now.types.now) pats.now) tys.now 0)) }
+{
+    for (i, pat) in pats.iter().enumerate() {
+        if i >= tys.len() {
+            return Ok(());
+        }
+        let field = longer(alloc, path, i)?;
+        add_places(alloc, examined, pat, tys[i], field.as_slice(), places)?;
+    }
+    Ok(())
+}

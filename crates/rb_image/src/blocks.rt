@@ -1,0 +1,69 @@
+//! The blocks of an image: which block begins at an address, and the words in it.
+
+ghost use Rattle.std.specs.Prelude.{◌≡◌, ◌+◌, nat_le};
+ghost use Rattle.std.specs.Option.{option_copied};
+ghost use Rattle.rb_image.specs.Blocks.{block_at, is_width, size_at, word_from, word_in};
+
+use rb_bits::little_endian::load_le;
+use rb_image_text::image::ImageBlock;
+
+// The first of the blocks that begins at an address.
+fn block_at(blocks: &[ImageBlock], address: u64) -> Option<&ImageBlock>
+    ensures { option_copied result ≡ block_at blocks.now address }
+{
+    for block in blocks {
+        if block.at == address {
+            return Some(block);
+        }
+    }
+    None
+}
+
+/// The size in bytes of the block that begins at an address.
+pub(crate) fn size_at(blocks: &[ImageBlock], address: u64) -> Option<u64>
+    ensures { result ≡ size_at blocks.now address }
+{
+    match block_at(blocks, address) {
+        None => None,
+        Some(block) => Some(block.bytes.len() as u64),
+    }
+}
+
+fn is_width(width: u64) -> bool
+    ensures { result ≡ is_width width }
+{
+    width == 8 || width == 16 || width == 32 || width == 64
+}
+
+// Whether so many bytes from one on lie in a block of this size.
+fn lies_within(byte: u64, count: u64, size: u64) -> bool
+    ensures { result ≡ nat_le (byte + count) size }
+{
+    byte <= size && count <= size - byte
+}
+
+// The word of so many bits from a byte of a block on.
+fn word_from(block: &ImageBlock, byte: u64, width: u64) -> Option<u64>
+    ensures { result ≡ word_from block.now byte width }
+{
+    if !is_width(width) {
+        return None;
+    }
+    let bytes = block.bytes.as_slice();
+    if !lies_within(byte, width / 8, bytes.len() as u64) {
+        return None;
+    }
+    let from = byte as usize;
+    let to = from + (width / 8) as usize;
+    Some(load_le(&bytes[from..to]))
+}
+
+/// The word of 8, 16, 32 or 64 bits from a byte on of the block that begins at an address, where it lies in it.
+pub(crate) fn word_in(blocks: &[ImageBlock], address: u64, byte: u64, width: u64) -> Option<u64>
+    ensures { result ≡ word_in blocks.now address byte width }
+{
+    match block_at(blocks, address) {
+        None => None,
+        Some(block) => word_from(block, byte, width),
+    }
+}

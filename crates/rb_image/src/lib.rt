@@ -1,0 +1,44 @@
+//! One place of an image, looked at by itself: what its words and the blocks that they lead to say of the value that
+//! is to stand there, or what is wrong with them. Nothing in an image is trusted.
+//!
+//! Take a list whose tag is the lowest bit of a pointer, and whose items lie behind it:
+//!
+//! ```text
+//! type List = Nil | Cons(u64, List);
+//! 1 => Nil        : { word 64 { [0:1] = 1 } }
+//! 0 => Cons(_, _) : { word 64 { [0:1] = 0, [3:61] -> 8 { word 64 { [0:64] .0 }, inline .1 } } }
+//! ```
+//!
+//! ```text
+//! root 0x40
+//! block 64 16 02000000000000004000000000000000
+//! ```
+//!
+//! A place is the number of a type and the words at which a value of it is to stand. Each word is carried with the
+//! block in which it is kept and its byte there, for a fault to name; a word of the root is kept in no block, which
+//! base 0 stands for. Here the root word 64 is a place of type `List`. `look` goes three steps down from a place:
+//!
+//! - Its splits lead to a leaf: bit 0 is 0, so it is `Cons`. A split that no arm takes is the fault `BadBits`. A
+//!   location may pass pointers; of what stands there it asks only that the word lies in some block.
+//! - The parts of the leaf are examined by word and offset, those of a pointer's block right behind the pointer. Bit 0
+//!   is the constant 0. The pointer leads to 64, where a block begins, and it has the 16 bytes of the leaf's block. A
+//!   constant that differs is `BadBits`, and a pointer that leads to no block of this size is `BadPointer`.
+//! - Below the place there is one more for each open position of a data type, from left to right: here that of type
+//!   `List`, the word 64 from byte 8 of the block on. Its bits are kept in the block at 64, so a pointer in them may
+//!   only lead below 64.
+//!
+//! It leads to 64 itself, so a look at this second place gives `BadPointer(64, 64)`: no chain of pointers comes back to
+//! a block that it passed.
+//!
+//! `specs/Parts.antt` says what one place comes to, above `specs/Splits.antt`, the leaf to which its splits lead, and
+//! `specs/Orders.antt`, the order of a leaf's parts; `specs/Blocks.antt` which blocks and words an image has.
+#![tactic(auto)]
+
+mod below;
+mod bits;
+mod blocks;
+pub mod kept;
+pub mod look;
+mod order;
+mod parts;
+mod splits;

@@ -1,0 +1,137 @@
+//! The parts of a leaf, examined on words of an image.
+
+ghost use Rattle.std.specs.Prelude.{◌≡◌, slice_get, slice_index};
+ghost use Rattle.rb_layout.specs.Readable.{IsReadable};
+ghost use Rattle.rb_image.specs.Given.{IsGiven};
+ghost use Rattle.rb_image.specs.Orders.{order_of};
+ghost use Rattle.rb_image.specs.Parts as spec;
+ghost use Rattle.rb_image.specs.inner.Viewing.{IsStep, at_of, spots_of};
+
+use crate::blocks::{size_at, word_in};
+use crate::kept::Kept;
+use crate::order::Spot;
+use crate::splits::{pointed_from, range_of, word_at};
+use rb_image_text::fault::ImageFault;
+use rb_image_text::image::ImageBlock;
+use rb_layout::layout::{Kind, Leaf};
+use rb_layout::sizes::block_size;
+use std::alloc::Global;
+
+fn address_at(addresses: &[u64], block: u32) -> u64
+    ensures { result ≡ slice_index addresses.now block }
+{
+    match addresses.get(block as usize) {
+        None => 0,
+        Some(address) => *address,
+    }
+}
+
+/// The word of a part: a root word, or the word of a block whose address is known.
+pub(crate) fn kept_at(memory: &[ImageBlock], words: &[Kept], addresses: &[u64], spot: &Spot) -> Kept
+    ensures { result ≡ spec.kept_at memory.now words.now addresses.now spot.now.block (at_of spot.now) }
+{
+    match spot.block {
+        None => word_at(words, spot.word),
+        Some(block) => {
+            let base = address_at(addresses, block);
+            let number = match word_in(memory, base, spot.byte, spot.width) {
+                None => 0,
+                Some(number) => number,
+            };
+            Kept {
+                number,
+                base,
+                place: spot.byte,
+            }
+        }
+    }
+}
+
+// The size of a block of a leaf.
+fn size_of(leaf: &Leaf, block: u32) -> u64
+    requires readable { IsReadable leaf.now }
+    ensures { result ≡ spec.block_size (slice_get leaf.now.blocks block) }
+{
+    match leaf.blocks.get(block as usize) {
+        None => 0,
+        Some(block) => block_size(block),
+    }
+}
+
+// The address to which the bits of a pointer part lead, where a block of the size of this one begins.
+fn follow(
+    memory: &[ImageBlock],
+    leaf: &Leaf,
+    range: Kept,
+    align: u64,
+    block: u32,
+) -> Result<u64, ImageFault>
+    requires readable { IsReadable leaf.now }
+    ensures { result ≡ spec.followed memory.now leaf.now range align block }
+{
+    let address = u128::from(range.number) * u128::from(align);
+    let fault = ImageFault::BadPointer(range.base, address);
+    match pointed_from(range.base, address) {
+        None => Err(fault),
+        Some(at) => match size_at(memory, at) {
+            None => Err(fault),
+            Some(size) => if size == size_of(leaf, block) {
+                Ok(at)
+            } else {
+                Err(fault)
+            },
+        },
+    }
+}
+
+// Examines one part: a constant is its number, and a pointer leads to a block, whose address is noted.
+fn examine_part(
+    memory: &[ImageBlock],
+    leaf: &Leaf,
+    words: &[Kept],
+    spot: &Spot,
+    addresses: &mut Vec<u64>,
+) -> Result<(), ImageFault>
+    requires readable { IsReadable leaf.now }
+    ensures { IsStep (spec.examine_part memory.now leaf.now words.now addresses.old.items (at_of spot.now))
+        addresses.new.items result }
+{
+    let word = kept_at(memory, words, addresses.as_slice(), spot);
+    let range = range_of(word, spot.part.o, spot.part.l);
+    match &spot.part.kind {
+        Kind::Bits(_, _) => Ok(()),
+        Kind::Word(_, _) => Ok(()),
+        Kind::Const(number) => if range.number == *number {
+            Ok(())
+        } else {
+            Err(ImageFault::BadBits(range.base, range.place))
+        },
+        Kind::Pointer(align, block) => {
+            let at = follow(memory, leaf, range, *align, *block)?;
+            let block = *block as usize;
+            if block < addresses.len() {
+                addresses[block] = at;
+            }
+            Ok(())
+        }
+    }
+}
+
+/// Examines parts in their order: the addresses of the leaf's blocks by number, or the first fault.
+pub(crate) fn examine(
+    alloc: Global,
+    memory: &[ImageBlock],
+    leaf: &Leaf,
+    words: &[Kept],
+    order: &[Spot],
+) -> Result<Vec<u64>, ImageFault>
+    requires readable { IsReadable leaf.now }
+    requires order { spots_of order.now ≡ order_of leaf.now }
+    ensures { IsGiven (λ found. found.items) (spec.addresses_of memory.now leaf.now words.now) result }
+{
+    let mut addresses = Vec::from_elem(alloc, 0, leaf.blocks.len())?;
+    for spot in order {
+        examine_part(memory, leaf, words, spot, &mut addresses)?;
+    }
+    Ok(addresses)
+}

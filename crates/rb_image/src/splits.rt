@@ -1,0 +1,130 @@
+//! The leaf to which the splits of a layout lead, read on words of an image.
+
+ghost use Rattle.std.specs.Prelude.{◌≡◌};
+ghost use Rattle.std.specs.Option.{option_copied};
+ghost use Rattle.rb_coding.specs.inner.Leading.{under_number};
+ghost use Rattle.rb_image.specs.Splits.{leaf_at, pointed_from, range_at, range_of, step_over, word_at};
+
+use crate::bits::take_from;
+use crate::blocks::word_in;
+use crate::kept::Kept;
+use rb_core::boxed::Boxed;
+use rb_core::layout_decl::{Loc, Step};
+use rb_image_text::fault::ImageFault;
+use rb_image_text::image::ImageBlock;
+use rb_layout::layout::{FlatArm, FlatTree};
+
+/// The address to which a pointer may lead that is kept in the block at `base`, 0 for a root word: any from a root
+/// word, a lower one from a block.
+pub(crate) fn pointed_from(base: u64, address: u128) -> Option<u64>
+    ensures { result ≡ pointed_from base address }
+{
+    if address > u64::MAX as u128 {
+        return None;
+    }
+    let address = address as u64;
+    if base == 0 || address < base {
+        Some(address)
+    } else {
+        None
+    }
+}
+
+// The word to which a step leads from a word with this number in the range before.
+fn step_over(memory: &[ImageBlock], range: Kept, step: Step) -> Result<Kept, ImageFault>
+    ensures { result ≡ step_over memory.now range step }
+{
+    let address = u128::from(range.number) * u128::from(step.align);
+    let fault = ImageFault::BadPointer(range.base, address);
+    match pointed_from(range.base, address) {
+        None => Err(fault),
+        Some(base) => match word_in(memory, base, step.byte, step.width) {
+            None => Err(fault),
+            Some(number) => Ok(Kept {
+                number,
+                base,
+                place: step.byte,
+            }),
+        },
+    }
+}
+
+/// A range of a word.
+pub(crate) fn range_of(word: Kept, o: u64, l: u64) -> Kept
+    ensures { result ≡ range_of word o l }
+{
+    Kept {
+        number: take_from(word.number, o, l),
+        base: word.base,
+        place: word.place,
+    }
+}
+
+/// The word with a number, where there is one.
+pub(crate) fn word_at(words: &[Kept], number: u64) -> Kept
+    ensures { result ≡ word_at words.now number }
+{
+    match words.get(number as usize) {
+        None => Kept {
+            number: 0,
+            base: 0,
+            place: 0,
+        },
+        Some(word) => *word,
+    }
+}
+
+// The bits at a location, and where they are kept.
+fn range_at(memory: &[ImageBlock], words: &[Kept], loc: &Loc) -> Result<Kept, ImageFault>
+    ensures { result ≡ range_at memory.now words.now loc.now }
+{
+    let mut range = range_of(word_at(words, loc.word), loc.o, loc.l);
+    for step in loc.steps.as_slice() {
+        range = range_of(step_over(memory, range, *step)?, step.o, step.l);
+    }
+    Ok(range)
+}
+
+// What stands under a number: under the first arm with this literal, or else under `else`.
+fn under<'a>(
+    arms: &'a [FlatArm],
+    other: &'a Option<Boxed<FlatTree>>,
+    number: u64,
+) -> Option<&'a FlatTree>
+    ensures { option_copied result ≡ under_number arms.now other.now number }
+{
+    for arm in arms {
+        if arm.literal == number {
+            return Some(&arm.under);
+        }
+    }
+    match other {
+        None => None,
+        Some(tree) => Some(tree.get()),
+    }
+}
+
+/// The number of the leaf to which a tree of splits leads, or the first fault on the way.
+pub(crate) fn leaf_at(
+    memory: &[ImageBlock],
+    words: &[Kept],
+    tree: &FlatTree,
+) -> Result<u32, ImageFault>
+    ensures { result ≡ leaf_at tree.now memory.now words.now }
+{
+    let mut tree = tree;
+    loop {
+        match tree {
+            FlatTree::Leaf(leaf) => return Ok(*leaf),
+            FlatTree::Split(loc, arms, other) => {
+                let range = range_at(memory, words, loc)?;
+                match under(arms.as_slice(), other, range.number) {
+                    None => return Err(ImageFault::BadBits(range.base, range.place)),
+                    Some(next) => {
+                        tree = next;
+                    }
+                }
+            }
+        }
+    }
+}

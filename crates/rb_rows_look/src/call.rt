@@ -1,0 +1,84 @@
+//! Places that are looked at, and what comes of them as text.
+
+use rb_image::kept::{Kept, Place};
+use rb_image::look::look;
+use rb_image_text::fault::ImageFault;
+use rb_image_text::read::read_image_text;
+use rb_layout::agreed::Agreed;
+use ribbit_tool::accepting::accept;
+use std::alloc::{AllocError, Global};
+use std::process::Abort;
+use std::test::Fail;
+
+/// The most bytes of a file.
+const MOST: usize = 262_144;
+
+/// A place to look at: the text of an image, the number of a type, the base and the place at which the first root word
+/// is said to be kept, and the text that is to come.
+pub type Row<'a> = (&'a str, u32, u64, u64, &'a str);
+
+fn fault_text(alloc: Global, fault: ImageFault) -> Result<String, AllocError> {
+    match fault {
+        ImageFault::ImageSyntax(at) => format!(in alloc; "syntax {at}"),
+        ImageFault::ImageBlock(i) => format!(in alloc; "block {i}"),
+        ImageFault::BadRoot(i) => format!(in alloc; "root {i}"),
+        ImageFault::BadBits(base, place) => format!(in alloc; "bits {base} {place}"),
+        ImageFault::BadPointer(base, address) => format!(in alloc; "pointer {base} {address}"),
+        ImageFault::ImageTooLarge => format!(in alloc; "large"),
+        ImageFault::NoSuchPart(i) => format!(in alloc; "part {i}"),
+        ImageFault::Memory => format!(in alloc; "memory"),
+    }
+}
+
+fn places_text(alloc: Global, places: &[Place]) -> Result<String, AllocError> {
+    let mut text = format!(in alloc; "{}", places.len())?;
+    for place in places {
+        let ty = place.ty;
+        text = format!(in alloc; "{text} / {ty}")?;
+        for word in place.words.as_slice() {
+            let Kept {
+                number,
+                base,
+                place,
+            } = *word;
+            text = format!(in alloc; "{text} {number}@{base}+{place}")?;
+        }
+    }
+    Ok(text)
+}
+
+fn answer(alloc: Global, agreed: &Agreed, row: &Row) -> Result<String, AllocError> {
+    let (text, ty, base, place, _) = *row;
+    let image = match read_image_text(alloc, text.as_bytes()) {
+        Ok(image) => image,
+        Err(_) => return format!(in alloc; "no image"),
+    };
+    let mut words = Vec::new(alloc);
+    for word in image.root.as_slice() {
+        words.push(Kept {
+            number: *word,
+            base,
+            place,
+        })?;
+    }
+    match look(alloc, agreed, image.blocks.as_slice(), &Place { ty, words }) {
+        Ok(places) => places_text(alloc, places.as_slice()),
+        Err(fault) => fault_text(alloc, fault),
+    }
+}
+
+/// Checks what comes of places.
+pub fn expect(rt: &impl Abort, alloc: Global, file: &str, rows: &[Row]) -> Result<(), Fail> {
+    if file.len() > MOST {
+        return Err(Fail::from("a long file"));
+    }
+    let accepted = match accept(alloc, file.as_bytes()) {
+        Ok(accepted) => accepted,
+        Err(_) => return Err(Fail::from("a file that is refused")),
+    };
+    for row in rows {
+        let found = answer(alloc, &accepted.agreed, row)?;
+        assert_eq!(rt; found.as_bytes(), row.4.as_bytes(), "{}", row.0);
+    }
+    Ok(())
+}

@@ -1,0 +1,8 @@
+//! Rows of places of images, each looked at by itself: the places below it, or the fault of its own words and blocks.
+//! It has tests alone.
+#![tactic(auto)]
+
+#[cfg(test)]
+mod call;
+#[cfg(test)]
+mod places;
