@@ -9,3 +9,5 @@ mod deep;
 mod images;
 #[cfg(test)]
 mod layouts;
+#[cfg(test)]
+mod long;
