@@ -70,3 +70,11 @@ module _ (p : Program) (typed : IsTyped p) (agrees : Agrees p) (t : ℕ) (layout
   -- its provenance is of the type
   pub opens_at : (n : ℕ) (leaf : Leaf) → slice_get layout.leaves n ≡ Some leaf → open_positions p.types leaf.prov ≡ opens_of p.types leaf.prov (Named t)
   opens_at n leaf at = ap (opens_of p.types leaf.prov) ((lawful p agrees typed).provenances.root t layout n leaf is at)
+
+  -- and it has words
+  pub some_words : 1 ≤ length layout.shape
+  some_words =
+      let b = both (is_between 1 8 (length the_decl.shape)) (list_all (provenance_is_numbered p.types) (provenances the_decl.tree) && is_short_layout the_decl.tree) named.1 in
+      let le = le_is 1 (length the_decl.shape) (both (nat_le 1 (length the_decl.shape)) (nat_le (length the_decl.shape) 8) b.0).0 in
+      let same = ap length same_shape in
+      omega (arith, le, same)

@@ -1,7 +1,15 @@
 pub mod BelowLemmas
 pub mod BlockLemmas
+pub mod DepthLemmas
+pub mod DescentLemmas
 pub mod DropLemmas
+pub mod EndLemmas
+pub mod FallLemmas
+pub mod KnownLemmas
 pub mod LeafLemmas
 pub mod LookLemmas
 pub mod OrderLemmas
+pub mod RootLemmas
+pub mod SoundLemmas
+pub mod SpotLemmas
 pub mod WalkLemmas

@@ -1,2 +1,5 @@
+pub mod Descending
+pub mod Ending
+pub mod Knowing
 pub mod Opening
 pub mod Viewing

@@ -1,5 +1,6 @@
-//! One place of an image, looked at by itself: what its words and the blocks that they lead to say of the value that
-//! is to stand there, or what is wrong with them. Nothing in an image is trusted.
+//! Images of a part of a memory, of which nothing is trusted: one place looked at by itself, what its words and the
+//! blocks that they lead to say of the value that is to stand there, or what is wrong with them; and whole images, each
+//! place of which is so looked at.
 //!
 //! Take a list whose tag is the lowest bit of a pointer, and whose items lie behind it:
 //!
@@ -30,15 +31,29 @@
 //! It leads to 64 itself, so a look at this second place gives `BadPointer(64, 64)`: no chain of pointers comes back to
 //! a block that it passed.
 //!
+//! `examine_image` goes on like this to all places that one comes to from the root. First the root words must be as
+//! many as a value of the type has, and none too wide, else the fault is `BadRoot`. Then there is a list of things to
+//! do, of which the last is done first: it begins with a look at the root's place. A look at a place puts a note of it
+//! there, and behind the note a look at each place below it, the first of these last. So outer places come before inner
+//! ones, and all below a place before the next place beside it; once its note is the last, the place is sound, and it
+//! is kept among the places found sound. A look at a place that is kept there is left out: where both halves of each
+//! node of a tree are one and the same tree, forty levels take forty looks and some, and not 2^40.
+//!
 //! `specs/Parts.antt` says what one place comes to, above `specs/Splits.antt`, the leaf to which its splits lead, and
 //! `specs/Orders.antt`, the order of a leaf's parts; `specs/Blocks.antt` which blocks and words an image has.
+//! `specs/Sound.antt` says what a place with all below it comes to, and keeps nothing; `specs/Roots.antt` what an image
+//! does.
 #![tactic(auto)]
 
 mod below;
 mod bits;
 mod blocks;
+mod descent;
+pub mod examine;
 pub mod kept;
+mod known;
 pub mod look;
 mod order;
 mod parts;
+mod roots;
 mod splits;

@@ -1,5 +1,7 @@
-//! Places that are looked at, and what comes of them as text.
+//! Places that are looked at and images that are examined, and what comes of them as text.
 
+use rb_core::types::Ty;
+use rb_image::examine::examine_image;
 use rb_image::kept::{Kept, Place};
 use rb_image::look::look;
 use rb_image_text::fault::ImageFault;
@@ -65,6 +67,41 @@ fn answer(alloc: Global, agreed: &Agreed, row: &Row) -> Result<String, AllocErro
         Ok(places) => places_text(alloc, places.as_slice()),
         Err(fault) => fault_text(alloc, fault),
     }
+}
+
+/// An image to examine: its text, the type, and the text that is to come.
+pub type ImageRow<'a> = (&'a str, Ty, &'a str);
+
+fn finding(alloc: Global, agreed: &Agreed, text: &str, ty: Ty) -> Result<String, AllocError> {
+    let image = match read_image_text(alloc, text.as_bytes()) {
+        Ok(image) => image,
+        Err(_) => return format!(in alloc; "no image"),
+    };
+    match examine_image(alloc, agreed, ty, &image) {
+        Ok(()) => format!(in alloc; "sound"),
+        Err(fault) => fault_text(alloc, fault),
+    }
+}
+
+/// Checks what comes of images.
+pub fn expect_images(
+    rt: &impl Abort,
+    alloc: Global,
+    file: &str,
+    rows: &[ImageRow],
+) -> Result<(), Fail> {
+    if file.len() > MOST {
+        return Err(Fail::from("a long file"));
+    }
+    let accepted = match accept(alloc, file.as_bytes()) {
+        Ok(accepted) => accepted,
+        Err(_) => return Err(Fail::from("a file that is refused")),
+    };
+    for row in rows {
+        let found = finding(alloc, &accepted.agreed, row.0, row.1)?;
+        assert_eq!(rt; found.as_bytes(), row.2.as_bytes(), "{}", row.0);
+    }
+    Ok(())
 }
 
 /// Checks what comes of places.

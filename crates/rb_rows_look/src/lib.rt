@@ -1,8 +1,10 @@
-//! Rows of places of images, each looked at by itself: the places below it, or the fault of its own words and blocks.
-//! It has tests alone.
+//! Rows of places of images, each looked at by itself: the places below it, or the fault of its own words and blocks;
+//! and of whole images: sound, or their first fault. It has tests alone.
 #![tactic(auto)]
 
 #[cfg(test)]
 mod call;
+#[cfg(test)]
+mod images;
 #[cfg(test)]
 mod places;

@@ -1,0 +1,75 @@
+-- Root words: whether they fit a type, and what an image comes to that they begin.
+use Rattle.std.specs.Prelude.{◌≡◌, ◌⊎◌, ℕ, ◌+◌, ◌<◌, ◌^◌, List, [], ◌∷◌, Option, Some, None, slice_get}
+use Rattle.rb_core.specs.declared.types.Ty.{Ty}
+use Rattle.rb_core.specs.declared.types.Ty.TheVariants.{Int, Named}
+use Rattle.rb_core.specs.declared.types.DataDecl.{DataDecl}
+use Rattle.rb_layout.specs.declared.layout.Layout.{Layout}
+use Rattle.rb_layout.specs.Positions.{layout_of}
+use Rattle.rb_image_text.specs.declared.fault.ImageFault.{ImageFault}
+use Rattle.rb_image_text.specs.declared.fault.ImageFault.TheVariants.{BadRoot}
+use Rattle.rb_image_text.specs.declared.image.Image.{Image}
+use Rattle.rb_image.specs.declared.kept.Kept.{Kept}
+use Rattle.rb_image.specs.Parts.{At, look}
+use Rattle.rb_image.specs.Sound.{Looking, IsSound, HasFault}
+
+-- Widths -------------------------------------------------------------------------------------
+
+abbrev pub shape_of : Option Layout → List ℕ
+shape_of None = []
+shape_of (Some layout) = layout.shape
+
+-- the widths of the words of a value
+abbrev pub widths_of : List Layout → Ty → List ℕ
+widths_of layouts (Int bits) = bits ∷ []
+widths_of layouts (Named t) = shape_of (layout_of layouts t)
+
+-- a word is below 2 ^ its width, and there is one exactly where there is a width
+abbrev pub WordFits : Option ℕ → Option ℕ → Type 0
+WordFits None None = Unit {0}
+WordFits None (Some word) = ⊥
+WordFits (Some width) None = ⊥
+WordFits (Some width) (Some word) = word < 2 ^ width
+
+abbrev pub FitsAt : List ℕ → List ℕ → ℕ → Type 0
+FitsAt widths words i = WordFits (slice_get widths i) (slice_get words i)
+
+abbrev pub AllFit : List ℕ → List ℕ → Type 0
+AllFit widths words = (i : ℕ) → FitsAt widths words i
+
+-- word i is the first that does not fit: it is missing, too many or too wide
+pub record IsFirstMisfit (widths : List ℕ) (words : List ℕ) (i : ℕ) : Type 0 where
+  pub misfit : FitsAt widths words i → ⊥
+  pub before : (j : ℕ) → j < i → FitsAt widths words j
+
+-- Places -------------------------------------------------------------------------------------
+
+-- words of the root, the first of which is word j
+abbrev pub kept_from : ℕ → List ℕ → List Kept
+kept_from j [] = []
+kept_from j (n ∷ ns) = record { number = n; base = 0; place = j } ∷ kept_from (j + 1) ns
+
+abbrev pub root_at : ℕ → List ℕ → At
+root_at t words = record { ty = t; words = kept_from 0 words }
+
+-- an integer has no place below its word
+abbrev pub RootIsSound : Looking → Ty → List ℕ → Type 0
+RootIsSound look (Int bits) words = Unit {0}
+RootIsSound look (Named t) words = IsSound look (root_at t words)
+
+abbrev pub RootHasFault : Looking → Ty → List ℕ → ImageFault → Type 0
+RootHasFault look (Int bits) words fault = ⊥
+RootHasFault look (Named t) words fault = HasFault look (root_at t words) fault
+
+-- Images -------------------------------------------------------------------------------------
+
+module _ (types : List DataDecl) (layouts : List Layout) (image : Image) (ty : Ty) where
+  -- the root words fit the type, and the image is sound from them on
+  pub record IsSoundImage : Type 0 where
+    pub fit : AllFit (widths_of layouts ty) image.root
+    pub sound : RootIsSound (look types layouts image.blocks) ty image.root
+
+  -- the first root word that does not fit is its fault, or else the first fault from the root on
+  abbrev pub IsFirstFault : ImageFault → Type 0
+  IsFirstFault fault =
+      ((i : ℕ) × (fault ≡ BadRoot i) × IsFirstMisfit (widths_of layouts ty) image.root i)
+      ⊎ (AllFit (widths_of layouts ty) image.root × RootHasFault (look types layouts image.blocks) ty image.root fault)

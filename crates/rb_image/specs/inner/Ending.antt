@@ -1,0 +1,60 @@
+-- That a descent ends, and how many steps it takes where no place is known before.
+use Rattle.std.specs.Prelude.{◌≡◌, ℕ, zero, suc, ◌+◌, ◌*◌, List, [], ◌∷◌, length, None, Result, Ok, Err}
+use Rattle.std.specs.List.{AllByRecursion}
+use Rattle.rb_core.specs.declared.types.DataDecl.{DataDecl}
+use Rattle.rb_layout.specs.declared.layout.Layout.{Layout}
+use Rattle.rb_image_text.specs.declared.fault.ImageFault.{ImageFault}
+use Rattle.rb_image_text.specs.declared.image.ImageBlock.{ImageBlock}
+use Rattle.rb_image.specs.declared.descent.Step.{Step}
+use Rattle.rb_image.specs.declared.descent.Step.TheVariants.{Look, Note}
+use Rattle.rb_image.specs.Blocks.{block_at}
+use Rattle.rb_image.specs.Parts.{At, at_of, look}
+use Rattle.rb_image.specs.Roots.{root_at}
+use Rattle.rb_image.specs.Sound.{Looking}
+
+abbrev pub EndBelow : (At → Type 0) → Result (List At) ImageFault → Type 0
+EndBelow P (Err fault) = Unit {0}
+EndBelow P (Ok ps) = AllByRecursion P ps
+
+-- no descent from the place is so many places deep
+abbrev pub Ends : Looking → ℕ → At → Type 0
+Ends look zero p = ⊥
+Ends look (suc n) p = EndBelow (Ends look n) (look p)
+
+abbrev pub total : (At → ℕ) → List At → ℕ
+total f [] = 0
+total f (p ∷ ps) = f p + total f ps
+
+abbrev pub steps_below : (At → ℕ) → Result (List At) ImageFault → ℕ
+steps_below f (Err fault) = 0
+steps_below f (Ok ps) = 1 + total f ps
+
+-- the steps of a descent that is less deep than this
+abbrev pub steps : Looking → ℕ → At → ℕ
+steps look zero p = 0
+steps look (suc n) p = 1 + steps_below (steps look n) (look p)
+
+abbrev pub StepEnds : Looking → ℕ → Step → Type 0
+StepEnds look n (Look p) = Ends look n (at_of p)
+StepEnds look n (Note p) = Unit {0}
+
+abbrev pub AllEnd : Looking → ℕ → List Step → Type 0
+AllEnd look n [] = Unit {0}
+AllEnd look n (s ∷ ss) = StepEnds look n s × AllEnd look n ss
+
+abbrev pub weight : Looking → ℕ → Step → ℕ
+weight look n (Look p) = steps look n (at_of p)
+weight look n (Note p) = 1
+
+abbrev pub weights : Looking → ℕ → List Step → ℕ
+weights look n [] = 0
+weights look n (s ∷ ss) = weight look n s + weights look n ss
+
+-- no descent is deeper where pointers lead at most so high and there are so many types
+unfoldable pub depth_bound : ℕ → ℕ → ℕ
+depth_bound high types = suc (high * suc types + suc types)
+
+-- a descent from root words ends, where no block begins at 0
+abbrev pub DescentsEnd : List DataDecl → List Layout → Type 0
+DescentsEnd types layouts = (m : List ImageBlock) (t : ℕ) (words : List ℕ) → block_at m 0 ≡ None
+    → Ends (look types layouts m) (depth_bound 18446744073709551616 (length layouts)) (root_at t words)

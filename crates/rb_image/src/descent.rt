@@ -1,0 +1,71 @@
+//! The descent over all places that one comes to from a place.
+
+ghost use Rattle.std.specs.Prelude.{◌≡◌, ◌++◌, OnOk, length};
+ghost use Rattle.rb_image.specs.Parts.{at_of, look};
+ghost use Rattle.rb_image.specs.Sound.{IsFound};
+ghost use Rattle.rb_image.specs.inner.Descending.{looks};
+ghost use Rattle.rb_image.specs.inner.Ending.{DescentsEnd, Ends, depth_bound};
+
+use crate::kept::Place;
+use crate::known::Known;
+use crate::look::look;
+use rb_image_text::fault::ImageFault;
+use rb_image_text::image::ImageBlock;
+use rb_layout::agreed::Agreed;
+use std::alloc::{AllocError, Global};
+
+/// One thing to do.
+#[derive(Drop)]
+pub enum Step {
+    /// This place is to be looked at.
+    Look(Place),
+    /// All places below this one were found sound, and so it is.
+    Note(Place),
+}
+
+// Adds looks at places, so that the first place is looked at first.
+fn add_looks(places: Vec<Place>, todo: &mut Vec<Step>) -> Result<(), AllocError>
+    ensures { OnOk result (todo.new.items ≡ todo.old.items ++ looks places.items) }
+{
+    let mut places = places;
+    while let Some(place) = places.pop() {
+        todo.push(Step::Look(place))?;
+    }
+    Ok(())
+}
+
+/// Tells that a descent from root words ends. The getters know it: the program is typed, and its layouts agree.
+pub(crate) fn descents_end(agreed: &Agreed)
+    ensures { DescentsEnd agreed.now.covered.program.types agreed.now.layouts }
+{
+    let _ = agreed.covered().program();
+    let _ = agreed.layouts();
+}
+
+/// Looks at a place and at all that one comes to from it: outer places before inner ones, from left to right. A place
+/// that was found sound is not looked at again. The last of the things to do is done first, so nothing recurs.
+pub(crate) fn descend(
+    alloc: Global,
+    agreed: &Agreed,
+    memory: &[ImageBlock],
+    root: Place,
+) -> Result<(), ImageFault>
+    requires ends { Ends (look agreed.now.covered.program.types agreed.now.layouts memory.now)
+        (depth_bound 18446744073709551616 (length agreed.now.layouts)) (at_of root) }
+    ensures { IsFound (look agreed.now.covered.program.types agreed.now.layouts memory.now) (at_of root) result }
+{
+    let mut known = Known::new(alloc);
+    let mut todo = Vec::new(alloc);
+    todo.push(Step::Look(root))?;
+    while let Some(step) = todo.pop() {
+        match step {
+            Step::Note(place) => known.add(place)?,
+            Step::Look(place) => if !known.has(&place) {
+                let below = look(alloc, agreed, memory, &place)?;
+                todo.push(Step::Note(place))?;
+                add_looks(below, &mut todo)?;
+            },
+        }
+    }
+    Ok(())
+}

@@ -1,0 +1,48 @@
+//! Places that were found sound.
+
+ghost use Rattle.std.specs.Prelude.{◌≡◌, [], OnOk};
+ghost use Rattle.rb_image.specs.Parts.{at_of};
+ghost use Rattle.rb_image.specs.inner.Knowing.{is_among, with_place};
+
+use crate::kept::Place;
+use indexmap::IndexSet;
+use std::alloc::{AllocError, Global};
+use std::marker::Model;
+
+/// Places, each once.
+#[derive(Drop)]
+pub struct Known {
+    places: IndexSet<Place>,
+}
+
+impl Model for Known {
+    ghost use Rattle.std.specs.Prelude.{List, map};
+    ghost use Rattle.rb_image.specs.Parts.{At, at_of};
+
+    ghost Value = { List At };
+
+    ghost view = { λ k. map at_of k.places.keys };
+}
+
+impl Known {
+    pub fn new(alloc: Global) -> Self
+        ensures { result ≡ [] }
+    {
+        Known {
+            places: IndexSet::new(alloc),
+        }
+    }
+
+    pub fn has(&self, place: &Place) -> bool
+        ensures { result ≡ is_among self.now (at_of place.now) }
+    {
+        self.places.contains(place)
+    }
+
+    pub fn add(&mut self, place: Place) -> Result<(), AllocError>
+        ensures { OnOk result (self.new ≡ with_place self.old (at_of place)) }
+    {
+        self.places.insert(place)?;
+        Ok(())
+    }
+}
