@@ -1,0 +1,225 @@
+//! What comes of a call where one part of the outside fails, as the rules of delivery have it. A file takes
+//! a call that opens it, a read for each piece, and a read that finds its end; a text takes a write for
+//! each piece. A sink fails at one write alone, so a later write would be seen.
+
+use crate::call::{Answer, EASY, Outside, Side, expect, failing, holding};
+use rb_rows_calls::surprise::Surprise;
+use std::alloc::Global;
+
+/// Words, the file (none where nothing is read), the status and the text where nothing fails, and the steps;
+/// where code that the program chose is run, any number of them is right.
+pub type Row<'a> = (&'a str, &'a [u8], u8, &'a [u8], Option<u128>);
+
+pub const READ_FAULT: &[u8] = b"ribbit: read fault\n";
+
+const WRITE_FAULT: &[u8] = b"ribbit: write fault\n";
+
+/// The status of a failed read.
+const UNREAD: u8 = 7;
+
+/// The status of a failed write.
+const UNWRITTEN: u8 = 8;
+
+/// A byte at a time, some, and all at once.
+const STEPS: [usize; 3] = [1, 7, 5000];
+
+/// How many bytes of a line were taken before each of its first writes, at seven bytes a write.
+const LINE: [(u64, usize); 3] = [(0, 0), (1, 7), (2, 14)];
+
+/// A row.
+#[derive(Clone, Copy)]
+struct Call<'a> {
+    words: &'a str,
+    file: &'a [u8],
+    status: u8,
+    text: &'a [u8],
+    steps: Option<u128>,
+}
+
+fn front(text: &[u8], count: usize) -> &[u8] {
+    &text[..count.min(text.len())]
+}
+
+// What is answered where nothing fails.
+fn due<'a>(call: &Call<'a>) -> Answer<'a> {
+    let (out, err): (&[u8], &[u8]) = if call.status == 0 {
+        (call.text, b"")
+    } else {
+        (b"", call.text)
+    };
+    Answer {
+        status: call.status,
+        out,
+        err,
+        steps: call.steps,
+    }
+}
+
+// What is answered where the sink of the text has taken so many bytes and fails.
+fn cut<'a>(call: &Call<'a>, count: usize) -> Answer<'a> {
+    let taken = front(call.text, count);
+    let (out, err): (&[u8], &[u8]) = if call.status == 0 {
+        (taken, WRITE_FAULT)
+    } else {
+        (b"", taken)
+    };
+    Answer {
+        status: UNWRITTEN,
+        out,
+        err,
+        steps: call.steps,
+    }
+}
+
+// An outside whose sink for the text is this one.
+fn over(call: &Call, side: Side) -> Outside {
+    let (out, err) = if call.status == 0 {
+        (side, EASY)
+    } else {
+        (EASY, side)
+    };
+    Outside {
+        source: EASY,
+        out,
+        err,
+    }
+}
+
+// An outside with this source.
+fn from(source: Side) -> Outside {
+    Outside {
+        source,
+        out: EASY,
+        err: EASY,
+    }
+}
+
+fn look(alloc: Global, call: &Call, outside: Outside, wanted: Answer) -> Result<u128, Surprise> {
+    expect(alloc, call.words, call.file, outside, wanted)
+}
+
+// Each call of the source fails, and then the one that is not made.
+fn each_source_call(alloc: Global, call: &Call, step: usize) -> Result<(), Surprise> {
+    let mut calls = 0u64;
+    if !call.file.is_empty() {
+        let pieces = call.file.chunks(step.max(1)).count() as u64;
+        calls = pieces.saturating_add(2);
+    }
+    let unread = Answer {
+        status: UNREAD,
+        out: b"",
+        err: READ_FAULT,
+        steps: Some(0),
+    };
+    for number in 0..calls {
+        look(alloc, call, from(failing(step, number)), unread)?;
+    }
+    look(alloc, call, from(failing(step, calls)), due(call))?;
+    Ok(())
+}
+
+// Each write of the text fails, and then the one that is not made.
+fn each_write(alloc: Global, call: &Call, step: usize) -> Result<(), Surprise> {
+    let mut writes = 0u64;
+    let mut taken = 0usize;
+    for piece in call.text.chunks(step.max(1)) {
+        let outside = over(call, failing(step, writes));
+        look(alloc, call, outside, cut(call, taken))?;
+        writes = writes.saturating_add(1);
+        taken = taken.saturating_add(piece.len());
+    }
+    look(alloc, call, over(call, failing(step, writes)), due(call))?;
+    Ok(())
+}
+
+// The sink of the text has no room, room of one byte, of one byte too few, and of just enough.
+fn each_room(alloc: Global, call: &Call, step: usize) -> Result<(), Surprise> {
+    let whole = call.text.len();
+    for room in [0, 1, whole.saturating_sub(1)] {
+        let outside = over(call, holding(step, room));
+        look(alloc, call, outside, cut(call, room))?;
+    }
+    look(alloc, call, over(call, holding(step, whole)), due(call))?;
+    Ok(())
+}
+
+// Both sinks fail: the output at its first write, or at its second, and then a write of the line. Where a
+// refusal is due, the output fails in vain, for it is not written.
+fn both_sinks(alloc: Global, call: &Call) -> Result<(), Surprise> {
+    for (number, taken) in LINE {
+        let mut wanted = cut(call, taken);
+        if call.status == 0 {
+            wanted.out = b"";
+            wanted.err = front(WRITE_FAULT, taken);
+        }
+        let outside = Outside {
+            source: EASY,
+            out: failing(1, 0),
+            err: failing(7, number),
+        };
+        look(alloc, call, outside, wanted)?;
+    }
+    let mut wanted = cut(call, 1);
+    wanted.err = b"";
+    let outside = Outside {
+        source: EASY,
+        out: failing(1, 1),
+        err: failing(7, 0),
+    };
+    look(alloc, call, outside, wanted)?;
+    Ok(())
+}
+
+// The source fails, and then a write of the line.
+fn source_and_sink(alloc: Global, call: &Call) -> Result<(), Surprise> {
+    for (number, taken) in LINE {
+        let outside = Outside {
+            source: failing(10, 1),
+            out: failing(1, 0),
+            err: failing(7, number),
+        };
+        let wanted = Answer {
+            status: UNWRITTEN,
+            out: b"",
+            err: front(READ_FAULT, taken),
+            steps: Some(0),
+        };
+        look(alloc, call, outside, wanted)?;
+    }
+    Ok(())
+}
+
+fn expect_row(alloc: Global, row: Row) -> Result<(), Surprise> {
+    let (words, file, status, text, open) = row;
+    let mut call = Call {
+        words,
+        file,
+        status,
+        text,
+        steps: open,
+    };
+    let steps = look(alloc, &call, from(EASY), due(&call))?;
+    call.steps = Some(steps);
+    for step in STEPS {
+        each_source_call(alloc, &call, step)?;
+        each_write(alloc, &call, step)?;
+        each_room(alloc, &call, step)?;
+    }
+    both_sinks(alloc, &call)?;
+    if !file.is_empty() {
+        source_and_sink(alloc, &call)?;
+    }
+    Ok(())
+}
+
+/// Looks at each row with nothing failing, and then with each part of the outside failing in turn.
+///
+/// # Errors
+///
+/// Another answer than is due, or want of memory.
+pub fn expect_table(alloc: Global, rows: &[Row]) -> Result<(), Surprise> {
+    for row in rows {
+        expect_row(alloc, *row)?;
+    }
+    Ok(())
+}
