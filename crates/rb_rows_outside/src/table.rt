@@ -21,7 +21,7 @@ const UNREAD: u8 = 7;
 const UNWRITTEN: u8 = 8;
 
 /// A byte at a time, some, and all at once.
-const STEPS: [usize; 3] = [1, 7, 5000];
+const SIZES: [usize; 3] = [1, 7, 5000];
 
 /// How many bytes of a line were taken before each of its first writes, at seven bytes a write.
 const LINE: [(u64, usize); 3] = [(0, 0), (1, 7), (2, 14)];
@@ -189,7 +189,13 @@ fn source_and_sink(alloc: Global, call: &Call) -> Result<(), Surprise> {
     Ok(())
 }
 
-fn expect_row(alloc: Global, row: Row) -> Result<(), Surprise> {
+/// Looks at a row with nothing failing, and then with each part of the outside failing in turn, for pieces
+/// of these sizes.
+///
+/// # Errors
+///
+/// Another answer than is due, or want of memory.
+pub fn expect_row(alloc: Global, row: Row, sizes: &[usize]) -> Result<(), Surprise> {
     let (words, file, status, text, open) = row;
     let mut call = Call {
         words,
@@ -200,10 +206,10 @@ fn expect_row(alloc: Global, row: Row) -> Result<(), Surprise> {
     };
     let steps = look(alloc, &call, from(EASY), due(&call))?;
     call.steps = Some(steps);
-    for step in STEPS {
-        each_source_call(alloc, &call, step)?;
-        each_write(alloc, &call, step)?;
-        each_room(alloc, &call, step)?;
+    for size in sizes {
+        each_source_call(alloc, &call, *size)?;
+        each_write(alloc, &call, *size)?;
+        each_room(alloc, &call, *size)?;
     }
     both_sinks(alloc, &call)?;
     if !file.is_empty() {
@@ -212,14 +218,14 @@ fn expect_row(alloc: Global, row: Row) -> Result<(), Surprise> {
     Ok(())
 }
 
-/// Looks at each row with nothing failing, and then with each part of the outside failing in turn.
+/// Looks at each row so, for pieces of a byte, of some, and of all.
 ///
 /// # Errors
 ///
 /// Another answer than is due, or want of memory.
 pub fn expect_table(alloc: Global, rows: &[Row]) -> Result<(), Surprise> {
     for row in rows {
-        expect_row(alloc, *row)?;
+        expect_row(alloc, *row, &SIZES)?;
     }
     Ok(())
 }
