@@ -11,6 +11,7 @@ pub mod Marking
 pub mod Searching
 pub mod Relating
 pub mod Opening
+mod Reaching
 mod Holding
 mod Falling
 mod Alikeness

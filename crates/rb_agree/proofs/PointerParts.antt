@@ -15,7 +15,7 @@ use Rattle.rb_layout.specs.Words.{words_of_block, words_in}
 use Rattle.rb_layout.specs.Pointers.{PointsTo}
 use Rattle.rb_layout.specs.A4.{FailsBlocks, HasBlocks, IsAlignment, IsBlockLength, IsWide}
 use Rattle.rb_agree.specs.inner.Lists.{EachOf, SomeOf}
-use Rattle.rb_agree.specs.inner.Blocks.{ArePointersFine, FailsBlock, FailsKind, FailsPointer, FailsPointers, FailsWidth, HasWidth, IsBlock, IsKind}
+use Rattle.rb_agree.specs.inner.Blocks.{ArePointersFine, FailsBlock, FailsKind, FailsLength, FailsPointer, FailsPointers, FailsWidth, HasWidth, IsBlock, IsKind}
 
 -- Powers of two -----------------------------------------------------------------------------------
 
@@ -121,6 +121,10 @@ module _ (leaf : Leaf) where
   }
 
 -- A block by its words ------------------------------------------------------------------------------
+
+pub length-fails : (block : Block) (why : Why) → FailsLength block.words why → FailsBlock block why
+length-fails block (BlockWords n) h = h
+length-fails block why h = absurd h
 
 pub width-fails : (block : Block) (why : Why) → SomeOf (FailsWidth why) block.words → FailsBlock block why
 width-fails block (BlockWord w) h = h

@@ -1,5 +1,5 @@
-//! Blocks of words and of numbers that are none, and pointers that are too short. Worked out by hand from the
-//! rules.
+//! Blocks of words and of numbers that are none, and pointers that are too short; and which of several faults
+//! of one leaf is named. Worked out by hand from the rules.
 
 use crate::refusals::{expect_agreed, expect_refused};
 use rb_rows_calls::call::repeated;
@@ -65,8 +65,87 @@ fn blocks_and_pointers(rt: HostRuntime) -> Result<(), Fail> {
     Ok(())
 }
 
-/// What stands before, a part, how often it stands, what stands behind, and what is refused.
-const LONG: [(&str, &str, usize, &str, &str); 4] = [
+/// Files in which a leaf fails in two ways or more, and what is refused: of a word first its pointers as they
+/// are written, each with its alignment, its bits and the number of words behind it; then, in a block, its own
+/// width; then what is behind its pointers.
+const FIRST: [(&str, &str); 16] = [
+    (
+        "type A = A; layout A <64> = A : { word 64 { [0:11] -> 3 { word 12 { } } } };",
+        "A: A4: leaf A: alignment 3",
+    ),
+    (
+        "type A = A; layout A <64> = A : { word 64 { [0:17] -> 1 { } } };",
+        "A: A4: leaf A: pointer of 17 bits",
+    ),
+    (
+        "type A = A; layout A <64> = A : { word 64 { [0:17] -> 1 { word 12 { } } } };",
+        "A: A4: leaf A: pointer of 17 bits",
+    ),
+    (
+        "type A = A; layout A <64> = A : { word 64 { [0:30] -> 1 { }, [30:11] -> 1 { word 8 { } } } };",
+        "A: A4: leaf A: block of 0 words",
+    ),
+    (
+        "type A = A; layout A <64> = A : { word 64 { [0:30] -> 1 { word 12 { } }, [30:11] -> 1 { word 8 { } } } };",
+        "A: A4: leaf A: pointer of 11 bits",
+    ),
+    (
+        "type A = A; layout A <64> = A : { word 64 { [30:12] -> 1 { word 8 { } }, [0:11] -> 1 { word 8 { } } } };",
+        "A: A4: leaf A: pointer of 12 bits",
+    ),
+    (
+        "type A = A; layout A <64, 64> = A : { word 64 { [0:30] -> 1 { word 13 { } } }, word 64 { [0:11] -> 1 { word 8 { } } } };",
+        "A: A4: leaf A: block word of 13 bits",
+    ),
+    (
+        "type A = A; layout A <64> = A : { word 64 { [0:64] -> 1 { word 33 { [0:20] -> 1 { word 8 { } } } } } };",
+        "A: A4: leaf A: pointer of 20 bits",
+    ),
+    (
+        "type A = A; layout A <64> = A : { word 64 { [0:64] -> 1 { word 33 { [0:30] -> 1 { } } } } };",
+        "A: A4: leaf A: block of 0 words",
+    ),
+    (
+        "type A = A; layout A <64> = A : { word 64 { [0:64] -> 1 { word 33 { [0:30] -> 1 { word 64 { [0:11] -> 1 { word 8 { } } } } } } } };",
+        "A: A4: leaf A: block word of 33 bits",
+    ),
+    (
+        "type A = A; layout A <64> = A : { word 64 { [0:64] -> 1 { word 64 { [0:64] -> 1 { word 13 { } } }, word 12 { } } } };",
+        "A: A4: leaf A: block word of 13 bits",
+    ),
+    (
+        "type A = A; layout A <64> = A : { word 64 { [0:64] -> 1 { word 12 { }, word 64 { [0:11] -> 1 { word 8 { } } } } } };",
+        "A: A4: leaf A: block word of 12 bits",
+    ),
+    (
+        "type A = A; layout A <64> = A : { word 64 { [30:30] -> 1 { word 64 { [0:30] -> 1 { word 12 { } } } }, [0:30] -> 1 { word 13 { } } } };",
+        "A: A4: leaf A: block word of 12 bits",
+    ),
+    (
+        "type A = A(u8, u12); layout A <64> = A(_, _) : { word 64 { [0:30] -> 1 { word 13 { [0:8] .0 } }, [30:30] -> 1 { inline .1 } } };",
+        "A: A4: leaf A(_, _): block word of 13 bits",
+    ),
+    (
+        "type A = A(u8, u12); layout A <64> = A(_, _) : { word 64 { [0:30] -> 1 { inline .1, inline .0 }, [30:11] -> 1 { inline .5 } } };",
+        "A: A4: leaf A(_, _): pointer of 11 bits",
+    ),
+    (
+        "type A = A | B; layout A <64> = split 0[0:1] { 0 => A : { word 64 { [0:1] = 0, [1:63] -> 1 { word 12 { } } } } 1 => B : { word 64 { [0:1] = 1, [1:11] -> 1 { word 8 { } } } } };",
+        "A: A4: leaf A: block word of 12 bits",
+    ),
+];
+
+#[test]
+fn first_of_several_faults(rt: HostRuntime) -> Result<(), Fail> {
+    for (file, wanted) in FIRST {
+        expect_refused(rt.alloc(), file, wanted)?;
+    }
+    Ok(())
+}
+
+/// What stands before, a part, how often it stands, what stands behind, and what is refused. The number of a
+/// leaf's blocks is named before all else, and that of a block's words before their widths.
+const LONG: [(&str, &str, usize, &str, &str); 6] = [
     (
         "type A = A; layout A <64> = A : { word 64 { [0:64] -> 8 { word 8 { }",
         ", word 8 { }",
@@ -94,6 +173,20 @@ const LONG: [(&str, &str, usize, &str, &str); 4] = [
         63,
         " } } };",
         "A: A4: leaf A: 66 blocks",
+    ),
+    (
+        "type A = A; layout A <64> = A : { word 64 { [0:11] -> 3 { word 64 { [0:64] -> 1 { } }",
+        ", word 64 { [0:64] -> 1 { word 12 { } } }",
+        63,
+        " } } };",
+        "A: A4: leaf A: 65 blocks",
+    ),
+    (
+        "type A = A; layout A <64> = A : { word 64 { [0:64] -> 8 { word 12 { }",
+        ", word 64 { [0:11] -> 1 { } }",
+        62,
+        ", word 8 { }, word 8 { } } } };",
+        "A: A4: leaf A: block of 65 words",
     ),
 ];
 

@@ -1,5 +1,5 @@
 -- Blocks and pointers, part by part, word by word and block by block.
-use Rattle.std.specs.Prelude.{◌≡◌, ℕ, ◌+◌, ◌^◌, ◌<◌, List, length}
+use Rattle.std.specs.Prelude.{◌≡◌, ℕ, ◌+◌, ◌^◌, ◌<◌, ◌⊎◌, List, length, Option, Some, None}
 use Rattle.rb_layout.specs.declared.layout.Block.{Block}
 use Rattle.rb_layout.specs.declared.layout.FlatWord.{FlatWord}
 use Rattle.rb_layout.specs.declared.layout.Part.{Part}
@@ -58,3 +58,25 @@ FailsBlock block (BlockWord w) = SomeOf (FailsWidth (BlockWord w)) block.words
 FailsBlock block (Align a) = FailsPointers block.words (Align a)
 FailsBlock block (ShortPointer n) = FailsPointers block.words (ShortPointer n)
 FailsBlock block why = ⊥
+
+abbrev pub FailsLength : List FlatWord → Why → Type 0
+FailsLength words (BlockWords n) = (length words ≡ n) × (IsBlockLength n → ⊥)
+FailsLength words why = ⊥
+
+-- some block fails
+abbrev pub FailsInBlocks : List Block → Why → Type 0
+FailsInBlocks blocks why = SomeOf (λ (b : Block). FailsBlock b why) blocks
+
+-- the number of the block to which a part of this kind points
+abbrev pub pointed_block : Kind → Option ℕ
+pointed_block (Const c) = None
+pointed_block (Bits path a) = None
+pointed_block (Word path j) = None
+pointed_block (Pointer align b) = Some b
+
+-- a part is a pointer that fails, or some block fails
+abbrev pub FailsNearPart : List Block → Part → Why → Type 0
+FailsNearPart blocks part why = FailsKind part.l part.kind why ⊎ FailsInBlocks blocks why
+
+abbrev pub FailsNear : List Block → List Part → Why → Type 0
+FailsNear blocks parts why = FailsParts parts why ⊎ FailsInBlocks blocks why
