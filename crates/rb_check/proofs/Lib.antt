@@ -1,4 +1,5 @@
 pub mod AnswerLemmas
+pub mod BelowLemmas
 pub mod CheckLemmas
 pub mod CoverLemmas
 pub mod EmptinessLemmas

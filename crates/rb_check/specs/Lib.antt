@@ -1,3 +1,4 @@
 pub mod Answers
 pub mod Covering
 pub mod Emptiness
+pub mod inner

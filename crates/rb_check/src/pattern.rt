@@ -4,6 +4,7 @@ ghost use Rattle.std.specs.Prelude.{◌≡◌, ◌<◌, ◌==◌, length, map, t
 ghost use Rattle.std.specs.List.{list_any};
 ghost use Rattle.rb_core.specs.Typing.{also_bound, fields_match, field_types, pattern_binders, pattern_params, repeated};
 ghost use Rattle.rb_check.specs.Answers.{Leaves, binders, within};
+ghost use Rattle.rb_check.specs.inner.Below.{AreBelow};
 
 use crate::types::{can_hold, number_type};
 use rb_core::pattern::Pat;
@@ -25,16 +26,27 @@ pub fn fields_of(types: &[DataDecl], con: ConRef) -> &[Ty]
     }
 }
 
-/// The token of the first variable that stands before in the list, too.
+/// The token of the first variable that stands before in the list, too. Where numbers rise, as those
+/// of a file's binders do, only a variable that does stand before is sought there.
 pub fn repeated(params: &[Param]) -> Option<u32>
     ensures { result ≡ repeated params.now }
 {
+    let mut above = 0;
     for (i, param) in params.iter().enumerate() {
-        if stands_in(&params[..i], param.var) {
+        if stands_below(&params[..i], above, param.var) {
             return Some(param.at);
         }
+        above = above.max(u64::from(param.var) + 1);
     }
     None
+}
+
+/// Whether a variable is one of the list, in which each number is below `above`.
+fn stands_below(params: &[Param], above: u64, var: u32) -> bool
+    requires { AreBelow above params.now }
+    ensures { result ≡ list_any (λ q. q.var == var) params.now }
+{
+    u64::from(var) < above && stands_in(params, var)
 }
 
 /// Whether a variable is one of the list.
