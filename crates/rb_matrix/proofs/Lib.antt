@@ -7,6 +7,7 @@ pub mod Inhabited
 pub mod Laws
 pub mod Opens
 pub mod Parts
+pub mod Passing
 pub mod Powers
 pub mod Reaches
 pub mod SpecializeLaws

@@ -5,3 +5,4 @@ pub mod Problems
 pub mod Rows
 pub mod Search
 pub mod Specialize
+pub mod inner

@@ -8,7 +8,7 @@ ghost use Rattle.rb_matrix.specs.Problems.{IsBesideAnswer};
 ghost use Rattle.rb_matrix.specs.Search.{AreInhabited, IsTypeIn};
 ghost use Rattle.rb_matrix.specs.Specialize.{wilds};
 
-use crate::heads::is_known;
+use crate::heads::{is_known, numbers_of};
 use crate::matrix::Head;
 use rb_core::pattern::Pat;
 use rb_core::seq::Seq;
@@ -28,17 +28,19 @@ fn greatest(bits: u8) -> u64
 }
 
 // The least number up to `most` that is not among the heads.
-fn least_missing(heads: &[Head], most: u64) -> Option<u64>
-    ensures { MatchOption result ((m : ℕ) → m ≤ most → any_begins heads.now (Layers.Num m) ≡ true)
-        (λ m. (m ≤ most) × (any_begins heads.now (Layers.Num m) ≡ false)) }
+fn least_missing(alloc: Global, heads: &[Head], most: u64) -> Result<Option<u64>, AllocError>
+    ensures { IfOk result (λ r. MatchOption r
+        ((m : ℕ) → m ≤ most → any_begins heads.now (Layers.Num m) ≡ true)
+        (λ m. (m ≤ most) × (any_begins heads.now (Layers.Num m) ≡ false))) }
 {
+    let numbers = numbers_of(alloc, heads)?;
     let mut number = 0;
     loop {
-        if !is_known(heads, Head::Num(number)) {
-            return Some(number);
+        if !numbers.contains(number) {
+            return Ok(Some(number));
         }
         if number == most {
-            return None;
+            return Ok(None);
         }
         number += 1;
     }
@@ -110,7 +112,7 @@ pub fn pattern_beside(
         return Ok(Some(Pat::Wild(0)));
     }
     match ty {
-        Ty::Int(bits) => match least_missing(heads, greatest(bits)) {
+        Ty::Int(bits) => match least_missing(alloc, heads, greatest(bits))? {
             None => Ok(None),
             Some(number) => Ok(Some(Pat::Num(0, number))),
         },

@@ -5,7 +5,9 @@ ghost use Rattle.std.specs.Prelude.{◌≡◌, ◌<◌, ◌∷◌, ◌++◌, [],
 ghost use Rattle.rb_matrix.specs.declared.coverage.MatrixFault.TheVariants as MatrixFaults;
 ghost use Rattle.rb_matrix.specs.Exhaust.{IsExhaustAnswer, IsReachAnswer, AreUnreached, IsCommonAnswer, IsOneAnswer, one_each};
 ghost use Rattle.rb_matrix.specs.Search.{AreInhabited, IsTypeIn};
+ghost use Rattle.rb_matrix.specs.inner.Passed.{ArePassed};
 
+use crate::passed::Passed;
 use crate::problem::Problem;
 use crate::search::find_in;
 use rb_core::pattern::Pat;
@@ -118,8 +120,9 @@ pub fn exhaust(alloc: Global, types: &[DataDecl], ty: Ty, rows: &[Pat]) -> Resul
     }
 }
 
-// Whether a pattern is the first match of some value. The rows are those of the patterns before it.
-fn is_reached(
+// Whether a pattern is the first match of some value, by a search. The rows are those of the patterns
+// before it.
+fn is_found(
     alloc: Global,
     types: &[DataDecl],
     ty: Ty,
@@ -139,6 +142,37 @@ fn is_reached(
     Ok(found.is_some())
 }
 
+// Whether a pattern is the first match of some value. None is behind one that matches every value,
+// and a number is compared with no pattern before it.
+fn is_reached(
+    alloc: Global,
+    types: &[DataDecl],
+    ty: Ty,
+    pats: &[Pat],
+    i: usize,
+    passed: &Passed,
+    before: &mut Seq<Seq<Pat>>,
+) -> Result<bool, AllocError>
+    requires inhabited { AreInhabited types.now }
+    requires ty { IsTypeIn types.now ty }
+    requires within { i < length pats.now }
+    requires passed { ArePassed (take i pats.now) passed.now }
+    requires before { before.old ≡ one_each (take i pats.now) }
+    ensures reached { IfOk result (λ b. IsReachAnswer types.now ty pats.now i b) }
+    ensures same { OnOk result (before.new ≡ before.old) }
+{
+    let pat = &pats[i];
+    if passed.all {
+        return Ok(false);
+    }
+    match pat {
+        Pat::Num(_, number) => Ok(passed.is_new(types, ty, *number)),
+        Pat::Wild(_) => is_found(alloc, types, ty, pats, i, before),
+        Pat::Var(_, _) => is_found(alloc, types, ty, pats, i, before),
+        Pat::Con(_, _, _) => is_found(alloc, types, ty, pats, i, before),
+    }
+}
+
 /// The numbers, ascending, of the patterns that are the first match of no value of the type.
 pub fn unreached(
     alloc: Global,
@@ -152,9 +186,12 @@ pub fn unreached(
 {
     let mut numbers = Vec::new(alloc);
     let mut before = Seq::new(alloc);
+    let mut passed = Passed::new(alloc);
     for i in 0..rows.len() {
-        let reached = is_reached(alloc, types, ty, rows, i, &mut before)?;
-        let row = row_of(alloc, &rows[i])?;
+        let reached = is_reached(alloc, types, ty, rows, i, &passed, &mut before)?;
+        let pat = &rows[i];
+        passed.add(pat)?;
+        let row = row_of(alloc, pat)?;
         before.push(row)?;
         if reached {
             continue;

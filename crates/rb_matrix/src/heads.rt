@@ -7,8 +7,10 @@ ghost use Rattle.rb_core.specs.declared.value.Value.TheOpen as Layers;
 ghost use Rattle.rb_core.specs.Values.{fields_in};
 ghost use Rattle.rb_matrix.specs.Heads.{layer_begins, any_begins, column_begins, option_begins, row_head, first_head, fields_at, sample, some_head};
 ghost use Rattle.rb_matrix.specs.Problems.{rows_heads};
+ghost use Rattle.rb_matrix.specs.inner.Passed.{has, AreNumbersOf};
 
 use crate::matrix::Head;
+use crate::numbers::Numbers;
 use rb_core::pattern::Pat;
 use rb_core::seq::Seq;
 use rb_core::types::{DataDecl, Ty};
@@ -69,17 +71,61 @@ pub fn is_known(known: &[Head], head: Head) -> bool
     false
 }
 
-fn add_head(heads: &mut Vec<Head>, head: Option<Head>) -> Result<(), AllocError>
+// Adds the number of a head.
+fn add_number(numbers: &mut Numbers, head: Head) -> Result<(), AllocError>
+    ensures { OnOk result ((n : ℕ)
+        → has numbers.new n ≡ (has numbers.old n || layer_begins head (Layers.Num n))) }
+{
+    match head {
+        Head::Num(number) => {
+            numbers.insert(number)?;
+            Ok(())
+        }
+        Head::Con(_) => Ok(()),
+    }
+}
+
+/// The numbers among heads.
+pub(crate) fn numbers_of(alloc: Global, heads: &[Head]) -> Result<Numbers, AllocError>
+    ensures { IfOk result (λ s. AreNumbersOf s heads.now) }
+{
+    let mut numbers = Numbers::new(alloc);
+    for head in heads {
+        add_number(&mut numbers, *head)?;
+    }
+    Ok(numbers)
+}
+
+// The same as whether it is known, where the numbers of the heads stand in a set. A type has few
+// constructors, and a column may have thousands of numbers.
+fn is_noted(known: &[Head], numbers: &Numbers, head: Head) -> bool
+    requires { AreNumbersOf numbers.now known.now }
+    ensures { result ≡ any_begins known.now (sample head) }
+{
+    match head {
+        Head::Num(number) => numbers.contains(number),
+        Head::Con(_) => is_known(known, head),
+    }
+}
+
+fn add_head(
+    heads: &mut Vec<Head>,
+    numbers: &mut Numbers,
+    head: Option<Head>,
+) -> Result<(), AllocError>
+    requires { AreNumbersOf numbers.old heads.old.items }
     ensures heads { OnOk result ((l : Layers.Value-F Values.Value)
         → any_begins heads.new.items l ≡ (any_begins heads.old.items l || option_begins head l)) }
     ensures few { OnOk result (length heads.new.items ≤ length heads.old.items + some_head head) }
+    ensures numbers { OnOk result (AreNumbersOf numbers.new heads.new.items) }
 {
     let Some(head) = head else {
         return Ok(());
     };
-    if is_known(heads.as_slice(), head) {
+    if is_noted(heads.as_slice(), numbers, head) {
         return Ok(());
     }
+    add_number(numbers, head)?;
     heads.push(head)?;
     Ok(())
 }
@@ -91,8 +137,9 @@ pub fn column_heads(alloc: Global, rows: &[Seq<Pat>]) -> Result<Vec<Head>, Alloc
     ensures few { IfOk result (λ heads. length heads.items ≤ rows_heads rows.now) }
 {
     let mut heads = Vec::new(alloc);
+    let mut numbers = Numbers::new(alloc);
     for row in rows {
-        add_head(&mut heads, head_of_row(row.as_slice()))?;
+        add_head(&mut heads, &mut numbers, head_of_row(row.as_slice()))?;
     }
     Ok(heads)
 }

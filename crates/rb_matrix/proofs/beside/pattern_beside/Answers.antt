@@ -6,7 +6,7 @@ use Rattle.rb_matrix.specs.Heads.{any_begins}
 use Rattle.rb_matrix.specs.Problems.{IsBeside}
 use Rattle.rb_matrix.specs.Search.{IsTypeIn}
 use Rattle.rb_matrix.proofs.Inhabited.{wide}
-use Rattle.rb_matrix.proofs.Besides.{wild-beside, numbers-all, number-beside, none-of_length}
+use Rattle.rb_matrix.proofs.Besides.{NumberAnswer, wild-beside, numbers-all, number-beside, none-of_length}
 use Rattle.rb_matrix.proofs.beside.pattern_beside.Goals as goal
 
 pub returns-then-is_empty : goal.returns-then-is_empty
@@ -16,13 +16,15 @@ returns-then-is_empty c =
 
 pub returns-in-None : goal.returns-in-None
 returns-in-None c = λ v of.
-    numbers-all c.args.types.now c.in-Int.bits c.args.heads.now (λ m lt. c.in-None.ensures m (omega (arith, lt, c.greatest.ensures))) v
+    let all = subst (NumberAnswer c.args.heads.now c.greatest.result) c.in-None.is c.in_ok-least_missing-in-Int.ensures in
+    numbers-all c.args.types.now c.in-Int.bits c.args.heads.now (λ m lt. all m (omega (arith, lt, c.greatest.ensures))) v
     (subst (λ t. is_of_type c.args.types.now v t ≡ true) c.in-Int.is of)
 
 pub returns-in-Some : goal.returns-in-Some
 returns-in-Some c =
+    let least = subst (NumberAnswer c.args.heads.now c.greatest.result) c.in-Some.is c.in_ok-least_missing-in-Int.ensures in
     subst (λ t. IsBeside c.args.types.now t (any_begins c.args.heads.now) (Pats.Num 0 c.in-Some.number)) (sym c.in-Int.is)
-    (number-beside c.args.types.now c.in-Int.bits c.in-Some.number c.args.heads.now (omega (arith, c.greatest.ensures, c.in-Some.ensures.0)) c.in-Some.ensures.1)
+    (number-beside c.args.types.now c.in-Int.bits c.in-Some.number c.args.heads.now (omega (arith, c.greatest.ensures, least.0)) least.1)
 
 pub greatest-requires : goal.greatest-requires
 greatest-requires c = wide c.args.types.now c.in-Int.bits (subst (IsTypeIn c.args.types.now) c.in-Int.is c.requires.live)

@@ -3,6 +3,7 @@ use Rattle.std.specs.Prelude.{slice_get}
 use Rattle.std.proofs.lemmas.Option.{slice_get_read}
 use Rattle.rb_matrix.specs.Exhaust.{IsReachAnswer, one_each}
 use Rattle.rb_matrix.proofs.Exhausts.{one_each-more}
+use Rattle.rb_matrix.proofs.Passing.{passed-more}
 use Rattle.rb_matrix.proofs.Reaches.{reached-more, unreached-more}
 use Rattle.rb_matrix.proofs.coverage.unreached.Goals as goal
 
@@ -15,6 +16,7 @@ loop-i-preserved-then-reached c =
           (subst (IsReachAnswer c.args.types.now c.args.ty rows i) c.if-reached.true c.in_ok-reached.ensures.reached);
       before = c.in_ok-push.ensures.ok ∙ ap (λ l. l ++ c.in_ok-row.row ∷ []) (c.in_ok-reached.ensures.same ∙ c.loop-i.invariant.before)
           ∙ ap (λ r. one_each (take i rows) ++ r ∷ []) c.in_ok-row.ensures ∙ sym (one_each-more rows i p at);
+      passed = passed-more rows i p c.loop-i.passed _ at c.loop-i.invariant.passed c.in_ok-add.ensures.all c.in_ok-add.ensures.numbers;
     }
 
 pub loop-i-preserved : goal.loop-i-preserved
@@ -26,4 +28,5 @@ loop-i-preserved c =
           (subst (IsReachAnswer c.args.types.now c.args.ty rows i) c.if-reached.false c.in_ok-reached.ensures.reached);
       before = c.in_ok-push.ensures.ok ∙ ap (λ l. l ++ c.in_ok-row.row ∷ []) (c.in_ok-reached.ensures.same ∙ c.loop-i.invariant.before)
           ∙ ap (λ r. one_each (take i rows) ++ r ∷ []) c.in_ok-row.ensures ∙ sym (one_each-more rows i p at);
+      passed = passed-more rows i p c.loop-i.passed _ at c.loop-i.invariant.passed c.in_ok-add.ensures.all c.in_ok-add.ensures.numbers;
     }

@@ -1,0 +1,41 @@
+-- Sets of numbers: those among heads, and those among patterns that were gone over.
+use Rattle.std.specs.Prelude.{◌≡◌, ℕ, List, [], ◌∷◌, Bool, false, ◌||◌, ◌==◌}
+use Rattle.std.specs.Ordering.{nat_cmp}
+use Rattle.std.specs.BTreeSet as tree
+use Rattle.rb_core.specs.declared.value.Value.TheOpen as V
+use Rattle.rb_core.specs.declared.pattern.Pat.{Pat, out-Pat}
+use Rattle.rb_core.specs.declared.pattern.Pat.TheOpen as P
+use Rattle.rb_core.specs.declared.pattern.Pat.TheOpen.{Pat-F}
+use Rattle.rb_matrix.specs.declared.matrix.Head.{Head}
+use Rattle.rb_matrix.specs.declared.numbers.Numbers.{Numbers}
+use Rattle.rb_matrix.specs.declared.passed.Passed.{Passed}
+use Rattle.rb_matrix.specs.Heads.{any_begins}
+use Rattle.rb_matrix.specs.Open.{layer_open}
+
+abbrev pub has : Numbers → ℕ → Bool
+has s n = tree.contains nat_cmp s.held n
+
+-- exactly the numbers among heads
+abbrev pub AreNumbersOf : Numbers → List Head → Type 0
+AreNumbersOf s hs = (n : ℕ) → has s n ≡ any_begins hs (V.Num n)
+
+-- whether a pattern is this number
+abbrev pub layer_number : Pat-F Pat → ℕ → Bool
+layer_number (P.Wild at) n = false
+layer_number (P.Var at x) n = false
+layer_number (P.Num at k) n = k == n
+layer_number (P.Con at c ps) n = false
+
+-- some pattern is a wildcard or a variable; some is this number
+abbrev pub some_open : List Pat → Bool
+some_open [] = false
+some_open (p ∷ ps) = layer_open (out-Pat p) || some_open ps
+
+abbrev pub some_number : List Pat → ℕ → Bool
+some_number [] n = false
+some_number (p ∷ ps) n = layer_number (out-Pat p) n || some_number ps n
+
+-- what is known of patterns that were gone over
+pub record ArePassed (ps : List Pat) (s : Passed) : Type 0 where
+  pub all : s.all ≡ some_open ps
+  pub numbers : (n : ℕ) → has s.numbers n ≡ some_number ps n

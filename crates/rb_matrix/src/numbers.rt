@@ -1,0 +1,39 @@
+//! Sets of numbers.
+
+ghost use Rattle.std.specs.Prelude.{◌≡◌, ◌||◌, ◌==◌, ℕ, false, OnOk};
+ghost use Rattle.rb_matrix.specs.inner.Passed.{has};
+
+use std::alloc::{AllocError, Global};
+use std::collections::BTreeSet;
+
+/// A set of numbers, so that thousands of them are not compared with each other.
+#[derive(Drop)]
+pub struct Numbers {
+    held: BTreeSet<u64>,
+}
+
+impl Numbers {
+    /// No number.
+    pub fn new(alloc: Global) -> Self
+        ensures { (n : ℕ) → has result n ≡ false }
+    {
+        Numbers {
+            held: BTreeSet::new(alloc),
+        }
+    }
+
+    /// Whether the number is here.
+    pub fn contains(&self, number: u64) -> bool
+        ensures { result ≡ has self.now number }
+    {
+        self.held.contains(&number)
+    }
+
+    /// Adds a number.
+    pub fn insert(&mut self, number: u64) -> Result<(), AllocError>
+        ensures { OnOk result ((n : ℕ) → has self.new n ≡ (has self.old n || (number == n))) }
+    {
+        self.held.insert(number)?;
+        Ok(())
+    }
+}

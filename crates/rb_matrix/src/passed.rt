@@ -1,0 +1,68 @@
+//! What is known of patterns that were gone over: enough to tell of a number at once whether one of
+//! them matches it.
+
+ghost use Rattle.std.specs.Prelude.{◌≡◌, ◌&&◌, ◌||◌, [], ℕ, not, is_some, OnOk};
+ghost use Rattle.rb_core.specs.declared.pattern.Pat.{out-Pat};
+ghost use Rattle.rb_matrix.specs.declared.matrix.Head.TheVariants as Heads;
+ghost use Rattle.rb_matrix.specs.Heads.{fields_at};
+ghost use Rattle.rb_matrix.specs.Open.{layer_open};
+ghost use Rattle.rb_matrix.specs.inner.Passed.{has, layer_number, ArePassed};
+
+use crate::images::head_fields;
+use crate::matrix::Head;
+use crate::numbers::Numbers;
+use rb_core::pattern::Pat;
+use rb_core::types::{DataDecl, Ty};
+use std::alloc::{AllocError, Global};
+
+/// Patterns that were gone over: whether one of them matches every value, and their numbers.
+#[derive(Drop)]
+pub struct Passed {
+    pub all: bool,
+    pub numbers: Numbers,
+}
+
+impl Passed {
+    /// No pattern.
+    pub fn new(alloc: Global) -> Self
+        ensures { ArePassed [] result }
+    {
+        Passed {
+            all: false,
+            numbers: Numbers::new(alloc),
+        }
+    }
+
+    /// Goes over one more pattern.
+    pub fn add(&mut self, pat: &Pat) -> Result<(), AllocError>
+        ensures all { OnOk result (self.new.all ≡ (self.old.all || layer_open (out-Pat pat.now))) }
+        ensures numbers { OnOk result ((n : ℕ)
+            → has self.new.numbers n ≡ (has self.old.numbers n || layer_number (out-Pat pat.now) n)) }
+    {
+        match pat {
+            Pat::Wild(_) => {
+                self.all = true;
+                Ok(())
+            }
+            Pat::Var(_, _) => {
+                self.all = true;
+                Ok(())
+            }
+            Pat::Num(_, number) => {
+                self.numbers.insert(*number)?;
+                Ok(())
+            }
+            Pat::Con(_, _, _) => Ok(()),
+        }
+    }
+
+    /// Whether a number is of the type, and none of the patterns.
+    pub fn is_new(&self, types: &[DataDecl], ty: Ty, number: u64) -> bool
+        ensures { result ≡ (not (has self.now.numbers number) && is_some (fields_at types.now ty (Heads.Num number))) }
+    {
+        if self.numbers.contains(number) {
+            return false;
+        }
+        head_fields(types, ty, Head::Num(number)).is_some()
+    }
+}
