@@ -1,5 +1,5 @@
 -- Clauses, layouts and functions, from what is found of their parts.
-use Rattle.std.proofs.Common.{◌≡◌, ℕ, ◌+◌, ◌-◌, List, [], map, drop, length, Option, Some, None, Ok, Err, refl, sym, ap, ◌∙◌, arith}
+use Rattle.std.proofs.Common.{◌≡◌, ℕ, ◌+◌, List, [], map, length, Option, Some, None, Ok, Err, refl, sym, ap, ◌∙◌, arith}
 use Rattle.rb_core.specs.declared.types.Ty.{Ty}
 use Rattle.rb_core.specs.declared.pattern.Pat.{Pat}
 use Rattle.rb_core.specs.declared.expression.Expr.{Expr}
@@ -18,11 +18,10 @@ use Rattle.rb_syntax.specs.declared.tree.SplitTree.TheOpen as split
 use Rattle.rb_syntax.specs.declared.tree.SplitTree.TheFolds.{fold-roll-SplitTree}
 use Rattle.rb_names.specs.declared.fault.NameFault.{NameFault}
 use Rattle.rb_names.specs.declared.tables.Tables.{Tables}
-use Rattle.std.proofs.lemmas.List.{length-map}
 use Rattle.rb_syntax.specs.declared.tree.ParamTree.{ParamTree}
-use Rattle.rb_names.specs.Tables.{Name}
-use Rattle.rb_names.specs.Scopes.{Scope, inside, binders_of, param_binders, names_in, with_names}
-use Rattle.rb_names.proofs.ScopeLemmas.{inside-left}
+use Rattle.rb_names.specs.Tables.{Table}
+use Rattle.rb_names.specs.Scopes.{Scope, inside, binders_of, param_binders}
+use Rattle.rb_names.specs.inner.Frames.{scope_of}
 use Rattle.rb_syntax.specs.declared.tree.NameTree.{NameTree}
 use Rattle.rb_names.specs.Programs.{no_twice}
 use Rattle.rb_names.specs.Numbering.{Resolved, and_then, Numbered, Numbering, all_of, numbered_pattern, numbered_expression, numbered_clause, numbered_param, numbered_type, numbered_function, split_step, arm_step, numbered_split}
@@ -93,32 +92,12 @@ pub program-fails : {A B : Type 0} (twice : Option NameTree) (all found : Tables
 program-fails None all found rule go f h g = let same : all ≡ found = cc in ap (λ t. and_then (rule t) go) same ∙ ap (λ r. and_then r go) g
 program-fails (Some name) all found rule go f h g = cc
 
--- The scope that a list of names opens.
+-- The scope that a function's parameters open.
 
-module _ {K : Type 0} (name_of : K → Name) (slice items : List K) (same : slice ≡ items) where
-  pub opened-params : (ps params : List ParamTree) (start scope : Scope) → map name_of items ≡ param_binders ps → ps ≡ params → start ≡ []
-      → scope ≡ inside (map name_of slice) 0 start → scope ≡ inside (param_binders params) 0 []
-  opened-params ps params start scope names is empty h =
-      h ∙ ap (inside (map name_of slice) 0) empty ∙ ap (λ xs. inside (map name_of xs) 0 []) same ∙ ap (λ xs. inside xs 0 []) (names ∙ ap param_binders is)
+module _ (seen params : List ParamTree) where
+  pub opened-params : (outer inner : List (Table ℕ)) → seen ≡ params → outer ≡ [] → scope_of inner ≡ inside (param_binders seen) 0 (scope_of outer)
+      → scope_of inner ≡ inside (param_binders params) 0 []
+  opened-params outer inner same empty h = h ∙ ap (λ fs. inside (param_binders seen) 0 (scope_of fs)) empty ∙ ap (λ ps. inside (param_binders ps) 0 []) same
 
-  pub counted-params : (ps params : List ParamTree) (next : ℕ) → map name_of items ≡ param_binders ps → ps ≡ params → next ≡ 0 + length slice
-      → next ≡ length (param_binders params)
-  counted-params ps params next names is h =
-      let plain : next ≡ length slice = omega (arith, h) in
-      plain ∙ ap length same ∙ sym (length-map items name_of) ∙ ap length (names ∙ ap param_binders is)
-
-  pub opened-clause : (p : PatTree) (start : List K) (scope inner : Scope) (next : ℕ) → map name_of items ≡ with_names (map name_of start) (names_in p) → start ≡ []
-      → inner ≡ inside (map name_of slice) next scope → inner ≡ inside (binders_of p) next scope
-  opened-clause p start scope inner next names empty h =
-      h ∙ ap (λ xs. inside (map name_of xs) next scope) same ∙ ap (λ xs. inside xs next scope) (names ∙ ap (λ xs. with_names (map name_of xs) (names_in p)) empty)
-
-  pub counted-clause : (p : PatTree) (start : List K) (next after : ℕ) → map name_of items ≡ with_names (map name_of start) (names_in p) → start ≡ []
-      → after ≡ next + length slice → after ≡ next + length (binders_of p)
-  counted-clause p start next after names empty h =
-      h ∙ ap (λ n. next + n) (ap length same ∙ sym (length-map items name_of) ∙ ap length (names ∙ ap (λ xs. with_names (map name_of xs) (names_in p)) empty))
-
--- and is left
-pub left-again : (names : List Name) (n depth : ℕ) (scope inner after : Scope) → inner ≡ inside names n scope → depth ≡ length scope → after ≡ inner
-    → drop (length after - depth) after ≡ scope
-left-again names n depth scope inner after is deep same =
-    ap (λ (s : Scope). drop (length s - depth) s) (same ∙ is) ∙ ap (λ d. drop (length (inside names n scope) - d) (inside names n scope)) deep ∙ inside-left names n scope
+  pub counted-params : (next : ℕ) → seen ≡ params → next ≡ 0 + length (param_binders seen) → next ≡ length (param_binders params)
+  counted-params next same h = let plain : next ≡ length (param_binders seen) = omega (arith, h) in plain ∙ ap (λ ps. length (param_binders ps)) same

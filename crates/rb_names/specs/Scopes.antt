@@ -1,5 +1,5 @@
 -- Scopes: the variables that are bound round a place.
-use Rattle.std.specs.Prelude.{ℕ, suc, List, [], ◌∷◌, ◌++◌, map, if◌then◌else◌, Option, Some}
+use Rattle.std.specs.Prelude.{ℕ, suc, List, [], ◌∷◌, ◌++◌, map, if◌then◌else◌}
 use Rattle.std.specs.List.{list_any, flat_map}
 use Rattle.std.specs.Str.{bytes_eq}
 use Rattle.rb_syntax.specs.declared.tree.PatTree.{PatTree}
@@ -12,11 +12,6 @@ use Rattle.rb_names.specs.Tables.{Name, Table}
 -- names with the numbers of their binders, the innermost binder first: so an inner one hides an outer one
 abbrev pub Scope : Type 0
 Scope = Table ℕ
-
--- of binders from the outermost on: the number of the last of this name, or what was found before them
-abbrev pub nearest : Option ℕ → Name → List (Name × ℕ) → Option ℕ
-nearest found name [] = found
-nearest found name (b ∷ bs) = nearest (if bytes_eq name b.0 then Some b.1 else found) name bs
 
 -- the scope inside binders of these names, which are numbered from n on
 abbrev pub inside : List Name → ℕ → Scope → Scope

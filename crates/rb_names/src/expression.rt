@@ -3,9 +3,11 @@
 ghost use Rattle.std.specs.Prelude.{◌≡◌, ◌∷◌, map, OnOk};
 ghost use Rattle.rb_names.specs.Answers.{AnswersFrom};
 ghost use Rattle.rb_names.specs.Numbering.{in_turn, numbered_clause, numbered_expression};
+ghost use Rattle.rb_names.specs.inner.Frames.{scope_of};
 
 use crate::fault::{NameFault, known};
-use crate::pattern::{add_names, enter_all, fresh, number_pattern};
+use crate::frame::fresh;
+use crate::pattern::{enter_pattern, number_pattern};
 use crate::scope::Scope;
 use crate::tables::Tables;
 use crate::types::number_type;
@@ -24,7 +26,8 @@ pub fn number_expression<'a>(
     scope: &mut Scope<'a>,
     next: &mut u32,
 ) -> Result<Expr, NameFault>
-    ensures answers { AnswersFrom result next.new (numbered_expression tables.now tree.now scope.old next.old) }
+    ensures answers { AnswersFrom result next.new
+        (numbered_expression tables.now tree.now (scope_of scope.old) next.old) }
     ensures scope { OnOk result (scope.new ≡ scope.old) }
 {
     match tree {
@@ -76,7 +79,8 @@ fn number_boxed<'a>(
     scope: &mut Scope<'a>,
     next: &mut u32,
 ) -> Result<Boxed<Expr>, NameFault>
-    ensures answers { AnswersFrom result next.new (numbered_expression tables.now tree.now scope.old next.old) }
+    ensures answers { AnswersFrom result next.new
+        (numbered_expression tables.now tree.now (scope_of scope.old) next.old) }
     ensures scope { OnOk result (scope.new ≡ scope.old) }
 {
     let expr = number_expression(alloc, tables, tree, scope, next)?;
@@ -95,13 +99,12 @@ fn number_inside<'a>(
     next: &mut u32,
 ) -> Result<Boxed<Expr>, NameFault>
     ensures answers { AnswersFrom result next.new
-        (numbered_expression tables.now tree.now ((name.now, var) ∷ scope.old) next.old) }
+        (numbered_expression tables.now tree.now ((name.now, var) ∷ scope_of scope.old) next.old) }
     ensures scope { OnOk result (scope.new ≡ scope.old) }
 {
-    let depth = scope.depth();
-    scope.enter(name, var)?;
+    scope.enter_one(alloc, name, var)?;
     let expr = number_boxed(alloc, tables, tree, scope, next)?;
-    scope.leave(depth);
+    scope.leave();
     Ok(expr)
 }
 
@@ -114,7 +117,7 @@ fn number_expressions<'a>(
     next: &mut u32,
 ) -> Result<Seq<Expr>, NameFault>
     ensures answers { AnswersFrom result next.new
-        (in_turn (map (numbered_expression tables.now) trees.now) scope.old next.old) }
+        (in_turn (map (numbered_expression tables.now) trees.now) (scope_of scope.old) next.old) }
     ensures scope { OnOk result (scope.new ≡ scope.old) }
 {
     let mut exprs = Seq::new(alloc);
@@ -134,7 +137,7 @@ fn number_clauses<'a>(
     next: &mut u32,
 ) -> Result<Seq<Clause>, NameFault>
     ensures answers { AnswersFrom result next.new
-        (in_turn (map (numbered_clause tables.now) trees.now) scope.old next.old) }
+        (in_turn (map (numbered_clause tables.now) trees.now) (scope_of scope.old) next.old) }
     ensures scope { OnOk result (scope.new ≡ scope.old) }
 {
     let mut clauses = Seq::new(alloc);
@@ -154,15 +157,13 @@ fn number_clause<'a>(
     scope: &mut Scope<'a>,
     next: &mut u32,
 ) -> Result<Clause, NameFault>
-    ensures answers { AnswersFrom result next.new (numbered_clause tables.now tree.now scope.old next.old) }
+    ensures answers { AnswersFrom result next.new
+        (numbered_clause tables.now tree.now (scope_of scope.old) next.old) }
     ensures scope { OnOk result (scope.new ≡ scope.old) }
 {
-    let mut names = Vec::new(alloc);
-    add_names(&mut names, &tree.pat)?;
-    let depth = scope.depth();
-    enter_all(scope, names.as_slice(), next)?;
+    enter_pattern(alloc, scope, &tree.pat, next)?;
     let pat = number_pattern(alloc, tables, scope, &tree.pat)?;
     let body = number_expression(alloc, tables, &tree.body, scope, next)?;
-    scope.leave(depth);
+    scope.leave();
     Ok(Clause { pat, body })
 }

@@ -1,29 +1,30 @@
 //! Functions.
 
-ghost use Rattle.std.specs.Prelude.{◌≡◌, map, IfOk};
+ghost use Rattle.std.specs.Prelude.{◌≡◌, ◌+◌, length, map, OnOk, IfErr};
+ghost use Rattle.rb_names.specs.declared.fault.NameFault.TheVariants.{Memory};
 ghost use Rattle.rb_names.specs.Answers.{Answers};
 ghost use Rattle.rb_names.specs.Numbering.{all_of, numbered_function, numbered_param};
-ghost use Rattle.rb_names.specs.Scopes.{param_binders};
+ghost use Rattle.rb_names.specs.Scopes.{inside, param_binders};
+ghost use Rattle.rb_names.specs.inner.Frames.{scope_of, with_binders};
 
 use crate::expression::number_expression;
 use crate::fault::{NameFault, known};
-use crate::pattern::{add_name, enter_all};
+use crate::frame::Frame;
 use crate::scope::Scope;
 use crate::tables::Tables;
 use crate::types::number_type;
 use rb_core::program::{Fun, Param};
 use rb_core::seq::Seq;
 use rb_syntax::tree::{FunTree, ParamTree};
-use std::alloc::{AllocError, Global};
+use std::alloc::Global;
 
 /// A function, whose binders are numbered from 0, its parameters first.
 pub fn number_function(alloc: Global, tables: &Tables, tree: &FunTree) -> Result<Fun, NameFault>
     ensures { Answers result (numbered_function tables.now tree.now) }
 {
-    let names = param_names(alloc, tree.params.as_slice())?;
     let mut scope = Scope::new(alloc);
     let mut next = 0;
-    enter_all(&mut scope, names.as_slice(), &mut next)?;
+    enter_params(alloc, &mut scope, tree.params.as_slice(), &mut next)?;
     let params = number_params(alloc, tables, &scope, tree.params.as_slice())?;
     let result = number_type(alloc, tables, &tree.result)?;
     let body = number_expression(alloc, tables, &tree.body, &mut scope, &mut next)?;
@@ -36,15 +37,33 @@ pub fn number_function(alloc: Global, tables: &Tables, tree: &FunTree) -> Result
     })
 }
 
-// The names of parameters, each once.
-fn param_names<'a>(alloc: Global, trees: &'a [ParamTree]) -> Result<Vec<&'a [u8]>, AllocError>
-    ensures { IfOk result (λ names. map (λ n. n.now) names.items ≡ param_binders trees.now) }
+// Goes into the scope of parameters, which are numbered from `next` on.
+fn enter_params<'a>(
+    alloc: Global,
+    scope: &mut Scope<'a>,
+    trees: &'a [ParamTree],
+    next: &mut u32,
+) -> Result<(), NameFault>
+    ensures scope { OnOk result (scope_of scope.new ≡ inside (param_binders trees.now) next.old (scope_of scope.old)) }
+    ensures next { OnOk result (next.new ≡ next.old + length (param_binders trees.now)) }
+    ensures memory { IfErr result (λ e. e ≡ Memory) }
 {
-    let mut names = Vec::new(alloc);
+    let mut frame = Frame::new(alloc, *next);
+    bind_params(&mut frame, trees)?;
+    *next = frame.next;
+    scope.enter(frame.binders)?;
+    Ok(())
+}
+
+// Binds the names of parameters, each once.
+fn bind_params<'a>(frame: &mut Frame<'a>, trees: &'a [ParamTree]) -> Result<(), NameFault>
+    ensures ok { OnOk result (frame.new ≡ with_binders frame.old (map (λ p. p.var.text) trees.now)) }
+    ensures memory { IfErr result (λ e. e ≡ Memory) }
+{
     for tree in trees {
-        add_name(&mut names, tree.var.text.as_slice())?;
+        frame.bind(tree.var.text.as_slice())?;
     }
-    Ok(names)
+    Ok(())
 }
 
 fn number_param(
@@ -53,7 +72,7 @@ fn number_param(
     scope: &Scope,
     tree: &ParamTree,
 ) -> Result<Param, NameFault>
-    ensures { Answers result (numbered_param tables.now scope.now tree.now) }
+    ensures { Answers result (numbered_param tables.now (scope_of scope.now) tree.now) }
 {
     let ty = number_type(alloc, tables, &tree.ty)?;
     let var = known(alloc, &tree.var, scope.get(tree.var.text.as_slice()))?;
@@ -70,7 +89,7 @@ fn number_params(
     scope: &Scope,
     trees: &[ParamTree],
 ) -> Result<Seq<Param>, NameFault>
-    ensures { Answers result (all_of (map (numbered_param tables.now scope.now) trees.now)) }
+    ensures { Answers result (all_of (map (numbered_param tables.now (scope_of scope.now)) trees.now)) }
 {
     let mut params = Seq::new(alloc);
     for tree in trees {

@@ -31,6 +31,7 @@ pub mod complete;
 mod derivation;
 mod expression;
 mod fault;
+mod frame;
 mod function;
 mod items;
 mod layout;

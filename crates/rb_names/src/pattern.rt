@@ -1,96 +1,67 @@
 //! Patterns: what they bind, and their numbers.
 
-ghost use Rattle.std.specs.Prelude.{◌≡◌, ◌+◌, List, map, length, OnOk, IfOk, IfErr, Ok};
+ghost use Rattle.std.specs.Prelude.{◌≡◌, ◌+◌, drop, length, map, OnOk, IfErr};
+ghost use Rattle.std.specs.List.{flat_map};
 ghost use Rattle.rb_names.specs.declared.fault.NameFault.TheVariants.{Memory};
-ghost use Rattle.std.specs.List.{list_any, flat_map};
-ghost use Rattle.std.specs.Str.{bytes_eq};
 ghost use Rattle.rb_names.specs.Answers.{Answers};
 ghost use Rattle.rb_names.specs.Numbering.{all_of, numbered_pattern};
-ghost use Rattle.rb_names.specs.Scopes.{inside, names_in, with_name, with_names};
+ghost use Rattle.rb_names.specs.Scopes.{binders_of, inside, names_in};
+ghost use Rattle.rb_names.specs.inner.Frames.{scope_of, with_binders};
 
 use crate::fault::{NameFault, known};
+use crate::frame::Frame;
 use crate::scope::Scope;
 use crate::tables::Tables;
 use rb_core::pattern::Pat;
 use rb_core::seq::Seq;
 use rb_syntax::tree::PatTree;
-use std::alloc::{AllocError, Global};
+use std::alloc::Global;
 
-fn has_name(names: &[&[u8]], name: &[u8]) -> bool
-    ensures { result ≡ list_any (λ n. bytes_eq n.now name.now) names.now }
+/// Goes into the scope of a pattern's variables, which are numbered from `next` on.
+pub fn enter_pattern<'a>(
+    alloc: Global,
+    scope: &mut Scope<'a>,
+    tree: &'a PatTree,
+    next: &mut u32,
+) -> Result<(), NameFault>
+    ensures scope { OnOk result (scope_of scope.new ≡ inside (binders_of tree.now) next.old (scope_of scope.old)) }
+    ensures outer { OnOk result (drop 1 scope.new ≡ scope.old) }
+    ensures next { OnOk result (next.new ≡ next.old + length (binders_of tree.now)) }
+    ensures memory { IfErr result (λ e. e ≡ Memory) }
 {
-    names.iter().any(|n| *n == name)
-}
-
-/// Adds a name that isn't there.
-pub fn add_name<'a>(names: &mut Vec<&'a [u8]>, name: &'a [u8]) -> Result<(), AllocError>
-    ensures { OnOk result (map (λ n. n.now) names.new.items ≡ with_name (map (λ n. n.now) names.old.items) name.now) }
-{
-    if has_name(names.as_slice(), name) {
-        return Ok(());
-    }
-    names.push(name)?;
+    let mut frame = Frame::new(alloc, *next);
+    bind_names(&mut frame, tree)?;
+    *next = frame.next;
+    scope.enter(frame.binders)?;
     Ok(())
 }
 
-/// Adds the names of a pattern's variables, each once.
+// Binds the names of a pattern's variables, each once.
 #[cycle(binding)]
-pub fn add_names<'a>(names: &mut Vec<&'a [u8]>, tree: &'a PatTree) -> Result<(), AllocError>
-    ensures { OnOk result (map (λ n. n.now) names.new.items
-        ≡ with_names (map (λ n. n.now) names.old.items) (names_in tree.now)) }
+fn bind_names<'a>(frame: &mut Frame<'a>, tree: &'a PatTree) -> Result<(), NameFault>
+    ensures ok { OnOk result (frame.new ≡ with_binders frame.old (names_in tree.now)) }
+    ensures memory { IfErr result (λ e. e ≡ Memory) }
 {
     match tree {
         PatTree::Wild(_) | PatTree::Num(_, _) => Ok(()),
         PatTree::Var(_, name) => {
-            add_name(names, name.text.as_slice())?;
+            frame.bind(name.text.as_slice())?;
             Ok(())
         }
         PatTree::Con(_, _, trees) => {
-            add_all_names(names, trees.as_slice())?;
+            bind_all_names(frame, trees.as_slice())?;
             Ok(())
         }
     }
 }
 
 #[cycle(binding)]
-fn add_all_names<'a>(names: &mut Vec<&'a [u8]>, trees: &'a [PatTree]) -> Result<(), AllocError>
-    ensures { OnOk result (map (λ n. n.now) names.new.items
-        ≡ with_names (map (λ n. n.now) names.old.items) (flat_map names_in trees.now)) }
-{
-    for tree in trees {
-        add_names(names, tree)?;
-    }
-    Ok(())
-}
-
-/// The next binder's number, which the one after it follows; there is no memory for 2^32 binders.
-pub fn fresh(next: &mut u32) -> Result<u32, NameFault>
-    ensures next { IfOk result (λ n. (n ≡ next.old) × (next.new ≡ next.old + 1)) }
-    ensures answers { Answers result (Ok next.old) }
-{
-    let number = *next;
-    match number.checked_add(1) {
-        Some(after) => {
-            *next = after;
-            Ok(number)
-        }
-        None => Err(NameFault::Memory),
-    }
-}
-
-/// Goes into the scope of binders of these names.
-pub fn enter_all<'a>(
-    scope: &mut Scope<'a>,
-    names: &[&'a [u8]],
-    next: &mut u32,
-) -> Result<(), NameFault>
-    ensures ok { OnOk result ((scope.new ≡ inside (map (λ n. n.now) names.now) next.old scope.old)
-        × (next.new ≡ next.old + length names.now)) }
+fn bind_all_names<'a>(frame: &mut Frame<'a>, trees: &'a [PatTree]) -> Result<(), NameFault>
+    ensures ok { OnOk result (frame.new ≡ with_binders frame.old (flat_map names_in trees.now)) }
     ensures memory { IfErr result (λ e. e ≡ Memory) }
 {
-    for name in names {
-        let number = fresh(next)?;
-        scope.enter(*name, number)?;
+    for tree in trees {
+        bind_names(frame, tree)?;
     }
     Ok(())
 }
@@ -104,7 +75,7 @@ pub fn number_pattern(
     scope: &Scope,
     tree: &PatTree,
 ) -> Result<Pat, NameFault>
-    ensures { Answers result (numbered_pattern tables.now scope.now tree.now) }
+    ensures { Answers result (numbered_pattern tables.now (scope_of scope.now) tree.now) }
 {
     match tree {
         PatTree::Wild(at) => Ok(Pat::Wild(*at)),
@@ -128,7 +99,7 @@ fn number_patterns(
     scope: &Scope,
     trees: &[PatTree],
 ) -> Result<Seq<Pat>, NameFault>
-    ensures { Answers result (all_of (map (numbered_pattern tables.now scope.now) trees.now)) }
+    ensures { Answers result (all_of (map (numbered_pattern tables.now (scope_of scope.now)) trees.now)) }
 {
     let mut pats = Seq::new(alloc);
     for tree in trees {

@@ -1,34 +1,30 @@
 //! The variables round a place.
 
-ghost use Rattle.std.specs.Prelude.{◌≡◌, ◌-◌, [], ◌∷◌, length, map, drop, OnOk, None};
-ghost use Rattle.rb_names.specs.Scopes.{nearest};
+ghost use Rattle.std.specs.Prelude.{◌≡◌, [], ◌∷◌, drop, reverse, OnOk};
 ghost use Rattle.rb_names.specs.Tables.{meaning};
+ghost use Rattle.rb_names.specs.inner.Frames.{scope_of};
 
+use crate::table::Table;
+use rb_core::seq::Seq;
 use std::alloc::{AllocError, Global};
 use std::marker::Model;
 
-/// A binder of a variable: its name, and its number.
-#[derive(Clone, Copy)]
-struct Binder<'a> {
-    name: &'a [u8],
-    var: u32,
-}
-
-/// Names with the numbers of their binders, the innermost last. Contracts see the innermost first.
+/// The binders of each pattern, list of parameters and `let` round a place, the innermost last.
+/// Contracts see the innermost first. There are no more of them than levels of nesting.
 #[derive(Drop)]
 pub struct Scope<'a> {
-    binders: Vec<Binder<'a>>,
+    frames: Seq<Table<'a, u32>>,
 }
 
 impl<'a> Model for Scope<'a> {
-    ghost use Rattle.std.specs.Prelude.{List, ℕ, map, reverse};
+    ghost use Rattle.std.specs.Prelude.{List, ℕ, reverse};
     ghost use Rattle.std.specs.Coded.{coded_list, coded_ℕ, coded×};
 
-    ghost Value = { List (List ℕ × ℕ) };
+    ghost Value = { List (List (List ℕ × ℕ)) };
 
-    ghost coded = { coded_list (coded× (coded_list coded_ℕ) coded_ℕ) };
+    ghost coded = { coded_list (coded_list (coded× (coded_list coded_ℕ) coded_ℕ)) };
 
-    ghost view = { λ s. reverse (map (λ b. (b.name.now, b.var)) s.binders.items) };
+    ghost view = { λ s. reverse s.frames };
 }
 
 impl<'a> Scope<'a> {
@@ -37,49 +33,51 @@ impl<'a> Scope<'a> {
         ensures { result ≡ [] }
     {
         Scope {
-            binders: Vec::new(alloc),
+            frames: Seq::new(alloc),
         }
-    }
-
-    /// How many binders are round the place.
-    pub fn depth(&self) -> usize
-        ensures { result ≡ length self.now }
-    {
-        self.binders.len()
     }
 
     /// The number of the innermost binder of a name.
     pub fn get(&self, name: &[u8]) -> Option<u32>
-        ensures { result ≡ meaning self.now name.now }
+        ensures { result ≡ meaning (scope_of self.now) name.now }
     {
-        innermost(self.binders.as_slice(), name)
+        innermost(self.frames.as_slice(), name)
     }
 
-    /// Goes into the scope of one more binder.
-    pub fn enter(&mut self, name: &'a [u8], var: u32) -> Result<(), AllocError>
-        ensures { OnOk result (self.new ≡ (name.now, var) ∷ self.old) }
+    /// Goes into the scope of these binders.
+    pub fn enter(&mut self, binders: Table<'a, u32>) -> Result<(), AllocError>
+        ensures { OnOk result (self.new ≡ binders.entry ∷ self.old) }
     {
-        self.binders.push(Binder { name, var })?;
+        self.frames.push(binders)?;
         Ok(())
     }
 
-    /// Leaves the scopes of all binders but the outermost `depth`.
-    pub fn leave(&mut self, depth: usize)
-        ensures { self.new ≡ drop (length self.old - depth) self.old }
+    /// Goes into the scope of one binder.
+    pub fn enter_one(&mut self, alloc: Global, name: &'a [u8], var: u32) -> Result<(), AllocError>
+        ensures scope { OnOk result (scope_of self.new ≡ (name.now, var) ∷ scope_of self.old) }
+        ensures outer { OnOk result (drop 1 self.new ≡ self.old) }
     {
-        self.binders.truncate(depth);
+        let binder = Table::of_one(alloc, name, var)?;
+        self.enter(binder)?;
+        Ok(())
+    }
+
+    /// Leaves the scope of the innermost binders.
+    pub fn leave(&mut self)
+        ensures { self.new ≡ drop 1 self.old }
+    {
+        self.frames.pop();
     }
 }
 
-// The number of the last binder of a name.
-fn innermost(binders: &[Binder], name: &[u8]) -> Option<u32>
-    ensures { result ≡ nearest None name.now (map (λ b. (b.name.now, b.var)) binders.now) }
+// What the name stands for in the last frame that binds it.
+fn innermost(frames: &[Table<u32>], name: &[u8]) -> Option<u32>
+    ensures { result ≡ meaning (scope_of (reverse frames.now)) name.now }
 {
-    let mut found = None;
-    for binder in binders {
-        if name == binder.name {
-            found = Some(binder.var);
+    for i in (0..frames.len()).rev() {
+        if let Some(number) = frames[i].last(name) {
+            return Some(number);
         }
     }
-    found
+    None
 }

@@ -1,6 +1,6 @@
 //! Tables of names.
 
-ghost use Rattle.std.specs.Prelude.{◌≡◌, [], is_some, length, not, IfOk, OnOk};
+ghost use Rattle.std.specs.Prelude.{◌≡◌, [], ◌∷◌, is_some, length, not, reverse, IfOk, OnOk};
 ghost use Rattle.rb_names.specs.Tables.{meaning, defined};
 
 use indexmap::IndexMap;
@@ -35,6 +35,15 @@ impl<'a, T: Copy> Table<'a, T> {
         }
     }
 
+    /// A table of one name.
+    pub fn of_one(alloc: Global, name: &'a [u8], stands_for: T) -> Result<Self, AllocError>
+        ensures { IfOk result (λ table. table ≡ (name.now, stands_for) ∷ []) }
+    {
+        let mut table = Table::new(alloc);
+        table.define(name, stands_for)?;
+        Ok(table)
+    }
+
     /// How many names are defined.
     pub fn len(&self) -> usize
         ensures { result ≡ length self.now }
@@ -46,6 +55,17 @@ impl<'a, T: Copy> Table<'a, T> {
     pub fn get(&self, name: &[u8]) -> Option<T>
         ensures { result ≡ meaning self.now name.now }
     {
+        self.by_name.get(name).copied()
+    }
+
+    /// What the last of a name stands for; a name is defined once, so it is the first, too.
+    pub fn last(&self, name: &[u8]) -> Option<T>
+        ensures { result ≡ meaning (reverse self.now) name.now }
+    {
+        // Many a table of binders is empty: no name is hashed for it.
+        if self.by_name.len() == 0 {
+            return None;
+        }
         self.by_name.get(name).copied()
     }
 

@@ -4,6 +4,7 @@ use Rattle.rb_syntax.specs.declared.tree.ExprTree.{size-ExprTree}
 use Rattle.rb_syntax.specs.declared.tree.ClauseTree.{size-ClauseTree}
 use Rattle.rb_names.specs.Numbering.{in_turn, numbered_clause, numbered_expression}
 use Rattle.rb_names.specs.Joining.{behind_in_turn}
+use Rattle.rb_names.specs.inner.Frames.{scope_of}
 use Rattle.rb_names.proofs.expression.+expression.Given as goal
 
 abbrev pub decreases-number_expression : goal.decreases-number_expression
@@ -28,13 +29,13 @@ decreases-number_clause l = 4 * size-ClauseTree l.tree.now + 2
 abbrev pub invariant-number_expressions-loop-tree : goal.invariant-number_expressions-loop-tree
 invariant-number_expressions-loop-tree l = record {
   scope : l.scope ≡ l.fn.scope;
-  gives : behind_in_turn l.exprs (in_turn (map (numbered_expression l.tables) (drop l.tree-index l.trees)) l.fn.scope l.next)
-      ≡ in_turn (map (numbered_expression l.tables) l.trees) l.fn.scope l.fn.next;
+  gives : behind_in_turn l.exprs (in_turn (map (numbered_expression l.tables) (drop l.tree-index l.trees)) (scope_of l.fn.scope) l.next)
+      ≡ in_turn (map (numbered_expression l.tables) l.trees) (scope_of l.fn.scope) l.fn.next;
 }
 
 abbrev pub invariant-number_clauses-loop-tree : goal.invariant-number_clauses-loop-tree
 invariant-number_clauses-loop-tree l = record {
   scope : l.scope ≡ l.fn.scope;
-  gives : behind_in_turn l.clauses (in_turn (map (numbered_clause l.tables) (drop l.tree-index l.trees)) l.fn.scope l.next)
-      ≡ in_turn (map (numbered_clause l.tables) l.trees) l.fn.scope l.fn.next;
+  gives : behind_in_turn l.clauses (in_turn (map (numbered_clause l.tables) (drop l.tree-index l.trees)) (scope_of l.fn.scope) l.next)
+      ≡ in_turn (map (numbered_clause l.tables) l.trees) (scope_of l.fn.scope) l.fn.next;
 }

@@ -1,8 +1,8 @@
-use Rattle.std.proofs.Common.{◌≡◌, map, drop}
+use Rattle.std.proofs.Common.{◌≡◌, drop}
 use Rattle.std.specs.List.{flat_map}
-use Rattle.rb_names.specs.Scopes.{names_in, with_names}
+use Rattle.rb_names.specs.Scopes.{names_in}
+use Rattle.rb_names.specs.inner.Frames.{with_binders}
 use Rattle.rb_names.proofs.pattern.+binding.Given as goal
 
-abbrev pub invariant-add_all_names-loop-tree : goal.invariant-add_all_names-loop-tree
-invariant-add_all_names-loop-tree l =
-    with_names (map (λ n. n.now) l.names.items) (flat_map names_in (drop l.tree-index l.trees)) ≡ with_names (map (λ n. n.now) l.fn.names.items) (flat_map names_in l.trees)
+abbrev pub invariant-bind_all_names-loop-tree : goal.invariant-bind_all_names-loop-tree
+invariant-bind_all_names-loop-tree l = with_binders l.frame (flat_map names_in (drop l.tree-index l.trees)) ≡ with_binders l.fn.frame (flat_map names_in l.trees)

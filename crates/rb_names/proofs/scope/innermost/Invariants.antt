@@ -1,7 +1,8 @@
-use Rattle.std.proofs.Common.{◌≡◌, None, map, drop}
-use Rattle.rb_names.specs.Scopes.{nearest}
+use Rattle.std.proofs.Common.{◌≡◌, reverse, take}
+use Rattle.rb_names.specs.Tables.{meaning}
+use Rattle.rb_names.specs.inner.Frames.{scope_of}
 use Rattle.rb_names.proofs.scope.innermost.Given as goal
 
-abbrev pub invariant-loop-binder : goal.invariant-loop-binder
-invariant-loop-binder l =
-    nearest l.found l.name (map (λ b. (b.name.now, b.var)) (drop l.binder-index l.binders)) ≡ nearest None l.name (map (λ b. (b.name.now, b.var)) l.binders)
+-- no frame further in binds the name
+abbrev pub invariant-loop-i : goal.invariant-loop-i
+invariant-loop-i l = meaning (scope_of (reverse (take l.i l.frames))) l.name ≡ meaning (scope_of (reverse l.frames)) l.name

@@ -1,0 +1,7 @@
+use Rattle.std.proofs.Common.{ap, ◌∙◌}
+use Rattle.rb_names.specs.Tables.{meaning, defined}
+use Rattle.rb_names.proofs.table.Table.of_one.Goals as goal
+
+pub returns : goal.returns
+returns g c =
+    c.in_ok-define.ensures.table ∙ ap (λ t. defined t c.args.name.now c.args.stands_for (meaning t c.args.name.now)) c.new-table.ensures

@@ -1,0 +1,22 @@
+-- Frames: what one pattern, one list of parameters or one `let` binds, each name once, in the order of the numbers.
+use Rattle.std.specs.Prelude.{ℕ, suc, List, [], ◌∷◌, ◌++◌, reverse, Option, Some, None}
+use Rattle.std.specs.List.{flat_map}
+use Rattle.rb_names.specs.declared.frame.Frame.{Frame}
+use Rattle.rb_names.specs.Tables.{Name, Table, meaning}
+use Rattle.rb_names.specs.Scopes.{Scope}
+
+-- the scope within the binders of frames, the innermost of which stands first
+abbrev pub scope_of : List (Table ℕ) → Scope
+scope_of = flat_map reverse
+
+-- one more name: it is bound in the frame, or gets the next number
+abbrev pub bound : Frame → Name → Option ℕ → Frame
+bound f name (Some before) = f
+bound f name None = record { binders = f.binders ++ (name, f.next) ∷ []; next = suc f.next }
+
+abbrev pub with_binder : Frame → Name → Frame
+with_binder f name = bound f name (meaning f.binders name)
+
+abbrev pub with_binders : Frame → List Name → Frame
+with_binders f [] = f
+with_binders f (x ∷ xs) = with_binders (with_binder f x) xs
