@@ -15,6 +15,7 @@ mod Reaching
 mod Holding
 mod Falling
 mod Alikeness
+mod Apart
 mod Halving
 mod Gathering
 mod Walking

@@ -14,8 +14,8 @@ use rb_layout::evidence::Why;
 use rb_layout::layout::{FlatArm, FlatTree, Layout};
 use std::alloc::{AllocError, Global};
 
-// How many bits a location's last range has.
-fn length_of(loc: &Loc) -> u64
+/// How many bits a location's last range has.
+pub(crate) fn length_of(loc: &Loc) -> u64
     ensures { result ≡ length_of loc.now }
 {
     let mut l = loc.l;

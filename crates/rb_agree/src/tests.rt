@@ -1,12 +1,16 @@
 //! Whether a leaf passes the tests on the way to it.
 
-ghost use Rattle.std.specs.Prelude.{◌≡◌, IfOk, MatchOption};
+ghost use Rattle.std.specs.Prelude.{◌≡◌, ◌↔◌, IfOk, IsTrue, MatchOption};
 ghost use Rattle.rb_layout.specs.A7.{FailsTest, FailsTests, Meets, MeetsAll};
+ghost use Rattle.rb_layout.specs.Excluded.{Excludes};
+ghost use Rattle.rb_layout.specs.Locations.{known};
 ghost use Rattle.rb_layout.specs.Readable.{IsReadable};
 ghost use Rattle.rb_layout.specs.Splits.{Is, IsNone, routes_of};
 ghost use Rattle.rb_agree.specs.inner.Splits.{literals_in};
-ghost use Rattle.rb_agree.specs.inner.Tests.{IsAfter, IsBelow, status_of};
+ghost use Rattle.rb_agree.specs.inner.Tests.{IsAfter, IsAnother, IsBelow, status_of};
 
+use crate::numbers::fits;
+use crate::splits::length_of;
 use rb_core::layout_decl::Loc;
 use rb_core::types::DataDecl;
 use rb_layout::evidence::Why;
@@ -52,6 +56,37 @@ pub(crate) fn literal_fault(
     }
 }
 
+// Whether a literal of so many bits is known to be another number than that which is known, if there is one.
+fn is_another(number: Option<u64>, bits: u64, literal: u64) -> bool
+    ensures { IsTrue result ↔ IsAnother number bits literal }
+{
+    match number {
+        None => false,
+        Some(number) => number != literal && fits(literal, bits),
+    }
+}
+
+// Whether a leaf excludes a literal at a location, where `number` is what is known there. A leaf below an
+// `else` mostly has one number there, which tells it from each literal without a derivation.
+fn is_excluded(
+    alloc: Global,
+    types: &[DataDecl],
+    layouts: &[Layout],
+    leaf: &Leaf,
+    loc: &Loc,
+    number: Option<u64>,
+    literal: u64,
+) -> Result<bool, AllocError>
+    requires readable { IsReadable leaf.now }
+    requires number { number ≡ known leaf.now loc.now }
+    ensures { IfOk result (λ b. IsTrue b ↔ Excludes types.now layouts.now leaf.now loc.now literal) }
+{
+    if is_another(number, length_of(loc), literal) {
+        return Ok(true);
+    }
+    excludes(alloc, types, layouts, leaf, loc, literal)
+}
+
 /// How a leaf fails to exclude the literals of arms at a location.
 pub(crate) fn else_fault(
     alloc: Global,
@@ -69,8 +104,9 @@ pub(crate) fn else_fault(
     if resolve_loc(leaf, loc).is_none() {
         return Ok(Some(Why::Unresolved(loc.copy(alloc)?)));
     }
+    let number = known_bits(leaf, loc);
     for arm in arms {
-        if !excludes(alloc, types, layouts, leaf, loc, arm.literal)? {
+        if !is_excluded(alloc, types, layouts, leaf, loc, number, arm.literal)? {
             return Ok(Some(Why::NotExcluded(loc.copy(alloc)?, arm.literal)));
         }
     }

@@ -1,5 +1,5 @@
 -- The tests on the ways to a leaf, way by way.
-use Rattle.std.specs.Prelude.{◌≡◌, ℕ, List, [], map, Bool, true, false, Option, Some, None}
+use Rattle.std.specs.Prelude.{◌≡◌, ℕ, ◌<◌, ◌^◌, List, [], map, Bool, true, false, Option, Some, None}
 use Rattle.std.specs.List.{flat_map}
 use Rattle.rb_core.specs.declared.types.DataDecl.{DataDecl}
 use Rattle.rb_core.specs.declared.layout_decl.Loc.{Loc}
@@ -62,3 +62,8 @@ module _ (types : List DataDecl) (layouts : List Layout) (leaf : Leaf) (n : ℕ)
   IsBelow routes Absent = EachOf Misses routes
   IsBelow routes Passes = SomeOf Leads routes × EachOf PassesRoute routes
   IsBelow routes (Fails why) = SomeOf (FailsRoute why) routes
+
+-- a literal of so many bits is another number than that which is known
+abbrev pub IsAnother : Option ℕ → ℕ → ℕ → Type 0
+IsAnother None bits literal = ⊥
+IsAnother (Some number) bits literal = (number ≡ literal → ⊥) × (literal < 2 ^ bits)

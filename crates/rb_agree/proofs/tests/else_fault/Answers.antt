@@ -8,13 +8,13 @@ pub returns-then-not-branch : goal.returns-then-not-branch
 returns-then-not-branch c = (
   c.in_ok-copy-2.ensures,
   literal-at c.args.arms.now c.loop-arm.arm-index c.arm-item.result (at-item c.args.arms.now c.loop-arm.arm-index c.arm-item.result c.loop-arm-test.true c.arm-item.is),
-  λ ex. absurd (cc (c.in_ok-excludes.ensures.1 ex, c.if-not-branch.true)),
+  λ ex. absurd (cc (c.in_ok-is_excluded.ensures.1 ex, c.if-not-branch.true)),
 )
 
 pub loop-arm-preserved : goal.loop-arm-preserved
 loop-arm-preserved c =
     before-more (λ (a : FlatArm). Excludes c.args.types.now c.args.layouts.now c.args.leaf.now c.args.loc.now a.literal) c.args.arms.now c.loop-arm.arm-index c.arm-item.result
-    c.loop-arm-test.true c.arm-item.is (c.in_ok-excludes.ensures.0 c.if-not-branch.false) c.loop-arm.invariant
+    c.loop-arm-test.true c.arm-item.is (c.in_ok-is_excluded.ensures.0 c.if-not-branch.false) c.loop-arm.invariant
 
 pub returns : goal.returns
 returns c = (
