@@ -102,6 +102,6 @@ read_at types (x ∷ ts) (y ∷ ws) (v ∷ vs) (suc i) t w e f h = read_at types
 -- words that spell arguments are not refused
 pub never_misfit : (p : Program) (words : List (List ℕ)) (args : List Value) (due : Due) → Spell p words args → IsMisfit p words due → ⊥
 never_misfit p words args due spelled (miscounted ne e) = ne (as_many p.types (param_types p.funs p.main) words args spelled)
-never_misfit p words args due spelled (misspelled m) =
+never_misfit p words args due spelled (misspelled same m) =
     let here = read_at p.types (param_types p.funs p.main) words args m.place m.ty m.word m.has_type m.has_word spelled in
     never_both p.types m.ty m.word here.0 m.refused.fault m.refused.known here.1 m.refused.refused

@@ -72,9 +72,10 @@ pub record IsFirstRefused (types : List DataDecl) (tys : List Ty) (words : List 
   pub read : AreRead types (take place tys) (take place words) before
   pub refused : IsRefusedAt types (place + 1) ty word due
 
--- The words spell no arguments of `main`: there are more or fewer than parameters, or the first that spells
--- no value of its type is shown.
+-- The words spell no arguments of `main`: there are more or fewer than parameters; or there are as many, and the first
+-- that spells no value of its type is shown.
 pub data IsMisfit (p : Program) (words : List (List ℕ)) (due : Due) : Type 0 where
   miscounted : length words ≢ length (param_types p.funs p.main)
       → due ≡ refusal Argument (count_line (length (param_types p.funs p.main)) (length words)) → IsMisfit p words due
-  misspelled : IsFirstRefused p.types (param_types p.funs p.main) words due → IsMisfit p words due
+  misspelled : length words ≡ length (param_types p.funs p.main)
+      → IsFirstRefused p.types (param_types p.funs p.main) words due → IsMisfit p words due
