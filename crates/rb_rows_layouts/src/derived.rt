@@ -1,7 +1,7 @@
 //! Layouts that are left to the compiler: what they are, which are refused, and that programs print the same values
 //! with them as with written ones. Worked out by hand from the rules.
 
-use crate::accepted::{BIT, BRANCH, LIST, NICHE, PAIR, SHAPE, TREE};
+use crate::accepted::{BIT, BRANCH, LIST, NICHE, PAIR, SHAPE, TREE, TWIN};
 use crate::refusals::{expect_agreed, expect_refused};
 use rb_rows_calls::call::{expect_answer, repeated};
 use std::test::Fail;
@@ -144,7 +144,7 @@ fn refusals_that_come_first(rt: HostRuntime) -> Result<(), Fail> {
 
 /// Types with their written layouts; the types; layouts that leave them to the compiler, with a `~` between; functions,
 /// the value that `main` takes, and the one that it gives.
-const EXAMPLES: [(&str, &str, &str, &str, &str, &str); 7] = [
+const EXAMPLES: [(&str, &str, &str, &str, &str, &str); 8] = [
     (
         BIT,
         "type Bit = Off | On;",
@@ -192,6 +192,14 @@ const EXAMPLES: [(&str, &str, &str, &str, &str, &str); 7] = [
         "fun main(p: Pair): Pair = match p { Two(a, b) => Two(b, a) };",
         "Two(1,18446744073709551615)",
         "Two(18446744073709551615, 1)",
+    ),
+    (
+        TWIN,
+        "type Twin = Tip | Fork(Twin, Twin);",
+        "layout Twin = boxed;",
+        "fun grow(n: u64, t: Twin): Twin = match n { 0 => t, _ => grow(sub(n, 1), Fork(t, t)) }; fun main(n: u64): Twin = grow(n, Tip);",
+        "2",
+        "Fork(Fork(Tip, Tip), Fork(Tip, Tip))",
     ),
     (
         NICHE,

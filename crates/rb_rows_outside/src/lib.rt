@@ -8,6 +8,8 @@ mod files;
 #[cfg(test)]
 mod generated;
 #[cfg(test)]
+mod long;
+#[cfg(test)]
 mod pieces;
 #[cfg(test)]
 mod runs;

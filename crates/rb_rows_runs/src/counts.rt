@@ -8,7 +8,7 @@ use rb_rows_calls::counts::expect_counts;
 use std::test::Fail;
 
 /// Four bits are told apart in at most four switches.
-const FOUR: &str =
+pub const FOUR: &str =
     "type K = A | B;layout K <1> = split 0[0:1] { 0 => A : { word 1 { [0:1] = 0 } } 1 => B : { word 1 { [0:1] = 1 } } };type Q = Q4(K, K, K, K);layout Q <4> = Q4(_, _, _, _) : { word 4 { [0:1] .0, [1:1] .1, [2:1] .2, [3:1] .3 } };fun main(q: Q): u8 = match q { Q4(A, A, _, _) => 1, Q4(_, _, A, A) => 2, _ => 3 };";
 
 /// File, limits and values, lines, switches, lines.

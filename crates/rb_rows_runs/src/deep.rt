@@ -6,7 +6,7 @@ use rb_rows_calls::counts::expect_counts;
 use std::test::Fail;
 
 /// The colour of a tree's root, which is made where the clause names it.
-const COLOUR: &str =
+pub const COLOUR: &str =
     "type Color = Red | Black;layout Color <1> = split 0[0:1] { 0 => Red : { word 1 { [0:1] = 0 } } 1 => Black : { word 1 { [0:1] = 1 } } };type Tree = Empty | Node(Color, Tree, u32, Tree);layout Tree <32> = split 0[0:32] { 0 => Empty : { word 32 { [0:32] = 0 } } else => split 0[0:1] { 0 => Node(Red, _, _, _) : { word 32 { [0:1] = 0, [2:22] -> 4 { word 32 { [0:32] .2 }, inline .1, inline .3 } } } 1 => Node(Black, _, _, _) : { word 32 { [0:1] = 1, [2:22] -> 4 { word 32 { [0:32] .2 }, inline .1, inline .3 } } } } };fun main(t: Tree): Color = match t { Empty => Black, Node(c, l, x, r) => c };";
 
 /// Clauses by colour.
@@ -18,7 +18,7 @@ const KEPT: &str =
     "type Color = Red | Black;layout Color <1> = split 0[0:1] { 0 => Red : { word 1 { [0:1] = 0 } } 1 => Black : { word 1 { [0:1] = 1 } } };type Tree = Empty | Node(Color, Tree, u32, Tree);layout Tree <32> = split 0[0:32] { 0 => Empty : { word 32 { [0:32] = 0 } } else => split 0[0:1] { 0 => Node(Red, _, _, _) : { word 32 { [0:1] = 0, [2:22] -> 4 { word 32 { [0:32] .2 }, inline .1, inline .3 } } } 1 => Node(Black, _, _, _) : { word 32 { [0:1] = 1, [2:22] -> 4 { word 32 { [0:32] .2 }, inline .1, inline .3 } } } } };fun main(t: Tree): Tree = t;";
 
 /// A number is inserted: constructions look at the colour to choose their leaf.
-const INSERTED: &str =
+pub const INSERTED: &str =
     "type Color = Red | Black;layout Color <1> = split 0[0:1] { 0 => Red : { word 1 { [0:1] = 0 } } 1 => Black : { word 1 { [0:1] = 1 } } };type Tree = Empty | Node(Color, Tree, u32, Tree);layout Tree <32> = split 0[0:32] { 0 => Empty : { word 32 { [0:32] = 0 } } else => split 0[0:1] { 0 => Node(Red, _, _, _) : { word 32 { [0:1] = 0, [2:22] -> 4 { word 32 { [0:32] .2 }, inline .1, inline .3 } } } 1 => Node(Black, _, _, _) : { word 32 { [0:1] = 1, [2:22] -> 4 { word 32 { [0:32] .2 }, inline .1, inline .3 } } } } };fun insert(t: Tree, x: u32): Tree = match t { Empty => Node(Red, Empty, x, Empty), Node(c, l, y, r) => match lt(x, y) { 1 => Node(c, insert(l, x), y, r), 0 => match lt(y, x) { 1 => Node(c, l, y, insert(r, x)), 0 => t } } };fun main(t: Tree, x: u32): Tree = insert(t, x);";
 
 /// A box of a bit, whose word is the bit's; no value of it is made.

@@ -3,6 +3,7 @@
 
 use crate::layouts::{BRANCH, INSERT, LIST, PAIR, SHAPE, TWIN};
 use rb_rows_calls::call::expect_answer;
+use std::alloc::{AllocError, Global};
 use std::test::Fail;
 
 /// The second of two lists.
@@ -18,16 +19,77 @@ const SAME: &str =
     "type Shape = Dot(u8) | Box(u32, u32);layout Shape <32> = split 0[0:32] -> 4 @0:8[0:8] { 0 => Dot(_) : { word 32 { [0:32] -> 4 { word 8 { [0:8] = 0 }, word 8 { [0:8] .0 } } } } 1 => Box(_, _) : { word 32 { [0:32] -> 4 { word 8 { [0:8] = 1 }, word 32 { [0:32] .0 }, word 32 { [0:32] .1 } } } } };fun main(s: Shape): Shape = s;";
 
 /// A tree or none, in the word of a tree: a pointer to it is never 1.
-const OPTION: &str =
+pub const OPTION: &str =
     "type Color = Red | Black;layout Color <1> = split 0[0:1] { 0 => Red : { word 1 { [0:1] = 0 } } 1 => Black : { word 1 { [0:1] = 1 } } };type Tree = Empty | Node(Color, Tree, u32, Tree);layout Tree <32> = split 0[0:32] { 0 => Empty : { word 32 { [0:32] = 0 } } else => Node(_, _, _, _) : { word 32 { [0:1] .0, [2:22] -> 4 { word 32 { [0:32] .2 }, inline .1, inline .3 } } } };type Opt = No | Yes(Tree);layout Opt <32> = split 0[0:32] { 1 => No : { word 32 { [0:32] = 1 } } else => Yes(_) : { word 32 { [0:32] .0 } } };fun main(o: Opt): Opt = o;";
 
 /// A pair in a block, with free bits between its numbers.
-const PADDED: &str =
+pub const PADDED: &str =
     "type Pair = Two(u8, u8);layout Pair <64> = Two(_, _) : { word 64 { [0:64] -> 8 { word 16 { [0:8] .0 }, word 32 { [24:8] .1 } } } };fun main(x: u8): Pair = Two(x, x);";
 
 /// Three root words, of which the first holds nothing.
 const WIDE: &str =
     "type Wide = Wide(u64, u64);layout Wide <8, 64, 64> = Wide(_, _) : { word 8 { }, word 64 { [0:64] .1 }, word 64 { [0:64] .0 } };fun main(x: u64, y: u64): Wide = Wide(x, y);";
+
+/// A list that the code makes.
+const MADE_LIST: &str =
+    "type List = Nil | Cons(u64, List); layout List <64> = split 0[0:1] { 1 => Nil : { word 64 { [0:1] = 1 } } 0 => Cons(_, _) : { word 64 { [0:1] = 0, [3:61] -> 8 { word 64 { [0:64] .0 }, inline .1 } } } };fun main(): List = Cons(1, Cons(2, Nil));";
+
+/// A shape that the code makes.
+const MADE_SHAPE: &str =
+    "type Shape = Dot(u8) | Box(u32, u32);layout Shape <32> = split 0[0:32] -> 4 @0:8[0:8] { 0 => Dot(_) : { word 32 { [0:32] -> 4 { word 8 { [0:8] = 0 }, word 8 { [0:8] .0 } } } } 1 => Box(_, _) : { word 32 { [0:32] -> 4 { word 8 { [0:8] = 1 }, word 32 { [0:32] .0 }, word 32 { [0:32] .1 } } } } };fun main(): Shape = Box(1, 2);";
+
+/// A pair in two blocks that the code makes.
+const MADE_PAIR: &str =
+    "type Pair = Two(u64, u64);layout Pair <64> = Two(_, _) : { word 64 { [0:64] -> 8 { word 64 { [0:64] .0 }, word 64 { [0:64] -> 8 { word 64 { [0:64] .1 } } } } } };fun main(): Pair = Two(5, 6);";
+
+/// File, limits, answer.
+const MADE: [(&str, &str, &str); 7] = [
+    (
+        MADE_LIST,
+        "1 96",
+        "0 root 0x50;block 64 16 02000000000000000100000000000000;block 80 16 01000000000000004000000000000000;",
+    ),
+    (
+        MADE_LIST,
+        "1 95",
+        "5 ribbit: region full: next 80, size 16, align 8, limit 95;",
+    ),
+    (
+        MADE_SHAPE,
+        "1 73",
+        "0 root 0x10;block 64 9 010100000002000000;",
+    ),
+    (
+        MADE_SHAPE,
+        "1 72",
+        "5 ribbit: region full: next 64, size 9, align 4, limit 72;",
+    ),
+    (
+        MADE_PAIR,
+        "1 88",
+        "0 root 0x9;block 64 8 0600000000000000;block 72 16 05000000000000000800000000000000;",
+    ),
+    (
+        MADE_PAIR,
+        "1 87",
+        "5 ribbit: region full: next 72, size 16, align 8, limit 87;",
+    ),
+    (
+        MADE_PAIR,
+        "1 71",
+        "5 ribbit: region full: next 64, size 8, align 8, limit 71;",
+    ),
+];
+
+#[test]
+fn images_of_constructions(rt: HostRuntime) -> Result<(), Fail> {
+    let alloc = rt.alloc();
+    for (file, words, wanted) in MADE {
+        let words = format!(in alloc; "image E {words}")?;
+        expect_answer(alloc, words.as_str(), file.as_bytes(), wanted)?;
+    }
+    Ok(())
+}
 
 /// File, limits and values, answer.
 const ROWS: [(&str, &str, &str); 20] = [
@@ -115,11 +177,32 @@ fn images_of_values(rt: HostRuntime) -> Result<(), Fail> {
     Ok(())
 }
 
-/// A value of two billion nodes has an image of few lines.
+/// A number of two bytes, the lower one first, in hexadecimal digits.
+fn two_bytes(alloc: Global, number: u64) -> Result<String, AllocError> {
+    let low = number % 256;
+    let high = number / 256;
+    format!(in alloc; "{low:02x}{high:02x}")
+}
+
+/// A value of two billion nodes has an image of thirty blocks, whose halves are the block before.
 #[test]
 fn an_image_of_a_large_value(rt: HostRuntime) -> Result<(), Fail> {
-    let wanted =
-        "0 root 0x60;block 64 16 01000000000000000100000000000000;block 80 16 40000000000000004000000000000000;block 96 16 50000000000000005000000000000000;";
-    expect_answer(rt.alloc(), "image E 40 1024 3", TWIN.as_bytes(), wanted)?;
+    let alloc = rt.alloc();
+    let mut wanted = format!(in alloc;
+        "0 root 0x210;block 64 16 01000000000000000100000000000000;"
+    )?;
+    for i in 0..29u64 {
+        let before = i.wrapping_mul(16).wrapping_add(64);
+        let at = before.wrapping_add(16);
+        let half = two_bytes(alloc, before)?;
+        let line = format!(in alloc; "block {at} 16 {half}000000000000{half}000000000000;")?;
+        wanted.push_str(line.as_str())?;
+    }
+    expect_answer(
+        alloc,
+        "image E 40 1024 30",
+        TWIN.as_bytes(),
+        wanted.as_str(),
+    )?;
     Ok(())
 }

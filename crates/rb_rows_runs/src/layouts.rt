@@ -1,7 +1,8 @@
 //! Files with layouts that are run. The answers were given by a program apart from
 //! this one, written from the language's pages alone.
 
-use rb_rows_calls::call::{call, expect_answer};
+use rb_rows_calls::call::{expect_answer, repeated};
+use std::alloc::{AllocError, Global};
 use std::test::Fail;
 
 /// A list is summed; its tag is the lowest bit of a pointer.
@@ -21,7 +22,7 @@ pub const SHAPE: &str =
     "type Shape = Dot(u8) | Box(u32, u32);layout Shape <32> = split 0[0:32] -> 4 @0:8[0:8] { 0 => Dot(_) : { word 32 { [0:32] -> 4 { word 8 { [0:8] = 0 }, word 8 { [0:8] .0 } } } } 1 => Box(_, _) : { word 32 { [0:32] -> 4 { word 8 { [0:8] = 1 }, word 32 { [0:32] .0 }, word 32 { [0:32] .1 } } } } };fun main(s: Shape): u32 = match s { Dot(b) => to u32(b), Box(x, y) => add(x, y) };";
 
 /// Two such shapes, which are not looked at.
-const SHAPES: &str =
+pub const SHAPES: &str =
     "type Shape = Dot(u8) | Box(u32, u32);layout Shape <32> = split 0[0:32] -> 4 @0:8[0:8] { 0 => Dot(_) : { word 32 { [0:32] -> 4 { word 8 { [0:8] = 0 }, word 8 { [0:8] .0 } } } } 1 => Box(_, _) : { word 32 { [0:32] -> 4 { word 8 { [0:8] = 1 }, word 32 { [0:32] .0 }, word 32 { [0:32] .1 } } } } };fun main(s: Shape, t: Shape): u32 = 0;";
 
 /// A pair in two blocks.
@@ -157,21 +158,100 @@ fn runs_with_layouts(rt: HostRuntime) -> Result<(), Fail> {
     Ok(())
 }
 
-/// A value of 480 bytes in memory, and of two billion nodes.
+/// A million nodes and more in 304 bytes, and two billion in 480, which is one more than there are.
 #[test]
 fn a_value_over_the_limit(rt: HostRuntime) -> Result<(), Fail> {
     let wanted = "13 ribbit: value over 1000000 nodes;";
-    expect_answer(rt.alloc(), "run E 40 1024 30", TWIN.as_bytes(), wanted)?;
+    expect_answer(rt.alloc(), "run E 40 1024 19", TWIN.as_bytes(), wanted)?;
+    expect_answer(rt.alloc(), "run E 40 544 30", TWIN.as_bytes(), wanted)?;
+    let wanted = "5 ribbit: region full: next 528, size 16, align 8, limit 543;";
+    expect_answer(rt.alloc(), "run E 40 543 30", TWIN.as_bytes(), wanted)?;
     Ok(())
 }
 
-/// The text of compiled code runs as the file does.
+/// 9 is put before a list.
+pub const PUSHED: &str =
+    "type List = Nil | Cons(u64, List); layout List <64> = split 0[0:1] { 1 => Nil : { word 64 { [0:1] = 1 } } 0 => Cons(_, _) : { word 64 { [0:1] = 0, [3:61] -> 8 { word 64 { [0:64] .0 }, inline .1 } } } };fun main(l: List): List = Cons(9, l);";
+
+/// The first number of a list, or 0.
+const FIRST: &str =
+    "type List = Nil | Cons(u64, List); layout List <64> = split 0[0:1] { 1 => Nil : { word 64 { [0:1] = 1 } } 0 => Cons(_, _) : { word 64 { [0:1] = 0, [3:61] -> 8 { word 64 { [0:64] .0 }, inline .1 } } } };fun main(l: List): u64 = match l { Nil => 0, Cons(x, r) => x };";
+
+/// File, limits and values, answer.
+const LISTS: [(&str, &str, &str); 10] = [
+    (
+        LIST,
+        "1 1024 Cons(1,Cons(2,Nil))",
+        "0 Cons(1, Cons(2, Nil));",
+    ),
+    (
+        LIST,
+        "1 95 Cons(1,Cons(2,Nil))",
+        "5 ribbit: region full: next 80, size 16, align 8, limit 95;",
+    ),
+    (
+        LIST,
+        "0 64 Cons(1,Nil)",
+        "5 ribbit: region full: next 64, size 16, align 8, limit 64;",
+    ),
+    (LIST, "10 1024", "10 ribbit: wanted 1 arguments, found 0;"),
+    (
+        LIST,
+        "10 1024 Cons(1)",
+        "10 ribbit: argument 1: no value of List at byte 0;",
+    ),
+    (
+        LIST,
+        "1 64 18446744073709551616",
+        "10 ribbit: argument 1: syntax at byte 0;",
+    ),
+    (PUSHED, "1 80 Nil", "0 Cons(9, Nil);"),
+    (
+        PUSHED,
+        "1 79 Nil",
+        "5 ribbit: region full: next 64, size 16, align 8, limit 79;",
+    ),
+    (FIRST, "1 80 Cons(5,Nil)", "0 5;"),
+    (FIRST, "1 64 Nil", "0 0;"),
+];
+
 #[test]
-fn code_texts_run(rt: HostRuntime) -> Result<(), Fail> {
+fn lists_as_they_are(rt: HostRuntime) -> Result<(), Fail> {
     let alloc = rt.alloc();
-    let file = b"fun main(x: u8): u8 = add(x, 1);";
-    let did = call(alloc, "compile E", file, &[], &[])?;
-    assert_eq!(rt; (did.status, did.steps), (0, 0));
-    expect_answer(alloc, "exec E main 1 64 255", did.out.as_slice(), "0 0;")?;
+    for (file, words, wanted) in LISTS {
+        let words = format!(in alloc; "run E {words}")?;
+        expect_answer(alloc, words.as_str(), file.as_bytes(), wanted)?;
+    }
+    Ok(())
+}
+
+/// A list of so many ones, with this between a number and the rest.
+fn ones(alloc: Global, between: &str, count: usize) -> Result<String, AllocError> {
+    let part = format!(in alloc; "Cons(1,{between}")?;
+    let front = repeated(alloc, "", part.as_str(), count, "Nil")?;
+    repeated(alloc, front.as_str(), ")", count, "")
+}
+
+/// A thousand nodes and one.
+#[test]
+fn five_hundred_numbers(rt: HostRuntime) -> Result<(), Fail> {
+    let alloc = rt.alloc();
+    let word = ones(alloc, "", 500)?;
+    let value = ones(alloc, " ", 500)?;
+    let words = format!(in alloc; "run E 1 16000 {word}")?;
+    let wanted = format!(in alloc; "0 {value};")?;
+    expect_answer(alloc, words.as_str(), LIST.as_bytes(), wanted.as_str())?;
+    Ok(())
+}
+
+/// A number is put before so many that the region is full to its last byte.
+#[test]
+fn one_number_more_than_was_given(rt: HostRuntime) -> Result<(), Fail> {
+    let alloc = rt.alloc();
+    let word = ones(alloc, "", 499)?;
+    let value = ones(alloc, " ", 499)?;
+    let words = format!(in alloc; "run E 1 8064 {word}")?;
+    let wanted = format!(in alloc; "0 Cons(9, {value});")?;
+    expect_answer(alloc, words.as_str(), PUSHED.as_bytes(), wanted.as_str())?;
     Ok(())
 }

@@ -2,6 +2,8 @@
 #![tactic(auto)]
 
 #[cfg(test)]
+mod compiled;
+#[cfg(test)]
 mod counts;
 #[cfg(test)]
 mod deep;
@@ -11,3 +13,7 @@ mod images;
 mod layouts;
 #[cfg(test)]
 mod long;
+#[cfg(test)]
+mod matches;
+#[cfg(test)]
+mod needs;

@@ -14,6 +14,9 @@ Cons(18446744073709551615, Nil)
 ~
  ~
 Cons(1,~)
+Cons(1, ~)
+Cons(1, Nil) ~x
+~18446744073709551616
 Cons(1, Nil~
 Cons(~
 Cons(1,\t \r~

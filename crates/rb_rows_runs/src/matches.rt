@@ -1,0 +1,50 @@
+//! Matches by the code that chooses a clause: four bits whose tests stand once, and parts that a leaf has taken
+//! apart, with another test between. Worked out by hand from the files.
+
+use crate::counts::FOUR;
+use rb_rows_calls::call::expect_answer;
+use rb_rows_calls::counts::expect_counts;
+use std::test::Fail;
+
+/// Two pairs of a bit and a byte, with a byte between; which bit the first has its leaf tells alone.
+const BETWEEN: &str =
+    "type K = A | B;layout K <1> = split 0[0:1] { 0 => A : { word 1 { [0:1] = 0 } } 1 => B : { word 1 { [0:1] = 1 } } };type P = P2(K, u8);layout P <9> = P2(_, _) : { word 9 { [0:1] .0, [1:8] .1 } };type D = D3(P, u8, P);layout D <40> = split 0[0:1] { 0 => D3(P2(A, _), _, _) : { word 40 { [0:1] = 0, [1:8] .0.1, [9:8] .1, [17:9] .2 } } 1 => D3(P2(B, _), _, _) : { word 40 { [0:1] = 1, [1:8] .1, [9:8] .0.1, [17:9] .2 } } };fun main(d: D): u8 = match d { D3(P2(A, 3), 7, P2(A, _)) => 1, D3(_, 7, P2(B, _)) => 2, D3(P2(B, x), 8, _) => x, D3(p, _, q) => match p { P2(_, y) => y } };";
+
+/// File, value, answer.
+const ROWS: [(&str, &str, &str); 11] = [
+    (FOUR, "Q4(A,A,B,B)", "0 1;"),
+    (FOUR, "Q4(B,A,A,A)", "0 2;"),
+    (FOUR, "Q4(A,B,A,B)", "0 3;"),
+    (BETWEEN, "D3(P2(A,3),7,P2(A,9))", "0 1;"),
+    (BETWEEN, "D3(P2(A,3),7,P2(B,9))", "0 2;"),
+    (BETWEEN, "D3(P2(B,5),7,P2(B,1))", "0 2;"),
+    (BETWEEN, "D3(P2(B,5),8,P2(A,0))", "0 5;"),
+    (BETWEEN, "D3(P2(A,4),7,P2(A,0))", "0 4;"),
+    (BETWEEN, "D3(P2(A,6),8,P2(A,0))", "0 6;"),
+    (BETWEEN, "D3(P2(B,250),7,P2(A,0))", "0 250;"),
+    (BETWEEN, "D3(P2(B,255),9,P2(B,0))", "0 255;"),
+];
+
+#[test]
+fn clauses_of_values(rt: HostRuntime) -> Result<(), Fail> {
+    let alloc = rt.alloc();
+    for (file, value, wanted) in ROWS {
+        let words = format!(in alloc; "run E 1 64 {value}")?;
+        expect_answer(alloc, words.as_str(), file.as_bytes(), wanted)?;
+    }
+    Ok(())
+}
+
+/// The whole may cost two switches, each of two bits and two numbers one.
+#[test]
+fn a_test_between(rt: HostRuntime) -> Result<(), Fail> {
+    expect_counts(
+        rt.alloc(),
+        "count E 1 64 D3(P2(B,5),8,P2(A,0))",
+        BETWEEN.as_bytes(),
+        "value 5;calls 1;",
+        6,
+        "blocks 0;bytes 0;",
+    )?;
+    Ok(())
+}
