@@ -62,6 +62,16 @@ def leaves(n):
     return MAIN + "".join(enumeration(f"T{t}", names(f"A{t}_", 256)) for t in range(n))
 
 
+def many(n):
+    """n types, each with a layout of four leaves."""
+    return MAIN + "".join(
+        f"type T{t}=A{t}|B{t}(u8)|C{t}(u8,u8,u8)|D{t}(u32);\nlayout T{t}<64>=split 0[0:2]{{0=>A{t}:{{word 64{{[0:2]=0}}}}\n"
+        f"1=>B{t}(_):{{word 64{{[0:2]=1,[8:8].0}}}}\n2=>C{t}(_,_,_):{{word 64{{[0:2]=2,[8:8].0,[16:8].1,[24:8].2}}}}\n"
+        f"3=>D{t}(_):{{word 64{{[0:2]=3,[32:32].0}}}}}};\n"
+        for t in range(n)
+    )
+
+
 def pairs(n):
     """A layout of 100 n leaves, one for each pair of constructors: all have the same root."""
     one, other = names("A", n), names("B", 100)
@@ -300,20 +310,42 @@ def text(n):
 # Programs that are run ----------------------------------------------------------------------------------------------------
 
 
-def spread(value, one, count):
-    """An identity of its first parameter, of as many parameters as there are values: a word of a command line is at most 131,071 bytes."""
-    return f"fun main({comma(f'x{i}: {one}' for i in range(count))}): {one} = x0;\n", ["1", "16777216"] + [value] * count
+def spread(value, one, count, result=None):
+    """An identity of its first parameter, or the number 0, of as many parameters as there are values: a word of a command line is at most 131,071 bytes."""
+    ends = f"{one} = x0" if result is None else f"{result} = 0"
+    return f"fun main({comma(f'x{i}: {one}' for i in range(count))}): {ends};\n", ["1", "16777216"] + [value] * count
+
+
+def chain_of(count):
+    """A list of so many ones, its type and constructors by one letter each."""
+    return "C(1," * count + "N" + ")" * count
+
+
+def short(text):
+    return text.replace("List", "S").replace("Nil", "N").replace("Cons", "C")
 
 
 def lists(n):
     """15 lists of 1,000 n numbers as arguments."""
-    main, words_ = spread("C(1," * (1000 * n) + "N" + ")" * (1000 * n), "S", 15)
-    return LIST.replace("List", "S").replace("Nil", "N").replace("Cons", "C") + main, words_
+    main, words_ = spread(chain_of(1000 * n), "S", 15)
+    return short(LIST) + main, words_
+
+
+def lists_in(n):
+    """21 lists of 1,000 n numbers as arguments that are read and encoded, and not looked at."""
+    main, words_ = spread(chain_of(1000 * n), "S", 21, "u64")
+    return short(LIST) + main, words_
 
 
 def trees(n):
     """2 n trees of 16,383 nodes as arguments."""
     main, words_ = spread(balanced(13, "L"), "T", 2 * n)
+    return TREE + main, words_
+
+
+def trees_in(n):
+    """2 n trees of 16,383 nodes as arguments that are read and encoded, and not looked at."""
+    main, words_ = spread(balanced(13, "L"), "T", 2 * n, "u64")
     return TREE + main, words_
 
 
@@ -331,6 +363,11 @@ def grown(n):
     """A tree of 2^n - 1 nodes that share their halves, built and printed."""
     grow = "fun grow(n: u64, t: T): T = match n { 0 => t, _ => grow(sub(n, 1), F(t, t)) };\nfun main(n: u64): T = grow(n, L);\n"
     return TREE + grow, ["1000", "16777216", str(n - 1)]
+
+
+def halved(n):
+    """The same tree, small enough to be printed."""
+    return grown(n)
 
 
 def summed(n):
@@ -360,13 +397,16 @@ def decoded(n):
 # What is made, and how large ----------------------------------------------------------------------------------------------
 
 AGREEING = [
-    (words, 200), (blocks, 140), (leaves, 24), (pairs, 64), (roots, 26), (nested, 34), (below, 56), (others, 64), (niche, 54),
+    (words, 200), (blocks, 140), (leaves, 24), (many, 1000), (pairs, 64), (roots, 26), (nested, 34), (below, 56), (others, 64), (niche, 54),
     (niches, 70), (bits, 24), (chain, 1000), (flat, 1000), (steps, 60), (fields, 256),
 ]
 REFUSED = [(closed, 300), (twice, 64), (ring, 900)]
 MATCHES = [(literals, 16), (wilds, 52), (columns, 32), (heads, 40), (pattern, 32), (binders, 28), (unknown, 36)]
 PLAIN = [(functions, 9998), (levels, 280), (text, 2000)]
-RUNS = [(lists, 24), (trees, 14), (printed, 500), (grown, 20), (summed, 100), (inserted, 10), (decoded, 1000)]
+RUNS = [
+    (lists, 24), (lists_in, 24), (trees, 14), (trees_in, 16), (printed, 500), (halved, 19), (grown, 20), (summed, 100), (inserted, 10),
+    (decoded, 1000),
+]
 # By name: how many instructions the run of `main` begins, and CALLS, REGION and WORD.
 CODES = [
     ("list", 14_000_125, 1_000_000_000, 16_777_216, 100_000),
