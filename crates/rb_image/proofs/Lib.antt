@@ -1,3 +1,4 @@
+pub mod AscentLemmas
 pub mod BelowLemmas
 pub mod BlockLemmas
 pub mod DepthLemmas
@@ -5,11 +6,15 @@ pub mod DescentLemmas
 pub mod DropLemmas
 pub mod EndLemmas
 pub mod FallLemmas
+pub mod FillLemmas
+pub mod KeepLemmas
 pub mod KnownLemmas
 pub mod LeafLemmas
 pub mod LookLemmas
 pub mod OrderLemmas
 pub mod RootLemmas
 pub mod SoundLemmas
+pub mod SpanLemmas
 pub mod SpotLemmas
+pub mod StandLemmas
 pub mod WalkLemmas

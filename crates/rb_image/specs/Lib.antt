@@ -1,5 +1,6 @@
 pub mod Blocks
 pub mod Given
+pub mod Memories
 pub mod Orders
 pub mod Parts
 pub mod Roots

@@ -1,5 +1,6 @@
 pub mod Descending
 pub mod Ending
+pub mod Filling
 pub mod Knowing
 pub mod Opening
 pub mod Viewing

@@ -39,10 +39,13 @@
 //! is kept among the places found sound. A look at a place that is kept there is left out: where both halves of each
 //! node of a tree are one and the same tree, forty levels take forty looks and some, and not 2^40.
 //!
+//! The blocks of an image stand in a memory that `memory_of` makes: each at its address, of its very size, with fillers
+//! before and between them. What represents a value in the memory of exactly these blocks represents it there.
+//!
 //! `specs/Parts.antt` says what one place comes to, above `specs/Splits.antt`, the leaf to which its splits lead, and
 //! `specs/Orders.antt`, the order of a leaf's parts; `specs/Blocks.antt` which blocks and words an image has.
 //! `specs/Sound.antt` says what a place with all below it comes to, and keeps nothing; `specs/Roots.antt` what an image
-//! does.
+//! does; `specs/Memories.antt` in which memories its blocks stand.
 #![tactic(auto)]
 
 mod below;
@@ -53,6 +56,7 @@ pub mod examine;
 pub mod kept;
 mod known;
 pub mod look;
+pub mod memory;
 mod order;
 mod parts;
 mod roots;

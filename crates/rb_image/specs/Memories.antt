@@ -1,0 +1,36 @@
+-- The memory in which exactly the blocks of an image stand, and memories in which they stand among others.
+use Rattle.std.specs.Prelude.{◌≡◌, ℕ, ◌+◌, ◌-◌, List, [], ◌∷◌, ◌++◌, length, map, replicate, Option, Some, None, slice_get}
+use Rattle.rb_bytes.specs.Memory.{Memory, byte_at, size_at}
+use Rattle.rb_image_text.specs.declared.image.ImageBlock.{ImageBlock}
+
+-- the address behind the last block, or this one where there is none
+abbrev pub end_from : ℕ → List ImageBlock → ℕ
+end_from from [] = from
+end_from from (b ∷ bs) = end_from (b.at + length b.bytes) bs
+
+-- a block's address, and its size in bytes
+abbrev pub span_of : ImageBlock → ℕ × ℕ
+span_of b = (b.at, length b.bytes)
+
+-- what is written at the addresses from one on up to another: the bytes of the blocks, and nothing between them
+abbrev pub bytes_from : ℕ → List ImageBlock → ℕ → List (Option ℕ)
+bytes_from from [] to = replicate (to - from) None
+bytes_from from (b ∷ bs) to = replicate (b.at - from) None ++ (map Some b.bytes ++ bytes_from (b.at + length b.bytes) bs to)
+
+-- the memory of so many bytes that has these blocks and no others
+abbrev pub memory_within : ℕ → List ImageBlock → Memory
+memory_within limit blocks =
+    record { limit = limit; next = end_from 64 blocks; blocks = map span_of blocks; bytes = bytes_from 0 blocks limit }
+
+-- that of the memory of an image: 16,777,216 bytes
+unfoldable pub image_memory : List ImageBlock → Memory
+image_memory blocks = memory_within 16777216 blocks
+
+-- the block is one of the memory's, of its very size, and each of its bytes is written there
+pub record Stands (m : Memory) (b : ImageBlock) : Type 0 where
+  pub size : size_at m.blocks b.at ≡ Some (length b.bytes)
+  pub bytes : (i n : ℕ) → slice_get b.bytes i ≡ Some n → byte_at m.bytes (b.at + i) ≡ Some n
+
+-- each of the blocks stands there
+abbrev pub Stand : List ImageBlock → Memory → Type 0
+Stand blocks m = (k : ℕ) (b : ImageBlock) → slice_get blocks k ≡ Some b → Stands m b

@@ -1,0 +1,26 @@
+-- A memory into which blocks are put one after the other.
+use Rattle.std.specs.Prelude.{◌≡◌, ℕ, ◌+◌, ◌<◌, ◌≤◌, max, List, [], ◌∷◌, ◌++◌, Some, slice_get}
+use Rattle.rb_bytes.specs.Memory.{Memory, IsGood, byte_at}
+use Rattle.rb_image_text.specs.Places.{end_before}
+use Rattle.rb_image_text.specs.declared.image.ImageBlock.{ImageBlock}
+use Rattle.rb_image.specs.Memories.{Stands}
+
+-- the memory with a block of so many bytes at its next address
+abbrev pub with_next : Memory → ℕ → Memory
+with_next m size = record m { next = m.next + size; blocks = m.blocks ++ (m.next, size) ∷ [] }
+
+-- the first so many bytes are written from an address on, the blocks and all bytes below are as they were
+pub record AreStored (old : Memory) (at : ℕ) (bytes : List ℕ) (count : ℕ) (new : Memory) : Type 0 where
+  pub good : IsGood new
+  pub limit : new.limit ≡ old.limit
+  pub next : new.next ≡ old.next
+  pub blocks : new.blocks ≡ old.blocks
+  pub written : (i n : ℕ) → i < count → slice_get bytes i ≡ Some n → byte_at new.bytes (at + i) ≡ Some n
+  pub below : (a : ℕ) → a < at → byte_at new.bytes a ≡ byte_at old.bytes a
+
+-- the first so many blocks stand in a memory of the region's size, which ends before the next one
+pub record StandBefore (blocks : List ImageBlock) (count : ℕ) (m : Memory) : Type 0 where
+  pub good : IsGood m
+  pub limit : m.limit ≡ 16777216
+  pub next : m.next ≤ max 64 (end_before blocks count)
+  pub stand : (k : ℕ) (b : ImageBlock) → k < count → slice_get blocks k ≡ Some b → Stands m b
