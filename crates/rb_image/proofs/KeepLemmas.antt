@@ -17,11 +17,11 @@ use Rattle.rb_image.specs.Memories.{Stand, image_memory}
 use Rattle.rb_image.proofs.StandLemmas.{load_kept, size_kept}
 
 -- each block of the one memory is one of the other, of the same size, and what is loaded in the one is loaded in the other
-pub record Keeps (m m' : Memory) : Type 0 where
+pub record KeepsAccesses (m m' : Memory) : Type 0 where
   pub sizes : (base size : ℕ) → size_at m.blocks base ≡ Some size → size_at m'.blocks base ≡ Some size
   pub loads : KeepsLoads m m'
 
-module _ (m m' : Memory) (k : Keeps m m') where
+module _ (m m' : Memory) (k : KeepsAccesses m m') where
   found_keeps : (b : Option ℕ) (fs : List FlatWord) (f : FlatWord) (j : ℕ) (ws : List ℕ) (ats : ℕ → ℕ) (w : ℕ) → IsFound b fs f j ws ats m w → IsFound b fs f j ws ats m' w
   found_keeps None fs f j ws ats w e = e
   found_keeps (Some b) fs f j ws ats w e = k.loads (ats b) (begins_at fs j) f.width w e
@@ -54,7 +54,7 @@ module _ (m m' : Memory) (k : Keeps m m') where
     Represents-keeps (number bits x lt) = number bits x lt
     Represents-keeps (built t v ws b below) = built t v ws (made_keeps t v ws b) (λ k o e. Represents-keeps (below k o e))
 
-pub stand_keeps : (blocks : List ImageBlock) (m : Memory) → AreInPlace blocks → AreBlocks blocks → Stand blocks m → Keeps (image_memory blocks) m
+pub stand_keeps : (blocks : List ImageBlock) (m : Memory) → AreInPlace blocks → AreBlocks blocks → Stand blocks m → KeepsAccesses (image_memory blocks) m
 stand_keeps blocks m placed are stand = record {
   sizes = size_kept blocks m stand;
   loads = load_kept blocks m placed are stand;
