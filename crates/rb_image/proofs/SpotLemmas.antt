@@ -24,12 +24,12 @@ module _ {A : Type 0} where
   in_append x (y ∷ xs) ys (inl e) = inl (inl e)
   in_append x (y ∷ xs) ys (inr h) = elim (in_append x xs ys h) [ inl a ↦ inl (inr a) | inr b ↦ inr b ]
 
-  in_left : (x : A) (xs ys : List A) → In x xs → In x (xs ++ ys)
+  pub in_left : (x : A) (xs ys : List A) → In x xs → In x (xs ++ ys)
   in_left x [] ys h = absurd h
   in_left x (y ∷ xs) ys (inl e) = inl e
   in_left x (y ∷ xs) ys (inr h) = inr (in_left x xs ys h)
 
-  in_right : (x : A) (xs ys : List A) → In x ys → In x (xs ++ ys)
+  pub in_right : (x : A) (xs ys : List A) → In x ys → In x (xs ++ ys)
   in_right x [] ys h = h
   in_right x (y ∷ xs) ys h = inr (in_right x xs ys h)
 
@@ -68,13 +68,13 @@ in_flat_map f y (x ∷ xs) h = elim (in_append y (f x) (flat_map f xs) h) [
   | inr b ↦ let r = in_flat_map f y xs b in (r.0, inr r.1, r.2)
 ]
 
-flat_map_in : {A B : Type 0} (f : A → List B) (y : B) (x : A) (xs : List A) → In x xs → In y (f x) → In y (flat_map f xs)
+pub flat_map_in : {A B : Type 0} (f : A → List B) (y : B) (x : A) (xs : List A) → In x xs → In y (f x) → In y (flat_map f xs)
 flat_map_in f y x [] h g = absurd h
 flat_map_in f y x (z ∷ xs) (inl e) g = in_left y (f z) (flat_map f xs) (subst (λ u. In y (f u)) e g)
 flat_map_in f y x (z ∷ xs) (inr h) g = in_right y (f z) (flat_map f xs) (flat_map_in f y x xs h g)
 
 -- Parts by offset ----------------------------------------------------------------------------
-in_beginning : (p : Part) (parts : List Part) (o n : ℕ) → In p (beginning_from parts o n) → In p parts
+pub in_beginning : (p : Part) (parts : List Part) (o n : ℕ) → In p (beginning_from parts o n) → In p parts
 in_beginning p parts o zero h = absurd h
 in_beginning p parts o (suc n) h = elim (in_append p (beginning_at parts o) (beginning_from parts (o + 1) n) h) [
   | inl a ↦ in_filter (λ (q : Part). q.o == o) p parts a
@@ -84,7 +84,7 @@ in_beginning p parts o (suc n) h = elim (in_append p (beginning_at parts o) (beg
 same_is : (a : ℕ) → (a == a) ≡ true
 same_is a = grind (arith, common_steps)
 
-beginning_in : (p : Part) (parts : List Part) (o n : ℕ) → In p parts → o ≤ p.o → p.o < o + n → In p (beginning_from parts o n)
+pub beginning_in : (p : Part) (parts : List Part) (o n : ℕ) → In p parts → o ≤ p.o → p.o < o + n → In p (beginning_from parts o n)
 beginning_in p parts o zero h le lt = absurd (omega (arith, le, lt))
 beginning_in p parts o (suc n) h le lt = elim (cases_eq p.o o) [
   | inl e ↦ in_left p (beginning_at parts o) (beginning_from parts (o + 1) n) (filter_in (λ (q : Part). q.o == o) p parts (ap (λ k. p.o == k) (sym e) ∙ same_is p.o) h)

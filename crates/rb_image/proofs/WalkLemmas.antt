@@ -19,7 +19,7 @@ under_is : (a : FlatArm) → walk_under a ≡ record { literal = a.literal; of =
 unfolding denote.Hole.Carrier.roll
 under_is a = fold-roll-FlatArm Walk (Under Walk) walk_step walk_arm (record { literal = a.literal; under = a.under })
 
-abbrev other_walk : Option FlatTree → Option Walk
+abbrev pub other_walk : Option FlatTree → Option Walk
 other_walk None = None
 other_walk (Some t) = Some (leaf_at t)
 
@@ -32,7 +32,7 @@ abbrev pub go_on : Kept → Option FlatTree → Walk
 go_on range None m ws = Err (BadBits range.base range.place)
 go_on range (Some t) m ws = leaf_at t m ws
 
-arms_walk : (range : Kept) (arms : List FlatArm) (other : Option FlatTree) (m : List ImageBlock) (ws : List Kept)
+pub arms_walk : (range : Kept) (arms : List FlatArm) (other : Option FlatTree) (m : List ImageBlock) (ws : List Kept)
     → walk_arms range (map walk_under arms) (other_walk other) m ws ≡ go_on range (under_number arms other range.number) m ws
 arms_walk range [] None m ws = refl
 arms_walk range [] (Some t) m ws = refl
@@ -48,7 +48,7 @@ arms_walk range (a ∷ arms) other m ws =
 pub leaf_walk : (tree : FlatTree) (n : ℕ) (m : List ImageBlock) (ws : List Kept) → tree ≡ Leaf n → leaf_at tree m ws ≡ Ok n
 leaf_walk tree n m ws is = ap (λ t. leaf_at t m ws) is ∙ ap (λ (w : Walk). w m ws) (F.fold-Leaf Walk (Under Walk) walk_step walk_arm n)
 
-split_walk : (tree : FlatTree) (loc : Loc) (arms : List FlatArm) (other : Option FlatTree) (m : List ImageBlock) (ws : List Kept) → tree ≡ Split loc arms other
+pub split_walk : (tree : FlatTree) (loc : Loc) (arms : List FlatArm) (other : Option FlatTree) (m : List ImageBlock) (ws : List Kept) → tree ≡ Split loc arms other
     → leaf_at tree m ws ≡ and_then (range_at m ws loc) (λ range. walk_arms range (map walk_under arms) (other_walk other) m ws)
 split_walk tree loc arms other m ws is = ap (λ t. leaf_at t m ws) is ∙ ap (λ (w : Walk). w m ws) (tree_walk loc arms other)
 

@@ -6,4 +6,5 @@ pub mod Parts
 pub mod Roots
 pub mod Sound
 pub mod Splits
+pub mod Values
 pub mod inner

@@ -55,6 +55,7 @@ mod descent;
 pub mod examine;
 pub mod kept;
 mod known;
+pub mod laws;
 pub mod look;
 pub mod memory;
 mod order;
