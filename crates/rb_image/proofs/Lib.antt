@@ -20,6 +20,7 @@ pub mod LookLemmas
 pub mod OrderLemmas
 pub mod PlacedSpots
 pub mod PointerLemmas
+pub mod ReadLemmas
 pub mod RootLemmas
 pub mod RootValues
 pub mod SoundLemmas

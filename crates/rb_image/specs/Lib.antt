@@ -3,6 +3,7 @@ pub mod Given
 pub mod Memories
 pub mod Orders
 pub mod Parts
+pub mod Reads
 pub mod Roots
 pub mod Sound
 pub mod Splits

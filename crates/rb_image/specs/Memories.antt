@@ -22,7 +22,7 @@ abbrev pub memory_within : ℕ → List ImageBlock → Memory
 memory_within limit blocks =
     record { limit = limit; next = end_from 64 blocks; blocks = map span_of blocks; bytes = bytes_from 0 blocks limit }
 
--- that of the memory of an image: 16,777,216 bytes
+-- the memory of an image has 16,777,216 bytes
 unfoldable pub image_memory : List ImageBlock → Memory
 image_memory blocks = memory_within 16777216 blocks
 

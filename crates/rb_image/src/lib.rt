@@ -1,6 +1,6 @@
 //! Images of a part of a memory, of which nothing is trusted: one place looked at by itself, what its words and the
 //! blocks that they lead to say of the value that is to stand there, or what is wrong with them; and whole images, each
-//! place of which is so looked at.
+//! place of which is so looked at, and the value that one holds.
 //!
 //! Take a list whose tag is the lowest bit of a pointer, and whose items lie behind it:
 //!
@@ -39,13 +39,14 @@
 //! is kept among the places found sound. A look at a place that is kept there is left out: where both halves of each
 //! node of a tree are one and the same tree, forty levels take forty looks and some, and not 2^40.
 //!
-//! The blocks of an image stand in a memory that `memory_of` makes: each at its address, of its very size, with fillers
-//! before and between them. What represents a value in the memory of exactly these blocks represents it there.
+//! `read_image` gives the value of an image that is sound. The blocks of the image stand in a memory that `memory_of`
+//! makes: each at its address, of its very size, with fillers before and between them. What represents a value in the
+//! memory of exactly these blocks represents it there, so the root words are decoded there.
 //!
 //! `specs/Parts.antt` says what one place comes to, above `specs/Splits.antt`, the leaf to which its splits lead, and
 //! `specs/Orders.antt`, the order of a leaf's parts; `specs/Blocks.antt` which blocks and words an image has.
 //! `specs/Sound.antt` says what a place with all below it comes to, and keeps nothing; `specs/Roots.antt` what an image
-//! does; `specs/Memories.antt` in which memories its blocks stand.
+//! does; `specs/Memories.antt` in which memories its blocks stand, and `specs/Reads.antt` which value it holds.
 #![tactic(auto)]
 
 mod below;
@@ -62,3 +63,4 @@ mod order;
 mod parts;
 mod roots;
 mod splits;
+pub mod value;

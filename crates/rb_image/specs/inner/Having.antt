@@ -1,0 +1,15 @@
+-- That the images which are sound for types of a program have values.
+use Rattle.std.specs.Prelude.{List}
+use Rattle.rb_core.specs.declared.program.Program.{Program}
+use Rattle.rb_core.specs.declared.types.Ty.{Ty}
+use Rattle.rb_core.specs.declared.value.Value.{Value}
+use Rattle.rb_bytes.specs.Memory.{Memory}
+use Rattle.rb_layout.specs.declared.layout.Layout.{Layout}
+use Rattle.rb_coding.specs.Decoding.{AreOf}
+use Rattle.rb_image_text.specs.declared.image.Image.{Image}
+use Rattle.rb_image.specs.Roots.{IsSoundImage}
+use Rattle.rb_image.specs.Values.{IsDeclared, Keeps}
+
+abbrev pub HaveValues : Program → List Layout → Type 0
+HaveValues p layouts = (image : Image) (ty : Ty) → IsDeclared p.types ty → IsSoundImage p.types layouts image ty
+    → (m : Memory) → Keeps image.blocks m → (v : Value) × AreOf p m ty image.root v

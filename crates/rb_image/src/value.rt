@@ -1,0 +1,92 @@
+//! The values of images.
+
+ghost use Rattle.std.specs.Prelude.{◌≤◌, IfErr, IfOk};
+ghost use Rattle.rb_coding.specs.Decoding.{AreOf};
+ghost use Rattle.rb_core.specs.Values.{node_count};
+ghost use Rattle.rb_core.specs.declared.value.Value.{Value};
+ghost use Rattle.rb_image.specs.Memories.{image_memory};
+ghost use Rattle.rb_image.specs.Reads.{Holds, IsRead, IsReason};
+ghost use Rattle.rb_image.specs.Roots.{IsFirstFault, IsSoundImage};
+ghost use Rattle.rb_image.specs.Sound.{IsFault};
+ghost use Rattle.rb_image.specs.Values.{IsDeclared};
+ghost use Rattle.rb_image.specs.inner.Having.{HaveValues};
+ghost use Rattle.rb_image_text.specs.Images.{AreBlocks};
+ghost use Rattle.rb_image_text.specs.Places.{AreInPlace};
+ghost use Rattle.rb_image_text.specs.declared.fault.ImageFault.{ImageFault};
+
+use crate::examine::examine_image;
+use crate::laws::sound_images_have_values;
+use crate::memory::memory_of;
+use rb_coding::decode::decode;
+use rb_coding::fault::DecodeFault;
+use rb_core::types::Ty;
+use rb_image_text::fault::ImageFault;
+use rb_image_text::image::Image;
+use rb_layout::agreed::Agreed;
+use rb_values::forest::Forest;
+use std::alloc::Global;
+
+// Tells that images which are sound for a type of this program have values.
+fn images_have_values(agreed: &Agreed)
+    ensures { HaveValues agreed.now.covered.program agreed.now.layouts }
+{
+    sound_images_have_values();
+    let _ = agreed.covered().program();
+    let _ = agreed.layouts();
+}
+
+// The value of an image that is sound, read where its blocks stand.
+fn value_of(
+    alloc: Global,
+    agreed: &Agreed,
+    ty: Ty,
+    image: &Image,
+    limit: u64,
+) -> Result<Forest, ImageFault>
+    requires placed { AreInPlace image.now.blocks }
+    requires sized { AreBlocks image.now.blocks }
+    requires declared { IsDeclared agreed.now.covered.program.types ty }
+    requires sound { IsSoundImage agreed.now.covered.program.types agreed.now.layouts image.now ty }
+    ensures { (v : Value) → AreOf agreed.now.covered.program (image_memory image.now.blocks) ty image.now.root v
+        → IsRead v limit result }
+{
+    images_have_values(agreed);
+    let memory = memory_of(alloc, image.blocks.as_slice())?;
+    match decode(alloc, agreed, ty, image.root.as_slice(), &memory, limit) {
+        Ok(value) => Ok(value),
+        Err(DecodeFault::TooLarge) => Err(ImageFault::ImageTooLarge),
+        Err(DecodeFault::Memory) => Err(ImageFault::Memory),
+    }
+}
+
+/// The value that an image holds: the image is sound for a type of the program, as `examine_image` says, and in a
+/// memory in which its blocks stand its root words represent this value. The nodes of the value are told off as they
+/// are found, so the work is at most that for so many nodes as `limit`, however often the value shares a block.
+///
+/// # Errors
+///
+/// The image's first fault, as of `examine_image`; or `ImageTooLarge` where it has none and its value has more nodes
+/// than `limit`. Or want of memory.
+pub fn read_image(
+    alloc: Global,
+    agreed: &Agreed,
+    ty: Ty,
+    image: &Image,
+    limit: u64,
+) -> Result<Forest, ImageFault>
+    requires placed { AreInPlace image.now.blocks }
+    requires sized { AreBlocks image.now.blocks }
+    requires declared { IsDeclared agreed.now.covered.program.types ty }
+    ensures value { IfOk result (λ v.
+        Holds agreed.now.covered.program agreed.now.layouts image.now ty v × (node_count v ≤ limit)) }
+    ensures each { (v : Value) → Holds agreed.now.covered.program agreed.now.layouts image.now ty v
+        → IsRead v limit result }
+    ensures fault { IfErr result (λ fault.
+        IsReason agreed.now.covered.program agreed.now.layouts image.now ty limit fault) }
+    ensures first { (fault : ImageFault)
+        → IsFirstFault agreed.now.covered.program.types agreed.now.layouts image.now ty fault → IsFault fault result }
+{
+    images_have_values(agreed);
+    examine_image(alloc, agreed, ty, image)?;
+    value_of(alloc, agreed, ty, image, limit)
+}
