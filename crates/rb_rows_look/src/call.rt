@@ -1,12 +1,14 @@
-//! Places that are looked at and images that are examined, and what comes of them as text.
+//! Places that are looked at, images that are examined and read, and what comes of them as text.
 
 use rb_core::types::Ty;
 use rb_image::examine::examine_image;
 use rb_image::kept::{Kept, Place};
 use rb_image::look::look;
+use rb_image::value::read_image;
 use rb_image_text::fault::ImageFault;
 use rb_image_text::read::read_image_text;
 use rb_layout::agreed::Agreed;
+use rb_values::print::print_value;
 use ribbit_tool::accepting::accept;
 use std::alloc::{AllocError, Global};
 use std::process::Abort;
@@ -81,6 +83,51 @@ fn finding(alloc: Global, agreed: &Agreed, text: &str, ty: Ty) -> Result<String,
         Ok(()) => format!(in alloc; "sound"),
         Err(fault) => fault_text(alloc, fault),
     }
+}
+
+/// The most nodes of a value that is read.
+const MOST_NODES: u64 = 1_000;
+
+/// The value of an image as text, or why there is none.
+fn value(alloc: Global, agreed: &Agreed, text: &str, ty: u32) -> Result<Vec<u8>, AllocError> {
+    let types = agreed.covered().program().types.as_slice();
+    let fault = match read_image_text(alloc, text.as_bytes()) {
+        Err(fault) => fault,
+        Ok(image) => {
+            if ty as usize >= types.len() {
+                return Vec::from_slice(alloc, b"no such type");
+            }
+            match read_image(alloc, agreed, Ty::Named(ty), &image, MOST_NODES) {
+                Err(fault) => fault,
+                Ok(value) => return print_value(alloc, types, Ty::Named(ty), &value),
+            }
+        }
+    };
+    Vec::from_slice(alloc, fault_text(alloc, fault)?.as_bytes())
+}
+
+/// An image to read: its text, the number of a type, and the text that is to come.
+pub type ValueRow<'a> = (&'a str, u32, &'a str);
+
+/// Checks which values images hold.
+pub fn expect_values(
+    rt: &impl Abort,
+    alloc: Global,
+    file: &str,
+    rows: &[ValueRow],
+) -> Result<(), Fail> {
+    if file.len() > MOST {
+        return Err(Fail::from("a long file"));
+    }
+    let accepted = match accept(alloc, file.as_bytes()) {
+        Ok(accepted) => accepted,
+        Err(_) => return Err(Fail::from("a file that is refused")),
+    };
+    for row in rows {
+        let found = value(alloc, &accepted.agreed, row.0, row.1)?;
+        assert_eq!(rt; found.as_slice(), row.2.as_bytes(), "{}", row.0);
+    }
+    Ok(())
 }
 
 /// Checks what comes of images.

@@ -1,5 +1,5 @@
 //! Rows of places of images, each looked at by itself: the places below it, or the fault of its own words and blocks;
-//! and of whole images: sound, or their first fault. It has tests alone.
+//! and of whole images: sound, or their first fault, and the value that they hold. It has tests alone.
 #![tactic(auto)]
 
 #[cfg(test)]
@@ -8,3 +8,5 @@ mod call;
 mod images;
 #[cfg(test)]
 mod places;
+#[cfg(test)]
+mod values;
