@@ -64,13 +64,13 @@ numbers ws = map (λ (w : Kept). w.number) ws
 
 module _ (blocks : List ImageBlock) (m : Memory) (keeps : Keeps blocks m) where
   -- a word that lies in a block of a known size
-  record InBlock (at byte width : ℕ) : Type 0 where
-    w : ℕ
-    is_word : word_in blocks at byte width ≡ Some w
-    loaded : ◌≡◌ {A = Result ℕ Trap} (load_of m at byte width) (Ok w)
-    small : w < 2 ^ width
+  pub record InBlock (at byte width : ℕ) : Type 0 where
+    pub w : ℕ
+    pub is_word : word_in blocks at byte width ≡ Some w
+    pub loaded : ◌≡◌ {A = Result ℕ Trap} (load_of m at byte width) (Ok w)
+    pub small : w < 2 ^ width
 
-  in_block : (at byte width size : ℕ) → IsBlockWidth width → byte + width / 8 ≤ size → size_at blocks at ≡ Some size → InBlock at byte width
+  pub in_block : (at byte width size : ℕ) → IsBlockWidth width → byte + width / 8 ≤ size → size_at blocks at ≡ Some size → InBlock at byte width
   in_block at byte width size wide le is = go (block_at blocks at) refl is
     where
       go : (o : Option ImageBlock) → block_at blocks at ≡ o → size_in o ≡ Some size → InBlock at byte width

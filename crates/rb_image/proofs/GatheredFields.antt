@@ -78,7 +78,7 @@ module _ (word : List ℕ → ℕ → Kept) (path : List ℕ) where
   words_long i zero = refl
   words_long i (suc n) = ap suc (words_long (i + 1) n)
 
-  words_at : (i n j : ℕ) → j < n → slice_get (field_words word path i n) j ≡ Some (word path (i + j))
+  pub words_at : (i n j : ℕ) → j < n → slice_get (field_words word path i n) j ≡ Some (word path (i + j))
   words_at i zero j lt = absurd (omega (arith, lt))
   words_at i (suc n) zero lt = let z : i ≡ i + 0 = omega arith in ap (λ k. Some (word path k)) z
   words_at i (suc n) (suc j) lt = let z : i + 1 + j ≡ i + suc j = omega arith in words_at (i + 1) n j (omega (arith, lt)) ∙ ap (λ k. Some (word path k)) z

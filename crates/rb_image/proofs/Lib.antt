@@ -2,11 +2,15 @@ pub mod AscentLemmas
 pub mod BelowLemmas
 pub mod BlockLemmas
 pub mod DepthLemmas
+pub mod DescendingImages
 pub mod DescentLemmas
 pub mod DropLemmas
 pub mod EndLemmas
 pub mod ExaminedParts
 pub mod FallLemmas
+pub mod FallingParts
+pub mod FallingSplits
+pub mod FallingWords
 pub mod FillLemmas
 pub mod FilledProvenances
 pub mod FoundWords

@@ -1,4 +1,5 @@
 pub mod Blocks
+pub mod Falling
 pub mod Given
 pub mod Memories
 pub mod Orders

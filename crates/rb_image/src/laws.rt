@@ -1,8 +1,15 @@
 //! What images are: each law the contract of a function that does nothing.
 
+ghost use Rattle.rb_image.specs.Falling.{DescendingImagesAreSound};
 ghost use Rattle.rb_image.specs.Values.{SoundImagesHaveValues};
 
 /// Every image that is sound has a value.
 pub fn sound_images_have_values()
     ensures { SoundImagesHaveValues }
+{}
+
+/// Every image is sound whose root words represent a value in the memory that has exactly the image's blocks, and whose
+/// pointers fall: each that is kept in a block leads to a block with a lower address.
+pub fn descending_images_are_sound()
+    ensures { DescendingImagesAreSound }
 {}
