@@ -1,7 +1,6 @@
 -- An image whose root words represent a value in the memory of its blocks, with pointers that fall, is sound.
-use Rattle.std.proofs.Common.{◌≡◌, ℕ, zero, suc, ◌+◌, ◌*◌, ◌^◌, ◌<◌, inl, inr, nat_eq, Bool, true, false, List, [], ◌∷◌, length, Option, Some, None, Result, Ok, refl, sym, subst, ap, ◌∙◌, arith}
-use Rattle.std.specs.Prelude.{slice_get, slice_index, if◌then◌else◌}
-use Rattle.std.proofs.lemmas.Grind.{common_steps}
+use Rattle.std.proofs.Common.{◌≡◌, ℕ, zero, suc, ◌+◌, ◌^◌, ◌<◌, inl, inr, false, List, [], ◌∷◌, length, Option, Some, None, Result, Ok, refl, sym, subst, ap, ◌∙◌, arith}
+use Rattle.std.specs.Prelude.{slice_get, slice_index}
 use Rattle.std.proofs.lemmas.Option.{get_or_from_slice_get, same_Some, slice_get_within}
 use Rattle.rb_core.specs.declared.program.Program.{Program}
 use Rattle.rb_core.specs.declared.types.DataDecl.{DataDecl}
@@ -12,60 +11,45 @@ use Rattle.rb_core.specs.TypedPrograms.{IsTyped}
 use Rattle.rb_core.specs.declared.layout_decl.Loc.{Loc}
 use Rattle.rb_bits.specs.Words.{take_of}
 use Rattle.rb_bytes.specs.Memory.{Memory}
-use Rattle.rb_bytes.specs.Memory as M
-use Rattle.rb_layout.specs.A2 as A2
 use Rattle.rb_layout.specs.A4.{IsBlockWidth}
-use Rattle.rb_layout.specs.A7.{IsAbove, Meets}
+use Rattle.rb_layout.specs.A7.{Meets}
 use Rattle.rb_layout.specs.Agreement.{Agrees}
 use Rattle.rb_layout.specs.Flat.{IsFlat}
-use Rattle.rb_layout.specs.Flattening.{flat_layouts, shape_of, type_at}
+use Rattle.rb_layout.specs.Flattening.{flat_layouts, type_at}
 use Rattle.rb_layout.specs.Locations.{Reached, reached_at}
-use Rattle.rb_layout.specs.Positions.{Open, layout_of, open_positions}
+use Rattle.rb_layout.specs.Positions.{Open, open_positions}
 use Rattle.rb_layout.specs.Splits.{Test, Is, IsNone}
-use Rattle.rb_layout.specs.Words.{flat_at}
 use Rattle.rb_layout.specs.declared.layout.Block.{Block}
 use Rattle.rb_layout.specs.declared.layout.FlatWord.{FlatWord}
 use Rattle.rb_layout.specs.declared.layout.Kind.{Kind}
 use Rattle.rb_layout.specs.declared.layout.Layout.{Layout}
 use Rattle.rb_layout.specs.declared.layout.Leaf.{Leaf}
-use Rattle.rb_layout.specs.declared.layout.Part.{Part}
-use Rattle.rb_layout.specs.declared.layout.WordRef.{WordRef}
 use Rattle.rb_layout.proofs.OpenPositions.{position-typed}
 use Rattle.rb_rel.specs.Relation.{HoldsKind, Made, Represents, word_count}
-use Rattle.rb_rel.specs.Relation as R
 use Rattle.rb_rel.proofs.Agreeing.{lawful}
 use Rattle.rb_rel.proofs.Lawful.{Holder, Lawful, units_of}
 use Rattle.rb_rel.proofs.Lists.{get-map, got}
 use Rattle.rb_rel.proofs.Represented.{Opened, Represents-count}
 use Rattle.rb_coding.proofs.LeadLemmas.{leads_to}
 use Rattle.rb_image_text.specs.declared.fault.ImageFault.{ImageFault}
-use Rattle.rb_image_text.specs.declared.image.Image.{Image}
 use Rattle.rb_image_text.specs.declared.image.ImageBlock.{ImageBlock}
-use Rattle.rb_image_text.specs.Images.{AreBlocks}
-use Rattle.rb_image_text.specs.Places.{AreInPlace}
 use Rattle.rb_image.specs.declared.kept.Kept.{Kept}
-use Rattle.rb_image.specs.Blocks.{block_at, size_at, size_in}
-use Rattle.rb_image.specs.Falling.{AreKept, Descends, DescendingImagesAreSound, HasWord, PointersFall, base_in, built, number}
+use Rattle.rb_image.specs.Falling.{AreKept, Descends, DescendingImagesAreSound, HasWord, PointersFall, built, number}
 use Rattle.rb_image.specs.Memories.{image_memory}
-use Rattle.rb_image.specs.Orders.{PartAt, order_of}
+use Rattle.rb_image.specs.Orders.{order_of}
 use Rattle.rb_image.specs.Parts.{At, bits_at, field_word, field_words, look, look_layout, look_leaf, place_at, places_of}
 use Rattle.rb_image.specs.Roots.{AllFit, RootIsSound, WordFits, kept_from, widths_of}
 use Rattle.rb_image.specs.Roots as Roots
 use Rattle.rb_image.specs.Sound.{IsSound, sound}
 use Rattle.rb_image.specs.Splits.{and_then, leaf_at, nothing, word_at}
 use Rattle.rb_image.proofs.FallingParts.{HasAddresses, addresses}
-use Rattle.rb_image.proofs.FallingSplits.{HaveRanges, led, loc_of}
-use Rattle.rb_image.proofs.FallingWords.{AreKeptAs, HasRange, IsWhole, kept_is, read_at}
+use Rattle.rb_image.proofs.FallingSplits.{led, loc_of}
+use Rattle.rb_image.proofs.DescendingValues.{Descends-represents}
+use Rattle.rb_image.proofs.FallingWords.{AreKeptAs, HasRange, kept_is, read_at}
 use Rattle.rb_image.proofs.GatheredFields.{count_is, low, named_small, word_is, words_at}
 use Rattle.rb_image.proofs.PlacedSpots.{spot_of}
 use Rattle.rb_image.proofs.SpotLemmas.{In, get_in, in_flat_map, in_get}
-use Rattle.rb_image.proofs.StandLemmas.{image_memory_good, image_memory_size, image_size_stands, image_word_loaded}
-
--- what descends represents
-pub Descends-represents : {types : List DataDecl} {layouts : List Layout} {m : Memory} {ty : Ty} {v : Value} {ws : List ℕ} {from : ℕ → ℕ}
-    → Descends types layouts m ty v ws from → Represents types layouts m false ty v ws
-Descends-represents (number bits x from lt) = R.number bits x lt
-Descends-represents (built t v ws from b inner falls kept below) = R.built t v ws b (λ k o e. Descends-represents (below k o e))
+use Rattle.rb_image.proofs.WholeMemories.{IsWhole, image_whole}
 
 module _ (p : Program) (typed : IsTyped p) (agrees : Agrees p) (blocks : List ImageBlock) (m : Memory) (is : IsWhole blocks m) where
   abbrev types : List DataDecl
@@ -182,9 +166,9 @@ module _ (p : Program) (typed : IsTyped p) (agrees : Agrees p) (blocks : List Im
     pub layer : Sound (record { ty = t; words = xs })
     layer =
         sound (record { ty = t; words = xs }) places looked (λ j q at.
-            let r = in_flat_map (λ (o : Open). place_at layouts word o.path o.ty) q opens (get_in q places j at) in
-            let g = in_get r.0 opens r.1 in
-            place_sound q g.0 r.0 g.1 r.0.ty refl r.2)
+        let r = in_flat_map (λ (o : Open). place_at layouts word o.path o.ty) q opens (get_in q places j at) in
+        let g = in_get r.0 opens r.1 in
+        place_sound q g.0 r.0 g.1 r.0.ty refl r.2)
 
   -- All places -------------------------------------------------------------------------------
   pub descending_sound : {ty : Ty} {v : Value} {ws : List ℕ} {from : ℕ → ℕ} → Descends types layouts m ty v ws from → AreSound ty ws from
@@ -211,11 +195,11 @@ module _ (p : Program) (typed : IsTyped p) (agrees : Agrees p) (blocks : List Im
   made_fits : (t : ℕ) (v : Value) (ws : List ℕ) (b : Made types layouts m false t v ws) → AllFit b.layout.shape ws
   made_fits t v ws b =
       fit_all b.layout.shape ws b.shaped (λ j w n e h.
-          let widths = agrees.a2 t b.layout b.number b.leaf b.is_layout b.is_number in
-          let f = get-map (λ (x : FlatWord). x.width) b.leaf.root j w (ap (λ ys. slice_get ys j) widths ∙ e) in
-          let x = b.placed.words (record { block = None; word = j }) f.0 f.1 in
-          let same : x.0 ≡ n = same_Some x.0 n (sym x.1 ∙ h) in
-          subst (λ y. y < 2 ^ w) same (subst (λ y. x.0 < 2 ^ y) (sym f.2) x.2.fits))
+      let widths = agrees.a2 t b.layout b.number b.leaf b.is_layout b.is_number in
+      let f = get-map (λ (x : FlatWord). x.width) b.leaf.root j w (ap (λ ys. slice_get ys j) widths ∙ e) in
+      let x = b.placed.words (record { block = None; word = j }) f.0 f.1 in
+      let same : x.0 ≡ n = same_Some x.0 n (sym x.1 ∙ h) in
+      subst (λ y. y < 2 ^ w) same (subst (λ y. x.0 < 2 ^ y) (sym f.2) x.2.fits))
 
   one_fits : (bits x : ℕ) → x < 2 ^ bits → AllFit (bits ∷ []) (x ∷ [])
   one_fits bits x lt = fit_all (bits ∷ []) (x ∷ []) refl each
@@ -236,39 +220,6 @@ module _ (p : Program) (typed : IsTyped p) (agrees : Agrees p) (blocks : List Im
   pub root_sound : (ty : Ty) (ws : List ℕ) → AreSound ty ws (λ j. 0) → RootIsSound (look types layouts blocks) ty ws
   root_sound (Int bits) ws s = tt
   root_sound (Named t) ws s = s (kept_from 0 ws) (root_kept 0 ws)
-
--- The memory of an image ---------------------------------------------------------------------
-equal : (a : ℕ) → nat_eq a a ≡ true
-equal a = grind (arith, common_steps)
-
-block_found : (blocks : List ImageBlock) (j : ℕ) (c : ImageBlock) → slice_get blocks j ≡ Some c → (b : ImageBlock) × (block_at blocks c.at ≡ Some b)
-block_found [] j c e = absurd cc
-block_found (x ∷ blocks) zero c e =
-    let same = same_Some x c e in
-    (x, ap (λ (t : Bool). if t then Some x else block_at blocks c.at) (ap (λ (y : ImageBlock). nat_eq y.at c.at) same ∙ equal c.at))
-block_found (x ∷ blocks) (suc j) c e = go (nat_eq x.at c.at) (block_found blocks j c e)
-  where
-    go : (t : Bool) → (b : ImageBlock) × (block_at blocks c.at ≡ Some b) → (b : ImageBlock) × ((if t then Some x else block_at blocks c.at) ≡ Some b)
-    go true r = (x, refl)
-    go false r = r
-
-module _ (blocks : List ImageBlock) (placed : AreInPlace blocks) (are : AreBlocks blocks) where
-  no_others : (at size : ℕ) → M.size_at (image_memory blocks).blocks at ≡ Some size → size_at blocks at ≡ Some size
-  no_others at size e =
-      let c = image_memory_size blocks at size e in
-      let b = block_found blocks c.0 c.1 c.2 in
-      let found : size_at blocks at ≡ Some (length b.0.bytes) = ap (size_at blocks) (sym c.3) ∙ ap size_in b.1 in
-      let same = same_Some (length b.0.bytes) size (sym (image_size_stands blocks placed are at (length b.0.bytes) found) ∙ e) in
-      found ∙ ap Some same
-
-  pub image_whole : IsWhole blocks (image_memory blocks)
-  image_whole =
-      let good = image_memory_good blocks placed are in
-      record {
-        good = good;
-        keeps = record { sizes = image_size_stands blocks placed are; words = image_word_loaded blocks placed are; bytes = good.small };
-        whole = no_others;
-      }
 
 pub descending_images : DescendingImagesAreSound
 descending_images p typed agrees image placed are ty v d =

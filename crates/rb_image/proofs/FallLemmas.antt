@@ -103,7 +103,7 @@ none_known high zero i some = absurd (omega (arith, some))
 none_known high (suc n) zero some = absurd (omega (arith, some))
 none_known high (suc n) (suc i) some = none_known high n i some
 
-pointed_is : (base at a : ℕ) → pointed_from base at ≡ Some a → (at ≡ a) × (at < 18446744073709551616) × ((base ≡ 0) ⊎ (at < base))
+pub pointed_is : (base at a : ℕ) → pointed_from base at ≡ Some a → (at ≡ a) × (at < 18446744073709551616) × ((base ≡ 0) ⊎ (at < base))
 pointed_is base at a e =
     let c = chosen (nat_lt at 18446744073709551616 && ((base == 0) || nat_lt at base)) at a e in
     let d = both (nat_lt at 18446744073709551616) ((base == 0) || nat_lt at base) c.0 in

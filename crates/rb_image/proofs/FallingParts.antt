@@ -1,6 +1,6 @@
 -- Where words represent a value in the memory of an image's blocks and pointers fall, all parts of the leaf are examined without
 -- fault, and its blocks are found where they are.
-use Rattle.std.proofs.Common.{◌≡◌, ℕ, ◌+◌, ◌*◌, ◌<◌, ◌≤◌, ◌==◌, inl, inr, false, List, [], ◌∷◌, length, replicate, Option, Some, None, Result, Ok, Err, refl, sym, subst, ap, ◌∙◌, arith}
+use Rattle.std.proofs.Common.{◌≡◌, ℕ, ◌+◌, ◌<◌, ◌≤◌, ◌==◌, inl, inr, false, List, [], ◌∷◌, length, replicate, Option, Some, None, Result, Ok, Err, refl, sym, subst, ap, ◌∙◌, arith}
 use Rattle.std.specs.Prelude.{slice_get, slice_index, slice_set, if◌then◌else◌}
 use Rattle.std.proofs.lemmas.Bool.{cases_eq}
 use Rattle.std.proofs.lemmas.List.{length-replicate, length-set, get_or-set_same, get_or-set_other}
@@ -27,10 +27,11 @@ use Rattle.rb_image.specs.Falling.{PointersFall, base_in}
 use Rattle.rb_image.specs.Orders.{PartAt, order_of}
 use Rattle.rb_image.specs.Parts.{addresses_of, bits_at, examine, examine_kind, examine_part}
 use Rattle.rb_image.specs.Splits.{and_then}
-use Rattle.rb_image.proofs.FallingWords.{AreKeptAs, IsKnown, IsWhole, follows, kept_is, same_is}
+use Rattle.rb_image.proofs.FallingWords.{AreKeptAs, IsKnown, follows, kept_is, same_is}
 use Rattle.rb_image.proofs.PlacedSpots.{AreLed, BlockSeen, IsSpot, order_led, order_spots, part_in_order, spot_of}
 use Rattle.rb_image.proofs.PointerLemmas.{points, points_other, points_same, pointing}
 use Rattle.rb_image.proofs.SpotLemmas.{In}
+use Rattle.rb_image.proofs.WholeMemories.{IsWhole}
 
 -- a pointer among parts
 pointer_counts : (c align : ℕ) (ss : List PartAt) (s : PartAt) → In s ss → s.part.kind ≡ Pointer align c → 1 ≤ pointing c ss

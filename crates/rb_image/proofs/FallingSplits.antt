@@ -21,7 +21,7 @@ use Rattle.rb_image_text.specs.declared.image.ImageBlock.{ImageBlock}
 use Rattle.rb_image.specs.declared.kept.Kept.{Kept}
 use Rattle.rb_image.specs.Splits.{leaf_at}
 use Rattle.rb_image.proofs.FallingWords.{HasRange}
-use Rattle.rb_image.proofs.WalkLemmas.{go_on, leaf_walk, split_turn}
+use Rattle.rb_image.proofs.WalkLemmas.{leaf_walk, split_turn}
 
 -- Routes below a split -----------------------------------------------------------------------
 abbrev pub loc_of : Test → Loc

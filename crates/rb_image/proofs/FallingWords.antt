@@ -1,12 +1,12 @@
 -- Where words represent a value in the memory of an image's blocks and pointers fall, each word of the leaf is read in the
 -- image, its pointers are followed, and each location that resolves in the leaf has a range there.
-use Rattle.std.proofs.Common.{◌≡◌, ℕ, zero, suc, ◌+◌, ◌*◌, ◌/◌, ◌<◌, ◌==◌, ◌&&◌, ◌||◌, inl, inr, nat_lt, Bool, true, false, List, [], ◌∷◌, Option, Some, None, Result, Ok, refl, sym, subst, ap, ◌∙◌, arith}
+use Rattle.std.proofs.Common.{◌≡◌, ℕ, ◌+◌, ◌*◌, ◌/◌, ◌<◌, ◌==◌, ◌||◌, inl, inr, nat_lt, Bool, true, false, List, [], ◌∷◌, Option, Some, None, Result, Ok, refl, sym, subst, ap, ◌∙◌, arith}
 use Rattle.std.specs.Prelude.{slice_get, slice_index, if◌then◌else◌}
 use Rattle.std.proofs.lemmas.Grind.{common_steps}
 use Rattle.rb_core.specs.declared.layout_decl.Loc.{Loc}
 use Rattle.rb_core.specs.declared.layout_decl.Step.{Step}
 use Rattle.rb_bits.specs.Words.{take_of}
-use Rattle.rb_bytes.specs.Memory.{Memory, IsGood, load_of}
+use Rattle.rb_bytes.specs.Memory.{Memory, load_of}
 use Rattle.rb_bytes.specs.Memory as M
 use Rattle.rb_bytes.specs.declared.fault.Trap.{Trap}
 use Rattle.rb_bytes.proofs.BlockLemmas.{block_bounds, within_size}
@@ -34,9 +34,9 @@ use Rattle.rb_image.specs.Blocks.{size_at, word_in}
 use Rattle.rb_image.specs.Falling.{Falls, PointersFall, base_in}
 use Rattle.rb_image.specs.Parts.{block_from, block_size, followed, if_size, kept_at, or_zero}
 use Rattle.rb_image.specs.Splits.{and_then, kept_in, or_fault, pointed_from, range_at, range_from, range_of, step_over, with_base, word_at}
-use Rattle.rb_image.specs.Values.{Keeps}
 use Rattle.rb_image.proofs.FoundWords.{in_block}
 use Rattle.rb_image.proofs.PlacedSpots.{spot_of}
+use Rattle.rb_image.proofs.WholeMemories.{IsWhole}
 
 -- Addresses ----------------------------------------------------------------------------------
 lt_true : (a b : ℕ) → a < b → nat_lt a b ≡ true
@@ -60,12 +60,6 @@ pointed base at lt f =
 
 same_loaded : (a b : ℕ) → ◌≡◌ {A = Result ℕ Trap} (Ok a) (Ok b) → a ≡ b
 same_loaded a b e = cc
-
--- the memory keeps the blocks of an image, and has no others
-pub record IsWhole (blocks : List ImageBlock) (m : Memory) : Type 0 where
-  pub good : IsGood m
-  pub keeps : Keeps blocks m
-  pub whole : (at size : ℕ) → M.size_at m.blocks at ≡ Some size → size_at blocks at ≡ Some size
 
 -- kept words are these numbers, each kept in the block at its `from`
 abbrev pub AreKeptAs : List Kept → List ℕ → (ℕ → ℕ) → Type 0

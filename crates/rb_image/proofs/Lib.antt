@@ -3,6 +3,7 @@ pub mod BelowLemmas
 pub mod BlockLemmas
 pub mod DepthLemmas
 pub mod DescendingImages
+pub mod DescendingValues
 pub mod DescentLemmas
 pub mod DropLemmas
 pub mod EndLemmas
@@ -33,3 +34,4 @@ pub mod SpanLemmas
 pub mod SpotLemmas
 pub mod StandLemmas
 pub mod WalkLemmas
+pub mod WholeMemories

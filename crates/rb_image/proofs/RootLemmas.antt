@@ -83,7 +83,7 @@ kept_more ws i w before is =
 pub kept_end : (ws : List ℕ) (i : ℕ) (before : List Kept) → length ws ≤ i → before ++ kept_from i (drop i ws) ≡ before
 kept_end ws i before le = ap (λ xs. before ++ kept_from i xs) (drop_past ws i le) ∙ append-nil before
 
-in_no_block : (i : ℕ) (ws : List ℕ) (j : ℕ) → (word_at (kept_from i ws) j).base ≡ 0
+pub in_no_block : (i : ℕ) (ws : List ℕ) (j : ℕ) → (word_at (kept_from i ws) j).base ≡ 0
 in_no_block i [] j = refl
 in_no_block i (w ∷ ws) zero = refl
 in_no_block i (w ∷ ws) (suc j) = in_no_block (i + 1) ws j

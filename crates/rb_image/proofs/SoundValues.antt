@@ -1,9 +1,10 @@
--- A place that is sound, with all below it, represents a value: each place below it does, and so it does itself.
-use Rattle.std.proofs.Common.{◌≡◌, ℕ, ◌^◌, ◌<◌, inl, true, false, List, length, replicate, Option, Some, None, Result, Ok, refl, sym, subst, ap, ◌∙◌, arith}
+-- A place that is sound, with all below it, represents a value with pointers that fall: each place below it does, and so it does
+-- itself.
+use Rattle.std.proofs.Common.{◌≡◌, ℕ, ◌+◌, ◌^◌, ◌<◌, inl, true, false, List, length, replicate, Option, Some, None, Result, Ok, refl, sym, subst, ap, ◌∙◌, arith}
 use Rattle.std.specs.Prelude.{slice_get, slice_index}
 use Rattle.std.proofs.lemmas.Bool.{false≢true}
 use Rattle.std.proofs.lemmas.List.{length-map, length-replicate}
-use Rattle.std.proofs.lemmas.Option.{same_Some, slice_get_within}
+use Rattle.std.proofs.lemmas.Option.{get_or_from_slice_get, same_Some, slice_get_within}
 use Rattle.rb_core.specs.declared.program.Program.{Program}
 use Rattle.rb_core.specs.declared.types.DataDecl.{DataDecl}
 use Rattle.rb_core.specs.declared.types.Ty.{Ty}
@@ -21,16 +22,17 @@ use Rattle.rb_layout.specs.Flat.{IsFlat}
 use Rattle.rb_layout.specs.Flattening.{flat_layouts, shape_in, shape_of, type_at}
 use Rattle.rb_layout.specs.Pointers.{PointsTo}
 use Rattle.rb_layout.specs.Positions.{Open, layout_of, open_positions, opens_of, root_type}
-use Rattle.rb_layout.specs.Words.{size_of}
+use Rattle.rb_layout.specs.Words.{size_of, words_in}
 use Rattle.rb_layout.specs.declared.layout.Block.{Block}
 use Rattle.rb_layout.specs.declared.layout.FlatWord.{FlatWord}
 use Rattle.rb_layout.specs.declared.layout.Kind.{Kind}
 use Rattle.rb_layout.specs.declared.layout.Kind.TheVariants.{Word, Pointer}
 use Rattle.rb_layout.specs.declared.layout.Layout.{Layout}
 use Rattle.rb_layout.specs.declared.layout.Leaf.{Leaf}
+use Rattle.rb_layout.specs.declared.layout.Part.{Part}
 use Rattle.rb_layout.proofs.FlatLaws.{leaf_is_form}
 use Rattle.rb_layout.proofs.OpenPositions.{position-typed, type-open}
-use Rattle.rb_rel.specs.Relation.{HoldsKind, Made, Placed, Represents, number, built, shape_length, word_count}
+use Rattle.rb_rel.specs.Relation.{HoldsKind, Made, Placed, shape_length, word_count}
 use Rattle.rb_rel.proofs.Agreeing.{lawful}
 use Rattle.rb_rel.proofs.Declared.{declared}
 use Rattle.rb_rel.proofs.Existence.{has_layout}
@@ -42,16 +44,18 @@ use Rattle.rb_image_text.specs.declared.fault.ImageFault.{ImageFault}
 use Rattle.rb_image_text.specs.declared.image.ImageBlock.{ImageBlock}
 use Rattle.rb_image.specs.declared.kept.Kept.{Kept}
 use Rattle.rb_image.specs.Blocks.{size_at}
+use Rattle.rb_image.specs.Falling.{AreKept, Descends, Falls, PointersFall, base_in, built, number}
 use Rattle.rb_image.specs.Orders.{PartAt, order_of}
-use Rattle.rb_image.specs.Parts.{At, addresses_of, bits_at, block_size, field_word, field_words, look, look_layout, look_leaf, place_at, places_of}
+use Rattle.rb_image.specs.Parts.{At, addresses_of, bits_at, block_size, field_word, field_words, kept_at, look, look_layout, look_leaf, place_at, places_of}
 use Rattle.rb_image.specs.Sound.{IsSound, sound}
-use Rattle.rb_image.specs.Splits.{leaf_at}
+use Rattle.rb_image.specs.Splits.{leaf_at, nothing, word_at}
 use Rattle.rb_image.specs.Values.{Keeps}
+use Rattle.rb_image.proofs.DescendingValues.{Descends-represents}
 use Rattle.rb_image.proofs.ExaminedParts.{FineKind, IsFine, all_fine, then_ok}
 use Rattle.rb_image.proofs.FallLemmas.{same_Ok}
 use Rattle.rb_image.proofs.FilledProvenances.{Filled, fill, own_leaf}
 use Rattle.rb_image.proofs.FoundWords.{found_word, numbers}
-use Rattle.rb_image.proofs.GatheredFields.{bits_value, field_bit, field_bit_small, low, named_small, numbered, numbered_fits, part_holds, subs, subs_at, word_fits, word_held, words_long}
+use Rattle.rb_image.proofs.GatheredFields.{bits_value, field_bit, field_bit_small, low, named_small, numbered, numbered_fits, part_holds, subs, subs_at, word_fits, word_held, word_is, words_at, words_long}
 use Rattle.rb_image.proofs.LeafNumbers.{leaf_there}
 use Rattle.rb_image.proofs.PlacedSpots.{order_led, order_spots, part_in_order, spot_of}
 use Rattle.rb_image.proofs.PointerLemmas.{IsPointedOnce, flat_once}
@@ -64,8 +68,8 @@ module _ (p : Program) (typed : IsTyped p) (agrees : Agrees p) (blocks : List Im
   abbrev layouts : List Layout
   layouts = flat_layouts p
 
-  abbrev Rep : Ty → Value → List ℕ → Type 0
-  Rep = Represents types layouts m false
+  abbrev Desc : Ty → Value → List ℕ → (ℕ → ℕ) → Type 0
+  Desc = Descends types layouts m
 
   abbrev law : Lawful types layouts
   law = lawful p agrees typed
@@ -76,6 +80,10 @@ module _ (p : Program) (typed : IsTyped p) (agrees : Agrees p) (blocks : List Im
     pub is_layout : layout_of layouts q.ty ≡ Some layout
     pub count : length q.words ≡ length layout.shape
     pub small : (j w : ℕ) → slice_get layout.shape j ≡ Some w → slice_index (numbers q.words) j < 2 ^ w
+
+  -- the words are kept in these blocks
+  abbrev pub AreIn : List Kept → (ℕ → ℕ) → Type 0
+  AreIn ws from = (j : ℕ) → j < length ws → (word_at ws j).base ≡ from j
 
   -- One leaf ---------------------------------------------------------------------------------
   module _ (t : ℕ) (layout : Layout) (n : ℕ) (leaf : Leaf) (is_layout : layout_of layouts t ≡ Some layout) (is_number : slice_get layout.leaves n ≡ Some leaf) where
@@ -100,7 +108,8 @@ module _ (p : Program) (typed : IsTyped p) (agrees : Agrees p) (blocks : List Im
     widths = agrees.a2 t layout n leaf is_layout is_number
 
     module _ (ws : List Kept) (count : length ws ≡ length layout.shape) (small : (j w : ℕ) → slice_get layout.shape j ≡ Some w → slice_index (numbers ws) j < 2 ^ w)
-        (ats : List ℕ) (examined : ◌≡◌ {A = Result (List ℕ) ImageFault} (addresses_of blocks leaf ws) (Ok ats)) where
+        (ats : List ℕ) (examined : ◌≡◌ {A = Result (List ℕ) ImageFault} (addresses_of blocks leaf ws) (Ok ats))
+        (from : ℕ → ℕ) (kept : AreIn ws from) where
       fine : (s : PartAt) → In s (order_of leaf) → IsFine blocks leaf ws ats s
       fine = all_fine blocks leaf ws ats (order_of leaf) (replicate (length leaf.blocks) 0) (λ c. 0) (length-replicate (length leaf.blocks) 0) (λ c. (let a = once c in omega (arith, a))) (order_led leaf) within examined
 
@@ -150,6 +159,35 @@ module _ (p : Program) (typed : IsTyped p) (agrees : Agrees p) (blocks : List Im
             );
       }
 
+      -- Pointers -------------------------------------------------------------------------------
+      kept_base : (o : Option ℕ) (j : ℕ) (f : FlatWord) (q : Part) → slice_get (words_in leaf o) j ≡ Some f
+          → (kept_at blocks ws ats o (spot_of leaf (record { block = o; word = j }) f q)).base ≡ base_in from (slice_index ats) o j
+      kept_base None j f q e = let lt = slice_get_within leaf.root j f e in let many = as_many in kept j (omega (arith, lt, many))
+      kept_base (Some b) j f q e = refl
+
+      pointer_falls : (bits : Kept) (align b : ℕ) (kind : Kind) → kind ≡ Pointer align b → FineKind blocks leaf ws ats bits kind → Falls bits.base (slice_index ats b)
+      pointer_falls bits align b kind e f =
+          let g : FineKind blocks leaf ws ats bits (Pointer align b) = subst (FineKind blocks leaf ws ats bits) e f in
+          g.2
+
+      falls : PointersFall leaf from (slice_index ats)
+      falls r l align b pt =
+          let spot = spot_of leaf r pt.word pt.part in
+          let there = part_in_order leaf flat (low p typed agrees t layout n leaf is_layout is_number) r pt.word pt.number pt.part pt.is_word pt.is_part in
+          subst (λ k. Falls k (slice_index ats b)) (kept_base r.block r.word pt.word pt.part pt.is_word)
+          (pointer_falls (bits_at blocks ws ats spot) align b pt.part.kind pt.is_pointer (fine spot there))
+
+      -- the blocks in which the words at a path are kept
+      abbrev bases : List ℕ → ℕ → ℕ
+      bases path j = (field_word blocks ws ats (order_of leaf) path j).base
+
+      are_kept : AreKept leaf from (slice_index ats) bases
+      are_kept r path j h =
+          let fits : KindFits p.layouts opens h.part.l (Word path j) = subst (KindFits p.layouts opens h.part.l) h.is_kind ((word_fits p typed agrees t layout n leaf is_layout is_number r h.word h.is_word).kinds h.number h.part h.is_part) in
+          let lt = slice_get_within (shape_of p.layouts fits.0) j h.part.l fits.2 in
+          ap (λ (w : Kept). w.base) (word_is p typed agrees t layout n leaf is_layout is_number r h.word h.number h.part h.is_word h.is_part blocks ws ats path fits.0 j fits.1 h.is_kind lt)
+          ∙ kept_base r.block r.word h.word h.part h.is_word
+
       -- Places below ---------------------------------------------------------------------------
       abbrev word : List ℕ → ℕ → Kept
       word = field_word blocks ws ats (order_of leaf)
@@ -185,6 +223,14 @@ module _ (p : Program) (typed : IsTyped p) (agrees : Agrees p) (blocks : List Im
                 subst (λ xs. slice_index xs j < 2 ^ w) (ap (λ x. at_type x o.path) is_ty) (held_small o.path s j w is_ty e2 h);
           }
 
+      place_kept : (s : ℕ) (path : List ℕ) → AreIn (field_words word path 0 (word_count layouts (Named s))) (bases path)
+      place_kept s path j lt =
+          let n = word_count layouts (Named s) in
+          let long = words_long word path 0 n in
+          let z : 0 + j ≡ j = omega arith in
+          let there = words_at word path 0 n j (omega (arith, lt, long)) ∙ ap (λ i. Some (word path i)) z in
+          ap (λ (w : Kept). w.base) (get_or_from_slice_get (field_words word path 0 n) j (word path j) nothing there)
+
       abbrev below : List At
       below = places_of types layouts blocks leaf ws ats
 
@@ -194,37 +240,37 @@ module _ (p : Program) (typed : IsTyped p) (agrees : Agrees p) (blocks : List Im
           let here : In (place s o.path) (place_at layouts word o.path o.ty) = subst (λ (ty : Ty). In (place s o.path) (place_at layouts word o.path ty)) (sym is_named) (inl refl) in
           in_get (place s o.path) below (flat_map_in (λ (x : Open). place_at layouts word x.path x.ty) (place s o.path) o opens (get_in o opens k at) here)
 
-      module _ (inner : (j : ℕ) (r : At) → slice_get below j ≡ Some r → Fits r → (v : Value) × Rep (Named r.ty) v (numbers r.words)) where
+      module _ (inner : (j : ℕ) (r : At) → slice_get below j ≡ Some r → Fits r → (to : ℕ → ℕ) → AreIn r.words to → (v : Value) × Desc (Named r.ty) v (numbers r.words) to) where
         -- each open position has a value
-        open_value : (k : ℕ) (o : Open) → slice_get opens k ≡ Some o → (ty : Ty) → o.ty ≡ ty → type_at opens o.path ≡ Some ty → (v : Value) × Rep ty v (the_subs o.path)
+        open_value : (k : ℕ) (o : Open) → slice_get opens k ≡ Some o → (ty : Ty) → o.ty ≡ ty → type_at opens o.path ≡ Some ty → (v : Value) × Desc ty v (the_subs o.path) (bases o.path)
         open_value k o at (Int bits) is_named is_ty =
             let bit = field_bit (bits_value p typed agrees t layout n leaf is_layout is_number blocks ws ats) (Int bits) (order_of leaf) o.path in
             let x = numbered bits bit in
             let lt = numbered_fits bits bit (field_bit_small (bits_value p typed agrees t layout n leaf is_layout is_number blocks ws ats) (Int bits) (order_of leaf) o.path) in
-            (Num x, subst (λ xs. Rep (Int bits) (Num x) xs) (sym (ap (λ y. at_type y o.path) is_ty)) (number bits x lt))
+            (Num x, subst (λ xs. Desc (Int bits) (Num x) xs (bases o.path)) (sym (ap (λ y. at_type y o.path) is_ty)) (number bits x (bases o.path) lt))
         open_value k o at (Named s) is_named is_ty =
             let there = place_there k o at s is_named in
-            let v = inner there.0 (place s o.path) there.1 (place_fits k o at s is_named is_ty) in
-            (v.0, subst (λ xs. Rep (Named s) v.0 xs) (sym (ap (λ y. at_type y o.path) is_ty)) v.1)
+            let v = inner there.0 (place s o.path) there.1 (place_fits k o at s is_named is_ty) (bases o.path) (place_kept s o.path) in
+            (v.0, subst (λ xs. Desc (Named s) v.0 xs (bases o.path)) (sym (ap (λ y. at_type y o.path) is_ty)) v.1)
 
-        value_at : (path : List ℕ) (ty : Ty) → type_at opens path ≡ Some ty → (v : Value) × Rep ty v (the_subs path)
+        value_at : (path : List ℕ) (ty : Ty) → type_at opens path ≡ Some ty → (v : Value) × Desc ty v (the_subs path) (bases path)
         value_at path ty e =
             let x = type-open opens path ty e in
             let v = open_value x.0 x.1 x.2 ty x.4 (ap (type_at opens) x.3 ∙ e) in
-            (v.0, subst (λ q. Rep ty v.0 (the_subs q)) x.3 v.1)
+            (v.0, subst (λ q. Desc ty v.0 (the_subs q) (bases q)) x.3 v.1)
 
         abbrev chosen : (path : List ℕ) (o : Option Ty) → type_at opens path ≡ o → Value
         chosen path None e = Num 0
         chosen path (Some ty) e = (value_at path ty e).0
 
-        chosen_shown : (path : List ℕ) (ty : Ty) (o : Option Ty) (e : type_at opens path ≡ o) → o ≡ Some ty → Rep ty (chosen path o e) (the_subs path)
+        chosen_shown : (path : List ℕ) (ty : Ty) (o : Option Ty) (e : type_at opens path ≡ o) → o ≡ Some ty → Desc ty (chosen path o e) (the_subs path) (bases path)
         chosen_shown path ty None e h = absurd cc
-        chosen_shown path ty (Some s) e h = subst (λ (x : Ty). Rep x (value_at path s e).0 (the_subs path)) (same_Some s ty h) (value_at path s e).1
+        chosen_shown path ty (Some s) e h = subst (λ (x : Ty). Desc x (value_at path s e).0 (the_subs path) (bases path)) (same_Some s ty h) (value_at path s e).1
 
         abbrev values : List ℕ → Value
         values path = chosen path (type_at opens path) refl
 
-        values_shown : (k : ℕ) (o : Open) → slice_get opens k ≡ Some o → Rep o.ty (values o.path) (the_subs o.path)
+        values_shown : (k : ℕ) (o : Open) → slice_get opens k ≡ Some o → Desc o.ty (values o.path) (the_subs o.path) (bases o.path)
         values_shown k o at = chosen_shown o.path o.ty (type_at opens o.path) refl (position-typed types leaf.prov k o at)
 
         root : root_type (out-Pat leaf.prov) ≡ Named t
@@ -235,7 +281,7 @@ module _ (p : Program) (typed : IsTyped p) (agrees : Agrees p) (blocks : List Im
 
         is_typed : is_of_type types filled.value (Named t) ≡ true
         is_typed = typed_by types leaf.prov (Named t) filled.value (law.provenances.fits t layout n leaf is_layout is_number) filled.matches
-            (λ k o e. (values o.path, filled.at k o e, Represents-typed types layouts m false law.provenances (values_shown k o (ap (λ (ty : Ty). slice_get (opens_of types leaf.prov ty) k) root ∙ e))))
+            (λ k o e. (values o.path, filled.at k o e, Represents-typed types layouts m false law.provenances (Descends-represents (values_shown k o (ap (λ (ty : Ty). slice_get (opens_of types leaf.prov ty) k) root ∙ e)))))
 
         abbrev made : Made types layouts m false t filled.value (numbers ws)
         made = record {
@@ -253,8 +299,8 @@ module _ (p : Program) (typed : IsTyped p) (agrees : Agrees p) (blocks : List Im
           placed = placed;
         }
 
-        pub leaf_value : (v : Value) × Rep (Named t) v (numbers ws)
-        leaf_value = (filled.value, built t filled.value (numbers ws) made (λ k o e. values_shown k o e))
+        pub leaf_value : (v : Value) × Desc (Named t) v (numbers ws) from
+        leaf_value = (filled.value, built t filled.value (numbers ws) from made bases falls are_kept (λ k o e. values_shown k o e))
 
   -- One place --------------------------------------------------------------------------------
   -- what there is of a place that is looked at without fault
@@ -275,13 +321,13 @@ module _ (p : Program) (typed : IsTyped p) (agrees : Agrees p) (blocks : List Im
       let s = then_ok (addresses_of blocks l.0 q.words) (λ ats. Ok (places_of types layouts blocks l.0 q.words ats)) found b in
       record { number = r.0; leaf = l.0; is_number = l.1; ats = s.0; examined = s.1; is_found = same_Ok (places_of types layouts blocks l.0 q.words s.0) found s.2 }
 
-  layer : (q : At) (fits : Fits q) (found : List At) → ◌≡◌ {A = Result (List At) ImageFault} (look types layouts blocks q) (Ok found)
-      → ((j : ℕ) (r : At) → slice_get found j ≡ Some r → Fits r → (v : Value) × Rep (Named r.ty) v (numbers r.words)) → (v : Value) × Rep (Named q.ty) v (numbers q.words)
-  layer q fits found e inner =
+  layer : (q : At) (fits : Fits q) (found : List At) → ◌≡◌ {A = Result (List At) ImageFault} (look types layouts blocks q) (Ok found) → (from : ℕ → ℕ) → AreIn q.words from
+      → ((j : ℕ) (r : At) → slice_get found j ≡ Some r → Fits r → (to : ℕ → ℕ) → AreIn r.words to → (v : Value) × Desc (Named r.ty) v (numbers r.words) to) → (v : Value) × Desc (Named q.ty) v (numbers q.words) from
+  layer q fits found e from kept inner =
       let x = looked q fits found e in
-      leaf_value q.ty fits.layout x.number x.leaf fits.is_layout x.is_number q.words fits.count fits.small x.ats x.examined
+      leaf_value q.ty fits.layout x.number x.leaf fits.is_layout x.is_number q.words fits.count fits.small x.ats x.examined from kept
       (λ j r at f. inner j r (ap (λ (ps : List At). slice_get ps j) (sym x.is_found) ∙ at) f)
 
-  -- a sound place whose words fit represents a value
-  pub place_value : {q : At} → IsSound (look types layouts blocks) q → Fits q → (v : Value) × Rep (Named q.ty) v (numbers q.words)
-  place_value (sound q found e each) fits = layer q fits found e (λ j r at f. place_value (each j r at) f)
+  -- a sound place whose words fit represents a value, and its pointers fall
+  pub place_value : {q : At} → IsSound (look types layouts blocks) q → Fits q → (from : ℕ → ℕ) → AreIn q.words from → (v : Value) × Desc (Named q.ty) v (numbers q.words) from
+  place_value (sound q found e each) fits from kept = layer q fits found e from kept (λ j r at f. place_value (each j r at) f)

@@ -6,7 +6,7 @@ use Rattle.rb_core.specs.declared.types.Ty.{Ty}
 use Rattle.rb_core.specs.declared.types.Ty.TheVariants.{Int, Named}
 use Rattle.rb_core.specs.declared.value.Value.{Value, Num}
 use Rattle.rb_core.specs.TypedPrograms.{IsTyped}
-use Rattle.rb_bytes.specs.Memory.{Memory}
+use Rattle.rb_bytes.specs.Memory.{Memory, IsGood}
 use Rattle.rb_layout.specs.declared.layout.FlatWord.{FlatWord}
 use Rattle.rb_layout.specs.declared.layout.Kind.TheVariants.{Word}
 use Rattle.rb_layout.specs.declared.layout.Layout.{Layout}
@@ -18,22 +18,23 @@ use Rattle.rb_layout.specs.Flattening.{flat_layouts}
 use Rattle.rb_layout.specs.Pointers.{PointsTo}
 use Rattle.rb_layout.specs.Positions.{Open, open_positions}
 use Rattle.rb_layout.specs.Words.{flat_at}
-use Rattle.rb_rel.specs.Relation.{Made}
+use Rattle.rb_rel.specs.Relation.{Made, Represents}
 use Rattle.rb_image_text.specs.declared.image.Image.{Image}
 use Rattle.rb_image_text.specs.Images.{AreBlocks}
 use Rattle.rb_image_text.specs.Places.{AreInPlace}
-use Rattle.rb_image.specs.Memories.{image_memory}
+use Rattle.rb_image.specs.Memories.{Stand, image_memory}
 use Rattle.rb_image.specs.Roots.{IsSoundImage}
+use Rattle.rb_image.specs.Values.{IsDeclared}
 
--- Blocks in which words are kept ---------------------------------------------------------------
+-- Blocks in which words are kept -------------------------------------------------------------
 
--- the address of the block in which a word of a leaf is kept: word j of one of its own blocks, which begin at `ats`, or root
--- word j, which is kept in the block at `from j`, or in none where that is 0
+-- the address of the block in which word j of a leaf is kept: that of the leaf's own block, which begins at its `ats`; or, for
+-- root word j, `from j`, which is 0 where the word is kept in no block
 abbrev pub base_in : (ℕ → ℕ) → (ℕ → ℕ) → Option ℕ → ℕ → ℕ
 base_in from ats None j = from j
 base_in from ats (Some b) j = ats b
 
--- the address lies below the block at `base`; there is none at 0, and then it may be any address
+-- the address lies below that of the block in which a pointer is kept; one that is kept in no block may lead anywhere
 abbrev pub Falls : ℕ → ℕ → Type 0
 Falls base at = (base ≡ 0) ⊎ (at < base)
 
@@ -70,7 +71,18 @@ pub data Descends (types : List DataDecl) (layouts : List Layout) (m : Memory) :
 abbrev pub RootDescends : Program → Image → Ty → Value → Type 0
 RootDescends p image ty v = Descends p.types (flat_layouts p) (image_memory image.blocks) ty v image.root (λ j. 0)
 
--- an image of which that holds is sound for the type
+-- an image whose root words do so is sound for the type
 abbrev pub DescendingImagesAreSound : Type 0
 DescendingImagesAreSound = (p : Program) → IsTyped p → Agrees p → (image : Image) → AreInPlace image.blocks → AreBlocks image.blocks
     → (ty : Ty) (v : Value) → RootDescends p image ty v → IsSoundImage p.types (flat_layouts p) image ty
+
+-- the root words of an image that is sound for a type of the program do so
+abbrev pub SoundImagesDescend : Type 0
+SoundImagesDescend = (p : Program) → IsTyped p → Agrees p → (image : Image) → AreInPlace image.blocks → AreBlocks image.blocks
+    → (ty : Ty) → IsDeclared p.types ty → IsSoundImage p.types (flat_layouts p) image ty → (v : Value) × RootDescends p image ty v
+
+-- what they represent in any memory in which the image's blocks stand is that value
+abbrev pub SoundValuesDescend : Type 0
+SoundValuesDescend = (p : Program) → IsTyped p → Agrees p → (image : Image) → AreInPlace image.blocks → AreBlocks image.blocks
+    → (ty : Ty) → IsDeclared p.types ty → IsSoundImage p.types (flat_layouts p) image ty → (m : Memory) → IsGood m → Stand image.blocks m
+    → (v : Value) → Represents p.types (flat_layouts p) m false ty v image.root → RootDescends p image ty v

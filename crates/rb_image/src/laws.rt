@@ -1,6 +1,6 @@
 //! What images are: each law the contract of a function that does nothing.
 
-ghost use Rattle.rb_image.specs.Falling.{DescendingImagesAreSound};
+ghost use Rattle.rb_image.specs.Falling.{DescendingImagesAreSound, SoundImagesDescend, SoundValuesDescend};
 ghost use Rattle.rb_image.specs.Values.{SoundImagesHaveValues};
 
 /// Every image that is sound has a value.
@@ -12,4 +12,16 @@ pub fn sound_images_have_values()
 /// pointers fall: each that is kept in a block leads to a block with a lower address.
 pub fn descending_images_are_sound()
     ensures { DescendingImagesAreSound }
+{}
+
+/// The root words of every image that is sound represent a value in the memory that has exactly the image's blocks, and
+/// all pointers fall.
+pub fn sound_images_descend()
+    ensures { SoundImagesDescend }
+{}
+
+/// What the root words of an image that is sound represent in any memory in which its blocks stand is the value that
+/// they represent in the memory of exactly these blocks, where all pointers fall.
+pub fn sound_values_descend()
+    ensures { SoundValuesDescend }
 {}

@@ -47,6 +47,10 @@
 //! `specs/Orders.antt`, the order of a leaf's parts; `specs/Blocks.antt` which blocks and words an image has.
 //! `specs/Sound.antt` says what a place with all below it comes to, and keeps nothing; `specs/Roots.antt` what an image
 //! does; `specs/Memories.antt` in which memories its blocks stand, and `specs/Reads.antt` which value it holds.
+//!
+//! `specs/Falling.antt` says what it means that an image holds a value, and `laws` that this is the same: an image is
+//! sound exactly where its root words represent a value in the memory that has exactly its blocks, and each pointer that
+//! is kept in a block leads to one with a lower address.
 #![tactic(auto)]
 
 mod below;
