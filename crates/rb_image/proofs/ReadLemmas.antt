@@ -14,12 +14,12 @@ use Rattle.rb_image_text.specs.declared.image.Image.{Image}
 use Rattle.rb_image_text.specs.declared.image.ImageBlock.{ImageBlock}
 use Rattle.rb_image_text.specs.Images.{AreBlocks}
 use Rattle.rb_image_text.specs.Places.{AreInPlace}
+use Rattle.rb_image.specs.Falling.{RootDescends}
 use Rattle.rb_image.specs.Memories.{Stand, image_memory}
-use Rattle.rb_image.specs.Reads.{Holds, IsRead, IsReason}
-use Rattle.rb_image.specs.Roots.{IsSoundImage}
+use Rattle.rb_image.specs.Reads.{IsRead, IsReason}
 use Rattle.rb_image.specs.Values.{Keeps}
 use Rattle.rb_image.proofs.KeepLemmas.{Represents-stand}
-use Rattle.rb_image.proofs.StandLemmas.{image_memory_good, image_memory_stands, size_stands, word_loaded}
+use Rattle.rb_image.proofs.StandLemmas.{size_stands, word_loaded}
 
 -- ---- what has a value
 pub stand_keeps_blocks : (blocks : List ImageBlock) (m : Memory) → IsGood m → Stand blocks m → Keeps blocks m
@@ -29,25 +29,18 @@ stand_keeps_blocks blocks m good stand = record {
   bytes = good.small;
 }
 
-pub image_memory_keeps : (blocks : List ImageBlock) → AreInPlace blocks → AreBlocks blocks → Keeps blocks (image_memory blocks)
-image_memory_keeps blocks placed are = stand_keeps_blocks blocks (image_memory blocks) (image_memory_good blocks placed are) (image_memory_stands blocks placed are)
-
 -- the root words represent a value of the image in each memory in which its blocks stand
 pub stands_for : (p : Program) (image : Image) (ty : Ty) → AreInPlace image.blocks → AreBlocks image.blocks → (m : Memory) → Stand image.blocks m
     → (v : Value) → AreOf p (image_memory image.blocks) ty image.root v → AreOf p m ty image.root v
 stands_for p image ty placed are m stand v is = Represents-stand p.types (flat_layouts p) false image.blocks m placed are stand is
 
 -- ---- what reading gives
-module _ (p : Program) (layouts : List Layout) (image : Image) (ty : Ty) (limit : ℕ) (sound : IsSoundImage p.types layouts image ty) (v : Value)
-    (of : AreOf p (image_memory image.blocks) ty image.root v) where
-  holds : Holds p layouts image ty v
-  holds = record { sound = sound; represented = of }
-
-  pub read_ok : (r : Result Value ImageFault) → IsRead v limit r → IfOk r (λ found. Holds p layouts image ty found × (node_count found ≤ limit))
-  read_ok (Ok found) is = (subst (Holds p layouts image ty) (sym is.0) holds, subst (λ x. node_count x ≤ limit) (sym is.0) is.1)
+module _ (p : Program) (layouts : List Layout) (image : Image) (ty : Ty) (limit : ℕ) (v : Value) (descends : RootDescends p image ty v) where
+  pub read_ok : (r : Result Value ImageFault) → IsRead v limit r → IfOk r (λ found. RootDescends p image ty found × (node_count found ≤ limit))
+  read_ok (Ok found) is = (subst (RootDescends p image ty) (sym is.0) descends, subst (λ x. node_count x ≤ limit) (sym is.0) is.1)
   read_ok (Err fault) is = tt
 
   pub read_err : (r : Result Value ImageFault) → IsRead v limit r → IfErr r (IsReason p layouts image ty limit)
   read_err (Ok found) is = tt
-  read_err (Err fault) (inl over) = inr (inl (over.0, v, holds, over.1))
+  read_err (Err fault) (inl over) = inr (inl (over.0, v, descends, over.1))
   read_err (Err fault) (inr memory) = inr (inr memory)

@@ -46,7 +46,7 @@
 //! `specs/Parts.antt` says what one place comes to, above `specs/Splits.antt`, the leaf to which its splits lead, and
 //! `specs/Orders.antt`, the order of a leaf's parts; `specs/Blocks.antt` which blocks and words an image has.
 //! `specs/Sound.antt` says what a place with all below it comes to, and keeps nothing; `specs/Roots.antt` what an image
-//! does; `specs/Memories.antt` in which memories its blocks stand, and `specs/Reads.antt` which value it holds.
+//! does; `specs/Memories.antt` in which memories its blocks stand, and `specs/Reads.antt` how its value is read.
 //!
 //! `specs/Falling.antt` says what it means that an image holds a value, and `laws` that this is the same: an image is
 //! sound exactly where its root words represent a value in the memory that has exactly its blocks, and each pointer that

@@ -4,18 +4,19 @@ ghost use Rattle.std.specs.Prelude.{◌≤◌, IfErr, IfOk};
 ghost use Rattle.rb_coding.specs.Decoding.{AreOf};
 ghost use Rattle.rb_core.specs.Values.{node_count};
 ghost use Rattle.rb_core.specs.declared.value.Value.{Value};
+ghost use Rattle.rb_image.specs.Falling.{RootDescends};
 ghost use Rattle.rb_image.specs.Memories.{image_memory};
-ghost use Rattle.rb_image.specs.Reads.{Holds, IsRead, IsReason};
+ghost use Rattle.rb_image.specs.Reads.{IsRead, IsReason};
 ghost use Rattle.rb_image.specs.Roots.{IsFirstFault, IsSoundImage};
 ghost use Rattle.rb_image.specs.Sound.{IsFault};
 ghost use Rattle.rb_image.specs.Values.{IsDeclared};
-ghost use Rattle.rb_image.specs.inner.Having.{HaveValues};
+ghost use Rattle.rb_image.specs.inner.Having.{AreSoundWhereTheyDescend, HaveDescents, HaveValues};
 ghost use Rattle.rb_image_text.specs.Images.{AreBlocks};
 ghost use Rattle.rb_image_text.specs.Places.{AreInPlace};
 ghost use Rattle.rb_image_text.specs.declared.fault.ImageFault.{ImageFault};
 
 use crate::examine::examine_image;
-use crate::laws::sound_images_have_values;
+use crate::laws::{descending_images_are_sound, sound_images_descend, sound_images_have_values};
 use crate::memory::memory_of;
 use rb_coding::decode::decode;
 use rb_coding::fault::DecodeFault;
@@ -31,6 +32,17 @@ fn images_have_values(agreed: &Agreed)
     ensures { HaveValues agreed.now.covered.program agreed.now.layouts }
 {
     sound_images_have_values();
+    let _ = agreed.covered().program();
+    let _ = agreed.layouts();
+}
+
+// Tells that the images which are sound for a type of this program are those that hold a value.
+fn images_descend(agreed: &Agreed)
+    ensures held { HaveDescents agreed.now.covered.program agreed.now.layouts }
+    ensures sound { AreSoundWhereTheyDescend agreed.now.covered.program agreed.now.layouts }
+{
+    sound_images_descend();
+    descending_images_are_sound();
     let _ = agreed.covered().program();
     let _ = agreed.layouts();
 }
@@ -59,9 +71,10 @@ fn value_of(
     }
 }
 
-/// The value that an image holds: the image is sound for a type of the program, as `examine_image` says, and in a
-/// memory in which its blocks stand its root words represent this value. The nodes of the value are told off as they
-/// are found, so the work is at most that for so many nodes as `limit`, however often the value shares a block.
+/// The value that an image holds: its root words represent it in the memory that has exactly the image's blocks, and
+/// each pointer that is kept in a block leads to a block with a lower address. An image holds one exactly where it is
+/// sound for the type, as `examine_image` says. The nodes of the value are told off as they are found, so the work is
+/// at most that for so many nodes as `limit`, however often the value shares a block.
 ///
 /// # Errors
 ///
@@ -78,15 +91,14 @@ pub fn read_image(
     requires sized { AreBlocks image.now.blocks }
     requires declared { IsDeclared agreed.now.covered.program.types ty }
     ensures value { IfOk result (λ v.
-        Holds agreed.now.covered.program agreed.now.layouts image.now ty v × (node_count v ≤ limit)) }
-    ensures each { (v : Value) → Holds agreed.now.covered.program agreed.now.layouts image.now ty v
-        → IsRead v limit result }
+        RootDescends agreed.now.covered.program image.now ty v × (node_count v ≤ limit)) }
+    ensures each { (v : Value) → RootDescends agreed.now.covered.program image.now ty v → IsRead v limit result }
     ensures fault { IfErr result (λ fault.
         IsReason agreed.now.covered.program agreed.now.layouts image.now ty limit fault) }
     ensures first { (fault : ImageFault)
         → IsFirstFault agreed.now.covered.program.types agreed.now.layouts image.now ty fault → IsFault fault result }
 {
-    images_have_values(agreed);
+    images_descend(agreed);
     examine_image(alloc, agreed, ty, image)?;
     value_of(alloc, agreed, ty, image, limit)
 }

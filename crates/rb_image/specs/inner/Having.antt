@@ -1,4 +1,4 @@
--- That the images which are sound for types of a program have values.
+-- That the images which are sound for types of a program have values, and are those that hold values.
 use Rattle.std.specs.Prelude.{List}
 use Rattle.rb_core.specs.declared.program.Program.{Program}
 use Rattle.rb_core.specs.declared.types.Ty.{Ty}
@@ -7,9 +7,20 @@ use Rattle.rb_bytes.specs.Memory.{Memory}
 use Rattle.rb_layout.specs.declared.layout.Layout.{Layout}
 use Rattle.rb_coding.specs.Decoding.{AreOf}
 use Rattle.rb_image_text.specs.declared.image.Image.{Image}
+use Rattle.rb_image_text.specs.Images.{AreBlocks}
+use Rattle.rb_image_text.specs.Places.{AreInPlace}
+use Rattle.rb_image.specs.Falling.{RootDescends}
 use Rattle.rb_image.specs.Roots.{IsSoundImage}
 use Rattle.rb_image.specs.Values.{IsDeclared, Keeps}
 
 abbrev pub HaveValues : Program → List Layout → Type 0
 HaveValues p layouts = (image : Image) (ty : Ty) → IsDeclared p.types ty → IsSoundImage p.types layouts image ty
     → (m : Memory) → Keeps image.blocks m → (v : Value) × AreOf p m ty image.root v
+
+abbrev pub HaveDescents : Program → List Layout → Type 0
+HaveDescents p layouts = (image : Image) → AreInPlace image.blocks → AreBlocks image.blocks → (ty : Ty) → IsDeclared p.types ty
+    → IsSoundImage p.types layouts image ty → (v : Value) × RootDescends p image ty v
+
+abbrev pub AreSoundWhereTheyDescend : Program → List Layout → Type 0
+AreSoundWhereTheyDescend p layouts = (image : Image) → AreInPlace image.blocks → AreBlocks image.blocks → (ty : Ty) (v : Value)
+    → RootDescends p image ty v → IsSoundImage p.types layouts image ty
