@@ -8,21 +8,21 @@ use std::test::Fail;
 
 /// Two pairs of a bit and a byte, with a byte between; which bit the first has its leaf tells alone.
 const BETWEEN: &str =
-    "type K = A | B;layout K <1> = split 0[0:1] { 0 => A : { word 1 { [0:1] = 0 } } 1 => B : { word 1 { [0:1] = 1 } } };type P = P2(K, u8);layout P <9> = P2(_, _) : { word 9 { [0:1] .0, [1:8] .1 } };type D = D3(P, u8, P);layout D <40> = split 0[0:1] { 0 => D3(P2(A, _), _, _) : { word 40 { [0:1] = 0, [1:8] .0.1, [9:8] .1, [17:9] .2 } } 1 => D3(P2(B, _), _, _) : { word 40 { [0:1] = 1, [1:8] .1, [9:8] .0.1, [17:9] .2 } } };fun main(d: D): u8 = match d { D3(P2(A, 3), 7, P2(A, _)) => 1, D3(_, 7, P2(B, _)) => 2, D3(P2(B, x), 8, _) => x, D3(p, _, q) => match p { P2(_, y) => y } };";
+    "type K = A | B;layout K <1> = split 0[0:1] { 0 => A : { word 1 { [0:1] = 0 } } 1 => B : { word 1 { [0:1] = 1 } } };type P = Tagged(K, u8);layout P <9> = Tagged(_, _) : { word 9 { [0:1] .0, [1:8] .1 } };type D = Trio(P, u8, P);layout D <40> = split 0[0:1] { 0 => Trio(Tagged(A, _), _, _) : { word 40 { [0:1] = 0, [1:8] .0.1, [9:8] .1, [17:9] .2 } } 1 => Trio(Tagged(B, _), _, _) : { word 40 { [0:1] = 1, [1:8] .1, [9:8] .0.1, [17:9] .2 } } };fun main(d: D): u8 = match d { Trio(Tagged(A, 3), 7, Tagged(A, _)) => 1, Trio(_, 7, Tagged(B, _)) => 2, Trio(Tagged(B, x), 8, _) => x, Trio(p, _, q) => match p { Tagged(_, y) => y } };";
 
 /// File, value, answer.
 const ROWS: [(&str, &str, &str); 11] = [
     (FOUR, "Q4(A,A,B,B)", "0 1;"),
     (FOUR, "Q4(B,A,A,A)", "0 2;"),
     (FOUR, "Q4(A,B,A,B)", "0 3;"),
-    (BETWEEN, "D3(P2(A,3),7,P2(A,9))", "0 1;"),
-    (BETWEEN, "D3(P2(A,3),7,P2(B,9))", "0 2;"),
-    (BETWEEN, "D3(P2(B,5),7,P2(B,1))", "0 2;"),
-    (BETWEEN, "D3(P2(B,5),8,P2(A,0))", "0 5;"),
-    (BETWEEN, "D3(P2(A,4),7,P2(A,0))", "0 4;"),
-    (BETWEEN, "D3(P2(A,6),8,P2(A,0))", "0 6;"),
-    (BETWEEN, "D3(P2(B,250),7,P2(A,0))", "0 250;"),
-    (BETWEEN, "D3(P2(B,255),9,P2(B,0))", "0 255;"),
+    (BETWEEN, "Trio(Tagged(A,3),7,Tagged(A,9))", "0 1;"),
+    (BETWEEN, "Trio(Tagged(A,3),7,Tagged(B,9))", "0 2;"),
+    (BETWEEN, "Trio(Tagged(B,5),7,Tagged(B,1))", "0 2;"),
+    (BETWEEN, "Trio(Tagged(B,5),8,Tagged(A,0))", "0 5;"),
+    (BETWEEN, "Trio(Tagged(A,4),7,Tagged(A,0))", "0 4;"),
+    (BETWEEN, "Trio(Tagged(A,6),8,Tagged(A,0))", "0 6;"),
+    (BETWEEN, "Trio(Tagged(B,250),7,Tagged(A,0))", "0 250;"),
+    (BETWEEN, "Trio(Tagged(B,255),9,Tagged(B,0))", "0 255;"),
 ];
 
 #[test]
@@ -40,7 +40,7 @@ fn clauses_of_values(rt: HostRuntime) -> Result<(), Fail> {
 fn a_test_between(rt: HostRuntime) -> Result<(), Fail> {
     expect_counts(
         rt.alloc(),
-        "count E 1 64 D3(P2(B,5),8,P2(A,0))",
+        "count E 1 64 Trio(Tagged(B,5),8,Tagged(A,0))",
         BETWEEN.as_bytes(),
         "value 5;calls 1;",
         6,
