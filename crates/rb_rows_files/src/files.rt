@@ -53,6 +53,12 @@ fun main(x: u8): u8 = match x { 0 => x, y => 256 };~2 ribbit: wanted u8, found u
 fun main(x: u8): u8 = main();~2 ribbit: wanted 1 arguments, found 0 at byte 22;\n\
 type T = A(u8); fun main(): T = A;~2 ribbit: wanted 1 arguments, found 0 at byte 32;\n\
 type T = A(u8); fun main(x: T): u8 = match x { A => 1 };~2 ribbit: wanted 1 arguments, found 0 at byte 47;\n\
+type T = A(u8); layout T <8> = A : { word 8 { } }; fun main(): u8 = 0;~2 ribbit: wanted 1 arguments, found 0 at byte 31;\n\
+type T = A; layout T <1> = A(_) : { word 1 { } }; fun main(): u8 = 0;~2 ribbit: wanted 0 arguments, found 1 at byte 27;\n\
+type T = A; type U = B; layout T <1> = B : { word 1 { } }; fun main(): u8 = 0;~2 ribbit: wanted T, found U at byte 39;\n\
+type T = A(u8); type U = B; layout T <8> = A(B) : { word 8 { } }; fun main(): u8 = 0;~2 ribbit: wanted u8, found U at byte 45;\n\
+type T = A | B; layout T <1> = split 0[0:1] { 0 => A : { word 1 { } } else => B(_, _) : { word 1 { } } }; fun main(): u8 = 256;~2 ribbit: wanted 0 arguments, found 2 at byte 78;\n\
+fun main(): u8 = 256; layout T <1> = A(_) : { word 1 { } }; type T = A;~2 ribbit: wanted 0 arguments, found 1 at byte 37;\n\
 fun main(x: u8, x: u8): u8 = x;~2 ribbit: variable twice at byte 16;\n\
 type T = A(u8, u8); fun main(x: T): u8 = match x { A(y, y) => y };~2 ribbit: variable twice at byte 56;\n\
 fun f(x: u1): u8 = match x { 0 => 1 }; fun main(): u8 = 256;~2 ribbit: wanted u8, found u9 at byte 56;\n\

@@ -107,7 +107,11 @@ fn layouts_that_are_refused(rt: HostRuntime) -> Result<(), Fail> {
 }
 
 /// File, and what refuses it before a layout does that cannot be derived.
-const EARLIER: [(&str, &str); 6] = [
+const EARLIER: [(&str, &str); 7] = [
+    (
+        "type T = A(T) | B; layout T = packed; layout U <8, 8, 8, 8, 8, 8, 8, 8, 8> = A : { word 8 { } };",
+        "11 ribbit: limit shape words: 9 over 8;",
+    ),
     (
         "layout T = boxed; fun main(): u8 = 0;",
         "2 ribbit: unknown name T at byte 7;",

@@ -31,6 +31,21 @@ fn provenance(alloc: Global, levels: usize, inner: &str) -> Result<Vec<u8>, Allo
     repeated(alloc, b"layout T <8> = ", split, around, tree.as_slice())
 }
 
+/// A layout with this tree below so many splits.
+fn tree(alloc: Global, splits: usize, inner: &str) -> Result<Vec<u8>, AllocError> {
+    let closed = repeated(alloc, inner.as_bytes(), b" }", splits, b";")?;
+    let split = b"split 0[0:1] { 0 => ";
+    repeated(alloc, b"layout T <8> = ", split, splits, closed.as_slice())
+}
+
+/// A layout of one leaf with these items in so many pointer parts, one in the block of the other.
+fn pointers(alloc: Global, parts: usize, inner: &str) -> Result<Vec<u8>, AllocError> {
+    let closed = repeated(alloc, inner.as_bytes(), b" } }", parts, b" };")?;
+    let part = b"word 8 { [0:8] -> 8 { ";
+    let front = b"layout T <8> = Nil : { ";
+    repeated(alloc, front, part, parts, closed.as_slice())
+}
+
 /// Expressions, each with so many levels as it needs.
 const EXPRESSIONS: [(usize, &str); 16] = [
     (1, "7"),
@@ -92,6 +107,33 @@ const PROVENANCES: [(usize, &str); 9] = [
     (0, "~_"),
 ];
 
+/// Trees, each below so many splits. A leaf is a level above its provenance, so none stands at the greatest
+/// level.
+const TREES: [(usize, &str); 9] = [
+    (126, "Nil : { inline .0 }"),
+    (127, "split 0[0:1] { }"),
+    (127, "!Nil : { inline .0 }"),
+    (127, "split 0[0:1] { 0 => !Nil : { inline .0 } }"),
+    (127, "split 0[0:1] { else => !split 0[0:1] { } }"),
+    (127, "split 0[0:1] { 0 => ~x }"),
+    (128, "!split 0[0:1] { }"),
+    (126, "Nil : { word 8 { [0:8] -> 8 { inline .0 } } }"),
+    (
+        126,
+        "Nil : { word 8 { [0:8] -> 8 { word 8 { [0:4] .0, [4:4] !-> 8 { } } } } }",
+    ),
+];
+
+/// Items, each in so many pointer parts; the first of them is a level below the leaf.
+const POINTERS: [(usize, &str); 6] = [
+    (127, "inline .0"),
+    (127, "word 8 { [0:8] .0 }"),
+    (126, "word 8 { [0:8] -> 8 { } }"),
+    (127, "word 8 { [0:8] !-> 8 { } }"),
+    (127, "inline .0, word 8 { [0:4] = 0, [4:4] !-> 8 { } }"),
+    (127, "word 8 { [0:8] ~u8 }"),
+];
+
 #[test]
 fn of_expressions(rt: HostRuntime) -> Result<(), Fail> {
     for (levels, inner) in EXPRESSIONS {
@@ -125,6 +167,21 @@ fn of_patterns(rt: HostRuntime) -> Result<(), Fail> {
             &rt,
             rt.alloc(),
             provenance(rt.alloc(), levels, inner)?.as_slice(),
+        )?;
+    }
+    Ok(())
+}
+
+#[test]
+fn of_layouts(rt: HostRuntime) -> Result<(), Fail> {
+    for (splits, inner) in TREES {
+        expect(&rt, rt.alloc(), tree(rt.alloc(), splits, inner)?.as_slice())?;
+    }
+    for (parts, inner) in POINTERS {
+        expect(
+            &rt,
+            rt.alloc(),
+            pointers(rt.alloc(), parts, inner)?.as_slice(),
         )?;
     }
     Ok(())
