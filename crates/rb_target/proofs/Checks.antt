@@ -5,7 +5,7 @@ use Rattle.std.proofs.lemmas.Option.{slice_get_within, get_or_from_slice_get, sl
 use Rattle.std.proofs.lemmas.List.Elements.{All-get_or}
 use Rattle.rb_target.specs.Validity.{CallsFit, IsValid, IsValidFun, IsBounded}
 use Rattle.rb_target.specs.Spelled.{IsSpelledInstr, IsSpelledFun, AreSpelled}
-use Rattle.rb_target.specs.Faults.{MiscountsSlots, HasBadSlot, HasBadJump, HasBadCall, InFun, Stands, IsFirstFault, place_of}
+use Rattle.rb_target.specs.Faults.{MiscountsSlots, HasBadSlot, HasBadJump, HasBadCall, InFun, Stands, IsFirstFault, IsBefore, place_of}
 use Rattle.rb_target.specs.Checking.{Holds, CountsSlots, HasGoodSlots, HasGoodJumps, IsFaultless, IsFaultAt, IsFaultIn}
 use Rattle.rb_target.specs.declared.instr.Instr.{Instr}
 use Rattle.rb_target.specs.declared.code.CodeFun.{CodeFun}
@@ -20,11 +20,11 @@ counts-right : (f : CodeFun) → CountsSlots f → MiscountsSlots f → ⊥
 counts-right f counts (inl few) = omega arith
 counts-right f counts (inr many) = omega arith
 
-good-slots : (f : CodeFun) (pc : ℕ) → HasGoodSlots f pc → HasBadSlot f pc → ⊥
+pub good-slots : (f : CodeFun) (pc : ℕ) → HasGoodSlots f pc → HasBadSlot f pc → ⊥
 good-slots f pc good (inl (zero, miscounts)) = counts-right f (good.0 zero) miscounts
 good-slots f pc good (inr (i, at, fails)) = fails (good.1 i at)
 
-good-jumps : (f : CodeFun) (pc : ℕ) → HasGoodJumps f pc → HasBadJump f pc → ⊥
+pub good-jumps : (f : CodeFun) (pc : ℕ) → HasGoodJumps f pc → HasBadJump f pc → ⊥
 good-jumps f pc good (inl (last, fails)) = fails (good.0 last)
 good-jumps f pc good (inr (i, at, fails)) = fails (good.1 i at)
 
@@ -142,3 +142,40 @@ all_valid funs few valid = record {
   few = few;
   each = λ n f at. same_fun funs n (λ g. IsValidFun funs g) f at (valid n (slice_get_within funs n f at));
 }
+
+-- Two first faults are one
+
+neither_less : (x y : ℕ) → (x < y → ⊥) → (y < x → ⊥) → x ≡ y
+neither_less x y h k = grind arith
+
+one_place : (a b : ℕ × ℕ × ℕ) → ¬ IsBefore a b → ¬ IsBefore b a → (a.0 ≡ b.0) × (a.1 ≡ b.1) × (a.2 ≡ b.2)
+one_place a b h k =
+    let fun : a.0 ≡ b.0 = neither_less a.0 b.0 (λ lt. h (inl lt)) (λ lt. k (inl lt)) in
+    let pc : a.1 ≡ b.1 = neither_less a.1 b.1 (λ lt. h (inr (fun, inl lt))) (λ lt. k (inr (sym fun, inl lt))) in
+    let kind : a.2 ≡ b.2 = neither_less a.2 b.2 (λ lt. h (inr (fun, inr (pc, lt)))) (λ lt. k (inr (sym fun, inr (sym pc, lt)))) in
+    (fun, pc, kind)
+
+one_fault : (funs : List CodeFun) (a b : CodeFault) → Stands funs a → Stands funs b
+    → (place_of a).0 ≡ (place_of b).0 → (place_of a).1 ≡ (place_of b).1 → (place_of a).2 ≡ (place_of b).2 → a ≡ b
+one_fault funs (BadSlot n p) (BadSlot m q) s t fun pc kind = ap (λ k. BadSlot k p) fun ∙ ap (λ k. BadSlot m k) pc
+one_fault funs (BadJump n p) (BadJump m q) s t fun pc kind = ap (λ k. BadJump k p) fun ∙ ap (λ k. BadJump m k) pc
+one_fault funs (BadCall n p) (BadCall m q) s t fun pc kind = ap (λ k. BadCall k p) fun ∙ ap (λ k. BadCall m k) pc
+one_fault funs (BadSlot n p) (BadJump m q) s t fun pc kind = absurd (omega (arith, kind))
+one_fault funs (BadSlot n p) (BadCall m q) s t fun pc kind = absurd (omega (arith, kind))
+one_fault funs (BadJump n p) (BadSlot m q) s t fun pc kind = absurd (omega (arith, kind))
+one_fault funs (BadJump n p) (BadCall m q) s t fun pc kind = absurd (omega (arith, kind))
+one_fault funs (BadCall n p) (BadSlot m q) s t fun pc kind = absurd (omega (arith, kind))
+one_fault funs (BadCall n p) (BadJump m q) s t fun pc kind = absurd (omega (arith, kind))
+one_fault funs (BadSlot n p) (CodeSyntax at) s t fun pc kind = absurd t
+one_fault funs (BadJump n p) (CodeSyntax at) s t fun pc kind = absurd t
+one_fault funs (BadCall n p) (CodeSyntax at) s t fun pc kind = absurd t
+one_fault funs (BadSlot n p) Memory s t fun pc kind = absurd t
+one_fault funs (BadJump n p) Memory s t fun pc kind = absurd t
+one_fault funs (BadCall n p) Memory s t fun pc kind = absurd t
+one_fault funs (CodeSyntax at) b s t fun pc kind = absurd s
+one_fault funs Memory b s t fun pc kind = absurd s
+
+pub first_same : (funs : List CodeFun) (a b : CodeFault) → IsFirstFault funs a → IsFirstFault funs b → a ≡ b
+first_same funs a b x y =
+    let place = one_place (place_of a) (place_of b) (y.first a x.stands) (x.first b y.stands) in
+    one_fault funs a b x.stands y.stands place.0 place.1 place.2

@@ -22,3 +22,4 @@ pub mod OneToOne
 pub mod ReadLemmas
 pub mod ReadingExamples
 pub mod Checks
+pub mod FindingFaults

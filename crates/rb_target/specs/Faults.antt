@@ -1,5 +1,5 @@
 -- What keeps functions from being valid together, where it stands, and which comes first.
-use Rattle.std.specs.Prelude.{◌≡◌, ℕ, ◌+◌, ◌-◌, ◌<◌, ◌⊎◌, List, length, Some, slice_get}
+use Rattle.std.specs.Prelude.{◌≡◌, ℕ, ◌+◌, ◌-◌, ◌^◌, ◌<◌, ◌⊎◌, List, length, Some, slice_get}
 use Rattle.rb_target.specs.Validity.{SlotsFit, TargetsFit, CallsFit, EndsInReturn, dest_count}
 use Rattle.rb_target.specs.declared.instr.Instr.{Instr}
 use Rattle.rb_target.specs.declared.code.CodeFun.{CodeFun}
@@ -51,3 +51,8 @@ IsBefore a b = (a.0 < b.0) ⊎ ((a.0 ≡ b.0) × ((a.1 < b.1) ⊎ ((a.1 ≡ b.1)
 pub record IsFirstFault (funs : List CodeFun) (fault : CodeFault) : Type 0 where
   pub stands : Stands funs fault
   pub first : (other : CodeFault) → Stands funs other → ¬ IsBefore (place_of other) (place_of fault)
+
+-- no more functions, and no more instructions in any of them, than a machine word counts
+pub record IsCountable (funs : List CodeFun) : Type 0 where
+  pub few : length funs < 2 ^ 64
+  pub each : (n : ℕ) (f : CodeFun) → slice_get funs n ≡ Some f → length f.body < 2 ^ 64

@@ -1,6 +1,9 @@
 //! Laws of instructions, targets and calls, each the contract of a function that does nothing.
 
-ghost use Rattle.std.specs.Prelude.{◌≡◌, ℕ, true, List};
+ghost use Rattle.std.specs.Prelude.{◌≡◌, ℕ, ◌⊎◌, true, List};
+ghost use Rattle.rb_target.specs.Spelled.{AreSpelled};
+ghost use Rattle.rb_target.specs.Faults.{Stands, IsFirstFault, IsCountable};
+ghost use Rattle.rb_target.specs.declared.fault.CodeFault.{CodeFault as CodeFaultDecl};
 ghost use Rattle.rb_core.specs.declared.expression.Op.{Op as OpDecl};
 ghost use Rattle.rb_core.specs.Meaning.{op_value};
 ghost use Rattle.rb_core.specs.WellNumbered.{is_lower};
@@ -38,4 +41,13 @@ pub fn operations_are_operators()
 pub fn names_are_shared()
     ensures of_programs { (name : List ℕ) → is_lower name ≡ true → IsLower name }
     ensures of_code { (name : List ℕ) → IsLower name → is_lower name ≡ true }
+{}
+
+/// Functions that are valid together have no fault. Others that a text can hold have a first fault, where
+/// machine words count them and their instructions, and no functions have two.
+pub fn faults_are_invalid()
+    ensures none { (funs : List CodeFunDecl) (fault : CodeFaultDecl) → IsValid funs → ¬ Stands funs fault }
+    ensures some { (funs : List CodeFunDecl) → AreSpelled funs → IsCountable funs
+        → IsValid funs ⊎ ((fault : CodeFaultDecl) × IsFirstFault funs fault) }
+    ensures one { (funs : List CodeFunDecl) (a b : CodeFaultDecl) → IsFirstFault funs a → IsFirstFault funs b → a ≡ b }
 {}
