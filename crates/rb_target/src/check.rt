@@ -93,7 +93,16 @@ fn targets_fit(long: usize, pc: usize, instr: &Instr) -> bool
         Instr::Switch(_, Some(other), arms) => {
             is_target(long, pc, *other) && are_arms(long, pc, arms.as_slice())
         }
-        _ => true,
+        Instr::Const(..)
+        | Instr::Copy(..)
+        | Instr::Alu(..)
+        | Instr::Take(..)
+        | Instr::Put(..)
+        | Instr::Load(..)
+        | Instr::Store(..)
+        | Instr::Place(..)
+        | Instr::Call(..)
+        | Instr::Return(_) => true,
     }
 }
 
@@ -114,7 +123,16 @@ fn calls_fit(funs: &[CodeFun], results: usize, instr: &Instr) -> bool
             Some(fun) => dests.len() == fun.results && froms.len() == fun.params,
         },
         Instr::Return(froms) => froms.len() == results,
-        _ => true,
+        Instr::Const(..)
+        | Instr::Copy(..)
+        | Instr::Alu(..)
+        | Instr::Take(..)
+        | Instr::Put(..)
+        | Instr::Load(..)
+        | Instr::Store(..)
+        | Instr::Place(..)
+        | Instr::Jump(_)
+        | Instr::Switch(..) => true,
     }
 }
 
@@ -203,8 +221,12 @@ fn check_funs(funs: &[CodeFun]) -> Result<(), CodeFault>
     Ok(())
 }
 
-/// The functions as code, where they are valid together; else their first fault: by function, then by
-/// instruction, then by the fault's number. It takes no memory, and its time grows with the text's length.
+/// The functions as code, where they are valid together. It takes no memory, and its time grows with the
+/// length of their text.
+///
+/// # Errors
+///
+/// The first fault: by function, then by instruction, then by the fault's number.
 pub fn check(funs: Seq<CodeFun>) -> Result<Code, CodeFault>
     requires { AreSpelled funs }
     ensures ok { IfOk result (λ code. code ≡ funs) }

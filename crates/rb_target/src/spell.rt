@@ -169,6 +169,10 @@ fn push_fun(alloc: Global, text: &mut Vec<u8>, fun: &CodeFun) -> Result<(), Allo
 
 /// The code text: for each function the line `fun NAME PARAMS RESULTS SLOTS`, its instructions, one a
 /// line, and the line `end`. No other code has the same text.
+///
+/// # Errors
+///
+/// Want of memory.
 pub fn spell_code(alloc: Global, code: &Code) -> Result<Vec<u8>, AllocError>
     ensures text { IfOk result (λ v. v.items ≡ code_text code.now) }
     ensures one_to_one { (funs : List CodeFun) → IsValid funs → code_text funs ≡ code_text code.now → funs ≡ code.now }

@@ -114,7 +114,12 @@ impl Field {
         match self {
             Field::Width => number == 1 || number == 3 || number == 6,
             Field::Align => number == 3 || number == 6,
-            _ => false,
+            Field::Any
+            | Field::Upto(_)
+            | Field::FromOne(_)
+            | Field::OrDash
+            | Field::OrOf
+            | Field::Nothing => false,
         }
     }
 
@@ -124,7 +129,13 @@ impl Field {
     {
         match self {
             Field::Nothing => false,
-            _ => true,
+            Field::Any
+            | Field::Upto(_)
+            | Field::FromOne(_)
+            | Field::Width
+            | Field::Align
+            | Field::OrDash
+            | Field::OrOf => true,
         }
     }
 
@@ -135,7 +146,14 @@ impl Field {
         match self {
             Field::OrDash if text == b"-".as_slice() => Some(Word::Dash),
             Field::OrOf if text == b"of".as_slice() => Some(Word::Of),
-            _ => None,
+            Field::Any
+            | Field::Upto(_)
+            | Field::FromOne(_)
+            | Field::Width
+            | Field::Align
+            | Field::OrDash
+            | Field::OrOf
+            | Field::Nothing => None,
         }
     }
 
@@ -157,7 +175,12 @@ impl Field {
         match self {
             Field::OrDash => b"-".starts_with(text),
             Field::OrOf => b"of".starts_with(text),
-            _ => false,
+            Field::Any
+            | Field::Upto(_)
+            | Field::FromOne(_)
+            | Field::Width
+            | Field::Align
+            | Field::Nothing => false,
         }
     }
 

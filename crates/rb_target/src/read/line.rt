@@ -82,7 +82,24 @@ pub fn field(instr: &Instr, turn: Turn) -> Field
         (Instr::Call(..), Turn::Second) => Field::OrOf,
         (Instr::Call(..), Turn::First | Turn::Third) => Field::Any,
         (Instr::Return(..), Turn::First) => Field::Any,
-        _ => Field::Nothing,
+        (Instr::Const(..) | Instr::Copy(..), Turn::Third | Turn::Fourth) => Field::Nothing,
+        (Instr::Place(..) | Instr::Call(..), Turn::Fourth) => Field::Nothing,
+        (Instr::Jump(..) | Instr::Return(..), Turn::Second | Turn::Third | Turn::Fourth) => {
+            Field::Nothing
+        }
+        (
+            Instr::Const(..)
+            | Instr::Copy(..)
+            | Instr::Alu(..)
+            | Instr::Load(..)
+            | Instr::Store(..)
+            | Instr::Place(..)
+            | Instr::Jump(..)
+            | Instr::Switch(..)
+            | Instr::Call(..)
+            | Instr::Return(..),
+            Turn::Fifth,
+        ) => Field::Nothing,
     }
 }
 
@@ -90,10 +107,18 @@ pub fn field(instr: &Instr, turn: Turn) -> Field
 fn repeats(instr: &Instr, turn: Turn) -> bool
     ensures { result ≡ spec.repeats instr.now turn }
 {
-    match (instr, turn) {
-        (Instr::Switch(..) | Instr::Call(..), Turn::Third) => true,
-        (Instr::Return(..), Turn::First) => true,
-        _ => false,
+    match instr {
+        Instr::Switch(..) | Instr::Call(..) => turn == Turn::Third,
+        Instr::Return(..) => turn == Turn::First,
+        Instr::Const(..)
+        | Instr::Copy(..)
+        | Instr::Alu(..)
+        | Instr::Take(..)
+        | Instr::Put(..)
+        | Instr::Load(..)
+        | Instr::Store(..)
+        | Instr::Place(..)
+        | Instr::Jump(..) => false,
     }
 }
 
@@ -121,7 +146,7 @@ fn next_const(dest: usize, number: u64, turn: Turn, last: u64, n: u64) -> Line
     match turn {
         Turn::First => line(Instr::Const(n as usize, number), Turn::Second, n),
         Turn::Second => line(Instr::Const(dest, n), Turn::Third, n),
-        _ => line(Instr::Const(dest, number), turn, last),
+        Turn::Third | Turn::Fourth | Turn::Fifth => line(Instr::Const(dest, number), turn, last),
     }
 }
 
@@ -131,7 +156,7 @@ fn next_copy(dest: usize, from: usize, turn: Turn, last: u64, n: u64) -> Line
     match turn {
         Turn::First => line(Instr::Copy(n as usize, from), Turn::Second, n),
         Turn::Second => line(Instr::Copy(dest, n as usize), Turn::Third, n),
-        _ => line(Instr::Copy(dest, from), turn, last),
+        Turn::Third | Turn::Fourth | Turn::Fifth => line(Instr::Copy(dest, from), turn, last),
     }
 }
 
@@ -233,7 +258,7 @@ fn next_place(dest: usize, size: u64, align: u64, turn: Turn, last: u64, n: u64)
         Turn::First => line(Instr::Place(n as usize, size, align), Turn::Second, n),
         Turn::Second => line(Instr::Place(dest, n, align), Turn::Third, n),
         Turn::Third => line(Instr::Place(dest, size, n), Turn::Fourth, n),
-        _ => line(Instr::Place(dest, size, align), turn, last),
+        Turn::Fourth | Turn::Fifth => line(Instr::Place(dest, size, align), turn, last),
     }
 }
 
@@ -242,7 +267,9 @@ fn next_jump(target: usize, turn: Turn, last: u64, n: u64) -> Line
 {
     match turn {
         Turn::First => line(Instr::Jump(n as usize), Turn::Second, n),
-        _ => line(Instr::Jump(target), turn, last),
+        Turn::Second | Turn::Third | Turn::Fourth | Turn::Fifth => {
+            line(Instr::Jump(target), turn, last)
+        }
     }
 }
 
@@ -300,7 +327,7 @@ fn next_call(
             froms.push(n as usize)?;
             Ok(line(Instr::Call(fun, dests, froms), Turn::Third, n))
         }
-        _ => Ok(line(Instr::Call(fun, dests, froms), turn, last)),
+        Turn::Fourth | Turn::Fifth => Ok(line(Instr::Call(fun, dests, froms), turn, last)),
     }
 }
 
@@ -312,7 +339,9 @@ fn next_return(mut froms: Seq<usize>, turn: Turn, last: u64, n: u64) -> Result<L
             froms.push(n as usize)?;
             Ok(line(Instr::Return(froms), Turn::First, n))
         }
-        _ => Ok(line(Instr::Return(froms), turn, last)),
+        Turn::Second | Turn::Third | Turn::Fourth | Turn::Fifth => {
+            Ok(line(Instr::Return(froms), turn, last))
+        }
     }
 }
 
@@ -365,12 +394,16 @@ fn with_name(alloc: Global, old: Line, word: Word) -> Line
 }
 
 /// The line with one word more.
+///
+/// # Errors
+///
+/// Want of memory.
 pub fn with_word(alloc: Global, old: Line, word: Word) -> Result<Line, AllocError>
     requires { spec.InField (spec.field old.instr old.turn) word }
     ensures { IfOk result (λ l. l ≡ spec.after_word old word) }
 {
     match word {
         Word::Number(n) => with_number(alloc, old, n),
-        _ => Ok(with_name(alloc, old, word)),
+        Word::Op(_) | Word::Dash | Word::Of => Ok(with_name(alloc, old, word)),
     }
 }

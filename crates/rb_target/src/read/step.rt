@@ -106,7 +106,17 @@ fn key_next(alloc: Global, fun: CodeFun, gap: u8, key: Key) -> Result<Move, Allo
                 Ok(Move::Refused)
             }
         }
-        _ => line_next(fun, first_line(alloc, key), gap),
+        Key::Const
+        | Key::Copy
+        | Key::Take
+        | Key::Put
+        | Key::Load
+        | Key::Store
+        | Key::Place
+        | Key::Jump
+        | Key::Switch
+        | Key::Call
+        | Key::Return => line_next(fun, first_line(alloc, key), gap),
     }
 }
 
@@ -124,7 +134,7 @@ fn headed(fun: CodeFun, turn: Turn, gap: u8, count: usize) -> Move
     let (wanted, params, results, slots) = match turn {
         Turn::First => (b' ', count, results, slots),
         Turn::Second => (b' ', params, count, slots),
-        _ => (b'\n', params, results, count),
+        Turn::Third | Turn::Fourth | Turn::Fifth => (b'\n', params, results, count),
     };
     if gap != wanted {
         return Move::Refused;
@@ -139,7 +149,7 @@ fn headed(fun: CodeFun, turn: Turn, gap: u8, count: usize) -> Move
     match turn {
         Turn::First => Move::To(Spot::Heading(fun, Turn::Second)),
         Turn::Second => Move::To(Spot::Heading(fun, Turn::Third)),
-        _ => Move::To(Spot::Starting(fun)),
+        Turn::Third | Turn::Fourth | Turn::Fifth => Move::To(Spot::Starting(fun)),
     }
 }
 
@@ -253,7 +263,11 @@ impl Reader {
         Ok(goes_on(&self.spot, self.word.as_slice(), byte))
     }
 
-    /// Reads one byte, or says that no code text goes on so.
+    /// Reads one byte, or says by false that no code text goes on so.
+    ///
+    /// # Errors
+    ///
+    /// Want of memory.
     pub fn feed(&mut self, byte: u8) -> Result<bool, AllocError>
         ensures { IfOk result (λ fed. spec.IsFed (spec.feed self.old byte) self.new fed) }
     {

@@ -23,7 +23,11 @@ fn read_bytes(alloc: Global, bytes: &[u8]) -> Result<Reader, CodeFault>
     Ok(reader)
 }
 
-/// The functions whose text the bytes are, valid together or not; or the byte at which no text goes on.
+/// The functions whose text the bytes are, valid together or not.
+///
+/// # Errors
+///
+/// The byte at which no text goes on; want of memory.
 pub fn read_text(alloc: Global, bytes: &[u8]) -> Result<Seq<CodeFun>, CodeFault>
     ensures reading { IsReading bytes.now result }
     ensures only { (funs : List CodeFun) → IsTextOf bytes.now funs → IfOk result (λ read. read ≡ funs) }
