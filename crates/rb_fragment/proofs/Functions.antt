@@ -20,7 +20,7 @@ use Rattle.rb_target.specs.declared.outcome.End.TheVariants.{Spent}
 use Rattle.rb_target.specs.Laws.{Law, IsLawful}
 use Rattle.rb_target.specs.Meaning as M
 use Rattle.rb_target.specs.Meaning.{World, taken, over, slots_at, from, enter, after_one_call, with_left, first_slots, body_in, slots_in}
-use Rattle.rb_target.specs.Sheet.{Sheet, AreWritten}
+use Rattle.rb_target.specs.Sheet.{Sheet, AreWritten, most_instrs}
 use Rattle.rb_target.specs.Validity.{IsFine, FitsCall, CallsFit, IsValidFun, dest_count, IsLower, SlotsFit, TargetsFit}
 use Rattle.rb_fragment.proofs.Laying.{does_later}
 use Rattle.rb_fragment.proofs.Moves.{below-all, slots_from-below, slots_from-length}
@@ -129,7 +129,7 @@ module _ (plan : Plan) (g : ℕ) (f : Fun) (b : Sheet) (slots : List ℕ) (named
       (w.0, w.1, get-append b.code (Return slots ∷ []) w.0 (slice_get_within b.code w.0 w.1 w.3) ∙ w.3, w.4)
 
   module _ (q : CodeFun) (whole : q ≡ record { name = f.name; params = b.params; results = length slots; slots = b.slots; body = b.code ++ Return slots ∷ [] })
-      (enough : q.slots ≤ q.params + dest_count q.body) (small : (q.slots < 2 ^ 64) × (length q.body ≤ 2 ^ 32)) (room : length slots < 2 ^ 64) where
+      (enough : q.slots ≤ q.params + dest_count q.body) (small : (q.slots < 2 ^ 64) × (length q.body ≤ most_instrs)) (room : length slots < 2 ^ 64) where
     body_is : q.body ≡ b.code ++ Return slots ∷ []
     body_is = ap (λ (c : CodeFun). c.body) whole
 

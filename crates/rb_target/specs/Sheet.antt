@@ -6,6 +6,10 @@ use Rattle.rb_target.specs.declared.instr.Instr.{Instr}
 use Rattle.rb_target.specs.declared.instr.Instr.TheVariants.{Jump, Switch}
 use Rattle.rb_target.specs.declared.body.Hole.{Hole}
 
+-- the instructions of a body
+abbrev pub most_instrs : ℕ
+most_instrs = 2 ^ 24
+
 pub record Sheet : Type 0 where
   pub code : List Instr
   pub params : ℕ
@@ -14,7 +18,7 @@ pub record Sheet : Type 0 where
 pub record IsKept (params slots : ℕ) (code : List Instr) : Type 0 where
   pub few : params ≤ 256
   pub small : slots < 2 ^ 64
-  pub short : length code ≤ 2 ^ 32
+  pub short : length code ≤ most_instrs
 
 abbrev pub pushed : Sheet → Instr → Sheet
 pushed b i = record b { code = b.code ++ i ∷ [] }

@@ -1,7 +1,7 @@
 //! The code of one function while it is made.
 
 ghost use Rattle.std.specs.Prelude.{◌≡◌, ℕ, ◌+◌, ◌<◌, ◌≤◌, ◌^◌, ◌∷◌, ◌++◌, [], IfOk, OnOk, OnErr, length, Some, Option};
-ghost use Rattle.rb_target.specs.Sheet.{Sheet, pushed, with_slot, patched, retargeted, retargeted_arm, IsHole, IsHoleIn, AreWritten};
+ghost use Rattle.rb_target.specs.Sheet.{Sheet, most_instrs, pushed, with_slot, patched, retargeted, retargeted_arm, IsHole, IsHoleIn, AreWritten};
 ghost use Rattle.rb_target.specs.Validity.{dest_count};
 
 use crate::code::CodeFun;
@@ -10,6 +10,9 @@ use rb_core::seq::Seq;
 use rb_core::types::Name;
 use std::alloc::{AllocError, Global};
 use std::marker::Model;
+
+/// The instructions of a body; clauses cite it as `most_instrs` of `specs/Sheet.antt`.
+pub const MOST_INSTRS: usize = 1 << 24;
 
 /// A target that is still open: the number of a jump or a switch, and which of its targets. No arm
 /// is the jump's own target, or the switch's other one. `leaf` says whose target it is, to whoever
@@ -53,7 +56,11 @@ impl Body {
         }
     }
 
-    /// Adds an instruction at the end. A body of 2^32 instructions takes no more, as if memory were wanting.
+    /// Adds an instruction at the end.
+    ///
+    /// # Errors
+    ///
+    /// Want of memory, also where the body has `MOST_INSTRS` instructions.
     pub fn push(&mut self, instr: Instr) -> Result<(), AllocError>
         ensures ok { OnOk result (self.new ≡ pushed self.old instr) }
         ensures err { OnErr result (self.new ≡ self.old) }
@@ -66,6 +73,10 @@ impl Body {
     }
 
     /// A slot that nothing else uses: the next after the parameters and all slots given before.
+    ///
+    /// # Errors
+    ///
+    /// Want of memory, where no number of a slot is left.
     pub fn fresh(&mut self) -> Result<usize, AllocError>
         ensures slot { IfOk result (λ d. d ≡ self.old.slots) }
         ensures ok { OnOk result (self.new ≡ with_slot self.old) }
@@ -82,7 +93,7 @@ impl Body {
     /// The number of instructions, which is that of the next one.
     pub fn len(&self) -> usize
         ensures value { result ≡ length self.now.code }
-        ensures few { result ≤ 2 ^ 32 }
+        ensures few { result ≤ most_instrs }
     {
         self.code.len()
     }
@@ -109,7 +120,7 @@ impl Body {
           body = self.code;
         } }
         ensures written { self.slots ≤ self.params + dest_count self.code }
-        ensures small { (self.slots < 2 ^ 64) × (length self.code ≤ 2 ^ 32) }
+        ensures small { (self.slots < 2 ^ 64) × (length self.code ≤ most_instrs) }
     {
         let Body {
             code,
@@ -126,9 +137,6 @@ impl Body {
     }
 }
 
-// A body's greatest length, so that numbers of instructions and their sums never overflow.
-const MOST_INSTRS: usize = 1 << 32;
-
 // The instruction with one target changed.
 fn retarget(instr: Instr, arm: Option<usize>, target: usize) -> Instr
     requires { IsHoleIn (Some instr) arm }
@@ -139,7 +147,21 @@ fn retarget(instr: Instr, arm: Option<usize>, target: usize) -> Instr
         (Instr::Switch(slot, other, arms), Some(k)) => {
             Instr::Switch(slot, other, retarget_arm(arms, k, target))
         }
-        _ => Instr::Jump(target),
+        // What is no switch has a target only where it is a jump.
+        (
+            Instr::Jump(_)
+            | Instr::Const(..)
+            | Instr::Copy(..)
+            | Instr::Alu(..)
+            | Instr::Take(..)
+            | Instr::Put(..)
+            | Instr::Load(..)
+            | Instr::Store(..)
+            | Instr::Place(..)
+            | Instr::Call(..)
+            | Instr::Return(_),
+            _,
+        ) => Instr::Jump(target),
     }
 }
 
