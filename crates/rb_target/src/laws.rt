@@ -45,7 +45,7 @@ pub fn names_are_shared()
 
 /// Functions that are valid together have no fault. Others that a text can hold have a first fault, where
 /// machine words count them and their instructions, and no functions have two.
-pub fn faults_are_invalid()
+pub fn faults_decide_validity()
     ensures none { (funs : List CodeFunDecl) (fault : CodeFaultDecl) → IsValid funs → ¬ Stands funs fault }
     ensures some { (funs : List CodeFunDecl) → AreSpelled funs → IsCountable funs
         → IsValid funs ⊎ ((fault : CodeFaultDecl) × IsFirstFault funs fault) }

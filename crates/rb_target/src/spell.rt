@@ -78,11 +78,7 @@ fn words(alloc: Global, instr: &Instr) -> Result<Vec<Word>, AllocError>
         Instr::Jump(target) => plain(alloc, &[*target as u64]),
         Instr::Switch(from, other, arms) => switch_words(alloc, *from, *other, arms.as_slice()),
         Instr::Call(fun, dests, froms) => {
-            let mut words = plain(alloc, &[*fun as u64])?;
-            push_slots(&mut words, dests.as_slice())?;
-            words.push(Word::Of)?;
-            push_slots(&mut words, froms.as_slice())?;
-            Ok(words)
+            call_words(alloc, *fun, dests.as_slice(), froms.as_slice())
         }
         Instr::Return(froms) => {
             let mut words = Vec::new(alloc);
@@ -107,6 +103,22 @@ fn switch_words(
         None => words.push(Word::Dash)?,
     }
     push_arms(&mut words, arms)?;
+    Ok(words)
+}
+
+// The words of a call.
+fn call_words(
+    alloc: Global,
+    fun: usize,
+    dests: &[usize],
+    froms: &[usize],
+) -> Result<Vec<Word>, AllocError>
+    ensures { IfOk result (λ v. v.items ≡ words_of (Instr.Call fun dests.now froms.now)) }
+{
+    let mut words = plain(alloc, &[fun as u64])?;
+    push_slots(&mut words, dests)?;
+    words.push(Word::Of)?;
+    push_slots(&mut words, froms)?;
     Ok(words)
 }
 

@@ -82,11 +82,6 @@ pub fn field(instr: &Instr, turn: Turn) -> Field
         (Instr::Call(..), Turn::Second) => Field::OrOf,
         (Instr::Call(..), Turn::First | Turn::Third) => Field::Any,
         (Instr::Return(..), Turn::First) => Field::Any,
-        (Instr::Const(..) | Instr::Copy(..), Turn::Third | Turn::Fourth) => Field::Nothing,
-        (Instr::Place(..) | Instr::Call(..), Turn::Fourth) => Field::Nothing,
-        (Instr::Jump(..) | Instr::Return(..), Turn::Second | Turn::Third | Turn::Fourth) => {
-            Field::Nothing
-        }
         (
             Instr::Const(..)
             | Instr::Copy(..)
@@ -98,7 +93,7 @@ pub fn field(instr: &Instr, turn: Turn) -> Field
             | Instr::Switch(..)
             | Instr::Call(..)
             | Instr::Return(..),
-            Turn::Fifth,
+            _,
         ) => Field::Nothing,
     }
 }
