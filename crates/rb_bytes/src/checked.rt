@@ -1,21 +1,36 @@
 //! A memory that tests each load and store.
 
-ghost use Rattle.std.specs.Prelude.{◌≡◌, ℕ, ◌≤◌, ◌<◌, ◌+◌, length, replicate, IfOk, IfSome, None, true, nat_le, find};
+ghost use Rattle.std.specs.Prelude.{◌≡◌, ℕ, ◌≤◌, ◌<◌, ◌+◌, length, map, IfOk, IfSome, true, nat_le, find};
 ghost use Rattle.rb_bytes.specs.Memory.{IsGood, read_le, write_le, empty_memory, size_at, lies_within, byte_at};
+ghost use Rattle.rb_bytes.specs.Starts.{byte_of, start_of};
 
 use crate::fault::{Full, Trap};
 use crate::memory::ByteMemory;
 use std::alloc::{AllocError, Global};
 use std::marker::Model;
 
+/// What is known of one address.
+#[derive(Clone, Copy)]
+struct Cell {
+    /// The byte that was written there.
+    byte: Option<u8>,
+    /// The size of the block that begins there, or 0.
+    size: u16,
+}
+
+/// An address at which nothing was written and no block begins.
+const UNTOUCHED: Cell = Cell {
+    byte: None,
+    size: 0,
+};
+
 /// A region that knows of each byte whether it was written and of each address whether a block
-/// begins there, so that no access is trusted. All of its memory is taken when it is made.
+/// begins there, so that no access is trusted. All of its memory is taken when it is made, and a part
+/// of it is first touched when a block is placed there.
 #[derive(Drop)]
 pub struct CheckedMemory {
-    /// By address: the byte that was written there.
-    bytes: Vec<Option<u8>>,
-    /// By address: the size of the block that begins there.
-    starts: Vec<Option<u16>>,
+    /// By address, up to the end of the last block; none before the first.
+    cells: Vec<Cell>,
     blocks: u64,
     next: u64,
     limit: u64,
@@ -33,26 +48,15 @@ impl Model for CheckedMemory {
     ghost invariant = { IsKept };
 }
 
-/// So many entries with nothing in them.
-fn nothing<T: Drop>(alloc: Global, count: u64) -> Result<Vec<Option<T>>, AllocError>
-    ensures { IfOk result (λ v. v.items ≡ replicate count None) }
-{
-    let mut entries = Vec::with_capacity(alloc, count as usize)?;
-    for _ in 0..count {
-        entries.push(None)?;
-    }
-    Ok(entries)
-}
-
 /// The number in some bytes, the lowest first, or the first of them that is unwritten.
-fn read_bytes(bytes: &[Option<u8>], at: u64, count: u64) -> Result<u64, Trap>
-    requires within { at + count ≤ length bytes.now }
+fn read_bytes(cells: &[Cell], at: u64, count: u64) -> Result<u64, Trap>
+    requires within { at + count ≤ length cells.now }
     requires few { count ≤ 8 }
-    ensures { result ≡ read_le bytes.now count at }
+    ensures { result ≡ read_le (map byte_of cells.now) count at }
 {
     let mut word = 0;
     for i in 0..count {
-        match bytes[(at + i) as usize] {
+        match cells[(at + i) as usize].byte {
             None => return Err(Trap::Unwritten(at + i)),
             Some(byte) => word += u64::from(byte) << (8 * i),
         }
@@ -61,13 +65,14 @@ fn read_bytes(bytes: &[Option<u8>], at: u64, count: u64) -> Result<u64, Trap>
 }
 
 /// Writes the low bytes of a word, the lowest first.
-fn write_bytes(bytes: &mut [Option<u8>], at: u64, count: u64, word: u64)
-    requires { at + count ≤ length bytes.old }
-    ensures { bytes.new ≡ write_le bytes.old count at word }
+fn write_bytes(cells: &mut [Cell], at: u64, count: u64, word: u64)
+    requires { at + count ≤ length cells.old }
+    ensures bytes { map byte_of cells.new ≡ write_le (map byte_of cells.old) count at word }
+    ensures starts { map start_of cells.new ≡ map start_of cells.old }
 {
     let mut rest = word;
     for i in 0..count {
-        bytes[(at + i) as usize] = Some((rest % 256) as u8);
+        cells[(at + i) as usize].byte = Some((rest % 256) as u8);
         rest /= 256;
     }
 }
@@ -80,8 +85,7 @@ impl CheckedMemory {
         ensures good { IfOk result (λ m. IsGood m) }
     {
         Ok(CheckedMemory {
-            bytes: nothing(alloc, limit)?,
-            starts: nothing(alloc, limit)?,
+            cells: Vec::with_capacity(alloc, limit as usize)?,
             blocks: 0,
             next: 64,
             limit,
@@ -92,10 +96,10 @@ impl CheckedMemory {
     pub fn block_from(&self, address: u64) -> Option<(u64, u64)>
         ensures { result ≡ find (λ b. nat_le address b.0) self.now.blocks }
     {
-        for at in address..self.next {
-            match self.starts[at as usize] {
-                None => {}
-                Some(size) => return Some((at, u64::from(size))),
+        for at in address..self.cells.len() as u64 {
+            match self.cells[at as usize].size {
+                0 => {}
+                size => return Some((at, u64::from(size))),
             }
         }
         None
@@ -105,10 +109,10 @@ impl CheckedMemory {
     pub fn byte(&self, address: u64) -> Option<u8>
         ensures { result ≡ byte_at self.now.bytes address }
     {
-        if address >= self.limit {
+        if address >= self.cells.len() as u64 {
             return None;
         }
-        self.bytes[address as usize]
+        self.cells[address as usize].byte
     }
 
     /// The size of the block that begins at this address.
@@ -116,12 +120,12 @@ impl CheckedMemory {
         ensures value { result ≡ size_at self.now.blocks base }
         ensures within { IfSome result (λ size. base + size ≤ self.now.next) }
     {
-        if base >= self.limit {
+        if base >= self.cells.len() as u64 {
             return None;
         }
-        match self.starts[base as usize] {
-            None => None,
-            Some(size) => Some(u64::from(size)),
+        match self.cells[base as usize].size {
+            0 => None,
+            size => Some(u64::from(size)),
         }
     }
 
@@ -166,7 +170,8 @@ impl ByteMemory for CheckedMemory {
                 limit: self.limit,
             });
         }
-        self.starts[at as usize] = Some(size as u16);
+        self.cells.resize((at + size) as usize, UNTOUCHED).unwrap();
+        self.cells[at as usize].size = size as u16;
         self.blocks += 1;
         self.next = at + size;
         Ok(at)
@@ -176,14 +181,14 @@ impl ByteMemory for CheckedMemory {
         if !self.holds(base, offset, width / 8) {
             return Err(Trap::Astray(base, offset));
         }
-        read_bytes(self.bytes.as_slice(), base + offset, width / 8)
+        read_bytes(self.cells.as_slice(), base + offset, width / 8)
     }
 
     fn store(&mut self, base: u64, offset: u64, width: u64, word: u64) -> Result<(), Trap> {
         if !self.holds(base, offset, width / 8) {
             return Err(Trap::Astray(base, offset));
         }
-        write_bytes(self.bytes.as_mut_slice(), base + offset, width / 8, word);
+        write_bytes(self.cells.as_mut_slice(), base + offset, width / 8, word);
         Ok(())
     }
 }

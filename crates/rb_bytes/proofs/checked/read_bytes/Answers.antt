@@ -1,7 +1,9 @@
-use Rattle.std.proofs.Common.{◌≡◌, ◌<◌, ◌+◌, ◌-◌, ◌*◌, ◌%◌, ◌^◌, Some, None, sym, ap, ◌∙◌, arith}
+use Rattle.std.proofs.Common.{◌≡◌, ◌<◌, ◌+◌, ◌-◌, ◌*◌, ◌%◌, ◌^◌, map, Some, sym, ap, ◌∙◌, arith}
 use Rattle.std.proofs.Math.Nat.{mod-eq_of_lt}
 use Rattle.rb_bytes.specs.Memory.{byte_at, read_le}
-use Rattle.rb_bytes.proofs.ByteLemmas.{byte_at-get_or, onto, read_some, more_fits, word_fits}
+use Rattle.rb_bytes.specs.Starts.{byte_of}
+use Rattle.rb_bytes.proofs.ByteLemmas.{onto, read_some, more_fits, word_fits}
+use Rattle.rb_bytes.proofs.CheckedLemmas.{untouched, byte_here}
 use Rattle.rb_bytes.proofs.checked.read_bytes.Goals as goal
 
 pub overflow_add-word : goal.overflow_add-word
@@ -15,7 +17,7 @@ overflow_add-word c =
 
 pub loop-i-preserved : goal.loop-i-preserved
 loop-i-preserved c =
-    let bytes = c.args.bytes.now in
+    let bytes = map byte_of c.args.cells.now in
     let i = c.loop-i.i in
     let at = c.args.at in
     let n = c.args.count in
@@ -23,7 +25,7 @@ loop-i-preserved c =
     let small : byte < 256 = omega arith in
     let fits = word_fits c.loop-i.word i byte c.loop-i.invariant.fits small (omega arith) in
     let moved : byte * 2 ^ (8 * i) % 18446744073709551616 ≡ byte * 2 ^ (8 * i) = mod-eq_of_lt (omega arith) in
-    let here : byte_at bytes (at + i) ≡ Some byte = byte_at-get_or bytes (at + i) None (omega arith) ∙ c.in-Some.is ∙ ap Some (sym c.from.ensures) in
+    let here : byte_at bytes (at + i) ≡ Some byte = byte_here c.args.cells.now (at + i) untouched (omega arith) ∙ c.in-Some.is ∙ ap Some (sym c.from.ensures) in
     let step = read_some bytes (n - i) (at + i) c.loop-i.word i byte (omega arith) here in
     let less : n - i - 1 ≡ n - (i + 1) = omega arith in
     let next : at + i + 1 ≡ at + (i + 1) = omega arith in

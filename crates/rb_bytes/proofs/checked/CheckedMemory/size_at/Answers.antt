@@ -1,28 +1,30 @@
-use Rattle.std.proofs.Common.{Some, sym, ap, ◌∙◌, arith}
-use Rattle.rb_bytes.proofs.ByteLemmas.{byte_at-get_or, byte_at-past}
+use Rattle.std.proofs.Common.{◌<◌, map, Some, sym, ap, ◌∙◌, arith}
+use Rattle.rb_bytes.specs.Starts.{size_in, start_of}
+use Rattle.rb_bytes.proofs.CheckedLemmas.{start_here, no_start, size_in_some}
 use Rattle.rb_bytes.proofs.BlockLemmas.{block_bounds}
 use Rattle.rb_bytes.proofs.StartLemmas.{size_at-blocks_from}
 use Rattle.rb_bytes.proofs.checked.CheckedMemory.size_at.Goals as goal
 
-pub returns-then-base-self-clause-value : goal.returns-then-base-self-clause-value
-returns-then-base-self-clause-value c =
-    let starts = c.self.inside.starts.items in
-    rw (← c.self.view_is) (sym (size_at-blocks_from starts c.args.base ∙ byte_at-past starts c.args.base (omega (arith, c.self.invariant.long))))
+pub returns-then-base-len-clause-value : goal.returns-then-base-len-clause-value
+returns-then-base-len-clause-value c =
+    let cells = c.self.inside.cells.items in
+    rw (← c.self.view_is) (sym (size_at-blocks_from (map start_of cells) c.args.base ∙ no_start cells c.args.base (omega arith)))
 
-pub returns-in-None-clause-value : goal.returns-in-None-clause-value
-returns-in-None-clause-value c =
-    let starts = c.self.inside.starts.items in
-    let here = byte_at-get_or starts c.args.base c.index.result.now (omega (arith, c.self.invariant.long)) in
-    rw (← c.self.view_is) (sym (size_at-blocks_from starts c.args.base ∙ here ∙ sym c.index.ensures ∙ c.in-None.is))
+pub returns-in-0-clause-value : goal.returns-in-0-clause-value
+returns-in-0-clause-value c =
+    let cells = c.self.inside.cells.items in
+    let here = start_here cells c.args.base c.index.result.now (omega arith) ∙ ap (λ x. size_in x.size) (sym c.index.ensures) ∙ ap size_in c.in-0.is in
+    rw (← c.self.view_is) (sym (size_at-blocks_from (map start_of cells) c.args.base ∙ here))
 
-pub returns-in-Some : goal.returns-in-Some
-returns-in-Some c =
-    let starts = c.self.inside.starts.items in
-    let here = byte_at-get_or starts c.args.base c.index.result.now (omega (arith, c.self.invariant.long)) in
-    let found = size_at-blocks_from starts c.args.base ∙ here ∙ sym c.index.ensures ∙ c.in-Some.is ∙ ap Some (sym c.from.ensures) in
-    let good = c.self.invariant.good in
+pub returns-in_default : goal.returns-in_default
+returns-in_default c =
+    let cells = c.self.inside.cells.items in
+    let cell = c.index.result.now in
+    let pos : 0 < cell.size = omega (arith, c.in_default) in
+    let here = start_here cells c.args.base cell (omega arith) ∙ ap (λ x. size_in x.size) (sym c.index.ensures) in
+    let found = size_at-blocks_from (map start_of cells) c.args.base ∙ here ∙ size_in_some cell.size pos ∙ ap Some (sym c.from.ensures) in
     rw (← c.self.view_is)
     (record {
       value = sym found;
-      within = (block_bounds _ c.args.base c.from.result 64 c.self.inside.next good.blocks found).2;
+      within = (block_bounds _ c.args.base c.from.result 64 c.self.inside.next c.self.invariant.good.blocks found).2;
     })

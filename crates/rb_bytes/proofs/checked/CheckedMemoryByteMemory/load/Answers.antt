@@ -1,13 +1,18 @@
-use Rattle.std.proofs.Common.{sym, ap, ◌∙◌}
+use Rattle.std.proofs.Common.{◌+◌, ◌/◌, sym, ap, ◌∙◌}
+use Rattle.rb_bytes.specs.Memory.{read_le}
 use Rattle.rb_bytes.proofs.MemoryLemmas.{load_astray, load_within}
+use Rattle.rb_bytes.proofs.CheckedLemmas.{read_le-bytes_of}
 use Rattle.rb_bytes.proofs.checked.CheckedMemoryByteMemory.load.Goals as goal
 
 pub returns-then-not-holds : goal.returns-then-not-holds
 returns-then-not-holds c = record { value = sym (load_astray c.args.self.now c.args.base c.args.offset c.args.width (sym c.holds.ensures.value ∙ c.if-not-holds.true)) }
 
 pub returns : goal.returns
-returns c = record {
-  value =
-      let bytes = ap (λ m. m.bytes) c.self.view_is in
-      c.read_bytes.ensures ∙ rw (c.as_slice.ensures.value, bytes) (sym (load_within c.args.self.now c.args.base c.args.offset c.args.width (sym c.if-not-holds.ensures.value)));
-}
+returns c =
+    let f = c.self.inside in
+    let n = c.args.width / 8 in
+    let at = c.args.base + c.args.offset in
+    let bytes = ap (λ m. read_le m.bytes n at) c.self.view_is in
+    let all = read_le-bytes_of f.cells.items f.limit n at in
+    let within = load_within c.args.self.now c.args.base c.args.offset c.args.width (sym c.if-not-holds.ensures.value) in
+    record { value = c.read_bytes.ensures ∙ rw c.as_slice.ensures.value (sym all ∙ bytes ∙ sym within) }
