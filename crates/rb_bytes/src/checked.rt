@@ -9,16 +9,16 @@ use crate::memory::ByteMemory;
 use std::alloc::{AllocError, Global};
 use std::marker::Model;
 
-/// What is known of one address.
+// What is known of one address.
 #[derive(Clone, Copy)]
 struct Cell {
-    /// The byte that was written there.
+    // The byte that was written there.
     byte: Option<u8>,
-    /// The size of the block that begins there, or 0.
+    // The size of the block that begins there, or 0.
     size: u16,
 }
 
-/// An address at which nothing was written and no block begins.
+// An address at which nothing was written and no block begins.
 const UNTOUCHED: Cell = Cell {
     byte: None,
     size: 0,
@@ -29,7 +29,7 @@ const UNTOUCHED: Cell = Cell {
 /// of it is first touched when a block is placed there.
 #[derive(Drop)]
 pub struct CheckedMemory {
-    /// By address, up to the end of the last block; none before the first.
+    // By address, up to the end of the last block; none before the first.
     cells: Vec<Cell>,
     blocks: u64,
     next: u64,
@@ -48,7 +48,7 @@ impl Model for CheckedMemory {
     ghost invariant = { IsKept };
 }
 
-/// The number in some bytes, the lowest first, or the first of them that is unwritten.
+// The number in some bytes, the lowest first, or the first of them that is unwritten.
 fn read_bytes(cells: &[Cell], at: u64, count: u64) -> Result<u64, Trap>
     requires within { at + count ≤ length cells.now }
     requires few { count ≤ 8 }
@@ -64,7 +64,7 @@ fn read_bytes(cells: &[Cell], at: u64, count: u64) -> Result<u64, Trap>
     Ok(word)
 }
 
-/// Writes the low bytes of a word, the lowest first.
+// Writes the low bytes of a word, the lowest first.
 fn write_bytes(cells: &mut [Cell], at: u64, count: u64, word: u64)
     requires { at + count ≤ length cells.old }
     ensures bytes { map byte_of cells.new ≡ write_le (map byte_of cells.old) count at word }
@@ -115,7 +115,7 @@ impl CheckedMemory {
         self.cells[address as usize].byte
     }
 
-    /// The size of the block that begins at this address.
+    // The size of the block that begins at this address.
     fn size_at(&self, base: u64) -> Option<u64>
         ensures value { result ≡ size_at self.now.blocks base }
         ensures within { IfSome result (λ size. base + size ≤ self.now.next) }
@@ -129,7 +129,7 @@ impl CheckedMemory {
         }
     }
 
-    /// Whether so many bytes at an offset lie within the block that begins at the base.
+    // Whether so many bytes at an offset lie within the block that begins at the base.
     fn holds(&self, base: u64, offset: u64, count: u64) -> bool
         ensures value { result ≡ lies_within (size_at self.now.blocks base) (offset + count) }
         ensures within { result ≡ true → base + offset + count ≤ self.now.next }

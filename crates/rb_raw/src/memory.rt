@@ -1,6 +1,6 @@
 //! The memory over raw bytes, and the marks that say where its blocks are.
 
-ghost use Rattle.std.specs.Prelude.{◌≡◌, ℕ, ◌≤◌, IfOk, false};
+ghost use Rattle.std.specs.Prelude.{◌≡◌, ℕ, ◌≤◌, IfOk, false, replicate};
 ghost use Rattle.rb_bytes.specs.Memory.{IsGood, empty_memory};
 
 use crate::bytes::RawBytes;
@@ -38,6 +38,15 @@ impl Model for RawMemory {
     ghost invariant = { IsKept };
 }
 
+// So many marks, all clear, by one fill.
+fn clear_marks(alloc: Global, count: usize) -> Result<Vec<u8>, AllocError>
+    ensures { IfOk result (λ marks. marks.items ≡ replicate count 0) }
+{
+    let mut marks = Vec::with_capacity(alloc, count)?;
+    marks.resize(count, 0)?;
+    Ok(marks)
+}
+
 impl RawMemory {
     /// An empty region that ends at the limit, which is from 64 to 16,777,216.
     ///
@@ -49,7 +58,7 @@ impl RawMemory {
         ensures value { IfOk result (λ m. m ≡ empty_memory limit) }
         ensures good { IfOk result (λ m. IsGood m) }
     {
-        let marks = Vec::from_elem(alloc, 0, limit as usize)?;
+        let marks = clear_marks(alloc, limit as usize)?;
         let bytes = RawBytes::new(alloc, marks.as_slice())?;
         Ok(RawMemory {
             bytes,

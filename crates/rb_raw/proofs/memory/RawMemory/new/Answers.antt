@@ -7,7 +7,7 @@ use Rattle.rb_raw.proofs.memory.RawMemory.new.Goals as goal
 pub invariant_of-result : goal.invariant_of-result
 invariant_of-result c =
     let r : Inside = record { bytes = c.in_ok-bytes.bytes; marks = c.in_ok-marks.marks; blocks = 0; next = 64; limit = c.args.limit } in
-    let clear = c.in_ok-marks.ensures.items_if_clones_equal (λ y same. same) in
+    let clear = c.in_ok-marks.ensures in
     let long = ap length (c.as_slice.ensures.value ∙ clear) ∙ length-replicate c.args.limit 0 in
     let empty : r.bytes ≡ replicate r.limit None = c.in_ok-bytes.ensures ∙ ap (λ n. replicate n None) long in
     new_kept r empty clear refl refl c.requires.0 c.requires.1
@@ -15,7 +15,7 @@ invariant_of-result c =
 pub returns-clause-value : goal.returns-clause-value
 returns-clause-value c =
     let r : Inside = record { bytes = c.in_ok-bytes.bytes; marks = c.in_ok-marks.marks; blocks = 0; next = 64; limit = c.args.limit } in
-    let clear = c.in_ok-marks.ensures.items_if_clones_equal (λ y same. same) in
+    let clear = c.in_ok-marks.ensures in
     let long = ap length (c.as_slice.ensures.value ∙ clear) ∙ length-replicate c.args.limit 0 in
     let empty : r.bytes ≡ replicate r.limit None = c.in_ok-bytes.ensures ∙ ap (λ n. replicate n None) long in
     new_is r empty clear refl
