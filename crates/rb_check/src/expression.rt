@@ -311,17 +311,16 @@ fn first_token(expr: &Expr) -> u32
     }
 }
 
-/// The type of the innermost parameter or variable with this number.
+// The type of the innermost parameter or variable with this number, which is looked for from the innermost on outwards.
 fn variable_type(var: u32, scope: &[Param]) -> Ty
     ensures { result ≡ variable_type var (binders scope.now) }
 {
-    let mut found = Ty::Int(64);
-    for param in scope {
-        if param.var == var {
-            found = param.ty;
+    for i in (0..scope.len()).rev() {
+        if scope[i].var == var {
+            return scope[i].ty;
         }
     }
-    found
+    Ty::Int(64)
 }
 
 /// The parameters of the function with this number.

@@ -1,7 +1,8 @@
-use Rattle.std.proofs.Common.{◌≡◌, drop}
-use Rattle.rb_core.specs.Typing.{bound_type, variable_type}
+use Rattle.std.proofs.Common.{◌≡◌, take}
+use Rattle.rb_core.specs.Typing.{variable_type}
 use Rattle.rb_check.specs.Answers.{binders}
 use Rattle.rb_check.proofs.expression.variable_type.Given as goal
 
-abbrev pub invariant-loop-param : goal.invariant-loop-param
-invariant-loop-param l = bound_type l.found l.var (binders (drop l.param-index l.scope)) ≡ variable_type l.var (binders l.scope)
+-- no binder further in has the number
+abbrev pub invariant-loop-i : goal.invariant-loop-i
+invariant-loop-i l = variable_type l.var (binders (take l.i l.scope)) ≡ variable_type l.var (binders l.scope)
