@@ -3,6 +3,7 @@ pub mod ArgumentLaws
 pub mod CountLaws
 pub mod Counted
 pub mod ExecLaws
+pub mod Executing
 pub mod Faults
 pub mod GenerateLaws
 pub mod HeadlineLaws

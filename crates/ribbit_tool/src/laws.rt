@@ -1,6 +1,6 @@
-//! Laws of files that are accepted.
+//! Laws of files that are accepted, and of code texts.
 
-ghost use Rattle.ribbit_tool.specs.Laws.{HaveNoRefusal, HaveOneProgram, HaveOneTree};
+ghost use Rattle.ribbit_tool.specs.Laws.{AreExecuted, HaveNoRefusal, HaveOneProgram, HaveOneTree};
 
 /// Tokens are the file of one tree at most.
 pub fn tokens_have_one_tree()
@@ -15,4 +15,10 @@ pub fn texts_have_one_program()
 /// A text that is accepted is not refused.
 pub fn accepted_texts_have_no_refusal()
     ensures { HaveNoRefusal }
+{}
+
+/// The text of valid code is executed as just that code: what `compile` prints does as `exec` what it was
+/// made for.
+pub fn texts_of_valid_code_are_executed()
+    ensures { AreExecuted }
 {}
