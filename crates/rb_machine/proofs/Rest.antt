@@ -11,8 +11,8 @@ use Rattle.rb_target.specs.declared.outcome.End.{End}
 use Rattle.rb_target.specs.declared.outcome.End.TheVariants.{Spent}
 use Rattle.rb_target.specs.declared.code.CodeFun.{CodeFun}
 use Rattle.rb_target.specs.declared.instr.Instr.{Instr}
-use Rattle.rb_target.specs.declared.instr.Instr.TheVariants.{Call, Return}
-use Rattle.rb_machine.specs.Turns.{IsCallOrReturn, resume, width_of, unwind, room_at, room_in, held_in}
+use Rattle.rb_target.specs.declared.instr.Instr.TheVariants.{Return}
+use Rattle.rb_machine.specs.Turns.{GoesOn, resume, width_of, unwind, room_at, room_in, held_in}
 use Rattle.rb_machine.specs.declared.state.Frame.{Frame}
 
 -- the function of a number
@@ -45,16 +45,6 @@ abbrev pub IsNoReturn : Instr → Type 0
 IsNoReturn (Return froms) = ⊥
 IsNoReturn i = Unit {0}
 
-pub no_return : (i : Instr) → (IsCallOrReturn i → ⊥) → IsNoReturn i
-no_return (Return froms) h = h tt
-no_return i h = tt
-
--- a call or a return is one of these two
-pub no_other : (i : Instr) → IsCallOrReturn i → ((f : ℕ) (ds froms : List ℕ) → i ≡ Call f ds froms → ⊥) → ((froms : List ℕ) → i ≡ Return froms → ⊥) → ⊥
-no_other (Call f ds froms) h no_call no_return = no_call f ds froms refl
-no_other (Return froms) h no_call no_return = no_return froms refl
-no_other i h no_call no_return = absurd h
-
 begins : (body : List Instr) (i : Instr) → slice_get body (length body - 1) ≡ Some i → 0 < length body
 begins body i e = omega (arith, slice_get_within body (length body - 1) i e)
 
@@ -72,6 +62,10 @@ valid_goes_on funs f pc i valid is other =
           absurd (subst IsNoReturn (sym (same_Some (Return valid.ends.0) i same)) other)
       | inr e ↦ let ne = e.1 in omega (arith, inside)
     ]
+
+pub goes_on : (funs : List CodeFun) (f : CodeFun) (pc : ℕ) (i : Instr) → IsValidFun funs f → slice_get f.body pc ≡ Some i → GoesOn (length f.body) pc i
+goes_on funs f pc (Return froms) valid is = slice_get_within f.body pc (Return froms) is
+goes_on funs f pc i valid is = valid_goes_on funs f pc i valid is tt
 
 pub room_in-push : (funs : List CodeFun) (frames : List Frame) (frame : Frame) → room_in funs (frames ++ frame ∷ []) ≡ room_in funs frames + room_at funs frame.fun frame.pc
 room_in-push funs [] frame = omega arith

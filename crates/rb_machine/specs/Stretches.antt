@@ -1,23 +1,23 @@
 -- Instructions of one call, up to where it calls another, returns, or ends the run.
-use Rattle.std.specs.Prelude.{◌≡◌, ℕ, ◌+◌, ◌<◌, ◌≤◌, List, length, Some, slice_get}
+use Rattle.std.specs.Prelude.{◌≡◌, ℕ, ◌+◌, ◌<◌, ◌≤◌, List, length, slice_get}
 use Rattle.rb_bytes.specs.Memory.{Memory}
 use Rattle.rb_target.specs.Meaning.{World, Outcome, Callee, over, from}
 use Rattle.rb_target.specs.Laws.{IsFinal}
 use Rattle.rb_target.specs.declared.instr.Instr.{Instr}
 use Rattle.rb_machine.specs.Runs.{IsNotTrapped}
-use Rattle.rb_machine.specs.Turns.{IsCallOrReturn}
+use Rattle.rb_machine.specs.Turns.{IsLeave}
 use Rattle.rb_machine.specs.declared.state.Stop.{Stop}
 use Rattle.rb_machine.specs.declared.state.Stop.TheVariants.{At, Ends}
 
 -- what is still to come of the body at a stop
 abbrev pub stop_to : List Instr → Callee → Stop → List ℕ → World → Outcome
-stop_to body callee (At pc) slots w = from body callee pc slots w
+stop_to body callee (At pc l) slots w = from body callee pc slots w
 stop_to body callee (Ends e) slots w = over e w
 
 -- where a stretch from `start` stops after so many instructions, with so many switches more
 abbrev pub IsStop : List Instr → ℕ → Stop → ℕ → ℕ → Type 0
-IsStop body start (At pc) count switches =
-    (pc < length body) × (start + count ≤ pc) × (start + switches ≤ pc) × ((i : Instr) → slice_get body pc ≡ Some i → IsCallOrReturn i)
+IsStop body start (At pc l) count switches =
+    (pc < length body) × (start + count ≤ pc) × (start + switches ≤ pc) × IsLeave (slice_get body pc) l
 IsStop body start (Ends e) count switches = IsFinal e
 
 -- the body does not trap from there, whatever calls do, at some number of calls left and of instructions so far

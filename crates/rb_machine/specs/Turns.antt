@@ -1,7 +1,7 @@
 -- The machine's own state, what is still to come from it, and what one instruction does to that.
-use Rattle.std.specs.Prelude.{◌≡◌, ℕ, ◌+◌, ◌-◌, ◌*◌, ◌^◌, ◌<◌, ◌≤◌, List, [], ◌∷◌, length, Option, Some, None, IsOk, take, drop, slice_get, slice_index, All}
+use Rattle.std.specs.Prelude.{◌≡◌, ℕ, ◌+◌, ◌-◌, ◌*◌, ◌^◌, ◌<◌, ◌≤◌, List, [], ◌∷◌, length, Option, Some, None, Result, Ok, Err, IsOk, take, drop, slice_get, slice_index, All}
 use Rattle.rb_bytes.specs.Memory.{Memory, load_of, store_of}
-use Rattle.rb_target.specs.Meaning.{World, Outcome, over, Next, after_call, put_slots, from, enter, body_of, slots_in}
+use Rattle.rb_target.specs.Meaning.{World, Outcome, over, Next, Callee, act, after_call, put_slots, from, enter, body_of, slots_in}
 use Rattle.rb_target.specs.Validity.{IsTarget}
 use Rattle.rb_target.specs.declared.outcome.End.{End}
 use Rattle.rb_target.specs.declared.outcome.End.TheVariants.{Returned}
@@ -12,7 +12,9 @@ use Rattle.rb_machine.specs.Runs.{IsNotTrapped}
 use Rattle.rb_machine.specs.declared.state.Frame.{Frame}
 use Rattle.rb_machine.specs.declared.state.State.{State}
 use Rattle.rb_machine.specs.declared.state.Flow.{Flow}
-use Rattle.rb_machine.specs.declared.state.Flow.TheVariants.{Goes, Ends}
+use Rattle.rb_machine.specs.declared.state.Flow.TheVariants.{Goes, Leaves, Ends}
+use Rattle.rb_machine.specs.declared.state.Leave.{Leave}
+use Rattle.rb_machine.specs.declared.state.Leave.TheVariants.{Calls, Returns}
 
 -- the slots that the call instruction there writes
 abbrev pub dests_in : Option Instr → List ℕ
@@ -97,13 +99,15 @@ pub record IsSound (funs : List CodeFun) (depth : ℕ) (s : State) : Type 0 wher
   -- so the count of switches never overflows
   pub bounded : s.switches + work funs s < 2 ^ 127
 
--- where an instruction leads
-abbrev pub flow_to : Flow → Next → List ℕ → World → Outcome
-flow_to (Goes t) next slots w = next t slots w
-flow_to (Ends e) next slots w = over e w
+-- where an instruction leads; one that leaves is still to come
+abbrev pub flow_to : Instr → Callee → ℕ → Flow → Next → List ℕ → World → Outcome
+flow_to i callee pc (Goes t) next slots w = next t slots w
+flow_to i callee pc (Leaves l) next slots w = act i next callee pc slots w
+flow_to i callee pc (Ends e) next slots w = over e w
 
 abbrev pub IsFlow : ℕ → ℕ → Flow → Type 0
 IsFlow long pc (Goes t) = IsTarget long pc t
+IsFlow long pc (Leaves l) = Unit {0}
 IsFlow long pc (Ends (Returned words left)) = ⊥
 IsFlow long pc (Ends e) = Unit {0}
 
@@ -113,10 +117,21 @@ MayRun m slots (Load d a offset width) = IsOk (load_of m (slice_index slots a) o
 MayRun m slots (Store a offset width v) = IsOk (store_of m (slice_index slots a) offset width (slice_index slots v)).0
 MayRun m slots i = Unit {0}
 
-abbrev pub IsCallOrReturn : Instr → Type 0
-IsCallOrReturn (Call f ds froms) = Unit {0}
-IsCallOrReturn (Return froms) = Unit {0}
-IsCallOrReturn i = ⊥
+-- another instruction comes after each but a return
+abbrev pub GoesOn : ℕ → ℕ → Instr → Type 0
+GoesOn long pc (Return froms) = pc < long
+GoesOn long pc i = pc + 1 < long
+
+-- the instruction is the call or the return that is told
+abbrev pub IsLeave : Option Instr → Leave → Type 0
+IsLeave o (Calls f froms) = (ds : List ℕ) × (o ≡ Some (Call f ds froms.now))
+IsLeave o (Returns froms) = o ≡ Some (Return froms.now)
+
+-- where an instruction leaves, it is told, and no switch is counted
+abbrev pub IsLeft : Instr → Flow → ℕ → ℕ → Type 0
+IsLeft i (Leaves l) old new = (new ≡ old) × IsLeave (Some i) l
+IsLeft i (Goes t) old new = Unit {0}
+IsLeft i (Ends e) old new = Unit {0}
 
 -- from the state s over the memory m so many instructions lead to s' over m'
 pub record Turned (funs : List CodeFun) (depth : ℕ) (s : State) (m : Memory) (s' : State) (m' : Memory) (count : ℕ) : Type 0 where
@@ -141,6 +156,8 @@ abbrev pub TurnGives : List CodeFun → ℕ → State → Memory → Option End 
 TurnGives funs depth s m None s' m' count = Turned funs depth s m s' m' count
 TurnGives funs depth s m (Some e) s' m' count = Ended funs depth s m e s' m' count
 
--- the current call stands at a call or a return
-abbrev pub Leaves : List CodeFun → State → Type 0
-Leaves funs s = (i : Instr) → slice_get (body_of funs s.fun) s.pc ≡ Some i → IsCallOrReturn i
+-- so many instructions, up to a call or a return, or to the end of the run
+abbrev pub StretchGives : List CodeFun → ℕ → State → Memory → Result Leave End → State → Memory → ℕ → Type 0
+StretchGives funs depth s m (Ok l) s' m' count =
+    Turned funs depth s m s' m' count × IsLeave (slice_get (body_of funs s'.fun) s'.pc) l
+StretchGives funs depth s m (Err e) s' m' count = Ended funs depth s m e s' m' count

@@ -46,14 +46,17 @@ pub fn run<M: ByteMemory, L: Ledger>(
     let funs = code.funs();
     let mut state = first_state(alloc, funs, fun, words, calls - 1)?;
     loop {
-        if let Some(end) = stretch_turn(funs, calls - 1, &mut state, memory, steps) {
-            return Ok(Ran {
-                end,
-                switches: state.switches,
-            });
-        }
+        let leave = match stretch_turn(funs, calls - 1, &mut state, memory, steps) {
+            Ok(leave) => leave,
+            Err(end) => {
+                return Ok(Ran {
+                    end,
+                    switches: state.switches,
+                });
+            }
+        };
         steps.tick();
-        if let Some(end) = turn(alloc, funs, calls - 1, &mut state)? {
+        if let Some(end) = turn(alloc, funs, calls - 1, &mut state, leave)? {
             return Ok(Ran {
                 end,
                 switches: state.switches,

@@ -25,16 +25,26 @@ pub struct State {
     pub results: Vec<u64>,
 }
 
-/// Where an instruction leads: to another of its function, or to the end of the run.
+/// An instruction that leaves its function: a call, with the number of the function that it calls and the
+/// slots of its words, or a return, with the slots of its words.
+#[derive(Clone, Copy)]
+pub enum Leave<'a> {
+    Calls(usize, &'a [usize]),
+    Returns(&'a [usize]),
+}
+
+/// Where an instruction leads: to another of its function, out of it, or to the end of the run. One that
+/// leads out is not begun.
 #[derive(Drop)]
-pub enum Flow {
+pub enum Flow<'a> {
     Goes(usize),
+    Leaves(Leave<'a>),
     Ends(End),
 }
 
 /// Where instructions of a call stop: at a call or a return, which is not begun, or at the end of the run.
 #[derive(Drop)]
-pub enum Stop {
-    At(usize),
+pub enum Stop<'a> {
+    At(usize, Leave<'a>),
     Ends(End),
 }

@@ -1,13 +1,13 @@
-//! One instruction that is no call and no return.
+//! One instruction.
 
 ghost use Rattle.std.specs.Prelude.{◌≡◌, ℕ, ◌<◌, ◌≤◌, ◌+◌, ◌^◌, false, length, IsOk, slice_set};
 ghost use Rattle.rb_bytes.specs.Memory.{IsWidth, load_of, store_of, place_of};
 ghost use Rattle.rb_target.specs.Meaning.{Next, Callee, act, target_of as the_target_of};
 ghost use Rattle.rb_target.specs.Validity.{IsFine};
-ghost use Rattle.rb_machine.specs.Turns.{IsFlow, flow_to, MayRun, IsCallOrReturn};
+ghost use Rattle.rb_machine.specs.Turns.{IsFlow, flow_to, MayRun, GoesOn, IsLeft};
 
 use crate::alu::{alu, low_bits};
-use crate::state::Flow;
+use crate::state::{Flow, Leave};
 use rb_bits::words::{put, take};
 use rb_bytes::fault::Trap;
 use rb_bytes::memory::ByteMemory;
@@ -15,27 +15,26 @@ use rb_target::code::CodeFun;
 use rb_target::instr::{Instr, SwitchArm};
 use rb_target::outcome::End;
 
-/// Runs one instruction. Its contract speaks of whatever goes on after it.
-pub fn step<M: ByteMemory>(
+/// Runs one instruction; a call or a return is only told. Its contract speaks of whatever goes on after it.
+pub fn step<'a, M: ByteMemory>(
     funs: &[CodeFun],
     fun: &CodeFun,
     pc: usize,
-    instr: &Instr,
+    instr: &'a Instr,
     slots: &mut [u64],
     memory: &mut M,
     switches: &mut u128,
-) -> Flow
-    requires goes_on { pc + 1 < length fun.now.body }
+) -> Flow<'a>
+    requires goes_on { GoesOn (length fun.now.body) pc instr.now }
     requires short { length fun.now.body < 2 ^ 64 }
     requires fine { IsFine funs.now fun.now pc instr.now }
-    requires simple { IsCallOrReturn instr.now → ⊥ }
     requires slots { length slots.old ≡ fun.now.slots }
     requires switches { switches.old < 2 ^ 127 }
     requires checks { M.CHECKS ≡ false → MayRun (M.memory memory.old) slots.old instr.now }
     ensures flow { (next : Next) (callee : Callee) (left taken : ℕ) →
         act instr.now next callee pc slots.old
         (record { left = left; memory = M.memory memory.old; switches = switches.old; taken = taken })
-        ≡ flow_to result next slots.new (record {
+        ≡ flow_to instr.now callee pc result next slots.new (record {
           left = left;
           memory = M.memory memory.new;
           switches = switches.new;
@@ -43,6 +42,7 @@ pub fn step<M: ByteMemory>(
         }) }
     ensures target { IsFlow (length fun.now.body) pc result }
     ensures switches { switches.new ≤ switches.old + 1 }
+    ensures leaves { IsLeft instr.now result switches.old switches.new }
 {
     match instr {
         Instr::Const(dest, number) => write(slots, *dest, *number, pc),
@@ -88,12 +88,13 @@ pub fn step<M: ByteMemory>(
                 None => Flow::Ends(End::Trapped(Trap::Unmatched(word))),
             }
         }
-        _ => unreachable!(),
+        Instr::Call(callee, _, froms) => Flow::Leaves(Leave::Calls(*callee, froms.as_slice())),
+        Instr::Return(froms) => Flow::Leaves(Leave::Returns(froms.as_slice())),
     }
 }
 
 // Puts a word into a slot, and goes on at the next instruction.
-fn write(slots: &mut [u64], dest: usize, word: u64, pc: usize) -> Flow
+fn write<'a>(slots: &mut [u64], dest: usize, word: u64, pc: usize) -> Flow<'a>
     requires dest { dest < length slots.old }
     requires room { pc + 1 < 2 ^ 64 }
     ensures written { slots.new ≡ slice_set slots.old dest word }

@@ -1,11 +1,10 @@
 //! A stretch: the instructions of one call up to where it calls another, returns, or ends the run.
 
-ghost use Rattle.std.specs.Prelude.{◌≡◌, ℕ, ◌<◌, ◌≤◌, ◌+◌, ◌-◌, ◌^◌, false, length, take, drop, MatchBool};
+ghost use Rattle.std.specs.Prelude.{◌≡◌, ℕ, ◌<◌, ◌≤◌, ◌+◌, ◌-◌, ◌^◌, false, length, take, drop};
 ghost use Rattle.rb_bytes.specs.Memory.{Memory};
 ghost use Rattle.rb_target.specs.Meaning.{Callee, from};
 ghost use Rattle.rb_target.specs.Validity.{IsValidFun};
 ghost use Rattle.rb_target.specs.Laws.{Law};
-ghost use Rattle.rb_machine.specs.Turns.{IsCallOrReturn};
 ghost use Rattle.rb_machine.specs.Stretches.{stop_to, IsStop, IsQuietFrom};
 
 use crate::state::{Flow, Stop};
@@ -13,29 +12,18 @@ use crate::step::step;
 use rb_bytes::memory::ByteMemory;
 use rb_edge::steps::{Ledger, Steps};
 use rb_target::code::CodeFun;
-use rb_target::instr::Instr;
-
-// Whether the instruction is a call or a return.
-fn leaves(instr: &Instr) -> bool
-    ensures { MatchBool result (IsCallOrReturn instr.now) (IsCallOrReturn instr.now → ⊥) }
-{
-    match instr {
-        Instr::Call(..) | Instr::Return(_) => true,
-        _ => false,
-    }
-}
 
 /// Runs a function from one of its instructions on, over its slots. One step is ticked for each instruction
 /// that is begun. Its contract speaks of whatever calls do.
-pub fn stretch<M: ByteMemory, L: Ledger>(
+pub fn stretch<'a, M: ByteMemory, L: Ledger>(
     funs: &[CodeFun],
-    fun: &CodeFun,
+    fun: &'a CodeFun,
     start: usize,
     slots: &mut [u64],
     memory: &mut M,
     switches: &mut u128,
     steps: &mut Steps<L>,
-) -> Stop
+) -> Stop<'a>
     requires valid { IsValidFun funs.now fun.now }
     requires laws { (callee : Callee) → Law fun.now.body callee (from fun.now.body callee) }
     requires inside { start < length fun.now.body }
@@ -59,28 +47,31 @@ pub fn stretch<M: ByteMemory, L: Ledger>(
     let mut pc = start;
     loop {
         let instr = &body[pc];
-        if leaves(instr) {
-            return Stop::At(pc);
-        }
-        steps.tick();
         match step(funs, fun, pc, instr, slots, memory, switches) {
-            Flow::Goes(next) => pc = next,
-            Flow::Ends(end) => return Stop::Ends(end),
+            Flow::Goes(next) => {
+                steps.tick();
+                pc = next;
+            }
+            Flow::Leaves(leave) => return Stop::At(pc, leave),
+            Flow::Ends(end) => {
+                steps.tick();
+                return Stop::Ends(end);
+            }
         }
     }
 }
 
 /// The same over a stack of words of which the function's slots are those from `base` on. The others stay.
-pub fn stretch_above<M: ByteMemory, L: Ledger>(
+pub fn stretch_above<'a, M: ByteMemory, L: Ledger>(
     funs: &[CodeFun],
-    fun: &CodeFun,
+    fun: &'a CodeFun,
     start: usize,
     stack: &mut [u64],
     base: usize,
     memory: &mut M,
     switches: &mut u128,
     steps: &mut Steps<L>,
-) -> Stop
+) -> Stop<'a>
     requires valid { IsValidFun funs.now fun.now }
     requires laws { (callee : Callee) → Law fun.now.body callee (from fun.now.body callee) }
     requires inside { start < length fun.now.body }

@@ -14,32 +14,32 @@ returns-then-calls-eq0 g c =
 
 pub stretch_turn-requires-clause-checks : goal.stretch_turn-requires-clause-checks
 stretch_turn-requires-clause-checks g c off =
-    (c.loop-end.steps.taken - c.args.steps.now.taken, subst (λ (o : Outcome). IsNotTrapped o.ended) c.loop-end.invariant.same (c.requires.checks off))
+    (c.loop-leave.steps.taken - c.args.steps.now.taken, subst (λ (o : Outcome). IsNotTrapped o.ended) c.loop-leave.invariant.same (c.requires.checks off))
 
-pub returns-in-Some-2 : goal.returns-in-Some-2
-returns-in-Some-2 g c =
+pub returns-in-Some : goal.returns-in-Some
+returns-in-Some g c =
     let m = g.M.ByteMemory.memory c.stretch_turn.new.memory in
-    let k = c.loop-end.steps.taken - c.args.steps.now.taken in
-    let count = c.stretch_turn.new.steps.taken - c.loop-end.steps.taken in
-    let ended = rw c.in-Some-2.is at c.in_ok-end.ensures in
-    let whole : run_of c.args.code.now c.args.calls c.args.fun c.args.words.now (g.M.ByteMemory.memory c.args.memory.now) ≡ over c.in-Some-2.end (world_of c.turn.new.state m (k + count + 1)) =
-    c.loop-end.invariant.same ∙ c.in_default.ensures.gives.same k ∙ ended m (k + count) in
-    rw whole (record { ended = refl; switches = refl; memory = refl; taken = omega (arith, c.tick.ensures.taken, c.loop-end.invariant.ticks, c.in_default.ensures.ticks) })
+    let k = c.loop-leave.steps.taken - c.args.steps.now.taken in
+    let count = c.stretch_turn.new.steps.taken - c.loop-leave.steps.taken in
+    let ended = rw c.in-Some.is at c.in_ok-end.ensures in
+    let whole : run_of c.args.code.now c.args.calls c.args.fun c.args.words.now (g.M.ByteMemory.memory c.args.memory.now) ≡ over c.in-Some.end (world_of c.turn.new.state m (k + count + 1)) =
+    c.loop-leave.invariant.same ∙ c.in-Ok.ensures.gives.0.same k ∙ ended m (k + count) in
+    rw whole (record { ended = refl; switches = refl; memory = refl; taken = omega (arith, c.tick.ensures.taken, c.loop-leave.invariant.ticks, c.in-Ok.ensures.ticks) })
 
-pub loop-end-smaller : goal.loop-end-smaller
-loop-end-smaller g c =
-    let turned = rw c.in_default-2.is at c.in_ok-end.ensures in
-    omega (arith, c.in_default.ensures.gives.less, (turned (g.M.ByteMemory.memory c.stretch_turn.new.memory)).less)
+pub loop-leave-smaller : goal.loop-leave-smaller
+loop-leave-smaller g c =
+    let turned = rw c.in_default.is at c.in_ok-end.ensures in
+    omega (arith, c.in-Ok.ensures.gives.0.less, (turned (g.M.ByteMemory.memory c.stretch_turn.new.memory)).less)
 
-pub loop-end-preserved : goal.loop-end-preserved
-loop-end-preserved g c =
+pub loop-leave-preserved : goal.loop-leave-preserved
+loop-leave-preserved g c =
     let m = g.M.ByteMemory.memory c.stretch_turn.new.memory in
-    let k = c.loop-end.steps.taken - c.args.steps.now.taken in
-    let count = c.stretch_turn.new.steps.taken - c.loop-end.steps.taken in
-    let turned = (rw c.in_default-2.is at c.in_ok-end.ensures) m in
-    let all : k + count + 1 ≡ c.tick.new.self.taken - c.args.steps.now.taken = omega (arith, c.tick.ensures.taken, c.loop-end.invariant.ticks, c.in_default.ensures.ticks) in
+    let k = c.loop-leave.steps.taken - c.args.steps.now.taken in
+    let count = c.stretch_turn.new.steps.taken - c.loop-leave.steps.taken in
+    let turned = (rw c.in_default.is at c.in_ok-end.ensures) m in
+    let all : k + count + 1 ≡ c.tick.new.self.taken - c.args.steps.now.taken = omega (arith, c.tick.ensures.taken, c.loop-leave.invariant.ticks, c.in-Ok.ensures.ticks) in
     record {
       sound = turned.sound;
-      ticks = omega (arith, c.tick.ensures.taken, c.loop-end.invariant.ticks, c.in_default.ensures.ticks);
-      same = c.loop-end.invariant.same ∙ c.in_default.ensures.gives.same k ∙ turned.same (k + count) ∙ ap (λ n. rest_of c.funs-funs.result.now (c.args.calls - 1) c.turn.new.state m n) all;
+      ticks = omega (arith, c.tick.ensures.taken, c.loop-leave.invariant.ticks, c.in-Ok.ensures.ticks);
+      same = c.loop-leave.invariant.same ∙ c.in-Ok.ensures.gives.0.same k ∙ turned.same (k + count) ∙ ap (λ n. rest_of c.funs-funs.result.now (c.args.calls - 1) c.turn.new.state m n) all;
     }

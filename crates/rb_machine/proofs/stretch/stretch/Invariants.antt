@@ -2,8 +2,8 @@ use Rattle.std.proofs.Common.{◌≡◌, ℕ, ◌+◌, ◌-◌, ◌<◌, ◌≤�
 use Rattle.rb_target.specs.Meaning.{Callee, from}
 use Rattle.rb_machine.proofs.stretch.stretch.Given as goal
 
-abbrev pub invariant-loop-body : goal.invariant-loop-body
-invariant-loop-body g l = record {
+abbrev pub invariant-loop-next : goal.invariant-loop-next
+invariant-loop-next g l = record {
   inside : l.pc < length l.fun.body;
   slots : length l.slots ≡ l.fun.slots;
   ticks : l.fn.steps.taken ≤ l.steps.taken;
@@ -14,5 +14,5 @@ invariant-loop-body g l = record {
       ≡ from l.fun.body callee l.pc l.slots (record { left = left; memory = g.M.ByteMemory.memory l.memory; switches = l.switches; taken = taken + (l.steps.taken - l.fn.steps.taken) });
 }
 
-abbrev pub decreases-loop-body : goal.decreases-loop-body
-decreases-loop-body g l = length l.fun.body - l.pc
+abbrev pub decreases-loop-next : goal.decreases-loop-next
+decreases-loop-next g l = length l.fun.body - l.pc

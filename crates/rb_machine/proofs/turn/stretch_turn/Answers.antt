@@ -8,7 +8,7 @@ use Rattle.rb_target.specs.Laws.{Law}
 use Rattle.rb_target.specs.declared.instr.Instr.{Instr}
 use Rattle.rb_machine.proofs.Quiet.{quiet_stretch}
 use Rattle.rb_machine.proofs.Turns.{stretch_turned, stretch_ended}
-use Rattle.rb_machine.specs.Turns.{waiting_slots, current_slots}
+use Rattle.rb_machine.specs.Turns.{IsLeave, waiting_slots, current_slots}
 use Rattle.rb_machine.specs.Stretches.{IsQuietFrom}
 use Rattle.rb_machine.specs.declared.state.State.{State}
 use Rattle.rb_machine.proofs.turn.stretch_turn.Goals as goal
@@ -78,15 +78,11 @@ returns-in-At-clause-gives g c =
     let keeps : length (drop s.base new) ≡ length (drop s.base now) = length-drop s.base new ∙ ap (λ n. n - s.base) c.stretch_above.auto.stack ∙ sym (length-drop s.base now) in
     let s' : State = record { fun = s.fun; pc = c.in-At.pc; base = s.base; stack = with_items s.stack new; left = s.left; frames = s.frames; switches = c.stretch_above.new.switches; results = s.results } in
     let stop = c.in-At.ensures.stop in
-    stretch_turned funs c.args.depth c.requires.valid c.requires.laws s s' (memory c.args.memory.now) (memory c.stretch_above.new.memory) c.in-At.pc (c.stretch_above.new.steps.taken - c.args.steps.now.taken) (drop s.base now) (drop s.base new) f known c.requires.sound stop.0 stop.1 stop.2
-    slots stack keeps refl refl refl refl refl refl c.in-At.ensures.same
-
-pub returns-in-At-clause-leaves : goal.returns-in-At-clause-leaves
-returns-in-At-clause-leaves g c none i is =
-    let s = c.args.state.now in
-    let funs = c.args.funs.now in
-    let known = slice_get_read funs (length funs) s.fun c.index-funs-state.result refl c.requires.sound.place.known c.index-funs-state.is in
-    c.in-At.ensures.stop.3 i (ap (λ (b : List Instr). slice_get b c.in-At.pc) (sym (ap body_in known)) ∙ is)
+    let leaves = subst (λ (b : List Instr). IsLeave (slice_get b c.in-At.pc) c.in-At.leave) (sym (ap body_in known)) stop.3 in (
+      stretch_turned funs c.args.depth c.requires.valid c.requires.laws s s' (memory c.args.memory.now) (memory c.stretch_above.new.memory) c.in-At.pc (c.stretch_above.new.steps.taken - c.args.steps.now.taken) (drop s.base now) (drop s.base new) f known c.requires.sound stop.0 stop.1 stop.2
+          slots stack keeps refl refl refl refl refl refl c.in-At.ensures.same,
+      leaves,
+    )
 
 pub returns-in-Ends-clause-gives : goal.returns-in-Ends-clause-gives
 returns-in-Ends-clause-gives g c =
