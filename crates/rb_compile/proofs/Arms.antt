@@ -5,6 +5,7 @@ use Rattle.std.proofs.lemmas.Option.{same_Some}
 use Rattle.std.specs.Prelude.{slice_get}
 use Rattle.rb_core.specs.declared.value.Value.{Value}
 use Rattle.rb_core.specs.declared.types.Ty.{Ty}
+use Rattle.rb_core.specs.declared.types.DataDecl.{DataDecl}
 use Rattle.rb_core.specs.declared.typing.Binder.{Binder}
 use Rattle.rb_core.specs.declared.binding.Binding.{Binding}
 use Rattle.rb_core.specs.declared.expression.Clause.{Clause}
@@ -12,7 +13,8 @@ use Rattle.rb_core.specs.Clauses.{wanted_of}
 use Rattle.rb_core.specs.Coverage.{sites}
 use Rattle.rb_core.specs.Inference.{binders}
 use Rattle.rb_core.specs.Matching.{bindings, matches_of}
-use Rattle.rb_core.specs.Meaning.{meaning_of}
+use Rattle.rb_core.specs.declared.pattern.Pat.{Pat}
+use Rattle.rb_core.specs.Meaning.{Calls, meaning_of}
 use Rattle.rb_core.specs.Typing.{type_of}
 use Rattle.rb_bytes.specs.Memory.{Memory, IsGood}
 use Rattle.rb_bytes.proofs.GrowthLemmas.{Grown-extends, Grown-refl}
@@ -21,12 +23,14 @@ use Rattle.rb_target.specs.Growth.{Keeps, Nowhere}
 use Rattle.rb_target.specs.Meaning.{slots_at}
 use Rattle.rb_target.specs.Sheet.{Sheet}
 use Rattle.rb_layout.specs.declared.agreed.LaidOut.{LaidOut}
+use Rattle.rb_layout.specs.declared.layout.Layout.{Layout}
 use Rattle.rb_fragment.specs.declared.held.Held.{Held}
 use Rattle.rb_fragment.specs.declared.held.Joined.{Joined}
 use Rattle.rb_fragment.specs.declared.held.Local.{Local}
 use Rattle.rb_fragment.specs.Plan.{Plan, Rep}
 use Rattle.rb_fragment.specs.Arms.{Arm, ArmsAre, ArmsIn, IsJoin, JoinedIs}
-use Rattle.rb_fragment.specs.Fragments.{Emits}
+use Rattle.rb_fragment.specs.Owing.{Does}
+use Rattle.rb_fragment.specs.Fragments.{Comes, Emits}
 use Rattle.rb_fragment.specs.Holding.{AreGiven, Holds, binder_in, scope_of}
 use Rattle.rb_fragment.specs.Pieces.{AtEnd, Piece}
 use Rattle.rb_fragment.specs.Slots.{IsOneOf}
@@ -41,17 +45,20 @@ use Rattle.rb_match.specs.Bounding.{binding_bound}
 use Rattle.rb_match.specs.Choosing.{Binds, BindsPattern}
 use Rattle.rb_compile.specs.inner.Ready.{SitesAreReady}
 use Rattle.rb_compile.specs.inner.Forms.{EmitsExpr, meant}
+use Rattle.rb_compile.specs.inner.Used.{Serves}
+use Rattle.rb_compile.proofs.Agreeing.{same_meaning, same_sites, same_typing}
 use Rattle.rb_compile.specs.inner.Arms.{ArmIsDone, ClauseIsReady, DoesClause, DoesNumber, EmitsArm, EmitsArms, GroundIsReady, IsShared, Reaches, shared_slots, wanted_in}
 
 -- One arm
 
 module _ (plan : Plan) (f : ℕ) (c : Clause) (wanted : Option Ty) (ls : List Local) (held : Held) (a b q d : Sheet) (bound : List Local) (hy : Held) (r : Joined) (s t : Ty) (n : ℕ)
-    (ground : GroundIsReady plan ls held s n a.slots) (B : Binds plan c.pat s held.slots a b bound)
+    (q1 : Pat) (served : Serves plan.program.types plan.layouts c.body c.pat q1 s)
+    (ground : GroundIsReady plan ls held s n a.slots) (B : Binds plan q1 s held.slots a b bound)
     (body : Emits plan (meant plan f c.body wanted (ls ++ bound)) (ls ++ bound) b q t hy.slots) where
   abbrev inner : List Local
   inner = ls ++ bound
 
-  scope : scope_of inner ≡ scope_of ls ++ binders plan.program.types c.pat s
+  scope : scope_of inner ≡ scope_of ls ++ binders plan.program.types q1 s
   scope = map-append binder_in ls bound ∙ ap (λ (k : List Binder). scope_of ls ++ k) B.scope
 
   -- a run of the arm: on clean words or not, with the values of its variables and of the scrutinee
@@ -62,11 +69,15 @@ module _ (plan : Plan) (f : ℕ) (c : Clause) (wanted : Option Ty) (ls : List Lo
   Before i sl m = IsGood m × (Rep plan m i.0 s i.2 (slots_at sl held.slots) × Holds plan i.0 sl m ls i.1)
 
   abbrev env_of : Case → List Binding
-  env_of i = i.1 ++ bindings c.pat i.2
+  env_of i = i.1 ++ bindings q1 i.2
 
   -- the switches that bind the pattern's variables
   abbrev own : ℕ
   own = binding_bound plan.program.types plan.layouts s c.pat
+
+  -- those that bind what the body uses
+  abbrev less_own : ℕ
+  less_own = binding_bound plan.program.types plan.layouts s q1
 
   bound_runs : (i : Case) → Piece plan n a b Nowhere own (Before i) (AtEnd b (λ sl m. Holds plan i.0 sl m inner (env_of i)))
   bound_runs i =
@@ -75,13 +86,14 @@ module _ (plan : Plan) (f : ℕ) (c : Clause) (wanted : Option Ty) (ls : List Lo
       let v = i.2 in
       let F = λ (sl : List ℕ) (m : Memory). IsGood m × Holds plan clean sl m ls env in
       let Pre = λ (sl : List ℕ) (m : Memory). IsGood m × Rep plan m clean s v (slots_at sl held.slots) in
-      let Post = λ (sl : List ℕ) (m : Memory). Holds plan clean sl m bound (bindings c.pat v) in
+      let Post = λ (sl : List ℕ) (m : Memory). Holds plan clean sl m bound (bindings q1 v) in
       let given = AreGiven-more plan n a.slots ls ground.low ground.given in
       let stays : (sl sl' : List ℕ) (m : Memory) → Keeps a.slots sl sl' → F sl m → F sl' m = λ sl sl' m keeps h.
       (h.0, Holds-kept plan clean m m (Grown-extends m m [] m.next h.0 (Grown-refl m h.0)) a.slots sl sl' keeps ls env given h.1) in
-      let framed = piece_frame plan a.slots a b Nowhere own F Pre (AtEnd b Post) stays (B.runs clean v i.3) in
-      piece_weaken plan a.slots n a b Nowhere own own (λ sl m. F sl m × Pre sl m) (Before i) (λ pc sl m. F sl m × AtEnd b Post pc sl m) (AtEnd b (λ sl m. Holds plan clean sl m inner (env_of i)))
-      ground.low (omega arith) (λ sl m x. ((x.0, x.1.1), (x.0, x.1.0))) (λ pc sl m x. (x.1.0, Holds-append plan clean sl m ls bound env (bindings c.pat v) x.0.1 x.1.1)) framed
+      let less = served.few in
+      let framed = piece_frame plan a.slots a b Nowhere less_own F Pre (AtEnd b Post) stays (B.runs clean v (served.matches v i.3)) in
+      piece_weaken plan a.slots n a b Nowhere less_own own (λ sl m. F sl m × Pre sl m) (Before i) (λ pc sl m. F sl m × AtEnd b Post pc sl m) (AtEnd b (λ sl m. Holds plan clean sl m inner (env_of i)))
+      ground.low (omega (arith, less)) (λ sl m x. ((x.0, x.1.1), (x.0, x.1.0))) (λ pc sl m x. (x.1.0, Holds-append plan clean sl m ls bound env (bindings q1 v) x.0.1 x.1.1)) framed
 
   outside : (x : ℕ) → IsOneOf x hy.slots → (x < n) ⊎ (a.slots ≤ x)
   outside x i = elim (body.origin x i) [
@@ -103,11 +115,19 @@ module _ (plan : Plan) (f : ℕ) (c : Clause) (wanted : Option Ty) (ls : List Lo
     adds = x.adds;
     does = λ calls clean env v matches.
         let k = x.does calls (clean, env, v, matches) in
-        subst (λ sc. Arm plan clean calls n a d r.join.pc own (λ sl m. Rep plan m clean s v (slots_at sl held.slots) × Holds plan clean sl m ls env) (λ left. meaning_of plan.program calls f c.body wanted sc left (env ++ bindings c.pat v)) t r.into.slots) scope (record {
+        record {
           adds = k.adds;
-          runs = λ final callee next law rel agrees sl w long good pre. k.runs final callee next law rel agrees sl w long good (good, pre);
-        });
+          runs = λ final callee next law rel agrees sl w long good pre.
+              subst (λ o. Does plan (w.switches + own) (next (length a.code) sl w) w.memory o (Comes plan clean (next (length a.code) sl w) next r.join.pc n t r.into.slots sl)) (means calls env v w.left)
+              (k.runs final callee next law rel agrees sl w long good (good, pre));
+        };
   }
+    where
+      -- within what is bound the body means what it means within all of the pattern
+      means : (calls : Calls) (env : List Binding) (v : Value) (left : ℕ) → meaning_of plan.program calls f c.body wanted (scope_of inner) left (env ++ bindings q1 v)
+          ≡ meaning_of plan.program calls f c.body wanted (scope_of ls ++ binders plan.program.types c.pat s) left (env ++ bindings c.pat v)
+      means calls env v left = ap (λ sc. meaning_of plan.program calls f c.body wanted sc left (env ++ bindings q1 v)) scope
+          ∙ sym (same_meaning plan.program calls f c.body wanted (scope_of ls ++ binders plan.program.types c.pat s) (scope_of ls ++ binders plan.program.types q1 s) left (env ++ bindings c.pat v) (env ++ bindings q1 v) (served.scopes (scope_of ls)) (served.values env v))
 
   done : hy.ty ≡ t → (o : Option Held) → JoinedIs o hy q d r → IsShared plan n a.slots t o → ArmIsDone plan f c wanted ls s t held.slots n o a d r
   done same None j shared =
@@ -117,22 +137,23 @@ module _ (plan : Plan) (f : ℕ) (c : Clause) (wanted : Option Ty) (ls : List Lo
       let x = arm_later plan t n a b q d inner hy r (meant plan f c.body wanted inner) own ground.low B.adds body outside Case (λ i. i.0) env_of Before bound_runs h shared.1 j in
       record { shared = (ap (λ (k : Held). k.ty) j.shared ∙ shared.0, x.shared); same = λ k e. j.shared ∙ same_Some h k e; clause = clause_of x }
 
-pub arm_emits : (agreed : LaidOut) (plan : Plan) (f : ℕ) (c : Clause) (wanted : Option Ty) (ls : List Local) (held : Held) (a b q d : Sheet) (bound : List Local) (hy : Held) (r : Joined) (into : Option Held) → IsPlanOf agreed plan
-    → BindsPattern agreed held.ty c.pat held.slots a b bound → EmitsExpr plan f c.body wanted (ls ++ bound) b q hy → JoinedIs into hy q d r → EmitsArm plan f c wanted ls held into a d r
-arm_emits agreed plan f c wanted ls held a b q d bound hy r into of_agreed binds body joined = λ s t n ready ground shared.
+pub arm_emits : (agreed : LaidOut) (plan : Plan) (f : ℕ) (c : Clause) (wanted : Option Ty) (ls : List Local) (held : Held) (a b q d : Sheet) (bound : List Local) (hy : Held) (r : Joined) (into : Option Held) → IsPlanOf agreed plan → (q1 : Pat) → ((types : List DataDecl) (layouts : List Layout) (s : Ty) → Serves types layouts c.body c.pat q1 s)
+    → BindsPattern agreed held.ty q1 held.slots a b bound → EmitsExpr plan f c.body wanted (ls ++ bound) b q hy → JoinedIs into hy q d r → EmitsArm plan f c wanted ls held into a d r
+arm_emits agreed plan f c wanted ls held a b q d bound hy r into of_agreed q1 serve binds body joined = λ s t n ready ground shared.
+    let served = serve plan.program.types plan.layouts s in
     let types = plan.program.types in let funs = plan.program.funs in
-    let B = subst (λ u. BindsPattern agreed u c.pat held.slots a b bound) ground.subject.0 binds plan of_agreed ready.pattern (AllBelow-more n a.slots held.slots ground.low ground.subject.1) ground.subject.2 in
-    let sc : scope_of (ls ++ bound) ≡ scope_of ls ++ binders types c.pat s = map-append binder_in ls bound ∙ ap (λ (k : List Binder). scope_of ls ++ k) B.scope in
+    let B = subst (λ u. BindsPattern agreed u q1 held.slots a b bound) ground.subject.0 binds plan of_agreed (AllBelow-more n a.slots held.slots ground.low ground.subject.1) ground.subject.2 in
+    let sc : scope_of (ls ++ bound) ≡ scope_of ls ++ binders types q1 s = map-append binder_in ls bound ∙ ap (λ (k : List Binder). scope_of ls ++ k) B.scope in
     let given1 : AreGiven plan b.slots (ls ++ bound) = AreGiven-append plan b.slots ls bound (AreGiven-more plan n b.slots ls (omega (arith, ground.low, B.adds.more)) ground.given) B.given in
     let E = body t (record {
       sound = ready.sound;
-      typed = subst (λ k. type_of types funs c.body wanted k ≡ Ok t) (sym sc) ready.typed;
+      typed = ap (type_of types funs c.body wanted) sc ∙ sym (same_typing types funs c.body wanted (scope_of ls ++ binders types c.pat s) (scope_of ls ++ binders types q1 s) (served.scopes (scope_of ls))) ∙ ready.typed;
       within = ready.within;
       numbered = ready.numbered;
       given = given1;
-      ready_sites = subst (λ k. SitesAreReady plan f (sites types funs c.body k)) (sym sc) ready.ready_sites;
+      ready_sites = subst (λ k. SitesAreReady plan f k) (same_sites types funs c.body (scope_of ls ++ binders types c.pat s) (scope_of ls ++ binders types q1 s) (served.scopes (scope_of ls)) ∙ ap (sites types funs c.body) (sym sc)) ready.ready_sites;
     }) in
-    done plan f c wanted ls held a b q d bound hy r s t n ground B E.1 E.0 into joined shared
+    done plan f c wanted ls held a b q d bound hy r s t n q1 served ground B E.1 E.0 into joined shared
 
 -- No arm, and one more
 

@@ -9,3 +9,7 @@ mod Choices
 mod Accepted
 mod Whole
 mod Refined
+mod Agreeing
+mod Pruning
+mod Marking
+mod Served

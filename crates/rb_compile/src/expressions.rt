@@ -14,6 +14,7 @@ use crate::atoms::{
 };
 use crate::matches::{Arms, extend, next_wanted, patterns};
 use crate::signatures::{field_types, function_at, param_types};
+use crate::used::used_pattern;
 use rb_build::build::emit_build;
 use rb_core::expression::{Clause, Expr, Op};
 use rb_core::seq::Seq;
@@ -287,7 +288,7 @@ fn emit_arms(
     })
 }
 
-// One arm: its pattern's variables, its body, and its value where all arms leave theirs.
+// One arm: the variables of its pattern that its body uses, its body, and its value where all arms leave theirs.
 #[cycle(emit)]
 fn emit_arm(
     alloc: Global,
@@ -306,7 +307,8 @@ fn emit_arm(
     ensures locals { OnOk result (locals.new ≡ locals.old) }
 {
     let words = subject.slots.as_slice();
-    let bound = bind(alloc, body, agreed, subject.ty, words, &clause.pat)?;
+    let pat = used_pattern(alloc, &clause.pat, &clause.body)?;
+    let bound = bind(alloc, body, agreed, subject.ty, words, &pat)?;
     let depth = locals.len();
     extend(locals, bound)?;
     let held = emit_expr(alloc, agreed, body, locals, &clause.body, wanted)?;

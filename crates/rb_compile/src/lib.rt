@@ -33,6 +33,9 @@
 //! arms share, and ends in an open jump. When all arms stand, the holes are set to where the arms begin, and
 //! the jumps to behind the last. So code only ever grows at its end, and no target is known too early.
 //!
+//! An arm binds what its body uses: [`used`] leaves out of the pattern the variables that don't stand in the body, and
+//! the constructors that bind nothing then. Within fewer variables the body means the same.
+//!
 //! What is promised of an expression's code stands behind all that is known of the expression: that it has a
 //! type, that its numbers name something, that its matches are exhaustive and paid for, that its variables
 //! have slots (`IsReady`). So the functions that call one another here ask for nothing, and a program whose
@@ -45,3 +48,4 @@ mod functions;
 mod matches;
 pub mod programs;
 mod signatures;
+mod used;

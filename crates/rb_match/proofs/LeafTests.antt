@@ -43,7 +43,7 @@ use Rattle.rb_match.proofs.Edges.{same-nat, hole_at, in_tail, open_edge}
 use Rattle.rb_match.proofs.Following.{carried_known, known-kept, snoc-at}
 use Rattle.rb_match.proofs.NumberTests.{Keeps-less}
 
-both : (a b : Bool) → (a && b) ≡ true → (a ≡ true) × (b ≡ true)
+pub both : (a b : Bool) → (a && b) ≡ true → (a ≡ true) × (b ≡ true)
 both true true e = (refl, refl)
 both true false e = absurd cc
 both false b e = absurd cc
@@ -69,7 +69,7 @@ head_same : (h : Head) (c : ℕ) (us : List Value) → layer_begins h (V.Con c u
 head_same (H.Num n) c us = refl
 head_same (H.Con d) c us = refl
 
-link_same : (arms : List GraphArm) (other : Option ℕ) (c : ℕ) (us : List Value) → take_link arms other (V.Con c us) ≡ take_link arms other (V.Con c [])
+pub link_same : (arms : List GraphArm) (other : Option ℕ) (c : ℕ) (us : List Value) → take_link arms other (V.Con c us) ≡ take_link arms other (V.Con c [])
 link_same [] other c us = refl
 link_same (a ∷ arms) other c us =
     ap (λ u. if u then Some a.under else take_link arms other (V.Con c us)) (head_same a.head c us) ∙ ap (λ r. if layer_begins a.head (V.Con c []) then Some a.under else r) (link_same arms other c us)

@@ -18,4 +18,5 @@ mod SavedBindings
 mod SavedParts
 pub mod Sharing
 mod Testing
+mod Threads
 mod Together

@@ -37,7 +37,9 @@ use Rattle.rb_match.specs.inner.Flowing.{landing_of, others_of, job_of, Flows, S
 use Rattle.rb_match.proofs.Edges.{edge_append, edge_open, other_from, holes_from, patchable_from}
 use Rattle.rb_match.proofs.Landing.{landing_hole, landing_target, land_flows}
 use Rattle.rb_match.proofs.Passing.{begins_on, ends_on}
+use Rattle.rb_match.specs.inner.Threading.{Threads}
 use Rattle.rb_match.proofs.Testing.{test_flows, root_flows}
+use Rattle.rb_match.proofs.Threads.{thread_append, thread_flows, thread_refl}
 
 -- from reads of the part to reads of the whole value
 pub asks_of : (agreed : LaidOut) (ty : Ty) (words : List Read) (pats : List Pat) (spots : List Spot) (known : List Known) (position : List ℕ) (arms : List GraphArm) (other : Option ℕ) (old new : Sheet) (edges : List Edge) (place : Place)
@@ -80,22 +82,25 @@ closed_grows first b hs ts g low = record {
   same = λ pc lt. at_closed b hs ts pc ∙ retarget_none pc hs ts _ (λ h. let r = has_in pc hs h in let l = low r.0 r.1 in omega (arith, l, r.2, lt)) ∙ g.same pc lt;
 }
 
-module _ (agreed : LaidOut) (ty : Ty) (words : List Read) (pats : List Pat) (spots : List Spot) (position : List ℕ) (arms : List GraphArm) (other : Option ℕ) (n : ℕ) (old : Sheet) (edges : List Edge) where
+module _ (agreed : LaidOut) (ty : Ty) (words : List Read) (pats : List Pat) (spots : List Spot) (nodes : List GraphNode) (position : List ℕ) (arms : List GraphArm) (other : Option ℕ) (n : ℕ) (old : Sheet) (edges : List Edge) where
   abbrev node : GraphNode
   node = Test position arms other
 
   -- a node that stays: nothing is done
-  pub stays_node : (node : GraphNode) → StepsNode agreed ty words pats spots node n old edges old edges
-  stays_node node = record { stands = λ first st. st; flows = λ plan base nodes root first fine at st f. f }
+  pub stays_node : (node : GraphNode) → StepsNode agreed ty words pats spots nodes node n old edges old edges
+  stays_node node = record { stands = λ first st. st; flows = λ plan base root first fine at st f. f }
 
-  module _ (known : List Known) (common : IsCommon edges n (Some known)) (new : Sheet) (asked : List Edge) where
+  module _ (known : List Known) (common : IsCommon edges n (Some known)) (new : Sheet) (asked onward : List Edge) where
     abbrev b : Sheet
     b = closed old (landing_of n edges) (length old.code ∷ [])
 
     abbrev rest : List Edge
     rest = others_of n edges
 
-    module _ (asks : Asks agreed ty words pats spots known position arms other b new asked) (stand : StandOpen b new asked) (grows : Grows b.code new.code) where
+    module _ (asks : Asks agreed ty words pats spots known position arms other b new asked) (asked_stand : StandOpen b new asked) (threads : Threads agreed ty pats nodes asked onward) (grows : Grows b.code new.code) where
+      stand : StandOpen b new onward
+      stand = threads.stand b new asked_stand
+
       module _ (first : Sheet) (st : Stands first old edges) where
         from_low : Grows first.code b.code
         from_low = closed_grows first old (landing_of n edges) (length old.code ∷ []) st.grows (λ h i. (landing_hole old edges n (length first.code) st.stand.are_open h i).0)
@@ -112,44 +117,47 @@ module _ (agreed : LaidOut) (ty : Ty) (words : List Read) (pats : List Pat) (spo
         keeps_hole : (e : Edge) → IsEdge e rest → IsHole new.code e.hole
         keeps_hole e i = subst (λ o. IsHoleIn o e.hole.arm) (sym (grows.same e.hole.pc (below e i))) (before e i).1
 
-        all_stand : Stands first new (rest ++ asked)
+        all_stand : Stands first new (rest ++ onward)
         all_stand = record {
           grows = Grows-trans _ _ _ from_low grows;
           stand = record {
-            are_open = λ e i. elim (edge_append rest asked e i) [
+            are_open = λ e i. elim (edge_append rest onward e i) [
               | inl j ↦ ((before e j).0, keeps_hole e j)
               | inr j ↦ (let s = stand.are_open e j in (omega (arith, s.0, from_low.longer), s.1))
             ];
-            one = λ e f i j p s. both e f (edge_append rest asked e i) (edge_append rest asked f j) p s;
+            one = λ e f i j p s. both e f (edge_append rest onward e i) (edge_append rest onward f j) p s;
           };
         }
           where
-            both : (e f : Edge) → IsEdge e rest ⊎ IsEdge e asked → IsEdge f rest ⊎ IsEdge f asked → e.hole.pc ≡ f.hole.pc → e.hole.arm ≡ f.hole.arm → e.hole.leaf ≡ f.hole.leaf
+            both : (e f : Edge) → IsEdge e rest ⊎ IsEdge e onward → IsEdge f rest ⊎ IsEdge f onward → e.hole.pc ≡ f.hole.pc → e.hole.arm ≡ f.hole.arm → e.hole.leaf ≡ f.hole.leaf
             both e f (inl i) (inl j) p s = st.stand.one e f (other_from n edges e i).0 (other_from n edges f j).0 p s
             both e f (inl i) (inr j) p s = absurd (let a = below e i in let c = stand.are_open f j in omega (arith, a, c.0, p))
             both e f (inr i) (inl j) p s = absurd (let a = below f j in let c = stand.are_open e i in omega (arith, a, c.0, p))
             both e f (inr i) (inr j) p s = stand.one e f i j p s
 
-      pub steps_node : StepsNode agreed ty words pats spots node n old edges new (rest ++ asked)
+      pub steps_node : StepsNode agreed ty words pats spots nodes node n old edges new (rest ++ onward)
       steps_node = record {
         stands = λ first st. all_stand first st;
-        flows = λ plan base nodes root first fine at st f.
+        flows = λ plan base root first fine at st f.
             let job = job_of plan base spots ty words pats nodes root first in
             let h = land_flows job old edges n known f st common in
             let low = fine.spots.low in
             let more = h.adds.more in
-            test_flows job b new rest asked known n position arms other fine.lower (fine.fit base (omega arith)) at h (before first st) (asks plan base fine.of (spots-more plan base first.slots b.slots spots more fine.spots) (fine.fit b.slots (omega (arith, low, more))) fine.count) stand;
+            let f1 = test_flows job b new rest asked known n position arms other fine.lower (fine.fit base (omega arith)) at h (before first st) (asks plan base fine.of (spots-more plan base first.slots b.slots spots more fine.spots) (fine.fit b.slots (omega (arith, low, more))) fine.count) asked_stand in
+            thread_flows agreed ty pats nodes plan base spots words root first new (rest ++ asked) (rest ++ onward) fine.of fine.lower (thread_append agreed ty pats nodes rest rest asked onward (thread_refl agreed ty pats nodes rest) threads.threaded) f1;
       }
 
 -- the root
-pub begins_test : (agreed : LaidOut) (ty : Ty) (words : List Read) (pats : List Pat) (spots : List Spot) (nodes : List GraphNode) (root : ℕ) (position : List ℕ) (arms : List GraphArm) (other : Option ℕ) (old new : Sheet) (edges : List Edge)
-    → slice_get nodes root ≡ Some (Test position arms other) → Asks agreed ty words pats spots [] position arms other old new edges → StandOpen old new edges → Grows old.code new.code → Begins agreed ty words pats spots nodes root old new edges
-begins_test agreed ty words pats spots nodes root position arms other old new edges at asks stand grows = record {
-  stands = record { grows = grows; stand = stand };
+pub begins_test : (agreed : LaidOut) (ty : Ty) (words : List Read) (pats : List Pat) (spots : List Spot) (nodes : List GraphNode) (root : ℕ) (position : List ℕ) (arms : List GraphArm) (other : Option ℕ) (old new : Sheet) (edges onward : List Edge)
+    → slice_get nodes root ≡ Some (Test position arms other) → Asks agreed ty words pats spots [] position arms other old new edges → StandOpen old new edges → Threads agreed ty pats nodes edges onward → Grows old.code new.code
+    → Begins agreed ty words pats spots nodes root old new onward
+begins_test agreed ty words pats spots nodes root position arms other old new edges onward at asks stand threads grows = record {
+  stands = record { grows = grows; stand = threads.stand old new stand };
   flows = λ plan base fine.
       let job = job_of plan base spots ty words pats nodes root old in
       let low = fine.spots.low in
-      test_flows job old new [] edges [] root position arms other fine.lower (fine.fit base (omega arith)) at (root_flows job) (λ e i. absurd (let z = i.1 in cc)) (asks plan base fine.of fine.spots (fine.fit old.slots low) fine.count) stand;
+      let f = test_flows job old new [] edges [] root position arms other fine.lower (fine.fit base (omega arith)) at (root_flows job) (λ e i. absurd (let z = i.1 in cc)) (asks plan base fine.of fine.spots (fine.fit old.slots low) fine.count) stand in
+      thread_flows agreed ty pats nodes plan base spots words root old new edges onward fine.of fine.lower threads.threaded f;
 }
 
 pub begins_jump : (agreed : LaidOut) (ty : Ty) (words : List Read) (pats : List Pat) (spots : List Spot) (nodes : List GraphNode) (root : ℕ) (old : Sheet) → Begins agreed ty words pats spots nodes root old (pushed old (Jump (length old.code + 1))) (edge_at (length old.code) None root [] ∷ [])

@@ -35,7 +35,7 @@ meant-kept n s s' m k [] (w ∷ ws) fit h = h
 meant-kept n s s' m k (r ∷ rs) [] fit h = h
 meant-kept n s s' m k (r ∷ rs) (w ∷ ws) fit h = (mean-kept n s s' m k r fit.0 ∙ h.0, meant-kept n s s' m k rs ws fit.1 h.1)
 
-looks-snoc : (plan : Plan) (path : List Place) (p : Place) → looks plan (path ++ p ∷ []) ≡ looks plan path + choosing_look plan.layouts p.ty
+pub looks-snoc : (plan : Plan) (path : List Place) (p : Place) → looks plan (path ++ p ∷ []) ≡ looks plan path + choosing_look plan.layouts p.ty
 looks-snoc plan [] p = omega arith
 looks-snoc plan (x ∷ path) p = let h = looks-snoc plan path p in omega (arith, h)
 

@@ -61,5 +61,5 @@ pub record Binds (plan : Plan) (pat : Pat) (t : Ty) (words : List ℕ) (old new 
 -- run on words of a value that the pattern matches, the appended code binds the pattern's variables
 abbrev pub BindsPattern : LaidOut → Ty → Pat → List ℕ → Sheet → Sheet → List Local → Type 0
 BindsPattern agreed t pat words old new bound =
-    (plan : Plan) → IsPlanOf agreed plan → PatternIsTyped plan.program.types t pat
-    → AllBelow old.slots words → length words ≡ words_of plan t → Binds plan pat t words old new bound
+    (plan : Plan) → IsPlanOf agreed plan → AllBelow old.slots words → length words ≡ words_of plan t
+    → Binds plan pat t words old new bound

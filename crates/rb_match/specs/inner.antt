@@ -6,4 +6,5 @@ pub mod Knowing
 pub mod Opening
 pub mod Places
 pub mod Saving
+pub mod Threading
 pub mod Trees

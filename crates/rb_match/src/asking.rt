@@ -10,7 +10,7 @@ ghost use Rattle.rb_match.specs.inner.Asking.{number_arm, number_arms, is_number
 use crate::deep::ask_deep;
 use crate::knowledge::{Edge, Known, Spot, copy_known, with_known};
 use crate::place::{is_looked_at, place_of};
-use crate::spots::has_spot_below;
+use crate::spots::{Whole, has_spot_below};
 use rb_core::pattern::Pat;
 use rb_core::seq::Seq;
 use rb_core::types::Ty;
@@ -373,8 +373,9 @@ pub fn ask<'a>(
         }
         Ty::Named(t) => {
             if has_spot_below(spots, position) {
+                let graph = Whole { ty, pats, nodes };
                 let edges = ask_deep(
-                    alloc, body, agreed, t, reads, spots, known, position, arms, other,
+                    alloc, body, agreed, &graph, t, reads, spots, known, position, arms, other,
                 )?;
                 Ok(edges)
             } else {

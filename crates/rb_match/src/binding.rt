@@ -17,7 +17,7 @@ use crate::engine::land;
 use crate::knowledge::{Known, Spot, node_known, saved_known};
 use crate::place::fields_of;
 use crate::saving::{fetch_part, spot_at};
-use crate::spots::{Wanted, field_below, give_spots, is_deep};
+use crate::spots::{Wanted, Whole, field_below, give_spots, is_deep};
 use rb_core::pattern::Pat;
 use rb_core::seq::Seq;
 use rb_core::types::{ConRef, Ty};
@@ -190,7 +190,24 @@ fn save_together(
     }];
     let ty = con.ty;
     let reads = reads.as_slice();
-    let edges = ask_deep(alloc, body, agreed, ty, reads, spots, &[], &[], &arms, None)?;
+    let graph = Whole {
+        ty: Ty::Named(ty),
+        pats: &[],
+        nodes: &[],
+    };
+    let edges = ask_deep(
+        alloc,
+        body,
+        agreed,
+        &graph,
+        ty,
+        reads,
+        spots,
+        &[],
+        &[],
+        &arms,
+        None,
+    )?;
     let Some(known) = node_known(alloc, edges.as_slice(), 0)? else {
         return Err(AllocError);
     };

@@ -12,6 +12,8 @@ use crate::asking::{con_of, count_leaves, edge, link_of};
 use crate::clauses::holes_of;
 use crate::knowledge::{Edge, Known, Spot, with_known};
 use crate::saving::save_fields;
+use crate::spots::{Whole, wanted_spots};
+use crate::threading::node_onward;
 use rb_core::seq::Seq;
 use rb_core::types::ConRef;
 use rb_decide::decision_graph::GraphArm;
@@ -36,12 +38,13 @@ fn land_leaf(alloc: Global, body: &mut Body, holes: &[Hole], leaf: usize) -> Res
     Ok(())
 }
 
-// The way of one leaf: its fields are saved, and it goes on by an open jump. A leaf of a constructor that
-// can't be here has none.
+// The way of one leaf: what other tests need of its fields is saved, and it goes on by an open jump. A leaf of a
+// constructor that can't be here has none.
 fn open_way<'a>(
     alloc: Global,
     body: &mut Body,
     agreed: &Agreed,
+    graph: &Whole,
     ty: u32,
     words: &[usize],
     spots: &[Spot],
@@ -67,8 +70,18 @@ fn open_way<'a>(
     land_leaf(alloc, body, holes, leaf)?;
     let known = with_known(alloc, known, *position, ty, leaf)?;
     let con = ConRef { ty, con };
+    let onward = node_onward(
+        agreed,
+        graph.ty,
+        graph.pats,
+        graph.nodes,
+        known.as_slice(),
+        node as usize,
+    );
+    let wanted = wanted_spots(alloc, spots, graph.nodes, onward)?;
+    let wanted = wanted.as_slice();
     let known = save_fields(
-        alloc, body, agreed, con, leaf, words, spots, *position, known,
+        alloc, body, agreed, con, leaf, words, spots, wanted, *position, known,
     )?;
     let pc = body.len();
     body.push(Instr::Jump(pc + 1))?;
@@ -81,6 +94,7 @@ fn open_ways<'a>(
     alloc: Global,
     body: &mut Body,
     agreed: &Agreed,
+    graph: &Whole,
     ty: u32,
     words: &[usize],
     spots: &[Spot],
@@ -99,14 +113,15 @@ fn open_ways<'a>(
     let mut edges = Seq::new(alloc);
     for leaf in 0..count_leaves(agreed, ty) {
         edges = open_way(
-            alloc, body, agreed, ty, words, spots, known, position, arms, other, holes, leaf, edges,
+            alloc, body, agreed, graph, ty, words, spots, known, position, arms, other, holes,
+            leaf, edges,
         )?;
     }
     Ok(edges)
 }
 
-/// Code of a test of a data type at a position of a value, which saves the fields of the part there that
-/// have spots: it leaves by an edge to the node of the arm that is taken, which carries what is known there.
+/// Code of a test of a data type at a position of a value, which saves those fields of the part there that
+/// have spots and are tested later: it leaves by an edge to the node of the arm that is taken, which carries what is known there.
 ///
 /// # Errors
 /// `AllocError` where memory is wanting.
@@ -114,6 +129,7 @@ pub fn ask_deep<'a>(
     alloc: Global,
     body: &mut Body,
     agreed: &Agreed,
+    graph: &Whole,
     ty: u32,
     reads: &[Read],
     spots: &[Spot],
@@ -132,6 +148,7 @@ pub fn ask_deep<'a>(
         alloc,
         body,
         agreed,
+        graph,
         ty,
         words.as_slice(),
         spots,

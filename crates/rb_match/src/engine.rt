@@ -8,6 +8,7 @@ ghost use Rattle.rb_match.specs.inner.Flowing.{landing_of, others_of, StepsNode,
 
 use crate::asking::{ask, edge};
 use crate::knowledge::{Edge, Spot, node_known};
+use crate::threading::thread;
 use rb_core::pattern::Pat;
 use rb_core::seq::Seq;
 use rb_core::types::Ty;
@@ -78,8 +79,8 @@ fn emit_node<'a>(
     edges: Seq<Edge<'a>>,
 ) -> Result<Seq<Edge<'a>>, AllocError>
     requires { AreOpen 0 body.old.code edges }
-    ensures { IfOk result (λ more. StepsNode agreed.now ty words.now pats.now spots.now node.now number body.old
-        edges.entry body.new more) }
+    ensures { IfOk result (λ more. StepsNode agreed.now ty words.now pats.now spots.now nodes.now node.now number
+        body.old edges.entry body.new more) }
 {
     match node {
         GraphNode::Clause(_) => Ok(edges),
@@ -94,7 +95,8 @@ fn emit_node<'a>(
             let asked = ask(
                 alloc, body, agreed, ty, words, pats, spots, nodes, known, position, arms, *other,
             )?;
-            match rest.append(asked) {
+            let onward = thread(alloc, agreed, ty, pats, nodes, asked)?;
+            match rest.append(onward) {
                 None => Ok(rest),
                 Some(_) => Err(AllocError),
             }
@@ -138,7 +140,8 @@ fn begin<'a>(
                 arms,
                 *other,
             )?;
-            Ok(edges)
+            let onward = thread(alloc, agreed, ty, pats, nodes, edges)?;
+            Ok(onward)
         }
         GraphNode::Clause(_) => {
             let pc = body.len();

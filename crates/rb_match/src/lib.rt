@@ -34,15 +34,16 @@
 //! }
 //! ```
 //!
-//! No bits hold the first field here: the leaf says which constructor it is, and it is rebuilt as a K where
-//! it is wanted. And a node behind both leaves can't read the second field from either alone. So a look at
-//! a part of such a type *saves* what later tests need ([`deep`]). Before the first node each field at which
-//! some pattern looks is given a *spot*: slots of its own, the same ones whichever leaf it comes from
-//! ([`spots`]). The look finds the leaf; on the way of leaf 0 the field `.0`, which is A there, is rebuilt and copied into
-//! its spot, `.1` is taken and copied into the other one, and an open jump leads on ([`saving`]). Its edge
-//! knows two facts more: that these spots hold their parts. Where the edges of both leaves meet, both facts
-//! are known, since the spots are the same; so [`place::place_of`] begins at the nearest saved part at or
-//! above a position, and reads fields from there downward.
+//! No bits hold the first field here: the leaf says which constructor it is. So on the way of each leaf its test
+//! needs no code ([`threading`]): the way of leaf 0 leads on to clause 0, and that of leaf 1 to the test of the
+//! second field. A node behind several leaves can't read a field from any of them alone, and where another test
+//! stands between, it doesn't know the leaf: there a field is rebuilt as a K, or read, on the way of each leaf. So
+//! a look at a part of such a type *saves* what later tests need ([`deep`]). Before the first node each field at
+//! which some pattern looks is given a *spot*: slots of its own, the same ones whichever leaf it comes from
+//! ([`spots`]). The look finds the leaf; on the way of leaf 1 the field `.1` is taken and copied into its spot, and
+//! an open jump leads on ([`saving`]). Its edge knows one fact more: that this spot holds its part. Where the edges
+//! of several leaves meet, what all of them saved is known, since the spots are the same; so
+//! [`place::place_of`] begins at the nearest saved part at or above a position, and reads fields from there downward.
 //!
 //! A look at such a type costs the switches that find its leaf and those that rebuild, which is half of what
 //! the bound allows a match at such a place. The other half is left to binding, which looks again where a
@@ -67,3 +68,4 @@ pub mod laws;
 pub mod place;
 pub mod saving;
 pub mod spots;
+pub mod threading;

@@ -124,7 +124,15 @@ fn save_part(
     Ok(())
 }
 
-// Saves field number `field` of the part at a position where there is a spot for it.
+// Whether a spot is wanted.
+fn is_wanted(wanted: &[bool], spot: usize) -> bool {
+    match wanted.get(spot) {
+        None => false,
+        Some(is) => *is,
+    }
+}
+
+// Saves field number `field` of the part at a position where there is a spot for it that is wanted.
 fn save_field<'a>(
     alloc: Global,
     body: &mut Body,
@@ -133,6 +141,7 @@ fn save_field<'a>(
     leaf: usize,
     words: &[usize],
     spots: &[Spot],
+    wanted: &[bool],
     position: &[u32],
     field: u32,
     at: Ty,
@@ -146,6 +155,9 @@ fn save_field<'a>(
     match spot_at(spots, below.as_slice(), at) {
         None => Ok(known),
         Some(k) => {
+            if !is_wanted(wanted, k) {
+                return Ok(known);
+            }
             save_part(alloc, body, agreed, ty, leaf, words, field, &spots[k])?;
             known.push(Known::Saved { spot: k })?;
             Ok(known)
@@ -153,7 +165,7 @@ fn save_field<'a>(
     }
 }
 
-/// Code that saves each field for which there is a spot, of a part at a position of a value, where the part
+/// Code that saves each field for which there is a spot that is wanted, of a part at a position of a value, where the part
 /// has this leaf and its words stand in slots. The answer is what is known then.
 ///
 /// # Errors
@@ -166,6 +178,7 @@ pub fn save_fields<'a>(
     leaf: usize,
     words: &[usize],
     spots: &[Spot],
+    wanted: &[bool],
     position: &[u32],
     known: Seq<Known<'a>>,
 ) -> Result<Seq<Known<'a>>, AllocError>
@@ -180,7 +193,8 @@ pub fn save_fields<'a>(
     for (j, field) in fields.iter().enumerate() {
         let number = number_of(j)?;
         known = save_field(
-            alloc, body, agreed, con.ty, leaf, words, spots, position, number, *field, known,
+            alloc, body, agreed, con.ty, leaf, words, spots, wanted, position, number, *field,
+            known,
         )?;
     }
     Ok(known)

@@ -13,6 +13,7 @@ use rb_core::pattern::Pat;
 use rb_core::seq::Seq;
 use rb_core::types::Ty;
 use rb_decide::clause_matrix::number_of;
+use rb_decide::decision_graph::{GraphArm, GraphNode};
 use rb_fragment::emit::emit_const;
 use rb_fragment::slots::word_count;
 use rb_layout::agreed::Agreed;
@@ -149,6 +150,84 @@ pub fn has_spot_below(spots: &[Spot], position: &[u32]) -> bool {
         }
     }
     false
+}
+
+/// A graph of tests, and what it tests: values of a type, for some patterns. Where it has no nodes, all that
+/// can be saved is wanted.
+#[derive(Debug, Clone, Copy)]
+pub struct Whole<'a> {
+    pub ty: Ty,
+    pub pats: &'a [Pat],
+    pub nodes: &'a [GraphNode],
+}
+
+// Marks a place of a list.
+fn set_at(marks: &mut Seq<bool>, place: usize) {
+    if place < marks.len() {
+        marks.replace(place, true);
+    }
+}
+
+fn marks(alloc: Global, count: usize, mark: bool) -> Result<Seq<bool>, AllocError> {
+    let mut all = Seq::new(alloc);
+    for _place in 0..count {
+        all.push(mark)?;
+    }
+    Ok(all)
+}
+
+// Marks the nodes to which a test leads.
+fn mark_links(reached: &mut Seq<bool>, arms: &[GraphArm], other: Option<u32>) {
+    for arm in arms {
+        set_at(reached, arm.under as usize);
+    }
+    if let Some(link) = other {
+        set_at(reached, link as usize);
+    }
+}
+
+/// Whether a position is another, or below it.
+pub fn is_within(position: &[u32], above: &[u32]) -> bool {
+    let count = above.len();
+    if position.len() < count {
+        return false;
+    }
+    same_position(&position[..count], above)
+}
+
+// Marks the spots of parts at which a position is, or below which it is.
+fn mark_spots(wanted: &mut Seq<bool>, spots: &[Spot], position: &[u32]) {
+    for (k, spot) in spots.iter().enumerate() {
+        if is_within(position, spot.position.as_slice()) {
+            set_at(wanted, k);
+        }
+    }
+}
+
+/// For each spot, whether some test needs it that can be met from a node on.
+///
+/// # Errors
+/// `AllocError` where memory is wanting.
+pub fn wanted_spots(
+    alloc: Global,
+    spots: &[Spot],
+    nodes: &[GraphNode],
+    node: usize,
+) -> Result<Seq<bool>, AllocError> {
+    let count = nodes.len();
+    let mut wanted = marks(alloc, spots.len(), count == 0)?;
+    let mut reached = marks(alloc, count, false)?;
+    set_at(&mut reached, node);
+    for i in 0..count {
+        let number = count - 1 - i;
+        if let Some(true) = reached.get(number) {
+            if let GraphNode::Test(position, arms, other) = &nodes[number] {
+                mark_spots(&mut wanted, spots, position.as_slice());
+                mark_links(&mut reached, arms.as_slice(), *other);
+            }
+        }
+    }
+    Ok(wanted)
 }
 
 // Their slots ------------------------------------------------------------------------------------

@@ -33,18 +33,23 @@ fn the_sum_of_an_empty_list(rt: HostRuntime) -> Result<(), Fail> {
     Ok(())
 }
 
-/// How many lines of a code text begin with a switch.
-fn switch_lines(code: &[u8]) -> usize {
+/// How many lines of a code text begin with a word.
+fn lines_of(code: &[u8], word: &str) -> usize {
     let Ok(text) = str::from_utf8(code) else {
         return usize::MAX;
     };
     let mut count = 0usize;
     for line in text.split('\n') {
-        if line.strip_prefix("switch ").is_some() {
+        if line.strip_prefix(word).is_some() {
             count = count.wrapping_add(1);
         }
     }
     count
+}
+
+/// How many begin with a switch.
+fn switch_lines(code: &[u8]) -> usize {
+    lines_of(code, "switch ")
 }
 
 /// Four tests of a field, each once: as a tree they were six.
@@ -74,6 +79,29 @@ fn the_text_does_as_many(rt: HostRuntime) -> Result<(), Fail> {
         expect_answer(alloc, words, FOUR.as_bytes(), wanted.as_str())?;
     } else {
         panic!(rt; "another function");
+    }
+    Ok(())
+}
+
+/// A bit and a byte. The leaf tells the bit, which has no bits of its own.
+const TOLD: &str =
+    "type K = A | B;layout K <1> = split 0[0:1] { 0 => A : { word 1 { [0:1] = 0 } } 1 => B : { word 1 { [0:1] = 1 } } };type P = Tagged(K, u8);layout P <9> = split 0[0:1] { 0 => Tagged(A, _) : { word 9 { [0:1] = 0, [1:8] .1 } } 1 => Tagged(B, _) : { word 9 { [0:1] = 1, [1:8] .1 } } };fun main(p: P): u8 = match p { Tagged(A, 3) => 1, Tagged(B, 4) => 2, _ => 0 };";
+
+/// One switch finds the leaf, and each way has one for its byte: the bit is tested by none.
+#[test]
+fn a_leaf_decides_a_test(rt: HostRuntime) -> Result<(), Fail> {
+    let alloc = rt.alloc();
+    let did = call(alloc, "compile E", TOLD.as_bytes(), &[], &[])?;
+    assert_eq!(rt; did.status, 0);
+    assert_eq!(rt; switch_lines(did.out.as_slice()), 3);
+    let behind = "blocks 0;bytes 0;";
+    for (words, before) in [
+        ("count E 1 64 Tagged(A,3)", "value 1;calls 1;"),
+        ("count E 1 64 Tagged(A,4)", "value 0;calls 1;"),
+        ("count E 1 64 Tagged(B,4)", "value 2;calls 1;"),
+        ("count E 1 64 Tagged(B,3)", "value 0;calls 1;"),
+    ] {
+        expect_counts(alloc, words, TOLD.as_bytes(), before, 2, behind)?;
     }
     Ok(())
 }

@@ -151,9 +151,9 @@ pub record Stands (first new : Sheet) (edges : List Edge) : Type 0 where
   pub grows : Grows first.code new.code
   pub stand : StandOpen first new edges
 
-pub record StepsNode (agreed : LaidOut) (ty : Ty) (words : List Read) (pats : List Pat) (spots : List Spot) (node : GraphNode) (n : ℕ) (old : Sheet) (edges : List Edge) (new : Sheet) (more : List Edge) : Type 0 where
+pub record StepsNode (agreed : LaidOut) (ty : Ty) (words : List Read) (pats : List Pat) (spots : List Spot) (nodes : List GraphNode) (node : GraphNode) (n : ℕ) (old : Sheet) (edges : List Edge) (new : Sheet) (more : List Edge) : Type 0 where
   pub stands : (first : Sheet) → Stands first old edges → Stands first new more
-  pub flows : (plan : Plan) (base : ℕ) (nodes : List GraphNode) (root : ℕ) (first : Sheet) → let job = job_of plan base spots ty words pats nodes root first in
+  pub flows : (plan : Plan) (base : ℕ) (root : ℕ) (first : Sheet) → let job = job_of plan base spots ty words pats nodes root first in
       IsFineJob agreed job → slice_get nodes n ≡ Some node → Stands first old edges → Flows job old edges → Flows job new more
 
 pub record Begins (agreed : LaidOut) (ty : Ty) (words : List Read) (pats : List Pat) (spots : List Spot) (nodes : List GraphNode) (root : ℕ) (old new : Sheet) (edges : List Edge) : Type 0 where

@@ -11,6 +11,7 @@ use Rattle.rb_compile.proofs.Forms.{let_expr, number_expr}
 use Rattle.rb_compile.proofs.Variables.{variable_expr}
 use Rattle.rb_compile.proofs.Operators.{binary_expr, to_expr}
 use Rattle.rb_compile.proofs.Parts.{build_expr, call_expr, first_more, first_none, get_at}
+use Rattle.rb_compile.proofs.Served.{serves}
 use Rattle.rb_compile.proofs.expressions.+emit.Goals as goal
 
 -- expressions
@@ -107,7 +108,7 @@ emit_arm-returns-clause-emits t c = λ fun.
     let binds = rw c.as_slice-words.ensures at c.in_ok-bound.ensures.binds in
     let body = rw c.in_ok-extend.ensures at (c.in_ok-held.ensures.emits fun) in
     arm_emits c.args.agreed.now (plan_of c.args.agreed.now) fun c.args.clause.now c.args.wanted c.args.locals.now c.args.subject.now c.args.body.now _ _ _ c.in_ok-bound.bound c.in_ok-held.held c.in_ok-joined.joined c.args.into
-    (record { program = refl; layouts = refl }) binds body c.in_ok-joined.ensures
+    (record { program = refl; layouts = refl }) c.in_ok-pat.pat (λ types layouts s. serves types layouts c.args.clause.now.body c.args.clause.now.pat c.in_ok-pat.pat c.in_ok-pat.ensures s) binds body c.in_ok-joined.ensures
 
 pub emit_arm-returns-clause-join : goal.emit_arm-returns-clause-join
 emit_arm-returns-clause-join t c =

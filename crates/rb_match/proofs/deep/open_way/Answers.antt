@@ -17,7 +17,7 @@ pub returns : goal.returns
 returns c =
     let con = sym c.con_of.ensures ∙ c.in-Some.is in
     let link = sym c.link_of.ensures ∙ c.in-Some-link_of.is in
-    rw (c.in_ok-push-2.ensures.ok, c.in_ok-edge.ensures, c.as_slice.ensures, c.in_ok-push.ensures.ok, c.len-pc.ensures.value) (record {
+    rw (c.in_ok-push-2.ensures.ok, c.in_ok-edge.ensures, c.as_slice-2.ensures, c.in_ok-push.ensures.ok, c.len-pc.ensures.value) (record {
       steps = opens_way c.args.agreed.now c.args.ty c.args.words.now c.args.spots.now c.args.known.now c.args.position.now c.args.arms.now c.args.other c.args.holes.now c.args.leaf c.args.body.now c.args.edges c.in-Some-link_of.node c.save_fields.new.body c.in_ok-known-2.known c.requires
           (rw c.in_ok-land_leaf.ensures at c.in_ok-known-2.ensures.grows)
           (λ part layout node plan of is is_leaf takes. same_Some c.in-Some-link_of.node node (sym link ∙ sym (leaf_links c.args.agreed.now c.args.ty c.args.leaf c.in-Some.con c.args.arms.now c.args.other con plan of layout part is is_leaf) ∙ takes))

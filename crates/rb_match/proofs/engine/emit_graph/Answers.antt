@@ -11,7 +11,7 @@ loop-i-preserved c =
     let at = slice_get-get_or c.args.nodes.now (length c.args.nodes.now - 1 - c.loop-i.i) c.index-nodes-number.result within ∙ ap Some (sym c.index-nodes-number.is) in
     record {
       stands = step.stands c.args.body.now inv.stands;
-      flows = λ plan base fine. step.flows plan base c.args.nodes.now c.args.root c.args.body.now fine at inv.stands (inv.flows plan base fine);
+      flows = λ plan base fine. step.flows plan base c.args.root c.args.body.now fine at inv.stands (inv.flows plan base fine);
     }
 
 pub returns-clause-holes : goal.returns-clause-holes
