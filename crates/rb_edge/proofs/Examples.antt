@@ -1,7 +1,8 @@
 -- Worked examples of the definitions, which the checker computes.
-use Rattle.std.proofs.Common.{◌≡◌, ℕ, List, [], ◌∷◌, Some, None, Ok, Err, refl}
+use Rattle.std.proofs.Common.{◌≡◌, ℕ, List, [], ◌∷◌, ◌++◌, Some, None, Ok, Err, refl}
 use Rattle.rb_edge.specs.declared.named.NamedBytes.{NamedBytes}
 use Rattle.rb_edge.specs.Faults.{one_more}
+use Rattle.rb_edge.specs.History.{Reading, Course, going, ended, failed, begun, missed, told_end, broken}
 use Rattle.rb_edge.specs.MemSource.{SourceState, held_in, after_open, after_read}
 use Rattle.rb_edge.specs.MemSink.{SinkState, after_write}
 
@@ -17,30 +18,47 @@ none-held : held_in three (9 ∷ []) ≡ None
 none-held = refl
 
 -- a source before a call, where call 5 fails
-abbrev before : ℕ → List ℕ → SourceState
-before calls left = record { files = three; step = 2; fail = 5 ∷ []; calls = calls; left = left; faults = 0 }
+abbrev before : ℕ → List ℕ → List Reading → SourceState
+before calls left readings = record { files = three; step = 2; fail = 5 ∷ []; calls = calls; left = left; readings = readings; faults = 0 }
 
-opens : after_open (before 0 []) (7 ∷ []) ≡ (Ok tt, before 1 (1 ∷ 2 ∷ 3 ∷ []))
+-- the file 7, as far as it was read
+abbrev seven : List ℕ → Course → List Reading
+seven bytes course = record { name = 7 ∷ []; bytes = bytes; course = course } ∷ []
+
+opens : after_open (before 0 [] []) (7 ∷ []) ≡ (Ok tt, before 1 (1 ∷ 2 ∷ 3 ∷ []) (seven [] going))
 opens = refl
 
 -- a failing call leaves nothing, and is counted
-fails-to-open : after_open (before 5 (9 ∷ [])) (7 ∷ []) ≡ (Err (record {}), record (before 6 []) { faults = 1 })
+fails-to-open : after_open (before 5 (9 ∷ []) []) (7 ∷ []) ≡ (Err (record {}), record (before 6 [] (seven [] failed)) { faults = 1 })
 fails-to-open = refl
 
 -- a name that isn't held is no fault
-not-held : after_open (before 5 (1 ∷ [])) (9 ∷ []) ≡ (Err (record {}), before 6 [])
+not-held : after_open (before 5 (1 ∷ []) (seven [] going)) (9 ∷ []) ≡ (Err (record {}), before 6 [] (seven [] going ++ missed (9 ∷ []) ∷ []))
 not-held = refl
 
 -- a read gives no more than the step, and what stands behind in the buffer stays
-reads : after_read (before 1 (1 ∷ 2 ∷ 3 ∷ [])) (0 ∷ 0 ∷ 0 ∷ []) ≡ (Ok 2, 1 ∷ 2 ∷ 0 ∷ [], before 2 (3 ∷ []))
+reads : after_read (before 1 (1 ∷ 2 ∷ 3 ∷ []) (seven (0 ∷ []) going)) (0 ∷ 0 ∷ 0 ∷ [])
+    ≡ (Ok 2, 1 ∷ 2 ∷ 0 ∷ [], before 2 (3 ∷ []) (seven (0 ∷ 1 ∷ 2 ∷ []) going))
 reads = refl
 
-at-end : after_read (before 1 []) (0 ∷ []) ≡ (Ok 0, 0 ∷ [], before 2 [])
+-- no bytes tell the end, where there is room for one
+at-end : after_read (before 1 [] (seven (3 ∷ []) going)) (0 ∷ []) ≡ (Ok 0, 0 ∷ [], before 2 [] (seven (3 ∷ []) ended))
 at-end = refl
 
--- a sink with room for four bytes, where call 5 fails
+no-room-to-read : after_read (before 1 (1 ∷ []) (seven [] going)) [] ≡ (Ok 0, [], before 2 (1 ∷ []) (seven [] going))
+no-room-to-read = refl
+
+-- what failed does not come to an end
+fails-to-read : after_read (before 5 [] (seven [] going)) (0 ∷ []) ≡ (Err (record {}), 0 ∷ [], record (before 6 [] (seven [] failed)) { faults = 1 })
+fails-to-read = refl
+
+stays-failed : told_end (broken (begun (7 ∷ []))) ≡ missed (7 ∷ [])
+stays-failed = refl
+
+-- a sink with room for four bytes, where call 5 fails, which said what it took
 abbrev sink : ℕ → List ℕ → ℕ → SinkState
-sink calls taken faults = record { room = 4; step = 3; fail = 5 ∷ []; calls = calls; taken = taken; faults = faults }
+sink calls taken faults =
+    record { room = 4; step = 3; fail = 5 ∷ []; calls = calls; taken = taken; account = record { said = taken; breaks = [] }; faults = faults }
 
 takes-step : after_write (sink 0 [] 0) (1 ∷ 2 ∷ 3 ∷ 4 ∷ []) ≡ (Ok 3, sink 1 (1 ∷ 2 ∷ 3 ∷ []) 0)
 takes-step = refl
@@ -48,7 +66,7 @@ takes-step = refl
 takes-room : after_write (sink 1 (1 ∷ 2 ∷ 3 ∷ []) 0) (4 ∷ 5 ∷ []) ≡ (Ok 1, sink 2 (1 ∷ 2 ∷ 3 ∷ 4 ∷ []) 0)
 takes-room = refl
 
-no-room : after_write (sink 2 (1 ∷ 2 ∷ 3 ∷ 4 ∷ []) 0) (5 ∷ []) ≡ (Err (record {}), sink 3 (1 ∷ 2 ∷ 3 ∷ 4 ∷ []) 1)
+no-room : after_write (sink 2 (1 ∷ 2 ∷ 3 ∷ 4 ∷ []) 0) (5 ∷ []) ≡ (Err (record {}), record (sink 3 (1 ∷ 2 ∷ 3 ∷ 4 ∷ []) 1) { account = record { said = 1 ∷ 2 ∷ 3 ∷ 4 ∷ []; breaks = 4 ∷ [] } })
 no-room = refl
 
 -- an empty piece needs no room

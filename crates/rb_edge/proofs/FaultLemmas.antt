@@ -40,3 +40,8 @@ if_ok (Err e) P p = tt
 -- an object that tells nothing promises nothing of bytes
 pub untold : {P : Type 0} → IsTrue false → P
 untold t = absurd (false≢true t)
+
+-- a fact of each answer is one of the outcome
+pub if_ok_on : {A E P : Type 0} (r : Result A E) (Q : A → Type 0) → ((x : A) → Q x → P) → IfOk r Q → OnOk r P
+if_ok_on (Ok x) Q f q = f x q
+if_ok_on (Err e) Q f q = tt

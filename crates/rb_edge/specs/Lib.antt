@@ -1,7 +1,11 @@
 pub mod Faults
+pub mod History
 pub mod Calls
 pub mod Source
 pub mod MemSource
 pub mod MemSink
+pub mod FileSource
+pub mod StdSink
 pub mod Whole
 pub mod Steps
+pub mod inner

@@ -2,6 +2,7 @@
 use Rattle.std.specs.Prelude.{ℕ, ◌-◌, ◌==◌, nat_lt, ◌&&◌, ◌||◌, min, List, ◌++◌, length, take, Bool, Result, Ok, Err, if◌then◌else◌}
 use Rattle.rb_edge.specs.declared.source.Failed.{Failed}
 use Rattle.rb_edge.specs.Faults.{one_more}
+use Rattle.rb_edge.specs.History.{Account, after_take, after_break}
 use Rattle.rb_edge.specs.Calls.{fails_at, next_call}
 
 pub record SinkState : Type 0 where
@@ -15,6 +16,8 @@ pub record SinkState : Type 0 where
   pub calls : ℕ
   -- the bytes taken
   pub taken : List ℕ
+  -- what it said
+  pub account : Account
   -- how many faults there were
   pub faults : ℕ
 
@@ -35,5 +38,5 @@ abbrev pub after_write : SinkState → List ℕ → Result ℕ Failed × SinkSta
 after_write s bytes =
     let n = write_count s (length bytes) in
     if write_fails s (length bytes)
-    then (Err (record {}), record s { calls = next_call s.calls; faults = one_more s.faults })
-    else (Ok n, record s { calls = next_call s.calls; taken = s.taken ++ take n bytes })
+    then (Err (record {}), record s { calls = next_call s.calls; account = after_break s.account; faults = one_more s.faults })
+    else (Ok n, record s { calls = next_call s.calls; taken = s.taken ++ take n bytes; account = after_take (take n bytes) s.account })

@@ -1,50 +1,67 @@
 //! Files of the system as a source.
 
-ghost use Rattle.std.specs.Prelude.{◌≡◌, ◌≤◌, ℕ, List, [], Bool, false, Option, None, length, IsErr, IfOk, OnOk, OnErr};
+ghost use Rattle.std.specs.Prelude.{◌≡◌, ◌≤◌, ℕ, List, [], ◌∷◌, ◌++◌, take, Bool, false, Option, None, length, IsNone, IsErr, IfOk, OnOk, OnErr};
 ghost use Rattle.std.specs.Str.{IsUtf8};
 ghost use Rattle.rb_edge.specs.Faults.{one_more};
+ghost use Rattle.rb_edge.specs.FileSource.{after_miss, after_failure};
+ghost use Rattle.rb_edge.specs.History.{Reading, begun, missed, broken, on_last, after_read};
 
+use crate::history::Readings;
 use crate::source::{Failed, Source};
 use std::fs;
 use std::io::Read;
 use std::marker::Model;
 use std::rt::Files;
 
-/// Files of the system by their paths, in UTF-8. It tells no content: contracts see its count of faults
-/// alone, which each error of the system raises.
+/// Files of the system by their paths, in UTF-8. It tells no content: contracts see what it handed out, and
+/// its count of faults, which each error of the system raises.
 #[derive(Drop)]
 pub struct FileSource<'a, R: Files> {
     rt: &'a R,
     file: Option<R::File>,
+    readings: Readings,
     faults: u64,
 }
 
 impl<'a, R: Files> Model for FileSource<'a, R> {
-    ghost use Rattle.std.specs.Prelude.{ℕ};
+    ghost use Rattle.rb_edge.specs.FileSource.{SourceCounts};
 
-    ghost Value = { ℕ };
+    ghost Value = { SourceCounts };
 
-    ghost view = { λ s. s.faults };
+    ghost view = { λ s. record { readings = s.readings; faults = s.faults } };
 }
 
 impl<'a, R: Files> FileSource<'a, R> {
     /// The files that a runtime reaches. None is open.
     pub fn new(rt: &'a R) -> FileSource<'a, R>
-        ensures { result ≡ 0 }
+        ensures { result ≡ record { readings = []; faults = 0 } }
     {
         FileSource {
             rt,
             file: None,
+            readings: Readings::new(),
             faults: 0,
         }
     }
 
-    /// One fault more.
-    fn fail(&mut self) -> Failed
-        ensures { self.new ≡ one_more self.old }
+    // One fault more.
+    fn fault(&mut self)
+        ensures { self.new ≡ record self.old { faults = one_more self.old.faults } }
     {
         self.faults = self.faults.saturating_add(1);
-        Failed
+    }
+
+    // The file at a path, or none where the system gives none. A name that isn't UTF-8 is no path.
+    fn file_at(&self, name: &[u8]) -> Option<R::File>
+        ensures { ¬ (IsUtf8 name.now) → IsNone result }
+    {
+        match std::str::from_utf8(name) {
+            Ok(path) => match fs::open(self.rt, path) {
+                Ok(file) => Some(file),
+                Err(_) => None,
+            },
+            Err(_) => None,
+        }
     }
 }
 
@@ -55,39 +72,48 @@ impl<'a, R: Files> Source for FileSource<'a, R> {
 
     ghost left = { λ _. [] };
 
-    ghost faults = { λ s. s };
+    ghost readings = { λ s. s.readings };
+
+    ghost faults = { λ s. s.faults };
 
     /// Opens the file at that path. A name that isn't UTF-8 is no path, and a fault.
     fn open_file(&mut self, name: &[u8]) -> Result<(), Failed>
-        ensures ok { OnOk result (self.new ≡ self.old) }
-        ensures fault { OnErr result (self.new ≡ one_more self.old) }
+        ensures ok { OnOk result (self.new ≡ record self.old { readings = self.old.readings ++ begun name.now ∷ [] }) }
+        ensures fault { OnErr result (self.new ≡ after_miss self.old name.now) }
         ensures not_utf8 { ¬ (IsUtf8 name.now) → IsErr result }
     {
-        self.file = None;
-        match std::str::from_utf8(name) {
-            Ok(path) => match fs::open(self.rt, path) {
-                Ok(file) => {
-                    self.file = Some(file);
-                    Ok(())
-                }
-                Err(_) => Err(self.fail()),
-            },
-            Err(_) => Err(self.fail()),
+        self.file = self.file_at(name);
+        if self.file.is_none() {
+            self.readings.miss(name);
+            self.fault();
+            return Err(Failed);
         }
+        self.readings.begin(name);
+        Ok(())
     }
 
     /// Reads what the system gives in one call, and nothing where no file is open.
     fn read(&mut self, buf: &mut [u8]) -> Result<usize, Failed>
         ensures within { IfOk result (λ n. n ≤ length buf.old) }
-        ensures ok { OnOk result (self.new ≡ self.old) }
-        ensures fault { OnErr result (self.new ≡ one_more self.old) }
+        ensures ok { IfOk result (λ n. self.new ≡ record self.old {
+          readings = on_last (after_read (length buf.old) (take n buf.new)) self.old.readings;
+        }) }
+        ensures fault { OnErr result (self.new ≡ after_failure self.old) }
     {
-        match &mut self.file {
+        let given = match &mut self.file {
             None => Ok(0),
-            Some(file) => match file.read(buf) {
-                Ok(count) => Ok(count),
-                Err(_) => Err(self.fail()),
-            },
+            Some(file) => file.read(buf),
+        };
+        match given {
+            Ok(count) => {
+                self.readings.read(buf.len(), &buf[..count]);
+                Ok(count)
+            }
+            Err(_) => {
+                self.readings.fail();
+                self.fault();
+                Err(Failed)
+            }
         }
     }
 }

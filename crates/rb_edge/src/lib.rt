@@ -4,6 +4,8 @@
 
 mod calls;
 pub mod file_source;
+mod history;
+mod log;
 pub mod mem_sink;
 pub mod mem_source;
 pub mod named;
@@ -12,7 +14,6 @@ pub mod sink;
 pub mod source;
 pub mod std_sink;
 pub mod steps;
-mod taken;
 pub mod whole;
 pub mod words;
 

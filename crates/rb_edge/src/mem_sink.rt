@@ -2,9 +2,11 @@
 
 ghost use Rattle.std.specs.Prelude.{◌≡◌, ◌≤◌, ◌<◌, ◌+◌, ◌++◌, ℕ, List, [], Bool, true, IsTrue, IfOk, OnErr, Ok, Err, take, length};
 ghost use Rattle.rb_edge.specs.Faults.{Rose};
+ghost use Rattle.rb_edge.specs.History.{Account, no_account, after_take, after_break};
 ghost use Rattle.rb_edge.specs.MemSink.{after_write};
 
 use crate::calls::is_failing;
+use crate::history::Said;
 use crate::seq::Seq;
 use crate::sink::Sink;
 use crate::source::Failed;
@@ -13,13 +15,14 @@ use std::marker::Model;
 
 /// Takes bytes up to its room. It numbers its calls from 0, and the call whose number is in a list
 /// fails.
-#[derive(Debug, Drop)]
+#[derive(Drop)]
 pub struct MemSink {
     bytes: Vec<u8>,
     room: usize,
     step: usize,
     fail: Seq<u64>,
     calls: u128,
+    said: Said,
     faults: u64,
 }
 
@@ -35,6 +38,7 @@ impl Model for MemSink {
       fail = s.fail;
       calls = s.calls;
       taken = s.bytes.items;
+      account = s.said;
       faults = s.faults;
     } };
 
@@ -57,6 +61,7 @@ impl MemSink {
           fail = fail;
           calls = 0;
           taken = [];
+          account = no_account;
           faults = 0;
         }) }
     {
@@ -67,6 +72,7 @@ impl MemSink {
             step,
             fail,
             calls: 0,
+            said: Said::new(),
             faults: 0,
         })
     }
@@ -84,6 +90,8 @@ impl Sink for MemSink {
 
     ghost taken = { λ s. s.taken };
 
+    ghost account = { λ s. s.account };
+
     ghost faults = { λ s. s.faults };
 
     fn write(&mut self, bytes: &[u8]) -> Result<usize, Failed>
@@ -95,11 +103,15 @@ impl Sink for MemSink {
         self.calls = self.calls.saturating_add(1);
         if failing || (!bytes.is_empty() && left == 0) {
             self.faults = self.faults.saturating_add(1);
+            self.said.fail();
             return Err(Failed);
         }
         let count = bytes.len().min(self.step).min(left);
         match self.bytes.extend_from_slice(&bytes[..count]) {
-            Ok(()) => Ok(count),
+            Ok(()) => {
+                self.said.take(&bytes[..count]);
+                Ok(count)
+            }
             Err(_) => unreachable!(),
         }
     }

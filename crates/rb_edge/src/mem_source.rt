@@ -1,19 +1,22 @@
 //! A source in memory, whose calls fail by their numbers.
 
-ghost use Rattle.std.specs.Prelude.{◌≡◌, ◌≤◌, ◌<◌, ◌+◌, ℕ, List, [], ◌∷◌, Bool, true, Option, Some, None, MatchOption, IsTrue, IfOk, OnOk, OnErr, IsErr, Ok, Err, take, drop, length, slice_get};
+ghost use Rattle.std.specs.Prelude.{◌≡◌, ◌≤◌, ◌<◌, ◌+◌, ◌++◌, ℕ, List, [], ◌∷◌, Bool, true, Option, Some, None, MatchOption, IsTrue, IfOk, OnOk, OnErr, IsErr, Ok, Err, take, drop, length, slice_get};
 ghost use Rattle.std.specs.Option.{option_map};
 ghost use Rattle.rb_edge.specs.Faults.{Rose};
+ghost use Rattle.rb_edge.specs.History.{Reading, begun, missed, broken, on_last};
+ghost use Rattle.rb_edge.specs.History as history;
 ghost use Rattle.rb_edge.specs.Source.{HoldsTheSame, Gives, FailsToOpen};
 ghost use Rattle.rb_edge.specs.MemSource.{held_in, bytes_of, after_open, after_read};
 
 use crate::calls::is_failing;
+use crate::history::Readings;
 use crate::named::NamedBytes;
 use crate::seq::Seq;
 use crate::source::{Failed, Source};
 use std::marker::Model;
 
 /// Files in memory. It numbers its calls from 0, and the call whose number is in a list fails.
-#[derive(Debug, Drop)]
+#[derive(Drop)]
 pub struct MemSource {
     files: Seq<NamedBytes>,
     step: usize,
@@ -22,6 +25,7 @@ pub struct MemSource {
     // the index of the opened file, and how many of its bytes were read
     opened: Option<usize>,
     at: usize,
+    readings: Readings,
     faults: u64,
 }
 
@@ -37,6 +41,7 @@ impl Model for MemSource {
       fail = s.fail;
       calls = s.calls;
       left = drop s.at (bytes_of s.files s.opened);
+      readings = s.readings;
       faults = s.faults;
     } };
 
@@ -48,7 +53,15 @@ impl MemSource {
     /// `fail` fail. No file is open.
     pub fn new(files: Seq<NamedBytes>, step: usize, fail: Seq<u64>) -> MemSource
         requires { 1 ≤ step }
-        ensures { result ≡ record { files = files; step = step; fail = fail; calls = 0; left = []; faults = 0 } }
+        ensures { result ≡ record {
+          files = files;
+          step = step;
+          fail = fail;
+          calls = 0;
+          left = [];
+          readings = [];
+          faults = 0;
+        } }
     {
         MemSource {
             files,
@@ -57,6 +70,7 @@ impl MemSource {
             calls: 0,
             opened: None,
             at: 0,
+            readings: Readings::new(),
             faults: 0,
         }
     }
@@ -96,6 +110,8 @@ impl Source for MemSource {
 
     ghost left = { λ s. s.left };
 
+    ghost readings = { λ s. s.readings };
+
     ghost faults = { λ s. s.faults };
 
     fn open_file(&mut self, name: &[u8]) -> Result<(), Failed>
@@ -106,13 +122,16 @@ impl Source for MemSource {
         self.at = 0;
         self.opened = None;
         let Some(index) = index_of(self.files.as_slice(), name) else {
+            self.readings.miss(name);
             return Err(Failed);
         };
         if failing {
             self.faults = self.faults.saturating_add(1);
+            self.readings.miss(name);
             return Err(Failed);
         }
         self.opened = Some(index);
+        self.readings.begin(name);
         Ok(())
     }
 
@@ -124,11 +143,13 @@ impl Source for MemSource {
         self.calls = self.calls.saturating_add(1);
         if failing {
             self.faults = self.faults.saturating_add(1);
+            self.readings.fail();
             return Err(Failed);
         }
         let left = &bytes_at(&self.files, self.opened)[self.at..];
         let count = buf.len().min(self.step).min(left.len());
         buf[..count].copy_from_slice(&left[..count]);
+        self.readings.read(buf.len(), &buf[..count]);
         self.at += count;
         Ok(count)
     }

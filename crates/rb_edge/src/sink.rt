@@ -2,19 +2,23 @@
 
 ghost use Rattle.std.specs.Prelude.{◌≡◌, ◌≤◌, ◌<◌, ◌++◌, ℕ, List, Bool, take, length, IsTrue, IfOk, OnErr};
 ghost use Rattle.rb_edge.specs.Faults.{Rose};
+ghost use Rattle.rb_edge.specs.History.{Account, after_take, after_break};
 
 use crate::source::Failed;
 
 /// Takes bytes, a piece at a time.
 ///
-/// What a contract says of bytes it says of sinks that tell what they took; a stream of the system
-/// tells nothing.
+/// What it said it took is known of every sink. What it took is known of sinks that tell it alone; a stream
+/// of the system tells nothing.
 pub trait Sink {
     // whether the sink tells its bytes
     ghost tells: { Self → Bool };
 
     // the bytes taken
     ghost taken: { Self → List ℕ };
+
+    // what it said: the bytes that it took, and where a write failed
+    ghost account: { Self → Account };
 
     // how many faults there were
     ghost faults: { Self → ℕ };
@@ -23,6 +27,9 @@ pub trait Sink {
     fn write(&mut self, bytes: &[u8]) -> Result<usize, Failed>
         ensures same { tells self.new ≡ tells self.old }
         ensures later { faults self.old ≤ faults self.new }
+
+        ensures said { IfOk result (λ n. account self.new ≡ after_take (take n bytes.now) (account self.old)) }
+        ensures breaks { OnErr result (account self.new ≡ after_break (account self.old)) }
 
         ensures within { IfOk result (λ n. n ≤ length bytes.now) }
         ensures some { IfOk result (λ n. 0 < length bytes.now → 0 < n) }

@@ -1,7 +1,8 @@
 //! A source: files by name, of which one is open.
 
-ghost use Rattle.std.specs.Prelude.{◌≡◌, ◌≤◌, ℕ, List, [], Bool, Option, Some, None, length, IsTrue, IfOk, OnOk, OnErr, IsErr};
+ghost use Rattle.std.specs.Prelude.{◌≡◌, ◌≤◌, ℕ, List, [], ◌∷◌, ◌++◌, take, Bool, Option, Some, None, length, IsTrue, IfOk, OnOk, OnErr, IsErr};
 ghost use Rattle.rb_edge.specs.Faults.{Rose};
+ghost use Rattle.rb_edge.specs.History.{Reading, begun, missed, broken, on_last, after_read};
 ghost use Rattle.rb_edge.specs.Source.{HoldsTheSame, Gives, FailsToOpen};
 
 use thiserror::Error;
@@ -13,8 +14,8 @@ pub struct Failed;
 
 /// Files by name, of which one is open at a time.
 ///
-/// What a contract says of bytes it says of sources that tell their bytes; a file of the system tells
-/// none. The count of faults means the same in all sources.
+/// What it handed out is known of every source. What it holds is known of sources that tell their bytes
+/// alone; a file of the system tells none. The count of faults means the same in all sources.
 pub trait Source {
     // whether the source tells its bytes
     ghost tells: { Self → Bool };
@@ -25,6 +26,9 @@ pub trait Source {
     // the bytes left of the opened file
     ghost left: { Self → List ℕ };
 
+    // what it handed out: each name that was opened, or failed to be, with the bytes given since
+    ghost readings: { Self → List Reading };
+
     // how many faults there were
     ghost faults: { Self → ℕ };
 
@@ -32,6 +36,9 @@ pub trait Source {
     fn open_file(&mut self, name: &[u8]) -> Result<(), Failed>
         ensures same { HoldsTheSame tells held self.old self.new }
         ensures later { faults self.old ≤ faults self.new }
+
+        ensures begun { OnOk result (readings self.new ≡ readings self.old ++ begun name.now ∷ []) }
+        ensures missed { OnErr result (readings self.new ≡ readings self.old ++ missed name.now ∷ []) }
 
         ensures opened { OnOk result (IsTrue (tells self.old) → held self.old name.now ≡ Some (left self.new)) }
         ensures nothing_left { OnErr result (IsTrue (tells self.old) → left self.new ≡ []) }
@@ -47,6 +54,10 @@ pub trait Source {
     fn read(&mut self, buf: &mut [u8]) -> Result<usize, Failed>
         ensures same { HoldsTheSame tells held self.old self.new }
         ensures later { faults self.old ≤ faults self.new }
+
+        ensures handed { IfOk result (λ n. readings self.new
+            ≡ on_last (after_read (length buf.old) (take n buf.new)) (readings self.old)) }
+        ensures broken { OnErr result (readings self.new ≡ on_last broken (readings self.old)) }
 
         ensures within { IfOk result (λ n. n ≤ length buf.old) }
         ensures bytes { IfOk result (λ n. IsTrue (tells self.old) → Gives n buf.new (left self.old) (left self.new)) }

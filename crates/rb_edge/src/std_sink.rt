@@ -1,35 +1,42 @@
 //! A stream of the system as a sink.
 
-ghost use Rattle.std.specs.Prelude.{◌≡◌, ◌≤◌, ◌<◌, ℕ, List, [], Bool, false, length, IfOk, OnOk, OnErr};
+ghost use Rattle.std.specs.Prelude.{◌≡◌, ◌≤◌, ◌<◌, ℕ, List, [], Bool, false, take, length, IfOk, OnErr};
 ghost use Rattle.rb_edge.specs.Faults.{one_more};
+ghost use Rattle.rb_edge.specs.History.{Account, no_account, after_take, after_break};
 
+use crate::history::Said;
 use crate::sink::Sink;
 use crate::source::Failed;
 use std::io::Write;
 use std::marker::Model;
 
-/// A writer, such as standard output, that each write flushes. It tells no content: contracts see its
-/// count of faults alone.
+/// A writer, such as standard output, that each write flushes. It tells no content: contracts see what it
+/// said it took, and its count of faults.
 #[derive(Drop)]
 pub struct StdSink<W: Write> {
     inner: W,
+    said: Said,
     faults: u64,
 }
 
 impl<W: Write> Model for StdSink<W> {
-    ghost use Rattle.std.specs.Prelude.{ℕ};
+    ghost use Rattle.rb_edge.specs.StdSink.{SinkCounts};
 
-    ghost Value = { ℕ };
+    ghost Value = { SinkCounts };
 
-    ghost view = { λ s. s.faults };
+    ghost view = { λ s. record { account = s.said; faults = s.faults } };
 }
 
 impl<W: Write> StdSink<W> {
     /// A sink over a writer.
     pub fn new(inner: W) -> StdSink<W>
-        ensures { result ≡ 0 }
+        ensures { result ≡ record { account = no_account; faults = 0 } }
     {
-        StdSink { inner, faults: 0 }
+        StdSink {
+            inner,
+            said: Said::new(),
+            faults: 0,
+        }
     }
 }
 
@@ -38,22 +45,31 @@ impl<W: Write> Sink for StdSink<W> {
 
     ghost taken = { λ _. [] };
 
-    ghost faults = { λ s. s };
+    ghost account = { λ s. s.account };
+
+    ghost faults = { λ s. s.faults };
 
     /// Writes and flushes. An error of either is a fault, and so is a write that took nothing of a piece
     /// that isn't empty.
     fn write(&mut self, bytes: &[u8]) -> Result<usize, Failed>
         ensures within { IfOk result (λ n. n ≤ length bytes.now) }
         ensures some { IfOk result (λ n. 0 < length bytes.now → 0 < n) }
-        ensures ok { OnOk result (self.new ≡ self.old) }
-        ensures fault { OnErr result (self.new ≡ one_more self.old) }
+        ensures ok { IfOk result (λ n. self.new ≡ record self.old {
+          account = after_take (take n bytes.now) self.old.account;
+        }) }
+        ensures fault { OnErr result (self.new ≡ record {
+          account = after_break self.old.account;
+          faults = one_more self.old.faults;
+        }) }
     {
         if let Ok(count) = self.inner.write(bytes) {
             if (count > 0 || bytes.is_empty()) && self.inner.flush().is_ok() {
+                self.said.take(&bytes[..count]);
                 return Ok(count);
             }
         }
         self.faults = self.faults.saturating_add(1);
+        self.said.fail();
         Err(Failed)
     }
 }

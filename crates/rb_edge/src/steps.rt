@@ -2,7 +2,7 @@
 
 ghost use Rattle.std.specs.Prelude.{◌≡◌, ℕ, ◌+◌, ◌-◌, ◌^◌, min};
 
-use crate::taken::Taken;
+use crate::log::Log;
 use std::marker::Model;
 
 /// What is told of each step.
@@ -44,15 +44,16 @@ impl Ledger for CountLedger {
 #[derive(Drop)]
 pub struct Steps<L: Ledger> {
     ledger: L,
-    taken: Taken,
+    log: Log,
 }
 
 impl<L: Ledger> Model for Steps<L> {
+    ghost use Rattle.std.specs.Prelude.{length};
     ghost use Rattle.rb_edge.specs.Steps.{Counted};
 
     ghost Value = { Counted L };
 
-    ghost view = { λ s. record { taken = s.taken.count; ledger = s.ledger } };
+    ghost view = { λ s. record { taken = length s.log.events; ledger = s.ledger } };
 }
 
 impl<L: Ledger> Steps<L> {
@@ -62,7 +63,7 @@ impl<L: Ledger> Steps<L> {
     {
         Steps {
             ledger,
-            taken: Taken::new(),
+            log: Log::new(),
         }
     }
 
@@ -71,7 +72,7 @@ impl<L: Ledger> Steps<L> {
         ensures taken { self.new.taken ≡ self.old.taken + 1 }
         ensures noted { L.notes self.old.ledger self.new.ledger }
     {
-        self.taken.add();
+        self.log.note(0, &[]);
         self.ledger.note();
     }
 

@@ -4,7 +4,9 @@ ghost use Rattle.std.specs.Prelude.{◌≡◌, ◌≤◌, ◌<◌, ◌+◌, ◌+
 ghost use Rattle.std.specs.Option.{option_map};
 ghost use Rattle.rb_edge.specs.Faults.{Rose};
 ghost use Rattle.rb_edge.specs.Source.{HoldsTheSame, FailsToOpen};
-ghost use Rattle.rb_edge.specs.Whole.{TakesFront};
+ghost use Rattle.rb_edge.specs.History.{after_take};
+ghost use Rattle.rb_edge.specs.Whole.{ReadsOnce, TakesFront};
+ghost use Rattle.rb_edge.specs.inner.Left.{ReadsOn};
 ghost use Rattle.rb_edge.specs.declared.whole.ReadFault.TheVariants.{Memory, Failed};
 
 use crate::seq::Seq;
@@ -52,6 +54,7 @@ fn read_left<S: Source>(alloc: Global, source: &mut S, limit: usize) -> Result<V
         → bytes.items ≡ take (limit + 1) (S.left source.old)) }
     ensures within { IfOk result (λ bytes. length bytes.items ≤ limit + 1) }
     ensures cause { IsErrOf result ReadFault.Failed → Rose (S.faults source.old) (S.faults source.new) }
+    ensures on { ReadsOn S.tells S.left S.readings source.old source.new limit result }
 {
     let mut bytes = Vec::new(alloc);
     let mut piece = [0u8; PIECE];
@@ -82,6 +85,9 @@ pub fn read_whole<S: Source>(
     ensures same { HoldsTheSame S.tells S.held source.old source.new }
     ensures later { S.faults source.old ≤ S.faults source.new }
 
+    // The file was opened once, and what is answered is what the source handed out for it.
+    ensures once { ReadsOnce S.tells S.held S.readings source.old source.new name.now limit result }
+
     // The bytes are those of the file, so no fault is taken for its end.
     ensures bytes { IfOk result (λ bytes. IsTrue (S.tells source.old) →
         Some bytes ≡ option_map (λ whole. take (limit + 1) whole) (S.held source.old name.now)) }
@@ -106,8 +112,11 @@ pub fn write_whole<K: Sink>(sink: &mut K, bytes: &[u8]) -> Result<(), Failed>
     ensures later { K.faults sink.old ≤ K.faults sink.new }
 
     ensures all { OnOk result (IsTrue (K.tells sink.old) → K.taken sink.new ≡ K.taken sink.old ++ bytes.now) }
-    ensures front { OnErr result (IsTrue (K.tells sink.old)
-        → TakesFront bytes.now (K.taken sink.old) (K.taken sink.new)) }
+    ensures said { OnOk result (K.account sink.new ≡ after_take bytes.now (K.account sink.old)) }
+
+    // Nothing is written after the write that failed.
+    ensures front { OnErr result (TakesFront (K.tells sink.old) bytes.now (K.taken sink.old) (K.taken sink.new)
+        (K.account sink.old) (K.account sink.new)) }
     ensures cause { OnErr result (Rose (K.faults sink.old) (K.faults sink.new)) }
 {
     let mut done = 0;

@@ -1,8 +1,9 @@
 -- What the program promises gives the headline of each command that calls `main`.
-use Rattle.std.proofs.Common.{◌≡◌, ℕ, List, sym, ap, subst, ◌∙◌, Option, Ok}
+use Rattle.std.proofs.Common.{◌≡◌, ℕ, List, [], ◌∷◌, sym, ap, subst, ◌∙◌, Ok}
 use Rattle.rb_core.specs.Typing.{param_types}
 use Rattle.rb_core.specs.declared.program.Program.{Program}
 use Rattle.rb_core.specs.declared.value.Value.{Value}
+use Rattle.rb_edge.specs.History.{Reading, Course, going, ended}
 use Rattle.rb_layout.specs.Flattening.{flat_layouts}
 use Rattle.rb_layout.specs.declared.agreed.LaidOut.{LaidOut}
 use Rattle.rb_layout.specs.declared.layout.Layout.{Layout}
@@ -17,11 +18,12 @@ use Rattle.ribbit_tool.specs.Command.{Command, Limits, Parsed, run}
 use Rattle.ribbit_tool.specs.Compiling.{IsCompiled, IsLaidOut}
 use Rattle.ribbit_tool.specs.Delivery.{Change}
 use Rattle.ribbit_tool.specs.Headline.{Says, OfCalls, Headline}
-use Rattle.ribbit_tool.specs.Promise.{Source, Counting, Gives, IsRight}
-use Rattle.ribbit_tool.specs.Reading.{Holds, Reads, file_limit}
+use Rattle.ribbit_tool.specs.Promise.{Counting, Gives, IsRight}
+use Rattle.ribbit_tool.specs.Reading.{Source, ReadsOne, unread, within, too_long, not_read, Gave, handed_out, whole, file_limit}
 use Rattle.ribbit_tool.specs.Run.{IsAnswered, answer_due, Prepares, PreparesFile, prepared, misfit}
 use Rattle.ribbit_tool.proofs.ArgumentLaws.{never_misfit, same_values}
 use Rattle.ribbit_tool.proofs.OneProgram.{one_program, accepted_unrefused}
+use Rattle.ribbit_tool.proofs.ReadLaws.{going≢ended, failed≢ended}
 
 -- Accepted files are prepared ---------------------------------------------------------------
 
@@ -56,21 +58,38 @@ module _ (Then : LaidOut → List CodeFun → List Value → Due → Type 0) (va
 
 -- Commands that call `main` -----------------------------------------------------------------
 
+-- the first reading, if there is one
+first_bytes : List Reading → List ℕ
+first_bytes [] = []
+first_bytes (r ∷ rs) = r.bytes
+
+first_course : List Reading → Course
+first_course [] = going
+first_course (r ∷ rs) = r.course
+
+-- what follows a file that gave these bytes
+follows : (file bytes : List ℕ) (limit : ℕ) (Then : List ℕ → Due → Type 0) (readings : List Reading) (due : Due) → readings ≡ whole file bytes ∷ []
+    → ReadsOne file limit Then readings due → Then bytes due
+unfolding first_bytes first_course
+follows file bytes limit Then readings due gave (unread (too_long part long is e)) = absurd (going≢ended (ap first_course (sym is ∙ gave)))
+follows file bytes limit Then readings due gave (unread (not_read part is e)) = absurd (failed≢ended (ap first_course (sym is ∙ gave)))
+follows file bytes limit Then readings due gave (within part later is short h) = subst (λ (bs : List ℕ). Then bs due) (ap first_bytes (sym is ∙ gave)) h.1
+
 module _ (command : List ℕ → Limits → List (List ℕ) → Command) (Then : Limits → LaidOut → List CodeFun → List Value → Due → Type 0)
     (Promised : Program → List Value → Limits → Change → Change → ℕ → Type 0)
-    (reads : (file : List ℕ) (limits : Limits) (values : List (List ℕ)) (held : Holds) (due : Due) → Answers (Ok (command file limits values)) held due
-    → Reads (held file) file_limit (λ bs d. PreparesFile values bs (Then limits) d) due)
+    (reads : (file : List ℕ) (limits : Limits) (values : List (List ℕ)) (readings : List Reading) (due : Due) → Answers (Ok (command file limits values)) readings due
+    → ReadsOne file file_limit (λ bs d. PreparesFile values bs (Then limits) d) readings due)
     (says : (p : Program) (args : List Value) (limits : Limits) (due : Due) → Ready (Then limits) p args due
     → (out err : Change) (steps : Counting) (status : ℕ) → Gives due out err steps status → Promised p args limits out err status) where
   pub of_calls : (words : List (List ℕ)) (source : Source) (out err : Change) (steps : Counting) (status : ℕ) → IsRight words source out err steps status
       → OfCalls command Promised words source out err status
-  of_calls words source out err steps status r file limits values parsed bytes told held short p a args spelled calm =
-      let given = r.complete told calm.0 calm.1 calm.2 calm.3 in
+  of_calls words source out err steps status r file limits values parsed bytes gave p a args spelled calm =
+      let given = r.complete calm in
       let due = given.0 in
-      let owed : Answers (Ok (command file limits values)) source.held due = subst (λ (x : Parsed). Answers x source.held due) parsed given.1 in
-      let read = subst (λ (h : Option (List ℕ)). Reads h file_limit (λ bs d. PreparesFile values bs (Then limits) d) due) held
-      (reads file limits values source.held due owed) in
-      says p args limits due (ready_as (Then limits) values bytes p a args spelled due (read.short short)) out err steps status given.2
+      let owed : Answers (Ok (command file limits values)) (handed_out source) due = subst (λ (x : Parsed). Answers x (handed_out source) due) parsed given.1 in
+      let prepares = follows file bytes file_limit (λ bs d. PreparesFile values bs (Then limits) d) (handed_out source) due gave
+      (reads file limits values (handed_out source) due owed) in
+      says p args limits due (ready_as (Then limits) values bytes p a args spelled due prepares) out err steps status given.2
 
 -- The command `run` -------------------------------------------------------------------------
 
@@ -99,4 +118,4 @@ run_says p args limits due r out err steps status g =
 pub headlined : (words : List (List ℕ)) (source : Source) (out err : Change) (steps : Counting) (status : ℕ) → IsRight words source out err steps status
     → Headline words source out err status
 headlined = of_calls run Answered (λ p args limits out err status. Says p limits (answer_in p (flat_layouts p) args limits) out err status)
-    (λ file limits values held due h. h) run_says
+    (λ file limits values readings due h. h) run_says

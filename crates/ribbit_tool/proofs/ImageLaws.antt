@@ -24,7 +24,8 @@ use Rattle.ribbit_tool.specs.Delivery.{Change}
 use Rattle.ribbit_tool.specs.Generate.{generated}
 use Rattle.ribbit_tool.specs.Headlines.{laid_all, SaysImage, ImageHeadline, SaysCount, CountHeadline, GenerateHeadline}
 use Rattle.ribbit_tool.specs.Image.{IsImage, image_due}
-use Rattle.ribbit_tool.specs.Promise.{Source, Counting, Gives, IsRight}
+use Rattle.ribbit_tool.specs.Promise.{Counting, Gives, IsRight}
+use Rattle.ribbit_tool.specs.Reading.{Source, handed_out}
 use Rattle.ribbit_tool.proofs.HeadlineLaws.{Ready, ready_as, of_calls}
 
 -- Images ------------------------------------------------------------------------------------
@@ -78,7 +79,7 @@ pub image_headlined : (words : List (List ℕ)) (source : Source) (out err : Cha
     → ImageHeadline words source out err status
 image_headlined = of_calls image Imaged
     (λ p args limits out err status. SaysImage p (flat_layouts p) args limits (laid_all p (flat_layouts p) args limits) (call_of p p.main limits.calls args).end out err status)
-    (λ file limits values held due h. h) image_says
+    (λ file limits values readings due h. h) image_says
 
 -- Counts ------------------------------------------------------------------------------------
 
@@ -103,19 +104,19 @@ count_says p args limits due r out err steps status g =
 pub count_headlined : (words : List (List ℕ)) (source : Source) (out err : Change) (steps : Counting) (status : ℕ) → IsRight words source out err steps status
     → CountHeadline words source out err status
 count_headlined = of_calls count Counted (λ p args limits out err status. SaysCount p (flat_layouts p) args limits out err status)
-    (λ file limits values held due h. h) count_says
+    (λ file limits values readings due h. h) count_says
 
 -- Generated files ---------------------------------------------------------------------------
 
 pub generate_headlined : (words : List (List ℕ)) (source : Source) (out err : Change) (steps : Counting) (status : ℕ) → IsRight words source out err steps status
-    → GenerateHeadline words source out err status
+    → GenerateHeadline words out err status
 generate_headlined words source out err steps status r = record {
-  text = λ functions parsed told calm.
-      let given = r.complete told calm.0 calm.1 calm.2 calm.3 in
-      let is : given.0 ≡ printed (generated functions) 0 = subst (λ (x : Parsed). Answers x source.held given.0) parsed given.1 in
+  text = λ functions parsed calm.
+      let given = r.complete calm in
+      let is : given.0 ≡ printed (generated functions) 0 = subst (λ (x : Parsed). Answers x (handed_out source) given.0) parsed given.1 in
       let g = subst (λ (d : Due). Gives d out err steps status) is given.2 in (g.status_is, g.shown.0, g.shown.1);
-  counts = λ functions limits parsed told p a args spelled calm.
-      let given = r.complete told calm.0 calm.1 calm.2 calm.3 in
-      let owed : Answers (Ok (genrun functions limits)) source.held given.0 = subst (λ (x : Parsed). Answers x source.held given.0) parsed given.1 in
+  counts = λ functions limits parsed p a args spelled calm.
+      let given = r.complete calm in
+      let owed : Answers (Ok (genrun functions limits)) (handed_out source) given.0 = subst (λ (x : Parsed). Answers x (handed_out source) given.0) parsed given.1 in
       count_says p args limits given.0 (ready_as (Counted limits) [] (generated functions) p a args spelled given.0 owed) out err steps status given.2;
 }

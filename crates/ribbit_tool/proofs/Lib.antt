@@ -9,6 +9,7 @@ pub mod GenerateLaws
 pub mod HeadlineLaws
 pub mod ImageLaws
 pub mod ImageTexts
+pub mod InTurn
 pub mod LayoutRefusals
 pub mod Meeting
 pub mod Named
@@ -18,6 +19,8 @@ pub mod OneProgram
 pub mod Owing
 pub mod Preparing
 pub mod PromiseLaws
+pub mod NotUnread
+pub mod ReadFaults
 pub mod ReadLaws
 pub mod TextLaws
 pub mod Tokens

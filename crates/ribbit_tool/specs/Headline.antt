@@ -1,7 +1,7 @@
 -- The headline: where a file is accepted and its arguments are of `main`'s types, the run prints the value
 -- of the source's meaning, or names it as over the node limit, or says that the calls are spent or the
 -- region is full exactly where the source, with the blocks that its layouts ask for, first passes that limit.
-use Rattle.std.specs.Prelude.{◌≡◌, ◌≢◌, ◌≤◌, ℕ, List, [], length, IsTrue, Some, Ok}
+use Rattle.std.specs.Prelude.{◌≡◌, ◌≤◌, ℕ, List, [], ◌∷◌, length, IsTrue, Some, Ok}
 use Rattle.rb_core.specs.declared.program.Program.{Program}
 use Rattle.rb_core.specs.declared.value.Value.{Value}
 use Rattle.rb_edge.specs.Faults.{Rose}
@@ -9,12 +9,13 @@ use Rattle.rb_layout.specs.Flattening.{flat_layouts}
 use Rattle.rb_rel.specs.Answers as answer
 use Rattle.rb_rel.specs.Answers.{answer_of}
 use Rattle.ribbit_tool.specs.Accepting.{IsAccepted}
+use Rattle.ribbit_tool.specs.Answers.{files_of}
 use Rattle.ribbit_tool.specs.Arguments.{node_limit, Spell}
 use Rattle.ribbit_tool.specs.Command.{Command, Limits, run, command_of}
-use Rattle.ribbit_tool.specs.Delivery.{Change, Took, Stood}
+use Rattle.ribbit_tool.specs.Delivery.{Change, Took}
 use Rattle.ribbit_tool.specs.Lines.{spent_line, full_line, large_line}
-use Rattle.ribbit_tool.specs.Promise.{Source}
-use Rattle.ribbit_tool.specs.Reading.{file_limit}
+use Rattle.ribbit_tool.specs.Promise.{IsCalm}
+use Rattle.ribbit_tool.specs.Reading.{Source, Gave}
 use Rattle.ribbit_tool.specs.Run.{value_line}
 
 -- the status and the very text of the source's answer
@@ -24,20 +25,23 @@ Says p limits answer.Spent out err status = (status ≡ 4) × Took out [] × Too
 Says p limits (answer.Full f) out err status = (status ≡ 5) × Took out [] × Took err (full_line f)
 Says p limits answer.TooLarge out err status = (status ≡ 13) × Took out [] × Took err (large_line node_limit)
 
--- Nothing failed, and memory did not run out.
-abbrev pub IsCalm : Source → Change → Change → ℕ → Type 0
-IsCalm source out err status = (Rose source.before source.now → ⊥) × Stood out × Stood err × (status ≢ 9)
-
--- What is promised of a command that calls `main`, where its file is accepted, its values are of `main`'s
--- types, and nothing failed.
+-- What is promised of a command that calls `main`, where the file gave bytes that are accepted, its values
+-- are of `main`'s types, no write failed and memory did not run out.
 abbrev pub OfCalls : (List ℕ → Limits → List (List ℕ) → Command) → (Program → List Value → Limits → Change → Change → ℕ → Type 0)
     → List (List ℕ) → Source → Change → Change → ℕ → Type 0
 OfCalls command Promised words source out err status =
     (file : List ℕ) (limits : Limits) (values : List (List ℕ)) → command_of words ≡ Ok (command file limits values)
-    → (bytes : List ℕ) → IsTrue source.tells → source.held file ≡ Some bytes → length bytes ≤ file_limit
-    → (p : Program) → IsAccepted bytes p → (args : List Value) → Spell p values args
-    → IsCalm source out err status → Promised p args limits out err status
+    → (bytes : List ℕ) → Gave source file bytes → (p : Program) → IsAccepted bytes p → (args : List Value) → Spell p values args
+    → IsCalm out err status → Promised p args limits out err status
 
 abbrev pub Headline : List (List ℕ) → Source → Change → Change → ℕ → Type 0
 Headline = OfCalls run (λ p args limits out err status.
     Says p limits (answer_of p (flat_layouts p) args limits.calls limits.region node_limit) out err status)
+
+-- Where a source tells that it holds a file within its limit under the one name that a command reads, that
+-- file gave the bytes that are held, if nothing failed.
+abbrev pub GivesHeld : List (List ℕ) → Source → Change → Change → ℕ → Type 0
+GivesHeld words source out err status =
+    (file : List ℕ) (limit : ℕ) → files_of (command_of words) ≡ (file, limit) ∷ []
+    → (bytes : List ℕ) → IsTrue source.tells → source.held file ≡ Some bytes → length bytes ≤ limit
+    → (Rose source.before source.now → ⊥) → IsCalm out err status → Gave source file bytes

@@ -1,5 +1,5 @@
 -- What is promised of the other commands that call `main`, and of generated files.
-use Rattle.std.specs.Prelude.{◌≡◌, ℕ, List, [], ◌++◌, IsTrue, Ok}
+use Rattle.std.specs.Prelude.{◌≡◌, ℕ, List, [], ◌++◌, Ok}
 use Rattle.rb_bytes.specs.Growth.{AreWhole}
 use Rattle.rb_bytes.specs.Memory.{Memory, IsGood, empty_memory}
 use Rattle.rb_coding.specs.Encoding.{StandApart}
@@ -25,10 +25,11 @@ use Rattle.ribbit_tool.specs.Compiling.{IsCompiled, IsLaidOut}
 use Rattle.ribbit_tool.specs.Count.{count_due}
 use Rattle.ribbit_tool.specs.Delivery.{Change, Took}
 use Rattle.ribbit_tool.specs.Generate.{generated}
-use Rattle.ribbit_tool.specs.Headline.{IsCalm, OfCalls}
+use Rattle.ribbit_tool.specs.Headline.{OfCalls}
 use Rattle.ribbit_tool.specs.Image.{image_text}
 use Rattle.ribbit_tool.specs.Lines.{spent_line, full_line}
-use Rattle.ribbit_tool.specs.Promise.{Source, Shows}
+use Rattle.ribbit_tool.specs.Promise.{IsCalm, Shows}
+use Rattle.ribbit_tool.specs.Reading.{Source}
 
 -- where the blocks of the values end up over a fresh region, and then those of the call
 abbrev pub laid_values : Program → List Layout → List Value → Limits → Laid
@@ -90,9 +91,9 @@ CountHeadline = OfCalls count (λ p args limits out err status. SaysCount p (fla
 -- Generated files ---------------------------------------------------------------------------
 
 -- the text of the file, or its counts
-pub record GenerateHeadline (words : List (List ℕ)) (source : Source) (out err : Change) (status : ℕ) : Type 0 where
-  pub text : (functions : ℕ) → command_of words ≡ Ok (gen functions) → IsTrue source.tells → IsCalm source out err status
+pub record GenerateHeadline (words : List (List ℕ)) (out err : Change) (status : ℕ) : Type 0 where
+  pub text : (functions : ℕ) → command_of words ≡ Ok (gen functions) → IsCalm out err status
       → (status ≡ 0) × Took out (generated functions) × Took err []
-  pub counts : (functions : ℕ) (limits : Limits) → command_of words ≡ Ok (genrun functions limits) → IsTrue source.tells
+  pub counts : (functions : ℕ) (limits : Limits) → command_of words ≡ Ok (genrun functions limits)
       → (p : Program) → IsAccepted (generated functions) p → (args : List Value) → Spell p [] args
-      → IsCalm source out err status → SaysCount p (flat_layouts p) args limits out err status
+      → IsCalm out err status → SaysCount p (flat_layouts p) args limits out err status

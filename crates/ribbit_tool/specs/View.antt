@@ -1,9 +1,10 @@
 -- Values of the program, as the definitions see them.
-use Rattle.std.specs.Prelude.{◌≡◌, ℕ, ◌+◌, List, Result, Ok, Err}
+use Rattle.std.specs.Prelude.{◌≡◌, ℕ, ◌+◌, List, length, drop, Result, Ok, Err}
 use Rattle.std.specs.declared.vec.Vec.{Vec}
 use Rattle.std.specs.declared.alloc.Global.{Global}
 use Rattle.rb_core.specs.Coverage.{IsCovered}
 use Rattle.rb_core.specs.TypedPrograms.{IsTyped}
+use Rattle.rb_edge.specs.History.{Reading}
 use Rattle.rb_layout.specs.Agreement.{AreAgreed}
 use Rattle.ribbit_tool.specs.Accepting.{IsNamed}
 use Rattle.ribbit_tool.specs.Answer.{Due, printed, refused}
@@ -31,6 +32,10 @@ command_view (form.Count file limits values) = count file.now (limits_view limit
 command_view (form.Gen functions) = gen functions.count
 command_view (form.GenRun functions limits) = genrun functions.count (limits_view limits)
 command_view (form.Exec code function limits words) = exec code.now function.now (limits_view limits) words
+
+-- what a source handed out between two calls
+abbrev pub added : {S : Type 0} → (S → List Reading) → S → S → List Reading
+added readings old new = drop (length (readings old)) (readings new)
 
 -- words that are no command: the number of the first at fault
 abbrev pub IsUsage : {A : Type 0} → Result A ℕ → CommandFault → Type 0

@@ -1,11 +1,12 @@
 //! The command `check`.
 
-ghost use Rattle.std.specs.Prelude.{◌≤◌, ℕ, length, IfOk, IfErr, Ok};
+ghost use Rattle.std.specs.Prelude.{◌≤◌, ℕ, length, IfOk, IfErr, Ok, [], ◌∷◌};
 ghost use Rattle.ribbit_tool.specs.Answer.{printed};
 ghost use Rattle.ribbit_tool.specs.Answers.{Owes};
 ghost use Rattle.ribbit_tool.specs.Check.{ChecksFile};
 ghost use Rattle.ribbit_tool.specs.Command as spec;
-ghost use Rattle.ribbit_tool.specs.View.{IsAcceptance, IsRefusal, Meets};
+ghost use Rattle.ribbit_tool.specs.Reading.{ReadsInTurn, file_limit, source_of};
+ghost use Rattle.ribbit_tool.specs.View.{IsAcceptance, IsRefusal, Meets, added};
 
 use crate::accepting::{Accepted, accept};
 use crate::line::note::checked;
@@ -38,10 +39,10 @@ fn check_bytes(alloc: Global, bytes: &[u8]) -> Result<Vec<u8>, Refusal>
 
 /// The notes on the clauses of a file that no value reaches, and `ok`, where it is accepted.
 pub fn check_file<S: Source>(alloc: Global, src: &mut S, file: &[u8]) -> Result<Vec<u8>, Refusal>
-    ensures later { S.faults src.old ≤ S.faults src.new }
+    ensures read { ReadsInTurn ((file.now, file_limit) ∷ [])
+        (source_of S.tells S.held S.readings S.faults src.old src.new) }
     ensures owed { (steps : ℕ) → Meets
-        (Owes (Ok (spec.check file.now)) (S.tells src.old) (S.held src.old) (S.faults src.old)
-        (S.faults src.new)) steps steps result }
+        (Owes (Ok (spec.check file.now)) (added S.readings src.old src.new)) steps steps result }
 {
     let bytes = read_within(alloc, src, file, FILE_LIMIT)?;
     check_bytes(alloc, bytes.as_slice())

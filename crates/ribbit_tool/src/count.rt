@@ -1,6 +1,6 @@
 //! The command `count`: the value of a run, and what the run did.
 
-ghost use Rattle.std.specs.Prelude.{◌≡◌, ◌≤◌, ◌+◌, ◌++◌, ℕ, length, IfOk, OnOk, Ok};
+ghost use Rattle.std.specs.Prelude.{◌≡◌, ◌≤◌, ◌+◌, ◌++◌, ℕ, length, IfOk, OnOk, Ok, [], ◌∷◌};
 ghost use Rattle.rb_core.specs.declared.outcome.SourceEnd.{SourceEnd};
 ghost use Rattle.rb_rel.specs.Answers.{answer_at};
 ghost use Rattle.rb_rel.specs.Placing.{Laid};
@@ -11,7 +11,8 @@ ghost use Rattle.ribbit_tool.specs.Arguments.{node_limit};
 ghost use Rattle.ribbit_tool.specs.Command as spec;
 ghost use Rattle.ribbit_tool.specs.Count.{CountsFile, IsCount, count_due, count_text, number_line};
 ghost use Rattle.ribbit_tool.specs.Run.{IsPrepared};
-ghost use Rattle.ribbit_tool.specs.View.{limits_view, Meets};
+ghost use Rattle.ribbit_tool.specs.Reading.{ReadsInTurn, file_limit, source_of};
+ghost use Rattle.ribbit_tool.specs.View.{limits_view, Meets, added};
 
 use crate::accepting::accept;
 use crate::limits::Limits;
@@ -135,10 +136,10 @@ pub fn count_file<S: Source, L: Ledger>(
     values: &[Name],
     steps: &mut Steps<L>,
 ) -> Result<Vec<u8>, Refusal>
-    ensures later { S.faults src.old ≤ S.faults src.new }
+    ensures read { ReadsInTurn ((file.now, file_limit) ∷ [])
+        (source_of S.tells S.held S.readings S.faults src.old src.new) }
     ensures owed { Meets
-        (Owes (Ok (spec.count file.now (limits_view limits) values.now)) (S.tells src.old) (S.held src.old)
-        (S.faults src.old) (S.faults src.new))
+        (Owes (Ok (spec.count file.now (limits_view limits) values.now)) (added S.readings src.old src.new))
         steps.old.taken steps.new.taken result }
 {
     let bytes = read_within(alloc, src, file, FILE_LIMIT)?;

@@ -14,7 +14,7 @@ const WRITE_FAILED: u8 = 8;
 
 // Writes what the sink takes of the text.
 fn try_write<K: Sink>(sink: &mut K, text: &[u8])
-    ensures { Tried (change K.tells K.taken K.faults sink.old sink.new) text.now }
+    ensures { Tried (change K.tells K.taken K.account K.faults sink.old sink.new) text.now }
 {
     match write_whole(sink, text) {
         Ok(()) => {}
@@ -26,8 +26,8 @@ fn try_write<K: Sink>(sink: &mut K, text: &[u8])
 /// tried on the error output, and the status is 8.
 pub fn print<O: Sink, E: Sink>(text: &[u8], out: &mut O, err: &mut E) -> u8
     ensures { Prints text.now
-        (change O.tells O.taken O.faults out.old out.new)
-        (change E.tells E.taken E.faults err.old err.new) result }
+        (change O.tells O.taken O.account O.faults out.old out.new)
+        (change E.tells E.taken E.account E.faults err.old err.new) result }
 {
     match write_whole(out, text) {
         Ok(()) => 0,
@@ -42,8 +42,8 @@ pub fn print<O: Sink, E: Sink>(text: &[u8], out: &mut O, err: &mut E) -> u8
 /// nothing.
 pub fn refuse<O: Sink, E: Sink>(status: Status, line: &[u8], out: &mut O, err: &mut E) -> u8
     ensures { Refuses (status_number status) line.now
-        (change O.tells O.taken O.faults out.old out.new)
-        (change E.tells E.taken E.faults err.old err.new) result }
+        (change O.tells O.taken O.account O.faults out.old out.new)
+        (change E.tells E.taken E.account E.faults err.old err.new) result }
 {
     match write_whole(err, line) {
         Ok(()) => status.number(),

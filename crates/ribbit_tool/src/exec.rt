@@ -1,6 +1,6 @@
 //! The command `exec`: a function of a code text is run.
 
-ghost use Rattle.std.specs.Prelude.{◌≡◌, ◌≢◌, ◌≤◌, ◌<◌, ◌+◌, ℕ, length, IfOk, IfSome, Ok, slice_get};
+ghost use Rattle.std.specs.Prelude.{◌≡◌, ◌≢◌, ◌≤◌, ◌<◌, ◌+◌, ℕ, length, IfOk, IfSome, Ok, slice_get, [], ◌∷◌};
 ghost use Rattle.rb_bytes.specs.Memory.{empty_memory};
 ghost use Rattle.rb_machine.specs.Runs.{params_in};
 ghost use Rattle.rb_target.specs.Meaning.{run_of};
@@ -10,7 +10,8 @@ ghost use Rattle.ribbit_tool.specs.Answers.{Owes};
 ghost use Rattle.ribbit_tool.specs.Command as spec;
 ghost use Rattle.ribbit_tool.specs.Exec.{Executes, call_due, end_due, exec_due, fun_named, outcome_due};
 ghost use Rattle.ribbit_tool.specs.Lines.{code_line};
-ghost use Rattle.ribbit_tool.specs.View.{limits_view, due_of, Meets};
+ghost use Rattle.ribbit_tool.specs.Reading.{ReadsInTurn, code_limit, source_of};
+ghost use Rattle.ribbit_tool.specs.View.{limits_view, due_of, Meets, added};
 ghost use Rattle.ribbit_tool.specs.declared.status.Status.TheVariants as status;
 
 use crate::limits::Limits;
@@ -166,10 +167,10 @@ pub fn run_code_file<S: Source, L: Ledger>(
     words: &[u64],
     steps: &mut Steps<L>,
 ) -> Result<Vec<u8>, Refusal>
-    ensures later { S.faults src.old ≤ S.faults src.new }
+    ensures read { ReadsInTurn ((code.now, code_limit) ∷ [])
+        (source_of S.tells S.held S.readings S.faults src.old src.new) }
     ensures owed { Meets
-        (Owes (Ok (spec.exec code.now function.now (limits_view limits) words.now)) (S.tells src.old)
-        (S.held src.old) (S.faults src.old) (S.faults src.new))
+        (Owes (Ok (spec.exec code.now function.now (limits_view limits) words.now)) (added S.readings src.old src.new))
         steps.old.taken steps.new.taken result }
 {
     let bytes = read_within(alloc, src, code, CODE_LIMIT)?;

@@ -1,6 +1,6 @@
 //! The command `image`: the words of a run's value, and the blocks of the memory that it left.
 
-ghost use Rattle.std.specs.Prelude.{◌≡◌, ◌≤◌, ◌<◌, ◌+◌, ◌++◌, ◌^◌, ℕ, false, length, IfOk, OnOk, Ok};
+ghost use Rattle.std.specs.Prelude.{◌≡◌, ◌≤◌, ◌<◌, ◌+◌, ◌++◌, ◌^◌, ℕ, false, length, IfOk, OnOk, Ok, [], ◌∷◌};
 ghost use Rattle.std.specs.Fmt.{digit_glyph};
 ghost use Rattle.std.specs.List.{flat_map};
 ghost use Rattle.rb_bytes.specs.Memory.{IsGood};
@@ -10,7 +10,8 @@ ghost use Rattle.ribbit_tool.specs.Command as spec;
 ghost use Rattle.ribbit_tool.specs.Image as image;
 ghost use Rattle.ribbit_tool.specs.Image.{ImagesFile, IsImage, block_line, bytes_text, image_due, image_text, root_line, word_text};
 ghost use Rattle.ribbit_tool.specs.Run.{IsPrepared};
-ghost use Rattle.ribbit_tool.specs.View.{limits_view, Meets};
+ghost use Rattle.ribbit_tool.specs.Reading.{ReadsInTurn, file_limit, source_of};
+ghost use Rattle.ribbit_tool.specs.View.{limits_view, Meets, added};
 
 use crate::accepting::accept;
 use crate::limits::Limits;
@@ -218,10 +219,10 @@ pub fn image_file<S: Source, L: Ledger>(
     values: &[Name],
     steps: &mut Steps<L>,
 ) -> Result<Vec<u8>, Refusal>
-    ensures later { S.faults src.old ≤ S.faults src.new }
+    ensures read { ReadsInTurn ((file.now, file_limit) ∷ [])
+        (source_of S.tells S.held S.readings S.faults src.old src.new) }
     ensures owed { Meets
-        (Owes (Ok (spec.image file.now (limits_view limits) values.now)) (S.tells src.old) (S.held src.old)
-        (S.faults src.old) (S.faults src.new))
+        (Owes (Ok (spec.image file.now (limits_view limits) values.now)) (added S.readings src.old src.new))
         steps.old.taken steps.new.taken result }
 {
     let bytes = read_within(alloc, src, file, FILE_LIMIT)?;

@@ -1,11 +1,12 @@
 //! The command `layout`.
 
-ghost use Rattle.std.specs.Prelude.{◌≤◌, ℕ, length, IfOk, IfErr, Ok};
+ghost use Rattle.std.specs.Prelude.{◌≤◌, ℕ, length, IfOk, IfErr, Ok, [], ◌∷◌};
 ghost use Rattle.ribbit_tool.specs.Answer.{printed};
 ghost use Rattle.ribbit_tool.specs.Answers.{Owes};
 ghost use Rattle.ribbit_tool.specs.Command as spec;
 ghost use Rattle.ribbit_tool.specs.Layout.{LaysOutFile};
-ghost use Rattle.ribbit_tool.specs.View.{IsRefusal, Meets};
+ghost use Rattle.ribbit_tool.specs.Reading.{ReadsInTurn, file_limit, source_of};
+ghost use Rattle.ribbit_tool.specs.View.{IsRefusal, Meets, added};
 
 use crate::accepting::accept;
 use crate::reading::{FILE_LIMIT, read_within};
@@ -27,10 +28,10 @@ fn layout_bytes(alloc: Global, bytes: &[u8]) -> Result<Vec<u8>, Refusal>
 
 /// The flat forms of the layouts of a file, where it is accepted.
 pub fn layout_file<S: Source>(alloc: Global, src: &mut S, file: &[u8]) -> Result<Vec<u8>, Refusal>
-    ensures later { S.faults src.old ≤ S.faults src.new }
+    ensures read { ReadsInTurn ((file.now, file_limit) ∷ [])
+        (source_of S.tells S.held S.readings S.faults src.old src.new) }
     ensures owed { (steps : ℕ) → Meets
-        (Owes (Ok (spec.layout file.now)) (S.tells src.old) (S.held src.old) (S.faults src.old)
-        (S.faults src.new)) steps steps result }
+        (Owes (Ok (spec.layout file.now)) (added S.readings src.old src.new)) steps steps result }
 {
     let bytes = read_within(alloc, src, file, FILE_LIMIT)?;
     layout_bytes(alloc, bytes.as_slice())

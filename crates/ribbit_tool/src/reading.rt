@@ -1,12 +1,12 @@
 //! Reads a file with its limit.
 
-ghost use Rattle.std.specs.Prelude.{◌≡◌, ◌≤◌, ◌<◌, ◌+◌, ◌^◌, Some, length, IsTrue, IfOk, IfErr};
+ghost use Rattle.std.specs.Prelude.{◌≡◌, ◌≤◌, ◌<◌, ◌+◌, ◌^◌, [], ◌∷◌, length, IfOk, IfErr};
 ghost use Rattle.rb_edge.specs.Source.{HoldsTheSame};
 ghost use Rattle.rb_edge.specs.declared.whole.ReadFault.TheVariants.{Failed};
 ghost use Rattle.ribbit_tool.specs.Answer.{refusal};
 ghost use Rattle.ribbit_tool.specs.Lines.{file_bytes_line, read_fault_line};
-ghost use Rattle.ribbit_tool.specs.Reading.{IsUnread};
-ghost use Rattle.ribbit_tool.specs.View.{due_of, IsRefusal};
+ghost use Rattle.ribbit_tool.specs.Reading.{IsUnread, ReadsInTurn, source_of, whole};
+ghost use Rattle.ribbit_tool.specs.View.{added, due_of, IsRefusal};
 ghost use Rattle.ribbit_tool.specs.declared.status.Status.TheVariants.{Limit, Unread};
 
 use crate::line::{self, READ_FAULT};
@@ -63,10 +63,13 @@ pub fn read_within<S: Source>(
     requires { limit < 2 ^ 32 }
     ensures same { HoldsTheSame S.tells S.held src.old src.new }
     ensures later { S.faults src.old ≤ S.faults src.new }
-    ensures seen { IfOk result (λ bytes. IsTrue (S.tells src.old) → S.held src.old name.now ≡ Some bytes) }
+
+    // The file was opened once and nothing else was; at most one byte over the limit was taken.
+    ensures read { ReadsInTurn ((name.now, limit) ∷ [])
+        (source_of S.tells S.held S.readings S.faults src.old src.new) }
+    ensures given { IfOk result (λ bytes. added S.readings src.old src.new ≡ whole name.now bytes ∷ []) }
     ensures within { IfOk result (λ bytes. length bytes ≤ limit) }
-    ensures refused { IfErr result (IsRefusal
-        (IsUnread (S.tells src.old) (S.held src.old) (S.faults src.old) (S.faults src.new) name.now limit)) }
+    ensures refused { IfErr result (IsRefusal (IsUnread name.now limit (added S.readings src.old src.new))) }
 {
     match read_whole(alloc, src, name, limit) {
         Ok(bytes) => {

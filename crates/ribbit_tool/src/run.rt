@@ -1,12 +1,13 @@
 //! The command `run`: a file is accepted, prepared and run.
 
-ghost use Rattle.std.specs.Prelude.{◌≡◌, ◌≤◌, ◌+◌, ℕ, length, IfOk, IfErr, Ok};
+ghost use Rattle.std.specs.Prelude.{◌≡◌, ◌≤◌, ◌+◌, ℕ, length, IfOk, IfErr, Ok, [], ◌∷◌};
 ghost use Rattle.rb_run.specs.Answering.{meant_by};
 ghost use Rattle.ribbit_tool.specs.Answers.{Owes};
 ghost use Rattle.ribbit_tool.specs.Arguments.{IsMisfit, Spell};
 ghost use Rattle.ribbit_tool.specs.Command as spec;
 ghost use Rattle.ribbit_tool.specs.Run.{IsAnswered, IsPrepared, RunsFile, answer_due, value_line};
-ghost use Rattle.ribbit_tool.specs.View.{limits_view, IsRefusal, Meets};
+ghost use Rattle.ribbit_tool.specs.Reading.{ReadsInTurn, file_limit, source_of};
+ghost use Rattle.ribbit_tool.specs.View.{limits_view, IsRefusal, Meets, added};
 
 use crate::accepting::accept;
 use crate::arguments::read_arguments;
@@ -130,10 +131,10 @@ pub fn run_file<S: Source, L: Ledger>(
     values: &[Name],
     steps: &mut Steps<L>,
 ) -> Result<Vec<u8>, Refusal>
-    ensures later { S.faults src.old ≤ S.faults src.new }
+    ensures read { ReadsInTurn ((file.now, file_limit) ∷ [])
+        (source_of S.tells S.held S.readings S.faults src.old src.new) }
     ensures owed { Meets
-        (Owes (Ok (spec.run file.now (limits_view limits) values.now)) (S.tells src.old) (S.held src.old)
-        (S.faults src.old) (S.faults src.new))
+        (Owes (Ok (spec.run file.now (limits_view limits) values.now)) (added S.readings src.old src.new))
         steps.old.taken steps.new.taken result }
 {
     let bytes = read_within(alloc, src, file, FILE_LIMIT)?;

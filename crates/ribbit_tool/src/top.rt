@@ -2,14 +2,15 @@
 
 ghost use Rattle.std.specs.Prelude.{◌≡◌, ◌≤◌, ℕ, List, IfOk, Ok};
 ghost use Rattle.ribbit_tool.specs.Answer.{refusal};
-ghost use Rattle.ribbit_tool.specs.Answers.{Owes};
+ghost use Rattle.ribbit_tool.specs.Answers.{Owes, files_of};
 ghost use Rattle.ribbit_tool.specs.Command.{command_of};
 ghost use Rattle.ribbit_tool.specs.Delivery.{change};
-ghost use Rattle.ribbit_tool.specs.Headline.{Headline};
+ghost use Rattle.ribbit_tool.specs.Headline.{GivesHeld, Headline};
 ghost use Rattle.ribbit_tool.specs.Headlines.{CountHeadline, GenerateHeadline, ImageHeadline};
 ghost use Rattle.ribbit_tool.specs.Lines.{usage_line};
-ghost use Rattle.ribbit_tool.specs.Promise.{Performs, IsRight, source_of};
-ghost use Rattle.ribbit_tool.specs.View.{command_view, due_of, Meets};
+ghost use Rattle.ribbit_tool.specs.Promise.{Performs, IsRight};
+ghost use Rattle.ribbit_tool.specs.Reading.{ReadsInTurn, source_of};
+ghost use Rattle.ribbit_tool.specs.View.{added, command_view, due_of, Meets};
 ghost use Rattle.ribbit_tool.specs.declared.status.Status.TheVariants as status;
 
 use crate::check::check_file;
@@ -39,9 +40,9 @@ fn obey<S: Source, L: Ledger>(
     src: &mut S,
     steps: &mut Steps<L>,
 ) -> Result<Vec<u8>, Refusal>
-    ensures later { S.faults src.old ≤ S.faults src.new }
-    ensures owed { Meets (Owes (Ok (command_view command.now)) (S.tells src.old) (S.held src.old) (S.faults src.old)
-        (S.faults src.new))
+    ensures read { ReadsInTurn (files_of (Ok (command_view command.now)))
+        (source_of S.tells S.held S.readings S.faults src.old src.new) }
+    ensures owed { Meets (Owes (Ok (command_view command.now)) (added S.readings src.old src.new))
         steps.old.taken steps.new.taken result }
 {
     match command {
@@ -94,9 +95,9 @@ fn compose<S: Source, L: Ledger>(
     src: &mut S,
     steps: &mut Steps<L>,
 ) -> Result<Vec<u8>, Refusal>
-    ensures later { S.faults src.old ≤ S.faults src.new }
-    ensures owed { Meets (Owes (command_of words.now) (S.tells src.old) (S.held src.old) (S.faults src.old)
-        (S.faults src.new))
+    ensures read { ReadsInTurn (files_of (command_of words.now))
+        (source_of S.tells S.held S.readings S.faults src.old src.new) }
+    ensures owed { Meets (Owes (command_of words.now) (added S.readings src.old src.new))
         steps.old.taken steps.new.taken result }
 {
     match parse(alloc, words) {
@@ -119,9 +120,9 @@ fn answer<S: Source, O: Sink, E: Sink, L: Ledger>(
     steps: &mut Steps<L>,
 ) -> u8
     ensures { Performs words.now
-        (source_of S.tells S.held S.faults src.old src.new)
-        (change O.tells O.taken O.faults out.old out.new)
-        (change E.tells E.taken E.faults err.old err.new)
+        (source_of S.tells S.held S.readings S.faults src.old src.new)
+        (change O.tells O.taken O.account O.faults out.old out.new)
+        (change E.tells E.taken E.account E.faults err.old err.new)
         (record { before = steps.old.taken; now = steps.new.taken }) result }
 {
     match compose(alloc, words, src, steps) {
@@ -144,35 +145,40 @@ pub fn ribbit<S: Source, O: Sink, E: Sink, L: Ledger>(
 ) -> u8
     // What was due, and how it was delivered.
     ensures performs { Performs words.now
-        (source_of S.tells S.held S.faults src.old src.new)
-        (change O.tells O.taken O.faults out.old out.new)
-        (change E.tells E.taken E.faults err.old err.new)
+        (source_of S.tells S.held S.readings S.faults src.old src.new)
+        (change O.tells O.taken O.account O.faults out.old out.new)
+        (change E.tells E.taken E.account E.faults err.old err.new)
         (record { before = steps.old.taken; now = steps.new.taken }) result }
-    // The headline, for accepted files: the value of the source's meaning, or the limit that it passes.
+    // The headline, where the file gave bytes that are accepted: the value of the source's meaning, or the
+    // limit that it passes.
     ensures headline { Headline words.now
-        (source_of S.tells S.held S.faults src.old src.new)
-        (change O.tells O.taken O.faults out.old out.new)
-        (change E.tells E.taken E.faults err.old err.new) result }
+        (source_of S.tells S.held S.readings S.faults src.old src.new)
+        (change O.tells O.taken O.account O.faults out.old out.new)
+        (change E.tells E.taken E.account E.faults err.old err.new) result }
+    // Where a source tells that it holds a file, the file gave the bytes that are held.
+    ensures held { GivesHeld words.now
+        (source_of S.tells S.held S.readings S.faults src.old src.new)
+        (change O.tells O.taken O.account O.faults out.old out.new)
+        (change E.tells E.taken E.account E.faults err.old err.new) result }
     // The image of that value, with just the blocks that are asked for.
     ensures image { ImageHeadline words.now
-        (source_of S.tells S.held S.faults src.old src.new)
-        (change O.tells O.taken O.faults out.old out.new)
-        (change E.tells E.taken E.faults err.old err.new) result }
+        (source_of S.tells S.held S.readings S.faults src.old src.new)
+        (change O.tells O.taken O.account O.faults out.old out.new)
+        (change E.tells E.taken E.account E.faults err.old err.new) result }
     // That value, and what the run did.
     ensures count { CountHeadline words.now
-        (source_of S.tells S.held S.faults src.old src.new)
-        (change O.tells O.taken O.faults out.old out.new)
-        (change E.tells E.taken E.faults err.old err.new) result }
+        (source_of S.tells S.held S.readings S.faults src.old src.new)
+        (change O.tells O.taken O.account O.faults out.old out.new)
+        (change E.tells E.taken E.account E.faults err.old err.new) result }
     // The generated file, and what its run did.
     ensures generate { GenerateHeadline words.now
-        (source_of S.tells S.held S.faults src.old src.new)
-        (change O.tells O.taken O.faults out.old out.new)
-        (change E.tells E.taken E.faults err.old err.new) result }
+        (change O.tells O.taken O.account O.faults out.old out.new)
+        (change E.tells E.taken E.account E.faults err.old err.new) result }
     // The main theorem, for all words and files, and with faults of the source and the sinks.
     ensures right { IsRight words.now
-        (source_of S.tells S.held S.faults src.old src.new)
-        (change O.tells O.taken O.faults out.old out.new)
-        (change E.tells E.taken E.faults err.old err.new)
+        (source_of S.tells S.held S.readings S.faults src.old src.new)
+        (change O.tells O.taken O.account O.faults out.old out.new)
+        (change E.tells E.taken E.account E.faults err.old err.new)
         (record { before = steps.old.taken; now = steps.new.taken }) result }
 {
     answer(alloc, words.as_slice(), src, out, err, steps)

@@ -1,4 +1,6 @@
-use Rattle.std.proofs.Common.{◌++◌, ap, ◌∙◌, IsTrue, arith, append_assoc}
+use Rattle.std.proofs.Common.{ℕ, List, ◌++◌, take, drop, ap, ◌∙◌, IsTrue, arith, append_assoc}
+use Rattle.rb_edge.specs.History.{after_take}
+use Rattle.rb_edge.proofs.Histories.{took_twice}
 use Rattle.rb_edge.proofs.Pieces.{take-more, rest_after}
 use Rattle.rb_edge.proofs.whole.write_whole.Goals as goal
 
@@ -13,4 +15,8 @@ loop-turn-preserved g c = record {
       let a = c.in_ok-done.ensures.taken told in
       let b = c.loop-turn.invariant.taken t in
       rw (a, b, append_assoc, rest_after) (ap (λ v. g.K.Sink.taken c.args.sink.now ++ v) (take-more c.loop-turn.done c.in_ok-done.field-0 c.args.bytes.now));
+  said = rw (c.in_ok-done.ensures.said, c.loop-turn.invariant.said, rest_after) (
+      took_twice (take c.loop-turn.done c.args.bytes.now) (take c.in_ok-done.field-0 (drop c.loop-turn.done c.args.bytes.now)) (g.K.Sink.account c.args.sink.now)
+      ∙ ap (λ (v : List ℕ). after_take v (g.K.Sink.account c.args.sink.now)) (take-more c.loop-turn.done c.in_ok-done.field-0 c.args.bytes.now)
+      );
 }

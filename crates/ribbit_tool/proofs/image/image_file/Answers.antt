@@ -1,4 +1,4 @@
-use Rattle.std.proofs.Common.{ℕ, List, subst, Ok}
+use Rattle.std.proofs.Common.{ℕ, List, subst, Ok, length, drop}
 use Rattle.std.proofs.lemmas.Result.{err_from_is_err_and}
 use Rattle.ribbit_tool.specs.Answers.{Owes}
 use Rattle.ribbit_tool.specs.Command.{image}
@@ -11,28 +11,22 @@ use Rattle.ribbit_tool.proofs.image.image_file.Goals as goal
 
 pub returns-in_err-bytes-clause-owed : goal.returns-in_err-bytes-clause-owed
 returns-in_err-bytes-clause-owed g c =
-    let tells = g.S.Source.tells c.args.src.now in
-    let held = g.S.Source.held c.args.src.now in
-    let before = g.S.Source.faults c.args.src.now in
-    let now = g.S.Source.faults c.read_within.new.src in
+    let readings = drop (length (g.S.Source.readings c.args.src.now)) (g.S.Source.readings c.read_within.new.src) in
     let limits = limits_view c.args.limits in
     let command = image c.args.file.now limits c.args.values.now in
     let p = err_from_is_err_and c.from_residual.result c.from_residual.ensures.1 in
-    rw (p.1, p.2) (refused_met (λ due. IsUnread tells held before now c.args.file.now file_limit due) (λ due. Owes (Ok command) tells held before now due)
-    (λ due h. owes_unread command c.args.file.now file_limit (λ bs d. ImagesFile limits c.args.values.now bs d) (λ seen d known. known) held before now tells due h)
+    rw (p.1, p.2) (refused_met (λ due. IsUnread c.args.file.now file_limit readings due) (λ due. Owes (Ok command) readings due)
+    (λ due h. owes_unread command c.args.file.now file_limit (λ bs d. ImagesFile limits c.args.values.now bs d) (λ rs d known. known) readings due h)
     c.args.steps.now.taken _ c.in_err-bytes.ensures.refused)
 
 pub returns-clause-owed : goal.returns-clause-owed
 returns-clause-owed g c =
-    let tells = g.S.Source.tells c.args.src.now in
-    let held = g.S.Source.held c.args.src.now in
-    let before = g.S.Source.faults c.args.src.now in
-    let now = g.S.Source.faults c.read_within.new.src in
+    let readings = drop (length (g.S.Source.readings c.args.src.now)) (g.S.Source.readings c.read_within.new.src) in
     let limits = limits_view c.args.limits in
     let command = image c.args.file.now limits c.args.values.now in
     let bytes = c.in_ok-bytes.bytes in
     let Due-of : List ℕ → Type 0 = λ bs. Meets (λ d. ImagesFile limits c.args.values.now bs d) c.args.steps.now.taken c.image_bytes.new.steps.taken c.image_bytes.result in
-    met (λ d. ImagesFile limits c.args.values.now bytes d) (λ due. Owes (Ok command) tells held before now due)
-    (λ due h. owes_read command c.args.file.now file_limit (λ bs d. ImagesFile limits c.args.values.now bs d) (λ seen d known. known) held before now
-    tells bytes c.in_ok-bytes.ensures.seen c.in_ok-bytes.ensures.within due h)
+    met (λ d. ImagesFile limits c.args.values.now bytes d) (λ due. Owes (Ok command) readings due)
+    (λ due h. owes_read command c.args.file.now file_limit (λ bs d. ImagesFile limits c.args.values.now bs d) (λ rs d known. known) readings due
+    bytes c.in_ok-bytes.ensures.given c.in_ok-bytes.ensures.within h)
     c.args.steps.now.taken c.image_bytes.new.steps.taken c.image_bytes.result (subst Due-of c.as_slice.ensures c.image_bytes.ensures)

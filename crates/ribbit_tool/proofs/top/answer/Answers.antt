@@ -15,6 +15,8 @@ returns-in-Ok g c =
       tells = g.O.Sink.tells c.args.out.now;
       old = g.O.Sink.taken c.args.out.now;
       new = g.O.Sink.taken c.print.new.out;
+      said = g.O.Sink.account c.args.out.now;
+      says = g.O.Sink.account c.print.new.out;
       before = g.O.Sink.faults c.args.out.now;
       now = g.O.Sink.faults c.print.new.out;
     } in
@@ -22,10 +24,13 @@ returns-in-Ok g c =
       tells = g.E.Sink.tells c.args.err.now;
       old = g.E.Sink.taken c.args.err.now;
       new = g.E.Sink.taken c.print.new.err;
+      said = g.E.Sink.account c.args.err.now;
+      says = g.E.Sink.account c.print.new.err;
       before = g.E.Sink.faults c.args.err.now;
       now = g.E.Sink.faults c.print.new.err;
     } in
     record {
+      reads = c.in-Ok.ensures.read;
       due = printed c.in-Ok.text.items a.0;
       owes = a.2;
       delivers = subst (λ (t : List ℕ). Prints t out err c.print.result) c.as_slice.ensures.value c.print.ensures;
@@ -39,6 +44,8 @@ returns-in-Err-Refused g c =
       tells = g.O.Sink.tells c.args.out.now;
       old = g.O.Sink.taken c.args.out.now;
       new = g.O.Sink.taken c.refuse.new.out;
+      said = g.O.Sink.account c.args.out.now;
+      says = g.O.Sink.account c.refuse.new.out;
       before = g.O.Sink.faults c.args.out.now;
       now = g.O.Sink.faults c.refuse.new.out;
     } in
@@ -46,11 +53,14 @@ returns-in-Err-Refused g c =
       tells = g.E.Sink.tells c.args.err.now;
       old = g.E.Sink.taken c.args.err.now;
       new = g.E.Sink.taken c.refuse.new.err;
+      said = g.E.Sink.account c.args.err.now;
+      says = g.E.Sink.account c.refuse.new.err;
       before = g.E.Sink.faults c.args.err.now;
       now = g.E.Sink.faults c.refuse.new.err;
     } in
     let refused = c.in-Err-Refused.refused in
     record {
+      reads = c.in-Err-Refused.ensures.read;
       due = due_after a.0 refused;
       owes = a.2;
       delivers = subst (λ (t : List ℕ). Refuses (status_number refused.status) t out err c.refuse.result) c.as_slice-in-Err-Refused.ensures.value c.refuse.ensures;
@@ -59,4 +69,10 @@ returns-in-Err-Refused g c =
 
 pub returns-in-Err-Memory : goal.returns-in-Err-Memory
 returns-in-Err-Memory g c =
-    record { due = refusal NoMemory no_memory_line; owes = out_of_memory refl; delivers = c.refuse-in-Err-Memory.ensures; counted = λ ne. absurd (ne refl) }
+    record {
+      reads = c.in-Err-Memory.ensures.read;
+      due = refusal NoMemory no_memory_line;
+      owes = out_of_memory refl;
+      delivers = c.refuse-in-Err-Memory.ensures;
+      counted = λ ne. absurd (ne refl);
+    }

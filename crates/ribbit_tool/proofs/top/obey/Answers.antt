@@ -1,76 +1,180 @@
-use Rattle.std.proofs.Common.{ℕ, List, sym, subst, Ok}
-use Rattle.ribbit_tool.specs.Answers.{Owes}
+use Rattle.std.proofs.Common.{ℕ, List, length, drop, refl, sym, subst, Ok}
+use Rattle.ribbit_tool.specs.Answers.{Owes, answered, files_of}
 use Rattle.ribbit_tool.specs.Command.{gen, genrun, exec}
 use Rattle.ribbit_tool.specs.Generate.{Generates, CountsGenerated}
+use Rattle.ribbit_tool.specs.Reading.{Source, ReadsInTurn}
 use Rattle.ribbit_tool.specs.View.{command_view, limits_view, Meets}
 use Rattle.ribbit_tool.specs.declared.command.Command.{Command}
 use Rattle.ribbit_tool.proofs.Meeting.{met}
-use Rattle.ribbit_tool.proofs.Owing.{owes_as}
+use Rattle.ribbit_tool.proofs.ReadLaws.{none_in_turn}
 use Rattle.ribbit_tool.proofs.top.obey.Goals as goal
+
+pub returns-in-Check-clause-read : goal.returns-in-Check-clause-read
+returns-in-Check-clause-read g c =
+    let source : Source = record {
+      tells = g.S.Source.tells c.args.src.now;
+      held = g.S.Source.held c.args.src.now;
+      old = g.S.Source.readings c.args.src.now;
+      new = g.S.Source.readings c.check_file.new.src;
+      before = g.S.Source.faults c.args.src.now;
+      now = g.S.Source.faults c.check_file.new.src;
+    } in
+    subst (λ (command : Command). ReadsInTurn (files_of (Ok (command_view command))) source) (sym c.in-Check.is) c.check_file.ensures.read
 
 pub returns-in-Check-clause-owed : goal.returns-in-Check-clause-owed
 returns-in-Check-clause-owed g c =
-    subst (λ (command : Command). Meets (Owes (Ok (command_view command)) (g.S.Source.tells c.args.src.now) (g.S.Source.held c.args.src.now)
-    (g.S.Source.faults c.args.src.now) (g.S.Source.faults c.check_file.new.src)) c.args.steps.now.taken c.args.steps.now.taken c.check_file.result)
+    let readings = (drop (length (g.S.Source.readings c.args.src.now)) (g.S.Source.readings c.check_file.new.src)) in
+    subst (λ (command : Command). Meets (Owes (Ok (command_view command)) readings) c.args.steps.now.taken c.args.steps.now.taken c.check_file.result)
     (sym c.in-Check.is) (c.check_file.ensures.owed c.args.steps.now.taken)
+
+pub returns-in-Layout-clause-read : goal.returns-in-Layout-clause-read
+returns-in-Layout-clause-read g c =
+    let source : Source = record {
+      tells = g.S.Source.tells c.args.src.now;
+      held = g.S.Source.held c.args.src.now;
+      old = g.S.Source.readings c.args.src.now;
+      new = g.S.Source.readings c.layout_file.new.src;
+      before = g.S.Source.faults c.args.src.now;
+      now = g.S.Source.faults c.layout_file.new.src;
+    } in
+    subst (λ (command : Command). ReadsInTurn (files_of (Ok (command_view command))) source) (sym c.in-Layout.is) c.layout_file.ensures.read
 
 pub returns-in-Layout-clause-owed : goal.returns-in-Layout-clause-owed
 returns-in-Layout-clause-owed g c =
-    subst (λ (command : Command). Meets (Owes (Ok (command_view command)) (g.S.Source.tells c.args.src.now) (g.S.Source.held c.args.src.now)
-    (g.S.Source.faults c.args.src.now) (g.S.Source.faults c.layout_file.new.src)) c.args.steps.now.taken c.args.steps.now.taken c.layout_file.result)
+    let readings = (drop (length (g.S.Source.readings c.args.src.now)) (g.S.Source.readings c.layout_file.new.src)) in
+    subst (λ (command : Command). Meets (Owes (Ok (command_view command)) readings) c.args.steps.now.taken c.args.steps.now.taken c.layout_file.result)
     (sym c.in-Layout.is) (c.layout_file.ensures.owed c.args.steps.now.taken)
+
+pub returns-in-Compile-clause-read : goal.returns-in-Compile-clause-read
+returns-in-Compile-clause-read g c =
+    let source : Source = record {
+      tells = g.S.Source.tells c.args.src.now;
+      held = g.S.Source.held c.args.src.now;
+      old = g.S.Source.readings c.args.src.now;
+      new = g.S.Source.readings c.compile_file.new.src;
+      before = g.S.Source.faults c.args.src.now;
+      now = g.S.Source.faults c.compile_file.new.src;
+    } in
+    subst (λ (command : Command). ReadsInTurn (files_of (Ok (command_view command))) source) (sym c.in-Compile.is) c.compile_file.ensures.read
 
 pub returns-in-Compile-clause-owed : goal.returns-in-Compile-clause-owed
 returns-in-Compile-clause-owed g c =
-    subst (λ (command : Command). Meets (Owes (Ok (command_view command)) (g.S.Source.tells c.args.src.now) (g.S.Source.held c.args.src.now)
-    (g.S.Source.faults c.args.src.now) (g.S.Source.faults c.compile_file.new.src)) c.args.steps.now.taken c.args.steps.now.taken c.compile_file.result)
+    let readings = (drop (length (g.S.Source.readings c.args.src.now)) (g.S.Source.readings c.compile_file.new.src)) in
+    subst (λ (command : Command). Meets (Owes (Ok (command_view command)) readings) c.args.steps.now.taken c.args.steps.now.taken c.compile_file.result)
     (sym c.in-Compile.is) (c.compile_file.ensures.owed c.args.steps.now.taken)
+
+pub returns-in-Run-clause-read : goal.returns-in-Run-clause-read
+returns-in-Run-clause-read g c =
+    let source : Source = record {
+      tells = g.S.Source.tells c.args.src.now;
+      held = g.S.Source.held c.args.src.now;
+      old = g.S.Source.readings c.args.src.now;
+      new = g.S.Source.readings c.run_file.new.src;
+      before = g.S.Source.faults c.args.src.now;
+      now = g.S.Source.faults c.run_file.new.src;
+    } in
+    subst (λ (command : Command). ReadsInTurn (files_of (Ok (command_view command))) source) (sym c.in-Run.is) c.run_file.ensures.read
 
 pub returns-in-Run-clause-owed : goal.returns-in-Run-clause-owed
 returns-in-Run-clause-owed g c =
-    subst (λ (command : Command). Meets (Owes (Ok (command_view command)) (g.S.Source.tells c.args.src.now) (g.S.Source.held c.args.src.now)
-    (g.S.Source.faults c.args.src.now) (g.S.Source.faults c.run_file.new.src)) c.args.steps.now.taken c.run_file.new.steps.taken c.run_file.result)
+    let readings = (drop (length (g.S.Source.readings c.args.src.now)) (g.S.Source.readings c.run_file.new.src)) in
+    subst (λ (command : Command). Meets (Owes (Ok (command_view command)) readings) c.args.steps.now.taken c.run_file.new.steps.taken c.run_file.result)
     (sym c.in-Run.is) c.run_file.ensures.owed
+
+pub returns-in-Image-clause-read : goal.returns-in-Image-clause-read
+returns-in-Image-clause-read g c =
+    let source : Source = record {
+      tells = g.S.Source.tells c.args.src.now;
+      held = g.S.Source.held c.args.src.now;
+      old = g.S.Source.readings c.args.src.now;
+      new = g.S.Source.readings c.image_file.new.src;
+      before = g.S.Source.faults c.args.src.now;
+      now = g.S.Source.faults c.image_file.new.src;
+    } in
+    subst (λ (command : Command). ReadsInTurn (files_of (Ok (command_view command))) source) (sym c.in-Image.is) c.image_file.ensures.read
 
 pub returns-in-Image-clause-owed : goal.returns-in-Image-clause-owed
 returns-in-Image-clause-owed g c =
-    subst (λ (command : Command). Meets (Owes (Ok (command_view command)) (g.S.Source.tells c.args.src.now) (g.S.Source.held c.args.src.now)
-    (g.S.Source.faults c.args.src.now) (g.S.Source.faults c.image_file.new.src)) c.args.steps.now.taken c.image_file.new.steps.taken c.image_file.result)
+    let readings = (drop (length (g.S.Source.readings c.args.src.now)) (g.S.Source.readings c.image_file.new.src)) in
+    subst (λ (command : Command). Meets (Owes (Ok (command_view command)) readings) c.args.steps.now.taken c.image_file.new.steps.taken c.image_file.result)
     (sym c.in-Image.is) c.image_file.ensures.owed
+
+pub returns-in-Count-clause-read : goal.returns-in-Count-clause-read
+returns-in-Count-clause-read g c =
+    let source : Source = record {
+      tells = g.S.Source.tells c.args.src.now;
+      held = g.S.Source.held c.args.src.now;
+      old = g.S.Source.readings c.args.src.now;
+      new = g.S.Source.readings c.count_file.new.src;
+      before = g.S.Source.faults c.args.src.now;
+      now = g.S.Source.faults c.count_file.new.src;
+    } in
+    subst (λ (command : Command). ReadsInTurn (files_of (Ok (command_view command))) source) (sym c.in-Count.is) c.count_file.ensures.read
 
 pub returns-in-Count-clause-owed : goal.returns-in-Count-clause-owed
 returns-in-Count-clause-owed g c =
-    subst (λ (command : Command). Meets (Owes (Ok (command_view command)) (g.S.Source.tells c.args.src.now) (g.S.Source.held c.args.src.now)
-    (g.S.Source.faults c.args.src.now) (g.S.Source.faults c.count_file.new.src)) c.args.steps.now.taken c.count_file.new.steps.taken c.count_file.result)
+    let readings = (drop (length (g.S.Source.readings c.args.src.now)) (g.S.Source.readings c.count_file.new.src)) in
+    subst (λ (command : Command). Meets (Owes (Ok (command_view command)) readings) c.args.steps.now.taken c.count_file.new.steps.taken c.count_file.result)
     (sym c.in-Count.is) c.count_file.ensures.owed
+
+pub returns-in-Gen-clause-read : goal.returns-in-Gen-clause-read
+returns-in-Gen-clause-read g c =
+    let source : Source = record {
+      tells = g.S.Source.tells c.args.src.now;
+      held = g.S.Source.held c.args.src.now;
+      old = g.S.Source.readings c.args.src.now;
+      new = g.S.Source.readings c.args.src.now;
+      before = g.S.Source.faults c.args.src.now;
+      now = g.S.Source.faults c.args.src.now;
+    } in
+    none_in_turn source (files_of (Ok (command_view c.args.command.now))) refl
+
+pub returns-in-GenRun-clause-read : goal.returns-in-GenRun-clause-read
+returns-in-GenRun-clause-read g c =
+    let source : Source = record {
+      tells = g.S.Source.tells c.args.src.now;
+      held = g.S.Source.held c.args.src.now;
+      old = g.S.Source.readings c.args.src.now;
+      new = g.S.Source.readings c.args.src.now;
+      before = g.S.Source.faults c.args.src.now;
+      now = g.S.Source.faults c.args.src.now;
+    } in
+    none_in_turn source (files_of (Ok (command_view c.args.command.now))) refl
 
 pub returns-in-Gen-clause-owed : goal.returns-in-Gen-clause-owed
 returns-in-Gen-clause-owed g c =
-    let faults = g.S.Source.faults c.args.src.now in
+    let readings = (drop (length (g.S.Source.readings c.args.src.now)) (g.S.Source.readings c.args.src.now)) in
     let n = c.in-Gen.functions in
     let steps = c.args.steps.now.taken in
-    subst (λ (command : Command). Meets (Owes (Ok (command_view command)) (g.S.Source.tells c.args.src.now) (g.S.Source.held c.args.src.now) faults faults)
-    steps steps c.generate_file.result) (sym c.in-Gen.is)
-    (met (λ due. Generates n.count due) (λ due. Owes (Ok (gen n.count)) (g.S.Source.tells c.args.src.now) (g.S.Source.held c.args.src.now) faults faults due)
-    (λ due h. owes_as (gen n.count) (g.S.Source.held c.args.src.now) faults faults (g.S.Source.tells c.args.src.now) due h) steps steps c.generate_file.result (c.generate_file.ensures steps))
+    subst (λ (command : Command). Meets (Owes (Ok (command_view command)) readings) steps steps c.generate_file.result) (sym c.in-Gen.is)
+    (met (λ due. Generates n.count due) (λ due. Owes (Ok (gen n.count)) readings due) (λ due h. answered h) steps steps c.generate_file.result (c.generate_file.ensures steps))
 
 pub returns-in-GenRun-clause-owed : goal.returns-in-GenRun-clause-owed
 returns-in-GenRun-clause-owed g c =
-    let faults = g.S.Source.faults c.args.src.now in
+    let readings = (drop (length (g.S.Source.readings c.args.src.now)) (g.S.Source.readings c.args.src.now)) in
     let n = c.in-GenRun.functions in
     let limits = limits_view c.in-GenRun.limits in
     let steps = c.args.steps.now.taken in
-    subst (λ (command : Command). Meets (Owes (Ok (command_view command)) (g.S.Source.tells c.args.src.now) (g.S.Source.held c.args.src.now) faults faults)
-    steps c.count_generated.new.steps.taken c.count_generated.result) (sym c.in-GenRun.is)
-    (met (λ due. CountsGenerated n.count limits due) (λ due. Owes (Ok (genrun n.count limits)) (g.S.Source.tells c.args.src.now) (g.S.Source.held c.args.src.now) faults faults due)
-    (λ due h. owes_as (genrun n.count limits) (g.S.Source.held c.args.src.now) faults faults (g.S.Source.tells c.args.src.now) due h)
+    subst (λ (command : Command). Meets (Owes (Ok (command_view command)) readings) steps c.count_generated.new.steps.taken c.count_generated.result) (sym c.in-GenRun.is)
+    (met (λ due. CountsGenerated n.count limits due) (λ due. Owes (Ok (genrun n.count limits)) readings due) (λ due h. answered h)
     steps c.count_generated.new.steps.taken c.count_generated.result c.count_generated.ensures)
+
+pub returns-in-Exec-clause-read : goal.returns-in-Exec-clause-read
+returns-in-Exec-clause-read g c =
+    let source : Source = record {
+      tells = g.S.Source.tells c.args.src.now;
+      held = g.S.Source.held c.args.src.now;
+      old = g.S.Source.readings c.args.src.now;
+      new = g.S.Source.readings c.run_code_file.new.src;
+      before = g.S.Source.faults c.args.src.now;
+      now = g.S.Source.faults c.run_code_file.new.src;
+    } in
+    subst (λ (command : Command). ReadsInTurn (files_of (Ok (command_view command))) source) (sym c.in-Exec.is) c.run_code_file.ensures.read
 
 pub returns-in-Exec-clause-owed : goal.returns-in-Exec-clause-owed
 returns-in-Exec-clause-owed g c =
-    let owed = subst (λ (words : List ℕ). Meets (Owes (Ok (exec c.in-Exec.code.now c.in-Exec.function.now (limits_view c.in-Exec.limits) words))
-    (g.S.Source.tells c.args.src.now) (g.S.Source.held c.args.src.now) (g.S.Source.faults c.args.src.now) (g.S.Source.faults c.run_code_file.new.src))
+    let readings = (drop (length (g.S.Source.readings c.args.src.now)) (g.S.Source.readings c.run_code_file.new.src)) in
+    let owed = subst (λ (words : List ℕ). Meets (Owes (Ok (exec c.in-Exec.code.now c.in-Exec.function.now (limits_view c.in-Exec.limits) words)) readings)
     c.args.steps.now.taken c.run_code_file.new.steps.taken c.run_code_file.result) c.as_slice.ensures c.run_code_file.ensures.owed in
-    subst (λ (command : Command). Meets (Owes (Ok (command_view command)) (g.S.Source.tells c.args.src.now) (g.S.Source.held c.args.src.now)
-    (g.S.Source.faults c.args.src.now) (g.S.Source.faults c.run_code_file.new.src)) c.args.steps.now.taken c.run_code_file.new.steps.taken c.run_code_file.result)
+    subst (λ (command : Command). Meets (Owes (Ok (command_view command)) readings) c.args.steps.now.taken c.run_code_file.new.steps.taken c.run_code_file.result)
     (sym c.in-Exec.is) owed

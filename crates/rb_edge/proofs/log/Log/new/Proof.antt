@@ -1,4 +1,4 @@
--- A value of no bytes, at the number 0.
+-- A value of no bytes, of no event.
 use mathlib.Core.Path.{refl}
 use mathlib.Core.List.{[], ◌∷◌}
 use seplogic.Ra.Ura.{Ura}
@@ -21,18 +21,18 @@ use denote.Triple.Entry.{on_entry}
 use denote.Triple.Spec.{Meets, triple_of}
 use denote.Triple.Table.{entered}
 use denote.Triple.Walked.{says, ends_at, walked, walk_Meets}
-use Rattle.rb_edge.specs.declared.taken.Taken.{Taken}
-use Rattle.rb_edge.specs.contracts.taken.Taken as T
-use Rattle.rb_edge.specs.contracts.taken.Taken.new.Key.{name as #it}
-use Rattle.rb_edge.specs.contracts.taken.Taken.new as it
-use Rattle.rb_edge.proofs.taken.Taken.new.Statement as stated
-use Rattle.rb_edge.proofs.taken.Taken.new.Code as code
+use Rattle.rb_edge.specs.declared.log.Log.{Log}
+use Rattle.rb_edge.specs.contracts.log.Log as T
+use Rattle.rb_edge.specs.contracts.log.Log.new.Key.{name as #it}
+use Rattle.rb_edge.specs.contracts.log.Log.new as it
+use Rattle.rb_edge.proofs.log.Log.new.Statement as stated
+use Rattle.rb_edge.proofs.log.Log.new.Code as code
 
 abbrev v : Val
 v = vstruct (vcons (vstruct vnil) vnil)
 
-abbrev r : Taken
-r = record { marker = record {}; count = 0 }
+abbrev r : Log
+r = record { marker = record {}; events = [] }
 
 meets : {M : Type 1} {𝓤 : Ura M} (𝓛 : Logic 𝓤) → (at_mem : Memory → SProp 𝓤) (run : Routine → Fun 𝓤) (𝓣 : Tables 𝓤 𝓛.H)
     → Meets 𝓛 it.signature (WpFn 𝓤 𝓛.H 𝓣.C 𝓣.Λ code.function) (it.spec 𝓛 at_mem run)

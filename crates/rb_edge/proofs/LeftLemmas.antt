@@ -1,0 +1,95 @@
+-- What a reading that goes on comes to, by its outcome.
+use Rattle.std.proofs.Common.{◌≡◌, ◌≢◌, ◌≤◌, ◌<◌, ◌+◌, ℕ, zero, suc, List, [], ◌∷◌, ◌++◌, length, take, length-take, arith, leb, Option, Some, Bool, true, false, IsTrue, Result, Ok, Err, sym, ap, subst, refl, ◌∙◌, if◌then◌else◌}
+use Rattle.std.proofs.lemmas.Bool.{le-leb}
+use Rattle.std.specs.declared.vec.Vec.{Vec}
+use Rattle.std.specs.declared.alloc.Global.{Global}
+use Rattle.rb_edge.specs.History.{Reading, going, ended, failed, begun, handed, told_end, broken, on_last, after_read}
+use Rattle.rb_edge.specs.Whole.{Begins, ReadsOnce, read_to}
+use Rattle.rb_edge.specs.inner.Left.{ReadsOn, goes_on}
+use Rattle.rb_edge.specs.declared.whole.ReadFault.{ReadFault}
+use Rattle.rb_edge.specs.declared.whole.ReadFault.TheVariants.{Failed, Memory}
+use Rattle.rb_edge.proofs.Histories.{on_last_snoc, on_last_twice, on_last_same, gave_none, read_more}
+
+module _ {S : Type 0} (tells : S → Bool) (left : S → List ℕ) (readings : S → List Reading) (old new : S) (limit : ℕ) where
+  pub stopped_by_fault : (r : Result (Vec ℕ Global) ReadFault) (f : ReadFault) → r ≡ Err f → (bytes : List ℕ) → length bytes ≤ limit + 1
+      → (IsTrue (tells old) → left old ≡ bytes ++ left new) → readings new ≡ on_last (goes_on limit bytes (Err f)) (readings old)
+      → ReadsOn tells left readings old new limit r
+  stopped_by_fault r f is bytes within left_so on =
+      subst (λ (x : Result (Vec ℕ Global) ReadFault). ReadsOn tells left readings old new limit x) (sym is)
+      (record { bytes = bytes; within = within; left_so = left_so; on = on; given = tt })
+
+module _ (limit : ℕ) (bytes : List ℕ) (first before after : List Reading) (so_far : before ≡ on_last (handed bytes) first) where
+  -- and then a read that failed
+  pub then_broken : after ≡ on_last broken before → after ≡ on_last (goes_on limit bytes (Err Failed)) first
+  then_broken is = is ∙ ap (λ (rs : List Reading). on_last broken rs) so_far ∙ on_last_twice (handed bytes) broken (goes_on limit bytes (Err Failed)) (λ r. refl) first
+
+  -- and then a read that gave some
+  pub then_more : (room : ℕ) (more : List ℕ) → after ≡ on_last (after_read room more) before → length more ≢ 0 → after ≡ on_last (handed (bytes ++ more)) first
+  then_more room more is some = is ∙ ap (λ (rs : List Reading). on_last (after_read room more) rs) so_far ∙ read_more bytes more room first some
+
+  told_by : (v : Vec ℕ Global) (r : Reading) → length bytes ≤ limit → told_end (handed bytes r) ≡ goes_on limit bytes (Ok v) r
+  told_by v r short = ap (λ (b : Bool). if b then told_end (handed bytes r) else handed bytes r) (sym (le-leb (length bytes) limit short))
+
+  -- and then a read that gave none where there was room
+  pub then_ended : (v : Vec ℕ Global) (room n : ℕ) (buffer : List ℕ) → after ≡ on_last (after_read room (take n buffer)) before → n ≡ 0
+      → length bytes ≤ limit → 0 < room → after ≡ on_last (goes_on limit bytes (Ok v)) first
+  then_ended v room n buffer is none short roomy =
+      is ∙ ap (λ (k : ℕ). on_last (after_read room (take k buffer)) before) none ∙ ap (λ (rs : List Reading). on_last (after_read room []) rs) so_far
+      ∙ on_last_same (after_read room []) told_end (λ r. gave_none room r roomy) (on_last (handed bytes) first)
+      ∙ on_last_twice (handed bytes) told_end (goes_on limit bytes (Ok v)) (λ r. told_by v r short) first
+
+-- a read that gave a byte
+pub some_taken : (n : ℕ) (buffer : List ℕ) → n ≢ 0 → n ≤ length buffer → length (take n buffer) ≢ 0
+some_taken n buffer some within e = let cut = length-take n buffer in some (omega (arith, e, cut, within))
+
+pub take_front : (n : ℕ) (xs ys : List ℕ) → n ≤ length xs → take n (xs ++ ys) ≡ take n xs
+take_front zero xs ys within = refl
+take_front (suc n) [] ys within = absurd (omega (arith, within))
+take_front (suc n) (x ∷ xs) ys within = ap (λ (zs : List ℕ). x ∷ zs) (take_front n xs ys (omega (arith, within)))
+
+-- A file that is opened and then read -------------------------------------------------------
+
+made : (name bytes : List ℕ) (b : Bool) → (if b then told_end (handed bytes (begun name)) else handed bytes (begun name))
+    ≡ record { name = name; bytes = bytes; course = if b then ended else going }
+made name bytes true = refl
+made name bytes false = refl
+
+module _ {S : Type 0} (tells : S → Bool) (held : S → List ℕ → Option (List ℕ)) (left : S → List ℕ) (readings : S → List Reading) (old mid new : S)
+    (name : List ℕ) (limit : ℕ) (opened : readings mid ≡ readings old ++ begun name ∷ []) (same : tells mid ≡ tells old)
+    (is_held : IsTrue (tells old) → held old name ≡ Some (left mid)) where
+  came : (r : Result (Vec ℕ Global) ReadFault) (on : ReadsOn tells left readings mid new limit r) → readings new ≡ readings old ++ goes_on limit on.bytes r (begun name) ∷ []
+  came r on = on.on ∙ ap (λ (rs : List Reading). on_last (goes_on limit on.bytes r) rs) opened ∙ on_last_snoc (goes_on limit on.bytes r) (readings old) (begun name)
+
+  front : (r : Result (Vec ℕ Global) ReadFault) (on : ReadsOn tells left readings mid new limit r) → IsTrue (tells old) → Begins (held old name) on.bytes
+  front r on t = subst (λ (o : Option (List ℕ)). Begins o on.bytes) (sym (is_held t)) (left new, on.left_so (subst (λ (b : Bool). IsTrue b) (sym same) t))
+
+  pub once_ok : (v : Vec ℕ Global) → ReadsOn tells left readings mid new limit (Ok v) → ReadsOnce tells held readings old new name limit (Ok v.items)
+  once_ok v on = record {
+    reading = read_to limit name on.bytes;
+    one_more = came (Ok v) on ∙ ap (λ (r : Reading). readings old ++ r ∷ []) (made name on.bytes (leb (length on.bytes) limit));
+    named = refl;
+    within = on.within;
+    held_so = front (Ok v) on;
+    given = ap (λ (xs : List ℕ). read_to limit name xs) (sym on.given);
+    stopped = tt;
+  }
+
+  pub once_err : (f : ReadFault) → ReadsOn tells left readings mid new limit (Err f) → ReadsOnce tells held readings old new name limit (Err f)
+  once_err Failed on = record {
+    reading = record { name = name; bytes = on.bytes; course = failed };
+    one_more = came (Err Failed) on;
+    named = refl;
+    within = on.within;
+    held_so = front (Err Failed) on;
+    given = tt;
+    stopped = refl;
+  }
+  once_err Memory on = record {
+    reading = record { name = name; bytes = on.bytes; course = going };
+    one_more = came (Err Memory) on;
+    named = refl;
+    within = on.within;
+    held_so = front (Err Memory) on;
+    given = tt;
+    stopped = refl;
+  }

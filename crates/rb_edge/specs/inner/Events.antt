@@ -1,0 +1,23 @@
+-- How a log keeps what a source handed out, and what a sink said.
+use Rattle.std.specs.Prelude.{ℕ, ◌==◌, List, [], ◌∷◌, ◌++◌, if◌then◌else◌}
+use Rattle.rb_edge.specs.History.{Reading, Account, begun, missed, handed, told_end, broken, on_last, after_take, after_break}
+
+-- an event of a source: a name was opened or missed, bytes were handed out, the end was told, a read failed
+abbrev pub reading_event : List Reading → ℕ × List ℕ → List Reading
+reading_event rs (kind, bytes) =
+    if kind == 0 then rs ++ begun bytes ∷ [] else
+    if kind == 1 then rs ++ missed bytes ∷ [] else
+    if kind == 2 then on_last (handed bytes) rs else
+    if kind == 3 then on_last told_end rs else on_last broken rs
+
+abbrev pub readings_after : List Reading → List (ℕ × List ℕ) → List Reading
+readings_after rs [] = rs
+readings_after rs (e ∷ es) = readings_after (reading_event rs e) es
+
+-- an event of a sink: bytes were taken, or a write failed
+abbrev pub account_event : Account → ℕ × List ℕ → Account
+account_event a (kind, bytes) = if kind == 0 then after_take bytes a else after_break a
+
+abbrev pub account_after : Account → List (ℕ × List ℕ) → Account
+account_after a [] = a
+account_after a (e ∷ es) = account_after (account_event a e) es

@@ -1,0 +1,21 @@
+-- Reading what is left of an opened file.
+use Rattle.std.specs.Prelude.{◌≡◌, ◌≤◌, ◌+◌, leb, ℕ, List, ◌++◌, length, Bool, IsTrue, Result, Ok, Err, IfOk, if◌then◌else◌}
+use Rattle.std.specs.declared.vec.Vec.{Vec}
+use Rattle.std.specs.declared.alloc.Global.{Global}
+use Rattle.rb_edge.specs.History.{Reading, handed, told_end, broken, on_last}
+use Rattle.rb_edge.specs.declared.whole.ReadFault.{ReadFault}
+use Rattle.rb_edge.specs.declared.whole.ReadFault.TheVariants.{Failed, Memory}
+
+-- how the reading goes on with these bytes, by the outcome
+abbrev pub goes_on : ℕ → List ℕ → Result (Vec ℕ Global) ReadFault → Reading → Reading
+goes_on limit bytes (Ok _) r = if leb (length bytes) limit then told_end (handed bytes r) else handed bytes r
+goes_on limit bytes (Err Failed) r = broken (handed bytes r)
+goes_on limit bytes (Err Memory) r = handed bytes r
+
+pub record ReadsOn {S : Type 0} (tells : S → Bool) (left : S → List ℕ) (readings : S → List Reading) (old new : S)
+    (limit : ℕ) (result : Result (Vec ℕ Global) ReadFault) : Type 0 where
+  pub bytes : List ℕ
+  pub within : length bytes ≤ limit + 1
+  pub left_so : IsTrue (tells old) → left old ≡ bytes ++ left new
+  pub on : readings new ≡ on_last (goes_on limit bytes result) (readings old)
+  pub given : IfOk result (λ answer. answer.items ≡ bytes)

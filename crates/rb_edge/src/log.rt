@@ -1,0 +1,34 @@
+//! A log that only contracts read.
+
+ghost use Rattle.std.specs.Prelude.{◌≡◌, ℕ, List, [], ◌∷◌, ◌++◌};
+ghost use Rattle.std.specs.Borrow.{ftrue};
+
+use std::marker::{Model, PhantomData};
+
+/// What happened, in order: kinds by their numbers, each with bytes. It takes no bytes of memory; only
+/// `new` and `note` set it.
+#[derive(Drop)]
+pub struct Log {
+    marker: PhantomData<u8>,
+    pub ghost events: { List (ℕ × List ℕ) },
+}
+
+impl Model for Log {
+    ghost also_owns = { λ _. ftrue };
+}
+
+impl Log {
+    /// Nothing happened.
+    pub fn new() -> Log
+        ensures { result.events ≡ [] }
+    {
+        Log {
+            marker: PhantomData,
+        }
+    }
+
+    /// One event more.
+    pub fn note(&mut self, kind: usize, bytes: &[u8])
+        ensures { self.new.events ≡ self.old.events ++ (kind, bytes.now) ∷ [] }
+    {}
+}

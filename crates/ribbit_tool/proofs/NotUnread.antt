@@ -1,0 +1,169 @@
+-- The status of a read fault is due to a file that was not read, and to nothing else.
+use Rattle.std.proofs.Common.{◌≡◌, ◌≢◌, ℕ, ◌-◌, ◌==◌, nat_le, [], Bool, true, false, if◌then◌else◌, List, length, refl, sym, ap, ◌∙◌, arith, Option, Some, None, slice_get}
+use Rattle.rb_auto.specs.declared.fault.AutoFault.{AutoFault}
+use Rattle.rb_auto.specs.declared.fault.AutoFault.TheVariants as auto
+use Rattle.rb_core.specs.Meaning.{call_of}
+use Rattle.rb_core.specs.declared.outcome.SourceEnd.{SourceEnd}
+use Rattle.rb_core.specs.declared.outcome.SourceEnd.TheVariants as source
+use Rattle.rb_core.specs.Values.{node_count}
+use Rattle.rb_core.specs.declared.program.Program.{Program}
+use Rattle.rb_core.specs.declared.types.DataDecl.{DataDecl}
+use Rattle.rb_core.specs.declared.typing.TypeFault.{TypeFault}
+use Rattle.rb_core.specs.declared.typing.TypeFault.TheVariants as types
+use Rattle.rb_core.specs.declared.value.Value.{Value}
+use Rattle.rb_bytes.specs.Memory.{Memory, empty_memory}
+use Rattle.rb_layout.specs.declared.agreed.LaidOut.{LaidOut}
+use Rattle.rb_machine.specs.Runs.{params_in}
+use Rattle.rb_names.specs.declared.fault.NameFault.{NameFault}
+use Rattle.rb_names.specs.declared.fault.NameFault.TheVariants as names
+use Rattle.rb_read.specs.declared.fault.ReadFault.{ReadFault}
+use Rattle.rb_read.specs.declared.fault.ReadFault.TheVariants as reading
+use Rattle.rb_rel.specs.Answers as answer
+use Rattle.rb_rel.specs.Placing.{Laid, Fits, Over}
+use Rattle.rb_syntax.specs.declared.lex.LexFault.{LexFault}
+use Rattle.rb_syntax.specs.declared.lex.LexFault.TheVariants as lexing
+use Rattle.rb_syntax.specs.declared.token.Placed.{Placed}
+use Rattle.rb_target.specs.declared.code.CodeFun.{CodeFun}
+use Rattle.rb_target.specs.Meaning.{run_of}
+use Rattle.rb_target.specs.declared.outcome.End.{End}
+use Rattle.rb_target.specs.declared.outcome.End.TheVariants as end
+use Rattle.ribbit_tool.specs.Accepting.{IsAccepted, IsRefused, uncut, misread, misnamed, mistyped, uncovered, underived, mislaid, Accepts, turned_down, accepted, lex_due, read_due, name_due, type_due, derived_due}
+use Rattle.ribbit_tool.specs.Answer.{Due, printed, refused, refusal, status_of}
+use Rattle.ribbit_tool.specs.Arguments.{IsMisfit, miscounted, misspelled, node_limit}
+use Rattle.ribbit_tool.specs.Check.{ChecksFile}
+use Rattle.ribbit_tool.specs.Command.{Limits}
+use Rattle.ribbit_tool.specs.Compiling.{CompilesFile}
+use Rattle.ribbit_tool.specs.Count.{CountsFile, count_due, count_text}
+use Rattle.ribbit_tool.specs.Exec.{Executes, executed, faulty, no_code, end_due, outcome_due, named_due, fun_named}
+use Rattle.ribbit_tool.specs.Image.{ImagesFile, image_due}
+use Rattle.ribbit_tool.specs.Layout.{LaysOutFile}
+use Rattle.ribbit_tool.specs.Lines.{large_line, count_line}
+use Rattle.ribbit_tool.specs.Run.{RunsFile, answer_due, source_answer, PreparesFile, misfit, prepared}
+use Rattle.ribbit_tool.specs.declared.status.Status.TheVariants as status
+
+other_by : (due d : Due) → due ≡ d → status_of d ≢ 7 → status_of due ≢ 7
+other_by due d is other e = other (ap (λ (x : Due). status_of x) (sym is) ∙ e)
+
+-- Refused files -----------------------------------------------------------------------------
+
+lex_other : (f : LexFault) → status_of (lex_due f) ≢ 7
+lex_other (lexing.BadByte at) e = omega (arith, e)
+lex_other (lexing.NumberTooWide at) e = omega (arith, e)
+lex_other lexing.Memory e = omega (arith, e)
+
+read_other : (placed : List Placed) (size : ℕ) (f : ReadFault) → status_of (read_due placed size f) ≢ 7
+read_other placed size (reading.TooDeep t) e = omega (arith, e)
+read_other placed size (reading.Syntax t) e = omega (arith, e)
+read_other placed size (reading.Limit q count) e = omega (arith, e)
+read_other placed size reading.Memory e = omega (arith, e)
+
+name_other : (placed : List Placed) (size : ℕ) (f : NameFault) → status_of (name_due placed size f) ≢ 7
+name_other placed size (names.Twice name t) e = omega (arith, e)
+name_other placed size (names.Unknown name t) e = omega (arith, e)
+name_other placed size names.NoMain e = omega (arith, e)
+name_other placed size names.Memory e = omega (arith, e)
+
+type_other : (ts : List DataDecl) (placed : List Placed) (size : ℕ) (f : TypeFault) → status_of (type_due ts placed size f) ≢ 7
+type_other ts placed size (types.Empty t) e = omega (arith, e)
+type_other ts placed size (types.Mismatch t wanted found) e = omega (arith, e)
+type_other ts placed size (types.Arity t wanted found) e = omega (arith, e)
+type_other ts placed size (types.VariableTwice t) e = omega (arith, e)
+type_other ts placed size types.Memory e = omega (arith, e)
+
+derived_other : (ts : List DataDecl) (f : AutoFault) → status_of (derived_due ts f) ≢ 7
+derived_other ts (auto.PackedRecursive t) e = omega (arith, e)
+derived_other ts (auto.PackedWide t bits) e = omega (arith, e)
+derived_other ts auto.Memory e = omega (arith, e)
+
+refused_other : (bytes : List ℕ) (due : Due) → IsRefused bytes due → status_of due ≢ 7
+refused_other bytes due (uncut f h is) = other_by due _ is (lex_other f)
+refused_other bytes due (misread placed h f k is) = other_by due _ is (read_other placed (length bytes) f)
+refused_other bytes due (misnamed placed file h f k is) = other_by due _ is (name_other placed (length bytes) f)
+refused_other bytes due (mistyped placed p h f k l is) = other_by due _ is (type_other p.types placed (length bytes) f)
+refused_other bytes due (uncovered placed p h k t q l is) = other_by due _ is (λ e. omega (arith, e))
+refused_other bytes due (underived placed p f h k l is) = other_by due _ is (derived_other p.types f)
+refused_other bytes due (mislaid placed p h k l f m is) = other_by due _ is (λ e. omega (arith, e))
+
+accepts_other : (bytes : List ℕ) (Then : (p : Program) → IsAccepted bytes p → Due → Type 0) (due : Due)
+    → ((p : Program) (a : IsAccepted bytes p) → Then p a due → status_of due ≢ 7) → Accepts bytes Then due → status_of due ≢ 7
+accepts_other bytes Then due other (turned_down h) = refused_other bytes due h
+accepts_other bytes Then due other (accepted p a h) = other p a h
+
+-- Calls of `main` ---------------------------------------------------------------------------
+
+misfit_other : (p : Program) (words : List (List ℕ)) (due : Due) → IsMisfit p words due → status_of due ≢ 7
+misfit_other p words due (miscounted ne is) = other_by due _ is (λ e. omega (arith, e))
+misfit_other p words due (misspelled same m) = other_by due _ m.refused.shown (λ e. omega (arith, e))
+
+prepares_other : (words : List (List ℕ)) (bytes : List ℕ) (Then : LaidOut → List CodeFun → List Value → Due → Type 0) (due : Due)
+    → ((agreed : LaidOut) (code : List CodeFun) (args : List Value) → Then agreed code args due → status_of due ≢ 7)
+    → PreparesFile words bytes Then due → status_of due ≢ 7
+prepares_other words bytes Then due other (turned_down h) = refused_other bytes due h
+prepares_other words bytes Then due other (accepted p a (misfit m)) = misfit_other p words due m
+prepares_other words bytes Then due other (accepted p a (prepared agreed laid code args ready spelled h)) = other agreed code args h
+
+answer_other : (p : Program) (calls : ℕ) (a : answer.Answer) (steps : ℕ) → status_of (answer_due p calls a steps) ≢ 7
+answer_other p calls (answer.Shown v) steps e = omega (arith, e)
+answer_other p calls answer.Spent steps e = omega (arith, e)
+answer_other p calls (answer.Full f) steps e = omega (arith, e)
+answer_other p calls answer.TooLarge steps e = omega (arith, e)
+
+image_other : (x : End) (calls : ℕ) (m : Memory) (steps : ℕ) → status_of (image_due x calls m steps) ≢ 7
+image_other (end.Returned words left) calls m steps e = omega (arith, e)
+image_other end.Spent calls m steps e = omega (arith, e)
+image_other (end.Full full) calls m steps e = omega (arith, e)
+image_other (end.Trapped trap) calls m steps e = omega (arith, e)
+
+choice_other : (b : Bool) (x y : Due) → status_of x ≢ 7 → status_of y ≢ 7 → status_of (if b then x else y) ≢ 7
+choice_other true x y h k = h
+choice_other false x y h k = k
+
+count_other : (p : Program) (calls : ℕ) (l : Laid) (x : SourceEnd) (switches steps : ℕ) → status_of (count_due p calls l x switches steps) ≢ 7
+count_other p calls (Over full) x switches steps = λ e. omega (arith, e)
+count_other p calls (Fits blocks next) source.Spent switches steps = λ e. omega (arith, e)
+count_other p calls (Fits blocks next) (source.Done v left) switches steps =
+    choice_other (nat_le (node_count v) node_limit) (printed (count_text p v (calls - left) switches (length blocks) (next - 64)) steps)
+    (refused status.TooLarge (large_line node_limit) steps) (λ e. omega (arith, e)) (λ e. omega (arith, e))
+
+-- Code texts --------------------------------------------------------------------------------
+
+end_other : (x : End) (calls steps : ℕ) → status_of (end_due x calls steps) ≢ 7
+end_other (end.Returned words left) calls steps e = omega (arith, e)
+end_other end.Spent calls steps e = omega (arith, e)
+end_other (end.Full full) calls steps e = omega (arith, e)
+end_other (end.Trapped trap) calls steps e = omega (arith, e)
+
+named_other : (funs : List CodeFun) (name : List ℕ) (limits : Limits) (words : List ℕ) (o : Option ℕ) → status_of (named_due funs name limits words o) ≢ 7
+named_other funs name limits words None = λ e. omega (arith, e)
+named_other funs name limits words (Some f) =
+    let o = run_of funs limits.calls f words (empty_memory limits.region) in
+    choice_other (length words == params_in (slice_get funs f)) (outcome_due o limits.calls)
+    (refusal status.Argument (count_line (params_in (slice_get funs f)) (length words))) (end_other o.ended limits.calls o.world.taken) (λ e. omega (arith, e))
+
+-- Each command ------------------------------------------------------------------------------
+
+module _ (bytes : List ℕ) (due : Due) where
+  pub checks_other : ChecksFile bytes due → status_of due ≢ 7
+  checks_other = accepts_other bytes _ due (λ p a h. other_by due _ h.shown (λ e. omega (arith, e)))
+
+  pub lays_out_other : LaysOutFile bytes due → status_of due ≢ 7
+  lays_out_other = accepts_other bytes _ due (λ p a is. other_by due _ is (λ e. omega (arith, e)))
+
+  pub compiles_other : CompilesFile bytes due → status_of due ≢ 7
+  compiles_other = accepts_other bytes _ due (λ p a h. other_by due _ h.shown (λ e. omega (arith, e)))
+
+  pub runs_other : (limits : Limits) (values : List (List ℕ)) → RunsFile limits values bytes due → status_of due ≢ 7
+  runs_other limits values = prepares_other values bytes _ due (λ agreed code args h. other_by due _ h.shown (answer_other agreed.covered.program limits.calls (source_answer agreed limits args) h.taken))
+
+  pub images_other : (limits : Limits) (values : List (List ℕ)) → ImagesFile limits values bytes due → status_of due ≢ 7
+  images_other limits values = prepares_other values bytes _ due (λ agreed code args h. other_by due _ h.shown (image_other _ _ _ _))
+
+  pub counts_other : (limits : Limits) (values : List (List ℕ)) → CountsFile limits values bytes due → status_of due ≢ 7
+  counts_other limits values = prepares_other values bytes _ due (λ agreed code args h. other_by due _ h.shown (
+      count_other agreed.covered.program limits.calls _ (call_of agreed.covered.program agreed.covered.program.main limits.calls args).end h.switches h.taken
+      ))
+
+  pub executes_other : (name : List ℕ) (limits : Limits) (words : List ℕ) → Executes name limits words bytes due → status_of due ≢ 7
+  executes_other name limits words (executed funs valid is shown) = other_by due _ shown (named_other funs name limits words (fun_named funs name))
+  executes_other name limits words (faulty funs text fault first shown) = other_by due _ shown (λ e. omega (arith, e))
+  executes_other name limits words (no_code at stops shown) = other_by due _ shown (λ e. omega (arith, e))
