@@ -1,3 +1,4 @@
+pub mod AscendingBlocks
 pub mod AscentLemmas
 pub mod BelowLemmas
 pub mod BlockLemmas

@@ -9,6 +9,7 @@ ghost use Rattle.rb_coding.specs.inner.Opening.{AreFew, HaveFewFields};
 ghost use Rattle.rb_image.specs.Parts as spec;
 ghost use Rattle.rb_image.specs.Parts.{ats_of};
 ghost use Rattle.rb_image.specs.inner.Opening.{opened, word_of};
+ghost use Rattle.rb_image_text.specs.Places.{AreInPlace};
 
 use crate::kept::{Kept, Place};
 use crate::order::Spot;
@@ -48,6 +49,7 @@ fn holds(kind: &Kind, path: &[u32], number: u64) -> bool
 impl<'a> Examined<'a> {
     // A word of the field at a path: the part that holds it.
     fn word(&self, path: &[u32], number: u64) -> Kept
+        requires placed { AreInPlace self.now.memory.now }
         ensures { result ≡ word_of self.now path.now number }
     {
         for spot in self.order {
@@ -65,6 +67,7 @@ impl<'a> Examined<'a> {
 
     // The words of the field at a path.
     fn words_of(&self, alloc: Global, path: &[u32], count: usize) -> Result<Vec<Kept>, AllocError>
+        requires placed { AreInPlace self.now.memory.now }
         ensures { IfOk result (λ words. words.items ≡ spec.field_words (word_of self.now) path.now 0 count) }
     {
         let mut words = Vec::new(alloc);
@@ -115,6 +118,7 @@ fn add_place(
     path: &[u32],
     places: &mut Vec<Place>,
 ) -> Result<(), AllocError>
+    requires placed { AreInPlace examined.now.memory.now }
     ensures { OnOk result (ats_of places.new.items
         ≡ ats_of places.old.items ++ spec.place_at examined.now.layouts.now (word_of examined.now) path.now ty) }
 {
@@ -138,6 +142,7 @@ pub(crate) fn add_places(
     path: &[u32],
     places: &mut Vec<Place>,
 ) -> Result<(), AllocError>
+    requires placed { AreInPlace examined.now.memory.now }
     requires few { HaveFewFields examined.now.types.now }
     ensures { OnOk result (ats_of places.new.items
         ≡ ats_of places.old.items ++ opened examined.now path.now (opens_of examined.now.types.now pat.now ty)) }
@@ -163,6 +168,7 @@ fn add_fields(
     path: &[u32],
     places: &mut Vec<Place>,
 ) -> Result<(), AllocError>
+    requires placed { AreInPlace examined.now.memory.now }
     requires few { HaveFewFields examined.now.types.now }
     requires types { AreFew tys.now }
     ensures { OnOk result (ats_of places.new.items ≡ ats_of places.old.items

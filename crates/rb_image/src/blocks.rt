@@ -3,24 +3,48 @@
 ghost use Rattle.std.specs.Prelude.{◌≡◌, ◌+◌, nat_le};
 ghost use Rattle.std.specs.Option.{option_copied};
 ghost use Rattle.rb_image.specs.Blocks.{block_at, is_width, size_at, word_from, word_in};
+ghost use Rattle.rb_image.specs.inner.Halving.{IsFirstFrom};
+ghost use Rattle.rb_image_text.specs.Places.{AreInPlace};
 
 use rb_bits::little_endian::load_le;
 use rb_image_text::image::ImageBlock;
 
-// The first of the blocks that begins at an address.
-fn block_at(blocks: &[ImageBlock], address: u64) -> Option<&ImageBlock>
-    ensures { option_copied result ≡ block_at blocks.now address }
+// The number of the first block that begins at an address or above, found by halves.
+fn first_from(blocks: &[ImageBlock], address: u64) -> usize
+    requires placed { AreInPlace blocks.now }
+    ensures { IsFirstFrom blocks.now address result }
 {
-    for block in blocks {
-        if block.at == address {
-            return Some(block);
+    let mut low = 0;
+    let mut high = blocks.len();
+    while low < high {
+        let middle = low + (high - low) / 2;
+        if blocks[middle].at < address {
+            low = middle + 1;
+        } else {
+            high = middle;
         }
     }
-    None
+    low
+}
+
+// The first of the blocks that begins at an address.
+fn block_at(blocks: &[ImageBlock], address: u64) -> Option<&ImageBlock>
+    requires placed { AreInPlace blocks.now }
+    ensures { option_copied result ≡ block_at blocks.now address }
+{
+    match blocks.get(first_from(blocks, address)) {
+        None => None,
+        Some(block) => if block.at == address {
+            Some(block)
+        } else {
+            None
+        },
+    }
 }
 
 /// The size in bytes of the block that begins at an address.
 pub(crate) fn size_at(blocks: &[ImageBlock], address: u64) -> Option<u64>
+    requires placed { AreInPlace blocks.now }
     ensures { result ≡ size_at blocks.now address }
 {
     match block_at(blocks, address) {
@@ -60,6 +84,7 @@ fn word_from(block: &ImageBlock, byte: u64, width: u64) -> Option<u64>
 
 /// The word of 8, 16, 32 or 64 bits from a byte on of the block that begins at an address, where it lies in it.
 pub(crate) fn word_in(blocks: &[ImageBlock], address: u64, byte: u64, width: u64) -> Option<u64>
+    requires placed { AreInPlace blocks.now }
     ensures { result ≡ word_in blocks.now address byte width }
 {
     match block_at(blocks, address) {

@@ -5,6 +5,7 @@ ghost use Rattle.rb_image.specs.Parts.{at_of, look};
 ghost use Rattle.rb_image.specs.Sound.{IsFound};
 ghost use Rattle.rb_image.specs.inner.Descending.{looks};
 ghost use Rattle.rb_image.specs.inner.Ending.{DescentsEnd, Ends, depth_bound};
+ghost use Rattle.rb_image_text.specs.Places.{AreInPlace};
 
 use crate::kept::Place;
 use crate::known::Known;
@@ -50,6 +51,7 @@ pub(crate) fn descend(
     memory: &[ImageBlock],
     root: Place,
 ) -> Result<(), ImageFault>
+    requires placed { AreInPlace memory.now }
     requires ends { Ends (look agreed.now.covered.program.types agreed.now.layouts memory.now)
         (depth_bound 18446744073709551616 (length agreed.now.layouts)) (at_of root) }
     ensures { IsFound (look agreed.now.covered.program.types agreed.now.layouts memory.now) (at_of root) result }

@@ -2,6 +2,7 @@
 
 ghost use Rattle.rb_image.specs.Given.{IsGiven};
 ghost use Rattle.rb_image.specs.Parts.{at_of, ats_of, look};
+ghost use Rattle.rb_image_text.specs.Places.{AreInPlace};
 
 use crate::below::{Examined, add_places};
 use crate::kept::Place;
@@ -16,8 +17,7 @@ use std::alloc::Global;
 
 /// The places below a place, from left to right: one for each subvalue of a data type that its leaf leaves open. The
 /// leaf is the one to which the splits of the type's layout lead. There are no places where the type's number is that
-/// of no layout. `memory` has the image's blocks in any order; of two that begin at one address the first is meant.
-/// Blocks are gone through one by one, so the work grows with their number.
+/// of no layout. `memory` has the image's blocks in their places, so they ascend, and each is found by halves.
 ///
 /// # Errors
 ///
@@ -31,6 +31,7 @@ pub fn look(
     memory: &[ImageBlock],
     place: &Place,
 ) -> Result<Vec<Place>, ImageFault>
+    requires placed { AreInPlace memory.now }
     ensures { IsGiven (λ found. ats_of found.items)
         (look agreed.now.covered.program.types agreed.now.layouts memory.now (at_of place.now)) result }
 {

@@ -6,6 +6,7 @@ ghost use Rattle.rb_image.specs.Given.{IsGiven};
 ghost use Rattle.rb_image.specs.Orders.{order_of};
 ghost use Rattle.rb_image.specs.Parts as spec;
 ghost use Rattle.rb_image.specs.inner.Viewing.{IsStep, at_of, spots_of};
+ghost use Rattle.rb_image_text.specs.Places.{AreInPlace};
 
 use crate::blocks::{size_at, word_in};
 use crate::kept::Kept;
@@ -28,6 +29,7 @@ fn address_at(addresses: &[u64], block: u32) -> u64
 
 /// The word of a part: a root word, or the word of a block whose address is known.
 pub(crate) fn kept_at(memory: &[ImageBlock], words: &[Kept], addresses: &[u64], spot: &Spot) -> Kept
+    requires placed { AreInPlace memory.now }
     ensures { result ≡ spec.kept_at memory.now words.now addresses.now spot.now.block (at_of spot.now) }
 {
     match spot.block {
@@ -66,6 +68,7 @@ fn follow(
     align: u64,
     block: u32,
 ) -> Result<u64, ImageFault>
+    requires placed { AreInPlace memory.now }
     requires readable { IsReadable leaf.now }
     ensures { result ≡ spec.followed memory.now leaf.now range align block }
 {
@@ -92,6 +95,7 @@ fn examine_part(
     spot: &Spot,
     addresses: &mut Vec<u64>,
 ) -> Result<(), ImageFault>
+    requires placed { AreInPlace memory.now }
     requires readable { IsReadable leaf.now }
     ensures { IsStep (spec.examine_part memory.now leaf.now words.now addresses.old.items (at_of spot.now))
         addresses.new.items result }
@@ -125,6 +129,7 @@ pub(crate) fn examine(
     words: &[Kept],
     order: &[Spot],
 ) -> Result<Vec<u64>, ImageFault>
+    requires placed { AreInPlace memory.now }
     requires readable { IsReadable leaf.now }
     requires order { spots_of order.now ≡ order_of leaf.now }
     ensures { IsGiven (λ found. found.items) (spec.addresses_of memory.now leaf.now words.now) result }

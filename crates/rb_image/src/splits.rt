@@ -4,6 +4,7 @@ ghost use Rattle.std.specs.Prelude.{◌≡◌};
 ghost use Rattle.std.specs.Option.{option_copied};
 ghost use Rattle.rb_coding.specs.inner.Leading.{under_number};
 ghost use Rattle.rb_image.specs.Splits.{leaf_at, pointed_from, range_at, range_of, step_over, word_at};
+ghost use Rattle.rb_image_text.specs.Places.{AreInPlace};
 
 use crate::bits::take_from;
 use crate::blocks::word_in;
@@ -32,6 +33,7 @@ pub(crate) fn pointed_from(base: u64, address: u128) -> Option<u64>
 
 // The word to which a step leads from a word with this number in the range before.
 fn step_over(memory: &[ImageBlock], range: Kept, step: Step) -> Result<Kept, ImageFault>
+    requires placed { AreInPlace memory.now }
     ensures { result ≡ step_over memory.now range step }
 {
     let address = u128::from(range.number) * u128::from(step.align);
@@ -76,6 +78,7 @@ pub(crate) fn word_at(words: &[Kept], number: u64) -> Kept
 
 // The bits at a location, and where they are kept.
 fn range_at(memory: &[ImageBlock], words: &[Kept], loc: &Loc) -> Result<Kept, ImageFault>
+    requires placed { AreInPlace memory.now }
     ensures { result ≡ range_at memory.now words.now loc.now }
 {
     let mut range = range_of(word_at(words, loc.word), loc.o, loc.l);
@@ -110,6 +113,7 @@ pub(crate) fn leaf_at(
     words: &[Kept],
     tree: &FlatTree,
 ) -> Result<u32, ImageFault>
+    requires placed { AreInPlace memory.now }
     ensures { result ≡ leaf_at tree.now memory.now words.now }
 {
     let mut tree = tree;

@@ -1,11 +1,14 @@
 //! Places that are looked at, images that are examined and read, and what comes of them as text.
 
+ghost use Rattle.rb_image_text.specs.Places.{AreInPlace};
+
 use rb_core::types::Ty;
 use rb_image::examine::examine_image;
 use rb_image::kept::{Kept, Place};
 use rb_image::look::look;
 use rb_image::value::read_image;
 use rb_image_text::fault::ImageFault;
+use rb_image_text::image::Image;
 use rb_image_text::read::read_image_text;
 use rb_layout::agreed::Agreed;
 use rb_values::print::print_value;
@@ -51,6 +54,16 @@ fn places_text(alloc: Global, places: &[Place]) -> Result<String, AllocError> {
     Ok(text)
 }
 
+// What stands below a place of an image.
+fn below(alloc: Global, agreed: &Agreed, image: &Image, place: &Place) -> Result<String, AllocError>
+    requires placed { AreInPlace image.now.blocks }
+{
+    match look(alloc, agreed, image.blocks.as_slice(), place) {
+        Ok(places) => places_text(alloc, places.as_slice()),
+        Err(fault) => fault_text(alloc, fault),
+    }
+}
+
 fn answer(alloc: Global, agreed: &Agreed, row: &Row) -> Result<String, AllocError> {
     let (text, ty, base, place, _) = *row;
     let image = match read_image_text(alloc, text.as_bytes()) {
@@ -65,10 +78,7 @@ fn answer(alloc: Global, agreed: &Agreed, row: &Row) -> Result<String, AllocErro
             place,
         })?;
     }
-    match look(alloc, agreed, image.blocks.as_slice(), &Place { ty, words }) {
-        Ok(places) => places_text(alloc, places.as_slice()),
-        Err(fault) => fault_text(alloc, fault),
-    }
+    below(alloc, agreed, &image, &Place { ty, words })
 }
 
 /// An image to examine: its text, the type, and the text that is to come.

@@ -1,5 +1,6 @@
 use Rattle.std.proofs.Common.{length, sym, subst, ap, ◌∙◌}
 use Rattle.rb_core.specs.declared.types.Ty.TheVariants.{Named}
+use Rattle.rb_image_text.specs.Places.{AreInPlace}
 use Rattle.rb_image.specs.Blocks.{block_at}
 use Rattle.rb_image.specs.Parts.{at_of, look}
 use Rattle.rb_image.specs.Roots.{AllFit, IsFirstFault, IsSoundImage, root_at, widths_of}
@@ -13,6 +14,7 @@ descend-requires c =
     let m = c.as_slice-memory.result.now in
     let none = ap (λ bs. block_at bs 0) c.as_slice-memory.ensures ∙ none_at_zero c.args.image.now.blocks c.requires.placed in
     record {
+      placed = subst AreInPlace (sym c.as_slice-memory.ensures) c.requires.placed;
       ends = subst (Ends (look c.args.agreed.now.covered.program.types c.args.agreed.now.layouts m) (depth_bound 18446744073709551616 (length c.args.agreed.now.layouts)))
           (sym c.in_ok-root_place-in-None-first_misfit.ensures) (c.descents_end.ensures m c.in-Named.ty c.as_slice-words.result.now none);
     }

@@ -37,6 +37,7 @@ examine-requires c =
     let is_layout : layout_of (flat_layouts p) t ≡ Some c.in-Some.layout.now = ap (λ xs. slice_get xs t) (sym (c.layouts-layouts.ensures.same ∙ c.layouts-layouts.ensures.flat)) ∙ slice_get_read ls (length ls) t c.in-Some.layout.now refl l.3.0 l.1 in
     let is_leaf = sym c.get-2.ensures.value ∙ ap option_copied c.in-Some-get.is in
     record {
+      placed = c.requires.placed;
       readable = readable_leaf p typed c.layouts-layouts.ensures.agree t c.in-Some.layout.now is_layout c.in_ok-number.number c.in-Some-get.leaf.now is_leaf;
       order = ap spots_of c.as_slice-order.ensures.value ∙ c.in_ok-spots.ensures;
     }
@@ -46,7 +47,7 @@ add_places-requires c =
     let p = c.args.agreed.now.covered.program in
     let typed : IsTyped p = rw c.covered.ensures.same at c.program.ensures.typed in
     let types : c.as_slice-types.result.now ≡ p.types = c.as_slice-types.ensures ∙ ap (λ q. q.types) (c.program.ensures.same ∙ ap (λ k. k.program) c.covered.ensures.same) in
-    record { few = subst HaveFewFields (sym types) (few_fields p.types typed.numbered.types) }
+    record { placed = c.requires.placed; few = subst HaveFewFields (sym types) (few_fields p.types typed.numbered.types) }
 
 pub returns-in_err-number : goal.returns-in_err-number
 returns-in_err-number c =
