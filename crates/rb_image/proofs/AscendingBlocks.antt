@@ -34,6 +34,22 @@ module _ (blocks : List ImageBlock) (placed : AreInPlace blocks) where
   pub ascend : (i j : ℕ) (a b : ImageBlock) → i ≤ j → slice_get blocks i ≡ Some a → slice_get blocks j ≡ Some b → a.at ≤ b.at
   ascend i j a b le ea eb = ascend_by (j - i) i a b j (omega (arith, le)) ea eb
 
+  -- no block ends behind the last
+  pub end_last : (n : ℕ) (b : ImageBlock) → n ≡ length blocks - 1 → slice_get blocks n ≡ Some b → (k : ℕ) (c : ImageBlock) → slice_get blocks k ≡ Some c → c.at + length c.bytes ≤ b.at + length b.bytes
+  end_last n b last is k c at =
+      let within = slice_get_within blocks k c at in
+      let here = slice_get_within blocks n b is in
+      elim (cases_lt k n) [
+        | inl lt ↦ (let d = got blocks (suc k) (omega (arith, here, lt)) in
+            let behind = (placed (suc k) d.0 (slice_get_within blocks (suc k) d.0 d.1) d.1).behind in
+            let end : end_of (slice_get blocks k) ≡ c.at + length c.bytes = ap end_of at in
+            let low = ascend (suc k) n d.0 b (omega (arith, lt)) d.1 is in
+            omega (arith, behind, end, low))
+        | inr le ↦ (let z : k ≡ n = omega (arith, last, le, within) in
+            let same = same_Some c b (sym at ∙ ap (slice_get blocks) z ∙ is) in
+            let end = ap (λ (x : ImageBlock). x.at + length x.bytes) same in omega (arith, end))
+      ]
+
 -- what the block of one number says of those before it, or behind it
 module _ (blocks : List ImageBlock) (placed : AreInPlace blocks) (address m : ℕ) (c : ImageBlock) (is : slice_get blocks m ≡ Some c) where
   pub below_after : c.at < address → (i : ℕ) (b : ImageBlock) → i < m + 1 → slice_get blocks i ≡ Some b → b.at < address

@@ -157,14 +157,6 @@ module _ (old m placed new : Memory) (b : ImageBlock) (ext : Extends old m) (goo
   }
 
 -- ---- all blocks
-pub stand_none : (blocks : List ImageBlock) (m : Memory) → IsGood m → m.limit ≡ 16777216 → m.next ≡ 64 → StandBefore blocks 0 m
-stand_none blocks m good limit next = record {
-  good = good;
-  limit = limit;
-  next = omega (arith, next);
-  stand = λ k b lt is. absurd (omega (arith, lt));
-}
-
 pub block_sized : (blocks : List ImageBlock) (i : ℕ) (b : ImageBlock) → AreBlocks blocks → slice_get blocks i ≡ Some b → IsSize (length b.bytes)
 block_sized [] i b are is = cc
 block_sized (c ∷ blocks) zero b are is = subst (λ (x : ImageBlock). IsSize (length x.bytes)) (same_Some c b is) (omega (arith, are.0.some), are.0.few)
@@ -178,15 +170,12 @@ module _ (blocks : List ImageBlock) (placed : AreInPlace blocks) (i : ℕ) (b : 
       omega (arith, here.low, here.behind, next)
 
   pub stand_room : b.at + length b.bytes ≤ m.limit
-  stand_room =
-      let here = placed i b (slice_get_within blocks i b is) is in
-      let limit = s.limit in
-      omega (arith, here.high, limit)
+  stand_room = s.room i b is
 
   pub stand_more : (new : Memory) → Extends m new → Stands new b → new.next ≡ b.at + length b.bytes → IsGood new → StandBefore blocks (i + 1) new
   stand_more new ext stands next good = record {
     good = good;
-    limit = ext.limit ∙ s.limit;
+    room = λ k c at. (let fits = s.room k c at in let same = ext.limit in omega (arith, fits, same));
     next = (let end = end_next blocks i b is in omega (arith, end, next));
     stand = λ k c below at. elim (cases_lt k i) [
       | inl before ↦ stands_extends m new c ext (s.stand k c before at)

@@ -6,15 +6,30 @@ ghost use Rattle.rb_bytes.specs.Memory.{IsGood, IsSize, size_at};
 ghost use Rattle.rb_image_text.specs.Images.{AreBlocks};
 ghost use Rattle.rb_image_text.specs.Places.{AreInPlace};
 ghost use Rattle.rb_image.specs.Memories.{Stand, Stands};
-ghost use Rattle.rb_image.specs.inner.Filling.{AreStored, with_next};
+ghost use Rattle.rb_image.specs.inner.Filling.{AreStored, EndBy, with_next};
 
 use rb_bytes::checked::CheckedMemory;
 use rb_bytes::memory::ByteMemory;
-use rb_image_text::image::{ImageBlock, MOST_REGION};
+use rb_image_text::image::{ImageBlock, LEAST_ADDRESS};
 use std::alloc::{AllocError, Global};
 
 // The most bytes of a filler, which is a block of no image.
 const MOST_FILLER: u64 = 512;
+
+// The address behind the last block, or the least address of a block where there is none.
+fn end_of(blocks: &[ImageBlock]) -> u64
+    requires placed { AreInPlace blocks.now }
+    ensures within { (64 ≤ result) × (result ≤ 16777216) }
+    ensures each { EndBy result blocks.now }
+{
+    match blocks.last() {
+        None => LEAST_ADDRESS,
+        Some(block) => {
+            let at = block.at;
+            at + block.bytes.len() as u64
+        }
+    }
+}
 
 // A region of so many bytes with nothing in it.
 fn empty_region(alloc: Global, limit: u64) -> Result<CheckedMemory, AllocError>
@@ -88,8 +103,9 @@ fn place_block(memory: &mut CheckedMemory, block: &ImageBlock)
     store_bytes(memory, block.at, bytes);
 }
 
-/// A memory of 16,777,216 bytes in which the blocks of an image stand: each at its address, of its very size, all its
-/// bytes written. It has other blocks too, which fill what lies before and between these, each of at most 512 bytes.
+/// A memory in which the blocks of an image stand: each at its address, of its very size, all its bytes written. It ends
+/// behind the last of them. It has other blocks too, which fill what lies before and between these, each of at most 512
+/// bytes.
 ///
 /// # Errors
 ///
@@ -100,7 +116,7 @@ pub fn memory_of(alloc: Global, blocks: &[ImageBlock]) -> Result<CheckedMemory, 
     ensures good { IfOk result (λ m. IsGood m) }
     ensures stand { IfOk result (λ m. Stand blocks.now m) }
 {
-    let mut memory = empty_region(alloc, MOST_REGION)?;
+    let mut memory = empty_region(alloc, end_of(blocks))?;
     for block in blocks {
         place_block(&mut memory, block);
     }

@@ -1,5 +1,5 @@
 -- A memory into which blocks are put one after the other.
-use Rattle.std.specs.Prelude.{◌≡◌, ℕ, ◌+◌, ◌<◌, ◌≤◌, max, List, [], ◌∷◌, ◌++◌, Some, slice_get}
+use Rattle.std.specs.Prelude.{◌≡◌, ℕ, ◌+◌, ◌<◌, ◌≤◌, max, List, [], ◌∷◌, ◌++◌, length, Some, slice_get}
 use Rattle.rb_bytes.specs.Memory.{Memory, IsGood, byte_at}
 use Rattle.rb_image_text.specs.Places.{end_before}
 use Rattle.rb_image_text.specs.declared.image.ImageBlock.{ImageBlock}
@@ -18,9 +18,13 @@ pub record AreStored (old : Memory) (at : ℕ) (bytes : List ℕ) (count : ℕ) 
   pub written : (i n : ℕ) → i < count → slice_get bytes i ≡ Some n → byte_at new.bytes (at + i) ≡ Some n
   pub below : (a : ℕ) → a < at → byte_at new.bytes a ≡ byte_at old.bytes a
 
--- the first so many blocks stand in a memory of the region's size, which ends before the next one
+-- none of the blocks ends behind this address
+abbrev pub EndBy : ℕ → List ImageBlock → Type 0
+EndBy end blocks = (k : ℕ) (b : ImageBlock) → slice_get blocks k ≡ Some b → b.at + length b.bytes ≤ end
+
+-- the first so many blocks stand in a memory that has room for all, and its next address is no higher than the next one
 pub record StandBefore (blocks : List ImageBlock) (count : ℕ) (m : Memory) : Type 0 where
   pub good : IsGood m
-  pub limit : m.limit ≡ 16777216
+  pub room : EndBy m.limit blocks
   pub next : m.next ≤ max 64 (end_before blocks count)
   pub stand : (k : ℕ) (b : ImageBlock) → k < count → slice_get blocks k ≡ Some b → Stands m b
