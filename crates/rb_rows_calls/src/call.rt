@@ -21,20 +21,22 @@ fn list<T: Copy>(alloc: Global, items: &[T]) -> Result<Seq<T>, AllocError> {
     Ok(Seq::from_vec(Vec::from_slice(alloc, items)?))
 }
 
-/// Calls `ribbit` on words with blanks between them. The source gives ten bytes a read, the output takes
-/// one a write, and the calls of these numbers fail.
-pub fn call(
+/// Calls `ribbit` on words with blanks between them, over files with these names. The source gives ten bytes
+/// a read, the output takes one a write, and the calls of these numbers fail.
+pub fn call_over(
     alloc: Global,
     words: &str,
-    file: &[u8],
+    held: &[(&str, &[u8])],
     source_fails: &[u64],
     output_fails: &[u64],
 ) -> Result<Did, AllocError> {
     let mut files = Seq::new(alloc);
-    files.push(NamedBytes {
-        name: list(alloc, b"E")?,
-        bytes: list(alloc, file)?,
-    })?;
+    for (name, bytes) in held {
+        files.push(NamedBytes {
+            name: list(alloc, name.as_bytes())?,
+            bytes: list(alloc, bytes)?,
+        })?;
+    }
     let mut src = MemSource::new(files, 10, list(alloc, source_fails)?);
     let mut out = MemSink::new(alloc, ROOM, 1, list(alloc, output_fails)?)?;
     let mut err = MemSink::new(alloc, 1000, 7, Seq::new(alloc))?;
@@ -54,6 +56,17 @@ pub fn call(
     })
 }
 
+/// Calls `ribbit` so, over the one file `E`.
+pub fn call(
+    alloc: Global,
+    words: &str,
+    file: &[u8],
+    source_fails: &[u64],
+    output_fails: &[u64],
+) -> Result<Did, AllocError> {
+    call_over(alloc, words, &[("E", file)], source_fails, output_fails)
+}
+
 /// A text in which each `;` ends a line.
 pub fn lines(alloc: Global, row: &str) -> Result<Vec<u8>, AllocError> {
     let mut text = Vec::new(alloc);
@@ -63,10 +76,13 @@ pub fn lines(alloc: Global, row: &str) -> Result<Vec<u8>, AllocError> {
     Ok(text)
 }
 
-/// What these words answer to a file: the status, and what was written, in which each line ends with a
-/// `;`.
-pub fn answer(alloc: Global, words: &str, file: &[u8]) -> Result<Vec<u8>, AllocError> {
-    let did = call(alloc, words, file, &[], &[])?;
+/// What these words answer to files: the status, and what was written, in which each line ends with a `;`.
+pub fn answer_over(
+    alloc: Global,
+    words: &str,
+    held: &[(&str, &[u8])],
+) -> Result<Vec<u8>, AllocError> {
+    let did = call_over(alloc, words, held, &[], &[])?;
     let status = did.status;
     let mut answer = Vec::from_slice(alloc, format!(in alloc; "{status} ")?.as_bytes())?;
     for text in [did.out.as_slice(), did.err.as_slice()] {
@@ -77,8 +93,30 @@ pub fn answer(alloc: Global, words: &str, file: &[u8]) -> Result<Vec<u8>, AllocE
     Ok(answer)
 }
 
-/// Looks whether a file has this answer: the status, and what is written, in which each line ends with a
-/// `;`.
+/// What these words answer so to the one file `E`.
+pub fn answer(alloc: Global, words: &str, file: &[u8]) -> Result<Vec<u8>, AllocError> {
+    answer_over(alloc, words, &[("E", file)])
+}
+
+/// Looks whether files have this answer: the status, and what is written, in which each line ends with a `;`.
+///
+/// # Errors
+///
+/// Another answer, or want of memory.
+pub fn expect_answer_over(
+    alloc: Global,
+    words: &str,
+    held: &[(&str, &[u8])],
+    wanted: &str,
+) -> Result<(), Surprise> {
+    let answer = answer_over(alloc, words, held)?;
+    if answer.as_slice() == wanted.as_bytes() {
+        return Ok(());
+    }
+    Err(Surprise::Answer(text_of(alloc, answer.as_slice())?))
+}
+
+/// Looks whether the one file `E` has this answer.
 ///
 /// # Errors
 ///
@@ -89,11 +127,7 @@ pub fn expect_answer(
     file: &[u8],
     wanted: &str,
 ) -> Result<(), Surprise> {
-    let answer = answer(alloc, words, file)?;
-    if answer.as_slice() == wanted.as_bytes() {
-        return Ok(());
-    }
-    Err(Surprise::Answer(text_of(alloc, answer.as_slice())?))
+    expect_answer_over(alloc, words, &[("E", file)], wanted)
 }
 
 /// A text, so many times another, and a text.

@@ -9,7 +9,7 @@ const FILE: &[u8] = b"fun main(x: u8, y: u8): u8 = add(x, mul(y, 3));";
 
 #[test]
 fn words_and_arguments(rt: HostRuntime) -> Result<(), Fail> {
-    let rows: [(&str, u8, &[u8]); 15] = [
+    let rows: [(&str, u8, &[u8]); 20] = [
         ("", 6, b"ribbit: usage at word 1\n"),
         ("layouts E", 6, b"ribbit: usage at word 1\n"),
         ("layout", 6, b"ribbit: usage at word 2\n"),
@@ -37,6 +37,11 @@ fn words_and_arguments(rt: HostRuntime) -> Result<(), Fail> {
             b"ribbit: argument 1: syntax at byte 1\n",
         ),
         ("run E 0 64 250 2", 4, b"ribbit: calls spent: 0\n"),
+        ("value", 6, b"ribbit: usage at word 2\n"),
+        ("value E", 6, b"ribbit: usage at word 3\n"),
+        ("value E I 1", 6, b"ribbit: usage at word 4\n"),
+        ("values E I", 6, b"ribbit: usage at word 1\n"),
+        ("value E I", 7, b"ribbit: read fault\n"),
     ];
     for (words, status, line) in rows {
         let did = call(rt.alloc(), words, FILE, &[], &[])?;

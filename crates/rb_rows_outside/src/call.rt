@@ -23,6 +23,18 @@ pub struct Outside {
     pub err: Side,
 }
 
+/// What is held under the names `E` and `I`.
+#[derive(Clone, Copy)]
+pub struct Held<'a> {
+    pub file: &'a [u8],
+    pub image: &'a [u8],
+}
+
+/// A file, and an empty image.
+pub fn alone(file: &[u8]) -> Held<'_> {
+    Held { file, image: b"" }
+}
+
 /// More than a call of these rows writes.
 const ROOM: usize = 10_000;
 
@@ -73,12 +85,14 @@ fn fails(alloc: Global, side: Side) -> Result<Seq<u64>, AllocError> {
     }
 }
 
-fn source(alloc: Global, file: &[u8], side: Side) -> Result<MemSource, AllocError> {
+fn source(alloc: Global, held: Held, side: Side) -> Result<MemSource, AllocError> {
     let mut files = Seq::new(alloc);
-    files.push(NamedBytes {
-        name: list(alloc, b"E")?,
-        bytes: list(alloc, file)?,
-    })?;
+    for (name, bytes) in [(b"E", held.file), (b"I", held.image)] {
+        files.push(NamedBytes {
+            name: list(alloc, name.as_slice())?,
+            bytes: list(alloc, bytes)?,
+        })?;
+    }
     Ok(MemSource::new(files, side.step.max(1), fails(alloc, side)?))
 }
 
@@ -94,10 +108,10 @@ fn words_of(alloc: Global, text: &str) -> Result<Words, AllocError> {
     Ok(words)
 }
 
-/// Calls `ribbit` on words with blanks between them. The file is held under the name `E`.
-pub fn call(alloc: Global, words: &str, file: &[u8], outside: Outside) -> Result<Did, AllocError> {
+/// Calls `ribbit` on words with blanks between them.
+pub fn call(alloc: Global, words: &str, held: Held, outside: Outside) -> Result<Did, AllocError> {
     let given = words_of(alloc, words)?;
-    let mut src = source(alloc, file, outside.source)?;
+    let mut src = source(alloc, held, outside.source)?;
     let mut out = sink(alloc, outside.out)?;
     let mut err = sink(alloc, outside.err)?;
     let mut steps = Steps::new(CountLedger { count: 0 });
@@ -118,11 +132,11 @@ pub fn call(alloc: Global, words: &str, file: &[u8], outside: Outside) -> Result
 pub fn expect(
     alloc: Global,
     words: &str,
-    file: &[u8],
+    held: Held,
     outside: Outside,
     wanted: Answer,
 ) -> Result<u128, Surprise> {
-    let did = call(alloc, words, file, outside)?;
+    let did = call(alloc, words, held, outside)?;
     let steps = did.steps;
     let is_right = did.status == wanted.status
         && did.out.as_slice() == wanted.out

@@ -1,6 +1,6 @@
 //! `check`, `layout` and `compile` over an outside that fails. The texts were worked out by hand.
 
-use crate::call::{EASY, Outside, call};
+use crate::call::{EASY, Outside, alone, call};
 use crate::table::expect_table;
 use rb_rows_calls::call::expect_answer;
 use std::test::Fail;
@@ -83,7 +83,7 @@ fn compile(rt: HostRuntime) -> Result<(), Fail> {
         out: EASY,
         err: EASY,
     };
-    let code = call(alloc, "compile E", file, easy)?.out;
+    let code = call(alloc, "compile E", alone(file), easy)?.out;
     expect_answer(alloc, "exec E main 1 64 255", code.as_slice(), "0 0;")?;
     expect_table(
         alloc,

@@ -1,7 +1,7 @@
 //! `gen` and `genrun` over an outside that fails: they make no call of the source. The texts were worked
 //! out by hand.
 
-use crate::call::{EASY, Outside, call};
+use crate::call::{EASY, Outside, alone, call};
 use crate::table::{expect_row, expect_table};
 use rb_rows_calls::counts::expect_counts;
 use std::test::Fail;
@@ -46,7 +46,7 @@ fn count_generated(rt: HostRuntime) -> Result<(), Fail> {
         6002,
         "blocks 3000;bytes 48000;",
     )?;
-    let text = call(alloc, words, b"", easy)?.out;
+    let text = call(alloc, words, alone(b""), easy)?.out;
     expect_row(alloc, (words, b"", 0, text.as_slice(), None), &[20])?;
     expect_table(
         alloc,

@@ -1,6 +1,6 @@
 //! Values of up to a million nodes, printed whole: texts of some megabytes.
 
-use crate::call::{Answer, EASY, Outside, expect, holding};
+use crate::call::{Answer, EASY, Outside, alone, expect, holding};
 use rb_rows_calls::call::repeated;
 use rb_rows_calls::surprise::Surprise;
 use std::alloc::{AllocError, Global};
@@ -32,7 +32,7 @@ fn expect_printed(alloc: Global, words: &str, file: &str, value: &str) -> Result
         err: b"",
         steps: None,
     };
-    expect(alloc, words, file.as_bytes(), outside, wanted)?;
+    expect(alloc, words, alone(file.as_bytes()), outside, wanted)?;
     Ok(())
 }
 

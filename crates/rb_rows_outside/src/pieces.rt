@@ -1,7 +1,7 @@
 //! How many calls a file takes, counted by hand: one that opens it, a read for each piece, and a read that
 //! finds its end.
 
-use crate::call::{Answer, EASY, Outside, expect, failing};
+use crate::call::{Answer, EASY, Outside, alone, expect, failing};
 use crate::table::READ_FAULT;
 use rb_rows_calls::surprise::Surprise;
 use std::alloc::Global;
@@ -30,7 +30,7 @@ fn expect_calls(
             out: EASY,
             err: EASY,
         };
-        expect(alloc, "check E", file, outside, wanted)?;
+        expect(alloc, "check E", alone(file), outside, wanted)?;
     }
     Ok(())
 }

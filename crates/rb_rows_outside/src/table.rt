@@ -1,14 +1,17 @@
 //! What comes of a call where one part of the outside fails, as the rules of delivery have it. A file takes
-//! a call that opens it, a read for each piece, and a read that finds its end; a text takes a write for
-//! each piece. A sink fails at one write alone, so a later write would be seen.
+//! a call that opens it, a read for each piece, and a read that finds its end; an image takes the same behind
+//! it; a text takes a write for each piece. A sink fails at one write alone, so a later write would be seen.
 
-use crate::call::{Answer, EASY, Outside, Side, expect, failing, holding};
+use crate::call::{Answer, EASY, Held, Outside, Side, alone, expect, failing, holding};
 use rb_rows_calls::surprise::Surprise;
 use std::alloc::Global;
 
 /// Words, the file (none where nothing is read), the status and the text where nothing fails, and the steps;
 /// where code that the program chose is run, any number of them is right.
 pub type Row<'a> = (&'a str, &'a [u8], u8, &'a [u8], Option<u128>);
+
+/// Words, the file and the image (none where nothing is read), the status and the text where nothing fails.
+pub type ImageRow<'a> = (&'a str, &'a [u8], &'a [u8], u8, &'a [u8]);
 
 pub const READ_FAULT: &[u8] = b"ribbit: read fault\n";
 
@@ -30,7 +33,7 @@ const LINE: [(u64, usize); 3] = [(0, 0), (1, 7), (2, 14)];
 #[derive(Clone, Copy)]
 struct Call<'a> {
     words: &'a str,
-    file: &'a [u8],
+    held: Held<'a>,
     status: u8,
     text: &'a [u8],
     steps: Option<u128>,
@@ -95,16 +98,21 @@ fn from(source: Side) -> Outside {
 }
 
 fn look(alloc: Global, call: &Call, outside: Outside, wanted: Answer) -> Result<u128, Surprise> {
-    expect(alloc, call.words, call.file, outside, wanted)
+    expect(alloc, call.words, call.held, outside, wanted)
+}
+
+// How many calls reading takes, for pieces of this size.
+fn calls_of(bytes: &[u8], step: usize) -> u64 {
+    if bytes.is_empty() {
+        return 0;
+    }
+    let pieces = bytes.chunks(step.max(1)).count() as u64;
+    pieces.saturating_add(2)
 }
 
 // Each call of the source fails, and then the one that is not made.
 fn each_source_call(alloc: Global, call: &Call, step: usize) -> Result<(), Surprise> {
-    let mut calls = 0u64;
-    if !call.file.is_empty() {
-        let pieces = call.file.chunks(step.max(1)).count() as u64;
-        calls = pieces.saturating_add(2);
-    }
+    let calls = calls_of(call.held.file, step).saturating_add(calls_of(call.held.image, step));
     let unread = Answer {
         status: UNREAD,
         out: b"",
@@ -189,21 +197,9 @@ fn source_and_sink(alloc: Global, call: &Call) -> Result<(), Surprise> {
     Ok(())
 }
 
-/// Looks at a row with nothing failing, and then with each part of the outside failing in turn, for pieces
-/// of these sizes.
-///
-/// # Errors
-///
-/// Another answer than is due, or want of memory.
-pub fn expect_row(alloc: Global, row: Row, sizes: &[usize]) -> Result<(), Surprise> {
-    let (words, file, status, text, open) = row;
-    let mut call = Call {
-        words,
-        file,
-        status,
-        text,
-        steps: open,
-    };
+// Looks at a call with nothing failing, and then with each part of the outside failing in turn.
+fn expect_call(alloc: Global, call: Call, sizes: &[usize]) -> Result<(), Surprise> {
+    let mut call = call;
     let steps = look(alloc, &call, from(EASY), due(&call))?;
     call.steps = Some(steps);
     for size in sizes {
@@ -212,10 +208,32 @@ pub fn expect_row(alloc: Global, row: Row, sizes: &[usize]) -> Result<(), Surpri
         each_room(alloc, &call, *size)?;
     }
     both_sinks(alloc, &call)?;
-    if !file.is_empty() {
+    if !call.held.file.is_empty() {
         source_and_sink(alloc, &call)?;
     }
     Ok(())
+}
+
+/// Looks at a row with nothing failing, and then with each part of the outside failing in turn, for pieces
+/// of these sizes.
+///
+/// # Errors
+///
+/// Another answer than is due, or want of memory.
+pub fn expect_row(alloc: Global, row: Row, sizes: &[usize]) -> Result<(), Surprise> {
+    let (words, file, status, text, steps) = row;
+    let held = alone(file);
+    expect_call(
+        alloc,
+        Call {
+            words,
+            held,
+            status,
+            text,
+            steps,
+        },
+        sizes,
+    )
 }
 
 /// Looks at each row so, for pieces of a byte, of some, and of all.
@@ -226,6 +244,30 @@ pub fn expect_row(alloc: Global, row: Row, sizes: &[usize]) -> Result<(), Surpri
 pub fn expect_table(alloc: Global, rows: &[Row]) -> Result<(), Surprise> {
     for row in rows {
         expect_row(alloc, *row, &SIZES)?;
+    }
+    Ok(())
+}
+
+/// Looks at each row so whose command reads an image and runs nothing.
+///
+/// # Errors
+///
+/// Another answer than is due, or want of memory.
+pub fn expect_images(alloc: Global, rows: &[ImageRow]) -> Result<(), Surprise> {
+    for row in rows {
+        let (words, file, image, status, text) = *row;
+        let held = Held { file, image };
+        expect_call(
+            alloc,
+            Call {
+                words,
+                held,
+                status,
+                text,
+                steps: Some(0),
+            },
+            &SIZES,
+        )?;
     }
     Ok(())
 }

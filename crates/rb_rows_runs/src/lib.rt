@@ -17,3 +17,5 @@ mod long;
 mod matches;
 #[cfg(test)]
 mod needs;
+#[cfg(test)]
+mod values;

@@ -16,13 +16,16 @@ pub mod Named
 pub mod Numbered
 pub mod OneCompletion
 pub mod OneProgram
+pub mod OpeningLaws
 pub mod Owing
 pub mod Preparing
 pub mod PromiseLaws
 pub mod NotUnread
 pub mod ReadFaults
 pub mod ReadLaws
+pub mod ResultTypes
 pub mod TextLaws
 pub mod Tokens
+pub mod ValueLaws
 pub mod WordTexts
 pub mod WordsRead

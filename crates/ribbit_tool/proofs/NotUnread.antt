@@ -8,10 +8,14 @@ use Rattle.rb_core.specs.declared.outcome.SourceEnd.TheVariants as source
 use Rattle.rb_core.specs.Values.{node_count}
 use Rattle.rb_core.specs.declared.program.Program.{Program}
 use Rattle.rb_core.specs.declared.types.DataDecl.{DataDecl}
+use Rattle.rb_core.specs.declared.types.Ty.{Ty}
 use Rattle.rb_core.specs.declared.typing.TypeFault.{TypeFault}
 use Rattle.rb_core.specs.declared.typing.TypeFault.TheVariants as types
 use Rattle.rb_core.specs.declared.value.Value.{Value}
 use Rattle.rb_bytes.specs.Memory.{Memory, empty_memory}
+use Rattle.rb_image_text.specs.declared.fault.ImageFault.{ImageFault}
+use Rattle.rb_image_text.specs.declared.fault.ImageFault.TheVariants as fault
+use Rattle.rb_image_text.specs.declared.image.Image.{Image}
 use Rattle.rb_layout.specs.declared.agreed.LaidOut.{LaidOut}
 use Rattle.rb_machine.specs.Runs.{params_in}
 use Rattle.rb_names.specs.declared.fault.NameFault.{NameFault}
@@ -36,9 +40,12 @@ use Rattle.ribbit_tool.specs.Compiling.{CompilesFile}
 use Rattle.ribbit_tool.specs.Count.{CountsFile, count_due, count_text}
 use Rattle.ribbit_tool.specs.Exec.{Executes, executed, faulty, no_code, end_due, outcome_due, named_due, fun_named}
 use Rattle.ribbit_tool.specs.Image.{ImagesFile, image_due}
+use Rattle.ribbit_tool.specs.ImageLines.{image_due as fault_due}
 use Rattle.ribbit_tool.specs.Layout.{LaysOutFile}
 use Rattle.ribbit_tool.specs.Lines.{large_line, count_line}
+use Rattle.ribbit_tool.specs.Opening.{Spells, garbled, spelled}
 use Rattle.ribbit_tool.specs.Run.{RunsFile, answer_due, source_answer, PreparesFile, misfit, prepared}
+use Rattle.ribbit_tool.specs.Value.{ReadsBack, holds, large, unsound}
 use Rattle.ribbit_tool.specs.declared.status.Status.TheVariants as status
 
 other_by : (due d : Due) → due ≡ d → status_of d ≢ 7 → status_of due ≢ 7
@@ -75,7 +82,7 @@ derived_other ts (auto.PackedRecursive t) e = omega (arith, e)
 derived_other ts (auto.PackedWide t bits) e = omega (arith, e)
 derived_other ts auto.Memory e = omega (arith, e)
 
-refused_other : (bytes : List ℕ) (due : Due) → IsRefused bytes due → status_of due ≢ 7
+pub refused_other : (bytes : List ℕ) (due : Due) → IsRefused bytes due → status_of due ≢ 7
 refused_other bytes due (uncut f h is) = other_by due _ is (lex_other f)
 refused_other bytes due (misread placed h f k is) = other_by due _ is (read_other placed (length bytes) f)
 refused_other bytes due (misnamed placed file h f k is) = other_by due _ is (name_other placed (length bytes) f)
@@ -100,7 +107,7 @@ prepares_other : (words : List (List ℕ)) (bytes : List ℕ) (Then : LaidOut �
     → PreparesFile words bytes Then due → status_of due ≢ 7
 prepares_other words bytes Then due other (turned_down h) = refused_other bytes due h
 prepares_other words bytes Then due other (accepted p a (misfit m)) = misfit_other p words due m
-prepares_other words bytes Then due other (accepted p a (prepared agreed laid code args ready spelled h)) = other agreed code args h
+prepares_other words bytes Then due other (accepted p a (prepared agreed laid code args ready spells h)) = other agreed code args h
 
 answer_other : (p : Program) (calls : ℕ) (a : answer.Answer) (steps : ℕ) → status_of (answer_due p calls a steps) ≢ 7
 answer_other p calls (answer.Shown v) steps e = omega (arith, e)
@@ -139,6 +146,27 @@ named_other funs name limits words (Some f) =
     let o = run_of funs limits.calls f words (empty_memory limits.region) in
     choice_other (length words == params_in (slice_get funs f)) (outcome_due o limits.calls)
     (refusal status.Argument (count_line (params_in (slice_get funs f)) (length words))) (end_other o.ended limits.calls o.world.taken) (λ e. omega (arith, e))
+
+-- Images ------------------------------------------------------------------------------------
+
+fault_other : (f : ImageFault) → status_of (fault_due f) ≢ 7
+fault_other (fault.ImageSyntax at) e = omega (arith, e)
+fault_other (fault.ImageBlock i) e = omega (arith, e)
+fault_other (fault.BadRoot i) e = omega (arith, e)
+fault_other (fault.BadBits base place) e = omega (arith, e)
+fault_other (fault.BadPointer base address) e = omega (arith, e)
+fault_other fault.ImageTooLarge e = omega (arith, e)
+fault_other (fault.NoSuchPart step) e = omega (arith, e)
+fault_other fault.Memory e = omega (arith, e)
+
+pub back_other : (p : Program) (ty : Ty) (i : Image) (due : Due) → ReadsBack p ty i due → status_of due ≢ 7
+back_other p ty i due (holds v h few is) = other_by due _ is (λ e. omega (arith, e))
+back_other p ty i due (large v h more is) = other_by due _ is (λ e. omega (arith, e))
+back_other p ty i due (unsound f h is) = other_by due _ is (fault_other f)
+
+pub spells_other : (text : List ℕ) (Then : Image → Due → Type 0) (due : Due) → ((i : Image) → Then i due → status_of due ≢ 7) → Spells text Then due → status_of due ≢ 7
+spells_other text Then due other (garbled h) = other_by due _ h.shown (fault_other h.fault)
+spells_other text Then due other (spelled i is placed h) = other i h
 
 -- Each command ------------------------------------------------------------------------------
 

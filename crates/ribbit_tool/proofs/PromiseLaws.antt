@@ -28,6 +28,7 @@ is_named status.Limit = (λ e. omega (arith, e), λ e. omega (arith, e))
 is_named status.Trap = (λ e. omega (arith, e), λ e. omega (arith, e))
 is_named status.TooLarge = (λ e. omega (arith, e), λ e. omega (arith, e))
 is_named status.Code = (λ e. omega (arith, e), λ e. omega (arith, e))
+is_named status.Image = (λ e. omega (arith, e), λ e. omega (arith, e))
 
 module _ (words : List (List ℕ)) (source : Source) (out err : Change) (steps : Counting) (status : ℕ) where
   -- what is owed is the answer, unless memory ran out

@@ -1,22 +1,27 @@
 -- What was read of the files of a command, where the answer is due to it.
 use Rattle.std.proofs.Common.{◌≡◌, ◌≢◌, ℕ, ◌+◌, ◌≤◌, ◌⊎◌, inl, inr, List, [], ◌∷◌, ◌++◌, length, refl, sym, ap, subst, ◌∙◌, arith, length-append, IsTrue, Option, Some, None, Ok, Err}
+use Rattle.rb_core.specs.Typing.{result_type}
+use Rattle.rb_core.specs.declared.program.Program.{Program}
 use Rattle.rb_edge.specs.Faults.{Rose}
 use Rattle.rb_edge.specs.History.{Reading, going, ended, failed}
 use Rattle.rb_edge.specs.Whole.{Begins}
+use Rattle.rb_image_text.specs.declared.image.Image.{Image}
 use Rattle.ribbit_tool.specs.Answer.{Due, status_of}
 use Rattle.ribbit_tool.specs.Answers.{Answers, files_of}
 use Rattle.ribbit_tool.specs.Check.{ChecksFile}
-use Rattle.ribbit_tool.specs.Command.{Parsed, check, layout, compile, run, image, count, gen, genrun, exec}
+use Rattle.ribbit_tool.specs.Command.{Parsed, check, layout, compile, run, image, count, gen, genrun, exec, value}
 use Rattle.ribbit_tool.specs.Compiling.{CompilesFile}
 use Rattle.ribbit_tool.specs.Count.{CountsFile}
 use Rattle.ribbit_tool.specs.Exec.{Executes}
 use Rattle.ribbit_tool.specs.Generate.{generated}
 use Rattle.ribbit_tool.specs.Image.{ImagesFile}
 use Rattle.ribbit_tool.specs.Layout.{LaysOutFile}
+use Rattle.ribbit_tool.specs.Opening.{AcceptsFirst, Following, Opens, ReadsImage, accepted, turned_down}
 use Rattle.ribbit_tool.specs.Promise.{IsMissing}
-use Rattle.ribbit_tool.specs.Reading.{Source, IsReading, AreInTurn, ReadsOne, unread, within, too_long, not_read, Gave, handed_out, whole, file_limit, code_limit}
+use Rattle.ribbit_tool.specs.Reading.{Source, IsReading, AreInTurn, ReadsOne, unread, within, too_long, not_read, Gave, handed_out, whole, file_limit, code_limit, image_limit}
 use Rattle.ribbit_tool.specs.Run.{RunsFile}
-use Rattle.ribbit_tool.proofs.NotUnread.{checks_other, lays_out_other, compiles_other, runs_other, images_other, counts_other, executes_other}
+use Rattle.ribbit_tool.specs.Value.{ReadsBack}
+use Rattle.ribbit_tool.proofs.NotUnread.{checks_other, lays_out_other, compiles_other, runs_other, images_other, counts_other, executes_other, back_other, refused_other, spells_other}
 use Rattle.ribbit_tool.proofs.ReadLaws.{some_same}
 
 module _ (source : Source) where
@@ -59,6 +64,48 @@ module _ (source : Source) where
         let read = read_as part (whole name part) one in
         one ∙ ap (λ (xs : List ℕ). whole name xs ∷ []) (some_same (sym (read.all told refl) ∙ held))
 
+  -- A file and its image ----------------------------------------------------------------------
+
+  -- the reading that failed is the last one
+  missing_as : (name bytes : List ℕ) (limit : ℕ) (earlier : List Reading) → rs ≡ earlier ++ record { name = name; bytes = bytes; course = failed } ∷ []
+      → IsReading source name limit (record { name = name; bytes = bytes; course = failed }) → Rose source.before source.now ⊎ IsMissing source
+  missing_as name bytes limit earlier is read =
+      elim (read.cause refl) [
+        | inl rose ↦ inl rose
+        | inr gone ↦
+            let nothing : bytes ≡ [] = subst (λ (o : Option (List ℕ)). Begins o bytes) gone.1 (read.front gone.0) in
+            inr (record {
+              told = gone.0;
+              name = name;
+              nothing = gone.1;
+              earlier = earlier;
+              last = is ∙ ap (λ (bs : List ℕ). earlier ++ record { name = name; bytes = bs; course = failed } ∷ []) nothing;
+            })
+      ]
+
+  module _ (file second : List ℕ) (Then : Following) (due : Due) (turn : AreInTurn source ((file, file_limit) ∷ (second, image_limit) ∷ []) rs)
+      (other : (p : Program) (i : Image) → Then p i due → status_of due ≢ 7) (seven : status_of due ≡ 7) where
+    turns : (xs : List Reading) → rs ≡ xs → AreInTurn source ((file, file_limit) ∷ (second, image_limit) ∷ []) xs
+    turns xs is = subst (λ (ys : List Reading). AreInTurn source ((file, file_limit) ∷ (second, image_limit) ∷ []) ys) is turn
+
+    image_missing : (bytes : List ℕ) (later : List Reading) → rs ≡ whole file bytes ∷ later → (p : Program) → ReadsImage second (Then p) later due
+        → Rose source.before source.now ⊎ IsMissing source
+    image_missing bytes later is p (unread (too_long text long k e)) = let eleven = ap (λ (d : Due). status_of d) e in absurd (omega (arith, seven, eleven))
+    image_missing bytes later is p (unread (not_read text k e)) =
+        let all = is ∙ ap (λ (xs : List Reading). whole file bytes ∷ xs) k in
+        missing_as second text image_limit (whole file bytes ∷ []) all (turns _ all).1.0
+    image_missing bytes later is p (within text rest k short h) = absurd (spells_other text (Then p) due (other p) h.1 seven)
+
+    file_first : (bytes : List ℕ) (later : List Reading) → rs ≡ whole file bytes ∷ later
+        → AcceptsFirst bytes (λ p xs d. ReadsImage second (Then p) xs d) later due → Rose source.before source.now ⊎ IsMissing source
+    file_first bytes later is (turned_down h none) = absurd (refused_other bytes due h seven)
+    file_first bytes later is (accepted p a h) = image_missing bytes later is p h
+
+    pub two_missing : Opens file second Then rs due → Rose source.before source.now ⊎ IsMissing source
+    two_missing (unread (too_long bytes long is e)) = let eleven = ap (λ (d : Due). status_of d) e in absurd (omega (arith, seven, eleven))
+    two_missing (unread (not_read bytes is e)) = missing_as file bytes file_limit [] is (turns _ is).0
+    two_missing (within bytes later is short h) = file_first bytes later is h
+
   -- Each command ----------------------------------------------------------------------------
 
   pub fault_of : (parsed : Parsed) (due : Due) → AreInTurn source (files_of parsed) rs → Answers parsed rs due → status_of due ≡ 7
@@ -73,12 +120,15 @@ module _ (source : Source) where
   fault_of (Ok (genrun functions limits)) due turn h seven = absurd (counts_other (generated functions) due limits [] h seven)
   fault_of (Ok (exec code function limits words)) due turn h seven =
       one_missing code code_limit (λ bs d. Executes function limits words bs d) due turn (λ bs k. executes_other bs due function limits words k) h seven
+  fault_of (Ok (value file second)) due turn h seven =
+      two_missing file second (λ p i d. ReadsBack p (result_type p.funs p.main) i d) due turn (λ p i k. back_other p (result_type p.funs p.main) i due k) seven h
   fault_of (Err word) due turn h seven = let six = ap (λ (d : Due). status_of d) h in absurd (omega (arith, seven, six))
 
-  -- the first file, where it is the only one
+  -- a file that is the only one
   abbrev pub IsHeld : List (List ℕ × ℕ) → Type 0
   IsHeld [] = Unit {0}
-  IsHeld ((name, limit) ∷ files) = (bytes : List ℕ) → IsTrue source.tells → source.held name ≡ Some bytes → length bytes ≤ limit
+  IsHeld (file ∷ other ∷ files) = Unit {0}
+  IsHeld ((name, limit) ∷ []) = (bytes : List ℕ) → IsTrue source.tells → source.held name ≡ Some bytes → length bytes ≤ limit
       → (Rose source.before source.now → ⊥) → Gave source name bytes
 
   pub held_of : (parsed : Parsed) (due : Due) → AreInTurn source (files_of parsed) rs → Answers parsed rs due → IsHeld (files_of parsed)
@@ -91,4 +141,5 @@ module _ (source : Source) where
   held_of (Ok (gen functions)) due turn h = tt
   held_of (Ok (genrun functions limits)) due turn h = tt
   held_of (Ok (exec code function limits words)) due turn h = one_held code code_limit (λ bs d. Executes function limits words bs d) due turn h
+  held_of (Ok (value file second)) due turn h = tt
   held_of (Err word) due turn h = tt

@@ -3,7 +3,7 @@ use Rattle.std.specs.Prelude.{◌≡◌, ℕ, List, [], ◌∷◌, Ok, Err}
 use Rattle.rb_edge.specs.History.{Reading}
 use Rattle.ribbit_tool.specs.Answer.{Due, refusal}
 use Rattle.ribbit_tool.specs.Check.{ChecksFile}
-use Rattle.ribbit_tool.specs.Command.{Parsed, check, layout, compile, run, image, count, gen, genrun, exec, command_of}
+use Rattle.ribbit_tool.specs.Command.{Parsed, check, layout, compile, run, image, count, gen, genrun, exec, value, command_of}
 use Rattle.ribbit_tool.specs.Compiling.{CompilesFile}
 use Rattle.ribbit_tool.specs.Count.{CountsFile}
 use Rattle.ribbit_tool.specs.Exec.{Executes}
@@ -11,8 +11,9 @@ use Rattle.ribbit_tool.specs.Generate.{Generates, CountsGenerated}
 use Rattle.ribbit_tool.specs.Image.{ImagesFile}
 use Rattle.ribbit_tool.specs.Layout.{LaysOutFile}
 use Rattle.ribbit_tool.specs.Lines.{usage_line, no_memory_line}
-use Rattle.ribbit_tool.specs.Reading.{ReadsOne, file_limit, code_limit}
+use Rattle.ribbit_tool.specs.Reading.{ReadsOne, file_limit, code_limit, image_limit}
 use Rattle.ribbit_tool.specs.Run.{RunsFile}
+use Rattle.ribbit_tool.specs.Value.{ReadsValue}
 use Rattle.ribbit_tool.specs.declared.status.Status.TheVariants.{Usage, NoMemory}
 
 -- the files that a command reads, each with its limit
@@ -26,6 +27,7 @@ files_of (Ok (count file limits values)) = (file, file_limit) ∷ []
 files_of (Ok (gen functions)) = []
 files_of (Ok (genrun functions limits)) = []
 files_of (Ok (exec code function limits words)) = (code, code_limit) ∷ []
+files_of (Ok (value file second)) = (file, file_limit) ∷ (second, image_limit) ∷ []
 files_of (Err word) = []
 
 -- a line for each command; or the words are none
@@ -39,6 +41,7 @@ Answers (Ok (count file limits values)) readings due = ReadsOne file file_limit 
 Answers (Ok (gen functions)) readings due = Generates functions due
 Answers (Ok (genrun functions limits)) readings due = CountsGenerated functions limits due
 Answers (Ok (exec code function limits words)) readings due = ReadsOne code code_limit (λ bytes d. Executes function limits words bytes d) readings due
+Answers (Ok (value file second)) readings due = ReadsValue file second readings due
 Answers (Err word) readings due = due ≡ refusal Usage (usage_line word)
 
 abbrev pub AnswersWords : List (List ℕ) → List Reading → Due → Type 0

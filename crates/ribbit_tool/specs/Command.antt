@@ -18,6 +18,7 @@ pub data Command : Type 0 where
   gen : (functions : ℕ) → Command
   genrun : (functions : ℕ) → (limits : Limits) → Command
   exec : (code : List ℕ) → (function : List ℕ) → (limits : Limits) → (words : List ℕ) → Command
+  value : (file : List ℕ) → (image : List ℕ) → Command
 
 -- the command, or the number of the first word at fault; words are counted from 1
 abbrev pub Parsed : Type 0
@@ -30,11 +31,11 @@ with_word n (w ∷ ws) go = go w ws
 
 abbrev pub at_number : ℕ → Option ℕ → (ℕ → Parsed) → Parsed
 at_number n None go = Err n
-at_number n (Some value) go = go value
+at_number n (Some number) go = go number
 
 -- goes on with the number that the word of this number spells
 abbrev pub with_number : ℕ → ℕ → ℕ → List (List ℕ) → (ℕ → List (List ℕ) → Parsed) → Parsed
-with_number n low high words go = with_word n words (λ w ws. at_number n (number_in low high w) (λ value. go value ws))
+with_number n low high words go = with_word n words (λ w ws. at_number n (number_in low high w) (λ number. go number ws))
 
 -- CALLS and REGION, from the word of this number on
 abbrev pub with_limits : ℕ → List (List ℕ) → (Limits → List (List ℕ) → Parsed) → Parsed
@@ -88,8 +89,8 @@ genrun_words words =
 
 abbrev pub first_number : ℕ → Option ℕ → Result (List ℕ) ℕ → Result (List ℕ) ℕ
 first_number n None rest = Err n
-first_number n (Some value) (Ok values) = Ok (value ∷ values)
-first_number n (Some value) (Err m) = Err m
+first_number n (Some number) (Ok numbers) = Ok (number ∷ numbers)
+first_number n (Some number) (Err m) = Err m
 
 -- the numbers below 2^64 that the words from this number on spell, or the number of the first that spells none
 abbrev pub numbers_from : ℕ → List (List ℕ) → Result (List ℕ) ℕ
@@ -111,6 +112,10 @@ function_words code words =
 abbrev pub exec_words : List (List ℕ) → Parsed
 exec_words words = with_word 2 words (λ code ws. function_words code ws)
 
+-- FILE IMAGE and no more
+abbrev pub value_words : List (List ℕ) → Parsed
+value_words words = with_word 2 words (λ file ws. with_word 3 ws (λ second rest. alone 4 (value file second) rest))
+
 unfoldable pub command_of : List (List ℕ) → Parsed
 command_of words = with_word 1 words (λ w ws.
     if bytes_eq w (codes "check") then check_words ws else
@@ -121,4 +126,5 @@ command_of words = with_word 1 words (λ w ws.
     if bytes_eq w (codes "count") then count_words ws else
     if bytes_eq w (codes "gen") then gen_words ws else
     if bytes_eq w (codes "genrun") then genrun_words ws else
-    if bytes_eq w (codes "exec") then exec_words ws else Err 1)
+    if bytes_eq w (codes "exec") then exec_words ws else
+    if bytes_eq w (codes "value") then value_words ws else Err 1)

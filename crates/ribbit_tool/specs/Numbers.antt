@@ -20,6 +20,7 @@ status_number status.Limit = 11
 status_number status.Trap = 12
 status_number status.TooLarge = 13
 status_number status.Code = 14
+status_number status.Image = 16
 
 -- bytes that are no code text
 abbrev pub code_syntax : ℕ
@@ -39,3 +40,24 @@ abbrev pub trap_number : Trap → ℕ
 trap_number (Astray base offset) = 30
 trap_number (Unwritten address) = 31
 trap_number (Unmatched word) = 32
+
+-- bytes that are no image text, and a block out of its place
+abbrev pub image_syntax : ℕ
+image_syntax = 40
+
+abbrev pub image_block : ℕ
+image_block = 41
+
+-- a root word that does not fit, bits that no value has, and a pointer that leads nowhere
+abbrev pub bad_root : ℕ
+bad_root = 42
+
+abbrev pub bad_bits : ℕ
+bad_bits = 43
+
+abbrev pub bad_pointer : ℕ
+bad_pointer = 44
+
+-- a step of a path that names no field
+abbrev pub no_such_part : ℕ
+no_such_part = 46

@@ -19,6 +19,10 @@ file_limit = 262144
 abbrev pub code_limit : ℕ
 code_limit = 16777216
 
+-- the most bytes that an image's text may have
+abbrev pub image_limit : ℕ
+image_limit = 16777216
+
 -- a file that was read to its end
 abbrev pub whole : List ℕ → List ℕ → Reading
 whole name bytes = record { name = name; bytes = bytes; course = ended }

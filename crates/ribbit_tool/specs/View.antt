@@ -8,7 +8,7 @@ use Rattle.rb_edge.specs.History.{Reading}
 use Rattle.rb_layout.specs.Agreement.{AreAgreed}
 use Rattle.ribbit_tool.specs.Accepting.{IsNamed}
 use Rattle.ribbit_tool.specs.Answer.{Due, printed, refused}
-use Rattle.ribbit_tool.specs.Command.{Command, Limits, check, layout, compile, run, image, count, gen, genrun, exec}
+use Rattle.ribbit_tool.specs.Command.{Command, Limits, check, layout, compile, run, image, count, gen, genrun, exec, value}
 use Rattle.ribbit_tool.specs.declared.accepting.Accepted.{Accepted}
 use Rattle.ribbit_tool.specs.declared.command.Command as declared
 use Rattle.ribbit_tool.specs.declared.command.Command.TheVariants as form
@@ -32,6 +32,11 @@ command_view (form.Count file limits values) = count file.now (limits_view limit
 command_view (form.Gen functions) = gen functions.count
 command_view (form.GenRun functions limits) = genrun functions.count (limits_view limits)
 command_view (form.Exec code function limits words) = exec code.now function.now (limits_view limits) words
+command_view (form.Value file second) = value file.now second.now
+
+-- what a source handed out between two calls
+abbrev pub added : {S : Type 0} → (S → List Reading) → S → S → List Reading
+added readings old new = drop (length (readings old)) (readings new)
 
 -- what a source handed out between two calls
 abbrev pub added : {S : Type 0} → (S → List Reading) → S → S → List Reading

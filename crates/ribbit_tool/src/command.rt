@@ -2,7 +2,7 @@
 
 ghost use Rattle.std.specs.Prelude.{◌≡◌, ◌≤◌, List, MatchResult, Ok, ℕ};
 ghost use Rattle.ribbit_tool.specs.declared.command.CommandFault.TheVariants.{Memory};
-ghost use Rattle.ribbit_tool.specs.Command.{Command as CommandValue, Limits as LimitsValue, Parsed, check_words, command_of, compile_words, count_words, exec_words, function_words, gen_words, genrun_words, image_words, layout_words, numbers_from, run_words, with_call, with_functions, with_limits};
+ghost use Rattle.ribbit_tool.specs.Command.{Command as CommandValue, Limits as LimitsValue, Parsed, check_words, command_of, compile_words, count_words, exec_words, function_words, gen_words, genrun_words, image_words, layout_words, numbers_from, run_words, value_words, with_call, with_functions, with_limits};
 ghost use Rattle.ribbit_tool.specs.View.{command_view, limits_view, IsUsage};
 
 use crate::limits::{Functions, Limits};
@@ -60,6 +60,11 @@ pub enum Command<'a> {
         function: &'a [u8],
         limits: Limits,
         words: Seq<u64>,
+    },
+    /// The value that an image holds.
+    Value {
+        file: &'a [u8],
+        image: &'a [u8],
     },
 }
 
@@ -292,6 +297,21 @@ fn parse_exec<'a>(alloc: Global, words: &'a [Name]) -> Result<Command<'a>, Comma
     parse_function(alloc, code.as_slice(), words)
 }
 
+// The words behind `value`.
+fn parse_value<'a>(words: &'a [Name]) -> Result<Command<'a>, CommandFault>
+    ensures { MatchResult result (λ c. value_words words.now ≡ Ok (command_view c)) (IsUsage (value_words words.now)) }
+{
+    match words {
+        [] => Err(CommandFault::Usage(2)),
+        [_] => Err(CommandFault::Usage(3)),
+        [file, image] => Ok(Command::Value {
+            file: file.as_slice(),
+            image: image.as_slice(),
+        }),
+        [_, _, _, ..] => Err(CommandFault::Usage(4)),
+    }
+}
+
 /// The command, or the number of the first word at fault.
 #[tactic(auto, unfolding(crate::specs::Command::command_of))]
 pub fn parse<'a>(alloc: Global, words: &'a [Name]) -> Result<Command<'a>, CommandFault>
@@ -326,6 +346,9 @@ pub fn parse<'a>(alloc: Global, words: &'a [Name]) -> Result<Command<'a>, Comman
             }
             if first.as_slice() == b"exec".as_slice() {
                 return parse_exec(alloc, rest);
+            }
+            if first.as_slice() == b"value".as_slice() {
+                return parse_value(rest);
             }
             Err(CommandFault::Usage(1))
         }

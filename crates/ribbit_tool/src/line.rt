@@ -12,6 +12,7 @@ use std::alloc::{AllocError, Global};
 pub mod argument;
 pub mod derived;
 pub mod fault;
+pub mod image;
 pub mod note;
 pub mod pattern;
 pub mod types;
@@ -37,6 +38,19 @@ const BAD_SLOT: u64 = 21;
 const BAD_JUMP: u64 = 22;
 
 const BAD_CALL: u64 = 23;
+
+/// The numbers of images that are refused.
+const IMAGE_SYNTAX: u64 = 40;
+
+const IMAGE_BLOCK: u64 = 41;
+
+const BAD_ROOT: u64 = 42;
+
+const BAD_BITS: u64 = 43;
+
+const BAD_POINTER: u64 = 44;
+
+const NO_SUCH_PART: u64 = 46;
 
 pub(crate) fn push(text: &mut Vec<u8>, bytes: &[u8]) -> Result<(), AllocError>
     ensures { OnOk result (text.new.items ≡ text.old.items ++ bytes.now) }

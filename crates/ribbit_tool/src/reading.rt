@@ -23,6 +23,9 @@ pub const FILE_LIMIT: usize = 262_144;
 /// The most bytes that a code text may have.
 pub const CODE_LIMIT: usize = 16_777_216;
 
+/// The most bytes that an image's text may have.
+pub const IMAGE_LIMIT: usize = 16_777_216;
+
 // The answer where a source gave no file.
 fn refuse_reading(alloc: Global, fault: ReadFault) -> Result<Refused, AllocError>
     ensures failed { IfOk result (λ c. fault ≡ Failed) }

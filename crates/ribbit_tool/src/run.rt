@@ -2,9 +2,11 @@
 
 ghost use Rattle.std.specs.Prelude.{◌≡◌, ◌≤◌, ◌+◌, ℕ, length, IfOk, IfErr, Ok, [], ◌∷◌};
 ghost use Rattle.rb_run.specs.Answering.{meant_by};
+ghost use Rattle.rb_values.specs.Texts.{text_of};
 ghost use Rattle.ribbit_tool.specs.Answers.{Owes};
 ghost use Rattle.ribbit_tool.specs.Arguments.{IsMisfit, Spell};
 ghost use Rattle.ribbit_tool.specs.Command as spec;
+ghost use Rattle.ribbit_tool.specs.Lines.{ended};
 ghost use Rattle.ribbit_tool.specs.Run.{IsAnswered, IsPrepared, RunsFile, answer_due, value_line};
 ghost use Rattle.ribbit_tool.specs.Reading.{ReadsInTurn, file_limit, source_of};
 ghost use Rattle.ribbit_tool.specs.View.{limits_view, IsRefusal, Meets, added};
@@ -20,6 +22,7 @@ use crate::refusal::{Refusal, Refused};
 use crate::status::Status;
 use rb_core::program::Program;
 use rb_core::seq::Seq;
+use rb_core::types::{DataDecl, Ty};
 use rb_edge::seq::Name;
 use rb_edge::source::Source;
 use rb_edge::steps::{Ledger, Steps};
@@ -50,6 +53,19 @@ pub fn prepare(alloc: Global, agreed: &Agreed, words: &[Name]) -> Result<Prepare
     Ok(Prepared { code, args })
 }
 
+/// The text of a value of a type, on a line.
+pub(crate) fn show_at(
+    alloc: Global,
+    types: &[DataDecl],
+    ty: Ty,
+    value: &Forest,
+) -> Result<Vec<u8>, AllocError>
+    ensures { IfOk result (λ text. text.items ≡ ended (text_of types.now value.now ty)) }
+{
+    let text = print_value(alloc, types, ty, value)?;
+    line::end(text)
+}
+
 /// The text of a value of the result type of `main`, on a line.
 pub(crate) fn show_value(
     alloc: Global,
@@ -58,13 +74,8 @@ pub(crate) fn show_value(
 ) -> Result<Vec<u8>, AllocError>
     ensures { IfOk result (λ text. text.items ≡ value_line program.now value.now) }
 {
-    let text = print_value(
-        alloc,
-        program.types.as_slice(),
-        result_of_main(program),
-        value,
-    )?;
-    line::end(text)
+    let ty = result_of_main(program);
+    show_at(alloc, program.types.as_slice(), ty, value)
 }
 
 // The text of a run's answer.

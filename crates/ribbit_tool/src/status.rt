@@ -32,6 +32,8 @@ pub enum Status {
     TooLarge,
     /// The bytes are no valid code.
     Code,
+    /// The bytes are no image, or the image holds no value.
+    Image,
 }
 
 impl Status {
@@ -53,6 +55,7 @@ impl Status {
             Status::Trap => 12,
             Status::TooLarge => 13,
             Status::Code => 14,
+            Status::Image => 16,
         }
     }
 }

@@ -26,6 +26,7 @@ use crate::line::{self, NO_MEMORY};
 use crate::refusal::{Refusal, Refused};
 use crate::run::run_file;
 use crate::status::Status;
+use crate::value::value_file;
 use rb_edge::seq::Name;
 use rb_edge::sink::Sink;
 use rb_edge::source::Source;
@@ -74,6 +75,7 @@ fn obey<S: Source, L: Ledger>(
             limits,
             words,
         } => run_code_file(alloc, src, code, function, *limits, words.as_slice(), steps),
+        Command::Value { file, image } => value_file(alloc, src, file, image),
     }
 }
 

@@ -178,3 +178,21 @@ returns-in-Exec-clause-owed g c =
     c.args.steps.now.taken c.run_code_file.new.steps.taken c.run_code_file.result) c.as_slice.ensures c.run_code_file.ensures.owed in
     subst (λ (command : Command). Meets (Owes (Ok (command_view command)) readings) c.args.steps.now.taken c.run_code_file.new.steps.taken c.run_code_file.result)
     (sym c.in-Exec.is) owed
+
+pub returns-in-Value-clause-read : goal.returns-in-Value-clause-read
+returns-in-Value-clause-read g c =
+    let source : Source = record {
+      tells = g.S.Source.tells c.args.src.now;
+      held = g.S.Source.held c.args.src.now;
+      old = g.S.Source.readings c.args.src.now;
+      new = g.S.Source.readings c.value_file.new.src;
+      before = g.S.Source.faults c.args.src.now;
+      now = g.S.Source.faults c.value_file.new.src;
+    } in
+    subst (λ (command : Command). ReadsInTurn (files_of (Ok (command_view command))) source) (sym c.in-Value.is) c.value_file.ensures.read
+
+pub returns-in-Value-clause-owed : goal.returns-in-Value-clause-owed
+returns-in-Value-clause-owed g c =
+    let readings = (drop (length (g.S.Source.readings c.args.src.now)) (g.S.Source.readings c.value_file.new.src)) in
+    subst (λ (command : Command). Meets (Owes (Ok (command_view command)) readings) c.args.steps.now.taken c.args.steps.now.taken c.value_file.result)
+    (sym c.in-Value.is) (c.value_file.ensures.owed c.args.steps.now.taken)

@@ -1,0 +1,32 @@
+-- What is due to the command `value`: the value that an image holds of the result type of `main`.
+use Rattle.std.specs.Prelude.{◌≡◌, ◌≤◌, ◌<◌, List, ℕ}
+use Rattle.rb_core.specs.Typing.{result_type}
+use Rattle.rb_core.specs.Values.{node_count}
+use Rattle.rb_core.specs.declared.program.Program.{Program}
+use Rattle.rb_core.specs.declared.types.Ty.{Ty}
+use Rattle.rb_core.specs.declared.value.Value.{Value}
+use Rattle.rb_edge.specs.History.{Reading}
+use Rattle.rb_image.specs.Falling.{RootDescends}
+use Rattle.rb_image.specs.Roots.{IsFirstFault}
+use Rattle.rb_image_text.specs.declared.fault.ImageFault.{ImageFault}
+use Rattle.rb_image_text.specs.declared.image.Image.{Image}
+use Rattle.rb_layout.specs.Flattening.{flat_layouts}
+use Rattle.rb_values.specs.Texts.{text_of}
+use Rattle.ribbit_tool.specs.Answer.{Due, printed, refusal}
+use Rattle.ribbit_tool.specs.Arguments.{node_limit}
+use Rattle.ribbit_tool.specs.ImageLines.{image_due}
+use Rattle.ribbit_tool.specs.Lines.{ended, large_line}
+use Rattle.ribbit_tool.specs.Opening.{Opens}
+use Rattle.ribbit_tool.specs.declared.status.Status.TheVariants.{TooLarge}
+
+-- What is due to an image that is to hold a value of a type: its root words represent one in its blocks, and each
+-- pointer that a block holds leads to a block with a lower address; then the value is shown on a line, if it is not too
+-- large. Or else the image's first fault is shown.
+pub data ReadsBack (p : Program) (ty : Ty) (image : Image) (due : Due) : Type 0 where
+  holds : (v : Value) → RootDescends p image ty v → node_count v ≤ node_limit → due ≡ printed (ended (text_of p.types v ty)) 0 → ReadsBack p ty image due
+  large : (v : Value) → RootDescends p image ty v → node_limit < node_count v → due ≡ refusal TooLarge (large_line node_limit) → ReadsBack p ty image due
+  unsound : (fault : ImageFault) → IsFirstFault p.types (flat_layouts p) image ty fault → due ≡ image_due fault → ReadsBack p ty image due
+
+-- of FILE and IMAGE
+abbrev pub ReadsValue : List ℕ → List ℕ → List Reading → Due → Type 0
+ReadsValue file image readings due = Opens file image (λ p i d. ReadsBack p (result_type p.funs p.main) i d) readings due

@@ -1,0 +1,82 @@
+//! The command `value`: the value that an image holds.
+
+ghost use Rattle.std.specs.Prelude.{◌≡◌, ℕ, IfOk, IfErr, Ok};
+ghost use Rattle.rb_core.specs.Typing.{result_type};
+ghost use Rattle.rb_image.specs.Values.{IsDeclared};
+ghost use Rattle.rb_image_text.specs.Images.{AreBlocks};
+ghost use Rattle.rb_image_text.specs.Places.{AreInPlace};
+ghost use Rattle.ribbit_tool.specs.Answer.{printed};
+ghost use Rattle.ribbit_tool.specs.Answers.{Owes, files_of};
+ghost use Rattle.ribbit_tool.specs.Command as spec;
+ghost use Rattle.ribbit_tool.specs.Reading.{ReadsInTurn, source_of};
+ghost use Rattle.ribbit_tool.specs.Value.{ReadsBack};
+ghost use Rattle.ribbit_tool.specs.View.{added, IsRefusal, Meets};
+
+use crate::line::argument::NODES;
+use crate::opening::{open_image, refuse_image};
+use crate::refusal::Refusal;
+use crate::run::show_at;
+use rb_core::types::Ty;
+use rb_edge::source::Source;
+use rb_image::value::read_image;
+use rb_image_text::image::Image;
+use rb_layout::agreed::Agreed;
+use rb_run::answer::result_of_main;
+use std::alloc::Global;
+
+/// The value of a type that an image holds, on a line.
+pub(crate) fn value_text(
+    alloc: Global,
+    agreed: &Agreed,
+    ty: Ty,
+    image: &Image,
+) -> Result<Vec<u8>, Refusal>
+    requires placed { AreInPlace image.now.blocks }
+    requires sized { AreBlocks image.now.blocks }
+    requires declared { IsDeclared agreed.now.covered.program.types ty }
+    ensures text { IfOk result (λ text. ReadsBack agreed.now.covered.program ty image.now (printed text.items 0)) }
+    ensures refused { IfErr result (IsRefusal (ReadsBack agreed.now.covered.program ty image.now)) }
+{
+    match read_image(alloc, agreed, ty, image, NODES) {
+        Ok(value) => {
+            let types = agreed.covered().program().types.as_slice();
+            let text = show_at(alloc, types, ty, &value)?;
+            Ok(text)
+        }
+        Err(fault) => {
+            // the fault is one over these layouts, which are the flat forms of the program's
+            let _ = agreed.layouts();
+            let refused = refuse_image(alloc, fault)?;
+            Err(Refusal::Refused(refused))
+        }
+    }
+}
+
+// The value of the result type of `main`.
+fn value_of_main(alloc: Global, agreed: &Agreed, image: &Image) -> Result<Vec<u8>, Refusal>
+    requires placed { AreInPlace image.now.blocks }
+    requires sized { AreBlocks image.now.blocks }
+    ensures text { IfOk result (λ text. ReadsBack agreed.now.covered.program
+        (result_type agreed.now.covered.program.funs agreed.now.covered.program.main) image.now (printed text.items 0)) }
+    ensures refused { IfErr result (IsRefusal (ReadsBack agreed.now.covered.program
+        (result_type agreed.now.covered.program.funs agreed.now.covered.program.main) image.now)) }
+{
+    let ty = result_of_main(agreed.covered().program());
+    value_text(alloc, agreed, ty, image)
+}
+
+/// The value that an image holds of the result type of `main` of a file, where the file is accepted.
+pub fn value_file<S: Source>(
+    alloc: Global,
+    src: &mut S,
+    file: &[u8],
+    image: &[u8],
+) -> Result<Vec<u8>, Refusal>
+    ensures read { ReadsInTurn (files_of (Ok (spec.value file.now image.now)))
+        (source_of S.tells S.held S.readings S.faults src.old src.new) }
+    ensures owed { (steps : ℕ) → Meets
+        (Owes (Ok (spec.value file.now image.now)) (added S.readings src.old src.new)) steps steps result }
+{
+    let opened = open_image(alloc, src, file, image)?;
+    value_of_main(alloc, &opened.accepted.agreed, &opened.image)
+}
