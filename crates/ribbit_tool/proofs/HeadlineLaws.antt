@@ -3,7 +3,7 @@ use Rattle.std.proofs.Common.{◌≡◌, ℕ, List, [], ◌∷◌, sym, ap, subs
 use Rattle.rb_core.specs.Typing.{param_types}
 use Rattle.rb_core.specs.declared.program.Program.{Program}
 use Rattle.rb_core.specs.declared.value.Value.{Value}
-use Rattle.rb_edge.specs.History.{Reading, Course, going, ended}
+use Rattle.rb_edge.specs.History.{Reading, Course, going}
 use Rattle.rb_layout.specs.Flattening.{flat_layouts}
 use Rattle.rb_layout.specs.declared.agreed.LaidOut.{LaidOut}
 use Rattle.rb_layout.specs.declared.layout.Layout.{Layout}
@@ -19,7 +19,7 @@ use Rattle.ribbit_tool.specs.Compiling.{IsCompiled, IsLaidOut}
 use Rattle.ribbit_tool.specs.Delivery.{Change}
 use Rattle.ribbit_tool.specs.Headline.{Says, OfCalls, Headline}
 use Rattle.ribbit_tool.specs.Promise.{Counting, Gives, IsRight}
-use Rattle.ribbit_tool.specs.Reading.{Source, ReadsOne, unread, within, too_long, not_read, Gave, handed_out, whole, file_limit}
+use Rattle.ribbit_tool.specs.Reading.{Source, ReadsOne, unread, within, too_long, not_read, handed_out, whole, file_limit}
 use Rattle.ribbit_tool.specs.Run.{IsAnswered, answer_due, Prepares, PreparesFile, prepared, misfit}
 use Rattle.ribbit_tool.proofs.ArgumentLaws.{never_misfit, same_values}
 use Rattle.ribbit_tool.proofs.OneProgram.{one_program, accepted_unrefused}

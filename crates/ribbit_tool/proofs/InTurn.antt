@@ -1,6 +1,5 @@
 -- A file that was read, and then other files in turn.
-use Rattle.std.proofs.Common.{◌≡◌, ℕ, ◌≤◌, ◌⊎◌, inl, inr, List, [], ◌∷◌, ◌++◌, length, drop, refl, sym, ap, subst, ◌∙◌, append_assoc, Bool, IsTrue, Option, None}
-use Rattle.rb_edge.specs.Faults.{Rose}
+use Rattle.std.proofs.Common.{◌≡◌, ℕ, ◌≤◌, inl, inr, List, [], ◌∷◌, ◌++◌, length, drop, sym, ap, subst, ◌∙◌, append_assoc, Bool, IsTrue, Option}
 use Rattle.rb_edge.specs.History.{Reading}
 use Rattle.rb_edge.specs.Source.{HoldsTheSame}
 use Rattle.rb_edge.specs.Whole.{Begins}

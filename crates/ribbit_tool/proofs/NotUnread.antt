@@ -1,5 +1,5 @@
 -- The status of a read fault is due to a file that was not read, and to nothing else.
-use Rattle.std.proofs.Common.{◌≡◌, ◌≢◌, ℕ, ◌-◌, ◌==◌, nat_le, [], Bool, true, false, if◌then◌else◌, List, length, refl, sym, ap, ◌∙◌, arith, Option, Some, None, slice_get}
+use Rattle.std.proofs.Common.{◌≡◌, ◌≢◌, ℕ, ◌-◌, ◌==◌, nat_le, Bool, true, false, if◌then◌else◌, List, length, sym, ap, ◌∙◌, arith, Option, Some, None, slice_get}
 use Rattle.rb_auto.specs.declared.fault.AutoFault.{AutoFault}
 use Rattle.rb_auto.specs.declared.fault.AutoFault.TheVariants as auto
 use Rattle.rb_core.specs.Meaning.{call_of}

@@ -1,5 +1,5 @@
 -- What was due and how it was delivered give what the program promises.
-use Rattle.std.proofs.Common.{◌≡◌, ◌≢◌, ℕ, ◌⊎◌, inl, inr, ◌∷◌, [], List, refl, sym, ap, subst, ◌∙◌, arith, IsTrue, Some, ◌≤◌, length}
+use Rattle.std.proofs.Common.{◌≡◌, ◌≢◌, ℕ, ◌⊎◌, inl, inr, List, refl, sym, ap, subst, ◌∙◌, arith}
 use Rattle.rb_edge.specs.Faults.{Rose}
 use Rattle.ribbit_tool.specs.Answer.{Due, printed, refused, status_of}
 use Rattle.ribbit_tool.specs.Answers.{AnswersWords, answered, out_of_memory, files_of}

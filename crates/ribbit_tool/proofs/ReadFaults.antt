@@ -1,9 +1,9 @@
 -- What was read of the files of a command, where the answer is due to it.
-use Rattle.std.proofs.Common.{◌≡◌, ◌≢◌, ℕ, ◌+◌, ◌≤◌, ◌⊎◌, inl, inr, List, [], ◌∷◌, ◌++◌, length, refl, sym, ap, subst, ◌∙◌, arith, length-append, IsTrue, Option, Some, None, Ok, Err}
+use Rattle.std.proofs.Common.{◌≡◌, ◌≢◌, ℕ, ◌+◌, ◌≤◌, ◌⊎◌, inl, inr, List, [], ◌∷◌, ◌++◌, length, refl, sym, ap, subst, ◌∙◌, arith, length-append, IsTrue, Option, Some, Ok, Err}
 use Rattle.rb_core.specs.Typing.{result_type}
 use Rattle.rb_core.specs.declared.program.Program.{Program}
 use Rattle.rb_edge.specs.Faults.{Rose}
-use Rattle.rb_edge.specs.History.{Reading, going, ended, failed}
+use Rattle.rb_edge.specs.History.{Reading, going, failed}
 use Rattle.rb_edge.specs.Whole.{Begins}
 use Rattle.rb_image_text.specs.declared.image.Image.{Image}
 use Rattle.ribbit_tool.specs.Answer.{Due, status_of}

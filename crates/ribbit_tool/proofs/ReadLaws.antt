@@ -5,7 +5,7 @@ use Rattle.std.proofs.lemmas.List.{take_all}
 use Rattle.std.specs.Option.{option_map}
 use Rattle.rb_edge.specs.History.{Reading, Course, going, ended, failed}
 use Rattle.rb_edge.specs.Source.{FailsToOpen}
-use Rattle.rb_edge.specs.Whole.{ReadsOnce, read_to, stopped_by}
+use Rattle.rb_edge.specs.Whole.{ReadsOnce, stopped_by}
 use Rattle.rb_edge.specs.declared.whole.ReadFault.{ReadFault}
 use Rattle.rb_edge.specs.declared.whole.ReadFault.TheVariants as fault
 use Rattle.ribbit_tool.specs.Reading.{Holds, Source, source_of, IsReading, ReadsInTurn, AreInTurn, handed_out, whole}

@@ -38,10 +38,6 @@ command_view (form.Value file second) = value file.now second.now
 abbrev pub added : {S : Type 0} → (S → List Reading) → S → S → List Reading
 added readings old new = drop (length (readings old)) (readings new)
 
--- what a source handed out between two calls
-abbrev pub added : {S : Type 0} → (S → List Reading) → S → S → List Reading
-added readings old new = drop (length (readings old)) (readings new)
-
 -- words that are no command: the number of the first at fault
 abbrev pub IsUsage : {A : Type 0} → Result A ℕ → CommandFault → Type 0
 IsUsage parsed (fault.Usage n) = parsed ≡ Err n

@@ -1,4 +1,4 @@
-use Rattle.std.proofs.Common.{ℕ, List, length, drop, refl, sym, subst, arith}
+use Rattle.std.proofs.Common.{length, drop, refl, sym, subst, arith}
 use Rattle.ribbit_tool.specs.Answers.{Owes, answered, files_of}
 use Rattle.ribbit_tool.specs.Command.{Parsed, command_of}
 use Rattle.ribbit_tool.specs.Reading.{Source}
