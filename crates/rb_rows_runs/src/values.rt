@@ -11,7 +11,16 @@ use std::test::Fail;
 /// Looks what `value` answers to the image of a file, which has the name `I`.
 fn expect_value(alloc: Global, file: &str, image: &str, wanted: &str) -> Result<(), Surprise> {
     let image = lines(alloc, image)?;
-    let held = [("E", file.as_bytes()), ("I", image.as_slice())];
+    expect_over(alloc, file.as_bytes(), image.as_slice(), wanted)
+}
+
+fn expect_over<'a>(
+    alloc: Global,
+    file: &'a [u8],
+    image: &'a [u8],
+    wanted: &str,
+) -> Result<(), Surprise> {
+    let held = [("E", file), ("I", image)];
     expect_answer_over(alloc, "value E I", &held, wanted)
 }
 
