@@ -1,7 +1,7 @@
 -- Files of the system as a source.
 use Rattle.std.specs.Prelude.{ℕ, List, [], ◌∷◌, ◌++◌}
 use Rattle.rb_edge.specs.Faults.{one_more}
-use Rattle.rb_edge.specs.History.{Reading, missed, broken, on_last}
+use Rattle.rb_edge.specs.History.{Reading, begun, missed, broken, on_last}
 
 -- what contracts see of it
 pub record SourceCounts : Type 0 where
@@ -9,6 +9,10 @@ pub record SourceCounts : Type 0 where
   pub readings : List Reading
   -- how many faults there were
   pub faults : ℕ
+
+-- after the opening of a name
+abbrev pub after_opening : SourceCounts → List ℕ → SourceCounts
+after_opening s name = record s { readings = s.readings ++ begun name ∷ [] }
 
 -- after the opening of a name failed
 abbrev pub after_miss : SourceCounts → List ℕ → SourceCounts

@@ -3,8 +3,8 @@
 ghost use Rattle.std.specs.Prelude.{◌≡◌, ◌≤◌, ℕ, List, [], ◌∷◌, ◌++◌, take, Bool, false, Option, None, length, IsNone, IsErr, IfOk, OnOk, OnErr};
 ghost use Rattle.std.specs.Str.{IsUtf8};
 ghost use Rattle.rb_edge.specs.Faults.{one_more};
-ghost use Rattle.rb_edge.specs.FileSource.{after_miss, after_failure};
-ghost use Rattle.rb_edge.specs.History.{Reading, begun, missed, broken, on_last, after_read};
+ghost use Rattle.rb_edge.specs.FileSource.{after_opening, after_miss, after_failure};
+ghost use Rattle.rb_edge.specs.History.{Reading, missed, broken, on_last, after_read};
 
 use crate::history::Readings;
 use crate::source::{Failed, Source};
@@ -76,9 +76,13 @@ impl<'a, R: Files> Source for FileSource<'a, R> {
 
     ghost faults = { λ s. s.faults };
 
-    /// Opens the file at that path. A name that isn't UTF-8 is no path, and a fault.
+    /// Opens the file at that path. A name that isn't UTF-8 is no path.
+    ///
+    /// # Errors
+    ///
+    /// `Failed` where the name isn't UTF-8 or the system opens no file there. It counts as a fault.
     fn open_file(&mut self, name: &[u8]) -> Result<(), Failed>
-        ensures ok { OnOk result (self.new ≡ record self.old { readings = self.old.readings ++ begun name.now ∷ [] }) }
+        ensures ok { OnOk result (self.new ≡ after_opening self.old name.now) }
         ensures fault { OnErr result (self.new ≡ after_miss self.old name.now) }
         ensures not_utf8 { ¬ (IsUtf8 name.now) → IsErr result }
     {
@@ -92,7 +96,11 @@ impl<'a, R: Files> Source for FileSource<'a, R> {
         Ok(())
     }
 
-    /// Reads what the system gives in one call, and nothing where no file is open.
+    /// Reads what the system gives in one call, in bytes, and nothing where no file is open.
+    ///
+    /// # Errors
+    ///
+    /// `Failed` where the system's read fails. It counts as a fault.
     fn read(&mut self, buf: &mut [u8]) -> Result<usize, Failed>
         ensures within { IfOk result (λ n. n ≤ length buf.old) }
         ensures ok { IfOk result (λ n. self.new ≡ record self.old {

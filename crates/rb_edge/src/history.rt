@@ -6,6 +6,22 @@ ghost use Rattle.rb_edge.specs.History.{begun, missed, handed, told_end, broken,
 use crate::log::Log;
 use std::marker::Model;
 
+// The kinds of a source's events in its log.
+const BEGUN: usize = 0;
+
+const MISSED: usize = 1;
+
+const HANDED: usize = 2;
+
+const ENDED: usize = 3;
+
+const BROKEN: usize = 4;
+
+// The kinds of a sink's events in its log.
+const TAKEN: usize = 0;
+
+const FAILED: usize = 1;
+
 /// The readings of a source. It takes no bytes of memory.
 #[derive(Drop)]
 pub struct Readings {
@@ -34,28 +50,28 @@ impl Readings {
     pub fn begin(&mut self, name: &[u8])
         ensures { self.new ≡ self.old ++ begun name.now ∷ [] }
     {
-        self.log.note(0, name);
+        self.log.note(BEGUN, name);
     }
 
     /// The opening of a name failed.
     pub fn miss(&mut self, name: &[u8])
         ensures { self.new ≡ self.old ++ missed name.now ∷ [] }
     {
-        self.log.note(1, name);
+        self.log.note(MISSED, name);
     }
 
     // Bytes were handed out.
     fn hand(&mut self, bytes: &[u8])
         ensures { self.new ≡ on_last (handed bytes.now) self.old }
     {
-        self.log.note(2, bytes);
+        self.log.note(HANDED, bytes);
     }
 
     // The end was told.
     fn end(&mut self)
         ensures { self.new ≡ on_last told_end self.old }
     {
-        self.log.note(3, &[]);
+        self.log.note(ENDED, &[]);
     }
 
     /// A read gave these bytes into a buffer with so much room.
@@ -73,7 +89,7 @@ impl Readings {
     pub fn fail(&mut self)
         ensures { self.new ≡ on_last broken self.old }
     {
-        self.log.note(4, &[]);
+        self.log.note(BROKEN, &[]);
     }
 }
 
@@ -104,13 +120,13 @@ impl Said {
     pub fn take(&mut self, bytes: &[u8])
         ensures { self.new ≡ after_take bytes.now self.old }
     {
-        self.log.note(0, bytes);
+        self.log.note(TAKEN, bytes);
     }
 
     /// A write failed.
     pub fn fail(&mut self)
         ensures { self.new ≡ after_break self.old }
     {
-        self.log.note(1, &[]);
+        self.log.note(FAILED, &[]);
     }
 }

@@ -24,6 +24,10 @@ pub trait Sink {
     ghost faults: { Self → ℕ };
 
     /// Takes bytes from the front of the piece, at least one where there is one, and says how many.
+    ///
+    /// # Errors
+    ///
+    /// `Failed` where a fault was counted. Nothing of the piece was taken then.
     fn write(&mut self, bytes: &[u8]) -> Result<usize, Failed>
         ensures same { tells self.new ≡ tells self.old }
         ensures later { faults self.old ≤ faults self.new }

@@ -33,6 +33,10 @@ pub trait Source {
     ghost faults: { Self → ℕ };
 
     /// Opens the file of that name at its first byte, in place of the one that was open.
+    ///
+    /// # Errors
+    ///
+    /// `Failed` where nothing is held under the name, or a fault was counted.
     fn open_file(&mut self, name: &[u8]) -> Result<(), Failed>
         ensures same { HoldsTheSame tells held self.old self.new }
         ensures later { faults self.old ≤ faults self.new }
@@ -51,6 +55,10 @@ pub trait Source {
 
     /// Reads the next bytes into the front of the buffer, and says how many. What stands behind them
     /// in the buffer is left open.
+    ///
+    /// # Errors
+    ///
+    /// `Failed` where a fault was counted. No byte is lost by it.
     fn read(&mut self, buf: &mut [u8]) -> Result<usize, Failed>
         ensures same { HoldsTheSame tells held self.old self.new }
         ensures later { faults self.old ≤ faults self.new }
@@ -60,7 +68,8 @@ pub trait Source {
         ensures broken { OnErr result (readings self.new ≡ on_last broken (readings self.old)) }
 
         ensures within { IfOk result (λ n. n ≤ length buf.old) }
-        ensures bytes { IfOk result (λ n. IsTrue (tells self.old) → Gives n buf.new (left self.old) (left self.new)) }
+        ensures bytes { IfOk result (λ n. IsTrue (tells self.old)
+            → Gives n buf.new (left self.old) (left self.new)) }
         ensures err { OnErr result (IsTrue (tells self.old) → left self.new ≡ left self.old) }
         ensures cause { OnErr result (Rose (faults self.old) (faults self.new)) };
 }

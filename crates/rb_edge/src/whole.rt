@@ -45,7 +45,7 @@ impl From<Failed> for ReadFault {
     }
 }
 
-/// The bytes that are left of the opened file, up to one more than the limit.
+// The bytes that are left of the opened file, up to one more than the limit.
 fn read_left<S: Source>(alloc: Global, source: &mut S, limit: usize) -> Result<Vec<u8>, ReadFault>
     requires { limit < usize.MAX }
     ensures same { HoldsTheSame S.tells S.held source.old source.new }
@@ -75,6 +75,10 @@ fn read_left<S: Source>(alloc: Global, source: &mut S, limit: usize) -> Result<V
 /// Opens the file of that name and reads its bytes, up to one more than the limit: a caller tells by the
 /// one more that the file is longer than the limit. No read asks for more than 4,096 bytes, nor for
 /// more than are still wanted.
+///
+/// # Errors
+///
+/// `Failed` where the source holds nothing under the name or failed, `Memory` where memory ran out.
 pub fn read_whole<S: Source>(
     alloc: Global,
     source: &mut S,
@@ -107,6 +111,10 @@ pub fn read_whole<S: Source>(
 }
 
 /// Writes all of the bytes, piece after piece, and stops at the first write that fails.
+///
+/// # Errors
+///
+/// `Failed` where a write failed. The sink took the bytes before that piece alone.
 pub fn write_whole<K: Sink>(sink: &mut K, bytes: &[u8]) -> Result<(), Failed>
     ensures same { K.tells sink.new ≡ K.tells sink.old }
     ensures later { K.faults sink.old ≤ K.faults sink.new }

@@ -2,7 +2,8 @@
 use Rattle.std.specs.Prelude.{ℕ, ◌==◌, List, [], ◌∷◌, ◌++◌, if◌then◌else◌}
 use Rattle.rb_edge.specs.History.{Reading, Account, begun, missed, handed, told_end, broken, on_last, after_take, after_break}
 
--- an event of a source: a name was opened or missed, bytes were handed out, the end was told, a read failed
+-- An event of a source, by its kind: 0, a name was opened; 1, a name was missed; 2, bytes were handed out;
+-- 3, the end was told; 4 and above, a read failed.
 abbrev pub reading_event : List Reading → ℕ × List ℕ → List Reading
 reading_event rs (kind, bytes) =
     if kind == 0 then rs ++ begun bytes ∷ [] else
@@ -14,7 +15,7 @@ abbrev pub readings_after : List Reading → List (ℕ × List ℕ) → List Rea
 readings_after rs [] = rs
 readings_after rs (e ∷ es) = readings_after (reading_event rs e) es
 
--- an event of a sink: bytes were taken, or a write failed
+-- An event of a sink, by its kind: 0, bytes were taken; 1 and above, a write failed.
 abbrev pub account_event : Account → ℕ × List ℕ → Account
 account_event a (kind, bytes) = if kind == 0 then after_take bytes a else after_break a
 
