@@ -1,5 +1,5 @@
-//! Runs over a checked memory, with as many calls as are allowed, however deep they nest: the first
-//! instruction of a function that calls itself is begun once a call.
+//! Runs over a checked memory, with as many calls as are allowed, however deep they nest. The counts were worked out
+//! by hand: the first instruction of a function that calls itself is begun once a call.
 
 use rb_bytes::checked::CheckedMemory;
 use rb_edge::steps::{CountLedger, Steps};

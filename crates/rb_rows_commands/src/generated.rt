@@ -1,4 +1,6 @@
-//! Generated files, and their runs.
+//! Generated files, and their runs. The smallest file is the rule of `gen`, written out by hand. Calls, switches and
+//! bytes were counted by hand from the file: two calls, two switches and sixteen bytes for each number, and three calls
+//! and two switches more. The words were worked out from the table of words, some numbers one past their bounds.
 
 use rb_rows_calls::call::{call, expect_answer, lines};
 use rb_rows_calls::counts::expect_counts;

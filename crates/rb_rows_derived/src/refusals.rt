@@ -1,4 +1,5 @@
-//! Types that cannot be packed.
+//! Types that cannot be packed, worked out by hand from the rules of derived layouts: a type that holds itself, and the
+//! most bits that fit and one more.
 
 use crate::types::{con, data, seq};
 use rb_auto::{AutoFault, derive};

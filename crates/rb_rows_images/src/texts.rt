@@ -1,4 +1,5 @@
-//! Texts of images.
+//! Texts of images. They were written by hand from the grammar of an image, with numbers at their bounds or one past
+//! them; the bytes at which others stop, and the blocks that are out of place, were counted.
 
 use rb_image_text::fault::ImageFault;
 use rb_image_text::read::read_image_text;

@@ -1,4 +1,5 @@
-//! Whole images.
+//! Whole images: sound ones, and the first fault of others. Worked out by hand from the layouts, and from the order in
+//! which faults are looked for.
 
 use crate::call::expect_images;
 use rb_core::types::Ty;

@@ -1,4 +1,4 @@
-//! Places of images.
+//! Places of images: the places below each, or its own first fault. Worked out by hand from the layouts.
 
 use crate::call::expect;
 use std::test::Fail;

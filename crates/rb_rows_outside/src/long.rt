@@ -1,4 +1,5 @@
-//! Values of up to a million nodes, printed whole: texts of some megabytes.
+//! Values of up to a million nodes, printed whole: texts of some megabytes. Each is spelled here too, a piece for each
+//! number or level. Nodes, calls and bytes were counted by hand.
 
 use crate::call::{Answer, EASY, Outside, alone, expect, holding};
 use rb_rows_calls::call::repeated;

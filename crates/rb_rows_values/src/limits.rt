@@ -1,4 +1,5 @@
-//! Limits of nodes, and values half a million deep.
+//! Limits of nodes, and values half a million deep. Nodes and bytes were counted by hand: a value is read where the
+//! limit is the number of its nodes, and not where it is one less.
 
 use crate::reading::{Found, outcome};
 use crate::types::{LIST, types};
