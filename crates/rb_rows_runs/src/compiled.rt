@@ -33,23 +33,18 @@ fn the_sum_of_an_empty_list(rt: HostRuntime) -> Result<(), Fail> {
     Ok(())
 }
 
-/// How many lines of a code text begin with a word.
-fn lines_of(code: &[u8], word: &str) -> usize {
+/// How many lines of a code text begin with a switch.
+fn switch_lines(code: &[u8]) -> usize {
     let Ok(text) = str::from_utf8(code) else {
         return usize::MAX;
     };
     let mut count = 0usize;
     for line in text.split('\n') {
-        if line.strip_prefix(word).is_some() {
+        if line.strip_prefix("switch ").is_some() {
             count = count.wrapping_add(1);
         }
     }
     count
-}
-
-/// How many begin with a switch.
-fn switch_lines(code: &[u8]) -> usize {
-    lines_of(code, "switch ")
 }
 
 /// Four tests of a field, each once: as a tree they were six.
