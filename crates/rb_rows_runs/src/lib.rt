@@ -2,6 +2,12 @@
 #![tactic(auto)]
 
 #[cfg(test)]
+mod changed_bits;
+#[cfg(test)]
+mod changed_pointers;
+#[cfg(test)]
+mod changes;
+#[cfg(test)]
 mod compiled;
 #[cfg(test)]
 mod counts;
