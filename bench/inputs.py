@@ -1,13 +1,15 @@
 """Files of Ribbit whose length grows with a number: what bench/run times.
 
 GROUPS at the end names them, each with the number at the whole size; at half of it a file is about half as long. FILES are
-given to `check`, those of layouts that agree to `layout` too; RUNS are programs with their words. CODES are code texts of
-bench/code that are run by `exec`.
+given to `check`, those of layouts that agree to `layout` too; RUNS are programs with their words; IMAGES are files, each with
+the text of an image that `value` reads. CODES are code texts of bench/code that are run by `exec`.
 """
 import itertools
 import os
 
 LIMIT = 262_144
+IMAGE_LIMIT = 16_777_216
+NODES = 1_000_000
 MAIN = "fun main(): u8 = 0;\n"
 LIST = (
     "type List = Nil | Cons(u64, List);\nlayout List <64> = split 0[0:1] {\n  1 => Nil : { word 64 { [0:1] = 1 } }\n"
@@ -394,6 +396,53 @@ def decoded(n):
     return RISCVB + inner + outer + "fun main(n: u64): u64 = outer(n);\n", ["1000000000", "64", str(n)]
 
 
+# Images that are read back ------------------------------------------------------------------------------------------------
+
+
+def address(i):
+    """That of block i, where each has 16 bytes."""
+    return 64 + 16 * i
+
+
+def image_of(blocks_):
+    """The text of an image of blocks, each of two words, whose root leads to the last."""
+    lines = [f"root 0x{address(len(blocks_) - 1):x}\n"]
+    for i, pair in enumerate(blocks_):
+        held = b"".join(word.to_bytes(8, "little") for word in pair)
+        lines.append(f"block {address(i)} 16 {held.hex()}\n")
+    return "".join(lines)
+
+
+def list_image(n):
+    """A list of 1,000 n numbers."""
+    pairs_ = [(i, address(i - 1) if i else 1) for i in range(1000 * n)]
+    return LIST + "fun main(): List = Nil;\n", image_of(pairs_)
+
+
+def tree_image(n):
+    """A tree of 1,000 n forks, as balanced as can be."""
+    count = 1000 * n
+
+    def part(k):
+        return address(count - 1 - k) if k < count else 1
+
+    pairs_ = [(part(2 * k + 1), part(2 * k + 2)) for k in reversed(range(count))]
+    return TREE + "fun main(): T = L;\n", image_of(pairs_)
+
+
+def shared_image(n):
+    """1,000 n forks, each of the one below and a leaf, or a fork that all share where the value stays below a million nodes."""
+    count = 1000 * n
+    thick = min(count - 1, (NODES - 1 - 2 * count - 1) // 2)
+    pairs_ = [(1, 1)] + [(address(i - 1), address(0) if i <= thick else 1) for i in range(1, count)]
+    return TREE + "fun main(): T = L;\n", image_of(pairs_)
+
+
+def doubled_image(n):
+    """n forks, each of the one below and that again: 2^(n + 1) - 1 nodes."""
+    return TREE + "fun main(): T = L;\n", image_of([(1, 1)] + [(address(i), address(i)) for i in range(n - 1)])
+
+
 # What is made, and how large ----------------------------------------------------------------------------------------------
 
 AGREEING = [
@@ -407,6 +456,7 @@ RUNS = [
     (lists, 24), (lists_in, 24), (trees, 14), (trees_in, 16), (printed, 500), (halved, 19), (grown, 20), (summed, 100), (inserted, 10),
     (decoded, 1000),
 ]
+IMAGES = [(list_image, 336), (tree_image, 336), (shared_image, 336), (doubled_image, 40)]
 # By name: how many instructions the run of `main` begins, and CALLS, REGION and WORD.
 CODES = [
     ("list", 14_000_125, 1_000_000_000, 16_777_216, 100_000),
