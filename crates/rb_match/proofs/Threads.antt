@@ -140,7 +140,7 @@ module _ (agreed : LaidOut) (ty : Ty) (pats : List Pat) (nodes : List GraphNode)
 
   pub thread_refl : (es : List Edge) → Are es es
   thread_refl [] = tt
-  thread_refl (e ∷ es) = (record { pc = refl; arm = refl; known = refl; leads = leads_refl e.known e.hole.leaf }, thread_refl es)
+  thread_refl (e ∷ es) = (record { pc = refl; arm = refl; known = λ at all. all; leads = leads_refl e.known e.hole.leaf }, thread_refl es)
 
   pub thread_append : (es fs gs hs : List Edge) → Are es fs → Are gs hs → Are (es ++ gs) (fs ++ hs)
   thread_append [] [] gs hs a b = b
@@ -224,7 +224,7 @@ module _ (agreed : LaidOut) (ty : Ty) (pats : List Pat) (nodes : List GraphNode)
           keeps = r.keeps;
           path = l.0;
           later = record { memory = r.later.memory; left = r.later.left; switches = (let x = r.later.switches in let y = l.1 in omega (arith, x, y)) };
-          known = subst (λ k. AreKnown (seen plan clean v spots r.slots w.memory) k) (sym b.2.known) r.known;
+          known = b.2.known (seen plan clean v spots r.slots w.memory) r.known;
           on = l.2;
         };
   }

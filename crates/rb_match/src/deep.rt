@@ -11,8 +11,9 @@ ghost use Rattle.rb_match.specs.inner.Opening.{AsksDeep, CanOpen, LeadsWays, Sta
 use crate::asking::{con_of, count_leaves, edge, link_of};
 use crate::clauses::holes_of;
 use crate::knowledge::{Edge, Known, Spot, with_known};
+use crate::place::fields_of;
 use crate::saving::save_fields;
-use crate::spots::{Whole, wanted_spots};
+use crate::spots::{Whole, wanted_fields};
 use crate::threading::node_onward;
 use rb_core::seq::Seq;
 use rb_core::types::ConRef;
@@ -36,6 +37,30 @@ fn land_leaf(alloc: Global, body: &mut Body, holes: &[Hole], leaf: usize) -> Res
     let here = holes_of(alloc, holes, leaf, 0)?;
     patch_all(body, here.as_slice(), targets.as_slice());
     Ok(())
+}
+
+// For each field of the part at a position, whether tests need it behind its leaf, which leads to a node.
+fn fields_to_save(
+    alloc: Global,
+    agreed: &Agreed,
+    graph: &Whole,
+    con: ConRef,
+    known: &[Known],
+    position: &[u32],
+    node: u32,
+) -> Result<Seq<bool>, AllocError> {
+    let types = agreed.covered().program().types.as_slice();
+    let fields = fields_of(types, con);
+    let onward = node_onward(
+        agreed,
+        graph.ty,
+        graph.pats,
+        graph.nodes,
+        known,
+        node as usize,
+    );
+    let wanted = wanted_fields(alloc, graph.nodes, onward, position, fields.len())?;
+    Ok(wanted)
 }
 
 // The way of one leaf: what other tests need of its fields is saved, and it goes on by an open jump. A leaf of a
@@ -70,15 +95,7 @@ fn open_way<'a>(
     land_leaf(alloc, body, holes, leaf)?;
     let known = with_known(alloc, known, *position, ty, leaf)?;
     let con = ConRef { ty, con };
-    let onward = node_onward(
-        agreed,
-        graph.ty,
-        graph.pats,
-        graph.nodes,
-        known.as_slice(),
-        node as usize,
-    );
-    let wanted = wanted_spots(alloc, spots, graph.nodes, onward)?;
+    let wanted = fields_to_save(alloc, agreed, graph, con, known.as_slice(), *position, node)?;
     let wanted = wanted.as_slice();
     let known = save_fields(
         alloc, body, agreed, con, leaf, words, spots, wanted, *position, known,
@@ -121,7 +138,8 @@ fn open_ways<'a>(
 }
 
 /// Code of a test of a data type at a position of a value, which saves those fields of the part there that
-/// have spots and are tested later: it leaves by an edge to the node of the arm that is taken, which carries what is known there.
+/// have spots and are tested later: it leaves by an edge to the node of the arm that is taken, which carries what is
+/// known there.
 ///
 /// # Errors
 /// `AllocError` where memory is wanting.

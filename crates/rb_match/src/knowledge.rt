@@ -149,6 +149,16 @@ fn shared_leaf(other: &[Known], place: usize, position: &[u32], ty: u32, leaf: u
     }
 }
 
+// Whether a list has the fact that a spot is saved: at this place, or anywhere.
+fn shared_spot(other: &[Known], place: usize, spot: usize) -> bool
+    ensures { result ≡ true → FollowsSaved other.now spot }
+{
+    if saved_at(other, place, spot) {
+        return true;
+    }
+    saved_known(other, spot)
+}
+
 // A fact of a list, where another has it, too.
 fn shared_fact<'a>(
     known: &[Known<'a>],
@@ -161,7 +171,7 @@ fn shared_fact<'a>(
     let fact = *known.get(i)?;
     let both = match fact {
         Known::Leaf { position, ty, leaf } => shared_leaf(other, place, position, ty, leaf),
-        Known::Saved { spot } => saved_known(other, spot),
+        Known::Saved { spot } => shared_spot(other, place, spot),
     };
     if both {
         return Some(fact);

@@ -124,15 +124,15 @@ fn save_part(
     Ok(())
 }
 
-// Whether a spot is wanted.
-fn is_wanted(wanted: &[bool], spot: usize) -> bool {
-    match wanted.get(spot) {
+// Whether a field is wanted.
+fn is_wanted(wanted: &[bool], field: u32) -> bool {
+    match wanted.get(field as usize) {
         None => false,
         Some(is) => *is,
     }
 }
 
-// Saves field number `field` of the part at a position where there is a spot for it that is wanted.
+// Saves field number `field` of the part at a position where it is wanted and there is a spot for it.
 fn save_field<'a>(
     alloc: Global,
     body: &mut Body,
@@ -151,13 +151,13 @@ fn save_field<'a>(
         known.entry more body.old body.new) }
     ensures grows { OnOk result (Grows body.old.code body.new.code) }
 {
+    if !is_wanted(wanted, field) {
+        return Ok(known);
+    }
     let below = field_below(alloc, position, field)?;
     match spot_at(spots, below.as_slice(), at) {
         None => Ok(known),
         Some(k) => {
-            if !is_wanted(wanted, k) {
-                return Ok(known);
-            }
             save_part(alloc, body, agreed, ty, leaf, words, field, &spots[k])?;
             known.push(Known::Saved { spot: k })?;
             Ok(known)
@@ -165,8 +165,8 @@ fn save_field<'a>(
     }
 }
 
-/// Code that saves each field for which there is a spot that is wanted, of a part at a position of a value, where the part
-/// has this leaf and its words stand in slots. The answer is what is known then.
+/// Code that saves each field that is wanted and for which there is a spot, of a part at a position of a value, where
+/// the part has this leaf and its words stand in slots. The answer is what is known then.
 ///
 /// # Errors
 /// `AllocError` where memory is wanting.

@@ -195,34 +195,40 @@ pub fn is_within(position: &[u32], above: &[u32]) -> bool {
     same_position(&position[..count], above)
 }
 
-// Marks the spots of parts at which a position is, or below which it is.
-fn mark_spots(wanted: &mut Seq<bool>, spots: &[Spot], position: &[u32]) {
-    for (k, spot) in spots.iter().enumerate() {
-        if is_within(position, spot.position.as_slice()) {
-            set_at(wanted, k);
+// Marks the field of the part at a position at which a test stands, or below which it does. One test is enough, so
+// that most positions need not be compared.
+fn mark_field(wanted: &mut Seq<bool>, position: &[u32], tested: &[u32]) {
+    if let Some(field) = tested.get(position.len()) {
+        let field = *field as usize;
+        if let Some(false) = wanted.get(field) {
+            if is_within(tested, position) {
+                set_at(wanted, field);
+            }
         }
     }
 }
 
-/// For each spot, whether some test needs it that can be met from a node on.
+/// For each of so many fields of the part at a position, whether a test at it or below it can be met from a node on.
+/// Links go to lower numbers, so that no node above that one is met. Where there are no nodes, each field is wanted.
 ///
 /// # Errors
 /// `AllocError` where memory is wanting.
-pub fn wanted_spots(
+pub fn wanted_fields(
     alloc: Global,
-    spots: &[Spot],
     nodes: &[GraphNode],
     node: usize,
+    position: &[u32],
+    fields: usize,
 ) -> Result<Seq<bool>, AllocError> {
-    let count = nodes.len();
-    let mut wanted = marks(alloc, spots.len(), count == 0)?;
+    let count = if node < nodes.len() { node + 1 } else { 0 };
+    let mut wanted = marks(alloc, fields, nodes.is_empty())?;
     let mut reached = marks(alloc, count, false)?;
     set_at(&mut reached, node);
     for i in 0..count {
         let number = count - 1 - i;
         if let Some(true) = reached.get(number) {
-            if let GraphNode::Test(position, arms, other) = &nodes[number] {
-                mark_spots(&mut wanted, spots, position.as_slice());
+            if let Some(GraphNode::Test(tested, arms, other)) = nodes.get(number) {
+                mark_field(&mut wanted, position, tested.as_slice());
                 mark_links(&mut reached, arms.as_slice(), *other);
             }
         }

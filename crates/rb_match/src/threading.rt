@@ -2,6 +2,7 @@
 //! its arm. A test stays where others look below it: they need the leaf that it finds.
 
 ghost use Rattle.std.specs.Prelude.{◌≡◌, ◌++◌, IfOk, IfSome, true};
+ghost use Rattle.rb_match.specs.inner.Knowing.{AllFollow};
 ghost use Rattle.rb_match.specs.inner.Threading.{Ascend, AreThreaded, HasAt, IsDecided, IsThreaded, LeadsOn, Tells, TellTogether, Threads};
 
 use crate::asking::link_of;
@@ -184,6 +185,24 @@ fn ascend(edges: &[Edge]) -> bool
     true
 }
 
+// What an edge to a node carries. At a clause nothing is asked any more, and a long pattern has many edges to one.
+fn carried<'a>(
+    alloc: Global,
+    nodes: &[GraphNode],
+    node: usize,
+    known: &[Known<'a>],
+) -> Result<Seq<Known<'a>>, AllocError>
+    ensures { IfOk result (λ more. AllFollow known.now more) }
+{
+    match nodes.get(node) {
+        Some(GraphNode::Test(_, _, _)) => {
+            let more = copy_known(alloc, known)?;
+            Ok(more)
+        }
+        None | Some(GraphNode::Clause(_)) => Ok(Seq::new(alloc)),
+    }
+}
+
 // An edge that leads on.
 fn thread_edge<'a>(
     alloc: Global,
@@ -197,7 +216,7 @@ fn thread_edge<'a>(
 {
     let known = edge.known.as_slice();
     let leaf = node_onward(agreed, ty, pats, nodes, known, edge.hole.leaf);
-    let known = copy_known(alloc, known)?;
+    let known = carried(alloc, nodes, leaf, known)?;
     Ok(Edge {
         hole: Hole {
             pc: edge.hole.pc,
@@ -226,8 +245,8 @@ fn thread_each<'a>(
     Ok(more)
 }
 
-/// The edges of a test, each to the node to which what it knows leads on. Edges of one instruction stay as they
-/// are: two of them may be the same way out.
+/// The edges of a test, each to the node to which what it knows leads on; at a clause it knows nothing any more.
+/// Edges of one instruction stay as they are: two of them may be the same way out.
 ///
 /// # Errors
 /// `AllocError` where memory is wanting.

@@ -20,7 +20,7 @@ use Rattle.rb_match.specs.declared.knowledge.Known.{Known}
 use Rattle.rb_match.specs.declared.knowledge.Edge.{Edge}
 use Rattle.rb_match.specs.declared.knowledge.Spot.{Spot}
 use Rattle.rb_match.specs.Bounding.{Place}
-use Rattle.rb_match.specs.inner.Knowing.{AreKnown, IsKnown, View, seen}
+use Rattle.rb_match.specs.inner.Knowing.{AllFollow, AreKnown, IsKnown, View, seen}
 use Rattle.rb_match.specs.inner.Places.{IsLookedAt}
 use Rattle.rb_match.specs.inner.Asking.{StandOpen, take_link}
 use Rattle.rb_match.specs.inner.Flowing.{IsOn, job_of, looks, tree_at}
@@ -63,7 +63,7 @@ LeadsOn agreed ty pats nodes known n m =
 pub record IsThreaded (agreed : LaidOut) (ty : Ty) (pats : List Pat) (nodes : List GraphNode) (old new : Edge) : Type 0 where
   pub pc : new.hole.pc ≡ old.hole.pc
   pub arm : new.hole.arm ≡ old.hole.arm
-  pub known : new.known ≡ old.known
+  pub known : AllFollow old.known new.known
   pub leads : LeadsOn agreed ty pats nodes old.known old.hole.leaf new.hole.leaf
 
 -- each edge, in their order

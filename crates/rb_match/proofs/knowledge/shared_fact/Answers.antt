@@ -14,6 +14,6 @@ returns-then-both c =
     let both = c.if-both.true in
     let follows : (view : View) → AreKnown view other → IsKnown view fact = elim c.match-fact.branch [
       | in-Leaf w ↦ λ view all. subst (IsKnown view) (sym w.in-Leaf.is) (w.shared_leaf-both.ensures (sym w.both-is ∙ both) view all)
-      | in-Saved w ↦ λ view all. subst (IsKnown view) (sym w.in-Saved.is) (w.saved_known-both.ensures (sym w.both-is ∙ both) view all)
+      | in-Saved w ↦ λ view all. subst (IsKnown view) (sym w.in-Saved.is) (w.shared_spot-both.ensures (sym w.both-is ∙ both) view all)
     ] in
     is-shared known other c.args.i fact at follows
