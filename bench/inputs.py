@@ -1,8 +1,8 @@
 """Files of Ribbit whose length grows with a number: what bench/run times.
 
 GROUPS at the end names them, each with the number at the whole size; at half of it a file is about half as long. FILES are
-given to `check`, those of layouts that agree to `layout` too; RUNS are programs with their words; IMAGES are files, each with
-the text of an image that `value` reads. CODES are code texts of bench/code that are run by `exec`.
+given to `check`, those of layouts that agree to `layout` too, and COMPILED to `compile`; RUNS are programs with their words;
+IMAGES are files, each with the text of an image that `value` reads. CODES are code texts of bench/code that are run by `exec`.
 """
 import itertools
 import os
@@ -278,6 +278,24 @@ def unknown(n):
     return f"fun main(): u8 = match 0 {{C({comma(f'x{i}' for i in range(1000 * n))})=>0}};\n"
 
 
+# Matches that are compiled ------------------------------------------------------------------------------------------------
+
+
+def coloured(n):
+    """A pattern of 382 n + 1 constructors, most of them of a type whose leaves tell the colour of a node."""
+    types = "type C=R|K;\nlayout C<1>=split 0[0:1]{0=>R:{word 1{[0:1]=0}} 1=>K:{word 1{[0:1]=1}}};\n"
+    parts = "[3:61]->8{inline.1,inline.2}"
+    nodes = "\n".join(f"{k}=>N({colour},_,_):{{word 64{{[0:2]={k},{parts}}}}}" for k, colour in enumerate("RK", 1))
+    types += f"type T=E|N(C,T,T);\nlayout T<64>=split 0[0:2]{{\n0=>E:{{word 64{{[0:2]=0}}}}\n{nodes}\n}};\n"
+    held = comma(f"inline.{i}" for i in range(32))
+    types += f"type S=S({comma(['T'] * 32)});\nlayout S<64>=S({comma('_' * 32)}):{{word 64{{[0:64]->8{{{held}}}}}}};\n"
+    tree = "E"
+    for _ in range(7):
+        tree = f"N(R,{tree},{tree})"
+    clause = f"S({comma([tree] * n + ['_'] * (32 - n))})=>0"
+    return types + f"fun f(s: S): u8 = match s {{{clause},_=>1}};\n" + MAIN
+
+
 # Plain files --------------------------------------------------------------------------------------------------------------
 
 
@@ -451,6 +469,7 @@ AGREEING = [
 ]
 REFUSED = [(closed, 300), (twice, 64), (ring, 900)]
 MATCHES = [(literals, 16), (wilds, 52), (columns, 32), (heads, 40), (pattern, 32), (binders, 28), (unknown, 36)]
+COMPILED = [(coloured, 8)]
 PLAIN = [(functions, 9998), (levels, 280), (text, 2000)]
 RUNS = [
     (lists, 24), (lists_in, 24), (trees, 14), (trees_in, 16), (printed, 500), (halved, 19), (grown, 20), (summed, 100), (inserted, 10),
