@@ -1,6 +1,6 @@
 -- Where edges lead on: from a test that what is known decides to the node of its arm.
-use Rattle.std.proofs.Common.{◌≡◌, ℕ, zero, suc, ◌+◌, ◌<◌, ◌≤◌, Bool, true, false, List, [], ◌∷◌, ◌++◌, map, length, Option, Some, None, refl, sym, subst, ap, ◌∙◌, arith}
-use Rattle.std.specs.Prelude.{IfSome, slice_get, ◌&&◌}
+use Rattle.std.proofs.Common.{◌≡◌, ℕ, zero, suc, ◌+◌, ◌≤◌, true, List, [], ◌∷◌, ◌++◌, map, length, Option, Some, None, refl, sym, subst, ap, ◌∙◌, arith}
+use Rattle.std.specs.Prelude.{IfSome, slice_get}
 use Rattle.std.proofs.lemmas.Option.{same_Some}
 use Rattle.rb_core.specs.declared.value.Value.{Value, out-Value}
 use Rattle.rb_core.specs.declared.value.Value.TheOpen as V
@@ -9,7 +9,7 @@ use Rattle.rb_core.specs.declared.types.ConRef.{ConRef}
 use Rattle.rb_core.specs.declared.program.Program.{Program}
 use Rattle.rb_core.specs.declared.pattern.Pat.{Pat, Con}
 use Rattle.rb_core.specs.Matching.{all_pass, matches_of}
-use Rattle.rb_core.specs.Values.{part_at, part_from, sub_at, subs_in}
+use Rattle.rb_core.specs.Values.{part_at, part_from, subs_in}
 use Rattle.rb_core.proofs.MatchingForms.{matches-Con}
 use Rattle.rb_decide.specs.declared.decision_graph.GraphArm.{GraphArm}
 use Rattle.rb_decide.specs.declared.decision_graph.GraphNode.{GraphNode}
@@ -31,11 +31,11 @@ use Rattle.rb_match.specs.declared.knowledge.Known.TheVariants as K
 use Rattle.rb_match.specs.declared.knowledge.Edge.{Edge}
 use Rattle.rb_match.specs.declared.knowledge.Spot.{Spot}
 use Rattle.rb_match.specs.Bounding.{Place}
-use Rattle.rb_match.specs.inner.Knowing.{AreKnown, IsEdge, IsKnown, seen}
+use Rattle.rb_match.specs.inner.Knowing.{IsEdge, seen}
 use Rattle.rb_match.specs.inner.Places.{IsLookedAt}
-use Rattle.rb_match.specs.inner.Asking.{AreOpen, StandOpen, holes_of, take_link}
-use Rattle.rb_match.specs.inner.Flowing.{Flows, IsOn, Job, job_of, looks, tree_at}
-use Rattle.rb_match.specs.inner.Threading.{Ascend, AreThreaded, BeginsAt, HasAt, IsDecided, IsThreaded, LeadsOn, Tells, TellTogether, Threads}
+use Rattle.rb_match.specs.inner.Asking.{holes_of, take_link}
+use Rattle.rb_match.specs.inner.Flowing.{Flows, IsOn, job_of}
+use Rattle.rb_match.specs.inner.Threading.{Ascend, AreThreaded, HasAt, IsDecided, IsThreaded, LeadsOn, Tells, TellTogether, Threads}
 use Rattle.rb_match.proofs.Bindings.{begins_with}
 use Rattle.rb_match.proofs.Edges.{edge_open, open_edge}
 use Rattle.rb_match.proofs.LeafTests.{both, link_same}

@@ -74,12 +74,14 @@ fn con_by(agreed: &Agreed, known: &[Known], place: usize, position: &[u32]) -> O
     con_from(agreed, fact, position)
 }
 
-// The constructor at a position, where it is known.
+// The constructor at a position, where it is known. The last facts are asked first: a leaf that was just found tells
+// most.
 fn con_known(agreed: &Agreed, known: &[Known], position: &[u32]) -> Option<ConRef>
     ensures { IfSome result (λ con. TellTogether agreed.now known.now position.now con.con) }
 {
-    for place in 0..known.len() {
-        if let Some(con) = con_by(agreed, known, place, position) {
+    let count = known.len();
+    for i in 0..count {
+        if let Some(con) = con_by(agreed, known, count - 1 - i, position) {
             return Some(con);
         }
     }

@@ -1,4 +1,3 @@
-use Rattle.std.proofs.Common.{length, ◌≤◌}
 use Rattle.rb_match.proofs.Chosen.{tree_takes}
 use Rattle.rb_match.proofs.Edges.{holes-low}
 use Rattle.rb_match.proofs.choosing.emit_shared.Goals as goal

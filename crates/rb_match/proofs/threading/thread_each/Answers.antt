@@ -1,6 +1,4 @@
-use Rattle.std.proofs.Common.{sym, subst}
 use Rattle.rb_decide.proofs.Moving.{take-next}
-use Rattle.rb_match.specs.inner.Threading.{AreThreaded}
 use Rattle.rb_match.proofs.Threads.{thread_push}
 use Rattle.rb_match.proofs.threading.thread_each.Goals as goal
 
