@@ -68,7 +68,7 @@ first_course [] = going
 first_course (r ∷ rs) = r.course
 
 -- what follows a file that gave these bytes
-follows : (file bytes : List ℕ) (limit : ℕ) (Then : List ℕ → Due → Type 0) (readings : List Reading) (due : Due) → readings ≡ whole file bytes ∷ []
+pub follows : (file bytes : List ℕ) (limit : ℕ) (Then : List ℕ → Due → Type 0) (readings : List Reading) (due : Due) → readings ≡ whole file bytes ∷ []
     → ReadsOne file limit Then readings due → Then bytes due
 unfolding first_bytes first_course
 follows file bytes limit Then readings due gave (unread (too_long part long is e)) = absurd (going≢ended (ap first_course (sym is ∙ gave)))

@@ -1,4 +1,4 @@
--- What is promised of the other commands that call `main`, and of generated files.
+-- What is promised of `compile`, of the other commands that call `main`, and of generated files.
 use Rattle.std.specs.Prelude.{◌≡◌, ℕ, List, [], ◌++◌, Ok}
 use Rattle.rb_bytes.specs.Growth.{AreWhole}
 use Rattle.rb_bytes.specs.Memory.{Memory, IsGood, empty_memory}
@@ -16,11 +16,12 @@ use Rattle.rb_rel.specs.Answers.{all_makings}
 use Rattle.rb_rel.specs.Placing.{Laid, Fits, Over, lay, requests_of}
 use Rattle.rb_rel.specs.Relation.{IsCleanlyRepresented}
 use Rattle.rb_run.specs.Calling.{IsCounted}
+use Rattle.rb_target.specs.Text.{code_text}
 use Rattle.rb_target.specs.declared.code.CodeFun.{CodeFun}
 use Rattle.ribbit_tool.specs.Accepting.{IsAccepted}
 use Rattle.ribbit_tool.specs.Answer.{status_of}
 use Rattle.ribbit_tool.specs.Arguments.{Spell}
-use Rattle.ribbit_tool.specs.Command.{Limits, image, count, gen, genrun, command_of}
+use Rattle.ribbit_tool.specs.Command.{Limits, compile, image, count, gen, genrun, command_of}
 use Rattle.ribbit_tool.specs.Compiling.{IsCompiled, IsLaidOut}
 use Rattle.ribbit_tool.specs.Count.{count_due}
 use Rattle.ribbit_tool.specs.Delivery.{Change, Took}
@@ -29,7 +30,30 @@ use Rattle.ribbit_tool.specs.Headline.{OfCalls}
 use Rattle.ribbit_tool.specs.Image.{image_text}
 use Rattle.ribbit_tool.specs.Lines.{spent_line, full_line}
 use Rattle.ribbit_tool.specs.Promise.{IsCalm, Shows}
-use Rattle.ribbit_tool.specs.Reading.{Source}
+use Rattle.ribbit_tool.specs.Reading.{Source, Gave}
+
+-- Code --------------------------------------------------------------------------------------
+
+-- The text of valid code that refines the program, with few switches: each call of each function, from any
+-- good memory, on any words that represent its arguments there and with any number of calls, does what the
+-- source does, and none is ever trapped.
+pub record SaysCode (p : Program) (out err : Change) (status : ℕ) : Type 0 where
+  pub agreed : LaidOut
+  pub laid : IsLaidOut p agreed
+  pub code : List CodeFun
+  pub compiled : IsCompiled agreed code
+  pub status_is : status ≡ 0
+  pub text : Took out (code_text code)
+  pub no_line : Took err []
+
+-- where the file gave bytes that are accepted, no write failed and memory did not run out
+abbrev pub CompileHeadline : List (List ℕ) → Source → Change → Change → ℕ → Type 0
+CompileHeadline words source out err status =
+    (file : List ℕ) → command_of words ≡ Ok (compile file)
+    → (bytes : List ℕ) → Gave source file bytes → (p : Program) → IsAccepted bytes p
+    → IsCalm out err status → SaysCode p out err status
+
+-- Blocks ------------------------------------------------------------------------------------
 
 -- where the blocks of the values end up over a fresh region, and then those of the call
 abbrev pub laid_values : Program → List Layout → List Value → Limits → Laid

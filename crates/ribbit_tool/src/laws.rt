@@ -1,6 +1,6 @@
 //! Laws of files that are accepted, and of code texts.
 
-ghost use Rattle.ribbit_tool.specs.Laws.{AreExecuted, HaveNoRefusal, HaveOneProgram, HaveOneTree};
+ghost use Rattle.ribbit_tool.specs.Laws.{AreExecuted, CompiledTextsRun, HaveNoRefusal, HaveOneProgram, HaveOneTree};
 
 /// Tokens are the file of one tree at most.
 pub fn tokens_have_one_tree()
@@ -21,4 +21,10 @@ pub fn accepted_texts_have_no_refusal()
 /// made for.
 pub fn texts_of_valid_code_are_executed()
     ensures { AreExecuted }
+{}
+
+/// The text of code that `compile` may write is executed as the source means: on words that represent a
+/// function's arguments, `exec` shows words that represent the value, or the limit that the source passes.
+pub fn compiled_texts_do_as_the_source()
+    ensures { CompiledTextsRun }
 {}

@@ -6,7 +6,7 @@ ghost use Rattle.ribbit_tool.specs.Answers.{Owes, files_of};
 ghost use Rattle.ribbit_tool.specs.Command.{command_of};
 ghost use Rattle.ribbit_tool.specs.Delivery.{change};
 ghost use Rattle.ribbit_tool.specs.Headline.{GivesHeld, Headline};
-ghost use Rattle.ribbit_tool.specs.Headlines.{CountHeadline, GenerateHeadline, ImageHeadline};
+ghost use Rattle.ribbit_tool.specs.Headlines.{CompileHeadline, CountHeadline, GenerateHeadline, ImageHeadline};
 ghost use Rattle.ribbit_tool.specs.Lines.{usage_line};
 ghost use Rattle.ribbit_tool.specs.Promise.{Performs, IsRight};
 ghost use Rattle.ribbit_tool.specs.Reading.{ReadsInTurn, source_of};
@@ -154,6 +154,12 @@ pub fn ribbit<S: Source, O: Sink, E: Sink, L: Ledger>(
     // The headline, where the file gave bytes that are accepted: the value of the source's meaning, or the
     // limit that it passes.
     ensures headline { Headline words.now
+        (source_of S.tells S.held S.readings S.faults src.old src.new)
+        (change O.tells O.taken O.account O.faults out.old out.new)
+        (change E.tells E.taken E.account E.faults err.old err.new) result }
+    // The other half of the headline: the text of code that does the same for all arguments that words
+    // represent, in any good memory, and never traps.
+    ensures compile { CompileHeadline words.now
         (source_of S.tells S.held S.readings S.faults src.old src.new)
         (change O.tells O.taken O.account O.faults out.old out.new)
         (change E.tells E.taken E.account E.faults err.old err.new) result }
