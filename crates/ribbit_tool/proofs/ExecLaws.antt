@@ -14,7 +14,7 @@ use Rattle.rb_target.specs.declared.fault.CodeFault.TheVariants.{CodeSyntax, Bad
 use Rattle.ribbit_tool.specs.Answer.{Due, refusal}
 use Rattle.ribbit_tool.specs.Command.{Limits}
 use Rattle.ribbit_tool.specs.Exec.{Executes, faulty, no_code, end_due, outcome_due}
-use Rattle.ribbit_tool.specs.Lines.{code_line}
+use Rattle.ribbit_tool.specs.Lines.{code_line, words_line}
 use Rattle.ribbit_tool.specs.View.{Meets}
 use Rattle.ribbit_tool.specs.declared.refusal.Refusal.{Refusal}
 use Rattle.ribbit_tool.specs.declared.status.Status.TheVariants.{Code}
@@ -30,11 +30,11 @@ fault_due name limits words bytes due Memory known h e = absurd (known refl)
 -- the end of a run over a fresh memory is shown with the run's steps
 pub outcome_meets : (funs : List CodeFun) (calls f : ℕ) (words : List ℕ) (region : ℕ) (m : Bytes) → m ≡ empty_memory region
     → (ran : Ran) (after_memory : Bytes) (before after : ℕ) → RanAs (run_of funs calls f words m) ran after_memory before after
-    → (result : Result (Vec ℕ Global) Refusal) → ((start steps : ℕ) → Meets (λ due. due ≡ end_due ran.end calls steps) start (start + steps) result)
+    → (result : Result (Vec ℕ Global) Refusal) → ((start steps : ℕ) → Meets (λ due. due ≡ end_due words_line calls ran.end steps) start (start + steps) result)
     → Meets (λ due. due ≡ outcome_due (run_of funs calls f words (empty_memory region)) calls) before after result
 outcome_meets funs calls f words region m fresh ran after_memory before after outcome result shown =
     let o = run_of funs calls f words (empty_memory region) in
     let takes : after ≡ before + o.world.taken = outcome.taken ∙ ap (λ x. before + (run_of funs calls f words x).world.taken) fresh in
     let ends : ran.end ≡ o.ended = outcome.ended ∙ ap (λ x. (run_of funs calls f words x).ended) fresh in
     subst (λ k. Meets (λ due. due ≡ outcome_due o calls) before k result) (sym takes)
-    (subst (λ (e : End). Meets (λ due. due ≡ end_due e calls o.world.taken) before (before + o.world.taken) result) ends (shown before o.world.taken))
+    (subst (λ (e : End). Meets (λ due. due ≡ end_due words_line calls e o.world.taken) before (before + o.world.taken) result) ends (shown before o.world.taken))

@@ -8,19 +8,18 @@ use Rattle.rb_layout.specs.Flattening.{flat_layouts}
 use Rattle.rb_layout.specs.declared.agreed.LaidOut.{LaidOut}
 use Rattle.rb_layout.specs.declared.layout.Layout.{Layout}
 use Rattle.rb_rel.specs.Answers as answer
-use Rattle.rb_rel.specs.Answers.{answer_of}
 use Rattle.rb_target.specs.declared.code.CodeFun.{CodeFun}
 use Rattle.ribbit_tool.specs.Accepting.{IsAccepted, turned_down, accepted}
 use Rattle.ribbit_tool.specs.Answer.{Due}
 use Rattle.ribbit_tool.specs.Answers.{Answers}
-use Rattle.ribbit_tool.specs.Arguments.{node_limit, Spell}
+use Rattle.ribbit_tool.specs.Arguments.{Spell}
 use Rattle.ribbit_tool.specs.Command.{Command, Limits, Parsed, run}
 use Rattle.ribbit_tool.specs.Compiling.{IsCompiled, IsLaidOut}
 use Rattle.ribbit_tool.specs.Delivery.{Change}
 use Rattle.ribbit_tool.specs.Headline.{Says, OfCalls, Headline}
 use Rattle.ribbit_tool.specs.Promise.{Counting, Gives, IsRight}
 use Rattle.ribbit_tool.specs.Reading.{Source, ReadsOne, unread, within, too_long, not_read, handed_out, whole, file_limit}
-use Rattle.ribbit_tool.specs.Run.{IsAnswered, answer_due, Prepares, PreparesFile, prepared, misfit}
+use Rattle.ribbit_tool.specs.Run.{IsAnswered, answer_due, source_answer, value_line, Prepares, PreparesFile, prepared, misfit}
 use Rattle.ribbit_tool.proofs.ArgumentLaws.{never_misfit, same_values}
 use Rattle.ribbit_tool.proofs.OneProgram.{one_program, accepted_unrefused}
 use Rattle.ribbit_tool.proofs.ReadLaws.{going≢ended, failed≢ended}
@@ -93,12 +92,8 @@ module _ (command : List ℕ → Limits → List (List ℕ) → Command) (Then :
 
 -- The command `run` -------------------------------------------------------------------------
 
--- the answer of a program in layouts to a call of `main`
-abbrev answer_in : Program → List Layout → List Value → Limits → answer.Answer
-answer_in p layouts args limits = answer_of p layouts args limits.calls limits.region node_limit
-
-module _ (p : Program) (limits : Limits) (out err : Change) (steps : Counting) (status : ℕ) where
-  says : (s : answer.Answer) (n : ℕ) → Gives (answer_due p limits.calls s n) out err steps status → Says p limits s out err status
+module _ (shown : Value → List ℕ) (limits : Limits) (out err : Change) (steps : Counting) (status : ℕ) where
+  pub says : (s : answer.Answer) (n : ℕ) → Gives (answer_due shown limits.calls s n) out err steps status → Says shown limits s out err status
   says (answer.Shown v) n g = (g.status_is, g.shown.0, g.shown.1)
   says answer.Spent n g = (g.status_is, g.shown.0, g.shown.1)
   says (answer.Full f) n g = (g.status_is, g.shown.0, g.shown.1)
@@ -108,14 +103,14 @@ abbrev Answered : Limits → LaidOut → List CodeFun → List Value → Due →
 Answered limits agreed code args due = IsAnswered agreed code args limits due
 
 run_says : (p : Program) (args : List Value) (limits : Limits) (due : Due) → Ready (Answered limits) p args due
-    → (out err : Change) (steps : Counting) (status : ℕ) → Gives due out err steps status → Says p limits (answer_in p (flat_layouts p) args limits) out err status
+    → (out err : Change) (steps : Counting) (status : ℕ) → Gives due out err steps status → Says (value_line p) limits (source_answer p (flat_layouts p) limits args) out err status
 run_says p args limits due r out err steps status g =
     let n = r.follows.taken in
-    let is = r.follows.shown ∙ ap (λ (x : Program). answer_due x limits.calls (answer_in x r.agreed.layouts args limits) n) r.laid.program
-    ∙ ap (λ (ls : List Layout). answer_due p limits.calls (answer_in p ls args limits) n) r.laid.layouts in
-    says p limits out err steps status (answer_in p (flat_layouts p) args limits) n (subst (λ (d : Due). Gives d out err steps status) is g)
+    let is = r.follows.shown ∙ ap (λ (x : Program). answer_due (value_line x) limits.calls (source_answer x r.agreed.layouts limits args) n) r.laid.program
+    ∙ ap (λ (ls : List Layout). answer_due (value_line p) limits.calls (source_answer p ls limits args) n) r.laid.layouts in
+    says (value_line p) limits out err steps status (source_answer p (flat_layouts p) limits args) n (subst (λ (d : Due). Gives d out err steps status) is g)
 
 pub headlined : (words : List (List ℕ)) (source : Source) (out err : Change) (steps : Counting) (status : ℕ) → IsRight words source out err steps status
     → Headline words source out err status
-headlined = of_calls run Answered (λ p args limits out err status. Says p limits (answer_in p (flat_layouts p) args limits) out err status)
+headlined = of_calls run Answered (λ p args limits out err status. Says (value_line p) limits (source_answer p (flat_layouts p) limits args) out err status)
     (λ file limits values readings due h. h) run_says

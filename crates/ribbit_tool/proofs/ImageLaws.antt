@@ -1,5 +1,6 @@
 -- What the program promises gives the headlines of images, of counts and of generated files.
-use Rattle.std.proofs.Common.{◌≡◌, ℕ, List, [], true, subst, Ok}
+use Rattle.std.proofs.Common.{◌≡◌, ℕ, List, [], true, refl, ap, sym, subst, ◌∙◌, Ok}
+use Rattle.rb_bytes.specs.Growth.{AreWhole}
 use Rattle.rb_bytes.specs.Memory.{Memory, empty_memory}
 use Rattle.rb_compile.specs.Plans.{plan_of}
 use Rattle.rb_compile.specs.Refining.{EndsAs}
@@ -12,74 +13,84 @@ use Rattle.rb_core.specs.declared.value.Value.{Value}
 use Rattle.rb_layout.specs.Flattening.{flat_layouts}
 use Rattle.rb_layout.specs.declared.agreed.LaidOut.{LaidOut}
 use Rattle.rb_layout.specs.declared.layout.Layout.{Layout}
+use Rattle.rb_rel.specs.Answers as answer
 use Rattle.rb_rel.specs.Placing.{Laid, Fits, Over}
-use Rattle.rb_run.specs.Calling.{IsCalled, end_over, laid_call}
+use Rattle.rb_rel.specs.Relation.{IsCleanlyRepresented}
+use Rattle.rb_run.specs.Calling.{IsCalled, end_over}
 use Rattle.rb_target.specs.declared.code.CodeFun.{CodeFun}
 use Rattle.rb_target.specs.declared.outcome.End.{End}
 use Rattle.ribbit_tool.specs.Answer.{Due, printed}
 use Rattle.ribbit_tool.specs.Answers.{Answers}
 use Rattle.ribbit_tool.specs.Command.{Limits, Parsed, image, count, genrun}
-use Rattle.ribbit_tool.specs.Count.{IsCount, count_due}
+use Rattle.ribbit_tool.specs.Count.{IsCount, IsMainTally, count_text}
 use Rattle.ribbit_tool.specs.Delivery.{Change}
+use Rattle.ribbit_tool.specs.Exec.{end_due}
 use Rattle.ribbit_tool.specs.Generate.{generated}
-use Rattle.ribbit_tool.specs.Headlines.{laid_all, SaysImage, ImageHeadline, SaysCount, CountHeadline, GenerateHeadline}
-use Rattle.ribbit_tool.specs.Image.{IsImage, image_due}
+use Rattle.ribbit_tool.specs.Headlines.{SaysImage, ImageHeadline, SaysCount, CountHeadline, GenerateHeadline}
+use Rattle.ribbit_tool.specs.Image.{IsImage, IsImageOf, ShowWhole, image_text}
 use Rattle.ribbit_tool.specs.Promise.{Counting, Gives, IsRight}
 use Rattle.ribbit_tool.specs.Reading.{Source, handed_out}
-use Rattle.ribbit_tool.proofs.HeadlineLaws.{Ready, ready_as, of_calls}
+use Rattle.ribbit_tool.specs.Run.{answer_due, laid_all, source_answer, unbounded, whole_answer}
+use Rattle.ribbit_tool.proofs.HeadlineLaws.{Ready, ready_as, of_calls, says}
 
 -- Images ------------------------------------------------------------------------------------
 
+-- a call of `main` over a fresh region that ended so and left this memory shows what the source answers
 module _ (agreed : LaidOut) (args : List Value) (limits : Limits) (end : End) (m : Memory)
-    (called : IsCalled agreed args limits.calls (empty_memory limits.region) end m)
-    (taken : ℕ) (out err : Change) (steps : Counting) (status : ℕ) (given : Gives (image_due end limits.calls m taken) out err steps status) where
+    (called : IsCalled agreed args limits.calls (empty_memory limits.region) end m) (taken : ℕ) where
   abbrev p : Program
   p = agreed.covered.program
 
-  abbrev given_as : (x : End) → end ≡ x → Gives (image_due x limits.calls m taken) out err steps status
-  given_as x is = subst (λ (y : End). Gives (image_due y limits.calls m taken) out err steps status) is given
+  abbrev due_to : End → Due
+  due_to x = end_due (λ words. image_text words m) limits.calls x taken
 
-  at_end : (l : Laid) (e : SourceEnd) → EndsAs (plan_of agreed) true (result_type p.funs p.main) (empty_memory limits.region) l e (end_over end m)
-      → SaysImage p agreed.layouts args limits l e out err status
-  at_end (Over full) e h = let g = given_as _ h in (g.status_is, g.shown.0, g.shown.1)
-  at_end (Fits blocks next) Spent h = let g = given_as _ h in (g.status_is, g.shown.0, g.shown.1)
-  at_end (Fits blocks next) (Done v left) (words, is, grown, represents) =
-      let g = given_as _ is in (
-        words,
-        m,
-        record {
-          asked = grown.behind;
-          whole = grown.whole;
-          good = grown.good;
-          root = represents;
-          given = λ own to fits. called.arguments words left is own to fits;
-        },
-        g.status_is,
-        g.shown.0,
-        g.shown.1,
-      )
+  pub record ShowsEnd (a : answer.Answer) : Type 0 where
+    pub words : List ℕ
+    pub show : (v : Value) → a ≡ answer.Shown v → IsImageOf p agreed.layouts limits args v words m
+    pub due : due_to end ≡ answer_due (λ v. image_text words m) limits.calls a taken
 
-  pub image_said : SaysImage p agreed.layouts args limits (laid_all p agreed.layouts args limits) (call_of p p.main limits.calls args).end out err status
-  image_said = at_end (laid_call agreed args limits.calls (empty_memory limits.region)) (call_of p p.main limits.calls args).end called.ends
+  at_end : (l : Laid) (e : SourceEnd) → laid_all p agreed.layouts limits args ≡ l
+      → EndsAs (plan_of agreed) true (result_type p.funs p.main) (empty_memory limits.region) l e (end_over end m) → ShowsEnd (unbounded l e)
+  at_end (Over full) e laid h = record { words = []; show = λ v is. absurd (cc is); due = ap due_to h }
+  at_end (Fits blocks next) Spent laid h = record { words = []; show = λ v is. absurd (cc is); due = ap due_to h }
+  at_end (Fits blocks next) (Done v left) laid (words, is, grown, represents) =
+      record {
+        words = words;
+        show = λ u same.
+            let alike : v ≡ u = cc in
+            record {
+              asked = laid ∙ ap (λ bs. Fits bs next) (sym grown.behind) ∙ ap (λ n. Fits m.blocks n) (sym grown.next);
+              whole = subst (λ (bs : List (ℕ × ℕ)). AreWhole m bs) (sym grown.behind) grown.whole;
+              good = grown.good;
+              root = subst (λ (x : Value). IsCleanlyRepresented p.types agreed.layouts m (result_type p.funs p.main) x words) alike represents;
+              given = λ own to fits. called.arguments words left is own to fits;
+            };
+        due = ap due_to is;
+      }
+
+  pub shows_end : ShowsEnd (whole_answer p agreed.layouts limits args)
+  shows_end = at_end (laid_all p agreed.layouts limits args) (call_of p p.main limits.calls args).end refl called.ends
 
 abbrev Imaged : Limits → LaidOut → List CodeFun → List Value → Due → Type 0
 Imaged limits agreed code args due = IsImage agreed code args limits due
 
 image_says : (p : Program) (args : List Value) (limits : Limits) (due : Due) → Ready (Imaged limits) p args due
-    → (out err : Change) (steps : Counting) (status : ℕ) → Gives due out err steps status
-    → SaysImage p (flat_layouts p) args limits (laid_all p (flat_layouts p) args limits) (call_of p p.main limits.calls args).end out err status
+    → (out err : Change) (steps : Counting) (status : ℕ) → Gives due out err steps status → SaysImage p args limits out err status
 image_says p args limits due r out err steps status g =
     let i = r.follows in
-    let Said : Program → List Layout → Type 0 = λ q ls. SaysImage q ls args limits (laid_all q ls args limits) (call_of q q.main limits.calls args).end out err status in
-    let here : Said r.agreed.covered.program r.agreed.layouts =
-    image_said r.agreed args limits i.end i.memory i.called i.taken out err steps status (subst (λ (d : Due). Gives d out err steps status) i.shown g) in
-    subst (λ (ls : List Layout). Said p ls) r.laid.layouts (subst (λ (q : Program). Said q r.agreed.layouts) r.laid.program here)
+    let shown : Value → List ℕ = λ v. image_text i.words i.memory in
+    let Is : Program → List Layout → Type 0 = λ q ls. ShowWhole q ls limits args i.words i.memory × (due ≡ answer_due shown limits.calls (whole_answer q ls limits args) i.taken) in
+    let is : Is p (flat_layouts p) = subst (λ (ls : List Layout). Is p ls) r.laid.layouts (subst (λ (q : Program). Is q r.agreed.layouts) r.laid.program (i.show, i.shown)) in
+    record {
+      words = i.words;
+      memory = i.memory;
+      show = is.0;
+      says = says shown limits out err steps status (whole_answer p (flat_layouts p) limits args) i.taken (subst (λ (d : Due). Gives d out err steps status) is.1 g);
+    }
 
 pub image_headlined : (words : List (List ℕ)) (source : Source) (out err : Change) (steps : Counting) (status : ℕ) → IsRight words source out err steps status
     → ImageHeadline words source out err status
-image_headlined = of_calls image Imaged
-    (λ p args limits out err status. SaysImage p (flat_layouts p) args limits (laid_all p (flat_layouts p) args limits) (call_of p p.main limits.calls args).end out err status)
-    (λ file limits values readings due h. h) image_says
+image_headlined = of_calls image Imaged SaysImage (λ file limits values readings due h. h) image_says
 
 -- Counts ------------------------------------------------------------------------------------
 
@@ -87,24 +98,21 @@ abbrev Counted : Limits → LaidOut → List CodeFun → List Value → Due → 
 Counted limits agreed code args due = IsCount agreed code args limits due
 
 count_says : (p : Program) (args : List Value) (limits : Limits) (due : Due) → Ready (Counted limits) p args due
-    → (out err : Change) (steps : Counting) (status : ℕ) → Gives due out err steps status → SaysCount p (flat_layouts p) args limits out err status
+    → (out err : Change) (steps : Counting) (status : ℕ) → Gives due out err steps status → SaysCount p args limits out err status
 count_says p args limits due r out err steps status g =
     let i = r.follows in
-    let Is : Program → List Layout → Type 0 = λ q ls. due ≡ count_due q limits.calls (laid_all q ls args limits) (call_of q q.main limits.calls args).end i.switches i.taken in
-    let is : Is p (flat_layouts p) = subst (λ (ls : List Layout). Is p ls) r.laid.layouts (subst (λ (q : Program). Is q r.agreed.layouts) r.laid.program i.shown) in
-    let given = subst (λ (d : Due). Gives d out err steps status) is g in
+    let Is : Program → List Layout → Type 0 = λ q ls. IsMainTally q ls limits args i.tally × (due ≡ answer_due (count_text q i.tally) limits.calls (source_answer q ls limits args) i.taken) in
+    let is : Is p (flat_layouts p) = subst (λ (ls : List Layout). Is p ls) r.laid.layouts (subst (λ (q : Program). Is q r.agreed.layouts) r.laid.program (i.tallied, i.shown)) in
     record {
-      switches = i.switches;
+      tally = i.tally;
+      tallied = is.0;
       done = record { agreed = r.agreed; laid = r.laid; code = r.code; compiled = r.compiled; steps = i.taken; counted = i.counted };
-      steps = i.taken;
-      status_is = given.status_is;
-      shown = given.shown;
+      says = says (count_text p i.tally) limits out err steps status (source_answer p (flat_layouts p) limits args) i.taken (subst (λ (d : Due). Gives d out err steps status) is.1 g);
     }
 
 pub count_headlined : (words : List (List ℕ)) (source : Source) (out err : Change) (steps : Counting) (status : ℕ) → IsRight words source out err steps status
     → CountHeadline words source out err status
-count_headlined = of_calls count Counted (λ p args limits out err status. SaysCount p (flat_layouts p) args limits out err status)
-    (λ file limits values readings due h. h) count_says
+count_headlined = of_calls count Counted SaysCount (λ file limits values readings due h. h) count_says
 
 -- Generated files ---------------------------------------------------------------------------
 

@@ -1,7 +1,6 @@
 pub mod Accepted
 pub mod ArgumentLaws
 pub mod CompileLaws
-pub mod CountLaws
 pub mod Counted
 pub mod ExecLaws
 pub mod Executing

@@ -1,18 +1,14 @@
 -- The status of a read fault is due to a file that was not read, and to nothing else.
-use Rattle.std.proofs.Common.{◌≡◌, ◌≢◌, ℕ, ◌-◌, ◌==◌, nat_le, Bool, true, false, if◌then◌else◌, List, length, sym, ap, ◌∙◌, arith, Option, Some, None, slice_get}
+use Rattle.std.proofs.Common.{◌≡◌, ◌≢◌, ℕ, ◌==◌, Bool, true, false, if◌then◌else◌, List, length, sym, ap, ◌∙◌, arith, Option, Some, None, slice_get}
 use Rattle.rb_auto.specs.declared.fault.AutoFault.{AutoFault}
 use Rattle.rb_auto.specs.declared.fault.AutoFault.TheVariants as auto
-use Rattle.rb_core.specs.Meaning.{call_of}
-use Rattle.rb_core.specs.declared.outcome.SourceEnd.{SourceEnd}
-use Rattle.rb_core.specs.declared.outcome.SourceEnd.TheVariants as source
-use Rattle.rb_core.specs.Values.{node_count}
 use Rattle.rb_core.specs.declared.program.Program.{Program}
 use Rattle.rb_core.specs.declared.types.DataDecl.{DataDecl}
 use Rattle.rb_core.specs.declared.types.Ty.{Ty}
 use Rattle.rb_core.specs.declared.typing.TypeFault.{TypeFault}
 use Rattle.rb_core.specs.declared.typing.TypeFault.TheVariants as types
 use Rattle.rb_core.specs.declared.value.Value.{Value}
-use Rattle.rb_bytes.specs.Memory.{Memory, empty_memory}
+use Rattle.rb_bytes.specs.Memory.{empty_memory}
 use Rattle.rb_image_text.specs.declared.fault.ImageFault.{ImageFault}
 use Rattle.rb_image_text.specs.declared.fault.ImageFault.TheVariants as fault
 use Rattle.rb_image_text.specs.declared.image.Image.{Image}
@@ -23,7 +19,6 @@ use Rattle.rb_names.specs.declared.fault.NameFault.TheVariants as names
 use Rattle.rb_read.specs.declared.fault.ReadFault.{ReadFault}
 use Rattle.rb_read.specs.declared.fault.ReadFault.TheVariants as reading
 use Rattle.rb_rel.specs.Answers as answer
-use Rattle.rb_rel.specs.Placing.{Laid, Fits, Over}
 use Rattle.rb_syntax.specs.declared.lex.LexFault.{LexFault}
 use Rattle.rb_syntax.specs.declared.lex.LexFault.TheVariants as lexing
 use Rattle.rb_syntax.specs.declared.token.Placed.{Placed}
@@ -32,19 +27,19 @@ use Rattle.rb_target.specs.Meaning.{run_of}
 use Rattle.rb_target.specs.declared.outcome.End.{End}
 use Rattle.rb_target.specs.declared.outcome.End.TheVariants as end
 use Rattle.ribbit_tool.specs.Accepting.{IsAccepted, IsRefused, uncut, misread, misnamed, mistyped, uncovered, underived, mislaid, Accepts, turned_down, accepted, lex_due, read_due, name_due, type_due, derived_due}
-use Rattle.ribbit_tool.specs.Answer.{Due, printed, refused, refusal, status_of}
-use Rattle.ribbit_tool.specs.Arguments.{IsMisfit, miscounted, misspelled, node_limit}
+use Rattle.ribbit_tool.specs.Answer.{Due, refusal, status_of}
+use Rattle.ribbit_tool.specs.Arguments.{IsMisfit, miscounted, misspelled}
 use Rattle.ribbit_tool.specs.Check.{ChecksFile}
 use Rattle.ribbit_tool.specs.Command.{Limits}
 use Rattle.ribbit_tool.specs.Compiling.{CompilesFile}
-use Rattle.ribbit_tool.specs.Count.{CountsFile, count_due, count_text}
+use Rattle.ribbit_tool.specs.Count.{CountsFile, count_text}
 use Rattle.ribbit_tool.specs.Exec.{Executes, executed, faulty, no_code, end_due, outcome_due, named_due, fun_named}
-use Rattle.ribbit_tool.specs.Image.{ImagesFile, image_due}
+use Rattle.ribbit_tool.specs.Image.{ImagesFile, image_text}
 use Rattle.ribbit_tool.specs.ImageLines.{image_due as fault_due}
 use Rattle.ribbit_tool.specs.Layout.{LaysOutFile}
-use Rattle.ribbit_tool.specs.Lines.{large_line, count_line}
+use Rattle.ribbit_tool.specs.Lines.{count_line, words_line}
 use Rattle.ribbit_tool.specs.Opening.{Spells, garbled, spelled}
-use Rattle.ribbit_tool.specs.Run.{RunsFile, answer_due, source_answer, PreparesFile, misfit, prepared}
+use Rattle.ribbit_tool.specs.Run.{RunsFile, answer_due, source_answer, value_line, whole_answer, PreparesFile, misfit, prepared}
 use Rattle.ribbit_tool.specs.Value.{ReadsBack, holds, large, unsound}
 use Rattle.ribbit_tool.specs.declared.status.Status.TheVariants as status
 
@@ -109,43 +104,30 @@ prepares_other words bytes Then due other (turned_down h) = refused_other bytes 
 prepares_other words bytes Then due other (accepted p a (misfit m)) = misfit_other p words due m
 prepares_other words bytes Then due other (accepted p a (prepared agreed laid code args ready spells h)) = other agreed code args h
 
-answer_other : (p : Program) (calls : ℕ) (a : answer.Answer) (steps : ℕ) → status_of (answer_due p calls a steps) ≢ 7
-answer_other p calls (answer.Shown v) steps e = omega (arith, e)
-answer_other p calls answer.Spent steps e = omega (arith, e)
-answer_other p calls (answer.Full f) steps e = omega (arith, e)
-answer_other p calls answer.TooLarge steps e = omega (arith, e)
+answer_other : (shown : Value → List ℕ) (calls : ℕ) (a : answer.Answer) (steps : ℕ) → status_of (answer_due shown calls a steps) ≢ 7
+answer_other shown calls (answer.Shown v) steps e = omega (arith, e)
+answer_other shown calls answer.Spent steps e = omega (arith, e)
+answer_other shown calls (answer.Full f) steps e = omega (arith, e)
+answer_other shown calls answer.TooLarge steps e = omega (arith, e)
 
-image_other : (x : End) (calls : ℕ) (m : Memory) (steps : ℕ) → status_of (image_due x calls m steps) ≢ 7
-image_other (end.Returned words left) calls m steps e = omega (arith, e)
-image_other end.Spent calls m steps e = omega (arith, e)
-image_other (end.Full full) calls m steps e = omega (arith, e)
-image_other (end.Trapped trap) calls m steps e = omega (arith, e)
+-- Code texts --------------------------------------------------------------------------------
 
 choice_other : (b : Bool) (x y : Due) → status_of x ≢ 7 → status_of y ≢ 7 → status_of (if b then x else y) ≢ 7
 choice_other true x y h k = h
 choice_other false x y h k = k
 
-count_other : (p : Program) (calls : ℕ) (l : Laid) (x : SourceEnd) (switches steps : ℕ) → status_of (count_due p calls l x switches steps) ≢ 7
-count_other p calls (Over full) x switches steps = λ e. omega (arith, e)
-count_other p calls (Fits blocks next) source.Spent switches steps = λ e. omega (arith, e)
-count_other p calls (Fits blocks next) (source.Done v left) switches steps =
-    choice_other (nat_le (node_count v) node_limit) (printed (count_text p v (calls - left) switches (length blocks) (next - 64)) steps)
-    (refused status.TooLarge (large_line node_limit) steps) (λ e. omega (arith, e)) (λ e. omega (arith, e))
-
--- Code texts --------------------------------------------------------------------------------
-
-end_other : (x : End) (calls steps : ℕ) → status_of (end_due x calls steps) ≢ 7
-end_other (end.Returned words left) calls steps e = omega (arith, e)
-end_other end.Spent calls steps e = omega (arith, e)
-end_other (end.Full full) calls steps e = omega (arith, e)
-end_other (end.Trapped trap) calls steps e = omega (arith, e)
+end_other : (calls : ℕ) (x : End) (steps : ℕ) → status_of (end_due words_line calls x steps) ≢ 7
+end_other calls (end.Returned words left) steps e = omega (arith, e)
+end_other calls end.Spent steps e = omega (arith, e)
+end_other calls (end.Full full) steps e = omega (arith, e)
+end_other calls (end.Trapped trap) steps e = omega (arith, e)
 
 named_other : (funs : List CodeFun) (name : List ℕ) (limits : Limits) (words : List ℕ) (o : Option ℕ) → status_of (named_due funs name limits words o) ≢ 7
 named_other funs name limits words None = λ e. omega (arith, e)
 named_other funs name limits words (Some f) =
     let o = run_of funs limits.calls f words (empty_memory limits.region) in
     choice_other (length words == params_in (slice_get funs f)) (outcome_due o limits.calls)
-    (refusal status.Argument (count_line (params_in (slice_get funs f)) (length words))) (end_other o.ended limits.calls o.world.taken) (λ e. omega (arith, e))
+    (refusal status.Argument (count_line (params_in (slice_get funs f)) (length words))) (end_other limits.calls o.ended o.world.taken) (λ e. omega (arith, e))
 
 -- Images ------------------------------------------------------------------------------------
 
@@ -181,15 +163,13 @@ module _ (bytes : List ℕ) (due : Due) where
   compiles_other = accepts_other bytes _ due (λ p a h. other_by due _ h.shown (λ e. omega (arith, e)))
 
   pub runs_other : (limits : Limits) (values : List (List ℕ)) → RunsFile limits values bytes due → status_of due ≢ 7
-  runs_other limits values = prepares_other values bytes _ due (λ agreed code args h. other_by due _ h.shown (answer_other agreed.covered.program limits.calls (source_answer agreed limits args) h.taken))
+  runs_other limits values = prepares_other values bytes _ due (λ agreed code args h. other_by due _ h.shown (answer_other (value_line agreed.covered.program) limits.calls (source_answer agreed.covered.program agreed.layouts limits args) h.taken))
 
   pub images_other : (limits : Limits) (values : List (List ℕ)) → ImagesFile limits values bytes due → status_of due ≢ 7
-  images_other limits values = prepares_other values bytes _ due (λ agreed code args h. other_by due _ h.shown (image_other _ _ _ _))
+  images_other limits values = prepares_other values bytes _ due (λ agreed code args h. other_by due _ h.shown (answer_other (λ v. image_text h.words h.memory) limits.calls (whole_answer agreed.covered.program agreed.layouts limits args) h.taken))
 
   pub counts_other : (limits : Limits) (values : List (List ℕ)) → CountsFile limits values bytes due → status_of due ≢ 7
-  counts_other limits values = prepares_other values bytes _ due (λ agreed code args h. other_by due _ h.shown (
-      count_other agreed.covered.program limits.calls _ (call_of agreed.covered.program agreed.covered.program.main limits.calls args).end h.switches h.taken
-      ))
+  counts_other limits values = prepares_other values bytes _ due (λ agreed code args h. other_by due _ h.shown (answer_other (count_text agreed.covered.program h.tally) limits.calls (source_answer agreed.covered.program agreed.layouts limits args) h.taken))
 
   pub executes_other : (name : List ℕ) (limits : Limits) (words : List ℕ) → Executes name limits words bytes due → status_of due ≢ 7
   executes_other name limits words (executed funs valid is shown) = other_by due _ shown (named_other funs name limits words (fun_named funs name))

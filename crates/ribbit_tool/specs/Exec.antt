@@ -19,15 +19,15 @@ use Rattle.ribbit_tool.specs.Command.{Limits}
 use Rattle.ribbit_tool.specs.Lines.{words_line, spent_line, full_line, trap_line, no_function_line, count_line, code_line}
 use Rattle.ribbit_tool.specs.declared.status.Status.TheVariants as status
 
--- the returned words, or the line of any other end
-abbrev pub end_due : End → ℕ → ℕ → Due
-end_due (Returned words left) calls steps = printed (words_line words) steps
-end_due Spent calls steps = refused status.Spent (spent_line calls) steps
-end_due (Full f) calls steps = refused status.Full (full_line f) steps
-end_due (Trapped t) calls steps = refused status.Trap (trap_line t) steps
+-- what is shown of the returned words, or the line of any other end
+abbrev pub end_due : (List ℕ → List ℕ) → ℕ → End → ℕ → Due
+end_due shown calls (Returned words left) steps = printed (shown words) steps
+end_due shown calls Spent steps = refused status.Spent (spent_line calls) steps
+end_due shown calls (Full f) steps = refused status.Full (full_line f) steps
+end_due shown calls (Trapped t) steps = refused status.Trap (trap_line t) steps
 
 abbrev pub outcome_due : Outcome → ℕ → Due
-outcome_due o calls = end_due o.ended calls o.world.taken
+outcome_due o calls = end_due words_line calls o.ended o.world.taken
 
 -- the number of the first function of this name
 abbrev pub fun_named : List CodeFun → List ℕ → Option ℕ

@@ -2,18 +2,23 @@
 use Rattle.std.specs.Prelude.{◌≡◌, ℕ, zero, suc, ◌+◌, ◌/◌, ◌%◌, List, [], ◌∷◌, ◌++◌, codes, false, unwrap_or}
 use Rattle.std.specs.Fmt.{decimal, digits, digit_glyph}
 use Rattle.std.specs.List.{flat_map}
-use Rattle.rb_bytes.specs.Memory.{Memory, byte_at, empty_memory}
+use Rattle.rb_bytes.specs.Growth.{AreWhole}
+use Rattle.rb_bytes.specs.Memory.{Memory, IsGood, byte_at, empty_memory}
+use Rattle.rb_coding.specs.Encoding.{StandApart}
+use Rattle.rb_core.specs.Typing.{param_types, result_type}
+use Rattle.rb_core.specs.declared.program.Program.{Program}
 use Rattle.rb_core.specs.declared.value.Value.{Value}
 use Rattle.rb_layout.specs.declared.agreed.LaidOut.{LaidOut}
-use Rattle.rb_run.specs.Calling.{IsCalled, IsCounted}
+use Rattle.rb_layout.specs.declared.layout.Layout.{Layout}
+use Rattle.rb_rel.specs.Answers.{Shown}
+use Rattle.rb_rel.specs.Placing.{Fits}
+use Rattle.rb_rel.specs.Relation.{IsCleanlyRepresented}
+use Rattle.rb_run.specs.Calling.{IsCounted}
 use Rattle.rb_target.specs.declared.code.CodeFun.{CodeFun}
-use Rattle.rb_target.specs.declared.outcome.End.{End}
-use Rattle.rb_target.specs.declared.outcome.End.TheVariants.{Returned, Spent, Full, Trapped}
-use Rattle.ribbit_tool.specs.Answer.{Due, printed, refused}
+use Rattle.ribbit_tool.specs.Answer.{Due}
 use Rattle.ribbit_tool.specs.Command.{Limits}
-use Rattle.ribbit_tool.specs.Lines.{ended, spent_line, full_line, trap_line}
-use Rattle.ribbit_tool.specs.Run.{PreparesFile}
-use Rattle.ribbit_tool.specs.declared.status.Status.TheVariants as status
+use Rattle.ribbit_tool.specs.Lines.{ended}
+use Rattle.ribbit_tool.specs.Run.{PreparesFile, answer_due, laid_all, laid_values, whole_answer}
 
 -- Texts -------------------------------------------------------------------------------------
 
@@ -46,22 +51,30 @@ image_text words m = root_line words ++ flat_map (block_line m) m.blocks
 
 -- What is due -------------------------------------------------------------------------------
 
--- the image where the call returned, or the line of its end; no run is trapped
-abbrev pub image_due : End → ℕ → Memory → ℕ → Due
-image_due (Returned words left) calls m steps = printed (image_text words m) steps
-image_due Spent calls m steps = refused status.Spent (spent_line calls) steps
-image_due (Full full) calls m steps = refused status.Full (full_line full) steps
-image_due (Trapped trap) calls m steps = refused status.Trap (trap_line trap) steps
+-- words and a memory that show a value of `main`: the memory has just the blocks that are asked for
+pub record IsImageOf (p : Program) (layouts : List Layout) (limits : Limits) (args : List Value) (v : Value) (words : List ℕ) (m : Memory) : Type 0 where
+  pub asked : laid_all p layouts limits args ≡ Fits m.blocks m.next
+  pub whole : AreWhole m m.blocks
+  pub good : IsGood m
+  -- the words represent the value, with clean free bits
+  pub root : IsCleanlyRepresented p.types layouts m (result_type p.funs p.main) v words
+  -- some words represent each value that was given, cleanly, over just the blocks that it asks for
+  pub given : (own : List (ℕ × ℕ)) (next : ℕ) → laid_values p layouts limits args ≡ Fits own next
+      → (ws : List ℕ) × StandApart p.types layouts m (param_types p.funs p.main) args 64 own next ws
 
--- A call of `main` on these values over a fresh region ended so and left this memory, and its end is due.
+-- they show the value that is answered, if one is
+abbrev pub ShowWhole : Program → List Layout → Limits → List Value → List ℕ → Memory → Type 0
+ShowWhole p layouts limits args words m = (v : Value) → whole_answer p layouts limits args ≡ Shown v → IsImageOf p layouts limits args v words m
+
+-- The source's answer is due, and of its value, which is never too large, an image.
 pub record IsImage (agreed : LaidOut) (code : List CodeFun) (args : List Value) (limits : Limits) (due : Due) : Type 0 where
   pub taken : ℕ
   pub switches : ℕ
   pub counted : IsCounted agreed code args limits.calls (empty_memory limits.region) taken switches
-  pub end : End
+  pub words : List ℕ
   pub memory : Memory
-  pub called : IsCalled agreed args limits.calls (empty_memory limits.region) end memory
-  pub shown : due ≡ image_due end limits.calls memory taken
+  pub show : ShowWhole agreed.covered.program agreed.layouts limits args words memory
+  pub shown : due ≡ answer_due (λ v. image_text words memory) limits.calls (whole_answer agreed.covered.program agreed.layouts limits args) taken
 
 -- of a file within the limit
 abbrev pub ImagesFile : Limits → List (List ℕ) → List ℕ → Due → Type 0

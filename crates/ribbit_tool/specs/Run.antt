@@ -1,13 +1,18 @@
--- What is due to the run of a file.
-use Rattle.std.specs.Prelude.{◌≡◌, ℕ, List, map, true}
+-- What is due to the run of a file, and the answer of the source to a call of `main`.
+use Rattle.std.specs.Prelude.{◌≡◌, ℕ, List, ◌++◌, map, true}
 use Rattle.rb_bytes.specs.Memory.{empty_memory}
+use Rattle.rb_core.specs.Meaning.{call_of}
 use Rattle.rb_core.specs.Typing.{param_types, result_type}
 use Rattle.rb_core.specs.Values.{all_of_types, is_of_type}
+use Rattle.rb_core.specs.declared.outcome.SourceEnd.{SourceEnd}
+use Rattle.rb_core.specs.declared.outcome.SourceEnd.TheVariants.{Done, Spent}
 use Rattle.rb_core.specs.declared.program.Program.{Program}
 use Rattle.rb_core.specs.declared.value.Value.{Value}
 use Rattle.rb_layout.specs.declared.agreed.LaidOut.{LaidOut}
+use Rattle.rb_layout.specs.declared.layout.Layout.{Layout}
 use Rattle.rb_rel.specs.Answers as answer
-use Rattle.rb_rel.specs.Answers.{answer_of}
+use Rattle.rb_rel.specs.Answers.{all_makings, answer_of}
+use Rattle.rb_rel.specs.Placing.{Laid, Fits, Over, lay, requests_of}
 use Rattle.rb_run.specs.Calling.{IsCounted}
 use Rattle.rb_target.specs.declared.code.CodeFun.{CodeFun}
 use Rattle.rb_values.specs.Texts.{text_of}
@@ -40,20 +45,39 @@ PreparesFile words bytes Then due = Accepts bytes (λ p a d. Prepares words Then
 
 -- The answer of the source ------------------------------------------------------------------
 
+-- what the source comes to by the call of `main` on these values, the blocks of the values placed first
+abbrev pub source_answer : Program → List Layout → Limits → List Value → answer.Answer
+source_answer p layouts limits args = answer_of p layouts args limits.calls limits.region node_limit
+
+-- what is shown of its value, or the line of the limit that it passes first
+abbrev pub answer_due : (Value → List ℕ) → ℕ → answer.Answer → ℕ → Due
+answer_due shown calls (answer.Shown v) steps = printed (shown v) steps
+answer_due shown calls answer.Spent steps = refused status.Spent (spent_line calls) steps
+answer_due shown calls (answer.Full f) steps = refused status.Full (full_line f) steps
+answer_due shown calls answer.TooLarge steps = refused status.TooLarge (large_line node_limit) steps
+
+-- where the blocks of the values end up over a fresh region, and then those of the call
+abbrev pub laid_values : Program → List Layout → Limits → List Value → Laid
+laid_values p layouts limits args = lay limits.region 64 (requests_of layouts (all_makings p.types args (param_types p.funs p.main)))
+
+abbrev pub laid_all : Program → List Layout → Limits → List Value → Laid
+laid_all p layouts limits args =
+    lay limits.region 64 (requests_of layouts (all_makings p.types args (param_types p.funs p.main) ++ (call_of p p.main limits.calls args).log))
+
+-- the answer, however many nodes the value has
+abbrev pub unbounded : Laid → SourceEnd → answer.Answer
+unbounded (Over full) end = answer.Full full
+unbounded (Fits blocks next) Spent = answer.Spent
+unbounded (Fits blocks next) (Done v left) = answer.Shown v
+
+abbrev pub whole_answer : Program → List Layout → Limits → List Value → answer.Answer
+whole_answer p layouts limits args = unbounded (laid_all p layouts limits args) (call_of p p.main limits.calls args).end
+
+-- Runs --------------------------------------------------------------------------------------
+
 -- the text of a value of the result type of `main`, on a line
 abbrev pub value_line : Program → Value → List ℕ
 value_line p v = ended (text_of p.types v (result_type p.funs p.main))
-
--- the value on a line, or the limit that the source passes first
-abbrev pub answer_due : Program → ℕ → answer.Answer → ℕ → Due
-answer_due p calls (answer.Shown v) steps = printed (value_line p v) steps
-answer_due p calls answer.Spent steps = refused status.Spent (spent_line calls) steps
-answer_due p calls (answer.Full f) steps = refused status.Full (full_line f) steps
-answer_due p calls answer.TooLarge steps = refused status.TooLarge (large_line node_limit) steps
-
--- what the source comes to by the call of `main` on these values, the blocks of the values placed first
-abbrev pub source_answer : LaidOut → Limits → List Value → answer.Answer
-source_answer agreed limits args = answer_of agreed.covered.program agreed.layouts args limits.calls limits.region node_limit
 
 -- The source's answer is due, with the steps of the code's run on words that represent the values, over a
 -- fresh region.
@@ -61,7 +85,7 @@ pub record IsAnswered (agreed : LaidOut) (code : List CodeFun) (args : List Valu
   pub taken : ℕ
   pub switches : ℕ
   pub counted : IsCounted agreed code args limits.calls (empty_memory limits.region) taken switches
-  pub shown : due ≡ answer_due agreed.covered.program limits.calls (source_answer agreed limits args) taken
+  pub shown : due ≡ answer_due (value_line agreed.covered.program) limits.calls (source_answer agreed.covered.program agreed.layouts limits args) taken
 
 -- of a file within the limit
 abbrev pub RunsFile : Limits → List (List ℕ) → List ℕ → Due → Type 0

@@ -1,16 +1,11 @@
 //! The command `count`: the value of a run, and what the run did.
 
 ghost use Rattle.std.specs.Prelude.{◌≡◌, ◌≤◌, ◌+◌, ◌++◌, ℕ, length, IfOk, OnOk, Ok, [], ◌∷◌};
-ghost use Rattle.rb_core.specs.declared.outcome.SourceEnd.{SourceEnd};
-ghost use Rattle.rb_rel.specs.Answers.{answer_at};
-ghost use Rattle.rb_rel.specs.Placing.{Laid};
 ghost use Rattle.rb_run.specs.Answering.{meant_by};
-ghost use Rattle.rb_run.specs.Counting.{IsTally};
 ghost use Rattle.ribbit_tool.specs.Answers.{Owes};
-ghost use Rattle.ribbit_tool.specs.Arguments.{node_limit};
 ghost use Rattle.ribbit_tool.specs.Command as spec;
-ghost use Rattle.ribbit_tool.specs.Count.{CountsFile, IsCount, count_due, count_text, number_line};
-ghost use Rattle.ribbit_tool.specs.Run.{IsPrepared};
+ghost use Rattle.ribbit_tool.specs.Count.{CountsFile, IsCount, count_text, number_line};
+ghost use Rattle.ribbit_tool.specs.Run.{IsPrepared, answer_due};
 ghost use Rattle.ribbit_tool.specs.Reading.{ReadsInTurn, file_limit, source_of};
 ghost use Rattle.ribbit_tool.specs.View.{limits_view, Meets, added};
 
@@ -57,8 +52,7 @@ fn counts(
     value: &Forest,
     tally: Tally,
 ) -> Result<Vec<u8>, AllocError>
-    ensures { IfOk result (λ text. text.items
-        ≡ count_text program.now value.now tally.calls tally.switches tally.blocks tally.bytes) }
+    ensures { IfOk result (λ text. text.items ≡ count_text program.now tally value.now) }
 {
     let shown = show_value(alloc, program, value)?;
     let mut text = Vec::from_slice(alloc, b"value ")?;
@@ -72,9 +66,8 @@ fn counts(
 
 // The text of a run's answer and of its counts, or the refusal in its place.
 fn show(alloc: Global, program: &Program, counted: &Counted, calls: u64) -> Result<Vec<u8>, Refusal>
-    ensures { (laid : Laid) (end : SourceEnd) → meant_by counted.now.answer ≡ answer_at laid end node_limit
-        → IsTally laid end calls counted.now.tally → (before steps : ℕ)
-        → Meets (λ due. due ≡ count_due program.now calls laid end counted.now.tally.switches steps) before
+    ensures { (before steps : ℕ) → Meets (λ due. due
+        ≡ answer_due (count_text program.now counted.now.tally) calls (meant_by counted.now.answer) steps) before
         (before + steps) result }
 {
     let (status, line) = match &counted.answer {

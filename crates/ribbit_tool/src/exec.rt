@@ -9,7 +9,7 @@ ghost use Rattle.ribbit_tool.specs.Answer.{refusal};
 ghost use Rattle.ribbit_tool.specs.Answers.{Owes};
 ghost use Rattle.ribbit_tool.specs.Command as spec;
 ghost use Rattle.ribbit_tool.specs.Exec.{Executes, call_due, end_due, exec_due, fun_named, outcome_due};
-ghost use Rattle.ribbit_tool.specs.Lines.{code_line};
+ghost use Rattle.ribbit_tool.specs.Lines.{code_line, words_line};
 ghost use Rattle.ribbit_tool.specs.Reading.{ReadsInTurn, code_limit, source_of};
 ghost use Rattle.ribbit_tool.specs.View.{limits_view, due_of, Meets, added};
 ghost use Rattle.ribbit_tool.specs.declared.status.Status.TheVariants as status;
@@ -31,7 +31,8 @@ use std::alloc::{AllocError, Global};
 
 // The text of a run's end, or the refusal in its place.
 fn show(alloc: Global, end: &End, calls: u64) -> Result<Vec<u8>, Refusal>
-    ensures { (before steps : ℕ) → Meets (λ due. due ≡ end_due end.now calls steps) before (before + steps) result }
+    ensures { (before steps : ℕ) → Meets (λ due. due ≡ end_due words_line calls end.now steps) before
+        (before + steps) result }
 {
     let (status, line) = match end {
         End::Returned { words, .. } => {

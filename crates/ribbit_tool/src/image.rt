@@ -8,7 +8,8 @@ ghost use Rattle.rb_run.specs.Calling.{IsEndOf};
 ghost use Rattle.ribbit_tool.specs.Answers.{Owes};
 ghost use Rattle.ribbit_tool.specs.Command as spec;
 ghost use Rattle.ribbit_tool.specs.Image as image;
-ghost use Rattle.ribbit_tool.specs.Image.{ImagesFile, IsImage, block_line, bytes_text, image_due, image_text, root_line, word_text};
+ghost use Rattle.ribbit_tool.specs.Exec.{end_due};
+ghost use Rattle.ribbit_tool.specs.Image.{ImagesFile, IsImage, block_line, bytes_text, image_text, root_line, word_text};
 ghost use Rattle.ribbit_tool.specs.Run.{IsPrepared};
 ghost use Rattle.ribbit_tool.specs.Reading.{ReadsInTurn, file_limit, source_of};
 ghost use Rattle.ribbit_tool.specs.View.{limits_view, Meets, added};
@@ -160,8 +161,8 @@ fn show(
 ) -> Result<Vec<u8>, Refusal>
     requires good { IsGood memory.now }
     requires ended { IsEndOf agreed.now end.now memory.now }
-    ensures { (before steps : ℕ) → Meets (λ due. due ≡ image_due end.now calls memory.now steps) before
-        (before + steps) result }
+    ensures { (before steps : ℕ) → Meets (λ due. due
+        ≡ end_due (λ words. image_text words memory.now) calls end.now steps) before (before + steps) result }
 {
     let (status, line) = match end {
         End::Returned { words, .. } => {

@@ -81,7 +81,7 @@ pub(crate) fn show_value(
 // The text of a run's answer.
 fn show(alloc: Global, program: &Program, answer: &Answer, calls: u64) -> Result<Vec<u8>, Refusal>
     ensures { (before steps : ℕ) → Meets (λ due. due
-        ≡ answer_due program.now calls (meant_by answer.now) steps) before (before + steps) result }
+        ≡ answer_due (value_line program.now) calls (meant_by answer.now) steps) before (before + steps) result }
 {
     let (status, line) = match answer {
         Answer::Shown(value) => {

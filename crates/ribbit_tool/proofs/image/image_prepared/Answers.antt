@@ -1,11 +1,14 @@
-use Rattle.std.proofs.Common.{◌≡◌, List, true, map, sym, subst}
+use Rattle.std.proofs.Common.{◌≡◌, List, true, map, sym, subst, ◌∙◌}
 use Rattle.rb_bytes.specs.Memory.{Memory, empty_memory}
 use Rattle.rb_core.specs.Typing.{param_types}
 use Rattle.rb_core.specs.Values.{all_of_types, is_of_type}
 use Rattle.rb_core.specs.declared.value.Value.{Value}
 use Rattle.rb_run.specs.Calling.{IsCalled, IsCounted}
-use Rattle.ribbit_tool.specs.Image.{IsImage, image_due}
+use Rattle.ribbit_tool.specs.Answer.{Due}
+use Rattle.ribbit_tool.specs.Exec.{end_due}
+use Rattle.ribbit_tool.specs.Image.{IsImage, image_text}
 use Rattle.ribbit_tool.specs.View.{limits_view, Meets}
+use Rattle.ribbit_tool.proofs.ImageLaws.{shows_end}
 use Rattle.ribbit_tool.proofs.Meeting.{met}
 use Rattle.ribbit_tool.proofs.image.image_prepared.Goals as goal
 
@@ -31,7 +34,10 @@ returns g c =
     let called = subst (λ (vs : List Value). IsCalled agreed vs limits.calls region ran.end c.call_main.new.memory) same_args (
     subst (λ (m : Memory). IsCalled agreed c.as_slice-args.result.now limits.calls m ran.end c.call_main.new.memory) c.in_ok-memory.ensures.value c.in_ok-ran.ensures.called) in
     let before = c.args.steps.now.taken in
-    met (λ due. due ≡ image_due ran.end limits.calls c.call_main.new.memory k.0) (λ due. IsImage agreed r.code r.args limits due)
-    (λ due e. record { taken = k.0; switches = ran.switches; counted = counted; end = ran.end; memory = c.call_main.new.memory; called = called; shown = e })
+    let memory = c.call_main.new.memory in
+    let s = shows_end agreed r.args limits ran.end memory called k.0 in
+    let Said : Due → Type 0 = λ due. due ≡ end_due (λ words. image_text words memory) limits.calls ran.end k.0 in
+    met Said (λ due. IsImage agreed r.code r.args limits due)
+    (λ due e. record { taken = k.0; switches = ran.switches; counted = counted; words = s.words; memory = memory; show = s.show; shown = e ∙ s.due })
     before c.call_main.new.steps.taken c.show.result
-    (subst (λ now. Meets (λ due. due ≡ image_due ran.end limits.calls c.call_main.new.memory k.0) before now c.show.result) (sym k.1) (c.show.ensures before k.0))
+    (subst (λ now. Meets Said before now c.show.result) (sym k.1) (c.show.ensures before k.0))

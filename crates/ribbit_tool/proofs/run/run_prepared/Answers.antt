@@ -7,7 +7,7 @@ use Rattle.rb_core.specs.declared.value.Value.{Value}
 use Rattle.rb_rel.specs.Answers as answer
 use Rattle.rb_run.specs.Answering.{meant_by}
 use Rattle.rb_run.specs.Calling.{IsCounted}
-use Rattle.ribbit_tool.specs.Run.{IsAnswered, answer_due, source_answer}
+use Rattle.ribbit_tool.specs.Run.{IsAnswered, answer_due, source_answer, value_line}
 use Rattle.ribbit_tool.specs.View.{limits_view, Meets}
 use Rattle.ribbit_tool.proofs.Meeting.{met}
 use Rattle.ribbit_tool.proofs.run.run_prepared.Goals as goal
@@ -25,12 +25,12 @@ returns g c =
     let limits = limits_view c.args.limits in
     let k = c.in_ok-answer.ensures.counted in
     let counted = subst (λ (vs : List Value). IsCounted agreed r.code vs limits.calls (empty_memory limits.region) k.0 k.1) c.as_slice-args.ensures k.3 in
-    let answered = c.in_ok-answer.ensures.answer ∙ ap (λ (vs : List Value). source_answer agreed limits vs) c.as_slice-args.ensures in
+    let answered = c.in_ok-answer.ensures.answer ∙ ap (λ (vs : List Value). source_answer p agreed.layouts limits vs) c.as_slice-args.ensures in
     let before = c.args.steps.now.taken in
     let same = c.program.ensures.same ∙ ap (λ x. x.program) c.covered.ensures.same in
-    let Said : Program → answer.Answer → ℕ → Type 0 = λ x s now. Meets (λ due. due ≡ answer_due x limits.calls s k.0) before now c.show.result in
-    met (λ due. due ≡ answer_due p limits.calls (source_answer agreed limits r.args) k.0) (λ due. IsAnswered agreed r.code r.args limits due)
+    let Said : Program → answer.Answer → ℕ → Type 0 = λ x s now. Meets (λ due. due ≡ answer_due (value_line x) limits.calls s k.0) before now c.show.result in
+    met (λ due. due ≡ answer_due (value_line p) limits.calls (source_answer p agreed.layouts limits r.args) k.0) (λ due. IsAnswered agreed r.code r.args limits due)
     (λ due e. record { taken = k.0; switches = k.1; counted = counted; shown = e })
     before c.answer_main.new.steps.taken c.show.result
-    (subst (λ now. Said p (source_answer agreed limits r.args) now) (sym k.2)
+    (subst (λ now. Said p (source_answer p agreed.layouts limits r.args) now) (sym k.2)
     (subst (λ s. Said p s (before + k.0)) answered (subst (λ x. Said x (meant_by c.in_ok-answer.answer) (before + k.0)) same (c.show.ensures before k.0))))
