@@ -5,6 +5,7 @@ pub mod Exhausts
 pub mod HeadLemmas
 pub mod Inhabited
 pub mod Laws
+pub mod OpenRows
 pub mod Opens
 pub mod Parts
 pub mod Passing

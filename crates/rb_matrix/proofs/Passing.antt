@@ -1,8 +1,7 @@
 -- What sets of numbers say of heads and of patterns that were gone over.
-use Rattle.std.proofs.Common.{◌≡◌, ℕ, zero, suc, ◌+◌, ◌^◌, List, [], ◌∷◌, ◌++◌, take, Bool, true, false, ◌&&◌, ◌||◌, ◌==◌, not, Option, Some, None, refl, sym, ap, ◌∙◌, arith, subst, add-one}
+use Rattle.std.proofs.Common.{◌≡◌, ℕ, zero, suc, ◌+◌, ◌^◌, List, [], ◌∷◌, ◌++◌, take, Bool, true, false, ◌&&◌, ◌||◌, ◌==◌, not, Some, None, refl, sym, ap, ◌∙◌, arith, subst, add-one}
 use Rattle.std.specs.Prelude.{slice_get, is_some, nat_lt, if◌then◌else◌, cond}
 use Rattle.std.specs.Ordering.{nat_cmp, is_eq}
-use Rattle.std.proofs.Math.Bool.{and-false}
 use Rattle.std.proofs.lemmas.Bool.{eqb-true, eq-eqb, false≢true}
 use Rattle.std.proofs.lemmas.Bool.Decides.{nat_tests}
 use Rattle.std.proofs.lemmas.Option.{same_Some}
@@ -19,14 +18,14 @@ use Rattle.rb_core.specs.Matching.{matches_of, chosen_clause, is_number, is_con,
 use Rattle.rb_core.specs.Values.{is_of_type}
 use Rattle.rb_matrix.specs.declared.matrix.Head.TheVariants as H
 use Rattle.rb_matrix.specs.declared.passed.Passed.{Passed}
-use Rattle.rb_matrix.specs.Exhaust.{any_matches, IsReached, IsReachAnswer}
+use Rattle.rb_matrix.specs.Exhaust.{any_matches, IsReachAnswer}
 use Rattle.rb_matrix.specs.Heads.{fields_at}
 use Rattle.rb_matrix.specs.Open.{layer_open}
 use Rattle.rb_matrix.specs.inner.Passed.{has, layer_number, some_open, some_number, ArePassed}
 use Rattle.rb_matrix.proofs.Exhausts.{first-chosen, chosen-first}
 use Rattle.rb_matrix.proofs.Inhabited.{out-num}
 use Rattle.rb_matrix.proofs.Laws.{opened, open_matches}
-use Rattle.rb_matrix.proofs.Vectors.{and-left, and-right, num-matches, num-of, num-of_int}
+use Rattle.rb_matrix.proofs.Vectors.{and-left, num-matches, num-of, num-of_int}
 
 -- Sets -------------------------------------------------------------------------------------------
 

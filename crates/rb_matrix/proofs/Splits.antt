@@ -1,7 +1,8 @@
 -- Parts put together.
 use Rattle.std.proofs.Common.{◌≡◌, ℕ, suc, ◌+◌, ◌<◌, ◌≤◌, List, [], ◌∷◌, ◌++◌, length, take, get_or, Bool, true, false, ◌||◌, Option, Some, None, refl, sym, ap, ◌∙◌, arith, subst, add-one, ◌⊎◌, inl, inr}
 use Rattle.std.proofs.lemmas.Bool.{false≢true}
-use Rattle.std.proofs.lemmas.List.{length-append}
+use Rattle.std.specs.Option.{option_to_list}
+use Rattle.std.proofs.lemmas.List.{append-nil, length-append}
 use Rattle.std.proofs.Math.Seq.{take-suc}
 use Rattle.rb_core.specs.declared.value.Value.{Value, out-Value}
 use Rattle.rb_core.specs.declared.value.Value.TheOpen.{Value-F}
@@ -139,6 +140,18 @@ module _ (types : List DataDecl) where
       parts = parts-append p cs (c ∷ []) r.parts (part.0, tt);
       count = omega (arith, l, m, count);
     }
+
+    -- the part that there may be for one more head
+    pub one-option : (hs : List Head) (h : Head) (cs : List Problem) (o : Option Problem) → AreByHeads types ty ts p hs cs → IsPartAt types ty ts p h o → AreByHeads types ty ts p (hs ++ h ∷ []) (cs ++ option_to_list o)
+    one-option hs h cs None r gone = subst (AreByHeads types ty ts p (hs ++ h ∷ [])) (sym (append-nil cs)) (one-less hs h cs r gone)
+    one-option hs h cs (Some c) r part = one-more hs h cs c r part
+
+    pub no-heads : (hs : List Head) (cs : List Problem) → hs ≡ [] → cs ≡ [] → AreByHeads types ty ts p hs cs
+    no-heads hs cs e f = subst (λ l. AreByHeads types ty ts p l cs) (sym e) (subst (AreByHeads types ty ts p []) (sym f) (record {
+      none = λ all v vs h. absurd (false≢true h);
+      parts = tt;
+      count = omega arith;
+    }))
 
     -- the one head of a wanted row
     pub one-split : (h : Head) (cs : List Problem) → first_head p.wanted ≡ Some h → AreByHeads types ty ts p (h ∷ []) cs → IsSplit types p cs

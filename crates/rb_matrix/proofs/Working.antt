@@ -1,13 +1,15 @@
 -- The list of problems that are left.
 use Rattle.std.proofs.Common.{◌≡◌, ◌<◌, List, [], ◌∷◌, ◌++◌, length, Bool, true, false, ◌&&◌, not, refl, sym, ap, ◌∙◌, arith, subst}
+use Rattle.std.proofs.lemmas.Bool.{false≢true}
+use Rattle.rb_core.specs.declared.value.Value.{Value}
 use Rattle.rb_core.specs.declared.types.DataDecl.{DataDecl}
 use Rattle.rb_core.specs.declared.types.Ty.{Ty}
 use Rattle.rb_core.specs.declared.pattern.Pat.{Pat}
 use Rattle.rb_matrix.specs.declared.problem.Step.{Step}
 use Rattle.rb_matrix.specs.declared.problem.Problem.{Problem}
-use Rattle.rb_matrix.specs.Rows.{any_row, all_rows}
-use Rattle.rb_matrix.specs.Search.{AreTypesIn, IsNowhere}
-use Rattle.rb_matrix.specs.Problems.{closed, closed_all, FoundIn, NoneIn, AllNone, AreParts, IsSplit, costs, IsWithin, AreWithin, IsWorking}
+use Rattle.rb_matrix.specs.Rows.{row_matches, any_row, all_rows, vector_of}
+use Rattle.rb_matrix.specs.Search.{AreTypesIn, sought, IsFound, IsNowhere}
+use Rattle.rb_matrix.specs.Problems.{with_column, closed, closed_all, FoundIn, NoneIn, AllNone, AreParts, IsSplit, costs, IsWithin, AreWithin, IsWorking}
 use Rattle.rb_matrix.proofs.Splits.{none-left, none-right, none-append, costs-append}
 use Rattle.rb_matrix.proofs.Weights.{none-fewer}
 
@@ -39,6 +41,28 @@ lost-wanted types p cs e lt off = no-parts types p cs e (empty-wanted types p.ty
 
 pub lost-unwanted : (types : List DataDecl) (p : Problem) (cs : List Problem) → cs ≡ [] → length p.tys < 1 → any_row p.unwanted [] ≡ true → IsSplit types p cs
 lost-unwanted types p cs e lt on = no-parts types p cs e (empty-unwanted types p.tys p.wanted p.unwanted lt on)
+
+-- a problem without columns that its rows solve
+pub solved : (types : List DataDecl) (tys : List Ty) (wanted unwanted : List (List Pat)) → tys ≡ [] → all_rows wanted [] ≡ true → any_row unwanted [] ≡ false → IsFound types tys wanted unwanted []
+solved types tys wanted unwanted e all none = subst (λ l. IsFound types l wanted unwanted []) (sym e) (record {
+  plain = refl;
+  value = [];
+  matched = refl;
+  found = found;
+  all = found-all;
+})
+  where
+    found : sought types [] wanted unwanted [] ≡ true
+    found = ap (λ b. b && not (any_row unwanted [])) all ∙ ap not none
+
+    found-all : (vs : List Value) → vector_of types [] vs ≡ true → row_matches [] vs ≡ true → sought types [] wanted unwanted vs ≡ true
+    found-all [] of matched = found
+    found-all (v ∷ vs) of matched = absurd (false≢true of)
+
+-- a problem's parts, where its first column's type was taken off
+pub split-column : (types : List DataDecl) (p : Problem) (ty : Ty) (ts : List Ty) (cs : List Problem) → p.tys ≡ ty ∷ ts
+    → IsSplit types (with_column ty (record { tys = ts; wanted = p.wanted; unwanted = p.unwanted; steps = p.steps })) cs → IsSplit types p cs
+split-column types p ty ts cs e s = subst (λ l. IsSplit types (record { tys = l; wanted = p.wanted; unwanted = p.unwanted; steps = p.steps }) cs) (sym e) s
 
 module _ (types : List DataDecl) (root : Problem) where
   within-append : (ps qs : List Problem) → AreWithin types root ps → AreWithin types root qs → AreWithin types root (ps ++ qs)

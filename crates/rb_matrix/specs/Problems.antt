@@ -42,6 +42,10 @@ closed_all (s ∷ ss) row = closed s (closed_all ss row)
 
 -- Problems and their parts ------------------------------------------------------------------------
 
+-- a problem with one more column in front
+abbrev pub with_column : Ty → Problem → Problem
+with_column ty p = record { tys = ty ∷ p.tys; wanted = p.wanted; unwanted = p.unwanted; steps = p.steps }
+
 abbrev pub FoundIn : List DataDecl → Problem → List Pat → Type 0
 FoundIn types p row = IsFound types p.tys p.wanted p.unwanted row
 
@@ -123,7 +127,7 @@ pub record IsSplit (types : List DataDecl) (p : Problem) (cs : List Problem) : T
   pub fewer : costs types cs < cost types p
 
 abbrev pub IsOutcome : List DataDecl → Problem → Outcome → Type 0
-IsOutcome types p Solved = FoundIn types p []
+IsOutcome types p (Solved steps) = FoundIn types p [] × (steps ≡ p.steps)
 IsOutcome types p (Split cs) = IsSplit types p cs.items
 
 -- one part for a head

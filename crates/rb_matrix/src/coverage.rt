@@ -1,20 +1,22 @@
 //! Whether patterns match every value of a type, which of them are the first match of none, and
 //! whether two of them have a value in common.
 
-ghost use Rattle.std.specs.Prelude.{◌≡◌, ◌<◌, ◌∷◌, ◌++◌, [], IfOk, OnOk, length, take};
+ghost use Rattle.std.specs.Prelude.{◌≡◌, ◌<◌, ◌∷◌, [], IfOk, length, take};
 ghost use Rattle.rb_matrix.specs.declared.coverage.MatrixFault.TheVariants as MatrixFaults;
 ghost use Rattle.rb_matrix.specs.Exhaust.{IsExhaustAnswer, IsReachAnswer, AreUnreached, IsCommonAnswer, IsOneAnswer, one_each};
 ghost use Rattle.rb_matrix.specs.Search.{AreInhabited, IsTypeIn};
+ghost use Rattle.rb_matrix.specs.inner.Against.{are_apart as the_apart, rows_against as the_against};
 ghost use Rattle.rb_matrix.specs.inner.Passed.{ArePassed};
 
 use crate::passed::Passed;
 use crate::problem::Problem;
+use crate::rows::{Row, row_of};
 use crate::search::find_in;
+use crate::stack::Stack;
 use rb_core::pattern::Pat;
 use rb_core::seq::Seq;
 use rb_core::types::{DataDecl, Ty};
 use std::alloc::{AllocError, Global};
-use std::mem;
 
 /// Why patterns are not exhaustive.
 #[derive(Debug, Drop, thiserror::Error)]
@@ -35,17 +37,8 @@ impl From<AllocError> for MatrixFault {
     }
 }
 
-// A pattern as a row.
-fn row_of(alloc: Global, pat: &Pat) -> Result<Seq<Pat>, AllocError>
-    ensures { IfOk result (λ r. r ≡ pat.now ∷ []) }
-{
-    let mut row = Seq::new(alloc);
-    row.push(pat.copy(alloc)?)?;
-    Ok(row)
-}
-
 // One row of one pattern.
-fn one_row(alloc: Global, pat: &Pat) -> Result<Seq<Seq<Pat>>, AllocError>
+fn one_row(alloc: Global, pat: &Pat) -> Result<Seq<Row>, AllocError>
     ensures { IfOk result (λ r. r ≡ (pat.now ∷ []) ∷ []) }
 {
     let mut rows = Seq::new(alloc);
@@ -54,7 +47,7 @@ fn one_row(alloc: Global, pat: &Pat) -> Result<Seq<Seq<Pat>>, AllocError>
 }
 
 // Two rows of one pattern each.
-fn two_rows(alloc: Global, one: &Pat, other: &Pat) -> Result<Seq<Seq<Pat>>, AllocError>
+fn two_rows(alloc: Global, one: &Pat, other: &Pat) -> Result<Seq<Row>, AllocError>
     ensures { IfOk result (λ r. r ≡ (one.now ∷ []) ∷ (other.now ∷ []) ∷ []) }
 {
     let mut rows = one_row(alloc, one)?;
@@ -63,7 +56,7 @@ fn two_rows(alloc: Global, one: &Pat, other: &Pat) -> Result<Seq<Seq<Pat>>, Allo
 }
 
 // Each pattern as a row of its own.
-fn rows_of(alloc: Global, pats: &[Pat]) -> Result<Seq<Seq<Pat>>, AllocError>
+fn rows_of(alloc: Global, pats: &[Pat]) -> Result<Seq<Row>, AllocError>
     ensures { IfOk result (λ r. r ≡ one_each pats.now) }
 {
     let mut rows = Seq::new(alloc);
@@ -73,29 +66,59 @@ fn rows_of(alloc: Global, pats: &[Pat]) -> Result<Seq<Seq<Pat>>, AllocError>
     Ok(rows)
 }
 
-// A search in one column. The unwanted rows stand in it meanwhile, so that none is copied.
+// Whether two patterns begin with different constructors.
+fn are_apart(one: &Pat, other: &Pat) -> bool
+    ensures { result ≡ the_apart one.now other.now }
+{
+    match one {
+        Pat::Wild(_) => false,
+        Pat::Var(_, _) => false,
+        Pat::Num(_, _) => false,
+        Pat::Con(_, con, _) => match other {
+            Pat::Wild(_) => false,
+            Pat::Var(_, _) => false,
+            Pat::Num(_, _) => false,
+            Pat::Con(_, known, _) => con.con != known.con,
+        },
+    }
+}
+
+// Each of the patterns as a row of its own, but none that begins with another constructor than the
+// pattern that they are held against.
+fn rows_against(alloc: Global, pats: &[Pat], pat: &Pat) -> Result<Seq<Row>, AllocError>
+    ensures { IfOk result (λ r. r ≡ the_against pat.now pats.now) }
+{
+    let mut rows = Seq::new(alloc);
+    for other in pats {
+        if are_apart(other, pat) {
+            continue;
+        }
+        rows.push(row_of(alloc, other)?)?;
+    }
+    Ok(rows)
+}
+
+// A search in one column.
 fn find_one(
     alloc: Global,
     types: &[DataDecl],
     ty: Ty,
-    wanted: Seq<Seq<Pat>>,
-    unwanted: &mut Seq<Seq<Pat>>,
+    wanted: Seq<Row>,
+    unwanted: Seq<Row>,
 ) -> Result<Option<Pat>, AllocError>
     requires inhabited { AreInhabited types.now }
     requires ty { IsTypeIn types.now ty }
-    ensures answer { IfOk result (λ r. IsOneAnswer types.now ty wanted unwanted.old r) }
-    ensures same { OnOk result (unwanted.new ≡ unwanted.old) }
+    ensures { IfOk result (λ r. IsOneAnswer types.now ty wanted unwanted r) }
 {
-    let mut tys = Seq::new(alloc);
+    let mut tys = Stack::new(alloc);
     tys.push(ty)?;
     let root = Problem {
         tys,
         wanted,
-        unwanted: mem::replace(unwanted, Seq::new(alloc)),
+        unwanted,
         steps: Seq::new(alloc),
     };
-    let found = find_in(alloc, types, &root)?;
-    *unwanted = root.unwanted;
+    let found = find_in(alloc, types, root)?;
     match found {
         None => Ok(None),
         Some(mut row) => match row.pop() {
@@ -113,32 +136,30 @@ pub fn exhaust(alloc: Global, types: &[DataDecl], ty: Ty, rows: &[Pat]) -> Resul
     requires ty { IsTypeIn types.now ty }
     ensures { IsExhaustAnswer types.now ty rows.now result }
 {
-    let mut unwanted = rows_of(alloc, rows)?;
-    match find_one(alloc, types, ty, Seq::new(alloc), &mut unwanted)? {
+    let unwanted = rows_of(alloc, rows)?;
+    match find_one(alloc, types, ty, Seq::new(alloc), unwanted)? {
         None => Ok(()),
         Some(pat) => Err(MatrixFault::Missing(pat)),
     }
 }
 
-// Whether a pattern is the first match of some value, by a search. The rows are those of the patterns
-// before it.
+// Whether a pattern is the first match of some value, by a search.
 fn is_found(
     alloc: Global,
     types: &[DataDecl],
     ty: Ty,
     pats: &[Pat],
     i: usize,
-    before: &mut Seq<Seq<Pat>>,
 ) -> Result<bool, AllocError>
     requires inhabited { AreInhabited types.now }
     requires ty { IsTypeIn types.now ty }
     requires within { i < length pats.now }
-    requires before { before.old ≡ one_each (take i pats.now) }
-    ensures reached { IfOk result (λ b. IsReachAnswer types.now ty pats.now i b) }
-    ensures same { OnOk result (before.new ≡ before.old) }
+    ensures { IfOk result (λ b. IsReachAnswer types.now ty pats.now i b) }
 {
-    let wanted = one_row(alloc, &pats[i])?;
-    let found = find_one(alloc, types, ty, wanted, before)?;
+    let pat = &pats[i];
+    let wanted = one_row(alloc, pat)?;
+    let unwanted = rows_against(alloc, &pats[..i], pat)?;
+    let found = find_one(alloc, types, ty, wanted, unwanted)?;
     Ok(found.is_some())
 }
 
@@ -151,15 +172,12 @@ fn is_reached(
     pats: &[Pat],
     i: usize,
     passed: &Passed,
-    before: &mut Seq<Seq<Pat>>,
 ) -> Result<bool, AllocError>
     requires inhabited { AreInhabited types.now }
     requires ty { IsTypeIn types.now ty }
     requires within { i < length pats.now }
     requires passed { ArePassed (take i pats.now) passed.now }
-    requires before { before.old ≡ one_each (take i pats.now) }
-    ensures reached { IfOk result (λ b. IsReachAnswer types.now ty pats.now i b) }
-    ensures same { OnOk result (before.new ≡ before.old) }
+    ensures { IfOk result (λ b. IsReachAnswer types.now ty pats.now i b) }
 {
     let pat = &pats[i];
     if passed.all {
@@ -167,9 +185,9 @@ fn is_reached(
     }
     match pat {
         Pat::Num(_, number) => Ok(passed.is_new(types, ty, *number)),
-        Pat::Wild(_) => is_found(alloc, types, ty, pats, i, before),
-        Pat::Var(_, _) => is_found(alloc, types, ty, pats, i, before),
-        Pat::Con(_, _, _) => is_found(alloc, types, ty, pats, i, before),
+        Pat::Wild(_) => is_found(alloc, types, ty, pats, i),
+        Pat::Var(_, _) => is_found(alloc, types, ty, pats, i),
+        Pat::Con(_, _, _) => is_found(alloc, types, ty, pats, i),
     }
 }
 
@@ -185,14 +203,11 @@ pub fn unreached(
     ensures { IfOk result (λ v. AreUnreached types.now ty rows.now v.items) }
 {
     let mut numbers = Vec::new(alloc);
-    let mut before = Seq::new(alloc);
     let mut passed = Passed::new(alloc);
     for i in 0..rows.len() {
-        let reached = is_reached(alloc, types, ty, rows, i, &passed, &mut before)?;
+        let reached = is_reached(alloc, types, ty, rows, i, &passed)?;
         let pat = &rows[i];
         passed.add(pat)?;
-        let row = row_of(alloc, pat)?;
-        before.push(row)?;
         if reached {
             continue;
         }
@@ -215,7 +230,7 @@ pub fn common(
     ensures { IfOk result (λ r. IsCommonAnswer types.now ty one.now other.now r) }
 {
     let wanted = two_rows(alloc, one, other)?;
-    match find_one(alloc, types, ty, wanted, &mut Seq::new(alloc))? {
+    match find_one(alloc, types, ty, wanted, Seq::new(alloc))? {
         None => Ok(None),
         Some(pat) => Ok(Some(pat)),
     }

@@ -108,7 +108,8 @@ fn is_noted(known: &[Head], numbers: &Numbers, head: Head) -> bool
     }
 }
 
-fn add_head(
+/// Adds the head that may stand there, unless it is known.
+pub(crate) fn add_head(
     heads: &mut Vec<Head>,
     numbers: &mut Numbers,
     head: Option<Head>,

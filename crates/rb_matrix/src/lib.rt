@@ -21,7 +21,9 @@ mod open;
 mod part;
 mod passed;
 mod problem;
+mod rows;
 pub mod search;
+mod stack;
 mod witness;
 
 pub use coverage::{MatrixFault, common, exhaust, unreached};

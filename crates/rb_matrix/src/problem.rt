@@ -1,5 +1,7 @@
 //! What is left of a search.
 
+use crate::rows::Row;
+use crate::stack::Stack;
 use rb_core::pattern::Pat;
 use rb_core::seq::Seq;
 use rb_core::types::{ConRef, Ty};
@@ -17,17 +19,17 @@ pub enum Step {
 /// from a row for this problem to one for the problem at the root.
 #[derive(Debug, Drop)]
 pub struct Problem {
-    pub tys: Seq<Ty>,
-    pub wanted: Seq<Seq<Pat>>,
-    pub unwanted: Seq<Seq<Pat>>,
+    pub tys: Stack<Ty>,
+    pub wanted: Seq<Row>,
+    pub unwanted: Seq<Row>,
     pub steps: Seq<Step>,
 }
 
 /// What becomes of a problem.
 #[derive(Debug, Drop)]
 pub enum Outcome {
-    /// The empty row is its answer.
-    Solved,
+    /// The empty row is its answer, and these are its steps.
+    Solved(Seq<Step>),
     /// Its parts answer for it.
     Split(Vec<Problem>),
 }

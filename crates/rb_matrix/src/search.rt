@@ -7,58 +7,61 @@
 //! algorithm: exponentially in the number of columns at worst, where rows that look at several columns
 //! take turns, and about with the product of rows and heads for tables as one writes them.
 
-ghost use Rattle.std.specs.Prelude.{◌≡◌, IfOk, []};
+ghost use Rattle.std.specs.Prelude.{◌≡◌, List, IfOk, []};
+ghost use Rattle.rb_core.specs.declared.types.DataDecl as DataDecls;
 ghost use Rattle.rb_matrix.specs.Rows.{row_matches, any_row, all_rows};
 ghost use Rattle.rb_matrix.specs.Search.{AreInhabited, AreTypesIn, IsAnswer};
 ghost use Rattle.rb_matrix.specs.Problems.{IsOutcome};
 
 use crate::open::some_is_open;
 use crate::part::parts_of;
-use crate::problem::{Outcome, Problem};
+use crate::problem::{Outcome, Problem, Step};
+use crate::rows::Row;
+use crate::stack::Stack;
 use crate::witness::witness;
 use rb_core::pattern::{Pat, copy_patterns};
 use rb_core::seq::Seq;
 use rb_core::types::{DataDecl, Ty};
 use std::alloc::{AllocError, Global};
 
-fn is_empty(row: &[Pat]) -> bool
+fn is_empty(row: &Row) -> bool
     ensures { result ≡ row_matches row.now [] }
 {
-    match row {
-        [] => true,
-        [_first, ..] => false,
+    match row.first() {
+        None => true,
+        Some(_first) => false,
     }
 }
 
 // Whether a row matches the empty vector.
-fn some_is_empty(rows: &[Seq<Pat>]) -> bool
+fn some_is_empty(rows: &[Row]) -> bool
     ensures { result ≡ any_row rows.now [] }
 {
     for row in rows {
-        if is_empty(row.as_slice()) {
+        if is_empty(row) {
             return true;
         }
     }
     false
 }
 
-fn all_are_empty(rows: &[Seq<Pat>]) -> bool
+fn all_are_empty(rows: &[Row]) -> bool
     ensures { result ≡ all_rows rows.now [] }
 {
     for row in rows {
-        if !is_empty(row.as_slice()) {
+        if !is_empty(row) {
             return false;
         }
     }
     true
 }
 
-fn rows_copied(alloc: Global, rows: &[Seq<Pat>]) -> Result<Seq<Seq<Pat>>, AllocError>
+fn rows_copied(alloc: Global, rows: &[Seq<Pat>]) -> Result<Seq<Row>, AllocError>
     ensures { IfOk result (λ r. r ≡ rows.now) }
 {
     let mut copies = Seq::new(alloc);
     for row in rows {
-        copies.push(copy_patterns(alloc, row.as_slice())?)?;
+        copies.push(Stack::from_seq(copy_patterns(alloc, row.as_slice())?))?;
     }
     Ok(copies)
 }
@@ -77,37 +80,53 @@ fn root(
     }) }
 {
     Ok(Problem {
-        tys: Seq::from_vec(Vec::from_slice(alloc, tys)?),
+        tys: Stack::from_seq(Seq::from_vec(Vec::from_slice(alloc, tys)?)),
         wanted: rows_copied(alloc, wanted)?,
         unwanted: rows_copied(alloc, unwanted)?,
         steps: Seq::new(alloc),
     })
 }
 
-// Where no column is left, the rows decide. Else nothing is left where an unwanted row has no head.
-fn step(alloc: Global, types: &[DataDecl], problem: &Problem) -> Result<Outcome, AllocError>
-    requires inhabited { AreInhabited types.now }
-    requires live { AreTypesIn types.now problem.now.tys }
-    ensures { IfOk result (λ r. IsOutcome types.now problem.now r) }
+// Where no column is left, the rows decide.
+fn end(alloc: Global, wanted: &Seq<Row>, unwanted: &Seq<Row>, steps: Seq<Step>) -> Outcome
+    ensures { (types : List DataDecls.DataDecl) → IsOutcome types
+        (record { tys = []; wanted = wanted.now; unwanted = unwanted.now; steps = steps }) result }
 {
-    match problem.tys.as_slice() {
-        [] => {
-            if !all_are_empty(problem.wanted.as_slice()) {
-                return Ok(Outcome::Split(Vec::new(alloc)));
-            }
-            if some_is_empty(problem.unwanted.as_slice()) {
-                return Ok(Outcome::Split(Vec::new(alloc)));
-            }
-            Ok(Outcome::Solved)
-        }
-        [ty, rest @ ..] => {
-            if some_is_open(problem.unwanted.as_slice(), problem.tys.len()) {
-                return Ok(Outcome::Split(Vec::new(alloc)));
-            }
-            let parts = parts_of(alloc, types, *ty, rest, problem)?;
-            Ok(Outcome::Split(parts))
-        }
+    if !all_are_empty(wanted.as_slice()) {
+        return Outcome::Split(Vec::new(alloc));
     }
+    if some_is_empty(unwanted.as_slice()) {
+        return Outcome::Split(Vec::new(alloc));
+    }
+    Outcome::Solved(steps)
+}
+
+// What becomes of a problem. Nothing is left where an unwanted row has no head.
+fn step(alloc: Global, types: &[DataDecl], problem: Problem) -> Result<Outcome, AllocError>
+    requires inhabited { AreInhabited types.now }
+    requires live { AreTypesIn types.now problem.tys }
+    ensures { IfOk result (λ r. IsOutcome types.now problem r) }
+{
+    if some_is_open(problem.unwanted.as_slice(), problem.tys.len()) {
+        return Ok(Outcome::Split(Vec::new(alloc)));
+    }
+    let Problem {
+        mut tys,
+        wanted,
+        unwanted,
+        steps,
+    } = problem;
+    let Some(ty) = tys.pop() else {
+        return Ok(end(alloc, &wanted, &unwanted, steps));
+    };
+    let behind = Problem {
+        tys,
+        wanted,
+        unwanted,
+        steps,
+    };
+    let parts = parts_of(alloc, types, ty, behind)?;
+    Ok(Outcome::Split(parts))
 }
 
 /// A row of patterns that has a vector of the root's types, and all of whose vectors all wanted rows
@@ -116,21 +135,20 @@ fn step(alloc: Global, types: &[DataDecl], problem: &Problem) -> Result<Outcome,
 pub fn find_in(
     alloc: Global,
     types: &[DataDecl],
-    root: &Problem,
+    root: Problem,
 ) -> Result<Option<Seq<Pat>>, AllocError>
     requires inhabited { AreInhabited types.now }
-    requires live { AreTypesIn types.now root.now.tys }
-    requires root { root.now.steps ≡ [] }
-    ensures { IfOk result (λ r. IsAnswer types.now root.now.tys root.now.wanted root.now.unwanted r) }
+    requires live { AreTypesIn types.now root.tys }
+    requires root { root.steps ≡ [] }
+    ensures { IfOk result (λ r. IsAnswer types.now root.tys root.wanted root.unwanted r) }
 {
-    let mut work = match step(alloc, types, root)? {
-        Outcome::Solved => return Ok(Some(Seq::new(alloc))),
-        Outcome::Split(parts) => parts,
-    };
+    let mut work = Vec::new(alloc);
+    work.push(root)?;
     while let Some(problem) = work.pop() {
-        match step(alloc, types, &problem)? {
-            Outcome::Solved => {
-                let row = witness(alloc, problem.steps)?;
+        let outcome = step(alloc, types, problem)?;
+        match outcome {
+            Outcome::Solved(steps) => {
+                let row = witness(alloc, steps)?;
                 return Ok(Some(row));
             }
             Outcome::Split(mut parts) => work.append(&mut parts)?,
@@ -154,5 +172,5 @@ pub fn find(
     ensures { IfOk result (λ r. IsAnswer types.now tys.now wanted.now unwanted.now r) }
 {
     let root = root(alloc, tys, wanted, unwanted)?;
-    find_in(alloc, types, &root)
+    find_in(alloc, types, root)
 }

@@ -9,12 +9,12 @@ returns-in-None c =
     none-common c.args.types.now c.args.ty c.args.one.now c.args.other.now
     (subst (IsOneAnswer c.args.types.now c.args.ty both []) c.in-None.is
     (subst (λ l. IsOneAnswer c.args.types.now c.args.ty both l c.in_ok-find_one.field-0) c.new.ensures
-    (subst (λ l. IsOneAnswer c.args.types.now c.args.ty l c.new.result c.in_ok-find_one.field-0) c.in_ok-wanted.ensures c.in_ok-find_one.ensures.answer)))
+    (subst (λ l. IsOneAnswer c.args.types.now c.args.ty l c.new.result c.in_ok-find_one.field-0) c.in_ok-wanted.ensures c.in_ok-find_one.ensures)))
 
-pub returns : goal.returns
-returns c =
+pub returns-in-Some : goal.returns-in-Some
+returns-in-Some c =
     let both = (c.args.one.now ∷ []) ∷ (c.args.other.now ∷ []) ∷ [] in
     is-common c.args.types.now c.args.ty c.args.one.now c.args.other.now c.in-Some.pat
     (subst (IsOneAnswer c.args.types.now c.args.ty both []) c.in-Some.is
     (subst (λ l. IsOneAnswer c.args.types.now c.args.ty both l c.in_ok-find_one.field-0) c.new.ensures
-    (subst (λ l. IsOneAnswer c.args.types.now c.args.ty l c.new.result c.in_ok-find_one.field-0) c.in_ok-wanted.ensures c.in_ok-find_one.ensures.answer)))
+    (subst (λ l. IsOneAnswer c.args.types.now c.args.ty l c.new.result c.in_ok-find_one.field-0) c.in_ok-wanted.ensures c.in_ok-find_one.ensures)))

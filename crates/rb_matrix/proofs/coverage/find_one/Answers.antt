@@ -1,13 +1,12 @@
-use Rattle.std.proofs.Common.{[], ◌∷◌, ◌++◌, ap, ◌∙◌, subst}
+use Rattle.std.proofs.Common.{◌∷◌, ap, ◌∙◌, subst}
 use Rattle.rb_matrix.specs.Search.{IsAnswer}
 use Rattle.rb_matrix.proofs.Exhausts.{found-one}
 use Rattle.rb_matrix.proofs.coverage.find_one.Goals as goal
 
-pub returns-in-Some-pop-clause-answer : goal.returns-in-Some-pop-clause-answer
-returns-in-Some-pop-clause-answer c =
+pub returns-in-Some-pop : goal.returns-in-Some-pop
+returns-in-Some-pop c =
     let types = c.args.types.now in
     let found = c.in_ok-found.found in
-    let one = c.in_ok-push.ensures.ok ∙ ap (λ l. l ++ c.args.ty ∷ []) c.new-tys.ensures in
-    let answer = subst (λ l. IsAnswer types l c.args.wanted c.args.unwanted.now found) one
-    (subst (λ l. IsAnswer types c.push.new.self c.args.wanted l found) c.replace.ensures.value c.in_ok-found.ensures) in
-    found-one types c.args.ty c.args.wanted c.args.unwanted.now found answer c.in-Some.row _ c.in-Some-pop.pat c.in-Some.is c.in-Some-pop.ensures
+    let one = c.in_ok-push.ensures ∙ ap (λ l. c.args.ty ∷ l) c.new-tys.ensures in
+    let answer = subst (λ l. IsAnswer types l c.args.wanted c.args.unwanted found) one c.in_ok-found.ensures in
+    found-one types c.args.ty c.args.wanted c.args.unwanted found answer c.in-Some.row _ c.in-Some-pop.pat c.in-Some.is c.in-Some-pop.ensures

@@ -1,8 +1,7 @@
-use Rattle.std.proofs.Common.{◌≡◌, [], ◌∷◌, ◌++◌, take, Some, refl, sym, ap, ◌∙◌, subst, arith}
+use Rattle.std.proofs.Common.{◌≡◌, Some, refl, subst, arith}
 use Rattle.std.specs.Prelude.{slice_get}
 use Rattle.std.proofs.lemmas.Option.{slice_get_read}
-use Rattle.rb_matrix.specs.Exhaust.{IsReachAnswer, one_each}
-use Rattle.rb_matrix.proofs.Exhausts.{one_each-more}
+use Rattle.rb_matrix.specs.Exhaust.{IsReachAnswer}
 use Rattle.rb_matrix.proofs.Passing.{passed-more}
 use Rattle.rb_matrix.proofs.Reaches.{reached-more, unreached-more}
 use Rattle.rb_matrix.proofs.coverage.unreached.Goals as goal
@@ -13,9 +12,7 @@ loop-i-preserved-then-reached c =
     let at : slice_get rows i ≡ Some p = slice_get_read rows _ i p refl (omega arith) c.index-rows-i.is in
     record {
       unreached = reached-more c.args.types.now c.args.ty rows i c.loop-i.numbers.items c.loop-i.invariant.unreached
-          (subst (IsReachAnswer c.args.types.now c.args.ty rows i) c.if-reached.true c.in_ok-reached.ensures.reached);
-      before = c.in_ok-push.ensures.ok ∙ ap (λ l. l ++ c.in_ok-row.row ∷ []) (c.in_ok-reached.ensures.same ∙ c.loop-i.invariant.before)
-          ∙ ap (λ r. one_each (take i rows) ++ r ∷ []) c.in_ok-row.ensures ∙ sym (one_each-more rows i p at);
+          (subst (IsReachAnswer c.args.types.now c.args.ty rows i) c.if-reached.true c.in_ok-reached.ensures);
       passed = passed-more rows i p c.loop-i.passed _ at c.loop-i.invariant.passed c.in_ok-add.ensures.all c.in_ok-add.ensures.numbers;
     }
 
@@ -24,9 +21,7 @@ loop-i-preserved c =
     let rows = c.args.rows.now in let i = c.loop-i.i in let p = c.index-rows-i.result in
     let at : slice_get rows i ≡ Some p = slice_get_read rows _ i p refl (omega arith) c.index-rows-i.is in
     record {
-      unreached = unreached-more c.args.types.now c.args.ty rows i c.loop-i.numbers.items c.loop-i.invariant.unreached _ c.in_ok-push-2.ensures.items
-          (subst (IsReachAnswer c.args.types.now c.args.ty rows i) c.if-reached.false c.in_ok-reached.ensures.reached);
-      before = c.in_ok-push.ensures.ok ∙ ap (λ l. l ++ c.in_ok-row.row ∷ []) (c.in_ok-reached.ensures.same ∙ c.loop-i.invariant.before)
-          ∙ ap (λ r. one_each (take i rows) ++ r ∷ []) c.in_ok-row.ensures ∙ sym (one_each-more rows i p at);
+      unreached = unreached-more c.args.types.now c.args.ty rows i c.loop-i.numbers.items c.loop-i.invariant.unreached _ c.in_ok-push.ensures.items
+          (subst (IsReachAnswer c.args.types.now c.args.ty rows i) c.if-reached.false c.in_ok-reached.ensures);
       passed = passed-more rows i p c.loop-i.passed _ at c.loop-i.invariant.passed c.in_ok-add.ensures.all c.in_ok-add.ensures.numbers;
     }

@@ -1,11 +1,10 @@
-use Rattle.std.proofs.Common.{◌≡◌, take}
-use Rattle.rb_matrix.specs.Exhaust.{AreUnreachedOf, one_each}
+use Rattle.std.proofs.Common.{take}
+use Rattle.rb_matrix.specs.Exhaust.{AreUnreachedOf}
 use Rattle.rb_matrix.specs.inner.Passed.{ArePassed}
 use Rattle.rb_matrix.proofs.coverage.unreached.Given as goal
 
 abbrev pub invariant-loop-i : goal.invariant-loop-i
 invariant-loop-i l = record {
   unreached : AreUnreachedOf l.types l.ty l.rows l.i l.numbers.items;
-  before : l.before ≡ one_each (take l.i l.rows);
   passed : ArePassed (take l.i l.rows) l.passed;
 }

@@ -1,21 +1,22 @@
-use Rattle.std.proofs.Common.{◌∷◌, ◌++◌, [], List, length, sym, ap, ◌∙◌, arith}
+use Rattle.std.proofs.Common.{◌∷◌, ◌++◌, [], List, length, refl, sym, ap, ◌∙◌, arith}
 use Rattle.std.specs.Option.{option_copied}
 use Rattle.rb_matrix.specs.declared.problem.Step.{Step}
 use Rattle.rb_matrix.specs.Specialize.{special}
+use Rattle.rb_matrix.specs.Problems.{with_column}
 use Rattle.rb_matrix.proofs.Parts.{no-fields}
 use Rattle.rb_matrix.proofs.Splits.{part-gone, part-at}
 use Rattle.rb_matrix.proofs.part.part_at.Goals as goal
 
 pub returns-in_default : goal.returns-in_default
 returns-in_default c =
-    no-fields c.args.types.now c.args.ty c.args.head c.args.rest.now c.args.problem.now.wanted c.args.problem.now.unwanted
+    no-fields c.args.types.now c.args.ty c.args.head c.args.behind.now.tys c.args.behind.now.wanted c.args.behind.now.unwanted
     (sym c.head_fields.ensures ∙ ap option_copied c.in_default.is)
 
 pub returns-then-len : goal.returns-then-len
 returns-then-len c =
     let at = sym c.head_fields.ensures ∙ ap option_copied c.in-Some.is in
     let w = c.in_ok-wanted.ensures ∙ ap (special c.args.head (length c.in-Some.fields.now)) c.as_slice.ensures in
-    part-gone c.args.types.now c.args.ty c.args.rest.now c.args.problem.now c.requires.columns c.args.head c.in-Some.fields.now at c.in_ok-wanted.wanted w (omega arith)
+    part-gone c.args.types.now c.args.ty c.args.behind.now.tys (with_column c.args.ty c.args.behind.now) refl c.args.head c.in-Some.fields.now at c.in_ok-wanted.wanted w (omega arith)
 
 pub returns : goal.returns
 returns c =
@@ -23,7 +24,7 @@ returns c =
     let w = c.in_ok-wanted.ensures ∙ ap (special c.args.head (length c.in-Some.fields.now)) c.as_slice.ensures in
     let u = c.in_ok-unwanted.ensures ∙ ap (special c.args.head (length c.in-Some.fields.now)) c.as_slice-2.ensures in
     let s = c.in_ok-steps.ensures ∙ ap (λ (l : List Step). l ++ c.step_for-step.result ∷ []) c.as_slice-3.ensures
-    ∙ ap (λ (x : Step). c.args.problem.now.steps ++ x ∷ []) c.step_for-step.ensures in
-    part-at c.args.types.now c.args.ty c.args.rest.now c.args.problem.now c.requires.columns c.args.head c.in-Some.fields.now at
+    ∙ ap (λ (x : Step). c.args.behind.now.steps ++ x ∷ []) c.step_for-step.ensures in
+    part-at c.args.types.now c.args.ty c.args.behind.now.tys (with_column c.args.ty c.args.behind.now) refl c.args.head c.in-Some.fields.now at
     (record { tys = c.in_ok-tys.tys; wanted = c.in_ok-wanted.wanted; unwanted = c.in_ok-unwanted.unwanted; steps = c.in_ok-steps.steps })
     c.in_ok-tys.ensures w u (omega arith) c.requires.inhabited c.requires.lives c.requires.stands s

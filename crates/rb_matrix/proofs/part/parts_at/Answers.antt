@@ -1,24 +1,17 @@
-use Rattle.std.proofs.Common.{◌∷◌, ◌++◌, [], ◌+◌, take, get_or, sym, subst, arith}
-use Rattle.rb_matrix.specs.declared.matrix.Head.{Head}
-use Rattle.rb_matrix.specs.declared.matrix.Head.TheVariants as H
-use Rattle.rb_matrix.specs.Problems.{AreByHeads, IsPartAt}
-use Rattle.rb_matrix.proofs.Splits.{one-less, one-more, taken-more}
+use Rattle.std.proofs.Common.{◌++◌, refl, sym, subst}
+use Rattle.std.specs.Option.{option_to_list}
+use Rattle.rb_matrix.specs.Problems.{AreByHeads, with_column}
+use Rattle.rb_matrix.proofs.Splits.{one-option, no-heads}
 use Rattle.rb_matrix.proofs.part.parts_at.Goals as goal
 
-abbrev first : Head
-first = H.Con (record { ty = 0; con = 0 })
+pub returns-in_default : goal.returns-in_default
+returns-in_default c = no-heads c.args.types.now c.args.ty c.args.behind.tys (with_column c.args.ty c.args.behind) refl _ _ c.in_default.ensures.0 c.new.ensures.items
 
-pub loop-head-preserved-in_default : goal.loop-head-preserved-in_default
-loop-head-preserved-in_default c =
-    let here = get_or c.args.heads.now c.loop-head.head-index first in
-    let gone = subst (IsPartAt c.args.types.now c.args.ty c.args.rest.now c.args.problem.now here) c.in_default.is c.in_ok-part.ensures in
-    subst (λ hs. AreByHeads c.args.types.now c.args.ty c.args.rest.now c.args.problem.now hs c.loop-head.parts.items) (sym (taken-more c.args.heads.now c.loop-head.head-index first (omega arith)))
-    (one-less c.args.types.now c.args.ty c.args.rest.now c.args.problem.now c.requires.columns (take c.loop-head.head-index c.args.heads.now) here c.loop-head.parts.items c.loop-head.invariant gone)
-
-pub loop-head-preserved : goal.loop-head-preserved
-loop-head-preserved c =
-    let here = get_or c.args.heads.now c.loop-head.head-index first in
-    let part = subst (IsPartAt c.args.types.now c.args.ty c.args.rest.now c.args.problem.now here) c.in-Some.is c.in_ok-part.ensures in
-    subst (λ cs. AreByHeads c.args.types.now c.args.ty c.args.rest.now c.args.problem.now (take (c.loop-head.head-index + 1) c.args.heads.now) cs) (sym c.in_ok-push.ensures.items)
-    (subst (λ hs. AreByHeads c.args.types.now c.args.ty c.args.rest.now c.args.problem.now hs (c.loop-head.parts.items ++ c.in-Some.part ∷ [])) (sym (taken-more c.args.heads.now c.loop-head.head-index first (omega arith)))
-    (one-more c.args.types.now c.args.ty c.args.rest.now c.args.problem.now c.requires.columns (take c.loop-head.head-index c.args.heads.now) here c.loop-head.parts.items c.in-Some.part c.loop-head.invariant part))
+pub returns : goal.returns
+returns c =
+    let p = with_column c.args.ty c.args.behind in
+    subst (λ cs. AreByHeads c.args.types.now c.args.ty c.args.behind.tys p c.args.heads cs) (sym c.in_ok-add_part.ensures)
+    (subst (λ hs. AreByHeads c.args.types.now c.args.ty c.args.behind.tys p hs (c.in_ok-parts.parts.items ++ option_to_list c.in_ok-part.part)) (sym c.in-Some.ensures)
+    (one-option c.args.types.now c.args.ty c.args.behind.tys p refl c.pop.new.self c.in-Some.last c.in_ok-parts.parts.items c.in_ok-part.part
+    (subst (λ hs. AreByHeads c.args.types.now c.args.ty c.args.behind.tys p hs c.in_ok-parts.parts.items) c.as_slice.ensures c.in_ok-parts.ensures)
+    c.in_ok-part.ensures))

@@ -1,24 +1,18 @@
-use Rattle.std.proofs.Common.{◌∷◌, ◌++◌, [], List, sym, ap, ◌∙◌, subst, arith}
-use Rattle.rb_matrix.specs.declared.problem.Step.{Step}
-use Rattle.rb_matrix.specs.declared.problem.Step.TheVariants.{Front}
+use Rattle.std.proofs.Common.{◌∷◌, ◌++◌, [], List, refl, sym, ap, ◌∙◌, subst, arith}
 use Rattle.rb_matrix.specs.declared.problem.Problem.{Problem}
-use Rattle.rb_matrix.specs.Specialize.{defaults}
-use Rattle.rb_matrix.specs.Problems.{IsSplit}
+use Rattle.rb_matrix.specs.Problems.{IsSplit, with_column}
 use Rattle.rb_matrix.proofs.Splits.{rest-gone, rest-split}
 use Rattle.rb_matrix.proofs.part.rest_parts.Goals as goal
 
-pub returns-then-len : goal.returns-then-len
-returns-then-len c =
-    rest-gone c.args.types.now c.args.ty c.args.rest.now c.args.problem.now c.requires.columns c.requires.none c.in_ok-wanted.wanted
-    (c.in_ok-wanted.ensures ∙ ap defaults c.as_slice.ensures) (omega arith) _ c.new-parts.ensures.items
+pub returns-then-len-count : goal.returns-then-len-count
+returns-then-len-count c =
+    rest-gone c.args.types.now c.args.ty c.args.behind.tys (with_column c.args.ty c.args.behind) refl c.requires.none c.in_ok-wanted.wanted
+    c.in_ok-wanted.ensures (omega arith) _ c.new-parts.ensures.items
 
 pub returns : goal.returns
 returns c =
-    let w = c.in_ok-wanted.ensures ∙ ap defaults c.as_slice.ensures in
-    let u = c.in_ok-unwanted.ensures ∙ ap defaults c.as_slice-2.ensures in
-    let s = c.in_ok-steps.ensures ∙ ap (λ (l : List Step). l ++ Front c.args.beside ∷ []) c.as_slice-3.ensures in
-    let part : Problem = record { tys = c.in_ok-tys.tys; wanted = c.in_ok-wanted.wanted; unwanted = c.in_ok-unwanted.unwanted; steps = c.in_ok-steps.steps } in
-    let only = c.in_ok-push.ensures.items ∙ ap (λ (l : List Problem). l ++ part ∷ []) c.new-parts.ensures.items in
-    subst (IsSplit c.args.types.now c.args.problem.now) (sym only)
-    (rest-split c.args.types.now c.args.ty c.args.rest.now c.args.problem.now c.requires.columns c.args.beside c.requires.none c.requires.beside c.requires.lives
-    part c.in_ok-tys.ensures w u (omega arith) s)
+    let part : Problem = record { tys = c.args.behind.tys; wanted = c.in_ok-wanted.wanted; unwanted = c.in_ok-unwanted.unwanted; steps = c.push.new.self } in
+    let only = c.in_ok-push-2.ensures.items ∙ ap (λ (l : List Problem). l ++ part ∷ []) c.new-parts.ensures.items in
+    subst (IsSplit c.args.types.now (with_column c.args.ty c.args.behind)) (sym only)
+    (rest-split c.args.types.now c.args.ty c.args.behind.tys (with_column c.args.ty c.args.behind) refl c.args.beside c.requires.none c.requires.beside c.requires.lives
+    part refl c.in_ok-wanted.ensures c.in_ok-unwanted.ensures (omega arith) c.in_ok-push.ensures.ok)

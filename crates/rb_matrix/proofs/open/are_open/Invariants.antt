@@ -1,6 +1,6 @@
 use Rattle.std.proofs.Common.{◌≡◌, drop}
 use Rattle.rb_matrix.specs.Open.{is_open}
-use Rattle.rb_matrix.proofs.open.is_open.Given as goal
+use Rattle.rb_matrix.proofs.open.are_open.Given as goal
 
 abbrev pub invariant-loop-pat : goal.invariant-loop-pat
-invariant-loop-pat l = is_open (drop l.pat-index l.row) ≡ is_open l.row
+invariant-loop-pat l = is_open (drop l.pat-index l.pats) ≡ is_open l.pats
