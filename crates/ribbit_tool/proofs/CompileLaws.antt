@@ -1,5 +1,5 @@
 -- What the program promises gives the headline of `compile`, and `exec` of what it writes does as the source.
-use Rattle.std.proofs.Common.{◌≡◌, ◌≤◌, ℕ, ◌+◌, List, [], ◌∷◌, length, length-append, Bool, Some, sym, ap, subst, ◌∙◌, Ok}
+use Rattle.std.proofs.Common.{◌≡◌, ℕ, ◌+◌, List, [], ◌∷◌, length, length-append, Bool, sym, ap, subst, ◌∙◌, Ok}
 use Rattle.std.proofs.lemmas.Bool.{eq-eqb}
 use Rattle.std.specs.Prelude.{slice_get, if◌then◌else◌}
 use Rattle.rb_bytes.proofs.MemoryLemmas.{empty_good}
@@ -28,6 +28,7 @@ use Rattle.ribbit_tool.specs.Reading.{Source, handed_out, file_limit}
 use Rattle.ribbit_tool.specs.declared.status.Status.TheVariants.{Argument}
 use Rattle.ribbit_tool.proofs.Executing.{executed_themselves}
 use Rattle.ribbit_tool.proofs.HeadlineLaws.{follows}
+use Rattle.ribbit_tool.proofs.OneCommand.{one_meaning}
 use Rattle.ribbit_tool.proofs.OneProgram.{one_program, accepted_unrefused}
 
 -- The command -------------------------------------------------------------------------------
@@ -53,7 +54,8 @@ module _ (bytes : List ℕ) (p : Program) (a : IsAccepted bytes p) (out err : Ch
 
 pub compile_headlined : (words : List (List ℕ)) (source : Source) (out err : Change) (steps : Counting) (status : ℕ) → IsRight words source out err steps status
     → CompileHeadline words source out err status
-compile_headlined words source out err steps status r file parsed bytes gave p a calm =
+compile_headlined words source out err steps status r file written bytes gave p a calm =
+    let parsed : r.parsed ≡ Ok (compile file) = one_meaning words r.parsed (Ok (compile file)) r.meant written in
     let given = r.complete calm in
     let due = given.0 in
     let owed : Answers (Ok (compile file)) (handed_out source) due = subst (λ (x : Parsed). Answers x (handed_out source) due) parsed given.1 in
@@ -83,6 +85,6 @@ compiled_texts_run agreed code compiled g f is first limits low high clean args 
     let other : Due = refusal Argument (count_line wanted (length words)) in (
       run,
       executed_themselves code compiled.valid f.name limits words due executes ∙ ap (named_due code f.name limits words) first
-      ∙ ap (λ (b : Bool). if b then own else other) (eq-eqb (length words) wanted many),
+          ∙ ap (λ (b : Bool). if b then own else other) (eq-eqb (length words) wanted many),
       compiled.refines.runs g f is clean args words m limits.calls (empty_good limits.region low high) reps,
     )

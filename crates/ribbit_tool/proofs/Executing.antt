@@ -1,5 +1,5 @@
 -- The text of valid code is executed as just that code.
-use Rattle.std.proofs.Common.{◌≡◌, List, refl, sym, ap, ◌∙◌, subst}
+use Rattle.std.proofs.Common.{List, refl, sym, ap, ◌∙◌, subst}
 use Rattle.rb_target.specs.declared.code.CodeFun.{CodeFun}
 use Rattle.rb_target.specs.Faults.{Stands}
 use Rattle.rb_target.specs.Stopping.{IsTextOf}
@@ -8,7 +8,7 @@ use Rattle.rb_target.specs.Validity.{IsValid}
 use Rattle.rb_target.proofs.Checks.{not_valid}
 use Rattle.rb_target.proofs.ReadLemmas.{text_of_valid}
 use Rattle.rb_target.proofs.StopLemmas.{none_whole, one_text}
-use Rattle.ribbit_tool.specs.Exec.{Executes, executed, faulty, no_code, exec_due}
+use Rattle.ribbit_tool.specs.Exec.{executed, faulty, no_code, exec_due}
 use Rattle.ribbit_tool.specs.Laws.{AreExecuted}
 
 own_text : (funs : List CodeFun) → IsValid funs → IsTextOf (code_text funs) funs

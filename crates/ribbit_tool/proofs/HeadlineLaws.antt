@@ -21,6 +21,7 @@ use Rattle.ribbit_tool.specs.Promise.{Counting, Gives, IsRight}
 use Rattle.ribbit_tool.specs.Reading.{Source, ReadsOne, unread, within, too_long, not_read, handed_out, whole, file_limit}
 use Rattle.ribbit_tool.specs.Run.{IsAnswered, answer_due, source_answer, value_line, Prepares, PreparesFile, prepared, misfit}
 use Rattle.ribbit_tool.proofs.ArgumentLaws.{never_misfit, same_values}
+use Rattle.ribbit_tool.proofs.OneCommand.{one_meaning}
 use Rattle.ribbit_tool.proofs.OneProgram.{one_program, accepted_unrefused}
 use Rattle.ribbit_tool.proofs.ReadLaws.{going≢ended, failed≢ended}
 
@@ -82,7 +83,8 @@ module _ (command : List ℕ → Limits → List (List ℕ) → Command) (Then :
     → (out err : Change) (steps : Counting) (status : ℕ) → Gives due out err steps status → Promised p args limits out err status) where
   pub of_calls : (words : List (List ℕ)) (source : Source) (out err : Change) (steps : Counting) (status : ℕ) → IsRight words source out err steps status
       → OfCalls command Promised words source out err status
-  of_calls words source out err steps status r file limits values parsed bytes gave p a args spelled calm =
+  of_calls words source out err steps status r file limits values written bytes gave p a args spelled calm =
+      let parsed : r.parsed ≡ Ok (command file limits values) = one_meaning words r.parsed (Ok (command file limits values)) r.meant written in
       let given = r.complete calm in
       let due = given.0 in
       let owed : Answers (Ok (command file limits values)) (handed_out source) due = subst (λ (x : Parsed). Answers x (handed_out source) due) parsed given.1 in

@@ -21,7 +21,7 @@ use Rattle.rb_target.specs.declared.code.CodeFun.{CodeFun}
 use Rattle.rb_target.specs.declared.outcome.End.{End}
 use Rattle.ribbit_tool.specs.Answer.{Due, printed}
 use Rattle.ribbit_tool.specs.Answers.{Answers}
-use Rattle.ribbit_tool.specs.Command.{Limits, Parsed, image, count, genrun}
+use Rattle.ribbit_tool.specs.Command.{Limits, Parsed, image, count, gen, genrun}
 use Rattle.ribbit_tool.specs.Count.{IsCount, IsMainTally, count_text}
 use Rattle.ribbit_tool.specs.Delivery.{Change}
 use Rattle.ribbit_tool.specs.Exec.{end_due}
@@ -32,6 +32,7 @@ use Rattle.ribbit_tool.specs.Promise.{Counting, Gives, IsRight}
 use Rattle.ribbit_tool.specs.Reading.{Source, handed_out}
 use Rattle.ribbit_tool.specs.Run.{answer_due, laid_all, source_answer, unbounded, whole_answer}
 use Rattle.ribbit_tool.proofs.HeadlineLaws.{Ready, ready_as, of_calls, says}
+use Rattle.ribbit_tool.proofs.OneCommand.{one_meaning}
 
 -- Images ------------------------------------------------------------------------------------
 
@@ -119,11 +120,13 @@ count_headlined = of_calls count Counted SaysCount (λ file limits values readin
 pub generate_headlined : (words : List (List ℕ)) (source : Source) (out err : Change) (steps : Counting) (status : ℕ) → IsRight words source out err steps status
     → GenerateHeadline words out err status
 generate_headlined words source out err steps status r = record {
-  text = λ functions parsed calm.
+  text = λ functions written calm.
+      let parsed : r.parsed ≡ Ok (gen functions) = one_meaning words r.parsed (Ok (gen functions)) r.meant written in
       let given = r.complete calm in
       let is : given.0 ≡ printed (generated functions) 0 = subst (λ (x : Parsed). Answers x (handed_out source) given.0) parsed given.1 in
       let g = subst (λ (d : Due). Gives d out err steps status) is given.2 in (g.status_is, g.shown.0, g.shown.1);
-  counts = λ functions limits parsed p a args spelled calm.
+  counts = λ functions limits written p a args spelled calm.
+      let parsed : r.parsed ≡ Ok (genrun functions limits) = one_meaning words r.parsed (Ok (genrun functions limits)) r.meant written in
       let given = r.complete calm in
       let owed : Answers (Ok (genrun functions limits)) (handed_out source) given.0 = subst (λ (x : Parsed). Answers x (handed_out source) given.0) parsed given.1 in
       count_says p args limits given.0 (ready_as (Counted limits) [] (generated functions) p a args spelled given.0 owed) out err steps status given.2;

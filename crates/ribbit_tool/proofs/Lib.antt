@@ -14,7 +14,9 @@ pub mod LayoutRefusals
 pub mod Meeting
 pub mod Named
 pub mod Numbered
+pub mod OneCommand
 pub mod OneCompletion
+pub mod OneCut
 pub mod OneProgram
 pub mod OpeningLaws
 pub mod Owing
@@ -24,8 +26,9 @@ pub mod NotUnread
 pub mod ReadFaults
 pub mod ReadLaws
 pub mod ResultTypes
+pub mod Stopping
 pub mod TextLaws
-pub mod Tokens
 pub mod ValueLaws
 pub mod WordTexts
+pub mod Worded
 pub mod WordsRead

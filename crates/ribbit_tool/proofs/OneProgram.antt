@@ -28,20 +28,24 @@ use Rattle.rb_names.specs.declared.complete.Completed.{Completed}
 use Rattle.rb_read.proofs.OneAnswer.{answered}
 use Rattle.rb_read.specs.Files.{IsAnswer}
 use Rattle.rb_read.specs.declared.fault.ReadFault.{ReadFault}
-use Rattle.rb_syntax.specs.Lexing.{Lexed}
+use Rattle.rb_syntax.specs.Cutting.{HasTokens}
 use Rattle.rb_syntax.specs.Tokens.{tokens}
+use Rattle.rb_syntax.specs.declared.lex.LexFault.{LexFault}
+use Rattle.rb_syntax.specs.declared.lex.LexFault.TheVariants as lexing
 use Rattle.rb_syntax.specs.declared.token.Placed.{Placed}
 use Rattle.rb_syntax.specs.declared.token.Token.{Token}
 use Rattle.rb_syntax.specs.declared.tree.FileTree.{FileTree}
-use Rattle.ribbit_tool.specs.Accepting.{IsRead, IsNamedWith, IsNamed, IsProgramOf, completed_as, IsAccepted, IsRefused, uncut, misread, misnamed, mistyped, uncovered, underived, mislaid}
+use Rattle.ribbit_tool.specs.Accepting.{IsRead, IsNamedWith, IsNamed, IsProgramOf, completed_as, IsAccepted, IsUncut, IsRefused, uncut, misread, misnamed, mistyped, uncovered, underived, mislaid}
 use Rattle.ribbit_tool.specs.Answer.{Due}
 use Rattle.ribbit_tool.proofs.OneCompletion.{one_completion}
-use Rattle.ribbit_tool.proofs.Tokens.{ok_tokens}
+use Rattle.ribbit_tool.proofs.OneCut.{one_cut, never_bad, never_wide}
 
--- the same tokens
+-- what has tokens is cut to its end
 
-same_tokens : (text : Lexed) (ps qs : List Placed) → text ≡ Ok ps → text ≡ Ok qs → ps ≡ qs
-same_tokens text ps qs e f = ok_tokens ps qs (sym e ∙ f)
+pub never_uncut : (bytes : List ℕ) (placed : List Placed) (fault : LexFault) → HasTokens bytes placed → IsUncut bytes fault → ⊥
+never_uncut bytes placed (lexing.BadByte at) h k = never_bad bytes placed at h k
+never_uncut bytes placed (lexing.NumberTooWide at) h k = never_wide bytes placed at h k
+never_uncut bytes placed lexing.Memory h k = k
 
 -- the same tree
 
@@ -64,7 +68,7 @@ never_misread ts file fault h k = elim (answered ts (Ok file) (Err fault) h k) [
 
 same_file : (bytes : List ℕ) (placed : List Placed) (qs : List Placed) (file other : FileTree) → IsRead bytes placed file → IsRead bytes qs other → file ≡ other
 same_file bytes placed qs file other h k =
-    let same : qs ≡ placed = same_tokens _ qs placed k.cut h.cut in
+    let same : qs ≡ placed = one_cut bytes qs placed k.cut h.cut in
     one_file (tokens placed) file other h.tree (subst (λ (ps : List Placed). IsAnswer (tokens ps) (Ok other)) same k.tree)
 
 -- the same program
@@ -138,9 +142,9 @@ never_mislaid p fault h refused =
     never_found p (flat_layouts p) (all_spots p (flat_layouts p)) (refused.0, fault.why) ((places_are_all p (flat_layouts p)).1 h) refused.1
 
 pub accepted_unrefused : (bytes : List ℕ) (p : Program) (due : Due) → IsAccepted bytes p → IsRefused bytes due → ⊥
-accepted_unrefused bytes p due a (uncut fault cut e) = absurd (cc (sym a.named.read.cut ∙ cut))
+accepted_unrefused bytes p due a (uncut fault cut e) = never_uncut bytes a.placed fault a.named.read.cut cut
 accepted_unrefused bytes p due a (misread placed cut fault answer e) =
-    let same : placed ≡ a.placed = same_tokens _ placed a.placed cut a.named.read.cut in
+    let same : placed ≡ a.placed = one_cut bytes placed a.placed cut a.named.read.cut in
     never_misread (tokens a.placed) a.named.file fault a.named.read.tree (subst (λ (ps : List Placed). IsAnswer (tokens ps) (Err fault)) same answer)
 accepted_unrefused bytes p due a (misnamed placed file read fault named e) =
     let same : file ≡ a.named.file = same_file bytes placed a.placed file a.named.file read a.named.read in

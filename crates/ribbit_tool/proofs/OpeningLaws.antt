@@ -1,5 +1,5 @@
 -- A command that reads an image after its file owes what is due to what was read of both.
-use Rattle.std.proofs.Common.{◌≡◌, ℕ, ◌≤◌, Bool, List, [], ◌∷◌, ◌++◌, length, drop, refl, sym, ap, subst, ◌∙◌, append_assoc, IsTrue, IfOk, IfErr, inl, inr, Option, Result, Ok, Err}
+use Rattle.std.proofs.Common.{◌≡◌, ℕ, ◌≤◌, Bool, List, [], ◌∷◌, ◌++◌, length, drop, refl, sym, ap, subst, ◌∙◌, append_assoc, IfOk, IfErr, inl, inr, Option, Result, Ok, Err}
 use Rattle.rb_core.specs.declared.program.Program.{Program}
 use Rattle.rb_edge.specs.Faults.{Rose}
 use Rattle.rb_edge.specs.History.{Reading}
@@ -10,7 +10,7 @@ use Rattle.ribbit_tool.specs.Accepting.{IsAccepted, IsRefused}
 use Rattle.ribbit_tool.specs.Answer.{Due}
 use Rattle.ribbit_tool.specs.Answers.{Answers, Owes, answered}
 use Rattle.ribbit_tool.specs.Command.{Command}
-use Rattle.ribbit_tool.specs.Opening.{AcceptsFirst, Following, IsGarbled, IsOpened, IsReadAs, Opens, ReadsImage, Spells, accepted, garbled, spelled, turned_down}
+use Rattle.ribbit_tool.specs.Opening.{AcceptsFirst, Following, IsGarbled, IsOpened, Opens, ReadsImage, Spells, accepted, garbled, spelled, turned_down}
 use Rattle.ribbit_tool.specs.Reading.{AreInTurn, Holds, IsReading, IsUnread, Reads, ReadsInTurn, Source, file_limit, handed_out, image_limit, unread, whole, within}
 use Rattle.ribbit_tool.specs.View.{IsRefusal}
 use Rattle.ribbit_tool.specs.declared.opening.Opened.{Opened}

@@ -2,15 +2,16 @@
 use Rattle.std.proofs.Common.{◌≡◌, ◌≢◌, ℕ, ◌⊎◌, inl, inr, List, refl, sym, ap, subst, ◌∙◌, arith}
 use Rattle.rb_edge.specs.Faults.{Rose}
 use Rattle.ribbit_tool.specs.Answer.{Due, printed, refused, status_of}
-use Rattle.ribbit_tool.specs.Answers.{AnswersWords, answered, out_of_memory, files_of}
-use Rattle.ribbit_tool.specs.Command.{command_of}
+use Rattle.ribbit_tool.specs.Answers.{Answers, Owes, answered, out_of_memory, files_of}
+use Rattle.ribbit_tool.specs.Command.{Parsed}
 use Rattle.ribbit_tool.specs.Delivery.{Change, Stood, Delivers, output, output_failed, error_line, error_failed}
 use Rattle.ribbit_tool.specs.Headline.{GivesHeld}
 use Rattle.ribbit_tool.specs.Numbers.{status_number}
-use Rattle.ribbit_tool.specs.Promise.{Counting, Shows, GivesAnswer, OwesWords, Performs, IsCalm, IsCutOff, IsMissing, IsRight}
+use Rattle.ribbit_tool.specs.Promise.{Counting, Shows, GivesAnswer, Performs, IsCalm, IsCutOff, IsMissing, IsRight}
 use Rattle.ribbit_tool.specs.Reading.{Source, handed_out}
 use Rattle.ribbit_tool.specs.declared.status.Status.{Status}
 use Rattle.ribbit_tool.specs.declared.status.Status.TheVariants as status
+use Rattle.ribbit_tool.proofs.OneCommand.{one_meaning}
 use Rattle.ribbit_tool.proofs.ReadFaults.{fault_of, IsHeld, held_of}
 
 -- no named status is that of a printed text or of a failed write
@@ -32,13 +33,13 @@ is_named status.Image = (λ e. omega (arith, e), λ e. omega (arith, e))
 
 module _ (words : List (List ℕ)) (source : Source) (out err : Change) (steps : Counting) (status : ℕ) where
   -- what is owed is the answer, unless memory ran out
-  data Kind (due : Due) : Type 0 where
-    right : AnswersWords words (handed_out source) due → Kind due
-    ran_out : status_of due ≡ 9 → Kind due
+  data Kind (parsed : Parsed) (due : Due) : Type 0 where
+    right : Answers parsed (handed_out source) due → Kind parsed due
+    ran_out : status_of due ≡ 9 → Kind parsed due
 
-  kind_of : (due : Due) → OwesWords words source due → Kind due
-  kind_of due (answered h) = right h
-  kind_of due (out_of_memory e) = ran_out (ap (λ (d : Due). status_of d) e)
+  kind_of : (parsed : Parsed) (due : Due) → Owes parsed (handed_out source) due → Kind parsed due
+  kind_of parsed due (answered h) = right h
+  kind_of parsed due (out_of_memory e) = ran_out (ap (λ (d : Due). status_of d) e)
 
   -- the text was taken and the status is its own; or a write failed
   data Delivery (due : Due) : Type 0 where
@@ -60,6 +61,9 @@ module _ (words : List (List ℕ)) (source : Source) (out err : Change) (steps :
   failing due (inr h) = inr h.2.rose
 
   module _ (r : Performs words source out err steps status) where
+    abbrev parsed : Parsed
+    parsed = r.parsed
+
     abbrev due : Due
     due = r.due
 
@@ -67,10 +71,10 @@ module _ (words : List (List ℕ)) (source : Source) (out err : Change) (steps :
     status_is no_8 = elim (delivery_of due r.delivers) [ cut_off is h ↦ absurd (no_8 is) | delivered is shown ↦ is ]
 
     -- what is owed is the answer to what was read
-    the_answer : status ≢ 8 → status ≢ 9 → AnswersWords words (handed_out source) due
-    the_answer no_8 no_9 = elim (kind_of due r.owes) [ right h ↦ h | ran_out e ↦ absurd (no_9 (status_is no_8 ∙ e)) ]
+    the_answer : status ≢ 8 → status ≢ 9 → Answers parsed (handed_out source) due
+    the_answer no_8 no_9 = elim (kind_of parsed due r.owes) [ right h ↦ h | ran_out e ↦ absurd (no_9 (status_is no_8 ∙ e)) ]
 
-    the_right : status ≢ 8 → status ≢ 9 → GivesAnswer words source out err steps status
+    the_right : status ≢ 8 → status ≢ 9 → GivesAnswer parsed source out err steps status
     the_right no_8 no_9 = elim (delivery_of due r.delivers) [
       | cut_off is h ↦ absurd (no_8 is)
       | delivered is shown ↦
@@ -83,26 +87,28 @@ module _ (words : List (List ℕ)) (source : Source) (out err : Change) (steps :
       | cut_off is h ↦ elim (failing due h) [ inl rose ↦ o rose | inr rose ↦ e rose ]
     ]
 
-    the_complete : IsCalm out err status → GivesAnswer words source out err steps status
+    the_complete : IsCalm out err status → GivesAnswer parsed source out err steps status
     the_complete calm = the_right (no_write_fault calm.0 calm.1) calm.2
 
     the_read_fault : status ≡ 7 → Rose source.before source.now ⊎ IsMissing source
     the_read_fault seven =
         let no_8 : status ≢ 8 = λ f. omega (arith, seven, f) in
         let no_9 : status ≢ 9 = λ f. omega (arith, seven, f) in
-        fault_of source (command_of words) due r.reads.in_turn (the_answer no_8 no_9) (sym (status_is no_8) ∙ seven)
+        fault_of source parsed due r.reads.in_turn (the_answer no_8 no_9) (sym (status_is no_8) ∙ seven)
 
-    the_write_fault : status ≡ 8 → (d : Due) × OwesWords words source d × IsCutOff d out err
+    the_write_fault : status ≡ 8 → (d : Due) × Owes parsed (handed_out source) d × IsCutOff d out err
     the_write_fault eight = elim (delivery_of due r.delivers) [
       | delivered is shown ↦ absurd (not_8 due (sym is ∙ eight))
       | cut_off is h ↦ (due, r.owes, h)
     ]
 
-    all_held : IsCalm out err status → IsHeld source (files_of (command_of words))
-    all_held calm = held_of source (command_of words) due r.reads.in_turn (the_answer (no_write_fault calm.0 calm.1) calm.2)
+    all_held : IsCalm out err status → IsHeld source (files_of parsed)
+    all_held calm = held_of source parsed due r.reads.in_turn (the_answer (no_write_fault calm.0 calm.1) calm.2)
 
   pub promised : Performs words source out err steps status → IsRight words source out err steps status
   promised r = record {
+    parsed = r.parsed;
+    meant = r.meant;
     reads = r.reads;
     right = the_right r;
     complete = the_complete r;
@@ -111,5 +117,6 @@ module _ (words : List (List ℕ)) (source : Source) (out err : Change) (steps :
   }
 
   pub gives_held : Performs words source out err steps status → GivesHeld words source out err status
-  gives_held r file limit one bytes told held short stood calm =
-      subst (λ (fs : List (List ℕ × ℕ)). IsHeld source fs) one (all_held r calm) bytes told held short stood
+  gives_held r other meant file limit one bytes told held short stood calm =
+      let same : r.parsed ≡ other = one_meaning words r.parsed other r.meant meant in
+      subst (λ (fs : List (List ℕ × ℕ)). IsHeld source fs) (ap (λ (p : Parsed). files_of p) same ∙ one) (all_held r calm) bytes told held short stood

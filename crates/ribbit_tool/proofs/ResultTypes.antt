@@ -1,7 +1,7 @@
 -- The result type of `main` of a typed program is one of its types.
-use Rattle.std.proofs.Common.{◌≡◌, ℕ, List, map, true, ◌&&◌, Option, Some, None, refl, arith}
+use Rattle.std.proofs.Common.{◌≡◌, List, map, true, ◌&&◌, Option, Some, None, refl, arith}
 use Rattle.std.proofs.lemmas.Bool.Decides.{nat_tests}
-use Rattle.std.specs.Prelude.{nat_lt, nat_le, length, slice_get}
+use Rattle.std.specs.Prelude.{nat_le, length, slice_get}
 use Rattle.std.specs.List.{list_all}
 use Rattle.rb_core.specs.declared.program.Fun.{Fun}
 use Rattle.rb_core.specs.declared.program.Param.{Param}

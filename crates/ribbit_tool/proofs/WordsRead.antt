@@ -1,6 +1,6 @@
 -- Numbers of words one after the other.
 use Rattle.std.proofs.Common.{refl, sym, ap, ◌≡◌, ℕ, List, [], ◌∷◌, ◌++◌, append_assoc, Some, Result, Ok, Err}
-use Rattle.ribbit_tool.specs.Command.{first_number}
+use Rattle.ribbit_tool.specs.inner.Parsing.{first_number}
 
 -- these numbers, and then the others
 abbrev pub prepended : List ℕ → Result (List ℕ) ℕ → Result (List ℕ) ℕ

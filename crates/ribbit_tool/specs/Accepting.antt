@@ -24,7 +24,7 @@ use Rattle.rb_read.specs.Files.{IsAnswer}
 use Rattle.rb_read.specs.declared.fault.ReadFault.{ReadFault}
 use Rattle.rb_read.specs.declared.fault.ReadFault.TheVariants as reading
 use Rattle.rb_show.specs.Refusals.{refusal_text}
-use Rattle.rb_syntax.specs.Lexing.{lexed}
+use Rattle.rb_syntax.specs.Cutting.{HasTokens, HasBadByte, HasWideNumber}
 use Rattle.rb_syntax.specs.Tokens.{tokens}
 use Rattle.rb_syntax.specs.declared.lex.LexFault.{LexFault}
 use Rattle.rb_syntax.specs.declared.lex.LexFault.TheVariants as lexing
@@ -50,7 +50,7 @@ byte_of placed size t = place_of (slice_get placed t) size
 
 -- the bytes are these tokens, and they are this file
 pub record IsRead (bytes : List ℕ) (placed : List Placed) (file : FileTree) : Type 0 where
-  pub cut : lexed bytes ≡ Ok placed
+  pub cut : HasTokens bytes placed
   pub tree : IsAnswer (tokens placed) (Ok file)
 
 -- and this is its program with the layouts that are left to the compiler, and the first of them that is refused
@@ -81,6 +81,12 @@ pub record IsAccepted (bytes : List ℕ) (p : Program) : Type 0 where
   pub agrees : Agrees p
 
 -- Refused files -----------------------------------------------------------------------------
+
+-- why the bytes are no tokens: a bad byte, or a number that is too wide
+abbrev pub IsUncut : List ℕ → LexFault → Type 0
+IsUncut bytes (lexing.BadByte at) = HasBadByte bytes at
+IsUncut bytes (lexing.NumberTooWide at) = HasWideNumber bytes at
+IsUncut bytes lexing.Memory = ⊥
 
 abbrev pub lex_due : LexFault → Due
 lex_due (lexing.BadByte at) = refusal status.Syntax (at_byte (codes "bad byte") at)
@@ -121,8 +127,8 @@ layout_due p fault = refusal status.Layout (ended (begun (refusal_text p.types (
 -- What is due to a file by the first of these that refuses it: tokens, grammar and limits, names,
 -- types, exhaustiveness, layouts that are derived, layouts.
 pub data IsRefused (bytes : List ℕ) (due : Due) : Type 0 where
-  uncut : (fault : LexFault) → lexed bytes ≡ Err fault → due ≡ lex_due fault → IsRefused bytes due
-  misread : (placed : List Placed) → lexed bytes ≡ Ok placed → (fault : ReadFault) → IsAnswer (tokens placed) (Err fault)
+  uncut : (fault : LexFault) → IsUncut bytes fault → due ≡ lex_due fault → IsRefused bytes due
+  misread : (placed : List Placed) → HasTokens bytes placed → (fault : ReadFault) → IsAnswer (tokens placed) (Err fault)
       → due ≡ read_due placed (length bytes) fault → IsRefused bytes due
   misnamed : (placed : List Placed) (file : FileTree) → IsRead bytes placed file → (fault : NameFault) → numbered file ≡ Err fault
       → due ≡ name_due placed (length bytes) fault → IsRefused bytes due

@@ -3,7 +3,7 @@ use Rattle.std.specs.Prelude.{◌≡◌, ℕ, List, [], ◌∷◌, Ok, Err}
 use Rattle.rb_edge.specs.History.{Reading}
 use Rattle.ribbit_tool.specs.Answer.{Due, refusal}
 use Rattle.ribbit_tool.specs.Check.{ChecksFile}
-use Rattle.ribbit_tool.specs.Command.{Parsed, check, layout, compile, run, image, count, gen, genrun, exec, value, command_of}
+use Rattle.ribbit_tool.specs.Command.{Parsed, check, layout, compile, run, image, count, gen, genrun, exec, value}
 use Rattle.ribbit_tool.specs.Compiling.{CompilesFile}
 use Rattle.ribbit_tool.specs.Count.{CountsFile}
 use Rattle.ribbit_tool.specs.Exec.{Executes}
@@ -44,10 +44,7 @@ Answers (Ok (exec code function limits words)) readings due = ReadsOne code code
 Answers (Ok (value file second)) readings due = ReadsValue file second readings due
 Answers (Err word) readings due = due ≡ refusal Usage (usage_line word)
 
-abbrev pub AnswersWords : List (List ℕ) → List Reading → Due → Type 0
-AnswersWords words readings due = Answers (command_of words) readings due
-
--- what is owed to the words over what was read: the answer, or memory ran out
+-- what is owed over what was read: the answer, or memory ran out
 pub data Owes (parsed : Parsed) (readings : List Reading) (due : Due) : Type 0 where
   answered : Answers parsed readings due → Owes parsed readings due
   out_of_memory : due ≡ refusal NoMemory no_memory_line → Owes parsed readings due

@@ -1,7 +1,7 @@
--- The command line: the words' meaning, or the number of the first word at fault.
-use Rattle.std.specs.Prelude.{ℕ, ◌+◌, ◌-◌, ◌^◌, List, [], ◌∷◌, codes, Option, Some, None, Result, Ok, Err, if◌then◌else◌}
-use Rattle.std.specs.Str.{bytes_eq}
-use Rattle.rb_core.specs.Decimal.{number_in}
+-- The command line: the words of each command, and the first word at fault where words are no command.
+use Rattle.std.specs.Prelude.{◌≡◌, ◌≤◌, ◌<◌, ℕ, suc, ◌^◌, List, [], ◌∷◌, ◌++◌, codes, length, map, take, Result, Ok, Err}
+use Rattle.std.specs.Fmt.{decimal}
+use Rattle.std.specs.List.{All}
 
 -- CALLS and REGION: how many calls a run may make, and the address at which its memory ends
 pub record Limits : Type 0 where
@@ -20,111 +20,78 @@ pub data Command : Type 0 where
   exec : (code : List ℕ) → (function : List ℕ) → (limits : Limits) → (words : List ℕ) → Command
   value : (file : List ℕ) → (image : List ℕ) → Command
 
--- the command, or the number of the first word at fault; words are counted from 1
+-- Commands as words -------------------------------------------------------------------------
+
+abbrev pub IsBetween : ℕ → ℕ → ℕ → Type 0
+IsBetween low high n = (low ≤ n) × (n ≤ high)
+
+abbrev pub AreLimits : Limits → Type 0
+AreLimits limits = IsBetween 0 1000000000 limits.calls × IsBetween 64 16777216 limits.region
+
+-- how many functions a generated file may have beside `up` and `main`
+abbrev pub IsFunctionCount : ℕ → Type 0
+IsFunctionCount functions = IsBetween 1 2000 functions
+
+-- the numbers of a command lie within their bounds
+abbrev pub IsWithinBounds : Command → Type 0
+IsWithinBounds (check file) = Unit {0}
+IsWithinBounds (layout file) = Unit {0}
+IsWithinBounds (compile file) = Unit {0}
+IsWithinBounds (run file limits values) = AreLimits limits
+IsWithinBounds (image file limits values) = AreLimits limits
+IsWithinBounds (count file limits values) = AreLimits limits
+IsWithinBounds (gen functions) = IsFunctionCount functions
+IsWithinBounds (genrun functions limits) = IsFunctionCount functions × AreLimits limits
+IsWithinBounds (exec code function limits words) = AreLimits limits × All (λ word. word < 2 ^ 64) words
+IsWithinBounds (value file second) = Unit {0}
+
+-- CALLS and REGION, and the words behind them
+abbrev pub with_limits : Limits → List (List ℕ) → List (List ℕ)
+with_limits limits behind = decimal limits.calls ∷ decimal limits.region ∷ behind
+
+-- how a command is written
+abbrev pub words_of : Command → List (List ℕ)
+words_of (check file) = codes "check" ∷ file ∷ []
+words_of (layout file) = codes "layout" ∷ file ∷ []
+words_of (compile file) = codes "compile" ∷ file ∷ []
+words_of (run file limits values) = codes "run" ∷ file ∷ with_limits limits values
+words_of (image file limits values) = codes "image" ∷ file ∷ with_limits limits values
+words_of (count file limits values) = codes "count" ∷ file ∷ with_limits limits values
+words_of (gen functions) = codes "gen" ∷ decimal functions ∷ []
+words_of (genrun functions limits) = codes "genrun" ∷ decimal functions ∷ with_limits limits []
+words_of (exec code function limits words) = codes "exec" ∷ code ∷ function ∷ with_limits limits (map decimal words)
+words_of (value file second) = codes "value" ∷ file ∷ second ∷ []
+
+pub record IsWordsOf (command : Command) (words : List (List ℕ)) : Type 0 where
+  pub bounded : IsWithinBounds command
+  pub written : words ≡ words_of command
+
+-- Words that are no command -----------------------------------------------------------------
+
+abbrev pub AreCommand : List (List ℕ) → Type 0
+AreCommand words = (command : Command) × IsWordsOf command words
+
+-- they are the first words of some command
+abbrev pub BeginCommand : List (List ℕ) → Type 0
+BeginCommand words = (more : List (List ℕ)) × AreCommand (words ++ more)
+
+-- The first word at fault, where words are counted from 1: the words before it begin a command, and with it they
+-- begin none. It is one more than the words where all of them begin a command and are none.
+pub record IsUsageAt (words : List (List ℕ)) (word : ℕ) : Type 0 where
+  pub good : ℕ
+  pub number : word ≡ suc good
+  pub within : good ≤ length words
+  pub before : BeginCommand (take good words)
+  pub here : good < length words → BeginCommand (take (suc good) words) → ⊥
+  pub at_end : good ≡ length words → AreCommand words → ⊥
+
+-- Words as they are read --------------------------------------------------------------------
+
+-- a command, or the number of the first word at fault
 abbrev pub Parsed : Type 0
 Parsed = Result Command ℕ
 
--- goes on with the word of this number, which is at fault where there is none
-abbrev pub with_word : ℕ → List (List ℕ) → (List ℕ → List (List ℕ) → Parsed) → Parsed
-with_word n [] go = Err n
-with_word n (w ∷ ws) go = go w ws
-
-abbrev pub at_number : ℕ → Option ℕ → (ℕ → Parsed) → Parsed
-at_number n None go = Err n
-at_number n (Some number) go = go number
-
--- goes on with the number that the word of this number spells
-abbrev pub with_number : ℕ → ℕ → ℕ → List (List ℕ) → (ℕ → List (List ℕ) → Parsed) → Parsed
-with_number n low high words go = with_word n words (λ w ws. at_number n (number_in low high w) (λ number. go number ws))
-
--- CALLS and REGION, from the word of this number on
-abbrev pub with_limits : ℕ → List (List ℕ) → (Limits → List (List ℕ) → Parsed) → Parsed
-with_limits n words go =
-    with_number n 0 1000000000 words (λ calls ws.
-    with_number (n + 1) 64 16777216 ws (λ region rest.
-    go (record { calls = calls; region = region }) rest))
-
--- the command where no word is left, of which the first would have this number
-abbrev pub alone : ℕ → Command → List (List ℕ) → Parsed
-alone n command [] = Ok command
-alone n command (w ∷ ws) = Err n
-
--- FILE and no more
-abbrev pub check_words : List (List ℕ) → Parsed
-check_words words = with_word 2 words (λ file ws. alone 3 (check file) ws)
-
-abbrev pub layout_words : List (List ℕ) → Parsed
-layout_words words = with_word 2 words (λ file ws. alone 3 (layout file) ws)
-
-abbrev pub compile_words : List (List ℕ) → Parsed
-compile_words words = with_word 2 words (λ file ws. alone 3 (compile file) ws)
-
--- FILE CALLS REGION and zero or more VALUE
-abbrev pub with_call : List (List ℕ) → (List ℕ → Limits → List (List ℕ) → Command) → Parsed
-with_call words command = with_word 2 words (λ file ws. with_limits 3 ws (λ limits values. Ok (command file limits values)))
-
-abbrev pub run_words : List (List ℕ) → Parsed
-run_words words = with_call words run
-
-abbrev pub image_words : List (List ℕ) → Parsed
-image_words words = with_call words image
-
-abbrev pub count_words : List (List ℕ) → Parsed
-count_words words = with_call words count
-
--- N, how many functions a generated file has beside `up` and `main`
-abbrev pub with_functions : List (List ℕ) → (ℕ → List (List ℕ) → Parsed) → Parsed
-with_functions words go = with_number 2 1 2000 words go
-
--- N and no more
-abbrev pub gen_words : List (List ℕ) → Parsed
-gen_words words = with_functions words (λ functions ws. alone 3 (gen functions) ws)
-
--- N CALLS REGION and no more
-abbrev pub genrun_words : List (List ℕ) → Parsed
-genrun_words words =
-    with_functions words (λ functions ws.
-    with_limits 3 ws (λ limits rest.
-    alone 5 (genrun functions limits) rest))
-
-abbrev pub first_number : ℕ → Option ℕ → Result (List ℕ) ℕ → Result (List ℕ) ℕ
-first_number n None rest = Err n
-first_number n (Some number) (Ok numbers) = Ok (number ∷ numbers)
-first_number n (Some number) (Err m) = Err m
-
--- the numbers below 2^64 that the words from this number on spell, or the number of the first that spells none
-abbrev pub numbers_from : ℕ → List (List ℕ) → Result (List ℕ) ℕ
-numbers_from n [] = Ok []
-numbers_from n (w ∷ ws) = first_number n (number_in 0 (2 ^ 64 - 1) w) (numbers_from (n + 1) ws)
-
-abbrev pub exec_of : List ℕ → List ℕ → Limits → Result (List ℕ) ℕ → Parsed
-exec_of code function limits (Ok words) = Ok (exec code function limits words)
-exec_of code function limits (Err n) = Err n
-
--- FUN CALLS REGION and zero or more WORD, behind CODE
-abbrev pub function_words : List ℕ → List (List ℕ) → Parsed
-function_words code words =
-    with_word 3 words (λ function ws.
-    with_limits 4 ws (λ limits rest.
-    exec_of code function limits (numbers_from 6 rest)))
-
--- CODE FUN CALLS REGION and zero or more WORD
-abbrev pub exec_words : List (List ℕ) → Parsed
-exec_words words = with_word 2 words (λ code ws. function_words code ws)
-
--- FILE IMAGE and no more
-abbrev pub value_words : List (List ℕ) → Parsed
-value_words words = with_word 2 words (λ file ws. with_word 3 ws (λ second rest. alone 4 (value file second) rest))
-
-unfoldable pub command_of : List (List ℕ) → Parsed
-command_of words = with_word 1 words (λ w ws.
-    if bytes_eq w (codes "check") then check_words ws else
-    if bytes_eq w (codes "layout") then layout_words ws else
-    if bytes_eq w (codes "compile") then compile_words ws else
-    if bytes_eq w (codes "run") then run_words ws else
-    if bytes_eq w (codes "image") then image_words ws else
-    if bytes_eq w (codes "count") then count_words ws else
-    if bytes_eq w (codes "gen") then gen_words ws else
-    if bytes_eq w (codes "genrun") then genrun_words ws else
-    if bytes_eq w (codes "exec") then exec_words ws else
-    if bytes_eq w (codes "value") then value_words ws else Err 1)
+-- what the words come to
+abbrev pub IsParsed : List (List ℕ) → Parsed → Type 0
+IsParsed words (Ok command) = IsWordsOf command words
+IsParsed words (Err word) = IsUsageAt words word

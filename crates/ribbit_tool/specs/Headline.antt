@@ -1,7 +1,7 @@
 -- The headline: where a file is accepted and its arguments are of `main`'s types, the run prints the value
 -- of the source's meaning, or names it as over the node limit, or says that the calls are spent or the
 -- region is full exactly where the source, with the blocks that its layouts ask for, first passes that limit.
-use Rattle.std.specs.Prelude.{◌≡◌, ◌≤◌, ℕ, List, [], ◌∷◌, length, IsTrue, Some, Ok}
+use Rattle.std.specs.Prelude.{◌≡◌, ◌≤◌, ℕ, List, [], ◌∷◌, length, IsTrue, Some}
 use Rattle.rb_core.specs.declared.program.Program.{Program}
 use Rattle.rb_core.specs.declared.value.Value.{Value}
 use Rattle.rb_edge.specs.Faults.{Rose}
@@ -11,7 +11,7 @@ use Rattle.rb_rel.specs.Answers.{answer_of}
 use Rattle.ribbit_tool.specs.Accepting.{IsAccepted}
 use Rattle.ribbit_tool.specs.Answers.{files_of}
 use Rattle.ribbit_tool.specs.Arguments.{node_limit, Spell}
-use Rattle.ribbit_tool.specs.Command.{Command, Limits, run, command_of}
+use Rattle.ribbit_tool.specs.Command.{Command, Limits, Parsed, IsWordsOf, IsParsed, run}
 use Rattle.ribbit_tool.specs.Delivery.{Change, Took}
 use Rattle.ribbit_tool.specs.Lines.{spent_line, full_line, large_line}
 use Rattle.ribbit_tool.specs.Promise.{IsCalm}
@@ -30,7 +30,7 @@ Says shown limits answer.TooLarge out err status = (status ≡ 13) × Took out [
 abbrev pub OfCalls : (List ℕ → Limits → List (List ℕ) → Command) → (Program → List Value → Limits → Change → Change → ℕ → Type 0)
     → List (List ℕ) → Source → Change → Change → ℕ → Type 0
 OfCalls command Promised words source out err status =
-    (file : List ℕ) (limits : Limits) (values : List (List ℕ)) → command_of words ≡ Ok (command file limits values)
+    (file : List ℕ) (limits : Limits) (values : List (List ℕ)) → IsWordsOf (command file limits values) words
     → (bytes : List ℕ) → Gave source file bytes → (p : Program) → IsAccepted bytes p → (args : List Value) → Spell p values args
     → IsCalm out err status → Promised p args limits out err status
 
@@ -42,6 +42,6 @@ Headline = OfCalls run (λ p args limits out err status.
 -- file gave the bytes that are held, if nothing failed.
 abbrev pub GivesHeld : List (List ℕ) → Source → Change → Change → ℕ → Type 0
 GivesHeld words source out err status =
-    (file : List ℕ) (limit : ℕ) → files_of (command_of words) ≡ (file, limit) ∷ []
+    (parsed : Parsed) → IsParsed words parsed → (file : List ℕ) (limit : ℕ) → files_of parsed ≡ (file, limit) ∷ []
     → (bytes : List ℕ) → IsTrue source.tells → source.held file ≡ Some bytes → length bytes ≤ limit
     → (Rose source.before source.now → ⊥) → IsCalm out err status → Gave source file bytes

@@ -1,5 +1,5 @@
 -- What is promised of `compile`, of the other commands that call `main`, and of generated files.
-use Rattle.std.specs.Prelude.{◌≡◌, ℕ, List, [], Ok}
+use Rattle.std.specs.Prelude.{◌≡◌, ℕ, List, []}
 use Rattle.rb_bytes.specs.Memory.{Memory, empty_memory}
 use Rattle.rb_core.specs.declared.program.Program.{Program}
 use Rattle.rb_core.specs.declared.value.Value.{Value}
@@ -11,7 +11,7 @@ use Rattle.rb_target.specs.Text.{code_text}
 use Rattle.rb_target.specs.declared.code.CodeFun.{CodeFun}
 use Rattle.ribbit_tool.specs.Accepting.{IsAccepted}
 use Rattle.ribbit_tool.specs.Arguments.{Spell}
-use Rattle.ribbit_tool.specs.Command.{Limits, compile, image, count, gen, genrun, command_of}
+use Rattle.ribbit_tool.specs.Command.{Limits, compile, image, count, gen, genrun, IsWordsOf}
 use Rattle.ribbit_tool.specs.Compiling.{IsCompiled, IsLaidOut}
 use Rattle.ribbit_tool.specs.Count.{IsMainTally, count_text}
 use Rattle.ribbit_tool.specs.Delivery.{Change, Took}
@@ -39,7 +39,7 @@ pub record SaysCode (p : Program) (out err : Change) (status : ℕ) : Type 0 whe
 -- where the file gave bytes that are accepted, no write failed and memory did not run out
 abbrev pub CompileHeadline : List (List ℕ) → Source → Change → Change → ℕ → Type 0
 CompileHeadline words source out err status =
-    (file : List ℕ) → command_of words ≡ Ok (compile file)
+    (file : List ℕ) → IsWordsOf (compile file) words
     → (bytes : List ℕ) → Gave source file bytes → (p : Program) → IsAccepted bytes p
     → IsCalm out err status → SaysCode p out err status
 
@@ -81,8 +81,8 @@ CountHeadline = OfCalls count SaysCount
 
 -- the text of the file, or its counts
 pub record GenerateHeadline (words : List (List ℕ)) (out err : Change) (status : ℕ) : Type 0 where
-  pub text : (functions : ℕ) → command_of words ≡ Ok (gen functions) → IsCalm out err status
+  pub text : (functions : ℕ) → IsWordsOf (gen functions) words → IsCalm out err status
       → (status ≡ 0) × Took out (generated functions) × Took err []
-  pub counts : (functions : ℕ) (limits : Limits) → command_of words ≡ Ok (genrun functions limits)
+  pub counts : (functions : ℕ) (limits : Limits) → IsWordsOf (genrun functions limits) words
       → (p : Program) → IsAccepted (generated functions) p → (args : List Value) → Spell p [] args
       → IsCalm out err status → SaysCount p args limits out err status

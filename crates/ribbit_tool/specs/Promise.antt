@@ -3,8 +3,8 @@ use Rattle.std.specs.Prelude.{◌≡◌, ◌≢◌, ℕ, ◌+◌, ◌⊎◌, Lis
 use Rattle.rb_edge.specs.Faults.{Rose}
 use Rattle.rb_edge.specs.History.{Reading, missed}
 use Rattle.ribbit_tool.specs.Answer.{Due, printed, refused, status_of, steps_of, text_of}
-use Rattle.ribbit_tool.specs.Answers.{AnswersWords, Owes, files_of}
-use Rattle.ribbit_tool.specs.Command.{command_of}
+use Rattle.ribbit_tool.specs.Answers.{Answers, Owes, files_of}
+use Rattle.ribbit_tool.specs.Command.{Parsed, IsParsed}
 use Rattle.ribbit_tool.specs.Delivery.{Change, Took, CutOff, Tried, Stood, Delivers}
 use Rattle.ribbit_tool.specs.Lines.{write_fault_line}
 use Rattle.ribbit_tool.specs.Reading.{Source, handed_out, ReadsInTurn}
@@ -26,18 +26,16 @@ pub record Gives (due : Due) (out err : Change) (steps : Counting) (status : ℕ
   pub counted : steps.now ≡ steps.before + steps_of due
 
 -- the right answer was given to what was read
-abbrev pub GivesAnswer : List (List ℕ) → Source → Change → Change → Counting → ℕ → Type 0
-GivesAnswer words source out err steps status = (due : Due) × AnswersWords words (handed_out source) due × Gives due out err steps status
-
--- what is owed to the words over what was read
-abbrev pub OwesWords : List (List ℕ) → Source → Due → Type 0
-OwesWords words source due = Owes (command_of words) (handed_out source) due
+abbrev pub GivesAnswer : Parsed → Source → Change → Change → Counting → ℕ → Type 0
+GivesAnswer parsed source out err steps status = (due : Due) × Answers parsed (handed_out source) due × Gives due out err steps status
 
 -- What was due, and how it was delivered. Where memory ran out, nothing is said of the steps.
 pub record Performs (words : List (List ℕ)) (source : Source) (out err : Change) (steps : Counting) (status : ℕ) : Type 0 where
-  pub reads : ReadsInTurn (files_of (command_of words)) source
+  pub parsed : Parsed
+  pub meant : IsParsed words parsed
+  pub reads : ReadsInTurn (files_of parsed) source
   pub due : Due
-  pub owes : OwesWords words source due
+  pub owes : Owes parsed (handed_out source) due
   pub delivers : Delivers due out err status
   pub counted : status_of due ≢ 9 → steps.now ≡ steps.before + steps_of due
 
@@ -61,14 +59,17 @@ pub record IsMissing (source : Source) : Type 0 where
   pub last : handed_out source ≡ earlier ++ missed name ∷ []
 
 pub record IsRight (words : List (List ℕ)) (source : Source) (out err : Change) (steps : Counting) (status : ℕ) : Type 0 where
+  -- what the words come to: a command, or the first word at fault
+  pub parsed : Parsed
+  pub meant : IsParsed words parsed
   -- the files of the command were read in turn, each once at most and one byte over its limit at most
-  pub reads : ReadsInTurn (files_of (command_of words)) source
+  pub reads : ReadsInTurn (files_of parsed) source
   -- a status other than 8 and 9 is the right one for what was read, with its text and its steps; so a fault
   -- is never taken for the end of a file
-  pub right : status ≢ 8 → status ≢ 9 → GivesAnswer words source out err steps status
+  pub right : status ≢ 8 → status ≢ 9 → GivesAnswer parsed source out err steps status
   -- where no write failed, the answer is the right one, or memory ran out
-  pub complete : IsCalm out err status → GivesAnswer words source out err steps status
+  pub complete : IsCalm out err status → GivesAnswer parsed source out err steps status
   -- a read fault has its cause: the count rose, or nothing is held under the name
   pub read_fault : status ≡ 7 → Rose source.before source.now ⊎ IsMissing source
   -- a write fault has its cause, and the sinks took fronts of their texts
-  pub write_fault : status ≡ 8 → (due : Due) × OwesWords words source due × IsCutOff due out err
+  pub write_fault : status ≡ 8 → (due : Due) × Owes parsed (handed_out source) due × IsCutOff due out err

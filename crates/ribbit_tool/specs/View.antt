@@ -8,7 +8,7 @@ use Rattle.rb_edge.specs.History.{Reading}
 use Rattle.rb_layout.specs.Agreement.{AreAgreed}
 use Rattle.ribbit_tool.specs.Accepting.{IsNamed}
 use Rattle.ribbit_tool.specs.Answer.{Due, printed, refused}
-use Rattle.ribbit_tool.specs.Command.{Command, Limits, check, layout, compile, run, image, count, gen, genrun, exec, value}
+use Rattle.ribbit_tool.specs.Command.{Command, Limits, IsUsageAt, check, layout, compile, run, image, count, gen, genrun, exec, value}
 use Rattle.ribbit_tool.specs.declared.accepting.Accepted.{Accepted}
 use Rattle.ribbit_tool.specs.declared.command.Command as declared
 use Rattle.ribbit_tool.specs.declared.command.Command.TheVariants as form
@@ -38,10 +38,10 @@ command_view (form.Value file second) = value file.now second.now
 abbrev pub added : {S : Type 0} → (S → List Reading) → S → S → List Reading
 added readings old new = drop (length (readings old)) (readings new)
 
--- words that are no command: the number of the first at fault
-abbrev pub IsUsage : {A : Type 0} → Result A ℕ → CommandFault → Type 0
-IsUsage parsed (fault.Usage n) = parsed ≡ Err n
-IsUsage parsed fault.Memory = Unit {0}
+-- words that are no command: the number of the first at fault, or memory ran out
+abbrev pub IsUsage : List (List ℕ) → CommandFault → Type 0
+IsUsage words (fault.Usage n) = IsUsageAt words n
+IsUsage words fault.Memory = Unit {0}
 
 -- what is due by a refusal after so many steps
 abbrev pub due_after : ℕ → Refused → Due

@@ -9,7 +9,6 @@ ghost use Rattle.rb_core.specs.WellNumbered.{IsWellNumbered};
 ghost use Rattle.rb_layout.specs.Agreement.{AreAgreed};
 ghost use Rattle.rb_names.specs.Programs.{numbered};
 ghost use Rattle.rb_syntax.specs.Cutting.{HasTokens};
-ghost use Rattle.rb_syntax.specs.Lexing.{lexed};
 ghost use Rattle.ribbit_tool.specs.Accepting.{IsNamed, IsNamedWith, IsProgramOf, IsRead, IsRefused, completed_as};
 ghost use Rattle.ribbit_tool.specs.View.{IsAcceptance, IsRefusal};
 
@@ -43,7 +42,6 @@ pub struct Accepted {
 
 // The tokens of the bytes.
 fn cut(alloc: Global, bytes: &[u8]) -> Result<Vec<Placed>, Refusal>
-    ensures cut { IfOk result (λ placed. lexed bytes.now ≡ Ok placed.items) }
     ensures tokens { IfOk result (λ placed. HasTokens bytes.now placed.items) }
     ensures refused { IfErr result (IsRefusal (IsRefused bytes.now)) }
 {
@@ -59,7 +57,7 @@ fn cut(alloc: Global, bytes: &[u8]) -> Result<Vec<Placed>, Refusal>
 // The tree of the tokens.
 fn read(alloc: Global, bytes: &[u8], placed: &[Placed]) -> Result<FileTree, Refusal>
     requires few { length bytes.now ≤ 262144 }
-    requires cut { lexed bytes.now ≡ Ok placed.now }
+    requires tokens { HasTokens bytes.now placed.now }
     ensures read { IfOk result (IsRead bytes.now placed.now) }
     ensures refused { IfErr result (IsRefusal (IsRefused bytes.now)) }
 {
@@ -75,7 +73,6 @@ fn read(alloc: Global, bytes: &[u8], placed: &[Placed]) -> Result<FileTree, Refu
 // The program of the tree, with the layouts that are written.
 fn name(alloc: Global, bytes: &[u8], placed: &[Placed], file: &FileTree) -> Result<Program, Refusal>
     requires few { length bytes.now ≤ 262144 }
-    requires tokens { HasTokens bytes.now placed.now }
     requires read { IsRead bytes.now placed.now file.now }
     ensures named { IfOk result (λ p. numbered file.now ≡ Ok p) }
     ensures well { IfOk result IsWellNumbered }
@@ -205,6 +202,10 @@ fn lay_out(
 }
 
 /// The file of these bytes, if it is accepted, or the answer that refuses it.
+///
+/// # Errors
+///
+/// The answer to its first fault, or want of memory.
 pub fn accept(alloc: Global, bytes: &[u8]) -> Result<Accepted, Refusal>
     requires { length bytes.now ≤ 262144 }
     ensures accepted { IfOk result (IsAcceptance bytes.now) }

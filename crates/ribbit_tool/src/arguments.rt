@@ -93,8 +93,12 @@ fn parameters(program: &Program) -> &[Param]
     }
 }
 
-/// The values that the words spell, one for each parameter of `main`; or the answer to the first refusal:
-/// their number, and then the first word that spells no value of its parameter's type.
+/// The values that the words spell, one for each parameter of `main`.
+///
+/// # Errors
+///
+/// The answer to their number, or else to the first word that spells no value of its parameter's type; or want of
+/// memory.
 pub fn read_arguments(
     alloc: Global,
     program: &Program,

@@ -2,8 +2,9 @@
 
 ghost use Rattle.std.specs.Prelude.{◌≡◌, ◌≤◌, List, MatchResult, Ok, ℕ};
 ghost use Rattle.ribbit_tool.specs.declared.command.CommandFault.TheVariants.{Memory};
-ghost use Rattle.ribbit_tool.specs.Command.{Command as CommandValue, Limits as LimitsValue, Parsed, check_words, command_of, compile_words, count_words, exec_words, function_words, gen_words, genrun_words, image_words, layout_words, numbers_from, run_words, value_words, with_call, with_functions, with_limits};
+ghost use Rattle.ribbit_tool.specs.Command.{Command as CommandValue, IsWordsOf, Limits as LimitsValue, Parsed};
 ghost use Rattle.ribbit_tool.specs.View.{command_view, limits_view, IsUsage};
+ghost use Rattle.ribbit_tool.specs.inner.Parsing.{check_words, command_of, compile_words, count_words, exec_words, function_words, gen_words, genrun_words, image_words, layout_words, numbers_from, run_words, value_words, with_call, with_functions, with_limits, StopsAs};
 
 use crate::limits::{Functions, Limits};
 use rb_core::decimal::number_in;
@@ -104,7 +105,7 @@ fn parse_limits<'a>(number: usize, words: &'a [Name]) -> Result<(Limits, &'a [Na
     requires { number ≤ 4 }
     ensures { (go : LimitsValue → List (List ℕ) → Parsed) → MatchResult result
         (λ p. with_limits number words.now go ≡ go (limits_view p.0) p.1.now)
-        (IsUsage (with_limits number words.now go)) }
+        (StopsAs (with_limits number words.now go)) }
 {
     let [word, words @ ..] = words else {
         return Err(CommandFault::Usage(number));
@@ -123,7 +124,7 @@ fn parse_limits<'a>(number: usize, words: &'a [Name]) -> Result<(Limits, &'a [Na
 
 // The words behind `check`.
 fn parse_check<'a>(words: &'a [Name]) -> Result<Command<'a>, CommandFault>
-    ensures { MatchResult result (λ c. check_words words.now ≡ Ok (command_view c)) (IsUsage (check_words words.now)) }
+    ensures { MatchResult result (λ c. check_words words.now ≡ Ok (command_view c)) (StopsAs (check_words words.now)) }
 {
     match words {
         [] => Err(CommandFault::Usage(2)),
@@ -137,7 +138,7 @@ fn parse_check<'a>(words: &'a [Name]) -> Result<Command<'a>, CommandFault>
 // The words behind `layout`.
 fn parse_layout<'a>(words: &'a [Name]) -> Result<Command<'a>, CommandFault>
     ensures { MatchResult result (λ c. layout_words words.now ≡ Ok (command_view c))
-        (IsUsage (layout_words words.now)) }
+        (StopsAs (layout_words words.now)) }
 {
     match words {
         [] => Err(CommandFault::Usage(2)),
@@ -151,7 +152,7 @@ fn parse_layout<'a>(words: &'a [Name]) -> Result<Command<'a>, CommandFault>
 // The words behind `compile`.
 fn parse_compile<'a>(words: &'a [Name]) -> Result<Command<'a>, CommandFault>
     ensures { MatchResult result (λ c. compile_words words.now ≡ Ok (command_view c))
-        (IsUsage (compile_words words.now)) }
+        (StopsAs (compile_words words.now)) }
 {
     match words {
         [] => Err(CommandFault::Usage(2)),
@@ -166,7 +167,7 @@ fn parse_compile<'a>(words: &'a [Name]) -> Result<Command<'a>, CommandFault>
 fn parse_call<'a>(words: &'a [Name]) -> Result<(&'a [u8], Limits, &'a [Name]), CommandFault>
     ensures { (command : List ℕ → LimitsValue → List (List ℕ) → CommandValue) → MatchResult result
         (λ p. with_call words.now command ≡ Ok (command p.0.now (limits_view p.1) p.2.now))
-        (IsUsage (with_call words.now command)) }
+        (StopsAs (with_call words.now command)) }
 {
     let [file, words @ ..] = words else {
         return Err(CommandFault::Usage(2));
@@ -177,7 +178,7 @@ fn parse_call<'a>(words: &'a [Name]) -> Result<(&'a [u8], Limits, &'a [Name]), C
 
 // The words behind `run`.
 fn parse_run<'a>(words: &'a [Name]) -> Result<Command<'a>, CommandFault>
-    ensures { MatchResult result (λ c. run_words words.now ≡ Ok (command_view c)) (IsUsage (run_words words.now)) }
+    ensures { MatchResult result (λ c. run_words words.now ≡ Ok (command_view c)) (StopsAs (run_words words.now)) }
 {
     let (file, limits, values) = parse_call(words)?;
     Ok(Command::Run {
@@ -189,7 +190,7 @@ fn parse_run<'a>(words: &'a [Name]) -> Result<Command<'a>, CommandFault>
 
 // The words behind `image`.
 fn parse_image<'a>(words: &'a [Name]) -> Result<Command<'a>, CommandFault>
-    ensures { MatchResult result (λ c. image_words words.now ≡ Ok (command_view c)) (IsUsage (image_words words.now)) }
+    ensures { MatchResult result (λ c. image_words words.now ≡ Ok (command_view c)) (StopsAs (image_words words.now)) }
 {
     let (file, limits, values) = parse_call(words)?;
     Ok(Command::Image {
@@ -201,7 +202,7 @@ fn parse_image<'a>(words: &'a [Name]) -> Result<Command<'a>, CommandFault>
 
 // The words behind `count`.
 fn parse_count<'a>(words: &'a [Name]) -> Result<Command<'a>, CommandFault>
-    ensures { MatchResult result (λ c. count_words words.now ≡ Ok (command_view c)) (IsUsage (count_words words.now)) }
+    ensures { MatchResult result (λ c. count_words words.now ≡ Ok (command_view c)) (StopsAs (count_words words.now)) }
 {
     let (file, limits, values) = parse_call(words)?;
     Ok(Command::Count {
@@ -215,7 +216,7 @@ fn parse_count<'a>(words: &'a [Name]) -> Result<Command<'a>, CommandFault>
 fn parse_functions<'a>(words: &'a [Name]) -> Result<(Functions, &'a [Name]), CommandFault>
     ensures { (go : ℕ → List (List ℕ) → Parsed) → MatchResult result
         (λ p. with_functions words.now go ≡ go p.0.count p.1.now)
-        (IsUsage (with_functions words.now go)) }
+        (StopsAs (with_functions words.now go)) }
 {
     let [word, words @ ..] = words else {
         return Err(CommandFault::Usage(2));
@@ -228,7 +229,7 @@ fn parse_functions<'a>(words: &'a [Name]) -> Result<(Functions, &'a [Name]), Com
 
 // The words behind `gen`.
 fn parse_gen<'a>(words: &'a [Name]) -> Result<Command<'a>, CommandFault>
-    ensures { MatchResult result (λ c. gen_words words.now ≡ Ok (command_view c)) (IsUsage (gen_words words.now)) }
+    ensures { MatchResult result (λ c. gen_words words.now ≡ Ok (command_view c)) (StopsAs (gen_words words.now)) }
 {
     let (functions, rest) = parse_functions(words)?;
     match rest {
@@ -240,7 +241,7 @@ fn parse_gen<'a>(words: &'a [Name]) -> Result<Command<'a>, CommandFault>
 // The words behind `genrun`.
 fn parse_genrun<'a>(words: &'a [Name]) -> Result<Command<'a>, CommandFault>
     ensures { MatchResult result (λ c. genrun_words words.now ≡ Ok (command_view c))
-        (IsUsage (genrun_words words.now)) }
+        (StopsAs (genrun_words words.now)) }
 {
     let (functions, words) = parse_functions(words)?;
     let (limits, rest) = parse_limits(3, words)?;
@@ -253,7 +254,7 @@ fn parse_genrun<'a>(words: &'a [Name]) -> Result<Command<'a>, CommandFault>
 // The numbers that words spell, the first of which has the number 6.
 fn parse_numbers(alloc: Global, words: &[Name]) -> Result<Seq<u64>, CommandFault>
     ensures { MatchResult result (λ numbers. numbers_from 6 words.now ≡ Ok numbers)
-        (IsUsage (numbers_from 6 words.now)) }
+        (StopsAs (numbers_from 6 words.now)) }
 {
     let mut numbers = Seq::new(alloc);
     for (i, word) in words.iter().enumerate() {
@@ -272,7 +273,7 @@ fn parse_function<'a>(
     words: &'a [Name],
 ) -> Result<Command<'a>, CommandFault>
     ensures { MatchResult result (λ c. function_words code.now words.now ≡ Ok (command_view c))
-        (IsUsage (function_words code.now words.now)) }
+        (StopsAs (function_words code.now words.now)) }
 {
     let [function, words @ ..] = words else {
         return Err(CommandFault::Usage(3));
@@ -289,7 +290,7 @@ fn parse_function<'a>(
 
 // The words behind `exec`.
 fn parse_exec<'a>(alloc: Global, words: &'a [Name]) -> Result<Command<'a>, CommandFault>
-    ensures { MatchResult result (λ c. exec_words words.now ≡ Ok (command_view c)) (IsUsage (exec_words words.now)) }
+    ensures { MatchResult result (λ c. exec_words words.now ≡ Ok (command_view c)) (StopsAs (exec_words words.now)) }
 {
     let [code, words @ ..] = words else {
         return Err(CommandFault::Usage(2));
@@ -299,7 +300,7 @@ fn parse_exec<'a>(alloc: Global, words: &'a [Name]) -> Result<Command<'a>, Comma
 
 // The words behind `value`.
 fn parse_value<'a>(words: &'a [Name]) -> Result<Command<'a>, CommandFault>
-    ensures { MatchResult result (λ c. value_words words.now ≡ Ok (command_view c)) (IsUsage (value_words words.now)) }
+    ensures { MatchResult result (λ c. value_words words.now ≡ Ok (command_view c)) (StopsAs (value_words words.now)) }
 {
     match words {
         [] => Err(CommandFault::Usage(2)),
@@ -312,10 +313,10 @@ fn parse_value<'a>(words: &'a [Name]) -> Result<Command<'a>, CommandFault>
     }
 }
 
-/// The command, or the number of the first word at fault.
-#[tactic(auto, unfolding(crate::specs::Command::command_of))]
-pub fn parse<'a>(alloc: Global, words: &'a [Name]) -> Result<Command<'a>, CommandFault>
-    ensures { MatchResult result (λ c. command_of words.now ≡ Ok (command_view c)) (IsUsage (command_of words.now)) }
+// The command of the words, read one after the other.
+#[tactic(auto, unfolding(crate::specs::inner::Parsing::command_of))]
+fn read_words<'a>(alloc: Global, words: &'a [Name]) -> Result<Command<'a>, CommandFault>
+    ensures { MatchResult result (λ c. command_of words.now ≡ Ok (command_view c)) (StopsAs (command_of words.now)) }
 {
     match words {
         [] => Err(CommandFault::Usage(1)),
@@ -353,4 +354,15 @@ pub fn parse<'a>(alloc: Global, words: &'a [Name]) -> Result<Command<'a>, Comman
             Err(CommandFault::Usage(1))
         }
     }
+}
+
+/// The command that the words spell.
+///
+/// # Errors
+///
+/// The number of the first word at fault, or want of memory.
+pub fn parse<'a>(alloc: Global, words: &'a [Name]) -> Result<Command<'a>, CommandFault>
+    ensures { MatchResult result (λ c. IsWordsOf (command_view c) words.now) (IsUsage words.now) }
+{
+    read_words(alloc, words)
 }

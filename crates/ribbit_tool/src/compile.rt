@@ -19,6 +19,10 @@ use rb_target::spell::spell_code;
 use std::alloc::{AllocError, Global};
 
 /// Code for a program whose layouts agree.
+///
+/// # Errors
+///
+/// Want of memory, also where a function's code would have more than 2^24 instructions.
 pub fn code_of(alloc: Global, agreed: &Agreed) -> Result<Code, AllocError>
     ensures { IfOk result (IsCompiled agreed.now) }
 {
@@ -39,6 +43,10 @@ fn compile_bytes(alloc: Global, bytes: &[u8]) -> Result<Vec<u8>, Refusal>
 }
 
 /// The code text of a file, where it is accepted.
+///
+/// # Errors
+///
+/// The answer to a file that is not read or not accepted, or want of memory.
 pub fn compile_file<S: Source>(alloc: Global, src: &mut S, file: &[u8]) -> Result<Vec<u8>, Refusal>
     ensures read { ReadsInTurn ((file.now, file_limit) ∷ [])
         (source_of S.tells S.held S.readings S.faults src.old src.new) }

@@ -121,6 +121,11 @@ pub(crate) fn count_bytes<L: Ledger>(
 }
 
 /// The value of `main` of a file on these values, within limits, and what its run did.
+///
+/// # Errors
+///
+/// The answer to a file that is not read or not accepted, to words that spell no arguments, and to a run that passes
+/// a limit; or want of memory.
 pub fn count_file<S: Source, L: Ledger>(
     alloc: Global,
     src: &mut S,

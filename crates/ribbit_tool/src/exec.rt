@@ -159,6 +159,11 @@ fn run_code<L: Ledger>(
 }
 
 /// The words that a function of a code text returns on these words, within limits.
+///
+/// # Errors
+///
+/// The answer to a code text that is not read or not valid, to a function that is not there or takes other arguments,
+/// and to a run that is trapped or passes a limit; or want of memory.
 pub fn run_code_file<S: Source, L: Ledger>(
     alloc: Global,
     src: &mut S,

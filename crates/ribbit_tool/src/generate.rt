@@ -70,6 +70,10 @@ fn generate(alloc: Global, functions: Functions) -> Result<Vec<u8>, AllocError>
 }
 
 /// The text of the file with so many functions, which no step takes.
+///
+/// # Errors
+///
+/// Want of memory.
 pub fn generate_file(alloc: Global, functions: Functions) -> Result<Vec<u8>, Refusal>
     ensures { (steps : ℕ) → Meets (Generates functions.count) steps steps result }
 {
@@ -78,6 +82,10 @@ pub fn generate_file(alloc: Global, functions: Functions) -> Result<Vec<u8>, Ref
 }
 
 /// What the run of the file with so many functions did.
+///
+/// # Errors
+///
+/// The answer to a file that is not accepted and to a run that passes a limit, or want of memory.
 pub fn count_generated<L: Ledger>(
     alloc: Global,
     functions: Functions,

@@ -212,6 +212,11 @@ fn image_bytes<L: Ledger>(
 }
 
 /// The words and the blocks of the value of `main` of a file on these values, within limits.
+///
+/// # Errors
+///
+/// The answer to a file that is not read or not accepted, to words that spell no arguments, and to a run that passes
+/// a limit; or want of memory.
 pub fn image_file<S: Source, L: Ledger>(
     alloc: Global,
     src: &mut S,

@@ -1,6 +1,16 @@
-//! Laws of files that are accepted, and of code texts.
+//! Laws of command lines, of files that are accepted, and of code texts.
 
-ghost use Rattle.ribbit_tool.specs.Laws.{AreExecuted, CompiledTextsRun, HaveNoRefusal, HaveOneProgram, HaveOneTree};
+ghost use Rattle.ribbit_tool.specs.Laws.{AreExecuted, CompiledTextsRun, HaveNoRefusal, HaveOneCut, HaveOneMeaning, HaveOneProgram, HaveOneTree};
+
+/// Words are those of one command, or have one word at fault.
+pub fn words_have_one_meaning()
+    ensures { HaveOneMeaning }
+{}
+
+/// A text has one list of tokens at most, and then neither a bad byte nor a number that is too wide.
+pub fn texts_have_one_cut()
+    ensures { HaveOneCut }
+{}
 
 /// Tokens are the file of one tree at most.
 pub fn tokens_have_one_tree()

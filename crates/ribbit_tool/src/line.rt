@@ -1,6 +1,6 @@
 //! Texts that grow at their end, and the lines of refusals.
 
-ghost use Rattle.std.specs.Prelude.{◌≡◌, ◌∷◌, ◌++◌, OnOk, IfOk, codes};
+ghost use Rattle.std.specs.Prelude.{◌≡◌, ◌∷◌, ◌++◌, OnOk, IfOk};
 ghost use Rattle.std.specs.Fmt.{decimal};
 ghost use Rattle.ribbit_tool.specs.Lines as line;
 
@@ -83,35 +83,43 @@ pub(crate) fn end(text: Vec<u8>) -> Result<Vec<u8>, AllocError>
 }
 
 /// The line of a command line whose word of this number is at fault.
+///
+/// # Errors
+///
+/// Want of memory.
 pub fn usage(alloc: Global, word: u64) -> Result<Vec<u8>, AllocError>
     ensures { IfOk result (λ text. text.items ≡ line.usage_line word) }
 {
-    let mut text = begin(alloc, b"usage at word ")?;
-    push_number(&mut text, word)?;
-    end(text)
+    Ok(format!(in alloc; "ribbit: usage at word {word}\n")?.into_bytes())
 }
 
 /// The line of a file with more bytes than its limit.
+///
+/// # Errors
+///
+/// Want of memory.
 pub fn file_bytes(alloc: Global, count: u64, limit: u64) -> Result<Vec<u8>, AllocError>
     ensures { IfOk result (λ text. text.items ≡ line.file_bytes_line count limit) }
 {
-    let mut text = begin(alloc, b"limit file bytes: ")?;
-    push_number(&mut text, count)?;
-    push(&mut text, b" over ")?;
-    push_number(&mut text, limit)?;
-    end(text)
+    Ok(format!(in alloc; "ribbit: limit file bytes: {count} over {limit}\n")?.into_bytes())
 }
 
 /// The line of a run whose calls are spent.
+///
+/// # Errors
+///
+/// Want of memory.
 pub fn spent(alloc: Global, calls: u64) -> Result<Vec<u8>, AllocError>
     ensures { IfOk result (λ text. text.items ≡ line.spent_line calls) }
 {
-    let mut text = begin(alloc, b"calls spent: ")?;
-    push_number(&mut text, calls)?;
-    end(text)
+    Ok(format!(in alloc; "ribbit: calls spent: {calls}\n")?.into_bytes())
 }
 
 /// The line of a wrong number of arguments.
+///
+/// # Errors
+///
+/// Want of memory.
 pub fn count(alloc: Global, wanted: u64, found: u64) -> Result<Vec<u8>, AllocError>
     ensures { IfOk result (λ text. text.items ≡ line.count_line wanted found) }
 {
@@ -123,16 +131,21 @@ pub fn count(alloc: Global, wanted: u64, found: u64) -> Result<Vec<u8>, AllocErr
 }
 
 /// The line of a value with more nodes than this.
+///
+/// # Errors
+///
+/// Want of memory.
 pub fn large(alloc: Global, limit: u64) -> Result<Vec<u8>, AllocError>
     ensures { IfOk result (λ text. text.items ≡ line.large_line limit) }
 {
-    let mut text = begin(alloc, b"value over ")?;
-    push_number(&mut text, limit)?;
-    push(&mut text, b" nodes")?;
-    end(text)
+    Ok(format!(in alloc; "ribbit: value over {limit} nodes\n")?.into_bytes())
 }
 
 /// The line of code without a function of this name.
+///
+/// # Errors
+///
+/// Want of memory.
 pub fn no_function(alloc: Global, name: &[u8]) -> Result<Vec<u8>, AllocError>
     ensures { IfOk result (λ text. text.items ≡ line.no_function_line name.now) }
 {
@@ -142,53 +155,45 @@ pub fn no_function(alloc: Global, name: &[u8]) -> Result<Vec<u8>, AllocError>
 }
 
 /// The line of a block that doesn't fit.
+///
+/// # Errors
+///
+/// Want of memory.
 pub fn full(alloc: Global, full: Full) -> Result<Vec<u8>, AllocError>
     ensures { IfOk result (λ text. text.items ≡ line.full_line full) }
 {
-    let mut text = begin(alloc, b"region full: next ")?;
-    push_number(&mut text, full.next)?;
-    push(&mut text, b", size ")?;
-    push_number(&mut text, full.size)?;
-    push(&mut text, b", align ")?;
-    push_number(&mut text, full.align)?;
-    push(&mut text, b", limit ")?;
-    push_number(&mut text, full.limit)?;
-    end(text)
-}
-
-// What a trap's line begins with.
-fn begin_trap(alloc: Global, number: u64) -> Result<Vec<u8>, AllocError>
-    ensures { IfOk result (λ text. text.items ≡ line.begun (codes "trap ") ++ decimal number) }
-{
-    let mut text = begin(alloc, b"trap ")?;
-    push_number(&mut text, number)?;
-    Ok(text)
+    let Full {
+        next,
+        size,
+        align,
+        limit,
+    } = full;
+    let line = format!(in alloc;
+        "ribbit: region full: next {next}, size {size}, align {align}, limit {limit}\n"
+    )?;
+    Ok(line.into_bytes())
 }
 
 /// The line of a trap.
+///
+/// # Errors
+///
+/// Want of memory.
 pub fn trap(alloc: Global, trap: Trap) -> Result<Vec<u8>, AllocError>
     ensures { IfOk result (λ text. text.items ≡ line.trap_line trap) }
 {
     match trap {
         Trap::Astray(base, offset) => {
-            let mut text = begin_trap(alloc, ASTRAY)?;
-            push(&mut text, b": base ")?;
-            push_number(&mut text, base)?;
-            push(&mut text, b", offset ")?;
-            push_number(&mut text, offset)?;
-            end(text)
+            let line = format!(in alloc; "ribbit: trap {ASTRAY}: base {base}, offset {offset}\n")?;
+            Ok(line.into_bytes())
         }
         Trap::Unwritten(address) => {
-            let mut text = begin_trap(alloc, UNWRITTEN)?;
-            push(&mut text, b": address ")?;
-            push_number(&mut text, address)?;
-            end(text)
+            let line = format!(in alloc; "ribbit: trap {UNWRITTEN}: address {address}\n")?;
+            Ok(line.into_bytes())
         }
         Trap::Unmatched(word) => {
-            let mut text = begin_trap(alloc, UNMATCHED)?;
-            push(&mut text, b": word ")?;
-            push_number(&mut text, word)?;
-            end(text)
+            let line = format!(in alloc; "ribbit: trap {UNMATCHED}: word {word}\n")?;
+            Ok(line.into_bytes())
         }
     }
 }
@@ -202,26 +207,24 @@ fn at_instruction(
 ) -> Result<Vec<u8>, AllocError>
     ensures { IfOk result (λ text. text.items ≡ line.at_instruction kind function instruction) }
 {
-    let mut text = begin(alloc, b"code ")?;
-    push_number(&mut text, kind)?;
-    push(&mut text, b": function ")?;
-    push_number(&mut text, function)?;
-    push(&mut text, b", instruction ")?;
-    push_number(&mut text, instruction)?;
-    end(text)
+    let line = format!(in alloc;
+        "ribbit: code {kind}: function {function}, instruction {instruction}\n"
+    )?;
+    Ok(line.into_bytes())
 }
 
 /// The line of bytes that are no code.
+///
+/// # Errors
+///
+/// Want of memory.
 pub fn code(alloc: Global, fault: CodeFault) -> Result<Vec<u8>, AllocError>
     ensures { IfOk result (λ text. text.items ≡ line.code_line fault) }
 {
     match fault {
         CodeFault::CodeSyntax(at) => {
-            let mut text = begin(alloc, b"code ")?;
-            push_number(&mut text, CODE_SYNTAX)?;
-            push(&mut text, b" at byte ")?;
-            push_number(&mut text, at as u64)?;
-            end(text)
+            let line = format!(in alloc; "ribbit: code {CODE_SYNTAX} at byte {at}\n")?;
+            Ok(line.into_bytes())
         }
         CodeFault::BadSlot(function, instruction) => {
             at_instruction(alloc, BAD_SLOT, function, instruction)
@@ -256,6 +259,10 @@ fn push_spaced(text: &mut Vec<u8>, numbers: &[u64]) -> Result<(), AllocError>
 }
 
 /// Numbers on a line, with one blank between.
+///
+/// # Errors
+///
+/// Want of memory.
 pub fn words(alloc: Global, words: &[u64]) -> Result<Vec<u8>, AllocError>
     ensures { IfOk result (λ text. text.items ≡ line.words_line words.now) }
 {

@@ -43,6 +43,10 @@ fn status_of(fault: ImageFault) -> Status
 }
 
 /// The answer to an image that is refused.
+///
+/// # Errors
+///
+/// Want of memory.
 pub fn refuse_image(alloc: Global, fault: ImageFault) -> Result<Refused, AllocError>
     ensures other { IfOk result (λ c. fault ≢ Memory) }
     ensures due { IfOk result (λ c. due_of c ≡ image_due fault) }
@@ -86,6 +90,10 @@ fn read_image_file<S: Source>(alloc: Global, src: &mut S, image: &[u8]) -> Resul
 }
 
 /// The file of that name, if it is accepted, and then the image of that name.
+///
+/// # Errors
+///
+/// The answer to a file that is not read or not accepted, or to an image that is not read or spelled; or want of memory.
 pub fn open_image<S: Source>(
     alloc: Global,
     src: &mut S,

@@ -57,6 +57,10 @@ fn refuse_long(alloc: Global, limit: usize) -> Result<Refused, AllocError>
 
 /// The bytes of the file of that name, if there are at most so many. One more than the limit is read, and
 /// no further.
+///
+/// # Errors
+///
+/// The answer to a file that is over the limit or not read, or want of memory.
 pub fn read_within<S: Source>(
     alloc: Global,
     src: &mut S,

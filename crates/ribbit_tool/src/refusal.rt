@@ -59,20 +59,24 @@ impl From<AllocError> for Refusal {
 }
 
 /// The answer to bytes without tokens.
+///
+/// # Errors
+///
+/// Want of memory.
 pub fn refuse_bytes(alloc: Global, fault: LexFault) -> Result<Refused, AllocError>
     ensures due { IfOk result (λ c. due_of c ≡ accepting.lex_due fault) }
     ensures other { IfOk result (λ c. fault ≢ lexing.Memory) }
 {
     match fault {
         LexFault::BadByte(at) => {
-            let line = fault_line::at_byte(alloc, b"bad byte", at as u64)?;
+            let line = fault_line::at_byte(alloc, "bad byte", at as u64)?;
             Ok(Refused {
                 status: Status::Syntax,
                 line,
             })
         }
         LexFault::NumberTooWide(at) => {
-            let line = fault_line::at_byte(alloc, b"number over 64 bits", at as u64)?;
+            let line = fault_line::at_byte(alloc, "number over 64 bits", at as u64)?;
             Ok(Refused {
                 status: Status::Syntax,
                 line,
@@ -83,6 +87,10 @@ pub fn refuse_bytes(alloc: Global, fault: LexFault) -> Result<Refused, AllocErro
 }
 
 /// The answer to tokens that are no file.
+///
+/// # Errors
+///
+/// Want of memory.
 pub fn refuse_tokens(
     alloc: Global,
     placed: &[Placed],
@@ -95,7 +103,7 @@ pub fn refuse_tokens(
     match fault {
         ReadFault::TooDeep(token) => {
             let at = byte_of(placed, length, token);
-            let line = fault_line::at_byte(alloc, b"nesting over 128", at)?;
+            let line = fault_line::at_byte(alloc, "nesting over 128", at)?;
             Ok(Refused {
                 status: Status::Limit,
                 line,
@@ -103,7 +111,7 @@ pub fn refuse_tokens(
         }
         ReadFault::Syntax(token) => {
             let at = byte_of(placed, length, token);
-            let line = fault_line::at_byte(alloc, b"syntax", at)?;
+            let line = fault_line::at_byte(alloc, "syntax", at)?;
             Ok(Refused {
                 status: Status::Syntax,
                 line,
@@ -121,6 +129,10 @@ pub fn refuse_tokens(
 }
 
 /// The answer to a file whose names have no meaning.
+///
+/// # Errors
+///
+/// Want of memory.
 pub fn refuse_names(
     alloc: Global,
     placed: &[Placed],
@@ -159,6 +171,10 @@ pub fn refuse_names(
 }
 
 /// The answer to a program that is not typed.
+///
+/// # Errors
+///
+/// Want of memory.
 pub fn refuse_types(
     alloc: Global,
     types: &[DataDecl],
@@ -195,7 +211,7 @@ pub fn refuse_types(
         }
         TypeFault::VariableTwice(token) => {
             let at = byte_of(placed, length, token);
-            let line = fault_line::at_byte(alloc, b"variable twice", at)?;
+            let line = fault_line::at_byte(alloc, "variable twice", at)?;
             Ok(Refused {
                 status: Status::Meaning,
                 line,
@@ -206,6 +222,10 @@ pub fn refuse_types(
 }
 
 /// The answer to a program with a match that misses the values of a pattern.
+///
+/// # Errors
+///
+/// Want of memory.
 pub fn refuse_match(
     alloc: Global,
     types: &[DataDecl],
@@ -225,6 +245,10 @@ pub fn refuse_match(
 }
 
 /// The answer to a program with a layout that cannot be derived.
+///
+/// # Errors
+///
+/// Want of memory.
 pub fn refuse_derived(
     alloc: Global,
     types: &[DataDecl],
@@ -264,6 +288,10 @@ fn named_layouts(alloc: Global, covered: &Covered, rule: u8) -> Result<Seq<Layou
 }
 
 /// The answer to a program whose layouts do not agree with its types.
+///
+/// # Errors
+///
+/// Want of memory.
 pub fn refuse_layouts(
     alloc: Global,
     covered: &Covered,

@@ -43,6 +43,10 @@ pub struct Prepared {
 }
 
 /// Prepares a program: its code, and the arguments that the words spell.
+///
+/// # Errors
+///
+/// The answer to words that spell no arguments of `main`, or want of memory.
 pub fn prepare(alloc: Global, agreed: &Agreed, words: &[Name]) -> Result<Prepared, Refusal>
     ensures prepared { IfOk result (λ r. IsPrepared agreed.now r.code r.args) }
     ensures spelled { IfOk result (λ r. Spell agreed.now.covered.program words.now r.args) }
@@ -134,6 +138,11 @@ fn run_bytes<L: Ledger>(
 }
 
 /// The value of `main` of a file on these values, within limits.
+///
+/// # Errors
+///
+/// The answer to a file that is not read or not accepted, to words that spell no arguments, and to a run that passes
+/// a limit; or want of memory.
 pub fn run_file<S: Source, L: Ledger>(
     alloc: Global,
     src: &mut S,

@@ -3,7 +3,6 @@
 ghost use Rattle.std.specs.Prelude.{◌≡◌, ◌≤◌, ℕ, List, IfOk, Ok};
 ghost use Rattle.ribbit_tool.specs.Answer.{refusal};
 ghost use Rattle.ribbit_tool.specs.Answers.{Owes, files_of};
-ghost use Rattle.ribbit_tool.specs.Command.{command_of};
 ghost use Rattle.ribbit_tool.specs.Delivery.{change};
 ghost use Rattle.ribbit_tool.specs.Headline.{GivesHeld, Headline};
 ghost use Rattle.ribbit_tool.specs.Headlines.{CompileHeadline, CountHeadline, GenerateHeadline, ImageHeadline};
@@ -12,6 +11,7 @@ ghost use Rattle.ribbit_tool.specs.Promise.{Performs, IsRight};
 ghost use Rattle.ribbit_tool.specs.Reading.{ReadsInTurn, source_of};
 ghost use Rattle.ribbit_tool.specs.View.{added, command_view, due_of, Meets};
 ghost use Rattle.ribbit_tool.specs.declared.status.Status.TheVariants as status;
+ghost use Rattle.ribbit_tool.specs.inner.Composing.{Composes};
 
 use crate::check::check_file;
 use crate::command::{Command, CommandFault, parse};
@@ -97,10 +97,9 @@ fn compose<S: Source, L: Ledger>(
     src: &mut S,
     steps: &mut Steps<L>,
 ) -> Result<Vec<u8>, Refusal>
-    ensures read { ReadsInTurn (files_of (command_of words.now))
-        (source_of S.tells S.held S.readings S.faults src.old src.new) }
-    ensures owed { Meets (Owes (command_of words.now) (added S.readings src.old src.new))
-        steps.old.taken steps.new.taken result }
+    ensures { Composes words.now
+        (source_of S.tells S.held S.readings S.faults src.old src.new)
+        (record { before = steps.old.taken; now = steps.new.taken }) result }
 {
     match parse(alloc, words) {
         Ok(command) => obey(alloc, &command, src, steps),

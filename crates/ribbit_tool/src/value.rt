@@ -5,6 +5,7 @@ ghost use Rattle.rb_core.specs.Typing.{result_type};
 ghost use Rattle.rb_image.specs.Values.{IsDeclared};
 ghost use Rattle.rb_image_text.specs.Images.{AreBlocks};
 ghost use Rattle.rb_image_text.specs.Places.{AreInPlace};
+ghost use Rattle.rb_layout.specs.Flattening.{flat_layouts};
 ghost use Rattle.ribbit_tool.specs.Answer.{printed};
 ghost use Rattle.ribbit_tool.specs.Answers.{Owes, files_of};
 ghost use Rattle.ribbit_tool.specs.Command as spec;
@@ -24,6 +25,13 @@ use rb_layout::agreed::Agreed;
 use rb_run::answer::result_of_main;
 use std::alloc::Global;
 
+// Tells that the layouts of a program that agrees are the flat forms of its own.
+fn layouts_are_flat(agreed: &Agreed)
+    ensures { agreed.now.layouts ≡ flat_layouts agreed.now.covered.program }
+{
+    let _ = agreed.layouts();
+}
+
 /// The value of a type that an image holds, on a line.
 pub(crate) fn value_text(
     alloc: Global,
@@ -37,6 +45,7 @@ pub(crate) fn value_text(
     ensures text { IfOk result (λ text. ReadsBack agreed.now.covered.program ty image.now (printed text.items 0)) }
     ensures refused { IfErr result (IsRefusal (ReadsBack agreed.now.covered.program ty image.now)) }
 {
+    layouts_are_flat(agreed);
     match read_image(alloc, agreed, ty, image, NODES) {
         Ok(value) => {
             let types = agreed.covered().program().types.as_slice();
@@ -44,8 +53,6 @@ pub(crate) fn value_text(
             Ok(text)
         }
         Err(fault) => {
-            // the fault is one over these layouts, which are the flat forms of the program's
-            let _ = agreed.layouts();
             let refused = refuse_image(alloc, fault)?;
             Err(Refusal::Refused(refused))
         }
@@ -66,6 +73,11 @@ fn value_of_main(alloc: Global, agreed: &Agreed, image: &Image) -> Result<Vec<u8
 }
 
 /// The value that an image holds of the result type of `main` of a file, where the file is accepted.
+///
+/// # Errors
+///
+/// The answer to a file that is not read or not accepted, or to an image that is not read, not spelled, or holds no value
+/// to be shown; or want of memory.
 pub fn value_file<S: Source>(
     alloc: Global,
     src: &mut S,

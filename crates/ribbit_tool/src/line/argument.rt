@@ -25,20 +25,13 @@ fn begin_argument(alloc: Global, number: u64) -> Result<Vec<u8>, AllocError>
 fn syntax(alloc: Global, number: u64, at: u64) -> Result<Vec<u8>, AllocError>
     ensures { IfOk result (λ text. text.items ≡ spec.syntax_line number at) }
 {
-    let mut text = begin_argument(alloc, number)?;
-    push(&mut text, b"syntax at byte ")?;
-    push_number(&mut text, at)?;
-    end(text)
+    Ok(format!(in alloc; "ribbit: argument {number}: syntax at byte {at}\n")?.into_bytes())
 }
 
 fn large(alloc: Global, number: u64) -> Result<Vec<u8>, AllocError>
     ensures { IfOk result (λ text. text.items ≡ spec.large_line number) }
 {
-    let mut text = begin_argument(alloc, number)?;
-    push(&mut text, b"over ")?;
-    push_number(&mut text, NODES)?;
-    push(&mut text, b" nodes")?;
-    end(text)
+    Ok(format!(in alloc; "ribbit: argument {number}: over {NODES} nodes\n")?.into_bytes())
 }
 
 fn misfit(
@@ -59,6 +52,10 @@ fn misfit(
 }
 
 /// The line of an argument of this number that is no value of this type.
+///
+/// # Errors
+///
+/// Want of memory.
 pub fn argument(
     alloc: Global,
     types: &[DataDecl],

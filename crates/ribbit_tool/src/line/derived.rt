@@ -9,6 +9,10 @@ use rb_core::types::DataDecl;
 use std::alloc::{AllocError, Global};
 
 /// The line of a packed type that reaches itself through its fields.
+///
+/// # Errors
+///
+/// Want of memory.
 pub fn recursive(alloc: Global, types: &[DataDecl], ty: u32) -> Result<Vec<u8>, AllocError>
     ensures { IfOk result (λ text. text.items ≡ line.recursive_line types.now ty) }
 {
@@ -19,6 +23,10 @@ pub fn recursive(alloc: Global, types: &[DataDecl], ty: u32) -> Result<Vec<u8>, 
 }
 
 /// The line of a packed type that needs so many bits.
+///
+/// # Errors
+///
+/// Want of memory.
 pub fn wide(alloc: Global, types: &[DataDecl], ty: u32, bits: u64) -> Result<Vec<u8>, AllocError>
     ensures { IfOk result (λ text. text.items ≡ line.wide_line types.now ty bits) }
 {

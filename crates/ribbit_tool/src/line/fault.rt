@@ -9,26 +9,27 @@ use rb_read::fault::Quantity;
 use std::alloc::{AllocError, Global};
 
 /// The line of a fault at a byte.
-pub fn at_byte(alloc: Global, fault: &[u8], at: u64) -> Result<Vec<u8>, AllocError>
+///
+/// # Errors
+///
+/// Want of memory.
+pub fn at_byte(alloc: Global, fault: &str, at: u64) -> Result<Vec<u8>, AllocError>
     ensures { IfOk result (λ text. text.items ≡ line.at_byte fault.now at) }
 {
-    let mut text = begin(alloc, fault)?;
-    push(&mut text, b" at byte ")?;
-    push_number(&mut text, at)?;
-    end(text)
+    Ok(format!(in alloc; "ribbit: {fault} at byte {at}\n")?.into_bytes())
 }
 
-fn quantity(quantity: Quantity) -> &'static [u8]
+fn quantity(quantity: Quantity) -> &'static str
     ensures { result.now ≡ line.quantity_text quantity }
 {
     match quantity {
-        Quantity::FileBytes => b"file bytes",
-        Quantity::Types => b"types",
-        Quantity::Functions => b"functions",
-        Quantity::Constructors => b"constructors",
-        Quantity::Fields => b"fields",
-        Quantity::Parameters => b"parameters",
-        Quantity::ShapeWords => b"shape words",
+        Quantity::FileBytes => "file bytes",
+        Quantity::Types => "types",
+        Quantity::Functions => "functions",
+        Quantity::Constructors => "constructors",
+        Quantity::Fields => "fields",
+        Quantity::Parameters => "parameters",
+        Quantity::ShapeWords => "shape words",
     }
 }
 
@@ -47,19 +48,24 @@ fn greatest(quantity: Quantity) -> u64
 }
 
 /// The line of a count over its limit.
+///
+/// # Errors
+///
+/// Want of memory.
 pub fn limit(alloc: Global, over: Quantity, count: u64) -> Result<Vec<u8>, AllocError>
     ensures { IfOk result (λ text. text.items ≡ line.limit_line over count) }
 {
-    let mut text = begin(alloc, b"limit ")?;
-    push(&mut text, quantity(over))?;
-    push(&mut text, b": ")?;
-    push_number(&mut text, count)?;
-    push(&mut text, b" over ")?;
-    push_number(&mut text, greatest(over))?;
-    end(text)
+    let quantity = quantity(over);
+    let greatest = greatest(over);
+    let line = format!(in alloc; "ribbit: limit {quantity}: {count} over {greatest}\n")?;
+    Ok(line.into_bytes())
 }
 
 /// The line of a name that stands for nothing.
+///
+/// # Errors
+///
+/// Want of memory.
 pub fn unknown(alloc: Global, name: &[u8], at: u64) -> Result<Vec<u8>, AllocError>
     ensures { IfOk result (λ text. text.items ≡ line.unknown_line name.now at) }
 {
@@ -71,6 +77,10 @@ pub fn unknown(alloc: Global, name: &[u8], at: u64) -> Result<Vec<u8>, AllocErro
 }
 
 /// The line of a name that was defined before.
+///
+/// # Errors
+///
+/// Want of memory.
 pub fn twice(alloc: Global, name: &[u8], at: u64) -> Result<Vec<u8>, AllocError>
     ensures { IfOk result (λ text. text.items ≡ line.twice_line name.now at) }
 {
@@ -82,9 +92,12 @@ pub fn twice(alloc: Global, name: &[u8], at: u64) -> Result<Vec<u8>, AllocError>
 }
 
 /// The line of a file without `main`.
+///
+/// # Errors
+///
+/// Want of memory.
 pub fn no_main(alloc: Global) -> Result<Vec<u8>, AllocError>
     ensures { IfOk result (λ text. text.items ≡ line.no_main_line) }
 {
-    let text = begin(alloc, b"no function main")?;
-    end(text)
+    Vec::from_slice(alloc, b"ribbit: no function main\n")
 }

@@ -5,7 +5,7 @@ ghost use Rattle.std.specs.List.{flat_map};
 ghost use Rattle.ribbit_tool.specs.Check as check;
 ghost use Rattle.ribbit_tool.specs.FileLines as line;
 
-use crate::line::{push, push_number};
+use crate::line::push;
 use crate::place::byte_of;
 use rb_core::program::Note;
 use rb_syntax::token::Placed;
@@ -14,12 +14,10 @@ use std::alloc::{AllocError, Global};
 fn note(alloc: Global, clause: u64, at: u64) -> Result<Vec<u8>, AllocError>
     ensures { IfOk result (λ text. text.items ≡ line.note_line clause at) }
 {
-    let mut text = Vec::from_slice(alloc, b"note: clause ")?;
-    push_number(&mut text, clause)?;
-    push(&mut text, b" of the match at byte ")?;
-    push_number(&mut text, at)?;
-    push(&mut text, b" is never reached\n")?;
-    Ok(text)
+    let line = format!(in alloc;
+        "note: clause {clause} of the match at byte {at} is never reached\n"
+    )?;
+    Ok(line.into_bytes())
 }
 
 fn push_note(
@@ -53,6 +51,10 @@ fn push_notes(
 }
 
 /// A line for each note, and then `ok`.
+///
+/// # Errors
+///
+/// Want of memory.
 pub fn checked(
     alloc: Global,
     placed: &[Placed],

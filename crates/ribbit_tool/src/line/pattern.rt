@@ -70,6 +70,10 @@ fn push_fields(text: &mut Vec<u8>, types: &[DataDecl], pats: &[Pat]) -> Result<(
 }
 
 /// The line of a match that misses the values of a pattern.
+///
+/// # Errors
+///
+/// Want of memory.
 pub fn missing(alloc: Global, types: &[DataDecl], pat: &Pat, at: u64) -> Result<Vec<u8>, AllocError>
     ensures { IfOk result (λ text. text.items ≡ line.missing_line types.now pat.now at) }
 {

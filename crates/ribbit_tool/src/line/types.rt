@@ -34,6 +34,10 @@ pub(crate) fn push_type(text: &mut Vec<u8>, types: &[DataDecl], ty: Ty) -> Resul
 }
 
 /// The line of the type with this number, which has no value.
+///
+/// # Errors
+///
+/// Want of memory.
 pub fn empty(alloc: Global, types: &[DataDecl], ty: u32) -> Result<Vec<u8>, AllocError>
     ensures { IfOk result (λ text. text.items ≡ line.empty_line types.now ty) }
 {
@@ -44,6 +48,10 @@ pub fn empty(alloc: Global, types: &[DataDecl], ty: u32) -> Result<Vec<u8>, Allo
 }
 
 /// The line of another type than was wanted.
+///
+/// # Errors
+///
+/// Want of memory.
 pub fn mismatch(
     alloc: Global,
     types: &[DataDecl],
@@ -63,6 +71,10 @@ pub fn mismatch(
 }
 
 /// The line of another number of parts than was wanted.
+///
+/// # Errors
+///
+/// Want of memory.
 pub fn arity(alloc: Global, wanted: u64, found: u64, at: u64) -> Result<Vec<u8>, AllocError>
     ensures { IfOk result (λ text. text.items ≡ line.arity_line wanted found at) }
 {

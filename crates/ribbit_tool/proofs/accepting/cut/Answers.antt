@@ -8,7 +8,8 @@ use Rattle.ribbit_tool.proofs.accepting.cut.Goals as goal
 pub returns-in_ok-refused-in-Err-clause-refused : goal.returns-in_ok-refused-in-Err-clause-refused
 returns-in_ok-refused-in-Err-clause-refused c =
     let shown = c.in_ok-refused-in-Err.ensures in
-    uncut c.in-Err.fault (lex_fault (lexed c.args.bytes.now) c.in-Err.fault shown.other c.in-Err.ensures.answer) shown.due
+    uncut c.in-Err.fault
+    (lex_fault c.args.bytes.now (lexed c.args.bytes.now) c.in-Err.fault shown.other c.in-Err.ensures.answer c.in-Err.ensures.right) shown.due
 
 pub returns-in-Ok-clause-tokens : goal.returns-in-Ok-clause-tokens
 returns-in-Ok-clause-tokens c =

@@ -8,7 +8,7 @@ use Rattle.ribbit_tool.proofs.accepting.name.Goals as goal
 pub returns-in-Ok-clause-well : goal.returns-in-Ok-clause-well
 returns-in-Ok-clause-well c =
     let r = c.requires in
-    c.in-Ok.ensures.well (tokens c.args.placed.now) (is_written c.args.bytes.now c.args.placed.now c.args.file.now r.few r.tokens r.read)
+    c.in-Ok.ensures.well (tokens c.args.placed.now) (is_written c.args.bytes.now c.args.placed.now c.args.file.now r.few r.read)
 
 pub returns-in_ok-refused-in-Err-clause-refused : goal.returns-in_ok-refused-in-Err-clause-refused
 returns-in_ok-refused-in-Err-clause-refused c =

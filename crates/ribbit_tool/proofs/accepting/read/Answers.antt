@@ -2,15 +2,15 @@ use Rattle.std.proofs.Common.{arith}
 use Rattle.rb_syntax.specs.Tokens.{tokens}
 use Rattle.ribbit_tool.specs.Accepting.{misread}
 use Rattle.ribbit_tool.proofs.Faults.{read_fault}
-use Rattle.ribbit_tool.proofs.Tokens.{short_tokens}
+use Rattle.ribbit_tool.proofs.OneCut.{few_tokens}
 use Rattle.ribbit_tool.proofs.accepting.read.Goals as goal
 
 pub read_file-requires : goal.read_file-requires
 read_file-requires c =
-    let few = short_tokens c.args.bytes.now c.args.placed.now c.requires.cut in
+    let few = few_tokens c.args.bytes.now c.args.placed.now c.requires.tokens in
     omega (arith, few, c.requires.few)
 
 pub returns-in_ok-refused-in-Err-clause-refused : goal.returns-in_ok-refused-in-Err-clause-refused
 returns-in_ok-refused-in-Err-clause-refused c =
     let shown = c.in_ok-refused-in-Err.ensures in
-    misread c.args.placed.now c.requires.cut c.in-Err.fault (read_fault (tokens c.args.placed.now) c.in-Err.fault shown.other c.in-Err.ensures.answer) shown.due
+    misread c.args.placed.now c.requires.tokens c.in-Err.fault (read_fault (tokens c.args.placed.now) c.in-Err.fault shown.other c.in-Err.ensures.answer) shown.due

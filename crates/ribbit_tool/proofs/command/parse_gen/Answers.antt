@@ -1,5 +1,6 @@
 use Rattle.std.proofs.Common.{List, ℕ, rules}
-use Rattle.ribbit_tool.specs.Command.{alone, gen}
+use Rattle.ribbit_tool.specs.Command.{gen}
+use Rattle.ribbit_tool.specs.inner.Parsing.{alone}
 use Rattle.ribbit_tool.proofs.command.parse_gen.Goals as goal
 
 pub returns-in_err-functions : goal.returns-in_err-functions

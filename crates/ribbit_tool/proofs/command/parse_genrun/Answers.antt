@@ -1,5 +1,6 @@
 use Rattle.std.proofs.Common.{List, ℕ, rules}
-use Rattle.ribbit_tool.specs.Command.{Limits, Parsed, alone, genrun, with_limits}
+use Rattle.ribbit_tool.specs.Command.{Limits, Parsed, genrun}
+use Rattle.ribbit_tool.specs.inner.Parsing.{alone, with_limits}
 use Rattle.ribbit_tool.proofs.command.parse_genrun.Goals as goal
 
 abbrev behind : ℕ → List (List ℕ) → Parsed

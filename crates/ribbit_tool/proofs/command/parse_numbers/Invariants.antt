@@ -1,5 +1,5 @@
 use Rattle.std.proofs.Common.{◌≡◌, ◌+◌, drop}
-use Rattle.ribbit_tool.specs.Command.{numbers_from}
+use Rattle.ribbit_tool.specs.inner.Parsing.{numbers_from}
 use Rattle.ribbit_tool.proofs.WordsRead.{prepended}
 use Rattle.ribbit_tool.proofs.command.parse_numbers.Given as goal
 

@@ -1,8 +1,7 @@
-use Rattle.std.proofs.Common.{◌≡◌, ◌∷◌, ◌≤◌, ℕ, List, length, drop, sym, subst, ap, ◌∙◌}
+use Rattle.std.proofs.Common.{◌≡◌, ◌∷◌, ℕ, List, length, drop, subst}
 use Rattle.std.proofs.lemmas.Result.{err_from_is_err_and}
-use Rattle.rb_edge.specs.History.{Reading}
 use Rattle.ribbit_tool.specs.Accepting.{IsRefused}
-use Rattle.ribbit_tool.specs.Opening.{IsOpened, IsReadAs, Opens, ReadsImage}
+use Rattle.ribbit_tool.specs.Opening.{Opens, ReadsImage}
 use Rattle.ribbit_tool.specs.Reading.{IsUnread, Source, file_limit, image_limit, whole}
 use Rattle.ribbit_tool.specs.View.{IsAcceptance}
 use Rattle.ribbit_tool.proofs.Accepted.{is_accepted}

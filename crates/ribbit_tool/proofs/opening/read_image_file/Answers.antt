@@ -1,6 +1,5 @@
 use Rattle.std.proofs.Common.{ℕ, List, length, drop, subst, IfOk, IfErr}
 use Rattle.std.proofs.lemmas.Result.{err_from_is_err_and}
-use Rattle.rb_edge.specs.History.{Reading}
 use Rattle.rb_image_text.specs.Places.{AreInPlace}
 use Rattle.rb_image_text.specs.Stopping.{IsTextOf}
 use Rattle.ribbit_tool.specs.Opening.{IsGarbled, IsReadAs, ReadsImage}

@@ -10,7 +10,7 @@ use Rattle.ribbit_tool.proofs.top.answer.Goals as goal
 
 pub returns-in-Ok : goal.returns-in-Ok
 returns-in-Ok g c =
-    let a = c.in-Ok.ensures.owed in
+    let a = c.in-Ok.ensures.owes in
     let out : Change = record {
       tells = g.O.Sink.tells c.args.out.now;
       old = g.O.Sink.taken c.args.out.now;
@@ -30,7 +30,9 @@ returns-in-Ok g c =
       now = g.E.Sink.faults c.print.new.err;
     } in
     record {
-      reads = c.in-Ok.ensures.read;
+      parsed = c.in-Ok.ensures.parsed;
+      meant = c.in-Ok.ensures.meant;
+      reads = c.in-Ok.ensures.reads;
       due = printed c.in-Ok.text.items a.0;
       owes = a.2;
       delivers = subst (λ (t : List ℕ). Prints t out err c.print.result) c.as_slice.ensures.value c.print.ensures;
@@ -39,7 +41,7 @@ returns-in-Ok g c =
 
 pub returns-in-Err-Refused : goal.returns-in-Err-Refused
 returns-in-Err-Refused g c =
-    let a = rw c.in-Err-Refused.field-0-is at c.in-Err-Refused.ensures.owed in
+    let a = rw c.in-Err-Refused.field-0-is at c.in-Err-Refused.ensures.owes in
     let out : Change = record {
       tells = g.O.Sink.tells c.args.out.now;
       old = g.O.Sink.taken c.args.out.now;
@@ -60,7 +62,9 @@ returns-in-Err-Refused g c =
     } in
     let refused = c.in-Err-Refused.refused in
     record {
-      reads = c.in-Err-Refused.ensures.read;
+      parsed = c.in-Err-Refused.ensures.parsed;
+      meant = c.in-Err-Refused.ensures.meant;
+      reads = c.in-Err-Refused.ensures.reads;
       due = due_after a.0 refused;
       owes = a.2;
       delivers = subst (λ (t : List ℕ). Refuses (status_number refused.status) t out err c.refuse.result) c.as_slice-in-Err-Refused.ensures.value c.refuse.ensures;
@@ -70,7 +74,9 @@ returns-in-Err-Refused g c =
 pub returns-in-Err-Memory : goal.returns-in-Err-Memory
 returns-in-Err-Memory g c =
     record {
-      reads = c.in-Err-Memory.ensures.read;
+      parsed = c.in-Err-Memory.ensures.parsed;
+      meant = c.in-Err-Memory.ensures.meant;
+      reads = c.in-Err-Memory.ensures.reads;
       due = refusal NoMemory no_memory_line;
       owes = out_of_memory refl;
       delivers = c.refuse-in-Err-Memory.ensures;

@@ -1,22 +1,23 @@
-use Rattle.std.proofs.Common.{length, drop, refl, sym, subst, arith}
-use Rattle.ribbit_tool.specs.Answers.{Owes, answered, files_of}
-use Rattle.ribbit_tool.specs.Command.{Parsed, command_of}
+use Rattle.std.proofs.Common.{[], refl, arith, Ok, Err}
+use Rattle.std.proofs.lemmas.Result.{err_from_is_err_and}
+use Rattle.ribbit_tool.specs.Answers.{answered, files_of}
 use Rattle.ribbit_tool.specs.Reading.{Source}
-use Rattle.ribbit_tool.specs.View.{due_of}
+use Rattle.ribbit_tool.specs.View.{command_view}
+use Rattle.ribbit_tool.specs.inner.Parsing.{command_of}
 use Rattle.ribbit_tool.proofs.ReadLaws.{none_in_turn}
+use Rattle.ribbit_tool.proofs.Worded.{is_parsed}
 use Rattle.ribbit_tool.proofs.top.compose.Goals as goal
 
-pub returns-in_ok-refused-in-Err-Usage-clause-owed : goal.returns-in_ok-refused-in-Err-Usage-clause-owed
-returns-in_ok-refused-in-Err-Usage-clause-owed g c =
-    let readings = drop (length (g.S.Source.readings c.args.src.now)) (g.S.Source.readings c.args.src.now) in (
-      0,
-      omega arith,
-      subst (λ (parsed : Parsed). Owes parsed readings (due_of c.in_ok-refused-in-Err-Usage.refused)) (sym (rw c.in-Err-Usage.field-0-is at c.in-Err-Usage.ensures))
-          (answered c.in_ok-refused-in-Err-Usage.ensures),
-    )
+pub returns-in-Ok : goal.returns-in-Ok
+returns-in-Ok g c = record {
+  parsed = Ok (command_view c.in-Ok.command);
+  meant = c.in-Ok.ensures;
+  reads = c.obey.ensures.read;
+  owes = c.obey.ensures.owed;
+}
 
-pub returns-in_ok-refused-in-Err-Usage-clause-read : goal.returns-in_ok-refused-in-Err-Usage-clause-read
-returns-in_ok-refused-in-Err-Usage-clause-read g c =
+pub returns-in_ok-refused-in-Err-Usage : goal.returns-in_ok-refused-in-Err-Usage
+returns-in_ok-refused-in-Err-Usage g c =
     let source : Source = record {
       tells = g.S.Source.tells c.args.src.now;
       held = g.S.Source.held c.args.src.now;
@@ -25,4 +26,44 @@ returns-in_ok-refused-in-Err-Usage-clause-read g c =
       before = g.S.Source.faults c.args.src.now;
       now = g.S.Source.faults c.args.src.now;
     } in
-    none_in_turn source (files_of (command_of c.args.words.now)) refl
+    record {
+      parsed = Err c.in-Err-Usage.word;
+      meant = rw c.in-Err-Usage.field-0-is at c.in-Err-Usage.ensures;
+      reads = none_in_turn source [] refl;
+      owes = (0, omega arith, answered c.in_ok-refused-in-Err-Usage.ensures);
+    }
+
+pub returns-in_err-refused-in-Err-Usage : goal.returns-in_err-refused-in-Err-Usage
+returns-in_err-refused-in-Err-Usage g c =
+    let source : Source = record {
+      tells = g.S.Source.tells c.args.src.now;
+      held = g.S.Source.held c.args.src.now;
+      old = g.S.Source.readings c.args.src.now;
+      new = g.S.Source.readings c.args.src.now;
+      before = g.S.Source.faults c.args.src.now;
+      now = g.S.Source.faults c.args.src.now;
+    } in
+    let p = err_from_is_err_and c.from_residual.result c.from_residual.ensures.1 in
+    record {
+      parsed = Err c.in-Err-Usage.word;
+      meant = rw c.in-Err-Usage.field-0-is at c.in-Err-Usage.ensures;
+      reads = none_in_turn source [] refl;
+      owes = rw (p.1, p.2) tt;
+    }
+
+pub returns-in-Err-Memory : goal.returns-in-Err-Memory
+returns-in-Err-Memory g c =
+    let source : Source = record {
+      tells = g.S.Source.tells c.args.src.now;
+      held = g.S.Source.held c.args.src.now;
+      old = g.S.Source.readings c.args.src.now;
+      new = g.S.Source.readings c.args.src.now;
+      before = g.S.Source.faults c.args.src.now;
+      now = g.S.Source.faults c.args.src.now;
+    } in
+    record {
+      parsed = command_of c.args.words.now;
+      meant = is_parsed c.args.words.now;
+      reads = none_in_turn source (files_of (command_of c.args.words.now)) refl;
+      owes = tt;
+    }

@@ -1,7 +1,6 @@
-use Rattle.std.proofs.Common.{ℕ, List, length, drop, Ok}
+use Rattle.std.proofs.Common.{length, drop, Ok}
 use Rattle.std.proofs.lemmas.Result.{err_from_is_err_and}
 use Rattle.rb_core.specs.Typing.{result_type}
-use Rattle.rb_edge.specs.History.{Reading}
 use Rattle.ribbit_tool.specs.Answers.{Owes}
 use Rattle.ribbit_tool.specs.Command.{value}
 use Rattle.ribbit_tool.specs.Opening.{Following, Opens}

@@ -1,6 +1,5 @@
 use Rattle.std.proofs.Common.{List, ℕ, ap, ◌∙◌}
 use Rattle.rb_core.specs.declared.types.DataDecl.{DataDecl}
-use Rattle.rb_core.specs.declared.types.Ty.{Ty}
 use Rattle.rb_values.specs.Texts.{text_of}
 use Rattle.ribbit_tool.specs.Answer.{printed}
 use Rattle.ribbit_tool.specs.Lines.{ended}
@@ -21,4 +20,4 @@ returns-in_ok-refused-in-Err-clause-refused c =
     let agreed = c.args.agreed.now in
     let m = c.in-Err in
     let r = c.in_ok-refused-in-Err in
-    refused_back agreed.covered.program agreed.layouts c.layouts.ensures.flat c.args.ty c.args.image.now m.fault m.ensures.fault r.ensures.other _ r.ensures.due
+    refused_back agreed.covered.program agreed.layouts c.layouts_are_flat.ensures c.args.ty c.args.image.now m.fault m.ensures.fault r.ensures.other _ r.ensures.due
