@@ -12,4 +12,4 @@ check-requires c =
     let text = c.args.text.now in
     let right = subst (λ (read : Lexed). IsRight text read) c.in_ok-placed.ensures.answer c.in_ok-placed.ensures.right in
     let read = rw c.as_slice.ensures.value at c.in_ok-file.ensures.answer in
-    c.in_ok-program.ensures.well (tokens _) (is_written text _ _ (omega (arith, c.if-text-gt-MOST.false)) right (record { cut = c.in_ok-placed.ensures.answer; tree = read }))
+    c.in_ok-program.ensures.well (tokens _) (is_written text _ _ (omega (arith, c.if-text-gt-MOST.false)) (record { cut = right; tree = read }))
