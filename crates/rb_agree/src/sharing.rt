@@ -28,7 +28,7 @@ use rb_core::types::DataDecl;
 use rb_layout::layout::{Layout, Leaf};
 use std::alloc::{AllocError, Global};
 
-/// How many constructors a type has at most.
+// How many constructors a type has at most.
 const CONSTRUCTORS: usize = 256;
 
 fn sub_at(pat: &Pat, field: u32) -> Option<&Pat>

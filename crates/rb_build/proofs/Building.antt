@@ -7,6 +7,7 @@ use Rattle.rb_core.specs.declared.types.ConRef.{ConRef}
 use Rattle.rb_core.specs.declared.outcome.Event.{Event}
 use Rattle.rb_core.specs.declared.outcome.Event.TheVariants.{Built}
 use Rattle.rb_core.specs.declared.outcome.SourceEnd.TheVariants.{Done}
+use Rattle.rb_core.specs.declared.pattern.Pat.{Pat}
 use Rattle.rb_core.specs.Meaning.{built}
 use Rattle.rb_target.specs.Meaning.{World, Outcome as Run}
 use Rattle.rb_target.specs.Sheet.{Sheet}
@@ -16,11 +17,11 @@ use Rattle.rb_rel.specs.Switches.{choose_of}
 use Rattle.rb_fragment.specs.declared.held.Held.{Held}
 use Rattle.rb_fragment.specs.Plan.{Plan, cost_at, cost_of_built}
 use Rattle.rb_fragment.specs.Owing.{Does, Ends}
-use Rattle.rb_fragment.specs.Fragments.{Applies, Comes}
+use Rattle.rb_fragment.specs.Fragments.{Comes}
 use Rattle.rb_fragment.proofs.Laying.{event_fits, event_over}
 use Rattle.rb_fragment.proofs.Moves.{one-from}
 use Rattle.rb_fetch.specs.Constructing.{Constructs, IsConstructed}
-use Rattle.rb_build.specs.Building.{Builds}
+use Rattle.rb_build.specs.Building.{Builds, BuildsShown}
 
 module _ (plan : Plan) (con : ConRef) (vs : List Value) (out : Run) (w : World) (Ok : Value → World → Type 0) (Same : World → Type 0) where
   abbrev v : Value
@@ -38,20 +39,20 @@ module _ (plan : Plan) (con : ConRef) (vs : List Value) (out : Run) (w : World) 
   paid (Over full) is r = let few = r.2 in let same = cost in event_over plan w.switches out w.memory event v w.left full r.0 Ok is r.1 (omega (arith, few, same))
   paid (Fits bs top) is r = let few = r.3 in let same = cost in event_fits plan w.switches out w.memory event v w.left top bs r.0 Ok is r.1 r.2 (omega (arith, few, same)) r.4.0
 
-applies : (plan : Plan) (con : ConRef) (hs : List Held) (old new : Sheet) (held : Held) → IsConstructed plan con hs old new held → Applies plan (λ calls. built con) hs old new (Named con.ty) held.slots
-applies plan con hs old new held made = record {
+builds_shown : (plan : Plan) (con : ConRef) (hs : List Held) (shown : List Pat) (old new : Sheet) (held : Held) → IsConstructed plan con hs shown old new held → BuildsShown plan con hs shown old new held.slots
+builds_shown plan con hs shown old new held made = record {
   adds = made.adds;
   given = made.given;
   count = made.count;
   fresh = λ x i. one-from old.slots x held.slots made.fresh i;
-  does = λ calls clean vs. record {
+  does = λ calls clean vs as_shown. record {
     runs = λ final callee next law rel agrees s w long good pre.
         let out = next (length old.code) s w in
         paid plan con vs out w (Comes plan clean out next (length new.code) old.slots (Named con.ty) held.slots s) (λ w'. blocks_of plan.layouts con.ty (Con con.con vs) ≡ [] → w'.memory ≡ w.memory)
-        (lay w.memory.limit w.memory.next (blocks_of plan.layouts con.ty (Con con.con vs))) refl (made.does clean vs final callee next law agrees s w long good pre);
+        (lay w.memory.limit w.memory.next (blocks_of plan.layouts con.ty (Con con.con vs))) refl (made.does clean vs as_shown final callee next law agrees s w long good pre);
   };
 }
 
-pub builds : (agreed : LaidOut) (con : ConRef) (hs : List Held) (old new : Sheet) (held : Held) → Constructs agreed con hs old new held → Builds agreed con hs old new held
-builds agreed con hs old new held constructs plan of fields is kinds given =
-    let made = constructs plan of fields is kinds given in (made.kind, applies plan con hs old new held made)
+pub builds : (agreed : LaidOut) (con : ConRef) (hs : List Held) (shown : List Pat) (old new : Sheet) (held : Held) → Constructs agreed con hs shown old new held → Builds agreed con hs shown old new held
+builds agreed con hs shown old new held constructs plan of fields is kinds given =
+    let made = constructs plan of fields is kinds given in (made.kind, builds_shown plan con hs shown old new held made)

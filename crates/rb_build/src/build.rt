@@ -4,6 +4,7 @@ ghost use Rattle.std.specs.Prelude.{IfOk, OnOk};
 ghost use Rattle.rb_target.specs.Growth.{Grows};
 ghost use Rattle.rb_build.specs.Building.{Builds};
 
+use rb_core::pattern::Pat;
 use rb_core::types::ConRef;
 use rb_fetch::construct::construct;
 use rb_fragment::held::Held;
@@ -11,7 +12,8 @@ use rb_layout::agreed::Agreed;
 use rb_target::body::Body;
 use std::alloc::{AllocError, Global};
 
-/// Code that constructs a value by a constructor, of values that are held, one a field.
+/// Code that constructs a value by a constructor, of values that are held, one a field. Each matches the pattern
+/// that is shown of it; a wildcard shows nothing.
 ///
 /// # Errors
 /// `AllocError` where memory is wanting.
@@ -21,10 +23,12 @@ pub fn emit_build(
     agreed: &Agreed,
     con: ConRef,
     args: &[Held],
+    shown: &[Pat],
 ) -> Result<Held, AllocError>
-    ensures builds { IfOk result (λ held. Builds agreed.now con args.now body.old body.new held) }
+    ensures builds { IfOk result
+        (λ held. Builds agreed.now con args.now shown.now body.old body.new held) }
     ensures grows { OnOk result (Grows body.old.code body.new.code) }
 {
-    let held = construct(alloc, body, agreed, con, args)?;
+    let held = construct(alloc, body, agreed, con, args, shown)?;
     Ok(held)
 }

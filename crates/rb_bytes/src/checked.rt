@@ -79,6 +79,10 @@ fn write_bytes(cells: &mut [Cell], at: u64, count: u64, word: u64)
 
 impl CheckedMemory {
     /// An empty region that ends at the limit, which is from 64 to 16,777,216.
+    ///
+    /// # Errors
+    ///
+    /// Want of memory.
     pub fn new(alloc: Global, limit: u64) -> Result<CheckedMemory, AllocError>
         requires { (64 ≤ limit) × (limit ≤ 16777216) }
         ensures value { IfOk result (λ m. m ≡ empty_memory limit) }

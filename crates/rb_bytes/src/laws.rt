@@ -12,6 +12,10 @@ use crate::memory::ByteMemory;
 
 /// Places a block. All that was placed and written stays, the new block is found at its address, and
 /// none of its bytes is written.
+///
+/// # Errors
+///
+/// `Full` exactly where the block would end above the limit; then nothing changes.
 pub fn place_block<M: ByteMemory>(memory: &mut M, size: u64, align: u64) -> Result<u64, Full>
     requires good { IsGood (M.memory memory.old) }
     requires size { IsSize size }
@@ -30,6 +34,11 @@ pub fn place_block<M: ByteMemory>(memory: &mut M, size: u64, align: u64) -> Resu
 }
 
 /// Stores a word. It is loaded again as far as its width goes, and other bytes stay.
+///
+/// # Errors
+///
+/// `Astray` exactly where no block begins at the base or the bytes do not lie within it; then nothing
+/// changes.
 pub fn store_word<M: ByteMemory>(
     memory: &mut M,
     base: u64,
@@ -51,6 +60,11 @@ pub fn store_word<M: ByteMemory>(
 
 /// Loads a word: the number that its bytes spell, the lowest first. The trap names the first byte of it
 /// that was never written.
+///
+/// # Errors
+///
+/// `Astray` where no block begins at the base or the bytes do not lie within it, else `Unwritten` for the
+/// first byte of them that was never written.
 pub fn load_word<M: ByteMemory>(memory: &M, base: u64, offset: u64, width: u64) -> Result<u64, Trap>
     requires width { IsWidth width }
     requires unchecked { M.CHECKS ≡ false → IsOk (load_of (M.memory memory.now) base offset width) }

@@ -35,6 +35,10 @@ pub trait ByteMemory {
 
     /// Places a block at the least multiple of the alignment from the next address on, and gives its
     /// address. Where it doesn't fit, nothing changes.
+    ///
+    /// # Errors
+    ///
+    /// `Full` exactly where the block would end above the limit.
     fn place(&mut self, size: u64, align: u64) -> Result<u64, Full>
         requires size { IsSize size }
         requires align { IsAlign align }
@@ -42,6 +46,12 @@ pub trait ByteMemory {
         ensures good { IsGood (memory self.new) };
 
     /// The number in some bytes of the block that begins at the base.
+    ///
+    /// # Errors
+    ///
+    /// `Astray` exactly where no block begins at the base or the bytes do not lie within it, else `Unwritten`
+    /// for the first of them that was never written. Where a memory does not check, its caller sees to it
+    /// that neither comes.
     fn load(&self, base: u64, offset: u64, width: u64) -> Result<u64, Trap>
         requires width { IsWidth width }
         requires unchecked { CHECKS ≡ false → IsOk (load_of (memory self.now) base offset width) }
@@ -49,6 +59,11 @@ pub trait ByteMemory {
 
     /// Writes the low bits of a word into some bytes of the block that begins at the base. Where it
     /// traps, nothing changes.
+    ///
+    /// # Errors
+    ///
+    /// `Astray` exactly where no block begins at the base or the bytes do not lie within it. Where a memory
+    /// does not check, its caller sees to it that none comes.
     fn store(&mut self, base: u64, offset: u64, width: u64, word: u64) -> Result<(), Trap>
         requires width { IsWidth width }
         requires unchecked { CHECKS ≡ false → IsOk (store_of (memory self.old) base offset width word).0 }

@@ -24,7 +24,7 @@ pub enum CoverFault {
     /// The match at this token misses the values of this pattern.
     #[error("a match misses a value")]
     Missing(u32, Pat),
-    /// Memory is wanting.
+    /// Want of memory.
     #[error("no memory")]
     Memory,
 }
@@ -55,7 +55,7 @@ pub fn cover(alloc: Global, typed: &Typed) -> Result<Seq<Note>, CoverFault>
     cover_sites(alloc, program.types.as_slice(), sites.as_slice())
 }
 
-/// The notes on some matches.
+// The notes on some matches.
 fn cover_sites(alloc: Global, types: &[DataDecl], sites: &[Site]) -> Result<Seq<Note>, CoverFault>
     requires inhabited { AreInhabited types.now }
     requires numbered { AreNumberedSites types.now sites.now }
@@ -69,7 +69,7 @@ fn cover_sites(alloc: Global, types: &[DataDecl], sites: &[Site]) -> Result<Seq<
     Ok(notes)
 }
 
-/// Adds the notes on one match.
+// Adds the notes on one match.
 fn cover_site(
     alloc: Global,
     types: &[DataDecl],
@@ -87,7 +87,7 @@ fn cover_site(
     Ok(())
 }
 
-/// Whether a match is exhaustive.
+// Whether a match is exhaustive.
 fn exhaust_site(alloc: Global, types: &[DataDecl], site: &Site) -> Result<(), CoverFault>
     requires inhabited { AreInhabited types.now }
     requires numbered { IsNumberedSite types.now site.now }
@@ -101,7 +101,7 @@ fn exhaust_site(alloc: Global, types: &[DataDecl], site: &Site) -> Result<(), Co
     }
 }
 
-/// Adds a note for each of these clauses of the match at a token.
+// Adds a note for each of these clauses of the match at a token.
 fn add_notes(at: u32, clauses: &[usize], notes: &mut Seq<Note>) -> Result<(), AllocError>
     requires { All (λ i. i < 2 ^ 32) clauses.now }
     ensures { OnOk result (notes.new ≡ notes.old ++ map (note_at at) clauses.now) }

@@ -11,6 +11,10 @@ use std::alloc::{AllocError, Global};
 /// The number of the first type without a value. A type is marked as long as one is left that
 /// some constructor makes from marked types and integers; each search marks one type, so there
 /// are no more searches than types, and one.
+///
+/// # Errors
+///
+/// Want of memory.
 pub fn first_empty(alloc: Global, types: &[DataDecl]) -> Result<Option<usize>, AllocError>
     ensures { IfOk result (λ found. MatchOption found (HaveValues types.now) (IsFirstEmpty types.now)) }
 {
@@ -21,7 +25,7 @@ pub fn first_empty(alloc: Global, types: &[DataDecl]) -> Result<Option<usize>, A
     Ok(first_unmarked(marks.as_slice()))
 }
 
-/// A type that is to be marked, if one is left.
+// A type that is to be marked, if one is left.
 fn next_live(types: &[DataDecl], marks: &[bool]) -> Option<usize>
     requires { length marks.now ≡ length types.now }
     ensures { MatchOption result (IsSettled types.now marks.now) (IsNewlyLive types.now marks.now) }
@@ -34,7 +38,7 @@ fn next_live(types: &[DataDecl], marks: &[bool]) -> Option<usize>
     None
 }
 
-/// The first type without a mark.
+// The first type without a mark.
 fn first_unmarked(marks: &[bool]) -> Option<usize>
     ensures { MatchOption result (AllMarked marks.now) (IsFirstUnmarked marks.now) }
 {
@@ -46,7 +50,7 @@ fn first_unmarked(marks: &[bool]) -> Option<usize>
     None
 }
 
-/// Whether the data type with this number is marked.
+// Whether the data type with this number is marked.
 fn is_mark(marks: &[bool], t: usize) -> bool
     ensures { result ≡ mark_of marks.now t }
 {
@@ -56,7 +60,7 @@ fn is_mark(marks: &[bool], t: usize) -> bool
     }
 }
 
-/// Whether a type is known to have a value.
+// Whether a type is known to have a value.
 fn is_marked(marks: &[bool], ty: Ty) -> bool
     ensures { result ≡ is_marked marks.now ty }
 {
@@ -66,7 +70,7 @@ fn is_marked(marks: &[bool], ty: Ty) -> bool
     }
 }
 
-/// Whether some constructor has fields of marked types alone.
+// Whether some constructor has fields of marked types alone.
 fn is_live(marks: &[bool], data_type: &DataDecl) -> bool
     ensures { result ≡ type_is_live marks.now data_type.now }
 {
@@ -77,7 +81,7 @@ fn is_live(marks: &[bool], data_type: &DataDecl) -> bool
         .any(|con| are_marked(marks, con.fields.as_slice()))
 }
 
-/// Whether each of these types is marked.
+// Whether each of these types is marked.
 fn are_marked(marks: &[bool], fields: &[Ty]) -> bool
     ensures { result ≡ list_all (is_marked marks.now) fields.now }
 {

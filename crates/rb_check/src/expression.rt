@@ -24,7 +24,7 @@ pub enum Wanted<'a> {
 }
 
 impl<'a> Wanted<'a> {
-    /// How many arguments are wanted.
+    // How many arguments are wanted.
     fn len(self) -> usize
         ensures { result ≡ length (wanted_types self.entry) }
     {
@@ -34,7 +34,7 @@ impl<'a> Wanted<'a> {
         }
     }
 
-    /// The type that is wanted of the argument with this number.
+    // The type that is wanted of the argument with this number.
     fn at(self, i: usize) -> Ty
         requires { i < length (wanted_types self) }
         ensures { slice_get (wanted_types self.entry) i ≡ Some result }
@@ -47,6 +47,10 @@ impl<'a> Wanted<'a> {
 }
 
 /// The type of an expression, where `wanted` is wanted of it or none is.
+///
+/// # Errors
+///
+/// The first fault of typing, `Mismatch`, `Arity` or `VariableTwice`; or want of memory.
 #[cycle(typing)]
 pub fn type_expression(
     program: &Program,
@@ -107,7 +111,7 @@ pub fn type_expression(
     }
 }
 
-/// The type of a call of the function with this number.
+// The type of a call of the function with this number.
 #[cycle(typing)]
 fn type_call(
     program: &Program,
@@ -133,7 +137,7 @@ fn type_call(
     fit(at, wanted, result_type(program, fun))
 }
 
-/// The type of a construction.
+// The type of a construction.
 #[cycle(typing)]
 fn type_build(
     program: &Program,
@@ -153,7 +157,7 @@ fn type_build(
     fit(at, wanted, Ty::Named(con.ty))
 }
 
-/// Types each argument with its type wanted, after their number is checked.
+// Types each argument with its type wanted, after their number is checked.
 #[cycle(typing)]
 fn type_arguments(
     program: &Program,
@@ -175,7 +179,7 @@ fn type_arguments(
     Ok(())
 }
 
-/// The type of an operator's result.
+// The type of an operator's result.
 #[cycle(typing)]
 fn type_binary(
     program: &Program,
@@ -197,7 +201,7 @@ fn type_binary(
     fit(at, wanted, operator_type(op, second))
 }
 
-/// The type of an expression that has to be an integer.
+// The type of an expression that has to be an integer.
 #[cycle(typing)]
 fn type_integer(
     program: &Program,
@@ -213,7 +217,7 @@ fn type_integer(
     integer(first_token(expr), found)
 }
 
-/// The type of a `let` that binds `param`.
+// The type of a `let` that binds `param`.
 #[cycle(typing)]
 fn type_let(
     program: &Program,
@@ -237,7 +241,7 @@ fn type_let(
     Ok(found)
 }
 
-/// The type of a match: that of its first clause, which is wanted of the others.
+// The type of a match: that of its first clause, which is wanted of the others.
 #[cycle(typing)]
 fn type_match(
     program: &Program,
@@ -255,7 +259,7 @@ fn type_match(
     type_clauses(program, scrutinee, cases, wanted, scope)
 }
 
-/// The type of the clauses of a match on a scrutinee of this type.
+// The type of the clauses of a match on a scrutinee of this type.
 #[cycle(typing)]
 fn type_clauses(
     program: &Program,
@@ -275,7 +279,7 @@ fn type_clauses(
     Ok(found.unwrap_or(Ty::Int(64)))
 }
 
-/// The type of a clause's body, within what its pattern binds.
+// The type of a clause's body, within what its pattern binds.
 #[cycle(typing)]
 fn type_clause(
     program: &Program,
@@ -295,7 +299,7 @@ fn type_clause(
     Ok(found)
 }
 
-/// The first token of an expression.
+// The first token of an expression.
 fn first_token(expr: &Expr) -> u32
     ensures { (types : List DataDecl) → (funs : List Fun) → (rule_of types funs expr.now).at ≡ result }
 {
@@ -323,7 +327,7 @@ fn variable_type(var: u32, scope: &[Param]) -> Ty
     Ty::Int(64)
 }
 
-/// The parameters of the function with this number.
+// The parameters of the function with this number.
 fn params_of(program: &Program, fun: u32) -> &[Param]
     ensures { result.now ≡ params_of (slice_get program.now.funs fun) }
 {
@@ -333,7 +337,7 @@ fn params_of(program: &Program, fun: u32) -> &[Param]
     }
 }
 
-/// The result type of the function with this number.
+// The result type of the function with this number.
 fn result_type(program: &Program, fun: u32) -> Ty
     ensures { result ≡ result_type program.now.funs fun }
 {

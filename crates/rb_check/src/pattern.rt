@@ -41,7 +41,7 @@ pub fn repeated(params: &[Param]) -> Option<u32>
     None
 }
 
-/// Whether a variable is one of the list, in which each number is below `above`.
+// Whether a variable is one of the list, in which each number is below `above`.
 fn stands_below(params: &[Param], above: u64, var: u32) -> bool
     requires { AreBelow above params.now }
     ensures { result ≡ list_any (λ q. q.var == var) params.now }
@@ -49,7 +49,7 @@ fn stands_below(params: &[Param], above: u64, var: u32) -> bool
     u64::from(var) < above && stands_in(params, var)
 }
 
-/// Whether a variable is one of the list.
+// Whether a variable is one of the list.
 fn stands_in(params: &[Param], var: u32) -> bool
     ensures { result ≡ list_any (λ q. q.var == var) params.now }
 {
@@ -57,6 +57,11 @@ fn stands_in(params: &[Param], var: u32) -> bool
 }
 
 /// Adds the variables of a whole pattern to those round it. None stands twice in the pattern.
+///
+/// # Errors
+///
+/// The first `Mismatch` or `Arity` in the pattern, else `VariableTwice` at the first variable that stands
+/// there a second time; or want of memory.
 pub fn bind_whole(
     types: &[DataDecl],
     pattern: &Pat,
@@ -75,7 +80,7 @@ pub fn bind_whole(
     }
 }
 
-/// The token of the first variable from `start` on that stands before from there, too.
+// The token of the first variable from `start` on that stands before from there, too.
 fn repeated_from(params: &[Param], start: usize) -> Option<u32>
     ensures { result ≡ repeated (drop start params.now) }
 {
@@ -86,6 +91,10 @@ fn repeated_from(params: &[Param], start: usize) -> Option<u32>
 }
 
 /// Adds the variables that a pattern binds at a type to `bound`, from left to right.
+///
+/// # Errors
+///
+/// The first `Mismatch` or `Arity` in the pattern; or want of memory.
 #[cycle(pattern)]
 pub fn bind_pattern(
     types: &[DataDecl],
@@ -126,7 +135,7 @@ pub fn bind_pattern(
     }
 }
 
-/// Adds what the subpatterns of a constructor bind, after their number is checked.
+// Adds what the subpatterns of a constructor bind, after their number is checked.
 #[cycle(pattern)]
 fn bind_fields(
     types: &[DataDecl],

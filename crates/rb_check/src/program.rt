@@ -15,6 +15,10 @@ use rb_core::typing::TypeFault;
 use std::alloc::Global;
 
 /// The first fault in the layouts and the functions.
+///
+/// # Errors
+///
+/// That fault, `Mismatch`, `Arity` or `VariableTwice`; or want of memory.
 pub fn check_rules(alloc: Global, program: &Program) -> Result<(), TypeFault>
     ensures { HasFault result (rule_fault program.now) }
 {
@@ -22,7 +26,7 @@ pub fn check_rules(alloc: Global, program: &Program) -> Result<(), TypeFault>
     check_functions(alloc, program, program.funs.as_slice())
 }
 
-/// The first fault in the layouts.
+// The first fault in the layouts.
 fn check_layouts(alloc: Global, types: &[DataDecl], layouts: &[LayoutDecl]) -> Result<(), TypeFault>
     ensures { HasFault result (first_fault (map (layout_fault types.now) layouts.now)) }
 {
@@ -32,7 +36,7 @@ fn check_layouts(alloc: Global, types: &[DataDecl], layouts: &[LayoutDecl]) -> R
     Ok(())
 }
 
-/// The first fault in the provenances of a layout of the data type with the number `ty`.
+// The first fault in the provenances of a layout of the data type with the number `ty`.
 #[cycle(leaves)]
 fn check_tree(alloc: Global, types: &[DataDecl], ty: u32, tree: &LayTree) -> Result<(), TypeFault>
     ensures { HasFault result (first_fault (map (provenance_fault types.now ty) (provenances tree.now))) }
@@ -52,7 +56,7 @@ fn check_tree(alloc: Global, types: &[DataDecl], ty: u32, tree: &LayTree) -> Res
     }
 }
 
-/// The first fault in the provenances under the arms of a split.
+// The first fault in the provenances under the arms of a split.
 #[cycle(leaves)]
 fn check_arms(alloc: Global, types: &[DataDecl], ty: u32, arms: &[Arm]) -> Result<(), TypeFault>
     ensures { HasFault result (first_fault (map (arm_fault types.now ty) arms.now)) }
@@ -63,7 +67,7 @@ fn check_arms(alloc: Global, types: &[DataDecl], ty: u32, arms: &[Arm]) -> Resul
     Ok(())
 }
 
-/// The first fault in some functions of the program.
+// The first fault in some functions of the program.
 fn check_functions(alloc: Global, program: &Program, funs: &[Fun]) -> Result<(), TypeFault>
     ensures { HasFault result (first_fault (map (function_fault program.now.types program.now.funs) funs.now)) }
 {
@@ -73,7 +77,7 @@ fn check_functions(alloc: Global, program: &Program, funs: &[Fun]) -> Result<(),
     Ok(())
 }
 
-/// The first fault in a function: a parameter that stands twice, or one in its body.
+// The first fault in a function: a parameter that stands twice, or one in its body.
 fn check_function(alloc: Global, program: &Program, fun: &Fun) -> Result<(), TypeFault>
     ensures { HasFault result (function_fault program.now.types program.now.funs fun.now) }
 {

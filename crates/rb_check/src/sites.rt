@@ -17,6 +17,10 @@ use rb_core::typing::Binder;
 use std::alloc::{AllocError, Global};
 
 /// The matches of a program, an outer one before those in its parts.
+///
+/// # Errors
+///
+/// Want of memory.
 pub fn program_sites(alloc: Global, program: &Program) -> Result<Seq<Site>, AllocError>
     ensures { IfOk result (λ found. found ≡ sites_of program.now) }
 {
@@ -27,7 +31,7 @@ pub fn program_sites(alloc: Global, program: &Program) -> Result<Seq<Site>, Allo
     Ok(found)
 }
 
-/// Adds the matches of a function's body.
+// Adds the matches of a function's body.
 fn add_function(
     alloc: Global,
     program: &Program,
@@ -41,7 +45,7 @@ fn add_function(
     Ok(())
 }
 
-/// The parameters as the outermost binders.
+// The parameters as the outermost binders.
 fn binders_of(alloc: Global, params: &[Param]) -> Result<Seq<Binder>, AllocError>
     ensures { IfOk result (λ scope. scope ≡ map binder_of params.now) }
 {
@@ -56,7 +60,7 @@ fn binders_of(alloc: Global, params: &[Param]) -> Result<Seq<Binder>, AllocError
     Ok(scope)
 }
 
-/// Adds the matches of an expression within a scope, which is lent for more binders.
+// Adds the matches of an expression within a scope, which is lent for more binders.
 #[cycle(adding)]
 fn add_sites(
     alloc: Global,
@@ -110,7 +114,7 @@ fn add_sites(
     }
 }
 
-/// Adds the matches of arguments.
+// Adds the matches of arguments.
 #[cycle(adding)]
 fn add_arguments(
     alloc: Global,
@@ -129,7 +133,7 @@ fn add_arguments(
     Ok(())
 }
 
-/// Adds the matches of the body of a `let`.
+// Adds the matches of the body of a `let`.
 #[cycle(adding)]
 fn add_under(
     alloc: Global,
@@ -150,7 +154,7 @@ fn add_under(
     Ok(())
 }
 
-/// Adds the matches of the bodies of clauses, whose scrutinee has type `ty`.
+// Adds the matches of the bodies of clauses, whose scrutinee has type `ty`.
 #[cycle(adding)]
 fn add_bodies(
     alloc: Global,
@@ -170,7 +174,7 @@ fn add_bodies(
     Ok(())
 }
 
-/// Adds the matches of a clause's body, within what its pattern binds.
+// Adds the matches of a clause's body, within what its pattern binds.
 #[cycle(adding)]
 fn add_body(
     alloc: Global,
@@ -191,7 +195,7 @@ fn add_body(
     Ok(())
 }
 
-/// The patterns of clauses.
+// The patterns of clauses.
 fn patterns_of(alloc: Global, clauses: &[Clause]) -> Result<Seq<Pat>, AllocError>
     ensures { IfOk result (λ patterns. patterns ≡ map (λ c. c.pat) clauses.now) }
 {

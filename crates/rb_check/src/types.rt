@@ -40,6 +40,10 @@ pub fn can_hold(ty: Ty, n: u64) -> bool
 }
 
 /// The type of the number `n` at the token `at`.
+///
+/// # Errors
+///
+/// `Mismatch` where values of the wanted type may not be that number.
 pub fn type_number(at: u32, n: u64, wanted: Option<Ty>) -> Result<Ty, TypeFault>
     ensures { Answers result (number at n wanted) }
 {
@@ -55,6 +59,10 @@ pub fn type_number(at: u32, n: u64, wanted: Option<Ty>) -> Result<Ty, TypeFault>
 }
 
 /// The type found at the token `at`, where it is the wanted one or none is wanted.
+///
+/// # Errors
+///
+/// `Mismatch` where another type is wanted.
 pub fn fit(at: u32, wanted: Option<Ty>, found: Ty) -> Result<Ty, TypeFault>
     ensures { Answers result (fits at wanted found) }
 {
@@ -70,6 +78,10 @@ pub fn fit(at: u32, wanted: Option<Ty>, found: Ty) -> Result<Ty, TypeFault>
 }
 
 /// The type found of an operand at the token `at`, where it is an integer.
+///
+/// # Errors
+///
+/// `Mismatch`, with `u64` wanted, where it is a data type.
 pub fn integer(at: u32, found: Ty) -> Result<Ty, TypeFault>
     ensures { Answers result (integer at found) }
 {

@@ -1,5 +1,5 @@
 -- An expression has one type, one list of matches and one meaning within scopes and values that agree on its variables.
-use Rattle.std.proofs.Common.{◌≡◌, ℕ, zero, suc, ◌==◌, Bool, true, false, List, [], ◌∷◌, ◌++◌, map, length, Option, Some, None, Ok, Err, refl, sym, subst, ap, ◌∙◌}
+use Rattle.std.proofs.Common.{◌≡◌, ℕ, ◌==◌, Bool, true, false, List, [], ◌∷◌, ◌++◌, map, length, Option, Some, None, Ok, Err, refl, sym, subst, ap, ◌∙◌}
 use Rattle.std.specs.Prelude.{Contains, if◌then◌else◌}
 use Rattle.std.specs.List.{flat_map}
 use Rattle.std.proofs.lemmas.List.Elements.{Contains-append_left, Contains-append_right, Contains-push}
@@ -10,14 +10,10 @@ use Rattle.rb_core.specs.declared.types.DataDecl.{DataDecl}
 use Rattle.rb_core.specs.declared.types.ConRef.{ConRef}
 use Rattle.rb_core.specs.declared.typing.Binder.{Binder}
 use Rattle.rb_core.specs.declared.binding.Binding.{Binding}
-use Rattle.rb_core.specs.declared.coverage.Site.{Site}
 use Rattle.rb_core.specs.declared.pattern.Pat.{Pat}
-use Rattle.rb_core.specs.declared.outcome.Event.{Event}
 use Rattle.rb_core.specs.declared.outcome.Event.TheVariants.{Matched}
 use Rattle.rb_core.specs.declared.outcome.SourceEnd.{SourceEnd}
 use Rattle.rb_core.specs.declared.outcome.SourceEnd.TheVariants.{Done, Spent}
-use Rattle.rb_core.specs.declared.outcome.PartsEnd.{PartsEnd}
-use Rattle.rb_core.specs.declared.outcome.PartsEnd.TheVariants.{AllDone, Cut}
 use Rattle.rb_core.specs.declared.outcome.Outcome.{Outcome}
 use Rattle.rb_core.specs.declared.program.Fun.{Fun}
 use Rattle.rb_core.specs.declared.program.Program.{Program}
@@ -29,10 +25,10 @@ use Rattle.rb_core.specs.declared.expression.Expr.TheOpen as E
 use Rattle.rb_core.specs.declared.expression.Expr.TheFolds.{fold-roll-Expr, fold_out-Clause}
 use Rattle.rb_core.specs.Matching.{bindings, matches_of}
 use Rattle.rb_core.specs.declared.typing.TypeFault.TheVariants.{Arity}
-use Rattle.rb_core.specs.Typing.{Typing, ClauseRule, Rule, and_then, bound_type, clause_rule, clauses, each_argument, field_types, fits, integer, integer_operand, operand_wanted, operands, operator_type, param_types, pattern_binders, result_type, rule_of, type_of, variable_type}
+use Rattle.rb_core.specs.Typing.{Typing, and_then, bound_type, clause_rule, clauses, each_argument, field_types, fits, integer, integer_operand, operand_wanted, operator_type, param_types, pattern_binders, result_type, rule_of, type_of}
 use Rattle.rb_core.specs.Inference.{Inference, binders, clause_inferred, first_clause_type, inferred_type, match_type, operands_type, width_of, with_binder}
 use Rattle.rb_core.specs.Coverage.{branch_sites, part_sites, site_of, sites}
-use Rattle.rb_core.specs.Meaning.{Calls, Meaning, PartsOutcome, after, all_of, at_end, at_part, at_parts_end, built, clause_meaning, combined, cut_to, first_of, first_wanted, later_wanted, meaning_of, parts_after, done, then_do, then_with, value_in, value_or, with_value}
+use Rattle.rb_core.specs.Meaning.{Calls, Meaning, PartsOutcome, after, all_of, at_end, at_part, built, clause_meaning, combined, cut_to, first_of, first_wanted, later_wanted, meaning_of, parts_after, done, then_do, then_with, value_or}
 use Rattle.rb_core.proofs.ExpressionLaws.{Each, EachBody, induction}
 use Rattle.rb_core.proofs.InferenceForms.{clause_inferred-is, inferred-Binary, inferred-Build, inferred-Call, inferred-Let, inferred-Match, inferred-Num, inferred-To, inferred-Var}
 use Rattle.rb_core.proofs.TypingLemmas.{type-Binary, type-Build, type-Call, type-Clause, type-Let, type-Match, type-Num, type-To, type-Var}

@@ -66,22 +66,22 @@ use Rattle.rb_compile.proofs.Forms.{same_emits}
 use Rattle.rb_compile.proofs.Sites.{ready-Match}
 
 -- what represents a value has its type
-rep_typed : (plan : Plan) → IsSound plan → (clean : Bool) (m : Memory) (t : Ty) (v : Value) (ws : List ℕ) → Rep plan m clean t v ws → is_of_type plan.program.types v t ≡ true
+pub rep_typed : (plan : Plan) → IsSound plan → (clean : Bool) (m : Memory) (t : Ty) (v : Value) (ws : List ℕ) → Rep plan m clean t v ws → is_of_type plan.program.types v t ≡ true
 rep_typed plan sound clean m t v ws r =
     let p = plan.program in
     Represents-typed p.types (flat_layouts p) m clean (lawful p sound.agreed.1 sound.typed).provenances (subst (λ l. Represents p.types l m clean t v ws) sound.agreed.0 r)
 
-some_of : (o : Option ℕ) → is_some o ≡ true → (k : ℕ) × (o ≡ Some k)
+pub some_of : (o : Option ℕ) → is_some o ≡ true → (k : ℕ) × (o ≡ Some k)
 some_of None e = cc
 some_of (Some k) e = (k, refl)
 
-some_at : {A : Type 0} (xs : List A) (k : ℕ) → k < length xs → (x : A) × (slice_get xs k ≡ Some x)
+pub some_at : {A : Type 0} (xs : List A) (k : ℕ) → k < length xs → (x : A) × (slice_get xs k ≡ Some x)
 some_at [] k lt = absurd (omega (arith, lt))
 some_at (x ∷ xs) zero lt = (x, refl)
 some_at (x ∷ xs) (suc k) lt = some_at xs k (omega (arith, lt))
 
 -- the chosen clause is there, and its pattern matches
-chosen_is : (cs : List Clause) (v : Value) (k : ℕ) → chosen_clause (map pat_of cs) v ≡ Some k → (c : Clause) × (slice_get cs k ≡ Some c) × (matches_of c.pat v ≡ true)
+pub chosen_is : (cs : List Clause) (v : Value) (k : ℕ) → chosen_clause (map pat_of cs) v ≡ Some k → (c : Clause) × (slice_get cs k ≡ Some c) × (matches_of c.pat v ≡ true)
 chosen_is [] v k e = cc
 chosen_is (c ∷ cs) v k e = go (matches_of c.pat v) refl k e (λ j h. chosen_is cs v j h)
   where
@@ -97,13 +97,13 @@ chosen_is (c ∷ cs) v k e = go (matches_of c.pat v) refl k e (λ j h. chosen_is
         next (Some j) is zero e = cc
         next (Some j) is (suc k) e = let same : suc j ≡ suc k = same_Some (suc j) (suc k) e in let down : j ≡ k = omega (arith, same) in rest k (is ∙ ap Some down)
 
-patterns_are : (types : List DataDecl) (s : Ty) (cs : List Clause) → ((k : ℕ) (c : Clause) → slice_get cs k ≡ Some c → PatternIsTyped types s c.pat) → PatternsAreTyped types s (map pat_of cs)
+pub patterns_are : (types : List DataDecl) (s : Ty) (cs : List Clause) → ((k : ℕ) (c : Clause) → slice_get cs k ≡ Some c → PatternIsTyped types s c.pat) → PatternsAreTyped types s (map pat_of cs)
 patterns_are types s [] h = tt
 patterns_are types s (c ∷ cs) h = (h 0 c refl, patterns_are types s cs (λ k x at. h (suc k) x at))
 
 -- each clause's pattern is typed, at the type of the scrutinee
 module _ (types : List DataDecl) (funs : List Fun) where
-  abbrev AllTyped : Ty → List Clause → Type 0
+  abbrev pub AllTyped : Ty → List Clause → Type 0
   AllTyped s cs = (k : ℕ) (c : Clause) → slice_get cs k ≡ Some c → PatternIsTyped types s c.pat
 
   patterns_in : (cs : List Clause) (s : Ty) (wanted : Option Ty) (scope : List Binder) (t : Ty) → clauses (map (clause_rule types funs) cs) s wanted scope ≡ Ok t → AllTyped s cs
@@ -118,7 +118,7 @@ module _ (types : List DataDecl) (funs : List Fun) where
           subst (λ (x : Clause). PatternIsTyped types s x.pat) is (within.from, within.first_is)
       pick (suc k) at more first = more first.from first.then_is k at
 
-  patterns_typed : (at : ℕ) (e : Expr) (cs : List Clause) (wanted : Option Ty) (scope : List Binder) (t s : Ty) → type_of types funs (X.Match at e cs) wanted scope ≡ Ok t → type_of types funs e None scope ≡ Ok s → AllTyped s cs
+  pub patterns_typed : (at : ℕ) (e : Expr) (cs : List Clause) (wanted : Option Ty) (scope : List Binder) (t s : Ty) → type_of types funs (X.Match at e cs) wanted scope ≡ Ok t → type_of types funs e None scope ≡ Ok s → AllTyped s cs
   patterns_typed at e cs wanted scope t s typed first =
       let h = came (type_of types funs e None scope) (λ s. clauses (map (clause_rule types funs) cs) s wanted scope) t (sym (type-Match types funs at e cs wanted scope) ∙ typed) in
       let same : h.from ≡ s = ok-same (sym h.first_is ∙ first) in

@@ -3,9 +3,15 @@ mod Tokens
 mod Forms
 mod Variables
 mod Operators
+mod Showing
 mod Parts
 mod Arms
 mod Choices
+mod Returning
+mod TailForms
+mod TailArms
+mod TailChoices
+mod Compiled
 mod Accepted
 mod Whole
 mod Refined

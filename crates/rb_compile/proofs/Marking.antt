@@ -1,10 +1,10 @@
 -- Marks: what is marked stays so, and the variables of parts are those of the whole.
-use Rattle.std.proofs.Common.{◌≡◌, ℕ, zero, suc, ◌+◌, ◌-◌, ◌<◌, ◌≤◌, ◌⊎◌, inl, inr, Bool, true, false, List, [], ◌∷◌, ◌++◌, map, take, length, Option, Some, None, refl, sym, subst, ap, ◌∙◌, arith}
+use Rattle.std.proofs.Common.{◌≡◌, ℕ, zero, suc, ◌+◌, ◌-◌, ◌<◌, ◌≤◌, inl, inr, Bool, true, false, List, [], ◌∷◌, ◌++◌, map, take, length, refl, sym, subst, ap, ◌∙◌, arith}
 use Rattle.std.proofs.lemmas.Bool.Decides.{nat_tests}
 use Rattle.std.proofs.lemmas.Grind.{flat_map-append}
 use Rattle.std.proofs.lemmas.List.{map-append}
 use Rattle.std.proofs.lemmas.List.Elements.{Contains-append_cases}
-use Rattle.std.specs.Prelude.{Contains, if◌then◌else◌, nat_lt, slice_get, slice_set, unwrap_or}
+use Rattle.std.specs.Prelude.{if◌then◌else◌, nat_lt, slice_get, slice_set, unwrap_or}
 use Rattle.std.specs.List.{flat_map}
 use Rattle.rb_compile.specs.declared.used.Marks.{Marks}
 use Rattle.rb_compile.specs.inner.Used.{AreKept, MarksMore, is_kept}

@@ -24,7 +24,7 @@ use Rattle.rb_fragment.specs.Plan.{Plan, types_of, words_of}
 use Rattle.rb_fragment.specs.Slots.{slots_from}
 use Rattle.rb_fragment.specs.Holding.{AreGiven, held_type, scope_of}
 use Rattle.rb_fragment.specs.Fragments.{Emits, EmitsAll, calling}
-use Rattle.rb_fragment.proofs.Arguments.{applied, more_emits, none_emits}
+use Rattle.rb_fragment.proofs.Arguments.{applied}
 use Rattle.rb_fragment.proofs.Calling.{call_applies}
 use Rattle.rb_fragment.proofs.Holds.{AreGiven-more}
 use Rattle.rb_fetch.specs.Finding.{IsPlanOf}
@@ -33,6 +33,8 @@ use Rattle.rb_fetch.specs.Fetching.{IsSound}
 use Rattle.rb_compile.specs.inner.Ready.{AreReady, IsReady}
 use Rattle.rb_compile.specs.inner.Forms.{EmitsExpr, EmitsFirst, meant}
 use Rattle.rb_compile.proofs.Forms.{same_emits}
+use Rattle.rb_compile.proofs.Showing.{constructed, emits_unshown, ends_shown, more_shown, none_shown}
+use Rattle.rb_compile.specs.inner.Shown.{EmitsShown, shown_of}
 use Rattle.rb_compile.proofs.Sites.{Ready, ready-Build, ready-Call}
 
 pub get_at : {A : Type 0} (xs : List A) (i : ℕ) (d : A) → i < length xs → slice_get xs i ≡ Some (get_or xs i d)
@@ -51,7 +53,7 @@ module _ (plan : Plan) (f : ℕ) (es : List Expr) (ts : List Ty) (ls : List Loca
   mf calls e = meaning_of plan.program calls f e
 
   pub first_none : (a : Sheet) → EmitsFirst plan f 0 es ts ls a a []
-  first_none a = λ ready given. none_emits plan ts ls (λ calls. map (mf calls) (take 0 es)) a (λ calls. refl)
+  first_none a = λ ready given. none_shown plan ts ls (λ calls. map (mf calls) (take 0 es)) a (λ calls. refl)
 
   pub first_more : (i : ℕ) (e : Expr) (a b c : Sheet) (hs : List Held) (h : Held) → i < length es → e ≡ get_or es i e → length hs ≡ i
       → EmitsFirst plan f i es ts ls a b hs → EmitsExpr plan f e (slice_get ts i) ls b c h → EmitsFirst plan f (i + 1) es ts ls a c (hs ++ h ∷ [])
@@ -72,9 +74,11 @@ module _ (plan : Plan) (f : ℕ) (es : List Expr) (ts : List Ty) (ls : List Loca
       let e1 = subst (λ u. Emits plan (meant plan f e (slice_get ts i) ls) ls b c u h.slots) (sym E.0) E.1 in
       let e2 = subst (λ w. Emits plan (λ calls left env. mf calls e w (scope_of ls) left env) ls b c h.ty h.slots) wanted e1 in
       let at_hs : slice_get ts (length hs) ≡ Some h.ty = ap (λ n. slice_get ts n) long ∙ wanted in
-      more_emits plan ts ls (λ calls. map (mf calls) (take i es)) (λ calls. map (mf calls) (take (i + 1) es)) (λ calls. mf calls e) a b c hs h
+      let more = more_shown plan ts ls (λ calls. map (mf calls) (take i es)) (λ calls. map (mf calls) (take (i + 1) es)) (λ calls. mf calls e) (map shown_of (take i es)) (shown_of e) a b c hs h
       (λ calls. ap (λ l. map (mf calls) l) (take_get es i e at) ∙ map-append (mf calls) (take i es) (e ∷ []))
-      given at_hs (take_get ts (length hs) h.ty at_hs) all e2
+      given at_hs (take_get ts (length hs) h.ty at_hs) (λ calls left env v rest end. ends_shown plan.program e calls f (Some h.ty) (scope_of ls) left env v rest end) all e2 in
+      let whole : map shown_of (take (i + 1) es) ≡ map shown_of (take i es) ++ shown_of e ∷ [] = ap (map shown_of) (take_get es i e at) ∙ map-append shown_of (take i es) (e ∷ []) in
+      subst (λ ps. EmitsShown plan (λ calls. map (mf calls) (take (i + 1) es)) ps ts ls a c (hs ++ h ∷ [])) (sym whole) more
 
 -- What is done with the values of all parts, whose types are ts
 module _ (plan : Plan) (f : ℕ) (es : List Expr) (ts : List Ty) (ls : List Local) (a b : Sheet) (hs : List Held) (sound : IsSound plan) (within : List ℕ) (given : AreGiven plan a.slots ls)
@@ -89,10 +93,13 @@ module _ (plan : Plan) (f : ℕ) (es : List Expr) (ts : List Ty) (ls : List Loca
       let t = typed_argument plan.program.types plan.program.funs es ts (scope_of ls) many typed i e at in
       (t.0, t.1, record { sound = sound; typed = t.2; within = within; numbered = numbered_part plan.program.types plan.program.funs es within numbered i e at; given = given; ready_sites = sites i e at })
 
-  pub all_emits : EmitsAll plan (λ calls. map (meaning_of plan.program calls f) es) ts ls a b hs
-  all_emits =
+  pub all_shown : EmitsShown plan (λ calls. map (meaning_of plan.program calls f) es) (map shown_of es) ts ls a b hs
+  all_shown =
       let whole : take (length es) es ≡ es = take_all (length es) es (omega arith) in
-      subst (λ l. EmitsAll plan (λ calls. map (meaning_of plan.program calls f) l) ts ls a b hs) whole (first parts_ready given)
+      subst (λ l. EmitsShown plan (λ calls. map (meaning_of plan.program calls f) l) (map shown_of l) ts ls a b hs) whole (first parts_ready given)
+
+  pub all_emits : EmitsAll plan (λ calls. map (meaning_of plan.program calls f) es) ts ls a b hs
+  all_emits = emits_unshown plan ts ls (λ calls. map (meaning_of plan.program calls f) es) (map shown_of es) a b hs all_shown
 
   pub kinds_are : map held_type hs ≡ ts
   kinds_are =
@@ -132,7 +139,7 @@ module _ (plan : Plan) (f at g : ℕ) (es : List Expr) (wanted : Option Ty) (ls 
 -- Constructions
 
 pub build_expr : (agreed : LaidOut) (plan : Plan) (f at : ℕ) (con : ConRef) (es : List Expr) (wanted : Option Ty) (ls : List Local) (fields : List Ty) (a b c : Sheet) (hs : List Held) (held : Held) → IsPlanOf agreed plan
-    → fields_of plan.program.types con ≡ Some fields → EmitsFirst plan f (length es) es fields ls a b hs → Builds agreed con hs b c held → EmitsExpr plan f (X.Build at con es) wanted ls a c held
+    → fields_of plan.program.types con ≡ Some fields → EmitsFirst plan f (length es) es fields ls a b hs → Builds agreed con hs (map shown_of es) b c held → EmitsExpr plan f (X.Build at con es) wanted ls a c held
 build_expr agreed plan f at con es wanted ls fields a b c hs held of_agreed is first builds = λ t ready.
     let types = plan.program.types in let funs = plan.program.funs in
     let tc = typed-Build types funs at con es wanted (scope_of ls) t ready.typed in
@@ -141,10 +148,10 @@ build_expr agreed plan f at con es wanted ls fields a b c hs held of_agreed is f
     let long : length (map (rule_of types funs) es) ≡ length fields = tc.0 ∙ ap length fields_are in
     let typed = subst (λ ts. each_argument (map (rule_of types funs) es) ts (scope_of ls) ≡ Ok tt) fields_are tc.1 in
     let sites = ready-Build plan f at con es (scope_of ls) ready.ready_sites in
-    let all = all_emits plan f es fields ls a b hs ready.sound ready.within ready.given long typed nc.1 sites first in
+    let all = all_shown plan f es fields ls a b hs ready.sound ready.within ready.given long typed nc.1 sites first in
     let kinds = kinds_are plan f es fields ls a b hs ready.sound ready.within ready.given long typed nc.1 sites first in
     let done = builds plan of_agreed fields is kinds all.given in
-    let e = applied plan fields ls (λ calls. map (meaning_of plan.program calls f) es) (λ calls. built con) a b c hs (Named con.ty) held.slots all done.1 in (
+    let e = constructed plan fields ls (λ calls. map (meaning_of plan.program calls f) es) (map shown_of es) con a b c hs held.slots all done.1 in (
       done.0 ∙ tc.2,
       subst (λ u. Emits plan (meant plan f (X.Build at con es) wanted ls) ls a c u held.slots) tc.2
           (same_emits plan (meant plan f (X.Build at con es) wanted ls) (λ calls left env. then_with (all_of (map (meaning_of plan.program calls f) es) fields (scope_of ls) [] left env) (built con)) ls a c (Named con.ty) held.slots

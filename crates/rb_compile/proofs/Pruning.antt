@@ -1,5 +1,5 @@
 -- A pattern without what is not used: it binds the other variables to the same, and matches no fewer values.
-use Rattle.std.proofs.Common.{◌≡◌, ℕ, zero, suc, ◌==◌, Bool, true, false, List, [], ◌∷◌, ◌++◌, map, Option, Some, None, refl, sym, subst, ap, ◌∙◌, arith}
+use Rattle.std.proofs.Common.{◌≡◌, ℕ, ◌==◌, Bool, true, false, List, [], ◌∷◌, ◌++◌, map, refl, sym, ap, ◌∙◌, arith}
 use Rattle.std.proofs.lemmas.Grind.{common_steps}
 use Rattle.std.specs.Prelude.{◌&&◌, if◌then◌else◌}
 use Rattle.std.specs.List.{list_all}
@@ -9,17 +9,14 @@ use Rattle.rb_core.specs.declared.value.Value.TheOpen.{Value-F}
 use Rattle.rb_core.specs.declared.types.Ty.{Ty}
 use Rattle.rb_core.specs.declared.types.DataDecl.{DataDecl}
 use Rattle.rb_core.specs.declared.types.ConRef.{ConRef}
-use Rattle.rb_core.specs.declared.typing.Binder.{Binder}
-use Rattle.rb_core.specs.declared.binding.Binding.{Binding}
-use Rattle.rb_core.specs.declared.pattern.Pat.{Pat, Wild, Var, Num, Con, out-Pat}
-use Rattle.rb_core.specs.declared.pattern.Pat.TheOpen as P
+use Rattle.rb_core.specs.declared.pattern.Pat.{Pat, Wild, Var, Num, Con}
 use Rattle.rb_core.specs.declared.pattern.Pat.TheVariants.{outs-Var, outs-Num, outs-Con}
 use Rattle.rb_core.specs.Matching.{all_bound, all_pass, bindings, bound_within, is_con, matches_of}
 use Rattle.rb_core.specs.Typing.{bound_type, field_types}
 use Rattle.rb_core.specs.Inference.{all_binders, binders}
 use Rattle.rb_core.specs.Meaning.{value_or}
 use Rattle.rb_core.proofs.PatternLaws.{Each, fold-Con, fold-Num, fold-Var, fold-Wild, induction}
-use Rattle.rb_core.proofs.MatchingForms.{bindings-Con, bindings-Num, bindings-Var, bindings-Wild, matches-Con, matches-Num, matches-Var, matches-Wild}
+use Rattle.rb_core.proofs.MatchingForms.{bindings-Con, bindings-Num, bindings-Var, bindings-Wild, matches-Con, matches-Var, matches-Wild}
 use Rattle.rb_core.proofs.InferenceAgreement.{binders-Con, binders-Num, binders-Var, binders-Wild}
 use Rattle.rb_compile.specs.inner.Used.{con_or_wild, is_wild, is_wild_layer, pruned, pruned_step}
 use Rattle.rb_compile.proofs.Agreeing.{bound-append, value-append}

@@ -2,22 +2,20 @@
 use Rattle.std.proofs.Common.{◌≡◌, ℕ, ◌+◌, ◌≤◌, Bool, true, false, List, [], ◌∷◌, ◌++◌, map, refl, sym, subst, ap, ◌∙◌, arith}
 use Rattle.std.specs.Prelude.{if◌then◌else◌}
 use Rattle.std.specs.List.{list_all}
-use Rattle.rb_core.specs.declared.value.Value.{Value, Num as number}
+use Rattle.rb_core.specs.declared.value.Value.{Num as number}
 use Rattle.rb_core.specs.declared.types.Ty.{Ty}
 use Rattle.rb_core.specs.declared.types.Ty.TheVariants.{Int}
 use Rattle.rb_core.specs.declared.types.DataDecl.{DataDecl}
 use Rattle.rb_core.specs.declared.types.ConRef.{ConRef}
-use Rattle.rb_core.specs.declared.typing.Binder.{Binder}
-use Rattle.rb_core.specs.declared.binding.Binding.{Binding}
 use Rattle.rb_core.specs.declared.expression.Expr.{Expr}
-use Rattle.rb_core.specs.declared.pattern.Pat.{Pat, Wild, Var, Num, Con}
-use Rattle.rb_core.specs.Matching.{bindings, matches_of}
+use Rattle.rb_core.specs.declared.pattern.Pat.{Pat, Wild, Var, Con}
+use Rattle.rb_core.specs.Matching.{bindings}
 use Rattle.rb_core.specs.Typing.{bound_type, field_types}
 use Rattle.rb_core.specs.Inference.{binders}
 use Rattle.rb_core.specs.Meaning.{value_or}
-use Rattle.rb_core.proofs.PatternLaws.{Each, fold-Con, fold-Num, fold-Var, fold-Wild, induction}
+use Rattle.rb_core.proofs.PatternLaws.{Each, fold-Con, fold-Wild, induction}
 use Rattle.rb_layout.specs.declared.layout.Layout.{Layout}
-use Rattle.rb_match.specs.Bounding.{Place, binding_bound, binding_look, looks_with, place_below, places_below, places_in, places_step}
+use Rattle.rb_match.specs.Bounding.{Place, binding_look, looks_with, place_below, places_below, places_in, places_step}
 use Rattle.rb_compile.specs.inner.Used.{IsPrunedFor, Serves, con_or_wild, is_wild, pruned}
 use Rattle.rb_compile.proofs.Agreeing.{bound-append, value-append}
 use Rattle.rb_compile.proofs.Pruning.{cut-Con, cut-Num, cut-Var, cut-Wild, cut_matches, cut_types, cut_values}

@@ -9,31 +9,29 @@ use Rattle.rb_target.specs.declared.code.CodeFun.{CodeFun}
 use Rattle.rb_target.specs.Sheet.{Sheet}
 use Rattle.rb_target.specs.Validity.{IsValid, IsValidFun}
 use Rattle.rb_target.proofs.Growing.{below_or, get-append, get-seam}
-use Rattle.rb_fragment.specs.declared.held.Held.{Held}
 use Rattle.rb_fragment.specs.Plan.{Plan}
-use Rattle.rb_fragment.specs.Fragments.{Emits}
 use Rattle.rb_fragment.specs.Functions.{AllCompile, Compiles, HasShapes, empty_sheet, param_locals, param_words}
 use Rattle.rb_fragment.proofs.Functions.{params_given, params_scope}
-use Rattle.rb_compile.specs.inner.Forms.{EmitsExpr, meant}
+use Rattle.rb_compile.specs.inner.Forms.{meant}
 use Rattle.rb_compile.specs.inner.Functions.{FirstCompile, FunIsReady, ProgramIsReady}
-use Rattle.rb_compile.specs.inner.Ready.{IsReady, SitesAreReady}
+use Rattle.rb_compile.specs.inner.Ready.{SitesAreReady}
+use Rattle.rb_compile.specs.inner.Tails.{EmitsReturn, EmitsTail}
 use Rattle.rb_compile.proofs.Parts.{get_at}
 
 -- a function's body is ready within its parameters
-pub fun_emits : (plan : Plan) (g : ℕ) (f : Fun) (b : Sheet) (held : Held) → FunIsReady plan g f → EmitsExpr plan g f.body (Some f.result) (param_locals plan 0 f.params) (empty_sheet plan f) b held
-    → Emits plan (meant plan g f.body (Some f.result) (param_locals plan 0 f.params)) (param_locals plan 0 f.params) (empty_sheet plan f) b f.result held.slots
-fun_emits plan g f b held ready emits =
+pub fun_returns : (plan : Plan) (g : ℕ) (f : Fun) (b : Sheet) → FunIsReady plan g f → EmitsReturn plan g f.body f.result (param_locals plan 0 f.params) (empty_sheet plan f) b
+    → EmitsTail plan (meant plan g f.body (Some f.result) (param_locals plan 0 f.params)) (param_locals plan 0 f.params) (empty_sheet plan f) b f.result
+fun_returns plan g f b ready emits =
     let types = plan.program.types in let funs = plan.program.funs in
     let scope = params_scope plan 0 f.params in
-    let r : IsReady plan g f.body (Some f.result) (param_locals plan 0 f.params) (param_words plan f) f.result = record {
+    emits (record {
       sound = ready.sound;
       typed = subst (λ k. type_of types funs f.body (Some f.result) k ≡ Ok f.result) (sym scope) ready.typed;
       within = ready.within;
       numbered = ready.numbered;
       given = params_given plan 0 (param_words plan f) f.params (omega arith);
       ready_sites = subst (λ k. SitesAreReady plan g (sites types funs f.body k)) (sym scope) ready.ready_sites;
-    } in
-    (emits f.result r).1
+    })
 
 -- one function more
 

@@ -13,6 +13,7 @@ use crate::atoms::{
     emit_calling, emit_low_bits, emit_number, emit_operator, emit_variable, first_wanted, wanted_at,
 };
 use crate::matches::{Arms, extend, next_wanted, patterns};
+use crate::shown::shown_patterns;
 use crate::signatures::{field_types, function_at, param_types};
 use crate::used::used_pattern;
 use rb_build::build::emit_build;
@@ -183,7 +184,8 @@ fn emit_construction(
         return Err(AllocError);
     };
     let parts = emit_all(alloc, agreed, body, locals, args, tys.as_slice())?;
-    let held = emit_build(alloc, body, agreed, con, parts.as_slice())?;
+    let shown = shown_patterns(alloc, args)?;
+    let held = emit_build(alloc, body, agreed, con, parts.as_slice(), shown.as_slice())?;
     Ok(held)
 }
 

@@ -1,24 +1,24 @@
 //! From functions to code.
 
-ghost use Rattle.std.specs.Prelude.{◌≡◌, ◌+◌, ◌<◌, ◌^◌, ℕ, map, length, IfOk, Some, slice_get};
+ghost use Rattle.std.specs.Prelude.{◌≡◌, ◌+◌, ◌<◌, ◌^◌, map, IfOk};
 ghost use Rattle.rb_fragment.specs.Functions.{Compiles, param_locals};
-ghost use Rattle.rb_fragment.specs.Plan.{words_in};
+ghost use Rattle.rb_fragment.specs.Plan.{words_in, words_of};
 ghost use Rattle.rb_fragment.specs.Slots.{slots_from};
 ghost use Rattle.rb_compile.specs.Plans.{plan_of};
 ghost use Rattle.rb_compile.specs.inner.Functions.{FunIsReady};
 
-use crate::expressions::emit_expr;
+use crate::tails::emit_tail;
 use rb_core::program::{Fun, Param};
 use rb_core::seq::Seq;
+use rb_core::types::Ty;
 use rb_fragment::held::Local;
 use rb_fragment::slots::word_count;
 use rb_layout::agreed::Agreed;
 use rb_target::body::Body;
 use rb_target::code::CodeFun;
-use rb_target::instr::Instr;
 use std::alloc::{AllocError, Global};
 
-// The code of a function: its parameters in the first slots, its body, and a return.
+// The code of a function: its parameters in the first slots, and its body, which returns.
 pub(crate) fn compile_fun(
     alloc: Global,
     agreed: &Agreed,
@@ -32,16 +32,8 @@ pub(crate) fn compile_fun(
     let name = fun.name.copy(alloc)?;
     let mut body = Body::new(alloc, params.count);
     let locals = &mut params.locals;
-    let held = emit_expr(
-        alloc,
-        agreed,
-        &mut body,
-        locals,
-        &fun.body,
-        Some(fun.result),
-    )?;
-    let results = count_of(&held.slots);
-    body.push(Instr::Return(held.slots))?;
+    emit_tail(alloc, agreed, &mut body, locals, &fun.body, fun.result)?;
+    let results = count_of(agreed, fun.result);
     let code = body.finish(name, results);
     Ok(code)
 }
@@ -87,10 +79,10 @@ fn row(alloc: Global, from: usize, count: usize) -> Result<Seq<usize>, AllocErro
     Ok(slots)
 }
 
-// The number of some slots, which a machine word holds.
-fn count_of(slots: &Seq<usize>) -> usize
-    ensures value { result ≡ length slots.now }
-    ensures small { length slots.now < 2 ^ 64 }
+// The number of words of a type's values, which a machine word holds.
+fn count_of(agreed: &Agreed, ty: Ty) -> usize
+    ensures value { result ≡ words_of (plan_of agreed.now) ty }
+    ensures small { result < 2 ^ 64 }
 {
-    slots.len()
+    word_count(agreed.layouts(), ty)
 }

@@ -29,9 +29,13 @@
 //! ```
 //!
 //! the match first has code that chooses a clause, and leaves by a hole of it. Then come the arms, one behind
-//! the other: an arm binds its pattern's variables, has its body's code, moves the value to slots that all
-//! arms share, and ends in an open jump. When all arms stand, the holes are set to where the arms begin, and
-//! the jumps to behind the last. So code only ever grows at its end, and no target is known too early.
+//! the other: an arm binds its pattern's variables and has its body's code. When all arms stand, the holes are
+//! set to where the arms begin. So code only ever grows at its end, and no target is known too early.
+//!
+//! This match is in a tail position: its value is the function's result. So is what stands within a `let` in a
+//! tail position, and each arm's body of a match in one. There code returns ([`tails`]), and nothing stands
+//! behind it. Where a match's value is used further, an arm moves it to slots that all arms share, and ends in
+//! an open jump; when all arms stand, the jumps are set to behind the last.
 //!
 //! An arm binds what its body uses: [`used`] leaves out of the pattern the variables that don't stand in the body, and
 //! the constructors that bind nothing then. Within fewer variables the body means the same.
@@ -47,5 +51,7 @@ mod expressions;
 mod functions;
 mod matches;
 pub mod programs;
+mod shown;
 mod signatures;
+mod tails;
 mod used;

@@ -15,7 +15,8 @@ use std::alloc::AllocError;
 /// Places blocks and fills them, one after the other, and adds the slots of their addresses to `blocks`.
 ///
 /// # Errors
-/// `AllocError` where memory is wanting.
+///
+/// Want of memory.
 pub(crate) fn emit_blocks(
     body: &mut Body,
     wanted: &[Block],

@@ -17,7 +17,8 @@ use std::alloc::{AllocError, Global};
 /// words, which are new.
 ///
 /// # Errors
-/// `AllocError` where memory is wanting.
+///
+/// Want of memory.
 pub fn emit_leaf(
     alloc: Global,
     body: &mut Body,

@@ -17,7 +17,8 @@ use std::alloc::AllocError;
 /// the addresses of blocks.
 ///
 /// # Errors
-/// `AllocError` where memory is wanting.
+///
+/// Want of memory.
 pub(crate) fn emit_value(
     body: &mut Body,
     parts: &[Part],
@@ -39,7 +40,8 @@ pub(crate) fn emit_value(
 /// A word in a new slot.
 ///
 /// # Errors
-/// `AllocError` where memory is wanting.
+///
+/// Want of memory.
 pub(crate) fn emit_root(
     body: &mut Body,
     parts: &[Part],

@@ -23,6 +23,7 @@ pub mod NumberedForms
 pub mod OperatorLaws
 pub mod PartForms
 pub mod PatternLaws
+pub mod ScopeLemmas
 pub mod TypingExamples
 pub mod TypedForms
 pub mod TypingLemmas

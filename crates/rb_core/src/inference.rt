@@ -148,16 +148,16 @@ fn bind_all_types(
     Ok(())
 }
 
+// The type of the innermost binder of a variable, which is looked for from the innermost on outwards.
 fn type_of_variable(var: u32, scope: &[Binder]) -> Ty
     ensures { result ≡ variable_type var scope.now }
 {
-    let mut found = Ty::Int(64);
-    for binder in scope {
-        if binder.var == var {
-            found = binder.ty;
+    for i in (0..scope.len()).rev() {
+        if scope[i].var == var {
+            return scope[i].ty;
         }
     }
-    found
+    Ty::Int(64)
 }
 
 fn type_of_call(program: &Program, fun: u32) -> Ty

@@ -11,6 +11,10 @@ use rb_matrix::matrix::Head;
 use std::alloc::{AllocError, Global};
 
 /// The specialised matrix's rows, for a head with so many fields.
+///
+/// # Errors
+///
+/// Want of memory.
 pub fn rows_by_head(
     alloc: Global,
     head: Head,
@@ -32,6 +36,10 @@ pub fn rows_by_head(
 }
 
 /// The default matrix's rows.
+///
+/// # Errors
+///
+/// Want of memory.
 pub fn other_rows(alloc: Global, rows: &[Row]) -> Result<Seq<Row>, AllocError>
     ensures { IfOk result (λ r. r ≡ default_rows rows.now) }
 {
@@ -67,6 +75,10 @@ fn field_column(alloc: Global, column: &Column, i: usize, ty: Ty) -> Result<Colu
 }
 
 /// The columns of a head's fields, and then the other columns.
+///
+/// # Errors
+///
+/// Want of memory.
 pub fn columns_by_head(
     alloc: Global,
     column: &Column,

@@ -19,6 +19,10 @@ use std::alloc::{AllocError, Global};
 
 /// The tree of a matrix, with its size taken off the number of nodes that may still be built; None
 /// where these are too few.
+///
+/// # Errors
+///
+/// Want of memory.
 #[cycle(building)]
 pub fn build(
     alloc: Global,

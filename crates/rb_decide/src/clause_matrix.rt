@@ -28,6 +28,10 @@ pub struct Row {
 
 impl Column {
     /// An equal column.
+    ///
+    /// # Errors
+    ///
+    /// Want of memory.
     pub fn copy(&self, alloc: Global) -> Result<Column, AllocError>
         ensures { IfOk result (λ c. c ≡ self.now) }
     {
@@ -81,6 +85,10 @@ fn push_patterns(alloc: Global, pats: &mut Seq<Pat>, more: &[Pat]) -> Result<(),
 }
 
 /// The columns, with the one of this number at the front.
+///
+/// # Errors
+///
+/// Want of memory.
 pub fn columns_to_front(
     alloc: Global,
     i: usize,
@@ -115,6 +123,10 @@ fn patterns_to_front(alloc: Global, i: usize, pats: &[Pat]) -> Result<Seq<Pat>, 
 }
 
 /// The rows, each with its pattern of this number at the front.
+///
+/// # Errors
+///
+/// Want of memory.
 pub fn rows_to_front(alloc: Global, i: usize, rows: &[Row]) -> Result<Seq<Row>, AllocError>
     ensures { IfOk result (λ r. r ≡ map (row_to_front i) rows.now) }
 {
@@ -139,6 +151,10 @@ fn row_of(alloc: Global, pat: &Pat, clause: u32) -> Result<Row, AllocError>
 }
 
 /// A number of 32 bits; a count of 2^32 and more meets want of memory.
+///
+/// # Errors
+///
+/// Want of memory, where the count is 2^32 or more.
 pub fn number_of(count: usize) -> Result<u32, AllocError>
     ensures { IfOk result (λ n. n ≡ count) }
 {
@@ -149,6 +165,10 @@ pub fn number_of(count: usize) -> Result<u32, AllocError>
 }
 
 /// One row for each pattern of a match, with the number of its clause.
+///
+/// # Errors
+///
+/// Want of memory.
 pub fn rows_of_match(alloc: Global, pats: &[Pat]) -> Result<Seq<Row>, AllocError>
     ensures { IfOk result (λ r. r ≡ match_rows 0 pats.now) }
 {

@@ -41,6 +41,10 @@ fn add_head(heads: &mut Vec<Head>, head: Option<Head>) -> Result<(), AllocError>
 }
 
 /// The heads that stand in the first column, each once, in the order of first standing there.
+///
+/// # Errors
+///
+/// Want of memory.
 pub fn heads_of_column(alloc: Global, rows: &[Row]) -> Result<Vec<Head>, AllocError>
     ensures { IfOk result (λ heads. heads.items ≡ column_heads rows.now) }
 {

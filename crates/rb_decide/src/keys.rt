@@ -59,6 +59,10 @@ fn push_other(key: &mut Vec<u64>, other: Option<u32>) -> Result<(), AllocError>
 }
 
 /// A node's key. Other nodes have other keys.
+///
+/// # Errors
+///
+/// Want of memory.
 pub fn key_of(alloc: Global, node: &GraphNode) -> Result<Vec<u64>, AllocError>
     ensures { IfOk result (λ key. key.items ≡ node_key node.now) }
 {

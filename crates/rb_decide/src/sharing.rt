@@ -52,6 +52,10 @@ impl Sharing {
     }
 
     /// The number of a node, whose links go to nodes that are there; it is added where it is new.
+    ///
+    /// # Errors
+    ///
+    /// Want of memory.
     pub fn add(&mut self, alloc: Global, node: GraphNode) -> Result<u32, AllocError>
         requires fine { IsFine self.old }
         requires links { AllByRecursion (λ j. j < length self.old.nodes) (links node) }

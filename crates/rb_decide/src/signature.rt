@@ -65,6 +65,10 @@ fn has_constructors(heads: &[Head], ty: u32, count: u32) -> bool
 
 /// Whether the heads are all constructors of the type, or all numbers of its width. A type of over 64
 /// bits or of 2^32 constructors, of which there is none, meets want of memory.
+///
+/// # Errors
+///
+/// Want of memory, for such a type alone.
 pub fn covers(types: &[DataDecl], ty: Ty, heads: &[Head]) -> Result<bool, AllocError>
     ensures { IfOk result (λ full. full ≡ is_complete types.now ty heads.now) }
 {

@@ -48,6 +48,10 @@ impl Model for MemSink {
 impl MemSink {
     /// A sink with room for so many bytes, whose memory is all taken here. A write takes at most `step`
     /// bytes, and the calls whose numbers are in `fail` fail.
+    ///
+    /// # Errors
+    ///
+    /// Want of memory.
     pub fn new(
         alloc: Global,
         room: usize,

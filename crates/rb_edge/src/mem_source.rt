@@ -76,7 +76,7 @@ impl MemSource {
     }
 }
 
-/// The index of the first file of that name.
+// The index of the first file of that name.
 fn index_of(files: &[NamedBytes], name: &[u8]) -> Option<usize>
     ensures found { MatchOption result (held_in files.now name.now ≡ None)
         (λ i. held_in files.now name.now ≡ option_map (λ f. f.bytes) (slice_get files.now i)) }
@@ -90,7 +90,7 @@ fn index_of(files: &[NamedBytes], name: &[u8]) -> Option<usize>
     None
 }
 
-/// The bytes of the file of that index, or none.
+// The bytes of the file of that index, or none.
 fn bytes_at(files: &Seq<NamedBytes>, opened: Option<usize>) -> &[u8]
     ensures { result.now ≡ bytes_of files.now opened }
 {

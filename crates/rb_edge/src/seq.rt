@@ -78,6 +78,10 @@ impl<T> Seq<T> {
 
 impl<T: Drop> Seq<T> {
     /// Adds one item at the end.
+    ///
+    /// # Errors
+    ///
+    /// Want of memory; the list stays as it is.
     pub fn push(&mut self, item: T) -> Result<(), AllocError>
         ensures ok { OnOk result (self.new ≡ self.old ++ item ∷ []) }
         ensures err { OnErr result (self.new ≡ self.old) }
@@ -89,6 +93,10 @@ impl<T: Drop> Seq<T> {
 
 impl<T: Copy> Seq<T> {
     /// An equal list in memory of its own.
+    ///
+    /// # Errors
+    ///
+    /// Want of memory.
     pub fn copy(&self, alloc: Global) -> Result<Seq<T>, AllocError>
         ensures { IfOk result (λ s. s ≡ self.now) }
     {

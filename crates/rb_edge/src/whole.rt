@@ -15,7 +15,7 @@ use crate::source::{Failed, Source};
 use std::alloc::{AllocError, Global};
 use thiserror::Error;
 
-/// The most bytes that are asked of a source at once.
+// The most bytes that are asked of a source at once.
 const PIECE: usize = 4096;
 
 /// Why a file was not read.
@@ -78,7 +78,7 @@ fn read_left<S: Source>(alloc: Global, source: &mut S, limit: usize) -> Result<V
 ///
 /// # Errors
 ///
-/// `Failed` where the source holds nothing under the name or failed, `Memory` where memory ran out.
+/// `Failed` where the source holds nothing under the name or failed; or want of memory.
 pub fn read_whole<S: Source>(
     alloc: Global,
     source: &mut S,

@@ -34,6 +34,10 @@ impl Words {
     }
 
     /// Adds one word at the end.
+    ///
+    /// # Errors
+    ///
+    /// Want of memory; the words stay as they are.
     pub fn push(&mut self, word: &[u8]) -> Result<(), AllocError>
         ensures ok { OnOk result (self.new ≡ self.old ++ word.now ∷ []) }
         ensures err { OnErr result (self.new ≡ self.old) }

@@ -282,8 +282,9 @@ module _ (plan : Plan) (typed : IsTyped plan.program) (agreed : AreAgreed plan.p
         represents = subst (λ ty. Rep plan m clean ty h.0 (slots_at s f.1.slots)) f.4 h.2;
       }
 
-  pub alone_constructs : (old new : Sheet) (slots : List ℕ) → AllGiven plan old.slots hs → MakesLeaf leaf (parts_from 0 hs) old new slots → IsConstructed plan con hs old new (record { ty = Named con.ty; slots = slots })
-  alone_constructs old new slots given makes =
+  pub alone_constructs : (shown : List Pat) (old new : Sheet) (slots : List ℕ) → AllGiven plan old.slots hs → MakesLeaf leaf (parts_from 0 hs) old new slots
+      → IsConstructed plan con hs shown old new (record { ty = Named con.ty; slots = slots })
+  alone_constructs shown old new slots given makes =
       let made = makes plan typed agreed con.ty x.number layout is_layout x.is_number (given_fields old.slots given) in
       record {
         kind = refl;
@@ -291,7 +292,7 @@ module _ (plan : Plan) (typed : IsTyped plan.program) (agreed : AreAgreed plan.p
         given = made.given;
         count = made.count;
         fresh = made.fresh;
-        does = λ clean vs final callee next law agrees s w long good held.
+        does = λ clean vs as_shown final callee next law agrees s w long good held.
             let v = Con k vs in
             let many : length vs ≡ length fields = held_many plan clean s w.memory hs vs held ∙ sym (length-map hs held_type) ∙ ap length kinds in
             let out = next (length old.code) s w in

@@ -56,13 +56,13 @@ at-from path con h f = go (same_path h.path path) refl
     go true is = ap (λ n. n == con) (f (path_same h.path path is)) ∙ self con
     go false is = refl
 
-can-of : (path : List ℕ) (con : ℕ) (hs : List Head) → can_be path con hs ≡ true → (k : ℕ) (h : Head) → slice_get hs k ≡ Some h → h.path ≡ path → h.con.con ≡ con
+pub can-of : (path : List ℕ) (con : ℕ) (hs : List Head) → can_be path con hs ≡ true → (k : ℕ) (h : Head) → slice_get hs k ≡ Some h → h.path ≡ path → h.con.con ≡ con
 can-of path con [] e k h is same = absurd cc
 can-of path con (x ∷ hs) e zero h is same =
     let b = both (is_at path con x) (can_be path con hs) e in at-of path con h (ap (is_at path con) (sym (same_Some x h is)) ∙ b.0) same
 can-of path con (x ∷ hs) e (suc k) h is same = can-of path con hs (both (is_at path con x) (can_be path con hs) e).1 k h is same
 
-can-from : (path : List ℕ) (con : ℕ) (hs : List Head) → ((k : ℕ) (h : Head) → slice_get hs k ≡ Some h → h.path ≡ path → h.con.con ≡ con) → can_be path con hs ≡ true
+pub can-from : (path : List ℕ) (con : ℕ) (hs : List Head) → ((k : ℕ) (h : Head) → slice_get hs k ≡ Some h → h.path ≡ path → h.con.con ≡ con) → can_be path con hs ≡ true
 can-from path con [] f = refl
 can-from path con (x ∷ hs) f = and_true (is_at path con x) (can_be path con hs) (at-from path con x (f 0 x refl)) (can-from path con hs (λ k h e. f (suc k) h e))
 
@@ -70,7 +70,7 @@ module _ (layouts : List Layout) (t : ℕ) (path : List ℕ) (con : ℕ) where
   abbrev Can : ℕ → Type 0
   Can n = can_be_leaf path con (leaf_at layouts t n) ≡ true
 
-  kept-of : (ns : List ℕ) (i n : ℕ) → slice_get (leaves_that_can_be layouts t path con ns) i ≡ Some n → ((j : ℕ) × (slice_get ns j ≡ Some n)) × Can n
+  pub kept-of : (ns : List ℕ) (i n : ℕ) → slice_get (leaves_that_can_be layouts t path con ns) i ≡ Some n → ((j : ℕ) × (slice_get ns j ≡ Some n)) × Can n
   kept-of [] i n e = absurd cc
   kept-of (x ∷ ns) i n e = go (can_be_leaf path con (leaf_at layouts t x)) refl i e (kept-of ns)
     where
@@ -80,7 +80,7 @@ module _ (layouts : List Layout) (t : ℕ) (path : List ℕ) (con : ℕ) where
       go true is (suc i1) e1 rest = let r = rest i1 n e1 in ((suc r.0.0, r.0.1), r.1)
       go false is i1 e1 rest = let r = rest i1 n e1 in ((suc r.0.0, r.0.1), r.1)
 
-  kept-from : (ns : List ℕ) (j n : ℕ) → slice_get ns j ≡ Some n → Can n → (i : ℕ) × (slice_get (leaves_that_can_be layouts t path con ns) i ≡ Some n)
+  pub kept-from : (ns : List ℕ) (j n : ℕ) → slice_get ns j ≡ Some n → Can n → (i : ℕ) × (slice_get (leaves_that_can_be layouts t path con ns) i ≡ Some n)
   kept-from [] j n e can = absurd cc
   kept-from (x ∷ ns) zero n e can =
       (0, ap (λ b. slice_get (if b then x ∷ leaves_that_can_be layouts t path con ns else leaves_that_can_be layouts t path con ns) 0) (subst Can (sym (same_Some x n e)) can) ∙ e)

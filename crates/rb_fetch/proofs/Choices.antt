@@ -8,6 +8,7 @@ use Rattle.rb_core.specs.declared.types.Ty.{Ty}
 use Rattle.rb_core.specs.declared.types.Ty.TheVariants.{Named}
 use Rattle.rb_core.specs.declared.types.ConRef.{ConRef}
 use Rattle.rb_core.specs.declared.types.DataDecl.{DataDecl}
+use Rattle.rb_core.specs.declared.pattern.Pat.{Pat}
 use Rattle.rb_core.specs.TypedPrograms.{IsTyped}
 use Rattle.rb_core.specs.Values.{all_of_types, are_of, fields_of, is_of_type, part_at}
 use Rattle.rb_core.proofs.ValueLaws.{is_of_type-Con, subs-Con}
@@ -25,7 +26,7 @@ use Rattle.rb_layout.specs.declared.layout.Leaf.{Leaf}
 use Rattle.rb_layout.specs.Agreement.{Agrees, AreAgreed}
 use Rattle.rb_layout.specs.Flattening.{flat_layouts}
 use Rattle.rb_layout.specs.Positions.{layout_of, open_positions}
-use Rattle.rb_rel.specs.Switches.{choose_of, is_leaf_for, leaves_in}
+use Rattle.rb_rel.specs.Switches.{Head, choose_of, heads_below, heads_of, is_leaf_for, leaves_in}
 use Rattle.rb_rel.proofs.Agreeing.{lawful}
 use Rattle.rb_rel.proofs.Lists.{both}
 use Rattle.rb_fragment.specs.declared.held.Held.{Held}
@@ -37,13 +38,14 @@ use Rattle.rb_compose.specs.declared.subvalue.Subvalue.{Subvalue}
 use Rattle.rb_compose.specs.Subvalues.{AreGivenAt, ArePartsHeld}
 use Rattle.rb_fetch.specs.declared.choice.Choices.{Choices}
 use Rattle.rb_fetch.specs.declared.choice.Way.{Way}
-use Rattle.rb_fetch.specs.Choosing.{ChoosesLeaf, TakesWay}
+use Rattle.rb_fetch.specs.Choosing.{AreAsShown, ChoosesLeaf, TakesWay}
 use Rattle.rb_fetch.specs.Finding.{IsPlanOf}
 use Rattle.rb_fetch.specs.inner.Choosing.{AreLeavesOf, AreOpen, ChoosesFrom, ChoosesWays, HasParts, IsReady, IsWayAt, PartsGiven, PartsHold, Takes, holes_from, left_of, parts_from, root_con}
-use Rattle.rb_fetch.specs.inner.Heads.{leaves_for}
+use Rattle.rb_fetch.specs.inner.Heads.{bare_paths, leaves_beside, leaves_for}
 use Rattle.rb_fetch.proofs.Chosen.{begins, leaf_found, matched_leaf}
-use Rattle.rb_fetch.proofs.Costs.{left_none}
+use Rattle.rb_fetch.proofs.Costs.{left_most}
 use Rattle.rb_fetch.proofs.Finding.{of_plan}
+use Rattle.rb_fetch.proofs.Shown.{own_stays, shown_follow, stays-from, stays-of}
 use Rattle.rb_fetch.proofs.Ways.{hole_in, hole_of, open_within, parts_held}
 
 -- The leaves of a constructor ---------------------------------------------------------------------
@@ -143,12 +145,23 @@ part_of_con : (k : ℕ) (vs : List Value) (i : ℕ) (u : Value) → slice_get vs
 part_of_con k vs i u e = ap (λ us. slice_get us i) (subs-Con k vs) ∙ e
 
 module _ (agreed : LaidOut) (typed : IsTyped agreed.covered.program) (flat : agreed.layouts ≡ flat_layouts agreed.covered.program) (agrees : Agrees agreed.covered.program) (con : ConRef) (hs : List Held)
-    (old new : Sheet) (ways : List Way) (chooses : ChoosesFrom agreed con.ty (leaves_for con.con (leaves_in (layout_of agreed.layouts con.ty)) 0) [] (parts_from 0 hs) old new ways) (opened : AreOpen (length old.code) new.code ways) where
+    (shown : List Pat) (old new : Sheet) (ways : List Way)
+    (chooses : ChoosesFrom agreed con.ty (leaves_beside agreed.layouts con.ty (heads_below (map heads_of shown) 0) (leaves_for con.con (leaves_in (layout_of agreed.layouts con.ty)) 0))
+    (bare_paths agreed.covered.program.types (heads_below (map heads_of shown) 0)) (parts_from 0 hs) old new ways) (opened : AreOpen (length old.code) new.code ways) where
   abbrev choices : Choices
   choices = record { holes = holes_from 0 ways; ways = ways }
 
+  abbrev heads : List Head
+  heads = heads_below (map heads_of shown) 0
+
+  abbrev of_con : List ℕ
+  of_con = leaves_for con.con (leaves_in (layout_of agreed.layouts con.ty)) 0
+
   abbrev leaves : List ℕ
-  leaves = leaves_for con.con (leaves_in (layout_of agreed.layouts con.ty)) 0
+  leaves = leaves_beside agreed.layouts con.ty heads of_con
+
+  abbrev looked : List (List ℕ)
+  looked = bare_paths agreed.covered.program.types heads
 
   abbrev xs : List Subvalue
   xs = parts_from 0 hs
@@ -160,7 +173,8 @@ module _ (agreed : LaidOut) (typed : IsTyped agreed.covered.program) (flat : agr
 
     are_leaves : AreLeavesOf layout con.con leaves
     are_leaves i n e =
-        let r = for-of con.con (leaves_in (layout_of agreed.layouts con.ty)) 0 i n e in
+        let s = stays-of agreed.layouts con.ty heads of_con i n e in
+        let r = for-of con.con (leaves_in (layout_of agreed.layouts con.ty)) 0 s.0.0 n s.0.1 in
         let z : n ≡ r.number = let q = r.at_number in omega (arith, q) in
         (r.leaf, ap (slice_get layout.leaves) z ∙ ap (λ o. slice_get (leaves_in o) r.number) (sym is_there) ∙ r.is_number, r.is_for)
 
@@ -173,10 +187,10 @@ module _ (agreed : LaidOut) (typed : IsTyped agreed.covered.program) (flat : agr
     ready : IsReady agreed plan con.ty con.con layout leaves xs old.slots
     ready = record { of = of; is_layout = is_layout; are_leaves = are_leaves; given = parts_given }
 
-    all : ChoosesWays plan con.ty con.con layout leaves [] xs old new ways
+    all : ChoosesWays plan con.ty con.con layout leaves looked xs old new ways
     all = chooses plan con.con layout ready
 
-    module _ (vs : List Value) (is_of : is_of_type plan.program.types (Con con.con vs) (Named con.ty) ≡ true) where
+    module _ (vs : List Value) (as_shown : AreAsShown shown vs) (is_of : is_of_type plan.program.types (Con con.con vs) (Named con.ty) ≡ true) where
       abbrev v : Value
       v = Con con.con vs
 
@@ -215,7 +229,9 @@ module _ (agreed : LaidOut) (typed : IsTyped agreed.covered.program) (flat : agr
           let law = (lawful plan.program sound.1.1 sound.0).provenances in
           let root = begins con.con f.leaf.prov v con.ty (law.root con.ty layout f.number f.leaf is_flat f.is_number) m (ap root_con (outs-Con con.con vs)) in
           let i = for-from con.con (leaves_in (layout_of agreed.layouts con.ty)) 0 f.number f.leaf (ap (λ o. slice_get (leaves_in o) f.number) is_there ∙ f.is_number) root in
-          let tk = all.takes v is_of parts (λ i1 n x j h en el eh among. absurd (let q = among in cc)) f.number i.0 f.is_leaf (i.1 ∙ ap Some (z_of f.number)) in
+          let can = own_stays agreed.layouts agreed.covered.program.types con layout is_there shown vs as_shown f.number f.leaf f.is_leaf f.is_number in
+          let j = stays-from agreed.layouts con.ty heads of_con i.0 f.number (i.1 ∙ ap Some (z_of f.number)) can in
+          let tk = all.takes v is_of parts (shown_follow agreed.layouts agreed.covered.program.types con layout is_there shown vs as_shown of_con) f.number j.0 f.is_leaf j.1 in
           record {
             number = tk.number;
             way = tk.way;
@@ -224,7 +240,7 @@ module _ (agreed : LaidOut) (typed : IsTyped agreed.covered.program) (flat : agr
             leaves = λ clean leaf is. go tk clean leaf is;
           }
         where
-          go : (tk : Takes plan old new ways v (leaf_found plan.program sound.1.1 con.ty layout is_flat v is_of).number (left_of plan.layouts con.ty con.con []) (λ clean s m. IsGood m × PartsHold plan clean v s m xs))
+          go : (tk : Takes plan old new ways v (leaf_found plan.program sound.1.1 con.ty layout is_flat v is_of).number (left_of plan.layouts con.ty con.con looked) (λ clean s m. IsGood m × PartsHold plan clean v s m xs))
               → (clean : Bool) (leaf : Leaf) → slice_get layout.leaves tk.way.leaf ≡ Some leaf
               → Branches plan old.slots old new choices.holes (choose_of plan.layouts con.ty con.con) (λ k s m. (k ≡ tk.number) × AreHeld plan clean s m hs vs)
               (λ k s m. ArePartsHeld plan clean s m (open_positions plan.program.types leaf.prov) tk.way.fields v)
@@ -257,17 +273,17 @@ module _ (agreed : LaidOut) (typed : IsTyped agreed.covered.program) (flat : agr
                       world = taken r.2;
                       runs = r.3 ∙ ap (λ pc. next pc r.1 r.2) r.6.0 ∙ to;
                       keeps = r.4;
-                      later = record { memory = r.5.memory; left = r.5.left; switches = let x = r.5.switches in let y = left_none plan.layouts con.ty con.con in omega (arith, x, y) };
+                      later = record { memory = r.5.memory; left = r.5.left; switches = let x = r.5.switches in let y = left_most plan.layouts con.ty con.con looked in omega (arith, x, y) };
                       exit = parts_held plan clean v w0.memory new.slots r.1 (open_positions plan.program.types leaf.prov) tk.way.fields tk.parts
                           (subst (λ (y : Leaf). AreGivenAt plan new.slots (open_positions plan.program.types y.prov) tk.way.fields) same own.2) r.6.1;
                     };
               }
 
-  pub chooses_leaf : ChoosesLeaf agreed con hs old new choices
+  pub chooses_leaf : ChoosesLeaf agreed con hs shown old new choices
   chooses_leaf plan of fields is_fields kinds given layout is_layout =
       let a = all plan of fields is_fields kinds given layout is_layout in
       record {
         adds = a.adds;
         ways = λ k way e. let w = a.are_ways k way e in record { leaf = w.0; is_leaf = w.1; given = w.2 };
-        takes = λ vs is_of. takes plan of fields is_fields kinds given layout is_layout vs is_of;
+        takes = λ vs as_shown is_of. takes plan of fields is_fields kinds given layout is_layout vs as_shown is_of;
       }

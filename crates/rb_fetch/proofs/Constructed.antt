@@ -2,6 +2,7 @@
 use Rattle.std.proofs.Common.{◌≡◌, length, List, Some, sym, subst, ap, ◌∙◌}
 use Rattle.rb_core.specs.declared.types.Ty.TheVariants.{Named}
 use Rattle.rb_core.specs.declared.types.ConRef.{ConRef}
+use Rattle.rb_core.specs.declared.pattern.Pat.{Pat}
 use Rattle.rb_core.specs.TypedPrograms.{IsTyped}
 use Rattle.rb_target.specs.Sheet.{Sheet}
 use Rattle.rb_layout.specs.declared.agreed.LaidOut.{LaidOut}
@@ -22,17 +23,17 @@ use Rattle.rb_fetch.proofs.Alone.{alone_constructs}
 use Rattle.rb_fetch.proofs.Finding.{of_plan}
 use Rattle.rb_fetch.proofs.Meeting.{ways_constructs}
 
-module _ (agreed : LaidOut) (typed : IsTyped agreed.covered.program) (flat : agreed.layouts ≡ flat_layouts agreed.covered.program) (agrees : Agrees agreed.covered.program) (con : ConRef) (hs : List Held) (layout : Layout)
+module _ (agreed : LaidOut) (typed : IsTyped agreed.covered.program) (flat : agreed.layouts ≡ flat_layouts agreed.covered.program) (agrees : Agrees agreed.covered.program) (con : ConRef) (hs : List Held) (shown : List Pat) (layout : Layout)
     (at : layout_of agreed.layouts con.ty ≡ Some layout) (old new : Sheet) (held : Held) where
-  pub constructs_alone : (leaf : Leaf) → IsAlone con.con layout.leaves leaf → held.ty ≡ Named con.ty → MakesLeaf leaf (parts_from 0 hs) old new held.slots → Constructs agreed con hs old new held
+  pub constructs_alone : (leaf : Leaf) → IsAlone con.con layout.leaves leaf → held.ty ≡ Named con.ty → MakesLeaf leaf (parts_from 0 hs) old new held.slots → Constructs agreed con hs shown old new held
   constructs_alone leaf is kind makes plan of fields is_fields kinds given =
       let p = of_plan agreed typed flat agrees con.ty plan of in
       let is_layout = ap (λ ls. layout_of ls con.ty) of.layouts ∙ at in
-      subst (λ t. IsConstructed plan con hs old new (record { ty = t; slots = held.slots })) (sym kind) (alone_constructs plan p.0 p.1 con fields is_fields layout is_layout leaf is hs kinds old new held.slots given makes)
+      subst (λ t. IsConstructed plan con hs shown old new (record { ty = t; slots = held.slots })) (sym kind) (alone_constructs plan p.0 p.1 con fields is_fields layout is_layout leaf is hs kinds shown old new held.slots given makes)
 
-  pub constructs_ways : (mid : Sheet) (choices : Choices) → ChoosesLeaf agreed con hs old mid choices → AreHoles (length old.code) (length choices.ways) mid.code choices.holes → AreOfOneWay choices.holes
-      → WaysMeet con.ty layout.leaves choices mid new held → Constructs agreed con hs old new held
+  pub constructs_ways : (mid : Sheet) (choices : Choices) → ChoosesLeaf agreed con hs shown old mid choices → AreHoles (length old.code) (length choices.ways) mid.code choices.holes → AreOfOneWay choices.holes
+      → WaysMeet con.ty layout.leaves choices mid new held → Constructs agreed con hs shown old new held
   constructs_ways mid choices chooses holes ways meets plan of fields is_fields kinds given =
       let p = of_plan agreed typed flat agrees con.ty plan of in
       let is_layout = ap (λ ls. layout_of ls con.ty) of.layouts ∙ at in
-      ways_constructs plan p.0 p.1 layout con hs old mid new choices held is_layout fields is_fields kinds (chooses plan of fields is_fields kinds given layout is_layout) holes ways meets
+      ways_constructs plan p.0 p.1 layout con hs shown old mid new choices held is_layout fields is_fields kinds (chooses plan of fields is_fields kinds given layout is_layout) holes ways meets

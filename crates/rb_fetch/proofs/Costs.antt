@@ -153,6 +153,13 @@ module _ (layouts : List Layout) (t k : ℕ) where
   pub left_none : left_of layouts t k [] ≡ choose_of layouts t k
   left_none = ap (sum_by (look_cost layouts)) (filter_all (is_left []) (places_of layouts t k) (λ h. refl))
 
+  -- some looks that are left are at most all
+  pub left_most : (looked : List (List ℕ)) → left_of layouts t k looked ≤ choose_of layouts t k
+  left_most looked =
+      let le = sum_less (look_cost layouts) (is_left []) (is_left looked) (λ h e. refl) (places_of layouts t k) in
+      let all = left_none in
+      omega (arith, le, all)
+
   -- a look at a constructor of one of the leaves is one of those that are left
   pub left_less : (layout : Layout) → layout_of layouts t ≡ Some layout → (n : ℕ) (leaf : Leaf) → slice_get layout.leaves n ≡ Some leaf → is_leaf_for k leaf ≡ true
       → (i : ℕ) (h : Head) → slice_get (inner_heads leaf) i ≡ Some h → (looked : List (List ℕ)) → is_among looked h.path ≡ false

@@ -78,3 +78,11 @@ no-heads-Var at x = fold-Var (List Head) heads_step at x
 
 pub no-heads-Num : (at n : ℕ) → heads_of (Num at n) ≡ []
 no-heads-Num at n = fold-Num (List Head) heads_step at n
+
+-- those of patterns that stand below the root
+pub below_root : (pats : List Pat) (path : List ℕ) (old new : List Place) → path ≡ [] → old ≡ []
+    → shown_heads new ≡ shown_heads old ++ map (head_under path) (heads_below (map heads_of pats) 0) → shown_heads new ≡ heads_below (map heads_of pats) 0
+below_root pats path old new root none all =
+    all ∙ ap (λ (ps : List Place). shown_heads ps ++ map (head_under path) (heads_below (map heads_of pats) 0)) none
+    ∙ ap (λ (q : List ℕ). map (head_under q) (heads_below (map heads_of pats) 0)) root
+    ∙ under-root (heads_below (map heads_of pats) 0)

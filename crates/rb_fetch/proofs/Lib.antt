@@ -24,5 +24,6 @@ pub mod PartForms
 pub mod Chosen
 pub mod Branches
 pub mod Behind
+pub mod Shown
 pub mod Choices
 pub mod FieldParts

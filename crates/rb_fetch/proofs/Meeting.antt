@@ -7,6 +7,7 @@ use Rattle.rb_core.specs.declared.value.Value.{Value, Con}
 use Rattle.rb_core.specs.declared.types.Ty.{Ty}
 use Rattle.rb_core.specs.declared.types.Ty.TheVariants.{Named}
 use Rattle.rb_core.specs.declared.types.ConRef.{ConRef}
+use Rattle.rb_core.specs.declared.pattern.Pat.{Pat}
 use Rattle.rb_core.specs.declared.outcome.SourceEnd.TheVariants.{Done}
 use Rattle.rb_core.specs.TypedPrograms.{IsTyped}
 use Rattle.rb_core.specs.Values.{all_of_types, are_of, fields_of, is_of_type}
@@ -53,7 +54,7 @@ use Rattle.rb_rel.specs.Switches.{choose_of}
 use Rattle.rb_fetch.specs.declared.choice.Choices.{Choices}
 use Rattle.rb_fetch.specs.declared.choice.Way.{Way}
 use Rattle.rb_fetch.specs.declared.construct.Met.{Met}
-use Rattle.rb_fetch.specs.Choosing.{Chooses, IsWay}
+use Rattle.rb_fetch.specs.Choosing.{AreAsShown, Chooses, IsWay}
 use Rattle.rb_fetch.specs.Constructing.{IsConstructed}
 use Rattle.rb_fetch.specs.inner.Constructing.{ArmIsMade, ArmsAreMade, EmitsArm, EmitsArms, IsMet, IsShared, WaysMeet, MakesArm, MakesNumber, Reaches, met_in, moved, moved_from, moved_to}
 
@@ -300,7 +301,7 @@ held_typed plan typed agreed con hs fields is kinds clean vs s m held =
     ∙ ap (all_of_types (map (is_of_type plan.program.types) vs)) (sym kinds) ∙ all_typed plan typed agreed clean s m hs vs held
 
 module _ (plan : Plan) (layout : Layout) (con : ConRef) (hs : List Held) (b e q : Sheet) (choices : Choices) (into : List ℕ) (joins : List Hole) (starts : List ℕ)
-    (chooses : Chooses plan layout con hs b e choices) (holes_are : AreHoles (length b.code) (length choices.ways) e.code choices.holes) (ways : AreOfOneWay choices.holes)
+    (shown : List Pat) (chooses : Chooses plan layout con hs shown b e choices) (holes_are : AreHoles (length b.code) (length choices.ways) e.code choices.holes) (ways : AreOfOneWay choices.holes)
     (are : ArmsAre (length choices.ways) e q joins starts) (arms : ArmsAreMade plan con.ty layout choices.ways (length choices.ways) e q (Some into) joins starts)
     (typed_by : (clean : Bool) (vs : List Value) (s : List ℕ) (m : Memory) → AreHeld plan clean s m hs vs → is_of_type plan.program.types (Con con.con vs) (Named con.ty) ≡ true) where
   abbrev whole : Sheet
@@ -326,12 +327,12 @@ module _ (plan : Plan) (layout : Layout) (con : ConRef) (hs : List Held) (b e q 
   all-from k n [] le all = tt
   all-from k n (x ∷ xs) le all = (omega (arith, le, all.0), all-from k n xs le all.1)
 
-  does : (clean : Bool) (vs : List Value) (final : List Instr) (callee : Callee) (next : Next) → Law final callee next → AgreesBut final whole.code (length b.code) (length whole.code) Nowhere
+  does : (clean : Bool) (vs : List Value) → AreAsShown shown vs → (final : List Instr) (callee : Callee) (next : Next) → Law final callee next → AgreesBut final whole.code (length b.code) (length whole.code) Nowhere
       → (s : List ℕ) (w : World) → whole.slots ≤ length s → IsGood w.memory → AreHeld plan clean s w.memory hs vs
       → Makes plan clean (w.switches + most) next (length b.code) (length whole.code) b.slots con.ty into (Con con.con vs) s w
-  does clean vs final callee next law agrees s w room good held =
+  does clean vs as_shown final callee next law agrees s w room good held =
       let v = Con con.con vs in
-      let takes = chooses.takes vs (typed_by clean vs s w.memory held) in
+      let takes = chooses.takes vs as_shown (typed_by clean vs s w.memory held) in
       let k = takes.number in
       let is = chooses.ways k takes.way takes.is_way in
       let opens = open_positions plan.program.types is.leaf.prov in
@@ -379,7 +380,7 @@ module _ (plan : Plan) (layout : Layout) (con : ConRef) (hs : List Held) (b e q 
         ),
       )) d2
 
-  pub ways_construct : IsConstructed plan con hs b whole (record { ty = Named con.ty; slots = into })
+  pub ways_construct : IsConstructed plan con hs shown b whole (record { ty = Named con.ty; slots = into })
   ways_construct = record {
     kind = refl;
     adds = match_adds plan b.slots 0 count b e q choices.holes joins starts Never Never none holes_are ways arms.adds are;
@@ -390,14 +391,14 @@ module _ (plan : Plan) (layout : Layout) (con : ConRef) (hs : List Held) (b e q 
   }
 
 -- of any arguments
-pub ways_constructs : (plan : Plan) → IsTyped plan.program → AreAgreed plan.program plan.layouts → (layout : Layout) (con : ConRef) (hs : List Held) (b e new : Sheet) (choices : Choices) (held : Held) → layout_of plan.layouts con.ty ≡ Some layout
+pub ways_constructs : (plan : Plan) → IsTyped plan.program → AreAgreed plan.program plan.layouts → (layout : Layout) (con : ConRef) (hs : List Held) (shown : List Pat) (b e new : Sheet) (choices : Choices) (held : Held) → layout_of plan.layouts con.ty ≡ Some layout
     → (fields : List Ty) → fields_of plan.program.types con ≡ Some fields → map held_type hs ≡ fields
-    → Chooses plan layout con hs b e choices → AreHoles (length b.code) (length choices.ways) e.code choices.holes → AreOfOneWay choices.holes → WaysMeet con.ty layout.leaves choices e new held → IsConstructed plan con hs b new held
-ways_constructs plan typed agreed layout con hs b e new choices held is_layout fields is_fields kinds chooses holes_are ways meets =
+    → Chooses plan layout con hs shown b e choices → AreHoles (length b.code) (length choices.ways) e.code choices.holes → AreOfOneWay choices.holes → WaysMeet con.ty layout.leaves choices e new held → IsConstructed plan con hs shown b new held
+ways_constructs plan typed agreed layout con hs shown b e new choices held is_layout fields is_fields kinds chooses holes_are ways meets =
     let given : (k : ℕ) (way : Way) → slice_get choices.ways k ≡ Some way → IsWay plan layout e.slots way = chooses.ways in
     let arms = meets.emits plan typed agreed layout is_layout refl given in
-    let made = ways_construct plan layout con hs b e meets.last choices held.slots meets.joins meets.starts chooses holes_are ways meets.are arms (λ clean vs s m h. held_typed plan typed agreed con hs fields is_fields kinds clean vs s m h) in
-    subst (λ (x : Sheet). IsConstructed plan con hs b x held) (sym meets.code) (subst (λ t. IsConstructed plan con hs b (whole_match meets.last choices.holes meets.starts meets.joins) (record { ty = t; slots = held.slots })) (sym meets.kind) made)
+    let made = ways_construct plan layout con hs b e meets.last choices held.slots meets.joins meets.starts shown chooses holes_are ways meets.are arms (λ clean vs s m h. held_typed plan typed agreed con hs fields is_fields kinds clean vs s m h) in
+    subst (λ (x : Sheet). IsConstructed plan con hs shown b x held) (sym meets.code) (subst (λ t. IsConstructed plan con hs shown b (whole_match meets.last choices.holes meets.starts meets.joins) (record { ty = t; slots = held.slots })) (sym meets.kind) made)
 
 -- the code in front of the choice stays
 pub ways_grow : (t : ℕ) (leaves : List Leaf) (b e new : Sheet) (choices : Choices) (held : Held) → Grows b.code e.code → AreHoles (length b.code) (length choices.ways) e.code choices.holes → WaysMeet t leaves choices e new held → Grows b.code new.code

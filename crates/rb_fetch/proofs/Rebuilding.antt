@@ -49,6 +49,7 @@ use Rattle.rb_fragment.proofs.Adding.{Adds-refl, Adds-trans}
 use Rattle.rb_fragment.proofs.Holds.{AllBelow-more, AllGiven-append, AllGiven-more, AreHeld-append, AreHeld-kept, slots_at-kept}
 use Rattle.rb_fragment.proofs.Moves.{one-from}
 use Rattle.rb_fragment.proofs.Pieces.{piece_frame, piece_none, piece_seq, piece_weaken}
+use Rattle.rb_fetch.specs.Choosing.{AreAsShown}
 use Rattle.rb_fetch.specs.Constructing.{Constructs, IsConstructed}
 use Rattle.rb_fetch.specs.Fields.{FetchesField}
 use Rattle.rb_fetch.specs.Positions.{PositionAt, found_at, mend_under}
@@ -191,9 +192,10 @@ module _ (plan : Plan) where
   ended_weaken n n' a b k k' Pre Pre' Post Post' fewer le f g p = piece_weaken plan n n' a b Nowhere k k' Pre Pre' (AtEnd b Post) (AtEnd b Post') fewer le f (λ pc s m x. (x.0, g s m x.1)) p
 
   -- a construction without blocks
-  pub construct_piece : (con : ConRef) (hs : List Held) (old new : Sheet) (held : Held) → IsConstructed plan con hs old new held → ((v : Value) → blocks_of plan.layouts con.ty v ≡ []) → (clean : Bool) (vs : List Value)
+  pub construct_piece : (con : ConRef) (hs : List Held) (shown : List Pat) (old new : Sheet) (held : Held) → IsConstructed plan con hs shown old new held → ((v : Value) → blocks_of plan.layouts con.ty v ≡ [])
+      → (clean : Bool) (vs : List Value) → AreAsShown shown vs
       → Piece plan old.slots old new Nowhere (choose_of plan.layouts con.ty con.con) (λ s m. IsGood m × AreHeld plan clean s m hs vs) (AtEnd new (λ s m. Rep plan m clean (Named con.ty) (Values.Con con.con vs) (slots_at s held.slots)))
-  construct_piece con hs old new held made none clean vs = record {
+  construct_piece con hs shown old new held made none clean vs as_shown = record {
     adds = made.adds;
     low = omega arith;
     runs = λ final callee next law agrees s w long pre.
@@ -201,7 +203,7 @@ module _ (plan : Plan) where
         let m = w.memory in
         let out = next (length old.code) s w in
         let Ok = λ (u : Value) (w' : World). Comes plan clean out next (length new.code) old.slots (Named con.ty) held.slots s u w' × (blocks_of plan.layouts con.ty v ≡ [] → w'.memory ≡ m) in
-        let d = made.does clean vs final callee next law agrees s w long pre.0 pre.1 in
+        let d = made.does clean vs as_shown final callee next law agrees s w long pre.0 pre.1 in
         let e = subst (λ bs. Ends (w.switches + choose_of plan.layouts con.ty con.con) out m (lay m.limit m.next bs) (Done v w.left) Ok) (none v) d in
         let c = e.4.0 in
         let same = e.4.1 (none v) in
@@ -358,7 +360,7 @@ module _ (agreed : LaidOut) (typed : IsTyped agreed.covered.program) (flat : agr
   take_all (x ∷ xs) (suc k) e = ap (λ ys. x ∷ ys) (take_all xs k (omega (arith, e)))
 
   -- a constructor is rebuilt of its fields
-  pub part_con : (at : ℕ) (c : ConRef) (ps : List Pat) (path words : List ℕ) (old mid new : Sheet) (hs : List Held) (held : Held) → FetchesParts agreed t n c ps (length ps) path words old mid hs → Constructs agreed c hs mid new held
+  pub part_con : (at : ℕ) (c : ConRef) (ps : List Pat) (path words : List ℕ) (old mid new : Sheet) (hs : List Held) (held : Held) → FetchesParts agreed t n c ps (length ps) path words old mid hs → Constructs agreed c hs ps mid new held
       → FetchesPart agreed t n (Con at c ps) path words old new held.slots
   part_con at c ps path words old mid new hs held fetches builds plan of ty f is some all count =
       let types = plan.program.types in
@@ -399,7 +401,7 @@ module _ (agreed : LaidOut) (typed : IsTyped agreed.covered.program) (flat : agr
             let framed = ended_frame plan old.slots old mid some1 (λ s m. IsGood m) Pre Args (λ s s' m keeps z. z) first in
             let first1 = ended_weaken plan old.slots old.slots old mid some1 some1 (λ s m. IsGood m × Pre s m) Pre (λ s m. IsGood m × Args s m) Args1 (omega arith) (omega arith) (λ s m z. (z.0, z))
             (λ s m z. (z.0, subst (λ ws. AreHeld plan clean s m hs ws) vals z.1)) framed in
-            let second = construct_piece plan c hs mid new held made none clean us in
+            let second = construct_piece plan c hs ps mid new held made none clean us k.pass in
             let Rep1 = λ (s : List ℕ) (m : Memory). Rep plan m clean (Named c.ty) (Values.Con c.con us) (slots_at s held.slots) in
             let whole = ended_seq plan old.slots old mid new some1 (choose_of plan.layouts c.ty c.con) Pre Args1 Rep1 up first1 second in
             let sum : some1 + choose_of plan.layouts c.ty c.con ≡ mend_under plan.layouts f.pat =

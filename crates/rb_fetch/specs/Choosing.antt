@@ -4,6 +4,8 @@ use Rattle.rb_core.specs.declared.value.Value.{Value, Con}
 use Rattle.rb_core.specs.declared.types.Ty.{Ty}
 use Rattle.rb_core.specs.declared.types.Ty.TheVariants.{Named}
 use Rattle.rb_core.specs.declared.types.ConRef.{ConRef}
+use Rattle.rb_core.specs.declared.pattern.Pat.{Pat}
+use Rattle.rb_core.specs.Matching.{all_pass, matches_of}
 use Rattle.rb_core.specs.Values.{fields_of, is_of_type}
 use Rattle.rb_target.specs.Sheet.{Sheet}
 use Rattle.rb_layout.specs.declared.agreed.LaidOut.{LaidOut}
@@ -20,6 +22,10 @@ use Rattle.rb_compose.specs.Subvalues.{AreGivenAt, ArePartsHeld}
 use Rattle.rb_fetch.specs.declared.choice.Choices.{Choices}
 use Rattle.rb_fetch.specs.declared.choice.Way.{Way}
 use Rattle.rb_fetch.specs.Finding.{IsPlanOf}
+
+-- each argument matches the pattern that is shown of it
+abbrev pub AreAsShown : List Pat → List Value → Type 0
+AreAsShown shown vs = all_pass (map matches_of shown) vs ≡ true
 
 -- a way of a leaf of the layout, with a value at each open position of the leaf
 pub record IsWay (plan : Plan) (layout : Layout) (n : ℕ) (way : Way) : Type 0 where
@@ -38,13 +44,15 @@ pub record TakesWay (plan : Plan) (layout : Layout) (con : ConRef) (hs : List He
       → Branches plan old.slots old new choices.holes (choose_of plan.layouts con.ty con.con) (λ k s m. (k ≡ number) × AreHeld plan clean s m hs vs)
       (λ k s m. ArePartsHeld plan clean s m (open_positions plan.program.types leaf.prov) way.fields (Con con.con vs))
 
--- The appended code looks into the arguments of a construction until its leaf is known.
-pub record Chooses (plan : Plan) (layout : Layout) (con : ConRef) (hs : List Held) (old new : Sheet) (choices : Choices) : Type 0 where
+-- The appended code looks into the arguments of a construction until its leaf is known, where each argument matches
+-- the pattern that is shown of it.
+pub record Chooses (plan : Plan) (layout : Layout) (con : ConRef) (hs : List Held) (shown : List Pat) (old new : Sheet) (choices : Choices) : Type 0 where
   pub adds : Adds plan old new
   pub ways : (k : ℕ) (way : Way) → slice_get choices.ways k ≡ Some way → IsWay plan layout new.slots way
-  pub takes : (vs : List Value) → is_of_type plan.program.types (Con con.con vs) (Named con.ty) ≡ true → TakesWay plan layout con hs old new choices vs
+  pub takes : (vs : List Value) → AreAsShown shown vs → is_of_type plan.program.types (Con con.con vs) (Named con.ty) ≡ true
+      → TakesWay plan layout con hs old new choices vs
 
-abbrev pub ChoosesLeaf : LaidOut → ConRef → List Held → Sheet → Sheet → Choices → Type 0
-ChoosesLeaf agreed con hs old new choices =
+abbrev pub ChoosesLeaf : LaidOut → ConRef → List Held → List Pat → Sheet → Sheet → Choices → Type 0
+ChoosesLeaf agreed con hs shown old new choices =
     (plan : Plan) → IsPlanOf agreed plan → (fields : List Ty) → fields_of plan.program.types con ≡ Some fields → map held_type hs ≡ fields
-    → AllGiven plan old.slots hs → (layout : Layout) → layout_of plan.layouts con.ty ≡ Some layout → Chooses plan layout con hs old new choices
+    → AllGiven plan old.slots hs → (layout : Layout) → layout_of plan.layouts con.ty ≡ Some layout → Chooses plan layout con hs shown old new choices

@@ -8,6 +8,7 @@ ghost use Rattle.rb_fetch.specs.Choosing.{ChoosesLeaf};
 use crate::choosing::choose_leaf_at;
 use crate::rebuild::DEPTH;
 use rb_compose::subvalue::Subvalue;
+use rb_core::pattern::Pat;
 use rb_core::seq::Seq;
 use rb_core::types::ConRef;
 use rb_fragment::held::Held;
@@ -32,7 +33,8 @@ pub struct Choices {
 }
 
 /// Code that looks into the arguments of a construction until its leaf is known: it leaves by the hole of
-/// a way to that leaf. The arguments are in slots, one a field of the constructor.
+/// a way to that leaf. The arguments are in slots, one a field of the constructor, and each matches the pattern
+/// that is shown of it. What these patterns decide costs no look.
 ///
 /// # Errors
 /// `AllocError` where memory is wanting.
@@ -42,13 +44,15 @@ pub fn choose_leaf(
     agreed: &Agreed,
     con: ConRef,
     args: &[Held],
+    shown: &[Pat],
 ) -> Result<Choices, AllocError>
-    ensures chooses { IfOk result (λ choices. ChoosesLeaf agreed.now con args.now body.old body.new choices) }
+    ensures chooses { IfOk result
+        (λ choices. ChoosesLeaf agreed.now con args.now shown.now body.old body.new choices) }
     ensures holes { IfOk result (λ choices. AreHoles (length body.old.code)
         (length choices.ways) body.new.code choices.holes) }
     ensures ways { IfOk result (λ choices. AreOfOneWay choices.holes) }
     ensures grows { OnOk result (Grows body.old.code body.new.code) }
 {
-    let choices = choose_leaf_at(alloc, body, agreed, DEPTH, con, args)?;
+    let choices = choose_leaf_at(alloc, body, agreed, DEPTH, con, args, shown)?;
     Ok(choices)
 }

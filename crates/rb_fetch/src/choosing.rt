@@ -12,7 +12,10 @@ ghost use Rattle.rb_fetch.specs.inner.Choosing.{AreOpen, BranchesDone, ChoosesBy
 
 use crate::choice::{Choices, Way};
 use crate::construct::{alone, emit_alone, emit_ways};
-use crate::heads::{Place, field_path, heads, leaf_at, leaves_with, next_place, take_apart};
+use crate::heads::{
+    Place, bare_paths, field_heads, field_path, heads, leaf_at, leaves_beside, leaves_with,
+    next_place, take_apart,
+};
 use crate::look::find_leaf;
 use crate::parts::{
     add_parts, copy_parts, count_leaves, find_fields, leaves_by, parts_of, root_of, words_at,
@@ -85,8 +88,10 @@ pub(crate) fn choose_leaf_at(
     depth: usize,
     con: ConRef,
     args: &[Held],
+    shown: &[Pat],
 ) -> Result<Choices, AllocError>
-    ensures chooses { IfOk result (λ choices. ChoosesLeaf agreed.now con args.now body.old body.new choices) }
+    ensures chooses { IfOk result
+        (λ choices. ChoosesLeaf agreed.now con args.now shown.now body.old body.new choices) }
     ensures holes { IfOk result (λ choices. AreHoles (length body.old.code)
         (length choices.ways) body.new.code choices.holes) }
     ensures ways { IfOk result (λ choices. AreOfOneWay choices.holes) }
@@ -95,10 +100,12 @@ pub(crate) fn choose_leaf_at(
     if depth == 0 {
         return Err(AllocError);
     }
-    let _typed = agreed.covered().program();
-    let leaves = leaves_by(alloc, agreed.layouts(), con)?;
+    let program = agreed.covered().program();
+    let places = field_heads(alloc, shown)?;
+    let all = leaves_by(alloc, agreed.layouts(), con)?;
+    let leaves = leaves_beside(alloc, agreed.layouts(), con.ty, all, places.as_slice())?;
     let mut parts = parts_of(alloc, args)?;
-    let mut looked = Seq::new(alloc);
+    let mut looked = bare_paths(alloc, program.types.as_slice(), places.as_slice())?;
     let ways = choose(
         alloc,
         body,
@@ -420,7 +427,7 @@ pub(crate) fn fetch_part(
                 subs,
                 path,
             )?;
-            let held = construct_at(alloc, body, agreed, depth - 1, *con, args.as_slice())?;
+            let held = construct_at(alloc, body, agreed, depth - 1, *con, args.as_slice(), subs)?;
             Ok(held.slots)
         }
     }
@@ -482,8 +489,10 @@ pub(crate) fn construct_at(
     depth: usize,
     con: ConRef,
     args: &[Held],
+    shown: &[Pat],
 ) -> Result<Held, AllocError>
-    ensures constructs { IfOk result (λ held. Constructs agreed.now con args.now body.old body.new held) }
+    ensures constructs { IfOk result
+        (λ held. Constructs agreed.now con args.now shown.now body.old body.new held) }
     ensures grows { OnOk result (Grows body.old.code body.new.code) }
 {
     if depth == 0 {
@@ -500,7 +509,7 @@ pub(crate) fn construct_at(
             Ok(held)
         }
         None => {
-            let choices = choose_leaf_at(alloc, body, agreed, depth - 1, con, args)?;
+            let choices = choose_leaf_at(alloc, body, agreed, depth - 1, con, args, shown)?;
             let held = emit_ways(alloc, body, leaves, con, choices)?;
             Ok(held)
         }

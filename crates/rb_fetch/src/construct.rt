@@ -17,6 +17,7 @@ use crate::heads::heads;
 use crate::parts::{is_leaf_for, parts_of};
 use crate::rebuild::DEPTH;
 use rb_compose::leaf::emit_leaf;
+use rb_core::pattern::Pat;
 use rb_core::seq::Seq;
 use rb_core::types::{ConRef, Ty};
 use rb_fragment::emit::emit_copies;
@@ -28,7 +29,8 @@ use rb_target::body::{Body, Hole};
 use rb_target::instr::Instr;
 use std::alloc::{AllocError, Global};
 
-/// Code that constructs a value by a constructor, of values that are held, one a field.
+/// Code that constructs a value by a constructor, of values that are held, one a field. Each matches the pattern
+/// that is shown of it; a wildcard shows nothing.
 ///
 /// # Errors
 /// `AllocError` where memory is wanting.
@@ -38,11 +40,13 @@ pub fn construct(
     agreed: &Agreed,
     con: ConRef,
     args: &[Held],
+    shown: &[Pat],
 ) -> Result<Held, AllocError>
-    ensures constructs { IfOk result (λ held. Constructs agreed.now con args.now body.old body.new held) }
+    ensures constructs { IfOk result
+        (λ held. Constructs agreed.now con args.now shown.now body.old body.new held) }
     ensures grows { OnOk result (Grows body.old.code body.new.code) }
 {
-    let held = construct_at(alloc, body, agreed, DEPTH, con, args)?;
+    let held = construct_at(alloc, body, agreed, DEPTH, con, args, shown)?;
     Ok(held)
 }
 

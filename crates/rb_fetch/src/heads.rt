@@ -4,12 +4,13 @@ ghost use Rattle.std.specs.Prelude.{◌≡◌, ◌++◌, ◌∷◌, [], map, IfO
 ghost use Rattle.std.specs.Option.{option_copied};
 ghost use Rattle.rb_layout.specs.Flattening.{same_path};
 ghost use Rattle.rb_rel.specs.Switches.{heads_below, heads_of, inner_heads};
-ghost use Rattle.rb_fetch.specs.inner.Heads.{are_looked_at, can_be, can_be_leaf, head_under, IsNext, is_among, leaves_that_can_be, shown_heads, stands_at, take_apart, takes_apart};
+ghost use Rattle.rb_fetch.specs.inner.Heads.{are_looked_at, bare_paths, can_be, can_be_leaf, head_under, IsNext, is_among, is_bare, leaves_beside, leaves_that_can_be, shown_heads, stands_at, take_apart, takes_apart};
 ghost use Rattle.rb_fetch.specs.inner.Fields.{leaf_at};
 
+use rb_core::inference::types_of_fields;
 use rb_core::pattern::Pat;
 use rb_core::seq::Seq;
-use rb_core::types::ConRef;
+use rb_core::types::{ConRef, DataDecl};
 use rb_layout::layout::{Layout, Leaf};
 use std::alloc::{AllocError, Global};
 
@@ -109,6 +110,45 @@ pub(crate) fn heads(alloc: Global, leaf: &Leaf) -> Result<Seq<Place>, AllocError
     }
 }
 
+/// The constructors of patterns, one a field, at their positions in the whole.
+///
+/// # Errors
+/// `AllocError` where memory is wanting.
+pub(crate) fn field_heads(alloc: Global, pats: &[Pat]) -> Result<Seq<Place>, AllocError>
+    ensures { IfOk result (λ found. shown_heads found ≡ heads_below (map heads_of pats.now) 0) }
+{
+    let root = Seq::new(alloc);
+    let mut found = Seq::new(alloc);
+    add_heads_below(alloc, pats, &root, &mut found)?;
+    Ok(found)
+}
+
+fn is_bare(types: &[DataDecl], con: ConRef) -> bool
+    ensures { result ≡ is_bare types.now con }
+{
+    types_of_fields(types, con).len() == 0
+}
+
+/// The positions of those constructors that have no fields.
+///
+/// # Errors
+/// `AllocError` where memory is wanting.
+pub(crate) fn bare_paths(
+    alloc: Global,
+    types: &[DataDecl],
+    places: &[Place],
+) -> Result<Seq<Seq<u32>>, AllocError>
+    ensures { IfOk result (λ paths. paths ≡ bare_paths types.now (shown_heads places.now)) }
+{
+    let mut paths = Seq::new(alloc);
+    for place in places {
+        if is_bare(types, place.con) {
+            paths.push(place.path.copy(alloc)?)?;
+        }
+    }
+    Ok(paths)
+}
+
 pub(crate) fn same_path(own: &[u32], path: &[u32]) -> bool
     ensures { result ≡ same_path own.now path.now }
 {
@@ -201,6 +241,27 @@ pub(crate) fn leaves_with(
         if can_be_leaf(alloc, layouts, ty, *leaf, path, con)? {
             kept.push(*leaf)?;
         }
+    }
+    Ok(kept)
+}
+
+/// The leaves of some that can still be here where each of these constructors stands at its position.
+///
+/// # Errors
+/// `AllocError` where memory is wanting.
+pub(crate) fn leaves_beside(
+    alloc: Global,
+    layouts: &[Layout],
+    ty: u32,
+    leaves: Seq<usize>,
+    places: &[Place],
+) -> Result<Seq<usize>, AllocError>
+    ensures { IfOk result (λ kept. kept ≡ leaves_beside layouts.now ty (shown_heads places.now) leaves) }
+{
+    let mut kept = leaves;
+    for place in places {
+        let path = place.path.as_slice();
+        kept = leaves_with(alloc, layouts, ty, kept.as_slice(), path, place.con.con)?;
     }
     Ok(kept)
 }

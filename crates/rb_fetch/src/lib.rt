@@ -74,6 +74,11 @@
 //! constructors, and no two leaves have a value in common. A place is looked at once on a way, so a run does no
 //! more switches than `choose_of` counts.
 //!
+//! An argument whose constructor is known is **shown**, as a pattern that it matches. Leaves that have another
+//! constructor in its place are left out before the first look, and no look goes to a constructor without fields:
+//! where `Red` is shown, a node is made by the code of the red leaf, with no switch. A part that is rebuilt is
+//! shown the constructors of its fields by the provenance that it stands in.
+//!
 //! That a range, a byte or a width is one of an instruction is no condition on the caller: it follows from
 //! agreement wherever a location resolves in some leaf, and each split of a layout that agrees stands above
 //! a leaf in which its location does.

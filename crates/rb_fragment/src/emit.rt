@@ -12,7 +12,8 @@ use std::alloc::AllocError;
 /// A number.
 ///
 /// # Errors
-/// `AllocError` where memory is wanting.
+///
+/// Want of memory.
 pub fn emit_const(body: &mut Body, number: u64) -> Result<usize, AllocError>
     ensures small { number < 2 ^ 64 }
     ensures slot { IfOk result (λ d. d ≡ body.old.slots) }
@@ -26,7 +27,8 @@ pub fn emit_const(body: &mut Body, number: u64) -> Result<usize, AllocError>
 /// Another slot's word.
 ///
 /// # Errors
-/// `AllocError` where memory is wanting.
+///
+/// Want of memory.
 pub fn emit_copy(body: &mut Body, from: usize) -> Result<usize, AllocError>
     ensures slot { IfOk result (λ d. d ≡ body.old.slots) }
     ensures code { OnOk result (body.new ≡ pushed (with_slot body.old) (Copy body.old.slots from)) }
@@ -39,7 +41,8 @@ pub fn emit_copy(body: &mut Body, from: usize) -> Result<usize, AllocError>
 /// An operation modulo two to the power of so many bits, on the words of two slots.
 ///
 /// # Errors
-/// `AllocError` where memory is wanting.
+///
+/// Want of memory.
 pub fn emit_alu(
     body: &mut Body,
     op: AluOp,
@@ -58,7 +61,8 @@ pub fn emit_alu(
 /// Bits `o` up to `o + l` of a slot's word.
 ///
 /// # Errors
-/// `AllocError` where memory is wanting.
+///
+/// Want of memory.
 pub fn emit_take(body: &mut Body, from: usize, o: u8, l: u8) -> Result<usize, AllocError>
     ensures slot { IfOk result (λ d. d ≡ body.old.slots) }
     ensures code { OnOk result (body.new ≡ pushed (with_slot body.old) (Take body.old.slots from o l)) }
@@ -71,7 +75,8 @@ pub fn emit_take(body: &mut Body, from: usize, o: u8, l: u8) -> Result<usize, Al
 /// The word of `width` bits at byte `offset` of the block at a slot's address.
 ///
 /// # Errors
-/// `AllocError` where memory is wanting.
+///
+/// Want of memory.
 pub fn emit_load(body: &mut Body, base: usize, offset: u64, width: u8) -> Result<usize, AllocError>
     ensures slot { IfOk result (λ d. d ≡ body.old.slots) }
     ensures code { OnOk result (body.new ≡ pushed (with_slot body.old) (Load body.old.slots base offset width)) }
@@ -84,7 +89,8 @@ pub fn emit_load(body: &mut Body, base: usize, offset: u64, width: u8) -> Result
 /// The words of some slots to as many others, one after the other, as far as both lists go.
 ///
 /// # Errors
-/// `AllocError` where memory is wanting.
+///
+/// Want of memory.
 pub fn emit_copies(body: &mut Body, dests: &[usize], froms: &[usize]) -> Result<(), AllocError>
     ensures { OnOk result (body.new ≡ record body.old { code = body.old.code ++ copies dests.now froms.now }) }
 {

@@ -14,7 +14,8 @@ use std::alloc::{AllocError, Global};
 /// slots for the first arm, and an open jump to where all arms meet.
 ///
 /// # Errors
-/// `AllocError` where memory is wanting.
+///
+/// Want of memory.
 pub fn emit_join(
     alloc: Global,
     body: &mut Body,

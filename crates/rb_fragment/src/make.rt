@@ -17,7 +17,8 @@ use std::alloc::{AllocError, Global};
 /// Makes a read into a slot: one that stands in a slot costs nothing.
 ///
 /// # Errors
-/// `AllocError` where memory is wanting.
+///
+/// Want of memory.
 #[cycle(making)]
 pub fn make(body: &mut Body, read: &Read) -> Result<usize, AllocError>
     ensures makes { IfOk result (λ slot. MakesRead read.now body.old body.new slot) }
@@ -86,7 +87,8 @@ fn make_share(body: &mut Body, share: &Share, slot: usize) -> Result<(), AllocEr
 /// Makes reads into slots, one each and in their order.
 ///
 /// # Errors
-/// `AllocError` where memory is wanting.
+///
+/// Want of memory.
 pub fn make_all(alloc: Global, body: &mut Body, reads: &[Read]) -> Result<Seq<usize>, AllocError>
     ensures makes { IfOk result (λ slots. MakesAll reads.now body.old body.new slots) }
     ensures origin { IfOk result (λ slots. AreNewOr reads.now body.old slots) }

@@ -29,7 +29,8 @@ fn target_of(targets: &[usize], way: usize) -> usize
 /// arms' open jumps to behind all.
 ///
 /// # Errors
-/// `AllocError` where memory is wanting; the body stays as it is.
+///
+/// Want of memory; the body stays as it is.
 pub fn close_match(
     alloc: Global,
     body: &mut Body,

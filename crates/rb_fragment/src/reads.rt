@@ -39,7 +39,8 @@ impl Read {
     /// An equal read.
     ///
     /// # Errors
-    /// `AllocError` where memory is wanting.
+    ///
+    /// Want of memory.
     #[cycle(copying)]
     pub fn copy(&self, alloc: Global) -> Result<Read, AllocError>
         ensures { IfOk result (λ read. read ≡ self.now) }
@@ -88,7 +89,8 @@ fn copy_shares(alloc: Global, shares: &[Share]) -> Result<Seq<Share>, AllocError
 /// The words in some slots.
 ///
 /// # Errors
-/// `AllocError` where memory is wanting.
+///
+/// Want of memory.
 pub fn slot_reads(alloc: Global, slots: &[usize]) -> Result<Seq<Read>, AllocError>
     ensures { IfOk result (λ found. found ≡ map (λ x. reads.Slot x) slots.now) }
 {

@@ -28,7 +28,8 @@ pub fn word_count(layouts: &[Layout], ty: Ty) -> usize
 /// So many slots in a row that nothing else uses.
 ///
 /// # Errors
-/// `AllocError` where memory is wanting.
+///
+/// Want of memory.
 pub fn fresh_slots(alloc: Global, body: &mut Body, count: usize) -> Result<Seq<usize>, AllocError>
     ensures slots { IfOk result (λ ds. ds ≡ slots_from body.old.slots count) }
     ensures code { OnOk result (body.new ≡ with_slots body.old count) }
@@ -44,7 +45,8 @@ pub fn fresh_slots(alloc: Global, body: &mut Body, count: usize) -> Result<Seq<u
 /// The slots of several values, one behind the other.
 ///
 /// # Errors
-/// `AllocError` where memory is wanting.
+///
+/// Want of memory.
 pub fn joined_slots(alloc: Global, held: &[Held]) -> Result<Seq<usize>, AllocError>
     ensures { IfOk result (λ s. s ≡ all_slots held.now) }
 {

@@ -1,12 +1,17 @@
 pub mod Blocks
 pub mod Falling
+pub mod FieldSites
 pub mod Given
 pub mod Memories
 pub mod Orders
 pub mod Parts
+pub mod Readings
 pub mod Reads
 pub mod Roots
+pub mod Sites
 pub mod Sound
+pub mod Spans
 pub mod Splits
 pub mod Values
+pub mod WordReads
 pub mod inner

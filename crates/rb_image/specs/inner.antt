@@ -5,4 +5,5 @@ pub mod Halving
 pub mod Having
 pub mod Knowing
 pub mod Opening
+pub mod Siting
 pub mod Viewing

@@ -34,8 +34,8 @@ pub struct Examined<'a> {
     pub addresses: &'a [u64],
 }
 
-// Whether a part holds a word of the field at a path.
-fn holds(kind: &Kind, path: &[u32], number: u64) -> bool
+/// Whether a part holds a word of the field at a path.
+pub(crate) fn holds(kind: &Kind, path: &[u32], number: u64) -> bool
     ensures { result ≡ spec.holds kind.now path.now number }
 {
     match kind {

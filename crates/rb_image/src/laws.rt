@@ -1,6 +1,8 @@
 //! What images are: each law the contract of a function that does nothing.
 
+ghost use Rattle.rb_image.specs.FieldSites.{LeavesAreNarrow};
 ghost use Rattle.rb_image.specs.Falling.{DescendingImagesAreSound, SoundImagesDescend, SoundValuesDescend};
+ghost use Rattle.rb_image.specs.Spans.{SpansRecur};
 ghost use Rattle.rb_image.specs.Values.{SoundImagesHaveValues};
 
 /// Every image that is sound has a value.
@@ -24,4 +26,17 @@ pub fn sound_images_descend()
 /// they represent in the memory of exactly these blocks, where all pointers fall.
 pub fn sound_values_descend()
     ensures { SoundValuesDescend }
+{}
+
+/// The span of a data type, from which bounds on the words that are read are made, is the sum of three numbers: one and
+/// the steps of its location for each split, the flat words of all leaves, and the span of the type of each constructor
+/// below the root of a provenance.
+pub fn spans_recur()
+    ensures { SpansRecur }
+{}
+
+/// Of the leaves of layouts that agree with their types, root and blocks have at most 64 words, each of at most 64
+/// bits, and each part of a word lies among 64 bits: of such leaves the sites of fields are found.
+pub fn leaves_are_narrow()
+    ensures { LeavesAreNarrow }
 {}

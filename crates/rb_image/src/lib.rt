@@ -43,6 +43,20 @@
 //! makes: each at its address, of its very size, with fillers before and between them. What represents a value in the
 //! memory of exactly these blocks represents it there, so the root words are decoded there.
 //!
+//! `read_word` gives one word of an image, and ticks one step of a counter for it: at base 0 a root word, at another
+//! base a word of the block that begins there. Who reads by it alone can be held to a number of words. So `read_leaf`
+//! is: it finds the leaf that `look` finds from the sites of a place's words, and reads each word only when a split
+//! asks for its bits. `specs/Spans.antt` has the numbers to which such reading is held; that of the list above is 5.
+//!
+//! `read_once` is `read_word` for bits at sites that are asked for more than once: it keeps their numbers, so each step
+//! that it takes leaves one site less that is not read yet. What reads a leaf's words by it alone reads none twice.
+//!
+//! `field_sites` goes on from a leaf to the words of an open position below it, and reads nothing for that: it gives
+//! the sites at which they stand, from the sites of the leaf's own words and the addresses of its blocks. Here the
+//! block of `Cons` is at 64, so the one word of `.1` stands in all 64 bits of the word from byte 8 of it on. A word
+//! that is a range of a word of the leaf stands in a range of the bits at that one's site. `specs/FieldSites.antt` says
+//! which words they are.
+//!
 //! `specs/Parts.antt` says what one place comes to, above `specs/Splits.antt`, the leaf to which its splits lead, and
 //! `specs/Orders.antt`, the order of a leaf's parts; `specs/Blocks.antt` which blocks and words an image has.
 //! `specs/Sound.antt` says what a place with all below it comes to, and keeps nothing; `specs/Roots.antt` what an image
@@ -58,13 +72,18 @@ mod bits;
 mod blocks;
 mod descent;
 pub mod examine;
+pub mod fields;
 pub mod kept;
 mod known;
 pub mod laws;
+pub mod leaf;
 pub mod look;
 pub mod memory;
 mod order;
 mod parts;
+pub mod reading;
 mod roots;
+pub mod site;
 mod splits;
 pub mod value;
+pub mod word;

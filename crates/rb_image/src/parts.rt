@@ -18,7 +18,8 @@ use rb_layout::layout::{Kind, Leaf};
 use rb_layout::sizes::block_size;
 use std::alloc::Global;
 
-fn address_at(addresses: &[u64], block: u32) -> u64
+/// The address of a block, 0 for one that is not there.
+pub(crate) fn address_at(addresses: &[u64], block: u32) -> u64
     ensures { result ≡ slice_index addresses.now block }
 {
     match addresses.get(block as usize) {

@@ -88,8 +88,8 @@ fn range_at(memory: &[ImageBlock], words: &[Kept], loc: &Loc) -> Result<Kept, Im
     Ok(range)
 }
 
-// What stands under a number: under the first arm with this literal, or else under `else`.
-fn under<'a>(
+/// What stands under a number: under the first arm with this literal, or else under `else`.
+pub(crate) fn under<'a>(
     arms: &'a [FlatArm],
     other: &'a Option<Boxed<FlatTree>>,
     number: u64,

@@ -233,6 +233,10 @@ impl Reader {
     }
 
     /// Reads one byte, or says that no text goes on so.
+    ///
+    /// # Errors
+    ///
+    /// Want of memory.
     pub fn feed(&mut self, alloc: Global, byte: u8) -> Result<bool, AllocError>
         requires { spec.IsHalved self.old.spot }
         ensures { IfOk result (λ fed. spec.IsFed (spec.feed self.old byte) self.new fed) }

@@ -16,7 +16,7 @@ use std::alloc::{AllocError, Global};
 ///
 /// # Errors
 ///
-/// `AllocError` where memory is wanting.
+/// Want of memory.
 pub fn flatten(alloc: Global, covered: &Covered) -> Result<Seq<Layout>, AllocError>
     requires { HaveLayouts covered.now.program }
     ensures flat { IfOk result (λ layouts. layouts ≡ flat_layouts covered.now.program) }

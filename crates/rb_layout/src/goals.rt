@@ -86,6 +86,10 @@ impl Goals {
     }
 
     /// Adds a goal, which isn't known to hold if it is new.
+    ///
+    /// # Errors
+    ///
+    /// Want of memory.
     pub fn add(&mut self, goal: Goal) -> Result<(), AllocError>
         ensures { OnOk result (self.new ≡ with_goal self.old goal) }
     {

@@ -35,6 +35,10 @@ fn add_zeros(words: &mut Vec<u64>, zeros: usize)
 }
 
 /// Adds zeros at the end.
+///
+/// # Errors
+///
+/// Want of memory.
 pub fn push_zeros(words: &mut Vec<u64>, zeros: usize) -> Result<(), AllocError>
     ensures { IfOk result (λ _. words.new.items ≡ words.old.items ++ replicate zeros 0) }
 {
@@ -77,6 +81,10 @@ fn push_slots(
 }
 
 /// The current function waits, and another begins with the words of some slots.
+///
+/// # Errors
+///
+/// Want of memory.
 pub fn call_turn(
     funs: &[CodeFun],
     depth: u64,

@@ -19,6 +19,10 @@ use std::alloc::{AllocError, Global};
 /// Runs a function of the code over a memory, with at most so many calls, its own included. One step
 /// is ticked for each instruction that is begun. Memory is taken here and at calls alone, for their slots
 /// and for a frame for each call that waits; after want of memory the steps stand anywhere between.
+///
+/// # Errors
+///
+/// Want of memory.
 pub fn run<M: ByteMemory, L: Ledger>(
     alloc: Global,
     code: &Code,

@@ -17,6 +17,10 @@ use rb_target::outcome::End;
 use std::alloc::{AllocError, Global};
 
 /// Runs the current call up to where it calls another or returns, or gives the end of the run as the `Err`.
+///
+/// # Errors
+///
+/// The end of the run: a trap, or a block that does not fit.
 pub fn stretch_turn<'a, M: ByteMemory, L: Ledger>(
     funs: &'a [CodeFun],
     depth: u64,
@@ -53,6 +57,10 @@ pub fn stretch_turn<'a, M: ByteMemory, L: Ledger>(
 
 /// The call or the return at which the current call stands, and the end if it ends the run. Only a call
 /// takes memory.
+///
+/// # Errors
+///
+/// Want of memory.
 pub fn turn(
     alloc: Global,
     funs: &[CodeFun],

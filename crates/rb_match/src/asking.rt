@@ -76,6 +76,10 @@ fn is_test_at(nodes: &[GraphNode], node: u32) -> bool
 }
 
 /// A way out at an instruction, to a node.
+///
+/// # Errors
+///
+/// Want of memory.
 pub fn edge<'a>(
     alloc: Global,
     pc: usize,
@@ -341,6 +345,10 @@ fn ask_leaf<'a>(
 /// Code of a test at a position of a value of a type: it leaves by an edge to the node of the arm that is
 /// taken, which carries what is known there. Fields of the part there that have spots are saved in them. A
 /// position that no pattern looks at is never tested.
+///
+/// # Errors
+///
+/// Want of memory.
 pub fn ask<'a>(
     alloc: Global,
     body: &mut Body,

@@ -381,7 +381,8 @@ fn bind_field(
 /// whose words stand in some slots. A variable that is the whole pattern has the value's own slots.
 ///
 /// # Errors
-/// `AllocError` where memory is wanting.
+///
+/// Want of memory.
 pub fn bind(
     alloc: Global,
     body: &mut Body,

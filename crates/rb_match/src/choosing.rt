@@ -36,7 +36,8 @@ fn slot_reads(alloc: Global, words: &[usize]) -> Result<Seq<Read>, AllocError>
 /// Code of a decision graph, each node once. The parts that its tests need saved have slots of their own.
 ///
 /// # Errors
-/// `AllocError` where memory is wanting.
+///
+/// Want of memory.
 pub fn emit_shared(
     alloc: Global,
     body: &mut Body,
@@ -65,7 +66,8 @@ pub fn emit_shared(
 /// Code of a decision tree, equal parts of it once.
 ///
 /// # Errors
-/// `AllocError` where memory is wanting.
+///
+/// Want of memory.
 pub fn emit_tree(
     alloc: Global,
     body: &mut Body,
@@ -89,7 +91,8 @@ pub fn emit_tree(
 /// slots. Switches' arms are holes themselves.
 ///
 /// # Errors
-/// `AllocError` where memory is wanting.
+///
+/// Want of memory.
 pub fn emit_match(
     alloc: Global,
     body: &mut Body,

@@ -50,6 +50,10 @@ fn emit_alone(
 }
 
 /// The holes of a way, by another name.
+///
+/// # Errors
+///
+/// Want of memory.
 pub fn holes_of(
     alloc: Global,
     holes: &[Hole],
@@ -98,7 +102,8 @@ fn emit_clause(
 /// exhaustive match.
 ///
 /// # Errors
-/// `AllocError` where memory is wanting.
+///
+/// Want of memory.
 pub fn emit_clauses(
     alloc: Global,
     body: &mut Body,

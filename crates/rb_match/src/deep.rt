@@ -142,7 +142,8 @@ fn open_ways<'a>(
 /// known there.
 ///
 /// # Errors
-/// `AllocError` where memory is wanting.
+///
+/// Want of memory.
 pub fn ask_deep<'a>(
     alloc: Global,
     body: &mut Body,

@@ -47,6 +47,10 @@ fn others<'a>(edges: Seq<Edge<'a>>, node: usize) -> Seq<Edge<'a>>
 }
 
 /// Sets the targets of a node's edges to the end of the code.
+///
+/// # Errors
+///
+/// Want of memory.
 pub fn land<'a>(
     alloc: Global,
     body: &mut Body,
@@ -191,7 +195,8 @@ fn clause_holes(
 /// Code that leaves by a hole of the clause that a graph takes of the value whose words the reads are.
 ///
 /// # Errors
-/// `AllocError` where memory is wanting.
+///
+/// Want of memory.
 pub fn emit_graph(
     alloc: Global,
     body: &mut Body,

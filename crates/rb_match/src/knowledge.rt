@@ -43,6 +43,10 @@ pub struct Edge<'a> {
 }
 
 /// An equal list.
+///
+/// # Errors
+///
+/// Want of memory.
 pub fn copy_known<'a>(alloc: Global, known: &[Known<'a>]) -> Result<Seq<Known<'a>>, AllocError>
     ensures { IfOk result (λ copies. copies ≡ known.now) }
 {
@@ -51,6 +55,10 @@ pub fn copy_known<'a>(alloc: Global, known: &[Known<'a>]) -> Result<Seq<Known<'a
 }
 
 /// The list with one more.
+///
+/// # Errors
+///
+/// Want of memory.
 pub fn with_known<'a>(
     alloc: Global,
     known: &[Known<'a>],
@@ -222,6 +230,10 @@ fn meet<'a>(
 }
 
 /// What is known at a node, by whatever edge it is reached; None where no edge leads there.
+///
+/// # Errors
+///
+/// Want of memory.
 pub fn node_known<'a>(
     alloc: Global,
     edges: &[Edge<'a>],

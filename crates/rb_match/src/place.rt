@@ -124,6 +124,10 @@ fn begin_place(
 }
 
 /// Where the part at a position is, of a value of a type with these words, some of whose parts are saved.
+///
+/// # Errors
+///
+/// Want of memory.
 pub fn place_of(
     alloc: Global,
     agreed: &Agreed,

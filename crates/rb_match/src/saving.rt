@@ -21,7 +21,8 @@ use std::alloc::{AllocError, Global};
 /// Code that leaves the words of a field of a leaf in slots, where it has this type.
 ///
 /// # Errors
-/// `AllocError` where memory is wanting.
+///
+/// Want of memory.
 pub fn fetch_part(
     alloc: Global,
     body: &mut Body,
@@ -169,7 +170,8 @@ fn save_field<'a>(
 /// the part has this leaf and its words stand in slots. The answer is what is known then.
 ///
 /// # Errors
-/// `AllocError` where memory is wanting.
+///
+/// Want of memory.
 pub fn save_fields<'a>(
     alloc: Global,
     body: &mut Body,

@@ -70,6 +70,10 @@ pub fn is_deep(agreed: &Agreed, ty: u32) -> bool
 }
 
 /// A position with one field more.
+///
+/// # Errors
+///
+/// Want of memory.
 pub fn field_below(alloc: Global, position: &[u32], field: u32) -> Result<Seq<u32>, AllocError>
     ensures { IfOk result (λ below. below ≡ position.now ++ field ∷ []) }
 {
@@ -125,6 +129,10 @@ fn add_parts(
 
 /// The parts at which some pattern looks, or below which one does, directly below a part of a type with
 /// a leaf that takes subvalues apart.
+///
+/// # Errors
+///
+/// Want of memory.
 pub fn parts_to_save(
     alloc: Global,
     agreed: &Agreed,
@@ -212,7 +220,8 @@ fn mark_field(wanted: &mut Seq<bool>, position: &[u32], tested: &[u32]) {
 /// Links go to lower numbers, so that no node above that one is met. Where there are no nodes, each field is wanted.
 ///
 /// # Errors
-/// `AllocError` where memory is wanting.
+///
+/// Want of memory.
 pub fn wanted_fields(
     alloc: Global,
     nodes: &[GraphNode],
@@ -259,7 +268,8 @@ fn copy_position(alloc: Global, position: &[u32]) -> Result<Seq<u32>, AllocError
 /// Slots for some parts, a spot for each.
 ///
 /// # Errors
-/// `AllocError` where memory is wanting.
+///
+/// Want of memory.
 pub fn give_spots(
     alloc: Global,
     body: &mut Body,

@@ -251,7 +251,8 @@ fn thread_each<'a>(
 /// Edges of one instruction stay as they are: two of them may be the same way out.
 ///
 /// # Errors
-/// `AllocError` where memory is wanting.
+///
+/// Want of memory.
 pub fn thread<'a>(
     alloc: Global,
     agreed: &Agreed,

@@ -32,7 +32,7 @@ none-of_length (h ∷ hs) e = absurd (omega (arith, e))
 
 -- what the least number that is missing answers
 abbrev pub NumberAnswer : List Head → ℕ → Option ℕ → Type 0
-NumberAnswer hs most r = MatchOption r ((m : ℕ) → m ≤ most → any_begins hs (V.Num m) ≡ true) (λ m. (m ≤ most) × (any_begins hs (V.Num m) ≡ false))
+NumberAnswer hs most r = MatchOption r ((m : ℕ) → m ≤ most → any_begins hs (V.Num m) ≡ true) (λ m. (m ≤ most) × (any_begins hs (V.Num m) ≡ false) × ((j : ℕ) → j < m → any_begins hs (V.Num j) ≡ true))
 
 module _ (types : List DataDecl) where
   -- no head at all

@@ -1,8 +1,10 @@
+pub mod BesideFirst
 pub mod Besides
 pub mod Defaults
 pub mod Examples
 pub mod Exhausts
 pub mod HeadLemmas
+pub mod HeadOrder
 pub mod Inhabited
 pub mod Laws
 pub mod OpenRows

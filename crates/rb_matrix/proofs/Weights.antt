@@ -100,7 +100,7 @@ defaults-heads [] = omega arith
 defaults-heads (r ∷ rs) = let a = keep-heads (default_row r) (defaults rs) in let b = default_row-heads r in let c = defaults-heads rs in omega (arith, a, b, c, rows-cons r rs)
 
 -- a row's own head is one of its heads
-row_head-count : (r : List Pat) → some_head (row_head r) ≤ row_heads r
+pub row_head-count : (r : List Pat) → some_head (row_head r) ≤ row_heads r
 row_head-count r = let a = special_row-heads (H.Num 0) 0 r in omega (arith, a)
 
 -- the fields of one constructor ------------------------------------------------------------------

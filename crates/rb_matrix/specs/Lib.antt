@@ -1,3 +1,4 @@
+pub mod Beside
 pub mod Exhaust
 pub mod Heads
 pub mod Open

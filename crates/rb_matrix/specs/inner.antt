@@ -1,2 +1,3 @@
 pub mod Against
+pub mod Known
 pub mod Passed

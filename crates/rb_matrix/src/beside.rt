@@ -1,8 +1,9 @@
 //! A pattern beside the heads of a column: what Maranget calls an incomplete signature.
 
-ghost use Rattle.std.specs.Prelude.{◌≡◌, ◌+◌, ◌^◌, ◌<◌, ◌≤◌, ℕ, [], length, IfOk, MatchOption, true, false};
+ghost use Rattle.std.specs.Prelude.{◌≡◌, ◌+◌, ◌^◌, ◌<◌, ◌≤◌, ℕ, [], length, IfOk, IfSome, MatchOption, true, false};
 ghost use Rattle.rb_core.specs.declared.value.Value.TheOpen as Layers;
 ghost use Rattle.rb_core.specs.declared.types.Ty.TheVariants as Tys;
+ghost use Rattle.rb_matrix.specs.Beside.{IsFirstCon, IsFirstBeside};
 ghost use Rattle.rb_matrix.specs.Heads.{any_begins};
 ghost use Rattle.rb_matrix.specs.Problems.{IsBesideAnswer};
 ghost use Rattle.rb_matrix.specs.Search.{AreInhabited, IsTypeIn};
@@ -31,7 +32,8 @@ fn greatest(bits: u8) -> u64
 fn least_missing(alloc: Global, heads: &[Head], most: u64) -> Result<Option<u64>, AllocError>
     ensures { IfOk result (λ r. MatchOption r
         ((m : ℕ) → m ≤ most → any_begins heads.now (Layers.Num m) ≡ true)
-        (λ m. (m ≤ most) × (any_begins heads.now (Layers.Num m) ≡ false))) }
+        (λ m. (m ≤ most) × (any_begins heads.now (Layers.Num m) ≡ false)
+        × ((j : ℕ) → j < m → any_begins heads.now (Layers.Num j) ≡ true))) }
 {
     let numbers = numbers_of(alloc, heads)?;
     let mut number = 0;
@@ -50,7 +52,8 @@ fn least_missing(alloc: Global, heads: &[Head], most: u64) -> Result<Option<u64>
 fn missing_con(heads: &[Head], ty: u32, count: usize) -> Option<u32>
     requires { count < 2 ^ 32 }
     ensures { MatchOption result ((k : ℕ) → k < count → any_begins heads.now (Layers.Con k []) ≡ true)
-        (λ k. (k < count) × (any_begins heads.now (Layers.Con k []) ≡ false)) }
+        (λ k. (k < count) × (any_begins heads.now (Layers.Con k []) ≡ false)
+        × ((j : ℕ) → j < k → any_begins heads.now (Layers.Con j []) ≡ true)) }
 {
     for k in 0..count {
         let con = k as u32;
@@ -78,7 +81,8 @@ fn con_beside(
     heads: &[Head],
 ) -> Result<Option<Pat>, AllocError>
     requires { AreInhabited types.now }
-    ensures { IfOk result (λ r. IsBesideAnswer types.now (Tys.Named t) heads.now r) }
+    ensures answer { IfOk result (λ r. IsBesideAnswer types.now (Tys.Named t) heads.now r) }
+    ensures first { IfOk result (λ r. IfSome r (IsFirstCon types.now t heads.now)) }
 {
     if t as usize >= types.len() {
         return Ok(None);
@@ -106,7 +110,8 @@ pub fn pattern_beside(
 ) -> Result<Option<Pat>, AllocError>
     requires inhabited { AreInhabited types.now }
     requires live { IsTypeIn types.now ty }
-    ensures { IfOk result (λ r. IsBesideAnswer types.now ty heads.now r) }
+    ensures answer { IfOk result (λ r. IsBesideAnswer types.now ty heads.now r) }
+    ensures first { IfOk result (λ r. IfSome r (IsFirstBeside types.now ty heads.now)) }
 {
     if heads.is_empty() {
         return Ok(Some(Pat::Wild(0)));
@@ -116,6 +121,9 @@ pub fn pattern_beside(
             None => Ok(None),
             Some(number) => Ok(Some(Pat::Num(0, number))),
         },
-        Ty::Named(t) => con_beside(alloc, types, t, heads),
+        Ty::Named(t) => {
+            let beside = con_beside(alloc, types, t, heads)?;
+            Ok(beside)
+        }
     }
 }

@@ -5,8 +5,9 @@ ghost use Rattle.std.specs.Option.{option_copied};
 ghost use Rattle.rb_core.specs.declared.value.Value as Values;
 ghost use Rattle.rb_core.specs.declared.value.Value.TheOpen as Layers;
 ghost use Rattle.rb_core.specs.Values.{fields_in};
-ghost use Rattle.rb_matrix.specs.Heads.{layer_begins, any_begins, column_begins, option_begins, row_head, first_head, fields_at, sample, some_head};
+ghost use Rattle.rb_matrix.specs.Heads.{layer_begins, any_begins, column_begins, option_begins, row_head, first_head, distinct_heads, fields_at, sample, some_head};
 ghost use Rattle.rb_matrix.specs.Problems.{rows_heads};
+ghost use Rattle.rb_matrix.specs.inner.Known.{with_head};
 ghost use Rattle.rb_matrix.specs.inner.Passed.{has, AreNumbersOf};
 
 use crate::matrix::Head;
@@ -119,6 +120,7 @@ pub(crate) fn add_head(
         → any_begins heads.new.items l ≡ (any_begins heads.old.items l || option_begins head l)) }
     ensures few { OnOk result (length heads.new.items ≤ length heads.old.items + some_head head) }
     ensures numbers { OnOk result (AreNumbersOf numbers.new heads.new.items) }
+    ensures order { OnOk result (heads.new.items ≡ with_head heads.old.items head) }
 {
     let Some(head) = head else {
         return Ok(());
@@ -131,11 +133,12 @@ pub(crate) fn add_head(
     Ok(())
 }
 
-/// The heads that stand in the first column, each once.
+/// The heads that stand in the first column, each once, in the order of first standing there.
 pub fn column_heads(alloc: Global, rows: &[Seq<Pat>]) -> Result<Vec<Head>, AllocError>
     ensures heads { IfOk result (λ heads. (l : Layers.Value-F Values.Value)
         → any_begins heads.items l ≡ column_begins rows.now l) }
     ensures few { IfOk result (λ heads. length heads.items ≤ rows_heads rows.now) }
+    ensures order { IfOk result (λ heads. heads.items ≡ distinct_heads rows.now) }
 {
     let mut heads = Vec::new(alloc);
     let mut numbers = Numbers::new(alloc);

@@ -11,7 +11,7 @@
 //! of which has a value; the patterns need not be typed.
 #![tactic(auto)]
 
-mod beside;
+pub mod beside;
 pub mod coverage;
 pub mod heads;
 pub mod images;
@@ -26,6 +26,7 @@ pub mod search;
 mod stack;
 mod witness;
 
+pub use beside::pattern_beside;
 pub use coverage::{MatrixFault, common, exhaust, unreached};
 pub use images::{default_of_row, default_rows, specialize, specialize_row};
 pub use matrix::{Head, Matrix};

@@ -18,6 +18,10 @@ use rb_syntax::tree::{ClauseTree, ExprTree};
 use std::alloc::Global;
 
 /// An expression within a scope, where `next` is the number of the next binder.
+///
+/// # Errors
+///
+/// `Unknown` for the first name, from left to right, that stands for nothing; or want of memory.
 #[cycle(expression)]
 pub fn number_expression<'a>(
     alloc: Global,
@@ -87,7 +91,7 @@ fn number_boxed<'a>(
     Ok(Boxed::new(alloc, expr)?)
 }
 
-/// An expression inside one more binder, with this name and number.
+// An expression inside one more binder, with this name and number.
 #[cycle(expression)]
 fn number_inside<'a>(
     alloc: Global,
@@ -148,7 +152,7 @@ fn number_clauses<'a>(
     Ok(clauses)
 }
 
-/// A clause, whose body stands inside the variables of its pattern.
+// A clause, whose body stands inside the variables of its pattern.
 #[cycle(expression)]
 fn number_clause<'a>(
     alloc: Global,

@@ -23,7 +23,7 @@ pub enum NameFault {
     /// No function is called `main`.
     #[error("no function main")]
     NoMain,
-    /// Memory is wanting.
+    /// Want of memory.
     #[error("no memory")]
     Memory,
 }

@@ -29,6 +29,10 @@ impl<'a> Frame<'a> {
     }
 
     /// Binds a name, unless it is bound here: binders of one name in one pattern or list are one.
+    ///
+    /// # Errors
+    ///
+    /// Want of memory.
     pub fn bind(&mut self, name: &'a [u8]) -> Result<(), NameFault>
         ensures ok { OnOk result (self.new ≡ with_binder self.old name.now) }
         ensures memory { IfErr result (λ e. e ≡ Memory) }
@@ -45,6 +49,10 @@ impl<'a> Frame<'a> {
 }
 
 /// The next binder's number, which the one after it follows; there is no memory for 2^32 binders.
+///
+/// # Errors
+///
+/// Want of memory, where 2^32 binders would stand.
 pub fn fresh(next: &mut u32) -> Result<u32, NameFault>
     ensures next { IfOk result (λ n. (n ≡ next.old) × (next.new ≡ next.old + 1)) }
     ensures answers { Answers result (Ok next.old) }

@@ -19,6 +19,10 @@ use rb_syntax::tree::{FunTree, ParamTree};
 use std::alloc::Global;
 
 /// A function, whose binders are numbered from 0, its parameters first.
+///
+/// # Errors
+///
+/// `Unknown` for the first name, from left to right, that stands for nothing; or want of memory.
 pub fn number_function(alloc: Global, tables: &Tables, tree: &FunTree) -> Result<Fun, NameFault>
     ensures { Answers result (numbered_function tables.now tree.now) }
 {

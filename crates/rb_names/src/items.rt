@@ -28,6 +28,10 @@ pub struct Items {
 }
 
 /// The items of a file with their numbers.
+///
+/// # Errors
+///
+/// `Unknown` for the first name, from left to right, that stands for nothing; or want of memory.
 pub fn number_items(alloc: Global, tables: &Tables, trees: &[ItemTree]) -> Result<Items, NameFault>
     ensures { Answers result (numbered_items tables.now trees.now) }
 {

@@ -16,6 +16,10 @@ use rb_syntax::tree::{ArmTree, LayoutTree, SplitTree};
 use std::alloc::Global;
 
 /// A layout with the numbers of its type and of the constructors of its provenances.
+///
+/// # Errors
+///
+/// `Unknown` for the first name, from left to right, that stands for nothing; or want of memory.
 pub fn number_layout(
     alloc: Global,
     tables: &Tables,

@@ -7,6 +7,10 @@ use rb_core::seq::Seq;
 use std::alloc::{AllocError, Global};
 
 /// Equal items, in their order.
+///
+/// # Errors
+///
+/// Want of memory.
 #[cycle(copying)]
 pub fn copy_items(alloc: Global, items: &[LayItem]) -> Result<Seq<LayItem>, AllocError>
     ensures { IfOk result (λ copies. copies ≡ items.now) }

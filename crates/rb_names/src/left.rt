@@ -16,6 +16,10 @@ use rb_syntax::tree::{FileTree, ItemTree};
 use std::alloc::{AllocError, Global};
 
 /// For each type which layout is derived, if any.
+///
+/// # Errors
+///
+/// Want of memory.
 pub fn kinds_of(alloc: Global, tree: &FileTree) -> Result<Seq<Option<Auto>>, AllocError>
     ensures { IfOk result (λ kinds. kinds ≡ spec.kinds_of tree.now) }
 {
@@ -79,6 +83,10 @@ fn add_left<'a>(left: &mut Table<'a, Auto>, item: &'a ItemTree) -> Result<(), Al
 }
 
 /// The numbers of the types whose layouts are left to the compiler, in the file's order.
+///
+/// # Errors
+///
+/// Want of memory.
 pub fn left_types(alloc: Global, tree: &FileTree) -> Result<Seq<u32>, AllocError>
     requires { defined_twice tree.now.items ≡ None }
     ensures { IfOk result (λ numbers. numbers ≡ spec.left_types tree.now) }

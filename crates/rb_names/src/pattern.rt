@@ -18,6 +18,10 @@ use rb_syntax::tree::PatTree;
 use std::alloc::Global;
 
 /// Goes into the scope of a pattern's variables, which are numbered from `next` on.
+///
+/// # Errors
+///
+/// Want of memory.
 pub fn enter_pattern<'a>(
     alloc: Global,
     scope: &mut Scope<'a>,
@@ -68,6 +72,10 @@ fn bind_all_names<'a>(frame: &mut Frame<'a>, trees: &'a [PatTree]) -> Result<(),
 
 /// A pattern with the numbers of its constructors and, from the scope of its own binders, of its
 /// variables.
+///
+/// # Errors
+///
+/// `Unknown` for the first name, from left to right, that stands for nothing; or want of memory.
 #[cycle(numbering)]
 pub fn number_pattern(
     alloc: Global,

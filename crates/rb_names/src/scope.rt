@@ -45,6 +45,10 @@ impl<'a> Scope<'a> {
     }
 
     /// Goes into the scope of these binders.
+    ///
+    /// # Errors
+    ///
+    /// Want of memory.
     pub fn enter(&mut self, binders: Table<'a, u32>) -> Result<(), AllocError>
         ensures { OnOk result (self.new ≡ binders.entry ∷ self.old) }
     {
@@ -53,6 +57,10 @@ impl<'a> Scope<'a> {
     }
 
     /// Goes into the scope of one binder.
+    ///
+    /// # Errors
+    ///
+    /// Want of memory.
     pub fn enter_one(&mut self, alloc: Global, name: &'a [u8], var: u32) -> Result<(), AllocError>
         ensures scope { OnOk result (scope_of self.new ≡ (name.now, var) ∷ scope_of self.old) }
         ensures outer { OnOk result (drop 1 self.new ≡ self.old) }

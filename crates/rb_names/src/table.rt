@@ -36,6 +36,10 @@ impl<'a, T: Copy> Table<'a, T> {
     }
 
     /// A table of one name.
+    ///
+    /// # Errors
+    ///
+    /// Want of memory.
     pub fn of_one(alloc: Global, name: &'a [u8], stands_for: T) -> Result<Self, AllocError>
         ensures { IfOk result (λ table. table ≡ (name.now, stands_for) ∷ []) }
     {
@@ -70,6 +74,10 @@ impl<'a, T: Copy> Table<'a, T> {
     }
 
     /// Defines a name, unless it is defined: whether it is new.
+    ///
+    /// # Errors
+    ///
+    /// Want of memory.
     pub fn define(&mut self, name: &'a [u8], stands_for: T) -> Result<bool, AllocError>
         ensures new { IfOk result (λ is_new. is_new ≡ not (is_some (meaning self.old name.now))) }
         ensures table { OnOk result (self.new ≡ defined self.old name.now stands_for (meaning self.old name.now)) }

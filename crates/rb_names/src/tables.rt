@@ -36,6 +36,10 @@ pub struct Defining<'a> {
 }
 
 /// The tables of a file, or the first name in it that is defined twice.
+///
+/// # Errors
+///
+/// `Twice` for that name; or want of memory.
 pub fn define_all<'a>(alloc: Global, items: &'a [ItemTree]) -> Result<Tables<'a>, NameFault>
     ensures { Answers result (and_then (no_twice (defined_twice items.now)) (λ done. Ok (tables_of items.now))) }
 {

@@ -12,6 +12,10 @@ use rb_syntax::tree::{ConTree, TyTree, TypeTree};
 use std::alloc::Global;
 
 /// A type with its number.
+///
+/// # Errors
+///
+/// `Unknown` where no type has its name; or want of memory.
 pub fn number_type(alloc: Global, tables: &Tables, tree: &TyTree) -> Result<Ty, NameFault>
     ensures { Answers result (numbered_type tables.now tree.now) }
 {
@@ -59,6 +63,10 @@ fn number_constructors(
 }
 
 /// A data type with the numbers of its fields' types.
+///
+/// # Errors
+///
+/// `Unknown` for the first name, from left to right, that stands for nothing; or want of memory.
 pub fn number_data(alloc: Global, tables: &Tables, tree: &TypeTree) -> Result<DataDecl, NameFault>
     ensures { Answers result (numbered_data tables.now tree.now) }
 {

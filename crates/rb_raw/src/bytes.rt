@@ -43,6 +43,10 @@ impl Drop for RawBytes {
 
 impl RawBytes {
     /// As many places as there are marks, by one allocation that is not initialised.
+    ///
+    /// # Errors
+    ///
+    /// Want of memory.
     pub fn new(alloc: Global, marks: &[u8]) -> Result<RawBytes, AllocError>
         ensures { IfOk result (λ bytes. bytes ≡ replicate (length marks.now) None) }
     {

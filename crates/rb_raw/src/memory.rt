@@ -9,9 +9,9 @@ use rb_bytes::memory::ByteMemory;
 use std::alloc::{AllocError, Global};
 use std::marker::Model;
 
-/// The mark of a block's first byte.
+// The mark of a block's first byte.
 const FIRST: u8 = 1;
-/// The mark of a block's last byte.
+// The mark of a block's last byte.
 const LAST: u8 = 2;
 
 /// A region that trusts each access. All of its memory is taken when it is made: one allocation for
@@ -19,7 +19,7 @@ const LAST: u8 = 2;
 #[derive(Drop)]
 pub struct RawMemory {
     bytes: RawBytes,
-    /// By address: whether a block begins or ends there.
+    // By address: whether a block begins or ends there.
     marks: Vec<u8>,
     blocks: u64,
     next: u64,
@@ -52,7 +52,7 @@ impl RawMemory {
     ///
     /// # Errors
     ///
-    /// `AllocError` for want of memory.
+    /// Want of memory.
     pub fn new(alloc: Global, limit: u64) -> Result<RawMemory, AllocError>
         requires { (64 ≤ limit) × (limit ≤ 16777216) }
         ensures value { IfOk result (λ m. m ≡ empty_memory limit) }

@@ -20,7 +20,7 @@ use rb_syntax::token::{Placed, Symbol, Token, Word};
 use rb_syntax::tree::{ClauseTree, ExprTree, Name, NameTree, Op};
 use std::alloc::Global;
 
-/// Whether the first token begins an expression.
+// Whether the first token begins an expression.
 fn begins_expression(placed: &[Placed]) -> bool
     ensures { result ≡ combining.at_front (λ t. reading.begins_expression t) (tokens placed.now) }
 {
@@ -34,7 +34,7 @@ fn begins_expression(placed: &[Placed]) -> bool
     }
 }
 
-/// Whether an expression has this form.
+// Whether an expression has this form.
 fn is_form(form: Form) -> bool
     ensures { result ≡ reading.is_form form }
 {
@@ -45,6 +45,11 @@ fn is_form(form: Form) -> bool
 }
 
 /// An expression, with so many levels left.
+///
+/// # Errors
+///
+/// `Stuck` at the first token at which no expression goes on, or `Deep` at the first that begins a node
+/// beyond the levels, whichever stands first; or want of memory.
 #[cycle(expressions)]
 #[tactic(auto, unfolding(crate::specs::Reading::expression))]
 pub fn read_expression<'a>(
@@ -62,7 +67,7 @@ pub fn read_expression<'a>(
     read_expression_node(alloc, levels - 1, total, placed)
 }
 
-/// An expression whose parts have so many levels left.
+// An expression whose parts have so many levels left.
 #[cycle(expressions)]
 #[tactic(auto, unfolding(crate::specs::Reading::expression_one, crate::specs::Reading::expression_from))]
 fn read_expression_node<'a>(
@@ -91,7 +96,7 @@ fn read_expression_node<'a>(
     }
 }
 
-/// A variable or a call of a function, behind its name.
+// A variable or a call of a function, behind its name.
 #[cycle(expressions)]
 #[tactic(auto, unfolding(crate::specs::Reading::arguments, crate::specs::Combining::optional, crate::specs::Combining::pair, crate::specs::Combining::into))]
 fn read_called<'a>(
@@ -118,7 +123,7 @@ fn read_called<'a>(
     Ok((ExprTree::Var(at, name), placed))
 }
 
-/// Any number of expressions with commas between, and the parenthesis behind them.
+// Any number of expressions with commas between, and the parenthesis behind them.
 #[cycle(expressions)]
 #[tactic(auto, unfolding(crate::specs::Combining::any_closed))]
 fn read_arguments<'a>(
@@ -137,7 +142,7 @@ fn read_arguments<'a>(
     read_some_expressions(alloc, levels, total, placed)
 }
 
-/// A constructor with its fields, behind its name.
+// A constructor with its fields, behind its name.
 #[cycle(expressions)]
 #[tactic(auto, unfolding(crate::specs::Combining::into))]
 fn read_built<'a>(
@@ -158,7 +163,7 @@ fn read_built<'a>(
     Ok((ExprTree::Build(at, NameTree { at, text }, fields), rest))
 }
 
-/// A constructor's fields in parentheses, or nothing.
+// A constructor's fields in parentheses, or nothing.
 #[cycle(expressions)]
 #[tactic(auto, unfolding(crate::specs::Combining::in_parens))]
 fn read_fields<'a>(
@@ -177,7 +182,7 @@ fn read_fields<'a>(
     Ok((Seq::new(alloc), placed))
 }
 
-/// One expression or more, and the parenthesis behind them.
+// One expression or more, and the parenthesis behind them.
 #[cycle(expressions)]
 fn read_some_expressions<'a>(
     alloc: Global,
@@ -204,7 +209,7 @@ fn read_some_expressions<'a>(
     Err(Stop::Stuck(0))
 }
 
-/// An expression behind the reserved word that it begins with.
+// An expression behind the reserved word that it begins with.
 #[cycle(expressions)]
 #[tactic(auto, unfolding(crate::specs::Reading::from_form))]
 fn read_form<'a>(
@@ -229,7 +234,7 @@ fn read_form<'a>(
     }
 }
 
-/// `(a, b)` behind an operator.
+// `(a, b)` behind an operator.
 #[cycle(expressions)]
 #[tactic(auto, unfolding(crate::specs::Reading::operation, crate::specs::Combining::pair, crate::specs::Combining::into))]
 fn read_operation<'a>(
@@ -255,7 +260,7 @@ fn read_operation<'a>(
     Ok((ExprTree::Binary(at, op, first, second), rest))
 }
 
-/// `u8(a)` behind `to`.
+// `u8(a)` behind `to`.
 #[cycle(expressions)]
 #[tactic(auto, unfolding(crate::specs::Reading::conversion, crate::specs::Combining::pair, crate::specs::Combining::into))]
 fn read_conversion<'a>(
@@ -278,7 +283,7 @@ fn read_conversion<'a>(
     Ok((ExprTree::To(at, bits, inner), rest))
 }
 
-/// `x: T = a in b` behind `let`.
+// `x: T = a in b` behind `let`.
 #[cycle(expressions)]
 #[tactic(auto, unfolding(crate::specs::Reading::binding, crate::specs::Combining::pair, crate::specs::Combining::into))]
 fn read_binding<'a>(
@@ -305,7 +310,7 @@ fn read_binding<'a>(
     Ok((ExprTree::Let(at, name, ty, bound, body), rest))
 }
 
-/// `a { p => e, q => f }` behind `match`.
+// `a { p => e, q => f }` behind `match`.
 #[cycle(expressions)]
 #[tactic(auto, unfolding(crate::specs::Reading::matching, crate::specs::Reading::clause_tree, crate::specs::Combining::pair, crate::specs::Combining::into))]
 fn read_matching<'a>(
@@ -327,8 +332,8 @@ fn read_matching<'a>(
     Ok((ExprTree::Match(at, matched, clauses), rest))
 }
 
-/// One clause or more, and the brace behind them. A clause has no number of its own: 0 stands for
-/// any.
+// One clause or more, and the brace behind them. A clause has no number of its own: 0 stands for
+// any.
 #[cycle(expressions)]
 fn read_clauses<'a>(
     alloc: Global,
@@ -355,7 +360,7 @@ fn read_clauses<'a>(
     Err(Stop::Stuck(0))
 }
 
-/// `p => e`
+// `p => e`
 #[cycle(expressions)]
 #[tactic(auto, unfolding(crate::specs::Reading::clause_tree, crate::specs::Combining::pair, crate::specs::Combining::into))]
 fn read_clause<'a>(

@@ -41,7 +41,7 @@ impl Read for u64 {
     }
 }
 
-/// `boxed` or `packed`
+// `boxed` or `packed`
 #[tactic(auto, unfolding(crate::specs::Reading::auto_word, crate::specs::Reading::auto_from))]
 fn read_auto(placed: &[Placed]) -> Result<(Auto, &[Placed]), Stop>
     ensures { Gives (λ x. (x.0, tokens x.1.now)) result (reading.auto_word (tokens placed.now)) }
@@ -56,7 +56,7 @@ fn read_auto(placed: &[Placed]) -> Result<(Auto, &[Placed]), Stop>
     }
 }
 
-/// `boxed;` behind the equals sign.
+// `boxed;` behind the equals sign.
 #[tactic(auto, unfolding(crate::specs::Reading::layout_rest_from, crate::specs::Combining::pair, crate::specs::Combining::into))]
 fn read_derived(placed: &[Placed]) -> Result<(LayoutRest, &[Placed]), Stop>
     ensures { Gives (λ x. (seen_rest x.0, tokens x.1.now)) result
@@ -67,7 +67,7 @@ fn read_derived(placed: &[Placed]) -> Result<(LayoutRest, &[Placed]), Stop>
     Ok((LayoutRest::Derived(auto), rest))
 }
 
-/// `64, 64> = ...;` behind the sign that opens a shape.
+// `64, 64> = ...;` behind the sign that opens a shape.
 #[tactic(auto, unfolding(crate::specs::Reading::layout_rest_from, crate::specs::Combining::pair, crate::specs::Combining::into))]
 fn read_laid_out(
     alloc: Global,
@@ -86,7 +86,7 @@ fn read_laid_out(
     Ok((LayoutRest::LaidOut(shape, tree), rest))
 }
 
-/// A layout behind its type's name.
+// A layout behind its type's name.
 #[tactic(auto, unfolding(crate::specs::Reading::layout_rest, crate::specs::Reading::layout_rest_from))]
 fn read_layout_rest(
     alloc: Global,
@@ -108,7 +108,7 @@ fn read_layout_rest(
     }
 }
 
-/// `T <64> = ...;` or `T = boxed;` behind the word `layout`, whose number is `at`.
+// `T <64> = ...;` or `T = boxed;` behind the word `layout`, whose number is `at`.
 #[tactic(auto, unfolding(crate::specs::Reading::layout_item, crate::specs::Combining::pair, crate::specs::Combining::into))]
 fn read_layout(
     alloc: Global,
@@ -134,7 +134,7 @@ fn read_layout(
     Ok((item, rest))
 }
 
-/// `T = A | B(u8);` behind the word `type`.
+// `T = A | B(u8);` behind the word `type`.
 #[tactic(auto, unfolding(crate::specs::Reading::type_item, crate::specs::Combining::pair, crate::specs::Combining::into))]
 fn read_type_item(
     alloc: Global,
@@ -150,7 +150,7 @@ fn read_type_item(
     Ok((ItemTree::Types(TypeTree { name, cons }), rest))
 }
 
-/// `f(x: T): U = e;` behind the word `fun`.
+// `f(x: T): U = e;` behind the word `fun`.
 #[tactic(auto, unfolding(crate::specs::Reading::fun_item, crate::specs::Combining::pair, crate::specs::Combining::into))]
 fn read_fun(
     alloc: Global,

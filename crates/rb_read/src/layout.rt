@@ -20,7 +20,7 @@ use rb_syntax::token::{Placed, Symbol, Token, Word};
 use rb_syntax::tree::{ArmTree, SplitTree};
 use std::alloc::Global;
 
-/// Whether the first token begins a tree.
+// Whether the first token begins a tree.
 fn begins_tree(placed: &[Placed]) -> bool
     ensures { result ≡ combining.at_front (λ t. reading.begins_tree t) (tokens placed.now) }
 {
@@ -34,7 +34,7 @@ fn begins_tree(placed: &[Placed]) -> bool
     }
 }
 
-/// Whether the first token begins an arm of a split.
+// Whether the first token begins an arm of a split.
 fn begins_arm(placed: &[Placed]) -> bool
     ensures { result ≡ combining.at_front starting.is_number (tokens placed.now) }
 {
@@ -47,7 +47,7 @@ fn begins_arm(placed: &[Placed]) -> bool
     }
 }
 
-/// Whether the first token is the word `else`.
+// Whether the first token is the word `else`.
 fn begins_else(placed: &[Placed]) -> bool
     ensures { result ≡ combining.at_front (λ t. starting.is_word word.Else t) (tokens placed.now) }
 {
@@ -60,7 +60,7 @@ fn begins_else(placed: &[Placed]) -> bool
     }
 }
 
-/// `Cons(_, _) : { word 64 { [0:64] .0 } }`
+// `Cons(_, _) : { word 64 { [0:64] .0 } }`
 #[tactic(auto, unfolding(crate::specs::Reading::leaf, crate::specs::Combining::pair, crate::specs::Combining::into))]
 fn read_leaf(
     alloc: Global,
@@ -80,7 +80,7 @@ fn read_leaf(
     Ok((SplitTree::Leaf(at, provenance, items), rest))
 }
 
-/// `0 => ...` with so many levels left for its tree.
+// `0 => ...` with so many levels left for its tree.
 #[cycle(splits)]
 #[tactic(auto, unfolding(crate::specs::Reading::arm_tree, crate::specs::Combining::pair, crate::specs::Combining::into))]
 fn read_arm<'a>(
@@ -99,7 +99,7 @@ fn read_arm<'a>(
     Ok((ArmTree { literal, under }, rest))
 }
 
-/// The arms of a split.
+// The arms of a split.
 #[cycle(splits)]
 fn read_arms<'a>(
     alloc: Global,
@@ -125,7 +125,7 @@ fn read_arms<'a>(
     Ok((arms, rest))
 }
 
-/// `else => ...`, or nothing.
+// `else => ...`, or nothing.
 #[cycle(splits)]
 #[tactic(auto, unfolding(crate::specs::Combining::optional, crate::specs::Reading::else_tree, crate::specs::Combining::pair, crate::specs::Combining::into))]
 fn read_else<'a>(
@@ -149,7 +149,7 @@ fn read_else<'a>(
     Ok((Some(tree), rest))
 }
 
-/// `0[0:1] { 0 => ... else => ... }` behind the word `split`.
+// `0[0:1] { 0 => ... else => ... }` behind the word `split`.
 #[cycle(splits)]
 #[tactic(auto, unfolding(crate::specs::Reading::split_rest, crate::specs::Combining::pair, crate::specs::Combining::into))]
 fn read_split<'a>(
@@ -170,7 +170,7 @@ fn read_split<'a>(
     Ok((SplitTree::Split(loc, arms, other), rest))
 }
 
-/// A tree whose parts have so many levels left.
+// A tree whose parts have so many levels left.
 #[cycle(splits)]
 #[tactic(auto, unfolding(crate::specs::Reading::tree_by))]
 fn read_tree_node<'a>(
@@ -195,6 +195,11 @@ fn read_tree_node<'a>(
 }
 
 /// A layout's tree, with so many levels left.
+///
+/// # Errors
+///
+/// `Stuck` at the first token at which no tree goes on, or `Deep` at the first that begins a node beyond the
+/// levels, whichever stands first; or want of memory.
 #[cycle(splits)]
 #[tactic(auto, unfolding(crate::specs::Reading::layout_tree))]
 pub fn read_layout_tree<'a>(

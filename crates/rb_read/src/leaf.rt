@@ -28,7 +28,7 @@ pub enum PathEnd {
     Numbered(u64),
 }
 
-/// `[0:8]` or `word 1` behind a path, or nothing.
+// `[0:8]` or `word 1` behind a path, or nothing.
 #[tactic(auto, unfolding(crate::specs::Combining::optional, crate::specs::Reading::path_end, crate::specs::Reading::path_end_from, crate::specs::Combining::into))]
 fn read_path_end(placed: &[Placed]) -> Result<(Option<PathEnd>, &[Placed]), Stop>
     ensures { Gives (λ x. (seen_end x.0, tokens x.1.now)) result
@@ -50,7 +50,7 @@ fn read_path_end(placed: &[Placed]) -> Result<(Option<PathEnd>, &[Placed]), Stop
     }
 }
 
-/// The field at a path: all of it, some bits, or one word.
+// The field at a path: all of it, some bits, or one word.
 fn held(path: Seq<u32>, end: Option<PathEnd>) -> PartKind
     ensures { result ≡ reading.held path (seen_end end) }
 {
@@ -61,7 +61,7 @@ fn held(path: Seq<u32>, end: Option<PathEnd>) -> PartKind
     }
 }
 
-/// What a part holds of a field, behind its path's first dot.
+// What a part holds of a field, behind its path's first dot.
 #[tactic(auto, unfolding(crate::specs::Reading::part_kind_from, crate::specs::Reading::more_fields, crate::specs::Combining::pair, crate::specs::Combining::into))]
 fn read_held(alloc: Global, total: usize, placed: &[Placed]) -> Result<(PartKind, &[Placed]), Stop>
     requires { total < 2 ^ 32 }
@@ -76,7 +76,7 @@ fn read_held(alloc: Global, total: usize, placed: &[Placed]) -> Result<(PartKind
     Ok((kind, rest))
 }
 
-/// `8 { inline .1 }` behind the arrow of a pointer part.
+// `8 { inline .1 }` behind the arrow of a pointer part.
 #[cycle(leaf)]
 #[tactic(auto, unfolding(crate::specs::Pointing::pointed, crate::specs::Reading::no_pointer, crate::specs::Reading::pointer, crate::specs::Combining::pair, crate::specs::Combining::into))]
 fn read_pointed<'a>(
@@ -97,7 +97,7 @@ fn read_pointed<'a>(
     Ok((PartKind::Pointer(align, items), rest))
 }
 
-/// What a part holds: `= 5`, `.0`, `.0[0:8]`, `.0 word 1` or `-> 8 { inline .1 }`.
+// What a part holds: `= 5`, `.0`, `.0[0:8]`, `.0 word 1` or `-> 8 { inline .1 }`.
 #[cycle(leaf)]
 #[tactic(auto, unfolding(crate::specs::Reading::part_kind, crate::specs::Reading::part_kind_from, crate::specs::Combining::into))]
 fn read_part_kind<'a>(
@@ -123,7 +123,7 @@ fn read_part_kind<'a>(
     }
 }
 
-/// `[0:8] .0`
+// `[0:8] .0`
 #[cycle(leaf)]
 #[tactic(auto, unfolding(crate::specs::Reading::part, crate::specs::Combining::pair, crate::specs::Combining::into))]
 fn read_part<'a>(
@@ -140,7 +140,7 @@ fn read_part<'a>(
     Ok((PartDecl { o, l, kind }, rest))
 }
 
-/// One part or more, and the brace that closes them.
+// One part or more, and the brace that closes them.
 #[cycle(leaf)]
 fn read_some_parts<'a>(
     alloc: Global,
@@ -166,7 +166,7 @@ fn read_some_parts<'a>(
     Err(Stop::Stuck(0))
 }
 
-/// Any number of parts, and the brace that closes them.
+// Any number of parts, and the brace that closes them.
 #[cycle(leaf)]
 #[tactic(auto, unfolding(crate::specs::Combining::any_closed))]
 fn read_parts<'a>(
@@ -185,7 +185,7 @@ fn read_parts<'a>(
     read_some_parts(alloc, levels, total, placed)
 }
 
-/// `32 { [0:32] .0 }` behind the word `word`.
+// `32 { [0:32] .0 }` behind the word `word`.
 #[cycle(leaf)]
 #[tactic(auto, unfolding(crate::specs::Reading::item_from, crate::specs::Combining::pair, crate::specs::Combining::into))]
 fn read_word<'a>(
@@ -204,7 +204,7 @@ fn read_word<'a>(
     Ok((LayItem::Word(bits, parts), rest))
 }
 
-/// A word with its parts, or the words of a field.
+// A word with its parts, or the words of a field.
 #[cycle(leaf)]
 #[tactic(auto, unfolding(crate::specs::Reading::item_one, crate::specs::Reading::item_from, crate::specs::Combining::into))]
 fn read_item<'a>(
@@ -256,7 +256,7 @@ pub(crate) fn read_some_items<'a>(
     Err(Stop::Stuck(0))
 }
 
-/// Any number of items, and the brace that closes them.
+// Any number of items, and the brace that closes them.
 #[cycle(leaf)]
 #[tactic(auto, unfolding(crate::specs::Combining::any_closed))]
 fn read_items<'a>(

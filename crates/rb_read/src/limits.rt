@@ -15,7 +15,7 @@ pub struct Count {
     pub count: u64,
 }
 
-/// The greatest number that is allowed.
+// The greatest number that is allowed.
 fn greatest(quantity: Quantity) -> u64
     ensures { result ≡ limits.greatest quantity }
 {
@@ -30,7 +30,7 @@ fn greatest(quantity: Quantity) -> u64
     }
 }
 
-/// The count, where it is over its limit.
+// The count, where it is over its limit.
 fn over(quantity: Quantity, count: usize) -> Option<Count>
     ensures { result ≡ find limits.is_over (limits.counted quantity count ∷ []) }
 {
@@ -42,7 +42,7 @@ fn over(quantity: Quantity, count: usize) -> Option<Count>
     }
 }
 
-/// The first constructor's count of fields that is over its limit.
+// The first constructor's count of fields that is over its limit.
 fn fields_over(cons: &[ConTree]) -> Option<Count>
     ensures { result ≡ find limits.is_over (map limits.field_count cons.now) }
 {
@@ -54,7 +54,7 @@ fn fields_over(cons: &[ConTree]) -> Option<Count>
     None
 }
 
-/// The first count of a type's that is over its limit.
+// The first count of a type's that is over its limit.
 fn type_over(ty: &TypeTree) -> Option<Count>
     ensures { result ≡ find limits.is_over (limits.type_counts ty.now) }
 {
@@ -64,7 +64,7 @@ fn type_over(ty: &TypeTree) -> Option<Count>
     fields_over(ty.cons.as_slice())
 }
 
-/// The first count of an item's that is over its limit.
+// The first count of an item's that is over its limit.
 fn item_over(item: &ItemTree) -> Option<Count>
     ensures { result ≡ find limits.is_over (limits.item_counts item.now) }
 {
@@ -76,7 +76,7 @@ fn item_over(item: &ItemTree) -> Option<Count>
     }
 }
 
-/// The first count of the items' that is over its limit.
+// The first count of the items' that is over its limit.
 fn items_over(items: &[ItemTree]) -> Option<Count>
     ensures { result ≡ find limits.is_over (flat_map limits.item_counts items.now) }
 {
@@ -88,7 +88,7 @@ fn items_over(items: &[ItemTree]) -> Option<Count>
     None
 }
 
-/// Whether the item is a type, as a number.
+// Whether the item is a type, as a number.
 fn type_of(item: &ItemTree) -> usize
     ensures number { result ≡ length (limits.types_in (item.now ∷ [])) }
     ensures one { result ≤ 1 }
@@ -99,7 +99,7 @@ fn type_of(item: &ItemTree) -> usize
     }
 }
 
-/// Whether the item is a function, as a number.
+// Whether the item is a function, as a number.
 fn function_of(item: &ItemTree) -> usize
     ensures number { result ≡ length (limits.functions_in (item.now ∷ [])) }
     ensures one { result ≤ 1 }
@@ -110,7 +110,7 @@ fn function_of(item: &ItemTree) -> usize
     }
 }
 
-/// The number of types.
+// The number of types.
 fn types_in(items: &[ItemTree]) -> usize
     ensures { result ≡ length (limits.types_in items.now) }
 {
@@ -121,7 +121,7 @@ fn types_in(items: &[ItemTree]) -> usize
     count
 }
 
-/// The number of functions.
+// The number of functions.
 fn functions_in(items: &[ItemTree]) -> usize
     ensures { result ≡ length (limits.functions_in items.now) }
 {

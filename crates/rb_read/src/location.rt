@@ -17,6 +17,10 @@ use rb_syntax::tree::{Loc, Step};
 use std::alloc::{AllocError, Global};
 
 /// `0:8]`, behind the bracket of a range: its first bit and its length.
+///
+/// # Errors
+///
+/// `Stuck` at the first token at which no range goes on.
 #[tactic(auto, unfolding(crate::specs::Reading::range_rest, crate::specs::Combining::pair, crate::specs::Combining::into))]
 pub fn read_range_rest(placed: &[Placed]) -> Result<((u64, u64), &[Placed]), Stop>
     ensures { Gives (λ x. (x.0, tokens x.1.now)) result (reading.range_rest (tokens placed.now)) }
@@ -29,6 +33,10 @@ pub fn read_range_rest(placed: &[Placed]) -> Result<((u64, u64), &[Placed]), Sto
 }
 
 /// `[0:8]`
+///
+/// # Errors
+///
+/// `Stuck` at the first token at which no range goes on.
 #[tactic(auto, unfolding(crate::specs::Reading::range, crate::specs::Combining::pair, crate::specs::Combining::into))]
 pub fn read_range(placed: &[Placed]) -> Result<((u64, u64), &[Placed]), Stop>
     ensures { Gives (λ x. (x.0, tokens x.1.now)) result (reading.range (tokens placed.now)) }
@@ -69,6 +77,10 @@ pub(crate) fn joined(first: u32, others: Seq<u32>) -> Result<Seq<u32>, AllocErro
 }
 
 /// `.0.1`
+///
+/// # Errors
+///
+/// `Stuck` at the first token at which no path goes on; or want of memory.
 #[tactic(auto, unfolding(crate::specs::Reading::path, crate::specs::Reading::more_fields, crate::specs::Combining::pair, crate::specs::Combining::into))]
 pub fn read_path(
     alloc: Global,
@@ -118,6 +130,10 @@ impl Repeat for Step {
 }
 
 /// `0[0:32] -> 4 @0:8[0:8]`
+///
+/// # Errors
+///
+/// `Stuck` at the first token at which no location goes on; or want of memory.
 #[tactic(auto, unfolding(crate::specs::Reading::location, crate::specs::Combining::pair, crate::specs::Combining::into))]
 pub fn read_location(
     alloc: Global,

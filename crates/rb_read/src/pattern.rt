@@ -16,7 +16,7 @@ use rb_syntax::token::{Placed, Symbol, Token};
 use rb_syntax::tree::{Name, NameTree, PatTree};
 use std::alloc::Global;
 
-/// Whether the first token begins a pattern.
+// Whether the first token begins a pattern.
 fn begins_pattern(placed: &[Placed]) -> bool
     ensures { result ≡ combining.at_front (λ t. reading.begins_pattern t) (tokens placed.now) }
 {
@@ -31,6 +31,11 @@ fn begins_pattern(placed: &[Placed]) -> bool
 }
 
 /// A pattern, with so many levels left.
+///
+/// # Errors
+///
+/// `Stuck` at the first token at which no pattern goes on, or `Deep` at the first that begins a node beyond
+/// the levels, whichever stands first; or want of memory.
 #[cycle(patterns)]
 #[tactic(auto, unfolding(crate::specs::Reading::pattern))]
 pub fn read_pattern<'a>(
@@ -48,7 +53,7 @@ pub fn read_pattern<'a>(
     read_pattern_node(alloc, levels - 1, total, placed)
 }
 
-/// A pattern whose subpatterns have so many levels left.
+// A pattern whose subpatterns have so many levels left.
 #[cycle(patterns)]
 #[tactic(auto, unfolding(crate::specs::Reading::pattern_one, crate::specs::Reading::pattern_from))]
 fn read_pattern_node<'a>(
@@ -79,7 +84,7 @@ fn read_pattern_node<'a>(
     }
 }
 
-/// A constructor's pattern, behind its name.
+// A constructor's pattern, behind its name.
 #[cycle(patterns)]
 #[tactic(auto, unfolding(crate::specs::Combining::into))]
 fn read_constructed<'a>(
@@ -100,7 +105,7 @@ fn read_constructed<'a>(
     Ok((PatTree::Con(at, NameTree { at, text }, parts), rest))
 }
 
-/// Patterns in parentheses, or nothing.
+// Patterns in parentheses, or nothing.
 #[cycle(patterns)]
 #[tactic(auto, unfolding(crate::specs::Combining::in_parens))]
 fn read_subpatterns<'a>(
@@ -119,7 +124,7 @@ fn read_subpatterns<'a>(
     Ok((Seq::new(alloc), placed))
 }
 
-/// One pattern or more, and the parenthesis behind them.
+// One pattern or more, and the parenthesis behind them.
 #[cycle(patterns)]
 fn read_some_patterns<'a>(
     alloc: Global,

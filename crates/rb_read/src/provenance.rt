@@ -16,7 +16,7 @@ use rb_syntax::token::{Placed, Symbol, Token};
 use rb_syntax::tree::{Name, NameTree, PatTree};
 use std::alloc::Global;
 
-/// Whether the first token begins a provenance.
+// Whether the first token begins a provenance.
 fn begins_provenance(placed: &[Placed]) -> bool
     ensures { result ≡ combining.at_front (λ t. reading.is_upper t) (tokens placed.now) }
 {
@@ -29,7 +29,7 @@ fn begins_provenance(placed: &[Placed]) -> bool
     }
 }
 
-/// Whether the first token begins what may stand below a provenance's constructor.
+// Whether the first token begins what may stand below a provenance's constructor.
 fn begins_below(placed: &[Placed]) -> bool
     ensures { result ≡ combining.at_front (λ t. reading.begins_below t) (tokens placed.now) }
 {
@@ -44,6 +44,11 @@ fn begins_below(placed: &[Placed]) -> bool
 }
 
 /// A provenance, with so many levels left.
+///
+/// # Errors
+///
+/// `Stuck` at the first token at which no provenance goes on, or `Deep` at the first that begins a node
+/// beyond the levels, whichever stands first; or want of memory.
 #[tactic(auto, unfolding(crate::specs::Reading::provenance))]
 pub fn read_provenance(
     alloc: Global,
@@ -60,7 +65,7 @@ pub fn read_provenance(
     read_provenance_node(alloc, levels - 1, total, placed)
 }
 
-/// A provenance with so many levels left below its constructor.
+// A provenance with so many levels left below its constructor.
 #[tactic(auto, unfolding(crate::specs::Reading::provenance_one, crate::specs::Reading::provenance_from))]
 fn read_provenance_node(
     alloc: Global,
@@ -84,7 +89,7 @@ fn read_provenance_node(
     }
 }
 
-/// What stands below a provenance's constructor, with so many levels left.
+// What stands below a provenance's constructor, with so many levels left.
 #[cycle(below)]
 #[tactic(auto, unfolding(crate::specs::Reading::below))]
 fn read_below<'a>(
@@ -102,7 +107,7 @@ fn read_below<'a>(
     read_below_node(alloc, levels - 1, total, placed)
 }
 
-/// The same, with so many levels left inside.
+// The same, with so many levels left inside.
 #[cycle(below)]
 #[tactic(auto, unfolding(crate::specs::Reading::below_one, crate::specs::Reading::below_from))]
 fn read_below_node<'a>(
@@ -128,7 +133,7 @@ fn read_below_node<'a>(
     }
 }
 
-/// A constructor with its parts, behind its name.
+// A constructor with its parts, behind its name.
 #[cycle(below)]
 #[tactic(auto, unfolding(crate::specs::Combining::into))]
 fn read_constructed<'a>(
@@ -149,7 +154,7 @@ fn read_constructed<'a>(
     Ok((PatTree::Con(at, NameTree { at, text }, parts), rest))
 }
 
-/// A constructor's parts in parentheses, or nothing.
+// A constructor's parts in parentheses, or nothing.
 #[cycle(below)]
 #[tactic(auto, unfolding(crate::specs::Combining::in_parens))]
 fn read_parts<'a>(
@@ -168,7 +173,7 @@ fn read_parts<'a>(
     Ok((Seq::new(alloc), placed))
 }
 
-/// One part or more, and the parenthesis behind them.
+// One part or more, and the parenthesis behind them.
 #[cycle(below)]
 fn read_some_below<'a>(
     alloc: Global,

@@ -20,7 +20,7 @@ use rb_syntax::token::Placed;
 use rb_syntax::tree::{FileTree, ItemTree};
 use std::alloc::Global;
 
-/// The file of the items, where no token is left.
+// The file of the items, where no token is left.
 #[tactic(auto, unfolding(crate::specs::Exact::ended))]
 fn ended(items: Seq<ItemTree>, placed: &[Placed]) -> Result<FileTree, Stop>
     ensures { Yields result (exact.ended items (tokens placed.now)) }
@@ -32,7 +32,7 @@ fn ended(items: Seq<ItemTree>, placed: &[Placed]) -> Result<FileTree, Stop>
     }
 }
 
-/// The file that the tokens spell, in at most 128 levels.
+// The file that the tokens spell, in at most 128 levels.
 #[tactic(auto, unfolding(crate::specs::Exact::whole_file, crate::specs::Reading::file_items))]
 fn read_tree(alloc: Global, placed: &[Placed]) -> Result<FileTree, Stop>
     requires { length placed.now < 2 ^ 32 }
@@ -43,7 +43,7 @@ fn read_tree(alloc: Global, placed: &[Placed]) -> Result<FileTree, Stop>
     Ok(file)
 }
 
-/// The number of the token from which so many are left.
+// The number of the token from which so many are left.
 fn place(total: usize, left: usize) -> u32
     requires { total < 2 ^ 32 }
     ensures { result ≡ total - left }
@@ -51,7 +51,7 @@ fn place(total: usize, left: usize) -> u32
     total.saturating_sub(left) as u32
 }
 
-/// The file, unless a count of it is over its limit.
+// The file, unless a count of it is over its limit.
 fn checked(file: FileTree) -> Result<FileTree, ReadFault>
     ensures { (ts : List Token) → IsFile ts file → Answers ts result }
 {
@@ -61,7 +61,7 @@ fn checked(file: FileTree) -> Result<FileTree, ReadFault>
     Ok(file)
 }
 
-/// The file that the tokens spell and that is within the limits, or the first fault.
+// The file that the tokens spell and that is within the limits, or the first fault.
 fn read_limited(alloc: Global, placed: &[Placed]) -> Result<FileTree, ReadFault>
     requires { length placed.now < 2 ^ 32 }
     ensures { Answers (tokens placed.now) result }
@@ -76,6 +76,12 @@ fn read_limited(alloc: Global, placed: &[Placed]) -> Result<FileTree, ReadFault>
 
 /// The file that the tokens spell, or the first fault: a node too deep, else a token at which no
 /// file goes on, else a count over its limit.
+///
+/// # Errors
+///
+/// `TooDeep` at the first token that begins a node deeper than 128 levels; else `Syntax` at the first at
+/// which no file goes on; else `Limit` for the first count over its limit. `Memory` where memory is wanting,
+/// which says nothing of the tokens.
 pub fn read_file(alloc: Global, placed: &[Placed]) -> Result<FileTree, ReadFault>
     requires { length placed.now < 2 ^ 32 }
     ensures answer { Answers (tokens placed.now) result }

@@ -34,6 +34,10 @@ pub fn begins_with(symbol: Symbol, placed: &[Placed]) -> bool
 }
 
 /// Takes this symbol.
+///
+/// # Errors
+///
+/// `Stuck` where another token stands there, or none.
 #[tactic(auto, unfolding(crate::specs::Combining::passing))]
 pub fn expect(symbol: Symbol, placed: &[Placed]) -> Result<&[Placed], Stop>
     ensures { Gives (λ r. (tt, tokens r.now)) result (combining.expect symbol (tokens placed.now)) }
@@ -48,6 +52,10 @@ pub fn expect(symbol: Symbol, placed: &[Placed]) -> Result<&[Placed], Stop>
 }
 
 /// Takes this reserved word.
+///
+/// # Errors
+///
+/// `Stuck` where another token stands there, or none.
 #[tactic(auto, unfolding(crate::specs::Combining::passing))]
 pub fn expect_word(word: Word, placed: &[Placed]) -> Result<&[Placed], Stop>
     ensures { Gives (λ r. (tt, tokens r.now)) result (combining.expect_word word (tokens placed.now)) }
@@ -62,6 +70,10 @@ pub fn expect_word(word: Word, placed: &[Placed]) -> Result<&[Placed], Stop>
 }
 
 /// A name that begins with a small letter.
+///
+/// # Errors
+///
+/// `Stuck` where another token stands there, or none; or want of memory.
 #[tactic(auto, unfolding(crate::specs::Tokens::lower_name))]
 pub fn read_lower(
     alloc: Global,
@@ -85,6 +97,10 @@ pub fn read_lower(
 }
 
 /// A name that begins with a capital.
+///
+/// # Errors
+///
+/// `Stuck` where another token stands there, or none; or want of memory.
 #[tactic(auto, unfolding(crate::specs::Tokens::upper_name))]
 pub fn read_upper(
     alloc: Global,
@@ -108,6 +124,10 @@ pub fn read_upper(
 }
 
 /// A number.
+///
+/// # Errors
+///
+/// `Stuck` where another token stands there, or none.
 #[tactic(auto, unfolding(crate::specs::Tokens::number))]
 pub fn read_number(placed: &[Placed]) -> Result<(u64, &[Placed]), Stop>
     ensures { Gives (λ x. (x.0, tokens x.1.now)) result (reading.number (tokens placed.now)) }
@@ -122,6 +142,10 @@ pub fn read_number(placed: &[Placed]) -> Result<(u64, &[Placed]), Stop>
 }
 
 /// The number of a field.
+///
+/// # Errors
+///
+/// `Stuck` where another token stands there, or none, or a number of 2^32 or more.
 #[tactic(auto, unfolding(crate::specs::Tokens::field))]
 pub fn read_field(placed: &[Placed]) -> Result<(u32, &[Placed]), Stop>
     ensures { Gives (λ x. (x.0, tokens x.1.now)) result (reading.field (tokens placed.now)) }
@@ -136,6 +160,10 @@ pub fn read_field(placed: &[Placed]) -> Result<(u32, &[Placed]), Stop>
 }
 
 /// The width of a type of integers.
+///
+/// # Errors
+///
+/// `Stuck` where another token stands there, or none.
 #[tactic(auto, unfolding(crate::specs::Tokens::width))]
 pub fn read_width(placed: &[Placed]) -> Result<(u8, &[Placed]), Stop>
     ensures { Gives (λ x. (x.0, tokens x.1.now)) result (reading.width (tokens placed.now)) }

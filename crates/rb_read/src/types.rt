@@ -13,6 +13,10 @@ use rb_syntax::tree::{ConTree, NameTree, ParamTree, TyTree};
 use std::alloc::Global;
 
 /// `u8` or `T`
+///
+/// # Errors
+///
+/// `Stuck` where neither stands there; or want of memory.
 #[tactic(auto, unfolding(crate::specs::Reading::type_tree, crate::specs::Reading::type_from))]
 pub fn read_type(
     alloc: Global,

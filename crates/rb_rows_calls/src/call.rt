@@ -5,7 +5,7 @@ use rb_edge::{CountLedger, MemSink, MemSource, NamedBytes, Seq, Steps, Words};
 use ribbit_tool::top::ribbit;
 use std::alloc::{AllocError, Global};
 
-/// The most bytes that the output takes.
+// The most bytes that the output takes.
 const ROOM: usize = 262_144;
 
 /// What a call of `ribbit` did.

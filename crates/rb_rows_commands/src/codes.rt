@@ -6,7 +6,7 @@ use std::alloc::{AllocError, Global};
 use std::process::Abort;
 use std::test::Fail;
 
-/// What `exec` answers to the words behind it: its status, its steps, and what it wrote.
+// What `exec` answers to the words behind it: its status, its steps, and what it wrote.
 fn answer(alloc: Global, code: &str, words: &str) -> Result<Vec<u8>, AllocError> {
     let text = lines(alloc, code)?;
     let words = format!(in alloc; "exec {words}")?;
@@ -19,7 +19,7 @@ fn answer(alloc: Global, code: &str, words: &str) -> Result<Vec<u8>, AllocError>
     Ok(answer)
 }
 
-/// Checks a table of codes, words, and answers.
+// Checks a table of codes, words, and answers.
 fn check_rows(rt: &impl Abort, alloc: Global, rows: &str) -> Result<(), Fail> {
     for row in rows.split('\n') {
         let columns: Vec<&str> = row.split('|').collect(alloc)?;
@@ -34,7 +34,7 @@ fn check_rows(rt: &impl Abort, alloc: Global, rows: &str) -> Result<(), Fail> {
     Ok(())
 }
 
-/// Words that are no command, and files that are not read.
+// Words that are no command, and files that are not read.
 const REFUSED_WORDS: &str = "||6 0 ribbit: usage at word 2;\n\
 |E|6 0 ribbit: usage at word 3;\n\
 |E t|6 0 ribbit: usage at word 4;\n\
@@ -46,7 +46,7 @@ const REFUSED_WORDS: &str = "||6 0 ribbit: usage at word 2;\n\
 |E t 1 64 18446744073709551616|6 0 ribbit: usage at word 6;\n\
 |F t 1 64|7 0 ribbit: read fault;";
 
-/// Codes that are refused, functions that aren't there, and ends without words.
+// Codes that are refused, functions that aren't there, and ends without words.
 const REFUSED_CODES: &str = "|E t 1 64|10 0 ribbit: no function t;\n\
 fun u 0 0 0;return;end;|E t 1 64|10 0 ribbit: no function t;\n\
 fun t 1 1 1;return 0;end;|E t 1 64|10 0 ribbit: wanted 1 arguments, found 0;\n\
@@ -76,7 +76,7 @@ fun t 0 1 2;const 1 1;place 0 16 8;alu add 64 0 0 1;load 1 0 0 64;return 1;end;|
 fun t 0 1 2;place 0 16 8;load 1 0 8 64;return 1;end;|E t 1 1024|12 2 ribbit: trap 31: address 72;\n\
 fun t 1 1 1;switch 0 - 3 1;return 0;end;|E t 1 64 5|12 1 ribbit: trap 32: word 5;";
 
-/// Each instruction, at its bounds.
+// Each instruction, at its bounds.
 const RUNS: &str = "fun t 0 0 0;return;end;|E t 1 64|0 1 ;\n\
 fun match 0 0 0;return;end;|E match 1 64|0 1 ;\n\
 fun t 0 1 1;const 0 1;return 0;end;fun t 0 1 1;const 0 2;return 0;end;|E t 1 64|0 2 1;\n\
@@ -116,7 +116,7 @@ fn runs_codes(rt: HostRuntime) -> Result<(), Fail> {
     check_rows(&rt, rt.alloc(), RUNS)
 }
 
-/// A function that counts down by calling itself: ten million steps, and two million calls that wait.
+// A function that counts down by calling itself: ten million steps, and two million calls that wait.
 #[test]
 fn nests_deeply(rt: HostRuntime) -> Result<(), Fail> {
     let row =
@@ -124,7 +124,7 @@ fn nests_deeply(rt: HostRuntime) -> Result<(), Fail> {
     check_rows(&rt, rt.alloc(), row)
 }
 
-/// A code text over its limit is read one byte further.
+// A code text over its limit is read one byte further.
 #[test]
 fn refuses_long_codes(rt: HostRuntime) -> Result<(), Fail> {
     let alloc = rt.alloc();

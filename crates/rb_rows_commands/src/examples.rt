@@ -4,7 +4,7 @@
 use rb_rows_calls::call::expect_answer_over;
 use std::test::Fail;
 
-/// Words, file, image (none where no image is read) and answer; in an answer each `;` ends a line.
+// Words, file, image (none where no image is read) and answer; in an answer each `;` ends a line.
 const EXAMPLES: [(&str, &str, &str, &str); 32] = [
     // assembled
     (

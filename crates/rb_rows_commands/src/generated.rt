@@ -6,7 +6,7 @@ use rb_rows_calls::call::{call, expect_answer, lines};
 use rb_rows_calls::counts::expect_counts;
 use std::test::Fail;
 
-/// The file with one function.
+// The file with one function.
 const ONE: &str = "type List = Nil | Cons(u64, List);
 layout List <64> = split 0[0:1] { 1 => Nil : { word 64 { [0:1] = 1 } } 0 => Cons(_, _) : { word 64 { [0:1] = 0, [3:61] -> 8 { word 64 { [0:64] .0 }, inline .1 } } } };
 fun up(n: u64, l: List): List = match n { 0 => l, _ => up(sub(n, 1), Cons(n, l)) };
@@ -22,7 +22,7 @@ fn one_function(rt: HostRuntime) -> Result<(), Fail> {
     Ok(())
 }
 
-/// The largest file is accepted, and its run gives what each gives.
+// The largest file is accepted, and its run gives what each gives.
 #[test]
 fn many_functions(rt: HostRuntime) -> Result<(), Fail> {
     let alloc = rt.alloc();
@@ -58,7 +58,7 @@ fn runs_of_generated_files(rt: HostRuntime) -> Result<(), Fail> {
     Ok(())
 }
 
-/// Words that are no command, and the number of the word at fault.
+// Words that are no command, and the number of the word at fault.
 const WORDS: [(&str, u8); 16] = [
     ("gen", 2),
     ("gen 0", 2),
@@ -88,7 +88,7 @@ fn words_that_are_no_command(rt: HostRuntime) -> Result<(), Fail> {
     Ok(())
 }
 
-/// A file that is not held, and one that is held: images and counts read it, a generated file is not read.
+// A file that is not held, and one that is held: images and counts read it, a generated file is not read.
 #[test]
 fn files_that_are_read(rt: HostRuntime) -> Result<(), Fail> {
     let alloc = rt.alloc();

@@ -5,7 +5,7 @@ use rb_rows_calls::call::call;
 use std::str;
 use std::test::Fail;
 
-/// Body, width of the parameters, width of the result, arguments, answer.
+// Body, width of the parameters, width of the result, arguments, answer.
 const OPERATORS: &str = "add(x, 1)|64|64|18446744073709551615|0|0\n\
 add(x, y)|1|1|1|0|1\n\
 sub(x, y)|1|1|0|1|1\n\

@@ -4,12 +4,12 @@
 use rb_rows_calls::call::call;
 use std::test::Fail;
 
-/// The file of the rows, under the name `E`.
+// The file of the rows, under the name `E`.
 const FILE: &[u8] = b"fun main(x: u8, y: u8): u8 = add(x, mul(y, 3));";
 
 #[test]
 fn words_and_arguments(rt: HostRuntime) -> Result<(), Fail> {
-    let rows: [(&str, u8, &[u8]); 20] = [
+    let rows: [(&str, u8, &[u8]); 22] = [
         ("", 6, b"ribbit: usage at word 1\n"),
         ("layouts E", 6, b"ribbit: usage at word 1\n"),
         ("layout", 6, b"ribbit: usage at word 2\n"),
@@ -20,6 +20,8 @@ fn words_and_arguments(rt: HostRuntime) -> Result<(), Fail> {
         ("run E 1000000001 64 250 2", 6, b"ribbit: usage at word 3\n"),
         ("run E 1 63 250 2", 6, b"ribbit: usage at word 4\n"),
         ("run E 1 1024x 250 2", 6, b"ribbit: usage at word 4\n"),
+        ("run E 10 63 Nil", 6, b"ribbit: usage at word 4\n"),
+        ("run E 10 1024x Nil", 6, b"ribbit: usage at word 4\n"),
         ("run F 1 64 250 2", 7, b"ribbit: read fault\n"),
         (
             "run E 1 64 250",

@@ -9,7 +9,7 @@ use rb_bits::little_endian::{load_le, store_le};
 use rb_bits::slices::{Slice, gather, scatter};
 use rb_bits::words::{mask, put, take};
 
-/// The offset of a branch, in halves: its bits stand at 8 to 11, 25 to 30, 7 and 31.
+// The offset of a branch, in halves: its bits stand at 8 to 11, 25 to 30, 7 and 31.
 fn branch() -> [Slice; 4]
     ensures { AreSlices result }
 {

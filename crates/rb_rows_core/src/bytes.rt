@@ -9,7 +9,7 @@ use rb_bytes::fault::{Full, Trap};
 use rb_bytes::laws::{load_word, place_block, store_word};
 use rb_bytes::memory::ByteMemory;
 
-/// A load as numbers: 0 and the word, or the trap's number and what it names.
+// A load as numbers: 0 and the word, or the trap's number and what it names.
 fn told(loaded: Result<u64, Trap>) -> (u64, u64, u64) {
     match loaded {
         Ok(word) => (0, word, 0),
@@ -19,7 +19,7 @@ fn told(loaded: Result<u64, Trap>) -> (u64, u64, u64) {
     }
 }
 
-/// A place as numbers: the address alone, or what did not fit.
+// A place as numbers: the address alone, or what did not fit.
 fn told_place(placed: Result<u64, Full>) -> (u64, u64, u64, u64) {
     match placed {
         Ok(address) => (address, 0, 0, 0),
@@ -27,7 +27,7 @@ fn told_place(placed: Result<u64, Full>) -> (u64, u64, u64, u64) {
     }
 }
 
-/// Whether this is the width of an access.
+// Whether this is the width of an access.
 fn is_width(width: u64) -> bool
     ensures { IsTrue result → IsWidth width }
 {

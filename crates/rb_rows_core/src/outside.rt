@@ -10,12 +10,12 @@ use std::io::Write;
 use std::test::Fail;
 use std::{fs, io};
 
-/// A list of numbers in memory of its own.
+// A list of numbers in memory of its own.
 fn list<T: Copy>(alloc: Global, items: &[T]) -> Result<Seq<T>, AllocError> {
     Ok(Seq::from_vec(Vec::from_slice(alloc, items)?))
 }
 
-/// Two files, and another under the name of the first.
+// Two files, and another under the name of the first.
 fn files(alloc: Global) -> Result<Seq<NamedBytes>, AllocError> {
     let mut files = Seq::new(alloc);
     for (name, bytes) in [
@@ -99,7 +99,7 @@ fn a_sink_in_memory(rt: HostRuntime) -> Result<(), Fail> {
     Ok(())
 }
 
-/// Ticks three times.
+// Ticks three times.
 fn three<L: Ledger>(steps: &mut Steps<L>) {
     for _ in 0..3 {
         steps.tick();
@@ -141,7 +141,7 @@ fn files_of_the_system(rt: HostRuntime) -> Result<(), Fail> {
     Ok(())
 }
 
-/// Takes bytes and can't be flushed.
+// Takes bytes and can't be flushed.
 #[derive(Drop)]
 struct Unflushed;
 
@@ -155,7 +155,7 @@ impl Write for Unflushed {
     }
 }
 
-/// Takes nothing.
+// Takes nothing.
 #[derive(Drop)]
 struct Full;
 

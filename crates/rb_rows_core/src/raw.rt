@@ -12,7 +12,7 @@ use std::alloc::{AllocError, Global};
 use std::marker::Model;
 use std::process::Abort;
 
-/// Two memories that hold the same. No call of it traps: a trap of the first ends the test.
+// Two memories that hold the same. No call of it traps: a trap of the first ends the test.
 #[derive(Drop)]
 struct Both {
     checked: CheckedMemory,
@@ -40,7 +40,7 @@ impl Both {
         })
     }
 
-    /// What each says to a place.
+    // What each says to a place.
     fn place(&mut self, size: u64, align: u64) -> (u64, u64)
         requires size { IsSize size }
         requires align { IsAlign align }
@@ -59,7 +59,7 @@ impl Both {
         assert!(rt; raw.is_ok(), "{width} bits at {base} and {offset}");
     }
 
-    /// What each says to a load.
+    // What each says to a load.
     fn load(&self, rt: &impl Abort, base: u64, offset: u64, width: u64) -> (u64, u64)
         requires { IsWidth width }
     {
@@ -69,7 +69,7 @@ impl Both {
         (loaded(checked), loaded(raw))
     }
 
-    /// The limit, the next address and the number of blocks, as each tells them.
+    // The limit, the next address and the number of blocks, as each tells them.
     fn ends(&self) -> ((u64, u64, u64), (u64, u64, u64)) {
         (
             (
@@ -82,7 +82,7 @@ impl Both {
     }
 }
 
-/// The address of a block, or 0 where it did not fit.
+// The address of a block, or 0 where it did not fit.
 fn placed(answer: Result<u64, Full>) -> u64 {
     match answer {
         Ok(address) => address,
@@ -90,7 +90,7 @@ fn placed(answer: Result<u64, Full>) -> u64 {
     }
 }
 
-/// The word, or all bits where there is none.
+// The word, or all bits where there is none.
 fn loaded(answer: Result<u64, Trap>) -> u64 {
     match answer {
         Ok(word) => word,
@@ -98,26 +98,26 @@ fn loaded(answer: Result<u64, Trap>) -> u64 {
     }
 }
 
-/// Whether this is the width of an access.
+// Whether this is the width of an access.
 fn is_width(width: u64) -> bool
     ensures { IsTrue result → IsWidth width }
 {
     width == 8 || width == 16 || width == 32 || width == 64
 }
 
-/// A call on a memory: its sizes, bases and offsets in bytes, its widths in bits.
+// A call on a memory: its sizes, bases and offsets in bytes, its widths in bits.
 #[derive(Clone, Copy, Drop)]
 enum Call {
-    /// Size, alignment as a power of two, and the address, or 0 where it does not fit.
+    // Size, alignment as a power of two, and the address, or 0 where it does not fit.
     Place(u64, u32, u64),
-    /// Base, offset, width and word.
+    // Base, offset, width and word.
     Store(u64, u64, u64, u64),
-    /// Base, offset, width, and the word that is loaded.
+    // Base, offset, width, and the word that is loaded.
     Load(u64, u64, u64, u64),
 }
 
-/// A region of 320 bytes: blocks of one byte, neighbours without a gap, gaps, the largest alignment,
-/// and blocks that do not fit, up to the last byte.
+// A region of 320 bytes: blocks of one byte, neighbours without a gap, gaps, the largest alignment,
+// and blocks that do not fit, up to the last byte.
 const CALLS: [Call; 50] = [
     Call::Place(1, 0, 64),
     Call::Store(64, 0, 8, 0xab),
@@ -206,7 +206,7 @@ fn raw_memory_at_its_least(rt: HostRuntime) {
     assert!(rt; least.ends() == ((64, 64, 0), (64, 64, 0)));
 }
 
-/// A memory with the largest region. (Its size stays out of the proofs of those who use it.)
+// A memory with the largest region. (Its size stays out of the proofs of those who use it.)
 fn largest_memory(alloc: Global) -> Result<RawMemory, AllocError> {
     let memory = RawMemory::new(alloc, 16_777_216)?;
     Ok(memory)

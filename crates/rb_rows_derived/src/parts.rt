@@ -7,7 +7,7 @@ use rb_core::types::{Auto, Ty};
 use std::alloc::{AllocError, Global};
 use std::test::Fail;
 
-/// The items of the leaf under the arm with this number, or of the one leaf.
+// The items of the leaf under the arm with this number, or of the one leaf.
 fn items_under(tree: &LayTree, arm: usize) -> &[LayItem] {
     match tree {
         LayTree::Leaf(_, _, items) => items.as_slice(),
@@ -21,7 +21,7 @@ fn items_under(tree: &LayTree, arm: usize) -> &[LayItem] {
     }
 }
 
-/// The ranges of an item's parts: first bits and lengths.
+// The ranges of an item's parts: first bits and lengths.
 fn ranges(alloc: Global, items: &[LayItem], item: usize) -> Result<Vec<(u64, u64)>, AllocError> {
     let mut ranges = Vec::new(alloc);
     if let Some(LayItem::Word(_, parts)) = items.get(item) {
@@ -32,7 +32,7 @@ fn ranges(alloc: Global, items: &[LayItem], item: usize) -> Result<Vec<(u64, u64
     Ok(ranges)
 }
 
-/// The items of the block to which the part with this number of an item points.
+// The items of the block to which the part with this number of an item points.
 fn block_at(items: &[LayItem], item: usize, part: usize) -> &[LayItem] {
     match items.get(item) {
         None => &[],
@@ -73,7 +73,7 @@ fn a_packed_type(rt: HostRuntime) -> Result<(), Fail> {
     Ok(())
 }
 
-/// One constructor has no tag, and a type without bits is one bit wide.
+// One constructor has no tag, and a type without bits is one bit wide.
 #[test]
 fn a_packed_type_without_bits(rt: HostRuntime) -> Result<(), Fail> {
     let alloc = rt.alloc();
@@ -87,7 +87,7 @@ fn a_packed_type_without_bits(rt: HostRuntime) -> Result<(), Fail> {
 
 // type Triple = Triple(u64, u64, u64); layout Triple <64, 64, 64> = ..;
 // type Many = Many(Triple, .., Triple); layout Many = boxed;
-/// Over 64 words, a block has a pointer for each 64 of them.
+// Over 64 words, a block has a pointer for each 64 of them.
 #[test]
 fn a_boxed_type_of_many_words(rt: HostRuntime) -> Result<(), Fail> {
     let alloc = rt.alloc();

@@ -9,7 +9,7 @@ use rb_core::types::{Auto, DataDecl, Ty};
 use std::alloc::{AllocError, Global};
 use std::test::Fail;
 
-/// Why a single type cannot be packed, if it cannot.
+// Why a single type cannot be packed, if it cannot.
 fn refusal(alloc: Global, ty: DataDecl) -> Result<Option<AutoFault>, AllocError> {
     let program = Program {
         types: seq(alloc, [ty])?,
@@ -38,7 +38,7 @@ fn a_type_that_reaches_itself(rt: HostRuntime) -> Result<(), Fail> {
     Ok(())
 }
 
-/// Of two constructors, one with a number: 63 bits of it and the tag fill a word, 64 do not.
+// Of two constructors, one with a number: 63 bits of it and the tag fill a word, 64 do not.
 #[test]
 fn a_type_that_is_too_wide(rt: HostRuntime) -> Result<(), Fail> {
     let alloc = rt.alloc();

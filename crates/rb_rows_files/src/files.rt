@@ -5,7 +5,7 @@ use rb_rows_calls::call::{call, expect_answer, repeated};
 use std::alloc::{AllocError, Global};
 use std::test::Fail;
 
-/// Files that are refused, each with its answer to every command.
+// Files that are refused, each with its answer to every command.
 const REFUSED: &str = "~2 ribbit: no function main;\n\
 fun main(x: u8,): u8 = x;~1 ribbit: syntax at byte 15;\n\
 fun main(): u8 = add(1);~1 ribbit: syntax at byte 22;\n\
@@ -70,7 +70,7 @@ type C = R | K; type T = E | N(C, T); fun main(x: T): u8 = match x { E => 0, N(R
 type T = A; fun main(): u8 = 0;~3 ribbit: layout of T: A1: no layout;\n\
 fun main(): u8 = 0; type T = A;~3 ribbit: layout of T: A1: no layout;";
 
-/// Files that are accepted, each with its answer to `check`.
+// Files that are accepted, each with its answer to `check`.
 const CHECKED: &str = "fun main(): u8 = 0;~0 ok;\n\
 fun main(x: u1): u8 = match x { 0 => 5, 1 => 6 };~0 ok;\n\
 fun main(x: u8): u8 = match x { _ => 5, 0 => 6 };~0 note: clause 1 of the match at byte 22 is never reached;ok;\n\
@@ -78,7 +78,7 @@ fun main(x: u8): u8 = match x { 0 => 1, 0 => 2, _ => 3, 4 => 5 };~0 note: clause
 fun f(x: u1): u1 = match x { _ => 0, 1 => match x { _ => 1, _ => 0 } }; fun main(): u8 = 0;~0 note: clause 1 of the match at byte 19 is never reached;note: clause 1 of the match at byte 42 is never reached;ok;\n\
 fun main(b: Bit): Bit = b; layout Bit <8> = split 0[0:1] { 0 => Off : { word 8 { [0:1] = 0 } } 1 => On : { word 8 { [0:1] = 1 } } }; type Bit = Off | On;~0 ok;";
 
-/// Files that are accepted, with values, and the answer to `run`.
+// Files that are accepted, with values, and the answer to `run`.
 const RUN: &str = "fun main(): u8 = 7;~~0 7;\n\
 fun main(x: u8): u8 = to u8(add(x, 1));~255~0 0;\n\
 fun main(x: u1): u8 = match x { 0 => 5, 1 => 6 };~1~0 6;\n\
@@ -130,7 +130,7 @@ fn run_files(rt: HostRuntime) -> Result<(), Fail> {
     Ok(())
 }
 
-/// The words of `check`, and bytes that no string holds.
+// The words of `check`, and bytes that no string holds.
 #[test]
 fn words_and_bytes(rt: HostRuntime) -> Result<(), Fail> {
     let alloc = rt.alloc();
@@ -152,7 +152,7 @@ fn words_and_bytes(rt: HostRuntime) -> Result<(), Fail> {
     Ok(())
 }
 
-/// `main` with so many conversions round its body, and so many `)` behind.
+// `main` with so many conversions round its body, and so many `)` behind.
 fn nested(alloc: Global, times: usize, body: &str, closed: usize) -> Result<String, AllocError> {
     let mut text = repeated(alloc, "fun main(x: u8): u8 = ", "to u8(", times, body)?;
     for _ in 0..closed {
@@ -180,7 +180,7 @@ fn depths(rt: HostRuntime) -> Result<(), Fail> {
     Ok(())
 }
 
-/// Declarations with the numbers from 0 on in them, and `main`.
+// Declarations with the numbers from 0 on in them, and `main`.
 fn declared(
     alloc: Global,
     before: &str,

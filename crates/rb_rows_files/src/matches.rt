@@ -7,7 +7,7 @@ use std::alloc::{AllocError, Global};
 use std::str;
 use std::test::Fail;
 
-/// Files, each with its answer to `check`.
+// Files, each with its answer to `check`.
 const CHECKED: &str =
     "fun main(x: u1, y: u1): u8 = match x { 0 => match y { 0 => 5 }, _ => match y { _ => 5 } }; fun f(x: u1): u8 = match x { _ => 5 };~2 ribbit: match at byte 44 misses 1;\n\
 fun main(x: u1, y: u1): u8 = match x { 0 => match y { _ => 5 }, _ => match y { 1 => 5 } }; fun f(x: u1): u8 = match x { _ => 5 };~2 ribbit: match at byte 69 misses 0;\n\
@@ -35,7 +35,7 @@ fn nested_matches(rt: HostRuntime) -> Result<(), Fail> {
     Ok(())
 }
 
-/// The number that the match at byte 44 or 45 is said to miss.
+// The number that the match at byte 44 or 45 is said to miss.
 fn missed(alloc: Global, bits: u32, at: u32) -> Result<Option<u64>, AllocError> {
     let file = format!(in alloc;
         "fun main(x: u1, y: u{bits}): u8 = match x {{ 0 => match y {{ 0 => 5 }}, _ => 6 }};"
@@ -51,7 +51,7 @@ fn missed(alloc: Global, bits: u32, at: u32) -> Result<Option<u64>, AllocError> 
     )
 }
 
-/// Of a wide type any number but 0 is missed.
+// Of a wide type any number but 0 is missed.
 #[test]
 fn a_number_that_is_missed(rt: HostRuntime) -> Result<(), Fail> {
     for (bits, at, most) in [(8, 44, 255), (64, 45, u64::MAX)] {
@@ -61,8 +61,8 @@ fn a_number_that_is_missed(rt: HostRuntime) -> Result<(), Fail> {
     Ok(())
 }
 
-/// A function on a number of so many bits, with a clause for each number below a bound but one, and
-/// then a last clause.
+// A function on a number of so many bits, with a clause for each number below a bound but one, and
+// then a last clause.
 fn function(
     alloc: Global,
     head: &str,
@@ -83,7 +83,7 @@ fn function(
     Ok(text)
 }
 
-/// Clauses for each number below a bound but one, a last clause, and the answer.
+// Clauses for each number below a bound but one, a last clause, and the answer.
 const LONG: [(u64, u64, &str, &str); 3] = [
     (255, 255, "255 => 0", "0 ok;"),
     (

@@ -6,10 +6,10 @@ use rb_image_text::read::read_image_text;
 use std::alloc::{AllocError, Global};
 use std::test::Fail;
 
-/// What a text comes to.
+// What a text comes to.
 #[derive(Clone, Copy, PartialEq, Eq, Debug)]
 enum Found {
-    /// An image of so many root words and blocks.
+    // An image of so many root words and blocks.
     Image(usize, usize),
     Syntax(usize),
     Block(u64),

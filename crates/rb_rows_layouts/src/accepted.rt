@@ -28,7 +28,7 @@ pub const TWIN: &str =
 pub const PAIR: &str =
     "type Pair = Two(u64, u64); layout Pair <64> = Two(_, _) : { word 64 { [0:64] -> 8 { word 64 { [0:64] .0 }, word 64 { [0:64] -> 8 { word 64 { [0:64] .1 } } } } } };";
 
-/// A tree with a leaf for each color of its nodes.
+// A tree with a leaf for each color of its nodes.
 const FLAT: &str =
     "type Color = Red | Black; layout Color <1> = split 0[0:1] { 0 => Red : { word 1 { [0:1] = 0 } } 1 => Black : { word 1 { [0:1] = 1 } } }; type Tree = Empty | Node(Color, Tree, u32, Tree); layout Tree <32> = split 0[0:32] { 0 => Empty : { word 32 { [0:32] = 0 } } else => split 0[0:1] { 0 => Node(Red, _, _, _) : { word 32 { [0:1] = 0, [2:22] -> 4 { word 32 { [0:32] .2 }, inline .1, inline .3 } } } 1 => Node(Black, _, _, _) : { word 32 { [0:1] = 1, [2:22] -> 4 { word 32 { [0:32] .2 }, inline .1, inline .3 } } } } };";
 
@@ -48,7 +48,7 @@ fn layouts_that_agree(rt: HostRuntime) -> Result<(), Fail> {
     Ok(())
 }
 
-/// Forty types, each of which holds the one before it twice: what the last one never has is decided once for each.
+// Forty types, each of which holds the one before it twice: what the last one never has is decided once for each.
 #[test]
 fn a_niche_through_forty_types(rt: HostRuntime) -> Result<(), Fail> {
     let alloc = rt.alloc();
@@ -71,7 +71,7 @@ fn a_niche_through_forty_types(rt: HostRuntime) -> Result<(), Fail> {
     Ok(())
 }
 
-/// File, and the text of its layouts; each `;` ends a line.
+// File, and the text of its layouts; each `;` ends a line.
 const SHOWN: [(&str, &str); 6] = [
     (
         BIT,

@@ -5,7 +5,7 @@ use crate::refusals::{expect_agreed, expect_refused};
 use rb_rows_calls::call::repeated;
 use std::test::Fail;
 
-/// File, and what is refused.
+// File, and what is refused.
 const REFUSED: [(&str, &str); 12] = [
     (
         "type A = A(u12); layout A <64> = A(_) : { word 64 { [0:64] -> 8 { word 12 { [0:12] .0 } } } };",
@@ -65,9 +65,9 @@ fn blocks_and_pointers(rt: HostRuntime) -> Result<(), Fail> {
     Ok(())
 }
 
-/// Files in which a leaf fails in two ways or more, and what is refused: of a word first its pointers as they
-/// are written, each with its alignment, its bits and the number of words behind it; then, in a block, its own
-/// width; then what is behind its pointers.
+// Files in which a leaf fails in two ways or more, and what is refused: of a word first its pointers as they
+// are written, each with its alignment, its bits and the number of words behind it; then, in a block, its own
+// width; then what is behind its pointers.
 const FIRST: [(&str, &str); 16] = [
     (
         "type A = A; layout A <64> = A : { word 64 { [0:11] -> 3 { word 12 { } } } };",
@@ -143,8 +143,8 @@ fn first_of_several_faults(rt: HostRuntime) -> Result<(), Fail> {
     Ok(())
 }
 
-/// What stands before, a part, how often it stands, what stands behind, and what is refused. The number of a
-/// leaf's blocks is named before all else, and that of a block's words before their widths.
+// What stands before, a part, how often it stands, what stands behind, and what is refused. The number of a
+// leaf's blocks is named before all else, and that of a block's words before their widths.
 const LONG: [(&str, &str, usize, &str, &str); 6] = [
     (
         "type A = A; layout A <64> = A : { word 64 { [0:64] -> 8 { word 8 { }",
@@ -200,7 +200,7 @@ fn many_words_and_blocks(rt: HostRuntime) -> Result<(), Fail> {
     Ok(())
 }
 
-/// One word less, and one block less.
+// One word less, and one block less.
 #[test]
 fn as_many_words_and_blocks_as_there_may_be(rt: HostRuntime) -> Result<(), Fail> {
     let alloc = rt.alloc();

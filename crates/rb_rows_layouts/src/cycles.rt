@@ -4,7 +4,7 @@
 use crate::refusals::expect_refused;
 use std::test::Fail;
 
-/// File, and what is refused.
+// File, and what is refused.
 const REFUSED: [(&str, &str); 9] = [
     (
         "type Crate = Cr(u64); layout Crate <64> = Cr(_) : { word 64 { [0:64] -> 8 { word 64 { [0:64] .0 } } } }; type Hold = Hd(Crate); layout Hold <64> = Hd(Cr(_)) : { word 64 { [0:64] .0.0 } };",

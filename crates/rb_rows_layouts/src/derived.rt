@@ -6,7 +6,7 @@ use crate::refusals::{expect_agreed, expect_refused};
 use rb_rows_calls::call::{expect_answer, repeated};
 use std::test::Fail;
 
-/// File, words, and the words and blocks of the value.
+// File, words, and the words and blocks of the value.
 const IMAGES: [(&str, &str, &str); 7] = [
     (
         "type List = Nil | Cons(u64, List); layout List = boxed; fun main(l: List): List = l;",
@@ -57,7 +57,7 @@ fn words_and_blocks(rt: HostRuntime) -> Result<(), Fail> {
     Ok(())
 }
 
-/// File, and what is refused.
+// File, and what is refused.
 const REFUSED: [(&str, &str); 8] = [
     (
         "type List = Nil | Cons(u64, List); layout List = packed;",
@@ -106,7 +106,7 @@ fn layouts_that_are_refused(rt: HostRuntime) -> Result<(), Fail> {
     Ok(())
 }
 
-/// File, and what refuses it before a layout does that cannot be derived.
+// File, and what refuses it before a layout does that cannot be derived.
 const EARLIER: [(&str, &str); 7] = [
     (
         "type T = A(T) | B; layout T = packed; layout U <8, 8, 8, 8, 8, 8, 8, 8, 8> = A : { word 8 { } };",
@@ -146,8 +146,8 @@ fn refusals_that_come_first(rt: HostRuntime) -> Result<(), Fail> {
     Ok(())
 }
 
-/// Types with their written layouts; the types; layouts that leave them to the compiler, with a `~` between; functions,
-/// the value that `main` takes, and the one that it gives.
+// Types with their written layouts; the types; layouts that leave them to the compiler, with a `~` between; functions,
+// the value that `main` takes, and the one that it gives.
 const EXAMPLES: [(&str, &str, &str, &str, &str, &str); 8] = [
     (
         BIT,
@@ -231,7 +231,7 @@ fn the_same_values(rt: HostRuntime) -> Result<(), Fail> {
     Ok(())
 }
 
-/// A boxed constructor of 32 fields of three words each has 96 words: a block of two pointers, to blocks of 64 and of 32.
+// A boxed constructor of 32 fields of three words each has 96 words: a block of two pointers, to blocks of 64 and of 32.
 #[test]
 fn more_words_than_a_block_has(rt: HostRuntime) -> Result<(), Fail> {
     let alloc = rt.alloc();
@@ -251,7 +251,7 @@ fn more_words_than_a_block_has(rt: HostRuntime) -> Result<(), Fail> {
     Ok(())
 }
 
-/// A packed type of 256 constructors has a tag of eight bits.
+// A packed type of 256 constructors has a tag of eight bits.
 #[test]
 fn as_many_constructors_as_there_may_be(rt: HostRuntime) -> Result<(), Fail> {
     let alloc = rt.alloc();

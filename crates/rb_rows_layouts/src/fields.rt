@@ -4,7 +4,7 @@
 use crate::refusals::{expect_either, expect_refused};
 use std::test::Fail;
 
-/// File, and what is refused.
+// File, and what is refused.
 const REFUSED: [(&str, &str); 12] = [
     (
         "type Instr = Branch(u3, u5, u5, u12); layout Instr <32> = Branch(_, _, _, _) : { word 32 { [0:7] = 99, [8:4] .3[0:4], [12:3] .0, [15:5] .1, [20:5] .2, [25:6] .3[4:6], [31:1] .3[11:1] } };",
@@ -64,7 +64,7 @@ fn fields_held_once(rt: HostRuntime) -> Result<(), Fail> {
     Ok(())
 }
 
-/// The bit 10 of the last field does not stand in it, and its bit 0 stands there twice: either may be told.
+// The bit 10 of the last field does not stand in it, and its bit 0 stands there twice: either may be told.
 #[test]
 fn a_bit_twice_in_the_place_of_another(rt: HostRuntime) -> Result<(), Fail> {
     let file =

@@ -4,7 +4,7 @@
 use crate::refusals::expect_refused;
 use std::test::Fail;
 
-/// File, and what is refused.
+// File, and what is refused.
 const REFUSED: [(&str, &str); 19] = [
     (
         "type A = A; layout A <8> = A : { word 8 { [4:5] = 0 } };",

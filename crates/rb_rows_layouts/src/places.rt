@@ -5,7 +5,7 @@ use crate::refusals::expect_refused;
 use rb_rows_calls::call::expect_answer;
 use std::test::Fail;
 
-/// File, and what is refused.
+// File, and what is refused.
 const REFUSED: [(&str, &str); 9] = [
     (
         "type A = A; layout A <8> = A : { word 8 { [4:5] = 0 } }; type B = B; layout B <8> = B : { word 4 { } };",
@@ -53,7 +53,7 @@ fn first_places(rt: HostRuntime) -> Result<(), Fail> {
     Ok(())
 }
 
-/// A layout is looked at after the matches of a file, and before the words of a command.
+// A layout is looked at after the matches of a file, and before the words of a command.
 #[test]
 fn layouts_between_matches_and_words(rt: HostRuntime) -> Result<(), Fail> {
     let alloc = rt.alloc();

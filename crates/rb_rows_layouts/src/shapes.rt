@@ -4,7 +4,7 @@
 use crate::refusals::expect_refused;
 use std::test::Fail;
 
-/// File, and what is refused.
+// File, and what is refused.
 const REFUSED: [(&str, &str); 12] = [
     ("type Bit = Off | On;", "Bit: A1: no layout"),
     (

@@ -4,7 +4,7 @@
 use crate::refusals::{expect_either, expect_refused};
 use std::test::Fail;
 
-/// File, and what is refused.
+// File, and what is refused.
 const FAILING: [(&str, &str); 15] = [
     (
         "type Bit = Off | On; layout Bit <8> = split 1[0:1] { 0 => Off : { word 8 { [0:1] = 0 } } 1 => On : { word 8 { [0:1] = 1 } } };",
@@ -76,7 +76,7 @@ fn leaves_that_fail_a_test(rt: HostRuntime) -> Result<(), Fail> {
     Ok(())
 }
 
-/// File, and what is refused.
+// File, and what is refused.
 const REFUSED: [(&str, &str); 6] = [
     (
         "type Bit = Off | On; layout Bit <8> = split 0[0:1] { 0 => Off : { word 8 { [0:1] = 0 } } 0 => On : { word 8 { [0:1] = 0 } } };",
@@ -112,7 +112,7 @@ fn splits_of_layouts(rt: HostRuntime) -> Result<(), Fail> {
     Ok(())
 }
 
-/// A literal of too many bits has no leaf below it, so some split below it has no arm: either may be told.
+// A literal of too many bits has no leaf below it, so some split below it has no arm: either may be told.
 const WIDE: [(&str, [&str; 2]); 3] = [
     (
         "type Bit = Off | On; layout Bit <8> = split 0[0:1] { 0 => Off : { word 8 { [0:1] = 0 } } 1 => On : { word 8 { [0:1] = 1 } } 2 => split 0[3:5] { } };",

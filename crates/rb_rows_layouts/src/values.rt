@@ -4,7 +4,7 @@
 use crate::refusals::expect_refused;
 use std::test::Fail;
 
-/// File, and what is refused.
+// File, and what is refused.
 const REFUSED: [(&str, &str); 8] = [
     (
         "type Bit = Off | On; layout Bit <8> = split 0[0:2] { 0 => Off : { word 8 { [0:2] = 0 } } 1 => Off : { word 8 { [0:2] = 1 } } 2 => On : { word 8 { [0:2] = 2 } } };",

@@ -17,7 +17,7 @@ use std::alloc::{AllocError, Global};
 use std::process::Abort;
 use std::test::Fail;
 
-/// The most bytes of a file.
+// The most bytes of a file.
 const MOST: usize = 262_144;
 
 /// A place to look at: the text of an image, the number of a type, the base and the place at which the first root word
@@ -95,10 +95,10 @@ fn finding(alloc: Global, agreed: &Agreed, text: &str, ty: Ty) -> Result<String,
     }
 }
 
-/// The most nodes of a value that is read.
+// The most nodes of a value that is read.
 const MOST_NODES: u64 = 1_000;
 
-/// The value of an image as text, or why there is none.
+// The value of an image as text, or why there is none.
 fn value(alloc: Global, agreed: &Agreed, text: &str, ty: u32) -> Result<Vec<u8>, AllocError> {
     let types = agreed.covered().program().types.as_slice();
     let fault = match read_image_text(alloc, text.as_bytes()) {

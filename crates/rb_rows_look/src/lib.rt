@@ -1,5 +1,5 @@
 //! Rows of places of images, each looked at by itself: the places below it, or the fault of its own words and blocks;
-//! and of whole images: sound, or their first fault, and the value that they hold. It has tests alone.
+//! of whole images: sound, or their first fault, and the value that they hold; and of single words. It has tests alone.
 #![tactic(auto)]
 
 #[cfg(test)]
@@ -10,3 +10,5 @@ mod images;
 mod places;
 #[cfg(test)]
 mod values;
+#[cfg(test)]
+mod words;

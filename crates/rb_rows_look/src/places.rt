@@ -3,19 +3,19 @@
 use crate::call::expect;
 use std::test::Fail;
 
-/// A list, its tag in the lowest bit of the pointer to an item.
+// A list, its tag in the lowest bit of the pointer to an item.
 const LIST: &str =
     "type List = Nil | Cons(u64, List); layout List <64> = split 0[0:1] { 1 => Nil : { word 64 { [0:1] = 1 } } 0 => Cons(_, _) : { word 64 { [0:1] = 0, [3:61] -> 8 { word 64 { [0:64] .0 }, inline .1 } } } }; fun main(l: List): List = l;";
 
-/// A shape whose tag stands behind its pointer.
+// A shape whose tag stands behind its pointer.
 const SHAPE: &str =
     "type Shape = Dot(u8) | Box(u32, u32); layout Shape <32> = split 0[0:32] -> 4 @0:8[0:8] { 0 => Dot(_) : { word 32 { [0:32] -> 4 { word 8 { [0:8] = 0 }, word 8 { [0:8] .0 } } } } 1 => Box(_, _) : { word 32 { [0:32] -> 4 { word 8 { [0:8] = 1 }, word 32 { [0:32] .0 }, word 32 { [0:32] .1 } } } } }; fun main(s: Shape): Shape = s;";
 
-/// Two bits of another type in each of two ranges of a word.
+// Two bits of another type in each of two ranges of a word.
 const WIDE: &str =
     "type Bit = Off | On; layout Bit <2> = split 0[0:2] { 0 => Off : { word 2 { [0:2] = 0 } } 1 => On : { word 2 { [0:2] = 1 } } }; type Two = Of(Bit, Bit); layout Two <64> = Of(_, _) : { word 64 { [0:64] -> 8 { word 8 { [2:2] .0, [0:2] .1 }, word 8 { [0:1] = 1 } } } }; fun main(x: Two): Two = x;";
 
-/// A pair in two blocks, its parts not written in the order of their offsets.
+// A pair in two blocks, its parts not written in the order of their offsets.
 const PAIR: &str =
     "type Pair = Two(u32, u32); layout Pair <64> = Two(_, _) : { word 64 { [40:24] = 9, [0:24] -> 8 { word 64 { [32:32] .1, [0:32] -> 8 { word 32 { [0:32] .0 }, word 8 { [0:8] = 7 } } } } } }; fun main(p: Pair): Pair = p;";
 

@@ -79,7 +79,7 @@ fn words_in_words(rt: HostRuntime) -> Result<(), Fail> {
     expect_values(&rt, rt.alloc(), MIXED, mixed.as_slice())
 }
 
-/// Nine levels have 1,023 nodes, eight 511; forty have 2^41 and one less.
+// Nine levels have 1,023 nodes, eight 511; forty have 2^41 and one less.
 #[test]
 fn as_many_nodes_as_may_be(rt: HostRuntime) -> Result<(), Fail> {
     let alloc = rt.alloc();

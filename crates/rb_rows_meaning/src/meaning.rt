@@ -18,10 +18,10 @@ use rb_syntax::lex::lex;
 use std::alloc::{AllocError, Global};
 use std::test::Fail;
 
-/// The most bytes of a file, of which there are more than tokens.
+// The most bytes of a file, of which there are more than tokens.
 const MOST: usize = 262_144;
 
-/// The typed program of a text.
+// The typed program of a text.
 fn typed(alloc: Global, text: &[u8]) -> Result<Typed, Fail> {
     if text.len() > MOST {
         return Err(AllocError.into());
@@ -132,7 +132,7 @@ fn a_number_is_inserted(rt: HostRuntime) -> Result<(), Fail> {
     Ok(())
 }
 
-/// Files of numbers, two arguments and the result, with one call.
+// Files of numbers, two arguments and the result, with one call.
 const NUMBERS: [(&[u8], u64, u64, u64); 3] = [
     (b"fun main(x: u8, y: u8): u8 = x;", 5, 6, 5),
     (

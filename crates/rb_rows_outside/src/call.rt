@@ -35,7 +35,7 @@ pub fn alone(file: &[u8]) -> Held<'_> {
     Held { file, image: b"" }
 }
 
-/// More than a call of these rows writes.
+// More than a call of these rows writes.
 const ROOM: usize = 10_000;
 
 /// Nothing fails.

@@ -31,11 +31,11 @@ fn check(rt: HostRuntime) -> Result<(), Fail> {
     Ok(())
 }
 
-/// A type of one bit in a word of eight.
+// A type of one bit in a word of eight.
 const BIT: &[u8] = b"type Bit = Off | On; layout Bit <8> = split 0[0:1] { \
 0 => Off : { word 8 { [0:1] = 0 } } 1 => On : { word 8 { [0:1] = 1 } } }; fun main(b: Bit): Bit = b;";
 
-/// The same with the wrong bit in its first leaf.
+// The same with the wrong bit in its first leaf.
 const WRONG_BIT: &[u8] = b"type Bit = Off | On; layout Bit <8> = split 0[0:1] { \
 0 => Off : { word 8 { [0:1] = 1 } } 1 => On : { word 8 { [0:1] = 1 } } }; fun main(b: Bit): Bit = b;";
 
@@ -72,8 +72,8 @@ fn layout(rt: HostRuntime) -> Result<(), Fail> {
     Ok(())
 }
 
-/// Which code does it is the program's choice, so its text is the one that a call gives where nothing
-/// fails, and is run.
+// Which code does it is the program's choice, so its text is the one that a call gives where nothing
+// fails, and is run.
 #[test]
 fn compile(rt: HostRuntime) -> Result<(), Fail> {
     let alloc = rt.alloc();

@@ -6,7 +6,7 @@ use crate::table::{expect_row, expect_table};
 use rb_rows_calls::counts::expect_counts;
 use std::test::Fail;
 
-/// The file with one function.
+// The file with one function.
 const ONE: &[u8] = b"type List = Nil | Cons(u64, List);
 layout List <64> = split 0[0:1] { 1 => Nil : { word 64 { [0:1] = 1 } } 0 => Cons(_, _) : { word 64 { [0:1] = 0, [3:61] -> 8 { word 64 { [0:64] .0 }, inline .1 } } } };
 fun up(n: u64, l: List): List = match n { 0 => l, _ => up(sub(n, 1), Cons(n, l)) };
@@ -27,8 +27,8 @@ fn generate(rt: HostRuntime) -> Result<(), Fail> {
     Ok(())
 }
 
-/// How many switches are done is the code's choice, so their line is the one that a call gives where
-/// nothing fails. A run makes 6,003 calls, so its text is taken in pieces of one size alone.
+// How many switches are done is the code's choice, so their line is the one that a call gives where
+// nothing fails. A run makes 6,003 calls, so its text is taken in pieces of one size alone.
 #[test]
 fn count_generated(rt: HostRuntime) -> Result<(), Fail> {
     let alloc = rt.alloc();

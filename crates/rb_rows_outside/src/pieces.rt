@@ -7,10 +7,10 @@ use rb_rows_calls::surprise::Surprise;
 use std::alloc::Global;
 use std::test::Fail;
 
-/// 47 bytes.
+// 47 bytes.
 const SUM: &[u8] = b"fun main(x: u8, y: u8): u8 = add(x, mul(y, 3));";
 
-/// Looks whether a file takes so many calls: the last of them fails, and the one behind it is not made.
+// Looks whether a file takes so many calls: the last of them fails, and the one behind it is not made.
 fn expect_calls(
     alloc: Global,
     file: &[u8],
@@ -61,8 +61,8 @@ fn pieces_of_the_source(rt: HostRuntime) -> Result<(), Fail> {
     Ok(())
 }
 
-/// No read asks for more than 4,096 bytes, and the last one asks for what is still wanted: at the limit of
-/// 262,144 bytes it finds the end, and behind one byte more no read is made.
+// No read asks for more than 4,096 bytes, and the last one asks for what is still wanted: at the limit of
+// 262,144 bytes it finds the end, and behind one byte more no read is made.
 #[test]
 fn pieces_of_the_reader(rt: HostRuntime) -> Result<(), Fail> {
     let alloc = rt.alloc();

@@ -3,10 +3,10 @@
 use crate::table::expect_table;
 use std::test::Fail;
 
-/// 250 + 2 * 3 is 0 in eight bits.
+// 250 + 2 * 3 is 0 in eight bits.
 const SUM: &[u8] = b"fun main(x: u8, y: u8): u8 = add(x, mul(y, 3));";
 
-/// A list is given back as it came: two blocks, the inner one first.
+// A list is given back as it came: two blocks, the inner one first.
 const LIST: &[u8] = b"type List = Nil | Cons(u64, List); layout List <64> = split 0[0:1] { \
 1 => Nil : { word 64 { [0:1] = 1 } } 0 => Cons(_, _) : { word 64 { [0:1] = 0, \
 [3:61] -> 8 { word 64 { [0:64] .0 }, inline .1 } } } }; fun main(l: List): List = l;";
@@ -102,7 +102,7 @@ fn count(rt: HostRuntime) -> Result<(), Fail> {
     Ok(())
 }
 
-/// 3 is given back, and another word has no target.
+// 3 is given back, and another word has no target.
 const CODE: &[u8] = b"fun t 1 1 1\nswitch 0 - 3 1\nreturn 0\nend\n";
 
 #[test]

@@ -17,19 +17,19 @@ pub const READ_FAULT: &[u8] = b"ribbit: read fault\n";
 
 const WRITE_FAULT: &[u8] = b"ribbit: write fault\n";
 
-/// The status of a failed read.
+// The status of a failed read.
 const UNREAD: u8 = 7;
 
-/// The status of a failed write.
+// The status of a failed write.
 const UNWRITTEN: u8 = 8;
 
-/// A byte at a time, some, and all at once.
+// A byte at a time, some, and all at once.
 const SIZES: [usize; 3] = [1, 7, 5000];
 
-/// How many bytes of a line were taken before each of its first writes, at seven bytes a write.
+// How many bytes of a line were taken before each of its first writes, at seven bytes a write.
 const LINE: [(u64, usize); 3] = [(0, 0), (1, 7), (2, 14)];
 
-/// A row.
+// A row.
 #[derive(Clone, Copy)]
 struct Call<'a> {
     words: &'a str,

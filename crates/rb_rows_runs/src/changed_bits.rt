@@ -6,23 +6,23 @@ use crate::changes::Told::{Fault, Value};
 use crate::changes::{Change, expect_changes};
 use std::test::Fail;
 
-/// A tag behind two pointers, with constants beside it.
+// A tag behind two pointers, with constants beside it.
 const FAR: &str =
     "type Far = Near(u8) | Far(u16);layout Far <32> = split 0[0:32] -> 8 @0:32[0:32] -> 4 @1:8[0:4] { 3 => Near(_) : { word 32 { [0:32] -> 8 { word 32 { [0:32] -> 4 { word 8 { [0:8] .0 }, word 8 { [0:4] = 3 } } } } } } 12 => Far(_) : { word 32 { [0:32] -> 8 { word 32 { [0:32] -> 4 { word 8 { }, word 8 { [0:4] = 12, [4:4] = 9 }, word 16 { [0:16] .0 } } }, word 8 { [0:8] = 170 } } } } };fun main(f: Far): Far = f;";
 
-/// Constants, and a number cut into slices.
+// Constants, and a number cut into slices.
 const FIXED: &str =
     "type Color = Red | Black;layout Color <1> = split 0[0:1] { 0 => Red : { word 1 { [0:1] = 0 } } 1 => Black : { word 1 { [0:1] = 1 } } };type Fixed = Fixed(u16, Color);layout Fixed <64> = Fixed(_, _) : { word 64 { [0:3] = 5, [3:61] -> 8 { word 16 { [0:8] = 255, [8:8] .0[0:8] }, word 16 { [0:8] .0[8:8], [8:1] .1, [15:1] = 1 }, word 32 { [0:32] = 4096 } } } };fun main(f: Fixed): Fixed = f;";
 
-/// A pair of small numbers, each in a root word.
+// A pair of small numbers, each in a root word.
 const TWOS: &str =
     "type Twos = Twos(u3, u2);layout Twos <3, 2> = Twos(_, _) : { word 3 { [0:3] .0 }, word 2 { [0:2] .1 } };fun main(t: Twos): Twos = t;";
 
-/// Two types over one byte: the one holds all numbers, the other those whose upper half is 6.
+// Two types over one byte: the one holds all numbers, the other those whose upper half is 6.
 const BOTH: &str =
     "type Any = Any(u8);layout Any <32> = Any(_) : { word 32 { [0:32] -> 4 { word 8 { [0:8] .0 } } } };type Six = Six(u4);layout Six <32> = Six(_) : { word 32 { [0:32] -> 4 { word 8 { [0:4] .0, [4:4] = 6 } } } };type Both = Both(Any, Six);layout Both <32, 32> = Both(_, _) : { inline .0, inline .1 };fun main(b: Both): Both = b;";
 
-/// A number behind two pointers, both of which a split passes.
+// A number behind two pointers, both of which a split passes.
 const FARS: [Change; 13] = [
     // no block
     (Text(7), b'0', Fault("44: base 0, address 0")),
@@ -52,7 +52,7 @@ const FARS: [Change; 13] = [
     (Byte(1, 4), 0xab, Fault("43: base 72, place 4")),
 ];
 
-/// The other leaf of it.
+// The other leaf of it.
 const NEARS: [Change; 5] = [
     // no word of 32 bits lies in the block
     (Text(7), b'8', Fault("44: base 0, address 64")),
@@ -66,7 +66,7 @@ const NEARS: [Change; 5] = [
     (Byte(0, 1), 0x02, Fault("43: base 64, place 1")),
 ];
 
-/// Constants in a root word and in a block, beside the slices of a number.
+// Constants in a root word and in a block, beside the slices of a number.
 const CONSTANTS: [Change; 11] = [
     // the constant 5 in the root word
     (Text(8), b'4', Fault("43: base 0, place 0")),
@@ -92,7 +92,7 @@ const CONSTANTS: [Change; 11] = [
     (Byte(0, 7), 0x80, Fault("43: base 64, place 4")),
 ];
 
-/// Two root words, of three bits and of two.
+// Two root words, of three bits and of two.
 const WORDS: [Change; 6] = [
     // 8 has four bits
     (Text(7), b'8', Fault("42: word 0")),
@@ -108,7 +108,7 @@ const WORDS: [Change; 6] = [
     (Text(11), b'2', Value("Twos(7, 2)")),
 ];
 
-/// Two types that share a block.
+// Two types that share a block.
 const SHARED: [Change; 5] = [
     // sound for Any, at fault for Six
     (Byte(0, 0), 0x75, Fault("43: base 64, place 0")),

@@ -8,11 +8,11 @@ use crate::deep::KEPT;
 use crate::layouts::{LIST, TWIN};
 use std::test::Fail;
 
-/// Blocks of two sizes: the tag of the end is in the pointer, the other tag behind it.
+// Blocks of two sizes: the tag of the end is in the pointer, the other tag behind it.
 const CHAIN: &str =
     "type Chain = End | One(u8) | Link(Chain, u16);layout Chain <32> = split 0[0:1] { 1 => End : { word 32 { [0:1] = 1 } } 0 => split 0[2:30] -> 4 @0:8[0:8] { 0 => One(_) : { word 32 { [0:1] = 0, [2:30] -> 4 { word 8 { [0:8] = 0 }, word 8 { [0:8] .0 } } } } 1 => Link(_, _) : { word 32 { [0:1] = 0, [2:30] -> 4 { word 8 { [0:8] = 1 }, word 16 { [0:16] .1 }, inline .0 } } } } };fun main(c: Chain): Chain = c;";
 
-/// A list, in which the text itself is changed.
+// A list, in which the text itself is changed.
 const LISTED: [Change; 13] = [
     // no blank
     (Text(4), b'\t', Fault("40 at byte 4")),
@@ -42,7 +42,7 @@ const LISTED: [Change; 13] = [
     (Text(61), b'9', Fault("44: base 0, address 80")),
 ];
 
-/// A tree whose colours are told by its leaves, in the lowest bit of a pointer.
+// A tree whose colours are told by its leaves, in the lowest bit of a pointer.
 const TREES: [Change; 26] = [
     // the colour
     (
@@ -140,7 +140,7 @@ const TREES: [Change; 26] = [
     (Byte(1, 11), 0xff, Fault("44: base 76, address 0")),
 ];
 
-/// A chain of blocks, of which a split behind a pointer tells the size.
+// A chain of blocks, of which a split behind a pointer tells the size.
 const CHAINS: [Change; 26] = [
     // the tag: nothing else is looked at
     (Text(8), b'd', Value("End")),
@@ -196,7 +196,7 @@ const CHAINS: [Change; 26] = [
     (Byte(2, 2), 0x01, Value("Link(Link(One(5), 300), 263)")),
 ];
 
-/// A tree whose halves are one block.
+// A tree whose halves are one block.
 const HALVES: [Change; 6] = [
     // the first half of the lower block, which is met first
     (Byte(0, 0), 0x00, Fault("44: base 64, address 0")),

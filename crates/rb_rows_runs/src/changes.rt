@@ -25,7 +25,7 @@ pub enum Told {
 /// A place, the byte that comes to stand there, and the answer.
 pub type Change = (Place, u8, Told);
 
-/// The place of the two digits of a block's byte.
+// The place of the two digits of a block's byte.
 fn digits_at(image: &str, block: usize, byte: usize) -> usize {
     let mut line = 0usize;
     let mut blanks = 0usize;
@@ -54,7 +54,7 @@ fn overwrite(text: &mut Vec<u8>, at: usize, with: &[u8]) {
     }
 }
 
-/// The text of an image with another byte.
+// The text of an image with another byte.
 fn changed(alloc: Global, image: &str, place: Place, byte: u8) -> Result<Vec<u8>, AllocError> {
     let mut text = lines(alloc, image)?;
     match place {
@@ -67,7 +67,7 @@ fn changed(alloc: Global, image: &str, place: Place, byte: u8) -> Result<Vec<u8>
     Ok(text)
 }
 
-/// Looks what `value` answers to an image, which has the name `I`.
+// Looks what `value` answers to an image, which has the name `I`.
 fn expect_told(alloc: Global, file: &str, image: &[u8], told: Told) -> Result<(), Surprise> {
     let wanted = match told {
         Told::Value(text) => format!(in alloc; "0 {text};")?,

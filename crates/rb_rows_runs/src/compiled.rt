@@ -12,7 +12,7 @@ use rb_target::read::read_code;
 use std::str;
 use std::test::Fail;
 
-/// The text of compiled code runs as the file does.
+// The text of compiled code runs as the file does.
 #[test]
 fn code_texts_run(rt: HostRuntime) -> Result<(), Fail> {
     let alloc = rt.alloc();
@@ -23,7 +23,7 @@ fn code_texts_run(rt: HostRuntime) -> Result<(), Fail> {
     Ok(())
 }
 
-/// The word 1 is the empty list.
+// The word 1 is the empty list.
 #[test]
 fn the_sum_of_an_empty_list(rt: HostRuntime) -> Result<(), Fail> {
     let alloc = rt.alloc();
@@ -33,21 +33,55 @@ fn the_sum_of_an_empty_list(rt: HostRuntime) -> Result<(), Fail> {
     Ok(())
 }
 
-/// How many lines of a code text begin with a switch.
-fn switch_lines(code: &[u8]) -> usize {
+// How many lines of a code text begin so.
+fn lines_with(code: &[u8], start: &str) -> usize {
     let Ok(text) = str::from_utf8(code) else {
         return usize::MAX;
     };
     let mut count = 0usize;
     for line in text.split('\n') {
-        if line.strip_prefix("switch ").is_some() {
+        if line.strip_prefix(start).is_some() {
             count = count.wrapping_add(1);
         }
     }
     count
 }
 
-/// Four tests of a field, each once: as a tree they were six.
+// How many lines of a code text begin with a switch.
+fn switch_lines(code: &[u8]) -> usize {
+    lines_with(code, "switch ")
+}
+
+// File, and the lines of its text that return, copy and jump. An arm whose value is the function's result
+// returns it; the arms of a match in an operand leave theirs in one slot, and go on behind it.
+const ENDS: [(&str, (usize, usize, usize)); 3] = [
+    (SUM, (3, 0, 0)),
+    (
+        "fun main(x: u8): u8 = let y: u8 = add(x, 1) in match y { 0 => 7, _ => match x { 3 => y, _ => 8 } };",
+        (3, 0, 0),
+    ),
+    (
+        "fun main(x: u8): u8 = add(match x { 0 => 7, _ => x }, 1);",
+        (1, 2, 2),
+    ),
+];
+
+#[test]
+fn where_arms_end(rt: HostRuntime) -> Result<(), Fail> {
+    for (file, wanted) in ENDS {
+        let did = call(rt.alloc(), "compile E", file.as_bytes(), &[], &[])?;
+        assert_eq!(rt; did.status, 0);
+        let code = did.out.as_slice();
+        let returns = lines_with(code, "return ");
+        let copies = lines_with(code, "copy ");
+        let jumps = lines_with(code, "jump ");
+        let found = (returns, copies, jumps);
+        assert_eq!(rt; found, wanted);
+    }
+    Ok(())
+}
+
+// Four tests of a field, each once: as a tree they were six.
 #[test]
 fn equal_tests_stand_once(rt: HostRuntime) -> Result<(), Fail> {
     let did = call(rt.alloc(), "compile E", FOUR.as_bytes(), &[], &[])?;
@@ -56,7 +90,7 @@ fn equal_tests_stand_once(rt: HostRuntime) -> Result<(), Fail> {
     Ok(())
 }
 
-/// The text does as many switches as `count` says. B in the second and fourth place is the word 10.
+// The text does as many switches as `count` says. B in the second and fourth place is the word 10.
 #[test]
 fn the_text_does_as_many(rt: HostRuntime) -> Result<(), Fail> {
     let alloc = rt.alloc();
@@ -78,11 +112,11 @@ fn the_text_does_as_many(rt: HostRuntime) -> Result<(), Fail> {
     Ok(())
 }
 
-/// A bit and a byte. The leaf tells the bit, which has no bits of its own.
+// A bit and a byte. The leaf tells the bit, which has no bits of its own.
 const TOLD: &str =
     "type K = A | B;layout K <1> = split 0[0:1] { 0 => A : { word 1 { [0:1] = 0 } } 1 => B : { word 1 { [0:1] = 1 } } };type P = Tagged(K, u8);layout P <9> = split 0[0:1] { 0 => Tagged(A, _) : { word 9 { [0:1] = 0, [1:8] .1 } } 1 => Tagged(B, _) : { word 9 { [0:1] = 1, [1:8] .1 } } };fun main(p: P): u8 = match p { Tagged(A, 3) => 1, Tagged(B, 4) => 2, _ => 0 };";
 
-/// One switch finds the leaf, and each way has one for its byte: the bit is tested by none.
+// One switch finds the leaf, and each way has one for its byte: the bit is tested by none.
 #[test]
 fn a_leaf_decides_a_test(rt: HostRuntime) -> Result<(), Fail> {
     let alloc = rt.alloc();
@@ -101,7 +135,31 @@ fn a_leaf_decides_a_test(rt: HostRuntime) -> Result<(), Fail> {
     Ok(())
 }
 
-/// A match that names 300 numbers.
+// Constructions of such a pair. The file shows the bit in the first, and none of it in the second.
+const SHOWN: &str =
+    "type K = A | B;layout K <1> = split 0[0:1] { 0 => A : { word 1 { [0:1] = 0 } } 1 => B : { word 1 { [0:1] = 1 } } };type P = Tagged(K, u8);layout P <9> = split 0[0:1] { 0 => Tagged(A, _) : { word 9 { [0:1] = 0, [1:8] .1 } } 1 => Tagged(B, _) : { word 9 { [0:1] = 1, [1:8] .1 } } };fun main(x: u8): P = Tagged(B, x);";
+
+const UNSHOWN: &str =
+    "type K = A | B;layout K <1> = split 0[0:1] { 0 => A : { word 1 { [0:1] = 0 } } 1 => B : { word 1 { [0:1] = 1 } } };type P = Tagged(K, u8);layout P <9> = split 0[0:1] { 0 => Tagged(A, _) : { word 9 { [0:1] = 0, [1:8] .1 } } 1 => Tagged(B, _) : { word 9 { [0:1] = 1, [1:8] .1 } } };fun main(k: K, x: u8): P = Tagged(k, x);";
+
+// A constructor that the file shows is not looked at, and a variable's is, once. The word is twice the byte, and 1
+// for B.
+#[test]
+fn a_shown_argument_takes_no_switch(rt: HostRuntime) -> Result<(), Fail> {
+    let alloc = rt.alloc();
+    let did = call(alloc, "compile E", SHOWN.as_bytes(), &[], &[])?;
+    assert_eq!(rt; did.status, 0);
+    assert_eq!(rt; switch_lines(did.out.as_slice()), 0);
+    expect_answer(alloc, "exec E main 1 64 4", did.out.as_slice(), "0 9;")?;
+    let did = call(alloc, "compile E", UNSHOWN.as_bytes(), &[], &[])?;
+    assert_eq!(rt; did.status, 0);
+    assert_eq!(rt; switch_lines(did.out.as_slice()), 1);
+    expect_answer(alloc, "exec E main 1 64 1 4", did.out.as_slice(), "0 9;")?;
+    expect_answer(alloc, "exec E main 1 64 0 4", did.out.as_slice(), "0 8;")?;
+    Ok(())
+}
+
+// A match that names 300 numbers.
 #[test]
 fn one_switch_for_all_numbers(rt: HostRuntime) -> Result<(), Fail> {
     let alloc = rt.alloc();

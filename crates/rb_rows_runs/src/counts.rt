@@ -11,7 +11,7 @@ use std::test::Fail;
 pub const FOUR: &str =
     "type K = A | B;layout K <1> = split 0[0:1] { 0 => A : { word 1 { [0:1] = 0 } } 1 => B : { word 1 { [0:1] = 1 } } };type Q = Q4(K, K, K, K);layout Q <4> = Q4(_, _, _, _) : { word 4 { [0:1] .0, [1:1] .1, [2:1] .2, [3:1] .3 } };fun main(q: Q): u8 = match q { Q4(A, A, _, _) => 1, Q4(_, _, A, A) => 2, _ => 3 };";
 
-/// File, limits and values, lines, switches, lines.
+// File, limits and values, lines, switches, lines.
 const ROWS: [(&str, &str, &str, u64, &str); 7] = [
     (
         SUM,
@@ -74,7 +74,7 @@ fn counts_of_runs(rt: HostRuntime) -> Result<(), Fail> {
     Ok(())
 }
 
-/// File, limits and values, answer.
+// File, limits and values, answer.
 const REFUSED: [(&str, &str, &str); 5] = [
     (
         SUM,
@@ -109,7 +109,7 @@ fn counts_refused(rt: HostRuntime) -> Result<(), Fail> {
     Ok(())
 }
 
-/// A value of 480 bytes in memory, and of two billion nodes.
+// A value of 480 bytes in memory, and of two billion nodes.
 #[test]
 fn counts_of_a_value_over_the_limit(rt: HostRuntime) -> Result<(), Fail> {
     expect_answer(

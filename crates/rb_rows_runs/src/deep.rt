@@ -9,7 +9,7 @@ use std::test::Fail;
 pub const COLOUR: &str =
     "type Color = Red | Black;layout Color <1> = split 0[0:1] { 0 => Red : { word 1 { [0:1] = 0 } } 1 => Black : { word 1 { [0:1] = 1 } } };type Tree = Empty | Node(Color, Tree, u32, Tree);layout Tree <32> = split 0[0:32] { 0 => Empty : { word 32 { [0:32] = 0 } } else => split 0[0:1] { 0 => Node(Red, _, _, _) : { word 32 { [0:1] = 0, [2:22] -> 4 { word 32 { [0:32] .2 }, inline .1, inline .3 } } } 1 => Node(Black, _, _, _) : { word 32 { [0:1] = 1, [2:22] -> 4 { word 32 { [0:32] .2 }, inline .1, inline .3 } } } } };fun main(t: Tree): Color = match t { Empty => Black, Node(c, l, x, r) => c };";
 
-/// Clauses by colour.
+// Clauses by colour.
 const BY_COLOUR: &str =
     "type Color = Red | Black;layout Color <1> = split 0[0:1] { 0 => Red : { word 1 { [0:1] = 0 } } 1 => Black : { word 1 { [0:1] = 1 } } };type Tree = Empty | Node(Color, Tree, u32, Tree);layout Tree <32> = split 0[0:32] { 0 => Empty : { word 32 { [0:32] = 0 } } else => split 0[0:1] { 0 => Node(Red, _, _, _) : { word 32 { [0:1] = 0, [2:22] -> 4 { word 32 { [0:32] .2 }, inline .1, inline .3 } } } 1 => Node(Black, _, _, _) : { word 32 { [0:1] = 1, [2:22] -> 4 { word 32 { [0:32] .2 }, inline .1, inline .3 } } } } };fun main(t: Tree): u32 = match t { Node(Red, _, x, _) => x, Empty => 1, Node(Black, _, _, _) => 2 };";
 
@@ -21,11 +21,11 @@ pub const KEPT: &str =
 pub const INSERTED: &str =
     "type Color = Red | Black;layout Color <1> = split 0[0:1] { 0 => Red : { word 1 { [0:1] = 0 } } 1 => Black : { word 1 { [0:1] = 1 } } };type Tree = Empty | Node(Color, Tree, u32, Tree);layout Tree <32> = split 0[0:32] { 0 => Empty : { word 32 { [0:32] = 0 } } else => split 0[0:1] { 0 => Node(Red, _, _, _) : { word 32 { [0:1] = 0, [2:22] -> 4 { word 32 { [0:32] .2 }, inline .1, inline .3 } } } 1 => Node(Black, _, _, _) : { word 32 { [0:1] = 1, [2:22] -> 4 { word 32 { [0:32] .2 }, inline .1, inline .3 } } } } };fun insert(t: Tree, x: u32): Tree = match t { Empty => Node(Red, Empty, x, Empty), Node(c, l, y, r) => match lt(x, y) { 1 => Node(c, insert(l, x), y, r), 0 => match lt(y, x) { 1 => Node(c, l, y, insert(r, x)), 0 => t } } };fun main(t: Tree, x: u32): Tree = insert(t, x);";
 
-/// A box of a bit, whose word is the bit's; no value of it is made.
+// A box of a bit, whose word is the bit's; no value of it is made.
 const UNUSED: &str =
     "type C = R | K; layout C <1> = split 0[0:1] { 0 => R : { word 1 { [0:1] = 0 } } 1 => K : { word 1 { [0:1] = 1 } } }; type D = D(C); layout D <1> = split 0[0:1] { 0 => D(R) : { word 1 { [0:1] = 0 } } 1 => D(K) : { word 1 { [0:1] = 1 } } }; fun main(): u8 = 0;";
 
-/// File, words, answer.
+// File, words, answer.
 const ROWS: [(&str, &str, &str); 13] = [
     (COLOUR, "run E 1 76 Node(Red,Empty,7,Empty)", "0 Red;"),
     (COLOUR, "run E 1 76 Node(Black,Empty,7,Empty)", "0 Black;"),
@@ -75,7 +75,7 @@ fn leaves_that_take_subvalues_apart(rt: HostRuntime) -> Result<(), Fail> {
     Ok(())
 }
 
-/// Two matches on a tree may take 4 switches each, two on a comparison 1 each, and two constructions 1 each.
+// Two matches on a tree may take 4 switches each, two on a comparison 1 each, and two constructions 1 each.
 #[test]
 fn counts_over_them(rt: HostRuntime) -> Result<(), Fail> {
     expect_counts(

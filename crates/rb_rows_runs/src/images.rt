@@ -6,7 +6,7 @@ use rb_rows_calls::call::expect_answer;
 use std::alloc::{AllocError, Global};
 use std::test::Fail;
 
-/// The second of two lists.
+// The second of two lists.
 const LISTS: &str =
     "type List = Nil | Cons(u64, List); layout List <64> = split 0[0:1] { 1 => Nil : { word 64 { [0:1] = 1 } } 0 => Cons(_, _) : { word 64 { [0:1] = 0, [3:61] -> 8 { word 64 { [0:64] .0 }, inline .1 } } } };fun main(l: List, m: List): List = m;";
 
@@ -26,23 +26,23 @@ pub const OPTION: &str =
 pub const PADDED: &str =
     "type Pair = Two(u8, u8);layout Pair <64> = Two(_, _) : { word 64 { [0:64] -> 8 { word 16 { [0:8] .0 }, word 32 { [24:8] .1 } } } };fun main(x: u8): Pair = Two(x, x);";
 
-/// Three root words, of which the first holds nothing.
+// Three root words, of which the first holds nothing.
 const WIDE: &str =
     "type Wide = Wide(u64, u64);layout Wide <8, 64, 64> = Wide(_, _) : { word 8 { }, word 64 { [0:64] .1 }, word 64 { [0:64] .0 } };fun main(x: u64, y: u64): Wide = Wide(x, y);";
 
-/// A list that the code makes.
+// A list that the code makes.
 const MADE_LIST: &str =
     "type List = Nil | Cons(u64, List); layout List <64> = split 0[0:1] { 1 => Nil : { word 64 { [0:1] = 1 } } 0 => Cons(_, _) : { word 64 { [0:1] = 0, [3:61] -> 8 { word 64 { [0:64] .0 }, inline .1 } } } };fun main(): List = Cons(1, Cons(2, Nil));";
 
-/// A shape that the code makes.
+// A shape that the code makes.
 const MADE_SHAPE: &str =
     "type Shape = Dot(u8) | Box(u32, u32);layout Shape <32> = split 0[0:32] -> 4 @0:8[0:8] { 0 => Dot(_) : { word 32 { [0:32] -> 4 { word 8 { [0:8] = 0 }, word 8 { [0:8] .0 } } } } 1 => Box(_, _) : { word 32 { [0:32] -> 4 { word 8 { [0:8] = 1 }, word 32 { [0:32] .0 }, word 32 { [0:32] .1 } } } } };fun main(): Shape = Box(1, 2);";
 
-/// A pair in two blocks that the code makes.
+// A pair in two blocks that the code makes.
 const MADE_PAIR: &str =
     "type Pair = Two(u64, u64);layout Pair <64> = Two(_, _) : { word 64 { [0:64] -> 8 { word 64 { [0:64] .0 }, word 64 { [0:64] -> 8 { word 64 { [0:64] .1 } } } } } };fun main(): Pair = Two(5, 6);";
 
-/// File, limits, answer.
+// File, limits, answer.
 const MADE: [(&str, &str, &str); 7] = [
     (
         MADE_LIST,
@@ -91,7 +91,7 @@ fn images_of_constructions(rt: HostRuntime) -> Result<(), Fail> {
     Ok(())
 }
 
-/// File, limits and values, answer.
+// File, limits and values, answer.
 const ROWS: [(&str, &str, &str); 20] = [
     (
         LIST,
@@ -177,14 +177,14 @@ fn images_of_values(rt: HostRuntime) -> Result<(), Fail> {
     Ok(())
 }
 
-/// A number of two bytes, the lower one first, in hexadecimal digits.
+// A number of two bytes, the lower one first, in hexadecimal digits.
 fn two_bytes(alloc: Global, number: u64) -> Result<String, AllocError> {
     let low = number % 256;
     let high = number / 256;
     format!(in alloc; "{low:02x}{high:02x}")
 }
 
-/// A value of two billion nodes has an image of thirty blocks, whose halves are the block before.
+// A value of two billion nodes has an image of thirty blocks, whose halves are the block before.
 #[test]
 fn an_image_of_a_large_value(rt: HostRuntime) -> Result<(), Fail> {
     let alloc = rt.alloc();

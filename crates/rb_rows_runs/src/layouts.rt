@@ -37,11 +37,11 @@ pub const BRANCH: &str =
 pub const TWIN: &str =
     "type Twin = Tip | Fork(Twin, Twin);layout Twin <64> = split 0[0:1] { 1 => Tip : { word 64 { [0:1] = 1 } } 0 => Fork(_, _) : { word 64 { [0:1] = 0, [3:61] -> 8 { inline .0, inline .1 } } } };fun grow(n: u64, t: Twin): Twin = match n { 0 => t, _ => grow(sub(n, 1), Fork(t, t)) };fun main(n: u64): Twin = grow(n, Tip);";
 
-/// One bit.
+// One bit.
 const COLOR: &str =
     "type Color = Red | Black; layout Color <1> = split 0[0:1] { 0 => Red : { word 1 { [0:1] = 0 } } 1 => Black : { word 1 { [0:1] = 1 } } }; fun other(c: Color): Color = match c { Red => Black, Black => Red }; fun main(c: Color): Color = other(c);";
 
-/// File, limits and values, answer.
+// File, limits and values, answer.
 const ROWS: [(&str, &str, &str); 31] = [
     (SUM, "10 1024 Cons(1,Cons(2,Nil))", "0 3;"),
     (SUM, "4 1024 Cons(1,Cons(2,Nil))", "0 3;"),
@@ -158,11 +158,12 @@ fn runs_with_layouts(rt: HostRuntime) -> Result<(), Fail> {
     Ok(())
 }
 
-/// A million nodes and more in 304 bytes, and two billion in 480, which is one more than there are.
+// A million nodes and more in 304 bytes, and two billion in 480, which is one more than there are.
 #[test]
 fn a_value_over_the_limit(rt: HostRuntime) -> Result<(), Fail> {
     let wanted = "13 ribbit: value over 1000000 nodes;";
     expect_answer(rt.alloc(), "run E 40 1024 19", TWIN.as_bytes(), wanted)?;
+    expect_answer(rt.alloc(), "run E 40 1024 30", TWIN.as_bytes(), wanted)?;
     expect_answer(rt.alloc(), "run E 40 544 30", TWIN.as_bytes(), wanted)?;
     let wanted = "5 ribbit: region full: next 528, size 16, align 8, limit 543;";
     expect_answer(rt.alloc(), "run E 40 543 30", TWIN.as_bytes(), wanted)?;
@@ -173,15 +174,20 @@ fn a_value_over_the_limit(rt: HostRuntime) -> Result<(), Fail> {
 pub const PUSHED: &str =
     "type List = Nil | Cons(u64, List); layout List <64> = split 0[0:1] { 1 => Nil : { word 64 { [0:1] = 1 } } 0 => Cons(_, _) : { word 64 { [0:1] = 0, [3:61] -> 8 { word 64 { [0:64] .0 }, inline .1 } } } };fun main(l: List): List = Cons(9, l);";
 
-/// The first number of a list, or 0.
+// The first number of a list, or 0.
 const FIRST: &str =
     "type List = Nil | Cons(u64, List); layout List <64> = split 0[0:1] { 1 => Nil : { word 64 { [0:1] = 1 } } 0 => Cons(_, _) : { word 64 { [0:1] = 0, [3:61] -> 8 { word 64 { [0:64] .0 }, inline .1 } } } };fun main(l: List): u64 = match l { Nil => 0, Cons(x, r) => x };";
 
-/// File, limits and values, answer.
-const LISTS: [(&str, &str, &str); 10] = [
+// File, limits and values, answer.
+const LISTS: [(&str, &str, &str); 11] = [
     (
         LIST,
         "1 1024 Cons(1,Cons(2,Nil))",
+        "0 Cons(1, Cons(2, Nil));",
+    ),
+    (
+        LIST,
+        "1 1024 Cons(1,\tCons(2,\nNil))",
         "0 Cons(1, Cons(2, Nil));",
     ),
     (
@@ -225,14 +231,14 @@ fn lists_as_they_are(rt: HostRuntime) -> Result<(), Fail> {
     Ok(())
 }
 
-/// A list of so many ones, with this between a number and the rest.
+// A list of so many ones, with this between a number and the rest.
 fn ones(alloc: Global, between: &str, count: usize) -> Result<String, AllocError> {
     let part = format!(in alloc; "Cons(1,{between}")?;
     let front = repeated(alloc, "", part.as_str(), count, "Nil")?;
     repeated(alloc, front.as_str(), ")", count, "")
 }
 
-/// A thousand nodes and one.
+// A thousand nodes and one.
 #[test]
 fn five_hundred_numbers(rt: HostRuntime) -> Result<(), Fail> {
     let alloc = rt.alloc();
@@ -244,7 +250,7 @@ fn five_hundred_numbers(rt: HostRuntime) -> Result<(), Fail> {
     Ok(())
 }
 
-/// A number is put before so many that the region is full to its last byte.
+// A number is put before so many that the region is full to its last byte.
 #[test]
 fn one_number_more_than_was_given(rt: HostRuntime) -> Result<(), Fail> {
     let alloc = rt.alloc();

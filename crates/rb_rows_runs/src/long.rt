@@ -1,11 +1,11 @@
 //! Lists of half a million numbers, as arguments and as values: words of some megabytes, as many nodes as a value may
 //! have, and one number more. Counted by hand from the files: two nodes, sixteen bytes and a call for each number.
 
-use crate::layouts::SUM;
+use crate::layouts::{LIST, SUM};
 use rb_rows_calls::call::{expect_answer, repeated};
 use std::test::Fail;
 
-/// A list in a constructor: two nodes for each number, and two.
+// A list in a constructor: two nodes for each number, and two.
 const WRAPPED: &str =
     "type List = Nil | Cons(u64, List); layout List <64> = split 0[0:1] { 1 => Nil : { word 64 { [0:1] = 1 } } 0 => Cons(_, _) : { word 64 { [0:1] = 0, [3:61] -> 8 { word 64 { [0:64] .0 }, inline .1 } } } };type One = Wrap(List);layout One <64> = Wrap(_) : { inline .0 };fun main(o: One): u64 = match o { Wrap(Nil) => 0, Wrap(Cons(x, r)) => x };";
 
@@ -13,8 +13,8 @@ const WRAPPED: &str =
 pub const UP: &str =
     "type List = Nil | Cons(u64, List); layout List <64> = split 0[0:1] { 1 => Nil : { word 64 { [0:1] = 1 } } 0 => Cons(_, _) : { word 64 { [0:1] = 0, [3:61] -> 8 { word 64 { [0:64] .0 }, inline .1 } } } };fun up(n: u64, l: List): List = match n { 0 => l, _ => up(sub(n, 1), Cons(n, l)) };fun main(n: u64): List = up(n, Nil);";
 
-/// A million nodes but one are encoded in blocks of eight megabytes, and the run goes through them as far
-/// as its calls last.
+// A million nodes but one are encoded in blocks of eight megabytes, and the run goes through them as far
+// as its calls last.
 #[test]
 fn as_many_nodes_as_a_value_may_have(rt: HostRuntime) -> Result<(), Fail> {
     let alloc = rt.alloc();
@@ -29,7 +29,7 @@ fn as_many_nodes_as_a_value_may_have(rt: HostRuntime) -> Result<(), Fail> {
     Ok(())
 }
 
-/// The block of the first number is the last that is placed, and does not fit into a region that is a byte too short.
+// The block of the first number is the last that is placed, and does not fit into a region that is a byte too short.
 #[test]
 fn a_region_one_byte_too_short(rt: HostRuntime) -> Result<(), Fail> {
     let alloc = rt.alloc();
@@ -40,13 +40,14 @@ fn a_region_one_byte_too_short(rt: HostRuntime) -> Result<(), Fail> {
     Ok(())
 }
 
+// In the region into which a number less fits to the last byte.
 #[test]
 fn one_number_more(rt: HostRuntime) -> Result<(), Fail> {
     let alloc = rt.alloc();
-    let front = repeated(alloc, "run E 1000 16777216 ", "Cons(1,", 500_000, "Nil")?;
+    let front = repeated(alloc, "run E 1 8000048 ", "Cons(1,", 500_000, "Nil")?;
     let words = repeated(alloc, front.as_str(), ")", 500_000, "")?;
     let wanted = "10 ribbit: argument 1: over 1000000 nodes;";
-    expect_answer(alloc, words.as_str(), SUM.as_bytes(), wanted)?;
+    expect_answer(alloc, words.as_str(), LIST.as_bytes(), wanted)?;
     Ok(())
 }
 
@@ -59,7 +60,7 @@ fn a_million_nodes(rt: HostRuntime) -> Result<(), Fail> {
     Ok(())
 }
 
-/// Words, answer.
+// Words, answer.
 const BUILT: [(&str, &str); 3] = [
     (
         "run E 500001 8000047 499999",

@@ -6,11 +6,11 @@ use rb_rows_calls::call::expect_answer;
 use rb_rows_calls::counts::expect_counts;
 use std::test::Fail;
 
-/// Two pairs of a bit and a byte, with a byte between; which bit the first has its leaf tells alone.
+// Two pairs of a bit and a byte, with a byte between; which bit the first has its leaf tells alone.
 const BETWEEN: &str =
     "type K = A | B;layout K <1> = split 0[0:1] { 0 => A : { word 1 { [0:1] = 0 } } 1 => B : { word 1 { [0:1] = 1 } } };type P = Tagged(K, u8);layout P <9> = Tagged(_, _) : { word 9 { [0:1] .0, [1:8] .1 } };type D = Trio(P, u8, P);layout D <40> = split 0[0:1] { 0 => Trio(Tagged(A, _), _, _) : { word 40 { [0:1] = 0, [1:8] .0.1, [9:8] .1, [17:9] .2 } } 1 => Trio(Tagged(B, _), _, _) : { word 40 { [0:1] = 1, [1:8] .1, [9:8] .0.1, [17:9] .2 } } };fun main(d: D): u8 = match d { Trio(Tagged(A, 3), 7, Tagged(A, _)) => 1, Trio(_, 7, Tagged(B, _)) => 2, Trio(Tagged(B, x), 8, _) => x, Trio(p, _, q) => match p { Tagged(_, y) => y } };";
 
-/// File, value, answer.
+// File, value, answer.
 const ROWS: [(&str, &str, &str); 11] = [
     (FOUR, "Q4(A,A,B,B)", "0 1;"),
     (FOUR, "Q4(B,A,A,A)", "0 2;"),
@@ -35,7 +35,7 @@ fn clauses_of_values(rt: HostRuntime) -> Result<(), Fail> {
     Ok(())
 }
 
-/// The whole may cost two switches, each of two bits and two numbers one.
+// The whole may cost two switches, each of two bits and two numbers one.
 #[test]
 fn a_test_between(rt: HostRuntime) -> Result<(), Fail> {
     expect_counts(

@@ -11,11 +11,11 @@ use rb_rows_calls::surprise::Surprise;
 use std::alloc::Global;
 use std::test::Fail;
 
-/// A list is built by recursion, and summed.
+// A list is built by recursion, and summed.
 const BUILT: &str =
     "type List = Nil | Cons(u64, List); layout List <64> = split 0[0:1] { 1 => Nil : { word 64 { [0:1] = 1 } } 0 => Cons(_, _) : { word 64 { [0:1] = 0, [3:61] -> 8 { word 64 { [0:64] .0 }, inline .1 } } } };fun build(n: u64): List = match n { 0 => Nil, _ => Cons(n, build(sub(n, 1))) };fun sum(l: List): u64 = match l { Nil => 0, Cons(x, r) => add(x, sum(r)) };fun main(n: u64): u64 = sum(build(n));";
 
-/// File, values, the value of `main`, the calls and the region that are needed, and the last block that is asked for.
+// File, values, the value of `main`, the calls and the region that are needed, and the last block that is asked for.
 const OF_LISTS: [(&str, &str, &str, u64, u64, &str); 7] = [
     (
         SUM,
@@ -68,7 +68,7 @@ const OF_LISTS: [(&str, &str, &str, u64, u64, &str); 7] = [
     ),
 ];
 
-/// The same of trees, shapes and pairs.
+// The same of trees, shapes and pairs.
 const OF_OTHERS: [(&str, &str, &str, u64, u64, &str); 7] = [
     (
         INSERT,
@@ -121,7 +121,7 @@ const OF_OTHERS: [(&str, &str, &str, u64, u64, &str); 7] = [
     ),
 ];
 
-/// Looks whether a run with these limits answers so.
+// Looks whether a run with these limits answers so.
 fn expect_run(
     alloc: Global,
     file: &str,
@@ -134,7 +134,7 @@ fn expect_run(
     expect_answer(alloc, words.as_str(), file.as_bytes(), wanted)
 }
 
-/// Looks at a program at its needs, above both, and below each.
+// Looks at a program at its needs, above both, and below each.
 fn expect_need(alloc: Global, need: (&str, &str, &str, u64, u64, &str)) -> Result<(), Surprise> {
     let (file, values, value, calls, region, last) = need;
     let fewer = calls.saturating_sub(1);
@@ -165,7 +165,7 @@ fn others_at_their_needs(rt: HostRuntime) -> Result<(), Fail> {
     Ok(())
 }
 
-/// File, limits and values, answer: where both limits would be passed, the first is named.
+// File, limits and values, answer: where both limits would be passed, the first is named.
 const FIRST: [(&str, &str, &str); 6] = [
     (UP, "3 111 3", "4 ribbit: calls spent: 3;"),
     (

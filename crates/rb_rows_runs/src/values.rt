@@ -8,7 +8,7 @@ use rb_rows_calls::surprise::Surprise;
 use std::alloc::Global;
 use std::test::Fail;
 
-/// Looks what `value` answers to the image of a file, which has the name `I`.
+// Looks what `value` answers to the image of a file, which has the name `I`.
 fn expect_value(alloc: Global, file: &str, image: &str, wanted: &str) -> Result<(), Surprise> {
     let image = lines(alloc, image)?;
     expect_over(alloc, file.as_bytes(), image.as_slice(), wanted)
@@ -24,7 +24,7 @@ fn expect_over<'a>(
     expect_answer_over(alloc, "value E I", &held, wanted)
 }
 
-/// Images of a list.
+// Images of a list.
 const LISTS: [(&str, &str); 40] = [
     // as `image` writes it
     (
@@ -219,7 +219,7 @@ const LISTS: [(&str, &str); 40] = [
     ),
 ];
 
-/// Images of a shape, whose tag stands behind its pointer.
+// Images of a shape, whose tag stands behind its pointer.
 const SHAPES: [(&str, &str); 11] = [
     // as `image` writes it
     ("root 0x10;block 64 9 010100000002000000;", "0 Box(1, 2);"),
@@ -272,7 +272,7 @@ const SHAPES: [(&str, &str); 11] = [
     ),
 ];
 
-/// Images of a tree, a node's color in the lowest bit of a pointer.
+// Images of a tree, a node's color in the lowest bit of a pointer.
 const TREES: [(&str, &str); 9] = [
     // as `image` writes it
     (
@@ -318,7 +318,7 @@ const TREES: [(&str, &str); 9] = [
     ),
 ];
 
-/// Images of an instruction, which has no split, and of a pair in two blocks.
+// Images of an instruction, which has no split, and of a pair in two blocks.
 const OTHERS: [(&str, &str, &str); 8] = [
     // as `image` writes it
     (BRANCH, "root 0x208463;", "0 Branch(0, 1, 2, 4);"),
@@ -394,7 +394,7 @@ fn instructions_and_pairs(rt: HostRuntime) -> Result<(), Fail> {
     Ok(())
 }
 
-/// Words of `main` that gives back its argument, or a value of its own.
+// Words of `main` that gives back its argument, or a value of its own.
 const BACK: [(&str, &str); 9] = [
     (LIST, "1 1024 Nil"),
     (LIST, "1 1024 Cons(1,Cons(2,Nil))"),
@@ -407,7 +407,7 @@ const BACK: [(&str, &str); 9] = [
     (OPTION, "1 1024 Yes(Node(Red,Empty,1,Empty))"),
 ];
 
-/// What `image` prints of a value is read back as what `run` prints of it.
+// What `image` prints of a value is read back as what `run` prints of it.
 #[test]
 fn images_are_read_back(rt: HostRuntime) -> Result<(), Fail> {
     let alloc = rt.alloc();
@@ -424,7 +424,7 @@ fn images_are_read_back(rt: HostRuntime) -> Result<(), Fail> {
     Ok(())
 }
 
-/// Thirty blocks, each with twice the block before it: 2,147,483,647 nodes.
+// Thirty blocks, each with twice the block before it: 2,147,483,647 nodes.
 #[test]
 fn a_value_of_too_many_nodes(rt: HostRuntime) -> Result<(), Fail> {
     let alloc = rt.alloc();
@@ -454,7 +454,7 @@ fn a_value_of_too_many_nodes(rt: HostRuntime) -> Result<(), Fail> {
     Ok(())
 }
 
-/// An integer's image is one word.
+// An integer's image is one word.
 #[test]
 fn integers(rt: HostRuntime) -> Result<(), Fail> {
     let rows = [
@@ -470,7 +470,7 @@ fn integers(rt: HostRuntime) -> Result<(), Fail> {
     Ok(())
 }
 
-/// The file is read and checked before the image is opened; a name may be that of both.
+// The file is read and checked before the image is opened; a name may be that of both.
 #[test]
 fn a_file_before_its_image(rt: HostRuntime) -> Result<(), Fail> {
     let alloc = rt.alloc();
@@ -540,7 +540,7 @@ fn a_file_before_its_image(rt: HostRuntime) -> Result<(), Fail> {
     Ok(())
 }
 
-/// An image over its limit is read one byte further.
+// An image over its limit is read one byte further.
 #[test]
 fn an_image_over_the_limit(rt: HostRuntime) -> Result<(), Fail> {
     let alloc = rt.alloc();

@@ -18,7 +18,7 @@ use std::alloc::{AllocError, Global};
 use std::process::Abort;
 use std::test::Fail;
 
-/// Checks that a layout is shown as the wanted text.
+// Checks that a layout is shown as the wanted text.
 fn expect(
     rt: &impl Abort,
     alloc: Global,
@@ -34,7 +34,7 @@ fn expect(
     Ok(())
 }
 
-/// A split of one bit of the first root word: 0 leads to the first leaf, 1 to the second.
+// A split of one bit of the first root word: 0 leads to the first leaf, 1 to the second.
 fn by_bit(alloc: Global, bit: u64) -> Result<FlatTree, AllocError> {
     let arms = [arm(0, FlatTree::Leaf(0)), arm(1, FlatTree::Leaf(1))];
     split(alloc, loc(alloc, 0, bit, 1, [])?, arms)

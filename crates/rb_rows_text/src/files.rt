@@ -10,7 +10,7 @@ use rb_syntax::tree::{ExprTree, FileTree, ItemTree, Op, PatTree};
 use std::alloc::Global;
 use std::test::Fail;
 
-/// Files.
+// Files.
 const FILES: &str = "
 type Bit = Off | On; type List = Nil | Cons(u64, List); type P = P(u1, Bit);
 fun main(x: u8, y: u8): u8 = add(x, mul(y, 3)); fun none(): Bit = Off;
@@ -21,7 +21,7 @@ layout I <32, 8> = Branch(_, C(_, N)) : { word 32 { [0:7] = 99, [7:1] .3.0[10:1]
 layout S <32> = split 0[0:32] -> 4 @0:8[0:8] -> 8 @16:64[0:1] { 0 => A : { inline .0.1 } else => split 1[0:1] { else => B : { inline .0 } } };
 layout N <8> = split 0[0:8] { 0 => A : { word 8 { [0:8] -> 4 { } } } };";
 
-/// Items that are cut short or wrong, and layouts that are left to the compiler.
+// Items that are cut short or wrong, and layouts that are left to the compiler.
 const FAULTS: &str = "type Bit = Off | On; layout Bit <8> = split 0[0:1] { 0 => Off~
 fun main(x: u8,~): u8 = x;
 fun main(): u8 = add(1~);
@@ -39,7 +39,7 @@ layout A = packed; layout B = boxed;
 layout A = packed; layout B = ~boxes;
 layout A = packed~";
 
-/// Types, as a function's result.
+// Types, as a function's result.
 const TYPES: &str = "fun f(): u8 = 0;
 fun f(): u64 ~x = 0;
 fun f(): Tree = 0;
@@ -47,7 +47,7 @@ fun f(): ~u65 = 0;
 fun f(): ~type = 0;
 fun f():~";
 
-/// Constructors.
+// Constructors.
 const CONSTRUCTORS: &str = "type T = Leaf | Node;
 type T = Node(u8, Tree);
 type T = Node(~);
@@ -55,14 +55,14 @@ type T = Node(u8 ~Tree);
 type T = Node(u8,~
 type T = ~node;";
 
-/// Parameters.
+// Parameters.
 const PARAMETERS: &str = "fun f(x: u8): u8 = 0;
 fun f(xs: List): u8 = 0;
 fun f(x ~u8): u8 = 0;
 fun f(~X: u8): u8 = 0;
 fun f(x:~";
 
-/// What is no expression.
+// What is no expression.
 const EXPRESSIONS: &str = "fun f(): u8 = ~in;
 fun f(): u8 = ~u8;
 fun f(): u8 = ~(x);
@@ -102,7 +102,7 @@ fn no_expressions(rt: HostRuntime) -> Result<(), Fail> {
     expect_each(&rt, rt.alloc(), EXPRESSIONS)
 }
 
-/// The tree of a text.
+// The tree of a text.
 fn tree(alloc: Global, text: &[u8]) -> Result<FileTree, Fail> {
     let placed = lex(alloc, text)?;
     if placed.len() < 1 << 32 {
@@ -113,7 +113,7 @@ fn tree(alloc: Global, text: &[u8]) -> Result<FileTree, Fail> {
     })
 }
 
-/// The body of the first function.
+// The body of the first function.
 fn body(file: &FileTree) -> Option<&ExprTree> {
     match file.items.get(0)? {
         ItemTree::Funs(fun) => Some(&fun.body),
@@ -121,7 +121,7 @@ fn body(file: &FileTree) -> Option<&ExprTree> {
     }
 }
 
-/// The pattern of a match's first clause.
+// The pattern of a match's first clause.
 fn pattern(body: &ExprTree) -> Option<&PatTree> {
     match body {
         ExprTree::Match(_, _, clauses) => Some(&clauses.get(0)?.pat),
@@ -139,7 +139,7 @@ fn trees(rt: HostRuntime) -> Result<(), Fail> {
     Ok(())
 }
 
-/// A front, a part, a back, how many parts are within the limit, and what is over it with one more.
+// A front, a part, a back, how many parts are within the limit, and what is over it with one more.
 type LimitRow = (
     &'static [u8],
     &'static [u8],

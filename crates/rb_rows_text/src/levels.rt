@@ -5,10 +5,10 @@ use crate::reading::{expect, repeated};
 use std::alloc::{AllocError, Global};
 use std::test::Fail;
 
-/// The greatest level.
+// The greatest level.
 const LEVELS: usize = 128;
 
-/// A function whose body begins so many levels above the deepest one allowed, and ends in this.
+// A function whose body begins so many levels above the deepest one allowed, and ends in this.
 fn expression(alloc: Global, levels: usize, inner: &str) -> Result<Vec<u8>, AllocError> {
     let around = LEVELS.saturating_sub(levels);
     let closed = repeated(alloc, inner.as_bytes(), b")", around, b";")?;
@@ -21,7 +21,7 @@ fn expression(alloc: Global, levels: usize, inner: &str) -> Result<Vec<u8>, Allo
     )
 }
 
-/// A layout with a leaf of this provenance, which begins so many levels above the deepest one allowed.
+// A layout with a leaf of this provenance, which begins so many levels above the deepest one allowed.
 fn provenance(alloc: Global, levels: usize, inner: &str) -> Result<Vec<u8>, AllocError> {
     let around = LEVELS.saturating_sub(levels).saturating_sub(1);
     let closed = repeated(alloc, b": { inline .0 }", b" }", around, b";")?;
@@ -31,14 +31,14 @@ fn provenance(alloc: Global, levels: usize, inner: &str) -> Result<Vec<u8>, Allo
     repeated(alloc, b"layout T <8> = ", split, around, tree.as_slice())
 }
 
-/// A layout with this tree below so many splits.
+// A layout with this tree below so many splits.
 fn tree(alloc: Global, splits: usize, inner: &str) -> Result<Vec<u8>, AllocError> {
     let closed = repeated(alloc, inner.as_bytes(), b" }", splits, b";")?;
     let split = b"split 0[0:1] { 0 => ";
     repeated(alloc, b"layout T <8> = ", split, splits, closed.as_slice())
 }
 
-/// A layout of one leaf with these items in so many pointer parts, one in the block of the other.
+// A layout of one leaf with these items in so many pointer parts, one in the block of the other.
 fn pointers(alloc: Global, parts: usize, inner: &str) -> Result<Vec<u8>, AllocError> {
     let closed = repeated(alloc, inner.as_bytes(), b" } }", parts, b" };")?;
     let part = b"word 8 { [0:8] -> 8 { ";
@@ -46,7 +46,7 @@ fn pointers(alloc: Global, parts: usize, inner: &str) -> Result<Vec<u8>, AllocEr
     repeated(alloc, front, part, parts, closed.as_slice())
 }
 
-/// Expressions, each with so many levels as it needs.
+// Expressions, each with so many levels as it needs.
 const EXPRESSIONS: [(usize, &str); 16] = [
     (1, "7"),
     (1, "x"),
@@ -66,7 +66,7 @@ const EXPRESSIONS: [(usize, &str); 16] = [
     (3, "match x { Nil => 0, Cons(y, _) => y }"),
 ];
 
-/// Expressions with too few levels, and what is none at a level too deep.
+// Expressions with too few levels, and what is none at a level too deep.
 const DEEP: [(usize, &str); 7] = [
     (0, "!x"),
     (0, "!add"),
@@ -77,7 +77,7 @@ const DEEP: [(usize, &str); 7] = [
     (2, "match x { Nil => 0, Cons(!y, _) => y }"),
 ];
 
-/// Patterns, a level below their match.
+// Patterns, a level below their match.
 const PATTERNS: [(usize, &str); 13] = [
     (2, "match x { _ => 0 }"),
     (2, "match x { x => 0 }"),
@@ -94,7 +94,7 @@ const PATTERNS: [(usize, &str); 13] = [
     (2, "match x { Cons(~() => 0 }"),
 ];
 
-/// Provenances.
+// Provenances.
 const PROVENANCES: [(usize, &str); 9] = [
     (1, "Nil"),
     (2, "Cons(_, Nil)"),
@@ -107,8 +107,8 @@ const PROVENANCES: [(usize, &str); 9] = [
     (0, "~_"),
 ];
 
-/// Trees, each below so many splits. A leaf is a level above its provenance, so none stands at the greatest
-/// level.
+// Trees, each below so many splits. A leaf is a level above its provenance, so none stands at the greatest
+// level.
 const TREES: [(usize, &str); 9] = [
     (126, "Nil : { inline .0 }"),
     (127, "split 0[0:1] { }"),
@@ -124,7 +124,7 @@ const TREES: [(usize, &str); 9] = [
     ),
 ];
 
-/// Items, each in so many pointer parts; the first of them is a level below the leaf.
+// Items, each in so many pointer parts; the first of them is a level below the leaf.
 const POINTERS: [(usize, &str); 6] = [
     (127, "inline .0"),
     (127, "word 8 { [0:8] .0 }"),

@@ -12,17 +12,17 @@ use rb_syntax::token::Placed;
 use std::alloc::{AllocError, Global};
 use std::test::Fail;
 
-/// What resolving a text's names gives, the names by their bytes.
+// What resolving a text's names gives, the names by their bytes.
 #[derive(Clone, Copy, PartialEq, Eq, Debug)]
 enum Found {
     Twice(usize),
     Unknown(usize),
     NoMain,
-    /// A program, want of memory, or another name than the one at its place.
+    // A program, want of memory, or another name than the one at its place.
     Other,
 }
 
-/// The byte at which a name stands, if it stands at this token.
+// The byte at which a name stands, if it stands at this token.
 fn byte_of(text: &[u8], placed: &[Placed], name: &Name, at: u32) -> Option<usize> {
     let byte = placed.get(at as usize)?.at;
     let rest = text.get(byte..)?;
@@ -54,7 +54,7 @@ fn outcome(alloc: Global, text: &[u8]) -> Result<Found, Fail> {
     }
 }
 
-/// A row without its mark, and the answer that the mark gives.
+// A row without its mark, and the answer that the mark gives.
 fn unmarked(alloc: Global, row: &str) -> Result<(Vec<u8>, Found), AllocError> {
     let mut text = Vec::new(alloc);
     let mut wanted = Found::NoMain;
@@ -86,7 +86,7 @@ fn faults(rt: HostRuntime) -> Result<(), Fail> {
     Ok(())
 }
 
-/// The variable that an expression is, or a binding's body.
+// The variable that an expression is, or a binding's body.
 fn var_of(expr: &Expr) -> Option<u32> {
     match expr {
         Expr::Var(_, var) => Some(*var),
@@ -98,7 +98,7 @@ fn var_of(expr: &Expr) -> Option<u32> {
     }
 }
 
-/// The variables of the two operands of the first function's body.
+// The variables of the two operands of the first function's body.
 fn vars_of(program: &Program) -> Option<(u32, u32)> {
     match &program.funs.get(0)?.body {
         Expr::Binary(_, _, a, b) => Some((var_of(a.get())?, var_of(b.get())?)),

@@ -26,7 +26,7 @@ fn one<T: Drop>(alloc: Global, item: T) -> Result<Seq<T>, AllocError> {
     Ok(items)
 }
 
-/// Whether the tree has the tokens of the text.
+// Whether the tree has the tokens of the text.
 fn is_spelled(alloc: Global, tree: &FileTree, text: &[u8]) -> Result<bool, Fail> {
     let tokens = spell_file(alloc, tree)?;
     let placed = lex(alloc, text)?;
@@ -41,14 +41,14 @@ fn param(alloc: Global, at: u32, text: &[u8]) -> Result<ParamTree, AllocError> {
     })
 }
 
-/// `mul(y, 3)`
+// `mul(y, 3)`
 fn product(alloc: Global) -> Result<ExprTree, AllocError> {
     let y = Boxed::new(alloc, ExprTree::Var(20, name(alloc, 20, b"y")?))?;
     let three = Boxed::new(alloc, ExprTree::Num(22, 3))?;
     Ok(ExprTree::Binary(18, Op::Mul, y, three))
 }
 
-/// `add(x, mul(y, 3))`
+// `add(x, mul(y, 3))`
 fn sum(alloc: Global) -> Result<ExprTree, AllocError> {
     let x = Boxed::new(alloc, ExprTree::Var(16, name(alloc, 16, b"x")?))?;
     let product = Boxed::new(alloc, product(alloc)?)?;
@@ -86,13 +86,13 @@ fn path(alloc: Global, fields: &[u32]) -> Result<Seq<u32>, AllocError> {
     Ok(Seq::from_vec(Vec::from_slice(alloc, fields)?))
 }
 
-/// A block with the words of a field.
+// A block with the words of a field.
 fn pointer(alloc: Global) -> Result<PartKind, AllocError> {
     let item = LayItem::Inline(path(alloc, &[1])?);
     Ok(PartKind::Pointer(4, one(alloc, item)?))
 }
 
-/// A word with a part of each kind.
+// A word with a part of each kind.
 fn word(alloc: Global) -> Result<LayItem, AllocError> {
     let slice = PartKind::Slice(path(alloc, &[3])?, 10, 1);
     let whole = PartKind::Whole(path(alloc, &[0, 1])?);

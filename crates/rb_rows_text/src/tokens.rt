@@ -7,7 +7,7 @@ use rb_syntax::token::{Placed, Symbol, Token, WORDS, Word};
 use std::alloc::Global;
 use std::test::Fail;
 
-/// The syntax files in editors/ have the lexer's words, in its order.
+// The syntax files in editors/ have the lexer's words, in its order.
 #[test]
 fn reserved_words(rt: HostRuntime) -> Result<(), Fail> {
     let tokens = lex(rt.alloc(), RESERVED)?;
@@ -117,7 +117,7 @@ fn pieces_without_blanks(rt: HostRuntime) -> Result<(), Fail> {
     Ok(())
 }
 
-/// Whether a refusal is by a wide number, and its byte.
+// Whether a refusal is by a wide number, and its byte.
 fn refusal(alloc: Global, text: &[u8]) -> Option<(bool, usize)> {
     match lex(alloc, text) {
         Err(LexFault::BadByte(at)) => Some((false, at)),

@@ -24,7 +24,7 @@ fn order_of_refusals(rt: HostRuntime) -> Result<(), Fail> {
     Ok(())
 }
 
-/// The list of the numbers from 1 to the count: twice as many nodes and one, and as deep as the count.
+// The list of the numbers from 1 to the count: twice as many nodes and one, and as deep as the count.
 fn list(alloc: Global, count: u64) -> Result<Vec<u8>, Fail> {
     let mut text = Vec::new(alloc);
     for number in 1..=count {

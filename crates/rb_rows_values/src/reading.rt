@@ -48,7 +48,7 @@ pub fn outcome(
     }
 }
 
-/// Checks that a row without its mark has the answer that its mark gives.
+// Checks that a row without its mark has the answer that its mark gives.
 fn expect(rt: &impl Abort, alloc: Global, ty: Ty, row: &[u8]) -> Result<(), Fail> {
     let mut text = Vec::new(alloc);
     let mut wanted = Found::Value;

@@ -7,7 +7,7 @@ use crate::types::{COLOR, LIST, PAIR, TREE};
 use rb_core::types::Ty;
 use std::test::Fail;
 
-/// Lists: values, and texts that spell none.
+// Lists: values, and texts that spell none.
 const LISTS: &str = "Nil
 Cons(1, Cons(2, Nil))
 Cons(18446744073709551615, Nil)
@@ -43,7 +43,7 @@ Cons(1, Nil) ~/
 Nil~/
 Cons(Nil)~(";
 
-/// Lists: nodes that do not fit.
+// Lists: nodes that do not fit.
 const MISFITS: &str = "!1
 !Red
 !Cons
@@ -58,14 +58,14 @@ Cons(1, !Cons(Nil, 2, 3))
 Cons(!Nil, Cons(2, 3))
 Cons(1, Cons(1, Cons(18446744073709551615, !Cons)))";
 
-/// Trees.
+// Trees.
 const TREES: &str = "Node(Black, Empty, 7, Empty)
 Node(Red, Node(Black, Empty, 4294967295, Empty), 0, Empty)
 Node(Red, Node(Black, Empty, 4294967295, Empty), 0, !Node)
 Node(Red, Node(Black, Empty, !4294967296, Empty), 0, Empty)
 Node(!Nil, Empty, 4294967296, Empty)";
 
-/// Pairs.
+// Pairs.
 const PAIRS: &str = "Pair(0, 255)
 Pair(255, !256)
 Pair(!256, X)

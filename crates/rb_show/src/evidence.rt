@@ -246,7 +246,7 @@ fn push_holding(text: &mut Vec<u8>, types: &[DataDecl], tys: &[u32]) -> Result<(
 ///
 /// # Errors
 ///
-/// `AllocError` where memory is wanting.
+/// Want of memory.
 pub(crate) fn push_evidence(
     text: &mut Vec<u8>,
     types: &[DataDecl],

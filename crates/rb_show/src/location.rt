@@ -43,7 +43,7 @@ fn push_steps(text: &mut Vec<u8>, steps: &[Step]) -> Result<(), AllocError>
 ///
 /// # Errors
 ///
-/// `AllocError` where memory is wanting.
+/// Want of memory.
 pub fn push_loc(text: &mut Vec<u8>, loc: &Loc) -> Result<(), AllocError>
     ensures { OnOk result (text.new.items ≡ text.old.items ++ loc_text loc.now) }
 {

@@ -44,7 +44,7 @@ fn push_closing(text: &mut Vec<u8>, fields: &[Pat]) -> Result<(), AllocError>
 ///
 /// # Errors
 ///
-/// `AllocError` where memory is wanting.
+/// Want of memory.
 #[cycle(showing)]
 pub fn push_pattern(text: &mut Vec<u8>, types: &[DataDecl], pat: &Pat) -> Result<(), AllocError>
     ensures { OnOk result (text.new.items ≡ text.old.items ++ pattern_text types.now pat.now) }

@@ -60,7 +60,7 @@ fn push_place(
 ///
 /// # Errors
 ///
-/// `AllocError` where memory is wanting.
+/// Want of memory.
 pub fn show_refusal(
     alloc: Global,
     types: &[DataDecl],

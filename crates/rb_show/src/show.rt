@@ -54,7 +54,7 @@ fn push_leaves(
 ///
 /// # Errors
 ///
-/// `AllocError` where memory is wanting.
+/// Want of memory.
 pub fn push_layout(
     alloc: Global,
     text: &mut Vec<u8>,
@@ -76,7 +76,7 @@ pub fn push_layout(
 ///
 /// # Errors
 ///
-/// `AllocError` where memory is wanting.
+/// Want of memory.
 pub fn show_layouts(alloc: Global, agreed: &Agreed) -> Result<Vec<u8>, AllocError>
     ensures { IfOk result (λ text. text.items ≡ layouts_text agreed.now.covered.program.types agreed.now.layouts) }
 {

@@ -3,7 +3,7 @@ use Rattle.std.proofs.Common.{◌≡◌, ℕ, zero, suc, List, [], ◌∷◌, �
 use Rattle.std.specs.Prelude.{slice_get}
 use Rattle.std.specs.Result.{result_err}
 use Rattle.std.specs.List.{flat_map}
-use Rattle.rb_core.specs.declared.value.Value.{Value}
+use Rattle.rb_core.specs.declared.value.Value.{Value, Num}
 use Rattle.rb_core.specs.declared.types.Ty.TheVariants.{Int}
 use Rattle.rb_core.specs.declared.typing.Binder.{Binder}
 use Rattle.rb_core.specs.declared.typing.TypeFault.{TypeFault}
@@ -13,14 +13,15 @@ use Rattle.rb_core.specs.declared.program.Program.{Program}
 use Rattle.rb_core.specs.Typing.{Typing, and_then, binder_of, twice_at, repeated, distinct_binders, params_of, param_types, result_of, result_type, type_of}
 use Rattle.rb_core.specs.TypedPrograms.{IsTyped, first_fault, layout_fault, function_fault}
 use Rattle.rb_core.specs.Coverage.{AreExhaustive, function_sites, sites_of}
-use Rattle.rb_core.specs.Meaning.{Calls, body_of, call_within}
+use Rattle.rb_core.specs.Meaning.{Calls, body_of, call_within, call_of}
 use Rattle.rb_core.proofs.ValueLaws.{is_of_type-Num}
 use Rattle.rb_core.proofs.InferenceAgreement.{wanted-is_found}
-use Rattle.rb_sound.specs.Soundness.{AreOfTypes, EndsAs, HasWords, TypedRunsEndTyped}
+use Rattle.rb_sound.specs.Words.{HasWords}
+use Rattle.rb_sound.specs.Soundness.{AreOfTypes, RunsAs, CallsRunTyped, ExpressionsRunTyped, OfTypedPrograms}
 use Rattle.rb_sound.proofs.Forms.{ok-same, came, exhaustive-append}
-use Rattle.rb_sound.proofs.Whole.{whole_bodies}
+use Rattle.rb_sound.proofs.Whole.{whole_of, whole_bodies}
 use Rattle.rb_sound.proofs.Scopes.{arguments_agree}
-use Rattle.rb_sound.proofs.Expressions.{typed_sound}
+use Rattle.rb_sound.proofs.Expressions.{done_runs, spent_runs, typed_sound}
 
 no_fault_behind : (a b : List (Option TypeFault)) → first_fault (a ++ b) ≡ None → first_fault b ≡ None
 no_fault_behind [] b e = e
@@ -52,7 +53,7 @@ covered_at p (k ∷ fs) (suc g) f h is = covered_at p fs g f (exhaustive-append 
 
 module _ (p : Program) (typed : IsTyped p) (covered : AreExhaustive p.types (sites_of p)) (words : HasWords p) where
   abbrev AreSound : Calls → Type 0
-  AreSound calls = (g n : ℕ) (vs : List Value) → AreOfTypes p.types vs (param_types p.funs g) → EndsAs p.types (result_type p.funs g) (calls g n vs).end
+  AreSound calls = (g n : ℕ) (vs : List Value) → AreOfTypes p.types vs (param_types p.funs g) → RunsAs p.types (result_type p.funs g) (calls g n vs)
 
   body_typed : (g : ℕ) (f : Fun) → slice_get p.funs g ≡ Some f → type_of p.types p.funs f.body (Some f.result) (map binder_of f.params) ≡ Ok f.result
   body_typed g f is =
@@ -62,15 +63,26 @@ module _ (p : Program) (typed : IsTyped p) (covered : AreExhaustive p.types (sit
       let same = wanted-is_found p.types p.funs f.body f.result h.from ok.0 h.then_is in
       ap (type_of p.types p.funs f.body (Some f.result)) (twice_are (repeated f.params) f.params h.from h.first_is) ∙ h.then_is ∙ ap (λ t. Ok t) (sym same)
 
-  body_sound : (calls : Calls) → AreSound calls → (o : Option Fun) (g left : ℕ) (vs : List Value) → slice_get p.funs g ≡ o → AreOfTypes p.types vs (map (λ q. q.ty) (params_of o)) → EndsAs p.types (result_of o) (body_of p calls o g left vs).end
-  body_sound calls sound None g left vs is h = is_of_type-Num p.types 0 (Int 64)
+  body_sound : (calls : Calls) → AreSound calls → (o : Option Fun) (g left : ℕ) (vs : List Value) → slice_get p.funs g ≡ o → AreOfTypes p.types vs (map (λ q. q.ty) (params_of o)) → RunsAs p.types (result_of o) (body_of p calls o g left vs)
+  body_sound calls sound None g left vs is h = done_runs p.types (Int 64) (Num 0) left (is_of_type-Num p.types 0 (Int 64))
   body_sound calls sound (Some f) g left vs is h =
       typed_sound p calls sound g f.body (Some f.result) (map binder_of f.params) left _ f.result (body_typed g f is) (whole_bodies p typed.numbered words g f is) (covered_at p p.funs g f covered is) (arguments_agree p.types f.params vs h)
 
   within_sound : (k : ℕ) → AreSound (call_within p k)
-  within_sound k g zero vs h = tt
-  within_sound zero g (suc n) vs h = tt
+  within_sound k g zero vs h = spent_runs p.types (result_type p.funs g)
+  within_sound zero g (suc n) vs h = spent_runs p.types (result_type p.funs g)
   within_sound (suc k) g (suc n) vs h = body_sound (call_within p k) (within_sound k) (slice_get p.funs g) g n vs refl h
 
-pub typed_calls : TypedRunsEndTyped
-typed_calls p typed covered words g n vs h = within_sound p typed covered words n g n vs h
+  calls_sound : CallsRunTyped p
+  calls_sound g n vs h = within_sound n g n vs h
+
+  expressions_sound : ExpressionsRunTyped p
+  expressions_sound f left e wanted scope env t h agree =
+      typed_sound p (call_of p) calls_sound f e wanted scope left env t h.typed
+      (whole_of p.types p.funs e (map (λ b. b.var) scope) h.numbered h.words) h.exhaustive agree
+
+pub typed_calls : OfTypedPrograms CallsRunTyped
+typed_calls p typed covered words = calls_sound p typed covered words
+
+pub typed_expressions : OfTypedPrograms ExpressionsRunTyped
+typed_expressions p typed covered words = expressions_sound p typed covered words

@@ -22,7 +22,7 @@ use Rattle.rb_core.proofs.PatternLaws as PL
 use Rattle.rb_core.proofs.MatchingForms.{matches-Con, bindings-Wild, bindings-Var, bindings-Num, bindings-Con}
 use Rattle.rb_core.proofs.TypingLemmas.{pattern-Con}
 use Rattle.rb_core.proofs.InferenceAgreement.{binders-Wild, binders-Var, binders-Num, binders-Con}
-use Rattle.rb_sound.specs.Soundness.{AreOfTypes}
+use Rattle.rb_sound.specs.Soundness.{AreOfTypes, AreInScope}
 use Rattle.rb_sound.proofs.Forms.{came, constructed, same_type-is, both}
 
 module _ (types : List DataDecl) where
@@ -30,10 +30,7 @@ module _ (types : List DataDecl) where
   IsOf v t = is_of_type types v t ≡ true
 
   abbrev pub Agree : List Binder → List Binding → Type 0
-  Agree [] [] = Unit {0}
-  Agree [] (v ∷ vs) = ⊥
-  Agree (b ∷ bs) [] = ⊥
-  Agree (b ∷ bs) (v ∷ vs) = (b.var ≡ v.var) × IsOf v.value b.ty × Agree bs vs
+  Agree = AreInScope types
 
   pub agree-append : (s s' : List Binder) (e e' : List Binding) → Agree s e → Agree s' e' → Agree (s ++ s') (e ++ e')
   agree-append [] s' [] e' h h' = h'

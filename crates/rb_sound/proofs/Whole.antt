@@ -18,7 +18,7 @@ use Rattle.rb_core.specs.declared.expression.Expr.TheFolds.{fold-Expr, fold-roll
 use Rattle.rb_core.specs.Values.{fields_of}
 use Rattle.rb_core.specs.WellNumbered.{Within, is_lower, is_type, param_is_numbered, expression_step, clause_step, expression_is_numbered, function_is_numbered, vars_of, IsWellNumbered}
 use Rattle.rb_core.proofs.ExpressionLaws.{Each, EachBody, induction}
-use Rattle.rb_sound.specs.Soundness.{all_true, words_step, words_clause, has_words, HasWords}
+use Rattle.rb_sound.specs.Words.{all_true, words_step, words_clause, has_words, clause_has_words, body_has_words, HasWords}
 use Rattle.rb_sound.proofs.Forms.{both, and_true}
 
 abbrev pub whole_step : List DataDecl → Expr-F Bool Bool → Bool
@@ -74,10 +74,7 @@ module _ (types : List DataDecl) where
   unfolding X.roll-Expr denote.Hole.Carrier.roll
   whole-Match at e cs = fold-roll-Expr Bool Bool (whole_step types) whole_clause (E.Match at e cs)
 
-abbrev clause_words : Clause → Bool
-clause_words = fold-Clause Bool Bool words_step words_clause
-
-clause_words-is : (c : Clause) → clause_words c ≡ has_words c.body
+clause_words-is : (c : Clause) → clause_has_words c ≡ has_words c.body
 clause_words-is c = fold_out-Clause Bool Bool words_step words_clause c
 
 words-Num : (at n : ℕ) → has_words (X.Num at n) ≡ nat_lt n (2 ^ 64)
@@ -104,7 +101,7 @@ words-Let : (at x : ℕ) (t : Ty) (a b : Expr) → has_words (X.Let at x t a b) 
 unfolding X.roll-Expr denote.Hole.Carrier.roll
 words-Let at x t a b = fold-roll-Expr Bool Bool words_step words_clause (E.Let at x t a b)
 
-words-Match : (at : ℕ) (e : Expr) (cs : List Clause) → has_words (X.Match at e cs) ≡ (has_words e && all_true (map clause_words cs))
+words-Match : (at : ℕ) (e : Expr) (cs : List Clause) → has_words (X.Match at e cs) ≡ (has_words e && all_true (map clause_has_words cs))
 unfolding X.roll-Expr denote.Hole.Carrier.roll
 words-Match at e cs = fold-roll-Expr Bool Bool words_step words_clause (E.Match at e cs)
 
@@ -130,10 +127,10 @@ module _ (types : List DataDecl) (funs : List Fun) where
       let ns = both (numbered e xs) _ n in let ws = both (has_words e) _ w in
       and_true (is_whole types e) _ (each.0 xs ns.0 ws.0) (all_whole es each.1 xs ns.1 ws.1)
 
-  clauses_whole : (cs : List Clause) → EachBody IsWhole cs → (xs : List ℕ) → list_all (λ (w : Within). w xs) (map clause_numbered cs) ≡ true → all_true (map clause_words cs) ≡ true → all_true (map (clause_whole types) cs) ≡ true
+  clauses_whole : (cs : List Clause) → EachBody IsWhole cs → (xs : List ℕ) → list_all (λ (w : Within). w xs) (map clause_numbered cs) ≡ true → all_true (map clause_has_words cs) ≡ true → all_true (map (clause_whole types) cs) ≡ true
   clauses_whole [] each xs n w = refl
   clauses_whole (c ∷ cs) each xs n w =
-      let ns = both (clause_numbered c xs) _ n in let ws = both (clause_words c) _ w in
+      let ns = both (clause_numbered c xs) _ n in let ws = both (clause_has_words c) _ w in
       let inside = both _ (numbered c.body (vars_of c.pat ++ xs)) (sym (clause_numbered-is c xs) ∙ ns.0) in
       and_true (clause_whole types c) _ (clause_whole-is types c ∙ each.0 (vars_of c.pat ++ xs) inside.1 (sym (clause_words-is c) ∙ ws.0)) (clauses_whole cs each.1 xs ns.1 ws.1)
 
@@ -172,10 +169,15 @@ module _ (types : List DataDecl) (funs : List Fun) where
   all_at (h ∷ fs) zero f n e = let here : h ≡ f = cc in ap (function_is_numbered types funs) (sym here) ∙ (both (function_is_numbered types funs h) _ n).0
   all_at (h ∷ fs) (suc g) f n e = all_at fs g f (both (function_is_numbered types funs h) _ n).1 e
 
+words_at : (fs : List Fun) (g : ℕ) (f : Fun) → all_true (map body_has_words fs) ≡ true → slice_get fs g ≡ Some f → has_words f.body ≡ true
+words_at [] g f all e = cc
+words_at (h ∷ fs) zero f all e = let here : h ≡ f = cc in ap body_has_words (sym here) ∙ (both (body_has_words h) _ all).0
+words_at (h ∷ fs) (suc g) f all e = words_at fs g f (both (body_has_words h) _ all).1 e
+
 pub whole_bodies : (p : Program) → IsWellNumbered p → HasWords p → (g : ℕ) (f : Fun) → slice_get p.funs g ≡ Some f → is_whole p.types f.body ≡ true
 whole_bodies p n words g f e =
     let named = both (is_lower f.name) _ (all_at p.types p.funs p.funs g f n.functions e) in
     let counted = both (nat_le (length f.params) 32) _ named.1 in
     let params = both (list_all (param_is_numbered p.types) f.params) _ counted.1 in
     let body = both (is_type p.types f.result) _ params.1 in
-    whole_of p.types p.funs f.body (map (λ q. q.var) f.params) body.1 (words g f e)
+    whole_of p.types p.funs f.body (map (λ q. q.var) f.params) body.1 (words_at p.funs g f words e)

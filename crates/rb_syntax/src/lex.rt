@@ -41,6 +41,12 @@ impl<T: Drop> From<AllocFailed<T>> for LexFault {
 }
 
 /// The tokens of a text, each with the byte at which it begins; or the first fault.
+///
+/// # Errors
+///
+/// `BadByte` at the first byte at which no token, blank or comment begins or goes on, or `NumberTooWide` at
+/// the first byte of a number of 2^64 or more, whichever stands first. `Memory` where memory is wanting,
+/// which says nothing of the text.
 pub fn lex(alloc: Global, bytes: &[u8]) -> Result<Vec<Placed>, LexFault>
     ensures answer { IsAnswer (lexed bytes.now) result }
     // the pieces are the text, and none could be longer
@@ -49,7 +55,7 @@ pub fn lex(alloc: Global, bytes: &[u8]) -> Result<Vec<Placed>, LexFault>
     tokens_of(alloc, bytes)
 }
 
-/// The pieces of a text, one after the other.
+// The pieces of a text, one after the other.
 fn tokens_of(alloc: Global, bytes: &[u8]) -> Result<Vec<Placed>, LexFault>
     ensures { IsAnswer (lexed bytes.now) result }
 {

@@ -24,7 +24,7 @@ pub enum Piece {
     Wide,
 }
 
-/// A run of digits and other bytes of words, of which the first is a digit.
+// A run of digits and other bytes of words, of which the first is a digit.
 #[tactic(auto, unfolding(crate::specs::Pieces::number_piece))]
 fn number_piece(run: &[u8]) -> Piece
     ensures { result ≡ piece.number_piece run.now }
@@ -39,7 +39,7 @@ fn number_piece(run: &[u8]) -> Piece
     }
 }
 
-/// A word or a name.
+// A word or a name.
 #[tactic(auto, unfolding(crate::specs::Pieces::name_token, crate::specs::Pieces::word_or_name, crate::specs::Pieces::width_or_name))]
 fn name_token(alloc: Global, first: u8, run: &[u8]) -> Result<Token, AllocError>
     ensures { IfOk result (λ t. t ≡ piece.name_token first run.now) }
@@ -56,7 +56,7 @@ fn name_token(alloc: Global, first: u8, run: &[u8]) -> Result<Token, AllocError>
     }
 }
 
-/// A run of bytes of words, of which this is the first.
+// A run of bytes of words, of which this is the first.
 #[tactic(auto, unfolding(crate::specs::Pieces::run_piece, crate::specs::Pieces::underscore_piece))]
 fn run_piece(alloc: Global, first: u8, run: &[u8]) -> Result<Piece, AllocError>
     ensures { IfOk result (λ p. p ≡ piece.run_piece first run.now) }
@@ -85,7 +85,7 @@ fn symbol_piece(bytes: &[u8]) -> Piece
     }
 }
 
-/// The piece at the front of bytes, of which this is the first.
+// The piece at the front of bytes, of which this is the first.
 #[tactic(auto, unfolding(crate::specs::Pieces::first_piece))]
 fn first_piece(alloc: Global, first: u8, bytes: &[u8]) -> Result<Piece, AllocError>
     ensures { IfOk result (λ p. p ≡ piece.first_piece first bytes.now) }
@@ -113,6 +113,10 @@ fn piece_at(alloc: Global, bytes: &[u8]) -> Result<Piece, AllocError>
 }
 
 /// The piece at the front of bytes. Where there are any, it has one and lies within them.
+///
+/// # Errors
+///
+/// Want of memory.
 pub fn next_piece(alloc: Global, bytes: &[u8]) -> Result<Piece, AllocError>
     ensures piece { IfOk result (λ p. p ≡ piece.piece_at bytes.now) }
     ensures within { 0 < length bytes.now → IfOk result (IsWithin (length bytes.now)) }

@@ -59,6 +59,10 @@ impl Builder {
     }
 
     /// Puts a number on top.
+    ///
+    /// # Errors
+    ///
+    /// Want of memory.
     pub fn number(&mut self, n: u64) -> Result<(), AllocError>
         ensures { OnOk result (self.new ≡ self.old ++ Num n ∷ []) }
     {
@@ -74,6 +78,10 @@ impl Builder {
     }
 
     /// Puts a construction of the last `n` values in their place.
+    ///
+    /// # Errors
+    ///
+    /// Want of memory.
     pub fn build(&mut self, con: u32, n: usize) -> Result<(), AllocError>
         requires { n ≤ length self.old }
         ensures { OnOk result (self.new ≡ take (length self.old - n) self.old

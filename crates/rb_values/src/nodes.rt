@@ -65,6 +65,10 @@ impl Nodes {
     }
 
     /// Adds a number at the end.
+    ///
+    /// # Errors
+    ///
+    /// Want of memory; the list stays as it is.
     pub fn push_number(&mut self, n: u64) -> Result<(), AllocError>
         ensures ok { OnOk result (self.new ≡ self.old ++ Num n ∷ []) }
         ensures err { OnErr result (self.new ≡ self.old) }
@@ -74,6 +78,10 @@ impl Nodes {
     }
 
     /// Adds a construction of earlier nodes at the end.
+    ///
+    /// # Errors
+    ///
+    /// Want of memory; the list stays as it is.
     pub fn push_build(&mut self, con: u32, children: &[usize]) -> Result<(), AllocError>
         requires { All (λ k. k < length self.old) children.now }
         ensures ok { OnOk result (self.new ≡ self.old ++ Con con (map (at self.old) children.now) ∷ []) }

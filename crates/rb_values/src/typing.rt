@@ -258,6 +258,10 @@ impl Typing {
     }
 
     /// A name that stands last is whole without fields.
+    ///
+    /// # Errors
+    ///
+    /// Want of memory.
     pub fn settle(&mut self, types: &[DataDecl]) -> Result<(), AllocError>
         ensures { OnOk result ((root : Type_) (s : State) → keep.IsTyped types.now root s self.old
             → keep.IsTyped types.now root (keep.settled s) self.new) }
@@ -303,6 +307,10 @@ impl Typing {
     }
 
     /// One more sign, with which a value goes on.
+    ///
+    /// # Errors
+    ///
+    /// Want of memory.
     pub fn step(&mut self, types: &[DataDecl], root: Ty, sign: Sign) -> Result<(), ValueFault>
         ensures { OnOk result ((s next : State) → step s sign ≡ Some next → keep.IsTyped types.now root s self.old
             → keep.IsTyped types.now root next self.new) }
@@ -325,6 +333,11 @@ impl Typing {
     }
 
     /// The value that was read, or the first node that does not fit.
+    ///
+    /// # Errors
+    ///
+    /// `ValueType` at the first node, outer before inner and left to right, that does not fit its type; or
+    /// want of memory.
     pub fn finish(self) -> Result<Forest, ValueFault>
         ensures { (types : List Decl) (root : Type_) (t : Term) → keep.IsTyped types root (complete t []) self
             → IsSettled types root t result }

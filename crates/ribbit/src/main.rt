@@ -8,10 +8,10 @@ use rb_edge::words::Words;
 use ribbit_tool::top::ribbit;
 use std::process::ExitCode;
 
-/// The status where the words take more memory than there is.
+// The status where the words take more memory than there is.
 const NO_MEMORY: u8 = 9;
 
-/// The status where the runtime does not hand out the words.
+// The status where the runtime does not hand out the words.
 const NO_WORDS: u8 = 17;
 
 fn main(rt: HostRuntime) -> ExitCode {

@@ -19,7 +19,7 @@ use Rattle.ribbit_tool.specs.Delivery.{Change}
 use Rattle.ribbit_tool.specs.Headline.{Says, OfCalls, Headline}
 use Rattle.ribbit_tool.specs.Promise.{Counting, Gives, IsRight}
 use Rattle.ribbit_tool.specs.Reading.{Source, ReadsOne, unread, within, too_long, not_read, handed_out, whole, file_limit}
-use Rattle.ribbit_tool.specs.Run.{IsAnswered, answer_due, source_answer, value_line, Prepares, PreparesFile, prepared, misfit}
+use Rattle.ribbit_tool.specs.Run.{Runs, answer_due, source_answer, value_line, Prepares, PreparesFile, prepared, misfit}
 use Rattle.ribbit_tool.proofs.ArgumentLaws.{never_misfit, same_values}
 use Rattle.ribbit_tool.proofs.OneCommand.{one_meaning}
 use Rattle.ribbit_tool.proofs.OneProgram.{one_program, accepted_unrefused}
@@ -102,7 +102,7 @@ module _ (shown : Value → List ℕ) (limits : Limits) (out err : Change) (step
   says answer.TooLarge n g = (g.status_is, g.shown.0, g.shown.1)
 
 abbrev Answered : Limits → LaidOut → List CodeFun → List Value → Due → Type 0
-Answered limits agreed code args due = IsAnswered agreed code args limits due
+Answered limits agreed code args due = Runs agreed code args limits due
 
 run_says : (p : Program) (args : List Value) (limits : Limits) (due : Due) → Ready (Answered limits) p args due
     → (out err : Change) (steps : Counting) (status : ℕ) → Gives due out err steps status → Says (value_line p) limits (source_answer p (flat_layouts p) limits args) out err status

@@ -22,12 +22,12 @@ use Rattle.rb_target.specs.declared.outcome.End.{End}
 use Rattle.ribbit_tool.specs.Answer.{Due, printed}
 use Rattle.ribbit_tool.specs.Answers.{Answers}
 use Rattle.ribbit_tool.specs.Command.{Limits, Parsed, image, count, gen, genrun}
-use Rattle.ribbit_tool.specs.Count.{IsCount, IsMainTally, count_text}
+use Rattle.ribbit_tool.specs.Count.{Counts, IsMainTally, count_text}
 use Rattle.ribbit_tool.specs.Delivery.{Change}
 use Rattle.ribbit_tool.specs.Exec.{end_due}
 use Rattle.ribbit_tool.specs.Generate.{generated}
 use Rattle.ribbit_tool.specs.Headlines.{SaysImage, ImageHeadline, SaysCount, CountHeadline, GenerateHeadline}
-use Rattle.ribbit_tool.specs.Image.{IsImage, IsImageOf, ShowWhole, image_text}
+use Rattle.ribbit_tool.specs.Image.{Images, IsImageOf, ShowWhole, image_text}
 use Rattle.ribbit_tool.specs.Promise.{Counting, Gives, IsRight}
 use Rattle.ribbit_tool.specs.Reading.{Source, handed_out}
 use Rattle.ribbit_tool.specs.Run.{answer_due, laid_all, source_answer, unbounded, whole_answer}
@@ -73,7 +73,7 @@ module _ (agreed : LaidOut) (args : List Value) (limits : Limits) (end : End) (m
   shows_end = at_end (laid_all p agreed.layouts limits args) (call_of p p.main limits.calls args).end refl called.ends
 
 abbrev Imaged : Limits → LaidOut → List CodeFun → List Value → Due → Type 0
-Imaged limits agreed code args due = IsImage agreed code args limits due
+Imaged limits agreed code args due = Images agreed code args limits due
 
 image_says : (p : Program) (args : List Value) (limits : Limits) (due : Due) → Ready (Imaged limits) p args due
     → (out err : Change) (steps : Counting) (status : ℕ) → Gives due out err steps status → SaysImage p args limits out err status
@@ -96,7 +96,7 @@ image_headlined = of_calls image Imaged SaysImage (λ file limits values reading
 -- Counts ------------------------------------------------------------------------------------
 
 abbrev Counted : Limits → LaidOut → List CodeFun → List Value → Due → Type 0
-Counted limits agreed code args due = IsCount agreed code args limits due
+Counted limits agreed code args due = Counts agreed code args limits due
 
 count_says : (p : Program) (args : List Value) (limits : Limits) (due : Due) → Ready (Counted limits) p args due
     → (out err : Change) (steps : Counting) (status : ℕ) → Gives due out err steps status → SaysCount p args limits out err status

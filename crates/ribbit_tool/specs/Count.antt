@@ -37,7 +37,7 @@ IsMainTally p layouts limits args tally = IsTally (laid_all p layouts limits arg
 
 -- The source's answer is due, its value with what the run did; the switches and the steps are those of the
 -- code's run on words that represent the values.
-pub record IsCount (agreed : LaidOut) (code : List CodeFun) (args : List Value) (limits : Limits) (due : Due) : Type 0 where
+pub record Counts (agreed : LaidOut) (code : List CodeFun) (args : List Value) (limits : Limits) (due : Due) : Type 0 where
   pub taken : ℕ
   pub tally : Tally
   pub counted : IsCounted agreed code args limits.calls (empty_memory limits.region) taken tally.switches
@@ -46,4 +46,4 @@ pub record IsCount (agreed : LaidOut) (code : List CodeFun) (args : List Value) 
 
 -- of a file within the limit
 abbrev pub CountsFile : Limits → List (List ℕ) → List ℕ → Due → Type 0
-CountsFile limits words bytes due = PreparesFile words bytes (λ agreed code args d. IsCount agreed code args limits d) due
+CountsFile limits words bytes due = PreparesFile words bytes (λ agreed code args d. Counts agreed code args limits d) due

@@ -14,16 +14,21 @@ use Rattle.ribbit_tool.specs.Arguments.{node_limit, Spell}
 use Rattle.ribbit_tool.specs.Command.{Command, Limits, Parsed, IsWordsOf, IsParsed, run}
 use Rattle.ribbit_tool.specs.Delivery.{Change, Took}
 use Rattle.ribbit_tool.specs.Lines.{spent_line, full_line, large_line}
+use Rattle.ribbit_tool.specs.Numbers.{status_number}
 use Rattle.ribbit_tool.specs.Promise.{IsCalm}
 use Rattle.ribbit_tool.specs.Reading.{Source, Gave}
 use Rattle.ribbit_tool.specs.Run.{value_line}
+use Rattle.ribbit_tool.specs.declared.status.Status.TheVariants.{Spent, Full, TooLarge}
 
 -- the status and the very text of the source's answer, by what is shown of its value
 abbrev pub Says : (Value → List ℕ) → Limits → answer.Answer → Change → Change → ℕ → Type 0
 Says shown limits (answer.Shown v) out err status = (status ≡ 0) × Took out (shown v) × Took err []
-Says shown limits answer.Spent out err status = (status ≡ 4) × Took out [] × Took err (spent_line limits.calls)
-Says shown limits (answer.Full f) out err status = (status ≡ 5) × Took out [] × Took err (full_line f)
-Says shown limits answer.TooLarge out err status = (status ≡ 13) × Took out [] × Took err (large_line node_limit)
+Says shown limits answer.Spent out err status =
+    (status ≡ status_number Spent) × Took out [] × Took err (spent_line limits.calls)
+Says shown limits (answer.Full f) out err status =
+    (status ≡ status_number Full) × Took out [] × Took err (full_line f)
+Says shown limits answer.TooLarge out err status =
+    (status ≡ status_number TooLarge) × Took out [] × Took err (large_line node_limit)
 
 -- What is promised of a command that calls `main`, where the file gave bytes that are accepted, its values
 -- are of `main`'s types, no write failed and memory did not run out.

@@ -67,7 +67,7 @@ abbrev pub ShowWhole : Program → List Layout → Limits → List Value → Lis
 ShowWhole p layouts limits args words m = (v : Value) → whole_answer p layouts limits args ≡ Shown v → IsImageOf p layouts limits args v words m
 
 -- The source's answer is due, and of its value, which is never too large, an image.
-pub record IsImage (agreed : LaidOut) (code : List CodeFun) (args : List Value) (limits : Limits) (due : Due) : Type 0 where
+pub record Images (agreed : LaidOut) (code : List CodeFun) (args : List Value) (limits : Limits) (due : Due) : Type 0 where
   pub taken : ℕ
   pub switches : ℕ
   pub counted : IsCounted agreed code args limits.calls (empty_memory limits.region) taken switches
@@ -78,4 +78,4 @@ pub record IsImage (agreed : LaidOut) (code : List CodeFun) (args : List Value) 
 
 -- of a file within the limit
 abbrev pub ImagesFile : Limits → List (List ℕ) → List ℕ → Due → Type 0
-ImagesFile limits words bytes due = PreparesFile words bytes (λ agreed code args d. IsImage agreed code args limits d) due
+ImagesFile limits words bytes due = PreparesFile words bytes (λ agreed code args d. Images agreed code args limits d) due

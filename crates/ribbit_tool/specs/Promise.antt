@@ -7,7 +7,9 @@ use Rattle.ribbit_tool.specs.Answers.{Answers, Owes, files_of}
 use Rattle.ribbit_tool.specs.Command.{Parsed, IsParsed}
 use Rattle.ribbit_tool.specs.Delivery.{Change, Took, CutOff, Tried, Stood, Delivers}
 use Rattle.ribbit_tool.specs.Lines.{write_fault_line}
+use Rattle.ribbit_tool.specs.Numbers.{status_number}
 use Rattle.ribbit_tool.specs.Reading.{Source, handed_out, ReadsInTurn}
+use Rattle.ribbit_tool.specs.declared.status.Status.TheVariants.{NoMemory, Unread}
 
 -- how many steps were counted before and after a call
 pub record Counting : Type 0 where
@@ -37,11 +39,11 @@ pub record Performs (words : List (List ℕ)) (source : Source) (out err : Chang
   pub due : Due
   pub owes : Owes parsed (handed_out source) due
   pub delivers : Delivers due out err status
-  pub counted : status_of due ≢ 9 → steps.now ≡ steps.before + steps_of due
+  pub counted : status_of due ≢ status_number NoMemory → steps.now ≡ steps.before + steps_of due
 
 -- no write failed, and memory did not run out
 abbrev pub IsCalm : Change → Change → ℕ → Type 0
-IsCalm out err status = Stood out × Stood err × (status ≢ 9)
+IsCalm out err status = Stood out × Stood err × (status ≢ status_number NoMemory)
 
 -- a write failed: of the output at status 0, and then the line of a write fault was tried; or of the error
 -- output at any other status. Each took a front of its text, and then no more.
@@ -64,12 +66,12 @@ pub record IsRight (words : List (List ℕ)) (source : Source) (out err : Change
   pub meant : IsParsed words parsed
   -- the files of the command were read in turn, each once at most and one byte over its limit at most
   pub reads : ReadsInTurn (files_of parsed) source
-  -- a status other than 8 and 9 is the right one for what was read, with its text and its steps; so a fault
-  -- is never taken for the end of a file
-  pub right : status ≢ 8 → status ≢ 9 → GivesAnswer parsed source out err steps status
+  -- a status other than 8 and that of memory run out is the right one for what was read, with its text and its
+  -- steps; so a fault is never taken for the end of a file
+  pub right : status ≢ 8 → status ≢ status_number NoMemory → GivesAnswer parsed source out err steps status
   -- where no write failed, the answer is the right one, or memory ran out
   pub complete : IsCalm out err status → GivesAnswer parsed source out err steps status
   -- a read fault has its cause: the count rose, or nothing is held under the name
-  pub read_fault : status ≡ 7 → Rose source.before source.now ⊎ IsMissing source
+  pub read_fault : status ≡ status_number Unread → Rose source.before source.now ⊎ IsMissing source
   -- a write fault has its cause, and the sinks took fronts of their texts
   pub write_fault : status ≡ 8 → (due : Due) × Owes parsed (handed_out source) due × IsCutOff due out err

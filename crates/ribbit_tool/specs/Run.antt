@@ -81,7 +81,7 @@ value_line p v = ended (text_of p.types v (result_type p.funs p.main))
 
 -- The source's answer is due, with the steps of the code's run on words that represent the values, over a
 -- fresh region.
-pub record IsAnswered (agreed : LaidOut) (code : List CodeFun) (args : List Value) (limits : Limits) (due : Due) : Type 0 where
+pub record Runs (agreed : LaidOut) (code : List CodeFun) (args : List Value) (limits : Limits) (due : Due) : Type 0 where
   pub taken : ℕ
   pub switches : ℕ
   pub counted : IsCounted agreed code args limits.calls (empty_memory limits.region) taken switches
@@ -89,4 +89,4 @@ pub record IsAnswered (agreed : LaidOut) (code : List CodeFun) (args : List Valu
 
 -- of a file within the limit
 abbrev pub RunsFile : Limits → List (List ℕ) → List ℕ → Due → Type 0
-RunsFile limits words bytes due = PreparesFile words bytes (λ agreed code args d. IsAnswered agreed code args limits d) due
+RunsFile limits words bytes due = PreparesFile words bytes (λ agreed code args d. Runs agreed code args limits d) due

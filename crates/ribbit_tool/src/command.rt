@@ -94,10 +94,10 @@ const LEAST_REGION: u64 = 64;
 
 const REGION: u64 = 16_777_216;
 
-/// The most functions of a generated file, `up` and `main` apart.
+// The most functions of a generated file, `up` and `main` apart.
 const FUNCTIONS: u64 = 2_000;
 
-/// The number of the first WORD behind `exec`.
+// The number of the first WORD behind `exec`.
 const FIRST_WORD: usize = 6;
 
 // CALLS and REGION, from the word of this number on, and the words behind them.

@@ -4,7 +4,7 @@ ghost use Rattle.std.specs.Prelude.{◌≡◌, ◌≤◌, ◌+◌, ◌++◌, ℕ
 ghost use Rattle.rb_run.specs.Answering.{meant_by};
 ghost use Rattle.ribbit_tool.specs.Answers.{Owes};
 ghost use Rattle.ribbit_tool.specs.Command as spec;
-ghost use Rattle.ribbit_tool.specs.Count.{CountsFile, IsCount, count_text, number_line};
+ghost use Rattle.ribbit_tool.specs.Count.{Counts, CountsFile, count_text, number_line};
 ghost use Rattle.ribbit_tool.specs.Run.{IsPrepared, answer_due};
 ghost use Rattle.ribbit_tool.specs.Reading.{ReadsInTurn, file_limit, source_of};
 ghost use Rattle.ribbit_tool.specs.View.{limits_view, Meets, added};
@@ -28,17 +28,13 @@ use rb_values::forest::Forest;
 use std::alloc::{AllocError, Global};
 
 // A line of a count behind its name.
-fn number(alloc: Global, name: &[u8], count: u128) -> Result<Vec<u8>, AllocError>
+fn number(alloc: Global, name: &str, count: u128) -> Result<Vec<u8>, AllocError>
     ensures { IfOk result (λ text. text.items ≡ number_line name.now count) }
 {
-    let digits = format!(in alloc; "{count}")?;
-    let mut text = Vec::from_slice(alloc, name)?;
-    push(&mut text, b" ")?;
-    push(&mut text, digits.as_bytes())?;
-    line::end(text)
+    Ok(format!(in alloc; "{name} {count}\n")?.into_bytes())
 }
 
-fn push_line(alloc: Global, text: &mut Vec<u8>, name: &[u8], count: u128) -> Result<(), AllocError>
+fn push_line(alloc: Global, text: &mut Vec<u8>, name: &str, count: u128) -> Result<(), AllocError>
     ensures { OnOk result (text.new.items ≡ text.old.items ++ number_line name.now count) }
 {
     let line = number(alloc, name, count)?;
@@ -57,10 +53,10 @@ fn counts(
     let shown = show_value(alloc, program, value)?;
     let mut text = Vec::from_slice(alloc, b"value ")?;
     push(&mut text, shown.as_slice())?;
-    push_line(alloc, &mut text, b"calls", u128::from(tally.calls))?;
-    push_line(alloc, &mut text, b"switches", tally.switches)?;
-    push_line(alloc, &mut text, b"blocks", u128::from(tally.blocks))?;
-    push_line(alloc, &mut text, b"bytes", u128::from(tally.bytes))?;
+    push_line(alloc, &mut text, "calls", u128::from(tally.calls))?;
+    push_line(alloc, &mut text, "switches", tally.switches)?;
+    push_line(alloc, &mut text, "blocks", u128::from(tally.blocks))?;
+    push_line(alloc, &mut text, "bytes", u128::from(tally.bytes))?;
     Ok(text)
 }
 
@@ -91,7 +87,7 @@ fn count_prepared<L: Ledger>(
     steps: &mut Steps<L>,
 ) -> Result<Vec<u8>, Refusal>
     requires { IsPrepared agreed.now prepared.now.code prepared.now.args }
-    ensures { Meets (IsCount agreed.now prepared.now.code prepared.now.args
+    ensures { Meets (Counts agreed.now prepared.now.code prepared.now.args
         (limits_view limits)) steps.old.taken steps.new.taken result }
 {
     let bounds = Bounds {

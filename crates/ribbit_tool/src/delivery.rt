@@ -9,7 +9,7 @@ use crate::status::Status;
 use rb_edge::sink::Sink;
 use rb_edge::whole::write_whole;
 
-/// The status where a write failed.
+// The status where a write failed.
 const WRITE_FAILED: u8 = 8;
 
 // Writes what the sink takes of the text.

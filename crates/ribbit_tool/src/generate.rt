@@ -10,7 +10,7 @@ ghost use Rattle.ribbit_tool.specs.View.{limits_view, Meets};
 
 use crate::count::count_bytes;
 use crate::limits::{Functions, Limits};
-use crate::line::{end, push, push_number};
+use crate::line::push;
 use crate::refusal::Refusal;
 use rb_edge::steps::{Ledger, Steps};
 use std::alloc::{AllocError, Global};
@@ -29,15 +29,10 @@ const MAIN: &[u8] = b"fun main(): u64 = f0(up(3000, Nil));\n";
 fn sum(alloc: Global, i: u64, j: u64) -> Result<Vec<u8>, AllocError>
     ensures { IfOk result (λ text. text.items ≡ sum_line i j) }
 {
-    let mut text = Vec::from_slice(alloc, b"fun f")?;
-    push_number(&mut text, i)?;
-    push(
-        &mut text,
-        b"(l: List): u64 = match l { Nil => 0, Cons(x, r) => add(x, f",
+    let line = format!(in alloc;
+        "fun f{i}(l: List): u64 = match l {{ Nil => 0, Cons(x, r) => add(x, f{j}(r)) }};\n"
     )?;
-    push_number(&mut text, j)?;
-    push(&mut text, b"(r)) };")?;
-    end(text)
+    Ok(line.into_bytes())
 }
 
 fn push_sum(alloc: Global, text: &mut Vec<u8>, i: u64, j: u64) -> Result<(), AllocError>

@@ -9,7 +9,7 @@ ghost use Rattle.ribbit_tool.specs.Answers.{Owes};
 ghost use Rattle.ribbit_tool.specs.Command as spec;
 ghost use Rattle.ribbit_tool.specs.Image as image;
 ghost use Rattle.ribbit_tool.specs.Exec.{end_due};
-ghost use Rattle.ribbit_tool.specs.Image.{ImagesFile, IsImage, block_line, bytes_text, image_text, root_line, word_text};
+ghost use Rattle.ribbit_tool.specs.Image.{Images, ImagesFile, block_line, bytes_text, image_text, root_line, word_text};
 ghost use Rattle.ribbit_tool.specs.Run.{IsPrepared};
 ghost use Rattle.ribbit_tool.specs.Reading.{ReadsInTurn, file_limit, source_of};
 ghost use Rattle.ribbit_tool.specs.View.{limits_view, Meets, added};
@@ -185,7 +185,7 @@ fn image_prepared<L: Ledger>(
     steps: &mut Steps<L>,
 ) -> Result<Vec<u8>, Refusal>
     requires { IsPrepared agreed.now prepared.now.code prepared.now.args }
-    ensures { Meets (IsImage agreed.now prepared.now.code prepared.now.args
+    ensures { Meets (Images agreed.now prepared.now.code prepared.now.args
         (limits_view limits)) steps.old.taken steps.new.taken result }
 {
     let mut memory = CheckedMemory::new(alloc, limits.region)?;

@@ -123,11 +123,7 @@ pub fn spent(alloc: Global, calls: u64) -> Result<Vec<u8>, AllocError>
 pub fn count(alloc: Global, wanted: u64, found: u64) -> Result<Vec<u8>, AllocError>
     ensures { IfOk result (λ text. text.items ≡ line.count_line wanted found) }
 {
-    let mut text = begin(alloc, b"wanted ")?;
-    push_number(&mut text, wanted)?;
-    push(&mut text, b" arguments, found ")?;
-    push_number(&mut text, found)?;
-    end(text)
+    Ok(format!(in alloc; "ribbit: wanted {wanted} arguments, found {found}\n")?.into_bytes())
 }
 
 /// The line of a value with more nodes than this.
@@ -240,20 +236,18 @@ pub fn code(alloc: Global, fault: CodeFault) -> Result<Vec<u8>, AllocError>
 }
 
 // A number after a blank.
-fn push_word(text: &mut Vec<u8>, number: u64) -> Result<(), AllocError>
+fn push_word(alloc: Global, text: &mut Vec<u8>, number: u64) -> Result<(), AllocError>
     ensures { OnOk result (text.new.items ≡ text.old.items ++ 32 ∷ decimal number) }
 {
-    text.push(b' ')?;
-    push_number(text, number)?;
-    Ok(())
+    push(text, format!(in alloc; " {number}")?.as_bytes())
 }
 
 // Numbers, each after a blank.
-fn push_spaced(text: &mut Vec<u8>, numbers: &[u64]) -> Result<(), AllocError>
+fn push_spaced(alloc: Global, text: &mut Vec<u8>, numbers: &[u64]) -> Result<(), AllocError>
     ensures { OnOk result (text.new.items ≡ text.old.items ++ line.spaced numbers.now) }
 {
     for number in numbers {
-        push_word(text, *number)?;
+        push_word(alloc, text, *number)?;
     }
     Ok(())
 }
@@ -269,7 +263,7 @@ pub fn words(alloc: Global, words: &[u64]) -> Result<Vec<u8>, AllocError>
     let mut text = Vec::new(alloc);
     if let [first, rest @ ..] = words {
         push_number(&mut text, *first)?;
-        push_spaced(&mut text, rest)?;
+        push_spaced(alloc, &mut text, rest)?;
     }
     end(text)
 }

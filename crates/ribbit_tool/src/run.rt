@@ -7,7 +7,7 @@ ghost use Rattle.ribbit_tool.specs.Answers.{Owes};
 ghost use Rattle.ribbit_tool.specs.Arguments.{IsMisfit, Spell};
 ghost use Rattle.ribbit_tool.specs.Command as spec;
 ghost use Rattle.ribbit_tool.specs.Lines.{ended};
-ghost use Rattle.ribbit_tool.specs.Run.{IsAnswered, IsPrepared, RunsFile, answer_due, value_line};
+ghost use Rattle.ribbit_tool.specs.Run.{IsPrepared, Runs, RunsFile, answer_due, value_line};
 ghost use Rattle.ribbit_tool.specs.Reading.{ReadsInTurn, file_limit, source_of};
 ghost use Rattle.ribbit_tool.specs.View.{limits_view, IsRefusal, Meets, added};
 
@@ -108,7 +108,7 @@ fn run_prepared<L: Ledger>(
     steps: &mut Steps<L>,
 ) -> Result<Vec<u8>, Refusal>
     requires { IsPrepared agreed.now prepared.now.code prepared.now.args }
-    ensures { Meets (IsAnswered agreed.now prepared.now.code prepared.now.args
+    ensures { Meets (Runs agreed.now prepared.now.code prepared.now.args
         (limits_view limits)) steps.old.taken steps.new.taken result }
 {
     let bounds = Bounds {

@@ -1,5 +1,8 @@
 -- The constructors of provenances by position, and the leaves that can still be a value's.
-use Rattle.std.specs.Prelude.{◌≡◌, ℕ, ◌+◌, ◌==◌, ◌&&◌, List, [], ◌∷◌, ◌++◌, map, Bool, true, false, Option, Some, None, slice_get, if◌then◌else◌}
+use Rattle.std.specs.Prelude.{◌≡◌, ℕ, ◌+◌, ◌==◌, ◌&&◌, List, [], ◌∷◌, ◌++◌, map, length, Bool, true, false, Option, Some, None, slice_get, if◌then◌else◌}
+use Rattle.rb_core.specs.declared.types.ConRef.{ConRef}
+use Rattle.rb_core.specs.declared.types.DataDecl.{DataDecl}
+use Rattle.rb_core.specs.Typing.{field_types}
 use Rattle.rb_layout.specs.declared.layout.Layout.{Layout}
 use Rattle.rb_layout.specs.declared.layout.Leaf.{Leaf}
 use Rattle.rb_layout.specs.Flattening.{same_path}
@@ -31,6 +34,15 @@ are_looked_at looked ps = (k : ℕ) (p : Place) → slice_get ps k ≡ Some p �
 abbrev pub IsNext : List (List ℕ) → List Place → Place → Type 0
 IsNext looked ps p = (k : ℕ) × (slice_get ps k ≡ Some p) × (is_among looked p.path ≡ false)
 
+-- whether a constructor has no fields
+abbrev pub is_bare : List DataDecl → ConRef → Bool
+is_bare types con = length (field_types types con) == 0
+
+-- the positions of the constructors that have none
+abbrev pub bare_paths : List DataDecl → List Head → List (List ℕ)
+bare_paths types [] = []
+bare_paths types (h ∷ hs) = if is_bare types h.con then h.path ∷ bare_paths types hs else bare_paths types hs
+
 -- Leaves
 
 abbrev pub is_at : List ℕ → ℕ → Head → Bool
@@ -52,6 +64,11 @@ leaves_that_can_be layouts t path con (n ∷ ns) =
     if can_be_leaf path con (leaf_at layouts t n)
     then n ∷ leaves_that_can_be layouts t path con ns
     else leaves_that_can_be layouts t path con ns
+
+-- the leaves that each of these constructors leaves
+abbrev pub leaves_beside : List Layout → ℕ → List Head → List ℕ → List ℕ
+leaves_beside layouts t [] ns = ns
+leaves_beside layouts t (h ∷ hs) ns = leaves_beside layouts t hs (leaves_that_can_be layouts t h.path h.con.con ns)
 
 -- the leaves of a constructor, by number, where the first of these has number n
 abbrev pub leaves_for : ℕ → List Leaf → ℕ → List ℕ

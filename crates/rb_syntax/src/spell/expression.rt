@@ -16,7 +16,7 @@ use crate::token::{Symbol, Token, Word};
 use crate::tree::{ClauseTree, ExprTree, NameTree, Op, TyTree};
 use std::alloc::{AllocError, Global};
 
-/// The word of an operator.
+// The word of an operator.
 fn word_of_op(op: Op) -> Word
     ensures { result ≡ op_word op }
 {
@@ -70,7 +70,7 @@ pub(crate) fn put_expr(
     }
 }
 
-/// `f(a, b)`
+// `f(a, b)`
 #[cycle(expression)]
 fn put_call(
     alloc: Global,
@@ -89,7 +89,7 @@ fn put_call(
     Ok(())
 }
 
-/// `add(a, b)`
+// `add(a, b)`
 #[cycle(expression)]
 fn put_binary(
     alloc: Global,
@@ -111,7 +111,7 @@ fn put_binary(
     Ok(())
 }
 
-/// `let x: T = a in b`
+// `let x: T = a in b`
 #[cycle(expression)]
 fn put_let(
     alloc: Global,
@@ -138,7 +138,7 @@ fn put_let(
     Ok(())
 }
 
-/// `match a { p => e, q => f }`
+// `match a { p => e, q => f }`
 #[cycle(expression)]
 fn put_match(
     alloc: Global,
@@ -159,7 +159,7 @@ fn put_match(
     Ok(())
 }
 
-/// Arguments with commas between, or nothing.
+// Arguments with commas between, or nothing.
 #[cycle(expression)]
 fn put_args(alloc: Global, out: &mut Vec<Token>, args: &[ExprTree]) -> Result<(), AllocError>
     ensures { OnOk result ((l : ℕ) → Wrote (any_with comma
@@ -174,7 +174,7 @@ fn put_args(alloc: Global, out: &mut Vec<Token>, args: &[ExprTree]) -> Result<()
     }
 }
 
-/// Fields in parentheses, or nothing.
+// Fields in parentheses, or nothing.
 #[cycle(expression)]
 fn put_fields(alloc: Global, out: &mut Vec<Token>, fields: &[ExprTree]) -> Result<(), AllocError>
     ensures { OnOk result ((l : ℕ) → Wrote (fields_written
@@ -191,7 +191,7 @@ fn put_fields(alloc: Global, out: &mut Vec<Token>, fields: &[ExprTree]) -> Resul
     }
 }
 
-/// Expressions with commas between.
+// Expressions with commas between.
 #[cycle(expression)]
 fn put_exprs(
     alloc: Global,
@@ -212,7 +212,7 @@ fn put_exprs(
     Ok(())
 }
 
-/// Clauses with commas between.
+// Clauses with commas between.
 #[cycle(expression)]
 fn put_clauses(
     alloc: Global,
@@ -231,7 +231,7 @@ fn put_clauses(
     }
 }
 
-/// One clause or more, with commas between.
+// One clause or more, with commas between.
 #[cycle(expression)]
 fn put_some_clauses(
     alloc: Global,
@@ -252,7 +252,7 @@ fn put_some_clauses(
     Ok(())
 }
 
-/// `p => e`
+// `p => e`
 #[cycle(expression)]
 fn put_clause(alloc: Global, out: &mut Vec<Token>, clause: &ClauseTree) -> Result<(), AllocError>
     ensures { OnOk result ((l : ℕ) → Wrote (clause_written clause.now l) out.old.items out.new.items) }

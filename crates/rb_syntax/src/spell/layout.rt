@@ -14,7 +14,7 @@ use crate::token::{Symbol, Token, Word};
 use crate::tree::{LayItem, Loc, PartDecl, PartKind, Step};
 use std::alloc::{AllocError, Global};
 
-/// `[o:l]`
+// `[o:l]`
 fn put_range(out: &mut Vec<Token>, o: u64, l: u64) -> Result<(), AllocError>
     ensures { OnOk result (Wrote (range_written o l) out.old.items out.new.items) }
 {
@@ -37,7 +37,7 @@ impl Spell for u32 {
     }
 }
 
-/// `.0.1`
+// `.0.1`
 fn put_path(alloc: Global, out: &mut Vec<Token>, path: &[u32]) -> Result<(), AllocError>
     ensures { OnOk result (Wrote (path_written path.now) out.old.items out.new.items) }
 {
@@ -71,7 +71,7 @@ pub(crate) fn put_loc(alloc: Global, out: &mut Vec<Token>, loc: &Loc) -> Result<
     Ok(())
 }
 
-/// `= 5`
+// `= 5`
 fn put_const(out: &mut Vec<Token>, n: u64) -> Result<(), AllocError>
     ensures { OnOk result (Wrote (λ rest. spelling.sym symbol.Equals ∷ spelling.num n
         ∷ rest) out.old.items out.new.items) }
@@ -81,7 +81,7 @@ fn put_const(out: &mut Vec<Token>, n: u64) -> Result<(), AllocError>
     Ok(())
 }
 
-/// `.0 word 1`
+// `.0 word 1`
 fn put_word_of(alloc: Global, out: &mut Vec<Token>, path: &[u32], j: u64) -> Result<(), AllocError>
     ensures { OnOk result (Wrote (λ rest. path_written path.now
         (spelling.reserved word.Word ∷ spelling.num j ∷ rest)) out.old.items out.new.items) }
@@ -92,7 +92,7 @@ fn put_word_of(alloc: Global, out: &mut Vec<Token>, path: &[u32], j: u64) -> Res
     Ok(())
 }
 
-/// A word or the words of a field.
+// A word or the words of a field.
 #[cycle(item)]
 fn put_item(alloc: Global, out: &mut Vec<Token>, item: &LayItem) -> Result<(), AllocError>
     ensures { OnOk result ((l : ℕ) → Wrote (lay_item_written item.now l) out.old.items out.new.items) }
@@ -110,7 +110,7 @@ fn put_item(alloc: Global, out: &mut Vec<Token>, item: &LayItem) -> Result<(), A
     }
 }
 
-/// `word 32 { [0:32] .0 }`
+// `word 32 { [0:32] .0 }`
 #[cycle(item)]
 fn put_word_item(
     alloc: Global,
@@ -131,7 +131,7 @@ fn put_word_item(
     Ok(())
 }
 
-/// `-> 8 { inline .1 }`
+// `-> 8 { inline .1 }`
 #[cycle(item)]
 fn put_pointer(
     alloc: Global,
@@ -152,7 +152,7 @@ fn put_pointer(
     Ok(())
 }
 
-/// What a part holds.
+// What a part holds.
 #[cycle(item)]
 fn put_kind(alloc: Global, out: &mut Vec<Token>, kind: &PartKind) -> Result<(), AllocError>
     ensures { OnOk result ((l : ℕ) → Wrote (kind_written kind.now l) out.old.items out.new.items) }
@@ -182,7 +182,7 @@ fn put_kind(alloc: Global, out: &mut Vec<Token>, kind: &PartKind) -> Result<(), 
     }
 }
 
-/// A part of a word.
+// A part of a word.
 #[cycle(item)]
 fn put_part(alloc: Global, out: &mut Vec<Token>, part: &PartDecl) -> Result<(), AllocError>
     ensures { OnOk result ((l : ℕ) → Wrote (part_written part.now l) out.old.items out.new.items) }
@@ -192,7 +192,7 @@ fn put_part(alloc: Global, out: &mut Vec<Token>, part: &PartDecl) -> Result<(), 
     Ok(())
 }
 
-/// The parts of a word with commas between, or nothing.
+// The parts of a word with commas between, or nothing.
 #[cycle(item)]
 fn put_parts(alloc: Global, out: &mut Vec<Token>, parts: &[PartDecl]) -> Result<(), AllocError>
     ensures { OnOk result ((l : ℕ) → Wrote (any_with comma
@@ -207,7 +207,7 @@ fn put_parts(alloc: Global, out: &mut Vec<Token>, parts: &[PartDecl]) -> Result<
     }
 }
 
-/// One part or more, with commas between.
+// One part or more, with commas between.
 #[cycle(item)]
 fn put_some_parts(
     alloc: Global,
@@ -247,7 +247,7 @@ pub(crate) fn put_items(
     }
 }
 
-/// One item or more, with commas between.
+// One item or more, with commas between.
 #[cycle(item)]
 fn put_some_items(
     alloc: Global,

@@ -32,7 +32,7 @@ pub(crate) fn put_each<T: Spell>(
     Ok(())
 }
 
-/// Parts, each behind a separator.
+// Parts, each behind a separator.
 fn put_behind<T: Spell>(
     alloc: Global,
     out: &mut Vec<Token>,

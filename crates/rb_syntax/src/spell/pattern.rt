@@ -29,7 +29,7 @@ pub(crate) fn put_pat(alloc: Global, out: &mut Vec<Token>, pat: &PatTree) -> Res
     }
 }
 
-/// Subpatterns in parentheses.
+// Subpatterns in parentheses.
 #[cycle(pattern)]
 fn put_subpats(
     alloc: Global,

@@ -15,7 +15,7 @@ use crate::token::{Symbol, Token, Word};
 use crate::tree::{ArmTree, LayItem, Loc, PatTree, SplitTree};
 use std::alloc::{AllocError, Global};
 
-/// A provenance or a part of one. A variable and a number have no form there.
+// A provenance or a part of one. A variable and a number have no form there.
 #[cycle(provenance)]
 fn put_below(alloc: Global, out: &mut Vec<Token>, pat: &PatTree) -> Result<(), AllocError>
     ensures { OnOk result ((l : ℕ) → Wrote (below_written pat.now l) out.old.items out.new.items) }
@@ -35,7 +35,7 @@ fn put_below(alloc: Global, out: &mut Vec<Token>, pat: &PatTree) -> Result<(), A
     }
 }
 
-/// Parts of a provenance in parentheses.
+// Parts of a provenance in parentheses.
 #[cycle(provenance)]
 fn put_parts_below(
     alloc: Global,
@@ -58,7 +58,7 @@ fn put_parts_below(
     Ok(())
 }
 
-/// The provenance of a leaf.
+// The provenance of a leaf.
 fn put_prov(alloc: Global, out: &mut Vec<Token>, pat: &PatTree) -> Result<(), AllocError>
     ensures { OnOk result ((l : ℕ) → Wrote (prov_written pat.now l) out.old.items out.new.items) }
 {
@@ -66,7 +66,7 @@ fn put_prov(alloc: Global, out: &mut Vec<Token>, pat: &PatTree) -> Result<(), Al
     Ok(())
 }
 
-/// `Cons(_, _) : { .. }`
+// `Cons(_, _) : { .. }`
 fn put_leaf(
     alloc: Global,
     out: &mut Vec<Token>,
@@ -113,7 +113,7 @@ pub(crate) fn put_split(
     }
 }
 
-/// `else => .. }`
+// `else => .. }`
 #[cycle(split)]
 fn put_else(alloc: Global, out: &mut Vec<Token>, tree: &SplitTree) -> Result<(), AllocError>
     ensures { OnOk result ((l : ℕ) → Wrote (λ rest. spelling.reserved word.Else ∷ spelling.sym symbol.FatArrow
@@ -126,7 +126,7 @@ fn put_else(alloc: Global, out: &mut Vec<Token>, tree: &SplitTree) -> Result<(),
     Ok(())
 }
 
-/// `split 0[0:1] {` and the arms.
+// `split 0[0:1] {` and the arms.
 #[cycle(split)]
 fn put_arms(
     alloc: Global,
@@ -147,7 +147,7 @@ fn put_arms(
     Ok(())
 }
 
-/// `0 => ..`
+// `0 => ..`
 #[cycle(split)]
 fn put_arm(alloc: Global, out: &mut Vec<Token>, arm: &ArmTree) -> Result<(), AllocError>
     ensures { OnOk result ((l : ℕ) → Wrote (arm_written arm.now l) out.old.items out.new.items) }

@@ -78,11 +78,8 @@ pub fn mismatch(
 pub fn arity(alloc: Global, wanted: u64, found: u64, at: u64) -> Result<Vec<u8>, AllocError>
     ensures { IfOk result (λ text. text.items ≡ line.arity_line wanted found at) }
 {
-    let mut text = begin(alloc, b"wanted ")?;
-    push_number(&mut text, wanted)?;
-    push(&mut text, b" arguments, found ")?;
-    push_number(&mut text, found)?;
-    push(&mut text, b" at byte ")?;
-    push_number(&mut text, at)?;
-    end(text)
+    let line = format!(in alloc;
+        "ribbit: wanted {wanted} arguments, found {found} at byte {at}\n"
+    )?;
+    Ok(line.into_bytes())
 }

@@ -76,7 +76,7 @@ emit_call-returns-clause-grows t c = rw c.in_ok-held.ensures.code (Grows-trans _
 pub emit_construction-returns-clause-emits : goal.emit_construction-returns-clause-emits
 emit_construction-returns-clause-emits t c = λ fun at wanted.
     build_expr c.args.agreed.now (plan_of c.args.agreed.now) fun at c.args.con c.args.args.now wanted c.args.locals.now c.in-Some.tys c.args.body.now _ _ c.in_ok-parts.parts c.in_ok-held.held (record { program = refl; layouts = refl })
-    (sym c.in_ok-tys.ensures ∙ c.in-Some.is) (rw c.as_slice.ensures at (c.in_ok-parts.ensures.emits fun)) (rw c.as_slice-2.ensures at c.in_ok-held.ensures.builds)
+    (sym c.in_ok-tys.ensures ∙ c.in-Some.is) (rw c.as_slice.ensures at (c.in_ok-parts.ensures.emits fun)) (rw (c.as_slice-2.ensures, c.as_slice-3.ensures, c.in_ok-shown.ensures) at c.in_ok-held.ensures.builds)
 
 pub emit_all-loop-i-init : goal.emit_all-loop-i-init
 emit_all-loop-i-init t c = record {

@@ -1,4 +1,4 @@
-use Rattle.std.proofs.Common.{◌≡◌, ◌+◌, ◌*◌, map, take}
+use Rattle.std.proofs.Common.{◌+◌, ◌*◌, map, take}
 use Rattle.std.specs.List.{flat_map}
 use denote.Param.Weighed.{most}
 use Rattle.rb_core.specs.declared.expression.Expr.{size-Expr}

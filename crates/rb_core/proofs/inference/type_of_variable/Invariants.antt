@@ -1,6 +1,7 @@
-use Rattle.std.proofs.Common.{◌≡◌, drop}
-use Rattle.rb_core.specs.Typing.{bound_type, variable_type}
+use Rattle.std.proofs.Common.{◌≡◌, take}
+use Rattle.rb_core.specs.Typing.{variable_type}
 use Rattle.rb_core.proofs.inference.type_of_variable.Given as goal
 
-abbrev pub invariant-loop-binder : goal.invariant-loop-binder
-invariant-loop-binder l = bound_type l.found l.var (drop l.binder-index l.scope) ≡ variable_type l.var l.scope
+-- no binder further in has the number
+abbrev pub invariant-loop-i : goal.invariant-loop-i
+invariant-loop-i l = variable_type l.var (take l.i l.scope) ≡ variable_type l.var l.scope

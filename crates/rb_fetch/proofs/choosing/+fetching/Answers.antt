@@ -92,18 +92,18 @@ look-returns-clause-grows t c =
 
 pub choose_leaf_at-returns-clause-chooses : goal.choose_leaf_at-returns-clause-chooses
 choose_leaf_at-returns-clause-chooses t c =
-    rw (c.in_ok-holes.ensures, c.as_slice-2.ensures)
-    (chooses_leaf c.args.agreed.now (rw c.covered.ensures.same at c.program-typed.ensures.typed) c.layouts.ensures.flat c.layouts.ensures.agree c.args.con c.args.args.now c.args.body.now c.choose.new.body c.in_ok-ways.ways
-    (rw (c.as_slice.ensures, c.in_ok-leaves.ensures, c.layouts.ensures.same, c.in_ok-parts.ensures, c.new-looked.ensures) at c.in_ok-ways.ensures.chooses) c.in_ok-ways.ensures.ways)
+    rw (c.in_ok-holes.ensures, c.as_slice-5.ensures)
+    (chooses_leaf c.args.agreed.now (rw c.covered.ensures.same at c.program-program.ensures.typed) c.layouts.ensures.flat c.layouts.ensures.agree c.args.con c.args.args.now c.args.shown.now c.args.body.now c.choose.new.body c.in_ok-ways.ways
+    (rw (c.as_slice-4.ensures, c.in_ok-leaves.ensures, c.as_slice.ensures, c.in_ok-all.ensures, c.layouts.ensures.same, c.layouts-2.ensures.same, c.in_ok-parts.ensures, c.in_ok-looked.ensures, c.as_slice-2.ensures, c.as_slice-3.ensures, c.program-program.ensures.same, c.covered.ensures.same, c.in_ok-places.ensures) at c.in_ok-ways.ensures.chooses) c.in_ok-ways.ensures.ways)
 
 pub choose_leaf_at-returns-clause-holes : goal.choose_leaf_at-returns-clause-holes
 choose_leaf_at-returns-clause-holes t c =
-    rw (c.in_ok-holes.ensures, c.as_slice-2.ensures)
+    rw (c.in_ok-holes.ensures, c.as_slice-5.ensures)
     (are_holes 0 (length c.args.body.now.code) (length c.args.body.now.code) (length c.in_ok-ways.ways) c.choose.new.body.code c.in_ok-ways.ways (omega arith) c.in_ok-ways.ensures.ways (omega arith))
 
 pub choose_leaf_at-returns-clause-ways : goal.choose_leaf_at-returns-clause-ways
 choose_leaf_at-returns-clause-ways t c =
-    rw (c.in_ok-holes.ensures, c.as_slice-2.ensures) (of_one_way (length c.args.body.now.code) c.choose.new.body.code c.in_ok-ways.ways c.in_ok-ways.ensures.ways)
+    rw (c.in_ok-holes.ensures, c.as_slice-5.ensures) (of_one_way (length c.args.body.now.code) c.choose.new.body.code c.in_ok-ways.ways c.in_ok-ways.ensures.ways)
 
 pub fetch_fields-returns-in_ok-add_parts-in-Con-clause-fetches : goal.fetch_fields-returns-in_ok-add_parts-in-Con-clause-fetches
 fetch_fields-returns-in_ok-add_parts-in-Con-clause-fetches t c =
@@ -120,7 +120,7 @@ fetch_part-returns-in_ok-held-in-Con-clause-fetches t c =
     rw c.in-Con.is
     (part_con c.args.agreed.now (rw c.covered.ensures.same at c.program-typed.ensures.typed) c.layouts-agreed.ensures.flat c.layouts-agreed.ensures.agree c.args.ty c.args.leaf c.in-Con.field-0 c.in-Con.con c.in-Con.subs
     c.args.path.now c.args.words.now c.args.body.now c.fetch_parts.new.body c.construct_at.new.body c.in_ok-args-in-Con.args c.in_ok-held-in-Con.held (rw c.as_slice-subs.ensures at c.in_ok-args-in-Con.ensures.fetches)
-    (rw c.as_slice-in-Con.ensures at c.in_ok-held-in-Con.ensures.constructs))
+    (rw (c.as_slice-in-Con.ensures, c.as_slice-subs.ensures) at c.in_ok-held-in-Con.ensures.constructs))
 
 pub fetch_part-returns-in_ok-held-in-Con-clause-grows : goal.fetch_part-returns-in_ok-held-in-Con-clause-grows
 fetch_part-returns-in_ok-held-in-Con-clause-grows t c =
@@ -163,7 +163,7 @@ construct_at-returns-in_ok-held-in-Some-2-clause-constructs t c =
     let at = ap (λ ls. slice_get ls c.args.con.ty) (sym c.layouts.ensures.same) ∙ slice_get_read c.layouts.result.now (length c.layouts.result.now) c.args.con.ty c.in-Some.layout.now refl l.3.0 l.1 in
     let leaf = c.in-Some-2.leaf.now in
     let found = rw c.as_slice-leaves.ensures at (c.in_ok-leaf.ensures leaf (ap option_copied c.in-Some-2.is)) in
-    constructs_alone c.args.agreed.now typed c.layouts.ensures.flat c.layouts.ensures.agree c.args.con c.args.args.now c.in-Some.layout.now at c.args.body.now c.emit_alone.new.body c.in_ok-held-in-Some-2.held leaf found
+    constructs_alone c.args.agreed.now typed c.layouts.ensures.flat c.layouts.ensures.agree c.args.con c.args.args.now c.args.shown.now c.in-Some.layout.now at c.args.body.now c.emit_alone.new.body c.in_ok-held-in-Some-2.held leaf found
     c.in_ok-held-in-Some-2.ensures.makes.0 c.in_ok-held-in-Some-2.ensures.makes.1
 
 pub construct_at-returns-in_ok-held-in-None-clause-constructs : goal.construct_at-returns-in_ok-held-in-None-clause-constructs
@@ -172,7 +172,7 @@ construct_at-returns-in_ok-held-in-None-clause-constructs t c =
     let l = c.in-Some.ensures.lookup in
     let at = ap (λ ls. slice_get ls c.args.con.ty) (sym c.layouts.ensures.same) ∙ slice_get_read c.layouts.result.now (length c.layouts.result.now) c.args.con.ty c.in-Some.layout.now refl l.3.0 l.1 in
     let chosen = c.in_ok-choices-in-None.ensures in
-    constructs_ways c.args.agreed.now typed c.layouts.ensures.flat c.layouts.ensures.agree c.args.con c.args.args.now c.in-Some.layout.now at c.args.body.now c.emit_ways.new.body c.in_ok-held-in-None.held c.choose_leaf_at.new.body
+    constructs_ways c.args.agreed.now typed c.layouts.ensures.flat c.layouts.ensures.agree c.args.con c.args.args.now c.args.shown.now c.in-Some.layout.now at c.args.body.now c.emit_ways.new.body c.in_ok-held-in-None.held c.choose_leaf_at.new.body
     c.in_ok-choices-in-None.choices chosen.chooses chosen.holes chosen.ways (rw c.as_slice-leaves.ensures at c.in_ok-held-in-None.ensures.meets)
 
 pub construct_at-returns-in_ok-held-in-None-clause-grows : goal.construct_at-returns-in_ok-held-in-None-clause-grows

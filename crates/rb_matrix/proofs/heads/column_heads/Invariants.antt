@@ -1,9 +1,10 @@
-use Rattle.std.proofs.Common.{◌≡◌, ◌+◌, ◌≤◌, ◌||◌, drop, length}
+use Rattle.std.proofs.Common.{◌≡◌, ◌+◌, ◌≤◌, ◌||◌, ◌++◌, drop, length}
 use Rattle.rb_core.specs.declared.value.Value.{Value}
 use Rattle.rb_core.specs.declared.value.Value.TheOpen.{Value-F}
-use Rattle.rb_matrix.specs.Heads.{any_begins, column_begins}
+use Rattle.rb_matrix.specs.Heads.{any_begins, column_begins, distinct_heads}
 use Rattle.rb_matrix.specs.Problems.{rows_heads}
 use Rattle.rb_matrix.specs.inner.Passed.{AreNumbersOf}
+use Rattle.rb_matrix.proofs.HeadOrder.{beyond}
 use Rattle.rb_matrix.proofs.heads.column_heads.Given as goal
 
 abbrev pub invariant-loop-row : goal.invariant-loop-row
@@ -11,4 +12,5 @@ invariant-loop-row l = record {
   same : (v : Value-F Value) → (any_begins l.heads.items v || column_begins (drop l.row-index l.rows) v) ≡ column_begins l.rows v;
   few : length l.heads.items + rows_heads (drop l.row-index l.rows) ≤ rows_heads l.rows;
   numbers : AreNumbersOf l.numbers l.heads.items;
+  order : l.heads.items ++ beyond l.heads.items (distinct_heads (drop l.row-index l.rows)) ≡ distinct_heads l.rows;
 }

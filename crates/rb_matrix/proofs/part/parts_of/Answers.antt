@@ -15,7 +15,7 @@ returns-in-Some c =
 
 pub parts_at-requires-in-None-clause-stands : goal.parts_at-requires-in-None-clause-stands
 parts_at-requires-in-None-clause-stands c =
-    let all = subst (IsBesideAnswer c.args.types.now c.args.ty c.as_slice-3.result.now) c.in-None.is c.in_ok-pattern_beside.ensures in
+    let all = subst (IsBesideAnswer c.args.types.now c.args.ty c.as_slice-3.result.now) c.in-None.is c.in_ok-pattern_beside.ensures.answer in
     let same : (l : Value-F Value) → any_begins c.as_slice-3.result.now l ≡ column_begins c.args.behind.unwanted l =
     (λ l. ap (λ hs. any_begins hs l) c.as_slice-3.ensures ∙ c.in_ok-heads.ensures.heads l ∙ ap (λ rows. column_begins rows l) c.as_slice-2.ensures) in
     let stands = some-stands c.args.types.now c.requires.inhabited c.args.ty c.args.behind.unwanted c.as_slice-3.result.now c.requires.live same all in
@@ -23,7 +23,7 @@ parts_at-requires-in-None-clause-stands c =
 
 pub returns-in_ok-parts-in-None : goal.returns-in_ok-parts-in-None
 returns-in_ok-parts-in-None c =
-    let all = subst (IsBesideAnswer c.args.types.now c.args.ty c.as_slice-3.result.now) c.in-None.is c.in_ok-pattern_beside.ensures in
+    let all = subst (IsBesideAnswer c.args.types.now c.args.ty c.as_slice-3.result.now) c.in-None.is c.in_ok-pattern_beside.ensures.answer in
     let rows = ap rows_heads c.as_slice-2.ensures in let many = c.in_ok-heads.ensures.few in
     all-split c.args.types.now c.args.ty c.args.behind.tys (with_column c.args.ty c.args.behind) refl c.in_ok-heads.heads _ (omega (arith, rows, many))
     (λ v of. ap (λ hs. any_begins hs (out-Value v)) (sym c.as_slice-3.ensures) ∙ all v of) c.in_ok-parts-in-None.ensures

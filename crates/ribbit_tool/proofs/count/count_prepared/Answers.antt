@@ -7,7 +7,7 @@ use Rattle.rb_core.specs.declared.value.Value.{Value}
 use Rattle.rb_rel.specs.Answers as answer
 use Rattle.rb_run.specs.Answering.{meant_by}
 use Rattle.rb_run.specs.Calling.{IsCounted}
-use Rattle.ribbit_tool.specs.Count.{IsCount, IsMainTally, count_text}
+use Rattle.ribbit_tool.specs.Count.{Counts, IsMainTally, count_text}
 use Rattle.ribbit_tool.specs.Run.{answer_due, source_answer}
 use Rattle.ribbit_tool.specs.View.{limits_view, Meets}
 use Rattle.ribbit_tool.proofs.Meeting.{met}
@@ -34,7 +34,7 @@ returns g c =
     let before = c.args.steps.now.taken in
     let same = c.program.ensures.same ∙ ap (λ x. x.program) c.covered.ensures.same in
     let Said : Program → answer.Answer → ℕ → Type 0 = λ x s now. Meets (λ due. due ≡ answer_due (count_text x tally) limits.calls s k.0) before now c.show.result in
-    met (λ due. due ≡ answer_due (count_text p tally) limits.calls (source_answer p agreed.layouts limits r.args) k.0) (λ due. IsCount agreed r.code r.args limits due)
+    met (λ due. due ≡ answer_due (count_text p tally) limits.calls (source_answer p agreed.layouts limits r.args) k.0) (λ due. Counts agreed r.code r.args limits due)
     (λ due e. record { taken = k.0; tally = tally; counted = counted; tallied = tallied; shown = e })
     before c.count_main.new.steps.taken c.show.result
     (subst (λ now. Said p (source_answer p agreed.layouts limits r.args) now) (sym k.1)

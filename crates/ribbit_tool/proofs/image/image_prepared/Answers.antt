@@ -6,7 +6,7 @@ use Rattle.rb_core.specs.declared.value.Value.{Value}
 use Rattle.rb_run.specs.Calling.{IsCalled, IsCounted}
 use Rattle.ribbit_tool.specs.Answer.{Due}
 use Rattle.ribbit_tool.specs.Exec.{end_due}
-use Rattle.ribbit_tool.specs.Image.{IsImage, image_text}
+use Rattle.ribbit_tool.specs.Image.{Images, image_text}
 use Rattle.ribbit_tool.specs.View.{limits_view, Meets}
 use Rattle.ribbit_tool.proofs.ImageLaws.{shows_end}
 use Rattle.ribbit_tool.proofs.Meeting.{met}
@@ -37,7 +37,7 @@ returns g c =
     let memory = c.call_main.new.memory in
     let s = shows_end agreed r.args limits ran.end memory called k.0 in
     let Said : Due → Type 0 = λ due. due ≡ end_due (λ words. image_text words memory) limits.calls ran.end k.0 in
-    met Said (λ due. IsImage agreed r.code r.args limits due)
+    met Said (λ due. Images agreed r.code r.args limits due)
     (λ due e. record { taken = k.0; switches = ran.switches; counted = counted; words = s.words; memory = memory; show = s.show; shown = e ∙ s.due })
     before c.call_main.new.steps.taken c.show.result
     (subst (λ now. Meets Said before now c.show.result) (sym k.1) (c.show.ensures before k.0))

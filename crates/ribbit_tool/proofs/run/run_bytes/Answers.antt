@@ -6,7 +6,7 @@ use Rattle.rb_target.specs.declared.code.CodeFun.{CodeFun}
 use Rattle.ribbit_tool.specs.Accepting.{IsRefused}
 use Rattle.ribbit_tool.specs.Answer.{Due}
 use Rattle.ribbit_tool.specs.Arguments.{IsMisfit}
-use Rattle.ribbit_tool.specs.Run.{IsAnswered, RunsFile}
+use Rattle.ribbit_tool.specs.Run.{Runs, RunsFile}
 use Rattle.ribbit_tool.specs.View.{limits_view}
 use Rattle.ribbit_tool.proofs.Meeting.{met, refused_met}
 use Rattle.ribbit_tool.proofs.Preparing.{refused_due, misfit_due, prepared_due}
@@ -15,7 +15,7 @@ use Rattle.ribbit_tool.proofs.run.run_bytes.Goals as goal
 pub returns-in_err-accepted : goal.returns-in_err-accepted
 returns-in_err-accepted g c =
     let limits = limits_view c.args.limits in
-    let Then : LaidOut → List CodeFun → List Value → Due → Type 0 = λ agreed code args d. IsAnswered agreed code args limits d in
+    let Then : LaidOut → List CodeFun → List Value → Due → Type 0 = λ agreed code args d. Runs agreed code args limits d in
     let p = err_from_is_err_and c.from_residual.result c.from_residual.ensures.1 in
     rw (p.1, p.2) (refused_met (λ due. IsRefused c.args.bytes.now due) (λ due. RunsFile limits c.args.words.now c.args.bytes.now due)
     (refused_due c.args.words.now c.args.bytes.now Then) c.args.steps.now.taken _ c.in_err-accepted.ensures.refused)
@@ -23,7 +23,7 @@ returns-in_err-accepted g c =
 pub returns-in_err-prepared : goal.returns-in_err-prepared
 returns-in_err-prepared g c =
     let limits = limits_view c.args.limits in
-    let Then : LaidOut → List CodeFun → List Value → Due → Type 0 = λ agreed code args d. IsAnswered agreed code args limits d in
+    let Then : LaidOut → List CodeFun → List Value → Due → Type 0 = λ agreed code args d. Runs agreed code args limits d in
     let a = c.in_ok-accepted.accepted in
     let p = err_from_is_err_and c.from_residual-in_err-prepared.result c.from_residual-in_err-prepared.ensures.1 in
     rw (p.1, p.2) (refused_met (λ due. IsMisfit a.agreed.covered.program c.args.words.now due)
@@ -33,9 +33,9 @@ returns-in_err-prepared g c =
 pub returns : goal.returns
 returns g c =
     let limits = limits_view c.args.limits in
-    let Then : LaidOut → List CodeFun → List Value → Due → Type 0 = λ agreed code args d. IsAnswered agreed code args limits d in
+    let Then : LaidOut → List CodeFun → List Value → Due → Type 0 = λ agreed code args d. Runs agreed code args limits d in
     let a = c.in_ok-accepted.accepted in
     let r = c.in_ok-prepared.prepared in
-    met (λ due. IsAnswered a.agreed r.code r.args limits due) (λ due. RunsFile limits c.args.words.now c.args.bytes.now due)
+    met (λ due. Runs a.agreed r.code r.args limits due) (λ due. RunsFile limits c.args.words.now c.args.bytes.now due)
     (prepared_due c.args.words.now c.args.bytes.now Then a c.in_ok-accepted.ensures.accepted r.code r.args c.in_ok-prepared.ensures.prepared c.in_ok-prepared.ensures.spelled)
     c.args.steps.now.taken c.run_prepared.new.steps.taken c.run_prepared.result c.run_prepared.ensures

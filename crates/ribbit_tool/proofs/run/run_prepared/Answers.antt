@@ -7,7 +7,7 @@ use Rattle.rb_core.specs.declared.value.Value.{Value}
 use Rattle.rb_rel.specs.Answers as answer
 use Rattle.rb_run.specs.Answering.{meant_by}
 use Rattle.rb_run.specs.Calling.{IsCounted}
-use Rattle.ribbit_tool.specs.Run.{IsAnswered, answer_due, source_answer, value_line}
+use Rattle.ribbit_tool.specs.Run.{Runs, answer_due, source_answer, value_line}
 use Rattle.ribbit_tool.specs.View.{limits_view, Meets}
 use Rattle.ribbit_tool.proofs.Meeting.{met}
 use Rattle.ribbit_tool.proofs.run.run_prepared.Goals as goal
@@ -29,7 +29,7 @@ returns g c =
     let before = c.args.steps.now.taken in
     let same = c.program.ensures.same ∙ ap (λ x. x.program) c.covered.ensures.same in
     let Said : Program → answer.Answer → ℕ → Type 0 = λ x s now. Meets (λ due. due ≡ answer_due (value_line x) limits.calls s k.0) before now c.show.result in
-    met (λ due. due ≡ answer_due (value_line p) limits.calls (source_answer p agreed.layouts limits r.args) k.0) (λ due. IsAnswered agreed r.code r.args limits due)
+    met (λ due. due ≡ answer_due (value_line p) limits.calls (source_answer p agreed.layouts limits r.args) k.0) (λ due. Runs agreed r.code r.args limits due)
     (λ due e. record { taken = k.0; switches = k.1; counted = counted; shown = e })
     before c.answer_main.new.steps.taken c.show.result
     (subst (λ now. Said p (source_answer p agreed.layouts limits r.args) now) (sym k.2)

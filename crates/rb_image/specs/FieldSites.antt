@@ -1,0 +1,47 @@
+-- The sites at which the words of a leaf's field stand.
+use Rattle.std.specs.Prelude.{◌≡◌, ℕ, ◌+◌, ◌≤◌, List, map, Some, slice_get}
+use Rattle.rb_core.specs.declared.program.Program.{Program}
+use Rattle.rb_core.specs.TypedPrograms.{IsTyped}
+use Rattle.rb_layout.specs.declared.layout.FlatWord.{FlatWord}
+use Rattle.rb_layout.specs.declared.layout.Leaf.{Leaf}
+use Rattle.rb_layout.specs.declared.layout.Part.{Part}
+use Rattle.rb_layout.specs.declared.layout.WordRef.{WordRef}
+use Rattle.rb_layout.specs.Agreement.{Agrees}
+use Rattle.rb_layout.specs.Each.{EachLeaf}
+use Rattle.rb_layout.specs.Flattening.{flat_layouts}
+use Rattle.rb_layout.specs.Readable.{IsReadable}
+use Rattle.rb_layout.specs.Words.{flat_at}
+use Rattle.rb_image_text.specs.declared.image.Image.{Image}
+use Rattle.rb_image_text.specs.Places.{AreInPlace}
+use Rattle.rb_image.specs.declared.kept.Kept.{Kept}
+use Rattle.rb_image.specs.declared.site.Site.{Site}
+use Rattle.rb_image.specs.Orders.{order_of}
+use Rattle.rb_image.specs.Parts.{field_word, field_words}
+use Rattle.rb_image.specs.Sites.{kept_of}
+
+-- its bits are among the 64 of a word
+abbrev pub IsNarrow : Site → Type 0
+IsNarrow s = s.o + s.l ≤ 64
+
+abbrev pub AreNarrow : List Site → Type 0
+AreNarrow sites = (j : ℕ) (s : Site) → slice_get sites j ≡ Some s → IsNarrow s
+
+-- each part of a leaf's words is among the 64 bits of a word
+abbrev pub HasNarrowParts : Leaf → Type 0
+HasNarrowParts leaf = (r : WordRef) (f : FlatWord) (k : ℕ) (p : Part)
+    → flat_at leaf r ≡ Some f → slice_get f.parts k ≡ Some p → p.o + p.l ≤ 64
+
+-- in layouts that agree with their types, so is each leaf, and its words are few and short
+abbrev pub LeavesAreNarrow : Type 0
+LeavesAreNarrow = (p : Program) → IsTyped p → Agrees p
+    → EachLeaf (flat_layouts p) (λ t layout n leaf. IsReadable leaf × HasNarrowParts leaf)
+
+-- the words of the field at a path, where the leaf's own words stand at sites, and its blocks at addresses
+abbrev pub words_of_field : Image → Leaf → List Site → List ℕ → List ℕ → ℕ → List Kept
+words_of_field image leaf sites ats path count =
+    field_words (field_word image.blocks (map (kept_of image) sites) ats (order_of leaf)) path 0 count
+
+-- in each image the field's words stand at these sites
+abbrev pub AreSitesOf : Leaf → List Site → List ℕ → List ℕ → ℕ → List Site → Type 0
+AreSitesOf leaf sites ats path count found = (image : Image) → AreInPlace image.blocks
+    → map (kept_of image) found ≡ words_of_field image leaf sites ats path count

@@ -1,0 +1,40 @@
+-- Expressions and programs whose numbers have at most 64 bits, as any `u64` has.
+use Rattle.std.specs.Prelude.{◌≡◌, ◌^◌, List, [], ◌∷◌, map, Bool, true, ◌&&◌, nat_lt}
+use Rattle.rb_core.specs.declared.program.Fun.{Fun}
+use Rattle.rb_core.specs.declared.program.Program.{Program}
+use Rattle.rb_core.specs.declared.expression.Expr.{Expr}
+use Rattle.rb_core.specs.declared.expression.Expr.TheOpen as E
+use Rattle.rb_core.specs.declared.expression.Expr.TheOpen.{Expr-F}
+use Rattle.rb_core.specs.declared.expression.Expr.TheFolds.{fold-Expr, fold-Clause}
+use Rattle.rb_core.specs.declared.expression.Clause.{Clause, Clause-F}
+
+abbrev pub all_true : List Bool → Bool
+all_true [] = true
+all_true (b ∷ bs) = b && all_true bs
+
+abbrev pub words_step : Expr-F Bool Bool → Bool
+words_step (E.Num at n) = nat_lt n (2 ^ 64)
+words_step (E.Var at x) = true
+words_step (E.Call at g es) = all_true es
+words_step (E.Build at c es) = all_true es
+words_step (E.Binary at op a b) = a && b
+words_step (E.To at bits a) = a
+words_step (E.Let at x t a b) = a && b
+words_step (E.Match at e cs) = e && all_true cs
+
+abbrev pub words_clause : Clause-F Bool Bool → Bool
+words_clause c = c.body
+
+-- each number of an expression has at most 64 bits
+abbrev pub has_words : Expr → Bool
+has_words = fold-Expr Bool Bool words_step words_clause
+
+abbrev pub clause_has_words : Clause → Bool
+clause_has_words = fold-Clause Bool Bool words_step words_clause
+
+-- each number of a function, and of all functions of a program
+abbrev pub body_has_words : Fun → Bool
+body_has_words f = has_words f.body
+
+abbrev pub HasWords : Program → Type 0
+HasWords p = all_true (map body_has_words p.funs) ≡ true
