@@ -13,7 +13,7 @@ use rb_core::seq::Seq;
 use std::alloc::{AllocError, Global};
 
 /// The way to a number that was found: the first number, each after it, and it itself.
-#[derive(Debug, Drop)]
+#[derive(Drop)]
 pub struct Way {
     pub number: u32,
     pub way: Seq<u32>,

@@ -11,7 +11,7 @@ use std::alloc::{AllocError, Global};
 
 /// What a part is written to hold, apart from what stands behind a pointer. A path is a list of field
 /// numbers from the root.
-#[derive(Debug, Drop)]
+#[derive(Drop)]
 pub enum Content {
     /// This number.
     Number(u64),
@@ -26,7 +26,7 @@ pub enum Content {
 }
 
 /// A part as it is written: `l` bits from bit `o`.
-#[derive(Debug, Drop)]
+#[derive(Drop)]
 pub struct Written {
     pub o: u64,
     pub l: u64,
@@ -34,7 +34,7 @@ pub struct Written {
 }
 
 /// An item as it is written.
-#[derive(Debug, Drop)]
+#[derive(Drop)]
 pub enum Item {
     /// A word of so many bits, with its parts.
     Parts(u64, Seq<Written>),

@@ -17,7 +17,7 @@ use rb_core::seq::Seq;
 use std::alloc::{AllocError, Global};
 
 // A number on the walk, and its edge that is next.
-#[derive(Clone, Copy, Debug)]
+#[derive(Clone, Copy)]
 pub struct Visit {
     pub number: u32,
     pub edge: usize,

@@ -32,7 +32,7 @@ use rb_layout::layout::{FlatArm, FlatTree, Layout, Leaf};
 use std::alloc::{AllocError, Global};
 
 /// The leaves from number `first` on, before number `end`.
-#[derive(Clone, Copy, Debug)]
+#[derive(Clone, Copy)]
 pub struct Span {
     pub first: usize,
     pub end: usize,

@@ -13,7 +13,7 @@ use rb_core::types::{ConRef, DataDecl, Ty};
 use std::alloc::{AllocError, Global};
 
 /// An open position: a list of field numbers from the root, and the type there.
-#[derive(Debug, Drop)]
+#[derive(Drop)]
 pub struct Place {
     pub path: Seq<u32>,
     pub ty: Ty,

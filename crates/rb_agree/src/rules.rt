@@ -39,7 +39,7 @@ use rb_layout::layout::{Layout, Leaf};
 use std::alloc::{AllocError, Global};
 
 /// A rule.
-#[derive(Clone, Copy, Debug)]
+#[derive(Clone, Copy)]
 pub enum Rule {
     /// Root words have the shape's widths.
     Roots,
@@ -62,7 +62,7 @@ pub enum Rule {
 }
 
 /// How all layouts are related.
-#[derive(Debug, Drop)]
+#[derive(Drop)]
 pub struct Related {
     /// For each type the items of each leaf of its layout.
     pub written: Seq<Seq<Seq<Item>>>,

@@ -25,7 +25,7 @@ use rb_layout::layout::{Block, FlatWord, Kind, Leaf, Part};
 use std::alloc::{AllocError, Global};
 
 /// So many units of a position, from this one on.
-#[derive(Clone, Copy, Debug)]
+#[derive(Clone, Copy)]
 pub struct Run {
     pub first: u64,
     pub count: u64,

@@ -17,7 +17,7 @@ ghost use Rattle.rb_agree.specs.inner.Search.{AreOrdered, HasNone, IsNumberOf, s
 use crate::positions::Place;
 
 /// Where a path stands beside another.
-#[derive(Clone, Copy, Debug)]
+#[derive(Clone, Copy)]
 pub enum Side {
     /// Its number is less at the first field where they differ.
     Left,

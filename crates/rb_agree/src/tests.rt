@@ -19,7 +19,7 @@ use rb_layout::{excludes, known_bits, resolve_loc};
 use std::alloc::{AllocError, Global};
 
 /// What is known of a leaf in a tree of splits.
-#[derive(Debug, Drop)]
+#[derive(Drop)]
 pub enum Below {
     /// It doesn't stand there.
     Absent,

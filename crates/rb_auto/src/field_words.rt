@@ -15,7 +15,7 @@ use std::alloc::{AllocError, Global};
 
 /// A word of a field: the field's number, the word's own where the field has several, and its width
 /// in bits.
-#[derive(Clone, Copy, PartialEq, Eq, Debug)]
+#[derive(Clone, Copy, PartialEq, Eq)]
 pub struct FieldWord {
     pub field: u32,
     pub word: Option<u64>,

@@ -1,7 +1,7 @@
 //! The forms of derived layouts.
 
 /// How the one word of a derived layout is used.
-#[derive(Clone, Copy, PartialEq, Eq, Debug)]
+#[derive(Clone, Copy, PartialEq, Eq)]
 pub enum Form {
     /// A tag of 8 bits, and a pointer to a block with the words of the fields.
     Boxed,

@@ -8,7 +8,7 @@ ghost use Rattle.rb_auto.specs.Widths.{counted, room_width, word_width};
 pub const WORD_BITS: u64 = 64;
 
 /// The room of a type for which no layout is written.
-#[derive(Clone, Copy, PartialEq, Eq, Debug)]
+#[derive(Clone, Copy, PartialEq, Eq)]
 pub enum Room {
     /// A whole word: the type is boxed, or has no layout.
     Word,

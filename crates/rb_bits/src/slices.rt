@@ -6,7 +6,7 @@ ghost use Rattle.rb_bits.specs.Slices.{AreSlices, gather_of, scatter_of, named_b
 use crate::words::{put, take};
 
 /// Bits `a` up to `a + l` of a number, which stand in bits `o` up to `o + l` of a word.
-#[derive(Clone, Copy, Debug, PartialEq, Eq)]
+#[derive(Clone, Copy, PartialEq, Eq)]
 pub struct Slice {
     pub o: u32,
     pub a: u32,

@@ -10,7 +10,7 @@ use rb_fragment::held::Held;
 
 /// The value at a position of another value, in slots, a word each. The path is a list of field numbers
 /// from the root.
-#[derive(Debug, Drop)]
+#[derive(Drop)]
 pub struct Subvalue {
     pub path: Seq<u32>,
     pub held: Held,

@@ -7,7 +7,7 @@ use std::marker::Model;
 
 /// A `Box` without its pointer: two boxes of equal values are equal to a contract, so a
 /// definition can build a tree. A type may hold itself in one.
-#[derive(Debug, Drop)]
+#[derive(Drop)]
 pub struct Boxed<T> {
     inner: Box<T>,
 }

@@ -5,7 +5,7 @@ use crate::seq::Seq;
 use crate::types::Ty;
 
 /// A match of a program: its token number, its scrutinee's type, and its clauses' patterns.
-#[derive(Debug, Drop)]
+#[derive(Drop)]
 pub struct Site {
     pub at: u32,
     pub scrutinee: Ty,

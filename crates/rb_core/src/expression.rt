@@ -6,7 +6,7 @@ use crate::seq::Seq;
 use crate::types::{ConRef, Ty};
 
 /// An operator on two integers of one width.
-#[derive(Clone, Copy, PartialEq, Eq, Debug)]
+#[derive(Clone, Copy, PartialEq, Eq)]
 pub enum Op {
     /// The sum modulo two to the width.
     Add,
@@ -28,7 +28,7 @@ pub enum Op {
 
 /// One clause of a match.
 #[cycle(expression)]
-#[derive(Debug, Drop)]
+#[derive(Drop)]
 pub struct Clause {
     pub pat: Pat,
     pub body: Expr,
@@ -36,7 +36,7 @@ pub struct Clause {
 
 /// An expression. The first number of each form is that of its first token.
 #[cycle(expression)]
-#[derive(Debug, Drop)]
+#[derive(Drop)]
 pub enum Expr {
     Num(u32, u64),
     /// A variable by the number of its binder.

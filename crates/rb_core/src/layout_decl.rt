@@ -43,7 +43,7 @@ impl Loc {
 
 /// What the bits of a part hold. A path is a list of field numbers from the root.
 #[cycle(item)]
-#[derive(Debug, Drop)]
+#[derive(Drop)]
 pub enum PartKind {
     /// This number.
     Const(u64),
@@ -59,7 +59,7 @@ pub enum PartKind {
 
 /// A part of a word: `l` bits from bit `o`.
 #[cycle(item)]
-#[derive(Debug, Drop)]
+#[derive(Drop)]
 pub struct PartDecl {
     pub o: u64,
     pub l: u64,
@@ -68,7 +68,7 @@ pub struct PartDecl {
 
 /// A word of a leaf or a block, or the words of the field at a path.
 #[cycle(item)]
-#[derive(Debug, Drop)]
+#[derive(Drop)]
 pub enum LayItem {
     /// A word of so many bits, with its parts.
     Word(u64, Seq<PartDecl>),
@@ -78,7 +78,7 @@ pub enum LayItem {
 
 /// What stands under one literal of a split.
 #[cycle(split)]
-#[derive(Debug, Drop)]
+#[derive(Drop)]
 pub struct Arm {
     pub literal: u64,
     pub under: LayTree,
@@ -86,7 +86,7 @@ pub struct Arm {
 
 /// A layout's tree of splits.
 #[cycle(split)]
-#[derive(Debug, Drop)]
+#[derive(Drop)]
 pub enum LayTree {
     /// A split of the bits at a location, with its arms and what stands under `else`.
     Split(Loc, Seq<Arm>, Option<Boxed<LayTree>>),
@@ -96,7 +96,7 @@ pub enum LayTree {
 
 /// A layout as it is written: the token number of `layout`, its type, its words' widths in bits,
 /// and its tree.
-#[derive(Debug, Drop)]
+#[derive(Drop)]
 pub struct LayoutDecl {
     pub at: u32,
     pub ty: u32,

@@ -6,7 +6,7 @@ use crate::seq::Seq;
 use crate::types::{DataDecl, Name, Ty};
 
 /// A parameter: its name's token number, its variable's number, and its type.
-#[derive(Clone, Copy, PartialEq, Eq, Debug)]
+#[derive(Clone, Copy, PartialEq, Eq)]
 pub struct Param {
     pub at: u32,
     pub var: u32,
@@ -14,7 +14,7 @@ pub struct Param {
 }
 
 /// A function.
-#[derive(Debug, Drop)]
+#[derive(Drop)]
 pub struct Fun {
     pub name: Name,
     pub params: Seq<Param>,
@@ -24,7 +24,7 @@ pub struct Fun {
 
 /// A program: names are replaced by the numbers of what they name, and `main` is the number of
 /// the function where a run begins.
-#[derive(Debug, Drop)]
+#[derive(Drop)]
 pub struct Program {
     pub types: Seq<DataDecl>,
     pub layouts: Seq<LayoutDecl>,
@@ -33,7 +33,7 @@ pub struct Program {
 }
 
 /// A clause that no value reaches: its match's token number, and its own number in that match.
-#[derive(Clone, Copy, PartialEq, Eq, Debug)]
+#[derive(Clone, Copy, PartialEq, Eq)]
 pub struct Note {
     pub at: u32,
     pub clause: u32,

@@ -22,21 +22,21 @@ pub struct ConRef {
 }
 
 /// A constructor as it is declared, with the types of its fields.
-#[derive(Debug, Drop)]
+#[derive(Drop)]
 pub struct Con {
     pub name: Name,
     pub fields: Seq<Ty>,
 }
 
 /// A data type as it is declared.
-#[derive(Debug, Drop)]
+#[derive(Drop)]
 pub struct DataDecl {
     pub name: Name,
     pub cons: Seq<Con>,
 }
 
 /// A layout that the compiler is to choose.
-#[derive(Clone, Copy, PartialEq, Eq, Debug)]
+#[derive(Clone, Copy, PartialEq, Eq)]
 pub enum Auto {
     /// One word that is a number or points to a block.
     Boxed,

@@ -13,14 +13,14 @@ use std::alloc::{AllocError, Global};
 
 /// A column of a clause matrix: the position of its values in the scrutinee, by field numbers from
 /// the root, and their type.
-#[derive(Debug, Drop)]
+#[derive(Drop)]
 pub struct Column {
     pub position: Seq<u32>,
     pub ty: Ty,
 }
 
 /// A row of a clause matrix: its patterns, one for each column, and the number of its clause.
-#[derive(Debug, Drop)]
+#[derive(Drop)]
 pub struct Row {
     pub pats: Seq<Pat>,
     pub clause: u32,

@@ -4,14 +4,14 @@ use rb_core::seq::Seq;
 use rb_matrix::matrix::Head;
 
 /// A decision graph: nodes that link to nodes with lower numbers, and the number of the first test.
-#[derive(Debug, Drop)]
+#[derive(Drop)]
 pub struct Graph {
     pub nodes: Seq<GraphNode>,
     pub root: u32,
 }
 
 /// A node of a decision graph: a node of a tree, with the numbers of nodes in place of subtrees.
-#[derive(Debug, Drop)]
+#[derive(Drop)]
 pub enum GraphNode {
     /// A test of what stands at a position, with its arms and the node for all other values.
     Test(Seq<u32>, Seq<GraphArm>, Option<u32>),
@@ -20,7 +20,7 @@ pub enum GraphNode {
 }
 
 /// The node at which a test goes on where the tested value begins with a head.
-#[derive(Clone, Copy, PartialEq, Eq, Debug)]
+#[derive(Clone, Copy, PartialEq, Eq)]
 pub struct GraphArm {
     pub head: Head,
     pub under: u32,

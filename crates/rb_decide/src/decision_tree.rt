@@ -6,7 +6,7 @@ use rb_matrix::matrix::Head;
 
 /// A decision tree of a match.
 #[cycle(tree)]
-#[derive(Debug, Drop)]
+#[derive(Drop)]
 pub enum Tree {
     /// A test of what stands at a position of the scrutinee, by field numbers from the root: the
     /// first arm whose head it begins with, or else what stands last, if anything.
@@ -17,14 +17,14 @@ pub enum Tree {
 
 /// What is left to do where the tested value begins with a head.
 #[cycle(tree)]
-#[derive(Debug, Drop)]
+#[derive(Drop)]
 pub struct TreeArm {
     pub head: Head,
     pub under: Tree,
 }
 
 /// The tree of a match, unless it is too large.
-#[derive(Debug, Drop)]
+#[derive(Drop)]
 pub enum Tried {
     /// The tree.
     Built(Tree),

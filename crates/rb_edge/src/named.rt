@@ -3,7 +3,7 @@
 use crate::seq::{Name, Seq};
 
 /// The bytes of a file under its name.
-#[derive(Debug, Drop)]
+#[derive(Drop)]
 pub struct NamedBytes {
     pub name: Name,
     pub bytes: Seq<u8>,

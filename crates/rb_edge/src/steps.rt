@@ -16,7 +16,7 @@ pub trait Ledger {
 }
 
 /// A ledger that keeps nothing.
-#[derive(Debug, Drop)]
+#[derive(Drop)]
 pub struct NoLedger;
 
 impl Ledger for NoLedger {
@@ -26,7 +26,7 @@ impl Ledger for NoLedger {
 }
 
 /// A ledger that counts its notes, up to the greatest number.
-#[derive(Debug, Drop)]
+#[derive(Drop)]
 pub struct CountLedger {
     pub count: u128,
 }

@@ -18,7 +18,7 @@ use std::alloc::{AllocError, Global};
 
 /// A way to a leaf: the number of its open jump, the leaf's number in its layout, and the parts of the
 /// construction that were found on the way. Those at the leaf's open positions are among them.
-#[derive(Debug, Drop)]
+#[derive(Drop)]
 pub struct Way {
     pub pc: usize,
     pub leaf: usize,
@@ -26,7 +26,7 @@ pub struct Way {
 }
 
 /// The ways to the leaves of a construction, and a hole for each: hole k is the jump of way k.
-#[derive(Debug, Drop)]
+#[derive(Drop)]
 pub struct Choices {
     pub holes: Seq<Hole>,
     pub ways: Seq<Way>,

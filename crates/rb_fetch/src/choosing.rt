@@ -34,7 +34,7 @@ use rb_target::instr::Instr;
 use std::alloc::{AllocError, Global};
 
 // The code of the leaves of a part: where that of each begins, and all ways out.
-#[derive(Debug, Drop)]
+#[derive(Drop)]
 struct Branches {
     starts: Seq<usize>,
     ways: Seq<Way>,

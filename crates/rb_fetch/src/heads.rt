@@ -15,7 +15,7 @@ use rb_layout::layout::{Layout, Leaf};
 use std::alloc::{AllocError, Global};
 
 /// A constructor of a provenance: its position, a list of field numbers from the root, and itself.
-#[derive(Debug, Drop)]
+#[derive(Drop)]
 pub(crate) struct Place {
     pub path: Seq<u32>,
     pub con: ConRef,

@@ -5,7 +5,7 @@ use rb_core::types::Ty;
 use rb_target::body::Hole;
 
 /// A variable, its type, and the slots that hold its value, a word each.
-#[derive(Debug, Drop)]
+#[derive(Drop)]
 pub struct Local {
     pub var: u32,
     pub ty: Ty,
@@ -13,14 +13,14 @@ pub struct Local {
 }
 
 /// Slots that hold a value of a type, a word each.
-#[derive(Debug, Drop)]
+#[derive(Drop)]
 pub struct Held {
     pub ty: Ty,
     pub slots: Seq<usize>,
 }
 
 /// Where an arm leaves its value, and its open jump to where all arms meet.
-#[derive(Debug, Drop)]
+#[derive(Drop)]
 pub struct Joined {
     pub into: Held,
     pub join: Hole,

@@ -9,7 +9,7 @@ use std::alloc::{AllocError, Global};
 
 /// A number, from slots and memory. Ranges are bits, offsets are bytes, widths are bits.
 #[cycle(read)]
-#[derive(Debug, Drop)]
+#[derive(Drop)]
 pub enum Read {
     /// The word in a slot.
     Slot(usize),
@@ -27,7 +27,7 @@ pub enum Read {
 
 /// Bits `o` up to `o + l` of a number, which stand from bit `a` on in another one.
 #[cycle(read)]
-#[derive(Debug, Drop)]
+#[derive(Drop)]
 pub struct Share {
     pub read: Read,
     pub o: u8,

@@ -2,7 +2,7 @@
 
 /// A word of a value, or bits of one, with where the word is kept: in the block that begins at `base`, from byte
 /// `place` on, or, where the base is 0, in the root word with the number `place`.
-#[derive(Clone, Copy, PartialEq, Eq, Hash, Debug)]
+#[derive(Clone, Copy, PartialEq, Eq, Hash)]
 pub struct Kept {
     pub number: u64,
     pub base: u64,
@@ -10,7 +10,7 @@ pub struct Kept {
 }
 
 /// A place at which a value of a data type is to stand: the type's number, and the words there.
-#[derive(PartialEq, Eq, Hash, Debug, Drop)]
+#[derive(PartialEq, Eq, Hash, Drop)]
 pub struct Place {
     pub ty: u32,
     pub words: Vec<Kept>,

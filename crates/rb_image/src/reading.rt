@@ -14,7 +14,7 @@ use rb_image_text::image::Image;
 use std::alloc::{AllocError, Global};
 
 /// The bits at a site, and their number once they were read.
-#[derive(Clone, Copy, PartialEq, Eq, Debug)]
+#[derive(Clone, Copy, PartialEq, Eq)]
 pub struct Reading {
     pub site: Site,
     pub number: Option<u64>,

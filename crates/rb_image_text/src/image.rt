@@ -12,14 +12,14 @@ pub const LEAST_ADDRESS: u64 = 64;
 pub const MOST_BLOCK_BYTES: usize = 512;
 
 /// A block of an image: its address in bytes, and its bytes, all of them written.
-#[derive(Debug, Drop)]
+#[derive(Drop)]
 pub struct ImageBlock {
     pub at: u64,
     pub bytes: Seq<u8>,
 }
 
 /// The words of a value, and the blocks of the memory in which it stands.
-#[derive(Debug, Drop)]
+#[derive(Drop)]
 pub struct Image {
     pub root: Seq<u64>,
     pub blocks: Seq<ImageBlock>,

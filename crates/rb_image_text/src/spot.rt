@@ -3,7 +3,7 @@
 use crate::image::ImageBlock;
 
 /// Where reading stands between two bytes.
-#[derive(Debug, Drop)]
+#[derive(Drop)]
 pub enum Spot {
     /// Within the word `root`: how many of its bytes are read.
     Root(usize),
@@ -26,7 +26,7 @@ pub enum Spot {
 }
 
 /// What one byte more does.
-#[derive(Debug, Drop)]
+#[derive(Drop)]
 pub enum Move {
     To(Spot),
     /// A root word is whole.

@@ -16,7 +16,7 @@ const PREFIX: [u8; 2] = *b"0x";
 const BLOCK: [u8; 6] = *b"block ";
 
 /// What is read of a text: whole root words and blocks, and what stands in part behind them.
-#[derive(Debug, Drop)]
+#[derive(Drop)]
 pub struct Reader {
     pub root: Seq<u64>,
     pub blocks: Seq<ImageBlock>,

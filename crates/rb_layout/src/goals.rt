@@ -10,7 +10,7 @@ use std::alloc::{AllocError, Global};
 use std::marker::Model;
 
 /// A number in a range of bits: `l` bits from bit `o`, which are those of `bits`.
-#[derive(Clone, Copy, PartialEq, Eq, Hash, Debug)]
+#[derive(Clone, Copy, PartialEq, Eq, Hash)]
 pub struct Literal {
     pub o: u64,
     pub l: u64,
@@ -18,7 +18,7 @@ pub struct Literal {
 }
 
 /// That root word `word` never has a literal, in no leaf of a type.
-#[derive(Clone, Copy, PartialEq, Eq, Hash, Debug)]
+#[derive(Clone, Copy, PartialEq, Eq, Hash)]
 pub struct Goal {
     pub ty: u32,
     pub word: u64,
@@ -26,7 +26,7 @@ pub struct Goal {
 }
 
 /// A goal, and whether it is known to hold.
-#[derive(Clone, Copy, Debug)]
+#[derive(Clone, Copy)]
 pub struct Entry {
     pub goal: Goal,
     pub barred: bool,

@@ -6,7 +6,7 @@ use rb_core::pattern::Pat;
 use rb_core::seq::Seq;
 
 /// What the bits of a part hold. A path is a list of field numbers from the root.
-#[derive(Debug, Drop)]
+#[derive(Drop)]
 pub enum Kind {
     /// This number.
     Const(u64),
@@ -19,7 +19,7 @@ pub enum Kind {
 }
 
 /// A part of a word: `l` bits from bit `o`.
-#[derive(Debug, Drop)]
+#[derive(Drop)]
 pub struct Part {
     pub o: u64,
     pub l: u64,
@@ -27,21 +27,21 @@ pub struct Part {
 }
 
 /// A word of `width` bits, with its parts.
-#[derive(Debug, Drop)]
+#[derive(Drop)]
 pub struct FlatWord {
     pub width: u64,
     pub parts: Seq<Part>,
 }
 
 /// A block that begins at a multiple of `align` bytes, with its words one after the other.
-#[derive(Debug, Drop)]
+#[derive(Drop)]
 pub struct Block {
     pub align: u64,
     pub words: Seq<FlatWord>,
 }
 
 /// A leaf: which values it holds, its root words, and its blocks, inner ones before outer ones.
-#[derive(Debug, Drop)]
+#[derive(Drop)]
 pub struct Leaf {
     pub prov: Pat,
     pub root: Seq<FlatWord>,
@@ -50,7 +50,7 @@ pub struct Leaf {
 
 /// What stands under one literal of a split.
 #[cycle(tree)]
-#[derive(Debug, Drop)]
+#[derive(Drop)]
 pub struct FlatArm {
     pub literal: u64,
     pub under: FlatTree,
@@ -58,7 +58,7 @@ pub struct FlatArm {
 
 /// A tree of splits over the leaves of a layout.
 #[cycle(tree)]
-#[derive(Debug, Drop)]
+#[derive(Drop)]
 pub enum FlatTree {
     /// A split of the bits at a location, with its arms and what stands under `else`.
     Split(Loc, Seq<FlatArm>, Option<Boxed<FlatTree>>),
@@ -68,7 +68,7 @@ pub enum FlatTree {
 
 /// A layout: its type's number, the widths of its words in bits, its tree of splits, and its leaves
 /// from left to right.
-#[derive(Debug, Drop)]
+#[derive(Drop)]
 pub struct Layout {
     pub ty: u32,
     pub shape: Seq<u64>,
@@ -77,7 +77,7 @@ pub struct Layout {
 }
 
 /// A word of a leaf: of its root, or of the block with this number.
-#[derive(Clone, Copy, PartialEq, Eq, Debug)]
+#[derive(Clone, Copy, PartialEq, Eq)]
 pub struct WordRef {
     pub block: Option<u32>,
     pub word: u32,

@@ -11,7 +11,7 @@ use crate::layout::{FlatWord, Kind, Leaf, Part, WordRef};
 use rb_core::layout_decl::{Loc, Step};
 
 /// Where a location ends: a word of a leaf, and bits `o` up to `o + l` of it.
-#[derive(Clone, Copy, Debug)]
+#[derive(Clone, Copy)]
 pub struct End {
     pub at: WordRef,
     pub o: u64,

@@ -11,7 +11,7 @@ use std::alloc::{AllocError, Global};
 
 /// Slots for the part of a value at a position, a word each, and the part's type. All code that saves
 /// the part saves it here.
-#[derive(Debug, Drop)]
+#[derive(Drop)]
 pub struct Spot {
     pub position: Seq<u32>,
     pub ty: Ty,
@@ -20,7 +20,7 @@ pub struct Spot {
 
 /// A fact on a value. A position is that of the test that found a leaf, so a list of facts is copied as
 /// one piece.
-#[derive(Debug, Clone, Copy)]
+#[derive(Clone, Copy)]
 pub enum Known<'a> {
     /// The part of the value at a position is of a data type, and this is its leaf.
     Leaf {
@@ -36,7 +36,7 @@ pub enum Known<'a> {
 
 /// A way out of emitted code, whose `leaf` is the number of the node to which it leads, with what is
 /// known of the value there.
-#[derive(Debug, Drop)]
+#[derive(Drop)]
 pub struct Edge<'a> {
     pub hole: Hole,
     pub known: Seq<Known<'a>>,

@@ -15,14 +15,14 @@ use rb_layout::positions::type_at;
 use std::alloc::{AllocError, Global};
 
 /// The type of a part of a value, and what its words are.
-#[derive(Debug, Drop)]
+#[derive(Drop)]
 pub struct Place {
     pub ty: Ty,
     pub reads: Seq<Read>,
 }
 
 // The place at so many first fields of a position.
-#[derive(Debug, Drop)]
+#[derive(Drop)]
 pub struct Begun {
     pub place: Place,
     pub from: usize,

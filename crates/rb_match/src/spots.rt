@@ -22,7 +22,7 @@ use rb_target::body::Body;
 use std::alloc::{AllocError, Global};
 
 /// A position at which a part is to be saved, and its type.
-#[derive(Debug, Drop)]
+#[derive(Drop)]
 pub struct Wanted {
     pub position: Seq<u32>,
     pub ty: Ty,
@@ -162,7 +162,7 @@ pub fn has_spot_below(spots: &[Spot], position: &[u32]) -> bool {
 
 /// A graph of tests, and what it tests: values of a type, for some patterns. Where it has no nodes, all that
 /// can be saved is wanted.
-#[derive(Debug, Clone, Copy)]
+#[derive(Clone, Copy)]
 pub struct Whole<'a> {
     pub ty: Ty,
     pub pats: &'a [Pat],

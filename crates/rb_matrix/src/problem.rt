@@ -7,7 +7,7 @@ use rb_core::seq::Seq;
 use rb_core::types::{ConRef, Ty};
 
 /// How a row of patterns for a problem becomes one for the problem that it is a part of.
-#[derive(Debug, Drop)]
+#[derive(Drop)]
 pub enum Step {
     /// This pattern stands before the row.
     Front(Pat),
@@ -17,7 +17,7 @@ pub enum Step {
 
 /// Is there a vector of these types that all wanted rows match and no unwanted one? The steps lead
 /// from a row for this problem to one for the problem at the root.
-#[derive(Debug, Drop)]
+#[derive(Drop)]
 pub struct Problem {
     pub tys: Stack<Ty>,
     pub wanted: Seq<Row>,
@@ -26,7 +26,7 @@ pub struct Problem {
 }
 
 /// What becomes of a problem.
-#[derive(Debug, Drop)]
+#[derive(Drop)]
 pub enum Outcome {
     /// The empty row is its answer, and these are its steps.
     Solved(Seq<Step>),

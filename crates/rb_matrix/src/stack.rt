@@ -8,7 +8,7 @@ use std::collections::VecDeque;
 use std::marker::Model;
 
 /// A list whose first item is the next to be taken off. No other item moves then.
-#[derive(Debug, Drop)]
+#[derive(Drop)]
 pub struct Stack<T> {
     items: VecDeque<T>,
 }

@@ -14,7 +14,7 @@ use rb_syntax::tree::FileTree;
 use std::alloc::{AllocError, Global};
 
 /// A program whose layouts are the written ones and then those that are derived.
-#[derive(Debug, Drop)]
+#[derive(Drop)]
 pub struct Completed {
     pub program: Program,
     /// The first refusal, in the file's order.

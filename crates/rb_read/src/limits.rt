@@ -9,7 +9,7 @@ use crate::fault::Quantity;
 use rb_syntax::tree::{ConTree, FileTree, ItemTree, TypeTree};
 
 /// How many there are of something that has a limit.
-#[derive(Clone, Copy, PartialEq, Eq, Debug)]
+#[derive(Clone, Copy, PartialEq, Eq)]
 pub struct Count {
     pub quantity: Quantity,
     pub count: u64,

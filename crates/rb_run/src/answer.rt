@@ -42,7 +42,7 @@ pub enum Answer {
 
 /// The bounds of a run: how many calls it makes at most, the address at which its memory ends, and how
 /// many nodes of a value are shown.
-#[derive(Clone, Copy, Debug)]
+#[derive(Clone, Copy)]
 pub struct Bounds {
     pub calls: u64,
     pub region: u64,

@@ -27,7 +27,7 @@ use std::alloc::{AllocError, Global};
 const FIRST_ADDRESS: u64 = 64;
 
 /// What a run did.
-#[derive(Clone, Copy, Debug)]
+#[derive(Clone, Copy)]
 pub struct Tally {
     /// The calls that it made, that of `main` included; of one that returned.
     pub calls: u64,

@@ -10,7 +10,7 @@ use rb_layout::layout::FlatTree;
 use std::alloc::{AllocError, Global};
 
 // A leaf's number, and the lines of the conditions of the splits above it, from the outside.
-#[derive(Debug, Drop)]
+#[derive(Drop)]
 pub struct Way {
     pub leaf: u32,
     pub conditions: Seq<u8>,

@@ -8,7 +8,7 @@ use crate::token::Placed;
 use std::alloc::{AllocError, Global};
 
 /// What stands next in a text.
-#[derive(Debug, Drop)]
+#[derive(Drop)]
 pub enum Next {
     /// A token, and the byte behind it.
     Token(Placed, usize),

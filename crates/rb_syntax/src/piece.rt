@@ -13,7 +13,7 @@ use rb_core::seq::Seq;
 use std::alloc::{AllocError, Global};
 
 /// A piece with its length in bytes, or what is wrong with it.
-#[derive(Debug, Drop)]
+#[derive(Drop)]
 pub enum Piece {
     /// A blank or a comment.
     Gap(usize),

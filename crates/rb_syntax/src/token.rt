@@ -55,7 +55,7 @@ pub enum Symbol {
 }
 
 /// A token of a file.
-#[derive(Debug, Drop)]
+#[derive(Drop)]
 pub enum Token {
     /// A name that begins with a capital: of a type or a constructor.
     Upper(Name),
@@ -72,7 +72,7 @@ pub enum Token {
 }
 
 /// A token and the byte of the file at which it begins.
-#[derive(Debug, Drop)]
+#[derive(Drop)]
 pub struct Placed {
     pub token: Token,
     pub at: usize,

@@ -9,14 +9,14 @@ use rb_core::seq::Seq;
 pub use rb_core::types::{Auto, Name};
 
 /// A name and its token's number.
-#[derive(Debug, Drop)]
+#[derive(Drop)]
 pub struct NameTree {
     pub at: u32,
     pub text: Name,
 }
 
 /// A type as it is written.
-#[derive(Debug, Drop)]
+#[derive(Drop)]
 pub enum TyTree {
     /// `u1` to `u64`.
     Int(u8),
@@ -25,21 +25,21 @@ pub enum TyTree {
 }
 
 /// A constructor with the types of its fields.
-#[derive(Debug, Drop)]
+#[derive(Drop)]
 pub struct ConTree {
     pub name: NameTree,
     pub fields: Seq<TyTree>,
 }
 
 /// `type T = A | B(u8);`
-#[derive(Debug, Drop)]
+#[derive(Drop)]
 pub struct TypeTree {
     pub name: NameTree,
     pub cons: Seq<ConTree>,
 }
 
 /// A pattern, or the provenance of a leaf.
-#[derive(Debug, Drop)]
+#[derive(Drop)]
 pub enum PatTree {
     /// `_`
     Wild(u32),
@@ -51,7 +51,7 @@ pub enum PatTree {
 
 /// `p => e` in a match.
 #[cycle(expression)]
-#[derive(Debug, Drop)]
+#[derive(Drop)]
 pub struct ClauseTree {
     pub pat: PatTree,
     pub body: ExprTree,
@@ -59,7 +59,7 @@ pub struct ClauseTree {
 
 /// An expression.
 #[cycle(expression)]
-#[derive(Debug, Drop)]
+#[derive(Drop)]
 pub enum ExprTree {
     Num(u32, u64),
     Var(u32, NameTree),
@@ -78,7 +78,7 @@ pub enum ExprTree {
 }
 
 /// `x: T` in a list of parameters.
-#[derive(Debug, Drop)]
+#[derive(Drop)]
 pub struct ParamTree {
     pub at: u32,
     pub var: NameTree,
@@ -86,7 +86,7 @@ pub struct ParamTree {
 }
 
 /// `fun f(x: T): U = e;`
-#[derive(Debug, Drop)]
+#[derive(Drop)]
 pub struct FunTree {
     pub name: NameTree,
     pub params: Seq<ParamTree>,
@@ -96,7 +96,7 @@ pub struct FunTree {
 
 /// `0 => ...` below a split.
 #[cycle(split)]
-#[derive(Debug, Drop)]
+#[derive(Drop)]
 pub struct ArmTree {
     pub literal: u64,
     pub under: SplitTree,
@@ -104,7 +104,7 @@ pub struct ArmTree {
 
 /// A layout's tree: splits above leaves.
 #[cycle(split)]
-#[derive(Debug, Drop)]
+#[derive(Drop)]
 pub enum SplitTree {
     /// `split loc { 0 => ... else => ... }`
     Split(Loc, Seq<ArmTree>, Option<Boxed<SplitTree>>),
@@ -113,7 +113,7 @@ pub enum SplitTree {
 }
 
 /// `layout T <64> = ...;`, with the number of the word `layout`.
-#[derive(Debug, Drop)]
+#[derive(Drop)]
 pub struct LayoutTree {
     pub at: u32,
     pub ty: NameTree,
@@ -122,7 +122,7 @@ pub struct LayoutTree {
 }
 
 /// An item of a file.
-#[derive(Debug, Drop)]
+#[derive(Drop)]
 pub enum ItemTree {
     Types(TypeTree),
     Layouts(LayoutTree),
@@ -132,7 +132,7 @@ pub enum ItemTree {
 }
 
 /// A file.
-#[derive(Debug, Drop)]
+#[derive(Drop)]
 pub struct FileTree {
     pub items: Seq<ItemTree>,
 }

@@ -17,7 +17,7 @@ pub const MOST_INSTRS: usize = 1 << 24;
 /// A target that is still open: the number of a jump or a switch, and which of its targets. No arm
 /// is the jump's own target, or the switch's other one. `leaf` says whose target it is, to whoever
 /// made the hole.
-#[derive(Clone, Copy, PartialEq, Eq, Debug)]
+#[derive(Clone, Copy, PartialEq, Eq)]
 pub struct Hole {
     pub pc: usize,
     pub arm: Option<usize>,
@@ -25,7 +25,7 @@ pub struct Hole {
 }
 
 /// Instructions, and the slots that are in use: the parameters, then one for each call of `fresh`.
-#[derive(Debug, Drop)]
+#[derive(Drop)]
 pub struct Body {
     code: Seq<Instr>,
     params: usize,

@@ -11,7 +11,7 @@ use std::marker::Model;
 
 /// A function: its numbers of parameters, results and slots, and its instructions. The first slots
 /// hold the parameters, the others begin as 0.
-#[derive(Debug, Drop)]
+#[derive(Drop)]
 pub struct CodeFun {
     pub name: Name,
     pub params: usize,
@@ -22,7 +22,7 @@ pub struct CodeFun {
 
 /// Functions that are valid together: each slot, target and call is one of theirs, jumps go forward,
 /// and each body ends in a return.
-#[derive(Debug, Drop)]
+#[derive(Drop)]
 pub struct Code {
     funs: Seq<CodeFun>,
 }

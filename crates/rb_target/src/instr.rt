@@ -3,7 +3,7 @@
 use rb_core::seq::Seq;
 
 /// An operation on two words.
-#[derive(Clone, Copy, PartialEq, Eq, Debug)]
+#[derive(Clone, Copy, PartialEq, Eq)]
 pub enum AluOp {
     Add,
     Sub,
@@ -18,14 +18,14 @@ pub enum AluOp {
 }
 
 /// A number, and where a switch goes on it.
-#[derive(Clone, Copy, PartialEq, Eq, Debug)]
+#[derive(Clone, Copy, PartialEq, Eq)]
 pub struct SwitchArm {
     pub number: u64,
     pub target: usize,
 }
 
 /// One step of the machine. The destination comes first.
-#[derive(Debug, Drop)]
+#[derive(Drop)]
 pub enum Instr {
     /// A number.
     Const(usize, u64),

@@ -4,7 +4,7 @@ use rb_bytes::fault::{Full, Trap};
 use rb_core::seq::Seq;
 
 /// The end of a run.
-#[derive(Debug, Drop)]
+#[derive(Drop)]
 pub enum End {
     /// The function's results, and how many calls were left.
     Returned { words: Seq<u64>, calls_left: u64 },
@@ -17,7 +17,7 @@ pub enum End {
 }
 
 /// The end of a run, and how many switches it did.
-#[derive(Debug, Drop)]
+#[derive(Drop)]
 pub struct Ran {
     pub end: End,
     pub switches: u128,

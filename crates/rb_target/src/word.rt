@@ -6,7 +6,7 @@ ghost use Rattle.rb_target.specs.Text.{op_text, key_text};
 use crate::instr::{AluOp, Instr};
 
 /// A word after a line's first.
-#[derive(Clone, Copy, PartialEq, Eq, Debug)]
+#[derive(Clone, Copy, PartialEq, Eq)]
 pub enum Word {
     Number(u64),
     Op(AluOp),

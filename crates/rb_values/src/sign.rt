@@ -7,7 +7,7 @@ use rb_core::types::Name;
 use rb_syntax::token::{Placed, Symbol, Token};
 
 /// A token as a value's text has it. A number and a name begin a node, and keep their byte.
-#[derive(Debug, Drop)]
+#[derive(Drop)]
 pub enum Sign {
     /// The byte, and the number.
     Number(usize, u64),

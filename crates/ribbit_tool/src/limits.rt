@@ -3,7 +3,7 @@
 ghost use Rattle.std.specs.Prelude.{◌≤◌};
 
 /// How many calls a run may make, and how much memory it may take.
-#[derive(Clone, Copy, Debug)]
+#[derive(Clone, Copy)]
 pub struct Limits {
     /// Calls, that of `main` included.
     pub calls: u64,
@@ -15,7 +15,7 @@ pub struct Limits {
 }
 
 /// How many functions a generated file has beside `up` and `main`.
-#[derive(Clone, Copy, Debug)]
+#[derive(Clone, Copy)]
 pub struct Functions {
     pub count: u64,
     ghost some: { 1 ≤ count },

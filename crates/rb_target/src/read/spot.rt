@@ -4,7 +4,7 @@ use crate::code::CodeFun;
 use crate::instr::Instr;
 
 /// The first word of a line within a function.
-#[derive(Clone, Copy, PartialEq, Eq, Debug)]
+#[derive(Clone, Copy, PartialEq, Eq)]
 pub enum Key {
     Const,
     Copy,
@@ -22,7 +22,7 @@ pub enum Key {
 }
 
 /// Which of a line's words comes next. The lists of a switch, a call and a return repeat a turn.
-#[derive(Clone, Copy, PartialEq, Eq, Debug)]
+#[derive(Clone, Copy, PartialEq, Eq)]
 pub enum Turn {
     First,
     Second,
@@ -32,7 +32,7 @@ pub enum Turn {
 }
 
 /// What a word may be.
-#[derive(Clone, Copy, PartialEq, Eq, Debug)]
+#[derive(Clone, Copy, PartialEq, Eq)]
 pub enum Field {
     /// Any number.
     Any,
@@ -54,7 +54,7 @@ pub enum Field {
 
 /// A line that is read in part: an instruction whose words behind the turn are not read yet, and
 /// the number that was read last.
-#[derive(Debug, Drop)]
+#[derive(Drop)]
 pub struct Line {
     pub instr: Instr,
     pub turn: Turn,
@@ -62,7 +62,7 @@ pub struct Line {
 }
 
 /// Where reading stands between two words.
-#[derive(Debug, Drop)]
+#[derive(Drop)]
 pub enum Spot {
     /// Before the word `fun`, or at the end.
     Outside,
@@ -79,7 +79,7 @@ pub enum Spot {
 }
 
 /// What a word and the byte behind it do.
-#[derive(Debug, Drop)]
+#[derive(Drop)]
 pub enum Move {
     To(Spot),
     /// The function is whole.

@@ -15,7 +15,7 @@ use std::marker::Model;
 use std::mem;
 
 /// What is read of a text: whole functions, and the front of a word.
-#[derive(Debug, Drop)]
+#[derive(Drop)]
 pub struct Reader {
     funs: Seq<CodeFun>,
     spot: Spot,
