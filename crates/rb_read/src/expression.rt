@@ -67,6 +67,21 @@ pub fn read_expression<'a>(
     read_expression_node(alloc, levels - 1, total, placed)
 }
 
+// The same, in a box.
+#[cycle(expressions)]
+fn read_boxed<'a>(
+    alloc: Global,
+    levels: u32,
+    total: usize,
+    placed: &'a [Placed],
+) -> Result<(Boxed<ExprTree>, &'a [Placed]), Stop>
+    requires { total < 2 ^ 32 }
+    ensures { Gives (λ x. (x.0, tokens x.1.now)) result (reading.expression levels total (tokens placed.now)) }
+{
+    let (inner, rest) = read_expression(alloc, levels, total, placed)?;
+    Ok((Boxed::new(alloc, inner)?, rest))
+}
+
 // An expression whose parts have so many levels left.
 #[cycle(expressions)]
 #[tactic(auto, unfolding(crate::specs::Reading::expression_one, crate::specs::Reading::expression_from))]
@@ -251,12 +266,10 @@ fn read_operation<'a>(
         (λ ts. reading.expression levels total ts) total at op (tokens placed.now)) }
 {
     let rest = expect(Symbol::OpenParen, placed)?;
-    let (first, rest) = read_expression(alloc, levels, total, rest)?;
+    let (first, rest) = read_boxed(alloc, levels, total, rest)?;
     let rest = expect(Symbol::Comma, rest)?;
-    let (second, rest) = read_expression(alloc, levels, total, rest)?;
+    let (second, rest) = read_boxed(alloc, levels, total, rest)?;
     let rest = expect(Symbol::CloseParen, rest)?;
-    let first = Boxed::new(alloc, first)?;
-    let second = Boxed::new(alloc, second)?;
     Ok((ExprTree::Binary(at, op, first, second), rest))
 }
 
@@ -277,9 +290,8 @@ fn read_conversion<'a>(
 {
     let (bits, rest) = read_width(placed)?;
     let rest = expect(Symbol::OpenParen, rest)?;
-    let (inner, rest) = read_expression(alloc, levels, total, rest)?;
+    let (inner, rest) = read_boxed(alloc, levels, total, rest)?;
     let rest = expect(Symbol::CloseParen, rest)?;
-    let inner = Boxed::new(alloc, inner)?;
     Ok((ExprTree::To(at, bits, inner), rest))
 }
 
@@ -302,11 +314,9 @@ fn read_binding<'a>(
     let rest = expect(Symbol::Colon, rest)?;
     let (ty, rest) = read_type(alloc, total, rest)?;
     let rest = expect(Symbol::Equals, rest)?;
-    let (bound, rest) = read_expression(alloc, levels, total, rest)?;
+    let (bound, rest) = read_boxed(alloc, levels, total, rest)?;
     let rest = expect_word(Word::In, rest)?;
-    let (body, rest) = read_expression(alloc, levels, total, rest)?;
-    let bound = Boxed::new(alloc, bound)?;
-    let body = Boxed::new(alloc, body)?;
+    let (body, rest) = read_boxed(alloc, levels, total, rest)?;
     Ok((ExprTree::Let(at, name, ty, bound, body), rest))
 }
 
@@ -325,10 +335,9 @@ fn read_matching<'a>(
         (reading.matching (λ ts. reading.pattern levels total ts)
         (λ ts. reading.expression levels total ts) total at (tokens placed.now)) }
 {
-    let (matched, rest) = read_expression(alloc, levels, total, placed)?;
+    let (matched, rest) = read_boxed(alloc, levels, total, placed)?;
     let rest = expect(Symbol::OpenBrace, rest)?;
     let (clauses, rest) = read_clauses(alloc, levels, total, rest)?;
-    let matched = Boxed::new(alloc, matched)?;
     Ok((ExprTree::Match(at, matched, clauses), rest))
 }
 

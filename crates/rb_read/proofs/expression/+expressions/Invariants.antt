@@ -8,6 +8,9 @@ use Rattle.rb_read.proofs.expression.+expressions.Given as goal
 abbrev pub decreases-read_expression : goal.decreases-read_expression
 decreases-read_expression l = 6 * l.levels
 
+abbrev pub decreases-read_boxed : goal.decreases-read_boxed
+decreases-read_boxed l = 6 * l.levels + 1
+
 abbrev pub decreases-read_some_expressions : goal.decreases-read_some_expressions
 decreases-read_some_expressions l = 6 * l.levels + 1
 
@@ -24,13 +27,13 @@ abbrev pub decreases-read_clauses : goal.decreases-read_clauses
 decreases-read_clauses l = 6 * l.levels + 2
 
 abbrev pub decreases-read_operation : goal.decreases-read_operation
-decreases-read_operation l = 6 * l.levels + 1
+decreases-read_operation l = 6 * l.levels + 2
 
 abbrev pub decreases-read_conversion : goal.decreases-read_conversion
-decreases-read_conversion l = 6 * l.levels + 1
+decreases-read_conversion l = 6 * l.levels + 2
 
 abbrev pub decreases-read_binding : goal.decreases-read_binding
-decreases-read_binding l = 6 * l.levels + 1
+decreases-read_binding l = 6 * l.levels + 2
 
 abbrev pub decreases-read_matching : goal.decreases-read_matching
 decreases-read_matching l = 6 * l.levels + 3
