@@ -30,8 +30,7 @@ fn push_between(
 {
     push(text, before)?;
     push_number(text, number)?;
-    push(text, after)?;
-    Ok(())
+    push(text, after)
 }
 
 // A leaf's provenance.
@@ -54,8 +53,7 @@ fn push_width(text: &mut Vec<u8>, word: u32, width: u64) -> Result<(), AllocErro
 {
     push_between(text, b"word ", word as u64, b" has ")?;
     push_number(text, width)?;
-    push(text, b" bits")?;
-    Ok(())
+    push(text, b" bits")
 }
 
 fn push_item(text: &mut Vec<u8>, item: u32) -> Result<(), AllocError>
@@ -68,8 +66,7 @@ fn push_literal(text: &mut Vec<u8>, literal: u64) -> Result<(), AllocError>
     ensures { OnOk result (text.new.items ≡ text.old.items ++ literal_text literal) }
 {
     push(text, b"literal ")?;
-    push_number(text, literal)?;
-    Ok(())
+    push_number(text, literal)
 }
 
 fn push_split(text: &mut Vec<u8>, loc: &Loc) -> Result<(), AllocError>
@@ -77,16 +74,14 @@ fn push_split(text: &mut Vec<u8>, loc: &Loc) -> Result<(), AllocError>
 {
     push(text, b"split ")?;
     push_loc(text, loc)?;
-    push(text, b": ")?;
-    Ok(())
+    push(text, b": ")
 }
 
 fn push_field(text: &mut Vec<u8>, path: &[u32]) -> Result<(), AllocError>
     ensures { OnOk result (text.new.items ≡ text.old.items ++ field_text path.now) }
 {
     push(text, b"field ")?;
-    push_path(text, path)?;
-    Ok(())
+    push_path(text, path)
 }
 
 // What a field of this type is counted in.
@@ -121,8 +116,7 @@ fn push_unit(
 {
     push_field(text, path)?;
     push(text, unit_of(types, leaves, leaf, path))?;
-    push_number(text, number)?;
-    Ok(())
+    push_number(text, number)
 }
 
 // The names of types behind the first, each behind a comma.
@@ -143,8 +137,7 @@ fn push_names(text: &mut Vec<u8>, types: &[DataDecl], tys: &[u32]) -> Result<(),
         [] => Ok(()),
         [first, rest @ ..] => {
             push_name(text, types, *first)?;
-            push_later(text, types, rest)?;
-            Ok(())
+            push_later(text, types, rest)
         }
     }
 }
@@ -183,24 +176,21 @@ fn push_common(
     push_leaf(text, types, leaves, leaf)?;
     push(text, b" and ")?;
     push_leaf(text, types, leaves, later)?;
-    push(text, b" have a common value")?;
-    Ok(())
+    push(text, b" have a common value")
 }
 
 fn push_missing(text: &mut Vec<u8>, types: &[DataDecl], pat: &Pat) -> Result<(), AllocError>
     ensures { OnOk result (text.new.items ≡ text.old.items ++ missing_text types.now pat.now) }
 {
     push(text, b"no leaf for ")?;
-    push_pattern(text, types, pat)?;
-    Ok(())
+    push_pattern(text, types, pat)
 }
 
 fn push_unresolved(text: &mut Vec<u8>, loc: &Loc) -> Result<(), AllocError>
     ensures { OnOk result (text.new.items ≡ text.old.items ++ unresolved_text loc.now) }
 {
     push_loc(text, loc)?;
-    push(text, b" does not resolve")?;
-    Ok(())
+    push(text, b" does not resolve")
 }
 
 // A literal, what it is not, and where.
@@ -214,16 +204,14 @@ fn push_literal_at(
 {
     push_literal(text, literal)?;
     push(text, fault)?;
-    push_loc(text, loc)?;
-    Ok(())
+    push_loc(text, loc)
 }
 
 fn push_pointer(text: &mut Vec<u8>, types: &[DataDecl], ty: u32) -> Result<(), AllocError>
     ensures { OnOk result (text.new.items ≡ text.old.items ++ pointer_text types.now ty) }
 {
     push_name(text, types, ty)?;
-    push(text, b" has a pointer")?;
-    Ok(())
+    push(text, b" has a pointer")
 }
 
 fn push_flattening(text: &mut Vec<u8>, types: &[DataDecl], tys: &[u32]) -> Result<(), AllocError>
@@ -238,8 +226,7 @@ fn push_holding(text: &mut Vec<u8>, types: &[DataDecl], tys: &[u32]) -> Result<(
     ensures { OnOk result (text.new.items ≡ text.old.items ++ holding_text types.now tys.now) }
 {
     push(text, b"holding cycle ")?;
-    push_names(text, types, tys)?;
-    Ok(())
+    push_names(text, types, tys)
 }
 
 /// Adds what fails at a place to a text; `leaf` is the leaf where it fails at a leaf.
@@ -257,19 +244,19 @@ pub(crate) fn push_evidence(
     ensures { OnOk result (text.new.items ≡ text.old.items ++ evidence_text types.now leaves.now leaf why.now) }
 {
     match why {
-        Why::NoLayout => push(text, b"no layout")?,
-        Why::ShapeWidth(word, width) => push_width(text, *word, *width)?,
-        Why::WordCount(wanted, found) => push_counts(text, *wanted, *found)?,
+        Why::NoLayout => push(text, b"no layout"),
+        Why::ShapeWidth(word, width) => push_width(text, *word, *width),
+        Why::WordCount(wanted, found) => push_counts(text, *wanted, *found),
         Why::WordWidth(word, width, wanted) => {
             push_width(text, *word, *width)?;
             push(text, b", wanted ")?;
-            push_number(text, *wanted)?;
+            push_number(text, *wanted)
         }
         Why::Outside(item, o, l) => {
             push_item(text, *item)?;
             push(text, b"part ")?;
             push_bits(text, *o, *l)?;
-            push(text, b" outside its word")?;
+            push(text, b" outside its word")
         }
         Why::Overlap(item, o, l, p, m) => {
             push_item(text, *item)?;
@@ -277,62 +264,61 @@ pub(crate) fn push_evidence(
             push_bits(text, *o, *l)?;
             push(text, b" and ")?;
             push_bits(text, *p, *m)?;
-            push(text, b" overlap")?;
+            push(text, b" overlap")
         }
         Why::ConstWide(item, number, l) => {
             push_item(text, *item)?;
             push_between(text, b"constant ", *number, b" over ")?;
             push_number(text, *l)?;
-            push(text, b" bits")?;
+            push(text, b" bits")
         }
         Why::Misfit(item, o, l, path) => {
             push_item(text, *item)?;
             push(text, b"part ")?;
             push_bits(text, *o, *l)?;
             push(text, b" does not fit ")?;
-            push_field(text, path.as_slice())?;
+            push_field(text, path.as_slice())
         }
-        Why::BlockWord(width) => push_between(text, b"block word of ", *width, b" bits")?,
-        Why::BlockWords(count) => push_between(text, b"block of ", *count, b" words")?,
-        Why::Blocks(count) => push_between(text, b"", *count, b" blocks")?,
-        Why::Align(align) => push_between(text, b"alignment ", *align, b"")?,
-        Why::ShortPointer(bits) => push_between(text, b"pointer of ", *bits, b" bits")?,
-        Why::Common(later) => push_common(text, types, leaves, leaf, *later)?,
-        Why::NoLeaf(pat) => push_missing(text, types, pat)?,
+        Why::BlockWord(width) => push_between(text, b"block word of ", *width, b" bits"),
+        Why::BlockWords(count) => push_between(text, b"block of ", *count, b" words"),
+        Why::Blocks(count) => push_between(text, b"", *count, b" blocks"),
+        Why::Align(align) => push_between(text, b"alignment ", *align, b""),
+        Why::ShortPointer(bits) => push_between(text, b"pointer of ", *bits, b" bits"),
+        Why::Common(later) => push_common(text, types, leaves, leaf, *later),
+        Why::NoLeaf(pat) => push_missing(text, types, pat),
         Why::NotHeld(path, number) => {
             push_unit(text, types, leaves, leaf, path.as_slice(), *number)?;
-            push(text, b" not held")?;
+            push(text, b" not held")
         }
         Why::HeldTwice(path, number) => {
             push_unit(text, types, leaves, leaf, path.as_slice(), *number)?;
-            push(text, b" held twice")?;
+            push(text, b" held twice")
         }
         Why::NotOpen(path) => {
             push_field(text, path.as_slice())?;
-            push(text, b" not open")?;
+            push(text, b" not open")
         }
-        Why::Unresolved(loc) => push_unresolved(text, loc)?,
-        Why::NotKnown(loc, literal) => push_literal_at(text, *literal, b" not known at ", loc)?,
+        Why::Unresolved(loc) => push_unresolved(text, loc),
+        Why::NotKnown(loc, literal) => push_literal_at(text, *literal, b" not known at ", loc),
         Why::NotExcluded(loc, literal) => {
-            push_literal_at(text, *literal, b" not excluded at ", loc)?;
+            push_literal_at(text, *literal, b" not excluded at ", loc)
         }
         Why::LiteralWide(loc, literal) => {
             push_split(text, loc)?;
             push_literal(text, *literal)?;
-            push_between(text, b" over ", length_of(loc), b" bits")?;
+            push_between(text, b" over ", length_of(loc), b" bits")
         }
         Why::LiteralTwice(loc, literal) => {
             push_split(text, loc)?;
             push_literal(text, *literal)?;
-            push(text, b" twice")?;
+            push(text, b" twice")
         }
         Why::NoArm(loc) => {
             push_split(text, loc)?;
-            push(text, b"no arm")?;
+            push(text, b"no arm")
         }
-        Why::HasPointer(ty) => push_pointer(text, types, *ty)?,
-        Why::FlatCycle(tys) => push_flattening(text, types, tys.as_slice())?,
-        Why::HoldCycle(tys) => push_holding(text, types, tys.as_slice())?,
+        Why::HasPointer(ty) => push_pointer(text, types, *ty),
+        Why::FlatCycle(tys) => push_flattening(text, types, tys.as_slice()),
+        Why::HoldCycle(tys) => push_holding(text, types, tys.as_slice()),
     }
-    Ok(())
 }
