@@ -56,8 +56,8 @@ fn number_split(alloc: Global, tables: &Tables, tree: &SplitTree) -> Result<LayT
         SplitTree::Split(loc, arms, Some(other)) => {
             let arms = number_arms(alloc, tables, arms.as_slice())?;
             let other = number_split(alloc, tables, other.get())?;
-            let loc = loc.copy(alloc)?;
             let other = Boxed::new(alloc, other)?;
+            let loc = loc.copy(alloc)?;
             Ok(LayTree::Split(loc, arms, Some(other)))
         }
     }
