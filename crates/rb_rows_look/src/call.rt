@@ -12,7 +12,7 @@ use rb_image_text::image::Image;
 use rb_image_text::read::read_image_text;
 use rb_layout::agreed::Agreed;
 use rb_values::print::print_value;
-use ribbit_tool::accepting::accept;
+use rb_accept::accepting::accept;
 use std::alloc::{AllocError, Global};
 use std::process::Abort;
 use std::test::Fail;

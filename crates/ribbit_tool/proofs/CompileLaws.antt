@@ -2,8 +2,13 @@
 use Rattle.std.proofs.Common.{◌≡◌, ℕ, ◌+◌, List, [], ◌∷◌, length, length-append, Bool, sym, ap, subst, ◌∙◌, Ok}
 use Rattle.std.proofs.lemmas.Bool.{eq-eqb}
 use Rattle.std.specs.Prelude.{slice_get, if◌then◌else◌}
+use Rattle.rb_accept.specs.Accepting.{IsAccepted, turned_down, accepted}
+use Rattle.rb_accept.specs.Reading.{Source, handed_out, file_limit}
+use Rattle.rb_accept.proofs.OneProgram.{one_program, accepted_unrefused}
 use Rattle.rb_bytes.proofs.MemoryLemmas.{empty_good}
 use Rattle.rb_bytes.specs.Memory.{Memory, empty_memory}
+use Rattle.rb_command.specs.Command.{Parsed, compile}
+use Rattle.rb_command.proofs.OneCommand.{one_meaning}
 use Rattle.rb_compile.specs.Plans.{plan_of}
 use Rattle.rb_core.specs.declared.program.Program.{Program}
 use Rattle.rb_core.specs.declared.types.Ty.{Ty}
@@ -11,25 +16,20 @@ use Rattle.rb_core.specs.declared.value.Value.{Value}
 use Rattle.rb_fragment.proofs.Represented.{Rep-count}
 use Rattle.rb_fragment.specs.Plan.{Plan, Reps, types_of, words_of, words_in}
 use Rattle.rb_layout.specs.Flattening.{flat_layouts}
+use Rattle.rb_lines.specs.Answer.{Due, refusal}
+use Rattle.rb_lines.specs.Delivery.{Change}
+use Rattle.rb_lines.specs.Lines.{count_line}
+use Rattle.rb_lines.specs.declared.status.Status.TheVariants.{Argument}
 use Rattle.rb_machine.specs.Runs.{params_in}
 use Rattle.rb_target.specs.Meaning.{run_of}
-use Rattle.ribbit_tool.specs.Accepting.{IsAccepted, turned_down, accepted}
-use Rattle.ribbit_tool.specs.Answer.{Due, refusal}
 use Rattle.ribbit_tool.specs.Answers.{Answers}
-use Rattle.ribbit_tool.specs.Command.{Parsed, compile}
 use Rattle.ribbit_tool.specs.Compiling.{Compiles, CompilesFile}
-use Rattle.ribbit_tool.specs.Delivery.{Change}
 use Rattle.ribbit_tool.specs.Exec.{named_due, outcome_due}
 use Rattle.ribbit_tool.specs.Headlines.{SaysCode, CompileHeadline}
 use Rattle.ribbit_tool.specs.Laws.{CompiledTextsRun}
-use Rattle.ribbit_tool.specs.Lines.{count_line}
 use Rattle.ribbit_tool.specs.Promise.{Counting, Gives, IsRight}
-use Rattle.ribbit_tool.specs.Reading.{Source, handed_out, file_limit}
-use Rattle.ribbit_tool.specs.declared.status.Status.TheVariants.{Argument}
 use Rattle.ribbit_tool.proofs.Executing.{executed_themselves}
 use Rattle.ribbit_tool.proofs.HeadlineLaws.{follows}
-use Rattle.ribbit_tool.proofs.OneCommand.{one_meaning}
-use Rattle.ribbit_tool.proofs.OneProgram.{one_program, accepted_unrefused}
 
 -- The command -------------------------------------------------------------------------------
 

@@ -3,6 +3,12 @@ use Rattle.std.proofs.Common.{◌≡◌, ℕ, ◌+◌, List, refl, sym, ap, subs
 use Rattle.std.specs.declared.vec.Vec.{Vec}
 use Rattle.std.specs.declared.alloc.Global.{Global}
 use Rattle.rb_bytes.specs.Memory.{Memory as Bytes, empty_memory}
+use Rattle.rb_command.specs.Command.{Limits}
+use Rattle.rb_lines.specs.Answer.{Due, refusal}
+use Rattle.rb_lines.specs.Lines.{code_line, words_line}
+use Rattle.rb_lines.specs.View.{Meets}
+use Rattle.rb_lines.specs.declared.refusal.Refusal.{Refusal}
+use Rattle.rb_lines.specs.declared.status.Status.TheVariants.{Code}
 use Rattle.rb_machine.specs.Runs.{RanAs}
 use Rattle.rb_target.specs.Meaning.{run_of}
 use Rattle.rb_target.specs.declared.code.CodeFun.{CodeFun}
@@ -11,13 +17,7 @@ use Rattle.rb_target.specs.declared.outcome.Ran.{Ran}
 use Rattle.rb_target.specs.Refusals.{IsRefusal}
 use Rattle.rb_target.specs.declared.fault.CodeFault.{CodeFault}
 use Rattle.rb_target.specs.declared.fault.CodeFault.TheVariants.{CodeSyntax, BadSlot, BadJump, BadCall, Memory}
-use Rattle.ribbit_tool.specs.Answer.{Due, refusal}
-use Rattle.ribbit_tool.specs.Command.{Limits}
 use Rattle.ribbit_tool.specs.Exec.{Executes, faulty, no_code, end_due, outcome_due}
-use Rattle.ribbit_tool.specs.Lines.{code_line, words_line}
-use Rattle.ribbit_tool.specs.View.{Meets}
-use Rattle.ribbit_tool.specs.declared.refusal.Refusal.{Refusal}
-use Rattle.ribbit_tool.specs.declared.status.Status.TheVariants.{Code}
 
 pub fault_due : (name : List ℕ) (limits : Limits) (words bytes : List ℕ) (due : Due) (fault : CodeFault) → (fault ≡ Memory → ⊥) → IsRefusal bytes fault
     → due ≡ refusal Code (code_line fault) → Executes name limits words bytes due

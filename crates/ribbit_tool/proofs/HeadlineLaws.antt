@@ -1,5 +1,13 @@
 -- What the program promises gives the headline of each command that calls `main`.
 use Rattle.std.proofs.Common.{◌≡◌, ℕ, List, [], ◌∷◌, sym, ap, subst, ◌∙◌, Ok}
+use Rattle.rb_accept.specs.Accepting.{IsAccepted, turned_down, accepted}
+use Rattle.rb_accept.specs.Arguments.{Spell}
+use Rattle.rb_accept.specs.Reading.{Source, ReadsOne, unread, within, too_long, not_read, handed_out, whole, file_limit}
+use Rattle.rb_accept.proofs.ArgumentLaws.{never_misfit, same_values}
+use Rattle.rb_accept.proofs.OneProgram.{one_program, accepted_unrefused}
+use Rattle.rb_accept.proofs.ReadLaws.{going≢ended, failed≢ended}
+use Rattle.rb_command.specs.Command.{Command, Limits, Parsed, run}
+use Rattle.rb_command.proofs.OneCommand.{one_meaning}
 use Rattle.rb_core.specs.Typing.{param_types}
 use Rattle.rb_core.specs.declared.program.Program.{Program}
 use Rattle.rb_core.specs.declared.value.Value.{Value}
@@ -7,23 +15,15 @@ use Rattle.rb_edge.specs.History.{Reading, Course, going}
 use Rattle.rb_layout.specs.Flattening.{flat_layouts}
 use Rattle.rb_layout.specs.declared.agreed.LaidOut.{LaidOut}
 use Rattle.rb_layout.specs.declared.layout.Layout.{Layout}
+use Rattle.rb_lines.specs.Answer.{Due}
+use Rattle.rb_lines.specs.Delivery.{Change}
 use Rattle.rb_rel.specs.Answers as answer
 use Rattle.rb_target.specs.declared.code.CodeFun.{CodeFun}
-use Rattle.ribbit_tool.specs.Accepting.{IsAccepted, turned_down, accepted}
-use Rattle.ribbit_tool.specs.Answer.{Due}
 use Rattle.ribbit_tool.specs.Answers.{Answers}
-use Rattle.ribbit_tool.specs.Arguments.{Spell}
-use Rattle.ribbit_tool.specs.Command.{Command, Limits, Parsed, run}
 use Rattle.ribbit_tool.specs.Compiling.{IsCompiled, IsLaidOut}
-use Rattle.ribbit_tool.specs.Delivery.{Change}
 use Rattle.ribbit_tool.specs.Headline.{Says, OfCalls, Headline}
 use Rattle.ribbit_tool.specs.Promise.{Counting, Gives, IsRight}
-use Rattle.ribbit_tool.specs.Reading.{Source, ReadsOne, unread, within, too_long, not_read, handed_out, whole, file_limit}
 use Rattle.ribbit_tool.specs.Run.{Runs, answer_due, source_answer, value_line, Prepares, PreparesFile, prepared, misfit}
-use Rattle.ribbit_tool.proofs.ArgumentLaws.{never_misfit, same_values}
-use Rattle.ribbit_tool.proofs.OneCommand.{one_meaning}
-use Rattle.ribbit_tool.proofs.OneProgram.{one_program, accepted_unrefused}
-use Rattle.ribbit_tool.proofs.ReadLaws.{going≢ended, failed≢ended}
 
 -- Accepted files are prepared ---------------------------------------------------------------
 

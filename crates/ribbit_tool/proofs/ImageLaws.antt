@@ -1,7 +1,10 @@
 -- What the program promises gives the headlines of images, of counts and of generated files.
 use Rattle.std.proofs.Common.{◌≡◌, ℕ, List, [], true, refl, ap, sym, subst, ◌∙◌, Ok}
+use Rattle.rb_accept.specs.Reading.{Source, handed_out}
 use Rattle.rb_bytes.specs.Growth.{AreWhole}
 use Rattle.rb_bytes.specs.Memory.{Memory, empty_memory}
+use Rattle.rb_command.specs.Command.{Limits, Parsed, image, count, gen, genrun}
+use Rattle.rb_command.proofs.OneCommand.{one_meaning}
 use Rattle.rb_compile.specs.Plans.{plan_of}
 use Rattle.rb_compile.specs.Refining.{EndsAs}
 use Rattle.rb_core.specs.Meaning.{call_of}
@@ -13,26 +16,24 @@ use Rattle.rb_core.specs.declared.value.Value.{Value}
 use Rattle.rb_layout.specs.Flattening.{flat_layouts}
 use Rattle.rb_layout.specs.declared.agreed.LaidOut.{LaidOut}
 use Rattle.rb_layout.specs.declared.layout.Layout.{Layout}
+use Rattle.rb_lines.specs.Answer.{Due, printed}
+use Rattle.rb_lines.specs.Delivery.{Change}
+use Rattle.rb_lines.specs.ImageTexts.{image_text}
 use Rattle.rb_rel.specs.Answers as answer
 use Rattle.rb_rel.specs.Placing.{Laid, Fits, Over}
 use Rattle.rb_rel.specs.Relation.{IsCleanlyRepresented}
 use Rattle.rb_run.specs.Calling.{IsCalled, end_over}
 use Rattle.rb_target.specs.declared.code.CodeFun.{CodeFun}
 use Rattle.rb_target.specs.declared.outcome.End.{End}
-use Rattle.ribbit_tool.specs.Answer.{Due, printed}
 use Rattle.ribbit_tool.specs.Answers.{Answers}
-use Rattle.ribbit_tool.specs.Command.{Limits, Parsed, image, count, gen, genrun}
 use Rattle.ribbit_tool.specs.Count.{Counts, IsMainTally, count_text}
-use Rattle.ribbit_tool.specs.Delivery.{Change}
 use Rattle.ribbit_tool.specs.Exec.{end_due}
 use Rattle.ribbit_tool.specs.Generate.{generated}
 use Rattle.ribbit_tool.specs.Headlines.{SaysImage, ImageHeadline, SaysCount, CountHeadline, GenerateHeadline}
-use Rattle.ribbit_tool.specs.Image.{Images, IsImageOf, ShowWhole, image_text}
+use Rattle.ribbit_tool.specs.Image.{Images, IsImageOf, ShowWhole}
 use Rattle.ribbit_tool.specs.Promise.{Counting, Gives, IsRight}
-use Rattle.ribbit_tool.specs.Reading.{Source, handed_out}
 use Rattle.ribbit_tool.specs.Run.{answer_due, laid_all, source_answer, unbounded, whole_answer}
 use Rattle.ribbit_tool.proofs.HeadlineLaws.{Ready, ready_as, of_calls, says}
-use Rattle.ribbit_tool.proofs.OneCommand.{one_meaning}
 
 -- Images ------------------------------------------------------------------------------------
 

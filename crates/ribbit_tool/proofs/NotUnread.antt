@@ -1,101 +1,34 @@
--- The status of a read fault is due to a file that was not read, and to nothing else.
-use Rattle.std.proofs.Common.{◌≡◌, ◌≢◌, ℕ, ◌==◌, Bool, true, false, if◌then◌else◌, List, length, sym, ap, ◌∙◌, arith, Option, Some, None, slice_get}
-use Rattle.rb_auto.specs.declared.fault.AutoFault.{AutoFault}
-use Rattle.rb_auto.specs.declared.fault.AutoFault.TheVariants as auto
-use Rattle.rb_core.specs.declared.program.Program.{Program}
-use Rattle.rb_core.specs.declared.types.DataDecl.{DataDecl}
-use Rattle.rb_core.specs.declared.types.Ty.{Ty}
-use Rattle.rb_core.specs.declared.typing.TypeFault.{TypeFault}
-use Rattle.rb_core.specs.declared.typing.TypeFault.TheVariants as types
-use Rattle.rb_core.specs.declared.value.Value.{Value}
+-- The status of a read fault is due to a file that was not read, and to nothing else that a command does.
+use Rattle.std.proofs.Common.{◌≢◌, ℕ, ◌==◌, Bool, true, false, if◌then◌else◌, List, length, arith, Option, Some, None, slice_get}
+use Rattle.rb_accept.specs.Accepting.{turned_down, accepted}
+use Rattle.rb_accept.proofs.NotUnread.{other_by, refused_other, accepts_other, misfit_other, fault_other}
 use Rattle.rb_bytes.specs.Memory.{empty_memory}
-use Rattle.rb_image_text.specs.declared.fault.ImageFault.{ImageFault}
-use Rattle.rb_image_text.specs.declared.fault.ImageFault.TheVariants as fault
+use Rattle.rb_command.specs.Command.{Limits}
+use Rattle.rb_core.specs.declared.program.Program.{Program}
+use Rattle.rb_core.specs.declared.types.Ty.{Ty}
+use Rattle.rb_core.specs.declared.value.Value.{Value}
 use Rattle.rb_image_text.specs.declared.image.Image.{Image}
 use Rattle.rb_layout.specs.declared.agreed.LaidOut.{LaidOut}
+use Rattle.rb_lines.specs.Answer.{Due, refusal, status_of}
+use Rattle.rb_lines.specs.ImageTexts.{image_text}
+use Rattle.rb_lines.specs.Lines.{count_line, words_line}
+use Rattle.rb_lines.specs.declared.status.Status.TheVariants as status
 use Rattle.rb_machine.specs.Runs.{params_in}
-use Rattle.rb_names.specs.declared.fault.NameFault.{NameFault}
-use Rattle.rb_names.specs.declared.fault.NameFault.TheVariants as names
-use Rattle.rb_read.specs.declared.fault.ReadFault.{ReadFault}
-use Rattle.rb_read.specs.declared.fault.ReadFault.TheVariants as reading
 use Rattle.rb_rel.specs.Answers as answer
-use Rattle.rb_syntax.specs.declared.lex.LexFault.{LexFault}
-use Rattle.rb_syntax.specs.declared.lex.LexFault.TheVariants as lexing
-use Rattle.rb_syntax.specs.declared.token.Placed.{Placed}
 use Rattle.rb_target.specs.declared.code.CodeFun.{CodeFun}
 use Rattle.rb_target.specs.Meaning.{run_of}
 use Rattle.rb_target.specs.declared.outcome.End.{End}
 use Rattle.rb_target.specs.declared.outcome.End.TheVariants as end
-use Rattle.ribbit_tool.specs.Accepting.{IsAccepted, IsRefused, uncut, misread, misnamed, mistyped, uncovered, underived, mislaid, Accepts, turned_down, accepted, lex_due, read_due, name_due, type_due, derived_due}
-use Rattle.ribbit_tool.specs.Answer.{Due, refusal, status_of}
-use Rattle.ribbit_tool.specs.Arguments.{IsMisfit, miscounted, misspelled}
 use Rattle.ribbit_tool.specs.Check.{ChecksFile}
-use Rattle.ribbit_tool.specs.Command.{Limits}
 use Rattle.ribbit_tool.specs.Compiling.{CompilesFile}
 use Rattle.ribbit_tool.specs.Count.{CountsFile, count_text}
 use Rattle.ribbit_tool.specs.Exec.{Executes, executed, faulty, no_code, end_due, outcome_due, named_due, fun_named}
-use Rattle.ribbit_tool.specs.Image.{ImagesFile, image_text}
-use Rattle.ribbit_tool.specs.ImageLines.{image_due as fault_due}
+use Rattle.ribbit_tool.specs.Image.{ImagesFile}
 use Rattle.ribbit_tool.specs.Layout.{LaysOutFile}
-use Rattle.ribbit_tool.specs.Lines.{count_line, words_line}
-use Rattle.ribbit_tool.specs.Opening.{Spells, garbled, spelled}
 use Rattle.ribbit_tool.specs.Run.{RunsFile, answer_due, source_answer, value_line, whole_answer, PreparesFile, misfit, prepared}
 use Rattle.ribbit_tool.specs.Value.{ReadsBack, holds, large, unsound}
-use Rattle.ribbit_tool.specs.declared.status.Status.TheVariants as status
-
-other_by : (due d : Due) → due ≡ d → status_of d ≢ 7 → status_of due ≢ 7
-other_by due d is other e = other (ap (λ (x : Due). status_of x) (sym is) ∙ e)
-
--- Refused files -----------------------------------------------------------------------------
-
-lex_other : (f : LexFault) → status_of (lex_due f) ≢ 7
-lex_other (lexing.BadByte at) e = omega (arith, e)
-lex_other (lexing.NumberTooWide at) e = omega (arith, e)
-lex_other lexing.Memory e = omega (arith, e)
-
-read_other : (placed : List Placed) (size : ℕ) (f : ReadFault) → status_of (read_due placed size f) ≢ 7
-read_other placed size (reading.TooDeep t) e = omega (arith, e)
-read_other placed size (reading.Syntax t) e = omega (arith, e)
-read_other placed size (reading.Limit q count) e = omega (arith, e)
-read_other placed size reading.Memory e = omega (arith, e)
-
-name_other : (placed : List Placed) (size : ℕ) (f : NameFault) → status_of (name_due placed size f) ≢ 7
-name_other placed size (names.Twice name t) e = omega (arith, e)
-name_other placed size (names.Unknown name t) e = omega (arith, e)
-name_other placed size names.NoMain e = omega (arith, e)
-name_other placed size names.Memory e = omega (arith, e)
-
-type_other : (ts : List DataDecl) (placed : List Placed) (size : ℕ) (f : TypeFault) → status_of (type_due ts placed size f) ≢ 7
-type_other ts placed size (types.Empty t) e = omega (arith, e)
-type_other ts placed size (types.Mismatch t wanted found) e = omega (arith, e)
-type_other ts placed size (types.Arity t wanted found) e = omega (arith, e)
-type_other ts placed size (types.VariableTwice t) e = omega (arith, e)
-type_other ts placed size types.Memory e = omega (arith, e)
-
-derived_other : (ts : List DataDecl) (f : AutoFault) → status_of (derived_due ts f) ≢ 7
-derived_other ts (auto.PackedRecursive t) e = omega (arith, e)
-derived_other ts (auto.PackedWide t bits) e = omega (arith, e)
-derived_other ts auto.Memory e = omega (arith, e)
-
-pub refused_other : (bytes : List ℕ) (due : Due) → IsRefused bytes due → status_of due ≢ 7
-refused_other bytes due (uncut f h is) = other_by due _ is (lex_other f)
-refused_other bytes due (misread placed h f k is) = other_by due _ is (read_other placed (length bytes) f)
-refused_other bytes due (misnamed placed file h f k is) = other_by due _ is (name_other placed (length bytes) f)
-refused_other bytes due (mistyped placed p h f k l is) = other_by due _ is (type_other p.types placed (length bytes) f)
-refused_other bytes due (uncovered placed p h k t q l is) = other_by due _ is (λ e. omega (arith, e))
-refused_other bytes due (underived placed p f h k l is) = other_by due _ is (derived_other p.types f)
-refused_other bytes due (mislaid placed p h k l f m is) = other_by due _ is (λ e. omega (arith, e))
-
-accepts_other : (bytes : List ℕ) (Then : (p : Program) → IsAccepted bytes p → Due → Type 0) (due : Due)
-    → ((p : Program) (a : IsAccepted bytes p) → Then p a due → status_of due ≢ 7) → Accepts bytes Then due → status_of due ≢ 7
-accepts_other bytes Then due other (turned_down h) = refused_other bytes due h
-accepts_other bytes Then due other (accepted p a h) = other p a h
 
 -- Calls of `main` ---------------------------------------------------------------------------
-
-misfit_other : (p : Program) (words : List (List ℕ)) (due : Due) → IsMisfit p words due → status_of due ≢ 7
-misfit_other p words due (miscounted ne is) = other_by due _ is (λ e. omega (arith, e))
-misfit_other p words due (misspelled same m) = other_by due _ m.refused.shown (λ e. omega (arith, e))
 
 prepares_other : (words : List (List ℕ)) (bytes : List ℕ) (Then : LaidOut → List CodeFun → List Value → Due → Type 0) (due : Due)
     → ((agreed : LaidOut) (code : List CodeFun) (args : List Value) → Then agreed code args due → status_of due ≢ 7)
@@ -131,24 +64,10 @@ named_other funs name limits words (Some f) =
 
 -- Images ------------------------------------------------------------------------------------
 
-fault_other : (f : ImageFault) → status_of (fault_due f) ≢ 7
-fault_other (fault.ImageSyntax at) e = omega (arith, e)
-fault_other (fault.ImageBlock i) e = omega (arith, e)
-fault_other (fault.BadRoot i) e = omega (arith, e)
-fault_other (fault.BadBits base place) e = omega (arith, e)
-fault_other (fault.BadPointer base address) e = omega (arith, e)
-fault_other fault.ImageTooLarge e = omega (arith, e)
-fault_other (fault.NoSuchPart step) e = omega (arith, e)
-fault_other fault.Memory e = omega (arith, e)
-
 pub back_other : (p : Program) (ty : Ty) (i : Image) (due : Due) → ReadsBack p ty i due → status_of due ≢ 7
 back_other p ty i due (holds v h few is) = other_by due _ is (λ e. omega (arith, e))
 back_other p ty i due (large v h more is) = other_by due _ is (λ e. omega (arith, e))
 back_other p ty i due (unsound f h is) = other_by due _ is (fault_other f)
-
-pub spells_other : (text : List ℕ) (Then : Image → Due → Type 0) (due : Due) → ((i : Image) → Then i due → status_of due ≢ 7) → Spells text Then due → status_of due ≢ 7
-spells_other text Then due other (garbled h) = other_by due _ h.shown (fault_other h.fault)
-spells_other text Then due other (spelled i is placed h) = other i h
 
 -- Each command ------------------------------------------------------------------------------
 

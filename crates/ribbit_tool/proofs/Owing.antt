@@ -1,10 +1,13 @@
--- A command that reads a file owes what is due to what was read of it.
+-- A command that reads a file, or an image after its file, owes what is due to what was read of them.
 use Rattle.std.proofs.Common.{◌≡◌, ℕ, ◌≤◌, List, [], ◌∷◌, length, refl, Ok}
+use Rattle.rb_accept.specs.Opening.{Following, IsOpened, Opens}
+use Rattle.rb_accept.specs.Reading.{ReadsOne, IsUnread, unread, within, whole}
+use Rattle.rb_accept.specs.declared.opening.Opened.{Opened}
+use Rattle.rb_accept.proofs.OpeningLaws.{opened_due, opens_whatever}
+use Rattle.rb_command.specs.Command.{Command}
 use Rattle.rb_edge.specs.History.{Reading}
-use Rattle.ribbit_tool.specs.Answer.{Due}
+use Rattle.rb_lines.specs.Answer.{Due}
 use Rattle.ribbit_tool.specs.Answers.{Answers, Owes, answered}
-use Rattle.ribbit_tool.specs.Command.{Command}
-use Rattle.ribbit_tool.specs.Reading.{ReadsOne, IsUnread, unread, within, whole}
 
 module _ (command : Command) (file : List ℕ) (limit : ℕ) (Then : List ℕ → Due → Type 0)
     (reads : (readings : List Reading) (due : Due) → ReadsOne file limit Then readings due → Answers (Ok command) readings due)
@@ -14,3 +17,12 @@ module _ (command : Command) (file : List ℕ) (limit : ℕ) (Then : List ℕ �
 
   pub owes_unread : IsUnread file limit readings due → Owes (Ok command) readings due
   owes_unread h = answered (reads readings due (unread h))
+
+module _ (command : Command) (file image : List ℕ) (Then : Following)
+    (opens : (readings : List Reading) (due : Due) → Opens file image Then readings due → Answers (Ok command) readings due)
+    (readings : List Reading) (due : Due) where
+  pub owes_stopped : Opens file image (λ p i d. ⊥) readings due → Owes (Ok command) readings due
+  owes_stopped h = answered (opens readings due (opens_whatever file image Then readings due h))
+
+  pub owes_opened : (o : Opened) → IsOpened file image readings o → Then o.accepted.agreed.covered.program o.image due → Owes (Ok command) readings due
+  owes_opened o h follows = answered (opens readings due (opened_due file image readings o h Then due follows))

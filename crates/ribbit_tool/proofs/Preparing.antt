@@ -1,15 +1,15 @@
 -- A file that is prepared, or not: what is due to it.
 use Rattle.std.proofs.Common.{List, ℕ, refl}
+use Rattle.rb_accept.specs.Accepting.{IsRefused, turned_down, accepted}
+use Rattle.rb_accept.specs.Arguments.{IsMisfit, Spell}
+use Rattle.rb_accept.specs.View.{IsAcceptance}
+use Rattle.rb_accept.specs.declared.accepting.Accepted.{Accepted}
+use Rattle.rb_accept.proofs.Accepted.{is_accepted}
 use Rattle.rb_core.specs.declared.value.Value.{Value}
 use Rattle.rb_layout.specs.declared.agreed.LaidOut.{LaidOut}
+use Rattle.rb_lines.specs.Answer.{Due}
 use Rattle.rb_target.specs.declared.code.CodeFun.{CodeFun}
-use Rattle.ribbit_tool.specs.Accepting.{IsRefused, turned_down, accepted}
-use Rattle.ribbit_tool.specs.Answer.{Due}
-use Rattle.ribbit_tool.specs.Arguments.{IsMisfit, Spell}
 use Rattle.ribbit_tool.specs.Run.{IsPrepared, PreparesFile, misfit, prepared}
-use Rattle.ribbit_tool.specs.View.{IsAcceptance}
-use Rattle.ribbit_tool.specs.declared.accepting.Accepted.{Accepted}
-use Rattle.ribbit_tool.proofs.Accepted.{is_accepted}
 
 module _ (words : List (List ℕ)) (bytes : List ℕ) (Then : LaidOut → List CodeFun → List Value → Due → Type 0) where
   pub refused_due : (due : Due) → IsRefused bytes due → PreparesFile words bytes Then due

@@ -1,17 +1,17 @@
 -- What was due and how it was delivered give what the program promises.
 use Rattle.std.proofs.Common.{◌≡◌, ◌≢◌, ℕ, ◌⊎◌, inl, inr, List, refl, sym, ap, subst, ◌∙◌, arith}
+use Rattle.rb_accept.specs.Reading.{Source, handed_out}
+use Rattle.rb_command.specs.Command.{Parsed}
+use Rattle.rb_command.proofs.OneCommand.{one_meaning}
 use Rattle.rb_edge.specs.Faults.{Rose}
-use Rattle.ribbit_tool.specs.Answer.{Due, printed, refused, status_of}
+use Rattle.rb_lines.specs.Answer.{Due, printed, refused, status_of}
+use Rattle.rb_lines.specs.Delivery.{Change, Stood, Delivers, output, output_failed, error_line, error_failed}
+use Rattle.rb_lines.specs.Numbers.{status_number}
+use Rattle.rb_lines.specs.declared.status.Status.{Status}
+use Rattle.rb_lines.specs.declared.status.Status.TheVariants as status
 use Rattle.ribbit_tool.specs.Answers.{Answers, Owes, answered, out_of_memory, files_of}
-use Rattle.ribbit_tool.specs.Command.{Parsed}
-use Rattle.ribbit_tool.specs.Delivery.{Change, Stood, Delivers, output, output_failed, error_line, error_failed}
 use Rattle.ribbit_tool.specs.Headline.{GivesHeld}
-use Rattle.ribbit_tool.specs.Numbers.{status_number}
 use Rattle.ribbit_tool.specs.Promise.{Counting, Shows, GivesAnswer, Performs, IsCalm, IsCutOff, IsMissing, IsRight}
-use Rattle.ribbit_tool.specs.Reading.{Source, handed_out}
-use Rattle.ribbit_tool.specs.declared.status.Status.{Status}
-use Rattle.ribbit_tool.specs.declared.status.Status.TheVariants as status
-use Rattle.ribbit_tool.proofs.OneCommand.{one_meaning}
 use Rattle.ribbit_tool.proofs.ReadFaults.{fault_of, IsHeld, held_of}
 
 -- no named status is that of a printed text or of a failed write

@@ -1,28 +1,29 @@
 -- What was read of the files of a command, where the answer is due to it.
 use Rattle.std.proofs.Common.{◌≡◌, ◌≢◌, ℕ, ◌+◌, ◌≤◌, ◌⊎◌, inl, inr, List, [], ◌∷◌, ◌++◌, length, refl, sym, ap, subst, ◌∙◌, arith, length-append, IsTrue, Option, Some, Ok, Err}
+use Rattle.rb_accept.specs.Opening.{AcceptsFirst, Following, Opens, ReadsImage, accepted, turned_down}
+use Rattle.rb_accept.specs.Reading.{Source, IsReading, AreInTurn, ReadsOne, unread, within, too_long, not_read, Gave, handed_out, whole, file_limit, code_limit, image_limit}
+use Rattle.rb_accept.proofs.NotUnread.{refused_other, spells_other}
+use Rattle.rb_accept.proofs.ReadLaws.{some_same}
+use Rattle.rb_command.specs.Command.{Parsed, check, layout, compile, run, image, count, gen, genrun, exec, value}
 use Rattle.rb_core.specs.Typing.{result_type}
 use Rattle.rb_core.specs.declared.program.Program.{Program}
 use Rattle.rb_edge.specs.Faults.{Rose}
 use Rattle.rb_edge.specs.History.{Reading, going, failed}
 use Rattle.rb_edge.specs.Whole.{Begins}
 use Rattle.rb_image_text.specs.declared.image.Image.{Image}
-use Rattle.ribbit_tool.specs.Answer.{Due, status_of}
+use Rattle.rb_lines.specs.Answer.{Due, status_of}
 use Rattle.ribbit_tool.specs.Answers.{Answers, files_of}
 use Rattle.ribbit_tool.specs.Check.{ChecksFile}
-use Rattle.ribbit_tool.specs.Command.{Parsed, check, layout, compile, run, image, count, gen, genrun, exec, value}
 use Rattle.ribbit_tool.specs.Compiling.{CompilesFile}
 use Rattle.ribbit_tool.specs.Count.{CountsFile}
 use Rattle.ribbit_tool.specs.Exec.{Executes}
 use Rattle.ribbit_tool.specs.Generate.{generated}
 use Rattle.ribbit_tool.specs.Image.{ImagesFile}
 use Rattle.ribbit_tool.specs.Layout.{LaysOutFile}
-use Rattle.ribbit_tool.specs.Opening.{AcceptsFirst, Following, Opens, ReadsImage, accepted, turned_down}
 use Rattle.ribbit_tool.specs.Promise.{IsMissing}
-use Rattle.ribbit_tool.specs.Reading.{Source, IsReading, AreInTurn, ReadsOne, unread, within, too_long, not_read, Gave, handed_out, whole, file_limit, code_limit, image_limit}
 use Rattle.ribbit_tool.specs.Run.{RunsFile}
 use Rattle.ribbit_tool.specs.Value.{ReadsBack}
-use Rattle.ribbit_tool.proofs.NotUnread.{checks_other, lays_out_other, compiles_other, runs_other, images_other, counts_other, executes_other, back_other, refused_other, spells_other}
-use Rattle.ribbit_tool.proofs.ReadLaws.{some_same}
+use Rattle.ribbit_tool.proofs.NotUnread.{checks_other, lays_out_other, compiles_other, runs_other, images_other, counts_other, executes_other, back_other}
 
 module _ (source : Source) where
   abbrev rs : List Reading

@@ -9,9 +9,9 @@ use Rattle.rb_image_text.specs.declared.fault.ImageFault.TheVariants.{Memory}
 use Rattle.rb_image_text.specs.declared.image.Image.{Image}
 use Rattle.rb_layout.specs.Flattening.{flat_layouts}
 use Rattle.rb_layout.specs.declared.layout.Layout.{Layout}
-use Rattle.ribbit_tool.specs.Answer.{Due}
-use Rattle.ribbit_tool.specs.Arguments.{node_limit}
-use Rattle.ribbit_tool.specs.ImageLines.{image_due}
+use Rattle.rb_lines.specs.Answer.{Due}
+use Rattle.rb_lines.specs.ArgumentLines.{node_limit}
+use Rattle.rb_lines.specs.ImageLines.{image_due}
 use Rattle.ribbit_tool.specs.Value.{ReadsBack, unsound, large}
 
 pub refused_back : (p : Program) (layouts : List Layout) → layouts ≡ flat_layouts p → (ty : Ty) (image : Image) (fault : ImageFault)

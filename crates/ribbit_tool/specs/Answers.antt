@@ -1,20 +1,20 @@
 -- The answer to the words of a command line, given what was read.
 use Rattle.std.specs.Prelude.{◌≡◌, ℕ, List, [], ◌∷◌, Ok, Err}
+use Rattle.rb_accept.specs.Reading.{ReadsOne, file_limit, code_limit, image_limit}
+use Rattle.rb_command.specs.Command.{Parsed, check, layout, compile, run, image, count, gen, genrun, exec, value}
 use Rattle.rb_edge.specs.History.{Reading}
-use Rattle.ribbit_tool.specs.Answer.{Due, refusal}
+use Rattle.rb_lines.specs.Answer.{Due, refusal}
+use Rattle.rb_lines.specs.Lines.{usage_line, no_memory_line}
+use Rattle.rb_lines.specs.declared.status.Status.TheVariants.{Usage, NoMemory}
 use Rattle.ribbit_tool.specs.Check.{ChecksFile}
-use Rattle.ribbit_tool.specs.Command.{Parsed, check, layout, compile, run, image, count, gen, genrun, exec, value}
 use Rattle.ribbit_tool.specs.Compiling.{CompilesFile}
 use Rattle.ribbit_tool.specs.Count.{CountsFile}
 use Rattle.ribbit_tool.specs.Exec.{Executes}
 use Rattle.ribbit_tool.specs.Generate.{Generates, CountsGenerated}
 use Rattle.ribbit_tool.specs.Image.{ImagesFile}
 use Rattle.ribbit_tool.specs.Layout.{LaysOutFile}
-use Rattle.ribbit_tool.specs.Lines.{usage_line, no_memory_line}
-use Rattle.ribbit_tool.specs.Reading.{ReadsOne, file_limit, code_limit, image_limit}
 use Rattle.ribbit_tool.specs.Run.{RunsFile}
 use Rattle.ribbit_tool.specs.Value.{ReadsValue}
-use Rattle.ribbit_tool.specs.declared.status.Status.TheVariants.{Usage, NoMemory}
 
 -- the files that a command reads, each with its limit
 abbrev pub files_of : Parsed → List (List ℕ × ℕ)

@@ -1,16 +1,16 @@
 -- Code for accepted files, and what is due to the command `compile`.
 use Rattle.std.specs.Prelude.{◌≡◌, ℕ, List}
+use Rattle.rb_accept.specs.Accepting.{Accepts}
 use Rattle.rb_compile.specs.Plans.{plan_of}
 use Rattle.rb_compile.specs.Refining.{Refines}
 use Rattle.rb_compile.specs.Thrift.{IsThrifty}
 use Rattle.rb_core.specs.declared.program.Program.{Program}
 use Rattle.rb_layout.specs.Flattening.{flat_layouts}
 use Rattle.rb_layout.specs.declared.agreed.LaidOut.{LaidOut}
+use Rattle.rb_lines.specs.Answer.{Due, printed}
 use Rattle.rb_target.specs.Text.{code_text}
 use Rattle.rb_target.specs.Validity.{IsValid}
 use Rattle.rb_target.specs.declared.code.CodeFun.{CodeFun}
-use Rattle.ribbit_tool.specs.Accepting.{Accepts}
-use Rattle.ribbit_tool.specs.Answer.{Due, printed}
 
 -- a program with its flat layouts
 pub record IsLaidOut (p : Program) (agreed : LaidOut) : Type 0 where

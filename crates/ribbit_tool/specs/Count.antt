@@ -2,18 +2,18 @@
 use Rattle.std.specs.Prelude.{◌≡◌, ℕ, List, ◌++◌, codes}
 use Rattle.std.specs.Fmt.{decimal}
 use Rattle.rb_bytes.specs.Memory.{empty_memory}
+use Rattle.rb_command.specs.Command.{Limits}
 use Rattle.rb_core.specs.Meaning.{call_of}
 use Rattle.rb_core.specs.declared.program.Program.{Program}
 use Rattle.rb_core.specs.declared.value.Value.{Value}
 use Rattle.rb_layout.specs.declared.agreed.LaidOut.{LaidOut}
 use Rattle.rb_layout.specs.declared.layout.Layout.{Layout}
+use Rattle.rb_lines.specs.Answer.{Due}
+use Rattle.rb_lines.specs.Lines.{ended}
 use Rattle.rb_run.specs.Calling.{IsCounted}
 use Rattle.rb_run.specs.Counting.{IsTally}
 use Rattle.rb_run.specs.declared.count.Tally.{Tally}
 use Rattle.rb_target.specs.declared.code.CodeFun.{CodeFun}
-use Rattle.ribbit_tool.specs.Answer.{Due}
-use Rattle.ribbit_tool.specs.Command.{Limits}
-use Rattle.ribbit_tool.specs.Lines.{ended}
 use Rattle.ribbit_tool.specs.Run.{PreparesFile, answer_due, laid_all, source_answer, value_line}
 
 -- Texts -------------------------------------------------------------------------------------

@@ -3,6 +3,10 @@ use Rattle.std.specs.Prelude.{◌≡◌, ℕ, List, length, ◌==◌, if◌then�
 use Rattle.std.specs.List.{position}
 use Rattle.std.specs.Str.{bytes_eq}
 use Rattle.rb_bytes.specs.Memory.{empty_memory}
+use Rattle.rb_command.specs.Command.{Limits}
+use Rattle.rb_lines.specs.Answer.{Due, printed, refused, refusal}
+use Rattle.rb_lines.specs.Lines.{words_line, spent_line, full_line, trap_line, no_function_line, count_line, code_line}
+use Rattle.rb_lines.specs.declared.status.Status.TheVariants as status
 use Rattle.rb_machine.specs.Runs.{params_in}
 use Rattle.rb_target.specs.declared.code.CodeFun.{CodeFun}
 use Rattle.rb_target.specs.declared.fault.CodeFault.{CodeFault}
@@ -14,10 +18,6 @@ use Rattle.rb_target.specs.Meaning.{Outcome, run_of}
 use Rattle.rb_target.specs.Stopping.{IsTextOf, StopsAt}
 use Rattle.rb_target.specs.Text.{code_text}
 use Rattle.rb_target.specs.Validity.{IsValid}
-use Rattle.ribbit_tool.specs.Answer.{Due, printed, refused, refusal}
-use Rattle.ribbit_tool.specs.Command.{Limits}
-use Rattle.ribbit_tool.specs.Lines.{words_line, spent_line, full_line, trap_line, no_function_line, count_line, code_line}
-use Rattle.ribbit_tool.specs.declared.status.Status.TheVariants as status
 
 -- what is shown of the returned words, or the line of any other end
 abbrev pub end_due : (List ℕ → List ℕ) → ℕ → End → ℕ → Due

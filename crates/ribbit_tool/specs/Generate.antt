@@ -1,10 +1,10 @@
 -- What is due to the commands `gen` and `genrun`: a file of so many functions that call each other in turn.
 use Rattle.std.specs.Prelude.{◌≡◌, ℕ, zero, suc, ◌+◌, ◌%◌, List, [], ◌++◌, codes}
 use Rattle.std.specs.Fmt.{decimal}
-use Rattle.ribbit_tool.specs.Answer.{Due, printed}
-use Rattle.ribbit_tool.specs.Command.{Limits}
+use Rattle.rb_command.specs.Command.{Limits}
+use Rattle.rb_lines.specs.Answer.{Due, printed}
+use Rattle.rb_lines.specs.Lines.{ended}
 use Rattle.ribbit_tool.specs.Count.{CountsFile}
-use Rattle.ribbit_tool.specs.Lines.{ended}
 
 -- lists, the tag in the lowest bit of a pointer
 abbrev pub list_type : List ℕ

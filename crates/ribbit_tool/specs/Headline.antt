@@ -2,23 +2,24 @@
 -- of the source's meaning, or names it as over the node limit, or says that the calls are spent or the
 -- region is full exactly where the source, with the blocks that its layouts ask for, first passes that limit.
 use Rattle.std.specs.Prelude.{◌≡◌, ◌≤◌, ℕ, List, [], ◌∷◌, length, IsTrue, Some}
+use Rattle.rb_accept.specs.Accepting.{IsAccepted}
+use Rattle.rb_accept.specs.Arguments.{Spell}
+use Rattle.rb_accept.specs.Reading.{Source, Gave}
+use Rattle.rb_command.specs.Command.{Command, Limits, Parsed, IsWordsOf, IsParsed, run}
 use Rattle.rb_core.specs.declared.program.Program.{Program}
 use Rattle.rb_core.specs.declared.value.Value.{Value}
 use Rattle.rb_edge.specs.Faults.{Rose}
 use Rattle.rb_layout.specs.Flattening.{flat_layouts}
+use Rattle.rb_lines.specs.ArgumentLines.{node_limit}
+use Rattle.rb_lines.specs.Delivery.{Change, Took}
+use Rattle.rb_lines.specs.Lines.{spent_line, full_line, large_line}
+use Rattle.rb_lines.specs.Numbers.{status_number}
+use Rattle.rb_lines.specs.declared.status.Status.TheVariants.{Spent, Full, TooLarge}
 use Rattle.rb_rel.specs.Answers as answer
 use Rattle.rb_rel.specs.Answers.{answer_of}
-use Rattle.ribbit_tool.specs.Accepting.{IsAccepted}
 use Rattle.ribbit_tool.specs.Answers.{files_of}
-use Rattle.ribbit_tool.specs.Arguments.{node_limit, Spell}
-use Rattle.ribbit_tool.specs.Command.{Command, Limits, Parsed, IsWordsOf, IsParsed, run}
-use Rattle.ribbit_tool.specs.Delivery.{Change, Took}
-use Rattle.ribbit_tool.specs.Lines.{spent_line, full_line, large_line}
-use Rattle.ribbit_tool.specs.Numbers.{status_number}
 use Rattle.ribbit_tool.specs.Promise.{IsCalm}
-use Rattle.ribbit_tool.specs.Reading.{Source, Gave}
 use Rattle.ribbit_tool.specs.Run.{value_line}
-use Rattle.ribbit_tool.specs.declared.status.Status.TheVariants.{Spent, Full, TooLarge}
 
 -- the status and the very text of the source's answer, by what is shown of its value
 abbrev pub Says : (Value → List ℕ) → Limits → answer.Answer → Change → Change → ℕ → Type 0

@@ -1,25 +1,26 @@
 -- What is promised of `compile`, of the other commands that call `main`, and of generated files.
 use Rattle.std.specs.Prelude.{◌≡◌, ℕ, List, []}
+use Rattle.rb_accept.specs.Accepting.{IsAccepted}
+use Rattle.rb_accept.specs.Arguments.{Spell}
+use Rattle.rb_accept.specs.Reading.{Source, Gave}
 use Rattle.rb_bytes.specs.Memory.{Memory, empty_memory}
+use Rattle.rb_command.specs.Command.{Limits, compile, image, count, gen, genrun, IsWordsOf}
 use Rattle.rb_core.specs.declared.program.Program.{Program}
 use Rattle.rb_core.specs.declared.value.Value.{Value}
 use Rattle.rb_layout.specs.Flattening.{flat_layouts}
 use Rattle.rb_layout.specs.declared.agreed.LaidOut.{LaidOut}
+use Rattle.rb_lines.specs.Delivery.{Change, Took}
+use Rattle.rb_lines.specs.ImageTexts.{image_text}
 use Rattle.rb_run.specs.Calling.{IsCounted}
 use Rattle.rb_run.specs.declared.count.Tally.{Tally}
 use Rattle.rb_target.specs.Text.{code_text}
 use Rattle.rb_target.specs.declared.code.CodeFun.{CodeFun}
-use Rattle.ribbit_tool.specs.Accepting.{IsAccepted}
-use Rattle.ribbit_tool.specs.Arguments.{Spell}
-use Rattle.ribbit_tool.specs.Command.{Limits, compile, image, count, gen, genrun, IsWordsOf}
 use Rattle.ribbit_tool.specs.Compiling.{IsCompiled, IsLaidOut}
 use Rattle.ribbit_tool.specs.Count.{IsMainTally, count_text}
-use Rattle.ribbit_tool.specs.Delivery.{Change, Took}
 use Rattle.ribbit_tool.specs.Generate.{generated}
 use Rattle.ribbit_tool.specs.Headline.{OfCalls, Says}
-use Rattle.ribbit_tool.specs.Image.{ShowWhole, image_text}
+use Rattle.ribbit_tool.specs.Image.{ShowWhole}
 use Rattle.ribbit_tool.specs.Promise.{IsCalm}
-use Rattle.ribbit_tool.specs.Reading.{Source, Gave}
 use Rattle.ribbit_tool.specs.Run.{source_answer, whole_answer}
 
 -- Code --------------------------------------------------------------------------------------

@@ -1,10 +1,10 @@
 -- What is due to the command `layout`: the flat form of each type's layout.
 use Rattle.std.specs.Prelude.{◌≡◌, ℕ, List}
+use Rattle.rb_accept.specs.Accepting.{Accepts}
 use Rattle.rb_core.specs.declared.program.Program.{Program}
 use Rattle.rb_layout.specs.Flattening.{flat_layouts}
+use Rattle.rb_lines.specs.Answer.{Due, printed}
 use Rattle.rb_show.specs.Lines.{layouts_text}
-use Rattle.ribbit_tool.specs.Accepting.{Accepts}
-use Rattle.ribbit_tool.specs.Answer.{Due, printed}
 
 abbrev pub layout_text : Program → List ℕ
 layout_text p = layouts_text p.types (flat_layouts p)

@@ -1,15 +1,15 @@
 -- What the program promises, of any words, source and sinks.
 use Rattle.std.specs.Prelude.{◌≡◌, ◌≢◌, ℕ, ◌+◌, ◌⊎◌, List, [], ◌∷◌, ◌++◌, IsTrue, None}
+use Rattle.rb_accept.specs.Reading.{Source, handed_out, ReadsInTurn}
+use Rattle.rb_command.specs.Command.{Parsed, IsParsed}
 use Rattle.rb_edge.specs.Faults.{Rose}
 use Rattle.rb_edge.specs.History.{Reading, missed}
-use Rattle.ribbit_tool.specs.Answer.{Due, printed, refused, status_of, steps_of, text_of}
+use Rattle.rb_lines.specs.Answer.{Due, printed, refused, status_of, steps_of, text_of}
+use Rattle.rb_lines.specs.Delivery.{Change, Took, CutOff, Tried, Stood, Delivers}
+use Rattle.rb_lines.specs.Lines.{write_fault_line}
+use Rattle.rb_lines.specs.Numbers.{status_number}
+use Rattle.rb_lines.specs.declared.status.Status.TheVariants.{NoMemory, Unread}
 use Rattle.ribbit_tool.specs.Answers.{Answers, Owes, files_of}
-use Rattle.ribbit_tool.specs.Command.{Parsed, IsParsed}
-use Rattle.ribbit_tool.specs.Delivery.{Change, Took, CutOff, Tried, Stood, Delivers}
-use Rattle.ribbit_tool.specs.Lines.{write_fault_line}
-use Rattle.ribbit_tool.specs.Numbers.{status_number}
-use Rattle.ribbit_tool.specs.Reading.{Source, handed_out, ReadsInTurn}
-use Rattle.ribbit_tool.specs.declared.status.Status.TheVariants.{NoMemory, Unread}
 
 -- how many steps were counted before and after a call
 pub record Counting : Type 0 where

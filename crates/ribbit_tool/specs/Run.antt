@@ -1,6 +1,9 @@
 -- What is due to the run of a file, and the answer of the source to a call of `main`.
 use Rattle.std.specs.Prelude.{◌≡◌, ℕ, List, ◌++◌, map, true}
+use Rattle.rb_accept.specs.Accepting.{Accepts}
+use Rattle.rb_accept.specs.Arguments.{Spell, IsMisfit}
 use Rattle.rb_bytes.specs.Memory.{empty_memory}
+use Rattle.rb_command.specs.Command.{Limits}
 use Rattle.rb_core.specs.Meaning.{call_of}
 use Rattle.rb_core.specs.Typing.{param_types, result_type}
 use Rattle.rb_core.specs.Values.{all_of_types, is_of_type}
@@ -10,19 +13,17 @@ use Rattle.rb_core.specs.declared.program.Program.{Program}
 use Rattle.rb_core.specs.declared.value.Value.{Value}
 use Rattle.rb_layout.specs.declared.agreed.LaidOut.{LaidOut}
 use Rattle.rb_layout.specs.declared.layout.Layout.{Layout}
+use Rattle.rb_lines.specs.Answer.{Due, printed, refused}
+use Rattle.rb_lines.specs.ArgumentLines.{node_limit}
+use Rattle.rb_lines.specs.Lines.{ended, spent_line, full_line, large_line}
+use Rattle.rb_lines.specs.declared.status.Status.TheVariants as status
 use Rattle.rb_rel.specs.Answers as answer
 use Rattle.rb_rel.specs.Answers.{all_makings, answer_of}
 use Rattle.rb_rel.specs.Placing.{Laid, Fits, Over, lay, requests_of}
 use Rattle.rb_run.specs.Calling.{IsCounted}
 use Rattle.rb_target.specs.declared.code.CodeFun.{CodeFun}
 use Rattle.rb_values.specs.Texts.{text_of}
-use Rattle.ribbit_tool.specs.Accepting.{Accepts}
-use Rattle.ribbit_tool.specs.Answer.{Due, printed, refused}
-use Rattle.ribbit_tool.specs.Arguments.{node_limit, Spell, IsMisfit}
-use Rattle.ribbit_tool.specs.Command.{Limits}
 use Rattle.ribbit_tool.specs.Compiling.{IsCompiled, IsLaidOut}
-use Rattle.ribbit_tool.specs.Lines.{ended, spent_line, full_line, large_line}
-use Rattle.ribbit_tool.specs.declared.status.Status.TheVariants as status
 
 -- Prepared programs -------------------------------------------------------------------------
 

@@ -1,5 +1,6 @@
 -- What is due to the command `value`: the value that an image holds of the result type of `main`.
 use Rattle.std.specs.Prelude.{◌≡◌, ◌≤◌, ◌<◌, List, ℕ}
+use Rattle.rb_accept.specs.Opening.{Opens}
 use Rattle.rb_core.specs.Typing.{result_type}
 use Rattle.rb_core.specs.Values.{node_count}
 use Rattle.rb_core.specs.declared.program.Program.{Program}
@@ -11,13 +12,12 @@ use Rattle.rb_image.specs.Roots.{IsFirstFault}
 use Rattle.rb_image_text.specs.declared.fault.ImageFault.{ImageFault}
 use Rattle.rb_image_text.specs.declared.image.Image.{Image}
 use Rattle.rb_layout.specs.Flattening.{flat_layouts}
+use Rattle.rb_lines.specs.Answer.{Due, printed, refusal}
+use Rattle.rb_lines.specs.ArgumentLines.{node_limit}
+use Rattle.rb_lines.specs.ImageLines.{image_due}
+use Rattle.rb_lines.specs.Lines.{ended, large_line}
+use Rattle.rb_lines.specs.declared.status.Status.TheVariants.{TooLarge}
 use Rattle.rb_values.specs.Texts.{text_of}
-use Rattle.ribbit_tool.specs.Answer.{Due, printed, refusal}
-use Rattle.ribbit_tool.specs.Arguments.{node_limit}
-use Rattle.ribbit_tool.specs.ImageLines.{image_due}
-use Rattle.ribbit_tool.specs.Lines.{ended, large_line}
-use Rattle.ribbit_tool.specs.Opening.{Opens}
-use Rattle.ribbit_tool.specs.declared.status.Status.TheVariants.{TooLarge}
 
 -- What is due to an image that is to hold a value of a type: its root words represent one in its blocks, and each
 -- pointer that a block holds leads to a block with a lower address; then the value is shown on a line, if it is not too

@@ -1,18 +1,19 @@
 //! The command `check`.
 
 ghost use Rattle.std.specs.Prelude.{◌≤◌, ℕ, length, IfOk, IfErr, Ok, [], ◌∷◌};
-ghost use Rattle.ribbit_tool.specs.Answer.{printed};
+ghost use Rattle.rb_accept.specs.Reading.{ReadsInTurn, file_limit, source_of};
+ghost use Rattle.rb_accept.specs.View.{IsAcceptance, added};
+ghost use Rattle.rb_command.specs.Command as spec;
+ghost use Rattle.rb_lines.specs.Answer.{printed};
+ghost use Rattle.rb_lines.specs.View.{IsRefusal, Meets};
 ghost use Rattle.ribbit_tool.specs.Answers.{Owes};
 ghost use Rattle.ribbit_tool.specs.Check.{ChecksFile};
-ghost use Rattle.ribbit_tool.specs.Command as spec;
-ghost use Rattle.ribbit_tool.specs.Reading.{ReadsInTurn, file_limit, source_of};
-ghost use Rattle.ribbit_tool.specs.View.{IsAcceptance, IsRefusal, Meets, added};
 
-use crate::accepting::{Accepted, accept};
-use crate::line::note::checked;
-use crate::reading::{FILE_LIMIT, read_within};
-use crate::refusal::Refusal;
+use rb_accept::accepting::{Accepted, accept};
+use rb_accept::reading::{FILE_LIMIT, read_within};
 use rb_edge::source::Source;
+use rb_lines::note::checked;
+use rb_lines::refusal::Refusal;
 use std::alloc::{AllocError, Global};
 
 // The text for an accepted file.

@@ -1,19 +1,20 @@
 //! Code for accepted files, and the command `compile`.
 
 ghost use Rattle.std.specs.Prelude.{◌≤◌, ℕ, length, IfOk, IfErr, Ok, [], ◌∷◌};
-ghost use Rattle.ribbit_tool.specs.Answer.{printed};
+ghost use Rattle.rb_accept.specs.Reading.{ReadsInTurn, file_limit, source_of};
+ghost use Rattle.rb_accept.specs.View.{added};
+ghost use Rattle.rb_command.specs.Command as spec;
+ghost use Rattle.rb_lines.specs.Answer.{printed};
+ghost use Rattle.rb_lines.specs.View.{IsRefusal, Meets};
 ghost use Rattle.ribbit_tool.specs.Answers.{Owes};
-ghost use Rattle.ribbit_tool.specs.Command as spec;
 ghost use Rattle.ribbit_tool.specs.Compiling.{CompilesFile, IsCompiled};
-ghost use Rattle.ribbit_tool.specs.Reading.{ReadsInTurn, file_limit, source_of};
-ghost use Rattle.ribbit_tool.specs.View.{IsRefusal, Meets, added};
 
-use crate::accepting::accept;
-use crate::reading::{FILE_LIMIT, read_within};
-use crate::refusal::Refusal;
+use rb_accept::accepting::accept;
+use rb_accept::reading::{FILE_LIMIT, read_within};
 use rb_compile::programs::compile;
 use rb_edge::source::Source;
 use rb_layout::agreed::Agreed;
+use rb_lines::refusal::Refusal;
 use rb_target::code::Code;
 use rb_target::spell::spell_code;
 use std::alloc::{AllocError, Global};

@@ -1,27 +1,29 @@
 //! The command `count`: the value of a run, and what the run did.
 
 ghost use Rattle.std.specs.Prelude.{◌≡◌, ◌≤◌, ◌+◌, ◌++◌, ℕ, length, IfOk, OnOk, Ok, [], ◌∷◌};
+ghost use Rattle.rb_accept.specs.Reading.{ReadsInTurn, file_limit, source_of};
+ghost use Rattle.rb_accept.specs.View.{added};
+ghost use Rattle.rb_command.specs.Command as spec;
+ghost use Rattle.rb_command.specs.View.{limits_view};
+ghost use Rattle.rb_lines.specs.View.{Meets};
 ghost use Rattle.rb_run.specs.Answering.{meant_by};
 ghost use Rattle.ribbit_tool.specs.Answers.{Owes};
-ghost use Rattle.ribbit_tool.specs.Command as spec;
 ghost use Rattle.ribbit_tool.specs.Count.{Counts, CountsFile, count_text, number_line};
 ghost use Rattle.ribbit_tool.specs.Run.{IsPrepared, answer_due};
-ghost use Rattle.ribbit_tool.specs.Reading.{ReadsInTurn, file_limit, source_of};
-ghost use Rattle.ribbit_tool.specs.View.{limits_view, Meets, added};
 
-use crate::accepting::accept;
-use crate::limits::Limits;
-use crate::line::argument::NODES;
-use crate::line::{self, push};
-use crate::reading::{FILE_LIMIT, read_within};
-use crate::refusal::{Refusal, Refused};
 use crate::run::{Prepared, prepare, show_value};
-use crate::status::Status;
+use rb_accept::accepting::accept;
+use rb_accept::reading::{FILE_LIMIT, read_within};
+use rb_command::limits::Limits;
 use rb_core::program::Program;
 use rb_edge::seq::Name;
 use rb_edge::source::Source;
 use rb_edge::steps::{Ledger, Steps};
 use rb_layout::agreed::Agreed;
+use rb_lines::argument::NODES;
+use rb_lines::line::{self, push};
+use rb_lines::refusal::{Refusal, Refused};
+use rb_lines::status::Status;
 use rb_run::answer::{Answer, Bounds};
 use rb_run::count::{Counted, Tally, count_main};
 use rb_values::forest::Forest;

@@ -1,27 +1,29 @@
 //! The command `exec`: a function of a code text is run.
 
 ghost use Rattle.std.specs.Prelude.{◌≡◌, ◌≢◌, ◌≤◌, ◌<◌, ◌+◌, ℕ, length, IfOk, IfSome, Ok, slice_get, [], ◌∷◌};
+ghost use Rattle.rb_accept.specs.Reading.{ReadsInTurn, code_limit, source_of};
+ghost use Rattle.rb_accept.specs.View.{added};
 ghost use Rattle.rb_bytes.specs.Memory.{empty_memory};
+ghost use Rattle.rb_command.specs.Command as spec;
+ghost use Rattle.rb_command.specs.View.{limits_view};
+ghost use Rattle.rb_lines.specs.Answer.{refusal};
+ghost use Rattle.rb_lines.specs.Lines.{code_line, words_line};
+ghost use Rattle.rb_lines.specs.View.{due_of, Meets};
+ghost use Rattle.rb_lines.specs.declared.status.Status.TheVariants as status;
 ghost use Rattle.rb_machine.specs.Runs.{params_in};
 ghost use Rattle.rb_target.specs.Meaning.{run_of};
 ghost use Rattle.rb_target.specs.declared.fault.CodeFault.TheVariants.{Memory};
-ghost use Rattle.ribbit_tool.specs.Answer.{refusal};
 ghost use Rattle.ribbit_tool.specs.Answers.{Owes};
-ghost use Rattle.ribbit_tool.specs.Command as spec;
 ghost use Rattle.ribbit_tool.specs.Exec.{Executes, call_due, end_due, exec_due, fun_named, outcome_due};
-ghost use Rattle.ribbit_tool.specs.Lines.{code_line, words_line};
-ghost use Rattle.ribbit_tool.specs.Reading.{ReadsInTurn, code_limit, source_of};
-ghost use Rattle.ribbit_tool.specs.View.{limits_view, due_of, Meets, added};
-ghost use Rattle.ribbit_tool.specs.declared.status.Status.TheVariants as status;
 
-use crate::limits::Limits;
-use crate::line;
-use crate::reading::{CODE_LIMIT, read_within};
-use crate::refusal::{Refusal, Refused};
-use crate::status::Status;
+use rb_accept::reading::{CODE_LIMIT, read_within};
 use rb_bytes::checked::CheckedMemory;
+use rb_command::limits::Limits;
 use rb_edge::source::Source;
 use rb_edge::steps::{Ledger, Steps};
+use rb_lines::line;
+use rb_lines::refusal::{Refusal, Refused};
+use rb_lines::status::Status;
 use rb_machine::run::run;
 use rb_target::code::{Code, CodeFun};
 use rb_target::fault::CodeFault;

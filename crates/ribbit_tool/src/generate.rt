@@ -5,14 +5,15 @@
 //! last stands the first. So the run gives 4,501,500, whichever their number.
 
 ghost use Rattle.std.specs.Prelude.{◌≡◌, ◌++◌, ℕ, IfOk, OnOk};
+ghost use Rattle.rb_command.specs.View.{limits_view};
+ghost use Rattle.rb_lines.specs.View.{Meets};
 ghost use Rattle.ribbit_tool.specs.Generate.{CountsGenerated, Generates, generated, sum_line, sum_lines};
-ghost use Rattle.ribbit_tool.specs.View.{limits_view, Meets};
 
 use crate::count::count_bytes;
-use crate::limits::{Functions, Limits};
-use crate::line::push;
-use crate::refusal::Refusal;
+use rb_command::limits::{Functions, Limits};
 use rb_edge::steps::{Ledger, Steps};
+use rb_lines::line::push;
+use rb_lines::refusal::Refusal;
 use std::alloc::{AllocError, Global};
 
 const LIST_TYPE: &[u8] = b"type List = Nil | Cons(u64, List);\n";

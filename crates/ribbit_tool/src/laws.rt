@@ -1,31 +1,6 @@
-//! Laws of command lines, of files that are accepted, and of code texts.
+//! Laws of code texts.
 
-ghost use Rattle.ribbit_tool.specs.Laws.{AreExecuted, CompiledTextsRun, HaveNoRefusal, HaveOneCut, HaveOneMeaning, HaveOneProgram, HaveOneTree};
-
-/// Words are those of one command, or have one word at fault.
-pub fn words_have_one_meaning()
-    ensures { HaveOneMeaning }
-{}
-
-/// A text has one list of tokens at most, and then neither a bad byte nor a number that is too wide.
-pub fn texts_have_one_cut()
-    ensures { HaveOneCut }
-{}
-
-/// Tokens are the file of one tree at most.
-pub fn tokens_have_one_tree()
-    ensures { HaveOneTree }
-{}
-
-/// A text is the file of one accepted program at most.
-pub fn texts_have_one_program()
-    ensures { HaveOneProgram }
-{}
-
-/// A text that is accepted is not refused.
-pub fn accepted_texts_have_no_refusal()
-    ensures { HaveNoRefusal }
-{}
+ghost use Rattle.ribbit_tool.specs.Laws.{AreExecuted, CompiledTextsRun};
 
 /// The text of valid code is executed as just that code: what `compile` prints does as `exec` what it was
 /// made for.

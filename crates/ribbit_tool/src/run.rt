@@ -1,25 +1,23 @@
 //! The command `run`: a file is accepted, prepared and run.
 
 ghost use Rattle.std.specs.Prelude.{◌≡◌, ◌≤◌, ◌+◌, ℕ, length, IfOk, IfErr, Ok, [], ◌∷◌};
+ghost use Rattle.rb_accept.specs.Arguments.{IsMisfit, Spell};
+ghost use Rattle.rb_accept.specs.Reading.{ReadsInTurn, file_limit, source_of};
+ghost use Rattle.rb_accept.specs.View.{added};
+ghost use Rattle.rb_command.specs.Command as spec;
+ghost use Rattle.rb_command.specs.View.{limits_view};
+ghost use Rattle.rb_lines.specs.Lines.{ended};
+ghost use Rattle.rb_lines.specs.View.{IsRefusal, Meets};
 ghost use Rattle.rb_run.specs.Answering.{meant_by};
 ghost use Rattle.rb_values.specs.Texts.{text_of};
 ghost use Rattle.ribbit_tool.specs.Answers.{Owes};
-ghost use Rattle.ribbit_tool.specs.Arguments.{IsMisfit, Spell};
-ghost use Rattle.ribbit_tool.specs.Command as spec;
-ghost use Rattle.ribbit_tool.specs.Lines.{ended};
 ghost use Rattle.ribbit_tool.specs.Run.{IsPrepared, Runs, RunsFile, answer_due, value_line};
-ghost use Rattle.ribbit_tool.specs.Reading.{ReadsInTurn, file_limit, source_of};
-ghost use Rattle.ribbit_tool.specs.View.{limits_view, IsRefusal, Meets, added};
 
-use crate::accepting::accept;
-use crate::arguments::read_arguments;
 use crate::compile::code_of;
-use crate::limits::Limits;
-use crate::line;
-use crate::line::argument::NODES;
-use crate::reading::{FILE_LIMIT, read_within};
-use crate::refusal::{Refusal, Refused};
-use crate::status::Status;
+use rb_accept::accepting::accept;
+use rb_accept::arguments::read_arguments;
+use rb_accept::reading::{FILE_LIMIT, read_within};
+use rb_command::limits::Limits;
 use rb_core::program::Program;
 use rb_core::seq::Seq;
 use rb_core::types::{DataDecl, Ty};
@@ -27,6 +25,10 @@ use rb_edge::seq::Name;
 use rb_edge::source::Source;
 use rb_edge::steps::{Ledger, Steps};
 use rb_layout::agreed::Agreed;
+use rb_lines::argument::NODES;
+use rb_lines::line;
+use rb_lines::refusal::{Refusal, Refused};
+use rb_lines::status::Status;
 use rb_run::answer::{Answer, Bounds, answer_main, result_of_main};
 use rb_target::code::Code;
 use rb_values::forest::Forest;

@@ -1,37 +1,39 @@
 //! The top call.
 
 ghost use Rattle.std.specs.Prelude.{◌≡◌, ◌≤◌, ℕ, List, IfOk, Ok};
-ghost use Rattle.ribbit_tool.specs.Answer.{refusal};
+ghost use Rattle.rb_accept.specs.Reading.{ReadsInTurn, source_of};
+ghost use Rattle.rb_accept.specs.View.{added};
+ghost use Rattle.rb_command.specs.View.{command_view};
+ghost use Rattle.rb_lines.specs.Answer.{refusal};
+ghost use Rattle.rb_lines.specs.Delivery.{change};
+ghost use Rattle.rb_lines.specs.Lines.{usage_line};
+ghost use Rattle.rb_lines.specs.View.{due_of, Meets};
+ghost use Rattle.rb_lines.specs.declared.status.Status.TheVariants as status;
 ghost use Rattle.ribbit_tool.specs.Answers.{Owes, files_of};
-ghost use Rattle.ribbit_tool.specs.Delivery.{change};
 ghost use Rattle.ribbit_tool.specs.Headline.{GivesHeld, Headline};
 ghost use Rattle.ribbit_tool.specs.Headlines.{CompileHeadline, CountHeadline, GenerateHeadline, ImageHeadline};
-ghost use Rattle.ribbit_tool.specs.Lines.{usage_line};
 ghost use Rattle.ribbit_tool.specs.Promise.{Performs, IsRight};
-ghost use Rattle.ribbit_tool.specs.Reading.{ReadsInTurn, source_of};
-ghost use Rattle.ribbit_tool.specs.View.{added, command_view, due_of, Meets};
-ghost use Rattle.ribbit_tool.specs.declared.status.Status.TheVariants as status;
 ghost use Rattle.ribbit_tool.specs.inner.Composing.{Composes};
 
 use crate::check::check_file;
-use crate::command::{Command, CommandFault, parse};
 use crate::compile::compile_file;
 use crate::count::count_file;
-use crate::delivery::{print, refuse};
 use crate::exec::run_code_file;
 use crate::generate::{count_generated, generate_file};
 use crate::image::image_file;
 use crate::layout::layout_file;
-use crate::line::{self, NO_MEMORY};
-use crate::refusal::{Refusal, Refused};
 use crate::run::run_file;
-use crate::status::Status;
 use crate::value::value_file;
+use rb_command::command::{Command, CommandFault, parse};
 use rb_edge::seq::Name;
 use rb_edge::sink::Sink;
 use rb_edge::source::Source;
 use rb_edge::steps::{Ledger, Steps};
 use rb_edge::words::Words;
+use rb_lines::delivery::{print, refuse};
+use rb_lines::line::{self, NO_MEMORY};
+use rb_lines::refusal::{Refusal, Refused};
+use rb_lines::status::Status;
 use std::alloc::{AllocError, Global};
 
 // The text of a command.

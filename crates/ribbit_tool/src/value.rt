@@ -1,27 +1,28 @@
 //! The command `value`: the value that an image holds.
 
 ghost use Rattle.std.specs.Prelude.{◌≡◌, ℕ, IfOk, IfErr, Ok};
+ghost use Rattle.rb_accept.specs.Reading.{ReadsInTurn, source_of};
+ghost use Rattle.rb_accept.specs.View.{added};
+ghost use Rattle.rb_command.specs.Command as spec;
 ghost use Rattle.rb_core.specs.Typing.{result_type};
 ghost use Rattle.rb_image.specs.Values.{IsDeclared};
 ghost use Rattle.rb_image_text.specs.Images.{AreBlocks};
 ghost use Rattle.rb_image_text.specs.Places.{AreInPlace};
 ghost use Rattle.rb_layout.specs.Flattening.{flat_layouts};
-ghost use Rattle.ribbit_tool.specs.Answer.{printed};
+ghost use Rattle.rb_lines.specs.Answer.{printed};
+ghost use Rattle.rb_lines.specs.View.{IsRefusal, Meets};
 ghost use Rattle.ribbit_tool.specs.Answers.{Owes, files_of};
-ghost use Rattle.ribbit_tool.specs.Command as spec;
-ghost use Rattle.ribbit_tool.specs.Reading.{ReadsInTurn, source_of};
 ghost use Rattle.ribbit_tool.specs.Value.{ReadsBack};
-ghost use Rattle.ribbit_tool.specs.View.{added, IsRefusal, Meets};
 
-use crate::line::argument::NODES;
-use crate::opening::{open_image, refuse_image};
-use crate::refusal::Refusal;
 use crate::run::show_at;
+use rb_accept::opening::{open_image, refuse_image};
 use rb_core::types::Ty;
 use rb_edge::source::Source;
 use rb_image::value::read_image;
 use rb_image_text::image::Image;
 use rb_layout::agreed::Agreed;
+use rb_lines::argument::NODES;
+use rb_lines::refusal::Refusal;
 use rb_run::answer::result_of_main;
 use std::alloc::Global;
 

@@ -2,12 +2,12 @@
 use Rattle.std.specs.Prelude.{ℕ, List, Result}
 use Rattle.std.specs.declared.alloc.Global.{Global}
 use Rattle.std.specs.declared.vec.Vec.{Vec}
+use Rattle.rb_accept.specs.Reading.{Source, ReadsInTurn, handed_out}
+use Rattle.rb_command.specs.Command.{Parsed, IsParsed}
+use Rattle.rb_lines.specs.View.{Meets}
+use Rattle.rb_lines.specs.declared.refusal.Refusal.{Refusal}
 use Rattle.ribbit_tool.specs.Answers.{Owes, files_of}
-use Rattle.ribbit_tool.specs.Command.{Parsed, IsParsed}
 use Rattle.ribbit_tool.specs.Promise.{Counting}
-use Rattle.ribbit_tool.specs.Reading.{Source, ReadsInTurn, handed_out}
-use Rattle.ribbit_tool.specs.View.{Meets}
-use Rattle.ribbit_tool.specs.declared.refusal.Refusal.{Refusal}
 
 -- the files of what the words come to were read, and the text or the line is what is owed to it
 pub record Composes (words : List (List ℕ)) (source : Source) (steps : Counting) (text : Result (Vec ℕ Global) Refusal) : Type 0 where

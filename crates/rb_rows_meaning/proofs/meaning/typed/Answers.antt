@@ -4,7 +4,7 @@ use Rattle.rb_syntax.specs.Cutting.{IsRight}
 use Rattle.rb_syntax.specs.Lexing.{Lexed}
 use Rattle.rb_syntax.specs.Tokens.{tokens}
 use Rattle.rb_syntax.specs.declared.token.Placed.{Placed}
-use Rattle.ribbit_tool.proofs.Numbered.{is_written}
+use Rattle.rb_accept.proofs.Numbered.{is_written}
 use Rattle.rb_rows_meaning.proofs.meaning.typed.Goals as goal
 
 pub check-requires : goal.check-requires

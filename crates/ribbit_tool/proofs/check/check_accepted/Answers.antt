@@ -1,10 +1,10 @@
 use Rattle.std.proofs.Common.{List, ℕ, length, ap, ◌∙◌}
+use Rattle.rb_accept.specs.Accepting.{accepted}
+use Rattle.rb_accept.proofs.Accepted.{is_accepted}
 use Rattle.rb_core.specs.declared.program.Note.{Note}
+use Rattle.rb_lines.specs.Answer.{printed}
+use Rattle.rb_lines.specs.Notes.{check_text}
 use Rattle.rb_syntax.specs.declared.token.Placed.{Placed}
-use Rattle.ribbit_tool.specs.Accepting.{accepted}
-use Rattle.ribbit_tool.specs.Answer.{printed}
-use Rattle.ribbit_tool.specs.Check.{check_text}
-use Rattle.ribbit_tool.proofs.Accepted.{is_accepted}
 use Rattle.ribbit_tool.proofs.check.check_accepted.Goals as goal
 
 pub returns : goal.returns

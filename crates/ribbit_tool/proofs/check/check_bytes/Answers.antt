@@ -1,7 +1,7 @@
 use Rattle.std.proofs.lemmas.Result.{err_from_is_err_and}
-use Rattle.ribbit_tool.specs.Accepting.{IsRefused, turned_down}
+use Rattle.rb_accept.specs.Accepting.{IsRefused, turned_down}
+use Rattle.rb_lines.proofs.Meeting.{refusal_met}
 use Rattle.ribbit_tool.specs.Check.{ChecksFile}
-use Rattle.ribbit_tool.proofs.Meeting.{refusal_met}
 use Rattle.ribbit_tool.proofs.check.check_bytes.Goals as goal
 
 pub returns-in_err-accepted-clause-refused : goal.returns-in_err-accepted-clause-refused

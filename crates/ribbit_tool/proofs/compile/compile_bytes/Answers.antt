@@ -1,10 +1,10 @@
 use Rattle.std.proofs.Common.{List, ℕ, refl, ap}
 use Rattle.std.proofs.lemmas.Result.{err_from_is_err_and}
-use Rattle.ribbit_tool.specs.Accepting.{IsRefused, turned_down, accepted}
-use Rattle.ribbit_tool.specs.Answer.{printed}
+use Rattle.rb_accept.specs.Accepting.{IsRefused, turned_down, accepted}
+use Rattle.rb_accept.proofs.Accepted.{is_accepted}
+use Rattle.rb_lines.specs.Answer.{printed}
+use Rattle.rb_lines.proofs.Meeting.{refusal_met}
 use Rattle.ribbit_tool.specs.Compiling.{CompilesFile}
-use Rattle.ribbit_tool.proofs.Accepted.{is_accepted}
-use Rattle.ribbit_tool.proofs.Meeting.{refusal_met}
 use Rattle.ribbit_tool.proofs.compile.compile_bytes.Goals as goal
 
 pub returns-in_err-accepted-clause-refused : goal.returns-in_err-accepted-clause-refused

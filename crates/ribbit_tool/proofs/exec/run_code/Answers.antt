@@ -1,9 +1,10 @@
 use Rattle.std.proofs.Common.{◌≡◌, subst, arith}
+use Rattle.rb_command.specs.View.{limits_view}
+use Rattle.rb_lines.specs.View.{due_of}
+use Rattle.rb_lines.proofs.Meeting.{met}
 use Rattle.rb_target.specs.Validity.{IsValid}
 use Rattle.ribbit_tool.specs.Exec.{Executes, executed, exec_due}
-use Rattle.ribbit_tool.specs.View.{limits_view, due_of}
 use Rattle.ribbit_tool.proofs.ExecLaws.{fault_due}
-use Rattle.ribbit_tool.proofs.Meeting.{met}
 use Rattle.ribbit_tool.proofs.exec.run_code.Goals as goal
 
 pub returns-in-Ok : goal.returns-in-Ok

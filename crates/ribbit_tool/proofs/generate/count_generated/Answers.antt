@@ -1,9 +1,9 @@
 use Rattle.std.proofs.Common.{◌≤◌, ℕ, List, [], length, sym, subst, ◌∙◌}
+use Rattle.rb_command.specs.View.{limits_view}
+use Rattle.rb_lines.proofs.Meeting.{met}
 use Rattle.ribbit_tool.specs.Count.{CountsFile}
 use Rattle.ribbit_tool.specs.Generate.{CountsGenerated}
-use Rattle.ribbit_tool.specs.View.{limits_view}
 use Rattle.ribbit_tool.proofs.GenerateLaws.{generated_short}
-use Rattle.ribbit_tool.proofs.Meeting.{met}
 use Rattle.ribbit_tool.proofs.generate.count_generated.Goals as goal
 
 pub count_bytes-requires : goal.count_bytes-requires

@@ -1,14 +1,14 @@
 use Rattle.std.proofs.Common.{List}
 use Rattle.std.proofs.lemmas.Result.{err_from_is_err_and}
+use Rattle.rb_accept.specs.Accepting.{IsRefused}
+use Rattle.rb_accept.specs.Arguments.{IsMisfit}
+use Rattle.rb_command.specs.View.{limits_view}
 use Rattle.rb_core.specs.declared.value.Value.{Value}
 use Rattle.rb_layout.specs.declared.agreed.LaidOut.{LaidOut}
+use Rattle.rb_lines.specs.Answer.{Due}
+use Rattle.rb_lines.proofs.Meeting.{met, refused_met}
 use Rattle.rb_target.specs.declared.code.CodeFun.{CodeFun}
-use Rattle.ribbit_tool.specs.Accepting.{IsRefused}
-use Rattle.ribbit_tool.specs.Answer.{Due}
-use Rattle.ribbit_tool.specs.Arguments.{IsMisfit}
 use Rattle.ribbit_tool.specs.Image.{Images, ImagesFile}
-use Rattle.ribbit_tool.specs.View.{limits_view}
-use Rattle.ribbit_tool.proofs.Meeting.{met, refused_met}
 use Rattle.ribbit_tool.proofs.Preparing.{refused_due, misfit_due, prepared_due}
 use Rattle.ribbit_tool.proofs.image.image_bytes.Goals as goal
 

@@ -1,15 +1,17 @@
 use Rattle.std.proofs.Common.{◌≡◌, List, true, map, sym, subst, ◌∙◌}
 use Rattle.rb_bytes.specs.Memory.{Memory, empty_memory}
+use Rattle.rb_command.specs.View.{limits_view}
 use Rattle.rb_core.specs.Typing.{param_types}
 use Rattle.rb_core.specs.Values.{all_of_types, is_of_type}
 use Rattle.rb_core.specs.declared.value.Value.{Value}
+use Rattle.rb_lines.specs.Answer.{Due}
+use Rattle.rb_lines.specs.ImageTexts.{image_text}
+use Rattle.rb_lines.specs.View.{Meets}
+use Rattle.rb_lines.proofs.Meeting.{met}
 use Rattle.rb_run.specs.Calling.{IsCalled, IsCounted}
-use Rattle.ribbit_tool.specs.Answer.{Due}
 use Rattle.ribbit_tool.specs.Exec.{end_due}
-use Rattle.ribbit_tool.specs.Image.{Images, image_text}
-use Rattle.ribbit_tool.specs.View.{limits_view, Meets}
+use Rattle.ribbit_tool.specs.Image.{Images}
 use Rattle.ribbit_tool.proofs.ImageLaws.{shows_end}
-use Rattle.ribbit_tool.proofs.Meeting.{met}
 use Rattle.ribbit_tool.proofs.image.image_prepared.Goals as goal
 
 pub call_main-requires-clause-typed : goal.call_main-requires-clause-typed

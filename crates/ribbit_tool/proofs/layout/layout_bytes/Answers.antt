@@ -1,12 +1,12 @@
 use Rattle.std.proofs.Common.{List, ℕ, ap, ◌∙◌}
 use Rattle.std.proofs.lemmas.Result.{err_from_is_err_and}
+use Rattle.rb_accept.specs.Accepting.{IsRefused, turned_down, accepted}
+use Rattle.rb_accept.proofs.Accepted.{is_accepted}
 use Rattle.rb_layout.specs.declared.layout.Layout.{Layout}
+use Rattle.rb_lines.specs.Answer.{printed}
+use Rattle.rb_lines.proofs.Meeting.{refusal_met}
 use Rattle.rb_show.specs.Lines.{layouts_text}
-use Rattle.ribbit_tool.specs.Accepting.{IsRefused, turned_down, accepted}
-use Rattle.ribbit_tool.specs.Answer.{printed}
 use Rattle.ribbit_tool.specs.Layout.{LaysOutFile}
-use Rattle.ribbit_tool.proofs.Accepted.{is_accepted}
-use Rattle.ribbit_tool.proofs.Meeting.{refusal_met}
 use Rattle.ribbit_tool.proofs.layout.layout_bytes.Goals as goal
 
 pub returns-in_err-accepted-clause-refused : goal.returns-in_err-accepted-clause-refused

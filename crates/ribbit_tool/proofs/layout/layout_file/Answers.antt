@@ -1,12 +1,12 @@
 use Rattle.std.proofs.Common.{ℕ, List, subst, Ok, IfOk, IfErr, length, drop}
 use Rattle.std.proofs.lemmas.Result.{err_from_is_err_and}
-use Rattle.ribbit_tool.specs.Answer.{printed}
+use Rattle.rb_accept.specs.Reading.{IsUnread, file_limit}
+use Rattle.rb_command.specs.Command.{layout}
+use Rattle.rb_lines.specs.Answer.{printed}
+use Rattle.rb_lines.specs.View.{IsRefusal}
+use Rattle.rb_lines.proofs.Meeting.{unrun_met, refused_met}
 use Rattle.ribbit_tool.specs.Answers.{Owes}
 use Rattle.ribbit_tool.specs.Layout.{LaysOutFile}
-use Rattle.ribbit_tool.specs.Command.{layout}
-use Rattle.ribbit_tool.specs.Reading.{IsUnread, file_limit}
-use Rattle.ribbit_tool.specs.View.{IsRefusal}
-use Rattle.ribbit_tool.proofs.Meeting.{unrun_met, refused_met}
 use Rattle.ribbit_tool.proofs.Owing.{owes_read, owes_unread}
 use Rattle.ribbit_tool.proofs.layout.layout_file.Goals as goal
 

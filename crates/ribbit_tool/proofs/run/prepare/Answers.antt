@@ -1,9 +1,9 @@
 use Rattle.std.proofs.Common.{ap, subst, ◌∙◌}
 use Rattle.std.proofs.lemmas.Result.{err_from_is_err_and}
+use Rattle.rb_accept.specs.Arguments.{IsMisfit, Spell}
+use Rattle.rb_accept.proofs.ArgumentLaws.{spelled_typed}
 use Rattle.rb_core.specs.declared.program.Program.{Program}
-use Rattle.ribbit_tool.specs.Arguments.{IsMisfit, Spell}
-use Rattle.ribbit_tool.proofs.ArgumentLaws.{spelled_typed}
-use Rattle.ribbit_tool.proofs.Meeting.{refusal_met}
+use Rattle.rb_lines.proofs.Meeting.{refusal_met}
 use Rattle.ribbit_tool.proofs.run.prepare.Goals as goal
 
 pub returns-in_err-args-clause-refused : goal.returns-in_err-args-clause-refused

@@ -1,11 +1,12 @@
 use Rattle.std.proofs.Common.{ℕ, List, subst, Ok, length, drop}
 use Rattle.std.proofs.lemmas.Result.{err_from_is_err_and}
+use Rattle.rb_accept.specs.Reading.{IsUnread, file_limit}
+use Rattle.rb_command.specs.Command.{run}
+use Rattle.rb_command.specs.View.{limits_view}
+use Rattle.rb_lines.specs.View.{Meets}
+use Rattle.rb_lines.proofs.Meeting.{met, refused_met}
 use Rattle.ribbit_tool.specs.Answers.{Owes}
-use Rattle.ribbit_tool.specs.Command.{run}
-use Rattle.ribbit_tool.specs.Reading.{IsUnread, file_limit}
 use Rattle.ribbit_tool.specs.Run.{RunsFile}
-use Rattle.ribbit_tool.specs.View.{limits_view, Meets}
-use Rattle.ribbit_tool.proofs.Meeting.{met, refused_met}
 use Rattle.ribbit_tool.proofs.Owing.{owes_read, owes_unread}
 use Rattle.ribbit_tool.proofs.run.run_file.Goals as goal
 

@@ -1,15 +1,16 @@
 use Rattle.std.proofs.Common.{◌≡◌, ℕ, ◌+◌, List, true, map, ap, sym, subst, ◌∙◌}
 use Rattle.rb_bytes.specs.Memory.{empty_memory}
+use Rattle.rb_command.specs.View.{limits_view}
 use Rattle.rb_core.specs.Typing.{param_types}
 use Rattle.rb_core.specs.Values.{all_of_types, is_of_type}
 use Rattle.rb_core.specs.declared.program.Program.{Program}
 use Rattle.rb_core.specs.declared.value.Value.{Value}
+use Rattle.rb_lines.specs.View.{Meets}
+use Rattle.rb_lines.proofs.Meeting.{met}
 use Rattle.rb_rel.specs.Answers as answer
 use Rattle.rb_run.specs.Answering.{meant_by}
 use Rattle.rb_run.specs.Calling.{IsCounted}
 use Rattle.ribbit_tool.specs.Run.{Runs, answer_due, source_answer, value_line}
-use Rattle.ribbit_tool.specs.View.{limits_view, Meets}
-use Rattle.ribbit_tool.proofs.Meeting.{met}
 use Rattle.ribbit_tool.proofs.run.run_prepared.Goals as goal
 
 pub answer_main-requires-clause-typed : goal.answer_main-requires-clause-typed

@@ -1,11 +1,11 @@
 use Rattle.std.proofs.Common.{refl, List, ℕ, subst}
-use Rattle.ribbit_tool.specs.Answer.{printed, refusal}
+use Rattle.rb_lines.specs.Answer.{printed, refusal}
+use Rattle.rb_lines.specs.Delivery.{Change, Prints, Refuses}
+use Rattle.rb_lines.specs.Lines.{no_memory_line}
+use Rattle.rb_lines.specs.Numbers.{status_number}
+use Rattle.rb_lines.specs.View.{due_after}
+use Rattle.rb_lines.specs.declared.status.Status.TheVariants.{NoMemory}
 use Rattle.ribbit_tool.specs.Answers.{out_of_memory}
-use Rattle.ribbit_tool.specs.Delivery.{Change, Prints, Refuses}
-use Rattle.ribbit_tool.specs.Lines.{no_memory_line}
-use Rattle.ribbit_tool.specs.Numbers.{status_number}
-use Rattle.ribbit_tool.specs.View.{due_after}
-use Rattle.ribbit_tool.specs.declared.status.Status.TheVariants.{NoMemory}
 use Rattle.ribbit_tool.proofs.top.answer.Goals as goal
 
 pub returns-in-Ok : goal.returns-in-Ok

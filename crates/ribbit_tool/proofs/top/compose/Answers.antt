@@ -1,11 +1,10 @@
 use Rattle.std.proofs.Common.{[], refl, arith, Ok, Err}
 use Rattle.std.proofs.lemmas.Result.{err_from_is_err_and}
+use Rattle.rb_accept.specs.Reading.{Source}
+use Rattle.rb_accept.proofs.ReadLaws.{none_in_turn}
+use Rattle.rb_command.specs.View.{command_view}
+use Rattle.rb_command.proofs.OneCommand.{meaning}
 use Rattle.ribbit_tool.specs.Answers.{answered, files_of}
-use Rattle.ribbit_tool.specs.Reading.{Source}
-use Rattle.ribbit_tool.specs.View.{command_view}
-use Rattle.ribbit_tool.specs.inner.Parsing.{command_of}
-use Rattle.ribbit_tool.proofs.ReadLaws.{none_in_turn}
-use Rattle.ribbit_tool.proofs.Worded.{is_parsed}
 use Rattle.ribbit_tool.proofs.top.compose.Goals as goal
 
 pub returns-in-Ok : goal.returns-in-Ok
@@ -61,9 +60,10 @@ returns-in-Err-Memory g c =
       before = g.S.Source.faults c.args.src.now;
       now = g.S.Source.faults c.args.src.now;
     } in
+    let some = meaning c.args.words.now in
     record {
-      parsed = command_of c.args.words.now;
-      meant = is_parsed c.args.words.now;
-      reads = none_in_turn source (files_of (command_of c.args.words.now)) refl;
+      parsed = some.0;
+      meant = some.1;
+      reads = none_in_turn source (files_of some.0) refl;
       owes = tt;
     }

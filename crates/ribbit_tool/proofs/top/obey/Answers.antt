@@ -1,12 +1,13 @@
 use Rattle.std.proofs.Common.{ℕ, List, length, drop, refl, sym, subst, Ok}
+use Rattle.rb_accept.specs.Reading.{Source, ReadsInTurn}
+use Rattle.rb_accept.proofs.ReadLaws.{none_in_turn}
+use Rattle.rb_command.specs.Command.{gen, genrun, exec}
+use Rattle.rb_command.specs.View.{command_view, limits_view}
+use Rattle.rb_command.specs.declared.command.Command.{Command}
+use Rattle.rb_lines.specs.View.{Meets}
+use Rattle.rb_lines.proofs.Meeting.{met}
 use Rattle.ribbit_tool.specs.Answers.{Owes, answered, files_of}
-use Rattle.ribbit_tool.specs.Command.{gen, genrun, exec}
 use Rattle.ribbit_tool.specs.Generate.{Generates, CountsGenerated}
-use Rattle.ribbit_tool.specs.Reading.{Source, ReadsInTurn}
-use Rattle.ribbit_tool.specs.View.{command_view, limits_view, Meets}
-use Rattle.ribbit_tool.specs.declared.command.Command.{Command}
-use Rattle.ribbit_tool.proofs.Meeting.{met}
-use Rattle.ribbit_tool.proofs.ReadLaws.{none_in_turn}
 use Rattle.ribbit_tool.proofs.top.obey.Goals as goal
 
 pub returns-in-Check-clause-read : goal.returns-in-Check-clause-read

@@ -1,7 +1,7 @@
 use Rattle.std.proofs.Common.{List, ℕ, subst}
-use Rattle.ribbit_tool.specs.Delivery.{Change}
+use Rattle.rb_accept.specs.Reading.{Source}
+use Rattle.rb_lines.specs.Delivery.{Change}
 use Rattle.ribbit_tool.specs.Promise.{Counting, Performs}
-use Rattle.ribbit_tool.specs.Reading.{Source}
 use Rattle.ribbit_tool.proofs.CompileLaws.{compile_headlined}
 use Rattle.ribbit_tool.proofs.HeadlineLaws.{headlined}
 use Rattle.ribbit_tool.proofs.ImageLaws.{image_headlined, count_headlined, generate_headlined}

@@ -1,12 +1,12 @@
 use Rattle.std.proofs.Common.{length, drop, Ok}
 use Rattle.std.proofs.lemmas.Result.{err_from_is_err_and}
+use Rattle.rb_accept.specs.Opening.{Following, Opens}
+use Rattle.rb_command.specs.Command.{value}
 use Rattle.rb_core.specs.Typing.{result_type}
+use Rattle.rb_lines.proofs.Meeting.{unrun_met, refused_met}
 use Rattle.ribbit_tool.specs.Answers.{Owes}
-use Rattle.ribbit_tool.specs.Command.{value}
-use Rattle.ribbit_tool.specs.Opening.{Following, Opens}
 use Rattle.ribbit_tool.specs.Value.{ReadsBack}
-use Rattle.ribbit_tool.proofs.Meeting.{unrun_met, refused_met}
-use Rattle.ribbit_tool.proofs.OpeningLaws.{owes_opened, owes_stopped}
+use Rattle.ribbit_tool.proofs.Owing.{owes_opened, owes_stopped}
 use Rattle.ribbit_tool.proofs.value.value_file.Goals as goal
 
 abbrev Then : Following

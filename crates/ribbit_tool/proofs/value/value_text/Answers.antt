@@ -1,8 +1,8 @@
 use Rattle.std.proofs.Common.{List, ℕ, ap, ◌∙◌}
 use Rattle.rb_core.specs.declared.types.DataDecl.{DataDecl}
+use Rattle.rb_lines.specs.Answer.{printed}
+use Rattle.rb_lines.specs.Lines.{ended}
 use Rattle.rb_values.specs.Texts.{text_of}
-use Rattle.ribbit_tool.specs.Answer.{printed}
-use Rattle.ribbit_tool.specs.Lines.{ended}
 use Rattle.ribbit_tool.specs.Value.{holds}
 use Rattle.ribbit_tool.proofs.ValueLaws.{refused_back}
 use Rattle.ribbit_tool.proofs.value.value_text.Goals as goal

@@ -1,0 +1,13 @@
+pub mod Accepted
+pub mod ArgumentLaws
+pub mod Counted
+pub mod Faults
+pub mod LayoutRefusals
+pub mod Named
+pub mod NotUnread
+pub mod Numbered
+pub mod OneCompletion
+pub mod OneCut
+pub mod OneProgram
+pub mod OpeningLaws
+pub mod ReadLaws

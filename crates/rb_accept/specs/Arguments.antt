@@ -1,0 +1,57 @@
+-- What the VALUEs of a command line come to at the types of the parameters of `main`.
+use Rattle.std.specs.Prelude.{◌≡◌, ◌≢◌, ℕ, ◌+◌, List, [], ◌∷◌, length, take, Some, slice_get, Ok, Err}
+use Rattle.rb_core.specs.Typing.{param_types}
+use Rattle.rb_core.specs.declared.program.Program.{Program}
+use Rattle.rb_core.specs.declared.types.DataDecl.{DataDecl}
+use Rattle.rb_core.specs.declared.types.Ty.{Ty}
+use Rattle.rb_core.specs.declared.value.Value.{Value}
+use Rattle.rb_lines.specs.Answer.{Due, refusal}
+use Rattle.rb_lines.specs.ArgumentLines.{node_limit, argument_line}
+use Rattle.rb_lines.specs.Lines.{count_line}
+use Rattle.rb_lines.specs.declared.status.Status.TheVariants.{Argument}
+use Rattle.rb_values.specs.Reading.{IsRead}
+use Rattle.rb_values.specs.declared.fault.ValueFault.{ValueFault}
+use Rattle.rb_values.specs.declared.fault.ValueFault.TheVariants as kind
+
+-- Values ------------------------------------------------------------------------------------
+
+-- each word spells a value of its type, within the limit
+abbrev pub AreRead : List DataDecl → List Ty → List (List ℕ) → List Value → Type 0
+AreRead types [] [] [] = Unit {0}
+AreRead types (t ∷ ts) (w ∷ ws) (v ∷ vs) = IsRead types t node_limit w (Ok v) × AreRead types ts ws vs
+AreRead types [] [] (v ∷ vs) = ⊥
+AreRead types [] (w ∷ ws) vs = ⊥
+AreRead types (t ∷ ts) [] vs = ⊥
+AreRead types (t ∷ ts) (w ∷ ws) [] = ⊥
+
+-- the words spell arguments of `main`
+abbrev pub Spell : Program → List (List ℕ) → List Value → Type 0
+Spell p words args = AreRead p.types (param_types p.funs p.main) words args
+
+-- Refusals ----------------------------------------------------------------------------------
+
+-- a word is no value of its type within the limit
+pub record IsRefusedAt (types : List DataDecl) (number : ℕ) (ty : Ty) (word : List ℕ) (due : Due) : Type 0 where
+  pub fault : ValueFault
+  pub known : fault ≢ kind.Memory
+  pub refused : IsRead types ty node_limit word (Err fault)
+  pub shown : due ≡ refusal Argument (argument_line types number ty fault)
+
+-- the first word that spells no value of its type
+pub record IsFirstRefused (types : List DataDecl) (tys : List Ty) (words : List (List ℕ)) (due : Due) : Type 0 where
+  pub place : ℕ
+  pub ty : Ty
+  pub has_type : slice_get tys place ≡ Some ty
+  pub word : List ℕ
+  pub has_word : slice_get words place ≡ Some word
+  pub before : List Value
+  pub read : AreRead types (take place tys) (take place words) before
+  pub refused : IsRefusedAt types (place + 1) ty word due
+
+-- The words spell no arguments of `main`: there are more or fewer than parameters; or there are as many, and the first
+-- that spells no value of its type is shown.
+pub data IsMisfit (p : Program) (words : List (List ℕ)) (due : Due) : Type 0 where
+  miscounted : length words ≢ length (param_types p.funs p.main)
+      → due ≡ refusal Argument (count_line (length (param_types p.funs p.main)) (length words)) → IsMisfit p words due
+  misspelled : length words ≡ length (param_types p.funs p.main)
+      → IsFirstRefused p.types (param_types p.funs p.main) words due → IsMisfit p words due

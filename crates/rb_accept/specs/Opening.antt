@@ -1,0 +1,65 @@
+-- Images of a file: IMAGE is read after FILE was accepted.
+use Rattle.std.specs.Prelude.{◌≡◌, ◌≢◌, ◌≤◌, ℕ, List, [], ◌∷◌, length}
+use Rattle.rb_core.specs.declared.program.Program.{Program}
+use Rattle.rb_edge.specs.History.{Reading}
+use Rattle.rb_image_text.specs.Places.{AreInPlace}
+use Rattle.rb_image_text.specs.Refusals.{IsRefusal}
+use Rattle.rb_image_text.specs.Stopping.{IsTextOf}
+use Rattle.rb_image_text.specs.declared.fault.ImageFault.{ImageFault}
+use Rattle.rb_image_text.specs.declared.fault.ImageFault.TheVariants.{Memory}
+use Rattle.rb_image_text.specs.declared.image.Image.{Image}
+use Rattle.rb_lines.specs.Answer.{Due}
+use Rattle.rb_lines.specs.ImageLines.{image_due}
+use Rattle.rb_accept.specs.Accepting.{IsAccepted, IsRefused}
+use Rattle.rb_accept.specs.Reading.{Reads, ReadsOne, file_limit, image_limit, whole}
+use Rattle.rb_accept.specs.View.{IsAcceptance}
+use Rattle.rb_accept.specs.declared.opening.Opened.{Opened}
+
+-- what follows an accepted program and an image
+abbrev pub Following : Type 1
+Following = Program → Image → Due → Type 0
+
+-- the text is none of an image whose blocks are in their places: why
+pub record IsGarbled (text : List ℕ) (due : Due) : Type 0 where
+  pub fault : ImageFault
+  pub known : fault ≢ Memory
+  pub refused : IsRefusal text fault
+  pub shown : due ≡ image_due fault
+
+-- What is due to the text of an image: it is none; or it is that of an image, and something follows.
+pub data Spells (text : List ℕ) (Then : Image → Due → Type 0) (due : Due) : Type 0 where
+  garbled : IsGarbled text due → Spells text Then due
+  spelled : (image : Image) → IsTextOf text image → AreInPlace image.blocks → Then image due → Spells text Then due
+
+-- where IMAGE is read, and nothing after it
+abbrev pub ReadsImage : List ℕ → (Image → Due → Type 0) → List Reading → Due → Type 0
+ReadsImage image Then readings due = ReadsOne image image_limit (λ text d. Spells text Then d) readings due
+
+-- What is due to a file over what is read after it: it is refused, and nothing is; or it is accepted, and something follows.
+pub data AcceptsFirst (bytes : List ℕ) (Then : Program → List Reading → Due → Type 0) (later : List Reading) (due : Due) : Type 0 where
+  turned_down : IsRefused bytes due → later ≡ [] → AcceptsFirst bytes Then later due
+  accepted : (p : Program) → IsAccepted bytes p → Then p later due → AcceptsFirst bytes Then later due
+
+-- What is due to FILE and IMAGE: FILE is read and accepted, then IMAGE is read, and something follows.
+abbrev pub Opens : List ℕ → List ℕ → Following → List Reading → Due → Type 0
+Opens file image Then readings due =
+    Reads file file_limit (λ bytes later d. AcceptsFirst bytes (λ p rs e. ReadsImage image (Then p) rs e) later d) readings due
+
+-- Read images -------------------------------------------------------------------------------
+
+-- the image was read, and nothing else
+pub record IsReadAs (image : List ℕ) (readings : List Reading) (i : Image) : Type 0 where
+  pub text : List ℕ
+  pub is : readings ≡ whole image text ∷ []
+  pub short : length text ≤ image_limit
+  pub spelled : IsTextOf text i
+  pub placed : AreInPlace i.blocks
+
+-- a file was read and accepted, and then an image was read
+pub record IsOpened (file image : List ℕ) (readings : List Reading) (o : Opened) : Type 0 where
+  pub bytes : List ℕ
+  pub later : List Reading
+  pub is : readings ≡ whole file bytes ∷ later
+  pub short : length bytes ≤ file_limit
+  pub acceptance : IsAcceptance bytes o.accepted
+  pub read : IsReadAs image later o.image

@@ -1,0 +1,226 @@
+//! Accepting files: their tokens, their tree, their program, the layouts that they leave to the compiler,
+//! the program's types, its matches, and its layouts, one after the other. The first step that refuses a
+//! file gives the answer; only a layout that cannot be derived waits until types and matches were checked.
+
+ghost use Rattle.std.specs.Prelude.{◌≡◌, ◌≤◌, length, IfOk, IfErr, OnOk, Ok};
+ghost use Rattle.rb_core.specs.Coverage.{IsCovered};
+ghost use Rattle.rb_core.specs.TypedPrograms.{IsTyped};
+ghost use Rattle.rb_core.specs.WellNumbered.{IsWellNumbered};
+ghost use Rattle.rb_layout.specs.Agreement.{AreAgreed};
+ghost use Rattle.rb_lines.specs.View.{IsRefusal};
+ghost use Rattle.rb_names.specs.Programs.{numbered};
+ghost use Rattle.rb_syntax.specs.Cutting.{HasTokens};
+ghost use Rattle.rb_accept.specs.Accepting.{IsNamed, IsNamedWith, IsProgramOf, IsRead, IsRefused, completed_as};
+ghost use Rattle.rb_accept.specs.View.{IsAcceptance};
+
+use crate::refusal::{
+    refuse_bytes, refuse_derived, refuse_layouts, refuse_match, refuse_names, refuse_tokens,
+    refuse_types,
+};
+use rb_agree::AgreeFault;
+use rb_agree::agree::agree;
+use rb_auto::AutoFault;
+use rb_check::{CoverFault, check, cover};
+use rb_core::program::Program;
+use rb_core::typed::{Covered, Typed};
+use rb_layout::agreed::Agreed;
+use rb_lines::refusal::Refusal;
+use rb_names::complete::{Completed, complete};
+use rb_names::resolve;
+use rb_read::read::read_file;
+use rb_syntax::lex::lex;
+use rb_syntax::token::Placed;
+use rb_syntax::tree::FileTree;
+use std::alloc::Global;
+
+/// A file that is accepted.
+#[derive(Drop)]
+pub struct Accepted {
+    /// Its tokens.
+    pub placed: Vec<Placed>,
+    /// Its program with the layouts that are derived, and with the flat forms of all its layouts.
+    pub agreed: Agreed,
+}
+
+// The tokens of the bytes.
+fn cut(alloc: Global, bytes: &[u8]) -> Result<Vec<Placed>, Refusal>
+    ensures tokens { IfOk result (λ placed. HasTokens bytes.now placed.items) }
+    ensures refused { IfErr result (IsRefusal (IsRefused bytes.now)) }
+{
+    match lex(alloc, bytes) {
+        Ok(placed) => Ok(placed),
+        Err(fault) => {
+            let refused = refuse_bytes(alloc, fault)?;
+            Err(Refusal::Refused(refused))
+        }
+    }
+}
+
+// The tree of the tokens.
+fn read(alloc: Global, bytes: &[u8], placed: &[Placed]) -> Result<FileTree, Refusal>
+    requires few { length bytes.now ≤ 262144 }
+    requires tokens { HasTokens bytes.now placed.now }
+    ensures read { IfOk result (IsRead bytes.now placed.now) }
+    ensures refused { IfErr result (IsRefusal (IsRefused bytes.now)) }
+{
+    match read_file(alloc, placed) {
+        Ok(file) => Ok(file),
+        Err(fault) => {
+            let refused = refuse_tokens(alloc, placed, bytes.len(), fault)?;
+            Err(Refusal::Refused(refused))
+        }
+    }
+}
+
+// The program of the tree, with the layouts that are written.
+fn name(alloc: Global, bytes: &[u8], placed: &[Placed], file: &FileTree) -> Result<Program, Refusal>
+    requires few { length bytes.now ≤ 262144 }
+    requires read { IsRead bytes.now placed.now file.now }
+    ensures named { IfOk result (λ p. numbered file.now ≡ Ok p) }
+    ensures well { IfOk result IsWellNumbered }
+    ensures refused { IfErr result (IsRefusal (IsRefused bytes.now)) }
+{
+    match resolve(alloc, file) {
+        Ok(program) => Ok(program),
+        Err(fault) => {
+            let refused = refuse_names(alloc, placed, bytes.len(), &fault)?;
+            Err(Refusal::Refused(refused))
+        }
+    }
+}
+
+// The program with the layouts that are derived, and the first of them that is refused.
+fn add_layouts(
+    alloc: Global,
+    bytes: &[u8],
+    placed: &[Placed],
+    file: &FileTree,
+    program: Program,
+) -> Result<Completed, Refusal>
+    requires read { IsRead bytes.now placed.now file.now }
+    requires named { numbered file.now ≡ Ok program }
+    requires well { IsWellNumbered program }
+    ensures named { IfOk result (IsNamedWith bytes.now placed.now) }
+    ensures well { IfOk result (λ c. IsWellNumbered c.program) }
+    ensures refused { IfErr result (IsRefusal (IsRefused bytes.now)) }
+{
+    let completed = complete(alloc, file, program)?;
+    Ok(completed)
+}
+
+// The program with its types.
+fn ascribe(
+    alloc: Global,
+    bytes: &[u8],
+    placed: &[Placed],
+    program: Program,
+) -> Result<Typed, Refusal>
+    requires named { IsProgramOf bytes.now placed.now program }
+    requires well { IsWellNumbered program }
+    ensures same { IfOk result (λ typed. typed ≡ program) }
+    ensures typed { IfOk result IsTyped }
+    ensures refused { IfErr result (IsRefusal (IsRefused bytes.now)) }
+{
+    match check(alloc, &program) {
+        Ok(()) => Ok(Typed::new(program)),
+        Err(fault) => {
+            let types = program.types.as_slice();
+            let refused = refuse_types(alloc, types, placed, bytes.len(), fault)?;
+            Err(Refusal::Refused(refused))
+        }
+    }
+}
+
+// The program with the notes on its clauses.
+fn annotate(
+    alloc: Global,
+    bytes: &[u8],
+    placed: &[Placed],
+    typed: Typed,
+) -> Result<Covered, Refusal>
+    requires named { IsProgramOf bytes.now placed.now typed }
+    requires typed { IsTyped typed }
+    ensures same { IfOk result (λ covered. covered.program ≡ typed) }
+    ensures covered { IfOk result (λ covered. IsCovered covered.program covered.notes) }
+    ensures refused { IfErr result (IsRefusal (IsRefused bytes.now)) }
+{
+    match cover(alloc, &typed) {
+        Ok(notes) => Ok(Covered::new(typed, notes)),
+        Err(CoverFault::Memory) => Err(Refusal::Memory),
+        Err(CoverFault::Missing(token, pattern)) => {
+            let types = typed.program().types.as_slice();
+            let refused = refuse_match(alloc, types, placed, bytes.len(), token, &pattern)?;
+            Err(Refusal::Refused(refused))
+        }
+    }
+}
+
+// Whether each layout that is left to the compiler is derived.
+fn have_derived(
+    alloc: Global,
+    bytes: &[u8],
+    placed: &[Placed],
+    covered: &Covered,
+    refused: &Option<AutoFault>,
+) -> Result<(), Refusal>
+    requires named { IsNamedWith bytes.now placed.now (completed_as covered.now.program refused.now) }
+    requires typed { IsTyped covered.now.program }
+    requires covered { IsCovered covered.now.program covered.now.notes }
+    ensures named { OnOk result (IsNamed bytes.now placed.now covered.now.program) }
+    ensures refused { IfErr result (IsRefusal (IsRefused bytes.now)) }
+{
+    match refused {
+        None => Ok(()),
+        Some(fault) => {
+            let types = covered.program().types.as_slice();
+            let refused = refuse_derived(alloc, types, fault)?;
+            Err(Refusal::Refused(refused))
+        }
+    }
+}
+
+// The program with the flat forms of its layouts, which agree with its types.
+fn lay_out(
+    alloc: Global,
+    bytes: &[u8],
+    placed: &[Placed],
+    covered: Covered,
+) -> Result<Agreed, Refusal>
+    requires named { IsNamed bytes.now placed.now covered.program }
+    requires typed { IsTyped covered.program }
+    requires covered { IsCovered covered.program covered.notes }
+    ensures same { IfOk result (λ agreed. agreed.covered ≡ covered) }
+    ensures agreed { IfOk result (λ agreed. AreAgreed agreed.covered.program agreed.layouts) }
+    ensures refused { IfErr result (IsRefusal (IsRefused bytes.now)) }
+{
+    match agree(alloc, &covered) {
+        Ok(layouts) => Ok(Agreed::new(covered, layouts)),
+        Err(AgreeFault::Memory) => Err(Refusal::Memory),
+        Err(AgreeFault::Rule(fault)) => {
+            let refused = refuse_layouts(alloc, &covered, &fault)?;
+            Err(Refusal::Refused(refused))
+        }
+    }
+}
+
+/// The file of these bytes, if it is accepted, or the answer that refuses it.
+///
+/// # Errors
+///
+/// The answer to its first fault, or want of memory.
+pub fn accept(alloc: Global, bytes: &[u8]) -> Result<Accepted, Refusal>
+    requires { length bytes.now ≤ 262144 }
+    ensures accepted { IfOk result (IsAcceptance bytes.now) }
+    ensures refused { IfErr result (IsRefusal (IsRefused bytes.now)) }
+{
+    let placed = cut(alloc, bytes)?;
+    let tokens = placed.as_slice();
+    let file = read(alloc, bytes, tokens)?;
+    let written = name(alloc, bytes, tokens, &file)?;
+    let completed = add_layouts(alloc, bytes, tokens, &file, written)?;
+    let typed = ascribe(alloc, bytes, tokens, completed.program)?;
+    let covered = annotate(alloc, bytes, tokens, typed)?;
+    have_derived(alloc, bytes, tokens, &covered, &completed.refused)?;
+    let agreed = lay_out(alloc, bytes, tokens, covered)?;
+    Ok(Accepted { placed, agreed })
+}

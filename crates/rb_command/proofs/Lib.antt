@@ -1,0 +1,4 @@
+pub mod OneCommand
+pub mod Stopping
+pub mod Worded
+pub mod WordsRead

@@ -1,0 +1,6 @@
+use Rattle.std.proofs.Common.{rules}
+use Rattle.rb_command.specs.Command.{run}
+use Rattle.rb_command.proofs.command.parse_run.Goals as goal
+
+pub returns-in_err-file : goal.returns-in_err-file
+returns-in_err-file c = let known = c.in_err-file.ensures run in search rules

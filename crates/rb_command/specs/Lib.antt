@@ -1,0 +1,4 @@
+pub mod Command
+pub mod Laws
+pub mod View
+pub mod inner

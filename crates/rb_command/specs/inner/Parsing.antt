@@ -1,0 +1,117 @@
+-- Words read one after the other, with the number of the first that is at fault. What it comes to is `IsParsed`.
+use Rattle.std.specs.Prelude.{◌≡◌, ℕ, ◌+◌, ◌-◌, ◌^◌, List, [], ◌∷◌, codes, Option, Some, None, Result, Ok, Err, if◌then◌else◌}
+use Rattle.std.specs.Str.{bytes_eq}
+use Rattle.rb_core.specs.Decimal.{number_in}
+use Rattle.rb_command.specs.Command.{Limits, Command, Parsed, check, layout, compile, run, image, count, gen, genrun, exec, value}
+use Rattle.rb_command.specs.declared.command.CommandFault.{CommandFault}
+use Rattle.rb_command.specs.declared.command.CommandFault.TheVariants as fault
+
+-- goes on with the word of this number, which is at fault where there is none
+abbrev pub with_word : ℕ → List (List ℕ) → (List ℕ → List (List ℕ) → Parsed) → Parsed
+with_word n [] go = Err n
+with_word n (w ∷ ws) go = go w ws
+
+abbrev pub at_number : ℕ → Option ℕ → (ℕ → Parsed) → Parsed
+at_number n None go = Err n
+at_number n (Some number) go = go number
+
+-- goes on with the number that the word of this number spells
+abbrev pub with_number : ℕ → ℕ → ℕ → List (List ℕ) → (ℕ → List (List ℕ) → Parsed) → Parsed
+with_number n low high words go = with_word n words (λ w ws. at_number n (number_in low high w) (λ number. go number ws))
+
+-- CALLS and REGION, from the word of this number on
+abbrev pub with_limits : ℕ → List (List ℕ) → (Limits → List (List ℕ) → Parsed) → Parsed
+with_limits n words go =
+    with_number n 0 1000000000 words (λ calls ws.
+    with_number (n + 1) 64 16777216 ws (λ region rest.
+    go (record { calls = calls; region = region }) rest))
+
+-- the command where no word is left, of which the first would have this number
+abbrev pub alone : ℕ → Command → List (List ℕ) → Parsed
+alone n command [] = Ok command
+alone n command (w ∷ ws) = Err n
+
+-- FILE and no more
+abbrev pub check_words : List (List ℕ) → Parsed
+check_words words = with_word 2 words (λ file ws. alone 3 (check file) ws)
+
+abbrev pub layout_words : List (List ℕ) → Parsed
+layout_words words = with_word 2 words (λ file ws. alone 3 (layout file) ws)
+
+abbrev pub compile_words : List (List ℕ) → Parsed
+compile_words words = with_word 2 words (λ file ws. alone 3 (compile file) ws)
+
+-- FILE CALLS REGION and zero or more VALUE
+abbrev pub with_call : List (List ℕ) → (List ℕ → Limits → List (List ℕ) → Command) → Parsed
+with_call words command = with_word 2 words (λ file ws. with_limits 3 ws (λ limits values. Ok (command file limits values)))
+
+abbrev pub run_words : List (List ℕ) → Parsed
+run_words words = with_call words run
+
+abbrev pub image_words : List (List ℕ) → Parsed
+image_words words = with_call words image
+
+abbrev pub count_words : List (List ℕ) → Parsed
+count_words words = with_call words count
+
+-- N, how many functions a generated file has beside `up` and `main`
+abbrev pub with_functions : List (List ℕ) → (ℕ → List (List ℕ) → Parsed) → Parsed
+with_functions words go = with_number 2 1 2000 words go
+
+-- N and no more
+abbrev pub gen_words : List (List ℕ) → Parsed
+gen_words words = with_functions words (λ functions ws. alone 3 (gen functions) ws)
+
+-- N CALLS REGION and no more
+abbrev pub genrun_words : List (List ℕ) → Parsed
+genrun_words words =
+    with_functions words (λ functions ws.
+    with_limits 3 ws (λ limits rest.
+    alone 5 (genrun functions limits) rest))
+
+abbrev pub first_number : ℕ → Option ℕ → Result (List ℕ) ℕ → Result (List ℕ) ℕ
+first_number n None rest = Err n
+first_number n (Some number) (Ok numbers) = Ok (number ∷ numbers)
+first_number n (Some number) (Err m) = Err m
+
+-- the numbers below 2^64 that the words from this number on spell, or the number of the first that spells none
+abbrev pub numbers_from : ℕ → List (List ℕ) → Result (List ℕ) ℕ
+numbers_from n [] = Ok []
+numbers_from n (w ∷ ws) = first_number n (number_in 0 (2 ^ 64 - 1) w) (numbers_from (n + 1) ws)
+
+abbrev pub exec_of : List ℕ → List ℕ → Limits → Result (List ℕ) ℕ → Parsed
+exec_of code function limits (Ok words) = Ok (exec code function limits words)
+exec_of code function limits (Err n) = Err n
+
+-- FUN CALLS REGION and zero or more WORD, behind CODE
+abbrev pub function_words : List ℕ → List (List ℕ) → Parsed
+function_words code words =
+    with_word 3 words (λ function ws.
+    with_limits 4 ws (λ limits rest.
+    exec_of code function limits (numbers_from 6 rest)))
+
+-- CODE FUN CALLS REGION and zero or more WORD
+abbrev pub exec_words : List (List ℕ) → Parsed
+exec_words words = with_word 2 words (λ code ws. function_words code ws)
+
+-- FILE IMAGE and no more
+abbrev pub value_words : List (List ℕ) → Parsed
+value_words words = with_word 2 words (λ file ws. with_word 3 ws (λ second rest. alone 4 (value file second) rest))
+
+unfoldable pub command_of : List (List ℕ) → Parsed
+command_of words = with_word 1 words (λ w ws.
+    if bytes_eq w (codes "check") then check_words ws else
+    if bytes_eq w (codes "layout") then layout_words ws else
+    if bytes_eq w (codes "compile") then compile_words ws else
+    if bytes_eq w (codes "run") then run_words ws else
+    if bytes_eq w (codes "image") then image_words ws else
+    if bytes_eq w (codes "count") then count_words ws else
+    if bytes_eq w (codes "gen") then gen_words ws else
+    if bytes_eq w (codes "genrun") then genrun_words ws else
+    if bytes_eq w (codes "exec") then exec_words ws else
+    if bytes_eq w (codes "value") then value_words ws else Err 1)
+
+-- the number of the first word at fault, as a parser answers it, or memory ran out
+abbrev pub StopsAs : {A : Type 0} → Result A ℕ → CommandFault → Type 0
+StopsAs parsed (fault.Usage n) = parsed ≡ Err n
+StopsAs parsed fault.Memory = Unit {0}

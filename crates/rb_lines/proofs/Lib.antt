@@ -1,0 +1,4 @@
+pub mod ImageTexts
+pub mod Meeting
+pub mod TextLaws
+pub mod WordTexts

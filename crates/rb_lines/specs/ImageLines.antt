@@ -1,0 +1,43 @@
+-- The lines of images that are refused.
+use Rattle.std.specs.Prelude.{ℕ, List, ◌++◌, codes}
+use Rattle.std.specs.Fmt.{decimal}
+use Rattle.rb_image_text.specs.declared.fault.ImageFault.{ImageFault}
+use Rattle.rb_image_text.specs.declared.fault.ImageFault.TheVariants.{ImageSyntax, ImageBlock, BadRoot, BadBits, BadPointer, ImageTooLarge, NoSuchPart, Memory}
+use Rattle.rb_lines.specs.Answer.{Due, refusal}
+use Rattle.rb_lines.specs.ArgumentLines.{node_limit}
+use Rattle.rb_lines.specs.Lines.{begun, ended, large_line, no_memory_line}
+use Rattle.rb_lines.specs.Numbers.{image_syntax, image_block, bad_root, bad_bits, bad_pointer, no_such_part}
+use Rattle.rb_lines.specs.declared.status.Status.{Status}
+use Rattle.rb_lines.specs.declared.status.Status.TheVariants as status
+
+-- a fault of this number, at the place of this kind
+abbrev pub fault_at : ℕ → List ℕ → ℕ → List ℕ
+fault_at number kind at = ended (begun (codes "image ") ++ decimal number ++ kind ++ decimal at)
+
+-- in the block that begins at a base, or at base 0 in the root words
+abbrev pub fault_in : ℕ → ℕ → List ℕ → ℕ → List ℕ
+fault_in number base kind at = ended (begun (codes "image ") ++ decimal number ++ codes ": base " ++ decimal base ++ kind ++ decimal at)
+
+-- A value of too many nodes is no fault of an image, but a limit of what is shown.
+abbrev pub image_status : ImageFault → Status
+image_status (ImageSyntax at) = status.Image
+image_status (ImageBlock block) = status.Image
+image_status (BadRoot word) = status.Image
+image_status (BadBits base place) = status.Image
+image_status (BadPointer base address) = status.Image
+image_status ImageTooLarge = status.TooLarge
+image_status (NoSuchPart step) = status.Image
+image_status Memory = status.NoMemory
+
+abbrev pub image_line : ImageFault → List ℕ
+image_line (ImageSyntax at) = fault_at image_syntax (codes " at byte ") at
+image_line (ImageBlock block) = fault_at image_block (codes ": block ") block
+image_line (BadRoot word) = fault_at bad_root (codes ": word ") word
+image_line (BadBits base place) = fault_in bad_bits base (codes ", place ") place
+image_line (BadPointer base address) = fault_in bad_pointer base (codes ", address ") address
+image_line ImageTooLarge = large_line node_limit
+image_line (NoSuchPart step) = fault_at no_such_part (codes ": step ") step
+image_line Memory = no_memory_line
+
+abbrev pub image_due : ImageFault → Due
+image_due fault = refusal (image_status fault) (image_line fault)

@@ -1,0 +1,11 @@
+pub mod Answer
+pub mod ArgumentLines
+pub mod Delivery
+pub mod FileLines
+pub mod ImageLines
+pub mod ImageTexts
+pub mod Lines
+pub mod Notes
+pub mod Numbers
+pub mod Places
+pub mod View

@@ -1,0 +1,81 @@
+-- The lines that the program writes. Each begins with the program's name and ends with byte 10.
+use Rattle.std.specs.Prelude.{ℕ, List, [], ◌∷◌, ◌++◌, codes}
+use Rattle.std.specs.Fmt.{decimal}
+use Rattle.rb_bytes.specs.declared.fault.Full.{Full}
+use Rattle.rb_bytes.specs.declared.fault.Trap.{Trap}
+use Rattle.rb_bytes.specs.declared.fault.Trap.TheVariants.{Astray, Unwritten, Unmatched}
+use Rattle.rb_target.specs.declared.fault.CodeFault.{CodeFault}
+use Rattle.rb_target.specs.declared.fault.CodeFault.TheVariants.{CodeSyntax, BadSlot, BadJump, BadCall, Memory}
+use Rattle.rb_lines.specs.Numbers.{code_syntax, bad_slot, bad_jump, bad_call, trap_number}
+
+abbrev pub begun : List ℕ → List ℕ
+begun text = codes "ribbit: " ++ text
+
+abbrev pub ended : List ℕ → List ℕ
+ended text = text ++ codes "\n"
+
+abbrev pub usage_line : ℕ → List ℕ
+usage_line word = ended (begun (codes "usage at word ") ++ decimal word)
+
+abbrev pub read_fault_line : List ℕ
+read_fault_line = codes "ribbit: read fault\n"
+
+abbrev pub write_fault_line : List ℕ
+write_fault_line = codes "ribbit: write fault\n"
+
+abbrev pub no_memory_line : List ℕ
+no_memory_line = codes "ribbit: no memory\n"
+
+-- a file's bytes over their limit
+abbrev pub file_bytes_line : ℕ → ℕ → List ℕ
+file_bytes_line count limit = ended (begun (codes "limit file bytes: ") ++ decimal count ++ codes " over " ++ decimal limit)
+
+abbrev pub spent_line : ℕ → List ℕ
+spent_line calls = ended (begun (codes "calls spent: ") ++ decimal calls)
+
+abbrev pub count_line : ℕ → ℕ → List ℕ
+count_line wanted found = ended (begun (codes "wanted ") ++ decimal wanted ++ codes " arguments, found " ++ decimal found)
+
+-- code that has no function of this name
+abbrev pub no_function_line : List ℕ → List ℕ
+no_function_line name = ended (begun (codes "no function ") ++ name)
+
+-- a block that doesn't fit
+abbrev pub full_line : Full → List ℕ
+full_line f = ended (begun (codes "region full: next ") ++ decimal f.next ++ codes ", size " ++ decimal f.size
+    ++ codes ", align " ++ decimal f.align ++ codes ", limit " ++ decimal f.limit)
+
+abbrev pub trap_line : Trap → List ℕ
+trap_line (Astray base offset) = ended (begun (codes "trap ") ++ decimal (trap_number (Astray base offset)) ++ codes ": base " ++ decimal base
+    ++ codes ", offset " ++ decimal offset)
+trap_line (Unwritten address) = ended (begun (codes "trap ") ++ decimal (trap_number (Unwritten address)) ++ codes ": address " ++ decimal address)
+trap_line (Unmatched word) = ended (begun (codes "trap ") ++ decimal (trap_number (Unmatched word)) ++ codes ": word " ++ decimal word)
+
+-- functions that are not valid together: the fault's kind, and where it stands
+abbrev pub at_instruction : ℕ → ℕ → ℕ → List ℕ
+at_instruction kind function instruction = ended (begun (codes "code ") ++ decimal kind
+    ++ codes ": function " ++ decimal function ++ codes ", instruction " ++ decimal instruction)
+
+abbrev pub code_line : CodeFault → List ℕ
+code_line (CodeSyntax at) = ended (begun (codes "code ") ++ decimal code_syntax ++ codes " at byte " ++ decimal at)
+code_line (BadSlot n pc) = at_instruction bad_slot n pc
+code_line (BadJump n pc) = at_instruction bad_jump n pc
+code_line (BadCall n pc) = at_instruction bad_call n pc
+code_line Memory = no_memory_line
+
+-- a value with more nodes than this
+abbrev pub large_line : ℕ → List ℕ
+large_line limit = ended (begun (codes "value over ") ++ decimal limit ++ codes " nodes")
+
+-- numbers, each after a blank
+abbrev pub spaced : List ℕ → List ℕ
+spaced [] = []
+spaced (n ∷ ns) = 32 ∷ decimal n ++ spaced ns
+
+-- numbers with one blank between
+abbrev pub listed : List ℕ → List ℕ
+listed [] = []
+listed (n ∷ ns) = decimal n ++ spaced ns
+
+abbrev pub words_line : List ℕ → List ℕ
+words_line words = ended (listed words)

@@ -1,0 +1,13 @@
+-- What `check` prints of an accepted file: a line for each clause that no value reaches, and then `ok`.
+use Rattle.std.specs.Prelude.{ℕ, List, ◌++◌, codes}
+use Rattle.std.specs.List.{flat_map}
+use Rattle.rb_core.specs.declared.program.Note.{Note}
+use Rattle.rb_syntax.specs.declared.token.Placed.{Placed}
+use Rattle.rb_lines.specs.FileLines.{note_line}
+use Rattle.rb_lines.specs.Places.{byte_of}
+
+abbrev pub note_text : List Placed → ℕ → Note → List ℕ
+note_text placed size n = note_line n.clause (byte_of placed size n.at)
+
+abbrev pub check_text : List Placed → ℕ → List Note → List ℕ
+check_text placed size notes = flat_map (note_text placed size) notes ++ codes "ok\n"

@@ -1,0 +1,63 @@
+-- The numbers that the program answers by: its statuses, and the faults in its lines.
+use Rattle.std.specs.Prelude.{ℕ}
+use Rattle.rb_bytes.specs.declared.fault.Trap.{Trap}
+use Rattle.rb_bytes.specs.declared.fault.Trap.TheVariants.{Astray, Unwritten, Unmatched}
+use Rattle.rb_lines.specs.declared.status.Status.{Status}
+use Rattle.rb_lines.specs.declared.status.Status.TheVariants as status
+
+-- Status 0 is that of a printed text, and 8 that of a failed write; neither has a name here.
+abbrev pub status_number : Status → ℕ
+status_number status.Syntax = 1
+status_number status.Meaning = 2
+status_number status.Layout = 3
+status_number status.Spent = 4
+status_number status.Full = 5
+status_number status.Usage = 6
+status_number status.Unread = 7
+status_number status.NoMemory = 9
+status_number status.Argument = 10
+status_number status.Limit = 11
+status_number status.Trap = 12
+status_number status.TooLarge = 13
+status_number status.Code = 14
+status_number status.Image = 16
+
+-- bytes that are no code text
+abbrev pub code_syntax : ℕ
+code_syntax = 20
+
+-- a slot, a target or a call that is not valid
+abbrev pub bad_slot : ℕ
+bad_slot = 21
+
+abbrev pub bad_jump : ℕ
+bad_jump = 22
+
+abbrev pub bad_call : ℕ
+bad_call = 23
+
+abbrev pub trap_number : Trap → ℕ
+trap_number (Astray base offset) = 30
+trap_number (Unwritten address) = 31
+trap_number (Unmatched word) = 32
+
+-- bytes that are no image text, and a block out of its place
+abbrev pub image_syntax : ℕ
+image_syntax = 40
+
+abbrev pub image_block : ℕ
+image_block = 41
+
+-- a root word that does not fit, bits that no value has, and a pointer that leads nowhere
+abbrev pub bad_root : ℕ
+bad_root = 42
+
+abbrev pub bad_bits : ℕ
+bad_bits = 43
+
+abbrev pub bad_pointer : ℕ
+bad_pointer = 44
+
+-- a step of a path that names no field
+abbrev pub no_such_part : ℕ
+no_such_part = 46

@@ -1,0 +1,74 @@
+//! The lines of arguments that are refused. Arguments are counted from 1.
+
+ghost use Rattle.std.specs.Prelude.{◌≡◌, IfOk};
+ghost use Rattle.rb_lines.specs.ArgumentLines as spec;
+ghost use Rattle.rb_lines.specs.ArgumentLines.{argument_begun, argument_line};
+
+use crate::line::{NO_MEMORY, begin, end, push, push_number};
+use crate::types::push_type;
+use rb_core::types::{DataDecl, Ty};
+use rb_values::fault::ValueFault;
+use std::alloc::{AllocError, Global};
+
+/// The most nodes of an argument, and of a value that is shown.
+pub const NODES: u64 = 1_000_000;
+
+fn begin_argument(alloc: Global, number: u64) -> Result<Vec<u8>, AllocError>
+    ensures { IfOk result (λ text. text.items ≡ argument_begun number) }
+{
+    let mut text = begin(alloc, b"argument ")?;
+    push_number(&mut text, number)?;
+    push(&mut text, b": ")?;
+    Ok(text)
+}
+
+fn syntax(alloc: Global, number: u64, at: u64) -> Result<Vec<u8>, AllocError>
+    ensures { IfOk result (λ text. text.items ≡ spec.syntax_line number at) }
+{
+    Ok(format!(in alloc; "ribbit: argument {number}: syntax at byte {at}\n")?.into_bytes())
+}
+
+fn large(alloc: Global, number: u64) -> Result<Vec<u8>, AllocError>
+    ensures { IfOk result (λ text. text.items ≡ spec.large_line number) }
+{
+    Ok(format!(in alloc; "ribbit: argument {number}: over {NODES} nodes\n")?.into_bytes())
+}
+
+fn misfit(
+    alloc: Global,
+    types: &[DataDecl],
+    number: u64,
+    ty: Ty,
+    at: u64,
+) -> Result<Vec<u8>, AllocError>
+    ensures { IfOk result (λ text. text.items ≡ spec.misfit_line types.now number ty at) }
+{
+    let mut text = begin_argument(alloc, number)?;
+    push(&mut text, b"no value of ")?;
+    push_type(&mut text, types, ty)?;
+    push(&mut text, b" at byte ")?;
+    push_number(&mut text, at)?;
+    end(text)
+}
+
+/// The line of an argument of this number that is no value of this type.
+///
+/// # Errors
+///
+/// Want of memory.
+pub fn argument(
+    alloc: Global,
+    types: &[DataDecl],
+    number: u64,
+    ty: Ty,
+    fault: &ValueFault,
+) -> Result<Vec<u8>, AllocError>
+    ensures { IfOk result (λ text. text.items ≡ argument_line types.now number ty fault.now) }
+{
+    match fault {
+        ValueFault::ValueSyntax(at) => syntax(alloc, number, *at as u64),
+        ValueFault::ValueTooLarge => large(alloc, number),
+        ValueFault::ValueType(at) => misfit(alloc, types, number, ty, *at as u64),
+        ValueFault::Memory => Vec::from_slice(alloc, NO_MEMORY),
+    }
+}

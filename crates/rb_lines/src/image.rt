@@ -1,0 +1,66 @@
+//! The lines of images that are refused.
+
+ghost use Rattle.std.specs.Prelude.{◌≡◌, IfOk};
+ghost use Rattle.rb_lines.specs.ImageLines as line;
+
+use crate::argument::NODES;
+use crate::line::{NO_MEMORY, large};
+use rb_image_text::fault::ImageFault;
+use std::alloc::{AllocError, Global};
+
+// The numbers of images that are refused.
+const IMAGE_SYNTAX: u64 = 40;
+
+const IMAGE_BLOCK: u64 = 41;
+
+const BAD_ROOT: u64 = 42;
+
+const BAD_BITS: u64 = 43;
+
+const BAD_POINTER: u64 = 44;
+
+const NO_SUCH_PART: u64 = 46;
+
+// A fault of this number, at the place of this kind.
+fn fault_at(alloc: Global, number: u64, kind: &str, at: u64) -> Result<Vec<u8>, AllocError>
+    ensures { IfOk result (λ text. text.items ≡ line.fault_at number kind.now at) }
+{
+    Ok(format!(in alloc; "ribbit: image {number}{kind}{at}\n")?.into_bytes())
+}
+
+// A fault of this number in the block that begins at a base.
+fn fault_in(
+    alloc: Global,
+    number: u64,
+    base: u64,
+    kind: &str,
+    at: u128,
+) -> Result<Vec<u8>, AllocError>
+    ensures { IfOk result (λ text. text.items ≡ line.fault_in number base kind.now at) }
+{
+    Ok(format!(in alloc; "ribbit: image {number}: base {base}{kind}{at}\n")?.into_bytes())
+}
+
+/// The line of an image that is refused.
+///
+/// # Errors
+///
+/// Want of memory.
+pub fn image(alloc: Global, fault: ImageFault) -> Result<Vec<u8>, AllocError>
+    ensures { IfOk result (λ text. text.items ≡ line.image_line fault) }
+{
+    match fault {
+        ImageFault::ImageSyntax(at) => fault_at(alloc, IMAGE_SYNTAX, " at byte ", at as u64),
+        ImageFault::ImageBlock(block) => fault_at(alloc, IMAGE_BLOCK, ": block ", block),
+        ImageFault::BadRoot(word) => fault_at(alloc, BAD_ROOT, ": word ", word),
+        ImageFault::BadBits(base, place) => {
+            fault_in(alloc, BAD_BITS, base, ", place ", u128::from(place))
+        }
+        ImageFault::BadPointer(base, address) => {
+            fault_in(alloc, BAD_POINTER, base, ", address ", address)
+        }
+        ImageFault::ImageTooLarge => large(alloc, NODES),
+        ImageFault::NoSuchPart(step) => fault_at(alloc, NO_SUCH_PART, ": step ", step),
+        ImageFault::Memory => Vec::from_slice(alloc, NO_MEMORY),
+    }
+}

@@ -1,0 +1,137 @@
+//! Images: root words, and the blocks of a memory, as text.
+
+ghost use Rattle.std.specs.Prelude.{◌≡◌, ◌<◌, ◌+◌, ◌++◌, ◌^◌, false, IfOk, OnOk};
+ghost use Rattle.std.specs.Fmt.{digit_glyph};
+ghost use Rattle.std.specs.List.{flat_map};
+ghost use Rattle.rb_bytes.specs.Memory.{IsGood};
+ghost use Rattle.rb_lines.specs.ImageTexts as image;
+ghost use Rattle.rb_lines.specs.ImageTexts.{block_line, bytes_text, image_text, root_line, word_text};
+
+use crate::line::{self, push, push_number};
+use rb_bytes::checked::CheckedMemory;
+use rb_bytes::memory::ByteMemory;
+use std::alloc::{AllocError, Global};
+
+// A number after a blank, in hexadecimal digits.
+fn push_word(alloc: Global, text: &mut Vec<u8>, word: u64) -> Result<(), AllocError>
+    ensures { OnOk result (text.new.items ≡ text.old.items ++ word_text word) }
+{
+    push(text, format!(in alloc; " 0x{word:x}")?.as_bytes())
+}
+
+fn push_words(alloc: Global, text: &mut Vec<u8>, words: &[u64]) -> Result<(), AllocError>
+    ensures { OnOk result (text.new.items ≡ text.old.items ++ flat_map word_text words.now) }
+{
+    for word in words {
+        push_word(alloc, text, *word)?;
+    }
+    Ok(())
+}
+
+// The line of root words.
+fn root(alloc: Global, words: &[u64]) -> Result<Vec<u8>, AllocError>
+    ensures { IfOk result (λ text. text.items ≡ root_line words.now) }
+{
+    let mut text = Vec::from_slice(alloc, b"root")?;
+    push_words(alloc, &mut text, words)?;
+    line::end(text)
+}
+
+// A hexadecimal digit.
+fn digit(number: u8) -> u8
+    requires { number < 16 }
+    ensures { result ≡ digit_glyph false number }
+{
+    if number < 10 {
+        b'0' + number
+    } else {
+        b'a' + (number - 10)
+    }
+}
+
+fn push_byte(text: &mut Vec<u8>, byte: u8) -> Result<(), AllocError>
+    ensures { OnOk result (text.new.items ≡ text.old.items ++ image.byte_text byte) }
+{
+    push(text, &[digit(byte / 16), digit(byte % 16)])
+}
+
+// So many bytes of the memory from an address on.
+fn push_bytes(
+    text: &mut Vec<u8>,
+    memory: &CheckedMemory,
+    address: u64,
+    size: u64,
+) -> Result<(), AllocError>
+    requires { address + size < 2 ^ 64 }
+    ensures { OnOk result (text.new.items ≡ text.old.items ++ bytes_text memory.now address size) }
+{
+    for at in 0..size {
+        push_byte(text, memory.byte(address + at).unwrap_or(0))?;
+    }
+    Ok(())
+}
+
+// The line of a block.
+fn block(
+    alloc: Global,
+    memory: &CheckedMemory,
+    address: u64,
+    size: u64,
+) -> Result<Vec<u8>, AllocError>
+    requires { address + size < 2 ^ 64 }
+    ensures { IfOk result (λ text. text.items ≡ block_line memory.now (address, size)) }
+{
+    let mut text = Vec::from_slice(alloc, b"block ")?;
+    push_number(&mut text, address)?;
+    push(&mut text, b" ")?;
+    push_number(&mut text, size)?;
+    push(&mut text, b" ")?;
+    push_bytes(&mut text, memory, address, size)?;
+    line::end(text)
+}
+
+fn push_block(
+    alloc: Global,
+    text: &mut Vec<u8>,
+    memory: &CheckedMemory,
+    address: u64,
+    size: u64,
+) -> Result<(), AllocError>
+    requires { address + size < 2 ^ 64 }
+    ensures { OnOk result (text.new.items ≡ text.old.items ++ block_line memory.now (address, size)) }
+{
+    let line = block(alloc, memory, address, size)?;
+    push(text, line.as_slice())
+}
+
+// The lines of all blocks, by ascending address.
+fn push_blocks(alloc: Global, text: &mut Vec<u8>, memory: &CheckedMemory) -> Result<(), AllocError>
+    requires { IsGood memory.now }
+    ensures { OnOk result (text.new.items ≡ text.old.items ++ flat_map (block_line memory.now) memory.now.blocks) }
+{
+    let mut from = 0;
+    for _turn in 0..memory.blocks() {
+        match memory.block_from(from) {
+            None => unreachable!(),
+            Some((address, size)) => {
+                push_block(alloc, text, memory, address, size)?;
+                from = address + size;
+            }
+        }
+    }
+    Ok(())
+}
+
+/// The image of words over a memory.
+///
+/// # Errors
+///
+/// Want of memory.
+pub fn image(alloc: Global, words: &[u64], memory: &CheckedMemory) -> Result<Vec<u8>, AllocError>
+    requires { IsGood memory.now }
+    ensures { IfOk result (λ text. text.items ≡ image_text words.now memory.now) }
+{
+    let mut text = root(alloc, words)?;
+    push_blocks(alloc, &mut text, memory)?;
+    Ok(text)
+}

@@ -1,0 +1,266 @@
+//! Texts that grow at their end, and lines of no subject of their own.
+
+ghost use Rattle.std.specs.Prelude.{◌≡◌, ◌∷◌, ◌++◌, OnOk, IfOk};
+ghost use Rattle.std.specs.Fmt.{decimal};
+ghost use Rattle.rb_lines.specs.Lines as line;
+
+use rb_bytes::fault::{Full, Trap};
+use rb_core::decimal::digits;
+use rb_target::fault::CodeFault;
+use std::alloc::{AllocError, Global};
+
+pub const READ_FAULT: &[u8] = b"ribbit: read fault\n";
+
+pub const WRITE_FAULT: &[u8] = b"ribbit: write fault\n";
+
+pub const NO_MEMORY: &[u8] = b"ribbit: no memory\n";
+
+/// The numbers of traps.
+const ASTRAY: u64 = 30;
+
+const UNWRITTEN: u64 = 31;
+
+const UNMATCHED: u64 = 32;
+
+/// The numbers of codes that are refused.
+const CODE_SYNTAX: u64 = 20;
+
+const BAD_SLOT: u64 = 21;
+
+const BAD_JUMP: u64 = 22;
+
+const BAD_CALL: u64 = 23;
+
+/// The text with these bytes behind it.
+///
+/// # Errors
+///
+/// Want of memory.
+pub fn push(text: &mut Vec<u8>, bytes: &[u8]) -> Result<(), AllocError>
+    ensures { OnOk result (text.new.items ≡ text.old.items ++ bytes.now) }
+{
+    text.extend_from_slice(bytes)
+}
+
+/// The text with the number in decimal digits behind it.
+///
+/// # Errors
+///
+/// Want of memory.
+pub fn push_number(text: &mut Vec<u8>, number: u64) -> Result<(), AllocError>
+    ensures { OnOk result (text.new.items ≡ text.old.items ++ decimal number) }
+{
+    text.extend_from_slice(digits(number).as_slice())
+}
+
+/// The program's name and these bytes.
+///
+/// # Errors
+///
+/// Want of memory.
+pub fn begin(alloc: Global, bytes: &[u8]) -> Result<Vec<u8>, AllocError>
+    ensures { IfOk result (λ text. text.items ≡ line.begun bytes.now) }
+{
+    let mut text = Vec::from_slice(alloc, b"ribbit: ")?;
+    push(&mut text, bytes)?;
+    Ok(text)
+}
+
+/// The text with a line's end.
+///
+/// # Errors
+///
+/// Want of memory.
+pub fn end(text: Vec<u8>) -> Result<Vec<u8>, AllocError>
+    ensures { IfOk result (λ ended. ended.items ≡ line.ended text.items) }
+{
+    let mut text = text;
+    push(&mut text, b"\n")?;
+    Ok(text)
+}
+
+/// The line of a command line whose word of this number is at fault.
+///
+/// # Errors
+///
+/// Want of memory.
+pub fn usage(alloc: Global, word: u64) -> Result<Vec<u8>, AllocError>
+    ensures { IfOk result (λ text. text.items ≡ line.usage_line word) }
+{
+    Ok(format!(in alloc; "ribbit: usage at word {word}\n")?.into_bytes())
+}
+
+/// The line of a file with more bytes than its limit.
+///
+/// # Errors
+///
+/// Want of memory.
+pub fn file_bytes(alloc: Global, count: u64, limit: u64) -> Result<Vec<u8>, AllocError>
+    ensures { IfOk result (λ text. text.items ≡ line.file_bytes_line count limit) }
+{
+    Ok(format!(in alloc; "ribbit: limit file bytes: {count} over {limit}\n")?.into_bytes())
+}
+
+/// The line of a run whose calls are spent.
+///
+/// # Errors
+///
+/// Want of memory.
+pub fn spent(alloc: Global, calls: u64) -> Result<Vec<u8>, AllocError>
+    ensures { IfOk result (λ text. text.items ≡ line.spent_line calls) }
+{
+    Ok(format!(in alloc; "ribbit: calls spent: {calls}\n")?.into_bytes())
+}
+
+/// The line of a wrong number of arguments.
+///
+/// # Errors
+///
+/// Want of memory.
+pub fn count(alloc: Global, wanted: u64, found: u64) -> Result<Vec<u8>, AllocError>
+    ensures { IfOk result (λ text. text.items ≡ line.count_line wanted found) }
+{
+    Ok(format!(in alloc; "ribbit: wanted {wanted} arguments, found {found}\n")?.into_bytes())
+}
+
+/// The line of a value with more nodes than this.
+///
+/// # Errors
+///
+/// Want of memory.
+pub fn large(alloc: Global, limit: u64) -> Result<Vec<u8>, AllocError>
+    ensures { IfOk result (λ text. text.items ≡ line.large_line limit) }
+{
+    Ok(format!(in alloc; "ribbit: value over {limit} nodes\n")?.into_bytes())
+}
+
+/// The line of code without a function of this name.
+///
+/// # Errors
+///
+/// Want of memory.
+pub fn no_function(alloc: Global, name: &[u8]) -> Result<Vec<u8>, AllocError>
+    ensures { IfOk result (λ text. text.items ≡ line.no_function_line name.now) }
+{
+    let mut text = begin(alloc, b"no function ")?;
+    push(&mut text, name)?;
+    end(text)
+}
+
+/// The line of a block that doesn't fit.
+///
+/// # Errors
+///
+/// Want of memory.
+pub fn full(alloc: Global, full: Full) -> Result<Vec<u8>, AllocError>
+    ensures { IfOk result (λ text. text.items ≡ line.full_line full) }
+{
+    let Full {
+        next,
+        size,
+        align,
+        limit,
+    } = full;
+    let line = format!(in alloc;
+        "ribbit: region full: next {next}, size {size}, align {align}, limit {limit}\n"
+    )?;
+    Ok(line.into_bytes())
+}
+
+/// The line of a trap.
+///
+/// # Errors
+///
+/// Want of memory.
+pub fn trap(alloc: Global, trap: Trap) -> Result<Vec<u8>, AllocError>
+    ensures { IfOk result (λ text. text.items ≡ line.trap_line trap) }
+{
+    match trap {
+        Trap::Astray(base, offset) => {
+            let line = format!(in alloc; "ribbit: trap {ASTRAY}: base {base}, offset {offset}\n")?;
+            Ok(line.into_bytes())
+        }
+        Trap::Unwritten(address) => {
+            let line = format!(in alloc; "ribbit: trap {UNWRITTEN}: address {address}\n")?;
+            Ok(line.into_bytes())
+        }
+        Trap::Unmatched(word) => {
+            let line = format!(in alloc; "ribbit: trap {UNMATCHED}: word {word}\n")?;
+            Ok(line.into_bytes())
+        }
+    }
+}
+
+// The line of a fault of this kind at an instruction of a function.
+fn at_instruction(
+    alloc: Global,
+    kind: u64,
+    function: u64,
+    instruction: u64,
+) -> Result<Vec<u8>, AllocError>
+    ensures { IfOk result (λ text. text.items ≡ line.at_instruction kind function instruction) }
+{
+    let line = format!(in alloc;
+        "ribbit: code {kind}: function {function}, instruction {instruction}\n"
+    )?;
+    Ok(line.into_bytes())
+}
+
+/// The line of bytes that are no code.
+///
+/// # Errors
+///
+/// Want of memory.
+pub fn code(alloc: Global, fault: CodeFault) -> Result<Vec<u8>, AllocError>
+    ensures { IfOk result (λ text. text.items ≡ line.code_line fault) }
+{
+    match fault {
+        CodeFault::CodeSyntax(at) => {
+            let line = format!(in alloc; "ribbit: code {CODE_SYNTAX} at byte {at}\n")?;
+            Ok(line.into_bytes())
+        }
+        CodeFault::BadSlot(function, instruction) => {
+            at_instruction(alloc, BAD_SLOT, function, instruction)
+        }
+        CodeFault::BadJump(function, instruction) => {
+            at_instruction(alloc, BAD_JUMP, function, instruction)
+        }
+        CodeFault::BadCall(function, instruction) => {
+            at_instruction(alloc, BAD_CALL, function, instruction)
+        }
+        CodeFault::Memory => Vec::from_slice(alloc, NO_MEMORY),
+    }
+}
+
+// A number after a blank.
+fn push_word(alloc: Global, text: &mut Vec<u8>, number: u64) -> Result<(), AllocError>
+    ensures { OnOk result (text.new.items ≡ text.old.items ++ 32 ∷ decimal number) }
+{
+    push(text, format!(in alloc; " {number}")?.as_bytes())
+}
+
+// Numbers, each after a blank.
+fn push_spaced(alloc: Global, text: &mut Vec<u8>, numbers: &[u64]) -> Result<(), AllocError>
+    ensures { OnOk result (text.new.items ≡ text.old.items ++ line.spaced numbers.now) }
+{
+    for number in numbers {
+        push_word(alloc, text, *number)?;
+    }
+    Ok(())
+}
+
+/// Numbers on a line, with one blank between.
+///
+/// # Errors
+///
+/// Want of memory.
+pub fn words(alloc: Global, words: &[u64]) -> Result<Vec<u8>, AllocError>
+    ensures { IfOk result (λ text. text.items ≡ line.words_line words.now) }
+{
+    let mut text = Vec::new(alloc);
+    if let [first, rest @ ..] = words {
+        push_number(&mut text, *first)?;
+        push_spaced(alloc, &mut text, rest)?;
+    }
+    end(text)
+}

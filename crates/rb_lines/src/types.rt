@@ -1,0 +1,85 @@
+//! The lines of faults of types.
+
+ghost use Rattle.std.specs.Prelude.{◌≡◌, ◌++◌, IfOk, OnOk, slice_get};
+ghost use Rattle.rb_lines.specs.FileLines as line;
+
+use crate::line::{begin, end, push, push_number};
+use rb_core::types::{DataDecl, Ty};
+use std::alloc::{AllocError, Global};
+
+// A type's name.
+pub(crate) fn push_name(text: &mut Vec<u8>, types: &[DataDecl], ty: u32) -> Result<(), AllocError>
+    ensures { OnOk result (text.new.items ≡ text.old.items ++ line.type_name (slice_get types.now ty)) }
+{
+    match types.get(ty as usize) {
+        Some(decl) => push(text, decl.name.as_slice()),
+        None => Ok(()),
+    }
+}
+
+pub(crate) fn push_type(text: &mut Vec<u8>, types: &[DataDecl], ty: Ty) -> Result<(), AllocError>
+    ensures { OnOk result (text.new.items ≡ text.old.items ++ line.type_text types.now ty) }
+{
+    match ty {
+        Ty::Int(bits) => {
+            push(text, b"u")?;
+            push_number(text, bits as u64)?;
+            Ok(())
+        }
+        Ty::Named(number) => {
+            push_name(text, types, number)?;
+            Ok(())
+        }
+    }
+}
+
+/// The line of the type with this number, which has no value.
+///
+/// # Errors
+///
+/// Want of memory.
+pub fn empty(alloc: Global, types: &[DataDecl], ty: u32) -> Result<Vec<u8>, AllocError>
+    ensures { IfOk result (λ text. text.items ≡ line.empty_line types.now ty) }
+{
+    let mut text = begin(alloc, b"type ")?;
+    push_name(&mut text, types, ty)?;
+    push(&mut text, b" has no value")?;
+    end(text)
+}
+
+/// The line of another type than was wanted.
+///
+/// # Errors
+///
+/// Want of memory.
+pub fn mismatch(
+    alloc: Global,
+    types: &[DataDecl],
+    wanted: Ty,
+    found: Ty,
+    at: u64,
+) -> Result<Vec<u8>, AllocError>
+    ensures { IfOk result (λ text. text.items ≡ line.mismatch_line types.now wanted found at) }
+{
+    let mut text = begin(alloc, b"wanted ")?;
+    push_type(&mut text, types, wanted)?;
+    push(&mut text, b", found ")?;
+    push_type(&mut text, types, found)?;
+    push(&mut text, b" at byte ")?;
+    push_number(&mut text, at)?;
+    end(text)
+}
+
+/// The line of another number of parts than was wanted.
+///
+/// # Errors
+///
+/// Want of memory.
+pub fn arity(alloc: Global, wanted: u64, found: u64, at: u64) -> Result<Vec<u8>, AllocError>
+    ensures { IfOk result (λ text. text.items ≡ line.arity_line wanted found at) }
+{
+    let line = format!(in alloc;
+        "ribbit: wanted {wanted} arguments, found {found} at byte {at}\n"
+    )?;
+    Ok(line.into_bytes())
+}

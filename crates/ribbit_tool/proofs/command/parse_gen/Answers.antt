@@ -1,9 +1,0 @@
-use Rattle.std.proofs.Common.{List, ℕ, rules}
-use Rattle.ribbit_tool.specs.Command.{gen}
-use Rattle.ribbit_tool.specs.inner.Parsing.{alone}
-use Rattle.ribbit_tool.proofs.command.parse_gen.Goals as goal
-
-pub returns-in_err-functions : goal.returns-in_err-functions
-returns-in_err-functions c =
-    let known = c.in_err-functions.ensures (λ (functions : ℕ) (ws : List (List ℕ)). alone 3 (gen functions) ws) in
-    search rules

@@ -1,6 +1,0 @@
-use Rattle.std.proofs.Common.{rules}
-use Rattle.ribbit_tool.specs.Command.{image}
-use Rattle.ribbit_tool.proofs.command.parse_image.Goals as goal
-
-pub returns-in_err-file : goal.returns-in_err-file
-returns-in_err-file c = let known = c.in_err-file.ensures image in search rules

@@ -1,8 +1,0 @@
-use Rattle.rb_target.proofs.Texts.{appended}
-use Rattle.ribbit_tool.proofs.TextLaws.{flat_map_next}
-use Rattle.ribbit_tool.specs.Image.{word_text}
-use Rattle.ribbit_tool.proofs.image.push_words.Goals as goal
-
-pub loop-word-preserved : goal.loop-word-preserved
-loop-word-preserved c =
-    appended _ _ _ _ _ _ c.loop-word.invariant c.in_ok-push_word.ensures (flat_map_next word_text c.args.words.now c.loop-word.word-index _ c.loop-word-test.true)

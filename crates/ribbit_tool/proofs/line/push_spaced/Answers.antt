@@ -1,7 +1,0 @@
-use Rattle.rb_target.proofs.Texts.{appended}
-use Rattle.ribbit_tool.proofs.WordTexts.{spaced_more}
-use Rattle.ribbit_tool.proofs.line.push_spaced.Goals as goal
-
-pub loop-number-preserved : goal.loop-number-preserved
-loop-number-preserved c =
-    appended _ _ _ _ _ _ c.loop-number.invariant c.in_ok-push_word.ensures (spaced_more c.args.numbers.now c.loop-number.number-index _ c.loop-number-test.true)

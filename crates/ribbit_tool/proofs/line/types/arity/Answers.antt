@@ -1,5 +1,0 @@
-use Rattle.std.proofs.Common.{append_assoc, ap, ◌∙◌, Vec, Global, ℕ}
-use Rattle.ribbit_tool.proofs.line.types.arity.Goals as goal
-
-pub returns : goal.returns
-returns c = simp append_assoc (ap (λ (v : Vec ℕ Global). v.items) c.into_bytes.ensures.value ∙ c.in_ok-line.ensures.ok)
