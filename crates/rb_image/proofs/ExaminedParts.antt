@@ -55,7 +55,7 @@ module _ (m : List ImageBlock) (leaf : Leaf) (ws : List Kept) where
   block_is None size a e = absurd cc
   block_is (Some at) size a e = let r = sized at size a (size_at m at) refl e in (ap Some r.0, r.1)
 
-  followed_is : (bits : Kept) (align b at : ℕ) → ◌≡◌ {A = Result ℕ ImageFault} (followed m leaf bits align b) (Ok at)
+  pub followed_is : (bits : Kept) (align b at : ℕ) → ◌≡◌ {A = Result ℕ ImageFault} (followed m leaf bits align b) (Ok at)
       → (bits.number * align ≡ at) × (size_at m at ≡ Some (block_size (slice_get leaf.blocks b))) × Falls bits.base at
   followed_is bits align b at e =
       let target = bits.number * align in

@@ -22,13 +22,13 @@ pub mod KeepLemmas
 pub mod KnownLemmas
 pub mod LeafLemmas
 pub mod LeafNumbers
+pub mod LeafWordLemmas
 pub mod LookLemmas
 pub mod NarrowLeaves
 pub mod OrderLemmas
 pub mod PlacedSpots
 pub mod PointerLemmas
 pub mod ReadLemmas
-pub mod ReadingLemmas
 pub mod RootLemmas
 pub mod RootValues
 pub mod SiteLemmas

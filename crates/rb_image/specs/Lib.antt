@@ -2,10 +2,10 @@ pub mod Blocks
 pub mod Falling
 pub mod FieldSites
 pub mod Given
+pub mod LeafWords
 pub mod Memories
 pub mod Orders
 pub mod Parts
-pub mod Readings
 pub mod Reads
 pub mod Roots
 pub mod Sites

@@ -5,5 +5,6 @@ pub mod Halving
 pub mod Having
 pub mod Knowing
 pub mod Opening
+pub mod Reaching
 pub mod Siting
 pub mod Viewing

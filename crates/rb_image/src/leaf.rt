@@ -52,8 +52,8 @@ fn read_number<L: Ledger>(image: &Image, sites: &[Site], number: u64, steps: &mu
     }
 }
 
-// The word of a block. No block begins at 0, where root words would be read.
-fn read_block<L: Ledger>(
+/// The word of a block. No block begins at 0, where root words would be read.
+pub(crate) fn read_block<L: Ledger>(
     image: &Image,
     base: u64,
     byte: u64,

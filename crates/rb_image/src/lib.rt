@@ -48,8 +48,11 @@
 //! is: it finds the leaf that `look` finds from the sites of a place's words, and reads each word only when a split
 //! asks for its bits. `specs/Spans.antt` has the numbers to which such reading is held; that of the list above is 5.
 //!
-//! `read_once` is `read_word` for bits at sites that are asked for more than once: it keeps their numbers, so each step
-//! that it takes leaves one site less that is not read yet. What reads a leaf's words by it alone reads none twice.
+//! `read_words` goes on from that leaf: from the sites of its root words it reads these, follows its pointers, and reads
+//! the words of each block to which one leads, each word once. A pointer that leads to no such block as the leaf has is
+//! no fault yet, since it may be that nothing behind it is asked for: what stands behind it is left out. Of the list
+//! above it reads the root word 64, and the words 2 and 64 of the block at 64. `bits` then gives the bits of each part.
+//! `specs/LeafWords.antt` says which blocks are reached.
 //!
 //! `field_sites` goes on from a leaf to the words of an open position below it, and reads nothing for that: it gives
 //! the sites at which they stand, from the sites of the leaf's own words and the addresses of its blocks. Here the
@@ -77,11 +80,11 @@ pub mod kept;
 mod known;
 pub mod laws;
 pub mod leaf;
+pub mod leaf_words;
 pub mod look;
 pub mod memory;
 mod order;
 mod parts;
-pub mod reading;
 mod roots;
 pub mod site;
 mod splits;

@@ -61,8 +61,8 @@ fn size_of(leaf: &Leaf, block: u32) -> u64
     }
 }
 
-// The address to which the bits of a pointer part lead, where a block of the size of this one begins.
-fn follow(
+/// The address to which the bits of a pointer part lead, where a block of the size of this one begins.
+pub(crate) fn follow(
     memory: &[ImageBlock],
     leaf: &Leaf,
     range: Kept,

@@ -1,0 +1,72 @@
+-- What is read of a leaf: its root words, the addresses of the blocks to which its pointers lead, and the words there.
+use Rattle.std.specs.Prelude.{◌≡◌, ℕ, ◌+◌, ◌/◌, ◌==◌, List, [], ◌∷◌, length, replicate, Option, Some, None, Result, Ok, Err, slice_get, slice_index, slice_set, if◌then◌else◌}
+use Rattle.std.specs.List.{sum_by}
+use Rattle.std.specs.declared.alloc.Global.{Global}
+use Rattle.std.specs.declared.vec.Vec.{Vec}
+use Rattle.rb_layout.specs.declared.layout.Block.{Block}
+use Rattle.rb_layout.specs.declared.layout.FlatWord.{FlatWord}
+use Rattle.rb_layout.specs.declared.layout.Kind.{Kind}
+use Rattle.rb_layout.specs.declared.layout.Kind.TheVariants.{Const, Bits, Word, Pointer}
+use Rattle.rb_layout.specs.declared.layout.Leaf.{Leaf}
+use Rattle.rb_layout.specs.Words.{words_in}
+use Rattle.rb_image_text.specs.declared.fault.ImageFault.{ImageFault}
+use Rattle.rb_image_text.specs.declared.image.ImageBlock.{ImageBlock}
+use Rattle.rb_image.specs.declared.kept.Kept.{Kept}
+use Rattle.rb_image.specs.declared.leaf_words.LeafWords.{LeafWords}
+use Rattle.rb_image.specs.Blocks.{word_in}
+use Rattle.rb_image.specs.Orders.{PartAt, order_of}
+use Rattle.rb_image.specs.Parts.{bits_at, followed, or_zero}
+
+-- Addresses ----------------------------------------------------------------------------------
+
+-- the addresses of a leaf's blocks, with that of block b if it was found
+abbrev pub with_found : List ℕ → ℕ → Result ℕ ImageFault → List ℕ
+with_found ats b (Err fault) = ats
+with_found ats b (Ok at) = slice_set ats b at
+
+-- a pointer gives the address of its block, unless that is known; other parts give none
+abbrev pub follow_kind : List ImageBlock → Leaf → List ℕ → Kept → Kind → List ℕ
+follow_kind m leaf ats bits (Const c) = ats
+follow_kind m leaf ats bits (Bits path a) = ats
+follow_kind m leaf ats bits (Word path j) = ats
+follow_kind m leaf ats bits (Pointer align b) = if slice_index ats b == 0 then with_found ats b (followed m leaf bits align b) else ats
+
+abbrev pub follow_part : List ImageBlock → Leaf → List Kept → List ℕ → PartAt → List ℕ
+follow_part m leaf ws ats s = follow_kind m leaf ats (bits_at m ws ats s) s.part.kind
+
+-- parts, one after the other
+abbrev pub follow : List ImageBlock → Leaf → List Kept → List ℕ → List PartAt → List ℕ
+follow m leaf ws ats [] = ats
+follow m leaf ws ats (s ∷ ss) = follow m leaf ws (follow_part m leaf ws ats s) ss
+
+-- the addresses of a leaf's blocks by number, on these words of its root; 0 for a block to which no pointer leads, as where
+-- a pointer on the way is refused
+abbrev pub reached : List ImageBlock → Leaf → List Kept → List ℕ
+reached m leaf ws = follow m leaf ws (replicate (length leaf.blocks) 0) (order_of leaf)
+
+-- Words --------------------------------------------------------------------------------------
+
+-- the numbers of the words of the block that begins at an address, from the word that begins at a byte on
+abbrev pub numbers_at : List ImageBlock → ℕ → ℕ → List FlatWord → List ℕ
+numbers_at m at byte [] = []
+numbers_at m at byte (f ∷ fs) = or_zero (word_in m at byte f.width) ∷ numbers_at m at (byte + f.width / 8) fs
+
+-- those of the words of block b, none where its address is not known
+abbrev pub block_numbers : List ImageBlock → Leaf → List ℕ → ℕ → List ℕ
+block_numbers m leaf ats b = if slice_index ats b == 0 then [] else numbers_at m (slice_index ats b) 0 (words_in leaf (Some b))
+
+abbrev pub items_or_none : Option (Vec ℕ Global) → List ℕ
+items_or_none None = []
+items_or_none (Some v) = v.items
+
+-- the words of each block whose address is known were read
+pub record AreNumbers (m : List ImageBlock) (leaf : Leaf) (ats : List ℕ) (blocks : List (Vec ℕ Global)) : Type 0 where
+  pub long : length blocks ≡ length ats
+  pub numbers : (b : ℕ) → items_or_none (slice_get blocks b) ≡ block_numbers m leaf ats b
+
+abbrev pub HasNumbers : List ImageBlock → Leaf → LeafWords → Type 0
+HasNumbers m leaf x = AreNumbers m leaf x.addresses.items x.blocks.items
+
+-- how many words the blocks of a leaf have
+abbrev pub block_span : Leaf → ℕ
+block_span leaf = sum_by (λ (b : Block). length b.words) leaf.blocks

@@ -1,0 +1,28 @@
+-- Words of a leaf that are not read yet, and those that are.
+use Rattle.std.specs.Prelude.{◌≡◌, ℕ, ◌+◌, ◌==◌, List, [], ◌∷◌, length, Option, Some, None, slice_get, slice_index, if◌then◌else◌}
+use Rattle.rb_layout.specs.declared.layout.Block.{Block}
+use Rattle.rb_layout.specs.declared.layout.Leaf.{Leaf}
+use Rattle.rb_image.specs.declared.kept.Kept.{Kept}
+use Rattle.rb_image.specs.declared.leaf_words.LeafWords.{LeafWords}
+use Rattle.rb_image.specs.LeafWords.{items_or_none}
+use Rattle.rb_image.specs.Orders.{PartAt, order_of}
+use Rattle.rb_image.specs.Splits.{word_at}
+
+-- how many words the blocks have whose addresses are not known
+abbrev pub unread : List Block → List ℕ → ℕ
+unread [] ats = 0
+unread (b ∷ bs) [] = length b.words + unread bs []
+unread (b ∷ bs) (at ∷ ats) = (if at == 0 then length b.words else 0) + unread bs ats
+
+-- a part in the order of a leaf's parts
+abbrev pub IsPartOf : Leaf → PartAt → Type 0
+IsPartOf leaf s = (k : ℕ) × (slice_get (order_of leaf) k ≡ Some s)
+
+-- the word of a part among those that were read
+abbrev pub word_read : LeafWords → Option ℕ → PartAt → Kept
+word_read x None s = word_at x.root.items s.word
+word_read x (Some b) s = record {
+  number = slice_index (items_or_none (slice_get x.blocks.items b)) s.word;
+  base = slice_index x.addresses.items b;
+  place = s.byte;
+}
