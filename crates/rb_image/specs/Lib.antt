@@ -1,6 +1,7 @@
 pub mod Blocks
 pub mod Falling
 pub mod FieldSites
+pub mod Fields
 pub mod Given
 pub mod LeafWords
 pub mod Memories
@@ -13,5 +14,6 @@ pub mod Sound
 pub mod Spans
 pub mod Splits
 pub mod Values
+pub mod Ways
 pub mod WordReads
 pub mod inner

@@ -87,8 +87,8 @@ fn word_count(layouts: &[Layout], ty: u32) -> usize
     }
 }
 
-// The types of the fields of a constructor.
-fn fields_of(types: &[DataDecl], con: ConRef) -> &[Ty]
+/// The types of the fields of a constructor.
+pub(crate) fn fields_of(types: &[DataDecl], con: ConRef) -> &[Ty]
     ensures { result.now ≡ types_or_none (fields_of types.now con) }
 {
     match types.get(con.ty as usize) {

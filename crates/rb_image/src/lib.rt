@@ -52,7 +52,9 @@
 //! the words of each block to which one leads, each word once. A pointer that leads to no such block as the leaf has is
 //! no fault yet, since it may be that nothing behind it is asked for: what stands behind it is left out. Of the list
 //! above it reads the root word 64, and the words 2 and 64 of the block at 64. `bits` then gives the bits of each part.
-//! `specs/LeafWords.antt` says which blocks are reached.
+//! `specs/LeafWords.antt` says which blocks are reached. Who then goes on to one field asks `refused_below` whether a
+//! pointer on the way to that field was refused: a pointer is on the way where one of the parts behind it is of the
+//! field. `field_of` takes one step inside a leaf, to a field of a constructor that its provenance has.
 //!
 //! `field_sites` goes on from a leaf to the words of an open position below it, and reads nothing for that: it gives
 //! the sites at which they stand, from the sites of the leaf's own words and the addresses of its blocks. Here the
@@ -76,6 +78,7 @@ mod blocks;
 mod descent;
 pub mod examine;
 pub mod fields;
+pub mod inside;
 pub mod kept;
 mod known;
 pub mod laws;
@@ -89,4 +92,5 @@ mod roots;
 pub mod site;
 mod splits;
 pub mod value;
+pub mod ways;
 pub mod word;

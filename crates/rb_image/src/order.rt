@@ -1,6 +1,6 @@
 //! The order in which the parts of a leaf are examined.
 
-ghost use Rattle.std.specs.Prelude.{◌≡◌, ◌++◌, ◌∷◌, IfOk, OnOk};
+ghost use Rattle.std.specs.Prelude.{◌≡◌, ◌++◌, ◌∷◌, length, IfOk, OnOk};
 ghost use Rattle.rb_layout.specs.Readable.{AreShort, IsReadable};
 ghost use Rattle.rb_image.specs.Orders.{beginning_at, behind, block_order, by_offset, order_of, word_order, words_order};
 ghost use Rattle.rb_image.specs.inner.Viewing.{at_of, parts_of, spots_of};
@@ -153,5 +153,20 @@ pub(crate) fn order_of<'a>(alloc: Global, leaf: &'a Leaf) -> Result<Vec<Spot<'a>
     let mut order = Vec::new(alloc);
     let depth = leaf.blocks.len();
     add_words(alloc, leaf, depth, None, leaf.root.as_slice(), &mut order)?;
+    Ok(order)
+}
+
+/// The parts of a block, and of those to which it leads.
+pub(crate) fn block_order<'a>(
+    alloc: Global,
+    leaf: &'a Leaf,
+    block: u32,
+) -> Result<Vec<Spot<'a>>, AllocError>
+    requires readable { IsReadable leaf.now }
+    ensures { IfOk result (λ order. spots_of order.items ≡ block_order leaf.now (length leaf.now.blocks) block) }
+{
+    let mut order = Vec::new(alloc);
+    let depth = leaf.blocks.len();
+    add_block(alloc, leaf, depth, block, &mut order)?;
     Ok(order)
 }

@@ -1,0 +1,48 @@
+-- The parts of a leaf that hold what stands at a path or below it, and the pointers on the way to them.
+use Rattle.std.specs.Prelude.{ℕ, nat_eq, ◌||◌, List, [], ◌∷◌, length, Bool, false, Option, Some, None, Result, Ok, Err, if◌then◌else◌}
+use Rattle.std.specs.List.{list_any, starts_with}
+use Rattle.rb_layout.specs.declared.layout.Kind.{Kind}
+use Rattle.rb_layout.specs.declared.layout.Kind.TheVariants.{Const, Bits, Word, Pointer}
+use Rattle.rb_layout.specs.declared.layout.Leaf.{Leaf}
+use Rattle.rb_image_text.specs.declared.fault.ImageFault.{ImageFault}
+use Rattle.rb_image_text.specs.declared.image.ImageBlock.{ImageBlock}
+use Rattle.rb_image.specs.declared.kept.Kept.{Kept}
+use Rattle.rb_image.specs.Orders.{PartAt, behind, block_order}
+use Rattle.rb_image.specs.Parts.{bits_at, followed}
+
+-- a part holds a word or bits of a field whose path begins with this one
+abbrev pub is_below : List ℕ → Kind → Bool
+is_below path (Const c) = false
+is_below path (Bits own a) = starts_with nat_eq own path
+is_below path (Word own j) = starts_with nat_eq own path
+is_below path (Pointer align b) = false
+
+-- it does, or one of the parts behind it does
+abbrev pub leads_below : Leaf → List ℕ → Kind → Bool
+leads_below leaf path kind =
+    is_below path kind || list_any (λ (s : PartAt). is_below path s.part.kind) (behind (block_order leaf (length leaf.blocks)) kind)
+
+abbrev pub fault_of : {A : Type 0} → Result A ImageFault → Option ImageFault
+fault_of (Ok x) = None
+fault_of (Err fault) = Some fault
+
+-- the fault of a pointer that leads to no block of the size of its own, or, from within a block, not below that
+abbrev pub refusal_of : List ImageBlock → Leaf → Kept → Kind → Option ImageFault
+refusal_of m leaf bits (Const c) = None
+refusal_of m leaf bits (Bits path a) = None
+refusal_of m leaf bits (Word path j) = None
+refusal_of m leaf bits (Pointer align b) = fault_of (followed m leaf bits align b)
+
+abbrev pub first_of : Option ImageFault → Option ImageFault → Option ImageFault
+first_of None later = later
+first_of (Some fault) later = Some fault
+
+-- the fault of a part, if it is a pointer on the way to what stands below a path
+abbrev pub refused_at : List ImageBlock → Leaf → List Kept → List ℕ → List ℕ → PartAt → Option ImageFault
+refused_at m leaf ws ats path s =
+    if leads_below leaf path s.part.kind then refusal_of m leaf (bits_at m ws ats s) s.part.kind else None
+
+-- the first fault among parts
+abbrev pub refused_below : List ImageBlock → Leaf → List Kept → List ℕ → List ℕ → List PartAt → Option ImageFault
+refused_below m leaf ws ats path [] = None
+refused_below m leaf ws ats path (s ∷ ss) = first_of (refused_at m leaf ws ats path s) (refused_below m leaf ws ats path ss)

@@ -1,0 +1,53 @@
+//! Positions inside a leaf.
+
+ghost use Rattle.std.specs.Prelude.{◌≡◌, slice_get};
+ghost use Rattle.std.specs.Option.{option_copied};
+ghost use Rattle.rb_image.specs.Fields.{field_of, position_or_none, with_type};
+
+use crate::below::fields_of;
+use rb_core::pattern::Pat;
+use rb_core::types::{DataDecl, Ty};
+
+/// A position inside a leaf: what its provenance has there, and the type of the subvalue.
+#[derive(Clone, Copy, Drop)]
+pub struct Inside<'a> {
+    pub pat: &'a Pat,
+    pub ty: Ty,
+}
+
+fn type_at(types: &[Ty], field: u32) -> Option<Ty>
+    ensures { result ≡ slice_get types.now field }
+{
+    match types.get(field as usize) {
+        None => None,
+        Some(ty) => Some(*ty),
+    }
+}
+
+// A pattern and a type, where there are both.
+fn paired<'a>(pat: Option<&'a Pat>, ty: Option<Ty>) -> Option<Inside<'a>>
+    ensures { position_or_none result ≡ with_type (option_copied pat.entry) ty }
+{
+    match pat {
+        None => None,
+        Some(pat) => match ty {
+            None => None,
+            Some(ty) => Some(Inside { pat, ty }),
+        },
+    }
+}
+
+/// A field of a position: none where no constructor stands there, or one that has no such field.
+pub fn field_of<'a>(types: &[DataDecl], pat: &'a Pat, field: u32) -> Option<Inside<'a>>
+    ensures { position_or_none result ≡ field_of types.now pat.now field }
+{
+    match pat {
+        Pat::Wild(_) => None,
+        Pat::Var(_, _) => None,
+        Pat::Num(_, _) => None,
+        Pat::Con(_, con, pats) => {
+            let ty = type_at(fields_of(types, *con), field);
+            paired(pats.get(field as usize), ty)
+        }
+    }
+}
