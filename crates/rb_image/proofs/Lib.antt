@@ -40,5 +40,6 @@ pub mod SpanRecursion
 pub mod SpotLemmas
 pub mod StandLemmas
 pub mod TreeSpans
+pub mod VisitLemmas
 pub mod WalkLemmas
 pub mod WholeMemories

@@ -14,6 +14,7 @@ pub mod Sound
 pub mod Spans
 pub mod Splits
 pub mod Values
+pub mod Visits
 pub mod Ways
 pub mod WordReads
 pub mod inner

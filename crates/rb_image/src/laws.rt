@@ -4,6 +4,7 @@ ghost use Rattle.rb_image.specs.FieldSites.{LeavesAreNarrow};
 ghost use Rattle.rb_image.specs.Falling.{DescendingImagesAreSound, SoundImagesDescend, SoundValuesDescend};
 ghost use Rattle.rb_image.specs.Spans.{SpansRecur};
 ghost use Rattle.rb_image.specs.Values.{SoundImagesHaveValues};
+ghost use Rattle.rb_image.specs.Visits.{LayoutsAreTidy};
 
 /// Every image that is sound has a value.
 pub fn sound_images_have_values()
@@ -39,4 +40,10 @@ pub fn spans_recur()
 /// bits, and each part of a word lies among 64 bits: of such leaves the sites of fields are found.
 pub fn leaves_are_narrow()
     ensures { LeavesAreNarrow }
+{}
+
+/// In layouts that agree with their types the splits lead to leaves, each leaf has as many root words as the shape, and
+/// its words are few and short and their parts narrow: such layouts `visit` asks for.
+pub fn layouts_are_tidy()
+    ensures { LayoutsAreTidy }
 {}

@@ -56,6 +56,9 @@
 //! pointer on the way to that field was refused: a pointer is on the way where one of the parts behind it is of the
 //! field. `field_of` takes one step inside a leaf, to a field of a constructor that its provenance has.
 //!
+//! `visit` is both: it finds the leaf of a subvalue and reads its words, in no more steps than `own_span`, which is the
+//! span of the type without that of types whose constructors stand inside its leaves.
+//!
 //! `field_sites` goes on from a leaf to the words of an open position below it, and reads nothing for that: it gives
 //! the sites at which they stand, from the sites of the leaf's own words and the addresses of its blocks. Here the
 //! block of `Cons` is at 64, so the one word of `.1` stands in all 64 bits of the word from byte 8 of it on. A word
@@ -92,5 +95,6 @@ mod roots;
 pub mod site;
 mod splits;
 pub mod value;
+pub mod visit;
 pub mod ways;
 pub mod word;
