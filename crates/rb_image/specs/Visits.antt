@@ -1,5 +1,5 @@
 -- A value's leaf in an image, and the words of it.
-use Rattle.std.specs.Prelude.{◌≡◌, ℕ, ◌+◌, length, List, Some, Result, Ok, slice_get}
+use Rattle.std.specs.Prelude.{◌≡◌, ℕ, ◌+◌, length, List, Option, Some, Result, Ok, slice_get}
 use Rattle.std.specs.List.{sum_by}
 use Rattle.rb_core.specs.declared.program.Program.{Program}
 use Rattle.rb_core.specs.TypedPrograms.{IsTyped}
@@ -15,8 +15,10 @@ use Rattle.rb_image.specs.declared.kept.Kept.{Kept}
 use Rattle.rb_image.specs.declared.visit.Visited.{Visited}
 use Rattle.rb_image.specs.FieldSites.{HasNarrowParts}
 use Rattle.rb_image.specs.LeafWords.{HasNumbers, reached}
+use Rattle.rb_image.specs.Orders.{order_of}
 use Rattle.rb_image.specs.Spans.{tree_span, word_span}
 use Rattle.rb_image.specs.Splits.{leaf_at}
+use Rattle.rb_image.specs.Ways.{refused_below}
 
 -- the splits of a layout lead to its leaves, and each of these has so many root words; all its words are few and short, and
 -- their parts narrow
@@ -44,3 +46,7 @@ pub record IsVisited (m : List ImageBlock) (layout : Layout) (ws : List Kept) (x
 -- the splits of a layout, and the flat words of all its leaves: the part of a type's span that is its own
 abbrev pub own_span : Layout → ℕ
 own_span layout = tree_span layout.tree + sum_by word_span layout.leaves
+
+-- the first pointer that is refused on the way to what stands at a path of the leaf or below it
+abbrev pub first_refused : List ImageBlock → List ℕ → Visited → Option ImageFault
+first_refused m path x = refused_below m x.leaf.now x.words.root.items x.words.addresses.items path (order_of x.leaf.now)

@@ -57,7 +57,8 @@
 //! field. `field_of` takes one step inside a leaf, to a field of a constructor that its provenance has.
 //!
 //! `visit` is both: it finds the leaf of a subvalue and reads its words, in no more steps than `own_span`, which is the
-//! span of the type without that of types whose constructors stand inside its leaves.
+//! span of the type without that of types whose constructors stand inside its leaves. `enter` goes from there to the
+//! sites of a field's words, where no pointer on the way to them was refused.
 //!
 //! `field_sites` goes on from a leaf to the words of an open position below it, and reads nothing for that: it gives
 //! the sites at which they stand, from the sites of the leaf's own words and the addresses of its blocks. Here the

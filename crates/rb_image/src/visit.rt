@@ -1,15 +1,20 @@
 //! One subvalue of an image's value: its leaf, and the words of it.
 
-ghost use Rattle.std.specs.Prelude.{◌≡◌, ◌⊎◌, ◌+◌, ◌≤◌, Err, IfErr, IfOk, length, map};
+ghost use Rattle.std.specs.Prelude.{◌≡◌, ◌⊎◌, ◌+◌, ◌≤◌, Err, IfErr, IfOk, None, OnOk, Some, length, map};
+ghost use Rattle.rb_layout.specs.Readable.{IsReadable};
+ghost use Rattle.rb_image.specs.FieldSites.{AreNarrow, AreSitesOf, HasNarrowParts};
+ghost use Rattle.rb_image.specs.LeafWords.{HasNumbers};
 ghost use Rattle.rb_image.specs.Sites.{kept_of};
 ghost use Rattle.rb_image.specs.Splits.{leaf_at};
-ghost use Rattle.rb_image.specs.Visits.{IsTidy, IsVisited, own_span};
+ghost use Rattle.rb_image.specs.Visits.{IsTidy, IsVisited, first_refused, own_span};
 ghost use Rattle.rb_image_text.specs.Places.{AreInPlace};
 ghost use Rattle.rb_image_text.specs.declared.fault.ImageFault.TheVariants.{Memory};
 
+use crate::fields::field_sites;
 use crate::leaf::read_leaf;
 use crate::leaf_words::{LeafWords, read_words};
 use crate::site::Site;
+use crate::ways::refused_below;
 use rb_edge::steps::{Ledger, Steps};
 use rb_image_text::fault::ImageFault;
 use rb_image_text::image::Image;
@@ -21,6 +26,44 @@ use std::alloc::Global;
 pub struct Visited<'a> {
     pub leaf: &'a Leaf,
     pub words: LeafWords,
+}
+
+impl<'a> Visited<'a> {
+    /// The sites of the words of a field of the leaf, `count` of them, where the leaf's root words stand at these. The
+    /// field is the subvalue at a path of field numbers. Nothing is read.
+    ///
+    /// # Errors
+    ///
+    /// `BadPointer` for the first pointer on the way to the field that leads to no block of the leaf's size, or, from
+    /// within a block, not below that block. Or want of memory.
+    pub fn enter(
+        &self,
+        alloc: Global,
+        image: &Image,
+        sites: &[Site],
+        path: &[u32],
+        count: usize,
+    ) -> Result<Vec<Site>, ImageFault>
+        requires placed { AreInPlace image.now.blocks }
+        requires readable { IsReadable self.now.leaf.now }
+        requires parts { HasNarrowParts self.now.leaf.now }
+        requires narrow { AreNarrow sites.now }
+        requires numbers { HasNumbers image.now.blocks self.now.leaf.now self.now.words }
+        ensures sites { IfOk result (λ found.
+            AreSitesOf self.now.leaf.now sites.now self.now.words.addresses.items path.now count found.items) }
+        ensures narrow { IfOk result (λ found. AreNarrow found.items) }
+        ensures reached { OnOk result (first_refused image.now.blocks path.now self.now ≡ None) }
+        ensures fault { IfErr result (λ fault.
+            (first_refused image.now.blocks path.now self.now ≡ Some fault) ⊎ (fault ≡ Memory)) }
+    {
+        match refused_below(alloc, image, self.leaf, &self.words, path)? {
+            None => {}
+            Some(fault) => return Err(fault),
+        }
+        let addresses = self.words.addresses.as_slice();
+        let found = field_sites(alloc, self.leaf, sites, addresses, path, count)?;
+        Ok(found)
+    }
 }
 
 /// The leaf to which the splits of a layout lead on the words at these sites, and its words. Each word is read by
