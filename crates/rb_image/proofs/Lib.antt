@@ -30,6 +30,7 @@ pub mod PlacedSpots
 pub mod PointerLemmas
 pub mod ReadLemmas
 pub mod RootLemmas
+pub mod RootSiteLemmas
 pub mod RootValues
 pub mod SiteLemmas
 pub mod SitingLemmas

@@ -186,7 +186,7 @@ module _ (sites : List Site) (narrow : AreNarrow sites) (ats : List ℕ) where
       go true rest = part_narrow s.block s (each s (inl refl))
       go false rest = rest
 
-from_narrow : (site : ℕ → Site) → ((j : ℕ) → IsNarrow (site j)) → (j n : ℕ) → AreNarrow (sites_from site j n)
+pub from_narrow : (site : ℕ → Site) → ((j : ℕ) → IsNarrow (site j)) → (j n : ℕ) → AreNarrow (sites_from site j n)
 from_narrow site each j zero k s e = absurd cc
 from_narrow site each j (suc n) zero s e = subst IsNarrow (same_Some (site j) s e) (each j)
 from_narrow site each j (suc n) (suc k) s e = from_narrow site each (j + 1) n k s e

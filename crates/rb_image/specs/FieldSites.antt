@@ -1,5 +1,5 @@
 -- The sites at which the words of a leaf's field stand.
-use Rattle.std.specs.Prelude.{◌≡◌, ℕ, ◌+◌, ◌≤◌, List, map, Some, slice_get}
+use Rattle.std.specs.Prelude.{◌≡◌, ℕ, ◌+◌, ◌^◌, ◌<◌, ◌≤◌, List, length, map, Some, slice_get}
 use Rattle.rb_core.specs.declared.program.Program.{Program}
 use Rattle.rb_core.specs.TypedPrograms.{IsTyped}
 use Rattle.rb_layout.specs.declared.layout.FlatWord.{FlatWord}
@@ -17,6 +17,7 @@ use Rattle.rb_image.specs.declared.kept.Kept.{Kept}
 use Rattle.rb_image.specs.declared.site.Site.{Site}
 use Rattle.rb_image.specs.Orders.{order_of}
 use Rattle.rb_image.specs.Parts.{field_word, field_words}
+use Rattle.rb_image.specs.Roots.{kept_from}
 use Rattle.rb_image.specs.Sites.{kept_of}
 
 -- its bits are among the 64 of a word
@@ -45,3 +46,12 @@ words_of_field image leaf sites ats path count =
 abbrev pub AreSitesOf : Leaf → List Site → List ℕ → List ℕ → ℕ → List Site → Type 0
 AreSitesOf leaf sites ats path count found = (image : Image) → AreInPlace image.blocks
     → map (kept_of image) found ≡ words_of_field image leaf sites ats path count
+
+-- the words have at most 64 bits
+abbrev pub AreWords : List ℕ → Type 0
+AreWords ns = (k n : ℕ) → slice_get ns k ≡ Some n → n < 2 ^ 64
+
+-- in each image with so many root words these stand at the sites
+abbrev pub AreRootSites : ℕ → List Site → Type 0
+AreRootSites count found = (image : Image) → length image.root ≡ count → AreWords image.root
+    → map (kept_of image) found ≡ kept_from 0 image.root

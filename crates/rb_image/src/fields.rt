@@ -1,8 +1,8 @@
 //! The sites at which the words of a leaf's field stand.
 
-ghost use Rattle.std.specs.Prelude.{◌≡◌, IfOk, slice_get};
+ghost use Rattle.std.specs.Prelude.{◌≡◌, IfOk, length, slice_get};
 ghost use Rattle.rb_layout.specs.Readable.{IsReadable};
-ghost use Rattle.rb_image.specs.FieldSites.{AreNarrow, AreSitesOf, HasNarrowParts, IsNarrow};
+ghost use Rattle.rb_image.specs.FieldSites.{AreNarrow, AreRootSites, AreSitesOf, HasNarrowParts, IsNarrow};
 ghost use Rattle.rb_image.specs.inner.Siting as spec;
 ghost use Rattle.rb_image.specs.inner.Viewing.{at_of, spots_of};
 
@@ -142,5 +142,28 @@ pub fn field_sites(
 {
     let order = order_of(alloc, leaf)?;
     let found = sites_of(alloc, sites, addresses, order.as_slice(), path, count)?;
+    Ok(found)
+}
+
+/// The sites of the root words of an image, so many of them.
+///
+/// # Errors
+///
+/// Want of memory.
+pub fn root_sites(alloc: Global, count: usize) -> Result<Vec<Site>, AllocError>
+    ensures words { IfOk result (λ found. AreRootSites count found.items) }
+    ensures count { IfOk result (λ found. length found.items ≡ count) }
+    ensures narrow { IfOk result (λ found. AreNarrow found.items) }
+{
+    let mut found = Vec::new(alloc);
+    for number in 0..count {
+        found.push(Site {
+            base: 0,
+            place: number as u64,
+            width: 64,
+            o: 0,
+            l: 64,
+        })?;
+    }
     Ok(found)
 }

@@ -63,8 +63,8 @@
 //! `field_sites` goes on from a leaf to the words of an open position below it, and reads nothing for that: it gives
 //! the sites at which they stand, from the sites of the leaf's own words and the addresses of its blocks. Here the
 //! block of `Cons` is at 64, so the one word of `.1` stands in all 64 bits of the word from byte 8 of it on. A word
-//! that is a range of a word of the leaf stands in a range of the bits at that one's site. `specs/FieldSites.antt` says
-//! which words they are.
+//! that is a range of a word of the leaf stands in a range of the bits at that one's site. `root_sites` begins this with
+//! the root words. `specs/FieldSites.antt` says which words they are.
 //!
 //! `specs/Parts.antt` says what one place comes to, above `specs/Splits.antt`, the leaf to which its splits lead, and
 //! `specs/Orders.antt`, the order of a leaf's parts; `specs/Blocks.antt` which blocks and words an image has.

@@ -41,3 +41,7 @@ field_site sites ats (s ∷ ss) path j =
 abbrev pub sites_from : (ℕ → Site) → ℕ → ℕ → List Site
 sites_from site j zero = []
 sites_from site j (suc n) = site j ∷ sites_from site (j + 1) n
+
+-- all bits of a root word
+abbrev pub whole_root : ℕ → Site
+whole_root j = record { base = 0; place = j; width = 64; o = 0; l = 64 }
