@@ -1,6 +1,7 @@
 //! The words of a leaf, each read once.
 
-ghost use Rattle.std.specs.Prelude.{◌≡◌, ℕ, ◌+◌, ◌<◌, ◌≤◌, List, length, map, replicate, IfOk, OnOk, Some, slice_get, slice_index, slice_set, []};
+ghost use Rattle.std.specs.Prelude.{◌≡◌, ◌+◌, ◌<◌, ◌≤◌, ℕ, List, [], length, map, replicate};
+ghost use Rattle.std.specs.Prelude.{IfOk, OnOk, slice_get, slice_index, slice_set};
 ghost use Rattle.rb_layout.specs.Readable.{AreShort, IsReadable};
 ghost use Rattle.rb_layout.specs.declared.layout.Leaf.{Leaf};
 ghost use Rattle.rb_image.specs.LeafWords.{HasNumbers, block_span, follow_part, items_or_none, numbers_at, reached};
@@ -126,7 +127,8 @@ impl LeafWords {
 
     /// The bits of a part of the leaf, none of which is read again.
     pub fn bits(&self, spot: &Spot) -> Kept
-        ensures { (m : List ImageBlock) (leaf : Leaf) → AreInPlace m → HasNumbers m leaf self.now → IsPartOf leaf (at_of spot.now)
+        ensures { (m : List ImageBlock) (leaf : Leaf) → AreInPlace m → HasNumbers m leaf self.now
+            → IsPartOf leaf (at_of spot.now)
             → result ≡ bits_at m self.now.root.items self.now.addresses.items (at_of spot.now) }
     {
         range_of(self.word_of(spot), spot.part.o, spot.part.l)
