@@ -27,7 +27,7 @@ use std::alloc::{AllocError, Global};
 
 /// The words of a leaf, as they were read: those of its root; the addresses of its blocks by number, 0 for a block to
 /// which no pointer leads; and the words of each block whose address is known.
-#[derive(Debug, Drop)]
+#[derive(Drop)]
 pub struct LeafWords {
     pub root: Vec<Kept>,
     pub addresses: Vec<u64>,
