@@ -47,11 +47,11 @@ use Rattle.rb_fetch.proofs.Fitting.{readable_leaf, resolved_fits, root_widths}
 use Rattle.rb_fetch.proofs.Numbers.{loc_of, counted, stands}
 
 -- no hole is one of none
-nothing : (h : Hole) → IsIn h [] → ⊥
+pub nothing : (h : Hole) → IsIn h [] → ⊥
 nothing h i = absurd (let e = i.1 in cc)
 
 -- hole by hole
-are_holes : (from count : ℕ) (code : List Instr) (hs : List Hole) → ((h : Hole) → IsIn h hs → (from ≤ h.pc) × IsLeafHole count code h) → AreHoles from count code hs
+pub are_holes : (from count : ℕ) (code : List Instr) (hs : List Hole) → ((h : Hole) → IsIn h hs → (from ≤ h.pc) × IsLeafHole count code h) → AreHoles from count code hs
 are_holes from count code [] f = tt
 are_holes from count code (h ∷ hs) f = let x = f h (0, refl) in (x.0, x.1.0, x.1.1, are_holes from count code hs (λ k i. f k (suc i.0, i.1)))
 

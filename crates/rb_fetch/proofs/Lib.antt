@@ -3,9 +3,11 @@ pub mod Fitting
 pub mod Numbers
 pub mod Trees
 pub mod LeafNumbers
+pub mod Pruning
 pub mod Looking
 pub mod LookForms
 pub mod Finding
+pub mod Grouping
 pub mod Placing
 pub mod Spans
 pub mod Slices

@@ -17,7 +17,7 @@ use Rattle.rb_target.proofs.Shapes.{next_arm, pick}
 use Rattle.rb_fetch.specs.Fetching.{LocFits}
 use Rattle.rb_fetch.specs.inner.Looking.{SplitFits, TreeFits, under_arm, under_at}
 
-abbrev map_opt : {A B : Type 0} → (A → B) → Option A → Option B
+abbrev pub map_opt : {A B : Type 0} → (A → B) → Option A → Option B
 map_opt f None = None
 map_opt f (Some x) = Some (f x)
 
@@ -28,7 +28,7 @@ literals (a ∷ arms) = a.literal ∷ literals arms
 pub walk-Leaf : (n : ℕ) (ws : List ℕ) (m : Memory) → walk (Leaf n) ws m ≡ Some n
 walk-Leaf n ws m = ap (λ (go : Walk). go ws m) (fold-Leaf Walk (Under Walk) walk_step walk_arm n)
 
-walk-Split : (loc : Loc) (arms : List FlatArm) (other : Option FlatTree) (ws : List ℕ) (m : Memory)
+pub walk-Split : (loc : Loc) (arms : List FlatArm) (other : Option FlatTree) (ws : List ℕ) (m : Memory)
     → walk (Split loc arms other) ws m ≡ walk_at (read_loc ws m loc) (map walk_under arms) (map_opt walk other) ws m
 walk-Split loc arms None ws m = ap (λ (go : Walk). go ws m) (fold-Split Walk (Under Walk) walk_step walk_arm loc arms)
 walk-Split loc arms (Some t) ws m = ap (λ (go : Walk). go ws m) (fold-Split-else Walk (Under Walk) walk_step walk_arm loc arms t)
@@ -36,27 +36,27 @@ walk-Split loc arms (Some t) ws m = ap (λ (go : Walk). go ws m) (fold-Split-els
 walk-arm : (a : FlatArm) → walk_under a ≡ record { literal = a.literal; of = walk a.under }
 walk-arm a = fold_out-FlatArm Walk (Under Walk) walk_step walk_arm a
 
-abbrev depth_under : FlatArm → ℕ
+abbrev pub depth_under : FlatArm → ℕ
 depth_under = fold-FlatArm ℕ ℕ nesting_step nesting_arm
 
-nesting-is : (loc : Loc) (arms : List FlatArm) (other : Option FlatTree) → nesting (Split loc arms other) ≡ 1 + max (greatest (map depth_under arms)) (or_zero (map_opt nesting other))
+pub nesting-is : (loc : Loc) (arms : List FlatArm) (other : Option FlatTree) → nesting (Split loc arms other) ≡ 1 + max (greatest (map depth_under arms)) (or_zero (map_opt nesting other))
 nesting-is loc arms None = N.nesting-Split loc arms
 nesting-is loc arms (Some t) = N.nesting-else loc arms t
 
-nesting-arm : (a : FlatArm) → depth_under a ≡ nesting a.under
+pub nesting-arm : (a : FlatArm) → depth_under a ≡ nesting a.under
 nesting-arm a = fold_out-FlatArm ℕ ℕ nesting_step nesting_arm a
 
-splits-Split : (loc : Loc) (arms : List FlatArm) (other : Option FlatTree)
+pub splits-Split : (loc : Loc) (arms : List FlatArm) (other : Option FlatTree)
     → splits_of (Split loc arms other) ≡ record { loc = loc; literals = literals_of (map splits_under arms); other = is_some other } ∷ (flat_map (λ arm. arm.of) (map splits_under arms) ++ splits_or_none (map_opt splits_of other))
 splits-Split loc arms None = fold-Split (List SplitAt) (Under (List SplitAt)) splits_step splits_arm loc arms
 splits-Split loc arms (Some t) = fold-Split-else (List SplitAt) (Under (List SplitAt)) splits_step splits_arm loc arms t
 
-splits-arm : (a : FlatArm) → splits_under a ≡ record { literal = a.literal; of = splits_of a.under }
+pub splits-arm : (a : FlatArm) → splits_under a ≡ record { literal = a.literal; of = splits_of a.under }
 splits-arm a = fold_out-FlatArm (List SplitAt) (Under (List SplitAt)) splits_step splits_arm a
 
 -- Walks
 
-abbrev walk_opt : Option FlatTree → Walk
+abbrev pub walk_opt : Option FlatTree → Walk
 walk_opt None ws m = None
 walk_opt (Some t) ws m = walk t ws m
 
@@ -64,11 +64,11 @@ else-is : (other : Option FlatTree) (ws : List ℕ) (m : Memory) → walk_else (
 else-is None ws m = refl
 else-is (Some t) ws m = refl
 
-later : (a : FlatArm) (arms : List FlatArm) (other : Option FlatTree) (p : Option ℕ) → under_at (a ∷ arms) other (next_arm p) ≡ under_at arms other p
+pub later : (a : FlatArm) (arms : List FlatArm) (other : Option FlatTree) (p : Option ℕ) → under_at (a ∷ arms) other (next_arm p) ≡ under_at arms other p
 later a arms other None = refl
 later a arms other (Some k) = refl
 
-arms-is : (arms : List FlatArm) (other : Option FlatTree) (x : ℕ) (ws : List ℕ) (m : Memory)
+pub arms-is : (arms : List FlatArm) (other : Option FlatTree) (x : ℕ) (ws : List ℕ) (m : Memory)
     → walk_arms (map walk_under arms) (map_opt walk other) x ws m ≡ walk_opt (under_at arms other (pick (literals arms) x)) ws m
 arms-is [] other x ws m = else-is other ws m
 arms-is (a ∷ arms) other x ws m =

@@ -16,6 +16,7 @@ use Rattle.rb_fragment.specs.Pieces.{Branches}
 use Rattle.rb_fragment.specs.Slots.{AllBelow}
 use Rattle.rb_fragment.specs.WordReads.{AreMeant, AllFit}
 use Rattle.rb_fragment.specs.declared.reads.Read.{Read}
+use Rattle.rb_fetch.specs.Pruning.{group_at}
 
 -- the words represent a value of the type, whose leaf is number n
 pub record HasLeaf (plan : Plan) (t n : ℕ) (ws : List ℕ) (m : Memory) : Type 0 where
@@ -48,6 +49,29 @@ abbrev pub FindsLeafOf : LaidOut → ℕ → List Read → Sheet → Sheet → L
 FindsLeafOf agreed t reads old new holes =
     (plan : Plan) → IsPlanOf agreed plan → AllFit old.slots reads → length reads ≡ word_count plan.layouts (Named t)
     → Branches plan old.slots old new holes (depth_of plan.layouts (Named t)) (λ n s m. HasLeafMeant plan t n reads s m) (λ n s m. Unit {0})
+
+-- the words represent a value of the type, whose leaf has this group
+pub record HasGroup (plan : Plan) (t : ℕ) (groups : List (Option ℕ)) (g : ℕ) (ws : List ℕ) (m : Memory) : Type 0 where
+  pub leaf : ℕ
+  pub is_group : group_at groups leaf ≡ Some g
+  pub has_leaf : HasLeaf plan t leaf ws m
+
+pub record HasGroupMeant (plan : Plan) (t : ℕ) (groups : List (Option ℕ)) (g : ℕ) (reads : List Read) (s : List ℕ) (m : Memory) : Type 0 where
+  pub words : List ℕ
+  pub are_meant : AreMeant reads s m words
+  pub has_group : HasGroup plan t groups g words m
+
+-- Run on words of a value whose leaf has a group, the appended code leaves by a hole of that group.
+abbrev pub FindsGroup : LaidOut → ℕ → List (Option ℕ) → List ℕ → Sheet → Sheet → List Hole → Type 0
+FindsGroup agreed t groups words old new holes =
+    (plan : Plan) → IsPlanOf agreed plan → AllBelow old.slots words → length words ≡ word_count plan.layouts (Named t)
+    → Branches plan old.slots old new holes (depth_of plan.layouts (Named t)) (λ g s m. HasGroup plan t groups g (slots_at s words) m) (λ g s m. Unit {0})
+
+-- the same over reads of the words
+abbrev pub FindsGroupOf : LaidOut → ℕ → List (Option ℕ) → List Read → Sheet → Sheet → List Hole → Type 0
+FindsGroupOf agreed t groups reads old new holes =
+    (plan : Plan) → IsPlanOf agreed plan → AllFit old.slots reads → length reads ≡ word_count plan.layouts (Named t)
+    → Branches plan old.slots old new holes (depth_of plan.layouts (Named t)) (λ g s m. HasGroupMeant plan t groups g reads s m) (λ g s m. Unit {0})
 
 -- the leaves of a type's layout
 abbrev pub leaves_within : Option Layout → ℕ

@@ -4,4 +4,5 @@ pub mod Positions
 pub mod Fields
 pub mod Constructing
 pub mod inner
+pub mod Pruning
 pub mod Choosing

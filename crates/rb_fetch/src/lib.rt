@@ -22,6 +22,12 @@
 //! the code of each leaf behind, and sets the holes to it. Where splits are nested, an arm leads to the
 //! switch of the inner one, so that no run does more switches than splits are nested.
 //!
+//! Leaves that are treated alike need not be told apart, nor one from leaves that can't be here.
+//! [`look::find_group_of`] is given a group for each leaf, or none for a leaf that can't be here, and leaves by the
+//! hole of the group. It looks by a tree that is [`prune::pruned`] first: a split below which one way is left is
+//! that way, and one whose ways all lead to one group is that group. So a run does no more switches than before,
+//! and where one group is left it does none.
+//!
 //! Behind the hole of leaf 1 the fields are known. [`field::field_reads`] says what the words of a field
 //! are, without any code: each of them is held by one part of the leaf, and the way to that part leads from
 //! a root word through the pointer to its block, the pointer to the block of that pointer, and so on. Field
@@ -93,6 +99,7 @@ mod heads;
 pub mod look;
 mod parts;
 mod place;
+pub mod prune;
 mod rebuild;
 mod slice;
 mod span;

@@ -1,12 +1,14 @@
 //! Code that finds the leaf of a value, by a tree of splits.
 
-ghost use Rattle.std.specs.Prelude.{◌≡◌, ◌+◌, ◌<◌, ◌≤◌, ◌^◌, IfOk, OnOk, length};
+ghost use Rattle.std.specs.Prelude.{◌≡◌, ℕ, ◌+◌, ◌<◌, ◌≤◌, ◌^◌, IfOk, OnOk, length};
 ghost use Rattle.rb_target.specs.Growth.{Grows};
 ghost use Rattle.rb_fragment.specs.Arms.{AreHoles, AreOfOneWay};
-ghost use Rattle.rb_fetch.specs.Finding.{FindsLeaf, FindsLeafOf, leaf_count};
+ghost use Rattle.rb_fetch.specs.Finding.{FindsGroup, FindsGroupOf, FindsLeaf, FindsLeafOf, leaf_count};
+ghost use Rattle.rb_fetch.specs.Pruning.{AreBelow};
 ghost use Rattle.rb_fetch.specs.inner.Looking.{open_arms_of, open_else_of, Looks};
 
 use crate::fetch::fetch_bits;
+use crate::prune::pruned;
 use rb_core::boxed::Boxed;
 use rb_core::seq::Seq;
 use rb_fragment::reads::{Read, slot_reads};
@@ -62,6 +64,62 @@ pub fn find_leaf_of(
         None => Ok(holes),
         Some(layout) => {
             look(alloc, body, words, &layout.tree, &mut holes)?;
+            Ok(holes)
+        }
+    }
+}
+
+/// Code that leaves by a hole of the group of the leaf of the value whose words stand in some slots, where the leaf
+/// has one. The groups are given leaf by leaf; where one group is left, no word is tested.
+///
+/// # Errors
+/// `AllocError` where memory is wanting.
+pub fn find_group(
+    alloc: Global,
+    body: &mut Body,
+    words: &[usize],
+    agreed: &Agreed,
+    ty: u32,
+    groups: &[Option<u32>],
+) -> Result<Seq<Hole>, AllocError>
+    ensures group { IfOk result (λ holes. FindsGroup agreed.now ty groups.now words.now body.old body.new holes) }
+    ensures holes { IfOk result (λ holes. (count : ℕ) → AreBelow count groups.now
+        → AreHoles (length body.old.code) count body.new.code holes) }
+    ensures ways { IfOk result (λ holes. AreOfOneWay holes) }
+    ensures grows { OnOk result (Grows body.old.code body.new.code) }
+{
+    let reads = slot_reads(alloc, words)?;
+    let holes = find_group_of(alloc, body, reads.as_slice(), agreed, ty, groups)?;
+    Ok(holes)
+}
+
+/// The same from reads of the value's words, which may stand in memory still.
+///
+/// # Errors
+/// `AllocError` where memory is wanting.
+pub fn find_group_of(
+    alloc: Global,
+    body: &mut Body,
+    words: &[Read],
+    agreed: &Agreed,
+    ty: u32,
+    groups: &[Option<u32>],
+) -> Result<Seq<Hole>, AllocError>
+    ensures group { IfOk result (λ holes. FindsGroupOf agreed.now ty groups.now words.now body.old body.new holes) }
+    ensures holes { IfOk result (λ holes. (count : ℕ) → AreBelow count groups.now
+        → AreHoles (length body.old.code) count body.new.code holes) }
+    ensures ways { IfOk result (λ holes. AreOfOneWay holes) }
+    ensures grows { OnOk result (Grows body.old.code body.new.code) }
+{
+    let _typed = agreed.covered().program();
+    let mut holes = Seq::new(alloc);
+    let Some(layout) = agreed.layouts().get(ty as usize) else {
+        return Ok(holes);
+    };
+    match pruned(alloc, &layout.tree, groups)? {
+        None => Ok(holes),
+        Some(tree) => {
+            look(alloc, body, words, &tree, &mut holes)?;
             Ok(holes)
         }
     }

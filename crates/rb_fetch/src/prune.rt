@@ -1,0 +1,195 @@
+//! Trees of splits in which leaves are told apart by groups alone.
+
+ghost use Rattle.std.specs.Prelude.{◌≡◌, IfOk, map};
+ghost use Rattle.rb_fetch.specs.Pruning.{few_of, group_at, group_of, is_group, joined_of, kept_of, lead_all, leads_else, leaf_for, live_arms, pruned_of, pruned_under, Prunes, shared_group};
+
+use rb_core::boxed::Boxed;
+use rb_core::layout_decl::Loc;
+use rb_core::seq::Seq;
+use rb_layout::layout::{FlatArm, FlatTree};
+use std::alloc::{AllocError, Global};
+
+// The leaf that stands for the group of a leaf.
+fn group_leaf(groups: &[Option<u32>], leaf: u32) -> Option<FlatTree>
+    ensures { result ≡ leaf_for (group_at groups.now leaf) }
+{
+    match groups.get(leaf as usize) {
+        None => None,
+        Some(None) => None,
+        Some(Some(group)) => Some(FlatTree::Leaf(*group)),
+    }
+}
+
+// The group to which a tree leads without a split.
+fn group_of(tree: &FlatTree) -> Option<u32>
+    ensures { result ≡ group_of tree.now }
+{
+    match tree {
+        FlatTree::Leaf(group) => Some(*group),
+        FlatTree::Split(_, _, _) => None,
+    }
+}
+
+fn leads_to(tree: &FlatTree, group: u32) -> bool
+    ensures { result ≡ is_group (group_of tree.now) group }
+{
+    match group_of(tree) {
+        None => false,
+        Some(found) => found == group,
+    }
+}
+
+fn lead_all(arms: &[FlatArm], group: u32) -> bool
+    ensures { result ≡ lead_all group arms.now }
+{
+    for arm in arms {
+        if !leads_to(&arm.under, group) {
+            return false;
+        }
+    }
+    true
+}
+
+fn leads_else(other: &Option<FlatTree>, group: u32) -> bool
+    ensures { result ≡ leads_else group other.now }
+{
+    match other {
+        None => true,
+        Some(tree) => leads_to(tree, group),
+    }
+}
+
+// The group to which all ways lead.
+fn shared_group(arms: &[FlatArm], other: &Option<FlatTree>) -> Option<u32>
+    ensures { result ≡ shared_group arms.now other.now }
+{
+    let [first, rest @ ..] = arms else {
+        return None;
+    };
+    let group = group_of(&first.under)?;
+    if lead_all(rest, group) && leads_else(other, group) {
+        return Some(group);
+    }
+    None
+}
+
+// A split without an else.
+fn few(alloc: Global, loc: &Loc, arms: Seq<FlatArm>) -> Result<Option<FlatTree>, AllocError>
+    ensures { IfOk result (λ r. r ≡ few_of loc.now arms) }
+{
+    if arms.len() > 1 {
+        let loc = loc.copy(alloc)?;
+        return Ok(Some(FlatTree::Split(loc, arms, None)));
+    }
+    let mut arms = arms;
+    match arms.pop() {
+        None => Ok(None),
+        Some(arm) => {
+            let FlatArm { under, .. } = arm;
+            Ok(Some(under))
+        }
+    }
+}
+
+// A split that is left with these arms and this else.
+fn kept(
+    alloc: Global,
+    loc: &Loc,
+    arms: Seq<FlatArm>,
+    other: Option<FlatTree>,
+) -> Result<Option<FlatTree>, AllocError>
+    ensures { IfOk result (λ r. r ≡ kept_of loc.now arms other) }
+{
+    match other {
+        None => few(alloc, loc, arms),
+        Some(tree) => {
+            if arms.is_empty() {
+                return Ok(Some(tree));
+            }
+            let loc = loc.copy(alloc)?;
+            let tree = Boxed::new(alloc, tree)?;
+            Ok(Some(FlatTree::Split(loc, arms, Some(tree))))
+        }
+    }
+}
+
+// The same where all may lead to one group.
+fn joined(
+    alloc: Global,
+    loc: &Loc,
+    arms: Seq<FlatArm>,
+    other: Option<FlatTree>,
+) -> Result<Option<FlatTree>, AllocError>
+    ensures { IfOk result (λ r. r ≡ joined_of loc.now arms other) }
+{
+    match shared_group(arms.as_slice(), &other) {
+        Some(group) => Ok(Some(FlatTree::Leaf(group))),
+        None => kept(alloc, loc, arms, other),
+    }
+}
+
+#[cycle(pruning)]
+fn prune(
+    alloc: Global,
+    tree: &FlatTree,
+    groups: &[Option<u32>],
+) -> Result<Option<FlatTree>, AllocError>
+    ensures { IfOk result (λ r. r ≡ pruned_of groups.now tree.now) }
+{
+    match tree {
+        FlatTree::Leaf(leaf) => Ok(group_leaf(groups, *leaf)),
+        FlatTree::Split(loc, arms, other) => {
+            let arms = prune_arms(alloc, arms.as_slice(), groups)?;
+            match other {
+                None => {
+                    let left = joined(alloc, loc, arms, None)?;
+                    Ok(left)
+                }
+                Some(tree) => {
+                    let other = prune(alloc, tree.get(), groups)?;
+                    let left = joined(alloc, loc, arms, other)?;
+                    Ok(left)
+                }
+            }
+        }
+    }
+}
+
+// The arms below which a leaf has a group.
+#[cycle(pruning)]
+fn prune_arms(
+    alloc: Global,
+    arms: &[FlatArm],
+    groups: &[Option<u32>],
+) -> Result<Seq<FlatArm>, AllocError>
+    ensures { IfOk result (λ r. r ≡ live_arms (map (pruned_under groups.now) arms.now)) }
+{
+    let mut live = Seq::new(alloc);
+    for arm in arms {
+        if let Some(under) = prune(alloc, &arm.under, groups)? {
+            live.push(FlatArm {
+                literal: arm.literal,
+                under,
+            })?;
+        }
+    }
+    Ok(live)
+}
+
+/// The tree that leads to the group of a leaf where another leads to the leaf: one group a leaf, and none for a leaf
+/// that can't be here. A split below which one way is left is that way, and one of whose ways all lead to one group
+/// is that group's leaf. None where no leaf has a group.
+///
+/// # Errors
+/// `AllocError` where memory is wanting.
+pub fn pruned(
+    alloc: Global,
+    tree: &FlatTree,
+    groups: &[Option<u32>],
+) -> Result<Option<FlatTree>, AllocError>
+    ensures same { IfOk result (λ r. r ≡ pruned_of groups.now tree.now) }
+    ensures prunes { IfOk result (λ r. Prunes groups.now tree.now r) }
+{
+    let left = prune(alloc, tree, groups)?;
+    Ok(left)
+}
