@@ -1,9 +1,10 @@
 -- A test of a value of a data type: its leaf is found, and leads to the node of its constructor.
 use denote.Ref.{Bor}
-use Rattle.std.proofs.Common.{◌≡◌, ℕ, zero, suc, ◌+◌, ◌≤◌, ◌==◌, inl, inr, Bool, true, false, List, [], ◌∷◌, ◌++◌, map, length, Option, Some, None, refl, sym, subst, ap, ◌∙◌, arith}
-use Rattle.std.specs.Prelude.{if◌then◌else◌, ◌&&◌, is_some}
+use Rattle.std.proofs.Common.{◌≡◌, ℕ, zero, suc, ◌+◌, ◌-◌, ◌<◌, ◌≤◌, ◌==◌, inl, inr, Bool, true, false, List, [], ◌∷◌, ◌++◌, map, length, Option, Some, None, refl, sym, subst, ap, ◌∙◌, arith}
+use Rattle.std.specs.Prelude.{if◌then◌else◌, ◌&&◌, nat_lt}
 use Rattle.std.proofs.lemmas.Bool.{false≢true}
-use Rattle.std.proofs.lemmas.Option.{same_Some}
+use Rattle.std.proofs.lemmas.Bool.Decides.{nat_tests}
+use Rattle.std.proofs.lemmas.Option.{same_Some, slice_get_within}
 use Rattle.rb_core.specs.declared.value.Value.{Value, out-Value}
 use Rattle.rb_core.specs.declared.value.Value.TheOpen as V
 use Rattle.rb_core.specs.declared.value.Value.TheOpen.{Value-F}
@@ -18,7 +19,9 @@ use Rattle.rb_matrix.specs.declared.matrix.Head.TheVariants as H
 use Rattle.rb_matrix.specs.Heads.{layer_begins}
 use Rattle.rb_decide.specs.declared.decision_graph.GraphArm.{GraphArm}
 use Rattle.rb_decide.specs.declared.decision_graph.GraphNode.{GraphNode}
+use Rattle.rb_core.specs.declared.types.Ty.TheVariants.{Named}
 use Rattle.rb_target.specs.declared.body.Hole.{Hole}
+use Rattle.rb_target.specs.Growth.{Keeps}
 use Rattle.rb_target.specs.Sheet.{Sheet, IsHole}
 use Rattle.rb_target.specs.Targets.{Finishes, IsIn}
 use Rattle.rb_target.proofs.Finishing.{agrees-sub}
@@ -33,12 +36,14 @@ use Rattle.rb_rel.proofs.Represented.{opened}
 use Rattle.rb_fragment.specs.declared.reads.Read.{Read}
 use Rattle.rb_fragment.specs.Arms.{AreHoles, AreOfOneWay}
 use Rattle.rb_fragment.specs.Plan.{Plan}
-use Rattle.rb_fetch.specs.Finding.{FindsLeafOf}
+use Rattle.rb_fetch.specs.Finding.{FindsGroupOf, leaf_count, leaves_within}
+use Rattle.rb_fetch.specs.Pruning.{group_at, group_or_none}
 use Rattle.rb_match.specs.declared.knowledge.Known.{Known}
 use Rattle.rb_match.specs.declared.knowledge.Edge.{Edge}
 use Rattle.rb_match.specs.declared.knowledge.Known.TheVariants as K
-use Rattle.rb_match.specs.inner.Knowing.{IsEdge, IsKnown, seen}
-use Rattle.rb_match.specs.inner.Asking.{take_link, con_of_layer, con_in, leaf_in, leaf_con, link_at, edge_in, edge_to, edge_for, keep_edge, leaf_edges_of, has_con, have_cons, StandOpen, AsksLeaf, holes_of}
+use Rattle.rb_match.specs.Bounding.{choosing_look}
+use Rattle.rb_match.specs.inner.Knowing.{AreKnown, IsEdge, IsKnown, seen}
+use Rattle.rb_match.specs.inner.Asking.{take_link, con_of_layer, con_in, leaf_in, leaf_con, link_at, group_for, node_for, facts_for, IsGrouped, AreGroups, edge_in, edge_to, edge_for, keep_edge, leaf_edges_of, LeavesBy, StandOpen, AsksLeaf, holes_of}
 use Rattle.rb_match.proofs.Edges.{same-nat, hole_at, in_tail, open_edge}
 use Rattle.rb_match.proofs.Following.{carried_known, known-kept, snoc-at}
 use Rattle.rb_match.proofs.NumberTests.{Keeps-less}
@@ -92,61 +97,79 @@ leaf_links agreed t l c arms other con plan of layout part is is_leaf =
     let b = leaf_begins agreed t l c con plan of layout part is is_leaf in
     ap (take_link arms other) b.1 ∙ link_same arms other c b.0
 
+pub is_less : (a b : ℕ) → a < b → nat_lt a b ≡ true
+is_less a b lt = grind (arith, nat_tests)
+
+not_less : (a b : ℕ) → b ≤ a → nat_lt a b ≡ false
+not_less a b le = grind (arith, nat_tests)
+
+-- the two groups of a leaf
+by_group : {A : Type 0} (count : ℕ) (itself : Bool) (leaf node : ℕ) (group : Option ℕ) → group ≡ group_for count itself leaf (Some node) → (group ≡ Some leaf → A) → (group ≡ Some (count + node) → A) → A
+by_group count true leaf node group is own shared = own is
+by_group count false leaf node group is own shared = shared is
+
 module _ (agreed : LaidOut) (nodes : List GraphNode) (t : ℕ) (position : Bor (List ℕ)) (known : List Known) (arms : List GraphArm) (other : Option ℕ) where
   abbrev fact : ℕ → Known
   fact l = K.Leaf position t l
 
+  abbrev node_at : ℕ → Option ℕ
+  node_at g = node_for agreed t arms other g
+
+  abbrev facts : ℕ → List Known
+  facts g = facts_for agreed t position known g
+
   abbrev to : Hole → ℕ → Edge
-  to h node = edge_in nodes h.pc h.arm node (known ++ fact h.leaf ∷ [])
+  to h node = edge_in nodes h.pc h.arm node (facts h.leaf)
 
   abbrev pub leaf_edges : List Hole → List Edge
   leaf_edges hs = leaf_edges_of agreed nodes t position known arms other hs
 
-  abbrev link : Hole → Option ℕ
-  link h = link_at arms other (leaf_con agreed t h.leaf)
+  -- a leaf by itself, and others that lead to a node
+  own_node : (l : ℕ) → l < leaf_count agreed t → node_at l ≡ link_at arms other (leaf_con agreed t l)
+  own_node l lt = ap (λ u. if u then link_at arms other (leaf_con agreed t l) else Some (l - leaf_count agreed t)) (is_less l (leaf_count agreed t) lt)
+
+  own_facts : (l : ℕ) → l < leaf_count agreed t → facts l ≡ known ++ fact l ∷ []
+  own_facts l lt = ap (λ u. if u then known ++ fact l ∷ [] else known) (is_less l (leaf_count agreed t) lt)
+
+  shared_node : (node : ℕ) → node_at (leaf_count agreed t + node) ≡ Some node
+  shared_node node =
+      let n = leaf_count agreed t in
+      let back : n + node - n ≡ node = omega arith in
+      ap (λ u. if u then link_at arms other (leaf_con agreed t (n + node)) else Some (n + node - n)) (not_less (n + node) n (omega arith)) ∙ ap Some back
+
+  shared_facts : (node : ℕ) → facts (leaf_count agreed t + node) ≡ known
+  shared_facts node = let n = leaf_count agreed t in ap (λ u. if u then known ++ fact (n + node) ∷ [] else known) (not_less (n + node) n (omega arith))
 
   -- the hole of an edge
-  view_to : (h : Hole) (o : Option ℕ) (e : Edge) → edge_to nodes h position t known o ≡ Some e → (node : ℕ) × (o ≡ Some node) × (e ≡ to h node)
+  view_to : (h : Hole) (o : Option ℕ) (e : Edge) → edge_to nodes h (facts h.leaf) o ≡ Some e → (node : ℕ) × (o ≡ Some node) × (e ≡ to h node)
   view_to h None e is = absurd cc
   view_to h (Some node) e is = (node, refl, sym (same_Some _ e is))
 
-  view : (hs : List Hole) (e : Edge) → IsEdge e (leaf_edges hs) → (h : Hole) × IsIn h hs × (node : ℕ) × (link h ≡ Some node) × (e ≡ to h node)
+  view : (hs : List Hole) (e : Edge) → IsEdge e (leaf_edges hs) → (h : Hole) × IsIn h hs × (node : ℕ) × (node_at h.leaf ≡ Some node) × (e ≡ to h node)
   view [] e (k, at) = absurd cc
   view (h ∷ hs) e i = go (λ j. view hs e j) (edge_for agreed nodes t position known arms other h) refl i
     where
-      later : (x : Hole) × IsIn x hs × (node : ℕ) × (link x ≡ Some node) × (e ≡ to x node) → (x : Hole) × IsIn x (h ∷ hs) × (node : ℕ) × (link x ≡ Some node) × (e ≡ to x node)
+      later : (x : Hole) × IsIn x hs × (node : ℕ) × (node_at x.leaf ≡ Some node) × (e ≡ to x node) → (x : Hole) × IsIn x (h ∷ hs) × (node : ℕ) × (node_at x.leaf ≡ Some node) × (e ≡ to x node)
       later r = (r.0, in_tail h hs r.0 r.1, r.2, r.3, r.4)
 
-      go : (IsEdge e (leaf_edges hs) → (x : Hole) × IsIn x hs × (node : ℕ) × (link x ≡ Some node) × (e ≡ to x node)) → (o : Option Edge) → edge_for agreed nodes t position known arms other h ≡ o → IsEdge e (keep_edge o (leaf_edges hs))
-          → (x : Hole) × IsIn x (h ∷ hs) × (node : ℕ) × (link x ≡ Some node) × (e ≡ to x node)
+      go : (IsEdge e (leaf_edges hs) → (x : Hole) × IsIn x hs × (node : ℕ) × (node_at x.leaf ≡ Some node) × (e ≡ to x node)) → (o : Option Edge) → edge_for agreed nodes t position known arms other h ≡ o → IsEdge e (keep_edge o (leaf_edges hs))
+          → (x : Hole) × IsIn x (h ∷ hs) × (node : ℕ) × (node_at x.leaf ≡ Some node) × (e ≡ to x node)
       go rest None is j = later (rest j)
-      go rest (Some f) is (zero, at) = let r = view_to h (link h) e (is ∙ at) in (h, (0, refl), r.0, r.1, r.2)
+      go rest (Some f) is (zero, at) = let r = view_to h (node_at h.leaf) e (is ∙ at) in (h, (0, refl), r.0, r.1, r.2)
       go rest (Some f) is (suc k, at) = later (rest (k, at))
 
   -- the edge of a hole
-  edge_of : (hs : List Hole) (h : Hole) (node : ℕ) → IsIn h hs → link h ≡ Some node → IsEdge (to h node) (leaf_edges hs)
+  edge_of : (hs : List Hole) (h : Hole) (node : ℕ) → IsIn h hs → node_at h.leaf ≡ Some node → IsEdge (to h node) (leaf_edges hs)
   edge_of [] h node (k, at) is = absurd cc
   edge_of (x ∷ hs) h node (zero, at) is =
       let same : x ≡ h = same_Some x h at in
-      let e : edge_for agreed nodes t position known arms other x ≡ Some (to h node) = ap (edge_for agreed nodes t position known arms other) same ∙ ap (edge_to nodes h position t known) is in
+      let e : edge_for agreed nodes t position known arms other x ≡ Some (to h node) = ap (edge_for agreed nodes t position known arms other) same ∙ ap (edge_to nodes h (facts h.leaf)) is in
       subst (λ o. IsEdge (to h node) (keep_edge o (leaf_edges hs))) (sym e) (0, refl)
   edge_of (x ∷ hs) h node (suc k, at) is = let r = edge_of hs h node (k, at) is in go (edge_for agreed nodes t position known arms other x) r
     where
       go : (o : Option Edge) → IsEdge (to h node) (leaf_edges hs) → IsEdge (to h node) (keep_edge o (leaf_edges hs))
       go None r = r
       go (Some f) r = (suc r.0, r.1)
-
-  cons_at : (hs : List Hole) → have_cons agreed t hs ≡ true → (h : Hole) → IsIn h hs → (c : ℕ) × (leaf_con agreed t h.leaf ≡ Some c)
-  cons_at [] all h (k, at) = absurd cc
-  cons_at (x ∷ hs) all h (zero, at) =
-      let b = both (has_con agreed t x) (have_cons agreed t hs) all in
-      let same : x ≡ h = same_Some x h at in
-      some (leaf_con agreed t h.leaf) (ap (λ (y : Hole). has_con agreed t y) (sym same) ∙ b.0)
-    where
-      some : (o : Option ℕ) → is_some o ≡ true → (c : ℕ) × (o ≡ Some c)
-      some None e = absurd (false≢true e)
-      some (Some c) e = (c, refl)
-  cons_at (x ∷ hs) all h (suc k, at) = let b = both (has_con agreed t x) (have_cons agreed t hs) all in cons_at hs b.1 h (k, at)
 
   pub leaf_stand : (old new : Sheet) (count : ℕ) (holes : List Hole) → AreHoles (length old.code) count new.code holes → AreOfOneWay holes → StandOpen old new (leaf_edges holes)
   leaf_stand old new count holes are one = record {
@@ -156,31 +179,37 @@ module _ (agreed : LaidOut) (nodes : List GraphNode) (t : ℕ) (position : Bor (
     one = λ e f i j p s.
         let a = view holes e i in
         let b = view holes f j in
-        let leaf = one a.0 b.0 a.1 b.1 (sym (ap (λ (y : Edge). y.hole.pc) a.4) ∙ p ∙ ap (λ (y : Edge). y.hole.pc) b.4) (sym (ap (λ (y : Edge). y.hole.arm) a.4) ∙ s ∙ ap (λ (y : Edge). y.hole.arm) b.4) in
-        let node : a.2 ≡ b.2 = same_Some a.2 b.2 (sym a.3 ∙ ap (λ l. link_at arms other (leaf_con agreed t l)) leaf ∙ b.3) in
+        let group = one a.0 b.0 a.1 b.1 (sym (ap (λ (y : Edge). y.hole.pc) a.4) ∙ p ∙ ap (λ (y : Edge). y.hole.pc) b.4) (sym (ap (λ (y : Edge). y.hole.arm) a.4) ∙ s ∙ ap (λ (y : Edge). y.hole.arm) b.4) in
+        let node : a.2 ≡ b.2 = same_Some a.2 b.2 (sym a.3 ∙ ap node_at group ∙ b.3) in
         ap (λ (y : Edge). y.hole.leaf) a.4 ∙ node ∙ sym (ap (λ (y : Edge). y.hole.leaf) b.4);
   }
 
-  pub asks_leaf : (reads : List Read) (old new : Sheet) (holes : List Hole) → FindsLeafOf agreed t reads old new holes → have_cons agreed t holes ≡ true → AsksLeaf agreed t reads known position.now arms other old new (leaf_edges holes)
-  asks_leaf reads old new holes finds cons = λ plan n spots of are fit count.
+  pub asks_leaf : (reads : List Read) (old new : Sheet) (groups : List (Option ℕ)) (holes : List Hole) → FindsGroupOf agreed t groups reads old new holes
+      → AreGroups (IsGrouped agreed t arms other) (leaf_count agreed t) groups → AsksLeaf agreed t reads known position.now arms other old new (leaf_edges holes)
+  asks_leaf reads old new groups holes finds grouped = λ plan n spots of are fit count.
       let br = finds plan of fit count in
       record {
         adds = br.adds;
         leaves = λ final callee next law fin s w v part clean ws node long good meant rep all at takes.
             let b = (opened plan.program.types plan.layouts w.memory clean rep).made in
+            let within = slice_get_within b.layout.leaves b.number b.leaf b.is_number in
+            let leaves : leaf_count agreed t ≡ length b.layout.leaves = ap leaves_within (sym (ap (λ ls. layout_of ls t) of.layouts) ∙ b.is_layout) in
+            let lt : b.number < leaf_count agreed t = omega (arith, within, leaves) in
+            let its = grouped.each b.number lt in
+            let begin = leaf_begins agreed t b.number its.2.con its.2.is_con plan of b.layout part b.is_layout b.is_leaf in
+            let goes : take_link arms other (V.Con its.2.con []) ≡ Some node = sym (link_same arms other its.2.con begin.0) ∙ ap (take_link arms other) (sym begin.1) ∙ takes in
             let fin1 : Finishes final new.code holes (length old.code) (length new.code) = λ q l h. agrees-sub final new.code new.code holes (holes_of (leaf_edges holes)) q refl
             (λ arm o. let e = open_edge (leaf_edges holes) q arm o in let x = view holes e.0 e.1 in (x.0, x.1, sym (ap (λ (y : Edge). y.hole.pc) x.4) ∙ e.2, sym (ap (λ (y : Edge). y.hole.arm) x.4) ∙ e.3)) (fin q l h) in
-            let r = br.leaves final callee next law fin1 s w b.number long good
-            (record { words = ws; are_meant = meant; has_leaf = record { layout = b.layout; is_layout = b.is_layout; clean = clean; value = part; represents = rep; is_leaf = b.is_leaf } }) in
-            let con = cons_at holes cons r.hole r.is_hole in
-            let is_con : con_of_layer (out-Pat b.leaf.prov) ≡ Some con.0 =
-            sym (ap con_in b.is_number) ∙ ap (λ o. con_in (leaf_in o b.number)) (sym b.is_layout ∙ ap (λ ls. layout_of ls t) of.layouts) ∙ ap (leaf_con agreed t) (sym r.is_way) ∙ con.1 in
-            let start : 0 + b.number ≡ b.number = omega arith in
-            let begin = begins b.leaf.prov part con.0 is_con (leaf_matches b.layout.leaves part 0 b.number b.leaf b.is_leaf b.number start b.is_number) in
-            let goes : link r.hole ≡ Some node = ap (link_at arms other) con.1 ∙ sym (link_same arms other con.0 begin.0) ∙ ap (take_link arms other) (sym begin.1) ∙ takes in
+            let has = λ (g : ℕ) (is : group_at groups b.number ≡ Some g). br.leaves final callee next law fin1 s w g long good
+            (record { words = ws; are_meant = meant; has_group = record { leaf = b.number; is_group = is; has_leaf = record { layout = b.layout; is_layout = b.is_layout; clean = clean; value = part; represents = rep; is_leaf = b.is_leaf } } }) in
+            let kept = λ (s1 : List ℕ) (keeps : Keeps old.slots s s1). known-kept old.slots plan clean v spots s s1 w.memory keeps are.below known all in
+            let by : (g : ℕ) → (its.0 ≡ Some g) → (node_at g ≡ Some node) → ((s1 : List ℕ) → Keeps old.slots s s1 → AreKnown (seen plan clean v spots s1 w.memory) (facts g))
+            → LeavesBy plan final next (leaf_edges holes) n (choosing_look plan.layouts (Named t)) (length old.code) s w clean v spots node =
+            λ g is to_node holds.
+            let r = has g (ap group_or_none its.1 ∙ is) in
             record {
               edge = to r.hole node;
-              is_edge = edge_of holes r.hole node r.is_hole goes;
+              is_edge = edge_of holes r.hole node r.is_hole (ap node_at r.is_way ∙ to_node);
               is_node = refl;
               target = r.target;
               is_target = r.is_target;
@@ -189,9 +218,18 @@ module _ (agreed : LaidOut) (nodes : List GraphNode) (t : ℕ) (position : Bor (
               runs = r.runs;
               keeps = Keeps-less n old.slots s r.slots are.low r.keeps;
               later = record { memory = r.later.memory; left = r.later.left; switches = omega (arith, r.later.switches) };
-              known = carried_known nodes node (seen plan clean v spots r.slots w.memory) (known ++ fact r.hole.leaf ∷ []) (λ i x e. elim (snoc-at known (fact r.hole.leaf) x i e) [
-                | inl j ↦ known-kept old.slots plan clean v spots s r.slots w.memory r.keeps are.below known all i x j
-                | inr is ↦ subst (IsKnown (seen plan clean v spots r.slots w.memory)) is (part, b.layout, at, b.is_layout, b.is_leaf ∙ ap Some (sym r.is_way))
-              ]);
-            };
+              known = carried_known nodes node (seen plan clean v spots r.slots w.memory) (facts r.hole.leaf)
+                  (subst (λ k. AreKnown (seen plan clean v spots r.slots w.memory) (facts k)) (sym r.is_way) (holds r.slots r.keeps));
+            } in
+            let number = b.number in
+            let own : its.0 ≡ Some number → LeavesBy plan final next (leaf_edges holes) n (choosing_look plan.layouts (Named t)) (length old.code) s w clean v spots node =
+            λ is. by number is (own_node number lt ∙ ap (link_at arms other) its.2.is_con ∙ goes) (λ s1 keeps.
+            subst (λ fs. AreKnown (seen plan clean v spots s1 w.memory) fs) (sym (own_facts number lt)) (λ i x e. elim (snoc-at known (fact number) x i e) [
+              | inl j ↦ kept s1 keeps i x j
+              | inr same ↦ subst (IsKnown (seen plan clean v spots s1 w.memory)) same (part, b.layout, at, b.is_layout, b.is_leaf)
+            ])) in
+            let shared : its.0 ≡ Some (leaf_count agreed t + node) → LeavesBy plan final next (leaf_edges holes) n (choosing_look plan.layouts (Named t)) (length old.code) s w clean v spots node =
+            λ is. by (leaf_count agreed t + node) is (shared_node node) (λ s1 keeps. subst (λ fs. AreKnown (seen plan clean v spots s1 w.memory) fs) (sym (shared_facts node)) (kept s1 keeps)) in
+            let group : its.0 ≡ group_for (leaf_count agreed t) its.2.itself number (Some node) = its.2.is_group ∙ ap (group_for (leaf_count agreed t) its.2.itself number) goes in
+            by_group (leaf_count agreed t) its.2.itself number node its.0 group own shared;
       }

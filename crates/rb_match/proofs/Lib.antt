@@ -7,6 +7,7 @@ mod Deepness
 mod Edges
 mod Following
 mod Landing
+mod Groups
 mod LeafTests
 mod Mending
 mod Nodes

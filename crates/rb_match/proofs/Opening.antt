@@ -32,14 +32,15 @@ use Rattle.rb_fragment.proofs.Holds.{AllBelow-more, slots_at-kept}
 use Rattle.rb_fragment.proofs.Patching.{AreAllHoles, adds_closed, closed_hole, closed_length, closed_slots, hole_within}
 use Rattle.rb_fragment.specs.WordReads.{MakesAll}
 use Rattle.rb_rel.proofs.Represented.{opened}
-use Rattle.rb_fetch.specs.Finding.{FindsLeaf, IsPlanOf, leaf_count, leaves_within}
+use Rattle.rb_fetch.specs.Finding.{FindsGroup, IsPlanOf, leaf_count, leaves_within}
+use Rattle.rb_fetch.specs.Pruning.{group_at, group_or_none}
 use Rattle.rb_match.specs.declared.knowledge.Known.{Known}
 use Rattle.rb_match.specs.declared.knowledge.Known.TheVariants as K
 use Rattle.rb_match.specs.declared.knowledge.Spot.{Spot}
 use Rattle.rb_match.specs.declared.knowledge.Edge.{Edge}
 use Rattle.rb_match.specs.Bounding.{choosing_look, rebuilding}
 use Rattle.rb_match.specs.inner.Knowing.{AreKnown, IsEdge, IsKnown, seen}
-use Rattle.rb_match.specs.inner.Asking.{AreSpots, LeavesBy, StandOpen, edge_at, holes_of, take_link}
+use Rattle.rb_match.specs.inner.Asking.{AreGroups, AreSpots, IsItself, LeavesBy, StandOpen, group_for, edge_at, holes_of, take_link}
 use Rattle.rb_match.specs.inner.Clauses.{way_holes}
 use Rattle.rb_match.specs.inner.Opening.{AsksDeep, CanOpen, LeadsAll, StandsWays, StepsWay, WaysStand, pending}
 use Rattle.rb_match.specs.inner.Saving.{IsThereWith, Knows, SavesFields}
@@ -47,6 +48,7 @@ use Rattle.rb_match.proofs.ClauseForms.{way_from, way_in}
 use Rattle.rb_match.proofs.Edges.{all_holes_from, closable_from, hole_at, other-nat, same-nat, edge_append, edge_left, edge_open, edge_right, in_append, in_left, in_right, open_edge, patchable_from}
 use Rattle.rb_match.proofs.Following.{known-kept, snoc-at}
 use Rattle.rb_match.proofs.Landing.{IsLanded, closed_open}
+use Rattle.rb_match.proofs.LeafTests.{leaf_links}
 use Rattle.rb_target.proofs.Shapes.{jump_shape}
 use Rattle.rb_match.proofs.Nodes.{closed_grows, spots-more}
 use Rattle.rb_match.proofs.NumberTests.{Keeps-less}
@@ -376,9 +378,9 @@ ways_stand old found count holes are grows = record {
   one = λ e f j k p s. absurd (let z = j.1 in cc);
 }
 
-pub ways_lead : (agreed : LaidOut) (t : ℕ) (words : List ℕ) (spots : List Spot) (known : List Known) (position : List ℕ) (arms : List GraphArm) (other : Option ℕ) (old found : Sheet) (holes : List Hole) → FindsLeaf agreed t words old found holes
-    → LeadsAll agreed t words spots known position arms other 0 old holes found []
-ways_lead agreed t words spots known position arms other old found holes finds = λ plan n of are low count.
+pub ways_lead : (agreed : LaidOut) (t : ℕ) (words : List ℕ) (spots : List Spot) (known : List Known) (position : List ℕ) (arms : List GraphArm) (other : Option ℕ) (old found : Sheet) (groups : List (Option ℕ)) (holes : List Hole) → FindsGroup agreed t groups words old found holes
+    → AreGroups (IsItself agreed t arms other) (leaf_count agreed t) groups → LeadsAll agreed t words spots known position arms other 0 old holes found []
+ways_lead agreed t words spots known position arms other old found groups holes finds here = λ plan n of are low count.
     let f = finds plan of low count in
     record {
       adds = f.adds;
@@ -386,9 +388,18 @@ ways_lead agreed t words spots known position arms other old found holes finds =
           let fin1 : Finishes final found.code holes (length old.code) (length found.code) = λ q l h. agrees-sub final found.code found.code holes (pending 0 holes ++ []) q refl (λ arm o. elim (in_append (pending 0 holes) [] o.0 o.1) [
             | inl j ↦ (o.0, (pending_from 0 holes o.0 j).0, o.2, o.3)
             | inr j ↦ absurd (let z = j.1 in cc)
-          ]) (fin q l h) in (
+          ]) (fin q l h) in
+          let b = (opened plan.program.types plan.layouts w.memory clean there.0.1).made in
+          let same : b.layout ≡ layout = same_Some b.layout layout (sym b.is_layout ∙ is_layout) in
+          let number : b.number ≡ leaf = same_Some b.number leaf (sym b.is_leaf ∙ ap (λ (l : Layout). leaf_of l part) same ∙ is_leaf) in
+          let within = slice_get_within b.layout.leaves b.number b.leaf b.is_number in
+          let leaves : leaf_count agreed t ≡ length b.layout.leaves = ap leaves_within (sym (ap (λ ls. layout_of ls t) of.layouts) ∙ b.is_layout) in
+          let its = here.each leaf (omega (arith, within, leaves, number)) in
+          let goes = sym (leaf_links agreed t leaf its.2.con arms other its.2.is_con plan of layout part is_layout is_leaf) ∙ takes in
+          let group : group_at groups leaf ≡ Some leaf = ap group_or_none its.1 ∙ its.2.is_group ∙ ap (group_for (leaf_count agreed t) true leaf) goes in (
             λ lt. absurd (omega (arith, lt)),
-            λ le. f.leaves final callee next law fin1 s w leaf long there.0.0 (record { layout = layout; is_layout = is_layout; clean = clean; value = part; represents = there.0.1; is_leaf = is_leaf }),
+            λ le. f.leaves final callee next law fin1 s w leaf long there.0.0
+                (record { leaf = leaf; is_group = group; has_leaf = record { layout = layout; is_layout = is_layout; clean = clean; value = part; represents = there.0.1; is_leaf = is_leaf } }),
           );
     }
 

@@ -1,21 +1,21 @@
 //! Code of one test: from the words of a value to the edges of its arms.
 
-ghost use Rattle.std.specs.Prelude.{◌≡◌, ◌∷◌, ◌++◌, ◌<◌, ◌^◌, [], IfOk, OnOk, true, slice_get};
+ghost use Rattle.std.specs.Prelude.{◌≡◌, ◌∷◌, ◌++◌, ◌<◌, ◌^◌, [], IfOk, OnOk, true, is_some, slice_get};
 ghost use Rattle.rb_core.specs.declared.value.Value.TheOpen as Layers;
 ghost use Rattle.rb_target.specs.Growth.{Grows};
 ghost use Rattle.rb_fetch.specs.Finding.{leaf_count};
-ghost use Rattle.rb_match.specs.declared.knowledge.Known.TheVariants.{Leaf};
-ghost use Rattle.rb_match.specs.inner.Asking.{number_arm, number_arms, is_number, are_numbers, open_else_of, is_test, carried, edge_at, edge_in, arm_edges, else_edges, leaf_con, take_link, edge_for, leaf_edges_of, has_con, have_cons, StandOpen, AsksNumber, AsksLeaf, Asks};
+ghost use Rattle.rb_match.specs.inner.Asking.{number_arm, number_arms, is_number, are_numbers, open_else_of, is_test, carried, edge_at, edge_in, arm_edges, else_edges, leaf_con, link_at, take_link, node_for, facts_for, IsGrouped, AreGroups, edge_for, leaf_edges_of, StandOpen, AsksNumber, AsksLeaf, Asks};
 
 use crate::deep::ask_deep;
 use crate::knowledge::{Edge, Known, Spot, copy_known, with_known};
 use crate::place::{is_looked_at, place_of};
-use crate::spots::{Whole, has_spot_below};
+use crate::spots::{Whole, has_spot_below, is_within};
 use rb_core::pattern::Pat;
 use rb_core::seq::Seq;
 use rb_core::types::Ty;
+use rb_decide::clause_matrix::number_of;
 use rb_decide::decision_graph::{GraphArm, GraphNode};
-use rb_fetch::look::find_leaf_of;
+use rb_fetch::look::find_group_of;
 use rb_fragment::make::make;
 use rb_fragment::reads::Read;
 use rb_layout::agreed::Agreed;
@@ -227,27 +227,154 @@ pub fn link_of(arms: &[GraphArm], other: Option<u32>, con: u32) -> Option<u32>
     other
 }
 
-// What an edge carries behind a look that found a leaf.
+/// The node to which a leaf leads; none where a value of it can't be here.
+///
+/// # Errors
+///
+/// Want of memory.
+pub fn leaf_link(
+    agreed: &Agreed,
+    ty: u32,
+    leaf: usize,
+    arms: &[GraphArm],
+    other: Option<u32>,
+) -> Result<Option<u32>, AllocError>
+    ensures link { IfOk result (λ link. link ≡ link_at arms.now other (leaf_con agreed.now ty leaf)) }
+    ensures con { IfOk result (λ link. is_some (leaf_con agreed.now ty leaf) ≡ true) }
+{
+    let Some(con) = con_of(agreed, ty, leaf) else {
+        return Err(AllocError);
+    };
+    Ok(link_of(arms, other, con))
+}
+
+// Whether some of these nodes is marked.
+fn some_marked(marks: &[bool], arms: &[GraphArm], other: Option<u32>) -> bool {
+    if let Some(node) = other
+        && let Some(true) = marks.get(node as usize)
+    {
+        return true;
+    }
+    arms.iter()
+        .any(|arm| matches!(marks.get(arm.under as usize), Some(true)))
+}
+
+// For each node whether a test below a position can be met from it on: such a test reads from the part there, so it
+// needs the part's leaf. Links go to lower nodes.
+fn mark_tested_below(
+    alloc: Global,
+    nodes: &[GraphNode],
+    position: &[u32],
+) -> Result<Seq<bool>, AllocError> {
+    let mut marks = Seq::new(alloc);
+    let mut is_met = false;
+    for node in nodes {
+        let mark = match node {
+            GraphNode::Clause(_) => false,
+            GraphNode::Test(tested, arms, other) => {
+                let tested = tested.as_slice();
+                let is_below = tested.len() > position.len() && is_within(tested, position);
+                is_below || (is_met && some_marked(marks.as_slice(), arms.as_slice(), *other))
+            }
+        };
+        is_met = is_met || mark;
+        marks.push(mark)?;
+    }
+    Ok(marks)
+}
+
+// The group of a leaf: a leaf is one by itself where a test below needs it.
+fn group_of(
+    agreed: &Agreed,
+    ty: u32,
+    leaf: usize,
+    marks: &[bool],
+    arms: &[GraphArm],
+    other: Option<u32>,
+) -> Result<Option<u32>, AllocError>
+    ensures { IfOk result (λ group. IsGrouped agreed.now ty arms.now other leaf group) }
+{
+    match leaf_link(agreed, ty, leaf, arms, other)? {
+        None => Ok(None),
+        Some(node) => {
+            if let Some(true) = marks.get(node as usize) {
+                return Ok(Some(number_of(leaf)?));
+            }
+            match count_leaves(agreed, ty).checked_add(node as usize) {
+                None => Err(AllocError),
+                Some(group) => Ok(Some(number_of(group)?)),
+            }
+        }
+    }
+}
+
+// The groups of the leaves of a type.
+fn groups_of(
+    alloc: Global,
+    agreed: &Agreed,
+    nodes: &[GraphNode],
+    ty: u32,
+    position: &[u32],
+    arms: &[GraphArm],
+    other: Option<u32>,
+) -> Result<Seq<Option<u32>>, AllocError>
+    ensures { IfOk result (λ groups. AreGroups (IsGrouped agreed.now ty arms.now other) (leaf_count agreed.now ty)
+        groups) }
+{
+    let marks = mark_tested_below(alloc, nodes, position)?;
+    let mut groups = Seq::new(alloc);
+    for leaf in 0..count_leaves(agreed, ty) {
+        groups.push(group_of(agreed, ty, leaf, marks.as_slice(), arms, other)?)?;
+    }
+    Ok(groups)
+}
+
+// The node to which the leaves of a group lead.
+fn node_of(
+    agreed: &Agreed,
+    ty: u32,
+    group: usize,
+    arms: &[GraphArm],
+    other: Option<u32>,
+) -> Result<Option<u32>, AllocError>
+    ensures { IfOk result (λ node. node ≡ node_for agreed.now ty arms.now other group) }
+{
+    let count = count_leaves(agreed, ty);
+    if group < count {
+        let link = leaf_link(agreed, ty, group, arms, other)?;
+        return Ok(link);
+    }
+    let node = number_of(group - count)?;
+    Ok(Some(node))
+}
+
+// What an edge to a node carries behind a look that found a group.
 fn known_within<'a>(
     alloc: Global,
+    agreed: &Agreed,
     nodes: &[GraphNode],
     node: u32,
     known: &[Known<'a>],
     position: &'a [u32],
     ty: u32,
-    leaf: usize,
+    group: usize,
 ) -> Result<Seq<Known<'a>>, AllocError>
-    ensures { IfOk result (λ k. k ≡ carried nodes.now node (known.now ++ Leaf position.entry ty leaf ∷ [])) }
+    ensures { IfOk result
+        (λ k. k ≡ carried nodes.now node (facts_for agreed.now ty position.entry known.now group)) }
 {
-    if is_test_at(nodes, node) {
-        let more = with_known(alloc, known, position, ty, leaf)?;
+    if !is_test_at(nodes, node) {
+        return Ok(Seq::new(alloc));
+    }
+    if group < count_leaves(agreed, ty) {
+        let more = with_known(alloc, known, position, ty, group)?;
         Ok(more)
     } else {
-        Ok(Seq::new(alloc))
+        let same = copy_known(alloc, known)?;
+        Ok(same)
     }
 }
 
-// The edge of a leaf; a leaf of a constructor that can't be here has none.
+// The edge of a group.
 fn leaf_edge<'a>(
     alloc: Global,
     agreed: &Agreed,
@@ -259,17 +386,13 @@ fn leaf_edge<'a>(
     arms: &[GraphArm],
     other: Option<u32>,
 ) -> Result<Option<Edge<'a>>, AllocError>
-    ensures edge { IfOk result
+    ensures { IfOk result
         (λ e. e ≡ edge_for agreed.now nodes.now ty position.entry known.now arms.now other hole.now) }
-    ensures con { IfOk result (λ e. has_con agreed.now ty hole.now ≡ true) }
 {
-    let Some(con) = con_of(agreed, ty, hole.leaf) else {
-        return Err(AllocError);
-    };
-    let Some(node) = link_of(arms, other, con) else {
+    let Some(node) = node_of(agreed, ty, hole.leaf, arms, other)? else {
         return Ok(None);
     };
-    let known = known_within(alloc, nodes, node, known, position, ty, hole.leaf)?;
+    let known = known_within(alloc, agreed, nodes, node, known, position, ty, hole.leaf)?;
     Ok(Some(Edge {
         hole: Hole {
             pc: hole.pc,
@@ -280,7 +403,7 @@ fn leaf_edge<'a>(
     }))
 }
 
-// The edges of leaves.
+// The edges of groups.
 fn edges_of_leaves<'a>(
     alloc: Global,
     agreed: &Agreed,
@@ -292,9 +415,8 @@ fn edges_of_leaves<'a>(
     arms: &[GraphArm],
     other: Option<u32>,
 ) -> Result<Seq<Edge<'a>>, AllocError>
-    ensures edges { IfOk result (λ edges. edges
+    ensures { IfOk result (λ edges. edges
         ≡ leaf_edges_of agreed.now nodes.now ty position.now known.now arms.now other holes.now) }
-    ensures cons { IfOk result (λ edges. have_cons agreed.now ty holes.now ≡ true) }
 {
     let mut edges = Seq::new(alloc);
     for hole in holes {
@@ -307,7 +429,7 @@ fn edges_of_leaves<'a>(
     Ok(edges)
 }
 
-// The leaf of the value there decides.
+// The leaf of the value there decides. Leaves that lead to one node are told apart only where tests need it.
 fn ask_leaf<'a>(
     alloc: Global,
     body: &mut Body,
@@ -325,7 +447,8 @@ fn ask_leaf<'a>(
     ensures stand { IfOk result (λ edges. StandOpen body.old body.new edges) }
     ensures grows { OnOk result (Grows body.old.code body.new.code) }
 {
-    let holes = find_leaf_of(alloc, body, reads, agreed, ty)?;
+    let groups = groups_of(alloc, agreed, nodes, ty, position, arms, other)?;
+    let holes = find_group_of(alloc, body, reads, agreed, ty, groups.as_slice())?;
     let edges = edges_of_leaves(
         alloc,
         agreed,

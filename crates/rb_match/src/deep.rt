@@ -5,10 +5,11 @@ ghost use Rattle.std.specs.Prelude.{◌≡◌, ◌∷◌, ◌++◌, [], IfOk, On
 ghost use Rattle.rb_target.specs.Growth.{Grows};
 ghost use Rattle.rb_fragment.specs.Arms.{closed};
 ghost use Rattle.rb_match.specs.inner.Clauses.{way_holes};
-ghost use Rattle.rb_match.specs.inner.Asking.{StandOpen};
+ghost use Rattle.rb_fetch.specs.Finding.{leaf_count};
+ghost use Rattle.rb_match.specs.inner.Asking.{AreGroups, IsItself, StandOpen};
 ghost use Rattle.rb_match.specs.inner.Opening.{AsksDeep, CanOpen, LeadsWays, StandsWays, StepsWay};
 
-use crate::asking::{con_of, count_leaves, edge, link_of};
+use crate::asking::{con_of, count_leaves, edge, leaf_link, link_of};
 use crate::clauses::holes_of;
 use crate::knowledge::{Edge, Known, Spot, with_known};
 use crate::place::fields_of;
@@ -17,8 +18,9 @@ use crate::spots::{Whole, wanted_fields};
 use crate::threading::node_onward;
 use rb_core::seq::Seq;
 use rb_core::types::ConRef;
+use rb_decide::clause_matrix::number_of;
 use rb_decide::decision_graph::GraphArm;
-use rb_fetch::look::find_leaf;
+use rb_fetch::look::find_group;
 use rb_fragment::make::make_all;
 use rb_fragment::patch::patch_all;
 use rb_fragment::reads::Read;
@@ -106,6 +108,40 @@ fn open_way<'a>(
     Ok(edges)
 }
 
+// The group of a leaf that can be here.
+fn itself(
+    agreed: &Agreed,
+    ty: u32,
+    leaf: usize,
+    arms: &[GraphArm],
+    other: Option<u32>,
+) -> Result<Option<u32>, AllocError>
+    ensures { IfOk result (λ group. IsItself agreed.now ty arms.now other leaf group) }
+{
+    match leaf_link(agreed, ty, leaf, arms, other)? {
+        None => Ok(None),
+        Some(_) => Ok(Some(number_of(leaf)?)),
+    }
+}
+
+// Each leaf that can be here is a group by itself.
+fn leaves_here(
+    alloc: Global,
+    agreed: &Agreed,
+    ty: u32,
+    arms: &[GraphArm],
+    other: Option<u32>,
+) -> Result<Seq<Option<u32>>, AllocError>
+    ensures { IfOk result (λ groups. AreGroups (IsItself agreed.now ty arms.now other) (leaf_count agreed.now ty)
+        groups) }
+{
+    let mut groups = Seq::new(alloc);
+    for leaf in 0..count_leaves(agreed, ty) {
+        groups.push(itself(agreed, ty, leaf, arms, other)?)?;
+    }
+    Ok(groups)
+}
+
 // The ways of all leaves, from the slots of the part's words.
 fn open_ways<'a>(
     alloc: Global,
@@ -125,7 +161,8 @@ fn open_ways<'a>(
     ensures stands { IfOk result (λ edges. StandsWays body.old body.new edges) }
     ensures grows { OnOk result (Grows body.old.code body.new.code) }
 {
-    let holes = find_leaf(alloc, body, words, agreed, ty)?;
+    let groups = leaves_here(alloc, agreed, ty, arms, other)?;
+    let holes = find_group(alloc, body, words, agreed, ty, groups.as_slice())?;
     let holes = holes.as_slice();
     let mut edges = Seq::new(alloc);
     for leaf in 0..count_leaves(agreed, ty) {

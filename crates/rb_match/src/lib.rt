@@ -19,6 +19,10 @@
 //! there, and its test is emitted: so the second field is read from the same slots. A number is tested by
 //! one switch over all literals of its column.
 //!
+//! A look tells leaves apart only where it has to (`find_group_of` of `rb_fetch`): leaves of constructors that can't be
+//! here are left out, and leaves that lead to one node go by one edge, unless a test below the position can be met
+//! from there on, which reads from the part and so needs its leaf. Such an edge of several leaves knows none of them.
+//!
 //! Why that is right is one invariant: a run leaves by an edge whose node takes of the value what the root
 //! takes, what the edge knows is so, and the switches so far are those of looks at distinct places, at
 //! which some clause has a number or a constructor. So a match costs at most the sum of its places.

@@ -1,6 +1,6 @@
 -- The code of one test.
 use denote.Ref.{Bor}
-use Rattle.std.specs.Prelude.{◌≡◌, ℕ, ◌+◌, ◌≤◌, ◌^◌, List, [], ◌∷◌, ◌++◌, map, length, Bool, true, false, ◌&&◌, nat_lt, is_some, Option, Some, None, slice_get, if◌then◌else◌}
+use Rattle.std.specs.Prelude.{◌≡◌, ℕ, ◌+◌, ◌-◌, ◌<◌, ◌≤◌, ◌^◌, List, [], ◌∷◌, ◌++◌, map, length, Bool, true, false, ◌&&◌, nat_lt, Option, Some, None, slice_get, if◌then◌else◌}
 use Rattle.rb_core.specs.declared.value.Value.{Value, out-Value}
 use Rattle.rb_core.specs.declared.value.Value.TheOpen as V
 use Rattle.rb_core.specs.declared.value.Value.TheOpen.{Value-F}
@@ -35,7 +35,7 @@ use Rattle.rb_fragment.specs.Adding.{Adds}
 use Rattle.rb_fragment.specs.Pieces.{IsLater}
 use Rattle.rb_fragment.specs.Slots.{AllFrom, AreApart, IsDistinct}
 use Rattle.rb_fragment.specs.WordReads.{AreMeant, AllFit}
-use Rattle.rb_fetch.specs.Finding.{IsPlanOf}
+use Rattle.rb_fetch.specs.Finding.{IsPlanOf, leaf_count}
 use Rattle.rb_match.specs.declared.knowledge.Known.{Known}
 use Rattle.rb_match.specs.declared.knowledge.Known.TheVariants as K
 use Rattle.rb_match.specs.declared.knowledge.Spot.{Spot}
@@ -125,14 +125,47 @@ abbrev pub link_at : List GraphArm → Option ℕ → Option ℕ → Option ℕ
 link_at arms other None = None
 link_at arms other (Some c) = take_link arms other (V.Con c [])
 
-abbrev pub edge_to : List GraphNode → Hole → Bor (List ℕ) → ℕ → List Known → Option ℕ → Option Edge
-edge_to nodes h position t known None = None
-edge_to nodes h position t known (Some node) =
-    Some (edge_in nodes h.pc h.arm node (known ++ K.Leaf position t h.leaf ∷ []))
+-- Leaves are told apart by groups: a leaf that is a group by itself has its own number, and the group of all others that
+-- lead to a node has the node's number behind those of the leaves.
+abbrev pub group_for : ℕ → Bool → ℕ → Option ℕ → Option ℕ
+group_for count itself leaf None = None
+group_for count itself leaf (Some node) = Some (if itself then leaf else count + node)
+
+-- the node to which the leaves of a group lead
+abbrev pub node_for : LaidOut → ℕ → List GraphArm → Option ℕ → ℕ → Option ℕ
+node_for agreed t arms other group =
+    if nat_lt group (leaf_count agreed t) then link_at arms other (leaf_con agreed t group) else Some (group - leaf_count agreed t)
+
+-- and what is known of them: the leaf where it is a group by itself
+abbrev pub facts_for : LaidOut → ℕ → Bor (List ℕ) → List Known → ℕ → List Known
+facts_for agreed t position known group =
+    if nat_lt group (leaf_count agreed t) then known ++ K.Leaf position t group ∷ [] else known
+
+-- a leaf that leads to a node has one of its two groups, and one that can't be here has none
+pub record IsGrouped (agreed : LaidOut) (t : ℕ) (arms : List GraphArm) (other : Option ℕ) (leaf : ℕ) (group : Option ℕ) : Type 0 where
+  pub con : ℕ
+  pub is_con : leaf_con agreed t leaf ≡ Some con
+  pub itself : Bool
+  pub is_group : group ≡ group_for (leaf_count agreed t) itself leaf (take_link arms other (V.Con con []))
+
+-- the same where each leaf is a group by itself
+pub record IsItself (agreed : LaidOut) (t : ℕ) (arms : List GraphArm) (other : Option ℕ) (leaf : ℕ) (group : Option ℕ) : Type 0 where
+  pub con : ℕ
+  pub is_con : leaf_con agreed t leaf ≡ Some con
+  pub is_group : group ≡ group_for (leaf_count agreed t) true leaf (take_link arms other (V.Con con []))
+
+-- a list of so many groups, each of its leaf
+pub record AreGroups (IsGroup : ℕ → Option ℕ → Type 0) (count : ℕ) (groups : List (Option ℕ)) : Type 0 where
+  pub long : length groups ≡ count
+  pub each : (leaf : ℕ) → leaf < count → (group : Option ℕ) × (slice_get groups leaf ≡ Some group) × IsGroup leaf group
+
+abbrev pub edge_to : List GraphNode → Hole → List Known → Option ℕ → Option Edge
+edge_to nodes h facts None = None
+edge_to nodes h facts (Some node) = Some (edge_in nodes h.pc h.arm node facts)
 
 abbrev pub edge_for : LaidOut → List GraphNode → ℕ → Bor (List ℕ) → List Known → List GraphArm → Option ℕ → Hole → Option Edge
 edge_for agreed nodes t position known arms other h =
-    edge_to nodes h position t known (link_at arms other (leaf_con agreed t h.leaf))
+    edge_to nodes h (facts_for agreed t position known h.leaf) (node_for agreed t arms other h.leaf)
 
 abbrev pub keep_edge : Option Edge → List Edge → List Edge
 keep_edge None es = es
@@ -142,13 +175,6 @@ abbrev pub leaf_edges_of : LaidOut → List GraphNode → ℕ → Bor (List ℕ)
 leaf_edges_of agreed nodes t position known arms other [] = []
 leaf_edges_of agreed nodes t position known arms other (h ∷ hs) =
     keep_edge (edge_for agreed nodes t position known arms other h) (leaf_edges_of agreed nodes t position known arms other hs)
-
-abbrev pub has_con : LaidOut → ℕ → Hole → Bool
-has_con agreed t h = is_some (leaf_con agreed t h.leaf)
-
-abbrev pub have_cons : LaidOut → ℕ → List Hole → Bool
-have_cons agreed t [] = true
-have_cons agreed t (h ∷ hs) = has_con agreed t h && have_cons agreed t hs
 
 -- Edges -----------------------------------------------------------------------------------------
 

@@ -1,9 +1,7 @@
 use Rattle.std.proofs.Common.{◌≡◌, ◌++◌, drop}
-use Rattle.rb_match.specs.inner.Asking.{leaf_edges_of, have_cons}
+use Rattle.rb_match.specs.inner.Asking.{leaf_edges_of}
 use Rattle.rb_match.proofs.asking.edges_of_leaves.Given as goal
 
 abbrev pub invariant-loop-hole : goal.invariant-loop-hole
-invariant-loop-hole l = record {
-  edges : l.edges ++ leaf_edges_of l.agreed l.nodes l.ty l.position l.known l.arms l.other (drop l.hole-index l.holes) ≡ leaf_edges_of l.agreed l.nodes l.ty l.position l.known l.arms l.other l.holes;
-  cons : have_cons l.agreed l.ty (drop l.hole-index l.holes) ≡ have_cons l.agreed l.ty l.holes;
-}
+invariant-loop-hole l =
+    l.edges ++ leaf_edges_of l.agreed l.nodes l.ty l.position l.known l.arms l.other (drop l.hole-index l.holes) ≡ leaf_edges_of l.agreed l.nodes l.ty l.position l.known l.arms l.other l.holes

@@ -1,16 +1,24 @@
 use Rattle.std.proofs.Common.{length, ◌≡◌, subst, arith}
 use Rattle.rb_fetch.specs.Finding.{leaf_count}
 use Rattle.rb_match.specs.inner.Opening.{LeadsAll}
+use Rattle.rb_match.proofs.Groups.{above}
 use Rattle.rb_match.proofs.Opening.{ways_lead, ways_stand}
 use Rattle.rb_match.proofs.deep.open_ways.Goals as goal
 
 pub loop-leaf-init : goal.loop-leaf-init
 loop-leaf-init c =
-    let found = c.find_leaf.new.body in
+    let found = c.find_group.new.body in
     let holes = c.in_ok-holes.holes in
+    let groups = c.in_ok-groups.groups in
+    let bound = above groups in
     rw (c.new-edges.ensures, c.as_slice-holes.ensures) (record {
-      leads = ways_lead c.args.agreed.now c.args.ty c.args.words.now c.args.spots.now c.args.known.now c.args.position.now.now c.args.arms.now c.args.other c.args.body.now found holes c.in_ok-holes.ensures.leaf;
-      stands = (length found.code, c.in_ok-holes.ensures.grows.longer, ways_stand c.args.body.now found _ holes c.in_ok-holes.ensures.holes c.in_ok-holes.ensures.grows);
+      leads = ways_lead c.args.agreed.now c.args.ty c.args.words.now c.args.spots.now c.args.known.now c.args.position.now.now c.args.arms.now c.args.other c.args.body.now found groups holes
+          (rw c.as_slice.ensures at c.in_ok-holes.ensures.group) c.in_ok-groups.ensures;
+      stands = (
+        length found.code,
+        c.in_ok-holes.ensures.grows.longer,
+        ways_stand c.args.body.now found bound.0 holes ((rw c.as_slice.ensures at c.in_ok-holes.ensures.holes) bound.0 bound.1) c.in_ok-holes.ensures.grows,
+      );
     })
 
 pub loop-leaf-preserved : goal.loop-leaf-preserved
