@@ -218,34 +218,39 @@ fn missing_number(alloc: Global, bits: u8, pats: &[Pat]) -> Result<Option<u64>, 
     }
 }
 
+// What is missing among the patterns of these texts; nothing where no type has this number.
+fn missing_of(alloc: Global, ty: u32, texts: &[&[u8]]) -> Result<Vec<u8>, AllocError> {
+    let pats = patterns(alloc, texts)?;
+    if ty < 4 {
+        missing(alloc, ty, pats.as_slice())
+    } else {
+        Ok(Vec::new(alloc))
+    }
+}
+
+// type, patterns, what is missing
+const MISSING: &[(u32, &[&[u8]], &[u8])] = &[
+    (0, &[b"R", b"G"], b"B"),
+    (0, &[b"R", b"G", b"B"], b""),
+    (0, &[b"B", b"x"], b""),
+    (0, &[], b"_"),
+    (1, &[b"N___"], b"L"),
+    (1, &[b"L", b"NLxL"], b"NN_____"),
+    (
+        2,
+        &[b"PR_", b"P_L", b"P_N_G_", b"P_N_B_", b"P_NLR_"],
+        b"PGNN___R_",
+    ),
+    (2, &[b"PR_", b"PG_", b"PBL", b"PBNxxx"], b""),
+    (3, &[b"S0_____", b"S_0____", b"S1_1___"], b"S110___"),
+    (3, &[b"S0_____", b"S1____x"], b""),
+];
+
 #[test]
 fn what_is_missing(rt: HostRuntime) -> Result<(), Fail> {
-    let alloc = rt.alloc();
-    // type, patterns, what is missing
-    let cases: [(u32, &[&[u8]], &[u8]); 10] = [
-        (0, &[b"R", b"G"], b"B"),
-        (0, &[b"R", b"G", b"B"], b""),
-        (0, &[b"B", b"x"], b""),
-        (0, &[], b"_"),
-        (1, &[b"N___"], b"L"),
-        (1, &[b"L", b"NLxL"], b"NN_____"),
-        (
-            2,
-            &[b"PR_", b"P_L", b"P_N_G_", b"P_N_B_", b"P_NLR_"],
-            b"PGNN___R_",
-        ),
-        (2, &[b"PR_", b"PG_", b"PBL", b"PBNxxx"], b""),
-        (3, &[b"S0_____", b"S_0____", b"S1_1___"], b"S110___"),
-        (3, &[b"S0_____", b"S1____x"], b""),
-    ];
-    for (ty, texts, want) in cases {
-        let pats = patterns(alloc, texts)?;
-        if ty < 4 {
-            assert!(rt;
-                missing(alloc, ty, pats.as_slice())?.as_slice() == want,
-                "at {want:?}"
-            );
-        }
+    for &(ty, texts, want) in MISSING {
+        let found = missing_of(rt.alloc(), ty, texts)?;
+        assert!(rt; found.as_slice() == want, "at {want:?}");
     }
     Ok(())
 }
@@ -259,71 +264,95 @@ fn literals(alloc: Global, count: u64) -> Result<Vec<Pat>, AllocError> {
     Ok(pats)
 }
 
+// width, how many literals, the least that is missing
+const NUMBERS: &[(u8, u64, Option<u64>)] = &[
+    (8, 255, Some(255)),
+    (8, 256, None),
+    (9, 256, Some(256)),
+    (1, 1, Some(1)),
+    (1, 2, None),
+    (64, 3, Some(3)),
+];
+
+// The least number that is missing among the first literals; None where no type has this width, too.
+fn missing_after(alloc: Global, bits: u8, count: u64) -> Result<Option<u64>, AllocError> {
+    let pats = literals(alloc, count)?;
+    if 1 <= bits && bits <= 64 {
+        missing_number(alloc, bits, pats.as_slice())
+    } else {
+        Ok(None)
+    }
+}
+
 #[test]
 fn numbers_of_all_widths(rt: HostRuntime) -> Result<(), Fail> {
-    // width, how many literals, the least that is missing
-    for (bits, count, want) in [
-        (8, 255, Some(255)),
-        (8, 256, None),
-        (9, 256, Some(256)),
-        (1, 1, Some(1)),
-        (1, 2, None),
-        (64, 3, Some(3)),
-    ] {
-        let pats = literals(rt.alloc(), count)?;
-        let found = missing_number(rt.alloc(), bits, pats.as_slice())?;
+    for &(bits, count, want) in NUMBERS {
+        let found = missing_after(rt.alloc(), bits, count)?;
         assert!(rt; found == want, "at {bits}");
     }
     Ok(())
 }
 
+// Which of the patterns of these texts no value reaches; none where no type has this number.
+fn never_reached_of(alloc: Global, ty: u32, texts: &[&[u8]]) -> Result<Vec<usize>, AllocError> {
+    let pats = patterns(alloc, texts)?;
+    if ty < 4 {
+        never_reached(alloc, ty, pats.as_slice())
+    } else {
+        Ok(Vec::new(alloc))
+    }
+}
+
+// type, patterns, those that are the first match of no value
+const UNREACHED: &[(u32, &[&[u8]], &[usize])] = &[
+    (0, &[b"_", b"R"], &[1]),
+    (0, &[b"R", b"R", b"G", b"B", b"x"], &[1, 4]),
+    (1, &[b"L", b"N___", b"NLRL"], &[2]),
+    (
+        2,
+        &[b"PR_", b"P_L", b"PRN___", b"P_N_R_", b"P__", b"_"],
+        &[2, 5],
+    ),
+    (2, &[b"PRL", b"PGL", b"PBL", b"P_L", b"P_N___"], &[3]),
+    (
+        3,
+        &[b"S0_____", b"S_0____", b"S00____", b"S11____", b"S1_____"],
+        &[2, 4],
+    ),
+];
+
 #[test]
 fn what_is_never_reached(rt: HostRuntime) -> Result<(), Fail> {
-    let alloc = rt.alloc();
-    // type, patterns, those that are the first match of no value
-    let cases: [(u32, &[&[u8]], &[usize]); 6] = [
-        (0, &[b"_", b"R"], &[1]),
-        (0, &[b"R", b"R", b"G", b"B", b"x"], &[1, 4]),
-        (1, &[b"L", b"N___", b"NLRL"], &[2]),
-        (
-            2,
-            &[b"PR_", b"P_L", b"PRN___", b"P_N_R_", b"P__", b"_"],
-            &[2, 5],
-        ),
-        (2, &[b"PRL", b"PGL", b"PBL", b"P_L", b"P_N___"], &[3]),
-        (
-            3,
-            &[b"S0_____", b"S_0____", b"S00____", b"S11____", b"S1_____"],
-            &[2, 4],
-        ),
-    ];
-    for (ty, texts, want) in cases {
-        let pats = patterns(alloc, texts)?;
-        if ty < 4 {
-            let found = never_reached(alloc, ty, pats.as_slice())?;
-            assert!(rt; found.as_slice() == want, "at {want:?}");
-        }
+    for &(ty, texts, want) in UNREACHED {
+        let found = never_reached_of(rt.alloc(), ty, texts)?;
+        assert!(rt; found.as_slice() == want, "at {want:?}");
     }
     Ok(())
 }
 
+// What the patterns of two texts share; nothing where no type has this number.
+fn shared_of(alloc: Global, ty: u32, one: &[u8], other: &[u8]) -> Result<Vec<u8>, AllocError> {
+    let pats = patterns(alloc, &[one, other])?;
+    match pats.as_slice() {
+        [one, other] if ty < 4 => shared(alloc, ty, one, other),
+        _ => Ok(Vec::new(alloc)),
+    }
+}
+
+// type, two patterns, what they share
+const SHARED: &[(u32, &[u8], &[u8], &[u8])] = &[
+    (0, b"R", b"x", b"R"),
+    (0, b"R", b"G", b""),
+    (2, b"PR_", b"P_L", b"PRL"),
+    (2, b"PR_", b"PG_", b""),
+    (2, b"P_NLR_", b"P_N_RNLBL", b"P_NLRNLBL"),
+];
+
 #[test]
 fn what_two_patterns_share(rt: HostRuntime) -> Result<(), Fail> {
-    let alloc = rt.alloc();
-    // type, two patterns, what they share
-    let cases: [(u32, &[u8], &[u8], &[u8]); 5] = [
-        (0, b"R", b"x", b"R"),
-        (0, b"R", b"G", b""),
-        (2, b"PR_", b"P_L", b"PRL"),
-        (2, b"PR_", b"PG_", b""),
-        (2, b"P_NLR_", b"P_N_RNLBL", b"P_NLRNLBL"),
-    ];
-    for (ty, one, other, want) in cases {
-        let pats = patterns(alloc, &[one, other])?;
-        if ty < 4 && pats.len() == 2 {
-            let found = shared(alloc, ty, &pats[0], &pats[1])?;
-            assert!(rt; found.as_slice() == want, "at {want:?}");
-        }
+    for &(ty, one, other, want) in SHARED {
+        let found = shared_of(rt.alloc(), ty, one, other)?;
+        assert!(rt; found.as_slice() == want, "at {want:?}");
     }
     Ok(())
 }
@@ -341,13 +370,23 @@ fn table(alloc: Global, count: u64) -> Result<Vec<Pat>, AllocError> {
     Ok(pats)
 }
 
+// What is missing among so many of them.
+fn missing_of_table(alloc: Global, count: u64) -> Result<Vec<u8>, AllocError> {
+    let pats = table(alloc, count)?;
+    missing(alloc, 3, pats.as_slice())
+}
+
+// Which of so many of them no value reaches.
+fn never_reached_of_table(alloc: Global, count: u64) -> Result<Vec<usize>, AllocError> {
+    let pats = table(alloc, count)?;
+    never_reached(alloc, 3, pats.as_slice())
+}
+
 #[test]
 fn forty_rows(rt: HostRuntime) -> Result<(), Fail> {
-    let pats = table(rt.alloc(), 40)?;
-    assert!(rt; missing(rt.alloc(), 3, pats.as_slice())?.as_slice() == b"S11____".as_slice());
-    assert!(rt; never_reached(rt.alloc(), 3, pats.as_slice())?.is_empty());
-    let pats = table(rt.alloc(), 64)?;
-    assert!(rt; missing(rt.alloc(), 3, pats.as_slice())?.is_empty());
+    assert!(rt; missing_of_table(rt.alloc(), 40)?.as_slice() == b"S11____".as_slice());
+    assert!(rt; never_reached_of_table(rt.alloc(), 40)?.is_empty());
+    assert!(rt; missing_of_table(rt.alloc(), 64)?.is_empty());
     Ok(())
 }
 
@@ -364,23 +403,33 @@ fn full_tree(alloc: Global, levels: u32) -> Result<Pat, AllocError> {
     Ok(tree)
 }
 
+// Whether a tree shares itself with itself.
+fn shares_itself(alloc: Global, tree: &Pat) -> Result<bool, AllocError> {
+    let want = text(alloc, tree)?;
+    let found = shared(alloc, 1, tree, tree)?;
+    Ok(found.as_slice() == want.as_slice())
+}
+
 #[test]
 fn a_thousand_nodes(rt: HostRuntime) -> Result<(), Fail> {
     let tree = full_tree(rt.alloc(), 9)?;
-    let want = text(rt.alloc(), &tree)?;
-    let found = shared(rt.alloc(), 1, &tree, &tree)?;
-    assert!(rt; found.as_slice() == want.as_slice());
+    assert!(rt; shares_itself(rt.alloc(), &tree)?);
     Ok(())
 }
 
-// The rows of a matrix as text, each behind a blank.
-fn rows_text(alloc: Global, matrix: &Matrix) -> Result<Vec<u8>, AllocError> {
+// Whether a matrix has so many columns, and these rows as text, each behind a blank.
+fn has_rows(
+    alloc: Global,
+    matrix: &Matrix,
+    columns: usize,
+    rows: &[u8],
+) -> Result<bool, AllocError> {
     let mut out = Vec::new(alloc);
     for row in matrix.rows.as_slice() {
         out.push(b' ')?;
         spell(&mut out, row.as_slice())?;
     }
-    Ok(out)
+    Ok(matrix.tys.len() == columns && out.as_slice() == rows)
 }
 
 // Rows of a tree and a colour.
@@ -405,14 +454,17 @@ fn at_nodes(alloc: Global) -> Result<Matrix, AllocError> {
     specialize(alloc, types.as_slice(), &matrix, &node)
 }
 
+fn at_others(alloc: Global) -> Result<Matrix, AllocError> {
+    let matrix = two_columns(alloc)?;
+    default_rows(alloc, &matrix)
+}
+
 #[test]
 fn one_column_less(rt: HostRuntime) -> Result<(), Fail> {
     let inner = at_nodes(rt.alloc())?;
-    assert_eq!(rt; inner.tys.len(), 4);
-    assert!(rt; rows_text(rt.alloc(), &inner)?.as_slice() == b" _RLR ___B ____".as_slice());
-    let rest = default_rows(rt.alloc(), &two_columns(rt.alloc())?)?;
-    assert_eq!(rt; rest.tys.len(), 1);
-    assert!(rt; rows_text(rt.alloc(), &rest)?.as_slice() == b" B _".as_slice());
+    assert!(rt; has_rows(rt.alloc(), &inner, 4, b" _RLR ___B ____")?);
+    let rest = at_others(rt.alloc())?;
+    assert!(rt; has_rows(rt.alloc(), &rest, 1, b" B _")?);
     Ok(())
 }
 
