@@ -8,18 +8,20 @@ use rb_values::read::read_value;
 use std::alloc::Global;
 use std::test::Fail;
 
+// a text, the limit, and what reading it gives
+const ORDER: &[(&[u8], u64, Found)] = &[
+    (b"Nil", 0, Found::TooLarge),
+    (b"Nil", 1, Found::Value),
+    (b"Cons(X, Y", 1, Found::Syntax(9)),
+    (b"Cons(X, Y)", 2, Found::TooLarge),
+    (b"Cons(X, Y)", 3, Found::Misfit(5)),
+];
+
 #[test]
 fn order_of_refusals(rt: HostRuntime) -> Result<(), Fail> {
-    let rows = [
-        (b"Nil".as_slice(), 0, Found::TooLarge),
-        (b"Nil", 1, Found::Value),
-        (b"Cons(X, Y", 1, Found::Syntax(9)),
-        (b"Cons(X, Y)", 2, Found::TooLarge),
-        (b"Cons(X, Y)", 3, Found::Misfit(5)),
-    ];
-    for (text, limit, wanted) in rows {
+    for &(text, limit, wanted) in ORDER {
         let found = outcome(rt.alloc(), LIST, text, limit, text)?;
-        assert_eq!(rt; found, wanted, "{text:?}");
+        assert!(rt; found == wanted, "{text:?}");
     }
     Ok(())
 }
@@ -37,28 +39,29 @@ fn list(alloc: Global, count: u64) -> Result<Vec<u8>, Fail> {
     Ok(text)
 }
 
+// What reading the list of half a million numbers, but for one, gives.
+fn half_a_million(alloc: Global, limit: u64) -> Result<Found, Fail> {
+    let text = list(alloc, 499_999)?;
+    outcome(alloc, LIST, text.as_slice(), limit, text.as_slice())
+}
+
 #[test]
 fn half_a_million_deep(rt: HostRuntime) -> Result<(), Fail> {
-    let text = list(rt.alloc(), 499_999)?;
-    let found = outcome(rt.alloc(), LIST, text.as_slice(), 999_999, text.as_slice())?;
-    assert_eq!(rt; found, Found::Value);
-    let found = outcome(rt.alloc(), LIST, text.as_slice(), 999_998, text.as_slice())?;
-    assert_eq!(rt; found, Found::TooLarge);
+    assert!(rt; half_a_million(rt.alloc(), 999_999)? == Found::Value);
+    assert!(rt; half_a_million(rt.alloc(), 999_998)? == Found::TooLarge);
     Ok(())
+}
+
+// How many nodes a value has that is read with this limit.
+fn nodes_of(alloc: Global, ty: Ty, text: &[u8], limit: u64) -> Result<u64, Fail> {
+    let types = types(alloc)?;
+    let value = read_value(alloc, types.as_slice(), ty, text, limit)?;
+    Ok(value.nodes())
 }
 
 #[test]
 fn nodes(rt: HostRuntime) -> Result<(), Fail> {
-    let types = types(rt.alloc())?;
-    let number = read_value(rt.alloc(), types.as_slice(), Ty::Int(8), b"7", 1)?;
-    assert_eq!(rt; number.nodes(), 1);
-    let value = read_value(
-        rt.alloc(),
-        types.as_slice(),
-        LIST,
-        b"Cons(1, Cons(2, Nil))",
-        5,
-    )?;
-    assert_eq!(rt; value.nodes(), 5);
+    assert!(rt; nodes_of(rt.alloc(), Ty::Int(8), b"7", 1)? == 1);
+    assert!(rt; nodes_of(rt.alloc(), LIST, b"Cons(1, Cons(2, Nil))", 5)? == 5);
     Ok(())
 }

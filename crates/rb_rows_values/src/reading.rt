@@ -13,7 +13,7 @@ use std::process::Abort;
 use std::test::Fail;
 
 /// What reading a text gives, places by their bytes.
-#[derive(Clone, Copy, PartialEq, Eq, Debug)]
+#[derive(Clone, Copy, PartialEq, Eq)]
 pub enum Found {
     Value,
     Syntax(usize),
@@ -60,7 +60,7 @@ fn expect(rt: &impl Abort, alloc: Global, ty: Ty, row: &[u8]) -> Result<(), Fail
         }
     }
     let found = outcome(alloc, ty, text.as_slice(), 1000, text.as_slice())?;
-    assert_eq!(rt; found, wanted, "{row:?}");
+    assert!(rt; found == wanted, "{row:?}");
     Ok(())
 }
 
