@@ -16,85 +16,129 @@ fn list<T: Copy>(alloc: Global, items: &[T]) -> Result<Seq<T>, AllocError> {
 }
 
 // Two files, and another under the name of the first.
+const FILES: &[(&[u8], &[u8])] = &[(b"a", b"first"), (b"b", b""), (b"a", b"second")];
+
 fn files(alloc: Global) -> Result<Seq<NamedBytes>, AllocError> {
     let mut files = Seq::new(alloc);
-    for (name, bytes) in [
-        (b"a".as_slice(), b"first".as_slice()),
-        (b"b".as_slice(), b"".as_slice()),
-        (b"a".as_slice(), b"second".as_slice()),
-    ] {
-        files.push(NamedBytes {
-            name: list(alloc, name)?,
-            bytes: list(alloc, bytes)?,
-        })?;
+    for &(name, bytes) in FILES {
+        let name = list(alloc, name)?;
+        let bytes = list(alloc, bytes)?;
+        files.push(NamedBytes { name, bytes })?;
     }
     Ok(files)
 }
 
+// Whether a name is `Cons2`.
+fn is_grown(name: &Name) -> bool {
+    name.as_slice() == b"Cons2".as_slice()
+        && (name.len(), name.get(4), name.get(5)) == (5, Some(&b'2'), None)
+}
+
+// Puts an `F` in the first place of a name of five, and gives what stood there.
+fn replaced(name: &mut Name) -> Option<u8> {
+    if name.len() == 5 {
+        Some(name.replace(0, b'F'))
+    } else {
+        None
+    }
+}
+
 #[test]
-fn lists_and_words(rt: HostRuntime) -> Result<(), Fail> {
+fn lists(rt: HostRuntime) -> Result<(), Fail> {
     let mut name: Name = list(rt.alloc(), b"Cons")?;
     name.push(b'2')?;
-    let copy = name.copy(rt.alloc())?;
-    assert_eq!(rt; copy.as_slice(), b"Cons2".as_slice());
-    assert_eq!(rt;
-        (copy.len(), copy.get(4), copy.get(5)),
-        (5, Some(&b'2'), None)
-    );
-    if name.len() == 5 {
-        assert_eq!(rt; name.replace(0, b'F'), b'C');
-    }
+    assert!(rt; is_grown(&name.copy(rt.alloc())?));
+    assert!(rt; replaced(&mut name) == Some(b'C'));
     assert_eq!(rt; name.as_slice(), b"Fons2".as_slice());
+    Ok(())
+}
 
+// Whether these are the words `run` and one without letters.
+fn are_run_and_nothing(words: &Words) -> bool {
+    words.len() == 2
+        && words.get(0) == Some(b"run".as_slice())
+        && words.get(1) == Some(b"".as_slice())
+        && words.get(2).is_none()
+}
+
+#[test]
+fn words(rt: HostRuntime) -> Result<(), Fail> {
     let mut words = Words::new(rt.alloc());
     words.push(b"run")?;
     words.push(b"")?;
-    assert_eq!(rt; words.len(), 2);
-    assert!(rt; words.get(0) == Some(b"run".as_slice()));
-    assert!(rt; words.get(1) == Some(b"".as_slice()));
-    assert!(rt; words.get(2).is_none());
+    assert!(rt; are_run_and_nothing(&words));
     Ok(())
 }
 
-#[test]
-fn a_source_in_memory(rt: HostRuntime) -> Result<(), Fail> {
-    // which calls fail, the name and the limit, the bytes that are read, and how many calls were made
-    let cases: [(&[u64], &[u8], usize, Result<&[u8], ReadFault>); 8] = [
-        (&[], b"a", 10, Ok(b"first")),
-        (&[], b"a", 5, Ok(b"first")),
-        (&[], b"a", 2, Ok(b"fir")),
-        (&[], b"a", 0, Ok(b"f")),
-        (&[], b"b", 10, Ok(b"")),
-        (&[], b"c", 10, Err(ReadFault::Failed)),
-        (&[0], b"a", 10, Err(ReadFault::Failed)),
-        (&[4], b"a", 10, Err(ReadFault::Failed)),
-    ];
-    for (fail, name, limit, want) in cases {
-        let mut source = MemSource::new(files(rt.alloc())?, 2, list(rt.alloc(), fail)?);
-        match (read_whole(rt.alloc(), &mut source, name, limit), want) {
-            (Ok(bytes), Ok(want)) => assert_eq!(rt; bytes.as_slice(), want),
-            (Err(fault), Err(want)) => assert!(rt; fault == want),
-            _ => panic!(rt; "at {limit}"),
-        }
+// Whether these bytes were read, or reading failed so.
+fn is_read(found: &Result<Seq<u8>, ReadFault>, want: Result<&[u8], ReadFault>) -> bool {
+    match (found, want) {
+        (Ok(bytes), Ok(want)) => bytes.as_slice() == want,
+        (Err(fault), Err(want)) => *fault == want,
+        (Ok(_), Err(_)) => false,
+        (Err(_), Ok(_)) => false,
     }
-    Ok(())
 }
+
+// Reads a file of the three, two bytes a call, where the calls with these numbers fail.
+fn read_of_three(
+    alloc: Global,
+    fail: &[u64],
+    name: &[u8],
+    limit: u16,
+) -> Result<Seq<u8>, ReadFault> {
+    let files = files(alloc)?;
+    let mut source = MemSource::new(files, 2, list(alloc, fail)?);
+    read_whole(alloc, &mut source, name, usize::from(limit))
+}
+
+// which calls fail, the name and the limit, and the bytes that are read
+const READS: &[(&[u64], &[u8], u16, Result<&[u8], ReadFault>)] = &[
+    (&[], b"a", 10, Ok(b"first")),
+    (&[], b"a", 5, Ok(b"first")),
+    (&[], b"a", 2, Ok(b"fir")),
+    (&[], b"a", 0, Ok(b"f")),
+    (&[], b"b", 10, Ok(b"")),
+    (&[], b"c", 10, Err(ReadFault::Failed)),
+    (&[0], b"a", 10, Err(ReadFault::Failed)),
+    (&[4], b"a", 10, Err(ReadFault::Failed)),
+];
+
+#[test]
+fn a_source_in_memory(rt: HostRuntime) {
+    for &(fail, name, limit, want) in READS {
+        let found = read_of_three(rt.alloc(), fail, name, limit);
+        assert!(rt;
+            is_read(&found, want),
+            "{name:?} up to {limit}, failing at {fail:?}"
+        );
+    }
+}
+
+// Room for so many bytes, two a call, where the calls with these numbers fail.
+fn sink(alloc: Global, room: usize, fail: &[u64]) -> Result<MemSink, AllocError> {
+    let fail = list(alloc, fail)?;
+    MemSink::new(alloc, room, 2, fail)
+}
+
+// room, which calls fail, whether all is taken, and what is
+const SINKS: &[(usize, &[u64], bool, &[u8])] = &[
+    (7, &[], true, b"ribbit\n"),
+    (6, &[], false, b"ribbit"),
+    (0, &[], false, b""),
+    (9, &[0], false, b""),
+    (9, &[2], false, b"ribb"),
+];
 
 #[test]
 fn a_sink_in_memory(rt: HostRuntime) -> Result<(), Fail> {
-    // room, which calls fail, whether all is taken, and what is
-    let cases: [(usize, &[u64], bool, &[u8]); 5] = [
-        (7, &[], true, b"ribbit\n"),
-        (6, &[], false, b"ribbit"),
-        (0, &[], false, b""),
-        (9, &[0], false, b""),
-        (9, &[2], false, b"ribb"),
-    ];
-    for (room, fail, all, taken) in cases {
-        let mut sink = MemSink::new(rt.alloc(), room, 2, list(rt.alloc(), fail)?)?;
+    for &(room, fail, all, taken) in SINKS {
+        let mut sink = sink(rt.alloc(), room, fail)?;
         let result = write_whole(&mut sink, b"ribbit\n");
-        assert_eq!(rt; result.is_ok(), all, "room {room}");
-        assert_eq!(rt; sink.bytes(), taken, "room {room}");
+        assert!(rt;
+            (result.is_ok(), sink.bytes()) == (all, taken),
+            "room {room}, failing at {fail:?}"
+        );
     }
     Ok(())
 }
@@ -118,23 +162,20 @@ fn steps_are_noted(rt: HostRuntime) {
     three(&mut Steps::new(NoLedger));
 }
 
+// a file, no file, no text, and a folder, which opens and can't be read
+const OUTSIDE: &[(&[u8], Result<&[u8], ReadFault>)] = &[
+    (b"seven.rib", Ok(b"fun main(): u8 = 7;\n")),
+    (b"eight.rib", Err(ReadFault::Failed)),
+    (b"\xff", Err(ReadFault::Failed)),
+    (b".", Err(ReadFault::Failed)),
+];
+
 #[test]
 fn files_of_the_system(rt: HostRuntime) -> Result<(), Fail> {
-    // a file, no file, no text, and a folder, which opens and can't be read
-    let cases: [(&[u8], Result<&[u8], ReadFault>); 4] = [
-        (b"seven.rib", Ok(b"fun main(): u8 = 7;\n")),
-        (b"eight.rib", Err(ReadFault::Failed)),
-        (b"\xff", Err(ReadFault::Failed)),
-        (b".", Err(ReadFault::Failed)),
-    ];
     fs::write(&rt, "seven.rib", b"fun main(): u8 = 7;\n")?;
-    for (name, want) in cases {
-        let mut source = FileSource::new(&rt);
-        match (read_whole(rt.alloc(), &mut source, name, 100), want) {
-            (Ok(bytes), Ok(want)) => assert_eq!(rt; bytes.as_slice(), want),
-            (Err(fault), Err(want)) => assert!(rt; fault == want),
-            _ => panic!(rt; "an answer of the other kind"),
-        }
+    for &(name, want) in OUTSIDE {
+        let found = read_whole(rt.alloc(), &mut FileSource::new(&rt), name, 100);
+        assert!(rt; is_read(&found, want), "{name:?}");
     }
     let mut piece = [0u8; 4];
     assert!(rt; FileSource::new(&rt).read(&mut piece) == Ok(0));
@@ -172,15 +213,20 @@ impl Write for Full {
 #[test]
 fn streams_of_the_system(rt: HostRuntime) -> Result<(), Fail> {
     let mut sink = StdSink::new(fs::create(&rt, "written")?);
-    assert!(rt; write_whole(&mut sink, b"0\n").is_ok());
-    assert!(rt; write_whole(&mut sink, b"").is_ok());
-    let mut source = FileSource::new(&rt);
-    let text = read_whole(rt.alloc(), &mut source, b"written", 10)?;
-    assert_eq!(rt; text.as_slice(), b"0\n".as_slice());
+    let written = (write_whole(&mut sink, b"0\n"), write_whole(&mut sink, b""));
+    assert!(rt; written == (Ok(()), Ok(())));
+    let found = read_whole(rt.alloc(), &mut FileSource::new(&rt), b"written", 10);
+    assert!(rt; is_read(&found, Ok(b"0\n")));
+    Ok(())
+}
 
+#[test]
+fn streams_that_fail(rt: HostRuntime) {
     assert!(rt; write_whole(&mut StdSink::new(rt.stdout()), b"written\n").is_ok());
     assert!(rt; write_whole(&mut StdSink::new(Unflushed), b"lost").is_err());
-    assert!(rt; StdSink::new(Full).write(b"lost").is_err());
-    assert!(rt; StdSink::new(Full).write(b"") == Ok(0));
-    Ok(())
+    let taken = (
+        StdSink::new(Full).write(b"lost").is_err(),
+        StdSink::new(Full).write(b""),
+    );
+    assert!(rt; taken == (true, Ok(0)));
 }

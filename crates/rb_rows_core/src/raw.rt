@@ -12,7 +12,7 @@ use std::alloc::{AllocError, Global};
 use std::marker::Model;
 use std::process::Abort;
 
-// Two memories that hold the same. No call of it traps: a trap of the first ends the test.
+// Two memories that hold the same. No store traps: a trap of the first ends the test.
 #[derive(Drop)]
 struct Both {
     checked: CheckedMemory,
@@ -50,23 +50,44 @@ impl Both {
         (placed(checked), placed(raw))
     }
 
-    fn store(&mut self, rt: &impl Abort, base: u64, offset: u64, width: u64, word: u64)
+    // 0 from the one that trusts, where it stores.
+    fn store(&mut self, rt: &impl Abort, base: u64, offset: u64, width: u64, word: u64) -> u64
         requires { IsWidth width }
     {
         let checked = self.checked.store(base, offset, width, word);
         assert!(rt; checked.is_ok(), "{width} bits at {base} and {offset}");
-        let raw = self.raw.store(base, offset, width, word);
-        assert!(rt; raw.is_ok(), "{width} bits at {base} and {offset}");
+        u64::from(self.raw.store(base, offset, width, word).is_err())
     }
 
-    // What each says to a load.
-    fn load(&self, rt: &impl Abort, base: u64, offset: u64, width: u64) -> (u64, u64)
+    // What each says to a load; where the first traps, the other is not called.
+    fn load(&self, base: u64, offset: u64, width: u64) -> (u64, u64)
         requires { IsWidth width }
     {
         let checked = self.checked.load(base, offset, width);
-        assert!(rt; checked.is_ok(), "{width} bits at {base} and {offset}");
+        if checked.is_err() {
+            return (0, 1);
+        }
         let raw = self.raw.load(base, offset, width);
         (loaded(checked), loaded(raw))
+    }
+
+    // What each says to a call.
+    fn told(&mut self, rt: &impl Abort, call: Call) -> (u64, u64) {
+        match call {
+            Call::Place(size, power) => {
+                assert!(rt; 1 <= size && size <= 512 && power <= 6);
+                let align = 1 << power;
+                self.place(size, align)
+            }
+            Call::Store(base, offset, width, word) => {
+                assert!(rt; is_width(width));
+                (0, self.store(rt, base, offset, width, word))
+            }
+            Call::Load(base, offset, width) => {
+                assert!(rt; is_width(width));
+                self.load(base, offset, width)
+            }
+        }
     }
 
     // The limit, the next address and the number of blocks, as each tells them.
@@ -106,95 +127,77 @@ fn is_width(width: u64) -> bool
 }
 
 // A call on a memory: its sizes, bases and offsets in bytes, its widths in bits.
-#[derive(Clone, Copy, Drop)]
+#[derive(Clone, Copy, Debug)]
 enum Call {
-    // Size, alignment as a power of two, and the address, or 0 where it does not fit.
-    Place(u64, u32, u64),
+    // Size, and alignment as a power of two.
+    Place(u64, u32),
     // Base, offset, width and word.
     Store(u64, u64, u64, u64),
-    // Base, offset, width, and the word that is loaded.
-    Load(u64, u64, u64, u64),
+    // Base, offset and width.
+    Load(u64, u64, u64),
 }
 
 // A region of 320 bytes: blocks of one byte, neighbours without a gap, gaps, the largest alignment,
-// and blocks that do not fit, up to the last byte.
-const CALLS: [Call; 50] = [
-    Call::Place(1, 0, 64),
-    Call::Store(64, 0, 8, 0xab),
-    Call::Load(64, 0, 8, 0xab),
-    Call::Place(1, 0, 65),
-    Call::Store(65, 0, 8, 0x1cd),
-    Call::Load(65, 0, 8, 0xcd),
-    Call::Load(64, 0, 8, 0xab),
-    Call::Place(8, 3, 72),
-    Call::Store(72, 0, 64, 0x8807_0605_0403_0201),
-    Call::Load(72, 0, 64, 0x8807_0605_0403_0201),
-    Call::Load(72, 0, 8, 0x01),
-    Call::Load(72, 7, 8, 0x88),
-    Call::Load(72, 1, 16, 0x0302),
-    Call::Load(72, 3, 32, 0x0706_0504),
-    Call::Store(72, 2, 32, 0xffff_ffff_aabb_ccdd),
-    Call::Load(72, 0, 64, 0x8807_aabb_ccdd_0201),
-    Call::Place(16, 0, 80),
-    Call::Store(80, 8, 64, u64::MAX),
-    Call::Store(80, 0, 64, 0),
-    Call::Load(80, 0, 64, 0),
-    Call::Load(80, 4, 64, 0xffff_ffff_0000_0000),
-    Call::Store(80, 7, 16, 0x1234),
-    Call::Load(80, 0, 64, 0x3400_0000_0000_0000),
-    Call::Load(80, 8, 64, 0xffff_ffff_ffff_ff12),
-    Call::Load(72, 0, 64, 0x8807_aabb_ccdd_0201),
-    Call::Place(3, 1, 96),
-    Call::Store(96, 0, 16, 0xbeef),
-    Call::Store(96, 2, 8, 0x7f),
-    Call::Load(96, 1, 16, 0x7fbe),
-    Call::Place(2, 6, 128),
-    Call::Store(128, 0, 16, 0xffff_0102),
-    Call::Load(128, 0, 16, 0x0102),
-    Call::Load(128, 1, 8, 0x01),
-    Call::Place(512, 0, 0),
-    Call::Place(191, 0, 0),
-    Call::Place(64, 6, 192),
-    Call::Store(192, 56, 64, 0x0123_4567_89ab_cdef),
-    Call::Store(192, 0, 32, 0x8000_0000),
-    Call::Load(192, 56, 64, 0x0123_4567_89ab_cdef),
-    Call::Load(192, 0, 32, 0x8000_0000),
-    Call::Load(192, 63, 8, 0x01),
-    Call::Place(65, 0, 0),
-    Call::Place(1, 6, 256),
-    Call::Place(63, 0, 257),
-    Call::Store(257, 59, 32, 0xdead_beef),
-    Call::Load(257, 59, 32, 0xdead_beef),
-    Call::Load(257, 62, 8, 0xde),
-    Call::Place(1, 0, 0),
-    Call::Load(64, 0, 8, 0xab),
-    Call::Load(65, 0, 8, 0xcd),
+// and blocks that do not fit, up to the last byte. Beside a place stands the address, or 0 where it does
+// not fit; beside a store 0; beside a load the word.
+const CALLS: &[(Call, u64)] = &[
+    (Call::Place(1, 0), 64),
+    (Call::Store(64, 0, 8, 0xab), 0),
+    (Call::Load(64, 0, 8), 0xab),
+    (Call::Place(1, 0), 65),
+    (Call::Store(65, 0, 8, 0x1cd), 0),
+    (Call::Load(65, 0, 8), 0xcd),
+    (Call::Load(64, 0, 8), 0xab),
+    (Call::Place(8, 3), 72),
+    (Call::Store(72, 0, 64, 0x8807_0605_0403_0201), 0),
+    (Call::Load(72, 0, 64), 0x8807_0605_0403_0201),
+    (Call::Load(72, 0, 8), 0x01),
+    (Call::Load(72, 7, 8), 0x88),
+    (Call::Load(72, 1, 16), 0x0302),
+    (Call::Load(72, 3, 32), 0x0706_0504),
+    (Call::Store(72, 2, 32, 0xffff_ffff_aabb_ccdd), 0),
+    (Call::Load(72, 0, 64), 0x8807_aabb_ccdd_0201),
+    (Call::Place(16, 0), 80),
+    (Call::Store(80, 8, 64, u64::MAX), 0),
+    (Call::Store(80, 0, 64, 0), 0),
+    (Call::Load(80, 0, 64), 0),
+    (Call::Load(80, 4, 64), 0xffff_ffff_0000_0000),
+    (Call::Store(80, 7, 16, 0x1234), 0),
+    (Call::Load(80, 0, 64), 0x3400_0000_0000_0000),
+    (Call::Load(80, 8, 64), 0xffff_ffff_ffff_ff12),
+    (Call::Load(72, 0, 64), 0x8807_aabb_ccdd_0201),
+    (Call::Place(3, 1), 96),
+    (Call::Store(96, 0, 16, 0xbeef), 0),
+    (Call::Store(96, 2, 8, 0x7f), 0),
+    (Call::Load(96, 1, 16), 0x7fbe),
+    (Call::Place(2, 6), 128),
+    (Call::Store(128, 0, 16, 0xffff_0102), 0),
+    (Call::Load(128, 0, 16), 0x0102),
+    (Call::Load(128, 1, 8), 0x01),
+    (Call::Place(512, 0), 0),
+    (Call::Place(191, 0), 0),
+    (Call::Place(64, 6), 192),
+    (Call::Store(192, 56, 64, 0x0123_4567_89ab_cdef), 0),
+    (Call::Store(192, 0, 32, 0x8000_0000), 0),
+    (Call::Load(192, 56, 64), 0x0123_4567_89ab_cdef),
+    (Call::Load(192, 0, 32), 0x8000_0000),
+    (Call::Load(192, 63, 8), 0x01),
+    (Call::Place(65, 0), 0),
+    (Call::Place(1, 6), 256),
+    (Call::Place(63, 0), 257),
+    (Call::Store(257, 59, 32, 0xdead_beef), 0),
+    (Call::Load(257, 59, 32), 0xdead_beef),
+    (Call::Load(257, 62, 8), 0xde),
+    (Call::Place(1, 0), 0),
+    (Call::Load(64, 0, 8), 0xab),
+    (Call::Load(65, 0, 8), 0xcd),
 ];
 
 #[test]
 fn raw_and_checked_memory_answer_alike(rt: HostRuntime) {
     let mut both = Both::new(rt.alloc(), 320).expect(&rt, "ample memory");
-    for call in CALLS {
-        match call {
-            Call::Place(size, power, want) => {
-                assert!(rt; 1 <= size && size <= 512 && power <= 6);
-                assert!(rt;
-                    both.place(size, 1 << power) == (want, want),
-                    "{size} bytes at a multiple of 2 to the {power}"
-                );
-            }
-            Call::Store(base, offset, width, word) => {
-                assert!(rt; is_width(width));
-                both.store(&rt, base, offset, width, word);
-            }
-            Call::Load(base, offset, width, want) => {
-                assert!(rt; is_width(width));
-                assert!(rt;
-                    both.load(&rt, base, offset, width) == (want, want),
-                    "{width} bits at {base} and {offset}"
-                );
-            }
-        }
+    for &(call, want) in CALLS {
+        assert!(rt; both.told(&rt, call) == (want, want), "{call:?}");
     }
     assert!(rt; both.ends() == ((320, 320, 9), (320, 320, 9)));
 }
@@ -215,9 +218,10 @@ fn largest_memory(alloc: Global) -> Result<RawMemory, AllocError> {
 #[test]
 fn raw_memory_at_its_largest(rt: HostRuntime) {
     let mut largest = largest_memory(rt.alloc()).expect(&rt, "ample memory");
-    for (size, power, want) in [(512, 6, 64), (1, 0, 576)] {
-        assert!(rt; 1 <= size && size <= 512 && power <= 6);
-        assert!(rt; placed(largest.place(size, 1 << power)) == want);
-    }
-    assert!(rt; largest.next() == 577);
+    let found = [
+        placed(largest.place(512, 64)),
+        placed(largest.place(1, 1)),
+        largest.next(),
+    ];
+    assert_eq!(rt; found, [64, 576, 577]);
 }

@@ -44,17 +44,21 @@ fn a_million_deep(rt: HostRuntime) -> Result<(), Fail> {
 
     let con = ConRef { ty: 0, con: 1 };
     let pats = Vec::from_array(alloc, [Pat::Var(0, 0), Pat::Num(1, 3)])?;
-    assert!(rt; matches(&Pat::Con(2, con, Seq::from_vec(pats)), &copy));
-    assert!(rt; !matches(&Pat::Num(0, 7), &copy));
+    let pat = Pat::Con(2, con, Seq::from_vec(pats));
+    assert!(rt; (matches(&pat, &copy), matches(&Pat::Num(0, 7), &copy)) == (true, false));
     Ok(())
 }
 
 #[test]
-fn copies_are_made(rt: HostRuntime) -> Result<(), Fail> {
-    let alloc = rt.alloc();
-    let pat = Pat::Num(3, 7).copy(alloc)?;
+fn a_pattern_is_copied(rt: HostRuntime) -> Result<(), Fail> {
+    let pat = Pat::Num(3, 7).copy(rt.alloc())?;
     assert!(rt; matches!(pat, Pat::Num(3, 7)));
+    Ok(())
+}
 
+#[test]
+fn a_place_is_copied(rt: HostRuntime) -> Result<(), Fail> {
+    let alloc = rt.alloc();
     let step = Step {
         align: 4,
         byte: 0,
@@ -70,7 +74,7 @@ fn copies_are_made(rt: HostRuntime) -> Result<(), Fail> {
         steps,
     };
     let copy = loc.copy(alloc)?;
-    assert!(rt; copy.word == 1 && copy.o == 2 && copy.l == 3);
-    assert!(rt; copy.steps.as_slice() == [step].as_slice());
+    let found = (copy.word, copy.o, copy.l, copy.steps.as_slice());
+    assert!(rt; found == (1, 2, 3, [step].as_slice()));
     Ok(())
 }
