@@ -6,57 +6,44 @@
 //! written as its clause's number; or as `.` and a position's field numbers, and in parentheses each
 //! head with the tree under it, and `_` with the tree for all others.
 
-ghost use Rattle.std.specs.Prelude.{◌≡◌, true, IfOk};
-ghost use Rattle.rb_core.specs.Matching.{IsExhaustive};
-ghost use Rattle.rb_matrix.specs.Search.{AreInhabited, IsTypeIn};
-ghost use Rattle.rb_rows_decisions.specs.Examples.{letter_decl, four_decl, example_types};
-
 use rb_core::pattern::Pat;
 use rb_core::seq::Seq;
 use rb_core::types::{Con, ConRef, DataDecl, Ty};
 use rb_decide::{Graph, GraphNode, Tree, Tried, pattern_graph, share, tree, tree_up_to};
-use rb_matrix::{Head, MatrixFault, exhaust};
+use rb_matrix::Head;
 use std::alloc::{AllocError, Global};
 use std::test::Fail;
 
-fn con(alloc: Global, name: &[u8], fields: &[Ty]) -> Result<Con, AllocError>
-    ensures { IfOk result (λ c. c ≡ record { name = name.now; fields = fields.now }) }
-{
+// Constructors: names, and types of fields.
+type Cons = &'static [(&'static [u8], &'static [Ty])];
+
+const K: Ty = Ty::Named(0);
+
+fn con(alloc: Global, name: &[u8], fields: &[Ty]) -> Result<Con, AllocError> {
     Ok(Con {
         name: Seq::from_vec(Vec::from_slice(alloc, name)?),
         fields: Seq::from_vec(Vec::from_slice(alloc, fields)?),
     })
 }
 
-fn letter(alloc: Global) -> Result<DataDecl, AllocError>
-    ensures { IfOk result (λ d. d ≡ letter_decl) }
-{
+fn data(alloc: Global, name: &[u8], rows: Cons) -> Result<DataDecl, AllocError> {
     let mut cons = Seq::new(alloc);
-    cons.push(con(alloc, b"A", &[])?)?;
-    cons.push(con(alloc, b"B", &[])?)?;
-    let name = Seq::from_vec(Vec::from_slice(alloc, b"K")?);
-    Ok(DataDecl { name, cons })
-}
-
-fn four(alloc: Global) -> Result<DataDecl, AllocError>
-    ensures { IfOk result (λ d. d ≡ four_decl) }
-{
-    let field = Ty::Named(0);
-    let fields = [field, field, field, field];
-    let mut cons = Seq::new(alloc);
-    cons.push(con(alloc, b"Q", &fields)?)?;
-    let name = Seq::from_vec(Vec::from_slice(alloc, b"Q")?);
+    for (name, fields) in rows {
+        cons.push(con(alloc, *name, *fields)?)?;
+    }
+    let name = Seq::from_vec(Vec::from_slice(alloc, name)?);
     Ok(DataDecl { name, cons })
 }
 
 // `type K = A | B` and `type Q = Q(K, K, K, K)` are types 0 and 1.
-fn types(alloc: Global) -> Result<Vec<DataDecl>, AllocError>
-    ensures { IfOk result (λ v. v.items ≡ example_types) }
-{
-    let mut types = Vec::new(alloc);
-    types.push(letter(alloc)?)?;
-    types.push(four(alloc)?)?;
-    Ok(types)
+const LETTERS: Cons = &[(b"A", &[]), (b"B", &[])];
+
+const FOURS: Cons = &[(b"Q", &[K, K, K, K])];
+
+fn types(alloc: Global) -> Result<Vec<DataDecl>, AllocError> {
+    let letters = data(alloc, b"K", LETTERS)?;
+    let fours = data(alloc, b"Q", FOURS)?;
+    Ok(Vec::from_array(alloc, [letters, fours])?)
 }
 
 // The pattern that a text spells.
@@ -84,74 +71,24 @@ fn patterns(alloc: Global, texts: &[&[u8]]) -> Result<Vec<Pat>, AllocError> {
     Ok(pats)
 }
 
-// Whether the patterns match every value of a type.
-fn are_exhaustive(
-    alloc: Global,
-    types: &[DataDecl],
-    ty: Ty,
-    rows: &[Pat],
-) -> Result<bool, AllocError>
-    requires inhabited { AreInhabited types.now }
-    requires live { IsTypeIn types.now ty }
-    ensures { IfOk result (λ b. b ≡ true → IsExhaustive types.now ty rows.now) }
-{
-    match exhaust(alloc, types, ty, rows) {
-        Ok(()) => Ok(true),
-        Err(MatrixFault::Missing(_)) => Ok(false),
-        Err(MatrixFault::Memory) => Err(AllocError),
-    }
-}
-
-// The tree of a match; None where the patterns leave a value out.
-fn tried(
-    alloc: Global,
-    types: &[DataDecl],
-    ty: Ty,
-    rows: &[Pat],
-) -> Result<Option<Tried>, AllocError>
-    requires inhabited { AreInhabited types.now }
-    requires live { IsTypeIn types.now ty }
-{
-    if !are_exhaustive(alloc, types, ty, rows)? {
-        return Ok(None);
-    }
-    let tried = tree(alloc, types, ty, rows)?;
-    Ok(Some(tried))
-}
-
-// The tree of a match, unless it has more than so many nodes; None where the patterns leave a value
-// out.
-fn tried_up_to(
-    alloc: Global,
-    types: &[DataDecl],
-    ty: Ty,
-    rows: &[Pat],
-    limit: usize,
-) -> Result<Option<Tried>, AllocError>
-    requires inhabited { AreInhabited types.now }
-    requires live { IsTypeIn types.now ty }
-{
-    if !are_exhaustive(alloc, types, ty, rows)? {
-        return Ok(None);
-    }
-    let tried = tree_up_to(alloc, types, ty, rows, limit)?;
-    Ok(Some(tried))
-}
-
-fn tree_of_fours(alloc: Global, rows: &[Pat]) -> Result<Option<Tried>, AllocError> {
+// The tree of a match on fours.
+fn tree_of_fours(alloc: Global, texts: &[&[u8]]) -> Result<Tried, AllocError> {
     let types = types(alloc)?;
-    let found = tried(alloc, types.as_slice(), Ty::Named(1), rows)?;
-    Ok(found)
+    let rows = patterns(alloc, texts)?;
+    tree(alloc, types.as_slice(), Ty::Named(1), rows.as_slice())
 }
 
-fn tree_of_fours_up_to(
-    alloc: Global,
-    rows: &[Pat],
-    limit: usize,
-) -> Result<Option<Tried>, AllocError> {
+// The tree of a match on fours, unless it has more than so many nodes.
+fn tree_up_to_a_limit(alloc: Global, texts: &[&[u8]], limit: usize) -> Result<Tried, AllocError> {
     let types = types(alloc)?;
-    let found = tried_up_to(alloc, types.as_slice(), Ty::Named(1), rows, limit)?;
-    Ok(found)
+    let rows = patterns(alloc, texts)?;
+    tree_up_to(
+        alloc,
+        types.as_slice(),
+        Ty::Named(1),
+        rows.as_slice(),
+        limit,
+    )
 }
 
 // So many literals from 0 on, and a last `_`.
@@ -164,17 +101,18 @@ fn literals(alloc: Global, count: u64) -> Result<Vec<Pat>, AllocError> {
     Ok(pats)
 }
 
+// The tree of a match on numbers.
+fn tree_of_numbers(alloc: Global, count: u64) -> Result<Tried, AllocError> {
+    let rows = literals(alloc, count)?;
+    tree(alloc, &[], Ty::Int(16), rows.as_slice())
+}
+
 // `type T = L | N(T, T, T, T)` is type 0.
+const GROWING: Cons = &[(b"L", &[]), (b"N", &[K, K, K, K])];
+
 fn growing(alloc: Global) -> Result<Vec<DataDecl>, AllocError> {
-    let field = Ty::Named(0);
-    let fields = [field, field, field, field];
-    let mut cons = Seq::new(alloc);
-    cons.push(con(alloc, b"L", &[])?)?;
-    cons.push(con(alloc, b"N", &fields)?)?;
-    let name = Seq::from_vec(Vec::from_slice(alloc, b"T")?);
-    let mut types = Vec::new(alloc);
-    types.push(DataDecl { name, cons })?;
-    Ok(types)
+    let tree = data(alloc, b"T", GROWING)?;
+    Ok(Vec::from_array(alloc, [tree])?)
 }
 
 // The pattern of the tree in which each way to an `L` goes through so many `N`.
@@ -188,6 +126,20 @@ fn full(alloc: Global, depth: usize) -> Result<Pat, AllocError> {
         pat = Pat::Con(0, ConRef { ty: 0, con: 1 }, subs);
     }
     Ok(pat)
+}
+
+// The graph of one full pattern.
+fn graph_of_full(alloc: Global, depth: usize) -> Result<Graph, AllocError> {
+    let types = growing(alloc)?;
+    let pat = full(alloc, depth)?;
+    pattern_graph(alloc, types.as_slice(), Ty::Named(0), &pat)
+}
+
+// The tree of one full pattern and `_`.
+fn tree_of_full(alloc: Global, depth: usize) -> Result<Tried, AllocError> {
+    let types = growing(alloc)?;
+    let rows = [full(alloc, depth)?, Pat::Wild(0)];
+    tree(alloc, types.as_slice(), Ty::Named(0), &rows)
 }
 
 // How many nodes a tree has.
@@ -222,7 +174,6 @@ fn head_letter(head: Head) -> u8 {
     }
 }
 
-// The text of a tree.
 fn spell(out: &mut Vec<u8>, tree: &Tree) -> Result<(), AllocError> {
     match tree {
         Tree::Clause(clause) => out.push(digit(*clause))?,
@@ -246,6 +197,16 @@ fn spell(out: &mut Vec<u8>, tree: &Tree) -> Result<(), AllocError> {
     Ok(())
 }
 
+// The text of a tree.
+fn text(alloc: Global, tried: &Tried) -> Result<Vec<u8>, AllocError> {
+    let mut out = Vec::new(alloc);
+    match tried {
+        Tried::Built(tree) => spell(&mut out, tree)?,
+        Tried::Over => {}
+    }
+    Ok(out)
+}
+
 // How many tests and clauses a graph has.
 fn forms(graph: &Graph) -> (usize, usize) {
     let mut tests = 0usize;
@@ -259,105 +220,104 @@ fn forms(graph: &Graph) -> (usize, usize) {
     (tests, clauses)
 }
 
+// The nodes of a tree, and the tests and clauses of its graph; None where there is no tree.
+fn sizes(alloc: Global, tried: &Tried) -> Result<Option<(usize, (usize, usize))>, AllocError> {
+    match tried {
+        Tried::Built(tree) => {
+            let graph = share(alloc, tree)?;
+            Ok(Some((size(tree), forms(&graph))))
+        }
+        Tried::Over => Ok(None),
+    }
+}
+
+// patterns, the tree, its size; the tests and clauses of its graph
+const TREES: &[(&[&[u8]], &[u8], usize, (usize, usize))] = &[
+    (&[b"_"], b"0", 1, (0, 1)),
+    (&[b"B___", b"A___"], b".(Q.0(B0A1))", 4, (2, 2)),
+    (&[b"A___", b"_A__", b"_"], b".(Q.0(A0_.1(A1_2)))", 6, (3, 3)),
+    (
+        &[b"_AB_", b"A___", b"_"],
+        b".(Q.1(A.2(B0_.0(A1_2))_.0(A1_2)))",
+        10,
+        (4, 3),
+    ),
+    (
+        &[b"AA__", b"__AA", b"_"],
+        b".(Q.0(A.1(A0_.2(A.3(A1_2)_2))_.2(A.3(A1_2)_2)))",
+        14,
+        (5, 3),
+    ),
+];
+
 #[test]
 fn trees_and_graphs(rt: HostRuntime) -> Result<(), Fail> {
-    let alloc = rt.alloc();
-    // patterns, the tree, its size; the tests and clauses of its graph
-    let cases: [(&[&[u8]], &[u8], usize, (usize, usize)); 5] = [
-        (&[b"_"], b"0", 1, (0, 1)),
-        (&[b"B___", b"A___"], b".(Q.0(B0A1))", 4, (2, 2)),
-        (&[b"A___", b"_A__", b"_"], b".(Q.0(A0_.1(A1_2)))", 6, (3, 3)),
-        (
-            &[b"_AB_", b"A___", b"_"],
-            b".(Q.1(A.2(B0_.0(A1_2))_.0(A1_2)))",
-            10,
-            (4, 3),
-        ),
-        (
-            &[b"AA__", b"__AA", b"_"],
-            b".(Q.0(A.1(A0_.2(A.3(A1_2)_2))_.2(A.3(A1_2)_2)))",
-            14,
-            (5, 3),
-        ),
-    ];
-    for (texts, want, nodes, shared) in cases {
-        let rows = patterns(alloc, texts)?;
-        let Some(Tried::Built(tree)) = tree_of_fours(alloc, rows.as_slice())? else {
-            panic!(rt; "no tree at {want:?}");
-        };
-        let mut text = Vec::new(alloc);
-        spell(&mut text, &tree)?;
-        assert!(rt; text.as_slice() == want, "at {want:?}");
-        assert_eq!(rt; size(&tree), nodes);
-        assert_eq!(rt; forms(&share(alloc, &tree)?), shared);
+    for &(texts, want, nodes, shared) in TREES {
+        let tried = tree_of_fours(rt.alloc(), texts)?;
+        let found = text(rt.alloc(), &tried)?;
+        assert!(rt; found.as_slice() == want, "at {want:?}");
+        let sizes = sizes(rt.alloc(), &tried)?;
+        assert!(rt; sizes == Some((nodes, shared)), "at {want:?}");
     }
     Ok(())
 }
 
+// a limit, and whether the tree has no more nodes
+const LIMITS: &[(usize, bool)] = &[(0, false), (5, false), (6, true), (7, true)];
+
 #[test]
 fn a_limit_of_nodes(rt: HostRuntime) -> Result<(), Fail> {
-    let alloc = rt.alloc();
-    let rows = patterns(alloc, &[b"A___", b"_A__", b"_"])?;
-    for (limit, want) in [(0, false), (5, false), (6, true), (7, true)] {
-        let found = tree_of_fours_up_to(alloc, rows.as_slice(), limit)?;
+    for &(limit, want) in LIMITS {
+        let found = tree_up_to_a_limit(rt.alloc(), &[b"A___", b"_A__", b"_"], limit)?;
+        assert!(rt; matches!(found, Tried::Built(_)) == want, "at {limit}");
+    }
+    Ok(())
+}
+
+// literals before the last `_`, and the tree's sizes
+const MANY: &[(u64, Option<(usize, (usize, usize))>)] = &[
+    (510, Some((512, (1, 511)))),
+    (511, None),
+];
+
+#[test]
+fn at_most_512_nodes(rt: HostRuntime) -> Result<(), Fail> {
+    for &(count, want) in MANY {
+        let tried = tree_of_numbers(rt.alloc(), count)?;
+        assert!(rt; sizes(rt.alloc(), &tried)? == want, "at {count}");
+    }
+    Ok(())
+}
+
+// the depth of a full pattern, its constructors, and the root of its graph
+const FULL: &[(usize, usize, u32)] = &[(0, 1, 2), (1, 5, 6), (3, 85, 86), (7, 21845, 21846)];
+
+#[test]
+fn graphs_of_one_pattern(rt: HostRuntime) -> Result<(), Fail> {
+    for &(depth, heads, root) in FULL {
+        let graph = graph_of_full(rt.alloc(), depth)?;
         assert!(rt;
-            matches!(&found, Some(Tried::Built(_))) == want,
-            "at {limit}"
+            (forms(&graph), graph.root) == ((heads, 2), root),
+            "at {depth}"
         );
     }
     Ok(())
 }
 
-#[test]
-fn at_most_512_nodes(rt: HostRuntime) -> Result<(), Fail> {
-    let alloc = rt.alloc();
-    let rows = literals(alloc, 510)?;
-    let Some(Tried::Built(tree)) = tried(alloc, &[], Ty::Int(16), rows.as_slice())? else {
-        panic!(rt; "no tree");
-    };
-    assert_eq!(rt; size(&tree), 512);
-    assert_eq!(rt; forms(&share(alloc, &tree)?), (1, 511));
-    let rows = literals(alloc, 511)?;
-    assert!(rt;
-        matches!(
-            &tried(alloc, &[], Ty::Int(16), rows.as_slice())?,
-            Some(Tried::Over)
-        )
-    );
-    Ok(())
-}
-
-#[test]
-fn graphs_of_one_pattern(rt: HostRuntime) -> Result<(), Fail> {
-    let alloc = rt.alloc();
-    let types = growing(alloc)?;
-    // the depth of a full pattern, and its constructors
-    for (depth, heads) in [(0, 1), (1, 5), (3, 85), (7, 21845)] {
-        let pat = full(alloc, depth)?;
-        let graph = pattern_graph(alloc, types.as_slice(), Ty::Named(0), &pat)?;
-        assert_eq!(rt; forms(&graph), (heads, 2));
-        assert_eq!(rt; graph.root, heads as u32 + 1);
-    }
-    Ok(())
-}
+// the depth of a full pattern; nodes of the tree, and tests and clauses of its graph, as `sizes` gives them
+const FULL_TREES: &[(usize, Option<(usize, (usize, usize))>)] = &[
+    (1, Some((11, (5, 2)))),
+    (3, Some((171, (85, 2)))),
+    (4, None),
+];
 
 // The graph of one pattern is that of the tree of the pattern and `_`, which has a test for each
 // constructor and a clause behind each, and one clause more.
 #[test]
 fn one_pattern_and_its_tree(rt: HostRuntime) -> Result<(), Fail> {
-    let alloc = rt.alloc();
-    let types = growing(alloc)?;
-    let types = types.as_slice();
-    for (depth, heads) in [(1, 5), (3, 85)] {
-        let rows = [full(alloc, depth)?, Pat::Wild(0)];
-        let Tried::Built(tree) = tree(alloc, types, Ty::Named(0), &rows)? else {
-            panic!(rt; "no tree");
-        };
-        assert_eq!(rt; size(&tree), 2 * heads + 1);
-        assert_eq!(rt; forms(&share(alloc, &tree)?), (heads, 2));
+    for &(depth, want) in FULL_TREES {
+        let tried = tree_of_full(rt.alloc(), depth)?;
+        assert!(rt; sizes(rt.alloc(), &tried)? == want, "at {depth}");
     }
-    let rows = [full(alloc, 4)?, Pat::Wild(0)];
-    let tried = tree(alloc, types, Ty::Named(0), &rows)?;
-    assert!(rt; matches!(&tried, Tried::Over));
     Ok(())
 }
