@@ -149,7 +149,7 @@ type LimitRow = (
     u64,
 );
 
-const LIMITS: [LimitRow; 6] = [
+const LIMITS: &[LimitRow] = &[
     (b"", b"type T = A; ", b"", 1_000, Quantity::Types, 1_001),
     (
         b"",
@@ -193,15 +193,20 @@ const LIMITS: [LimitRow; 6] = [
     ),
 ];
 
+// What comes of the front, so many parts and the back.
+fn of_parts(alloc: Global, row: &LimitRow, count: usize) -> Result<Found, Fail> {
+    let text = repeated(alloc, row.0, row.1, count, row.2)?;
+    outcome(alloc, text.as_slice())
+}
+
 #[test]
 fn limits(rt: HostRuntime) -> Result<(), Fail> {
-    for (front, part, back, count, quantity, over) in LIMITS {
-        let most = repeated(rt.alloc(), front, part, count, back)?;
-        let found = outcome(rt.alloc(), most.as_slice())?;
-        assert_eq!(rt; found, Found::File, "{quantity:?}");
-        let more = repeated(rt.alloc(), front, part, count + 1, back)?;
-        let found = outcome(rt.alloc(), more.as_slice())?;
-        assert_eq!(rt; found, Found::Limit(quantity, over), "{quantity:?}");
+    for row in LIMITS {
+        let &(_, _, _, count, quantity, over) = row;
+        let most = of_parts(rt.alloc(), row, count)?;
+        let more = of_parts(rt.alloc(), row, count.saturating_add(1))?;
+        let wanted = (Found::File, Found::Limit(quantity, over));
+        assert!(rt; (most, more) == wanted, "{quantity:?}");
     }
     Ok(())
 }

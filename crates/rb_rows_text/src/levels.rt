@@ -3,113 +3,151 @@
 
 use crate::reading::{expect, repeated};
 use std::alloc::{AllocError, Global};
+use std::process::Abort;
 use std::test::Fail;
 
-// The greatest level.
-const LEVELS: usize = 128;
-
-// A function whose body begins so many levels above the deepest one allowed, and ends in this.
-fn expression(alloc: Global, levels: usize, inner: &str) -> Result<Vec<u8>, AllocError> {
-    let around = LEVELS.saturating_sub(levels);
-    let closed = repeated(alloc, inner.as_bytes(), b")", around, b";")?;
-    repeated(
-        alloc,
-        b"fun f(): u8 = ",
-        b"to u8(",
-        around,
-        closed.as_slice(),
-    )
+// What stands around a row: first the front and so many parts, which open levels, and behind the row its end, as
+// many parts which close them, and the back.
+#[derive(Clone, Copy)]
+struct Frame {
+    front: &'static [u8],
+    open: &'static [u8],
+    end: &'static [u8],
+    close: &'static [u8],
+    back: &'static [u8],
 }
 
-// A layout with a leaf of this provenance, which begins so many levels above the deepest one allowed.
-fn provenance(alloc: Global, levels: usize, inner: &str) -> Result<Vec<u8>, AllocError> {
-    let around = LEVELS.saturating_sub(levels).saturating_sub(1);
-    let closed = repeated(alloc, b": { inline .0 }", b" }", around, b";")?;
-    let mut tree = Vec::from_slice(alloc, inner.as_bytes())?;
-    tree.extend_from_slice(closed.as_slice())?;
-    let split = b"split 0[0:1] { 0 => ";
-    repeated(alloc, b"layout T <8> = ", split, around, tree.as_slice())
-}
+// A function whose body has the row below so many conversions.
+const EXPRESSION: Frame = Frame {
+    front: b"fun f(): u8 = ",
+    open: b"to u8(",
+    end: b"",
+    close: b")",
+    back: b";",
+};
+
+// A layout of a leaf with this provenance, below so many splits.
+const PROVENANCE: Frame = Frame {
+    front: b"layout T <8> = ",
+    open: b"split 0[0:1] { 0 => ",
+    end: b": { inline .0 }",
+    close: b" }",
+    back: b";",
+};
 
 // A layout with this tree below so many splits.
-fn tree(alloc: Global, splits: usize, inner: &str) -> Result<Vec<u8>, AllocError> {
-    let closed = repeated(alloc, inner.as_bytes(), b" }", splits, b";")?;
-    let split = b"split 0[0:1] { 0 => ";
-    repeated(alloc, b"layout T <8> = ", split, splits, closed.as_slice())
-}
+const TREE: Frame = Frame {
+    front: b"layout T <8> = ",
+    open: b"split 0[0:1] { 0 => ",
+    end: b"",
+    close: b" }",
+    back: b";",
+};
 
 // A layout of one leaf with these items in so many pointer parts, one in the block of the other.
-fn pointers(alloc: Global, parts: usize, inner: &str) -> Result<Vec<u8>, AllocError> {
-    let closed = repeated(alloc, inner.as_bytes(), b" } }", parts, b" };")?;
-    let part = b"word 8 { [0:8] -> 8 { ";
-    let front = b"layout T <8> = Nil : { ";
-    repeated(alloc, front, part, parts, closed.as_slice())
+const POINTER: Frame = Frame {
+    front: b"layout T <8> = Nil : { ",
+    open: b"word 8 { [0:8] -> 8 { ",
+    end: b"",
+    close: b" } }",
+    back: b" };",
+};
+
+// A function that stops behind the row.
+const CUT_SHORT: Frame = Frame {
+    front: b"fun main(x: u8): u8 = ",
+    open: b"to u8(",
+    end: b"",
+    close: b"",
+    back: b"",
+};
+
+// The row in so many parts of its frame.
+fn framed(alloc: Global, frame: &Frame, around: usize, row: &str) -> Result<Vec<u8>, AllocError> {
+    let mut text = repeated(alloc, frame.front, frame.open, around, row.as_bytes())?;
+    let closed = repeated(alloc, frame.end, frame.close, around, frame.back)?;
+    text.extend_from_slice(closed.as_slice())?;
+    Ok(text)
 }
 
-// Expressions, each with so many levels as it needs.
-const EXPRESSIONS: [(usize, &str); 16] = [
-    (1, "7"),
-    (1, "x"),
-    (1, "f()"),
-    (2, "f(x, 7)"),
-    (1, "Nil"),
-    (2, "Cons(x, xs)"),
-    (3, "add(x, mul(y, 3))"),
-    (2, "sub(1, 2)"),
-    (2, "and(1, 2)"),
-    (2, "or(1, 2)"),
-    (2, "xor(1, 2)"),
-    (2, "eq(1, 2)"),
-    (2, "lt(1, 2)"),
-    (2, "to u8(x)"),
-    (2, "let x: u8 = 1 in x"),
-    (3, "match x { Nil => 0, Cons(y, _) => y }"),
+// Checks each row of a table in its frame.
+fn expect_framed(
+    rt: &impl Abort,
+    alloc: Global,
+    frame: &Frame,
+    rows: &[(usize, &str)],
+) -> Result<(), Fail> {
+    for (around, row) in rows {
+        let text = framed(alloc, frame, *around, *row)?;
+        expect(rt, alloc, text.as_slice())?;
+    }
+    Ok(())
+}
+
+// Expressions, each below so many conversions that its deepest node is at level 128.
+const EXPRESSIONS: &[(usize, &str)] = &[
+    (127, "7"),
+    (127, "x"),
+    (127, "f()"),
+    (126, "f(x, 7)"),
+    (127, "Nil"),
+    (126, "Cons(x, xs)"),
+    (125, "add(x, mul(y, 3))"),
+    (126, "sub(1, 2)"),
+    (126, "and(1, 2)"),
+    (126, "or(1, 2)"),
+    (126, "xor(1, 2)"),
+    (126, "eq(1, 2)"),
+    (126, "lt(1, 2)"),
+    (126, "to u8(x)"),
+    (126, "let x: u8 = 1 in x"),
+    (125, "match x { Nil => 0, Cons(y, _) => y }"),
 ];
 
-// Expressions with too few levels, and what is none at a level too deep.
-const DEEP: [(usize, &str); 7] = [
-    (0, "!x"),
-    (0, "!add"),
-    (0, "~in"),
-    (1, "f(!x)"),
-    (1, "f(~in)"),
-    (2, "add(x, mul(!y, 3))"),
-    (2, "match x { Nil => 0, Cons(!y, _) => y }"),
+// Expressions below too many conversions, and what is none at a level too deep.
+const DEEP: &[(usize, &str)] = &[
+    (128, "!x"),
+    (128, "!add"),
+    (128, "~in"),
+    (127, "f(!x)"),
+    (127, "f(~in)"),
+    (126, "add(x, mul(!y, 3))"),
+    (126, "match x { Nil => 0, Cons(!y, _) => y }"),
 ];
 
-// Patterns, a level below their match.
-const PATTERNS: [(usize, &str); 13] = [
-    (2, "match x { _ => 0 }"),
-    (2, "match x { x => 0 }"),
-    (2, "match x { 18446744073709551615 => 0 }"),
-    (2, "match x { Nil => 0 }"),
-    (3, "match x { Cons(x, _) => 0 }"),
-    (2, "match x { Cons(!x, _) => 0 }"),
-    (4, "match x { Cons(Some(0), Nil) => 0 }"),
-    (3, "match x { Cons(Some(!0), Nil) => 0 }"),
-    (3, "match x { Cons(~) => 0 }"),
-    (2, "match x { Cons(~add, _) => 0 }"),
-    (2, "match x { ~u8 => 0 }"),
-    (2, "match x { Cons(!_) => 0 }"),
-    (2, "match x { Cons(~() => 0 }"),
+// Patterns, a level below their match, which is below so many conversions.
+const PATTERNS: &[(usize, &str)] = &[
+    (126, "match x { _ => 0 }"),
+    (126, "match x { x => 0 }"),
+    (126, "match x { 18446744073709551615 => 0 }"),
+    (126, "match x { Nil => 0 }"),
+    (125, "match x { Cons(x, _) => 0 }"),
+    (126, "match x { Cons(!x, _) => 0 }"),
+    (124, "match x { Cons(Some(0), Nil) => 0 }"),
+    (125, "match x { Cons(Some(!0), Nil) => 0 }"),
+    (125, "match x { Cons(~) => 0 }"),
+    (126, "match x { Cons(~add, _) => 0 }"),
+    (126, "match x { ~u8 => 0 }"),
+    (126, "match x { Cons(!_) => 0 }"),
+    (126, "match x { Cons(~() => 0 }"),
 ];
 
-// Provenances.
-const PROVENANCES: [(usize, &str); 9] = [
-    (1, "Nil"),
-    (2, "Cons(_, Nil)"),
-    (3, "Cons(Some(_), _)"),
-    (2, "Cons(~x)"),
-    (2, "Cons(~0)"),
-    (1, "~_"),
-    (1, "Cons(!_)"),
-    (0, "!Nil"),
-    (0, "~_"),
+// Provenances, below so many splits and a level below their leaf.
+const PROVENANCES: &[(usize, &str)] = &[
+    (126, "Nil"),
+    (125, "Cons(_, Nil)"),
+    (124, "Cons(Some(_), _)"),
+    (125, "Cons(~x)"),
+    (125, "Cons(~0)"),
+    (126, "~_"),
+    (126, "Cons(!_)"),
+    (127, "!Nil"),
+    (127, "~_"),
 ];
 
 // Trees, each below so many splits. A leaf is a level above its provenance, so none stands at the greatest
 // level.
-const TREES: [(usize, &str); 9] = [
+const TREES: &[(usize, &str)] = &[
     (126, "Nil : { inline .0 }"),
     (127, "split 0[0:1] { }"),
     (127, "!Nil : { inline .0 }"),
@@ -125,7 +163,7 @@ const TREES: [(usize, &str); 9] = [
 ];
 
 // Items, each in so many pointer parts; the first of them is a level below the leaf.
-const POINTERS: [(usize, &str); 6] = [
+const POINTERS: &[(usize, &str)] = &[
     (127, "inline .0"),
     (127, "word 8 { [0:8] .0 }"),
     (126, "word 8 { [0:8] -> 8 { } }"),
@@ -134,69 +172,24 @@ const POINTERS: [(usize, &str); 6] = [
     (127, "word 8 { [0:8] ~u8 }"),
 ];
 
-#[test]
-fn of_expressions(rt: HostRuntime) -> Result<(), Fail> {
-    for (levels, inner) in EXPRESSIONS {
-        expect(
-            &rt,
-            rt.alloc(),
-            expression(rt.alloc(), levels, inner)?.as_slice(),
-        )?;
-    }
-    for (levels, inner) in DEEP {
-        expect(
-            &rt,
-            rt.alloc(),
-            expression(rt.alloc(), levels, inner)?.as_slice(),
-        )?;
-    }
-    Ok(())
-}
+// Texts that stop, below so many conversions.
+const STOPPED: &[(usize, &str)] = &[(128, "~"), (126, "match x { ~"), (126, "match x { Cons(~")];
 
 #[test]
-fn of_patterns(rt: HostRuntime) -> Result<(), Fail> {
-    for (levels, inner) in PATTERNS {
-        expect(
-            &rt,
-            rt.alloc(),
-            expression(rt.alloc(), levels, inner)?.as_slice(),
-        )?;
-    }
-    for (levels, inner) in PROVENANCES {
-        expect(
-            &rt,
-            rt.alloc(),
-            provenance(rt.alloc(), levels, inner)?.as_slice(),
-        )?;
-    }
-    Ok(())
+fn of_expressions(rt: HostRuntime) -> Result<(), Fail> {
+    expect_framed(&rt, rt.alloc(), &EXPRESSION, EXPRESSIONS)?;
+    expect_framed(&rt, rt.alloc(), &EXPRESSION, DEEP)?;
+    expect_framed(&rt, rt.alloc(), &EXPRESSION, PATTERNS)
 }
 
 #[test]
 fn of_layouts(rt: HostRuntime) -> Result<(), Fail> {
-    for (splits, inner) in TREES {
-        expect(&rt, rt.alloc(), tree(rt.alloc(), splits, inner)?.as_slice())?;
-    }
-    for (parts, inner) in POINTERS {
-        expect(
-            &rt,
-            rt.alloc(),
-            pointers(rt.alloc(), parts, inner)?.as_slice(),
-        )?;
-    }
-    Ok(())
+    expect_framed(&rt, rt.alloc(), &PROVENANCE, PROVENANCES)?;
+    expect_framed(&rt, rt.alloc(), &TREE, TREES)?;
+    expect_framed(&rt, rt.alloc(), &POINTER, POINTERS)
 }
 
 #[test]
 fn of_texts_cut_short(rt: HostRuntime) -> Result<(), Fail> {
-    let front = b"fun main(x: u8): u8 = ";
-    for (around, inner) in [
-        (128, b"~".as_slice()),
-        (126, b"match x { ~"),
-        (126, b"match x { Cons(~"),
-    ] {
-        let text = repeated(rt.alloc(), front, b"to u8(", around, inner)?;
-        expect(&rt, rt.alloc(), text.as_slice())?;
-    }
-    Ok(())
+    expect_framed(&rt, rt.alloc(), &CUT_SHORT, STOPPED)
 }

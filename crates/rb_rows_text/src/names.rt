@@ -13,7 +13,7 @@ use std::alloc::{AllocError, Global};
 use std::test::Fail;
 
 // What resolving a text's names gives, the names by their bytes.
-#[derive(Clone, Copy, PartialEq, Eq, Debug)]
+#[derive(Clone, Copy, PartialEq, Eq)]
 enum Found {
     Twice(usize),
     Unknown(usize),
@@ -81,7 +81,7 @@ fn faults(rt: HostRuntime) -> Result<(), Fail> {
     for row in ROWS.split('\n') {
         let (text, wanted) = unmarked(rt.alloc(), row)?;
         let found = outcome(rt.alloc(), text.as_slice())?;
-        assert_eq!(rt; found, wanted, "{row}");
+        assert!(rt; found == wanted, "{row}");
     }
     Ok(())
 }
@@ -106,13 +106,20 @@ fn vars_of(program: &Program) -> Option<(u32, u32)> {
     }
 }
 
+// The program of a text of 24 tokens.
+fn program(alloc: Global, text: &[u8]) -> Result<Option<Program>, Fail> {
+    let placed = lex(alloc, text)?;
+    if placed.len() != 24 {
+        return Ok(None);
+    }
+    let file = read_file(alloc, placed.as_slice())?;
+    Ok(Some(resolve(alloc, &file)?))
+}
+
 #[test]
 fn an_inner_variable_hides_an_outer_one(rt: HostRuntime) -> Result<(), Fail> {
     let text = b"fun main(x: u8): u8 = add(let x: u8 = 1 in x, x);";
-    let placed = lex(rt.alloc(), text)?;
-    assert!(rt; placed.len() == 24);
-    let file = read_file(rt.alloc(), placed.as_slice())?;
-    let program = resolve(rt.alloc(), &file)?;
-    assert!(rt; vars_of(&program) == Some((1, 0)));
+    let found = program(rt.alloc(), text)?;
+    assert!(rt; found.as_ref().and_then(|program| vars_of(program)) == Some((1, 0)));
     Ok(())
 }

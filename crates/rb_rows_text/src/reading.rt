@@ -9,12 +9,13 @@ use rb_read::read::read_file;
 use rb_syntax::lex::lex;
 use rb_syntax::spell::spell_file;
 use rb_syntax::token::Placed;
+use rb_syntax::tree::FileTree;
 use std::alloc::{AllocError, Global};
 use std::process::Abort;
 use std::test::Fail;
 
 /// What reading a text gives, places by their bytes.
-#[derive(Clone, Copy, PartialEq, Eq, Debug)]
+#[derive(Clone, Copy, PartialEq, Eq)]
 pub enum Found {
     File,
     TooDeep(usize),
@@ -40,6 +41,16 @@ fn place_of(fault: &ReadFault, placed: &[Placed], end: usize) -> Found {
     }
 }
 
+// What is found where a file is read: whether it is spelled as these tokens.
+fn spelled(alloc: Global, file: &FileTree, placed: &[Placed]) -> Result<Found, AllocError> {
+    let tokens = spell_file(alloc, file)?;
+    if are_same(tokens.as_slice(), placed) {
+        Ok(Found::File)
+    } else {
+        Ok(Found::Other)
+    }
+}
+
 /// Reads the text, and spells what is read.
 pub fn outcome(alloc: Global, text: &[u8]) -> Result<Found, Fail> {
     let placed = lex(alloc, text)?;
@@ -47,14 +58,7 @@ pub fn outcome(alloc: Global, text: &[u8]) -> Result<Found, Fail> {
         return Ok(Found::Other);
     }
     match read_file(alloc, placed.as_slice()) {
-        Ok(file) => {
-            let tokens = spell_file(alloc, &file)?;
-            if are_same(tokens.as_slice(), placed.as_slice()) {
-                Ok(Found::File)
-            } else {
-                Ok(Found::Other)
-            }
-        }
+        Ok(file) => Ok(spelled(alloc, &file, placed.as_slice())?),
         Err(fault) => Ok(place_of(&fault, placed.as_slice(), text.len())),
     }
 }
@@ -75,8 +79,8 @@ pub fn repeated(
     Ok(text)
 }
 
-/// Checks that a row without its mark has the answer that its mark gives.
-pub fn expect(rt: &impl Abort, alloc: Global, row: &[u8]) -> Result<(), Fail> {
+// A row without its mark, and the answer that the mark gives.
+fn unmarked(alloc: Global, row: &[u8]) -> Result<(Vec<u8>, Found), AllocError> {
     let mut text = Vec::new(alloc);
     let mut wanted = Found::File;
     for byte in row {
@@ -86,8 +90,14 @@ pub fn expect(rt: &impl Abort, alloc: Global, row: &[u8]) -> Result<(), Fail> {
             byte => text.push(byte)?,
         }
     }
+    Ok((text, wanted))
+}
+
+/// Checks that a row without its mark has the answer that its mark gives.
+pub fn expect(rt: &impl Abort, alloc: Global, row: &[u8]) -> Result<(), Fail> {
+    let (text, wanted) = unmarked(alloc, row)?;
     let found = outcome(alloc, text.as_slice())?;
-    assert_eq!(rt; found, wanted, "{row:?}");
+    assert!(rt; found == wanted, "{row:?}");
     Ok(())
 }
 

@@ -20,10 +20,8 @@ fn name(alloc: Global, at: u32, text: &[u8]) -> Result<NameTree, AllocError> {
     })
 }
 
-fn one<T: Drop>(alloc: Global, item: T) -> Result<Seq<T>, AllocError> {
-    let mut items = Seq::new(alloc);
-    items.push(item)?;
-    Ok(items)
+fn seq<T: Drop, const N: usize>(alloc: Global, items: [T; N]) -> Result<Seq<T>, AllocError> {
+    Ok(Seq::from_vec(Vec::from_array(alloc, items)?))
 }
 
 // Whether the tree has the tokens of the text.
@@ -56,9 +54,9 @@ fn sum(alloc: Global) -> Result<ExprTree, AllocError> {
 }
 
 fn params(alloc: Global) -> Result<Seq<ParamTree>, AllocError> {
-    let mut params = one(alloc, param(alloc, 3, b"x")?)?;
-    params.push(param(alloc, 7, b"y")?)?;
-    Ok(params)
+    let x = param(alloc, 3, b"x")?;
+    let y = param(alloc, 7, b"y")?;
+    seq(alloc, [x, y])
 }
 
 fn linear(alloc: Global) -> Result<FileTree, AllocError> {
@@ -69,14 +67,14 @@ fn linear(alloc: Global) -> Result<FileTree, AllocError> {
         body: sum(alloc)?,
     };
     Ok(FileTree {
-        items: one(alloc, ItemTree::Funs(fun))?,
+        items: seq(alloc, [ItemTree::Funs(fun)])?,
     })
 }
 
 #[test]
 fn a_function(rt: HostRuntime) -> Result<(), Fail> {
     let file = linear(rt.alloc())?;
-    assert_eq!(rt; spell_file(rt.alloc(), &file)?.len(), 26);
+    assert!(rt; spell_file(rt.alloc(), &file)?.len() == 26);
     let text = b"fun main(x: u8, y: u8): u8 = add(x, mul(y, 3));";
     assert!(rt; is_spelled(rt.alloc(), &file, text)?);
     Ok(())
@@ -89,7 +87,7 @@ fn path(alloc: Global, fields: &[u32]) -> Result<Seq<u32>, AllocError> {
 // A block with the words of a field.
 fn pointer(alloc: Global) -> Result<PartKind, AllocError> {
     let item = LayItem::Inline(path(alloc, &[1])?);
-    Ok(PartKind::Pointer(4, one(alloc, item)?))
+    Ok(PartKind::Pointer(4, seq(alloc, [item])?))
 }
 
 // A word with a part of each kind.
@@ -97,12 +95,14 @@ fn word(alloc: Global) -> Result<LayItem, AllocError> {
     let slice = PartKind::Slice(path(alloc, &[3])?, 10, 1);
     let whole = PartKind::Whole(path(alloc, &[0, 1])?);
     let word = PartKind::Word(path(alloc, &[2])?, 1);
-    let mut parts = one(alloc, part(0, 7, PartKind::Const(9)))?;
-    parts.push(part(7, 1, slice))?;
-    parts.push(part(8, 4, whole))?;
-    parts.push(part(12, 3, word))?;
-    parts.push(part(15, 5, pointer(alloc)?))?;
-    Ok(LayItem::Word(32, parts))
+    let parts = [
+        part(0, 7, PartKind::Const(9)),
+        part(7, 1, slice),
+        part(8, 4, whole),
+        part(12, 3, word),
+        part(15, 5, pointer(alloc)?),
+    ];
+    Ok(LayItem::Word(32, seq(alloc, parts)?))
 }
 
 fn part(o: u64, l: u64, kind: PartKind) -> PartDecl {
@@ -121,39 +121,45 @@ fn loc(alloc: Global) -> Result<Loc, AllocError> {
         word: 0,
         o: 0,
         l: 32,
-        steps: one(alloc, step)?,
+        steps: seq(alloc, [step])?,
     })
 }
 
 fn arm(alloc: Global) -> Result<ArmTree, AllocError> {
-    let wild = one(alloc, PatTree::Wild(0))?;
+    let wild = seq(alloc, [PatTree::Wild(0)])?;
     let prov = PatTree::Con(0, name(alloc, 0, b"A")?, wild);
+    let word = word(alloc)?;
     Ok(ArmTree {
         literal: 0,
-        under: SplitTree::Leaf(0, prov, one(alloc, word(alloc)?)?),
+        under: SplitTree::Leaf(0, prov, seq(alloc, [word])?),
     })
 }
 
 fn other(alloc: Global) -> Result<SplitTree, AllocError> {
     let prov = PatTree::Con(0, name(alloc, 0, b"B")?, Seq::new(alloc));
     let empty = LayItem::Word(8, Seq::new(alloc));
-    Ok(SplitTree::Leaf(0, prov, one(alloc, empty)?))
+    Ok(SplitTree::Leaf(0, prov, seq(alloc, [empty])?))
+}
+
+fn split(alloc: Global) -> Result<SplitTree, AllocError> {
+    let other = Boxed::new(alloc, other(alloc)?)?;
+    let arm = arm(alloc)?;
+    let arms = seq(alloc, [arm])?;
+    Ok(SplitTree::Split(loc(alloc)?, arms, Some(other)))
 }
 
 fn layout(alloc: Global) -> Result<LayoutTree, AllocError> {
-    let other = Boxed::new(alloc, other(alloc)?)?;
-    let arms = one(alloc, arm(alloc)?)?;
     Ok(LayoutTree {
         at: 0,
         ty: name(alloc, 0, b"T")?,
-        shape: one(alloc, 32)?,
-        tree: SplitTree::Split(loc(alloc)?, arms, Some(other)),
+        shape: seq(alloc, [32])?,
+        tree: split(alloc)?,
     })
 }
 
 fn first_con(alloc: Global) -> Result<ConTree, AllocError> {
-    let mut fields = one(alloc, TyTree::Named(name(alloc, 0, b"T")?))?;
-    fields.push(TyTree::Int(64))?;
+    let ty = TyTree::Named(name(alloc, 0, b"T")?);
+    let fields = seq(alloc, [ty, TyTree::Int(64)])?;
     Ok(ConTree {
         name: name(alloc, 0, b"A")?,
         fields,
@@ -161,11 +167,12 @@ fn first_con(alloc: Global) -> Result<ConTree, AllocError> {
 }
 
 fn declared(alloc: Global) -> Result<TypeTree, AllocError> {
-    let mut cons = one(alloc, first_con(alloc)?)?;
-    cons.push(ConTree {
+    let first = first_con(alloc)?;
+    let second = ConTree {
         name: name(alloc, 0, b"B")?,
         fields: Seq::new(alloc),
-    })?;
+    };
+    let cons = seq(alloc, [first, second])?;
     Ok(TypeTree {
         name: name(alloc, 0, b"T")?,
         cons,
@@ -173,10 +180,10 @@ fn declared(alloc: Global) -> Result<TypeTree, AllocError> {
 }
 
 fn items(alloc: Global) -> Result<Seq<ItemTree>, AllocError> {
-    let mut items = one(alloc, ItemTree::Types(declared(alloc)?))?;
-    items.push(ItemTree::Layouts(layout(alloc)?))?;
-    items.push(ItemTree::Derived(name(alloc, 0, b"T")?, Auto::Packed))?;
-    Ok(items)
+    let types = ItemTree::Types(declared(alloc)?);
+    let layouts = ItemTree::Layouts(layout(alloc)?);
+    let derived = ItemTree::Derived(name(alloc, 0, b"T")?, Auto::Packed);
+    seq(alloc, [types, layouts, derived])
 }
 
 #[test]

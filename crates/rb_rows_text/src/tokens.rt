@@ -7,18 +7,36 @@ use rb_syntax::token::{Placed, Symbol, Token, WORDS, Word};
 use std::alloc::Global;
 use std::test::Fail;
 
+// The word that a token is.
+fn word_at(tokens: &[Placed], i: usize) -> Option<Word> {
+    match tokens.get(i)?.token {
+        Token::Reserved(word) => Some(word),
+        _ => None,
+    }
+}
+
 // The syntax files in editors/ have the lexer's words, in its order.
 #[test]
 fn reserved_words(rt: HostRuntime) -> Result<(), Fail> {
     let tokens = lex(rt.alloc(), RESERVED)?;
     assert_eq!(rt; tokens.len(), 21);
-    for (placed, word) in tokens.iter().zip(WORDS.iter()) {
-        assert!(rt;
-            matches!(placed.token, Token::Reserved(found) if found == *word),
-            "{word:?}"
-        );
+    for (i, word) in WORDS.iter().enumerate() {
+        assert!(rt; word_at(tokens.as_slice(), i) == Some(*word), "{word:?}");
     }
     Ok(())
+}
+
+// The width that a lone token names.
+fn width_of(tokens: &[Placed]) -> Option<u8> {
+    match tokens {
+        [
+            Placed {
+                token: Token::Uint(width),
+                ..
+            },
+        ] => Some(*width),
+        _ => None,
+    }
 }
 
 #[test]
@@ -26,13 +44,16 @@ fn widths(rt: HostRuntime) -> Result<(), Fail> {
     for width in 1..=64u8 {
         let text = format!(in rt.alloc(); "u{width}")?;
         let tokens = lex(rt.alloc(), text.as_bytes())?;
-        assert_eq!(rt; tokens.len(), 1);
-        assert!(rt;
-            matches!(tokens[0].token, Token::Uint(found) if found == width),
-            "u{width}"
-        );
+        assert!(rt; width_of(tokens.as_slice()) == Some(width), "u{width}");
     }
-    for text in [b"u65".as_slice(), b"u0", b"u08", b"u", b"types", b"u8x"] {
+    Ok(())
+}
+
+const NAMES: &[&[u8]] = &[b"u65", b"u0", b"u08", b"u", b"types", b"u8x"];
+
+#[test]
+fn no_widths(rt: HostRuntime) -> Result<(), Fail> {
+    for &text in NAMES {
         assert!(rt; is_lower(&lex(rt.alloc(), text)?, text), "{text:?}");
     }
     Ok(())
@@ -50,50 +71,52 @@ fn is_lower(tokens: &[Placed], text: &[u8]) -> bool {
     }
 }
 
+// Symbols, and the bytes at which they stand in `ALL_SYMBOLS`.
+const SYMBOLS: &[(Symbol, usize)] = &[
+    (Symbol::Equals, 0),
+    (Symbol::Bar, 2),
+    (Symbol::OpenParen, 4),
+    (Symbol::CloseParen, 6),
+    (Symbol::Comma, 8),
+    (Symbol::Semicolon, 10),
+    (Symbol::OpenBrace, 12),
+    (Symbol::CloseBrace, 14),
+    (Symbol::Less, 16),
+    (Symbol::Greater, 18),
+    (Symbol::Colon, 20),
+    (Symbol::OpenBracket, 22),
+    (Symbol::CloseBracket, 24),
+    (Symbol::Dot, 26),
+    (Symbol::At, 28),
+    (Symbol::Arrow, 30),
+    (Symbol::FatArrow, 33),
+    (Symbol::Underscore, 36),
+];
+
+const ALL_SYMBOLS: &[u8] = b"= | ( ) , ; { } < > : [ ] . @ -> => _";
+
+// The symbol that a token is, and its byte.
+fn symbol_at(tokens: &[Placed], i: usize) -> Option<(Symbol, usize)> {
+    let placed = tokens.get(i)?;
+    match placed.token {
+        Token::Symbol(symbol) => Some((symbol, placed.at)),
+        _ => None,
+    }
+}
+
 #[test]
 fn symbols(rt: HostRuntime) -> Result<(), Fail> {
-    let text = b"= | ( ) , ; { } < > : [ ] . @ -> => _";
-    let wanted = [
-        (Symbol::Equals, 0),
-        (Symbol::Bar, 2),
-        (Symbol::OpenParen, 4),
-        (Symbol::CloseParen, 6),
-        (Symbol::Comma, 8),
-        (Symbol::Semicolon, 10),
-        (Symbol::OpenBrace, 12),
-        (Symbol::CloseBrace, 14),
-        (Symbol::Less, 16),
-        (Symbol::Greater, 18),
-        (Symbol::Colon, 20),
-        (Symbol::OpenBracket, 22),
-        (Symbol::CloseBracket, 24),
-        (Symbol::Dot, 26),
-        (Symbol::At, 28),
-        (Symbol::Arrow, 30),
-        (Symbol::FatArrow, 33),
-        (Symbol::Underscore, 36),
-    ];
-    let tokens = lex(rt.alloc(), text)?;
-    assert_eq!(rt; tokens.len(), wanted.len());
-    for (placed, (symbol, at)) in tokens.iter().zip(wanted.iter()) {
-        assert!(rt;
-            matches!(placed.token, Token::Symbol(found) if found == *symbol),
-            "{symbol:?}"
-        );
-        assert_eq!(rt; placed.at, *at);
+    let tokens = lex(rt.alloc(), ALL_SYMBOLS)?;
+    assert_eq!(rt; tokens.len(), SYMBOLS.len());
+    for (i, row) in SYMBOLS.iter().enumerate() {
+        assert!(rt; symbol_at(tokens.as_slice(), i) == Some(*row), "at {i}");
     }
     Ok(())
 }
 
-#[test]
-fn pieces_without_blanks(rt: HostRuntime) -> Result<(), Fail> {
-    let tokens = lex(rt.alloc(), b"Cons_2(x,18446744073709551615)=>=//=>\n-> 0//")?;
-    let places = [0, 6, 7, 8, 9, 29, 30, 32, 38, 41];
-    assert_eq!(rt; tokens.len(), places.len());
-    for (placed, at) in tokens.iter().zip(places.iter()) {
-        assert_eq!(rt; placed.at, *at);
-    }
-    match tokens.as_slice() {
+// Whether these are a name and, four tokens on, a number.
+fn is_name_and_number(tokens: &[Placed], wanted: &[u8], number: u64) -> bool {
+    match tokens {
         [
             Placed {
                 token: Token::Upper(name),
@@ -107,12 +130,33 @@ fn pieces_without_blanks(rt: HostRuntime) -> Result<(), Fail> {
                 ..
             },
             ..
-        ] => {
-            assert_eq!(rt; name.as_slice(), b"Cons_2".as_slice());
-            assert_eq!(rt; *n, 18446744073709551615);
-        }
-        _ => assert!(rt; false, "a name and a number"),
+        ] => name.as_slice() == wanted && *n == number,
+        _ => false,
     }
+}
+
+// The bytes at which the tokens of `PIECES` stand.
+const PLACES: &[usize] = &[0, 6, 7, 8, 9, 29, 30, 32, 38, 41];
+
+const PIECES: &[u8] = b"Cons_2(x,18446744073709551615)=>=//=>\n-> 0//";
+
+fn place_at(tokens: &[Placed], i: usize) -> Option<usize> {
+    Some(tokens.get(i)?.at)
+}
+
+#[test]
+fn pieces_without_blanks(rt: HostRuntime) -> Result<(), Fail> {
+    let tokens = lex(rt.alloc(), PIECES)?;
+    assert_eq!(rt; tokens.len(), PLACES.len());
+    for (i, at) in PLACES.iter().enumerate() {
+        assert!(rt; place_at(tokens.as_slice(), i) == Some(*at), "at {i}");
+    }
+    assert!(rt; is_name_and_number(tokens.as_slice(), b"Cons_2", 18446744073709551615));
+    Ok(())
+}
+
+#[test]
+fn no_token(rt: HostRuntime) -> Result<(), Fail> {
     assert_eq!(rt; lex(rt.alloc(), b" \t\r\n// no token")?.len(), 0);
     Ok(())
 }
@@ -126,31 +170,33 @@ fn refusal(alloc: Global, text: &[u8]) -> Option<(bool, usize)> {
     }
 }
 
+// A text, whether it is refused by a wide number, and at which byte.
+const REFUSED: &[(&[u8], bool, usize)] = &[
+    (b"fun main(): u8 = \xff;", false, 17),
+    (
+        b"fun main(x: u64): u64 = add(x, 18446744073709551616);",
+        true,
+        31,
+    ),
+    (b"01", false, 1),
+    (b"00", false, 1),
+    (b"12x", false, 2),
+    (b"18446744073709551616x", false, 20),
+    (b"x 18446744073709551616 \xff", true, 2),
+    (b"\xff 18446744073709551616", false, 0),
+    (b"_x", false, 1),
+    (b"__", false, 1),
+    (b"a - b", false, 2),
+    (b"a-", false, 1),
+    (b"a / b", false, 2),
+    (b"a /", false, 2),
+    (b"\0", false, 0),
+    (b"// a\n#", false, 5),
+];
+
 #[test]
 fn refusals(rt: HostRuntime) {
-    let rows = [
-        (b"fun main(): u8 = \xff;".as_slice(), false, 17),
-        (
-            b"fun main(x: u64): u64 = add(x, 18446744073709551616);",
-            true,
-            31,
-        ),
-        (b"01", false, 1),
-        (b"00", false, 1),
-        (b"12x", false, 2),
-        (b"18446744073709551616x", false, 20),
-        (b"x 18446744073709551616 \xff", true, 2),
-        (b"\xff 18446744073709551616", false, 0),
-        (b"_x", false, 1),
-        (b"__", false, 1),
-        (b"a - b", false, 2),
-        (b"a-", false, 1),
-        (b"a / b", false, 2),
-        (b"a /", false, 2),
-        (b"\0", false, 0),
-        (b"// a\n#", false, 5),
-    ];
-    for (text, wide, at) in rows {
+    for &(text, wide, at) in REFUSED {
         assert_eq!(rt; refusal(rt.alloc(), text), Some((wide, at)), "{text:?}");
     }
 }
