@@ -1,6 +1,6 @@
 //! Calls of the program, with a file in memory, and its answers as text.
 
-use crate::surprise::{Surprise, text_of};
+use crate::surprise::{Surprise, another};
 use rb_edge::{CountLedger, MemSink, MemSource, NamedBytes, Seq, Steps, Words};
 use ribbit_tool::top::ribbit;
 use std::alloc::{AllocError, Global};
@@ -21,6 +21,63 @@ fn list<T: Copy>(alloc: Global, items: &[T]) -> Result<Seq<T>, AllocError> {
     Ok(Seq::from_vec(Vec::from_slice(alloc, items)?))
 }
 
+fn words_of(alloc: Global, text: &str) -> Result<Words, AllocError> {
+    let mut words = Words::new(alloc);
+    for word in text.split(' ') {
+        if !word.is_empty() {
+            words.push(word.as_bytes())?;
+        }
+    }
+    Ok(words)
+}
+
+/// A source that holds bytes under these names, gives so many bytes a read at most, and fails at the calls of these
+/// numbers.
+pub fn source_of(
+    alloc: Global,
+    held: &[(&str, &[u8])],
+    step: usize,
+    fails: &[u64],
+) -> Result<MemSource, AllocError> {
+    let mut files = Seq::new(alloc);
+    for (name, bytes) in held {
+        files.push(NamedBytes {
+            name: list(alloc, name.as_bytes())?,
+            bytes: list(alloc, bytes)?,
+        })?;
+    }
+    Ok(MemSource::new(files, step.max(1), list(alloc, fails)?))
+}
+
+/// A sink that takes so many bytes, so many a write at most, and fails at the calls of these numbers.
+pub fn sink_of(
+    alloc: Global,
+    room: usize,
+    step: usize,
+    fails: &[u64],
+) -> Result<MemSink, AllocError> {
+    MemSink::new(alloc, room, step.max(1), list(alloc, fails)?)
+}
+
+/// Calls `ribbit` on words with blanks between them, over a source, an output, and a sink for what is told of faults.
+pub fn call_with(
+    alloc: Global,
+    words: &str,
+    mut src: MemSource,
+    mut out: MemSink,
+    mut err: MemSink,
+) -> Result<Did, AllocError> {
+    let given = words_of(alloc, words)?;
+    let mut steps = Steps::new(CountLedger { count: 0 });
+    let status = ribbit(alloc, &given, &mut src, &mut out, &mut err, &mut steps);
+    Ok(Did {
+        status,
+        out: Vec::from_slice(alloc, out.bytes())?,
+        err: Vec::from_slice(alloc, err.bytes())?,
+        steps: steps.ledger().count,
+    })
+}
+
 /// Calls `ribbit` on words with blanks between them, over files with these names. The source gives ten bytes
 /// a read, the output takes one a write, and the calls of these numbers fail.
 pub fn call_over(
@@ -30,30 +87,10 @@ pub fn call_over(
     source_fails: &[u64],
     output_fails: &[u64],
 ) -> Result<Did, AllocError> {
-    let mut files = Seq::new(alloc);
-    for (name, bytes) in held {
-        files.push(NamedBytes {
-            name: list(alloc, name.as_bytes())?,
-            bytes: list(alloc, bytes)?,
-        })?;
-    }
-    let mut src = MemSource::new(files, 10, list(alloc, source_fails)?);
-    let mut out = MemSink::new(alloc, ROOM, 1, list(alloc, output_fails)?)?;
-    let mut err = MemSink::new(alloc, 1000, 7, Seq::new(alloc))?;
-    let mut given = Words::new(alloc);
-    for word in words.split(' ') {
-        if !word.is_empty() {
-            given.push(word.as_bytes())?;
-        }
-    }
-    let mut steps = Steps::new(CountLedger { count: 0 });
-    let status = ribbit(alloc, &given, &mut src, &mut out, &mut err, &mut steps);
-    Ok(Did {
-        status,
-        out: Vec::from_slice(alloc, out.bytes())?,
-        err: Vec::from_slice(alloc, err.bytes())?,
-        steps: steps.ledger().count,
-    })
+    let src = source_of(alloc, held, 10, source_fails)?;
+    let out = sink_of(alloc, ROOM, 1, output_fails)?;
+    let err = sink_of(alloc, 1000, 7, &[])?;
+    call_with(alloc, words, src, out, err)
 }
 
 /// Calls `ribbit` so, over the one file `E`.
@@ -76,6 +113,14 @@ pub fn lines(alloc: Global, row: &str) -> Result<Vec<u8>, AllocError> {
     Ok(text)
 }
 
+// Adds a text, with a `;` where a line ends.
+fn push_lines(answer: &mut Vec<u8>, text: &[u8]) -> Result<(), AllocError> {
+    for byte in text {
+        answer.push(if *byte == b'\n' { b';' } else { *byte })?;
+    }
+    Ok(())
+}
+
 /// What these words answer to files: the status, and what was written, in which each line ends with a `;`.
 pub fn answer_over(
     alloc: Global,
@@ -85,11 +130,8 @@ pub fn answer_over(
     let did = call_over(alloc, words, held, &[], &[])?;
     let status = did.status;
     let mut answer = Vec::from_slice(alloc, format!(in alloc; "{status} ")?.as_bytes())?;
-    for text in [did.out.as_slice(), did.err.as_slice()] {
-        for byte in text {
-            answer.push(if *byte == b'\n' { b';' } else { *byte })?;
-        }
-    }
+    push_lines(&mut answer, did.out.as_slice())?;
+    push_lines(&mut answer, did.err.as_slice())?;
     Ok(answer)
 }
 
@@ -113,7 +155,7 @@ pub fn expect_answer_over(
     if answer.as_slice() == wanted.as_bytes() {
         return Ok(());
     }
-    Err(Surprise::Answer(text_of(alloc, answer.as_slice())?))
+    another(alloc, words, answer.as_slice(), wanted.as_bytes())
 }
 
 /// Looks whether the one file `E` has this answer.

@@ -2,8 +2,11 @@
 //! that it may do is given.
 
 use crate::call::{call, lines};
-use crate::surprise::{Surprise, text_of};
+use crate::surprise::{Surprise, another};
 use std::alloc::Global;
+
+/// A file, words, lines, the most switches, and lines.
+pub type CountRow<'a> = (&'a str, &'a str, &'a str, u64, &'a str);
 
 /// Looks whether words answer so to a file, with status 0: lines, then that of the switches, of which there
 /// are at most so many, and then lines. In the lines that are given each `;` ends a line.
@@ -23,13 +26,25 @@ pub fn expect_counts(
     let text = did.out.as_slice();
     let before = lines(alloc, format!(in alloc; "{before}switches ")?.as_str())?;
     let behind = lines(alloc, format!(in alloc; ";{behind}")?.as_str())?;
-    let is_right = did.status == 0
-        && did.err.is_empty()
-        && switches(text, before.as_slice(), behind.as_slice()).is_some_and(|n| n <= most);
-    if is_right {
+    let done = switches(text, before.as_slice(), behind.as_slice());
+    if did.status == 0 && did.err.is_empty() && matches!(done, Some(n) if n <= most) {
         return Ok(());
     }
-    Err(Surprise::Answer(text_of(alloc, text)?))
+    another(alloc, words, text, before.as_slice())
+}
+
+/// Looks at each row so, whose words stand behind `front`.
+///
+/// # Errors
+///
+/// Another answer, or want of memory.
+pub fn expect_count_rows(alloc: Global, front: &str, rows: &[CountRow]) -> Result<(), Surprise> {
+    for (file, words, before, most, behind) in rows {
+        let words = format!(in alloc; "{front}{words}")?;
+        let file = file.as_bytes();
+        expect_counts(alloc, words.as_str(), file, before, *most, behind)?;
+    }
+    Ok(())
 }
 
 // The number between two texts.

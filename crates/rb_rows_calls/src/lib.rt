@@ -7,6 +7,8 @@
 //! ```
 #![tactic(auto)]
 
+pub mod answers;
 pub mod call;
 pub mod counts;
+pub mod rows;
 pub mod surprise;
