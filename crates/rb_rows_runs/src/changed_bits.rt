@@ -1,10 +1,8 @@
 //! Images with constants, tags and numbers of some bits, with one byte changed: the value that each
 //! holds then, or why it holds none. The answers were worked out by hand from the layouts.
 
-use crate::changes::Place::{Byte, Text};
-use crate::changes::Told::{Fault, Value};
-use crate::changes::{Change, expect_changes};
-use std::test::Fail;
+use crate::changes::{Change, TEXT, expect_changes};
+use rb_rows_calls::surprise::Surprise;
 
 // A tag behind two pointers, with constants beside it.
 const FAR: &str =
@@ -25,139 +23,144 @@ const BOTH: &str =
 // A number behind two pointers, both of which a split passes.
 const FARS: [Change; 13] = [
     // no block
-    (Text(7), b'0', Fault("44: base 0, address 0")),
+    (TEXT, 7, b'0', "16 ribbit: image 44: base 0, address 0;"),
     // behind all blocks
-    (Text(7), b'a', Fault("44: base 0, address 80")),
+    (TEXT, 7, b'a', "16 ribbit: image 44: base 0, address 80;"),
     // the bytes of the inner block, read as a pointer
-    (Text(7), b'8', Fault("44: base 64, address 134639616")),
+    (
+        TEXT,
+        7,
+        b'8',
+        "16 ribbit: image 44: base 64, address 134639616;",
+    ),
     // free bits
-    (Byte(0, 0), 0xff, Value("Far(513)")),
+    (0, 0, 0xff, "0 Far(513);"),
     // no arm for 13
-    (Byte(0, 1), 0x9d, Fault("43: base 64, place 1")),
+    (0, 1, 0x9d, "16 ribbit: image 43: base 64, place 1;"),
     // a constant beside the split's bits
-    (Byte(0, 1), 0x8c, Fault("43: base 64, place 1")),
+    (0, 1, 0x8c, "16 ribbit: image 43: base 64, place 1;"),
     // Near has a block of four bytes
-    (Byte(0, 1), 0x93, Fault("44: base 0, address 72")),
+    (0, 1, 0x93, "16 ribbit: image 44: base 0, address 72;"),
     // the number
-    (Byte(0, 2), 0x02, Value("Far(514)")),
+    (0, 2, 0x02, "0 Far(514);"),
     // behind the inner block
-    (Byte(1, 0), 0x11, Fault("44: base 72, address 68")),
+    (1, 0, 0x11, "16 ribbit: image 44: base 72, address 68;"),
     // its own block
-    (Byte(1, 0), 0x12, Fault("44: base 72, address 72")),
+    (1, 0, 0x12, "16 ribbit: image 44: base 72, address 72;"),
     // below all blocks
-    (Byte(1, 0), 0x0f, Fault("44: base 72, address 60")),
+    (1, 0, 0x0f, "16 ribbit: image 44: base 72, address 60;"),
     // the highest bit, times four
-    (Byte(1, 3), 0x80, Fault("44: base 72, address 8589934656")),
+    (
+        1,
+        3,
+        0x80,
+        "16 ribbit: image 44: base 72, address 8589934656;",
+    ),
     // a constant behind the pointer
-    (Byte(1, 4), 0xab, Fault("43: base 72, place 4")),
+    (1, 4, 0xab, "16 ribbit: image 43: base 72, place 4;"),
 ];
 
 // The other leaf of it.
 const NEARS: [Change; 5] = [
     // no word of 32 bits lies in the block
-    (Text(7), b'8', Fault("44: base 0, address 64")),
+    (TEXT, 7, b'8', "16 ribbit: image 44: base 0, address 64;"),
     // the number
-    (Byte(0, 0), 0x00, Value("Near(0)")),
+    (0, 0, 0x00, "0 Near(0);"),
     // free bits
-    (Byte(0, 1), 0xf3, Value("Near(200)")),
+    (0, 1, 0xf3, "0 Near(200);"),
     // Far has a block of five bytes
-    (Byte(0, 1), 0x0c, Fault("44: base 0, address 72")),
+    (0, 1, 0x0c, "16 ribbit: image 44: base 0, address 72;"),
     // no arm for 2
-    (Byte(0, 1), 0x02, Fault("43: base 64, place 1")),
+    (0, 1, 0x02, "16 ribbit: image 43: base 64, place 1;"),
 ];
 
 // Constants in a root word and in a block, beside the slices of a number.
 const CONSTANTS: [Change; 11] = [
     // the constant 5 in the root word
-    (Text(8), b'4', Fault("43: base 0, place 0")),
+    (TEXT, 8, b'4', "16 ribbit: image 43: base 0, place 0;"),
     // it stands before the pointer to 72
-    (Text(8), b'c', Fault("43: base 0, place 0")),
+    (TEXT, 8, b'c', "16 ribbit: image 43: base 0, place 0;"),
     // the pointer alone
-    (Text(8), b'd', Fault("44: base 0, address 72")),
+    (TEXT, 8, b'd', "16 ribbit: image 44: base 0, address 72;"),
     // a constant before a slice
-    (Byte(0, 0), 0xfe, Fault("43: base 64, place 0")),
+    (0, 0, 0xfe, "16 ribbit: image 43: base 64, place 0;"),
     // the slice of the lower bits
-    (Byte(0, 1), 0x00, Value("Fixed(512, Black)")),
+    (0, 1, 0x00, "0 Fixed(512, Black);"),
     // that of the upper ones
-    (Byte(0, 2), 0x03, Value("Fixed(769, Black)")),
+    (0, 2, 0x03, "0 Fixed(769, Black);"),
     // the bit of the colour
-    (Byte(0, 3), 0x80, Value("Fixed(513, Red)")),
+    (0, 3, 0x80, "0 Fixed(513, Red);"),
     // the constant bit
-    (Byte(0, 3), 0x01, Fault("43: base 64, place 2")),
+    (0, 3, 0x01, "16 ribbit: image 43: base 64, place 2;"),
     // free bits between
-    (Byte(0, 3), 0xff, Value("Fixed(513, Black)")),
+    (0, 3, 0xff, "0 Fixed(513, Black);"),
     // the lowest bit of a constant of 32
-    (Byte(0, 4), 0x01, Fault("43: base 64, place 4")),
+    (0, 4, 0x01, "16 ribbit: image 43: base 64, place 4;"),
     // its highest
-    (Byte(0, 7), 0x80, Fault("43: base 64, place 4")),
+    (0, 7, 0x80, "16 ribbit: image 43: base 64, place 4;"),
 ];
 
 // Two root words, of three bits and of two.
 const WORDS: [Change; 6] = [
     // 8 has four bits
-    (Text(7), b'8', Fault("42: word 0")),
+    (TEXT, 7, b'8', "16 ribbit: image 42: word 0;"),
     // the number
-    (Text(7), b'0', Value("Twos(0, 3)")),
+    (TEXT, 7, b'0', "0 Twos(0, 3);"),
     // a block must follow
-    (Text(8), b'\n', Fault("40 at byte 9")),
+    (TEXT, 8, b'\n', "16 ribbit: image 40 at byte 9;"),
     // a digit must follow
-    (Text(8), b'0', Fault("40 at byte 10")),
+    (TEXT, 8, b'0', "16 ribbit: image 40 at byte 10;"),
     // 4 has three bits
-    (Text(11), b'4', Fault("42: word 1")),
+    (TEXT, 11, b'4', "16 ribbit: image 42: word 1;"),
     // the number
-    (Text(11), b'2', Value("Twos(7, 2)")),
+    (TEXT, 11, b'2', "0 Twos(7, 2);"),
 ];
 
 // Two types that share a block.
 const SHARED: [Change; 5] = [
     // sound for Any, at fault for Six
-    (Byte(0, 0), 0x75, Fault("43: base 64, place 0")),
+    (0, 0, 0x75, "16 ribbit: image 43: base 64, place 0;"),
     // the numbers
-    (Byte(0, 0), 0x60, Value("Both(Any(96), Six(0))")),
+    (0, 0, 0x60, "0 Both(Any(96), Six(0));"),
     // the first pointer
-    (Text(8), b'1', Fault("44: base 0, address 68")),
+    (TEXT, 8, b'1', "16 ribbit: image 44: base 0, address 68;"),
     // the second one
-    (Text(13), b'2', Fault("44: base 0, address 72")),
+    (TEXT, 13, b'2', "16 ribbit: image 44: base 0, address 72;"),
     // the block moved
-    (Text(22), b'5', Fault("44: base 0, address 64")),
+    (TEXT, 22, b'5', "16 ribbit: image 44: base 0, address 64;"),
 ];
 
 #[test]
-fn far_numbers(rt: HostRuntime) -> Result<(), Fail> {
+fn far_numbers(rt: HostRuntime) -> Result<(), Surprise> {
     let image = "root 0x9;block 64 4 009c0102;block 72 5 10000000aa;";
-    let value = "Far(513)";
-    expect_changes(rt.alloc(), FAR, image, value, &FARS)?;
-    Ok(())
+    let value = "0 Far(513);";
+    expect_changes(rt.alloc(), FAR, image, value, &FARS)
 }
 
 #[test]
-fn near_numbers(rt: HostRuntime) -> Result<(), Fail> {
+fn near_numbers(rt: HostRuntime) -> Result<(), Surprise> {
     let image = "root 0x9;block 64 2 c803;block 72 4 10000000;";
-    let value = "Near(200)";
-    expect_changes(rt.alloc(), FAR, image, value, &NEARS)?;
-    Ok(())
+    let value = "0 Near(200);";
+    expect_changes(rt.alloc(), FAR, image, value, &NEARS)
 }
 
 #[test]
-fn constants(rt: HostRuntime) -> Result<(), Fail> {
+fn constants(rt: HostRuntime) -> Result<(), Surprise> {
     let image = "root 0x45;block 64 8 ff01028100100000;";
-    let value = "Fixed(513, Black)";
-    expect_changes(rt.alloc(), FIXED, image, value, &CONSTANTS)?;
-    Ok(())
+    let value = "0 Fixed(513, Black);";
+    expect_changes(rt.alloc(), FIXED, image, value, &CONSTANTS)
 }
 
 #[test]
-fn root_words(rt: HostRuntime) -> Result<(), Fail> {
+fn root_words(rt: HostRuntime) -> Result<(), Surprise> {
     let image = "root 0x7 0x3;";
-    let value = "Twos(7, 3)";
-    expect_changes(rt.alloc(), TWOS, image, value, &WORDS)?;
-    Ok(())
+    let value = "0 Twos(7, 3);";
+    expect_changes(rt.alloc(), TWOS, image, value, &WORDS)
 }
 
 #[test]
-fn types_that_share_a_block(rt: HostRuntime) -> Result<(), Fail> {
+fn types_that_share_a_block(rt: HostRuntime) -> Result<(), Surprise> {
     let image = "root 0x10 0x10;block 64 1 65;";
-    let value = "Both(Any(101), Six(5))";
-    expect_changes(rt.alloc(), BOTH, image, value, &SHARED)?;
-    Ok(())
+    let value = "0 Both(Any(101), Six(5));";
+    expect_changes(rt.alloc(), BOTH, image, value, &SHARED)
 }

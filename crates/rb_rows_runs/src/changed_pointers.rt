@@ -1,12 +1,10 @@
 //! Images of lists, trees and chains with one byte changed, that of a pointer mostly: the value that each
 //! holds then, or why it holds none. The answers were worked out by hand from the layouts.
 
-use crate::changes::Place::{Byte, Text};
-use crate::changes::Told::{Fault, Value};
-use crate::changes::{Change, expect_changes};
+use crate::changes::{Change, TEXT, expect_changes};
 use crate::deep::KEPT;
 use crate::layouts::{LIST, TWIN};
-use std::test::Fail;
+use rb_rows_calls::surprise::Surprise;
 
 // Blocks of two sizes: the tag of the end is in the pointer, the other tag behind it.
 const CHAIN: &str =
@@ -15,238 +13,248 @@ const CHAIN: &str =
 // A list, in which the text itself is changed.
 const LISTED: [Change; 13] = [
     // no blank
-    (Text(4), b'\t', Fault("40 at byte 4")),
+    (TEXT, 4, b'\t', "16 ribbit: image 40 at byte 4;"),
     // no 0x
-    (Text(5), b'1', Fault("40 at byte 5")),
+    (TEXT, 5, b'1', "16 ribbit: image 40 at byte 5;"),
     // a root word must follow
-    (Text(9), b' ', Fault("40 at byte 10")),
+    (TEXT, 9, b' ', "16 ribbit: image 40 at byte 10;"),
     // a capital
-    (Text(10), b'B', Fault("40 at byte 10")),
+    (TEXT, 10, b'B', "16 ribbit: image 40 at byte 10;"),
     // a digit behind 0
-    (Text(16), b'0', Fault("40 at byte 17")),
+    (TEXT, 16, b'0', "16 ribbit: image 40 at byte 17;"),
     // address 64016, and no size begins with 0
-    (Text(18), b'0', Fault("40 at byte 22")),
+    (TEXT, 18, b'0', "16 ribbit: image 40 at byte 22;"),
     // no size begins with 0
-    (Text(19), b'0', Fault("40 at byte 19")),
+    (TEXT, 19, b'0', "16 ribbit: image 40 at byte 19;"),
     // 96 bytes: the line ends too early
-    (Text(19), b'9', Fault("40 at byte 54")),
+    (TEXT, 19, b'9', "16 ribbit: image 40 at byte 54;"),
     // no blank
-    (Text(21), b'\t', Fault("40 at byte 21")),
+    (TEXT, 21, b'\t', "16 ribbit: image 40 at byte 21;"),
     // no digit
-    (Text(22), b' ', Fault("40 at byte 22")),
+    (TEXT, 22, b' ', "16 ribbit: image 40 at byte 22;"),
     // the line must end
-    (Text(54), b' ', Fault("40 at byte 54")),
+    (TEXT, 54, b' ', "16 ribbit: image 40 at byte 54;"),
     // a digit too many
-    (Text(54), b'0', Fault("40 at byte 54")),
+    (TEXT, 54, b'0', "16 ribbit: image 40 at byte 54;"),
     // the block moved to 90
-    (Text(61), b'9', Fault("44: base 0, address 80")),
+    (TEXT, 61, b'9', "16 ribbit: image 44: base 0, address 80;"),
 ];
 
 // A tree whose colours are told by its leaves, in the lowest bit of a pointer.
 const TREES: [Change; 26] = [
     // the colour
     (
-        Text(8),
+        TEXT,
+        8,
         b'8',
-        Value("Node(Red, Node(Red, Empty, 3, Empty), 7, Node(Red, Empty, 9, Empty))"),
+        "0 Node(Red, Node(Red, Empty, 3, Empty), 7, Node(Red, Empty, 9, Empty));",
     ),
     // a free bit
     (
-        Text(8),
+        TEXT,
+        8,
         b'b',
-        Value("Node(Black, Node(Red, Empty, 3, Empty), 7, Node(Red, Empty, 9, Empty))"),
+        "0 Node(Black, Node(Red, Empty, 3, Empty), 7, Node(Red, Empty, 9, Empty));",
     ),
     // the middle of a block
-    (Text(8), b'd', Fault("44: base 0, address 92")),
+    (TEXT, 8, b'd', "16 ribbit: image 44: base 0, address 92;"),
     // that of another
-    (Text(7), b'4', Fault("44: base 0, address 72")),
+    (TEXT, 7, b'4', "16 ribbit: image 44: base 0, address 72;"),
     // behind all blocks
-    (Text(7), b'6', Fault("44: base 0, address 104")),
+    (TEXT, 7, b'6', "16 ribbit: image 44: base 0, address 104;"),
     // begins at 54, below 64
-    (Text(16), b'5', Fault("41: block 0")),
+    (TEXT, 16, b'5', "16 ribbit: image 41: block 0;"),
     // begins at 75 in the one before
-    (Text(54), b'5', Fault("41: block 1")),
+    (TEXT, 54, b'5', "16 ribbit: image 41: block 1;"),
     // ends at 89, in which the next begins
-    (Text(54), b'7', Fault("41: block 2")),
+    (TEXT, 54, b'7', "16 ribbit: image 41: block 2;"),
     // the colour of the left tree
     (
-        Byte(2, 4),
+        2,
+        4,
         0x41,
-        Value("Node(Black, Node(Black, Empty, 3, Empty), 7, Node(Red, Empty, 9, Empty))"),
+        "0 Node(Black, Node(Black, Empty, 3, Empty), 7, Node(Red, Empty, 9, Empty));",
     ),
     // both trees are one
     (
-        Byte(2, 4),
+        2,
+        4,
         0x4c,
-        Value("Node(Black, Node(Red, Empty, 9, Empty), 7, Node(Red, Empty, 9, Empty))"),
+        "0 Node(Black, Node(Red, Empty, 9, Empty), 7, Node(Red, Empty, 9, Empty));",
     ),
     // its own block
-    (Byte(2, 4), 0x58, Fault("44: base 88, address 88")),
+    (2, 4, 0x58, "16 ribbit: image 44: base 88, address 88;"),
     // a colour and no block
-    (Byte(2, 4), 0x01, Fault("44: base 88, address 0")),
+    (2, 4, 0x01, "16 ribbit: image 44: base 88, address 0;"),
     // a free bit alone is not 0, so there is a node
-    (Byte(2, 4), 0x02, Fault("44: base 88, address 0")),
+    (2, 4, 0x02, "16 ribbit: image 44: base 88, address 0;"),
     // no left tree
     (
-        Byte(2, 4),
+        2,
+        4,
         0x00,
-        Value("Node(Black, Empty, 7, Node(Red, Empty, 9, Empty))"),
+        "0 Node(Black, Empty, 7, Node(Red, Empty, 9, Empty));",
     ),
     // a bit of the pointer
-    (Byte(2, 5), 0x01, Fault("44: base 88, address 320")),
+    (2, 5, 0x01, "16 ribbit: image 44: base 88, address 320;"),
     // its highest bit
-    (Byte(2, 6), 0x80, Fault("44: base 88, address 8388672")),
+    (2, 6, 0x80, "16 ribbit: image 44: base 88, address 8388672;"),
     // the lowest free bit above it
     (
-        Byte(2, 7),
+        2,
+        7,
         0x01,
-        Value("Node(Black, Node(Red, Empty, 3, Empty), 7, Node(Red, Empty, 9, Empty))"),
+        "0 Node(Black, Node(Red, Empty, 3, Empty), 7, Node(Red, Empty, 9, Empty));",
     ),
     // the colour of the right tree
     (
-        Byte(2, 8),
+        2,
+        8,
         0x4d,
-        Value("Node(Black, Node(Red, Empty, 3, Empty), 7, Node(Black, Empty, 9, Empty))"),
+        "0 Node(Black, Node(Red, Empty, 3, Empty), 7, Node(Black, Empty, 9, Empty));",
     ),
     // the middle of a block
-    (Byte(2, 8), 0x50, Fault("44: base 88, address 80")),
+    (2, 8, 0x50, "16 ribbit: image 44: base 88, address 80;"),
     // the number
     (
-        Byte(2, 0),
+        2,
+        0,
         0x08,
-        Value("Node(Black, Node(Red, Empty, 3, Empty), 8, Node(Red, Empty, 9, Empty))"),
+        "0 Node(Black, Node(Red, Empty, 3, Empty), 8, Node(Red, Empty, 9, Empty));",
     ),
     // its highest byte
     (
-        Byte(2, 3),
+        2,
+        3,
         0xff,
-        Value("Node(Black, Node(Red, Empty, 3, Empty), 4278190087, Node(Red, Empty, 9, Empty))"),
+        "0 Node(Black, Node(Red, Empty, 3, Empty), 4278190087, Node(Red, Empty, 9, Empty));",
     ),
     // a cycle of one block
-    (Byte(0, 4), 0x40, Fault("44: base 64, address 64")),
+    (0, 4, 0x40, "16 ribbit: image 44: base 64, address 64;"),
     // a block above
-    (Byte(0, 8), 0x4c, Fault("44: base 64, address 76")),
+    (0, 8, 0x4c, "16 ribbit: image 44: base 64, address 76;"),
     // a cycle of two blocks
-    (Byte(1, 4), 0x58, Fault("44: base 76, address 88")),
+    (1, 4, 0x58, "16 ribbit: image 44: base 76, address 88;"),
     // a block below
     (
-        Byte(1, 4),
+        1,
+        4,
         0x40,
-        Value(
-            "Node(Black, Node(Red, Empty, 3, Empty), 7, Node(Red, Node(Red, Empty, 3, Empty), 9, Empty))",
-        ),
+        "0 Node(Black, Node(Red, Empty, 3, Empty), 7, Node(Red, Node(Red, Empty, 3, Empty), 9, Empty));",
     ),
     // free bits alone are not 0
-    (Byte(1, 11), 0xff, Fault("44: base 76, address 0")),
+    (1, 11, 0xff, "16 ribbit: image 44: base 76, address 0;"),
 ];
 
 // A chain of blocks, of which a split behind a pointer tells the size.
 const CHAINS: [Change; 26] = [
     // the tag: nothing else is looked at
-    (Text(8), b'd', Value("End")),
+    (TEXT, 8, b'd', "0 End;"),
     // the free bit
-    (Text(8), b'e', Value("Link(Link(One(5), 300), 7)")),
+    (TEXT, 8, b'e', "0 Link(Link(One(5), 300), 7);"),
     // the block in the middle
-    (Text(8), b'4', Value("Link(One(5), 300)")),
+    (TEXT, 8, b'4', "0 Link(One(5), 300);"),
     // the lowest block
-    (Text(8), b'0', Value("One(5)")),
+    (TEXT, 8, b'0', "0 One(5);"),
     // the middle of a block, which a split passes
-    (Text(8), b'8', Fault("44: base 0, address 72")),
+    (TEXT, 8, b'8', "16 ribbit: image 44: base 0, address 72;"),
     // behind all blocks
-    (Text(7), b'5', Fault("44: base 0, address 92")),
+    (TEXT, 7, b'5', "16 ribbit: image 44: base 0, address 92;"),
     // nothing begins at 64
-    (Text(17), b'5', Fault("44: base 68, address 64")),
+    (TEXT, 17, b'5', "16 ribbit: image 44: base 68, address 64;"),
     // one byte: the line must end
-    (Text(19), b'1', Fault("40 at byte 23")),
+    (TEXT, 19, b'1', "16 ribbit: image 40 at byte 23;"),
     // three bytes: a digit must follow
-    (Text(19), b'3', Fault("40 at byte 25")),
+    (TEXT, 19, b'3', "16 ribbit: image 40 at byte 25;"),
     // begins at 65 in the block of two bytes
-    (Text(33), b'5', Fault("41: block 1")),
+    (TEXT, 33, b'5', "16 ribbit: image 41: block 1;"),
     // begins at 66, right behind it: nothing begins at 68
-    (Text(33), b'6', Fault("44: base 76, address 68")),
+    (TEXT, 33, b'6', "16 ribbit: image 44: base 76, address 68;"),
     // One has a block of two bytes
-    (Byte(2, 0), 0x00, Fault("44: base 0, address 76")),
+    (2, 0, 0x00, "16 ribbit: image 44: base 0, address 76;"),
     // no arm for 2
-    (Byte(2, 0), 0x02, Fault("43: base 76, place 0")),
+    (2, 0, 0x02, "16 ribbit: image 43: base 76, place 0;"),
     // the same one further in
-    (Byte(1, 0), 0x00, Fault("44: base 76, address 68")),
+    (1, 0, 0x00, "16 ribbit: image 44: base 76, address 68;"),
     // no arm for 255
-    (Byte(1, 0), 0xff, Fault("43: base 68, place 0")),
+    (1, 0, 0xff, "16 ribbit: image 43: base 68, place 0;"),
     // Link has a block of seven bytes
-    (Byte(0, 0), 0x01, Fault("44: base 68, address 64")),
+    (0, 0, 0x01, "16 ribbit: image 44: base 68, address 64;"),
     // no arm for 128
-    (Byte(0, 0), 0x80, Fault("43: base 64, place 0")),
+    (0, 0, 0x80, "16 ribbit: image 43: base 64, place 0;"),
     // the number
-    (Byte(0, 1), 0xff, Value("Link(Link(One(255), 300), 7)")),
+    (0, 1, 0xff, "0 Link(Link(One(255), 300), 7);"),
     // a split passes a pointer to its own block
-    (Byte(2, 3), 0x4c, Fault("44: base 76, address 76")),
+    (2, 3, 0x4c, "16 ribbit: image 44: base 76, address 76;"),
     // one upward
-    (Byte(2, 3), 0x50, Fault("44: base 76, address 80")),
+    (2, 3, 0x50, "16 ribbit: image 44: base 76, address 80;"),
     // the lowest block, past the one between
-    (Byte(2, 3), 0x40, Value("Link(One(5), 7)")),
+    (2, 3, 0x40, "0 Link(One(5), 7);"),
     // the tag
-    (Byte(2, 3), 0x45, Value("Link(End, 7)")),
+    (2, 3, 0x45, "0 Link(End, 7);"),
     // the highest bit
-    (Byte(2, 6), 0x80, Fault("44: base 76, address 2147483716")),
+    (
+        2,
+        6,
+        0x80,
+        "16 ribbit: image 44: base 76, address 2147483716;",
+    ),
     // a cycle of two blocks
-    (Byte(1, 3), 0x4c, Fault("44: base 68, address 76")),
+    (1, 3, 0x4c, "16 ribbit: image 44: base 68, address 76;"),
     // the tag
-    (Byte(1, 3), 0x41, Value("Link(Link(End, 300), 7)")),
+    (1, 3, 0x41, "0 Link(Link(End, 300), 7);"),
     // the upper byte of a number that crosses a word
-    (Byte(2, 2), 0x01, Value("Link(Link(One(5), 300), 263)")),
+    (2, 2, 0x01, "0 Link(Link(One(5), 300), 263);"),
 ];
 
 // A tree whose halves are one block.
 const HALVES: [Change; 6] = [
     // the first half of the lower block, which is met first
-    (Byte(0, 0), 0x00, Fault("44: base 64, address 0")),
+    (0, 0, 0x00, "16 ribbit: image 44: base 64, address 0;"),
     // the second one
-    (Byte(0, 8), 0x40, Fault("44: base 64, address 64")),
+    (0, 8, 0x40, "16 ribbit: image 44: base 64, address 64;"),
     // the tag of the first half
-    (Byte(1, 0), 0x41, Value("Fork(Tip, Fork(Tip, Tip))")),
+    (1, 0, 0x41, "0 Fork(Tip, Fork(Tip, Tip));"),
     // that of the second
-    (Byte(1, 8), 0x41, Value("Fork(Fork(Tip, Tip), Tip)")),
+    (1, 8, 0x41, "0 Fork(Fork(Tip, Tip), Tip);"),
     // the first half was sound
-    (Byte(1, 8), 0x48, Fault("44: base 80, address 72")),
+    (1, 8, 0x48, "16 ribbit: image 44: base 80, address 72;"),
     // its highest byte
     (
-        Byte(1, 15),
+        1,
+        15,
         0x01,
-        Fault("44: base 80, address 72057594037928000"),
+        "16 ribbit: image 44: base 80, address 72057594037928000;",
     ),
 ];
 
 #[test]
-fn texts(rt: HostRuntime) -> Result<(), Fail> {
+fn texts(rt: HostRuntime) -> Result<(), Surprise> {
     let image =
         "root 0x50;block 64 16 02000000000000000100000000000000;block 80 16 01000000000000004000000000000000;";
-    let value = "Cons(1, Cons(2, Nil))";
-    expect_changes(rt.alloc(), LIST, image, value, &LISTED)?;
-    Ok(())
+    let value = "0 Cons(1, Cons(2, Nil));";
+    expect_changes(rt.alloc(), LIST, image, value, &LISTED)
 }
 
 #[test]
-fn trees(rt: HostRuntime) -> Result<(), Fail> {
+fn trees(rt: HostRuntime) -> Result<(), Surprise> {
     let image =
         "root 0x59;block 64 12 030000000000000000000000;block 76 12 090000000000000000000000;block 88 12 07000000400000004c000000;";
-    let value = "Node(Black, Node(Red, Empty, 3, Empty), 7, Node(Red, Empty, 9, Empty))";
-    expect_changes(rt.alloc(), KEPT, image, value, &TREES)?;
-    Ok(())
+    let value = "0 Node(Black, Node(Red, Empty, 3, Empty), 7, Node(Red, Empty, 9, Empty));";
+    expect_changes(rt.alloc(), KEPT, image, value, &TREES)
 }
 
 #[test]
-fn chains(rt: HostRuntime) -> Result<(), Fail> {
+fn chains(rt: HostRuntime) -> Result<(), Surprise> {
     let image = "root 0x4c;block 64 2 0005;block 68 7 012c0140000000;block 76 7 01070044000000;";
-    let value = "Link(Link(One(5), 300), 7)";
-    expect_changes(rt.alloc(), CHAIN, image, value, &CHAINS)?;
-    Ok(())
+    let value = "0 Link(Link(One(5), 300), 7);";
+    expect_changes(rt.alloc(), CHAIN, image, value, &CHAINS)
 }
 
 #[test]
-fn halves(rt: HostRuntime) -> Result<(), Fail> {
+fn halves(rt: HostRuntime) -> Result<(), Surprise> {
     let image =
         "root 0x50;block 64 16 01000000000000000100000000000000;block 80 16 40000000000000004000000000000000;";
-    let value = "Fork(Fork(Tip, Tip), Fork(Tip, Tip))";
-    expect_changes(rt.alloc(), TWIN, image, value, &HALVES)?;
-    Ok(())
+    let value = "0 Fork(Fork(Tip, Tip), Fork(Tip, Tip));";
+    expect_changes(rt.alloc(), TWIN, image, value, &HALVES)
 }

@@ -3,16 +3,16 @@
 //! own; the greatest number that it may do is given.
 
 use crate::layouts::{INSERT, LIST, PAIR, SUM, TWIN};
-use rb_rows_calls::call::expect_answer;
-use rb_rows_calls::counts::expect_counts;
-use std::test::Fail;
+use rb_rows_calls::counts::{CountRow, expect_count_rows};
+use rb_rows_calls::rows::expect_rows;
+use rb_rows_calls::surprise::Surprise;
 
 /// Four bits are told apart in at most four switches.
 pub const FOUR: &str =
     "type K = A | B;layout K <1> = split 0[0:1] { 0 => A : { word 1 { [0:1] = 0 } } 1 => B : { word 1 { [0:1] = 1 } } };type Q = Q4(K, K, K, K);layout Q <4> = Q4(_, _, _, _) : { word 4 { [0:1] .0, [1:1] .1, [2:1] .2, [3:1] .3 } };fun main(q: Q): u8 = match q { Q4(A, A, _, _) => 1, Q4(_, _, A, A) => 2, _ => 3 };";
 
 // File, limits and values, lines, switches, lines.
-const ROWS: [(&str, &str, &str, u64, &str); 7] = [
+const ROWS: [CountRow; 7] = [
     (
         SUM,
         "10 1024 Cons(1,Cons(2,Nil))",
@@ -65,17 +65,12 @@ const ROWS: [(&str, &str, &str, u64, &str); 7] = [
 ];
 
 #[test]
-fn counts_of_runs(rt: HostRuntime) -> Result<(), Fail> {
-    let alloc = rt.alloc();
-    for (file, words, before, most, behind) in ROWS {
-        let words = format!(in alloc; "count E {words}")?;
-        expect_counts(alloc, words.as_str(), file.as_bytes(), before, most, behind)?;
-    }
-    Ok(())
+fn counts_of_runs(rt: HostRuntime) -> Result<(), Surprise> {
+    expect_count_rows(rt.alloc(), "count E ", &ROWS)
 }
 
 // File, limits and values, answer.
-const REFUSED: [(&str, &str, &str); 5] = [
+const REFUSED: [(&str, &str, &str); 6] = [
     (
         SUM,
         "3 1024 Cons(1,Cons(2,Nil))",
@@ -97,26 +92,11 @@ const REFUSED: [(&str, &str, &str); 5] = [
         "9 64 Cons(1)",
         "10 ribbit: argument 1: no value of List at byte 0;",
     ),
+    // 480 bytes in memory, and two billion nodes
+    (TWIN, "40 1024 30", "13 ribbit: value over 1000000 nodes;"),
 ];
 
 #[test]
-fn counts_refused(rt: HostRuntime) -> Result<(), Fail> {
-    let alloc = rt.alloc();
-    for (file, words, wanted) in REFUSED {
-        let words = format!(in alloc; "count E {words}")?;
-        expect_answer(alloc, words.as_str(), file.as_bytes(), wanted)?;
-    }
-    Ok(())
-}
-
-// A value of 480 bytes in memory, and of two billion nodes.
-#[test]
-fn counts_of_a_value_over_the_limit(rt: HostRuntime) -> Result<(), Fail> {
-    expect_answer(
-        rt.alloc(),
-        "count E 40 1024 30",
-        TWIN.as_bytes(),
-        "13 ribbit: value over 1000000 nodes;",
-    )?;
-    Ok(())
+fn counts_refused(rt: HostRuntime) -> Result<(), Surprise> {
+    expect_rows(rt.alloc(), "count E ", &REFUSED)
 }

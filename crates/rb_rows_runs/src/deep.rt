@@ -1,9 +1,9 @@
 //! Files whose layouts take subvalues apart: the colour of a node is told by its leaf, and stands in no part.
 //! The answers were given by the language's pages.
 
-use rb_rows_calls::call::expect_answer;
 use rb_rows_calls::counts::expect_counts;
-use std::test::Fail;
+use rb_rows_calls::rows::expect_rows;
+use rb_rows_calls::surprise::Surprise;
 
 /// The colour of a tree's root, which is made where the clause names it.
 pub const COLOUR: &str =
@@ -67,17 +67,13 @@ const ROWS: [(&str, &str, &str); 13] = [
 ];
 
 #[test]
-fn leaves_that_take_subvalues_apart(rt: HostRuntime) -> Result<(), Fail> {
-    let alloc = rt.alloc();
-    for (file, words, wanted) in ROWS {
-        expect_answer(alloc, words, file.as_bytes(), wanted)?;
-    }
-    Ok(())
+fn leaves_that_take_subvalues_apart(rt: HostRuntime) -> Result<(), Surprise> {
+    expect_rows(rt.alloc(), "", &ROWS)
 }
 
 // Two matches on a tree may take 4 switches each, two on a comparison 1 each, and two constructions 1 each.
 #[test]
-fn counts_over_them(rt: HostRuntime) -> Result<(), Fail> {
+fn counts_over_them(rt: HostRuntime) -> Result<(), Surprise> {
     expect_counts(
         rt.alloc(),
         "count E 3 100 Node(Black,Empty,7,Empty) 9",
@@ -85,6 +81,5 @@ fn counts_over_them(rt: HostRuntime) -> Result<(), Fail> {
         "value Node(Black, Empty, 7, Node(Red, Empty, 9, Empty));calls 3;",
         12,
         "blocks 3;bytes 36;",
-    )?;
-    Ok(())
+    )
 }

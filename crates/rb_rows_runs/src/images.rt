@@ -3,8 +3,9 @@
 
 use crate::layouts::{BRANCH, INSERT, LIST, PAIR, SHAPE, TWIN};
 use rb_rows_calls::call::expect_answer;
+use rb_rows_calls::rows::expect_rows;
+use rb_rows_calls::surprise::Surprise;
 use std::alloc::{AllocError, Global};
-use std::test::Fail;
 
 // The second of two lists.
 const LISTS: &str =
@@ -82,13 +83,8 @@ const MADE: [(&str, &str, &str); 7] = [
 ];
 
 #[test]
-fn images_of_constructions(rt: HostRuntime) -> Result<(), Fail> {
-    let alloc = rt.alloc();
-    for (file, words, wanted) in MADE {
-        let words = format!(in alloc; "image E {words}")?;
-        expect_answer(alloc, words.as_str(), file.as_bytes(), wanted)?;
-    }
-    Ok(())
+fn images_of_constructions(rt: HostRuntime) -> Result<(), Surprise> {
+    expect_rows(rt.alloc(), "image E ", &MADE)
 }
 
 // File, limits and values, answer.
@@ -168,13 +164,8 @@ const ROWS: [(&str, &str, &str); 20] = [
 ];
 
 #[test]
-fn images_of_values(rt: HostRuntime) -> Result<(), Fail> {
-    let alloc = rt.alloc();
-    for (file, words, wanted) in ROWS {
-        let words = format!(in alloc; "image E {words}")?;
-        expect_answer(alloc, words.as_str(), file.as_bytes(), wanted)?;
-    }
-    Ok(())
+fn images_of_values(rt: HostRuntime) -> Result<(), Surprise> {
+    expect_rows(rt.alloc(), "image E ", &ROWS)
 }
 
 // A number of two bytes, the lower one first, in hexadecimal digits.
@@ -184,25 +175,25 @@ fn two_bytes(alloc: Global, number: u64) -> Result<String, AllocError> {
     format!(in alloc; "{low:02x}{high:02x}")
 }
 
-// A value of two billion nodes has an image of thirty blocks, whose halves are the block before.
-#[test]
-fn an_image_of_a_large_value(rt: HostRuntime) -> Result<(), Fail> {
-    let alloc = rt.alloc();
-    let mut wanted = format!(in alloc;
-        "0 root 0x210;block 64 16 01000000000000000100000000000000;"
-    )?;
+// The image of thirty blocks, the halves of each of which are the block before.
+fn thirty_blocks(alloc: Global) -> Result<String, AllocError> {
+    let mut image = format!(in alloc; "root 0x210;block 64 16 01000000000000000100000000000000;")?;
     for i in 0..29u64 {
         let before = i.wrapping_mul(16).wrapping_add(64);
         let at = before.wrapping_add(16);
         let half = two_bytes(alloc, before)?;
         let line = format!(in alloc; "block {at} 16 {half}000000000000{half}000000000000;")?;
-        wanted.push_str(line.as_str())?;
+        image.push_str(line.as_str())?;
     }
-    expect_answer(
-        alloc,
-        "image E 40 1024 30",
-        TWIN.as_bytes(),
-        wanted.as_str(),
-    )?;
-    Ok(())
+    Ok(image)
+}
+
+// A value of two billion nodes has such an image.
+#[test]
+fn an_image_of_a_large_value(rt: HostRuntime) -> Result<(), Surprise> {
+    let alloc = rt.alloc();
+    let image = thirty_blocks(alloc)?;
+    let wanted = format!(in alloc; "0 {image}")?;
+    let words = "image E 40 1024 30";
+    expect_answer(alloc, words, TWIN.as_bytes(), wanted.as_str())
 }

@@ -2,8 +2,9 @@
 //! this one, written from the language's pages alone.
 
 use rb_rows_calls::call::{expect_answer, repeated};
+use rb_rows_calls::rows::{expect_rows, expect_words};
+use rb_rows_calls::surprise::Surprise;
 use std::alloc::{AllocError, Global};
-use std::test::Fail;
 
 /// A list is summed; its tag is the lowest bit of a pointer.
 pub const SUM: &str =
@@ -149,25 +150,24 @@ const ROWS: [(&str, &str, &str); 31] = [
 ];
 
 #[test]
-fn runs_with_layouts(rt: HostRuntime) -> Result<(), Fail> {
-    let alloc = rt.alloc();
-    for (file, words, wanted) in ROWS {
-        let words = format!(in alloc; "run E {words}")?;
-        expect_answer(alloc, words.as_str(), file.as_bytes(), wanted)?;
-    }
-    Ok(())
+fn runs_with_layouts(rt: HostRuntime) -> Result<(), Surprise> {
+    expect_rows(rt.alloc(), "run E ", &ROWS)
 }
 
-// A million nodes and more in 304 bytes, and two billion in 480, which is one more than there are.
+// Words and answers: a million nodes and more in 304 bytes, and two billion in 480, which is one more than there are.
+const LARGE: [(&str, &str); 4] = [
+    ("run E 40 1024 19", "13 ribbit: value over 1000000 nodes;"),
+    ("run E 40 1024 30", "13 ribbit: value over 1000000 nodes;"),
+    ("run E 40 544 30", "13 ribbit: value over 1000000 nodes;"),
+    (
+        "run E 40 543 30",
+        "5 ribbit: region full: next 528, size 16, align 8, limit 543;",
+    ),
+];
+
 #[test]
-fn a_value_over_the_limit(rt: HostRuntime) -> Result<(), Fail> {
-    let wanted = "13 ribbit: value over 1000000 nodes;";
-    expect_answer(rt.alloc(), "run E 40 1024 19", TWIN.as_bytes(), wanted)?;
-    expect_answer(rt.alloc(), "run E 40 1024 30", TWIN.as_bytes(), wanted)?;
-    expect_answer(rt.alloc(), "run E 40 544 30", TWIN.as_bytes(), wanted)?;
-    let wanted = "5 ribbit: region full: next 528, size 16, align 8, limit 543;";
-    expect_answer(rt.alloc(), "run E 40 543 30", TWIN.as_bytes(), wanted)?;
-    Ok(())
+fn a_value_over_the_limit(rt: HostRuntime) -> Result<(), Surprise> {
+    expect_words(rt.alloc(), TWIN.as_bytes(), &LARGE)
 }
 
 /// 9 is put before a list.
@@ -222,13 +222,8 @@ const LISTS: [(&str, &str, &str); 11] = [
 ];
 
 #[test]
-fn lists_as_they_are(rt: HostRuntime) -> Result<(), Fail> {
-    let alloc = rt.alloc();
-    for (file, words, wanted) in LISTS {
-        let words = format!(in alloc; "run E {words}")?;
-        expect_answer(alloc, words.as_str(), file.as_bytes(), wanted)?;
-    }
-    Ok(())
+fn lists_as_they_are(rt: HostRuntime) -> Result<(), Surprise> {
+    expect_rows(rt.alloc(), "run E ", &LISTS)
 }
 
 // A list of so many ones, with this between a number and the rest.
@@ -238,26 +233,31 @@ fn ones(alloc: Global, between: &str, count: usize) -> Result<String, AllocError
     repeated(alloc, front.as_str(), ")", count, "")
 }
 
+// Looks whether a list of so many ones, behind these words, is printed so, between two texts.
+fn expect_ones(
+    alloc: Global,
+    file: &str,
+    words: &str,
+    count: usize,
+    printed: (&str, &str),
+) -> Result<(), Surprise> {
+    let word = ones(alloc, "", count)?;
+    let value = ones(alloc, " ", count)?;
+    let words = format!(in alloc; "{words}{word}")?;
+    let (before, behind) = printed;
+    let wanted = format!(in alloc; "{before}{value}{behind}")?;
+    expect_answer(alloc, words.as_str(), file.as_bytes(), wanted.as_str())
+}
+
 // A thousand nodes and one.
 #[test]
-fn five_hundred_numbers(rt: HostRuntime) -> Result<(), Fail> {
-    let alloc = rt.alloc();
-    let word = ones(alloc, "", 500)?;
-    let value = ones(alloc, " ", 500)?;
-    let words = format!(in alloc; "run E 1 16000 {word}")?;
-    let wanted = format!(in alloc; "0 {value};")?;
-    expect_answer(alloc, words.as_str(), LIST.as_bytes(), wanted.as_str())?;
-    Ok(())
+fn five_hundred_numbers(rt: HostRuntime) -> Result<(), Surprise> {
+    expect_ones(rt.alloc(), LIST, "run E 1 16000 ", 500, ("0 ", ";"))
 }
 
 // A number is put before so many that the region is full to its last byte.
 #[test]
-fn one_number_more_than_was_given(rt: HostRuntime) -> Result<(), Fail> {
-    let alloc = rt.alloc();
-    let word = ones(alloc, "", 499)?;
-    let value = ones(alloc, " ", 499)?;
-    let words = format!(in alloc; "run E 1 8064 {word}")?;
-    let wanted = format!(in alloc; "0 Cons(9, {value});")?;
-    expect_answer(alloc, words.as_str(), PUSHED.as_bytes(), wanted.as_str())?;
-    Ok(())
+fn one_number_more_than_was_given(rt: HostRuntime) -> Result<(), Surprise> {
+    let printed = ("0 Cons(9, ", ");");
+    expect_ones(rt.alloc(), PUSHED, "run E 1 8064 ", 499, printed)
 }

@@ -3,7 +3,9 @@
 
 use crate::layouts::{LIST, SUM};
 use rb_rows_calls::call::{expect_answer, repeated};
-use std::test::Fail;
+use rb_rows_calls::rows::expect_words;
+use rb_rows_calls::surprise::Surprise;
+use std::alloc::Global;
 
 // A list in a constructor: two nodes for each number, and two.
 const WRAPPED: &str =
@@ -13,51 +15,49 @@ const WRAPPED: &str =
 pub const UP: &str =
     "type List = Nil | Cons(u64, List); layout List <64> = split 0[0:1] { 1 => Nil : { word 64 { [0:1] = 1 } } 0 => Cons(_, _) : { word 64 { [0:1] = 0, [3:61] -> 8 { word 64 { [0:64] .0 }, inline .1 } } } };fun up(n: u64, l: List): List = match n { 0 => l, _ => up(sub(n, 1), Cons(n, l)) };fun main(n: u64): List = up(n, Nil);";
 
+// Looks what is answered to words, behind which a list of so many ones follows, and then so many `)`.
+fn expect_long(
+    alloc: Global,
+    file: &str,
+    words: &str,
+    counts: (usize, usize),
+    wanted: &str,
+) -> Result<(), Surprise> {
+    let (ones, closed) = counts;
+    let front = repeated(alloc, words, "Cons(1,", ones, "Nil")?;
+    let words = repeated(alloc, front.as_str(), ")", closed, "")?;
+    expect_answer(alloc, words.as_str(), file.as_bytes(), wanted)
+}
+
 // A million nodes but one are encoded in blocks of eight megabytes, and the run goes through them as far
 // as its calls last.
 #[test]
-fn as_many_nodes_as_a_value_may_have(rt: HostRuntime) -> Result<(), Fail> {
-    let alloc = rt.alloc();
-    let front = repeated(alloc, "run E 1000 16777216 ", "Cons(1,", 499_999, "Nil")?;
-    let words = repeated(alloc, front.as_str(), ")", 499_999, "")?;
-    expect_answer(
-        alloc,
-        words.as_str(),
-        SUM.as_bytes(),
-        "4 ribbit: calls spent: 1000;",
-    )?;
-    Ok(())
+fn as_many_nodes_as_a_value_may_have(rt: HostRuntime) -> Result<(), Surprise> {
+    let wanted = "4 ribbit: calls spent: 1000;";
+    let words = "run E 1000 16777216 ";
+    expect_long(rt.alloc(), SUM, words, (499_999, 499_999), wanted)
 }
 
 // The block of the first number is the last that is placed, and does not fit into a region that is a byte too short.
 #[test]
-fn a_region_one_byte_too_short(rt: HostRuntime) -> Result<(), Fail> {
-    let alloc = rt.alloc();
-    let front = repeated(alloc, "run E 1000 8000047 ", "Cons(1,", 499_999, "Nil")?;
-    let words = repeated(alloc, front.as_str(), ")", 499_999, "")?;
+fn a_region_one_byte_too_short(rt: HostRuntime) -> Result<(), Surprise> {
     let wanted = "5 ribbit: region full: next 8000032, size 16, align 8, limit 8000047;";
-    expect_answer(alloc, words.as_str(), SUM.as_bytes(), wanted)?;
-    Ok(())
+    let words = "run E 1000 8000047 ";
+    expect_long(rt.alloc(), SUM, words, (499_999, 499_999), wanted)
 }
 
 // In the region into which a number less fits to the last byte.
 #[test]
-fn one_number_more(rt: HostRuntime) -> Result<(), Fail> {
-    let alloc = rt.alloc();
-    let front = repeated(alloc, "run E 1 8000048 ", "Cons(1,", 500_000, "Nil")?;
-    let words = repeated(alloc, front.as_str(), ")", 500_000, "")?;
+fn one_number_more(rt: HostRuntime) -> Result<(), Surprise> {
     let wanted = "10 ribbit: argument 1: over 1000000 nodes;";
-    expect_answer(alloc, words.as_str(), LIST.as_bytes(), wanted)?;
-    Ok(())
+    let words = "run E 1 8000048 ";
+    expect_long(rt.alloc(), LIST, words, (500_000, 500_000), wanted)
 }
 
 #[test]
-fn a_million_nodes(rt: HostRuntime) -> Result<(), Fail> {
-    let alloc = rt.alloc();
-    let front = repeated(alloc, "run E 1 16777216 Wrap(", "Cons(1,", 499_999, "Nil")?;
-    let words = repeated(alloc, front.as_str(), ")", 500_000, "")?;
-    expect_answer(alloc, words.as_str(), WRAPPED.as_bytes(), "0 1;")?;
-    Ok(())
+fn a_million_nodes(rt: HostRuntime) -> Result<(), Surprise> {
+    let words = "run E 1 16777216 Wrap(";
+    expect_long(rt.alloc(), WRAPPED, words, (499_999, 500_000), "0 1;")
 }
 
 // Words, answer.
@@ -77,9 +77,6 @@ const BUILT: [(&str, &str); 3] = [
 ];
 
 #[test]
-fn lists_that_are_built(rt: HostRuntime) -> Result<(), Fail> {
-    for (words, wanted) in BUILT {
-        expect_answer(rt.alloc(), words, UP.as_bytes(), wanted)?;
-    }
-    Ok(())
+fn lists_that_are_built(rt: HostRuntime) -> Result<(), Surprise> {
+    expect_words(rt.alloc(), UP.as_bytes(), &BUILT)
 }

@@ -2,9 +2,9 @@
 //! apart, with another test between. Worked out by hand from the files.
 
 use crate::counts::FOUR;
-use rb_rows_calls::call::expect_answer;
 use rb_rows_calls::counts::expect_counts;
-use std::test::Fail;
+use rb_rows_calls::rows::expect_rows;
+use rb_rows_calls::surprise::Surprise;
 
 // Two pairs of a bit and a byte, with a byte between; which bit the first has its leaf tells alone.
 const BETWEEN: &str =
@@ -26,18 +26,13 @@ const ROWS: [(&str, &str, &str); 11] = [
 ];
 
 #[test]
-fn clauses_of_values(rt: HostRuntime) -> Result<(), Fail> {
-    let alloc = rt.alloc();
-    for (file, value, wanted) in ROWS {
-        let words = format!(in alloc; "run E 1 64 {value}")?;
-        expect_answer(alloc, words.as_str(), file.as_bytes(), wanted)?;
-    }
-    Ok(())
+fn clauses_of_values(rt: HostRuntime) -> Result<(), Surprise> {
+    expect_rows(rt.alloc(), "run E 1 64 ", &ROWS)
 }
 
 // The whole may cost two switches, each of two bits and two numbers one.
 #[test]
-fn a_test_between(rt: HostRuntime) -> Result<(), Fail> {
+fn a_test_between(rt: HostRuntime) -> Result<(), Surprise> {
     expect_counts(
         rt.alloc(),
         "count E 1 64 Trio(Tagged(B,5),8,Tagged(A,0))",
@@ -45,6 +40,5 @@ fn a_test_between(rt: HostRuntime) -> Result<(), Fail> {
         "value 5;calls 1;",
         6,
         "blocks 0;bytes 0;",
-    )?;
-    Ok(())
+    )
 }

@@ -7,16 +7,19 @@ use crate::images::{OPTION, PADDED};
 use crate::layouts::{INSERT, LIST, PAIR, PUSHED, SHAPE, SHAPES, SUM, TWIN};
 use crate::long::UP;
 use rb_rows_calls::call::expect_answer;
+use rb_rows_calls::rows::expect_rows;
 use rb_rows_calls::surprise::Surprise;
 use std::alloc::Global;
-use std::test::Fail;
 
 // A list is built by recursion, and summed.
 const BUILT: &str =
     "type List = Nil | Cons(u64, List); layout List <64> = split 0[0:1] { 1 => Nil : { word 64 { [0:1] = 1 } } 0 => Cons(_, _) : { word 64 { [0:1] = 0, [3:61] -> 8 { word 64 { [0:64] .0 }, inline .1 } } } };fun build(n: u64): List = match n { 0 => Nil, _ => Cons(n, build(sub(n, 1))) };fun sum(l: List): u64 = match l { Nil => 0, Cons(x, r) => add(x, sum(r)) };fun main(n: u64): u64 = sum(build(n));";
 
 // File, values, the value of `main`, the calls and the region that are needed, and the last block that is asked for.
-const OF_LISTS: [(&str, &str, &str, u64, u64, &str); 7] = [
+type Need<'a> = (&'a str, &'a str, &'a str, u64, u64, &'a str);
+
+// Programs on lists, pairs and trees of two halves.
+const OF_LISTS: [Need; 7] = [
     (
         SUM,
         "Cons(1,Cons(2,Nil))",
@@ -69,7 +72,7 @@ const OF_LISTS: [(&str, &str, &str, u64, u64, &str); 7] = [
 ];
 
 // The same of trees, shapes and pairs.
-const OF_OTHERS: [(&str, &str, &str, u64, u64, &str); 7] = [
+const OF_OTHERS: [Need; 7] = [
     (
         INSERT,
         "Node(Black,Empty,7,Empty) 9",
@@ -135,8 +138,8 @@ fn expect_run(
 }
 
 // Looks at a program at its needs, above both, and below each.
-fn expect_need(alloc: Global, need: (&str, &str, &str, u64, u64, &str)) -> Result<(), Surprise> {
-    let (file, values, value, calls, region, last) = need;
+fn expect_need(alloc: Global, need: &Need) -> Result<(), Surprise> {
+    let (file, values, value, calls, region, last) = *need;
     let fewer = calls.saturating_sub(1);
     let smaller = region.saturating_sub(1);
     let shown = format!(in alloc; "0 {value};")?;
@@ -149,20 +152,21 @@ fn expect_need(alloc: Global, need: (&str, &str, &str, u64, u64, &str)) -> Resul
     expect_run(alloc, file, calls, smaller, values, full.as_str())
 }
 
-#[test]
-fn lists_at_their_needs(rt: HostRuntime) -> Result<(), Fail> {
-    for need in OF_LISTS {
-        expect_need(rt.alloc(), need)?;
+fn expect_needs(alloc: Global, needs: &[Need]) -> Result<(), Surprise> {
+    for need in needs {
+        expect_need(alloc, need)?;
     }
     Ok(())
 }
 
 #[test]
-fn others_at_their_needs(rt: HostRuntime) -> Result<(), Fail> {
-    for need in OF_OTHERS {
-        expect_need(rt.alloc(), need)?;
-    }
-    Ok(())
+fn lists_at_their_needs(rt: HostRuntime) -> Result<(), Surprise> {
+    expect_needs(rt.alloc(), &OF_LISTS)
+}
+
+#[test]
+fn others_at_their_needs(rt: HostRuntime) -> Result<(), Surprise> {
+    expect_needs(rt.alloc(), &OF_OTHERS)
 }
 
 // File, limits and values, answer: where both limits would be passed, the first is named.
@@ -192,11 +196,6 @@ const FIRST: [(&str, &str, &str); 6] = [
 ];
 
 #[test]
-fn the_limit_that_is_passed_first(rt: HostRuntime) -> Result<(), Fail> {
-    let alloc = rt.alloc();
-    for (file, words, wanted) in FIRST {
-        let words = format!(in alloc; "run E {words}")?;
-        expect_answer(alloc, words.as_str(), file.as_bytes(), wanted)?;
-    }
-    Ok(())
+fn the_limit_that_is_passed_first(rt: HostRuntime) -> Result<(), Surprise> {
+    expect_rows(rt.alloc(), "run E ", &FIRST)
 }

@@ -3,25 +3,26 @@
 
 use crate::images::{OPTION, SAME, TREE};
 use crate::layouts::{BRANCH, LIST, PAIR, TWIN};
-use rb_rows_calls::call::{answer, answer_over, call, expect_answer_over, lines};
-use rb_rows_calls::surprise::Surprise;
+use rb_rows_calls::call::{answer, call, lines};
+use rb_rows_calls::rows::{ImageRow, expect_held, expect_image};
+use rb_rows_calls::surprise::{Surprise, another};
 use std::alloc::Global;
+use std::str;
 use std::test::Fail;
 
-// Looks what `value` answers to the image of a file, which has the name `I`.
-fn expect_value(alloc: Global, file: &str, image: &str, wanted: &str) -> Result<(), Surprise> {
-    let image = lines(alloc, image)?;
-    expect_over(alloc, file.as_bytes(), image.as_slice(), wanted)
-}
-
-fn expect_over<'a>(
-    alloc: Global,
-    file: &'a [u8],
-    image: &'a [u8],
-    wanted: &str,
-) -> Result<(), Surprise> {
-    let held = [("E", file), ("I", image)];
-    expect_answer_over(alloc, "value E I", &held, wanted)
+// Looks what `value` answers to each image of a file, which has the name `I`.
+fn expect_values(alloc: Global, file: &str, rows: &[(&str, &str)]) -> Result<(), Surprise> {
+    for (image, wanted) in rows {
+        let image = lines(alloc, image)?;
+        expect_image(
+            alloc,
+            "value E I",
+            file.as_bytes(),
+            image.as_slice(),
+            wanted,
+        )?;
+    }
+    Ok(())
 }
 
 // Images of a list.
@@ -318,80 +319,79 @@ const TREES: [(&str, &str); 9] = [
     ),
 ];
 
-// Images of an instruction, which has no split, and of a pair in two blocks.
-const OTHERS: [(&str, &str, &str); 8] = [
+// Images of an instruction, which has no split.
+const INSTRUCTIONS: [(&str, &str); 4] = [
     // as `image` writes it
-    (BRANCH, "root 0x208463;", "0 Branch(0, 1, 2, 4);"),
+    ("root 0x208463;", "0 Branch(0, 1, 2, 4);"),
     // a constant that differs
-    (
-        BRANCH,
-        "root 0x208462;",
-        "16 ribbit: image 43: base 0, place 0;",
-    ),
+    ("root 0x208462;", "16 ribbit: image 43: base 0, place 0;"),
     // in another of its bits
-    (
-        BRANCH,
-        "root 0x208423;",
-        "16 ribbit: image 43: base 0, place 0;",
-    ),
+    ("root 0x208423;", "16 ribbit: image 43: base 0, place 0;"),
     // a bit too many
-    (BRANCH, "root 0x100208463;", "16 ribbit: image 42: word 0;"),
+    ("root 0x100208463;", "16 ribbit: image 42: word 0;"),
+];
+
+// Images of a pair in two blocks.
+const PAIRS: [(&str, &str); 4] = [
     // as `image` writes it
     (
-        PAIR,
         "root 0x9;block 64 8 0600000000000000;block 72 16 05000000000000000800000000000000;",
         "0 Two(5, 6);",
     ),
     // the inner block for the outer
     (
-        PAIR,
         "root 0x8;block 64 8 0600000000000000;block 72 16 05000000000000000800000000000000;",
         "16 ribbit: image 44: base 0, address 64;",
     ),
     // the outer one for the inner
     (
-        PAIR,
         "root 0x9;block 64 8 0600000000000000;block 72 16 05000000000000000900000000000000;",
         "16 ribbit: image 44: base 72, address 72;",
     ),
     // an address of more than 64 bits
     (
-        PAIR,
         "root 0x9;block 64 8 0600000000000000;block 72 16 050000000000000008000000000000ff;",
         "16 ribbit: image 44: base 72, address 146997491837372989504;",
     ),
 ];
 
+// An integer's image is one word.
+const INTEGERS: [(&str, &str); 5] = [
+    ("root 0xff;", "0 255;"),
+    ("root 0x0;block 64 1 00;", "0 0;"),
+    ("root 0x100;", "16 ribbit: image 42: word 0;"),
+    ("root;", "16 ribbit: image 42: word 0;"),
+    ("root 0x1 0x1;", "16 ribbit: image 42: word 1;"),
+];
+
 #[test]
-fn lists(rt: HostRuntime) -> Result<(), Fail> {
-    for (image, wanted) in LISTS {
-        expect_value(rt.alloc(), LIST, image, wanted)?;
-    }
-    Ok(())
+fn lists(rt: HostRuntime) -> Result<(), Surprise> {
+    expect_values(rt.alloc(), LIST, &LISTS)
 }
 
 #[test]
-fn shapes(rt: HostRuntime) -> Result<(), Fail> {
-    for (image, wanted) in SHAPES {
-        expect_value(rt.alloc(), SAME, image, wanted)?;
-    }
-    Ok(())
+fn shapes(rt: HostRuntime) -> Result<(), Surprise> {
+    expect_values(rt.alloc(), SAME, &SHAPES)
 }
 
 #[test]
-fn trees(rt: HostRuntime) -> Result<(), Fail> {
-    for (image, wanted) in TREES {
-        expect_value(rt.alloc(), TREE, image, wanted)?;
-    }
-    Ok(())
+fn trees(rt: HostRuntime) -> Result<(), Surprise> {
+    expect_values(rt.alloc(), TREE, &TREES)
 }
 
 #[test]
-fn instructions_and_pairs(rt: HostRuntime) -> Result<(), Fail> {
-    for (file, image, wanted) in OTHERS {
-        expect_value(rt.alloc(), file, image, wanted)?;
-    }
-    Ok(())
+fn instructions(rt: HostRuntime) -> Result<(), Surprise> {
+    expect_values(rt.alloc(), BRANCH, &INSTRUCTIONS)
+}
+
+#[test]
+fn pairs(rt: HostRuntime) -> Result<(), Surprise> {
+    expect_values(rt.alloc(), PAIR, &PAIRS)
+}
+
+#[test]
+fn integers(rt: HostRuntime) -> Result<(), Surprise> {
+    expect_values(rt.alloc(), "fun main(x: u1): u8 = 7;", &INTEGERS)
 }
 
 // Words of `main` that gives back its argument, or a value of its own.
@@ -407,136 +407,112 @@ const BACK: [(&str, &str); 9] = [
     (OPTION, "1 1024 Yes(Node(Red,Empty,1,Empty))"),
 ];
 
-// What `image` prints of a value is read back as what `run` prints of it.
-#[test]
-fn images_are_read_back(rt: HostRuntime) -> Result<(), Fail> {
-    let alloc = rt.alloc();
-    for (file, words) in BACK {
+// Looks whether what `image` prints of a value is read back as what `run` prints of it.
+fn expect_read_back(alloc: Global, rows: &[(&str, &str)]) -> Result<(), Surprise> {
+    for (file, words) in rows {
+        let file = file.as_bytes();
         let image = format!(in alloc; "image E {words}")?;
-        let image = call(alloc, image.as_str(), file.as_bytes(), &[], &[])?;
-        assert_eq!(rt; image.status, 0);
+        let image = call(alloc, image.as_str(), file, &[], &[])?;
+        if image.status != 0 {
+            another(alloc, words, image.err.as_slice(), b"an image")?;
+        }
         let run = format!(in alloc; "run E {words}")?;
-        let run = answer(alloc, run.as_str(), file.as_bytes())?;
-        let held = [("E", file.as_bytes()), ("I", image.out.as_slice())];
-        let value = answer_over(alloc, "value E I", &held)?;
-        assert_eq!(rt; value.as_slice(), run.as_slice());
+        let run = answer(alloc, run.as_str(), file)?;
+        let wanted = str::from_utf8(run.as_slice()).unwrap_or("no text");
+        expect_image(alloc, "value E I", file, image.out.as_slice(), wanted)?;
     }
     Ok(())
 }
 
-// Thirty blocks, each with twice the block before it: 2,147,483,647 nodes.
 #[test]
-fn a_value_of_too_many_nodes(rt: HostRuntime) -> Result<(), Fail> {
-    let alloc = rt.alloc();
-    let image = call(alloc, "image E 40 1024 30", TWIN.as_bytes(), &[], &[])?;
-    let held = [("E", TWIN.as_bytes()), ("I", image.out.as_slice())];
-    expect_answer_over(
-        alloc,
-        "value E I",
-        &held,
-        "13 ribbit: value over 1000000 nodes;",
-    )?;
-    // and with its lowest block at fault: no value, whatever its size
-    let text = image.out.as_slice();
-    let mut torn = Vec::from_slice(alloc, text)?;
+fn images_are_read_back(rt: HostRuntime) -> Result<(), Surprise> {
+    expect_read_back(rt.alloc(), &BACK)
+}
+
+// Looks at the image of thirty blocks, each with twice the block before it: 2,147,483,647 nodes. With its lowest
+// block at fault there is no value, whatever its size.
+fn expect_too_many(alloc: Global) -> Result<(), Surprise> {
+    let file = TWIN.as_bytes();
+    let mut image = call(alloc, "image E 40 1024 30", file, &[], &[])?.out;
+    let wanted = "13 ribbit: value over 1000000 nodes;";
+    expect_image(alloc, "value E I", file, image.as_slice(), wanted)?;
+    let text = image.as_slice();
     let place = text.iter().position(|byte| *byte == b'\n').unwrap_or(0);
     // of `block 64 16 0100..` the digit 1
-    if let Some(byte) = torn.get_mut(place.saturating_add(14)) {
+    if let Some(byte) = image.get_mut(place.saturating_add(14)) {
         *byte = b'0';
     }
-    let held = [("E", TWIN.as_bytes()), ("I", torn.as_slice())];
-    expect_answer_over(
-        alloc,
-        "value E I",
-        &held,
-        "16 ribbit: image 44: base 64, address 0;",
-    )?;
-    Ok(())
+    let wanted = "16 ribbit: image 44: base 64, address 0;";
+    expect_image(alloc, "value E I", file, image.as_slice(), wanted)
 }
 
-// An integer's image is one word.
 #[test]
-fn integers(rt: HostRuntime) -> Result<(), Fail> {
-    let rows = [
-        ("root 0xff;", "0 255;"),
-        ("root 0x0;block 64 1 00;", "0 0;"),
-        ("root 0x100;", "16 ribbit: image 42: word 0;"),
-        ("root;", "16 ribbit: image 42: word 0;"),
-        ("root 0x1 0x1;", "16 ribbit: image 42: word 1;"),
-    ];
-    for (image, wanted) in rows {
-        expect_value(rt.alloc(), "fun main(x: u1): u8 = 7;", image, wanted)?;
-    }
-    Ok(())
+fn a_value_of_too_many_nodes(rt: HostRuntime) -> Result<(), Surprise> {
+    expect_too_many(rt.alloc())
 }
 
-// The file is read and checked before the image is opened; a name may be that of both.
+// Words, file, image and answer: the file is read and checked before the image is opened, and a name may be that of
+// both.
+const IN_TURN: [ImageRow; 7] = [
+    (
+        "value E J",
+        "fun main(): u8 = 0;",
+        "",
+        "7 ribbit: read fault;",
+    ),
+    (
+        "value F I",
+        "fun main(): u8 = 0;",
+        "root 0x1\n",
+        "7 ribbit: read fault;",
+    ),
+    (
+        "value E J",
+        "fun main(): u8 = y;",
+        "",
+        "2 ribbit: unknown name y at byte 17;",
+    ),
+    (
+        "value E J",
+        "fun main(): u8 = 0",
+        "",
+        "1 ribbit: syntax at byte 18;",
+    ),
+    (
+        "value E J",
+        "type A = A; fun main(): A = A;",
+        "",
+        "3 ribbit: layout of A: A1: no layout;",
+    ),
+    (
+        "value E E",
+        "fun main(): u8 = 0;",
+        "",
+        "16 ribbit: image 40 at byte 0;",
+    ),
+    (
+        "value I I",
+        "",
+        "root 0x1\n",
+        "1 ribbit: bad byte at byte 6;",
+    ),
+];
+
 #[test]
-fn a_file_before_its_image(rt: HostRuntime) -> Result<(), Fail> {
+fn a_file_before_its_image(rt: HostRuntime) -> Result<(), Surprise> {
+    expect_held(rt.alloc(), &IN_TURN)
+}
+
+// A file over its limit comes before its image too, and an image may be longer than a file.
+#[test]
+fn a_file_over_its_limit(rt: HostRuntime) -> Result<(), Fail> {
     let alloc = rt.alloc();
     let blank = vec![in alloc; b' '; 262_145]?;
-    let long: &[u8] = blank.as_slice();
-    let rows: [(&str, &[u8], &[u8], &str); 9] = [
-        (
-            "value E J",
-            b"fun main(): u8 = 0;",
-            b"",
-            "7 ribbit: read fault;",
-        ),
-        (
-            "value F I",
-            b"fun main(): u8 = 0;",
-            b"root 0x1\n",
-            "7 ribbit: read fault;",
-        ),
-        (
-            "value E J",
-            b"fun main(): u8 = y;",
-            b"",
-            "2 ribbit: unknown name y at byte 17;",
-        ),
-        (
-            "value E J",
-            b"fun main(): u8 = 0",
-            b"",
-            "1 ribbit: syntax at byte 18;",
-        ),
-        (
-            "value E J",
-            b"type A = A; fun main(): A = A;",
-            b"",
-            "3 ribbit: layout of A: A1: no layout;",
-        ),
-        (
-            "value E J",
-            long,
-            b"",
-            "11 ribbit: limit file bytes: 262145 over 262144;",
-        ),
-        // an image may be longer than a file
-        (
-            "value E I",
-            b"fun main(): u8 = 0;",
-            long,
-            "16 ribbit: image 40 at byte 0;",
-        ),
-        (
-            "value E E",
-            b"fun main(): u8 = 0;",
-            b"",
-            "16 ribbit: image 40 at byte 0;",
-        ),
-        (
-            "value I I",
-            b"",
-            b"root 0x1\n",
-            "1 ribbit: bad byte at byte 6;",
-        ),
-    ];
-    for (words, file, image, wanted) in rows {
-        let held = [("E", file), ("I", image)];
-        expect_answer_over(alloc, words, &held, wanted)?;
-    }
+    let long = blank.as_slice();
+    let wanted = "11 ribbit: limit file bytes: 262145 over 262144;";
+    expect_image(alloc, "value E J", long, b"", wanted)?;
+    let wanted = "16 ribbit: image 40 at byte 0;";
+    expect_image(alloc, "value E I", b"fun main(): u8 = 0;", long, wanted)?;
     Ok(())
 }
 
@@ -545,12 +521,8 @@ fn a_file_before_its_image(rt: HostRuntime) -> Result<(), Fail> {
 fn an_image_over_the_limit(rt: HostRuntime) -> Result<(), Fail> {
     let alloc = rt.alloc();
     let blank = vec![in alloc; b' '; 16_777_217]?;
-    let held: [(&str, &[u8]); 2] = [("E", b"fun main(): u8 = 0;"), ("I", blank.as_slice())];
-    expect_answer_over(
-        alloc,
-        "value E I",
-        &held,
-        "11 ribbit: limit file bytes: 16777217 over 16777216;",
-    )?;
+    let wanted = "11 ribbit: limit file bytes: 16777217 over 16777216;";
+    let file = b"fun main(): u8 = 0;";
+    expect_image(alloc, "value E I", file, blank.as_slice(), wanted)?;
     Ok(())
 }
