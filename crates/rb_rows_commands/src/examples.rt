@@ -1,11 +1,11 @@
 //! The examples, each with its words, its file and what it is to answer. Written by examples/make from the
 //! folder examples/.
 
-use rb_rows_calls::call::expect_answer_over;
-use std::test::Fail;
+use rb_rows_calls::rows::{ImageRow, expect_held};
+use rb_rows_calls::surprise::Surprise;
 
 // Words, file, image (none where no image is read) and answer; in an answer each `;` ends a line.
-const EXAMPLES: [(&str, &str, &str, &str); 32] = [
+const EXAMPLES: [ImageRow; 32] = [
     // assembled
     (
         "image E 1 64 Branch(0,1,2,4)",
@@ -233,10 +233,6 @@ const EXAMPLES: [(&str, &str, &str, &str); 32] = [
 ];
 
 #[test]
-fn examples_answer_as_they_say(rt: HostRuntime) -> Result<(), Fail> {
-    for (words, file, image, wanted) in EXAMPLES {
-        let held = [("E", file.as_bytes()), ("I", image.as_bytes())];
-        expect_answer_over(rt.alloc(), words, &held, wanted)?;
-    }
-    Ok(())
+fn examples_answer_as_they_say(rt: HostRuntime) -> Result<(), Surprise> {
+    expect_held(rt.alloc(), &EXAMPLES)
 }

@@ -1,9 +1,9 @@
 //! The operators at widths from 1 to 64 bits, at their ends and in between. The answers are those of
 //! Python's integers, cut to the width.
 
-use rb_rows_calls::call::call;
-use std::str;
-use std::test::Fail;
+use rb_rows_calls::call::expect_answer;
+use rb_rows_calls::surprise::{Surprise, no_row};
+use std::alloc::Global;
 
 // Body, width of the parameters, width of the result, arguments, answer.
 const OPERATORS: &str = "add(x, 1)|64|64|18446744073709551615|0|0\n\
@@ -72,22 +72,25 @@ to u32(x)|31|32|717440070|0|717440070\n\
 to u64(x)|63|64|6081245716983890059|0|6081245716983890059\n\
 to u63(x)|64|63|18446744073709551615|0|9223372036854775807";
 
-#[test]
-fn operators_at_their_widths(rt: HostRuntime) -> Result<(), Fail> {
-    let alloc = rt.alloc();
-    for row in OPERATORS.split('\n') {
-        let columns: Vec<&str> = row.split('|').collect(alloc)?;
-        if let [body, width, result, x, y, answer] = columns.as_slice() {
-            let file = format!(in alloc;
-                "fun main(x: u{width}, y: u{width}): u{result} = {body};"
-            )?;
-            let words = format!(in alloc; "run E 1 64 {x} {y}")?;
-            let line = format!(in alloc; "{answer}\n")?;
-            let did = call(alloc, words.as_str(), file.as_bytes(), &[], &[])?;
-            assert_eq!(rt; str::from_utf8(did.out.as_slice()), Ok(line.as_str()));
-        } else {
-            assert!(rt; false);
-        }
+fn expect_operator(alloc: Global, row: &str) -> Result<(), Surprise> {
+    let columns: Vec<&str> = row.split('|').collect(alloc)?;
+    let [body, width, result, x, y, answer] = columns.as_slice() else {
+        return no_row(alloc, row);
+    };
+    let file = format!(in alloc; "fun main(x: u{width}, y: u{width}): u{result} = {body};")?;
+    let words = format!(in alloc; "run E 1 64 {x} {y}")?;
+    let wanted = format!(in alloc; "0 {answer};")?;
+    expect_answer(alloc, words.as_str(), file.as_bytes(), wanted.as_str())
+}
+
+fn expect_operators(alloc: Global, rows: &str) -> Result<(), Surprise> {
+    for row in rows.split('\n') {
+        expect_operator(alloc, row)?;
     }
     Ok(())
+}
+
+#[test]
+fn operators_at_their_widths(rt: HostRuntime) -> Result<(), Surprise> {
+    expect_operators(rt.alloc(), OPERATORS)
 }
