@@ -1,7 +1,9 @@
 //! Rows of files, with their answers worked out from the language's pages, and the bytes counted by
 //! hand.
 
-use rb_rows_calls::call::{call, expect_answer, repeated};
+use rb_rows_calls::call::{expect_answer, repeated};
+use rb_rows_calls::rows::{expect_lines, expect_rows};
+use rb_rows_calls::surprise::Surprise;
 use std::alloc::{AllocError, Global};
 use std::test::Fail;
 
@@ -78,106 +80,103 @@ fun main(x: u8): u8 = match x { 0 => 1, 0 => 2, _ => 3, 4 => 5 };~0 note: clause
 fun f(x: u1): u1 = match x { _ => 0, 1 => match x { _ => 1, _ => 0 } }; fun main(): u8 = 0;~0 note: clause 1 of the match at byte 19 is never reached;note: clause 1 of the match at byte 42 is never reached;ok;\n\
 fun main(b: Bit): Bit = b; layout Bit <8> = split 0[0:1] { 0 => Off : { word 8 { [0:1] = 0 } } 1 => On : { word 8 { [0:1] = 1 } } }; type Bit = Off | On;~0 ok;";
 
-// Files that are accepted, with values, and the answer to `run`.
-const RUN: &str = "fun main(): u8 = 7;~~0 7;\n\
-fun main(x: u8): u8 = to u8(add(x, 1));~255~0 0;\n\
-fun main(x: u1): u8 = match x { 0 => 5, 1 => 6 };~1~0 6;\n\
-\x20 fun f(): u8 = 0; fun main(): u8 = 0;~~0 0;\n\
-fun main(x: u8): u8 = let y: u8 = x in y;~1~0 1;";
+// Files that are accepted, values, and the answer to `run`.
+const RUN: [(&str, &str, &str); 5] = [
+    ("fun main(): u8 = 7;", "", "0 7;"),
+    ("fun main(x: u8): u8 = to u8(add(x, 1));", "255", "0 0;"),
+    (
+        "fun main(x: u1): u8 = match x { 0 => 5, 1 => 6 };",
+        "1",
+        "0 6;",
+    ),
+    ("  fun f(): u8 = 0; fun main(): u8 = 0;", "", "0 0;"),
+    ("fun main(x: u8): u8 = let y: u8 = x in y;", "1", "0 1;"),
+];
 
 #[test]
-fn refused_files(rt: HostRuntime) -> Result<(), Fail> {
-    let alloc = rt.alloc();
-    for row in REFUSED.split('\n') {
-        let columns: Vec<&str> = row.split('~').collect(alloc)?;
-        if let [file, wanted] = columns.as_slice() {
-            expect_answer(alloc, "check E", file.as_bytes(), wanted)?;
-            expect_answer(alloc, "layout E", file.as_bytes(), wanted)?;
-            expect_answer(alloc, "run E 9 64 x", file.as_bytes(), wanted)?;
-        } else {
-            assert!(rt; false);
-        }
-    }
-    Ok(())
+fn files_refused_by_check(rt: HostRuntime) -> Result<(), Surprise> {
+    expect_lines(rt.alloc(), "check E", REFUSED)
 }
 
 #[test]
-fn checked_files(rt: HostRuntime) -> Result<(), Fail> {
-    let alloc = rt.alloc();
-    for row in CHECKED.split('\n') {
-        let columns: Vec<&str> = row.split('~').collect(alloc)?;
-        if let [file, wanted] = columns.as_slice() {
-            expect_answer(alloc, "check E", file.as_bytes(), wanted)?;
-        } else {
-            assert!(rt; false);
-        }
-    }
-    Ok(())
+fn files_refused_by_layout(rt: HostRuntime) -> Result<(), Surprise> {
+    expect_lines(rt.alloc(), "layout E", REFUSED)
 }
 
 #[test]
-fn run_files(rt: HostRuntime) -> Result<(), Fail> {
-    let alloc = rt.alloc();
-    for row in RUN.split('\n') {
-        let columns: Vec<&str> = row.split('~').collect(alloc)?;
-        if let [file, values, wanted] = columns.as_slice() {
-            let words = format!(in alloc; "run E 9 64 {values}")?;
-            expect_answer(alloc, words.as_str(), file.as_bytes(), wanted)?;
-        } else {
-            assert!(rt; false);
-        }
-    }
-    Ok(())
+fn files_refused_by_run(rt: HostRuntime) -> Result<(), Surprise> {
+    expect_lines(rt.alloc(), "run E 9 64 x", REFUSED)
 }
 
-// The words of `check`, and bytes that no string holds.
 #[test]
-fn words_and_bytes(rt: HostRuntime) -> Result<(), Fail> {
-    let alloc = rt.alloc();
-    expect_answer(alloc, "check", b"", "6 ribbit: usage at word 2;")?;
-    expect_answer(alloc, "check E E", b"", "6 ribbit: usage at word 3;")?;
-    expect_answer(alloc, "check F", b"", "7 ribbit: read fault;")?;
-    let bytes: &[u8] = b"fun main(): u8 = \xFF;";
-    expect_answer(alloc, "check E", bytes, "1 ribbit: bad byte at byte 17;")?;
-    let comment: &[u8] = b"// fun\nfun main(): u8 = // 1\n y;";
-    expect_answer(
-        alloc,
+fn checked_files(rt: HostRuntime) -> Result<(), Surprise> {
+    expect_lines(rt.alloc(), "check E", CHECKED)
+}
+
+#[test]
+fn run_files(rt: HostRuntime) -> Result<(), Surprise> {
+    expect_rows(rt.alloc(), "run E 9 64 ", &RUN)
+}
+
+// File, words, and the answer: the words of `check`, and a file that begins with a comment.
+const WORDS: [(&str, &str, &str); 4] = [
+    ("", "check", "6 ribbit: usage at word 2;"),
+    ("", "check E E", "6 ribbit: usage at word 3;"),
+    ("", "check F", "7 ribbit: read fault;"),
+    (
+        "// fun\nfun main(): u8 = // 1\n y;",
         "check E",
-        comment,
         "2 ribbit: unknown name y at byte 30;",
-    )?;
-    let blanks = vec![in alloc; b' '; 262_145]?;
-    let wanted = "11 ribbit: limit file bytes: 262145 over 262144;";
-    expect_answer(alloc, "check E", blanks.as_slice(), wanted)?;
-    Ok(())
+    ),
+];
+
+#[test]
+fn words_of_check(rt: HostRuntime) -> Result<(), Surprise> {
+    expect_rows(rt.alloc(), "", &WORDS)
 }
 
-// `main` with so many conversions round its body, and so many `)` behind.
-fn nested(alloc: Global, times: usize, body: &str, closed: usize) -> Result<String, AllocError> {
-    let mut text = repeated(alloc, "fun main(x: u8): u8 = ", "to u8(", times, body)?;
-    for _ in 0..closed {
-        text.push(')')?;
-    }
-    text.push(';')?;
-    Ok(text)
+// Bytes that no string holds.
+#[test]
+fn bytes_of_no_string(rt: HostRuntime) -> Result<(), Surprise> {
+    let wanted = "1 ribbit: bad byte at byte 17;";
+    expect_answer(rt.alloc(), "check E", b"fun main(): u8 = \xFF;", wanted)
 }
 
 #[test]
-fn depths(rt: HostRuntime) -> Result<(), Fail> {
-    let alloc = rt.alloc();
-    let deepest = nested(alloc, 127, "x", 127)?;
-    expect_answer(alloc, "run E 9 64 7", deepest.as_bytes(), "0 7;")?;
-    let deeper = nested(alloc, 128, "x", 128)?;
-    let wanted = "11 ribbit: nesting over 128 at byte 790;";
-    expect_answer(alloc, "run E 9 64 7", deeper.as_bytes(), wanted)?;
-    let cut = repeated(alloc, "fun main(x: u8): u8 = ", "to u8(", 128, "")?;
-    expect_answer(
-        alloc,
-        "check E",
-        cut.as_bytes(),
-        "1 ribbit: syntax at byte 790;",
-    )?;
+fn a_file_over_the_limit(rt: HostRuntime) -> Result<(), Fail> {
+    let blanks = vec![in rt.alloc(); b' '; 262_145]?;
+    let wanted = "11 ribbit: limit file bytes: 262145 over 262144;";
+    expect_answer(rt.alloc(), "check E", blanks.as_slice(), wanted)?;
     Ok(())
+}
+
+// How many conversions stand round the body of `main`, and the answer to `run`.
+const NESTED: [(usize, &str); 2] = [
+    (127, "0 7;"),
+    (128, "11 ribbit: nesting over 128 at byte 790;"),
+];
+
+fn expect_nested(alloc: Global, rows: &[(usize, &str)]) -> Result<(), Surprise> {
+    for (times, wanted) in rows {
+        let front = repeated(alloc, "fun main(x: u8): u8 = ", "to u8(", *times, "x")?;
+        let file = repeated(alloc, front.as_str(), ")", *times, ";")?;
+        expect_answer(alloc, "run E 9 64 7", file.as_bytes(), wanted)?;
+    }
+    Ok(())
+}
+
+#[test]
+fn depths(rt: HostRuntime) -> Result<(), Surprise> {
+    expect_nested(rt.alloc(), &NESTED)
+}
+
+// The text ends where a level too many would begin.
+#[test]
+fn a_text_that_ends_too_deep(rt: HostRuntime) -> Result<(), Surprise> {
+    let alloc = rt.alloc();
+    let file = repeated(alloc, "fun main(x: u8): u8 = ", "to u8(", 128, "")?;
+    let wanted = "1 ribbit: syntax at byte 790;";
+    expect_answer(alloc, "check E", file.as_bytes(), wanted)
 }
 
 // Declarations with the numbers from 0 on in them, and `main`.
@@ -197,59 +196,119 @@ fn declared(
     Ok(text)
 }
 
-#[test]
-fn limits_of_files(rt: HostRuntime) -> Result<(), Fail> {
-    let alloc = rt.alloc();
-    let types = declared(alloc, "type T", "=C", ";", 1000)?;
-    expect_answer(
-        alloc,
-        "check E",
-        types.as_slice(),
+// What stands before a number, behind it, and behind the next; how many there are, and the answer.
+const MANY: [(&str, &str, &str, usize, &str); 3] = [
+    (
+        "type T",
+        "=C",
+        ";",
+        1000,
         "3 ribbit: layout of T0: A1: no layout;",
-    )?;
-    let types = declared(alloc, "type T", "=C", ";", 1001)?;
-    let wanted = "11 ribbit: limit types: 1001 over 1000;";
-    expect_answer(alloc, "check E", types.as_slice(), wanted)?;
-    let functions = declared(alloc, "fun f", "():u64=", ";", 10_000)?;
-    let wanted = "11 ribbit: limit functions: 10001 over 10000;";
-    expect_answer(alloc, "check E", functions.as_slice(), wanted)?;
+    ),
+    (
+        "type T",
+        "=C",
+        ";",
+        1001,
+        "11 ribbit: limit types: 1001 over 1000;",
+    ),
+    (
+        "fun f",
+        "():u64=",
+        ";",
+        10_000,
+        "11 ribbit: limit functions: 10001 over 10000;",
+    ),
+];
+
+fn expect_many(
+    alloc: Global,
+    rows: &[(&str, &str, &str, usize, &str)],
+) -> Result<(), Surprise> {
+    for (before, between, behind, times, wanted) in rows {
+        let file = declared(alloc, before, between, behind, *times)?;
+        expect_answer(alloc, "check E", file.as_slice(), wanted)?;
+    }
     Ok(())
 }
 
 #[test]
-fn limits_of_items(rt: HostRuntime) -> Result<(), Fail> {
-    let alloc = rt.alloc();
-    let text = repeated(alloc, "type T = A(u8", ", u8", 31, "); fun main(): u8 = 0;")?;
-    expect_answer(
-        alloc,
-        "check E",
-        text.as_bytes(),
+fn limits_of_files(rt: HostRuntime) -> Result<(), Surprise> {
+    expect_many(rt.alloc(), &MANY)
+}
+
+// What stands before, a part, how often it stands, what stands behind, and the answer.
+const LONG: [(&str, &str, usize, &str, &str); 8] = [
+    (
+        "type T = A(u8",
+        ", u8",
+        31,
+        "); fun main(): u8 = 0;",
         "3 ribbit: layout of T: A1: no layout;",
-    )?;
-    let text = repeated(alloc, "type T = A(u8", ", u8", 32, "); fun main(): u8 = 0;")?;
-    let wanted = "11 ribbit: limit fields: 33 over 32;";
-    expect_answer(alloc, "check E", text.as_bytes(), wanted)?;
-    let text = repeated(alloc, "type T = A", " | B", 255, "; fun main(): u8 = 0;")?;
-    let wanted = "2 ribbit: name B twice at byte 17;";
-    expect_answer(alloc, "check E", text.as_bytes(), wanted)?;
-    let text = repeated(alloc, "type T = A", " | B", 256, "; fun main(): u8 = 0;")?;
-    let wanted = "11 ribbit: limit constructors: 257 over 256;";
-    expect_answer(alloc, "check E", text.as_bytes(), wanted)?;
-    let text = repeated(alloc, "fun main(x: u8", ", x: u8", 31, "): u8 = 0;")?;
-    let wanted = "2 ribbit: variable twice at byte 16;";
-    expect_answer(alloc, "check E", text.as_bytes(), wanted)?;
-    let text = repeated(alloc, "fun main(x: u8", ", x: u8", 32, "): u8 = 0;")?;
-    let wanted = "11 ribbit: limit parameters: 33 over 32;";
-    expect_answer(alloc, "check E", text.as_bytes(), wanted)?;
-    let text = repeated(alloc, "layout T <8", ", 8", 7, "> = A : { word 8 { } };")?;
-    expect_answer(
-        alloc,
-        "check E",
-        text.as_bytes(),
+    ),
+    (
+        "type T = A(u8",
+        ", u8",
+        32,
+        "); fun main(): u8 = 0;",
+        "11 ribbit: limit fields: 33 over 32;",
+    ),
+    (
+        "type T = A",
+        " | B",
+        255,
+        "; fun main(): u8 = 0;",
+        "2 ribbit: name B twice at byte 17;",
+    ),
+    (
+        "type T = A",
+        " | B",
+        256,
+        "; fun main(): u8 = 0;",
+        "11 ribbit: limit constructors: 257 over 256;",
+    ),
+    (
+        "fun main(x: u8",
+        ", x: u8",
+        31,
+        "): u8 = 0;",
+        "2 ribbit: variable twice at byte 16;",
+    ),
+    (
+        "fun main(x: u8",
+        ", x: u8",
+        32,
+        "): u8 = 0;",
+        "11 ribbit: limit parameters: 33 over 32;",
+    ),
+    (
+        "layout T <8",
+        ", 8",
+        7,
+        "> = A : { word 8 { } };",
         "2 ribbit: unknown name T at byte 7;",
-    )?;
-    let text = repeated(alloc, "layout T <8", ", 8", 8, "> = A : { word 8 { } };")?;
-    let wanted = "11 ribbit: limit shape words: 9 over 8;";
-    expect_answer(alloc, "check E", text.as_bytes(), wanted)?;
+    ),
+    (
+        "layout T <8",
+        ", 8",
+        8,
+        "> = A : { word 8 { } };",
+        "11 ribbit: limit shape words: 9 over 8;",
+    ),
+];
+
+fn expect_long(
+    alloc: Global,
+    rows: &[(&str, &str, usize, &str, &str)],
+) -> Result<(), Surprise> {
+    for (before, part, times, behind, wanted) in rows {
+        let file = repeated(alloc, before, part, *times, behind)?;
+        expect_answer(alloc, "check E", file.as_bytes(), wanted)?;
+    }
     Ok(())
+}
+
+#[test]
+fn limits_of_items(rt: HostRuntime) -> Result<(), Surprise> {
+    expect_long(rt.alloc(), &LONG)
 }

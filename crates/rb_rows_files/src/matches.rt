@@ -3,6 +3,8 @@
 //! of the matches counted.
 
 use rb_rows_calls::call::{call, expect_answer};
+use rb_rows_calls::rows::expect_lines;
+use rb_rows_calls::surprise::{Surprise, another};
 use std::alloc::{AllocError, Global};
 use std::str;
 use std::test::Fail;
@@ -23,42 +25,38 @@ fun main(x: u1, y: u2): u8 = match x { 0 => match y { _ => 5 }, _ => match y { 0
 fun main(x: u1, y: u1): u8 = match x { 0 => match y { _ => 5, 0 => 5 }, _ => match y { 0 => 5, 1 => 5 } }; fun f(x: u1): u8 = match x { 0 => 5, 0 => 5, 1 => 5, _ => 5 };~0 note: clause 1 of the match at byte 44 is never reached;note: clause 1 of the match at byte 126 is never reached;note: clause 3 of the match at byte 126 is never reached;ok;";
 
 #[test]
-fn nested_matches(rt: HostRuntime) -> Result<(), Fail> {
-    let alloc = rt.alloc();
-    for row in CHECKED.split('\n') {
-        if let Some((file, wanted)) = row.split_once('~') {
-            expect_answer(alloc, "check E", file.as_bytes(), wanted)?;
-        } else {
-            assert!(rt; false);
+fn nested_matches(rt: HostRuntime) -> Result<(), Surprise> {
+    expect_lines(rt.alloc(), "check E", CHECKED)
+}
+
+// The number at the end of the line that a match at this byte misses it.
+fn number_of(line: &[u8], front: &str) -> Option<u64> {
+    let number = line.strip_prefix(front.as_bytes())?.strip_suffix(b"\n")?;
+    str::from_utf8(number).ok()?.parse().ok()
+}
+
+// The bits of a type, the byte of a match on it, and the greatest number of the type.
+const WIDE: [(u32, u32, u64); 2] = [(8, 44, 255), (64, 45, u64::MAX)];
+
+// Looks which number matches are said to miss that have a clause for 0 alone: of a wide type any number but 0.
+fn expect_missed(alloc: Global, rows: &[(u32, u32, u64)]) -> Result<(), Surprise> {
+    for (bits, at, most) in rows {
+        let file = format!(in alloc;
+            "fun main(x: u1, y: u{bits}): u8 = match x {{ 0 => match y {{ 0 => 5 }}, _ => 6 }};"
+        )?;
+        let did = call(alloc, "check E", file.as_bytes(), &[], &[])?;
+        let front = format!(in alloc; "ribbit: match at byte {at} misses ")?;
+        let number = number_of(did.err.as_slice(), front.as_str());
+        if !matches!(number, Some(n) if 1 <= n && n <= *most) {
+            another(alloc, file.as_str(), did.err.as_slice(), front.as_bytes())?;
         }
     }
     Ok(())
 }
 
-// The number that the match at byte 44 or 45 is said to miss.
-fn missed(alloc: Global, bits: u32, at: u32) -> Result<Option<u64>, AllocError> {
-    let file = format!(in alloc;
-        "fun main(x: u1, y: u{bits}): u8 = match x {{ 0 => match y {{ 0 => 5 }}, _ => 6 }};"
-    )?;
-    let did = call(alloc, "check E", file.as_bytes(), &[], &[])?;
-    let front = format!(in alloc; "ribbit: match at byte {at} misses ")?;
-    let Ok(line) = str::from_utf8(did.err.as_slice()) else {
-        return Ok(None);
-    };
-    Ok(
-        line.strip_prefix(front.as_str())
-            .and_then(|number| number.trim_end().parse().ok()),
-    )
-}
-
-// Of a wide type any number but 0 is missed.
 #[test]
-fn a_number_that_is_missed(rt: HostRuntime) -> Result<(), Fail> {
-    for (bits, at, most) in [(8, 44, 255), (64, 45, u64::MAX)] {
-        let number = missed(rt.alloc(), bits, at)?;
-        assert!(rt; matches!(number, Some(n) if 1 <= n && n <= most), "u{bits}");
-    }
-    Ok(())
+fn a_number_that_is_missed(rt: HostRuntime) -> Result<(), Surprise> {
+    expect_missed(rt.alloc(), &WIDE)
 }
 
 // A function on a number of so many bits, with a clause for each number below a bound but one, and
@@ -95,13 +93,23 @@ const LONG: [(u64, u64, &str, &str); 3] = [
     (255, 77, "255 => 0", "2 ribbit: match at byte 22 misses 77;"),
 ];
 
-#[test]
-fn long_matches(rt: HostRuntime) -> Result<(), Fail> {
-    let alloc = rt.alloc();
-    for (below, without, last, wanted) in LONG {
-        let text = function(alloc, "fun main(x: u8)", below, without, last)?;
+fn expect_long(alloc: Global, rows: &[(u64, u64, &str, &str)]) -> Result<(), Surprise> {
+    for (below, without, last, wanted) in rows {
+        let text = function(alloc, "fun main(x: u8)", *below, *without, last)?;
         expect_answer(alloc, "check E", text.as_slice(), wanted)?;
     }
+    Ok(())
+}
+
+#[test]
+fn long_matches(rt: HostRuntime) -> Result<(), Surprise> {
+    expect_long(rt.alloc(), &LONG)
+}
+
+// Two of forty clauses.
+#[test]
+fn two_long_matches(rt: HostRuntime) -> Result<(), Fail> {
+    let alloc = rt.alloc();
     let mut text = function(alloc, "fun main(x: u64)", 39, 39, "_ => 0")?;
     let other = function(alloc, "fun f(x: u64)", 39, 39, "_ => 0")?;
     text.extend_from_slice(other.as_slice())?;
