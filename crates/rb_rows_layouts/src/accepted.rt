@@ -1,8 +1,9 @@
 //! Files that are accepted, and the texts of their layouts, worked out by hand.
 
-use crate::refusals::expect_agreed;
+use crate::refusals::{expect_agreed, expect_all_agreed};
 use rb_rows_calls::call::expect_answer;
-use std::test::Fail;
+use rb_rows_calls::surprise::Surprise;
+use std::alloc::{AllocError, Global};
 
 /// A list, its tag in the lowest bit of the pointer to an item.
 pub const LIST: &str =
@@ -40,18 +41,15 @@ pub const NICHE: &str =
 pub const BIT: &str =
     "type Bit = Off | On; layout Bit <8> = split 0[0:1] { 0 => Off : { word 8 { [0:1] = 0 } } 1 => On : { word 8 { [0:1] = 1 } } };";
 
+const FILES: [&str; 8] = [LIST, TREE, BRANCH, SHAPE, PAIR, FLAT, NICHE, BIT];
+
 #[test]
-fn layouts_that_agree(rt: HostRuntime) -> Result<(), Fail> {
-    for file in [LIST, TREE, BRANCH, SHAPE, PAIR, FLAT, NICHE, BIT] {
-        expect_agreed(rt.alloc(), file)?;
-    }
-    Ok(())
+fn layouts_that_agree(rt: HostRuntime) -> Result<(), Surprise> {
+    expect_all_agreed(rt.alloc(), &FILES)
 }
 
-// Forty types, each of which holds the one before it twice: what the last one never has is decided once for each.
-#[test]
-fn a_niche_through_forty_types(rt: HostRuntime) -> Result<(), Fail> {
-    let alloc = rt.alloc();
+// Forty types, each of which holds the one before it twice, and one with a number that the last of them never has.
+fn forty_types(alloc: Global) -> Result<String, AllocError> {
     let mut file = format!(in alloc;
         "type C0 = A0 | B0; layout C0 <2> = split 0[0:2] {{ 0 => A0 : {{ word 2 {{ [0:2] = 0 }} }} 1 => B0 : {{ word 2 {{ [0:2] = 1 }} }} }};"
     )?;
@@ -67,12 +65,19 @@ fn a_niche_through_forty_types(rt: HostRuntime) -> Result<(), Fail> {
     file.push_str(
         "type Top = F | G(C40); layout Top <42> = split 0[0:2] { 2 => F : { word 42 { [0:2] = 2 } } else => G(_) : { word 42 { [0:42] .0 } } };",
     )?;
-    expect_agreed(alloc, file.as_str())?;
-    Ok(())
+    Ok(file)
+}
+
+// What the last one never has is decided once for each.
+#[test]
+fn a_niche_through_forty_types(rt: HostRuntime) -> Result<(), Surprise> {
+    let alloc = rt.alloc();
+    let file = forty_types(alloc)?;
+    expect_agreed(alloc, file.as_str())
 }
 
 // File, and the text of its layouts; each `;` ends a line.
-const SHOWN: [(&str, &str); 6] = [
+const SHOWN: [(&str, &str); 7] = [
     (
         BIT,
         "0 type Bit;leaf Off;when 0[0:1] = 0;word 0: 8 bits;  0:1 = 0;  1:7 free;leaf On;when 0[0:1] = 1;word 0: 8 bits;  0:1 = 1;  1:7 free;",
@@ -97,16 +102,19 @@ const SHOWN: [(&str, &str); 6] = [
         PAIR,
         "0 type Pair;leaf Two(_, _);word 0: 64 bits;  0:64 pointer to block 1;block 0: 8 bytes, align 8;word 0 at byte 0: 64 bits;  0:64 field .1 bits 0:64;block 1: 16 bytes, align 8;word 0 at byte 0: 64 bits;  0:64 field .0 bits 0:64;word 1 at byte 8: 64 bits;  0:64 pointer to block 0;",
     ),
+    // a file without types has no layouts
+    ("", "0 "),
 ];
 
-#[test]
-fn texts_of_layouts(rt: HostRuntime) -> Result<(), Fail> {
-    let alloc = rt.alloc();
-    for (file, wanted) in SHOWN {
+fn expect_shown(alloc: Global, rows: &[(&str, &str)]) -> Result<(), Surprise> {
+    for (file, wanted) in rows {
         let file = format!(in alloc; "{file} fun main(): u8 = 0;")?;
         expect_answer(alloc, "layout E", file.as_bytes(), wanted)?;
     }
-    // A file without types has no layouts.
-    expect_answer(alloc, "layout E", b"fun main(): u8 = 0;", "0 ")?;
     Ok(())
+}
+
+#[test]
+fn texts_of_layouts(rt: HostRuntime) -> Result<(), Surprise> {
+    expect_shown(rt.alloc(), &SHOWN)
 }

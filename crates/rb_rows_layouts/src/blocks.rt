@@ -1,9 +1,10 @@
 //! Blocks of words and of numbers that are none, and pointers that are too short; and which of several faults
 //! of one leaf is named. Worked out by hand from the rules.
 
-use crate::refusals::{expect_agreed, expect_refused};
+use crate::refusals::{expect_agreed, expect_refusal, expect_refused};
 use rb_rows_calls::call::repeated;
-use std::test::Fail;
+use rb_rows_calls::surprise::Surprise;
+use std::alloc::Global;
 
 // File, and what is refused.
 const REFUSED: [(&str, &str); 12] = [
@@ -58,11 +59,8 @@ const REFUSED: [(&str, &str); 12] = [
 ];
 
 #[test]
-fn blocks_and_pointers(rt: HostRuntime) -> Result<(), Fail> {
-    for (file, wanted) in REFUSED {
-        expect_refused(rt.alloc(), file, wanted)?;
-    }
-    Ok(())
+fn blocks_and_pointers(rt: HostRuntime) -> Result<(), Surprise> {
+    expect_refused(rt.alloc(), &REFUSED)
 }
 
 // Files in which a leaf fails in two ways or more, and what is refused: of a word first its pointers as they
@@ -136,16 +134,15 @@ const FIRST: [(&str, &str); 16] = [
 ];
 
 #[test]
-fn first_of_several_faults(rt: HostRuntime) -> Result<(), Fail> {
-    for (file, wanted) in FIRST {
-        expect_refused(rt.alloc(), file, wanted)?;
-    }
-    Ok(())
+fn first_of_several_faults(rt: HostRuntime) -> Result<(), Surprise> {
+    expect_refused(rt.alloc(), &FIRST)
 }
 
-// What stands before, a part, how often it stands, what stands behind, and what is refused. The number of a
-// leaf's blocks is named before all else, and that of a block's words before their widths.
-const LONG: [(&str, &str, usize, &str, &str); 6] = [
+// What stands before, a part, how often it stands, what stands behind, and what is refused.
+type Long<'a> = (&'a str, &'a str, usize, &'a str, &'a str);
+
+// The number of a leaf's blocks is named before all else, and that of a block's words before their widths.
+const LONG: [Long; 6] = [
     (
         "type A = A; layout A <64> = A : { word 64 { [0:64] -> 8 { word 8 { }",
         ", word 8 { }",
@@ -190,23 +187,30 @@ const LONG: [(&str, &str, usize, &str, &str); 6] = [
     ),
 ];
 
+fn expect_long(alloc: Global, rows: &[Long]) -> Result<(), Surprise> {
+    for (before, part, times, behind, reason) in rows {
+        let file = repeated(alloc, before, part, *times, behind)?;
+        expect_refusal(alloc, file.as_str(), reason)?;
+    }
+    Ok(())
+}
+
 #[test]
-fn many_words_and_blocks(rt: HostRuntime) -> Result<(), Fail> {
-    let alloc = rt.alloc();
-    for (before, part, times, behind, wanted) in LONG {
-        let file = repeated(alloc, before, part, times, behind)?;
-        expect_refused(alloc, file.as_str(), wanted)?;
+fn many_words_and_blocks(rt: HostRuntime) -> Result<(), Surprise> {
+    expect_long(rt.alloc(), &LONG)
+}
+
+// The first rows with a part less.
+fn expect_less(alloc: Global, rows: &[Long]) -> Result<(), Surprise> {
+    for (before, part, times, behind, _) in rows {
+        let file = repeated(alloc, before, part, times.saturating_sub(1), behind)?;
+        expect_agreed(alloc, file.as_str())?;
     }
     Ok(())
 }
 
 // One word less, and one block less.
 #[test]
-fn as_many_words_and_blocks_as_there_may_be(rt: HostRuntime) -> Result<(), Fail> {
-    let alloc = rt.alloc();
-    for (before, part, times, behind, _) in [LONG[0], LONG[1]] {
-        let file = repeated(alloc, before, part, times - 1, behind)?;
-        expect_agreed(alloc, file.as_str())?;
-    }
-    Ok(())
+fn as_many_words_and_blocks_as_there_may_be(rt: HostRuntime) -> Result<(), Surprise> {
+    expect_less(rt.alloc(), &LONG[..2])
 }

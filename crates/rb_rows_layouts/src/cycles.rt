@@ -2,7 +2,7 @@
 //! words. Worked out by hand from the rules.
 
 use crate::refusals::expect_refused;
-use std::test::Fail;
+use rb_rows_calls::surprise::Surprise;
 
 // File, and what is refused.
 const REFUSED: [(&str, &str); 9] = [
@@ -45,9 +45,6 @@ const REFUSED: [(&str, &str); 9] = [
 ];
 
 #[test]
-fn pointers_and_cycles(rt: HostRuntime) -> Result<(), Fail> {
-    for (file, wanted) in REFUSED {
-        expect_refused(rt.alloc(), file, wanted)?;
-    }
-    Ok(())
+fn pointers_and_cycles(rt: HostRuntime) -> Result<(), Surprise> {
+    expect_refused(rt.alloc(), &REFUSED)
 }

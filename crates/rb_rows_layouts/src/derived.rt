@@ -4,7 +4,9 @@
 use crate::accepted::{BIT, BRANCH, LIST, NICHE, PAIR, SHAPE, TREE, TWIN};
 use crate::refusals::{expect_agreed, expect_refused};
 use rb_rows_calls::call::{expect_answer, repeated};
-use std::test::Fail;
+use rb_rows_calls::rows::expect_files;
+use rb_rows_calls::surprise::Surprise;
+use std::alloc::Global;
 
 // File, words, and the words and blocks of the value.
 const IMAGES: [(&str, &str, &str); 7] = [
@@ -48,13 +50,17 @@ const IMAGES: [(&str, &str, &str); 7] = [
     ),
 ];
 
-#[test]
-fn words_and_blocks(rt: HostRuntime) -> Result<(), Fail> {
-    for (file, words, wanted) in IMAGES {
-        expect_answer(rt.alloc(), words, file.as_bytes(), wanted)?;
-        expect_answer(rt.alloc(), "check E", file.as_bytes(), "0 ok;")?;
+fn expect_images(alloc: Global, rows: &[(&str, &str, &str)]) -> Result<(), Surprise> {
+    for (file, words, wanted) in rows {
+        expect_answer(alloc, words, file.as_bytes(), wanted)?;
+        expect_answer(alloc, "check E", file.as_bytes(), "0 ok;")?;
     }
     Ok(())
+}
+
+#[test]
+fn words_and_blocks(rt: HostRuntime) -> Result<(), Surprise> {
+    expect_images(rt.alloc(), &IMAGES)
 }
 
 // File, and what is refused.
@@ -99,11 +105,8 @@ const REFUSED: [(&str, &str); 8] = [
 ];
 
 #[test]
-fn layouts_that_are_refused(rt: HostRuntime) -> Result<(), Fail> {
-    for (file, wanted) in REFUSED {
-        expect_refused(rt.alloc(), file, wanted)?;
-    }
-    Ok(())
+fn layouts_that_are_refused(rt: HostRuntime) -> Result<(), Surprise> {
+    expect_refused(rt.alloc(), &REFUSED)
 }
 
 // File, and what refuses it before a layout does that cannot be derived.
@@ -139,16 +142,15 @@ const EARLIER: [(&str, &str); 7] = [
 ];
 
 #[test]
-fn refusals_that_come_first(rt: HostRuntime) -> Result<(), Fail> {
-    for (file, wanted) in EARLIER {
-        expect_answer(rt.alloc(), "check E", file.as_bytes(), wanted)?;
-    }
-    Ok(())
+fn refusals_that_come_first(rt: HostRuntime) -> Result<(), Surprise> {
+    expect_files(rt.alloc(), "check E", &EARLIER)
 }
 
 // Types with their written layouts; the types; layouts that leave them to the compiler, with a `~` between; functions,
 // the value that `main` takes, and the one that it gives.
-const EXAMPLES: [(&str, &str, &str, &str, &str, &str); 8] = [
+type Example<'a> = (&'a str, &'a str, &'a str, &'a str, &'a str, &'a str);
+
+const EXAMPLES: [Example; 8] = [
     (
         BIT,
         "type Bit = Off | On;",
@@ -215,25 +217,34 @@ const EXAMPLES: [(&str, &str, &str, &str, &str, &str); 8] = [
     ),
 ];
 
-#[test]
-fn the_same_values(rt: HostRuntime) -> Result<(), Fail> {
-    let alloc = rt.alloc();
-    for (written, types, layouts, functions, value, wanted) in EXAMPLES {
-        let words = format!(in alloc; "run E 100 4096 {value}")?;
-        let wanted = format!(in alloc; "0 {wanted};")?;
-        let file = format!(in alloc; "{written} {functions}")?;
+fn expect_same(alloc: Global, example: &Example) -> Result<(), Surprise> {
+    let (written, types, layouts, functions, value, wanted) = *example;
+    let words = format!(in alloc; "run E 100 4096 {value}")?;
+    let wanted = format!(in alloc; "0 {wanted};")?;
+    let file = format!(in alloc; "{written} {functions}")?;
+    expect_answer(alloc, words.as_str(), file.as_bytes(), wanted.as_str())?;
+    for layout in layouts.split('~') {
+        let file = format!(in alloc; "{types} {layout} {functions}")?;
         expect_answer(alloc, words.as_str(), file.as_bytes(), wanted.as_str())?;
-        for layout in layouts.split('~') {
-            let file = format!(in alloc; "{types} {layout} {functions}")?;
-            expect_answer(alloc, words.as_str(), file.as_bytes(), wanted.as_str())?;
-        }
     }
     Ok(())
 }
 
+fn expect_all_same(alloc: Global, examples: &[Example]) -> Result<(), Surprise> {
+    for example in examples {
+        expect_same(alloc, example)?;
+    }
+    Ok(())
+}
+
+#[test]
+fn the_same_values(rt: HostRuntime) -> Result<(), Surprise> {
+    expect_all_same(rt.alloc(), &EXAMPLES)
+}
+
 // A boxed constructor of 32 fields of three words each has 96 words: a block of two pointers, to blocks of 64 and of 32.
 #[test]
-fn more_words_than_a_block_has(rt: HostRuntime) -> Result<(), Fail> {
+fn more_words_than_a_block_has(rt: HostRuntime) -> Result<(), Surprise> {
     let alloc = rt.alloc();
     let field =
         "type F = F(u64, u64, u64); layout F <64, 64, 64> = F(_, _, _) : { word 64 { [0:64] .0 }, word 64 { [0:64] .1 }, word 64 { [0:64] .2 } };";
@@ -247,13 +258,12 @@ fn more_words_than_a_block_has(rt: HostRuntime) -> Result<(), Fail> {
     let value = repeated(alloc, "Big(", "F(1, 2, 3), ", 31, "F(1, 2, 3))")?;
     let file = format!(in alloc; "{field} {types} fun main(): Big = {value};")?;
     let wanted = format!(in alloc; "0 value {value};calls 1;switches 0;blocks 3;bytes 784;")?;
-    expect_answer(alloc, "count E 1 1000", file.as_bytes(), wanted.as_str())?;
-    Ok(())
+    expect_answer(alloc, "count E 1 1000", file.as_bytes(), wanted.as_str())
 }
 
 // A packed type of 256 constructors has a tag of eight bits.
 #[test]
-fn as_many_constructors_as_there_may_be(rt: HostRuntime) -> Result<(), Fail> {
+fn as_many_constructors_as_there_may_be(rt: HostRuntime) -> Result<(), Surprise> {
     let alloc = rt.alloc();
     let mut file = format!(in alloc; "type Many = C0")?;
     for i in 1..256 as u64 {
@@ -263,6 +273,5 @@ fn as_many_constructors_as_there_may_be(rt: HostRuntime) -> Result<(), Fail> {
     file.push_str("; layout Many = packed; type Two = Two(Many, u56); layout Two = packed; ")?;
     expect_agreed(alloc, file.as_str())?;
     file.push_str("fun main(): Two = Two(C255, 1);")?;
-    expect_answer(alloc, "image E 1 64", file.as_bytes(), "0 root 0x1ff;")?;
-    Ok(())
+    expect_answer(alloc, "image E 1 64", file.as_bytes(), "0 root 0x1ff;")
 }

@@ -1,8 +1,8 @@
 //! Bits and words of fields that are held by no part or by two, and parts of fields that are not open. Worked out
 //! by hand from the rules.
 
-use crate::refusals::{expect_either, expect_refused};
-use std::test::Fail;
+use crate::refusals::{Either, expect_either, expect_refused};
+use rb_rows_calls::surprise::Surprise;
 
 // File, and what is refused.
 const REFUSED: [(&str, &str); 12] = [
@@ -57,22 +57,18 @@ const REFUSED: [(&str, &str); 12] = [
 ];
 
 #[test]
-fn fields_held_once(rt: HostRuntime) -> Result<(), Fail> {
-    for (file, wanted) in REFUSED {
-        expect_refused(rt.alloc(), file, wanted)?;
-    }
-    Ok(())
+fn fields_held_once(rt: HostRuntime) -> Result<(), Surprise> {
+    expect_refused(rt.alloc(), &REFUSED)
 }
 
 // The bit 10 of the last field does not stand in it, and its bit 0 stands there twice: either may be told.
+const TWICE: [Either; 1] = [(
+    "type Instr = Branch(u3, u5, u5, u12); layout Instr <32> = Branch(_, _, _, _) : { word 32 { [0:7] = 99, [7:1] .3[0:1], [8:4] .3[0:4], [12:3] .0, [15:5] .1, [20:5] .2, [25:6] .3[4:6], [31:1] .3[11:1] } };",
+    "Instr: A6: leaf Branch(_, _, _, _): field .3 bit 10 not held",
+    "Instr: A6: leaf Branch(_, _, _, _): field .3 bit 0 held twice",
+)];
+
 #[test]
-fn a_bit_twice_in_the_place_of_another(rt: HostRuntime) -> Result<(), Fail> {
-    let file =
-        "type Instr = Branch(u3, u5, u5, u12); layout Instr <32> = Branch(_, _, _, _) : { word 32 { [0:7] = 99, [7:1] .3[0:1], [8:4] .3[0:4], [12:3] .0, [15:5] .1, [20:5] .2, [25:6] .3[4:6], [31:1] .3[11:1] } };";
-    let wanted = [
-        "Instr: A6: leaf Branch(_, _, _, _): field .3 bit 10 not held",
-        "Instr: A6: leaf Branch(_, _, _, _): field .3 bit 0 held twice",
-    ];
-    expect_either(rt.alloc(), file, wanted)?;
-    Ok(())
+fn a_bit_twice_in_the_place_of_another(rt: HostRuntime) -> Result<(), Surprise> {
+    expect_either(rt.alloc(), &TWICE)
 }

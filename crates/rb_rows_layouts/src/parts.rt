@@ -2,7 +2,7 @@
 //! they hold. Worked out by hand from the rules.
 
 use crate::refusals::expect_refused;
-use std::test::Fail;
+use rb_rows_calls::surprise::Surprise;
 
 // File, and what is refused.
 const REFUSED: [(&str, &str); 19] = [
@@ -85,9 +85,6 @@ const REFUSED: [(&str, &str); 19] = [
 ];
 
 #[test]
-fn parts_of_words(rt: HostRuntime) -> Result<(), Fail> {
-    for (file, wanted) in REFUSED {
-        expect_refused(rt.alloc(), file, wanted)?;
-    }
-    Ok(())
+fn parts_of_words(rt: HostRuntime) -> Result<(), Surprise> {
+    expect_refused(rt.alloc(), &REFUSED)
 }

@@ -2,8 +2,8 @@
 //! Worked out by hand from the rules.
 
 use crate::refusals::expect_refused;
-use rb_rows_calls::call::expect_answer;
-use std::test::Fail;
+use rb_rows_calls::rows::expect_rows;
+use rb_rows_calls::surprise::Surprise;
 
 // File, and what is refused.
 const REFUSED: [(&str, &str); 9] = [
@@ -46,31 +46,30 @@ const REFUSED: [(&str, &str); 9] = [
 ];
 
 #[test]
-fn first_places(rt: HostRuntime) -> Result<(), Fail> {
-    for (file, wanted) in REFUSED {
-        expect_refused(rt.alloc(), file, wanted)?;
-    }
-    Ok(())
+fn first_places(rt: HostRuntime) -> Result<(), Surprise> {
+    expect_refused(rt.alloc(), &REFUSED)
 }
 
-// A layout is looked at after the matches of a file, and before the words of a command.
+// A layout that is refused.
+const WHOLE: &str = "type Bit = Off | On; layout Bit <8> = Off : { word 16 { } }; fun main(b: Bit): u8 = 0;";
+
+// The same, and a match that misses a value.
+const MISSING: &str =
+    "type Bit = Off | On; layout Bit <8> = Off : { word 16 { } }; fun main(b: Bit): u8 = match b { Off => 0 };";
+
+const REFUSAL: &str = "3 ribbit: layout of Bit: A2: leaf Off: word 0 has 16 bits, wanted 8;";
+
+// File, words, answer: a layout is looked at after the matches of a file, and before the words of a command.
+const BETWEEN: [(&str, &str, &str); 6] = [
+    (MISSING, "check E", "2 ribbit: match at byte 84 misses On;"),
+    (WHOLE, "check E", REFUSAL),
+    (WHOLE, "layout E", REFUSAL),
+    (WHOLE, "compile E", REFUSAL),
+    (WHOLE, "run E 1 64", REFUSAL),
+    (WHOLE, "run E 1 64 Off Off", REFUSAL),
+];
+
 #[test]
-fn layouts_between_matches_and_words(rt: HostRuntime) -> Result<(), Fail> {
-    let alloc = rt.alloc();
-    let bit = "type Bit = Off | On; layout Bit <8> = Off : { word 16 { } };";
-    let missing = format!(in alloc; "{bit} fun main(b: Bit): u8 = match b {{ Off => 0 }};")?;
-    let wanted = "2 ribbit: match at byte 84 misses On;";
-    expect_answer(alloc, "check E", missing.as_bytes(), wanted)?;
-    let whole = format!(in alloc; "{bit} fun main(b: Bit): u8 = 0;")?;
-    let wanted = "3 ribbit: layout of Bit: A2: leaf Off: word 0 has 16 bits, wanted 8;";
-    for words in [
-        "check E",
-        "layout E",
-        "compile E",
-        "run E 1 64",
-        "run E 1 64 Off Off",
-    ] {
-        expect_answer(alloc, words, whole.as_bytes(), wanted)?;
-    }
-    Ok(())
+fn layouts_between_matches_and_words(rt: HostRuntime) -> Result<(), Surprise> {
+    expect_rows(rt.alloc(), "", &BETWEEN)
 }

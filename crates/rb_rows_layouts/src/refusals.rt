@@ -1,27 +1,47 @@
 //! What `check` answers to files of layouts, to each of which a `main` is added.
 
 use rb_rows_calls::call::{answer, expect_answer};
-use rb_rows_calls::surprise::{Surprise, text_of};
+use rb_rows_calls::surprise::{Surprise, another};
 use std::alloc::Global;
 
+/// Looks whether files are refused, each for its reason.
+pub fn expect_refused(alloc: Global, rows: &[(&str, &str)]) -> Result<(), Surprise> {
+    for (file, reason) in rows {
+        expect_refusal(alloc, file, reason)?;
+    }
+    Ok(())
+}
+
 /// Looks whether a file is refused for this reason.
-pub fn expect_refused(alloc: Global, file: &str, wanted: &str) -> Result<(), Surprise> {
+pub fn expect_refusal(alloc: Global, file: &str, reason: &str) -> Result<(), Surprise> {
     let file = format!(in alloc; "{file} fun main(): u8 = 0;")?;
-    let wanted = format!(in alloc; "3 ribbit: layout of {wanted};")?;
+    let wanted = format!(in alloc; "3 ribbit: layout of {reason};")?;
     expect_answer(alloc, "check E", file.as_bytes(), wanted.as_str())
 }
 
-/// Looks whether a file is refused for one of these reasons.
-pub fn expect_either(alloc: Global, file: &str, wanted: [&str; 2]) -> Result<(), Surprise> {
-    let file = format!(in alloc; "{file} fun main(): u8 = 0;")?;
-    let answer = answer(alloc, "check E", file.as_bytes())?;
-    for reason in wanted {
-        let wanted = format!(in alloc; "3 ribbit: layout of {reason};")?;
-        if answer.as_slice() == wanted.as_bytes() {
-            return Ok(());
+/// A file, and two reasons.
+pub type Either<'a> = (&'a str, &'a str, &'a str);
+
+/// Looks whether files are refused, each for one of its reasons.
+pub fn expect_either(alloc: Global, rows: &[Either]) -> Result<(), Surprise> {
+    for (file, one, other) in rows {
+        let file = format!(in alloc; "{file} fun main(): u8 = 0;")?;
+        let answer = answer(alloc, "check E", file.as_bytes())?;
+        let one = format!(in alloc; "3 ribbit: layout of {one};")?;
+        let other = format!(in alloc; "3 ribbit: layout of {other};")?;
+        if answer.as_slice() != one.as_bytes() && answer.as_slice() != other.as_bytes() {
+            another(alloc, "check E", answer.as_slice(), one.as_bytes())?;
         }
     }
-    Err(Surprise::Answer(text_of(alloc, answer.as_slice())?))
+    Ok(())
+}
+
+/// Looks whether files are accepted.
+pub fn expect_all_agreed(alloc: Global, files: &[&str]) -> Result<(), Surprise> {
+    for file in files {
+        expect_agreed(alloc, file)?;
+    }
+    Ok(())
 }
 
 /// Looks whether a file is accepted.

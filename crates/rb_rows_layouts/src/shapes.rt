@@ -2,7 +2,7 @@
 //! Worked out by hand from the rules.
 
 use crate::refusals::expect_refused;
-use std::test::Fail;
+use rb_rows_calls::surprise::Surprise;
 
 // File, and what is refused.
 const REFUSED: [(&str, &str); 12] = [
@@ -54,9 +54,6 @@ const REFUSED: [(&str, &str); 12] = [
 ];
 
 #[test]
-fn shapes_and_roots(rt: HostRuntime) -> Result<(), Fail> {
-    for (file, wanted) in REFUSED {
-        expect_refused(rt.alloc(), file, wanted)?;
-    }
-    Ok(())
+fn shapes_and_roots(rt: HostRuntime) -> Result<(), Surprise> {
+    expect_refused(rt.alloc(), &REFUSED)
 }

@@ -1,8 +1,8 @@
 //! Leaves that fail a test above them, and splits with literals twice, with literals that are too wide, or without
 //! an arm. Worked out by hand from the rules.
 
-use crate::refusals::{expect_either, expect_refused};
-use std::test::Fail;
+use crate::refusals::{Either, expect_either, expect_refused};
+use rb_rows_calls::surprise::Surprise;
 
 // File, and what is refused.
 const FAILING: [(&str, &str); 15] = [
@@ -69,11 +69,8 @@ const FAILING: [(&str, &str); 15] = [
 ];
 
 #[test]
-fn leaves_that_fail_a_test(rt: HostRuntime) -> Result<(), Fail> {
-    for (file, wanted) in FAILING {
-        expect_refused(rt.alloc(), file, wanted)?;
-    }
-    Ok(())
+fn leaves_that_fail_a_test(rt: HostRuntime) -> Result<(), Surprise> {
+    expect_refused(rt.alloc(), &FAILING)
 }
 
 // File, and what is refused.
@@ -105,42 +102,30 @@ const REFUSED: [(&str, &str); 6] = [
 ];
 
 #[test]
-fn splits_of_layouts(rt: HostRuntime) -> Result<(), Fail> {
-    for (file, wanted) in REFUSED {
-        expect_refused(rt.alloc(), file, wanted)?;
-    }
-    Ok(())
+fn splits_of_layouts(rt: HostRuntime) -> Result<(), Surprise> {
+    expect_refused(rt.alloc(), &REFUSED)
 }
 
 // A literal of too many bits has no leaf below it, so some split below it has no arm: either may be told.
-const WIDE: [(&str, [&str; 2]); 3] = [
+const WIDE: [Either; 3] = [
     (
         "type Bit = Off | On; layout Bit <8> = split 0[0:1] { 0 => Off : { word 8 { [0:1] = 0 } } 1 => On : { word 8 { [0:1] = 1 } } 2 => split 0[3:5] { } };",
-        [
-            "Bit: A8: split 0[0:1]: literal 2 over 1 bits",
-            "Bit: A8: split 0[3:5]: no arm",
-        ],
+        "Bit: A8: split 0[0:1]: literal 2 over 1 bits",
+        "Bit: A8: split 0[3:5]: no arm",
     ),
     (
         "type Bit = Off | On; layout Bit <8> = split 0[0:1] { 0 => Off : { word 8 { [0:1] = 0 } } 1 => On : { word 8 { [0:1] = 1 } } 18446744073709551615 => split 0[3:5] { } };",
-        [
-            "Bit: A8: split 0[0:1]: literal 18446744073709551615 over 1 bits",
-            "Bit: A8: split 0[3:5]: no arm",
-        ],
+        "Bit: A8: split 0[0:1]: literal 18446744073709551615 over 1 bits",
+        "Bit: A8: split 0[3:5]: no arm",
     ),
     (
         "type Bit = Off | On; layout Bit <8> = split 0[0:1] { 0 => Off : { word 8 { [0:1] = 0 } } else => split 0[0:8] { 1 => On : { word 8 { [0:8] = 1 } } 256 => split 0[3:5] { } } };",
-        [
-            "Bit: A8: split 0[0:8]: literal 256 over 8 bits",
-            "Bit: A8: split 0[3:5]: no arm",
-        ],
+        "Bit: A8: split 0[0:8]: literal 256 over 8 bits",
+        "Bit: A8: split 0[3:5]: no arm",
     ),
 ];
 
 #[test]
-fn literals_of_too_many_bits(rt: HostRuntime) -> Result<(), Fail> {
-    for (file, wanted) in WIDE {
-        expect_either(rt.alloc(), file, wanted)?;
-    }
-    Ok(())
+fn literals_of_too_many_bits(rt: HostRuntime) -> Result<(), Surprise> {
+    expect_either(rt.alloc(), &WIDE)
 }

@@ -2,7 +2,7 @@
 //! missed is the only one.
 
 use crate::refusals::expect_refused;
-use std::test::Fail;
+use rb_rows_calls::surprise::Surprise;
 
 // File, and what is refused.
 const REFUSED: [(&str, &str); 8] = [
@@ -41,9 +41,6 @@ const REFUSED: [(&str, &str); 8] = [
 ];
 
 #[test]
-fn values_of_leaves(rt: HostRuntime) -> Result<(), Fail> {
-    for (file, wanted) in REFUSED {
-        expect_refused(rt.alloc(), file, wanted)?;
-    }
-    Ok(())
+fn values_of_leaves(rt: HostRuntime) -> Result<(), Surprise> {
+    expect_refused(rt.alloc(), &REFUSED)
 }
