@@ -1,9 +1,9 @@
 //! Calls of the program with an outside that fails, and what they are to do.
 
-use rb_edge::{CountLedger, MemSink, MemSource, NamedBytes, Seq, Steps, Words};
-use rb_rows_calls::call::Did;
-use rb_rows_calls::surprise::{Surprise, text_of};
-use ribbit_tool::top::ribbit;
+use rb_edge::MemSink;
+use rb_rows_calls::answers::{Answer, expect_did};
+use rb_rows_calls::call::{Did, call_with, sink_of, source_of};
+use rb_rows_calls::surprise::Surprise;
 use std::alloc::{AllocError, Global};
 
 /// The source or a sink of a call: how many bytes go over at once, how many a sink takes in all, and the
@@ -63,65 +63,31 @@ pub fn holding(step: usize, room: usize) -> Side {
     }
 }
 
-/// What a call is to answer.
-#[derive(Clone, Copy)]
-pub struct Answer<'a> {
-    pub status: u8,
-    pub out: &'a [u8],
-    pub err: &'a [u8],
-    /// None where any number is right.
-    pub steps: Option<u128>,
-}
-
-fn list<T: Copy>(alloc: Global, items: &[T]) -> Result<Seq<T>, AllocError> {
-    Ok(Seq::from_vec(Vec::from_slice(alloc, items)?))
-}
-
-// The numbers of the calls that fail.
-fn fails(alloc: Global, side: Side) -> Result<Seq<u64>, AllocError> {
-    match side.fails {
-        None => Ok(Seq::new(alloc)),
-        Some(call) => list(alloc, &[call]),
-    }
-}
-
-fn source(alloc: Global, held: Held, side: Side) -> Result<MemSource, AllocError> {
-    let mut files = Seq::new(alloc);
-    for (name, bytes) in [(b"E", held.file), (b"I", held.image)] {
-        files.push(NamedBytes {
-            name: list(alloc, name.as_slice())?,
-            bytes: list(alloc, bytes)?,
-        })?;
-    }
-    Ok(MemSource::new(files, side.step.max(1), fails(alloc, side)?))
-}
+/// Nothing fails.
+pub const NOTHING_FAILS: Outside = Outside {
+    source: EASY,
+    out: EASY,
+    err: EASY,
+};
 
 fn sink(alloc: Global, side: Side) -> Result<MemSink, AllocError> {
-    MemSink::new(alloc, side.room, side.step.max(1), fails(alloc, side)?)
-}
-
-fn words_of(alloc: Global, text: &str) -> Result<Words, AllocError> {
-    let mut words = Words::new(alloc);
-    for word in text.split(' ') {
-        words.push(word.as_bytes())?;
+    match side.fails {
+        None => sink_of(alloc, side.room, side.step, &[]),
+        Some(call) => sink_of(alloc, side.room, side.step, &[call]),
     }
-    Ok(words)
 }
 
 /// Calls `ribbit` on words with blanks between them.
 pub fn call(alloc: Global, words: &str, held: Held, outside: Outside) -> Result<Did, AllocError> {
-    let given = words_of(alloc, words)?;
-    let mut src = source(alloc, held, outside.source)?;
-    let mut out = sink(alloc, outside.out)?;
-    let mut err = sink(alloc, outside.err)?;
-    let mut steps = Steps::new(CountLedger { count: 0 });
-    let status = ribbit(alloc, &given, &mut src, &mut out, &mut err, &mut steps);
-    Ok(Did {
-        status,
-        out: Vec::from_slice(alloc, out.bytes())?,
-        err: Vec::from_slice(alloc, err.bytes())?,
-        steps: steps.ledger().count,
-    })
+    let files = [("E", held.file), ("I", held.image)];
+    let side = outside.source;
+    let src = match side.fails {
+        None => source_of(alloc, &files, side.step, &[])?,
+        Some(call) => source_of(alloc, &files, side.step, &[call])?,
+    };
+    let out = sink(alloc, outside.out)?;
+    let err = sink(alloc, outside.err)?;
+    call_with(alloc, words, src, out, err)
 }
 
 /// Looks whether a call answers so, and gives its steps.
@@ -137,17 +103,6 @@ pub fn expect(
     wanted: Answer,
 ) -> Result<u128, Surprise> {
     let did = call(alloc, words, held, outside)?;
-    let steps = did.steps;
-    let is_right = did.status == wanted.status
-        && did.out.as_slice() == wanted.out
-        && did.err.as_slice() == wanted.err
-        && steps == wanted.steps.unwrap_or(steps);
-    if is_right {
-        return Ok(steps);
-    }
-    let status = did.status;
-    let out = text_of(alloc, did.out.as_slice())?;
-    let err = text_of(alloc, did.err.as_slice())?;
-    let text = format!(in alloc; "{words}: {status} {out}{err}{steps} steps")?;
-    Err(Surprise::Answer(text))
+    expect_did(alloc, words, &did, &wanted)?;
+    Ok(did.steps)
 }

@@ -1,11 +1,11 @@
 //! Values of up to a million nodes, printed whole: texts of some megabytes. Each is spelled here too, a piece for each
 //! number or level. Nodes, calls and bytes were counted by hand.
 
-use crate::call::{Answer, EASY, Outside, alone, expect, holding};
+use crate::call::{NOTHING_FAILS, Outside, alone, expect, holding};
+use rb_rows_calls::answers::Answer;
 use rb_rows_calls::call::repeated;
 use rb_rows_calls::surprise::Surprise;
 use std::alloc::{AllocError, Global};
-use std::test::Fail;
 
 // A list, as it is.
 const LIST: &str =
@@ -23,9 +23,8 @@ const TWIN: &str =
 fn expect_printed(alloc: Global, words: &str, file: &str, value: &str) -> Result<(), Surprise> {
     let line = format!(in alloc; "{value}\n")?;
     let outside = Outside {
-        source: EASY,
         out: holding(65_536, 8_388_608),
-        err: EASY,
+        ..NOTHING_FAILS
     };
     let wanted = Answer {
         status: 0,
@@ -52,39 +51,35 @@ fn numbers(alloc: Global, between: &str, last: u64) -> Result<String, AllocError
 
 // 999,999 nodes, in as many calls and bytes as they take.
 #[test]
-fn a_list_that_is_built(rt: HostRuntime) -> Result<(), Fail> {
-    let value = numbers(rt.alloc(), " ", 499_999)?;
-    expect_printed(
-        rt.alloc(),
-        "run E 500001 8000048 499999",
-        UP,
-        value.as_str(),
-    )?;
-    Ok(())
+fn a_list_that_is_built(rt: HostRuntime) -> Result<(), Surprise> {
+    let alloc = rt.alloc();
+    let value = numbers(alloc, " ", 499_999)?;
+    expect_printed(alloc, "run E 500001 8000048 499999", UP, value.as_str())
 }
 
 // The same list, in as many bytes.
 #[test]
-fn a_list_that_is_given(rt: HostRuntime) -> Result<(), Fail> {
+fn a_list_that_is_given(rt: HostRuntime) -> Result<(), Surprise> {
     let alloc = rt.alloc();
     let word = numbers(alloc, "", 499_999)?;
     let value = numbers(alloc, " ", 499_999)?;
     let words = format!(in alloc; "run E 1 8000048 {word}")?;
-    expect_printed(alloc, words.as_str(), LIST, value.as_str())?;
-    Ok(())
+    expect_printed(alloc, words.as_str(), LIST, value.as_str())
+}
+
+// Looks whether a tree of so many levels is printed whose halves are alike.
+fn expect_twin(alloc: Global, levels: u64) -> Result<(), Surprise> {
+    let words = format!(in alloc; "run E 40 1024 {levels}")?;
+    let mut value = format!(in alloc; "Tip")?;
+    for _ in 0..levels {
+        value = format!(in alloc; "Fork({value}, {value})")?;
+    }
+    expect_printed(alloc, words.as_str(), TWIN, value.as_str())
 }
 
 // 511 and 524,287 nodes, in 128 and 288 bytes.
 #[test]
-fn trees_whose_halves_are_alike(rt: HostRuntime) -> Result<(), Fail> {
-    let alloc = rt.alloc();
-    for levels in [8u64, 18] {
-        let words = format!(in alloc; "run E 40 1024 {levels}")?;
-        let mut value = format!(in alloc; "Tip")?;
-        for _ in 0..levels {
-            value = format!(in alloc; "Fork({value}, {value})")?;
-        }
-        expect_printed(alloc, words.as_str(), TWIN, value.as_str())?;
-    }
-    Ok(())
+fn trees_whose_halves_are_alike(rt: HostRuntime) -> Result<(), Surprise> {
+    expect_twin(rt.alloc(), 8)?;
+    expect_twin(rt.alloc(), 18)
 }

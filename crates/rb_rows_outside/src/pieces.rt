@@ -1,14 +1,37 @@
 //! How many calls a file takes, counted by hand: one that opens it, a read for each piece, and a read that
 //! finds its end.
 
-use crate::call::{Answer, EASY, Outside, alone, expect, failing};
+use crate::call::{NOTHING_FAILS, Outside, alone, expect, failing};
 use crate::table::READ_FAULT;
+use rb_rows_calls::answers::Answer;
 use rb_rows_calls::surprise::Surprise;
 use std::alloc::Global;
-use std::test::Fail;
 
 // 47 bytes.
 const SUM: &[u8] = b"fun main(x: u8, y: u8): u8 = add(x, mul(y, 3));";
+
+const UNREAD: Answer = Answer {
+    status: 7,
+    out: b"",
+    err: READ_FAULT,
+    steps: Some(0),
+};
+
+// Looks what `check` answers to a file where this call of the source fails.
+fn expect_failing(
+    alloc: Global,
+    file: &[u8],
+    step: usize,
+    number: u64,
+    wanted: Answer,
+) -> Result<(), Surprise> {
+    let outside = Outside {
+        source: failing(step, number),
+        ..NOTHING_FAILS
+    };
+    expect(alloc, "check E", alone(file), outside, wanted)?;
+    Ok(())
+}
 
 // Looks whether a file takes so many calls: the last of them fails, and the one behind it is not made.
 fn expect_calls(
@@ -18,70 +41,63 @@ fn expect_calls(
     last: u64,
     due: Answer,
 ) -> Result<(), Surprise> {
-    let unread = Answer {
-        status: 7,
-        out: b"",
-        err: READ_FAULT,
-        steps: Some(0),
-    };
-    for (number, wanted) in [(last, unread), (last.saturating_add(1), due)] {
-        let outside = Outside {
-            source: failing(step, number),
-            out: EASY,
-            err: EASY,
-        };
-        expect(alloc, "check E", alone(file), outside, wanted)?;
+    expect_failing(alloc, file, step, last, UNREAD)?;
+    expect_failing(alloc, file, step, last.saturating_add(1), due)
+}
+
+const ACCEPTED: Answer = Answer {
+    status: 0,
+    out: b"ok\n",
+    err: b"",
+    steps: Some(0),
+};
+
+// The bytes of a read, and the number of the last call.
+const SIZES: [(usize, u64); 5] = [(1, 48), (10, 6), (46, 3), (47, 2), (4096, 2)];
+
+fn expect_sizes(alloc: Global, sizes: &[(usize, u64)]) -> Result<(), Surprise> {
+    for (step, last) in sizes {
+        expect_calls(alloc, SUM, *step, *last, ACCEPTED)?;
     }
     Ok(())
 }
 
-fn accepted() -> Answer<'static> {
-    Answer {
-        status: 0,
-        out: b"ok\n",
-        err: b"",
-        steps: Some(0),
-    }
-}
-
-fn refused(line: &[u8], status: u8) -> Answer<'_> {
-    Answer {
-        status,
-        out: b"",
-        err: line,
-        steps: Some(0),
-    }
-}
-
 #[test]
-fn pieces_of_the_source(rt: HostRuntime) -> Result<(), Fail> {
-    for (step, last) in [(1usize, 48u64), (10, 6), (46, 3), (47, 2), (4096, 2)] {
-        expect_calls(rt.alloc(), SUM, step, last, accepted())?;
-    }
-    Ok(())
+fn pieces_of_the_source(rt: HostRuntime) -> Result<(), Surprise> {
+    expect_sizes(rt.alloc(), &SIZES)
 }
 
-// No read asks for more than 4,096 bytes, and the last one asks for what is still wanted: at the limit of
-// 262,144 bytes it finds the end, and behind one byte more no read is made.
-#[test]
-fn pieces_of_the_reader(rt: HostRuntime) -> Result<(), Fail> {
-    let alloc = rt.alloc();
-    let rows: [(usize, u64, &[u8], u8); 5] = [
-        (4096, 2, b"ribbit: no function main\n", 2),
-        (4097, 3, b"ribbit: no function main\n", 2),
-        (8192, 3, b"ribbit: no function main\n", 2),
-        (262_144, 65, b"ribbit: no function main\n", 2),
-        (
-            262_145,
-            65,
-            b"ribbit: limit file bytes: 262145 over 262144\n",
-            11,
-        ),
-    ];
+// The bytes of a file of blanks, the number of the last call, the line, and the status. No read asks for more than
+// 4,096 bytes, and the last one asks for what is still wanted: at the limit of 262,144 bytes it finds the end, and
+// behind one byte more no read is made.
+const BLANKS: [(usize, u64, &[u8], u8); 5] = [
+    (4096, 2, b"ribbit: no function main\n", 2),
+    (4097, 3, b"ribbit: no function main\n", 2),
+    (8192, 3, b"ribbit: no function main\n", 2),
+    (262_144, 65, b"ribbit: no function main\n", 2),
+    (
+        262_145,
+        65,
+        b"ribbit: limit file bytes: 262145 over 262144\n",
+        11,
+    ),
+];
+
+fn expect_blanks(alloc: Global, rows: &[(usize, u64, &[u8], u8)]) -> Result<(), Surprise> {
     for (bytes, last, line, status) in rows {
-        let blanks = vec![in alloc; b' '; bytes]?;
-        let due = refused(line, status);
-        expect_calls(alloc, blanks.as_slice(), 1_000_000, last, due)?;
+        let blanks = vec![in alloc; b' '; *bytes]?;
+        let due = Answer {
+            status: *status,
+            out: b"",
+            err: line,
+            steps: Some(0),
+        };
+        expect_calls(alloc, blanks.as_slice(), 1_000_000, *last, due)?;
     }
     Ok(())
+}
+
+#[test]
+fn pieces_of_the_reader(rt: HostRuntime) -> Result<(), Surprise> {
+    expect_blanks(rt.alloc(), &BLANKS)
 }

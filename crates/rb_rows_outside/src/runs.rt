@@ -1,7 +1,7 @@
 //! `run`, `image`, `count` and `exec` over an outside that fails. The texts were worked out by hand.
 
-use crate::table::expect_table;
-use std::test::Fail;
+use crate::table::{Row, expect_table};
+use rb_rows_calls::surprise::Surprise;
 
 // 250 + 2 * 3 is 0 in eight bits.
 const SUM: &[u8] = b"fun main(x: u8, y: u8): u8 = add(x, mul(y, 3));";
@@ -16,132 +16,124 @@ block 64 16 02000000000000000100000000000000
 block 80 16 01000000000000004000000000000000
 ";
 
-#[test]
-fn run(rt: HostRuntime) -> Result<(), Fail> {
-    expect_table(
-        rt.alloc(),
-        &[
-            ("run E 1 64 250 2", SUM, 0, b"0\n", None),
-            (
-                "run E 1 96 Cons(1,Cons(2,Nil))",
-                LIST,
-                0,
-                b"Cons(1, Cons(2, Nil))\n",
-                None,
-            ),
-            (
-                "run E 0 64 250 2",
-                SUM,
-                4,
-                b"ribbit: calls spent: 0\n",
-                Some(0),
-            ),
-            (
-                "run E 1 95 Cons(1,Cons(2,Nil))",
-                LIST,
-                5,
-                b"ribbit: region full: next 80, size 16, align 8, limit 95\n",
-                Some(0),
-            ),
-            ("run F 1 64 250 2", b"", 7, b"ribbit: read fault\n", Some(0)),
-            ("run E 1 63", b"", 6, b"ribbit: usage at word 4\n", Some(0)),
-        ],
-    )?;
-    Ok(())
-}
+const RUN: [Row; 6] = [
+    ("run E 1 64 250 2", SUM, 0, b"0\n", None),
+    (
+        "run E 1 96 Cons(1,Cons(2,Nil))",
+        LIST,
+        0,
+        b"Cons(1, Cons(2, Nil))\n",
+        None,
+    ),
+    (
+        "run E 0 64 250 2",
+        SUM,
+        4,
+        b"ribbit: calls spent: 0\n",
+        Some(0),
+    ),
+    (
+        "run E 1 95 Cons(1,Cons(2,Nil))",
+        LIST,
+        5,
+        b"ribbit: region full: next 80, size 16, align 8, limit 95\n",
+        Some(0),
+    ),
+    ("run F 1 64 250 2", b"", 7, b"ribbit: read fault\n", Some(0)),
+    ("run E 1 63", b"", 6, b"ribbit: usage at word 4\n", Some(0)),
+];
 
 #[test]
-fn image(rt: HostRuntime) -> Result<(), Fail> {
-    expect_table(
-        rt.alloc(),
-        &[
-            (
-                "image E 1 1024 Cons(1,Cons(2,Nil))",
-                LIST,
-                0,
-                LIST_IMAGE,
-                None,
-            ),
-            (
-                "image E 1 64",
-                LIST,
-                10,
-                b"ribbit: wanted 1 arguments, found 0\n",
-                Some(0),
-            ),
-            ("image F 1 64", b"", 7, b"ribbit: read fault\n", Some(0)),
-            ("image E", b"", 6, b"ribbit: usage at word 3\n", Some(0)),
-        ],
-    )?;
-    Ok(())
+fn run(rt: HostRuntime) -> Result<(), Surprise> {
+    expect_table(rt.alloc(), &RUN)
 }
 
+const IMAGE: [Row; 4] = [
+    (
+        "image E 1 1024 Cons(1,Cons(2,Nil))",
+        LIST,
+        0,
+        LIST_IMAGE,
+        None,
+    ),
+    (
+        "image E 1 64",
+        LIST,
+        10,
+        b"ribbit: wanted 1 arguments, found 0\n",
+        Some(0),
+    ),
+    ("image F 1 64", b"", 7, b"ribbit: read fault\n", Some(0)),
+    ("image E", b"", 6, b"ribbit: usage at word 3\n", Some(0)),
+];
+
 #[test]
-fn count(rt: HostRuntime) -> Result<(), Fail> {
-    expect_table(
-        rt.alloc(),
-        &[
-            (
-                "count E 1 64 250 2",
-                SUM,
-                0,
-                b"value 0\ncalls 1\nswitches 0\nblocks 0\nbytes 0\n",
-                None,
-            ),
-            (
-                "count E 1 64 250 256",
-                SUM,
-                10,
-                b"ribbit: argument 2: no value of u8 at byte 0\n",
-                Some(0),
-            ),
-            ("count F 1 64", b"", 7, b"ribbit: read fault\n", Some(0)),
-            ("count E 1", b"", 6, b"ribbit: usage at word 4\n", Some(0)),
-        ],
-    )?;
-    Ok(())
+fn image(rt: HostRuntime) -> Result<(), Surprise> {
+    expect_table(rt.alloc(), &IMAGE)
+}
+
+const COUNT: [Row; 4] = [
+    (
+        "count E 1 64 250 2",
+        SUM,
+        0,
+        b"value 0\ncalls 1\nswitches 0\nblocks 0\nbytes 0\n",
+        None,
+    ),
+    (
+        "count E 1 64 250 256",
+        SUM,
+        10,
+        b"ribbit: argument 2: no value of u8 at byte 0\n",
+        Some(0),
+    ),
+    ("count F 1 64", b"", 7, b"ribbit: read fault\n", Some(0)),
+    ("count E 1", b"", 6, b"ribbit: usage at word 4\n", Some(0)),
+];
+
+#[test]
+fn count(rt: HostRuntime) -> Result<(), Surprise> {
+    expect_table(rt.alloc(), &COUNT)
 }
 
 // 3 is given back, and another word has no target.
 const CODE: &[u8] = b"fun t 1 1 1\nswitch 0 - 3 1\nreturn 0\nend\n";
 
+const EXEC: [Row; 7] = [
+    ("exec E t 1 64 3", CODE, 0, b"3\n", Some(2)),
+    (
+        "exec E t 1 64 5",
+        CODE,
+        12,
+        b"ribbit: trap 32: word 5\n",
+        Some(1),
+    ),
+    (
+        "exec E t 0 64 3",
+        CODE,
+        4,
+        b"ribbit: calls spent: 0\n",
+        Some(0),
+    ),
+    (
+        "exec E u 1 64 3",
+        CODE,
+        10,
+        b"ribbit: no function u\n",
+        Some(0),
+    ),
+    (
+        "exec E t 1 64",
+        b"fun t 0 0 0\nreturn\nen",
+        14,
+        b"ribbit: code 20 at byte 21\n",
+        Some(0),
+    ),
+    ("exec F t 1 64 3", b"", 7, b"ribbit: read fault\n", Some(0)),
+    ("exec E t 1", b"", 6, b"ribbit: usage at word 5\n", Some(0)),
+];
+
 #[test]
-fn exec(rt: HostRuntime) -> Result<(), Fail> {
-    expect_table(
-        rt.alloc(),
-        &[
-            ("exec E t 1 64 3", CODE, 0, b"3\n", Some(2)),
-            (
-                "exec E t 1 64 5",
-                CODE,
-                12,
-                b"ribbit: trap 32: word 5\n",
-                Some(1),
-            ),
-            (
-                "exec E t 0 64 3",
-                CODE,
-                4,
-                b"ribbit: calls spent: 0\n",
-                Some(0),
-            ),
-            (
-                "exec E u 1 64 3",
-                CODE,
-                10,
-                b"ribbit: no function u\n",
-                Some(0),
-            ),
-            (
-                "exec E t 1 64",
-                b"fun t 0 0 0\nreturn\nen",
-                14,
-                b"ribbit: code 20 at byte 21\n",
-                Some(0),
-            ),
-            ("exec F t 1 64 3", b"", 7, b"ribbit: read fault\n", Some(0)),
-            ("exec E t 1", b"", 6, b"ribbit: usage at word 5\n", Some(0)),
-        ],
-    )?;
-    Ok(())
+fn exec(rt: HostRuntime) -> Result<(), Surprise> {
+    expect_table(rt.alloc(), &EXEC)
 }

@@ -2,7 +2,8 @@
 //! a call that opens it, a read for each piece, and a read that finds its end; an image takes the same behind
 //! it; a text takes a write for each piece. A sink fails at one write alone, so a later write would be seen.
 
-use crate::call::{Answer, EASY, Held, Outside, Side, alone, expect, failing, holding};
+use crate::call::{EASY, Held, Outside, Side, alone, expect, failing, holding};
+use rb_rows_calls::answers::Answer;
 use rb_rows_calls::surprise::Surprise;
 use std::alloc::Global;
 
@@ -140,13 +141,19 @@ fn each_write(alloc: Global, call: &Call, step: usize) -> Result<(), Surprise> {
     Ok(())
 }
 
+// The sink of the text has each of these rooms, which are too small.
+fn each_cut(alloc: Global, call: &Call, step: usize, rooms: &[usize]) -> Result<(), Surprise> {
+    for room in rooms {
+        let outside = over(call, holding(step, *room));
+        look(alloc, call, outside, cut(call, *room))?;
+    }
+    Ok(())
+}
+
 // The sink of the text has no room, room of one byte, of one byte too few, and of just enough.
 fn each_room(alloc: Global, call: &Call, step: usize) -> Result<(), Surprise> {
     let whole = call.text.len();
-    for room in [0, 1, whole.saturating_sub(1)] {
-        let outside = over(call, holding(step, room));
-        look(alloc, call, outside, cut(call, room))?;
-    }
+    each_cut(alloc, call, step, &[0, 1, whole.saturating_sub(1)])?;
     look(alloc, call, over(call, holding(step, whole)), due(call))?;
     Ok(())
 }
@@ -154,16 +161,16 @@ fn each_room(alloc: Global, call: &Call, step: usize) -> Result<(), Surprise> {
 // Both sinks fail: the output at its first write, or at its second, and then a write of the line. Where a
 // refusal is due, the output fails in vain, for it is not written.
 fn both_sinks(alloc: Global, call: &Call) -> Result<(), Surprise> {
-    for (number, taken) in LINE {
-        let mut wanted = cut(call, taken);
+    for (number, taken) in &LINE {
+        let mut wanted = cut(call, *taken);
         if call.status == 0 {
             wanted.out = b"";
-            wanted.err = front(WRITE_FAULT, taken);
+            wanted.err = front(WRITE_FAULT, *taken);
         }
         let outside = Outside {
             source: EASY,
             out: failing(1, 0),
-            err: failing(7, number),
+            err: failing(7, *number),
         };
         look(alloc, call, outside, wanted)?;
     }
@@ -180,16 +187,16 @@ fn both_sinks(alloc: Global, call: &Call) -> Result<(), Surprise> {
 
 // The source fails, and then a write of the line.
 fn source_and_sink(alloc: Global, call: &Call) -> Result<(), Surprise> {
-    for (number, taken) in LINE {
+    for (number, taken) in &LINE {
         let outside = Outside {
             source: failing(10, 1),
             out: failing(1, 0),
-            err: failing(7, number),
+            err: failing(7, *number),
         };
         let wanted = Answer {
             status: UNWRITTEN,
             out: b"",
-            err: front(READ_FAULT, taken),
+            err: front(READ_FAULT, *taken),
             steps: Some(0),
         };
         look(alloc, call, outside, wanted)?;
