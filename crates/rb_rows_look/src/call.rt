@@ -14,7 +14,7 @@ use rb_layout::agreed::Agreed;
 use rb_values::print::print_value;
 use rb_accept::accepting::accept;
 use std::alloc::{AllocError, Global};
-use std::process::Abort;
+use std::str;
 use std::test::Fail;
 
 // The most bytes of a file.
@@ -119,60 +119,65 @@ fn value(alloc: Global, agreed: &Agreed, text: &str, ty: u32) -> Result<Vec<u8>,
 /// An image to read: its text, the number of a type, and the text that is to come.
 pub type ValueRow<'a> = (&'a str, u32, &'a str);
 
-/// Checks which values images hold.
-pub fn expect_values(
-    rt: &impl Abort,
-    alloc: Global,
-    file: &str,
-    rows: &[ValueRow],
-) -> Result<(), Fail> {
+// The accepted program of a file.
+fn agreed_of(alloc: Global, file: &str) -> Result<Agreed, Fail> {
     if file.len() > MOST {
         return Err(Fail::from("a long file"));
     }
-    let accepted = match accept(alloc, file.as_bytes()) {
-        Ok(accepted) => accepted,
-        Err(_) => return Err(Fail::from("a file that is refused")),
-    };
-    for row in rows {
-        let found = value(alloc, &accepted.agreed, row.0, row.1)?;
-        assert_eq!(rt; found.as_slice(), row.2.as_bytes(), "{}", row.0);
+    match accept(alloc, file.as_bytes()) {
+        Ok(accepted) => Ok(accepted.agreed),
+        Err(_) => Err(Fail::from("a file that is refused")),
+    }
+}
+
+/// Fails where another text came of a row than was wanted.
+pub fn compare(alloc: Global, row: &str, found: &[u8], wanted: &str) -> Result<(), Fail> {
+    if found == wanted.as_bytes() {
+        return Ok(());
+    }
+    let found = str::from_utf8(found).unwrap_or("no text");
+    Err(Fail::new(format!(in alloc; "{found} and not {wanted} of {row}")?))
+}
+
+/// Checks which values images hold, each of which has these lines behind its own.
+pub fn expect_values(
+    alloc: Global,
+    file: &str,
+    behind: &str,
+    rows: &[ValueRow],
+) -> Result<(), Fail> {
+    let agreed = agreed_of(alloc, file)?;
+    for (image, ty, wanted) in rows {
+        let text = format!(in alloc; "{image}{behind}")?;
+        let found = value(alloc, &agreed, text.as_str(), *ty)?;
+        compare(alloc, image, found.as_slice(), wanted)?;
     }
     Ok(())
 }
 
-/// Checks what comes of images.
+/// Checks what comes of images, each of which has these lines behind its own.
 pub fn expect_images(
-    rt: &impl Abort,
     alloc: Global,
     file: &str,
+    behind: &str,
     rows: &[ImageRow],
 ) -> Result<(), Fail> {
-    if file.len() > MOST {
-        return Err(Fail::from("a long file"));
-    }
-    let accepted = match accept(alloc, file.as_bytes()) {
-        Ok(accepted) => accepted,
-        Err(_) => return Err(Fail::from("a file that is refused")),
-    };
-    for row in rows {
-        let found = finding(alloc, &accepted.agreed, row.0, row.1)?;
-        assert_eq!(rt; found.as_bytes(), row.2.as_bytes(), "{}", row.0);
+    let agreed = agreed_of(alloc, file)?;
+    for (image, ty, wanted) in rows {
+        let text = format!(in alloc; "{image}{behind}")?;
+        let found = finding(alloc, &agreed, text.as_str(), *ty)?;
+        compare(alloc, image, found.as_bytes(), wanted)?;
     }
     Ok(())
 }
 
 /// Checks what comes of places.
-pub fn expect(rt: &impl Abort, alloc: Global, file: &str, rows: &[Row]) -> Result<(), Fail> {
-    if file.len() > MOST {
-        return Err(Fail::from("a long file"));
-    }
-    let accepted = match accept(alloc, file.as_bytes()) {
-        Ok(accepted) => accepted,
-        Err(_) => return Err(Fail::from("a file that is refused")),
-    };
+pub fn expect(alloc: Global, file: &str, rows: &[Row]) -> Result<(), Fail> {
+    let agreed = agreed_of(alloc, file)?;
     for row in rows {
-        let found = answer(alloc, &accepted.agreed, row)?;
-        assert_eq!(rt; found.as_bytes(), row.4.as_bytes(), "{}", row.0);
+        let found = answer(alloc, &agreed, row)?;
+        let (image, _, _, _, wanted) = *row;
+        compare(alloc, image, found.as_bytes(), wanted)?;
     }
     Ok(())
 }

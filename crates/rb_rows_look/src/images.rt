@@ -1,7 +1,7 @@
 //! Whole images: sound ones, and the first fault of others. Worked out by hand from the layouts, and from the order in
 //! which faults are looked for.
 
-use crate::call::expect_images;
+use crate::call::{ImageRow, expect_images};
 use rb_core::types::Ty;
 use std::test::Fail;
 
@@ -25,108 +25,121 @@ pub const WIDE: &str =
 pub const MIXED: &str =
     "type Bit = Off | On; layout Bit <8> = split 0[0:8] { 0 => Off : { word 8 { [0:8] = 0 } } 1 => On : { word 8 { [0:8] = 1 } } }; type Three = Three; layout Three <8> = Three : { word 8 { [0:8] = 3 } }; type Pair = Both(Bit, Three); layout Pair <64> = Both(_, _) : { word 64 { [0:32] -> 8 { word 8 { [0:8] .0 } }, [32:32] -> 8 { word 8 { [0:8] .1 } } } }; fun main(p: Pair): Pair = p;";
 
+/// Two items of a list.
+pub const ITEMS: &str =
+    "block 64 16 02000000000000000100000000000000\nblock 80 16 01000000000000004000000000000000\n";
+
+const LISTS: [ImageRow; 3] = [
+    ("root 0x50\n", Ty::Named(0), "sound"),
+    ("root 0x48\n", Ty::Named(0), "pointer 0 72"),
+    ("root 0x1\n", Ty::Named(0), "sound"),
+];
+
 #[test]
 fn lists(rt: HostRuntime) -> Result<(), Fail> {
-    let blocks =
-        "block 64 16 02000000000000000100000000000000\nblock 80 16 01000000000000004000000000000000\n";
-    let alloc = rt.alloc();
-    let sound = format!(in alloc; "root 0x50\n{blocks}")?;
-    let nowhere = format!(in alloc; "root 0x48\n{blocks}")?;
-    let unreached = format!(in alloc; "root 0x1\n{blocks}")?;
-    let rows = [
-        (sound.as_str(), Ty::Named(0), "sound"),
-        (nowhere.as_str(), Ty::Named(0), "pointer 0 72"),
-        (unreached.as_str(), Ty::Named(0), "sound"),
-        (
-            "root 0x40\nblock 64 16 02000000000000004000000000000000\n",
-            Ty::Named(0),
-            "pointer 64 64",
-        ),
-        (
-            "root 0x40\nblock 64 16 02000000000000005000000000000000\nblock 80 16 02000000000000000100000000000000\n",
-            Ty::Named(0),
-            "pointer 64 80",
-        ),
-    ];
-    expect_images(&rt, alloc, LIST, rows.as_slice())
+    expect_images(rt.alloc(), LIST, ITEMS, &LISTS)
 }
+
+const CYCLES: [ImageRow; 2] = [
+    (
+        "root 0x40\nblock 64 16 02000000000000004000000000000000\n",
+        Ty::Named(0),
+        "pointer 64 64",
+    ),
+    (
+        "root 0x40\nblock 64 16 02000000000000005000000000000000\nblock 80 16 02000000000000000100000000000000\n",
+        Ty::Named(0),
+        "pointer 64 80",
+    ),
+];
+
+#[test]
+fn cycles_of_lists(rt: HostRuntime) -> Result<(), Fail> {
+    expect_images(rt.alloc(), LIST, "", &CYCLES)
+}
+
+const LIST_ROOTS: [ImageRow; 10] = [
+    ("root\n", Ty::Named(0), "root 0"),
+    ("root 0x1\n", Ty::Named(0), "sound"),
+    ("root 0x1 0x1\n", Ty::Named(0), "root 1"),
+    ("root 0x48 0x1\n", Ty::Named(0), "root 1"),
+    ("root\n", Ty::Int(8), "root 0"),
+    ("root 0xff\n", Ty::Int(8), "sound"),
+    ("root 0x100\n", Ty::Int(8), "root 0"),
+    ("root 0x1 0x1\n", Ty::Int(8), "root 1"),
+    ("root 0x100 0x1\n", Ty::Int(8), "root 0"),
+    ("root 0xffffffffffffffff\n", Ty::Int(64), "sound"),
+];
+
+const SHAPE_ROOTS: [ImageRow; 3] = [
+    ("root 0x10\nblock 64 2 0005\n", Ty::Named(0), "sound"),
+    ("root 0x10\nblock 64 2 0705\n", Ty::Named(0), "bits 64 0"),
+    (
+        "root 0x100000010\nblock 64 2 0705\n",
+        Ty::Named(0),
+        "root 0",
+    ),
+];
 
 #[test]
 fn root_words(rt: HostRuntime) -> Result<(), Fail> {
-    let lists = [
-        ("root\n", Ty::Named(0), "root 0"),
-        ("root 0x1\n", Ty::Named(0), "sound"),
-        ("root 0x1 0x1\n", Ty::Named(0), "root 1"),
-        ("root 0x48 0x1\n", Ty::Named(0), "root 1"),
-        ("root\n", Ty::Int(8), "root 0"),
-        ("root 0xff\n", Ty::Int(8), "sound"),
-        ("root 0x100\n", Ty::Int(8), "root 0"),
-        ("root 0x1 0x1\n", Ty::Int(8), "root 1"),
-        ("root 0x100 0x1\n", Ty::Int(8), "root 0"),
-        ("root 0xffffffffffffffff\n", Ty::Int(64), "sound"),
-    ];
-    expect_images(&rt, rt.alloc(), LIST, lists.as_slice())?;
-    let shapes = [
-        ("root 0x10\nblock 64 2 0005\n", Ty::Named(0), "sound"),
-        ("root 0x10\nblock 64 2 0705\n", Ty::Named(0), "bits 64 0"),
-        (
-            "root 0x100000010\nblock 64 2 0705\n",
-            Ty::Named(0),
-            "root 0",
-        ),
-    ];
-    expect_images(&rt, rt.alloc(), SHAPE, shapes.as_slice())
+    expect_images(rt.alloc(), LIST, "", &LIST_ROOTS)?;
+    expect_images(rt.alloc(), SHAPE, "", &SHAPE_ROOTS)
 }
+
+const ORDER: [ImageRow; 3] = [
+    (
+        "root 0x60\nblock 80 16 01000000000000000800000000000000\nblock 96 16 50000000000000004800000000000000\n",
+        Ty::Named(0),
+        "pointer 80 8",
+    ),
+    (
+        "root 0x60\nblock 80 16 01000000000000000300000000000000\nblock 96 16 50000000000000004800000000000000\n",
+        Ty::Named(0),
+        "pointer 96 72",
+    ),
+    (
+        "root 0x60\nblock 80 16 01000000000000000800000000000000\nblock 96 16 48000000000000005000000000000000\n",
+        Ty::Named(0),
+        "pointer 96 72",
+    ),
+];
+
+const WIDE_ORDER: [ImageRow; 2] = [
+    ("root 0x8\nblock 64 2 0300\n", Ty::Named(1), "bits 64 1"),
+    ("root 0x8\nblock 64 2 0301\n", Ty::Named(1), "bits 64 0"),
+];
 
 #[test]
 fn outer_before_inner_and_left_to_right(rt: HostRuntime) -> Result<(), Fail> {
-    let trees = [
-        (
-            "root 0x60\nblock 80 16 01000000000000000800000000000000\nblock 96 16 50000000000000004800000000000000\n",
-            Ty::Named(0),
-            "pointer 80 8",
-        ),
-        (
-            "root 0x60\nblock 80 16 01000000000000000300000000000000\nblock 96 16 50000000000000004800000000000000\n",
-            Ty::Named(0),
-            "pointer 96 72",
-        ),
-        (
-            "root 0x60\nblock 80 16 01000000000000000800000000000000\nblock 96 16 48000000000000005000000000000000\n",
-            Ty::Named(0),
-            "pointer 96 72",
-        ),
-    ];
-    expect_images(&rt, rt.alloc(), TREE, trees.as_slice())?;
-    let wide = [
-        ("root 0x8\nblock 64 2 0300\n", Ty::Named(1), "bits 64 1"),
-        ("root 0x8\nblock 64 2 0301\n", Ty::Named(1), "bits 64 0"),
-    ];
-    expect_images(&rt, rt.alloc(), WIDE, wide.as_slice())
+    expect_images(rt.alloc(), TREE, "", &ORDER)?;
+    expect_images(rt.alloc(), WIDE, "", &WIDE_ORDER)
 }
+
+const BITS: [ImageRow; 4] = [
+    ("root 0x8\nblock 64 2 0501\n", Ty::Named(1), "sound"),
+    ("root 0x8\nblock 64 2 0401\n", Ty::Named(1), "sound"),
+    ("root 0x8\nblock 64 2 0601\n", Ty::Named(1), "bits 64 0"),
+    ("root 0x8\nblock 64 2 0901\n", Ty::Named(1), "bits 64 0"),
+];
+
+const TYPES: [ImageRow; 2] = [
+    (
+        "root 0x900000008\nblock 64 1 01\nblock 72 1 03\n",
+        Ty::Named(2),
+        "sound",
+    ),
+    (
+        "root 0x800000008\nblock 64 1 01\n",
+        Ty::Named(2),
+        "bits 64 0",
+    ),
+];
 
 #[test]
 fn places_that_differ_little(rt: HostRuntime) -> Result<(), Fail> {
-    let wide = [
-        ("root 0x8\nblock 64 2 0501\n", Ty::Named(1), "sound"),
-        ("root 0x8\nblock 64 2 0401\n", Ty::Named(1), "sound"),
-        ("root 0x8\nblock 64 2 0601\n", Ty::Named(1), "bits 64 0"),
-        ("root 0x8\nblock 64 2 0901\n", Ty::Named(1), "bits 64 0"),
-    ];
-    expect_images(&rt, rt.alloc(), WIDE, wide.as_slice())?;
-    let mixed = [
-        (
-            "root 0x900000008\nblock 64 1 01\nblock 72 1 03\n",
-            Ty::Named(2),
-            "sound",
-        ),
-        (
-            "root 0x800000008\nblock 64 1 01\n",
-            Ty::Named(2),
-            "bits 64 0",
-        ),
-    ];
-    expect_images(&rt, rt.alloc(), MIXED, mixed.as_slice())
+    expect_images(rt.alloc(), WIDE, "", &BITS)?;
+    expect_images(rt.alloc(), MIXED, "", &TYPES)
 }
 
 /// A tree of forty levels, each of whose nodes is twice the tree below it: 2^41 nodes and one less.
@@ -135,6 +148,5 @@ pub const DOUBLED: &str =
 
 #[test]
 fn forty_doublings(rt: HostRuntime) -> Result<(), Fail> {
-    let rows = [(DOUBLED, Ty::Named(0), "sound")];
-    expect_images(&rt, rt.alloc(), TREE, rows.as_slice())
+    expect_images(rt.alloc(), TREE, "", &[(DOUBLED, Ty::Named(0), "sound")])
 }
