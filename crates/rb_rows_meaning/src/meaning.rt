@@ -50,21 +50,34 @@ fn one_two(alloc: Global) -> Result<Value, AllocError> {
     Ok(Value::Con(1, seq(alloc, [Value::Num(1), two])?))
 }
 
+// Whether a run ends with this number and so many calls left, or, at none, with its calls spent.
+fn is_end(end: &SourceEnd, wanted: Option<(u64, u64)>) -> bool {
+    match end {
+        SourceEnd::Done(Value::Num(n), left) => wanted == Some((*n, *left)),
+        SourceEnd::Done(Value::Con(_, _), _) => false,
+        SourceEnd::Spent => wanted.is_none(),
+    }
+}
+
+// Calls, how the sum ends with them, and how many events there are.
+const SUMS: [(u64, Option<(u64, u64)>, usize); 3] =
+    [(10, Some((3, 6)), 3), (4, Some((3, 0)), 3), (3, None, 2)];
+
+fn expect_sums(alloc: Global, rows: &[(u64, Option<(u64, u64)>, usize)]) -> Result<(), Fail> {
+    let program = typed(alloc, LIST)?;
+    for (calls, end, events) in rows {
+        let args = seq(alloc, [one_two(alloc)?])?;
+        let outcome = eval(alloc, &program, 1, args, (*calls).min(1000))?;
+        if !is_end(&outcome.end, *end) || outcome.log.len() != *events {
+            return Err(Fail::new(format!(in alloc; "with {calls} calls")?));
+        }
+    }
+    Ok(())
+}
+
 #[test]
 fn a_list_is_summed(rt: HostRuntime) -> Result<(), Fail> {
-    let alloc = rt.alloc();
-    let program = typed(alloc, LIST)?;
-    let outcome = eval(alloc, &program, 1, seq(alloc, [one_two(alloc)?])?, 10)?;
-    assert!(rt; matches!(&outcome.end, SourceEnd::Done(Value::Num(3), 6)));
-    assert_eq!(rt; outcome.log.len(), 3);
-
-    let exact = eval(alloc, &program, 1, seq(alloc, [one_two(alloc)?])?, 4)?;
-    assert!(rt; matches!(&exact.end, SourceEnd::Done(Value::Num(3), 0)));
-
-    let spent = eval(alloc, &program, 1, seq(alloc, [one_two(alloc)?])?, 3)?;
-    assert!(rt; matches!(&spent.end, SourceEnd::Spent));
-    assert_eq!(rt; spent.log.len(), 2);
-    Ok(())
+    expect_sums(rt.alloc(), &SUMS)
 }
 
 const TREE: &[u8] =
@@ -149,16 +162,21 @@ const NUMBERS: [(&[u8], u64, u64, u64); 3] = [
     ),
 ];
 
-#[test]
-fn numbers(rt: HostRuntime) -> Result<(), Fail> {
-    let alloc = rt.alloc();
-    for (text, x, y, wanted) in NUMBERS {
+fn expect_numbers(alloc: Global, rows: &[(&[u8], u64, u64, u64)]) -> Result<(), Fail> {
+    for (text, x, y, wanted) in rows {
         let program = typed(alloc, text)?;
-        let args = seq(alloc, [Value::Num(x), Value::Num(y)])?;
+        let args = seq(alloc, [Value::Num(*x), Value::Num(*y)])?;
         let outcome = eval(alloc, &program, 0, args, 1)?;
-        assert!(rt; matches!(&outcome.end, SourceEnd::Done(Value::Num(n), 0) if *n == wanted));
+        if !is_end(&outcome.end, Some((*wanted, 0))) {
+            return Err(Fail::new(format!(in alloc; "{wanted} was wanted")?));
+        }
     }
     Ok(())
+}
+
+#[test]
+fn numbers(rt: HostRuntime) -> Result<(), Fail> {
+    expect_numbers(rt.alloc(), &NUMBERS)
 }
 
 #[test]
