@@ -17,11 +17,12 @@ use Rattle.rb_rel.specs.Switches.{choose_of}
 use Rattle.rb_fragment.specs.declared.held.Held.{Held}
 use Rattle.rb_fragment.specs.Plan.{Plan, cost_at, cost_of_built}
 use Rattle.rb_fragment.specs.Owing.{Does, Ends}
-use Rattle.rb_fragment.specs.Fragments.{Comes}
+use Rattle.rb_fragment.specs.Fragments.{Applies, Comes}
 use Rattle.rb_fragment.proofs.Laying.{event_fits, event_over}
 use Rattle.rb_fragment.proofs.Moves.{one-from}
+use Rattle.rb_fetch.specs.Choosing.{AreAsShown}
 use Rattle.rb_fetch.specs.Constructing.{Constructs, IsConstructed}
-use Rattle.rb_build.specs.Building.{Builds, BuildsShown}
+use Rattle.rb_build.specs.Building.{Builds}
 
 module _ (plan : Plan) (con : ConRef) (vs : List Value) (out : Run) (w : World) (Ok : Value → World → Type 0) (Same : World → Type 0) where
   abbrev v : Value
@@ -39,7 +40,7 @@ module _ (plan : Plan) (con : ConRef) (vs : List Value) (out : Run) (w : World) 
   paid (Over full) is r = let few = r.2 in let same = cost in event_over plan w.switches out w.memory event v w.left full r.0 Ok is r.1 (omega (arith, few, same))
   paid (Fits bs top) is r = let few = r.3 in let same = cost in event_fits plan w.switches out w.memory event v w.left top bs r.0 Ok is r.1 r.2 (omega (arith, few, same)) r.4.0
 
-builds_shown : (plan : Plan) (con : ConRef) (hs : List Held) (shown : List Pat) (old new : Sheet) (held : Held) → IsConstructed plan con hs shown old new held → BuildsShown plan con hs shown old new held.slots
+builds_shown : (plan : Plan) (con : ConRef) (hs : List Held) (shown : List Pat) (old new : Sheet) (held : Held) → IsConstructed plan con hs shown old new held → Applies plan (AreAsShown shown) (λ calls. built con) hs old new (Named con.ty) held.slots
 builds_shown plan con hs shown old new held made = record {
   adds = made.adds;
   given = made.given;

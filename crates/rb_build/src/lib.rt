@@ -20,6 +20,11 @@
 //! A construction by `Empty` is one `const`. A construction by `Node` has to know its colour: one switch on the
 //! word of its first field leads to the code of either leaf, which places a block of 20 bytes, fills it, and
 //! composes the word of its address and its tag. Both ways meet behind.
+//!
+//! Where the file has `Node(Red, ..)`, the colour is known when the code is written. The caller shows it, as a
+//! pattern that the field's value matches, and a wildcard for a field of which nothing is known. Then there is the
+//! code of the red leaf alone, with no switch. What is promised is promised of fields that match what is shown of
+//! them.
 #![tactic(auto)]
 
 pub mod build;

@@ -1,85 +1,24 @@
 -- One function: its code is that of its body, which returns.
-use Rattle.std.proofs.Common.{◌≡◌, ℕ, ◌+◌, ◌-◌, ◌^◌, ◌<◌, ◌≤◌, ◌⊎◌, inl, inr, Bool, List, [], ◌∷◌, ◌++◌, map, length, replicate, Some, refl, sym, subst, ap, ◌∙◌, arith, length-append, append_assoc}
+use Rattle.std.proofs.Common.{◌≡◌, ℕ, ◌+◌, ◌-◌, ◌^◌, ◌<◌, ◌≤◌, ◌⊎◌, inl, inr, List, [], ◌++◌, length, replicate, Some, refl, sym, subst, ap, ◌∙◌, arith, length-append}
 use Rattle.std.proofs.lemmas.List.{length-replicate}
-use Rattle.std.proofs.Math.Seq.{get_or-append_seam}
-use Rattle.std.specs.Prelude.{slice_get, slice_index}
-use Rattle.rb_core.specs.declared.value.Value.{Value}
+use Rattle.std.specs.Prelude.{slice_get}
 use Rattle.rb_core.specs.declared.program.Fun.{Fun}
-use Rattle.rb_core.specs.declared.program.Param.{Param}
 use Rattle.rb_core.specs.Meaning.{arguments, meaning_of}
-use Rattle.rb_bytes.specs.Memory.{Memory}
 use Rattle.rb_target.specs.declared.instr.Instr.{Instr}
-use Rattle.rb_target.specs.declared.instr.Instr.TheVariants.{Const, Copy, Alu, Take, Put, Load, Store, Place, Jump, Switch, Call, Return}
 use Rattle.rb_target.specs.declared.code.CodeFun.{CodeFun}
 use Rattle.rb_target.specs.Growth.{AgreesBut, Nowhere}
-use Rattle.rb_target.specs.Meaning.{slots_at}
 use Rattle.rb_target.specs.Sheet.{Sheet, AreWritten, most_instrs}
-use Rattle.rb_target.specs.Validity.{CallsFit, FitsCall, IsFine, IsLower, IsValidFun, SlotsFit, TargetsFit, dest_count}
+use Rattle.rb_target.specs.Validity.{CallsFit, IsFine, IsLower, IsValidFun, SlotsFit, TargetsFit, dest_count}
 use Rattle.rb_fragment.specs.Adding.{CallsWell}
 use Rattle.rb_fragment.specs.Functions.{Compiles, HasShapes, empty_sheet, param_locals}
 use Rattle.rb_fragment.specs.Holding.{Holds, scope_of}
 use Rattle.rb_fragment.specs.Owing.{Does, Gives}
-use Rattle.rb_fragment.specs.Plan.{Plan, Rep, Reps, words_of}
-use Rattle.rb_fragment.specs.Slots.{slots_from}
+use Rattle.rb_fragment.specs.Plan.{Plan, words_of}
 use Rattle.rb_fragment.specs.declared.held.Local.{Local}
 use Rattle.rb_fragment.proofs.Laying.{does_map}
-use Rattle.rb_fragment.proofs.Functions.{params_scope}
-use Rattle.rb_fragment.proofs.Represented.{Rep-count}
+use Rattle.rb_fragment.proofs.Functions.{calls_fit, params_hold, params_scope}
 use Rattle.rb_compile.specs.inner.Forms.{meant}
 use Rattle.rb_compile.specs.inner.Tails.{EmitsTail, IsReturn}
-
--- Parameters
-
--- words that stand in a row
-row_is : (ws pre zs : List ℕ) (a : ℕ) → length pre ≡ a → slots_at (pre ++ (ws ++ zs)) (slots_from a (length ws)) ≡ ws
-row_is [] pre zs a e = refl
-row_is (w ∷ ws) pre zs a e =
-    let seam = get_or-append_seam pre w (ws ++ zs) 0 in
-    let here : slice_index (pre ++ (w ∷ (ws ++ zs))) a ≡ w = ap (λ k. slice_index (pre ++ (w ∷ (ws ++ zs))) k) (sym e) ∙ seam in
-    let len : length (pre ++ w ∷ []) ≡ a + 1 = omega (arith, e, length-append pre (w ∷ [])) in
-    let rest = row_is ws (pre ++ w ∷ []) zs (a + 1) len in
-    ap (λ u. u ∷ slots_at (pre ++ (w ∷ (ws ++ zs))) (slots_from (a + 1) (length ws))) here
-    ∙ ap (λ us. w ∷ us) (ap (λ s. slots_at s (slots_from (a + 1) (length ws))) (sym (append_assoc pre (w ∷ []) (ws ++ zs))) ∙ rest)
-
-module _ (plan : Plan) where
-  params_hold : (clean : Bool) (m : Memory) (ps : List Param) (vs : List Value) (ws pre zs : List ℕ) (a : ℕ) → length pre ≡ a → Reps plan m clean (map (λ p. p.ty) ps) vs ws
-      → Holds plan clean (pre ++ (ws ++ zs)) m (param_locals plan a ps) (arguments ps vs)
-  params_hold clean m [] [] ws pre zs a e r = tt
-  params_hold clean m [] (v ∷ vs) ws pre zs a e r = absurd r
-  params_hold clean m (p ∷ ps) [] ws pre zs a e r = absurd r
-  params_hold clean m (p ∷ ps) (v ∷ vs) ws pre zs a e r =
-      let first = r.0 in let rest = r.1 in
-      let count : length first ≡ words_of plan p.ty = Rep-count plan clean m r.3 in
-      let s = pre ++ (first ++ (rest ++ zs)) in
-      let whole : pre ++ (ws ++ zs) ≡ s = ap (λ l. pre ++ (l ++ zs)) r.2 ∙ ap (λ l. pre ++ l) (append_assoc first rest zs) in
-      let words : slots_at s (slots_from a (words_of plan p.ty)) ≡ first = ap (λ n. slots_at s (slots_from a n)) (sym count) ∙ row_is first pre (rest ++ zs) a e in
-      let len : length (pre ++ first) ≡ a + words_of plan p.ty = omega (arith, e, count, length-append pre first) in
-      let others = params_hold clean m ps vs rest (pre ++ first) zs (a + words_of plan p.ty) len r.4 in
-      subst (λ l. Holds plan clean l m (param_locals plan a (p ∷ ps)) (arguments (p ∷ ps) (v ∷ vs))) (sym whole) (
-        refl,
-        subst (λ us. Rep plan m clean p.ty v us) (sym words) r.3,
-        subst (λ l. Holds plan clean l m (param_locals plan (a + words_of plan p.ty) ps) (arguments ps vs)) (append_assoc pre first (rest ++ zs)) others,
-      )
-
--- Calls
-
-calls_fit : (plan : Plan) (funs : List CodeFun) (results : ℕ) → HasShapes plan funs → (i : Instr) → CallsWell plan i → CallsFit funs results i
-calls_fit plan funs results shapes (Call g ds froms) h =
-    let q = shapes g h.0 h.1 in
-    subst (λ o. FitsCall o ds froms) (sym q.1) (h.2 ∙ sym q.2, h.3 ∙ sym q.3)
-calls_fit plan funs results shapes (Return froms) h = absurd h
-calls_fit plan funs results shapes (Const d c) h = tt
-calls_fit plan funs results shapes (Copy d a) h = tt
-calls_fit plan funs results shapes (Alu op n d a b) h = tt
-calls_fit plan funs results shapes (Take d a o l) h = tt
-calls_fit plan funs results shapes (Put d a o l) h = tt
-calls_fit plan funs results shapes (Load d a offset width) h = tt
-calls_fit plan funs results shapes (Store a offset width v) h = tt
-calls_fit plan funs results shapes (Place d size align) h = tt
-calls_fit plan funs results shapes (Jump t) h = tt
-calls_fit plan funs results shapes (Switch a other arms) h = tt
-
--- The function
 
 module _ (plan : Plan) (g : ℕ) (f : Fun) (b : Sheet) (named : IsLower f.name)
     (e : EmitsTail plan (meant plan g f.body (Some f.result) (param_locals plan 0 f.params)) (param_locals plan 0 f.params) (empty_sheet plan f) b f.result) where

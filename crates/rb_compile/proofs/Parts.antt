@@ -23,18 +23,19 @@ use Rattle.rb_fragment.specs.declared.held.Local.{Local}
 use Rattle.rb_fragment.specs.Plan.{Plan, types_of, words_of}
 use Rattle.rb_fragment.specs.Slots.{slots_from}
 use Rattle.rb_fragment.specs.Holding.{AreGiven, held_type, scope_of}
-use Rattle.rb_fragment.specs.Fragments.{Emits, EmitsAll, calling}
+use Rattle.rb_fragment.specs.Fragments.{AnyValues, Emits, EmitsAll, calling}
 use Rattle.rb_fragment.proofs.Arguments.{applied}
 use Rattle.rb_fragment.proofs.Calling.{call_applies}
 use Rattle.rb_fragment.proofs.Holds.{AreGiven-more}
+use Rattle.rb_fetch.specs.Choosing.{AreAsShown}
 use Rattle.rb_fetch.specs.Finding.{IsPlanOf}
 use Rattle.rb_build.specs.Building.{Builds}
 use Rattle.rb_fetch.specs.Fetching.{IsSound}
 use Rattle.rb_compile.specs.inner.Ready.{AreReady, IsReady}
 use Rattle.rb_compile.specs.inner.Forms.{EmitsExpr, EmitsFirst, meant}
 use Rattle.rb_compile.proofs.Forms.{same_emits}
-use Rattle.rb_compile.proofs.Showing.{constructed, emits_unshown, ends_shown, more_shown, none_shown}
-use Rattle.rb_compile.specs.inner.Shown.{EmitsShown, shown_of}
+use Rattle.rb_compile.proofs.Showing.{emits_any, ends_shown, more_shown, none_shown}
+use Rattle.rb_compile.specs.inner.Shown.{shown_of}
 use Rattle.rb_compile.proofs.Sites.{Ready, ready-Build, ready-Call}
 
 pub get_at : {A : Type 0} (xs : List A) (i : ℕ) (d : A) → i < length xs → slice_get xs i ≡ Some (get_or xs i d)
@@ -78,7 +79,7 @@ module _ (plan : Plan) (f : ℕ) (es : List Expr) (ts : List Ty) (ls : List Loca
       (λ calls. ap (λ l. map (mf calls) l) (take_get es i e at) ∙ map-append (mf calls) (take i es) (e ∷ []))
       given at_hs (take_get ts (length hs) h.ty at_hs) (λ calls left env v rest end. ends_shown plan.program e calls f (Some h.ty) (scope_of ls) left env v rest end) all e2 in
       let whole : map shown_of (take (i + 1) es) ≡ map shown_of (take i es) ++ shown_of e ∷ [] = ap (map shown_of) (take_get es i e at) ∙ map-append shown_of (take i es) (e ∷ []) in
-      subst (λ ps. EmitsShown plan (λ calls. map (mf calls) (take (i + 1) es)) ps ts ls a c (hs ++ h ∷ [])) (sym whole) more
+      subst (λ ps. EmitsAll plan (AreAsShown ps) (λ calls. map (mf calls) (take (i + 1) es)) ts ls a c (hs ++ h ∷ [])) (sym whole) more
 
 -- What is done with the values of all parts, whose types are ts
 module _ (plan : Plan) (f : ℕ) (es : List Expr) (ts : List Ty) (ls : List Local) (a b : Sheet) (hs : List Held) (sound : IsSound plan) (within : List ℕ) (given : AreGiven plan a.slots ls)
@@ -93,13 +94,13 @@ module _ (plan : Plan) (f : ℕ) (es : List Expr) (ts : List Ty) (ls : List Loca
       let t = typed_argument plan.program.types plan.program.funs es ts (scope_of ls) many typed i e at in
       (t.0, t.1, record { sound = sound; typed = t.2; within = within; numbered = numbered_part plan.program.types plan.program.funs es within numbered i e at; given = given; ready_sites = sites i e at })
 
-  pub all_shown : EmitsShown plan (λ calls. map (meaning_of plan.program calls f) es) (map shown_of es) ts ls a b hs
+  pub all_shown : EmitsAll plan (AreAsShown (map shown_of es)) (λ calls. map (meaning_of plan.program calls f) es) ts ls a b hs
   all_shown =
       let whole : take (length es) es ≡ es = take_all (length es) es (omega arith) in
-      subst (λ l. EmitsShown plan (λ calls. map (meaning_of plan.program calls f) l) (map shown_of l) ts ls a b hs) whole (first parts_ready given)
+      subst (λ l. EmitsAll plan (AreAsShown (map shown_of l)) (λ calls. map (meaning_of plan.program calls f) l) ts ls a b hs) whole (first parts_ready given)
 
-  pub all_emits : EmitsAll plan (λ calls. map (meaning_of plan.program calls f) es) ts ls a b hs
-  all_emits = emits_unshown plan ts ls (λ calls. map (meaning_of plan.program calls f) es) (map shown_of es) a b hs all_shown
+  pub all_emits : EmitsAll plan AnyValues (λ calls. map (meaning_of plan.program calls f) es) ts ls a b hs
+  all_emits = emits_any plan ts ls (λ calls. map (meaning_of plan.program calls f) es) (AreAsShown (map shown_of es)) a b hs all_shown
 
   pub kinds_are : map held_type hs ≡ ts
   kinds_are =
@@ -128,7 +129,7 @@ module _ (plan : Plan) (f at g : ℕ) (es : List Expr) (wanted : Option Ty) (ls 
       let all = all_emits plan f es (types_of fun) ls a b hs ready.sound ready.within ready.given long typed nc.1 sites first in
       let kinds = kinds_are plan f es (types_of fun) ls a b hs ready.sound ready.within ready.given long typed nc.1 sites first in
       let result : fun.result ≡ t = sym (ap result_of is) ∙ tc.2 in
-      let e = applied plan (types_of fun) ls (λ calls. map (meaning_of plan.program calls f) es) (λ calls vs left. calls g left vs) a b (calling plan b g fun hs) hs fun.result ds all (call_applies plan b g fun hs is kinds all.given) in (
+      let e = applied plan (types_of fun) ls AnyValues (λ calls. map (meaning_of plan.program calls f) es) (λ calls vs left. calls g left vs) a b (calling plan b g fun hs) hs fun.result ds all (call_applies plan b g fun hs is kinds all.given) in (
         result,
         subst (λ u. Emits plan (meant plan f (X.Call at g es) wanted ls) ls a (calling plan b g fun hs) u ds) result
             (same_emits plan (meant plan f (X.Call at g es) wanted ls) (λ calls left env. then_with (all_of (map (meaning_of plan.program calls f) es) (types_of fun) (scope_of ls) [] left env) (λ vs rest. calls g rest vs)) ls a (calling plan b g fun hs) fun.result ds
@@ -151,7 +152,7 @@ build_expr agreed plan f at con es wanted ls fields a b c hs held of_agreed is f
     let all = all_shown plan f es fields ls a b hs ready.sound ready.within ready.given long typed nc.1 sites first in
     let kinds = kinds_are plan f es fields ls a b hs ready.sound ready.within ready.given long typed nc.1 sites first in
     let done = builds plan of_agreed fields is kinds all.given in
-    let e = constructed plan fields ls (λ calls. map (meaning_of plan.program calls f) es) (map shown_of es) con a b c hs held.slots all done.1 in (
+    let e = applied plan fields ls (AreAsShown (map shown_of es)) (λ calls. map (meaning_of plan.program calls f) es) (λ calls. built con) a b c hs (Named con.ty) held.slots all done.1 in (
       done.0 ∙ tc.2,
       subst (λ u. Emits plan (meant plan f (X.Build at con es) wanted ls) ls a c u held.slots) tc.2
           (same_emits plan (meant plan f (X.Build at con es) wanted ls) (λ calls left env. then_with (all_of (map (meaning_of plan.program calls f) es) fields (scope_of ls) [] left env) (built con)) ls a c (Named con.ty) held.slots

@@ -1,11 +1,10 @@
 -- Values of expressions match what the file shows of them, and so do those that code leaves in slots.
-use Rattle.std.proofs.Common.{◌≡◌, ℕ, ◌+◌, ◌==◌, ◌&&◌, ◌≤◌, true, List, [], ◌∷◌, ◌++◌, map, take, length, replicate, Option, Some, None, refl, sym, subst, ap, ◌∙◌, arith, inl, length-append}
+use Rattle.std.proofs.Common.{◌≡◌, ℕ, ◌+◌, ◌==◌, ◌&&◌, ◌≤◌, true, List, [], ◌∷◌, ◌++◌, map, take, length, replicate, Option, Some, None, refl, sym, subst, ap, ◌∙◌, arith, length-append}
 use Rattle.std.proofs.lemmas.List.{map-append, length-map}
 use Rattle.std.specs.Prelude.{slice_get}
 use Rattle.rb_core.specs.declared.value.Value.{Value, Con}
 use Rattle.rb_core.specs.declared.value.Value.TheVariants.{outs-Con}
 use Rattle.rb_core.specs.declared.types.Ty.{Ty}
-use Rattle.rb_core.specs.declared.types.Ty.TheVariants.{Named}
 use Rattle.rb_core.specs.declared.types.ConRef.{ConRef}
 use Rattle.rb_core.specs.declared.typing.Binder.{Binder}
 use Rattle.rb_core.specs.declared.binding.Binding.{Binding}
@@ -37,15 +36,14 @@ use Rattle.rb_rel.proofs.Lists.{and_true, both}
 use Rattle.rb_fragment.proofs.Adding.{Adds-refl, Adds-trans}
 use Rattle.rb_fragment.proofs.Holds.{AllGiven-append, AllGiven-more, AreHeld-append, AreHeld-kept, Holds-kept}
 use Rattle.rb_fragment.proofs.Laying.{bind, does_map}
-use Rattle.rb_fragment.specs.Fragments.{Comes, Emits, EmitsAll}
+use Rattle.rb_fragment.specs.Fragments.{AnyValues, Comes, Emits, EmitsAll}
 use Rattle.rb_fragment.specs.Holding.{AreGiven, held_type, scope_of}
 use Rattle.rb_fragment.specs.Owing.{Does, Ends}
 use Rattle.rb_fragment.specs.Plan.{Plan, Rep, cost_of}
 use Rattle.rb_fragment.specs.declared.held.Held.{Held}
 use Rattle.rb_fragment.specs.declared.held.Local.{Local}
 use Rattle.rb_fetch.specs.Choosing.{AreAsShown}
-use Rattle.rb_build.specs.Building.{BuildsShown}
-use Rattle.rb_compile.specs.inner.Shown.{EmitsShown, shown_in, shown_of}
+use Rattle.rb_compile.specs.inner.Shown.{shown_in, shown_of}
 
 -- Values --------------------------------------------------------------------------------------------
 
@@ -152,7 +150,7 @@ does_end plan base out Ok m o d = go (lay m.limit m.next (requests_of plan.layou
     go (Fits bs p) (Done v left) h = (h.0, h.1, h.2, h.3, ((left, refl), h.4))
 
 module _ (plan : Plan) (ts : List Ty) (ls : List Local) where
-  pub none_shown : (ms : Calls → List Meaning) (a : Sheet) → ((calls : Calls) → ms calls ≡ []) → EmitsShown plan ms [] ts ls a a []
+  pub none_shown : (ms : Calls → List Meaning) (a : Sheet) → ((calls : Calls) → ms calls ≡ []) → EmitsAll plan (AreAsShown []) ms ts ls a a []
   none_shown ms a none = record {
     adds = Adds-refl plan a;
     given = tt;
@@ -168,7 +166,7 @@ module _ (plan : Plan) (ts : List Ty) (ls : List Local) where
   pub more_shown : (ms ms' : Calls → List Meaning) (m : Calls → Meaning) (shown : List Pat) (q : Pat) (a b c : Sheet) (hs : List Held) (h : Held) → ((calls : Calls) → ms' calls ≡ ms calls ++ m calls ∷ []) → AreGiven plan a.slots ls
       → slice_get ts (length hs) ≡ Some h.ty → take (length hs + 1) ts ≡ take (length hs) ts ++ h.ty ∷ []
       → ((calls : Calls) (left : ℕ) (env : List Binding) (v : Value) (rest : ℕ) → (m calls (Some h.ty) (scope_of ls) left env).end ≡ Done v rest → matches_of q v ≡ true)
-      → EmitsShown plan ms shown ts ls a b hs → Emits plan (λ calls left env. m calls (Some h.ty) (scope_of ls) left env) ls b c h.ty h.slots → EmitsShown plan ms' (shown ++ q ∷ []) ts ls a c (hs ++ h ∷ [])
+      → EmitsAll plan (AreAsShown shown) ms ts ls a b hs → Emits plan (λ calls left env. m calls (Some h.ty) (scope_of ls) left env) ls b c h.ty h.slots → EmitsAll plan (AreAsShown (shown ++ q ∷ [])) ms' ts ls a c (hs ++ h ∷ [])
   more_shown ms ms' m shown q a b c hs h same given wanted one_more shows all e = record {
     adds = Adds-trans plan a b c all.adds e.adds;
     given = AllGiven-append plan c.slots hs (h ∷ []) (AllGiven-more plan b.slots c.slots hs e.adds.more all.given) (e.given, e.count, tt);
@@ -204,38 +202,13 @@ module _ (plan : Plan) (ts : List Ty) (ls : List Local) where
         (AreHeld-append plan clean mid.1.0 w2.memory hs (h ∷ []) us (v ∷ []) (AreHeld-kept plan clean w1.memory w2.memory ext2 b.slots s1 mid.1.0 mid.1.2 hs us all.given held) (mid.1.3, tt)))));
   }
 
-  -- what is shown may be left aside
-  pub emits_unshown : (ms : Calls → List Meaning) (shown : List Pat) (a b : Sheet) (hs : List Held) → EmitsShown plan ms shown ts ls a b hs → EmitsAll plan ms ts ls a b hs
-  emits_unshown ms shown a b hs e = record {
+  -- what is said of the values may be left aside
+  pub emits_any : (ms : Calls → List Meaning) (Such : List Value → Type 0) (a b : Sheet) (hs : List Held) → EmitsAll plan Such ms ts ls a b hs → EmitsAll plan AnyValues ms ts ls a b hs
+  emits_any ms Such a b hs e = record {
     adds = e.adds;
     given = e.given;
     kinds = e.kinds;
     count = e.count;
     does = λ calls clean env final callee next law rel agrees s w long good holds go z t slots then.
-        e.does calls clean env final callee next law rel agrees s w long good holds go z t slots (λ vs s1 w1 bs p as_shown eq keeps g held. then vs s1 w1 bs p eq keeps g held);
-  }
-
-  -- expressions, and a construction of their values
-  pub constructed : (ms : Calls → List Meaning) (shown : List Pat) (con : ConRef) (a b c : Sheet) (hs : List Held) (ys : List ℕ) → EmitsShown plan ms shown ts ls a b hs → BuildsShown plan con hs shown b c ys
-      → Emits plan (λ calls left env. then_with (all_of (ms calls) ts (scope_of ls) [] left env) (built con)) ls a c (Named con.ty) ys
-  constructed ms shown con a b c hs ys all ap1 = record {
-    adds = Adds-trans plan a b c all.adds ap1.adds;
-    given = ap1.given;
-    count = ap1.count;
-    origin = λ y o. inl (let le = ap1.fresh y o in omega (arith, le, all.adds.more));
-    does = λ calls clean env. record {
-      runs = λ final callee next law rel agrees s w long good holds.
-          let u = Named con.ty in
-          let out = next (length a.code) s w in
-          let l1 = all.adds.grows.longer in let l2 = ap1.adds.grows.longer in
-          let long1 : b.slots ≤ length s = omega (arith, ap1.adds.more, long) in
-          let agrees1 = Agrees-part final c.code b.code (length a.code) (length c.code) (length a.code) (length b.code) Nowhere Nowhere ap1.adds.grows (omega arith) (omega (arith, l2)) (omega arith) (λ pc lo hi x. x) agrees in
-          let agrees2 = Agrees-part final c.code c.code (length a.code) (length c.code) (length b.code) (length c.code) Nowhere Nowhere (Grows-refl c.code) (omega (arith, l1)) (omega arith) (omega arith) (λ pc lo hi x. x) agrees in
-          all.does calls clean env final callee next law rel agrees1 s w long1 good holds (built con) (length c.code) u ys
-          (λ vs s1 w1 bs p as_shown eq keeps g held.
-          let long2 : c.slots ≤ length s1 = omega (arith, keeps.long, long) in
-          does_map plan w1.switches w1.switches out (next (length b.code) s1 w1) (Comes plan clean out next (length c.code) a.slots u ys s) (Comes plan clean (next (length b.code) s1 w1) next (length c.code) b.slots u ys s1) w1.memory (built con vs w1.left) (omega arith) eq
-          (λ v w2 r. (r.0, eq ∙ r.1, Keeps-trans a.slots b.slots s s1 r.0 all.adds.more keeps r.2, r.3))
-          ((ap1.does calls clean vs as_shown).runs final callee next law rel agrees2 s1 w1 long2 g.good held));
-    };
+        e.does calls clean env final callee next law rel agrees s w long good holds go z t slots (λ vs s1 w1 bs p such eq keeps g held. then vs s1 w1 bs p tt eq keeps g held);
   }

@@ -40,6 +40,9 @@
 //! An arm binds what its body uses: [`used`] leaves out of the pattern the variables that don't stand in the body, and
 //! the constructors that bind nothing then. Within fewer variables the body means the same.
 //!
+//! Before a construction its arguments are compiled, from left to right. An argument that is itself written as a
+//! construction shows its constructor ([`shown`]), so that the leaf of the whole is chosen without a look at it.
+//!
 //! What is promised of an expression's code stands behind all that is known of the expression: that it has a
 //! type, that its numbers name something, that its matches are exhaustive and paid for, that its variables
 //! have slots (`IsReady`). So the functions that call one another here ask for nothing, and a program whose

@@ -16,7 +16,7 @@ use Rattle.rb_fragment.proofs.Holds.{AllBelow-more}
 use Rattle.rb_fragment.proofs.Moves.{below-all, put_gives, put_kept, slots_from-above, slots_from-below, slots_from-contain, slots_from-length}
 use Rattle.rb_fragment.proofs.Represented.{Rep-count}
 use Rattle.rb_fragment.specs.Adding.{Adds, IsFitting}
-use Rattle.rb_fragment.specs.Fragments.{Applies, Comes, calling}
+use Rattle.rb_fragment.specs.Fragments.{AnyValues, Applies, Comes, calling}
 use Rattle.rb_fragment.specs.Holding.{AllGiven, AreHeld, all_slots, held_type}
 use Rattle.rb_fragment.specs.Owing.{Ends, Gives}
 use Rattle.rb_fragment.specs.Plan.{Plan, Rep, Reps, types_of, words_in, words_of}
@@ -93,13 +93,13 @@ module _ (plan : Plan) (a : Sheet) (g : ℕ) (f : Fun) (hs : List Held) (is : sl
         subst (λ n. IsFitting plan after.slots n pc j) (sym long) (subst (λ n. IsFitting plan after.slots (length a.code + 1) n j) (sym same) (subst (λ (i : Instr). IsFitting plan after.slots (length a.code + 1) (length a.code) i) here fits));
   }
 
-  pub call_applies : Applies plan (λ calls vs left. calls g left vs) hs a after f.result ds
+  pub call_applies : Applies plan AnyValues (λ calls vs left. calls g left vs) hs a after f.result ds
   call_applies = record {
     adds = adds;
     given = slots_from-below a.slots k after.slots (omega arith);
     count = slots_from-length a.slots k;
     fresh = λ x h. slots_from-above a.slots k x h;
-    does = λ calls clean vs. record {
+    does = λ calls clean vs any. record {
       runs = λ final callee next law rel agrees s w long good pre.
           let code = a.code ++ instr ∷ [] in
           let len : length code ≡ length a.code + 1 = length-append a.code (instr ∷ []) in

@@ -47,18 +47,24 @@ pub record Emits (plan : Plan) (ev : Calls → ℕ → List Binding → Outcome)
   pub does : (calls : Calls) (clean : Bool) (env : List Binding)
       → Fragment plan clean calls old new (λ s m. Holds plan clean s m locals env) (λ left. ev calls left env) t slots
 
--- the appended code does f of the values that are held, and leaves the result in new slots
-pub record Applies (plan : Plan) (f : Calls → List Value → ℕ → Outcome) (hs : List Held) (old new : Sheet) (t : Ty) (slots : List ℕ) : Type 0 where
+-- nothing is said of values
+abbrev pub AnyValues : List Value → Type 0
+AnyValues vs = Unit {0}
+
+-- the appended code does f of the values that are held, where they are such ones, and leaves the result in new slots
+pub record Applies (plan : Plan) (Such : List Value → Type 0) (f : Calls → List Value → ℕ → Outcome) (hs : List Held) (old new : Sheet) (t : Ty)
+    (slots : List ℕ) : Type 0 where
   pub adds : Adds plan old new
   pub given : AllBelow new.slots slots
   pub count : length slots ≡ words_of plan t
   pub fresh : (x : ℕ) → IsOneOf x slots → old.slots ≤ x
-  pub does : (calls : Calls) (clean : Bool) (vs : List Value)
+  pub does : (calls : Calls) (clean : Bool) (vs : List Value) → Such vs
       → Fragment plan clean calls old new (λ s m. AreHeld plan clean s m hs vs) (f calls vs) t slots
 
 -- The appended code leaves the values of some expressions, each at its wanted type, in the slots of hs, and
--- whatever code comes then does what go does of the values.
-pub record EmitsAll (plan : Plan) (ms : Calls → List Meaning) (ts : List Ty) (locals : List Local) (old new : Sheet) (hs : List Held) : Type 0 where
+-- whatever code comes then does what go does of the values. They are such ones.
+pub record EmitsAll (plan : Plan) (Such : List Value → Type 0) (ms : Calls → List Meaning) (ts : List Ty) (locals : List Local) (old new : Sheet)
+    (hs : List Held) : Type 0 where
   pub adds : Adds plan old new
   pub given : AllGiven plan new.slots hs
   pub kinds : map held_type hs ≡ take (length hs) ts
@@ -68,7 +74,7 @@ pub record EmitsAll (plan : Plan) (ms : Calls → List Meaning) (ts : List Ty) (
       → AgreesBut final new.code (length old.code) (length new.code) Nowhere
       → (s : List ℕ) (w : World) → new.slots ≤ length s → IsGood w.memory → Holds plan clean s w.memory locals env
       → (go : List Value → ℕ → Outcome) (b : ℕ) (t : Ty) (slots : List ℕ)
-      → ((vs : List Value) (s' : List ℕ) (w' : World) (bs : List (ℕ × ℕ)) (p : ℕ)
+      → ((vs : List Value) (s' : List ℕ) (w' : World) (bs : List (ℕ × ℕ)) (p : ℕ) → Such vs
       → next (length old.code) s w ≡ next (length new.code) s' w' → Keeps old.slots s s'
       → Grown w.memory w'.memory bs p → AreHeld plan clean s' w'.memory hs vs
       → Does plan w'.switches (next (length old.code) s w) w'.memory (go vs w'.left)

@@ -11,16 +11,16 @@ use Rattle.rb_fragment.specs.declared.held.Local.{Local}
 use Rattle.rb_fragment.specs.Plan.{Plan, words_of, types_of}
 use Rattle.rb_fragment.specs.Slots.{slots_from}
 use Rattle.rb_fragment.specs.Holding.{AllGiven, held_type, scope_of}
-use Rattle.rb_fragment.specs.Fragments.{Applies, Emits, EmitsAll, calling}
+use Rattle.rb_fragment.specs.Fragments.{AnyValues, Applies, Emits, EmitsAll, calling}
 
 abbrev pub CallsApply : Type 0
 CallsApply =
     (plan : Plan) (a : Sheet) (g : ℕ) (f : Fun) (hs : List Held) → slice_get plan.program.funs g ≡ Some f → map held_type hs ≡ types_of f
     → AllGiven plan a.slots hs
-    → Applies plan (λ calls vs left. calls g left vs) hs a (calling plan a g f hs) f.result (slots_from a.slots (words_of plan f.result))
+    → Applies plan AnyValues (λ calls vs left. calls g left vs) hs a (calling plan a g f hs) f.result (slots_from a.slots (words_of plan f.result))
 
 abbrev pub PartsThenApply : Type 0
 PartsThenApply =
     (plan : Plan) (ts : List Ty) (ls : List Local) (ms : Calls → List Meaning) (f : Calls → List Value → ℕ → Outcome) (a b c : Sheet)
-    (hs : List Held) (t : Ty) (slots : List ℕ) → EmitsAll plan ms ts ls a b hs → Applies plan f hs b c t slots
+    (hs : List Held) (t : Ty) (slots : List ℕ) → EmitsAll plan AnyValues ms ts ls a b hs → Applies plan AnyValues f hs b c t slots
     → Emits plan (λ calls left env. then_with (all_of (ms calls) ts (scope_of ls) [] left env) (f calls)) ls a c t slots

@@ -16,10 +16,11 @@ use Rattle.rb_fragment.specs.declared.held.Held.{Held}
 use Rattle.rb_fragment.specs.declared.held.Local.{Local}
 use Rattle.rb_fragment.specs.Plan.{Plan, words_of}
 use Rattle.rb_fragment.specs.Slots.{slots_from}
-use Rattle.rb_fragment.specs.Fragments.{Emits}
+use Rattle.rb_fragment.specs.Fragments.{Emits, EmitsAll}
 use Rattle.rb_fragment.specs.Holding.{AreGiven, scope_of}
+use Rattle.rb_fetch.specs.Choosing.{AreAsShown}
 use Rattle.rb_compile.specs.inner.Ready.{IsReady, AreReady}
-use Rattle.rb_compile.specs.inner.Shown.{EmitsShown, shown_of}
+use Rattle.rb_compile.specs.inner.Shown.{shown_of}
 
 -- what an expression of function f does within its variables
 abbrev pub meant : Plan → ℕ → Expr → Option Ty → List Local → Calls → ℕ → List Binding → Outcome
@@ -35,7 +36,7 @@ EmitsExpr plan f e wanted locals old new held =
 abbrev pub EmitsFirst : Plan → ℕ → ℕ → List Expr → List Ty → List Local → Sheet → Sheet → List Held → Type 0
 EmitsFirst plan f n es ts locals old new hs =
     AreReady plan f es ts locals old.slots → AreGiven plan old.slots locals
-    → EmitsShown plan (λ calls. map (meaning_of plan.program calls f) (take n es)) (map shown_of (take n es)) ts locals old new hs
+    → EmitsAll plan (AreAsShown (map shown_of (take n es))) (λ calls. map (meaning_of plan.program calls f) (take n es)) ts locals old new hs
 
 -- the width that an instruction states: no typed program has an integer of no bits
 abbrev pub stated_width : Ty → ℕ
