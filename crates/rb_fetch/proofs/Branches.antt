@@ -1,7 +1,8 @@
 -- The code of the leaves of a part: below one leaf, one leaf more, and all of them behind the look.
-use Rattle.std.proofs.Common.{◌≡◌, ℕ, zero, suc, ◌+◌, ◌<◌, ◌≤◌, ◌==◌, ◌⊎◌, inl, inr, length, List, [], ◌∷◌, ◌++◌, Bool, true, false, Some, refl, sym, subst, ap, ◌∙◌, arith, length-append}
+use Rattle.std.proofs.Common.{◌≡◌, ℕ, zero, suc, ◌+◌, ◌<◌, ◌≤◌, ◌⊎◌, inl, inr, length, List, [], ◌∷◌, ◌++◌, map, Bool, true, false, Some, refl, sym, subst, ap, ◌∙◌, arith, length-append}
 use Rattle.std.specs.Prelude.{slice_get, slice_index, if◌then◌else◌}
 use Rattle.std.proofs.lemmas.Option.{same_Some}
+use Rattle.std.proofs.lemmas.List.{append_assoc, map-append}
 use Rattle.rb_core.specs.declared.value.Value.{Value, out-Value}
 use Rattle.rb_core.specs.declared.types.Ty.TheVariants.{Named}
 use Rattle.rb_core.specs.declared.types.ConRef.{ConRef}
@@ -19,8 +20,7 @@ use Rattle.rb_layout.specs.declared.layout.Leaf.{Leaf}
 use Rattle.rb_layout.specs.Flattening.{flat_layouts, same_path}
 use Rattle.rb_layout.specs.Positions.{leaf_of, layout_of}
 use Rattle.rb_rel.specs.Switches.{Head, choose_of, inner_heads, is_leaf_for, mend_leaf, mend_of}
-use Rattle.rb_rel.proofs.Lists.{both, and_true, get-append, get-left, get-right}
-use Rattle.rb_rel.proofs.Reading.{same_nat}
+use Rattle.rb_rel.proofs.Lists.{get-append, get-left, get-right}
 use Rattle.rb_fragment.specs.Pieces.{AtEnd, Piece}
 use Rattle.rb_fragment.specs.Plan.{Plan, Rep}
 use Rattle.rb_fragment.specs.Slots.{AllBelow, AllFrom}
@@ -29,67 +29,18 @@ use Rattle.rb_fragment.proofs.Holds.{AllBelow-more}
 use Rattle.rb_fragment.proofs.Pieces.{piece_frame, piece_seq, piece_weaken}
 use Rattle.rb_compose.specs.declared.subvalue.Subvalue.{Subvalue}
 use Rattle.rb_fetch.specs.declared.choice.Way.{Way}
-use Rattle.rb_fetch.specs.inner.Choosing.{AreOpen, BranchIn, BranchesDone, BranchesStand, ChoosesBelow, ChoosesFrom, ChoosesUnder, FetchesFields, Follows, GivesFields, HasCon, HasParts, HasRoot, IsRead, IsReady, IsWayAt, IsWayOf, PartsGiven, PartsHold, Takes, left_of, root_con}
+use Rattle.rb_fetch.specs.declared.heads.Place.{Place}
+use Rattle.rb_fetch.specs.declared.known.Seen.{Seen}
+use Rattle.rb_fetch.specs.inner.Choosing.{AreOpen, BranchIn, BranchesDone, BranchesStand, ChoosesBelow, ChoosesFrom, ChoosesUnder, FetchesFields, Follows, GivesFields, HasAll, HasCon, HasParts, HasRoot, IsRead, IsReady, IsWayAt, IsWayOf, PartsGiven, PartsHold, Takes, left_of, root_con}
 use Rattle.rb_fetch.specs.inner.Fields.{leaf_at, leaf_within}
-use Rattle.rb_fetch.specs.inner.Heads.{can_be, can_be_leaf, is_among, is_at, leaves_that_can_be}
-use Rattle.rb_fetch.proofs.Chosen.{con_same, inner_shows, matched_leaf, rooted}
+use Rattle.rb_fetch.specs.inner.Heads.{bare_paths, head_under, heads_in, is_among, leaves_beside, leaves_that_can_be, shown_head, shown_heads}
+use Rattle.rb_fetch.specs.inner.Seen.{seen_more}
+use Rattle.rb_fetch.proofs.Chosen.{inner_shows, matched_leaf, rooted}
 use Rattle.rb_fetch.proofs.Constructors.{shows}
-use Rattle.rb_fetch.proofs.Costs.{among-split, mend_less, path_same, path_self}
+use Rattle.rb_fetch.proofs.Costs.{among-append, among-left, left_fewer, mend_less, path_same}
+use Rattle.rb_fetch.proofs.Shown.{has-append, has-under}
+use Rattle.rb_fetch.proofs.Staying.{IsShownAt, bare-of, own_stays, stays-from, stays-of, stays_so}
 use Rattle.rb_fetch.proofs.Ways.{given-append, given-more, given_at-more, hold-append, hold-kept, open-append, parts-append, way-split, way_within}
-
--- Leaves that can still be here -------------------------------------------------------------------
-
-at-of : (path : List ℕ) (con : ℕ) (h : Head) → is_at path con h ≡ true → h.path ≡ path → h.con.con ≡ con
-at-of path con h e same = go (same_path h.path path) (ap (λ p. same_path p path) same ∙ path_self path) e
-  where
-    go : (b : Bool) → b ≡ true → (if b then h.con.con == con else true) ≡ true → h.con.con ≡ con
-    go true is x = same_nat h.con.con con x
-    go false is x = absurd cc
-
-at-from : (path : List ℕ) (con : ℕ) (h : Head) → (h.path ≡ path → h.con.con ≡ con) → is_at path con h ≡ true
-at-from path con h f = go (same_path h.path path) refl
-  where
-    self : (n : ℕ) → (n == n) ≡ true
-    self n = grind arith
-
-    go : (b : Bool) → same_path h.path path ≡ b → (if b then h.con.con == con else true) ≡ true
-    go true is = ap (λ n. n == con) (f (path_same h.path path is)) ∙ self con
-    go false is = refl
-
-pub can-of : (path : List ℕ) (con : ℕ) (hs : List Head) → can_be path con hs ≡ true → (k : ℕ) (h : Head) → slice_get hs k ≡ Some h → h.path ≡ path → h.con.con ≡ con
-can-of path con [] e k h is same = absurd cc
-can-of path con (x ∷ hs) e zero h is same =
-    let b = both (is_at path con x) (can_be path con hs) e in at-of path con h (ap (is_at path con) (sym (same_Some x h is)) ∙ b.0) same
-can-of path con (x ∷ hs) e (suc k) h is same = can-of path con hs (both (is_at path con x) (can_be path con hs) e).1 k h is same
-
-pub can-from : (path : List ℕ) (con : ℕ) (hs : List Head) → ((k : ℕ) (h : Head) → slice_get hs k ≡ Some h → h.path ≡ path → h.con.con ≡ con) → can_be path con hs ≡ true
-can-from path con [] f = refl
-can-from path con (x ∷ hs) f = and_true (is_at path con x) (can_be path con hs) (at-from path con x (f 0 x refl)) (can-from path con hs (λ k h e. f (suc k) h e))
-
-module _ (layouts : List Layout) (t : ℕ) (path : List ℕ) (con : ℕ) where
-  abbrev Can : ℕ → Type 0
-  Can n = can_be_leaf path con (leaf_at layouts t n) ≡ true
-
-  pub kept-of : (ns : List ℕ) (i n : ℕ) → slice_get (leaves_that_can_be layouts t path con ns) i ≡ Some n → ((j : ℕ) × (slice_get ns j ≡ Some n)) × Can n
-  kept-of [] i n e = absurd cc
-  kept-of (x ∷ ns) i n e = go (can_be_leaf path con (leaf_at layouts t x)) refl i e (kept-of ns)
-    where
-      go : (b : Bool) → can_be_leaf path con (leaf_at layouts t x) ≡ b → (i : ℕ) → slice_get (if b then x ∷ leaves_that_can_be layouts t path con ns else leaves_that_can_be layouts t path con ns) i ≡ Some n
-          → ((i n : ℕ) → slice_get (leaves_that_can_be layouts t path con ns) i ≡ Some n → ((j : ℕ) × (slice_get ns j ≡ Some n)) × Can n) → ((j : ℕ) × (slice_get (x ∷ ns) j ≡ Some n)) × Can n
-      go true is zero e1 rest = ((0, e1), subst Can (same_Some x n e1) is)
-      go true is (suc i1) e1 rest = let r = rest i1 n e1 in ((suc r.0.0, r.0.1), r.1)
-      go false is i1 e1 rest = let r = rest i1 n e1 in ((suc r.0.0, r.0.1), r.1)
-
-  pub kept-from : (ns : List ℕ) (j n : ℕ) → slice_get ns j ≡ Some n → Can n → (i : ℕ) × (slice_get (leaves_that_can_be layouts t path con ns) i ≡ Some n)
-  kept-from [] j n e can = absurd cc
-  kept-from (x ∷ ns) zero n e can =
-      (0, ap (λ b. slice_get (if b then x ∷ leaves_that_can_be layouts t path con ns else leaves_that_can_be layouts t path con ns) 0) (subst Can (sym (same_Some x n e)) can) ∙ e)
-  kept-from (x ∷ ns) (suc j) n e can = go (can_be_leaf path con (leaf_at layouts t x)) (kept-from ns j n e can)
-    where
-      go : (b : Bool) → (i : ℕ) × (slice_get (leaves_that_can_be layouts t path con ns) i ≡ Some n)
-          → (i : ℕ) × (slice_get (if b then x ∷ leaves_that_can_be layouts t path con ns else leaves_that_can_be layouts t path con ns) i ≡ Some n)
-      go true r = (suc r.0, r.1)
-      go false r = r
 
 -- Below one leaf ----------------------------------------------------------------------------------
 
@@ -100,15 +51,26 @@ root_shown leaf k u is m =
     let h = shows leaf.prov u m 0 (record { path = []; con = r.con }) r.is_root in
     ap (λ x. root_con (out-Value x)) (same_Some u h.0 h.1) ∙ h.2 ∙ ap Some r.is_con
 
-module _ (agreed : LaidOut) (flat : agreed.layouts ≡ flat_layouts agreed.covered.program) (agrees : Agrees agreed.covered.program) (t : ℕ) (leaves : List ℕ) (looked : List (List ℕ)) (xs : List Subvalue) (path : List ℕ) where
-  module _ (words : List ℕ) (l : ℕ) (con : ConRef) (root : HasRoot agreed.layouts con.ty l con.con) (a b c : Sheet) (ys : List Subvalue) (ways : List Way)
-      (fetches : FetchesFields agreed path con l words a b xs ys) (chooses : ChoosesFrom agreed t (leaves_that_can_be agreed.layouts t path con.con leaves) (looked ++ path ∷ []) ys b c ways)
+module _ (agreed : LaidOut) (flat : agreed.layouts ≡ flat_layouts agreed.covered.program) (agrees : Agrees agreed.covered.program) (t : ℕ) (leaves : List ℕ) (seen : Seen) (xs : List Subvalue) (path : List ℕ) where
+  module _ (words : List ℕ) (l : ℕ) (con : ConRef) (root : HasRoot agreed.layouts con.ty l con.con) (ps : List Place) (below : shown_heads ps ≡ map (head_under path) (heads_in (leaf_at agreed.layouts con.ty l)))
+      (a b c : Sheet) (ys : List Subvalue) (ways : List Way) (fetches : FetchesFields agreed path con l words a b xs ys)
+      (chooses : ChoosesFrom agreed t (leaves_beside agreed.layouts t (shown_heads ps) (leaves_that_can_be agreed.layouts t path con.con leaves)) (seen_more agreed.covered.program.types seen path ps) ys b c ways)
       (opened : AreOpen (length b.code) c.code ways) where
-    abbrev kept : List ℕ
-    kept = leaves_that_can_be agreed.layouts t path con.con leaves
+    abbrev here : Head
+    here = record { path = path; con = con }
 
-    abbrev looked1 : List (List ℕ)
-    looked1 = looked ++ path ∷ []
+    -- the constructors of the inner leaf's provenance, where they stand in the whole
+    abbrev heads : List Head
+    heads = here ∷ shown_heads ps
+
+    abbrev kept : List ℕ
+    kept = leaves_beside agreed.layouts t heads leaves
+
+    abbrev bare : List (List ℕ)
+    bare = bare_paths agreed.covered.program.types (shown_heads ps)
+
+    abbrev seen1 : Seen
+    seen1 = seen_more agreed.covered.program.types seen path ps
 
     module _ (plan : Plan) (k : ℕ) (layout inner : Layout) (ready : IsReady agreed plan t k layout leaves xs a.slots) (read : IsRead plan con.ty inner words a.slots) where
       leaf : Leaf
@@ -117,8 +79,8 @@ module _ (agreed : LaidOut) (flat : agreed.layouts ≡ flat_layouts agreed.cover
       is_inner_leaf : slice_get inner.leaves l ≡ Some root.0
       is_inner_leaf = ap (λ o. leaf_within o l) (sym (ap (λ ls. layout_of ls con.ty) (sym ready.of.layouts) ∙ read.is_inner)) ∙ root.1
 
-      abbrev leaf_in_plan : (n : ℕ) (x : Leaf) → slice_get layout.leaves n ≡ Some x → leaf_at agreed.layouts t n ≡ Some x
-      leaf_in_plan n x e = ap (λ o. leaf_within o n) (ap (λ ls. layout_of ls t) (sym ready.of.layouts) ∙ ready.is_layout) ∙ e
+      there : layout_of agreed.layouts t ≡ Some layout
+      there = ap (λ ls. layout_of ls t) (sym ready.of.layouts) ∙ ready.is_layout
 
       mended : mend_leaf (choose_of plan.layouts) root.0 ≤ mend_of plan.layouts con.ty
       mended =
@@ -132,38 +94,44 @@ module _ (agreed : LaidOut) (flat : agreed.layouts ≡ flat_layouts agreed.cover
         ready1 = record {
           of = ready.of;
           is_layout = ready.is_layout;
-          are_leaves = λ i n e. let r = kept-of agreed.layouts t path con.con leaves i n e in ready.are_leaves r.0.0 n r.0.1;
+          are_leaves = λ i n e. let r = stays-of agreed.layouts t heads leaves i n e in ready.are_leaves r.0.0 n r.0.1;
           given = subst (PartsGiven plan b.slots) (sym f.more) (given-append plan b.slots xs f.fresh (given-more plan a.slots b.slots xs f.adds.more ready.given) f.given);
         }
 
-        module _ (v u : Value) (parts : HasParts plan.program.types v xs) (follows : Follows layout v leaves looked) (at : part_at v path ≡ Some u) (of : is_of_type plan.program.types u (Named con.ty) ≡ true) (is : leaf_of inner u ≡ Some l) where
+        module _ (v u : Value) (parts : HasParts plan.program.types v xs) (follows : Follows layout v leaves seen) (at : part_at v path ≡ Some u) (of : is_of_type plan.program.types u (Named con.ty) ≡ true) (is : leaf_of inner u ≡ Some l) where
           has_con : HasCon v path con.con
           has_con = (u, at, root_shown root.0 con.con u root.2 (matched_leaf inner u l root.0 is is_inner_leaf))
 
           parts1 : HasParts plan.program.types v ys
           parts1 = subst (HasParts plan.program.types v) (sym f.more) (parts-append plan.program.types v xs f.fresh parts (f.parts v u at of is))
 
-          follows1 : Follows layout v kept looked1
-          follows1 i n x j h en el eh among = go (is_among looked h.path) refl
+          has_below : HasAll (shown_heads ps) v
+          has_below = subst (λ hs. HasAll hs v) (sym (below ∙ ap (λ o. map (head_under path) (heads_in o)) root.1))
+              (has-under v u path at (inner_heads root.0) (λ j h e. inner_shows root.0 u (matched_leaf inner u l root.0 is is_inner_leaf) j h e))
+
+          has_heads : HasAll heads v
+          has_heads zero h e = subst (λ (x : Head). HasCon v x.path x.con.con) (same_Some here h e) has_con
+          has_heads (suc j) h e = has_below j h e
+
+          follows1 : Follows layout v kept seen1
+          follows1 = (
+            subst (λ hs. HasAll hs v) (sym (map-append shown_head seen.known ps)) (has-append (shown_heads seen.known) (shown_heads ps) v follows.0 has_below),
+            λ i n x j h en el eh among. elim (among-append seen.looked (path ∷ bare) h.path among) [
+              | inl e ↦ let r = stays-of agreed.layouts t heads leaves i n en in follows.1 r.0.0 n x j h r.0.1 el eh e
+              | inr e ↦ stays_so agreed.layouts t layout there heads v has_heads leaves i n x j h en el eh (stands h.path (same_path path h.path) refl e)
+            ],
+          )
             where
-              go : (y : Bool) → is_among looked h.path ≡ y → HasCon v h.path h.con.con
-              go true e = let r = kept-of agreed.layouts t path con.con leaves i n en in follows r.0.0 n x j h r.0.1 el eh e
-              go false e =
-                  let r = kept-of agreed.layouts t path con.con leaves i n en in
-                  let same : path ≡ h.path = among-split looked path h.path among e in
-                  let can : can_be path con.con (inner_heads x) ≡ true = ap (can_be_leaf path con.con) (sym (leaf_in_plan n x el)) ∙ r.1 in
-                  let con_is : h.con.con ≡ con.con = can-of path con.con (inner_heads x) can j h eh (sym same) in
-                  subst (λ q. HasCon v h.path q) (sym con_is) (subst (λ q. HasCon v q con.con) same has_con)
+              stands : (q : List ℕ) (y : Bool) → same_path path q ≡ y → (if y then true else is_among bare q) ≡ true → IsShownAt heads q
+              stands q true same e = (0, here, refl, path_same path q same)
+              stands q false same e = let f = bare-of agreed.covered.program.types (shown_heads ps) q e in (suc f.0, f.1, f.2, f.3)
 
           still : (n i : ℕ) → leaf_of layout v ≡ Some n → slice_get leaves i ≡ Some n → (j : ℕ) × (slice_get kept j ≡ Some n)
           still n i en at_n =
               let own = ready.are_leaves i n at_n in
-              let m = matched_leaf layout v n own.0 en own.1 in
-              let can : can_be path con.con (inner_heads own.0) ≡ true = can-from path con.con (inner_heads own.0)
-              (λ j h e same. con_same v path h.con.con con.con (subst (λ q. HasCon v q h.con.con) same (inner_shows own.0 v m j h e)) has_con) in
-              kept-from agreed.layouts t path con.con leaves i n at_n (ap (can_be_leaf path con.con) (leaf_in_plan n own.0 own.1) ∙ can)
+              stays-from agreed.layouts t heads leaves i n at_n (own_stays agreed.layouts t layout there heads v has_heads n own.0 en own.1)
 
-          module _ (n : ℕ) (tk : Takes plan b c ways v n (left_of plan.layouts t k looked1) (λ clean s m. IsGood m × PartsHold plan clean v s m ys)) (clean : Bool) where
+          module _ (n : ℕ) (tk : Takes plan b c ways v n (left_of plan.layouts t k seen1.looked) (λ clean s m. IsGood m × PartsHold plan clean v s m ys)) (clean : Bool) where
             abbrev F : List ℕ → Memory → Type 0
             F s m = IsGood m × PartsHold plan clean v s m xs
 
@@ -186,7 +154,7 @@ module _ (agreed : LaidOut) (flat : agreed.layouts ≡ flat_layouts agreed.cover
             k1 = mend_leaf (choose_of plan.layouts) root.0
 
             abbrev k2 : ℕ
-            k2 = left_of plan.layouts t k looked1
+            k2 = left_of plan.layouts t k seen1.looked
 
             first : Piece plan a.slots a b Nowhere k1 Pre (λ pc s m. F s m × AtEnd b Got pc s m)
             first =
@@ -210,12 +178,15 @@ module _ (agreed : LaidOut) (flat : agreed.layouts ≡ flat_layouts agreed.cover
                   both_pieces.runs final callee next law (record { same = λ pc lo hi out. agrees1.same pc lo hi (λ x. out (inr x)) }) s w long pre;
             }
 
-            goes_under : Piece plan a.slots a c (IsWayAt ways) (mend_of plan.layouts con.ty + k2) Pre Exit
+            goes_under : Piece plan a.slots a c (IsWayAt ways) (mend_of plan.layouts con.ty + left_of plan.layouts t k (seen.looked ++ path ∷ [])) Pre Exit
             goes_under =
                 let le = mended in
-                piece_weaken plan a.slots a.slots a c (IsWayAt ways) (k1 + k2) (mend_of plan.layouts con.ty + k2) Pre Pre Exit Exit (omega arith) (omega (arith, le)) (λ s m x. x) (λ pc s m x. x) one_piece
+                let few = left_fewer plan.layouts t k (seen.looked ++ path ∷ []) seen1.looked
+                (λ p e. subst (λ qs. is_among qs p ≡ true) (append_assoc seen.looked (path ∷ []) bare) (among-left (seen.looked ++ path ∷ []) bare p e)) in
+                piece_weaken plan a.slots a.slots a c (IsWayAt ways) (k1 + k2) (mend_of plan.layouts con.ty + left_of plan.layouts t k (seen.looked ++ path ∷ [])) Pre Pre Exit Exit (omega arith) (omega (arith, le, few))
+                (λ s m x. x) (λ pc s m x. x) one_piece
 
-    pub chooses_under : ChoosesUnder agreed t leaves looked xs path con.ty words l a c ways
+    pub chooses_under : ChoosesUnder agreed t leaves seen xs path con.ty words l a c ways
     chooses_under plan k layout inner ready read =
         let f = fetches plan inner root.0 ready.of read (is_inner_leaf plan k layout inner ready read) root.2 in
         let ch = chooses plan k layout (ready1 plan k layout inner ready read f) in
@@ -257,9 +228,9 @@ AllBelow-append n (x ∷ ns) y all lt = (all.0, AllBelow-append n ns y all.1 lt)
 ways-of-more : (plan : Plan) (layout : Layout) (n m : ℕ) (way : Way) → n ≤ m → IsWayOf plan layout n way → IsWayOf plan layout m way
 ways-of-more plan layout n m way le w = (w.0, w.1, given_at-more plan n m _ way.fields le w.2)
 
-module _ (agreed : LaidOut) (t : ℕ) (leaves : List ℕ) (looked : List (List ℕ)) (xs : List Subvalue) (path : List ℕ) (s : ℕ) (words : List ℕ) where
+module _ (agreed : LaidOut) (t : ℕ) (leaves : List ℕ) (seen : Seen) (xs : List Subvalue) (path : List ℕ) (s : ℕ) (words : List ℕ) where
   abbrev Done : ℕ → Sheet → Sheet → List ℕ → List Way → Type 0
-  Done = BranchesDone agreed t leaves looked xs path s words
+  Done = BranchesDone agreed t leaves seen xs path s words
 
   pub branches_none : (e : Sheet) → Done 0 e e [] []
   branches_none e = record {
@@ -276,7 +247,7 @@ module _ (agreed : LaidOut) (t : ℕ) (leaves : List ℕ) (looked : List (List �
   }
 
   module _ (i : ℕ) (e q d : Sheet) (starts : List ℕ) (ways own : List Way) (done : Done i e q starts ways) (grows : Grows q.code d.code) (opened : AreOpen (length q.code) d.code own)
-      (under : ChoosesUnder agreed t leaves looked xs path s words i q d own) where
+      (under : ChoosesUnder agreed t leaves seen xs path s words i q d own) where
     abbrev starts1 : List ℕ
     starts1 = starts ++ length q.code ∷ []
 
@@ -288,7 +259,7 @@ module _ (agreed : LaidOut) (t : ℕ) (leaves : List ℕ) (looked : List (List �
 
     module _ (plan : Plan) (k : ℕ) (layout inner : Layout) (ready : IsReady agreed plan t k layout leaves xs e.slots) (read : IsRead plan s inner words e.slots) where
       abbrev Does : ℕ → Sheet → Sheet → List Way → Type 0
-      Does l first last ws = ChoosesBelow plan t k layout leaves looked xs path s inner words l first last ws
+      Does l first last ws = ChoosesBelow plan t k layout leaves seen xs path s inner words l first last ws
 
       old_one : (l : ℕ) → l < i → q.slots ≤ d.slots → BranchIn e q (slice_index starts l) ways (Does l) → BranchIn e d (slice_index starts1 l) (ways ++ own) (Does l)
       old_one l lt le b =
@@ -328,7 +299,7 @@ module _ (agreed : LaidOut) (t : ℕ) (leaves : List ℕ) (looked : List (List �
         does = under plan k layout inner (ready_more plan k layout le ready) (read_more plan inner le read);
       }
 
-      stands_more : BranchesStand agreed plan t k layout leaves looked xs path s inner words (i + 1) e d starts1 (ways ++ own)
+      stands_more : BranchesStand agreed plan t k layout leaves seen xs path s inner words (i + 1) e d starts1 (ways ++ own)
       stands_more =
           let st = done.stand plan k layout inner ready read in
           let le = st.adds.more in

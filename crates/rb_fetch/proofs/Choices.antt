@@ -1,6 +1,6 @@
 -- The choice of a construction's leaf, as its callers see it.
-use Rattle.std.proofs.Common.{◌≡◌, ℕ, zero, suc, ◌+◌, map, length, List, [], ◌∷◌, Bool, true, false, Some, None, refl, sym, subst, ap, ◌∙◌, arith}
-use Rattle.std.specs.Prelude.{slice_get, if◌then◌else◌}
+use Rattle.std.proofs.Common.{◌≡◌, ℕ, zero, suc, ◌+◌, map, length, List, [], ◌∷◌, Bool, true, Some, None, refl, sym, subst, ap, ◌∙◌, arith}
+use Rattle.std.specs.Prelude.{slice_get}
 use Rattle.std.proofs.lemmas.Option.{same_Some}
 use Rattle.rb_core.specs.declared.value.Value.{Value, Con}
 use Rattle.rb_core.specs.declared.value.Value.TheVariants.{outs-Con}
@@ -26,7 +26,7 @@ use Rattle.rb_layout.specs.declared.layout.Leaf.{Leaf}
 use Rattle.rb_layout.specs.Agreement.{Agrees, AreAgreed}
 use Rattle.rb_layout.specs.Flattening.{flat_layouts}
 use Rattle.rb_layout.specs.Positions.{layout_of, open_positions}
-use Rattle.rb_rel.specs.Switches.{Head, choose_of, heads_below, heads_of, is_leaf_for, leaves_in}
+use Rattle.rb_rel.specs.Switches.{Head, choose_of, heads_below, heads_of, leaves_in}
 use Rattle.rb_rel.proofs.Agreeing.{lawful}
 use Rattle.rb_rel.proofs.Lists.{both}
 use Rattle.rb_fragment.specs.declared.held.Held.{Held}
@@ -38,52 +38,18 @@ use Rattle.rb_compose.specs.declared.subvalue.Subvalue.{Subvalue}
 use Rattle.rb_compose.specs.Subvalues.{AreGivenAt, ArePartsHeld}
 use Rattle.rb_fetch.specs.declared.choice.Choices.{Choices}
 use Rattle.rb_fetch.specs.declared.choice.Way.{Way}
+use Rattle.rb_fetch.specs.declared.heads.Place.{Place}
+use Rattle.rb_fetch.specs.declared.known.Seen.{Seen}
 use Rattle.rb_fetch.specs.Choosing.{AreAsShown, ChoosesLeaf, TakesWay}
 use Rattle.rb_fetch.specs.Finding.{IsPlanOf}
-use Rattle.rb_fetch.specs.inner.Choosing.{AreLeavesOf, AreOpen, ChoosesFrom, ChoosesWays, HasParts, IsReady, IsWayAt, PartsGiven, PartsHold, Takes, holes_from, left_of, parts_from, root_con}
-use Rattle.rb_fetch.specs.inner.Heads.{bare_paths, leaves_beside, leaves_for}
+use Rattle.rb_fetch.specs.inner.Choosing.{AreLeavesOf, AreOpen, ChoosesFrom, ChoosesWays, Follows, HasAll, HasParts, IsReady, IsWayAt, PartsGiven, PartsHold, Takes, holes_from, left_of, parts_from, root_con}
+use Rattle.rb_fetch.specs.inner.Heads.{bare_paths, leaves_beside, leaves_for, shown_heads}
 use Rattle.rb_fetch.proofs.Chosen.{begins, leaf_found, matched_leaf}
 use Rattle.rb_fetch.proofs.Costs.{left_most}
 use Rattle.rb_fetch.proofs.Finding.{of_plan}
-use Rattle.rb_fetch.proofs.Shown.{own_stays, shown_follow, stays-from, stays-of}
+use Rattle.rb_fetch.proofs.Shown.{shown_have}
+use Rattle.rb_fetch.proofs.Staying.{bare-of, for-from, for-of, own_stays, stays-from, stays-of, stays_so}
 use Rattle.rb_fetch.proofs.Ways.{hole_in, hole_of, open_within, parts_held}
-
--- The leaves of a constructor ---------------------------------------------------------------------
-
-record IsLeafFor (k : ℕ) (leaves : List Leaf) (at n : ℕ) : Type 0 where
-  number : ℕ
-  leaf : Leaf
-  is_number : slice_get leaves number ≡ Some leaf
-  at_number : n ≡ at + number
-  is_for : is_leaf_for k leaf ≡ true
-
-for-of : (k : ℕ) (leaves : List Leaf) (at i n : ℕ) → slice_get (leaves_for k leaves at) i ≡ Some n → IsLeafFor k leaves at n
-for-of k [] at i n e = absurd cc
-for-of k (x ∷ leaves) at i n e = go (is_leaf_for k x) refl i e (for-of k leaves (at + 1))
-  where
-    behind : IsLeafFor k leaves (at + 1) n → IsLeafFor k (x ∷ leaves) at n
-    behind r = let z : at + 1 + r.number ≡ at + suc r.number = omega arith in record { number = suc r.number; leaf = r.leaf; is_number = r.is_number; at_number = r.at_number ∙ z; is_for = r.is_for }
-
-    go : (b : Bool) → is_leaf_for k x ≡ b → (i : ℕ) → slice_get (if b then at ∷ leaves_for k leaves (at + 1) else leaves_for k leaves (at + 1)) i ≡ Some n
-        → ((i n : ℕ) → slice_get (leaves_for k leaves (at + 1)) i ≡ Some n → IsLeafFor k leaves (at + 1) n) → IsLeafFor k (x ∷ leaves) at n
-    go true is zero e1 rest = let z : at ≡ at + 0 = omega arith in record { number = 0; leaf = x; is_number = refl; at_number = sym (same_Some at n e1) ∙ z; is_for = is }
-    go true is (suc j) e1 rest = behind (rest j n e1)
-    go false is j e1 rest = behind (rest j n e1)
-
-for-from : (k : ℕ) (leaves : List Leaf) (at j : ℕ) (leaf : Leaf) → slice_get leaves j ≡ Some leaf → is_leaf_for k leaf ≡ true → (i : ℕ) × (slice_get (leaves_for k leaves at) i ≡ Some (at + j))
-for-from k [] at j leaf e root = absurd cc
-for-from k (x ∷ leaves) at zero leaf e root =
-    let z : at ≡ at + 0 = omega arith in
-    (0, ap (λ b. slice_get (if b then at ∷ leaves_for k leaves (at + 1) else leaves_for k leaves (at + 1)) 0) (ap (is_leaf_for k) (same_Some x leaf e) ∙ root) ∙ ap Some z)
-for-from k (x ∷ leaves) at (suc j) leaf e root =
-    let z : at + 1 + j ≡ at + suc j = omega arith in
-    let r = for-from k leaves (at + 1) j leaf e root in
-    go (is_leaf_for k x) (r.0, r.1 ∙ ap Some z)
-  where
-    go : (b : Bool) → (i : ℕ) × (slice_get (leaves_for k leaves (at + 1)) i ≡ Some (at + suc j))
-        → (i : ℕ) × (slice_get (if b then at ∷ leaves_for k leaves (at + 1) else leaves_for k leaves (at + 1)) i ≡ Some (at + suc j))
-    go true r = (suc r.0, r.1)
-    go false r = r
 
 -- Arguments ---------------------------------------------------------------------------------------
 
@@ -145,9 +111,9 @@ part_of_con : (k : ℕ) (vs : List Value) (i : ℕ) (u : Value) → slice_get vs
 part_of_con k vs i u e = ap (λ us. slice_get us i) (subs-Con k vs) ∙ e
 
 module _ (agreed : LaidOut) (typed : IsTyped agreed.covered.program) (flat : agreed.layouts ≡ flat_layouts agreed.covered.program) (agrees : Agrees agreed.covered.program) (con : ConRef) (hs : List Held)
-    (shown : List Pat) (old new : Sheet) (ways : List Way)
+    (shown : List Pat) (known : List Place) (known_are : shown_heads known ≡ heads_below (map heads_of shown) 0) (old new : Sheet) (ways : List Way)
     (chooses : ChoosesFrom agreed con.ty (leaves_beside agreed.layouts con.ty (heads_below (map heads_of shown) 0) (leaves_for con.con (leaves_in (layout_of agreed.layouts con.ty)) 0))
-    (bare_paths agreed.covered.program.types (heads_below (map heads_of shown) 0)) (parts_from 0 hs) old new ways) (opened : AreOpen (length old.code) new.code ways) where
+    (record { looked = bare_paths agreed.covered.program.types (heads_below (map heads_of shown) 0); known = known }) (parts_from 0 hs) old new ways) (opened : AreOpen (length old.code) new.code ways) where
   abbrev choices : Choices
   choices = record { holes = holes_from 0 ways; ways = ways }
 
@@ -162,6 +128,9 @@ module _ (agreed : LaidOut) (typed : IsTyped agreed.covered.program) (flat : agr
 
   abbrev looked : List (List ℕ)
   looked = bare_paths agreed.covered.program.types heads
+
+  abbrev seen : Seen
+  seen = record { looked = looked; known = known }
 
   abbrev xs : List Subvalue
   xs = parts_from 0 hs
@@ -187,7 +156,7 @@ module _ (agreed : LaidOut) (typed : IsTyped agreed.covered.program) (flat : agr
     ready : IsReady agreed plan con.ty con.con layout leaves xs old.slots
     ready = record { of = of; is_layout = is_layout; are_leaves = are_leaves; given = parts_given }
 
-    all : ChoosesWays plan con.ty con.con layout leaves looked xs old new ways
+    all : ChoosesWays plan con.ty con.con layout leaves seen xs old new ways
     all = chooses plan con.con layout ready
 
     module _ (vs : List Value) (as_shown : AreAsShown shown vs) (is_of : is_of_type plan.program.types (Con con.con vs) (Named con.ty) ≡ true) where
@@ -222,6 +191,13 @@ module _ (agreed : LaidOut) (typed : IsTyped agreed.covered.program) (flat : agr
       is_flat : layout_of (flat_layouts plan.program) con.ty ≡ Some layout
       is_flat = ap (λ ls. layout_of ls con.ty) (sym sound.1.0) ∙ is_layout
 
+      follows : Follows layout v leaves seen
+      follows =
+          let has = shown_have con shown vs as_shown in (
+            subst (λ gs. HasAll gs v) (sym known_are) has,
+            λ i n x j h en el eh among. stays_so agreed.layouts con.ty layout is_there heads v has of_con i n x j h en el eh (bare-of agreed.covered.program.types heads h.path among),
+          )
+
       takes : TakesWay plan layout con hs old new choices vs
       takes =
           let f = leaf_found plan.program sound.1.1 con.ty layout is_flat v is_of in
@@ -229,9 +205,10 @@ module _ (agreed : LaidOut) (typed : IsTyped agreed.covered.program) (flat : agr
           let law = (lawful plan.program sound.1.1 sound.0).provenances in
           let root = begins con.con f.leaf.prov v con.ty (law.root con.ty layout f.number f.leaf is_flat f.is_number) m (ap root_con (outs-Con con.con vs)) in
           let i = for-from con.con (leaves_in (layout_of agreed.layouts con.ty)) 0 f.number f.leaf (ap (λ o. slice_get (leaves_in o) f.number) is_there ∙ f.is_number) root in
-          let can = own_stays agreed.layouts agreed.covered.program.types con layout is_there shown vs as_shown f.number f.leaf f.is_leaf f.is_number in
+          let has = shown_have con shown vs as_shown in
+          let can = own_stays agreed.layouts con.ty layout is_there heads v has f.number f.leaf f.is_leaf f.is_number in
           let j = stays-from agreed.layouts con.ty heads of_con i.0 f.number (i.1 ∙ ap Some (z_of f.number)) can in
-          let tk = all.takes v is_of parts (shown_follow agreed.layouts agreed.covered.program.types con layout is_there shown vs as_shown of_con) f.number j.0 f.is_leaf j.1 in
+          let tk = all.takes v is_of parts follows f.number j.0 f.is_leaf j.1 in
           record {
             number = tk.number;
             way = tk.way;

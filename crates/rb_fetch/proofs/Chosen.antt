@@ -35,11 +35,12 @@ use Rattle.rb_compose.specs.declared.subvalue.Subvalue.{Subvalue}
 use Rattle.rb_compose.specs.Subvalues.{AreGivenAt}
 use Rattle.rb_fetch.specs.declared.choice.Way.{Way}
 use Rattle.rb_fetch.specs.declared.heads.Place.{Place}
+use Rattle.rb_fetch.specs.declared.known.Seen.{Seen}
 use Rattle.rb_fetch.specs.Finding.{IsPlanOf}
-use Rattle.rb_fetch.specs.inner.Choosing.{AreOpen, AreWaysOf, ChoosesBy, ChoosesFrom, ChoosesWays, Follows, HasOpens, IsWayOf, HasCon, IsEndOf, IsReady, root_con}
+use Rattle.rb_fetch.specs.inner.Choosing.{AreOpen, AreWaysOf, ChoosesBy, ChoosesFrom, ChoosesWays, Follows, HasAll, HasOpens, IsWayOf, HasCon, IsEndOf, IsReady, root_con}
 use Rattle.rb_fetch.specs.inner.Fields.{leaf_at, leaf_within}
 use Rattle.rb_fetch.specs.inner.Heads.{are_looked_at, IsNext, is_among, shown_head, shown_heads}
-use Rattle.rb_fetch.proofs.Constructors.{HasAll, heads-Con, is_matched, shows}
+use Rattle.rb_fetch.proofs.Constructors.{heads-Con, is_matched, shows}
 use Rattle.rb_fetch.proofs.Finding.{of_plan}
 use Rattle.rb_fetch.proofs.Ways.{given_at}
 use Rattle.rb_rel.proofs.Lists.{get-mapped, get-map}
@@ -155,16 +156,16 @@ inner_shows leaf v m j h e = shows leaf.prov v m (suc j) h (sym (drop-one (heads
 
 -- No leaf, and the end of a way -------------------------------------------------------------------
 
-pub none_chooses : (agreed : LaidOut) (t : ℕ) (looked : List (List ℕ)) (xs : List Subvalue) (old : Sheet) → ChoosesFrom agreed t [] looked xs old old []
-none_chooses agreed t looked xs old plan k layout ready = record {
+pub none_chooses : (agreed : LaidOut) (t : ℕ) (seen : Seen) (xs : List Subvalue) (old : Sheet) → ChoosesFrom agreed t [] seen xs old old []
+none_chooses agreed t seen xs old plan k layout ready = record {
   adds = Adds-refl plan old;
   are_ways = λ i way e. absurd cc;
   takes = λ v typed parts follows n i is at. absurd cc;
 }
 
 module _ (agreed : LaidOut) (typed : IsTyped agreed.covered.program) (flat : agreed.layouts ≡ flat_layouts agreed.covered.program) (agrees : Agrees agreed.covered.program) (t : ℕ) where
-  module _ (plan : Plan) (k : ℕ) (layout : Layout) (n : ℕ) (rest : List ℕ) (looked : List (List ℕ)) (xs : List Subvalue) (old : Sheet) (ready : IsReady agreed plan t k layout (n ∷ rest) xs old.slots)
-      (leaf : Leaf) (is_leaf : slice_get layout.leaves n ≡ Some leaf) (all : (j : ℕ) (h : Head) → slice_get (inner_heads leaf) j ≡ Some h → is_among looked h.path ≡ true) where
+  module _ (plan : Plan) (k : ℕ) (layout : Layout) (n : ℕ) (rest : List ℕ) (seen : Seen) (xs : List Subvalue) (old : Sheet) (ready : IsReady agreed plan t k layout (n ∷ rest) xs old.slots)
+      (leaf : Leaf) (is_leaf : slice_get layout.leaves n ≡ Some leaf) (all : (j : ℕ) (h : Head) → slice_get (inner_heads leaf) j ≡ Some h → is_among seen.looked h.path ≡ true) where
     abbrev sound : IsTyped plan.program × AreAgreed plan.program plan.layouts
     sound = of_plan agreed typed flat agrees t plan ready.of
 
@@ -172,7 +173,7 @@ module _ (agreed : LaidOut) (typed : IsTyped agreed.covered.program) (flat : agr
     is_flat = ap (λ ls. layout_of ls t) (sym sound.1.0) ∙ ready.is_layout
 
     -- what a value shows of all places is all that the leaf asks
-    pub end_is : (v : Value) → is_of_type plan.program.types v (Named t) ≡ true → Follows layout v (n ∷ rest) looked → (m i : ℕ) → leaf_of layout v ≡ Some m → slice_get (n ∷ rest) i ≡ Some m → n ≡ m
+    pub end_is : (v : Value) → is_of_type plan.program.types v (Named t) ≡ true → Follows layout v (n ∷ rest) seen → (m i : ℕ) → leaf_of layout v ≡ Some m → slice_get (n ∷ rest) i ≡ Some m → n ≡ m
     end_is v of follows m i is at =
         let law = (lawful plan.program sound.1.1 sound.0).provenances in
         let own = ready.are_leaves i m at in
@@ -200,7 +201,7 @@ module _ (agreed : LaidOut) (typed : IsTyped agreed.covered.program) (flat : agr
             subst (λ (x : Head). HasCon v x.path x.con.con) same root
         all_heads r root (suc j) h e =
             let inner : slice_get (inner_heads leaf) j ≡ Some h = drop-one (heads_of leaf.prov) j ∙ e in
-            follows 0 n leaf j h refl is_leaf inner (all j h inner)
+            follows.1 0 n leaf j h refl is_leaf inner (all j h inner)
 
     abbrev the_way : Way
     the_way = record { pc = length old.code; leaf = n; fields = xs }
@@ -211,7 +212,7 @@ module _ (agreed : LaidOut) (typed : IsTyped agreed.covered.program) (flat : agr
     end_adds : Adds plan old ended
     end_adds = push_adds plan old (Jump (length old.code + 1)) (record { bounded = tt; slots_fit = tt; targets = (omega arith, omega arith); calls = tt })
 
-    end_chooses : HasOpens (opens_of agreed.covered.program.types leaf.prov (Named t)) [] xs → ChoosesWays plan t k layout (n ∷ rest) looked xs old ended (the_way ∷ [])
+    end_chooses : HasOpens (opens_of agreed.covered.program.types leaf.prov (Named t)) [] xs → ChoosesWays plan t k layout (n ∷ rest) seen xs old ended (the_way ∷ [])
     end_chooses opens =
         let law = (lawful plan.program sound.1.1 sound.0).provenances in
         let root : root_type (out-Pat leaf.prov) ≡ Named t = law.root t layout n leaf is_flat is_leaf in
@@ -251,20 +252,20 @@ module _ (agreed : LaidOut) (typed : IsTyped agreed.covered.program) (flat : agr
   abbrev leaf_of_plan : (plan : Plan) → IsPlanOf agreed plan → (layout : Layout) → layout_of plan.layouts t ≡ Some layout → (n : ℕ) (leaf : Leaf) → leaf_at agreed.layouts t n ≡ Some leaf → slice_get layout.leaves n ≡ Some leaf
   leaf_of_plan plan of layout is n leaf at = ap (λ o. leaf_within o n) (sym (ap (λ ls. layout_of ls t) (sym of.layouts) ∙ is)) ∙ at
 
-  pub ends : (n : ℕ) (rest : List ℕ) (looked : List (List ℕ)) (xs : List Subvalue) (old new : Sheet) (way : Way) (ps : List Place) (leaf : Leaf) → leaf_at agreed.layouts t n ≡ Some leaf → shown_heads ps ≡ inner_heads leaf
-      → are_looked_at looked ps → IsEndOf agreed t n xs old new way → ChoosesFrom agreed t (n ∷ rest) looked xs old new (way ∷ [])
-  ends n rest looked xs old new way ps leaf at shown all end plan k layout ready =
+  pub ends : (n : ℕ) (rest : List ℕ) (seen : Seen) (xs : List Subvalue) (old new : Sheet) (way : Way) (ps : List Place) (leaf : Leaf) → leaf_at agreed.layouts t n ≡ Some leaf → shown_heads ps ≡ inner_heads leaf
+      → are_looked_at seen.looked ps → IsEndOf agreed t n xs old new way → ChoosesFrom agreed t (n ∷ rest) seen xs old new (way ∷ [])
+  ends n rest seen xs old new way ps leaf at shown all end plan k layout ready =
       let is_leaf = leaf_of_plan plan ready.of layout ready.is_layout n leaf at in
       let same : end.leaf ≡ leaf = same_Some end.leaf leaf (sym end.is_leaf ∙ at) in
       let opens = subst (λ (y : Leaf). HasOpens (opens_of agreed.covered.program.types y.prov (Named t)) [] xs) same end.opens in
-      let c = end_chooses plan k layout n rest looked xs old ready leaf is_leaf (shown_all looked ps leaf shown all) opens in
-      subst (λ (y : Way). ChoosesWays plan t k layout (n ∷ rest) looked xs old new (y ∷ [])) (sym end.is_way)
-      (subst (λ (b : Sheet). ChoosesWays plan t k layout (n ∷ rest) looked xs old b (record { pc = length old.code; leaf = n; fields = xs } ∷ [])) (sym end.code) c)
+      let c = end_chooses plan k layout n rest seen xs old ready leaf is_leaf (shown_all seen.looked ps leaf shown all) opens in
+      subst (λ (y : Way). ChoosesWays plan t k layout (n ∷ rest) seen xs old new (y ∷ [])) (sym end.is_way)
+      (subst (λ (b : Sheet). ChoosesWays plan t k layout (n ∷ rest) seen xs old b (record { pc = length old.code; leaf = n; fields = xs } ∷ [])) (sym end.code) c)
 
   -- a constructor at which no look was
-  pub looks : (n : ℕ) (rest : List ℕ) (looked : List (List ℕ)) (xs : List Subvalue) (old new : Sheet) (ways : List Way) (ps : List Place) (p : Place) (leaf : Leaf) → leaf_at agreed.layouts t n ≡ Some leaf → shown_heads ps ≡ inner_heads leaf
-      → IsNext looked ps p → ChoosesBy agreed t (n ∷ rest) looked xs p.path p.con.ty old new ways → ChoosesFrom agreed t (n ∷ rest) looked xs old new ways
-  looks n rest looked xs old new ways ps p leaf at shown next by plan k layout ready =
+  pub looks : (n : ℕ) (rest : List ℕ) (seen : Seen) (xs : List Subvalue) (old new : Sheet) (ways : List Way) (ps : List Place) (p : Place) (leaf : Leaf) → leaf_at agreed.layouts t n ≡ Some leaf → shown_heads ps ≡ inner_heads leaf
+      → IsNext seen.looked ps p → ChoosesBy agreed t (n ∷ rest) seen xs p.path p.con.ty old new ways → ChoosesFrom agreed t (n ∷ rest) seen xs old new ways
+  looks n rest seen xs old new ways ps p leaf at shown next by plan k layout ready =
       let is_leaf = leaf_of_plan plan ready.of layout ready.is_layout n leaf at in
       by plan k layout ready (record {
         index = 0;
@@ -281,20 +282,20 @@ module _ (agreed : LaidOut) (typed : IsTyped agreed.covered.program) (flat : agr
       })
 
   -- the same where the first leaf is that of a list
-  module _ (ls : List ℕ) (some : 1 ≤ length ls) (looked : List (List ℕ)) (xs : List Subvalue) (old new : Sheet) (ps : List Place) (leaf : Leaf) (at : leaf_at agreed.layouts t (get_or ls 0 0) ≡ Some leaf)
+  module _ (ls : List ℕ) (some : 1 ≤ length ls) (seen : Seen) (xs : List Subvalue) (old new : Sheet) (ps : List Place) (leaf : Leaf) (at : leaf_at agreed.layouts t (get_or ls 0 0) ≡ Some leaf)
       (shown : shown_heads ps ≡ inner_heads leaf) where
-    pub first_ends : (way : Way) (none ways : List Way) → are_looked_at looked ps → IsEndOf agreed t (get_or ls 0 0) xs old new way → none ≡ [] → ways ≡ none ++ way ∷ [] → ChoosesFrom agreed t ls looked xs old new ways
+    pub first_ends : (way : Way) (none ways : List Way) → are_looked_at seen.looked ps → IsEndOf agreed t (get_or ls 0 0) xs old new way → none ≡ [] → ways ≡ none ++ way ∷ [] → ChoosesFrom agreed t ls seen xs old new ways
     first_ends way none ways all end empty is =
         let r = first_rest ls some in
         let e : ways ≡ way ∷ [] = is ∙ ap (λ (ws : List Way). ws ++ way ∷ []) empty in
-        subst (λ ns. ChoosesFrom agreed t ns looked xs old new ways) (sym r.1)
-        (subst (λ (ws : List Way). ChoosesFrom agreed t (get_or ls 0 0 ∷ r.0) looked xs old new ws) (sym e) (ends (get_or ls 0 0) r.0 looked xs old new way ps leaf at shown all end))
+        subst (λ ns. ChoosesFrom agreed t ns seen xs old new ways) (sym r.1)
+        (subst (λ (ws : List Way). ChoosesFrom agreed t (get_or ls 0 0 ∷ r.0) seen xs old new ws) (sym e) (ends (get_or ls 0 0) r.0 seen xs old new way ps leaf at shown all end))
 
-    pub first_looks : (ways : List Way) (p : Place) → IsNext looked ps p → ChoosesBy agreed t ls looked xs p.path p.con.ty old new ways → ChoosesFrom agreed t ls looked xs old new ways
+    pub first_looks : (ways : List Way) (p : Place) → IsNext seen.looked ps p → ChoosesBy agreed t ls seen xs p.path p.con.ty old new ways → ChoosesFrom agreed t ls seen xs old new ways
     first_looks ways p next by =
         let r = first_rest ls some in
-        subst (λ ns. ChoosesFrom agreed t ns looked xs old new ways) (sym r.1)
-        (looks (get_or ls 0 0) r.0 looked xs old new ways ps p leaf at shown next (subst (λ ns. ChoosesBy agreed t ns looked xs p.path p.con.ty old new ways) r.1 by))
+        subst (λ ns. ChoosesFrom agreed t ns seen xs old new ways) (sym r.1)
+        (looks (get_or ls 0 0) r.0 seen xs old new ways ps p leaf at shown next (subst (λ ns. ChoosesBy agreed t ns seen xs p.path p.con.ty old new ways) r.1 by))
 
 pub end_open : (agreed : LaidOut) (t n : ℕ) (xs : List Subvalue) (old new : Sheet) (way : Way) → IsEndOf agreed t n xs old new way → AreOpen (length old.code) new.code (way ∷ []) × Grows old.code new.code
 end_open agreed t n xs old new way end =

@@ -1,6 +1,6 @@
 -- A value that a pattern matches has the pattern's constructors at their positions, and a value of its type that
 -- has them is matched.
-use Rattle.std.proofs.Common.{◌≡◌, ℕ, zero, suc, ◌+◌, ◌==◌, ◌&&◌, map, List, [], ◌∷◌, true, Option, Some, None, refl, sym, subst, ap, ◌∙◌, arith, inl, inr}
+use Rattle.std.proofs.Common.{◌≡◌, ℕ, zero, suc, ◌+◌, ◌==◌, ◌&&◌, map, List, [], ◌∷◌, ◌++◌, true, Option, Some, None, refl, sym, subst, ap, ◌∙◌, arith, inl, inr}
 use Rattle.std.specs.Prelude.{slice_get}
 use Rattle.std.specs.List.{list_all}
 use Rattle.std.proofs.lemmas.Option.{same_Some}
@@ -25,14 +25,14 @@ use Rattle.rb_rel.proofs.Lawful.{fits_type, is_named}
 use Rattle.rb_rel.proofs.Lists.{both, and_true, get-append, get-map, get-left, get-right, get-mapped}
 use Rattle.rb_rel.proofs.Opens.{fits-Con}
 use Rattle.rb_rel.proofs.Reading.{same_nat}
-use Rattle.rb_fetch.specs.inner.Choosing.{HasCon, root_con}
-
--- the value has each of these constructors at its position
-abbrev pub HasAll : List Head → Value → Type 0
-HasAll hs v = (k : ℕ) (h : Head) → slice_get hs k ≡ Some h → HasCon v h.path h.con.con
+use Rattle.rb_fetch.specs.inner.Choosing.{HasAll, HasCon, root_con}
 
 pub heads-Con : (at : ℕ) (c : ConRef) (ps : List Pat) → heads_of (Con at c ps) ≡ record { path = []; con = c } ∷ heads_below (map heads_of ps) 0
 heads-Con at c ps = PL.fold-Con (List Head) heads_step at c ps
+
+pub part-append : (o : Option Value) (p q : List ℕ) → part_from o (p ++ q) ≡ part_from (part_from o p) q
+part-append o [] q = refl
+part-append o (i ∷ p) q = part-append (sub_at o i) p q
 
 pub same-self : (n : ℕ) → (n == n) ≡ true
 same-self n = grind arith

@@ -1,5 +1,5 @@
 -- Each place is looked at once: what the looks cost that are left.
-use Rattle.std.proofs.Common.{◌≡◌, ℕ, zero, suc, ◌+◌, ◌≤◌, ◌==◌, map, List, [], ◌∷◌, ◌++◌, Bool, true, false, Some, refl, sym, ap, ◌∙◌, arith}
+use Rattle.std.proofs.Common.{◌≡◌, ℕ, zero, suc, ◌+◌, ◌≤◌, ◌==◌, map, List, [], ◌∷◌, ◌++◌, ◌⊎◌, inl, inr, Bool, true, false, Some, refl, sym, ap, ◌∙◌, arith}
 use Rattle.std.specs.Prelude.{slice_get, not, if◌then◌else◌}
 use Rattle.std.specs.List.{filter, flat_map, sum_by}
 use Rattle.std.proofs.lemmas.Option.{same_Some}
@@ -34,11 +34,11 @@ pub path_self : (p : List ℕ) → same_path p p ≡ true
 path_self [] = refl
 path_self (i ∷ p) = and_true (i == i) (same_path p p) (self i) (path_self p)
 
-pub among-more : (ps : List (List ℕ)) (q p : List ℕ) → is_among ps p ≡ true → is_among (ps ++ q ∷ []) p ≡ true
-among-more [] q p e = absurd cc
-among-more (x ∷ ps) q p e = go (same_path x p) (λ h. among-more ps q p h) e
+pub among-left : (ps qs : List (List ℕ)) (p : List ℕ) → is_among ps p ≡ true → is_among (ps ++ qs) p ≡ true
+among-left [] qs p e = absurd cc
+among-left (x ∷ ps) qs p e = go (same_path x p) (λ h. among-left ps qs p h) e
   where
-    go : (b : Bool) → (is_among ps p ≡ true → is_among (ps ++ q ∷ []) p ≡ true) → (if b then true else is_among ps p) ≡ true → (if b then true else is_among (ps ++ q ∷ []) p) ≡ true
+    go : (b : Bool) → (is_among ps p ≡ true → is_among (ps ++ qs) p ≡ true) → (if b then true else is_among ps p) ≡ true → (if b then true else is_among (ps ++ qs) p) ≡ true
     go true f h = refl
     go false f h = f h
 
@@ -50,18 +50,14 @@ among-last (x ∷ ps) q = go (same_path x q) (among-last ps q)
     go true h = refl
     go false h = h
 
--- what is among more is among the old ones, or is the new one
-pub among-split : (ps : List (List ℕ)) (q p : List ℕ) → is_among (ps ++ q ∷ []) p ≡ true → is_among ps p ≡ false → q ≡ p
-among-split [] q p e f = go (same_path q p) refl e
+-- what is among two lists is among one of them
+pub among-append : (ps qs : List (List ℕ)) (p : List ℕ) → is_among (ps ++ qs) p ≡ true → (is_among ps p ≡ true) ⊎ (is_among qs p ≡ true)
+among-append [] qs p e = inr e
+among-append (x ∷ ps) qs p e = go (same_path x p) (λ h. among-append ps qs p h) e
   where
-    go : (b : Bool) → same_path q p ≡ b → (if b then true else false) ≡ true → q ≡ p
-    go true is h = path_same q p is
-    go false is h = absurd cc
-among-split (x ∷ ps) q p e f = go (same_path x p) (λ h g. among-split ps q p h g) e f
-  where
-    go : (b : Bool) → (is_among (ps ++ q ∷ []) p ≡ true → is_among ps p ≡ false → q ≡ p) → (if b then true else is_among (ps ++ q ∷ []) p) ≡ true → (if b then true else is_among ps p) ≡ false → q ≡ p
-    go true rest h g = absurd cc
-    go false rest h g = rest h g
+    go : (b : Bool) → (is_among (ps ++ qs) p ≡ true → (is_among ps p ≡ true) ⊎ (is_among qs p ≡ true)) → (if b then true else is_among (ps ++ qs) p) ≡ true → ((if b then true else is_among ps p) ≡ true) ⊎ (is_among qs p ≡ true)
+    go true f h = inl refl
+    go false f h = f h
 
 -- Lists
 
@@ -148,7 +144,18 @@ placed (x ∷ hs) (suc k) h e =
         let f = has-filter (λ other. not (same_place x other)) (distinct_places hs) r.number r.head r.is_head (ap not is) in
         record { number = suc f.0; head = r.head; is_head = f.1; path = r.path; kind = r.kind }
 
+-- where more is among the looks, less is left
+fewer : (a b : List (List ℕ)) → ((p : List ℕ) → is_among a p ≡ true → is_among b p ≡ true) → (x : Head) → is_left b x ≡ true → is_left a x ≡ true
+fewer a b more x y = go (is_among a x.path) refl
+  where
+    go : (c : Bool) → is_among a x.path ≡ c → not (is_among a x.path) ≡ true
+    go true is = absurd (let q = ap not (sym (more x.path is)) ∙ y in cc)
+    go false is = ap not is
+
 module _ (layouts : List Layout) (t k : ℕ) where
+  pub left_fewer : (a b : List (List ℕ)) → ((p : List ℕ) → is_among a p ≡ true → is_among b p ≡ true) → left_of layouts t k b ≤ left_of layouts t k a
+  left_fewer a b more = sum_less (look_cost layouts) (is_left a) (is_left b) (fewer a b more) (places_of layouts t k)
+
   -- with no look behind it, all are left
   pub left_none : left_of layouts t k [] ≡ choose_of layouts t k
   left_none = ap (sum_by (look_cost layouts)) (filter_all (is_left []) (places_of layouts t k) (λ h. refl))
@@ -171,20 +178,9 @@ module _ (layouts : List Layout) (t k : ℕ) where
       let g = has-flat inner_heads (filter (is_leaf_for k) leaves) f.0 i leaf h f.1 e in
       let p = placed (flat_map inner_heads (filter (is_leaf_for k) leaves)) g.0 h g.1 in
       let cost : look_cost layouts p.head ≡ look_cost layouts h = ap (λ s. look_cost layouts (record { path = p.head.path; con = record { ty = s; con = p.head.con.con } })) p.kind in
-      let le = sum_drops (look_cost layouts) (is_left looked) (is_left (looked ++ h.path ∷ [])) (λ x y. stricter x y) (places_of layouts t k) p.number p.head p.is_head
+      let le = sum_drops (look_cost layouts) (is_left looked) (is_left (looked ++ h.path ∷ [])) (fewer looked (looked ++ h.path ∷ []) (λ q. among-left looked (h.path ∷ []) q)) (places_of layouts t k) p.number p.head p.is_head
       (ap (λ q. not (is_among looked q)) p.path ∙ ap not new) (ap (λ q. not (is_among (looked ++ h.path ∷ []) q)) p.path ∙ ap not (among-last looked h.path)) in
       omega (arith, le, cost)
-    where
-      not_true : (b : Bool) → not b ≡ true → b ≡ false
-      not_true true e1 = absurd cc
-      not_true false e1 = refl
-
-      stricter : (x : Head) → is_left (looked ++ h.path ∷ []) x ≡ true → is_left looked x ≡ true
-      stricter x y = go (is_among looked x.path) refl
-        where
-          go : (b : Bool) → is_among looked x.path ≡ b → not (is_among looked x.path) ≡ true
-          go true is1 = absurd (let q = ap not (sym (among-more looked h.path x.path is1)) ∙ y in cc)
-          go false is1 = ap not is1
 
 -- Mending
 

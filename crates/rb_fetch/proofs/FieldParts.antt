@@ -16,7 +16,7 @@ use Rattle.rb_core.specs.declared.pattern.Pat.{Pat, Con, out-Pat}
 use Rattle.rb_core.specs.declared.pattern.Pat.TheVariants.{outs-Con}
 use Rattle.rb_core.specs.Matching.{matches_of, is_con, all_pass}
 use Rattle.rb_core.specs.TypedPrograms.{IsTyped}
-use Rattle.rb_core.specs.Values.{all_of_types, are_of, fields_in, fields_of, is_of_type, part_at, part_from, subs, subs_in, sub_at}
+use Rattle.rb_core.specs.Values.{all_of_types, are_of, fields_in, fields_of, is_of_type, part_at, part_from, subs, subs_in}
 use Rattle.rb_core.proofs.MatchingForms.{matches-Con}
 use Rattle.rb_core.proofs.ValueLaws.{is_of_type-Con}
 use Rattle.rb_bytes.specs.Memory.{Memory, IsGood}
@@ -47,6 +47,7 @@ use Rattle.rb_fetch.specs.inner.Fields.{leaf_at, leaf_within}
 use Rattle.rb_fetch.specs.inner.Rebuilding.{FetchesParts, PartsAreFetched}
 use Rattle.rb_fetch.proofs.Chosen.{matched_leaf}
 use Rattle.rb_fetch.proofs.Choices.{given_each, held_each, typed_each}
+use Rattle.rb_fetch.proofs.Constructors.{part-append}
 use Rattle.rb_fetch.proofs.Finding.{of_plan}
 use Rattle.rb_fetch.proofs.Positions.{mend_fields, root_is}
 
@@ -66,10 +67,6 @@ field_part path i (h ∷ hs) (suc k) x e =
     let r = field_part path (i + 1) hs k x e in
     let z : i + 1 + r.number ≡ i + suc r.number = omega arith in
     record { number = suc r.number; held = r.held; is_held = r.is_held; is_part = r.is_part ∙ ap (λ n. let q : Subvalue = record { path = path ++ n ∷ []; held = r.held } in q) z }
-
-pub part-append : (o : Option Value) (p q : List ℕ) → part_from o (p ++ q) ≡ part_from (part_from o p) q
-part-append o [] q = refl
-part-append o (i ∷ p) q = part-append (sub_at o i) p q
 
 take-all : {A : Type 0} (n : ℕ) (xs : List A) → length xs ≤ n → take n xs ≡ xs
 take-all zero [] le = refl

@@ -1,5 +1,5 @@
 -- Constructors of patterns by position, form by form.
-use Rattle.std.proofs.Common.{◌≡◌, ℕ, suc, ◌+◌, ◌≤◌, List, [], ◌∷◌, ◌++◌, map, length, drop, add-one, Some, refl, sym, ap, ◌∙◌}
+use Rattle.std.proofs.Common.{◌≡◌, ℕ, suc, ◌+◌, ◌≤◌, List, [], ◌∷◌, ◌++◌, map, length, drop, add-one, Option, Some, None, refl, sym, ap, ◌∙◌}
 use Rattle.std.specs.Prelude.{slice_get}
 use Rattle.std.proofs.lemmas.List.{append-nil, append_assoc, map-append, drop_all}
 use Rattle.rb_core.specs.declared.types.ConRef.{ConRef}
@@ -9,7 +9,7 @@ use Rattle.rb_layout.specs.declared.layout.Leaf.{Leaf}
 use Rattle.rb_layout.proofs.Walks.{drop_from}
 use Rattle.rb_rel.specs.Switches.{Head, head_below, heads_below, heads_of, heads_step, inner_heads}
 use Rattle.rb_fetch.specs.declared.heads.Place.{Place}
-use Rattle.rb_fetch.specs.inner.Heads.{head_under, shown_heads}
+use Rattle.rb_fetch.specs.inner.Heads.{behind, head_behind, head_under, heads_behind, shown_heads}
 
 under-below : (path : List ℕ) (i : ℕ) (hs : List Head) → map (head_under path) (map (head_below i) hs) ≡ map (head_under (path ++ i ∷ [])) hs
 under-below path i [] = refl
@@ -56,18 +56,16 @@ heads_of_con pat at c pats path here old one new is same first rest1 =
     ∙ ap (λ (hs : List Head). shown_heads old ++ map (head_under path) hs) (sym (fold-Con (List Head) heads_step at c pats))
     ∙ ap (λ (p : Pat). shown_heads old ++ map (head_under path) (heads_of p)) (sym is)
 
-under-root : (hs : List Head) → map (head_under []) hs ≡ hs
+pub under-root : (hs : List Head) → map (head_under []) hs ≡ hs
 under-root [] = refl
 under-root (h ∷ hs) = ap (λ (xs : List Head). h ∷ xs) (under-root hs)
 
-pub inner_con : (leaf : Leaf) (at : ℕ) (c : ConRef) (pats : List Pat) (path : List ℕ) (old new : List Place) → leaf.prov ≡ Con at c pats → path ≡ [] → old ≡ []
-    → shown_heads new ≡ shown_heads old ++ map (head_under path) (heads_below (map heads_of pats) 0) → shown_heads new ≡ inner_heads leaf
-inner_con leaf at c pats path old new is root none all =
+pub inner_con : (leaf : Leaf) (at : ℕ) (c : ConRef) (pats : List Pat) (path : List ℕ) (old new : List Place) → leaf.prov ≡ Con at c pats → old ≡ []
+    → shown_heads new ≡ shown_heads old ++ map (head_under path) (heads_below (map heads_of pats) 0) → shown_heads new ≡ map (head_under path) (inner_heads leaf)
+inner_con leaf at c pats path old new is none all =
     all ∙ ap (λ (ps : List Place). shown_heads ps ++ map (head_under path) (heads_below (map heads_of pats) 0)) none
-    ∙ ap (λ (q : List ℕ). map (head_under q) (heads_below (map heads_of pats) 0)) root
-    ∙ under-root (heads_below (map heads_of pats) 0)
-    ∙ ap (λ (hs : List Head). drop 1 hs) (sym (fold-Con (List Head) heads_step at c pats))
-    ∙ ap (λ (p : Pat). drop 1 (heads_of p)) (sym is)
+    ∙ ap (λ (hs : List Head). map (head_under path) (drop 1 hs)) (sym (fold-Con (List Head) heads_step at c pats))
+    ∙ ap (λ (p : Pat). map (head_under path) (drop 1 (heads_of p))) (sym is)
 
 -- the other forms have none
 pub no-heads-Wild : (at : ℕ) → heads_of (Wild at) ≡ []
@@ -78,6 +76,29 @@ no-heads-Var at x = fold-Var (List Head) heads_step at x
 
 pub no-heads-Num : (at n : ℕ) → heads_of (Num at n) ≡ []
 no-heads-Num at n = fold-Num (List Head) heads_step at n
+
+-- Constructors as seen from a path
+
+head-behind : (o : Option (List ℕ)) (con : ConRef) (hs : List Head) → head_behind o con hs ≡ head_behind o con [] ++ hs
+head-behind None con hs = refl
+head-behind (Some q) con hs = refl
+
+pub none_behind : (out : List Place) (o : Option (List ℕ)) (con : ConRef) → None ≡ o → shown_heads out ≡ shown_heads out ++ head_behind o con []
+none_behind out o con is = sym (append-nil (shown_heads out)) ∙ ap (λ r. shown_heads out ++ head_behind r con []) is
+
+pub some_behind : (out new : List Place) (o : Option (List ℕ)) (q rest : List ℕ) (con : ConRef) → Some rest ≡ o → q ≡ rest → new ≡ out ++ record { path = q; con = con } ∷ [] → shown_heads new ≡ shown_heads out ++ head_behind o con []
+some_behind out new o q rest con is same more =
+    ap shown_heads more ∙ shown-more out (record { path = q; con = con }) ∙ ap (λ r. shown_heads out ++ head_behind r con []) (ap Some same ∙ is)
+
+pub behind_next : (path : List ℕ) (known : List Place) (i : ℕ) (p : Place) (old new : List Place) (all : List Head) → slice_get known i ≡ Some p → shown_heads old ++ heads_behind path (shown_heads (drop i known)) ≡ all
+    → shown_heads new ≡ shown_heads old ++ head_behind (behind path p.path) p.con [] → shown_heads new ++ heads_behind path (shown_heads (drop (i + 1) known)) ≡ all
+behind_next path known i p old new all is so_far more =
+    let here = behind path p.path in
+    let rest = heads_behind path (shown_heads (drop (i + 1) known)) in
+    let now : heads_behind path (shown_heads (drop i known)) ≡ head_behind here p.con rest =
+    ap (λ (ps : List Place). heads_behind path (shown_heads ps)) (drop_from known i p is) ∙ ap (λ n. head_behind here p.con (heads_behind path (shown_heads (drop n known)))) (sym (add-one i)) in
+    ap (λ (hs : List Head). hs ++ rest) more ∙ append_assoc (shown_heads old) (head_behind here p.con []) rest
+    ∙ ap (λ (hs : List Head). shown_heads old ++ hs) (sym (now ∙ head-behind here p.con rest)) ∙ so_far
 
 -- those of patterns that stand below the root
 pub below_root : (pats : List Pat) (path : List ℕ) (old new : List Place) → path ≡ [] → old ≡ []

@@ -24,8 +24,9 @@ pub mod HeadForms
 pub mod Ways
 pub mod PartForms
 pub mod Chosen
+pub mod Staying
+pub mod Shown
 pub mod Branches
 pub mod Behind
-pub mod Shown
 pub mod Choices
 pub mod FieldParts

@@ -1,109 +1,136 @@
--- What is shown of a construction's arguments: the leaves that stay, and the places that need no look.
-use Rattle.std.proofs.Common.{◌≡◌, ℕ, zero, suc, ◌==◌, map, List, [], ◌∷◌, Bool, true, false, Some, refl, sym, subst, ap, ◌∙◌}
+-- Constructors that are known of a value: by what is shown of its fields, by its parts, and of its parts.
+use Rattle.std.proofs.Common.{◌≡◌, ℕ, zero, suc, ◌==◌, ◌++◌, map, List, [], ◌∷◌, Bool, true, false, Option, Some, None, refl, sym, subst, ap, ◌∙◌, ◌+◌, inl, inr, arith}
 use Rattle.std.specs.Prelude.{slice_get, if◌then◌else◌}
 use Rattle.std.proofs.lemmas.Option.{same_Some}
-use Rattle.rb_core.specs.declared.value.Value.{Value, Con}
+use Rattle.rb_core.specs.declared.value.Value.{Value, Con, out-Value}
 use Rattle.rb_core.specs.declared.value.Value.TheVariants.{outs-Con}
+use Rattle.rb_core.specs.declared.types.Ty.TheVariants.{Named}
 use Rattle.rb_core.specs.declared.types.ConRef.{ConRef}
-use Rattle.rb_core.specs.declared.types.DataDecl.{DataDecl}
-use Rattle.rb_core.specs.declared.pattern.Pat.{Pat, Con as ConPat}
+use Rattle.rb_core.specs.declared.pattern.Pat.{Pat, Con as ConPat, out-Pat}
 use Rattle.rb_core.specs.Matching.{all_pass, is_con, matches_of}
+use Rattle.rb_core.specs.Values.{part_at, part_from}
 use Rattle.rb_core.proofs.MatchingForms.{matches-Con}
 use Rattle.rb_layout.specs.declared.layout.Layout.{Layout}
 use Rattle.rb_layout.specs.declared.layout.Leaf.{Leaf}
 use Rattle.rb_layout.specs.Flattening.{same_path}
-use Rattle.rb_layout.specs.Positions.{leaf_of, layout_of}
-use Rattle.rb_rel.specs.Switches.{Head, heads_below, heads_of, inner_heads}
-use Rattle.rb_rel.proofs.Lists.{and_true}
+use Rattle.rb_layout.specs.Positions.{layout_of, leaf_of, root_type}
+use Rattle.rb_rel.specs.Switches.{Head, heads_below, heads_of, leaves_in}
+use Rattle.rb_rel.proofs.Lists.{and_true, get-append, get-map}
+use Rattle.rb_rel.proofs.Reading.{same_nat}
 use Rattle.rb_fetch.specs.Choosing.{AreAsShown}
-use Rattle.rb_fetch.specs.inner.Choosing.{Follows, HasCon}
-use Rattle.rb_fetch.specs.inner.Fields.{leaf_at, leaf_within}
-use Rattle.rb_fetch.specs.inner.Heads.{bare_paths, can_be, can_be_leaf, is_among, is_bare, leaves_beside, leaves_that_can_be}
-use Rattle.rb_fetch.proofs.Branches.{can-from, can-of, kept-from, kept-of}
-use Rattle.rb_fetch.proofs.Chosen.{con_same, inner_shows, matched_leaf}
-use Rattle.rb_fetch.proofs.Constructors.{HasAll, heads-Con, same-self, shows}
+use Rattle.rb_fetch.specs.inner.Choosing.{HasAll, HasCon, root_con}
+use Rattle.rb_fetch.specs.inner.Heads.{behind, head_behind, head_under, heads_behind, known_con, leaf_by, leaf_known, leaves_beside, leaves_for, sole}
+use Rattle.rb_fetch.proofs.Chosen.{begins, matched_leaf}
+use Rattle.rb_fetch.proofs.Constructors.{heads-Con, part-append, same-self, shows}
 use Rattle.rb_fetch.proofs.Costs.{path_same}
+use Rattle.rb_fetch.proofs.Staying.{for-from, for-of, own_stays, stays-from, stays-of}
 
--- Leaves that stay ----------------------------------------------------------------------------------
-
-module _ (layouts : List Layout) (t : ℕ) where
-  -- each of the constructors can be in the leaf
-  abbrev pub CanAll : List Head → ℕ → Type 0
-  CanAll hs n = (k : ℕ) (h : Head) → slice_get hs k ≡ Some h → can_be_leaf h.path h.con.con (leaf_at layouts t n) ≡ true
-
-  can-cons : (h : Head) (hs : List Head) (n : ℕ) → can_be_leaf h.path h.con.con (leaf_at layouts t n) ≡ true → CanAll hs n → CanAll (h ∷ hs) n
-  can-cons h hs n one rest zero g e = ap (λ (x : Head). can_be_leaf x.path x.con.con (leaf_at layouts t n)) (sym (same_Some h g e)) ∙ one
-  can-cons h hs n one rest (suc k) g e = rest k g e
-
-  pub stays-of : (hs : List Head) (ns : List ℕ) (i n : ℕ) → slice_get (leaves_beside layouts t hs ns) i ≡ Some n → ((j : ℕ) × (slice_get ns j ≡ Some n)) × CanAll hs n
-  stays-of [] ns i n e = ((i, e), λ k h at. absurd cc)
-  stays-of (h ∷ hs) ns i n e =
-      let r = stays-of hs (leaves_that_can_be layouts t h.path h.con.con ns) i n e in
-      let s = kept-of layouts t h.path h.con.con ns r.0.0 n r.0.1 in
-      (s.0, can-cons h hs n s.1 r.1)
-
-  pub stays-from : (hs : List Head) (ns : List ℕ) (j n : ℕ) → slice_get ns j ≡ Some n → CanAll hs n → (i : ℕ) × (slice_get (leaves_beside layouts t hs ns) i ≡ Some n)
-  stays-from [] ns j n e can = (j, e)
-  stays-from (h ∷ hs) ns j n e can =
-      let r = kept-from layouts t h.path h.con.con ns j n e (can 0 h refl) in
-      stays-from hs (leaves_that_can_be layouts t h.path h.con.con ns) r.0 n r.1 (λ k g at. can (suc k) g at)
-
--- Places that need no look --------------------------------------------------------------------------
-
--- one of the constructors stands at the path
-abbrev IsShownAt : List Head → List ℕ → Type 0
-IsShownAt hs path = (k : ℕ) × (h : Head) × (slice_get hs k ≡ Some h) × (h.path ≡ path)
-
-bare-of : (types : List DataDecl) (hs : List Head) (path : List ℕ) → is_among (bare_paths types hs) path ≡ true → IsShownAt hs path
-bare-of types [] path e = absurd cc
-bare-of types (h ∷ hs) path e = go (is_bare types h.con) (bare-of types hs path) e
-  where
-    behind : IsShownAt hs path → IsShownAt (h ∷ hs) path
-    behind r = (suc r.0, r.1, r.2, r.3)
-
-    here : (b : Bool) → same_path h.path path ≡ b → (is_among (bare_paths types hs) path ≡ true → IsShownAt hs path) → (if b then true else is_among (bare_paths types hs) path) ≡ true → IsShownAt (h ∷ hs) path
-    here true is rest x = (0, h, refl, path_same h.path path is)
-    here false is rest x = behind (rest x)
-
-    go : (b : Bool) → (is_among (bare_paths types hs) path ≡ true → IsShownAt hs path) → is_among (if b then h.path ∷ bare_paths types hs else bare_paths types hs) path ≡ true → IsShownAt (h ∷ hs) path
-    go true rest x = here (same_path h.path path) refl rest x
-    go false rest x = behind (rest x)
-
--- Values --------------------------------------------------------------------------------------------
+-- What is shown of fields ---------------------------------------------------------------------------
 
 -- a construction of such arguments has all constructors that are shown
-shown_have : (con : ConRef) (shown : List Pat) (vs : List Value) → AreAsShown shown vs → HasAll (heads_below (map heads_of shown) 0) (Con con.con vs)
+pub shown_have : (con : ConRef) (shown : List Pat) (vs : List Value) → AreAsShown shown vs → HasAll (heads_below (map heads_of shown) 0) (Con con.con vs)
 shown_have con shown vs pass k h e =
     let whole : matches_of (ConPat 0 con shown) (Con con.con vs) ≡ true =
     matches-Con (Con con.con vs) 0 con shown ∙ ap (is_con con.con (map matches_of shown)) (outs-Con con.con vs)
     ∙ and_true (con.con == con.con) (all_pass (map matches_of shown) vs) (same-self con.con) pass in
     shows (ConPat 0 con shown) (Con con.con vs) whole (suc k) h (ap (λ (hs : List Head). slice_get hs (suc k)) (heads-Con 0 con shown) ∙ e)
 
-module _ (layouts : List Layout) (types : List DataDecl) (con : ConRef) (layout : Layout) (there : layout_of layouts con.ty ≡ Some layout) (shown : List Pat) (vs : List Value) (as_shown : AreAsShown shown vs) where
-  abbrev v : Value
-  v = Con con.con vs
+pub has-append : (a b : List Head) (v : Value) → HasAll a v → HasAll b v → HasAll (a ++ b) v
+has-append a b v ha hb k h e = elim (get-append a b k h e) [ inl x ↦ ha k h x | inr x ↦ hb x.0 h x.1 ]
 
-  abbrev heads : List Head
-  heads = heads_below (map heads_of shown) 0
+-- Parts ---------------------------------------------------------------------------------------------
 
-  leaf_in : (n : ℕ) (x : Leaf) → slice_get layout.leaves n ≡ Some x → leaf_at layouts con.ty n ≡ Some x
-  leaf_in n x e = ap (λ o. leaf_within o n) there ∙ e
+module _ (v u : Value) (path : List ℕ) (at : part_at v path ≡ Some u) where
+  part_of_part : (q : List ℕ) → part_at v (path ++ q) ≡ part_at u q
+  part_of_part q = part-append (Some v) path q ∙ ap (λ o. part_from o q) at
 
-  -- the value's own leaf stays
-  pub own_stays : (n : ℕ) (leaf : Leaf) → leaf_of layout v ≡ Some n → slice_get layout.leaves n ≡ Some leaf → CanAll layouts con.ty heads n
-  own_stays n leaf is at k g e =
-      let m = matched_leaf layout v n leaf is at in
-      let has = shown_have con shown vs as_shown k g e in
-      let can : can_be g.path g.con.con (inner_heads leaf) ≡ true = can-from g.path g.con.con (inner_heads leaf)
-      (λ j h eh same. con_same v g.path h.con.con g.con.con (subst (λ q. HasCon v q h.con.con) same (inner_shows leaf v m j h eh)) has) in
-      ap (can_be_leaf g.path g.con.con) (leaf_in n leaf at) ∙ can
+  -- what a part has, the whole has below it
+  pub has-under : (hs : List Head) → HasAll hs u → HasAll (map (head_under path) hs) v
+  has-under hs has k h e =
+      let g = get-map (head_under path) hs k h e in
+      let c = has k g.0 g.1 in
+      subst (λ (x : Head). HasCon v x.path x.con.con) (sym g.2) (c.0, part_of_part g.0.path ∙ c.1, c.2)
 
-  -- where a constructor without fields is shown, the leaves that stay have it
-  pub shown_follow : (ns : List ℕ) → Follows layout v (leaves_beside layouts con.ty heads ns) (bare_paths types heads)
-  shown_follow ns i n x j h en el eh among =
-      let f = bare-of types heads h.path among in
-      let s = stays-of layouts con.ty heads ns i n en in
-      let can : can_be f.1.path f.1.con.con (inner_heads x) ≡ true = ap (can_be_leaf f.1.path f.1.con.con) (sym (leaf_in n x el)) ∙ s.1 f.0 f.1 f.2 in
-      let same : h.con.con ≡ f.1.con.con = can-of f.1.path f.1.con.con (inner_heads x) can j h eh (sym f.3) in
-      let has = shown_have con shown vs as_shown f.0 f.1 f.2 in
-      subst (λ c. HasCon v h.path c) (sym same) (subst (λ q. HasCon v q f.1.con.con) f.3 has)
+behind-is : (above path rest : List ℕ) → behind above path ≡ Some rest → path ≡ above ++ rest
+behind-is [] path rest e = same_Some path rest e
+behind-is (i ∷ above) [] rest e = absurd cc
+behind-is (i ∷ above) (j ∷ path) rest e = go (i == j) refl e (behind-is above path rest)
+  where
+    go : (b : Bool) → (i == j) ≡ b → (if b then behind above path else None) ≡ Some rest → (behind above path ≡ Some rest → path ≡ above ++ rest) → j ∷ path ≡ i ∷ (above ++ rest)
+    go true is h more = ap (λ n. n ∷ path) (sym (same_nat i j is)) ∙ ap (λ r. i ∷ r) (more h)
+    go false is h more = absurd cc
+
+module _ (v u : Value) (path : List ℕ) (at : part_at v path ≡ Some u) where
+  -- what is known of the whole at a part and below it, the part has
+  pub has-behind : (known : List Head) → HasAll known v → HasAll (heads_behind path known) u
+  has-behind [] has k h e = absurd cc
+  has-behind (g ∷ known) has k h e = go (behind path g.path) refl (λ i x at1. has-behind known (λ j y at2. has (suc j) y at2) i x at1) k h e
+    where
+      go : (o : Option (List ℕ)) → behind path g.path ≡ o → HasAll (heads_behind path known) u → HasAll (head_behind o g.con (heads_behind path known)) u
+      go None is rest k1 h1 e1 = rest k1 h1 e1
+      go (Some q) is rest zero h1 e1 =
+          let c = has 0 g refl in
+          let here : part_at v g.path ≡ part_at u q = ap (part_at v) (behind-is path g.path q is) ∙ part_of_part v u path at q in
+          subst (λ (x : Head). HasCon u x.path x.con.con) (same_Some (record { path = q; con = g.con }) h1 e1) (c.0, sym here ∙ c.1, c.2)
+      go (Some q) is rest (suc k1) h1 e1 = rest k1 h1 e1
+
+known-at : (known : List Head) (v : Value) (path : List ℕ) (k : ℕ) → HasAll known v → known_con path known ≡ Some k → HasCon v path k
+known-at [] v path k has e = absurd cc
+known-at (g ∷ known) v path k has e = go (same_path g.path path) refl e (known-at known v path k (λ i h at. has (suc i) h at))
+  where
+    go : (b : Bool) → same_path g.path path ≡ b → (if b then Some g.con.con else known_con path known) ≡ Some k → (known_con path known ≡ Some k → HasCon v path k) → HasCon v path k
+    go true is h more = subst (λ c. HasCon v path c) (same_Some g.con.con k h) (subst (λ q. HasCon v q g.con.con) (path_same g.path path is) (has 0 g refl))
+    go false is h more = more h
+
+-- A leaf that is told -------------------------------------------------------------------------------
+
+sole-is : (ns : List ℕ) (l j n : ℕ) → sole ns ≡ Some l → slice_get ns j ≡ Some n → n ≡ l
+sole-is [] l j n e at = absurd cc
+sole-is (x ∷ []) l zero n e at = sym (same_Some x n at) ∙ same_Some x l e
+sole-is (x ∷ []) l (suc j) n e at = absurd cc
+sole-is (x ∷ y ∷ ns) l j n e at = absurd cc
+
+sole-first : (ns : List ℕ) (l : ℕ) → sole ns ≡ Some l → slice_get ns 0 ≡ Some l
+sole-first [] l e = absurd cc
+sole-first (x ∷ []) l e = e
+sole-first (x ∷ y ∷ ns) l e = absurd cc
+
+module _ (layouts : List Layout) (s : ℕ) (path : List ℕ) (known : List Head) (l : ℕ) (told : leaf_known layouts s path known ≡ Some l) where
+  -- the constructor that is known there, and its one leaf
+  record IsTold : Type 0 where
+    con : ℕ
+    is_con : known_con path known ≡ Some con
+    is_sole : sole (leaves_beside layouts s (heads_behind path known) (leaves_for con (leaves_in (layout_of layouts s)) 0)) ≡ Some l
+
+  is_told : IsTold
+  is_told = go (known_con path known) refl told
+    where
+      go : (o : Option ℕ) → known_con path known ≡ o → leaf_by layouts s (heads_behind path known) o ≡ Some l → IsTold
+      go None is e = absurd cc
+      go (Some k) is e = record { con = k; is_con = is; is_sole = e }
+
+  pub told_layout : (inner : Layout) × (layout_of layouts s ≡ Some inner)
+  told_layout =
+      let t = is_told in
+      let first = stays-of layouts s (heads_behind path known) (leaves_for t.con (leaves_in (layout_of layouts s)) 0) 0 l (sole-first _ l t.is_sole) in
+      let f = for-of t.con (leaves_in (layout_of layouts s)) 0 first.0.0 l first.0.1 in
+      go f.number f.leaf (layout_of layouts s) refl f.is_number
+    where
+      go : (n : ℕ) (leaf : Leaf) (o : Option Layout) → layout_of layouts s ≡ o → slice_get (leaves_in o) n ≡ Some leaf → (inner : Layout) × (layout_of layouts s ≡ Some inner)
+      go n leaf None is e = absurd cc
+      go n leaf (Some inner) is e = (inner, is)
+
+  -- it is the part's
+  pub told_leaf : (v u : Value) → part_at v path ≡ Some u → HasAll known v → (inner : Layout) → layout_of layouts s ≡ Some inner → (n : ℕ) (leaf : Leaf) → leaf_of inner u ≡ Some n → slice_get inner.leaves n ≡ Some leaf
+      → root_type (out-Pat leaf.prov) ≡ Named s → n ≡ l
+  told_leaf v u at has inner there n leaf is is_leaf root =
+      let t = is_told in
+      let c = known-at known v path t.con has t.is_con in
+      let same : c.0 ≡ u = same_Some c.0 u (sym c.1 ∙ at) in
+      let own = begins t.con leaf.prov u s root (matched_leaf inner u n leaf is is_leaf) (ap (λ w. root_con (out-Value w)) (sym same) ∙ c.2) in
+      let below = has-behind v u path at known has in
+      let i = for-from t.con (leaves_in (layout_of layouts s)) 0 n leaf (ap (λ o. slice_get (leaves_in o) n) there ∙ is_leaf) own in
+      let z : 0 + n ≡ n = omega arith in
+      let can = own_stays layouts s inner there (heads_behind path known) u below n leaf is is_leaf in
+      let j = stays-from layouts s (heads_behind path known) (leaves_for t.con (leaves_in (layout_of layouts s)) 0) i.0 n (i.1 ∙ ap Some z) can in
+      sole-is _ l j.0 n t.is_sole j.1

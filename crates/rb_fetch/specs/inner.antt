@@ -4,5 +4,6 @@ pub mod Placing
 pub mod Fields
 pub mod Rebuilding
 pub mod Heads
+pub mod Seen
 pub mod Choosing
 pub mod Constructing

@@ -1,6 +1,7 @@
-//! Looks into the arguments of a construction, one behind the other, until its leaf is known. Behind a look the
-//! fields of the part that was looked at are fetched. Those that its leaf has taken apart are rebuilt, by
-//! constructions of their own, so that the calls here go in a circle. Each takes one off `depth`.
+//! Looks into the arguments of a construction, one behind the other, until its leaf is known. A part whose leaf
+//! follows from what is known takes no look. The fields of a part whose leaf is known are fetched. Those that the
+//! leaf has taken apart are rebuilt, by constructions of their own, so that the calls here go in a circle. Each
+//! takes one off `depth`.
 
 ghost use Rattle.std.specs.Prelude.{◌≡◌, IfOk, OnOk, length, take};
 ghost use Rattle.rb_target.specs.Growth.{Grows};
@@ -8,17 +9,18 @@ ghost use Rattle.rb_fragment.specs.Arms.{AreHoles, AreOfOneWay};
 ghost use Rattle.rb_fetch.specs.Choosing.{ChoosesLeaf};
 ghost use Rattle.rb_fetch.specs.Constructing.{Constructs};
 ghost use Rattle.rb_fetch.specs.inner.Rebuilding.{FetchesPart, FetchesParts};
-ghost use Rattle.rb_fetch.specs.inner.Choosing.{AreOpen, BranchesDone, ChoosesBy, ChoosesFrom, ChoosesUnder, FetchesFields, IsEndOf, holes_from};
+ghost use Rattle.rb_fetch.specs.inner.Choosing.{AreOpen, BranchesDone, ChoosesBy, ChoosesFrom, ChoosesUnder, FetchesFields, IsEndOf, IsPartIn, holes_from};
 
 use crate::choice::{Choices, Way};
 use crate::construct::{alone, emit_alone, emit_ways};
 use crate::heads::{
-    Place, bare_paths, field_heads, field_path, heads, leaf_at, leaves_beside, leaves_with,
-    next_place, take_apart,
+    Place, bare_paths, field_heads, field_path, heads, leaf_at, leaves_beside, next_place,
+    take_apart,
 };
+use crate::known::{Below, Seen, below_leaf, forget, leaf_known, see};
 use crate::look::find_leaf;
 use crate::parts::{
-    add_parts, copy_parts, count_leaves, find_fields, leaves_by, parts_of, root_of, words_at,
+    add_parts, copy_parts, count_leaves, find_fields, leaves_by, parts_of, words_at,
 };
 use crate::rebuild::fetch_open;
 use rb_compose::subvalue::Subvalue;
@@ -101,11 +103,12 @@ pub(crate) fn choose_leaf_at(
         return Err(AllocError);
     }
     let program = agreed.covered().program();
-    let places = field_heads(alloc, shown)?;
+    let known = field_heads(alloc, shown)?;
     let all = leaves_by(alloc, agreed.layouts(), con)?;
-    let leaves = leaves_beside(alloc, agreed.layouts(), con.ty, all, places.as_slice())?;
+    let leaves = leaves_beside(alloc, agreed.layouts(), con.ty, all, known.as_slice())?;
     let mut parts = parts_of(alloc, args)?;
-    let mut looked = bare_paths(alloc, program.types.as_slice(), places.as_slice())?;
+    let looked = bare_paths(alloc, program.types.as_slice(), known.as_slice())?;
+    let mut seen = Seen { looked, known };
     let ways = choose(
         alloc,
         body,
@@ -114,14 +117,14 @@ pub(crate) fn choose_leaf_at(
         con.ty,
         leaves.as_slice(),
         &mut parts,
-        &mut looked,
+        &mut seen,
     )?;
     let holes = holes_of(alloc, ways.as_slice())?;
     Ok(Choices { holes, ways })
 }
 
 // Code that looks into a construction of a type whose leaf is one of some, until it is known. The parts
-// that are in slots and the positions that were looked at are lent for more, and on `Ok` are what they were.
+// that are in slots and what is known are lent for more, and on `Ok` are what they were.
 #[cycle(fetching)]
 fn choose(
     alloc: Global,
@@ -131,14 +134,14 @@ fn choose(
     ty: u32,
     leaves: &[usize],
     parts: &mut Seq<Subvalue>,
-    looked: &mut Seq<Seq<u32>>,
+    seen: &mut Seen,
 ) -> Result<Seq<Way>, AllocError>
     ensures chooses { IfOk result
-        (λ ways. ChoosesFrom agreed.now ty leaves.now looked.old parts.old body.old body.new ways) }
+        (λ ways. ChoosesFrom agreed.now ty leaves.now seen.old parts.old body.old body.new ways) }
     ensures ways { IfOk result (λ ways. AreOpen (length body.old.code) body.new.code ways) }
     ensures grows { OnOk result (Grows body.old.code body.new.code) }
     ensures parts { OnOk result (parts.new ≡ parts.old) }
-    ensures looked { OnOk result (looked.new ≡ looked.old) }
+    ensures seen { OnOk result (seen.new ≡ seen.old) }
 {
     if depth == 0 {
         return Err(AllocError);
@@ -152,14 +155,14 @@ fn choose(
         return Err(AllocError);
     };
     let places = heads(alloc, found)?;
-    match next_place(places.as_slice(), looked.as_slice()) {
+    match next_place(places.as_slice(), seen.looked.as_slice()) {
         None => {
             let way = end_way(alloc, body, agreed, ty, *leaf, parts.as_slice())?;
             ways.push(way)?;
             Ok(ways)
         }
         Some(place) => {
-            let ways = look(
+            let ways = choose_at(
                 alloc,
                 body,
                 agreed,
@@ -167,7 +170,7 @@ fn choose(
                 ty,
                 leaves,
                 parts,
-                looked,
+                seen,
                 place,
             )?;
             Ok(ways)
@@ -175,7 +178,54 @@ fn choose(
     }
 }
 
-// The same by a look at a place: behind it, each leaf of the part there has its own code.
+// The same where the next question is the leaf of the part at a place. What is known of the value may tell it.
+#[cycle(fetching)]
+fn choose_at(
+    alloc: Global,
+    body: &mut Body,
+    agreed: &Agreed,
+    depth: usize,
+    ty: u32,
+    leaves: &[usize],
+    parts: &mut Seq<Subvalue>,
+    seen: &mut Seen,
+    place: &Place,
+) -> Result<Seq<Way>, AllocError>
+    ensures chooses { IfOk result (λ ways. ChoosesBy agreed.now ty leaves.now seen.old parts.old place.now.path
+        place.now.con.ty body.old body.new ways) }
+    ensures ways { IfOk result (λ ways. AreOpen (length body.old.code) body.new.code ways) }
+    ensures grows { OnOk result (Grows body.old.code body.new.code) }
+    ensures parts { OnOk result (parts.new ≡ parts.old) }
+    ensures seen { OnOk result (seen.new ≡ seen.old) }
+{
+    if depth == 0 {
+        return Err(AllocError);
+    }
+    let _typed = agreed.covered().program();
+    let own = place.con.ty;
+    let path = place.path.as_slice();
+    let held = words_at(alloc, parts.as_slice(), path, own)?;
+    let words = held.as_slice();
+    let known = seen.known.as_slice();
+    let alone = leaf_known(alloc, agreed.layouts(), own, path, known)?;
+    let depth = depth - 1;
+    match alone {
+        Some(inner) => {
+            let ways = choose_under(
+                alloc, body, agreed, depth, ty, leaves, parts, seen, place, words, inner,
+            )?;
+            Ok(ways)
+        }
+        None => {
+            let ways = look(
+                alloc, body, agreed, depth, ty, leaves, parts, seen, place, words,
+            )?;
+            Ok(ways)
+        }
+    }
+}
+
+// The same by a look at the place: behind it, each leaf of the part there has its own code.
 #[cycle(fetching)]
 fn look(
     alloc: Global,
@@ -185,15 +235,16 @@ fn look(
     ty: u32,
     leaves: &[usize],
     parts: &mut Seq<Subvalue>,
-    looked: &mut Seq<Seq<u32>>,
+    seen: &mut Seen,
     place: &Place,
+    words: &[usize],
 ) -> Result<Seq<Way>, AllocError>
-    ensures chooses { IfOk result (λ ways. ChoosesBy agreed.now ty leaves.now looked.old parts.old place.now.path
-        place.now.con.ty body.old body.new ways) }
+    ensures chooses { IfOk result (λ ways. IsPartIn parts.old place.now.path place.now.con.ty words.now
+        → ChoosesBy agreed.now ty leaves.now seen.old parts.old place.now.path place.now.con.ty body.old body.new ways) }
     ensures ways { IfOk result (λ ways. AreOpen (length body.old.code) body.new.code ways) }
     ensures grows { OnOk result (Grows body.old.code body.new.code) }
     ensures parts { OnOk result (parts.new ≡ parts.old) }
-    ensures looked { OnOk result (looked.new ≡ looked.old) }
+    ensures seen { OnOk result (seen.new ≡ seen.old) }
 {
     if depth == 0 {
         return Err(AllocError);
@@ -201,8 +252,7 @@ fn look(
     let Some(count) = count_leaves(agreed.layouts(), place.con.ty) else {
         return Err(AllocError);
     };
-    let words = words_at(alloc, parts.as_slice(), place.path.as_slice(), place.con.ty)?;
-    let holes = find_leaf(alloc, body, words.as_slice(), agreed, place.con.ty)?;
+    let holes = find_leaf(alloc, body, words, agreed, place.con.ty)?;
     let branches = choose_each(
         alloc,
         body,
@@ -211,9 +261,9 @@ fn look(
         ty,
         leaves,
         parts,
-        looked,
+        seen,
         place,
-        words.as_slice(),
+        words,
         count,
     )?;
     patch_all(body, holes.as_slice(), branches.starts.as_slice());
@@ -230,15 +280,15 @@ fn choose_each(
     ty: u32,
     leaves: &[usize],
     parts: &mut Seq<Subvalue>,
-    looked: &mut Seq<Seq<u32>>,
+    seen: &mut Seen,
     place: &Place,
     words: &[usize],
     count: usize,
 ) -> Result<Branches, AllocError>
-    ensures done { IfOk result (λ b. BranchesDone agreed.now ty leaves.now looked.old parts.old place.now.path
+    ensures done { IfOk result (λ b. BranchesDone agreed.now ty leaves.now seen.old parts.old place.now.path
         place.now.con.ty words.now count body.old body.new b.starts b.ways) }
     ensures parts { OnOk result (parts.new ≡ parts.old) }
-    ensures looked { OnOk result (looked.new ≡ looked.old) }
+    ensures seen { OnOk result (seen.new ≡ seen.old) }
 {
     if depth == 0 {
         return Err(AllocError);
@@ -255,7 +305,7 @@ fn choose_each(
             ty,
             leaves,
             parts,
-            looked,
+            seen,
             place,
             words,
             inner,
@@ -277,33 +327,29 @@ fn choose_under(
     ty: u32,
     leaves: &[usize],
     parts: &mut Seq<Subvalue>,
-    looked: &mut Seq<Seq<u32>>,
+    seen: &mut Seen,
     place: &Place,
     words: &[usize],
     inner: usize,
 ) -> Result<Seq<Way>, AllocError>
-    ensures chooses { IfOk result (λ ways. ChoosesUnder agreed.now ty leaves.now looked.old parts.old place.now.path
+    ensures chooses { IfOk result (λ ways. ChoosesUnder agreed.now ty leaves.now seen.old parts.old place.now.path
         place.now.con.ty words.now inner body.old body.new ways) }
     ensures ways { IfOk result (λ ways. AreOpen (length body.old.code) body.new.code ways) }
     ensures grows { OnOk result (Grows body.old.code body.new.code) }
     ensures parts { OnOk result (parts.new ≡ parts.old) }
-    ensures looked { OnOk result (looked.new ≡ looked.old) }
+    ensures seen { OnOk result (seen.new ≡ seen.old) }
 {
     if depth == 0 {
         return Err(AllocError);
     }
     let layouts = agreed.layouts();
-    let Some(root) = root_of(layouts, place.con.ty, inner) else {
-        return Err(AllocError);
-    };
+    let Below { root, heads, kept } = below_leaf(alloc, layouts, ty, leaves, place, inner)?;
     let con = ConRef {
         ty: place.con.ty,
         con: root,
     };
-    let path = place.path.as_slice();
-    let kept = leaves_with(alloc, layouts, ty, leaves, path, root)?;
-    let (known, behind) = (parts.len(), looked.len());
-    let needed = take_apart(alloc, layouts, ty, kept.as_slice(), path)?;
+    let needed = take_apart(alloc, layouts, ty, kept.as_slice(), place.path.as_slice())?;
+    let had = parts.len();
     fetch_fields(
         alloc,
         body,
@@ -316,19 +362,14 @@ fn choose_under(
         needed,
         parts,
     )?;
-    looked.push(place.path.copy(alloc)?)?;
-    let ways = choose(
-        alloc,
-        body,
-        agreed,
-        depth - 1,
-        ty,
-        kept.as_slice(),
-        parts,
-        looked,
-    )?;
-    looked.truncate(behind);
-    parts.truncate(known);
+    let looked = seen.looked.len();
+    let known = seen.known.len();
+    let types = agreed.covered().program().types.as_slice();
+    see(alloc, types, seen, &place.path, heads)?;
+    let kept = kept.as_slice();
+    let ways = choose(alloc, body, agreed, depth - 1, ty, kept, parts, seen)?;
+    forget(seen, looked, known);
+    parts.truncate(had);
     Ok(ways)
 }
 

@@ -92,22 +92,38 @@ fn add_heads_below(
     Ok(())
 }
 
-/// The constructors below the root of a leaf's provenance, outer ones before inner ones and from left to right.
+/// The constructors below the root of the provenance of a part's leaf, at their positions in the whole: outer ones
+/// before inner ones and from left to right.
+///
+/// # Errors
+/// `AllocError` where memory is wanting.
+pub(crate) fn heads_under(
+    alloc: Global,
+    leaf: &Leaf,
+    path: &Seq<u32>,
+) -> Result<Seq<Place>, AllocError>
+    ensures { IfOk result (λ found. shown_heads found ≡ map (head_under path.now) (inner_heads leaf.now)) }
+{
+    let mut found = Seq::new(alloc);
+    match &leaf.prov {
+        Pat::Wild(_) | Pat::Var(_, _) | Pat::Num(_, _) => Ok(found),
+        Pat::Con(_, _, pats) => {
+            add_heads_below(alloc, pats.as_slice(), path, &mut found)?;
+            Ok(found)
+        }
+    }
+}
+
+/// Those of a whole value's leaf.
 ///
 /// # Errors
 /// `AllocError` where memory is wanting.
 pub(crate) fn heads(alloc: Global, leaf: &Leaf) -> Result<Seq<Place>, AllocError>
     ensures { IfOk result (λ found. shown_heads found ≡ inner_heads leaf.now) }
 {
-    let mut found = Seq::new(alloc);
-    match &leaf.prov {
-        Pat::Wild(_) | Pat::Var(_, _) | Pat::Num(_, _) => Ok(found),
-        Pat::Con(_, _, pats) => {
-            let root = Seq::new(alloc);
-            add_heads_below(alloc, pats.as_slice(), &root, &mut found)?;
-            Ok(found)
-        }
-    }
+    let root = Seq::new(alloc);
+    let found = heads_under(alloc, leaf, &root)?;
+    Ok(found)
 }
 
 /// The constructors of patterns, one a field, at their positions in the whole.

@@ -74,16 +74,17 @@
 //! 18 jump 19
 //! ```
 //!
-//! A look is taken where the first leaf that is still possible has a constructor and nothing is known; behind
-//! it only leaves that fit what was found go on (`choosing.rt`), and what was found is fetched only where one of
-//! them takes it apart. Once all places of the first one are looked at, it is the leaf: the value has all its
-//! constructors, and no two leaves have a value in common. A place is looked at once on a way, so a run does no
-//! more switches than `choose_of` counts.
+//! A look is taken where the first leaf that is still possible has a constructor and nothing is known. The leaf
+//! that it finds shows its constructor and all that it has taken apart itself; behind it only leaves that fit
+//! these go on (`choosing.rt`), and what was found is fetched only where one of them takes it apart. Once all
+//! places of the first one are known, it is the leaf: the value has all its constructors, and no two leaves have a
+//! value in common. A place is looked at once on a way, so a run does no more switches than `choose_of` counts.
 //!
 //! An argument whose constructor is known is **shown**, as a pattern that it matches. Leaves that have another
 //! constructor in its place are left out before the first look, and no look goes to a constructor without fields:
-//! where `Red` is shown, a node is made by the code of the red leaf, with no switch. A part that is rebuilt is
-//! shown the constructors of its fields by the provenance that it stands in.
+//! where `Red` is shown, a node is made by the code of the red leaf, with no switch. To a constructor with fields
+//! none goes either where only one leaf has it beside what is shown below: the code of that leaf stands alone
+//! (`known.rt`). A part that is rebuilt is shown the constructors of its fields by the provenance that it stands in.
 //!
 //! That a range, a byte or a width is one of an instruction is no condition on the caller: it follows from
 //! agreement wherever a location resolves in some leaf, and each split of a layout that agrees stands above
@@ -96,6 +97,7 @@ pub mod construct;
 pub mod fetch;
 pub mod field;
 mod heads;
+mod known;
 pub mod look;
 mod parts;
 mod place;

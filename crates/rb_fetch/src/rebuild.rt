@@ -73,7 +73,7 @@ fn copy_slots(alloc: Global, slots: &[usize]) -> Result<Seq<usize>, AllocError>
     Ok(copy)
 }
 
-fn copy_path(alloc: Global, path: &[u32]) -> Result<Seq<u32>, AllocError>
+pub(crate) fn copy_path(alloc: Global, path: &[u32]) -> Result<Seq<u32>, AllocError>
     ensures { IfOk result (λ copy. copy ≡ path.now) }
 {
     let mut copy = Seq::new(alloc);

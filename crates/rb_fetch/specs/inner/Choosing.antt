@@ -31,7 +31,8 @@ use Rattle.rb_compose.specs.Subvalues.{AreGivenAt, subvalue_at}
 use Rattle.rb_fetch.specs.declared.choice.Way.{Way}
 use Rattle.rb_fetch.specs.Finding.{IsPlanOf}
 use Rattle.rb_fetch.specs.inner.Fields.{leaf_at}
-use Rattle.rb_fetch.specs.inner.Heads.{is_among}
+use Rattle.rb_fetch.specs.declared.known.Seen.{Seen}
+use Rattle.rb_fetch.specs.inner.Heads.{is_among, shown_heads}
 
 -- Values -------------------------------------------------------------------------------------
 
@@ -42,6 +43,10 @@ root_con (V.Con k vs) = Some k
 -- the part of a value at a position is a construction by this constructor
 abbrev pub HasCon : Value → List ℕ → ℕ → Type 0
 HasCon v path con = (u : Value) × (part_at v path ≡ Some u) × (root_con (out-Value u) ≡ Some con)
+
+-- the value has each of these constructors at its position
+abbrev pub HasAll : List Head → Value → Type 0
+HasAll hs v = (k : ℕ) (h : Head) → slice_get hs k ≡ Some h → HasCon v h.path h.con.con
 
 -- Parts in slots -----------------------------------------------------------------------------
 
@@ -97,11 +102,15 @@ abbrev pub AreLeavesOf : Layout → ℕ → List ℕ → Type 0
 AreLeavesOf layout k leaves =
     (i n : ℕ) → slice_get leaves i ≡ Some n → (leaf : Leaf) × (slice_get layout.leaves n ≡ Some leaf) × (is_leaf_for k leaf ≡ true)
 
--- where a look was, the value has the constructor of each of these leaves
-abbrev pub Follows : Layout → Value → List ℕ → List (List ℕ) → Type 0
-Follows layout v leaves looked =
+-- where no look is needed any more, the value has the constructor of each of these leaves
+abbrev pub HasLooked : Layout → Value → List ℕ → List (List ℕ) → Type 0
+HasLooked layout v leaves looked =
     (i n : ℕ) (leaf : Leaf) (j : ℕ) (h : Head) → slice_get leaves i ≡ Some n → slice_get layout.leaves n ≡ Some leaf
     → slice_get (inner_heads leaf) j ≡ Some h → is_among looked h.path ≡ true → HasCon v h.path h.con.con
+
+-- what is known is so of the value
+abbrev pub Follows : Layout → Value → List ℕ → Seen → Type 0
+Follows layout v leaves seen = HasAll (shown_heads seen.known) v × HasLooked layout v leaves seen.looked
 
 -- a constructor of one of these leaves, where no look was
 pub record IsPlaceOf (layout : Layout) (leaves : List ℕ) (looked : List (List ℕ)) (path : List ℕ) (s : ℕ) : Type 0 where
@@ -182,22 +191,22 @@ pub record IsReady (agreed : LaidOut) (plan : Plan) (t k : ℕ) (layout : Layout
   pub given : PartsGiven plan n xs
 
 -- the code takes each value of one of the leaves to a way of its leaf
-pub record ChoosesWays (plan : Plan) (t k : ℕ) (layout : Layout) (leaves : List ℕ) (looked : List (List ℕ)) (xs : List Subvalue) (old new : Sheet) (ways : List Way) : Type 0 where
+pub record ChoosesWays (plan : Plan) (t k : ℕ) (layout : Layout) (leaves : List ℕ) (seen : Seen) (xs : List Subvalue) (old new : Sheet) (ways : List Way) : Type 0 where
   pub adds : Adds plan old new
   pub are_ways : AreWaysOf plan layout new.slots ways
-  pub takes : (v : Value) → is_of_type plan.program.types v (Named t) ≡ true → HasParts plan.program.types v xs → Follows layout v leaves looked
+  pub takes : (v : Value) → is_of_type plan.program.types v (Named t) ≡ true → HasParts plan.program.types v xs → Follows layout v leaves seen
       → (n i : ℕ) → leaf_of layout v ≡ Some n → slice_get leaves i ≡ Some n
-      → Takes plan old new ways v n (left_of plan.layouts t k looked) (λ clean s m. IsGood m × PartsHold plan clean v s m xs)
+      → Takes plan old new ways v n (left_of plan.layouts t k seen.looked) (λ clean s m. IsGood m × PartsHold plan clean v s m xs)
 
-abbrev pub ChoosesFrom : LaidOut → ℕ → List ℕ → List (List ℕ) → List Subvalue → Sheet → Sheet → List Way → Type 0
-ChoosesFrom agreed t leaves looked xs old new ways =
-    (plan : Plan) (k : ℕ) (layout : Layout) → IsReady agreed plan t k layout leaves xs old.slots → ChoosesWays plan t k layout leaves looked xs old new ways
+abbrev pub ChoosesFrom : LaidOut → ℕ → List ℕ → Seen → List Subvalue → Sheet → Sheet → List Way → Type 0
+ChoosesFrom agreed t leaves seen xs old new ways =
+    (plan : Plan) (k : ℕ) (layout : Layout) → IsReady agreed plan t k layout leaves xs old.slots → ChoosesWays plan t k layout leaves seen xs old new ways
 
 -- the same by a look at a place
-abbrev pub ChoosesBy : LaidOut → ℕ → List ℕ → List (List ℕ) → List Subvalue → List ℕ → ℕ → Sheet → Sheet → List Way → Type 0
-ChoosesBy agreed t leaves looked xs path s old new ways =
-    (plan : Plan) (k : ℕ) (layout : Layout) → IsReady agreed plan t k layout leaves xs old.slots → IsPlaceOf layout leaves looked path s
-    → ChoosesWays plan t k layout leaves looked xs old new ways
+abbrev pub ChoosesBy : LaidOut → ℕ → List ℕ → Seen → List Subvalue → List ℕ → ℕ → Sheet → Sheet → List Way → Type 0
+ChoosesBy agreed t leaves seen xs path s old new ways =
+    (plan : Plan) (k : ℕ) (layout : Layout) → IsReady agreed plan t k layout leaves xs old.slots → IsPlaceOf layout leaves seen.looked path s
+    → ChoosesWays plan t k layout leaves seen xs old new ways
 
 -- Below one leaf -----------------------------------------------------------------------------
 
@@ -224,20 +233,20 @@ FetchesFields agreed path con l words old new xs ys =
     → is_leaf_for con.con leaf ≡ true → GivesFields plan path con.ty l inner leaf words old new xs ys
 
 -- where the part at the place has leaf l, the code takes each value of one of the leaves to a way of its leaf
-pub record ChoosesBelow (plan : Plan) (t k : ℕ) (layout : Layout) (leaves : List ℕ) (looked : List (List ℕ)) (xs : List Subvalue) (path : List ℕ) (s : ℕ) (inner : Layout) (words : List ℕ) (l : ℕ)
+pub record ChoosesBelow (plan : Plan) (t k : ℕ) (layout : Layout) (leaves : List ℕ) (seen : Seen) (xs : List Subvalue) (path : List ℕ) (s : ℕ) (inner : Layout) (words : List ℕ) (l : ℕ)
     (old new : Sheet) (ways : List Way) : Type 0 where
   pub adds : Adds plan old new
   pub are_ways : AreWaysOf plan layout new.slots ways
-  pub takes : (v u : Value) → is_of_type plan.program.types v (Named t) ≡ true → HasParts plan.program.types v xs → Follows layout v leaves looked
+  pub takes : (v u : Value) → is_of_type plan.program.types v (Named t) ≡ true → HasParts plan.program.types v xs → Follows layout v leaves seen
       → part_at v path ≡ Some u → is_of_type plan.program.types u (Named s) ≡ true → leaf_of inner u ≡ Some l
       → (n i : ℕ) → leaf_of layout v ≡ Some n → slice_get leaves i ≡ Some n
-      → Takes plan old new ways v n (mend_of plan.layouts s + left_of plan.layouts t k (looked ++ path ∷ []))
+      → Takes plan old new ways v n (mend_of plan.layouts s + left_of plan.layouts t k (seen.looked ++ path ∷ []))
       (λ clean s1 m. IsGood m × PartsHold plan clean v s1 m xs × Rep plan m clean (Named s) u (slots_at s1 words))
 
-abbrev pub ChoosesUnder : LaidOut → ℕ → List ℕ → List (List ℕ) → List Subvalue → List ℕ → ℕ → List ℕ → ℕ → Sheet → Sheet → List Way → Type 0
-ChoosesUnder agreed t leaves looked xs path s words l old new ways =
+abbrev pub ChoosesUnder : LaidOut → ℕ → List ℕ → Seen → List Subvalue → List ℕ → ℕ → List ℕ → ℕ → Sheet → Sheet → List Way → Type 0
+ChoosesUnder agreed t leaves seen xs path s words l old new ways =
     (plan : Plan) (k : ℕ) (layout inner : Layout) → IsReady agreed plan t k layout leaves xs old.slots → IsRead plan s inner words old.slots
-    → ChoosesBelow plan t k layout leaves looked xs path s inner words l old new ways
+    → ChoosesBelow plan t k layout leaves seen xs path s inner words l old new ways
 
 -- the code of one leaf behind e in longer code q
 pub record BranchIn (e q : Sheet) (start : ℕ) (ways : List Way) (DoesBranch : Sheet → Sheet → List Way → Type 0) : Type 0 where
@@ -253,15 +262,15 @@ pub record BranchIn (e q : Sheet) (start : ℕ) (ways : List Way) (DoesBranch : 
   pub alone : (pc : ℕ) → IsWayAt ways pc → length first.code ≤ pc → pc < length last.code → IsWayAt own pc
   pub does : DoesBranch first last own
 
-pub record BranchesStand (agreed : LaidOut) (plan : Plan) (t k : ℕ) (layout : Layout) (leaves : List ℕ) (looked : List (List ℕ)) (xs : List Subvalue) (path : List ℕ) (s : ℕ) (inner : Layout) (words : List ℕ)
+pub record BranchesStand (agreed : LaidOut) (plan : Plan) (t k : ℕ) (layout : Layout) (leaves : List ℕ) (seen : Seen) (xs : List Subvalue) (path : List ℕ) (s : ℕ) (inner : Layout) (words : List ℕ)
     (count : ℕ) (e q : Sheet) (starts : List ℕ) (ways : List Way) : Type 0 where
   pub adds : Adds plan e q
   pub are_ways : AreWaysOf plan layout q.slots ways
   pub each : (l : ℕ) → l < count
-      → BranchIn e q (slice_index starts l) ways (λ first last own. ChoosesBelow plan t k layout leaves looked xs path s inner words l first last own)
+      → BranchIn e q (slice_index starts l) ways (λ first last own. ChoosesBelow plan t k layout leaves seen xs path s inner words l first last own)
 
 -- the first so many leaves have their code behind e
-pub record BranchesDone (agreed : LaidOut) (t : ℕ) (leaves : List ℕ) (looked : List (List ℕ)) (xs : List Subvalue) (path : List ℕ) (s : ℕ) (words : List ℕ)
+pub record BranchesDone (agreed : LaidOut) (t : ℕ) (leaves : List ℕ) (seen : Seen) (xs : List Subvalue) (path : List ℕ) (s : ℕ) (words : List ℕ)
     (count : ℕ) (e q : Sheet) (starts : List ℕ) (ways : List Way) : Type 0 where
   pub grows : Grows e.code q.code
   pub starts_from : AllFrom (length e.code) starts
@@ -269,4 +278,4 @@ pub record BranchesDone (agreed : LaidOut) (t : ℕ) (leaves : List ℕ) (looked
   pub many : length starts ≡ count
   pub are_open : AreOpen (length e.code) q.code ways
   pub stand : (plan : Plan) (k : ℕ) (layout inner : Layout) → IsReady agreed plan t k layout leaves xs e.slots → IsRead plan s inner words e.slots
-      → BranchesStand agreed plan t k layout leaves looked xs path s inner words count e q starts ways
+      → BranchesStand agreed plan t k layout leaves seen xs path s inner words count e q starts ways

@@ -6,7 +6,8 @@ use Rattle.rb_core.specs.Typing.{field_types}
 use Rattle.rb_layout.specs.declared.layout.Layout.{Layout}
 use Rattle.rb_layout.specs.declared.layout.Leaf.{Leaf}
 use Rattle.rb_layout.specs.Flattening.{same_path}
-use Rattle.rb_rel.specs.Switches.{Head, inner_heads, is_leaf_for}
+use Rattle.rb_layout.specs.Positions.{layout_of}
+use Rattle.rb_rel.specs.Switches.{Head, inner_heads, is_leaf_for, leaves_in}
 use Rattle.rb_fetch.specs.declared.heads.Place.{Place}
 use Rattle.rb_fetch.specs.inner.Fields.{leaf_at}
 
@@ -75,6 +76,11 @@ abbrev pub leaves_for : ℕ → List Leaf → ℕ → List ℕ
 leaves_for k [] n = []
 leaves_for k (leaf ∷ leaves) n = if is_leaf_for k leaf then n ∷ leaves_for k leaves (n + 1) else leaves_for k leaves (n + 1)
 
+-- the constructors below the root of a leaf's provenance
+abbrev pub heads_in : Option Leaf → List Head
+heads_in None = []
+heads_in (Some leaf) = inner_heads leaf
+
 -- a constructor stands at the position
 abbrev pub stands_at : List ℕ → List Head → Bool
 stands_at path [] = false
@@ -88,3 +94,38 @@ takes_apart path (Some leaf) = stands_at path (inner_heads leaf)
 abbrev pub take_apart : List Layout → ℕ → List ℕ → List ℕ → Bool
 take_apart layouts t path [] = false
 take_apart layouts t path (n ∷ ns) = if takes_apart path (leaf_at layouts t n) then true else take_apart layouts t path ns
+
+-- Parts
+
+-- a path as seen from one above it
+abbrev pub behind : List ℕ → List ℕ → Option (List ℕ)
+behind [] path = Some path
+behind (i ∷ above) [] = None
+behind (i ∷ above) (j ∷ path) = if i == j then behind above path else None
+
+abbrev pub head_behind : Option (List ℕ) → ConRef → List Head → List Head
+head_behind None con hs = hs
+head_behind (Some path) con hs = record { path = path; con = con } ∷ hs
+
+-- the constructors at a path and below it, as seen from there
+abbrev pub heads_behind : List ℕ → List Head → List Head
+heads_behind path [] = []
+heads_behind path (h ∷ hs) = head_behind (behind path h.path) h.con (heads_behind path hs)
+
+-- the constructor at the path, by number
+abbrev pub known_con : List ℕ → List Head → Option ℕ
+known_con path [] = None
+known_con path (h ∷ hs) = if same_path h.path path then Some h.con.con else known_con path hs
+
+abbrev pub sole : List ℕ → Option ℕ
+sole [] = None
+sole (n ∷ []) = Some n
+sole (n ∷ m ∷ ns) = None
+
+abbrev pub leaf_by : List Layout → ℕ → List Head → Option ℕ → Option ℕ
+leaf_by layouts t hs None = None
+leaf_by layouts t hs (Some k) = sole (leaves_beside layouts t hs (leaves_for k (leaves_in (layout_of layouts t)) 0))
+
+-- the leaf of the part of type t at a path, where the constructors that are known there and below leave one
+abbrev pub leaf_known : List Layout → ℕ → List ℕ → List Head → Option ℕ
+leaf_known layouts t path known = leaf_by layouts t (heads_behind path known) (known_con path known)

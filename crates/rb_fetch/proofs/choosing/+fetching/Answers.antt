@@ -12,13 +12,13 @@ use Rattle.rb_fetch.specs.inner.Choosing.{parts_under}
 use Rattle.rb_fetch.proofs.Branches.{branches_more, chooses_under}
 use Rattle.rb_fetch.proofs.Choices.{chooses_leaf}
 use Rattle.rb_fetch.proofs.Chosen.{end_open, first_ends, first_looks}
-use Rattle.rb_fetch.proofs.Behind.{look_chooses, look_grows, look_open, look_patchable}
+use Rattle.rb_fetch.proofs.Behind.{told_chooses, look_chooses, look_grows, look_open, look_patchable}
 use Rattle.rb_fetch.proofs.Ways.{open-low, are_holes, of_one_way}
 use Rattle.rb_fetch.proofs.choosing.+fetching.Goals as goal
 
 pub choose-returns-in_ok-push-in-None-clause-chooses : goal.choose-returns-in_ok-push-in-None-clause-chooses
 choose-returns-in_ok-push-in-None-clause-chooses t c =
-    first_ends c.args.agreed.now (rw c.covered.ensures.same at c.program-typed.ensures.typed) c.layouts.ensures.flat c.layouts.ensures.agree c.args.ty c.args.leaves.now c.in-len1-up.len_at_least c.args.looked.now c.args.parts.now c.args.body.now
+    first_ends c.args.agreed.now (rw c.covered.ensures.same at c.program-typed.ensures.typed) c.layouts.ensures.flat c.layouts.ensures.agree c.args.ty c.args.leaves.now c.in-len1-up.len_at_least c.args.seen.now c.args.parts.now c.args.body.now
     c.end_way.new.body c.in_ok-places.places c.in-Some.found.now (rw c.layouts.ensures.same at (sym c.in-Some.ensures)) c.in_ok-places.ensures c.in_ok-way-in-None.way c.new-ways.result c.push.new.self
     (rw (c.as_slice.ensures, c.as_slice-2.ensures) at c.in-None.ensures) (rw c.as_slice-in-None.ensures at c.in_ok-way-in-None.ensures) c.new-ways.ensures c.in_ok-push-in-None.ensures.ok
 
@@ -31,28 +31,30 @@ choose-returns-in_ok-push-in-None-clause-grows t c = (end_open c.args.agreed.now
 
 pub choose-returns-in_ok-ways-in-Some-next_place-clause-chooses : goal.choose-returns-in_ok-ways-in-Some-next_place-clause-chooses
 choose-returns-in_ok-ways-in-Some-next_place-clause-chooses t c =
-    first_looks c.args.agreed.now (rw c.covered.ensures.same at c.program-typed.ensures.typed) c.layouts.ensures.flat c.layouts.ensures.agree c.args.ty c.args.leaves.now c.in-len1-up.len_at_least c.args.looked.now c.args.parts.now c.args.body.now
-    c.look.new.body c.in_ok-places.places c.in-Some.found.now (rw c.layouts.ensures.same at (sym c.in-Some.ensures)) c.in_ok-places.ensures c.in_ok-ways-in-Some-next_place.ways c.in-Some-next_place.place.now
+    first_looks c.args.agreed.now (rw c.covered.ensures.same at c.program-typed.ensures.typed) c.layouts.ensures.flat c.layouts.ensures.agree c.args.ty c.args.leaves.now c.in-len1-up.len_at_least c.args.seen.now c.args.parts.now c.args.body.now
+    c.choose_at.new.body c.in_ok-places.places c.in-Some.found.now (rw c.layouts.ensures.same at (sym c.in-Some.ensures)) c.in_ok-places.ensures c.in_ok-ways-in-Some-next_place.ways c.in-Some-next_place.place.now
     (rw (c.as_slice.ensures, c.as_slice-2.ensures) at c.in-Some-next_place.ensures) c.in_ok-ways-in-Some-next_place.ensures.chooses
 
 pub choose_each-loop-inner-preserved : goal.choose_each-loop-inner-preserved
 choose_each-loop-inner-preserved t c =
-    let under = rw (c.loop-inner.invariant.parts, c.loop-inner.invariant.looked) at c.in_ok-more.ensures.chooses in
+    let under = rw (c.loop-inner.invariant.parts, c.loop-inner.invariant.seen) at c.in_ok-more.ensures.chooses in
     let is : c.append.new.self ≡ c.loop-inner.ways ++ c.in_ok-more.more = c.in_default.ensures in
     record {
       done = rw (is, c.in_ok-push.ensures.ok, c.len.ensures.value)
-          (branches_more c.args.agreed.now c.args.ty c.args.leaves.now c.args.looked.now c.args.parts.now c.args.place.now.path c.args.place.now.con.ty c.args.words.now c.loop-inner.inner c.args.body.now c.loop-inner.body c.choose_under.new.body
+          (branches_more c.args.agreed.now c.args.ty c.args.leaves.now c.args.seen.now c.args.parts.now c.args.place.now.path c.args.place.now.con.ty c.args.words.now c.loop-inner.inner c.args.body.now c.loop-inner.body c.choose_under.new.body
           c.loop-inner.starts c.loop-inner.ways c.in_ok-more.more c.loop-inner.invariant.done c.in_ok-more.ensures.grows c.in_ok-more.ensures.ways under);
       parts = c.in_ok-more.ensures.parts ∙ c.loop-inner.invariant.parts;
-      looked = c.in_ok-more.ensures.looked ∙ c.loop-inner.invariant.looked;
+      seen = c.in_ok-more.ensures.seen ∙ c.loop-inner.invariant.seen;
     }
 
 pub choose_under-returns-clause-chooses : goal.choose_under-returns-clause-chooses
 choose_under-returns-clause-chooses t c =
-    chooses_under c.args.agreed.now c.layouts-layouts.ensures.flat c.layouts-layouts.ensures.agree c.args.ty c.args.leaves.now c.args.looked.now c.args.parts.now c.args.place.now.path c.args.words.now c.args.inner
-    (record { ty = c.args.place.now.con.ty; con = c.in-Some.root }) (rw c.layouts-layouts.ensures.same at c.in-Some.ensures) c.args.body.now c.fetch_fields.new.body c.choose.new.body c.fetch_fields.new.parts c.in_ok-ways.ways
-    c.in_ok-fetch_fields.ensures.fetches
-    (rw (c.as_slice-2.ensures, c.in_ok-kept.ensures, c.layouts-layouts.ensures.same, c.as_slice-path.ensures, c.in_ok-push.ensures.ok, c.in_ok-copy.ensures) at c.in_ok-ways.ensures.chooses) c.in_ok-ways.ensures.ways
+    let below = c.in_ok-root.field-0 in
+    chooses_under c.args.agreed.now c.layouts-layouts.ensures.flat c.layouts-layouts.ensures.agree c.args.ty c.args.leaves.now c.args.seen.now c.args.parts.now c.args.place.now.path c.args.words.now c.args.inner
+    (record { ty = c.args.place.now.con.ty; con = below.root }) (rw c.layouts-layouts.ensures.same at c.in_ok-root.ensures.root) below.heads (rw c.layouts-layouts.ensures.same at c.in_ok-root.ensures.heads)
+    c.args.body.now c.fetch_fields.new.body c.choose.new.body c.fetch_fields.new.parts c.in_ok-ways.ways c.in_ok-fetch_fields.ensures.fetches
+    (rw (c.as_slice-kept.ensures, c.in_ok-root.ensures.kept, c.layouts-layouts.ensures.same, c.in_ok-see.ensures, c.as_slice-types.ensures, c.program.ensures.same, c.covered.ensures.same) at c.in_ok-ways.ensures.chooses)
+    c.in_ok-ways.ensures.ways
 
 pub choose_under-returns-clause-ways : goal.choose_under-returns-clause-ways
 choose_under-returns-clause-ways t c =
@@ -60,41 +62,53 @@ choose_under-returns-clause-ways t c =
 
 pub choose_under-returns-clause-parts : goal.choose_under-returns-clause-parts
 choose_under-returns-clause-parts t c =
-    c.truncate-2.ensures ∙ ap (λ n. take n c.choose.new.parts) c.len-known.ensures ∙ ap (λ ps. take (length c.args.parts.now) ps) c.in_ok-ways.ensures.parts ∙ c.in_ok-fetch_fields.ensures.parts
+    c.truncate.ensures ∙ ap (λ n. take n c.choose.new.parts) c.len-had.ensures ∙ ap (λ ps. take (length c.args.parts.now) ps) c.in_ok-ways.ensures.parts ∙ c.in_ok-fetch_fields.ensures.parts
 
 pub look-patch_all-requires : goal.look-patch_all-requires
 look-patch_all-requires t c =
-    rw (c.as_slice-5.ensures, c.as_slice-6.ensures)
-    (look_patchable c.args.agreed.now c.layouts.ensures.flat c.layouts.ensures.agree c.args.ty c.args.leaves.now c.args.looked.now c.args.parts.now c.args.place.now.path c.args.place.now.con.ty c.in_ok-words.words c.args.body.now c.find_leaf.new.body
-    c.choose_each.new.body c.in_ok-holes.holes c.in_ok-branches.branches.starts c.in_ok-branches.branches.ways c.in-Some.count (rw c.layouts.ensures.same at c.in-Some.ensures) (rw c.as_slice-3.ensures at c.in_ok-holes.ensures.leaf)
-    c.in_ok-holes.ensures.holes c.in_ok-holes.ensures.ways (rw c.as_slice-4.ensures at c.in_ok-branches.ensures.done))
+    rw (c.as_slice.ensures, c.as_slice-2.ensures)
+    (look_patchable c.args.agreed.now c.layouts.ensures.flat c.layouts.ensures.agree c.args.ty c.args.leaves.now c.args.seen.now c.args.parts.now c.args.place.now.path c.args.place.now.con.ty c.args.words.now c.args.body.now c.find_leaf.new.body
+    c.choose_each.new.body c.in_ok-holes.holes c.in_ok-branches.branches.starts c.in_ok-branches.branches.ways c.in-Some.count (rw c.layouts.ensures.same at c.in-Some.ensures) c.in_ok-holes.ensures.leaf
+    c.in_ok-holes.ensures.holes c.in_ok-holes.ensures.ways c.in_ok-branches.ensures.done)
 
 pub look-returns-clause-chooses : goal.look-returns-clause-chooses
-look-returns-clause-chooses t c =
-    rw (c.patch_all.ensures, c.as_slice-5.ensures, c.as_slice-6.ensures)
-    (look_chooses c.args.agreed.now c.layouts.ensures.flat c.layouts.ensures.agree c.args.ty c.args.leaves.now c.args.looked.now c.args.parts.now c.args.place.now.path c.args.place.now.con.ty c.in_ok-words.words c.args.body.now c.find_leaf.new.body
-    c.choose_each.new.body c.in_ok-holes.holes c.in_ok-branches.branches.starts c.in_ok-branches.branches.ways c.in-Some.count (rw c.layouts.ensures.same at c.in-Some.ensures) (rw c.as_slice-3.ensures at c.in_ok-holes.ensures.leaf)
-    c.in_ok-holes.ensures.holes c.in_ok-holes.ensures.ways (rw c.as_slice-4.ensures at c.in_ok-branches.ensures.done) (rw (c.as_slice.ensures, c.as_slice-2.ensures) at c.in_ok-words.ensures))
+look-returns-clause-chooses t c = λ part.
+    rw (c.patch_all.ensures, c.as_slice.ensures, c.as_slice-2.ensures)
+    (look_chooses c.args.agreed.now c.layouts.ensures.flat c.layouts.ensures.agree c.args.ty c.args.leaves.now c.args.seen.now c.args.parts.now c.args.place.now.path c.args.place.now.con.ty c.args.words.now c.args.body.now c.find_leaf.new.body
+    c.choose_each.new.body c.in_ok-holes.holes c.in_ok-branches.branches.starts c.in_ok-branches.branches.ways c.in-Some.count (rw c.layouts.ensures.same at c.in-Some.ensures) c.in_ok-holes.ensures.leaf
+    c.in_ok-holes.ensures.holes c.in_ok-holes.ensures.ways c.in_ok-branches.ensures.done part)
 
 pub look-returns-clause-ways : goal.look-returns-clause-ways
 look-returns-clause-ways t c =
-    rw (c.patch_all.ensures, c.as_slice-5.ensures, c.as_slice-6.ensures)
-    (look_open c.args.agreed.now c.layouts.ensures.flat c.layouts.ensures.agree c.args.ty c.args.leaves.now c.args.looked.now c.args.parts.now c.args.place.now.path c.args.place.now.con.ty c.in_ok-words.words c.args.body.now c.find_leaf.new.body
-    c.choose_each.new.body c.in_ok-holes.holes c.in_ok-branches.branches.starts c.in_ok-branches.branches.ways c.in-Some.count (rw c.layouts.ensures.same at c.in-Some.ensures) (rw c.as_slice-3.ensures at c.in_ok-holes.ensures.leaf)
-    c.in_ok-holes.ensures.holes c.in_ok-holes.ensures.ways (rw c.as_slice-4.ensures at c.in_ok-branches.ensures.done) c.in_ok-holes.ensures.grows)
+    rw (c.patch_all.ensures, c.as_slice.ensures, c.as_slice-2.ensures)
+    (look_open c.args.agreed.now c.layouts.ensures.flat c.layouts.ensures.agree c.args.ty c.args.leaves.now c.args.seen.now c.args.parts.now c.args.place.now.path c.args.place.now.con.ty c.args.words.now c.args.body.now c.find_leaf.new.body
+    c.choose_each.new.body c.in_ok-holes.holes c.in_ok-branches.branches.starts c.in_ok-branches.branches.ways c.in-Some.count (rw c.layouts.ensures.same at c.in-Some.ensures) c.in_ok-holes.ensures.leaf
+    c.in_ok-holes.ensures.holes c.in_ok-holes.ensures.ways c.in_ok-branches.ensures.done c.in_ok-holes.ensures.grows)
 
 pub look-returns-clause-grows : goal.look-returns-clause-grows
 look-returns-clause-grows t c =
-    rw (c.patch_all.ensures, c.as_slice-5.ensures, c.as_slice-6.ensures)
-    (look_grows c.args.agreed.now c.layouts.ensures.flat c.layouts.ensures.agree c.args.ty c.args.leaves.now c.args.looked.now c.args.parts.now c.args.place.now.path c.args.place.now.con.ty c.in_ok-words.words c.args.body.now c.find_leaf.new.body
-    c.choose_each.new.body c.in_ok-holes.holes c.in_ok-branches.branches.starts c.in_ok-branches.branches.ways c.in-Some.count (rw c.layouts.ensures.same at c.in-Some.ensures) (rw c.as_slice-3.ensures at c.in_ok-holes.ensures.leaf)
-    c.in_ok-holes.ensures.holes c.in_ok-holes.ensures.ways (rw c.as_slice-4.ensures at c.in_ok-branches.ensures.done) c.in_ok-holes.ensures.grows)
+    rw (c.patch_all.ensures, c.as_slice.ensures, c.as_slice-2.ensures)
+    (look_grows c.args.agreed.now c.layouts.ensures.flat c.layouts.ensures.agree c.args.ty c.args.leaves.now c.args.seen.now c.args.parts.now c.args.place.now.path c.args.place.now.con.ty c.args.words.now c.args.body.now c.find_leaf.new.body
+    c.choose_each.new.body c.in_ok-holes.holes c.in_ok-branches.branches.starts c.in_ok-branches.branches.ways c.in-Some.count (rw c.layouts.ensures.same at c.in-Some.ensures) c.in_ok-holes.ensures.leaf
+    c.in_ok-holes.ensures.holes c.in_ok-holes.ensures.ways c.in_ok-branches.ensures.done c.in_ok-holes.ensures.grows)
+
+pub choose_at-returns-in-Some-clause-chooses : goal.choose_at-returns-in-Some-clause-chooses
+choose_at-returns-in-Some-clause-chooses t c =
+    told_chooses c.args.agreed.now (rw c.covered.ensures.same at c.program-typed.ensures.typed) c.layouts.ensures.flat c.layouts.ensures.agree c.args.ty c.args.leaves.now c.args.seen.now c.args.parts.now c.args.place.now.path
+    c.args.place.now.con.ty c.in_ok-held.held c.in-Some.inner (sym (rw (c.layouts.ensures.same, c.as_slice-path.ensures, c.as_slice-known.ensures) at c.in_ok-alone.ensures) ∙ c.in-Some.is) c.args.body.now c.choose_under.new.body
+    c.in_ok-ways-in-Some.ways (rw c.as_slice-words.ensures at c.in_ok-ways-in-Some.ensures.chooses) (rw (c.as_slice.ensures, c.as_slice-path.ensures) at c.in_ok-held.ensures)
+
+pub choose_at-returns-clause-chooses : goal.choose_at-returns-clause-chooses
+choose_at-returns-clause-chooses t c =
+    let part = rw (c.as_slice.ensures, c.as_slice-path.ensures) at c.in_ok-held.ensures in
+    let chosen = rw c.as_slice-words.ensures at c.in_ok-ways-in-None.ensures.chooses in
+    chosen part
 
 pub choose_leaf_at-returns-clause-chooses : goal.choose_leaf_at-returns-clause-chooses
 choose_leaf_at-returns-clause-chooses t c =
     rw (c.in_ok-holes.ensures, c.as_slice-5.ensures)
-    (chooses_leaf c.args.agreed.now (rw c.covered.ensures.same at c.program-program.ensures.typed) c.layouts.ensures.flat c.layouts.ensures.agree c.args.con c.args.args.now c.args.shown.now c.args.body.now c.choose.new.body c.in_ok-ways.ways
-    (rw (c.as_slice-4.ensures, c.in_ok-leaves.ensures, c.as_slice.ensures, c.in_ok-all.ensures, c.layouts.ensures.same, c.layouts-2.ensures.same, c.in_ok-parts.ensures, c.in_ok-looked.ensures, c.as_slice-2.ensures, c.as_slice-3.ensures, c.program-program.ensures.same, c.covered.ensures.same, c.in_ok-places.ensures) at c.in_ok-ways.ensures.chooses) c.in_ok-ways.ensures.ways)
+    (chooses_leaf c.args.agreed.now (rw c.covered.ensures.same at c.program-program.ensures.typed) c.layouts.ensures.flat c.layouts.ensures.agree c.args.con c.args.args.now c.args.shown.now c.in_ok-known.known c.in_ok-known.ensures c.args.body.now c.choose.new.body c.in_ok-ways.ways
+    (rw (c.as_slice-4.ensures, c.in_ok-leaves.ensures, c.as_slice.ensures, c.in_ok-all.ensures, c.layouts.ensures.same, c.layouts-2.ensures.same, c.in_ok-parts.ensures, c.in_ok-looked.ensures, c.as_slice-2.ensures, c.as_slice-3.ensures, c.program-program.ensures.same, c.covered.ensures.same, c.in_ok-known.ensures) at c.in_ok-ways.ensures.chooses) c.in_ok-ways.ensures.ways)
 
 pub choose_leaf_at-returns-clause-holes : goal.choose_leaf_at-returns-clause-holes
 choose_leaf_at-returns-clause-holes t c =

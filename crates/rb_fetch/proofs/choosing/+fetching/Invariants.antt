@@ -10,6 +10,9 @@ decreases-choose_leaf_at l = l.depth
 abbrev pub decreases-choose : goal.decreases-choose
 decreases-choose l = l.depth
 
+abbrev pub decreases-choose_at : goal.decreases-choose_at
+decreases-choose_at l = l.depth
+
 abbrev pub decreases-look : goal.decreases-look
 decreases-look l = l.depth
 
@@ -27,9 +30,9 @@ decreases-fetch_parts l = l.depth
 
 abbrev pub invariant-choose_each-loop-inner : goal.invariant-choose_each-loop-inner
 invariant-choose_each-loop-inner l = record {
-  done : BranchesDone l.agreed l.ty l.leaves l.fn.looked l.fn.parts l.place.path l.place.con.ty l.words l.inner l.fn.body l.body l.starts l.ways;
+  done : BranchesDone l.agreed l.ty l.leaves l.fn.seen l.fn.parts l.place.path l.place.con.ty l.words l.inner l.fn.body l.body l.starts l.ways;
   parts : l.parts ≡ l.fn.parts;
-  looked : l.looked ≡ l.fn.looked;
+  seen : l.seen ≡ l.fn.seen;
 }
 
 abbrev pub decreases-fetch_part : goal.decreases-fetch_part

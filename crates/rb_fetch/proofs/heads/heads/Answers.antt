@@ -1,7 +1,7 @@
-use Rattle.rb_fetch.proofs.HeadForms.{inner_con}
+use Rattle.std.proofs.Common.{◌∙◌}
+use Rattle.rb_rel.specs.Switches.{inner_heads}
+use Rattle.rb_fetch.proofs.HeadForms.{under-root}
 use Rattle.rb_fetch.proofs.heads.heads.Goals as goal
 
-pub returns-in_ok-add_heads_below-in-Con : goal.returns-in_ok-add_heads_below-in-Con
-returns-in_ok-add_heads_below-in-Con c =
-    inner_con c.args.leaf.now c.in-Con.field-0 c.in-Con.field-1 c.in-Con.pats c.new-root.result c.new-found.result c.add_heads_below.new.out c.in-Con.is c.new-root.ensures c.new-found.ensures
-    (rw c.as_slice.ensures at c.in_ok-add_heads_below-in-Con.ensures)
+pub returns : goal.returns
+returns c = rw c.new-root.ensures at c.in_ok-found.ensures ∙ under-root (inner_heads c.args.leaf.now)

@@ -1,0 +1,194 @@
+//! What is known of a value on a way to its leaf, and the leaf of a part where that is enough to tell it.
+
+ghost use Rattle.std.specs.Prelude.{◌≡◌, ◌++◌, [], IfOk, OnOk, map};
+ghost use Rattle.std.specs.Option.{option_copied};
+ghost use Rattle.rb_fetch.specs.inner.Choosing.{HasRoot};
+ghost use Rattle.rb_fetch.specs.inner.Fields.{leaf_at};
+ghost use Rattle.rb_fetch.specs.inner.Heads.{behind, head_behind, head_under, heads_behind, heads_in, known_con, leaf_known, leaves_beside, leaves_that_can_be, shown_heads, sole};
+ghost use Rattle.rb_fetch.specs.inner.Seen.{seen_before, seen_more};
+
+use crate::heads::{
+    Place, bare_paths, heads_under, leaf_at, leaves_beside, leaves_with, same_path,
+};
+use crate::parts::{leaves_by, root_of};
+use crate::rebuild::copy_path;
+use rb_core::seq::Seq;
+use rb_core::types::{ConRef, DataDecl};
+use rb_layout::layout::Layout;
+use std::alloc::{AllocError, Global};
+
+/// What is known of a value: positions that need no look any more, and constructors that stand in it.
+#[derive(Debug, Drop)]
+pub(crate) struct Seen {
+    pub looked: Seq<Seq<u32>>,
+    pub known: Seq<Place>,
+}
+
+/// What follows where the leaf of a part is known: the constructor at its root by number, those below at their
+/// positions in the whole, and the leaves of the whole that can still be here.
+#[derive(Debug, Drop)]
+pub(crate) struct Below {
+    pub root: u32,
+    pub heads: Seq<Place>,
+    pub kept: Seq<usize>,
+}
+
+/// What follows of the leaves of a whole of type `ty` where the part at a place has this leaf.
+///
+/// # Errors
+/// `AllocError` where memory is wanting, or there is no such leaf.
+pub(crate) fn below_leaf(
+    alloc: Global,
+    layouts: &[Layout],
+    ty: u32,
+    leaves: &[usize],
+    place: &Place,
+    leaf: usize,
+) -> Result<Below, AllocError>
+    ensures root { IfOk result (λ b. HasRoot layouts.now place.now.con.ty leaf b.root) }
+    ensures heads { IfOk result (λ b. shown_heads b.heads
+        ≡ map (head_under place.now.path) (heads_in (leaf_at layouts.now place.now.con.ty leaf))) }
+    ensures kept { IfOk result (λ b. b.kept ≡ leaves_beside layouts.now ty (shown_heads b.heads)
+        (leaves_that_can_be layouts.now ty place.now.path b.root leaves.now)) }
+{
+    let Some(root) = root_of(layouts, place.con.ty, leaf) else {
+        return Err(AllocError);
+    };
+    let Some(found) = leaf_at(layouts, place.con.ty, leaf) else {
+        return Err(AllocError);
+    };
+    let heads = heads_under(alloc, found, &place.path)?;
+    let with_root = leaves_with(alloc, layouts, ty, leaves, place.path.as_slice(), root)?;
+    let kept = leaves_beside(alloc, layouts, ty, with_root, heads.as_slice())?;
+    Ok(Below { root, heads, kept })
+}
+
+/// Adds that a look was at a position, and constructors that stand in the value. Those without fields need no look.
+///
+/// # Errors
+/// `AllocError` where memory is wanting.
+pub(crate) fn see(
+    alloc: Global,
+    types: &[DataDecl],
+    seen: &mut Seen,
+    path: &Seq<u32>,
+    places: Seq<Place>,
+) -> Result<(), AllocError>
+    ensures { OnOk result (seen.new ≡ seen_more types.now seen.old path.now places) }
+{
+    let bare = bare_paths(alloc, types, places.as_slice())?;
+    seen.looked.push(path.copy(alloc)?)?;
+    if let Some(_) = seen.looked.append(bare) {
+        return Err(AllocError);
+    }
+    if let Some(_) = seen.known.append(places) {
+        return Err(AllocError);
+    }
+    Ok(())
+}
+
+/// Takes back all but the first so many positions and constructors.
+pub(crate) fn forget(seen: &mut Seen, looked: usize, known: usize)
+    ensures { seen.new ≡ seen_before looked known seen.old }
+{
+    seen.looked.truncate(looked);
+    seen.known.truncate(known);
+}
+
+// A position as seen from one above it.
+fn behind<'a>(above: &[u32], path: &'a [u32]) -> Option<&'a [u32]>
+    ensures { option_copied result ≡ behind above.now path.now }
+{
+    match above {
+        [] => Some(path),
+        [field, above @ ..] => match path {
+            [] => None,
+            [own, path @ ..] => {
+                if field == own {
+                    behind(above, path)
+                } else {
+                    None
+                }
+            }
+        },
+    }
+}
+
+// Adds a constructor that stands at a position or below it, as seen from there.
+fn add_behind(
+    alloc: Global,
+    place: &Place,
+    path: &[u32],
+    out: &mut Seq<Place>,
+) -> Result<(), AllocError>
+    ensures { OnOk result (shown_heads out.new
+        ≡ shown_heads out.old ++ head_behind (behind path.now place.now.path) place.now.con []) }
+{
+    match behind(path, place.path.as_slice()) {
+        None => Ok(()),
+        Some(rest) => {
+            let path = copy_path(alloc, rest)?;
+            out.push(Place {
+                path,
+                con: place.con,
+            })?;
+            Ok(())
+        }
+    }
+}
+
+// The constructors at a position and below it, as seen from there.
+fn heads_behind(alloc: Global, known: &[Place], path: &[u32]) -> Result<Seq<Place>, AllocError>
+    ensures { IfOk result (λ found. shown_heads found ≡ heads_behind path.now (shown_heads known.now)) }
+{
+    let mut found = Seq::new(alloc);
+    for place in known {
+        add_behind(alloc, place, path, &mut found)?;
+    }
+    Ok(found)
+}
+
+// The constructor that is known at a position.
+fn known_con(known: &[Place], path: &[u32]) -> Option<u32>
+    ensures { result ≡ known_con path.now (shown_heads known.now) }
+{
+    for place in known {
+        if same_path(place.path.as_slice(), path) {
+            return Some(place.con.con);
+        }
+    }
+    None
+}
+
+// The one leaf of some.
+fn sole(leaves: &[usize]) -> Option<usize>
+    ensures { result ≡ sole leaves.now }
+{
+    match leaves {
+        [leaf] => Some(*leaf),
+        [] | [_, _, ..] => None,
+    }
+}
+
+/// The leaf of the part of a type at a position, by number, where the constructors that are known there and
+/// below leave one.
+///
+/// # Errors
+/// `AllocError` where memory is wanting.
+pub(crate) fn leaf_known(
+    alloc: Global,
+    layouts: &[Layout],
+    ty: u32,
+    path: &[u32],
+    known: &[Place],
+) -> Result<Option<usize>, AllocError>
+    ensures { IfOk result (λ found. found ≡ leaf_known layouts.now ty path.now (shown_heads known.now)) }
+{
+    let Some(con) = known_con(known, path) else {
+        return Ok(None);
+    };
+    let below = heads_behind(alloc, known, path)?;
+    let all = leaves_by(alloc, layouts, ConRef { ty, con })?;
+    let leaves = leaves_beside(alloc, layouts, ty, all, below.as_slice())?;
+    Ok(sole(leaves.as_slice()))
+}
