@@ -1,6 +1,6 @@
 -- Values of expressions match what the file shows of them, and so do those that code leaves in slots.
-use Rattle.std.proofs.Common.{◌≡◌, ℕ, ◌+◌, ◌==◌, ◌&&◌, ◌≤◌, true, List, [], ◌∷◌, ◌++◌, map, take, length, replicate, Option, Some, None, refl, sym, subst, ap, ◌∙◌, arith, length-append}
-use Rattle.std.proofs.lemmas.List.{map-append, length-map}
+use Rattle.std.proofs.Common.{◌≡◌, ℕ, ◌+◌, ◌==◌, ◌≤◌, true, List, [], ◌∷◌, ◌++◌, map, take, length, Option, Some, None, refl, sym, subst, ap, ◌∙◌, arith, length-append}
+use Rattle.std.proofs.lemmas.List.{append-nil, append_assoc, map-append}
 use Rattle.std.specs.Prelude.{slice_get}
 use Rattle.rb_core.specs.declared.value.Value.{Value, Con}
 use Rattle.rb_core.specs.declared.value.Value.TheVariants.{outs-Con}
@@ -17,11 +17,12 @@ use Rattle.rb_core.specs.declared.pattern.Pat.{Pat, Wild, Con as ConPat}
 use Rattle.rb_core.specs.declared.program.Program.{Program}
 use Rattle.rb_core.specs.declared.expression.Expr.{Expr}
 use Rattle.rb_core.specs.declared.expression.Expr as X
-use Rattle.rb_core.specs.declared.expression.Expr.TheVariants.{outs-Num, outs-Var, outs-Call, outs-Build, outs-Binary, outs-To, outs-Let, outs-Match}
+use Rattle.rb_core.specs.declared.expression.Expr.TheOpen as E
+use Rattle.rb_core.specs.declared.expression.Expr.TheFolds.{fold-roll-Expr}
 use Rattle.rb_core.specs.Matching.{all_pass, is_con, matches_of}
 use Rattle.rb_core.specs.Typing.{field_types}
 use Rattle.rb_core.specs.Meaning.{Calls, Meaning, PartsOutcome, all_of, at_part, at_parts_end, built, first_wanted, later_wanted, meaning_of, then_do, then_with}
-use Rattle.rb_core.proofs.ExpressionLaws.{induction}
+use Rattle.rb_core.proofs.ExpressionLaws.{Each, induction}
 use Rattle.rb_core.proofs.MatchingForms.{matches-Con, matches-Wild}
 use Rattle.rb_core.proofs.MeaningForms.{meaning-Build}
 use Rattle.rb_core.proofs.PartForms.{all_of-append, all_of-none}
@@ -43,13 +44,9 @@ use Rattle.rb_fragment.specs.Plan.{Plan, Rep, cost_of}
 use Rattle.rb_fragment.specs.declared.held.Held.{Held}
 use Rattle.rb_fragment.specs.declared.held.Local.{Local}
 use Rattle.rb_fetch.specs.Choosing.{AreAsShown}
-use Rattle.rb_compile.specs.inner.Shown.{shown_in, shown_of}
+use Rattle.rb_compile.specs.inner.Shown.{shown_body, shown_of, shown_step}
 
 -- Values --------------------------------------------------------------------------------------------
-
-wild_all : (vs : List Value) → all_pass (map matches_of (replicate (length vs) (Wild 0))) vs ≡ true
-wild_all [] = refl
-wild_all (v ∷ vs) = ap (λ b. b && all_pass (map matches_of (replicate (length vs) (Wild 0))) vs) (matches-Wild v 0) ∙ wild_all vs
 
 values_of : PartsEnd → List Value
 values_of (AllDone xs l) = xs
@@ -58,24 +55,6 @@ values_of Cut = []
 values : (xs : List Value) (l : ℕ) (ys : List Value) (k : ℕ) → AllDone xs l ≡ AllDone ys k → xs ≡ ys
 unfolding values_of
 values xs l ys k h = ap values_of h
-
--- as many values as parts
-parts_many : (ms : List Meaning) (ts : List Ty) (scope : List Binder) (us : List Value) (left : ℕ) (env : List Binding) (vs : List Value) (rest : ℕ)
-    → (all_of ms ts scope us left env).end ≡ AllDone vs rest → length vs ≡ length us + length ms
-parts_many [] ts scope us left env vs rest e =
-    let same : us ≡ vs = values us left vs rest e in
-    let n = ap length same in
-    omega (arith, n)
-parts_many (m ∷ ms) ts scope us left env vs rest e =
-    go (λ v k h. parts_many ms (later_wanted ts) scope (us ++ v ∷ []) k env vs rest h) (m (first_wanted ts) scope left env).end e
-  where
-    go : ((v : Value) (k : ℕ) → (all_of ms (later_wanted ts) scope (us ++ v ∷ []) k env).end ≡ AllDone vs rest → length vs ≡ length (us ++ v ∷ []) + length ms)
-        → (x : SourceEnd) → (at_part x (λ v k. all_of ms (later_wanted ts) scope (us ++ v ∷ []) k env)).end ≡ AllDone vs rest → length vs ≡ length us + length (m ∷ ms)
-    go more (Done v k) h =
-        let r = more v k h in
-        let n = length-append us (v ∷ []) in
-        omega (arith, r, n)
-    go more Stopped h = absurd cc
 
 -- the value that an expression ends with matches what is shown of it
 abbrev EndsShown : Program → Expr → Type 0
@@ -100,36 +79,6 @@ con_ends o c v rest e = go o.end refl e
 nothing_shown : (e : Expr) (v : Value) → shown_of e ≡ Wild 0 → matches_of (shown_of e) v ≡ true
 nothing_shown e v is = ap (λ q. matches_of q v) is ∙ matches-Wild v 0
 
-pub ends_shown : (p : Program) (e : Expr) → EndsShown p e
-ends_shown p = induction (EndsShown p) (record {
-  num = λ at n calls f wanted scope left env v rest h. nothing_shown (X.Num at n) v (ap shown_in (outs-Num at n));
-  var = λ at x calls f wanted scope left env v rest h. nothing_shown (X.Var at x) v (ap shown_in (outs-Var at x));
-  call = λ at g es each calls f wanted scope left env v rest h. nothing_shown (X.Call at g es) v (ap shown_in (outs-Call at g es));
-  build = λ at c es each calls f wanted scope left env v rest h. con_shown at c es calls f wanted scope left env v rest h;
-  binary = λ at op a b x y calls f wanted scope left env v rest h. nothing_shown (X.Binary at op a b) v (ap shown_in (outs-Binary at op a b));
-  to = λ at bits a x calls f wanted scope left env v rest h. nothing_shown (X.To at bits a) v (ap shown_in (outs-To at bits a));
-  bound = λ at x t a b y z calls f wanted scope left env v rest h. nothing_shown (X.Let at x t a b) v (ap shown_in (outs-Let at x t a b));
-  choice = λ at e cs x y calls f wanted scope left env v rest h. nothing_shown (X.Match at e cs) v (ap shown_in (outs-Match at e cs));
-})
-  where
-    self : (n : ℕ) → (n == n) ≡ true
-    self n = grind arith
-
-    con_shown : (at : ℕ) (c : ConRef) (es : List Expr) (calls : Calls) (f : ℕ) (wanted : Option Ty) (scope : List Binder) (left : ℕ) (env : List Binding) (v : Value) (rest : ℕ)
-        → (meaning_of p calls f (X.Build at c es) wanted scope left env).end ≡ Done v rest → matches_of (shown_of (X.Build at c es)) v ≡ true
-    con_shown at c es calls f wanted scope left env v rest h =
-        let ms = map (meaning_of p calls f) es in
-        let o = all_of ms (field_types p.types c) scope [] left env in
-        let r = con_ends o c v rest (sym (ap (λ (x : Outcome). x.end) (meaning-Build p calls f wanted scope left env at c es)) ∙ h) in
-        let as_parts = parts_many ms (field_types p.types c) scope [] left env r.0 r.1 r.2 in
-        let as_written = length-map es (meaning_of p calls f) in
-        let many : length r.0 ≡ length es = omega (arith, as_parts, as_written) in
-        let ps = replicate (length es) (Wild 0) in
-        let pass : all_pass (map matches_of ps) r.0 ≡ true = ap (λ n. all_pass (map matches_of (replicate n (Wild 0))) r.0) (sym many) ∙ wild_all r.0 in
-        ap (λ q. matches_of q v) (ap shown_in (outs-Build at c es)) ∙ ap (matches_of (ConPat at c ps)) r.3
-        ∙ matches-Con (Con c.con r.0) at c ps ∙ ap (is_con c.con (map matches_of ps)) (outs-Con c.con r.0)
-        ∙ and_true (c.con == c.con) (all_pass (map matches_of ps) r.0) (self c.con) pass
-
 pass-append : (ps : List Pat) (p : Pat) (vs : List Value) (v : Value) → AreAsShown ps vs → matches_of p v ≡ true → AreAsShown (ps ++ p ∷ []) (vs ++ v ∷ [])
 pass-append [] p [] v all one = and_true (matches_of p v) true one refl
 pass-append [] p (x ∷ vs) v all one = absurd cc
@@ -137,6 +86,56 @@ pass-append (q ∷ ps) p [] v all one = absurd cc
 pass-append (q ∷ ps) p (x ∷ vs) v all one =
     let b = both (matches_of q x) (all_pass (map matches_of ps) vs) all in
     and_true (matches_of q x) (all_pass (map matches_of (ps ++ p ∷ [])) (vs ++ v ∷ [])) b.0 (pass-append ps p vs v b.1 one)
+
+-- values of parts, behind some that match other patterns
+parts_shown : (p : Program) (calls : Calls) (f : ℕ) (es : List Expr) → Each (EndsShown p) es → (ts : List Ty) (scope : List Binder) (ps : List Pat) (us : List Value) (left : ℕ) (env : List Binding) (vs : List Value) (rest : ℕ)
+    → AreAsShown ps us → (all_of (map (meaning_of p calls f) es) ts scope us left env).end ≡ AllDone vs rest → AreAsShown (ps ++ map shown_of es) vs
+parts_shown p calls f [] each ts scope ps us left env vs rest all e =
+    subst (λ qs. AreAsShown qs vs) (sym (append-nil ps)) (subst (AreAsShown ps) (values us left vs rest e) all)
+parts_shown p calls f (x ∷ es) each ts scope ps us left env vs rest all e =
+    go (λ v k more h. parts_shown p calls f es each.1 (later_wanted ts) scope (ps ++ shown_of x ∷ []) (us ++ v ∷ []) k env vs rest more h)
+    (meaning_of p calls f x (first_wanted ts) scope left env).end refl e
+  where
+    go : ((v : Value) (k : ℕ) → AreAsShown (ps ++ shown_of x ∷ []) (us ++ v ∷ []) → (all_of (map (meaning_of p calls f) es) (later_wanted ts) scope (us ++ v ∷ []) k env).end ≡ AllDone vs rest
+        → AreAsShown ((ps ++ shown_of x ∷ []) ++ map shown_of es) vs)
+        → (end : SourceEnd) → (meaning_of p calls f x (first_wanted ts) scope left env).end ≡ end
+        → (at_part end (λ v k. all_of (map (meaning_of p calls f) es) (later_wanted ts) scope (us ++ v ∷ []) k env)).end ≡ AllDone vs rest → AreAsShown (ps ++ map shown_of (x ∷ es)) vs
+    go others (Done v k) is h =
+        let more = pass-append ps (shown_of x) us v all (each.0 calls f (first_wanted ts) scope left env v k is) in
+        subst (λ qs. AreAsShown qs vs) (append_assoc ps (shown_of x ∷ []) (map shown_of es)) (others v k more h)
+    go others Stopped is h = absurd cc
+
+pub shown-Build : (at : ℕ) (c : ConRef) (es : List Expr) → shown_of (X.Build at c es) ≡ ConPat at c (map shown_of es)
+unfolding X.roll-Expr denote.Hole.Carrier.roll
+shown-Build at c es = fold-roll-Expr Pat Pat shown_step shown_body (E.Build at c es)
+
+pub ends_shown : (p : Program) (e : Expr) → EndsShown p e
+unfolding X.roll-Expr denote.Hole.Carrier.roll
+ends_shown p = induction (EndsShown p) (record {
+  num = λ at n calls f wanted scope left env v rest h. nothing_shown (X.Num at n) v (fold-roll-Expr Pat Pat shown_step shown_body (E.Num at n));
+  var = λ at x calls f wanted scope left env v rest h. nothing_shown (X.Var at x) v (fold-roll-Expr Pat Pat shown_step shown_body (E.Var at x));
+  call = λ at g es each calls f wanted scope left env v rest h. nothing_shown (X.Call at g es) v (fold-roll-Expr Pat Pat shown_step shown_body (E.Call at g es));
+  build = λ at c es each calls f wanted scope left env v rest h. con_shown at c es each calls f wanted scope left env v rest h;
+  binary = λ at op a b x y calls f wanted scope left env v rest h. nothing_shown (X.Binary at op a b) v (fold-roll-Expr Pat Pat shown_step shown_body (E.Binary at op a b));
+  to = λ at bits a x calls f wanted scope left env v rest h. nothing_shown (X.To at bits a) v (fold-roll-Expr Pat Pat shown_step shown_body (E.To at bits a));
+  bound = λ at x t a b y z calls f wanted scope left env v rest h. nothing_shown (X.Let at x t a b) v (fold-roll-Expr Pat Pat shown_step shown_body (E.Let at x t a b));
+  choice = λ at e cs x y calls f wanted scope left env v rest h. nothing_shown (X.Match at e cs) v (fold-roll-Expr Pat Pat shown_step shown_body (E.Match at e cs));
+})
+  where
+    self : (n : ℕ) → (n == n) ≡ true
+    self n = grind arith
+
+    con_shown : (at : ℕ) (c : ConRef) (es : List Expr) → Each (EndsShown p) es → (calls : Calls) (f : ℕ) (wanted : Option Ty) (scope : List Binder) (left : ℕ) (env : List Binding) (v : Value) (rest : ℕ)
+        → (meaning_of p calls f (X.Build at c es) wanted scope left env).end ≡ Done v rest → matches_of (shown_of (X.Build at c es)) v ≡ true
+    con_shown at c es each calls f wanted scope left env v rest h =
+        let ms = map (meaning_of p calls f) es in
+        let o = all_of ms (field_types p.types c) scope [] left env in
+        let r = con_ends o c v rest (sym (ap (λ (x : Outcome). x.end) (meaning-Build p calls f wanted scope left env at c es)) ∙ h) in
+        let ps = map shown_of es in
+        let pass : all_pass (map matches_of ps) r.0 ≡ true = parts_shown p calls f es each (field_types p.types c) scope [] [] left env r.0 r.1 refl r.2 in
+        ap (λ q. matches_of q v) (shown-Build at c es) ∙ ap (matches_of (ConPat at c ps)) r.3
+        ∙ matches-Con (Con c.con r.0) at c ps ∙ ap (is_con c.con (map matches_of ps)) (outs-Con c.con r.0)
+        ∙ and_true (c.con == c.con) (all_pass (map matches_of ps) r.0) (self c.con) pass
 
 -- Runs ----------------------------------------------------------------------------------------------
 

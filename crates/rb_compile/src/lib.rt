@@ -41,7 +41,8 @@
 //! the constructors that bind nothing then. Within fewer variables the body means the same.
 //!
 //! Before a construction its arguments are compiled, from left to right. An argument that is itself written as a
-//! construction shows its constructor ([`shown`]), so that the leaf of the whole is chosen without a look at it.
+//! construction shows its constructor, and what its own arguments show ([`shown`]): what this decides of the leaf of
+//! the whole is decided without a look.
 //!
 //! What is promised of an expression's code stands behind all that is known of the expression: that it has a
 //! type, that its numbers name something, that its matches are exhaustive and paid for, that its variables

@@ -1,7 +1,6 @@
 //! What the file shows of the values of expressions, before any code runs.
 
-ghost use Rattle.std.specs.Prelude.{◌≡◌, ◌∷◌, IfOk, length, map, replicate};
-ghost use Rattle.rb_core.specs.declared.pattern.Pat.{Wild};
+ghost use Rattle.std.specs.Prelude.{◌≡◌, IfOk, map};
 ghost use Rattle.rb_compile.specs.inner.Shown.{shown_of};
 
 use rb_core::expression::Expr;
@@ -9,24 +8,14 @@ use rb_core::pattern::Pat;
 use rb_core::seq::Seq;
 use std::alloc::{AllocError, Global};
 
-// Wildcards, so many.
-fn wildcards(alloc: Global, count: usize) -> Result<Seq<Pat>, AllocError>
-    ensures { IfOk result (λ pats. pats ≡ replicate count (Wild 0)) }
-{
-    let mut pats = Seq::new(alloc);
-    for _i in 0..count {
-        pats.push(Pat::Wild(0))?;
-    }
-    Ok(pats)
-}
-
-// A construction shows its constructor. What its fields show is left out: it is shown where they are made.
+// A construction shows its constructor, and below it what its arguments show.
+#[cycle(showing)]
 fn shown(alloc: Global, expr: &Expr) -> Result<Pat, AllocError>
     ensures { IfOk result (λ pat. pat ≡ shown_of expr.now) }
 {
     match expr {
         Expr::Build(at, con, args) => {
-            let subs = wildcards(alloc, args.len())?;
+            let subs = shown_patterns(alloc, args.as_slice())?;
             Ok(Pat::Con(*at, *con, subs))
         }
         Expr::Num(_, _)
@@ -43,6 +32,7 @@ fn shown(alloc: Global, expr: &Expr) -> Result<Pat, AllocError>
 ///
 /// # Errors
 /// `AllocError` where memory is wanting.
+#[cycle(showing)]
 pub(crate) fn shown_patterns(alloc: Global, exprs: &[Expr]) -> Result<Seq<Pat>, AllocError>
     ensures { IfOk result (λ pats. pats ≡ map shown_of exprs.now) }
 {

@@ -157,6 +157,25 @@ fn a_leaf_decides_a_test(rt: HostRuntime) -> Result<(), Surprise> {
     expect_count_rows(rt.alloc(), "count E 1 64 ", &LEAVES)
 }
 
+// Pairs of such a pair and a byte: the bit inside tells the leaf, and has no bits of its own.
+const SHOWN_INSIDE: &str =
+    "type K = A | B;layout K <1> = split 0[0:1] { 0 => A : { word 1 { [0:1] = 0 } } 1 => B : { word 1 { [0:1] = 1 } } };type P = Tagged(K, u8);layout P <9> = split 0[0:1] { 0 => Tagged(A, _) : { word 9 { [0:1] = 0, [1:8] .1 } } 1 => Tagged(B, _) : { word 9 { [0:1] = 1, [1:8] .1 } } };type D = With(P, u8);layout D <17> = split 0[0:1] { 0 => With(Tagged(A, _), _) : { word 17 { [0:1] = 0, [1:8] .0.1, [9:8] .1 } } 1 => With(Tagged(B, _), _) : { word 17 { [0:1] = 1, [1:8] .1, [9:8] .0.1 } } };fun shown(x: u8, y: u8): D = With(Tagged(B, x), y);fun main(p: P, y: u8): D = With(p, y);";
+
+// Where the file shows the pair and its bit, there is no switch. Where it does not, one finds the leaf of the pair,
+// which tells its bit. The byte inside stands from bit 9 for B, and from bit 1 for A.
+#[test]
+fn a_shown_argument_shows_its_own(rt: HostRuntime) -> Result<(), Fail> {
+    let alloc = rt.alloc();
+    let did = call(alloc, "compile E", SHOWN_INSIDE.as_bytes(), &[], &[])?;
+    assert_eq!(rt; did.status, 0);
+    let code = did.out.as_slice();
+    assert_eq!(rt; switch_lines(code), 1);
+    expect_answer(alloc, "exec E shown 1 64 4 3", code, "0 2055;")?;
+    expect_answer(alloc, "exec E main 1 64 9 3", code, "0 2055;")?;
+    expect_answer(alloc, "exec E main 1 64 8 3", code, "0 1544;")?;
+    Ok(())
+}
+
 // A match that names 300 numbers.
 fn three_hundred(alloc: Global) -> Result<String, AllocError> {
     let mut file = format!(in alloc; "fun main(x: u16): u16 = match x {{ ")?;
