@@ -41,7 +41,11 @@ pub const NICHE: &str =
 pub const BIT: &str =
     "type Bit = Off | On; layout Bit <8> = split 0[0:1] { 0 => Off : { word 8 { [0:1] = 0 } } 1 => On : { word 8 { [0:1] = 1 } } };";
 
-const FILES: [&str; 8] = [LIST, TREE, BRANCH, SHAPE, PAIR, FLAT, NICHE, BIT];
+// Splits in splits, with `else` and without arms, of two words; blocks in blocks.
+const STEPS: &str =
+    "type P = P(u8, u8); layout P <64> = P(_, _) : { word 64 { [0:8] .0, [8:8] .1 } }; type S = A | B | C | D(u8, P); layout S <8, 64> = split 0[0:2] { 0 => A : { word 8 { [0:2] = 0 }, word 64 { [63:1] = 1, [1:1] = 0 } } 2 => B : { word 8 { [0:2] = 2 }, word 64 { [0:64] = 7 } } else => split 0[0:1] { else => split 0[1:1] { 0 => C : { word 8 { [1:1] = 0, [0:1] = 1 }, word 64 { [3:2] = 1 } } else => D(_, _) : { word 8 { [0:2] = 3 }, word 64 { [0:2] = 0, [2:30] -> 4 { word 16 { [8:8] .0 }, inline .1, word 32 { [4:28] -> 16 { word 8 { [3:2] = 1 } } } }, [40:20] -> 32 { word 8 { [0:1] = 1 } } } } } } };";
+
+const FILES: [&str; 9] = [LIST, TREE, BRANCH, SHAPE, PAIR, FLAT, NICHE, BIT, STEPS];
 
 #[test]
 fn layouts_that_agree(rt: HostRuntime) -> Result<(), Surprise> {
@@ -77,7 +81,7 @@ fn a_niche_through_forty_types(rt: HostRuntime) -> Result<(), Surprise> {
 }
 
 // File, and the text of its layouts; each `;` ends a line.
-const SHOWN: [(&str, &str); 7] = [
+const SHOWN: [(&str, &str); 8] = [
     (
         BIT,
         "0 type Bit;leaf Off;when 0[0:1] = 0;word 0: 8 bits;  0:1 = 0;  1:7 free;leaf On;when 0[0:1] = 1;word 0: 8 bits;  0:1 = 1;  1:7 free;",
@@ -101,6 +105,10 @@ const SHOWN: [(&str, &str); 7] = [
     (
         PAIR,
         "0 type Pair;leaf Two(_, _);word 0: 64 bits;  0:64 pointer to block 1;block 0: 8 bytes, align 8;word 0 at byte 0: 64 bits;  0:64 field .1 bits 0:64;block 1: 16 bytes, align 8;word 0 at byte 0: 64 bits;  0:64 field .0 bits 0:64;word 1 at byte 8: 64 bits;  0:64 pointer to block 0;",
+    ),
+    (
+        STEPS,
+        "0 type P;leaf P(_, _);word 0: 64 bits;  0:8 field .0 bits 0:8;  8:8 field .1 bits 0:8;  16:48 free;type S;leaf A;when 0[0:2] = 0;word 0: 8 bits;  0:2 = 0;  2:6 free;word 1: 64 bits;  0:1 free;  1:1 = 0;  2:61 free;  63:1 = 1;leaf B;when 0[0:2] = 2;word 0: 8 bits;  0:2 = 2;  2:6 free;word 1: 64 bits;  0:64 = 7;leaf C;when 0[0:2] not 0, 2;when 0[0:1] any;when 0[1:1] = 0;word 0: 8 bits;  0:1 = 1;  1:1 = 0;  2:6 free;word 1: 64 bits;  0:3 free;  3:2 = 1;  5:59 free;leaf D(_, _);when 0[0:2] not 0, 2;when 0[0:1] any;when 0[1:1] not 0;word 0: 8 bits;  0:2 = 3;  2:6 free;word 1: 64 bits;  0:2 = 0;  2:30 pointer to block 1;  32:8 free;  40:20 pointer to block 2;  60:4 free;block 0: 1 bytes, align 16;word 0 at byte 0: 8 bits;  0:3 free;  3:2 = 1;  5:3 free;block 1: 14 bytes, align 4;word 0 at byte 0: 16 bits;  0:8 free;  8:8 field .0 bits 0:8;word 1 at byte 2: 64 bits;  0:64 field .1 word 0;word 2 at byte 10: 32 bits;  0:4 free;  4:28 pointer to block 0;block 2: 1 bytes, align 32;word 0 at byte 0: 8 bits;  0:1 = 1;  1:7 free;",
     ),
     // a file without types has no layouts
     ("", "0 "),
