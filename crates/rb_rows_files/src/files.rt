@@ -221,10 +221,7 @@ const MANY: [(&str, &str, &str, usize, &str); 3] = [
     ),
 ];
 
-fn expect_many(
-    alloc: Global,
-    rows: &[(&str, &str, &str, usize, &str)],
-) -> Result<(), Surprise> {
+fn expect_many(alloc: Global, rows: &[(&str, &str, &str, usize, &str)]) -> Result<(), Surprise> {
     for (before, between, behind, times, wanted) in rows {
         let file = declared(alloc, before, between, behind, *times)?;
         expect_answer(alloc, "check E", file.as_slice(), wanted)?;
@@ -297,10 +294,7 @@ const LONG: [(&str, &str, usize, &str, &str); 8] = [
     ),
 ];
 
-fn expect_long(
-    alloc: Global,
-    rows: &[(&str, &str, usize, &str, &str)],
-) -> Result<(), Surprise> {
+fn expect_long(alloc: Global, rows: &[(&str, &str, usize, &str, &str)]) -> Result<(), Surprise> {
     for (before, part, times, behind, wanted) in rows {
         let file = repeated(alloc, before, part, *times, behind)?;
         expect_answer(alloc, "check E", file.as_bytes(), wanted)?;

@@ -51,7 +51,8 @@ fn first_places(rt: HostRuntime) -> Result<(), Surprise> {
 }
 
 // A layout that is refused.
-const WHOLE: &str = "type Bit = Off | On; layout Bit <8> = Off : { word 16 { } }; fun main(b: Bit): u8 = 0;";
+const WHOLE: &str =
+    "type Bit = Off | On; layout Bit <8> = Off : { word 16 { } }; fun main(b: Bit): u8 = 0;";
 
 // The same, and a match that misses a value.
 const MISSING: &str =

@@ -2,6 +2,7 @@
 
 ghost use Rattle.rb_image_text.specs.Places.{AreInPlace};
 
+use rb_accept::accepting::accept;
 use rb_core::types::Ty;
 use rb_image::examine::examine_image;
 use rb_image::kept::{Kept, Place};
@@ -12,7 +13,6 @@ use rb_image_text::image::Image;
 use rb_image_text::read::read_image_text;
 use rb_layout::agreed::Agreed;
 use rb_values::print::print_value;
-use rb_accept::accepting::accept;
 use std::alloc::{AllocError, Global};
 use std::str;
 use std::test::Fail;

@@ -60,8 +60,11 @@ fn is_end(end: &SourceEnd, wanted: Option<(u64, u64)>) -> bool {
 }
 
 // Calls, how the sum ends with them, and how many events there are.
-const SUMS: [(u64, Option<(u64, u64)>, usize); 3] =
-    [(10, Some((3, 6)), 3), (4, Some((3, 0)), 3), (3, None, 2)];
+const SUMS: [(u64, Option<(u64, u64)>, usize); 3] = [
+    (10, Some((3, 6)), 3),
+    (4, Some((3, 0)), 3),
+    (3, None, 2),
+];
 
 fn expect_sums(alloc: Global, rows: &[(u64, Option<(u64, u64)>, usize)]) -> Result<(), Fail> {
     let program = typed(alloc, LIST)?;
