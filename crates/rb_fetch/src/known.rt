@@ -18,7 +18,7 @@ use rb_layout::layout::Layout;
 use std::alloc::{AllocError, Global};
 
 /// What is known of a value: positions that need no look any more, and constructors that stand in it.
-#[derive(Debug, Drop)]
+#[derive(Drop)]
 pub(crate) struct Seen {
     pub looked: Seq<Seq<u32>>,
     pub known: Seq<Place>,
@@ -26,7 +26,7 @@ pub(crate) struct Seen {
 
 /// What follows where the leaf of a part is known: the constructor at its root by number, those below at their
 /// positions in the whole, and the leaves of the whole that can still be here.
-#[derive(Debug, Drop)]
+#[derive(Drop)]
 pub(crate) struct Below {
     pub root: u32,
     pub heads: Seq<Place>,
