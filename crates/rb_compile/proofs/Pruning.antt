@@ -1,8 +1,7 @@
 -- A pattern without what is not used: it binds the other variables to the same, and matches no fewer values.
-use Rattle.std.proofs.Common.{◌≡◌, ℕ, ◌==◌, Bool, true, false, List, [], ◌∷◌, ◌++◌, map, refl, sym, ap, ◌∙◌, arith}
+use Rattle.std.proofs.Common.{◌≡◌, ℕ, ◌==◌, Bool, true, false, List, [], ◌∷◌, map, refl, sym, ap, ◌∙◌, arith}
 use Rattle.std.proofs.lemmas.Grind.{common_steps}
 use Rattle.std.specs.Prelude.{◌&&◌, if◌then◌else◌}
-use Rattle.std.specs.List.{list_all}
 use Rattle.rb_core.specs.declared.value.Value.{Value, out-Value}
 use Rattle.rb_core.specs.declared.value.Value.TheOpen as V
 use Rattle.rb_core.specs.declared.value.Value.TheOpen.{Value-F}
@@ -10,7 +9,6 @@ use Rattle.rb_core.specs.declared.types.Ty.{Ty}
 use Rattle.rb_core.specs.declared.types.DataDecl.{DataDecl}
 use Rattle.rb_core.specs.declared.types.ConRef.{ConRef}
 use Rattle.rb_core.specs.declared.pattern.Pat.{Pat, Wild, Var, Num, Con}
-use Rattle.rb_core.specs.declared.pattern.Pat.TheVariants.{outs-Var, outs-Num, outs-Con}
 use Rattle.rb_core.specs.Matching.{all_bound, all_pass, bindings, bound_within, is_con, matches_of}
 use Rattle.rb_core.specs.Typing.{bound_type, field_types}
 use Rattle.rb_core.specs.Inference.{all_binders, binders}
@@ -18,7 +16,7 @@ use Rattle.rb_core.specs.Meaning.{value_or}
 use Rattle.rb_core.proofs.PatternLaws.{Each, fold-Con, fold-Num, fold-Var, fold-Wild, induction}
 use Rattle.rb_core.proofs.MatchingForms.{bindings-Con, bindings-Num, bindings-Var, bindings-Wild, matches-Con, matches-Var, matches-Wild}
 use Rattle.rb_core.proofs.InferenceAgreement.{binders-Con, binders-Num, binders-Var, binders-Wild}
-use Rattle.rb_compile.specs.inner.Used.{con_or_wild, is_wild, is_wild_layer, pruned, pruned_step}
+use Rattle.rb_compile.specs.inner.Used.{pruned, pruned_step}
 use Rattle.rb_compile.proofs.Agreeing.{bound-append, value-append}
 
 both : (a b : Bool) → (a && b) ≡ true → (a ≡ true) × (b ≡ true)
@@ -26,64 +24,12 @@ both true true e = (refl, refl)
 both true false e = absurd cc
 both false b e = absurd cc
 
--- Wildcards bind nothing
-
 module _ (types : List DataDecl) where
-  abbrev BindsNone : Pat → Type 0
-  BindsNone p = is_wild p ≡ true → ((t : Ty) → binders types p t ≡ []) × ((v : Value) → bindings p v ≡ []) × ((v : Value) → matches_of p v ≡ true)
-
-  none_bound : (p : Pat) → BindsNone p
-  none_bound = induction BindsNone (record {
-    wild = λ at w. (λ t. binders-Wild types at t, λ v. bindings-Wild v at, λ v. matches-Wild v at);
-    var = λ at x w. absurd (let z = sym (ap is_wild_layer (outs-Var at x)) ∙ w in cc);
-    num = λ at n w. absurd (let z = sym (ap is_wild_layer (outs-Num at n)) ∙ w in cc);
-    con = λ at c ps each w. absurd (let z = sym (ap is_wild_layer (outs-Con at c ps)) ∙ w in cc);
-  })
-
-  no_binders : (ps : List Pat) (ts : List Ty) → list_all is_wild ps ≡ true → all_binders (map (binders types) ps) ts ≡ []
-  no_binders [] ts w = refl
-  no_binders (p ∷ ps) [] w = refl
-  no_binders (p ∷ ps) (t ∷ ts) w = let b = both (is_wild p) (list_all is_wild ps) w in ap (λ l. l ++ all_binders (map (binders types) ps) ts) ((none_bound p b.0).0 t) ∙ no_binders ps ts b.1
-
-  no_bindings : (ps : List Pat) (vs : List Value) → list_all is_wild ps ≡ true → all_bound (map bindings ps) vs ≡ []
-  no_bindings [] vs w = refl
-  no_bindings (p ∷ ps) [] w = refl
-  no_bindings (p ∷ ps) (v ∷ vs) w = let b = both (is_wild p) (list_all is_wild ps) w in ap (λ l. l ++ all_bound (map bindings ps) vs) ((none_bound p b.0).1 v) ∙ no_bindings ps vs b.1
-
-  none_within : (ps : List Pat) (l : Value-F Value) → list_all is_wild ps ≡ true → bound_within (map bindings ps) l ≡ []
-  none_within ps (V.Num n) w = refl
-  none_within ps (V.Con k vs) w = no_bindings ps vs w
-
-  -- a constructor, or the wildcard that it is where all below are
-  abbrev Either : (ℕ → ConRef → List Pat → Bool → Pat → Type 0) → Type 0
-  Either R = (at : ℕ) (c : ConRef) (ps : List Pat) → (b : Bool) → list_all is_wild ps ≡ b → R at c ps b (if b then Wild at else Con at c ps)
-
-  binders_either : (at : ℕ) (c : ConRef) (ps : List Pat) (t : Ty) → binders types (con_or_wild at c ps) t ≡ all_binders (map (binders types) ps) (field_types types c)
-  binders_either at c ps t = go (list_all is_wild ps) refl
-    where
-      go : (b : Bool) → list_all is_wild ps ≡ b → binders types (if b then Wild at else Con at c ps) t ≡ all_binders (map (binders types) ps) (field_types types c)
-      go true w = binders-Wild types at t ∙ sym (no_binders ps (field_types types c) w)
-      go false w = binders-Con types at c ps t
-
-  bindings_either : (at : ℕ) (c : ConRef) (ps : List Pat) (v : Value) → bindings (con_or_wild at c ps) v ≡ bound_within (map bindings ps) (out-Value v)
-  bindings_either at c ps v = go (list_all is_wild ps) refl
-    where
-      go : (b : Bool) → list_all is_wild ps ≡ b → bindings (if b then Wild at else Con at c ps) v ≡ bound_within (map bindings ps) (out-Value v)
-      go true w = bindings-Wild v at ∙ sym (none_within ps (out-Value v) w)
-      go false w = bindings-Con v at c ps
-
-  matches_either : (at : ℕ) (c : ConRef) (ps : List Pat) (v : Value) → is_con c.con (map matches_of ps) (out-Value v) ≡ true → matches_of (con_or_wild at c ps) v ≡ true
-  matches_either at c ps v m = go (list_all is_wild ps)
-    where
-      go : (b : Bool) → matches_of (if b then Wild at else Con at c ps) v ≡ true
-      go true = matches-Wild v at
-      go false = matches-Con v at c ps ∙ m
-
   module _ (keeps : ℕ → Bool) where
     abbrev cut : Pat → Pat
     cut = pruned keeps
 
-    pub cut-Con : (at : ℕ) (c : ConRef) (ps : List Pat) → cut (Con at c ps) ≡ con_or_wild at c (map cut ps)
+    pub cut-Con : (at : ℕ) (c : ConRef) (ps : List Pat) → cut (Con at c ps) ≡ Con at c (map cut ps)
     cut-Con at c ps = fold-Con Pat (pruned_step keeps) at c ps
 
     pub cut-Var : (at x : ℕ) → cut (Var at x) ≡ (if keeps x then Var at x else Wild at)
@@ -119,7 +65,7 @@ module _ (types : List DataDecl) where
       wild = λ at v m. ap (λ p. matches_of p v) (cut-Wild at) ∙ matches-Wild v at;
       var = λ at x v m. ap (λ p. matches_of p v) (cut-Var at x) ∙ of_var at x v (keeps x);
       num = λ at n v m. ap (λ p. matches_of p v) (cut-Num at n) ∙ matches-Wild v at;
-      con = λ at c ps each v m. ap (λ p. matches_of p v) (cut-Con at c ps) ∙ matches_either at c (map cut ps) v (con_match c.con ps each (out-Value v) (sym (matches-Con v at c ps) ∙ m));
+      con = λ at c ps each v m. ap (λ p. matches_of p v) (cut-Con at c ps) ∙ matches-Con v at c (map cut ps) ∙ con_match c.con ps each (out-Value v) (sym (matches-Con v at c ps) ∙ m);
     })
       where
         of_var : (at x : ℕ) (v : Value) (b : Bool) → matches_of (if b then Var at x else Wild at) v ≡ true
@@ -152,7 +98,7 @@ module _ (types : List DataDecl) where
         wild = λ at d t. ap (λ p. bound_type d x (binders types p t)) (cut-Wild at);
         var = λ at y d t. ap (λ p. bound_type d x (binders types p t)) (cut-Var at y) ∙ of_var at y d t (keeps y) refl;
         num = λ at n d t. ap (λ p. bound_type d x (binders types p t)) (cut-Num at n) ∙ ap (bound_type d x) (binders-Wild types at t) ∙ sym (ap (bound_type d x) (binders-Num types at n t));
-        con = λ at c ps each d t. ap (λ p. bound_type d x (binders types p t)) (cut-Con at c ps) ∙ ap (bound_type d x) (binders_either at c (map cut ps) t) ∙ all_types ps each (field_types types c) d
+        con = λ at c ps each d t. ap (λ p. bound_type d x (binders types p t)) (cut-Con at c ps) ∙ ap (bound_type d x) (binders-Con types at c (map cut ps) t) ∙ all_types ps each (field_types types c) d
             ∙ sym (ap (bound_type d x) (binders-Con types at c ps t));
       })
         where
@@ -181,7 +127,7 @@ module _ (types : List DataDecl) where
         wild = λ at d v. ap (λ p. value_or d x (bindings p v)) (cut-Wild at);
         var = λ at y d v. ap (λ p. value_or d x (bindings p v)) (cut-Var at y) ∙ of_var at y d v (keeps y) refl;
         num = λ at n d v. ap (λ p. value_or d x (bindings p v)) (cut-Num at n) ∙ ap (value_or d x) (bindings-Wild v at) ∙ sym (ap (value_or d x) (bindings-Num v at n));
-        con = λ at c ps each d v. ap (λ p. value_or d x (bindings p v)) (cut-Con at c ps) ∙ ap (value_or d x) (bindings_either at c (map cut ps) v) ∙ values_within ps each (out-Value v) d
+        con = λ at c ps each d v. ap (λ p. value_or d x (bindings p v)) (cut-Con at c ps) ∙ ap (value_or d x) (bindings-Con v at c (map cut ps)) ∙ values_within ps each (out-Value v) d
             ∙ sym (ap (value_or d x) (bindings-Con v at c ps));
       })
         where

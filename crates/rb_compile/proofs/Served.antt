@@ -1,7 +1,6 @@
 -- What is left of a clause's pattern serves its body.
 use Rattle.std.proofs.Common.{◌≡◌, ℕ, ◌+◌, ◌≤◌, Bool, true, false, List, [], ◌∷◌, ◌++◌, map, refl, sym, subst, ap, ◌∙◌, arith}
 use Rattle.std.specs.Prelude.{if◌then◌else◌}
-use Rattle.std.specs.List.{list_all}
 use Rattle.rb_core.specs.declared.value.Value.{Num as number}
 use Rattle.rb_core.specs.declared.types.Ty.{Ty}
 use Rattle.rb_core.specs.declared.types.Ty.TheVariants.{Int}
@@ -16,7 +15,7 @@ use Rattle.rb_core.specs.Meaning.{value_or}
 use Rattle.rb_core.proofs.PatternLaws.{Each, fold-Con, fold-Wild, induction}
 use Rattle.rb_layout.specs.declared.layout.Layout.{Layout}
 use Rattle.rb_match.specs.Bounding.{Place, binding_look, looks_with, place_below, places_below, places_in, places_step}
-use Rattle.rb_compile.specs.inner.Used.{IsPrunedFor, Serves, con_or_wild, is_wild, pruned}
+use Rattle.rb_compile.specs.inner.Used.{IsPrunedFor, Serves, pruned}
 use Rattle.rb_compile.proofs.Agreeing.{bound-append, value-append}
 use Rattle.rb_compile.proofs.Pruning.{cut-Con, cut-Num, cut-Var, cut-Wild, cut_matches, cut_types, cut_values}
 
@@ -40,13 +39,6 @@ module _ (types : List DataDecl) (layouts : List Layout) where
 
   cost-Con : (at : ℕ) (c : ConRef) (ps : List Pat) (t : Ty) → cost (Con at c ps) t ≡ look t + looks_with look (places_below (map (places_in types) ps) (field_types types c) 0)
   cost-Con at c ps t = ap (λ (f : Ty → List Place). looks_with look (f t)) (fold-Con (Ty → List Place) (places_step types) at c ps)
-
-  cost-either : (at : ℕ) (c : ConRef) (ps : List Pat) (t : Ty) → cost (con_or_wild at c ps) t ≤ look t + looks_with look (places_below (map (places_in types) ps) (field_types types c) 0)
-  cost-either at c ps t = go (list_all is_wild ps)
-    where
-      go : (b : Bool) → cost (if b then Wild at else Con at c ps) t ≤ look t + looks_with look (places_below (map (places_in types) ps) (field_types types c) 0)
-      go true = let e = cost-Wild at t in omega (arith, e)
-      go false = let e = cost-Con at c ps t in omega (arith, e)
 
   module _ (keeps : ℕ → Bool) where
     abbrev cut : Pat → Pat
@@ -72,7 +64,7 @@ module _ (types : List DataDecl) (layouts : List Layout) where
       var = λ at x t. of_var at x t (keeps x) (cut-Var types keeps at x);
       num = λ at n t. (let e = ap (λ p. cost p t) (cut-Num types keeps at n) ∙ cost-Wild at t in omega (arith, e));
       con = λ at c ps each t. (let e = ap (λ p. cost p t) (cut-Con types keeps at c ps) in
-          let a = cost-either at c (map cut ps) t in
+          let a = cost-Con at c (map cut ps) t in
           let b = all_fewer ps each (field_types types c) 0 in
           let d = cost-Con at c ps t in omega (arith, e, a, b, d));
     })

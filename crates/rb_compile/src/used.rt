@@ -1,8 +1,8 @@
 //! Which variables an expression uses, and what of a pattern binds them. An arm reads no others.
 
 ghost use Rattle.std.specs.Prelude.{◌≡◌, IfOk, map, true};
-ghost use Rattle.std.specs.List.{flat_map, list_all};
-ghost use Rattle.rb_compile.specs.inner.Used.{AreKept, IsPrunedFor, MarksMore, is_kept, is_wild, pruned, variables_in, variables_of_clause};
+ghost use Rattle.std.specs.List.{flat_map};
+ghost use Rattle.rb_compile.specs.inner.Used.{AreKept, IsPrunedFor, MarksMore, is_kept, pruned, variables_in, variables_of_clause};
 
 use rb_core::expression::{Clause, Expr};
 use rb_core::pattern::Pat;
@@ -107,9 +107,6 @@ fn prune(alloc: Global, marks: &Marks, pat: &Pat) -> Result<Pat, AllocError>
         }
         Pat::Con(at, con, subs) => {
             let pruned = prune_all(alloc, marks, subs.as_slice())?;
-            if are_wild(pruned.as_slice()) {
-                return Ok(Pat::Wild(*at));
-            }
             Ok(Pat::Con(*at, *con, pruned))
         }
     }
@@ -124,26 +121,6 @@ fn prune_all(alloc: Global, marks: &Marks, pats: &[Pat]) -> Result<Seq<Pat>, All
         all.push(prune(alloc, marks, pat)?)?;
     }
     Ok(all)
-}
-
-fn are_wild(pats: &[Pat]) -> bool
-    ensures { result ≡ list_all is_wild pats.now }
-{
-    for pat in pats {
-        if !is_wild(pat) {
-            return false;
-        }
-    }
-    true
-}
-
-fn is_wild(pat: &Pat) -> bool
-    ensures { result ≡ is_wild pat.now }
-{
-    match pat {
-        Pat::Wild(_) => true,
-        Pat::Var(_, _) | Pat::Num(_, _) | Pat::Con(_, _, _) => false,
-    }
 }
 
 // The variables of a pattern.
@@ -178,8 +155,8 @@ fn no_marks(alloc: Global, pat: &Pat) -> Result<Marks, AllocError> {
     Ok(Marks { first, used })
 }
 
-/// What a pattern binds for an expression: the pattern with wildcards in place of variables that don't stand in
-/// the expression, and of all that binds nothing then.
+/// What a pattern binds for an expression: the pattern with wildcards in place of numbers, and of variables that don't
+/// stand in the expression. Its constructors stay: they tell which leaves a value that it matches can have.
 ///
 /// # Errors
 /// `AllocError` where memory is wanting.

@@ -12,14 +12,13 @@ use Rattle.rb_core.specs.declared.types.ConRef.{ConRef}
 use Rattle.rb_core.specs.declared.types.DataDecl.{DataDecl}
 use Rattle.rb_core.specs.declared.typing.Binder.{Binder}
 use Rattle.rb_core.specs.declared.binding.Binding.{Binding}
-use Rattle.rb_core.specs.declared.pattern.Pat.{Pat, Wild, Var, Num, Con, out-Pat}
-use Rattle.rb_core.specs.declared.pattern.Pat.TheVariants.{outs-Wild, outs-Var, outs-Num, outs-Con}
+use Rattle.rb_core.specs.declared.pattern.Pat.{Pat, Wild, Var, Num, Con}
 use Rattle.rb_core.specs.Inference.{binders, binders_step, all_binders}
 use Rattle.rb_core.specs.Matching.{all_bound, all_pass, bindings, bound_within, is_con, matches_of}
 use Rattle.rb_core.specs.Typing.{field_types}
 use Rattle.rb_core.specs.Values.{part_at, subs_in}
 use Rattle.rb_core.proofs.MatchingForms.{matches-Con, bindings-Wild, bindings-Var, bindings-Num, bindings-Con}
-use Rattle.rb_core.proofs.PatternLaws.{fold-Wild, fold-Var, fold-Num, fold-Con, induction}
+use Rattle.rb_core.proofs.PatternLaws.{fold-Wild, fold-Var, fold-Num, fold-Con}
 use Rattle.rb_bytes.specs.Memory.{Memory, IsGood}
 use Rattle.rb_target.specs.Growth.{Keeps}
 use Rattle.rb_target.specs.Meaning.{slots_at}
@@ -50,8 +49,9 @@ use Rattle.rb_fragment.proofs.Holds.{AllBelow-more, AreGiven-more, AreGiven-appe
 use Rattle.rb_fragment.proofs.Pieces.{piece_none}
 use Rattle.rb_fetch.specs.Finding.{IsPlanOf, leaf_count, leaves_within}
 use Rattle.rb_match.specs.Choosing.{Binds}
-use Rattle.rb_match.specs.inner.Asking.{con_of_layer, con_in, leaf_in, leaf_con}
-use Rattle.rb_match.specs.inner.Binding.{may_be, IsOnlyLeaf, BindsAt, BindsParts, FieldsMatch, BindsFields, FieldMatches, BindsField, fields_bound}
+use Rattle.rb_match.specs.inner.Asking.{leaf_in}
+use Rattle.rb_match.specs.inner.Binding.{is_unbound, IsOnlyLeaf, BindsAt, BindsParts, FieldsMatch, BindsFields, FieldMatches, BindsField, fields_bound}
+use Rattle.rb_match.proofs.Apart.{unbound_binds}
 use Rattle.rb_match.proofs.Edges.{same-nat}
 
 both : (a b : Bool) → (a && b) ≡ true → (a ≡ true) × (b ≡ true)
@@ -94,7 +94,7 @@ var_binds agreed t at x words old = λ plan of all count. record {
 }
 
 -- a field without variables
-pub field_none : (agreed : LaidOut) (t leaf : ℕ) (words : List ℕ) (sub : Pat) (field : Ty) (i : ℕ) (old : Sheet) → BindsAt agreed field sub words old old [] → ((plan : Plan) → (binders plan.program.types sub field ≡ []) × ((v : Value) → bindings sub v ≡ []))
+field_none : (agreed : LaidOut) (t leaf : ℕ) (words : List ℕ) (sub : Pat) (field : Ty) (i : ℕ) (old : Sheet) → BindsAt agreed field sub words old old [] → ((plan : Plan) → (binders plan.program.types sub field ≡ []) × ((v : Value) → bindings sub v ≡ []))
     → BindsField agreed t leaf words sub field i old old []
 field_none agreed t leaf words sub field i old b none = λ plan of all count.
     let n = none plan in
@@ -107,13 +107,11 @@ field_none agreed t leaf words sub field i old b none = λ plan of all count.
           nothing plan old (mend_at plan.layouts t leaf i + binding_bound plan.program.types plan.layouts field sub) (λ s m. IsGood m × Rep plan m clean (Named t) v (slots_at s words)) (λ s m. Holds plan clean s m [] bs) (λ s m pre. subst (λ l. Holds plan clean s m [] l) (sym (parts.3 ∙ n.1 parts.0)) tt);
     }
 
-pub field_wild : (agreed : LaidOut) (t leaf : ℕ) (words : List ℕ) (at : ℕ) (field : Ty) (i : ℕ) (old : Sheet) → BindsField agreed t leaf words (Wild at) field i old old []
-field_wild agreed t leaf words at field i old = field_none agreed t leaf words (Wild at) field i old (wild_binds agreed field at words old)
-    (λ plan. (ap (λ (f : Ty → List Binder). f field) (fold-Wild (Ty → List Binder) (binders_step plan.program.types) at), λ v. bindings-Wild v at))
+pub unbound_binds_at : (agreed : LaidOut) (t : Ty) (pat : Pat) (words : List ℕ) (old : Sheet) → is_unbound pat ≡ true → BindsAt agreed t pat words old old []
+unbound_binds_at agreed t pat words old none = λ plan of all count. let n = unbound_binds pat none in none_bound plan pat t words old (n.0 plan.program.types t) n.1
 
-pub field_num : (agreed : LaidOut) (t leaf : ℕ) (words : List ℕ) (at n : ℕ) (field : Ty) (i : ℕ) (old : Sheet) → BindsField agreed t leaf words (Num at n) field i old old []
-field_num agreed t leaf words at n field i old = field_none agreed t leaf words (Num at n) field i old (num_binds agreed field at n words old)
-    (λ plan. (ap (λ (f : Ty → List Binder). f field) (fold-Num (Ty → List Binder) (binders_step plan.program.types) at n), λ v. bindings-Num v at n))
+pub field_unbound : (agreed : LaidOut) (t leaf : ℕ) (words : List ℕ) (sub : Pat) (field : Ty) (i : ℕ) (old : Sheet) → is_unbound sub ≡ true → BindsField agreed t leaf words sub field i old old []
+field_unbound agreed t leaf words sub field i old none = let n = unbound_binds sub none in field_none agreed t leaf words sub field i old (unbound_binds_at agreed field sub words old none) (λ plan. (n.0 plan.program.types field, n.1))
 
 -- a field that is fetched, and then bound
 pub field_binds : (agreed : LaidOut) (t leaf : ℕ) (words : List ℕ) (sub : Pat) (field : Ty) (i : ℕ) (old mid new : Sheet) (slots : List ℕ) (bound : List Local)
@@ -238,17 +236,6 @@ fields_binds agreed t leaf words sub subs field fields i old mid new bound more 
         piece_less plan old.slots old.slots old new (k1 + k2) (mends_from plan.layouts t leaf (sub ∷ subs) i + fields_bound plan (sub ∷ subs) (field ∷ fields)) Pre Pre Post Post (omega arith) (omega (arith, most)) (λ s m x. x) (λ s m x. x)
         (pieces plan old.slots old mid new k1 k2 Pre Mid Post first second)
 
--- the leaf of a value that a constructor's pattern matches
-may_match : (c : ℕ) (p : Pat) (v : Value) (us : List Value) → out-Value v ≡ V.Con c us → matches_of p v ≡ true → may_be c (con_of_layer (out-Pat p)) ≡ true
-may_match c p v us is = induction (λ p. matches_of p v ≡ true → may_be c (con_of_layer (out-Pat p)) ≡ true) (record {
-  wild = λ at m. ap (λ l. may_be c (con_of_layer l)) (outs-Wild at);
-  var = λ at x m. ap (λ l. may_be c (con_of_layer l)) (outs-Var at x);
-  num = λ at n m. ap (λ l. may_be c (con_of_layer l)) (outs-Num at n);
-  con = λ at d ps each m.
-      let h : is_con d.con (map matches_of ps) (V.Con c us) ≡ true = ap (is_con d.con (map matches_of ps)) (sym is) ∙ sym (matches-Con v at d ps) ∙ m in
-      ap (λ l. may_be c (con_of_layer l)) (outs-Con at d ps) ∙ (both (d.con == c) (all_pass (map matches_of ps) us) h).0;
-}) p
-
 pub begins_with : (d : ℕ) (ts : List (Value → Bool)) (l : Value-F Value) → is_con d ts l ≡ true → (us : List Value) × (l ≡ V.Con d us) × (all_pass ts us ≡ true)
 begins_with d ts (V.Num n) e = absurd (false≢true e)
 begins_with d ts (V.Con k us) e = let b = both (d == k) (all_pass ts us) e in (us, ap (λ n. V.Con n us) (sym (same-nat d k b.0)), b.1)
@@ -282,7 +269,7 @@ mends_in agreed agrees flat = λ plan of t.
     subst (λ ls. mend_of ls t ≡ greatest (map (mend_leaf (choose_of ls)) (leaves_in (layout_of ls t)))) (sym (of.layouts ∙ flat)) (mending_recurs (flat_layouts agreed.covered.program) agrees.a9 t)
 
 -- a constructor
-pub con_binds : (agreed : LaidOut) (t : Ty) (at : ℕ) (c : ConRef) (subs : List Pat) (leaf : ℕ) (words : List ℕ) (old new : Sheet) (bound : List Local) → MendsIn agreed → t ≡ Named c.ty → IsOnlyLeaf agreed c.ty c.con leaf
+pub con_binds : (agreed : LaidOut) (t : Ty) (at : ℕ) (c : ConRef) (subs : List Pat) (leaf : ℕ) (words : List ℕ) (old new : Sheet) (bound : List Local) → MendsIn agreed → t ≡ Named c.ty → IsOnlyLeaf agreed c.ty (Con at c subs) leaf
     → BindsFields agreed c.ty leaf words subs (field_types agreed.covered.program.types c) 0 old new bound → BindsAt agreed t (Con at c subs) words old new bound
 con_binds agreed t at c subs leaf words old new bound mends named only fields = λ plan of all count.
     let types_is : field_types agreed.covered.program.types c ≡ field_types plan.program.types c = ap (λ (g : Rattle.rb_core.specs.declared.program.Program.Program). field_types g.types c) (sym of.program) in
@@ -304,14 +291,14 @@ con_binds agreed t at c subs leaf words old new bound mends named only fields = 
           let Pre : List ℕ → Memory → Type 0 = λ s m. IsGood m × Rep plan m clean t v (slots_at s words) in
           let Post : List ℕ → Memory → Type 0 = λ s m. Holds plan clean s m bound (bindings (Con at c subs) v) in
           piece_less plan old.slots old.slots old new (mends_from plan.layouts c.ty leaf subs 0 + fields_bound plan subs (field_types agreed.covered.program.types c)) (binding_bound plan.program.types plan.layouts t (Con at c subs)) Pre Pre Post Post (omega arith) le (λ s m x. x) (λ s m x. x)
-          (go plan of f clean v (begins_with c.con (map matches_of subs) (out-Value v) (sym (matches-Con v at c subs) ∙ matches)));
+          (go plan of f clean v matches (begins_with c.con (map matches_of subs) (out-Value v) (sym (matches-Con v at c subs) ∙ matches)));
     }
   where
     go : (plan : Plan) (of : IsPlanOf agreed plan)
-        (f : BindsParts plan (mends_from plan.layouts c.ty leaf subs 0 + fields_bound plan subs (field_types agreed.covered.program.types c)) c.ty leaf words (all_binders (map (binders plan.program.types) subs) (field_types agreed.covered.program.types c)) old new bound (FieldsMatch subs 0)) (clean : Bool) (v : Value)
+        (f : BindsParts plan (mends_from plan.layouts c.ty leaf subs 0 + fields_bound plan subs (field_types agreed.covered.program.types c)) c.ty leaf words (all_binders (map (binders plan.program.types) subs) (field_types agreed.covered.program.types c)) old new bound (FieldsMatch subs 0)) (clean : Bool) (v : Value) → matches_of (Con at c subs) v ≡ true
         → (us : List Value) × (out-Value v ≡ V.Con c.con us) × (all_pass (map matches_of subs) us ≡ true)
         → Piece plan old.slots old new Nowhere (mends_from plan.layouts c.ty leaf subs 0 + fields_bound plan subs (field_types agreed.covered.program.types c)) (λ s m. IsGood m × Rep plan m clean t v (slots_at s words)) (AtEnd new (λ s m. Holds plan clean s m bound (bindings (Con at c subs) v)))
-    go plan of f clean v (us, is, pass) = record {
+    go plan of f clean v matches (us, is, pass) = record {
       adds = f.adds;
       low = omega arith;
       runs = λ final callee next law agrees s w long pre.
@@ -319,10 +306,10 @@ con_binds agreed t at c subs leaf words old new bound mends named only fields = 
           let b = (opened plan.program.types plan.layouts w.memory clean rep).made in
           let start : 0 + b.number ≡ b.number = omega arith in
           let matched = leaf_matches b.layout.leaves v 0 b.number b.leaf b.is_leaf b.number start b.is_number in
-          let con : leaf_con agreed c.ty b.number ≡ con_of_layer (out-Pat b.leaf.prov) = ap (λ o. con_in (leaf_in o b.number)) (sym (ap (λ ls. layout_of ls c.ty) of.layouts) ∙ b.is_layout) ∙ ap con_in b.is_number in
+          let found : leaf_in (layout_of agreed.layouts c.ty) b.number ≡ Some b.leaf = ap (λ o. leaf_in o b.number) (sym (ap (λ ls. layout_of ls c.ty) of.layouts) ∙ b.is_layout) ∙ b.is_number in
           let lt = slice_get_within b.layout.leaves b.number b.leaf b.is_number in
           let n : leaf_count agreed c.ty ≡ length b.layout.leaves = ap leaves_within (sym (ap (λ ls. layout_of ls c.ty) of.layouts) ∙ b.is_layout) in
-          let is_leaf : b.number ≡ leaf = only b.number (omega (arith, lt, n)) (ap (may_be c.con) con ∙ may_match c.con b.leaf.prov v us is matched) in
+          let is_leaf : b.number ≡ leaf = elim (only b.number (omega (arith, lt, n))) [ inl same ↦ same | inr out ↦ absurd (out b.leaf found v matched matches) ] in
           let parts : FieldsMatch subs 0 v (bindings (Con at c subs) v) = (us, (λ j. let z : 0 + j ≡ j = omega arith in ap (λ l. slice_get (subs_in l) (0 + j)) is ∙ ap (slice_get us) z), pass, bindings-Con v at c subs ∙ ap (bound_within (map bindings subs)) is) in
           (f.runs clean v (bindings (Con at c subs) v) b.layout b.is_layout (b.is_leaf ∙ ap Some is_leaf) parts).runs final callee next law agrees s w long (pre.0, rep);
     }

@@ -1,3 +1,4 @@
+mod Apart
 mod Bindings
 mod Bounds
 mod Chosen

@@ -9,13 +9,13 @@ use Rattle.rb_core.specs.declared.types.Ty.TheVariants.{Named}
 use Rattle.rb_core.specs.declared.types.ConRef.{ConRef}
 use Rattle.rb_core.specs.declared.typing.Binder.{Binder}
 use Rattle.rb_core.specs.declared.binding.Binding.{Binding}
-use Rattle.rb_core.specs.declared.pattern.Pat.{Pat, Wild, Num, Con}
+use Rattle.rb_core.specs.declared.pattern.Pat.{Pat, Con}
 use Rattle.rb_core.specs.Inference.{binders, binders_step, all_binders}
 use Rattle.rb_core.specs.Matching.{all_bound, all_pass, bindings, bound_within, matches_of}
 use Rattle.rb_core.specs.Typing.{field_types}
 use Rattle.rb_core.specs.Values.{part_at, subs_in}
-use Rattle.rb_core.proofs.MatchingForms.{matches-Con, bindings-Wild, bindings-Num, bindings-Con}
-use Rattle.rb_core.proofs.PatternLaws.{fold-Wild, fold-Num, fold-Con}
+use Rattle.rb_core.proofs.MatchingForms.{matches-Con, bindings-Con}
+use Rattle.rb_core.proofs.PatternLaws.{fold-Con}
 use Rattle.rb_bytes.specs.Memory.{Memory, IsGood}
 use Rattle.rb_target.specs.Growth.{Keeps, Nowhere}
 use Rattle.rb_target.specs.Meaning.{slots_at}
@@ -34,9 +34,10 @@ use Rattle.rb_match.specs.declared.knowledge.Known.{Known}
 use Rattle.rb_match.specs.declared.knowledge.Spot.{Spot}
 use Rattle.rb_match.specs.Bounding.{binding_bound, binding_look, choosing_look, is_plain}
 use Rattle.rb_match.specs.inner.Asking.{AreSpots}
-use Rattle.rb_match.specs.inner.Binding.{AreSeen, BindsAt, BindsSaved, BindsSpot, BindsSpots, FieldMatches, FieldsMatch, SavesTogether, fields_bound}
+use Rattle.rb_match.specs.inner.Binding.{AreSeen, BindsAt, BindsSaved, BindsSpot, BindsSpots, FieldMatches, FieldsMatch, SavesTogether, fields_bound, is_unbound}
 use Rattle.rb_match.specs.inner.Knowing.{FollowsSaved, seen}
 use Rattle.rb_match.specs.inner.Saving.{Anything, GivesSpots, IsSpotAt, IsThere}
+use Rattle.rb_match.proofs.Apart.{unbound_binds}
 use Rattle.rb_match.proofs.Bindings.{begins_with, con_bound, fields_more, kept, scope-append}
 use Rattle.rb_match.proofs.Composing.{pieces, piece_framed, piece_less}
 use Rattle.rb_match.proofs.Following.{known-kept}
@@ -65,11 +66,8 @@ spot_none agreed spots known sub field i old none = λ plan n of are.
           (piece_none plan old.slots old Pre Post (omega arith) (λ s m pre. subst (λ l. Holds plan clean s m [] l) (sym (parts.3 ∙ k.1 parts.0)) tt));
     }
 
-pub spot_wild : (agreed : LaidOut) (spots : List Spot) (known : List Known) (at : ℕ) (field : Ty) (i : ℕ) (old : Sheet) → BindsSpot agreed spots known (Wild at) field i old old []
-spot_wild agreed spots known at field i old = spot_none agreed spots known (Wild at) field i old (λ plan. (ap (λ (f : Ty → List Binder). f field) (fold-Wild (Ty → List Binder) (binders_step plan.program.types) at), λ v. bindings-Wild v at))
-
-pub spot_num : (agreed : LaidOut) (spots : List Spot) (known : List Known) (at n : ℕ) (field : Ty) (i : ℕ) (old : Sheet) → BindsSpot agreed spots known (Num at n) field i old old []
-spot_num agreed spots known at n field i old = spot_none agreed spots known (Num at n) field i old (λ plan. (ap (λ (f : Ty → List Binder). f field) (fold-Num (Ty → List Binder) (binders_step plan.program.types) at n), λ v. bindings-Num v at n))
+pub spot_unbound : (agreed : LaidOut) (spots : List Spot) (known : List Known) (sub : Pat) (field : Ty) (i : ℕ) (old : Sheet) → is_unbound sub ≡ true → BindsSpot agreed spots known sub field i old old []
+spot_unbound agreed spots known sub field i old none = let n = unbound_binds sub none in spot_none agreed spots known sub field i old (λ plan. (n.0 plan.program.types field, n.1))
 
 -- a field that is saved, bound from its spot
 pub spot_binds : (agreed : LaidOut) (spots : List Spot) (known : List Known) (sub : Pat) (field : Ty) (i k : ℕ) (spot : Spot) (old new : Sheet) (bound : List Local) → slice_get spots k ≡ Some spot → spot.position ≡ i ∷ [] → spot.ty ≡ field → FollowsSaved known k

@@ -5,16 +5,16 @@ ghost use Rattle.rb_core.specs.declared.types.Ty.TheVariants.{Named};
 ghost use Rattle.rb_target.specs.Growth.{Grows};
 ghost use Rattle.rb_fetch.specs.Finding.{leaf_count};
 ghost use Rattle.rb_match.specs.Choosing.{BindsPattern};
-ghost use Rattle.rb_match.specs.inner.Asking.{leaf_con};
-ghost use Rattle.rb_match.specs.inner.Binding.{may_be, IsOnly, IsOnlyLeaf, BindsAt, BindsDeep, BindsFields, BindsField, BindsSpot, BindsSpots, SavesTogether};
+ghost use Rattle.rb_match.specs.inner.Binding.{IsLeftOut, IsOnly, IsOnlyLeaf, BindsAt, BindsDeep, BindsFields, BindsField, BindsSpot, BindsSpots, SavesTogether};
 ghost use Rattle.rb_match.specs.Bounding.{is_plain};
 ghost use Rattle.rb_match.specs.inner.Knowing.{FollowsSaved};
 ghost use Rattle.rb_match.specs.inner.Saving.{IsSpotAt};
 
-use crate::asking::{con_of, count_leaves};
+use crate::asking::count_leaves;
 use crate::deep::ask_deep;
 use crate::engine::land;
 use crate::knowledge::{Known, Spot, node_known, saved_known};
+use crate::patterns::{are_apart, binds_nothing};
 use crate::place::fields_of;
 use crate::saving::{fetch_part, spot_at};
 use crate::spots::{Wanted, Whole, field_below, give_spots, is_deep};
@@ -30,24 +30,27 @@ use rb_matrix::matrix::Head;
 use rb_target::body::Body;
 use std::alloc::{AllocError, Global};
 
-// Whether a leaf may have values of a constructor.
-fn may_begin(agreed: &Agreed, ty: u32, leaf: usize, con: u32) -> bool
-    ensures { result ≡ may_be con (leaf_con agreed.now ty leaf) }
+// Whether a leaf may have a value that a pattern matches.
+fn may_have(agreed: &Agreed, ty: u32, leaf: usize, pat: &Pat) -> bool
+    ensures { result ≡ false → IsLeftOut agreed.now ty pat.now leaf }
 {
-    match con_of(agreed, ty, leaf) {
+    let Some(layout) = agreed.layouts().get(ty as usize) else {
+        return true;
+    };
+    match layout.leaves.get(leaf) {
         None => true,
-        Some(found) => found == con,
+        Some(found) => !are_apart(&found.prov, pat),
     }
 }
 
-// Whether no other leaf may have values of a constructor.
-fn is_only(agreed: &Agreed, ty: u32, con: u32, leaf: usize) -> bool
-    ensures { result ≡ true → IsOnly agreed.now ty con leaf (leaf_count agreed.now ty) }
+// Whether no other leaf may have a value that a pattern matches.
+fn is_only(agreed: &Agreed, ty: u32, pat: &Pat, leaf: usize) -> bool
+    ensures { result ≡ true → IsOnly agreed.now ty pat.now leaf (leaf_count agreed.now ty) }
 {
     let count = count_leaves(agreed, ty);
     for i in 0..count {
         if i != leaf {
-            if may_begin(agreed, ty, i, con) {
+            if may_have(agreed, ty, i, pat) {
                 return false;
             }
         }
@@ -55,13 +58,13 @@ fn is_only(agreed: &Agreed, ty: u32, con: u32, leaf: usize) -> bool
     true
 }
 
-// The leaf of a constructor's values. Where layouts are plain each constructor has one.
-fn only_leaf(agreed: &Agreed, ty: u32, con: u32) -> Option<usize>
-    ensures { IfSome result (λ leaf. IsOnlyLeaf agreed.now ty con leaf) }
+// The leaf of the values that a pattern matches, where that is one. Where layouts are plain each constructor has one.
+fn only_leaf(agreed: &Agreed, ty: u32, pat: &Pat) -> Option<usize>
+    ensures { IfSome result (λ leaf. IsOnlyLeaf agreed.now ty pat.now leaf) }
 {
     for i in 0..count_leaves(agreed, ty) {
-        if may_begin(agreed, ty, i, con) {
-            if is_only(agreed, ty, con, i) {
+        if may_have(agreed, ty, i, pat) {
+            if is_only(agreed, ty, pat, i) {
                 return Some(i);
             }
             return None;
@@ -107,11 +110,14 @@ fn bind_at(
             Ok(bound)
         }
         Pat::Con(_, con, subs) => {
+            if binds_nothing(pat) {
+                return Ok(Seq::new(alloc));
+            }
             let types = agreed.covered().program().types.as_slice();
             let _flat = agreed.layouts();
             let fields = fields_of(types, *con);
             let subs = subs.as_slice();
-            match leaf_for(agreed, ty, *con) {
+            match leaf_for(agreed, ty, *con, pat) {
                 Some(leaf) => {
                     let t = con.ty;
                     let bound = bind_fields(alloc, body, agreed, t, leaf, words, subs, fields, 0)?;
@@ -126,15 +132,15 @@ fn bind_at(
     }
 }
 
-// The leaf of a constructor's values, where the constructor is of the type.
-fn leaf_for(agreed: &Agreed, ty: Ty, con: ConRef) -> Option<usize>
-    ensures { IfSome result (λ leaf. (ty ≡ Named con.ty) × IsOnlyLeaf agreed.now con.ty con.con leaf) }
+// The leaf of the values that a constructor's pattern matches, where that is one and the constructor is of the type.
+fn leaf_for(agreed: &Agreed, ty: Ty, con: ConRef, pat: &Pat) -> Option<usize>
+    ensures { IfSome result (λ leaf. (ty ≡ Named con.ty) × IsOnlyLeaf agreed.now con.ty pat.now leaf) }
 {
     match ty {
         Ty::Int(_) => None,
         Ty::Named(t) => {
             if t == con.ty {
-                only_leaf(agreed, con.ty, con.con)
+                only_leaf(agreed, con.ty, pat)
             } else {
                 None
             }
@@ -156,15 +162,14 @@ fn is_deep_at(agreed: &Agreed, ty: Ty, number: u32) -> bool
 fn bound_fields(alloc: Global, subs: &[Pat], fields: &[Ty]) -> Result<Seq<Wanted>, AllocError> {
     let mut wanted = Seq::new(alloc);
     for (i, field) in fields.iter().enumerate() {
-        match subs.get(i) {
-            None | Some(Pat::Wild(_)) | Some(Pat::Num(_, _)) => {}
-            Some(Pat::Var(_, _)) | Some(Pat::Con(_, _, _)) => {
-                let position = field_below(alloc, &[], number_of(i)?)?;
-                wanted.push(Wanted {
-                    position,
-                    ty: *field,
-                })?;
-            }
+        if let Some(sub) = subs.get(i)
+            && !binds_nothing(sub)
+        {
+            let position = field_below(alloc, &[], number_of(i)?)?;
+            wanted.push(Wanted {
+                position,
+                ty: *field,
+            })?;
         }
     }
     Ok(wanted)
@@ -243,18 +248,15 @@ fn bind_spot(
         (λ bound. BindsSpot agreed.now spots.now known.now sub.now field i body.old body.new bound) }
     ensures grows { OnOk result (Grows body.old.code body.new.code) }
 {
-    match sub {
-        Pat::Wild(_) => Ok(Seq::new(alloc)),
-        Pat::Num(_, _) => Ok(Seq::new(alloc)),
-        Pat::Var(_, _) | Pat::Con(_, _, _) => {
-            let Some(k) = saved_spot(spots, known, i, field) else {
-                return Err(AllocError);
-            };
-            let slots = spots[k].slots.as_slice();
-            let bound = bind_at(alloc, body, agreed, field, slots, sub)?;
-            Ok(bound)
-        }
+    if binds_nothing(sub) {
+        return Ok(Seq::new(alloc));
     }
+    let Some(k) = saved_spot(spots, known, i, field) else {
+        return Err(AllocError);
+    };
+    let slots = spots[k].slots.as_slice();
+    let bound = bind_at(alloc, body, agreed, field, slots, sub)?;
+    Ok(bound)
 }
 
 // What the patterns of saved fields bind, from field i on.
@@ -288,8 +290,8 @@ fn bind_spots(
     }
 }
 
-// What a constructor with several leaves binds: the ways of its leaves save its fields and meet. Where no leaf
-// takes a subvalue apart each constructor has one leaf, so that this is never met.
+// What a constructor binds whose pattern values of several leaves match: the ways of the type's leaves save its fields
+// and meet. Where no leaf takes a subvalue apart each constructor has one leaf, so that this is never met.
 #[cycle(binding)]
 fn bind_deep(
     alloc: Global,
@@ -366,15 +368,12 @@ fn bind_field(
         (λ bound. BindsField agreed.now ty leaf words.now sub.now field i body.old body.new bound) }
     ensures grows { OnOk result (Grows body.old.code body.new.code) }
 {
-    match sub {
-        Pat::Wild(_) => Ok(Seq::new(alloc)),
-        Pat::Num(_, _) => Ok(Seq::new(alloc)),
-        Pat::Var(_, _) | Pat::Con(_, _, _) => {
-            let slots = fetch_part(alloc, body, agreed, ty, leaf, words, i, field)?;
-            let bound = bind_at(alloc, body, agreed, field, slots.as_slice(), sub)?;
-            Ok(bound)
-        }
+    if binds_nothing(sub) {
+        return Ok(Seq::new(alloc));
     }
+    let slots = fetch_part(alloc, body, agreed, ty, leaf, words, i, field)?;
+    let bound = bind_at(alloc, body, agreed, field, slots.as_slice(), sub)?;
+    Ok(bound)
 }
 
 /// Code that leaves the values of a pattern's variables in slots, where the pattern matches the value

@@ -57,8 +57,9 @@
 //! Where the tree has more than 512 nodes, clauses are tried one by one ([`clauses`]), each by the same
 //! code for the two patterns `p` and `_`; what it doesn't match goes on at the next clause.
 //!
-//! [`binding::bind`] follows the pattern: where its constructor has one leaf, each field that holds a
-//! variable is fetched on the way to it.
+//! [`binding::bind`] follows the pattern. A value that the pattern matches has no leaf that has another constructor in
+//! one of its places: so `P(B, x)` is bound from leaf 1 without a look ([`patterns`]). Where one leaf is left, each
+//! field that holds a variable is fetched on the way to it.
 #![tactic(auto)]
 
 pub mod asking;
@@ -69,6 +70,7 @@ pub mod deep;
 pub mod engine;
 pub mod knowledge;
 pub mod laws;
+pub mod patterns;
 pub mod place;
 pub mod saving;
 pub mod spots;

@@ -1,6 +1,6 @@
 -- The variables that an expression uses, and scopes and values that agree on them.
-use Rattle.std.specs.Prelude.{◌≡◌, ◌≤◌, ℕ, ◌-◌, Bool, true, false, nat_lt, if◌then◌else◌, unwrap_or, slice_get, List, [], ◌∷◌, ◌++◌, Contains}
-use Rattle.std.specs.List.{flat_map, list_all}
+use Rattle.std.specs.Prelude.{◌≡◌, ◌≤◌, ℕ, ◌-◌, Bool, true, nat_lt, if◌then◌else◌, unwrap_or, slice_get, List, [], ◌∷◌, ◌++◌, Contains}
+use Rattle.std.specs.List.{flat_map}
 use Rattle.rb_core.specs.declared.typing.Binder.{Binder}
 use Rattle.rb_core.specs.declared.binding.Binding.{Binding}
 use Rattle.rb_core.specs.declared.expression.Expr.{Expr}
@@ -11,8 +11,7 @@ use Rattle.rb_core.specs.declared.expression.Clause.{Clause, Clause-F}
 use Rattle.rb_core.specs.declared.value.Value.{Value}
 use Rattle.rb_core.specs.declared.types.Ty.{Ty}
 use Rattle.rb_core.specs.declared.types.DataDecl.{DataDecl}
-use Rattle.rb_core.specs.declared.types.ConRef.{ConRef}
-use Rattle.rb_core.specs.declared.pattern.Pat.{Pat, Wild, Var, Con, out-Pat}
+use Rattle.rb_core.specs.declared.pattern.Pat.{Pat, Wild, Var, Con}
 use Rattle.rb_core.specs.declared.pattern.Pat.TheOpen as P
 use Rattle.rb_core.specs.declared.pattern.Pat.TheOpen.{Pat-F}
 use Rattle.rb_core.specs.declared.pattern.Pat.TheFolds.{fold-Pat}
@@ -52,28 +51,15 @@ ScopesAgree xs s s' = (x : ℕ) → Contains xs x → variable_type x s ≡ vari
 abbrev pub ValuesAgree : List ℕ → List Binding → List Binding → Type 0
 ValuesAgree xs e e' = (x : ℕ) → Contains xs x → value_in e x ≡ value_in e' x
 
--- Patterns without what is not used --------------------------------------------------------------
-
-abbrev pub is_wild_layer : Pat-F Pat → Bool
-is_wild_layer (P.Wild at) = true
-is_wild_layer (P.Var at x) = false
-is_wild_layer (P.Num at n) = false
-is_wild_layer (P.Con at c ps) = false
-
-abbrev pub is_wild : Pat → Bool
-is_wild p = is_wild_layer (out-Pat p)
-
--- a constructor without anything below is a wildcard
-abbrev pub con_or_wild : ℕ → ConRef → List Pat → Pat
-con_or_wild at c ps = if list_all is_wild ps then Wild at else Con at c ps
+-- Patterns without variables that are not used ---------------------------------------------------
 
 abbrev pub pruned_step : (ℕ → Bool) → Pat-F Pat → Pat
 pruned_step keeps (P.Wild at) = Wild at
 pruned_step keeps (P.Var at x) = if keeps x then Var at x else Wild at
 pruned_step keeps (P.Num at n) = Wild at
-pruned_step keeps (P.Con at c ps) = con_or_wild at c ps
+pruned_step keeps (P.Con at c ps) = Con at c ps
 
--- the pattern of the variables that are kept: what binds none of them is a wildcard
+-- the pattern with wildcards in place of numbers, and of variables that are not kept
 abbrev pub pruned : (ℕ → Bool) → Pat → Pat
 pruned keeps = fold-Pat Pat (pruned_step keeps)
 

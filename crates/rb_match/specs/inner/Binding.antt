@@ -1,5 +1,5 @@
 -- What code that binds owes at parts of a pattern.
-use Rattle.std.specs.Prelude.{◌≡◌, ℕ, ◌+◌, ◌<◌, ◌≤◌, ◌==◌, ◌⊎◌, List, [], ◌∷◌, map, length, Bool, true, Option, Some, None, slice_get}
+use Rattle.std.specs.Prelude.{◌≡◌, ℕ, ◌+◌, ◌<◌, ◌≤◌, ◌&&◌, ◌⊎◌, List, [], ◌∷◌, map, length, Bool, true, false, Some, slice_get}
 use Rattle.rb_core.specs.declared.value.Value.{Value}
 use Rattle.rb_core.specs.declared.types.Ty.{Ty}
 use Rattle.rb_core.specs.declared.types.Ty.TheVariants.{Named}
@@ -19,6 +19,7 @@ use Rattle.rb_target.specs.Meaning.{slots_at}
 use Rattle.rb_target.specs.Sheet.{Sheet}
 use Rattle.rb_layout.specs.declared.agreed.LaidOut.{LaidOut}
 use Rattle.rb_layout.specs.declared.layout.Layout.{Layout}
+use Rattle.rb_layout.specs.declared.layout.Leaf.{Leaf}
 use Rattle.rb_layout.specs.Positions.{layout_of, leaf_of}
 use Rattle.rb_fragment.specs.declared.held.Local.{Local}
 use Rattle.rb_fragment.specs.Adding.{Adds}
@@ -36,20 +37,41 @@ use Rattle.rb_match.specs.declared.knowledge.Known.{Known}
 use Rattle.rb_match.specs.declared.knowledge.Spot.{Spot}
 use Rattle.rb_match.specs.inner.Knowing.{AreKnown, seen}
 use Rattle.rb_match.specs.Bounding.{binding_bound, binding_look, choosing_look, looks_with, places_below, places_in}
-use Rattle.rb_match.specs.inner.Asking.{AreSpots, leaf_con}
+use Rattle.rb_match.specs.inner.Asking.{AreSpots, leaf_in}
 use Rattle.rb_match.specs.inner.Saving.{IsThere, mend_at, mends_from}
 
--- a leaf without a constructor may have any value
-abbrev pub may_be : ℕ → Option ℕ → Bool
-may_be c None = true
-may_be c (Some d) = d == c
+-- no value matches both patterns
+abbrev pub AreApart : Pat → Pat → Type 0
+AreApart p q = (v : Value) → matches_of p v ≡ true → matches_of q v ≡ true → ⊥
 
--- of the first so many leaves none but this one may have values of the constructor
-abbrev pub IsOnly : LaidOut → ℕ → ℕ → ℕ → ℕ → Type 0
-IsOnly agreed t c leaf count = (n : ℕ) → n < count → may_be c (leaf_con agreed t n) ≡ true → n ≡ leaf
+-- two patterns with the same number are apart
+abbrev pub HaveApart : List Pat → List Pat → Type 0
+HaveApart ps qs = (i : ℕ) × (p : Pat) × (q : Pat) × (slice_get ps i ≡ Some p) × (slice_get qs i ≡ Some q) × AreApart p q
 
-abbrev pub IsOnlyLeaf : LaidOut → ℕ → ℕ → ℕ → Type 0
-IsOnlyLeaf agreed t c leaf = IsOnly agreed t c leaf (leaf_count agreed t)
+-- no value of the leaf matches the pattern
+abbrev pub IsLeftOut : LaidOut → ℕ → Pat → ℕ → Type 0
+IsLeftOut agreed t p n = (leaf : Leaf) → leaf_in (layout_of agreed.layouts t) n ≡ Some leaf → AreApart leaf.prov p
+
+-- of the first so many leaves none but this one has values that the pattern matches
+abbrev pub IsOnly : LaidOut → ℕ → Pat → ℕ → ℕ → Type 0
+IsOnly agreed t p leaf count = (n : ℕ) → n < count → (n ≡ leaf) ⊎ IsLeftOut agreed t p n
+
+abbrev pub IsOnlyLeaf : LaidOut → ℕ → Pat → ℕ → Type 0
+IsOnlyLeaf agreed t p leaf = IsOnly agreed t p leaf (leaf_count agreed t)
+
+abbrev pub all_unbound : List Bool → Bool
+all_unbound [] = true
+all_unbound (b ∷ bs) = b && all_unbound bs
+
+abbrev pub unbound_step : Pat-F Bool → Bool
+unbound_step (P.Wild at) = true
+unbound_step (P.Var at x) = false
+unbound_step (P.Num at n) = true
+unbound_step (P.Con at c bs) = all_unbound bs
+
+-- whether a pattern has no variable
+abbrev pub is_unbound : Pat → Bool
+is_unbound = fold-Pat Bool unbound_step
 
 -- at a value of a type
 abbrev pub BindsAt : LaidOut → Ty → Pat → List ℕ → Sheet → Sheet → List Local → Type 0

@@ -1,14 +1,14 @@
-use Rattle.std.proofs.Common.{◌≡◌, get_or, true, arith, ap, ◌∙◌, map, ℕ}
+use Rattle.std.proofs.Common.{◌≡◌, get_or, true, arith, ap, sym, ◌∙◌, map, ℕ}
 use Rattle.rb_core.specs.declared.types.Ty.TheVariants.{Int}
 use Rattle.rb_core.proofs.PatternLaws.{fold-Con}
 use Rattle.rb_match.specs.inner.Binding.{weight, weights, weight_step}
 use Rattle.rb_decide.proofs.Building.{split-rest, get-same}
 use Rattle.rb_match.proofs.Following.{no-item}
-use Rattle.rb_match.proofs.Bindings.{wild_binds, num_binds, var_binds, con_binds, mends_in, field_wild, field_num, field_binds, fields_none, fields_binds}
+use Rattle.rb_match.proofs.Bindings.{wild_binds, num_binds, var_binds, con_binds, mends_in, field_binds, field_unbound, unbound_binds_at, fields_none, fields_binds}
 use Rattle.rb_target.proofs.Growing.{Grows-trans}
 use Rattle.std.proofs.Common.{subst}
-use Rattle.rb_match.specs.inner.Binding.{BindsSpots}
-use Rattle.rb_match.proofs.SavedBindings.{deep_binds, spot_found, spot_num, spot_wild, spots_bind, spots_none}
+use Rattle.rb_match.specs.inner.Binding.{BindsSpots, IsOnlyLeaf}
+use Rattle.rb_match.proofs.SavedBindings.{deep_binds, spot_found, spot_unbound, spots_bind, spots_none}
 use Rattle.rb_match.proofs.binding.+binding.Goals as goal
 
 pub bind_at-returns-in-Wild-clause-binds : goal.bind_at-returns-in-Wild-clause-binds
@@ -23,19 +23,14 @@ bind_at-returns-in_ok-push-in-Var-clause-binds t c =
 
 pub bind_at-returns-in_ok-bound-in-Some-clause-binds : goal.bind_at-returns-in_ok-bound-in-Some-clause-binds
 bind_at-returns-in_ok-bound-in-Some-clause-binds t c =
-    rw c.in-Con.is (con_binds c.args.agreed.now c.args.ty c.in-Con.field-0 c.in-Con.con c.in-Con.subs c.in-Some.leaf c.args.words.now c.args.body.now c.bind_fields.new.body c.in_ok-bound-in-Some.bound (mends_in c.args.agreed.now c.covered.ensures.agree c.layouts-flat.ensures.flat) c.in-Some.ensures.0 c.in-Some.ensures.1
+    rw c.in-Con.is (con_binds c.args.agreed.now c.args.ty c.in-Con.field-0 c.in-Con.con c.in-Con.subs c.in-Some.leaf c.args.words.now c.args.body.now c.bind_fields.new.body c.in_ok-bound-in-Some.bound (mends_in c.args.agreed.now c.covered.ensures.agree c.layouts-flat.ensures.flat) c.in-Some.ensures.0
+    (subst (λ p. IsOnlyLeaf c.args.agreed.now c.in-Con.con.ty p c.in-Some.leaf) c.in-Con.is c.in-Some.ensures.1)
     (rw (c.as_slice-subs.ensures, c.fields_of-fields.ensures, c.as_slice-types.ensures, c.program.ensures.same, c.covered.ensures.same) at c.in_ok-bound-in-Some.ensures.binds))
 
-pub bind_field-returns-in-Wild-clause-binds : goal.bind_field-returns-in-Wild-clause-binds
-bind_field-returns-in-Wild-clause-binds t c = rw (c.in-Wild.is, c.new.ensures) (field_wild c.args.agreed.now c.args.ty c.args.leaf c.args.words.now c.in-Wild.field-0 c.args.field c.args.i c.args.body.now)
-
-pub bind_field-returns-in-Num-clause-binds : goal.bind_field-returns-in-Num-clause-binds
-bind_field-returns-in-Num-clause-binds t c = rw (c.in-Num.is, c.new-in-Num.ensures) (field_num c.args.agreed.now c.args.ty c.args.leaf c.args.words.now c.in-Num.field-0 c.in-Num.field-1 c.args.field c.args.i c.args.body.now)
-
-pub bind_field-returns-in_ok-bound-in-Var-clause-binds : goal.bind_field-returns-in_ok-bound-in-Var-clause-binds
-bind_field-returns-in_ok-bound-in-Var-clause-binds t c =
-    field_binds c.args.agreed.now c.args.ty c.args.leaf c.args.words.now c.args.sub.now c.args.field c.args.i c.args.body.now c.fetch_part.new.body c.bind_at.new.body c.in_ok-slots-in-Var.slots c.in_ok-bound-in-Var.bound
-    c.in_ok-slots-in-Var.ensures.fetches (rw c.as_slice.ensures at c.in_ok-bound-in-Var.ensures.binds)
+pub bind_field-returns-clause-binds : goal.bind_field-returns-clause-binds
+bind_field-returns-clause-binds t c =
+    field_binds c.args.agreed.now c.args.ty c.args.leaf c.args.words.now c.args.sub.now c.args.field c.args.i c.args.body.now c.fetch_part.new.body c.bind_at.new.body c.in_ok-slots.slots c.in_ok-bound.bound
+    c.in_ok-slots.ensures.fetches (rw c.as_slice.ensures at c.in_ok-bound.ensures.binds)
 
 pub bind_fields-returns-in_default-clause-binds : goal.bind_fields-returns-in_default-clause-binds
 bind_fields-returns-in_default-clause-binds t c =
@@ -104,16 +99,10 @@ bind_spots-bind_spot-requires t c =
 pub bind_spot-bind_at-requires : goal.bind_spot-bind_at-requires
 bind_spot-bind_at-requires t c = omega (arith, c.decreases)
 
-pub bind_spot-returns-in-Wild-clause-binds : goal.bind_spot-returns-in-Wild-clause-binds
-bind_spot-returns-in-Wild-clause-binds t c = rw (c.in-Wild.is, c.new.ensures) (spot_wild c.args.agreed.now c.args.spots.now c.args.known.now c.in-Wild.field-0 c.args.field c.args.i c.args.body.now)
-
-pub bind_spot-returns-in-Num-clause-binds : goal.bind_spot-returns-in-Num-clause-binds
-bind_spot-returns-in-Num-clause-binds t c = rw (c.in-Num.is, c.new-in-Num.ensures) (spot_num c.args.agreed.now c.args.spots.now c.args.known.now c.in-Num.field-0 c.in-Num.field-1 c.args.field c.args.i c.args.body.now)
-
-pub bind_spot-returns-in_ok-bound-in-Var-clause-binds : goal.bind_spot-returns-in_ok-bound-in-Var-clause-binds
-bind_spot-returns-in_ok-bound-in-Var-clause-binds t c =
-    spot_found c.args.agreed.now c.args.spots.now c.args.known.now c.args.sub.now c.args.field c.args.i c.in-Some.k c.index-spots-k.result c.index-spots-k.result c.args.body.now c.bind_at.new.body c.in_ok-bound-in-Var.bound c.in-Some.ensures.0 c.index-spots-k.is c.in-Some.ensures.1
-    (rw c.as_slice-slots.ensures at c.in_ok-bound-in-Var.ensures.binds)
+pub bind_spot-returns-clause-binds : goal.bind_spot-returns-clause-binds
+bind_spot-returns-clause-binds t c =
+    spot_found c.args.agreed.now c.args.spots.now c.args.known.now c.args.sub.now c.args.field c.args.i c.in-Some.k c.index-spots-k.result c.index-spots-k.result c.args.body.now c.bind_at.new.body c.in_ok-bound.bound c.in-Some.ensures.0 c.index-spots-k.is c.in-Some.ensures.1
+    (rw c.as_slice-slots.ensures at c.in_ok-bound.ensures.binds)
 
 pub bind_spots-returns-in_default-clause-binds : goal.bind_spots-returns-in_default-clause-binds
 bind_spots-returns-in_default-clause-binds t c =
@@ -140,3 +129,14 @@ bind_deep-returns-clause-binds t c token is =
 
 pub bind_deep-returns-clause-grows : goal.bind_deep-returns-clause-grows
 bind_deep-returns-clause-grows t c = Grows-trans _ _ _ c.in_ok-spots.ensures.grows (Grows-trans _ _ _ c.in_ok-known.ensures.grows c.in_ok-bound.ensures.grows)
+
+pub bind_at-returns-then-binds_nothing-clause-binds : goal.bind_at-returns-then-binds_nothing-clause-binds
+bind_at-returns-then-binds_nothing-clause-binds t c = rw c.new-then-binds_nothing.ensures (unbound_binds_at c.args.agreed.now c.args.ty c.args.pat.now c.args.words.now c.args.body.now (sym c.binds_nothing.ensures ∙ c.if-binds_nothing.true))
+
+pub bind_field-returns-then-binds_nothing-clause-binds : goal.bind_field-returns-then-binds_nothing-clause-binds
+bind_field-returns-then-binds_nothing-clause-binds t c =
+    rw c.new.ensures (field_unbound c.args.agreed.now c.args.ty c.args.leaf c.args.words.now c.args.sub.now c.args.field c.args.i c.args.body.now (sym c.binds_nothing.ensures ∙ c.if-binds_nothing.true))
+
+pub bind_spot-returns-then-binds_nothing-clause-binds : goal.bind_spot-returns-then-binds_nothing-clause-binds
+bind_spot-returns-then-binds_nothing-clause-binds t c =
+    rw c.new.ensures (spot_unbound c.args.agreed.now c.args.spots.now c.args.known.now c.args.sub.now c.args.field c.args.i c.args.body.now (sym c.binds_nothing.ensures ∙ c.if-binds_nothing.true))
