@@ -53,15 +53,16 @@ pub fn derived(
         funs: Seq::new(alloc),
         main: 0,
     };
-    if kinds.len() != program.types.len() {
-        return Err(AllocError.into());
+    if kinds.len() == program.types.len()
+        && let Some(Some(_kind)) = kinds.get(ty as usize)
+    {
+        return Ok(derive(alloc, &program, kinds, ty)?);
     }
-    match kinds.get(ty as usize) {
-        Some(Some(_kind)) => {
-            let decl = derive(alloc, &program, kinds, ty)?;
-            Ok(decl)
-        }
-        Some(None) => Err(AllocError.into()),
-        None => Err(AllocError.into()),
-    }
+    Err(AllocError.into())
+}
+
+/// What is derived for a lone type with these constructors, which is packed.
+pub fn packed(alloc: Global, cons: Seq<Con>) -> Result<LayoutDecl, Fail> {
+    let types = seq(alloc, [data(alloc, cons)])?;
+    derived(alloc, types, Seq::new(alloc), &[Some(Auto::Packed)], 0)
 }
