@@ -5,7 +5,7 @@ use crate::reading::{Found, outcome};
 use crate::types::{LIST, types};
 use rb_core::types::Ty;
 use rb_values::read::read_value;
-use std::alloc::Global;
+use std::alloc::{AllocError, Global};
 use std::test::Fail;
 
 // a text, the limit, and what reading it gives
@@ -27,7 +27,7 @@ fn order_of_refusals(rt: HostRuntime) -> Result<(), Fail> {
 }
 
 // The list of the numbers from 1 to the count: twice as many nodes and one, and as deep as the count.
-fn list(alloc: Global, count: u64) -> Result<Vec<u8>, Fail> {
+fn list(alloc: Global, count: u64) -> Result<Vec<u8>, AllocError> {
     let mut text = Vec::new(alloc);
     for number in 1..=count {
         text.extend_from_slice(format!(in alloc; "Cons({number}, ")?.as_bytes())?;
@@ -40,7 +40,7 @@ fn list(alloc: Global, count: u64) -> Result<Vec<u8>, Fail> {
 }
 
 // What reading the list of half a million numbers, but for one, gives.
-fn half_a_million(alloc: Global, limit: u64) -> Result<Found, Fail> {
+fn half_a_million(alloc: Global, limit: u64) -> Result<Found, AllocError> {
     let text = list(alloc, 499_999)?;
     outcome(alloc, LIST, text.as_slice(), limit, text.as_slice())
 }

@@ -4,13 +4,13 @@
 //! does not fit its type. A row without a mark is printed as it stands.
 
 use crate::types::types;
-use rb_core::types::Ty;
+use rb_core::types::{DataDecl, Ty};
 use rb_values::fault::ValueFault;
+use rb_values::forest::Forest;
 use rb_values::print::print_value;
 use rb_values::read::read_value;
-use std::alloc::Global;
+use std::alloc::{AllocError, Global};
 use std::process::Abort;
-use std::test::Fail;
 
 /// What reading a text gives, places by their bytes.
 #[derive(Clone, Copy, PartialEq, Eq)]
@@ -23,6 +23,22 @@ pub enum Found {
     Other,
 }
 
+// What is found where a value is read: whether it is printed as this text.
+fn reprinted(
+    alloc: Global,
+    types: &[DataDecl],
+    ty: Ty,
+    value: &Forest,
+    printed: &[u8],
+) -> Result<Found, AllocError> {
+    let text = print_value(alloc, types, ty, value)?;
+    if text.as_slice() == printed {
+        Ok(Found::Value)
+    } else {
+        Ok(Found::Other)
+    }
+}
+
 /// Reads a text at a type, and prints what is read: whether it has this text.
 pub fn outcome(
     alloc: Global,
@@ -30,17 +46,10 @@ pub fn outcome(
     text: &[u8],
     limit: u64,
     printed: &[u8],
-) -> Result<Found, Fail> {
+) -> Result<Found, AllocError> {
     let types = types(alloc)?;
     match read_value(alloc, types.as_slice(), ty, text, limit) {
-        Ok(value) => {
-            let found = print_value(alloc, types.as_slice(), ty, &value)?;
-            if found.as_slice() == printed {
-                Ok(Found::Value)
-            } else {
-                Ok(Found::Other)
-            }
-        }
+        Ok(value) => reprinted(alloc, types.as_slice(), ty, &value, printed),
         Err(ValueFault::ValueSyntax(at)) => Ok(Found::Syntax(at)),
         Err(ValueFault::ValueTooLarge) => Ok(Found::TooLarge),
         Err(ValueFault::ValueType(at)) => Ok(Found::Misfit(at)),
@@ -48,8 +57,8 @@ pub fn outcome(
     }
 }
 
-// Checks that a row without its mark has the answer that its mark gives.
-fn expect(rt: &impl Abort, alloc: Global, ty: Ty, row: &[u8]) -> Result<(), Fail> {
+// A row without its mark, and the answer that the mark gives.
+fn unmarked(alloc: Global, row: &[u8]) -> Result<(Vec<u8>, Found), AllocError> {
     let mut text = Vec::new(alloc);
     let mut wanted = Found::Value;
     for byte in row {
@@ -59,15 +68,19 @@ fn expect(rt: &impl Abort, alloc: Global, ty: Ty, row: &[u8]) -> Result<(), Fail
             byte => text.push(byte)?,
         }
     }
-    let found = outcome(alloc, ty, text.as_slice(), 1000, text.as_slice())?;
-    assert!(rt; found == wanted, "{row:?}");
-    Ok(())
+    Ok((text, wanted))
+}
+
+// Whether a row without its mark has the answer that its mark gives.
+fn is_due(alloc: Global, ty: Ty, row: &[u8]) -> Result<bool, AllocError> {
+    let (text, wanted) = unmarked(alloc, row)?;
+    Ok(outcome(alloc, ty, text.as_slice(), 1000, text.as_slice())? == wanted)
 }
 
 /// Checks each line of a table.
-pub fn expect_each(rt: &impl Abort, alloc: Global, ty: Ty, rows: &str) -> Result<(), Fail> {
+pub fn expect_each(rt: &impl Abort, alloc: Global, ty: Ty, rows: &str) -> Result<(), AllocError> {
     for row in rows.split('\n') {
-        expect(rt, alloc, ty, row.as_bytes())?;
+        assert!(rt; is_due(alloc, ty, row.as_bytes())?, "{row}");
     }
     Ok(())
 }

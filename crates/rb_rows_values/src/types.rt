@@ -8,7 +8,7 @@
 //! ```
 
 use rb_core::seq::Seq;
-use rb_core::types::{Con, DataDecl, Name, Ty};
+use rb_core::types::{Con, DataDecl, Ty};
 use std::alloc::{AllocError, Global};
 
 /// `List`
@@ -20,36 +20,43 @@ pub const TREE: Ty = Ty::Named(2);
 /// `Pair`
 pub const PAIR: Ty = Ty::Named(3);
 
-fn name(alloc: Global, text: &[u8]) -> Result<Name, AllocError> {
-    Ok(Seq::from_vec(Vec::from_slice(alloc, text)?))
-}
+// Each type's name, and each constructor's name and fields.
+const TYPES: &[(&[u8], &[(&[u8], &[Ty])])] = &[
+    (b"List", &[(b"Nil", &[]), (b"Cons", &[Ty::Int(64), LIST])]),
+    (b"Color", &[(b"Red", &[]), (b"Black", &[])]),
+    (
+        b"Tree",
+        &[
+            (b"Empty", &[]),
+            (b"Node", &[COLOR, TREE, Ty::Int(32), TREE]),
+        ],
+    ),
+    (b"Pair", &[(b"Pair", &[Ty::Int(8), Ty::Int(8)])]),
+];
 
-fn con(alloc: Global, text: &[u8], fields: &[Ty]) -> Result<Con, AllocError> {
+fn con(alloc: Global, name: &[u8], fields: &[Ty]) -> Result<Con, AllocError> {
     Ok(Con {
-        name: name(alloc, text)?,
+        name: Seq::from_vec(Vec::from_slice(alloc, name)?),
         fields: Seq::from_vec(Vec::from_slice(alloc, fields)?),
     })
 }
 
-fn data(alloc: Global, text: &[u8], first: Con) -> Result<DataDecl, AllocError> {
-    let mut cons = Seq::new(alloc);
-    cons.push(first)?;
-    Ok(DataDecl {
-        name: name(alloc, text)?,
-        cons,
-    })
+fn data(alloc: Global, name: &[u8], cons: &[(&[u8], &[Ty])]) -> Result<DataDecl, AllocError> {
+    let mut decl = DataDecl {
+        name: Seq::from_vec(Vec::from_slice(alloc, name)?),
+        cons: Seq::new(alloc),
+    };
+    for &(name, fields) in cons {
+        decl.cons.push(con(alloc, name, fields)?)?;
+    }
+    Ok(decl)
 }
 
 /// The types, in this order.
 pub fn types(alloc: Global) -> Result<Vec<DataDecl>, AllocError> {
-    let mut list = data(alloc, b"List", con(alloc, b"Nil", &[])?)?;
-    list.cons.push(con(alloc, b"Cons", &[Ty::Int(64), LIST])?)?;
-    let mut color = data(alloc, b"Color", con(alloc, b"Red", &[])?)?;
-    color.cons.push(con(alloc, b"Black", &[])?)?;
-    let mut tree = data(alloc, b"Tree", con(alloc, b"Empty", &[])?)?;
-    tree.cons
-        .push(con(alloc, b"Node", &[COLOR, TREE, Ty::Int(32), TREE])?)?;
-    let pair = con(alloc, b"Pair", &[Ty::Int(8), Ty::Int(8)])?;
-    let pair = data(alloc, b"Pair", pair)?;
-    Ok(Vec::from_array(alloc, [list, color, tree, pair])?)
+    let mut types = Vec::new(alloc);
+    for &(name, cons) in TYPES {
+        types.push(data(alloc, name, cons)?)?;
+    }
+    Ok(types)
 }
