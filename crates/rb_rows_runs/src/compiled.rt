@@ -61,7 +61,7 @@ fn code_texts_run(rt: HostRuntime) -> Result<(), Surprise> {
 // File, the start of a line, and how many lines of the file's code begin so, at least and at most.
 type Lines<'a> = (&'a str, &'a str, usize, usize);
 
-const LINES: [Lines; 13] = [
+const LINES: [Lines; 17] = [
     // an arm whose value is the function's result returns it
     (SUM, "return ", 3, 3),
     (SUM, "copy ", 0, 0),
@@ -80,7 +80,25 @@ const LINES: [Lines; 13] = [
     // a constructor that the file shows is not looked at, and a variable's is, once
     (SHOWN, "switch ", 0, 0),
     (UNSHOWN, "switch ", 1, 1),
+    // a number in a block is loaded where the body uses it, and a tail where it is tested
+    (UNUSED, "load ", 0, 0),
+    (USED, "load ", 1, 1),
+    (TESTED, "load ", 2, 2),
+    // where the file shows what stands in an argument there is none; where it does not, one finds its leaf, which tells its bit
+    (SHOWN_INSIDE, "switch ", 1, 1),
 ];
+
+// A number in a block, which the body does not use.
+const UNUSED: &str =
+    "type List = Nil | Cons(u64, List);layout List <64> = split 0[0:1] { 1 => Nil : { word 64 { [0:1] = 1 } } 0 => Cons(_, _) : { word 64 { [0:1] = 0, [3:61] -> 8 { word 64 { [0:64] .0 }, inline .1 } } } };fun main(l: List): u64 = match l { Nil => 0, Cons(x, rest) => 1 };";
+
+// The same, which it uses.
+const USED: &str =
+    "type List = Nil | Cons(u64, List);layout List <64> = split 0[0:1] { 1 => Nil : { word 64 { [0:1] = 1 } } 0 => Cons(_, _) : { word 64 { [0:1] = 0, [3:61] -> 8 { word 64 { [0:64] .0 }, inline .1 } } } };fun main(l: List): u64 = match l { Nil => 0, Cons(x, rest) => x };";
+
+// A tail that is tested, and a number behind it.
+const TESTED: &str =
+    "type List = Nil | Cons(u64, List);layout List <64> = split 0[0:1] { 1 => Nil : { word 64 { [0:1] = 1 } } 0 => Cons(_, _) : { word 64 { [0:1] = 0, [3:61] -> 8 { word 64 { [0:64] .0 }, inline .1 } } } };fun main(l: List): u64 = match l { Cons(x, Cons(y, rest)) => x, _ => 0 };";
 
 // Matches whose values are the function's result.
 const RESULTS: &str =
@@ -164,16 +182,13 @@ const SHOWN_INSIDE: &str =
 // Where the file shows the pair and its bit, there is no switch. Where it does not, one finds the leaf of the pair,
 // which tells its bit. The byte inside stands from bit 9 for B, and from bit 1 for A.
 #[test]
-fn a_shown_argument_shows_its_own(rt: HostRuntime) -> Result<(), Fail> {
+fn a_shown_argument_shows_its_own(rt: HostRuntime) -> Result<(), Surprise> {
     let alloc = rt.alloc();
-    let did = call(alloc, "compile E", SHOWN_INSIDE.as_bytes(), &[], &[])?;
-    assert_eq!(rt; did.status, 0);
-    let code = did.out.as_slice();
-    assert_eq!(rt; switch_lines(code), 1);
+    let code = compiled(alloc, SHOWN_INSIDE)?;
+    let code = code.as_slice();
     expect_answer(alloc, "exec E shown 1 64 4 3", code, "0 2055;")?;
     expect_answer(alloc, "exec E main 1 64 9 3", code, "0 2055;")?;
-    expect_answer(alloc, "exec E main 1 64 8 3", code, "0 1544;")?;
-    Ok(())
+    expect_answer(alloc, "exec E main 1 64 8 3", code, "0 1544;")
 }
 
 // A match that names 300 numbers.
