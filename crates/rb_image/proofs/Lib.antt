@@ -43,4 +43,5 @@ pub mod StandLemmas
 pub mod TreeSpans
 pub mod VisitLemmas
 pub mod WalkLemmas
+pub mod WayLemmas
 pub mod WholeMemories

@@ -15,6 +15,7 @@ pub mod Spans
 pub mod Splits
 pub mod Values
 pub mod Visits
+pub mod Walks
 pub mod Ways
 pub mod WordReads
 pub mod inner

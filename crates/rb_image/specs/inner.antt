@@ -5,6 +5,7 @@ pub mod Halving
 pub mod Having
 pub mod Knowing
 pub mod Opening
+pub mod Ordering
 pub mod Reaching
 pub mod Siting
 pub mod Viewing

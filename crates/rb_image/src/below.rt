@@ -78,7 +78,8 @@ impl<'a> Examined<'a> {
     }
 }
 
-fn word_count(layouts: &[Layout], ty: u32) -> usize
+/// How many words a data type has.
+pub(crate) fn word_count(layouts: &[Layout], ty: u32) -> usize
     ensures { result ≡ word_count layouts.now (Named ty) }
 {
     match layouts.get(ty as usize) {

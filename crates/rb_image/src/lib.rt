@@ -60,6 +60,12 @@
 //! span of the type without that of types whose constructors stand inside its leaves. `enter` goes from there to the
 //! sites of a field's words, where no pointer on the way to them was refused.
 //!
+//! `walk_along` goes so from a value along a path of field numbers. Inside a leaf it goes from a constructor to its
+//! field and reads nothing. Where any value of a data type may stand, it enters that value: it finds its sites, visits
+//! it, and goes on from the root of its own leaf. So for `.1.0` of the list above it visits the root word, enters `.1`
+//! and visits the word from byte 8 on, and ends at the `.0` of that leaf. It answers with all that it visited, which is
+//! what may be at fault on the way, and with the position at which it ends. `specs/Walks.antt` says where a path leads.
+//!
 //! `field_sites` goes on from a leaf to the words of an open position below it, and reads nothing for that: it gives
 //! the sites at which they stand, from the sites of the leaf's own words and the addresses of its blocks. Here the
 //! block of `Cons` is at 64, so the one word of `.1` stands in all 64 bits of the word from byte 8 of it on. A word
@@ -97,5 +103,6 @@ pub mod site;
 mod splits;
 pub mod value;
 pub mod visit;
+pub mod walk;
 pub mod ways;
 pub mod word;

@@ -1,0 +1,164 @@
+-- The subvalues along a path, from one that stands at known words of an image on.
+use Rattle.std.specs.Prelude.{◌≡◌, ℕ, ◌+◌, List, [], ◌∷◌, ◌++◌, map, Option, Some, None, Result, Ok, Err, slice_get}
+use Rattle.rb_core.specs.declared.pattern.Pat.{Pat, Wild, out-Pat}
+use Rattle.rb_core.specs.declared.pattern.Pat.TheOpen as P
+use Rattle.rb_core.specs.declared.pattern.Pat.TheOpen.{Pat-F}
+use Rattle.rb_core.specs.declared.types.DataDecl.{DataDecl}
+use Rattle.rb_core.specs.declared.types.Ty.{Ty}
+use Rattle.rb_core.specs.declared.types.Ty.TheVariants.{Int, Named}
+use Rattle.rb_layout.specs.declared.layout.FlatTree.TheVariants as T
+use Rattle.rb_layout.specs.declared.layout.Layout.{Layout}
+use Rattle.rb_layout.specs.declared.layout.Leaf.{Leaf}
+use Rattle.rb_layout.specs.Positions.{layout_of}
+use Rattle.rb_layout.specs.Readable.{IsReadable}
+use Rattle.rb_rel.specs.Relation.{word_count}
+use Rattle.rb_image_text.specs.declared.fault.ImageFault.{ImageFault}
+use Rattle.rb_image_text.specs.declared.fault.ImageFault.TheVariants.{NoSuchPart}
+use Rattle.rb_image_text.specs.declared.image.Image.{Image}
+use Rattle.rb_image_text.specs.declared.image.ImageBlock.{ImageBlock}
+use Rattle.rb_image.specs.declared.kept.Kept.{Kept}
+use Rattle.rb_image.specs.declared.walk.Passed.{Passed}
+use Rattle.rb_image.specs.declared.walk.Walk.{Walk}
+use Rattle.rb_image.specs.FieldSites.{AreNarrow, HasNarrowParts}
+use Rattle.rb_image.specs.Fields.{Position, field_of, position_of}
+use Rattle.rb_image.specs.LeafWords.{HasNumbers, reached}
+use Rattle.rb_image.specs.Orders.{order_of}
+use Rattle.rb_image.specs.Parts.{field_word, field_words}
+use Rattle.rb_image.specs.Sites.{kept_of}
+use Rattle.rb_image.specs.Splits.{and_then, leaf_at, or_fault}
+use Rattle.rb_image.specs.Visits.{own_span}
+use Rattle.rb_image.specs.Ways.{refused_below}
+
+-- a subvalue of a data type that was come to: its type, the words at which it stands, its leaf, and the path inside the leaf
+-- along which one goes on from it
+pub record Seen : Type 0 where
+  pub ty : ℕ
+  pub words : List Kept
+  pub leaf : Leaf
+  pub at : List ℕ
+
+-- how far one has come: the subvalues of data types before, outer ones first, the last of them, and the position in its leaf
+pub record Where : Type 0 where
+  pub before : List Seen
+  pub last : Seen
+  pub here : Position
+
+-- Leaves -------------------------------------------------------------------------------------
+
+-- the layout of a type; declared types have one
+abbrev pub layout_or_none : Option Layout → Layout
+layout_or_none None = record { ty = 0; shape = []; tree = T.Leaf 0; leaves = [] }
+layout_or_none (Some layout) = layout
+
+-- the leaf with a number; that to which splits lead is there
+abbrev pub leaf_or_none : Option Leaf → Leaf
+leaf_or_none None = record { prov = Wild 0; root = []; blocks = [] }
+leaf_or_none (Some leaf) = leaf
+
+abbrev pub data_of : Ty → Option ℕ
+data_of (Int bits) = None
+data_of (Named t) = Some t
+
+-- the data type of a position at which any value of it may stand
+abbrev pub open_in : Pat-F Pat → Option ℕ → Option ℕ
+open_in (P.Wild at) t = t
+open_in (P.Var at x) t = t
+open_in (P.Num at n) t = None
+open_in (P.Con at c ps) t = None
+
+abbrev pub open_data : Position → Option ℕ
+open_data pos = open_in (out-Pat pos.pat) (data_of pos.ty)
+
+-- Steps --------------------------------------------------------------------------------------
+
+abbrev pub unless : Option ImageFault → List Kept → Result (List Kept) ImageFault
+unless None ws = Ok ws
+unless (Some fault) ws = Err fault
+
+abbrev pub arrived : List Seen → Seen → Where
+arrived before s = record { before = before; last = s; here = record { pat = s.leaf.prov; ty = Named s.ty } }
+
+abbrev pub moved : Where → ℕ → Position → Where
+moved w i pos = record { before = w.before; last = record w.last { at = w.last.at ++ i ∷ [] }; here = pos }
+
+-- a number that goes on from what is found
+abbrev pub counted : {A : Type 0} → Result A ImageFault → (A → ℕ) → ℕ
+counted (Err fault) go = 0
+counted (Ok x) go = go x
+
+-- the layout of a type with this number
+abbrev pub layout_at : List Layout → ℕ → Layout
+layout_at layouts t = layout_or_none (layout_of layouts t)
+
+module _ (layouts : List Layout) (m : List ImageBlock) where
+  -- the subvalue of a data type at these words, or the first fault of its splits
+  abbrev pub see : ℕ → List Kept → Result Seen ImageFault
+  see t ws = let layout = layout_at layouts t in
+      and_then (leaf_at layout.tree m ws) (λ n. Ok (record { ty = t; words = ws; leaf = leaf_or_none (slice_get layout.leaves n); at = [] }))
+
+  -- the words of what stands at the path on which one goes on, or the first pointer that is refused on the way
+  abbrev pub words_on : Seen → ℕ → Result (List Kept) ImageFault
+  words_on s t =
+      let ats = reached m s.leaf s.words in
+      unless (refused_below m s.leaf s.words ats s.at (order_of s.leaf))
+      (field_words (field_word m s.words ats (order_of s.leaf)) s.at 0 (word_count layouts (Named t)))
+
+  -- at an open position of a data type one goes on to its own leaf
+  abbrev pub settled : Where → Option ℕ → Result Where ImageFault
+  settled w None = Ok w
+  settled w (Some t) = and_then (words_on w.last t) (λ ws. and_then (see t ws) (λ s. Ok (arrived (w.before ++ w.last ∷ []) s)))
+
+module _ (types : List DataDecl) (layouts : List Layout) (m : List ImageBlock) where
+  -- one comes to field i of the constructor that was found; if there is none, step k of the path names no part
+  abbrev pub step : ℕ → Where → ℕ → Result Where ImageFault
+  step k w i = and_then (or_fault (field_of types w.here.pat i) (NoSuchPart k)) (λ pos. settled layouts m (moved w i pos) (open_data pos))
+
+  -- along the rest of a path, from step k on
+  abbrev pub steps : ℕ → Where → List ℕ → Result Where ImageFault
+  steps k w [] = Ok w
+  steps k w (i ∷ path) = and_then (step k w i) (λ v. steps (k + 1) v path)
+
+  -- where a path leads from the value of a data type at these words, or the first fault on the way
+  abbrev pub walked : ℕ → List Kept → List ℕ → Result Where ImageFault
+  walked t ws path = and_then (see layouts m t ws) (λ s. steps 0 (arrived [] s) path)
+
+-- Spans --------------------------------------------------------------------------------------
+
+-- the splits and the words of a data type to whose leaf one comes
+abbrev pub span_at : List Layout → Option ℕ → ℕ
+span_at layouts None = 0
+span_at layouts (Some t) = own_span (layout_at layouts t)
+
+abbrev pub open_span : List Layout → Option Position → ℕ
+open_span layouts None = 0
+open_span layouts (Some pos) = span_at layouts (open_data pos)
+
+module _ (types : List DataDecl) (layouts : List Layout) (m : List ImageBlock) where
+  abbrev pub steps_span : ℕ → Where → List ℕ → ℕ
+  steps_span k w [] = 0
+  steps_span k w (i ∷ path) =
+      open_span layouts (field_of types w.here.pat i) + counted (step types layouts m k w i) (λ v. steps_span (k + 1) v path)
+
+  -- those of all data types to whose leaves one comes
+  abbrev pub walk_span : ℕ → List Kept → List ℕ → ℕ
+  walk_span t ws path = span_at layouts (Some t) + counted (see layouts m t ws) (λ s. steps_span 0 (arrived [] s) path)
+
+-- What was passed ----------------------------------------------------------------------------
+abbrev pub seen_of : Passed → Seen
+seen_of x = record { ty = x.ty; words = x.visited.words.root.items; leaf = x.visited.leaf.now; at = x.at }
+
+abbrev pub where_of : Walk → Where
+where_of w = record { before = map seen_of w.before.items; last = seen_of w.last; here = position_of w.here }
+
+-- the subvalue stands at these sites, and the words of its leaf were read
+pub record IsPassed (image : Image) (x : Passed) : Type 0 where
+  pub narrow : AreNarrow x.sites.items
+  pub words : map (kept_of image) x.sites.items ≡ x.visited.words.root.items
+  pub readable : IsReadable x.visited.leaf.now
+  pub parts : HasNarrowParts x.visited.leaf.now
+  pub addresses : x.visited.words.addresses.items ≡ reached image.blocks x.visited.leaf.now x.visited.words.root.items
+  pub numbers : HasNumbers image.blocks x.visited.leaf.now x.visited.words
+
+pub record ArePassed (image : Image) (w : Walk) : Type 0 where
+  pub before : (k : ℕ) (x : Passed) → slice_get w.before.items k ≡ Some x → IsPassed image x
+  pub last : IsPassed image w.last
