@@ -8,19 +8,20 @@ use std::test::Fail;
 #[test]
 fn grows(rt: HostRuntime) -> Result<(), Fail> {
     let mut body = Body::new(rt.alloc(), 2);
-    assert_eq!(rt; body.fresh()?, 2);
-    assert_eq!(rt; body.fresh()?, 3);
-    let mut arms = Seq::new(rt.alloc());
-    arms.push(SwitchArm {
-        number: 7,
-        target: 1,
-    })?;
-    arms.push(SwitchArm {
-        number: 8,
-        target: 1,
-    })?;
+    assert!(rt; (body.fresh()?, body.fresh()?) == (2, 3));
+    let arms = [
+        SwitchArm {
+            number: 7,
+            target: 1,
+        },
+        SwitchArm {
+            number: 8,
+            target: 1,
+        },
+    ];
+    let arms = Seq::from_vec(Vec::from_slice(rt.alloc(), &arms)?);
     body.push(Instr::Switch(0, Some(1), arms))?;
-    assert_eq!(rt; body.len(), 1);
+    assert!(rt; body.len() == 1);
     let hole = Hole {
         pc: 0,
         arm: Some(1),
