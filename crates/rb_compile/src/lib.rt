@@ -37,8 +37,8 @@
 //! behind it. Where a match's value is used further, an arm moves it to slots that all arms share, and ends in
 //! an open jump; when all arms stand, the jumps are set to behind the last.
 //!
-//! An arm binds what its body uses: [`used`] leaves out of the pattern the variables that don't stand in the body, and
-//! the constructors that bind nothing then. Within fewer variables the body means the same.
+//! An arm binds what its body uses: [`used`] leaves out of the pattern the variables that don't stand in the body. Its
+//! constructors stay, since they tell which leaves can be here. Within fewer variables the body means the same.
 //!
 //! Before a construction its arguments are compiled, from left to right. An argument that is itself written as a
 //! construction shows its constructor, and what its own arguments show ([`shown`]): what this decides of the leaf of

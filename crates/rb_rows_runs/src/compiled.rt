@@ -2,6 +2,7 @@
 //! hand from the files.
 
 use crate::counts::FOUR;
+use crate::deep::{BY_COLOUR, COLOUR};
 use crate::layouts::SUM;
 use rb_bytes::checked::CheckedMemory;
 use rb_edge::steps::{CountLedger, Steps};
@@ -61,7 +62,7 @@ fn code_texts_run(rt: HostRuntime) -> Result<(), Surprise> {
 // File, the start of a line, and how many lines of the file's code begin so, at least and at most.
 type Lines<'a> = (&'a str, &'a str, usize, usize);
 
-const LINES: [Lines; 17] = [
+const LINES: [Lines; 19] = [
     // an arm whose value is the function's result returns it
     (SUM, "return ", 3, 3),
     (SUM, "copy ", 0, 0),
@@ -80,6 +81,10 @@ const LINES: [Lines; 17] = [
     // a constructor that the file shows is not looked at, and a variable's is, once
     (SHOWN, "switch ", 0, 0),
     (UNSHOWN, "switch ", 1, 1),
+    // one switch tells the match whether the tree is empty, and one more the color where the clause of a node binds it
+    (COLOUR, "switch ", 2, 2),
+    // the match tells all three leaves apart, and a red node's number is where the leaf of red nodes has it
+    (BY_COLOUR, "switch ", 2, 2),
     // a number in a block is loaded where the body uses it, and a tail where it is tested
     (UNUSED, "load ", 0, 0),
     (USED, "load ", 1, 1),
@@ -173,6 +178,48 @@ const BEHIND: &str = "blocks 0;bytes 0;";
 #[test]
 fn a_leaf_decides_a_test(rt: HostRuntime) -> Result<(), Surprise> {
     expect_count_rows(rt.alloc(), "count E 1 64 ", &LEAVES)
+}
+
+// One switch for an empty tree, and one more for a node.
+const TREES: [CountRow; 6] = [
+    (
+        COLOUR,
+        "Node(Red,Empty,7,Empty)",
+        "value Red;calls 1;",
+        2,
+        NODE,
+    ),
+    (
+        COLOUR,
+        "Node(Black,Empty,7,Empty)",
+        "value Black;calls 1;",
+        2,
+        NODE,
+    ),
+    (COLOUR, "Empty", "value Black;calls 1;", 1, BEHIND),
+    (
+        BY_COLOUR,
+        "Node(Red,Empty,7,Empty)",
+        "value 7;calls 1;",
+        2,
+        NODE,
+    ),
+    (
+        BY_COLOUR,
+        "Node(Black,Empty,7,Empty)",
+        "value 2;calls 1;",
+        2,
+        NODE,
+    ),
+    (BY_COLOUR, "Empty", "value 1;calls 1;", 1, BEHIND),
+];
+
+// The block of the argument.
+const NODE: &str = "blocks 1;bytes 12;";
+
+#[test]
+fn leaves_are_told_apart_once(rt: HostRuntime) -> Result<(), Surprise> {
+    expect_count_rows(rt.alloc(), "count E 1 76 ", &TREES)
 }
 
 // Pairs of such a pair and a byte: the bit inside tells the leaf, and has no bits of its own.

@@ -9,8 +9,8 @@ use rb_rows_calls::surprise::Surprise;
 pub const COLOUR: &str =
     "type Color = Red | Black;layout Color <1> = split 0[0:1] { 0 => Red : { word 1 { [0:1] = 0 } } 1 => Black : { word 1 { [0:1] = 1 } } };type Tree = Empty | Node(Color, Tree, u32, Tree);layout Tree <32> = split 0[0:32] { 0 => Empty : { word 32 { [0:32] = 0 } } else => split 0[0:1] { 0 => Node(Red, _, _, _) : { word 32 { [0:1] = 0, [2:22] -> 4 { word 32 { [0:32] .2 }, inline .1, inline .3 } } } 1 => Node(Black, _, _, _) : { word 32 { [0:1] = 1, [2:22] -> 4 { word 32 { [0:32] .2 }, inline .1, inline .3 } } } } };fun main(t: Tree): Color = match t { Empty => Black, Node(c, l, x, r) => c };";
 
-// Clauses by colour.
-const BY_COLOUR: &str =
+/// Clauses by colour.
+pub const BY_COLOUR: &str =
     "type Color = Red | Black;layout Color <1> = split 0[0:1] { 0 => Red : { word 1 { [0:1] = 0 } } 1 => Black : { word 1 { [0:1] = 1 } } };type Tree = Empty | Node(Color, Tree, u32, Tree);layout Tree <32> = split 0[0:32] { 0 => Empty : { word 32 { [0:32] = 0 } } else => split 0[0:1] { 0 => Node(Red, _, _, _) : { word 32 { [0:1] = 0, [2:22] -> 4 { word 32 { [0:32] .2 }, inline .1, inline .3 } } } 1 => Node(Black, _, _, _) : { word 32 { [0:1] = 1, [2:22] -> 4 { word 32 { [0:32] .2 }, inline .1, inline .3 } } } } };fun main(t: Tree): u32 = match t { Node(Red, _, x, _) => x, Empty => 1, Node(Black, _, _, _) => 2 };";
 
 /// A tree as it is.
