@@ -5,7 +5,7 @@
 //! `_`; a digit; the colours R, G and B; L for a leaf and N for a node of a left tree, a colour and a
 //! right tree; P for a pair of a colour and a tree; S for six bits.
 
-ghost use Rattle.std.specs.Prelude.{◌≡◌, ◌<◌, ◌≤◌, ◌∷◌, [], IfOk};
+ghost use Rattle.std.specs.Prelude.{◌≡◌, ◌<◌, ◌≤◌, ◌∷◌, ◌++◌, [], IfOk, OnOk};
 ghost use Rattle.rb_core.specs.declared.types.Ty.TheVariants as Tys;
 ghost use Rattle.rb_rows_patterns.specs.Examples.{color_decl, tree_decl, pair_decl, six_decl, example_types};
 
@@ -19,24 +19,30 @@ use rb_matrix::{
 use std::alloc::{AllocError, Global};
 use std::test::Fail;
 
-fn con(alloc: Global, name: &[u8], fields: &[Ty]) -> Result<Con, AllocError>
-    ensures { IfOk result (λ c. c ≡ record { name = name.now; fields = fields.now }) }
+// Puts a constructor behind those of a type.
+fn add(alloc: Global, cons: &mut Seq<Con>, name: &[u8], fields: &[Ty]) -> Result<(), AllocError>
+    ensures { OnOk result (cons.new ≡ cons.old ++ (record { name = name.now; fields = fields.now } ∷ [])) }
 {
-    Ok(Con {
-        name: Seq::from_vec(Vec::from_slice(alloc, name)?),
-        fields: Seq::from_vec(Vec::from_slice(alloc, fields)?),
-    })
+    let name = Seq::from_vec(Vec::from_slice(alloc, name)?);
+    let fields = Seq::from_vec(Vec::from_slice(alloc, fields)?);
+    cons.push(Con { name, fields })
+}
+
+fn data(alloc: Global, name: &[u8], cons: Seq<Con>) -> Result<DataDecl, AllocError>
+    ensures { IfOk result (λ d. d ≡ record { name = name.now; cons = cons }) }
+{
+    let name = Seq::from_vec(Vec::from_slice(alloc, name)?);
+    Ok(DataDecl { name, cons })
 }
 
 fn color(alloc: Global) -> Result<DataDecl, AllocError>
     ensures { IfOk result (λ d. d ≡ color_decl) }
 {
     let mut cons = Seq::new(alloc);
-    cons.push(con(alloc, b"R", &[])?)?;
-    cons.push(con(alloc, b"G", &[])?)?;
-    cons.push(con(alloc, b"B", &[])?)?;
-    let name = Seq::from_vec(Vec::from_slice(alloc, b"C")?);
-    Ok(DataDecl { name, cons })
+    add(alloc, &mut cons, b"R", &[])?;
+    add(alloc, &mut cons, b"G", &[])?;
+    add(alloc, &mut cons, b"B", &[])?;
+    data(alloc, b"C", cons)
 }
 
 fn tree(alloc: Global) -> Result<DataDecl, AllocError>
@@ -44,31 +50,26 @@ fn tree(alloc: Global) -> Result<DataDecl, AllocError>
 {
     let fields = [Ty::Named(1), Ty::Named(0), Ty::Named(1)];
     let mut cons = Seq::new(alloc);
-    cons.push(con(alloc, b"L", &[])?)?;
-    cons.push(con(alloc, b"N", &fields)?)?;
-    let name = Seq::from_vec(Vec::from_slice(alloc, b"T")?);
-    Ok(DataDecl { name, cons })
+    add(alloc, &mut cons, b"L", &[])?;
+    add(alloc, &mut cons, b"N", &fields)?;
+    data(alloc, b"T", cons)
 }
 
 fn pair(alloc: Global) -> Result<DataDecl, AllocError>
     ensures { IfOk result (λ d. d ≡ pair_decl) }
 {
-    let fields = [Ty::Named(0), Ty::Named(1)];
     let mut cons = Seq::new(alloc);
-    cons.push(con(alloc, b"P", &fields)?)?;
-    let name = Seq::from_vec(Vec::from_slice(alloc, b"P")?);
-    Ok(DataDecl { name, cons })
+    add(alloc, &mut cons, b"P", &[Ty::Named(0), Ty::Named(1)])?;
+    data(alloc, b"P", cons)
 }
 
 fn six(alloc: Global) -> Result<DataDecl, AllocError>
     ensures { IfOk result (λ d. d ≡ six_decl) }
 {
     let bit = Ty::Int(1);
-    let fields = [bit, bit, bit, bit, bit, bit];
     let mut cons = Seq::new(alloc);
-    cons.push(con(alloc, b"S", &fields)?)?;
-    let name = Seq::from_vec(Vec::from_slice(alloc, b"S")?);
-    Ok(DataDecl { name, cons })
+    add(alloc, &mut cons, b"S", &[bit, bit, bit, bit, bit, bit])?;
+    data(alloc, b"S", cons)
 }
 
 // Colours, trees, pairs and six bits are types 0 to 3.
