@@ -80,26 +80,14 @@ fun f(): u8 = match x { Nil ~= 0 };
 fun f(): u8 = ~;
 fun f(): u8 =~";
 
-#[test]
-fn files(rt: HostRuntime) -> Result<(), Fail> {
-    expect_each(&rt, rt.alloc(), FILES)
-}
+const TABLES: &[&str] = &[FILES, FAULTS, TYPES, CONSTRUCTORS, PARAMETERS, EXPRESSIONS];
 
 #[test]
-fn faults(rt: HostRuntime) -> Result<(), Fail> {
-    expect_each(&rt, rt.alloc(), FAULTS)
-}
-
-#[test]
-fn parts_of_items(rt: HostRuntime) -> Result<(), Fail> {
-    expect_each(&rt, rt.alloc(), TYPES)?;
-    expect_each(&rt, rt.alloc(), CONSTRUCTORS)?;
-    expect_each(&rt, rt.alloc(), PARAMETERS)
-}
-
-#[test]
-fn no_expressions(rt: HostRuntime) -> Result<(), Fail> {
-    expect_each(&rt, rt.alloc(), EXPRESSIONS)
+fn each_line(rt: HostRuntime) -> Result<(), Fail> {
+    for rows in TABLES {
+        expect_each(&rt, rt.alloc(), *rows)?;
+    }
+    Ok(())
 }
 
 // The tree of a text.
@@ -121,21 +109,25 @@ fn body(file: &FileTree) -> Option<&ExprTree> {
     }
 }
 
-// The pattern of a match's first clause.
-fn pattern(body: &ExprTree) -> Option<&PatTree> {
-    match body {
+// The pattern of the first clause, where that body is a match.
+fn pattern(file: &FileTree) -> Option<&PatTree> {
+    match body(file)? {
         ExprTree::Match(_, _, clauses) => Some(&clauses.get(0)?.pat),
         _ => None,
     }
 }
 
 #[test]
-fn trees(rt: HostRuntime) -> Result<(), Fail> {
+fn a_comparison(rt: HostRuntime) -> Result<(), Fail> {
     let file = tree(rt.alloc(), b"fun f(): u8 = lt(x, 3);")?;
     assert!(rt; matches!(body(&file), Some(ExprTree::Binary(7, Op::Lt, _, _))));
+    Ok(())
+}
+
+#[test]
+fn a_match(rt: HostRuntime) -> Result<(), Fail> {
     let file = tree(rt.alloc(), b"fun f(): u8 = match x { Some(_) => 0 };")?;
-    let found = body(&file).and_then(|body| pattern(body));
-    assert!(rt; matches!(found, Some(PatTree::Con(10, _, _))));
+    assert!(rt; matches!(pattern(&file), Some(PatTree::Con(10, _, _))));
     Ok(())
 }
 

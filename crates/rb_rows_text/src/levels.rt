@@ -175,21 +175,21 @@ const POINTERS: &[(usize, &str)] = &[
 // Texts that stop, below so many conversions.
 const STOPPED: &[(usize, &str)] = &[(128, "~"), (126, "match x { ~"), (126, "match x { Cons(~")];
 
-#[test]
-fn of_expressions(rt: HostRuntime) -> Result<(), Fail> {
-    expect_framed(&rt, rt.alloc(), &EXPRESSION, EXPRESSIONS)?;
-    expect_framed(&rt, rt.alloc(), &EXPRESSION, DEEP)?;
-    expect_framed(&rt, rt.alloc(), &EXPRESSION, PATTERNS)
-}
+// Frames, and the rows in each.
+const FRAMED: &[(Frame, &[(usize, &str)])] = &[
+    (EXPRESSION, EXPRESSIONS),
+    (EXPRESSION, DEEP),
+    (EXPRESSION, PATTERNS),
+    (PROVENANCE, PROVENANCES),
+    (TREE, TREES),
+    (POINTER, POINTERS),
+    (CUT_SHORT, STOPPED),
+];
 
 #[test]
-fn of_layouts(rt: HostRuntime) -> Result<(), Fail> {
-    expect_framed(&rt, rt.alloc(), &PROVENANCE, PROVENANCES)?;
-    expect_framed(&rt, rt.alloc(), &TREE, TREES)?;
-    expect_framed(&rt, rt.alloc(), &POINTER, POINTERS)
-}
-
-#[test]
-fn of_texts_cut_short(rt: HostRuntime) -> Result<(), Fail> {
-    expect_framed(&rt, rt.alloc(), &CUT_SHORT, STOPPED)
+fn each_row(rt: HostRuntime) -> Result<(), Fail> {
+    for (frame, rows) in FRAMED {
+        expect_framed(&rt, rt.alloc(), frame, *rows)?;
+    }
+    Ok(())
 }

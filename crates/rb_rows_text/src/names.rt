@@ -18,7 +18,9 @@ enum Found {
     Twice(usize),
     Unknown(usize),
     NoMain,
-    // A program, want of memory, or another name than the one at its place.
+    // A program, whose first function's body has two operands, which are these variables.
+    Operands(u32, u32),
+    // Another program, want of memory, or another name than the one at its place.
     Other,
 }
 
@@ -42,16 +44,36 @@ fn found_of(text: &[u8], placed: &[Placed], fault: &NameFault) -> Option<Found> 
     }
 }
 
+// The variable that an expression is, or a binding's body.
+fn var_of(expr: &Expr) -> Option<u32> {
+    match expr {
+        Expr::Var(_, var) => Some(*var),
+        Expr::Let(_, _, _, _, body) => match body.get() {
+            Expr::Var(_, var) => Some(*var),
+            _ => None,
+        },
+        _ => None,
+    }
+}
+
+fn operands_of(program: &Program) -> Option<Found> {
+    match &program.funs.get(0)?.body {
+        Expr::Binary(_, _, a, b) => Some(Found::Operands(var_of(a.get())?, var_of(b.get())?)),
+        _ => None,
+    }
+}
+
 fn outcome(alloc: Global, text: &[u8]) -> Result<Found, Fail> {
     let placed = lex(alloc, text)?;
     if placed.len() >= 1 << 32 {
         return Ok(Found::Other);
     }
     let file = read_file(alloc, placed.as_slice())?;
-    match resolve(alloc, &file) {
-        Ok(_) => Ok(Found::Other),
-        Err(fault) => Ok(found_of(text, placed.as_slice(), &fault).unwrap_or(Found::Other)),
-    }
+    let found = match resolve(alloc, &file) {
+        Ok(program) => operands_of(&program),
+        Err(fault) => found_of(text, placed.as_slice(), &fault),
+    };
+    Ok(found.unwrap_or(Found::Other))
 }
 
 // A row without its mark, and the answer that the mark gives.
@@ -68,6 +90,12 @@ fn unmarked(alloc: Global, row: &str) -> Result<(Vec<u8>, Found), AllocError> {
     Ok((text, wanted))
 }
 
+// Whether a row without its mark has the answer that its mark gives.
+fn is_due(alloc: Global, row: &str) -> Result<bool, Fail> {
+    let (text, wanted) = unmarked(alloc, row)?;
+    Ok(outcome(alloc, text.as_slice())? == wanted)
+}
+
 const ROWS: &str = "
 fun f(): u8 = 0;
 fun main(): u8 = y; fun ~main(): u8 = 0;
@@ -79,47 +107,14 @@ layout !T <8> = A : { word 8 { } }; layout T <8> = A : { word 8 { } };";
 #[test]
 fn faults(rt: HostRuntime) -> Result<(), Fail> {
     for row in ROWS.split('\n') {
-        let (text, wanted) = unmarked(rt.alloc(), row)?;
-        let found = outcome(rt.alloc(), text.as_slice())?;
-        assert!(rt; found == wanted, "{row}");
+        assert!(rt; is_due(rt.alloc(), row)?, "{row}");
     }
     Ok(())
-}
-
-// The variable that an expression is, or a binding's body.
-fn var_of(expr: &Expr) -> Option<u32> {
-    match expr {
-        Expr::Var(_, var) => Some(*var),
-        Expr::Let(_, _, _, _, body) => match body.get() {
-            Expr::Var(_, var) => Some(*var),
-            _ => None,
-        },
-        _ => None,
-    }
-}
-
-// The variables of the two operands of the first function's body.
-fn vars_of(program: &Program) -> Option<(u32, u32)> {
-    match &program.funs.get(0)?.body {
-        Expr::Binary(_, _, a, b) => Some((var_of(a.get())?, var_of(b.get())?)),
-        _ => None,
-    }
-}
-
-// The program of a text of 24 tokens.
-fn program(alloc: Global, text: &[u8]) -> Result<Option<Program>, Fail> {
-    let placed = lex(alloc, text)?;
-    if placed.len() != 24 {
-        return Ok(None);
-    }
-    let file = read_file(alloc, placed.as_slice())?;
-    Ok(Some(resolve(alloc, &file)?))
 }
 
 #[test]
 fn an_inner_variable_hides_an_outer_one(rt: HostRuntime) -> Result<(), Fail> {
     let text = b"fun main(x: u8): u8 = add(let x: u8 = 1 in x, x);";
-    let found = program(rt.alloc(), text)?;
-    assert!(rt; found.as_ref().and_then(|program| vars_of(program)) == Some((1, 0)));
+    assert!(rt; outcome(rt.alloc(), text)? == Found::Operands(1, 0));
     Ok(())
 }

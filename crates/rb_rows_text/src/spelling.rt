@@ -92,17 +92,13 @@ fn pointer(alloc: Global) -> Result<PartKind, AllocError> {
 
 // A word with a part of each kind.
 fn word(alloc: Global) -> Result<LayItem, AllocError> {
-    let slice = PartKind::Slice(path(alloc, &[3])?, 10, 1);
-    let whole = PartKind::Whole(path(alloc, &[0, 1])?);
-    let word = PartKind::Word(path(alloc, &[2])?, 1);
-    let parts = [
-        part(0, 7, PartKind::Const(9)),
-        part(7, 1, slice),
-        part(8, 4, whole),
-        part(12, 3, word),
-        part(15, 5, pointer(alloc)?),
-    ];
-    Ok(LayItem::Word(32, seq(alloc, parts)?))
+    let mut parts = Seq::new(alloc);
+    parts.push(part(0, 7, PartKind::Const(9)))?;
+    parts.push(part(7, 1, PartKind::Slice(path(alloc, &[3])?, 10, 1)))?;
+    parts.push(part(8, 4, PartKind::Whole(path(alloc, &[0, 1])?)))?;
+    parts.push(part(12, 3, PartKind::Word(path(alloc, &[2])?, 1)))?;
+    parts.push(part(15, 5, pointer(alloc)?))?;
+    Ok(LayItem::Word(32, parts))
 }
 
 fn part(o: u64, l: u64, kind: PartKind) -> PartDecl {
@@ -180,10 +176,11 @@ fn declared(alloc: Global) -> Result<TypeTree, AllocError> {
 }
 
 fn items(alloc: Global) -> Result<Seq<ItemTree>, AllocError> {
-    let types = ItemTree::Types(declared(alloc)?);
-    let layouts = ItemTree::Layouts(layout(alloc)?);
-    let derived = ItemTree::Derived(name(alloc, 0, b"T")?, Auto::Packed);
-    seq(alloc, [types, layouts, derived])
+    let mut items = Seq::new(alloc);
+    items.push(ItemTree::Types(declared(alloc)?))?;
+    items.push(ItemTree::Layouts(layout(alloc)?))?;
+    items.push(ItemTree::Derived(name(alloc, 0, b"T")?, Auto::Packed))?;
+    Ok(items)
 }
 
 #[test]
