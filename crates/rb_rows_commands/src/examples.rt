@@ -4,8 +4,9 @@
 use rb_rows_calls::rows::{ImageRow, expect_held};
 use rb_rows_calls::surprise::Surprise;
 
-// Words, file, image (none where no image is read) and answer; in an answer each `;` ends a line.
-const EXAMPLES: [ImageRow; 32] = [
+// Words, file, image (none where no image is read) and answer; in an answer each `;` ends a line. A table has four examples,
+// since what a table costs to prove grows faster than it.
+const FROM_ASSEMBLED: [ImageRow; 4] = [
     // assembled
     (
         "image E 1 64 Branch(0,1,2,4)",
@@ -34,6 +35,14 @@ const EXAMPLES: [ImageRow; 32] = [
         "",
         "0 root 0x11170;block 64 10 01007011010000000000;",
     ),
+];
+
+#[test]
+fn from_assembled(rt: HostRuntime) -> Result<(), Surprise> {
+    expect_held(rt.alloc(), &FROM_ASSEMBLED)
+}
+
+const FROM_CYCLE: [ImageRow; 4] = [
     // cycle
     (
         "value E I",
@@ -62,6 +71,14 @@ const EXAMPLES: [ImageRow; 32] = [
         "",
         "0 root 0x209463 0x70c0206f;",
     ),
+];
+
+#[test]
+fn from_cycle(rt: HostRuntime) -> Result<(), Surprise> {
+    expect_held(rt.alloc(), &FROM_CYCLE)
+}
+
+const FROM_FATPOINTER: [ImageRow; 4] = [
     // fatpointer
     (
         "image E 2 80 Rectangle(3,4)",
@@ -90,6 +107,14 @@ const EXAMPLES: [ImageRow; 32] = [
         "",
         "0 root 0x40;block 64 4 45b90073;",
     ),
+];
+
+#[test]
+fn from_fatpointer(rt: HostRuntime) -> Result<(), Surprise> {
+    expect_held(rt.alloc(), &FROM_FATPOINTER)
+}
+
+const FROM_LIST: [ImageRow; 4] = [
     // list
     (
         "run E 4 96 Cons(1,Cons(2,Nil))",
@@ -118,6 +143,14 @@ const EXAMPLES: [ImageRow; 32] = [
         "",
         "0 root 0x58;block 64 24 000800000000000011000000000000000100000000000000;block 88 24 00080000000000000f000000000000004000000000000000;",
     ),
+];
+
+#[test]
+fn from_list(rt: HostRuntime) -> Result<(), Surprise> {
+    expect_held(rt.alloc(), &FROM_LIST)
+}
+
+const FROM_PICK: [ImageRow; 4] = [
     // pick
     (
         "exec E pick 1 64 5",
@@ -146,6 +179,14 @@ const EXAMPLES: [ImageRow; 32] = [
         "",
         "0 8188;",
     ),
+];
+
+#[test]
+fn from_pick(rt: HostRuntime) -> Result<(), Surprise> {
+    expect_held(rt.alloc(), &FROM_PICK)
+}
+
+const FROM_RISCVI: [ImageRow; 4] = [
     // riscvi
     (
         "image E 1 64 Load(10,2,8)",
@@ -174,6 +215,14 @@ const EXAMPLES: [ImageRow; 32] = [
         "",
         "1 ribbit: syntax at byte 21;",
     ),
+];
+
+#[test]
+fn from_riscvi(rt: HostRuntime) -> Result<(), Surprise> {
+    expect_held(rt.alloc(), &FROM_RISCVI)
+}
+
+const FROM_SHADOW: [ImageRow; 4] = [
     // shadow
     (
         "check E",
@@ -202,6 +251,14 @@ const EXAMPLES: [ImageRow; 32] = [
         "",
         "0 65 1 7;",
     ),
+];
+
+#[test]
+fn from_shadow(rt: HostRuntime) -> Result<(), Surprise> {
+    expect_held(rt.alloc(), &FROM_SHADOW)
+}
+
+const FROM_SUM: [ImageRow; 4] = [
     // sum
     (
         "exec E sum 101 64 100",
@@ -233,6 +290,6 @@ const EXAMPLES: [ImageRow; 32] = [
 ];
 
 #[test]
-fn examples_answer_as_they_say(rt: HostRuntime) -> Result<(), Surprise> {
-    expect_held(rt.alloc(), &EXAMPLES)
+fn from_sum(rt: HostRuntime) -> Result<(), Surprise> {
+    expect_held(rt.alloc(), &FROM_SUM)
 }
