@@ -38,6 +38,7 @@ use Rattle.rb_rel.proofs.Lists.{get-mapped}
 use Rattle.rb_rel.proofs.Widths.{positions_typed}
 use Rattle.rb_image_text.specs.declared.image.ImageBlock.{ImageBlock}
 use Rattle.rb_image.specs.declared.kept.Kept.{Kept}
+use Rattle.rb_image.specs.Integers.{bit_in, field_bit, numbered}
 use Rattle.rb_image.specs.Orders.{PartAt, order_of}
 use Rattle.rb_image.specs.Parts.{bits_at, field_word, field_words, holds}
 use Rattle.rb_image.proofs.ExaminedParts.{FineKind, IsFine}
@@ -47,11 +48,6 @@ use Rattle.rb_image.proofs.PlacedSpots.{spot_of, order_spots, part_in_order}
 use Rattle.rb_image.proofs.SpotLemmas.{In}
 
 -- Numbers by bits ----------------------------------------------------------------------------
--- the number of n bits that are these
-abbrev pub numbered : ℕ → (ℕ → ℕ) → ℕ
-numbered zero f = 0
-numbered (suc n) f = f 0 + 2 * numbered n (λ i. f (suc i))
-
 pub numbered_fits : (n : ℕ) (f : ℕ → ℕ) → ((i : ℕ) → f i < 2) → numbered n f < 2 ^ n
 numbered_fits zero f small = let z : 2 ^ 0 ≡ 1 = refl in omega (arith, z)
 numbered_fits (suc n) f small =
@@ -90,17 +86,6 @@ module _ (word : List ℕ → ℕ → Kept) (path : List ℕ) where
       get_or_from_slice_get (numbers (field_words word path 0 n)) j (word path j).number 0 (get-mapped (λ (w : Kept). w.number) (field_words word path 0 n) j (word path j) at)
 
 -- The first part that holds a unit -----------------------------------------------------------
-abbrev pub bit_in : ℕ → ℕ → Kind → ℕ
-bit_in v i (Const c) = 0
-bit_in v i (Bits path a) = bit_at v (i - a)
-bit_in v i (Word path j) = 0
-bit_in v i (Pointer align b) = 0
-
--- the bit of an integer that is held in parts of these numbers
-abbrev pub field_bit : (PartAt → ℕ) → Ty → List PartAt → List ℕ → ℕ → ℕ
-field_bit value ty [] path i = 0
-field_bit value ty (s ∷ ss) path i = if holds_unit ty path i s.part.l s.part.kind then bit_in (value s) i s.part.kind else field_bit value ty ss path i
-
 bit_small : (v i : ℕ) (kind : Kind) → bit_in v i kind < 2
 bit_small v i (Const c) = omega arith
 bit_small v i (Bits path a) = omega arith

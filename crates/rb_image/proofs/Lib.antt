@@ -18,6 +18,7 @@ pub mod FilledProvenances
 pub mod FoundWords
 pub mod GatheredFields
 pub mod HeldOnce
+pub mod IntegerLemmas
 pub mod KeepLemmas
 pub mod KnownLemmas
 pub mod LeafLemmas

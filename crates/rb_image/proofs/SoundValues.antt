@@ -45,6 +45,7 @@ use Rattle.rb_image_text.specs.declared.image.ImageBlock.{ImageBlock}
 use Rattle.rb_image.specs.declared.kept.Kept.{Kept}
 use Rattle.rb_image.specs.Blocks.{size_at}
 use Rattle.rb_image.specs.Falling.{AreKept, Descends, Falls, PointersFall, base_in, built, number}
+use Rattle.rb_image.specs.Integers.{field_bit, numbered}
 use Rattle.rb_image.specs.Orders.{PartAt, order_of}
 use Rattle.rb_image.specs.Parts.{At, addresses_of, bits_at, block_size, field_word, field_words, kept_at, look, look_layout, look_leaf, place_at, places_of}
 use Rattle.rb_image.specs.Sound.{IsSound, sound}
@@ -55,7 +56,7 @@ use Rattle.rb_image.proofs.ExaminedParts.{FineKind, IsFine, all_fine, then_ok}
 use Rattle.rb_image.proofs.FallLemmas.{same_Ok}
 use Rattle.rb_image.proofs.FilledProvenances.{Filled, fill, own_leaf}
 use Rattle.rb_image.proofs.FoundWords.{found_word, numbers}
-use Rattle.rb_image.proofs.GatheredFields.{bits_value, field_bit, field_bit_small, low, named_small, numbered, numbered_fits, part_holds, subs, subs_at, word_fits, word_held, word_is, words_at, words_long}
+use Rattle.rb_image.proofs.GatheredFields.{bits_value, field_bit_small, low, named_small, numbered_fits, part_holds, subs, subs_at, word_fits, word_held, word_is, words_at, words_long}
 use Rattle.rb_image.proofs.LeafNumbers.{leaf_there}
 use Rattle.rb_image.proofs.PlacedSpots.{order_led, order_spots, part_in_order, spot_of}
 use Rattle.rb_image.proofs.PointerLemmas.{IsPointedOnce, flat_once}

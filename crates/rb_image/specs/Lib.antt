@@ -3,6 +3,7 @@ pub mod Falling
 pub mod FieldSites
 pub mod Fields
 pub mod Given
+pub mod Integers
 pub mod LeafWords
 pub mod Memories
 pub mod Orders

@@ -65,6 +65,7 @@
 //! it, and goes on from the root of its own leaf. So for `.1.0` of the list above it visits the root word, enters `.1`
 //! and visits the word from byte 8 on, and ends at the `.0` of that leaf. It answers with all that it visited, which is
 //! what may be at fault on the way, and with the position at which it ends. `specs/Walks.antt` says where a path leads.
+//! The integer at such a position `integer_at` gathers from the parts of the leaf that hold ranges of it.
 //!
 //! `field_sites` goes on from a leaf to the words of an open position below it, and reads nothing for that: it gives
 //! the sites at which they stand, from the sites of the leaf's own words and the addresses of its blocks. Here the
@@ -89,6 +90,7 @@ mod descent;
 pub mod examine;
 pub mod fields;
 pub mod inside;
+pub mod integers;
 pub mod kept;
 mod known;
 pub mod laws;

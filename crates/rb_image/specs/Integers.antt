@@ -1,0 +1,38 @@
+-- The integers of a leaf, bit by bit.
+use Rattle.std.specs.Prelude.{ℕ, zero, suc, ◌+◌, ◌-◌, ◌*◌, List, [], ◌∷◌, if◌then◌else◌}
+use Rattle.std.specs.Int.{bit_at}
+use Rattle.rb_core.specs.declared.types.Ty.{Ty}
+use Rattle.rb_core.specs.declared.types.Ty.TheVariants.{Int}
+use Rattle.rb_layout.specs.A6.{holds_unit}
+use Rattle.rb_layout.specs.declared.layout.Kind.{Kind}
+use Rattle.rb_layout.specs.declared.layout.Kind.TheVariants.{Const, Bits, Word, Pointer}
+use Rattle.rb_layout.specs.declared.layout.Leaf.{Leaf}
+use Rattle.rb_image_text.specs.declared.image.ImageBlock.{ImageBlock}
+use Rattle.rb_image.specs.declared.leaf_words.LeafWords.{LeafWords}
+use Rattle.rb_image.specs.Orders.{PartAt, order_of}
+use Rattle.rb_image.specs.Parts.{bits_at}
+
+-- the number of n bits that are these
+abbrev pub numbered : ℕ → (ℕ → ℕ) → ℕ
+numbered zero f = 0
+numbered (suc n) f = f 0 + 2 * numbered n (λ i. f (suc i))
+
+-- bit i of an integer in the number of a part that holds it
+abbrev pub bit_in : ℕ → ℕ → Kind → ℕ
+bit_in v i (Const c) = 0
+bit_in v i (Bits path a) = bit_at v (i - a)
+bit_in v i (Word path j) = 0
+bit_in v i (Pointer align b) = 0
+
+-- bit i of the integer at a path: that of the first part which holds it, where parts have these numbers
+abbrev pub field_bit : (PartAt → ℕ) → Ty → List PartAt → List ℕ → ℕ → ℕ
+field_bit value ty [] path i = 0
+field_bit value ty (s ∷ ss) path i = if holds_unit ty path i s.part.l s.part.kind then bit_in (value s) i s.part.kind else field_bit value ty ss path i
+
+-- the number in a part's bits
+abbrev pub value_in : List ImageBlock → LeafWords → PartAt → ℕ
+value_in m words s = (bits_at m words.root.items words.addresses.items s).number
+
+-- the integer of so many bits at a path of a leaf
+abbrev pub integer_at : List ImageBlock → Leaf → LeafWords → List ℕ → ℕ → ℕ
+integer_at m leaf words path bits = numbered bits (field_bit (value_in m words) (Int bits) (order_of leaf) path)

@@ -1,0 +1,124 @@
+//! Integers at the open positions of a leaf.
+
+ghost use Rattle.std.specs.Prelude.{◌≡◌, ℕ, ◌+◌, ◌-◌, ◌&&◌, ◌≤◌, IfOk, leb, ltb};
+ghost use Rattle.rb_core.specs.declared.types.Ty.TheVariants.{Int};
+ghost use Rattle.rb_layout.specs.A6.{holds_unit};
+ghost use Rattle.rb_layout.specs.Flattening.{same_path};
+ghost use Rattle.rb_layout.specs.Readable.{IsReadable};
+ghost use Rattle.rb_image.specs.Integers as spec;
+ghost use Rattle.rb_image.specs.Integers.{field_bit, value_in};
+ghost use Rattle.rb_image.specs.LeafWords.{HasNumbers};
+ghost use Rattle.rb_image.specs.Orders.{order_of};
+ghost use Rattle.rb_image.specs.inner.Viewing.{spots_of};
+ghost use Rattle.rb_image_text.specs.Places.{AreInPlace};
+
+use crate::bits::take_from;
+use crate::leaf_words::LeafWords;
+use crate::order::{Spot, order_of};
+use rb_image_text::image::Image;
+use rb_layout::layout::{Kind, Leaf};
+use std::alloc::{AllocError, Global};
+
+/// A leaf of an image's value, with the words that were read of it and its parts in their order.
+#[derive(Clone, Copy, Drop)]
+struct Gathered<'a> {
+    image: &'a Image,
+    leaf: &'a Leaf,
+    words: &'a LeafWords,
+    order: &'a [Spot<'a>],
+}
+
+fn less(a: u64, b: u64) -> u64
+    ensures { result ≡ a - b }
+{
+    if b <= a { a - b } else { 0 }
+}
+
+// Whether `l` bits of the integer at a path, from bit `a` on, have a bit of this number in them.
+fn has_bit(own: &[u32], path: &[u32], a: u64, l: u64, i: u64) -> bool
+    ensures { result ≡ (same_path own.now path.now && (leb a i && ltb i (a + l))) }
+{
+    if own != path {
+        return false;
+    }
+    if i < a {
+        return false;
+    }
+    i - a < l
+}
+
+// Whether a part of `l` bits holds a bit of the integer at a path.
+fn holds_bit(kind: &Kind, path: &[u32], i: u64, l: u64) -> bool
+    ensures { (bits : ℕ) → result ≡ holds_unit (Int bits) path.now i l kind.now }
+{
+    match kind {
+        Kind::Const(_) => false,
+        Kind::Bits(own, a) => has_bit(own.as_slice(), path, *a, l, i),
+        Kind::Word(_, _) => false,
+        Kind::Pointer(_, _) => false,
+    }
+}
+
+// The bit of an integer in the number of a part that holds it.
+fn bit_in(number: u64, i: u64, kind: &Kind) -> u64
+    ensures { result ≡ spec.bit_in number i kind.now }
+{
+    match kind {
+        Kind::Const(_) => 0,
+        Kind::Bits(_, a) => take_from(number, less(i, *a), 1),
+        Kind::Word(_, _) => 0,
+        Kind::Pointer(_, _) => 0,
+    }
+}
+
+impl<'a> Gathered<'a> {
+    // A bit of the integer at a path.
+    fn bit(&self, path: &[u32], i: u64) -> u64
+        requires placed { AreInPlace self.now.image.now.blocks }
+        requires numbers { HasNumbers self.now.image.now.blocks self.now.leaf.now self.now.words.now }
+        requires order { spots_of self.now.order.now ≡ order_of self.now.leaf.now }
+        ensures { (bits : ℕ) → result ≡ field_bit (value_in self.now.image.now.blocks self.now.words.now) (Int bits)
+            (spots_of self.now.order.now) path.now i }
+    {
+        for spot in self.order {
+            if holds_bit(&spot.part.kind, path, i, spot.part.l) {
+                return bit_in(self.words.bits(spot).number, i, &spot.part.kind);
+            }
+        }
+        0
+    }
+}
+
+/// The integer of `bits` bits at an open position of a leaf, the words of which were read: each part that holds a range
+/// of it has that range. Nothing is read.
+///
+/// # Errors
+///
+/// Want of memory.
+pub fn integer_at(
+    alloc: Global,
+    image: &Image,
+    leaf: &Leaf,
+    words: &LeafWords,
+    path: &[u32],
+    bits: u64,
+) -> Result<u64, AllocError>
+    requires placed { AreInPlace image.now.blocks }
+    requires readable { IsReadable leaf.now }
+    requires numbers { HasNumbers image.now.blocks leaf.now words.now }
+    requires narrow { bits ≤ 64 }
+    ensures { IfOk result (λ number. number ≡ spec.integer_at image.now.blocks leaf.now words.now path.now bits) }
+{
+    let spots = order_of(alloc, leaf)?;
+    let gathered = Gathered {
+        image,
+        leaf,
+        words,
+        order: spots.as_slice(),
+    };
+    let mut number = 0;
+    for done in 0..bits {
+        number = number * 2 + gathered.bit(path, bits - 1 - done);
+    }
+    Ok(number)
+}
