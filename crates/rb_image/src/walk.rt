@@ -191,10 +191,10 @@ fn step<'a, L: Ledger>(
     }
 }
 
-/// Where a path of field numbers leads from the value of a data type that stands at these sites: the subvalues of data
-/// types to whose leaves it comes, and the position at its end. Where any value of a data type may stand at a position,
-/// the walk goes on to that value's own leaf, also at the end. Each word is read by `read_word` alone; of each data type
-/// to which one comes no more of them than its splits and words are.
+/// Where a path of field numbers leads from the value of a data type that stands at these sites: the subvalues of
+/// data types to whose leaves it comes, and the position at its end. Where any value of a data type may stand at a
+/// position, the walk goes on to that value's own leaf, also at the end. Each word is read by `read_word` alone; of
+/// each data type to which one comes no more of them than its splits and words are.
 ///
 /// # Errors
 ///
