@@ -19,7 +19,7 @@ use rb_image_text::image::Image;
 use rb_layout::layout::{Kind, Leaf};
 use std::alloc::{AllocError, Global};
 
-/// A leaf of an image's value, with the words that were read of it and its parts in their order.
+// A leaf of an image's value, with the words that were read of it and its parts in their order.
 #[derive(Clone, Copy, Drop)]
 struct Gathered<'a> {
     image: &'a Image,

@@ -25,6 +25,7 @@ impl Model for Known {
 }
 
 impl Known {
+    /// No place.
     pub fn new(alloc: Global) -> Self
         ensures { result ≡ [] }
     {
@@ -33,12 +34,18 @@ impl Known {
         }
     }
 
+    /// Whether the place is one of them.
     pub fn has(&self, place: &Place) -> bool
         ensures { result ≡ is_among self.now (at_of place.now) }
     {
         self.places.contains(place)
     }
 
+    /// With one more, if it is new.
+    ///
+    /// # Errors
+    ///
+    /// Want of memory.
     pub fn add(&mut self, place: Place) -> Result<(), AllocError>
         ensures { OnOk result (self.new ≡ with_place self.old (at_of place)) }
     {

@@ -9,20 +9,23 @@ use rb_core::decimal::digits;
 use rb_target::fault::CodeFault;
 use std::alloc::{AllocError, Global};
 
+/// The line of a file that is not read.
 pub const READ_FAULT: &[u8] = b"ribbit: read fault\n";
 
+/// The line of a write that failed.
 pub const WRITE_FAULT: &[u8] = b"ribbit: write fault\n";
 
+/// The line where memory ran out. It takes none to be written.
 pub const NO_MEMORY: &[u8] = b"ribbit: no memory\n";
 
-/// The numbers of traps.
+// The numbers of traps.
 const ASTRAY: u64 = 30;
 
 const UNWRITTEN: u64 = 31;
 
 const UNMATCHED: u64 = 32;
 
-/// The numbers of codes that are refused.
+// The numbers of codes that are refused.
 const CODE_SYNTAX: u64 = 20;
 
 const BAD_SLOT: u64 = 21;

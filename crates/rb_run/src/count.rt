@@ -23,7 +23,7 @@ use rb_target::outcome::{End, Ran};
 use rb_values::forest::Forest;
 use std::alloc::{AllocError, Global};
 
-/// The first address of a region.
+// The first address of a region.
 const FIRST_ADDRESS: u64 = 64;
 
 /// What a run did.
