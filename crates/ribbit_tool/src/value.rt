@@ -65,7 +65,8 @@ fn value_of_main(alloc: Global, agreed: &Agreed, image: &Image) -> Result<Vec<u8
     requires placed { AreInPlace image.now.blocks }
     requires sized { AreBlocks image.now.blocks }
     ensures text { IfOk result (λ text. ReadsBack agreed.now.covered.program
-        (result_type agreed.now.covered.program.funs agreed.now.covered.program.main) image.now (printed text.items 0)) }
+        (result_type agreed.now.covered.program.funs agreed.now.covered.program.main) image.now
+        (printed text.items 0)) }
     ensures refused { IfErr result (IsRefusal (ReadsBack agreed.now.covered.program
         (result_type agreed.now.covered.program.funs agreed.now.covered.program.main) image.now)) }
 {
