@@ -5,7 +5,7 @@ use Rattle.std.proofs.lemmas.Option.{same_Some}
 use Rattle.rb_core.specs.declared.types.Ty.TheVariants.{Named}
 use Rattle.rb_core.specs.TypedPrograms.{IsTyped}
 use Rattle.rb_target.specs.declared.body.Hole.{Hole}
-use Rattle.rb_bytes.specs.Memory.{IsGood}
+use Rattle.rb_bytes.specs.Memory.{IsGood, Memory}
 use Rattle.rb_target.specs.Meaning.{World, slots_at}
 use Rattle.rb_target.specs.Sheet.{Sheet}
 use Rattle.rb_layout.specs.declared.agreed.LaidOut.{LaidOut}
@@ -26,11 +26,27 @@ use Rattle.rb_fragment.specs.Pieces.{Branches}
 use Rattle.rb_fragment.specs.WordReads.{AllFit}
 use Rattle.rb_fragment.proofs.MakingAll.{slots_fit, slots_meant}
 use Rattle.rb_fragment.proofs.Adding.{Adds-refl}
-use Rattle.rb_fetch.specs.Finding.{HasGroupMeant, FindsGroup, FindsGroupOf}
+use Rattle.rb_fragment.proofs.Pieces.{branches_weaken}
+use Rattle.rb_fetch.specs.Finding.{HasGroupMeant, FindsGroup, FindsGroupOf, group_depth, group_depth_in}
 use Rattle.rb_fetch.specs.Pruning.{AreBelow, pruned_of, walk_in, nesting_in}
 use Rattle.rb_fetch.specs.inner.Looking.{TreeFits, Looks}
 use Rattle.rb_fetch.proofs.Finding.{are_holes, nothing, of_plan, tree_fits}
 use Rattle.rb_fetch.proofs.Pruning.{pruned_prunes, pruned_fits, pruned_below}
+
+-- what finds a group does no more switches than what finds a leaf
+pub group_depth_less : (layouts : List Layout) (t : ℕ) (groups : List (Option ℕ)) → group_depth layouts t groups ≤ depth_of layouts (Named t)
+group_depth_less layouts t groups = go (layout_of layouts t)
+  where
+    go : (o : Option Layout) → group_depth_in groups o ≤ depth_in o
+    go None = omega arith
+    go (Some layout) = (pruned_prunes groups layout.tree).nests
+
+pub found_by_depth : (plan : Plan) (t : ℕ) (groups : List (Option ℕ)) (old new : Sheet) (holes : List Hole) (Pre : ℕ → List ℕ → Memory → Type 0)
+    → Branches plan old.slots old new holes (group_depth plan.layouts t groups) Pre (λ g s m. Unit {0})
+    → Branches plan old.slots old new holes (depth_of plan.layouts (Named t)) Pre (λ g s m. Unit {0})
+found_by_depth plan t groups old new holes Pre =
+    branches_weaken plan old.slots old.slots old new holes (group_depth plan.layouts t groups) (depth_of plan.layouts (Named t)) Pre Pre (λ g s m. Unit {0}) (λ g s m. Unit {0})
+    (omega arith) (group_depth_less plan.layouts t groups) (λ g s m h. h) (λ g s m h. h)
 
 module _ (plan : Plan) (typed : IsTyped plan.program) (agreed : AreAgreed plan.program plan.layouts) (t : ℕ) (words : List Read) (groups : List (Option ℕ)) where
   -- the leaf to which the splits lead
@@ -51,13 +67,12 @@ module _ (plan : Plan) (typed : IsTyped plan.program) (agreed : AreAgreed plan.p
   -- what looks by the pruned tree finds the group
   group_branches : (layout : Layout) → layout_of plan.layouts t ≡ Some layout → (tree : FlatTree) → pruned_of groups layout.tree ≡ Some tree → (old new : Sheet) (holes : List Hole) → Looks words tree old [] new holes
       → AllFit old.slots words → length words ≡ word_count plan.layouts (Named t)
-      → Branches plan old.slots old new holes (depth_of plan.layouts (Named t)) (λ g s m. HasGroupMeant plan t groups g words s m) (λ g s m. Unit {0})
+      → Branches plan old.slots old new holes (group_depth plan.layouts t groups) (λ g s m. HasGroupMeant plan t groups g words s m) (λ g s m. Unit {0})
   group_branches layout is tree left old new holes looks all count =
       let is1 : layout_of (flat_layouts plan.program) t ≡ Some layout = ap (λ ls. layout_of ls t) (sym agreed.0) ∙ is in
       let n : length words ≡ length layout.shape = count ∙ ap shape_length is in
       let fits : TreeFits (length words) tree = subst (λ k. TreeFits k tree) (sym n) (pruned_fits groups layout.tree tree left (length layout.shape) (tree_fits plan.program typed agreed.1 t layout is1)) in
-      let deep : nesting layout.tree ≡ depth_of plan.layouts (Named t) = ap depth_in (sym is) in
-      let less : nesting tree ≤ nesting layout.tree = subst (λ o. nesting_in o ≤ nesting layout.tree) left (pruned_prunes groups layout.tree).nests in
+      let deep : nesting tree ≡ group_depth plan.layouts t groups = sym (ap nesting_in left) ∙ ap (group_depth_in groups) (sym is) in
       record {
         adds = looks.adds plan old.slots (omega arith) all fits;
         low = omega arith;
@@ -74,14 +89,14 @@ module _ (plan : Plan) (typed : IsTyped plan.program) (agreed : AreAgreed plan.p
               world = r.world;
               runs = r.runs;
               keeps = r.keeps;
-              later = record { memory = r.later.memory; left = r.later.left; switches = let x = r.later.switches in omega (arith, x, deep, less) };
+              later = record { memory = r.later.memory; left = r.later.left; switches = let x = r.later.switches in omega (arith, x, deep) };
               exit = tt;
             };
       }
 
   -- where no leaf has a group there is nothing to find
   pub empty_branches : (old : Sheet) → ((g : ℕ) (s : List ℕ) (w : World) → IsGood w.memory → HasGroupMeant plan t groups g words s w.memory → ⊥)
-      → Branches plan old.slots old old [] (depth_of plan.layouts (Named t)) (λ g s m. HasGroupMeant plan t groups g words s m) (λ g s m. Unit {0})
+      → Branches plan old.slots old old [] (group_depth plan.layouts t groups) (λ g s m. HasGroupMeant plan t groups g words s m) (λ g s m. Unit {0})
   empty_branches old none = record {
     adds = Adds-refl plan old;
     low = omega arith;

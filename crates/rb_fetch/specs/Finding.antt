@@ -16,7 +16,7 @@ use Rattle.rb_fragment.specs.Pieces.{Branches}
 use Rattle.rb_fragment.specs.Slots.{AllBelow}
 use Rattle.rb_fragment.specs.WordReads.{AreMeant, AllFit}
 use Rattle.rb_fragment.specs.declared.reads.Read.{Read}
-use Rattle.rb_fetch.specs.Pruning.{group_at}
+use Rattle.rb_fetch.specs.Pruning.{group_at, nesting_in, pruned_of}
 
 -- the words represent a value of the type, whose leaf is number n
 pub record HasLeaf (plan : Plan) (t n : ℕ) (ws : List ℕ) (m : Memory) : Type 0 where
@@ -61,17 +61,26 @@ pub record HasGroupMeant (plan : Plan) (t : ℕ) (groups : List (Option ℕ)) (g
   pub are_meant : AreMeant reads s m words
   pub has_group : HasGroup plan t groups g words m
 
--- Run on words of a value whose leaf has a group, the appended code leaves by a hole of that group.
+-- the most splits that are nested in the tree by which the group of a layout's leaf is found
+abbrev pub group_depth_in : List (Option ℕ) → Option Layout → ℕ
+group_depth_in groups None = 0
+group_depth_in groups (Some layout) = nesting_in (pruned_of groups layout.tree)
+
+abbrev pub group_depth : List Layout → ℕ → List (Option ℕ) → ℕ
+group_depth layouts t groups = group_depth_in groups (layout_of layouts t)
+
+-- Run on words of a value whose leaf has a group, the appended code leaves by a hole of that group, with at most as many
+-- switches as splits are nested where those that tell no group from another are left out.
 abbrev pub FindsGroup : LaidOut → ℕ → List (Option ℕ) → List ℕ → Sheet → Sheet → List Hole → Type 0
 FindsGroup agreed t groups words old new holes =
     (plan : Plan) → IsPlanOf agreed plan → AllBelow old.slots words → length words ≡ word_count plan.layouts (Named t)
-    → Branches plan old.slots old new holes (depth_of plan.layouts (Named t)) (λ g s m. HasGroup plan t groups g (slots_at s words) m) (λ g s m. Unit {0})
+    → Branches plan old.slots old new holes (group_depth plan.layouts t groups) (λ g s m. HasGroup plan t groups g (slots_at s words) m) (λ g s m. Unit {0})
 
 -- the same over reads of the words
 abbrev pub FindsGroupOf : LaidOut → ℕ → List (Option ℕ) → List Read → Sheet → Sheet → List Hole → Type 0
 FindsGroupOf agreed t groups reads old new holes =
     (plan : Plan) → IsPlanOf agreed plan → AllFit old.slots reads → length reads ≡ word_count plan.layouts (Named t)
-    → Branches plan old.slots old new holes (depth_of plan.layouts (Named t)) (λ g s m. HasGroupMeant plan t groups g reads s m) (λ g s m. Unit {0})
+    → Branches plan old.slots old new holes (group_depth plan.layouts t groups) (λ g s m. HasGroupMeant plan t groups g reads s m) (λ g s m. Unit {0})
 
 -- the leaves of a type's layout
 abbrev pub leaves_within : Option Layout → ℕ

@@ -36,8 +36,9 @@ use Rattle.rb_rel.proofs.Represented.{opened}
 use Rattle.rb_fragment.specs.declared.reads.Read.{Read}
 use Rattle.rb_fragment.specs.Arms.{AreHoles, AreOfOneWay}
 use Rattle.rb_fragment.specs.Plan.{Plan}
-use Rattle.rb_fetch.specs.Finding.{FindsGroupOf, leaf_count, leaves_within}
+use Rattle.rb_fetch.specs.Finding.{FindsGroupOf, HasGroupMeant, leaf_count, leaves_within}
 use Rattle.rb_fetch.specs.Pruning.{group_at, group_or_none}
+use Rattle.rb_fetch.proofs.Grouping.{found_by_depth}
 use Rattle.rb_match.specs.declared.knowledge.Known.{Known}
 use Rattle.rb_match.specs.declared.knowledge.Edge.{Edge}
 use Rattle.rb_match.specs.declared.knowledge.Known.TheVariants as K
@@ -187,7 +188,7 @@ module _ (agreed : LaidOut) (nodes : List GraphNode) (t : ℕ) (position : Bor (
   pub asks_leaf : (reads : List Read) (old new : Sheet) (groups : List (Option ℕ)) (holes : List Hole) → FindsGroupOf agreed t groups reads old new holes
       → AreGroups (IsGrouped agreed t arms other) (leaf_count agreed t) groups → AsksLeaf agreed t reads known position.now arms other old new (leaf_edges holes)
   asks_leaf reads old new groups holes finds grouped = λ plan n spots of are fit count.
-      let br = finds plan of fit count in
+      let br = found_by_depth plan t groups old new holes (λ g s m. HasGroupMeant plan t groups g reads s m) (finds plan of fit count) in
       record {
         adds = br.adds;
         leaves = λ final callee next law fin s w v part clean ws node long good meant rep all at takes.

@@ -32,8 +32,9 @@ use Rattle.rb_fragment.proofs.Holds.{AllBelow-more, slots_at-kept}
 use Rattle.rb_fragment.proofs.Patching.{AreAllHoles, adds_closed, closed_hole, closed_length, closed_slots, hole_within}
 use Rattle.rb_fragment.specs.WordReads.{MakesAll}
 use Rattle.rb_rel.proofs.Represented.{opened}
-use Rattle.rb_fetch.specs.Finding.{FindsGroup, IsPlanOf, leaf_count, leaves_within}
+use Rattle.rb_fetch.specs.Finding.{FindsGroup, HasGroup, IsPlanOf, leaf_count, leaves_within}
 use Rattle.rb_fetch.specs.Pruning.{group_at, group_or_none}
+use Rattle.rb_fetch.proofs.Grouping.{found_by_depth}
 use Rattle.rb_match.specs.declared.knowledge.Known.{Known}
 use Rattle.rb_match.specs.declared.knowledge.Known.TheVariants as K
 use Rattle.rb_match.specs.declared.knowledge.Spot.{Spot}
@@ -381,7 +382,7 @@ ways_stand old found count holes are grows = record {
 pub ways_lead : (agreed : LaidOut) (t : ℕ) (words : List ℕ) (spots : List Spot) (known : List Known) (position : List ℕ) (arms : List GraphArm) (other : Option ℕ) (old found : Sheet) (groups : List (Option ℕ)) (holes : List Hole) → FindsGroup agreed t groups words old found holes
     → AreGroups (IsItself agreed t arms other) (leaf_count agreed t) groups → LeadsAll agreed t words spots known position arms other 0 old holes found []
 ways_lead agreed t words spots known position arms other old found groups holes finds here = λ plan n of are low count.
-    let f = finds plan of low count in
+    let f = found_by_depth plan t groups old found holes (λ g s m. HasGroup plan t groups g (slots_at s words) m) (finds plan of low count) in
     record {
       adds = f.adds;
       leaves = λ final callee next law fin s w clean v part layout leaf node long there is_part is_layout is_leaf takes.
