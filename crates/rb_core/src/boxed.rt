@@ -39,6 +39,10 @@ impl<T> Boxed<T> {
 
 impl<T: Drop> Boxed<T> {
     /// A box that holds `value`.
+    ///
+    /// # Errors
+    ///
+    /// Want of memory.
     pub fn new(alloc: Global, value: T) -> Result<Boxed<T>, AllocError>
         ensures { IfOk result (λ b. b ≡ value) }
     {

@@ -25,6 +25,10 @@ enum Turn<'a> {
 
 impl Value {
     /// An equal value. The memory that it works in grows with the value's depth, its stack does not.
+    ///
+    /// # Errors
+    ///
+    /// Want of memory.
     pub fn copy(&self, alloc: Global) -> Result<Value, AllocError>
         ensures { IfOk result (λ v. v ≡ self.now) }
     {

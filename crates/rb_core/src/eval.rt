@@ -25,6 +25,10 @@ use std::alloc::{AllocError, Global};
 
 /// What a call of a function does, with so many calls left. It stands for tests: it nests as deep as
 /// the program's calls and expressions do.
+///
+/// # Errors
+///
+/// Want of memory.
 pub fn eval(
     alloc: Global,
     typed: &Typed,

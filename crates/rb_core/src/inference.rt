@@ -14,6 +14,10 @@ use std::alloc::{AllocError, Global};
 
 /// The type of an expression of a typed program, at a wanted type or none and a scope. The scope
 /// is lent for more binders, and on `Ok` is what it was.
+///
+/// # Errors
+///
+/// Want of memory.
 #[cycle(inferring)]
 pub fn infer(
     program: &Program,
@@ -44,6 +48,10 @@ pub fn infer(
 }
 
 /// The type of both operands of an operator, of which the first is given.
+///
+/// # Errors
+///
+/// Want of memory.
 #[cycle(inferring)]
 pub fn infer_operands(
     program: &Program,
@@ -81,6 +89,10 @@ fn infer_let(
 }
 
 /// The type of a match whose scrutinee has type `ty`.
+///
+/// # Errors
+///
+/// Want of memory.
 #[cycle(inferring)]
 pub fn infer_match(
     program: &Program,
@@ -107,6 +119,10 @@ pub fn infer_match(
 }
 
 /// Puts the variables of a pattern at a type behind those of a scope.
+///
+/// # Errors
+///
+/// Want of memory.
 #[cycle(binding_types)]
 pub fn bind_types(
     types: &[DataDecl],
@@ -206,6 +222,10 @@ pub fn types_of_fields(types: &[DataDecl], con: ConRef) -> &[Ty]
 }
 
 /// The types of a function's parameters; none where the program has no such function.
+///
+/// # Errors
+///
+/// Want of memory.
 pub fn types_of_params(alloc: Global, program: &Program, fun: u32) -> Result<Seq<Ty>, AllocError>
     ensures { IfOk result (λ types. types ≡ param_types program.now.funs fun) }
 {

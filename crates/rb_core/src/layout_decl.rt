@@ -29,6 +29,10 @@ pub struct Loc {
 
 impl Loc {
     /// An equal location.
+    ///
+    /// # Errors
+    ///
+    /// Want of memory.
     pub fn copy(&self, alloc: Global) -> Result<Loc, AllocError>
         ensures { IfOk result (λ loc. loc ≡ self.now) }
     {

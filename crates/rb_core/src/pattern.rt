@@ -21,6 +21,10 @@ pub enum Pat {
 
 impl Pat {
     /// An equal pattern.
+    ///
+    /// # Errors
+    ///
+    /// Want of memory.
     #[cycle(copying)]
     pub fn copy(&self, alloc: Global) -> Result<Pat, AllocError>
         ensures { IfOk result (λ p. p ≡ self.now) }
@@ -38,6 +42,10 @@ impl Pat {
 }
 
 /// Equal patterns, in their order.
+///
+/// # Errors
+///
+/// Want of memory.
 #[cycle(copying)]
 pub fn copy_patterns(alloc: Global, pats: &[Pat]) -> Result<Seq<Pat>, AllocError>
     ensures { IfOk result (λ copies. copies ≡ pats.now) }

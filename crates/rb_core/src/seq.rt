@@ -58,6 +58,10 @@ impl<T> Seq<T> {
     }
 
     /// Adds one item at the end.
+    ///
+    /// # Errors
+    ///
+    /// Want of memory; the list is then as it was.
     pub fn push(&mut self, item: T) -> Result<(), AllocError>
     where
         T: Drop,
@@ -139,6 +143,10 @@ impl<T> Seq<T> {
 
 impl<T: Copy> Seq<T> {
     /// An equal list.
+    ///
+    /// # Errors
+    ///
+    /// Want of memory.
     pub fn copy(&self, alloc: Global) -> Result<Self, AllocError>
         ensures { IfOk result (λ s. s ≡ self.now) }
     {
