@@ -1,4 +1,4 @@
--- The limits of files and programs.
+-- The limits of files, programs and runs.
 use Rattle.std.specs.Prelude.{ℕ}
 
 -- of one file
@@ -27,3 +27,7 @@ most_words = 8
 -- the levels of nesting, the outermost counted
 abbrev pub most_levels : ℕ
 most_levels = 128
+
+-- the calls of a run, that of `main` counted
+abbrev pub most_calls : ℕ
+most_calls = 1000000000

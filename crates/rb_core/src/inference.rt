@@ -176,7 +176,8 @@ fn type_of_variable(var: u32, scope: &[Binder]) -> Ty
     Ty::Int(64)
 }
 
-fn type_of_call(program: &Program, fun: u32) -> Ty
+/// The type of a function's result; `u64` where the program has no such function.
+pub fn type_of_call(program: &Program, fun: u32) -> Ty
     ensures { result ≡ result_type program.now.funs fun }
 {
     match program.funs.get(fun as usize) {

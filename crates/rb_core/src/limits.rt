@@ -1,4 +1,4 @@
-//! The limits of files and programs; definitions cite them as `specs/Limits.antt` has them.
+//! The limits of files, programs and runs; definitions cite them as `specs/Limits.antt` has them.
 
 /// The bytes of a file.
 pub const MOST_FILE_BYTES: usize = 262_144;
@@ -23,3 +23,6 @@ pub const MOST_WORDS: usize = 8;
 
 /// The levels of nesting, the outermost counted.
 pub const MOST_LEVELS: u32 = 128;
+
+/// The calls of a run, that of `main` counted.
+pub const MOST_CALLS: u64 = 1_000_000_000;
