@@ -6,7 +6,7 @@ use Rattle.rb_matrix.specs.declared.matrix.Head.{Head}
 use Rattle.rb_matrix.specs.Heads.{layer_begins, any_begins, sample}
 use Rattle.rb_matrix.proofs.HeadLemmas.{any_begins-append, any_begins-alike}
 use Rattle.rb_decide.specs.ClauseMatrices.{without, with_first}
-use Rattle.rb_decide.specs.inner.Building.{with_head}
+use Rattle.rb_matrix.specs.Known.{with_head}
 
 -- those that are not known
 abbrev pub beyond : List Head → List Head → List Head

@@ -4,7 +4,6 @@ pub mod Defaults
 pub mod Examples
 pub mod Exhausts
 pub mod HeadLemmas
-pub mod HeadOrder
 pub mod Inhabited
 pub mod Laws
 pub mod OpenRows

@@ -21,7 +21,8 @@ use Rattle.rb_matrix.specs.declared.passed.Passed.{Passed}
 use Rattle.rb_matrix.specs.Exhaust.{any_matches, IsReachAnswer}
 use Rattle.rb_matrix.specs.Heads.{fields_at}
 use Rattle.rb_matrix.specs.Open.{layer_open}
-use Rattle.rb_matrix.specs.inner.Passed.{has, layer_number, some_open, some_number, ArePassed}
+use Rattle.rb_matrix.specs.Known.{has}
+use Rattle.rb_matrix.specs.inner.Passed.{layer_number, some_open, some_number, ArePassed}
 use Rattle.rb_matrix.proofs.Exhausts.{first-chosen, chosen-first}
 use Rattle.rb_matrix.proofs.Inhabited.{out-num}
 use Rattle.rb_matrix.proofs.Laws.{opened, open_matches}

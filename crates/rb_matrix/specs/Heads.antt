@@ -74,21 +74,6 @@ abbrev pub first_head : List (List Pat) → Option Head
 first_head [] = None
 first_head (r ∷ rs) = or_else (row_head r) (first_head rs)
 
--- a list of heads without those that are like one
-abbrev pub without : Head → List Head → List Head
-without h [] = []
-without h (g ∷ gs) = if layer_begins h (sample g) then without h gs else g ∷ without h gs
-
--- the head that may stand there, before those of the others that are not like it
-abbrev pub with_first : Option Head → List Head → List Head
-with_first None hs = hs
-with_first (Some h) hs = h ∷ without h hs
-
--- the distinct heads that stand in the first column, in the order of first standing there
-abbrev pub distinct_heads : List (List Pat) → List Head
-distinct_heads [] = []
-distinct_heads (r ∷ rs) = with_first (row_head r) (distinct_heads rs)
-
 -- the types of a head's fields, where the head is of the type
 abbrev pub fields_at : List DataDecl → Ty → Head → Option (List Ty)
 fields_at types (Int bits) (H.Num n) = if nat_lt n (2 ^ bits) then Some [] else None

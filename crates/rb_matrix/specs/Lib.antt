@@ -1,6 +1,7 @@
 pub mod Beside
 pub mod Exhaust
 pub mod Heads
+pub mod Known
 pub mod Open
 pub mod Problems
 pub mod Rows

@@ -1,3 +1,2 @@
 pub mod Against
-pub mod Known
 pub mod Passed

@@ -102,6 +102,10 @@ fn con_beside(
 /// A pattern that has a value of the type, none of whose values begins with one of the heads; None
 /// where each value of the type begins with one. Where there is no head it is a wildcard, and else
 /// the least number or the first constructor that is not among them.
+///
+/// # Errors
+///
+/// Want of memory.
 pub fn pattern_beside(
     alloc: Global,
     types: &[DataDecl],

@@ -131,6 +131,10 @@ fn find_one(
 /// Whether every value of the type is matched by one of the patterns, and else a pattern of numbers,
 /// constructors and wildcards that has a value, none of whose values is matched. Which such pattern
 /// is given is left open.
+///
+/// # Errors
+///
+/// `Missing` with such a pattern where there is one. Want of memory.
 pub fn exhaust(alloc: Global, types: &[DataDecl], ty: Ty, rows: &[Pat]) -> Result<(), MatrixFault>
     requires inhabited { AreInhabited types.now }
     requires ty { IsTypeIn types.now ty }
@@ -192,6 +196,10 @@ fn is_reached(
 }
 
 /// The numbers, ascending, of the patterns that are the first match of no value of the type.
+///
+/// # Errors
+///
+/// Want of memory.
 pub fn unreached(
     alloc: Global,
     types: &[DataDecl],
@@ -218,6 +226,10 @@ pub fn unreached(
 
 /// A pattern of numbers, constructors and wildcards that has a value of the type, and all of whose
 /// values both patterns match; None where they have no value in common.
+///
+/// # Errors
+///
+/// Want of memory.
 pub fn common(
     alloc: Global,
     types: &[DataDecl],

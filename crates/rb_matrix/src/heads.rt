@@ -1,24 +1,18 @@
-//! The heads that stand in a first column, and a pattern beside them.
+//! The heads that stand in a first column, known one row after another.
 
-ghost use Rattle.std.specs.Prelude.{◌≡◌, ◌+◌, ◌^◌, ◌≤◌, ◌||◌, ◌++◌, ◌∷◌, ℕ, length, IfOk, OnOk, MatchOption, nat_lt, slice_get};
-ghost use Rattle.std.specs.Option.{option_copied};
+ghost use Rattle.std.specs.Prelude.{◌≡◌, ◌+◌, ◌≤◌, ◌||◌, ℕ, length, IfOk, OnOk};
 ghost use Rattle.rb_core.specs.declared.value.Value as Values;
 ghost use Rattle.rb_core.specs.declared.value.Value.TheOpen as Layers;
-ghost use Rattle.rb_core.specs.Values.{fields_in};
-ghost use Rattle.rb_matrix.specs.Heads.{layer_begins, any_begins, column_begins, option_begins, row_head, first_head, distinct_heads, fields_at, sample, some_head};
-ghost use Rattle.rb_matrix.specs.Problems.{rows_heads};
-ghost use Rattle.rb_matrix.specs.inner.Known.{with_head};
-ghost use Rattle.rb_matrix.specs.inner.Passed.{has, AreNumbersOf};
+ghost use Rattle.rb_matrix.specs.Heads.{layer_begins, any_begins, option_begins, row_head, sample, some_head};
+ghost use Rattle.rb_matrix.specs.Known.{has, with_head, AreNumbersOf};
 
 use crate::matrix::Head;
 use crate::numbers::Numbers;
 use rb_core::pattern::Pat;
-use rb_core::seq::Seq;
-use rb_core::types::{DataDecl, Ty};
 use std::alloc::{AllocError, Global};
 
-// What a row begins with.
-fn head_of_row(row: &[Pat]) -> Option<Head>
+/// What a row begins with.
+pub fn head_of_row(row: &[Pat]) -> Option<Head>
     ensures { result ≡ row_head row.now }
 {
     match row {
@@ -30,18 +24,6 @@ fn head_of_row(row: &[Pat]) -> Option<Head>
             Pat::Con(_, con, _) => Some(Head::Con(*con)),
         },
     }
-}
-
-/// The first head that stands in the first column.
-pub fn first_head_of(rows: &[Seq<Pat>]) -> Option<Head>
-    ensures { result ≡ first_head rows.now }
-{
-    for row in rows {
-        if let Some(head) = head_of_row(row.as_slice()) {
-            return Some(head);
-        }
-    }
-    None
 }
 
 // Whether values that begin with the one begin with the other.
@@ -109,8 +91,13 @@ fn is_noted(known: &[Head], numbers: &Numbers, head: Head) -> bool
     }
 }
 
-/// Adds the head that may stand there, unless it is known.
-pub(crate) fn add_head(
+/// Adds the head that may stand there behind those known, unless one like it is known. The numbers
+/// among them stand in a set, so that thousands of them are not compared with each other.
+///
+/// # Errors
+///
+/// Want of memory.
+pub fn add_head(
     heads: &mut Vec<Head>,
     numbers: &mut Numbers,
     head: Option<Head>,
@@ -131,19 +118,4 @@ pub(crate) fn add_head(
     add_number(numbers, head)?;
     heads.push(head)?;
     Ok(())
-}
-
-/// The heads that stand in the first column, each once, in the order of first standing there.
-pub fn column_heads(alloc: Global, rows: &[Seq<Pat>]) -> Result<Vec<Head>, AllocError>
-    ensures heads { IfOk result (λ heads. (l : Layers.Value-F Values.Value)
-        → any_begins heads.items l ≡ column_begins rows.now l) }
-    ensures few { IfOk result (λ heads. length heads.items ≤ rows_heads rows.now) }
-    ensures order { IfOk result (λ heads. heads.items ≡ distinct_heads rows.now) }
-{
-    let mut heads = Vec::new(alloc);
-    let mut numbers = Numbers::new(alloc);
-    for row in rows {
-        add_head(&mut heads, &mut numbers, head_of_row(row.as_slice()))?;
-    }
-    Ok(heads)
 }

@@ -98,6 +98,10 @@ fn rest_of_row(alloc: Global, row: &[Pat]) -> Result<Option<Seq<Pat>>, AllocErro
 /// A row's image in the specialised matrix of a head with so many fields, or None where the row
 /// matches no vector that begins with the head. A pattern with another number of subpatterns
 /// matches nothing.
+///
+/// # Errors
+///
+/// Want of memory.
 pub fn specialize_row(
     alloc: Global,
     head: Head,
@@ -116,6 +120,10 @@ pub fn specialize_row(
 }
 
 /// A row's image in the default matrix, or None where the row begins with a head.
+///
+/// # Errors
+///
+/// Want of memory.
 pub fn default_of_row(alloc: Global, row: &[Pat]) -> Result<Option<Seq<Pat>>, AllocError>
     ensures image { IfOk result (λ r. r ≡ default_row row.now) }
 
@@ -130,6 +138,10 @@ pub fn default_of_row(alloc: Global, row: &[Pat]) -> Result<Option<Seq<Pat>>, Al
 }
 
 /// The images of rows in the specialised matrix of a head with so many fields.
+///
+/// # Errors
+///
+/// Want of memory.
 pub fn special_rows(
     alloc: Global,
     head: Head,
@@ -148,6 +160,10 @@ pub fn special_rows(
 }
 
 /// The images of rows in the default matrix.
+///
+/// # Errors
+///
+/// Want of memory.
 pub fn rows_by_default(alloc: Global, rows: &[Seq<Pat>]) -> Result<Seq<Seq<Pat>>, AllocError>
     ensures { IfOk result (λ r. r ≡ defaults rows.now) }
 {
@@ -235,6 +251,10 @@ pub fn first_fields<'a>(types: &'a [DataDecl], tys: &[Ty], head: Head) -> Option
 /// The specialised matrix S: the rows that may match a vector whose first value begins with the head,
 /// with the head's subpatterns in place of the first pattern, or as many wildcards. There is a first
 /// column, and the head is of its type; rows need not be typed.
+///
+/// # Errors
+///
+/// Want of memory.
 pub fn specialize(
     alloc: Global,
     types: &[DataDecl],
@@ -258,6 +278,10 @@ pub fn specialize(
 
 /// The default matrix D: the rows that match whatever the first value is, without their first
 /// pattern.
+///
+/// # Errors
+///
+/// Want of memory.
 pub fn default_rows(alloc: Global, matrix: &Matrix) -> Result<Matrix, AllocError>
     ensures images { IfOk result (λ m. m ≡ defaulted matrix.now) }
 

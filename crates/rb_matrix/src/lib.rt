@@ -16,7 +16,7 @@ pub mod coverage;
 pub mod heads;
 pub mod images;
 pub mod matrix;
-mod numbers;
+pub mod numbers;
 mod open;
 mod part;
 mod passed;

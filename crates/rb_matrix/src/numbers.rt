@@ -1,7 +1,7 @@
 //! Sets of numbers.
 
 ghost use Rattle.std.specs.Prelude.{◌≡◌, ◌||◌, ◌==◌, ℕ, false, OnOk};
-ghost use Rattle.rb_matrix.specs.inner.Passed.{has};
+ghost use Rattle.rb_matrix.specs.Known.{has};
 
 use std::alloc::{AllocError, Global};
 use std::collections::BTreeSet;
@@ -30,6 +30,10 @@ impl Numbers {
     }
 
     /// Adds a number.
+    ///
+    /// # Errors
+    ///
+    /// Want of memory.
     pub fn insert(&mut self, number: u64) -> Result<(), AllocError>
         ensures { OnOk result ((n : ℕ) → has self.new n ≡ (has self.old n || (number == n))) }
     {

@@ -251,6 +251,10 @@ fn rest_parts(
 /// A head that a wanted row begins with is the only one that counts. Else, where the heads of the
 /// unwanted rows are not all that a value of the type begins with, the default matrix answers for all
 /// of them.
+///
+/// # Errors
+///
+/// Want of memory.
 pub fn parts_of(
     alloc: Global,
     types: &[DataDecl],

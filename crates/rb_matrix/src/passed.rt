@@ -6,7 +6,8 @@ ghost use Rattle.rb_core.specs.declared.pattern.Pat.{out-Pat};
 ghost use Rattle.rb_matrix.specs.declared.matrix.Head.TheVariants as Heads;
 ghost use Rattle.rb_matrix.specs.Heads.{fields_at};
 ghost use Rattle.rb_matrix.specs.Open.{layer_open};
-ghost use Rattle.rb_matrix.specs.inner.Passed.{has, layer_number, ArePassed};
+ghost use Rattle.rb_matrix.specs.Known.{has};
+ghost use Rattle.rb_matrix.specs.inner.Passed.{layer_number, ArePassed};
 
 use crate::images::head_fields;
 use crate::matrix::Head;
@@ -34,6 +35,10 @@ impl Passed {
     }
 
     /// Goes over one more pattern.
+    ///
+    /// # Errors
+    ///
+    /// Want of memory.
     pub fn add(&mut self, pat: &Pat) -> Result<(), AllocError>
         ensures all { OnOk result (self.new.all ≡ (self.old.all || layer_open (out-Pat pat.now))) }
         ensures numbers { OnOk result ((n : ℕ)

@@ -22,6 +22,10 @@ use std::collections::VecDeque;
 pub type Row = Stack<Pat>;
 
 /// A pattern as a row.
+///
+/// # Errors
+///
+/// Want of memory.
 pub fn row_of(alloc: Global, pat: &Pat) -> Result<Row, AllocError>
     ensures { IfOk result (λ r. r ≡ pat.now ∷ []) }
 {
@@ -68,6 +72,10 @@ pub fn first_head_in(rows: &[Row]) -> Option<Head>
 }
 
 /// The heads that stand in the first column, each once.
+///
+/// # Errors
+///
+/// Want of memory.
 pub fn heads_in(alloc: Global, rows: &[Row]) -> Result<Seq<Head>, AllocError>
     ensures heads { IfOk result (λ heads. (l : Layers.Value-F Values.Value)
         → any_begins heads l ≡ column_begins rows.now l) }
@@ -157,6 +165,10 @@ fn special_copy(
 }
 
 /// The images of rows in the specialised matrix of a head with so many fields. The rows stay.
+///
+/// # Errors
+///
+/// Want of memory.
 pub fn special_copies(
     alloc: Global,
     rows: &[Row],
@@ -175,6 +187,10 @@ pub fn special_copies(
 }
 
 /// The images of rows in the specialised matrix of a head with so many fields, made of the rows.
+///
+/// # Errors
+///
+/// Want of memory.
 pub fn special_images(
     alloc: Global,
     rows: Seq<Row>,
@@ -209,6 +225,10 @@ fn rest_of(mut row: Row) -> Option<Row>
 }
 
 /// The images of rows in the default matrix, made of the rows.
+///
+/// # Errors
+///
+/// Want of memory.
 pub fn default_images(alloc: Global, rows: Seq<Row>) -> Result<Seq<Row>, AllocError>
     ensures { IfOk result (λ r. r ≡ defaults rows) }
 {

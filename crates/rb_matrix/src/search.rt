@@ -132,6 +132,10 @@ fn step(alloc: Global, types: &[DataDecl], problem: Problem) -> Result<Outcome, 
 /// A row of patterns that has a vector of the root's types, and all of whose vectors all wanted rows
 /// match and no unwanted one; None where there is no such vector. The patterns are numbers,
 /// constructors and wildcards.
+///
+/// # Errors
+///
+/// Want of memory.
 pub fn find_in(
     alloc: Global,
     types: &[DataDecl],
@@ -160,6 +164,10 @@ pub fn find_in(
 /// A row of patterns that has a vector of these types, and all of whose vectors all wanted rows match
 /// and no unwanted one; None where there is no such vector. The patterns are numbers, constructors
 /// and wildcards.
+///
+/// # Errors
+///
+/// Want of memory.
 pub fn find(
     alloc: Global,
     types: &[DataDecl],

@@ -51,6 +51,10 @@ impl<T> Stack<T> {
     }
 
     /// Puts an item in front.
+    ///
+    /// # Errors
+    ///
+    /// Want of memory.
     pub fn push(&mut self, item: T) -> Result<(), AllocError>
     where
         T: Drop,
@@ -61,6 +65,10 @@ impl<T> Stack<T> {
     }
 
     /// Puts items in front, in their order.
+    ///
+    /// # Errors
+    ///
+    /// Want of memory.
     pub fn push_all(&mut self, mut more: Seq<T>) -> Result<(), AllocError>
     where
         T: Drop,

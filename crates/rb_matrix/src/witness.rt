@@ -40,6 +40,10 @@ fn close(alloc: Global, row: &mut VecDeque<Pat>, step: Step) -> Result<(), Alloc
 }
 
 /// The row that the empty row becomes, the last step first.
+///
+/// # Errors
+///
+/// Want of memory.
 pub fn witness(alloc: Global, mut steps: Seq<Step>) -> Result<Seq<Pat>, AllocError>
     ensures { IfOk result (λ r. r ≡ closed_all steps []) }
 {

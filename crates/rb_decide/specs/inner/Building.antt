@@ -1,7 +1,6 @@
 -- What the steps of building a tree give.
-use Rattle.std.specs.Prelude.{◌≡◌, ◌+◌, ◌<◌, ◌≤◌, ℕ, suc, List, [], ◌∷◌, ◌++◌, map, sum, if◌then◌else◌, Option, Some, None}
+use Rattle.std.specs.Prelude.{◌≡◌, ◌+◌, ◌<◌, ◌≤◌, ℕ, suc, List, map, sum, Option, Some, None}
 use Rattle.rb_matrix.specs.declared.matrix.Head.{Head}
-use Rattle.rb_matrix.specs.Heads.{any_begins, sample}
 use Rattle.rb_decide.specs.declared.clause_matrix.Column.{Column}
 use Rattle.rb_decide.specs.declared.clause_matrix.Row.{Row}
 use Rattle.rb_decide.specs.declared.decision_tree.Tree.{Tree}
@@ -9,11 +8,6 @@ use Rattle.rb_decide.specs.declared.decision_tree.TreeArm.{TreeArm}
 use Rattle.rb_decide.specs.Trees.{size, heads_in, tree_within, test_of, arms_of}
 use Rattle.rb_core.specs.declared.types.Ty.{Ty}
 use Rattle.rb_core.specs.declared.types.DataDecl.{DataDecl}
-
--- one more head, unless it is known
-abbrev pub with_head : List Head → Option Head → List Head
-with_head hs None = hs
-with_head hs (Some h) = if any_begins hs (sample h) then hs else hs ++ h ∷ []
 
 abbrev pub column_ty : Column → Ty
 column_ty c = c.ty

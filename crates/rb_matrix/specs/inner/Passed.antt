@@ -1,23 +1,11 @@
--- Sets of numbers: those among heads, and those among patterns that were gone over.
+-- Patterns that were gone over, with the set of the numbers among them.
 use Rattle.std.specs.Prelude.{◌≡◌, ℕ, List, [], ◌∷◌, Bool, false, ◌||◌, ◌==◌}
-use Rattle.std.specs.Ordering.{nat_cmp}
-use Rattle.std.specs.BTreeSet as tree
-use Rattle.rb_core.specs.declared.value.Value.TheOpen as V
 use Rattle.rb_core.specs.declared.pattern.Pat.{Pat, out-Pat}
 use Rattle.rb_core.specs.declared.pattern.Pat.TheOpen as P
 use Rattle.rb_core.specs.declared.pattern.Pat.TheOpen.{Pat-F}
-use Rattle.rb_matrix.specs.declared.matrix.Head.{Head}
-use Rattle.rb_matrix.specs.declared.numbers.Numbers.{Numbers}
 use Rattle.rb_matrix.specs.declared.passed.Passed.{Passed}
-use Rattle.rb_matrix.specs.Heads.{any_begins}
+use Rattle.rb_matrix.specs.Known.{has}
 use Rattle.rb_matrix.specs.Open.{layer_open}
-
-abbrev pub has : Numbers → ℕ → Bool
-has s n = tree.contains nat_cmp s.held n
-
--- exactly the numbers among heads
-abbrev pub AreNumbersOf : Numbers → List Head → Type 0
-AreNumbersOf s hs = (n : ℕ) → has s n ≡ any_begins hs (V.Num n)
 
 -- whether a pattern is this number
 abbrev pub layer_number : Pat-F Pat → ℕ → Bool

@@ -3,7 +3,7 @@ use Rattle.std.specs.Prelude.{Option, if◌then◌else◌}
 use Rattle.rb_core.specs.declared.value.Value.TheOpen as V
 use Rattle.rb_matrix.specs.declared.matrix.Head.{Head}
 use Rattle.rb_matrix.specs.Heads.{layer_begins, any_begins, option_begins, sample}
-use Rattle.rb_matrix.specs.inner.Known.{with_head}
+use Rattle.rb_matrix.specs.Known.{with_head}
 use Rattle.rb_matrix.proofs.HeadLemmas.{any_begins-append, any_begins-known}
 use Rattle.rb_matrix.proofs.heads.add_head.Goals as goal
 

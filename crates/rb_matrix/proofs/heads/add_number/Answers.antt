@@ -2,7 +2,7 @@ use Rattle.std.proofs.Common.{◌||◌, ◌∙◌, sym, ap}
 use Rattle.rb_core.specs.declared.value.Value.TheOpen as V
 use Rattle.rb_matrix.specs.Heads.{layer_begins}
 use Rattle.rb_matrix.specs.declared.matrix.Head.{Head}
-use Rattle.rb_matrix.specs.inner.Passed.{has}
+use Rattle.rb_matrix.specs.Known.{has}
 use Rattle.rb_matrix.proofs.Passing.{or-false}
 use Rattle.rb_matrix.proofs.heads.add_number.Goals as goal
 

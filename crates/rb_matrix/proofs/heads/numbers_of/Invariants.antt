@@ -1,7 +1,7 @@
 use Rattle.std.proofs.Common.{◌≡◌, ℕ, ◌||◌, drop}
 use Rattle.rb_core.specs.declared.value.Value.TheOpen as V
 use Rattle.rb_matrix.specs.Heads.{any_begins}
-use Rattle.rb_matrix.specs.inner.Passed.{has}
+use Rattle.rb_matrix.specs.Known.{has}
 use Rattle.rb_matrix.proofs.heads.numbers_of.Given as goal
 
 abbrev pub invariant-loop-head : goal.invariant-loop-head

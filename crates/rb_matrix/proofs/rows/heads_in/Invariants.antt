@@ -3,7 +3,7 @@ use Rattle.rb_core.specs.declared.value.Value.{Value}
 use Rattle.rb_core.specs.declared.value.Value.TheOpen.{Value-F}
 use Rattle.rb_matrix.specs.Heads.{any_begins, column_begins}
 use Rattle.rb_matrix.specs.Problems.{rows_heads}
-use Rattle.rb_matrix.specs.inner.Passed.{AreNumbersOf}
+use Rattle.rb_matrix.specs.Known.{AreNumbersOf}
 use Rattle.rb_matrix.proofs.rows.heads_in.Given as goal
 
 abbrev pub invariant-loop-row : goal.invariant-loop-row
