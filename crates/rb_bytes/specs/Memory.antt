@@ -4,6 +4,10 @@ use Rattle.rb_bytes.specs.declared.fault.Trap.{Trap}
 use Rattle.rb_bytes.specs.declared.fault.Trap.TheVariants.{Astray, Unwritten}
 use Rattle.rb_bytes.specs.declared.fault.Full.{Full}
 
+-- the address at which a region ends at the latest
+abbrev pub most_region : ℕ
+most_region = 16777216
+
 -- a block is its address and its size; bytes has for each address below the limit the byte written there, or None
 pub record Memory : Type 0 where
   pub limit : ℕ
@@ -27,7 +31,7 @@ byte_at bytes a = byte_in (slice_get bytes a)
 pub record IsGood (m : Memory) : Type 0 where
   pub blocks : AreBlocks 64 m.blocks m.next
   pub next : (64 ≤ m.next) × (m.next ≤ m.limit)
-  pub limit : m.limit ≤ 16777216
+  pub limit : m.limit ≤ most_region
   pub long : length m.bytes ≡ m.limit
   -- what is written is a byte, and nothing is written from the next address on
   pub small : (a b : ℕ) → byte_at m.bytes a ≡ Some b → b < 256

@@ -1,7 +1,7 @@
 //! A memory that tests each load and store.
 
 ghost use Rattle.std.specs.Prelude.{◌≡◌, ℕ, ◌≤◌, ◌<◌, ◌+◌, length, map, IfOk, IfSome, true, nat_le, find};
-ghost use Rattle.rb_bytes.specs.Memory.{IsGood, read_le, write_le, empty_memory, size_at, lies_within, byte_at};
+ghost use Rattle.rb_bytes.specs.Memory.{IsGood, most_region, read_le, write_le, empty_memory, size_at, lies_within, byte_at};
 ghost use Rattle.rb_bytes.specs.Starts.{byte_of, start_of};
 
 use crate::fault::{Full, Trap};
@@ -84,7 +84,7 @@ impl CheckedMemory {
     ///
     /// Want of memory.
     pub fn new(alloc: Global, limit: u64) -> Result<CheckedMemory, AllocError>
-        requires { (64 ≤ limit) × (limit ≤ 16777216) }
+        requires { (64 ≤ limit) × (limit ≤ most_region) }
         ensures value { IfOk result (λ m. m ≡ empty_memory limit) }
         ensures good { IfOk result (λ m. IsGood m) }
     {

@@ -5,6 +5,10 @@ ghost use Rattle.rb_bytes.specs.Memory.{Memory, IsGood, IsWidth, IsSize, IsAlign
 
 use crate::fault::{Full, Trap};
 
+/// The address at which a region ends at the latest; clauses cite it as `most_region` of
+/// `specs/Memory.antt`.
+pub const MOST_REGION: u64 = 16_777_216;
+
 /// A region of bytes from address 64 up to its limit, in which blocks are placed in ascending order.
 /// Addresses, sizes, alignments and offsets are bytes, widths are bits, words are little-endian.
 ///
