@@ -1,5 +1,6 @@
 -- Whose text bytes are, and the byte at which they stop being one.
-use Rattle.std.specs.Prelude.{◌≡◌, ℕ, suc, ◌<◌, ◌≤◌, List, ◌++◌, length, take, Result, Ok, Err}
+use Rattle.std.specs.Prelude.{◌≡◌, ℕ, List, Result, Ok, Err}
+use Rattle.rb_core.specs.Stopping.{BeginsSome, StopsAtIn}
 use Rattle.rb_target.specs.Text.{code_text}
 use Rattle.rb_target.specs.Spelled.{AreSpelled}
 use Rattle.rb_target.specs.declared.code.CodeFun.{CodeFun}
@@ -16,14 +17,11 @@ IsCode bytes = (funs : List CodeFun) × IsTextOf bytes funs
 
 -- some code text begins so
 abbrev pub IsFront : List ℕ → Type 0
-IsFront bytes = (more : List ℕ) × IsCode (bytes ++ more)
+IsFront bytes = BeginsSome IsCode bytes
 
 -- the bytes before `at` begin some code text; with the byte there they don't, or there is none and they are no whole text
-pub record StopsAt (bytes : List ℕ) (at : ℕ) : Type 0 where
-  pub within : at ≤ length bytes
-  pub before : IsFront (take at bytes)
-  pub here : at < length bytes → IsFront (take (suc at) bytes) → ⊥
-  pub at_end : at ≡ length bytes → IsCode bytes → ⊥
+abbrev pub StopsAt : List ℕ → ℕ → Type 0
+StopsAt bytes at = StopsAtIn IsCode bytes at
 
 -- what reading answers: the functions, or the byte at which no text goes on, or want of memory
 abbrev pub IsReading : List ℕ → Result (List CodeFun) CodeFault → Type 0
