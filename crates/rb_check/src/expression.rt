@@ -8,9 +8,10 @@ ghost use Rattle.rb_core.specs.declared.program.Fun.{Fun};
 ghost use Rattle.rb_core.specs.Typing.{and_then, arguments, clause_rule, clauses, field_types, fits, integer_operand, operands, operator_type, params_of, param_types, result_type, rule_of, type_of, variable_type};
 ghost use Rattle.rb_check.specs.Answers.{Answers, binders, wanted_types};
 
-use crate::pattern::{bind_whole, fields_of};
-use crate::types::{fit, integer, operand_wanted, operator_type, type_number};
+use crate::pattern::bind_whole;
+use crate::types::{fit, integer, type_number};
 use rb_core::expression::{Clause, Expr, Op};
+use rb_core::inference::{type_of_call, type_of_operator, types_of_fields, wanted_of_operand};
 use rb_core::program::{Param, Program};
 use rb_core::seq::Seq;
 use rb_core::types::{ConRef, Ty};
@@ -134,7 +135,7 @@ fn type_call(
         Wanted::Params(params_of(program, fun)),
         scope,
     )?;
-    fit(at, wanted, result_type(program, fun))
+    fit(at, wanted, type_of_call(program, fun))
 }
 
 // The type of a construction.
@@ -152,7 +153,7 @@ fn type_build(
         (field_types program.now.types con) (binders scope.old)) (λ typed. fits at wanted (Named con.ty))) }
     ensures scope { OnOk result (scope.new ≡ scope.old) }
 {
-    let fields = fields_of(program.types.as_slice(), con);
+    let fields = types_of_fields(program.types.as_slice(), con);
     type_arguments(program, at, parts, Wanted::Fields(fields), scope)?;
     fit(at, wanted, Ty::Named(con.ty))
 }
@@ -196,9 +197,9 @@ fn type_binary(
         (λ t. fits at wanted (operator_type op t))) }
     ensures scope { OnOk result (scope.new ≡ scope.old) }
 {
-    let first = type_integer(program, a, operand_wanted(op, wanted), scope)?;
+    let first = type_integer(program, a, wanted_of_operand(op, wanted), scope)?;
     let second = type_expression(program, b, Some(first), scope)?;
-    fit(at, wanted, operator_type(op, second))
+    fit(at, wanted, type_of_operator(op, second))
 }
 
 // The type of an expression that has to be an integer.
@@ -334,15 +335,5 @@ fn params_of(program: &Program, fun: u32) -> &[Param]
     match program.funs.get(fun as usize) {
         None => &[],
         Some(fun) => fun.params.as_slice(),
-    }
-}
-
-// The result type of the function with this number.
-fn result_type(program: &Program, fun: u32) -> Ty
-    ensures { result ≡ result_type program.now.funs fun }
-{
-    match program.funs.get(fun as usize) {
-        None => Ty::Int(64),
-        Some(fun) => fun.result,
     }
 }

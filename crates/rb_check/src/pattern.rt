@@ -2,29 +2,17 @@
 
 ghost use Rattle.std.specs.Prelude.{◌≡◌, ◌<◌, ◌==◌, length, map, take, drop, OnOk};
 ghost use Rattle.std.specs.List.{list_any};
-ghost use Rattle.rb_core.specs.Typing.{also_bound, fields_match, field_types, pattern_binders, pattern_params, repeated};
+ghost use Rattle.rb_core.specs.Typing.{also_bound, fields_match, pattern_binders, pattern_params, repeated};
 ghost use Rattle.rb_check.specs.Answers.{Leaves, binders, within};
 ghost use Rattle.rb_check.specs.inner.Below.{AreBelow};
 
 use crate::types::{can_hold, number_type};
+use rb_core::inference::types_of_fields;
 use rb_core::pattern::Pat;
 use rb_core::program::Param;
 use rb_core::seq::Seq;
-use rb_core::types::{ConRef, DataDecl, Ty};
+use rb_core::types::{DataDecl, Ty};
 use rb_core::typing::TypeFault;
-
-/// The types of a constructor's fields; none for a constructor that `types` hasn't.
-pub fn fields_of(types: &[DataDecl], con: ConRef) -> &[Ty]
-    ensures { result.now ≡ field_types types.now con }
-{
-    let Some(data) = types.get(con.ty as usize) else {
-        return &[];
-    };
-    match data.cons.get(con.con as usize) {
-        None => &[],
-        Some(con) => con.fields.as_slice(),
-    }
-}
 
 /// The token of the first variable that stands before in the list, too. Where numbers rise, as those
 /// of a file's binders do, only a variable that does stand before is sought there.
@@ -128,7 +116,7 @@ pub fn bind_pattern(
                 types,
                 *at,
                 subpatterns.as_slice(),
-                fields_of(types, *con),
+                types_of_fields(types, *con),
                 bound,
             )
         }

@@ -1,10 +1,9 @@
 //! Single types: what holds a number, and whether a found type is the wanted one.
 
 ghost use Rattle.std.specs.Prelude.{◌≡◌, ℕ, ◌^◌, ◌<◌, ◌≤◌};
-ghost use Rattle.rb_core.specs.Typing.{fits, holds, integer, integer_wanted, least_width, number, number_type, operand_wanted, operator_type};
+ghost use Rattle.rb_core.specs.Typing.{fits, holds, integer, integer_wanted, least_width, number, number_type};
 ghost use Rattle.rb_check.specs.Answers.{Answers};
 
-use rb_core::expression::Op;
 use rb_core::types::Ty;
 use rb_core::typing::TypeFault;
 
@@ -88,30 +87,5 @@ pub fn integer(at: u32, found: Ty) -> Result<Ty, TypeFault>
     match found {
         Ty::Int(_) => Ok(found),
         Ty::Named(_) => Err(TypeFault::Mismatch(at, Ty::Int(64), found)),
-    }
-}
-
-/// What is wanted of an operator's first operand.
-pub fn operand_wanted(op: Op, wanted: Option<Ty>) -> Option<Ty>
-    ensures { result ≡ operand_wanted op wanted }
-{
-    match op {
-        Op::Eq => None,
-        Op::Lt => None,
-        _ => match wanted {
-            Some(Ty::Int(bits)) => Some(Ty::Int(bits)),
-            _ => None,
-        },
-    }
-}
-
-/// What an operator gives for operands of this type.
-pub fn operator_type(op: Op, operands: Ty) -> Ty
-    ensures { result ≡ operator_type op operands }
-{
-    match op {
-        Op::Eq => Ty::Int(1),
-        Op::Lt => Ty::Int(1),
-        _ => operands,
     }
 }
