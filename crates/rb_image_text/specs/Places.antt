@@ -1,5 +1,6 @@
 -- Blocks that ascend without overlap from 64 on, and the first that doesn't.
 use Rattle.std.specs.Prelude.{◌≡◌, ℕ, zero, suc, ◌+◌, ◌<◌, ◌≤◌, List, length, Option, Some, None, slice_get}
+use Rattle.rb_bytes.specs.Memory.{most_region}
 use Rattle.rb_image_text.specs.declared.image.ImageBlock.{ImageBlock}
 
 -- the address behind a block
@@ -12,11 +13,11 @@ abbrev pub end_before : List ImageBlock → ℕ → ℕ
 end_before blocks zero = 0
 end_before blocks (suc i) = end_of (slice_get blocks i)
 
--- the block lies from 64 on, behind that end, and up to 16,777,216
+-- the block lies from 64 on, behind that end, and within the greatest region
 pub record IsInPlace (before : ℕ) (b : ImageBlock) : Type 0 where
   pub low : 64 ≤ b.at
   pub behind : before ≤ b.at
-  pub high : b.at + length b.bytes ≤ 16777216
+  pub high : b.at + length b.bytes ≤ most_region
 
 -- each block before this number is in its place
 abbrev pub AreInPlaceBefore : List ImageBlock → ℕ → Type 0

@@ -2,9 +2,6 @@
 
 use rb_core::seq::Seq;
 
-/// The bytes of a memory in which blocks of an image stand: all lie below this address.
-pub const MOST_REGION: u64 = 16_777_216;
-
 /// The least address of a block.
 pub const LEAST_ADDRESS: u64 = 64;
 

@@ -3,7 +3,8 @@
 ghost use Rattle.std.specs.Prelude.{◌≡◌, IsTrue, ◌↔◌, MatchOption};
 ghost use Rattle.rb_image_text.specs.Places.{IsInPlace, AreInPlace, IsFirstMisplaced};
 
-use crate::image::{ImageBlock, LEAST_ADDRESS, MOST_REGION};
+use crate::image::{ImageBlock, LEAST_ADDRESS};
+use rb_bytes::memory::MOST_REGION;
 
 // Whether a block lies from 64 on behind the address `before`, and up to the greatest region.
 fn is_in_place(before: u64, block: &ImageBlock) -> bool

@@ -1,7 +1,7 @@
 //! The memory over raw bytes, and the marks that say where its blocks are.
 
 ghost use Rattle.std.specs.Prelude.{◌≡◌, ℕ, ◌≤◌, IfOk, false, replicate};
-ghost use Rattle.rb_bytes.specs.Memory.{IsGood, empty_memory};
+ghost use Rattle.rb_bytes.specs.Memory.{IsGood, empty_memory, most_region};
 
 use crate::bytes::RawBytes;
 use rb_bytes::fault::{Full, Trap};
@@ -54,7 +54,7 @@ impl RawMemory {
     ///
     /// Want of memory.
     pub fn new(alloc: Global, limit: u64) -> Result<RawMemory, AllocError>
-        requires { (64 ≤ limit) × (limit ≤ 16777216) }
+        requires { (64 ≤ limit) × (limit ≤ most_region) }
         ensures value { IfOk result (λ m. m ≡ empty_memory limit) }
         ensures good { IfOk result (λ m. IsGood m) }
     {
