@@ -4,9 +4,9 @@ use Rattle.std.specs.Fmt.{decimal}
 use Rattle.std.specs.List.{All}
 use Rattle.std.proofs.lemmas.Fmt.{decimal_injective}
 use Rattle.std.proofs.lemmas.List.Elements.{All-head, All-tail}
-use Rattle.rb_command.specs.Command.{Limits, Command, Parsed, AreLimits, IsWordsOf, AreCommand, IsUsageAt, IsParsed, words_of, check, layout, compile, run, image, count, gen, genrun, exec, value}
+use Rattle.rb_command.specs.Command.{Limits, Command, Parsed, AreLimits, IsWordsOf, AreCommand, IsParsed, words_of, check, layout, compile, run, image, count, gen, genrun, exec, value}
 use Rattle.rb_command.specs.inner.Parsing.{command_of}
-use Rattle.rb_command.proofs.Stopping.{Stops, one_stop, stops_none}
+use Rattle.rb_command.proofs.Stopping.{one_stop, stops_none}
 use Rattle.rb_command.proofs.Worded.{of_check, of_layout, of_compile, of_run, of_image, of_count, of_gen, of_genrun, of_exec, of_value, is_parsed}
 
 -- One command -------------------------------------------------------------------------------
@@ -68,16 +68,13 @@ one_command (value file second) d h k = sym (of_value (file ∷ second ∷ []) d
 
 -- One word at fault -------------------------------------------------------------------------
 
-stops : (words : List (List ℕ)) (n : ℕ) (h : IsUsageAt words n) → Stops AreCommand words h.good
-stops words n h = record { within = h.within; before = h.before; here = h.here; at_end = h.at_end }
-
 pub one_meaning : (words : List (List ℕ)) (p q : Parsed) → IsParsed words p → IsParsed words q → p ≡ q
 one_meaning words (Ok c) (Ok d) h k =
     ap Ok (one_command c d (record { bounded = h.bounded; written = refl }) (subst (λ (ws : List (List ℕ)). IsWordsOf d ws) h.written k))
-one_meaning words (Ok c) (Err m) h k = absurd (stops_none AreCommand words k.good (stops words m k) (c, h))
-one_meaning words (Err n) (Ok d) h k = absurd (stops_none AreCommand words h.good (stops words n h) (d, k))
+one_meaning words (Ok c) (Err m) h k = absurd (stops_none AreCommand words k.good k.stops (c, h))
+one_meaning words (Err n) (Ok d) h k = absurd (stops_none AreCommand words h.good h.stops (d, k))
 one_meaning words (Err n) (Err m) h k =
-    let e : h.good ≡ k.good = one_stop AreCommand words h.good k.good (stops words n h) (stops words m k) in
+    let e : h.good ≡ k.good = one_stop AreCommand words h.good k.good h.stops k.stops in
     ap Err (h.number ∙ ap suc e ∙ sym k.number)
 
 -- any words come to something

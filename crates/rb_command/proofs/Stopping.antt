@@ -3,16 +3,14 @@ use Rattle.std.proofs.Common.{◌≡◌, ◌⊎◌, inl, inr, ℕ, zero, suc, �
 use Rattle.std.proofs.Math.Nat.{eq-or-lt_of_le}
 use Rattle.std.proofs.Math.Seq.{take-length}
 use Rattle.std.proofs.lemmas.Bool.{cases_order}
+use Rattle.rb_core.specs.Stopping.{BeginsSome, StopsAtIn}
 
 -- the words begin some of the language
 abbrev pub Begins : (List (List ℕ) → Type 0) → List (List ℕ) → Type 0
-Begins L words = (more : List (List ℕ)) × L (words ++ more)
+Begins L words = BeginsSome L words
 
-pub record Stops (L : List (List ℕ) → Type 0) (words : List (List ℕ)) (good : ℕ) : Type 0 where
-  pub within : good ≤ length words
-  pub before : Begins L (take good words)
-  pub here : good < length words → Begins L (take (suc good) words) → ⊥
-  pub at_end : good ≡ length words → L words → ⊥
+abbrev pub Stops : (List (List ℕ) → Type 0) → List (List ℕ) → ℕ → Type 0
+Stops L words good = StopsAtIn L words good
 
 -- One place ---------------------------------------------------------------------------------
 

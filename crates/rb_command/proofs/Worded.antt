@@ -487,7 +487,7 @@ is_parsed words = of (command_of words) (reads_command words) where
   of (Ok c) h = h
   of (Err m) h =
       let s = h.2 in
-      record { good = h.0; number = omega (arith, h.1); within = s.within; before = s.before; here = s.here; at_end = s.at_end }
+      record { good = h.0; number = omega (arith, h.1); stops = record { within = s.within; before = s.before; here = s.here; at_end = s.at_end } }
 
 -- and what a parser answers by it
 pub parsed_words : (words : List (List ℕ)) (r : Result declared.Command CommandFault) → MatchResult r (λ c. command_of words ≡ Ok (command_view c)) (StopsAs (command_of words))

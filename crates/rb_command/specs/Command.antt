@@ -1,7 +1,10 @@
 -- The command line: the words of each command, and the first word at fault where words are no command.
-use Rattle.std.specs.Prelude.{◌≡◌, ◌≤◌, ◌<◌, ℕ, suc, ◌^◌, List, [], ◌∷◌, ◌++◌, codes, length, map, take, Result, Ok, Err}
+use Rattle.std.specs.Prelude.{◌≡◌, ◌≤◌, ◌<◌, ℕ, suc, ◌^◌, List, [], ◌∷◌, codes, map, Result, Ok, Err}
 use Rattle.std.specs.Fmt.{decimal}
 use Rattle.std.specs.List.{All}
+use Rattle.rb_bytes.specs.Memory.{most_region}
+use Rattle.rb_core.specs.Limits.{most_calls}
+use Rattle.rb_core.specs.Stopping.{StopsAtIn}
 
 -- CALLS and REGION: how many calls a run may make, and the address at which its memory ends
 pub record Limits : Type 0 where
@@ -26,11 +29,14 @@ abbrev pub IsBetween : ℕ → ℕ → ℕ → Type 0
 IsBetween low high n = (low ≤ n) × (n ≤ high)
 
 abbrev pub AreLimits : Limits → Type 0
-AreLimits limits = IsBetween 0 1000000000 limits.calls × IsBetween 64 16777216 limits.region
+AreLimits limits = IsBetween 0 most_calls limits.calls × IsBetween 64 most_region limits.region
 
 -- how many functions a generated file may have beside `up` and `main`
+abbrev pub most_generated : ℕ
+most_generated = 2000
+
 abbrev pub IsFunctionCount : ℕ → Type 0
-IsFunctionCount functions = IsBetween 1 2000 functions
+IsFunctionCount functions = IsBetween 1 most_generated functions
 
 -- the numbers of a command lie within their bounds
 abbrev pub IsWithinBounds : Command → Type 0
@@ -71,19 +77,12 @@ pub record IsWordsOf (command : Command) (words : List (List ℕ)) : Type 0 wher
 abbrev pub AreCommand : List (List ℕ) → Type 0
 AreCommand words = (command : Command) × IsWordsOf command words
 
--- they are the first words of some command
-abbrev pub BeginCommand : List (List ℕ) → Type 0
-BeginCommand words = (more : List (List ℕ)) × AreCommand (words ++ more)
-
 -- The first word at fault, where words are counted from 1: the words before it begin a command, and with it they
 -- begin none. It is one more than the words where all of them begin a command and are none.
 pub record IsUsageAt (words : List (List ℕ)) (word : ℕ) : Type 0 where
   pub good : ℕ
   pub number : word ≡ suc good
-  pub within : good ≤ length words
-  pub before : BeginCommand (take good words)
-  pub here : good < length words → BeginCommand (take (suc good) words) → ⊥
-  pub at_end : good ≡ length words → AreCommand words → ⊥
+  pub stops : StopsAtIn AreCommand words good
 
 -- Words as they are read --------------------------------------------------------------------
 

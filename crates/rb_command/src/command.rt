@@ -7,7 +7,9 @@ ghost use Rattle.rb_command.specs.View.{command_view, limits_view, IsUsage};
 ghost use Rattle.rb_command.specs.inner.Parsing.{check_words, command_of, compile_words, count_words, exec_words, function_words, gen_words, genrun_words, image_words, layout_words, numbers_from, run_words, value_words, with_call, with_functions, with_limits, StopsAs};
 
 use crate::limits::{Functions, Limits};
+use rb_bytes::memory::MOST_REGION;
 use rb_core::decimal::number_in;
+use rb_core::limits::MOST_CALLS;
 use rb_core::seq::Seq;
 use rb_edge::seq::Name;
 use std::alloc::{AllocError, Global};
@@ -88,13 +90,9 @@ impl From<AllocError> for CommandFault {
     }
 }
 
-const CALLS: u64 = 1_000_000_000;
-
 const LEAST_REGION: u64 = 64;
 
-const REGION: u64 = 16_777_216;
-
-// The most functions of a generated file, `up` and `main` apart.
+// The most functions of a generated file, `up` and `main` apart; clauses cite it as `most_generated`.
 const FUNCTIONS: u64 = 2_000;
 
 // The number of the first WORD behind `exec`.
@@ -110,13 +108,13 @@ fn parse_limits<'a>(number: usize, words: &'a [Name]) -> Result<(Limits, &'a [Na
     let [word, words @ ..] = words else {
         return Err(CommandFault::Usage(number));
     };
-    let Some(calls) = number_in(0, CALLS, word.as_slice()) else {
+    let Some(calls) = number_in(0, MOST_CALLS, word.as_slice()) else {
         return Err(CommandFault::Usage(number));
     };
     let [word, words @ ..] = words else {
         return Err(CommandFault::Usage(number + 1));
     };
-    let Some(region) = number_in(LEAST_REGION, REGION, word.as_slice()) else {
+    let Some(region) = number_in(LEAST_REGION, MOST_REGION, word.as_slice()) else {
         return Err(CommandFault::Usage(number + 1));
     };
     Ok((Limits { calls, region }, words))

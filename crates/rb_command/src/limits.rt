@@ -1,6 +1,9 @@
 //! How far a run may go, and how large a generated file may be.
 
 ghost use Rattle.std.specs.Prelude.{◌≤◌};
+ghost use Rattle.rb_bytes.specs.Memory.{most_region};
+ghost use Rattle.rb_core.specs.Limits.{most_calls};
+ghost use Rattle.rb_command.specs.Command.{most_generated};
 
 /// How many calls a run may make, and how much memory it may take.
 #[derive(Clone, Copy)]
@@ -9,9 +12,9 @@ pub struct Limits {
     pub calls: u64,
     /// The address at which the memory of a run ends, in bytes.
     pub region: u64,
-    ghost few: { calls ≤ 1000000000 },
+    ghost few: { calls ≤ most_calls },
     ghost low: { 64 ≤ region },
-    ghost high: { region ≤ 16777216 },
+    ghost high: { region ≤ most_region },
 }
 
 /// How many functions a generated file has beside `up` and `main`.
@@ -19,5 +22,5 @@ pub struct Limits {
 pub struct Functions {
     pub count: u64,
     ghost some: { 1 ≤ count },
-    ghost few: { count ≤ 2000 },
+    ghost few: { count ≤ most_generated },
 }

@@ -1,8 +1,10 @@
 -- Words read one after the other, with the number of the first that is at fault. What it comes to is `IsParsed`.
 use Rattle.std.specs.Prelude.{◌≡◌, ℕ, ◌+◌, ◌-◌, ◌^◌, List, [], ◌∷◌, codes, Option, Some, None, Result, Ok, Err, if◌then◌else◌}
 use Rattle.std.specs.Str.{bytes_eq}
+use Rattle.rb_bytes.specs.Memory.{most_region}
 use Rattle.rb_core.specs.Decimal.{number_in}
-use Rattle.rb_command.specs.Command.{Limits, Command, Parsed, check, layout, compile, run, image, count, gen, genrun, exec, value}
+use Rattle.rb_core.specs.Limits.{most_calls}
+use Rattle.rb_command.specs.Command.{Limits, Command, Parsed, most_generated, check, layout, compile, run, image, count, gen, genrun, exec, value}
 use Rattle.rb_command.specs.declared.command.CommandFault.{CommandFault}
 use Rattle.rb_command.specs.declared.command.CommandFault.TheVariants as fault
 
@@ -22,8 +24,8 @@ with_number n low high words go = with_word n words (λ w ws. at_number n (numbe
 -- CALLS and REGION, from the word of this number on
 abbrev pub with_limits : ℕ → List (List ℕ) → (Limits → List (List ℕ) → Parsed) → Parsed
 with_limits n words go =
-    with_number n 0 1000000000 words (λ calls ws.
-    with_number (n + 1) 64 16777216 ws (λ region rest.
+    with_number n 0 most_calls words (λ calls ws.
+    with_number (n + 1) 64 most_region ws (λ region rest.
     go (record { calls = calls; region = region }) rest))
 
 -- the command where no word is left, of which the first would have this number
@@ -56,7 +58,7 @@ count_words words = with_call words count
 
 -- N, how many functions a generated file has beside `up` and `main`
 abbrev pub with_functions : List (List ℕ) → (ℕ → List (List ℕ) → Parsed) → Parsed
-with_functions words go = with_number 2 1 2000 words go
+with_functions words go = with_number 2 1 most_generated words go
 
 -- N and no more
 abbrev pub gen_words : List (List ℕ) → Parsed
