@@ -1,4 +1,15 @@
 //! What typing promises of a run, proved of the source meaning.
+//!
+//! It is the theorem of type soundness for a meaning by evaluation: by induction over the calls that are
+//! left, and within a call over its expression. An environment has for each variable in scope a value of the
+//! type that typing gives the variable. Of `let n: u64 = add(x, 1) in Cons(n, xs)` with `xs` a `List`, the
+//! sum is below 2^64, so `n` is bound to a `u64`, and the construction, whose fields are of the
+//! constructor's types, gives a `List`. At a match the value has the type of the patterns, so the one that
+//! matches binds values of its variables' types; and one does match, since matches are exhaustive.
+//!
+//! The conclusion says three things of each run, also of one that has no call left: a value at its end is of
+//! the type that typing gives, each value that was built on the way is of the type that the log notes with
+//! it, and both hold for an expression in any scope as for a whole call.
 #![tactic(auto)]
 
 mod numbers;
