@@ -15,6 +15,7 @@ mod Compiled
 mod Accepted
 mod Whole
 mod Refined
+mod Trimmed
 mod Agreeing
 mod Pruning
 mod Marking

@@ -11,6 +11,7 @@ use rb_core::program::Fun;
 use rb_core::seq::Seq;
 use rb_layout::agreed::Agreed;
 use rb_target::code::{Code, CodeFun};
+use rb_trim::trim::trim;
 use std::alloc::{AllocError, Global};
 
 /// The code of a program whose layouts agree: a function for each of its functions, in their order.
@@ -22,7 +23,8 @@ pub fn compile(alloc: Global, agreed: &Agreed) -> Result<Code, AllocError>
     ensures thrifty { IfOk result (λ code. IsThrifty (plan_of agreed.now) code) }
 {
     let code = compile_all(alloc, agreed, functions(agreed))?;
-    Ok(Code::new(code))
+    let code = trim(alloc, Code::new(code))?;
+    Ok(code)
 }
 
 // The program's functions, of which all is known that their code needs.

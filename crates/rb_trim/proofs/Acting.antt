@@ -1,0 +1,172 @@
+-- One instruction of a body and the one that stands for it do alike.
+use Rattle.std.proofs.Common.{◌≡◌, ℕ, zero, suc, ◌+◌, ◌%◌, ◌^◌, ◌<◌, ◌≤◌, Bool, true, false, nat_eq, cond, List, [], ◌∷◌, map, length, Option, Some, None, Ok, refl, sym, subst, ap, ◌∙◌, arith}
+use Rattle.std.proofs.lemmas.List.{length-set, length-map}
+use Rattle.std.proofs.lemmas.List.Elements.{All-head, All-tail}
+use Rattle.std.specs.Prelude.{slice_get, slice_index, slice_set, IfSome, All}
+use Rattle.rb_bits.specs.Words.{take_of, put_of}
+use Rattle.rb_bytes.specs.Memory.{load_of, store_of, place_of}
+use Rattle.rb_target.specs.Meaning.{World, Outcome, Next, Callee, act, over, taken, switched, with_memory, target_of, alu_of, slots_at, put_slots, after_load, after_store, after_place, after_switch, after_call}
+use Rattle.rb_target.specs.Validity.{SlotsFit, CallsFit, FitsCall}
+use Rattle.rb_target.specs.declared.outcome.End.TheVariants.{Returned, Trapped}
+use Rattle.rb_bytes.specs.declared.fault.Trap.TheVariants.{Unmatched}
+use Rattle.rb_target.specs.declared.instr.SwitchArm.{SwitchArm}
+use Rattle.rb_target.specs.declared.instr.Instr.{Instr}
+use Rattle.rb_target.specs.declared.instr.Instr.TheVariants.{Const, Copy, Alu, Take, Put, Load, Store, Place, Jump, Switch, Call, Return}
+use Rattle.rb_target.specs.declared.code.CodeFun.{CodeFun}
+use Rattle.rb_trim.specs.declared.fact.Fact.{Fact}
+use Rattle.rb_trim.specs.declared.hints.Hints.{Hints}
+use Rattle.rb_trim.specs.Trimming.{IsNoDearer}
+use Rattle.rb_trim.specs.inner.Facts.{Hold, Turns}
+use Rattle.rb_trim.specs.inner.Moving.{IsRead, Agree, AreApart, IsDest, IsName, AreDests, AreNames, place, place_in, moved_arm, IsMoved, IsIdle, Leads}
+use Rattle.rb_trim.proofs.Outcomes.{Near, over_near, near_taken, near_behind, near_switched, near_memory, near_of, load_near, store_near, place_near, call_near}
+use Rattle.rb_trim.proofs.Slots.{set_agrees, later, put_agrees, put_long, names_same, set_unread}
+
+-- two callees, one no dearer, for the words that functions take
+pub record CallsNear (funs : List CodeFun) (new old : Callee) : Type 0 where
+  pub by : (g : ℕ) (f : CodeFun) → slice_get funs g ≡ Some f → (words : List ℕ) → length words ≡ f.params → (v w : World) → Near v w
+      → IsNoDearer (new g words v) (old g words w)
+
+fits_some : (o : Option CodeFun) (ds froms : List ℕ) → FitsCall o ds froms → (f : CodeFun) × (o ≡ Some f) × (length froms ≡ f.params)
+fits_some None ds froms fits = absurd fits
+fits_some (Some f) ds froms fits = (f, refl, fits.1)
+
+-- a moved switch leads where the switch leads
+moved_target : (h : Hints) (arms : List SwitchArm) (other : Option ℕ) (word : ℕ) → target_of (map (λ (arm : SwitchArm). moved_arm h arm) arms) (place_in h other) word ≡ place_in h (target_of arms other word)
+moved_target h [] other word = refl
+moved_target h (arm ∷ arms) other word =
+    let more = moved_target h arms other word in
+    let P : Bool → Type 0 = λ b. cond b (Some (place h arm.target)) (target_of (map (λ (arm : SwitchArm). moved_arm h arm) arms) (place_in h other) word) ≡ place_in h (cond b (Some arm.target) (target_of arms other word)) in
+    elim (nat_eq arm.number word) as P [ true ↦ refl | false ↦ more ]
+
+led : (P : ℕ → Type 0) (arms : List SwitchArm) (other : Option ℕ) (word t : ℕ) → All (λ (arm : SwitchArm). P arm.target) arms → IfSome other P → target_of arms other word ≡ Some t → P t
+led P [] other word t a o e = subst (λ (x : Option ℕ). IfSome x P) e o
+led P (arm ∷ arms) other word t a o e =
+    let Q : Bool → Type 0 = λ b. cond b (Some arm.target) (target_of arms other word) ≡ Some t → P t in
+    (elim (nat_eq arm.number word) as Q [
+      | true ↦ λ h. subst (λ (x : Option ℕ). IfSome x P) h (All-head (λ (arm : SwitchArm). P arm.target) arm arms a)
+      | false ↦ λ h. led P arms other word t (All-tail (λ (arm : SwitchArm). P arm.target) arm arms a) o h
+    ]) e
+
+switch_near : (h : Hints) (o : Option ℕ) (word : ℕ) (v w : World) (g k : ℕ → Outcome) → Near v w → ((t : ℕ) → o ≡ Some t → IsNoDearer (g (place h t)) (k t)) → IsNoDearer (after_switch (place_in h o) word v g) (after_switch o word w k)
+switch_near h None word v w g k n e = over_near (Trapped (Unmatched word)) v w n
+switch_near h (Some t) word v w g k n e = e t refl
+
+-- what goes on behind an instruction
+abbrev pub GoesOn : Hints → ℕ → ℕ → ℕ → (ℕ → Type 0) → Next → Next → Instr → List ℕ → World → Type 0
+GoesOn h slots slots' pc P next' next i s w =
+    (t t' : ℕ) (s1 s1' : List ℕ) (w1 w1' : World) → t' ≡ place h t → P t → Turns i s w.memory s1 w1.memory
+    → slots ≤ length s1 → slots' ≤ length s1' → Agree h (pc + 1) s1 s1' → Near w1' w1 → IsNoDearer (next' t' s1' w1') (next t s1 w1)
+
+module _ (h : Hints) (apart : AreApart h) (funs : List CodeFun) (results slots slots' pc pc' : ℕ) (facts : List Fact) (new old : Callee) (calls : CallsNear funs new old)
+    (P : ℕ → Type 0) (next' next : Next) (s s' : List ℕ) (v w : World) (near : Near v w) (long : slots ≤ length s) (long' : slots' ≤ length s')
+    (agree : Agree h pc s s') (hold : Hold s w.memory facts) (behind : pc' + 1 ≡ place h (pc + 1)) where
+
+  onward : Agree h (pc + 1) s s'
+  onward = later h apart pc (pc + 1) s s' (omega arith) agree
+
+  named : (a a' : ℕ) → IsName h facts pc a a' → slice_index s' a' ≡ slice_index s a
+  named a a' name = name.same s s' w.memory agree hold
+
+  -- the same word goes to a slot
+  one_set : (d d' x : ℕ) → IsDest h d d' → d < slots → d' < slots' → Agree h (pc + 1) (slice_set s d x) (slice_set s' d' x)
+  one_set d d' x dest lt lt' = set_agrees h apart (pc + 1) d d' x s s' onward dest (omega (arith, lt, long)) (omega (arith, lt', long'))
+
+  set_long : (d x : ℕ) → slots ≤ length (slice_set s d x)
+  set_long d x = omega (arith, long, length-set s d x)
+
+  set_long' : (d x : ℕ) → slots' ≤ length (slice_set s' d x)
+  set_long' d x = omega (arith, long', length-set s' d x)
+
+  -- one word is written, and no memory
+  writes : (i : Instr) (d d' x y : ℕ) → P (pc + 1) → IsDest h d d' → d < slots → d' < slots' → y ≡ x → Turns i s w.memory (slice_set s d x) w.memory
+      → GoesOn h slots slots' pc P next' next i s w → IsNoDearer (next' (pc' + 1) (slice_set s' d' y) v) (next (pc + 1) (slice_set s d x) w)
+  writes i d d' x y to dest lt lt' e turns go =
+      subst (λ z. IsNoDearer (next' (pc' + 1) (slice_set s' d' z) v) (next (pc + 1) (slice_set s d x) w)) (sym e)
+      (go (pc + 1) (pc' + 1) (slice_set s d x) (slice_set s' d' x) w v behind to turns (set_long d x) (set_long' d' x) (one_set d d' x dest lt lt') near)
+
+  pub acts_alike : (i j : Instr) → IsMoved h facts pc i j → SlotsFit slots i → SlotsFit slots' j → CallsFit funs results i → Leads P i pc
+      → GoesOn h slots slots' pc P next' next i s w → IsNoDearer (act j next' new pc' s' v) (act i next old pc s w)
+  acts_alike (Const d c) j m fit fit' call leads go =
+      let f : SlotsFit slots' (Const m.0 c) = subst (λ (k : Instr). SlotsFit slots' k) m.1 fit' in
+      subst (λ (k : Instr). IsNoDearer (act k next' new pc' s' v) (act (Const d c) next old pc s w)) (sym m.1)
+      (writes (Const d c) d m.0 c c leads m.2 fit f refl (refl, refl) go)
+  acts_alike (Copy d a) j m fit fit' call leads go =
+      let f : SlotsFit slots' (Copy m.0 m.1) = subst (λ (k : Instr). SlotsFit slots' k) m.2 fit' in
+      subst (λ (k : Instr). IsNoDearer (act k next' new pc' s' v) (act (Copy d a) next old pc s w)) (sym m.2)
+      (writes (Copy d a) d m.0 (slice_index s a) (slice_index s' m.1) leads m.3 fit.0 f.0 (named a m.1 m.4) (refl, refl) go)
+  acts_alike (Alu op n d a b) j m fit fit' call leads go =
+      let f : SlotsFit slots' (Alu op n m.0 m.1 m.2) = subst (λ (k : Instr). SlotsFit slots' k) m.3 fit' in
+      let e : alu_of op n (slice_index s' m.1) (slice_index s' m.2) ≡ alu_of op n (slice_index s a) (slice_index s b) =
+          ap (λ x. alu_of op n x (slice_index s' m.2)) (named a m.1 m.5) ∙ ap (λ x. alu_of op n (slice_index s a) x) (named b m.2 m.6) in
+      subst (λ (k : Instr). IsNoDearer (act k next' new pc' s' v) (act (Alu op n d a b) next old pc s w)) (sym m.3)
+      (writes (Alu op n d a b) d m.0 (alu_of op n (slice_index s a) (slice_index s b)) (alu_of op n (slice_index s' m.1) (slice_index s' m.2)) leads m.4 fit.0 f.0 e (refl, refl) go)
+  acts_alike (Take d a o l) j m fit fit' call leads go =
+      let f : SlotsFit slots' (Take m.0 m.1 o l) = subst (λ (k : Instr). SlotsFit slots' k) m.2 fit' in
+      subst (λ (k : Instr). IsNoDearer (act k next' new pc' s' v) (act (Take d a o l) next old pc s w)) (sym m.2)
+      (writes (Take d a o l) d m.0 (take_of (slice_index s a) o l) (take_of (slice_index s' m.1) o l) leads m.3 fit.0 f.0 (ap (λ x. take_of x o l) (named a m.1 m.4)) (refl, refl) go)
+  acts_alike (Put d a o l) j m fit fit' call leads go =
+      let f : SlotsFit slots' (Put m.0 m.1 o l) = subst (λ (k : Instr). SlotsFit slots' k) m.2 fit' in
+      let e : put_of (slice_index s' m.0) o l (slice_index s' m.1 % 2 ^ l) ≡ put_of (slice_index s d) o l (slice_index s a % 2 ^ l) =
+          ap (λ x. put_of x o l (slice_index s' m.1 % 2 ^ l)) (named d m.0 m.4) ∙ ap (λ x. put_of (slice_index s d) o l (x % 2 ^ l)) (named a m.1 m.5) in
+      subst (λ (k : Instr). IsNoDearer (act k next' new pc' s' v) (act (Put d a o l) next old pc s w)) (sym m.2)
+      (writes (Put d a o l) d m.0 (put_of (slice_index s d) o l (slice_index s a % 2 ^ l)) (put_of (slice_index s' m.0) o l (slice_index s' m.1 % 2 ^ l)) leads m.3 fit.0 f.0 e (refl, refl) go)
+  acts_alike (Load d a offset width) j m fit fit' call leads go =
+      let f : SlotsFit slots' (Load m.0 m.1 offset width) = subst (λ (k : Instr). SlotsFit slots' k) m.2 fit' in
+      let e : load_of v.memory (slice_index s' m.1) offset width ≡ load_of w.memory (slice_index s a) offset width =
+          ap (λ x. load_of x (slice_index s' m.1) offset width) near.memory ∙ ap (λ x. load_of w.memory x offset width) (named a m.1 m.4) in
+      subst (λ (k : Instr). IsNoDearer (act k next' new pc' s' v) (act (Load d a offset width) next old pc s w)) (sym m.2)
+      (subst (λ r. IsNoDearer (after_load r v (λ x. next' (pc' + 1) (slice_set s' m.0 x) v)) (act (Load d a offset width) next old pc s w)) (sym e)
+      (load_near (load_of w.memory (slice_index s a) offset width) v w (λ x. next' (pc' + 1) (slice_set s' m.0 x) v) (λ x. next (pc + 1) (slice_set s d x) w) near
+      (λ x is. writes (Load d a offset width) d m.0 x x leads m.3 fit.0 f.0 refl (x, is, refl, refl) go)))
+  acts_alike (Store a offset width k) j m fit fit' call leads go =
+      let e : store_of v.memory (slice_index s' m.0) offset width (slice_index s' m.1) ≡ store_of w.memory (slice_index s a) offset width (slice_index s k) =
+          ap (λ x. store_of x (slice_index s' m.0) offset width (slice_index s' m.1)) near.memory
+          ∙ ap (λ x. store_of w.memory x offset width (slice_index s' m.1)) (named a m.0 m.3)
+          ∙ ap (λ x. store_of w.memory (slice_index s a) offset width x) (named k m.1 m.4) in
+      let stored = store_of w.memory (slice_index s a) offset width (slice_index s k) in
+      let n1 = near_memory v w stored.1 near in
+      subst (λ (i : Instr). IsNoDearer (act i next' new pc' s' v) (act (Store a offset width k) next old pc s w)) (sym m.2)
+      (subst (λ r. IsNoDearer (after_store r.0 (with_memory v r.1) (next' (pc' + 1) s' (with_memory v r.1))) (act (Store a offset width k) next old pc s w)) (sym e)
+      (store_near stored.0 (with_memory v stored.1) (with_memory w stored.1) (next' (pc' + 1) s' (with_memory v stored.1)) (next (pc + 1) s (with_memory w stored.1)) n1
+      (go (pc + 1) (pc' + 1) s s' (with_memory w stored.1) (with_memory v stored.1) behind leads refl long long' onward n1)))
+  acts_alike (Place d size align) j m fit fit' call leads go =
+      let f : SlotsFit slots' (Place m.0 size align) = subst (λ (k : Instr). SlotsFit slots' k) m.1 fit' in
+      let e : place_of v.memory size align ≡ place_of w.memory size align = ap (λ x. place_of x size align) near.memory in
+      let placed = place_of w.memory size align in
+      let n1 = near_memory v w placed.1 near in
+      subst (λ (i : Instr). IsNoDearer (act i next' new pc' s' v) (act (Place d size align) next old pc s w)) (sym m.1)
+      (subst (λ r. IsNoDearer (after_place r.0 (with_memory v r.1) (λ x. next' (pc' + 1) (slice_set s' m.0 x) (with_memory v r.1))) (act (Place d size align) next old pc s w)) (sym e)
+      (place_near placed.0 (with_memory v placed.1) (with_memory w placed.1) (λ x. next' (pc' + 1) (slice_set s' m.0 x) (with_memory v placed.1)) (λ x. next (pc + 1) (slice_set s d x) (with_memory w placed.1)) n1
+      (λ x. go (pc + 1) (pc' + 1) (slice_set s d x) (slice_set s' m.0 x) (with_memory w placed.1) (with_memory v placed.1) behind leads (x, refl) (set_long d x) (set_long' m.0 x) (one_set d m.0 x m.2 fit f) n1)))
+  acts_alike (Jump t) j m fit fit' call leads go =
+      subst (λ (k : Instr). IsNoDearer (act k next' new pc' s' v) (act (Jump t) next old pc s w)) (sym m)
+      (go t (place h t) s s' w v refl leads (refl, refl) long long' onward near)
+  acts_alike (Switch a other arms) j m fit fit' call leads go =
+      let x = slice_index s a in
+      let n1 = near_switched v w near in
+      let e : target_of (map (λ (arm : SwitchArm). moved_arm h arm) arms) (place_in h other) x ≡ place_in h (target_of arms other x) = moved_target h arms other x in
+      subst (λ (k : Instr). IsNoDearer (act k next' new pc' s' v) (act (Switch a other arms) next old pc s w)) (sym m.1)
+      (subst (λ y. IsNoDearer (after_switch (target_of (map (λ (arm : SwitchArm). moved_arm h arm) arms) (place_in h other) y) y (switched v) (λ t. next' t s' (switched v))) (act (Switch a other arms) next old pc s w)) (sym (named a m.0 m.2))
+      (subst (λ o. IsNoDearer (after_switch o x (switched v) (λ t. next' t s' (switched v))) (act (Switch a other arms) next old pc s w)) (sym e)
+      (switch_near h (target_of arms other x) x (switched v) (switched w) (λ t. next' t s' (switched v)) (λ t. next t s (switched w)) n1
+      (λ t is. go t (place h t) s s' (switched w) (switched v) refl (led P arms other x t leads.1 leads.0 is) (refl, refl) long long' onward n1))))
+  acts_alike (Call g ds froms) j m fit fit' call leads go =
+      let f : SlotsFit slots' (Call g m.0 m.1) = subst (λ (k : Instr). SlotsFit slots' k) m.2 fit' in
+      let words = slots_at s froms in
+      let e : slots_at s' m.1 ≡ words = names_same h facts pc froms m.1 s s' w.memory agree hold m.4 in
+      let fits = fits_some (slice_get funs g) ds froms call in
+      let d : IsNoDearer (new g words v) (old g words w) = calls.by g fits.0 fits.1 words (length-map froms (λ a. slice_index s a) ∙ fits.2) v w near in
+      let n1 = near_of (new g words v) (old g words w) d in
+      subst (λ (i : Instr). IsNoDearer (act i next' new pc' s' v) (act (Call g ds froms) next old pc s w)) (sym m.2)
+      (subst (λ us. IsNoDearer (after_call (new g us v).ended (new g us v).world (λ x. next' (pc' + 1) (put_slots s' m.0 x) (new g us v).world)) (act (Call g ds froms) next old pc s w)) (sym e)
+      (subst (λ k. IsNoDearer (after_call k (new g words v).world (λ x. next' (pc' + 1) (put_slots s' m.0 x) (new g words v).world)) (act (Call g ds froms) next old pc s w)) (sym d.ended)
+      (call_near (old g words w).ended (new g words v).world (old g words w).world _ _ n1
+      (λ x. go (pc + 1) (pc' + 1) (put_slots s ds x) (put_slots s' m.0 x) (old g words w).world (new g words v).world behind leads (x, refl)
+        (omega (arith, long, put_long ds x s)) (omega (arith, long', put_long m.0 x s'))
+        (put_agrees h apart (pc + 1) ds m.0 x s s' slots slots' onward m.3 fit.0 f.0 long long') n1))))
+  acts_alike (Return froms) j m fit fit' call leads go =
+      let e : slots_at s' m.0 ≡ slots_at s froms = names_same h facts pc froms m.0 s s' w.memory agree hold m.2 in
+      subst (λ (k : Instr). IsNoDearer (act k next' new pc' s' v) (act (Return froms) next old pc s w)) (sym m.1)
+      (subst (λ us. IsNoDearer (over (Returned us v.left) v) (act (Return froms) next old pc s w)) (sym e)
+      (subst (λ n. IsNoDearer (over (Returned (slots_at s froms) n) v) (over (Returned (slots_at s froms) w.left) w)) (sym near.left)
+      (over_near (Returned (slots_at s froms) w.left) v w near)))

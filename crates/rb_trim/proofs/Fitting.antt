@@ -1,0 +1,296 @@
+-- A shorter body is valid, and so are shorter functions together.
+use Rattle.std.proofs.Common.{◌≡◌, ℕ, zero, suc, ◌+◌, ◌-◌, ◌^◌, ◌<◌, ◌≤◌, ◌⊎◌, inl, inr, List, [], ◌∷◌, ◌++◌, map, length, take, Option, Some, None, refl, sym, subst, ap, ◌∙◌, arith, length-append, get_or}
+use Rattle.std.proofs.lemmas.Option.{slice_get_within, same_Some}
+use Rattle.std.proofs.lemmas.List.{get_or_default}
+use Rattle.std.proofs.lemmas.List.Elements.{All-head, All-tail, All-cons, All-nil}
+use Rattle.std.specs.Prelude.{slice_get, slice_index, All}
+use Rattle.rb_target.specs.Validity.{IsBounded, SlotsFit, TargetsFit, CallsFit, FitsCall, IsFine, IsLower, IsValid, IsValidFun}
+use Rattle.rb_target.specs.declared.instr.SwitchArm.{SwitchArm}
+use Rattle.rb_target.specs.declared.instr.Instr.{Instr}
+use Rattle.rb_target.specs.declared.instr.Instr.TheVariants.{Const, Copy, Alu, Take, Put, Load, Store, Place, Jump, Switch, Call, Return}
+use Rattle.rb_target.specs.declared.code.CodeFun.{CodeFun}
+use Rattle.rb_target.proofs.Growing.{below_or, get-append, get-seam}
+use Rattle.rb_trim.specs.declared.fact.Fact.{Fact}
+use Rattle.rb_trim.specs.declared.hints.Hints.{Hints}
+use Rattle.rb_trim.specs.Trimming.{HasSameHead, IsTrimOf}
+use Rattle.rb_trim.specs.inner.Moving.{AreApart, IsApart, KeepParams, KeepsParam, IsRead, AreDests, AreNames, IsDest, IsName, facts_at, place, moved_arm, IsMoved, IsIdle, IsKept, IsLeftOut, IsStep, HaveSameHeads, IsTrimmed}
+use Rattle.rb_trim.specs.inner.Facts.{Follows}
+use Rattle.rb_trim.specs.inner.Stepping.{FitsAt, GoesOnAt, IsKnownOn, IsAppended, Steps, HaveOrigins, Walks, IsFit, AreTrimmed}
+use Rattle.rb_trim.proofs.Whole.{past, trim_of}
+
+-- Lists of slots
+
+pub dests_push : (h : Hints) (xs ys : List ℕ) (x y : ℕ) → AreDests h xs ys → IsDest h x y → AreDests h (xs ++ x ∷ []) (ys ++ y ∷ [])
+dests_push h [] [] x y d e = (e, tt)
+dests_push h [] (y' ∷ ys) x y d e = absurd d
+dests_push h (x' ∷ xs) [] x y d e = absurd d
+dests_push h (x' ∷ xs) (y' ∷ ys) x y d e = (d.0, dests_push h xs ys x y d.1 e)
+
+pub names_push : (h : Hints) (facts : List Fact) (pc : ℕ) (xs ys : List ℕ) (x y : ℕ) → AreNames h facts pc xs ys → IsName h facts pc x y → AreNames h facts pc (xs ++ x ∷ []) (ys ++ y ∷ [])
+names_push h facts pc [] [] x y d e = (e, tt)
+names_push h facts pc [] (y' ∷ ys) x y d e = absurd d
+names_push h facts pc (x' ∷ xs) [] x y d e = absurd d
+names_push h facts pc (x' ∷ xs) (y' ∷ ys) x y d e = (d.0, names_push h facts pc xs ys x y d.1 e)
+
+dests_long : (h : Hints) (xs ys : List ℕ) → AreDests h xs ys → length ys ≡ length xs
+dests_long h [] [] d = refl
+dests_long h [] (y ∷ ys) d = absurd d
+dests_long h (x ∷ xs) [] d = absurd d
+dests_long h (x ∷ xs) (y ∷ ys) d = ap suc (dests_long h xs ys d.1)
+
+names_long : (h : Hints) (facts : List Fact) (pc : ℕ) (xs ys : List ℕ) → AreNames h facts pc xs ys → length ys ≡ length xs
+names_long h facts pc [] [] d = refl
+names_long h facts pc [] (y ∷ ys) d = absurd d
+names_long h facts pc (x ∷ xs) [] d = absurd d
+names_long h facts pc (x ∷ xs) (y ∷ ys) d = ap suc (names_long h facts pc xs ys d.1)
+
+-- Instructions
+
+arms_bounded : (h : Hints) (arms : List SwitchArm) → All (λ (arm : SwitchArm). arm.number < 2 ^ 64) arms → All (λ (arm : SwitchArm). arm.number < 2 ^ 64) (map (λ (arm : SwitchArm). moved_arm h arm) arms)
+arms_bounded h [] b = All-nil (λ (arm : SwitchArm). arm.number < 2 ^ 64)
+arms_bounded h (arm ∷ arms) b =
+    let P : SwitchArm → Type 0 = λ arm. arm.number < 2 ^ 64 in
+    All-cons P (moved_arm h arm) (map (λ (arm : SwitchArm). moved_arm h arm) arms) (All-head P arm arms b) (arms_bounded h arms (All-tail P arm arms b))
+
+module _ (h : Hints) (facts : List Fact) (pc : ℕ) where
+  bounded : (i j : Instr) → IsMoved h facts pc i j → IsBounded i → IsBounded j
+  bounded (Const d c) j m b = subst IsBounded (sym m.1) b
+  bounded (Copy d a) j m b = subst IsBounded (sym m.2) tt
+  bounded (Alu op n d a x) j m b = subst IsBounded (sym m.3) b
+  bounded (Take d a o l) j m b = subst IsBounded (sym m.2) b
+  bounded (Put d a o l) j m b = subst IsBounded (sym m.2) b
+  bounded (Load d a offset width) j m b = subst IsBounded (sym m.2) b
+  bounded (Store a offset width v) j m b = subst IsBounded (sym m.2) b
+  bounded (Place d size align) j m b = subst IsBounded (sym m.1) b
+  bounded (Jump t) j m b = subst IsBounded (sym m) tt
+  bounded (Switch a other arms) j m b = subst IsBounded (sym m.1) (arms_bounded h arms b)
+  bounded (Call f ds froms) j m b = subst IsBounded (sym m.2) tt
+  bounded (Return froms) j m b = subst IsBounded (sym m.1) tt
+
+  call_moved : (o o' : Option CodeFun) (ds froms ds' froms' : List ℕ) → ((f : CodeFun) → o ≡ Some f → (q : CodeFun) × (o' ≡ Some q) × HasSameHead f q) → FitsCall o ds froms → length ds' ≡ length ds → length froms' ≡ length froms → FitsCall o' ds' froms'
+  call_moved None o' ds froms ds' froms' heads fits e g = absurd fits
+  call_moved (Some f) o' ds froms ds' froms' heads fits e g =
+      let q = heads f refl in
+      subst (λ (k : Option CodeFun). FitsCall k ds' froms') (sym q.1) (e ∙ fits.0 ∙ sym q.2.results, g ∙ fits.1 ∙ sym q.2.params)
+
+  calls : (funs funs' : List CodeFun) (results results' : ℕ) (i j : Instr) → HaveSameHeads funs funs' → results' ≡ results → IsMoved h facts pc i j → CallsFit funs results i → CallsFit funs' results' j
+  calls funs funs' results results' (Const d c) j heads r m c1 = subst (CallsFit funs' results') (sym m.1) tt
+  calls funs funs' results results' (Copy d a) j heads r m c1 = subst (CallsFit funs' results') (sym m.2) tt
+  calls funs funs' results results' (Alu op n d a x) j heads r m c1 = subst (CallsFit funs' results') (sym m.3) tt
+  calls funs funs' results results' (Take d a o l) j heads r m c1 = subst (CallsFit funs' results') (sym m.2) tt
+  calls funs funs' results results' (Put d a o l) j heads r m c1 = subst (CallsFit funs' results') (sym m.2) tt
+  calls funs funs' results results' (Load d a offset width) j heads r m c1 = subst (CallsFit funs' results') (sym m.2) tt
+  calls funs funs' results results' (Store a offset width v) j heads r m c1 = subst (CallsFit funs' results') (sym m.2) tt
+  calls funs funs' results results' (Place d size align) j heads r m c1 = subst (CallsFit funs' results') (sym m.1) tt
+  calls funs funs' results results' (Jump t) j heads r m c1 = subst (CallsFit funs' results') (sym m) tt
+  calls funs funs' results results' (Switch a other arms) j heads r m c1 = subst (CallsFit funs' results') (sym m.1) tt
+  calls funs funs' results results' (Call f ds froms) j heads r m c1 =
+      subst (CallsFit funs' results') (sym m.2)
+      (call_moved (slice_get funs f) (slice_get funs' f) ds froms m.0 m.1 (heads f) c1 (dests_long h ds m.0 m.3) (names_long h facts pc froms m.1 m.4))
+  calls funs funs' results results' (Return froms) j heads r m c1 =
+      subst (CallsFit funs' results') (sym m.1) (names_long h facts pc froms m.0 m.2 ∙ c1 ∙ sym r)
+
+-- The walk
+
+module _ (h : Hints) where
+  step_stays : (new more : List Instr) (pc : ℕ) (i : Instr) → IsStep h new pc i → IsStep h (new ++ more) pc i
+  step_stays new more pc i step = record {
+    stands = elim step.stands [
+      | inl kept ↦ inl (kept.0, get-append new more (place h pc) (slice_get_within new (place h pc) kept.0 kept.1) ∙ kept.1, kept.2, kept.3)
+      | inr out ↦ inr out
+    ];
+    known = step.known;
+  }
+
+  step_new : (new more : List Instr) (pc : ℕ) (i : Instr) → Steps h pc i new more → IsStep h more pc i
+  step_new new more pc i steps = record {
+    stands = elim steps.stands [
+      | inl made ↦ inl (made.0, ap (λ l. slice_get l (place h pc)) made.1 ∙ ap (λ n. slice_get (new ++ made.0 ∷ []) n) steps.here ∙ get-seam new made.0 [], made.2, made.3)
+      | inr out ↦ inr out.0
+    ];
+    known = steps.known;
+  }
+
+  step_old : (new more : List Instr) (pc : ℕ) (i : Instr) (at : ℕ) (k : Instr) → Steps h pc i new more → IsStep h new at k → IsStep h more at k
+  step_old new more pc i at k steps old =
+      elim steps.stands [
+        | inl made ↦ subst (λ l. IsStep h l at k) (sym made.1) (step_stays new (made.0 ∷ []) at k old)
+        | inr out ↦ subst (λ l. IsStep h l at k) (sym out.1) old
+      ]
+
+  origin_of : (body new : List Instr) (j : Instr) (at : ℕ) (k : Instr) (pc : ℕ) (i : Instr) → HaveOrigins h body new → slice_get body pc ≡ Some i → IsMoved h (facts_at h pc) pc i j → slice_get (new ++ j ∷ []) at ≡ Some k
+      → (pc : ℕ) × (i : Instr) × (slice_get body pc ≡ Some i) × IsMoved h (facts_at h pc) pc i k
+  origin_of body new j at k pc i origins is moved got =
+      elim (below_or at (length new)) [
+        | inl lt ↦ origins at k (sym (get-append new (j ∷ []) at lt) ∙ got)
+        | inr le ↦
+          let lt : at < length (new ++ j ∷ []) = slice_get_within (new ++ j ∷ []) at k got in
+          let here : at ≡ length new = omega (arith, le, lt, length-append new (j ∷ [])) in
+          let same : j ≡ k = same_Some j k (sym (get-seam new j []) ∙ sym (ap (λ n. slice_get (new ++ j ∷ []) n) here) ∙ got) in
+          (pc, i, is, subst (λ (x : Instr). IsMoved h (facts_at h pc) pc i x) same moved)
+      ]
+
+  pub step_kept : (pc : ℕ) (i : Instr) (old new : List Instr) (here next behind : ℕ) (facts : List Fact) (j : Instr) → here ≡ place h pc → next ≡ place h behind → behind ≡ pc + 1 → here ≡ length old → next - here ≡ 1
+      → new ≡ old ++ j ∷ [] → facts ≡ facts_at h pc → IsMoved h facts pc i j → IsKnownOn h pc i → Steps h pc i old new
+  step_kept pc i old new here next behind facts j a b c d e f g m k = record {
+    here = sym a ∙ d;
+    stands = inl (j, f, subst (λ fs. IsMoved h fs pc i j) g m, omega (arith, a, b ∙ ap (λ n. place h n) c, e));
+    known = k;
+  }
+
+  pub step_out : (pc : ℕ) (i : Instr) (old new : List Instr) (here next behind : ℕ) (facts : List Fact) → here ≡ place h pc → next ≡ place h behind → behind ≡ pc + 1 → here ≡ length old → next ≡ here
+      → new ≡ old → facts ≡ facts_at h pc → IsIdle h facts pc i → IsKnownOn h pc i → Steps h pc i old new
+  step_out pc i old new here next behind facts a b c d e f g m k = record {
+    here = sym a ∙ d;
+    stands = inr ((subst (λ fs. IsIdle h fs pc i) g m, sym (b ∙ ap (λ n. place h n) c) ∙ e ∙ a), f);
+    known = k;
+  }
+
+  pub walks_none : (body : List Instr) → Walks h body 0 []
+  walks_none body = record { steps = λ pc i lt is. absurd (omega (arith, lt)); origins = λ at j is. cc }
+
+  pub walks_more : (body new more : List Instr) (count : ℕ) (i : Instr) → slice_get body count ≡ Some i → Walks h body count new → Steps h count i new more → Walks h body (count + 1) more
+  walks_more body new more count i is walks steps = record {
+    steps = λ pc k lt got. elim (below_or pc count) [
+      | inl low ↦ step_old new more count i pc k steps (walks.steps pc k low got)
+      | inr le ↦
+        let here : count ≡ pc = omega (arith, le, lt) in
+        let same : i ≡ k = same_Some i k (sym is ∙ ap (λ n. slice_get body n) here ∙ got) in
+        subst (λ n. IsStep h more n k) here (subst (λ (x : Instr). IsStep h more count x) same (step_new new more count i steps))
+    ];
+    origins = λ at k got. elim steps.stands [
+      | inl made ↦ origin_of body new made.0 at k count i walks.origins is made.2 (sym (ap (λ l. slice_get l at) made.1) ∙ got)
+      | inr out ↦ walks.origins at k (sym (ap (λ l. slice_get l at) out.1) ∙ got)
+    ];
+  }
+
+-- One function
+
+module _ (f q : CodeFun) (h : Hints) (head : HasSameHead f q) (walks : Walks h f.body (length f.body) q.body) (fit : IsFit q.slots q.params q.body) where
+  fine : (funs funs' : List CodeFun) → HaveSameHeads funs funs' → IsValidFun funs f → (at : ℕ) (j : Instr) → slice_get q.body at ≡ Some j → IsFine funs' q at j
+  fine funs funs' heads valid at j is =
+      let from = walks.origins at j is in
+      let old = valid.each from.0 from.1 from.2 in
+      let each = (fit.each at (slice_get_within q.body at j is)).at j is in
+      record {
+        bounded = bounded h (facts_at h from.0) from.0 from.1 j from.3 old.bounded;
+        slots = each.0;
+        targets = each.1;
+        calls = calls h (facts_at h from.0) from.0 funs funs' f.results q.results from.1 j heads head.results from.3 old.calls;
+      }
+
+  pub trimmed : AreApart h → KeepParams h f.params → place h 0 ≡ 0 → facts_at h 0 ≡ [] → IsTrimmed f q
+  trimmed apart keep begins known = record {
+    head = head;
+    valid = λ funs funs' heads valid. record {
+      named = subst IsLower (sym head.name) valid.named;
+      params = fit.enough;
+      written = fit.written;
+      ends = fit.ends;
+      each = fine funs funs' heads valid;
+      small = (fit.small.0, omega (arith, head.results, valid.small.1), fit.small.1);
+    };
+    hints = h;
+    apart = apart;
+    params = keep;
+    begins = (begins, known);
+    steps = λ pc i is. walks.steps pc i (slice_get_within f.body pc i is) is;
+  }
+
+-- The parts of the tests
+
+pub arms_all : (h : Hints) (pc : ℕ) (i : Instr) (arms : List SwitchArm) → ((k : ℕ) → k < length arms → GoesOnAt h pc i arms k) → All (λ (arm : SwitchArm). Follows (facts_at h pc) i (facts_at h arm.target)) arms
+arms_all h pc i arms each = λ k d lt. (each k lt).at (get_or arms k d) (get_there arms k d lt)
+  where
+    get_there : (xs : List SwitchArm) (k : ℕ) (d : SwitchArm) → k < length xs → slice_get xs k ≡ Some (get_or xs k d)
+    get_there [] k d lt = absurd (omega (arith, lt))
+    get_there (x ∷ xs) zero d lt = refl
+    get_there (x ∷ xs) (suc k) d lt = get_there xs k d (omega (arith, lt))
+
+-- the item of a loop
+pub item_is : {A : Type 0} (xs : List A) (k : ℕ) (x : A) → k < length xs → x ≡ get_or xs k x → slice_get xs k ≡ Some x
+item_is [] k x lt e = absurd (omega (arith, lt))
+item_is (y ∷ xs) zero x lt e = ap Some (sym e)
+item_is (y ∷ xs) (suc k) x lt e = item_is xs k x (omega (arith, lt)) e
+
+take_by : {A : Type 0} (xs : List A) (k : ℕ) (x : A) → k < length xs → x ≡ get_or xs k x → take (suc k) xs ≡ take k xs ++ x ∷ []
+take_by [] k x lt e = absurd (omega (arith, lt))
+take_by (y ∷ xs) zero x lt e = ap (λ z. z ∷ []) (sym e)
+take_by (y ∷ xs) (suc k) x lt e = ap (λ zs. y ∷ zs) (take_by xs k x (omega (arith, lt)) e)
+
+pub take_one : {A : Type 0} (xs : List A) (k : ℕ) (x : A) → k < length xs → x ≡ get_or xs k x → take (k + 1) xs ≡ take k xs ++ x ∷ []
+take_one xs k x lt e = ap (λ n. take n xs) (add_one k) ∙ take_by xs k x lt e
+  where
+    add_one : (n : ℕ) → n + 1 ≡ suc n
+    add_one n = omega arith
+
+pub dests_more : (h : Hints) (xs new : List ℕ) (k y : ℕ) → k < length xs → AreDests h (take k xs) new → IsDest h (get_or xs k 0) y → AreDests h (take (k + 1) xs) (new ++ y ∷ [])
+dests_more h xs new k y lt old is =
+    subst (λ ys. AreDests h ys (new ++ y ∷ [])) (sym (take_one xs k (get_or xs k 0) lt (get_or_default xs k 0 (get_or xs k 0) lt)))
+    (dests_push h (take k xs) new (get_or xs k 0) y old is)
+
+pub names_more : (h : Hints) (facts : List Fact) (pc : ℕ) (xs new : List ℕ) (k y : ℕ) → k < length xs → AreNames h facts pc (take k xs) new → IsName h facts pc (get_or xs k 0) y → AreNames h facts pc (take (k + 1) xs) (new ++ y ∷ [])
+names_more h facts pc xs new k y lt old is =
+    subst (λ ys. AreNames h facts pc ys (new ++ y ∷ [])) (sym (take_one xs k (get_or xs k 0) lt (get_or_default xs k 0 (get_or xs k 0) lt)))
+    (names_push h facts pc (take k xs) new (get_or xs k 0) y old is)
+
+-- All functions
+
+pub none_trimmed : (funs : List CodeFun) → AreTrimmed funs 0 []
+none_trimmed funs = record { long = refl; each = λ g f lt is. absurd (omega (arith, lt)) }
+
+pub more_trimmed : (funs new : List CodeFun) (count : ℕ) (f q : CodeFun) → slice_get funs count ≡ Some f → AreTrimmed funs count new → IsTrimmed f q → AreTrimmed funs (count + 1) (new ++ q ∷ [])
+more_trimmed funs new count f q is old t = record {
+  long = length-append new (q ∷ []) ∙ ap (λ n. n + 1) old.long;
+  each = λ g k lt got. elim (below_or g count) [
+    | inl low ↦
+      let p = old.each g k low got in
+      (p.0, get-append new (q ∷ []) g (omega (arith, low, old.long)) ∙ p.1, p.2)
+    | inr le ↦
+      let here : count ≡ g = omega (arith, le, lt) in
+      let same : f ≡ k = same_Some f k (sym is ∙ ap (λ n. slice_get funs n) here ∙ got) in
+      let there : g ≡ length new = sym here ∙ sym old.long in
+      (q, ap (λ n. slice_get (new ++ q ∷ []) n) there ∙ get-seam new q [], subst (λ (x : CodeFun). IsTrimmed x q) same t)
+  ];
+}
+
+module _ (funs new : List CodeFun) (valid : IsValid funs) (all : AreTrimmed funs (length funs) new) where
+  pairs : (g : ℕ) (f : CodeFun) → slice_get funs g ≡ Some f → (q : CodeFun) × (slice_get new g ≡ Some q) × IsTrimmed f q
+  pairs g f is = all.each g f (slice_get_within funs g f is) is
+
+  heads : HaveSameHeads funs new
+  heads g f is = let p = pairs g f is in (p.0, p.1, p.2.head)
+
+  there : (fs : List CodeFun) (k : ℕ) → k < length fs → (f : CodeFun) × (slice_get fs k ≡ Some f)
+  there [] k lt = absurd (omega (arith, lt))
+  there (f ∷ fs) zero lt = (f, refl)
+  there (f ∷ fs) (suc k) lt = there fs k (omega (arith, lt))
+
+  each_valid : (n : ℕ) (q : CodeFun) → slice_get new n ≡ Some q → IsValidFun new q
+  each_valid n q at =
+      let lt = slice_get_within new n q at in
+      let f = there funs n (omega (arith, lt, all.long)) in
+      let p = pairs n f.0 f.1 in
+      let same : p.0 ≡ q = same_Some p.0 q (sym p.1 ∙ at) in
+      subst (λ (k : CodeFun). IsValidFun new k) same (p.2.valid funs new heads (valid.each n f.0 f.1))
+
+  pub all_valid : IsValid new
+  all_valid = record { few = omega (arith, all.long, valid.few); each = each_valid }
+
+  pub all_trimmed : IsTrimOf funs new
+  all_trimmed = trim_of funs new valid all_valid pairs all.long
+
+-- a slot past the table is not read
+pub all_apart : (h : Hints) → ((k : ℕ) → k < length h.reads → IsApart h k) → AreApart h
+all_apart h below k read =
+    elim (below_or k (length h.reads)) [
+      | inl lt ↦ below k lt read
+      | inr le ↦ absurd (omega (arith, read, past h.reads k le))
+    ]
+
+pub all_keep : (h : Hints) (params : ℕ) → ((k : ℕ) → k < length h.reads → KeepsParam h params k) → KeepParams h params
+all_keep h params below k read =
+    elim (below_or k (length h.reads)) [
+      | inl lt ↦ below k lt read
+      | inr le ↦ absurd (omega (arith, read, past h.reads k le))
+    ]

@@ -1,0 +1,26 @@
+-- When code does what other code does, with no more instructions.
+use Rattle.std.specs.Prelude.{◌≡◌, ℕ, ◌≤◌, List, length, Some, slice_get}
+use Rattle.rb_bytes.specs.Memory.{Memory}
+use Rattle.rb_target.specs.declared.code.CodeFun.{CodeFun}
+use Rattle.rb_target.specs.Meaning.{Outcome, run_of}
+
+-- the same end, calls left and memory, after no more switches and no more instructions
+pub record IsNoDearer (new old : Outcome) : Type 0 where
+  pub ended : new.ended ≡ old.ended
+  pub left : new.world.left ≡ old.world.left
+  pub memory : new.world.memory ≡ old.world.memory
+  pub switches : new.world.switches ≤ old.world.switches
+  pub taken : new.world.taken ≤ old.world.taken
+
+-- a function with the same name and numbers of words
+pub record HasSameHead (f q : CodeFun) : Type 0 where
+  pub name : q.name ≡ f.name
+  pub params : q.params ≡ f.params
+  pub results : q.results ≡ f.results
+
+-- the same functions, each of whose runs is no dearer, from any words that it takes and any memory
+pub record IsTrimOf (old new : List CodeFun) : Type 0 where
+  pub count : length new ≡ length old
+  pub heads : (g : ℕ) (f : CodeFun) → slice_get old g ≡ Some f → (q : CodeFun) × (slice_get new g ≡ Some q) × HasSameHead f q
+  pub runs : (g : ℕ) (f : CodeFun) (n : ℕ) (ws : List ℕ) (m : Memory) → slice_get old g ≡ Some f → length ws ≡ f.params
+      → IsNoDearer (run_of new n g ws m) (run_of old n g ws m)

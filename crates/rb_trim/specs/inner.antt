@@ -1,0 +1,4 @@
+pub mod Facts
+pub mod Following
+pub mod Moving
+pub mod Stepping

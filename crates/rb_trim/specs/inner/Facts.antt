@@ -1,0 +1,47 @@
+-- What facts say, what instructions do to slots and memory, and which facts hold behind them.
+use Rattle.std.specs.Prelude.{◌≡◌, ℕ, ◌%◌, ◌^◌, ◌<◌, ◌≤◌, List, length, slice_index, slice_set, Ok, Contains}
+use Rattle.rb_bits.specs.Words.{take_of, put_of}
+use Rattle.rb_bytes.specs.Memory.{Memory, load_of}
+use Rattle.rb_target.specs.Meaning.{alu_of, put_slots}
+use Rattle.rb_target.specs.Validity.{SlotsFit}
+use Rattle.rb_target.specs.declared.instr.Instr.{Instr}
+use Rattle.rb_target.specs.declared.instr.Instr.TheVariants.{Const, Copy, Alu, Take, Put, Load, Store, Place, Jump, Switch, Call, Return}
+use Rattle.rb_trim.specs.declared.fact.Content.{Content}
+use Rattle.rb_trim.specs.declared.fact.Content.TheVariants.{Number, Same, Part, Computed, Loaded}
+use Rattle.rb_trim.specs.declared.fact.Fact.{Fact}
+
+abbrev pub IsContent : List ℕ → Memory → Content → ℕ → Type 0
+IsContent s m (Number c) x = x ≡ c
+IsContent s m (Same a) x = x ≡ slice_index s a
+IsContent s m (Part a o l) x = x ≡ take_of (slice_index s a) o l
+IsContent s m (Computed op n a b) x = x ≡ alu_of op n (slice_index s a) (slice_index s b)
+IsContent s m (Loaded a offset width) x = load_of m (slice_index s a) offset width ≡ Ok x
+
+abbrev pub IsSo : List ℕ → Memory → Fact → Type 0
+IsSo s m fact = IsContent s m fact.content (slice_index s fact.slot)
+
+-- all of them hold
+abbrev pub Hold : List ℕ → Memory → List Fact → Type 0
+Hold s m facts = (fact : Fact) → Contains facts fact → IsSo s m fact
+
+-- Slots and memory before an instruction, and behind it where the run goes on in the function. What a store, a place
+-- and a call do to memory is left open.
+abbrev pub Turns : Instr → List ℕ → Memory → List ℕ → Memory → Type 0
+Turns (Const d c) s m s' m' = (s' ≡ slice_set s d c) × (m' ≡ m)
+Turns (Copy d a) s m s' m' = (s' ≡ slice_set s d (slice_index s a)) × (m' ≡ m)
+Turns (Alu op n d a b) s m s' m' = (s' ≡ slice_set s d (alu_of op n (slice_index s a) (slice_index s b))) × (m' ≡ m)
+Turns (Take d a o l) s m s' m' = (s' ≡ slice_set s d (take_of (slice_index s a) o l)) × (m' ≡ m)
+Turns (Put d a o l) s m s' m' = (s' ≡ slice_set s d (put_of (slice_index s d) o l (slice_index s a % 2 ^ l))) × (m' ≡ m)
+Turns (Load d a offset width) s m s' m' =
+    (x : ℕ) × (load_of m (slice_index s a) offset width ≡ Ok x) × (s' ≡ slice_set s d x) × (m' ≡ m)
+Turns (Store a offset width v) s m s' m' = s' ≡ s
+Turns (Place d size align) s m s' m' = (x : ℕ) × (s' ≡ slice_set s d x)
+Turns (Jump t) s m s' m' = (s' ≡ s) × (m' ≡ m)
+Turns (Switch a other arms) s m s' m' = (s' ≡ s) × (m' ≡ m)
+Turns (Call f ds froms) s m s' m' = (words : List ℕ) × (s' ≡ put_slots s ds words)
+Turns (Return froms) s m s' m' = ⊥
+
+-- behind the instruction these facts hold, where those hold before it
+pub record Follows (facts : List Fact) (i : Instr) (behind : List Fact) : Type 0 where
+  pub by : (slots : ℕ) (s s' : List ℕ) (m m' : Memory) → slots ≤ length s → SlotsFit slots i → Hold s m facts → Turns i s m s' m'
+      → Hold s' m' behind

@@ -1,0 +1,78 @@
+-- Words for the parts of a test whether facts hold behind an instruction.
+use Rattle.std.specs.Prelude.{◌≡◌, ℕ, ◌≤◌, ◌⊎◌, List, length, Option, Some, None, Ok, slice_get, slice_index, Contains}
+use Rattle.rb_bytes.specs.Memory.{Memory, load_of}
+use Rattle.rb_target.specs.Validity.{SlotsFit}
+use Rattle.rb_target.specs.declared.instr.Instr.{Instr}
+use Rattle.rb_target.specs.declared.instr.Instr.TheVariants.{Const, Copy, Alu, Take, Put, Load, Store, Place, Jump, Switch, Call, Return}
+use Rattle.rb_trim.specs.declared.fact.Content.{Content}
+use Rattle.rb_trim.specs.declared.fact.Content.TheVariants.{Number, Same, Part, Computed, Loaded}
+use Rattle.rb_trim.specs.declared.fact.Fact.{Fact}
+use Rattle.rb_trim.specs.inner.Facts.{IsContent, IsSo, Hold, Turns}
+
+-- two slots hold the same word where the facts hold
+abbrev pub AreSame : List Fact → ℕ → ℕ → Type 0
+AreSame facts a b = (s : List ℕ) (m : Memory) → Hold s m facts → slice_index s b ≡ slice_index s a
+
+-- what is the one content is the other
+pub record IsAsMuch (facts : List Fact) (a b : Content) : Type 0 where
+  pub by : (s : List ℕ) (m : Memory) (x : ℕ) → Hold s m facts → IsContent s m a x → IsContent s m b x
+
+-- a load comes to a word where the facts hold
+pub record IsLoaded (facts : List Fact) (base offset width : ℕ) : Type 0 where
+  pub by : (s : List ℕ) (m : Memory) → Hold s m facts → (x : ℕ) × (load_of m (slice_index s base) offset width ≡ Ok x)
+
+-- what a slot holds, by the instruction that writes it
+abbrev pub made_of : Instr → Option Fact
+made_of (Const d c) = Some (record { slot = d; content = Number c })
+made_of (Copy d a) = Some (record { slot = d; content = Same a })
+made_of (Alu op n d a b) = Some (record { slot = d; content = Computed op n a b })
+made_of (Take d a o l) = Some (record { slot = d; content = Part a o l })
+made_of (Load d a offset width) = Some (record { slot = d; content = Loaded a offset width })
+made_of i = None
+
+-- the slot tells the content
+abbrev pub IsToldBy : Content → ℕ → Type 0
+IsToldBy (Number c) k = ⊥
+IsToldBy (Same a) k = a ≡ k
+IsToldBy (Part a o l) k = a ≡ k
+IsToldBy (Computed op n a b) k = (a ≡ k) ⊎ (b ≡ k)
+IsToldBy (Loaded a offset width) k = a ≡ k
+
+-- the instruction writes to the slot
+abbrev pub WritesTo : Instr → ℕ → Type 0
+WritesTo (Const d c) k = d ≡ k
+WritesTo (Copy d a) k = d ≡ k
+WritesTo (Alu op n d a b) k = d ≡ k
+WritesTo (Take d a o l) k = d ≡ k
+WritesTo (Put d a o l) k = d ≡ k
+WritesTo (Load d a offset width) k = d ≡ k
+WritesTo (Store a offset width v) k = ⊥
+WritesTo (Place d size align) k = d ≡ k
+WritesTo (Jump t) k = ⊥
+WritesTo (Switch a other arms) k = ⊥
+WritesTo (Call f ds froms) k = Contains ds k
+WritesTo (Return froms) k = ⊥
+
+-- the instruction may change memory
+abbrev pub Changes : Instr → Type 0
+Changes (Store a offset width v) = Unit {0}
+Changes (Place d size align) = Unit {0}
+Changes (Call f ds froms) = Unit {0}
+Changes i = ⊥
+
+-- the content is the same behind the instruction
+abbrev pub Keeps : Instr → Content → Type 0
+Keeps i (Number c) = Unit {0}
+Keeps i (Same a) = ¬ WritesTo i a
+Keeps i (Part a o l) = ¬ WritesTo i a
+Keeps i (Computed op n a b) = (¬ WritesTo i a) × (¬ WritesTo i b)
+Keeps i (Loaded a offset width) = (¬ WritesTo i a) × (¬ Changes i)
+
+-- one fact holds behind the instruction
+pub record FollowsOne (facts : List Fact) (i : Instr) (fact : Fact) : Type 0 where
+  pub by : (slots : ℕ) (s s' : List ℕ) (m m' : Memory) → slots ≤ length s → SlotsFit slots i → Hold s m facts → Turns i s m s' m'
+      → IsSo s' m' fact
+
+-- the fact with this number holds behind the instruction
+pub record FollowsAt (facts : List Fact) (i : Instr) (behind : List Fact) (k : ℕ) : Type 0 where
+  pub at : (fact : Fact) → slice_get behind k ≡ Some fact → FollowsOne facts i fact

@@ -1,0 +1,195 @@
+//! Whether the numbers of a shorter body fit.
+
+ghost use Rattle.std.specs.Prelude.{◌≡◌, ◌↔◌, ◌<◌, ◌≤◌, ◌+◌, ℕ, IsTrue, length, true};
+ghost use Rattle.rb_target.specs.Validity.{AreSlots, AreArms, IsTarget, SlotsFit, TargetsFit, EndsInReturn, dests, dest_count};
+ghost use Rattle.rb_trim.specs.inner.Moving.{AreApart, IsApart, KeepParams, KeepsParam};
+ghost use Rattle.rb_trim.specs.inner.Stepping.{IsFit, FitsAt};
+
+use crate::hints::Hints;
+use crate::moving::{name_at, origin_at, read_at};
+use rb_core::seq::Seq;
+use rb_target::instr::{Instr, SwitchArm};
+
+// Whether each slot is below their number.
+fn are_slots(slots: usize, items: &[usize]) -> bool
+    ensures { IsTrue result ↔ AreSlots slots items.now }
+{
+    items.iter().all(|slot| *slot < slots)
+}
+
+// Whether an instruction's slots are below their number.
+fn slots_fit(slots: usize, instr: &Instr) -> bool
+    ensures { IsTrue result ↔ SlotsFit slots instr.now }
+{
+    match instr {
+        Instr::Const(dest, _) | Instr::Place(dest, _, _) => *dest < slots,
+        Instr::Copy(dest, from)
+        | Instr::Take(dest, from, _, _)
+        | Instr::Put(dest, from, _, _)
+        | Instr::Load(dest, from, _, _) => *dest < slots && *from < slots,
+        Instr::Alu(_, _, dest, left, right) => *dest < slots && *left < slots && *right < slots,
+        Instr::Store(base, _, _, from) => *base < slots && *from < slots,
+        Instr::Jump(_) => true,
+        Instr::Switch(from, _, _) => *from < slots,
+        Instr::Call(_, dests, froms) => {
+            are_slots(slots, dests.as_slice()) && are_slots(slots, froms.as_slice())
+        }
+        Instr::Return(froms) => are_slots(slots, froms.as_slice()),
+    }
+}
+
+// Whether a target lies behind an instruction and within the body.
+fn is_target(long: usize, pc: usize, target: usize) -> bool
+    ensures { IsTrue result ↔ IsTarget long pc target }
+{
+    pc < target && target < long
+}
+
+fn are_arms(long: usize, pc: usize, arms: &[SwitchArm]) -> bool
+    ensures { IsTrue result ↔ AreArms long pc arms.now }
+{
+    arms.iter().all(|arm| is_target(long, pc, arm.target))
+}
+
+// Whether an instruction's targets lie behind it and within the body.
+fn targets_fit(long: usize, pc: usize, instr: &Instr) -> bool
+    ensures { IsTrue result ↔ TargetsFit long pc instr.now }
+{
+    match instr {
+        Instr::Jump(target) => is_target(long, pc, *target),
+        Instr::Switch(_, None, arms) => are_arms(long, pc, arms.as_slice()),
+        Instr::Switch(_, Some(other), arms) => {
+            is_target(long, pc, *other) && are_arms(long, pc, arms.as_slice())
+        }
+        Instr::Const(..)
+        | Instr::Copy(..)
+        | Instr::Alu(..)
+        | Instr::Take(..)
+        | Instr::Put(..)
+        | Instr::Load(..)
+        | Instr::Store(..)
+        | Instr::Place(..)
+        | Instr::Call(..)
+        | Instr::Return(_) => true,
+    }
+}
+
+// How many slots an instruction names as written.
+fn dest_len(instr: &Instr) -> usize
+    ensures { result ≡ length (dests instr.now) }
+{
+    match instr {
+        Instr::Const(..)
+        | Instr::Copy(..)
+        | Instr::Alu(..)
+        | Instr::Take(..)
+        | Instr::Put(..)
+        | Instr::Load(..)
+        | Instr::Place(..) => 1,
+        Instr::Store(..) | Instr::Jump(..) | Instr::Switch(..) | Instr::Return(..) => 0,
+        Instr::Call(_, dests, _) => dests.len(),
+    }
+}
+
+// Whether there are enough slots for the parameters, and no more beyond them than the body writes.
+fn counts_slots(slots: usize, params: usize, body: &[Instr]) -> bool
+    ensures { IsTrue result → (params ≤ slots) × (slots ≤ params + dest_count body.now) }
+{
+    if slots < params {
+        return false;
+    }
+    let mut unwritten = slots - params;
+    for instr in body {
+        unwritten = unwritten.saturating_sub(dest_len(instr));
+    }
+    unwritten == 0
+}
+
+// Whether the last instruction is a return.
+fn ends_in_return(body: &[Instr]) -> bool
+    ensures { IsTrue result ↔ EndsInReturn body.now }
+{
+    matches!(body.last(), Some(Instr::Return(_)))
+}
+
+// Whether the slots and targets of one instruction fit.
+fn fits_at(slots: usize, body: &[Instr], pc: usize) -> bool
+    ensures { IsTrue result → FitsAt slots body.now pc }
+{
+    match body.get(pc) {
+        None => true,
+        Some(instr) => slots_fit(slots, instr) && targets_fit(body.len(), pc, instr),
+    }
+}
+
+// Whether each instruction's slots and targets fit.
+fn each_fits(slots: usize, body: &[Instr]) -> bool
+    ensures { IsTrue result → ((pc : ℕ) → pc < length body.now → FitsAt slots body.now pc) }
+{
+    for pc in 0..body.len() {
+        if !fits_at(slots, body, pc) {
+            return false;
+        }
+    }
+    true
+}
+
+/// Whether a body is one of a function with so many slots and parameters.
+pub(crate) fn fits(slots: usize, params: usize, body: &Seq<Instr>) -> bool
+    ensures { IsTrue result → IsFit slots params body.now }
+{
+    let body = body.as_slice();
+    let _len = body.len();
+    if !counts_slots(slots, params, body) {
+        return false;
+    }
+    if !ends_in_return(body) {
+        return false;
+    }
+    each_fits(slots, body)
+}
+
+// Whether a slot that is read has a new number of its own.
+fn is_apart(hints: &Hints, slot: usize) -> bool
+    ensures { IsTrue result → IsApart hints.now slot }
+{
+    read_at(hints, slot) == 0 || origin_at(hints, name_at(hints, slot)) == slot
+}
+
+/// Whether no two slots that are read have the same new number.
+pub(crate) fn are_apart(hints: &Hints) -> bool
+    ensures { IsTrue result → AreApart hints.now }
+{
+    for slot in 0..hints.reads.len() {
+        if !is_apart(hints, slot) {
+            return false;
+        }
+    }
+    true
+}
+
+// Whether a parameter that is read keeps its number, and another slot has none of theirs.
+fn keeps_param(hints: &Hints, params: usize, slot: usize) -> bool
+    ensures { IsTrue result → KeepsParam hints.now params slot }
+{
+    let new = name_at(hints, slot);
+    if read_at(hints, slot) == 0 {
+        return true;
+    }
+    if slot < params {
+        return new == slot;
+    }
+    new >= params
+}
+
+/// Whether parameters keep their numbers, and no other slot that is read has one of theirs.
+pub(crate) fn keep_params(hints: &Hints, params: usize) -> bool
+    ensures { IsTrue result → KeepParams hints.now params }
+{
+    for slot in 0..hints.reads.len() {
+        if !keeps_param(hints, params, slot) {
+            return false;
+        }
+    }
+    true
+}

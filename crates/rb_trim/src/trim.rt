@@ -1,0 +1,99 @@
+//! Functions and code that do the same with fewer instructions.
+
+ghost use Rattle.std.specs.Prelude.{◌≡◌, IfOk, IsTrue, [], length};
+ghost use Rattle.rb_trim.specs.Trimming.{IsTrimOf};
+ghost use Rattle.rb_trim.specs.inner.Moving.{IsTrimmed, facts_at};
+ghost use Rattle.rb_trim.specs.inner.Stepping.{AreTrimmed};
+
+use crate::fit::{are_apart, fits, keep_params};
+use crate::guess::{guess, identity};
+use crate::hints::Hints;
+use crate::moving::{Stop, place_at};
+use crate::steps::{known_at, walk};
+use rb_core::seq::Seq;
+use rb_target::code::{Code, CodeFun};
+use std::alloc::{AllocError, Global};
+
+// Whether nothing is known before the first instruction.
+fn knows_nothing(hints: &Hints) -> bool
+    ensures { IsTrue result → (facts_at hints.now 0 ≡ []) }
+{
+    let facts = known_at(hints, 0);
+    matches!(facts, [])
+}
+
+// A function that does what another does, as hints tell.
+fn trim_by(alloc: Global, fun: &CodeFun, hints: &Hints) -> Result<CodeFun, Stop>
+    ensures { IfOk result (λ q. IsTrimmed fun.now q) }
+{
+    let params = fun.params;
+    let slots = hints.origins.len();
+    let first = place_at(hints, 0);
+    if first != 0 {
+        return Err(Stop::Unfit);
+    }
+    if !knows_nothing(hints) {
+        return Err(Stop::Unfit);
+    }
+    if !are_apart(hints) {
+        return Err(Stop::Unfit);
+    }
+    if !keep_params(hints, params) {
+        return Err(Stop::Unfit);
+    }
+    let body = walk(alloc, hints, fun.body.as_slice())?;
+    if !fits(slots, params, &body) {
+        return Err(Stop::Unfit);
+    }
+    let name = fun.name.copy(alloc)?;
+    Ok(CodeFun {
+        name,
+        params,
+        results: fun.results,
+        slots,
+        body,
+    })
+}
+
+// The same function with fewer instructions, or else an equal one.
+fn trim_fun(alloc: Global, fun: &CodeFun) -> Result<CodeFun, Stop>
+    ensures { IfOk result (λ q. IsTrimmed fun.now q) }
+{
+    let hints = guess(alloc, fun)?;
+    match trim_by(alloc, fun, &hints) {
+        Ok(new) => Ok(new),
+        Err(Stop::Memory) => Err(Stop::Memory),
+        Err(Stop::Unfit) => {
+            let hints = identity(alloc, fun)?;
+            let new = trim_by(alloc, fun, &hints)?;
+            Ok(new)
+        }
+    }
+}
+
+// All functions.
+fn trim_funs(alloc: Global, funs: &[CodeFun]) -> Result<Seq<CodeFun>, Stop>
+    ensures { IfOk result (λ new. AreTrimmed funs.now (length funs.now) new) }
+{
+    let mut new = Seq::new(alloc);
+    for fun in funs {
+        let shorter = trim_fun(alloc, fun)?;
+        new.push(shorter)?;
+    }
+    Ok(new)
+}
+
+/// Code that does the same with fewer instructions: what is known is not made again, and what is not read is left out.
+///
+/// # Errors
+///
+/// Want of memory.
+pub fn trim(alloc: Global, code: Code) -> Result<Code, AllocError>
+    ensures { IfOk result (λ new. IsTrimOf code new) }
+{
+    match trim_funs(alloc, code.funs()) {
+        Ok(shorter) => Ok(Code::new(shorter)),
+        Err(Stop::Unfit) => Ok(code),
+        Err(Stop::Memory) => Err(AllocError),
+    }
+}
