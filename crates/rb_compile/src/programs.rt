@@ -22,8 +22,8 @@ pub fn compile(alloc: Global, agreed: &Agreed) -> Result<Code, AllocError>
     ensures refines { IfOk result (λ code. Refines (plan_of agreed.now) code) }
     ensures thrifty { IfOk result (λ code. IsThrifty (plan_of agreed.now) code) }
 {
-    let code = compile_all(alloc, agreed, functions(agreed))?;
-    let code = trim(alloc, Code::new(code))?;
+    let funs = compile_all(alloc, agreed, functions(agreed))?;
+    let code = trim(alloc, Code::new(funs))?;
     Ok(code)
 }
 
