@@ -1,11 +1,11 @@
 -- One instruction of a body and the one that stands for it do alike.
-use Rattle.std.proofs.Common.{◌≡◌, ℕ, zero, suc, ◌+◌, ◌%◌, ◌^◌, ◌<◌, ◌≤◌, Bool, true, false, nat_eq, cond, List, [], ◌∷◌, map, length, Option, Some, None, Ok, refl, sym, subst, ap, ◌∙◌, arith}
+use Rattle.std.proofs.Common.{◌≡◌, ℕ, ◌+◌, ◌%◌, ◌^◌, ◌<◌, ◌≤◌, Bool, true, false, nat_eq, cond, List, [], ◌∷◌, map, length, Option, Some, None, refl, sym, subst, ap, ◌∙◌, arith}
 use Rattle.std.proofs.lemmas.List.{length-set, length-map}
 use Rattle.std.proofs.lemmas.List.Elements.{All-head, All-tail}
 use Rattle.std.specs.Prelude.{slice_get, slice_index, slice_set, IfSome, All}
 use Rattle.rb_bits.specs.Words.{take_of, put_of}
 use Rattle.rb_bytes.specs.Memory.{load_of, store_of, place_of}
-use Rattle.rb_target.specs.Meaning.{World, Outcome, Next, Callee, act, over, taken, switched, with_memory, target_of, alu_of, slots_at, put_slots, after_load, after_store, after_place, after_switch, after_call}
+use Rattle.rb_target.specs.Meaning.{World, Outcome, Next, Callee, act, over, switched, with_memory, target_of, alu_of, slots_at, put_slots, after_load, after_store, after_place, after_switch, after_call}
 use Rattle.rb_target.specs.Validity.{SlotsFit, CallsFit, FitsCall}
 use Rattle.rb_target.specs.declared.outcome.End.TheVariants.{Returned, Trapped}
 use Rattle.rb_bytes.specs.declared.fault.Trap.TheVariants.{Unmatched}
@@ -17,9 +17,9 @@ use Rattle.rb_trim.specs.declared.fact.Fact.{Fact}
 use Rattle.rb_trim.specs.declared.hints.Hints.{Hints}
 use Rattle.rb_trim.specs.Trimming.{IsNoDearer}
 use Rattle.rb_trim.specs.inner.Facts.{Hold, Turns}
-use Rattle.rb_trim.specs.inner.Moving.{IsRead, Agree, AreApart, IsDest, IsName, AreDests, AreNames, place, place_in, moved_arm, IsMoved, IsIdle, Leads}
-use Rattle.rb_trim.proofs.Outcomes.{Near, over_near, near_taken, near_behind, near_switched, near_memory, near_of, load_near, store_near, place_near, call_near}
-use Rattle.rb_trim.proofs.Slots.{set_agrees, later, put_agrees, put_long, names_same, set_unread}
+use Rattle.rb_trim.specs.inner.Moving.{Agree, AreApart, IsDest, IsName, place, place_in, moved_arm, IsMoved, Leads}
+use Rattle.rb_trim.proofs.Outcomes.{Near, over_near, near_switched, near_memory, near_of, load_near, store_near, place_near, call_near}
+use Rattle.rb_trim.proofs.Slots.{set_agrees, later, put_agrees, put_long, names_same}
 
 -- two callees, one no dearer, for the words that functions take
 pub record CallsNear (funs : List CodeFun) (new old : Callee) : Type 0 where
@@ -60,7 +60,6 @@ GoesOn h slots slots' pc P next' next i s w =
 module _ (h : Hints) (apart : AreApart h) (funs : List CodeFun) (results slots slots' pc pc' : ℕ) (facts : List Fact) (new old : Callee) (calls : CallsNear funs new old)
     (P : ℕ → Type 0) (next' next : Next) (s s' : List ℕ) (v w : World) (near : Near v w) (long : slots ≤ length s) (long' : slots' ≤ length s')
     (agree : Agree h pc s s') (hold : Hold s w.memory facts) (behind : pc' + 1 ≡ place h (pc + 1)) where
-
   onward : Agree h (pc + 1) s s'
   onward = later h apart pc (pc + 1) s s' (omega arith) agree
 
@@ -97,7 +96,7 @@ module _ (h : Hints) (apart : AreApart h) (funs : List CodeFun) (results slots s
   acts_alike (Alu op n d a b) j m fit fit' call leads go =
       let f : SlotsFit slots' (Alu op n m.0 m.1 m.2) = subst (λ (k : Instr). SlotsFit slots' k) m.3 fit' in
       let e : alu_of op n (slice_index s' m.1) (slice_index s' m.2) ≡ alu_of op n (slice_index s a) (slice_index s b) =
-          ap (λ x. alu_of op n x (slice_index s' m.2)) (named a m.1 m.5) ∙ ap (λ x. alu_of op n (slice_index s a) x) (named b m.2 m.6) in
+      ap (λ x. alu_of op n x (slice_index s' m.2)) (named a m.1 m.5) ∙ ap (λ x. alu_of op n (slice_index s a) x) (named b m.2 m.6) in
       subst (λ (k : Instr). IsNoDearer (act k next' new pc' s' v) (act (Alu op n d a b) next old pc s w)) (sym m.3)
       (writes (Alu op n d a b) d m.0 (alu_of op n (slice_index s a) (slice_index s b)) (alu_of op n (slice_index s' m.1) (slice_index s' m.2)) leads m.4 fit.0 f.0 e (refl, refl) go)
   acts_alike (Take d a o l) j m fit fit' call leads go =
@@ -107,22 +106,22 @@ module _ (h : Hints) (apart : AreApart h) (funs : List CodeFun) (results slots s
   acts_alike (Put d a o l) j m fit fit' call leads go =
       let f : SlotsFit slots' (Put m.0 m.1 o l) = subst (λ (k : Instr). SlotsFit slots' k) m.2 fit' in
       let e : put_of (slice_index s' m.0) o l (slice_index s' m.1 % 2 ^ l) ≡ put_of (slice_index s d) o l (slice_index s a % 2 ^ l) =
-          ap (λ x. put_of x o l (slice_index s' m.1 % 2 ^ l)) (named d m.0 m.4) ∙ ap (λ x. put_of (slice_index s d) o l (x % 2 ^ l)) (named a m.1 m.5) in
+      ap (λ x. put_of x o l (slice_index s' m.1 % 2 ^ l)) (named d m.0 m.4) ∙ ap (λ x. put_of (slice_index s d) o l (x % 2 ^ l)) (named a m.1 m.5) in
       subst (λ (k : Instr). IsNoDearer (act k next' new pc' s' v) (act (Put d a o l) next old pc s w)) (sym m.2)
       (writes (Put d a o l) d m.0 (put_of (slice_index s d) o l (slice_index s a % 2 ^ l)) (put_of (slice_index s' m.0) o l (slice_index s' m.1 % 2 ^ l)) leads m.3 fit.0 f.0 e (refl, refl) go)
   acts_alike (Load d a offset width) j m fit fit' call leads go =
       let f : SlotsFit slots' (Load m.0 m.1 offset width) = subst (λ (k : Instr). SlotsFit slots' k) m.2 fit' in
       let e : load_of v.memory (slice_index s' m.1) offset width ≡ load_of w.memory (slice_index s a) offset width =
-          ap (λ x. load_of x (slice_index s' m.1) offset width) near.memory ∙ ap (λ x. load_of w.memory x offset width) (named a m.1 m.4) in
+      ap (λ x. load_of x (slice_index s' m.1) offset width) near.memory ∙ ap (λ x. load_of w.memory x offset width) (named a m.1 m.4) in
       subst (λ (k : Instr). IsNoDearer (act k next' new pc' s' v) (act (Load d a offset width) next old pc s w)) (sym m.2)
       (subst (λ r. IsNoDearer (after_load r v (λ x. next' (pc' + 1) (slice_set s' m.0 x) v)) (act (Load d a offset width) next old pc s w)) (sym e)
       (load_near (load_of w.memory (slice_index s a) offset width) v w (λ x. next' (pc' + 1) (slice_set s' m.0 x) v) (λ x. next (pc + 1) (slice_set s d x) w) near
       (λ x is. writes (Load d a offset width) d m.0 x x leads m.3 fit.0 f.0 refl (x, is, refl, refl) go)))
   acts_alike (Store a offset width k) j m fit fit' call leads go =
       let e : store_of v.memory (slice_index s' m.0) offset width (slice_index s' m.1) ≡ store_of w.memory (slice_index s a) offset width (slice_index s k) =
-          ap (λ x. store_of x (slice_index s' m.0) offset width (slice_index s' m.1)) near.memory
-          ∙ ap (λ x. store_of w.memory x offset width (slice_index s' m.1)) (named a m.0 m.3)
-          ∙ ap (λ x. store_of w.memory (slice_index s a) offset width x) (named k m.1 m.4) in
+      ap (λ x. store_of x (slice_index s' m.0) offset width (slice_index s' m.1)) near.memory
+      ∙ ap (λ x. store_of w.memory x offset width (slice_index s' m.1)) (named a m.0 m.3)
+      ∙ ap (λ x. store_of w.memory (slice_index s a) offset width x) (named k m.1 m.4) in
       let stored = store_of w.memory (slice_index s a) offset width (slice_index s k) in
       let n1 = near_memory v w stored.1 near in
       subst (λ (i : Instr). IsNoDearer (act i next' new pc' s' v) (act (Store a offset width k) next old pc s w)) (sym m.2)
@@ -162,8 +161,8 @@ module _ (h : Hints) (apart : AreApart h) (funs : List CodeFun) (results slots s
       (subst (λ k. IsNoDearer (after_call k (new g words v).world (λ x. next' (pc' + 1) (put_slots s' m.0 x) (new g words v).world)) (act (Call g ds froms) next old pc s w)) (sym d.ended)
       (call_near (old g words w).ended (new g words v).world (old g words w).world _ _ n1
       (λ x. go (pc + 1) (pc' + 1) (put_slots s ds x) (put_slots s' m.0 x) (old g words w).world (new g words v).world behind leads (x, refl)
-        (omega (arith, long, put_long ds x s)) (omega (arith, long', put_long m.0 x s'))
-        (put_agrees h apart (pc + 1) ds m.0 x s s' slots slots' onward m.3 fit.0 f.0 long long') n1))))
+      (omega (arith, long, put_long ds x s)) (omega (arith, long', put_long m.0 x s'))
+      (put_agrees h apart (pc + 1) ds m.0 x s s' slots slots' onward m.3 fit.0 f.0 long long') n1))))
   acts_alike (Return froms) j m fit fit' call leads go =
       let e : slots_at s' m.0 ≡ slots_at s froms = names_same h facts pc froms m.0 s s' w.memory agree hold m.2 in
       subst (λ (k : Instr). IsNoDearer (act k next' new pc' s' v) (act (Return froms) next old pc s w)) (sym m.1)

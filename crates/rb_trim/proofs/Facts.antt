@@ -1,5 +1,5 @@
 -- What facts tell, and which hold behind an instruction.
-use Rattle.std.proofs.Common.{rules, Bool, true, false, ◌≡◌, ◌≢◌, ℕ, zero, suc, ◌+◌, ◌<◌, ◌≤◌, ◌⊎◌, inl, inr, List, [], ◌∷◌, length, Option, Some, None, Ok, refl, sym, subst, ap, ◌∙◌, arith, get_or, get_or-set_other, get_or-set_same}
+use Rattle.std.proofs.Common.{Bool, true, false, ◌≡◌, ◌≢◌, ℕ, zero, suc, ◌<◌, inl, inr, List, [], ◌∷◌, length, Some, refl, sym, subst, ap, ◌∙◌, arith, get_or, get_or-set_other, get_or-set_same}
 use Rattle.std.proofs.lemmas.Option.{slice_get_within, same_Some}
 use Rattle.std.specs.Prelude.{IsTrue, ◌↔◌, slice_get, slice_index, slice_set, Contains}
 use Rattle.rb_bits.specs.Words.{take_of}
@@ -12,7 +12,7 @@ use Rattle.rb_target.specs.declared.instr.Instr.TheVariants.{Const, Copy, Alu, T
 use Rattle.rb_trim.specs.declared.fact.Content.{Content}
 use Rattle.rb_trim.specs.declared.fact.Content.TheVariants.{Number, Same, Part, Computed, Loaded}
 use Rattle.rb_trim.specs.declared.fact.Fact.{Fact}
-use Rattle.rb_trim.specs.inner.Facts.{IsContent, IsSo, Hold, Turns, Follows}
+use Rattle.rb_trim.specs.inner.Facts.{IsContent, IsSo, Turns, Follows}
 use Rattle.rb_trim.specs.inner.Following.{AreSame, IsAsMuch, IsToldBy, WritesTo, Changes, Keeps, FollowsOne, FollowsAt, IsLoaded, made_of}
 
 get_at : (xs : List Fact) (k : ℕ) (x : Fact) → k < length xs → get_or xs k x ≡ x → slice_get xs k ≡ Some x
@@ -40,18 +40,22 @@ pub much_part : (facts : List Fact) (a b o l : ℕ) → AreSame facts a b → Is
 much_part facts a b o l e = record { by = λ s m x hold is. is ∙ ap (λ y. take_of y o l) (sym (e s m hold)) }
 
 pub much_computed : (facts : List Fact) (op : AluOp) (n a b a' b' : ℕ) → AreSame facts a a' → AreSame facts b b' → IsAsMuch facts (Computed op n a b) (Computed op n a' b')
-much_computed facts op n a b a' b' e f = record { by = λ s m x hold is.
-    is ∙ ap (λ y. alu_of op n y (slice_index s b)) (sym (e s m hold)) ∙ ap (λ y. alu_of op n (slice_index s a') y) (sym (f s m hold)) }
+much_computed facts op n a b a' b' e f = record {
+  by = λ s m x hold is.
+      is ∙ ap (λ y. alu_of op n y (slice_index s b)) (sym (e s m hold)) ∙ ap (λ y. alu_of op n (slice_index s a') y) (sym (f s m hold));
+}
 
 pub much_loaded : (facts : List Fact) (a b offset width : ℕ) → AreSame facts a b → IsAsMuch facts (Loaded a offset width) (Loaded b offset width)
 much_loaded facts a b offset width e = record { by = λ s m x hold is. ap (λ y. load_of m y offset width) (e s m hold) ∙ is }
 
 pub loaded_known : (facts : List Fact) (a b offset width k : ℕ) (fact : Fact) → AreSame facts a b → slice_get facts k ≡ Some fact → fact.content ≡ Loaded b offset width → IsLoaded facts a offset width
-loaded_known facts a b offset width k fact same is e = record { by = λ s m hold.
-    let lt : k < length facts = slice_get_within facts k fact is in
-    let there : IsSo s m fact = hold fact (k, lt, or_at facts k fact is) in
-    let here : IsContent s m (Loaded b offset width) (slice_index s fact.slot) = subst (λ (c : Content). IsContent s m c (slice_index s fact.slot)) e there in
-    (slice_index s fact.slot, ap (λ y. load_of m y offset width) (sym (same s m hold)) ∙ here) }
+loaded_known facts a b offset width k fact same is e = record {
+  by = λ s m hold.
+      let lt : k < length facts = slice_get_within facts k fact is in
+      let there : IsSo s m fact = hold fact (k, lt, or_at facts k fact is) in
+      let here : IsContent s m (Loaded b offset width) (slice_index s fact.slot) = subst (λ (c : Content). IsContent s m c (slice_index s fact.slot)) e there in
+      (slice_index s fact.slot, ap (λ y. load_of m y offset width) (sym (same s m hold)) ∙ here);
+}
 
 -- a test that fails
 pub untold : (b : Bool) (P : Type 0) → (IsTrue b ↔ P) → b ≡ false → ¬ P
@@ -111,11 +115,13 @@ kept_content i (Loaded a offset width) x s s' m m' keeps t is =
     ap (λ y. load_of y (slice_index s' a) offset width) (same_memory i s s' m m' keeps.1 t) ∙ ap (λ y. load_of m y offset width) (spares i a s s' m m' keeps.0 t) ∙ is
 
 pub stays_so : (facts : List Fact) (i : Instr) (fact : Fact) → Contains facts fact → ¬ WritesTo i fact.slot → Keeps i fact.content → FollowsOne facts i fact
-stays_so facts i fact known unlike keeps = record { by = λ slots s s' m m' long fit hold t.
-    let before : IsSo s m fact = hold fact known in
-    let at = spares i fact.slot s s' m m' unlike t in
-    kept_content i fact.content (slice_index s' fact.slot) s s' m m' keeps t
-    (subst (λ y. IsContent s m fact.content y) (sym at) before) }
+stays_so facts i fact known unlike keeps = record {
+  by = λ slots s s' m m' long fit hold t.
+      let before : IsSo s m fact = hold fact known in
+      let at = spares i fact.slot s s' m m' unlike t in
+      kept_content i fact.content (slice_index s' fact.slot) s s' m m' keeps t
+      (subst (λ y. IsContent s m fact.content y) (sym at) before);
+}
 
 -- What an instruction makes
 
@@ -163,30 +169,36 @@ made_so (Return froms) fact slots s s' m m' e fit t = cc
 module _ (facts : List Fact) (i : Instr) (made : Fact) (content : Content) (is_made : made_of i ≡ Some made) (much : IsAsMuch facts made.content content) where
   -- the slot holds what is made, told by slots that the instruction does not write
   pub made_itself : (fact : Fact) → fact.slot ≡ made.slot → fact.content ≡ content → ¬ IsToldBy content made.slot → FollowsOne facts i fact
-  made_itself fact at same free = record { by = λ slots s s' m m' long fit hold t.
-      let k = made_so i made slots s s' m m' is_made fit t in
-      let before : IsContent s m content k.word = much.by s m k.word hold k.is in
-      let behind : IsContent (slice_set s made.slot k.word) m content k.word = free_content content made.slot k.word k.word s m free before in
-      let within : made.slot < length s = omega (arith, k.within, long) in
-      let word : slice_index s' fact.slot ≡ k.word = ap (λ n. slice_index s' n) at ∙ ap (λ y. slice_index y made.slot) k.slot ∙ get_or-set_same s made.slot k.word 0 within in
-      subst (λ (c : Content). IsContent s' m' c (slice_index s' fact.slot)) (sym same)
-      (subst (λ x. IsContent s' m' content x) (sym word)
-      (subst (λ n. IsContent s' n content k.word) (sym k.memory)
-      (subst (λ y. IsContent y m content k.word) (sym k.slot) behind))) }
+  made_itself fact at same free = record {
+    by = λ slots s s' m m' long fit hold t.
+        let k = made_so i made slots s s' m m' is_made fit t in
+        let before : IsContent s m content k.word = much.by s m k.word hold k.is in
+        let behind : IsContent (slice_set s made.slot k.word) m content k.word = free_content content made.slot k.word k.word s m free before in
+        let within : made.slot < length s = omega (arith, k.within, long) in
+        let word : slice_index s' fact.slot ≡ k.word = ap (λ n. slice_index s' n) at ∙ ap (λ y. slice_index y made.slot) k.slot ∙ get_or-set_same s made.slot k.word 0 within in
+        subst (λ (c : Content). IsContent s' m' c (slice_index s' fact.slot)) (sym same)
+        (subst (λ x. IsContent s' m' content x) (sym word)
+        (subst (λ n. IsContent s' n content k.word) (sym k.memory)
+        (subst (λ y. IsContent y m content k.word) (sym k.slot) behind)));
+  }
 
   -- another slot holds the same
   pub made_again : (fact : Fact) (from : ℕ) → fact.slot ≡ made.slot → fact.content ≡ Same from → (from ≡ made.slot → ⊥) → Contains facts (record { slot = from; content = content }) → FollowsOne facts i fact
-  made_again fact from at same apart known = record { by = λ slots s s' m m' long fit hold t.
-      let k = made_so i made slots s s' m m' is_made fit t in
-      let before : IsContent s m content k.word = much.by s m k.word hold k.is in
-      let held : IsContent s m content (slice_index s from) = hold (record { slot = from; content = content }) known in
-      let one : k.word ≡ slice_index s from = one_content content k.word (slice_index s from) s m before held in
-      let within : made.slot < length s = omega (arith, k.within, long) in
-      let word : slice_index s' fact.slot ≡ k.word = ap (λ n. slice_index s' n) at ∙ ap (λ y. slice_index y made.slot) k.slot ∙ get_or-set_same s made.slot k.word 0 within in
-      let stays : slice_index s' from ≡ slice_index s from = set_spares s s' made.slot k.word from k.slot (λ e. apart (sym e)) in
-      subst (λ (c : Content). IsContent s' m' c (slice_index s' fact.slot)) (sym same) (word ∙ one ∙ sym stays) }
+  made_again fact from at same apart known = record {
+    by = λ slots s s' m m' long fit hold t.
+        let k = made_so i made slots s s' m m' is_made fit t in
+        let before : IsContent s m content k.word = much.by s m k.word hold k.is in
+        let held : IsContent s m content (slice_index s from) = hold (record { slot = from; content = content }) known in
+        let one : k.word ≡ slice_index s from = one_content content k.word (slice_index s from) s m before held in
+        let within : made.slot < length s = omega (arith, k.within, long) in
+        let word : slice_index s' fact.slot ≡ k.word = ap (λ n. slice_index s' n) at ∙ ap (λ y. slice_index y made.slot) k.slot ∙ get_or-set_same s made.slot k.word 0 within in
+        let stays : slice_index s' from ≡ slice_index s from = set_spares s s' made.slot k.word from k.slot (λ e. apart (sym e)) in
+        subst (λ (c : Content). IsContent s' m' c (slice_index s' fact.slot)) (sym same) (word ∙ one ∙ sym stays);
+  }
 
 -- each fact holds behind the instruction
 pub follows_all : (facts : List Fact) (i : Instr) (behind : List Fact) → ((k : ℕ) → k < length behind → FollowsAt facts i behind k) → Follows facts i behind
-follows_all facts i behind each = record { by = λ slots s s' m m' long fit hold t fact known.
-    ((each known.0 known.1).at fact (get_at behind known.0 fact known.1 known.2)).by slots s s' m m' long fit hold t }
+follows_all facts i behind each = record {
+  by = λ slots s s' m m' long fit hold t fact known.
+      ((each known.0 known.1).at fact (get_at behind known.0 fact known.1 known.2)).by slots s s' m m' long fit hold t;
+}

@@ -1,10 +1,10 @@
 -- A shorter body is valid, and so are shorter functions together.
-use Rattle.std.proofs.Common.{◌≡◌, ℕ, zero, suc, ◌+◌, ◌-◌, ◌^◌, ◌<◌, ◌≤◌, ◌⊎◌, inl, inr, List, [], ◌∷◌, ◌++◌, map, length, take, Option, Some, None, refl, sym, subst, ap, ◌∙◌, arith, length-append, get_or}
+use Rattle.std.proofs.Common.{◌≡◌, ℕ, zero, suc, ◌+◌, ◌-◌, ◌^◌, ◌<◌, inl, inr, List, [], ◌∷◌, ◌++◌, map, length, take, Option, Some, None, refl, sym, subst, ap, ◌∙◌, arith, length-append, get_or}
 use Rattle.std.proofs.lemmas.Option.{slice_get_within, same_Some}
 use Rattle.std.proofs.lemmas.List.{get_or_default}
 use Rattle.std.proofs.lemmas.List.Elements.{All-head, All-tail, All-cons, All-nil}
-use Rattle.std.specs.Prelude.{slice_get, slice_index, All}
-use Rattle.rb_target.specs.Validity.{IsBounded, SlotsFit, TargetsFit, CallsFit, FitsCall, IsFine, IsLower, IsValid, IsValidFun}
+use Rattle.std.specs.Prelude.{slice_get, All}
+use Rattle.rb_target.specs.Validity.{IsBounded, CallsFit, FitsCall, IsFine, IsLower, IsValid, IsValidFun}
 use Rattle.rb_target.specs.declared.instr.SwitchArm.{SwitchArm}
 use Rattle.rb_target.specs.declared.instr.Instr.{Instr}
 use Rattle.rb_target.specs.declared.instr.Instr.TheVariants.{Const, Copy, Alu, Take, Put, Load, Store, Place, Jump, Switch, Call, Return}
@@ -13,9 +13,9 @@ use Rattle.rb_target.proofs.Growing.{below_or, get-append, get-seam}
 use Rattle.rb_trim.specs.declared.fact.Fact.{Fact}
 use Rattle.rb_trim.specs.declared.hints.Hints.{Hints}
 use Rattle.rb_trim.specs.Trimming.{HasSameHead, IsTrimOf}
-use Rattle.rb_trim.specs.inner.Moving.{AreApart, IsApart, KeepParams, KeepsParam, IsRead, AreDests, AreNames, IsDest, IsName, facts_at, place, moved_arm, IsMoved, IsIdle, IsKept, IsLeftOut, IsStep, HaveSameHeads, IsTrimmed}
+use Rattle.rb_trim.specs.inner.Moving.{AreApart, IsApart, KeepParams, KeepsParam, AreDests, AreNames, IsDest, IsName, facts_at, place, moved_arm, IsMoved, IsIdle, IsStep, HaveSameHeads, IsTrimmed}
 use Rattle.rb_trim.specs.inner.Facts.{Follows}
-use Rattle.rb_trim.specs.inner.Stepping.{FitsAt, GoesOnAt, IsKnownOn, IsAppended, Steps, HaveOrigins, Walks, IsFit, AreTrimmed}
+use Rattle.rb_trim.specs.inner.Stepping.{GoesOnAt, IsKnownOn, Steps, HaveOrigins, Walks, IsFit, AreTrimmed}
 use Rattle.rb_trim.proofs.Whole.{past, trim_of}
 
 -- Lists of slots
@@ -124,10 +124,10 @@ module _ (h : Hints) where
       elim (below_or at (length new)) [
         | inl lt ↦ origins at k (sym (get-append new (j ∷ []) at lt) ∙ got)
         | inr le ↦
-          let lt : at < length (new ++ j ∷ []) = slice_get_within (new ++ j ∷ []) at k got in
-          let here : at ≡ length new = omega (arith, le, lt, length-append new (j ∷ [])) in
-          let same : j ≡ k = same_Some j k (sym (get-seam new j []) ∙ sym (ap (λ n. slice_get (new ++ j ∷ []) n) here) ∙ got) in
-          (pc, i, is, subst (λ (x : Instr). IsMoved h (facts_at h pc) pc i x) same moved)
+            let lt : at < length (new ++ j ∷ []) = slice_get_within (new ++ j ∷ []) at k got in
+            let here : at ≡ length new = omega (arith, le, lt, length-append new (j ∷ [])) in
+            let same : j ≡ k = same_Some j k (sym (get-seam new j []) ∙ sym (ap (λ n. slice_get (new ++ j ∷ []) n) here) ∙ got) in
+            (pc, i, is, subst (λ (x : Instr). IsMoved h (facts_at h pc) pc i x) same moved)
       ]
 
   pub step_kept : (pc : ℕ) (i : Instr) (old new : List Instr) (here next behind : ℕ) (facts : List Fact) (j : Instr) → here ≡ place h pc → next ≡ place h behind → behind ≡ pc + 1 → here ≡ length old → next - here ≡ 1
@@ -154,9 +154,9 @@ module _ (h : Hints) where
     steps = λ pc k lt got. elim (below_or pc count) [
       | inl low ↦ step_old new more count i pc k steps (walks.steps pc k low got)
       | inr le ↦
-        let here : count ≡ pc = omega (arith, le, lt) in
-        let same : i ≡ k = same_Some i k (sym is ∙ ap (λ n. slice_get body n) here ∙ got) in
-        subst (λ n. IsStep h more n k) here (subst (λ (x : Instr). IsStep h more count x) same (step_new new more count i steps))
+          let here : count ≡ pc = omega (arith, le, lt) in
+          let same : i ≡ k = same_Some i k (sym is ∙ ap (λ n. slice_get body n) here ∙ got) in
+          subst (λ n. IsStep h more n k) here (subst (λ (x : Instr). IsStep h more count x) same (step_new new more count i steps))
     ];
     origins = λ at k got. elim steps.stands [
       | inl made ↦ origin_of body new made.0 at k count i walks.origins is made.2 (sym (ap (λ l. slice_get l at) made.1) ∙ got)
@@ -244,13 +244,13 @@ more_trimmed funs new count f q is old t = record {
   long = length-append new (q ∷ []) ∙ ap (λ n. n + 1) old.long;
   each = λ g k lt got. elim (below_or g count) [
     | inl low ↦
-      let p = old.each g k low got in
-      (p.0, get-append new (q ∷ []) g (omega (arith, low, old.long)) ∙ p.1, p.2)
+        let p = old.each g k low got in
+        (p.0, get-append new (q ∷ []) g (omega (arith, low, old.long)) ∙ p.1, p.2)
     | inr le ↦
-      let here : count ≡ g = omega (arith, le, lt) in
-      let same : f ≡ k = same_Some f k (sym is ∙ ap (λ n. slice_get funs n) here ∙ got) in
-      let there : g ≡ length new = sym here ∙ sym old.long in
-      (q, ap (λ n. slice_get (new ++ q ∷ []) n) there ∙ get-seam new q [], subst (λ (x : CodeFun). IsTrimmed x q) same t)
+        let here : count ≡ g = omega (arith, le, lt) in
+        let same : f ≡ k = same_Some f k (sym is ∙ ap (λ n. slice_get funs n) here ∙ got) in
+        let there : g ≡ length new = sym here ∙ sym old.long in
+        (q, ap (λ n. slice_get (new ++ q ∷ []) n) there ∙ get-seam new q [], subst (λ (x : CodeFun). IsTrimmed x q) same t)
   ];
 }
 

@@ -1,9 +1,9 @@
 -- Two outcomes, one no dearer, where what goes on is.
-use Rattle.std.proofs.Common.{◌≡◌, ℕ, ◌≤◌, List, Option, Some, None, Result, Ok, Err, refl, sym, subst, ap, ◌∙◌, arith}
+use Rattle.std.proofs.Common.{◌≡◌, ℕ, ◌≤◌, List, Result, Ok, Err, refl, arith}
 use Rattle.rb_bytes.specs.declared.fault.Full.{Full}
 use Rattle.rb_bytes.specs.declared.fault.Trap.{Trap}
 use Rattle.rb_bytes.specs.Memory.{Memory}
-use Rattle.rb_target.specs.Meaning.{World, Outcome, over, after_load, after_store, after_place, after_switch, after_call, taken, switched, with_memory}
+use Rattle.rb_target.specs.Meaning.{World, Outcome, over, after_load, after_store, after_place, after_call, taken, switched, with_memory}
 use Rattle.rb_target.specs.declared.outcome.End.{End}
 use Rattle.rb_target.specs.declared.outcome.End.TheVariants.{Returned, Spent, Full as Filled, Trapped}
 use Rattle.rb_trim.specs.Trimming.{IsNoDearer}

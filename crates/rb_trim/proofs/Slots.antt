@@ -1,5 +1,5 @@
 -- Slots under their new numbers.
-use Rattle.std.proofs.Common.{◌≡◌, ◌≢◌, ℕ, zero, suc, ◌+◌, ◌<◌, ◌≤◌, ◌⊎◌, inl, inr, List, [], ◌∷◌, map, length, Option, Some, None, refl, sym, subst, ap, ◌∙◌, arith, get_or-set_other, get_or-set_same}
+use Rattle.std.proofs.Common.{◌≡◌, ◌≢◌, ℕ, zero, suc, ◌<◌, ◌≤◌, ◌⊎◌, inl, inr, List, [], ◌∷◌, length, refl, sym, subst, ap, ◌∙◌, arith, get_or-set_other, get_or-set_same}
 use Rattle.std.proofs.lemmas.List.{length-set}
 use Rattle.std.proofs.lemmas.List.Elements.{All-head, All-tail}
 use Rattle.std.specs.Prelude.{slice_index, slice_set}
@@ -23,13 +23,13 @@ module _ (h : Hints) (apart : AreApart h) where
   set_agrees pc d d' x s s' agree dest within within' k read =
       elim (same_or k d) [
         | inl e ↦
-          let there : slice_index h.names k ≡ d' = ap (λ n. slice_index h.names n) e ∙ sym dest.0 in
-          ap (λ n. slice_index (slice_set s' d' x) n) there ∙ get_or-set_same s' d' x 0 within'
-          ∙ sym (get_or-set_same s d x 0 within) ∙ ap (λ n. slice_index (slice_set s d x) n) (sym e)
+            let there : slice_index h.names k ≡ d' = ap (λ n. slice_index h.names n) e ∙ sym dest.0 in
+            ap (λ n. slice_index (slice_set s' d' x) n) there ∙ get_or-set_same s' d' x 0 within'
+            ∙ sym (get_or-set_same s d x 0 within) ∙ ap (λ n. slice_index (slice_set s d x) n) (sym e)
         | inr ne ↦
-          let back : slice_index h.origins (slice_index h.names k) ≡ k = apart k (omega (arith, read)) in
-          let off : slice_index h.names k ≢ d' = λ e. ne (sym back ∙ ap (λ n. slice_index h.origins n) e ∙ dest.1) in
-          get_or-set_other s' d' (slice_index h.names k) x 0 off ∙ agree k read ∙ sym (get_or-set_other s d k x 0 ne)
+            let back : slice_index h.origins (slice_index h.names k) ≡ k = apart k (omega (arith, read)) in
+            let off : slice_index h.names k ≢ d' = λ e. ne (sym back ∙ ap (λ n. slice_index h.origins n) e ∙ dest.1) in
+            get_or-set_other s' d' (slice_index h.names k) x 0 off ∙ agree k read ∙ sym (get_or-set_other s d k x 0 ne)
       ]
 
   pub later : (pc next : ℕ) (s s' : List ℕ) → pc ≤ next → Agree h pc s s' → Agree h next s s'

@@ -1,14 +1,12 @@
 -- From each instruction of a body on, the shorter body does alike.
-use Rattle.std.proofs.Common.{◌≡◌, ℕ, zero, suc, ◌+◌, ◌-◌, ◌<◌, ◌≤◌, ◌⊎◌, inl, inr, List, [], ◌∷◌, length, Option, Some, None, Result, Ok, refl, sym, subst, ap, ◌∙◌, arith}
+use Rattle.std.proofs.Common.{◌≡◌, ℕ, zero, suc, ◌+◌, ◌-◌, ◌<◌, ◌≤◌, ◌⊎◌, inl, inr, List, [], ◌∷◌, length, Option, Some, None, refl, sym, subst, ap, ◌∙◌, arith}
 use Rattle.std.proofs.lemmas.List.{length-set}
 use Rattle.std.proofs.lemmas.Option.{slice_get_within, same_Some}
-use Rattle.std.specs.Prelude.{slice_get, slice_index, slice_set, IfSome, All}
-use Rattle.rb_bits.specs.Words.{take_of, put_of}
-use Rattle.rb_bytes.specs.Memory.{load_of}
+use Rattle.std.specs.Prelude.{slice_get, slice_index, slice_set, IfSome}
+use Rattle.rb_bits.specs.Words.{take_of}
 use Rattle.rb_target.specs.Meaning.{World, Outcome, Next, Callee, act, taken, from, alu_of, after_load}
 use Rattle.rb_target.specs.Laws.{Law}
-use Rattle.rb_target.specs.Validity.{SlotsFit, IsTarget, AreArms, TargetsFit, EndsInReturn, IsFine, IsValidFun}
-use Rattle.rb_target.specs.declared.instr.SwitchArm.{SwitchArm}
+use Rattle.rb_target.specs.Validity.{IsTarget, TargetsFit, EndsInReturn, IsFine, IsValidFun}
 use Rattle.rb_target.specs.declared.instr.Instr.{Instr}
 use Rattle.rb_target.specs.declared.instr.Instr.TheVariants.{Const, Copy, Alu, Take, Put, Load, Store, Place, Jump, Switch, Call, Return}
 use Rattle.rb_target.specs.declared.code.CodeFun.{CodeFun}
@@ -16,10 +14,10 @@ use Rattle.rb_trim.specs.declared.fact.Fact.{Fact}
 use Rattle.rb_trim.specs.declared.hints.Hints.{Hints}
 use Rattle.rb_trim.specs.Trimming.{IsNoDearer}
 use Rattle.rb_trim.specs.inner.Facts.{Hold, Turns, Follows}
-use Rattle.rb_trim.specs.inner.Moving.{IsRead, Agree, AreApart, facts_at, place, IsMoved, IsIdle, Leads, IsKept, IsLeftOut, IsStep}
+use Rattle.rb_trim.specs.inner.Moving.{IsRead, Agree, AreApart, facts_at, place, IsIdle, Leads, IsKept, IsLeftOut, IsStep}
 use Rattle.rb_trim.proofs.Outcomes.{Near, near_taken, near_behind}
 use Rattle.rb_trim.proofs.Slots.{later, set_unread}
-use Rattle.rb_trim.proofs.Acting.{CallsNear, GoesOn, acts_alike}
+use Rattle.rb_trim.proofs.Acting.{CallsNear, acts_alike}
 
 get_some : (xs : List Instr) (k : ℕ) → k < length xs → (i : Instr) × (slice_get xs k ≡ Some i)
 get_some [] k lt = absurd (omega (arith, lt))
@@ -34,8 +32,8 @@ module _ (body : List Instr) (ends : EndsInReturn body) (pc : ℕ) (i : Instr) (
       elim (near_end lt) [
         | inl more ↦ more
         | inr last ↦
-          let there : slice_get body pc ≡ Some (Return ends.0) = ap (λ n. slice_get body n) last ∙ ends.1 in
-          absurd (unlike ends.0 (same_Some i (Return ends.0) (sym is ∙ there)))
+            let there : slice_get body pc ≡ Some (Return ends.0) = ap (λ n. slice_get body n) last ∙ ends.1 in
+            absurd (unlike ends.0 (same_Some i (Return ends.0) (sym is ∙ there)))
       ]
     where
       near_end : pc < length body → (pc + 1 < length body) ⊎ (pc ≡ length body - 1)
@@ -97,7 +95,6 @@ module _ (h : Hints) (apart : AreApart h) (slots pc : ℕ) (facts : List Fact) (
 module _ (funs funs' : List CodeFun) (f q : CodeFun) (valid : IsValidFun funs f) (valid' : IsValidFun funs' q) (h : Hints) (apart : AreApart h)
     (steps : (pc : ℕ) (i : Instr) → slice_get f.body pc ≡ Some i → IsStep h q.body pc i)
     (new old : Callee) (calls : CallsNear funs new old) (law : Law f.body old (from f.body old)) (law' : Law q.body new (from q.body new)) where
-
   -- from an instruction on, where it is so from those behind it on
   abbrev pub FromHere : ℕ → Type 0
   FromHere pc = (s s' : List ℕ) (v w : World) → Near v w → f.slots ≤ length s → q.slots ≤ length s' → Agree h pc s s' → Hold s w.memory (facts_at h pc)
@@ -114,23 +111,23 @@ module _ (funs funs' : List CodeFun) (f q : CodeFun) (valid : IsValidFun funs f)
       let fine' : IsFine funs' q (place h pc) j = valid'.each (place h pc) j kept.1 in
       subst (λ (o : Outcome). IsNoDearer o (act i (from f.body old) old pc s (taken w))) (sym (law'.step (place h pc) j s' v kept.1))
       (acts_alike h apart funs f.results f.slots q.slots pc (place h pc) (facts_at h pc) new old calls (P pc i)
-        (from q.body new) (from f.body old) s s' (taken v) (taken w) (near_taken v w near) long long' agree hold (sym kept.3)
-        i j kept.2 fine.slots fine'.slots fine.calls leads
-        (λ t t' s1 s1' w1 w1' there to turns long1 long1' agree1 near1.
-          subst (λ m. IsNoDearer (from q.body new m s1' w1') (from f.body old t s1 w1)) (sym there)
-          (rest t to.0 to.1 s1 s1' w1' w1 near1 long1 long1' (later h apart (pc + 1) t s1 s1' (omega (arith, to.0)) agree1)
-            (to.2.by f.slots s s1 w.memory w1.memory long fine.slots hold turns))))
+      (from q.body new) (from f.body old) s s' (taken v) (taken w) (near_taken v w near) long long' agree hold (sym kept.3)
+      i j kept.2 fine.slots fine'.slots fine.calls leads
+      (λ t t' s1 s1' w1 w1' there to turns long1 long1' agree1 near1.
+      subst (λ m. IsNoDearer (from q.body new m s1' w1') (from f.body old t s1 w1)) (sym there)
+      (rest t to.0 to.1 s1 s1' w1' w1 near1 long1 long1' (later h apart (pc + 1) t s1 s1' (omega (arith, to.0)) agree1)
+      (to.2.by f.slots s s1 w.memory w1.memory long fine.slots hold turns))))
 
   passed : (pc : ℕ) → ((t : ℕ) → pc < t → t < length f.body → FromHere t) → (i : Instr) → IsFine funs f pc i → Leads (P pc i) i pc → IsLeftOut h pc i
       → (s s' : List ℕ) (v w : World) → Near v w → f.slots ≤ length s → q.slots ≤ length s' → Agree h pc s s' → Hold s w.memory (facts_at h pc)
       → IsNoDearer (from q.body new (place h pc) s' v) (act i (from f.body old) old pc s (taken w))
   passed pc rest i fine leads out s s' v w near long long' agree hold =
       idle_acts h apart f.slots pc (facts_at h pc) old (P pc i) (from f.body old) s s' (taken w)
-        (from q.body new (place h pc) s' v) long agree hold out.1 i out.0 leads
-        (λ t s1 there to turns long1 agree1.
-          subst (λ m. IsNoDearer (from q.body new m s' v) (from f.body old t s1 (taken w))) there
-          (rest t to.0 to.1 s1 s' v (taken w) (near_behind v w near) long1 long' (later h apart (pc + 1) t s1 s' (omega (arith, to.0)) agree1)
-            (to.2.by f.slots s s1 w.memory w.memory long fine.slots hold turns)))
+      (from q.body new (place h pc) s' v) long agree hold out.1 i out.0 leads
+      (λ t s1 there to turns long1 agree1.
+      subst (λ m. IsNoDearer (from q.body new m s' v) (from f.body old t s1 (taken w))) there
+      (rest t to.0 to.1 s1 s' v (taken w) (near_behind v w near) long1 long' (later h apart (pc + 1) t s1 s' (omega (arith, to.0)) agree1)
+      (to.2.by f.slots s s1 w.memory w.memory long fine.slots hold turns)))
 
   here : (pc : ℕ) → pc < length f.body → ((t : ℕ) → pc < t → t < length f.body → FromHere t) → FromHere pc
   here pc lt rest s s' v w near long long' agree hold =

@@ -1,10 +1,10 @@
 -- All functions: each call of the new ones is no dearer.
-use Rattle.std.proofs.Common.{◌≡◌, ℕ, zero, suc, ◌+◌, ◌-◌, ◌<◌, ◌≤◌, ◌⊎◌, inl, inr, List, [], ◌∷◌, ◌++◌, length, replicate, Option, Some, None, refl, sym, subst, ap, ◌∙◌, arith, length-append}
+use Rattle.std.proofs.Common.{◌≡◌, ℕ, zero, suc, ◌-◌, ◌<◌, ◌≤◌, inl, inr, List, [], ◌∷◌, ◌++◌, length, replicate, Some, refl, sym, subst, ap, ◌∙◌, arith, length-append}
 use Rattle.std.proofs.lemmas.List.{length-replicate, get_or_append_left}
-use Rattle.std.proofs.lemmas.Option.{slice_get_within, same_Some}
+use Rattle.std.proofs.lemmas.Option.{slice_get_within}
 use Rattle.std.specs.Prelude.{slice_get, slice_index}
 use Rattle.rb_bytes.specs.Memory.{Memory}
-use Rattle.rb_target.specs.Meaning.{World, Outcome, Callee, over, from, enter, run_of, body_in, body_of, first_slots, slots_in, after_one_call, with_left}
+use Rattle.rb_target.specs.Meaning.{World, Outcome, Callee, from, enter, body_in, body_of, first_slots, slots_in, after_one_call, with_left}
 use Rattle.rb_target.specs.Laws.{Law}
 use Rattle.rb_target.specs.Validity.{EndsInReturn, IsValid, IsValidFun}
 use Rattle.rb_target.specs.declared.outcome.End.TheVariants.{Spent}
@@ -14,9 +14,9 @@ use Rattle.rb_target.specs.declared.code.CodeFun.{CodeFun}
 use Rattle.rb_target.proofs.Unrolling.{body_unrolls}
 use Rattle.rb_trim.specs.declared.fact.Fact.{Fact}
 use Rattle.rb_trim.specs.declared.hints.Hints.{Hints}
-use Rattle.rb_trim.specs.Trimming.{IsNoDearer, HasSameHead, IsTrimOf}
+use Rattle.rb_trim.specs.Trimming.{IsNoDearer, IsTrimOf}
 use Rattle.rb_trim.specs.inner.Facts.{Hold}
-use Rattle.rb_trim.specs.inner.Moving.{IsRead, Agree, KeepParams, facts_at, place, IsTrimmed}
+use Rattle.rb_trim.specs.inner.Moving.{Agree, KeepParams, facts_at, place, IsTrimmed}
 use Rattle.rb_trim.proofs.Outcomes.{Near, over_near}
 use Rattle.rb_trim.proofs.Acting.{CallsNear}
 use Rattle.rb_trim.proofs.Walking.{walk}
@@ -43,11 +43,11 @@ begin_agree : (h : Hints) (params : ℕ) (words : List ℕ) (n n' : ℕ) → Kee
 begin_agree h params words n n' keep same k read =
     elim (keep k read) [
       | inl low ↦
-        let lt : k < length words = omega (arith, same, low.0) in
-        ap (λ j. slice_index (words ++ replicate {A = ℕ} n' 0) j) low.1
-        ∙ get_or_append_left words (replicate {A = ℕ} n' 0) 0 k lt ∙ sym (get_or_append_left words (replicate {A = ℕ} n 0) 0 k lt)
+          let lt : k < length words = omega (arith, same, low.0) in
+          ap (λ j. slice_index (words ++ replicate {A = ℕ} n' 0) j) low.1
+          ∙ get_or_append_left words (replicate {A = ℕ} n' 0) 0 k lt ∙ sym (get_or_append_left words (replicate {A = ℕ} n 0) 0 k lt)
       | inr high ↦
-        zero_behind words n' (slice_index h.names k) (omega (arith, same, high.1)) ∙ sym (zero_behind words n k (omega (arith, same, high.0)))
+          zero_behind words n' (slice_index h.names k) (omega (arith, same, high.1)) ∙ sym (zero_behind words n k (omega (arith, same, high.0)))
     ]
 
 long_enough : (words : List ℕ) (n : ℕ) → n ≤ length (words ++ replicate {A = ℕ} (n - length words) 0)
@@ -68,7 +68,6 @@ near_left v w l n = record { left = refl; memory = n.memory; switches = n.switch
 
 module _ (funs funs' : List CodeFun) (valid : IsValid funs) (valid' : IsValid funs')
     (pairs : (g : ℕ) (f : CodeFun) → slice_get funs g ≡ Some f → (q : CodeFun) × (slice_get funs' g ≡ Some q) × IsTrimmed f q) where
-
   -- one function, over callees that are near
   fun_near : (g : ℕ) (f : CodeFun) → slice_get funs g ≡ Some f → (new old : Callee) → CallsNear funs new old → (words : List ℕ) → length words ≡ f.params → (v w : World) → Near v w
       → IsNoDearer (from (body_of funs' g) new 0 (first_slots funs' g words) v) (from (body_of funs g) old 0 (first_slots funs g words) w)
@@ -83,14 +82,13 @@ module _ (funs funs' : List CodeFun) (valid : IsValid funs) (valid' : IsValid fu
       let slots' : first_slots funs' g words ≡ words ++ replicate {A = ℕ} (q.slots - length words) 0 = ap (λ o. words ++ replicate {A = ℕ} (slots_in o - length words) 0) pair.1 in
       let law : Law f.body old (from f.body old) = subst (λ b. Law b old (from b old)) body (body_unrolls funs valid g old) in
       let law' : Law q.body new (from q.body new) = subst (λ b. Law b new (from b new)) body' (body_unrolls funs' valid' g new) in
-      
       let s = words ++ replicate {A = ℕ} (f.slots - length words) 0 in
       let s' = words ++ replicate {A = ℕ} (q.slots - length words) 0 in
       let walked : IsNoDearer (from q.body new (place t.hints 0) s' v) (from f.body old 0 s w) =
-          walk funs funs' f q fine (valid'.each g q pair.1) t.hints t.apart t.steps new old calls law law'
-            (length f.body) 0 (omega arith) (some_instr f.body fine.ends) s s' v w near (long_enough words f.slots) (long_enough words q.slots)
-            (begin_agree t.hints f.params words (f.slots - length words) (q.slots - length words) t.params same)
-            (nothing_known s w.memory (facts_at t.hints 0) t.begins.1) in
+      walk funs funs' f q fine (valid'.each g q pair.1) t.hints t.apart t.steps new old calls law law'
+      (length f.body) 0 (omega arith) (some_instr f.body fine.ends) s s' v w near (long_enough words f.slots) (long_enough words q.slots)
+      (begin_agree t.hints f.params words (f.slots - length words) (q.slots - length words) t.params same)
+      (nothing_known s w.memory (facts_at t.hints 0) t.begins.1) in
       subst (λ b. IsNoDearer (from b new 0 (first_slots funs' g words) v) (from (body_of funs g) old 0 (first_slots funs g words) w)) (sym body')
       (subst (λ b. IsNoDearer (from q.body new 0 (first_slots funs' g words) v) (from b old 0 (first_slots funs g words) w)) (sym body)
       (subst (λ k. IsNoDearer (from q.body new 0 k v) (from f.body old 0 (first_slots funs g words) w)) (sym slots')

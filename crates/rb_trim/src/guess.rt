@@ -88,12 +88,7 @@ fn common(alloc: Global, facts: &[Fact], others: &[Fact]) -> Result<Seq<Fact>, A
 }
 
 // An edge to an instruction: what is known there holds by each edge.
-fn meet(
-    alloc: Global,
-    known: &mut Knowledge,
-    pc: usize,
-    facts: &[Fact],
-) -> Result<(), AllocError> {
+fn meet(alloc: Global, known: &mut Knowledge, pc: usize, facts: &[Fact]) -> Result<(), AllocError> {
     let Some(is_met) = known.is_met.get(pc) else {
         return Ok(());
     };
@@ -294,11 +289,7 @@ fn is_wanted(rest: &Rest, facts: &[Fact], pc: usize, instr: &Instr) -> bool {
 }
 
 // From the last instruction back, what is wanted.
-fn choose(
-    alloc: Global,
-    fun: &CodeFun,
-    facts: &[Seq<Fact>],
-) -> Result<Rest, AllocError> {
+fn choose(alloc: Global, fun: &CodeFun, facts: &[Seq<Fact>]) -> Result<Rest, AllocError> {
     let body = fun.body.as_slice();
     let count = body.len();
     let mut rest = Rest {

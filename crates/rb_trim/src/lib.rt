@@ -1,4 +1,44 @@
 //! Code that does the same with fewer instructions.
+//!
+//! Code that is emitted part by part makes an address again for each field of a block, and makes words that nothing
+//! reads. [`trim::trim`] leaves such instructions out. Take the two reads of a list's block, whose pointer stands in
+//! bits 3 to 64 of slot 0:
+//!
+//! ```text
+//! take 3 0 3 61
+//! const 4 8
+//! alu mul 64 5 3 4
+//! load 6 5 0 64
+//! take 7 0 3 61
+//! const 8 8
+//! alu mul 64 9 7 8
+//! load 10 9 8 64
+//! ```
+//!
+//! Before each instruction some *facts* are known ([`fact`]): behind the first, that slot 3 holds bits 3 to 64 of slot
+//! 0. The fifth makes the same, so behind it slot 7 is known to hold the word of slot 3. What would read slot 7 reads
+//! slot 3, and since nothing reads slot 7 then, the instruction is *idle*, and so are the next two. The rest gets new
+//! numbers, instructions and slots:
+//!
+//! ```text
+//! take 3 0 3 61
+//! const 4 8
+//! alu mul 64 5 3 4
+//! load 6 5 0 64
+//! load 7 5 8 64
+//! ```
+//!
+//! A load is idle only where its word is known, since another one could be astray. A jump is idle where all that
+//! stands between it and its target is left out.
+//!
+//! What is known and what is left out are *hints* ([`hints`]), which [`guess`] finds in two walks, one forward and one
+//! back. Nothing rests on their being right. [`steps`] walks through the body and tests each instruction: what it reads
+//! is read there by the hints, what it writes has a new number of its own, what is known at each place where the run
+//! goes on follows from what is known here ([`knowing`]). So a run of the new body goes along with one of the old: the
+//! facts hold of the old slots, and each slot that is read from there on holds the same word under its new number. A
+//! function whose hints fail stays as it is.
+//!
+//! All walks are linear in the body, as at most twelve facts are kept at a place.
 #![tactic(auto)]
 
 pub mod fact;

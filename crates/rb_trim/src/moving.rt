@@ -159,7 +159,12 @@ fn move_write(hints: &Hints, facts: &[Fact], pc: usize, instr: &Instr) -> Result
             Instr::Take(dest(hints, *d)?, name(hints, facts, pc, *a)?, *o, *l)
         }
         Instr::Load(d, a, offset, width) => {
-            Instr::Load(dest(hints, *d)?, name(hints, facts, pc, *a)?, *offset, *width)
+            Instr::Load(
+                dest(hints, *d)?,
+                name(hints, facts, pc, *a)?,
+                *offset,
+                *width,
+            )
         }
         Instr::Place(d, size, align) => Instr::Place(dest(hints, *d)?, *size, *align),
         Instr::Put(..)
@@ -217,7 +222,11 @@ fn move_other(
         }
         Instr::Call(number, ds, froms) => {
             let ds = dests(alloc, hints, ds.as_slice())?;
-            Instr::Call(*number, ds, names(alloc, hints, facts, pc, froms.as_slice())?)
+            Instr::Call(
+                *number,
+                ds,
+                names(alloc, hints, facts, pc, froms.as_slice())?,
+            )
         }
         Instr::Return(froms) => Instr::Return(names(alloc, hints, facts, pc, froms.as_slice())?),
         Instr::Const(..)

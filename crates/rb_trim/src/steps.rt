@@ -67,9 +67,7 @@ fn is_idle(hints: &Hints, facts: &[Fact], pc: usize, instr: &Instr) -> bool
         Instr::Load(dest, base, offset, width) => {
             !is_read_behind(hints, pc, *dest) && is_loaded(facts, *base, *offset, *width)
         }
-        Instr::Jump(target) => {
-            place_at(hints, *target) == place_at(hints, pc)
-        }
+        Instr::Jump(target) => { place_at(hints, *target) == place_at(hints, pc) }
         Instr::Store(..)
         | Instr::Place(..)
         | Instr::Switch(..)

@@ -1,5 +1,5 @@
 -- What facts say, what instructions do to slots and memory, and which facts hold behind them.
-use Rattle.std.specs.Prelude.{◌≡◌, ℕ, ◌%◌, ◌^◌, ◌<◌, ◌≤◌, List, length, slice_index, slice_set, Ok, Contains}
+use Rattle.std.specs.Prelude.{◌≡◌, ℕ, ◌%◌, ◌^◌, ◌≤◌, List, length, slice_index, slice_set, Ok, Contains}
 use Rattle.rb_bits.specs.Words.{take_of, put_of}
 use Rattle.rb_bytes.specs.Memory.{Memory, load_of}
 use Rattle.rb_target.specs.Meaning.{alu_of, put_slots}

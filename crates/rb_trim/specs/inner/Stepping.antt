@@ -4,10 +4,9 @@ use Rattle.rb_target.specs.Validity.{SlotsFit, TargetsFit, EndsInReturn, dest_co
 use Rattle.rb_target.specs.declared.instr.SwitchArm.{SwitchArm}
 use Rattle.rb_target.specs.declared.instr.Instr.{Instr}
 use Rattle.rb_target.specs.declared.code.CodeFun.{CodeFun}
-use Rattle.rb_trim.specs.declared.fact.Fact.{Fact}
 use Rattle.rb_trim.specs.declared.hints.Hints.{Hints}
 use Rattle.rb_trim.specs.inner.Facts.{Follows}
-use Rattle.rb_trim.specs.inner.Moving.{facts_at, place, IsMoved, IsIdle, IsLeftOut, IsStep, IsTrimmed, Leads}
+use Rattle.rb_trim.specs.inner.Moving.{facts_at, place, IsMoved, IsLeftOut, IsStep, IsTrimmed, Leads}
 
 -- what is known at the target of the arm with this number holds behind the instruction
 pub record GoesOnAt (h : Hints) (pc : ℕ) (i : Instr) (arms : List SwitchArm) (k : ℕ) : Type 0 where

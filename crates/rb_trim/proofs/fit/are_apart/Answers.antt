@@ -1,5 +1,4 @@
 use Rattle.std.proofs.Common.{arith}
-use Rattle.rb_trim.specs.inner.Moving.{IsApart}
 use Rattle.rb_trim.proofs.Fitting.{all_apart}
 use Rattle.rb_trim.proofs.fit.are_apart.Goals as goal
 

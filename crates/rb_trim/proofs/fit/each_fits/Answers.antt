@@ -1,4 +1,4 @@
-use Rattle.std.proofs.Common.{arith, rules, below_more}
+use Rattle.std.proofs.Common.{rules, below_more}
 use Rattle.rb_trim.proofs.fit.each_fits.Goals as goal
 
 pub loop-pc-preserved : goal.loop-pc-preserved

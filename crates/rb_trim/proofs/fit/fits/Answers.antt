@@ -1,4 +1,4 @@
-use Rattle.std.proofs.Common.{rules, arith, sym, subst}
+use Rattle.std.proofs.Common.{rules, subst}
 use Rattle.rb_trim.specs.inner.Stepping.{IsFit}
 use Rattle.rb_trim.proofs.fit.fits.Goals as goal
 

@@ -19,7 +19,7 @@ pub returns-in-Computed : goal.returns-in-Computed
 returns-in-Computed c =
     subst (λ (x : Content). IsAsMuch c.args.facts.now x (Computed c.in-Computed.op c.in-Computed.bits c.source-from_a.result c.source-from_b.result)) (sym c.in-Computed.is)
     (much_computed c.args.facts.now c.in-Computed.op c.in-Computed.bits c.in-Computed.a c.in-Computed.b
-      c.source-from_a.result c.source-from_b.result c.source-from_a.ensures c.source-from_b.ensures)
+    c.source-from_a.result c.source-from_b.result c.source-from_a.ensures c.source-from_b.ensures)
 
 pub returns-in-Loaded : goal.returns-in-Loaded
 returns-in-Loaded c =

@@ -1,4 +1,4 @@
-use Rattle.std.proofs.Common.{◌≡◌, rules, arith, refl, subst}
+use Rattle.std.proofs.Common.{◌≡◌, arith, refl, subst}
 use Rattle.rb_trim.specs.inner.Moving.{IsName}
 use Rattle.rb_trim.proofs.Slots.{name_weaker}
 use Rattle.rb_trim.proofs.moving.move_put.Goals as goal
@@ -11,6 +11,6 @@ returns c =
       refl,
       c.in_ok-new.ensures,
       subst (λ n. IsName c.args.hints.now c.args.facts.now c.args.pc c.args.slot n) e
-      (name_weaker c.args.hints.now c.args.facts.now c.args.pc c.args.slot c.in_ok-same.same c.in_ok-same.ensures),
+          (name_weaker c.args.hints.now c.args.facts.now c.args.pc c.args.slot c.in_ok-same.same c.in_ok-same.ensures),
       c.in_ok-part.ensures,
     )

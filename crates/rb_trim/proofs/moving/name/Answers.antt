@@ -1,4 +1,4 @@
-use Rattle.std.proofs.Common.{◌<◌, ◌∙◌, arith, ap}
+use Rattle.std.proofs.Common.{◌∙◌, arith, ap}
 use Rattle.std.specs.Prelude.{slice_index}
 use Rattle.rb_trim.proofs.moving.name.Goals as goal
 

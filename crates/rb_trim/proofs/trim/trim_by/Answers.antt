@@ -1,5 +1,4 @@
-use Rattle.std.proofs.Common.{◌≡◌, rules, arith, sym, refl, subst, ap, ◌∙◌}
-use Rattle.rb_trim.specs.inner.Stepping.{Walks}
+use Rattle.std.proofs.Common.{rules, sym, refl, ◌∙◌}
 use Rattle.rb_trim.proofs.Fitting.{trimmed}
 use Rattle.rb_trim.proofs.trim.trim_by.Goals as goal
 

@@ -10,7 +10,7 @@ pub loop-fun-preserved : goal.loop-fun-preserved
 loop-fun-preserved c =
     rw c.in_ok-push.ensures.ok
     (more_trimmed c.args.funs.now c.loop-fun.new c.loop-fun.fun-index c.fun-item.result c.in_ok-shorter.shorter
-      (item_is c.args.funs.now c.loop-fun.fun-index c.fun-item.result (omega arith) c.fun-item.is) c.loop-fun.invariant c.in_ok-shorter.ensures)
+    (item_is c.args.funs.now c.loop-fun.fun-index c.fun-item.result (omega arith) c.fun-item.is) c.loop-fun.invariant c.in_ok-shorter.ensures)
 
 pub returns : goal.returns
 returns c =
