@@ -259,9 +259,13 @@ fn some_marked(marks: &[bool], arms: &[GraphArm], other: Option<u32>) -> bool {
         .any(|arm| matches!(marks.get(arm.under as usize), Some(true)))
 }
 
-// For each node whether a test below a position can be met from it on: such a test reads from the part there, so it
-// needs the part's leaf. Links go to lower nodes.
-fn mark_tested_below(
+/// For each node whether a test below a position can be met from it on: such a test reads from the part there, so it
+/// needs the part's leaf. Links go to lower nodes.
+///
+/// # Errors
+///
+/// Want of memory.
+pub fn mark_tested_below(
     alloc: Global,
     nodes: &[GraphNode],
     position: &[u32],

@@ -54,13 +54,14 @@ fn fields_to_save(
     let types = agreed.covered().program().types.as_slice();
     let fields = fields_of(types, con);
     let onward = node_onward(
+        alloc,
         agreed,
         graph.ty,
         graph.pats,
         graph.nodes,
         known,
         node as usize,
-    );
+    )?;
     let wanted = wanted_fields(alloc, graph.nodes, onward, position, fields.len())?;
     Ok(wanted)
 }

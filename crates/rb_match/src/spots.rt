@@ -176,7 +176,12 @@ fn set_at(marks: &mut Seq<bool>, place: usize) {
     }
 }
 
-fn marks(alloc: Global, count: usize, mark: bool) -> Result<Seq<bool>, AllocError> {
+/// So many marks, all alike.
+///
+/// # Errors
+///
+/// Want of memory.
+pub fn marks(alloc: Global, count: usize, mark: bool) -> Result<Seq<bool>, AllocError> {
     let mut all = Seq::new(alloc);
     for _place in 0..count {
         all.push(mark)?;

@@ -1,14 +1,14 @@
 //! Tests that what is known decides: they need no code, and an edge that leads to one leads on to the node of
-//! its arm. A test stays where others look below it: they need the leaf that it finds.
+//! its arm. A test stays where one that is not decided looks below it: that one needs the leaf that it finds.
 
 ghost use Rattle.std.specs.Prelude.{◌≡◌, ◌++◌, IfOk, IfSome, true};
 ghost use Rattle.rb_match.specs.inner.Knowing.{AllFollow};
 ghost use Rattle.rb_match.specs.inner.Threading.{Ascend, AreThreaded, HasAt, IsDecided, IsThreaded, LeadsOn, Tells, TellTogether, Threads};
 
-use crate::asking::link_of;
+use crate::asking::{link_of, mark_tested_below};
 use crate::knowledge::{Edge, Known, copy_known, same_position};
 use crate::place::is_looked_at;
-use crate::spots::is_within;
+use crate::spots::marks;
 use rb_core::pattern::Pat;
 use rb_core::seq::Seq;
 use rb_core::types::{ConRef, Ty};
@@ -109,21 +109,7 @@ fn decided(
     None
 }
 
-// Whether a test stands below a position, at one of the nodes up to a number: links go to lower ones. Such a test
-// reads from the part at the position, so that the leaf there has to be found.
-fn is_tested_below(nodes: &[GraphNode], last: usize, position: &[u32]) -> bool {
-    for (number, node) in nodes.iter().enumerate() {
-        if let GraphNode::Test(below, _, _) = node {
-            let is_longer = below.len() > position.len();
-            if number <= last && is_longer && is_within(below.as_slice(), position) {
-                return true;
-            }
-        }
-    }
-    false
-}
-
-// The node behind a test that is decided, below which no other is.
+// The node behind a test that is decided.
 fn node_behind(
     agreed: &Agreed,
     ty: Ty,
@@ -141,33 +127,66 @@ fn node_behind(
             let position = position.as_slice();
             let arms = arms.as_slice();
             let next = decided(agreed, ty, pats, known, position, arms, *other)?;
-            if is_tested_below(nodes, next as usize, position) {
-                return None;
-            }
             Some(next as usize)
         }
     }
 }
 
-/// The first node from one on whose test isn't decided by what is known, or which is a clause.
+// Whether a node is marked.
+fn is_marked(marks: &[bool], node: usize) -> bool {
+    matches!(marks.get(node), Some(true))
+}
+
+// Marks each node from which a test below the position of a node can be met.
+fn mark_below(
+    alloc: Global,
+    nodes: &[GraphNode],
+    node: usize,
+    marks: &mut Seq<bool>,
+) -> Result<(), AllocError> {
+    let Some(GraphNode::Test(position, _, _)) = nodes.get(node) else {
+        return Ok(());
+    };
+    let below = mark_tested_below(alloc, nodes, position.as_slice())?;
+    for i in 0..marks.len() {
+        if is_marked(below.as_slice(), i) {
+            marks.replace(i, true);
+        }
+    }
+    Ok(())
+}
+
+/// The node to which what is known leads from one on, over tests that it decides. It is the last one from which no test
+/// can be met that reads from a part which would have been looked at on the way.
+///
+/// # Errors
+///
+/// Want of memory.
 pub fn node_onward(
+    alloc: Global,
     agreed: &Agreed,
     ty: Ty,
     pats: &[Pat],
     nodes: &[GraphNode],
     known: &[Known],
     node: usize,
-) -> usize
-    ensures { LeadsOn agreed.now ty pats.now nodes.now known.now node result }
+) -> Result<usize, AllocError>
+    ensures { IfOk result (λ end. LeadsOn agreed.now ty pats.now nodes.now known.now node end) }
 {
     let mut here = node;
+    let mut end = node;
+    let mut met = marks(alloc, nodes.len(), false)?;
     for _step in 0..nodes.len() {
-        match node_behind(agreed, ty, pats, nodes, known, here) {
-            None => return here,
-            Some(next) => here = next,
+        let Some(next) = node_behind(agreed, ty, pats, nodes, known, here) else {
+            return Ok(end);
+        };
+        mark_below(alloc, nodes, here, &mut met)?;
+        here = next;
+        if !is_marked(met.as_slice(), here) {
+            end = here;
         }
     }
-    here
+    Ok(end)
 }
 
 // Whether each edge is at a later instruction than those before it.
@@ -217,7 +236,7 @@ fn thread_edge<'a>(
     ensures { IfOk result (λ e. IsThreaded agreed.now ty pats.now nodes.now edge.now e) }
 {
     let known = edge.known.as_slice();
-    let leaf = node_onward(agreed, ty, pats, nodes, known, edge.hole.leaf);
+    let leaf = node_onward(alloc, agreed, ty, pats, nodes, known, edge.hole.leaf)?;
     let known = carried(alloc, nodes, leaf, known)?;
     Ok(Edge {
         hole: Hole {

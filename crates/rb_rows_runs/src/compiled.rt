@@ -28,6 +28,10 @@ fn compiled(alloc: Global, file: &str) -> Result<Vec<u8>, Surprise> {
 const TOLD: &str =
     "type K = A | B;layout K <1> = split 0[0:1] { 0 => A : { word 1 { [0:1] = 0 } } 1 => B : { word 1 { [0:1] = 1 } } };type P = Tagged(K, u8);layout P <9> = split 0[0:1] { 0 => Tagged(A, _) : { word 9 { [0:1] = 0, [1:8] .1 } } 1 => Tagged(B, _) : { word 9 { [0:1] = 1, [1:8] .1 } } };fun main(p: P): u8 = match p { Tagged(A, 3) => 1, Tagged(B, 4) => 2, _ => 0 };";
 
+// An entry or none, and a byte. The leaf tells whether there is an entry, and which bit it has.
+const TOLD_INSIDE: &str =
+    "type K = A | B;layout K <1> = split 0[0:1] { 0 => A : { word 1 { [0:1] = 0 } } 1 => B : { word 1 { [0:1] = 1 } } };type E = Off | On(K, u8);layout E <10> = split 0[0:1] { 0 => Off : { word 10 { [0:1] = 0 } } 1 => On(_, _) : { word 10 { [0:1] = 1, [1:1] .0, [2:8] .1 } } };type T = With(E, u8);layout T <18> = split 0[0:2] { 0 => With(Off, _) : { word 18 { [0:2] = 0, [2:8] .1 } } 1 => With(On(A, _), _) : { word 18 { [0:2] = 1, [2:8] .1, [10:8] .0.1 } } 2 => With(On(B, _), _) : { word 18 { [0:2] = 2, [2:8] .1, [10:8] .0.1 } } };fun main(t: T): u8 = match t { With(On(A, _), _) => 1, With(On(_, _), _) => 2, With(Off, y) => y };";
+
 // Constructions of such a pair. The file shows the bit in the first, and none of it in the second.
 const SHOWN: &str =
     "type K = A | B;layout K <1> = split 0[0:1] { 0 => A : { word 1 { [0:1] = 0 } } 1 => B : { word 1 { [0:1] = 1 } } };type P = Tagged(K, u8);layout P <9> = split 0[0:1] { 0 => Tagged(A, _) : { word 9 { [0:1] = 0, [1:8] .1 } } 1 => Tagged(B, _) : { word 9 { [0:1] = 1, [1:8] .1 } } };fun main(x: u8): P = Tagged(B, x);";
@@ -62,7 +66,7 @@ fn code_texts_run(rt: HostRuntime) -> Result<(), Surprise> {
 // File, the start of a line, and how many lines of the file's code begin so, at least and at most.
 type Lines<'a> = (&'a str, &'a str, usize, usize);
 
-const LINES: [Lines; 19] = [
+const LINES: [Lines; 20] = [
     // an arm whose value is the function's result returns it
     (SUM, "return ", 3, 3),
     (SUM, "copy ", 0, 0),
@@ -78,6 +82,8 @@ const LINES: [Lines; 19] = [
     (FOUR, "switch ", 0, 4),
     // one switch finds the leaf, and each way has one for its byte: the bit is tested by none
     (TOLD, "switch ", 3, 3),
+    // one switch finds the leaf, which tells an entry and its bit: neither is tested
+    (TOLD_INSIDE, "switch ", 1, 1),
     // a constructor that the file shows is not looked at, and a variable's is, once
     (SHOWN, "switch ", 0, 0),
     (UNSHOWN, "switch ", 1, 1),
@@ -164,12 +170,15 @@ fn the_text_does_as_many(rt: HostRuntime) -> Result<(), Fail> {
     Ok(())
 }
 
-// Two switches for each value.
-const LEAVES: [CountRow; 4] = [
+// Two switches for each pair, and one for each entry.
+const LEAVES: [CountRow; 7] = [
     (TOLD, "Tagged(A,3)", "value 1;calls 1;", 2, BEHIND),
     (TOLD, "Tagged(A,4)", "value 0;calls 1;", 2, BEHIND),
     (TOLD, "Tagged(B,4)", "value 2;calls 1;", 2, BEHIND),
     (TOLD, "Tagged(B,3)", "value 0;calls 1;", 2, BEHIND),
+    (TOLD_INSIDE, "With(On(A,3),9)", "value 1;calls 1;", 1, BEHIND),
+    (TOLD_INSIDE, "With(On(B,3),9)", "value 2;calls 1;", 1, BEHIND),
+    (TOLD_INSIDE, "With(Off,9)", "value 9;calls 1;", 1, BEHIND),
 ];
 
 // No block is made.

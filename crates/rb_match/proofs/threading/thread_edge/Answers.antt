@@ -6,5 +6,5 @@ returns c = record {
   pc = refl;
   arm = refl;
   known = rw c.as_slice-known.ensures at c.in_ok-known.ensures;
-  leads = rw c.as_slice-known.ensures at c.node_onward-leaf.ensures;
+  leads = rw c.as_slice-known.ensures at c.in_ok-leaf.ensures;
 }
