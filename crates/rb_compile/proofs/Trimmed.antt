@@ -1,5 +1,5 @@
 -- Code that does what other code does, no dearer, refines what that refines, with as few switches.
-use Rattle.std.proofs.Common.{◌≡◌, ℕ, ◌+◌, ◌≤◌, Bool, List, [], ◌∷◌, ◌++◌, length, Some, sym, subst, ap, ◌∙◌, arith, length-append}
+use Rattle.std.proofs.Common.{◌≡◌, ℕ, ◌+◌, Bool, List, [], ◌∷◌, length, Some, sym, subst, ap, ◌∙◌, arith, length-append}
 use Rattle.std.specs.Prelude.{slice_get}
 use Rattle.rb_core.specs.declared.value.Value.{Value}
 use Rattle.rb_core.specs.declared.types.Ty.{Ty}
@@ -7,15 +7,15 @@ use Rattle.rb_core.specs.declared.program.Fun.{Fun}
 use Rattle.rb_core.specs.declared.outcome.SourceEnd.{SourceEnd}
 use Rattle.rb_core.specs.declared.outcome.SourceEnd.TheVariants.{Done, Spent as Stopped}
 use Rattle.rb_core.specs.Meaning.{call_of}
-use Rattle.rb_bytes.specs.Memory.{Memory, IsGood}
+use Rattle.rb_bytes.specs.Memory.{Memory}
 use Rattle.rb_bytes.specs.Growth.{Grown}
 use Rattle.rb_target.specs.declared.code.CodeFun.{CodeFun}
 use Rattle.rb_target.specs.Meaning.{Outcome as Run, run_of}
 use Rattle.rb_trim.specs.Trimming.{IsNoDearer, IsTrimOf}
 use Rattle.rb_rel.specs.Placing.{Fits, Laid, Over, lay, requests_of}
-use Rattle.rb_fragment.specs.Plan.{Plan, Rep, Reps, cost_of, types_of, words_in, words_of}
+use Rattle.rb_fragment.specs.Plan.{Plan, Rep, Reps, types_of, words_in, words_of}
 use Rattle.rb_fragment.proofs.Represented.{Rep-count}
-use Rattle.rb_compile.specs.Refining.{DoesAs, EndsAs, HasHead, Refines}
+use Rattle.rb_compile.specs.Refining.{EndsAs, HasHead, Refines}
 use Rattle.rb_compile.specs.Thrift.{IsThrifty}
 
 module _ (plan : Plan) (clean : Bool) (t : Ty) (m : Memory) (new old : Run) (near : IsNoDearer new old) where

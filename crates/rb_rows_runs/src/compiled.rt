@@ -74,10 +74,10 @@ const LINES: [Lines; 20] = [
     (RESULTS, "return ", 3, 3),
     (RESULTS, "copy ", 0, 0),
     (RESULTS, "jump ", 0, 0),
-    // the arms of a match in an operand leave theirs in one slot, and go on behind it
+    // the arms of a match in an operand leave theirs in one slot, and go on behind it, where the last one ends
     (OPERAND, "return ", 1, 1),
     (OPERAND, "copy ", 2, 2),
-    (OPERAND, "jump ", 2, 2),
+    (OPERAND, "jump ", 1, 1),
     // four tests of a field, each once: as a tree they were six
     (FOUR, "switch ", 0, 4),
     // one switch finds the leaf, and each way has one for its byte: the bit is tested by none
@@ -95,6 +95,8 @@ const LINES: [Lines; 20] = [
     (UNUSED, "load ", 0, 0),
     (USED, "load ", 1, 1),
     (TESTED, "load ", 2, 2),
+    // the address of the block of which both are loaded is made once
+    (TESTED, "alu ", 1, 1),
     // where the file shows what stands in an argument there is none; where it does not, one finds its leaf, which tells its bit
     (SHOWN_INSIDE, "switch ", 1, 1),
 ];
