@@ -4,7 +4,7 @@ ghost use Rattle.std.specs.Prelude.{◌≡◌, IfOk};
 ghost use Rattle.rb_lines.specs.ArgumentLines as spec;
 ghost use Rattle.rb_lines.specs.ArgumentLines.{argument_begun, argument_line};
 
-use crate::line::{NO_MEMORY, begin, end, push, push_number};
+use crate::line::{NO_MEMORY, end, push, push_number};
 use crate::types::push_type;
 use rb_core::types::{DataDecl, Ty};
 use rb_values::fault::ValueFault;
@@ -16,10 +16,7 @@ pub const NODES: u64 = 1_000_000;
 fn begin_argument(alloc: Global, number: u64) -> Result<Vec<u8>, AllocError>
     ensures { IfOk result (λ text. text.items ≡ argument_begun number) }
 {
-    let mut text = begin(alloc, b"argument ")?;
-    push_number(&mut text, number)?;
-    push(&mut text, b": ")?;
-    Ok(text)
+    Ok(format!(in alloc; "ribbit: argument {number}: ")?.into_bytes())
 }
 
 fn syntax(alloc: Global, number: u64, at: u64) -> Result<Vec<u8>, AllocError>

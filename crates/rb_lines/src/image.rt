@@ -5,21 +5,9 @@ ghost use Rattle.rb_lines.specs.ImageLines as line;
 
 use crate::argument::NODES;
 use crate::line::{NO_MEMORY, large};
+use crate::numbers::{BAD_BITS, BAD_POINTER, BAD_ROOT, IMAGE_BLOCK, IMAGE_SYNTAX, NO_SUCH_PART};
 use rb_image_text::fault::ImageFault;
 use std::alloc::{AllocError, Global};
-
-// The numbers of images that are refused.
-const IMAGE_SYNTAX: u64 = 40;
-
-const IMAGE_BLOCK: u64 = 41;
-
-const BAD_ROOT: u64 = 42;
-
-const BAD_BITS: u64 = 43;
-
-const BAD_POINTER: u64 = 44;
-
-const NO_SUCH_PART: u64 = 46;
 
 // A fault of this number, at the place of this kind.
 fn fault_at(alloc: Global, number: u64, kind: &str, at: u64) -> Result<Vec<u8>, AllocError>

@@ -7,7 +7,7 @@ ghost use Rattle.rb_bytes.specs.Memory.{IsGood};
 ghost use Rattle.rb_lines.specs.ImageTexts as image;
 ghost use Rattle.rb_lines.specs.ImageTexts.{block_line, bytes_text, image_text, root_line, word_text};
 
-use crate::line::{self, push, push_number};
+use crate::line::{self, push};
 use rb_bytes::checked::CheckedMemory;
 use rb_bytes::memory::ByteMemory;
 use std::alloc::{AllocError, Global};
@@ -81,11 +81,7 @@ fn block(
     requires { address + size < 2 ^ 64 }
     ensures { IfOk result (λ text. text.items ≡ block_line memory.now (address, size)) }
 {
-    let mut text = Vec::from_slice(alloc, b"block ")?;
-    push_number(&mut text, address)?;
-    push(&mut text, b" ")?;
-    push_number(&mut text, size)?;
-    push(&mut text, b" ")?;
+    let mut text = format!(in alloc; "block {address} {size} ")?.into_bytes();
     push_bytes(&mut text, memory, address, size)?;
     line::end(text)
 }

@@ -20,6 +20,7 @@
 //! that no value reaches, and [`line`] those of no subject of their own. [`image_text`] writes images. A
 //! token's [`place`] is the byte at which it begins.
 //!
+//! The exit status of a [`status`] stands beside its name, and the numbers of faults in the lines in `numbers`.
 //! [`delivery`] writes the text or the line, and gives the exit status.
 #![tactic(auto)]
 
@@ -31,6 +32,7 @@ pub mod image;
 pub mod image_text;
 pub mod line;
 pub mod note;
+mod numbers;
 pub mod pattern;
 pub mod place;
 pub mod refusal;

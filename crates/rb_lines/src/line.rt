@@ -4,6 +4,7 @@ ghost use Rattle.std.specs.Prelude.{◌≡◌, ◌∷◌, ◌++◌, OnOk, IfOk};
 ghost use Rattle.std.specs.Fmt.{decimal};
 ghost use Rattle.rb_lines.specs.Lines as line;
 
+use crate::numbers::{ASTRAY, BAD_CALL, BAD_JUMP, BAD_SLOT, CODE_SYNTAX, UNMATCHED, UNWRITTEN};
 use rb_bytes::fault::{Full, Trap};
 use rb_core::decimal::digits;
 use rb_target::fault::CodeFault;
@@ -17,22 +18,6 @@ pub const WRITE_FAULT: &[u8] = b"ribbit: write fault\n";
 
 /// The line where memory ran out. It takes none to be written.
 pub const NO_MEMORY: &[u8] = b"ribbit: no memory\n";
-
-// The numbers of traps.
-const ASTRAY: u64 = 30;
-
-const UNWRITTEN: u64 = 31;
-
-const UNMATCHED: u64 = 32;
-
-// The numbers of codes that are refused.
-const CODE_SYNTAX: u64 = 20;
-
-const BAD_SLOT: u64 = 21;
-
-const BAD_JUMP: u64 = 22;
-
-const BAD_CALL: u64 = 23;
 
 /// The text with these bytes behind it.
 ///
