@@ -1,5 +1,5 @@
 -- What the program promises gives the headline of `compile`, and `exec` of what it writes does as the source.
-use Rattle.std.proofs.Common.{◌≡◌, ℕ, ◌+◌, List, [], ◌∷◌, length, length-append, Bool, sym, ap, subst, ◌∙◌, Ok}
+use Rattle.std.proofs.Common.{◌≡◌, ℕ, ◌+◌, List, [], ◌∷◌, length, length-append, Bool, Some, sym, ap, subst, ◌∙◌, Ok}
 use Rattle.std.proofs.lemmas.Bool.{eq-eqb}
 use Rattle.std.specs.Prelude.{slice_get, if◌then◌else◌}
 use Rattle.rb_accept.specs.Accepting.{IsAccepted, turned_down, accepted}
@@ -24,12 +24,13 @@ use Rattle.rb_machine.specs.Runs.{params_in}
 use Rattle.rb_target.specs.Meaning.{run_of}
 use Rattle.ribbit_tool.specs.Answers.{Answers}
 use Rattle.ribbit_tool.specs.Compiling.{Compiles, CompilesFile}
-use Rattle.ribbit_tool.specs.Exec.{named_due, outcome_due}
+use Rattle.ribbit_tool.specs.Exec.{fun_named, named_due, outcome_due}
 use Rattle.ribbit_tool.specs.Headlines.{SaysCode, CompileHeadline}
 use Rattle.ribbit_tool.specs.Laws.{CompiledTextsRun}
 use Rattle.ribbit_tool.specs.Promise.{Counting, Gives, IsRight}
 use Rattle.ribbit_tool.proofs.Executing.{executed_themselves}
 use Rattle.ribbit_tool.proofs.HeadlineLaws.{follows}
+use Rattle.ribbit_tool.proofs.Naming.{HaveNames, first_of_name}
 
 -- The command -------------------------------------------------------------------------------
 
@@ -74,11 +75,13 @@ as_many_words plan clean m (t ∷ ts) (v ∷ vs) ws r =
     ap length r.2 ∙ length-append r.0 r.1 ∙ ap (λ n. n + length r.1) first ∙ ap (λ n. words_of plan t + n) rest
 
 pub compiled_texts_run : CompiledTextsRun
-compiled_texts_run agreed code compiled g f is first limits low high clean args words reps due executes =
+compiled_texts_run agreed typed code compiled g f is limits low high clean args words reps due executes =
     let plan = plan_of agreed in
     let m = empty_memory limits.region in
     let run = run_of code limits.calls g words m in
     let head = compiled.refines.heads g f is in
+    let names : HaveNames agreed.covered.program.funs code = λ h x at. let own = compiled.refines.heads h x at in (own.0, own.1, own.2.name) in
+    let first : fun_named code f.name ≡ Some g = first_of_name agreed.covered.program.funs code names typed.numbered.function_names g f is in
     let wanted = params_in (slice_get code g) in
     let many : length words ≡ wanted = as_many_words plan clean m (types_of f) args words reps ∙ sym (ap params_in head.1 ∙ head.2.params) in
     let own : Due = outcome_due run limits.calls in

@@ -4,6 +4,7 @@ pub mod Executing
 pub mod GenerateLaws
 pub mod HeadlineLaws
 pub mod ImageLaws
+pub mod Naming
 pub mod NotUnread
 pub mod Owing
 pub mod Preparing

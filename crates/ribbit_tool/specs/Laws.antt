@@ -5,6 +5,7 @@ use Rattle.rb_command.specs.Command.{Limits}
 use Rattle.rb_compile.specs.Plans.{plan_of}
 use Rattle.rb_compile.specs.Refining.{DoesAs}
 use Rattle.rb_core.specs.Meaning.{call_of}
+use Rattle.rb_core.specs.TypedPrograms.{IsTyped}
 use Rattle.rb_core.specs.declared.program.Fun.{Fun}
 use Rattle.rb_core.specs.declared.value.Value.{Value}
 use Rattle.rb_fragment.specs.Plan.{Reps, types_of}
@@ -15,21 +16,21 @@ use Rattle.rb_target.specs.Meaning.{Outcome}
 use Rattle.rb_target.specs.Text.{code_text}
 use Rattle.rb_target.specs.Validity.{IsValid}
 use Rattle.ribbit_tool.specs.Compiling.{IsCompiled}
-use Rattle.ribbit_tool.specs.Exec.{Executes, exec_due, fun_named, outcome_due}
+use Rattle.ribbit_tool.specs.Exec.{Executes, exec_due, outcome_due}
 
 -- the text of valid code, of `compile` or of any other source, is executed as just that code
 abbrev pub AreExecuted : Type 0
 AreExecuted = (funs : List CodeFun) → IsValid funs → (name : List ℕ) (limits : Limits) (words : List ℕ) (due : Due)
     → Executes name limits words (code_text funs) due → due ≡ exec_due funs name limits words
 
--- What `exec` answers to the text of code that `compile` may write: it runs the function of the program that
--- has this name on the words, which represent its arguments where no block is, and the run does what the
--- source does. So it shows words that represent the value, or says that the calls are spent or the region is
--- full where the source first passes that limit. It is never trapped.
+-- What `exec` answers to the text of code that `compile` may write of a typed program: it runs the function
+-- of the program that has this name on the words, which represent its arguments where no block is, and the
+-- run does what the source does. So it shows words that represent the value, or says that the calls are spent
+-- or the region is full where the source first passes that limit. It is never trapped.
 abbrev pub CompiledTextsRun : Type 0
 CompiledTextsRun =
-    (agreed : LaidOut) (code : List CodeFun) → IsCompiled agreed code
-    → (g : ℕ) (f : Fun) → slice_get agreed.covered.program.funs g ≡ Some f → fun_named code f.name ≡ Some g
+    (agreed : LaidOut) → IsTyped agreed.covered.program → (code : List CodeFun) → IsCompiled agreed code
+    → (g : ℕ) (f : Fun) → slice_get agreed.covered.program.funs g ≡ Some f
     → (limits : Limits) → 64 ≤ limits.region → limits.region ≤ 16777216
     → (clean : Bool) (args : List Value) (words : List ℕ)
     → Reps (plan_of agreed) (empty_memory limits.region) clean (types_of f) args words
