@@ -1,5 +1,6 @@
 -- Which token is at fault.
 use Rattle.std.specs.Prelude.{◌≡◌, ℕ, suc, ◌<◌, ◌≤◌, List, [], ◌∷◌, ◌++◌, length, take, Result, Ok, Err}
+use Rattle.rb_core.specs.Limits.{most_levels}
 use Rattle.rb_syntax.specs.declared.token.Token.{Token}
 use Rattle.rb_syntax.specs.declared.tree.ItemTree.{ItemTree}
 use Rattle.rb_syntax.specs.declared.tree.FileTree.{FileTree}
@@ -22,14 +23,14 @@ pub record StopsAt (ts : List Token) (p : ℕ) : Type 0 where
   pub here : p < length ts → IsPrefix (take (suc p) ts) → ⊥
   pub at_end : p ≡ length ts → IsSpelled ts → ⊥
 
--- The token begins a node at level 129 of a file that begins with the tokens up to it.
+-- The token begins a node one level deeper than is allowed, of a file that begins with the tokens up to it.
 pub record IsTooDeepAt (ts : List Token) (p : ℕ) : Type 0 where
   pub within : p < length ts
   pub more : List Token
   pub file : FileTree
   pub spells : spell file ≡ take (suc p) ts ++ more
   pub formed : HaveNoFlaw (file_written file)
-  pub deep : HasNode (length (take (suc p) ts ++ more)) 129 p (file_written file)
+  pub deep : HasNode (length (take (suc p) ts ++ more)) (suc most_levels) p (file_written file)
 
 abbrev pub IsNowhereTooDeep : List Token → Type 0
 IsNowhereTooDeep ts = (p : ℕ) → IsTooDeepAt ts p → ⊥

@@ -1,5 +1,6 @@
 -- What tokens are as a file: its tree, or the first reason why it is none that is read.
 use Rattle.std.specs.Prelude.{◌≡◌, List, Some, None, Result, Ok, Err}
+use Rattle.rb_core.specs.Limits.{most_levels}
 use Rattle.rb_syntax.specs.declared.token.Token.{Token}
 use Rattle.rb_syntax.specs.declared.tree.FileTree.{FileTree}
 use Rattle.rb_syntax.specs.Written.{AreWithin}
@@ -9,10 +10,10 @@ use Rattle.rb_read.specs.declared.fault.ReadFault.TheVariants.{TooDeep, Syntax, 
 use Rattle.rb_read.specs.Exact.{StopsAt, IsFirstTooDeep, IsNowhereTooDeep}
 use Rattle.rb_read.specs.Limits.{counted, first_over}
 
--- the tree that they spell, of at most 128 levels
+-- the tree that they spell, of no more levels than are allowed
 pub record IsFile (ts : List Token) (file : FileTree) : Type 0 where
   pub tree : IsTreeOf ts file
-  pub within : AreWithin 128 (file_written file)
+  pub within : AreWithin most_levels (file_written file)
 
 -- the refusals in their order: depth, syntax, limits
 abbrev pub IsAnswer : List Token → Result FileTree ReadFault → Type 0

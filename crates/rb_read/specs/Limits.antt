@@ -1,6 +1,7 @@
 -- The counts of a file that have a limit.
 use Rattle.std.specs.Prelude.{ℕ, List, [], ◌∷◌, map, length, Bool, nat_lt, Option, Some, None, find}
 use Rattle.std.specs.List.{flat_map}
+use Rattle.rb_core.specs.Limits as limits
 use Rattle.rb_syntax.specs.declared.tree.ConTree.{ConTree}
 use Rattle.rb_syntax.specs.declared.tree.TypeTree.{TypeTree}
 use Rattle.rb_syntax.specs.declared.tree.FunTree.{FunTree}
@@ -13,13 +14,13 @@ use Rattle.rb_read.specs.declared.fault.Quantity.TheVariants.{FileBytes, Types, 
 
 -- the most of each; of bytes, types and functions in a file, of the others in one item
 abbrev pub greatest : Quantity → ℕ
-greatest FileBytes = 262144
-greatest Types = 1000
-greatest Functions = 10000
-greatest Constructors = 256
-greatest Fields = 32
-greatest Parameters = 32
-greatest ShapeWords = 8
+greatest FileBytes = limits.most_file_bytes
+greatest Types = limits.most_types
+greatest Functions = limits.most_functions
+greatest Constructors = limits.most_constructors
+greatest Fields = limits.most_fields
+greatest Parameters = limits.most_parameters
+greatest ShapeWords = limits.most_words
 
 abbrev pub counted : Quantity → ℕ → Count
 counted q n = record { quantity = q; count = n }

@@ -1,6 +1,7 @@
 //! Reads the items of a file.
 
 ghost use Rattle.std.specs.Prelude.{◌≡◌, ◌<◌, ◌^◌};
+ghost use Rattle.rb_core.specs.Limits.{most_levels};
 ghost use Rattle.rb_syntax.specs.declared.token.Symbol.TheVariants as symbol;
 ghost use Rattle.rb_syntax.specs.declared.token.Token.TheVariants as token;
 ghost use Rattle.rb_syntax.specs.Tokens.{tokens};
@@ -17,13 +18,11 @@ use crate::list::{Read, read_any_closed, read_some_closed};
 use crate::stop::Stop;
 use crate::tokens::{expect, number_of, read_lower, read_number, read_upper};
 use crate::types::read_type;
+use rb_core::limits::MOST_LEVELS;
 use rb_core::seq::Seq;
 use rb_syntax::token::{Placed, Symbol, Token, Word};
 use rb_syntax::tree::{Auto, FunTree, ItemTree, LayoutTree, SplitTree, TypeTree};
 use std::alloc::Global;
-
-/// The greatest level of a function's body or a layout's tree, which is at level 1.
-pub const LEVELS: u32 = 128;
 
 /// A layout behind its type's name: its shape and tree, or the word of a derived one.
 #[derive(Drop)]
@@ -142,7 +141,7 @@ fn read_type_item(
     placed: &[Placed],
 ) -> Result<(ItemTree, &[Placed]), Stop>
     requires { total < 2 ^ 32 }
-    ensures { Gives (λ x. (x.0, tokens x.1.now)) result (reading.type_item 128 total (tokens placed.now)) }
+    ensures { Gives (λ x. (x.0, tokens x.1.now)) result (reading.type_item most_levels total (tokens placed.now)) }
 {
     let (name, rest) = read_upper(alloc, total, placed)?;
     let rest = expect(Symbol::Equals, rest)?;
@@ -180,7 +179,7 @@ fn read_fun(
 
 /// A type, a layout or a function.
 impl Read for ItemTree {
-    ghost reader = { reading.file_item 128 };
+    ghost reader = { reading.file_item most_levels };
 
     #[tactic(auto, unfolding(crate::specs::Reading::file_item, crate::specs::Reading::file_item_from))]
     fn read(alloc: Global, total: usize, placed: &[Placed]) -> Result<(ItemTree, &[Placed]), Stop> {
@@ -190,9 +189,9 @@ impl Read for ItemTree {
                 Token::Reserved(Word::Type) => read_type_item(alloc, total, rest),
                 Token::Reserved(Word::Layout) => {
                     let at = number_of(total, placed);
-                    read_layout(alloc, LEVELS, total, at, rest)
+                    read_layout(alloc, MOST_LEVELS, total, at, rest)
                 }
-                Token::Reserved(Word::Fun) => read_fun(alloc, LEVELS, total, rest),
+                Token::Reserved(Word::Fun) => read_fun(alloc, MOST_LEVELS, total, rest),
                 _ => Err(Stop::Stuck(placed.len())),
             },
         }

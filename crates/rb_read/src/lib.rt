@@ -31,7 +31,7 @@ pub mod fault;
 mod item;
 mod layout;
 mod leaf;
-mod limits;
+pub mod limits;
 mod list;
 mod location;
 mod pattern;

@@ -6,6 +6,10 @@ ghost use Rattle.rb_read.specs.declared.fault.Quantity.TheVariants as quantity;
 ghost use Rattle.rb_read.specs.Limits as limits;
 
 use crate::fault::Quantity;
+use rb_core::limits::{
+    MOST_CONSTRUCTORS, MOST_FIELDS, MOST_FILE_BYTES, MOST_FUNCTIONS, MOST_PARAMETERS, MOST_TYPES,
+    MOST_WORDS,
+};
 use rb_syntax::tree::{ConTree, FileTree, ItemTree, TypeTree};
 
 /// How many there are of something that has a limit.
@@ -15,18 +19,18 @@ pub struct Count {
     pub count: u64,
 }
 
-// The greatest number that is allowed.
-fn greatest(quantity: Quantity) -> u64
+/// The greatest number that is allowed.
+pub fn greatest(quantity: Quantity) -> u64
     ensures { result ≡ limits.greatest quantity }
 {
     match quantity {
-        Quantity::FileBytes => 262_144,
-        Quantity::Types => 1_000,
-        Quantity::Functions => 10_000,
-        Quantity::Constructors => 256,
-        Quantity::Fields => 32,
-        Quantity::Parameters => 32,
-        Quantity::ShapeWords => 8,
+        Quantity::FileBytes => MOST_FILE_BYTES as u64,
+        Quantity::Types => MOST_TYPES as u64,
+        Quantity::Functions => MOST_FUNCTIONS as u64,
+        Quantity::Constructors => MOST_CONSTRUCTORS as u64,
+        Quantity::Fields => MOST_FIELDS as u64,
+        Quantity::Parameters => MOST_PARAMETERS as u64,
+        Quantity::ShapeWords => MOST_WORDS as u64,
     }
 }
 

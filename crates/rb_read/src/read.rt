@@ -1,6 +1,7 @@
 //! Reads a file.
 
 ghost use Rattle.std.specs.Prelude.{◌≡◌, ◌⊎◌, ◌-◌, ◌<◌, ◌^◌, List, length, Result, Err};
+ghost use Rattle.rb_core.specs.Limits.{most_levels};
 ghost use Rattle.rb_syntax.specs.declared.token.Token.{Token};
 ghost use Rattle.rb_syntax.specs.declared.tree.FileTree.{FileTree};
 ghost use Rattle.rb_syntax.specs.Tokens.{tokens};
@@ -32,11 +33,11 @@ fn ended(items: Seq<ItemTree>, placed: &[Placed]) -> Result<FileTree, Stop>
     }
 }
 
-// The file that the tokens spell, in at most 128 levels.
+// The file that the tokens spell, in at most so many levels as are allowed.
 #[tactic(auto, unfolding(crate::specs::Exact::whole_file, crate::specs::Reading::file_items))]
 fn read_tree(alloc: Global, placed: &[Placed]) -> Result<FileTree, Stop>
     requires { length placed.now < 2 ^ 32 }
-    ensures { Yields result (exact.whole_file (reading.file_items (length placed.now) 128 (tokens placed.now))) }
+    ensures { Yields result (exact.whole_file (reading.file_items (length placed.now) most_levels (tokens placed.now))) }
 {
     let (items, rest) = read_each(alloc, placed.len(), placed)?;
     let file = ended(items, rest)?;
