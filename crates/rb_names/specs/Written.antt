@@ -1,6 +1,7 @@
 -- What reading leaves of a file: the spelling of its names, and counts within their limits.
 use Rattle.std.specs.Prelude.{◌≡◌, ◌<◌, ◌^◌, List, [], ◌∷◌, length, Bool, true, ◌&&◌, nat_le}
 use Rattle.std.specs.List.{list_all}
+use Rattle.rb_core.specs.Limits.{most_types, most_functions, most_constructors, most_fields, most_parameters, most_words}
 use Rattle.rb_core.specs.WellNumbered.{is_upper, is_lower}
 use Rattle.rb_syntax.specs.declared.token.Token.{Token}
 use Rattle.rb_syntax.specs.declared.token.Token.TheVariants as tok
@@ -23,21 +24,21 @@ AreNamed (tok.Uint bits ∷ ts) = AreNamed ts
 AreNamed (tok.Symbol s ∷ ts) = AreNamed ts
 
 abbrev pub con_is_counted : ConTree → Bool
-con_is_counted c = nat_le (length c.fields) 32
+con_is_counted c = nat_le (length c.fields) most_fields
 
 abbrev pub type_is_counted : TypeTree → Bool
-type_is_counted d = nat_le (length d.cons) 256 && list_all con_is_counted d.cons
+type_is_counted d = nat_le (length d.cons) most_constructors && list_all con_is_counted d.cons
 
 abbrev pub item_is_counted : ItemTree → Bool
 item_is_counted (top.Types d) = type_is_counted d
-item_is_counted (top.Layouts l) = nat_le (length l.shape) 8
-item_is_counted (top.Funs f) = nat_le (length f.params) 32
+item_is_counted (top.Layouts l) = nat_le (length l.shape) most_words
+item_is_counted (top.Funs f) = nat_le (length f.params) most_parameters
 item_is_counted (top.Derived name a) = true
 
 -- a file has no more of anything than the limits of the language allow
 pub record AreCounted (items : List ItemTree) : Type 0 where
-  pub types : nat_le (length (types_in items)) 1000 ≡ true
-  pub functions : nat_le (length (functions_in items)) 10000 ≡ true
+  pub types : nat_le (length (types_in items)) most_types ≡ true
+  pub functions : nat_le (length (functions_in items)) most_functions ≡ true
   pub each : list_all item_is_counted items ≡ true
 
 -- what is known of a file that was read: its tokens, of which there are fewer than 2^32, spell it, their names are of their
