@@ -1,6 +1,7 @@
 -- Which token is at fault.
 use Rattle.std.specs.Prelude.{◌≡◌, ℕ, suc, ◌<◌, ◌≤◌, List, [], ◌∷◌, ◌++◌, length, take, Result, Ok, Err}
 use Rattle.rb_core.specs.Limits.{most_levels}
+use Rattle.rb_core.specs.Stopping.{BeginsSome, StopsAtIn}
 use Rattle.rb_syntax.specs.declared.token.Token.{Token}
 use Rattle.rb_syntax.specs.declared.tree.ItemTree.{ItemTree}
 use Rattle.rb_syntax.specs.declared.tree.FileTree.{FileTree}
@@ -14,14 +15,11 @@ IsSpelled ts = (file : FileTree) × (spell file ≡ ts) × HaveNoFlaw (file_writ
 
 -- the first tokens of a file
 abbrev pub IsPrefix : List Token → Type 0
-IsPrefix ts = (more : List Token) × IsSpelled (ts ++ more)
+IsPrefix ts = BeginsSome IsSpelled ts
 
 -- the first token at which no file goes on, or the count of tokens where they are no whole file
-pub record StopsAt (ts : List Token) (p : ℕ) : Type 0 where
-  pub within : p ≤ length ts
-  pub before : IsPrefix (take p ts)
-  pub here : p < length ts → IsPrefix (take (suc p) ts) → ⊥
-  pub at_end : p ≡ length ts → IsSpelled ts → ⊥
+abbrev pub StopsAt : List Token → ℕ → Type 0
+StopsAt ts p = StopsAtIn IsSpelled ts p
 
 -- The token begins a node one level deeper than is allowed, of a file that begins with the tokens up to it.
 pub record IsTooDeepAt (ts : List Token) (p : ℕ) : Type 0 where
