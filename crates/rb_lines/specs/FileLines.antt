@@ -1,19 +1,15 @@
 -- The lines of files that are refused, and the notes on clauses that no value reaches.
-use Rattle.std.specs.Prelude.{ℕ, List, [], ◌∷◌, ◌++◌, codes, ◌==◌, if◌then◌else◌, Option, Some, None, slice_get}
+use Rattle.std.specs.Prelude.{ℕ, List, ◌++◌, codes, slice_get}
 use Rattle.std.specs.Fmt.{decimal}
-use Rattle.std.specs.List.{flat_map}
 use Rattle.rb_core.specs.declared.types.Ty.{Ty}
 use Rattle.rb_core.specs.declared.types.Ty.TheVariants.{Int, Named}
-use Rattle.rb_core.specs.declared.types.Con.{Con}
-use Rattle.rb_core.specs.declared.types.ConRef.{ConRef}
 use Rattle.rb_core.specs.declared.types.DataDecl.{DataDecl}
 use Rattle.rb_core.specs.declared.pattern.Pat.{Pat}
-use Rattle.rb_core.specs.declared.pattern.Pat.TheOpen as P
-use Rattle.rb_core.specs.declared.pattern.Pat.TheOpen.{Pat-F}
-use Rattle.rb_core.specs.declared.pattern.Pat.TheFolds.{fold-Pat}
 use Rattle.rb_read.specs.declared.fault.Quantity.{Quantity}
 use Rattle.rb_read.specs.declared.fault.Quantity.TheVariants.{FileBytes, Types, Functions, Constructors, Fields, Parameters, ShapeWords}
 use Rattle.rb_read.specs.Limits.{greatest}
+use Rattle.rb_show.specs.Lines.{type_name}
+use Rattle.rb_show.specs.Patterns.{pattern_text}
 use Rattle.rb_lines.specs.Lines.{begun, ended}
 
 -- a fault and the byte where it stands
@@ -47,11 +43,6 @@ no_main_line = ended (begun (codes "no function main"))
 
 -- Types -------------------------------------------------------------------------------------
 
-abbrev pub type_name : Option DataDecl → List ℕ
-type_name None = []
-type_name (Some d) = d.name
-
--- an integer type as it is written, or a type's name
 abbrev pub type_text : List DataDecl → Ty → List ℕ
 type_text types (Int bits) = codes "u" ++ decimal bits
 type_text types (Named t) = type_name (slice_get types t)
@@ -78,44 +69,6 @@ abbrev pub wide_line : List DataDecl → ℕ → ℕ → List ℕ
 wide_line types t bits = ended (begun (codes "layout of ") ++ type_name (slice_get types t) ++ codes ": packed: " ++ decimal bits ++ codes " bits")
 
 -- Patterns ----------------------------------------------------------------------------------
-
-abbrev pub con_name : Option Con → List ℕ
-con_name None = []
-con_name (Some c) = c.name
-
-abbrev pub con_name_in : Option DataDecl → ℕ → List ℕ
-con_name_in None k = []
-con_name_in (Some d) k = con_name (slice_get d.cons k)
-
-abbrev pub con_text : List DataDecl → ConRef → List ℕ
-con_text types c = con_name_in (slice_get types c.ty) c.con
-
--- before the first field stands `(`, and before each other a comma
-abbrev pub opening : ℕ → List ℕ
-opening number = if number == 0 then codes "(" else codes ", "
-
-abbrev pub opened : List (List ℕ) → List ℕ
-opened [] = []
-opened (t ∷ ts) = codes "(" ++ t ++ flat_map (λ u. codes ", " ++ u) ts
-
-abbrev pub closed : List (List ℕ) → List ℕ
-closed [] = []
-closed (t ∷ ts) = codes ")"
-
--- fields in parentheses, which are left out where there is none
-abbrev pub fields_text : List (List ℕ) → List ℕ
-fields_text ts = opened ts ++ closed ts
-
--- what matches every value is shown as `_`
-abbrev pub pattern_step : List DataDecl → Pat-F (List ℕ) → List ℕ
-pattern_step types (P.Wild at) = codes "_"
-pattern_step types (P.Var at x) = codes "_"
-pattern_step types (P.Num at n) = decimal n
-pattern_step types (P.Con at c ts) = con_text types c ++ fields_text ts
-
--- a number, a constructor's name, or its name with its fields
-abbrev pub pattern_text : List DataDecl → Pat → List ℕ
-pattern_text types = fold-Pat (List ℕ) (pattern_step types)
 
 abbrev pub missing_line : List DataDecl → Pat → ℕ → List ℕ
 missing_line types p at = ended (begun (codes "match at byte ") ++ decimal at ++ codes " misses " ++ pattern_text types p)

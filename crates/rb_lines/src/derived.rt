@@ -4,8 +4,8 @@ ghost use Rattle.std.specs.Prelude.{◌≡◌, IfOk};
 ghost use Rattle.rb_lines.specs.FileLines as line;
 
 use crate::line::{begin, end, push, push_number};
-use crate::types::push_name;
 use rb_core::types::DataDecl;
+use rb_show::show::push_name;
 use std::alloc::{AllocError, Global};
 
 /// The line of a packed type that reaches itself through its fields.

@@ -1,11 +1,11 @@
 //! The lines of faults of texts, limits and names.
 
 ghost use Rattle.std.specs.Prelude.{◌≡◌, IfOk};
-ghost use Rattle.rb_read.specs.Limits.{greatest};
 ghost use Rattle.rb_lines.specs.FileLines as line;
 
 use crate::line::{begin, end, push, push_number};
 use rb_read::fault::Quantity;
+use rb_read::limits::greatest;
 use std::alloc::{AllocError, Global};
 
 /// The line of a fault at a byte.
@@ -30,20 +30,6 @@ fn quantity(quantity: Quantity) -> &'static str
         Quantity::Fields => "fields",
         Quantity::Parameters => "parameters",
         Quantity::ShapeWords => "shape words",
-    }
-}
-
-fn greatest(quantity: Quantity) -> u64
-    ensures { result ≡ greatest quantity }
-{
-    match quantity {
-        Quantity::FileBytes => 262_144,
-        Quantity::Types => 1_000,
-        Quantity::Functions => 10_000,
-        Quantity::Constructors => 256,
-        Quantity::Fields => 32,
-        Quantity::Parameters => 32,
-        Quantity::ShapeWords => 8,
     }
 }
 

@@ -1,22 +1,14 @@
 //! The lines of faults of types.
 
-ghost use Rattle.std.specs.Prelude.{◌≡◌, ◌++◌, IfOk, OnOk, slice_get};
+ghost use Rattle.std.specs.Prelude.{◌≡◌, ◌++◌, IfOk, OnOk};
 ghost use Rattle.rb_lines.specs.FileLines as line;
 
 use crate::line::{begin, end, push, push_number};
 use rb_core::types::{DataDecl, Ty};
+use rb_show::show::push_name;
 use std::alloc::{AllocError, Global};
 
-// A type's name.
-pub(crate) fn push_name(text: &mut Vec<u8>, types: &[DataDecl], ty: u32) -> Result<(), AllocError>
-    ensures { OnOk result (text.new.items ≡ text.old.items ++ line.type_name (slice_get types.now ty)) }
-{
-    match types.get(ty as usize) {
-        Some(decl) => push(text, decl.name.as_slice()),
-        None => Ok(()),
-    }
-}
-
+// A type.
 pub(crate) fn push_type(text: &mut Vec<u8>, types: &[DataDecl], ty: Ty) -> Result<(), AllocError>
     ensures { OnOk result (text.new.items ≡ text.old.items ++ line.type_text types.now ty) }
 {

@@ -15,7 +15,12 @@ use rb_layout::agreed::Agreed;
 use rb_layout::layout::{Layout, Leaf};
 use std::alloc::{AllocError, Global};
 
-pub(crate) fn push_name(text: &mut Vec<u8>, types: &[DataDecl], ty: u32) -> Result<(), AllocError>
+/// Adds a type's name to a text.
+///
+/// # Errors
+///
+/// Want of memory.
+pub fn push_name(text: &mut Vec<u8>, types: &[DataDecl], ty: u32) -> Result<(), AllocError>
     ensures { OnOk result (text.new.items ≡ text.old.items ++ type_name (slice_get types.now ty)) }
 {
     match types.get(ty as usize) {
