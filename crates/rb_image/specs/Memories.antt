@@ -1,6 +1,6 @@
 -- The memory in which exactly the blocks of an image stand, and memories in which they stand among others.
 use Rattle.std.specs.Prelude.{◌≡◌, ℕ, ◌+◌, ◌-◌, List, [], ◌∷◌, ◌++◌, length, map, replicate, Option, Some, None, slice_get}
-use Rattle.rb_bytes.specs.Memory.{Memory, byte_at, size_at}
+use Rattle.rb_bytes.specs.Memory.{Memory, byte_at, most_region, size_at}
 use Rattle.rb_image_text.specs.declared.image.ImageBlock.{ImageBlock}
 
 -- the address behind the last block, or this one where there is none
@@ -22,9 +22,9 @@ abbrev pub memory_within : ℕ → List ImageBlock → Memory
 memory_within limit blocks =
     record { limit = limit; next = end_from 64 blocks; blocks = map span_of blocks; bytes = bytes_from 0 blocks limit }
 
--- the memory of an image has 16,777,216 bytes
+-- the memory of an image is the greatest region
 unfoldable pub image_memory : List ImageBlock → Memory
-image_memory blocks = memory_within 16777216 blocks
+image_memory blocks = memory_within most_region blocks
 
 -- the block is one of the memory's, of its very size, and each of its bytes is written there
 pub record Stands (m : Memory) (b : ImageBlock) : Type 0 where

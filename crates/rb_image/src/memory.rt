@@ -2,7 +2,7 @@
 
 ghost use Rattle.std.specs.Prelude.{◌≡◌, ◌+◌, ◌≤◌, length, IfOk, Some};
 ghost use Rattle.rb_bytes.specs.Laws.{Extends};
-ghost use Rattle.rb_bytes.specs.Memory.{IsGood, IsSize, size_at};
+ghost use Rattle.rb_bytes.specs.Memory.{IsGood, IsSize, most_region, size_at};
 ghost use Rattle.rb_image_text.specs.Images.{AreBlocks};
 ghost use Rattle.rb_image_text.specs.Places.{AreInPlace};
 ghost use Rattle.rb_image.specs.Memories.{Stand, Stands};
@@ -19,7 +19,7 @@ const MOST_FILLER: u64 = 512;
 // The address behind the last block, or the least address of a block where there is none.
 fn end_of(blocks: &[ImageBlock]) -> u64
     requires placed { AreInPlace blocks.now }
-    ensures within { (64 ≤ result) × (result ≤ 16777216) }
+    ensures within { (64 ≤ result) × (result ≤ most_region) }
     ensures each { EndBy result blocks.now }
 {
     match blocks.last() {
@@ -33,7 +33,7 @@ fn end_of(blocks: &[ImageBlock]) -> u64
 
 // A region of so many bytes with nothing in it.
 fn empty_region(alloc: Global, limit: u64) -> Result<CheckedMemory, AllocError>
-    requires { (64 ≤ limit) × (limit ≤ 16777216) }
+    requires { (64 ≤ limit) × (limit ≤ most_region) }
     ensures good { IfOk result (λ m. IsGood m) }
     ensures limit { IfOk result (λ m. m.limit ≡ limit) }
     ensures next { IfOk result (λ m. m.next ≡ 64) }

@@ -2,6 +2,7 @@
 
 ghost use Rattle.std.specs.Prelude.{◌≡◌, ℕ, ◌<◌, ◌≤◌, ◌+◌, false, length, slice_get, IfOk};
 ghost use Rattle.rb_bytes.specs.Memory.{Memory};
+ghost use Rattle.rb_core.specs.Limits.{most_calls};
 ghost use Rattle.rb_target.specs.Meaning.{run_of};
 ghost use Rattle.rb_target.specs.Validity.{IsValid};
 ghost use Rattle.rb_machine.specs.Runs.{IsNotTrapped, RanAs, params_in};
@@ -34,7 +35,7 @@ pub fn run<M: ByteMemory, L: Ledger>(
 ) -> Result<Ran, AllocError>
     requires known { fun < length code.now }
     requires words { length words.now ≡ params_in (slice_get code.now fun) }
-    requires calls { calls ≤ 1000000000 }
+    requires calls { calls ≤ most_calls }
     // a memory that does not check is run only over code that does not trap
     requires checks { M.CHECKS ≡ false → IsNotTrapped
         (run_of code.now calls fun words.now (M.memory memory.old)).ended }
@@ -80,7 +81,7 @@ fn first_state(
     requires valid { IsValid funs.now }
     requires known { fun < length funs.now }
     requires words { length words.now ≡ params_in (slice_get funs.now fun) }
-    requires left { left < 1000000000 }
+    requires left { left < most_calls }
     ensures sound { IfOk result (λ s. IsSound funs.now left s) }
     ensures whole { IfOk result (λ s. (m : Memory)
         → run_of funs.now (left + 1) fun words.now m ≡ rest_of funs.now left s m 0) }

@@ -1,9 +1,10 @@
 //! What a run answers.
 
 ghost use Rattle.std.specs.Prelude.{◌≡◌, ℕ, ◌+◌, ◌≤◌, List, map, true, IfOk};
-ghost use Rattle.rb_bytes.specs.Memory.{IsGood, Memory, empty_memory};
+ghost use Rattle.rb_bytes.specs.Memory.{IsGood, Memory, empty_memory, most_region};
 ghost use Rattle.rb_coding.specs.Decoding.{AreOf};
 ghost use Rattle.rb_core.specs.declared.value.Value.{Value};
+ghost use Rattle.rb_core.specs.Limits.{most_calls};
 ghost use Rattle.rb_core.specs.Meaning.{call_of};
 ghost use Rattle.rb_core.specs.Typing.{param_types, result_type};
 ghost use Rattle.rb_core.specs.Values.{all_of_types, is_of_type};
@@ -65,8 +66,8 @@ pub fn answer_main<L: Ledger>(
     requires refines { Refines (plan_of agreed.now) code.now }
     requires typed { all_of_types (map (is_of_type agreed.now.covered.program.types) args.now)
         (param_types agreed.now.covered.program.funs agreed.now.covered.program.main) ≡ true }
-    requires calls { bounds.calls ≤ 1000000000 }
-    requires region { (64 ≤ bounds.region) × (bounds.region ≤ 16777216) }
+    requires calls { bounds.calls ≤ most_calls }
+    requires region { (64 ≤ bounds.region) × (bounds.region ≤ most_region) }
     ensures answer { IfOk result (λ a. meant_by a
         ≡ answer_of agreed.now.covered.program agreed.now.layouts args.now bounds.calls bounds.region bounds.nodes) }
     ensures counted { IfOk result (λ a. (taken switches : ℕ) × (steps.new.taken ≡ steps.old.taken + taken)

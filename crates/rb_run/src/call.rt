@@ -3,6 +3,7 @@
 ghost use Rattle.std.specs.Prelude.{◌≡◌, ℕ, ◌+◌, ◌≤◌, map, true, IfOk};
 ghost use Rattle.rb_bytes.specs.Memory.{IsGood};
 ghost use Rattle.rb_bytes.specs.declared.fault.Full.{Full as Unplaced};
+ghost use Rattle.rb_core.specs.Limits.{most_calls};
 ghost use Rattle.rb_core.specs.Typing.{param_types};
 ghost use Rattle.rb_core.specs.TypedPrograms.{IsTyped};
 ghost use Rattle.rb_layout.specs.Flattening.{flat_layouts};
@@ -44,7 +45,7 @@ pub fn call_main<M: ByteMemory, L: Ledger>(
     requires good { IsGood (M.memory memory.old) }
     requires typed { all_of_types (map (is_of_type agreed.now.covered.program.types) args.now)
         (param_types agreed.now.covered.program.funs agreed.now.covered.program.main) ≡ true }
-    requires calls { calls ≤ 1000000000 }
+    requires calls { calls ≤ most_calls }
     ensures called { IfOk result (λ ran. IsCalled agreed.now args.now calls (M.memory memory.old) ran.end
         (M.memory memory.new)) }
     ensures counted { IfOk result (λ ran. (taken : ℕ) × (steps.new.taken ≡ steps.old.taken + taken)
