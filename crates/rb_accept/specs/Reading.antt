@@ -1,5 +1,6 @@
 -- Reading a file with its limit: a step of an answer, with what follows it.
 use Rattle.std.specs.Prelude.{◌≡◌, ◌≤◌, ◌+◌, ℕ, List, [], ◌∷◌, ◌++◌, ◌⊎◌, length, drop, Bool, IsTrue, Option, Some, None}
+use Rattle.rb_core.specs.Limits.{most_file_bytes}
 use Rattle.rb_edge.specs.Faults.{Rose}
 use Rattle.rb_edge.specs.History.{Reading, going, ended, failed}
 use Rattle.rb_edge.specs.Whole.{Begins}
@@ -13,7 +14,7 @@ Holds = List ℕ → Option (List ℕ)
 
 -- the most bytes that a file may have
 abbrev pub file_limit : ℕ
-file_limit = 262144
+file_limit = most_file_bytes
 
 -- the most bytes that a code text may have
 abbrev pub code_limit : ℕ

@@ -11,6 +11,7 @@ ghost use Rattle.rb_lines.specs.View.{IsRefusal};
 ghost use Rattle.rb_names.specs.Programs.{numbered};
 ghost use Rattle.rb_syntax.specs.Cutting.{HasTokens};
 ghost use Rattle.rb_accept.specs.Accepting.{IsNamed, IsNamedWith, IsProgramOf, IsRead, IsRefused, completed_as};
+ghost use Rattle.rb_accept.specs.Reading.{file_limit};
 ghost use Rattle.rb_accept.specs.View.{IsAcceptance};
 
 use crate::refusal::{
@@ -58,7 +59,7 @@ fn cut(alloc: Global, bytes: &[u8]) -> Result<Vec<Placed>, Refusal>
 
 // The tree of the tokens.
 fn read(alloc: Global, bytes: &[u8], placed: &[Placed]) -> Result<FileTree, Refusal>
-    requires few { length bytes.now ≤ 262144 }
+    requires few { length bytes.now ≤ file_limit }
     requires tokens { HasTokens bytes.now placed.now }
     ensures read { IfOk result (IsRead bytes.now placed.now) }
     ensures refused { IfErr result (IsRefusal (IsRefused bytes.now)) }
@@ -74,7 +75,7 @@ fn read(alloc: Global, bytes: &[u8], placed: &[Placed]) -> Result<FileTree, Refu
 
 // The program of the tree, with the layouts that are written.
 fn name(alloc: Global, bytes: &[u8], placed: &[Placed], file: &FileTree) -> Result<Program, Refusal>
-    requires few { length bytes.now ≤ 262144 }
+    requires few { length bytes.now ≤ file_limit }
     requires read { IsRead bytes.now placed.now file.now }
     ensures named { IfOk result (λ p. numbered file.now ≡ Ok p) }
     ensures well { IfOk result IsWellNumbered }
@@ -209,7 +210,7 @@ fn lay_out(
 ///
 /// The answer to its first fault, or want of memory.
 pub fn accept(alloc: Global, bytes: &[u8]) -> Result<Accepted, Refusal>
-    requires { length bytes.now ≤ 262144 }
+    requires { length bytes.now ≤ file_limit }
     ensures accepted { IfOk result (IsAcceptance bytes.now) }
     ensures refused { IfErr result (IsRefusal (IsRefused bytes.now)) }
 {

@@ -10,6 +10,7 @@ ghost use Rattle.rb_lines.specs.declared.status.Status.TheVariants.{Limit, Unrea
 ghost use Rattle.rb_accept.specs.Reading.{IsUnread, ReadsInTurn, source_of, whole};
 ghost use Rattle.rb_accept.specs.View.{added};
 
+use rb_core::limits::MOST_FILE_BYTES;
 use rb_edge::seq::Seq;
 use rb_edge::source::Source;
 use rb_edge::whole::{ReadFault, read_whole};
@@ -19,7 +20,7 @@ use rb_lines::status::Status;
 use std::alloc::{AllocError, Global};
 
 /// The most bytes that a file may have.
-pub const FILE_LIMIT: usize = 262_144;
+pub const FILE_LIMIT: usize = MOST_FILE_BYTES;
 
 /// The most bytes that a code text may have.
 pub const CODE_LIMIT: usize = 16_777_216;

@@ -29,7 +29,7 @@ fn check_accepted(alloc: Global, bytes: &[u8], accepted: &Accepted) -> Result<Ve
 
 // The text for a file within the limit.
 fn check_bytes(alloc: Global, bytes: &[u8]) -> Result<Vec<u8>, Refusal>
-    requires { length bytes.now ≤ 262144 }
+    requires { length bytes.now ≤ file_limit }
     ensures text { IfOk result (λ text. ChecksFile bytes.now (printed text.items 0)) }
     ensures refused { IfErr result (IsRefusal (ChecksFile bytes.now)) }
 {

@@ -33,7 +33,7 @@ pub fn code_of(alloc: Global, agreed: &Agreed) -> Result<Code, AllocError>
 
 // The code text for a file within the limit.
 fn compile_bytes(alloc: Global, bytes: &[u8]) -> Result<Vec<u8>, Refusal>
-    requires { length bytes.now ≤ 262144 }
+    requires { length bytes.now ≤ file_limit }
     ensures text { IfOk result (λ text. CompilesFile bytes.now (printed text.items 0)) }
     ensures refused { IfErr result (IsRefusal (CompilesFile bytes.now)) }
 {

@@ -110,7 +110,7 @@ pub(crate) fn count_bytes<L: Ledger>(
     words: &[Name],
     steps: &mut Steps<L>,
 ) -> Result<Vec<u8>, Refusal>
-    requires { length bytes.now ≤ 262144 }
+    requires { length bytes.now ≤ file_limit }
     ensures { Meets (CountsFile (limits_view limits) words.now bytes.now) steps.old.taken steps.new.taken result }
 {
     let accepted = accept(alloc, bytes)?;

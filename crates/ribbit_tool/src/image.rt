@@ -83,7 +83,7 @@ fn image_bytes<L: Ledger>(
     words: &[Name],
     steps: &mut Steps<L>,
 ) -> Result<Vec<u8>, Refusal>
-    requires { length bytes.now ≤ 262144 }
+    requires { length bytes.now ≤ file_limit }
     ensures { Meets (ImagesFile (limits_view limits) words.now bytes.now) steps.old.taken steps.new.taken result }
 {
     let accepted = accept(alloc, bytes)?;

@@ -18,7 +18,7 @@ use std::alloc::Global;
 
 // The text for a file within the limit.
 fn layout_bytes(alloc: Global, bytes: &[u8]) -> Result<Vec<u8>, Refusal>
-    requires { length bytes.now ≤ 262144 }
+    requires { length bytes.now ≤ file_limit }
     ensures text { IfOk result (λ text. LaysOutFile bytes.now (printed text.items 0)) }
     ensures refused { IfErr result (IsRefusal (LaysOutFile bytes.now)) }
 {

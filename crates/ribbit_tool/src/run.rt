@@ -131,7 +131,7 @@ fn run_bytes<L: Ledger>(
     words: &[Name],
     steps: &mut Steps<L>,
 ) -> Result<Vec<u8>, Refusal>
-    requires { length bytes.now ≤ 262144 }
+    requires { length bytes.now ≤ file_limit }
     ensures { Meets (RunsFile (limits_view limits) words.now bytes.now) steps.old.taken steps.new.taken result }
 {
     let accepted = accept(alloc, bytes)?;
