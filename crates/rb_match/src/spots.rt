@@ -169,8 +169,8 @@ pub struct Whole<'a> {
     pub nodes: &'a [GraphNode],
 }
 
-// Marks a place of a list.
-fn set_at(marks: &mut Seq<bool>, place: usize) {
+/// Marks a place of a list.
+pub fn set_at(marks: &mut Seq<bool>, place: usize) {
     if place < marks.len() {
         marks.replace(place, true);
     }

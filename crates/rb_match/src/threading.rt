@@ -8,7 +8,7 @@ ghost use Rattle.rb_match.specs.inner.Threading.{Ascend, AreThreaded, HasAt, IsD
 use crate::asking::{link_of, mark_tested_below};
 use crate::knowledge::{Edge, Known, copy_known, same_position};
 use crate::place::is_looked_at;
-use crate::spots::marks;
+use crate::spots::{marks, set_at};
 use rb_core::pattern::Pat;
 use rb_core::seq::Seq;
 use rb_core::types::{ConRef, Ty};
@@ -150,7 +150,7 @@ fn mark_below(
     let below = mark_tested_below(alloc, nodes, position.as_slice())?;
     for i in 0..marks.len() {
         if is_marked(below.as_slice(), i) {
-            marks.replace(i, true);
+            set_at(marks, i);
         }
     }
     Ok(())
