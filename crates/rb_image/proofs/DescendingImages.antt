@@ -98,7 +98,7 @@ module _ (p : Program) (typed : IsTyped p) (agrees : Agrees p) (blocks : List Im
     abbrev opened : Opened types layouts m false t v ws
     opened = record { made = b; below = reps }
 
-    leads : ◌≡◌ {A = Result ℕ ImageFault} (leaf_at b.layout.tree blocks xs) (Ok b.number)
+    pub leads : ◌≡◌ {A = Result ℕ ImageFault} (leaf_at b.layout.tree blocks xs) (Ok b.number)
     leads =
         led blocks xs ws m b.number b.layout.tree (leads_to p typed agrees m is.good t v ws opened)
         (λ test above. met test (law.met t b.layout b.number leaf b.is_layout b.is_number test above))

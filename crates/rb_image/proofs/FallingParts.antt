@@ -34,7 +34,7 @@ use Rattle.rb_image.proofs.SpotLemmas.{In}
 use Rattle.rb_image.proofs.WholeMemories.{IsWhole}
 
 -- a pointer among parts
-pointer_counts : (c align : ℕ) (ss : List PartAt) (s : PartAt) → In s ss → s.part.kind ≡ Pointer align c → 1 ≤ pointing c ss
+pub pointer_counts : (c align : ℕ) (ss : List PartAt) (s : PartAt) → In s ss → s.part.kind ≡ Pointer align c → 1 ≤ pointing c ss
 pointer_counts c align [] s h e = absurd h
 pointer_counts c align (x ∷ ss) s (inl same) e =
     let one : points c x.part.kind ≡ 1 = ap (λ (y : PartAt). points c y.part.kind) (sym same) ∙ ap (points c) e ∙ points_same c align in

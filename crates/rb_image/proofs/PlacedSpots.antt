@@ -122,7 +122,7 @@ module _ (leaf : Leaf) where
 
 -- Each part of the leaf is there -------------------------------------------------------------
 module _ (inner : ℕ → List PartAt) (block : Option ℕ) where
-  words_have : (j byte : ℕ) (fs : List FlatWord) (i : ℕ) (f : FlatWord) (k : ℕ) (p : Part) → slice_get fs i ≡ Some f → slice_get f.parts k ≡ Some p → p.o < f.width
+  pub words_have : (j byte : ℕ) (fs : List FlatWord) (i : ℕ) (f : FlatWord) (k : ℕ) (p : Part) → slice_get fs i ≡ Some f → slice_get f.parts k ≡ Some p → p.o < f.width
       → (word from : ℕ) → word ≡ j + i → from ≡ byte + begins_at fs i → (s : PartAt) → In s (with_inner inner block word from f.width p) → In s (words_order inner block j byte fs)
   words_have j byte [] i f k p is at lt word from is_word is_from s h = absurd cc
   words_have j byte (e ∷ fs) zero f k p is at lt word from is_word is_from s h =

@@ -36,7 +36,7 @@ kept_long : (j : ℕ) (ns : List ℕ) → length (kept_from j ns) ≡ length ns
 kept_long j [] = refl
 kept_long j (n ∷ ns) = ap suc (kept_long (j + 1) ns)
 
-fit_long : (widths words : List ℕ) → AllFit widths words → length words ≡ length widths
+pub fit_long : (widths words : List ℕ) → AllFit widths words → length words ≡ length widths
 fit_long [] [] h = refl
 fit_long [] (x ∷ words) h = absurd (h 0)
 fit_long (w ∷ widths) [] h = absurd (h 0)

@@ -97,7 +97,7 @@ module _ (types : List DataDecl) (layouts : List Layout) (orderly : AreOrderly t
   typed (Some p) None pos e = absurd cc
   typed (Some p) (Some ty) pos e = ap (λ x. Some x.ty) (same_Some _ pos e)
 
-  field_typed : (l : Pat-F Pat) (i : ℕ) (pos : Position) → field_in types i l ≡ Some pos → IsDeclared types pos.ty
+  pub field_typed : (l : Pat-F Pat) (i : ℕ) (pos : Position) → field_in types i l ≡ Some pos → IsDeclared types pos.ty
   field_typed (P.Wild at) i pos e = absurd cc
   field_typed (P.Var at x) i pos e = absurd cc
   field_typed (P.Num at n) i pos e = absurd cc

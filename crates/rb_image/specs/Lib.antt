@@ -1,3 +1,4 @@
+pub mod Asked
 pub mod Blocks
 pub mod Falling
 pub mod FieldSites
@@ -7,14 +8,21 @@ pub mod Integers
 pub mod LeafWords
 pub mod Memories
 pub mod Orders
+pub mod PackedWords
 pub mod Parts
+pub mod PathParts
+pub mod PathSpans
+pub mod Paths
+pub mod Peeking
 pub mod Reads
+pub mod Rebuilds
 pub mod Roots
 pub mod Sites
 pub mod Sound
 pub mod Spans
 pub mod Splits
 pub mod Values
+pub mod Views
 pub mod Visits
 pub mod Walks
 pub mod Ways

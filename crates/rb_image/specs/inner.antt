@@ -1,3 +1,4 @@
+pub mod Checking
 pub mod Descending
 pub mod Ending
 pub mod Filling
@@ -8,4 +9,5 @@ pub mod Opening
 pub mod Ordering
 pub mod Reaching
 pub mod Siting
+pub mod Standing
 pub mod Viewing

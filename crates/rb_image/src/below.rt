@@ -101,8 +101,8 @@ pub(crate) fn fields_of(types: &[DataDecl], con: ConRef) -> &[Ty]
     }
 }
 
-// A path with one field more.
-fn longer(alloc: Global, path: &[u32], field: usize) -> Result<Seq<u32>, AllocError>
+/// A path with one field more.
+pub(crate) fn longer(alloc: Global, path: &[u32], field: usize) -> Result<Seq<u32>, AllocError>
     requires { field < 4294967296 }
     ensures { IfOk result (λ found. found ≡ path.now ++ field ∷ []) }
 {

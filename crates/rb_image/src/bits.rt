@@ -2,6 +2,9 @@
 
 ghost use Rattle.std.specs.Prelude.{◌≡◌, IsTrue, ◌↔◌, ◌<◌, ◌^◌};
 ghost use Rattle.rb_bits.specs.Words.{take_of};
+ghost use Rattle.rb_coding.specs.inner.Packing.{put_into};
+
+use rb_bits::words::{put, take};
 
 /// The number that stands in bits `o` up to `o + l` of a word, above which there are zeros.
 pub(crate) fn take_from(word: u64, o: u64, l: u64) -> u64
@@ -15,4 +18,20 @@ pub(crate) fn take_from(word: u64, o: u64, l: u64) -> u64
         return high;
     }
     high % (1 << l)
+}
+
+/// A word with the low bits of `part` put into its bits `o` up to `o + l`, where these are bits of it.
+pub(crate) fn put_into(word: u64, o: u64, l: u64, part: u64) -> u64
+    ensures { result ≡ put_into word o l part }
+{
+    if l < 1 {
+        return word;
+    }
+    if l > 64 {
+        return word;
+    }
+    if o > 64 - l {
+        return word;
+    }
+    put(word, o as u32, l as u32, take(part, 0, l as u32))
 }

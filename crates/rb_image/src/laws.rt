@@ -2,6 +2,10 @@
 
 ghost use Rattle.rb_image.specs.FieldSites.{LeavesAreNarrow};
 ghost use Rattle.rb_image.specs.Falling.{DescendingImagesAreSound, SoundImagesDescend, SoundValuesDescend};
+ghost use Rattle.rb_image.specs.PathParts.{PathsLeadToParts};
+ghost use Rattle.rb_image.specs.PathSpans.{WalksAreShort};
+ghost use Rattle.rb_image.specs.Peeking.{PartsAreHeld};
+ghost use Rattle.rb_image.specs.PackedWords.{PackedWordsRepresent};
 ghost use Rattle.rb_image.specs.Spans.{SpansRecur};
 ghost use Rattle.rb_image.specs.Values.{SoundImagesHaveValues};
 ghost use Rattle.rb_image.specs.Visits.{LayoutsAreTidy};
@@ -46,4 +50,28 @@ pub fn leaves_are_narrow()
 /// its words are few and short and their parts narrow: such layouts `visit` asks for.
 pub fn layouts_are_tidy()
     ensures { LayoutsAreTidy }
+{}
+
+/// The splits and words of the data types to whose leaves a walk comes are at most as many as the sum of the spans of
+/// the types of the subvalues on its path, the last included: so many words such a walk reads at most.
+pub fn walks_are_short()
+    ensures { WalksAreShort }
+{}
+
+/// Where an image holds a value, the words of an integer, or of a subvalue of a data type with a leaf of its own, to
+/// which a path of field numbers leads represent the part of the value there.
+pub fn paths_lead_to_parts()
+    ensures { PathsLeadToParts }
+{}
+
+/// Where the words of its fields represent the parts of a value whose leaf has no blocks, the words in which `rebuild`
+/// packs them represent the value; and cleanly where those of the fields do.
+pub fn packed_words_represent()
+    ensures { PackedWordsRepresent }
+{}
+
+/// Where an image holds a value, the words that `peek` gives represent the part of the value at the path, if the part is
+/// not rebuilt.
+pub fn parts_are_held()
+    ensures { PartsAreHeld }
 {}

@@ -212,6 +212,20 @@ impl LeafWords {
         }
     }
 
+    /// The words of a leaf of which those of the root alone are known.
+    pub(crate) fn of_root(alloc: Global, leaf: &Leaf, root: Vec<Kept>) -> Result<Self, AllocError>
+        ensures root { IfOk result (λ found. found.root ≡ root) }
+        ensures addresses { IfOk result (λ found. found.addresses.items ≡ replicate (length leaf.now.blocks) 0) }
+        ensures numbers { (m : List ImageBlock) → IfOk result (λ found. HasNumbers m leaf.now found) }
+    {
+        let count = leaf.blocks.len();
+        Ok(LeafWords {
+            root,
+            addresses: Vec::from_elem(alloc, 0, count)?,
+            blocks: no_words(alloc, count)?,
+        })
+    }
+
     // The words of a leaf of which those of the root alone were read, at these sites.
     fn at_root<L: Ledger>(
         alloc: Global,
@@ -227,12 +241,8 @@ impl LeafWords {
         ensures least { steps.old.taken ≤ steps.new.taken }
         ensures most { steps.new.taken ≤ steps.old.taken + length sites.now }
     {
-        let count = leaf.blocks.len();
-        Ok(LeafWords {
-            root: read_sites(alloc, image, sites, steps)?,
-            addresses: Vec::from_elem(alloc, 0, count)?,
-            blocks: no_words(alloc, count)?,
-        })
+        let root = read_sites(alloc, image, sites, steps)?;
+        Self::of_root(alloc, leaf, root)
     }
 }
 

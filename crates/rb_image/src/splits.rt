@@ -31,8 +31,8 @@ pub(crate) fn pointed_from(base: u64, address: u128) -> Option<u64>
     }
 }
 
-// The word to which a step leads from a word with this number in the range before.
-fn step_over(memory: &[ImageBlock], range: Kept, step: Step) -> Result<Kept, ImageFault>
+/// The word to which a step leads from a word with this number in the range before.
+pub(crate) fn step_over(memory: &[ImageBlock], range: Kept, step: Step) -> Result<Kept, ImageFault>
     requires placed { AreInPlace memory.now }
     ensures { result ≡ step_over memory.now range step }
 {

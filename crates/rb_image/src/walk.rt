@@ -44,8 +44,8 @@ pub struct Walk<'a> {
     pub here: Inside<'a>,
 }
 
-// Tells that each declared type has a layout, of leaves that can be read.
-fn tell_orderly(agreed: &Agreed)
+/// Tells that each declared type has a layout, of leaves that can be read.
+pub(crate) fn tell_orderly(agreed: &Agreed)
     ensures { AreOrderly agreed.now.covered.program.types agreed.now.layouts }
 {
     let _ = agreed.covered().program();
@@ -61,8 +61,8 @@ fn data_of(ty: Ty) -> Option<u32>
     }
 }
 
-// The data type of a position at which any value of it may stand.
-fn open_data(here: Inside) -> Option<u32>
+/// The data type of a position at which any value of it may stand.
+pub(crate) fn open_data(here: Inside) -> Option<u32>
     ensures { result ≡ spec.open_data (position_of here.entry) }
 {
     match here.pat {

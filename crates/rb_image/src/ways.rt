@@ -43,8 +43,13 @@ fn any_below(path: &[u32], order: &[Spot]) -> bool
     false
 }
 
-// Whether a part does, or one of those behind it.
-fn leads_below(alloc: Global, leaf: &Leaf, path: &[u32], kind: &Kind) -> Result<bool, AllocError>
+/// Whether a part holds a word or bits of a field whose path begins with this one, or one of those behind it does.
+pub(crate) fn leads_below(
+    alloc: Global,
+    leaf: &Leaf,
+    path: &[u32],
+    kind: &Kind,
+) -> Result<bool, AllocError>
     requires readable { IsReadable leaf.now }
     ensures { IfOk result (λ leads. leads ≡ spec.leads_below leaf.now path.now kind.now) }
 {
@@ -59,8 +64,13 @@ fn leads_below(alloc: Global, leaf: &Leaf, path: &[u32], kind: &Kind) -> Result<
     }
 }
 
-// The fault of a pointer that is refused.
-fn refusal_of(memory: &[ImageBlock], leaf: &Leaf, bits: Kept, kind: &Kind) -> Option<ImageFault>
+/// The fault of a pointer that is refused.
+pub(crate) fn refusal_of(
+    memory: &[ImageBlock],
+    leaf: &Leaf,
+    bits: Kept,
+    kind: &Kind,
+) -> Option<ImageFault>
     requires placed { AreInPlace memory.now }
     requires readable { IsReadable leaf.now }
     ensures { result ≡ spec.refusal_of memory.now leaf.now bits kind.now }

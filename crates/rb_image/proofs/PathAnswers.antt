@@ -1,0 +1,101 @@
+-- What following a path answers: where the walk ends and no fault is found, and where one is.
+use Rattle.std.proofs.Common.{◌≡◌, ℕ, ◌&&◌, inl, inr, Bool, List, [], ◌∷◌, length, Option, Some, None, Ok, Err, refl, sym, subst, ap, ◌∙◌}
+use Rattle.std.specs.Prelude.{if◌then◌else◌}
+use Rattle.rb_core.specs.declared.types.DataDecl.{DataDecl}
+use Rattle.rb_core.specs.declared.types.Ty.TheVariants.{Named}
+use Rattle.rb_layout.specs.declared.layout.Layout.{Layout}
+use Rattle.rb_layout.specs.declared.layout.Leaf.{Leaf}
+use Rattle.rb_layout.specs.Positions.{layout_of}
+use Rattle.rb_rel.specs.Relation.{shape_length, word_count}
+use Rattle.rb_image_text.specs.declared.fault.ImageFault.{ImageFault}
+use Rattle.rb_image_text.specs.declared.image.Image.{Image}
+use Rattle.rb_image_text.specs.declared.image.ImageBlock.{ImageBlock}
+use Rattle.rb_image_text.specs.Places.{AreInPlace}
+use Rattle.rb_image.specs.declared.kept.Kept.{Kept}
+use Rattle.rb_image.specs.declared.path_words.WordAt.{WordAt}
+use Rattle.rb_image.specs.declared.walk.Walk.{Walk}
+use Rattle.rb_image.specs.Given.{IsGiven}
+use Rattle.rb_image.specs.LeafWords.{reached}
+use Rattle.rb_image.specs.Orders.{PartAt, order_of}
+use Rattle.rb_image.specs.Parts.{bits_at}
+use Rattle.rb_image.specs.Paths.{IsFaultless, IsPathFault, IsWalked, is_there, part_fault}
+use Rattle.rb_image.specs.Roots.{AllFit, kept_from, shape_of, widths_of}
+use Rattle.rb_image.specs.Walks.{Seen, Where, walked, where_of}
+use Rattle.rb_image.specs.Ways.{first_of}
+use Rattle.rb_image.specs.inner.Checking.{IsFoundOn, all_seen, fault_among, fault_at, fault_of_seen, fault_seen, has_word, is_kept_at, words_of_path}
+use Rattle.rb_image.proofs.PathSubvalues.{walk_stops}
+use Rattle.rb_image.proofs.PathWalks.{Walks}
+use Rattle.rb_image.proofs.PathWords.{found_fault, no_fault}
+use Rattle.rb_image.proofs.RootValues.{fit_long}
+use Rattle.rb_image.proofs.WellLeaves.{AreWell}
+
+-- The same words -----------------------------------------------------------------------------
+module _ (on off : ℕ → ℕ → Bool) (same : (base place : ℕ) → on base place ≡ off base place) (m : List ImageBlock) where
+  at_same : (leaf : Leaf) (ws : List Kept) (ats : List ℕ) (s : PartAt) → fault_at on m leaf ws ats s ≡ fault_at off m leaf ws ats s
+  at_same leaf ws ats s =
+      let bits = bits_at m ws ats s in
+      ap (λ (b : Bool). if is_there ats s.block && b then part_fault m leaf bits s.part.kind else None) (same bits.base bits.place)
+
+  among_same : (leaf : Leaf) (ws : List Kept) (ats : List ℕ) (ss : List PartAt) → fault_among on m leaf ws ats ss ≡ fault_among off m leaf ws ats ss
+  among_same leaf ws ats [] = refl
+  among_same leaf ws ats (s ∷ ss) =
+      ap (λ f. first_of f (fault_among on m leaf ws ats ss)) (at_same leaf ws ats s) ∙ ap (first_of (fault_at off m leaf ws ats s)) (among_same leaf ws ats ss)
+
+  seen_same : (ss : List Seen) → fault_of_seen on m ss ≡ fault_of_seen off m ss
+  seen_same [] = refl
+  seen_same (s ∷ ss) =
+      ap (λ f. first_of f (fault_of_seen on m ss)) (among_same s.leaf s.words (reached m s.leaf s.words) (order_of s.leaf)) ∙ ap (first_of (fault_seen off m s)) (seen_same ss)
+
+-- Answers ------------------------------------------------------------------------------------
+shape_long : (o : Option Layout) → length (shape_of o) ≡ shape_length o
+shape_long None = refl
+shape_long (Some layout) = refl
+
+-- words that fit a data type are as many as it has
+pub root_long : (layouts : List Layout) (t : ℕ) (words : List ℕ) → AllFit (widths_of layouts (Named t)) words → length words ≡ word_count layouts (Named t)
+root_long layouts t words fit = fit_long (widths_of layouts (Named t)) words fit ∙ shape_long (layout_of layouts t)
+
+walk_given : (due : Walks) (w : Walk) → IsGiven where_of due (Ok w) → ◌≡◌ {A = Walks} due (Ok (where_of w))
+walk_given (Ok v) w given = ap (λ (x : Where). Ok x) (sym given)
+walk_given (Err fault) w given = absurd given
+
+module _ (types : List DataDecl) (layouts : List Layout) (image : Image) (t : ℕ) (path : List ℕ) where
+  abbrev due : Walks
+  due = walked types layouts image.blocks t (kept_from 0 image.root) path
+
+  -- the walk came to the end
+  pub came : (ws : List Kept) → ws ≡ kept_from 0 image.root → (w : Walk) → IsGiven where_of (walked types layouts image.blocks t ws path) (Ok w) → IsWalked types layouts image t path w
+  came ws same w given = walk_given due w (subst (λ (xs : List Kept). IsGiven where_of (walked types layouts image.blocks t xs path) (Ok w)) same given)
+
+  -- the walk stopped
+  pub stopped : AreInPlace image.blocks → AreWell layouts → (ws : List Kept) → ws ≡ kept_from 0 image.root → (fault : ImageFault) → IsGiven where_of (walked types layouts image.blocks t ws path) (Err fault)
+      → IsPathFault types layouts image t path fault
+  stopped placed well ws same fault given = go due refl (subst (λ (xs : List Kept). IsGiven where_of (walked types layouts image.blocks t xs path) (Err fault)) same given)
+    where
+      at : (f : ImageFault) → ◌≡◌ {A = Walks} due (Err f) → IsPathFault types layouts image t path f
+      at f is = elim (walk_stops types layouts image t path placed well f is) [
+        | inl h ↦ inl h
+        | inr n ↦ inr (inl n)
+      ]
+
+      go : (r : Walks) → ◌≡◌ {A = Walks} due r → IsGiven where_of r (Err fault) → IsPathFault types layouts image t path fault
+      go (Ok w) is h = inr (inr h)
+      go (Err f) is h = elim h [
+        | inl same ↦ subst (IsPathFault types layouts image t path) (sym same) (at f is)
+        | inr memory ↦ inr (inr memory)
+      ]
+
+  module _ (w : Walk) (is : IsWalked types layouts image t path w) (found : List WordAt) (here : IsFoundOn layouts image (all_seen (where_of w)) found) where
+    abbrev seen : List Seen
+    seen = all_seen (where_of w)
+
+    same_faults : fault_of_seen (has_word found) image.blocks seen ≡ fault_of_seen (is_kept_at (words_of_path layouts image seen)) image.blocks seen
+    same_faults = seen_same (has_word found) (is_kept_at (words_of_path layouts image seen)) here image.blocks seen
+
+    -- no fault was found
+    pub faultless : fault_of_seen (has_word found) image.blocks seen ≡ None → IsFaultless types layouts image t path
+    faultless none = no_fault types layouts image t path (where_of w) is (sym same_faults ∙ none)
+
+    -- a fault was found
+    pub faulty : (fault : ImageFault) → fault_of_seen (has_word found) image.blocks seen ≡ Some fault → IsPathFault types layouts image t path fault
+    faulty fault some = inl (found_fault types layouts image t path (where_of w) is fault (sym same_faults ∙ some))

@@ -1,0 +1,25 @@
+use Rattle.std.proofs.Common.{◌≡◌, ◌⊎◌, refl}
+use Rattle.rb_core.specs.declared.types.Ty.TheVariants.{Named}
+use Rattle.rb_image_text.specs.declared.fault.ImageFault.TheVariants.{Memory}
+use Rattle.rb_image.specs.Peeking.{IsFaultOf}
+use Rattle.rb_image.proofs.CheckLemmas.{if_err}
+use Rattle.rb_image.proofs.PeekLemmas.{words_fault, words_found}
+use Rattle.rb_image.specs.Walks.{where_of}
+use Rattle.rb_image.proofs.peek.peek_data.Goals as goal
+
+pub returns-in_err-words-clause-fault : goal.returns-in_err-words-clause-fault
+returns-in_err-words-clause-fault g c =
+    let types = c.args.agreed.now.covered.program.types in
+    let layouts = c.args.agreed.now.layouts in
+    let image = c.args.image.now in
+    if_err (λ fault. IsFaultOf types layouts image (Named c.args.ty) c.args.path.now fault ⊎ (fault ≡ Memory)) c.from_residual-in_err-words.result _
+    c.from_residual-in_err-words.ensures.0 c.from_residual-in_err-words.ensures.1
+    (words_fault types layouts image c.args.ty c.args.path.now (where_of c.in_ok-walk.walk) c.in_ok-walk.ensures.walk _ c.in_err-words.ensures)
+
+pub returns-clause-part : goal.returns-clause-part
+returns-clause-part g c =
+    let types = c.args.agreed.now.covered.program.types in
+    let layouts = c.args.agreed.now.layouts in
+    let image = c.args.image.now in
+    words_found types layouts image c.args.ty c.args.path.now (where_of c.in_ok-walk.walk) c.in_ok-walk.ensures.walk c.in_ok-walk.ensures.sound
+    (record { ty = c.in_ok-walk.walk.here.ty; words = c.in_ok-words.words }) refl c.in_ok-words.ensures

@@ -1,0 +1,56 @@
+-- The words that the splits of a layout ask for on the way to a leaf.
+use Rattle.std.specs.Prelude.{nat_eq, List, [], ◌∷◌, ◌++◌, Option, Some, None, Result, Ok, Err, if◌then◌else◌}
+use Rattle.rb_core.specs.declared.layout_decl.Loc.{Loc}
+use Rattle.rb_core.specs.declared.layout_decl.Step.{Step}
+use Rattle.rb_layout.specs.declared.layout.FlatTree.{FlatTree}
+use Rattle.rb_layout.specs.declared.layout.FlatTree.TheOpen as T
+use Rattle.rb_layout.specs.declared.layout.FlatTree.TheOpen.{FlatTree-F}
+use Rattle.rb_layout.specs.declared.layout.FlatTree.TheFolds.{fold-FlatTree, fold-FlatArm}
+use Rattle.rb_layout.specs.declared.layout.FlatArm.{FlatArm, FlatArm-F}
+use Rattle.rb_layout.specs.Splits.{Under}
+use Rattle.rb_image_text.specs.declared.fault.ImageFault.{ImageFault}
+use Rattle.rb_image_text.specs.declared.image.ImageBlock.{ImageBlock}
+use Rattle.rb_image.specs.declared.kept.Kept.{Kept}
+use Rattle.rb_image.specs.Splits.{range_at, range_of, step_over, word_at}
+
+-- what comes behind something, which is nothing where there is a fault
+abbrev pub if_found : {A B : Type 0} → Result A ImageFault → (A → List B) → List B
+if_found (Err fault) go = []
+if_found (Ok x) go = go x
+
+-- the bits to which the steps of a location lead from a range, as far as one comes
+abbrev pub ranges_after : List ImageBlock → Kept → List Step → List Kept
+ranges_after m range [] = []
+ranges_after m range (s ∷ ss) =
+    if_found (step_over m range s) (λ w. range_of w s.o s.l ∷ ranges_after m (range_of w s.o s.l) ss)
+
+-- the bits that are read for a location: those of each pointer that it passes, and then its own
+abbrev pub ranges_at : List ImageBlock → List Kept → Loc → List Kept
+ranges_at m ws loc = let range = range_of (word_at ws loc.word) loc.o loc.l in range ∷ ranges_after m range loc.steps
+
+-- Trees --------------------------------------------------------------------------------------
+
+abbrev pub Asking : Type 0
+Asking = List ImageBlock → List Kept → List Kept
+
+abbrev pub asked_else : Option Asking → Asking
+asked_else None m ws = []
+asked_else (Some go) m ws = go m ws
+
+abbrev pub asked_arms : Kept → List (Under Asking) → Option Asking → Asking
+asked_arms range [] other m ws = asked_else other m ws
+asked_arms range (arm ∷ arms) other m ws = if nat_eq arm.literal range.number then arm.of m ws else asked_arms range arms other m ws
+
+abbrev pub asked_step : FlatTree-F Asking (Under Asking) → Asking
+asked_step (T.Split loc arms other) m ws = ranges_at m ws loc ++ if_found (range_at m ws loc) (λ range. asked_arms range arms other m ws)
+asked_step (T.Leaf n) m ws = []
+
+abbrev pub asked_arm : FlatArm-F Asking (Under Asking) → Under Asking
+asked_arm arm = record { literal = arm.literal; of = arm.under }
+
+-- the bits that the splits read on the way to a leaf, outer splits before inner ones
+abbrev pub asked_by : FlatTree → Asking
+asked_by = fold-FlatTree Asking (Under Asking) asked_step asked_arm
+
+abbrev pub asked_under : FlatArm → Under Asking
+asked_under = fold-FlatArm Asking (Under Asking) asked_step asked_arm

@@ -1,0 +1,62 @@
+-- The words of what stands at the end of a path, and that they are those of a part of the value that an image holds.
+use Rattle.std.specs.Prelude.{◌≡◌, ◌⊎◌, ℕ, false, List, [], ◌∷◌, map, Some, Result, Ok}
+use Rattle.rb_core.specs.declared.pattern.Pat.{Pat, out-Pat}
+use Rattle.rb_core.specs.declared.pattern.Pat.TheOpen as P
+use Rattle.rb_core.specs.declared.pattern.Pat.TheOpen.{Pat-F}
+use Rattle.rb_core.specs.declared.program.Program.{Program}
+use Rattle.rb_core.specs.declared.types.Ty.{Ty}
+use Rattle.rb_core.specs.declared.types.Ty.TheVariants.{Int, Named}
+use Rattle.rb_core.specs.declared.value.Value.{Value}
+use Rattle.rb_core.specs.TypedPrograms.{IsTyped}
+use Rattle.rb_core.specs.Values.{part_at}
+use Rattle.rb_layout.specs.Agreement.{Agrees}
+use Rattle.rb_layout.specs.Flattening.{flat_layouts}
+use Rattle.rb_rel.specs.Relation.{Represents}
+use Rattle.rb_image_text.specs.declared.fault.ImageFault.{ImageFault}
+use Rattle.rb_image_text.specs.declared.image.Image.{Image}
+use Rattle.rb_image_text.specs.declared.image.ImageBlock.{ImageBlock}
+use Rattle.rb_image_text.specs.Images.{AreBlocks}
+use Rattle.rb_image_text.specs.Places.{AreInPlace}
+use Rattle.rb_image.specs.declared.kept.Kept.{Kept}
+use Rattle.rb_image.specs.Falling.{RootDescends}
+use Rattle.rb_image.specs.Integers.{field_bit, numbered}
+use Rattle.rb_image.specs.Memories.{image_memory}
+use Rattle.rb_image.specs.Orders.{PartAt, order_of}
+use Rattle.rb_image.specs.Paths.{part_bits}
+use Rattle.rb_image.specs.Roots.{kept_from}
+use Rattle.rb_image.specs.Walks.{Seen, Where, walked}
+
+-- any value may stand at a position
+abbrev pub IsOpen : Pat-F Pat → Type 0
+IsOpen (P.Wild at) = Unit {0}
+IsOpen (P.Var at x) = Unit {0}
+IsOpen (P.Num at n) = ⊥
+IsOpen (P.Con at c ps) = ⊥
+
+-- the integer of so many bits at the path inside the leaf of a subvalue
+abbrev pub integer_in : List ImageBlock → Seen → ℕ → ℕ
+integer_in m s bits = numbered bits (field_bit (λ (part : PartAt). (part_bits m s part).number) (Int bits) (order_of s.leaf) s.at)
+
+-- the word of an integer that stands at the end of a walk
+pub record IsIntegerEnd (m : List ImageBlock) (w : Where) (words : List ℕ) : Type 0 where
+  pub bits : ℕ
+  pub is_integer : w.here.ty ≡ Int bits
+  pub is_open : IsOpen (out-Pat w.here.pat)
+  pub is_word : words ≡ integer_in m w.last bits ∷ []
+
+-- the words of what stands there: of a subvalue of a data type, to whose own leaf one came, or of an integer
+abbrev pub IsEnd : List ImageBlock → Where → List ℕ → Type 0
+IsEnd m w words = ((w.last.at ≡ []) × (words ≡ map (λ (k : Kept). k.number) w.last.words)) ⊎ IsIntegerEnd m w words
+
+-- they represent the part of a value at the path
+pub record IsPartThere (p : Program) (image : Image) (v : Value) (path : List ℕ) (ty : Ty) (words : List ℕ) : Type 0 where
+  pub part : Value
+  pub is_part : part_at v path ≡ Some part
+  pub represents : Represents p.types (flat_layouts p) (image_memory image.blocks) false ty part words
+
+-- where an image holds a value, the words at the end of a path represent the part of the value there
+abbrev pub PathsLeadToParts : Type 0
+PathsLeadToParts = (p : Program) → IsTyped p → Agrees p → (image : Image) → AreInPlace image.blocks → AreBlocks image.blocks
+    → (t : ℕ) (v : Value) → RootDescends p image (Named t) v → (path : List ℕ) (w : Where)
+    → ◌≡◌ {A = Result Where ImageFault} (walked p.types (flat_layouts p) image.blocks t (kept_from 0 image.root) path) (Ok w)
+    → (words : List ℕ) → IsEnd image.blocks w words → IsPartThere p image v path w.here.ty words

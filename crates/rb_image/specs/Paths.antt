@@ -1,0 +1,179 @@
+-- The words of an image that lie on a path of field numbers from its root, and the faults that they have.
+use Rattle.std.specs.Prelude.{◌≡◌, ◌⊎◌, ℕ, ◌==◌, ◌&&◌, not, List, [], ◌∷◌, ◌++◌, length, Bool, true, Option, Some, None, Result, Ok, Err, slice_get, slice_index, if◌then◌else◌}
+use Rattle.std.specs.List.{flat_map}
+use Rattle.rb_core.specs.declared.types.DataDecl.{DataDecl}
+use Rattle.rb_layout.specs.declared.layout.Kind.{Kind}
+use Rattle.rb_layout.specs.declared.layout.Kind.TheVariants.{Const, Bits, Word, Pointer}
+use Rattle.rb_layout.specs.declared.layout.Layout.{Layout}
+use Rattle.rb_layout.specs.declared.layout.Leaf.{Leaf}
+use Rattle.rb_image_text.specs.declared.fault.ImageFault.{ImageFault}
+use Rattle.rb_image_text.specs.declared.fault.ImageFault.TheVariants.{BadBits, BadPointer, Memory, NoSuchPart}
+use Rattle.rb_image_text.specs.declared.image.Image.{Image}
+use Rattle.rb_image_text.specs.declared.image.ImageBlock.{ImageBlock}
+use Rattle.rb_image.specs.declared.kept.Kept.{Kept}
+use Rattle.rb_image.specs.declared.walk.Walk.{Walk}
+use Rattle.rb_image.specs.Asked.{asked_by}
+use Rattle.rb_image.specs.Fields.{Position, field_of}
+use Rattle.rb_image.specs.LeafWords.{reached}
+use Rattle.rb_image.specs.Orders.{PartAt, order_of}
+use Rattle.rb_image.specs.Parts.{At, bits_at}
+use Rattle.rb_image.specs.Roots.{kept_from, root_at}
+use Rattle.rb_image.specs.Walks.{Seen, Where, layout_at, moved, open_data, see, walked, where_of, words_on}
+use Rattle.rb_image.specs.Ways.{leads_below, refusal_of}
+
+-- one of these words is kept in the block that begins at `base`, from byte `place` on; at base 0 it is the root word with that
+-- number
+pub record IsKeptAt (ks : List Kept) (base place : ℕ) : Type 0 where
+  pub number : ℕ
+  pub word : Kept
+  pub is_word : slice_get ks number ≡ Some word
+  pub is_base : word.base ≡ base
+  pub is_place : word.place ≡ place
+
+-- Leaves -------------------------------------------------------------------------------------
+
+-- the words of a leaf's root are there, and those of a block whose address is known
+abbrev pub is_there : List ℕ → Option ℕ → Bool
+is_there ats None = true
+is_there ats (Some b) = not (slice_index ats b == 0)
+
+-- the word of a part, if it holds what stands at a path or below it, or its pointer leads to a word that does
+abbrev pub word_below : List ImageBlock → Leaf → List Kept → List ℕ → List ℕ → PartAt → List Kept
+word_below m leaf ws ats path s = if is_there ats s.block && leads_below leaf path s.part.kind then bits_at m ws ats s ∷ [] else []
+
+-- those of a leaf's words that hold what stands at a path or below it, and those whose pointers lead to them
+abbrev pub words_below : List ImageBlock → Leaf → List Kept → List ℕ → List ℕ → List Kept
+words_below m leaf ws ats path = flat_map (word_below m leaf ws ats path) (order_of leaf)
+
+-- the fault of a part: a constant that differs, or a pointer that is refused
+abbrev pub part_fault : List ImageBlock → Leaf → Kept → Kind → Option ImageFault
+part_fault m leaf bits (Const c) = if bits.number == c then None else Some (BadBits bits.base bits.place)
+part_fault m leaf bits (Bits path a) = None
+part_fault m leaf bits (Word path j) = None
+part_fault m leaf bits (Pointer align b) = refusal_of m leaf bits (Pointer align b)
+
+-- the fault names the word
+abbrev pub Names : ImageFault → ℕ → ℕ → Type 0
+Names fault base place = (fault ≡ BadBits base place) ⊎ ((address : ℕ) × (fault ≡ BadPointer base address))
+
+-- Subvalues ----------------------------------------------------------------------------------
+
+module _ (m : List ImageBlock) where
+  -- the words that hold what one goes on to from a subvalue, and those whose pointers lead to them
+  abbrev pub words_ahead : Seen → List Kept
+  words_ahead s = words_below m s.leaf s.words (reached m s.leaf s.words) s.at
+
+  -- the bits of a part of a subvalue's leaf
+  abbrev pub part_bits : Seen → PartAt → Kept
+  part_bits s part = bits_at m s.words (reached m s.leaf s.words) part
+
+  -- a part of a subvalue's leaf has this fault, and the word that it is of stands here
+  pub record HasBadPart (s : Seen) (base place : ℕ) (fault : ImageFault) : Type 0 where
+    pub number : ℕ
+    pub part : PartAt
+    pub is_part : slice_get (order_of s.leaf) number ≡ Some part
+    pub is_read : is_there (reached m s.leaf s.words) part.block ≡ true
+    pub is_base : (part_bits s part).base ≡ base
+    pub is_place : (part_bits s part).place ≡ place
+    pub is_fault : part_fault m s.leaf (part_bits s part) part.part.kind ≡ Some fault
+
+module _ (layouts : List Layout) (m : List ImageBlock) where
+  -- the words that the splits of a subvalue read
+  abbrev pub words_asked : At → List Kept
+  words_asked x = asked_by (layout_at layouts x.ty).tree m x.words
+
+  -- its leaf is found, or this is the fault of its splits
+  abbrev pub IsSeen : At → Result Seen ImageFault → Type 0
+  IsSeen x r = see layouts m x.ty x.words ≡ r
+
+  -- a word has a fault in a subvalue: a split has no arm for its bits, or passes a pointer in it that is refused; or a part of
+  -- the leaf does not hold in it
+  abbrev pub IsAtFault : At → ℕ → ℕ → ImageFault → Type 0
+  IsAtFault x base place fault =
+      (IsSeen x (Err fault) × IsKeptAt (words_asked x) base place × Names fault base place)
+      ⊎ ((s : Seen) × IsSeen x (Ok s) × HasBadPart m s base place fault)
+
+-- Paths --------------------------------------------------------------------------------------
+
+module _ (types : List DataDecl) (layouts : List Layout) (image : Image) (t : ℕ) (path : List ℕ) where
+  abbrev pub root : List Kept
+  root = kept_from 0 image.root
+
+  -- along the first steps of a path one comes so far
+  abbrev pub IsCome : List ℕ → Where → Type 0
+  IsCome first w = ◌≡◌ {A = Result Where ImageFault} (walked types layouts image.blocks t root first) (Ok w)
+
+  -- one has come so far by the first steps of a path, and the next step is to field i, which stands at a position
+  pub record IsStep (w : Where) (i : ℕ) (pos : Position) : Type 0 where
+    pub first : List ℕ
+    pub rest : List ℕ
+    pub is_path : path ≡ first ++ i ∷ rest
+    pub is_here : IsCome first w
+    pub is_field : field_of types w.here.pat i ≡ Some pos
+
+  -- from a subvalue one goes on to another, which stands at these words
+  abbrev pub LeadsTo : Seen → At → Type 0
+  LeadsTo s x = ◌≡◌ {A = Result (List Kept) ImageFault} (words_on layouts image.blocks s x.ty) (Ok x.words)
+
+  -- a step leads to a subvalue of a data type, which stands at these words
+  pub record IsEntered (x : At) : Type 0 where
+    pub before : Where
+    pub field : ℕ
+    pub here : Position
+    pub is_step : IsStep before field here
+    pub is_data : open_data here ≡ Some x.ty
+    pub is_words : LeadsTo (moved before field here).last x
+
+  -- a subvalue of a data type on the path, that at its end included
+  abbrev pub IsOnPath : At → Type 0
+  IsOnPath x = (x ≡ root_at t image.root) ⊎ IsEntered x
+
+  -- a step leads to what is held in a word, or behind a pointer in it
+  pub record IsPassed (base place : ℕ) : Type 0 where
+    pub before : Where
+    pub field : ℕ
+    pub here : Position
+    pub is_step : IsStep before field here
+    pub is_kept : IsKeptAt (words_ahead image.blocks (moved before field here).last) base place
+
+  -- a word on the path: of the root; one that the splits of a subvalue on the path read; or one that holds what comes next on
+  -- the path or below that, or whose pointer leads to such a word
+  abbrev pub IsPathWord : ℕ → ℕ → Type 0
+  IsPathWord base place = IsKeptAt root base place
+      ⊎ ((x : At) × IsOnPath x × IsKeptAt (words_asked layouts image.blocks x) base place)
+      ⊎ IsPassed base place
+
+  -- a word on the path has this fault in one of the subvalues that are examined
+  pub record HasPathFault (Examined : At → Type 0) (fault : ImageFault) : Type 0 where
+    pub base : ℕ
+    pub place : ℕ
+    pub on_path : IsPathWord base place
+    pub subvalue : At
+    pub is_examined : Examined subvalue
+    pub is_fault : IsAtFault layouts image.blocks subvalue base place fault
+
+  -- the next step names no field: the constructor that was found has none of this number, or an integer stands there
+  pub record LacksField (number : ℕ) : Type 0 where
+    pub first : List ℕ
+    pub field : ℕ
+    pub rest : List ℕ
+    pub before : Where
+    pub is_path : path ≡ first ++ field ∷ rest
+    pub is_number : number ≡ length first
+    pub is_here : IsCome first before
+    pub is_none : field_of types before.here.pat field ≡ None
+
+  abbrev pub HasNoPart : ImageFault → Type 0
+  HasNoPart fault = (number : ℕ) × (fault ≡ NoSuchPart number) × LacksField number
+
+  -- the whole path was walked
+  abbrev pub IsWalked : Walk → Type 0
+  IsWalked w = IsCome path (where_of w)
+
+  -- no word on the path is at fault in a subvalue on it
+  abbrev pub IsFaultless : Type 0
+  IsFaultless = (fault : ImageFault) → HasPathFault IsOnPath fault → ⊥
+
+  -- a word on the path has this fault in a subvalue on it, or a step names no field; or memory is wanting
+  abbrev pub IsPathFault : ImageFault → Type 0
+  IsPathFault fault = HasPathFault IsOnPath fault ⊎ HasNoPart fault ⊎ (fault ≡ Memory)

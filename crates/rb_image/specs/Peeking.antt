@@ -1,0 +1,88 @@
+-- What stands at a path of an image: its type and its words, or why there is none.
+use Rattle.std.specs.Prelude.{◌≡◌, ◌⊎◌, ℕ, List, [], ◌∷◌, Result, Ok, Err}
+use Rattle.rb_core.specs.declared.pattern.Pat.{out-Pat}
+use Rattle.rb_core.specs.declared.program.Program.{Program}
+use Rattle.rb_core.specs.declared.types.DataDecl.{DataDecl}
+use Rattle.rb_core.specs.declared.types.Ty.{Ty}
+use Rattle.rb_core.specs.declared.types.Ty.TheVariants.{Int, Named}
+use Rattle.rb_core.specs.declared.value.Value.{Value}
+use Rattle.rb_core.specs.TypedPrograms.{IsTyped}
+use Rattle.rb_layout.specs.declared.layout.Layout.{Layout}
+use Rattle.rb_layout.specs.Agreement.{Agrees}
+use Rattle.rb_layout.specs.Flattening.{flat_layouts}
+use Rattle.rb_image_text.specs.declared.fault.ImageFault.{ImageFault}
+use Rattle.rb_image_text.specs.declared.fault.ImageFault.TheVariants.{BadRoot, NoSuchPart}
+use Rattle.rb_image_text.specs.declared.image.Image.{Image}
+use Rattle.rb_image_text.specs.Images.{AreBlocks}
+use Rattle.rb_image_text.specs.Places.{AreInPlace}
+use Rattle.rb_image.specs.declared.peek.Peeked.{Peeked}
+use Rattle.rb_image.specs.Falling.{RootDescends}
+use Rattle.rb_image.specs.PathParts.{IsOpen, IsPartThere}
+use Rattle.rb_image.specs.PathSpans.{path_span}
+use Rattle.rb_image.specs.Paths.{HasNoPart, HasPathFault, IsCome, IsFaultless, IsOnPath}
+use Rattle.rb_image.specs.Rebuilds.{numbers_of, rebuilt}
+use Rattle.rb_image.specs.Roots.{AllFit, IsFirstMisfit, kept_from, widths_of}
+use Rattle.rb_image.specs.Walks.{Where}
+
+module _ (types : List DataDecl) (layouts : List Layout) (image : Image) where
+  -- the words of what stands at the end of a walk: those of a subvalue to whose own leaf one came; inside a leaf those of an
+  -- integer, or of a constructor that is rebuilt
+  abbrev pub words_there : Where → List ℕ → Result (List ℕ) ImageFault
+  words_there w [] = Ok (numbers_of w.last.words)
+  words_there w (i ∷ at) = rebuilt types layouts image.blocks w
+
+  abbrev pub end_words : Where → Result (List ℕ) ImageFault
+  end_words w = words_there w w.last.at
+
+  -- no word on the path is at fault, and this stands at its end
+  pub record IsPartAt (t : ℕ) (path : List ℕ) (part : Peeked) : Type 0 where
+    pub end : Where
+    pub is_come : IsCome types layouts image t path path end
+    pub is_faultless : IsFaultless types layouts image t path
+    pub is_type : part.ty ≡ end.here.ty
+    pub is_words : ◌≡◌ {A = Result (List ℕ) ImageFault} (end_words end) (Ok part.words)
+
+  abbrev pub IsPartOf : Ty → List ℕ → Peeked → Type 0
+  IsPartOf (Int bits) path part = (path ≡ []) × (part.ty ≡ Int bits) × (part.words ≡ image.root)
+  IsPartOf (Named t) path part = IsPartAt t path part
+
+  -- what stands at a path from the root words, which fit the type
+  abbrev pub IsPart : Ty → List ℕ → Peeked → Type 0
+  IsPart ty path part = AllFit (widths_of layouts ty) image.root × IsPartOf ty path part
+
+  -- what stands at the end of the path cannot be rebuilt
+  pub record IsEndFault (t : ℕ) (path : List ℕ) (fault : ImageFault) : Type 0 where
+    pub end : Where
+    pub is_come : IsCome types layouts image t path path end
+    pub is_fault : ◌≡◌ {A = Result (List ℕ) ImageFault} (end_words end) (Err fault)
+
+  abbrev pub IsFaultOf : Ty → List ℕ → ImageFault → Type 0
+  IsFaultOf (Int bits) path fault = (fault ≡ NoSuchPart 0) × (path ≡ [] → ⊥)
+  IsFaultOf (Named t) path fault =
+      HasPathFault types layouts image t path (IsOnPath types layouts image t path) fault
+      ⊎ HasNoPart types layouts image t path fault ⊎ IsEndFault t path fault
+
+  -- why there is no part: a root word does not fit; a word on the path is at fault; or a step names no field
+  abbrev pub IsPartFault : Ty → List ℕ → ImageFault → Type 0
+  IsPartFault ty path fault =
+      ((i : ℕ) × (fault ≡ BadRoot i) × IsFirstMisfit (widths_of layouts ty) image.root i)
+      ⊎ (AllFit (widths_of layouts ty) image.root × IsFaultOf ty path fault)
+
+  -- the sum of the spans of the types on the path
+  abbrev pub part_span : Ty → List ℕ → ℕ
+  part_span (Int bits) path = 0
+  part_span (Named t) path = path_span types layouts image.blocks t (kept_from 0 image.root) path
+
+-- what stands at the end of a walk is not rebuilt
+abbrev pub IsWhole : Where → Type 0
+IsWhole w = (w.last.at ≡ []) ⊎ IsOpen (out-Pat w.here.pat)
+
+abbrev pub EndsWhole : List DataDecl → List Layout → Image → Ty → List ℕ → Type 0
+EndsWhole types layouts image (Int bits) path = Unit {0}
+EndsWhole types layouts image (Named t) path = (end : Where) × IsCome types layouts image t path path end × IsWhole end
+
+-- where an image holds a value, the words of what is not rebuilt represent the part of the value at the path
+abbrev pub PartsAreHeld : Type 0
+PartsAreHeld = (p : Program) → IsTyped p → Agrees p → (image : Image) → AreInPlace image.blocks → AreBlocks image.blocks
+    → (ty : Ty) (v : Value) → RootDescends p image ty v → (path : List ℕ) → EndsWhole p.types (flat_layouts p) image ty path
+    → (part : Peeked) → IsPart p.types (flat_layouts p) image ty path part → IsPartThere p image v path part.ty part.words

@@ -1,0 +1,140 @@
+-- Values that a leaf has taken apart, rebuilt in the layout of their own type.
+use Rattle.std.specs.Prelude.{ℕ, zero, suc, ◌+◌, ◌==◌, ◌&&◌, List, [], ◌∷◌, length, map, Bool, true, false, Option, Some, None, Result, Ok, Err, if◌then◌else◌}
+use Rattle.rb_core.specs.declared.pattern.Pat.{Pat, out-Pat, fold-Pat}
+use Rattle.rb_core.specs.declared.pattern.Pat.TheOpen as P
+use Rattle.rb_core.specs.declared.pattern.Pat.TheOpen.{Pat-F}
+use Rattle.rb_core.specs.declared.types.ConRef.{ConRef}
+use Rattle.rb_core.specs.declared.types.DataDecl.{DataDecl}
+use Rattle.rb_core.specs.declared.types.Ty.{Ty}
+use Rattle.rb_core.specs.declared.types.Ty.TheVariants.{Int, Named}
+use Rattle.rb_layout.specs.declared.layout.Layout.{Layout}
+use Rattle.rb_layout.specs.declared.layout.Leaf.{Leaf}
+use Rattle.rb_layout.specs.Flattening.{same_path}
+use Rattle.rb_layout.specs.Positions.{Open, open_positions}
+use Rattle.rb_coding.specs.inner.Packing.{word_made}
+use Rattle.rb_image_text.specs.declared.fault.ImageFault.{ImageFault}
+use Rattle.rb_image_text.specs.declared.fault.ImageFault.TheVariants.{Memory}
+use Rattle.rb_image_text.specs.declared.image.ImageBlock.{ImageBlock}
+use Rattle.rb_image.specs.declared.kept.Kept.{Kept}
+use Rattle.rb_image.specs.declared.pack.FieldWords.{FieldWords}
+use Rattle.rb_image.specs.LeafWords.{reached}
+use Rattle.rb_image.specs.Orders.{order_of}
+use Rattle.rb_image.specs.Splits.{and_then}
+use Rattle.rb_image.specs.Views.{Standing, along, down, integer_here, settled, words_here}
+use Rattle.rb_image.specs.Walks.{Where, layout_at}
+use Rattle.rb_image.specs.Ways.{refused_below}
+
+-- The leaf -----------------------------------------------------------------------------------
+
+-- whether a provenance matches what stands at a position, or the first fault that keeps it from being known
+abbrev pub Matching : Type 0
+Matching = Standing → Result Bool ImageFault
+
+abbrev pub match_field : Matching → Option Standing → Result Bool ImageFault
+match_field go None = Ok false
+match_field go (Some x) = go x
+
+abbrev pub same_con : ConRef → ConRef → Bool
+same_con c d = (c.ty == d.ty) && (c.con == d.con)
+
+module _ (types : List DataDecl) where
+  -- fields, the first of which is field i
+  abbrev pub match_fields : List Matching → Standing → ℕ → Result Bool ImageFault
+  match_fields [] x i = Ok true
+  match_fields (go ∷ gos) x i = and_then (match_field go (down types x i)) (λ so. if so then match_fields gos x (i + 1) else Ok false)
+
+  abbrev pub match_con : ConRef → List Matching → Standing → Pat-F Pat → Result Bool ImageFault
+  match_con c gos x (P.Wild at) = Ok false
+  match_con c gos x (P.Var at v) = Ok false
+  match_con c gos x (P.Num at n) = Ok false
+  match_con c gos x (P.Con at d ps) = if same_con c d then match_fields gos x 0 else Ok false
+
+abbrev pub or_fault_before : ImageFault → Result Leaf ImageFault → Result Leaf ImageFault
+or_fault_before fault (Ok leaf) = Ok leaf
+or_fault_before fault (Err later) = Err fault
+
+abbrev pub or_later : Result Bool ImageFault → Leaf → Result Leaf ImageFault → Result Leaf ImageFault
+or_later (Ok true) leaf later = Ok leaf
+or_later (Ok false) leaf later = later
+or_later (Err fault) leaf later = or_fault_before fault later
+
+module _ (types : List DataDecl) (layouts : List Layout) (m : List ImageBlock) where
+  -- a constructor asks for the leaf of what stands at its position; a wildcard asks for nothing. Provenances have no numbers
+  abbrev pub match_step : Pat-F Matching → Matching
+  match_step (P.Wild at) x = Ok true
+  match_step (P.Var at v) x = Ok true
+  match_step (P.Num at n) x = Ok false
+  match_step (P.Con at c gos) x = and_then (settled layouts m x) (λ y. match_con types c gos y (out-Pat y.here.pat))
+
+  abbrev pub matches : Pat → Matching
+  matches = fold-Pat Matching match_step
+
+  -- the first leaf whose provenance is known to match; where none is, the first fault that kept one from being known
+  abbrev pub chosen : List Leaf → Standing → Result Leaf ImageFault
+  chosen [] x = Err Memory
+  chosen (leaf ∷ leaves) x = or_later (matches leaf.prov x) leaf (chosen leaves x)
+
+-- The words ----------------------------------------------------------------------------------
+
+-- the words of the field at a path
+abbrev pub words_in : List FieldWords → List ℕ → List ℕ
+words_in [] path = []
+words_in (f ∷ fs) path = if same_path f.path path then f.words else words_in fs path
+
+-- the words of a leaf without pointers: each part in its place, and 0 elsewhere
+abbrev pub packed : Leaf → List FieldWords → List ℕ
+packed leaf fields = map (word_made (words_in fields) (λ b. 0)) leaf.root
+
+abbrev pub numbers_of : List Kept → List ℕ
+numbers_of ws = map (λ (w : Kept). w.number) ws
+
+-- the words of a value of a data type that stands at a position, or the first fault
+abbrev pub Rebuilding : Type 0
+Rebuilding = ℕ → Standing → Result (List ℕ) ImageFault
+
+module _ (types : List DataDecl) (layouts : List Layout) (m : List ImageBlock) where
+  -- where any value of the type may stand, it has its words; a constructor is rebuilt
+  abbrev pub data_words : Rebuilding → ℕ → Standing → Pat-F Pat → Result (List ℕ) ImageFault
+  data_words rebuilt t x (P.Wild at) = Ok (numbers_of (words_here layouts m x t))
+  data_words rebuilt t x (P.Var at v) = Ok (numbers_of (words_here layouts m x t))
+  data_words rebuilt t x (P.Num at n) = Err Memory
+  data_words rebuilt t x (P.Con at c ps) = rebuilt t x
+
+  -- an integer is one word
+  abbrev pub words_at : Rebuilding → Ty → Standing → Result (List ℕ) ImageFault
+  words_at rebuilt (Int bits) x = Ok (integer_here m x bits ∷ [])
+  words_at rebuilt (Named t) x = data_words rebuilt t x (out-Pat x.here.pat)
+
+  abbrev pub words_along : Rebuilding → Standing → List ℕ → Result (List ℕ) ImageFault
+  words_along rebuilt x path = and_then (along types layouts m x path) (λ y. words_at rebuilt y.here.ty y)
+
+  -- the fields at open positions of the leaf in which the value is rebuilt
+  abbrev pub fields_at : Rebuilding → Standing → List Open → Result (List FieldWords) ImageFault
+  fields_at rebuilt x [] = Ok []
+  fields_at rebuilt x (o ∷ os) =
+      and_then (words_along rebuilt x o.path) (λ ws.
+      and_then (fields_at rebuilt x os) (λ fields. Ok (record { path = o.path; words = ws } ∷ fields)))
+
+  -- a value of a data type in the leaf whose provenance matches it, where no more types are held one inside the other
+  abbrev pub rebuilt_within : ℕ → Rebuilding
+  rebuilt_within zero t x = Err Memory
+  rebuilt_within (suc n) t x =
+      and_then (chosen types layouts m (layout_at layouts t).leaves x) (λ leaf.
+      and_then (fields_at (rebuilt_within n) x (open_positions types leaf.prov)) (λ fields. Ok (packed leaf fields)))
+
+  -- A field that is rebuilt is held in the words of the value whose field it is. Holding has no cycle, so no more types are held
+  -- one inside the other than there are layouts.
+  abbrev pub words_of : Standing → Result (List ℕ) ImageFault
+  words_of x = words_at (rebuilt_within (length layouts)) x.here.ty x
+
+  abbrev pub end_of : Where → Standing
+  end_of w = record { leaf = w.last.leaf; root = w.last.words; addresses = reached m w.last.leaf w.last.words; at = w.last.at; here = w.here }
+
+  abbrev pub unless_refused : Option ImageFault → Standing → Result (List ℕ) ImageFault
+  unless_refused None x = words_of x
+  unless_refused (Some fault) x = Err fault
+
+  -- the words of what stands at the end of a walk inside a leaf, where no pointer on the way to a field of it is refused
+  abbrev pub rebuilt : Where → Result (List ℕ) ImageFault
+  rebuilt w = let x = end_of w in
+      unless_refused (refused_below m x.leaf x.root x.addresses x.at (order_of x.leaf)) x

@@ -1,0 +1,79 @@
+-- Positions in leaves of which the words are known, and how one goes on from them to the positions below.
+use Rattle.std.specs.Prelude.{ℕ, List, [], ◌∷◌, ◌++◌, length, replicate, Option, Some, None, Result, Ok, slice_get}
+use Rattle.rb_core.specs.declared.types.DataDecl.{DataDecl}
+use Rattle.rb_core.specs.declared.types.Ty.TheVariants.{Int, Named}
+use Rattle.rb_layout.specs.declared.layout.Layout.{Layout}
+use Rattle.rb_layout.specs.declared.layout.Leaf.{Leaf}
+use Rattle.rb_rel.specs.Relation.{word_count}
+use Rattle.rb_image_text.specs.declared.fault.ImageFault.{ImageFault}
+use Rattle.rb_image_text.specs.declared.fault.ImageFault.TheVariants.{Memory}
+use Rattle.rb_image_text.specs.declared.image.ImageBlock.{ImageBlock}
+use Rattle.rb_image.specs.declared.kept.Kept.{Kept}
+use Rattle.rb_image.specs.Fields.{Position, field_of}
+use Rattle.rb_image.specs.Integers.{field_bit, numbered}
+use Rattle.rb_image.specs.Orders.{order_of}
+use Rattle.rb_image.specs.Parts.{addresses_of, bits_at, field_word, field_words}
+use Rattle.rb_image.specs.Splits.{and_then, leaf_at, or_fault}
+use Rattle.rb_image.specs.Walks.{layout_at, leaf_or_none, open_data}
+
+-- a position in a leaf: the leaf, the words of its root, the addresses of its blocks, the path from the root, and what its
+-- provenance has there
+pub record Standing : Type 0 where
+  pub leaf : Leaf
+  pub root : List Kept
+  pub addresses : List ℕ
+  pub at : List ℕ
+  pub here : Position
+
+-- a value of a data type, from the root of its leaf on; nothing is known of blocks
+abbrev pub from_root : ℕ → List Kept → Leaf → Standing
+from_root t ws leaf = record {
+  leaf = leaf;
+  root = ws;
+  addresses = replicate (length leaf.blocks) 0;
+  at = [];
+  here = record { pat = leaf.prov; ty = Named t };
+}
+
+abbrev pub down_to : Standing → ℕ → Option Position → Option Standing
+down_to x i None = None
+down_to x i (Some pos) = Some (record x { at = x.at ++ i ∷ []; here = pos })
+
+-- the position of field i: none where no constructor stands here, or one that has no such field
+abbrev pub down : List DataDecl → Standing → ℕ → Option Standing
+down types x i = down_to x i (field_of types x.here.pat i)
+
+-- A value that has no pointers is looked at without an image: its splits lead to its leaf, and each constant of that is there,
+-- or this is the first fault.
+abbrev pub taken_apart : List Layout → ℕ → List Kept → Result Standing ImageFault
+taken_apart layouts t ws =
+    and_then (leaf_at (layout_at layouts t).tree [] ws) (λ n.
+    let leaf = leaf_or_none (slice_get (layout_at layouts t).leaves n) in
+    and_then (addresses_of [] leaf ws) (λ none. Ok (from_root t ws leaf)))
+
+-- the integer that stands at a position
+abbrev pub integer_here : List ImageBlock → Standing → ℕ → ℕ
+integer_here m x bits = numbered bits (field_bit (λ s. (bits_at m x.root x.addresses s).number) (Int bits) (order_of x.leaf) x.at)
+
+module _ (layouts : List Layout) (m : List ImageBlock) where
+  -- the words of the value of a data type that stands at a position
+  abbrev pub words_here : Standing → ℕ → List Kept
+  words_here x t = field_words (field_word m x.root x.addresses (order_of x.leaf)) x.at 0 (word_count layouts (Named t))
+
+  abbrev pub settled_at : Standing → Option ℕ → Result Standing ImageFault
+  settled_at x None = Ok x
+  settled_at x (Some t) = taken_apart layouts t (words_here x t)
+
+  -- where any value of a data type may stand, one goes on to its own leaf
+  abbrev pub settled : Standing → Result Standing ImageFault
+  settled x = settled_at x (open_data x.here)
+
+module _ (types : List DataDecl) (layouts : List Layout) (m : List ImageBlock) where
+  -- to the position of field i of the value here; of a field that is not there nothing is said
+  abbrev pub step_down : Standing → ℕ → Result Standing ImageFault
+  step_down x i = and_then (settled layouts m x) (λ y. or_fault (down types y i) Memory)
+
+  -- along a path of field numbers
+  abbrev pub along : Standing → List ℕ → Result Standing ImageFault
+  along x [] = Ok x
+  along x (i ∷ path) = and_then (step_down x i) (λ y. along y path)

@@ -1,0 +1,93 @@
+//! The words of a leaf that hold what stands at a path, and those whose pointers lead to them.
+
+ghost use Rattle.std.specs.Prelude.{◌≡◌, ◌++◌, IfOk, OnOk};
+ghost use Rattle.rb_layout.specs.Readable.{IsReadable};
+ghost use Rattle.rb_image.specs.LeafWords.{HasNumbers};
+ghost use Rattle.rb_image.specs.Paths.{is_there, word_below, words_below};
+ghost use Rattle.rb_image.specs.inner.Checking.{leads_there};
+ghost use Rattle.rb_image.specs.inner.Reaching.{IsPartOf};
+ghost use Rattle.rb_image.specs.inner.Viewing.{at_of};
+ghost use Rattle.rb_image_text.specs.Places.{AreInPlace};
+
+use crate::kept::Kept;
+use crate::leaf_words::LeafWords;
+use crate::order::{Spot, order_of};
+use crate::parts::address_at;
+use crate::ways::leads_below;
+use rb_image_text::image::Image;
+use rb_layout::layout::Leaf;
+use std::alloc::{AllocError, Global};
+
+/// Whether the word of a part was read: a root word, or a word of a block whose address is known.
+pub(crate) fn is_there(words: &LeafWords, spot: &Spot) -> bool
+    ensures { result ≡ is_there words.now.addresses.items spot.now.block }
+{
+    match spot.block {
+        None => true,
+        Some(block) => address_at(words.addresses.as_slice(), block) != 0,
+    }
+}
+
+// Whether a part that was read holds what stands at a path or below it, or is a pointer on the way there.
+fn leads_there(
+    alloc: Global,
+    leaf: &Leaf,
+    words: &LeafWords,
+    path: &[u32],
+    spot: &Spot,
+) -> Result<bool, AllocError>
+    requires readable { IsReadable leaf.now }
+    ensures { IfOk result (λ leads. leads ≡ leads_there leaf.now words.now.addresses.items path.now (at_of spot.now)) }
+{
+    if !is_there(words, spot) {
+        return Ok(false);
+    }
+    leads_below(alloc, leaf, path, &spot.part.kind)
+}
+
+// Adds the word of a part, if it is one of these.
+fn add_word(
+    alloc: Global,
+    image: &Image,
+    leaf: &Leaf,
+    words: &LeafWords,
+    path: &[u32],
+    spot: &Spot,
+    found: &mut Vec<Kept>,
+) -> Result<(), AllocError>
+    requires placed { AreInPlace image.now.blocks }
+    requires readable { IsReadable leaf.now }
+    requires numbers { HasNumbers image.now.blocks leaf.now words.now }
+    requires part { IsPartOf leaf.now (at_of spot.now) }
+    ensures { OnOk result (found.new.items ≡ found.old.items ++ word_below image.now.blocks leaf.now
+        words.now.root.items words.now.addresses.items path.now (at_of spot.now)) }
+{
+    if !leads_there(alloc, leaf, words, path, spot)? {
+        return Ok(());
+    }
+    found.push(words.bits(spot))?;
+    Ok(())
+}
+
+/// Adds the words of a leaf that hold what stands at a path or below it, and those whose pointers lead to them. Nothing
+/// is read.
+pub(crate) fn add_below(
+    alloc: Global,
+    image: &Image,
+    leaf: &Leaf,
+    words: &LeafWords,
+    path: &[u32],
+    found: &mut Vec<Kept>,
+) -> Result<(), AllocError>
+    requires placed { AreInPlace image.now.blocks }
+    requires readable { IsReadable leaf.now }
+    requires numbers { HasNumbers image.now.blocks leaf.now words.now }
+    ensures { OnOk result (found.new.items ≡ found.old.items ++ words_below image.now.blocks leaf.now
+        words.now.root.items words.now.addresses.items path.now) }
+{
+    let order = order_of(alloc, leaf)?;
+    for spot in order.as_slice() {
+        add_word(alloc, image, leaf, words, path, spot, found)?;
+    }
+    Ok(())
+}

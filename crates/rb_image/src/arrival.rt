@@ -1,0 +1,196 @@
+//! Positions to which one comes on the way down through values that leaves have taken apart.
+
+ghost use Rattle.std.specs.Prelude.{◌≡◌, IfOk, List};
+ghost use Rattle.rb_layout.specs.Readable.{IsReadable};
+ghost use Rattle.rb_image.specs.Given.{IsGiven};
+ghost use Rattle.rb_image.specs.Views as spec;
+ghost use Rattle.rb_image.specs.inner.Standing.{IsCome, IsShown, come_to, shown, source_words};
+ghost use Rattle.rb_image_text.specs.Places.{AreInPlace};
+ghost use Rattle.rb_image_text.specs.declared.image.ImageBlock.{ImageBlock};
+
+use crate::inside::{Inside, field_of};
+use crate::kept::Kept;
+use crate::leaf_words::LeafWords;
+use crate::order::order_of;
+use crate::parts::examine;
+use crate::splits::leaf_at;
+use crate::view::View;
+use crate::walk::{open_data, tell_orderly};
+use rb_core::seq::Seq;
+use rb_core::types::Ty;
+use rb_image_text::fault::ImageFault;
+use rb_image_text::image::Image;
+use rb_layout::agreed::Agreed;
+use rb_layout::layout::Leaf;
+use std::alloc::{AllocError, Global};
+
+/// The words of a leaf: lent, or the way's own.
+#[derive(Drop)]
+pub enum Source<'a> {
+    Lent(&'a LeafWords),
+    Own(LeafWords),
+}
+
+/// A position in a leaf to which one came.
+#[derive(Drop)]
+pub struct Arrival<'a> {
+    pub leaf: &'a Leaf,
+    pub source: Source<'a>,
+    pub at: Seq<u32>,
+    pub here: Inside<'a>,
+}
+
+impl<'a> Arrival<'a> {
+    // The words of the leaf.
+    fn words(&self) -> &LeafWords
+        ensures { result.now ≡ source_words self.now.source }
+    {
+        match &self.source {
+            Source::Lent(words) => words,
+            Source::Own(words) => words,
+        }
+    }
+
+    /// The position.
+    pub(crate) fn view(&self) -> View
+        ensures same { shown result ≡ come_to self.now }
+        ensures shown { (m : List ImageBlock) → IsCome m self.now → IsShown m result }
+    {
+        View {
+            leaf: self.leaf,
+            words: self.words(),
+            at: self.at.as_slice(),
+            here: self.here,
+        }
+    }
+}
+
+// A value of a data type at the root of its leaf.
+fn at_root<'a>(
+    alloc: Global,
+    leaf: &'a Leaf,
+    ty: u32,
+    root: Vec<Kept>,
+) -> Result<Arrival<'a>, AllocError>
+    ensures come { IfOk result (λ x. come_to x ≡ spec.from_root ty root.items leaf.now) }
+    ensures read { (m : List ImageBlock) → IsReadable leaf.now → IfOk result (IsCome m) }
+{
+    let words = LeafWords::of_root(alloc, leaf, root)?;
+    Ok(Arrival {
+        leaf,
+        source: Source::Own(words),
+        at: Seq::new(alloc),
+        here: Inside {
+            pat: &leaf.prov,
+            ty: Ty::Named(ty),
+        },
+    })
+}
+
+/// A value without pointers at these words, from the root of its leaf on. Its type has a layout, as each that is
+/// declared.
+pub(crate) fn take_apart<'a>(
+    alloc: Global,
+    agreed: &'a Agreed,
+    ty: u32,
+    words: Vec<Kept>,
+) -> Result<Arrival<'a>, ImageFault>
+    ensures come { IsGiven come_to (spec.taken_apart agreed.now.layouts ty words.items) result }
+    ensures read { (m : List ImageBlock) → IfOk result (IsCome m) }
+{
+    tell_orderly(agreed);
+    let Some(layout) = agreed.layouts().get(ty as usize) else {
+        return Err(ImageFault::Memory);
+    };
+    let number = leaf_at(&[], words.as_slice(), &layout.tree)?;
+    let Some(leaf) = layout.leaves.get(number as usize) else {
+        return Err(ImageFault::Memory);
+    };
+    let order = order_of(alloc, leaf)?;
+    let _addresses = examine(alloc, &[], leaf, words.as_slice(), order.as_slice())?;
+    let root = at_root(alloc, leaf, ty, words)?;
+    Ok(root)
+}
+
+// From an open position of a data type on to the root of the value's own leaf.
+fn settle<'a>(
+    alloc: Global,
+    agreed: &'a Agreed,
+    image: &Image,
+    arrival: Arrival<'a>,
+) -> Result<Arrival<'a>, ImageFault>
+    requires placed { AreInPlace image.now.blocks }
+    requires read { IsCome image.now.blocks arrival }
+    ensures come { IsGiven come_to (spec.settled agreed.now.layouts image.now.blocks (come_to arrival.entry)) result }
+    ensures read { IfOk result (IsCome image.now.blocks) }
+{
+    match open_data(arrival.here) {
+        None => Ok(arrival),
+        Some(ty) => {
+            let words = arrival
+                .view()
+                .words_here(alloc, image, agreed.layouts(), ty)?;
+            take_apart(alloc, agreed, ty, words)
+        }
+    }
+}
+
+// To a field of the value here. It is there where a provenance that matches the value leads to it.
+fn step_down<'a>(
+    alloc: Global,
+    agreed: &'a Agreed,
+    image: &Image,
+    arrival: Arrival<'a>,
+    field: u32,
+) -> Result<Arrival<'a>, ImageFault>
+    requires placed { AreInPlace image.now.blocks }
+    requires read { IsCome image.now.blocks arrival }
+    ensures come { IsGiven come_to (spec.step_down agreed.now.covered.program.types agreed.now.layouts image.now.blocks
+        (come_to arrival.entry) field) result }
+    ensures read { IfOk result (IsCome image.now.blocks) }
+{
+    let types = agreed.covered().program().types.as_slice();
+    let Arrival {
+        leaf,
+        source,
+        at,
+        here,
+    } = settle(alloc, agreed, image, arrival)?;
+    let Some(here) = field_of(types, here.pat, field) else {
+        return Err(ImageFault::Memory);
+    };
+    let mut at = at;
+    at.push(field)?;
+    Ok(Arrival {
+        leaf,
+        source,
+        at,
+        here,
+    })
+}
+
+/// Where a path of field numbers leads from a position on.
+pub(crate) fn along<'a>(
+    alloc: Global,
+    agreed: &'a Agreed,
+    image: &Image,
+    from: &View<'a>,
+    path: &[u32],
+) -> Result<Arrival<'a>, ImageFault>
+    requires placed { AreInPlace image.now.blocks }
+    requires shown { IsShown image.now.blocks from.now }
+    ensures come { IsGiven come_to (spec.along agreed.now.covered.program.types agreed.now.layouts image.now.blocks
+        (shown from.now) path.now) result }
+    ensures read { IfOk result (IsCome image.now.blocks) }
+{
+    let mut here = Arrival {
+        leaf: from.leaf,
+        source: Source::Lent(from.words),
+        at: Seq::from_vec(Vec::from_slice(alloc, from.at)?),
+        here: from.here,
+    };
+    for field in path {
+        here = step_down(alloc, agreed, image, here, *field)?;
+    }
+    Ok(here)
+}

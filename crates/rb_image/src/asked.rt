@@ -1,0 +1,67 @@
+//! The words that the splits of a layout ask for.
+
+ghost use Rattle.std.specs.Prelude.{◌≡◌, ◌++◌, IfOk, OnOk};
+ghost use Rattle.rb_image.specs.Asked.{asked_by, ranges_at};
+ghost use Rattle.rb_image.specs.Splits.{range_at};
+ghost use Rattle.rb_image.specs.inner.Checking.{given};
+ghost use Rattle.rb_image_text.specs.Places.{AreInPlace};
+
+use crate::kept::Kept;
+use crate::splits::{range_of, step_over, under, word_at};
+use rb_core::layout_decl::Loc;
+use rb_image_text::image::ImageBlock;
+use rb_layout::layout::FlatTree;
+use std::alloc::AllocError;
+
+// Adds the bits that are read for a location. The last are those at the location, unless a pointer is refused.
+fn add_ranges(
+    memory: &[ImageBlock],
+    words: &[Kept],
+    loc: &Loc,
+    found: &mut Vec<Kept>,
+) -> Result<Option<Kept>, AllocError>
+    requires placed { AreInPlace memory.now }
+    ensures range { IfOk result (λ range. range ≡ given (range_at memory.now words.now loc.now)) }
+    ensures added { OnOk result (found.new.items ≡ found.old.items ++ ranges_at memory.now words.now loc.now) }
+{
+    let mut range = range_of(word_at(words, loc.word), loc.o, loc.l);
+    found.push(range)?;
+    for step in loc.steps.as_slice() {
+        match step_over(memory, range, *step) {
+            Err(_) => return Ok(None),
+            Ok(word) => {
+                range = range_of(word, step.o, step.l);
+                found.push(range)?;
+            }
+        }
+    }
+    Ok(Some(range))
+}
+
+/// Adds the bits that the splits of a tree read on the way to a leaf, with where they are kept: for each split those of
+/// the pointers that its location passes, and then those at the location.
+pub(crate) fn add_asked(
+    memory: &[ImageBlock],
+    words: &[Kept],
+    tree: &FlatTree,
+    found: &mut Vec<Kept>,
+) -> Result<(), AllocError>
+    requires placed { AreInPlace memory.now }
+    ensures { OnOk result (found.new.items ≡ found.old.items ++ asked_by tree.now memory.now words.now) }
+{
+    let mut tree = tree;
+    loop {
+        match tree {
+            FlatTree::Leaf(_) => return Ok(()),
+            FlatTree::Split(loc, arms, other) => match add_ranges(memory, words, loc, found)? {
+                None => return Ok(()),
+                Some(range) => match under(arms.as_slice(), other, range.number) {
+                    None => return Ok(()),
+                    Some(next) => {
+                        tree = next;
+                    }
+                },
+            },
+        }
+    }
+}

@@ -1,0 +1,173 @@
+//! The leaf in whose layout a value is rebuilt: the one whose provenance matches it.
+
+ghost use Rattle.std.specs.Prelude.{◌≡◌, ◌↔◌, IsTrue, map};
+ghost use Rattle.rb_core.specs.declared.pattern.Pat.{out-Pat};
+ghost use Rattle.rb_image.specs.Given.{IsGiven};
+ghost use Rattle.rb_image.specs.Rebuilds as spec;
+ghost use Rattle.rb_image.specs.inner.Standing.{IsShown, first_fault, shown};
+ghost use Rattle.rb_image_text.specs.Places.{AreInPlace};
+ghost use Rattle.rb_image_text.specs.declared.fault.ImageFault.TheVariants.{Memory};
+
+use crate::arrival::take_apart;
+use crate::below::longer;
+use crate::opens::field_number;
+use crate::view::View;
+use crate::walk::open_data;
+use rb_core::pattern::Pat;
+use rb_core::types::ConRef;
+use rb_image_text::fault::ImageFault;
+use rb_image_text::image::Image;
+use rb_layout::agreed::Agreed;
+use rb_layout::layout::Leaf;
+use std::alloc::Global;
+
+fn same_con(con: ConRef, other: ConRef) -> bool
+    ensures { result ≡ spec.same_con con other }
+{
+    con.ty == other.ty && con.con == other.con
+}
+
+// Whether a provenance matches what stands at a position. The call nests as deep as the provenance.
+#[cycle(matching)]
+fn matches(
+    alloc: Global,
+    agreed: &Agreed,
+    image: &Image,
+    prov: &Pat,
+    view: &View,
+) -> Result<bool, ImageFault>
+    requires placed { AreInPlace image.now.blocks }
+    requires shown { IsShown image.now.blocks view.now }
+    ensures { IsGiven (λ so. so) (spec.matches agreed.now.covered.program.types agreed.now.layouts image.now.blocks
+        prov.now (shown view.now)) result }
+{
+    match prov {
+        Pat::Wild(_) => Ok(true),
+        Pat::Var(_, _) => Ok(true),
+        Pat::Num(_, _) => Ok(false),
+        Pat::Con(_, con, pats) => match open_data(view.here) {
+            None => match_con(alloc, agreed, image, *con, pats.as_slice(), view),
+            Some(ty) => {
+                let words = view.words_here(alloc, image, agreed.layouts(), ty)?;
+                let own = take_apart(alloc, agreed, ty, words)?;
+                match_con(alloc, agreed, image, *con, pats.as_slice(), &own.view())
+            }
+        },
+    }
+}
+
+// Whether this constructor stands at a position, with fields that the patterns match.
+#[cycle(matching)]
+fn match_con(
+    alloc: Global,
+    agreed: &Agreed,
+    image: &Image,
+    con: ConRef,
+    pats: &[Pat],
+    view: &View,
+) -> Result<bool, ImageFault>
+    requires placed { AreInPlace image.now.blocks }
+    requires shown { IsShown image.now.blocks view.now }
+    ensures { IsGiven (λ so. so) (spec.match_con agreed.now.covered.program.types con
+        (map (spec.matches agreed.now.covered.program.types agreed.now.layouts image.now.blocks) pats.now)
+        (shown view.now) (out-Pat view.now.here.pat.now)) result }
+{
+    match view.here.pat {
+        Pat::Wild(_) => Ok(false),
+        Pat::Var(_, _) => Ok(false),
+        Pat::Num(_, _) => Ok(false),
+        Pat::Con(_, own, _) => if same_con(con, *own) {
+            match_fields(alloc, agreed, image, pats, view)
+        } else {
+            Ok(false)
+        },
+    }
+}
+
+// Whether the patterns match the fields of the constructor at a position.
+#[cycle(matching)]
+fn match_fields(
+    alloc: Global,
+    agreed: &Agreed,
+    image: &Image,
+    pats: &[Pat],
+    view: &View,
+) -> Result<bool, ImageFault>
+    requires placed { AreInPlace image.now.blocks }
+    requires shown { IsShown image.now.blocks view.now }
+    ensures { IsGiven (λ so. so) (spec.match_fields agreed.now.covered.program.types
+        (map (spec.matches agreed.now.covered.program.types agreed.now.layouts image.now.blocks) pats.now)
+        (shown view.now) 0) result }
+{
+    let types = agreed.covered().program().types.as_slice();
+    for (i, pat) in pats.iter().enumerate() {
+        let field = field_number(i)?;
+        let at = longer(alloc, view.at, field as usize)?;
+        let Some(below) = view.down(image, types, at.as_slice(), field) else {
+            return Ok(false);
+        };
+        if !matches(alloc, agreed, image, pat, &below)? {
+            return Ok(false);
+        }
+    }
+    Ok(true)
+}
+
+fn is_memory(fault: ImageFault) -> bool
+    ensures { IsTrue result ↔ (fault ≡ Memory) }
+{
+    match fault {
+        ImageFault::ImageSyntax(_) => false,
+        ImageFault::ImageBlock(_) => false,
+        ImageFault::BadRoot(_) => false,
+        ImageFault::BadBits(_, _) => false,
+        ImageFault::BadPointer(_, _) => false,
+        ImageFault::ImageTooLarge => false,
+        ImageFault::NoSuchPart(_) => false,
+        ImageFault::Memory => true,
+    }
+}
+
+// The first of two faults.
+fn first_of(before: Option<ImageFault>, fault: ImageFault) -> Option<ImageFault>
+    ensures { result ≡ first_fault before fault }
+{
+    match before {
+        None => Some(fault),
+        Some(before) => Some(before),
+    }
+}
+
+/// The first of some leaves whose provenance is known to match what stands at a position. A fault that keeps one from
+/// being known is given only where none is known to match.
+pub(crate) fn choose<'a>(
+    alloc: Global,
+    agreed: &Agreed,
+    image: &Image,
+    leaves: &'a [Leaf],
+    view: &View,
+) -> Result<&'a Leaf, ImageFault>
+    requires placed { AreInPlace image.now.blocks }
+    requires shown { IsShown image.now.blocks view.now }
+    ensures { IsGiven (λ leaf. leaf.now) (spec.chosen agreed.now.covered.program.types agreed.now.layouts
+        image.now.blocks leaves.now (shown view.now)) result }
+{
+    let mut before = None;
+    for leaf in leaves {
+        match matches(alloc, agreed, image, &leaf.prov, view) {
+            Ok(so) => if so {
+                return Ok(leaf);
+            },
+            Err(fault) => {
+                if is_memory(fault) {
+                    return Err(fault);
+                }
+                before = first_of(before, fault);
+            }
+        }
+    }
+    match before {
+        None => Err(ImageFault::Memory),
+        Some(fault) => Err(fault),
+    }
+}

@@ -1,0 +1,88 @@
+//! Words of a leaf without pointers, made from the words of its fields.
+
+ghost use Rattle.std.specs.Prelude.{◌≡◌, IfOk, map, slice_index};
+ghost use Rattle.rb_layout.specs.Flattening.{same_path};
+ghost use Rattle.rb_coding.specs.inner.Packing.{made_of, word_made};
+ghost use Rattle.rb_rel.proofs.Packing.{number_of};
+ghost use Rattle.rb_image.specs.Rebuilds.{words_in};
+
+use crate::bits::{put_into, take_from};
+use rb_core::seq::Seq;
+use rb_layout::layout::{FlatWord, Kind, Part};
+use std::alloc::{AllocError, Global};
+
+/// The words of the field at a path.
+#[derive(Drop)]
+pub struct FieldWords {
+    pub path: Seq<u32>,
+    pub words: Seq<u64>,
+}
+
+fn same_path(own: &[u32], path: &[u32]) -> bool
+    ensures { result ≡ same_path own.now path.now }
+{
+    own == path
+}
+
+// The words of the first field at a path.
+fn words_in<'a>(fields: &'a [FieldWords], path: &[u32]) -> &'a [u64]
+    ensures { result.now ≡ words_in fields.now path.now }
+{
+    for field in fields {
+        if same_path(field.path.as_slice(), path) {
+            return field.words.as_slice();
+        }
+    }
+    &[]
+}
+
+fn item(words: &[u64], i: u64) -> u64
+    ensures { result ≡ slice_index words.now i }
+{
+    match words.get(i as usize) {
+        None => 0,
+        Some(number) => *number,
+    }
+}
+
+// What a part is to hold.
+fn number_of(part: &Part, fields: &[FieldWords]) -> u64
+    ensures { result ≡ number_of (words_in fields.now) (λ b. 0) part.now.l part.now.kind }
+{
+    match &part.kind {
+        Kind::Const(c) => *c,
+        Kind::Bits(path, a) => {
+            let integer = item(words_in(fields, path.as_slice()), 0);
+            take_from(integer, *a, part.l)
+        }
+        Kind::Word(path, j) => item(words_in(fields, path.as_slice()), *j),
+        Kind::Pointer(_, _) => 0,
+    }
+}
+
+// A word: its parts in their places, and 0 elsewhere.
+fn pack(parts: &[Part], fields: &[FieldWords]) -> u64
+    ensures { result ≡ made_of (words_in fields.now) (λ b. 0) parts.now }
+{
+    let mut word = 0;
+    for k in (0..parts.len()).rev() {
+        let part = &parts[k];
+        word = put_into(word, part.o, part.l, number_of(part, fields));
+    }
+    word
+}
+
+/// The words that the fields make.
+pub(crate) fn pack_all(
+    alloc: Global,
+    words: &[FlatWord],
+    fields: &[FieldWords],
+) -> Result<Seq<u64>, AllocError>
+    ensures { IfOk result (λ ws. ws ≡ map (word_made (words_in fields.now) (λ b. 0)) words.now) }
+{
+    let mut packed = Seq::new(alloc);
+    for word in words {
+        packed.push(pack(word.parts.as_slice(), fields))?;
+    }
+    Ok(packed)
+}

@@ -1,0 +1,87 @@
+//! Paths of field numbers from the root of an image, on which no word is at fault.
+
+ghost use Rattle.std.specs.Prelude.{◌+◌, ◌<◌, ◌≤◌, IfErr, IfOk, OnOk, length};
+ghost use Rattle.rb_core.specs.TypedPrograms.{IsTyped};
+ghost use Rattle.rb_core.specs.declared.types.Ty.TheVariants.{Named};
+ghost use Rattle.rb_image.specs.FieldSites.{AreWords};
+ghost use Rattle.rb_image.specs.Paths.{IsFaultless, IsPathFault, IsWalked};
+ghost use Rattle.rb_image.specs.Roots.{AllFit, kept_from, widths_of};
+ghost use Rattle.rb_image.specs.Values.{IsDeclared};
+ghost use Rattle.rb_image.specs.Walks as spec;
+ghost use Rattle.rb_image.specs.Walks.{ArePassed};
+ghost use Rattle.rb_image_text.specs.Places.{AreInPlace};
+
+use crate::below::word_count;
+use crate::check::{fault_of, words_of};
+use crate::fields::root_sites;
+use crate::walk::{Walk, tell_orderly, walk_along};
+use rb_edge::steps::{Ledger, Steps};
+use rb_image_text::fault::ImageFault;
+use rb_image_text::image::Image;
+use rb_layout::agreed::Agreed;
+use std::alloc::Global;
+
+// Tells that the program is typed.
+fn tell_typed(agreed: &Agreed)
+    ensures { IsTyped agreed.now.covered.program }
+{
+    let _ = agreed.covered().program();
+}
+
+// Tells that words have at most 64 bits.
+fn tell_words(words: &[u64])
+    ensures { AreWords words.now }
+{
+    for word in words {
+        let _ = *word;
+    }
+}
+
+/// Where a path of field numbers leads from the root of an image, whose words fit the type, if no word on the path is
+/// at fault. The words on a path are those of the root; those that the splits of each subvalue on it read, that at its
+/// end included; those that hold what comes next on it, or what is below that; and those whose pointers lead to any of
+/// these. Faults of other words are not seen. Each word is read by `read_word` alone; of each data type to which one
+/// comes no more of them than its splits and words are.
+///
+/// # Errors
+///
+/// The fault of a word on the path: `BadBits`, with the base and the place of the word, where no arm of a split of a
+/// subvalue on the path takes its bits, or a constant of its leaf differs in it; `BadPointer`, with the base of the
+/// pointer and the address, where such a split or leaf has a pointer in it that leads to no word or to no block of the
+/// leaf's size, or, from within a block, not below that block. `NoSuchPart`, with the number of the step, where the
+/// constructor found there has no such field, or an integer stands there. Or want of memory.
+pub fn follow_path<'a, L: Ledger>(
+    alloc: Global,
+    agreed: &'a Agreed,
+    image: &Image,
+    ty: u32,
+    path: &[u32],
+    steps: &mut Steps<L>,
+) -> Result<Walk<'a>, ImageFault>
+    requires placed { AreInPlace image.now.blocks }
+    requires declared { ty < length agreed.now.covered.program.types }
+    requires fit { AllFit (widths_of agreed.now.layouts (Named ty)) image.now.root }
+    ensures walk { IfOk result (IsWalked agreed.now.covered.program.types agreed.now.layouts image.now ty path.now) }
+    ensures passed { IfOk result (ArePassed image.now) }
+    ensures declared { IfOk result (λ walk. IsDeclared agreed.now.covered.program.types walk.here.ty) }
+    ensures sound { OnOk result
+        (IsFaultless agreed.now.covered.program.types agreed.now.layouts image.now ty path.now) }
+    ensures fault { IfErr result
+        (IsPathFault agreed.now.covered.program.types agreed.now.layouts image.now ty path.now) }
+    ensures least { steps.old.taken ≤ steps.new.taken }
+    ensures most { steps.new.taken ≤ steps.old.taken
+        + spec.walk_span agreed.now.covered.program.types agreed.now.layouts image.now.blocks
+        ty (kept_from 0 image.now.root) path.now }
+{
+    tell_orderly(agreed);
+    tell_typed(agreed);
+    tell_words(image.root.as_slice());
+    let count = word_count(agreed.layouts(), ty);
+    let sites = root_sites(alloc, count)?;
+    let walk = walk_along(alloc, agreed, image, ty, sites, path, steps)?;
+    let words = words_of(alloc, agreed, image, &walk)?;
+    match fault_of(alloc, image, &words, &walk)? {
+        None => Ok(walk),
+        Some(fault) => Err(fault),
+    }
+}

@@ -1,0 +1,212 @@
+//! Values that a leaf has taken apart, rebuilt in the layout of their own type.
+
+ghost use Rattle.std.specs.Prelude.{◌≡◌, ◌∷◌, [], IfOk, Ok};
+ghost use Rattle.rb_image.specs.Given.{IsGiven};
+ghost use Rattle.rb_image.specs.Rebuilds as spec;
+ghost use Rattle.rb_image.specs.Views.{integer_here, words_here};
+ghost use Rattle.rb_image.specs.Walks.{ArePassed, where_of};
+ghost use Rattle.rb_image.specs.inner.Standing.{IsShown, opens_at, shown};
+ghost use Rattle.rb_image_text.specs.Places.{AreInPlace};
+
+use crate::arrival::along;
+use crate::kept::Kept;
+use crate::matching::choose;
+use crate::opens::{OpenAt, opens};
+use crate::pack::{FieldWords, pack_all};
+use crate::view::View;
+use crate::walk::Walk;
+use crate::ways::refused_below;
+use rb_core::pattern::Pat;
+use rb_core::seq::Seq;
+use rb_core::types::Ty;
+use rb_image_text::fault::ImageFault;
+use rb_image_text::image::Image;
+use rb_layout::agreed::Agreed;
+use std::alloc::{AllocError, Global};
+
+/// The numbers of words.
+pub(crate) fn numbers_of(alloc: Global, words: &[Kept]) -> Result<Seq<u64>, AllocError>
+    ensures { IfOk result (λ numbers. numbers ≡ spec.numbers_of words.now) }
+{
+    let mut numbers = Seq::new(alloc);
+    for word in words {
+        numbers.push(word.number)?;
+    }
+    Ok(numbers)
+}
+
+// The one word of an integer. No integer has more than 64 bits.
+fn integer_word(alloc: Global, image: &Image, bits: u8, view: &View) -> Result<Seq<u64>, ImageFault>
+    requires placed { AreInPlace image.now.blocks }
+    requires shown { IsShown image.now.blocks view.now }
+    ensures { IsGiven (λ ws. ws) (Ok (integer_here image.now.blocks (shown view.now) bits ∷ [])) result }
+{
+    if bits > 64 {
+        return Err(ImageFault::Memory);
+    }
+    let mut words = Seq::new(alloc);
+    words.push(view.integer_here(alloc, image, u64::from(bits))?)?;
+    Ok(words)
+}
+
+// The words of a value that stands open at a position.
+fn open_words(
+    alloc: Global,
+    agreed: &Agreed,
+    image: &Image,
+    ty: u32,
+    view: &View,
+) -> Result<Seq<u64>, ImageFault>
+    requires placed { AreInPlace image.now.blocks }
+    requires shown { IsShown image.now.blocks view.now }
+    ensures { IsGiven (λ ws. ws)
+        (Ok (spec.numbers_of (words_here agreed.now.layouts image.now.blocks (shown view.now) ty))) result }
+{
+    let words = view.words_here(alloc, image, agreed.layouts(), ty)?;
+    let numbers = numbers_of(alloc, words.as_slice())?;
+    Ok(numbers)
+}
+
+// The words of a value of a data type that a leaf has taken apart, in the leaf whose provenance matches it. So many
+// types may be held one inside the other.
+#[cycle(rebuilding)]
+fn rebuild_within<'a>(
+    alloc: Global,
+    agreed: &'a Agreed,
+    image: &Image,
+    depth: usize,
+    ty: u32,
+    view: &View<'a>,
+) -> Result<Seq<u64>, ImageFault>
+    requires placed { AreInPlace image.now.blocks }
+    requires shown { IsShown image.now.blocks view.now }
+    ensures { IsGiven (λ ws. ws) (spec.rebuilt_within agreed.now.covered.program.types agreed.now.layouts
+        image.now.blocks depth ty (shown view.now)) result }
+{
+    if depth == 0 {
+        return Err(ImageFault::Memory);
+    }
+    let types = agreed.covered().program().types.as_slice();
+    let Some(layout) = agreed.layouts().get(ty as usize) else {
+        return Err(ImageFault::Memory);
+    };
+    let leaf = choose(alloc, agreed, image, layout.leaves.as_slice(), view)?;
+    let opens = opens(alloc, types, &leaf.prov)?;
+    let fields = fields_at(alloc, agreed, image, depth - 1, opens.as_slice(), view)?;
+    let words = pack_all(alloc, leaf.root.as_slice(), fields.as_slice())?;
+    Ok(words)
+}
+
+// The words of the fields at these positions.
+#[cycle(rebuilding)]
+fn fields_at<'a>(
+    alloc: Global,
+    agreed: &'a Agreed,
+    image: &Image,
+    depth: usize,
+    opens: &[OpenAt],
+    view: &View<'a>,
+) -> Result<Seq<FieldWords>, ImageFault>
+    requires placed { AreInPlace image.now.blocks }
+    requires shown { IsShown image.now.blocks view.now }
+    ensures { IsGiven (λ fields. fields)
+        (spec.fields_at agreed.now.covered.program.types agreed.now.layouts image.now.blocks
+        (spec.rebuilt_within agreed.now.covered.program.types agreed.now.layouts image.now.blocks depth)
+        (shown view.now) (opens_at opens.now)) result }
+{
+    let mut fields = Seq::new(alloc);
+    for open in opens {
+        let words = words_along(alloc, agreed, image, depth, open.path.as_slice(), view)?;
+        let path = open.path.copy(alloc)?;
+        fields.push(FieldWords { path, words })?;
+    }
+    Ok(fields)
+}
+
+// The words of what stands at a path below a position.
+#[cycle(rebuilding)]
+fn words_along<'a>(
+    alloc: Global,
+    agreed: &'a Agreed,
+    image: &Image,
+    depth: usize,
+    path: &[u32],
+    view: &View<'a>,
+) -> Result<Seq<u64>, ImageFault>
+    requires placed { AreInPlace image.now.blocks }
+    requires shown { IsShown image.now.blocks view.now }
+    ensures { IsGiven (λ ws. ws)
+        (spec.words_along agreed.now.covered.program.types agreed.now.layouts image.now.blocks
+        (spec.rebuilt_within agreed.now.covered.program.types agreed.now.layouts image.now.blocks depth)
+        (shown view.now) path.now) result }
+{
+    let end = along(alloc, agreed, image, view, path)?;
+    words_at(alloc, &*agreed, image, depth, &end.view())
+}
+
+// The words of what stands at a position.
+#[cycle(rebuilding)]
+fn words_at<'a>(
+    alloc: Global,
+    agreed: &'a Agreed,
+    image: &Image,
+    depth: usize,
+    view: &View<'a>,
+) -> Result<Seq<u64>, ImageFault>
+    requires placed { AreInPlace image.now.blocks }
+    requires shown { IsShown image.now.blocks view.now }
+    ensures { IsGiven (λ ws. ws)
+        (spec.words_at agreed.now.covered.program.types agreed.now.layouts image.now.blocks
+        (spec.rebuilt_within agreed.now.covered.program.types agreed.now.layouts image.now.blocks depth)
+        view.now.here.ty (shown view.now)) result }
+{
+    match view.here.ty {
+        Ty::Int(bits) => integer_word(alloc, image, bits, view),
+        Ty::Named(ty) => match view.here.pat {
+            Pat::Wild(_) => open_words(alloc, agreed, image, ty, view),
+            Pat::Var(_, _) => open_words(alloc, agreed, image, ty, view),
+            Pat::Num(_, _) => Err(ImageFault::Memory),
+            Pat::Con(_, _, _) => rebuild_within(alloc, agreed, image, depth, ty, view),
+        },
+    }
+}
+
+/// The words of the subvalue at the end of a walk, where that is inside a leaf. An integer is one word. A constructor
+/// that the provenance has there is rebuilt: in the layout of its own type, in the leaf whose provenance matches it, it
+/// has the words that its fields make, and 0 in each bit of which no part says anything. To know that leaf may take the
+/// leaves of values that stand open below; what such a leaf leaves open is copied as it stands. A type that a leaf
+/// takes apart has no pointers, so nothing is read for that: all bits are in words of the last leaf.
+///
+/// # Errors
+///
+/// The first fault below the end: `BadPointer` for the first pointer on the way to what stands there that leads to no
+/// block of the leaf's size, or, from within a block, not below that block; `BadBits` where no arm of a split takes the
+/// bits of a value whose leaf has to be known, or a constant of that leaf differs. Or want of memory.
+pub fn rebuild(
+    alloc: Global,
+    agreed: &Agreed,
+    image: &Image,
+    walk: &Walk,
+) -> Result<Vec<u64>, ImageFault>
+    requires placed { AreInPlace image.now.blocks }
+    requires passed { ArePassed image.now walk.now }
+    ensures { IsGiven (λ found. found.items) (spec.rebuilt agreed.now.covered.program.types agreed.now.layouts
+        image.now.blocks (where_of walk.now)) result }
+{
+    let last = &walk.last;
+    let leaf = last.visited.leaf;
+    let words = &last.visited.words;
+    match refused_below(alloc, image, leaf, words, last.at.as_slice())? {
+        None => {}
+        Some(fault) => return Err(fault),
+    }
+    let view = View {
+        leaf,
+        words,
+        at: last.at.as_slice(),
+        here: walk.here,
+    };
+    let depth = agreed.layouts().len();
+    let rebuilt = words_at(alloc, agreed, image, depth, &view)?;
+    Ok(rebuilt.into_vec())
+}

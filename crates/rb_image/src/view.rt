@@ -1,0 +1,111 @@
+//! Positions in leaves, the words of which were read.
+
+ghost use Rattle.std.specs.Prelude.{◌≡◌, ◌++◌, ◌∷◌, [], ◌≤◌, IfOk, IfSome};
+ghost use Rattle.rb_image.specs.Parts.{field_word, field_words};
+ghost use Rattle.rb_image.specs.Orders.{order_of};
+ghost use Rattle.rb_image.specs.Views as spec;
+ghost use Rattle.rb_image.specs.inner.Standing.{IsShown, shown, shown_option};
+ghost use Rattle.rb_image.specs.inner.Viewing.{spots_of};
+ghost use Rattle.rb_image_text.specs.Places.{AreInPlace};
+
+use crate::below::{holds, word_count};
+use crate::inside::{Inside, field_of};
+use crate::integers::integer_at;
+use crate::kept::Kept;
+use crate::leaf_words::LeafWords;
+use crate::order::{Spot, order_of};
+use rb_core::types::DataDecl;
+use rb_image_text::image::Image;
+use rb_layout::layout::{Layout, Leaf};
+use std::alloc::{AllocError, Global};
+
+/// A position in a leaf: the leaf and its words, the path of field numbers from its root, and what its provenance has
+/// there.
+#[derive(Clone, Copy, Drop)]
+pub struct View<'a> {
+    pub leaf: &'a Leaf,
+    pub words: &'a LeafWords,
+    pub at: &'a [u32],
+    pub here: Inside<'a>,
+}
+
+impl<'a> View<'a> {
+    // A word of the field that stands here: the part that holds it.
+    fn word(&self, image: &Image, order: &[Spot], number: u64) -> Kept
+        requires placed { AreInPlace image.now.blocks }
+        requires shown { IsShown image.now.blocks self.now }
+        requires order { spots_of order.now ≡ order_of self.now.leaf.now }
+        ensures { result ≡ field_word image.now.blocks self.now.words.now.root.items
+            self.now.words.now.addresses.items (spots_of order.now) self.now.at.now number }
+    {
+        for spot in order {
+            if holds(&spot.part.kind, self.at, number) {
+                return self.words.bits(spot);
+            }
+        }
+        Kept {
+            number: 0,
+            base: 0,
+            place: 0,
+        }
+    }
+
+    /// The words of the value of a data type that stands here.
+    pub(crate) fn words_here(
+        &self,
+        alloc: Global,
+        image: &Image,
+        layouts: &[Layout],
+        ty: u32,
+    ) -> Result<Vec<Kept>, AllocError>
+        requires placed { AreInPlace image.now.blocks }
+        requires shown { IsShown image.now.blocks self.now }
+        ensures { IfOk result
+            (λ words. words.items ≡ spec.words_here layouts.now image.now.blocks (shown self.now) ty) }
+    {
+        let order = order_of(alloc, self.leaf)?;
+        let count = word_count(layouts, ty);
+        let mut words = Vec::new(alloc);
+        for number in 0..count {
+            words.push(self.word(image, order.as_slice(), number as u64))?;
+        }
+        Ok(words)
+    }
+
+    /// The integer that stands here.
+    pub(crate) fn integer_here(
+        &self,
+        alloc: Global,
+        image: &Image,
+        bits: u64,
+    ) -> Result<u64, AllocError>
+        requires placed { AreInPlace image.now.blocks }
+        requires shown { IsShown image.now.blocks self.now }
+        requires narrow { bits ≤ 64 }
+        ensures { IfOk result (λ number. number ≡ spec.integer_here image.now.blocks (shown self.now) bits) }
+    {
+        integer_at(alloc, image, self.leaf, self.words, self.at, bits)
+    }
+
+    /// The position of a field of the constructor here, where there is one: `at` is its path.
+    pub(crate) fn down<'b>(
+        &'b self,
+        image: &Image,
+        types: &[DataDecl],
+        at: &'b [u32],
+        field: u32,
+    ) -> Option<View<'b>>
+        requires shown { IsShown image.now.blocks self.now }
+        requires at { at.now ≡ self.now.at.now ++ field ∷ [] }
+        ensures below { shown_option result ≡ spec.down types.now (shown self.now) field }
+        ensures shown { IfSome result (IsShown image.now.blocks) }
+    {
+        let here = field_of(types, self.here.pat, field)?;
+        Some(View {
+            leaf: self.leaf,
+            words: self.words,
+            at,
+            here,
+        })
+    }
+}
