@@ -4,10 +4,12 @@ use Rattle.std.specs.Fmt.{decimal}
 use Rattle.std.specs.List.{All}
 use Rattle.std.proofs.lemmas.Fmt.{decimal_injective}
 use Rattle.std.proofs.lemmas.List.Elements.{All-head, All-tail}
-use Rattle.rb_command.specs.Command.{Limits, Command, Parsed, AreLimits, IsWordsOf, AreCommand, IsParsed, words_of, check, layout, compile, run, image, count, gen, genrun, exec, value}
+use Rattle.rb_command.specs.Command.{Limits, Command, Parsed, AreLimits, IsWordsOf, AreCommand, IsParsed, words_of, check, layout, compile, run, image, count, gen, genrun, exec, value, peek}
+use Rattle.rb_command.specs.Path.{path_text}
 use Rattle.rb_command.specs.inner.Parsing.{command_of}
+use Rattle.rb_command.proofs.Paths.{one_path}
 use Rattle.rb_command.proofs.Stopping.{one_stop, stops_none}
-use Rattle.rb_command.proofs.Worded.{of_check, of_layout, of_compile, of_run, of_image, of_count, of_gen, of_genrun, of_exec, of_value, is_parsed}
+use Rattle.rb_command.proofs.Worded.{of_check, of_layout, of_compile, of_run, of_image, of_count, of_gen, of_genrun, of_exec, of_value, of_peek, is_parsed}
 
 -- One command -------------------------------------------------------------------------------
 
@@ -65,6 +67,9 @@ one_command (exec code function limits words) d h k =
     let alike = same_numbers words r.3.3.0 h.bounded.1 r.3.3.1 r.3.3.2 in
     ap (λ (l : Limits). exec code function l words) same ∙ ap (λ (ns : List ℕ). exec code function (record { calls = r.0; region = r.3.0 }) ns) alike ∙ sym r.3.3.3
 one_command (value file second) d h k = sym (of_value (file ∷ second ∷ []) d k)
+one_command (peek file second path) d h k =
+    let r = of_peek (file ∷ second ∷ path_text path ∷ []) d k in
+    ap (λ (p : List ℕ). peek file second p) (one_path path r.0 h.bounded r.1 r.2) ∙ sym r.3
 
 -- One word at fault -------------------------------------------------------------------------
 

@@ -1,56 +1,23 @@
 -- What reading words one after the other comes to: the command that they are, or the word where they stop.
-use Rattle.std.proofs.Common.{◌≡◌, ◌≤◌, ◌<◌, ◌+◌, ◌-◌, ◌^◌, ℕ, suc, List, [], ◌∷◌, codes, map, refl, sym, ap, subst, ◌∙◌, arith, Bool, true, false, ◌&&◌, nat_le, if◌then◌else◌, Option, Some, None, Result, Ok, Err, MatchResult, leb-true, le-leb}
+use Rattle.std.proofs.Common.{◌≡◌, ◌≤◌, ◌<◌, ◌+◌, ◌-◌, ◌^◌, ℕ, suc, List, [], ◌∷◌, codes, map, refl, sym, ap, subst, ◌∙◌, arith, Bool, true, false, if◌then◌else◌, Option, Some, None, Result, Ok, Err, MatchResult}
 use Rattle.std.specs.Fmt.{decimal}
 use Rattle.std.specs.List.{All}
 use Rattle.std.specs.Str.{bytes_eq}
-use Rattle.std.specs.Str.Parse.{digits_value}
 use Rattle.std.proofs.lemmas.Bool.Decides.{Decides-eqb}
 use Rattle.std.proofs.lemmas.Fmt.{decimal_injective}
 use Rattle.std.proofs.lemmas.List.Elements.{All-nil, All-cons, All-head, All-tail}
 use Rattle.std.proofs.lemmas.Slice.Eq.{slice_eq-Decides}
-use Rattle.rb_core.specs.Decimal.{is_numeral, number_in}
-use Rattle.rb_core.proofs.Decimals.{numeral_spelled, numeral-decimal, value-decimal}
-use Rattle.rb_command.specs.Command.{Limits, Command, Parsed, IsBetween, AreLimits, IsWordsOf, IsParsed, words_of, check, layout, compile, run, image, count, gen, genrun, exec, value}
+use Rattle.rb_core.specs.Decimal.{number_in}
+use Rattle.rb_command.specs.Command.{Limits, Command, Parsed, IsBetween, AreLimits, IsWordsOf, IsParsed, words_of, check, layout, compile, run, image, count, gen, genrun, exec, value, peek}
+use Rattle.rb_command.specs.Path.{AreSteps, path_text}
 use Rattle.rb_command.specs.View.{command_view, IsUsage}
 use Rattle.rb_command.specs.declared.command.Command as declared
 use Rattle.rb_command.specs.declared.command.CommandFault.{CommandFault}
 use Rattle.rb_command.specs.declared.command.CommandFault.TheVariants as fault
-use Rattle.rb_command.specs.inner.Parsing.{with_word, at_number, with_number, with_limits, alone, with_call, gen_words, genrun_words, first_number, numbers_from, exec_of, function_words, exec_words, value_words, command_of, StopsAs}
+use Rattle.rb_command.specs.inner.Parsing.{with_word, at_number, with_number, with_limits, alone, with_call, gen_words, genrun_words, first_number, numbers_from, exec_of, function_words, exec_words, value_words, path_in, at_path, with_path, peek_words, command_of, StopsAs}
+use Rattle.rb_command.proofs.Numbered.{spelled, read, same}
+use Rattle.rb_command.proofs.Paths.{path_spelled, path_read, one_path}
 use Rattle.rb_command.proofs.Stopping.{Stops, stops-short, stops-first, stops-next}
-
--- Numbers as words --------------------------------------------------------------------------
-
-both : (a b : Bool) → (a && b) ≡ true → (a ≡ true) × (b ≡ true)
-both true b e = (refl, e)
-both false b e = absurd (cc e)
-
-if-some : (c : Bool) (v n : ℕ) → (if c then Some v else None) ≡ Some n → (c ≡ true) × (v ≡ n)
-if-some true v n e = (refl, cc)
-if-some false v n e = absurd (cc e)
-
-module _ (low high : ℕ) (small : high < 2 ^ 64) where
-  spelled : (w : List ℕ) (n : ℕ) → number_in low high w ≡ Some n → IsBetween low high n × (w ≡ decimal n)
-  spelled w n e =
-      let v = digits_value 10 w in
-      let c : ((is_numeral w && (nat_le low v && nat_le v high)) ≡ true) × (v ≡ n) = if-some (is_numeral w && (nat_le low v && nat_le v high)) v n e in
-      let d : (is_numeral w ≡ true) × ((nat_le low v && nat_le v high) ≡ true) = both (is_numeral w) (nat_le low v && nat_le v high) c.0 in
-      let r : (nat_le low v ≡ true) × (nat_le v high ≡ true) = both (nat_le low v) (nat_le v high) d.1 in
-      let least : low ≤ v = leb-true low v r.0 in
-      let most : v ≤ high = leb-true v high r.1 in
-      let text : decimal v ≡ w = numeral_spelled w d.0 (omega (arith, most, small)) in
-      (subst (λ (k : ℕ). IsBetween low high k) c.1 (least, most), sym text ∙ ap decimal c.1)
-
-  read : (n : ℕ) → IsBetween low high n → number_in low high (decimal n) ≡ Some n
-  read n b =
-      let fits : n < 2 ^ 64 = omega (arith, b.1, small) in
-      let v : digits_value 10 (decimal n) ≡ n = value-decimal n fits in
-      let numeral : is_numeral (decimal n) ≡ true = numeral-decimal n fits in
-      let least : nat_le low (digits_value 10 (decimal n)) ≡ true = le-leb low (digits_value 10 (decimal n)) (omega (arith, b.0, v)) in
-      let most : nat_le (digits_value 10 (decimal n)) high ≡ true = le-leb (digits_value 10 (decimal n)) high (omega (arith, b.1, v)) in
-      rw (numeral, least, most) (ap Some v)
-
-  same : (n m : ℕ) → IsBetween low high n → IsBetween low high m → decimal n ≡ decimal m → n ≡ m
-  same n m b d e = decimal_injective n m (omega (arith, b.1, small)) (omega (arith, d.1, small)) e
 
 -- Forms of words ----------------------------------------------------------------------------
 
@@ -63,6 +30,11 @@ Word Q (w ∷ ws) c = Q w ws c
 abbrev pub Number : ℕ → ℕ → (ℕ → List (List ℕ) → Command → Type 0) → List (List ℕ) → Command → Type 0
 Number low high Q [] c = ⊥
 Number low high Q (w ∷ ws) c = (n : ℕ) × IsBetween low high n × (w ≡ decimal n) × Q n ws c
+
+-- a word that spells a path, and a form behind it
+abbrev pub Way : (List ℕ → List (List ℕ) → Command → Type 0) → List (List ℕ) → Command → Type 0
+Way Q [] c = ⊥
+Way Q (w ∷ ws) c = (path : List ℕ) × AreSteps path × (w ≡ path_text path) × Q path ws c
 
 -- CALLS and REGION, and a form behind them
 abbrev pub Limited : (Limits → List (List ℕ) → Command → Type 0) → List (List ℕ) → Command → Type 0
@@ -136,6 +108,22 @@ module _ (low high : ℕ) (order : low ≤ high) (Q : ℕ → List (List ℕ) �
     reads_number : (ws : List (List ℕ)) → Reads (Number low high Q) n ws (with_number n low high ws go)
     reads_number [] = short_stops (Number low high Q) n some_number (λ c k. k)
     reads_number (w ∷ us) = by_number w us (number_in low high w) refl
+
+module _ (Q : List ℕ → List (List ℕ) → Command → Type 0) (some : Inhabited (Q [])) (n : ℕ) (go : List ℕ → List (List ℕ) → Parsed)
+    (h : (path : List ℕ) → AreSteps path → (us : List (List ℕ)) → Reads (Q path) (n + 1) us (go path us)) where
+  some_path : Inhabited (Way Q)
+  some_path = (path_text [] ∷ some.0, some.1, ([], All-nil (λ step. step < 2 ^ 32), refl, some.2))
+
+  by_path : (w : List ℕ) (us : List (List ℕ)) (o : Option (List ℕ)) → path_in w ≡ o → Reads (Way Q) n (w ∷ us) (at_path n o (λ path. go path us))
+  by_path w us None e = first_stops (Way Q) n w us some_path (λ vs c k. absurd (cc (sym e ∙ ap path_in k.2 ∙ path_read k.0 k.1)))
+  by_path w us (Some path) e =
+      let is = path_spelled w path e in
+      later (Way Q) (Q path) n w us (go path us) (λ vs c q. (path, is.0, is.1, q))
+      (λ vs c r. subst (λ (steps : List ℕ). Q steps vs c) (one_path r.0 path r.1 is.0 (sym r.2 ∙ is.1)) r.3) (h path is.0 us)
+
+  reads_path : (ws : List (List ℕ)) → Reads (Way Q) n ws (with_path n ws go)
+  reads_path [] = short_stops (Way Q) n some_path (λ c k. k)
+  reads_path (w ∷ us) = by_path w us (path_in w) refl
 
 abbrev limits_of : ℕ → ℕ → Limits
 limits_of calls region = record { calls = calls; region = region }
@@ -221,6 +209,7 @@ key_of (gen functions) = codes "gen"
 key_of (genrun functions limits) = codes "genrun"
 key_of (exec code function limits words) = codes "exec"
 key_of (value file second) = codes "value"
+key_of (peek file second path) = codes "peek"
 
 abbrev FileForm : (List ℕ → Command) → List (List ℕ) → Command → Type 0
 FileForm f = Word (λ file. End (f file))
@@ -239,6 +228,9 @@ ExecForm = Word (λ code. Word (λ function. Limited (λ limits. Numbers (λ wor
 
 abbrev ValueForm : List (List ℕ) → Command → Type 0
 ValueForm = Word (λ file. Word (λ second. End (value file second)))
+
+abbrev PeekForm : List (List ℕ) → Command → Type 0
+PeekForm = Word (λ file. Word (λ second. Way (λ path. End (peek file second path))))
 
 reads_file : (f : List ℕ → Command) (ws : List (List ℕ)) → Reads (FileForm f) 2 ws (with_word 2 ws (λ file us. alone 3 (f file) us))
 reads_file f ws = reads_word (λ file. End (f file)) 2 ws (λ file us. alone 3 (f file) us) (some_end (f [])) (λ file us. reads_end (f file) 3 us)
@@ -288,6 +280,19 @@ reads_value ws =
     (let s = some_end (value [] []) in ([] ∷ s.0, s.1, s.2))
     (λ file us. reads_word (λ second. End (value file second)) 3 us (λ second rest. alone 4 (value file second) rest) (some_end (value file []))
     (λ second rest. reads_end (value file second) 4 rest))
+
+reads_peek : (ws : List (List ℕ)) → Reads PeekForm 2 ws (peek_words ws)
+reads_peek ws =
+    reads_word (λ file. Word (λ second. Way (λ path. End (peek file second path)))) 2 ws
+    (λ file us. with_word 3 us (λ second vs. with_path 4 vs (λ path rest. alone 5 (peek file second path) rest)))
+    (let s = some_way [] [] in ([] ∷ s.0, s.1, s.2))
+    (λ file us. reads_word (λ second. Way (λ path. End (peek file second path))) 3 us
+    (λ second vs. with_path 4 vs (λ path rest. alone 5 (peek file second path) rest)) (some_way file [])
+    (λ second vs. reads_path (λ path. End (peek file second path)) (some_end (peek file second [])) 4 (λ path rest. alone 5 (peek file second path) rest)
+    (λ path steps rest. reads_end (peek file second path) 5 rest) vs))
+  where
+    some_way : (file second : List ℕ) → Inhabited (Way (λ path. End (peek file second path)))
+    some_way file second = (path_text [] ∷ [], peek file second [], ([], All-nil (λ step. step < 2 ^ 32), refl, refl))
 
 -- The forms are those of the commands' words ------------------------------------------------
 
@@ -342,6 +347,14 @@ to_value (file ∷ []) c h = absurd h
 to_value (file ∷ second ∷ []) c h = subst (λ (d : Command). IsWordsOf d (codes "value" ∷ file ∷ second ∷ [])) (sym h) (record { bounded = tt; written = refl })
 to_value (file ∷ second ∷ w ∷ ws) c h = absurd h
 
+to_peek : (ws : List (List ℕ)) (c : Command) → PeekForm ws c → IsWordsOf c (codes "peek" ∷ ws)
+to_peek [] c h = absurd h
+to_peek (file ∷ []) c h = absurd h
+to_peek (file ∷ second ∷ []) c h = absurd h
+to_peek (file ∷ second ∷ w ∷ []) c h =
+    subst (λ (d : Command). IsWordsOf d (codes "peek" ∷ file ∷ second ∷ w ∷ [])) (sym h.3) (record { bounded = h.1; written = cc (h.2) })
+to_peek (file ∷ second ∷ w ∷ v ∷ ws) c h = absurd h.3
+
 -- to its form
 
 -- the first word
@@ -356,6 +369,7 @@ begun (gen functions) w ws e = cc
 begun (genrun functions limits) w ws e = cc
 begun (exec code function limits words) w ws e = cc
 begun (value file second) w ws e = cc
+begun (peek file second path) w ws e = cc
 
 is_key : (w key : List ℕ) → bytes_eq w key ≡ true → w ≡ key
 is_key w key e = (slice_eq-Decides Decides-eqb w key (bytes_eq w key) refl).0 e
@@ -421,6 +435,11 @@ module _ (ws : List (List ℕ)) where
   of_value (value file second) h = subst (λ (us : List (List ℕ)). ValueForm us (value file second)) (behind _ ws _ h.written) refl
   of_value c h = absurd (other_key (codes "value") ws c refl h)
 
+  pub of_peek : (c : Command) → IsWordsOf c (codes "peek" ∷ ws) → PeekForm ws c
+  of_peek (peek file second path) h =
+      subst (λ (us : List (List ℕ)). PeekForm us (peek file second path)) (behind _ ws _ h.written) (path, h.bounded, refl, refl)
+  of_peek c h = absurd (other_key (codes "peek") ws c refl h)
+
 -- Words as a whole --------------------------------------------------------------------------
 
 never_empty : (c : Command) → [] ≡ words_of c → ⊥
@@ -434,6 +453,7 @@ never_empty (gen functions) e = absurd (cc e)
 never_empty (genrun functions limits) e = absurd (cc e)
 never_empty (exec code function limits words) e = absurd (cc e)
 never_empty (value file second) e = absurd (cc e)
+never_empty (peek file second path) e = absurd (cc e)
 
 choose : (w key : List ℕ) (ws : List (List ℕ)) (Q : List (List ℕ) → Command → Type 0) (p q : Parsed)
     → ((us : List (List ℕ)) (c : Command) → Q us c → IsWordsOf c (key ∷ us)) → ((us : List (List ℕ)) (c : Command) → IsWordsOf c (key ∷ us) → Q us c)
@@ -448,7 +468,8 @@ some_written = (codes "check" ∷ [] ∷ [], check [], record { bounded = tt; wr
 
 module _ (w : List ℕ) (ws : List (List ℕ)) (check_not : w ≡ codes "check" → ⊥) (layout_not : w ≡ codes "layout" → ⊥) (compile_not : w ≡ codes "compile" → ⊥)
     (run_not : w ≡ codes "run" → ⊥) (image_not : w ≡ codes "image" → ⊥) (count_not : w ≡ codes "count" → ⊥) (gen_not : w ≡ codes "gen" → ⊥)
-    (genrun_not : w ≡ codes "genrun" → ⊥) (exec_not : w ≡ codes "exec" → ⊥) (value_not : w ≡ codes "value" → ⊥) where
+    (genrun_not : w ≡ codes "genrun" → ⊥) (exec_not : w ≡ codes "exec" → ⊥) (value_not : w ≡ codes "value" → ⊥)
+    (peek_not : w ≡ codes "peek" → ⊥) where
   no_key : (c : Command) → w ≡ key_of c → ⊥
   no_key (check file) e = check_not e
   no_key (layout file) e = layout_not e
@@ -460,6 +481,7 @@ module _ (w : List ℕ) (ws : List (List ℕ)) (check_not : w ≡ codes "check" 
   no_key (genrun functions limits) e = genrun_not e
   no_key (exec code function limits words) e = exec_not e
   no_key (value file second) e = value_not e
+  no_key (peek file second path) e = peek_not e
 
   unknown : Reads Written 1 (w ∷ ws) (Err 1)
   unknown = first_stops Written 1 w ws some_written (λ us c h. no_key c (begun c w us h.written))
@@ -478,7 +500,8 @@ reads_command (w ∷ ws) =
     choose w _ ws GenRunForm _ _ to_genrun of_genrun (reads_genrun ws) (λ n7.
     choose w _ ws ExecForm _ _ to_exec of_exec (reads_exec ws) (λ n8.
     choose w _ ws ValueForm _ _ to_value of_value (reads_value ws) (λ n9.
-    unknown w ws n0 n1 n2 n3 n4 n5 n6 n7 n8 n9))))))))))
+    choose w _ ws PeekForm _ _ to_peek of_peek (reads_peek ws) (λ n10.
+    unknown w ws n0 n1 n2 n3 n4 n5 n6 n7 n8 n9 n10)))))))))))
 
 -- what is read is what the words come to
 pub is_parsed : (words : List (List ℕ)) → IsParsed words (command_of words)

@@ -5,6 +5,7 @@ use Rattle.std.specs.List.{All}
 use Rattle.rb_bytes.specs.Memory.{most_region}
 use Rattle.rb_core.specs.Limits.{most_calls}
 use Rattle.rb_core.specs.Stopping.{StopsAtIn}
+use Rattle.rb_command.specs.Path.{AreSteps, path_text}
 
 -- CALLS and REGION: how many calls a run may make, and the address at which its memory ends
 pub record Limits : Type 0 where
@@ -22,6 +23,7 @@ pub data Command : Type 0 where
   genrun : (functions : ℕ) → (limits : Limits) → Command
   exec : (code : List ℕ) → (function : List ℕ) → (limits : Limits) → (words : List ℕ) → Command
   value : (file : List ℕ) → (image : List ℕ) → Command
+  peek : (file : List ℕ) → (image : List ℕ) → (path : List ℕ) → Command
 
 -- Commands as words -------------------------------------------------------------------------
 
@@ -50,6 +52,7 @@ IsWithinBounds (gen functions) = IsFunctionCount functions
 IsWithinBounds (genrun functions limits) = IsFunctionCount functions × AreLimits limits
 IsWithinBounds (exec code function limits words) = AreLimits limits × All (λ word. word < 2 ^ 64) words
 IsWithinBounds (value file second) = Unit {0}
+IsWithinBounds (peek file second path) = AreSteps path
 
 -- CALLS and REGION, and the words behind them
 abbrev pub with_limits : Limits → List (List ℕ) → List (List ℕ)
@@ -67,6 +70,7 @@ words_of (gen functions) = codes "gen" ∷ decimal functions ∷ []
 words_of (genrun functions limits) = codes "genrun" ∷ decimal functions ∷ with_limits limits []
 words_of (exec code function limits words) = codes "exec" ∷ code ∷ function ∷ with_limits limits (map decimal words)
 words_of (value file second) = codes "value" ∷ file ∷ second ∷ []
+words_of (peek file second path) = codes "peek" ∷ file ∷ second ∷ path_text path ∷ []
 
 pub record IsWordsOf (command : Command) (words : List (List ℕ)) : Type 0 where
   pub bounded : IsWithinBounds command

@@ -1,4 +1,5 @@
 pub mod Command
 pub mod Laws
+pub mod Path
 pub mod View
 pub mod inner

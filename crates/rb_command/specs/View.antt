@@ -1,6 +1,6 @@
 -- What is read of words, as the definitions see it.
 use Rattle.std.specs.Prelude.{ℕ, List}
-use Rattle.rb_command.specs.Command.{Command, Limits, IsUsageAt, check, layout, compile, run, image, count, gen, genrun, exec, value}
+use Rattle.rb_command.specs.Command.{Command, Limits, IsUsageAt, check, layout, compile, run, image, count, gen, genrun, exec, value, peek}
 use Rattle.rb_command.specs.declared.command.Command as declared
 use Rattle.rb_command.specs.declared.command.Command.TheVariants as form
 use Rattle.rb_command.specs.declared.command.CommandFault.{CommandFault}
@@ -21,6 +21,7 @@ command_view (form.Gen functions) = gen functions.count
 command_view (form.GenRun functions limits) = genrun functions.count (limits_view limits)
 command_view (form.Exec code function limits words) = exec code.now function.now (limits_view limits) words
 command_view (form.Value file second) = value file.now second.now
+command_view (form.Peek file second path) = peek file.now second.now path
 
 -- words that are no command: the number of the first at fault, or memory ran out
 abbrev pub IsUsage : List (List ℕ) → CommandFault → Type 0

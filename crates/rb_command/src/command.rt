@@ -4,9 +4,10 @@ ghost use Rattle.std.specs.Prelude.{◌≡◌, ◌≤◌, List, MatchResult, Ok,
 ghost use Rattle.rb_command.specs.declared.command.CommandFault.TheVariants.{Memory};
 ghost use Rattle.rb_command.specs.Command.{Command as CommandValue, IsWordsOf, Limits as LimitsValue, Parsed};
 ghost use Rattle.rb_command.specs.View.{command_view, limits_view, IsUsage};
-ghost use Rattle.rb_command.specs.inner.Parsing.{check_words, command_of, compile_words, count_words, exec_words, function_words, gen_words, genrun_words, image_words, layout_words, numbers_from, run_words, value_words, with_call, with_functions, with_limits, StopsAs};
+ghost use Rattle.rb_command.specs.inner.Parsing.{check_words, command_of, compile_words, count_words, exec_words, function_words, gen_words, genrun_words, image_words, layout_words, numbers_from, peek_words, run_words, value_words, with_call, with_functions, with_limits, StopsAs};
 
 use crate::limits::{Functions, Limits};
+use crate::path::parse_path;
 use rb_bytes::memory::MOST_REGION;
 use rb_core::decimal::number_in;
 use rb_core::limits::MOST_CALLS;
@@ -68,6 +69,12 @@ pub enum Command<'a> {
     Value {
         file: &'a [u8],
         image: &'a [u8],
+    },
+    /// The part of such a value at a path.
+    Peek {
+        file: &'a [u8],
+        image: &'a [u8],
+        path: Seq<u32>,
     },
 }
 
@@ -311,6 +318,32 @@ fn parse_value<'a>(words: &'a [Name]) -> Result<Command<'a>, CommandFault>
     }
 }
 
+// The words behind `peek`.
+fn parse_peek<'a>(alloc: Global, words: &'a [Name]) -> Result<Command<'a>, CommandFault>
+    ensures { MatchResult result (λ c. peek_words words.now ≡ Ok (command_view c)) (StopsAs (peek_words words.now)) }
+{
+    let [file, words @ ..] = words else {
+        return Err(CommandFault::Usage(2));
+    };
+    let [image, words @ ..] = words else {
+        return Err(CommandFault::Usage(3));
+    };
+    let [word, rest @ ..] = words else {
+        return Err(CommandFault::Usage(4));
+    };
+    let Some(path) = parse_path(alloc, word.as_slice())? else {
+        return Err(CommandFault::Usage(4));
+    };
+    match rest {
+        [] => Ok(Command::Peek {
+            file: file.as_slice(),
+            image: image.as_slice(),
+            path,
+        }),
+        [_, ..] => Err(CommandFault::Usage(5)),
+    }
+}
+
 // The command of the words, read one after the other.
 #[tactic(auto, unfolding(crate::specs::inner::Parsing::command_of))]
 fn read_words<'a>(alloc: Global, words: &'a [Name]) -> Result<Command<'a>, CommandFault>
@@ -348,6 +381,9 @@ fn read_words<'a>(alloc: Global, words: &'a [Name]) -> Result<Command<'a>, Comma
             }
             if first.as_slice() == b"value".as_slice() {
                 return parse_value(rest);
+            }
+            if first.as_slice() == b"peek".as_slice() {
+                return parse_peek(alloc, rest);
             }
             Err(CommandFault::Usage(1))
         }

@@ -1,6 +1,6 @@
 //! Command lines, read as commands.
 //!
-//! The words of a command line spell one of ten commands, as `run list.rib 100 4096 7`:
+//! The words of a command line spell one of eleven commands, as `run list.rib 100 4096 7`:
 //!
 //! ```text
 //! word 1   run         the command
@@ -22,3 +22,4 @@
 pub mod command;
 pub mod laws;
 pub mod limits;
+mod path;

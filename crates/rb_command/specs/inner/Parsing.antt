@@ -1,10 +1,10 @@
 -- Words read one after the other, with the number of the first that is at fault. What it comes to is `IsParsed`.
-use Rattle.std.specs.Prelude.{◌≡◌, ℕ, ◌+◌, ◌-◌, ◌^◌, List, [], ◌∷◌, codes, Option, Some, None, Result, Ok, Err, if◌then◌else◌}
+use Rattle.std.specs.Prelude.{◌≡◌, ℕ, ◌+◌, ◌-◌, ◌^◌, List, [], ◌∷◌, ◌++◌, ◌==◌, codes, Option, Some, None, Result, Ok, Err, if◌then◌else◌}
 use Rattle.std.specs.Str.{bytes_eq}
 use Rattle.rb_bytes.specs.Memory.{most_region}
 use Rattle.rb_core.specs.Decimal.{number_in}
 use Rattle.rb_core.specs.Limits.{most_calls}
-use Rattle.rb_command.specs.Command.{Limits, Command, Parsed, most_generated, check, layout, compile, run, image, count, gen, genrun, exec, value}
+use Rattle.rb_command.specs.Command.{Limits, Command, Parsed, most_generated, check, layout, compile, run, image, count, gen, genrun, exec, value, peek}
 use Rattle.rb_command.specs.declared.command.CommandFault.{CommandFault}
 use Rattle.rb_command.specs.declared.command.CommandFault.TheVariants as fault
 
@@ -100,6 +100,42 @@ exec_words words = with_word 2 words (λ code ws. function_words code ws)
 abbrev pub value_words : List (List ℕ) → Parsed
 value_words words = with_word 2 words (λ file ws. with_word 3 ws (λ second rest. alone 4 (value file second) rest))
 
+-- the step that digits write
+abbrev pub step_in : List ℕ → Option ℕ
+step_in digits = number_in 0 (2 ^ 32 - 1) digits
+
+abbrev pub first_step : Option ℕ → Option (List ℕ) → Option (List ℕ)
+first_step None rest = None
+first_step (Some step) None = None
+first_step (Some step) (Some path) = Some (step ∷ path)
+
+-- the steps that bytes spell of which these digits are the first, a point between one and the next
+abbrev pub steps_from : List ℕ → List ℕ → Option (List ℕ)
+steps_from digits [] = first_step (step_in digits) (Some [])
+steps_from digits (b ∷ bs) = if b == 46 then first_step (step_in digits) (steps_from [] bs) else steps_from (digits ++ b ∷ []) bs
+
+-- the path that a word spells
+abbrev pub path_in : List ℕ → Option (List ℕ)
+path_in [] = None
+path_in (b ∷ []) = if b == 46 then Some [] else None
+path_in (b ∷ c ∷ bs) = if b == 46 then steps_from [] (c ∷ bs) else None
+
+abbrev pub at_path : ℕ → Option (List ℕ) → (List ℕ → Parsed) → Parsed
+at_path n None go = Err n
+at_path n (Some path) go = go path
+
+-- goes on with the path that the word of this number spells
+abbrev pub with_path : ℕ → List (List ℕ) → (List ℕ → List (List ℕ) → Parsed) → Parsed
+with_path n words go = with_word n words (λ w ws. at_path n (path_in w) (λ path. go path ws))
+
+-- FILE IMAGE PATH and no more
+abbrev pub peek_words : List (List ℕ) → Parsed
+peek_words words =
+    with_word 2 words (λ file ws.
+    with_word 3 ws (λ second us.
+    with_path 4 us (λ path rest.
+    alone 5 (peek file second path) rest)))
+
 unfoldable pub command_of : List (List ℕ) → Parsed
 command_of words = with_word 1 words (λ w ws.
     if bytes_eq w (codes "check") then check_words ws else
@@ -111,7 +147,8 @@ command_of words = with_word 1 words (λ w ws.
     if bytes_eq w (codes "gen") then gen_words ws else
     if bytes_eq w (codes "genrun") then genrun_words ws else
     if bytes_eq w (codes "exec") then exec_words ws else
-    if bytes_eq w (codes "value") then value_words ws else Err 1)
+    if bytes_eq w (codes "value") then value_words ws else
+    if bytes_eq w (codes "peek") then peek_words ws else Err 1)
 
 -- the number of the first word at fault, as a parser answers it, or memory ran out
 abbrev pub StopsAs : {A : Type 0} → Result A ℕ → CommandFault → Type 0
