@@ -7,6 +7,7 @@ pub mod ImageLaws
 pub mod Naming
 pub mod NotUnread
 pub mod Owing
+pub mod PeekLaws
 pub mod Preparing
 pub mod PromiseLaws
 pub mod ReadFaults

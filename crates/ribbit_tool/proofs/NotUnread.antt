@@ -25,6 +25,7 @@ use Rattle.ribbit_tool.specs.Count.{CountsFile, count_text}
 use Rattle.ribbit_tool.specs.Exec.{Executes, executed, faulty, no_code, end_due, outcome_due, named_due, fun_named}
 use Rattle.ribbit_tool.specs.Image.{ImagesFile}
 use Rattle.ribbit_tool.specs.Layout.{LaysOutFile}
+use Rattle.ribbit_tool.specs.Peek.{Peeks, rooted_at, found, stopped}
 use Rattle.ribbit_tool.specs.Run.{RunsFile, answer_due, source_answer, value_line, whole_answer, PreparesFile, misfit, prepared}
 use Rattle.ribbit_tool.specs.Value.{ReadsBack, holds, large, unsound}
 
@@ -68,6 +69,10 @@ pub back_other : (p : Program) (ty : Ty) (i : Image) (due : Due) → ReadsBack p
 back_other p ty i due (holds v h few is) = other_by due _ is (λ e. omega (arith, e))
 back_other p ty i due (large v h more is) = other_by due _ is (λ e. omega (arith, e))
 back_other p ty i due (unsound f h is) = other_by due _ is (fault_other f)
+
+pub part_other : (p : Program) (ty : Ty) (path : List ℕ) (i : Image) (due : Due) → Peeks p ty path i due → status_of due ≢ 7
+part_other p ty path i due (found part is h) = back_other p part.ty (rooted_at i part) due h
+part_other p ty path i due (stopped f h is) = other_by due _ is (fault_other f)
 
 -- Each command ------------------------------------------------------------------------------
 

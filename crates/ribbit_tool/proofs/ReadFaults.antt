@@ -4,7 +4,7 @@ use Rattle.rb_accept.specs.Opening.{AcceptsFirst, Following, Opens, ReadsImage, 
 use Rattle.rb_accept.specs.Reading.{Source, IsReading, AreInTurn, ReadsOne, unread, within, too_long, not_read, Gave, handed_out, whole, file_limit, code_limit, image_limit}
 use Rattle.rb_accept.proofs.NotUnread.{refused_other, spells_other}
 use Rattle.rb_accept.proofs.ReadLaws.{some_same}
-use Rattle.rb_command.specs.Command.{Parsed, check, layout, compile, run, image, count, gen, genrun, exec, value}
+use Rattle.rb_command.specs.Command.{Parsed, check, layout, compile, run, image, count, gen, genrun, exec, value, peek}
 use Rattle.rb_core.specs.Typing.{result_type}
 use Rattle.rb_core.specs.declared.program.Program.{Program}
 use Rattle.rb_edge.specs.Faults.{Rose}
@@ -20,10 +20,11 @@ use Rattle.ribbit_tool.specs.Exec.{Executes}
 use Rattle.ribbit_tool.specs.Generate.{generated}
 use Rattle.ribbit_tool.specs.Image.{ImagesFile}
 use Rattle.ribbit_tool.specs.Layout.{LaysOutFile}
+use Rattle.ribbit_tool.specs.Peek.{Peeks}
 use Rattle.ribbit_tool.specs.Promise.{IsMissing}
 use Rattle.ribbit_tool.specs.Run.{RunsFile}
 use Rattle.ribbit_tool.specs.Value.{ReadsBack}
-use Rattle.ribbit_tool.proofs.NotUnread.{checks_other, lays_out_other, compiles_other, runs_other, images_other, counts_other, executes_other, back_other}
+use Rattle.ribbit_tool.proofs.NotUnread.{checks_other, lays_out_other, compiles_other, runs_other, images_other, counts_other, executes_other, back_other, part_other}
 
 module _ (source : Source) where
   abbrev rs : List Reading
@@ -123,6 +124,8 @@ module _ (source : Source) where
       one_missing code code_limit (λ bs d. Executes function limits words bs d) due turn (λ bs k. executes_other bs due function limits words k) h seven
   fault_of (Ok (value file second)) due turn h seven =
       two_missing file second (λ p i d. ReadsBack p (result_type p.funs p.main) i d) due turn (λ p i k. back_other p (result_type p.funs p.main) i due k) seven h
+  fault_of (Ok (peek file second path)) due turn h seven =
+      two_missing file second (λ p i d. Peeks p (result_type p.funs p.main) path i d) due turn (λ p i k. part_other p (result_type p.funs p.main) path i due k) seven h
   fault_of (Err word) due turn h seven = let six = ap (λ (d : Due). status_of d) h in absurd (omega (arith, seven, six))
 
   -- a file that is the only one
@@ -143,4 +146,5 @@ module _ (source : Source) where
   held_of (Ok (genrun functions limits)) due turn h = tt
   held_of (Ok (exec code function limits words)) due turn h = one_held code code_limit (λ bs d. Executes function limits words bs d) due turn h
   held_of (Ok (value file second)) due turn h = tt
+  held_of (Ok (peek file second path)) due turn h = tt
   held_of (Err word) due turn h = tt

@@ -1,7 +1,7 @@
 -- The answer to the words of a command line, given what was read.
 use Rattle.std.specs.Prelude.{◌≡◌, ℕ, List, [], ◌∷◌, Ok, Err}
 use Rattle.rb_accept.specs.Reading.{ReadsOne, file_limit, code_limit, image_limit}
-use Rattle.rb_command.specs.Command.{Parsed, check, layout, compile, run, image, count, gen, genrun, exec, value}
+use Rattle.rb_command.specs.Command.{Parsed, check, layout, compile, run, image, count, gen, genrun, exec, value, peek}
 use Rattle.rb_edge.specs.History.{Reading}
 use Rattle.rb_lines.specs.Answer.{Due, refusal}
 use Rattle.rb_lines.specs.Lines.{usage_line, no_memory_line}
@@ -13,6 +13,7 @@ use Rattle.ribbit_tool.specs.Exec.{Executes}
 use Rattle.ribbit_tool.specs.Generate.{Generates, CountsGenerated}
 use Rattle.ribbit_tool.specs.Image.{ImagesFile}
 use Rattle.ribbit_tool.specs.Layout.{LaysOutFile}
+use Rattle.ribbit_tool.specs.Peek.{PeeksValue}
 use Rattle.ribbit_tool.specs.Run.{RunsFile}
 use Rattle.ribbit_tool.specs.Value.{ReadsValue}
 
@@ -28,6 +29,7 @@ files_of (Ok (gen functions)) = []
 files_of (Ok (genrun functions limits)) = []
 files_of (Ok (exec code function limits words)) = (code, code_limit) ∷ []
 files_of (Ok (value file second)) = (file, file_limit) ∷ (second, image_limit) ∷ []
+files_of (Ok (peek file second path)) = (file, file_limit) ∷ (second, image_limit) ∷ []
 files_of (Err word) = []
 
 -- a line for each command; or the words are none
@@ -42,6 +44,7 @@ Answers (Ok (gen functions)) readings due = Generates functions due
 Answers (Ok (genrun functions limits)) readings due = CountsGenerated functions limits due
 Answers (Ok (exec code function limits words)) readings due = ReadsOne code code_limit (λ bytes d. Executes function limits words bytes d) readings due
 Answers (Ok (value file second)) readings due = ReadsValue file second readings due
+Answers (Ok (peek file second path)) readings due = PeeksValue file second path readings due
 Answers (Err word) readings due = due ≡ refusal Usage (usage_line word)
 
 -- what is owed over what was read: the answer, or memory ran out

@@ -30,6 +30,7 @@ pub mod generate;
 pub mod image;
 pub mod laws;
 pub mod layout;
+pub mod peek;
 pub mod run;
 pub mod top;
 pub mod value;

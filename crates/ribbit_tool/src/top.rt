@@ -22,6 +22,7 @@ use crate::exec::run_code_file;
 use crate::generate::{count_generated, generate_file};
 use crate::image::image_file;
 use crate::layout::layout_file;
+use crate::peek::peek_file;
 use crate::run::run_file;
 use crate::value::value_file;
 use rb_command::command::{Command, CommandFault, parse};
@@ -78,6 +79,9 @@ fn obey<S: Source, L: Ledger>(
             words,
         } => run_code_file(alloc, src, code, function, *limits, words.as_slice(), steps),
         Command::Value { file, image } => value_file(alloc, src, file, image),
+        Command::Peek { file, image, path } => {
+            peek_file(alloc, src, file, image, path.as_slice())
+        }
     }
 }
 

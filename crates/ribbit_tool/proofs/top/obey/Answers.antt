@@ -1,7 +1,7 @@
 use Rattle.std.proofs.Common.{ℕ, List, length, drop, refl, sym, subst, Ok}
 use Rattle.rb_accept.specs.Reading.{Source, ReadsInTurn}
 use Rattle.rb_accept.proofs.ReadLaws.{none_in_turn}
-use Rattle.rb_command.specs.Command.{gen, genrun, exec}
+use Rattle.rb_command.specs.Command.{gen, genrun, exec, peek}
 use Rattle.rb_command.specs.View.{command_view, limits_view}
 use Rattle.rb_command.specs.declared.command.Command.{Command}
 use Rattle.rb_lines.specs.View.{Meets}
@@ -197,3 +197,23 @@ returns-in-Value-clause-owed g c =
     let readings = (drop (length (g.S.Source.readings c.args.src.now)) (g.S.Source.readings c.value_file.new.src)) in
     subst (λ (command : Command). Meets (Owes (Ok (command_view command)) readings) c.args.steps.now.taken c.args.steps.now.taken c.value_file.result)
     (sym c.in-Value.is) (c.value_file.ensures.owed c.args.steps.now.taken)
+
+pub returns-in-Peek-clause-read : goal.returns-in-Peek-clause-read
+returns-in-Peek-clause-read g c =
+    let source : Source = record {
+      tells = g.S.Source.tells c.args.src.now;
+      held = g.S.Source.held c.args.src.now;
+      old = g.S.Source.readings c.args.src.now;
+      new = g.S.Source.readings c.peek_file.new.src;
+      before = g.S.Source.faults c.args.src.now;
+      now = g.S.Source.faults c.peek_file.new.src;
+    } in
+    subst (λ (command : Command). ReadsInTurn (files_of (Ok (command_view command))) source) (sym c.in-Peek.is) c.peek_file.ensures.read
+
+pub returns-in-Peek-clause-owed : goal.returns-in-Peek-clause-owed
+returns-in-Peek-clause-owed g c =
+    let readings = (drop (length (g.S.Source.readings c.args.src.now)) (g.S.Source.readings c.peek_file.new.src)) in
+    let owed = subst (λ (path : List ℕ). Meets (Owes (Ok (peek c.in-Peek.file.now c.in-Peek.image.now path)) readings)
+    c.args.steps.now.taken c.args.steps.now.taken c.peek_file.result) c.as_slice-in-Peek.ensures (c.peek_file.ensures.owed c.args.steps.now.taken) in
+    subst (λ (command : Command). Meets (Owes (Ok (command_view command)) readings) c.args.steps.now.taken c.args.steps.now.taken c.peek_file.result)
+    (sym c.in-Peek.is) owed
