@@ -21,10 +21,13 @@ fn list<T: Copy>(alloc: Global, items: &[T]) -> Result<Seq<T>, AllocError> {
     Ok(Seq::from_vec(Vec::from_slice(alloc, items)?))
 }
 
+// The words between blanks; `''` is one without bytes.
 fn words_of(alloc: Global, text: &str) -> Result<Words, AllocError> {
     let mut words = Words::new(alloc);
     for word in text.split(' ') {
-        if !word.is_empty() {
+        if word == "''" {
+            words.push(b"")?;
+        } else if !word.is_empty() {
             words.push(word.as_bytes())?;
         }
     }

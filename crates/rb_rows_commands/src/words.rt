@@ -62,6 +62,45 @@ fn expect_refused(alloc: Global, rows: &[(&str, u8, &[u8])]) -> Result<(), Surpr
     Ok(())
 }
 
+// A path is `.`, or has a point before each number.
+const PATHS: [(&str, u8, &[u8]); 26] = [
+    ("peek", 6, b"ribbit: usage at word 2\n"),
+    ("peek E", 6, b"ribbit: usage at word 3\n"),
+    ("peek E I", 6, b"ribbit: usage at word 4\n"),
+    ("peek E I . .", 6, b"ribbit: usage at word 5\n"),
+    ("peek E I 1 .", 6, b"ribbit: usage at word 4\n"),
+    ("peeks E I .", 6, b"ribbit: usage at word 1\n"),
+    ("peek E I 1", 6, b"ribbit: usage at word 4\n"),
+    ("peek E I 1.0", 6, b"ribbit: usage at word 4\n"),
+    ("peek E I ''", 6, b"ribbit: usage at word 4\n"),
+    ("peek E I ..", 6, b"ribbit: usage at word 4\n"),
+    ("peek E I ..0", 6, b"ribbit: usage at word 4\n"),
+    ("peek E I .1.", 6, b"ribbit: usage at word 4\n"),
+    ("peek E I .1..0", 6, b"ribbit: usage at word 4\n"),
+    ("peek E I .01", 6, b"ribbit: usage at word 4\n"),
+    ("peek E I .1.00", 6, b"ribbit: usage at word 4\n"),
+    ("peek E I .1x", 6, b"ribbit: usage at word 4\n"),
+    ("peek E I .-1", 6, b"ribbit: usage at word 4\n"),
+    ("peek E I .+1", 6, b"ribbit: usage at word 4\n"),
+    ("peek E I .4294967296", 6, b"ribbit: usage at word 4\n"),
+    (
+        "peek E I .0.18446744073709551616",
+        6,
+        b"ribbit: usage at word 4\n",
+    ),
+    ("peek E I .", 7, b"ribbit: read fault\n"),
+    ("peek E I .0", 7, b"ribbit: read fault\n"),
+    ("peek E I .10", 7, b"ribbit: read fault\n"),
+    ("peek E I .0.0", 7, b"ribbit: read fault\n"),
+    ("peek E I .4294967295", 7, b"ribbit: read fault\n"),
+    ("peek F I .0", 7, b"ribbit: read fault\n"),
+];
+
+#[test]
+fn paths(rt: HostRuntime) -> Result<(), Surprise> {
+    expect_refused(rt.alloc(), &PATHS)
+}
+
 #[test]
 fn words_and_arguments(rt: HostRuntime) -> Result<(), Surprise> {
     expect_refused(rt.alloc(), &WORDS)

@@ -24,7 +24,8 @@ const MOST: usize = 262_144;
 /// is said to be kept, and the text that is to come.
 pub type Row<'a> = (&'a str, u32, u64, u64, &'a str);
 
-fn fault_text(alloc: Global, fault: ImageFault) -> Result<String, AllocError> {
+/// What is wrong with an image, and where.
+pub fn fault_text(alloc: Global, fault: ImageFault) -> Result<String, AllocError> {
     match fault {
         ImageFault::ImageSyntax(at) => format!(in alloc; "syntax {at}"),
         ImageFault::ImageBlock(i) => format!(in alloc; "block {i}"),
@@ -119,8 +120,8 @@ fn value(alloc: Global, agreed: &Agreed, text: &str, ty: u32) -> Result<Vec<u8>,
 /// An image to read: its text, the number of a type, and the text that is to come.
 pub type ValueRow<'a> = (&'a str, u32, &'a str);
 
-// The accepted program of a file.
-fn agreed_of(alloc: Global, file: &str) -> Result<Agreed, Fail> {
+/// The accepted program of a file.
+pub fn agreed_of(alloc: Global, file: &str) -> Result<Agreed, Fail> {
     if file.len() > MOST {
         return Err(Fail::from("a long file"));
     }

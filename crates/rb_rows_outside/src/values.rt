@@ -1,4 +1,4 @@
-//! `value` over an outside that fails. The texts were worked out by hand.
+//! `value` and `peek` over an outside that fails. The texts were worked out by hand.
 
 use crate::table::{ImageRow, expect_images};
 use rb_rows_calls::surprise::Surprise;
@@ -49,4 +49,37 @@ const VALUE: [ImageRow; 6] = [
 #[test]
 fn value(rt: HostRuntime) -> Result<(), Surprise> {
     expect_images(rt.alloc(), &VALUE)
+}
+
+const PEEK: [ImageRow; 6] = [
+    ("peek E I .1", LIST, LIST_IMAGE, 0, b"Cons(2, Nil)\n"),
+    // the first item of the ring, which is off the path
+    ("peek E I .0", LIST, RING, 0, b"1\n"),
+    (
+        "peek E I .1.0",
+        LIST,
+        RING,
+        16,
+        b"ribbit: image 44: base 80, address 80\n",
+    ),
+    (
+        "peek E I .1.1.0",
+        LIST,
+        LIST_IMAGE,
+        16,
+        b"ribbit: image 46: step 2\n",
+    ),
+    (
+        "peek E I .",
+        b"fun main(): u8 = y;",
+        b"",
+        2,
+        b"ribbit: unknown name y at byte 17\n",
+    ),
+    ("peek E I 1", b"", b"", 6, b"ribbit: usage at word 4\n"),
+];
+
+#[test]
+fn peek(rt: HostRuntime) -> Result<(), Surprise> {
+    expect_images(rt.alloc(), &PEEK)
 }

@@ -24,4 +24,6 @@ mod matches;
 #[cfg(test)]
 mod needs;
 #[cfg(test)]
+mod parts;
+#[cfg(test)]
 mod values;
