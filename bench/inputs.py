@@ -2,7 +2,7 @@
 
 GROUPS at the end names them, each with the number at the whole size; at half of it a file is about half as long. FILES are
 given to `check`, those of layouts that agree to `layout` too, and COMPILED to `compile`; RUNS are programs with their words;
-IMAGES are files, each with the text of an image that `value` reads. CODES are code texts of bench/code that are run by `exec`.
+IMAGES are files, each with the text of an image that `value` reads, or `peek` where a path stands behind it. CODES are code texts of bench/code that are run by `exec`.
 """
 import itertools
 import os
@@ -461,6 +461,18 @@ def doubled_image(n):
     return TREE + "fun main(): T = L;\n", image_of([(1, 1)] + [(address(i), address(i)) for i in range(n - 1)])
 
 
+def walked_image(n):
+    """A list of 1,000 n numbers, and the path to the last of them."""
+    text, image = list_image(n)
+    return text, image, ".1" * (1000 * n - 1) + ".0"
+
+
+def sought_image(n):
+    """A tree of 1,000 n forks, as balanced as can be, and the path to its first leaf."""
+    text, image = tree_image(n)
+    return text, image, ".0" * (1000 * n).bit_length()
+
+
 # What is made, and how large ----------------------------------------------------------------------------------------------
 
 AGREEING = [
@@ -475,7 +487,7 @@ RUNS = [
     (lists, 24), (lists_in, 24), (trees, 14), (trees_in, 16), (printed, 500), (halved, 19), (grown, 20), (summed, 100), (inserted, 10),
     (decoded, 1000),
 ]
-IMAGES = [(list_image, 336), (tree_image, 336), (shared_image, 336), (doubled_image, 40)]
+IMAGES = [(list_image, 336), (tree_image, 336), (shared_image, 336), (doubled_image, 40), (walked_image, 65), (sought_image, 336)]
 # By name: how many instructions the run of `main` begins, and CALLS, REGION and WORD.
 CODES = [
     ("list", 14_000_125, 1_000_000_000, 16_777_216, 100_000),

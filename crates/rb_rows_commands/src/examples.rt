@@ -150,7 +150,14 @@ fn from_list(rt: HostRuntime) -> Result<(), Surprise> {
     expect_held(rt.alloc(), &FROM_LIST)
 }
 
-const FROM_PICK: [ImageRow; 4] = [
+const FROM_PART: [ImageRow; 4] = [
+    // part
+    (
+        "peek E I .1.2",
+        "// sets of numbers as red-black trees, whose nodes keep their colour in the lowest bit of the pointer to them\ntype Color = Red | Black;\ntype Tree = Leaf | Node(Color, Tree, u64, Tree);\n\nlayout Color <1> = split 0[0:1] {\n  0 => Red : { word 1 { [0:1] = 0 } }\n  1 => Black : { word 1 { [0:1] = 1 } }\n};\n\nlayout Tree <64> = split 0[0:64] {\n  0 => Leaf : { word 64 { [0:64] = 0 } }\n  else => Node(_, _, _, _) : {\n    word 64 {\n      [0:1] .0,\n      [3:61] -> 8 { word 64 { [0:64] .2 }, inline .1, inline .3 }\n    }\n  }\n};\n\nfun balance(t: Tree): Tree = match t {\n  Node(Black, Node(Red, Node(Red, a, x, b), y, c), z, d) => Node(Red, Node(Black, a, x, b), y, Node(Black, c, z, d)),\n  Node(Black, Node(Red, a, x, Node(Red, b, y, c)), z, d) => Node(Red, Node(Black, a, x, b), y, Node(Black, c, z, d)),\n  Node(Black, a, x, Node(Red, Node(Red, b, y, c), z, d)) => Node(Red, Node(Black, a, x, b), y, Node(Black, c, z, d)),\n  Node(Black, a, x, Node(Red, b, y, Node(Red, c, z, d))) => Node(Red, Node(Black, a, x, b), y, Node(Black, c, z, d)),\n  _ => t\n};\n\nfun put(t: Tree, x: u64): Tree = match t {\n  Leaf => Node(Red, Leaf, x, Leaf),\n  Node(c, l, y, r) => match lt(x, y) {\n    1 => balance(Node(c, put(l, x), y, r)),\n    0 => match lt(y, x) { 1 => balance(Node(c, l, y, put(r, x))), 0 => t }\n  }\n};\n\nfun blacken(t: Tree): Tree = match t { Leaf => Leaf, Node(_, l, x, r) => Node(Black, l, x, r) };\n\nfun main(t: Tree, x: u64): Tree = blacken(put(t, x));\n",
+        "root 0x101\nblock 64 24 070000000000000000000000000000000000000000000000\nblock 88 24 050000000000000000000000000000004000000000000000\nblock 112 24 090000000000000000000000000000000000000000000000\nblock 136 24 070000000000000000000000000000007000000000000000\nblock 160 24 050000000000000000000000000000008800000000000000\nblock 184 24 050000000000000000000000000000000000000000000000\nblock 208 24 090000000000000000000000000000000000000000000000\nblock 232 24 0700000000000000b900000000000000d100000000000000\nblock 256 24 0700000000000000b900000000000000d900000000000000\n",
+        "0 5;",
+    ),
     // pick
     (
         "exec E pick 1 64 5",
@@ -172,6 +179,14 @@ const FROM_PICK: [ImageRow; 4] = [
         "",
         "0 Node(Black, Node(Black, Leaf, 5, Leaf), 7, Node(Black, Leaf, 9, Leaf));",
     ),
+];
+
+#[test]
+fn from_part(rt: HostRuntime) -> Result<(), Surprise> {
+    expect_held(rt.alloc(), &FROM_PART)
+}
+
+const FROM_RISCVB: [ImageRow; 4] = [
     // riscvb
     (
         "run E 2 64 Branch(0,0,0,4094)",
@@ -179,14 +194,6 @@ const FROM_PICK: [ImageRow; 4] = [
         "",
         "0 8188;",
     ),
-];
-
-#[test]
-fn from_pick(rt: HostRuntime) -> Result<(), Surprise> {
-    expect_held(rt.alloc(), &FROM_PICK)
-}
-
-const FROM_RISCVI: [ImageRow; 4] = [
     // riscvi
     (
         "image E 1 64 Load(10,2,8)",
@@ -208,6 +215,14 @@ const FROM_RISCVI: [ImageRow; 4] = [
         "",
         "0 root 0xfe512e23;",
     ),
+];
+
+#[test]
+fn from_riscvb(rt: HostRuntime) -> Result<(), Surprise> {
+    expect_held(rt.alloc(), &FROM_RISCVB)
+}
+
+const FROM_SEMICOLON: [ImageRow; 4] = [
     // semicolon
     (
         "check E",
@@ -215,14 +230,6 @@ const FROM_RISCVI: [ImageRow; 4] = [
         "",
         "1 ribbit: syntax at byte 21;",
     ),
-];
-
-#[test]
-fn from_riscvi(rt: HostRuntime) -> Result<(), Surprise> {
-    expect_held(rt.alloc(), &FROM_RISCVI)
-}
-
-const FROM_SHADOW: [ImageRow; 4] = [
     // shadow
     (
         "check E",
@@ -244,6 +251,14 @@ const FROM_SHADOW: [ImageRow; 4] = [
         "",
         "3 ribbit: layout of Tree: A3: leaf Node(_, _, _, _): item 0: parts [3:1] and [3:61] overlap;",
     ),
+];
+
+#[test]
+fn from_semicolon(rt: HostRuntime) -> Result<(), Surprise> {
+    expect_held(rt.alloc(), &FROM_SEMICOLON)
+}
+
+const FROM_STOLEN: [ImageRow; 4] = [
     // stolen
     (
         "exec E node 1 128 7",
@@ -251,14 +266,6 @@ const FROM_SHADOW: [ImageRow; 4] = [
         "",
         "0 65 1 7;",
     ),
-];
-
-#[test]
-fn from_shadow(rt: HostRuntime) -> Result<(), Surprise> {
-    expect_held(rt.alloc(), &FROM_SHADOW)
-}
-
-const FROM_SUM: [ImageRow; 4] = [
     // sum
     (
         "exec E sum 101 64 100",
@@ -280,6 +287,14 @@ const FROM_SUM: [ImageRow; 4] = [
         "",
         "0 root 0x18;block 64 16 10000000000000002600000000000000;block 80 16 08000000000000004100000000000000;",
     ),
+];
+
+#[test]
+fn from_stolen(rt: HostRuntime) -> Result<(), Surprise> {
+    expect_held(rt.alloc(), &FROM_STOLEN)
+}
+
+const FROM_UNTAG: [ImageRow; 1] = [
     // untag
     (
         "run E 1 64 4101",
@@ -290,6 +305,6 @@ const FROM_SUM: [ImageRow; 4] = [
 ];
 
 #[test]
-fn from_sum(rt: HostRuntime) -> Result<(), Surprise> {
-    expect_held(rt.alloc(), &FROM_SUM)
+fn from_untag(rt: HostRuntime) -> Result<(), Surprise> {
+    expect_held(rt.alloc(), &FROM_UNTAG)
 }
