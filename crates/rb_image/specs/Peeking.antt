@@ -50,7 +50,7 @@ module _ (types : List DataDecl) (layouts : List Layout) (image : Image) where
   abbrev pub IsPart : Ty → List ℕ → Peeked → Type 0
   IsPart ty path part = AllFit (widths_of layouts ty) image.root × IsPartOf ty path part
 
-  -- what stands at the end of the path cannot be rebuilt
+  -- what stands at the end of the path cannot be rebuilt: a value below it whose leaf must be known has this fault
   pub record IsEndFault (t : ℕ) (path : List ℕ) (fault : ImageFault) : Type 0 where
     pub end : Where
     pub is_come : IsCome types layouts image t path path end
@@ -62,7 +62,8 @@ module _ (types : List DataDecl) (layouts : List Layout) (image : Image) where
       HasPathFault types layouts image t path (IsOnPath types layouts image t path) fault
       ⊎ HasNoPart types layouts image t path fault ⊎ IsEndFault t path fault
 
-  -- why there is no part: a root word does not fit; a word on the path is at fault; or a step names no field
+  -- why there is no part: a root word does not fit; a word on the path is at fault; a step names no field; or what stands at the
+  -- end cannot be rebuilt
   abbrev pub IsPartFault : Ty → List ℕ → ImageFault → Type 0
   IsPartFault ty path fault =
       ((i : ℕ) × (fault ≡ BadRoot i) × IsFirstMisfit (widths_of layouts ty) image.root i)

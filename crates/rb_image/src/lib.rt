@@ -70,9 +70,11 @@
 //! `follow_path` walks so from the root words, and then looks for faults in the words on the path alone: those of the
 //! root; those that the splits of each subvalue on it read; those that hold what comes next; and those whose pointers
 //! lead to any of these. In each of them it looks at what the leaves passed have there: constants, and pointers. For
-//! that nothing is read again. Take for the path `.0` of the list above: on it are the root word and the word from byte
-//! 0 of the block at 64 on. The tail, which leads to the block that it is kept in, is off this path, and so no fault
-//! is found; on the path `.1` it is. `specs/Paths.antt` says which words are on a path, and what is wrong with them.
+//! that no leaf's word is read again. Take for the path `.0` of the list above: on it are the root word and the word
+//! from byte 0 of the block at 64 on. The tail, which leads to the block that it is kept in, is off this path, and so no
+//! fault is found; on the path `.1` it is. `specs/Paths.antt` says which words are on a path, and what is wrong with
+//! them.
+//!
 //! A walk may also end where the leaf's provenance has a constructor. What stands there was taken apart: it has no
 //! words of its own, and its fields stand in words of the leaf. `rebuild` gives the words that it has in the layout of
 //! its own type. It chooses the leaf whose provenance matches, for which the leaf of a value that stands open below may
@@ -80,7 +82,7 @@
 //! type that a leaf takes apart has no pointers, so all of it stands in the words of the one leaf, and nothing is read.
 //! `specs/Views.antt` says what stands at the positions below, and `specs/Rebuilds.antt` which leaf and words these
 //! are. Where the words of the fields represent the parts of a value, the words that they make represent the value, as
-//! `specs/PackedWords.antt` says.
+//! `specs/PackedWords.antt` says. `peek` gives what stands at a path: the type and the words of the walk's end.
 //!
 //! `field_sites` goes on from a leaf to the words of an open position below it, and reads nothing for that: it gives
 //! the sites at which they stand, from the sites of the leaf's own words and the addresses of its blocks. Here the

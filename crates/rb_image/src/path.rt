@@ -40,8 +40,9 @@ fn tell_words(words: &[u64])
 /// Where a path of field numbers leads from the root of an image, whose words fit the type, if no word on the path is
 /// at fault. The words on a path are those of the root; those that the splits of each subvalue on it read, that at its
 /// end included; those that hold what comes next on it, or what is below that; and those whose pointers lead to any of
-/// these. Faults of other words are not seen. Each word is read by `read_word` alone; of each data type to which one
-/// comes no more of them than its splits and words are.
+/// these. Faults of other words are not seen. What leaves hold is read by `read_word`, of each data type to which one
+/// comes no more words than its splits and words are; for the check, the words to which a split's location leads are
+/// looked up once more.
 ///
 /// # Errors
 ///
