@@ -114,7 +114,7 @@ module _ (m : List ImageBlock) (leaf : Leaf) (ws : List Kept) (ats : List ℕ) w
           subst (λ (t : Bool). In k (if t then bits_at m ws ats s ∷ [] else [])) (sym leads) g
       go false is g = absurd g
 
-  words_first : (i : ℕ) (path : List ℕ) (k : Kept) → In k (words_below m leaf ws ats (i ∷ path)) → In k (words_below m leaf ws ats (i ∷ []))
+  pub words_first : (i : ℕ) (path : List ℕ) (k : Kept) → In k (words_below m leaf ws ats (i ∷ path)) → In k (words_below m leaf ws ats (i ∷ []))
   words_first i path k h =
       let r = in_flat_map (word_below m leaf ws ats (i ∷ path)) k (order_of leaf) h in
       flat_map_in (word_below m leaf ws ats (i ∷ [])) k r.0 (order_of leaf) r.1 (word_first i path r.0 k r.2)

@@ -1,5 +1,5 @@
 -- What stands at a path is the part of a value that an image holds.
-use Rattle.std.proofs.Common.{◌≡◌, ℕ, inl, inr, false, List, [], ◌∷◌, length, Option, Some, None, Result, Ok, Err, refl, sym, subst, ap, ◌∙◌}
+use Rattle.std.proofs.Common.{◌≡◌, ℕ, ◌≤◌, inl, inr, false, List, [], ◌∷◌, length, Option, Some, None, Result, Ok, Err, refl, sym, subst, ap, ◌∙◌}
 use Rattle.std.specs.Prelude.{◌⊎◌}
 use Rattle.rb_core.specs.declared.pattern.Pat.{Pat, out-Pat}
 use Rattle.rb_core.specs.declared.pattern.Pat.TheOpen as P
@@ -15,6 +15,7 @@ use Rattle.rb_image_text.specs.declared.fault.ImageFault.{ImageFault}
 use Rattle.rb_image_text.specs.declared.fault.ImageFault.TheVariants.{Memory}
 use Rattle.rb_image_text.specs.declared.image.Image.{Image}
 use Rattle.rb_image_text.specs.declared.image.ImageBlock.{ImageBlock}
+use Rattle.rb_image_text.specs.Places.{AreInPlace}
 use Rattle.rb_image.specs.declared.peek.Peeked.{Peeked}
 use Rattle.rb_image.specs.Given.{IsGiven}
 use Rattle.rb_image.specs.Memories.{image_memory}
@@ -31,6 +32,8 @@ use Rattle.rb_image.proofs.DescendingValues.{Descends-represents}
 use Rattle.rb_image.proofs.FallLemmas.{same_Ok}
 use Rattle.rb_image.proofs.PathEnds.{walk_closed}
 use Rattle.rb_image.proofs.PathParts.{paths_lead}
+use Rattle.rb_image.proofs.PeekFaults.{end_told}
+use Rattle.rb_image.proofs.WellLeaves.{AreWell}
 
 abbrev Rebuilt : Type 0
 Rebuilt = Result (List ℕ) ImageFault
@@ -76,14 +79,19 @@ module _ (types : List DataDecl) (layouts : List Layout) (image : Image) where
       record { end = w; is_come = come; is_faultless = sound; is_type = ty; is_words = given_words (end_words types layouts image w) part.words given }
 
   -- or it cannot be rebuilt
-  pub words_fault : (t : ℕ) (path : List ℕ) (w : Where) → IsCome types layouts image t path path w → (fault : ImageFault) → IsGiven (λ ws. ws) (end_words types layouts image w) (Err fault)
+  pub words_fault : AreInPlace image.blocks → AreWell layouts → 1 ≤ length image.root → (t : ℕ) (path : List ℕ) (w : Where) → IsCome types layouts image t path path w → (fault : ImageFault) → IsGiven (λ ws. ws) (end_words types layouts image w) (Err fault)
       → IsFaultOf types layouts image (Named t) path fault ⊎ (fault ≡ Memory)
-  words_fault t path w come fault given = go (end_words types layouts image w) refl given
+  words_fault placed well some t path w come fault given = go (end_words types layouts image w) refl given
     where
       go : (due : Rebuilt) → ◌≡◌ {A = Rebuilt} (end_words types layouts image w) due → IsGiven (λ ws. ws) due (Err fault) → IsFaultOf types layouts image (Named t) path fault ⊎ (fault ≡ Memory)
       go (Ok ws) is h = inr h
       go (Err f) is h = elim h [
-        | inl same ↦ inl (inr (inr (record { end = w; is_come = come; is_fault = is ∙ ap (λ (x : ImageFault). Err x) (sym same) })))
+        | inl same ↦
+            let due : ◌≡◌ {A = Rebuilt} (end_words types layouts image w) (Err fault) = is ∙ ap (λ (x : ImageFault). Err x) (sym same) in
+            elim (end_told types layouts image t path placed well some w come fault due) [
+              | inl told ↦ inl (inr (inr (record { end = w; is_come = come; is_fault = due; base = told.0; place = told.1; on_path = told.2; names = told.3 })))
+              | inr memory ↦ inr memory
+            ]
         | inr memory ↦ inr memory
       ]
 

@@ -405,3 +405,23 @@ module _ (m : List ImageBlock) (placed : AreInPlace m) (leaf : Leaf) (flat : IsF
   -- the first pointer on the way that is refused was reached
   pub first_is : (fault : ImageFault) → refused (order_of leaf) ≡ Some fault → IsFirst fault
   first_is fault e = first_refused (order_of leaf) [] fault refl (λ q h leads. absurd h) e
+
+  none_refused : (ss : List PartAt) → refused ss ≡ None → NoneRefused ss
+  none_refused [] e q h leads = absurd h
+  none_refused (s ∷ ss) e q h leads = go (none_refused ss) (leads_below leaf path s.part.kind) refl e h
+    where
+      free : (o : Option ImageFault) → first_of o (refused ss) ≡ None → (o ≡ None) × (refused ss ≡ None)
+      free None g = (refl, g)
+      free (Some f) g = absurd cc
+
+      go : (refused ss ≡ None → NoneRefused ss) → (t : Bool) → leads_below leaf path s.part.kind ≡ t → first_of (if t then refusal s else None) (refused ss) ≡ None → In q (s ∷ ss) → refusal q ≡ None
+      go more true is g (inl same) = ap refusal same ∙ (free (refusal s) g).0
+      go more true is g (inr i) = more (free (refusal s) g).1 q i leads
+      go more false is g (inl same) = absurd (let no = sym is ∙ ap (λ (x : PartAt). leads_below leaf path x.part.kind) (sym same) ∙ leads in cc)
+      go more false is g (inr i) = more g q i leads
+
+  -- where no pointer on the way is refused, all parts on it are there
+  pub all_there : refused (order_of leaf) ≡ None → (s : PartAt) → In s (order_of leaf) → leads_below leaf path s.part.kind ≡ true → is_there (reached m leaf ws) s.block ≡ true
+  all_there e s h leads =
+      let at = split_in s (order_of leaf) h in
+      way_there at.0 at.1 s at.2 leads (λ q i. none_refused (order_of leaf) e q (subst (In q) (sym at.2) (in_left q at.0 (s ∷ at.1) i)))

@@ -16,11 +16,13 @@ pub mod Paths
 pub mod Peeking
 pub mod Reads
 pub mod Rebuilds
+pub mod RebuiltValues
 pub mod Roots
 pub mod Sites
 pub mod Sound
 pub mod Spans
 pub mod Splits
+pub mod TakenApart
 pub mod Values
 pub mod Views
 pub mod Visits

@@ -19,7 +19,7 @@ use Rattle.rb_image.specs.declared.peek.Peeked.{Peeked}
 use Rattle.rb_image.specs.Falling.{RootDescends}
 use Rattle.rb_image.specs.PathParts.{IsOpen, IsPartThere}
 use Rattle.rb_image.specs.PathSpans.{path_span}
-use Rattle.rb_image.specs.Paths.{HasNoPart, HasPathFault, IsCome, IsFaultless, IsOnPath}
+use Rattle.rb_image.specs.Paths.{HasNoPart, HasPathFault, IsCome, IsFaultless, IsOnPath, IsPathWord, Names}
 use Rattle.rb_image.specs.Rebuilds.{numbers_of, rebuilt}
 use Rattle.rb_image.specs.Roots.{AllFit, IsFirstMisfit, kept_from, widths_of}
 use Rattle.rb_image.specs.Walks.{Where}
@@ -50,11 +50,16 @@ module _ (types : List DataDecl) (layouts : List Layout) (image : Image) where
   abbrev pub IsPart : Ty → List ℕ → Peeked → Type 0
   IsPart ty path part = AllFit (widths_of layouts ty) image.root × IsPartOf ty path part
 
-  -- what stands at the end of the path cannot be rebuilt: a value below it whose leaf must be known has this fault
+  -- a word on the path has this fault, for which what stands at the end of the path cannot be rebuilt: the leaf of a subvalue
+  -- below it has to be known, and does not hold there
   pub record IsEndFault (t : ℕ) (path : List ℕ) (fault : ImageFault) : Type 0 where
     pub end : Where
     pub is_come : IsCome types layouts image t path path end
     pub is_fault : ◌≡◌ {A = Result (List ℕ) ImageFault} (end_words end) (Err fault)
+    pub base : ℕ
+    pub place : ℕ
+    pub on_path : IsPathWord types layouts image t path base place
+    pub names : Names fault base place
 
   abbrev pub IsFaultOf : Ty → List ℕ → ImageFault → Type 0
   IsFaultOf (Int bits) path fault = (fault ≡ NoSuchPart 0) × (path ≡ [] → ⊥)

@@ -6,7 +6,9 @@ ghost use Rattle.rb_image.specs.PathParts.{PathsLeadToParts};
 ghost use Rattle.rb_image.specs.PathSpans.{WalksAreShort};
 ghost use Rattle.rb_image.specs.Peeking.{PartsAreHeld};
 ghost use Rattle.rb_image.specs.PackedWords.{PackedWordsRepresent};
+ghost use Rattle.rb_image.specs.RebuiltValues.{RebuiltWordsRepresent};
 ghost use Rattle.rb_image.specs.Spans.{SpansRecur};
+ghost use Rattle.rb_image.specs.TakenApart.{ValuesAreSeen};
 ghost use Rattle.rb_image.specs.Values.{SoundImagesHaveValues};
 ghost use Rattle.rb_image.specs.Visits.{LayoutsAreTidy};
 
@@ -68,6 +70,18 @@ pub fn paths_lead_to_parts()
 /// packs them represent the value; and cleanly where those of the fields do.
 pub fn packed_words_represent()
     ensures { PackedWordsRepresent }
+{}
+
+/// Where words represent a value of a type without pointers, as each is that a leaf takes apart, the splits lead to the
+/// leaf of the value and its constants are there, though no image is looked at: so `rebuild` sees it in its own leaf.
+pub fn values_are_seen()
+    ensures { ValuesAreSeen }
+{}
+
+/// Where a value stands at a position inside a leaf, and what stands open below is represented by its words, the words
+/// that `rebuild` gives of it represent it.
+pub fn rebuilt_words_represent()
+    ensures { RebuiltWordsRepresent }
 {}
 
 /// Where an image holds a value, the words that `peek` gives represent the part of the value at the path, if the part is

@@ -21,8 +21,8 @@ use rb_image_text::image::Image;
 use rb_layout::agreed::Agreed;
 use std::alloc::Global;
 
-// Tells that the program is typed.
-fn tell_typed(agreed: &Agreed)
+/// Tells that the program is typed.
+pub(crate) fn tell_typed(agreed: &Agreed)
     ensures { IsTyped agreed.now.covered.program }
 {
     let _ = agreed.covered().program();

@@ -16,7 +16,7 @@ ghost use Rattle.rb_image_text.specs.Places.{AreInPlace};
 ghost use Rattle.rb_image_text.specs.declared.fault.ImageFault.TheVariants.{Memory};
 ghost use Rattle.rb_image_text.specs.declared.image.ImageBlock.{ImageBlock};
 
-use crate::path::follow_path;
+use crate::path::{follow_path, tell_typed};
 use crate::rebuild::{numbers_of, rebuild};
 use crate::roots::{first_misfit, widths_of};
 use crate::walk::Walk;
@@ -103,6 +103,8 @@ fn peek_data<L: Ledger>(
         image.now.blocks ty (kept_from 0 image.now.root) path.now }
 {
     tell_short(agreed);
+    tell_typed(agreed);
+    let _ = agreed.layouts();
     let walk = follow_path(alloc, agreed, image, ty, path, steps)?;
     let words = words_there(alloc, agreed, image, &walk)?;
     Ok(Peeked {
