@@ -178,8 +178,20 @@ const LEAVES: [CountRow; 7] = [
     (TOLD, "Tagged(A,4)", "value 0;calls 1;", 2, BEHIND),
     (TOLD, "Tagged(B,4)", "value 2;calls 1;", 2, BEHIND),
     (TOLD, "Tagged(B,3)", "value 0;calls 1;", 2, BEHIND),
-    (TOLD_INSIDE, "With(On(A,3),9)", "value 1;calls 1;", 1, BEHIND),
-    (TOLD_INSIDE, "With(On(B,3),9)", "value 2;calls 1;", 1, BEHIND),
+    (
+        TOLD_INSIDE,
+        "With(On(A,3),9)",
+        "value 1;calls 1;",
+        1,
+        BEHIND,
+    ),
+    (
+        TOLD_INSIDE,
+        "With(On(B,3),9)",
+        "value 2;calls 1;",
+        1,
+        BEHIND,
+    ),
     (TOLD_INSIDE, "With(Off,9)", "value 9;calls 1;", 1, BEHIND),
 ];
 

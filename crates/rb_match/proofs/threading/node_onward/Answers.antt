@@ -12,8 +12,10 @@ loop-step-init c =
 pub loop-step-preserved : goal.loop-step-preserved
 loop-step-preserved c =
     let Leads : ℕ → Type 0 = LeadsOn c.args.agreed.now c.args.ty c.args.pats.now c.args.nodes.now c.args.known.now c.args.node in
-    let more = leads_trans c.args.agreed.now c.args.ty c.args.pats.now c.args.nodes.now c.args.known.now c.args.node c.loop-step.here c.in-Some.next c.loop-step.invariant.0 c.in-Some.ensures in
-    (more, elim c.if-not-is_marked.branch [
-      | then-not-is_marked w ↦ subst Leads (sym w.end-is) more
-      | else-not-is_marked w ↦ subst Leads (sym w.end-is) c.loop-step.invariant.1
-    ])
+    let more = leads_trans c.args.agreed.now c.args.ty c.args.pats.now c.args.nodes.now c.args.known.now c.args.node c.loop-step.here c.in-Some.next c.loop-step.invariant.0 c.in-Some.ensures in (
+      more,
+      elim c.if-not-is_marked.branch [
+        | then-not-is_marked w ↦ subst Leads (sym w.end-is) more
+        | else-not-is_marked w ↦ subst Leads (sym w.end-is) c.loop-step.invariant.1
+      ],
+    )
