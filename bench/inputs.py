@@ -2,7 +2,8 @@
 
 GROUPS at the end names them, each with the number at the whole size; at half of it a file is about half as long. FILES are
 given to `check`, those of layouts that agree to `layout` too, and COMPILED to `compile`; RUNS are programs with their words;
-IMAGES are files, each with the text of an image that `value` reads, or `peek` where a path stands behind it. CODES are code texts of bench/code that are run by `exec`.
+IMAGES are files, each with the text of an image that `value` reads, or `peek` where a path stands behind it. CODES are code
+texts of bench/code that are run by `exec`.
 """
 import itertools
 import os

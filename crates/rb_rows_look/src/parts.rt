@@ -109,14 +109,14 @@ fn bits(rt: HostRuntime) -> Result<(), Fail> {
     expect_parts(rt.alloc(), WIDE, "root 0x1\n", &BITS)
 }
 
-// A pair that is taken apart, of which the second part is rebuilt where it is asked for: the word of the second part
-// stands in the low bits, that of the first above it. The span of a pair of pairs is 3 words, and 2 times the 1 of a pair.
+// Two pairs that a leaf takes apart: each is rebuilt where it is asked for. The second part of a pair stands in the low
+// bits of its word, and the first from bit 5 on. The span of the two is 3: their word, and the 1 of each pair.
 const NESTED: &str =
     "type Four = Four(Two, Two); layout Four <16> = Four(Two(_, _), Two(_, _)) : { word 16 { [0:4] .0.0, [4:4] .0.1, [8:4] .1.0, [12:4] .1.1 } }; type Two = Two(u4, u4); layout Two <9> = Two(_, _) : { word 9 { [0:4] .1, [5:4] .0 } }; fun main(f: Four): Four = f;";
 
 const REBUILT: [PartRow; 5] = [
     (&[], 3, "type 0: 17185"),
-    // .0 is 1 and 2: the second one, and the first from bit 5 on
+    // 1 from bit 5 on, and 2
     (&[0], 4, "type 1: 34"),
     (&[1], 4, "type 1: 100"),
     (&[1, 1], 5, "u4: 4"),

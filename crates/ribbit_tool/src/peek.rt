@@ -75,7 +75,8 @@ fn part_of_main(
     requires placed { AreInPlace image.blocks }
     requires sized { AreBlocks image.blocks }
     ensures text { IfOk result (λ text. Peeks agreed.now.covered.program
-        (result_type agreed.now.covered.program.funs agreed.now.covered.program.main) path.now image (printed text.items 0)) }
+        (result_type agreed.now.covered.program.funs agreed.now.covered.program.main) path.now image
+        (printed text.items 0)) }
     ensures refused { IfErr result (IsRefusal (Peeks agreed.now.covered.program
         (result_type agreed.now.covered.program.funs agreed.now.covered.program.main) path.now image)) }
 {
@@ -89,7 +90,7 @@ fn part_of_main(
 /// # Errors
 ///
 /// The answer to a file that is not read or not accepted, to an image that is not read or not spelled, to a path that
-/// leads to no part or comes by a word that does not hold, or to a part that holds no value to be shown; or want of memory.
+/// leads to no part or has a word at fault on it, or to a part that holds no value to be shown; or want of memory.
 pub fn peek_file<S: Source>(
     alloc: Global,
     src: &mut S,
