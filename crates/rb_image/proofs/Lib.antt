@@ -21,6 +21,7 @@ pub mod FoundWords
 pub mod GatheredFields
 pub mod GivenLemmas
 pub mod HeldOnce
+pub mod HeldParts
 pub mod IntegerLemmas
 pub mod KeepLemmas
 pub mod KnownLemmas

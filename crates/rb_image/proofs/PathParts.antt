@@ -126,7 +126,7 @@ opened (P.Num at n) ty t e = absurd cc
 opened (P.Con at c ps) ty t e = absurd cc
 
 -- Parts --------------------------------------------------------------------------------------
-part_append : (o : Option Value) (xs ys : List ℕ) → part_from o (xs ++ ys) ≡ part_from (part_from o xs) ys
+pub part_append : (o : Option Value) (xs ys : List ℕ) → part_from o (xs ++ ys) ≡ part_from (part_from o xs) ys
 part_append o [] ys = refl
 part_append o (x ∷ xs) ys = part_append (sub_at o x) xs ys
 
@@ -134,7 +134,7 @@ unless_is : (o : Option ImageFault) (ws us : List Kept) → ◌≡◌ {A = Finds
 unless_is None ws us e = same_Ok ws us e
 unless_is (Some fault) ws us e = absurd cc
 
-not_nil : (xs : List ℕ) (i : ℕ) → xs ++ i ∷ [] ≡ [] → ⊥
+pub not_nil : (xs : List ℕ) (i : ℕ) → xs ++ i ∷ [] ≡ [] → ⊥
 not_nil [] i e = cc
 not_nil (x ∷ xs) i e = cc
 
@@ -146,23 +146,23 @@ module _ (p : Program) (typed : IsTyped p) (agrees : Agrees p) (blocks : List Im
   layouts = flat_layouts p
 
   -- the last subvalue of a walk is a part of the value, and the position is one of its leaf
-  record Stands (w : Where) (first : List ℕ) : Type 0 where
-    u : Value
-    ws : List ℕ
-    from : ℕ → ℕ
-    b : Made types layouts m false w.last.ty u ws
-    inner : List ℕ → ℕ → ℕ
-    falls : PointersFall b.leaf from b.ats
-    are_kept : AreKept b.leaf from b.ats inner
-    below : (k : ℕ) (o : Open) → slice_get (open_positions types b.leaf.prov) k ≡ Some o → Descends types layouts m o.ty (b.at o.path) (b.subs o.path) (inner o.path)
-    kept : AreKeptAs w.last.words ws from
-    is_numbers : numbers w.last.words ≡ ws
-    is_leaf : w.last.leaf ≡ b.leaf
-    to : List ℕ
-    is_first : first ≡ to ++ w.last.at
-    is_part : part_at v to ≡ Some u
-    opens : (o : Open) → In o (opens_of types w.here.pat w.here.ty) → In (record { path = w.last.at ++ o.path; ty = o.ty }) (open_positions types b.leaf.prov)
-    is_root : w.last.at ≡ [] → w.here.ty ≡ Named w.last.ty
+  pub record Stands (w : Where) (first : List ℕ) : Type 0 where
+    pub u : Value
+    pub ws : List ℕ
+    pub from : ℕ → ℕ
+    pub b : Made types layouts m false w.last.ty u ws
+    pub inner : List ℕ → ℕ → ℕ
+    pub falls : PointersFall b.leaf from b.ats
+    pub are_kept : AreKept b.leaf from b.ats inner
+    pub below : (k : ℕ) (o : Open) → slice_get (open_positions types b.leaf.prov) k ≡ Some o → Descends types layouts m o.ty (b.at o.path) (b.subs o.path) (inner o.path)
+    pub kept : AreKeptAs w.last.words ws from
+    pub is_numbers : numbers w.last.words ≡ ws
+    pub is_leaf : w.last.leaf ≡ b.leaf
+    pub to : List ℕ
+    pub is_first : first ≡ to ++ w.last.at
+    pub is_part : part_at v to ≡ Some u
+    pub opens : (o : Open) → In o (opens_of types w.here.pat w.here.ty) → In (record { path = w.last.at ++ o.path; ty = o.ty }) (open_positions types b.leaf.prov)
+    pub is_root : w.last.at ≡ [] → w.here.ty ≡ Named w.last.ty
 
   -- Arrivals ---------------------------------------------------------------------------------
   module _ (before : List Seen) (first : List ℕ) (xs : List Kept) (s : Seen) where
@@ -218,13 +218,13 @@ module _ (p : Program) (typed : IsTyped p) (agrees : Agrees p) (blocks : List Im
             is_root = λ e. refl;
           })
 
-    arrive : {ty : Ty} {u : Value} {ws : List ℕ} {from : ℕ → ℕ} → Descends types layouts m ty u ws from → Arrives ty u ws from
+    pub arrive : {ty : Ty} {u : Value} {ws : List ℕ} {from : ℕ → ℕ} → Descends types layouts m ty u ws from → Arrives ty u ws from
     arrive (number bits x from lt) = tt
     arrive (built t u ws from b inner falls are_kept below) = λ kept. arrives t u ws from b inner falls are_kept below kept
 
   -- Steps ------------------------------------------------------------------------------------
   module _ (w : Where) (first : List ℕ) (i : ℕ) (pos : Position) (st : Stands w first) (field : field_of types w.here.pat i ≡ Some pos) where
-    inside : Stands (moved w i pos) (first ++ i ∷ [])
+    abbrev pub inside : Stands (moved w i pos) (first ++ i ∷ [])
     inside = record {
       u = st.u;
       ws = st.ws;
@@ -263,7 +263,7 @@ module _ (p : Program) (typed : IsTyped p) (agrees : Agrees p) (blocks : List Im
       ap (part_at v) (st.is_first ∙ ap (λ (xs : List ℕ). st.to ++ xs) (sym same)) ∙ part_append (Some v) st.to o.path
       ∙ ap (λ (x : Option Value). part_from x o.path) st.is_part ∙ st.b.is_at k o at
 
-  enters : (w : Where) (first : List ℕ) (st : Stands w first) (t : ℕ) (us : List Kept) (s : Seen) → open_data w.here ≡ Some t
+  pub enters : (w : Where) (first : List ℕ) (st : Stands w first) (t : ℕ) (us : List Kept) (s : Seen) → open_data w.here ≡ Some t
       → ◌≡◌ {A = Finds} (words_on layouts blocks w.last t) (Ok us) → ◌≡◌ {A = Sees} (see layouts blocks t us) (Ok s) → Stands (arrived (w.before ++ w.last ∷ []) s) first
   enters w first st t us s is_data words seen =
       let op = opened (out-Pat w.here.pat) w.here.ty t is_data in
@@ -335,12 +335,12 @@ module _ (p : Program) (typed : IsTyped p) (agrees : Agrees p) (blocks : List Im
             (subst (Represents types layouts m false (Int e.bits) (st.b.at w.last.at)) (sym e.is_word) (one_number below n same));
       }
 
-root_kept : (i : ℕ) (ns : List ℕ) (j n : ℕ) → slice_get ns j ≡ Some n → ((word_at (kept_from i ns) j).number ≡ n) × ((word_at (kept_from i ns) j).base ≡ 0)
+pub root_kept : (i : ℕ) (ns : List ℕ) (j n : ℕ) → slice_get ns j ≡ Some n → ((word_at (kept_from i ns) j).number ≡ n) × ((word_at (kept_from i ns) j).base ≡ 0)
 root_kept i [] j n e = absurd cc
 root_kept i (x ∷ ns) zero n e = (same_Some x n e, refl)
 root_kept i (x ∷ ns) (suc j) n e = root_kept (i + 1) ns j n e
 
-root_numbers : (i : ℕ) (ns : List ℕ) → numbers (kept_from i ns) ≡ ns
+pub root_numbers : (i : ℕ) (ns : List ℕ) → numbers (kept_from i ns) ≡ ns
 root_numbers i [] = refl
 root_numbers i (n ∷ ns) = ap (λ xs. n ∷ xs) (root_numbers (i + 1) ns)
 

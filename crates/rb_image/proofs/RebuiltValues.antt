@@ -3,7 +3,6 @@ use Rattle.std.proofs.Common.{◌≡◌, ℕ, zero, suc, ◌+◌, ◌<◌, inl, 
 use Rattle.std.specs.Prelude.{slice_get, if◌then◌else◌}
 use Rattle.std.proofs.lemmas.Option.{same_Some, slice_get_within}
 use Rattle.rb_core.specs.declared.pattern.Pat.{Pat, Con, Num, out-Pat}
-use Rattle.rb_core.specs.declared.pattern.Pat.TheOpen as P
 use Rattle.rb_core.specs.declared.pattern.Pat.TheVariants.{outs-Wild, outs-Var, outs-Con}
 use Rattle.rb_core.specs.declared.program.Program.{Program}
 use Rattle.rb_core.specs.declared.types.ConRef.{ConRef}
@@ -12,7 +11,7 @@ use Rattle.rb_core.specs.declared.types.Ty.{Ty}
 use Rattle.rb_core.specs.declared.types.Ty.TheVariants.{Int, Named}
 use Rattle.rb_core.specs.declared.value.Value.{Value}
 use Rattle.rb_core.specs.TypedPrograms.{IsTyped}
-use Rattle.rb_core.specs.Values.{are_of, fields_in, is_of_type, part_at}
+use Rattle.rb_core.specs.Values.{are_of, fields_in, is_of_type}
 use Rattle.rb_core.proofs.PatternLaws.{fold-Num}
 use Rattle.rb_core.proofs.ValueLaws.{is_of_type-Con}
 use Rattle.rb_bytes.specs.Memory.{Memory, IsGood}
@@ -39,7 +38,7 @@ use Rattle.rb_image.specs.RebuiltValues.{AreRight, RebuiltWordsRepresent, Stands
 use Rattle.rb_image.specs.Splits.{and_then}
 use Rattle.rb_image.specs.TakenApart.{open_words}
 use Rattle.rb_image.specs.Views.{Standing}
-use Rattle.rb_image.specs.Walks.{layout_at, layout_or_none}
+use Rattle.rb_image.specs.Walks.{layout_or_none}
 use Rattle.rb_image.proofs.HeldOnce.{same_self}
 use Rattle.rb_image.proofs.PackedWords.{packed_represent}
 use Rattle.rb_image.proofs.StandingLeaves.{Ends, chosen_is, claims, comes}

@@ -1,5 +1,5 @@
 -- Values without pointers: their splits pass none, and their constants stand in their words.
-use Rattle.std.proofs.Common.{◌≡◌, ℕ, zero, suc, ◌+◌, ◌-◌, ◌<◌, ◌≤◌, inl, inr, false, length, map, List, [], ◌∷◌, Option, Some, None, Result, Ok, Err, refl, sym, subst, ap, ◌∙◌, arith}
+use Rattle.std.proofs.Common.{◌≡◌, ℕ, zero, suc, ◌+◌, ◌-◌, ◌<◌, ◌≤◌, inl, inr, false, length, List, [], ◌∷◌, Option, Some, None, Result, Ok, Err, refl, sym, subst, ap, ◌∙◌, arith}
 use Rattle.std.specs.Prelude.{slice_get, slice_index, replicate, ◌==◌, if◌then◌else◌}
 use Rattle.std.specs.Int.{bit_at}
 use Rattle.std.proofs.lemmas.Grind.{same_number_lists}
@@ -24,7 +24,7 @@ use Rattle.rb_layout.specs.declared.layout.Leaf.{Leaf}
 use Rattle.rb_layout.specs.declared.layout.Part.{Part}
 use Rattle.rb_layout.specs.declared.layout.WordRef.{WordRef}
 use Rattle.rb_rel.proofs.Fitting.{KindFits}
-use Rattle.rb_layout.specs.A7.{Meets, Resolves}
+use Rattle.rb_layout.specs.A7.{Meets}
 use Rattle.rb_layout.specs.A9.{HasPointerPart}
 use Rattle.rb_layout.specs.Agreement.{Agrees}
 use Rattle.rb_layout.specs.Flat.{IsFlat}
@@ -33,9 +33,9 @@ use Rattle.rb_layout.specs.Locations.{Reached, block_at, next_ref, range_in, rea
 use Rattle.rb_layout.specs.Pointers.{PointsTo}
 use Rattle.rb_layout.specs.Positions.{Open, open_positions}
 use Rattle.rb_layout.specs.Splits.{Test, Is, IsNone}
-use Rattle.rb_layout.specs.Words.{flat_at, words_in, words_of_block}
+use Rattle.rb_layout.specs.Words.{flat_at, words_of_block}
 use Rattle.rb_layout.proofs.OpenPositions.{position-typed}
-use Rattle.rb_rel.specs.Reading.{read_first, read_from, read_loc}
+use Rattle.rb_rel.specs.Reading.{read_first, read_from}
 use Rattle.rb_rel.specs.Relation.{Holds, HoldsKind, Made, Represents, word_count}
 use Rattle.rb_rel.proofs.Agreeing.{lawful}
 use Rattle.rb_rel.proofs.Lawful.{Holder, units_of}
@@ -49,7 +49,7 @@ use Rattle.rb_image.specs.Integers.{field_bit, numbered}
 use Rattle.rb_image.specs.Orders.{PartAt, order_of}
 use Rattle.rb_image.specs.Parts.{addresses_of, bits_at, examine, examine_kind, examine_part, field_word, field_words}
 use Rattle.rb_image.specs.Rebuilds.{numbers_of}
-use Rattle.rb_image.specs.Splits.{and_then, leaf_at, range_at, range_from, range_of, word_at}
+use Rattle.rb_image.specs.Splits.{and_then, leaf_at, range_from, range_of, word_at}
 use Rattle.rb_image.specs.TakenApart.{AreSeen, ValuesAreSeen, open_words}
 use Rattle.rb_image.specs.Views.{from_root}
 use Rattle.rb_image.proofs.FallingSplits.{led, loc_of}

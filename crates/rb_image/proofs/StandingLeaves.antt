@@ -1,11 +1,8 @@
 -- The leaf that is chosen for a value at a position is its own, and the fields there are come to.
-use Rattle.std.proofs.Common.{◌≡◌, ℕ, zero, suc, ◌+◌, inl, inr, length, map, Bool, true, false, List, [], ◌∷◌, Option, Some, None, Result, Ok, Err, refl, sym, subst, ap, ◌∙◌, arith}
+use Rattle.std.proofs.Common.{◌≡◌, ℕ, zero, suc, ◌+◌, inl, inr, length, map, Bool, true, false, List, [], ◌∷◌, Option, Some, None, Result, Ok, refl, sym, subst, ap, ◌∙◌, arith}
 use Rattle.std.specs.Prelude.{slice_get, ◌==◌, ◌&&◌, if◌then◌else◌}
-use Rattle.std.specs.List.{list_all}
 use Rattle.std.proofs.lemmas.Option.{same_Some}
-use Rattle.rb_core.specs.declared.pattern.Pat.{Pat, Wild, Var, Num, Con, out-Pat}
-use Rattle.rb_core.specs.declared.pattern.Pat.TheOpen as P
-use Rattle.rb_core.specs.declared.pattern.Pat.TheOpen.{Pat-F}
+use Rattle.rb_core.specs.declared.pattern.Pat.{Pat, Wild, Var, Con, out-Pat}
 use Rattle.rb_core.specs.declared.pattern.Pat.TheVariants.{outs-Con}
 use Rattle.rb_core.specs.declared.program.Program.{Program}
 use Rattle.rb_core.specs.declared.types.ConRef.{ConRef}
@@ -14,7 +11,7 @@ use Rattle.rb_core.specs.declared.types.Ty.{Ty}
 use Rattle.rb_core.specs.declared.types.Ty.TheVariants.{Int, Named}
 use Rattle.rb_core.specs.declared.value.Value.{Value, out-Value, Con as VCon}
 use Rattle.rb_core.specs.declared.value.Value.TheVariants.{outs-Con as V-outs-Con}
-use Rattle.rb_core.specs.Matching.{all_pass, is_con, matches_of, matches_step}
+use Rattle.rb_core.specs.Matching.{all_pass, is_con, matches_of}
 use Rattle.rb_core.specs.TypedPrograms.{IsTyped}
 use Rattle.rb_core.specs.Values.{fields_in, fields_of, part_at, part_from, subs}
 use Rattle.rb_core.proofs.MatchingForms.{matches-Con, matches-Var, matches-Wild}
@@ -26,18 +23,18 @@ use Rattle.rb_layout.specs.declared.layout.Leaf.{Leaf}
 use Rattle.rb_layout.specs.A9.{HasPointerPart}
 use Rattle.rb_layout.specs.Agreement.{Agrees}
 use Rattle.rb_layout.specs.Flattening.{flat_layouts}
-use Rattle.rb_layout.specs.Positions.{Open, below, leaf_from, opens_below, opens_of, opens_step, types_or_none}
-use Rattle.rb_rel.proofs.Lawful.{fits_type, is_named}
-use Rattle.rb_rel.proofs.Lists.{both, get-append, get-map}
+use Rattle.rb_layout.specs.Positions.{Open, below, leaf_from, opens_below, opens_of, types_or_none}
+use Rattle.rb_rel.proofs.Lawful.{fits_type}
+use Rattle.rb_rel.proofs.Lists.{get-append, get-map}
 use Rattle.rb_rel.proofs.Opens.{opens-Con, opens-Var, opens-Wild}
 use Rattle.rb_rel.proofs.Reading.{same_nat}
 use Rattle.rb_image_text.specs.declared.fault.ImageFault.{ImageFault}
 use Rattle.rb_image_text.specs.declared.fault.ImageFault.TheVariants.{Memory as NoMemory}
 use Rattle.rb_image_text.specs.declared.image.ImageBlock.{ImageBlock}
 use Rattle.rb_image.specs.Rebuilds.{Matching, chosen, match_con, match_field, match_fields, match_step, matches, or_later, same_con}
-use Rattle.rb_image.specs.RebuiltValues.{IsInner, Stands, is_plain, plain_step}
+use Rattle.rb_image.specs.RebuiltValues.{IsInner, Stands, plain_step}
 use Rattle.rb_image.specs.Splits.{and_then, or_fault}
-use Rattle.rb_image.specs.Views.{Standing, along, down, settled, step_down}
+use Rattle.rb_image.specs.Views.{Standing, along, down, step_down}
 use Rattle.rb_image.proofs.FallingWords.{same_is}
 use Rattle.rb_image.proofs.StandingParts.{Matched, Settled, Step, all_two, con_fits, head_free, matched, settles, step, sub_inner, two_from}
 

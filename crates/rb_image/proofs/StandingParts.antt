@@ -1,6 +1,6 @@
 -- Values at positions: their own leaves, their fields, and the provenances that match them.
-use Rattle.std.proofs.Common.{◌≡◌, ℕ, zero, suc, ◌+◌, inl, inr, length, map, Bool, true, false, List, [], ◌∷◌, ◌++◌, Option, Some, None, Result, Ok, Err, refl, sym, subst, ap, ◌∙◌, arith, append_assoc, append-nil}
-use Rattle.std.specs.Prelude.{slice_get, ◌==◌, ◌&&◌, if◌then◌else◌}
+use Rattle.std.proofs.Common.{◌≡◌, ℕ, zero, suc, ◌+◌, inl, inr, map, Bool, true, false, List, [], ◌∷◌, ◌++◌, Some, Ok, refl, sym, subst, ap, ◌∙◌, arith, append_assoc, append-nil}
+use Rattle.std.specs.Prelude.{slice_get, ◌==◌}
 use Rattle.std.specs.List.{flat_map, list_all}
 use Rattle.std.proofs.lemmas.Option.{same_Some}
 use Rattle.rb_core.specs.declared.pattern.Pat.{Pat, Wild, Var, Num, Con, out-Pat, fold-Pat}
@@ -14,12 +14,10 @@ use Rattle.rb_core.specs.declared.types.Ty.TheVariants.{Int, Named}
 use Rattle.rb_core.specs.declared.types.DataDecl.{DataDecl}
 use Rattle.rb_core.specs.declared.value.Value.{Value, out-Value, Num as VNum, Con as VCon}
 use Rattle.rb_core.specs.declared.value.Value.TheVariants.{outs-Num as V-outs-Num, outs-Con as V-outs-Con}
-use Rattle.rb_core.specs.declared.value.Value.TheOpen as V
-use Rattle.rb_core.specs.declared.value.Value.TheOpen.{Value-F}
 use Rattle.rb_core.specs.Matching.{all_pass, is_con, is_number, matches_of}
 use Rattle.rb_core.specs.TypedPrograms.{IsTyped}
-use Rattle.rb_core.specs.Values.{all_of_types, are_of, fields_in, fields_of, is_of_type, of_type_step, part_at, part_from, subs}
-use Rattle.rb_core.proofs.MatchingForms.{matches-Con, matches-Num}
+use Rattle.rb_core.specs.Values.{all_of_types, are_of, fields_in, fields_of, is_of_type, part_from, subs}
+use Rattle.rb_core.proofs.MatchingForms.{matches-Con}
 use Rattle.rb_core.specs.WellNumbered.{Below, below_step, either, is_provenance, may_be_below}
 use Rattle.rb_core.proofs.ValueLaws.{is_of_type-Con, subs-Con}
 use Rattle.rb_core.proofs.ValueLaws.{induction as value_induction}
@@ -30,7 +28,7 @@ use Rattle.rb_layout.specs.declared.layout.Leaf.{Leaf}
 use Rattle.rb_layout.specs.A9.{HasPointerPart, cons_below_root, cons_of, cons_step}
 use Rattle.rb_layout.specs.Agreement.{Agrees}
 use Rattle.rb_layout.specs.Flattening.{flat_layouts}
-use Rattle.rb_layout.specs.Positions.{Open, below, layout_of, leaf_from, open_positions, opens_below, opens_of, root_type, types_or_none}
+use Rattle.rb_layout.specs.Positions.{Open, below, layout_of, opens_below, opens_of, root_type, types_or_none}
 use Rattle.rb_rel.specs.Relation.{Represents}
 use Rattle.rb_rel.proofs.Agreeing.{lawful}
 use Rattle.rb_rel.proofs.Lawful.{ProvenancesFit, fits_type, is_named}
@@ -38,14 +36,13 @@ use Rattle.rb_rel.proofs.Leaves.{leaf_matches}
 use Rattle.rb_rel.proofs.Lists.{and_true, both, get-left, get-mapped, get-right}
 use Rattle.rb_rel.proofs.Opens.{fits-Con, fitting, opens-Con, opens-Var, opens-Wild}
 use Rattle.rb_rel.proofs.Reading.{same_nat}
-use Rattle.rb_image_text.specs.declared.fault.ImageFault.{ImageFault}
 use Rattle.rb_image_text.specs.declared.image.ImageBlock.{ImageBlock}
 use Rattle.rb_image.specs.declared.kept.Kept.{Kept}
 use Rattle.rb_image.specs.Fields.{field_in, field_of, with_type}
-use Rattle.rb_image.specs.Rebuilds.{chosen, match_con, match_field, match_fields, match_step, matches, numbers_of, or_later, same_con}
+use Rattle.rb_image.specs.Rebuilds.{numbers_of}
 use Rattle.rb_image.specs.RebuiltValues.{IsInner, Stands, is_plain, plain_step}
-use Rattle.rb_image.specs.TakenApart.{AreSeen, open_words}
-use Rattle.rb_image.specs.Views.{Standing, along, down, down_to, from_root, settled, settled_at, step_down, words_here}
+use Rattle.rb_image.specs.TakenApart.{open_words}
+use Rattle.rb_image.specs.Views.{Standing, down, down_to, from_root, settled, settled_at, words_here}
 use Rattle.rb_image.specs.Walks.{data_of, open_data, open_in}
 use Rattle.rb_image.proofs.SeenValues.{values_are_seen}
 use Rattle.rb_image.proofs.SpotLemmas.{In, get_in, in_get, in_right}
@@ -105,7 +102,7 @@ plain_at [] h j q e = absurd cc
 plain_at (p ∷ ps) h zero q e = ap is_plain (sym (same_Some p q e)) ∙ (both (is_plain p) (list_all (λ so. so) (map is_plain ps)) h).0
 plain_at (p ∷ ps) h (suc j) q e = plain_at ps (both (is_plain p) (list_all (λ so. so) (map is_plain ps)) h).1 j q e
 
-in_one : (c : ConRef) (css : List (List ConRef)) (j : ℕ) (cs : List ConRef) → slice_get css j ≡ Some cs → In c cs → In c (flat_map (λ ds. ds) css)
+pub in_one : (c : ConRef) (css : List (List ConRef)) (j : ℕ) (cs : List ConRef) → slice_get css j ≡ Some cs → In c cs → In c (flat_map (λ ds. ds) css)
 in_one c [] j cs e h = absurd cc
 in_one c (ds ∷ css) zero cs e h = left ds (flat_map (λ es. es) css) (subst (In c) (sym (same_Some ds cs e)) h)
   where
@@ -161,7 +158,7 @@ either_right false b e = e
 pub plain_provenance : (q : Pat) → is_provenance q ≡ true → is_plain q ≡ true
 plain_provenance q h = plain_below q (either_right (fold-Pat Below below_step q).wild (fold-Pat Below below_step q).provenance h)
 
-flat_same : (ps : List Pat) → flat_map (λ (cs : List ConRef). cs) (map cons_of ps) ≡ flat_map cons_of ps
+pub flat_same : (ps : List Pat) → flat_map (λ (cs : List ConRef). cs) (map cons_of ps) ≡ flat_map cons_of ps
 flat_same [] = refl
 flat_same (q ∷ ps) = ap (λ cs. cons_of q ++ cs) (flat_same ps)
 

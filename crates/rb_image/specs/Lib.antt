@@ -4,6 +4,7 @@ pub mod Falling
 pub mod FieldSites
 pub mod Fields
 pub mod Given
+pub mod HeldParts
 pub mod Integers
 pub mod LeafWords
 pub mod Memories

@@ -1,5 +1,5 @@
 -- That what is rebuilt represents the part of a value that was taken apart.
-use Rattle.std.specs.Prelude.{◌≡◌, ℕ, ◌++◌, ◌&&◌, List, Bool, true, false, Some, Result, Ok, Err, slice_get}
+use Rattle.std.specs.Prelude.{◌≡◌, ℕ, ◌++◌, List, Bool, true, false, Some, Result, Ok, Err, slice_get}
 use Rattle.std.specs.List.{list_all}
 use Rattle.rb_core.specs.declared.pattern.Pat.{Pat, fold-Pat}
 use Rattle.rb_core.specs.declared.pattern.Pat.TheOpen as P

@@ -2,6 +2,7 @@
 
 ghost use Rattle.rb_image.specs.FieldSites.{LeavesAreNarrow};
 ghost use Rattle.rb_image.specs.Falling.{DescendingImagesAreSound, SoundImagesDescend, SoundValuesDescend};
+ghost use Rattle.rb_image.specs.HeldParts.{GivenPartsAreHeld};
 ghost use Rattle.rb_image.specs.PathParts.{PathsLeadToParts};
 ghost use Rattle.rb_image.specs.PathSpans.{WalksAreShort};
 ghost use Rattle.rb_image.specs.Peeking.{PartsAreHeld};
@@ -88,4 +89,10 @@ pub fn rebuilt_words_represent()
 /// not rebuilt.
 pub fn parts_are_held()
     ensures { PartsAreHeld }
+{}
+
+/// Where an image holds a value, the words that `peek` gives represent the part of the value at the path, also where
+/// the part was taken apart and is rebuilt.
+pub fn given_parts_are_held()
+    ensures { GivenPartsAreHeld }
 {}
