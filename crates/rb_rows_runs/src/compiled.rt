@@ -66,7 +66,7 @@ fn code_texts_run(rt: HostRuntime) -> Result<(), Surprise> {
 // File, the start of a line, and how many lines of the file's code begin so, at least and at most.
 type Lines<'a> = (&'a str, &'a str, usize, usize);
 
-const LINES: [Lines; 20] = [
+const LINES: [Lines; 21] = [
     // an arm whose value is the function's result returns it
     (SUM, "return ", 3, 3),
     (SUM, "copy ", 0, 0),
