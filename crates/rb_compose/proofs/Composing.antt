@@ -1,5 +1,5 @@
 -- The code of a leaf makes its values.
-use Rattle.std.proofs.Common.{◌≡◌, ℕ, zero, suc, ◌+◌, ◌/◌, ◌%◌, ◌^◌, ◌<◌, ◌≤◌, inl, inr, map, List, [], ◌∷◌, length, Bool, Option, Some, None, refl, sym, subst, ap, ◌∙◌, arith}
+use Rattle.std.proofs.Common.{◌≡◌, ℕ, zero, suc, ◌+◌, ◌*◌, ◌/◌, ◌%◌, ◌^◌, ◌<◌, ◌≤◌, ◌==◌, ◌&&◌, true, inl, inr, map, List, [], ◌∷◌, length, Bool, Option, Some, None, refl, sym, subst, ap, ◌∙◌, arith}
 use Rattle.std.specs.Prelude.{slice_get, slice_index, unwrap_or}
 use Rattle.std.proofs.lemmas.List.{length-map}
 use Rattle.std.proofs.Math.Nat.{mod-eq_of_lt}
@@ -25,7 +25,7 @@ use Rattle.rb_layout.specs.declared.layout.Part.{Part}
 use Rattle.rb_layout.specs.declared.layout.WordRef.{WordRef}
 use Rattle.rb_layout.specs.Agreement.{Agrees}
 use Rattle.rb_layout.specs.A4.{IsAlignment}
-use Rattle.rb_bits.specs.Words.{put_of}
+use Rattle.rb_bits.specs.Words.{put_of, take_of}
 use Rattle.rb_layout.specs.Flattening.{flat_layouts, type_at}
 use Rattle.rb_layout.specs.Pointers.{PointsTo}
 use Rattle.rb_layout.specs.Positions.{Open, layout_of, open_positions, leaf_of}
@@ -33,16 +33,18 @@ use Rattle.rb_layout.specs.Words.{flat_at, size_of, words_of_block}
 use Rattle.rb_rel.specs.Placing.{Laid, Fits, Over, blocks_in, blocks_of, lay, leaf_in, leaf_numbered, request_of}
 use Rattle.rb_rel.specs.Relation.{shape_length}
 use Rattle.rb_rel.proofs.Fitting.{KindFits, WordFits}
+use Rattle.rb_rel.proofs.Lists.{both}
 use Rattle.rb_rel.proofs.Layers.{Sound, open_of, address_at, can_hold, layer_shown, numbered, placed_at, stored}
 use Rattle.rb_rel.proofs.Packing.{number_of, packed}
 use Rattle.rb_rel.proofs.Storing.{laid_more, with_block, with_blocks, written}
 use Rattle.rb_fragment.specs.Plan.{Plan, Rep}
 use Rattle.rb_fragment.proofs.Represented.{Rep-int}
-use Rattle.rb_compose.specs.inner.Code.{blocks_code, capped, field_slots, held_slots, is_int, leaf_code, leaf_slots, whole_of}
+use Rattle.rb_compose.specs.inner.Code.{blocks_code, capped, field_slots, field_type, held_slots, is_int, is_low, is_ready, leaf_code, leaf_slots, low_bit, shift_of, whole_of}
 use Rattle.rb_compose.proofs.Fits.{leaf_adds, roots_below, roots_count, roots_distinct, roots_from}
 use Rattle.rb_compose.proofs.Leaves.{type_held, width_low, plan, is_sound, leaf_ok, bits_at, word_at, index_at}
 use Rattle.rb_compose.proofs.Longer.{blocks_longer}
-use Rattle.rb_compose.proofs.Numbers.{bits_put, capped-is, composed, const_put, from_zero, is_a_range, pointer_put, put_whole, source_value, word_number, word_put}
+use Rattle.rb_compose.proofs.Beside.{composed_is, source_word, word_number}
+use Rattle.rb_compose.proofs.Numbers.{bits_put, capped-is, const_put, from_zero, is_a_range, pointer_put, put_whole, shift_is, source_value, word_put}
 use Rattle.rb_compose.proofs.Wholes.{HasWhole, is_whole}
 use Rattle.rb_compose.proofs.Placing.{Ran, addresses, field, leaf_run, made}
 use Rattle.rb_core.specs.declared.outcome.SourceEnd.TheVariants.{Done}
@@ -91,6 +93,10 @@ laid_there limit next (y ∷ xs) bs p e (suc b) x is =
 no_requests : (xs : List Block) → map request_of xs ≡ [] → xs ≡ []
 no_requests [] e = refl
 no_requests (x ∷ xs) e = absurd cc
+
+-- a number at bit 0
+at_bottom : (o x : ℕ) {v : ℕ} → o ≡ 0 → v ≡ x → v ≡ x * 2 ^ o
+at_bottom o x e is = let one : x ≡ x * 1 = omega arith in is ∙ one ∙ ap (λ i. x * 2 ^ i) (sym e)
 
 module _ (p : Program) (typed : IsTyped p) (agrees : Agrees p) (bound : ℕ → ℕ → ℕ) (t : ℕ) (layout : Layout) (number : ℕ) (leaf : Leaf)
     (is_layout : layout_of (flat_layouts p) t ≡ Some layout) (is_number : slice_get layout.leaves number ≡ Some leaf)
@@ -209,11 +215,43 @@ module _ (p : Program) (typed : IsTyped p) (agrees : Agrees p) (bound : ℕ → 
             whole_value q.l q.kind w h.has (fits.kinds 0 q (ap (λ xs. slice_get xs 0) h.only))
             ∙ sym (ap (packed subs at) h.only ∙ ap (λ o. put_of 0 o q.l (number_of subs at q.l q.kind)) h.first ∙ put_whole q.l (number_of subs at q.l q.kind))
 
+        -- a part that stands in its place is what it has to hold there
+        ready_value : (r : WordRef) (f : FlatWord) (k : ℕ) (q : Part) → flat_at leaf r ≡ Some f → slice_get f.parts k ≡ Some q → WordFits p.layouts opens f
+            → (kind : Kind) → q.kind ≡ kind → is_ready hs q.o q.l kind ≡ true → source_word hs reading ats kind ≡ number_of subs at q.l kind * 2 ^ q.o
+        ready_value r f k q is part fits (Const c) e ready = absurd cc
+        ready_value r f k q is part fits (Bits path a) e ready =
+            let h = both (q.o == 0 && a == 0) (is_int q.l (field_type hs path)) ready in
+            let g = both (q.o == 0) (a == 0) h.0 in
+            at_bottom q.o (number_of subs at q.l (Bits path a)) (same_nat q.o 0 g.0)
+            (whole_value q.l (Bits path a) (path, 0) (inr (ap (λ i. Bits path i) (same_nat a 0 g.1), refl, h.1)) (subst (λ (y : Kind). KindFits p.layouts opens q.l y) e (fits.kinds k q part)))
+        ready_value r f k q is part fits (Word path j) e ready =
+            at_bottom q.o (number_of subs at q.l (Word path j)) (same_nat q.o 0 ready)
+            (whole_value q.l (Word path j) (path, j) (inl refl) (subst (λ (y : Kind). KindFits p.layouts opens q.l y) e (fits.kinds k q part)))
+        ready_value r f k q is part fits (Pointer align x) e ready =
+            let points : PointsTo leaf r q.l align x = record { word = f; number = k; part = q; is_word = is; is_part = part; is_length = refl; is_pointer = e } in
+            let to = (ok.flat.below r q.l align x points).0 in
+            let can = can_hold p agrees clean t layout number leaf ok m good subs reps wide bs top laid r f is fits in
+            let unit : align ≡ 2 ^ q.o = shift_is align (wide r q.l align x points).0 ∙ ap (λ i. 2 ^ i) (same_nat (shift_of align) q.o ready) in
+            (same_address x to.0 to.1).0 ∙ sym (can.aligned k q part align x e) ∙ ap (λ i. at x / align * i) unit
+
+        -- bits of a number that are to stand from bit 0 on
+        low_value : (f : FlatWord) (k : ℕ) (q : Part) → slice_get f.parts k ≡ Some q → WordFits p.layouts opens f → q.l ≤ 64
+            → (kind : Kind) → q.kind ≡ kind → is_low q.o kind ≡ true → take_of (source_word hs reading ats kind) (low_bit kind) (capped q.l) ≡ number_of subs at q.l kind * 2 ^ q.o
+        low_value f k q part fits few (Const x) e low = absurd cc
+        low_value f k q part fits few (Bits path a) e low =
+            let b = bits_at p typed agrees bound t layout number leaf is_layout is_number n hs given q.l a path (subst (λ (y : Kind). KindFits p.layouts opens q.l y) e (fits.kinds k q part)) in
+            let le = b.0 in
+            at_bottom q.o (number_of subs at q.l (Bits path a)) (same_nat q.o 0 low)
+            (ap (λ i. take_of i (capped a) (capped q.l)) (index_at s (field_slots hs path) 0 b.1) ∙ ap (λ i. take_of (slice_index (subs path) 0) i (capped q.l)) (capped-is a (omega (arith, le)))
+            ∙ ap (λ i. take_of (slice_index (subs path) 0) a i) (capped-is q.l few))
+        low_value f k q part fits few (Word path j) e low = absurd cc
+        low_value f k q part fits few (Pointer align x) e low = absurd cc
+
         -- a composed word is what its parts pack
-        parts_same : (r : WordRef) (f : FlatWord) → flat_at leaf r ≡ Some f → f.width ≤ 64 → WordFits p.layouts opens f → word_number reading ats None f.parts ≡ packed subs at f.parts
+        parts_same : (r : WordRef) (f : FlatWord) → flat_at leaf r ≡ Some f → f.width ≤ 64 → WordFits p.layouts opens f → word_number hs reading ats None f.parts ≡ packed subs at f.parts
         parts_same r f is low fits =
             let can = can_hold p agrees clean t layout number leaf ok m good subs reps wide bs top laid r f is fits in
-            composed reading ats subs at f.parts
+            composed_is hs reading ats subs at f.parts
             (λ k q part.
             let inside = fits.tidy.inside k q part in
             let some = fits.some k q part in
@@ -222,17 +260,22 @@ module _ (p : Program) (typed : IsTyped p) (agrees : Agrees p) (bound : ℕ → 
             let inside = fits.tidy.inside k q part in
             let few : q.l ≤ 64 = omega (arith, inside, low) in
             record {
-              first = capped-is q.o (omega (arith, inside, low));
-              long = capped-is q.l few;
-              fits = can.fit k q part;
-              value = put_value r f k q is part fits few (can.fit k q part) q.kind refl;
+              put = record {
+                first = capped-is q.o (omega (arith, inside, low));
+                long = capped-is q.l few;
+                fits = can.fit k q part;
+                value = put_value r f k q is part fits few (can.fit k q part) q.kind refl;
+              };
+              inside = omega (arith, inside, low);
+              ready = ready_value r f k q is part fits q.kind refl;
+              low = low_value f k q part fits few q.kind refl;
             })
             fits.tidy.apart
 
         word_same : (r : WordRef) (f : FlatWord) → flat_at leaf r ≡ Some f → f.width ≤ 64 → WordFits p.layouts opens f → run_made f ≡ packs f
         word_same r f is low fits = go (whole_of hs f.parts) refl
           where
-            go : (o : Option (List ℕ × ℕ)) → whole_of hs f.parts ≡ o → word_number reading ats o f.parts ≡ packed subs at f.parts
+            go : (o : Option (List ℕ × ℕ)) → whole_of hs f.parts ≡ o → word_number hs reading ats o f.parts ≡ packed subs at f.parts
             go None e = parts_same r f is low fits
             go (Some w) e = whole_same f fits w e
 

@@ -1,9 +1,11 @@
 -- What the code of a construction demands of a leaf, and that it is fitting then.
-use Rattle.std.proofs.Common.{◌≡◌, ℕ, zero, suc, ◌+◌, ◌-◌, ◌/◌, ◌<◌, ◌≤◌, ◌==◌, inl, inr, true, false, List, [], ◌∷◌, ◌++◌, length, Option, Some, None, refl, sym, subst, ap, ◌∙◌, arith, length-append}
+use Rattle.std.proofs.Common.{◌≡◌, ℕ, zero, suc, ◌+◌, ◌-◌, ◌/◌, ◌^◌, ◌<◌, ◌≤◌, ◌==◌, inl, inr, Bool, true, false, List, [], ◌∷◌, ◌++◌, length, Option, Some, None, refl, sym, subst, ap, ◌∙◌, arith, length-append}
 use Rattle.std.specs.Prelude.{slice_get, slice_index, if◌then◌else◌}
 use Rattle.std.proofs.lemmas.Bool.{cases_lt}
 use Rattle.rb_bits.specs.Words.{IsRange}
 use Rattle.rb_bytes.specs.Memory.{IsAlign}
+use Rattle.rb_target.specs.declared.instr.AluOp.TheVariants.{Or}
+use Rattle.rb_target.specs.declared.instr.Instr.{Instr}
 use Rattle.rb_target.specs.declared.instr.Instr.TheVariants as I
 use Rattle.rb_target.specs.Sheet.{Sheet, pushed, with_slot}
 use Rattle.rb_layout.specs.declared.layout.Block.{Block}
@@ -21,9 +23,10 @@ use Rattle.rb_fragment.specs.Slots.{AllBelow, AllFrom, IsDistinct}
 use Rattle.rb_fragment.proofs.Adding.{Adds-one, Adds-refl, Adds-trans, push_adds}
 use Rattle.rb_fragment.proofs.Moves.{one-from}
 use Rattle.rb_rel.proofs.Storing.{IsBlock}
-use Rattle.rb_compose.specs.inner.Code.{block_code, blocks_code, capped, constants, field_slots, kind_code, leaf_code, parts_code, put_code, root_code, root_slots, roots_code, shift_of, slot_of, stores_code, taken_code, taken_slot, value_code, value_slot, whole_of, whole_slot, word_code}
-use Rattle.rb_compose.proofs.Longer.{block_longer, blocks_longer, fresh_root, fresh_word, kind_longer, root_longer, roots_longer, stores_longer, taken_longer, value_longer}
+use Rattle.rb_compose.specs.inner.Code.{after_constants, begun_code, block_code, blocks_code, capped, constants, field_slots, is_low, is_ready, joined_code, kind_code, leaf_code, low_bit, part_code, parts_code, put_code, root_code, root_slots, roots_code, shift_of, slot_of, source_slot, stores_code, taken_code, taken_slot, value_code, value_slot, whole_of, whole_slot, word_code}
+use Rattle.rb_compose.proofs.Longer.{begun_by, block_longer, blocks_longer, fresh_root, fresh_word, from_code, joined_by, low_by, part_by, part_longer, root_longer, roots_longer, stores_longer, taken_longer, value_longer, word_by}
 use Rattle.rb_compose.proofs.Numbers.{constants_small, shift_small}
+use Rattle.rb_compose.proofs.Skipping.{each_after}
 use Rattle.rb_compose.proofs.Wholes.{HasWhole, is_whole}
 
 -- The address slots of blocks --------------------------------------------------------------------
@@ -117,22 +120,87 @@ module _ (hs : List Subvalue) where
     kind_adds d p (Pointer align x) b lt le low u made range =
         let small = shift_small align in put_adds d (slice_index blocks x) (shift_of align) (64 - shift_of align) p b lt (low x u) (omega (arith, small), omega (arith, small)) range
 
+    -- the slot from which a part that stands in its place is made
+    source_low : (m o l : ℕ) (kind : Kind) → is_ready hs o l kind ≡ true → n ≤ m → SlotsBelow blocks m → Uses n (length blocks) kind → source_slot hs blocks kind < m
+    source_low m o l (Const c) e le low u = absurd cc
+    source_low m o l (Bits path a) e le low u = omega (arith, le, u)
+    source_low m o l (Word path j) e le low u = omega (arith, le, u)
+    source_low m o l (Pointer align x) e le low u = low x u
+
+    part_adds : (d : ℕ) (p : Part) (b : Sheet) → d < b.slots → n ≤ b.slots → SlotsBelow blocks b.slots → PartOk n (length blocks) p → Adds plan b (part_code hs blocks d p b)
+    part_adds d p b lt le low ok = by (is_ready hs p.o p.l p.kind) refl
+      where
+        by : (t : Bool) → is_ready hs p.o p.l p.kind ≡ t → Adds plan b (part_by hs blocks d p b t)
+        by true e = push_adds plan b (I.Alu Or 64 d d (source_slot hs blocks p.kind)) (record { bounded = (omega arith, omega arith); slots_fit = (lt, lt, source_low b.slots p.o p.l p.kind e le low ok.uses); targets = tt; calls = tt })
+        by false e = kind_adds d p p.kind b lt le low ok.uses ok.made ok.range
+
     parts_adds : (d : ℕ) (ps : List Part) (b : Sheet) → d < b.slots → n ≤ b.slots → SlotsBelow blocks b.slots → PartsOk n (length blocks) ps → Adds plan b (parts_code hs blocks d ps b)
     parts_adds d [] b lt le low ok = Adds-refl plan b
     parts_adds d (p ∷ ps) b lt le low ok =
-        let c = kind_code hs blocks d p p.kind b in
-        let more = (kind_longer hs blocks d p p.kind b).more in
-        let part = ok 0 p refl in
-        Adds-trans plan b c (parts_code hs blocks d ps c) (kind_adds d p p.kind b lt le low part.uses part.made part.range)
+        let c = part_code hs blocks d p b in
+        let more = (part_longer hs blocks d p b).more in
+        Adds-trans plan b c (parts_code hs blocks d ps c) (part_adds d p b lt le low (ok 0 p refl))
         (parts_adds d ps c (omega (arith, lt, more)) (omega (arith, le, more)) (slots_below_more blocks b.slots c.slots more low) (λ k q e. ok (suc k) q e))
+
+    -- an instruction that writes the first new slot, and parts
+    from_adds : (i : Instr) (ps : List Part) (b : Sheet) → Adds plan b (pushed (with_slot b) i) → n ≤ b.slots → SlotsBelow blocks b.slots → PartsOk n (length blocks) ps → Adds plan b (from_code hs blocks i ps b)
+    from_adds i ps b one le low ok =
+        let c = pushed (with_slot b) i in
+        Adds-trans plan b c (from_code hs blocks i ps b) one (parts_adds b.slots ps c (omega arith) (omega (arith, le)) (slots_below_more blocks b.slots c.slots (omega arith) low) ok)
+
+    const_adds : (k : ℕ) (b : Sheet) → k < 2 ^ 64 → Adds plan b (pushed (with_slot b) (I.Const b.slots k))
+    const_adds k b small = Adds-one plan b (I.Const b.slots k) (0, omega arith, refl) (record { bounded = small; slots_fit = omega arith; targets = tt; calls = tt })
+
+    copy_adds : (x : ℕ) (b : Sheet) → x < b.slots → Adds plan b (pushed (with_slot b) (I.Copy b.slots x))
+    copy_adds x b lt = Adds-one plan b (I.Copy b.slots x) (0, omega arith, refl) (record { bounded = tt; slots_fit = (omega arith, omega (arith, lt)); targets = tt; calls = tt })
+
+    or_adds : (x y : ℕ) (b : Sheet) → x < b.slots → y < b.slots → Adds plan b (pushed (with_slot b) (I.Alu Or 64 b.slots x y))
+    or_adds x y b lx ly =
+        Adds-one plan b (I.Alu Or 64 b.slots x y) (0, omega arith, refl) (record { bounded = (omega arith, omega arith); slots_fit = (omega arith, omega (arith, lx), omega (arith, ly)); targets = tt; calls = tt })
+
+    joined_adds : (x : ℕ) (ps : List Part) (b : Sheet) → x < b.slots → n ≤ b.slots → SlotsBelow blocks b.slots → PartsOk n (length blocks) ps → Adds plan b (joined_code hs blocks x ps b)
+    joined_adds x [] b lt le low ok = copy_adds x b lt
+    joined_adds x (p ∷ ps) b lt le low ok = by (is_ready hs p.o p.l p.kind) refl
+      where
+        by : (t : Bool) → is_ready hs p.o p.l p.kind ≡ t → Adds plan b (joined_by hs blocks x p ps b t)
+        by true e =
+            let y = source_slot hs blocks p.kind in
+            from_adds (I.Alu Or 64 b.slots x y) ps b (or_adds x y b lt (source_low b.slots p.o p.l p.kind e le low (ok 0 p refl).uses)) le low (λ k q h. ok (suc k) q h)
+        by false e = from_adds (I.Copy b.slots x) (p ∷ ps) b (copy_adds x b lt) le low ok
+
+    -- bits of a number, and the slot from which they are taken
+    low_part : (m o l : ℕ) (kind : Kind) → is_low o kind ≡ true → n ≤ m → Uses n (length blocks) kind → IsMade l kind → IsRange (low_bit kind) (capped l) × (source_slot hs blocks kind < m)
+    low_part m o l (Const c) e le u made = absurd cc
+    low_part m o l (Bits path a) e le u made = (made, omega (arith, le, u))
+    low_part m o l (Word path j) e le u made = absurd cc
+    low_part m o l (Pointer align x) e le u made = absurd cc
+
+    begun_adds : (ps : List Part) (b : Sheet) → n ≤ b.slots → SlotsBelow blocks b.slots → PartsOk n (length blocks) ps → Adds plan b (begun_code hs blocks ps b)
+    begun_adds [] b le low ok = const_adds 0 b (omega arith)
+    begun_adds (p ∷ ps) b le low ok = by (is_ready hs p.o p.l p.kind) refl
+      where
+        by : (t : Bool) → is_ready hs p.o p.l p.kind ≡ t → Adds plan b (begun_by hs blocks p ps b t)
+        by true e =
+            joined_adds (source_slot hs blocks p.kind) (after_constants ps) b (source_low b.slots p.o p.l p.kind e le low (ok 0 p refl).uses) le low
+            (each_after (PartOk n (length blocks)) ps (λ k q h. ok (suc k) q h))
+        by false e = from_low (is_low p.o p.kind) refl
+          where
+            from_low : (t : Bool) → is_low p.o p.kind ≡ t → Adds plan b (low_by hs blocks p ps b t)
+            from_low true h =
+                let take = low_part b.slots p.o p.l p.kind h le (ok 0 p refl).uses (ok 0 p refl).made in
+                let x = source_slot hs blocks p.kind in
+                from_adds (I.Take b.slots x (low_bit p.kind) (capped p.l)) ps b
+                (Adds-one plan b (I.Take b.slots x (low_bit p.kind) (capped p.l)) (0, omega arith, refl) (record { bounded = take.0; slots_fit = (omega arith, (let lt = take.1 in omega (arith, lt))); targets = tt; calls = tt }))
+                le low (λ k q h1. ok (suc k) q h1)
+            from_low false h = from_adds (I.Const b.slots 0) (p ∷ ps) b (const_adds 0 b (omega arith)) le low ok
 
     word_adds : (ps : List Part) (b : Sheet) → n ≤ b.slots → SlotsBelow blocks b.slots → PartsOk n (length blocks) ps → Adds plan b (word_code hs blocks ps b)
     word_adds ps b le low ok =
         let k = constants 0 ps in
-        let c = pushed (with_slot b) (I.Const b.slots k) in
-        Adds-trans plan b c (word_code hs blocks ps b)
-        (Adds-one plan b (I.Const b.slots k) (0, omega arith, refl) (record { bounded = constants_small ps 0 (omega arith); slots_fit = omega arith; targets = tt; calls = tt }))
-        (parts_adds b.slots ps c (omega arith) (omega (arith, le)) (slots_below_more blocks b.slots c.slots (omega arith) low) ok)
+        elim (k == 0) as (λ t. Adds plan b (word_by hs blocks ps b t)) [
+          | true ↦ begun_adds (after_constants ps) b le low (each_after (PartOk n (length blocks)) ps ok)
+          | false ↦ from_adds (I.Const b.slots k) ps b (const_adds k b (constants_small ps 0 (omega arith))) le low ok
+        ]
 
     -- a field's word that is a word whole is in a slot below n
     whole_below : (ps : List Part) (w : List ℕ × ℕ) → whole_of hs ps ≡ Some w → PartsOk n (length blocks) ps → slice_index (field_slots hs w.0) w.1 < n

@@ -1,4 +1,6 @@
 pub mod Numbers
+pub mod Skipping
+pub mod Beside
 pub mod Longer
 pub mod Wholes
 pub mod Running

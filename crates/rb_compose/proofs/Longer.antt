@@ -1,6 +1,7 @@
 -- The code of a construction is appended, whatever it is made from.
-use Rattle.std.proofs.Common.{◌≡◌, ℕ, ◌+◌, ◌-◌, ◌<◌, ◌≤◌, ◌/◌, ◌==◌, true, false, List, [], ◌∷◌, ◌++◌, Option, Some, None, sym, subst, arith}
+use Rattle.std.proofs.Common.{◌≡◌, ℕ, ◌+◌, ◌-◌, ◌<◌, ◌≤◌, ◌/◌, ◌==◌, Bool, true, false, List, [], ◌∷◌, ◌++◌, Option, Some, None, sym, subst, arith}
 use Rattle.std.specs.Prelude.{slice_index, if◌then◌else◌}
+use Rattle.rb_target.specs.declared.instr.AluOp.TheVariants.{Or}
 use Rattle.rb_target.specs.declared.instr.Instr.{Instr}
 use Rattle.rb_target.specs.declared.instr.Instr.TheVariants as I
 use Rattle.rb_target.specs.Growth.{Grows}
@@ -14,7 +15,7 @@ use Rattle.rb_layout.specs.declared.layout.Leaf.{Leaf}
 use Rattle.rb_layout.specs.declared.layout.Part.{Part}
 use Rattle.rb_layout.specs.Words.{size_of}
 use Rattle.rb_compose.specs.declared.subvalue.Subvalue.{Subvalue}
-use Rattle.rb_compose.specs.inner.Code.{block_code, blocks_code, capped, constants, field_slots, kind_code, leaf_code, parts_code, put_code, root_code, roots_code, shift_of, stores_code, taken_code, taken_slot, value_code, value_slot, whole_slot, word_code}
+use Rattle.rb_compose.specs.inner.Code.{after_constants, begun_code, block_code, blocks_code, capped, constants, field_slots, is_low, is_ready, joined_code, kind_code, leaf_code, low_bit, part_code, parts_code, put_code, root_code, roots_code, shift_of, source_slot, stores_code, taken_code, taken_slot, value_code, value_slot, whole_slot, word_code}
 
 -- more instructions behind the old ones, and no fewer slots
 pub record IsLonger (b c : Sheet) : Type 0 where
@@ -48,19 +49,80 @@ module _ (hs : List Subvalue) where
   kind_longer blocks d p (Word path j) b = put_longer d (slice_index (field_slots hs path) j) 0 64 p b
   kind_longer blocks d p (Pointer align x) b = put_longer d (slice_index blocks x) (shift_of align) (64 - shift_of align) p b
 
+  pub part_longer : (blocks : List ℕ) (d : ℕ) (p : Part) (b : Sheet) → IsLonger b (part_code hs blocks d p b)
+  part_longer blocks d p b =
+      let or = I.Alu Or 64 d d (source_slot hs blocks p.kind) in
+      elim (is_ready hs p.o p.l p.kind) as (λ t. IsLonger b (if t then pushed b or else kind_code hs blocks d p p.kind b)) [ true ↦ longer-push b or | false ↦ kind_longer blocks d p p.kind b ]
+
   pub parts_longer : (blocks : List ℕ) (d : ℕ) (ps : List Part) (b : Sheet) → IsLonger b (parts_code hs blocks d ps b)
   parts_longer blocks d [] b = longer-refl b
   parts_longer blocks d (p ∷ ps) b =
-      let c = kind_code hs blocks d p p.kind b in longer-trans b c (parts_code hs blocks d ps c) (kind_longer blocks d p p.kind b) (parts_longer blocks d ps c)
+      let c = part_code hs blocks d p b in longer-trans b c (parts_code hs blocks d ps c) (part_longer blocks d p b) (parts_longer blocks d ps c)
+
+  -- the first new slot is one of the slots then
+  abbrev Begins : Sheet → Sheet → Type 0
+  Begins b c = IsLonger b c × (b.slots < c.slots)
+
+  -- an instruction that writes the first new slot, and parts
+  abbrev pub from_code : List ℕ → Instr → List Part → Sheet → Sheet
+  from_code blocks i ps b = parts_code hs blocks b.slots ps (pushed (with_slot b) i)
+
+  -- by whether a part stands in its place, and whether there are constants
+  abbrev pub part_by : List ℕ → ℕ → Part → Sheet → Bool → Sheet
+  part_by blocks d p b t = if t then pushed b (I.Alu Or 64 d d (source_slot hs blocks p.kind)) else kind_code hs blocks d p p.kind b
+
+  abbrev pub joined_by : List ℕ → ℕ → Part → List Part → Sheet → Bool → Sheet
+  joined_by blocks x p ps b t = if t then from_code blocks (I.Alu Or 64 b.slots x (source_slot hs blocks p.kind)) ps b else from_code blocks (I.Copy b.slots x) (p ∷ ps) b
+
+  abbrev pub low_by : List ℕ → Part → List Part → Sheet → Bool → Sheet
+  low_by blocks p ps b t =
+      if t then from_code blocks (I.Take b.slots (source_slot hs blocks p.kind) (low_bit p.kind) (capped p.l)) ps b else from_code blocks (I.Const b.slots 0) (p ∷ ps) b
+
+  abbrev pub begun_by : List ℕ → Part → List Part → Sheet → Bool → Sheet
+  begun_by blocks p ps b t = if t then joined_code hs blocks (source_slot hs blocks p.kind) (after_constants ps) b else low_by blocks p ps b (is_low p.o p.kind)
+
+  abbrev pub word_by : List ℕ → List Part → Sheet → Bool → Sheet
+  word_by blocks ps b t = if t then begun_code hs blocks (after_constants ps) b else from_code blocks (I.Const b.slots (constants 0 ps)) ps b
+
+  from_begins : (blocks : List ℕ) (i : Instr) (ps : List Part) (b : Sheet) → Begins b (from_code blocks i ps b)
+  from_begins blocks i ps b =
+      let c = pushed (with_slot b) i in
+      let rest = parts_longer blocks b.slots ps c in (longer-trans b c (from_code blocks i ps b) (longer-fresh b i) rest, (let more = rest.more in omega (arith, more)))
+
+  joined_begins : (blocks : List ℕ) (x : ℕ) (ps : List Part) (b : Sheet) → Begins b (joined_code hs blocks x ps b)
+  joined_begins blocks x [] b = from_begins blocks (I.Copy b.slots x) [] b
+  joined_begins blocks x (p ∷ ps) b =
+      let or = I.Alu Or 64 b.slots x (source_slot hs blocks p.kind) in
+      elim (is_ready hs p.o p.l p.kind) as (λ t. Begins b (joined_by blocks x p ps b t)) [
+        | true ↦ from_begins blocks or ps b
+        | false ↦ from_begins blocks (I.Copy b.slots x) (p ∷ ps) b
+      ]
+
+  begun_begins : (blocks : List ℕ) (ps : List Part) (b : Sheet) → Begins b (begun_code hs blocks ps b)
+  begun_begins blocks [] b = from_begins blocks (I.Const b.slots 0) [] b
+  begun_begins blocks (p ∷ ps) b =
+      let x = source_slot hs blocks p.kind in
+      elim (is_ready hs p.o p.l p.kind) as (λ t. Begins b (begun_by blocks p ps b t)) [
+        | true ↦ joined_begins blocks x (after_constants ps) b
+        | false ↦ elim (is_low p.o p.kind) as (λ t. Begins b (low_by blocks p ps b t)) [
+          | true ↦ from_begins blocks (I.Take b.slots x (low_bit p.kind) (capped p.l)) ps b
+          | false ↦ from_begins blocks (I.Const b.slots 0) (p ∷ ps) b
+        ]
+      ]
+
+  word_begins : (blocks : List ℕ) (ps : List Part) (b : Sheet) → Begins b (word_code hs blocks ps b)
+  word_begins blocks ps b =
+      let k = constants 0 ps in
+      elim (k == 0) as (λ t. Begins b (word_by blocks ps b t)) [
+        | true ↦ begun_begins blocks (after_constants ps) b
+        | false ↦ from_begins blocks (I.Const b.slots k) ps b
+      ]
 
   pub word_longer : (blocks : List ℕ) (ps : List Part) (b : Sheet) → IsLonger b (word_code hs blocks ps b)
-  word_longer blocks ps b =
-      let i = I.Const b.slots (constants 0 ps) in
-      let c = pushed (with_slot b) i in
-      longer-trans b c (word_code hs blocks ps b) (longer-fresh b i) (parts_longer blocks b.slots ps c)
+  word_longer blocks ps b = (word_begins blocks ps b).0
 
   pub fresh_word : (blocks : List ℕ) (ps : List Part) (b : Sheet) → b.slots < (word_code hs blocks ps b).slots
-  fresh_word blocks ps b = let more = (parts_longer blocks b.slots ps (pushed (with_slot b) (I.Const b.slots (constants 0 ps)))).more in omega (arith, more)
+  fresh_word blocks ps b = (word_begins blocks ps b).1
 
   pub value_longer : (o : Option ℕ) (blocks : List ℕ) (ps : List Part) (b : Sheet) → IsLonger b (value_code o hs blocks ps b)
   value_longer None blocks ps b = word_longer blocks ps b

@@ -1,5 +1,5 @@
 -- The number that the code composes of parts is the one that the parts pack.
-use Rattle.std.proofs.Common.{◌≡◌, ℕ, zero, suc, ◌+◌, ◌-◌, ◌*◌, ◌/◌, ◌%◌, ◌^◌, ◌<◌, ◌≤◌, ◌⊎◌, ◌==◌, inl, inr, Bool, true, false, List, [], ◌∷◌, Option, Some, None, refl, sym, subst, ap, ◌∙◌, arith}
+use Rattle.std.proofs.Common.{◌≡◌, ℕ, zero, suc, ◌+◌, ◌-◌, ◌*◌, ◌/◌, ◌%◌, ◌^◌, ◌<◌, ◌≤◌, ◌⊎◌, ◌==◌, inl, inr, Bool, true, false, List, [], ◌∷◌, Some, refl, sym, subst, ap, ◌∙◌, arith}
 use Rattle.std.specs.Prelude.{slice_get, slice_index, if◌then◌else◌}
 use Rattle.std.specs.Int.{bit_at}
 use Rattle.std.proofs.lemmas.Bool.{cases_lt}
@@ -67,7 +67,7 @@ apart_at : (o l b m k : ℕ) → AreDisjoint o l b m → k < m → IsOutside o l
 apart_at o l b m k (inl le) lt = inr (omega arith)
 apart_at o l b m k (inr le) lt = inl (omega arith)
 
-turned : (o l b m : ℕ) → AreDisjoint o l b m → AreDisjoint b m o l
+pub turned : (o l b m : ℕ) → AreDisjoint o l b m → AreDisjoint b m o l
 turned o l b m (inl le) = inr le
 turned o l b m (inr le) = inl le
 
@@ -151,11 +151,6 @@ module _ (field : List ℕ → ℕ → ℕ) (ats : ℕ → ℕ) where
   others n [] = n
   others n (p ∷ ps) = others (other_kind n p p.kind) ps
 
-  -- a word is one of a field, or its constants and then the other parts
-  abbrev pub word_number : Option (List ℕ × ℕ) → List Part → ℕ
-  word_number None ps = others (constants 0 ps) ps
-  word_number (Some w) ps = field w.0 w.1
-
   abbrev pub with_parts : ℕ → List Part → ℕ
   with_parts n [] = n
   with_parts n (p ∷ ps) = with_parts (with_part n p) ps
@@ -222,7 +217,7 @@ module _ (field : List ℕ → ℕ → ℕ) (ats : ℕ → ℕ) where
     pub value : source_value p.l p.kind % 2 ^ p.l ≡ number_of subs at p.l p.kind
 
   module _ (subs : List ℕ → List ℕ) (at : ℕ → ℕ) where
-    put_is : (n : ℕ) (p : Part) → IsPut subs at p → with_part n p ≡ put_of n p.o p.l (number_of subs at p.l p.kind)
+    pub put_is : (n : ℕ) (p : Part) → IsPut subs at p → with_part n p ≡ put_of n p.o p.l (number_of subs at p.l p.kind)
     put_is n p is =
         ap (λ o. put_of n o (capped p.l) (source_value p.l p.kind % 2 ^ capped p.l)) is.first
         ∙ ap (λ l. put_of n p.o l (source_value p.l p.kind % 2 ^ l)) is.long ∙ ap (put_of n p.o p.l) is.value

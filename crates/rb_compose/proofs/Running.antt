@@ -1,6 +1,6 @@
 -- What the code of a construction does, run from any slots.
 use Rattle.std.proofs.Common.{◌≡◌, ℕ, suc, ◌+◌, ◌-◌, ◌/◌, ◌%◌, ◌^◌, ◌<◌, ◌≤◌, ◌==◌, inl, inr, Bool, true, false, map, List, [], ◌∷◌, ◌++◌, length, Option, Some, None, Result, refl, sym, subst, ap, ◌∙◌, arith, length-append}
-use Rattle.std.specs.Prelude.{slice_get, slice_index, slice_set, if◌then◌else◌}
+use Rattle.std.specs.Prelude.{bit_or, slice_get, slice_index, slice_set, if◌then◌else◌}
 use Rattle.std.proofs.lemmas.Bool.Decides.{leb_tells}
 use Rattle.rb_bits.specs.Words.{take_of, put_of}
 use Rattle.rb_bytes.specs.Memory.{Memory, IsGood, aligned, place_of, store_of, size_at, lies_within, write_le}
@@ -8,6 +8,7 @@ use Rattle.rb_bytes.specs.declared.fault.Full.{Full}
 use Rattle.rb_bytes.specs.declared.fault.Trap.{Trap}
 use Rattle.rb_bytes.proofs.BlockLemmas.{size_at-push}
 use Rattle.rb_bytes.proofs.MemoryLemmas.{store_within, placed_is, full_is}
+use Rattle.rb_target.specs.declared.instr.AluOp.TheVariants.{Or}
 use Rattle.rb_target.specs.declared.instr.Instr.{Instr}
 use Rattle.rb_target.specs.declared.instr.Instr.TheVariants as I
 use Rattle.rb_target.specs.declared.outcome.End.TheVariants.{Full as Filled}
@@ -26,9 +27,11 @@ use Rattle.rb_layout.specs.Words.{bytes_in, size_of}
 use Rattle.rb_compose.specs.declared.subvalue.Subvalue.{Subvalue}
 use Rattle.rb_fragment.proofs.Steps.{set_same}
 use Rattle.rb_rel.proofs.Storing.{IsBlock, written, with_block, above}
-use Rattle.rb_compose.specs.inner.Code.{block_code, capped, constants, field_slots, kind_code, parts_code, put_code, root_code, root_slots, roots_code, shift_of, slot_of, stores_code, taken_code, taken_slot, value_code, value_slot, whole_of, word_code}
-use Rattle.rb_compose.proofs.Longer.{IsLonger, fresh_root, kind_longer, longer-fresh, longer-push, parts_longer, root_longer, roots_longer, store_longer, stored_code, stores_longer, taken_longer, value_longer}
-use Rattle.rb_compose.proofs.Numbers.{other_kind, others, taken_value, word_number}
+use Rattle.rb_compose.specs.inner.Code.{after_constants, begun_code, block_code, capped, constants, field_slots, is_low, is_ready, joined_code, kind_code, low_bit, part_code, parts_code, put_code, root_code, root_slots, roots_code, shift_of, slot_of, source_slot, stores_code, taken_code, taken_slot, value_code, value_slot, whole_of, word_code}
+use Rattle.rb_compose.proofs.Longer.{IsLonger, begun_by, fresh_root, from_code, joined_by, longer-fresh, low_by, longer-push, part_by, part_longer, parts_longer, root_longer, roots_longer, store_longer, stored_code, stores_longer, taken_longer, value_longer, word_by}
+use Rattle.rb_compose.proofs.Numbers.{other_kind, taken_value}
+use Rattle.rb_compose.proofs.Beside.{begun_number, composed_number, joined_number, low_number, source_word, with_readies, with_ready, word_number}
+use Rattle.rb_compose.proofs.Skipping.{each_after}
 use Rattle.rb_compose.proofs.Wholes.{HasWhole, is_whole}
 
 -- the finished code has what stands from the end of b to that of c
@@ -145,7 +148,7 @@ module _ (final : List Instr) (callee : Callee) (next : Next) (law : Law final c
     AllTell blocks s ps = (k : ℕ) (p : Part) → slice_get ps k ≡ Some p → Tells blocks s p.kind
 
     abbrev pub number : FlatWord → ℕ
-    number f = word_number field ats (whole_of hs f.parts) f.parts
+    number f = word_number hs field ats (whole_of hs f.parts) f.parts
 
     -- bits of a slot from bit 0 of a slot on
     taken_by : (t : Bool) (x from long v : ℕ) (b : Sheet) (s : List ℕ) (w : World) (m : Memory) → Stands final b (if t then b else pushed (with_slot b) (I.Take b.slots x from long)) → w.memory ≡ m
@@ -186,44 +189,127 @@ module _ (final : List Instr) (callee : Callee) (next : Next) (law : Law final c
       kind_run d p (Word path j) b s w m stands is lt room tells = put_run d (slice_index (field_slots hs path) j) 0 64 (field path j) p b s w m stands is lt room tells
       kind_run d p (Pointer align x) b s w m stands is lt room tells = put_run d (slice_index blocks x) (shift_of align) (64 - shift_of align) (ats x) p b s w m stands is lt room tells
 
+      -- a part that stands in its place is there
+      source_tells : (o l : ℕ) (kind : Kind) (s : List ℕ) → is_ready hs o l kind ≡ true → Tells blocks s kind → slice_index s (source_slot hs blocks kind) ≡ source_word hs field ats kind
+      source_tells o l (Const c) s e t = absurd cc
+      source_tells o l (Bits path a) s e t = t
+      source_tells o l (Word path j) s e t = t
+      source_tells o l (Pointer align x) s e t = t
+
+      low_tells : (o : ℕ) (kind : Kind) (s : List ℕ) → is_low o kind ≡ true → Tells blocks s kind → slice_index s (source_slot hs blocks kind) ≡ source_word hs field ats kind
+      low_tells o (Const c) s e t = absurd cc
+      low_tells o (Bits path a) s e t = t
+      low_tells o (Word path j) s e t = absurd cc
+      low_tells o (Pointer align x) s e t = absurd cc
+
+      part_run : (d : ℕ) (p : Part) (b : Sheet) (s : List ℕ) (w : World) (m : Memory) → Stands final b (part_code hs blocks d p b) → w.memory ≡ m → d < b.slots → (part_code hs blocks d p b).slots ≤ length s
+          → Tells blocks s p.kind → Runs d b (part_code hs blocks d p b) s w m (λ s'. slice_index s' d ≡ with_ready hs field ats (slice_index s d) p)
+      part_run d p b s w m stands is lt room tells = by (is_ready hs p.o p.l p.kind) refl stands room
+        where
+          by : (t : Bool) → is_ready hs p.o p.l p.kind ≡ t → Stands final b (part_by hs blocks d p b t) → (part_by hs blocks d p b t).slots ≤ length s
+              → Runs d b (part_by hs blocks d p b t) s w m
+              (λ s'. slice_index s' d ≡ (if t then bit_or (slice_index s d) (source_word hs field ats p.kind) % 2 ^ 64 else other_kind field ats (slice_index s d) p p.kind))
+          by true e stands1 room1 =
+              let or = I.Alu Or 64 d d (source_slot hs blocks p.kind) in
+              let n = slice_index s d in
+              let word = bit_or n (slice_index s (source_slot hs blocks p.kind)) % 2 ^ 64 in
+              runs_weaken d d b (pushed b or) s w m m (λ s'. s' ≡ slice_set s d word) (λ s'. slice_index s' d ≡ bit_or n (source_word hs field ats p.kind) % 2 ^ 64) (omega arith) refl
+              (λ s' k h. ap (λ y. slice_index y d) h ∙ set_same s d word (omega (arith, lt, room1)) ∙ ap (λ y. bit_or n y % 2 ^ 64) (source_tells p.o p.l p.kind s e tells))
+              (runs_set d b (pushed b or) or d word s w m refl stands1 (omega arith) is refl)
+          by false e stands1 room1 = kind_run d p p.kind b s w m stands1 is lt room1 tells
+
       parts_run : (d : ℕ) (ps : List Part) (b : Sheet) (s : List ℕ) (w : World) (m : Memory) → Stands final b (parts_code hs blocks d ps b) → w.memory ≡ m → d < b.slots → (parts_code hs blocks d ps b).slots ≤ length s
-          → AllBelow blocks d ps → AllTell blocks s ps → Runs d b (parts_code hs blocks d ps b) s w m (λ s'. slice_index s' d ≡ others field ats (slice_index s d) ps)
+          → AllBelow blocks d ps → AllTell blocks s ps → Runs d b (parts_code hs blocks d ps b) s w m (λ s'. slice_index s' d ≡ with_readies hs field ats (slice_index s d) ps)
       parts_run d [] b s w m stands is lt long below tells = runs_none d b s w m (λ s'. slice_index s' d ≡ slice_index s d) is refl
       parts_run d (p ∷ ps) b s w m stands is lt long below tells =
-          let c = kind_code hs blocks d p p.kind b in
+          let c = part_code hs blocks d p b in
           let e = parts_code hs blocks d ps c in
-          let x = kind_longer hs blocks d p p.kind b in
+          let x = part_longer hs blocks d p b in
           let y = parts_longer hs blocks d ps c in
-          let n1 = other_kind field ats (slice_index s d) p p.kind in
+          let n1 = with_ready hs field ats (slice_index s d) p in
           let long1 : c.slots ≤ length s = (let q = y.more in omega (arith, q, long)) in
-          let first = kind_run d p p.kind b s w m (stands_first final b c e x y stands) is lt long1 (tells 0 p refl) in
-          runs_then d d b c e s w m m (λ s'. (slice_index s' d ≡ n1) × (length s' ≡ length s)) (λ s'. slice_index s' d ≡ others field ats n1 ps) (omega arith)
+          let first = part_run d p b s w m (stands_first final b c e x y stands) is lt long1 (tells 0 p refl) in
+          runs_then d d b c e s w m m (λ s'. (slice_index s' d ≡ n1) × (length s' ≡ length s)) (λ s'. slice_index s' d ≡ with_readies hs field ats n1 ps) (omega arith)
           (runs_weaken d d b c s w m m (λ s'. slice_index s' d ≡ n1) (λ s'. (slice_index s' d ≡ n1) × (length s' ≡ length s)) (omega arith) refl (λ s' k h. (h, k.long)) first)
           (λ s1 w1 is1 k1 e1.
           let lt1 : d < c.slots = (let q = x.more in omega (arith, lt, q)) in
           let long2 : e.slots ≤ length s1 = (let q = e1.1 in omega (arith, long, q)) in
-          runs_weaken d d c e s1 w1 m m (λ s'. slice_index s' d ≡ others field ats (slice_index s1 d) ps) (λ s'. slice_index s' d ≡ others field ats n1 ps) (omega arith) refl
-          (λ s' k h. h ∙ ap (λ n. others field ats n ps) e1.0)
+          runs_weaken d d c e s1 w1 m m (λ s'. slice_index s' d ≡ with_readies hs field ats (slice_index s1 d) ps) (λ s'. slice_index s' d ≡ with_readies hs field ats n1 ps) (omega arith) refl
+          (λ s' k h. h ∙ ap (λ n. with_readies hs field ats n ps) e1.0)
           (parts_run d ps c s1 w1 m (stands_rest final b c e x stands) is1 lt1 long2 (λ k q at. below (suc k) q at) (λ k q at. tells_kept blocks d s s1 q.kind k1 (below (suc k) q at) (tells (suc k) q at))))
+
+      -- an instruction that writes a word into the first new slot, and parts
+      from_run : (i : Instr) (v : ℕ) (ps : List Part) (b : Sheet) (s : List ℕ) (w : World) (m : Memory) → act i next callee (length b.code) s (taken w) ≡ next (length b.code + 1) (slice_set s b.slots v) (taken w)
+          → Stands final b (from_code hs blocks i ps b) → w.memory ≡ m → (from_code hs blocks i ps b).slots ≤ length s → AllBelow blocks b.slots ps → AllTell blocks s ps
+          → Runs b.slots b (from_code hs blocks i ps b) s w m (λ s'. slice_index s' b.slots ≡ with_readies hs field ats v ps)
+      from_run i v ps b s w m acts stands is long below tells =
+          let d = b.slots in
+          let c = pushed (with_slot b) i in
+          let e = from_code hs blocks i ps b in
+          let x = longer-fresh b i in
+          let y = parts_longer hs blocks d ps c in
+          let inside : d < length s = (let q = y.more in omega (arith, q, long)) in
+          runs_then d d b c e s w m m (λ s'. s' ≡ slice_set s d v) (λ s'. slice_index s' d ≡ with_readies hs field ats v ps) (omega arith)
+          (runs_set d b c i d v s w m refl (stands_first final b c e x y stands) (omega arith) is acts)
+          (λ s1 w1 is1 k1 e1.
+          let there : slice_index s1 d ≡ v = ap (λ z. slice_index z d) e1 ∙ set_same s d v inside in
+          runs_weaken d d c e s1 w1 m m (λ s'. slice_index s' d ≡ with_readies hs field ats (slice_index s1 d) ps) (λ s'. slice_index s' d ≡ with_readies hs field ats v ps) (omega arith) refl
+          (λ s' k h. h ∙ ap (λ n. with_readies hs field ats n ps) there)
+          (parts_run d ps c s1 w1 m (stands_rest final b c e x stands) is1 (omega arith) (let q = k1.long in omega (arith, long, q)) below (λ k q at. tells_kept blocks d s s1 q.kind k1 (below k q at) (tells k q at))))
+
+      -- a word of what a slot holds, and of parts
+      joined_run : (x v : ℕ) (ps : List Part) (b : Sheet) (s : List ℕ) (w : World) (m : Memory) → slice_index s x ≡ v → Stands final b (joined_code hs blocks x ps b) → w.memory ≡ m → (joined_code hs blocks x ps b).slots ≤ length s
+          → AllBelow blocks b.slots ps → AllTell blocks s ps → Runs b.slots b (joined_code hs blocks x ps b) s w m (λ s'. slice_index s' b.slots ≡ joined_number hs field ats v ps)
+      joined_run x v [] b s w m there stands is long below tells =
+          from_run (I.Copy b.slots x) v [] b s w m (ap (λ y. next (length b.code + 1) (slice_set s b.slots y) (taken w)) there) stands is long below tells
+      joined_run x v (p ∷ ps) b s w m there stands is long below tells = by (is_ready hs p.o p.l p.kind) refl stands long
+        where
+          by : (t : Bool) → is_ready hs p.o p.l p.kind ≡ t → Stands final b (joined_by hs blocks x p ps b t) → (joined_by hs blocks x p ps b t).slots ≤ length s
+              → Runs b.slots b (joined_by hs blocks x p ps b t) s w m
+              (λ s'. slice_index s' b.slots ≡ (if t then with_readies hs field ats (bit_or v (source_word hs field ats p.kind) % 2 ^ 64) ps else with_readies hs field ats v (p ∷ ps)))
+          by true e stands1 long1 =
+              let y = source_slot hs blocks p.kind in
+              let u = source_word hs field ats p.kind in
+              let both : bit_or (slice_index s x) (slice_index s y) % 2 ^ 64 ≡ bit_or v u % 2 ^ 64 =
+              ap (λ i. bit_or i (slice_index s y) % 2 ^ 64) there ∙ ap (λ i. bit_or v i % 2 ^ 64) (source_tells p.o p.l p.kind s e (tells 0 p refl)) in
+              from_run (I.Alu Or 64 b.slots x y) (bit_or v u % 2 ^ 64) ps b s w m (ap (λ i. next (length b.code + 1) (slice_set s b.slots i) (taken w)) both) stands1 is long1 (λ k q at. below (suc k) q at) (λ k q at. tells (suc k) q at)
+          by false e stands1 long1 =
+              from_run (I.Copy b.slots x) v (p ∷ ps) b s w m (ap (λ i. next (length b.code + 1) (slice_set s b.slots i) (taken w)) there) stands1 is long1 below tells
+
+      -- a word without constants
+      begun_run : (ps : List Part) (b : Sheet) (s : List ℕ) (w : World) (m : Memory) → Stands final b (begun_code hs blocks ps b) → w.memory ≡ m → (begun_code hs blocks ps b).slots ≤ length s
+          → AllBelow blocks b.slots ps → AllTell blocks s ps → Runs b.slots b (begun_code hs blocks ps b) s w m (λ s'. slice_index s' b.slots ≡ begun_number hs field ats ps)
+      begun_run [] b s w m stands is long below tells = from_run (I.Const b.slots 0) 0 [] b s w m refl stands is long below tells
+      begun_run (p ∷ ps) b s w m stands is long below tells = by (is_ready hs p.o p.l p.kind) refl stands long
+        where
+          by : (t : Bool) → is_ready hs p.o p.l p.kind ≡ t → Stands final b (begun_by hs blocks p ps b t) → (begun_by hs blocks p ps b t).slots ≤ length s
+              → Runs b.slots b (begun_by hs blocks p ps b t) s w m
+              (λ s'. slice_index s' b.slots ≡ (if t then joined_number hs field ats (source_word hs field ats p.kind) (after_constants ps) else low_number hs field ats p ps (is_low p.o p.kind)))
+          by true e stands1 long1 =
+              joined_run (source_slot hs blocks p.kind) (source_word hs field ats p.kind) (after_constants ps) b s w m (source_tells p.o p.l p.kind s e (tells 0 p refl)) stands1 is long1
+              (each_after (λ (q : Part). IsBelow blocks b.slots q.kind) ps (λ k q at. below (suc k) q at)) (each_after (λ (q : Part). Tells blocks s q.kind) ps (λ k q at. tells (suc k) q at))
+          by false e stands1 long1 = from_low (is_low p.o p.kind) refl stands1 long1
+            where
+              from_low : (t : Bool) → is_low p.o p.kind ≡ t → Stands final b (low_by hs blocks p ps b t) → (low_by hs blocks p ps b t).slots ≤ length s
+                  → Runs b.slots b (low_by hs blocks p ps b t) s w m (λ s'. slice_index s' b.slots ≡ low_number hs field ats p ps t)
+              from_low true h stands2 long2 =
+                  let x = source_slot hs blocks p.kind in
+                  let take : ℕ → ℕ = λ i. take_of i (low_bit p.kind) (capped p.l) in
+                  from_run (I.Take b.slots x (low_bit p.kind) (capped p.l)) (take (source_word hs field ats p.kind)) ps b s w m
+                  (ap (λ i. next (length b.code + 1) (slice_set s b.slots (take i)) (taken w)) (low_tells p.o p.kind s h (tells 0 p refl))) stands2 is long2 (λ k q at. below (suc k) q at) (λ k q at. tells (suc k) q at)
+              from_low false h stands2 long2 = from_run (I.Const b.slots 0) 0 (p ∷ ps) b s w m refl stands2 is long2 below tells
 
       -- a composed word
       word_run : (ps : List Part) (b : Sheet) (s : List ℕ) (w : World) (m : Memory) → Stands final b (word_code hs blocks ps b) → w.memory ≡ m → (word_code hs blocks ps b).slots ≤ length s
-          → AllBelow blocks b.slots ps → AllTell blocks s ps → Runs b.slots b (word_code hs blocks ps b) s w m (λ s'. slice_index s' b.slots ≡ others field ats (constants 0 ps) ps)
-      word_run ps b s w m stands is long below tells =
-          let d = b.slots in
-          let n0 = constants 0 ps in
-          let c = pushed (with_slot b) (I.Const d n0) in
-          let e = word_code hs blocks ps b in
-          let x = longer-fresh b (I.Const d n0) in
-          let y = parts_longer hs blocks d ps c in
-          let inside : d < length s = (let q = y.more in omega (arith, q, long)) in
-          runs_then d d b c e s w m m (λ s'. s' ≡ slice_set s d n0) (λ s'. slice_index s' d ≡ others field ats n0 ps) (omega arith)
-          (runs_set d b c (I.Const d n0) d n0 s w m refl (stands_first final b c e x y stands) (omega arith) is refl)
-          (λ s1 w1 is1 k1 e1.
-          let there : slice_index s1 d ≡ n0 = ap (λ z. slice_index z d) e1 ∙ set_same s d n0 inside in
-          runs_weaken d d c e s1 w1 m m (λ s'. slice_index s' d ≡ others field ats (slice_index s1 d) ps) (λ s'. slice_index s' d ≡ others field ats n0 ps) (omega arith) refl
-          (λ s' k h. h ∙ ap (λ n. others field ats n ps) there)
-          (parts_run d ps c s1 w1 m (stands_rest final b c e x stands) is1 (omega arith) (let q = k1.long in omega (arith, long, q)) below (λ k q at. tells_kept blocks d s s1 q.kind k1 (below k q at) (tells k q at))))
+          → AllBelow blocks b.slots ps → AllTell blocks s ps → Runs b.slots b (word_code hs blocks ps b) s w m (λ s'. slice_index s' b.slots ≡ composed_number hs field ats ps)
+      word_run ps b s w m stands is long below tells = by (constants 0 ps == 0) stands long
+        where
+          by : (t : Bool) → Stands final b (word_by hs blocks ps b t) → (word_by hs blocks ps b t).slots ≤ length s
+              → Runs b.slots b (word_by hs blocks ps b t) s w m
+              (λ s'. slice_index s' b.slots ≡ (if t then begun_number hs field ats (after_constants ps) else with_readies hs field ats (constants 0 ps) ps))
+          by true stands1 long1 =
+              begun_run (after_constants ps) b s w m stands1 is long1 (each_after (λ (q : Part). IsBelow blocks b.slots q.kind) ps below) (each_after (λ (q : Part). Tells blocks s q.kind) ps tells)
+          by false stands1 long1 = from_run (I.Const b.slots (constants 0 ps)) (constants 0 ps) ps b s w m refl stands1 is long1 below tells
 
       -- a word that is a field's stands there
       whole_tells : (ps : List Part) (s : List ℕ) (w : List ℕ × ℕ) → whole_of hs ps ≡ Some w → AllTell blocks s ps → slice_index s (slice_index (field_slots hs w.0) w.1) ≡ field w.0 w.1
@@ -238,14 +324,14 @@ module _ (final : List Instr) (callee : Callee) (next : Next) (law : Law final c
       -- a word to be stored
       value_run : (o : Option (List ℕ × ℕ)) (ps : List Part) (b : Sheet) (s : List ℕ) (w : World) (m : Memory) → whole_of hs ps ≡ o → Stands final b (value_code (slot_of hs o) hs blocks ps b) → w.memory ≡ m
           → (value_code (slot_of hs o) hs blocks ps b).slots ≤ length s → AllBelow blocks b.slots ps → AllTell blocks s ps
-          → Runs b.slots b (value_code (slot_of hs o) hs blocks ps b) s w m (λ s'. slice_index s' (value_slot (slot_of hs o) b.slots) ≡ word_number field ats o ps)
+          → Runs b.slots b (value_code (slot_of hs o) hs blocks ps b) s w m (λ s'. slice_index s' (value_slot (slot_of hs o) b.slots) ≡ word_number hs field ats o ps)
       value_run None ps b s w m e stands is long below tells = word_run ps b s w m stands is long below tells
       value_run (Some x) ps b s w m e stands is long below tells = runs_none b.slots b s w m (λ s'. slice_index s' (slice_index (field_slots hs x.0) x.1) ≡ field x.0 x.1) is (whole_tells ps s x e tells)
 
       -- a word of the value
       root_run : (o : Option (List ℕ × ℕ)) (ps : List Part) (b : Sheet) (s : List ℕ) (w : World) (m : Memory) → whole_of hs ps ≡ o → Stands final b (root_code (slot_of hs o) hs blocks ps b) → w.memory ≡ m
           → (root_code (slot_of hs o) hs blocks ps b).slots ≤ length s → AllBelow blocks b.slots ps → AllTell blocks s ps
-          → Runs b.slots b (root_code (slot_of hs o) hs blocks ps b) s w m (λ s'. slice_index s' b.slots ≡ word_number field ats o ps)
+          → Runs b.slots b (root_code (slot_of hs o) hs blocks ps b) s w m (λ s'. slice_index s' b.slots ≡ word_number hs field ats o ps)
       root_run None ps b s w m e stands is long below tells = word_run ps b s w m stands is long below tells
       root_run (Some x) ps b s w m e stands is long below tells =
           let from = slice_index (field_slots hs x.0) x.1 in

@@ -16,17 +16,18 @@
 //! place 2 16 8         a block of 16 bytes at a multiple of 8; its address in slot 2
 //! store 2 0 64 0       the number, at byte 0
 //! store 2 8 64 1       the list, at byte 8
-//! const 3 0            the word of the value: its constants, which is the tag alone
-//! take 4 2 3 61        the address without its three low bits, which are 0
-//! put 3 4 3 61         in its place
+//! copy 3 2             the word of the value: the address, whose lowest bit is the tag already
 //! ```
 //!
 //! and of the leaf of `Nil` only `const 2 1`. In general:
 //!
-//! - **A word** begins as its constants, and the other parts are put over them: slices of numbers, words of
-//!   data fields, and addresses by their alignment (`word.rt`). Bits that stand at bit 0 of a slot need no
-//!   `take`. A word that is a field's word whole is no code at all where it is stored, and a `copy` among the
-//!   value's own words, which have new slots. All bits outside parts are 0: the value is as clean as its fields.
+//! - **A word** begins as its constants, and the other parts are added one by one. Some stand in a slot as they are to
+//!   stand in the word: an address whose alignment is the bit at which its part begins, a number or a word of a field
+//!   from bit 0 on. One `or` sets such a part beside the others, and where all constants are 0 the word begins as it
+//!   (`begin.rt`). The rest is put over: slices of numbers, words of data fields, addresses by their alignment; what
+//!   stands at bit 0 of a slot needs no `take` (`word.rt`). A word that is a field's word whole is no code at all where
+//!   it is stored, and a `copy` among the value's own words, which have new slots. All bits outside parts are 0: the
+//!   value is as clean as its fields.
 //! - **Blocks** are placed by number, inner ones before the outer ones that point to them, so that each address
 //!   is known when it is put into a word. Every word of a block is stored, also one without parts, so that each
 //!   byte is written (`block.rt`).
@@ -42,6 +43,7 @@
 //! this memory represent the value.
 #![tactic(auto)]
 
+mod begin;
 mod block;
 pub mod leaf;
 pub mod subvalue;

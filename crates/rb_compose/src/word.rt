@@ -2,15 +2,16 @@
 
 ghost use Rattle.std.specs.Prelude.{◌≡◌, ◌≤◌, IfOk, OnOk, slice_index};
 ghost use Rattle.std.specs.Option.{option_copied};
-ghost use Rattle.rb_compose.specs.inner.Code.{capped, constants, field_slots, field_type, is_int, kind_code, put_code, root_made, shift_of, slot_of, taken_code, taken_slot, value_made, value_slot, whole_kind, whole_part, whole_slot, with_constant, word_code};
+ghost use Rattle.rb_compose.specs.inner.Code.{capped, constants, field_slots, field_type, is_int, is_ready, kind_code, part_code, parts_code, put_code, root_made, shift_of, slot_of, source_slot, taken_code, taken_slot, value_made, value_slot, whole_kind, whole_part, whole_slot, with_constant, word_code};
 
+use crate::begin::{after_constants, emit_begun};
 use crate::subvalue::{Subvalue, subvalue_at};
 use rb_bits::{put, take};
 use rb_core::types::Ty;
 use rb_fragment::emit::{emit_const, emit_copy, emit_take};
 use rb_layout::layout::{Kind, Part};
 use rb_target::body::Body;
-use rb_target::instr::Instr;
+use rb_target::instr::{AluOp, Instr};
 use std::alloc::AllocError;
 
 /// A word in some slot: that of a subvalue whose word it is, or else a new one. `blocks` has the slots of
@@ -63,7 +64,7 @@ pub(crate) fn emit_root(
     }
 }
 
-// Composes a word of its parts in a new slot: its constants, and the other parts put over them.
+// Composes a word of its parts in a new slot: its constants, and the other parts set beside them and put over them.
 fn emit_word(
     body: &mut Body,
     parts: &[Part],
@@ -73,11 +74,30 @@ fn emit_word(
     ensures slot { IfOk result (λ d. d ≡ body.old.slots) }
     ensures code { OnOk result (body.new ≡ word_code subs.now blocks.now parts.now body.old) }
 {
-    let slot = emit_const(body, constants(parts))?;
-    for part in parts {
-        emit_part(body, slot, part, subs, blocks)?;
+    let number = constants(parts);
+    if number == 0 {
+        let slot = emit_begun(body, after_constants(parts), subs, blocks)?;
+        return Ok(slot);
     }
+    let slot = emit_const(body, number)?;
+    emit_parts(body, slot, parts, subs, blocks)?;
     Ok(slot)
+}
+
+// Parts set beside what stands in a slot, and put over it, one after the other.
+pub(crate) fn emit_parts(
+    body: &mut Body,
+    into: usize,
+    parts: &[Part],
+    subs: &[Subvalue],
+    blocks: &[usize],
+) -> Result<(), AllocError>
+    ensures { OnOk result (body.new ≡ parts_code subs.now blocks.now into parts.now body.old) }
+{
+    for part in parts {
+        emit_part(body, into, part, subs, blocks)?;
+    }
+    Ok(())
 }
 
 // The constants of parts, each in its place.
@@ -113,8 +133,54 @@ fn with_constant(word: u64, part: &Part) -> u64
     }
 }
 
-// Puts what a part holds into the word in a slot. Constants are there already.
+// Adds what a part holds to the word in a slot: beside the others where a slot holds the part in its place, else over
+// what stands there.
 fn emit_part(
+    body: &mut Body,
+    into: usize,
+    part: &Part,
+    subs: &[Subvalue],
+    blocks: &[usize],
+) -> Result<(), AllocError>
+    ensures { OnOk result (body.new ≡ part_code subs.now blocks.now into part.now body.old) }
+{
+    if is_ready(part, subs) {
+        let from = source_slot(&part.kind, subs, blocks);
+        body.push(Instr::Alu(AluOp::Or, 64, into, into, from))?;
+        return Ok(());
+    }
+    emit_kind(body, into, part, subs, blocks)
+}
+
+/// Whether a slot holds a part where it is to stand, and no other bit: a whole number or a word of a field from bit 0
+/// on, or an address whose alignment is the bit at which its part begins.
+pub(crate) fn is_ready(part: &Part, subs: &[Subvalue]) -> bool
+    ensures { result ≡ is_ready subs.now part.now.o part.now.l part.now.kind }
+{
+    match &part.kind {
+        Kind::Const(_) => false,
+        Kind::Bits(path, a) => {
+            part.o == 0 && *a == 0 && is_int(part.l, field_type(subs, path.as_slice()))
+        }
+        Kind::Word(_, _) => part.o == 0,
+        Kind::Pointer(align, _) => u64::from(shift_of(*align)) == part.o,
+    }
+}
+
+/// The slot that has the bits of a part.
+pub(crate) fn source_slot(kind: &Kind, subs: &[Subvalue], blocks: &[usize]) -> usize
+    ensures { result ≡ source_slot subs.now blocks.now kind.now }
+{
+    match kind {
+        Kind::Const(_) => 0,
+        Kind::Bits(path, _) => slot_at(field_slots(subs, path.as_slice()), 0),
+        Kind::Word(path, word) => slot_at(field_slots(subs, path.as_slice()), *word),
+        Kind::Pointer(_, block) => slot_at(blocks, u64::from(*block)),
+    }
+}
+
+// Puts what a part holds into the word in a slot. Constants are there already.
+fn emit_kind(
     body: &mut Body,
     into: usize,
     part: &Part,

@@ -8,6 +8,7 @@ pub mod Closing
 pub mod Pieces
 pub mod Steps
 pub mod ReadForms
+pub mod Masks
 pub mod Making
 pub mod MakingAll
 pub mod Moves

@@ -1,16 +1,17 @@
 -- Code that makes reads, form by form.
-use Rattle.std.proofs.Common.{◌≡◌, ℕ, zero, suc, ◌+◌, ◌*◌, ◌%◌, ◌^◌, ◌<◌, ◌≤◌, ◌==◌, ◌⊎◌, inl, inr, Bool, true, false, List, [], ◌∷◌, map, length, Option, Some, None, Result, Ok, Err, refl, sym, ap, ◌∙◌, arith, drop, eqb-true}
+use Rattle.std.proofs.Common.{◌≡◌, ℕ, zero, suc, ◌+◌, ◌*◌, ◌%◌, ◌^◌, ◌/◌, ◌&&◌, ◌<◌, ◌≤◌, ◌==◌, ◌⊎◌, inl, inr, Bool, true, false, List, [], ◌∷◌, map, length, Option, Some, None, Result, Ok, Err, refl, sym, ap, ◌∙◌, arith, drop, eqb-true}
 use Rattle.std.proofs.lemmas.Bool.Decides.{nat_tests}
+use Rattle.std.proofs.lemmas.Grind.{common_steps}
 use Rattle.std.proofs.lemmas.Option.{same_Some}
 use Rattle.std.proofs.Math.Nat.{mod-eq_of_lt}
-use Rattle.std.specs.Prelude.{slice_index, slice_set, nat_le}
+use Rattle.std.specs.Prelude.{bit_and, slice_index, slice_set, nat_le}
 use Rattle.std.specs.List.{list_all}
 use Rattle.rb_core.specs.WellNumbered.{either}
-use Rattle.rb_bits.specs.Words.{IsRange, take_of, put_of}
-use Rattle.rb_bits.proofs.WordLemmas.{take_fits}
+use Rattle.rb_bits.specs.Words.{IsRange, mask_of, take_of, put_of}
+use Rattle.rb_bits.proofs.WordLemmas.{mask_fits, take_fits}
 use Rattle.rb_bytes.specs.Memory.{Memory, IsGood, IsWidth, load_of}
 use Rattle.rb_bytes.specs.declared.fault.Trap.{Trap}
-use Rattle.rb_target.specs.declared.instr.AluOp.TheVariants.{Mul}
+use Rattle.rb_target.specs.declared.instr.AluOp.TheVariants.{And, Mul}
 use Rattle.rb_target.specs.declared.instr.Instr.TheVariants.{Const, Alu, Take, Put, Load}
 use Rattle.rb_target.specs.Growth.{Keeps}
 use Rattle.rb_target.specs.Meaning.{alu_of}
@@ -22,9 +23,10 @@ use Rattle.rb_fragment.specs.Plan.{Plan}
 use Rattle.rb_fragment.specs.Adding.{Adds}
 use Rattle.rb_fragment.specs.Pieces.{Straight, AtEnd}
 use Rattle.rb_fragment.specs.Reads.{where_some, loaded, Meant, joined_over, mean, meant_of, is_range, is_width, fits, fits_share, Makes}
-use Rattle.rb_fragment.specs.inner.Shares.{PutsOne, JoinedTo, PutsShare}
+use Rattle.rb_fragment.specs.inner.Shares.{PutsOne, PutsShare, PutsAll, PutsShares, PutsSome}
 use Rattle.rb_fragment.proofs.Adding.{Adds-refl, Adds-trans, Adds-one, push_adds}
 use Rattle.rb_fragment.proofs.Pieces.{piece_none, piece_weaken, straight_seq, straight_weaken, straight_frame, straight_write}
+use Rattle.rb_fragment.proofs.Masks.{masked}
 use Rattle.rb_fragment.proofs.Steps.{set_same, straight_const, straight_take, straight_alu, straight_load}
 use Rattle.rb_fragment.proofs.ReadForms.{both, mean-Slot, mean-Number, mean-Bits, mean-Address, mean-Loaded, mean-Joined, meant-is, fits-Slot, fits-Bits, fits-Address, fits-Loaded, fits-Joined, fits-Share, over-kept}
 
@@ -181,6 +183,42 @@ module _ (plan : Plan) where
         let h = some_then (mean r s m) (λ w. Some (take_of w o l * align % 2 ^ 64)) x (sym (mean-Address r o l align s m) ∙ e) in
         (h.0, h.1, same_Some (take_of h.0 o l * align % 2 ^ 64) x h.2)) product
 
+  -- a range that stands in its place, and the bits beside it masked off
+  module _ (r : Read) (o l : ℕ) (a b : Sheet) (xs : ℕ) (range : IsRange o l) (made : Makes plan r a b xs) where
+    abbrev m1 : Sheet
+    m1 = pushed (with_slot b) (Const b.slots (mask_of o l))
+
+    abbrev m2 : Sheet
+    m2 = pushed (with_slot m1) (Alu And 64 m1.slots xs b.slots)
+
+    masking_adds : Adds plan b m2
+    masking_adds =
+        Adds-trans plan b m1 m2 (Adds-one plan b (Const b.slots (mask_of o l)) (0, omega arith, refl) (record { bounded = mask_fits o l range; slots_fit = omega arith; targets = tt; calls = tt }))
+        (Adds-one plan m1 (Alu And 64 m1.slots xs b.slots) (0, omega arith, refl) (record { bounded = (omega arith, omega arith); slots_fit = (omega arith, omega (arith, made.given), omega arith); targets = tt; calls = tt }))
+
+    masking : (w x : ℕ) → Straight plan a.slots b m2 (λ s m. (IsGood m × (take_of w o l * 2 ^ o % 2 ^ 64 ≡ x)) × (slice_index s xs ≡ w)) (λ s m. slice_index s m1.slots ≡ x)
+    masking w x =
+        let P0 : List ℕ → Memory → Type 0 = λ s m. (IsGood m × (take_of w o l * 2 ^ o % 2 ^ 64 ≡ x)) × (slice_index s xs ≡ w) in
+        let P1 : List ℕ → Memory → Type 0 = λ s m. alu_of And 64 (slice_index s xs) (slice_index s b.slots) ≡ x in
+        let P2 : List ℕ → Memory → Type 0 = λ s m. slice_index s m1.slots ≡ x in
+        let le : a.slots ≤ b.slots = made.adds.more in
+        let mask : Straight plan a.slots b m1 P0 P1 =
+        straight_fewer b.slots a.slots b m1 P0 P1 le
+        (straight_weaken plan b.slots b m1 (λ s m. P0 s m × (mask_of o l ≡ mask_of o l)) P0 (λ s m. P0 s m × (slice_index s b.slots ≡ mask_of o l)) P1
+        (λ s m p. (p, refl))
+        (λ s m p. ap (λ y. bit_and y (slice_index s b.slots) % 2 ^ 64) p.0.1 ∙ ap (λ y. bit_and w y % 2 ^ 64) p.1 ∙ ap (λ y. y % 2 ^ 64) (masked w o l) ∙ p.0.0.1)
+        (straight_frame plan b.slots b m1 P0 (λ s m. mask_of o l ≡ mask_of o l) (λ s m. slice_index s b.slots ≡ mask_of o l) (λ s s' m kept p. (p.0, kept.same xs made.given ∙ p.1))
+        (straight_const plan b.slots b (omega arith) (λ y m. y ≡ mask_of o l) (mask_of o l) (mask_fits o l range)))) in
+        let last : Straight plan a.slots m1 m2 P1 P2 = straight_alu plan a.slots m1 (omega (arith, le)) (λ y m. y ≡ x) And 64 xs b.slots (omega arith) (omega arith) (omega (arith, made.given)) (omega arith) in
+        straight_seq plan a.slots b m1 m2 P0 P1 P2 mask last
+
+    pub made_masked : (align : ℕ) → align ≡ 2 ^ o → Makes plan (Address r o l align) a m2 m1.slots
+    made_masked align unit =
+        then_makes r (Address r o l align) a b m2 xs m1.slots made masking_adds (omega arith) (λ w x m. take_of w o l * 2 ^ o % 2 ^ 64 ≡ x)
+        (λ s m x e.
+        let h = some_then (mean r s m) (λ w. Some (take_of w o l * align % 2 ^ 64)) x (sym (mean-Address r o l align s m) ∙ e) in
+        (h.0, h.1, sym (ap (λ i. take_of h.0 o l * i % 2 ^ 64) unit) ∙ same_Some (take_of h.0 o l * align % 2 ^ 64) x h.2)) masking
+
   -- Shares
 
   keeps_fewer : (n k : ℕ) (s s' : List ℕ) → k ≤ n → Keeps n s s' → Keeps k s s'
@@ -265,11 +303,59 @@ module _ (plan : Plan) where
     pub put_share : PutsOne plan p k d a c2
     put_share = record { adds = put_adds; runs = share_runs }
 
+  fits_drop : (k : ℕ) (i : ℕ) (ps : List Share) → list_all (λ b. b) (map (fits_share k) ps) ≡ true → list_all (λ b. b) (map (fits_share k) (drop i ps)) ≡ true
+  fits_drop k zero ps h = h
+  fits_drop k (suc i) [] h = h
+  fits_drop k (suc i) (p ∷ ps) h = fits_drop k i ps (both (fits_share k p) _ h).1
+
   -- no share yet
-  pub joined_none : (shares : List Share) (a : Sheet) (k : ℕ) → k ≤ a.slots → fits k (Joined shares) ≡ true → JoinedTo plan shares 0 a (pushed (with_slot a) (Const a.slots 0)) a.slots
-  joined_none shares a k le fit = record {
+  pub puts_none : (shares : List Share) (d : ℕ) (a : Sheet) → d < a.slots → PutsSome plan shares 0 d a a
+  puts_none shares d a lt = record {
+    adds = Adds-refl plan a;
+    runs = λ x.
+        let F : List ℕ → Memory → Type 0 = λ s m. IsGood m × (joined_over (slice_index s d) (map meant_of shares) s m ≡ Some x) in
+        piece_none plan d a F F (omega (arith, lt)) (λ s m h. h);
+  }
+
+  -- one share more
+  pub puts_more : (shares : List Share) (i : ℕ) (p : Share) (a b c : Sheet) (d k : ℕ) → drop i shares ≡ p ∷ drop (i + 1) shares → k ≤ d → d < a.slots → list_all (λ b. b) (map (fits_share k) shares) ≡ true
+      → PutsSome plan shares i d a b → PutsShare p d b c → PutsSome plan shares (i + 1) d a c
+  puts_more shares i p a b c d k item le lt fit first second =
+      let here = both (fits_share k p) _ (sym (ap (λ l. list_all (λ b. b) (map (fits_share k) l)) item) ∙ fits_drop k i shares fit) in
+      let one = second plan k le (omega (arith, lt, first.adds.more)) here.0 in
+      record {
+        adds = Adds-trans plan a b c first.adds one.adds;
+        runs = λ x.
+            let Pre : List ℕ → Memory → Type 0 = λ s m. IsGood m × (joined_over (slice_index s d) (map meant_of shares) s m ≡ Some x) in
+            let Mid : List ℕ → Memory → Type 0 = λ s m. IsGood m × (joined_over (slice_index s d) (map meant_of (drop i shares)) s m ≡ Some x) in
+            let Post : List ℕ → Memory → Type 0 = λ s m. IsGood m × (joined_over (slice_index s d) (map meant_of (drop (i + 1) shares)) s m ≡ Some x) in
+            let r = straight_weaken plan d b c (λ s m. IsGood m × (joined_over (slice_index s d) (map meant_of (p ∷ drop (i + 1) shares)) s m ≡ Some x)) Mid Post Post
+            (λ s m h. (h.0, sym (ap (λ l. joined_over (slice_index s d) (map meant_of l) s m) item) ∙ h.1)) (λ s m h. h) (one.runs (drop (i + 1) shares) here.1 x) in
+            straight_seq plan d a b c Pre Mid Post (first.runs x) r;
+      }
+
+  -- all shares
+  pub puts_all : (shares : List Share) (i d : ℕ) (a b : Sheet) → drop i shares ≡ [] → PutsSome plan shares i d a b → PutsAll plan shares d a b
+  puts_all shares i d a b none j = record {
+    adds = j.adds;
+    runs = λ x.
+        let F : List ℕ → Memory → Type 0 = λ s m. IsGood m × (joined_over (slice_index s d) (map meant_of shares) s m ≡ Some x) in
+        straight_weaken plan d a b F F (λ s m. IsGood m × (joined_over (slice_index s d) (map meant_of (drop i shares)) s m ≡ Some x)) (λ s m. slice_index s d ≡ x) (λ s m h. h)
+        (λ s m h. same_Some (slice_index s d) x (sym (ap (λ l. joined_over (slice_index s d) (map meant_of l) s m) none) ∙ h.1)) (j.runs x);
+  }
+
+  -- what shares come to stands in the slot d but for the last ones, which are still to be put there
+  pub record Begins (shares rest : List Share) (a b : Sheet) (d : ℕ) : Type 0 where
+    pub adds : Adds plan a b
+    pub fresh : a.slots ≤ d
+    pub given : d < b.slots
+    pub runs : (x : ℕ) → Straight plan a.slots a b (λ s m. IsGood m × (mean (Joined shares) s m ≡ Some x)) (λ s m. IsGood m × (joined_over (slice_index s d) (map meant_of rest) s m ≡ Some x))
+
+  -- a zero
+  pub begins_zero : (shares : List Share) (a : Sheet) (k : ℕ) → k ≤ a.slots → fits k (Joined shares) ≡ true → Begins shares shares a (pushed (with_slot a) (Const a.slots 0)) a.slots
+  begins_zero shares a k le fit = record {
     adds = Adds-one plan a (Const a.slots 0) (0, omega arith, refl) (record { bounded = omega arith; slots_fit = omega arith; targets = tt; calls = tt });
-    slot = refl;
+    fresh = omega arith;
     given = omega arith;
     runs = λ x.
         let b = pushed (with_slot a) (Const a.slots 0) in
@@ -282,37 +368,58 @@ module _ (plan : Plan) where
         (straight_const plan a.slots a (omega arith) (λ y m. y ≡ 0) 0 (omega arith)));
   }
 
-  fits_drop : (k : ℕ) (i : ℕ) (ps : List Share) → list_all (λ b. b) (map (fits_share k) ps) ≡ true → list_all (λ b. b) (map (fits_share k) (drop i ps)) ≡ true
-  fits_drop k zero ps h = h
-  fits_drop k (suc i) [] h = h
-  fits_drop k (suc i) (p ∷ ps) h = fits_drop k i ps (both (fits_share k p) _ h).1
+  put_lowest : (a l x : ℕ) → a ≡ 0 → x ≡ put_of 0 a l x
+  put_lowest a l x e =
+      let z : 0 / 2 ^ (0 + l) ≡ 0 = zero_over (2 ^ (0 + l)) in
+      let n : x ≡ (0 * 2 ^ l + x) * 1 + 0 = omega arith in
+      n ∙ ap (λ i. (i * 2 ^ l + x) * 2 ^ 0 + 0 % 2 ^ 0) (sym z) ∙ ap (λ i. put_of 0 i l x) (sym e)
+    where
+      zero_over : (n : ℕ) → 0 / n ≡ 0
+      zero_over n = grind (arith, common_steps)
 
-  -- one share more
-  pub joined_more : (shares : List Share) (i : ℕ) (p : Share) (a b c : Sheet) (d k : ℕ) → drop i shares ≡ p ∷ drop (i + 1) shares → k ≤ a.slots → fits k (Joined shares) ≡ true
-      → JoinedTo plan shares i a b d → PutsShare p d b c → JoinedTo plan shares (i + 1) a c d
-  joined_more shares i p a b c d k item le fit first second =
-      let all = sym (fits-Joined k shares) ∙ fit in
-      let here = both (fits_share k p) _ (sym (ap (λ l. list_all (λ b. b) (map (fits_share k) l)) item) ∙ fits_drop k i shares all) in
-      let one = second plan k (omega (arith, le, first.slot)) first.given here.0 in
+  -- a first share at bit 0, taken
+  pub begins_taken : (p : Share) (rest : List Share) (a b : Sheet) (d k : ℕ) → k ≤ a.slots → fits k (Joined (p ∷ rest)) ≡ true → p.a ≡ 0 → a.slots ≤ d → Makes plan (Bits p.read p.o p.l) a b d → Begins (p ∷ rest) rest a b d
+  begins_taken p rest a b d k le fit low fresh made =
+      let fit_rest = (both (fits_share k p) (list_all (λ b. b) (map (fits_share k) rest)) (sym (fits-Joined k (p ∷ rest)) ∙ fit)).1 in
       record {
-        adds = Adds-trans plan a b c first.adds one.adds;
-        slot = first.slot;
-        given = omega (arith, first.given, one.adds.more);
+        adds = made.adds;
+        fresh = fresh;
+        given = made.given;
         runs = λ x.
-            let Mid : List ℕ → Memory → Type 0 = λ s m. IsGood m × (joined_over (slice_index s d) (map meant_of (drop i shares)) s m ≡ Some x) in
-            let Post : List ℕ → Memory → Type 0 = λ s m. IsGood m × (joined_over (slice_index s d) (map meant_of (drop (i + 1) shares)) s m ≡ Some x) in
-            let r = straight_weaken plan d b c (λ s m. IsGood m × (joined_over (slice_index s d) (map meant_of (p ∷ drop (i + 1) shares)) s m ≡ Some x)) Mid Post Post
-            (λ s m h. (h.0, sym (ap (λ l. joined_over (slice_index s d) (map meant_of l) s m) item) ∙ h.1)) (λ s m h. h) (one.runs (drop (i + 1) shares) here.1 x) in
-            straight_seq plan a.slots a b c (λ s m. IsGood m × (mean (Joined shares) s m ≡ Some x)) Mid Post (first.runs x) (straight_fewer d a.slots b c Mid Post (omega (arith, first.slot)) r);
+            let Pre : List ℕ → Memory → Type 0 = λ s m. IsGood m × (mean (Joined (p ∷ rest)) s m ≡ Some x) in
+            let Post : List ℕ → Memory → Type 0 = λ s m. IsGood m × (joined_over (slice_index s d) (map meant_of rest) s m ≡ Some x) in
+            let F : ℕ → List ℕ → Memory → Type 0 = λ v s m. IsGood m × (joined_over v (map meant_of rest) s m ≡ Some x) in
+            let Inner : ℕ → List ℕ → Memory → Type 0 = λ v s m. IsGood m × (mean (Bits p.read p.o p.l) s m ≡ Some v) in
+            straight_some a.slots a b ℕ (λ v s m. F v s m × Inner v s m) Pre Post made.adds (omega arith)
+            (λ s m pre.
+            let e = sym (ap (λ (q : Meant). where_some (q.reading s m) (λ w. joined_over (put_of 0 q.a q.l (take_of w q.o q.l)) (map meant_of rest) s m)) (meant-is p)) ∙ (sym (mean-Joined (p ∷ rest) s m) ∙ pre.1) in
+            let h = some_then (mean p.read s m) (λ w. joined_over (put_of 0 p.a p.l (take_of w p.o p.l)) (map meant_of rest) s m) x e in
+            let v = take_of h.0 p.o p.l in
+            (v, ((pre.0, ap (λ y. joined_over y (map meant_of rest) s m) (put_lowest p.a p.l v low) ∙ h.2), (pre.0, mean-Bits p.read p.o p.l s m ∙ ap (λ q. where_some q (λ w. Some (take_of w p.o p.l))) h.1))))
+            (λ v. straight_weaken plan a.slots a b (λ s m. F v s m × Inner v s m) (λ s m. F v s m × Inner v s m) (λ s m. F v s m × (slice_index s d ≡ v)) Post
+            (λ s m h. h) (λ s m h. (h.0.0, ap (λ y. joined_over y (map meant_of rest) s m) h.1 ∙ h.0.1))
+            (straight_frame plan a.slots a b (F v) (Inner v) (λ s m. slice_index s d ≡ v)
+            (λ s s' m kept f. (f.0, over-kept k s s' m (keeps_fewer a.slots k s s' le kept) rest fit_rest v ∙ f.1)) (made.runs v)));
       }
 
-  -- all shares
-  pub joined_all : (shares : List Share) (i : ℕ) (a b : Sheet) (d : ℕ) → drop i shares ≡ [] → JoinedTo plan shares i a b d → Makes plan (Joined shares) a b d
-  joined_all shares i a b d none j = record {
-    adds = j.adds;
-    given = j.given;
-    runs = λ x.
-        straight_weaken plan a.slots a b (λ s m. IsGood m × (mean (Joined shares) s m ≡ Some x)) (λ s m. IsGood m × (mean (Joined shares) s m ≡ Some x))
-        (λ s m. IsGood m × (joined_over (slice_index s d) (map meant_of (drop i shares)) s m ≡ Some x)) (λ s m. slice_index s d ≡ x) (λ s m h. h)
-        (λ s m h. same_Some (slice_index s d) x (sym (ap (λ l. joined_over (slice_index s d) (map meant_of l) s m) none) ∙ h.1)) (j.runs x);
-  }
+  -- and then the rest
+  pub joined_all : (shares rest : List Share) (a b c : Sheet) (d k : ℕ) → k ≤ a.slots → list_all (λ b. b) (map (fits_share k) rest) ≡ true → Begins shares rest a b d → PutsShares rest d b c → Makes plan (Joined shares) a c d
+  joined_all shares rest a b c d k le fit begun puts =
+      let all = puts plan k (omega (arith, le, begun.fresh)) begun.given fit in
+      record {
+        adds = Adds-trans plan a b c begun.adds all.adds;
+        given = omega (arith, begun.given, all.adds.more);
+        runs = λ x.
+            let Pre : List ℕ → Memory → Type 0 = λ s m. IsGood m × (mean (Joined shares) s m ≡ Some x) in
+            let Mid : List ℕ → Memory → Type 0 = λ s m. IsGood m × (joined_over (slice_index s d) (map meant_of rest) s m ≡ Some x) in
+            let Post : List ℕ → Memory → Type 0 = λ s m. slice_index s d ≡ x in
+            straight_seq plan a.slots a b c Pre Mid Post (begun.runs x) (straight_fewer d a.slots b c Mid Post begun.fresh (all.runs x));
+      }
+
+  -- the bits of a share that fits are a read that fits
+  pub share_bits : (p : Share) (rest : List Share) (k : ℕ) → fits k (Joined (p ∷ rest)) ≡ true → (fits k p.read ≡ true) × (fits k (Bits p.read p.o p.l) ≡ true) × (list_all (λ b. b) (map (fits_share k) rest) ≡ true)
+  share_bits p rest k fit =
+      let f = both (fits_share k p) (list_all (λ b. b) (map (fits_share k) rest)) (sym (fits-Joined k (p ∷ rest)) ∙ fit) in
+      let g = both (fits k p.read) _ (sym (fits-Share k p) ∙ f.0) in
+      let r = both (is_range p.o p.l) (is_range p.a p.l) g.1 in
+      (g.0, fits-Bits k p.read p.o p.l ∙ ap (λ t. t && is_range p.o p.l) g.0 ∙ r.0, f.1)

@@ -25,6 +25,7 @@
 //! looks into code: the recursion of the function that emits is the induction.
 #![tactic(auto)]
 
+mod address;
 pub mod emit;
 pub mod held;
 pub mod join;

@@ -5,13 +5,14 @@ ghost use Rattle.rb_target.specs.Growth.{Grows};
 ghost use Rattle.rb_fragment.specs.declared.reads.Read as reads;
 ghost use Rattle.rb_fragment.specs.Reads.{MakesRead};
 ghost use Rattle.rb_fragment.specs.WordReads.{AreNewOr, MakesAll};
-ghost use Rattle.rb_fragment.specs.inner.Shares.{PutsShare};
+ghost use Rattle.rb_fragment.specs.inner.Shares.{PutsShare, PutsShares};
 
-use crate::emit::{emit_alu, emit_const, emit_load, emit_take};
+use crate::address::emit_address;
+use crate::emit::{emit_const, emit_load, emit_take};
 use crate::reads::{Read, Share};
 use rb_core::seq::Seq;
 use rb_target::body::Body;
-use rb_target::instr::{AluOp, Instr};
+use rb_target::instr::Instr;
 use std::alloc::{AllocError, Global};
 
 /// Makes a read into a slot: one that stands in a slot costs nothing.
@@ -39,9 +40,7 @@ pub fn make(body: &mut Body, read: &Read) -> Result<usize, AllocError>
         }
         Read::Address(inner, o, l, align) => {
             let from = make(body, inner.get())?;
-            let part = emit_take(body, from, *o, *l)?;
-            let unit = emit_const(body, *align)?;
-            let slot = emit_alu(body, AluOp::Mul, 64, part, unit)?;
+            let slot = emit_address(body, from, *o, *l, *align)?;
             Ok(slot)
         }
         Read::Loaded(inner, byte, width) => {
@@ -56,7 +55,8 @@ pub fn make(body: &mut Body, read: &Read) -> Result<usize, AllocError>
     }
 }
 
-// Shares, one after the other, over a zero.
+// Shares, one over the other: a first one at bit 0 is taken into the slot of the whole, and the others are put over it;
+// else all are put over a zero.
 #[cycle(making)]
 fn make_joined(body: &mut Body, shares: &[Share]) -> Result<usize, AllocError>
     ensures makes { IfOk result (λ slot. MakesRead (reads.Joined shares.now) body.old body.new slot) }
@@ -64,11 +64,30 @@ fn make_joined(body: &mut Body, shares: &[Share]) -> Result<usize, AllocError>
     ensures more { OnOk result (body.old.slots ≤ body.new.slots) }
     ensures grows { OnOk result (Grows body.old.code body.new.code) }
 {
+    if let [first, rest @ ..] = shares {
+        if first.a == 0 {
+            let from = make(body, &first.read)?;
+            let slot = emit_take(body, from, first.o, first.l)?;
+            put_shares(body, rest, slot)?;
+            return Ok(slot);
+        }
+    }
     let slot = emit_const(body, 0)?;
+    put_shares(body, shares, slot)?;
+    Ok(slot)
+}
+
+// Shares, one after the other, over what stands in the slot of the whole.
+#[cycle(making)]
+fn put_shares(body: &mut Body, shares: &[Share], slot: usize) -> Result<(), AllocError>
+    ensures puts { OnOk result (PutsShares shares.now slot body.old body.new) }
+    ensures more { OnOk result (body.old.slots ≤ body.new.slots) }
+    ensures grows { OnOk result (Grows body.old.code body.new.code) }
+{
     for share in shares {
         make_share(body, share, slot)?;
     }
-    Ok(slot)
+    Ok(())
 }
 
 // One share, into the slot of the whole.

@@ -1,8 +1,9 @@
 -- The code of a leaf, instruction by instruction: its words composed, and its blocks placed and filled.
-use Rattle.std.specs.Prelude.{ℕ, ◌+◌, ◌-◌, ◌/◌, ◌==◌, ◌&&◌, min, length, Bool, false, List, [], ◌∷◌, ◌++◌, Option, Some, None, slice_get, slice_index, if◌then◌else◌}
+use Rattle.std.specs.Prelude.{ℕ, ◌+◌, ◌-◌, ◌/◌, ◌==◌, ◌&&◌, min, length, Bool, true, false, List, [], ◌∷◌, ◌++◌, Option, Some, None, slice_get, slice_index, if◌then◌else◌}
 use Rattle.rb_core.specs.declared.types.Ty.{Ty}
 use Rattle.rb_core.specs.declared.types.Ty.TheVariants.{Int, Named}
 use Rattle.rb_bits.specs.Words.{put_of, take_of}
+use Rattle.rb_target.specs.declared.instr.AluOp.TheVariants.{Or}
 use Rattle.rb_target.specs.declared.instr.Instr.TheVariants as I
 use Rattle.rb_target.specs.Sheet.{Sheet, pushed, with_slot}
 use Rattle.rb_layout.specs.declared.layout.Block.{Block}
@@ -43,6 +44,19 @@ taken_code x o l b = if o == 0 then b else pushed (with_slot b) (I.Take b.slots 
 abbrev pub taken_slot : ℕ → ℕ → ℕ → ℕ
 taken_slot x o n = if o == 0 then x else n
 
+abbrev pub is_int : ℕ → Option Ty → Bool
+is_int l None = false
+is_int l (Some (Int bits)) = bits == l
+is_int l (Some (Named s)) = false
+
+abbrev pub held_type_in : Option Held → Option Ty
+held_type_in None = None
+held_type_in (Some h) = Some h.ty
+
+-- the type of the subvalue at a path
+abbrev pub field_type : List Subvalue → List ℕ → Option Ty
+field_type xs path = held_type_in (subvalue_at xs path)
+
 -- Words ----------------------------------------------------------------------------------------
 
 -- the constants of parts, each in its place over a number
@@ -70,29 +84,81 @@ kind_code hs blocks d p (Word path j) b = put_code d (slice_index (field_slots h
 kind_code hs blocks d p (Pointer align x) b =
     put_code d (slice_index blocks x) (shift_of align) (64 - shift_of align) p b
 
+-- whether a slot holds a part where it is to stand, and no other bit: a number or a word of a field from bit 0 on,
+-- or an address whose alignment is the bit at which its part begins
+abbrev pub is_ready : List Subvalue → ℕ → ℕ → Kind → Bool
+is_ready hs o l (Const c) = false
+is_ready hs o l (Bits path a) = (o == 0 && a == 0) && is_int l (field_type hs path)
+is_ready hs o l (Word path j) = o == 0
+is_ready hs o l (Pointer align x) = shift_of align == o
+
+-- the slot that has the bits of a part
+abbrev pub source_slot : List Subvalue → List ℕ → Kind → ℕ
+source_slot hs blocks (Const c) = 0
+source_slot hs blocks (Bits path a) = slice_index (field_slots hs path) 0
+source_slot hs blocks (Word path j) = slice_index (field_slots hs path) j
+source_slot hs blocks (Pointer align x) = slice_index blocks x
+
+-- a part that stands in its place is set beside what is in slot d, another is put over it
+abbrev pub part_code : List Subvalue → List ℕ → ℕ → Part → Sheet → Sheet
+part_code hs blocks d p b =
+    if is_ready hs p.o p.l p.kind then pushed b (I.Alu Or 64 d d (source_slot hs blocks p.kind))
+    else kind_code hs blocks d p p.kind b
+
 abbrev pub parts_code : List Subvalue → List ℕ → ℕ → List Part → Sheet → Sheet
 parts_code hs blocks d [] b = b
-parts_code hs blocks d (p ∷ ps) b = parts_code hs blocks d ps (kind_code hs blocks d p p.kind b)
+parts_code hs blocks d (p ∷ ps) b = parts_code hs blocks d ps (part_code hs blocks d p b)
 
--- a word is its constants with the other parts put over them; it is the first slot that is new
+-- a word of what slot x holds, and of parts. One that stands in its place is set beside it at once
+abbrev pub joined_code : List Subvalue → List ℕ → ℕ → List Part → Sheet → Sheet
+joined_code hs blocks x [] b = pushed (with_slot b) (I.Copy b.slots x)
+joined_code hs blocks x (p ∷ ps) b =
+    if is_ready hs p.o p.l p.kind
+    then parts_code hs blocks b.slots ps (pushed (with_slot b) (I.Alu Or 64 b.slots x (source_slot hs blocks p.kind)))
+    else parts_code hs blocks b.slots (p ∷ ps) (pushed (with_slot b) (I.Copy b.slots x))
+
+abbrev pub is_constant : Kind → Bool
+is_constant (Const c) = true
+is_constant (Bits path a) = false
+is_constant (Word path j) = false
+is_constant (Pointer align x) = false
+
+-- the parts from the first on that is no constant
+abbrev pub after_constants : List Part → List Part
+after_constants [] = []
+after_constants (p ∷ ps) = if is_constant p.kind then after_constants ps else p ∷ ps
+
+-- whether a part is bits of a number that are to stand from bit 0 on
+abbrev pub is_low : ℕ → Kind → Bool
+is_low o (Const c) = false
+is_low o (Bits path a) = o == 0
+is_low o (Word path j) = false
+is_low o (Pointer align x) = false
+
+-- the first of these bits
+abbrev pub low_bit : Kind → ℕ
+low_bit (Const c) = 0
+low_bit (Bits path a) = capped a
+low_bit (Word path j) = 0
+low_bit (Pointer align x) = 0
+
+-- a word without constants begins as a part that stands in its place, or as bits of a number, or else as 0
+abbrev pub begun_code : List Subvalue → List ℕ → List Part → Sheet → Sheet
+begun_code hs blocks [] b = pushed (with_slot b) (I.Const b.slots 0)
+begun_code hs blocks (p ∷ ps) b =
+    if is_ready hs p.o p.l p.kind then joined_code hs blocks (source_slot hs blocks p.kind) (after_constants ps) b
+    else if is_low p.o p.kind
+    then parts_code hs blocks b.slots ps
+    (pushed (with_slot b) (I.Take b.slots (source_slot hs blocks p.kind) (low_bit p.kind) (capped p.l)))
+    else parts_code hs blocks b.slots (p ∷ ps) (pushed (with_slot b) (I.Const b.slots 0))
+
+-- a word is its constants, and the other parts beside them and over them; it is the first slot that is new
 abbrev pub word_code : List Subvalue → List ℕ → List Part → Sheet → Sheet
 word_code hs blocks parts b =
-    parts_code hs blocks b.slots parts (pushed (with_slot b) (I.Const b.slots (constants 0 parts)))
+    if constants 0 parts == 0 then begun_code hs blocks (after_constants parts) b
+    else parts_code hs blocks b.slots parts (pushed (with_slot b) (I.Const b.slots (constants 0 parts)))
 
 -- Words of fields ------------------------------------------------------------------------------
-
-abbrev pub is_int : ℕ → Option Ty → Bool
-is_int l None = false
-is_int l (Some (Int bits)) = bits == l
-is_int l (Some (Named s)) = false
-
-abbrev pub held_type_in : Option Held → Option Ty
-held_type_in None = None
-held_type_in (Some h) = Some h.ty
-
--- the type of the subvalue at a path
-abbrev pub field_type : List Subvalue → List ℕ → Option Ty
-field_type xs path = held_type_in (subvalue_at xs path)
 
 -- the word of a field, by path and number, that a part of so many bits has whole
 abbrev pub whole_kind : List Subvalue → ℕ → Kind → Option (List ℕ × ℕ)

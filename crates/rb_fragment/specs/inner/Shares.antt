@@ -3,12 +3,11 @@ use Rattle.std.specs.Prelude.{◌≡◌, ℕ, ◌<◌, ◌≤◌, List, ◌∷�
 use Rattle.std.specs.List.{list_all}
 use Rattle.rb_bytes.specs.Memory.{IsGood}
 use Rattle.rb_target.specs.Sheet.{Sheet}
-use Rattle.rb_fragment.specs.declared.reads.Read.{Joined}
 use Rattle.rb_fragment.specs.declared.reads.Share.{Share}
 use Rattle.rb_fragment.specs.Plan.{Plan}
 use Rattle.rb_fragment.specs.Adding.{Adds}
 use Rattle.rb_fragment.specs.Pieces.{Straight}
-use Rattle.rb_fragment.specs.Reads.{joined_over, mean, meant_of, fits, fits_share}
+use Rattle.rb_fragment.specs.Reads.{joined_over, meant_of, fits_share}
 
 -- the appended code puts a share into the slot d, over what stands there; the slots below d are kept
 pub record PutsOne (plan : Plan) (p : Share) (k d : ℕ) (old new : Sheet) : Type 0 where
@@ -20,13 +19,24 @@ pub record PutsOne (plan : Plan) (p : Share) (k d : ℕ) (old new : Sheet) : Typ
 abbrev pub PutsShare : Share → ℕ → Sheet → Sheet → Type 0
 PutsShare p d old new = (plan : Plan) (k : ℕ) → k ≤ d → d < old.slots → fits_share k p ≡ true → PutsOne plan p k d old new
 
--- the first i shares stand in the slot d
-pub record JoinedTo (plan : Plan) (shares : List Share) (i : ℕ) (old new : Sheet) (d : ℕ) : Type 0 where
+-- the appended code puts shares into the slot d, one after the other, over what stands there
+pub record PutsAll (plan : Plan) (shares : List Share) (d : ℕ) (old new : Sheet) : Type 0 where
   pub adds : Adds plan old new
-  pub slot : d ≡ old.slots
-  pub given : d < new.slots
-  pub runs : (x : ℕ) → Straight plan old.slots old new (λ s m. IsGood m × (mean (Joined shares) s m ≡ Some x))
+  pub runs : (x : ℕ) → Straight plan d old new (λ s m. IsGood m × (joined_over (slice_index s d) (map meant_of shares) s m ≡ Some x))
+      (λ s m. slice_index s d ≡ x)
+
+abbrev pub PutsShares : List Share → ℕ → Sheet → Sheet → Type 0
+PutsShares shares d old new =
+    (plan : Plan) (k : ℕ) → k ≤ d → d < old.slots → list_all (λ b. b) (map (fits_share k) shares) ≡ true
+    → PutsAll plan shares d old new
+
+-- the first i of them
+pub record PutsSome (plan : Plan) (shares : List Share) (i d : ℕ) (old new : Sheet) : Type 0 where
+  pub adds : Adds plan old new
+  pub runs : (x : ℕ) → Straight plan d old new (λ s m. IsGood m × (joined_over (slice_index s d) (map meant_of shares) s m ≡ Some x))
       (λ s m. IsGood m × (joined_over (slice_index s d) (map meant_of (drop i shares)) s m ≡ Some x))
 
-abbrev pub JoinsFirst : List Share → ℕ → Sheet → Sheet → ℕ → Type 0
-JoinsFirst shares i old new d = (plan : Plan) (k : ℕ) → k ≤ old.slots → fits k (Joined shares) ≡ true → JoinedTo plan shares i old new d
+abbrev pub PutsFirst : List Share → ℕ → ℕ → Sheet → Sheet → Type 0
+PutsFirst shares i d old new =
+    (plan : Plan) (k : ℕ) → k ≤ d → d < old.slots → list_all (λ b. b) (map (fits_share k) shares) ≡ true
+    → PutsSome plan shares i d old new

@@ -1,0 +1,110 @@
+//! Code that begins a word that has no constants.
+
+ghost use Rattle.std.specs.Prelude.{◌≡◌, IfOk, OnOk};
+ghost use Rattle.rb_compose.specs.inner.Code.{after_constants, begun_code, is_constant, is_low, joined_code, low_bit};
+
+use crate::subvalue::Subvalue;
+use crate::word::{bits, emit_parts, is_ready, source_slot};
+use rb_fragment::emit::{emit_alu, emit_const, emit_copy, emit_take};
+use rb_layout::layout::{Kind, Part};
+use rb_target::body::Body;
+use rb_target::instr::AluOp;
+use std::alloc::AllocError;
+
+/// Composes a word of parts of which the first is no constant: it begins as a part that a slot holds in its place, as
+/// bits of a number that are to stand from bit 0 on, or else as 0.
+///
+/// # Errors
+///
+/// Want of memory.
+pub(crate) fn emit_begun(
+    body: &mut Body,
+    parts: &[Part],
+    subs: &[Subvalue],
+    blocks: &[usize],
+) -> Result<usize, AllocError>
+    ensures slot { IfOk result (λ d. d ≡ body.old.slots) }
+    ensures code { OnOk result (body.new ≡ begun_code subs.now blocks.now parts.now body.old) }
+{
+    if let [part, rest @ ..] = parts {
+        if is_ready(part, subs) {
+            let from = source_slot(&part.kind, subs, blocks);
+            let slot = emit_joined(body, from, after_constants(rest), subs, blocks)?;
+            return Ok(slot);
+        }
+        if is_low(part) {
+            let from = source_slot(&part.kind, subs, blocks);
+            let slot = emit_take(body, from, low_bit(&part.kind), bits(part.l))?;
+            emit_parts(body, slot, rest, subs, blocks)?;
+            return Ok(slot);
+        }
+    }
+    let slot = emit_const(body, 0)?;
+    emit_parts(body, slot, parts, subs, blocks)?;
+    Ok(slot)
+}
+
+// A word of what a slot holds and of further parts. One that a slot holds in its place is set beside it at once.
+fn emit_joined(
+    body: &mut Body,
+    from: usize,
+    parts: &[Part],
+    subs: &[Subvalue],
+    blocks: &[usize],
+) -> Result<usize, AllocError>
+    ensures slot { IfOk result (λ d. d ≡ body.old.slots) }
+    ensures code { OnOk result (body.new ≡ joined_code subs.now blocks.now from parts.now body.old) }
+{
+    if let [part, rest @ ..] = parts {
+        if is_ready(part, subs) {
+            let also = source_slot(&part.kind, subs, blocks);
+            let slot = emit_alu(body, AluOp::Or, 64, from, also)?;
+            emit_parts(body, slot, rest, subs, blocks)?;
+            return Ok(slot);
+        }
+    }
+    let slot = emit_copy(body, from)?;
+    emit_parts(body, slot, parts, subs, blocks)?;
+    Ok(slot)
+}
+
+// Whether a part is bits of a number that are to stand from bit 0 on.
+fn is_low(part: &Part) -> bool
+    ensures { result ≡ is_low part.now.o part.now.kind }
+{
+    match &part.kind {
+        Kind::Bits(_, _) => part.o == 0,
+        Kind::Const(_) | Kind::Word(_, _) | Kind::Pointer(_, _) => false,
+    }
+}
+
+// The first of these bits.
+fn low_bit(kind: &Kind) -> u8
+    ensures { result ≡ low_bit kind.now }
+{
+    match kind {
+        Kind::Bits(_, a) => bits(*a),
+        Kind::Const(_) | Kind::Word(_, _) | Kind::Pointer(_, _) => 0,
+    }
+}
+
+/// The parts from the first on that is no constant.
+pub(crate) fn after_constants(parts: &[Part]) -> &[Part]
+    ensures { result.now ≡ after_constants parts.now }
+{
+    for (i, part) in parts.iter().enumerate() {
+        if !is_constant(&part.kind) {
+            return &parts[i..];
+        }
+    }
+    &[]
+}
+
+fn is_constant(kind: &Kind) -> bool
+    ensures { result ≡ is_constant kind.now }
+{
+    match kind {
+        Kind::Const(_) => true,
+        Kind::Bits(_, _) | Kind::Word(_, _) | Kind::Pointer(_, _) => false,
+    }
+}

@@ -1,0 +1,12 @@
+-- How an address is made of the word that holds its pointer part, for the proof of what makes it.
+use Rattle.std.specs.Prelude.{◌≡◌, ℕ, true}
+use Rattle.rb_target.specs.Sheet.{Sheet}
+use Rattle.rb_fragment.specs.declared.reads.Read.{Read, Address}
+use Rattle.rb_fragment.specs.Plan.{Plan}
+use Rattle.rb_fragment.specs.Reads.{fits, Makes}
+
+-- behind code that makes a word, the appended code makes the address that a range of the word says
+abbrev pub MakesAddress : ℕ → ℕ → ℕ → ℕ → Sheet → Sheet → ℕ → Type 0
+MakesAddress from o l align old new slot =
+    (plan : Plan) (r : Read) (a : Sheet) (k : ℕ) → fits k (Address r o l align) ≡ true → Makes plan r a old from
+    → Makes plan (Address r o l align) a new slot
