@@ -1,10 +1,12 @@
 -- From a represented value: its leaf is found.
-use Rattle.std.proofs.Common.{◌≡◌, inl, inr, ℕ, ◌<◌, ◌≤◌, ◌^◌, suc, List, [], ◌∷◌, map, length, Some, None, refl, sym, subst, ap, ◌∙◌, arith}
+use Rattle.std.proofs.Common.{◌≡◌, inl, inr, ℕ, ◌<◌, ◌≤◌, ◌^◌, zero, suc, List, [], ◌∷◌, map, length, Bool, Some, None, refl, sym, subst, ap, ◌∙◌, arith}
 use Rattle.std.specs.Prelude.{slice_get}
 use Rattle.std.proofs.lemmas.List.{length-map}
 use Rattle.std.proofs.lemmas.Option.{same_Some, slice_get_within}
 use Rattle.std.proofs.Math.Pow.{pow_mono}
+use Rattle.rb_bytes.specs.Memory.{Memory}
 use Rattle.rb_core.specs.declared.types.Ty.TheVariants.{Named}
+use Rattle.rb_core.specs.declared.value.Value.{Value}
 use Rattle.rb_core.specs.declared.layout_decl.Loc.{Loc}
 use Rattle.rb_core.specs.declared.layout_decl.Step.{Step}
 use Rattle.rb_core.specs.declared.program.Program.{Program}
@@ -19,6 +21,7 @@ use Rattle.rb_layout.specs.declared.agreed.LaidOut.{LaidOut}
 use Rattle.rb_layout.specs.declared.layout.Layout.{Layout}
 use Rattle.rb_layout.specs.declared.layout.Leaf.{Leaf}
 use Rattle.rb_layout.specs.declared.layout.FlatWord.{FlatWord}
+use Rattle.rb_layout.specs.A2.{widths_of}
 use Rattle.rb_layout.specs.A7.{Meets, Resolves}
 use Rattle.rb_layout.specs.A8.{last_length, length_of}
 use Rattle.rb_layout.specs.Agreement.{Agrees, AreAgreed}
@@ -33,6 +36,7 @@ use Rattle.rb_rel.proofs.Agreeing.{lawful}
 use Rattle.rb_rel.proofs.Declared.{declared}
 use Rattle.rb_rel.proofs.Leading.{leads}
 use Rattle.rb_rel.proofs.Lists.{got}
+use Rattle.rb_rel.proofs.Represented.{opened}
 use Rattle.rb_fragment.specs.declared.reads.Read.{Read, Slot}
 use Rattle.rb_fragment.specs.Plan.{Plan}
 use Rattle.rb_fragment.specs.Arms.{AreHoles, AreOfOneWay}
@@ -40,7 +44,7 @@ use Rattle.rb_fragment.specs.Pieces.{Leaves, Branches}
 use Rattle.rb_fragment.specs.WordReads.{AllFit}
 use Rattle.rb_fragment.proofs.MakingAll.{slots_fit, slots_meant}
 use Rattle.rb_fragment.proofs.Adding.{Adds-refl}
-use Rattle.rb_fetch.specs.Fetching.{StepsFit, LocFits}
+use Rattle.rb_fetch.specs.Fetching.{StepsFit, LocFits, AreSmall}
 use Rattle.rb_fetch.specs.Finding.{HasLeafMeant, IsPlanOf, FindsLeaf, FindsLeafOf, leaves_within, leaf_count}
 use Rattle.rb_fetch.specs.inner.Looking.{TreeFits, LeavesBelow, IsLeafHole, Looks}
 use Rattle.rb_fetch.proofs.Fitting.{readable_leaf, resolved_fits, root_widths}
@@ -63,6 +67,23 @@ last_low (s ∷ steps) o l h = last_low steps s.o s.l h.3
 meets_loc : (p : Program) (leaf : Leaf) (test : Test) → Meets p.types (flat_layouts p) leaf test → Resolves leaf (loc_of test)
 meets_loc p leaf (Is loc c) h = h.0
 meets_loc p leaf (IsNone loc cs) h = h.0
+
+width_at : (fs : List FlatWord) (j width : ℕ) → slice_get (widths_of fs) j ≡ Some width → (f : FlatWord) × (slice_get fs j ≡ Some f) × (f.width ≡ width)
+width_at [] j width e = absurd cc
+width_at (f ∷ fs) zero width e = (f, refl, same_Some f.width width e)
+width_at (f ∷ fs) (suc j) width e = width_at fs j width e
+
+-- the words of a represented value are of the widths of its type's words
+pub words_small : (p : Program) → IsTyped p → Agrees p → (t : ℕ) (layout : Layout) → layout_of (flat_layouts p) t ≡ Some layout
+    → (m : Memory) (clean : Bool) (v : Value) (ws : List ℕ) → Represents p.types (flat_layouts p) m clean (Named t) v ws → AreSmall layout.shape ws
+words_small p typed agrees t layout is m clean v ws rep j width w at there =
+    let b = (opened p.types (flat_layouts p) m clean rep).made in
+    let same : b.layout ≡ layout = same_Some b.layout layout (sym b.is_layout ∙ is) in
+    let widths = root_widths p typed agrees t layout b.number b.leaf is (ap (λ (y : Layout). slice_get y.leaves b.number) (sym same) ∙ b.is_number) in
+    let f = width_at b.leaf.root j width (ap (λ xs. slice_get xs j) widths ∙ at) in
+    let x = b.placed.words (record { block = None; word = j }) f.0 f.1 in
+    let is_w : x.0 ≡ w = same_Some x.0 w (sym x.1 ∙ there) in
+    subst (λ k. k < 2 ^ width) is_w (subst (λ n. x.0 < 2 ^ n) f.2 x.2.fits)
 
 -- the splits of layouts that agree can be done by instructions
 module _ (p : Program) (typed : IsTyped p) (agrees : Agrees p) (t : ℕ) (layout : Layout) (is : layout_of (flat_layouts p) t ≡ Some layout) where
@@ -106,7 +127,7 @@ module _ (p : Program) (typed : IsTyped p) (agrees : Agrees p) (t : ℕ) (layout
 
 module _ (plan : Plan) (typed : IsTyped plan.program) (agreed : AreAgreed plan.program plan.layouts) (t : ℕ) (words : List Read) where
   -- what looks finds the leaf
-  pub branches : (layout : Layout) → layout_of plan.layouts t ≡ Some layout → (old new : Sheet) (holes : List Hole) → Looks words layout.tree old [] new holes
+  pub branches : (layout : Layout) → layout_of plan.layouts t ≡ Some layout → (old new : Sheet) (holes : List Hole) → Looks words layout.shape layout.tree old [] new holes
       → AllFit old.slots words → length words ≡ word_count plan.layouts (Named t)
       → Branches plan old.slots old new holes (depth_of plan.layouts (Named t)) (λ n s m. HasLeafMeant plan t n words s m) (λ n s m. Unit {0})
   branches layout is old new holes looks all count =
@@ -127,7 +148,7 @@ module _ (plan : Plan) (typed : IsTyped plan.program) (agreed : AreAgreed plan.p
             let leaf : led.0 ≡ k = same_Some led.0 k (sym led.1 ∙ ap (λ (y : Layout). leaf_of y has.value) (sym l) ∙ has.is_leaf) in
             let goes : walk layout.tree ws w.memory ≡ Some k = led.2 ∙ ap Some leaf in
             subst (λ most. Leaves final next holes old.slots most (length old.code) s w k (λ s' m. Unit {0})) deep
-            (looks.runs plan final callee next old.slots new.slots steps all (omega arith) (omega arith) fits (λ h i. absurd (nothing h i)) finishes s w k ws long good meant.are_meant goes);
+            (looks.runs plan final callee next old.slots new.slots steps all (omega arith) (omega arith) fits (λ h i. absurd (nothing h i)) finishes s w k ws long good meant.are_meant (words_small plan.program typed agreed.1 t layout is1 w.memory has.clean has.value ws rep) goes);
       }
 
   -- a type without a layout has no values
@@ -149,7 +170,7 @@ module _ (agreed : LaidOut) (typed : IsTyped agreed.covered.program) (flat : agr
     finds_none none plan of all count =
         let p = of_plan plan of in no_branches plan p.0 p.1 t words (ap (λ ls. layout_of ls t) of.layouts ∙ none) old
 
-    module _ (layout : Layout) (is : layout_of agreed.layouts t ≡ Some layout) (new : Sheet) (holes : List Hole) (looks : Looks words layout.tree old [] new holes) where
+    module _ (layout : Layout) (is : layout_of agreed.layouts t ≡ Some layout) (new : Sheet) (holes : List Hole) (looks : Looks words layout.shape layout.tree old [] new holes) where
       pub finds : FindsLeafOf agreed t words old new holes
       finds plan of all count =
           let p = of_plan plan of in branches plan p.0 p.1 t words layout (ap (λ ls. layout_of ls t) of.layouts ∙ is) old new holes looks all count

@@ -27,10 +27,11 @@ use Rattle.rb_fragment.specs.WordReads.{AllFit}
 use Rattle.rb_fragment.proofs.MakingAll.{slots_fit, slots_meant}
 use Rattle.rb_fragment.proofs.Adding.{Adds-refl}
 use Rattle.rb_fragment.proofs.Pieces.{branches_weaken}
+use Rattle.rb_fetch.specs.Fetching.{AreSmall}
 use Rattle.rb_fetch.specs.Finding.{HasGroupMeant, FindsGroup, FindsGroupOf, group_depth, group_depth_in}
 use Rattle.rb_fetch.specs.Pruning.{AreBelow, pruned_of, walk_in, nesting_in}
 use Rattle.rb_fetch.specs.inner.Looking.{TreeFits, Looks}
-use Rattle.rb_fetch.proofs.Finding.{are_holes, nothing, of_plan, tree_fits}
+use Rattle.rb_fetch.proofs.Finding.{are_holes, nothing, of_plan, tree_fits, words_small}
 use Rattle.rb_fetch.proofs.Pruning.{pruned_prunes, pruned_fits, pruned_below}
 
 -- what finds a group does no more switches than what finds a leaf
@@ -64,8 +65,16 @@ module _ (plan : Plan) (typed : IsTyped plan.program) (agreed : AreAgreed plan.p
       let leaf : led.0 ≡ k = same_Some led.0 k (sym led.1 ∙ ap (λ (y : Layout). leaf_of y has.value) (sym l) ∙ has.is_leaf) in
       (pruned_prunes groups layout.tree).walks ws w.memory k g (led.2 ∙ ap Some leaf) meant.has_group.is_group
 
+  -- the words are of the type's widths
+  small : (layout : Layout) → layout_of plan.layouts t ≡ Some layout → (g : ℕ) (s : List ℕ) (w : World) → IsGood w.memory → (meant : HasGroupMeant plan t groups g words s w.memory) → AreSmall layout.shape meant.words
+  small layout is g s w good meant =
+      let is1 : layout_of (flat_layouts plan.program) t ≡ Some layout = ap (λ ls. layout_of ls t) (sym agreed.0) ∙ is in
+      let has = meant.has_group.has_leaf in
+      words_small plan.program typed agreed.1 t layout is1 w.memory has.clean has.value meant.words
+      (subst (λ ls. Represents plan.program.types ls w.memory has.clean (Named t) has.value meant.words) agreed.0 has.represents)
+
   -- what looks by the pruned tree finds the group
-  group_branches : (layout : Layout) → layout_of plan.layouts t ≡ Some layout → (tree : FlatTree) → pruned_of groups layout.tree ≡ Some tree → (old new : Sheet) (holes : List Hole) → Looks words tree old [] new holes
+  group_branches : (layout : Layout) → layout_of plan.layouts t ≡ Some layout → (tree : FlatTree) → pruned_of groups layout.tree ≡ Some tree → (old new : Sheet) (holes : List Hole) → Looks words layout.shape tree old [] new holes
       → AllFit old.slots words → length words ≡ word_count plan.layouts (Named t)
       → Branches plan old.slots old new holes (group_depth plan.layouts t groups) (λ g s m. HasGroupMeant plan t groups g words s m) (λ g s m. Unit {0})
   group_branches layout is tree left old new holes looks all count =
@@ -78,7 +87,7 @@ module _ (plan : Plan) (typed : IsTyped plan.program) (agreed : AreAgreed plan.p
         low = omega arith;
         leaves = λ final callee next steps finishes s w g long good meant.
             let to : walk tree meant.words w.memory ≡ Some g = subst (λ o. walk_in o meant.words w.memory ≡ Some g) left (goes layout is g s w good meant) in
-            let r = looks.runs plan final callee next old.slots new.slots steps all (omega arith) (omega arith) fits (λ h i. absurd (nothing h i)) finishes s w g meant.words long good meant.are_meant to in
+            let r = looks.runs plan final callee next old.slots new.slots steps all (omega arith) (omega arith) fits (λ h i. absurd (nothing h i)) finishes s w g meant.words long good meant.are_meant (small layout is g s w good meant) to in
             record {
               hole = r.hole;
               is_hole = r.is_hole;
@@ -111,7 +120,7 @@ module _ (agreed : LaidOut) (typed : IsTyped agreed.covered.program) (flat : agr
         empty_branches plan p.0 p.1 t words groups old
         (λ g s w good has. let z = sym (ap (λ o. walk_in o has.words w.memory) none) ∙ goes plan p.0 p.1 t words groups layout (ap (λ ls. layout_of ls t) of.layouts ∙ is) g s w good has in cc)
 
-    module _ (tree : FlatTree) (left : pruned_of groups layout.tree ≡ Some tree) (new : Sheet) (holes : List Hole) (looks : Looks words tree old [] new holes) where
+    module _ (tree : FlatTree) (left : pruned_of groups layout.tree ≡ Some tree) (new : Sheet) (holes : List Hole) (looks : Looks words layout.shape tree old [] new holes) where
       pub finds_group : FindsGroupOf agreed t groups words old new holes
       finds_group plan of all count =
           let p = of_plan agreed typed flat agrees t plan of in

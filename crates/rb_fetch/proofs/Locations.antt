@@ -1,28 +1,32 @@
 -- What stands at a location as data means what is read there, and code can be made of it.
-use Rattle.std.proofs.Common.{◌≡◌, ℕ, zero, suc, ◌+◌, ◌*◌, ◌%◌, ◌^◌, ◌<◌, ◌≤◌, ◌&&◌, inl, inr, true, List, [], ◌∷◌, length, map, Option, Some, None, Result, Ok, Err, refl, sym, ap, ◌∙◌, arith}
+use Rattle.std.proofs.Common.{◌≡◌, ℕ, zero, suc, ◌+◌, ◌*◌, ◌/◌, ◌%◌, ◌^◌, ◌<◌, ◌≤◌, ◌&&◌, inl, inr, true, List, [], ◌∷◌, length, map, Option, Some, None, Result, Ok, Err, refl, sym, subst, ap, ◌∙◌, arith}
 use Rattle.std.proofs.lemmas.Bool.Decides.{nat_tests}
 use Rattle.std.proofs.Math.Nat.{mod-eq_of_lt}
+use Rattle.std.proofs.Math.Pow.{pow_mono}
+use Rattle.std.proofs.lemmas.Nat.{pow-add}
 use Rattle.std.specs.Prelude.{slice_get, slice_index, nat_le}
 use Rattle.std.proofs.lemmas.List.{length-map}
 use Rattle.std.proofs.lemmas.Option.{same_Some}
 use Rattle.rb_core.specs.declared.layout_decl.Loc.{Loc}
 use Rattle.rb_core.specs.declared.layout_decl.Step.{Step}
 use Rattle.rb_bits.specs.Words.{IsRange, take_of}
-use Rattle.rb_bytes.specs.Memory.{Memory, IsGood, IsWidth, load_of}
+use Rattle.rb_bits.proofs.RangeLemmas.{take_take, take_whole}
+use Rattle.rb_bytes.specs.Memory.{Memory, IsGood, IsWidth, byte_at, then_byte, read_le, load_of}
 use Rattle.rb_bytes.specs.declared.fault.Trap.{Trap}
 use Rattle.rb_bytes.proofs.GrowthLemmas.{address_small}
+use Rattle.rb_bytes.proofs.MemoryLemmas.{load_ok}
 use Rattle.rb_target.specs.Meaning.{slots_at}
 use Rattle.rb_target.specs.Sheet.{Sheet}
 use Rattle.rb_rel.specs.Reading.{after, read_from, read_first, read_loc}
-use Rattle.rb_fragment.specs.declared.reads.Read.{Read, Slot, Address, Loaded}
+use Rattle.rb_fragment.specs.declared.reads.Read.{Read, Slot, Bits, Address, Loaded}
 use Rattle.rb_fragment.specs.Reads.{where_some, loaded, mean, is_range, is_width, fits, MakesRead}
 use Rattle.rb_fragment.specs.WordReads.{AreMeant, AllFit}
 use Rattle.rb_fragment.proofs.MakingAll.{meant-at, slots_fit, slots_meant}
 use Rattle.rb_fragment.proofs.Pieces.{straight_weaken}
-use Rattle.rb_fragment.proofs.ReadForms.{mean-Bits, mean-Address, mean-Loaded, fits-Bits, fits-Address, fits-Loaded}
-use Rattle.rb_fetch.specs.Fetching.{StepsFit, LocFits, IsReadAt, FetchesAt, FetchesLoc}
+use Rattle.rb_fragment.proofs.ReadForms.{both, mean-Bits, mean-Address, mean-Loaded, fits-Bits, fits-Address, fits-Loaded}
+use Rattle.rb_fetch.specs.Fetching.{StepsFit, LocFits, IsReadAt, AreSmall, FetchesAt, FetchesLoc}
 use Rattle.rb_fetch.specs.declared.span.Span.{Span}
-use Rattle.rb_fetch.specs.inner.Reads.{Spans, capped, span_on, read_or, loc_span, bits_of}
+use Rattle.rb_fetch.specs.inner.Reads.{IsSmall, Spans, IsSameRange, ReadsRange, IsAll, capped, step_span, span_on, read_or, SpansLoc}
 
 -- Fitting
 
@@ -59,23 +63,66 @@ module _ (n : ℕ) where
       fits-Loaded n r byte (capped width) ∙ ap (λ t. t && (nat_le byte 511 && is_width (capped width))) f ∙ ap (λ t. t && is_width (capped width)) few
       ∙ ap is_width (width_capped width wide) ∙ width_yes width wide
 
-  pub span_fits : (steps : List Step) (r : Read) (o l : ℕ) → fits n r ≡ true → StepsFit o l steps → let p = span_on r o l steps in (fits n p.read ≡ true) × IsRange p.o p.l
-  span_fits [] r o l f h = (f, h)
-  span_fits (s ∷ steps) r o l f h =
-      span_fits steps (Loaded (Address r (capped o) (capped l) s.align) s.byte (capped s.width)) s.o s.l
-      (loaded_fits (Address r (capped o) (capped l) s.align) s.byte s.width (address_fits r o l s.align f h.0) h.1 h.2) h.3
+  pub span_fits : (steps : List Step) (p : Span) → fits n p.read ≡ true → StepsFit p.o p.l steps → fits n (span_on p steps).read ≡ true
+  span_fits [] p f h = f
+  span_fits (s ∷ steps) p f h =
+      span_fits steps (step_span p s)
+      (loaded_fits (Address p.read (capped p.o) (capped p.l) s.align) s.byte s.width (address_fits p.read p.o p.l s.align f h.0) h.1 h.2) h.3
 
   pub word_fits : (words : List Read) (k : ℕ) → AllFit n words → k < length words → fits n (read_or (slice_get words k)) ≡ true
   word_fits [] k all lt = absurd (omega (arith, lt))
   word_fits (r ∷ words) zero all lt = all.0
   word_fits (r ∷ words) (suc k) all lt = word_fits words k all.1 (omega (arith, lt))
 
-  -- the range at a location can be made
-  pub loc_fits : (words : List Read) (loc : Loc) → AllFit n words → loc.word < length words → LocFits loc → let p = loc_span words loc in (fits n p.read ≡ true) × IsRange p.o p.l
-  loc_fits words loc all lt h = span_fits loc.steps (read_or (slice_get words loc.word)) loc.o loc.l (word_fits words loc.word all lt) h
-
-  pub bits_fit : (p : Span) → fits n p.read ≡ true → IsRange p.o p.l → fits n (bits_of p) ≡ true
+  pub bits_fit : (p : Span) → fits n p.read ≡ true → IsRange p.o p.l → fits n (Bits p.read (capped p.o) (capped p.l)) ≡ true
   bits_fit p f range = fits-Bits n p.read (capped p.o) (capped p.l) ∙ ap (λ t. t && is_range (capped p.o) (capped p.l)) f ∙ range_yes p.o p.l range
+
+-- a step goes on from any range
+range_first : (steps : List Step) (o l : ℕ) → StepsFit o l steps → IsRange o l
+range_first [] o l h = h
+range_first (s ∷ steps) o l h = h.0
+
+fit_first : (steps : List Step) (o l o' l' : ℕ) → IsRange o' l' → StepsFit o l steps → StepsFit o' l' steps
+fit_first [] o l o' l' r h = r
+fit_first (s ∷ steps) o l o' l' r h = (r, h.1, h.2, h.3)
+
+range_last : (steps : List Step) (p : Span) → StepsFit p.o p.l steps → let q = span_on p steps in IsRange q.o q.l
+range_last [] p h = h
+range_last (s ∷ steps) p h = range_last steps (step_span p s) h.3
+
+module _ (words : List Read) (width : Option ℕ) (loc : Loc) (span : Span) (at : SpansLoc words width loc span) (h : LocFits loc) where
+  pub first_fits : StepsFit at.first.o at.first.l loc.steps
+  first_fits = fit_first loc.steps loc.o loc.l at.first.o at.first.l (at.begins.range (range_first loc.steps loc.o loc.l h)) h
+
+  -- the range at a location can be made
+  pub loc_range : IsRange span.o span.l
+  loc_range = subst (λ (q : Span). IsRange q.o q.l) (sym at.ends) (range_last loc.steps at.first first_fits)
+
+  pub loc_fits : (k : ℕ) → AllFit k words → loc.word < length words → fits k span.read ≡ true
+  loc_fits k all lt = subst (λ (q : Span). fits k q.read ≡ true) (sym at.ends) (span_fits k loc.steps at.first (at.begins.fit k (word_fits k words loc.word all lt)) first_fits)
+
+-- Words are as small as their widths
+
+read_small : (bytes : List (Option ℕ)) (n at r : ℕ) → ((a b : ℕ) → byte_at bytes a ≡ Some b → b < 256) → read_le bytes n at ≡ Ok r → r < 2 ^ (8 * n)
+read_small bytes zero at r small e = let same : 0 ≡ r = (let z : ◌≡◌ {A = Result ℕ Trap} (Ok 0) (Ok r) = e in cc) in omega (arith, same)
+read_small bytes (suc n) at r small e = go (byte_at bytes at) refl (read_le bytes n (at + 1)) refl e (λ q there. read_small bytes n (at + 1) q small there)
+  where
+    go : (o : Option ℕ) → byte_at bytes at ≡ o → (rest : Result ℕ Trap) → read_le bytes n (at + 1) ≡ rest → then_byte at o rest ≡ Ok r → ((q : ℕ) → read_le bytes n (at + 1) ≡ Ok q → q < 2 ^ (8 * n)) → r < 2 ^ (8 * suc n)
+    go None is rest there h below = absurd cc
+    go (Some b) is (Err t) there h below = absurd cc
+    go (Some b) is (Ok q) there h below =
+        let same : b + 256 * q ≡ r = (let z : ◌≡◌ {A = Result ℕ Trap} (Ok (b + 256 * q)) (Ok r) = h in cc) in
+        let low = small at b is in
+        let rest = below q there in
+        let step : 8 * suc n ≡ 8 + 8 * n = omega arith in
+        let more : 2 ^ (8 * suc n) ≡ 256 * 2 ^ (8 * n) = ap (λ k. 2 ^ k) step ∙ pow-add 2 8 (8 * n) in
+        omega (arith, same, low, rest, more)
+
+load_small : (m : Memory) (base byte width r : ℕ) → IsGood m → load_of m base byte width ≡ Ok r → r < 2 ^ width
+load_small m base byte width r good e =
+    let a = read_small m.bytes (width / 8) (base + byte) r good.small (load_ok m base byte width r e).1 in
+    let le : 8 * (width / 8) ≤ width = omega arith in
+    let more = pow_mono le in omega (arith, a, more)
 
 -- Meaning
 
@@ -85,62 +132,126 @@ after_some (Ok w) go x e = (w, refl, e)
 after_some (Err t) go x e = absurd cc
 
 module _ (s : List ℕ) (m : Memory) (good : IsGood m) (x : ℕ) where
-  span_means : (steps : List Step) (r : Read) (o l w : ℕ) → StepsFit o l steps → mean r s m ≡ Some w → read_from m w o l steps ≡ Some x → Spans (span_on r o l steps) s m x
-  span_means [] r o l w h is e = record { word = w; is_word = is; are_bits = sym (same_Some (take_of w o l) x e) }
-  span_means (t ∷ steps) r o l w h is e =
-      let co = capped-is o (omega (arith, h.0.0, h.0.1)) in
-      let cl = capped-is l (omega (arith, h.0.1)) in
-      let cw = width_capped t.width h.2 in
+  span_means : (steps : List Step) (p : Span) (b : ℕ) → StepsFit p.o p.l steps → (h : Spans p s m b) → read_from m h.word p.o p.l steps ≡ Some x → Spans (span_on p steps) s m x
+  span_means [] p b fit h e = record { word = h.word; is_word = h.is_word; small = h.small; are_bits = sym (same_Some (take_of h.word p.o p.l) x e) }
+  span_means (t ∷ steps) p b fit h e =
+      let w = h.word in
+      let o = p.o in
+      let l = p.l in
+      let co = capped-is o (omega (arith, fit.0.0, fit.0.1)) in
+      let cl = capped-is l (omega (arith, fit.0.1)) in
+      let cw = width_capped t.width fit.2 in
       let a = take_of w o l * t.align in
       let q = after_some (load_of m a t.byte t.width) (λ k. read_from m k t.o t.l steps) x e in
       let low = address_small m a t.byte t.width q.0 good q.1 in
       let whole : a % 2 ^ 64 ≡ a = mod-eq_of_lt (omega (arith, low)) in
-      let address = Address r (capped o) (capped l) t.align in
+      let address = Address p.read (capped o) (capped l) t.align in
       let at : mean address s m ≡ Some a =
-      mean-Address r (capped o) (capped l) t.align s m ∙ ap (λ v. where_some v (λ k. Some (take_of k (capped o) (capped l) * t.align % 2 ^ 64))) is
+      mean-Address p.read (capped o) (capped l) t.align s m ∙ ap (λ v. where_some v (λ k. Some (take_of k (capped o) (capped l) * t.align % 2 ^ 64))) h.is_word
       ∙ ap (λ k. Some (take_of w k (capped l) * t.align % 2 ^ 64)) co ∙ ap (λ k. Some (take_of w o k * t.align % 2 ^ 64)) cl ∙ ap (λ k. Some k) whole in
       let next : mean (Loaded address t.byte (capped t.width)) s m ≡ Some q.0 =
       mean-Loaded address t.byte (capped t.width) s m ∙ ap (λ v. where_some v (λ base. loaded (load_of m base t.byte (capped t.width)))) at
       ∙ ap (λ k. loaded (load_of m a t.byte k)) cw ∙ ap loaded q.1 in
-      span_means steps (Loaded address t.byte (capped t.width)) t.o t.l q.0 h.3 next q.2
+      span_means steps (step_span p t) (take_of q.0 t.o t.l) fit.3
+      (record { word = q.0; is_word = next; small = load_small m a t.byte t.width q.0 good q.1; are_bits = refl }) q.2
+
+  -- what is read behind a range is told by its bits
+  from_bits : (steps : List Step) (w o l w' o' l' : ℕ) → take_of w o l ≡ take_of w' o' l' → read_from m w o l steps ≡ read_from m w' o' l' steps
+  from_bits [] w o l w' o' l' e = ap Some e
+  from_bits (t ∷ steps) w o l w' o' l' e = ap (λ k. after (load_of m (k * t.align) t.byte t.width) (λ y. read_from m y t.o t.l steps)) e
 
   -- what is read at a location is the range of the read there
-  pub loc_means : (words : List Read) (ws : List ℕ) (loc : Loc) → LocFits loc → AreMeant words s m ws → read_loc ws m loc ≡ Some x → Spans (loc_span words loc) s m x
-  loc_means words ws loc h meant e = at_word (slice_get ws loc.word) refl e
+  pub loc_means : (words : List Read) (ws : List ℕ) (width : Option ℕ) (loc : Loc) (span : Span) → SpansLoc words width loc span → LocFits loc → AreMeant words s m ws
+      → ((w : ℕ) → slice_get ws loc.word ≡ Some w → IsSmall width w) → read_loc ws m loc ≡ Some x → Spans span s m x
+  loc_means words ws width loc span begin h meant small e = at_word (slice_get ws loc.word) refl e
     where
       at_read : (o : Option Read) (w : ℕ) (r : Read) → o ≡ Some r → mean r s m ≡ Some w → mean (read_or o) s m ≡ Some w
       at_read None w r same is = absurd cc
       at_read (Some q) w r same is = ap (λ (y : Read). mean y s m) (same_Some q r same) ∙ is
 
-      at_word : (o : Option ℕ) → slice_get ws loc.word ≡ o → read_first m o loc ≡ Some x → Spans (loc_span words loc) s m x
+      at_word : (o : Option ℕ) → slice_get ws loc.word ≡ o → read_first m o loc ≡ Some x → Spans span s m x
       at_word None is k = absurd cc
       at_word (Some w) is k =
           let r = meant-at words s m ws loc.word w meant is in
-          span_means loc.steps (read_or (slice_get words loc.word)) loc.o loc.l w h (at_read (slice_get words loc.word) w r.0 r.1 r.2) k
+          let b = take_of w loc.o loc.l in
+          let f = begin.begins.means s m b (record { word = w; is_word = at_read (slice_get words loc.word) w r.0 r.1 r.2; small = small w is; are_bits = refl }) in
+          let first = begin.first in
+          let reads : read_from m f.word first.o first.l loc.steps ≡ Some x = from_bits loc.steps f.word first.o first.l w loc.o loc.l (sym f.are_bits) ∙ k in
+          subst (λ (q : Span). Spans q s m x) (sym begin.ends) (span_means loc.steps first b (first_fits words width loc span begin h) f reads)
 
-  pub bits_mean : (p : Span) → IsRange p.o p.l → Spans p s m x → mean (bits_of p) s m ≡ Some x
-  bits_mean p range h =
-      let co = capped-is p.o (omega (arith, range.0, range.1)) in
-      let cl = capped-is p.l (omega (arith, range.1)) in
-      mean-Bits p.read (capped p.o) (capped p.l) s m ∙ ap (λ v. where_some v (λ k. Some (take_of k (capped p.o) (capped p.l)))) h.is_word
-      ∙ ap (λ k. Some (take_of h.word k (capped p.l))) co ∙ ap (λ k. Some (take_of h.word p.o k)) cl ∙ ap Some (sym h.are_bits)
+-- Ranges as reads
+
+bits_mean : (s : List ℕ) (m : Memory) (x : ℕ) (p : Span) → IsRange p.o p.l → Spans p s m x → mean (Bits p.read (capped p.o) (capped p.l)) s m ≡ Some x
+bits_mean s m x p range h =
+    let co = capped-is p.o (omega (arith, range.0, range.1)) in
+    let cl = capped-is p.l (omega (arith, range.1)) in
+    mean-Bits p.read (capped p.o) (capped p.l) s m ∙ ap (λ v. where_some v (λ k. Some (take_of k (capped p.o) (capped p.l)))) h.is_word
+    ∙ ap (λ k. Some (take_of h.word k (capped p.l))) co ∙ ap (λ k. Some (take_of h.word p.o k)) cl ∙ ap Some (sym h.are_bits)
+
+pub bits_read : (p : Span) → ReadsRange p (Bits p.read (capped p.o) (capped p.l))
+bits_read p = record {
+  fit = λ k f range. bits_fit k p f range;
+  means = λ s m x range h. bits_mean s m x p range h;
+  origin = λ x e. absurd cc;
+}
+
+-- a range that is all bits of a word is the word
+pub all_read : (p : Span) → IsAll p.width p.o p.l → ReadsRange p p.read
+all_read p all = record {
+  fit = λ k f range. f;
+  means = λ s m x range h.
+      let small : h.word < 2 ^ p.l = subst (λ o. IsSmall o h.word) all.1 h.small in
+      let same : x ≡ h.word = h.are_bits ∙ ap (λ o. take_of h.word o p.l) all.0 ∙ take_whole h.word p.l small in
+      h.is_word ∙ ap Some (sym same);
+  origin = λ x e. (p.l, all.1, e);
+}
+
+some_of : (o : Option ℕ) (go : ℕ → Option ℕ) (x : ℕ) → where_some o go ≡ Some x → (w : ℕ) × (o ≡ Some w) × (go w ≡ Some x)
+some_of None go x e = absurd cc
+some_of (Some w) go x e = (w, refl, e)
+
+-- a range of a range is one of the word
+pub narrower : (p : Span) (r : Read) (from count : ℕ) → p.read ≡ Bits r from count → p.o + p.l ≤ count → from + count ≤ 64
+    → let q : Span = record { read = r; width = None; o = from + p.o; l = p.l } in IsSameRange p q
+narrower p r from count is inside short = record {
+  long = refl;
+  range = λ range. (range.0, omega (arith, inside, short));
+  fit = λ k f. (both (fits k r) (is_range from count) (sym (fits-Bits k r from count) ∙ ap (fits k) (sym is) ∙ f)).0;
+  means = λ s m x h.
+      let g = some_of (mean r s m) (λ w. Some (take_of w from count)) h.word (sym (mean-Bits r from count s m) ∙ ap (λ (y : Read). mean y s m) (sym is) ∙ h.is_word) in
+      let part : take_of g.0 from count ≡ h.word = same_Some (take_of g.0 from count) h.word g.2 in
+      record {
+        word = g.0;
+        is_word = g.1;
+        small = tt;
+        are_bits = h.are_bits ∙ ap (λ w. take_of w p.o p.l) (sym part) ∙ take_take g.0 from count p.o p.l inside;
+      };
+  origin = λ w x some slot. absurd cc;
+}
+
+-- Fetching
+
+small_at : (widths ws : List ℕ) (j : ℕ) → AreSmall widths ws → (o : Option ℕ) → slice_get widths j ≡ o → (w : ℕ) → slice_get ws j ≡ Some w → IsSmall o w
+small_at widths ws j small None is w e = tt
+small_at widths ws j small (Some width) is w e = small j width w is e
 
 -- code that makes what stands at a location fetches it
-pub fetches_at : (words : List Read) (loc : Loc) (old new : Sheet) (slot : ℕ) → MakesRead (bits_of (loc_span words loc)) old new slot → FetchesAt words loc old new slot
-fetches_at words loc old new slot makes plan k le all lt h =
-    let p = loc_span words loc in
-    let f = loc_fits k words loc all lt h in
-    let made = makes plan k le (bits_fit k p f.0 f.1) in
+pub fetches_at : (words : List Read) (widths : List ℕ) (loc : Loc) (old new : Sheet) (slot : ℕ) (span : Span) (read : Read) → SpansLoc words (slice_get widths loc.word) loc span → ReadsRange span read
+    → MakesRead read old new slot → FetchesAt words widths loc old new slot
+fetches_at words widths loc old new slot span read at reads makes plan k le all lt h =
+    let width = slice_get widths loc.word in
+    let range = loc_range words width loc span at h in
+    let made = makes plan k le (reads.fit k (loc_fits words width loc span at h k all lt) range) in
     record {
       adds = made.adds;
       given = made.given;
-      runs = λ ws x.
-          straight_weaken plan old.slots old new (λ s m. IsGood m × (mean (bits_of p) s m ≡ Some x)) (λ s m. IsGood m × AreMeant words s m ws × IsReadAt loc ws m x) (λ s m. slice_index s slot ≡ x) (λ s m. slice_index s slot ≡ x)
-          (λ s m pre. (pre.0, bits_mean s m pre.0 x p f.1 (loc_means s m pre.0 x words ws loc h pre.1 pre.2))) (λ s m y. y) (made.runs x);
+      runs = λ ws x small.
+          straight_weaken plan old.slots old new (λ s m. IsGood m × (mean read s m ≡ Some x)) (λ s m. IsGood m × AreMeant words s m ws × IsReadAt loc ws m x) (λ s m. slice_index s slot ≡ x) (λ s m. slice_index s slot ≡ x)
+          (λ s m pre. (pre.0, reads.means s m x range (loc_means s m pre.0 x words ws width loc span at h pre.1 (λ w e. small_at widths ws loc.word small width refl w e) pre.2))) (λ s m y. y) (made.runs x);
     }
 
 -- from words in slots
-pub fetches_loc : (words : List ℕ) (loc : Loc) (old new : Sheet) (slot : ℕ) → FetchesAt (map (λ x. Slot x) words) loc old new slot → FetchesLoc words loc old new slot
+pub fetches_loc : (words : List ℕ) (loc : Loc) (old new : Sheet) (slot : ℕ) → FetchesAt (map (λ x. Slot x) words) [] loc old new slot → FetchesLoc words loc old new slot
 fetches_loc words loc old new slot fetches plan all lt h =
     let n = length-map words (λ x. Slot x) in
     let made = fetches plan old.slots (omega arith) (slots_fit old.slots words all) (omega (arith, lt, n)) h in
@@ -150,6 +261,6 @@ fetches_loc words loc old new slot fetches plan all lt h =
       runs = λ x. record {
         adds = made.adds;
         low = omega arith;
-        runs = λ final callee next law agrees s w long pre. (made.runs (slots_at s words) x).runs final callee next law agrees s w long (pre.0, slots_meant s w.memory words, pre.1);
+        runs = λ final callee next law agrees s w long pre. (made.runs (slots_at s words) x (λ j width k at. absurd cc)).runs final callee next law agrees s w long (pre.0, slots_meant s w.memory words, pre.1);
       };
     }

@@ -48,9 +48,9 @@ in-split h x (y ∷ hs) (suc k, e) = elim (in-split h x hs (k, e)) [ inl i ↦ i
 open-sub : (hs hs' : List Hole) (q : ℕ) (arm : Option ℕ) → ((h : Hole) → IsIn h hs' → h.pc ≡ q → h.arm ≡ arm → IsIn h hs) → IsOpen hs' q arm → IsOpen hs q arm
 open-sub hs hs' q arm f o = (o.0, f o.0 o.1 o.2 o.3, o.2, o.3)
 
-widen : (final : List Instr) (next : Next) (words : List Read) (tree : FlatTree) (hs hs' : List Hole) (n0 top start : ℕ) → ((h : Hole) → IsIn h hs → IsIn h hs') → Does final next words tree hs n0 top start → Does final next words tree hs' n0 top start
-widen final next words tree hs hs' n0 top start f d = λ s w n ws long good meant walks.
-    let r = d s w n ws long good meant walks in
+widen : (final : List Instr) (next : Next) (words : List Read) (widths : List ℕ) (tree : FlatTree) (hs hs' : List Hole) (n0 top start : ℕ) → ((h : Hole) → IsIn h hs → IsIn h hs') → Does final next words widths tree hs n0 top start → Does final next words widths tree hs' n0 top start
+widen final next words widths tree hs hs' n0 top start f d = λ s w n ws long good meant small walks.
+    let r = d s w n ws long good meant small walks in
     record { hole = r.hole; is_hole = f r.hole r.is_hole; is_way = r.is_way; target = r.target; is_target = r.is_target; slots = r.slots; world = r.world; runs = r.runs; keeps = r.keeps; later = r.later; exit = r.exit }
 
 -- a hole of code is one of longer code
@@ -59,8 +59,8 @@ hole_kept old new h g hole = subst (λ o. IsHoleIn o h.arm) (sym (g.same h.pc (h
 
 -- A leaf
 
-pub looks_leaf : (words : List Read) (n : ℕ) (old : Sheet) (hs0 : List Hole) → let h : Hole = record { pc = length old.code; arm = None; leaf = n } in Looks words (Leaf n) old hs0 (pushed old (Jump (length old.code + 1))) (hs0 ++ h ∷ [])
-looks_leaf words n old hs0 =
+pub looks_leaf : (words : List Read) (widths : List ℕ) (n : ℕ) (old : Sheet) (hs0 : List Hole) → let h : Hole = record { pc = length old.code; arm = None; leaf = n } in Looks words widths (Leaf n) old hs0 (pushed old (Jump (length old.code + 1))) (hs0 ++ h ∷ [])
+looks_leaf words widths n old hs0 =
     let h : Hole = record { pc = length old.code; arm = None; leaf = n } in
     let pc = length old.code in
     let code = old.code ++ Jump (pc + 1) ∷ [] in
@@ -86,7 +86,7 @@ looks_leaf words n old hs0 =
             ]
           ];
       adds = λ plan m le all fits. push_adds plan old (Jump (pc + 1)) (record { bounded = tt; slots_fit = tt; targets = (omega arith, omega arith); calls = tt });
-      runs = λ plan final callee next n0 top law all le le' fits below fin s w k ws long good meant walks.
+      runs = λ plan final callee next n0 top law all le le' fits below fin s w k ws long good meant small walks.
           let a = fin pc (omega arith) (omega (arith, len)) in
           let j = jump_shape (slice_get final pc) (pc + 1) (a.shapes ∙ ap shape_in (get-seam old.code (Jump (pc + 1)) [])) in
           record {
@@ -106,7 +106,7 @@ looks_leaf words n old hs0 =
 
 -- Splits
 
-module _ (words : List Read) (loc : Loc) (arms : List FlatArm) (other : Option FlatTree) (c : Sheet) (slot : ℕ) (hs0 : List Hole) where
+module _ (words : List Read) (widths : List ℕ) (loc : Loc) (arms : List FlatArm) (other : Option FlatTree) (c : Sheet) (slot : ℕ) (hs0 : List Hole) where
   abbrev pc : ℕ
   pc = length c.code
 
@@ -117,7 +117,7 @@ module _ (words : List Read) (loc : Loc) (arms : List FlatArm) (other : Option F
   Tree = Split loc arms other
 
   abbrev Done : (Option ℕ → Type 0) → Sheet → List Hole → Type 0
-  Done D b hs = SplitDone words loc arms other c slot hs0 D b hs
+  Done D b hs = SplitDone words widths loc arms other c slot hs0 D b hs
 
   abbrev here : Option ℕ → ℕ → Hole
   here x n = record { pc = pc; arm = x; leaf = n }
@@ -226,7 +226,7 @@ module _ (words : List Read) (loc : Loc) (arms : List FlatArm) (other : Option F
                     (λ z dz no. targets z (inl dz) (λ o. no (open-sub hs hs' pc z (λ k i e1 e2. elim (in-split k h hs i) [ inl j ↦ j | inr s ↦ absurd (new (subst D (sym (ap (λ (q : Hole). q.arm) s ∙ e2)) dz)) ]) o)))
                     (λ q lo hi. agrees-sub final b.code b.code hs hs' q refl (λ z o. open-sub hs hs' q z (λ k i e1 e2. elim (in-split k h hs i) [ inl j ↦ j | inr s ↦ (let p1 : pc ≡ k.pc = ap (λ (q1 : Hole). q1.pc) s in absurd (omega (arith, lo, e1, p1))) ]) o) (fin q lo hi))
                     arm tree dy is in
-                    (r.0, r.1, widen final next words tree hs hs' n0 top r.0 (λ k i. in-more k h hs i) r.2)
+                    (r.0, r.1, widen final next words widths tree hs hs' n0 top r.0 (λ k i. in-more k h hs i) r.2)
                 | inr e ↦
                     let v = hole_in (slice_get final pc) x (hole_at (slice_get final pc) x (Leaf n) at shaped) in
                     let t = hole_target v.0 x v.2 in
@@ -234,7 +234,7 @@ module _ (words : List Read) (loc : Loc) (arms : List FlatArm) (other : Option F
                     let same : Leaf n ≡ tree = same_Some (Leaf n) tree (sym at ∙ ap (under_at arms other) (sym e) ∙ is) in (
                       t.0,
                       ap (target_in (slice_get final pc)) e ∙ go,
-                      subst (λ (u : FlatTree). Does final next words u hs' n0 top t.0) same (λ s w k ws long good meant walks. record {
+                      subst (λ (u : FlatTree). Does final next words widths u hs' n0 top t.0) same (λ s w k ws long good meant small walks. record {
                         hole = h;
                         is_hole = in-last h hs;
                         is_way = same_Some n k (sym (walk-Leaf n ws w.memory) ∙ walks);
@@ -252,7 +252,7 @@ module _ (words : List Read) (loc : Loc) (arms : List FlatArm) (other : Option F
         }
 
     -- a target that is set leads to the code of the tree
-    module _ (tree : FlatTree) (at : under_at arms other x ≡ Some tree) (b' : Sheet) (hs' : List Hole) (grows : Grows (patched b (here x 0) (length b.code)).code b'.code) (look : Looks words tree (patched b (here x 0) (length b.code)) hs b' hs') where
+    module _ (tree : FlatTree) (at : under_at arms other x ≡ Some tree) (b' : Sheet) (hs' : List Hole) (grows : Grows (patched b (here x 0) (length b.code)).code b'.code) (look : Looks words widths tree (patched b (here x 0) (length b.code)) hs b' hs') where
       abbrev e : Sheet
       e = patched b (here x 0) (length b.code)
 
@@ -310,7 +310,7 @@ module _ (words : List Read) (loc : Loc) (arms : List FlatArm) (other : Option F
                   (λ z dz no. targets z (inl dz) (λ o. no (shut z o)) ∙ ap (λ i. target_in i z) (stays pc d.long) ∙ p.others z (λ s. new (subst D s dz)))
                   (λ q lo hi. let ne : q ≢ pc = omega (arith, lo) in agrees-sub final b.code b'.code hs hs' q (stays q hi ∙ p.elsewhere q ne) (λ z o. open-sub hs hs' q z (λ k i e1 e2. behind k i (omega (arith, e1, hi))) o) (fin q lo (omega (arith, hi, p.long, grows.longer))))
                   arm u dy is in
-                  (r.0, r.1, widen final next words u hs hs' n0 top r.0 look.more.old r.2)
+                  (r.0, r.1, widen final next words widths u hs hs' n0 top r.0 look.more.old r.2)
               | inr s ↦
                   let go : target_in (slice_get final pc) x ≡ Some (length b.code) = targets x (inr refl) (λ o. done_before (shut x o)) ∙ ap (λ i. target_in i x) (stays pc d.long) ∙ p.target in
                   let same : tree ≡ u = same_Some tree u (sym at ∙ ap (under_at arms other) (sym s) ∙ is) in
@@ -321,7 +321,7 @@ module _ (words : List Read) (loc : Loc) (arms : List FlatArm) (other : Option F
                   (λ q lo hi. fin q (omega (arith, lo, p.long, d.long)) hi) in (
                     length b.code,
                     ap (target_in (slice_get final pc)) s ∙ go,
-                    subst (λ (v : FlatTree). Does final next words v hs' n0 top (length b.code)) same (subst (λ k. Does final next words tree hs' n0 top k) p.long ran),
+                    subst (λ (v : FlatTree). Does final next words widths v hs' n0 top (length b.code)) same (subst (λ k. Does final next words widths tree hs' n0 top k) p.long ran),
                   )
             ];
       }
@@ -331,8 +331,8 @@ module _ (words : List Read) (loc : Loc) (arms : List FlatArm) (other : Option F
   numbers-open t (a ∷ ys) = ap (λ l. a.literal ∷ l) (numbers-open t ys)
 
   -- all is done
-  pub split_looks : (old : Sheet) → FetchesAt words loc old c slot → Grows old.code c.code → (D : Option ℕ → Type 0) (b : Sheet) (hs : List Hole) → Done D b hs
-      → ((x : Option ℕ) (t : FlatTree) → under_at arms other x ≡ Some t → D x) → Looks words Tree old hs0 b hs
+  pub split_looks : (old : Sheet) → FetchesAt words widths loc old c slot → Grows old.code c.code → (D : Option ℕ → Type 0) (b : Sheet) (hs : List Hole) → Done D b hs
+      → ((x : Option ℕ) (t : FlatTree) → under_at arms other x ≡ Some t → D x) → Looks words widths Tree old hs0 b hs
   split_looks old fetches grown D b hs d covers =
       let low = grown.longer in
       record {
@@ -343,7 +343,7 @@ module _ (words : List Read) (loc : Loc) (arms : List FlatArm) (other : Option F
             let f = fit-split (length words) loc arms other fits in
             let st = fetches plan m le all f.1 f.0 in
             Adds-trans plan old c b st.adds (d.adds plan m st.given (omega (arith, le, st.adds.more)) all fits);
-        runs = λ plan final callee next n0 top law all le le' fits below fin s w n ws long good meant walks.
+        runs = λ plan final callee next n0 top law all le le' fits below fin s w n ws long good meant small walks.
             let wk = walked loc arms other ws w.memory n walks in
             let f = fit-split (length words) loc arms other fits in
             let st = fetches plan n0 le all f.1 f.0 in
@@ -353,7 +353,7 @@ module _ (words : List Read) (loc : Loc) (arms : List FlatArm) (other : Option F
             let agrees : AgreesBut final c.code (length old.code) pc Nowhere = record {
               same = λ q lo hi out. (fin q lo (omega (arith, hi, d.long))).same (λ arm o. elim (d.more.new o.0 o.1) [ inl j ↦ (let lt = below o.0 j in let z = o.2 in omega (arith, lt, z, lo)) | inr r ↦ (let z = o.2 in omega (arith, r.0, z, hi)) ]) ∙ d.fetched q hi;
             } in
-            let r = (st.runs ws wk.value).runs final callee next law agrees s w (omega (arith, more1, le', long)) (good, meant, wk.is_read) in
+            let r = (st.runs ws wk.value small).runs final callee next law agrees s w (omega (arith, more1, le', long)) (good, meant, wk.is_read) in
             let s1 = r.1 in
             let w1 = switched (taken r.2) in
             let a = fin pc low d.long in
@@ -369,7 +369,7 @@ module _ (words : List Read) (loc : Loc) (arms : List FlatArm) (other : Option F
             law.step pc (Switch slot sw.other sw.list) s1 r.2 sw.is ∙ ap (λ o. after_switch o (slice_index s1 slot) w1 (λ t. next t s1 w1)) goes in
             let kept : Keeps n0 s s1 = record { long = r.4.long; same = λ i lt. r.4.same i (omega (arith, lt, le)) } in
             let meant1 : AreMeant words s1 r.2.memory ws = subst (λ m. AreMeant words s1 m ws) (sym r.5.memory) (meant-kept n0 s s1 w.memory kept words ws all meant) in
-            let out = ld.2 s1 w1 n ws (omega (arith, long, r.4.long)) (subst IsGood (sym r.5.memory) good) meant1 (ap (λ m. walk wk.tree ws m) r.5.memory ∙ wk.walks) in
+            let out = ld.2 s1 w1 n ws (omega (arith, long, r.4.long)) (subst IsGood (sym r.5.memory) good) meant1 small (ap (λ m. walk wk.tree ws m) r.5.memory ∙ wk.walks) in
             let deep = nested loc arms other arm wk.tree wk.is_tree in
             record {
               hole = out.hole;

@@ -124,9 +124,9 @@ module _ (width i : ℕ) (path : List ℕ) (p : Part) (wanted : is_wanted path (
   pub on_within : i + len ≤ width
   on_within = goes.within
 
-  pub slices_more : width ≤ 64 → (leaf : Leaf) (words : List Read) (span : Span) (bits : ℕ) (shares : List Share) → SpansPart leaf words span bits p.l p.kind → Slices leaf words path i shares
+  pub slices_more : width ≤ 64 → (leaf : Leaf) (words : List Read) (span : Span) (shares : List Share) → SpansPart leaf words span p.l p.kind → Slices leaf words path i shares
       → Slices leaf words path (i + len) (shares ++ share_of span skip len i ∷ [])
-  slices_more narrow leaf words span bits shares sp sl =
+  slices_more narrow leaf words span shares sp sl =
       let g = goes in
       let q = share_of span skip len i in
       let long = sp.long in
@@ -144,7 +144,7 @@ module _ (width i : ℕ) (path : List ℕ) (p : Part) (wanted : is_wanted path (
             let x = slice_index (subs path) 0 in
             let u = sp.means ws s m clean subs ats good meant placed in
             let w = u.1.word in
-            let held : u.0 ≡ take_of x g.a p.l = subst (λ y. HoldsKind subs ats u.0 p.l y) g.is_kind u.3 in
+            let held : u.0 ≡ take_of x g.a p.l = subst (λ y. HoldsKind subs ats u.0 p.l y) g.is_kind u.2 in
             let fit1 : skip + len ≤ span.l = omega (arith, long, g.inside) in
             let part : take_of w (span.o + skip) len ≡ take_of x i len =
             sym (take_take w span.o span.l skip len fit1) ∙ ap (λ y. take_of y skip len) (sym u.1.are_bits ∙ held) ∙ take_take x g.a p.l skip len g.inside ∙ ap (λ y. take_of x y len) g.at in

@@ -1,15 +1,9 @@
 -- The parts of a leaf, as ranges of reads.
-use Rattle.std.proofs.Common.{zero, suc, Bool, ◌*◌, ◌/◌, ◌^◌, ◌++◌, inl, inr, Result, Ok, Err, ◌≡◌, ℕ, ◌+◌, ◌<◌, ◌≤◌, ◌==◌, ◌&&◌, List, [], ◌∷◌, true, Option, Some, None, refl, sym, subst, ap, ◌∙◌, arith}
+use Rattle.std.proofs.Common.{Bool, ◌^◌, ◌≡◌, ℕ, ◌+◌, ◌<◌, ◌≤◌, ◌==◌, ◌&&◌, List, [], ◌∷◌, true, Option, Some, None, refl, sym, subst, ap, ◌∙◌, arith}
 use Rattle.std.specs.Prelude.{slice_get, slice_index, leb, ltb}
 use Rattle.std.proofs.lemmas.Grind.{common_steps}
-use Rattle.rb_bits.specs.Words.{IsRange, take_of}
-use Rattle.rb_bits.proofs.RangeLemmas.{take_whole}
 use Rattle.std.proofs.lemmas.Option.{same_Some}
-use Rattle.std.proofs.Math.Pow.{pow_mono}
-use Rattle.std.proofs.lemmas.Nat.{pow-add}
-use Rattle.rb_bytes.proofs.MemoryLemmas.{load_ok}
-use Rattle.rb_bytes.specs.declared.fault.Trap.{Trap}
-use Rattle.rb_bytes.specs.Memory.{Memory, IsGood, byte_at, then_byte, read_le, load_of}
+use Rattle.rb_bytes.specs.Memory.{Memory}
 use Rattle.rb_core.specs.declared.types.Ty.{Ty}
 use Rattle.rb_core.specs.declared.types.Ty.TheVariants.{Int, Named}
 use Rattle.rb_core.specs.declared.layout_decl.Loc.{Loc}
@@ -23,7 +17,7 @@ use Rattle.rb_layout.specs.declared.layout.WordRef.{WordRef}
 use Rattle.rb_layout.specs.A6.{holds_unit}
 use Rattle.rb_layout.specs.Flattening.{same_path}
 use Rattle.rb_layout.specs.Locations.{Reached, range_in, next_ref, block_at, resolve_from}
-use Rattle.rb_layout.specs.Words.{flat_at, words_in}
+use Rattle.rb_layout.specs.Words.{flat_at}
 use Rattle.rb_rel.specs.Reading.{LeadsTo}
 use Rattle.rb_rel.specs.Relation.{HoldsKind, Placed}
 use Rattle.rb_rel.proofs.Holding.{path_is}
@@ -32,132 +26,68 @@ use Rattle.rb_rel.proofs.Lawful.{HoldsUnit, Holder}
 use Rattle.rb_rel.proofs.Lists.{both, and_true}
 use Rattle.rb_rel.proofs.Parts.{part_read}
 use Rattle.rb_rel.proofs.Reading.{chosen, same_nat, leb_is}
-use Rattle.rb_fragment.specs.declared.reads.Read.{Read, Slot, Address, Loaded}
-use Rattle.rb_fragment.specs.Reads.{where_some, loaded, mean}
-use Rattle.rb_fragment.specs.WordReads.{AreMeant, IsSlotOf}
-use Rattle.rb_fragment.proofs.MakingAll.{meant-at, slot-of}
-use Rattle.rb_fragment.proofs.ReadForms.{mean-Loaded}
-use Rattle.rb_fetch.specs.Fetching.{StepsFit}
+use Rattle.rb_fragment.specs.declared.reads.Read.{Read, Slot}
+use Rattle.rb_fragment.specs.WordReads.{IsSlotOf}
+use Rattle.rb_fragment.proofs.MakingAll.{slot-of}
 use Rattle.rb_fetch.specs.declared.span.Span.{Span}
 use Rattle.rb_fetch.specs.declared.place.Wanted.TheVariants.{UnitOf}
-use Rattle.rb_fetch.specs.inner.Reads.{capped, span_on, loc_span, read_or, bits_of}
-use Rattle.rb_fetch.specs.inner.Placing.{IsAgreedLeaf, is_wanted, NoSpot, IsSpot, EndsIn}
-use Rattle.rb_fetch.specs.declared.place.Spot.{Spot}
+use Rattle.rb_fetch.specs.inner.Reads.{IsSmall, ReadsRange, SpansLoc, step_span, span_on, read_or}
+use Rattle.rb_fetch.specs.inner.Placing.{IsAgreedLeaf, is_wanted, NoSpot, width_of}
 use Rattle.rb_fetch.specs.inner.Fields.{SpansPart, ReadsPart, ReadsAs}
 use Rattle.rb_fetch.proofs.Fitting.{readable_leaf, resolved_fits}
-use Rattle.rb_fetch.proofs.Locations.{loc_fits, loc_means, bits_fit, bits_mean}
+use Rattle.rb_fetch.proofs.Locations.{loc_fits, loc_range, loc_means}
 
-span_range : (steps : List Step) (r : Read) (o l : ℕ) → StepsFit o l steps → let p = span_on r o l steps in IsRange p.o p.l
-span_range [] r o l h = h
-span_range (s ∷ steps) r o l h = span_range steps (Loaded (Address r (capped o) (capped l) s.align) s.byte (capped s.width)) s.o s.l h.3
-
--- the range is the one to which the location resolves
-span_end : (leaf : Leaf) (steps : List Step) (rd : Read) (r : Option WordRef) (o l : ℕ) (x : Reached) → resolve_from leaf r o l steps ≡ Some x → let p = span_on rd o l steps in (p.o ≡ x.o) × (p.l ≡ x.l)
-span_end leaf steps rd None o l x e = absurd cc
-span_end leaf [] rd (Some r) o l x e = go (flat_at leaf r) e
+-- the range is as long as the one to which the location resolves
+span_end : (leaf : Leaf) (steps : List Step) (p : Span) (r : Option WordRef) (o : ℕ) (x : Reached) → resolve_from leaf r o p.l steps ≡ Some x → (span_on p steps).l ≡ x.l
+span_end leaf steps p None o x e = absurd cc
+span_end leaf [] p (Some r) o x e = go (flat_at leaf r) e
   where
-    go : (y : Option FlatWord) → range_in y r o l ≡ Some x → (o ≡ x.o) × (l ≡ x.l)
+    go : (y : Option FlatWord) → range_in y r o p.l ≡ Some x → p.l ≡ x.l
     go None h = absurd cc
-    go (Some f) h =
-        let c = chosen (leb 1 l && leb (o + l) f.width) (record { ref = r; word = f; o = o; l = l }) x h in
-        (ap (λ (y : Reached). y.o) c.1, ap (λ (y : Reached). y.l) c.1)
-span_end leaf (t ∷ steps) rd (Some r) o l x e =
-    span_end leaf steps (Loaded (Address rd (capped o) (capped l) t.align) t.byte (capped t.width)) (next_ref leaf (block_at (flat_at leaf r) o l t.align) t) t.o t.l x e
+    go (Some f) h = ap (λ (y : Reached). y.l) (chosen (leb 1 p.l && leb (o + p.l) f.width) (record { ref = r; word = f; o = o; l = p.l }) x h).1
+span_end leaf (t ∷ steps) p (Some r) o x e =
+    span_end leaf steps (step_span p t)
+    (next_ref leaf (block_at (flat_at leaf r) o p.l t.align) t) t.o x e
 
--- Words are as small as their widths
+-- where the range's word stands in a slot, no step leads to it
+span_slot : (steps : List Step) (p : Span) (width x : ℕ) → (span_on p steps).width ≡ Some width → (span_on p steps).read ≡ Slot x → (p.width ≡ Some width) × (p.read ≡ Slot x)
+span_slot [] p width x some is = (some, is)
+span_slot (t ∷ steps) p width x some is =
+    let r = span_slot steps (step_span p t) width x some is in
+    absurd (let z = r.1 in cc)
 
-read_small : (bytes : List (Option ℕ)) (n at r : ℕ) → ((a b : ℕ) → byte_at bytes a ≡ Some b → b < 256) → read_le bytes n at ≡ Ok r → r < 2 ^ (8 * n)
-read_small bytes zero at r small e = let same : 0 ≡ r = (let z : ◌≡◌ {A = Result ℕ Trap} (Ok 0) (Ok r) = e in cc) in omega (arith, same)
-read_small bytes (suc n) at r small e = go (byte_at bytes at) refl (read_le bytes n (at + 1)) refl e (λ q there. read_small bytes n (at + 1) q small there)
-  where
-    go : (o : Option ℕ) → byte_at bytes at ≡ o → (rest : Result ℕ Trap) → read_le bytes n (at + 1) ≡ rest → then_byte at o rest ≡ Ok r → ((q : ℕ) → read_le bytes n (at + 1) ≡ Ok q → q < 2 ^ (8 * n)) → r < 2 ^ (8 * suc n)
-    go None is rest there h below = absurd cc
-    go (Some b) is (Err t) there h below = absurd cc
-    go (Some b) is (Ok q) there h below =
-        let same : b + 256 * q ≡ r = (let z : ◌≡◌ {A = Result ℕ Trap} (Ok (b + 256 * q)) (Ok r) = h in cc) in
-        let low = small at b is in
-        let rest = below q there in
-        let step : 8 * suc n ≡ 8 + 8 * n = omega arith in
-        let more : 2 ^ (8 * suc n) ≡ 256 * 2 ^ (8 * n) = ap (λ k. 2 ^ k) step ∙ pow-add 2 8 (8 * n) in
-        omega (arith, same, low, rest, more)
+-- a root word is of its width
+root_small : (leaf : Leaf) (ws : List ℕ) (m : Memory) (clean : Bool) (subs : List ℕ → List ℕ) (ats : ℕ → ℕ) → Placed leaf ws m clean subs ats
+    → (j : ℕ) (o : Option FlatWord) → slice_get leaf.root j ≡ o → (w : ℕ) → slice_get ws j ≡ Some w → IsSmall (width_of o) w
+root_small leaf ws m clean subs ats placed j None is w e = tt
+root_small leaf ws m clean subs ats placed j (Some f) is w e =
+    let x = placed.words (record { block = None; word = j }) f is in
+    let same : x.0 ≡ w = same_Some x.0 w (sym x.1 ∙ e) in
+    subst (λ k. k < 2 ^ f.width) same x.2.fits
 
-load_small : (m : Memory) (base byte width r : ℕ) → IsGood m → load_of m base byte width ≡ Ok r → r < 2 ^ width
-load_small m base byte width r good e =
-    let a = read_small m.bytes (width / 8) (base + byte) r good.small (load_ok m base byte width r e).1 in
-    let le : 8 * (width / 8) ≤ width = omega arith in
-    let more = pow_mono le in omega (arith, a, more)
-
-loaded_small : (m : Memory) (base byte width u : ℕ) → IsGood m → loaded (load_of m base byte width) ≡ Some u → u < 2 ^ width
-loaded_small m base byte width u good e = go (load_of m base byte width) refl e
-  where
-    go : (x : Result ℕ Trap) → load_of m base byte width ≡ x → loaded x ≡ Some u → u < 2 ^ width
-    go (Ok w) is h = subst (λ k. k < 2 ^ width) (same_Some w u h) (load_small m base byte width w good is)
-    go (Err t) is h = absurd cc
-
--- what is read by a last step
-span_last : (steps : List Step) (t : Step) (r : Read) (o l : ℕ) → let p = span_on r o l steps in (span_on r o l (steps ++ t ∷ [])).read ≡ Loaded (Address p.read (capped p.o) (capped p.l) t.align) t.byte (capped t.width)
-span_last [] t r o l = refl
-span_last (u ∷ steps) t r o l = span_last steps t (Loaded (Address r (capped o) (capped l) u.align) u.byte (capped u.width)) u.o u.l
-
-mean_small : (r : Read) (byte width : ℕ) (s : List ℕ) (m : Memory) (u : ℕ) → IsGood m → mean (Loaded r byte width) s m ≡ Some u → u < 2 ^ width
-mean_small r byte width s m u good e = go (mean r s m) (sym (mean-Loaded r byte width s m) ∙ e)
-  where
-    go : (o : Option ℕ) → where_some o (λ base. loaded (load_of m base byte width)) ≡ Some u → u < 2 ^ width
-    go None h = absurd cc
-    go (Some base) h = loaded_small m base byte width u good h
-
-module _ (words : List Read) (loc : Loc) (x : Spot) where
-  abbrev here : Span
-  here = loc_span words loc
-
-  -- the word of the range is as small as the spot's
-  word_small : (leaf : Leaf) → IsSpot leaf x → EndsIn loc x → (ws s : List ℕ) (m : Memory) (clean : Bool) (subs : List ℕ → List ℕ) (ats : ℕ → ℕ) → IsGood m → AreMeant words s m ws → Placed leaf ws m clean subs ats
-      → (u : ℕ) → mean here.read s m ≡ Some u → u < 2 ^ x.flat.now.width
-  word_small leaf at (inl e) ws s m clean subs ats good meant placed u is =
-      let r : WordRef = record { block = None; word = x.word } in
-      let flat : flat_at leaf r ≡ Some x.flat.now = ap (λ o. slice_get (words_in leaf o) x.word) (sym e.0) ∙ at.is_word in
-      let w = placed.words r x.flat.now flat in
-      let q = meant-at words s m ws x.word w.0 meant w.1 in
-      let first : here.read ≡ q.0 = ap (λ ss. (span_on (read_or (slice_get words loc.word)) loc.o loc.l ss).read) e.2 ∙ ap (λ k. read_or (slice_get words k)) e.1 ∙ ap read_or q.1 in
-      let same : w.0 ≡ u = same_Some w.0 u (sym q.2 ∙ ap (λ (y : Read). mean y s m) (sym first) ∙ is) in
-      subst (λ k. k < 2 ^ x.flat.now.width) same w.2.fits
-  word_small leaf at (inr e) ws s m clean subs ats good meant placed u is =
-      let t = e.1 in
-      let p = span_on (read_or (slice_get words loc.word)) loc.o loc.l e.0 in
-      let last : here.read ≡ Loaded (Address p.read (capped p.o) (capped p.l) t.align) t.byte (capped t.width)
-      = ap (λ ss. (span_on (read_or (slice_get words loc.word)) loc.o loc.l ss).read) e.2 ∙ span_last e.0 t (read_or (slice_get words loc.word)) loc.o loc.l in
-      let low = mean_small (Address p.read (capped p.o) (capped p.l) t.align) t.byte (capped t.width) s m u good (ap (λ (y : Read). mean y s m) (sym last) ∙ is) in
-      let le : capped t.width ≤ x.flat.now.width = (let w = e.3 in omega (arith, w)) in
-      let more = pow_mono le in omega (arith, low, more)
-
-  or_slot : (o : Option Read) (k y : ℕ) → slice_get words k ≡ o → read_or o ≡ Slot y → IsSlotOf y words
-  or_slot None k y is e = absurd cc
-  or_slot (Some r) k y is e = slot-of words k y (is ∙ ap Some e)
-
-  word_origin : EndsIn loc x → (y : ℕ) → here.read ≡ Slot y → IsSlotOf y words
-  word_origin (inl e) y is =
-      or_slot (slice_get words loc.word) loc.word y refl (ap (λ ss. (span_on (read_or (slice_get words loc.word)) loc.o loc.l ss).read) (sym e.2) ∙ is)
-  word_origin (inr e) y is =
-      absurd (let z = sym (ap (λ ss. (span_on (read_or (slice_get words loc.word)) loc.o loc.l ss).read) e.2 ∙ span_last e.0 e.1 (read_or (slice_get words loc.word)) loc.o loc.l) ∙ is in cc)
+or_slot : (words : List Read) (o : Option Read) (k y : ℕ) → slice_get words k ≡ o → read_or o ≡ Slot y → IsSlotOf y words
+or_slot words None k y is e = absurd cc
+or_slot words (Some r) k y is e = slot-of words k y (is ∙ ap Some e)
 
 -- where a location leads to a part, its range has the part's bits
-pub spans_part : (leaf : Leaf) → IsAgreedLeaf leaf → (words : List Read) (loc : Loc) (x : Spot) → IsSpot leaf x → EndsIn loc x → LeadsTo leaf loc x.part.now.l x.part.now.kind
-    → SpansPart leaf words (loc_span words loc) x.flat.now.width x.part.now.l x.part.now.kind
-spans_part leaf ok words loc x spot ends at =
-    let l = x.part.now.l in
-    let kind = x.part.now.kind in
+pub spans_part : (leaf : Leaf) → IsAgreedLeaf leaf → (words : List Read) (loc : Loc) (l : ℕ) (kind : Kind) → LeadsTo leaf loc l kind
+    → (span : Span) → SpansLoc words (width_of (slice_get leaf.root loc.word)) loc span → SpansPart leaf words span l kind
+spans_part leaf ok words loc l kind at span is =
     let f = resolved_fits leaf (readable_leaf ok.program ok.typed ok.agrees ok.ty ok.layout ok.number leaf ok.is_layout ok.is_leaf) loc at.reached at.resolves in
-    let first = read_or (slice_get words loc.word) in
-    let e = span_end leaf loc.steps first (Some (record { block = None; word = loc.word })) loc.o loc.l at.reached at.resolves in
+    let width = width_of (slice_get leaf.root loc.word) in
+    let first = is.first in
+    let root : Option WordRef = Some (record { block = None; word = loc.word }) in
+    let resolves : resolve_from leaf root loc.o first.l loc.steps ≡ Some at.reached = ap (λ k. resolve_from leaf root loc.o k loc.steps) is.begins.long ∙ at.resolves in
     record {
-      long = e.1 ∙ sym at.long ∙ at.bits;
-      range = span_range loc.steps first loc.o loc.l f.0;
-      fit = λ k all n. (loc_fits k words loc all (omega (arith, f.1, n)) f.0).0;
+      long = ap (λ (q : Span). q.l) is.ends ∙ span_end leaf loc.steps first root loc.o at.reached resolves ∙ sym at.long ∙ at.bits;
+      range = loc_range words width loc span is f.0;
+      fit = λ k all n. loc_fits words width loc span is f.0 k all (omega (arith, f.1, n));
       means = λ ws s m clean subs ats good meant placed.
           let r = part_read leaf ws m clean subs ats placed loc l kind at in
-          let found = loc_means s m good r.0 words ws loc f.0 meant r.1 in
-          (r.0, found, word_small words loc x leaf spot ends ws s m clean subs ats good meant placed found.word found.is_word, r.2);
-      origin = word_origin words loc x ends;
+          (r.0, loc_means s m good r.0 words ws width loc span is f.0 meant (λ w e. root_small leaf ws m clean subs ats placed loc.word (slice_get leaf.root loc.word) refl w e) r.1, r.2);
+      origin = λ w x some here.
+          let q = span_slot loc.steps first w x (sym (ap (λ (y : Span). y.width) is.ends) ∙ some) (sym (ap (λ (y : Span). y.read) is.ends) ∙ here) in
+          or_slot words (slice_get words loc.word) loc.word x refl (is.begins.origin w x q.0 q.1);
     }
 
 -- Units
@@ -208,24 +138,13 @@ bit_kind width i l path (Pointer align b) e = absurd cc
 pub bit_part : (width i : ℕ) (path : List ℕ) (p : Part) → is_wanted path (UnitOf (Int width) i) p ≡ true → (a : ℕ) × (p.kind ≡ Bits path a) × (a ≤ i) × (i < a + p.l)
 bit_part width i path p e = bit_kind width i p.l path p.kind e
 
--- the bits of a range mean what the part holds
-pub bits_read : (leaf : Leaf) (words : List Read) (span : Span) (width l : ℕ) (kind : Kind) → SpansPart leaf words span width l kind → ReadsPart leaf words (bits_of span) l kind
-bits_read leaf words span width l kind sp = record {
-  fit = λ k all n. bits_fit k span (sp.fit k all n) sp.range;
-  origin = λ x e. absurd cc;
+-- a read of the range means what the part holds
+pub range_reads : (leaf : Leaf) (words : List Read) (span : Span) (l : ℕ) (kind : Kind) → SpansPart leaf words span l kind → (read : Read) → ReadsRange span read → ReadsPart leaf words read l kind
+range_reads leaf words span l kind sp read reads = record {
+  fit = λ k all n. reads.fit k (sp.fit k all n) sp.range;
+  origin = λ x e. let o = reads.origin x e in sp.origin o.0 x o.1 o.2;
   means = λ ws s m clean subs ats good meant placed.
-      let q = sp.means ws s m clean subs ats good meant placed in (q.0, bits_mean s m good q.0 span sp.range q.1, q.3);
-}
-
--- and so does the word, where the range is all of it
-pub word_is_read : (leaf : Leaf) (words : List Read) (span : Span) (width l : ℕ) (kind : Kind) → SpansPart leaf words span width l kind → span.o ≡ 0 → span.l ≡ width → ReadsPart leaf words span.read l kind
-word_is_read leaf words span width l kind sp first all = record {
-  fit = sp.fit;
-  origin = sp.origin;
-  means = λ ws s m clean subs ats good meant placed.
-      let q = sp.means ws s m clean subs ats good meant placed in
-      let same : q.0 ≡ q.1.word = q.1.are_bits ∙ ap (λ o. take_of q.1.word o span.l) first ∙ ap (take_of q.1.word 0) all ∙ take_whole q.1.word width q.2 in
-      (q.0, q.1.is_word ∙ ap Some (sym same), q.3);
+      let q = sp.means ws s m clean subs ats good meant placed in (q.0, reads.means s m q.0 sp.range q.1, q.2);
 }
 
 -- a part that says a number of the words at open positions

@@ -1,5 +1,5 @@
 -- What code that fetches owes.
-use Rattle.std.specs.Prelude.{◌≡◌, ℕ, ◌<◌, ◌≤◌, List, [], ◌∷◌, Bool, Some, length, slice_get, slice_index}
+use Rattle.std.specs.Prelude.{◌≡◌, ℕ, ◌^◌, ◌<◌, ◌≤◌, List, [], ◌∷◌, Bool, Some, length, slice_get, slice_index}
 use Rattle.rb_core.specs.declared.value.Value.{Value}
 use Rattle.rb_core.specs.declared.layout_decl.Loc.{Loc}
 use Rattle.rb_core.specs.declared.layout_decl.Step.{Step}
@@ -47,15 +47,20 @@ abbrev pub FetchesLoc : List ℕ → Loc → Sheet → Sheet → ℕ → Type 0
 FetchesLoc words loc old new slot =
     (plan : Plan) → AllBelow old.slots words → loc.word < length words → LocFits loc → Fetches plan words (IsReadAt loc) old new slot
 
--- the same from reads of the words: wherever they mean words at which the location comes to a number
-pub record FetchesMeant (plan : Plan) (words : List Read) (loc : Loc) (old new : Sheet) (slot : ℕ) : Type 0 where
+-- each word has at most so many bits as stand in its place, where a number stands there
+abbrev pub AreSmall : List ℕ → List ℕ → Type 0
+AreSmall widths ws = (j width w : ℕ) → slice_get widths j ≡ Some width → slice_get ws j ≡ Some w → w < 2 ^ width
+
+-- The same from reads of the words: wherever they mean words of these widths at which the location comes to a number.
+pub record FetchesMeant (plan : Plan) (words : List Read) (widths : List ℕ) (loc : Loc) (old new : Sheet) (slot : ℕ) : Type 0 where
   pub adds : Adds plan old new
   pub given : slot < new.slots
-  pub runs : (ws : List ℕ) (x : ℕ) → Straight plan old.slots old new (λ s m. IsGood m × AreMeant words s m ws × IsReadAt loc ws m x) (λ s m. slice_index s slot ≡ x)
+  pub runs : (ws : List ℕ) (x : ℕ) → AreSmall widths ws
+      → Straight plan old.slots old new (λ s m. IsGood m × AreMeant words s m ws × IsReadAt loc ws m x) (λ s m. slice_index s slot ≡ x)
 
-abbrev pub FetchesAt : List Read → Loc → Sheet → Sheet → ℕ → Type 0
-FetchesAt words loc old new slot =
-    (plan : Plan) (k : ℕ) → k ≤ old.slots → AllFit k words → loc.word < length words → LocFits loc → FetchesMeant plan words loc old new slot
+abbrev pub FetchesAt : List Read → List ℕ → Loc → Sheet → Sheet → ℕ → Type 0
+FetchesAt words widths loc old new slot =
+    (plan : Plan) (k : ℕ) → k ≤ old.slots → AllFit k words → loc.word < length words → LocFits loc → FetchesMeant plan words widths loc old new slot
 
 -- Represented values ---------------------------------------------------------------------------
 

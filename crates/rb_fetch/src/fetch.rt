@@ -1,6 +1,6 @@
 //! Code that reads the bits at a location.
 
-ghost use Rattle.std.specs.Prelude.{IfOk, OnOk};
+ghost use Rattle.std.specs.Prelude.{◌≡◌, IfOk, OnOk, slice_get};
 ghost use Rattle.rb_target.specs.Growth.{Grows};
 ghost use Rattle.rb_fetch.specs.Fetching.{FetchesAt, FetchesBits, FetchesLoc};
 
@@ -26,11 +26,12 @@ pub fn fetch_loc(
     ensures grows { OnOk result (Grows body.old.code body.new.code) }
 {
     let reads = slot_reads(alloc, words)?;
-    let slot = fetch_bits(alloc, body, reads.as_slice(), loc)?;
+    let slot = fetch_bits(alloc, body, reads.as_slice(), &[], loc)?;
     Ok(slot)
 }
 
-/// The same from reads of the words, which may stand in memory still.
+/// The same from reads of the words, which may stand in memory still. A word has at most so many bits as stand in its
+/// place among the widths, where one does.
 ///
 /// # Errors
 /// `AllocError` where memory is wanting.
@@ -38,13 +39,23 @@ pub(crate) fn fetch_bits(
     alloc: Global,
     body: &mut Body,
     words: &[Read],
+    widths: &[u64],
     loc: &Loc,
 ) -> Result<usize, AllocError>
-    ensures reads { IfOk result (λ slot. FetchesAt words.now loc.now body.old body.new slot) }
+    ensures reads { IfOk result (λ slot. FetchesAt words.now widths.now loc.now body.old body.new slot) }
     ensures grows { OnOk result (Grows body.old.code body.new.code) }
 {
-    let span = span_at(alloc, words, loc)?;
+    let span = span_at(alloc, words, width_at(widths, loc.word), loc)?;
     let read = span_bits(alloc, span)?;
     let slot = make(body, &read)?;
     Ok(slot)
+}
+
+fn width_at(widths: &[u64], word: u64) -> Option<u64>
+    ensures { result ≡ slice_get widths.now word }
+{
+    match widths.get(word as usize) {
+        None => None,
+        Some(width) => Some(*width),
+    }
 }

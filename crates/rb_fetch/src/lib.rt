@@ -35,6 +35,10 @@
 //! word, and nothing is taken from it. An integer may be held in slices, of which each gives its bits to
 //! the whole. [`field::fetch_field`] makes these numbers into slots.
 //!
+//! Looks and fields read no more than they need (`span.rt`). A word of a value has no bits from the width on that its
+//! layout or its load says, so a range that has all of them is the word itself, and where a split tests a whole word,
+//! nothing is taken. Bits of what is itself bits of a word are taken from that word at once.
+//!
 //! A leaf may take a field apart. Take colours of one bit, and trees with the colour beside the pointer:
 //!
 //! ```text
@@ -57,21 +61,20 @@
 //! there, and each way out goes to the code of its leaf:
 //!
 //! ```text
-//! 0  take 3 0 0 1
-//! 1  switch 3 - 0 2 1 3     the leaf of the colour
-//! 2  jump 4                 red
-//! 3  jump 11                black
-//! 4  place 4 16 8           a block with the fields 1 and 2, which are in slots 1 and 2
-//! 5  store 4 0 64 1
-//! 6  store 4 8 64 2
-//! 7  const 5 1              the word of a red node, in slot 5
-//! 8  take 6 4 3 61
-//! 9  put 5 6 3 61
-//! 10 jump 19
-//! 11 place 7 16 8           the same for a black node, its word in slot 8
+//! 0  switch 0 - 0 1 1 2     the leaf of the colour
+//! 1  jump 3                 red
+//! 2  jump 10                black
+//! 3  place 3 16 8           a block with the fields 1 and 2, which are in slots 1 and 2
+//! 4  store 3 0 64 1
+//! 5  store 3 8 64 2
+//! 6  const 4 1              the word of a red node, in slot 4
+//! 7  take 5 3 3 61
+//! 8  put 4 5 3 61
+//! 9  jump 18
+//! 10 place 6 16 8           the same for a black node, its word in slot 7
 //!    ..
-//! 17 copy 5 8               to where the first way left its word
-//! 18 jump 19
+//! 16 copy 4 7               to where the first way left its word
+//! 17 jump 18
 //! ```
 //!
 //! A look is taken where the first leaf that is still possible has a constructor and nothing is known. The leaf

@@ -63,7 +63,8 @@ pub fn find_leaf_of(
     match agreed.layouts().get(ty as usize) {
         None => Ok(holes),
         Some(layout) => {
-            look(alloc, body, words, &layout.tree, &mut holes)?;
+            let widths = layout.shape.as_slice();
+            look(alloc, body, words, widths, &layout.tree, &mut holes)?;
             Ok(holes)
         }
     }
@@ -119,23 +120,25 @@ pub fn find_group_of(
     match pruned(alloc, &layout.tree, groups)? {
         None => Ok(holes),
         Some(tree) => {
-            look(alloc, body, words, &tree, &mut holes)?;
+            let widths = layout.shape.as_slice();
+            look(alloc, body, words, widths, &tree, &mut holes)?;
             Ok(holes)
         }
     }
 }
 
-// Code that leaves by a hole of the leaf to which the tree leads.
+// Code that leaves by a hole of the leaf to which the tree leads. A word has at most as many bits as its width says.
 #[cycle(looking)]
 fn look(
     alloc: Global,
     body: &mut Body,
     words: &[Read],
+    widths: &[u64],
     tree: &FlatTree,
     holes: &mut Seq<Hole>,
 ) -> Result<(), AllocError>
     ensures grows { OnOk result (Grows body.old.code body.new.code) }
-    ensures looks { OnOk result (Looks words.now tree.now body.old holes.old body.new holes.new) }
+    ensures looks { OnOk result (Looks words.now widths.now tree.now body.old holes.old body.new holes.new) }
 {
     match tree {
         FlatTree::Leaf(leaf) => {
@@ -149,7 +152,7 @@ fn look(
             Ok(())
         }
         FlatTree::Split(loc, arms, other) => {
-            let slot = fetch_bits(alloc, body, words, loc)?;
+            let slot = fetch_bits(alloc, body, words, widths, loc)?;
             let pc = body.len();
             let places = open_arms(alloc, arms.as_slice(), pc + 1)?;
             body.push(Instr::Switch(slot, open_else(other, pc + 1), places))?;
@@ -172,7 +175,7 @@ fn look(
                             },
                             here,
                         );
-                        look(alloc, body, words, &arm.under, holes)?;
+                        look(alloc, body, words, widths, &arm.under, holes)?;
                     }
                 }
             }
@@ -197,7 +200,7 @@ fn look(
                             },
                             here,
                         );
-                        look(alloc, body, words, tree.get(), holes)?;
+                        look(alloc, body, words, widths, tree.get(), holes)?;
                         Ok(())
                     }
                 },

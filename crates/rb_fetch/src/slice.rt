@@ -90,7 +90,7 @@ fn slices(
 fn share(span: Span, skip: u64, len: u64, a: u64) -> Share
     ensures { result ≡ fields.share_of span skip len a }
 {
-    let Span { read, o, l: _ } = span;
+    let Span { read, o, .. } = span;
     Share {
         read,
         o: bits(o) + bits(skip),

@@ -1,50 +1,128 @@
 //! Where locations lead, as reads.
 
-ghost use Rattle.std.specs.Prelude.{◌≡◌, IfOk, slice_get};
-ghost use Rattle.rb_fetch.specs.inner.Reads.{bits_of, capped, loc_span, read_or};
+ghost use Rattle.std.specs.Prelude.{◌≡◌, ◌+◌, ◌≤◌, true, IfOk, slice_get};
+ghost use Rattle.rb_fetch.specs.inner.Reads.{capped, IsAll, IsSameRange, ReadsRange, read_or, SpansLoc, span_on};
 
 use rb_core::boxed::Boxed;
-use rb_core::layout_decl::Loc;
+use rb_core::layout_decl::{Loc, Step};
 use rb_fragment::reads::Read;
 use std::alloc::{AllocError, Global};
 
-/// A range of bits of a word.
+/// A range of bits of a word. The word has at most `width` bits, where that is known.
 #[derive(Drop)]
 pub struct Span {
     pub read: Read,
+    pub width: Option<u64>,
     pub o: u64,
     pub l: u64,
 }
 
 /// The range to which a location leads from words that are reads: each step takes an address and loads
-/// from there.
+/// from there. The word at which the location begins has at most `width` bits, where that is known.
 ///
 /// # Errors
 /// `AllocError` where memory is wanting.
-pub fn span_at(alloc: Global, words: &[Read], loc: &Loc) -> Result<Span, AllocError>
-    ensures { IfOk result (λ span. span ≡ loc_span words.now loc.now) }
+pub fn span_at(
+    alloc: Global,
+    words: &[Read],
+    width: Option<u64>,
+    loc: &Loc,
+) -> Result<Span, AllocError>
+    ensures { IfOk result (λ span. SpansLoc words.now width loc.now span) }
 {
-    let mut read = word_at(alloc, words, loc.word)?;
-    let mut o = loc.o;
-    let mut l = loc.l;
-    for step in loc.steps.as_slice() {
-        let address = Read::Address(Boxed::new(alloc, read)?, bits(o), bits(l), step.align);
-        read = Read::Loaded(Boxed::new(alloc, address)?, step.byte, bits(step.width));
-        o = step.o;
-        l = step.l;
-    }
-    Ok(Span { read, o, l })
+    let read = word_at(alloc, words, loc.word)?;
+    let first = narrowed(Span {
+        read,
+        width,
+        o: loc.o,
+        l: loc.l,
+    });
+    let span = span_behind(alloc, first, loc.steps.as_slice())?;
+    Ok(span)
 }
 
-/// The bits of a range.
+// A range of a range of bits is a range of the word that has them.
+fn narrowed(span: Span) -> Span
+    ensures { IsSameRange span result }
+{
+    let Span { read, width, o, l } = span;
+    match read {
+        Read::Bits(inner, from, count) => {
+            if is_within(o, l, from as u64, count as u64) {
+                let read = inner.into_inner();
+                return Span {
+                    read,
+                    width: None,
+                    o: from as u64 + o,
+                    l,
+                };
+            }
+            Span {
+                read: Read::Bits(inner, from, count),
+                width,
+                o,
+                l,
+            }
+        }
+        Read::Slot(_)
+        | Read::Number(_)
+        | Read::Address(_, _, _, _)
+        | Read::Loaded(_, _, _)
+        | Read::Joined(_) => Span { read, width, o, l },
+    }
+}
+
+// Whether a range lies in a range of a word.
+fn is_within(o: u64, l: u64, from: u64, count: u64) -> bool
+    ensures { result ≡ true → (o + l ≤ count) × (from + count ≤ 64) }
+{
+    if from > 64 || count > 64 - from {
+        return false;
+    }
+    o <= count && l <= count - o
+}
+
+// The range to which steps lead from a range.
+fn span_behind(alloc: Global, first: Span, steps: &[Step]) -> Result<Span, AllocError>
+    ensures { IfOk result (λ span. span ≡ span_on first steps.now) }
+{
+    let mut span = first;
+    for step in steps {
+        let Span { read, o, l, .. } = span;
+        let address = Read::Address(Boxed::new(alloc, read)?, bits(o), bits(l), step.align);
+        let read = Read::Loaded(Boxed::new(alloc, address)?, step.byte, bits(step.width));
+        span = Span {
+            read,
+            width: Some(step.width),
+            o: step.o,
+            l: step.l,
+        };
+    }
+    Ok(span)
+}
+
+/// The bits of a range: the word itself where it has no others.
 ///
 /// # Errors
 /// `AllocError` where memory is wanting.
 pub fn span_bits(alloc: Global, span: Span) -> Result<Read, AllocError>
-    ensures { IfOk result (λ read. read ≡ bits_of span) }
+    ensures { IfOk result (λ read. ReadsRange span read) }
 {
-    let Span { read, o, l } = span;
+    let Span { read, width, o, l } = span;
+    if is_all(width, o, l) {
+        return Ok(read);
+    }
     Ok(Read::Bits(Boxed::new(alloc, read)?, bits(o), bits(l)))
+}
+
+// Whether a range is all bits that a word may have.
+fn is_all(width: Option<u64>, o: u64, l: u64) -> bool
+    ensures { result ≡ true → IsAll width o l }
+{
+    match width {
+        None => false,
+        Some(width) => o == 0 && l == width,
+    }
 }
 
 // A copy of one of the words; where there is none, a number.

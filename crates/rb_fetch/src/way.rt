@@ -1,9 +1,9 @@
 //! The way to a part of a leaf: its location, and the read of its bits.
 
-ghost use Rattle.std.specs.Prelude.{◌≡◌, IfOk};
+ghost use Rattle.std.specs.Prelude.{◌≡◌, IfOk, slice_get};
 ghost use Rattle.rb_rel.specs.Reading.{LeadsTo};
 ghost use Rattle.rb_layout.specs.Readable.{AreShort};
-ghost use Rattle.rb_fetch.specs.inner.Placing.{EndsIn, IsAgreedLeaf, IsSpot, step_of};
+ghost use Rattle.rb_fetch.specs.inner.Placing.{IsAgreedLeaf, IsSpot, step_of, width_of};
 ghost use Rattle.rb_fetch.specs.inner.Fields.{ReadsPart, SpansPart};
 
 use crate::place::{Spot, Wanted, begins_at, find_part};
@@ -19,8 +19,7 @@ use std::alloc::{AllocError, Global};
 pub(crate) fn location(alloc: Global, leaf: &Leaf, spot: Spot) -> Result<Loc, AllocError>
     requires leaf { IsAgreedLeaf leaf.now }
     requires spot { IsSpot leaf.now spot }
-    ensures leads { IfOk result (λ loc. LeadsTo leaf.now loc spot.entry.part.now.l spot.entry.part.now.kind) }
-    ensures ends { IfOk result (λ loc. EndsIn loc spot.entry) }
+    ensures { IfOk result (λ loc. LeadsTo leaf.now loc spot.entry.part.now.l spot.entry.part.now.kind) }
 {
     let Some(b) = spot.block else {
         return Ok(Loc {
@@ -69,12 +68,21 @@ pub(crate) fn spot_span(
 ) -> Result<Span, AllocError>
     requires leaf { IsAgreedLeaf leaf.now }
     requires spot { IsSpot leaf.now spot }
-    ensures { IfOk result (λ span. SpansPart leaf.now words.now span spot.entry.flat.now.width spot.entry.part.now.l
-        spot.entry.part.now.kind) }
+    ensures { IfOk result (λ span. SpansPart leaf.now words.now span spot.entry.part.now.l spot.entry.part.now.kind) }
 {
     let loc = location(alloc, leaf, spot)?;
-    let span = span_at(alloc, words, &loc)?;
+    let span = span_at(alloc, words, root_width(leaf, loc.word), &loc)?;
     Ok(span)
+}
+
+// The width of a root word of a leaf.
+fn root_width(leaf: &Leaf, word: u64) -> Option<u64>
+    ensures { result ≡ width_of (slice_get leaf.now.root word) }
+{
+    match leaf.root.get(word as usize) {
+        None => None,
+        Some(flat) => Some(flat.width),
+    }
 }
 
 /// A part as a read: the word itself where the part is all of it.
@@ -92,9 +100,6 @@ pub(crate) fn spot_read(
     ensures { IfOk result (λ read. ReadsPart leaf.now words.now read spot.entry.part.now.l spot.entry.part.now.kind) }
 {
     let span = spot_span(alloc, leaf, spot, words)?;
-    if span.o == 0 && span.l == spot.flat.width {
-        return Ok(span.read);
-    }
     let read = span_bits(alloc, span)?;
     Ok(read)
 }

@@ -1,5 +1,5 @@
 -- What reads over the words of a leaf's values mean: its parts, integers in slices, and words of fields.
-use Rattle.std.specs.Prelude.{◌≡◌, ℕ, ◌+◌, ◌^◌, ◌<◌, ◌≤◌, ◌==◌, ◌&&◌, List, map, length, Bool, true, Option, Some, None, slice_get, slice_index}
+use Rattle.std.specs.Prelude.{◌≡◌, ℕ, ◌+◌, ◌<◌, ◌≤◌, ◌==◌, ◌&&◌, List, map, length, Bool, true, Option, Some, None, slice_get, slice_index}
 use Rattle.std.specs.List.{list_all}
 use Rattle.rb_core.specs.declared.types.Ty.TheVariants.{Int, Named}
 use Rattle.rb_bits.specs.Words.{IsRange, take_of}
@@ -22,14 +22,14 @@ use Rattle.rb_fetch.specs.inner.Placing.{NoSpot}
 
 -- Parts
 
--- the range has the bits of a part of a word of this width, wherever the reads mean the words of a value of the leaf
-pub record SpansPart (leaf : Leaf) (words : List Read) (span : Span) (width l : ℕ) (kind : Kind) : Type 0 where
+-- the range has the bits of a part, wherever the reads mean the words of a value of the leaf
+pub record SpansPart (leaf : Leaf) (words : List Read) (span : Span) (l : ℕ) (kind : Kind) : Type 0 where
   pub long : span.l ≡ l
   pub range : IsRange span.o span.l
   pub fit : (k : ℕ) → AllFit k words → length words ≡ length leaf.root → fits k span.read ≡ true
   pub means : (ws s : List ℕ) (m : Memory) (clean : Bool) (subs : List ℕ → List ℕ) (ats : ℕ → ℕ) → IsGood m → AreMeant words s m ws → Placed leaf ws m clean subs ats
-      → (n : ℕ) × (found : Spans span s m n) × (found.word < 2 ^ width) × HoldsKind subs ats n l kind
-  pub origin : (x : ℕ) → span.read ≡ Slot x → IsSlotOf x words
+      → (n : ℕ) × Spans span s m n × HoldsKind subs ats n l kind
+  pub origin : (width x : ℕ) → span.width ≡ Some width → span.read ≡ Slot x → IsSlotOf x words
 
 -- the read means what a part holds
 pub record ReadsPart (leaf : Leaf) (words : List Read) (read : Read) (l : ℕ) (kind : Kind) : Type 0 where

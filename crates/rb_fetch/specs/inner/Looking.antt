@@ -22,7 +22,7 @@ use Rattle.rb_fragment.specs.Adding.{Adds}
 use Rattle.rb_fragment.specs.Arms.{AreOfOneWay}
 use Rattle.rb_fragment.specs.Pieces.{Leaves}
 use Rattle.rb_fragment.specs.WordReads.{AreMeant, AllFit}
-use Rattle.rb_fetch.specs.Fetching.{LocFits, FetchesAt}
+use Rattle.rb_fetch.specs.Fetching.{LocFits, AreSmall, FetchesAt}
 
 -- Splits that instructions can do
 
@@ -37,16 +37,16 @@ TreeFits n tree = (k : ℕ) (split : SplitAt) → slice_get (splits_of tree) k �
 
 -- Runs
 
--- from a number on the run leaves by a hole of the leaf to which the tree leads
-abbrev pub Does : List Instr → Next → List Read → FlatTree → List Hole → ℕ → ℕ → ℕ → Type 0
-Does final next words tree hs n top start =
-    (s : List ℕ) (w : World) (k : ℕ) (ws : List ℕ) → top ≤ length s → IsGood w.memory → AreMeant words s w.memory ws → walk tree ws w.memory ≡ Some k
+-- from a number on the run leaves by a hole of the leaf to which the tree leads, for words of these widths
+abbrev pub Does : List Instr → Next → List Read → List ℕ → FlatTree → List Hole → ℕ → ℕ → ℕ → Type 0
+Does final next words widths tree hs n top start =
+    (s : List ℕ) (w : World) (k : ℕ) (ws : List ℕ) → top ≤ length s → IsGood w.memory → AreMeant words s w.memory ws → AreSmall widths ws → walk tree ws w.memory ≡ Some k
     → Leaves final next hs n (nesting tree) start s w k (λ s' m. Unit {0})
 
 -- a target from which on the run does the tree
-abbrev pub Leads : List Instr → Next → List Read → FlatTree → List Hole → ℕ → ℕ → ℕ → Option ℕ → Type 0
-Leads final next words tree hs n top pc arm =
-    (t : ℕ) × (target_in (slice_get final pc) arm ≡ Some t) × Does final next words tree hs n top t
+abbrev pub Leads : List Instr → Next → List Read → List ℕ → FlatTree → List Hole → ℕ → ℕ → ℕ → Option ℕ → Type 0
+Leads final next words widths tree hs n top pc arm =
+    (t : ℕ) × (target_in (slice_get final pc) arm ≡ Some t) × Does final next words widths tree hs n top t
 
 -- Holes
 
@@ -68,14 +68,14 @@ abbrev pub AreBefore : ℕ → List Hole → Type 0
 AreBefore a hs = (h : Hole) → IsIn h hs → h.pc < a
 
 -- The code from the end of the old one on does the tree, and leaves by holes of its leaves.
-pub record Looks (words : List Read) (tree : FlatTree) (old : Sheet) (hs0 : List Hole) (new : Sheet) (hs : List Hole) : Type 0 where
+pub record Looks (words : List Read) (widths : List ℕ) (tree : FlatTree) (old : Sheet) (hs0 : List Hole) (new : Sheet) (hs : List Hole) : Type 0 where
   pub more : MoreHoles hs0 hs (length old.code) (length new.code)
   pub leaves : (count : ℕ) → LeavesBelow count tree → (h : Hole) → IsIn h hs → IsIn h hs0 ⊎ IsLeafHole count new.code h
   pub ways : AreBefore (length old.code) hs0 → AreOfOneWay hs0 → AreOfOneWay hs
   pub adds : (plan : Plan) (k : ℕ) → k ≤ old.slots → AllFit k words → TreeFits (length words) tree → Adds plan old new
   pub runs : (plan : Plan) (final : List Instr) (callee : Callee) (next : Next) (n top : ℕ) → Law final callee next → AllFit n words → n ≤ old.slots → new.slots ≤ top → TreeFits (length words) tree
       → AreBefore (length old.code) hs0 → Finishes final new.code hs (length old.code) (length new.code)
-      → Does final next words tree hs n top (length old.code)
+      → Does final next words widths tree hs n top (length old.code)
 
 -- Splits
 
@@ -104,7 +104,7 @@ abbrev pub switch_of : Sheet → ℕ → List FlatArm → Option FlatTree → In
 switch_of c slot arms other = Switch slot (open_else_of (length c.code + 1) other) (open_arms_of (length c.code + 1) arms)
 
 -- A split whose word is fetched by the code c, whose switch stands, and some of whose targets are done.
-pub record SplitDone (words : List Read) (loc : Loc) (arms : List FlatArm) (other : Option FlatTree) (c : Sheet) (slot : ℕ) (hs0 : List Hole) (Done : Option ℕ → Type 0) (b : Sheet) (hs : List Hole) : Type 0 where
+pub record SplitDone (words : List Read) (widths : List ℕ) (loc : Loc) (arms : List FlatArm) (other : Option FlatTree) (c : Sheet) (slot : ℕ) (hs0 : List Hole) (Done : Option ℕ → Type 0) (b : Sheet) (hs : List Hole) : Type 0 where
   pub fetched : (q : ℕ) → q < length c.code → slice_get b.code q ≡ slice_get c.code q
   pub shaped : shape_in (slice_get b.code (length c.code)) ≡ Some (shape (switch_of c slot arms other))
   pub long : length c.code < length b.code
@@ -118,7 +118,7 @@ pub record SplitDone (words : List Read) (loc : Loc) (arms : List FlatArm) (othe
       → shape_in (slice_get final (length c.code)) ≡ Some (shape (switch_of c slot arms other))
       → ((arm : Option ℕ) → Done arm → (IsOpen hs (length c.code) arm → ⊥) → target_in (slice_get final (length c.code)) arm ≡ target_in (slice_get b.code (length c.code)) arm)
       → Finishes final b.code hs (length c.code + 1) (length b.code)
-      → (arm : Option ℕ) (tree : FlatTree) → Done arm → under_at arms other arm ≡ Some tree → Leads final next words tree hs n top (length c.code) arm
+      → (arm : Option ℕ) (tree : FlatTree) → Done arm → under_at arms other arm ≡ Some tree → Leads final next words widths tree hs n top (length c.code) arm
 
 -- the first k arms
 abbrev pub IsBefore : ℕ → Option ℕ → Type 0
@@ -126,13 +126,13 @@ IsBefore k None = ⊥
 IsBefore k (Some j) = j < k
 
 -- a split's switch at pc, of whose arms the first k are done
-pub record ArmsDone (words : List Read) (tree : FlatTree) (arms : List FlatArm) (other : Option FlatTree) (old : Sheet) (hs0 : List Hole) (pc k : ℕ) (b : Sheet) (hs : List Hole) : Type 0 where
+pub record ArmsDone (words : List Read) (widths : List ℕ) (tree : FlatTree) (arms : List FlatArm) (other : Option FlatTree) (old : Sheet) (hs0 : List Hole) (pc k : ℕ) (b : Sheet) (hs : List Hole) : Type 0 where
   pub grows : Grows old.code b.code
   pub loc : Loc
   pub is_tree : tree ≡ Split loc arms other
   pub fetched : Sheet
   pub slot : ℕ
-  pub fetches : FetchesAt words loc old fetched slot
+  pub fetches : FetchesAt words widths loc old fetched slot
   pub longer : Grows old.code fetched.code
   pub at : pc ≡ length fetched.code
-  pub done : SplitDone words loc arms other fetched slot hs0 (IsBefore k) b hs
+  pub done : SplitDone words widths loc arms other fetched slot hs0 (IsBefore k) b hs

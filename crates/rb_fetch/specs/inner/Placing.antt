@@ -1,6 +1,5 @@
 -- Where parts of leaves stand: which part is looked for, and where it is found.
-use Rattle.std.specs.Prelude.{◌≡◌, ℕ, ◌-◌, ◌==◌, ◌⊎◌, List, [], ◌∷◌, ◌++◌, Bool, true, false, Option, Some, None, length, slice_get}
-use Rattle.rb_core.specs.declared.layout_decl.Loc.{Loc}
+use Rattle.std.specs.Prelude.{◌≡◌, ℕ, ◌-◌, ◌==◌, List, Bool, true, false, Option, Some, None, length, slice_get}
 use Rattle.rb_core.specs.declared.layout_decl.Step.{Step}
 use Rattle.rb_core.specs.declared.program.Program.{Program}
 use Rattle.rb_core.specs.TypedPrograms.{IsTyped}
@@ -81,8 +80,6 @@ abbrev pub outer_count : Leaf → Option ℕ → ℕ
 outer_count leaf None = 0
 outer_count leaf (Some b) = length leaf.blocks - b
 
--- the location goes to a root word at once, or its last step to a word of the spot's width
-abbrev pub EndsIn : Loc → Spot → Type 0
-EndsIn loc x =
-    ((x.block ≡ None) × (loc.word ≡ x.word) × (loc.steps ≡ []))
-    ⊎ ((steps : List Step) × (s : Step) × (loc.steps ≡ steps ++ s ∷ []) × (s.width ≡ x.flat.now.width))
+abbrev pub width_of : Option FlatWord → Option ℕ
+width_of None = None
+width_of (Some f) = Some f.width

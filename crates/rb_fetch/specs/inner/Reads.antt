@@ -1,33 +1,71 @@
 -- What stands at a location, as data from which code is made.
-use Rattle.std.specs.Prelude.{◌≡◌, ℕ, min, List, [], ◌∷◌, Option, Some, None, slice_get}
+use Rattle.std.specs.Prelude.{◌≡◌, ℕ, ◌^◌, ◌<◌, min, true, List, [], ◌∷◌, Option, Some, None, slice_get}
 use Rattle.rb_core.specs.declared.layout_decl.Loc.{Loc}
 use Rattle.rb_core.specs.declared.layout_decl.Step.{Step}
-use Rattle.rb_bits.specs.Words.{take_of}
+use Rattle.rb_bits.specs.Words.{IsRange, take_of}
 use Rattle.rb_bytes.specs.Memory.{Memory}
-use Rattle.rb_fragment.specs.Reads.{mean}
-use Rattle.rb_fragment.specs.declared.reads.Read.{Read, Number, Bits, Address, Loaded}
+use Rattle.rb_fragment.specs.Reads.{mean, fits}
+use Rattle.rb_fragment.specs.declared.reads.Read.{Read, Slot, Number, Address, Loaded}
 use Rattle.rb_fetch.specs.declared.span.Span.{Span}
 
 abbrev pub capped : ℕ → ℕ
 capped n = min n 64
 
--- a range of a word, and from there on by steps
-abbrev pub span_on : Read → ℕ → ℕ → List Step → Span
-span_on r o l [] = record { read = r; o = o; l = l }
-span_on r o l (s ∷ steps) = span_on (Loaded (Address r (capped o) (capped l) s.align) s.byte (capped s.width)) s.o s.l steps
-
-abbrev pub read_or : Option Read → Read
-read_or None = Number 0
-read_or (Some r) = r
-
-abbrev pub loc_span : List Read → Loc → Span
-loc_span words loc = span_on (read_or (slice_get words loc.word)) loc.o loc.l loc.steps
-
-abbrev pub bits_of : Span → Read
-bits_of p = Bits p.read (capped p.o) (capped p.l)
+-- at most so many bits, where that is said
+abbrev pub IsSmall : Option ℕ → ℕ → Type 0
+IsSmall None w = Unit {0}
+IsSmall (Some width) w = w < 2 ^ width
 
 -- a number is the range of what a read means
 pub record Spans (p : Span) (s : List ℕ) (m : Memory) (x : ℕ) : Type 0 where
   pub word : ℕ
   pub is_word : mean p.read s m ≡ Some word
+  pub small : IsSmall p.width word
   pub are_bits : x ≡ take_of word p.o p.l
+
+-- Whatever the slots and the memory are, one range is what the other one is, and can be made where that can.
+pub record IsSameRange (p q : Span) : Type 0 where
+  pub long : q.l ≡ p.l
+  pub range : IsRange p.o p.l → IsRange q.o q.l
+  pub fit : (k : ℕ) → fits k p.read ≡ true → fits k q.read ≡ true
+  pub means : (s : List ℕ) (m : Memory) (x : ℕ) → Spans p s m x → Spans q s m x
+  pub origin : (width x : ℕ) → q.width ≡ Some width → q.read ≡ Slot x → p.read ≡ Slot x
+
+-- Whatever the slots and the memory are, the read means the range, and can be made where that can. It is a word in
+-- a slot only where that word is the range's.
+pub record ReadsRange (p : Span) (read : Read) : Type 0 where
+  pub fit : (k : ℕ) → fits k p.read ≡ true → IsRange p.o p.l → fits k read ≡ true
+  pub means : (s : List ℕ) (m : Memory) (x : ℕ) → IsRange p.o p.l → Spans p s m x → mean read s m ≡ Some x
+  pub origin : (x : ℕ) → read ≡ Slot x → (width : ℕ) × (p.width ≡ Some width) × (p.read ≡ Slot x)
+
+-- the range is all bits of a word of this width
+abbrev pub IsAll : Option ℕ → ℕ → ℕ → Type 0
+IsAll width o l = (o ≡ 0) × (width ≡ Some l)
+
+-- what is loaded by a step from a range, and the range of it
+abbrev pub step_span : Span → Step → Span
+step_span p s = record {
+  read = Loaded (Address p.read (capped p.o) (capped p.l) s.align) s.byte (capped s.width);
+  width = Some s.width;
+  o = s.o;
+  l = s.l;
+}
+
+-- the range to which steps lead from a range
+abbrev pub span_on : Span → List Step → Span
+span_on p [] = p
+span_on p (s ∷ steps) = span_on (step_span p s) steps
+
+abbrev pub read_or : Option Read → Read
+read_or None = Number 0
+read_or (Some r) = r
+
+-- the range at which a location begins
+abbrev pub first_span : List Read → Option ℕ → Loc → Span
+first_span words width loc = record { read = read_or (slice_get words loc.word); width = width; o = loc.o; l = loc.l }
+
+-- the range to which a location leads, from a word of this width
+pub record SpansLoc (words : List Read) (width : Option ℕ) (loc : Loc) (span : Span) : Type 0 where
+  pub first : Span
+  pub begins : IsSameRange (first_span words width loc) first
+  pub ends : span ≡ span_on first loc.steps

@@ -13,7 +13,7 @@ loop-i-preserved c =
     let before = c.loop-i-test.true in
     rw (c.in_ok-push.ensures.ok, c.share.ensures, c.min-len.ensures, c.saturating_sub.ensures, c.saturating_sub-skip.ensures, c.first_bit.ensures) (record {
       near = on_within width i path p wanted before;
-      slices = λ narrow. slices_more width i path p wanted before narrow c.args.leaf.now c.args.words.now c.in_ok-span.span c.in-Some.spot.flat.now.width c.loop-i.shares c.in_ok-span.ensures (c.loop-i.invariant.slices narrow);
+      slices = λ narrow. slices_more width i path p wanted before narrow c.args.leaf.now c.args.words.now c.in_ok-span.span c.loop-i.shares c.in_ok-span.ensures (c.loop-i.invariant.slices narrow);
     })
 
 pub returns : goal.returns

@@ -1,10 +1,10 @@
-use Rattle.std.proofs.Common.{inl, inr, refl, ◌<◌, sym, subst, ap, ◌∙◌, arith}
-use Rattle.rb_fetch.specs.inner.Placing.{outer_count, step_of}
+use Rattle.std.proofs.Common.{◌<◌, sym, subst, ap, ◌∙◌, arith}
+use Rattle.rb_fetch.specs.inner.Placing.{outer_count}
 use Rattle.rb_fetch.proofs.Placing.{some_pointer, above, further_out, root_leads, block_leads}
 use Rattle.rb_fetch.proofs.way.+way.Goals as goal
 
-pub returns-in_default-clause-leads : goal.returns-in_default-clause-leads
-returns-in_default-clause-leads t c = rw c.new.ensures (root_leads c.args.leaf.now c.requires.leaf c.args.spot c.requires.spot c.in_default.is)
+pub returns-in_default : goal.returns-in_default
+returns-in_default t c = rw c.new.ensures (root_leads c.args.leaf.now c.requires.leaf c.args.spot c.requires.spot c.in_default.is)
 
 pub unreachable-requires-in-None-find_part : goal.unreachable-requires-in-None-find_part
 unreachable-requires-in-None-find_part t c =
@@ -19,15 +19,8 @@ location-requires t c =
     let fewer = subst (λ o. outer_count c.args.leaf.now c.in-Some-find_part.pointer.block < outer_count c.args.leaf.now o) (sym c.in-Some.is) less in
     (omega (arith, c.decreases, fewer), (c.requires.leaf, c.in-Some-find_part.ensures.spot))
 
-pub returns-clause-leads : goal.returns-clause-leads
-returns-clause-leads t c =
+pub returns : goal.returns
+returns t c =
     let there = sym c.get.ensures.value ∙ ap Rattle.std.specs.Option.option_copied c.in-Some-get.is in
     rw (c.in_ok-push-in-Some-find_part.ensures.ok, c.step_to.ensures)
-    (block_leads c.args.leaf.now c.requires.leaf c.args.spot c.in-Some.b c.in-Some-get.block.now c.requires.spot c.in-Some.is there c.in-Some-find_part.pointer c.in-Some-find_part.ensures c.in_ok-loc-in-Some-find_part.loc c.in_ok-loc-in-Some-find_part.ensures.leads)
-
-pub returns-in_default-clause-ends : goal.returns-in_default-clause-ends
-returns-in_default-clause-ends t c = inl (c.in_default.is, refl, c.new.ensures)
-
-pub returns-clause-ends : goal.returns-clause-ends
-returns-clause-ends t c =
-    rw (c.in_ok-push-in-Some-find_part.ensures.ok, c.step_to.ensures) (inr (c.in_ok-loc-in-Some-find_part.loc.steps, step_of c.in-Some-get.block.now c.args.spot, refl, refl))
+    (block_leads c.args.leaf.now c.requires.leaf c.args.spot c.in-Some.b c.in-Some-get.block.now c.requires.spot c.in-Some.is there c.in-Some-find_part.pointer c.in-Some-find_part.ensures c.in_ok-loc-in-Some-find_part.loc c.in_ok-loc-in-Some-find_part.ensures)
