@@ -23,7 +23,7 @@ use Rattle.rb_match.proofs.LeafTests.{both}
 
 -- Apart
 
-pass-at : (ps : List Pat) (vs : List Value) (i : ℕ) (p : Pat) → all_pass (map matches_of ps) vs ≡ true → slice_get ps i ≡ Some p → (v : Value) × (slice_get vs i ≡ Some v) × (matches_of p v ≡ true)
+pub pass-at : (ps : List Pat) (vs : List Value) (i : ℕ) (p : Pat) → all_pass (map matches_of ps) vs ≡ true → slice_get ps i ≡ Some p → (v : Value) × (slice_get vs i ≡ Some v) × (matches_of p v ≡ true)
 pass-at [] vs i p h e = absurd cc
 pass-at (q ∷ ps) [] i p h e = absurd (false≢true h)
 pass-at (q ∷ ps) (v ∷ vs) zero p h e =

@@ -6,11 +6,11 @@ use Rattle.rb_target.proofs.Growing.{below_or, get-append, get-seam}
 use Rattle.rb_fetch.specs.Pruning.{AreBelow}
 use Rattle.rb_match.specs.inner.Asking.{AreGroups}
 
-module _ (IsGroup : ℕ → Option ℕ → Type 0) where
+module _ {A : Type 0} (IsGroup : ℕ → A → Type 0) where
   pub no_groups : AreGroups IsGroup 0 []
   no_groups = record { long = refl; each = λ leaf lt. absurd (omega (arith, lt)) }
 
-  pub one_group_more : (n : ℕ) (groups : List (Option ℕ)) (group : Option ℕ) → AreGroups IsGroup n groups → IsGroup n group → AreGroups IsGroup (n + 1) (groups ++ group ∷ [])
+  pub one_group_more : (n : ℕ) (groups : List A) (group : A) → AreGroups IsGroup n groups → IsGroup n group → AreGroups IsGroup (n + 1) (groups ++ group ∷ [])
   one_group_more n groups group all is = record {
     long = length-append groups (group ∷ []) ∙ ap (λ k. k + 1) all.long;
     each = λ leaf lt. elim (below_or leaf n) [

@@ -105,7 +105,7 @@ not_less : (a b : ℕ) → b ≤ a → nat_lt a b ≡ false
 not_less a b le = grind (arith, nat_tests)
 
 -- the two groups of a leaf
-by_group : {A : Type 0} (count : ℕ) (itself : Bool) (leaf node : ℕ) (group : Option ℕ) → group ≡ group_for count itself leaf (Some node) → (group ≡ Some leaf → A) → (group ≡ Some (count + node) → A) → A
+pub by_group : {A : Type 0} (count : ℕ) (itself : Bool) (leaf node : ℕ) (group : Option ℕ) → group ≡ group_for count itself leaf (Some node) → (group ≡ Some leaf → A) → (group ≡ Some (count + node) → A) → A
 by_group count true leaf node group is own shared = own is
 by_group count false leaf node group is own shared = shared is
 

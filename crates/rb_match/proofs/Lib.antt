@@ -19,6 +19,7 @@ mod Placing
 mod SavedBindings
 mod SavedParts
 pub mod Sharing
+mod Shown
 mod Testing
 mod Threads
 mod Together

@@ -29,35 +29,64 @@ use Rattle.rb_match.specs.declared.knowledge.Known.{Known}
 use Rattle.rb_match.specs.declared.knowledge.Edge.{Edge}
 use Rattle.rb_match.specs.declared.knowledge.Spot.{Spot}
 use Rattle.rb_match.specs.declared.place.Place.{Place}
+use Rattle.rb_match.specs.declared.spots.Whole.{Whole}
 use Rattle.rb_fragment.proofs.Holds.{AllBelow-more}
 use Rattle.rb_match.specs.inner.Knowing.{IsEdge, IsCommon}
 use Rattle.rb_match.specs.inner.Places.{FindsPlace, IsLookedAt}
-use Rattle.rb_match.specs.inner.Asking.{AreSpots, holes_of, AreOpen, StandOpen, AskedAt, Asks, edge_at}
+use Rattle.rb_match.specs.inner.Asking.{AreSpots, holes_of, AreOpen, StandOpen, AskedAt, AskedThere, edge_at}
 use Rattle.rb_match.specs.inner.Flowing.{landing_of, others_of, job_of, Flows, Stands, StepsNode, Begins, IsFineJob, IsClauseHole, AreClauseHoles, TakesGraph}
 use Rattle.rb_match.proofs.Edges.{edge_append, edge_open, other_from, holes_from, patchable_from}
 use Rattle.rb_match.proofs.Landing.{landing_hole, landing_target, land_flows}
 use Rattle.rb_match.proofs.Passing.{begins_on, ends_on}
-use Rattle.rb_match.specs.inner.Threading.{Threads}
-use Rattle.rb_match.proofs.Testing.{test_flows, root_flows}
-use Rattle.rb_match.proofs.Threads.{thread_append, thread_flows, thread_refl}
+use Rattle.rb_match.specs.inner.Threading.{LeadsOn, Threads}
+use Rattle.rb_match.specs.inner.Opening.{Asks, IsOnward}
+use Rattle.rb_match.proofs.Testing.{test_flows, test_job, root_flows}
+use Rattle.rb_match.proofs.Threads.{leads_refl, thread_append, thread_flows, thread_refl}
 
 -- from reads of the part to reads of the whole value
-pub asks_of : (agreed : LaidOut) (ty : Ty) (words : List Read) (pats : List Pat) (spots : List Spot) (known : List Known) (position : List ℕ) (arms : List GraphArm) (other : Option ℕ) (old new : Sheet) (edges : List Edge) (place : Place)
-    → FindsPlace agreed ty words spots known position place → IsLookedAt agreed.covered.program.types ty pats position place.ty
-    → ((plan : Plan) (n : ℕ) → IsPlanOf agreed plan → AreSpots plan n old.slots spots → AllFit old.slots place.reads → length place.reads ≡ words_of plan place.ty → AskedAt plan place.ty n spots place.reads known position arms other old new edges)
-    → Asks agreed ty words pats spots known position arms other old new edges
-asks_of agreed ty words pats spots known position arms other old new edges place finds looked asks = λ plan n of are fit count.
+pub asks_of : (agreed : LaidOut) (graph : Whole) (words : List Read) (spots : List Spot) (known : List Known) (position : List ℕ) (arms : List GraphArm) (other : Option ℕ) (old new : Sheet) (edges : List Edge) (place : Place)
+    → FindsPlace agreed graph.ty words spots known position place → IsLookedAt agreed.covered.program.types graph.ty graph.pats.now position place.ty
+    → ((plan : Plan) (n : ℕ) → IsPlanOf agreed plan → AreSpots plan n old.slots spots → AllFit old.slots place.reads → length place.reads ≡ words_of plan place.ty → AskedThere (IsOnward agreed graph) plan place.ty n spots place.reads known position arms other old new edges)
+    → Asks agreed graph words spots known position arms other old new edges
+asks_of agreed graph words spots known position arms other old new edges place finds looked asks = λ plan n of are fit count.
     let p = finds plan of count are.count in
     let a = asks plan n of are (p.fit old.slots fit are.below) p.count in
     record {
       at = place.ty;
-      looked = subst (λ (g : Rattle.rb_core.specs.declared.program.Program.Program). IsLookedAt g.types ty pats position place.ty) (sym of.program) looked;
+      looked = subst (λ (g : Rattle.rb_core.specs.declared.program.Program.Program). IsLookedAt g.types graph.ty graph.pats.now position place.ty) (sym of.program) looked;
       adds = a.adds;
       leaves = λ final callee next law fin s w v part clean ws node long good meant rep all is takes.
           let m = p.means clean v ws s w.memory good meant rep all in
           let same : m.part ≡ part = same_Some m.part part (sym m.is_part ∙ is) in
           a.leaves final callee next law fin s w v part clean m.words node long good m.are_meant (subst (λ u. Rep plan w.memory clean place.ty u m.words) same m.represents) all is takes;
     }
+
+-- what leads to a node leads on from there
+pub asked_on : (agreed : LaidOut) (graph : Whole) (plan : Plan) (ty : Ty) (n : ℕ) (spots : List Spot) (reads : List Read) (known : List Known) (position : List ℕ) (arms : List GraphArm) (other : Option ℕ) (old new : Sheet) (edges : List Edge)
+    → AskedAt plan ty n spots reads known position arms other old new edges → AskedThere (IsOnward agreed graph) plan ty n spots reads known position arms other old new edges
+asked_on agreed graph plan ty n spots reads known position arms other old new edges a = record {
+  adds = a.adds;
+  leaves = λ final callee next law fin s w v part clean ws node long good meant rep all is takes.
+      let r = a.leaves final callee next law fin s w v part clean ws node long good meant rep all is takes in
+      record {
+        edge = r.edge;
+        is_edge = r.is_edge;
+        target = r.target;
+        is_target = r.is_target;
+        slots = r.slots;
+        world = r.world;
+        runs = r.runs;
+        keeps = r.keeps;
+        later = r.later;
+        known = r.known;
+        is_node = (
+          [],
+          s,
+          λ i x e. absurd (let z = e in cc),
+          (subst (λ k. LeadsOn agreed graph.ty graph.pats.now graph.nodes.now [] node k) (sym r.is_node) (leads_refl agreed graph.ty graph.pats.now graph.nodes.now [] node), λ none. r.is_node),
+        );
+      };
+}
 
 -- spots of code with more slots
 pub spots-more : (plan : Plan) (n m m1 : ℕ) (spots : List Spot) → m ≤ m1 → AreSpots plan n m spots → AreSpots plan n m1 spots
@@ -82,7 +111,16 @@ closed_grows first b hs ts g low = record {
   same = λ pc lt. at_closed b hs ts pc ∙ retarget_none pc hs ts _ (λ h. let r = has_in pc hs h in let l = low r.0 r.1 in omega (arith, l, r.2, lt)) ∙ g.same pc lt;
 }
 
-module _ (agreed : LaidOut) (ty : Ty) (words : List Read) (pats : List Pat) (spots : List Spot) (nodes : List GraphNode) (position : List ℕ) (arms : List GraphArm) (other : Option ℕ) (n : ℕ) (old : Sheet) (edges : List Edge) where
+module _ (agreed : LaidOut) (graph : Whole) (words : List Read) (spots : List Spot) (position : List ℕ) (arms : List GraphArm) (other : Option ℕ) (n : ℕ) (old : Sheet) (edges : List Edge) where
+  abbrev ty : Ty
+  ty = graph.ty
+
+  abbrev pats : List Pat
+  pats = graph.pats.now
+
+  abbrev nodes : List GraphNode
+  nodes = graph.nodes.now
+
   abbrev node : GraphNode
   node = Test position arms other
 
@@ -97,7 +135,7 @@ module _ (agreed : LaidOut) (ty : Ty) (words : List Read) (pats : List Pat) (spo
     abbrev rest : List Edge
     rest = others_of n edges
 
-    module _ (asks : Asks agreed ty words pats spots known position arms other b new asked) (asked_stand : StandOpen b new asked) (threads : Threads agreed ty pats nodes asked onward) (grows : Grows b.code new.code) where
+    module _ (asks : Asks agreed graph words spots known position arms other b new asked) (asked_stand : StandOpen b new asked) (threads : Threads agreed ty pats nodes asked onward) (grows : Grows b.code new.code) where
       stand : StandOpen b new onward
       stand = threads.stand b new asked_stand
 
@@ -143,21 +181,21 @@ module _ (agreed : LaidOut) (ty : Ty) (words : List Read) (pats : List Pat) (spo
             let h = land_flows job old edges n known f st common in
             let low = fine.spots.low in
             let more = h.adds.more in
-            let f1 = test_flows job b new rest asked known n position arms other fine.lower (fine.fit base (omega arith)) at h (before first st) (asks plan base fine.of (spots-more plan base first.slots b.slots spots more fine.spots) (fine.fit b.slots (omega (arith, low, more))) fine.count) asked_stand in
+            let f1 = test_flows agreed graph plan base spots words root first b new rest asked known n position arms other fine.of fine.lower (fine.fit base (omega arith)) at h (before first st) (asks plan base fine.of (spots-more plan base first.slots b.slots spots more fine.spots) (fine.fit b.slots (omega (arith, low, more))) fine.count) asked_stand in
             thread_flows agreed ty pats nodes plan base spots words root first new (rest ++ asked) (rest ++ onward) fine.of fine.lower (thread_append agreed ty pats nodes rest rest asked onward (thread_refl agreed ty pats nodes rest) threads.threaded) f1;
       }
 
 -- the root
-pub begins_test : (agreed : LaidOut) (ty : Ty) (words : List Read) (pats : List Pat) (spots : List Spot) (nodes : List GraphNode) (root : ℕ) (position : List ℕ) (arms : List GraphArm) (other : Option ℕ) (old new : Sheet) (edges onward : List Edge)
-    → slice_get nodes root ≡ Some (Test position arms other) → Asks agreed ty words pats spots [] position arms other old new edges → StandOpen old new edges → Threads agreed ty pats nodes edges onward → Grows old.code new.code
-    → Begins agreed ty words pats spots nodes root old new onward
-begins_test agreed ty words pats spots nodes root position arms other old new edges onward at asks stand threads grows = record {
+pub begins_test : (agreed : LaidOut) (graph : Whole) (words : List Read) (spots : List Spot) (root : ℕ) (position : List ℕ) (arms : List GraphArm) (other : Option ℕ) (old new : Sheet) (edges onward : List Edge)
+    → slice_get graph.nodes.now root ≡ Some (Test position arms other) → Asks agreed graph words spots [] position arms other old new edges → StandOpen old new edges → Threads agreed graph.ty graph.pats.now graph.nodes.now edges onward → Grows old.code new.code
+    → Begins agreed graph.ty words graph.pats.now spots graph.nodes.now root old new onward
+begins_test agreed graph words spots root position arms other old new edges onward at asks stand threads grows = record {
   stands = record { grows = grows; stand = threads.stand old new stand };
   flows = λ plan base fine.
-      let job = job_of plan base spots ty words pats nodes root old in
+      let job = test_job graph plan base spots words root old in
       let low = fine.spots.low in
-      let f = test_flows job old new [] edges [] root position arms other fine.lower (fine.fit base (omega arith)) at (root_flows job) (λ e i. absurd (let z = i.1 in cc)) (asks plan base fine.of fine.spots (fine.fit old.slots low) fine.count) stand in
-      thread_flows agreed ty pats nodes plan base spots words root old new edges onward fine.of fine.lower threads.threaded f;
+      let f = test_flows agreed graph plan base spots words root old old new [] edges [] root position arms other fine.of fine.lower (fine.fit base (omega arith)) at (root_flows job) (λ e i. absurd (let z = i.1 in cc)) (asks plan base fine.of fine.spots (fine.fit old.slots low) fine.count) stand in
+      thread_flows agreed graph.ty graph.pats.now graph.nodes.now plan base spots words root old new edges onward fine.of fine.lower threads.threaded f;
 }
 
 pub begins_jump : (agreed : LaidOut) (ty : Ty) (words : List Read) (pats : List Pat) (spots : List Spot) (nodes : List GraphNode) (root : ℕ) (old : Sheet) → Begins agreed ty words pats spots nodes root old (pushed old (Jump (length old.code + 1))) (edge_at (length old.code) None root [] ∷ [])

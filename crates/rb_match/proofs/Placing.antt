@@ -57,10 +57,10 @@ is-field agreed t l path layout leaf ty is_layout is_leaf at = λ plan of.
       is_open = ap (λ (p : Rattle.rb_core.specs.declared.program.Program.Program). slice_get (open_positions p.types leaf.prov) open_at.0) of.program ∙ open_at.2 ∙ ap Some same;
     }
 
--- one field further
-pub steps : (agreed : LaidOut) (place : Place) (known : List Known) (prefix : List ℕ) (field t leaf : ℕ) (ty : Ty) (reads : List Read) → place.ty ≡ Named t → FollowsLeaf known t prefix leaf
-    → IsFieldOf agreed t leaf (field ∷ []) ty → ReadsField agreed t leaf (field ∷ []) place.reads reads → StepsPlace agreed place known prefix field (record { ty = ty; reads = reads })
-steps agreed place known prefix field t leaf ty reads named follow field_of read = λ root words spots finds plan of count have.
+-- further on to an open position of the leaf
+pub reaches : (agreed : LaidOut) (place : Place) (known : List Known) (prefix path : List ℕ) (t leaf : ℕ) (ty : Ty) (reads : List Read) (root : Ty) (words : List Read) (spots : List Spot) → place.ty ≡ Named t → FollowsLeaf known t prefix leaf
+    → IsFieldOf agreed t leaf path ty → ReadsField agreed t leaf path place.reads reads → FindsPlace agreed root words spots known prefix place → FindsPlace agreed root words spots known (prefix ++ path) (record { ty = ty; reads = reads })
+reaches agreed place known prefix path t leaf ty reads root words spots named follow field_of read finds = λ plan of count have.
     let p = finds plan of count have in
     let f = field_of plan of in
     let n : length place.reads ≡ words_of plan (Named t) = p.count ∙ ap (words_of plan) named in
@@ -78,11 +78,17 @@ steps agreed place known prefix field t leaf ty reads named follow field_of read
           record {
             part = b.part;
             words = b.words;
-            is_part = part-append (Some v) prefix (field ∷ []) ∙ ap (λ o. part_from o (field ∷ [])) a.is_part ∙ b.is_part;
+            is_part = part-append (Some v) prefix path ∙ ap (λ o. part_from o path) a.is_part ∙ b.is_part;
             are_meant = b.are_meant;
             represents = b.represents;
           };
     }
+
+-- one field further
+pub steps : (agreed : LaidOut) (place : Place) (known : List Known) (prefix : List ℕ) (field t leaf : ℕ) (ty : Ty) (reads : List Read) → place.ty ≡ Named t → FollowsLeaf known t prefix leaf
+    → IsFieldOf agreed t leaf (field ∷ []) ty → ReadsField agreed t leaf (field ∷ []) place.reads reads → StepsPlace agreed place known prefix field (record { ty = ty; reads = reads })
+steps agreed place known prefix field t leaf ty reads named follow field_of read = λ root words spots finds.
+    reaches agreed place known prefix (field ∷ []) t leaf ty reads root words spots named follow field_of read finds
 
 -- the whole value
 pub whole : (agreed : LaidOut) (ty : Ty) (words : List Read) (spots : List Spot) (known : List Known) → FindsPlace agreed ty words spots known [] (record { ty = ty; reads = words })

@@ -13,7 +13,6 @@ use Rattle.rb_target.proofs.Finishing.{agrees-sub}
 use Rattle.rb_target.proofs.Growing.{Keeps-refl, Keeps-trans}
 use Rattle.rb_fragment.specs.declared.reads.Read.{Read}
 use Rattle.rb_fragment.specs.Plan.{Plan, Rep}
-use Rattle.rb_fragment.specs.Pieces.{IsLater}
 use Rattle.rb_fragment.specs.WordReads.{AreMeant, AllFit}
 use Rattle.rb_fragment.proofs.Adding.{Adds-refl, Adds-trans}
 use Rattle.rb_fragment.proofs.Patching.{hole_within}
@@ -21,10 +20,15 @@ use Rattle.rb_fragment.proofs.Pieces.{later-refl, later-trans}
 use Rattle.rb_fragment.proofs.ReadForms.{mean-kept}
 use Rattle.rb_match.specs.declared.knowledge.Known.{Known}
 use Rattle.rb_match.specs.declared.knowledge.Edge.{Edge}
+use Rattle.rb_match.specs.declared.knowledge.Spot.{Spot}
+use Rattle.rb_match.specs.declared.spots.Whole.{Whole}
+use Rattle.rb_layout.specs.declared.agreed.LaidOut.{LaidOut}
+use Rattle.rb_fetch.specs.Finding.{IsPlanOf}
 use Rattle.rb_match.specs.Bounding.{Place, choosing_look}
 use Rattle.rb_match.specs.inner.Knowing.{AreKnown, seen}
 use Rattle.rb_match.specs.inner.Asking.{holes_of, AreOpen, StandOpen, Asked}
-use Rattle.rb_match.specs.inner.Flowing.{Job, looks, IsOn, Flows, FlowsHere}
+use Rattle.rb_match.specs.inner.Flowing.{Job, looks, Flows, FlowsHere, job_of}
+use Rattle.rb_match.specs.inner.Opening.{IsOnward}
 use Rattle.rb_match.proofs.Edges.{edge_append, edge_left, edge_right, open_edge, edge_open}
 use Rattle.rb_match.proofs.Passing.{tested, passes, begins_on}
 
@@ -39,9 +43,16 @@ pub looks-snoc : (plan : Plan) (path : List Place) (p : Place) → looks plan (p
 looks-snoc plan [] p = omega arith
 looks-snoc plan (x ∷ path) p = let h = looks-snoc plan path p in omega (arith, h)
 
-module _ (job : Job) (b new : Sheet) (rest edges : List Edge) (known : List Known) (n : ℕ) (position : List ℕ) (arms : List GraphArm) (other : Option ℕ) (lower : LinksAreLower job.nodes) (fit : AllFit job.base job.words)
-    (at : slice_get job.nodes n ≡ Some (Test position arms other)) (here : FlowsHere job b rest known n) (before : AreOpen (length job.first.code) b.code rest)
-    (asked : Asked job.plan job.ty job.base job.words job.pats job.spots known position arms other b new edges) (stand : StandOpen b new edges) where
+-- the job that a graph of tests gives
+abbrev pub test_job : Whole → Plan → ℕ → List Spot → List Read → ℕ → Sheet → Job
+test_job graph plan base spots words root first = job_of plan base spots graph.ty words graph.pats.now graph.nodes.now root first
+
+module _ (agreed : LaidOut) (graph : Whole) (plan : Plan) (base : ℕ) (spots : List Spot) (words : List Read) (root : ℕ) (first : Sheet) (b new : Sheet) (rest edges : List Edge) (known : List Known) (n : ℕ) (position : List ℕ) (arms : List GraphArm) (other : Option ℕ)
+    (of : IsPlanOf agreed plan) (lower : LinksAreLower graph.nodes.now) (fit : AllFit base words) (at : slice_get graph.nodes.now n ≡ Some (Test position arms other)) (here : FlowsHere (test_job graph plan base spots words root first) b rest known n)
+    (before : AreOpen (length first.code) b.code rest) (asked : Asked (IsOnward agreed graph) plan graph.ty base words graph.pats.now spots known position arms other b new edges) (stand : StandOpen b new edges) where
+  abbrev job : Job
+  job = test_job graph plan base spots words root first
+
   abbrev lo : ℕ
   lo = length job.first.code
 
@@ -96,6 +107,8 @@ module _ (job : Job) (b new : Sheet) (rest edges : List Edge) (known : List Know
               let place : Place = record { path = position; ty = asked.at } in
               let p = passes job lower n position arms other at v given.clause l.path asked.at given.takes l.on asked.looked t in
               let sum = looks-snoc job.plan l.path place in
+              let on = r.is_node.3.0 plan base spots words root first of lower clean v r.is_node.1 l.world.memory given.clause (l.path ++ place ∷ []) r.is_node.2 given.takes p in
+              let costs = later-trans (looks job.plan l.path) (choosing_look job.plan.layouts asked.at) w l.world r.world l.later r.later in
               record {
                 edge = r.edge;
                 is_edge = edge_right rest edges r.edge r.is_edge;
@@ -105,10 +118,10 @@ module _ (job : Job) (b new : Sheet) (rest edges : List Edge) (known : List Know
                 world = r.world;
                 runs = l.runs ∙ r.runs;
                 keeps = Keeps-trans job.base job.base s l.slots r.slots (omega arith) l.keeps r.keeps;
-                path = l.path ++ place ∷ [];
-                later = subst (λ k. IsLater k w r.world) (sym sum) (later-trans (looks job.plan l.path) (choosing_look job.plan.layouts asked.at) w l.world r.world l.later r.later);
+                path = on.0;
+                later = record { memory = costs.memory; left = costs.left; switches = (let x = costs.switches in let y = on.1 in omega (arith, x, y, sum)) };
                 known = subst (λ m. AreKnown (seen job.plan clean v job.spots r.slots m) r.edge.known) l.later.memory r.known;
-                on = subst (λ k. IsOn job v k (l.path ++ place ∷ [])) (sym r.is_node) p;
+                on = on.2;
               }
         ];
   }

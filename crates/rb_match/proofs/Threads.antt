@@ -35,7 +35,7 @@ use Rattle.rb_match.specs.inner.Knowing.{IsEdge, seen}
 use Rattle.rb_match.specs.inner.Places.{IsLookedAt}
 use Rattle.rb_match.specs.inner.Asking.{holes_of, take_link}
 use Rattle.rb_match.specs.inner.Flowing.{Flows, IsOn, job_of}
-use Rattle.rb_match.specs.inner.Threading.{Ascend, AreThreaded, HasAt, IsDecided, IsThreaded, LeadsOn, Tells, TellTogether, Threads}
+use Rattle.rb_match.specs.inner.Threading.{AllFollow, Ascend, AreThreaded, BeginsWith, IsDecided, IsThreaded, LeadsOn, TellTogether, Threads}
 use Rattle.rb_match.proofs.Bindings.{begins_with}
 use Rattle.rb_match.proofs.Edges.{edge_open, open_edge}
 use Rattle.rb_match.proofs.LeafTests.{both, link_same}
@@ -44,66 +44,23 @@ use Rattle.rb_match.proofs.Placing.{part-append}
 use Rattle.rb_match.proofs.Testing.{looks-snoc}
 use denote.Ref.{Bor}
 
--- Provenances
+-- Tests
 
--- what is at a position of a value
-pub has_here : (token : ℕ) (c : ConRef) (ps : List Pat) → HasAt (Con token c ps) [] c.con
-has_here token c ps = λ v m. let b = begins_with c.con (map matches_of ps) (out-Value v) (sym (matches-Con v token c ps) ∙ m) in (v, b.0, refl, b.1)
-
-passes_at : (ps : List Pat) (us : List Value) (i : ℕ) (p : Pat) → all_pass (map matches_of ps) us ≡ true → slice_get ps i ≡ Some p → (u : Value) × (slice_get us i ≡ Some u) × (matches_of p u ≡ true)
-passes_at [] us i p e at = absurd cc
-passes_at (q ∷ ps) [] i p e at = absurd cc
-passes_at (q ∷ ps) (u ∷ us) zero p e at = let b = both (matches_of q u) (all_pass (map matches_of ps) us) e in (u, refl, ap (λ x. matches_of x u) (sym (same_Some q p at)) ∙ b.0)
-passes_at (q ∷ ps) (u ∷ us) (suc i) p e at = let b = both (matches_of q u) (all_pass (map matches_of ps) us) e in passes_at ps us i p b.1 at
-
-pub has_below : (token : ℕ) (c : ConRef) (ps : List Pat) (field : ℕ) (rest : List ℕ) (sub : Pat) (d : ℕ) → slice_get ps field ≡ Some sub → HasAt sub rest d → HasAt (Con token c ps) (field ∷ rest) d
-has_below token c ps field rest sub d at has = λ v m.
-    let b = begins_with c.con (map matches_of ps) (out-Value v) (sym (matches-Con v token c ps) ∙ m) in
-    let u = passes_at ps b.0 field sub b.2 at in
-    let h = has u.0 u.2 in
-    (h.0, h.1, ap (λ l. part_from (slice_get (subs_in l) field) rest) b.1 ∙ ap (λ o. part_from o rest) u.1 ∙ h.2, h.3)
-
-pub below_option : (token : ℕ) (c : ConRef) (ps : List Pat) (field : ℕ) (rest : List ℕ) (sub : Pat) (o : Option ConRef) → slice_get ps field ≡ Some sub → IfSome o (λ con. HasAt sub rest con.con)
-    → IfSome o (λ con. HasAt (Con token c ps) (field ∷ rest) con.con)
-below_option token c ps field rest sub None at h = tt
-below_option token c ps field rest sub (Some d) at h = has_below token c ps field rest sub d.con at h
-
--- Facts
-
-pub tells : (agreed : LaidOut) (above : Bor (List ℕ)) (t l : ℕ) (position rest : List ℕ) (layout : Layout) (leaf : Leaf) (c : ℕ) → layout_of agreed.layouts t ≡ Some layout → slice_get layout.leaves l ≡ Some leaf
-    → position ≡ above.now ++ rest → HasAt leaf.prov rest c → Tells agreed (K.Leaf above t l) position c
-tells agreed above t l position rest layout leaf c is is_leaf split has = λ at of h.
-    let same : h.1 ≡ layout = same_Some h.1 layout (sym h.3 ∙ ap (λ ls. layout_of ls t) of.layouts ∙ is) in
-    let number : leaf_of layout h.0 ≡ Some l = ap (λ y. leaf_of y h.0) (sym same) ∙ h.4 in
-    let start : 0 + l ≡ l = omega arith in
-    let b = has h.0 (leaf_matches layout.leaves h.0 0 l leaf number l start is_leaf) in
-    (b.0, b.1, ap (part_at at.value) split ∙ part-append (Some at.value) above.now rest ∙ ap (λ o. part_from o rest) h.2 ∙ b.2, b.3)
-
-pub tell_by : (agreed : LaidOut) (known : List Known) (i : ℕ) (x : Known) (position : List ℕ) (c : ℕ) → slice_get known i ≡ Some x → Tells agreed x position c → TellTogether agreed known position c
-tell_by agreed known i x position c at t = λ view of all. t view of (all i x at)
-
-pub tell_option : (agreed : LaidOut) (known : List Known) (i : ℕ) (x : Known) (position : List ℕ) (o : Option ConRef) → slice_get known i ≡ Some x → IfSome o (λ con. Tells agreed x position con.con)
-    → IfSome o (λ con. TellTogether agreed known position con.con)
-tell_option agreed known i x position None at h = tt
-tell_option agreed known i x position (Some d) at h = tell_by agreed known i x position d.con at h
-
-pub tells_option : (agreed : LaidOut) (above : Bor (List ℕ)) (t l : ℕ) (position rest : List ℕ) (layout : Layout) (leaf : Leaf) (o : Option ConRef) → layout_of agreed.layouts t ≡ Some layout → slice_get layout.leaves l ≡ Some leaf
-    → position ≡ above.now ++ rest → IfSome o (λ con. HasAt leaf.prov rest con.con) → IfSome o (λ con. Tells agreed (K.Leaf above t l) position con.con)
-tells_option agreed above t l position rest layout leaf None is is_leaf split has = tt
-tells_option agreed above t l position rest layout leaf (Some d) is is_leaf split has = tells agreed above t l position rest layout leaf d.con is is_leaf split has
-
-pub decides : (agreed : LaidOut) (ty at : Ty) (pats : List Pat) (known : List Known) (position : List ℕ) (arms : List GraphArm) (other : Option ℕ) (node c : ℕ) → TellTogether agreed known position c
+decides : (agreed : LaidOut) (ty at : Ty) (pats : List Pat) (known : List Known) (position : List ℕ) (arms : List GraphArm) (other : Option ℕ) (sub : Pat) (node c : ℕ) → TellTogether agreed known position sub → BeginsWith sub c
     → IsLookedAt agreed.covered.program.types ty pats position at → take_link arms other (V.Con c []) ≡ Some node → IsDecided agreed ty pats known position arms other node
-decides agreed ty at pats known position arms other node c t looked link = record {
+decides agreed ty at pats known position arms other sub node c t begins looked link = record {
   at = at;
   looked = looked;
-  takes = λ view of all. let b = t view of all in (b.0, b.2, ap (take_link arms other) b.3 ∙ link_same arms other c b.1 ∙ link);
+  takes = λ view of all.
+      let m = t view of all in
+      let b = begins m.0 m.2 in
+      (m.0, m.1, ap (take_link arms other) b.1 ∙ link_same arms other c b.0 ∙ link);
 }
 
-pub decides_option : (agreed : LaidOut) (ty at : Ty) (pats : List Pat) (known : List Known) (position : List ℕ) (arms : List GraphArm) (other o : Option ℕ) (c : ℕ) → TellTogether agreed known position c
+pub decides_option : (agreed : LaidOut) (ty at : Ty) (pats : List Pat) (known : List Known) (position : List ℕ) (arms : List GraphArm) (other o : Option ℕ) (sub : Pat) (c : ℕ) → TellTogether agreed known position sub → BeginsWith sub c
     → IsLookedAt agreed.covered.program.types ty pats position at → o ≡ take_link arms other (V.Con c []) → IfSome o (λ node. IsDecided agreed ty pats known position arms other node)
-decides_option agreed ty at pats known position arms other None c t looked link = tt
-decides_option agreed ty at pats known position arms other (Some node) c t looked link = decides agreed ty at pats known position arms other node c t looked (sym link)
+decides_option agreed ty at pats known position arms other None sub c t begins looked link = tt
+decides_option agreed ty at pats known position arms other (Some node) sub c t begins looked link = decides agreed ty at pats known position arms other sub node c t begins looked (sym link)
 
 -- Nodes
 
@@ -116,6 +73,11 @@ module _ (agreed : LaidOut) (ty : Ty) (pats : List Pat) (nodes : List GraphNode)
       let a = f plan base spots words root first of lower clean v s w clause path all root_takes on in
       let b = g plan base spots words root first of lower clean v s w clause a.0 all root_takes a.2 in
       (b.0, (let x = a.1 in let y = b.1 in omega (arith, x, y)), b.2)
+
+  -- where less is known
+  pub leads_less : (known more : List Known) (n m : ℕ) → AllFollow agreed known more → LeadsOn agreed ty pats nodes more n m → LeadsOn agreed ty pats nodes known n m
+  leads_less known more n m follow f = λ plan base spots words root first of lower clean v s w clause path all root_takes on.
+      f plan base spots words root first of lower clean v s w clause path (follow (seen plan clean v spots s w) of all) root_takes on
 
   pub leads_test : (known : List Known) (n m : ℕ) (position : List ℕ) (arms : List GraphArm) (other : Option ℕ) → slice_get nodes n ≡ Some (Test position arms other) → IsDecided agreed ty pats known position arms other m → LeadsOn agreed ty pats nodes known n m
   leads_test known n m position arms other at d = λ plan base spots words root first of lower clean v s w clause path all root_takes on.
@@ -140,7 +102,7 @@ module _ (agreed : LaidOut) (ty : Ty) (pats : List Pat) (nodes : List GraphNode)
 
   pub thread_refl : (es : List Edge) → Are es es
   thread_refl [] = tt
-  thread_refl (e ∷ es) = (record { pc = refl; arm = refl; known = λ at all. all; leads = leads_refl e.known e.hole.leaf }, thread_refl es)
+  thread_refl (e ∷ es) = (record { pc = refl; arm = refl; known = λ at of all. all; leads = leads_refl e.known e.hole.leaf }, thread_refl es)
 
   pub thread_append : (es fs gs hs : List Edge) → Are es fs → Are gs hs → Are (es ++ gs) (fs ++ hs)
   thread_append [] [] gs hs a b = b
@@ -224,7 +186,7 @@ module _ (agreed : LaidOut) (ty : Ty) (pats : List Pat) (nodes : List GraphNode)
           keeps = r.keeps;
           path = l.0;
           later = record { memory = r.later.memory; left = r.later.left; switches = (let x = r.later.switches in let y = l.1 in omega (arith, x, y)) };
-          known = b.2.known (seen plan clean v spots r.slots w.memory) r.known;
+          known = b.2.known (seen plan clean v spots r.slots w.memory) of r.known;
           on = l.2;
         };
   }

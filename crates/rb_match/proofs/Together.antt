@@ -24,6 +24,7 @@ use Rattle.rb_fragment.proofs.Patching.{adds_closed, closed_length, closed_slots
 use Rattle.rb_match.specs.declared.knowledge.Known.{Known}
 use Rattle.rb_match.specs.declared.knowledge.Spot.{Spot}
 use Rattle.rb_match.specs.declared.knowledge.Edge.{Edge}
+use Rattle.rb_match.specs.declared.spots.Whole.{Whole}
 use Rattle.rb_match.specs.inner.Knowing.{IsCommon, seen}
 use Rattle.rb_match.specs.inner.Asking.{StandOpen, holes_of, take_link}
 use Rattle.rb_match.specs.inner.Binding.{SavesTogether}
@@ -41,9 +42,9 @@ goes c v us is =
     let same : (c.con == c.con) ≡ true = grind (arith, common_steps) in
     ap (take_link (arm_of c) None) is ∙ ap (λ u. if u then Some 0 else None) same
 
-pub saves_together : (agreed : LaidOut) (c : ConRef) (words : List ℕ) (spots : List Spot) (known : List Known) (old b : Sheet) (edges : List Edge)
-    → AsksDeep agreed c.ty spots (map (λ x. Slot x) words) [] [] (arm_of c) None old b edges → StandOpen old b edges → IsCommon edges 0 (Some known) → SavesTogether agreed c words spots known old (closed b (landing_of 0 edges) (length b.code ∷ []))
-saves_together agreed c words spots known old b edges asks stand common = λ plan n of are low count.
+pub saves_together : (agreed : LaidOut) (graph : Whole) (c : ConRef) (words : List ℕ) (spots : List Spot) (known : List Known) (old b : Sheet) (edges : List Edge)
+    → AsksDeep agreed graph c.ty spots (map (λ x. Slot x) words) [] [] (arm_of c) None old b edges → graph.nodes.now ≡ [] → StandOpen old b edges → IsCommon edges 0 (Some known) → SavesTogether agreed c words spots known old (closed b (landing_of 0 edges) (length b.code ∷ []))
+saves_together agreed graph c words spots known old b edges asks none stand common = λ plan n of are low count.
     let a = asks plan n of are (slots_fit old.slots words low) (length-map words (λ x. Slot x) ∙ count) in
     let L = landing_of 0 edges in
     let ts = length b.code ∷ [] in
@@ -64,9 +65,10 @@ saves_together agreed c words spots known old b edges asks stand common = λ pla
                 let fin : Finishes final b.code (holes_of edges) lo (length b.code) = λ q l h. agrees-sub final b.code b.code (holes_of edges) L q refl (λ arm o.
                 let f = landed_from 0 edges o.0 o.1 in edge_open edges q arm f.0 f.1 (sym (ap (λ (x : Hole). x.pc) f.3) ∙ o.2) (sym (ap (λ (x : Hole). x.arm) f.3) ∙ o.3)) (shut.finishes q l h) in
                 let r = a.leaves final callee next law fin s w v v clean (slots_at s words) 0 (omega (arith, long, slots)) pre.0 (slots_meant s w.memory words) pre.1 (λ i x e. absurd (let z = e in cc)) refl (goes c v us is) in
+                let is_node : r.edge.hole.leaf ≡ 0 = r.is_node.3.1 none in
                 let s1 = stand.are_open r.edge r.is_edge in
-                let to : r.target ≡ length new.code = same_Some r.target (length b.code) (sym r.is_target ∙ shut.leads (landing 0 r.edge) (landed 0 edges r.edge r.is_edge r.is_node) s1.0 (hole_within b.code r.edge.hole s1.1)) ∙ sym len in
-                let facts = common (seen plan clean v spots r.slots w.memory) r.edge r.is_edge r.is_node r.known in
+                let to : r.target ≡ length new.code = same_Some r.target (length b.code) (sym r.is_target ∙ shut.leads (landing 0 r.edge) (landed 0 edges r.edge r.is_edge is_node) s1.0 (hole_within b.code r.edge.hole s1.1)) ∙ sym len in
+                let facts = common (seen plan clean v spots r.slots w.memory) r.edge r.is_edge is_node r.known in
                 (length new.code, r.slots, r.world, r.runs ∙ ap (λ k. next k r.slots r.world) to, r.keeps, r.later, (refl, (pre.0, facts)));
           };
     }

@@ -4,7 +4,8 @@ ghost use Rattle.std.specs.Prelude.{◌≡◌, ◌∷◌, ◌++◌, ◌<◌, ◌
 ghost use Rattle.rb_core.specs.declared.value.Value.TheOpen as Layers;
 ghost use Rattle.rb_target.specs.Growth.{Grows};
 ghost use Rattle.rb_fetch.specs.Finding.{leaf_count};
-ghost use Rattle.rb_match.specs.inner.Asking.{number_arm, number_arms, is_number, are_numbers, open_else_of, is_test, carried, edge_at, edge_in, arm_edges, else_edges, leaf_con, link_at, take_link, node_for, facts_for, IsGrouped, AreGroups, edge_for, leaf_edges_of, StandOpen, AsksNumber, AsksLeaf, Asks};
+ghost use Rattle.rb_match.specs.inner.Asking.{number_arm, number_arms, is_number, are_numbers, open_else_of, is_test, carried, edge_at, edge_in, arm_edges, else_edges, leaf_con, link_at, take_link, node_for, facts_for, IsGrouped, AreGroups, edge_for, leaf_edges_of, StandOpen, AsksNumber, AsksLeaf};
+ghost use Rattle.rb_match.specs.inner.Opening.{Asks};
 
 use crate::deep::ask_deep;
 use crate::knowledge::{Edge, Known, Spot, copy_known, with_known};
@@ -100,8 +101,12 @@ pub fn edge<'a>(
     })
 }
 
-// The same to a node of a graph: an edge to a clause, of which there are many, carries no facts.
-fn edge_within<'a>(
+/// The same to a node of a graph: an edge to a clause, of which there are many, carries no facts.
+///
+/// # Errors
+///
+/// Want of memory.
+pub fn edge_within<'a>(
     alloc: Global,
     nodes: &[GraphNode],
     pc: usize,
@@ -470,8 +475,8 @@ fn ask_leaf<'a>(
 // Tests -----------------------------------------------------------------------------------------
 
 /// Code of a test at a position of a value of a type: it leaves by an edge to the node of the arm that is
-/// taken, which carries what is known there. Fields of the part there that have spots are saved in them. A
-/// position that no pattern looks at is never tested.
+/// taken, or to one to which what is known leads on from there, which carries what is known there. Fields of the part
+/// there that have spots are saved in them. A position that no pattern looks at is never tested.
 ///
 /// # Errors
 ///
@@ -480,42 +485,48 @@ pub fn ask<'a>(
     alloc: Global,
     body: &mut Body,
     agreed: &Agreed,
-    ty: Ty,
+    graph: &Whole,
     words: &[Read],
-    pats: &[Pat],
     spots: &[Spot],
-    nodes: &[GraphNode],
     known: &[Known<'a>],
     position: &'a [u32],
     arms: &[GraphArm],
     other: Option<u32>,
 ) -> Result<Seq<Edge<'a>>, AllocError>
-    ensures asks { IfOk result (λ edges. Asks agreed.now ty words.now pats.now spots.now known.now position.now
-        arms.now other body.old body.new edges) }
+    ensures asks { IfOk result (λ edges. Asks agreed.now graph.now words.now spots.now known.now position.now arms.now
+        other body.old body.new edges) }
     ensures stand { IfOk result (λ edges. StandOpen body.old body.new edges) }
     ensures grows { OnOk result (Grows body.old.code body.new.code) }
 {
-    let place = place_of(alloc, agreed, ty, words, spots, known, position)?;
+    let place = place_of(alloc, agreed, graph.ty, words, spots, known, position)?;
     let types = agreed.covered().program().types.as_slice();
-    if !is_looked_at(types, ty, pats, position, place.ty) {
+    if !is_looked_at(types, graph.ty, graph.pats, position, place.ty) {
         return Err(AllocError);
     }
     let reads = place.reads.as_slice();
     match place.ty {
         Ty::Int(_) => {
-            let edges = ask_number(alloc, body, nodes, reads, known, arms, other)?;
+            let edges = ask_number(alloc, body, graph.nodes, reads, known, arms, other)?;
             Ok(edges)
         }
         Ty::Named(t) => {
             if has_spot_below(spots, position) {
-                let graph = Whole { ty, pats, nodes };
                 let edges = ask_deep(
-                    alloc, body, agreed, &graph, t, reads, spots, known, position, arms, other,
+                    alloc, body, agreed, graph, t, reads, spots, known, position, arms, other,
                 )?;
                 Ok(edges)
             } else {
                 let edges = ask_leaf(
-                    alloc, body, agreed, nodes, t, reads, known, position, arms, other,
+                    alloc,
+                    body,
+                    agreed,
+                    graph.nodes,
+                    t,
+                    reads,
+                    known,
+                    position,
+                    arms,
+                    other,
                 )?;
                 Ok(edges)
             }

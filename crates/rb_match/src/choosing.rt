@@ -9,7 +9,7 @@ ghost use Rattle.rb_match.specs.inner.Trees.{TakesShared, TakesTree};
 
 use crate::clauses::emit_clauses;
 use crate::engine::emit_graph;
-use crate::spots::{give_spots, parts_to_save};
+use crate::spots::give_spots_for;
 use rb_core::pattern::Pat;
 use rb_core::seq::Seq;
 use rb_core::types::Ty;
@@ -54,8 +54,7 @@ pub fn emit_shared(
     ensures grows { OnOk result (Grows body.old.code body.new.code) }
 {
     let nodes = graph.nodes.as_slice();
-    let parts = parts_to_save(alloc, agreed, pats)?;
-    let spots = give_spots(alloc, body, agreed, parts.as_slice())?;
+    let spots = give_spots_for(alloc, body, agreed, pats)?;
     let spots = spots.as_slice();
     let holes = emit_graph(
         alloc, body, agreed, ty, words, pats, spots, nodes, graph.root,

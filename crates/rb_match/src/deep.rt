@@ -1,15 +1,15 @@
 //! Code of a test of a part whose leaves take subvalues apart: on the way of each leaf, what other tests
 //! need of it is saved.
 
-ghost use Rattle.std.specs.Prelude.{◌≡◌, ◌∷◌, ◌++◌, [], IfOk, OnOk, length};
+ghost use Rattle.std.specs.Prelude.{◌≡◌, ◌∷◌, [], IfOk, OnOk, length};
 ghost use Rattle.rb_target.specs.Growth.{Grows};
 ghost use Rattle.rb_fragment.specs.Arms.{closed};
 ghost use Rattle.rb_match.specs.inner.Clauses.{way_holes};
 ghost use Rattle.rb_fetch.specs.Finding.{leaf_count};
-ghost use Rattle.rb_match.specs.inner.Asking.{AreGroups, IsItself, StandOpen};
-ghost use Rattle.rb_match.specs.inner.Opening.{AsksDeep, CanOpen, LeadsWays, StandsWays, StepsWay};
+ghost use Rattle.rb_match.specs.inner.Asking.{AreGroups, StandOpen};
+ghost use Rattle.rb_match.specs.inner.Opening.{AsksDeep, CanOpen, HasGroupOnward, LeadsFrom, LeadsLeaf, LeadsWays, StepsWay, group_onward, shared_edges};
 
-use crate::asking::{con_of, count_leaves, edge, leaf_link, link_of};
+use crate::asking::{con_of, count_leaves, edge, edge_within, link_of};
 use crate::clauses::holes_of;
 use crate::knowledge::{Edge, Known, Spot, with_known};
 use crate::place::fields_of;
@@ -19,7 +19,7 @@ use crate::threading::node_onward;
 use rb_core::seq::Seq;
 use rb_core::types::ConRef;
 use rb_decide::clause_matrix::number_of;
-use rb_decide::decision_graph::GraphArm;
+use rb_decide::decision_graph::{GraphArm, GraphNode};
 use rb_fetch::look::find_group;
 use rb_fragment::make::make_all;
 use rb_fragment::patch::patch_all;
@@ -41,106 +41,194 @@ fn land_leaf(alloc: Global, body: &mut Body, holes: &[Hole], leaf: usize) -> Res
     Ok(())
 }
 
-// For each field of the part at a position, whether tests need it behind its leaf, which leads to a node.
-fn fields_to_save(
+// Where the values of a leaf lead on from a test. Its leaf is needed where later tests look below the part.
+#[derive(Drop)]
+pub struct Onward {
+    pub node: u32,
+    // for each field, whether later tests need it
+    pub wanted: Seq<bool>,
+    // whether they need some field
+    pub saves: bool,
+}
+
+// Whether some field is wanted.
+fn saves_some(wanted: &[bool]) -> bool {
+    for is in wanted {
+        if *is {
+            return true;
+        }
+    }
+    false
+}
+
+// The node to which what is known leads from one on. Without a graph it stays where it is.
+fn node_from(
     alloc: Global,
     agreed: &Agreed,
     graph: &Whole,
-    con: ConRef,
     known: &[Known],
-    position: &[u32],
-    node: u32,
-) -> Result<Seq<bool>, AllocError> {
-    let types = agreed.covered().program().types.as_slice();
-    let fields = fields_of(types, con);
-    let onward = node_onward(
-        alloc,
-        agreed,
-        graph.ty,
-        graph.pats,
-        graph.nodes,
-        known,
-        node as usize,
-    )?;
-    let wanted = wanted_fields(alloc, graph.nodes, onward, position, fields.len())?;
-    Ok(wanted)
+    node: usize,
+) -> Result<usize, AllocError>
+    ensures { IfOk result (λ end. LeadsFrom agreed.now graph.now known.now node end) }
+{
+    if graph.nodes.is_empty() {
+        return Ok(node);
+    }
+    let (pats, nodes) = (graph.pats, graph.nodes);
+    let end = node_onward(alloc, agreed, graph.ty, pats, nodes, known, node)?;
+    Ok(end)
 }
 
-// The way of one leaf: what other tests need of its fields is saved, and it goes on by an open jump. A leaf of a
-// constructor that can't be here has none.
-fn open_way<'a>(
+// Where values of a leaf lead on; nowhere where none of them can be here.
+fn onward_of<'a>(
     alloc: Global,
-    body: &mut Body,
     agreed: &Agreed,
     graph: &Whole,
     ty: u32,
-    words: &[usize],
-    spots: &[Spot],
+    leaf: usize,
     known: &[Known<'a>],
     position: &&'a [u32],
     arms: &[GraphArm],
     other: Option<u32>,
-    holes: &[Hole],
-    leaf: usize,
-    edges: Seq<Edge<'a>>,
-) -> Result<Seq<Edge<'a>>, AllocError>
-    requires { CanOpen body.old.code holes.now leaf }
-    ensures steps { IfOk result (λ more. StepsWay agreed.now ty words.now spots.now known.now position.now.now
-        arms.now other holes.now leaf body.old edges.entry body.new more) }
+) -> Result<Option<Onward>, AllocError>
+    ensures { IfOk result
+        (λ found. LeadsLeaf agreed.now graph.now ty known.now position.now arms.now other leaf found) }
 {
     let Some(con) = con_of(agreed, ty, leaf) else {
         return Err(AllocError);
     };
     let Some(node) = link_of(arms, other, con) else {
+        return Ok(None);
+    };
+    let facts = with_known(alloc, known, *position, ty, leaf)?;
+    let onward = node_from(alloc, agreed, graph, facts.as_slice(), node as usize)?;
+    let types = agreed.covered().program().types.as_slice();
+    let fields = fields_of(types, ConRef { ty, con });
+    let wanted = wanted_fields(alloc, graph.nodes, onward, *position, fields.len())?;
+    let saves = saves_some(wanted.as_slice());
+    Ok(Some(Onward {
+        node: number_of(onward)?,
+        wanted,
+        saves,
+    }))
+}
+
+// The same of each leaf.
+fn onward_all<'a>(
+    alloc: Global,
+    agreed: &Agreed,
+    graph: &Whole,
+    ty: u32,
+    known: &[Known<'a>],
+    position: &&'a [u32],
+    arms: &[GraphArm],
+    other: Option<u32>,
+) -> Result<Seq<Option<Onward>>, AllocError>
+    ensures { IfOk result (λ all. AreGroups (LeadsLeaf agreed.now graph.now ty known.now position.now arms.now other)
+        (leaf_count agreed.now ty) all) }
+{
+    let mut all = Seq::new(alloc);
+    for leaf in 0..count_leaves(agreed, ty) {
+        all.push(onward_of(alloc, agreed, graph, ty, leaf, known, position, arms, other)?)?;
+    }
+    Ok(all)
+}
+
+// The group of a leaf.
+fn group_of_way(
+    count: usize,
+    leaf: usize,
+    onward: &Option<Onward>,
+) -> Result<Option<u32>, AllocError>
+    ensures { IfOk result (λ group. group ≡ group_onward count leaf onward.now) }
+{
+    match onward {
+        None => Ok(None),
+        Some(onward) => {
+            if onward.saves {
+                return Ok(Some(number_of(leaf)?));
+            }
+            match count.checked_add(onward.node as usize) {
+                None => Err(AllocError),
+                Some(group) => Ok(Some(number_of(group)?)),
+            }
+        }
+    }
+}
+
+// The groups of leaves: a leaf of which fields are saved is one by itself, and all others that lead on to a node are one.
+fn groups_onward(alloc: Global, onward: &[Option<Onward>]) -> Result<Seq<Option<u32>>, AllocError>
+    ensures { IfOk result (λ groups. AreGroups (HasGroupOnward onward.now) (length onward.now) groups) }
+{
+    let count = onward.len();
+    let mut groups = Seq::new(alloc);
+    for leaf in 0..count {
+        groups.push(group_of_way(count, leaf, &onward[leaf])?)?;
+    }
+    Ok(groups)
+}
+
+// The way of a leaf that is a group by itself: what other tests need of its fields is saved, and it goes on by an open
+// jump.
+fn open_way<'a>(
+    alloc: Global,
+    body: &mut Body,
+    agreed: &Agreed,
+    ty: u32,
+    words: &[usize],
+    spots: &[Spot],
+    known: &[Known<'a>],
+    position: &&'a [u32],
+    holes: &[Hole],
+    leaf: usize,
+    onward: &Option<Onward>,
+    edges: Seq<Edge<'a>>,
+) -> Result<Seq<Edge<'a>>, AllocError>
+    requires { CanOpen body.old.code holes.now leaf }
+    ensures steps { IfOk result (λ more. StepsWay agreed.now ty words.now spots.now known.now position.now holes.now leaf
+        onward.now body.old edges.entry body.new more) }
+{
+    let Some(onward) = onward else {
         return Ok(edges);
+    };
+    if !onward.saves {
+        return Ok(edges);
+    }
+    let Some(con) = con_of(agreed, ty, leaf) else {
+        return Err(AllocError);
     };
     let mut edges = edges;
     land_leaf(alloc, body, holes, leaf)?;
     let known = with_known(alloc, known, *position, ty, leaf)?;
     let con = ConRef { ty, con };
-    let wanted = fields_to_save(alloc, agreed, graph, con, known.as_slice(), *position, node)?;
-    let wanted = wanted.as_slice();
+    let wanted = onward.wanted.as_slice();
     let known = save_fields(
         alloc, body, agreed, con, leaf, words, spots, wanted, *position, known,
     )?;
     let pc = body.len();
     body.push(Instr::Jump(pc + 1))?;
-    edges.push(edge(alloc, pc, None, node, known.as_slice())?)?;
+    edges.push(edge(alloc, pc, None, onward.node, known.as_slice())?)?;
     Ok(edges)
 }
 
-// The group of a leaf that can be here.
-fn itself(
-    agreed: &Agreed,
-    ty: u32,
-    leaf: usize,
-    arms: &[GraphArm],
-    other: Option<u32>,
-) -> Result<Option<u32>, AllocError>
-    ensures { IfOk result (λ group. IsItself agreed.now ty arms.now other leaf group) }
-{
-    match leaf_link(agreed, ty, leaf, arms, other)? {
-        None => Ok(None),
-        Some(_) => Ok(Some(number_of(leaf)?)),
-    }
-}
-
-// Each leaf that can be here is a group by itself.
-fn leaves_here(
+// The ways of leaves whose fields are not saved: the holes of their groups themselves.
+fn edges_onward<'a>(
     alloc: Global,
-    agreed: &Agreed,
-    ty: u32,
-    arms: &[GraphArm],
-    other: Option<u32>,
-) -> Result<Seq<Option<u32>>, AllocError>
-    ensures { IfOk result (λ groups. AreGroups (IsItself agreed.now ty arms.now other) (leaf_count agreed.now ty)
-        groups) }
+    nodes: &[GraphNode],
+    holes: &[Hole],
+    count: usize,
+    known: &[Known<'a>],
+) -> Result<Seq<Edge<'a>>, AllocError>
+    ensures { IfOk result (λ edges. edges ≡ shared_edges nodes.now count known.now holes.now) }
 {
-    let mut groups = Seq::new(alloc);
-    for leaf in 0..count_leaves(agreed, ty) {
-        groups.push(itself(agreed, ty, leaf, arms, other)?)?;
+    let mut edges = Seq::new(alloc);
+    for hole in holes {
+        if count <= hole.leaf {
+            let node = number_of(hole.leaf - count)?;
+            edges.push(edge_within(alloc, nodes, hole.pc, hole.arm, node, known)?)?;
+        }
     }
-    Ok(groups)
+    Ok(edges)
 }
 
 // The ways of all leaves, from the slots of the part's words.
@@ -148,36 +236,40 @@ fn open_ways<'a>(
     alloc: Global,
     body: &mut Body,
     agreed: &Agreed,
-    graph: &Whole,
+    nodes: &[GraphNode],
     ty: u32,
     words: &[usize],
     spots: &[Spot],
     known: &[Known<'a>],
     position: &&'a [u32],
-    arms: &[GraphArm],
-    other: Option<u32>,
+    onward: &[Option<Onward>],
 ) -> Result<Seq<Edge<'a>>, AllocError>
-    ensures leads { IfOk result (λ edges. LeadsWays agreed.now ty words.now spots.now known.now position.now.now
-        arms.now other body.old body.new edges) }
-    ensures stands { IfOk result (λ edges. StandsWays body.old body.new edges) }
+    ensures leads { IfOk result (λ edges. LeadsWays agreed.now ty words.now spots.now known.now position.now onward.now
+        body.old body.new edges) }
+    ensures stands { IfOk result (λ edges. StandOpen body.old body.new edges) }
     ensures grows { OnOk result (Grows body.old.code body.new.code) }
 {
-    let groups = leaves_here(alloc, agreed, ty, arms, other)?;
+    let groups = groups_onward(alloc, onward)?;
     let holes = find_group(alloc, body, words, agreed, ty, groups.as_slice())?;
     let holes = holes.as_slice();
     let mut edges = Seq::new(alloc);
-    for leaf in 0..count_leaves(agreed, ty) {
+    for leaf in 0..onward.len() {
+        let way = &onward[leaf];
         edges = open_way(
-            alloc, body, agreed, graph, ty, words, spots, known, position, arms, other, holes,
-            leaf, edges,
+            alloc, body, agreed, ty, words, spots, known, position, holes, leaf, way, edges,
         )?;
     }
-    Ok(edges)
+    let shared = edges_onward(alloc, nodes, holes, onward.len(), known)?;
+    match edges.append(shared) {
+        None => Ok(edges),
+        Some(_) => Err(AllocError),
+    }
 }
 
 /// Code of a test of a data type at a position of a value, which saves those fields of the part there that
-/// have spots and are tested later: it leaves by an edge to the node of the arm that is taken, which carries what is
-/// known there.
+/// have spots and are tested later: it leaves by an edge to a node to which what is known leads on from that of the arm
+/// that is taken, and which carries what is known there. Leaves that lead on to one node are not told apart where
+/// nothing of them is saved.
 ///
 /// # Errors
 ///
@@ -195,24 +287,18 @@ pub fn ask_deep<'a>(
     arms: &[GraphArm],
     other: Option<u32>,
 ) -> Result<Seq<Edge<'a>>, AllocError>
-    ensures asks { IfOk result (λ edges. AsksDeep agreed.now ty spots.now reads.now known.now position.now arms.now
-        other body.old body.new edges) }
+    ensures asks { IfOk result (λ edges. AsksDeep agreed.now graph.now ty spots.now reads.now known.now position.now
+        arms.now other body.old body.new edges) }
     ensures stand { IfOk result (λ edges. StandOpen body.old body.new edges) }
     ensures grows { OnOk result (Grows body.old.code body.new.code) }
 {
+    let onward = onward_all(alloc, agreed, graph, ty, known, &position, arms, other)?;
     let words = make_all(alloc, body, reads)?;
+    let words = words.as_slice();
+    let onward = onward.as_slice();
+    let nodes = graph.nodes;
     let edges = open_ways(
-        alloc,
-        body,
-        agreed,
-        graph,
-        ty,
-        words.as_slice(),
-        spots,
-        known,
-        &position,
-        arms,
-        other,
+        alloc, body, agreed, nodes, ty, words, spots, known, &position, onward,
     )?;
     Ok(edges)
 }

@@ -8,6 +8,7 @@ ghost use Rattle.rb_match.specs.inner.Flowing.{landing_of, others_of, StepsNode,
 
 use crate::asking::{ask, edge};
 use crate::knowledge::{Edge, Spot, node_known};
+use crate::spots::Whole;
 use crate::threading::thread;
 use rb_core::pattern::Pat;
 use rb_core::seq::Seq;
@@ -77,7 +78,7 @@ fn emit_node<'a>(
     words: &[Read],
     pats: &[Pat],
     spots: &[Spot],
-    nodes: &[GraphNode],
+    nodes: &'a [GraphNode],
     node: &'a GraphNode,
     number: usize,
     edges: Seq<Edge<'a>>,
@@ -96,8 +97,9 @@ fn emit_node<'a>(
             let position = position.as_slice();
             let arms = arms.as_slice();
             let mut rest = land(alloc, body, edges, number)?;
+            let graph = Whole { ty, pats, nodes };
             let asked = ask(
-                alloc, body, agreed, ty, words, pats, spots, nodes, known, position, arms, *other,
+                alloc, body, agreed, &graph, words, spots, known, position, arms, *other,
             )?;
             let onward = thread(alloc, agreed, ty, pats, nodes, asked)?;
             match rest.append(onward) {
@@ -130,15 +132,14 @@ fn begin<'a>(
         GraphNode::Test(position, arms, other) => {
             let position = position.as_slice();
             let arms = arms.as_slice();
+            let graph = Whole { ty, pats, nodes };
             let edges = ask(
                 alloc,
                 body,
                 agreed,
-                ty,
+                &graph,
                 words,
-                pats,
                 spots,
-                nodes,
                 &[],
                 position,
                 arms,

@@ -80,6 +80,20 @@ pub fn same_position(a: &[u32], b: &[u32]) -> bool
     a == b
 }
 
+/// What is left of a position behind one that it begins with.
+pub fn position_below<'a>(position: &'a [u32], above: &[u32]) -> Option<&'a [u32]>
+    ensures { IfSome result (λ rest. position.now ≡ above.now ++ rest.now) }
+{
+    let count = above.len();
+    if position.len() < count {
+        return None;
+    }
+    if same_position(&position[..count], above) {
+        return Some(&position[count..]);
+    }
+    None
+}
+
 // The same of one fact of a list.
 fn leaf_at(known: &[Known], place: usize, ty: u32, position: &[u32]) -> Option<usize>
     ensures { IfSome result (λ leaf. FollowsLeaf known.now ty position.now leaf) }

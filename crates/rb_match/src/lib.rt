@@ -45,7 +45,9 @@
 //! a look at a part of such a type *saves* what later tests need ([`deep`]). Before the first node each field at
 //! which some pattern looks is given a *spot*: slots of its own, the same ones whichever leaf it comes from
 //! ([`spots`]). The look finds the leaf; on the way of leaf 1 the field `.1` is taken and copied into its spot, and
-//! an open jump leads on ([`saving`]). Its edge knows one fact more: that this spot holds its part. Where the edges
+//! an open jump leads on ([`saving`]). Of leaf 0 nothing is saved: its edge is the look's own, and if several such leaves
+//! led on to one node, the look would not tell them apart.
+//! The edge of leaf 1 knows one fact more: that this spot holds its part. Where the edges
 //! of several leaves meet, what all of them saved is known, since the spots are the same; so
 //! [`place::place_of`] begins at the nearest saved part at or above a position, and reads fields from there downward.
 //!
@@ -53,6 +55,17 @@
 //! the bound allows a match at such a place. The other half is left to binding, which looks again where a
 //! pattern's constructor has several leaves. Where no leaf takes a field apart there are no spots, no jumps
 //! and no rebuilding, and binding takes no switch.
+//!
+//! # Tests that a leaf decides
+//!
+//! Let a leaf be `T(Some(_, _), _)`, where `Some` has fields of its own, and a pattern `T(Some(B, 3), _)`. The leaf
+//! decides the test of `.0`, but not those of `.0.0` and `.0.1` below it, which want to know where the fields of
+//! `.0` are: that is what a look at `.0` would have told. Where all values of `Some` have one leaf, which takes no
+//! field apart, that leaf is known without a look ([`threading`]), and the edge says so. What stands below is read
+//! from where `T(Some(_, _), _)` has it, if that leaf is known there ([`place`]), so that nothing is put together;
+//! and else from the spot of `.0`. A test that a leaf decides is looked at in two cases only: where another test
+//! stands between, behind which ways of several leaves meet; and where a test below it can be met and its
+//! constructor has several leaves, or one that takes a field apart.
 //!
 //! Where the tree has more than 512 nodes, clauses are tried one by one ([`clauses`]), each by the same
 //! code for the two patterns `p` and `_`; what it doesn't match goes on at the next clause.

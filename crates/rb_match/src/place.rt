@@ -4,7 +4,7 @@ ghost use Rattle.std.specs.Prelude.{◌≡◌, IfOk, IfSome, true};
 ghost use Rattle.rb_core.specs.Typing.{field_types};
 ghost use Rattle.rb_match.specs.inner.Places.{BeginsPlace, FindsPlace, IsFieldOf, IsSpotOf, StepsPlace, IsLookedAt, HasPlace};
 
-use crate::knowledge::{Known, Spot, leaf_known, same_position, saved_known};
+use crate::knowledge::{Known, Spot, leaf_known, position_below, same_position, saved_known};
 use rb_core::pattern::Pat;
 use rb_core::seq::Seq;
 use rb_core::types::{ConRef, DataDecl, Ty};
@@ -123,12 +123,8 @@ fn begin_place(
     })
 }
 
-/// Where the part at a position is, of a value of a type with these words, some of whose parts are saved.
-///
-/// # Errors
-///
-/// Want of memory.
-pub fn place_of(
+// Where the part at a position is, read field by field from the nearest part that is saved, or from the whole value.
+fn place_by_fields(
     alloc: Global,
     agreed: &Agreed,
     ty: Ty,
@@ -145,6 +141,79 @@ pub fn place_of(
     for i in from..position.len() {
         place = step_place(alloc, agreed, &place, known, &position[..i], position[i])?;
     }
+    Ok(place)
+}
+
+// Where a leaf above a position has the part there, of which it is known: it took the parts between them apart.
+fn place_inside(
+    alloc: Global,
+    agreed: &Agreed,
+    ty: Ty,
+    words: &[Read],
+    spots: &[Spot],
+    known: &[Known],
+    i: usize,
+    position: &[u32],
+) -> Result<Option<Place>, AllocError>
+    ensures { IfOk result (λ found. IfSome found
+        (λ place. FindsPlace agreed.now ty words.now spots.now known.now position.now place)) }
+{
+    let Some(fact) = known.get(i) else {
+        return Ok(None);
+    };
+    let Known::Leaf {
+        position: above,
+        ty: of,
+        leaf,
+    } = *fact
+    else {
+        return Ok(None);
+    };
+    let Some(path) = position_below(position, above) else {
+        return Ok(None);
+    };
+    if path.len() < 2 {
+        return Ok(None);
+    }
+    let Some(at) = field_of(agreed, of, leaf, path) else {
+        return Ok(None);
+    };
+    let part = place_by_fields(alloc, agreed, ty, words, spots, known, above)?;
+    let Ty::Named(found) = part.ty else {
+        return Ok(None);
+    };
+    if found != of {
+        return Ok(None);
+    }
+    let reads = field_reads(alloc, agreed, of, leaf, path, part.reads.as_slice())?;
+    Ok(Some(Place { ty: at, reads }))
+}
+
+/// Where the part at a position is, of a value of a type with these words, some of whose parts are saved.
+///
+/// # Errors
+///
+/// Want of memory.
+pub fn place_of(
+    alloc: Global,
+    agreed: &Agreed,
+    ty: Ty,
+    words: &[Read],
+    spots: &[Spot],
+    known: &[Known],
+    position: &[u32],
+) -> Result<Place, AllocError>
+    ensures { IfOk result (λ place. FindsPlace agreed.now ty words.now spots.now known.now position.now place) }
+{
+    if let Some(place) = saved_place(alloc, agreed, spots, known, position)? {
+        return Ok(place);
+    }
+    for i in 0..known.len() {
+        if let Some(place) = place_inside(alloc, agreed, ty, words, spots, known, i, position)? {
+            return Ok(place);
+        }
+    }
+    let place = place_by_fields(alloc, agreed, ty, words, spots, known, position)?;
     Ok(place)
 }
 

@@ -1,11 +1,12 @@
 //! Spots: slots in which parts of a value are saved, so that they are there on all ways.
 
-ghost use Rattle.std.specs.Prelude.{◌≡◌, ◌++◌, ◌∷◌, [], IfOk, OnOk, true, false};
+ghost use Rattle.std.specs.Prelude.{◌≡◌, ◌++◌, ◌∷◌, [], IfOk, OnOk, true, false, nat_eq};
+ghost use Rattle.std.specs.List.{list_any, starts_with};
 ghost use Rattle.rb_target.specs.Growth.{Grows};
 ghost use Rattle.rb_fragment.specs.Slots.{slots_from};
 ghost use Rattle.rb_rel.specs.Switches.{is_shallow};
 ghost use Rattle.rb_match.specs.Bounding.{is_plain};
-ghost use Rattle.rb_match.specs.inner.Saving.{GivesSpots, HasConstructor, Zeroes};
+ghost use Rattle.rb_match.specs.inner.Saving.{GivesSpots, HasConstructor, Zeroes, is_field};
 
 use crate::knowledge::{Spot, same_position};
 use crate::place::fields_of;
@@ -127,17 +128,9 @@ fn add_parts(
     }
 }
 
-/// The parts at which some pattern looks, or below which one does, directly below a part of a type with
-/// a leaf that takes subvalues apart.
-///
-/// # Errors
-///
-/// Want of memory.
-pub fn parts_to_save(
-    alloc: Global,
-    agreed: &Agreed,
-    pats: &[Pat],
-) -> Result<Seq<Wanted>, AllocError> {
+// The parts at which some pattern looks, or below which one does, directly below a part of a type with
+// a leaf that takes subvalues apart.
+fn parts_to_save(alloc: Global, agreed: &Agreed, pats: &[Pat]) -> Result<Seq<Wanted>, AllocError> {
     let mut found = Seq::new(alloc);
     for pat in pats {
         add_parts(alloc, agreed, pat, &[], &mut found)?;
@@ -145,19 +138,20 @@ pub fn parts_to_save(
     Ok(found)
 }
 
+// Whether a position is that of a field of the part at another.
+fn is_field_of(position: &[u32], above: &[u32]) -> bool
+    ensures { result ≡ is_field position.now above.now }
+{
+    position.len() > above.len() && position.len() - above.len() == 1 && is_within(position, above)
+}
+
 /// Whether there is a spot for a field of the part at a position.
-pub fn has_spot_below(spots: &[Spot], position: &[u32]) -> bool {
-    for spot in spots {
-        match spot.position.as_slice() {
-            [] => {}
-            [above @ .., _] => {
-                if same_position(above, position) {
-                    return true;
-                }
-            }
-        }
-    }
-    false
+pub fn has_spot_below(spots: &[Spot], position: &[u32]) -> bool
+    ensures { result ≡ list_any (λ (spot : Spot). is_field spot.position position.now) spots.now }
+{
+    spots
+        .iter()
+        .any(|spot| is_field_of(spot.position.as_slice(), position))
 }
 
 /// A graph of tests, and what it tests: values of a type, for some patterns. Where it has no nodes, all that
@@ -200,12 +194,10 @@ fn mark_links(reached: &mut Seq<bool>, arms: &[GraphArm], other: Option<u32>) {
 }
 
 /// Whether a position is another, or below it.
-pub fn is_within(position: &[u32], above: &[u32]) -> bool {
-    let count = above.len();
-    if position.len() < count {
-        return false;
-    }
-    same_position(&position[..count], above)
+pub fn is_within(position: &[u32], above: &[u32]) -> bool
+    ensures { result ≡ starts_with nat_eq position.now above.now }
+{
+    position.starts_with(above)
 }
 
 // Marks the field of the part at a position at which a test stands, or below which it does. One test is enough, so
@@ -295,5 +287,25 @@ pub fn give_spots(
             slots,
         })?;
     }
+    Ok(spots)
+}
+
+/// Slots for the parts that tests of some patterns may need saved: those at which a pattern looks, or below which one
+/// does, directly below a part of a type with a leaf that takes subvalues apart.
+///
+/// # Errors
+///
+/// Want of memory.
+pub fn give_spots_for(
+    alloc: Global,
+    body: &mut Body,
+    agreed: &Agreed,
+    pats: &[Pat],
+) -> Result<Seq<Spot>, AllocError>
+    ensures gives { IfOk result (λ spots. GivesSpots agreed.now body.old body.new spots) }
+    ensures grows { OnOk result (Grows body.old.code body.new.code) }
+{
+    let parts = parts_to_save(alloc, agreed, pats)?;
+    let spots = give_spots(alloc, body, agreed, parts.as_slice())?;
     Ok(spots)
 }

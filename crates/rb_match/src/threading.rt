@@ -1,12 +1,13 @@
 //! Tests that what is known decides: they need no code, and an edge that leads to one leads on to the node of
-//! its arm. A test stays where one that is not decided looks below it: that one needs the leaf that it finds.
+//! its arm. A test below it needs the leaf that it would have found. Where all values of the constructor there have one
+//! leaf, which takes no field apart, that leaf is known from then on; else the test stays if such a one can be met.
 
-ghost use Rattle.std.specs.Prelude.{◌≡◌, ◌++◌, IfOk, IfSome, true};
-ghost use Rattle.rb_match.specs.inner.Knowing.{AllFollow};
-ghost use Rattle.rb_match.specs.inner.Threading.{Ascend, AreThreaded, HasAt, IsDecided, IsThreaded, LeadsOn, Tells, TellTogether, Threads};
+ghost use Rattle.std.specs.Prelude.{◌≡◌, IfOk, IfSome, OnOk, true};
+ghost use Rattle.rb_match.specs.inner.Threading.{AllFollow, Ascend, AreThreaded, AreWild, BeginsWith, Covers, HasSub, IsAtLeaf, IsDecided, IsFirst, IsLeafOfAll, IsThreaded, IsWild, LeadsOn, ShowTogether, Tells, TellTogether, Threads};
 
 use crate::asking::{link_of, mark_tested_below};
-use crate::knowledge::{Edge, Known, copy_known, same_position};
+use crate::knowledge::{Edge, Known, copy_known, position_below};
+use crate::patterns::are_apart;
 use crate::place::is_looked_at;
 use crate::spots::{marks, set_at};
 use rb_core::pattern::Pat;
@@ -14,42 +15,39 @@ use rb_core::seq::Seq;
 use rb_core::types::{ConRef, Ty};
 use rb_decide::decision_graph::{GraphArm, GraphNode};
 use rb_layout::agreed::Agreed;
+use rb_layout::layout::Leaf;
 use rb_target::body::Hole;
 use std::alloc::{AllocError, Global};
 
-// What is left of a position behind one that it begins with.
-fn position_below<'a>(position: &'a [u32], above: &[u32]) -> Option<&'a [u32]>
-    ensures { IfSome result (λ rest. position.now ≡ above.now ++ rest.now) }
+// What stands in a pattern at a position.
+fn sub_at<'a>(pat: &'a Pat, position: &[u32]) -> Option<&'a Pat>
+    ensures { IfSome result (λ sub. HasSub pat.now position.now sub.now) }
 {
-    let count = above.len();
-    if position.len() < count {
-        return None;
+    let [field, rest @ ..] = position else {
+        return Some(pat);
+    };
+    match pat {
+        Pat::Wild(_) | Pat::Var(_, _) | Pat::Num(_, _) => None,
+        Pat::Con(_, _, subs) => {
+            let sub = subs.get(*field as usize)?;
+            sub_at(sub, rest)
+        }
     }
-    if same_position(&position[..count], above) {
-        return Some(&position[count..]);
-    }
-    None
 }
 
-// The constructor of a pattern at a position.
-fn con_at(pat: &Pat, position: &[u32]) -> Option<ConRef>
-    ensures { IfSome result (λ con. HasAt pat.now position.now con.con) }
+// The constructor with which a pattern begins.
+fn con_of_pat(pat: &Pat) -> Option<ConRef>
+    ensures { IfSome result (λ con. BeginsWith pat.now con.con) }
 {
     match pat {
         Pat::Wild(_) | Pat::Var(_, _) | Pat::Num(_, _) => None,
-        Pat::Con(_, con, subs) => match position {
-            [] => Some(*con),
-            [field, rest @ ..] => {
-                let sub = subs.get(*field as usize)?;
-                con_at(sub, rest)
-            }
-        },
+        Pat::Con(_, con, _) => Some(*con),
     }
 }
 
-// The constructor at a position that a fact tells: that of the provenance of a leaf above.
-fn con_from(agreed: &Agreed, fact: Known, position: &[u32]) -> Option<ConRef>
-    ensures { IfSome result (λ con. Tells agreed.now fact.entry position.now con.con) }
+// What a fact tells of the part at a position: the provenance of a leaf above says what stands there.
+fn sub_from<'a>(agreed: &'a Agreed, fact: Known, position: &[u32]) -> Option<&'a Pat>
+    ensures { IfSome result (λ sub. Tells agreed.now fact.entry position.now sub.now) }
 {
     match fact {
         Known::Saved { .. } => None,
@@ -61,28 +59,35 @@ fn con_from(agreed: &Agreed, fact: Known, position: &[u32]) -> Option<ConRef>
             let rest = position_below(position, above)?;
             let layout = agreed.layouts().get(ty as usize)?;
             let leaf = layout.leaves.get(leaf)?;
-            con_at(&leaf.prov, rest)
+            sub_at(&leaf.prov, rest)
         }
     }
 }
 
 // The same of one fact of a list.
-fn con_by(agreed: &Agreed, known: &[Known], place: usize, position: &[u32]) -> Option<ConRef>
-    ensures { IfSome result (λ con. TellTogether agreed.now known.now position.now con.con) }
+fn sub_by<'a>(
+    agreed: &'a Agreed,
+    known: &[Known],
+    place: usize,
+    position: &[u32],
+) -> Option<&'a Pat>
+    ensures { IfSome result (λ sub. TellTogether agreed.now known.now position.now sub.now) }
 {
     let fact = *known.get(place)?;
-    con_from(agreed, fact, position)
+    sub_from(agreed, fact, position)
 }
 
-// The constructor at a position, where it is known. The last facts are asked first: a leaf that was just found tells
-// most.
-fn con_known(agreed: &Agreed, known: &[Known], position: &[u32]) -> Option<ConRef>
-    ensures { IfSome result (λ con. TellTogether agreed.now known.now position.now con.con) }
+// What is known of the part at a position, where that is its constructor. The last facts are asked first: a leaf that
+// was just found tells most.
+fn sub_known<'a>(agreed: &'a Agreed, known: &[Known], position: &[u32]) -> Option<&'a Pat>
+    ensures { IfSome result (λ sub. TellTogether agreed.now known.now position.now sub.now) }
 {
     let count = known.len();
     for i in 0..count {
-        if let Some(con) = con_by(agreed, known, count - 1 - i, position) {
-            return Some(con);
+        if let Some(sub) = sub_by(agreed, known, count - 1 - i, position) {
+            if con_of_pat(sub).is_some() {
+                return Some(sub);
+            }
         }
     }
     None
@@ -101,7 +106,8 @@ fn decided(
     ensures { IfSome result
         (λ node. IsDecided agreed.now ty pats.now known.now position.now arms.now other node) }
 {
-    let con = con_known(agreed, known, position)?;
+    let sub = sub_known(agreed, known, position)?;
+    let con = con_of_pat(sub)?;
     let types = agreed.covered().program().types.as_slice();
     if is_looked_at(types, ty, pats, position, Ty::Named(con.ty)) {
         return link_of(arms, other, con.con);
@@ -137,55 +143,193 @@ fn is_marked(marks: &[bool], node: usize) -> bool {
     matches!(marks.get(node), Some(true))
 }
 
-// Marks each node from which a test below the position of a node can be met.
-fn mark_below(
-    alloc: Global,
-    nodes: &[GraphNode],
-    node: usize,
-    marks: &mut Seq<bool>,
-) -> Result<(), AllocError> {
-    let Some(GraphNode::Test(position, _, _)) = nodes.get(node) else {
-        return Ok(());
-    };
-    let below = mark_tested_below(alloc, nodes, position.as_slice())?;
+// Leaves that are shown -----------------------------------------------------------------------------
+
+// Whether a pattern matches all values.
+fn is_wild(pat: &Pat) -> bool
+    ensures { result ≡ true → IsWild pat.now }
+{
+    match pat {
+        Pat::Wild(_) => true,
+        Pat::Var(_, _) => true,
+        Pat::Num(_, _) | Pat::Con(_, _, _) => false,
+    }
+}
+
+// Whether each pattern does.
+fn are_wild(pats: &[Pat]) -> bool
+    ensures { result ≡ true → AreWild pats.now }
+{
+    for pat in pats {
+        if !is_wild(pat) {
+            return false;
+        }
+    }
+    true
+}
+
+// Whether a leaf that takes no field apart is that of the constructor with which a pattern begins.
+fn covers(leaf: &Leaf, pat: &Pat) -> bool
+    ensures { result ≡ true → Covers leaf.now.prov pat.now }
+{
+    match &leaf.prov {
+        Pat::Wild(_) | Pat::Var(_, _) | Pat::Num(_, _) => false,
+        Pat::Con(_, con, fields) => match pat {
+            Pat::Wild(_) | Pat::Var(_, _) | Pat::Num(_, _) => false,
+            Pat::Con(_, other, subs) => {
+                if con.con != other.con || fields.len() != subs.len() {
+                    return false;
+                }
+                are_wild(fields.as_slice())
+            }
+        },
+    }
+}
+
+// The first leaf that has a value which a pattern matches, where it covers the pattern.
+fn first_leaf(leaves: &[Leaf], pat: &Pat) -> Option<usize>
+    ensures { IfSome result (λ leaf. IsFirst leaves.now pat.now leaf) }
+{
+    for (i, leaf) in leaves.iter().enumerate() {
+        if covers(leaf, pat) {
+            return Some(i);
+        }
+        if !are_apart(&leaf.prov, pat) {
+            return None;
+        }
+    }
+    None
+}
+
+// The leaf of all values of a type that a pattern matches, where that is one which takes no field apart: no other leaf
+// has its constructor then.
+fn leaf_of_all(agreed: &Agreed, ty: u32, pat: &Pat) -> Option<usize>
+    ensures { IfSome result (λ leaf. IsLeafOfAll agreed.now ty pat.now leaf) }
+{
+    let layout = agreed.layouts().get(ty as usize)?;
+    first_leaf(layout.leaves.as_slice(), pat)
+}
+
+// What is known of a part at a position that a pattern matches: its leaf.
+fn leaf_shown<'a>(agreed: &Agreed, pat: &Pat, position: &'a [u32]) -> Option<Known<'a>>
+    ensures { IfSome result (λ fact. IsAtLeaf agreed.now pat.now position.now fact) }
+{
+    match pat {
+        Pat::Wild(_) | Pat::Var(_, _) | Pat::Num(_, _) => None,
+        Pat::Con(_, con, _) => {
+            let ty = con.ty;
+            let leaf = leaf_of_all(agreed, ty, pat)?;
+            Some(Known::Leaf { position, ty, leaf })
+        }
+    }
+}
+
+// The leaf of the part at a position, where what is known shows it.
+fn shown<'a>(agreed: &Agreed, known: &[Known], position: &'a [u32]) -> Option<Known<'a>>
+    ensures { IfSome result (λ fact. ShowTogether agreed.now known.now fact) }
+{
+    let sub = sub_known(agreed, known, position)?;
+    leaf_shown(agreed, sub, position)
+}
+
+// Nodes ---------------------------------------------------------------------------------------------
+
+// Marks each node that is marked in another list.
+fn mark_all(marks: &mut Seq<bool>, others: &[bool]) {
     for i in 0..marks.len() {
-        if is_marked(below.as_slice(), i) {
+        if is_marked(others, i) {
             set_at(marks, i);
         }
     }
-    Ok(())
 }
 
-/// The node to which what is known leads from one on, over tests that it decides. It is the last one from which no test
-/// can be met that reads from a part which would have been looked at on the way.
+// What is known behind a decided test: the leaf of its part, where a test below it can be met from the next node on.
+// Where that leaf is not shown, each node is marked from which such a test can be met.
+fn pass_over<'a>(
+    alloc: Global,
+    agreed: &Agreed,
+    nodes: &'a [GraphNode],
+    node: usize,
+    next: usize,
+    known: &mut Seq<Known<'a>>,
+    met: &mut Seq<bool>,
+) -> Result<(), AllocError>
+    ensures { OnOk result (AllFollow agreed.now known.old known.new) }
+{
+    let Some(GraphNode::Test(position, _, _)) = nodes.get(node) else {
+        return Ok(());
+    };
+    let position = position.as_slice();
+    let below = mark_tested_below(alloc, nodes, position)?;
+    let below = below.as_slice();
+    if !is_marked(below, next) {
+        return Ok(());
+    }
+    match shown(agreed, known.as_slice(), position) {
+        None => {
+            mark_all(met, below);
+            Ok(())
+        }
+        Some(fact) => {
+            known.push(fact)?;
+            Ok(())
+        }
+    }
+}
+
+/// The node to which what is known leads from one on, over tests that it decides; what they show is known then. It is the
+/// last one from which no test can be met that reads from a part whose leaf a look on the way would have told, where
+/// nothing shows that leaf.
 ///
 /// # Errors
 ///
 /// Want of memory.
-pub fn node_onward(
+pub fn lead_on<'a>(
     alloc: Global,
     agreed: &Agreed,
     ty: Ty,
     pats: &[Pat],
-    nodes: &[GraphNode],
-    known: &[Known],
+    nodes: &'a [GraphNode],
+    known: &mut Seq<Known<'a>>,
     node: usize,
 ) -> Result<usize, AllocError>
-    ensures { IfOk result (λ end. LeadsOn agreed.now ty pats.now nodes.now known.now node end) }
+    ensures leads { IfOk result (λ end. LeadsOn agreed.now ty pats.now nodes.now known.old node end) }
+    ensures known { OnOk result (AllFollow agreed.now known.old known.new) }
 {
     let mut here = node;
     let mut end = node;
     let mut met = marks(alloc, nodes.len(), false)?;
     for _step in 0..nodes.len() {
-        let Some(next) = node_behind(agreed, ty, pats, nodes, known, here) else {
+        let Some(next) = node_behind(agreed, ty, pats, nodes, known.as_slice(), here) else {
             return Ok(end);
         };
-        mark_below(alloc, nodes, here, &mut met)?;
+        pass_over(alloc, agreed, nodes, here, next, known, &mut met)?;
         here = next;
         if !is_marked(met.as_slice(), here) {
             end = here;
         }
     }
+    Ok(end)
+}
+
+/// The node to which what is known leads from one on.
+///
+/// # Errors
+///
+/// Want of memory.
+pub fn node_onward<'a>(
+    alloc: Global,
+    agreed: &Agreed,
+    ty: Ty,
+    pats: &[Pat],
+    nodes: &'a [GraphNode],
+    known: &[Known<'a>],
+    node: usize,
+) -> Result<usize, AllocError>
+    ensures { IfOk result (λ end. LeadsOn agreed.now ty pats.now nodes.now known.now node end) }
+{
+    let mut facts = copy_known(alloc, known)?;
+    let end = lead_on(alloc, agreed, ty, pats, nodes, &mut facts, node)?;
     Ok(end)
 }
 
@@ -209,18 +353,16 @@ fn ascend(edges: &[Edge]) -> bool
 // What an edge to a node carries. At a clause nothing is asked any more, and a long pattern has many edges to one.
 fn carried<'a>(
     alloc: Global,
+    agreed: &Agreed,
     nodes: &[GraphNode],
     node: usize,
-    known: &[Known<'a>],
-) -> Result<Seq<Known<'a>>, AllocError>
-    ensures { IfOk result (λ more. AllFollow known.now more) }
+    known: Seq<Known<'a>>,
+) -> Seq<Known<'a>>
+    ensures { AllFollow agreed.now known.entry result }
 {
     match nodes.get(node) {
-        Some(GraphNode::Test(_, _, _)) => {
-            let more = copy_known(alloc, known)?;
-            Ok(more)
-        }
-        None | Some(GraphNode::Clause(_)) => Ok(Seq::new(alloc)),
+        Some(GraphNode::Test(_, _, _)) => known,
+        None | Some(GraphNode::Clause(_)) => Seq::new(alloc),
     }
 }
 
@@ -230,14 +372,14 @@ fn thread_edge<'a>(
     agreed: &Agreed,
     ty: Ty,
     pats: &[Pat],
-    nodes: &[GraphNode],
+    nodes: &'a [GraphNode],
     edge: &Edge<'a>,
 ) -> Result<Edge<'a>, AllocError>
     ensures { IfOk result (λ e. IsThreaded agreed.now ty pats.now nodes.now edge.now e) }
 {
-    let known = edge.known.as_slice();
-    let leaf = node_onward(alloc, agreed, ty, pats, nodes, known, edge.hole.leaf)?;
-    let known = carried(alloc, nodes, leaf, known)?;
+    let mut facts = copy_known(alloc, edge.known.as_slice())?;
+    let leaf = lead_on(alloc, agreed, ty, pats, nodes, &mut facts, edge.hole.leaf)?;
+    let known = carried(alloc, agreed, nodes, leaf, facts);
     Ok(Edge {
         hole: Hole {
             pc: edge.hole.pc,
@@ -254,7 +396,7 @@ fn thread_each<'a>(
     agreed: &Agreed,
     ty: Ty,
     pats: &[Pat],
-    nodes: &[GraphNode],
+    nodes: &'a [GraphNode],
     edges: &[Edge<'a>],
 ) -> Result<Seq<Edge<'a>>, AllocError>
     ensures { IfOk result (λ more. AreThreaded agreed.now ty pats.now nodes.now edges.now more) }
@@ -277,7 +419,7 @@ pub fn thread<'a>(
     agreed: &Agreed,
     ty: Ty,
     pats: &[Pat],
-    nodes: &[GraphNode],
+    nodes: &'a [GraphNode],
     edges: Seq<Edge<'a>>,
 ) -> Result<Seq<Edge<'a>>, AllocError>
     ensures { IfOk result (λ more. Threads agreed.now ty pats.now nodes.now edges.entry more) }

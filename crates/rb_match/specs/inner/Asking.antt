@@ -41,7 +41,7 @@ use Rattle.rb_match.specs.declared.knowledge.Known.TheVariants as K
 use Rattle.rb_match.specs.declared.knowledge.Spot.{Spot}
 use Rattle.rb_match.specs.Bounding.{choosing_look}
 use Rattle.rb_match.specs.declared.knowledge.Edge.{Edge}
-use Rattle.rb_match.specs.inner.Knowing.{AreKnown, IsEdge, SpotsBelow, seen}
+use Rattle.rb_match.specs.inner.Knowing.{AreKnown, IsEdge, SpotsBelow, View, seen}
 use Rattle.rb_match.specs.inner.Places.{HaveWords, IsLookedAt}
 
 -- Links -----------------------------------------------------------------------------------------
@@ -148,16 +148,10 @@ pub record IsGrouped (agreed : LaidOut) (t : ℕ) (arms : List GraphArm) (other 
   pub itself : Bool
   pub is_group : group ≡ group_for (leaf_count agreed t) itself leaf (take_link arms other (V.Con con []))
 
--- the same where each leaf is a group by itself
-pub record IsItself (agreed : LaidOut) (t : ℕ) (arms : List GraphArm) (other : Option ℕ) (leaf : ℕ) (group : Option ℕ) : Type 0 where
-  pub con : ℕ
-  pub is_con : leaf_con agreed t leaf ≡ Some con
-  pub is_group : group ≡ group_for (leaf_count agreed t) true leaf (take_link arms other (V.Con con []))
-
 -- a list of so many groups, each of its leaf
-pub record AreGroups (IsGroup : ℕ → Option ℕ → Type 0) (count : ℕ) (groups : List (Option ℕ)) : Type 0 where
+pub record AreGroups {A : Type 0} (IsGroup : ℕ → A → Type 0) (count : ℕ) (groups : List A) : Type 0 where
   pub long : length groups ≡ count
-  pub each : (leaf : ℕ) → leaf < count → (group : Option ℕ) × (slice_get groups leaf ≡ Some group) × IsGroup leaf group
+  pub each : (leaf : ℕ) → leaf < count → (group : A) × (slice_get groups leaf ≡ Some group) × IsGroup leaf group
 
 abbrev pub edge_to : List GraphNode → Hole → List Known → Option ℕ → Option Edge
 edge_to nodes h facts None = None
@@ -196,11 +190,10 @@ pub record StandOpen (old new : Sheet) (edges : List Edge) : Type 0 where
   pub are_open : AreOpen (length old.code) new.code edges
   pub one : LeadOneWay edges
 
--- the run goes out by an edge to a node, whatever its target, with what is known there; the first n slots are kept
-pub record LeavesBy (plan : Plan) (final : List Instr) (next : Next) (edges : List Edge) (n most start : ℕ) (s : List ℕ) (w : World) (clean : Bool) (v : Value) (spots : List Spot) (node : ℕ) : Type 0 where
+-- the run goes out by an edge, whatever its target, to a node of which this is so, with what is known there; the first n slots are kept
+pub record LeavesWhere (To : View → ℕ → Type 0) (plan : Plan) (final : List Instr) (next : Next) (edges : List Edge) (n most start : ℕ) (s : List ℕ) (w : World) (clean : Bool) (v : Value) (spots : List Spot) : Type 0 where
   pub edge : Edge
   pub is_edge : IsEdge edge edges
-  pub is_node : edge.hole.leaf ≡ node
   pub target : ℕ
   pub is_target : target_in (slice_get final edge.hole.pc) edge.hole.arm ≡ Some target
   pub slots : List ℕ
@@ -209,6 +202,14 @@ pub record LeavesBy (plan : Plan) (final : List Instr) (next : Next) (edges : Li
   pub keeps : Keeps n s slots
   pub later : IsLater most w world
   pub known : AreKnown (seen plan clean v spots slots w.memory) edge.known
+  pub is_node : To (seen plan clean v spots slots w.memory) edge.hole.leaf
+
+-- to this node
+abbrev pub IsNode : ℕ → View → ℕ → Type 0
+IsNode node view k = k ≡ node
+
+abbrev pub LeavesBy : Plan → List Instr → Next → List Edge → ℕ → ℕ → ℕ → List ℕ → World → Bool → Value → List Spot → ℕ → Type 0
+LeavesBy plan final next edges n most start s w clean v spots node = LeavesWhere (IsNode node) plan final next edges n most start s w clean v spots
 
 -- Tests -----------------------------------------------------------------------------------------
 
@@ -221,13 +222,17 @@ pub record AreSpots (plan : Plan) (n m : ℕ) (spots : List Spot) : Type 0 where
   pub distinct : (k : ℕ) (spot : Spot) → slice_get spots k ≡ Some spot → IsDistinct spot.slots
   pub apart : (j k : ℕ) (a b : Spot) → slice_get spots j ≡ Some a → slice_get spots k ≡ Some b → (j ≡ k → ⊥) → AreApart a.slots b.slots
 
--- over reads of the part that is tested
-pub record AskedAt (plan : Plan) (ty : Ty) (n : ℕ) (spots : List Spot) (reads : List Read) (known : List Known) (position : List ℕ) (arms : List GraphArm) (other : Option ℕ) (old new : Sheet) (edges : List Edge) : Type 0 where
+-- Over reads of the part that is tested: the run leaves by an edge to where the node of the arm that is taken leads.
+pub record AskedThere (To : ℕ → View → ℕ → Type 0) (plan : Plan) (ty : Ty) (n : ℕ) (spots : List Spot) (reads : List Read) (known : List Known) (position : List ℕ) (arms : List GraphArm) (other : Option ℕ) (old new : Sheet) (edges : List Edge) : Type 0 where
   pub adds : Adds plan old new
   pub leaves : (final : List Instr) (callee : Callee) (next : Next) → Law final callee next → Finishes final new.code (holes_of edges) (length old.code) (length new.code)
       → (s : List ℕ) (w : World) (v part : Value) (clean : Bool) (ws : List ℕ) (node : ℕ) → new.slots ≤ length s → IsGood w.memory → AreMeant reads s w.memory ws → Rep plan w.memory clean ty part ws
       → AreKnown (seen plan clean v spots s w.memory) known → part_at v position ≡ Some part → take_link arms other (out-Value part) ≡ Some node
-      → LeavesBy plan final next edges n (choosing_look plan.layouts ty) (length old.code) s w clean v spots node
+      → LeavesWhere (To node) plan final next edges n (choosing_look plan.layouts ty) (length old.code) s w clean v spots
+
+-- to this node itself
+abbrev pub AskedAt : Plan → Ty → ℕ → List Spot → List Read → List Known → List ℕ → List GraphArm → Option ℕ → Sheet → Sheet → List Edge → Type 0
+AskedAt = AskedThere IsNode
 
 abbrev pub AsksNumber : List Read → List Known → List GraphArm → Option ℕ → Sheet → Sheet → List Edge → Type 0
 AsksNumber reads known arms other old new edges =
@@ -240,16 +245,11 @@ AsksLeaf agreed t reads known position arms other old new edges =
     → AskedAt plan (Named t) n spots reads known position arms other old new edges
 
 -- over reads of the whole value
-pub record Asked (plan : Plan) (ty : Ty) (n : ℕ) (words : List Read) (pats : List Pat) (spots : List Spot) (known : List Known) (position : List ℕ) (arms : List GraphArm) (other : Option ℕ) (old new : Sheet) (edges : List Edge) : Type 0 where
+pub record Asked (To : ℕ → View → ℕ → Type 0) (plan : Plan) (ty : Ty) (n : ℕ) (words : List Read) (pats : List Pat) (spots : List Spot) (known : List Known) (position : List ℕ) (arms : List GraphArm) (other : Option ℕ) (old new : Sheet) (edges : List Edge) : Type 0 where
   pub at : Ty
   pub looked : IsLookedAt plan.program.types ty pats position at
   pub adds : Adds plan old new
   pub leaves : (final : List Instr) (callee : Callee) (next : Next) → Law final callee next → Finishes final new.code (holes_of edges) (length old.code) (length new.code)
       → (s : List ℕ) (w : World) (v part : Value) (clean : Bool) (ws : List ℕ) (node : ℕ) → new.slots ≤ length s → IsGood w.memory → AreMeant words s w.memory ws → Rep plan w.memory clean ty v ws
       → AreKnown (seen plan clean v spots s w.memory) known → part_at v position ≡ Some part → take_link arms other (out-Value part) ≡ Some node
-      → LeavesBy plan final next edges n (choosing_look plan.layouts at) (length old.code) s w clean v spots node
-
-abbrev pub Asks : LaidOut → Ty → List Read → List Pat → List Spot → List Known → List ℕ → List GraphArm → Option ℕ → Sheet → Sheet → List Edge → Type 0
-Asks agreed ty words pats spots known position arms other old new edges =
-    (plan : Plan) (n : ℕ) → IsPlanOf agreed plan → AreSpots plan n old.slots spots → AllFit old.slots words → length words ≡ words_of plan ty
-    → Asked plan ty n words pats spots known position arms other old new edges
+      → LeavesWhere (To node) plan final next edges n (choosing_look plan.layouts at) (length old.code) s w clean v spots

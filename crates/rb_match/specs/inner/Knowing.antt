@@ -56,10 +56,6 @@ FollowsLeaf known ty position leaf =
 abbrev pub FollowsSaved : List Known → ℕ → Type 0
 FollowsSaved known k = (at : View) → AreKnown at known → IsSaved at k
 
--- all of one list is known where all of another is
-abbrev pub AllFollow : List Known → List Known → Type 0
-AllFollow known more = (at : View) → AreKnown at known → AreKnown at more
-
 -- a fact is known where either list is
 abbrev pub IsShared : List Known → List Known → Known → Type 0
 IsShared known other x = (at : View) → AreKnown at known ⊎ AreKnown at other → IsKnown at x

@@ -1,6 +1,6 @@
 -- Slots in which parts of a value are saved, and code that saves them.
-use Rattle.std.specs.Prelude.{◌≡◌, ℕ, zero, suc, ◌+◌, ◌<◌, ◌≤◌, ◌⊎◌, List, [], ◌∷◌, Bool, Option, Some, None, length, slice_get, slice_index}
-use Rattle.std.specs.List.{sum_by}
+use Rattle.std.specs.Prelude.{◌≡◌, ℕ, zero, suc, ◌+◌, ◌<◌, ◌≤◌, ◌⊎◌, List, [], ◌∷◌, Bool, Option, Some, None, length, nat_eq, slice_get, slice_index, ◌==◌, ◌&&◌}
+use Rattle.std.specs.List.{starts_with, sum_by}
 use Rattle.rb_core.specs.declared.value.Value.{Value}
 use Rattle.rb_core.specs.declared.types.Ty.{Ty}
 use Rattle.rb_core.specs.declared.types.Ty.TheVariants.{Named}
@@ -51,6 +51,10 @@ GivesSpots agreed old new spots = (plan : Plan) → IsPlanOf agreed plan → Giv
 -- the spot of a part of this type at the position
 abbrev pub IsSpotAt : List Spot → List ℕ → Ty → ℕ → Type 0
 IsSpotAt spots position ty k = (spot : Spot) × (slice_get spots k ≡ Some spot) × (spot.position ≡ position) × (spot.ty ≡ ty)
+
+-- the position is that of a field of the part at the other
+abbrev pub is_field : List ℕ → List ℕ → Bool
+is_field position above = (length position == length above + 1) && starts_with nat_eq position above
 
 -- one of some patterns is a constructor
 abbrev pub HasConstructor : List Pat → Type 0

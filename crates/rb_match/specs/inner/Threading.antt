@@ -1,5 +1,5 @@
 -- Tests that what is known decides: an edge to such a test leads on to the node of its arm.
-use Rattle.std.specs.Prelude.{◌≡◌, ℕ, ◌+◌, ◌≤◌, List, [], ◌∷◌, Bool, Option, Some, true}
+use Rattle.std.specs.Prelude.{◌≡◌, ℕ, ◌+◌, ◌≤◌, List, [], ◌∷◌, Bool, Option, Some, true, slice_get}
 use Rattle.rb_core.specs.declared.value.Value.{Value, out-Value}
 use Rattle.rb_core.specs.declared.value.Value.TheOpen as V
 use Rattle.rb_core.specs.declared.types.Ty.{Ty}
@@ -13,6 +13,9 @@ use Rattle.rb_decide.specs.Trees.{taken}
 use Rattle.rb_bytes.specs.Memory.{Memory}
 use Rattle.rb_target.specs.Sheet.{Sheet}
 use Rattle.rb_layout.specs.declared.agreed.LaidOut.{LaidOut}
+use Rattle.rb_layout.specs.declared.layout.Layout.{Layout}
+use Rattle.rb_layout.specs.declared.layout.Leaf.{Leaf}
+use Rattle.rb_layout.specs.Positions.{layout_of, leaf_from}
 use Rattle.rb_fragment.specs.declared.reads.Read.{Read}
 use Rattle.rb_fragment.specs.Plan.{Plan}
 use Rattle.rb_fetch.specs.Finding.{IsPlanOf}
@@ -20,28 +23,34 @@ use Rattle.rb_match.specs.declared.knowledge.Known.{Known}
 use Rattle.rb_match.specs.declared.knowledge.Edge.{Edge}
 use Rattle.rb_match.specs.declared.knowledge.Spot.{Spot}
 use Rattle.rb_match.specs.Bounding.{Place}
-use Rattle.rb_match.specs.inner.Knowing.{AllFollow, AreKnown, IsKnown, View, seen}
+use Rattle.rb_match.specs.inner.Knowing.{AreKnown, IsKnown, View, seen}
 use Rattle.rb_match.specs.inner.Places.{IsLookedAt}
 use Rattle.rb_match.specs.inner.Asking.{StandOpen, take_link}
 use Rattle.rb_match.specs.inner.Flowing.{IsOn, job_of, looks, tree_at}
 
 -- What facts tell -------------------------------------------------------------------------------
 
--- the part of a value at a position begins with the constructor
-abbrev pub BeginsAt : Value → List ℕ → ℕ → Type 0
-BeginsAt v position c = (part : Value) × (us : List Value) × (part_at v position ≡ Some part) × (out-Value part ≡ V.Con c us)
+-- the pattern matches the part of a value at the position
+abbrev pub MatchesAt : Value → List ℕ → Pat → Type 0
+MatchesAt v position sub = (part : Value) × (part_at v position ≡ Some part) × (matches_of sub part ≡ true)
 
--- that of each value that the pattern matches
-abbrev pub HasAt : Pat → List ℕ → ℕ → Type 0
-HasAt pat position c = (v : Value) → matches_of pat v ≡ true → BeginsAt v position c
+-- that of each value which another pattern matches
+abbrev pub HasSub : Pat → List ℕ → Pat → Type 0
+HasSub pat position sub = (v : Value) → matches_of pat v ≡ true → MatchesAt v position sub
 
 -- that of each value of which the fact is known
-abbrev pub Tells : LaidOut → Known → List ℕ → ℕ → Type 0
-Tells agreed fact position c = (at : View) → IsPlanOf agreed at.plan → IsKnown at fact → BeginsAt at.value position c
+abbrev pub Tells : LaidOut → Known → List ℕ → Pat → Type 0
+Tells agreed fact position sub =
+    (at : View) → IsPlanOf agreed at.plan → IsKnown at fact → MatchesAt at.value position sub
 
 -- or some facts are
-abbrev pub TellTogether : LaidOut → List Known → List ℕ → ℕ → Type 0
-TellTogether agreed known position c = (at : View) → IsPlanOf agreed at.plan → AreKnown at known → BeginsAt at.value position c
+abbrev pub TellTogether : LaidOut → List Known → List ℕ → Pat → Type 0
+TellTogether agreed known position sub =
+    (at : View) → IsPlanOf agreed at.plan → AreKnown at known → MatchesAt at.value position sub
+
+-- each value that the pattern matches begins with the constructor
+abbrev pub BeginsWith : Pat → ℕ → Type 0
+BeginsWith pat c = (v : Value) → matches_of pat v ≡ true → (us : List Value) × (out-Value v ≡ V.Con c us)
 
 -- what is known leads from a test at a place that some pattern looks at to this node
 pub record IsDecided (agreed : LaidOut) (ty : Ty) (pats : List Pat) (known : List Known) (position : List ℕ) (arms : List GraphArm) (other : Option ℕ) (node : ℕ) : Type 0 where
@@ -49,6 +58,41 @@ pub record IsDecided (agreed : LaidOut) (ty : Ty) (pats : List Pat) (known : Lis
   pub looked : IsLookedAt agreed.covered.program.types ty pats position at
   pub takes : (view : View) → IsPlanOf agreed view.plan → AreKnown view known
       → (part : Value) × (part_at view.value position ≡ Some part) × (take_link arms other (out-Value part) ≡ Some node)
+
+-- Leaves that facts show ------------------------------------------------------------------------
+
+-- a pattern that matches all values
+abbrev pub IsWild : Pat → Type 0
+IsWild p = (v : Value) → matches_of p v ≡ true
+
+abbrev pub AreWild : List Pat → Type 0
+AreWild pats = (n : ℕ) (p : Pat) → slice_get pats n ≡ Some p → IsWild p
+
+-- a pattern matches all values that another does
+abbrev pub Covers : Pat → Pat → Type 0
+Covers p q = (v : Value) → matches_of q v ≡ true → matches_of p v ≡ true
+
+-- all values that the pattern matches have this one of some leaves
+abbrev pub IsFirst : List Leaf → Pat → ℕ → Type 0
+IsFirst leaves pat leaf = (v : Value) → matches_of pat v ≡ true → leaf_from leaves v 0 ≡ Some leaf
+
+-- this one of the type's leaves
+abbrev pub IsLeafOfAll : LaidOut → ℕ → Pat → ℕ → Type 0
+IsLeafOfAll agreed t pat leaf =
+    (layout : Layout) × (layout_of agreed.layouts t ≡ Some layout) × IsFirst layout.leaves pat leaf
+
+-- the fact is known of each value whose part at the position the pattern matches
+abbrev pub IsAtLeaf : LaidOut → Pat → List ℕ → Known → Type 0
+IsAtLeaf agreed pat position fact =
+    (at : View) → IsPlanOf agreed at.plan → MatchesAt at.value position pat → IsKnown at fact
+
+-- a fact is known where some others are
+abbrev pub ShowTogether : LaidOut → List Known → Known → Type 0
+ShowTogether agreed known fact = (at : View) → IsPlanOf agreed at.plan → AreKnown at known → IsKnown at fact
+
+-- and each of some facts is
+abbrev pub AllFollow : LaidOut → List Known → List Known → Type 0
+AllFollow agreed known more = (at : View) → IsPlanOf agreed at.plan → AreKnown at known → AreKnown at more
 
 -- Where edges lead ------------------------------------------------------------------------------
 
@@ -63,7 +107,7 @@ LeadsOn agreed ty pats nodes known n m =
 pub record IsThreaded (agreed : LaidOut) (ty : Ty) (pats : List Pat) (nodes : List GraphNode) (old new : Edge) : Type 0 where
   pub pc : new.hole.pc ≡ old.hole.pc
   pub arm : new.hole.arm ≡ old.hole.arm
-  pub known : AllFollow old.known new.known
+  pub known : AllFollow agreed old.known new.known
   pub leads : LeadsOn agreed ty pats nodes old.known old.hole.leaf new.hole.leaf
 
 -- each edge, in their order

@@ -1,4 +1,6 @@
-use Rattle.std.proofs.Common.{length, subst, arith}
+use Rattle.std.proofs.Common.{[], length, refl, subst, arith}
+use Rattle.rb_core.specs.declared.types.Ty.TheVariants.{Named}
+use Rattle.rb_match.specs.declared.spots.Whole.{Whole}
 use Rattle.rb_match.specs.inner.Knowing.{IsCommon}
 use Rattle.rb_match.proofs.Landing.{landing_hole}
 use Rattle.rb_match.proofs.Nodes.{closed_grows}
@@ -11,8 +13,9 @@ land-requires c = λ e i. let s = c.in_ok-edges.ensures.stand.are_open e i in (o
 pub returns-clause-saves : goal.returns-clause-saves
 returns-clause-saves c =
     let common = subst (λ r. IsCommon c.in_ok-edges.edges 0 r) c.in-Some.is (rw c.as_slice.ensures at c.in_ok-known.ensures) in
-    rw c.in_ok-_rest.ensures.code (saves_together c.args.agreed.now c.args.con c.args.words.now c.args.spots.now c.in-Some.known c.args.body.now c.ask_deep.new.body c.in_ok-edges.edges
-    (rw (c.as_slice-reads.ensures, c.in_ok-reads.ensures) at c.in_ok-edges.ensures.asks) c.in_ok-edges.ensures.stand common)
+    let graph : Whole = record { ty = Named c.args.con.ty; pats = record { ref_ptr = (0, 0); now = [] }; nodes = record { ref_ptr = (0, 0); now = [] } } in
+    rw c.in_ok-_rest.ensures.code (saves_together c.args.agreed.now graph c.args.con c.args.words.now c.args.spots.now c.in-Some.known c.args.body.now c.ask_deep.new.body c.in_ok-edges.edges
+    (rw (c.as_slice-reads.ensures, c.in_ok-reads.ensures) at c.in_ok-edges.ensures.asks) refl c.in_ok-edges.ensures.stand common)
 
 pub returns-clause-grows : goal.returns-clause-grows
 returns-clause-grows c =

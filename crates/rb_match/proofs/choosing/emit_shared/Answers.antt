@@ -4,7 +4,7 @@ use Rattle.rb_match.proofs.choosing.emit_shared.Goals as goal
 
 pub returns-clause-takes : goal.returns-clause-takes
 returns-clause-takes c = λ tree unfolds lower.
-    tree_takes c.args.agreed.now c.args.ty c.args.words.now c.args.pats.now c.in_ok-spots.spots tree c.args.graph.now c.args.body.now c.give_spots.new.body c.emit_graph.new.body c.in_ok-holes.holes unfolds lower
+    tree_takes c.args.agreed.now c.args.ty c.args.words.now c.args.pats.now c.in_ok-spots.spots tree c.args.graph.now c.args.body.now c.give_spots_for.new.body c.emit_graph.new.body c.in_ok-holes.holes unfolds lower
     c.in_ok-spots.ensures.gives c.in_ok-spots.ensures.grows c.in_ok-holes.ensures.holes (rw (c.as_slice-nodes.ensures, c.as_slice-spots.ensures) at c.in_ok-holes.ensures.takes)
 
 pub returns-clause-holes : goal.returns-clause-holes

@@ -3,7 +3,7 @@ use Rattle.rb_fragment.proofs.MakingAll.{take_all}
 use Rattle.rb_decide.proofs.Building.{get-same}
 use Rattle.rb_decide.proofs.Moving.{take-next}
 use Rattle.rb_match.specs.inner.Places.{FindsPlace}
-use Rattle.rb_match.proofs.place.place_of.Goals as goal
+use Rattle.rb_match.proofs.place.place_by_fields.Goals as goal
 
 pub loop-i-preserved : goal.loop-i-preserved
 loop-i-preserved c =

@@ -1,8 +1,8 @@
 use Rattle.std.proofs.Common.{length, refl, sym, ap, ◌∙◌}
 use Rattle.std.specs.Prelude.{slice_get}
 use Rattle.std.proofs.lemmas.Option.{slice_get_read}
-use Rattle.rb_match.proofs.Threads.{tells_option}
-use Rattle.rb_match.proofs.threading.con_from.Goals as goal
+use Rattle.rb_match.proofs.Shown.{tells_option}
+use Rattle.rb_match.proofs.threading.sub_from.Goals as goal
 
 pub returns-in_ok-leaf-in-Leaf : goal.returns-in_ok-leaf-in-Leaf
 returns-in_ok-leaf-in-Leaf c =
@@ -10,4 +10,4 @@ returns-in_ok-leaf-in-Leaf c =
     let layout = c.in_ok-layout-in-Leaf.layout.now in
     let known = slice_get_read layouts (length layouts) c.in-Leaf.ty layout refl c.in_ok-layout-in-Leaf.ensures.lookup.3.0 c.in_ok-layout-in-Leaf.ensures.lookup.1 in
     let is_layout = ap (λ ls. slice_get ls c.in-Leaf.ty) (sym c.layouts.ensures.same) ∙ known in
-    rw c.in-Leaf.is (tells_option c.args.agreed.now c.in-Leaf.above c.in-Leaf.ty c.in-Leaf.leaf c.args.position.now c.in_ok-rest-in-Leaf.rest.now layout c.in_ok-leaf-in-Leaf.leaf.now c.con_at.result is_layout (sym c.in_ok-leaf-in-Leaf.ensures.value) c.in_ok-rest-in-Leaf.ensures c.con_at.ensures)
+    rw c.in-Leaf.is (tells_option c.args.agreed.now c.in-Leaf.above c.in-Leaf.ty c.in-Leaf.leaf c.args.position.now c.in_ok-rest-in-Leaf.rest.now layout c.in_ok-leaf-in-Leaf.leaf.now c.sub_at.result is_layout (sym c.in_ok-leaf-in-Leaf.ensures.value) c.in_ok-rest-in-Leaf.ensures c.sub_at.ensures)
