@@ -1,5 +1,5 @@
 -- One instruction of a body and the one that stands for it do alike.
-use Rattle.std.proofs.Common.{◌≡◌, ℕ, ◌+◌, ◌%◌, ◌^◌, ◌<◌, ◌≤◌, Bool, true, false, nat_eq, cond, List, [], ◌∷◌, map, length, Option, Some, None, refl, sym, subst, ap, ◌∙◌, arith}
+use Rattle.std.proofs.Common.{◌≡◌, ℕ, ◌+◌, ◌%◌, ◌^◌, ◌<◌, ◌≤◌, ◌⊎◌, inl, inr, Bool, true, false, nat_eq, cond, List, [], ◌∷◌, map, length, Option, Some, None, refl, sym, subst, ap, ◌∙◌, arith}
 use Rattle.std.proofs.lemmas.List.{length-set, length-map}
 use Rattle.std.proofs.lemmas.List.Elements.{All-head, All-tail}
 use Rattle.std.specs.Prelude.{slice_get, slice_index, slice_set, IfSome, All}
@@ -13,13 +13,16 @@ use Rattle.rb_target.specs.declared.instr.SwitchArm.{SwitchArm}
 use Rattle.rb_target.specs.declared.instr.Instr.{Instr}
 use Rattle.rb_target.specs.declared.instr.Instr.TheVariants.{Const, Copy, Alu, Take, Put, Load, Store, Place, Jump, Switch, Call, Return}
 use Rattle.rb_target.specs.declared.code.CodeFun.{CodeFun}
+use Rattle.rb_trim.specs.declared.fact.Content.{Content}
+use Rattle.rb_trim.specs.declared.fact.Content.TheVariants.{Number, Same, Part, Computed, Loaded}
 use Rattle.rb_trim.specs.declared.fact.Fact.{Fact}
 use Rattle.rb_trim.specs.declared.hints.Hints.{Hints}
 use Rattle.rb_trim.specs.Trimming.{IsNoDearer}
-use Rattle.rb_trim.specs.inner.Facts.{Hold, Turns}
-use Rattle.rb_trim.specs.inner.Moving.{Agree, AreApart, IsDest, IsName, place, place_in, moved_arm, IsMoved, Leads}
+use Rattle.rb_trim.specs.inner.Facts.{IsContent, Hold, Turns}
+use Rattle.rb_trim.specs.inner.Following.{Made, IsTold, Sets}
+use Rattle.rb_trim.specs.inner.Moving.{IsRead, Agree, AreApart, IsDest, IsName, landing, landing_in, moved_arm, Makes, IsWrite, IsRemade, IsPut, IsJumped, IsMoved, Leads}
 use Rattle.rb_trim.proofs.Outcomes.{Near, over_near, near_switched, near_memory, near_of, load_near, store_near, place_near, call_near}
-use Rattle.rb_trim.proofs.Slots.{set_agrees, later, put_agrees, put_long, names_same}
+use Rattle.rb_trim.proofs.Slots.{AgreeOn, Borne, set_agrees, put_agrees, put_long, names_same}
 
 -- two callees, one no dearer, for the words that functions take
 pub record CallsNear (funs : List CodeFun) (new old : Callee) : Type 0 where
@@ -31,11 +34,11 @@ fits_some None ds froms fits = absurd fits
 fits_some (Some f) ds froms fits = (f, refl, fits.1)
 
 -- a moved switch leads where the switch leads
-moved_target : (h : Hints) (arms : List SwitchArm) (other : Option ℕ) (word : ℕ) → target_of (map (λ (arm : SwitchArm). moved_arm h arm) arms) (place_in h other) word ≡ place_in h (target_of arms other word)
+moved_target : (h : Hints) (arms : List SwitchArm) (other : Option ℕ) (word : ℕ) → target_of (map (λ (arm : SwitchArm). moved_arm h arm) arms) (landing_in h other) word ≡ landing_in h (target_of arms other word)
 moved_target h [] other word = refl
 moved_target h (arm ∷ arms) other word =
     let more = moved_target h arms other word in
-    let P : Bool → Type 0 = λ b. cond b (Some (place h arm.target)) (target_of (map (λ (arm : SwitchArm). moved_arm h arm) arms) (place_in h other) word) ≡ place_in h (cond b (Some arm.target) (target_of arms other word)) in
+    let P : Bool → Type 0 = λ b. cond b (Some (landing h arm.target)) (target_of (map (λ (arm : SwitchArm). moved_arm h arm) arms) (landing_in h other) word) ≡ landing_in h (cond b (Some arm.target) (target_of arms other word)) in
     elim (nat_eq arm.number word) as P [ true ↦ refl | false ↦ more ]
 
 led : (P : ℕ → Type 0) (arms : List SwitchArm) (other : Option ℕ) (word t : ℕ) → All (λ (arm : SwitchArm). P arm.target) arms → IfSome other P → target_of arms other word ≡ Some t → P t
@@ -47,28 +50,53 @@ led P (arm ∷ arms) other word t a o e =
       | false ↦ λ h. led P arms other word t (All-tail (λ (arm : SwitchArm). P arm.target) arm arms a) o h
     ]) e
 
-switch_near : (h : Hints) (o : Option ℕ) (word : ℕ) (v w : World) (g k : ℕ → Outcome) → Near v w → ((t : ℕ) → o ≡ Some t → IsNoDearer (g (place h t)) (k t)) → IsNoDearer (after_switch (place_in h o) word v g) (after_switch o word w k)
+switch_near : (h : Hints) (o : Option ℕ) (word : ℕ) (v w : World) (g k : ℕ → Outcome) → Near v w → ((t : ℕ) → o ≡ Some t → IsNoDearer (g (landing h t)) (k t)) → IsNoDearer (after_switch (landing_in h o) word v g) (after_switch o word w k)
 switch_near h None word v w g k n e = over_near (Trapped (Unmatched word)) v w n
 switch_near h (Some t) word v w g k n e = e t refl
 
--- what goes on behind an instruction
-abbrev pub GoesOn : Hints → ℕ → ℕ → ℕ → (ℕ → Type 0) → Next → Next → Instr → List ℕ → World → Type 0
-GoesOn h slots slots' pc P next' next i s w =
-    (t t' : ℕ) (s1 s1' : List ℕ) (w1 w1' : World) → t' ≡ place h t → P t → Turns i s w.memory s1 w1.memory
-    → slots ≤ length s1 → slots' ≤ length s1' → Agree h (pc + 1) s1 s1' → Near w1' w1 → IsNoDearer (next' t' s1' w1') (next t s1 w1)
+sets_one : (i : Instr) (a b : ℕ) → Sets i a → Sets i b → a ≡ b
+sets_one (Const d c) a b e f = sym e ∙ f
+sets_one (Copy d x) a b e f = sym e ∙ f
+sets_one (Alu op n d x y) a b e f = sym e ∙ f
+sets_one (Take d x o l) a b e f = sym e ∙ f
+sets_one (Put d x o l) a b e f = sym e ∙ f
+sets_one (Load d x offset width) a b e f = sym e ∙ f
+sets_one (Store x offset width v) a b e f = absurd e
+sets_one (Place d size align) a b e f = sym e ∙ f
+sets_one (Jump t) a b e f = absurd e
+sets_one (Switch x other arms) a b e f = absurd e
+sets_one (Call g ds froms) a b e f = absurd e
+sets_one (Return froms) a b e f = absurd e
 
-module _ (h : Hints) (apart : AreApart h) (funs : List CodeFun) (results slots slots' pc pc' : ℕ) (facts : List Fact) (new old : Callee) (calls : CallsNear funs new old)
-    (P : ℕ → Type 0) (next' next : Next) (s s' : List ℕ) (v w : World) (near : Near v w) (long : slots ≤ length s) (long' : slots' ≤ length s')
-    (agree : Agree h pc s s') (hold : Hold s w.memory facts) (behind : pc' + 1 ≡ place h (pc + 1)) where
-  onward : Agree h (pc + 1) s s'
-  onward = later h apart pc (pc + 1) s s' (omega arith) agree
+-- where a run goes on: at the instruction behind, or at a target
+abbrev pub Comes : Hints → ℕ → ℕ → (ℕ → Type 0) → (ℕ → Type 0) → ℕ → ℕ → Type 0
+Comes h pc pc' F J t t' = (F t × (t ≡ pc + 1) × (t' ≡ pc' + 1)) ⊎ (J t × (t' ≡ landing h t))
+
+-- what goes on behind an instruction
+abbrev pub GoesFrom : Hints → ℕ → ℕ → ℕ → ℕ → (ℕ → Type 0) → (ℕ → Type 0) → Next → Next → Instr → List ℕ → World → Type 0
+GoesFrom h slots slots' pc pc' F J next' next i s w =
+    (t t' : ℕ) (s1 s1' : List ℕ) (w1 w1' : World) → Comes h pc pc' F J t t' → Turns i s w.memory s1 w1.memory
+    → slots ≤ length s1 → slots' ≤ length s1' → AgreeOn h (Borne h pc i) s1 s1' → Near w1' w1 → IsNoDearer (next' t' s1' w1') (next t s1 w1)
+
+module _ (h : Hints) (apart : AreApart h) (funs : List CodeFun) (body : List Instr) (results slots slots' pc pc' : ℕ) (facts : List Fact) (new old : Callee) (calls : CallsNear funs new old)
+    (F J : ℕ → Type 0) (next' next : Next) (s s' : List ℕ) (v w : World) (near : Near v w) (long : slots ≤ length s) (long' : slots' ≤ length s')
+    (agree : Agree h pc s s') (hold : Hold s w.memory facts) where
+  -- the slots as they are
+  as_is : (i : Instr) → ((k : ℕ) → Sets i k → ⊥) → AgreeOn h (Borne h pc i) s s'
+  as_is i none k (inl read) e = agree k read
+  as_is i none k (inr sets) e = absurd (none k sets)
 
   named : (a a' : ℕ) → IsName h facts pc a a' → slice_index s' a' ≡ slice_index s a
   named a a' name = name.same s s' w.memory agree hold
 
   -- the same word goes to a slot
-  one_set : (d d' x : ℕ) → IsDest h d d' → d < slots → d' < slots' → Agree h (pc + 1) (slice_set s d x) (slice_set s' d' x)
-  one_set d d' x dest lt lt' = set_agrees h apart (pc + 1) d d' x s s' onward dest (omega (arith, lt, long)) (omega (arith, lt', long'))
+  one_set : (i : Instr) (d d' x : ℕ) → Sets i d → IsDest h d d' → d < slots → d' < slots' → AgreeOn h (Borne h pc i) (slice_set s d x) (slice_set s' d' x)
+  one_set i d d' x sets dest lt lt' k borne e =
+      set_agrees h apart (λ n. IsRead h pc n) d d' x s s' (λ n read more. agree n read) dest (omega (arith, lt, long)) (omega (arith, lt', long')) k (one k borne) e
+    where
+      one : (k : ℕ) → Borne h pc i k → IsRead h pc k ⊎ (d ≡ k)
+      one k (inl read) = inl read
+      one k (inr more) = inr (sets_one i d k sets more)
 
   set_long : (d x : ℕ) → slots ≤ length (slice_set s d x)
   set_long d x = omega (arith, long, length-set s d x)
@@ -77,47 +105,80 @@ module _ (h : Hints) (apart : AreApart h) (funs : List CodeFun) (results slots s
   set_long' d x = omega (arith, long', length-set s' d x)
 
   -- one word is written, and no memory
-  writes : (i : Instr) (d d' x y : ℕ) → P (pc + 1) → IsDest h d d' → d < slots → d' < slots' → y ≡ x → Turns i s w.memory (slice_set s d x) w.memory
-      → GoesOn h slots slots' pc P next' next i s w → IsNoDearer (next' (pc' + 1) (slice_set s' d' y) v) (next (pc + 1) (slice_set s d x) w)
-  writes i d d' x y to dest lt lt' e turns go =
+  writes : (i : Instr) (d d' x y : ℕ) → Sets i d → F (pc + 1) → IsDest h d d' → d < slots → d' < slots' → y ≡ x → Turns i s w.memory (slice_set s d x) w.memory
+      → GoesFrom h slots slots' pc pc' F J next' next i s w → IsNoDearer (next' (pc' + 1) (slice_set s' d' y) v) (next (pc + 1) (slice_set s d x) w)
+  writes i d d' x y sets to dest lt lt' e turns go =
       subst (λ z. IsNoDearer (next' (pc' + 1) (slice_set s' d' z) v) (next (pc + 1) (slice_set s d x) w)) (sym e)
-      (go (pc + 1) (pc' + 1) (slice_set s d x) (slice_set s' d' x) w v behind to turns (set_long d x) (set_long' d' x) (one_set d d' x dest lt lt') near)
+      (go (pc + 1) (pc' + 1) (slice_set s d x) (slice_set s' d' x) w v (inl (to, refl, refl)) turns (set_long d x) (set_long' d' x) (one_set i d d' x sets dest lt lt') near)
 
-  pub acts_alike : (i j : Instr) → IsMoved h facts pc i j → SlotsFit slots i → SlotsFit slots' j → CallsFit funs results i → Leads P i pc
-      → GoesOn h slots slots' pc P next' next i s w → IsNoDearer (act j next' new pc' s' v) (act i next old pc s w)
-  acts_alike (Const d c) j m fit fit' call leads go =
-      let f : SlotsFit slots' (Const m.0 c) = subst (λ (k : Instr). SlotsFit slots' k) m.1 fit' in
-      subst (λ (k : Instr). IsNoDearer (act k next' new pc' s' v) (act (Const d c) next old pc s w)) (sym m.1)
-      (writes (Const d c) d m.0 c c leads m.2 fit f refl (refl, refl) go)
-  acts_alike (Copy d a) j m fit fit' call leads go =
-      let f : SlotsFit slots' (Copy m.0 m.1) = subst (λ (k : Instr). SlotsFit slots' k) m.2 fit' in
-      subst (λ (k : Instr). IsNoDearer (act k next' new pc' s' v) (act (Copy d a) next old pc s w)) (sym m.2)
-      (writes (Copy d a) d m.0 (slice_index s a) (slice_index s' m.1) leads m.3 fit.0 f.0 (named a m.1 m.4) (refl, refl) go)
-  acts_alike (Alu op n d a b) j m fit fit' call leads go =
-      let f : SlotsFit slots' (Alu op n m.0 m.1 m.2) = subst (λ (k : Instr). SlotsFit slots' k) m.3 fit' in
-      let e : alu_of op n (slice_index s' m.1) (slice_index s' m.2) ≡ alu_of op n (slice_index s a) (slice_index s b) =
-      ap (λ x. alu_of op n x (slice_index s' m.2)) (named a m.1 m.5) ∙ ap (λ x. alu_of op n (slice_index s a) x) (named b m.2 m.6) in
-      subst (λ (k : Instr). IsNoDearer (act k next' new pc' s' v) (act (Alu op n d a b) next old pc s w)) (sym m.3)
-      (writes (Alu op n d a b) d m.0 (alu_of op n (slice_index s a) (slice_index s b)) (alu_of op n (slice_index s' m.1) (slice_index s' m.2)) leads m.4 fit.0 f.0 e (refl, refl) go)
-  acts_alike (Take d a o l) j m fit fit' call leads go =
-      let f : SlotsFit slots' (Take m.0 m.1 o l) = subst (λ (k : Instr). SlotsFit slots' k) m.2 fit' in
-      subst (λ (k : Instr). IsNoDearer (act k next' new pc' s' v) (act (Take d a o l) next old pc s w)) (sym m.2)
-      (writes (Take d a o l) d m.0 (take_of (slice_index s a) o l) (take_of (slice_index s' m.1) o l) leads m.3 fit.0 f.0 (ap (λ x. take_of x o l) (named a m.1 m.4)) (refl, refl) go)
-  acts_alike (Put d a o l) j m fit fit' call leads go =
+  makes_fit : (c : Content) (d' : ℕ) (j : Instr) → Makes h facts pc c d' j → SlotsFit slots' j → d' < slots'
+  makes_fit (Number n) d' j m fit' = let f : SlotsFit slots' (Const d' n) = subst (λ (k : Instr). SlotsFit slots' k) m fit' in f
+  makes_fit (Same a) d' j m fit' = let f : SlotsFit slots' (Copy d' m.0) = subst (λ (k : Instr). SlotsFit slots' k) m.1 fit' in f.0
+  makes_fit (Part a o l) d' j m fit' = let f : SlotsFit slots' (Take d' m.0 o l) = subst (λ (k : Instr). SlotsFit slots' k) m.1 fit' in f.0
+  makes_fit (Computed op n a b) d' j m fit' = let f : SlotsFit slots' (Alu op n d' m.0 m.1) = subst (λ (k : Instr). SlotsFit slots' k) m.2 fit' in f.0
+  makes_fit (Loaded a offset width) d' j m fit' = absurd m
+
+  -- the new instruction makes the content
+  makes_acts : (c : Content) (d' : ℕ) (j : Instr) (x : ℕ) → Makes h facts pc c d' j → IsContent s w.memory c x → act j next' new pc' s' v ≡ next' (pc' + 1) (slice_set s' d' x) v
+  makes_acts (Number n) d' j x m is =
+      ap (λ (k : Instr). act k next' new pc' s' v) m ∙ ap (λ y. next' (pc' + 1) (slice_set s' d' y) v) (sym is)
+  makes_acts (Same a) d' j x m is =
+      ap (λ (k : Instr). act k next' new pc' s' v) m.1 ∙ ap (λ y. next' (pc' + 1) (slice_set s' d' y) v) (named a m.0 m.2 ∙ sym is)
+  makes_acts (Part a o l) d' j x m is =
+      ap (λ (k : Instr). act k next' new pc' s' v) m.1 ∙ ap (λ y. next' (pc' + 1) (slice_set s' d' y) v) (ap (λ y. take_of y o l) (named a m.0 m.2) ∙ sym is)
+  makes_acts (Computed op n a b) d' j x m is =
+      let e : alu_of op n (slice_index s' m.0) (slice_index s' m.1) ≡ alu_of op n (slice_index s a) (slice_index s b) =
+      ap (λ y. alu_of op n y (slice_index s' m.1)) (named a m.0 m.3) ∙ ap (λ y. alu_of op n (slice_index s a) y) (named b m.1 m.4) in
+      ap (λ (k : Instr). act k next' new pc' s' v) m.2 ∙ ap (λ y. next' (pc' + 1) (slice_set s' d' y) v) (e ∙ sym is)
+  makes_acts (Loaded a offset width) d' j x m is = absurd m
+
+  -- an instruction that is told in other words
+  remade_acts : (i j : Instr) (d x : ℕ) → IsRemade h facts pc i j → F (pc + 1) → SlotsFit slots i → SlotsFit slots' j → Turns i s w.memory (slice_set s d x) w.memory
+      → GoesFrom h slots slots' pc pc' F J next' next i s w → IsNoDearer (act j next' new pc' s' v) (next (pc + 1) (slice_set s d x) w)
+  remade_acts i j d x m to fit fit' turns go =
+      let told : IsTold facts i m.0 = m.1 in
+      let write : IsWrite h facts pc m.0 j = m.2 in
+      let made : Made m.0 slots s (slice_set s d x) w.memory w.memory = told.by slots s (slice_set s d x) w.memory w.memory fit hold turns in
+      let e : act j next' new pc' s' v ≡ next' (pc' + 1) (slice_set s' write.0 made.word) v = makes_acts m.0.content write.0 j made.word write.2 made.is in
+      let turned : Turns i s w.memory (slice_set s m.0.slot made.word) w.memory = subst (λ y. Turns i s w.memory y w.memory) made.slot turns in
+      subst (λ (o : Outcome). IsNoDearer o (next (pc + 1) (slice_set s d x) w)) (sym e)
+      (subst (λ y. IsNoDearer (next' (pc' + 1) (slice_set s' write.0 made.word) v) (next (pc + 1) y w)) (sym made.slot)
+      (writes i m.0.slot write.0 made.word made.word told.sets to write.1 made.within (makes_fit m.0.content write.0 j write.2 fit') refl turned go))
+
+  put_acts : (d a o l : ℕ) (j : Instr) → IsPut h facts pc d a o l j → F (pc + 1) → SlotsFit slots (Put d a o l) → SlotsFit slots' j
+      → GoesFrom h slots slots' pc pc' F J next' next (Put d a o l) s w → IsNoDearer (act j next' new pc' s' v) (act (Put d a o l) next old pc s w)
+  put_acts d a o l j m to fit fit' go =
       let f : SlotsFit slots' (Put m.0 m.1 o l) = subst (λ (k : Instr). SlotsFit slots' k) m.2 fit' in
       let e : put_of (slice_index s' m.0) o l (slice_index s' m.1 % 2 ^ l) ≡ put_of (slice_index s d) o l (slice_index s a % 2 ^ l) =
       ap (λ x. put_of x o l (slice_index s' m.1 % 2 ^ l)) (named d m.0 m.4) ∙ ap (λ x. put_of (slice_index s d) o l (x % 2 ^ l)) (named a m.1 m.5) in
       subst (λ (k : Instr). IsNoDearer (act k next' new pc' s' v) (act (Put d a o l) next old pc s w)) (sym m.2)
-      (writes (Put d a o l) d m.0 (put_of (slice_index s d) o l (slice_index s a % 2 ^ l)) (put_of (slice_index s' m.0) o l (slice_index s' m.1 % 2 ^ l)) leads m.3 fit.0 f.0 e (refl, refl) go)
-  acts_alike (Load d a offset width) j m fit fit' call leads go =
+      (writes (Put d a o l) d m.0 (put_of (slice_index s d) o l (slice_index s a % 2 ^ l)) (put_of (slice_index s' m.0) o l (slice_index s' m.1 % 2 ^ l)) refl to m.3 fit.0 f.0 e (refl, refl) go)
+
+  -- a jump, or the return to which it comes
+  abbrev pub Jumps : ℕ → Instr → Type 0
+  Jumps t j = IsJumped h body t j → J t → IsNoDearer (act j next' new pc' s' v) (next t s w)
+
+  pub acts_alike : (i j : Instr) → IsMoved h facts body pc i j → SlotsFit slots i → SlotsFit slots' j → CallsFit funs results i → Leads F J i pc
+      → ((t : ℕ) → i ≡ Jump t → Jumps t j) → GoesFrom h slots slots' pc pc' F J next' next i s w → IsNoDearer (act j next' new pc' s' v) (act i next old pc s w)
+  acts_alike (Const d c) j m fit fit' call leads jumps go = remade_acts (Const d c) j d c m leads fit fit' (refl, refl) go
+  acts_alike (Copy d a) j m fit fit' call leads jumps go = remade_acts (Copy d a) j d (slice_index s a) m leads fit fit' (refl, refl) go
+  acts_alike (Alu op n d a b) j m fit fit' call leads jumps go =
+      remade_acts (Alu op n d a b) j d (alu_of op n (slice_index s a) (slice_index s b)) m leads fit fit' (refl, refl) go
+  acts_alike (Take d a o l) j m fit fit' call leads jumps go = remade_acts (Take d a o l) j d (take_of (slice_index s a) o l) m leads fit fit' (refl, refl) go
+  acts_alike (Put d a o l) j m fit fit' call leads jumps go =
+      elim m [
+        | inl more ↦ remade_acts (Put d a o l) j d (put_of (slice_index s d) o l (slice_index s a % 2 ^ l)) more leads fit fit' (refl, refl) go
+        | inr more ↦ put_acts d a o l j more leads fit fit' go
+      ]
+  acts_alike (Load d a offset width) j m fit fit' call leads jumps go =
       let f : SlotsFit slots' (Load m.0 m.1 offset width) = subst (λ (k : Instr). SlotsFit slots' k) m.2 fit' in
       let e : load_of v.memory (slice_index s' m.1) offset width ≡ load_of w.memory (slice_index s a) offset width =
       ap (λ x. load_of x (slice_index s' m.1) offset width) near.memory ∙ ap (λ x. load_of w.memory x offset width) (named a m.1 m.4) in
       subst (λ (k : Instr). IsNoDearer (act k next' new pc' s' v) (act (Load d a offset width) next old pc s w)) (sym m.2)
       (subst (λ r. IsNoDearer (after_load r v (λ x. next' (pc' + 1) (slice_set s' m.0 x) v)) (act (Load d a offset width) next old pc s w)) (sym e)
       (load_near (load_of w.memory (slice_index s a) offset width) v w (λ x. next' (pc' + 1) (slice_set s' m.0 x) v) (λ x. next (pc + 1) (slice_set s d x) w) near
-      (λ x is. writes (Load d a offset width) d m.0 x x leads m.3 fit.0 f.0 refl (x, is, refl, refl) go)))
-  acts_alike (Store a offset width k) j m fit fit' call leads go =
+      (λ x is. writes (Load d a offset width) d m.0 x x refl leads m.3 fit.0 f.0 refl (x, is, refl, refl) go)))
+  acts_alike (Store a offset width k) j m fit fit' call leads jumps go =
       let e : store_of v.memory (slice_index s' m.0) offset width (slice_index s' m.1) ≡ store_of w.memory (slice_index s a) offset width (slice_index s k) =
       ap (λ x. store_of x (slice_index s' m.0) offset width (slice_index s' m.1)) near.memory
       ∙ ap (λ x. store_of w.memory x offset width (slice_index s' m.1)) (named a m.0 m.3)
@@ -127,8 +188,8 @@ module _ (h : Hints) (apart : AreApart h) (funs : List CodeFun) (results slots s
       subst (λ (i : Instr). IsNoDearer (act i next' new pc' s' v) (act (Store a offset width k) next old pc s w)) (sym m.2)
       (subst (λ r. IsNoDearer (after_store r.0 (with_memory v r.1) (next' (pc' + 1) s' (with_memory v r.1))) (act (Store a offset width k) next old pc s w)) (sym e)
       (store_near stored.0 (with_memory v stored.1) (with_memory w stored.1) (next' (pc' + 1) s' (with_memory v stored.1)) (next (pc + 1) s (with_memory w stored.1)) n1
-      (go (pc + 1) (pc' + 1) s s' (with_memory w stored.1) (with_memory v stored.1) behind leads refl long long' onward n1)))
-  acts_alike (Place d size align) j m fit fit' call leads go =
+      (go (pc + 1) (pc' + 1) s s' (with_memory w stored.1) (with_memory v stored.1) (inl (leads, refl, refl)) refl long long' (as_is (Store a offset width k) (λ n sets. sets)) n1)))
+  acts_alike (Place d size align) j m fit fit' call leads jumps go =
       let f : SlotsFit slots' (Place m.0 size align) = subst (λ (k : Instr). SlotsFit slots' k) m.1 fit' in
       let e : place_of v.memory size align ≡ place_of w.memory size align = ap (λ x. place_of x size align) near.memory in
       let placed = place_of w.memory size align in
@@ -136,20 +197,19 @@ module _ (h : Hints) (apart : AreApart h) (funs : List CodeFun) (results slots s
       subst (λ (i : Instr). IsNoDearer (act i next' new pc' s' v) (act (Place d size align) next old pc s w)) (sym m.1)
       (subst (λ r. IsNoDearer (after_place r.0 (with_memory v r.1) (λ x. next' (pc' + 1) (slice_set s' m.0 x) (with_memory v r.1))) (act (Place d size align) next old pc s w)) (sym e)
       (place_near placed.0 (with_memory v placed.1) (with_memory w placed.1) (λ x. next' (pc' + 1) (slice_set s' m.0 x) (with_memory v placed.1)) (λ x. next (pc + 1) (slice_set s d x) (with_memory w placed.1)) n1
-      (λ x. go (pc + 1) (pc' + 1) (slice_set s d x) (slice_set s' m.0 x) (with_memory w placed.1) (with_memory v placed.1) behind leads (x, refl) (set_long d x) (set_long' m.0 x) (one_set d m.0 x m.2 fit f) n1)))
-  acts_alike (Jump t) j m fit fit' call leads go =
-      subst (λ (k : Instr). IsNoDearer (act k next' new pc' s' v) (act (Jump t) next old pc s w)) (sym m)
-      (go t (place h t) s s' w v refl leads (refl, refl) long long' onward near)
-  acts_alike (Switch a other arms) j m fit fit' call leads go =
+      (λ x. go (pc + 1) (pc' + 1) (slice_set s d x) (slice_set s' m.0 x) (with_memory w placed.1) (with_memory v placed.1) (inl (leads, refl, refl)) (x, refl) (set_long d x) (set_long' m.0 x)
+      (one_set (Place d size align) d m.0 x refl m.2 fit f) n1)))
+  acts_alike (Jump t) j m fit fit' call leads jumps go = jumps t refl m leads
+  acts_alike (Switch a other arms) j m fit fit' call leads jumps go =
       let x = slice_index s a in
       let n1 = near_switched v w near in
-      let e : target_of (map (λ (arm : SwitchArm). moved_arm h arm) arms) (place_in h other) x ≡ place_in h (target_of arms other x) = moved_target h arms other x in
+      let e : target_of (map (λ (arm : SwitchArm). moved_arm h arm) arms) (landing_in h other) x ≡ landing_in h (target_of arms other x) = moved_target h arms other x in
       subst (λ (k : Instr). IsNoDearer (act k next' new pc' s' v) (act (Switch a other arms) next old pc s w)) (sym m.1)
-      (subst (λ y. IsNoDearer (after_switch (target_of (map (λ (arm : SwitchArm). moved_arm h arm) arms) (place_in h other) y) y (switched v) (λ t. next' t s' (switched v))) (act (Switch a other arms) next old pc s w)) (sym (named a m.0 m.2))
+      (subst (λ y. IsNoDearer (after_switch (target_of (map (λ (arm : SwitchArm). moved_arm h arm) arms) (landing_in h other) y) y (switched v) (λ t. next' t s' (switched v))) (act (Switch a other arms) next old pc s w)) (sym (named a m.0 m.2))
       (subst (λ o. IsNoDearer (after_switch o x (switched v) (λ t. next' t s' (switched v))) (act (Switch a other arms) next old pc s w)) (sym e)
       (switch_near h (target_of arms other x) x (switched v) (switched w) (λ t. next' t s' (switched v)) (λ t. next t s (switched w)) n1
-      (λ t is. go t (place h t) s s' (switched w) (switched v) refl (led P arms other x t leads.1 leads.0 is) (refl, refl) long long' onward n1))))
-  acts_alike (Call g ds froms) j m fit fit' call leads go =
+      (λ t is. go t (landing h t) s s' (switched w) (switched v) (inr (led J arms other x t leads.1 leads.0 is, refl)) (refl, refl) long long' (as_is (Switch a other arms) (λ n sets. sets)) n1))))
+  acts_alike (Call g ds froms) j m fit fit' call leads jumps go =
       let f : SlotsFit slots' (Call g m.0 m.1) = subst (λ (k : Instr). SlotsFit slots' k) m.2 fit' in
       let words = slots_at s froms in
       let e : slots_at s' m.1 ≡ words = names_same h facts pc froms m.1 s s' w.memory agree hold m.4 in
@@ -160,10 +220,10 @@ module _ (h : Hints) (apart : AreApart h) (funs : List CodeFun) (results slots s
       (subst (λ us. IsNoDearer (after_call (new g us v).ended (new g us v).world (λ x. next' (pc' + 1) (put_slots s' m.0 x) (new g us v).world)) (act (Call g ds froms) next old pc s w)) (sym e)
       (subst (λ k. IsNoDearer (after_call k (new g words v).world (λ x. next' (pc' + 1) (put_slots s' m.0 x) (new g words v).world)) (act (Call g ds froms) next old pc s w)) (sym d.ended)
       (call_near (old g words w).ended (new g words v).world (old g words w).world _ _ n1
-      (λ x. go (pc + 1) (pc' + 1) (put_slots s ds x) (put_slots s' m.0 x) (old g words w).world (new g words v).world behind leads (x, refl)
+      (λ x. go (pc + 1) (pc' + 1) (put_slots s ds x) (put_slots s' m.0 x) (old g words w).world (new g words v).world (inl (leads, refl, refl)) (x, refl)
       (omega (arith, long, put_long ds x s)) (omega (arith, long', put_long m.0 x s'))
-      (put_agrees h apart (pc + 1) ds m.0 x s s' slots slots' onward m.3 fit.0 f.0 long long') n1))))
-  acts_alike (Return froms) j m fit fit' call leads go =
+      (put_agrees h apart (Borne h pc (Call g ds froms)) ds m.0 x s s' slots slots' (as_is (Call g ds froms) (λ n sets. sets)) m.3 fit.0 f.0 long long') n1))))
+  acts_alike (Return froms) j m fit fit' call leads jumps go =
       let e : slots_at s' m.0 ≡ slots_at s froms = names_same h facts pc froms m.0 s s' w.memory agree hold m.2 in
       subst (λ (k : Instr). IsNoDearer (act k next' new pc' s' v) (act (Return froms) next old pc s w)) (sym m.1)
       (subst (λ us. IsNoDearer (over (Returned us v.left) v) (act (Return froms) next old pc s w)) (sym e)

@@ -1,21 +1,23 @@
 -- A shorter body is valid, and so are shorter functions together.
-use Rattle.std.proofs.Common.{◌≡◌, ℕ, zero, suc, ◌+◌, ◌-◌, ◌^◌, ◌<◌, inl, inr, List, [], ◌∷◌, ◌++◌, map, length, take, Option, Some, None, refl, sym, subst, ap, ◌∙◌, arith, length-append, get_or}
+use Rattle.std.proofs.Common.{◌≡◌, ◌≢◌, ℕ, zero, suc, ◌+◌, ◌-◌, ◌^◌, ◌<◌, inl, inr, List, [], ◌∷◌, ◌++◌, map, length, take, Option, Some, None, refl, sym, subst, ap, ◌∙◌, arith, length-append, get_or}
 use Rattle.std.proofs.lemmas.Option.{slice_get_within, same_Some}
 use Rattle.std.proofs.lemmas.List.{get_or_default}
 use Rattle.std.proofs.lemmas.List.Elements.{All-head, All-tail, All-cons, All-nil}
-use Rattle.std.specs.Prelude.{slice_get, All}
+use Rattle.std.specs.Prelude.{◌⊎◌, slice_get, All, Contains}
 use Rattle.rb_target.specs.Validity.{IsBounded, CallsFit, FitsCall, IsFine, IsLower, IsValid, IsValidFun}
 use Rattle.rb_target.specs.declared.instr.SwitchArm.{SwitchArm}
 use Rattle.rb_target.specs.declared.instr.Instr.{Instr}
 use Rattle.rb_target.specs.declared.instr.Instr.TheVariants.{Const, Copy, Alu, Take, Put, Load, Store, Place, Jump, Switch, Call, Return}
 use Rattle.rb_target.specs.declared.code.CodeFun.{CodeFun}
 use Rattle.rb_target.proofs.Growing.{below_or, get-append, get-seam}
+use Rattle.rb_trim.specs.declared.fact.Content.{Content}
+use Rattle.rb_trim.specs.declared.fact.Content.TheVariants.{Number, Same, Part, Computed, Loaded}
 use Rattle.rb_trim.specs.declared.fact.Fact.{Fact}
 use Rattle.rb_trim.specs.declared.hints.Hints.{Hints}
 use Rattle.rb_trim.specs.Trimming.{HasSameHead, IsTrimOf}
-use Rattle.rb_trim.specs.inner.Moving.{AreApart, IsApart, KeepParams, KeepsParam, AreDests, AreNames, IsDest, IsName, facts_at, place, moved_arm, IsMoved, IsIdle, IsStep, HaveSameHeads, IsTrimmed}
-use Rattle.rb_trim.specs.inner.Facts.{Follows}
-use Rattle.rb_trim.specs.inner.Stepping.{GoesOnAt, IsKnownOn, Steps, HaveOrigins, Walks, IsFit, AreTrimmed}
+use Rattle.rb_trim.specs.inner.Moving.{AreApart, IsApart, KeepParams, KeepsParam, AreDests, AreNames, IsDest, IsName, dead_at, facts_at, place, end, moved_arm, IsReached, Makes, IsWrite, IsRemade, IsMoved, IsLeftOut, EndsWell, LivesOn, JumpsOn, IsStep, HaveSameHeads, IsTrimmed}
+use Rattle.rb_trim.specs.inner.Stepping.{LivesAt, JumpsOnAt, IsKnownOn, Steps, HaveOrigins, Walks, IsRanged, IsFit, AreTrimmed}
+use Rattle.rb_trim.proofs.Slots.{same_or}
 use Rattle.rb_trim.proofs.Whole.{past, trim_of}
 
 -- Lists of slots
@@ -52,20 +54,32 @@ arms_bounded h (arm ∷ arms) b =
     let P : SwitchArm → Type 0 = λ arm. arm.number < 2 ^ 64 in
     All-cons P (moved_arm h arm) (map (λ (arm : SwitchArm). moved_arm h arm) arms) (All-head P arm arms b) (arms_bounded h arms (All-tail P arm arms b))
 
-module _ (h : Hints) (facts : List Fact) (pc : ℕ) where
-  bounded : (i j : Instr) → IsMoved h facts pc i j → IsBounded i → IsBounded j
-  bounded (Const d c) j m b = subst IsBounded (sym m.1) b
-  bounded (Copy d a) j m b = subst IsBounded (sym m.2) tt
-  bounded (Alu op n d a x) j m b = subst IsBounded (sym m.3) b
-  bounded (Take d a o l) j m b = subst IsBounded (sym m.2) b
-  bounded (Put d a o l) j m b = subst IsBounded (sym m.2) b
-  bounded (Load d a offset width) j m b = subst IsBounded (sym m.2) b
-  bounded (Store a offset width v) j m b = subst IsBounded (sym m.2) b
-  bounded (Place d size align) j m b = subst IsBounded (sym m.1) b
-  bounded (Jump t) j m b = subst IsBounded (sym m) tt
-  bounded (Switch a other arms) j m b = subst IsBounded (sym m.1) (arms_bounded h arms b)
-  bounded (Call f ds froms) j m b = subst IsBounded (sym m.2) tt
-  bounded (Return froms) j m b = subst IsBounded (sym m.1) tt
+module _ (h : Hints) (facts : List Fact) (body : List Instr) (pc : ℕ) where
+  makes_bounded : (c : Content) (d j : ℕ) (k : Instr) → Makes h facts pc c d k → IsRanged k → IsBounded k
+  makes_bounded (Number n) d j k m r = let b : n < 2 ^ 64 = subst IsRanged m r in subst IsBounded (sym m) b
+  makes_bounded (Same a) d j k m r = subst IsBounded (sym m.1) tt
+  makes_bounded (Part a o l) d j k m r = let b : IsRanged (Take d m.0 o l) = subst IsRanged m.1 r in subst IsBounded (sym m.1) b
+  makes_bounded (Computed op n a b) d j k m r = let b : IsRanged (Alu op n d m.0 m.1) = subst IsRanged m.2 r in subst IsBounded (sym m.2) b
+  makes_bounded (Loaded a offset width) d j k m r = absurd m
+
+  remade_bounded : (i j : Instr) → IsRemade h facts pc i j → IsRanged j → IsBounded j
+  remade_bounded i j m r =
+      let write : IsWrite h facts pc m.0 j = m.2 in
+      makes_bounded m.0.content write.0 0 j write.2 r
+
+  bounded : (i j : Instr) → IsMoved h facts body pc i j → IsBounded i → IsRanged j → IsBounded j
+  bounded (Const d c) j m b r = remade_bounded (Const d c) j m r
+  bounded (Copy d a) j m b r = remade_bounded (Copy d a) j m r
+  bounded (Alu op n d a x) j m b r = remade_bounded (Alu op n d a x) j m r
+  bounded (Take d a o l) j m b r = remade_bounded (Take d a o l) j m r
+  bounded (Put d a o l) j m b r = elim m [ inl more ↦ remade_bounded (Put d a o l) j more r | inr more ↦ subst IsBounded (sym more.2) b ]
+  bounded (Load d a offset width) j m b r = subst IsBounded (sym m.2) b
+  bounded (Store a offset width v) j m b r = subst IsBounded (sym m.2) b
+  bounded (Place d size align) j m b r = subst IsBounded (sym m.1) b
+  bounded (Jump t) j m b r = elim m [ inl e ↦ subst IsBounded (sym e) tt | inr back ↦ subst IsBounded (sym back.3) tt ]
+  bounded (Switch a other arms) j m b r = subst IsBounded (sym m.1) (arms_bounded h arms b)
+  bounded (Call f ds froms) j m b r = subst IsBounded (sym m.2) tt
+  bounded (Return froms) j m b r = subst IsBounded (sym m.1) tt
 
   call_moved : (o o' : Option CodeFun) (ds froms ds' froms' : List ℕ) → ((f : CodeFun) → o ≡ Some f → (q : CodeFun) × (o' ≡ Some q) × HasSameHead f q) → FitsCall o ds froms → length ds' ≡ length ds → length froms' ≡ length froms → FitsCall o' ds' froms'
   call_moved None o' ds froms ds' froms' heads fits e g = absurd fits
@@ -73,93 +87,116 @@ module _ (h : Hints) (facts : List Fact) (pc : ℕ) where
       let q = heads f refl in
       subst (λ (k : Option CodeFun). FitsCall k ds' froms') (sym q.1) (e ∙ fits.0 ∙ sym q.2.results, g ∙ fits.1 ∙ sym q.2.params)
 
-  calls : (funs funs' : List CodeFun) (results results' : ℕ) (i j : Instr) → HaveSameHeads funs funs' → results' ≡ results → IsMoved h facts pc i j → CallsFit funs results i → CallsFit funs' results' j
-  calls funs funs' results results' (Const d c) j heads r m c1 = subst (CallsFit funs' results') (sym m.1) tt
-  calls funs funs' results results' (Copy d a) j heads r m c1 = subst (CallsFit funs' results') (sym m.2) tt
-  calls funs funs' results results' (Alu op n d a x) j heads r m c1 = subst (CallsFit funs' results') (sym m.3) tt
-  calls funs funs' results results' (Take d a o l) j heads r m c1 = subst (CallsFit funs' results') (sym m.2) tt
-  calls funs funs' results results' (Put d a o l) j heads r m c1 = subst (CallsFit funs' results') (sym m.2) tt
-  calls funs funs' results results' (Load d a offset width) j heads r m c1 = subst (CallsFit funs' results') (sym m.2) tt
-  calls funs funs' results results' (Store a offset width v) j heads r m c1 = subst (CallsFit funs' results') (sym m.2) tt
-  calls funs funs' results results' (Place d size align) j heads r m c1 = subst (CallsFit funs' results') (sym m.1) tt
-  calls funs funs' results results' (Jump t) j heads r m c1 = subst (CallsFit funs' results') (sym m) tt
-  calls funs funs' results results' (Switch a other arms) j heads r m c1 = subst (CallsFit funs' results') (sym m.1) tt
-  calls funs funs' results results' (Call f ds froms) j heads r m c1 =
-      subst (CallsFit funs' results') (sym m.2)
-      (call_moved (slice_get funs f) (slice_get funs' f) ds froms m.0 m.1 (heads f) c1 (dests_long h ds m.0 m.3) (names_long h facts pc froms m.1 m.4))
-  calls funs funs' results results' (Return froms) j heads r m c1 =
-      subst (CallsFit funs' results') (sym m.1) (names_long h facts pc froms m.0 m.2 ∙ c1 ∙ sym r)
+  module _ (funs funs' : List CodeFun) (results results' : ℕ) (heads : HaveSameHeads funs funs') (same : results' ≡ results)
+      (old : (at : ℕ) (i : Instr) → slice_get body at ≡ Some i → CallsFit funs results i) where
+    makes_calls : (c : Content) (d : ℕ) (k : Instr) → Makes h facts pc c d k → CallsFit funs' results' k
+    makes_calls (Number n) d k m = subst (CallsFit funs' results') (sym m) tt
+    makes_calls (Same a) d k m = subst (CallsFit funs' results') (sym m.1) tt
+    makes_calls (Part a o l) d k m = subst (CallsFit funs' results') (sym m.1) tt
+    makes_calls (Computed op n a b) d k m = subst (CallsFit funs' results') (sym m.2) tt
+    makes_calls (Loaded a offset width) d k m = absurd m
+
+    remade_calls : (i j : Instr) → IsRemade h facts pc i j → CallsFit funs' results' j
+    remade_calls i j m = let write : IsWrite h facts pc m.0 j = m.2 in makes_calls m.0.content write.0 j write.2
+
+    calls : (i j : Instr) → IsMoved h facts body pc i j → CallsFit funs results i → CallsFit funs' results' j
+    calls (Const d c) j m c1 = remade_calls (Const d c) j m
+    calls (Copy d a) j m c1 = remade_calls (Copy d a) j m
+    calls (Alu op n d a x) j m c1 = remade_calls (Alu op n d a x) j m
+    calls (Take d a o l) j m c1 = remade_calls (Take d a o l) j m
+    calls (Put d a o l) j m c1 = elim m [ inl more ↦ remade_calls (Put d a o l) j more | inr more ↦ subst (CallsFit funs' results') (sym more.2) tt ]
+    calls (Load d a offset width) j m c1 = subst (CallsFit funs' results') (sym m.2) tt
+    calls (Store a offset width v) j m c1 = subst (CallsFit funs' results') (sym m.2) tt
+    calls (Place d size align) j m c1 = subst (CallsFit funs' results') (sym m.1) tt
+    calls (Jump t) j m c1 = elim m [
+      | inl e ↦ subst (CallsFit funs' results') (sym e) tt
+      | inr back ↦ subst (CallsFit funs' results') (sym back.3) (names_long h (facts_at h (end h t)) (end h t) back.0 back.1 back.4 ∙ old (end h t) (Return back.0) back.2 ∙ sym same)
+    ]
+    calls (Switch a other arms) j m c1 = subst (CallsFit funs' results') (sym m.1) tt
+    calls (Call f ds froms) j m c1 =
+        subst (CallsFit funs' results') (sym m.2)
+        (call_moved (slice_get funs f) (slice_get funs' f) ds froms m.0 m.1 (heads f) c1 (dests_long h ds m.0 m.3) (names_long h facts pc froms m.1 m.4))
+    calls (Return froms) j m c1 =
+        subst (CallsFit funs' results') (sym m.1) (names_long h facts pc froms m.0 m.2 ∙ c1 ∙ sym same)
 
 -- The walk
 
-module _ (h : Hints) where
-  step_stays : (new more : List Instr) (pc : ℕ) (i : Instr) → IsStep h new pc i → IsStep h (new ++ more) pc i
+module _ (h : Hints) (body : List Instr) where
+  step_stays : (new more : List Instr) (pc : ℕ) (i : Instr) → IsStep h body new pc i → IsStep h body (new ++ more) pc i
   step_stays new more pc i step = record {
     stands = elim step.stands [
       | inl kept ↦ inl (kept.0, get-append new more (place h pc) (slice_get_within new (place h pc) kept.0 kept.1) ∙ kept.1, kept.2, kept.3)
       | inr out ↦ inr out
     ];
+    ends = step.ends;
     known = step.known;
   }
 
-  step_new : (new more : List Instr) (pc : ℕ) (i : Instr) → Steps h pc i new more → IsStep h more pc i
+  step_new : (new more : List Instr) (pc : ℕ) (i : Instr) → Steps h body pc i new more → IsStep h body more pc i
   step_new new more pc i steps = record {
     stands = elim steps.stands [
-      | inl made ↦ inl (made.0, ap (λ l. slice_get l (place h pc)) made.1 ∙ ap (λ n. slice_get (new ++ made.0 ∷ []) n) steps.here ∙ get-seam new made.0 [], made.2, made.3)
+      | inl made ↦ inl (made.instr, ap (λ l. slice_get l (place h pc)) made.more ∙ ap (λ n. slice_get (new ++ made.instr ∷ []) n) made.here ∙ get-seam new made.instr [], made.moved, made.next)
       | inr out ↦ inr out.0
     ];
+    ends = steps.ends;
     known = steps.known;
   }
 
-  step_old : (new more : List Instr) (pc : ℕ) (i : Instr) (at : ℕ) (k : Instr) → Steps h pc i new more → IsStep h new at k → IsStep h more at k
+  step_old : (new more : List Instr) (pc : ℕ) (i : Instr) (at : ℕ) (k : Instr) → Steps h body pc i new more → IsStep h body new at k → IsStep h body more at k
   step_old new more pc i at k steps old =
       elim steps.stands [
-        | inl made ↦ subst (λ l. IsStep h l at k) (sym made.1) (step_stays new (made.0 ∷ []) at k old)
-        | inr out ↦ subst (λ l. IsStep h l at k) (sym out.1) old
+        | inl made ↦ subst (λ l. IsStep h body l at k) (sym made.more) (step_stays new (made.instr ∷ []) at k old)
+        | inr out ↦ subst (λ l. IsStep h body l at k) (sym out.1) old
       ]
 
-  origin_of : (body new : List Instr) (j : Instr) (at : ℕ) (k : Instr) (pc : ℕ) (i : Instr) → HaveOrigins h body new → slice_get body pc ≡ Some i → IsMoved h (facts_at h pc) pc i j → slice_get (new ++ j ∷ []) at ≡ Some k
-      → (pc : ℕ) × (i : Instr) × (slice_get body pc ≡ Some i) × IsMoved h (facts_at h pc) pc i k
-  origin_of body new j at k pc i origins is moved got =
+  origin_of : (new : List Instr) (j : Instr) (at : ℕ) (k : Instr) (pc : ℕ) (i : Instr) → HaveOrigins h body new → slice_get body pc ≡ Some i → IsMoved h (facts_at h pc) body pc i j → slice_get (new ++ j ∷ []) at ≡ Some k
+      → (pc : ℕ) × (i : Instr) × (slice_get body pc ≡ Some i) × IsMoved h (facts_at h pc) body pc i k
+  origin_of new j at k pc i origins is moved got =
       elim (below_or at (length new)) [
         | inl lt ↦ origins at k (sym (get-append new (j ∷ []) at lt) ∙ got)
         | inr le ↦
             let lt : at < length (new ++ j ∷ []) = slice_get_within (new ++ j ∷ []) at k got in
             let here : at ≡ length new = omega (arith, le, lt, length-append new (j ∷ [])) in
             let same : j ≡ k = same_Some j k (sym (get-seam new j []) ∙ sym (ap (λ n. slice_get (new ++ j ∷ []) n) here) ∙ got) in
-            (pc, i, is, subst (λ (x : Instr). IsMoved h (facts_at h pc) pc i x) same moved)
+            (pc, i, is, subst (λ (x : Instr). IsMoved h (facts_at h pc) body pc i x) same moved)
       ]
 
   pub step_kept : (pc : ℕ) (i : Instr) (old new : List Instr) (here next behind : ℕ) (facts : List Fact) (j : Instr) → here ≡ place h pc → next ≡ place h behind → behind ≡ pc + 1 → here ≡ length old → next - here ≡ 1
-      → new ≡ old ++ j ∷ [] → facts ≡ facts_at h pc → IsMoved h facts pc i j → IsKnownOn h pc i → Steps h pc i old new
-  step_kept pc i old new here next behind facts j a b c d e f g m k = record {
-    here = sym a ∙ d;
-    stands = inl (j, f, subst (λ fs. IsMoved h fs pc i j) g m, omega (arith, a, b ∙ ap (λ n. place h n) c, e));
+      → new ≡ old ++ j ∷ [] → facts ≡ facts_at h pc → IsMoved h facts body pc i j → EndsWell h pc i → IsKnownOn h pc i → Steps h body pc i old new
+  step_kept pc i old new here next behind facts j a b c d e f g m ends k = record {
+    stands = inl (record {
+      here = sym a ∙ d;
+      instr = j;
+      more = f;
+      moved = subst (λ fs. IsMoved h fs body pc i j) g m;
+      next = omega (arith, a, b ∙ ap (λ n. place h n) c, e);
+    });
+    ends = ends;
     known = k;
   }
 
-  pub step_out : (pc : ℕ) (i : Instr) (old new : List Instr) (here next behind : ℕ) (facts : List Fact) → here ≡ place h pc → next ≡ place h behind → behind ≡ pc + 1 → here ≡ length old → next ≡ here
-      → new ≡ old → facts ≡ facts_at h pc → IsIdle h facts pc i → IsKnownOn h pc i → Steps h pc i old new
-  step_out pc i old new here next behind facts a b c d e f g m k = record {
-    here = sym a ∙ d;
-    stands = inr ((subst (λ fs. IsIdle h fs pc i) g m, sym (b ∙ ap (λ n. place h n) c) ∙ e ∙ a), f);
+  pub step_out : (pc : ℕ) (i : Instr) (old new : List Instr) (here next behind : ℕ) → here ≡ place h pc → next ≡ place h behind → behind ≡ pc + 1 → next ≡ here
+      → new ≡ old → (IsReached h pc → IsLeftOut h pc i) → EndsWell h pc i → IsKnownOn h pc i → Steps h body pc i old new
+  step_out pc i old new here next behind a b c e f m ends k = record {
+    stands = inr ((m, sym (b ∙ ap (λ n. place h n) c) ∙ e ∙ a), f);
+    ends = ends;
     known = k;
   }
 
-  pub walks_none : (body : List Instr) → Walks h body 0 []
-  walks_none body = record { steps = λ pc i lt is. absurd (omega (arith, lt)); origins = λ at j is. cc }
+  pub walks_none : Walks h body 0 []
+  walks_none = record { steps = λ pc i lt is. absurd (omega (arith, lt)); origins = λ at j is. cc }
 
-  pub walks_more : (body new more : List Instr) (count : ℕ) (i : Instr) → slice_get body count ≡ Some i → Walks h body count new → Steps h count i new more → Walks h body (count + 1) more
-  walks_more body new more count i is walks steps = record {
+  pub walks_more : (new more : List Instr) (count : ℕ) (i : Instr) → slice_get body count ≡ Some i → Walks h body count new → Steps h body count i new more → Walks h body (count + 1) more
+  walks_more new more count i is walks steps = record {
     steps = λ pc k lt got. elim (below_or pc count) [
       | inl low ↦ step_old new more count i pc k steps (walks.steps pc k low got)
       | inr le ↦
           let here : count ≡ pc = omega (arith, le, lt) in
           let same : i ≡ k = same_Some i k (sym is ∙ ap (λ n. slice_get body n) here ∙ got) in
-          subst (λ n. IsStep h more n k) here (subst (λ (x : Instr). IsStep h more count x) same (step_new new more count i steps))
+          subst (λ n. IsStep h body more n k) here (subst (λ (x : Instr). IsStep h body more count x) same (step_new new more count i steps))
     ];
     origins = λ at k got. elim steps.stands [
-      | inl made ↦ origin_of body new made.0 at k count i walks.origins is made.2 (sym (ap (λ l. slice_get l at) made.1) ∙ got)
+      | inl made ↦ origin_of new made.instr at k count i walks.origins is made.moved (sym (ap (λ l. slice_get l at) made.more) ∙ got)
       | inr out ↦ walks.origins at k (sym (ap (λ l. slice_get l at) out.1) ∙ got)
     ];
   }
@@ -173,14 +210,14 @@ module _ (f q : CodeFun) (h : Hints) (head : HasSameHead f q) (walks : Walks h f
       let old = valid.each from.0 from.1 from.2 in
       let each = (fit.each at (slice_get_within q.body at j is)).at j is in
       record {
-        bounded = bounded h (facts_at h from.0) from.0 from.1 j from.3 old.bounded;
+        bounded = bounded h (facts_at h from.0) f.body from.0 from.1 j from.3 old.bounded each.2;
         slots = each.0;
         targets = each.1;
-        calls = calls h (facts_at h from.0) from.0 funs funs' f.results q.results from.1 j heads head.results from.3 old.calls;
+        calls = calls h (facts_at h from.0) f.body from.0 funs funs' f.results q.results heads head.results (λ n k got. (valid.each n k got).calls) from.1 j from.3 old.calls;
       }
 
-  pub trimmed : AreApart h → KeepParams h f.params → place h 0 ≡ 0 → facts_at h 0 ≡ [] → IsTrimmed f q
-  trimmed apart keep begins known = record {
+  pub trimmed : AreApart h → KeepParams h f.params → place h 0 ≡ 0 → facts_at h 0 ≡ [] → IsReached h 0 → IsTrimmed f q
+  trimmed apart keep begins known reached = record {
     head = head;
     valid = λ funs funs' heads valid. record {
       named = subst IsLower (sym head.name) valid.named;
@@ -193,19 +230,45 @@ module _ (f q : CodeFun) (h : Hints) (head : HasSameHead f q) (walks : Walks h f
     hints = h;
     apart = apart;
     params = keep;
-    begins = (begins, known);
+    begins = (begins, known, reached);
     steps = λ pc i is. walks.steps pc i (slice_get_within f.body pc i is) is;
   }
 
 -- The parts of the tests
 
-pub arms_all : (h : Hints) (pc : ℕ) (i : Instr) (arms : List SwitchArm) → ((k : ℕ) → k < length arms → GoesOnAt h pc i arms k) → All (λ (arm : SwitchArm). Follows (facts_at h pc) i (facts_at h arm.target)) arms
+pub arms_all : (h : Hints) (pc : ℕ) (i : Instr) (arms : List SwitchArm) → ((k : ℕ) → k < length arms → JumpsOnAt h pc i arms k) → All (λ (arm : SwitchArm). JumpsOn h pc i arm.target) arms
 arms_all h pc i arms each = λ k d lt. (each k lt).at (get_or arms k d) (get_there arms k d lt)
   where
     get_there : (xs : List SwitchArm) (k : ℕ) (d : SwitchArm) → k < length xs → slice_get xs k ≡ Some (get_or xs k d)
     get_there [] k d lt = absurd (omega (arith, lt))
     get_there (x ∷ xs) zero d lt = refl
     get_there (x ∷ xs) (suc k) d lt = get_there xs k d (omega (arith, lt))
+
+-- a number is one of a list, or is not
+among : (xs : List ℕ) (k : ℕ) → ((i : ℕ) × (slice_get xs i ≡ Some k)) ⊎ (¬ Contains xs k)
+among [] k = inr (λ c. omega (arith, c.1))
+among (x ∷ xs) k = elim (same_or x k) [
+  | inl e ↦ inl (0, ap Some e)
+  | inr ne ↦ elim (among xs k) [
+    | inl found ↦ inl (suc found.0, found.1)
+    | inr none ↦ inr (λ c. beyond c.0 c.1 c.2 ne none)
+  ]
+]
+  where
+    beyond : (i : ℕ) → i < length (x ∷ xs) → get_or (x ∷ xs) i k ≡ k → x ≢ k → ¬ Contains xs k → ⊥
+    beyond zero lt is ne none = ne is
+    beyond (suc i) lt is ne none = none (i, omega (arith, lt), is)
+
+pub all_live : (h : Hints) (pc : ℕ) (i : Instr) (t : ℕ) (slots : List ℕ) → pc < t → slots ≡ dead_at h pc → ((k : ℕ) → k < length slots → LivesAt h slots i t k) → LivesOn h pc i t
+all_live h pc i t slots behind are each = record {
+  by = λ k read. elim (among slots k) [
+    | inl found ↦ elim ((each found.0 (slice_get_within slots found.0 k found.1)).at k found.1) [
+      | inl sets ↦ inr sets
+      | inr unread ↦ absurd (unread.by read)
+    ]
+    | inr none ↦ inl (omega (arith, behind, read.0), subst (λ xs. ¬ Contains xs k) are none)
+  ];
+}
 
 -- the item of a loop
 pub item_is : {A : Type 0} (xs : List A) (k : ℕ) (x : A) → k < length xs → x ≡ get_or xs k x → slice_get xs k ≡ Some x

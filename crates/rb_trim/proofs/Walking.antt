@@ -4,7 +4,8 @@ use Rattle.std.proofs.lemmas.List.{length-set}
 use Rattle.std.proofs.lemmas.Option.{slice_get_within, same_Some}
 use Rattle.std.specs.Prelude.{slice_get, slice_index, slice_set, IfSome}
 use Rattle.rb_bits.specs.Words.{take_of}
-use Rattle.rb_target.specs.Meaning.{World, Outcome, Next, Callee, act, taken, from, alu_of, after_load}
+use Rattle.rb_target.specs.Meaning.{World, Outcome, Next, Callee, act, over, taken, from, alu_of, after_load, slots_at}
+use Rattle.rb_target.specs.declared.outcome.End.TheVariants.{Returned}
 use Rattle.rb_target.specs.Laws.{Law}
 use Rattle.rb_target.specs.Validity.{IsTarget, TargetsFit, EndsInReturn, IsFine, IsValidFun}
 use Rattle.rb_target.specs.declared.instr.Instr.{Instr}
@@ -13,11 +14,12 @@ use Rattle.rb_target.specs.declared.code.CodeFun.{CodeFun}
 use Rattle.rb_trim.specs.declared.fact.Fact.{Fact}
 use Rattle.rb_trim.specs.declared.hints.Hints.{Hints}
 use Rattle.rb_trim.specs.Trimming.{IsNoDearer}
-use Rattle.rb_trim.specs.inner.Facts.{Hold, Turns, Follows}
-use Rattle.rb_trim.specs.inner.Moving.{IsRead, Agree, AreApart, facts_at, place, IsIdle, Leads, IsKept, IsLeftOut, IsStep}
-use Rattle.rb_trim.proofs.Outcomes.{Near, near_taken, near_behind}
-use Rattle.rb_trim.proofs.Slots.{later, set_unread}
-use Rattle.rb_trim.proofs.Acting.{CallsNear, acts_alike}
+use Rattle.rb_trim.specs.inner.Facts.{Hold, Turns}
+use Rattle.rb_trim.specs.inner.Following.{Sets}
+use Rattle.rb_trim.specs.inner.Moving.{IsUnread, IsReached, Agree, AreApart, AreNames, LivesOn, FallsOn, JumpsOn, GoesOn, EndsOn, facts_at, place, end, landing, IsIdle, IsJumped, Leads, IsKept, IsLeftOut, IsSkipped, IsStep}
+use Rattle.rb_trim.proofs.Outcomes.{Near, near_taken, near_behind, over_near}
+use Rattle.rb_trim.proofs.Slots.{AgreeOn, Borne, onward, set_unread, names_same}
+use Rattle.rb_trim.proofs.Acting.{CallsNear, Comes, acts_alike}
 
 get_some : (xs : List Instr) (k : ℕ) → k < length xs → (i : Instr) × (slice_get xs k ≡ Some i)
 get_some [] k lt = absurd (omega (arith, lt))
@@ -40,109 +42,262 @@ module _ (body : List Instr) (ends : EndsInReturn body) (pc : ℕ) (i : Instr) (
       near_end lt = grind arith
 
 -- each place where a run goes on lies behind, within the body
-module _ (h : Hints) (body : List Instr) (ends : EndsInReturn body) (pc : ℕ) (facts : List Fact) where
-  abbrev pub Behind : Instr → ℕ → Type 0
-  Behind i t = (pc < t) × (t < length body) × Follows facts i (facts_at h t)
+module _ (h : Hints) (body : List Instr) (ends : EndsInReturn body) (pc : ℕ) where
+  abbrev pub Falls : Instr → ℕ → Type 0
+  Falls i t = (pc < t) × (t < length body) × FallsOn h pc i t
 
-  other_led : (i : Instr) (other : Option ℕ) → IfSome other (λ t. IsTarget (length body) pc t) → IfSome other (λ t. Follows facts i (facts_at h t)) → IfSome other (Behind i)
+  abbrev pub Jumps : Instr → ℕ → Type 0
+  Jumps i t = (pc < t) × (t < length body) × JumpsOn h pc i t
+
+  other_led : (i : Instr) (other : Option ℕ) → IfSome other (λ t. IsTarget (length body) pc t) → IfSome other (JumpsOn h pc i) → IfSome other (Jumps i)
   other_led i None fit known = fit
   other_led i (Some t) fit known = (fit.0, fit.1, known)
 
-  pub led_behind : (i : Instr) → slice_get body pc ≡ Some i → TargetsFit (length body) pc i → Leads (λ t. Follows facts i (facts_at h t)) i pc → Leads (Behind i) i pc
-  led_behind (Const d c) is fit known = (omega arith, inside body ends pc (Const d c) is (λ froms e. cc), known)
-  led_behind (Copy d a) is fit known = (omega arith, inside body ends pc (Copy d a) is (λ froms e. cc), known)
-  led_behind (Alu op n d a b) is fit known = (omega arith, inside body ends pc (Alu op n d a b) is (λ froms e. cc), known)
-  led_behind (Take d a o l) is fit known = (omega arith, inside body ends pc (Take d a o l) is (λ froms e. cc), known)
-  led_behind (Put d a o l) is fit known = (omega arith, inside body ends pc (Put d a o l) is (λ froms e. cc), known)
-  led_behind (Load d a offset width) is fit known = (omega arith, inside body ends pc (Load d a offset width) is (λ froms e. cc), known)
-  led_behind (Store a offset width v) is fit known = (omega arith, inside body ends pc (Store a offset width v) is (λ froms e. cc), known)
-  led_behind (Place d size align) is fit known = (omega arith, inside body ends pc (Place d size align) is (λ froms e. cc), known)
+  next : (i : Instr) → slice_get body pc ≡ Some i → ((froms : List ℕ) → i ≡ Return froms → ⊥) → FallsOn h pc i (pc + 1) → Falls i (pc + 1)
+  next i is unlike known = (omega arith, inside body ends pc i is unlike, known)
+
+  pub led_behind : (i : Instr) → slice_get body pc ≡ Some i → TargetsFit (length body) pc i → Leads (FallsOn h pc i) (JumpsOn h pc i) i pc → Leads (Falls i) (Jumps i) i pc
+  led_behind (Const d c) is fit known = next (Const d c) is (λ froms e. cc) known
+  led_behind (Copy d a) is fit known = next (Copy d a) is (λ froms e. cc) known
+  led_behind (Alu op n d a b) is fit known = next (Alu op n d a b) is (λ froms e. cc) known
+  led_behind (Take d a o l) is fit known = next (Take d a o l) is (λ froms e. cc) known
+  led_behind (Put d a o l) is fit known = next (Put d a o l) is (λ froms e. cc) known
+  led_behind (Load d a offset width) is fit known = next (Load d a offset width) is (λ froms e. cc) known
+  led_behind (Store a offset width v) is fit known = next (Store a offset width v) is (λ froms e. cc) known
+  led_behind (Place d size align) is fit known = next (Place d size align) is (λ froms e. cc) known
   led_behind (Jump t) is fit known = (fit.0, fit.1, known)
   led_behind (Switch a other arms) is fit known =
       (other_led (Switch a other arms) other fit.0 known.0, λ k d lt. ((fit.1 k d lt).0, (fit.1 k d lt).1, known.1 k d lt))
-  led_behind (Call f ds froms) is fit known = (omega arith, inside body ends pc (Call f ds froms) is (λ froms e. cc), known)
+  led_behind (Call f ds froms) is fit known = next (Call f ds froms) is (λ froms e. cc) known
   led_behind (Return froms) is fit known = tt
 
+-- the forms of what is left out
+module _ (h : Hints) (pc : ℕ) where
+  pub ends_case : (i : Instr) → EndsOn h pc i → ((t : ℕ) × (i ≡ Jump t) × (end h pc ≡ end h t)) ⊎ ((end h pc ≡ end h (pc + 1)) × IsIdle h (facts_at h pc) pc i)
+  ends_case (Const d c) on = inr on
+  ends_case (Copy d a) on = inr on
+  ends_case (Alu op n d a b) on = inr on
+  ends_case (Take d a o l) on = inr on
+  ends_case (Put d a o l) on = inr on
+  ends_case (Load d a offset width) on = inr on
+  ends_case (Store a offset width v) on = inr on
+  ends_case (Place d size align) on = inr on
+  ends_case (Jump t) on = inl (t, refl, on)
+  ends_case (Switch a other arms) on = inr on
+  ends_case (Call f ds froms) on = inr on
+  ends_case (Return froms) on = inr on
+
+  pub left_case : (i : Instr) → IsLeftOut h pc i → ((t : ℕ) × (i ≡ Jump t) × (landing h t ≡ place h pc)) ⊎ IsIdle h (facts_at h pc) pc i
+  left_case (Const d c) on = inr on
+  left_case (Copy d a) on = inr on
+  left_case (Alu op n d a b) on = inr on
+  left_case (Take d a o l) on = inr on
+  left_case (Put d a o l) on = inr on
+  left_case (Load d a offset width) on = inr on
+  left_case (Store a offset width v) on = inr on
+  left_case (Place d size align) on = inr on
+  left_case (Jump t) on = inl (t, refl, on)
+  left_case (Switch a other arms) on = inr on
+  left_case (Call f ds froms) on = inr on
+  left_case (Return froms) on = inr on
+
 -- an instruction that is left out
-module _ (h : Hints) (apart : AreApart h) (slots pc : ℕ) (facts : List Fact) (old : Callee) (P : ℕ → Type 0) (next : Next) (s s' : List ℕ) (w : World) (o : Outcome)
-    (long : slots ≤ length s) (agree : Agree h pc s s') (hold : Hold s w.memory facts) (stay : place h (pc + 1) ≡ place h pc) where
+module _ (h : Hints) (slots pc : ℕ) (facts : List Fact) (old : Callee) (F J : ℕ → Type 0) (next : Next) (s s' : List ℕ) (w : World) (o : Outcome)
+    (long : slots ≤ length s) (agree : Agree h pc s s') (hold : Hold s w.memory facts) where
   abbrev pub PassesOn : Instr → Type 0
-  PassesOn i = (t : ℕ) (s1 : List ℕ) → place h t ≡ place h pc → P t → Turns i s w.memory s1 w.memory → slots ≤ length s1 → Agree h (pc + 1) s1 s' → IsNoDearer o (next t s1 w)
+  PassesOn i = (s1 : List ℕ) → F (pc + 1) → Turns i s w.memory s1 w.memory → slots ≤ length s1 → Agree h (pc + 1) s1 s' → IsNoDearer o (next (pc + 1) s1 w)
 
-  onward : Agree h (pc + 1) s s'
-  onward = later h apart pc (pc + 1) s s' (omega arith) agree
+  passes : (i : Instr) (d x : ℕ) → ((k : ℕ) → Sets i k → d ≡ k) → IsUnread h (pc + 1) d → F (pc + 1) → LivesOn h pc i (pc + 1) → Turns i s w.memory (slice_set s d x) w.memory → PassesOn i
+      → IsNoDearer o (next (pc + 1) (slice_set s d x) w)
+  passes i d x sets unread to lives turns go = go (slice_set s d x) to turns (omega (arith, long, length-set s d x)) (set_unread h pc i (pc + 1) d x s s' agree lives sets unread.by)
 
-  passes : (i : Instr) (d x : ℕ) → ¬ IsRead h (pc + 1) d → P (pc + 1) → Turns i s w.memory (slice_set s d x) w.memory → PassesOn i → IsNoDearer o (next (pc + 1) (slice_set s d x) w)
-  passes i d x unread to turns go = go (pc + 1) (slice_set s d x) stay to turns (omega (arith, long, length-set s d x)) (set_unread h (pc + 1) d x s s' onward unread)
-
-  pub idle_acts : (i : Instr) → IsIdle h facts pc i → Leads P i pc → PassesOn i → IsNoDearer o (act i next old pc s w)
-  idle_acts (Const d c) idle leads go = passes (Const d c) d c idle leads (refl, refl) go
-  idle_acts (Copy d a) idle leads go = passes (Copy d a) d (slice_index s a) idle leads (refl, refl) go
-  idle_acts (Alu op n d a b) idle leads go = passes (Alu op n d a b) d (alu_of op n (slice_index s a) (slice_index s b)) idle leads (refl, refl) go
-  idle_acts (Take d a o1 l) idle leads go = passes (Take d a o1 l) d (take_of (slice_index s a) o1 l) idle leads (refl, refl) go
-  idle_acts (Put d a o1 l) idle leads go = passes (Put d a o1 l) d _ idle leads (refl, refl) go
-  idle_acts (Load d a offset width) idle leads go =
+  pub idle_acts : (i : Instr) → IsIdle h facts pc i → Leads F J i pc → (F (pc + 1) → LivesOn h pc i (pc + 1)) → PassesOn i → IsNoDearer o (act i next old pc s w)
+  idle_acts (Const d c) idle leads lives go = passes (Const d c) d c (λ k e. e) idle leads (lives leads) (refl, refl) go
+  idle_acts (Copy d a) idle leads lives go = passes (Copy d a) d (slice_index s a) (λ k e. e) idle leads (lives leads) (refl, refl) go
+  idle_acts (Alu op n d a b) idle leads lives go = passes (Alu op n d a b) d (alu_of op n (slice_index s a) (slice_index s b)) (λ k e. e) idle leads (lives leads) (refl, refl) go
+  idle_acts (Take d a o1 l) idle leads lives go = passes (Take d a o1 l) d (take_of (slice_index s a) o1 l) (λ k e. e) idle leads (lives leads) (refl, refl) go
+  idle_acts (Put d a o1 l) idle leads lives go = passes (Put d a o1 l) d _ (λ k e. e) idle leads (lives leads) (refl, refl) go
+  idle_acts (Load d a offset width) idle leads lives go =
       let x = idle.1.by s w.memory hold in
       subst (λ r. IsNoDearer o (after_load r w (λ y. next (pc + 1) (slice_set s d y) w))) (sym x.1)
-      (passes (Load d a offset width) d x.0 idle.0 leads (x.0, x.1, refl, refl) go)
-  idle_acts (Store a offset width v) idle leads go = absurd idle
-  idle_acts (Place d size align) idle leads go = absurd idle
-  idle_acts (Jump t) idle leads go = go t s idle leads (refl, refl) long onward
-  idle_acts (Switch a other arms) idle leads go = absurd idle
-  idle_acts (Call f ds froms) idle leads go = absurd idle
-  idle_acts (Return froms) idle leads go = absurd idle
+      (passes (Load d a offset width) d x.0 (λ k e. e) idle.0 leads (lives leads) (x.0, x.1, refl, refl) go)
+  idle_acts (Store a offset width v) idle leads lives go = absurd idle
+  idle_acts (Place d size align) idle leads lives go = absurd idle
+  idle_acts (Jump t) idle leads lives go = absurd idle
+  idle_acts (Switch a other arms) idle leads lives go = absurd idle
+  idle_acts (Call f ds froms) idle leads lives go = absurd idle
+  idle_acts (Return froms) idle leads lives go = absurd idle
 
 module _ (funs funs' : List CodeFun) (f q : CodeFun) (valid : IsValidFun funs f) (valid' : IsValidFun funs' q) (h : Hints) (apart : AreApart h)
-    (steps : (pc : ℕ) (i : Instr) → slice_get f.body pc ≡ Some i → IsStep h q.body pc i)
+    (steps : (pc : ℕ) (i : Instr) → slice_get f.body pc ≡ Some i → IsStep h f.body q.body pc i)
     (new old : Callee) (calls : CallsNear funs new old) (law : Law f.body old (from f.body old)) (law' : Law q.body new (from q.body new)) where
+  abbrev pub F : ℕ → Instr → ℕ → Type 0
+  F pc i t = Falls h f.body valid.ends pc i t
+
+  abbrev pub J : ℕ → Instr → ℕ → Type 0
+  J pc i t = Jumps h f.body valid.ends pc i t
+
+  led : (pc : ℕ) (i : Instr) → slice_get f.body pc ≡ Some i → Leads (F pc i) (J pc i) i pc
+  led pc i is = led_behind h f.body valid.ends pc i is (valid.each pc i is).targets (steps pc i is).known
+
+  -- what holds behind an instruction holds at a place behind it
+  holds_on : (pc : ℕ) (i : Instr) (t : ℕ) → slice_get f.body pc ≡ Some i → GoesOn h pc i t → (s s1 : List ℕ) (w w1 : World) → f.slots ≤ length s → Hold s w.memory (facts_at h pc)
+      → Turns i s w.memory s1 w1.memory → Hold s1 w1.memory (facts_at h t)
+  holds_on pc i t is goes s s1 w w1 long hold turns = goes.follows.by f.slots s s1 w.memory w1.memory long (valid.each pc i is).slots hold turns
+
+  jump_borne : (pc t : ℕ) (s s' : List ℕ) → Agree h pc s s' → AgreeOn h (Borne h pc (Jump t)) s s'
+  jump_borne pc t s s' agree k (inl read) e = agree k read
+  jump_borne pc t s s' agree k (inr sets) e = absurd sets
+
+  -- what the new code does from slots and a world on, whatever it is, is done from the end of an instruction on
+  abbrev pub AtEnd : ℕ → List ℕ → World → Outcome → Type 0
+  AtEnd u s' v o = (s : List ℕ) (w : World) → Near v w → f.slots ≤ length s → Agree h u s s' → Hold s w.memory (facts_at h u) → IsNoDearer o (from f.body old u s w)
+
+  abbrev pub Passes : ℕ → Type 0
+  Passes pc = (pc ≤ end h pc) × (end h pc < length f.body) × ((s' : List ℕ) (v : World) (o : Outcome) → AtEnd (end h pc) s' v o → AtEnd pc s' v o)
+
+  pass_jump : (pc t : ℕ) → slice_get f.body pc ≡ Some (Jump t) → (s' : List ℕ) (v : World) (o : Outcome) → AtEnd t s' v o → AtEnd pc s' v o
+  pass_jump pc t is s' v o go s w near long agree hold =
+      let to : J pc (Jump t) t = led pc (Jump t) is in
+      subst (λ (p : Outcome). IsNoDearer o p) (sym (law.step pc (Jump t) s w is))
+      (go s (taken w) (near_behind v w near) long (onward h pc (Jump t) t s s' to.2.on.lives (jump_borne pc t s s' agree))
+      (holds_on pc (Jump t) t is to.2.on s s w (taken w) long hold (refl, refl)))
+
+  pass_idle : (pc : ℕ) (i : Instr) → slice_get f.body pc ≡ Some i → IsIdle h (facts_at h pc) pc i → (s' : List ℕ) (v : World) (o : Outcome) → AtEnd (pc + 1) s' v o → AtEnd pc s' v o
+  pass_idle pc i is idle s' v o go s w near long agree hold =
+      subst (λ (p : Outcome). IsNoDearer o p) (sym (law.step pc i s w is))
+      (idle_acts h f.slots pc (facts_at h pc) old (F pc i) (J pc i) (from f.body old) s s' (taken w) o long agree hold i idle (led pc i is)
+      (λ to. to.2.on.lives)
+      (λ s1 to turns long1 agree1. go s1 (taken w) (near_behind v w near) long1 agree1 (holds_on pc i (pc + 1) is to.2.on s s1 w (taken w) long hold turns)))
+
+  from_end : (pc t : ℕ) → pc < t → Passes t → end h pc ≡ end h t → ((s' : List ℕ) (v : World) (o : Outcome) → AtEnd t s' v o → AtEnd pc s' v o) → Passes pc
+  from_end pc t lt rest e pass = (
+    omega (arith, lt, rest.0, e),
+    omega (arith, rest.1, e),
+    λ s' v o go. pass s' v o (rest.2 s' v o (subst (λ u. AtEnd u s' v o) e go)),
+  )
+
+  passing : (pc : ℕ) (i : Instr) → slice_get f.body pc ≡ Some i → ((t : ℕ) → pc < t → t < length f.body → Passes t) → Passes pc
+  passing pc i is rest =
+      elim (steps pc i is).ends [
+        | inl e ↦ (omega (arith, e), subst (λ u. u < length f.body) (sym e) (slice_get_within f.body pc i is), λ s' v o go. subst (λ u. AtEnd u s' v o) e go)
+        | inr on ↦ elim (ends_case h pc i on) [
+          | inl jump ↦
+              let is' : slice_get f.body pc ≡ Some (Jump jump.0) = is ∙ ap Some jump.1 in
+              let to : J pc (Jump jump.0) jump.0 = led pc (Jump jump.0) is' in
+              from_end pc jump.0 to.0 (rest jump.0 to.0 to.1) jump.2 (pass_jump pc jump.0 is')
+          | inr idle ↦
+              let lt : pc + 1 < length f.body = within_next pc i is idle.1 in
+              from_end pc (pc + 1) (omega arith) (rest (pc + 1) (omega arith) lt) idle.0 (pass_idle pc i is idle.1)
+        ]
+      ]
+    where
+      within_next : (pc : ℕ) (i : Instr) → slice_get f.body pc ≡ Some i → IsIdle h (facts_at h pc) pc i → pc + 1 < length f.body
+      within_next pc i is idle = inside f.body valid.ends pc i is (λ froms e. let r : IsIdle h (facts_at h pc) pc (Return froms) = subst (λ (x : Instr). IsIdle h (facts_at h pc) pc x) e idle in r)
+
   -- from an instruction on, where it is so from those behind it on
   abbrev pub FromHere : ℕ → Type 0
-  FromHere pc = (s s' : List ℕ) (v w : World) → Near v w → f.slots ≤ length s → q.slots ≤ length s' → Agree h pc s s' → Hold s w.memory (facts_at h pc)
-      → IsNoDearer (from q.body new (place h pc) s' v) (from f.body old pc s w)
+  FromHere pc = IsReached h pc → (s' : List ℕ) (v : World) → q.slots ≤ length s' → AtEnd pc s' v (from q.body new (place h pc) s' v)
 
-  abbrev pub P : ℕ → Instr → ℕ → Type 0
-  P pc i t = Behind h f.body valid.ends pc (facts_at h pc) i t
+  abbrev pub Both : ℕ → Type 0
+  Both pc = FromHere pc × Passes pc
 
-  stays : (pc : ℕ) → ((t : ℕ) → pc < t → t < length f.body → FromHere t) → (i : Instr) → IsFine funs f pc i → Leads (P pc i) i pc → IsKept h q.body pc i
-      → (s s' : List ℕ) (v w : World) → Near v w → f.slots ≤ length s → q.slots ≤ length s' → Agree h pc s s' → Hold s w.memory (facts_at h pc)
+  -- a jump to a place behind
+  goes_to : (pc t : ℕ) → pc < t → t < length f.body → ((t : ℕ) → pc < t → t < length f.body → Both t) → IsReached h (end h t) → (s' : List ℕ) (v : World) → q.slots ≤ length s'
+      → AtEnd t s' v (from q.body new (landing h t) s' v)
+  goes_to pc t lt within rest reached s' v long' =
+      let passes : Passes t = (rest t lt within).1 in
+      let u = end h t in
+      passes.2 s' v (from q.body new (landing h t) s' v) ((rest u (omega (arith, lt, passes.0)) passes.1).0 reached s' v long')
+
+  -- a jump that returns at once
+  goes_back : (pc t : ℕ) → Passes t → (froms froms' : List ℕ) → slice_get f.body (end h t) ≡ Some (Return froms) → AreNames h (facts_at h (end h t)) (end h t) froms froms' → (s' : List ℕ) (v : World)
+      → AtEnd t s' v (over (Returned (slots_at s' froms') v.left) v)
+  goes_back pc t passes froms froms' is names s' v =
+      passes.2 s' v (over (Returned (slots_at s' froms') v.left) v)
+      (λ s w near long agree hold.
+      let e : slots_at s' froms' ≡ slots_at s froms = names_same h (facts_at h (end h t)) (end h t) froms froms' s s' w.memory agree hold names in
+      subst (λ (p : Outcome). IsNoDearer (over (Returned (slots_at s' froms') v.left) v) p) (sym (law.step (end h t) (Return froms) s w is))
+      (subst (λ us. IsNoDearer (over (Returned us v.left) v) (over (Returned (slots_at s froms) w.left) (taken w))) (sym e)
+      (subst (λ n. IsNoDearer (over (Returned (slots_at s froms) n) v) (over (Returned (slots_at s froms) w.left) (taken w))) (sym near.left)
+      (over_near (Returned (slots_at s froms) w.left) v (taken w) (near_behind v w near)))))
+
+  jumped : (pc t : ℕ) (j : Instr) → slice_get f.body pc ≡ Some (Jump t) → ((t : ℕ) → pc < t → t < length f.body → Both t) → IsReached h pc → IsJumped h f.body t j
+      → (pc' : ℕ) (s s' : List ℕ) (v w : World) → Near v (taken w) → f.slots ≤ length s → q.slots ≤ length s' → Agree h pc s s' → Hold s w.memory (facts_at h pc)
+      → IsNoDearer (act j (from q.body new) new pc' s' v) (from f.body old t s (taken w))
+  jumped pc t j is rest reached moved pc' s s' v w near long long' agree hold =
+      let to : J pc (Jump t) t = led pc (Jump t) is in
+      let agree1 : Agree h t s s' = onward h pc (Jump t) t s s' to.2.on.lives (jump_borne pc t s s' agree) in
+      let hold1 : Hold s w.memory (facts_at h t) = holds_on pc (Jump t) t is to.2.on s s w (taken w) long hold (refl, refl) in
+      elim moved [
+        | inl e ↦
+            subst (λ (k : Instr). IsNoDearer (act k (from q.body new) new pc' s' v) (from f.body old t s (taken w))) (sym e)
+            (goes_to pc t to.0 to.1 rest (to.2.comes reached) s' v long' s (taken w) near long agree1 hold1)
+        | inr back ↦
+            subst (λ (k : Instr). IsNoDearer (act k (from q.body new) new pc' s' v) (from f.body old t s (taken w))) (sym back.3)
+            (goes_back pc t (rest t to.0 to.1).1 back.0 back.1 back.2 back.4 s' v s (taken w) near long agree1 hold1)
+      ]
+
+  stays : (pc : ℕ) (i : Instr) → slice_get f.body pc ≡ Some i → ((t : ℕ) → pc < t → t < length f.body → Both t) → IsKept h f.body q.body pc i → IsReached h pc
+      → (s' : List ℕ) (v : World) → q.slots ≤ length s' → (s : List ℕ) (w : World) → Near v w → f.slots ≤ length s → Agree h pc s s' → Hold s w.memory (facts_at h pc)
       → IsNoDearer (from q.body new (place h pc) s' v) (act i (from f.body old) old pc s (taken w))
-  stays pc rest i fine leads kept s s' v w near long long' agree hold =
+  stays pc i is rest kept reached s' v long' s w near long agree hold =
       let j = kept.0 in
+      let fine : IsFine funs f pc i = valid.each pc i is in
       let fine' : IsFine funs' q (place h pc) j = valid'.each (place h pc) j kept.1 in
       subst (λ (o : Outcome). IsNoDearer o (act i (from f.body old) old pc s (taken w))) (sym (law'.step (place h pc) j s' v kept.1))
-      (acts_alike h apart funs f.results f.slots q.slots pc (place h pc) (facts_at h pc) new old calls (P pc i)
-      (from q.body new) (from f.body old) s s' (taken v) (taken w) (near_taken v w near) long long' agree hold (sym kept.3)
-      i j kept.2 fine.slots fine'.slots fine.calls leads
-      (λ t t' s1 s1' w1 w1' there to turns long1 long1' agree1 near1.
-      subst (λ m. IsNoDearer (from q.body new m s1' w1') (from f.body old t s1 w1)) (sym there)
-      (rest t to.0 to.1 s1 s1' w1' w1 near1 long1 long1' (later h apart (pc + 1) t s1 s1' (omega (arith, to.0)) agree1)
-      (to.2.by f.slots s s1 w.memory w1.memory long fine.slots hold turns))))
+      (acts_alike h apart funs f.body f.results f.slots q.slots pc (place h pc) (facts_at h pc) new old calls (F pc i) (J pc i)
+      (from q.body new) (from f.body old) s s' (taken v) (taken w) (near_taken v w near) long long' agree hold
+      i j kept.2 fine.slots fine'.slots fine.calls (led pc i is)
+      (λ t e moved to. jumped pc t j (is ∙ ap Some e) rest reached moved (place h pc) s s' (taken v) w (near_taken v w near) long long' agree hold)
+      (λ t t' s1 s1' w1 w1' comes turns long1 long1' agree1 near1. goes t t' s1 s1' w1 w1' comes turns long1 long1' agree1 near1))
+    where
+      goes : (t t' : ℕ) (s1 s1' : List ℕ) (w1 w1' : World) → Comes h pc (place h pc) (F pc i) (J pc i) t t' → Turns i s w.memory s1 w1.memory
+          → f.slots ≤ length s1 → q.slots ≤ length s1' → AgreeOn h (Borne h pc i) s1 s1' → Near w1' w1 → IsNoDearer (from q.body new t' s1' w1') (from f.body old t s1 w1)
+      goes t t' s1 s1' w1 w1' (inl falls) turns long1 long1' agree1 near1 =
+          let to : F pc i t = falls.0 in
+          let there : t' ≡ place h t = falls.2 ∙ sym kept.3 ∙ ap (λ n. place h n) (sym falls.1) in
+          subst (λ m. IsNoDearer (from q.body new m s1' w1') (from f.body old t s1 w1)) (sym there)
+          ((rest t to.0 to.1).0 (to.2.comes reached) s1' w1' long1' s1 w1 near1 long1 (onward h pc i t s1 s1' to.2.on.lives agree1)
+          (holds_on pc i t is to.2.on s s1 w w1 long hold turns))
+      goes t t' s1 s1' w1 w1' (inr jumps) turns long1 long1' agree1 near1 =
+          let to : J pc i t = jumps.0 in
+          subst (λ m. IsNoDearer (from q.body new m s1' w1') (from f.body old t s1 w1)) (sym jumps.1)
+          (goes_to pc t to.0 to.1 rest (to.2.comes reached) s1' w1' long1' s1 w1 near1 long1 (onward h pc i t s1 s1' to.2.on.lives agree1)
+          (holds_on pc i t is to.2.on s s1 w w1 long hold turns))
 
-  passed : (pc : ℕ) → ((t : ℕ) → pc < t → t < length f.body → FromHere t) → (i : Instr) → IsFine funs f pc i → Leads (P pc i) i pc → IsLeftOut h pc i
-      → (s s' : List ℕ) (v w : World) → Near v w → f.slots ≤ length s → q.slots ≤ length s' → Agree h pc s s' → Hold s w.memory (facts_at h pc)
-      → IsNoDearer (from q.body new (place h pc) s' v) (act i (from f.body old) old pc s (taken w))
-  passed pc rest i fine leads out s s' v w near long long' agree hold =
-      idle_acts h apart f.slots pc (facts_at h pc) old (P pc i) (from f.body old) s s' (taken w)
-      (from q.body new (place h pc) s' v) long agree hold out.1 i out.0 leads
-      (λ t s1 there to turns long1 agree1.
-      subst (λ m. IsNoDearer (from q.body new m s' v) (from f.body old t s1 (taken w))) there
-      (rest t to.0 to.1 s1 s' v (taken w) (near_behind v w near) long1 long' (later h apart (pc + 1) t s1 s' (omega (arith, to.0)) agree1)
-      (to.2.by f.slots s s1 w.memory w.memory long fine.slots hold turns)))
+  skipped : (pc : ℕ) (i : Instr) → slice_get f.body pc ≡ Some i → ((t : ℕ) → pc < t → t < length f.body → Both t) → IsSkipped h pc i → FromHere pc
+  skipped pc i is rest skip reached s' v long' =
+      elim (left_case h pc i (skip.0 reached)) [
+        | inl jump ↦
+            let is' : slice_get f.body pc ≡ Some (Jump jump.0) = is ∙ ap Some jump.1 in
+            let to : J pc (Jump jump.0) jump.0 = led pc (Jump jump.0) is' in
+            subst (λ m. AtEnd pc s' v (from q.body new m s' v)) jump.2
+            (pass_jump pc jump.0 is' s' v (from q.body new (landing h jump.0) s' v) (goes_to pc jump.0 to.0 to.1 rest (to.2.comes reached) s' v long'))
+        | inr idle ↦
+            subst (λ m. AtEnd pc s' v (from q.body new m s' v)) skip.1
+            (λ s w near long agree hold.
+            subst (λ (p : Outcome). IsNoDearer (from q.body new (place h (pc + 1)) s' v) p) (sym (law.step pc i s w is))
+            (idle_acts h f.slots pc (facts_at h pc) old (F pc i) (J pc i) (from f.body old) s s' (taken w) (from q.body new (place h (pc + 1)) s' v) long agree hold i idle (led pc i is)
+            (λ to. to.2.on.lives)
+            (λ s1 to turns long1 agree1. (rest (pc + 1) to.0 to.1).0 (to.2.comes reached) s' v long' s1 (taken w) (near_behind v w near) long1 agree1
+            (holds_on pc i (pc + 1) is to.2.on s s1 w (taken w) long hold turns))))
+      ]
 
-  here : (pc : ℕ) → pc < length f.body → ((t : ℕ) → pc < t → t < length f.body → FromHere t) → FromHere pc
-  here pc lt rest s s' v w near long long' agree hold =
+  here : (pc : ℕ) → pc < length f.body → ((t : ℕ) → pc < t → t < length f.body → Both t) → Both pc
+  here pc lt rest =
       let found = get_some f.body pc lt in
       let i = found.0 in
-      let is : slice_get f.body pc ≡ Some i = found.1 in
-      let fine : IsFine funs f pc i = valid.each pc i is in
-      let step = steps pc i is in
-      let leads : Leads (P pc i) i pc = led_behind h f.body valid.ends pc (facts_at h pc) i is fine.targets step.known in
-      subst (λ (o : Outcome). IsNoDearer (from q.body new (place h pc) s' v) o) (sym (law.step pc i s w is))
-      (elim step.stands [
-        | inl kept ↦ stays pc rest i fine leads kept s s' v w near long long' agree hold
-        | inr out ↦ passed pc rest i fine leads out s s' v w near long long' agree hold
-      ])
+      let is : slice_get f.body pc ≡ Some i = found.1 in (
+        λ reached s' v long'. elim (steps pc i is).stands [
+          | inl kept ↦ λ s w near long agree hold.
+              subst (λ (o : Outcome). IsNoDearer (from q.body new (place h pc) s' v) o) (sym (law.step pc i s w is))
+              (stays pc i is rest kept reached s' v long' s w near long agree hold)
+          | inr skip ↦ skipped pc i is rest skip reached s' v long'
+        ],
+        passing pc i is (λ t behind within. (rest t behind within).1),
+      )
 
-  pub walk : (n pc : ℕ) → length f.body ≤ n + pc → pc < length f.body → FromHere pc
+  pub walk : (n pc : ℕ) → length f.body ≤ n + pc → pc < length f.body → Both pc
   walk zero pc enough lt = absurd (omega (arith, enough, lt))
   walk (suc n) pc enough lt = here pc lt (λ t behind within. walk n t (omega (arith, enough, behind)) within)

@@ -41,7 +41,7 @@ zero_behind (x ∷ xs) n (suc k) le = zero_behind xs n k (omega (arith, le))
 
 begin_agree : (h : Hints) (params : ℕ) (words : List ℕ) (n n' : ℕ) → KeepParams h params → length words ≡ params → Agree h 0 (words ++ replicate {A = ℕ} n 0) (words ++ replicate {A = ℕ} n' 0)
 begin_agree h params words n n' keep same k read =
-    elim (keep k read) [
+    elim (keep k (omega (arith, read.0))) [
       | inl low ↦
           let lt : k < length words = omega (arith, same, low.0) in
           ap (λ j. slice_index (words ++ replicate {A = ℕ} n' 0) j) low.1
@@ -85,8 +85,8 @@ module _ (funs funs' : List CodeFun) (valid : IsValid funs) (valid' : IsValid fu
       let s = words ++ replicate {A = ℕ} (f.slots - length words) 0 in
       let s' = words ++ replicate {A = ℕ} (q.slots - length words) 0 in
       let walked : IsNoDearer (from q.body new (place t.hints 0) s' v) (from f.body old 0 s w) =
-      walk funs funs' f q fine (valid'.each g q pair.1) t.hints t.apart t.steps new old calls law law'
-      (length f.body) 0 (omega arith) (some_instr f.body fine.ends) s s' v w near (long_enough words f.slots) (long_enough words q.slots)
+      (walk funs funs' f q fine (valid'.each g q pair.1) t.hints t.apart t.steps new old calls law law'
+      (length f.body) 0 (omega arith) (some_instr f.body fine.ends)).0 t.begins.2 s' v (long_enough words q.slots) s w near (long_enough words f.slots)
       (begin_agree t.hints f.params words (f.slots - length words) (q.slots - length words) t.params same)
       (nothing_known s w.memory (facts_at t.hints 0) t.begins.1) in
       subst (λ b. IsNoDearer (from b new 0 (first_slots funs' g words) v) (from (body_of funs g) old 0 (first_slots funs g words) w)) (sym body')

@@ -3,7 +3,7 @@
 ghost use Rattle.std.specs.Prelude.{◌≡◌, ◌↔◌, ◌<◌, ◌≤◌, ◌+◌, ℕ, IsTrue, length, true};
 ghost use Rattle.rb_target.specs.Validity.{AreSlots, AreArms, IsTarget, SlotsFit, TargetsFit, EndsInReturn, dests, dest_count};
 ghost use Rattle.rb_trim.specs.inner.Moving.{AreApart, IsApart, KeepParams, KeepsParam};
-ghost use Rattle.rb_trim.specs.inner.Stepping.{IsFit, FitsAt};
+ghost use Rattle.rb_trim.specs.inner.Stepping.{IsFit, IsRanged, FitsAt};
 
 use crate::hints::Hints;
 use crate::moving::{name_at, origin_at, read_at};
@@ -74,6 +74,29 @@ fn targets_fit(long: usize, pc: usize, instr: &Instr) -> bool
     }
 }
 
+// Whether the numbers of an instruction that may be made from others are within their bounds.
+fn is_ranged(instr: &Instr) -> bool
+    ensures { IsTrue result → IsRanged instr.now }
+{
+    match instr {
+        Instr::Const(_, number) => {
+            let _number = *number;
+            true
+        }
+        Instr::Alu(_, bits, _, _, _) => 1 <= *bits && *bits <= 64,
+        Instr::Take(_, _, o, l) => 1 <= *l && *l <= 64 && *o <= 64 - *l,
+        Instr::Copy(..)
+        | Instr::Put(..)
+        | Instr::Load(..)
+        | Instr::Store(..)
+        | Instr::Place(..)
+        | Instr::Jump(_)
+        | Instr::Switch(..)
+        | Instr::Call(..)
+        | Instr::Return(_) => true,
+    }
+}
+
 // How many slots an instruction names as written.
 fn dest_len(instr: &Instr) -> usize
     ensures { result ≡ length (dests instr.now) }
@@ -112,13 +135,15 @@ fn ends_in_return(body: &[Instr]) -> bool
     matches!(body.last(), Some(Instr::Return(_)))
 }
 
-// Whether the slots and targets of one instruction fit.
+// Whether the slots, targets and numbers of one instruction fit.
 fn fits_at(slots: usize, body: &[Instr], pc: usize) -> bool
     ensures { IsTrue result → FitsAt slots body.now pc }
 {
     match body.get(pc) {
         None => true,
-        Some(instr) => slots_fit(slots, instr) && targets_fit(body.len(), pc, instr),
+        Some(instr) => {
+            slots_fit(slots, instr) && targets_fit(body.len(), pc, instr) && is_ranged(instr)
+        }
     }
 }
 

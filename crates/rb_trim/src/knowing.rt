@@ -1,12 +1,12 @@
-//! Which facts hold behind an instruction.
+//! What is known of slots.
 
-ghost use Rattle.std.specs.Prelude.{◌≡◌, ◌↔◌, IfSome, IsTrue, Some, Contains};
-ghost use Rattle.rb_trim.specs.declared.fact.Content.TheVariants.{Same};
-ghost use Rattle.rb_trim.specs.inner.Facts.{Follows};
-ghost use Rattle.rb_trim.specs.inner.Following.{AreSame, IsAsMuch, IsToldBy, WritesTo, Changes, Keeps, FollowsOne, FollowsAt, made_of};
+ghost use Rattle.std.specs.Prelude.{◌≡◌, ◌+◌, ◌<◌, ◌^◌, ℕ, IfSome, IsTrue, Some, Contains};
+ghost use Rattle.rb_bits.specs.Words.{take_of};
+ghost use Rattle.rb_trim.specs.declared.fact.Content.TheVariants.{Number, Same, Part};
+ghost use Rattle.rb_trim.specs.inner.Following.{AreSame, IsAsMuch, IsHeld, IsNarrow, IsBelow};
 
 use crate::fact::{Content, Fact};
-use rb_target::instr::Instr;
+use rb_bits::words::take;
 
 // Whether a fact is one of these.
 pub(crate) fn is_known(facts: &[Fact], fact: &Fact) -> bool
@@ -42,6 +42,108 @@ fn same_as(fact: &Fact, slot: usize) -> Option<usize>
     }
 }
 
+// What a slot is known to hold.
+pub(crate) fn content_of(facts: &[Fact], slot: usize) -> Option<Content>
+    ensures { IfSome result (λ content. IsHeld facts.now slot content) }
+{
+    for fact in facts {
+        if fact.slot == slot {
+            return Some(fact.content);
+        }
+    }
+    None
+}
+
+// Whether a number is below two to the power of so many bits.
+fn is_below(number: u64, l: u8) -> bool
+    ensures { IsTrue result → number < 2 ^ l }
+{
+    if l == 0 || l > 64 {
+        return false;
+    }
+    take(number, 0, u32::from(l)) == number
+}
+
+// Whether a content has at most so many bits.
+fn fits_in(content: &Content, l: u8) -> bool
+    ensures { IsTrue result → IsBelow content.now l }
+{
+    match content {
+        Content::Number(number) => is_below(*number, l),
+        Content::Part(_, _, bits) => *bits <= l,
+        Content::Computed(_, bits, _, _) => 1 <= *bits && *bits <= l,
+        Content::Same(_) | Content::Loaded(..) => false,
+    }
+}
+
+// Whether a slot is known to hold a word of at most so many bits.
+pub(crate) fn is_narrow(facts: &[Fact], slot: usize, l: u8) -> bool
+    ensures { IsTrue result → IsNarrow facts.now slot l }
+{
+    match content_of(facts, slot) {
+        None => false,
+        Some(content) => fits_in(&content, l),
+    }
+}
+
+// Bits of a number in a slot, told by the number.
+fn part_of_number(facts: &[Fact], slot: usize, o: u8, l: u8, number: u64) -> Content
+    requires { IsHeld facts.now slot (Number number) }
+    ensures { IsAsMuch facts.now (Part slot o l) result }
+{
+    if l == 0 || o > 63 || l > 64 - o {
+        return Content::Part(slot, o, l);
+    }
+    Content::Number(take(number, u32::from(o), u32::from(l)))
+}
+
+// Bits of bits in a slot, told by the slot from which these are.
+fn part_of_part(
+    facts: &[Fact],
+    slot: usize,
+    o: u8,
+    l: u8,
+    from: usize,
+    begin: u8,
+    bits: u8,
+) -> Content
+    requires { IsHeld facts.now slot (Part from begin bits) }
+    ensures { IsAsMuch facts.now (Part slot o l) result }
+{
+    let Some(at) = begin.checked_add(o) else {
+        return Content::Part(slot, o, l);
+    };
+    if l > bits || o > bits - l {
+        return Content::Part(slot, o, l);
+    }
+    Content::Part(from, at, l)
+}
+
+// Bits of a slot, told by what it is known to hold.
+fn part_of(facts: &[Fact], slot: usize, o: u8, l: u8) -> Content
+    ensures { IsAsMuch facts.now (Part slot o l) result }
+{
+    let Some(content) = content_of(facts, slot) else {
+        return Content::Part(slot, o, l);
+    };
+    match content {
+        Content::Number(number) => part_of_number(facts, slot, o, l, number),
+        Content::Part(from, begin, bits) => part_of_part(facts, slot, o, l, from, begin, bits),
+        Content::Same(_) | Content::Computed(..) | Content::Loaded(..) => Content::Part(slot, o, l),
+    }
+}
+
+// Bits of a slot: all that it is known to have are the word itself.
+pub(crate) fn part(facts: &[Fact], slot: usize, o: u8, l: u8) -> Content
+    ensures { IsAsMuch facts.now (Part slot o l) result }
+{
+    let from = source(facts, slot);
+    if o == 0 && is_narrow(facts, from, l) {
+        return Content::Same(from);
+    }
+    part_of(facts, from, o, l)
+}
+
 // The same content, told by the slots that are known to hold the same words.
 pub(crate) fn resolved(facts: &[Fact], content: Content) -> Content
     ensures { IsAsMuch facts.now content result }
@@ -49,7 +151,7 @@ pub(crate) fn resolved(facts: &[Fact], content: Content) -> Content
     match content {
         Content::Number(number) => Content::Number(number),
         Content::Same(from) => Content::Same(source(facts, from)),
-        Content::Part(from, o, l) => Content::Part(source(facts, from), o, l),
+        Content::Part(from, o, l) => part(facts, from, o, l),
         Content::Computed(op, bits, a, b) => {
             let from_a = source(facts, a);
             let from_b = source(facts, b);
@@ -61,166 +163,27 @@ pub(crate) fn resolved(facts: &[Fact], content: Content) -> Content
     }
 }
 
-// What an instruction makes of slots, numbers and memory, without changing memory.
-pub(crate) fn made(instr: &Instr) -> Option<Fact>
-    ensures { result ≡ made_of instr.now }
+// What a slot holds, made anew, where that takes one instruction and no memory.
+fn anew(facts: &[Fact], from: usize) -> Content
+    ensures { IsAsMuch facts.now (Same from) result }
 {
-    match instr {
-        Instr::Const(dest, number) => fact(*dest, Content::Number(*number)),
-        Instr::Copy(dest, from) => fact(*dest, Content::Same(*from)),
-        Instr::Alu(op, bits, dest, a, b) => fact(*dest, Content::Computed(*op, *bits, *a, *b)),
-        Instr::Take(dest, from, o, l) => fact(*dest, Content::Part(*from, *o, *l)),
-        Instr::Load(dest, base, offset, width) => {
-            fact(*dest, Content::Loaded(*base, *offset, *width))
-        }
-        Instr::Put(..)
-        | Instr::Store(..)
-        | Instr::Place(..)
-        | Instr::Jump(_)
-        | Instr::Switch(..)
-        | Instr::Call(..)
-        | Instr::Return(_) => None,
-    }
-}
-
-fn fact(slot: usize, content: Content) -> Option<Fact>
-    ensures { result ≡ Some (record { slot = slot; content = content }) }
-{
-    Some(Fact { slot, content })
-}
-
-// Whether a content is told by a slot.
-pub(crate) fn is_told_by(content: &Content, slot: usize) -> bool
-    ensures { IsTrue result ↔ IsToldBy content.now slot }
-{
-    match content {
-        Content::Number(_) => false,
-        Content::Same(from) | Content::Part(from, _, _) | Content::Loaded(from, _, _) => {
-            *from == slot
-        }
-        Content::Computed(_, _, a, b) => *a == slot || *b == slot,
-    }
-}
-
-// Whether a slot is among these.
-fn is_among(slots: &[usize], slot: usize) -> bool
-    ensures { IsTrue result ↔ Contains slots.now slot }
-{
-    slots.contains(&slot)
-}
-
-// Whether an instruction writes to a slot.
-fn writes_to(instr: &Instr, slot: usize) -> bool
-    ensures { IsTrue result ↔ WritesTo instr.now slot }
-{
-    match instr {
-        Instr::Const(dest, _)
-        | Instr::Copy(dest, _)
-        | Instr::Alu(_, _, dest, _, _)
-        | Instr::Take(dest, _, _, _)
-        | Instr::Put(dest, _, _, _)
-        | Instr::Load(dest, _, _, _)
-        | Instr::Place(dest, _, _) => *dest == slot,
-        Instr::Call(_, dests, _) => is_among(dests.as_slice(), slot),
-        Instr::Store(..) | Instr::Jump(_) | Instr::Switch(..) | Instr::Return(_) => false,
-    }
-}
-
-// Whether an instruction may change memory.
-fn changes(instr: &Instr) -> bool
-    ensures { IsTrue result ↔ Changes instr.now }
-{
-    match instr {
-        Instr::Store(..) | Instr::Place(..) | Instr::Call(..) => true,
-        Instr::Const(..)
-        | Instr::Copy(..)
-        | Instr::Alu(..)
-        | Instr::Take(..)
-        | Instr::Put(..)
-        | Instr::Load(..)
-        | Instr::Jump(_)
-        | Instr::Switch(..)
-        | Instr::Return(_) => false,
-    }
-}
-
-// Whether a content is the same behind an instruction.
-fn keeps_content(instr: &Instr, content: &Content) -> bool
-    ensures { IsTrue result → Keeps instr.now content.now }
-{
-    match content {
-        Content::Number(_) => true,
-        Content::Same(from) | Content::Part(from, _, _) => !writes_to(instr, *from),
-        Content::Computed(_, _, a, b) => !writes_to(instr, *a) && !writes_to(instr, *b),
-        Content::Loaded(base, _, _) => !writes_to(instr, *base) && !changes(instr),
-    }
-}
-
-// Whether a fact holds because of an instruction.
-fn is_made(facts: &[Fact], instr: &Instr, fact: &Fact) -> bool
-    ensures { IsTrue result → FollowsOne facts.now instr.now fact.now }
-{
-    let Some(made) = made(instr) else {
-        return false;
+    let Some(content) = content_of(facts, from) else {
+        return Content::Same(from);
     };
-    if fact.slot != made.slot {
-        return false;
+    match content {
+        Content::Number(_) | Content::Part(..) | Content::Computed(..) => content,
+        Content::Same(_) | Content::Loaded(..) => Content::Same(from),
     }
-    let content = resolved(facts, made.content);
-    if fact.content == content {
-        if is_told_by(&content, made.slot) {
-            return false;
-        }
-        return true;
-    }
-    match fact.content {
-        Content::Same(from) => {
-            let known = Fact {
-                slot: from,
-                content,
-            };
-            if from == made.slot {
-                return false;
-            }
-            is_known(facts, &known)
-        }
+}
+
+// The same content, made anew where it is another slot's.
+pub(crate) fn remade(facts: &[Fact], content: Content) -> Content
+    ensures { IsAsMuch facts.now content result }
+{
+    match content {
+        Content::Same(from) => anew(facts, from),
         Content::Number(_) | Content::Part(..) | Content::Computed(..) | Content::Loaded(..) => {
-            false
+            content
         }
     }
-}
-
-// Whether a fact that holds before an instruction holds behind it.
-pub(crate) fn stays(facts: &[Fact], instr: &Instr, fact: &Fact) -> bool
-    ensures { IsTrue result → FollowsOne facts.now instr.now fact.now }
-{
-    if !is_known(facts, fact) {
-        return false;
-    }
-    if writes_to(instr, fact.slot) {
-        return false;
-    }
-    keeps_content(instr, &fact.content)
-}
-
-// Whether one of some facts holds behind an instruction.
-fn follows_at(facts: &[Fact], instr: &Instr, behind: &[Fact], k: usize) -> bool
-    ensures { IsTrue result → FollowsAt facts.now instr.now behind.now k }
-{
-    match behind.get(k) {
-        None => true,
-        Some(fact) => stays(facts, instr, fact) || is_made(facts, instr, fact),
-    }
-}
-
-// Whether facts hold behind an instruction.
-pub(crate) fn follow(facts: &[Fact], instr: &Instr, behind: &[Fact]) -> bool
-    ensures { IsTrue result → Follows facts.now instr.now behind.now }
-{
-    for k in 0..behind.len() {
-        if !follows_at(facts, instr, behind, k) {
-            return false;
-        }
-    }
-    true
 }

@@ -15,7 +15,7 @@
 //! load 10 9 8 64
 //! ```
 //!
-//! Before each instruction some *facts* are known ([`fact`]): behind the first, that slot 3 holds bits 3 to 64 of slot
+//! Before each instruction some *facts* are known (`fact`): behind the first, that slot 3 holds bits 3 to 64 of slot
 //! 0. The fifth makes the same, so behind it slot 7 is known to hold the word of slot 3. What would read slot 7 reads
 //! slot 3, and since nothing reads slot 7 then, the instruction is *idle*, and so are the next two. The rest gets new
 //! numbers, instructions and slots:
@@ -28,24 +28,35 @@
 //! load 7 5 8 64
 //! ```
 //!
+//! What an instruction makes is *told* by what is known (`telling`): all bits that a word can have are the word itself,
+//! bits of bits are bits of the first word, bits of a number are a number, and bits put over all that a slot can hold
+//! are all of it. So `const 1 0`, `take 2 0 8 4`, `put 1 2 0 4` becomes `take 1 0 8 4`.
+//!
 //! A load is idle only where its word is known, since another one could be astray. A jump is idle where all that
-//! stands between it and its target is left out.
+//! stands between it and its target is left out. A jump to a jump goes where that goes, and one to a return returns;
+//! a jump to which no run comes any more is left out.
 //!
-//! What is known and what is left out are *hints* ([`hints`]), which [`guess`] finds in two walks, one forward and one
-//! back. Nothing rests on their being right. [`steps`] walks through the body and tests each instruction: what it reads
-//! is read there by the hints, what it writes has a new number of its own, what is known at each place where the run
-//! goes on follows from what is known here ([`knowing`]). So a run of the new body goes along with one of the old: the
-//! facts hold of the old slots, and each slot that is read from there on holds the same word under its new number. A
-//! function whose hints fail stays as it is.
+//! What is known and what is left out are *hints* (`hints`), which `guess` finds: what is known, and which slots were
+//! written, by walks forward (`learning`), and what is read, by a walk back (`choosing`). Nothing rests on their being
+//! right. `steps` walks through the body and tests each instruction: what it reads is read there by the hints, what it
+//! writes has a new number of its own, what is known at each place where the run goes on follows from what is known
+//! here, and what is read there is read here, or written between. So a run of the new body goes along with one of the
+//! old: the facts hold of the old slots, and each slot that is read from there on holds the same word under its new
+//! number. A function whose hints fail stays as it is.
 //!
-//! All walks are linear in the body, as at most twelve facts are kept at a place.
+//! That a slot is read is said by the number of the last line that reads it, and by at most twelve slots at each place
+//! that no way from there on reads. So all walks are linear in the body, as at most twelve facts and twelve such slots
+//! are kept at a place: each instruction, and each arm of a switch, is held against these.
 #![tactic(auto)]
 
-pub mod fact;
-pub mod fit;
-pub mod guess;
-pub mod hints;
-pub mod knowing;
-pub mod moving;
-pub mod steps;
+mod choosing;
+mod fact;
+mod fit;
+mod guess;
+mod hints;
+mod knowing;
+mod learning;
+mod moving;
+mod steps;
+mod telling;
 pub mod trim;

@@ -1,12 +1,12 @@
 //! The instructions that stand for others, under new numbers.
 
-ghost use Rattle.std.specs.Prelude.{◌≡◌, IfOk, true, map, slice_index};
-ghost use Rattle.rb_target.specs.declared.instr.Instr.TheVariants.{Put};
-ghost use Rattle.rb_trim.specs.inner.Moving.{facts_at, moved_arm, place, place_in, IsDest, IsName, AreDests, AreNames, IsMoved};
+ghost use Rattle.std.specs.Prelude.{◌≡◌, ◌↔◌, IfOk, IsTrue, Contains, map, slice_index};
+ghost use Rattle.rb_trim.specs.inner.Moving.{dead_at, end, facts_at, moved_arm, place, landing, landing_in, IsRead, IsDest, IsName, AreDests, AreNames, IsWrite, IsRemade, IsJumped, IsPut, IsMoved};
 
-use crate::fact::Fact;
+use crate::fact::{Content, Fact};
 use crate::hints::Hints;
-use crate::knowing::source;
+use crate::knowing::{remade, source};
+use crate::telling::told;
 use rb_core::seq::Seq;
 use rb_target::instr::{Instr, SwitchArm};
 use std::alloc::{AllocError, Global};
@@ -57,11 +57,60 @@ pub(crate) fn read_at(hints: &Hints, slot: usize) -> usize
     number_at(hints.reads.as_slice(), slot)
 }
 
+// What is known before an instruction.
+pub(crate) fn known_at(hints: &Hints, pc: usize) -> &[Fact]
+    ensures { result.now ≡ facts_at hints.now pc }
+{
+    match hints.facts.get(pc) {
+        None => &[],
+        Some(facts) => facts.as_slice(),
+    }
+}
+
+// Slots that no way from an instruction on reads.
+pub(crate) fn unread_at(hints: &Hints, pc: usize) -> &[usize]
+    ensures { result.now ≡ dead_at hints.now pc }
+{
+    match hints.dead.get(pc) {
+        None => &[],
+        Some(slots) => slots.as_slice(),
+    }
+}
+
+// Whether a slot is one of those that no way from an instruction on reads.
+fn is_dead(hints: &Hints, pc: usize, slot: usize) -> bool
+    ensures { IsTrue result ↔ Contains (dead_at hints.now pc) slot }
+{
+    unread_at(hints, pc).contains(&slot)
+}
+
+// Whether a slot is read from an instruction on.
+pub(crate) fn is_read(hints: &Hints, pc: usize, slot: usize) -> bool
+    ensures { IsTrue result ↔ IsRead hints.now pc slot }
+{
+    let read = read_at(hints, slot);
+    pc < read && !is_dead(hints, pc, slot)
+}
+
+// Where a run goes on that jumps to an instruction.
+pub(crate) fn end_at(hints: &Hints, pc: usize) -> usize
+    ensures { result ≡ end hints.now pc }
+{
+    number_at(hints.ends.as_slice(), pc)
+}
+
 // The new number of an instruction, or of one behind it that is left.
 pub(crate) fn place_at(hints: &Hints, pc: usize) -> usize
     ensures { result ≡ place hints.now pc }
 {
     number_at(hints.places.as_slice(), pc)
+}
+
+// The new number of an instruction to which a jump leads.
+fn landing_at(hints: &Hints, pc: usize) -> usize
+    ensures { result ≡ landing hints.now pc }
+{
+    place_at(hints, end_at(hints, pc))
 }
 
 // The new number of a slot that is written.
@@ -81,8 +130,7 @@ fn name(hints: &Hints, facts: &[Fact], pc: usize, slot: usize) -> Result<usize, 
     ensures { IfOk result (λ a. IsName hints.now facts.now pc slot a) }
 {
     let from = source(facts, slot);
-    let read = read_at(hints, from);
-    if pc >= read {
+    if !is_read(hints, pc, from) {
         return Err(Stop::Unfit);
     }
     let new = name_at(hints, from);
@@ -119,12 +167,12 @@ fn names(
     Ok(new)
 }
 
-fn other_place(hints: &Hints, other: Option<usize>) -> Option<usize>
-    ensures { result ≡ place_in hints.now other }
+fn other_landing(hints: &Hints, other: Option<usize>) -> Option<usize>
+    ensures { result ≡ landing_in hints.now other }
 {
     match other {
         None => None,
-        Some(target) => Some(place_at(hints, target)),
+        Some(target) => Some(landing_at(hints, target)),
     }
 }
 
@@ -136,44 +184,44 @@ fn arms_of(alloc: Global, hints: &Hints, arms: &[SwitchArm]) -> Result<Seq<Switc
     for arm in arms {
         new.push(SwitchArm {
             number: arm.number,
-            target: place_at(hints, arm.target),
+            target: landing_at(hints, arm.target),
         })?;
     }
     Ok(new)
 }
 
-// An instruction that writes one slot, under new numbers.
-fn move_write(hints: &Hints, facts: &[Fact], pc: usize, instr: &Instr) -> Result<Instr, Stop>
-    ensures { IfOk result (λ j. IsMoved hints.now facts.now pc instr.now j) }
+// The instruction that makes what is told of a slot, under new numbers.
+fn write(hints: &Hints, facts: &[Fact], pc: usize, told: &Fact) -> Result<Instr, Stop>
+    ensures { IfOk result (λ j. IsWrite hints.now facts.now pc told.now j) }
 {
-    let new = match instr {
-        Instr::Const(d, number) => Instr::Const(dest(hints, *d)?, *number),
-        Instr::Copy(d, a) => Instr::Copy(dest(hints, *d)?, name(hints, facts, pc, *a)?),
-        Instr::Alu(op, bits, d, a, b) => {
-            let d = dest(hints, *d)?;
-            let a = name(hints, facts, pc, *a)?;
-            let b = name(hints, facts, pc, *b)?;
-            Instr::Alu(*op, *bits, d, a, b)
+    let d = dest(hints, told.slot)?;
+    let new = match told.content {
+        Content::Number(number) => Instr::Const(d, number),
+        Content::Same(a) => Instr::Copy(d, name(hints, facts, pc, a)?),
+        Content::Part(a, o, l) => Instr::Take(d, name(hints, facts, pc, a)?, o, l),
+        Content::Computed(op, bits, a, b) => {
+            let a = name(hints, facts, pc, a)?;
+            let b = name(hints, facts, pc, b)?;
+            Instr::Alu(op, bits, d, a, b)
         }
-        Instr::Take(d, a, o, l) => {
-            Instr::Take(dest(hints, *d)?, name(hints, facts, pc, *a)?, *o, *l)
-        }
-        Instr::Load(d, a, offset, width) => {
-            Instr::Load(
-                dest(hints, *d)?,
-                name(hints, facts, pc, *a)?,
-                *offset,
-                *width,
-            )
-        }
-        Instr::Place(d, size, align) => Instr::Place(dest(hints, *d)?, *size, *align),
-        Instr::Put(..)
-        | Instr::Store(..)
-        | Instr::Jump(_)
-        | Instr::Switch(..)
-        | Instr::Call(..)
-        | Instr::Return(_) => return Err(Stop::Unfit),
+        Content::Loaded(..) => return Err(Stop::Unfit),
     };
+    Ok(new)
+}
+
+// The instruction that makes what another makes by what is known, under new numbers.
+fn move_told(hints: &Hints, facts: &[Fact], pc: usize, instr: &Instr) -> Result<Instr, Stop>
+    ensures { IfOk result (λ j. IsRemade hints.now facts.now pc instr.now j) }
+{
+    let Some(told) = told(facts, instr) else {
+        return Err(Stop::Unfit);
+    };
+    let content = remade(facts, told.content);
+    let again = Fact {
+        slot: told.slot,
+        content,
+    };
+    let new = write(hints, facts, pc, &again)?;
     Ok(new)
 }
 
@@ -187,7 +235,7 @@ fn move_put(
     o: u8,
     l: u8,
 ) -> Result<Instr, Stop>
-    ensures { IfOk result (λ j. IsMoved hints.now facts.now pc (Put slot from o l) j) }
+    ensures { IfOk result (λ j. IsPut hints.now facts.now pc slot from o l j) }
 {
     let new = dest(hints, slot)?;
     let same = name(hints, &[], pc, slot)?;
@@ -198,27 +246,36 @@ fn move_put(
     Ok(Instr::Put(new, part, o, l))
 }
 
-// Another instruction, under new numbers.
+// A jump, or the return to which it comes, under new numbers.
+fn move_jump(alloc: Global, hints: &Hints, body: &[Instr], target: usize) -> Result<Instr, Stop>
+    ensures { IfOk result (λ j. IsJumped hints.now body.now target j) }
+{
+    let end = end_at(hints, target);
+    if let Some(Instr::Return(froms)) = body.get(end) {
+        let facts = known_at(hints, end);
+        let new = names(alloc, hints, facts, end, froms.as_slice())?;
+        return Ok(Instr::Return(new));
+    }
+    Ok(Instr::Jump(landing_at(hints, target)))
+}
+
+// An instruction that leaves the function, or goes on elsewhere, under new numbers.
 fn move_other(
     alloc: Global,
     hints: &Hints,
     facts: &[Fact],
+    body: &[Instr],
     pc: usize,
     instr: &Instr,
 ) -> Result<Instr, Stop>
-    ensures { IfOk result (λ j. IsMoved hints.now facts.now pc instr.now j) }
+    ensures { IfOk result (λ j. IsMoved hints.now facts.now body.now pc instr.now j) }
 {
     let new = match instr {
-        Instr::Put(d, a, o, l) => move_put(hints, facts, pc, *d, *a, *o, *l)?,
-        Instr::Store(base, offset, width, a) => {
-            let base = name(hints, facts, pc, *base)?;
-            Instr::Store(base, *offset, *width, name(hints, facts, pc, *a)?)
-        }
-        Instr::Jump(target) => Instr::Jump(place_at(hints, *target)),
+        Instr::Jump(target) => move_jump(alloc, hints, body, *target)?,
         Instr::Switch(a, other, arms) => {
             let a = name(hints, facts, pc, *a)?;
             let arms = arms_of(alloc, hints, arms.as_slice())?;
-            Instr::Switch(a, other_place(hints, *other), arms)
+            Instr::Switch(a, other_landing(hints, *other), arms)
         }
         Instr::Call(number, ds, froms) => {
             let ds = dests(alloc, hints, ds.as_slice())?;
@@ -233,13 +290,15 @@ fn move_other(
         | Instr::Copy(..)
         | Instr::Alu(..)
         | Instr::Take(..)
+        | Instr::Put(..)
         | Instr::Load(..)
+        | Instr::Store(..)
         | Instr::Place(..) => return Err(Stop::Unfit),
     };
     Ok(new)
 }
 
-/// The instruction that stands for another, under new numbers.
+/// The instruction that stands for another of a body, under new numbers.
 ///
 /// # Errors
 ///
@@ -248,28 +307,37 @@ pub(crate) fn moved(
     alloc: Global,
     hints: &Hints,
     facts: &[Fact],
+    body: &[Instr],
     pc: usize,
     instr: &Instr,
 ) -> Result<Instr, Stop>
-    ensures { IfOk result (λ j. IsMoved hints.now facts.now pc instr.now j) }
+    ensures { IfOk result (λ j. IsMoved hints.now facts.now body.now pc instr.now j) }
 {
     match instr {
-        Instr::Const(..)
-        | Instr::Copy(..)
-        | Instr::Alu(..)
-        | Instr::Take(..)
-        | Instr::Load(..)
-        | Instr::Place(..) => {
-            let new = move_write(hints, facts, pc, instr)?;
+        Instr::Const(..) | Instr::Copy(..) | Instr::Alu(..) | Instr::Take(..) => {
+            let new = move_told(hints, facts, pc, instr)?;
             Ok(new)
         }
-        Instr::Put(..)
-        | Instr::Store(..)
-        | Instr::Jump(_)
-        | Instr::Switch(..)
-        | Instr::Call(..)
-        | Instr::Return(_) => {
-            let new = move_other(alloc, hints, facts, pc, instr)?;
+        Instr::Put(d, a, o, l) => {
+            let new = match told(facts, instr) {
+                None => move_put(hints, facts, pc, *d, *a, *o, *l)?,
+                Some(_) => move_told(hints, facts, pc, instr)?,
+            };
+            Ok(new)
+        }
+        Instr::Load(d, a, offset, width) => {
+            let d = dest(hints, *d)?;
+            let a = name(hints, facts, pc, *a)?;
+            Ok(Instr::Load(d, a, *offset, *width))
+        }
+        Instr::Place(d, size, align) => Ok(Instr::Place(dest(hints, *d)?, *size, *align)),
+        Instr::Store(base, offset, width, a) => {
+            let base = name(hints, facts, pc, *base)?;
+            let a = name(hints, facts, pc, *a)?;
+            Ok(Instr::Store(base, *offset, *width, a))
+        }
+        Instr::Jump(_) | Instr::Switch(..) | Instr::Call(..) | Instr::Return(_) => {
+            let new = move_other(alloc, hints, facts, body, pc, instr)?;
             Ok(new)
         }
     }

@@ -1,35 +1,25 @@
 //! One instruction after the other.
 
-ghost use Rattle.std.specs.Prelude.{◌≡◌, ◌+◌, ◌∷◌, OnOk, IfOk, ◌↔◌, IsTrue, length, slice_get, All, IfSome};
+ghost use Rattle.std.specs.Prelude.{◌≡◌, ◌⊎◌, ◌+◌, ◌<◌, ◌↔◌, ℕ, OnOk, IfOk, IsTrue, Contains, length, slice_get, All, IfSome};
 ghost use Rattle.rb_target.specs.declared.instr.SwitchArm.{SwitchArm as SwitchArmDecl};
-ghost use Rattle.rb_trim.specs.inner.Facts.{Follows};
-ghost use Rattle.rb_trim.specs.inner.Moving.{facts_at, IsRead, IsIdle};
-ghost use Rattle.rb_trim.specs.inner.Following.{IsLoaded};
-ghost use Rattle.rb_trim.specs.inner.Stepping.{GoesOnAt, IsKnownOn, Steps, Walks};
+ghost use Rattle.rb_trim.specs.inner.Moving.{facts_at, dead_at, end, place, IsUnread, IsReached, IsIdle, IsLeftOut, LivesOn, GoesOn, FallsOn, JumpsOn, EndsWell};
+ghost use Rattle.rb_trim.specs.inner.Following.{IsLoaded, Sets};
+ghost use Rattle.rb_trim.specs.inner.Stepping.{JumpsOnAt, LivesAt, IsKnownOn, Steps, Walks};
 
 use crate::fact::{Content, Fact};
 use crate::hints::Hints;
-use crate::knowing::{follow, source};
-use crate::moving::{Stop, moved, place_at, read_at};
+use crate::knowing::source;
+use crate::moving::{Stop, end_at, is_read, known_at, moved, number_at, place_at, unread_at};
+use crate::telling::{follow, sets};
 use rb_core::seq::Seq;
 use rb_target::instr::{Instr, SwitchArm};
 use std::alloc::Global;
 
-// What is known before an instruction.
-pub(crate) fn known_at(hints: &Hints, pc: usize) -> &[Fact]
-    ensures { result.now ≡ facts_at hints.now pc }
+// Whether a run may come to an instruction.
+pub(crate) fn is_reached(hints: &Hints, pc: usize) -> bool
+    ensures { IsTrue result ↔ IsReached hints.now pc }
 {
-    match hints.facts.get(pc) {
-        None => &[],
-        Some(facts) => facts.as_slice(),
-    }
-}
-
-// Whether a slot is read behind an instruction.
-fn is_read_behind(hints: &Hints, pc: usize, slot: usize) -> bool
-    ensures { IsTrue result ↔ IsRead hints.now (pc + 1) slot }
-{
-    read_at(hints, slot).saturating_sub(pc) > 1
+    number_at(hints.reached.as_slice(), pc) > 0
 }
 
 fn fact_at(facts: &[Fact], k: usize) -> Option<Fact>
@@ -54,6 +44,16 @@ fn is_loaded(facts: &[Fact], base: usize, offset: u64, width: u8) -> bool
     false
 }
 
+// Whether a slot is not read behind an instruction.
+fn is_unread(hints: &Hints, pc: usize, slot: usize) -> bool
+    ensures { IsTrue result → IsUnread hints.now (pc + 1) slot }
+{
+    let Some(behind) = pc.checked_add(1) else {
+        return false;
+    };
+    !is_read(hints, behind, slot)
+}
+
 // Whether an instruction need not be there.
 fn is_idle(hints: &Hints, facts: &[Fact], pc: usize, instr: &Instr) -> bool
     ensures { IsTrue result → IsIdle hints.now facts.now pc instr.now }
@@ -63,12 +63,12 @@ fn is_idle(hints: &Hints, facts: &[Fact], pc: usize, instr: &Instr) -> bool
         | Instr::Copy(dest, _)
         | Instr::Alu(_, _, dest, _, _)
         | Instr::Take(dest, _, _, _)
-        | Instr::Put(dest, _, _, _) => !is_read_behind(hints, pc, *dest),
+        | Instr::Put(dest, _, _, _) => is_unread(hints, pc, *dest),
         Instr::Load(dest, base, offset, width) => {
-            !is_read_behind(hints, pc, *dest) && is_loaded(facts, *base, *offset, *width)
+            is_unread(hints, pc, *dest) && is_loaded(facts, *base, *offset, *width)
         }
-        Instr::Jump(target) => { place_at(hints, *target) == place_at(hints, pc) }
-        Instr::Store(..)
+        Instr::Jump(_)
+        | Instr::Store(..)
         | Instr::Place(..)
         | Instr::Switch(..)
         | Instr::Call(..)
@@ -76,52 +76,178 @@ fn is_idle(hints: &Hints, facts: &[Fact], pc: usize, instr: &Instr) -> bool
     }
 }
 
-// Whether what is known at a target holds behind an instruction.
-fn goes_on(hints: &Hints, pc: usize, instr: &Instr, target: usize) -> bool
-    ensures { IsTrue result → Follows (facts_at hints.now pc) instr.now (facts_at hints.now target) }
+// Whether an instruction may be left out: it is idle, or jumps over nothing.
+fn is_left_out(hints: &Hints, pc: usize, instr: &Instr) -> bool
+    ensures { IsTrue result → IsLeftOut hints.now pc instr.now }
 {
-    follow(known_at(hints, pc), instr, known_at(hints, target))
-}
-
-fn arm_goes_on(hints: &Hints, pc: usize, instr: &Instr, arms: &[SwitchArm], k: usize) -> bool
-    ensures { IsTrue result → GoesOnAt hints.now pc instr.now arms.now k }
-{
-    match arms.get(k) {
-        None => true,
-        Some(arm) => goes_on(hints, pc, instr, arm.target),
+    match instr {
+        Instr::Jump(target) => place_at(hints, end_at(hints, *target)) == place_at(hints, pc),
+        Instr::Const(..)
+        | Instr::Copy(..)
+        | Instr::Alu(..)
+        | Instr::Take(..)
+        | Instr::Put(..)
+        | Instr::Load(..)
+        | Instr::Store(..)
+        | Instr::Place(..)
+        | Instr::Switch(..)
+        | Instr::Call(..)
+        | Instr::Return(_) => is_idle(hints, known_at(hints, pc), pc, instr),
     }
 }
 
-fn arms_go_on(hints: &Hints, pc: usize, instr: &Instr, arms: &[SwitchArm]) -> bool
-    ensures { IsTrue result
-        → All (λ (arm : SwitchArmDecl). Follows (facts_at hints.now pc) instr.now (facts_at hints.now arm.target)) arms.now }
+// Whether an instruction may be left out, or no run comes to it.
+fn may_go(hints: &Hints, pc: usize, instr: &Instr) -> bool
+    ensures { IsTrue result → IsReached hints.now pc → IsLeftOut hints.now pc instr.now }
 {
-    for k in 0..arms.len() {
-        if !arm_goes_on(hints, pc, instr, arms, k) {
+    !is_reached(hints, pc) || is_left_out(hints, pc, instr)
+}
+
+// Whether a run that jumps to an instruction goes on where it should.
+fn ends_well(hints: &Hints, pc: usize, instr: &Instr) -> bool
+    ensures { IsTrue result → EndsWell hints.now pc instr.now }
+{
+    let ends = end_at(hints, pc);
+    if ends == pc {
+        return true;
+    }
+    match instr {
+        Instr::Jump(target) => ends == end_at(hints, *target),
+        Instr::Const(..)
+        | Instr::Copy(..)
+        | Instr::Alu(..)
+        | Instr::Take(..)
+        | Instr::Put(..)
+        | Instr::Load(..)
+        | Instr::Store(..)
+        | Instr::Place(..)
+        | Instr::Switch(..)
+        | Instr::Call(..)
+        | Instr::Return(_) => match pc.checked_add(1) {
+            None => false,
+            Some(behind) => {
+                ends == end_at(hints, behind) && is_idle(hints, known_at(hints, pc), pc, instr)
+            }
+        },
+    }
+}
+
+// Whether a slot that is not read before an instruction is set by it, or not read at a place behind it either.
+fn is_over(hints: &Hints, instr: &Instr, target: usize, slot: usize) -> bool
+    ensures { IsTrue result → (Sets instr.now slot ⊎ IsUnread hints.now target slot) }
+{
+    if sets(instr, slot) {
+        return true;
+    }
+    !is_read(hints, target, slot)
+}
+
+// Whether one of some slots is over at a place behind an instruction.
+fn lives_at(hints: &Hints, slots: &[usize], instr: &Instr, target: usize, k: usize) -> bool
+    ensures { IsTrue result → LivesAt hints.now slots.now instr.now target k }
+{
+    match slots.get(k) {
+        None => true,
+        Some(slot) => is_over(hints, instr, target, *slot),
+    }
+}
+
+// Whether each of some slots is over at a place behind an instruction.
+fn each_lives(hints: &Hints, slots: &[usize], instr: &Instr, target: usize) -> bool
+    ensures { IsTrue result
+        → ((k : ℕ) → k < length slots.now → LivesAt hints.now slots.now instr.now target k) }
+{
+    for k in 0..slots.len() {
+        if !lives_at(hints, slots, instr, target, k) {
             return false;
         }
     }
     true
 }
 
-fn other_goes_on(hints: &Hints, pc: usize, instr: &Instr, other: Option<usize>) -> bool
-    ensures { IsTrue result
-        → IfSome other (λ t. Follows (facts_at hints.now pc) instr.now (facts_at hints.now t)) }
+// Whether each slot that is read at a place behind an instruction is read from the instruction on, or set by it.
+fn lives_on(hints: &Hints, pc: usize, instr: &Instr, target: usize) -> bool
+    ensures { IsTrue result → LivesOn hints.now pc instr.now target }
 {
-    match other {
+    if target <= pc {
+        return false;
+    }
+    each_lives(hints, unread_at(hints, pc), instr, target)
+}
+
+// Whether what is said of a place holds behind an instruction.
+fn goes_on(hints: &Hints, pc: usize, instr: &Instr, target: usize) -> bool
+    ensures { IsTrue result → GoesOn hints.now pc instr.now target }
+{
+    if !lives_on(hints, pc, instr, target) {
+        return false;
+    }
+    follow(known_at(hints, pc), instr, known_at(hints, target))
+}
+
+// Whether a run may come to a place behind an instruction, if it may come to the instruction.
+fn comes_on(hints: &Hints, pc: usize, target: usize) -> bool
+    ensures { IsTrue result → IsReached hints.now pc → IsReached hints.now target }
+{
+    !is_reached(hints, pc) || is_reached(hints, target)
+}
+
+// Whether a jump may lead to a target.
+fn jumps_on(hints: &Hints, pc: usize, instr: &Instr, target: usize) -> bool
+    ensures { IsTrue result → JumpsOn hints.now pc instr.now target }
+{
+    goes_on(hints, pc, instr, target) && comes_on(hints, pc, end_at(hints, target))
+}
+
+fn arm_jumps_on(hints: &Hints, pc: usize, instr: &Instr, arms: &[SwitchArm], k: usize) -> bool
+    ensures { IsTrue result → JumpsOnAt hints.now pc instr.now arms.now k }
+{
+    match arms.get(k) {
         None => true,
-        Some(target) => goes_on(hints, pc, instr, target),
+        Some(arm) => jumps_on(hints, pc, instr, arm.target),
     }
 }
 
-// Whether it does wherever a run goes on.
+fn arms_jump_on(hints: &Hints, pc: usize, instr: &Instr, arms: &[SwitchArm]) -> bool
+    ensures { IsTrue result
+        → All (λ (arm : SwitchArmDecl). JumpsOn hints.now pc instr.now arm.target) arms.now }
+{
+    for k in 0..arms.len() {
+        if !arm_jumps_on(hints, pc, instr, arms, k) {
+            return false;
+        }
+    }
+    true
+}
+
+fn other_jumps_on(hints: &Hints, pc: usize, instr: &Instr, other: Option<usize>) -> bool
+    ensures { IsTrue result → IfSome other (λ t. JumpsOn hints.now pc instr.now t) }
+{
+    match other {
+        None => true,
+        Some(target) => jumps_on(hints, pc, instr, target),
+    }
+}
+
+// Whether the instruction behind may come next.
+fn falls_on(hints: &Hints, pc: usize, instr: &Instr) -> bool
+    ensures { IsTrue result → FallsOn hints.now pc instr.now (pc + 1) }
+{
+    match pc.checked_add(1) {
+        None => false,
+        Some(behind) => goes_on(hints, pc, instr, behind) && comes_on(hints, pc, behind),
+    }
+}
+
+// Whether all that is said of the places holds wherever a run goes on.
 fn is_known_on(hints: &Hints, pc: usize, instr: &Instr) -> bool
     ensures { IsTrue result → IsKnownOn hints.now pc instr.now }
 {
     match instr {
-        Instr::Jump(target) => goes_on(hints, pc, instr, *target),
+        Instr::Jump(target) => jumps_on(hints, pc, instr, *target),
         Instr::Switch(_, other, arms) => {
-            other_goes_on(hints, pc, instr, *other) && arms_go_on(hints, pc, instr, arms.as_slice())
+            other_jumps_on(hints, pc, instr, *other)
+                && arms_jump_on(hints, pc, instr, arms.as_slice())
         }
         Instr::Return(_) => true,
         Instr::Const(..)
@@ -132,45 +258,46 @@ fn is_known_on(hints: &Hints, pc: usize, instr: &Instr) -> bool
         | Instr::Load(..)
         | Instr::Store(..)
         | Instr::Place(..)
-        | Instr::Call(..) => match pc.checked_add(1) {
-            None => false,
-            Some(next) => goes_on(hints, pc, instr, next),
-        },
+        | Instr::Call(..) => falls_on(hints, pc, instr),
     }
 }
 
-// The next instruction, which stands under new numbers or is left out.
+// The next instruction of a body, which stands under new numbers or is left out.
 fn step(
     alloc: Global,
     hints: &Hints,
+    body: &[Instr],
     pc: usize,
     instr: &Instr,
     new: &mut Seq<Instr>,
 ) -> Result<(), Stop>
-    ensures { OnOk result (Steps hints.now pc instr.now new.old new.new) }
+    ensures { OnOk result (Steps hints.now body.now pc instr.now new.old new.new) }
 {
     let here = place_at(hints, pc);
     let Some(behind) = pc.checked_add(1) else {
         return Err(Stop::Unfit);
     };
     let next = place_at(hints, behind);
-    if here != new.len() {
-        return Err(Stop::Unfit);
-    }
     if !is_known_on(hints, pc, instr) {
         return Err(Stop::Unfit);
     }
-    let facts = known_at(hints, pc);
+    if !ends_well(hints, pc, instr) {
+        return Err(Stop::Unfit);
+    }
     if next == here {
-        if !is_idle(hints, facts, pc, instr) {
+        if !may_go(hints, pc, instr) {
             return Err(Stop::Unfit);
         }
         return Ok(());
     }
+    if here != new.len() {
+        return Err(Stop::Unfit);
+    }
     if next.saturating_sub(here) != 1 {
         return Err(Stop::Unfit);
     }
-    let stands = moved(alloc, hints, facts, pc, instr)?;
+    let facts = known_at(hints, pc);
+    let stands = moved(alloc, hints, facts, body, pc, instr)?;
     new.push(stands)?;
     Ok(())
 }
@@ -185,7 +312,7 @@ pub(crate) fn walk(alloc: Global, hints: &Hints, body: &[Instr]) -> Result<Seq<I
 {
     let mut new = Seq::new(alloc);
     for (pc, instr) in body.iter().enumerate() {
-        step(alloc, hints, pc, instr, &mut new)?;
+        step(alloc, hints, body, pc, instr, &mut new)?;
     }
     Ok(new)
 }

@@ -2,14 +2,14 @@
 
 ghost use Rattle.std.specs.Prelude.{◌≡◌, IfOk, IsTrue, [], length};
 ghost use Rattle.rb_trim.specs.Trimming.{IsTrimOf};
-ghost use Rattle.rb_trim.specs.inner.Moving.{IsTrimmed, facts_at};
+ghost use Rattle.rb_trim.specs.inner.Moving.{IsTrimmed, facts_at, IsReached};
 ghost use Rattle.rb_trim.specs.inner.Stepping.{AreTrimmed};
 
 use crate::fit::{are_apart, fits, keep_params};
 use crate::guess::{guess, identity};
 use crate::hints::Hints;
-use crate::moving::{Stop, place_at};
-use crate::steps::{known_at, walk};
+use crate::moving::{Stop, known_at, place_at};
+use crate::steps::{is_reached, walk};
 use rb_core::seq::Seq;
 use rb_target::code::{Code, CodeFun};
 use std::alloc::{AllocError, Global};
@@ -33,6 +33,9 @@ fn trim_by(alloc: Global, fun: &CodeFun, hints: &Hints) -> Result<CodeFun, Stop>
         return Err(Stop::Unfit);
     }
     if !knows_nothing(hints) {
+        return Err(Stop::Unfit);
+    }
+    if !is_reached(hints, 0) {
         return Err(Stop::Unfit);
     }
     if !are_apart(hints) {

@@ -1,5 +1,6 @@
 -- Words for the parts of a test whether facts hold behind an instruction.
-use Rattle.std.specs.Prelude.{◌≡◌, ℕ, ◌≤◌, ◌⊎◌, List, length, Option, Some, None, Ok, slice_get, slice_index, Contains}
+use Rattle.std.specs.Prelude.{◌≡◌, ℕ, ◌%◌, ◌^◌, ◌<◌, ◌≤◌, ◌⊎◌, List, length, Option, Some, None, Ok, slice_get, slice_index, Contains, slice_set}
+use Rattle.rb_bits.specs.Words.{put_of}
 use Rattle.rb_bytes.specs.Memory.{Memory, load_of}
 use Rattle.rb_target.specs.Validity.{SlotsFit}
 use Rattle.rb_target.specs.declared.instr.Instr.{Instr}
@@ -16,6 +17,23 @@ AreSame facts a b = (s : List ℕ) (m : Memory) → Hold s m facts → slice_ind
 -- what is the one content is the other
 pub record IsAsMuch (facts : List Fact) (a b : Content) : Type 0 where
   pub by : (s : List ℕ) (m : Memory) (x : ℕ) → Hold s m facts → IsContent s m a x → IsContent s m b x
+
+-- the slot holds the content where the facts hold
+pub record IsHeld (facts : List Fact) (slot : ℕ) (content : Content) : Type 0 where
+  pub by : (s : List ℕ) (m : Memory) → Hold s m facts → IsContent s m content (slice_index s slot)
+
+-- a word with this content has at most so many bits
+abbrev pub IsBelow : Content → ℕ → Type 0
+IsBelow content l = (s : List ℕ) (m : Memory) (x : ℕ) → IsContent s m content x → x < 2 ^ l
+
+-- the slot's word has at most so many bits where the facts hold
+abbrev pub IsNarrow : List Fact → ℕ → ℕ → Type 0
+IsNarrow facts slot l = (s : List ℕ) (m : Memory) → Hold s m facts → slice_index s slot < 2 ^ l
+
+-- what bits put into a slot make of it where the facts hold
+pub record IsLaid (facts : List Fact) (slot a o l : ℕ) (content : Content) : Type 0 where
+  pub by : (s : List ℕ) (m : Memory) → Hold s m facts
+      → IsContent s m content (put_of (slice_index s slot) o l (slice_index s a % 2 ^ l))
 
 -- a load comes to a word where the facts hold
 pub record IsLoaded (facts : List Fact) (base offset width : ℕ) : Type 0 where
@@ -52,6 +70,31 @@ WritesTo (Jump t) k = ⊥
 WritesTo (Switch a other arms) k = ⊥
 WritesTo (Call f ds froms) k = Contains ds k
 WritesTo (Return froms) k = ⊥
+
+-- the instruction writes to the slot, and to no other
+abbrev pub Sets : Instr → ℕ → Type 0
+Sets (Const d c) k = d ≡ k
+Sets (Copy d a) k = d ≡ k
+Sets (Alu op n d a b) k = d ≡ k
+Sets (Take d a o l) k = d ≡ k
+Sets (Put d a o l) k = d ≡ k
+Sets (Load d a offset width) k = d ≡ k
+Sets (Place d size align) k = d ≡ k
+Sets i k = ⊥
+
+-- one slot gets a word that is the content, and memory stays
+pub record Made (fact : Fact) (slots : ℕ) (s s' : List ℕ) (m m' : Memory) : Type 0 where
+  pub word : ℕ
+  pub is : IsContent s m fact.content word
+  pub slot : s' ≡ slice_set s fact.slot word
+  pub memory : m' ≡ m
+  pub within : fact.slot < slots
+
+-- what the instruction makes, where the facts hold
+pub record IsTold (facts : List Fact) (i : Instr) (fact : Fact) : Type 0 where
+  pub sets : Sets i fact.slot
+  pub by : (slots : ℕ) (s s' : List ℕ) (m m' : Memory) → SlotsFit slots i → Hold s m facts → Turns i s m s' m'
+      → Made fact slots s s' m m'
 
 -- the instruction may change memory
 abbrev pub Changes : Instr → Type 0

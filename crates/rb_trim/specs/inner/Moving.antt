@@ -1,5 +1,5 @@
 -- When the instructions of a shorter body stand for those of a body.
-use Rattle.std.specs.Prelude.{◌≡◌, ℕ, ◌+◌, ◌<◌, ◌≤◌, ◌⊎◌, List, [], ◌∷◌, map, Option, Some, None, All, IfSome, slice_get, slice_index}
+use Rattle.std.specs.Prelude.{◌≡◌, ℕ, ◌+◌, ◌<◌, ◌≤◌, ◌⊎◌, List, [], ◌∷◌, map, Option, Some, None, All, IfSome, Contains, slice_get, slice_index}
 use Rattle.rb_bytes.specs.Memory.{Memory}
 use Rattle.rb_target.specs.declared.instr.SwitchArm.{SwitchArm}
 use Rattle.rb_target.specs.declared.instr.Instr.{Instr}
@@ -9,8 +9,10 @@ use Rattle.rb_target.specs.Validity.{IsValidFun}
 use Rattle.rb_trim.specs.Trimming.{HasSameHead}
 use Rattle.rb_trim.specs.declared.fact.Fact.{Fact}
 use Rattle.rb_trim.specs.declared.hints.Hints.{Hints}
+use Rattle.rb_trim.specs.declared.fact.Content.{Content}
+use Rattle.rb_trim.specs.declared.fact.Content.TheVariants.{Number, Same, Part, Computed, Loaded}
 use Rattle.rb_trim.specs.inner.Facts.{Hold, Follows}
-use Rattle.rb_trim.specs.inner.Following.{IsLoaded}
+use Rattle.rb_trim.specs.inner.Following.{IsLoaded, IsTold, Sets}
 
 abbrev pub facts_in : Option (List Fact) → List Fact
 facts_in None = []
@@ -20,12 +22,39 @@ facts_in (Some facts) = facts
 abbrev pub facts_at : Hints → ℕ → List Fact
 facts_at h pc = facts_in (slice_get h.facts pc)
 
+abbrev pub slots_in : Option (List ℕ) → List ℕ
+slots_in None = []
+slots_in (Some slots) = slots
+
+-- slots that no way from an instruction on reads
+abbrev pub dead_at : Hints → ℕ → List ℕ
+dead_at h pc = slots_in (slice_get h.dead pc)
+
 abbrev pub place : Hints → ℕ → ℕ
 place h pc = slice_index h.places pc
 
--- a slot is read from an instruction on
+-- where a run goes on that jumps to an instruction
+abbrev pub end : Hints → ℕ → ℕ
+end h pc = slice_index h.ends pc
+
+abbrev pub landing : Hints → ℕ → ℕ
+landing h pc = place h (end h pc)
+
+-- a run may come to an instruction
+abbrev pub IsReached : Hints → ℕ → Type 0
+IsReached h pc = 0 < slice_index h.reached pc
+
+-- some instruction reads a slot
+abbrev pub IsEverRead : Hints → ℕ → Type 0
+IsEverRead h k = 0 < slice_index h.reads k
+
+-- a slot is read from an instruction on: a later line reads it, and it is not known that none of them is come to
 abbrev pub IsRead : Hints → ℕ → ℕ → Type 0
-IsRead h pc k = pc < slice_index h.reads k
+IsRead h pc k = (pc < slice_index h.reads k) × (¬ Contains (dead_at h pc) k)
+
+-- no instruction from here on reads a slot
+pub record IsUnread (h : Hints) (pc k : ℕ) : Type 0 where
+  pub by : ¬ IsRead h pc k
 
 -- slots that are read from an instruction on hold the same under their new numbers
 abbrev pub Agree : Hints → ℕ → List ℕ → List ℕ → Type 0
@@ -33,7 +62,7 @@ Agree h pc s s' = (k : ℕ) → IsRead h pc k → slice_index s' (slice_index h.
 
 -- a slot that is read has a new number of its own
 abbrev pub IsApart : Hints → ℕ → Type 0
-IsApart h k = IsRead h 0 k → slice_index h.origins (slice_index h.names k) ≡ k
+IsApart h k = IsEverRead h k → slice_index h.origins (slice_index h.names k) ≡ k
 
 abbrev pub AreApart : Hints → Type 0
 AreApart h = (k : ℕ) → IsApart h k
@@ -41,7 +70,7 @@ AreApart h = (k : ℕ) → IsApart h k
 -- parameters keep their numbers, and no other slot that is read has one of theirs
 abbrev pub KeepsParam : Hints → ℕ → ℕ → Type 0
 KeepsParam h params k =
-    IsRead h 0 k → ((k < params) × (slice_index h.names k ≡ k)) ⊎ ((params ≤ k) × (params ≤ slice_index h.names k))
+    IsEverRead h k → ((k < params) × (slice_index h.names k ≡ k)) ⊎ ((params ≤ k) × (params ≤ slice_index h.names k))
 
 abbrev pub KeepParams : Hints → ℕ → Type 0
 KeepParams h params = (k : ℕ) → KeepsParam h params k
@@ -65,65 +94,121 @@ AreNames h facts pc [] (a' ∷ xs') = ⊥
 AreNames h facts pc (a ∷ xs) [] = ⊥
 AreNames h facts pc (a ∷ xs) (a' ∷ xs') = IsName h facts pc a a' × AreNames h facts pc xs xs'
 
-abbrev pub place_in : Hints → Option ℕ → Option ℕ
-place_in h None = None
-place_in h (Some t) = Some (place h t)
+abbrev pub landing_in : Hints → Option ℕ → Option ℕ
+landing_in h None = None
+landing_in h (Some t) = Some (landing h t)
 
 abbrev pub moved_arm : Hints → SwitchArm → SwitchArm
-moved_arm h arm = record arm { target = place h arm.target }
+moved_arm h arm = record arm { target = landing h arm.target }
+
+-- the new instruction that makes a content
+abbrev pub Makes : Hints → List Fact → ℕ → Content → ℕ → Instr → Type 0
+Makes h facts pc (Number c) d' j = j ≡ Const d' c
+Makes h facts pc (Same a) d' j = (a' : ℕ) × (j ≡ Copy d' a') × IsName h facts pc a a'
+Makes h facts pc (Part a o l) d' j = (a' : ℕ) × (j ≡ Take d' a' o l) × IsName h facts pc a a'
+Makes h facts pc (Computed op n a b) d' j =
+    (a' b' : ℕ) × (j ≡ Alu op n d' a' b') × IsName h facts pc a a' × IsName h facts pc b b'
+Makes h facts pc (Loaded a offset width) d' j = ⊥
+
+abbrev pub IsWrite : Hints → List Fact → ℕ → Fact → Instr → Type 0
+IsWrite h facts pc fact j = (d' : ℕ) × IsDest h fact.slot d' × Makes h facts pc fact.content d' j
+
+-- the new instruction makes what the old one makes
+abbrev pub IsRemade : Hints → List Fact → ℕ → Instr → Instr → Type 0
+IsRemade h facts pc i j = (fact : Fact) × IsTold facts i fact × IsWrite h facts pc fact j
+
+abbrev pub IsPut : Hints → List Fact → ℕ → ℕ → ℕ → ℕ → ℕ → Instr → Type 0
+IsPut h facts pc d a o l j =
+    (d' a' : ℕ) × (j ≡ Put d' a' o l) × IsDest h d d' × IsName h facts pc d d' × IsName h facts pc a a'
+
+-- a jump to where a run goes on, or the return that stands there
+abbrev pub IsJumped : Hints → List Instr → ℕ → Instr → Type 0
+IsJumped h body t j =
+    (j ≡ Jump (landing h t))
+    ⊎ ((froms froms' : List ℕ) × (slice_get body (end h t) ≡ Some (Return froms)) × (j ≡ Return froms')
+    × AreNames h (facts_at h (end h t)) (end h t) froms froms')
 
 -- the new instruction does to the new slots what the old one does to the old
-abbrev pub IsMoved : Hints → List Fact → ℕ → Instr → Instr → Type 0
-IsMoved h facts pc (Const d c) j = (d' : ℕ) × (j ≡ Const d' c) × IsDest h d d'
-IsMoved h facts pc (Copy d a) j = (d' a' : ℕ) × (j ≡ Copy d' a') × IsDest h d d' × IsName h facts pc a a'
-IsMoved h facts pc (Alu op n d a b) j =
-    (d' a' b' : ℕ) × (j ≡ Alu op n d' a' b') × IsDest h d d' × IsName h facts pc a a' × IsName h facts pc b b'
-IsMoved h facts pc (Take d a o l) j = (d' a' : ℕ) × (j ≡ Take d' a' o l) × IsDest h d d' × IsName h facts pc a a'
-IsMoved h facts pc (Put d a o l) j =
-    (d' a' : ℕ) × (j ≡ Put d' a' o l) × IsDest h d d' × IsName h facts pc d d' × IsName h facts pc a a'
-IsMoved h facts pc (Load d a offset width) j =
+abbrev pub IsMoved : Hints → List Fact → List Instr → ℕ → Instr → Instr → Type 0
+IsMoved h facts body pc (Const d c) j = IsRemade h facts pc (Const d c) j
+IsMoved h facts body pc (Copy d a) j = IsRemade h facts pc (Copy d a) j
+IsMoved h facts body pc (Alu op n d a b) j = IsRemade h facts pc (Alu op n d a b) j
+IsMoved h facts body pc (Take d a o l) j = IsRemade h facts pc (Take d a o l) j
+IsMoved h facts body pc (Put d a o l) j = IsRemade h facts pc (Put d a o l) j ⊎ IsPut h facts pc d a o l j
+IsMoved h facts body pc (Load d a offset width) j =
     (d' a' : ℕ) × (j ≡ Load d' a' offset width) × IsDest h d d' × IsName h facts pc a a'
-IsMoved h facts pc (Store a offset width v) j =
+IsMoved h facts body pc (Store a offset width v) j =
     (a' v' : ℕ) × (j ≡ Store a' offset width v') × IsName h facts pc a a' × IsName h facts pc v v'
-IsMoved h facts pc (Place d size align) j = (d' : ℕ) × (j ≡ Place d' size align) × IsDest h d d'
-IsMoved h facts pc (Jump t) j = j ≡ Jump (place h t)
-IsMoved h facts pc (Switch a other arms) j =
-    (a' : ℕ) × (j ≡ Switch a' (place_in h other) (map (λ arm. moved_arm h arm) arms)) × IsName h facts pc a a'
-IsMoved h facts pc (Call f ds froms) j =
+IsMoved h facts body pc (Place d size align) j = (d' : ℕ) × (j ≡ Place d' size align) × IsDest h d d'
+IsMoved h facts body pc (Jump t) j = IsJumped h body t j
+IsMoved h facts body pc (Switch a other arms) j =
+    (a' : ℕ) × (j ≡ Switch a' (landing_in h other) (map (λ arm. moved_arm h arm) arms)) × IsName h facts pc a a'
+IsMoved h facts body pc (Call f ds froms) j =
     (ds' froms' : List ℕ) × (j ≡ Call f ds' froms') × AreDests h ds ds' × AreNames h facts pc froms froms'
-IsMoved h facts pc (Return froms) j = (froms' : List ℕ) × (j ≡ Return froms') × AreNames h facts pc froms froms'
+IsMoved h facts body pc (Return froms) j = (froms' : List ℕ) × (j ≡ Return froms') × AreNames h facts pc froms froms'
 
 -- an instruction that need not be there: what it writes is not read from there on, and it cannot end the run
 abbrev pub IsIdle : Hints → List Fact → ℕ → Instr → Type 0
-IsIdle h facts pc (Const d c) = ¬ IsRead h (pc + 1) d
-IsIdle h facts pc (Copy d a) = ¬ IsRead h (pc + 1) d
-IsIdle h facts pc (Alu op n d a b) = ¬ IsRead h (pc + 1) d
-IsIdle h facts pc (Take d a o l) = ¬ IsRead h (pc + 1) d
-IsIdle h facts pc (Put d a o l) = ¬ IsRead h (pc + 1) d
-IsIdle h facts pc (Load d a offset width) =
-    (¬ IsRead h (pc + 1) d)
-    × IsLoaded facts a offset width
-IsIdle h facts pc (Jump t) = place h t ≡ place h pc
+IsIdle h facts pc (Const d c) = IsUnread h (pc + 1) d
+IsIdle h facts pc (Copy d a) = IsUnread h (pc + 1) d
+IsIdle h facts pc (Alu op n d a b) = IsUnread h (pc + 1) d
+IsIdle h facts pc (Take d a o l) = IsUnread h (pc + 1) d
+IsIdle h facts pc (Put d a o l) = IsUnread h (pc + 1) d
+IsIdle h facts pc (Load d a offset width) = IsUnread h (pc + 1) d × IsLoaded facts a offset width
 IsIdle h facts pc i = ⊥
 
--- each place where a run goes on behind an instruction is so
-abbrev pub Leads : (ℕ → Type 0) → Instr → ℕ → Type 0
-Leads P (Jump t) pc = P t
-Leads P (Switch a other arms) pc = IfSome other P × All (λ (arm : SwitchArm). P arm.target) arms
-Leads P (Return froms) pc = Unit {0}
-Leads P i pc = P (pc + 1)
+-- an instruction is idle, or jumps over nothing
+abbrev pub IsLeftOut : Hints → ℕ → Instr → Type 0
+IsLeftOut h pc (Jump t) = landing h t ≡ place h pc
+IsLeftOut h pc i = IsIdle h (facts_at h pc) pc i
+
+-- a run that jumps to an instruction goes on there, or where it goes on from the next one
+abbrev pub EndsOn : Hints → ℕ → Instr → Type 0
+EndsOn h pc (Jump t) = end h pc ≡ end h t
+EndsOn h pc i = (end h pc ≡ end h (pc + 1)) × IsIdle h (facts_at h pc) pc i
+
+abbrev pub EndsWell : Hints → ℕ → Instr → Type 0
+EndsWell h pc i = (end h pc ≡ pc) ⊎ EndsOn h pc i
+
+-- each slot that is read at a place behind an instruction is read from the instruction on, or set by it
+pub record LivesOn (h : Hints) (pc : ℕ) (i : Instr) (t : ℕ) : Type 0 where
+  pub by : (k : ℕ) → IsRead h t k → IsRead h pc k ⊎ Sets i k
+
+-- what is said of a place holds behind an instruction
+pub record GoesOn (h : Hints) (pc : ℕ) (i : Instr) (t : ℕ) : Type 0 where
+  pub lives : LivesOn h pc i t
+  pub follows : Follows (facts_at h pc) i (facts_at h t)
+
+-- the instruction behind may come next
+pub record FallsOn (h : Hints) (pc : ℕ) (i : Instr) (t : ℕ) : Type 0 where
+  pub on : GoesOn h pc i t
+  pub comes : IsReached h pc → IsReached h t
+
+-- a jump may lead to a target
+pub record JumpsOn (h : Hints) (pc : ℕ) (i : Instr) (t : ℕ) : Type 0 where
+  pub on : GoesOn h pc i t
+  pub comes : IsReached h pc → IsReached h (end h t)
+
+-- the instruction behind is so where the run goes on there, and so is each target where it jumps
+abbrev pub Leads : (ℕ → Type 0) → (ℕ → Type 0) → Instr → ℕ → Type 0
+Leads F J (Jump t) pc = J t
+Leads F J (Switch a other arms) pc = IfSome other J × All (λ (arm : SwitchArm). J arm.target) arms
+Leads F J (Return froms) pc = Unit {0}
+Leads F J i pc = F (pc + 1)
 
 -- the instruction stands in the new body, or need not
-abbrev pub IsKept : Hints → List Instr → ℕ → Instr → Type 0
-IsKept h new pc i =
-    (j : Instr) × (slice_get new (place h pc) ≡ Some j) × IsMoved h (facts_at h pc) pc i j × (place h (pc + 1) ≡ place h pc + 1)
+abbrev pub IsKept : Hints → List Instr → List Instr → ℕ → Instr → Type 0
+IsKept h body new pc i =
+    (j : Instr) × (slice_get new (place h pc) ≡ Some j) × IsMoved h (facts_at h pc) body pc i j
+    × (place h (pc + 1) ≡ place h pc + 1)
 
-abbrev pub IsLeftOut : Hints → ℕ → Instr → Type 0
-IsLeftOut h pc i = IsIdle h (facts_at h pc) pc i × (place h (pc + 1) ≡ place h pc)
+abbrev pub IsSkipped : Hints → ℕ → Instr → Type 0
+IsSkipped h pc i = (IsReached h pc → IsLeftOut h pc i) × (place h (pc + 1) ≡ place h pc)
 
-pub record IsStep (h : Hints) (new : List Instr) (pc : ℕ) (i : Instr) : Type 0 where
-  pub stands : IsKept h new pc i ⊎ IsLeftOut h pc i
-  pub known : Leads (λ t. Follows (facts_at h pc) i (facts_at h t)) i pc
+pub record IsStep (h : Hints) (body new : List Instr) (pc : ℕ) (i : Instr) : Type 0 where
+  pub stands : IsKept h body new pc i ⊎ IsSkipped h pc i
+  pub ends : EndsWell h pc i
+  pub known : Leads (FallsOn h pc i) (JumpsOn h pc i) i pc
 
 -- functions with the same heads, maybe among more
 abbrev pub HaveSameHeads : List CodeFun → List CodeFun → Type 0
@@ -137,5 +222,5 @@ pub record IsTrimmed (f q : CodeFun) : Type 0 where
   pub hints : Hints
   pub apart : AreApart hints
   pub params : KeepParams hints f.params
-  pub begins : (place hints 0 ≡ 0) × (facts_at hints 0 ≡ [])
-  pub steps : (pc : ℕ) (i : Instr) → slice_get f.body pc ≡ Some i → IsStep hints q.body pc i
+  pub begins : (place hints 0 ≡ 0) × (facts_at hints 0 ≡ []) × IsReached hints 0
+  pub steps : (pc : ℕ) (i : Instr) → slice_get f.body pc ≡ Some i → IsStep hints f.body q.body pc i

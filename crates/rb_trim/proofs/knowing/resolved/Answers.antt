@@ -1,8 +1,8 @@
 use Rattle.std.proofs.Common.{subst, sym}
 use Rattle.rb_trim.specs.declared.fact.Content.{Content}
-use Rattle.rb_trim.specs.declared.fact.Content.TheVariants.{Same, Part, Computed, Loaded}
+use Rattle.rb_trim.specs.declared.fact.Content.TheVariants.{Same, Computed, Loaded}
 use Rattle.rb_trim.specs.inner.Following.{IsAsMuch}
-use Rattle.rb_trim.proofs.Facts.{much_same, much_part, much_computed, much_loaded}
+use Rattle.rb_trim.proofs.Facts.{much_same, much_computed, much_loaded}
 use Rattle.rb_trim.proofs.knowing.resolved.Goals as goal
 
 pub returns-in-Same : goal.returns-in-Same
@@ -11,9 +11,7 @@ returns-in-Same c =
     (much_same c.args.facts.now c.in-Same.from c.source.result c.source.ensures)
 
 pub returns-in-Part : goal.returns-in-Part
-returns-in-Part c =
-    subst (λ (x : Content). IsAsMuch c.args.facts.now x (Part c.source-in-Part.result c.in-Part.o c.in-Part.l)) (sym c.in-Part.is)
-    (much_part c.args.facts.now c.in-Part.from c.source-in-Part.result c.in-Part.o c.in-Part.l c.source-in-Part.ensures)
+returns-in-Part c = subst (λ (x : Content). IsAsMuch c.args.facts.now x c.part.result) (sym c.in-Part.is) c.part.ensures
 
 pub returns-in-Computed : goal.returns-in-Computed
 returns-in-Computed c =

@@ -9,4 +9,4 @@ returns c =
     (rw c.as_slice.ensures at c.in_ok-body.ensures)
     (c.fits.ensures (search rules))
     (c.are_apart.ensures (search rules)) (c.keep_params.ensures (search rules))
-    (sym c.place_at-first.ensures ∙ search rules) (c.knows_nothing.ensures (search rules))
+    (sym c.place_at-first.ensures ∙ search rules) (c.knows_nothing.ensures (search rules)) (c.is_reached.ensures.0 (search rules))

@@ -1,6 +1,6 @@
 use Rattle.std.proofs.Common.{arith, rules, below_more}
 use Rattle.rb_trim.proofs.Facts.{follows_all}
-use Rattle.rb_trim.proofs.knowing.follow.Goals as goal
+use Rattle.rb_trim.proofs.telling.follow.Goals as goal
 
 pub loop-k-preserved : goal.loop-k-preserved
 loop-k-preserved c = below_more _ _ c.loop-k.invariant (c.follows_at.ensures (search rules))

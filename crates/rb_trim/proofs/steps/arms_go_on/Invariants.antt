@@ -1,6 +1,0 @@
-use Rattle.std.proofs.Common.{ℕ, ◌<◌}
-use Rattle.rb_trim.specs.inner.Stepping.{GoesOnAt}
-use Rattle.rb_trim.proofs.steps.arms_go_on.Given as goal
-
-abbrev pub invariant-loop-k : goal.invariant-loop-k
-invariant-loop-k l = (j : ℕ) → j < l.k → GoesOnAt l.hints l.pc l.instr l.arms j

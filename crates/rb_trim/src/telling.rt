@@ -1,0 +1,252 @@
+//! What instructions make, and which facts hold behind them.
+
+ghost use Rattle.std.specs.Prelude.{◌≡◌, ◌↔◌, IfSome, IsTrue, Some, Contains};
+ghost use Rattle.rb_target.specs.declared.instr.Instr.TheVariants.{Put};
+ghost use Rattle.rb_trim.specs.inner.Facts.{Follows};
+ghost use Rattle.rb_trim.specs.inner.Following.{IsLaid, IsTold, IsToldBy, WritesTo, Changes, Keeps, Sets, FollowsOne, FollowsAt, made_of};
+
+use crate::fact::{Content, Fact};
+use crate::knowing::{is_known, is_narrow, part, resolved, source};
+use rb_target::instr::Instr;
+
+// What an instruction makes of slots, numbers and memory, without changing memory.
+fn made(instr: &Instr) -> Option<Fact>
+    ensures { result ≡ made_of instr.now }
+{
+    match instr {
+        Instr::Const(dest, number) => fact(*dest, Content::Number(*number)),
+        Instr::Copy(dest, from) => fact(*dest, Content::Same(*from)),
+        Instr::Alu(op, bits, dest, a, b) => fact(*dest, Content::Computed(*op, *bits, *a, *b)),
+        Instr::Take(dest, from, o, l) => fact(*dest, Content::Part(*from, *o, *l)),
+        Instr::Load(dest, base, offset, width) => {
+            fact(*dest, Content::Loaded(*base, *offset, *width))
+        }
+        Instr::Put(..)
+        | Instr::Store(..)
+        | Instr::Place(..)
+        | Instr::Jump(_)
+        | Instr::Switch(..)
+        | Instr::Call(..)
+        | Instr::Return(_) => None,
+    }
+}
+
+fn fact(slot: usize, content: Content) -> Option<Fact>
+    ensures { result ≡ Some (record { slot = slot; content = content }) }
+{
+    Some(Fact { slot, content })
+}
+
+// What a slot holds once bits are put into it, where they replace all that it has.
+fn laid(facts: &[Fact], slot: usize, from: usize, o: u8, l: u8) -> Option<Content>
+    ensures { IfSome result (λ content. IsLaid facts.now slot from o l content) }
+{
+    let old = source(facts, slot);
+    if o != 0 {
+        return None;
+    }
+    if !is_narrow(facts, old, l) {
+        return None;
+    }
+    let content = part(facts, from, 0, l);
+    Some(content)
+}
+
+// What bits put into a slot make of it, told by what is known.
+fn told_put(facts: &[Fact], slot: usize, from: usize, o: u8, l: u8) -> Option<Fact>
+    ensures { IfSome result (λ fact. IsTold facts.now (Put slot from o l) fact) }
+{
+    let Some(content) = laid(facts, slot, from, o, l) else {
+        return None;
+    };
+    Some(Fact { slot, content })
+}
+
+// What another instruction makes, told by what is known.
+fn told_made(facts: &[Fact], instr: &Instr) -> Option<Fact>
+    ensures { IfSome result (λ fact. IsTold facts.now instr.now fact) }
+{
+    let Some(made) = made(instr) else {
+        return None;
+    };
+    let content = resolved(facts, made.content);
+    Some(Fact {
+        slot: made.slot,
+        content,
+    })
+}
+
+// What an instruction makes, told by what is known.
+pub(crate) fn told(facts: &[Fact], instr: &Instr) -> Option<Fact>
+    ensures { IfSome result (λ fact. IsTold facts.now instr.now fact) }
+{
+    match instr {
+        Instr::Put(slot, from, o, l) => told_put(facts, *slot, *from, *o, *l),
+        Instr::Const(..)
+        | Instr::Copy(..)
+        | Instr::Alu(..)
+        | Instr::Take(..)
+        | Instr::Load(..)
+        | Instr::Store(..)
+        | Instr::Place(..)
+        | Instr::Jump(_)
+        | Instr::Switch(..)
+        | Instr::Call(..)
+        | Instr::Return(_) => told_made(facts, instr),
+    }
+}
+
+// Whether a content is told by a slot.
+pub(crate) fn is_told_by(content: &Content, slot: usize) -> bool
+    ensures { IsTrue result ↔ IsToldBy content.now slot }
+{
+    match content {
+        Content::Number(_) => false,
+        Content::Same(from) | Content::Part(from, _, _) | Content::Loaded(from, _, _) => {
+            *from == slot
+        }
+        Content::Computed(_, _, a, b) => *a == slot || *b == slot,
+    }
+}
+
+// Whether a slot is among these.
+fn is_among(slots: &[usize], slot: usize) -> bool
+    ensures { IsTrue result ↔ Contains slots.now slot }
+{
+    slots.contains(&slot)
+}
+
+// Whether an instruction writes to a slot.
+fn writes_to(instr: &Instr, slot: usize) -> bool
+    ensures { IsTrue result ↔ WritesTo instr.now slot }
+{
+    match instr {
+        Instr::Const(dest, _)
+        | Instr::Copy(dest, _)
+        | Instr::Alu(_, _, dest, _, _)
+        | Instr::Take(dest, _, _, _)
+        | Instr::Put(dest, _, _, _)
+        | Instr::Load(dest, _, _, _)
+        | Instr::Place(dest, _, _) => *dest == slot,
+        Instr::Call(_, dests, _) => is_among(dests.as_slice(), slot),
+        Instr::Store(..) | Instr::Jump(_) | Instr::Switch(..) | Instr::Return(_) => false,
+    }
+}
+
+// Whether an instruction writes to a slot, and to no other.
+pub(crate) fn sets(instr: &Instr, slot: usize) -> bool
+    ensures { IsTrue result → Sets instr.now slot }
+{
+    match instr {
+        Instr::Const(dest, _)
+        | Instr::Copy(dest, _)
+        | Instr::Alu(_, _, dest, _, _)
+        | Instr::Take(dest, _, _, _)
+        | Instr::Put(dest, _, _, _)
+        | Instr::Load(dest, _, _, _)
+        | Instr::Place(dest, _, _) => *dest == slot,
+        Instr::Store(..)
+        | Instr::Jump(_)
+        | Instr::Switch(..)
+        | Instr::Call(..)
+        | Instr::Return(_) => false,
+    }
+}
+
+// Whether an instruction may change memory.
+fn changes(instr: &Instr) -> bool
+    ensures { IsTrue result ↔ Changes instr.now }
+{
+    match instr {
+        Instr::Store(..) | Instr::Place(..) | Instr::Call(..) => true,
+        Instr::Const(..)
+        | Instr::Copy(..)
+        | Instr::Alu(..)
+        | Instr::Take(..)
+        | Instr::Put(..)
+        | Instr::Load(..)
+        | Instr::Jump(_)
+        | Instr::Switch(..)
+        | Instr::Return(_) => false,
+    }
+}
+
+// Whether a content is the same behind an instruction.
+fn keeps_content(instr: &Instr, content: &Content) -> bool
+    ensures { IsTrue result → Keeps instr.now content.now }
+{
+    match content {
+        Content::Number(_) => true,
+        Content::Same(from) | Content::Part(from, _, _) => !writes_to(instr, *from),
+        Content::Computed(_, _, a, b) => !writes_to(instr, *a) && !writes_to(instr, *b),
+        Content::Loaded(base, _, _) => !writes_to(instr, *base) && !changes(instr),
+    }
+}
+
+// Whether a fact holds because of an instruction.
+fn is_made(facts: &[Fact], instr: &Instr, fact: &Fact) -> bool
+    ensures { IsTrue result → FollowsOne facts.now instr.now fact.now }
+{
+    let Some(told) = told(facts, instr) else {
+        return false;
+    };
+    if fact.slot != told.slot {
+        return false;
+    }
+    if fact.content == told.content {
+        if is_told_by(&told.content, told.slot) {
+            return false;
+        }
+        return true;
+    }
+    match fact.content {
+        Content::Same(from) => {
+            let known = Fact {
+                slot: from,
+                content: told.content,
+            };
+            if from == told.slot {
+                return false;
+            }
+            is_known(facts, &known)
+        }
+        Content::Number(_) | Content::Part(..) | Content::Computed(..) | Content::Loaded(..) => {
+            false
+        }
+    }
+}
+
+// Whether a fact that holds before an instruction holds behind it.
+pub(crate) fn stays(facts: &[Fact], instr: &Instr, fact: &Fact) -> bool
+    ensures { IsTrue result → FollowsOne facts.now instr.now fact.now }
+{
+    if !is_known(facts, fact) {
+        return false;
+    }
+    if writes_to(instr, fact.slot) {
+        return false;
+    }
+    keeps_content(instr, &fact.content)
+}
+
+// Whether one of some facts holds behind an instruction.
+fn follows_at(facts: &[Fact], instr: &Instr, behind: &[Fact], k: usize) -> bool
+    ensures { IsTrue result → FollowsAt facts.now instr.now behind.now k }
+{
+    match behind.get(k) {
+        None => true,
+        Some(fact) => stays(facts, instr, fact) || is_made(facts, instr, fact),
+    }
+}
+
+// Whether facts hold behind an instruction.
+pub(crate) fn follow(facts: &[Fact], instr: &Instr, behind: &[Fact]) -> bool
+    ensures { IsTrue result → Follows facts.now instr.now behind.now }
+{
+    for k in 0..behind.len() {
+        if !follows_at(facts, instr, behind, k) {
+            return false;
+        }
+    }
+    true
+}
