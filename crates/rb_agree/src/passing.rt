@@ -13,13 +13,13 @@
 //! of its own for each leaf goes through the whole tree each time. Below an `else`, where it is asked for
 //! each literal of the arms, a leaf that is alike to one that excludes them all is not asked again.
 
-ghost use Rattle.std.specs.Prelude.{IfOk, None, OnOk};
+ghost use Rattle.std.specs.Prelude.{IfOk, OnOk};
 ghost use Rattle.std.specs.Bool.{OnTrue};
 ghost use Rattle.rb_layout.specs.A7.{Meets};
 ghost use Rattle.rb_layout.specs.Readable.{IsReadable};
 ghost use Rattle.rb_layout.specs.Splits.{routes_of};
 ghost use Rattle.rb_agree.specs.inner.Lists.{EachOf};
-ghost use Rattle.rb_agree.specs.inner.Passing.{AreAsked, AreWalked, Covers, IsAsked, IsLike, IsOff, IsPrior, Keeps, PassWhereOff, test_at};
+ghost use Rattle.rb_agree.specs.inner.Passing.{AreAsked, AreWalked, Covers, IsAsked, IsLike, IsOff, IsPrior, Keeps, PassWhereOff, else_of, test_of};
 ghost use Rattle.rb_agree.specs.inner.Tests.{arms_routes};
 
 use crate::alike::are_alike;
@@ -36,6 +36,15 @@ use std::alloc::{AllocError, Global};
 pub struct Span {
     pub first: usize,
     pub end: usize,
+}
+
+/// What a split asks of leaves at its location: of those below an arm to have its literal, and of those below
+/// its `else` to exclude those of all arms.
+#[derive(Clone, Copy)]
+pub struct Asking<'a> {
+    pub loc: &'a Loc,
+    pub arms: &'a [FlatArm],
+    pub literal: Option<u64>,
 }
 
 // All leaves from the first of both on to the last of both.
@@ -93,23 +102,22 @@ fn meets(
     layouts: &[Layout],
     leaves: &[Leaf],
     leaf: &Leaf,
-    loc: &Loc,
-    arms: &[FlatArm],
-    literal: Option<u64>,
+    asking: &Asking,
     prior: Option<usize>,
 ) -> Result<bool, AllocError>
     requires readable { IsReadable leaf.now }
-    requires prior { IsPrior types.now layouts.now leaves.now (test_at loc.now arms.now None) prior }
+    requires prior { IsPrior types.now layouts.now leaves.now (else_of asking.now) prior }
     ensures { IfOk result
-        (λ b. OnTrue b (Meets types.now layouts.now leaf.now (test_at loc.now arms.now literal))) }
+        (λ b. OnTrue b (Meets types.now layouts.now leaf.now (test_of asking.now))) }
 {
-    match literal {
+    let loc = asking.loc;
+    match asking.literal {
         Some(number) => Ok(literal_fault(alloc, types, layouts, leaf, loc, number)?.is_none()),
         None => {
             if is_like(types, leaves, leaf, loc, prior) {
                 return Ok(true);
             }
-            Ok(else_fault(alloc, types, layouts, leaf, loc, arms)?.is_none())
+            Ok(else_fault(alloc, types, layouts, leaf, loc, asking.arms)?.is_none())
         }
     }
 }
@@ -121,26 +129,22 @@ fn ask(
     types: &[DataDecl],
     layouts: &[Layout],
     leaves: &[Leaf],
-    loc: &Loc,
-    arms: &[FlatArm],
-    literal: Option<u64>,
+    asking: &Asking,
     prior: Option<usize>,
     n: usize,
     marks: &mut Seq<bool>,
 ) -> Result<Option<usize>, AllocError>
     requires readable { EachOf IsReadable leaves.now }
-    requires prior { IsPrior types.now layouts.now leaves.now (test_at loc.now arms.now None) prior }
+    requires prior { IsPrior types.now layouts.now leaves.now (else_of asking.now) prior }
     ensures asked { OnOk result
-        (IsAsked types.now layouts.now leaves.now (test_at loc.now arms.now literal) n marks.old marks.new) }
-    ensures prior { IfOk result (IsPrior types.now layouts.now leaves.now (test_at loc.now arms.now None)) }
+        (IsAsked types.now layouts.now leaves.now (test_of asking.now) n marks.old marks.new) }
+    ensures prior { IfOk result (IsPrior types.now layouts.now leaves.now (else_of asking.now)) }
 {
     let Some(leaf) = leaves.get(n) else {
         return Ok(prior);
     };
-    if meets(
-        alloc, types, layouts, leaves, leaf, loc, arms, literal, prior,
-    )? {
-        return match literal {
+    if meets(alloc, types, layouts, leaves, leaf, asking, prior)? {
+        return match asking.literal {
             None => Ok(Some(n)),
             Some(_) => Ok(prior),
         };
@@ -155,21 +159,17 @@ fn ask_all(
     types: &[DataDecl],
     layouts: &[Layout],
     leaves: &[Leaf],
-    loc: &Loc,
-    arms: &[FlatArm],
-    literal: Option<u64>,
+    asking: &Asking,
     span: Span,
     marks: &mut Seq<bool>,
 ) -> Result<(), AllocError>
     requires { EachOf IsReadable leaves.now }
     ensures { OnOk result
-        (AreAsked types.now layouts.now leaves.now (test_at loc.now arms.now literal) span marks.old marks.new) }
+        (AreAsked types.now layouts.now leaves.now (test_of asking.now) span marks.old marks.new) }
 {
     let mut prior = None;
     for n in span.first..span.end {
-        prior = ask(
-            alloc, types, layouts, leaves, loc, arms, literal, prior, n, marks,
-        )?;
+        prior = ask(alloc, types, layouts, leaves, asking, prior, n, marks)?;
     }
     Ok(())
 }
@@ -203,7 +203,12 @@ fn walk_tree(
                 None => Ok(span),
                 Some(tree) => {
                     let under = walk_tree(alloc, types, layouts, leaves, tree.get(), marks)?;
-                    ask_all(alloc, types, layouts, leaves, loc, arms, None, under, marks)?;
+                    let asking = Asking {
+                        loc,
+                        arms,
+                        literal: None,
+                    };
+                    ask_all(alloc, types, layouts, leaves, &asking, under, marks)?;
                     Ok(joined(span, under))
                 }
             }
@@ -232,10 +237,12 @@ fn walk_arms(
     };
     for arm in arms {
         let under = walk_tree(alloc, types, layouts, leaves, &arm.under, marks)?;
-        let literal = Some(arm.literal);
-        ask_all(
-            alloc, types, layouts, leaves, loc, arms, literal, under, marks,
-        )?;
+        let asking = Asking {
+            loc,
+            arms,
+            literal: Some(arm.literal),
+        };
+        ask_all(alloc, types, layouts, leaves, &asking, under, marks)?;
         span = joined(span, under);
     }
     Ok(span)

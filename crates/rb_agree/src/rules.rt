@@ -16,7 +16,7 @@ ghost use Rattle.rb_agree.specs.Written.{shown_items};
 ghost use Rattle.rb_agree.specs.inner.Lists.{EachOf};
 ghost use Rattle.rb_agree.specs.inner.Leaves.{items_under, shown_leaves};
 ghost use Rattle.rb_agree.specs.inner.Passing.{IsOff};
-ghost use Rattle.rb_agree.specs.inner.Rules.{HoldsWhereOff, IsKnown, IsReady, leaf_spots, leaves_spots, refusal, rule_number, rule_spots, rules_spots, spots_of, type_spots};
+ghost use Rattle.rb_agree.specs.inner.Rules.{FindsAtLeaf, FindsAtLeaves, FindsAtType, FindsIn, IsKnown, IsReady, IsRuled, RuleHoldsWhereOff, refusal, rule_number, rule_spots, rules_spots};
 
 use crate::blocks::blocks_fault;
 use crate::graphs::{flattening_fault, holding_fault};
@@ -78,6 +78,17 @@ pub struct Related {
     pub holds_in_order: bool,
 }
 
+/// A type's layout that is looked at under one rule, and how all layouts of its program are related.
+#[derive(Clone, Copy)]
+pub struct Ruled<'a> {
+    pub program: &'a Program,
+    pub layouts: &'a [Layout],
+    pub related: &'a Related,
+    pub rule: Rule,
+    pub ty: u32,
+    pub layout: &'a Layout,
+}
+
 fn rule_number(rule: Rule) -> u8
     ensures { result ≡ rule_number rule }
 {
@@ -123,66 +134,62 @@ fn items_fault(
 // How leaf `n` of a type's layout fails a rule.
 fn leaf_fault(
     alloc: Global,
-    program: &Program,
-    layouts: &[Layout],
-    related: &Related,
-    rule: Rule,
-    ty: u32,
-    layout: &Layout,
+    ruled: &Ruled,
     n: usize,
     leaf: &Leaf,
     items: &[Item],
 ) -> Result<Option<Why>, AllocError>
-    requires known { IsKnown program.now layouts.now related.now }
-    requires layout { layout_of layouts.now ty ≡ Some layout.now }
-    requires leaf { slice_get layout.now.leaves n ≡ Some leaf.now }
-    requires items { shown_items items.now ≡ items_of program.now.layouts ty n }
-    requires ready { IsReady layouts.now rule }
-    ensures { IfOk result (λ found. Finds program.now layouts.now
-        (leaf_spots program.now.layouts rule ty layout.now n leaf.now) (refusal (rule_number rule) ty (Some n) found)) }
+    requires ruled { IsRuled ruled.now }
+    requires leaf { slice_get ruled.now.layout.now.leaves n ≡ Some leaf.now }
+    requires items { shown_items items.now ≡ items_of ruled.now.program.now.layouts ruled.now.ty n }
+    requires ready { IsReady ruled.now.layouts.now ruled.now.rule }
+    ensures { IfOk result (FindsAtLeaf ruled.now n leaf.now) }
 {
-    match rule {
+    let program = ruled.program;
+    let layout = ruled.layout;
+    match ruled.rule {
         Rule::Roots => root_fault(layout.shape.as_slice(), leaf),
         Rule::Parts => items_fault(alloc, program, leaf, items),
         Rule::Blocks => Ok(blocks_fault(leaf)),
-        Rule::Values => apart_fault(alloc, program.types.as_slice(), ty, layout, n, leaf),
+        Rule::Values => apart_fault(alloc, program.types.as_slice(), ruled.ty, layout, n, leaf),
         Rule::Fields => held_fault(alloc, program, leaf, items),
         Rule::Tests => tests_fault(
             alloc,
             program.types.as_slice(),
-            layouts,
+            ruled.layouts,
             &layout.tree,
             n,
             leaf,
         ),
         Rule::Splits => Ok(None),
-        Rule::Flattening => Ok(pointer_fault(layouts, related.marks.as_slice(), leaf)),
+        Rule::Flattening => Ok(pointer_fault(ruled.layouts, ruled.related.marks.as_slice(), leaf)),
         Rule::Holding => Ok(None),
     }
 }
 
 // A mark for each leaf of a type's layout, off only where a rule holds there; none where nothing is known.
-fn doubts(
-    alloc: Global,
-    program: &Program,
-    layouts: &[Layout],
-    related: &Related,
-    rule: Rule,
-    ty: u32,
-    layout: &Layout,
-) -> Result<Seq<bool>, AllocError>
-    requires known { IsKnown program.now layouts.now related.now }
-    requires layout { layout_of layouts.now ty ≡ Some layout.now }
-    requires ready { IsReady layouts.now rule }
-    ensures { IfOk result (HoldsWhereOff program.now layouts.now rule ty layout.now) }
+fn doubts(alloc: Global, ruled: &Ruled) -> Result<Seq<bool>, AllocError>
+    requires ruled { IsRuled ruled.now }
+    requires ready { IsReady ruled.now.layouts.now ruled.now.rule }
+    ensures { IfOk result (RuleHoldsWhereOff ruled.now) }
 {
-    match rule {
+    match ruled.rule {
         Rule::Roots => Ok(Seq::new(alloc)),
         Rule::Parts => Ok(Seq::new(alloc)),
         Rule::Blocks => Ok(Seq::new(alloc)),
-        Rule::Values => sharing(alloc, program.types.as_slice(), ty, layout),
+        Rule::Values => sharing(
+            alloc,
+            ruled.program.types.as_slice(),
+            ruled.ty,
+            ruled.layout,
+        ),
         Rule::Fields => Ok(Seq::new(alloc)),
-        Rule::Tests => failing(alloc, program.types.as_slice(), layouts, layout),
+        Rule::Tests => failing(
+            alloc,
+            ruled.program.types.as_slice(),
+            ruled.layouts,
+            ruled.layout,
+        ),
         Rule::Splits => Ok(Seq::new(alloc)),
         Rule::Flattening => Ok(Seq::new(alloc)),
         Rule::Holding => Ok(Seq::new(alloc)),
@@ -201,32 +208,23 @@ fn is_off(marks: &[bool], n: usize) -> bool
 // How leaf `n` of a type's layout fails a rule, if its mark is on.
 fn doubted_fault(
     alloc: Global,
-    program: &Program,
-    layouts: &[Layout],
-    related: &Related,
-    rule: Rule,
-    ty: u32,
-    layout: &Layout,
+    ruled: &Ruled,
     n: usize,
     leaf: &Leaf,
     items: &[Item],
     marks: &[bool],
 ) -> Result<Option<Why>, AllocError>
-    requires known { IsKnown program.now layouts.now related.now }
-    requires layout { layout_of layouts.now ty ≡ Some layout.now }
-    requires leaf { slice_get layout.now.leaves n ≡ Some leaf.now }
-    requires items { shown_items items.now ≡ items_of program.now.layouts ty n }
-    requires ready { IsReady layouts.now rule }
-    requires marks { HoldsWhereOff program.now layouts.now rule ty layout.now marks.now }
-    ensures { IfOk result (λ found. Finds program.now layouts.now
-        (leaf_spots program.now.layouts rule ty layout.now n leaf.now) (refusal (rule_number rule) ty (Some n) found)) }
+    requires ruled { IsRuled ruled.now }
+    requires leaf { slice_get ruled.now.layout.now.leaves n ≡ Some leaf.now }
+    requires items { shown_items items.now ≡ items_of ruled.now.program.now.layouts ruled.now.ty n }
+    requires ready { IsReady ruled.now.layouts.now ruled.now.rule }
+    requires marks { RuleHoldsWhereOff ruled.now marks.now }
+    ensures { IfOk result (FindsAtLeaf ruled.now n leaf.now) }
 {
     if is_off(marks, n) {
         return Ok(None);
     }
-    leaf_fault(
-        alloc, program, layouts, related, rule, ty, layout, n, leaf, items,
-    )
+    leaf_fault(alloc, ruled, n, leaf, items)
 }
 
 // A cycle of flattening through a type: it is searched for where it is not known that there is none.
@@ -273,62 +271,48 @@ fn hold_cycle(
 }
 
 // How a type fails a rule at no leaf.
-fn type_fault(
-    alloc: Global,
-    program: &Program,
-    layouts: &[Layout],
-    related: &Related,
-    rule: Rule,
-    ty: u32,
-    layout: &Layout,
-) -> Result<Option<Why>, AllocError>
-    requires known { IsKnown program.now layouts.now related.now }
-    requires layout { layout_of layouts.now ty ≡ Some layout.now }
-    ensures { IfOk result (λ found. Finds program.now layouts.now
-        (type_spots rule ty layout.now) (refusal (rule_number rule) ty None found)) }
+fn type_fault(alloc: Global, ruled: &Ruled) -> Result<Option<Why>, AllocError>
+    requires ruled { IsRuled ruled.now }
+    ensures { IfOk result (FindsAtType ruled.now) }
 {
-    match rule {
+    let program = ruled.program;
+    let layouts = ruled.layouts;
+    let related = ruled.related;
+    match ruled.rule {
         Rule::Roots => Ok(None),
         Rule::Parts => Ok(None),
         Rule::Blocks => Ok(None),
-        Rule::Values => complete_fault(alloc, program.types.as_slice(), ty, layout),
+        Rule::Values => complete_fault(alloc, program.types.as_slice(), ruled.ty, ruled.layout),
         Rule::Fields => Ok(None),
         Rule::Tests => Ok(None),
-        Rule::Splits => splits_fault(alloc, layout),
-        Rule::Flattening => flat_cycle(alloc, program, layouts, related, ty),
-        Rule::Holding => hold_cycle(alloc, program, layouts, related, ty),
+        Rule::Splits => splits_fault(alloc, ruled.layout),
+        Rule::Flattening => flat_cycle(alloc, program, layouts, related, ruled.ty),
+        Rule::Holding => hold_cycle(alloc, program, layouts, related, ruled.ty),
     }
 }
 
 // The refusal by the first leaf of a type's layout that fails a rule, where these are the leaves' items.
 fn leaves_fault(
     alloc: Global,
-    program: &Program,
-    layouts: &[Layout],
-    related: &Related,
-    rule: Rule,
-    ty: u32,
-    layout: &Layout,
+    ruled: &Ruled,
     written: &[Seq<Item>],
     marks: &[bool],
 ) -> Result<Option<Refused>, AllocError>
-    requires known { IsKnown program.now layouts.now related.now }
-    requires layout { layout_of layouts.now ty ≡ Some layout.now }
-    requires written { shown_leaves written.now ≡ items_under (leaves_in (decl_of program.now.layouts ty)) }
-    requires ready { IsReady layouts.now rule }
-    requires marks { HoldsWhereOff program.now layouts.now rule ty layout.now marks.now }
-    ensures { IfOk result (Finds program.now layouts.now (leaves_spots program.now.layouts rule ty layout.now)) }
+    requires ruled { IsRuled ruled.now }
+    requires written { shown_leaves written.now
+        ≡ items_under (leaves_in (decl_of ruled.now.program.now.layouts ruled.now.ty)) }
+    requires ready { IsReady ruled.now.layouts.now ruled.now.rule }
+    requires marks { RuleHoldsWhereOff ruled.now marks.now }
+    ensures { IfOk result (FindsAtLeaves ruled.now) }
 {
-    let leaves = layout.leaves.as_slice();
+    let leaves = ruled.layout.leaves.as_slice();
     for n in 0..leaves.len() {
         let items = items_at(written, n);
         let leaf = number_of(n)?;
-        if let Some(why) = doubted_fault(
-            alloc, program, layouts, related, rule, ty, layout, n, &leaves[n], items, marks,
-        )? {
+        if let Some(why) = doubted_fault(alloc, ruled, n, &leaves[n], items, marks)? {
             return Ok(Some(Refused {
-                rule: rule_number(rule),
-                ty,
+                rule: rule_number(ruled.rule),
+                ty: ruled.ty,
                 leaf: Some(leaf),
                 why,
             }));
@@ -338,38 +322,24 @@ fn leaves_fault(
 }
 
 // The refusal by the first place of a type that fails a rule.
-fn layout_fault(
-    alloc: Global,
-    program: &Program,
-    layouts: &[Layout],
-    related: &Related,
-    rule: Rule,
-    ty: u32,
-    layout: &Layout,
-) -> Result<Option<Refused>, AllocError>
-    requires known { IsKnown program.now layouts.now related.now }
-    requires layout { layout_of layouts.now ty ≡ Some layout.now }
-    requires ready { IsReady layouts.now rule }
-    ensures { IfOk result (Finds program.now layouts.now (spots_of program.now.layouts rule ty layout.now)) }
+fn layout_fault(alloc: Global, ruled: &Ruled) -> Result<Option<Refused>, AllocError>
+    requires ruled { IsRuled ruled.now }
+    requires ready { IsReady ruled.now.layouts.now ruled.now.rule }
+    ensures { IfOk result (FindsIn ruled.now) }
 {
-    if let Some(why) = type_fault(alloc, program, layouts, related, rule, ty, layout)? {
+    if let Some(why) = type_fault(alloc, ruled)? {
         return Ok(Some(Refused {
-            rule: rule_number(rule),
-            ty,
+            rule: rule_number(ruled.rule),
+            ty: ruled.ty,
             leaf: None,
             why,
         }));
     }
-    let marks = doubts(alloc, program, layouts, related, rule, ty, layout)?;
+    let marks = doubts(alloc, ruled)?;
     leaves_fault(
         alloc,
-        program,
-        layouts,
-        related,
-        rule,
-        ty,
-        layout,
-        leaves_at(related.written.as_slice(), ty),
+        ruled,
+        leaves_at(ruled.related.written.as_slice(), ruled.ty),
         marks.as_slice(),
     )
 }
@@ -388,15 +358,15 @@ fn rule_fault(
 {
     for t in 0..layouts.len() {
         let ty = number_of(t)?;
-        if let Some(refused) = layout_fault(
-            alloc,
+        let ruled = Ruled {
             program,
             layouts,
             related,
             rule,
             ty,
-            &layouts[t],
-        )? {
+            layout: &layouts[t],
+        };
+        if let Some(refused) = layout_fault(alloc, &ruled)? {
             return Ok(Some(refused));
         }
     }

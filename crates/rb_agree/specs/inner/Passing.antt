@@ -7,6 +7,7 @@ use Rattle.rb_layout.specs.declared.layout.Leaf.{Leaf}
 use Rattle.rb_layout.specs.declared.layout.FlatArm.{FlatArm}
 use Rattle.rb_layout.specs.Splits.{Test, Is, IsNone, Route}
 use Rattle.rb_layout.specs.A7.{Meets, MeetsAll}
+use Rattle.rb_agree.specs.declared.passing.Asking.{Asking}
 use Rattle.rb_agree.specs.declared.passing.Span.{Span}
 use Rattle.rb_agree.specs.inner.Alike.{AreAlike}
 use Rattle.rb_agree.specs.inner.Lists.{EachOf}
@@ -16,6 +17,12 @@ use Rattle.rb_agree.specs.inner.Splits.{literals_in}
 abbrev pub test_at : Loc → List FlatArm → Option ℕ → Test
 test_at loc arms (Some c) = Is loc c
 test_at loc arms None = IsNone loc (literals_in arms)
+
+abbrev pub test_of : Asking → Test
+test_of a = test_at a.loc.now a.arms.now a.literal
+
+abbrev pub else_of : Asking → Test
+else_of a = test_at a.loc.now a.arms.now None
 
 -- the mark of leaf n is off
 abbrev pub IsOff : List Bool → ℕ → Type 0

@@ -11,6 +11,7 @@ use Rattle.rb_layout.specs.declared.evidence.Why.{Why}
 use Rattle.rb_layout.specs.declared.evidence.Refused.{Refused}
 use Rattle.rb_layout.specs.Items.{items_of}
 use Rattle.rb_layout.specs.Cycles.{HasNoCycle}
+use Rattle.rb_layout.specs.Positions.{layout_of}
 use Rattle.rb_layout.specs.Each.{EachLeaf}
 use Rattle.rb_layout.specs.Readable.{IsReadable}
 use Rattle.rb_layout.specs.A9.{Flattens}
@@ -20,6 +21,8 @@ use Rattle.rb_layout.specs.Spots as S
 use Rattle.rb_agree.specs.declared.rules.Rule.{Rule}
 use Rattle.rb_agree.specs.declared.rules.Rule.TheVariants.{Roots, Parts, Blocks, Values, Fields, Tests, Splits, Flattening, Holding}
 use Rattle.rb_agree.specs.declared.rules.Related.{Related}
+use Rattle.rb_agree.specs.declared.rules.Ruled.{Ruled}
+use Rattle.rb_agree.specs.Answers.{Finds}
 use Rattle.rb_agree.specs.Graphs.{IsGraphOf}
 use Rattle.rb_agree.specs.Pointing.{AreMarks}
 use Rattle.rb_agree.specs.inner.Leaves.{AreWritten}
@@ -104,3 +107,33 @@ pub record IsKnown (p : Program) (layouts : List Layout) (related : Related) : T
 abbrev pub HoldsWhereOff : Program → List Layout → Rule → ℕ → Layout → List Bool → Type 0
 HoldsWhereOff p layouts rule t layout marks =
     (n : ℕ) (leaf : Leaf) → IsOff marks n → slice_get layout.leaves n ≡ Some leaf → Checked p layouts (leaf_spots p.layouts rule t layout n leaf) None
+
+-- A layout under a rule ---------------------------------------------------------------------
+
+-- the layouts of a typed program are related so, and the layout is that of the type
+pub record IsRuled (r : Ruled) : Type 0 where
+  pub known : IsKnown r.program.now r.layouts.now r.related.now
+  pub layout : layout_of r.layouts.now r.ty ≡ Some r.layout.now
+
+-- the first failure of the rule at these places
+abbrev pub FindsOf : Ruled → List Spot → Option Refused → Type 0
+FindsOf r spots found = Finds r.program.now r.layouts.now spots found
+
+abbrev pub FindsAtType : Ruled → Option Why → Type 0
+FindsAtType r why = FindsOf r (type_spots r.rule r.ty r.layout.now) (refusal (rule_number r.rule) r.ty None why)
+
+abbrev pub FindsAtLeaf : Ruled → ℕ → Leaf → Option Why → Type 0
+FindsAtLeaf r n leaf why =
+    FindsOf r (leaf_spots r.program.now.layouts r.rule r.ty r.layout.now n leaf)
+    (refusal (rule_number r.rule) r.ty (Some n) why)
+
+abbrev pub FindsAtLeaves : Ruled → Option Refused → Type 0
+FindsAtLeaves r = FindsOf r (leaves_spots r.program.now.layouts r.rule r.ty r.layout.now)
+
+-- at the type, and then at its leaves
+abbrev pub FindsIn : Ruled → Option Refused → Type 0
+FindsIn r = FindsOf r (spots_of r.program.now.layouts r.rule r.ty r.layout.now)
+
+-- at each leaf whose mark is off the rule holds
+abbrev pub RuleHoldsWhereOff : Ruled → List Bool → Type 0
+RuleHoldsWhereOff r = HoldsWhereOff r.program.now r.layouts.now r.rule r.ty r.layout.now

@@ -7,5 +7,5 @@ use Rattle.rb_agree.proofs.passing.meets.Goals as goal
 
 pub returns-then-is_like : goal.returns-then-is_like
 returns-then-is_like c =
-    subst (λ (o : Option ℕ). Meets c.args.types.now c.args.layouts.now c.args.leaf.now (test_at c.args.loc.now c.args.arms.now o)) (sym c.in-None.is)
-    (like-meets c.args.types.now c.args.layouts.now c.args.leaves.now c.args.leaf.now c.args.loc.now (literals_in c.args.arms.now) c.args.prior c.if-is_like.ensures c.requires.prior)
+    subst (λ (o : Option ℕ). Meets c.args.types.now c.args.layouts.now c.args.leaf.now (test_at c.args.asking.now.loc.now c.args.asking.now.arms.now o)) (sym c.in-None.is)
+    (like-meets c.args.types.now c.args.layouts.now c.args.leaves.now c.args.leaf.now c.args.asking.now.loc.now (literals_in c.args.asking.now.arms.now) c.args.prior c.if-is_like.ensures c.requires.prior)

@@ -7,17 +7,17 @@ use Rattle.rb_agree.proofs.rules.layout_fault.Goals as goal
 
 pub returns-in-Some : goal.returns-in-Some
 returns-in-Some c =
-    type-fails c.args.program.now c.args.layouts.now c.args.ty c.args.layout.now c.args.rule c.rule_number.result c.in_ok-why.field-0 c.in-Some.why c.rule_number.ensures c.in_ok-why.ensures c.in-Some.is
+    type-fails c.args.ruled.now.program.now c.args.ruled.now.layouts.now c.args.ruled.now.ty c.args.ruled.now.layout.now c.args.ruled.now.rule c.rule_number.result c.in_ok-why.field-0 c.in-Some.why c.rule_number.ensures c.in_ok-why.ensures c.in-Some.is
 
 pub returns : goal.returns
 returns c =
-    type-passes c.args.program.now c.args.layouts.now c.args.ty c.args.layout.now c.args.rule c.in_ok-why.field-0 c.in_ok-why.ensures c.in_default.is c.leaves_fault.result c.leaves_fault.ensures
+    type-passes c.args.ruled.now.program.now c.args.ruled.now.layouts.now c.args.ruled.now.ty c.args.ruled.now.layout.now c.args.ruled.now.rule c.in_ok-why.field-0 c.in_ok-why.ensures c.in_default.is c.leaves_fault.result c.leaves_fault.ensures
 
 pub leaves_fault-requires-clause-written : goal.leaves_fault-requires-clause-written
 leaves_fault-requires-clause-written c =
-    leaves-of-type c.args.program.now.layouts _ c.args.ty c.args.related.now.written c.leaves_at.result.now c.as_slice.result.now c.requires.known.written
-    (slice_get_within c.args.layouts.now c.args.ty c.args.layout.now c.requires.layout) c.as_slice.ensures c.leaves_at.ensures
+    leaves-of-type c.args.ruled.now.program.now.layouts _ c.args.ruled.now.ty c.args.ruled.now.related.now.written c.leaves_at.result.now c.as_slice.result.now c.requires.ruled.known.written
+    (slice_get_within c.args.ruled.now.layouts.now c.args.ruled.now.ty c.args.ruled.now.layout.now c.requires.ruled.layout) c.as_slice.ensures c.leaves_at.ensures
 
 pub leaves_fault-requires-clause-marks : goal.leaves_fault-requires-clause-marks
 leaves_fault-requires-clause-marks c =
-    subst (λ (ms : List Bool). HoldsWhereOff c.args.program.now c.args.layouts.now c.args.rule c.args.ty c.args.layout.now ms) (sym c.as_slice-2.ensures) c.in_ok-marks.ensures
+    subst (λ (ms : List Bool). HoldsWhereOff c.args.ruled.now.program.now c.args.ruled.now.layouts.now c.args.ruled.now.rule c.args.ruled.now.ty c.args.ruled.now.layout.now ms) (sym c.as_slice-2.ensures) c.in_ok-marks.ensures

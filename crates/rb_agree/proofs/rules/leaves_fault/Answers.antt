@@ -13,17 +13,17 @@ loop-n-init c = λ r found. found
 
 pub loop-n-preserved : goal.loop-n-preserved
 loop-n-preserved c =
-    leaf-passes c.args.program.now c.args.layouts.now c.args.ty c.args.layout.now c.args.rule c.as_slice-leaves.result.now c.loop-n.n c.index-leaves-n.result c.in_ok-why.field-0
+    leaf-passes c.args.ruled.now.program.now c.args.ruled.now.layouts.now c.args.ruled.now.ty c.args.ruled.now.layout.now c.args.ruled.now.rule c.as_slice-leaves.result.now c.loop-n.n c.index-leaves-n.result c.in_ok-why.field-0
     c.as_slice-leaves.ensures c.loop-n-test.true c.index-leaves-n.is c.in_ok-why.ensures c.in_default.is c.loop-n.invariant
 
 pub returns-in-Some : goal.returns-in-Some
 returns-in-Some c =
-    leaf-fails c.args.program.now c.args.layouts.now c.args.ty c.args.layout.now c.args.rule c.as_slice-leaves.result.now c.loop-n.n c.in_ok-leaf.leaf c.rule_number.result c.index-leaves-n.result c.in_ok-why.field-0
+    leaf-fails c.args.ruled.now.program.now c.args.ruled.now.layouts.now c.args.ruled.now.ty c.args.ruled.now.layout.now c.args.ruled.now.rule c.as_slice-leaves.result.now c.loop-n.n c.in_ok-leaf.leaf c.rule_number.result c.index-leaves-n.result c.in_ok-why.field-0
     c.in-Some.why c.as_slice-leaves.ensures c.loop-n-test.true c.index-leaves-n.is c.in_ok-leaf.ensures c.rule_number.ensures c.in_ok-why.ensures c.in-Some.is c.loop-n.invariant
 
 pub returns : goal.returns
 returns c =
-    leaves-done c.args.program.now c.args.layouts.now c.args.ty c.args.layout.now c.args.rule c.as_slice-leaves.result.now c.loop-n.n c.as_slice-leaves.ensures c.loop-n-test.false c.loop-n.invariant
+    leaves-done c.args.ruled.now.program.now c.args.ruled.now.layouts.now c.args.ruled.now.ty c.args.ruled.now.layout.now c.args.ruled.now.rule c.as_slice-leaves.result.now c.loop-n.n c.as_slice-leaves.ensures c.loop-n-test.false c.loop-n.invariant
 
 pub doubted_fault-requires-clause-leaf : goal.doubted_fault-requires-clause-leaf
 doubted_fault-requires-clause-leaf c =
@@ -32,4 +32,4 @@ doubted_fault-requires-clause-leaf c =
 
 pub doubted_fault-requires-clause-items : goal.doubted_fault-requires-clause-items
 doubted_fault-requires-clause-items c =
-    c.items_at-items.ensures ∙ items-are c.args.written.now (leaves_in (decl_of c.args.program.now.layouts c.args.ty)) c.loop-n.n c.requires.written
+    c.items_at-items.ensures ∙ items-are c.args.written.now (leaves_in (decl_of c.args.ruled.now.program.now.layouts c.args.ruled.now.ty)) c.loop-n.n c.requires.written

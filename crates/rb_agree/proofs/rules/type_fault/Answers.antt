@@ -9,41 +9,41 @@ use Rattle.rb_agree.proofs.Ruling.{inhabited, type-in, type-none, type-one}
 use Rattle.rb_agree.proofs.rules.type_fault.Goals as goal
 
 pub returns-in-Roots : goal.returns-in-Roots
-returns-in-Roots c = type-none c.args.program.now c.args.layouts.now c.args.ty c.args.layout.now c.args.rule Roots c.in-Roots.is refl
+returns-in-Roots c = type-none c.args.ruled.now.program.now c.args.ruled.now.layouts.now c.args.ruled.now.ty c.args.ruled.now.layout.now c.args.ruled.now.rule Roots c.in-Roots.is refl
 
 pub returns-in-Parts : goal.returns-in-Parts
-returns-in-Parts c = type-none c.args.program.now c.args.layouts.now c.args.ty c.args.layout.now c.args.rule Parts c.in-Parts.is refl
+returns-in-Parts c = type-none c.args.ruled.now.program.now c.args.ruled.now.layouts.now c.args.ruled.now.ty c.args.ruled.now.layout.now c.args.ruled.now.rule Parts c.in-Parts.is refl
 
 pub returns-in-Blocks : goal.returns-in-Blocks
-returns-in-Blocks c = type-none c.args.program.now c.args.layouts.now c.args.ty c.args.layout.now c.args.rule Blocks c.in-Blocks.is refl
+returns-in-Blocks c = type-none c.args.ruled.now.program.now c.args.ruled.now.layouts.now c.args.ruled.now.ty c.args.ruled.now.layout.now c.args.ruled.now.rule Blocks c.in-Blocks.is refl
 
 pub returns-in-Fields : goal.returns-in-Fields
-returns-in-Fields c = type-none c.args.program.now c.args.layouts.now c.args.ty c.args.layout.now c.args.rule Fields c.in-Fields.is refl
+returns-in-Fields c = type-none c.args.ruled.now.program.now c.args.ruled.now.layouts.now c.args.ruled.now.ty c.args.ruled.now.layout.now c.args.ruled.now.rule Fields c.in-Fields.is refl
 
 pub returns-in-Tests : goal.returns-in-Tests
-returns-in-Tests c = type-none c.args.program.now c.args.layouts.now c.args.ty c.args.layout.now c.args.rule Tests c.in-Tests.is refl
+returns-in-Tests c = type-none c.args.ruled.now.program.now c.args.ruled.now.layouts.now c.args.ruled.now.ty c.args.ruled.now.layout.now c.args.ruled.now.rule Tests c.in-Tests.is refl
 
 pub returns-in-Values : goal.returns-in-Values
 returns-in-Values c =
-    type-one c.args.program.now c.args.layouts.now c.args.ty c.args.layout.now c.args.rule Values (S.Complete c.args.ty c.args.layout.now) c.in-Values.is refl refl c.complete_fault.result
-    (subst (λ (ts : List DataDecl). IfOk c.complete_fault.result (λ (x : Option Why). MatchOption x (IsComplete ts c.args.ty c.args.layout.now) (FailsComplete ts c.args.ty c.args.layout.now)))
+    type-one c.args.ruled.now.program.now c.args.ruled.now.layouts.now c.args.ruled.now.ty c.args.ruled.now.layout.now c.args.ruled.now.rule Values (S.Complete c.args.ruled.now.ty c.args.ruled.now.layout.now) c.in-Values.is refl refl c.complete_fault.result
+    (subst (λ (ts : List DataDecl). IfOk c.complete_fault.result (λ (x : Option Why). MatchOption x (IsComplete ts c.args.ruled.now.ty c.args.ruled.now.layout.now) (FailsComplete ts c.args.ruled.now.ty c.args.ruled.now.layout.now)))
     c.as_slice.ensures c.complete_fault.ensures)
 
 pub returns-in-Splits : goal.returns-in-Splits
 returns-in-Splits c =
-    type-one c.args.program.now c.args.layouts.now c.args.ty c.args.layout.now c.args.rule Splits (S.Splits c.args.ty c.args.layout.now) c.in-Splits.is refl refl c.splits_fault.result c.splits_fault.ensures
+    type-one c.args.ruled.now.program.now c.args.ruled.now.layouts.now c.args.ruled.now.ty c.args.ruled.now.layout.now c.args.ruled.now.rule Splits (S.Splits c.args.ruled.now.ty c.args.ruled.now.layout.now) c.in-Splits.is refl refl c.splits_fault.result c.splits_fault.ensures
 
 pub returns-in-Flattening : goal.returns-in-Flattening
 returns-in-Flattening c =
-    type-one c.args.program.now c.args.layouts.now c.args.ty c.args.layout.now c.args.rule Flattening (S.Flattening c.args.ty) c.in-Flattening.is refl refl c.flat_cycle.result c.flat_cycle.ensures
+    type-one c.args.ruled.now.program.now c.args.ruled.now.layouts.now c.args.ruled.now.ty c.args.ruled.now.layout.now c.args.ruled.now.rule Flattening (S.Flattening c.args.ruled.now.ty) c.in-Flattening.is refl refl c.flat_cycle.result c.flat_cycle.ensures
 
 pub returns-in-Holding : goal.returns-in-Holding
 returns-in-Holding c =
-    type-one c.args.program.now c.args.layouts.now c.args.ty c.args.layout.now c.args.rule Holding (S.Holding c.args.ty) c.in-Holding.is refl refl c.hold_cycle.result c.hold_cycle.ensures
+    type-one c.args.ruled.now.program.now c.args.ruled.now.layouts.now c.args.ruled.now.ty c.args.ruled.now.layout.now c.args.ruled.now.rule Holding (S.Holding c.args.ruled.now.ty) c.in-Holding.is refl refl c.hold_cycle.result c.hold_cycle.ensures
 
 pub complete_fault-requires-clause-inhabited : goal.complete_fault-requires-clause-inhabited
-complete_fault-requires-clause-inhabited c = inhabited c.args.program.now c.as_slice.result.now c.as_slice.ensures c.requires.known.typed
+complete_fault-requires-clause-inhabited c = inhabited c.args.ruled.now.program.now c.as_slice.result.now c.as_slice.ensures c.requires.ruled.known.typed
 
 pub complete_fault-requires-clause-ty : goal.complete_fault-requires-clause-ty
 complete_fault-requires-clause-ty c =
-    type-in c.args.program.now c.args.layouts.now c.args.related.now c.as_slice.result.now c.args.ty c.args.layout.now c.as_slice.ensures c.requires.known c.requires.layout
+    type-in c.args.ruled.now.program.now c.args.ruled.now.layouts.now c.args.ruled.now.related.now c.as_slice.result.now c.args.ruled.now.ty c.args.ruled.now.layout.now c.as_slice.ensures c.requires.ruled.known c.requires.ruled.layout
