@@ -33,7 +33,7 @@ use Rattle.rb_rel.proofs.Lists.{both, got}
 use Rattle.rb_rel.proofs.Makings.{making-Num}
 use Rattle.rb_rel.proofs.Layers.{address_at}
 use Rattle.rb_rel.proofs.Storing.{with_blocks}
-use Rattle.rb_coding.specs.inner.Packing.{word_made}
+use Rattle.rb_coding.specs.Packing.{word_made}
 use Rattle.rb_values.specs.Nodes.{at, posts}
 use Rattle.rb_coding.specs.declared.table.Table.{Table}
 use Rattle.rb_coding.specs.declared.fault.EncodeFault.{EncodeFault}

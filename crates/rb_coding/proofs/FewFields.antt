@@ -10,7 +10,7 @@ use Rattle.rb_core.specs.WellNumbered.{is_between, is_type, is_upper, con_is_num
 use Rattle.rb_layout.specs.Positions.{types_or_none}
 use Rattle.rb_rel.proofs.Lists.{both}
 use Rattle.rb_rel.proofs.Provenances.{all_at}
-use Rattle.rb_coding.specs.inner.Opening.{AreFew, HaveFewFields}
+use Rattle.rb_coding.specs.FewFields.{AreFew, HaveFewFields}
 
 le_is : (a b : ℕ) → nat_le a b ≡ true → a ≤ b
 le_is a b e = grind (arith, common_steps)

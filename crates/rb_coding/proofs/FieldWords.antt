@@ -44,7 +44,7 @@ use Rattle.rb_coding.specs.declared.todo.Step.{Step}
 use Rattle.rb_coding.specs.declared.gather.Wanted.TheVariants.{Field}
 use Rattle.rb_coding.specs.inner.Gathering.{entry, put_entry, put_part, put_parts, put_words, put_blocks, count_at, field_words}
 use Rattle.rb_coding.specs.inner.Loading.{AreWordsOf}
-use Rattle.rb_coding.specs.inner.Packing.{put_into}
+use Rattle.rb_coding.specs.Packing.{put_into}
 use Rattle.rb_coding.specs.inner.Planning.{plan_of}
 use Rattle.rb_coding.specs.inner.Todo.{IsOpened}
 use Rattle.rb_coding.proofs.LeafShowing.{put_fits}

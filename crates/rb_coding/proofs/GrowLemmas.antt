@@ -19,7 +19,7 @@ use Rattle.rb_rel.proofs.Storing.{written, with_block, with_blocks, IsBlock, fil
 use Rattle.rb_rel.proofs.Layers.{address_at}
 use Rattle.rb_coding.specs.Encoding.{laid_before}
 use Rattle.rb_coding.specs.inner.Filling.{behind_all, Progress, Stopped}
-use Rattle.rb_coding.specs.inner.Packing.{put_into, made_of}
+use Rattle.rb_coding.specs.Packing.{put_into, made_of}
 
 behind_more : (bs cs : List (ℕ × ℕ)) (l : Laid) → behind_all bs (behind_all cs l) ≡ behind_all (bs ++ cs) l
 behind_more [] cs l = refl

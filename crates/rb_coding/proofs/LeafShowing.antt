@@ -37,7 +37,7 @@ use Rattle.rb_rel.proofs.Lists.{get-mapped}
 use Rattle.rb_rel.proofs.Packing.{number_of, packed}
 use Rattle.rb_rel.proofs.Storing.{with_blocks}
 use Rattle.rb_coding.specs.inner.Filling.{ArePlaceable, Progress}
-use Rattle.rb_coding.specs.inner.Packing.{put_into, made_of, word_made}
+use Rattle.rb_coding.specs.Packing.{put_into, made_of, word_made}
 use Rattle.rb_coding.proofs.GrowLemmas.{fill_same, progress_fits}
 
 -- Parts that fit are made in their places -----------------------------------------------------------

@@ -15,7 +15,7 @@ use Rattle.rb_rel.specs.Placing.{Request, request_of}
 use Rattle.rb_rel.proofs.Storing.{written, with_block, with_blocks, IsBlock, begins_within, within_yes}
 use Rattle.rb_rel.proofs.Layers.{address_at}
 use Rattle.rb_coding.specs.inner.Filling.{Progress, Stopped, ArePlaceable}
-use Rattle.rb_coding.specs.inner.Packing.{word_made}
+use Rattle.rb_coding.specs.Packing.{word_made}
 use Rattle.rb_coding.proofs.GrowLemmas.{IsPlace, IsNoPlace, progress_none, progress_one, progress_trans, stop_one, stop_after, stop_wider, fill_more, filled_same, made_same, written_more, requests_more, address_is_index, index_before, take_whole}
 
 -- Storing a word -----------------------------------------------------------------------------------

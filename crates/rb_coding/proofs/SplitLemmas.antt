@@ -20,7 +20,8 @@ use Rattle.rb_layout.proofs.FlatForms as F
 use Rattle.rb_rel.specs.Reading.{after, read_from, read_loc}
 use Rattle.rb_rel.proofs.Lists.{get-append, get-map, get-left, get-right}
 use Rattle.rb_rel.proofs.Trees.{AreDistinct, LiteralsDistinct}
-use Rattle.rb_coding.specs.inner.Leading.{Reads, Passes, Leads, under_number}
+use Rattle.rb_coding.specs.Arms.{under_number}
+use Rattle.rb_coding.specs.inner.Leading.{Reads, Passes, Leads}
 
 -- Steps of a location ------------------------------------------------------------------------------
 loaded : (x : Result ℕ Trap) (go : ℕ → Option ℕ) (n : ℕ) → after x go ≡ Some n → (r : ℕ) × (x ≡ Ok r)

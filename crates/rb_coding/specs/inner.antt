@@ -5,6 +5,5 @@ pub mod Loading
 pub mod Making
 pub mod Nodes
 pub mod Opening
-pub mod Packing
 pub mod Planning
 pub mod Todo

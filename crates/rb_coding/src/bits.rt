@@ -2,12 +2,12 @@
 
 ghost use Rattle.std.specs.Prelude.{◌≡◌};
 ghost use Rattle.rb_bits.specs.Words.{take_of};
-ghost use Rattle.rb_coding.specs.inner.Packing.{put_into};
+ghost use Rattle.rb_coding.specs.Packing.{put_into};
 
 use rb_bits::words::{put, take};
 
 /// The number that stands in bits `o` up to `o + l` of a word, above which there are zeros.
-pub(crate) fn take_from(word: u64, o: u64, l: u64) -> u64
+pub fn take_from(word: u64, o: u64, l: u64) -> u64
     ensures { result ≡ take_of word o l }
 {
     if o >= 64 {
@@ -21,7 +21,7 @@ pub(crate) fn take_from(word: u64, o: u64, l: u64) -> u64
 }
 
 /// A word with the low bits of `part` put into its bits `o` up to `o + l`, where these are bits of it.
-pub(crate) fn put_into(word: u64, o: u64, l: u64, part: u64) -> u64
+pub fn put_into(word: u64, o: u64, l: u64, part: u64) -> u64
     ensures { result ≡ put_into word o l part }
 {
     if l < 1 {

@@ -8,7 +8,7 @@ ghost use Rattle.rb_layout.specs.declared.layout.FlatWord.{FlatWord as Flat};
 ghost use Rattle.rb_rel.proofs.Storing.{written};
 ghost use Rattle.rb_coding.specs.inner.Filling.{ArePlaceable, ArePlaced, IsMade};
 ghost use Rattle.rb_coding.specs.inner.Nodes.{subs_of};
-ghost use Rattle.rb_coding.specs.inner.Packing.{word_made};
+ghost use Rattle.rb_coding.specs.Packing.{word_made};
 
 use crate::fault::EncodeFault;
 use crate::pack::{pack, pack_all};

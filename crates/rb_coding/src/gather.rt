@@ -1,11 +1,10 @@
 //! Tables gathered from the parts of a leaf: the addresses of its blocks, or the words of a field.
 
-ghost use Rattle.std.specs.Prelude.{◌≡◌, ◌∷◌, [], IfOk, replicate, slice_index, slice_index_or, slice_set};
-ghost use Rattle.rb_layout.specs.Flattening.{same_path};
-ghost use Rattle.rb_rel.specs.Relation.{word_count};
+ghost use Rattle.std.specs.Prelude.{◌≡◌, ◌∷◌, [], IfOk, replicate, slice_index_or, slice_set};
 ghost use Rattle.rb_coding.specs.inner.Gathering.{count_at, entry, field_words, put_blocks, put_entry, put_part, put_parts, put_words};
 
 use crate::bits::{put_into, take_from};
+use crate::lookup::{item, same_path, word_count};
 use rb_core::seq::Seq;
 use rb_core::types::{DataDecl, Ty};
 use rb_layout::layout::{Block, FlatWord, Kind, Layout, Leaf, Part};
@@ -19,21 +18,6 @@ pub enum Wanted {
     Addresses,
     /// The words of the field at a path.
     Field,
-}
-
-fn item(table: &[u64], i: usize) -> u64
-    ensures { result ≡ slice_index table.now i }
-{
-    match table.get(i) {
-        None => 0,
-        Some(number) => *number,
-    }
-}
-
-fn same_path(own: &[u32], path: &[u32]) -> bool
-    ensures { result ≡ same_path own.now path.now }
-{
-    own == path
 }
 
 // The entry for which a part of `l` bits with a number in them stands, and what it is to be.
@@ -104,7 +88,13 @@ pub(crate) fn put_words(
     ensures { table.new ≡ put_words wanted path.now flats.now words.now 0 table.old }
 {
     for (j, flat) in flats.iter().enumerate() {
-        put_parts(table, wanted, path, flat.parts.as_slice(), item(words, j));
+        put_parts(
+            table,
+            wanted,
+            path,
+            flat.parts.as_slice(),
+            item(words, j as u64),
+        );
     }
 }
 
@@ -124,18 +114,6 @@ fn put_blocks(table: &mut Seq<u64>, path: &[u32], blocks: &[Block], loaded: &[Se
     for (b, block) in blocks.iter().enumerate() {
         let words = words_at(loaded, blocks.len() - 1 - b);
         put_words(table, Wanted::Field, path, block.words.as_slice(), words);
-    }
-}
-
-fn word_count(layouts: &[Layout], ty: Ty) -> usize
-    ensures { result ≡ word_count layouts.now ty }
-{
-    match ty {
-        Ty::Int(_) => 1,
-        Ty::Named(ty) => match layouts.get(ty as usize) {
-            None => 0,
-            Some(layout) => layout.shape.len(),
-        },
     }
 }
 

@@ -29,9 +29,11 @@
 //!
 //! Nothing recurs on a value. Where the nodes of a field stand is told by the sizes of the nodes, since
 //! those of the last field stand right before the construction, and those of each field before them.
+//!
+//! [`bits`], [`lookup`] and [`splits::under`] are public for readers of words that come by them otherwise.
 #![tactic(auto)]
 
-mod bits;
+pub mod bits;
 mod blocks;
 pub mod decode;
 pub mod encode;
@@ -39,10 +41,11 @@ pub mod fault;
 mod gather;
 mod leaf;
 mod loading;
+pub mod lookup;
 mod node;
 mod pack;
 mod plan;
 mod posts;
-mod splits;
+pub mod splits;
 mod table;
 mod todo;

@@ -3,7 +3,7 @@
 ghost use Rattle.std.specs.Prelude.{◌≡◌, ◌/◌, slice_index, map, IfOk};
 ghost use Rattle.rb_rel.proofs.Packing.{number_of};
 ghost use Rattle.rb_coding.specs.inner.Nodes.{subs_of};
-ghost use Rattle.rb_coding.specs.inner.Packing.{made_of, word_made};
+ghost use Rattle.rb_coding.specs.Packing.{made_of, word_made};
 
 use crate::bits::{put_into, take_from};
 use crate::table::Table;

@@ -3,7 +3,8 @@
 ghost use Rattle.std.specs.Prelude.{◌≡◌, ◌<◌, ◌∷◌, [], ◌++◌, IfOk, OnOk, map};
 ghost use Rattle.rb_coding.specs.inner.Gathering.{field_words};
 ghost use Rattle.rb_coding.specs.inner.Planning.{fields_plan};
-ghost use Rattle.rb_coding.specs.inner.Opening.{AreFew, HaveFewFields, steps_of, words_of};
+ghost use Rattle.rb_coding.specs.FewFields.{AreFew, HaveFewFields};
+ghost use Rattle.rb_coding.specs.inner.Opening.{steps_of, words_of};
 
 use crate::gather::field_words;
 use crate::node::one_word;

@@ -4,7 +4,8 @@ ghost use Rattle.std.specs.Prelude.{◌≡◌, ℕ, Some};
 ghost use Rattle.std.specs.Option.{option_copied};
 ghost use Rattle.rb_bytes.specs.Memory.{IsGood};
 ghost use Rattle.rb_rel.specs.Reading.{read_loc};
-ghost use Rattle.rb_coding.specs.inner.Leading.{Leads, Reads, under_number};
+ghost use Rattle.rb_coding.specs.Arms.{under_number};
+ghost use Rattle.rb_coding.specs.inner.Leading.{Leads, Reads};
 
 use crate::bits::take_from;
 use rb_bytes::memory::ByteMemory;
@@ -38,8 +39,8 @@ fn read_loc<M: ByteMemory>(memory: &M, words: &[u64], loc: &Loc) -> u64
     take_from(word, o, l)
 }
 
-// What stands under a number: under the first arm with this literal, or else under `else`.
-fn under<'a>(
+/// What stands under a number: under the first arm with this literal, or else under `else`.
+pub fn under<'a>(
     arms: &'a [FlatArm],
     other: &'a Option<Boxed<FlatTree>>,
     number: u64,

@@ -5,6 +5,7 @@ ghost use Rattle.rb_core.specs.Values.{subs};
 ghost use Rattle.rb_values.specs.Nodes.{at, IsLayer};
 ghost use Rattle.rb_coding.specs.inner.Nodes.{arity_of, field_node, node_at, start_of, subs_of};
 
+use crate::lookup::item;
 use rb_core::seq::Seq;
 use rb_values::nodes::{Layer, Nodes};
 
@@ -74,15 +75,6 @@ fn node_at(nodes: &Nodes, sizes: &[usize], root: usize, path: &[u32]) -> usize
         node = field_node(nodes, sizes, node, *field);
     }
     node
-}
-
-fn item(words: &[u64], j: u64) -> u64
-    ensures { result ≡ slice_index words.now j }
-{
-    match words.get(j as usize) {
-        None => 0,
-        Some(word) => *word,
-    }
 }
 
 impl Table {

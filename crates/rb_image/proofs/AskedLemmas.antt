@@ -11,7 +11,7 @@ use Rattle.rb_layout.specs.declared.layout.FlatArm.{FlatArm}
 use Rattle.rb_layout.specs.Splits.{Under}
 use Rattle.rb_layout.proofs.FlatForms as F
 use Rattle.rb_layout.proofs.FlatForms.{Each, tree-induction}
-use Rattle.rb_coding.specs.inner.Leading.{under_number}
+use Rattle.rb_coding.specs.Arms.{under_number}
 use Rattle.rb_image_text.specs.declared.fault.ImageFault.{ImageFault}
 use Rattle.rb_image_text.specs.declared.fault.ImageFault.TheVariants.{BadBits, BadPointer}
 use Rattle.rb_image_text.specs.declared.image.ImageBlock.{ImageBlock}

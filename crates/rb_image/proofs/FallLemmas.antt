@@ -1,6 +1,6 @@
 -- Pointers lead down: the places below a place lie lower, but for those that it holds in its root words.
 use Rattle.std.proofs.Common.{◌≡◌, ℕ, zero, suc, ◌+◌, ◌*◌, ◌/◌, ◌^◌, ◌<◌, ◌≤◌, ◌==◌, ◌&&◌, ◌||◌, ◌⊎◌, inl, inr, nat_lt, Bool, true, false, List, [], ◌∷◌, replicate, Option, Some, None, Result, Ok, Err, refl, sym, subst, ap, ◌∙◌, arith}
-use Rattle.std.specs.Prelude.{slice_get, slice_index, slice_set, if◌then◌else◌}
+use Rattle.std.specs.Prelude.{slice_get, slice_index, slice_set, if◌then◌else◌, unwrap_or}
 use Rattle.std.proofs.lemmas.Option.{same_Some}
 use Rattle.std.proofs.lemmas.Nat.{shr_le, div-add-mod'}
 use Rattle.std.proofs.lemmas.Grind.{common_steps}
@@ -17,7 +17,7 @@ use Rattle.rb_image_text.specs.declared.image.ImageBlock.{ImageBlock}
 use Rattle.rb_image.specs.declared.kept.Kept.{Kept}
 use Rattle.rb_image.specs.Blocks.{block_at, size_at, size_in, word_in, word_of}
 use Rattle.rb_image.specs.Orders.{PartAt}
-use Rattle.rb_image.specs.Parts.{block_from, block_size, bits_at, examine, examine_kind, examine_part, field_word, field_words, followed, holds, if_size, kept_at, or_zero}
+use Rattle.rb_image.specs.Parts.{block_from, block_size, bits_at, examine, examine_kind, examine_part, field_word, field_words, followed, holds, if_size, kept_at}
 use Rattle.rb_image.specs.Splits.{and_then, nothing, or_fault, pointed_from, range_of, word_at}
 use Rattle.rb_image.proofs.SpotLemmas.{In}
 
@@ -123,8 +123,8 @@ module _ (m : List ImageBlock) (none : block_at m 0 ≡ None) where
   block_is None size a e = absurd cc
   block_is (Some at) size a e = let r = sized at size a (size_at m at) refl e in (ap Some r.0, subst (λ n. 1 ≤ n) r.0 r.1)
 
-  word_some : (a byte width : ℕ) → 1 ≤ or_zero (word_in m a byte width) → 1 ≤ a
-  word_some zero byte width some = absurd (let z : or_zero (word_in m 0 byte width) ≡ 0 = ap (λ b. or_zero (word_of b byte width)) none in omega (arith, some, z))
+  word_some : (a byte width : ℕ) → 1 ≤ unwrap_or (word_in m a byte width) 0 → 1 ≤ a
+  word_some zero byte width some = absurd (let z : unwrap_or (word_in m 0 byte width) 0 ≡ 0 = ap (λ b. unwrap_or (word_of b byte width) 0) none in omega (arith, some, z))
   word_some (suc a) byte width some = omega arith
 
   module _ (leaf : Leaf) (ws : List Kept) (high : ℕ) (under : AreUnder high ws) where

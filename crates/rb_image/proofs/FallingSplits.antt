@@ -14,7 +14,8 @@ use Rattle.rb_layout.specs.Splits.{Test, Is, IsNone, Route, behind, Under, arm_r
 use Rattle.rb_layout.proofs.FlatForms as F
 use Rattle.rb_layout.proofs.FlatForms.{Each, tree-induction}
 use Rattle.rb_rel.proofs.Lists.{get-append, get-left, get-mapped, get-right}
-use Rattle.rb_coding.specs.inner.Leading.{Leads, under_number}
+use Rattle.rb_coding.specs.Arms.{under_number}
+use Rattle.rb_coding.specs.inner.Leading.{Leads}
 use Rattle.rb_coding.proofs.SplitLemmas.{leaf_only, turn}
 use Rattle.rb_image_text.specs.declared.fault.ImageFault.{ImageFault}
 use Rattle.rb_image_text.specs.declared.image.ImageBlock.{ImageBlock}

@@ -1,7 +1,7 @@
 -- Where words represent a value in the memory of an image's blocks and pointers fall, each word of the leaf is read in the
 -- image, its pointers are followed, and each location that resolves in the leaf has a range there.
 use Rattle.std.proofs.Common.{◌≡◌, ℕ, ◌+◌, ◌*◌, ◌/◌, ◌<◌, ◌==◌, ◌||◌, inl, inr, nat_lt, Bool, true, false, List, [], ◌∷◌, Option, Some, None, Result, Ok, refl, sym, subst, ap, ◌∙◌, arith}
-use Rattle.std.specs.Prelude.{slice_get, slice_index, if◌then◌else◌}
+use Rattle.std.specs.Prelude.{slice_get, slice_index, if◌then◌else◌, unwrap_or}
 use Rattle.std.proofs.lemmas.Grind.{common_steps}
 use Rattle.rb_core.specs.declared.layout_decl.Loc.{Loc}
 use Rattle.rb_core.specs.declared.layout_decl.Step.{Step}
@@ -32,7 +32,7 @@ use Rattle.rb_image_text.specs.declared.image.ImageBlock.{ImageBlock}
 use Rattle.rb_image.specs.declared.kept.Kept.{Kept}
 use Rattle.rb_image.specs.Blocks.{size_at, word_in}
 use Rattle.rb_image.specs.Falling.{Falls, PointersFall, base_in}
-use Rattle.rb_image.specs.Parts.{block_from, block_size, followed, if_size, kept_at, or_zero}
+use Rattle.rb_image.specs.Parts.{block_from, block_size, followed, if_size, kept_at}
 use Rattle.rb_image.specs.Splits.{and_then, kept_in, or_fault, pointed_from, range_at, range_from, range_of, step_over, with_base, word_at}
 use Rattle.rb_image.proofs.FoundWords.{in_block}
 use Rattle.rb_image.proofs.PlacedSpots.{spot_of}
@@ -110,7 +110,7 @@ module _ (blocks : List ImageBlock) (m : Memory) (is : IsWhole blocks m) where
         × ((kept_at blocks xs known o (spot_of leaf (record { block = o; word = j }) f q)).base ≡ base_in from ats o j)
     kept_is None j f w e found known k q = kept j w found
     kept_is (Some b) j f w e found known k q =
-        (ap (λ a. or_zero (word_in blocks a (begins_at (words_in leaf (Some b)) j) f.width)) k ∙ ap or_zero (image_word b j f w e found), k)
+        (ap (λ a. unwrap_or (word_in blocks a (begins_at (words_in leaf (Some b)) j) f.width) 0) k ∙ ap (λ o. unwrap_or o 0) (image_word b j f w e found), k)
 
     -- Pointers -----------------------------------------------------------------------------
     module _ (r : WordRef) (l align b : ℕ) (points : PointsTo leaf r l align b) (bits : Kept)

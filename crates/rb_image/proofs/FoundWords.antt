@@ -1,6 +1,6 @@
 -- The words of a leaf whose blocks are known are found in a memory that keeps the image.
 use Rattle.std.proofs.Common.{◌≡◌, ℕ, zero, suc, ◌+◌, ◌*◌, ◌/◌, ◌^◌, ◌<◌, ◌≤◌, inl, inr, nat_le, true, List, length, map, Option, Some, None, Result, Ok, Err, refl, sym, subst, ap, ◌∙◌, arith}
-use Rattle.std.specs.Prelude.{slice_get, slice_index, slice_range}
+use Rattle.std.specs.Prelude.{slice_get, slice_index, slice_range, unwrap_or}
 use Rattle.std.proofs.lemmas.Grind.{common_steps}
 use Rattle.std.proofs.lemmas.Nat.{pow-add}
 use Rattle.std.proofs.lemmas.Option.{same_Some, slice_get_within, get_or_from_slice_get}
@@ -21,7 +21,7 @@ use Rattle.rb_rel.proofs.Storing.{begins_within}
 use Rattle.rb_image_text.specs.declared.image.ImageBlock.{ImageBlock}
 use Rattle.rb_image.specs.declared.kept.Kept.{Kept}
 use Rattle.rb_image.specs.Blocks.{block_at, size_at, size_in, is_width, word_in, word_of}
-use Rattle.rb_image.specs.Parts.{kept_at, or_zero}
+use Rattle.rb_image.specs.Parts.{kept_at}
 use Rattle.rb_image.specs.Splits.{nothing, word_at}
 use Rattle.rb_image.specs.Values.{Keeps}
 use Rattle.rb_image.proofs.BlockLemmas.{word_found}
@@ -124,7 +124,7 @@ module _ (blocks : List ImageBlock) (m : Memory) (keeps : Keeps blocks m) where
           w = x.w;
           found = ap (λ k. load_of m at k f.width) place ∙ x.loaded;
           fits = x.small;
-          kept = λ p. ap (λ k. or_zero (word_in blocks at k f.width)) place ∙ ap or_zero x.is_word;
+          kept = λ p. ap (λ k. unwrap_or (word_in blocks at k f.width) 0) place ∙ ap (λ o. unwrap_or o 0) x.is_word;
         }
 
     pub found_word : (r : WordRef) (f : FlatWord) → flat_at leaf r ≡ Some f → FoundWord r f

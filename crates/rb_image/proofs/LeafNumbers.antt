@@ -23,7 +23,7 @@ use Rattle.rb_layout.proofs.Computing.{from-Leaf, from-Split, from-Split-else, c
 use Rattle.rb_layout.proofs.FlatForms.{Each}
 use Rattle.rb_layout.proofs.TreeLemmas.{arm_numbering-is, count-is}
 use Rattle.rb_layout.proofs.WrittenForms.{tree-induction}
-use Rattle.rb_coding.specs.inner.Leading.{under_number}
+use Rattle.rb_coding.specs.Arms.{under_number}
 use Rattle.rb_rel.proofs.Declared.{declared}
 use Rattle.rb_rel.proofs.Lists.{got}
 use Rattle.rb_image_text.specs.declared.fault.ImageFault.{ImageFault}

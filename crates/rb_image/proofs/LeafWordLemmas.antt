@@ -1,6 +1,6 @@
 -- The words of a leaf that were read, and how many are not read yet.
 use Rattle.std.proofs.Common.{◌≡◌, ℕ, inl, inr, Result, Ok, zero, suc, ◌+◌, ◌/◌, ◌<◌, ◌≤◌, ◌==◌, length, drop, set, replicate, List, [], ◌∷◌, ◌++◌, Bool, true, false, Option, Some, None, refl, sym, subst, ap, ◌∙◌, append_assoc, arith}
-use Rattle.std.specs.Prelude.{slice_get, slice_index, if◌then◌else◌}
+use Rattle.std.specs.Prelude.{slice_get, slice_index, if◌then◌else◌, unwrap_or}
 use Rattle.std.specs.List.{sum_by}
 use Rattle.std.specs.declared.alloc.Global.{Global}
 use Rattle.std.specs.declared.vec.Vec.{Vec}
@@ -25,7 +25,7 @@ use Rattle.rb_image.specs.declared.order.Spot.{Spot}
 use Rattle.rb_image.specs.Blocks.{size_at, size_in, word_in}
 use Rattle.rb_image.specs.LeafWords.{AreNumbers, HasNumbers, block_numbers, follow_kind, items_or_none, numbers_at, with_found}
 use Rattle.rb_image.specs.Orders.{PartAt, order_of}
-use Rattle.rb_image.specs.Parts.{bits_at, followed, kept_at, or_zero}
+use Rattle.rb_image.specs.Parts.{bits_at, followed, kept_at}
 use Rattle.rb_image.specs.Splits.{range_of}
 use Rattle.rb_image.specs.inner.Reaching.{IsPartOf, unread, word_read}
 use Rattle.rb_image.specs.inner.Viewing.{at_of, spots_of}
@@ -40,20 +40,20 @@ use Rattle.rb_image.proofs.SpotLemmas.{get_in}
 module _ (m : List ImageBlock) (at : ℕ) where
   -- one word more
   pub number_more : (fs : List FlatWord) (j byte : ℕ) (f : FlatWord) (before : List ℕ) → slice_get fs j ≡ Some f → before ++ numbers_at m at byte (drop j fs)
-      ≡ (before ++ or_zero (word_in m at byte f.width) ∷ []) ++ numbers_at m at (byte + f.width / 8) (drop (j + 1) fs)
+      ≡ (before ++ unwrap_or (word_in m at byte f.width) 0 ∷ []) ++ numbers_at m at (byte + f.width / 8) (drop (j + 1) fs)
   number_more fs j byte f before is =
       ap (λ xs. before ++ numbers_at m at byte xs) (drop_item fs j f is)
-      ∙ sym (append_assoc before (or_zero (word_in m at byte f.width) ∷ []) (numbers_at m at (byte + f.width / 8) (drop (j + 1) fs)))
+      ∙ sym (append_assoc before (unwrap_or (word_in m at byte f.width) 0 ∷ []) (numbers_at m at (byte + f.width / 8) (drop (j + 1) fs)))
 
   -- word j
-  number_there : (fs : List FlatWord) (byte j : ℕ) (f : FlatWord) → slice_get fs j ≡ Some f → slice_index (numbers_at m at byte fs) j ≡ or_zero (word_in m at (byte + begins_at fs j) f.width)
+  number_there : (fs : List FlatWord) (byte j : ℕ) (f : FlatWord) → slice_get fs j ≡ Some f → slice_index (numbers_at m at byte fs) j ≡ unwrap_or (word_in m at (byte + begins_at fs j) f.width) 0
   number_there [] byte j f is = absurd cc
   number_there (e ∷ fs) byte zero f is =
       let here : byte ≡ byte + 0 = omega arith in
-      ap (λ (x : FlatWord). or_zero (word_in m at byte x.width)) (same_Some e f is) ∙ ap (λ b. or_zero (word_in m at b f.width)) here
+      ap (λ (x : FlatWord). unwrap_or (word_in m at byte x.width) 0) (same_Some e f is) ∙ ap (λ b. unwrap_or (word_in m at b f.width) 0) here
   number_there (e ∷ fs) byte (suc j) f is =
       let up : byte + e.width / 8 + begins_at fs j ≡ byte + (e.width / 8 + begins_at fs j) = omega arith in
-      number_there fs (byte + e.width / 8) j f is ∙ ap (λ b. or_zero (word_in m at b f.width)) up
+      number_there fs (byte + e.width / 8) j f is ∙ ap (λ b. unwrap_or (word_in m at b f.width) 0) up
 
 -- Words that were read -----------------------------------------------------------------------
 zero_is : (at : ℕ) → (at == 0) ≡ true → at ≡ 0
@@ -64,18 +64,18 @@ module _ (m : List ImageBlock) (placed : AreInPlace m) (leaf : Leaf) (x : LeafWo
   ats = x.addresses.items
 
   word_is : (b j : ℕ) (f : FlatWord) → slice_get (words_in leaf (Some b)) j ≡ Some f
-      → slice_index (items_or_none (slice_get x.blocks.items b)) j ≡ or_zero (word_in m (slice_index ats b) (begins_at (words_in leaf (Some b)) j) f.width)
+      → slice_index (items_or_none (slice_get x.blocks.items b)) j ≡ unwrap_or (word_in m (slice_index ats b) (begins_at (words_in leaf (Some b)) j) f.width) 0
   word_is b j f is = ap (λ ns. slice_index ns j) (has.numbers b) ∙ go (slice_index ats b == 0) refl
     where
       fs : List FlatWord
       fs = words_in leaf (Some b)
 
       go : (t : Bool) → (slice_index ats b == 0) ≡ t → slice_index (if t then [] else numbers_at m (slice_index ats b) 0 (words_in leaf (Some b))) j
-          ≡ or_zero (word_in m (slice_index ats b) (begins_at (words_in leaf (Some b)) j) f.width)
+          ≡ unwrap_or (word_in m (slice_index ats b) (begins_at (words_in leaf (Some b)) j) f.width) 0
       go true e =
           let byte = begins_at (words_in leaf (Some b)) j in
-          sym (ap (λ a. or_zero (word_in m a byte f.width)) (zero_is (slice_index ats b) e) ∙ ap or_zero (no_word_at_zero m placed byte f.width))
-      go false e = number_there m (slice_index ats b) (words_in leaf (Some b)) 0 j f is ∙ (let up : 0 + begins_at (words_in leaf (Some b)) j ≡ begins_at (words_in leaf (Some b)) j = omega arith in ap (λ k. or_zero (word_in m (slice_index ats b) k f.width)) up)
+          sym (ap (λ a. unwrap_or (word_in m a byte f.width) 0) (zero_is (slice_index ats b) e) ∙ ap (λ o. unwrap_or o 0) (no_word_at_zero m placed byte f.width))
+      go false e = number_there m (slice_index ats b) (words_in leaf (Some b)) 0 j f is ∙ (let up : 0 + begins_at (words_in leaf (Some b)) j ≡ begins_at (words_in leaf (Some b)) j = omega arith in ap (λ k. unwrap_or (word_in m (slice_index ats b) k f.width) 0) up)
 
   spot_read : (o : Option ℕ) (j : ℕ) (f : FlatWord) (p : Part) → slice_get (words_in leaf o) j ≡ Some f → let s = spot_of leaf (record { block = o; word = j }) f p in
       word_read x o s ≡ kept_at m x.root.items ats o s

@@ -23,7 +23,7 @@ use Rattle.rb_rel.specs.Relation.{Represents}
 use Rattle.rb_rel.proofs.Layers.{Sound, can_hold, fits_at, layer_shown, made, numbered, sound, stored}
 use Rattle.rb_rel.proofs.Packing.{number_of, packed as all_packed}
 use Rattle.rb_rel.proofs.Storing.{with_blocks}
-use Rattle.rb_coding.specs.inner.Packing.{made_of, word_made}
+use Rattle.rb_coding.specs.Packing.{made_of, word_made}
 use Rattle.rb_coding.proofs.LeafShowing.{put_fits}
 use Rattle.rb_image.specs.declared.pack.FieldWords.{FieldWords}
 use Rattle.rb_image.specs.PackedWords.{FieldsRepresent, PackedWordsRepresent}

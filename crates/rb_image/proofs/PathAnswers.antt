@@ -1,6 +1,7 @@
 -- What following a path answers: where the walk ends and no fault is found, and where one is.
-use Rattle.std.proofs.Common.{◌≡◌, ℕ, ◌&&◌, inl, inr, Bool, List, [], ◌∷◌, length, Option, Some, None, Ok, Err, refl, sym, subst, ap, ◌∙◌}
+use Rattle.std.proofs.Common.{◌≡◌, ℕ, ◌&&◌, inl, inr, Bool, List, [], ◌∷◌, length, map, Option, Some, None, Ok, Err, refl, sym, subst, ap, ◌∙◌}
 use Rattle.std.specs.Prelude.{if◌then◌else◌}
+use Rattle.std.specs.Option.{option_or}
 use Rattle.rb_core.specs.declared.types.DataDecl.{DataDecl}
 use Rattle.rb_core.specs.declared.types.Ty.TheVariants.{Named}
 use Rattle.rb_layout.specs.declared.layout.Layout.{Layout}
@@ -13,15 +14,17 @@ use Rattle.rb_image_text.specs.declared.image.ImageBlock.{ImageBlock}
 use Rattle.rb_image_text.specs.Places.{AreInPlace}
 use Rattle.rb_image.specs.declared.kept.Kept.{Kept}
 use Rattle.rb_image.specs.declared.path_words.WordAt.{WordAt}
+use Rattle.rb_image.specs.declared.site.Site.{Site}
 use Rattle.rb_image.specs.declared.walk.Walk.{Walk}
+use Rattle.rb_image.specs.FieldSites.{AreRootSites, AreWords}
 use Rattle.rb_image.specs.Given.{IsGiven}
 use Rattle.rb_image.specs.LeafWords.{reached}
 use Rattle.rb_image.specs.Orders.{PartAt, order_of}
 use Rattle.rb_image.specs.Parts.{bits_at}
 use Rattle.rb_image.specs.Paths.{IsFaultless, IsPathFault, IsWalked, is_there, part_fault}
 use Rattle.rb_image.specs.Roots.{AllFit, kept_from, shape_of, widths_of}
+use Rattle.rb_image.specs.Sites.{kept_of}
 use Rattle.rb_image.specs.Walks.{Seen, Where, walked, where_of}
-use Rattle.rb_image.specs.Ways.{first_of}
 use Rattle.rb_image.specs.inner.Checking.{IsFoundOn, all_seen, fault_among, fault_at, fault_of_seen, fault_seen, has_word, is_kept_at, words_of_path}
 use Rattle.rb_image.proofs.PathSubvalues.{walk_stops}
 use Rattle.rb_image.proofs.PathWalks.{Walks}
@@ -39,12 +42,12 @@ module _ (on off : ℕ → ℕ → Bool) (same : (base place : ℕ) → on base 
   among_same : (leaf : Leaf) (ws : List Kept) (ats : List ℕ) (ss : List PartAt) → fault_among on m leaf ws ats ss ≡ fault_among off m leaf ws ats ss
   among_same leaf ws ats [] = refl
   among_same leaf ws ats (s ∷ ss) =
-      ap (λ f. first_of f (fault_among on m leaf ws ats ss)) (at_same leaf ws ats s) ∙ ap (first_of (fault_at off m leaf ws ats s)) (among_same leaf ws ats ss)
+      ap (λ f. option_or f (fault_among on m leaf ws ats ss)) (at_same leaf ws ats s) ∙ ap (option_or (fault_at off m leaf ws ats s)) (among_same leaf ws ats ss)
 
   seen_same : (ss : List Seen) → fault_of_seen on m ss ≡ fault_of_seen off m ss
   seen_same [] = refl
   seen_same (s ∷ ss) =
-      ap (λ f. first_of f (fault_of_seen on m ss)) (among_same s.leaf s.words (reached m s.leaf s.words) (order_of s.leaf)) ∙ ap (first_of (fault_seen off m s)) (seen_same ss)
+      ap (λ f. option_or f (fault_of_seen on m ss)) (among_same s.leaf s.words (reached m s.leaf s.words) (order_of s.leaf)) ∙ ap (option_or (fault_seen off m s)) (seen_same ss)
 
 -- Answers ------------------------------------------------------------------------------------
 shape_long : (o : Option Layout) → length (shape_of o) ≡ shape_length o
@@ -54,6 +57,12 @@ shape_long (Some layout) = refl
 -- words that fit a data type are as many as it has
 pub root_long : (layouts : List Layout) (t : ℕ) (words : List ℕ) → AllFit (widths_of layouts (Named t)) words → length words ≡ word_count layouts (Named t)
 root_long layouts t words fit = fit_long (widths_of layouts (Named t)) words fit ∙ shape_long (layout_of layouts t)
+
+-- the root words stand at their sites
+pub root_stands : (layouts ls : List Layout) (t count : ℕ) (image : Image) (words : List ℕ) (sites : List Site) → AllFit (widths_of layouts (Named t)) image.root
+    → count ≡ word_count ls (Named t) → ls ≡ layouts → words ≡ image.root → AreWords words → AreRootSites count sites → map (kept_of image) sites ≡ kept_from 0 image.root
+root_stands layouts ls t count image words sites fit counted same are few stand =
+    stand image (root_long layouts t image.root fit ∙ sym (counted ∙ ap (λ xs. word_count xs (Named t)) same)) (subst AreWords are few)
 
 walk_given : (due : Walks) (w : Walk) → IsGiven where_of due (Ok w) → ◌≡◌ {A = Walks} due (Ok (where_of w))
 walk_given (Ok v) w given = ap (λ (x : Where). Ok x) (sym given)

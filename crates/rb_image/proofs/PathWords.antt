@@ -3,6 +3,7 @@ use Rattle.std.proofs.Common.{◌≡◌, ℕ, ◌++◌, ◌&&◌, ◌||◌, nat_
 use Rattle.std.specs.Prelude.{◌⊎◌, if◌then◌else◌}
 use Rattle.std.specs.List.{flat_map, list_any, starts_with}
 use Rattle.std.proofs.lemmas.Grind.{common_steps}
+use Rattle.std.specs.Option.{option_or}
 use Rattle.rb_core.specs.declared.types.DataDecl.{DataDecl}
 use Rattle.rb_layout.specs.declared.layout.Kind.{Kind}
 use Rattle.rb_layout.specs.declared.layout.Kind.TheVariants.{Const, Bits, Word, Pointer}
@@ -18,7 +19,7 @@ use Rattle.rb_image.specs.Parts.{At, bits_at}
 use Rattle.rb_image.specs.Paths.{HasPathFault, IsKeptAt, IsOnPath, IsPathWord, is_there, part_bits, part_fault, words_ahead, words_asked, word_below, words_below}
 use Rattle.rb_image.specs.Roots.{kept_from}
 use Rattle.rb_image.specs.Walks.{Seen, Where, moved}
-use Rattle.rb_image.specs.Ways.{first_of, is_below, leads_below}
+use Rattle.rb_image.specs.Ways.{is_below, leads_below}
 use Rattle.rb_image.specs.inner.Checking.{all_seen, fault_among, fault_at, fault_of_seen, fault_seen, first_ahead, is_kept_at, leads_there, words_of_path, words_seen}
 use Rattle.rb_image.proofs.FallLemmas.{same_Ok}
 use Rattle.rb_image.proofs.Members.{any_in, in_any}
@@ -120,11 +121,11 @@ module _ (m : List ImageBlock) (leaf : Leaf) (ws : List Kept) (ats : List ℕ) w
       flat_map_in (word_below m leaf ws ats (i ∷ [])) k r.0 (order_of leaf) r.1 (word_first i path r.0 k r.2)
 
 -- Faults of parts ----------------------------------------------------------------------------
-first_left : (a b : Option ImageFault) (fault : ImageFault) → first_of a b ≡ Some fault → (a ≡ Some fault) ⊎ (b ≡ Some fault)
+first_left : (a b : Option ImageFault) (fault : ImageFault) → option_or a b ≡ Some fault → (a ≡ Some fault) ⊎ (b ≡ Some fault)
 first_left None b fault e = inr e
 first_left (Some f) b fault e = inl e
 
-first_none : (a b : Option ImageFault) → first_of a b ≡ None → (a ≡ None) × (b ≡ None)
+first_none : (a b : Option ImageFault) → option_or a b ≡ None → (a ≡ None) × (b ≡ None)
 first_none None b e = (refl, e)
 first_none (Some f) b e = absurd cc
 

@@ -1,12 +1,11 @@
 -- What stands at the sites of root words.
 use Rattle.std.proofs.Common.{◌≡◌, ℕ, zero, suc, ◌+◌, ◌-◌, ◌^◌, ◌<◌, ◌≤◌, length, map, List, [], ◌∷◌, ◌++◌, Some, refl, sym, subst, ap, ◌∙◌, append-nil, arith}
-use Rattle.std.specs.Prelude.{slice_get}
+use Rattle.std.specs.Prelude.{slice_get, unwrap_or}
 use Rattle.rb_bits.specs.Words.{take_of}
 use Rattle.rb_bits.proofs.RangeLemmas.{take_whole}
 use Rattle.rb_image_text.specs.declared.image.Image.{Image}
 use Rattle.rb_image.specs.declared.site.Site.{Site}
 use Rattle.rb_image.specs.FieldSites.{AreNarrow, AreRootSites}
-use Rattle.rb_image.specs.Parts.{or_zero}
 use Rattle.rb_image.specs.Roots.{kept_from}
 use Rattle.rb_image.specs.Sites.{kept_of}
 use Rattle.rb_image.specs.inner.Siting.{sites_from, whole_root}
@@ -19,7 +18,7 @@ all_found count j found le is =
 
 module _ (image : Image) where
   word_there : (j n : ℕ) → slice_get image.root j ≡ Some n → n < 2 ^ 64 → kept_of image (whole_root j) ≡ record { number = n; base = 0; place = j }
-  word_there j n is lt = ap (λ k. record { number = k; base = 0; place = j }) (ap (λ o. take_of (or_zero o) 0 64) is ∙ take_whole n 64 lt)
+  word_there j n is lt = ap (λ k. record { number = k; base = 0; place = j }) (ap (λ o. take_of (unwrap_or o 0) 0 64) is ∙ take_whole n 64 lt)
 
   from_there : (ns : List ℕ) (j : ℕ) → ((k n : ℕ) → slice_get ns k ≡ Some n → (slice_get image.root (j + k) ≡ Some n) × (n < 2 ^ 64))
       → map (kept_of image) (sites_from whole_root j (length ns)) ≡ kept_from j ns

@@ -1,6 +1,6 @@
 -- What stands at the sites of a field's words, and that they are narrow.
 use Rattle.std.proofs.Common.{◌≡◌, ℕ, zero, suc, ◌+◌, ◌-◌, ◌^◌, ◌<◌, ◌≤◌, nat_eq, map, List, [], ◌∷◌, Bool, true, false, inl, inr, Option, Some, None, refl, sym, subst, ap, ◌∙◌, arith}
-use Rattle.std.specs.Prelude.{slice_get, slice_index, if◌then◌else◌}
+use Rattle.std.specs.Prelude.{slice_get, slice_index, if◌then◌else◌, unwrap_or}
 use Rattle.std.specs.Int.{bit_at}
 use Rattle.std.proofs.Math.Pow.{pow_mono}
 use Rattle.std.proofs.lemmas.Grind.{common_steps}
@@ -20,7 +20,7 @@ use Rattle.rb_image.specs.declared.site.Site.{Site}
 use Rattle.rb_image.specs.Blocks.{word_in}
 use Rattle.rb_image.specs.FieldSites.{AreNarrow, AreSitesOf, HasNarrowParts, IsNarrow}
 use Rattle.rb_image.specs.Orders.{PartAt, order_of}
-use Rattle.rb_image.specs.Parts.{bits_at, field_word, field_words, holds, kept_at, or_zero}
+use Rattle.rb_image.specs.Parts.{bits_at, field_word, field_words, holds, kept_at}
 use Rattle.rb_image.specs.Sites.{kept_of}
 use Rattle.rb_image.specs.Splits.{range_of, word_at}
 use Rattle.rb_image.specs.WordReads.{read_of}
@@ -96,10 +96,10 @@ module _ (image : Image) (placed : AreInPlace image.blocks) where
   kept number base place = record { number = number; base = base; place = place }
 
   none_there : (place : ℕ) → kept_of image (nowhere place) ≡ kept 0 0 place
-  none_there place = ap (λ n. kept n 0 place) (take_none (or_zero (read_of image 0 place 0)))
+  none_there place = ap (λ n. kept n 0 place) (take_none (unwrap_or (read_of image 0 place 0) 0))
 
   range_there : (s : Site) (o l : ℕ) → kept_of image (range_in s o l) ≡ range_of (kept_of image s) o l
-  range_there s o l = ap (λ n. kept n s.base s.place) (sym (take_in (or_zero (read_of image s.base s.place s.width)) s.o s.l o l))
+  range_there s o l = ap (λ n. kept n s.base s.place) (sym (take_in (unwrap_or (read_of image s.base s.place s.width) 0) s.o s.l o l))
 
   module _ (sites : List Site) where
     abbrev ws : List Kept
@@ -111,12 +111,12 @@ module _ (image : Image) (placed : AreInPlace image.blocks) where
     root_there (Some s) j p is = range_there s p.o p.l ∙ ap (λ w. range_of w p.o p.l) (sym (site_there (kept_of image) sites j s is))
 
     abbrev in_block : ℕ → PartAt → Kept
-    in_block at s = range_of (kept (or_zero (word_in m at s.byte s.width)) at s.byte) s.part.o s.part.l
+    in_block at s = range_of (kept (unwrap_or (word_in m at s.byte s.width) 0) at s.byte) s.part.o s.part.l
 
     block_zero : (at : ℕ) (s : PartAt) → at ≡ 0 → kept_of image (nowhere s.byte) ≡ in_block at s
     block_zero at s none =
         none_there s.byte ∙ ap (λ n. kept n 0 s.byte) (sym (take_zero s.part.o s.part.l))
-        ∙ ap (λ w. range_of (kept (or_zero w) 0 s.byte) s.part.o s.part.l) (sym (no_word_at_zero m placed s.byte s.width))
+        ∙ ap (λ w. range_of (kept (unwrap_or w 0) 0 s.byte) s.part.o s.part.l) (sym (no_word_at_zero m placed s.byte s.width))
         ∙ ap (λ a. in_block a s) (sym none)
 
     zero_is : (at : ℕ) → nat_eq at 0 ≡ true → at ≡ 0
@@ -130,7 +130,7 @@ module _ (image : Image) (placed : AreInPlace image.blocks) where
       where
         go : (b : Bool) → nat_eq at 0 ≡ b → kept_of image (if b then nowhere s.byte else record { base = at; place = s.byte; width = s.width; o = s.part.o; l = s.part.l }) ≡ in_block at s
         go true e = block_zero at s (zero_is at e)
-        go false e = ap (λ w. range_of (kept (or_zero w) at s.byte) s.part.o s.part.l) (read_from_block image at s.byte s.width (zero_not at e))
+        go false e = ap (λ w. range_of (kept (unwrap_or w 0) at s.byte) s.part.o s.part.l) (read_from_block image at s.byte s.width (zero_not at e))
 
     module _ (ats : List ℕ) where
       part_there : (b : Option ℕ) (s : PartAt) → kept_of image (part_site sites ats b s) ≡ range_of (kept_at m ws ats b s) s.part.o s.part.l

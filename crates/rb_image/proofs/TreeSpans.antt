@@ -10,7 +10,7 @@ use Rattle.rb_layout.specs.declared.layout.FlatTree.TheFolds.{fold-roll-FlatArm}
 use Rattle.rb_layout.specs.declared.layout.FlatArm.{FlatArm}
 use Rattle.rb_layout.specs.Splits.{Under, literals_of, SplitAt, splits_or_none, splits_step, splits_arm, splits_of, splits_under}
 use Rattle.rb_layout.proofs.FlatForms as F
-use Rattle.rb_coding.specs.inner.Leading.{under_number}
+use Rattle.rb_coding.specs.Arms.{under_number}
 use Rattle.rb_image.specs.Spans.{split_span, tree_span}
 
 splits_is : (a : FlatArm) → splits_under a ≡ record { literal = a.literal; of = splits_of a.under }

@@ -1,11 +1,12 @@
 -- Of the pointers on the way to what stands at a path of a leaf, the first that is refused was reached; and where none is refused,
 -- all that stands there was.
 use Rattle.std.proofs.Common.{◌≡◌, ℕ, zero, suc, ◌+◌, ◌-◌, ◌/◌, ◌<◌, ◌≤◌, ◌==◌, ◌||◌, inl, inr, Bool, true, false, List, [], ◌∷◌, ◌++◌, length, replicate, Option, Some, None, Result, Ok, Err, refl, sym, subst, ap, ◌∙◌, append_assoc, arith}
-use Rattle.std.specs.Prelude.{not, slice_get, slice_index, slice_set, if◌then◌else◌}
+use Rattle.std.specs.Prelude.{not, slice_get, slice_index, slice_set, if◌then◌else◌, unwrap_or}
 use Rattle.std.specs.List.{flat_map, list_any}
 use Rattle.std.proofs.lemmas.Grind.{common_steps}
 use Rattle.std.proofs.lemmas.List.{length-replicate, length-set, get_or-set_same, get_or-set_other}
 use Rattle.std.proofs.lemmas.Option.{slice_get_within}
+use Rattle.std.specs.Option.{option_or}
 use Rattle.rb_layout.specs.Flat.{HasBlock, IsAbove, IsFlat}
 use Rattle.rb_layout.specs.Words.{begins_at, flat_at, words_in, words_of_block}
 use Rattle.rb_layout.specs.declared.layout.Block.{Block}
@@ -22,10 +23,10 @@ use Rattle.rb_image.specs.declared.kept.Kept.{Kept}
 use Rattle.rb_image.specs.Blocks.{word_in}
 use Rattle.rb_image.specs.LeafWords.{follow, follow_kind, follow_part, reached, with_found}
 use Rattle.rb_image.specs.Orders.{PartAt, behind, block_order, by_offset, order_of, with_inner, word_order, words_order}
-use Rattle.rb_image.specs.Parts.{bits_at, followed, kept_at, or_zero}
+use Rattle.rb_image.specs.Parts.{bits_at, followed, kept_at}
 use Rattle.rb_image.specs.Paths.{is_there}
 use Rattle.rb_image.specs.Splits.{range_of}
-use Rattle.rb_image.specs.Ways.{fault_of, first_of, is_below, leads_below, refusal_of, refused_below}
+use Rattle.rb_image.specs.Ways.{fault_of, is_below, leads_below, refusal_of, refused_below}
 use Rattle.rb_image.proofs.LeafWordLemmas.{found_above}
 use Rattle.rb_image.proofs.Members.{any_in, in_any, split_in}
 use Rattle.rb_image.proofs.PlacedSpots.{AreLed, BlockSeen, order_led, order_spots, spot_of, words_have}
@@ -268,7 +269,7 @@ module _ (m : List ImageBlock) (leaf : Leaf) (ws : List Kept) where
     where
       go : (o : Option ℕ) → ((c : ℕ) → o ≡ Some c → slice_index known c ≡ slice_index ats c) → kept_at m ws known o s ≡ kept_at m ws ats o s
       go None h = refl
-      go (Some c) h = ap (λ a. record { number = or_zero (word_in m a s.byte s.width); base = a; place = s.byte }) (h c refl)
+      go (Some c) h = ap (λ a. record { number = unwrap_or (word_in m a s.byte s.width) 0; base = a; place = s.byte }) (h c refl)
 
   abbrev ats : List ℕ
   ats = reached m leaf ws
@@ -387,7 +388,7 @@ module _ (m : List ImageBlock) (placed : AreInPlace m) (leaf : Leaf) (flat : IsF
       go (λ here g. first_refused rest (before ++ s ∷ []) fault (is ∙ sym (append_assoc before (s ∷ []) rest)) (one_more before s none here) g) (leads_below leaf path s.part.kind) refl e
     where
       led : ((leads_below leaf path s.part.kind ≡ true → refusal s ≡ None) → refused rest ≡ Some fault → IsFirst fault) → leads_below leaf path s.part.kind ≡ true
-          → (o : Option ImageFault) → refusal s ≡ o → first_of o (refused rest) ≡ Some fault → IsFirst fault
+          → (o : Option ImageFault) → refusal s ≡ o → option_or o (refused rest) ≡ Some fault → IsFirst fault
       led more leads None free g = more (λ h. free) g
       led more leads (Some f) found g = record {
         part = s;
@@ -398,7 +399,7 @@ module _ (m : List ImageBlock) (placed : AreInPlace m) (leaf : Leaf) (flat : IsF
       }
 
       go : ((leads_below leaf path s.part.kind ≡ true → refusal s ≡ None) → refused rest ≡ Some fault → IsFirst fault)
-          → (t : Bool) → leads_below leaf path s.part.kind ≡ t → first_of (if t then refusal s else None) (refused rest) ≡ Some fault → IsFirst fault
+          → (t : Bool) → leads_below leaf path s.part.kind ≡ t → option_or (if t then refusal s else None) (refused rest) ≡ Some fault → IsFirst fault
       go more true leads g = led more leads (refusal s) refl g
       go more false leads g = more (λ h. absurd (let no = sym leads ∙ h in cc)) g
 
@@ -410,11 +411,11 @@ module _ (m : List ImageBlock) (placed : AreInPlace m) (leaf : Leaf) (flat : IsF
   none_refused [] e q h leads = absurd h
   none_refused (s ∷ ss) e q h leads = go (none_refused ss) (leads_below leaf path s.part.kind) refl e h
     where
-      free : (o : Option ImageFault) → first_of o (refused ss) ≡ None → (o ≡ None) × (refused ss ≡ None)
+      free : (o : Option ImageFault) → option_or o (refused ss) ≡ None → (o ≡ None) × (refused ss ≡ None)
       free None g = (refl, g)
       free (Some f) g = absurd cc
 
-      go : (refused ss ≡ None → NoneRefused ss) → (t : Bool) → leads_below leaf path s.part.kind ≡ t → first_of (if t then refusal s else None) (refused ss) ≡ None → In q (s ∷ ss) → refusal q ≡ None
+      go : (refused ss ≡ None → NoneRefused ss) → (t : Bool) → leads_below leaf path s.part.kind ≡ t → option_or (if t then refusal s else None) (refused ss) ≡ None → In q (s ∷ ss) → refusal q ≡ None
       go more true is g (inl same) = ap refusal same ∙ (free (refusal s) g).0
       go more true is g (inr i) = more (free (refusal s) g).1 q i leads
       go more false is g (inl same) = absurd (let no = sym is ∙ ap (λ (x : PartAt). leads_below leaf path x.part.kind) (sym same) ∙ leads in cc)

@@ -1,5 +1,5 @@
 -- What is read of a leaf: its root words, the addresses of the blocks to which its pointers lead, and the words there.
-use Rattle.std.specs.Prelude.{◌≡◌, ℕ, ◌+◌, ◌/◌, ◌==◌, List, [], ◌∷◌, length, replicate, Option, Some, None, Result, Ok, Err, slice_get, slice_index, slice_set, if◌then◌else◌}
+use Rattle.std.specs.Prelude.{◌≡◌, ℕ, ◌+◌, ◌/◌, ◌==◌, List, [], ◌∷◌, length, replicate, Option, Some, None, Result, Ok, Err, slice_get, slice_index, slice_set, if◌then◌else◌, unwrap_or}
 use Rattle.std.specs.List.{sum_by}
 use Rattle.std.specs.declared.alloc.Global.{Global}
 use Rattle.std.specs.declared.vec.Vec.{Vec}
@@ -15,7 +15,7 @@ use Rattle.rb_image.specs.declared.kept.Kept.{Kept}
 use Rattle.rb_image.specs.declared.leaf_words.LeafWords.{LeafWords}
 use Rattle.rb_image.specs.Blocks.{word_in}
 use Rattle.rb_image.specs.Orders.{PartAt, order_of}
-use Rattle.rb_image.specs.Parts.{bits_at, followed, or_zero}
+use Rattle.rb_image.specs.Parts.{bits_at, followed}
 
 -- Addresses ----------------------------------------------------------------------------------
 
@@ -49,7 +49,7 @@ reached m leaf ws = follow m leaf ws (replicate (length leaf.blocks) 0) (order_o
 -- the numbers of the words of the block that begins at an address, from the word that begins at a byte on
 abbrev pub numbers_at : List ImageBlock → ℕ → ℕ → List FlatWord → List ℕ
 numbers_at m at byte [] = []
-numbers_at m at byte (f ∷ fs) = or_zero (word_in m at byte f.width) ∷ numbers_at m at (byte + f.width / 8) fs
+numbers_at m at byte (f ∷ fs) = unwrap_or (word_in m at byte f.width) 0 ∷ numbers_at m at (byte + f.width / 8) fs
 
 -- those of the words of block b, none where its address is not known
 abbrev pub block_numbers : List ImageBlock → Leaf → List ℕ → ℕ → List ℕ

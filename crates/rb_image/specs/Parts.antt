@@ -1,5 +1,5 @@
 -- The parts of a leaf, examined on words of an image, and the places below it.
-use Rattle.std.specs.Prelude.{ℕ, zero, suc, ◌+◌, ◌*◌, ◌==◌, ◌&&◌, List, [], ◌∷◌, length, map, replicate, Bool, false, Option, Some, None, Result, Ok, Err, slice_get, slice_index, slice_set, if◌then◌else◌}
+use Rattle.std.specs.Prelude.{ℕ, zero, suc, ◌+◌, ◌*◌, ◌==◌, ◌&&◌, List, [], ◌∷◌, length, map, replicate, Bool, false, Option, Some, None, Result, Ok, Err, slice_get, slice_index, slice_set, if◌then◌else◌, unwrap_or}
 use Rattle.std.specs.List.{flat_map}
 use Rattle.rb_core.specs.declared.types.Ty.{Ty}
 use Rattle.rb_core.specs.declared.types.Ty.TheVariants.{Int, Named}
@@ -24,14 +24,10 @@ use Rattle.rb_image.specs.Splits.{and_then, nothing, or_fault, pointed_from, ran
 
 -- Parts --------------------------------------------------------------------------------------
 
-abbrev pub or_zero : Option ℕ → ℕ
-or_zero None = 0
-or_zero (Some n) = n
-
 -- the word of a part, where the addresses of the leaf's blocks are known
 abbrev pub kept_at : List ImageBlock → List Kept → List ℕ → Option ℕ → PartAt → Kept
 kept_at m ws ats None s = word_at ws s.word
-kept_at m ws ats (Some b) s = record { number = or_zero (word_in m (slice_index ats b) s.byte s.width); base = slice_index ats b; place = s.byte }
+kept_at m ws ats (Some b) s = record { number = unwrap_or (word_in m (slice_index ats b) s.byte s.width) 0; base = slice_index ats b; place = s.byte }
 
 -- the bits of a part
 abbrev pub bits_at : List ImageBlock → List Kept → List ℕ → PartAt → Kept

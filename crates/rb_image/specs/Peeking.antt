@@ -1,23 +1,13 @@
 -- What stands at a path of an image: its type and its words, or why there is none.
 use Rattle.std.specs.Prelude.{◌≡◌, ◌⊎◌, ℕ, List, [], ◌∷◌, Result, Ok, Err}
-use Rattle.rb_core.specs.declared.pattern.Pat.{out-Pat}
-use Rattle.rb_core.specs.declared.program.Program.{Program}
 use Rattle.rb_core.specs.declared.types.DataDecl.{DataDecl}
 use Rattle.rb_core.specs.declared.types.Ty.{Ty}
 use Rattle.rb_core.specs.declared.types.Ty.TheVariants.{Int, Named}
-use Rattle.rb_core.specs.declared.value.Value.{Value}
-use Rattle.rb_core.specs.TypedPrograms.{IsTyped}
 use Rattle.rb_layout.specs.declared.layout.Layout.{Layout}
-use Rattle.rb_layout.specs.Agreement.{Agrees}
-use Rattle.rb_layout.specs.Flattening.{flat_layouts}
 use Rattle.rb_image_text.specs.declared.fault.ImageFault.{ImageFault}
 use Rattle.rb_image_text.specs.declared.fault.ImageFault.TheVariants.{BadRoot, NoSuchPart}
 use Rattle.rb_image_text.specs.declared.image.Image.{Image}
-use Rattle.rb_image_text.specs.Images.{AreBlocks}
-use Rattle.rb_image_text.specs.Places.{AreInPlace}
 use Rattle.rb_image.specs.declared.peek.Peeked.{Peeked}
-use Rattle.rb_image.specs.Falling.{RootDescends}
-use Rattle.rb_image.specs.PathParts.{IsOpen, IsPartThere}
 use Rattle.rb_image.specs.PathSpans.{path_span}
 use Rattle.rb_image.specs.Paths.{HasNoPart, HasPathFault, IsCome, IsFaultless, IsOnPath, IsPathWord, Names}
 use Rattle.rb_image.specs.Rebuilds.{numbers_of, rebuilt}
@@ -78,17 +68,3 @@ module _ (types : List DataDecl) (layouts : List Layout) (image : Image) where
   abbrev pub part_span : Ty → List ℕ → ℕ
   part_span (Int bits) path = 0
   part_span (Named t) path = path_span types layouts image.blocks t (kept_from 0 image.root) path
-
--- what stands at the end of a walk is not rebuilt
-abbrev pub IsWhole : Where → Type 0
-IsWhole w = (w.last.at ≡ []) ⊎ IsOpen (out-Pat w.here.pat)
-
-abbrev pub EndsWhole : List DataDecl → List Layout → Image → Ty → List ℕ → Type 0
-EndsWhole types layouts image (Int bits) path = Unit {0}
-EndsWhole types layouts image (Named t) path = (end : Where) × IsCome types layouts image t path path end × IsWhole end
-
--- where an image holds a value, the words of what is not rebuilt represent the part of the value at the path
-abbrev pub PartsAreHeld : Type 0
-PartsAreHeld = (p : Program) → IsTyped p → Agrees p → (image : Image) → AreInPlace image.blocks → AreBlocks image.blocks
-    → (ty : Ty) (v : Value) → RootDescends p image ty v → (path : List ℕ) → EndsWhole p.types (flat_layouts p) image ty path
-    → (part : Peeked) → IsPart p.types (flat_layouts p) image ty path part → IsPartThere p image v path part.ty part.words

@@ -11,7 +11,7 @@ use Rattle.rb_layout.specs.declared.layout.Layout.{Layout}
 use Rattle.rb_layout.specs.declared.layout.Leaf.{Leaf}
 use Rattle.rb_layout.specs.Flattening.{same_path}
 use Rattle.rb_layout.specs.Positions.{Open, open_positions}
-use Rattle.rb_coding.specs.inner.Packing.{word_made}
+use Rattle.rb_coding.specs.Packing.{word_made}
 use Rattle.rb_image_text.specs.declared.fault.ImageFault.{ImageFault}
 use Rattle.rb_image_text.specs.declared.fault.ImageFault.TheVariants.{Memory}
 use Rattle.rb_image_text.specs.declared.image.ImageBlock.{ImageBlock}

@@ -1,14 +1,14 @@
 -- What stands at a site of an image.
+use Rattle.std.specs.Prelude.{unwrap_or}
 use Rattle.rb_image_text.specs.declared.image.Image.{Image}
 use Rattle.rb_image.specs.declared.kept.Kept.{Kept}
 use Rattle.rb_image.specs.declared.site.Site.{Site}
-use Rattle.rb_image.specs.Parts.{or_zero}
 use Rattle.rb_image.specs.Splits.{range_of}
 use Rattle.rb_image.specs.WordReads.{read_of}
 
 -- the word of which a site is a range
 abbrev pub word_there : Image → Site → Kept
-word_there image s = record { number = or_zero (read_of image s.base s.place s.width); base = s.base; place = s.place }
+word_there image s = record { number = unwrap_or (read_of image s.base s.place s.width) 0; base = s.base; place = s.place }
 
 -- the bits at a site, and where they are kept
 abbrev pub kept_of : Image → Site → Kept

@@ -1,6 +1,7 @@
 -- The parts of a leaf that hold what stands at a path or below it, and the pointers on the way to them.
 use Rattle.std.specs.Prelude.{ℕ, nat_eq, ◌||◌, List, [], ◌∷◌, length, Bool, false, Option, Some, None, Result, Ok, Err, if◌then◌else◌}
 use Rattle.std.specs.List.{list_any, starts_with}
+use Rattle.std.specs.Option.{option_or}
 use Rattle.rb_layout.specs.declared.layout.Kind.{Kind}
 use Rattle.rb_layout.specs.declared.layout.Kind.TheVariants.{Const, Bits, Word, Pointer}
 use Rattle.rb_layout.specs.declared.layout.Leaf.{Leaf}
@@ -33,10 +34,6 @@ refusal_of m leaf bits (Bits path a) = None
 refusal_of m leaf bits (Word path j) = None
 refusal_of m leaf bits (Pointer align b) = fault_of (followed m leaf bits align b)
 
-abbrev pub first_of : Option ImageFault → Option ImageFault → Option ImageFault
-first_of None later = later
-first_of (Some fault) later = Some fault
-
 -- the fault of a part, if it is a pointer on the way to what stands below a path
 abbrev pub refused_at : List ImageBlock → Leaf → List Kept → List ℕ → List ℕ → PartAt → Option ImageFault
 refused_at m leaf ws ats path s =
@@ -45,4 +42,4 @@ refused_at m leaf ws ats path s =
 -- the first fault among parts
 abbrev pub refused_below : List ImageBlock → Leaf → List Kept → List ℕ → List ℕ → List PartAt → Option ImageFault
 refused_below m leaf ws ats path [] = None
-refused_below m leaf ws ats path (s ∷ ss) = first_of (refused_at m leaf ws ats path s) (refused_below m leaf ws ats path ss)
+refused_below m leaf ws ats path (s ∷ ss) = option_or (refused_at m leaf ws ats path s) (refused_below m leaf ws ats path ss)

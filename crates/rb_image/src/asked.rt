@@ -7,7 +7,8 @@ ghost use Rattle.rb_image.specs.inner.Checking.{given};
 ghost use Rattle.rb_image_text.specs.Places.{AreInPlace};
 
 use crate::kept::Kept;
-use crate::splits::{range_of, step_over, under, word_at};
+use crate::splits::{range_of, step_over, word_at};
+use rb_coding::splits::under;
 use rb_core::layout_decl::Loc;
 use rb_image_text::image::ImageBlock;
 use rb_layout::layout::FlatTree;

@@ -2,10 +2,8 @@
 
 ghost use Rattle.std.specs.Prelude.{◌≡◌, ◌<◌, ◌++◌, ◌∷◌, [], map, IfOk, OnOk};
 ghost use Rattle.rb_core.specs.Values.{fields_of};
-ghost use Rattle.rb_core.specs.declared.types.Ty.TheVariants.{Named};
 ghost use Rattle.rb_layout.specs.Positions.{opens_below, opens_of, types_or_none};
-ghost use Rattle.rb_rel.specs.Relation.{word_count};
-ghost use Rattle.rb_coding.specs.inner.Opening.{AreFew, HaveFewFields};
+ghost use Rattle.rb_coding.specs.FewFields.{AreFew, HaveFewFields};
 ghost use Rattle.rb_image.specs.Parts as spec;
 ghost use Rattle.rb_image.specs.Parts.{ats_of};
 ghost use Rattle.rb_image.specs.inner.Opening.{opened, word_of};
@@ -15,6 +13,7 @@ use crate::kept::{Kept, Place};
 use crate::order::Spot;
 use crate::parts::kept_at;
 use crate::splits::range_of;
+use rb_coding::lookup::word_count;
 use rb_core::pattern::Pat;
 use rb_core::seq::Seq;
 use rb_core::types::{ConRef, DataDecl, Ty};
@@ -78,16 +77,6 @@ impl<'a> Examined<'a> {
     }
 }
 
-/// How many words a data type has.
-pub(crate) fn word_count(layouts: &[Layout], ty: u32) -> usize
-    ensures { result ≡ word_count layouts.now (Named ty) }
-{
-    match layouts.get(ty as usize) {
-        None => 0,
-        Some(layout) => layout.shape.len(),
-    }
-}
-
 /// The types of the fields of a constructor.
 pub(crate) fn fields_of(types: &[DataDecl], con: ConRef) -> &[Ty]
     ensures { result.now ≡ types_or_none (fields_of types.now con) }
@@ -126,7 +115,11 @@ fn add_place(
     match ty {
         Ty::Int(_) => Ok(()),
         Ty::Named(ty) => {
-            let words = examined.words_of(alloc, path, word_count(examined.layouts, ty))?;
+            let words = examined.words_of(
+                alloc,
+                path,
+                word_count(examined.layouts, Ty::Named(ty)),
+            )?;
             places.push(Place { ty, words })?;
             Ok(())
         }

@@ -12,9 +12,9 @@ ghost use Rattle.rb_image.specs.Orders.{order_of};
 ghost use Rattle.rb_image.specs.inner.Viewing.{spots_of};
 ghost use Rattle.rb_image_text.specs.Places.{AreInPlace};
 
-use crate::bits::take_from;
 use crate::leaf_words::LeafWords;
 use crate::order::{Spot, order_of};
+use rb_coding::bits::take_from;
 use rb_image_text::image::Image;
 use rb_layout::layout::{Kind, Leaf};
 use std::alloc::{AllocError, Global};

@@ -5,7 +5,6 @@ ghost use Rattle.rb_image.specs.Falling.{DescendingImagesAreSound, SoundImagesDe
 ghost use Rattle.rb_image.specs.HeldParts.{GivenPartsAreHeld};
 ghost use Rattle.rb_image.specs.PathParts.{PathsLeadToParts};
 ghost use Rattle.rb_image.specs.PathSpans.{WalksAreShort};
-ghost use Rattle.rb_image.specs.Peeking.{PartsAreHeld};
 ghost use Rattle.rb_image.specs.PackedWords.{PackedWordsRepresent};
 ghost use Rattle.rb_image.specs.RebuiltValues.{RebuiltWordsRepresent};
 ghost use Rattle.rb_image.specs.Spans.{SpansRecur};
@@ -83,12 +82,6 @@ pub fn values_are_seen()
 /// that `rebuild` gives of it represent it.
 pub fn rebuilt_words_represent()
     ensures { RebuiltWordsRepresent }
-{}
-
-/// Where an image holds a value, the words that `peek` gives represent the part of the value at the path, if the part is
-/// not rebuilt.
-pub fn parts_are_held()
-    ensures { PartsAreHeld }
 {}
 
 /// Where an image holds a value, the words that `peek` gives represent the part of the value at the path, also where

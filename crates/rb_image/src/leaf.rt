@@ -9,8 +9,9 @@ ghost use Rattle.rb_image_text.specs.Places.{AreInPlace};
 
 use crate::kept::Kept;
 use crate::site::Site;
-use crate::splits::{pointed_from, range_of, under};
+use crate::splits::{pointed_from, range_of};
 use crate::word::read_word;
+use rb_coding::splits::under;
 use rb_core::layout_decl::{Loc, Step};
 use rb_edge::steps::{Ledger, Steps};
 use rb_image_text::fault::ImageFault;

@@ -6,7 +6,6 @@ ghost use Rattle.rb_layout.specs.Readable.{AreShort, IsReadable};
 ghost use Rattle.rb_layout.specs.declared.layout.Leaf.{Leaf};
 ghost use Rattle.rb_image.specs.LeafWords.{HasNumbers, block_span, follow_part, items_or_none, numbers_at, reached};
 ghost use Rattle.rb_image.specs.Orders.{order_of};
-ghost use Rattle.rb_image.specs.Parts as spec;
 ghost use Rattle.rb_image.specs.Parts.{bits_at};
 ghost use Rattle.rb_image.specs.Sites.{kept_of};
 ghost use Rattle.rb_image.specs.inner.Reaching.{IsPartOf, unread, word_read};
@@ -53,15 +52,6 @@ fn read_sites<L: Ledger>(
     Ok(found)
 }
 
-fn or_zero(number: Option<u64>) -> u64
-    ensures { result ≡ spec.or_zero number }
-{
-    match number {
-        None => 0,
-        Some(number) => number,
-    }
-}
-
 // The numbers of the words of the block that begins at an address.
 fn read_numbers<L: Ledger>(
     alloc: Global,
@@ -79,7 +69,7 @@ fn read_numbers<L: Ledger>(
     let mut found = Vec::new(alloc);
     let mut byte = 0;
     for word in words {
-        found.push(or_zero(read_block(image, address, byte, word.width, steps)))?;
+        found.push(read_block(image, address, byte, word.width, steps).unwrap_or(0))?;
         byte += word.width / 8;
     }
     Ok(found)

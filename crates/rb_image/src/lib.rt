@@ -104,7 +104,6 @@ mod ahead;
 mod arrival;
 mod asked;
 mod below;
-mod bits;
 mod blocks;
 mod check;
 mod descent;

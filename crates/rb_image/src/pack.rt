@@ -1,12 +1,12 @@
 //! Words of a leaf without pointers, made from the words of its fields.
 
-ghost use Rattle.std.specs.Prelude.{◌≡◌, IfOk, map, slice_index};
-ghost use Rattle.rb_layout.specs.Flattening.{same_path};
-ghost use Rattle.rb_coding.specs.inner.Packing.{made_of, word_made};
+ghost use Rattle.std.specs.Prelude.{◌≡◌, IfOk, map};
+ghost use Rattle.rb_coding.specs.Packing.{made_of, word_made};
 ghost use Rattle.rb_rel.proofs.Packing.{number_of};
 ghost use Rattle.rb_image.specs.Rebuilds.{words_in};
 
-use crate::bits::{put_into, take_from};
+use rb_coding::bits::{put_into, take_from};
+use rb_coding::lookup::{item, same_path};
 use rb_core::seq::Seq;
 use rb_layout::layout::{FlatWord, Kind, Part};
 use std::alloc::{AllocError, Global};
@@ -16,12 +16,6 @@ use std::alloc::{AllocError, Global};
 pub struct FieldWords {
     pub path: Seq<u32>,
     pub words: Seq<u64>,
-}
-
-fn same_path(own: &[u32], path: &[u32]) -> bool
-    ensures { result ≡ same_path own.now path.now }
-{
-    own == path
 }
 
 // The words of the first field at a path.
@@ -34,15 +28,6 @@ fn words_in<'a>(fields: &'a [FieldWords], path: &[u32]) -> &'a [u64]
         }
     }
     &[]
-}
-
-fn item(words: &[u64], i: u64) -> u64
-    ensures { result ≡ slice_index words.now i }
-{
-    match words.get(i as usize) {
-        None => 0,
-        Some(number) => *number,
-    }
 }
 
 // What a part is to hold.

@@ -11,10 +11,11 @@ ghost use Rattle.rb_image.specs.Walks as spec;
 ghost use Rattle.rb_image.specs.Walks.{ArePassed};
 ghost use Rattle.rb_image_text.specs.Places.{AreInPlace};
 
-use crate::below::word_count;
 use crate::check::{fault_of, words_of};
 use crate::fields::root_sites;
 use crate::walk::{Walk, tell_orderly, walk_along};
+use rb_coding::lookup::word_count;
+use rb_core::types::Ty;
 use rb_edge::steps::{Ledger, Steps};
 use rb_image_text::fault::ImageFault;
 use rb_image_text::image::Image;
@@ -77,7 +78,7 @@ pub fn follow_path<'a, L: Ledger>(
     tell_orderly(agreed);
     tell_typed(agreed);
     tell_words(image.root.as_slice());
-    let count = word_count(agreed.layouts(), ty);
+    let count = word_count(agreed.layouts(), Ty::Named(ty));
     let sites = root_sites(alloc, count)?;
     let walk = walk_along(alloc, agreed, image, ty, sites, path, steps)?;
     let words = words_of(alloc, agreed, image, &walk)?;

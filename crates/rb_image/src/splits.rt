@@ -1,19 +1,17 @@
 //! The leaf to which the splits of a layout lead, read on words of an image.
 
 ghost use Rattle.std.specs.Prelude.{◌≡◌};
-ghost use Rattle.std.specs.Option.{option_copied};
-ghost use Rattle.rb_coding.specs.inner.Leading.{under_number};
 ghost use Rattle.rb_image.specs.Splits.{leaf_at, pointed_from, range_at, range_of, step_over, word_at};
 ghost use Rattle.rb_image_text.specs.Places.{AreInPlace};
 
-use crate::bits::take_from;
 use crate::blocks::word_in;
 use crate::kept::Kept;
-use rb_core::boxed::Boxed;
+use rb_coding::bits::take_from;
+use rb_coding::splits::under;
 use rb_core::layout_decl::{Loc, Step};
 use rb_image_text::fault::ImageFault;
 use rb_image_text::image::ImageBlock;
-use rb_layout::layout::{FlatArm, FlatTree};
+use rb_layout::layout::FlatTree;
 
 /// The address to which a pointer may lead that is kept in the block at `base`, 0 for a root word: any from a root
 /// word, a lower one from a block.
@@ -86,25 +84,6 @@ fn range_at(memory: &[ImageBlock], words: &[Kept], loc: &Loc) -> Result<Kept, Im
         range = range_of(step_over(memory, range, *step)?, step.o, step.l);
     }
     Ok(range)
-}
-
-/// What stands under a number: under the first arm with this literal, or else under `else`.
-pub(crate) fn under<'a>(
-    arms: &'a [FlatArm],
-    other: &'a Option<Boxed<FlatTree>>,
-    number: u64,
-) -> Option<&'a FlatTree>
-    ensures { option_copied result ≡ under_number arms.now other.now number }
-{
-    for arm in arms {
-        if arm.literal == number {
-            return Some(&arm.under);
-        }
-    }
-    match other {
-        None => None,
-        Some(tree) => Some(tree.get()),
-    }
 }
 
 /// The number of the leaf to which a tree of splits leads, or the first fault on the way.

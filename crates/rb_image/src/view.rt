@@ -8,13 +8,14 @@ ghost use Rattle.rb_image.specs.inner.Standing.{IsShown, shown, shown_option};
 ghost use Rattle.rb_image.specs.inner.Viewing.{spots_of};
 ghost use Rattle.rb_image_text.specs.Places.{AreInPlace};
 
-use crate::below::{holds, word_count};
+use crate::below::holds;
 use crate::inside::{Inside, field_of};
 use crate::integers::integer_at;
 use crate::kept::Kept;
 use crate::leaf_words::LeafWords;
 use crate::order::{Spot, order_of};
-use rb_core::types::DataDecl;
+use rb_coding::lookup::word_count;
+use rb_core::types::{DataDecl, Ty};
 use rb_image_text::image::Image;
 use rb_layout::layout::{Layout, Leaf};
 use std::alloc::{AllocError, Global};
@@ -64,7 +65,7 @@ impl<'a> View<'a> {
             (λ words. words.items ≡ spec.words_here layouts.now image.now.blocks (shown self.now) ty) }
     {
         let order = order_of(alloc, self.leaf)?;
-        let count = word_count(layouts, ty);
+        let count = word_count(layouts, Ty::Named(ty));
         let mut words = Vec::new(alloc);
         for number in 0..count {
             words.push(self.word(image, order.as_slice(), number as u64))?;

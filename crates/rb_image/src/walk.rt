@@ -12,10 +12,10 @@ ghost use Rattle.rb_image.specs.Walks.{ArePassed, IsPassed, seen_of, where_of};
 ghost use Rattle.rb_image.specs.inner.Ordering.{AreOrderly};
 ghost use Rattle.rb_image_text.specs.Places.{AreInPlace};
 
-use crate::below::word_count;
 use crate::inside::{Inside, field_of};
 use crate::site::Site;
 use crate::visit::{Visited, visit};
+use rb_coding::lookup::word_count;
 use rb_core::pattern::Pat;
 use rb_core::seq::Seq;
 use rb_core::types::Ty;
@@ -143,7 +143,7 @@ fn settle<'a, L: Ledger>(
         here: _,
     } = walk;
     let mut before = before;
-    let count = word_count(agreed.layouts(), ty);
+    let count = word_count(agreed.layouts(), Ty::Named(ty));
     let at = last.at.as_slice();
     let sites = last
         .visited

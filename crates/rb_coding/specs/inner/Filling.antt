@@ -17,7 +17,7 @@ use Rattle.rb_rel.proofs.Layers.{address_at}
 use Rattle.rb_coding.specs.declared.fault.EncodeFault.{EncodeFault}
 use Rattle.rb_coding.specs.declared.fault.EncodeFault.TheVariants.{Full, Memory as NoMemory}
 use Rattle.rb_coding.specs.Encoding.{laid_before}
-use Rattle.rb_coding.specs.inner.Packing.{word_made}
+use Rattle.rb_coding.specs.Packing.{word_made}
 
 -- the blocks before what is laid behind them
 abbrev pub behind_all : List (ℕ × ℕ) → Laid → Laid

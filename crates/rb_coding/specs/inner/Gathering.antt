@@ -14,7 +14,7 @@ use Rattle.rb_layout.specs.declared.layout.Part.{Part}
 use Rattle.rb_layout.specs.Flattening.{same_path, type_at}
 use Rattle.rb_layout.specs.Positions.{open_positions}
 use Rattle.rb_rel.specs.Relation.{word_count}
-use Rattle.rb_coding.specs.inner.Packing.{put_into}
+use Rattle.rb_coding.specs.Packing.{put_into}
 use Rattle.rb_coding.specs.declared.gather.Wanted.{Wanted}
 use Rattle.rb_coding.specs.declared.gather.Wanted.TheVariants.{Addresses, Field}
 

@@ -28,8 +28,3 @@ pub record Leads (ws : List ℕ) (m : Memory) (tree : FlatTree) (leaf : ℕ) : T
   pub is_route : slice_get (routes_of tree) number ≡ Some route
   pub is_leaf : route.leaf ≡ leaf
   pub passes : (k : ℕ) (t : Test) → slice_get route.tests k ≡ Some t → Passes ws m t
-
--- what stands under a number: under the first arm with this literal, or else under `else`
-abbrev pub under_number : List FlatArm → Option FlatTree → ℕ → Option FlatTree
-under_number [] other n = other
-under_number (arm ∷ arms) other n = if nat_eq arm.literal n then Some arm.under else under_number arms other n

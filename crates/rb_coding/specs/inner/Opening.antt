@@ -15,10 +15,3 @@ words_of x = field_words x.types.now x.layouts.now x.leaf.now x.words.now x.load
 -- the steps of a provenance
 abbrev pub steps_of : Opening → Pat → Planned
 steps_of x = plan_of x.types.now (words_of x)
-
--- so few fields that 32 bits number them
-abbrev pub AreFew : {A : Type 0} → List A → Type 0
-AreFew fields = length fields ≤ 4294967296
-
-abbrev pub HaveFewFields : List DataDecl → Type 0
-HaveFewFields types = (t k : ℕ) → AreFew (field_list types (Named t) k)

@@ -1,6 +1,7 @@
 -- The check of the words of a path, as it is done: one list of words, and one leaf after the other.
 use Rattle.std.specs.Prelude.{◌≡◌, ℕ, nat_eq, ◌&&◌, ◌||◌, List, [], ◌∷◌, ◌++◌, Bool, Option, Some, None, Result, Ok, Err, if◌then◌else◌}
 use Rattle.std.specs.List.{flat_map, list_any}
+use Rattle.std.specs.Option.{option_or}
 use Rattle.rb_layout.specs.declared.layout.Layout.{Layout}
 use Rattle.rb_layout.specs.declared.layout.Leaf.{Leaf}
 use Rattle.rb_image_text.specs.declared.fault.ImageFault.{ImageFault}
@@ -14,7 +15,7 @@ use Rattle.rb_image.specs.Parts.{At, bits_at}
 use Rattle.rb_image.specs.Paths.{is_there, part_fault, words_ahead, words_asked}
 use Rattle.rb_image.specs.Roots.{kept_from}
 use Rattle.rb_image.specs.Walks.{Seen, Where}
-use Rattle.rb_image.specs.Ways.{first_of, leads_below}
+use Rattle.rb_image.specs.Ways.{leads_below}
 
 -- what is found, unless there is a fault
 abbrev pub given : {A : Type 0} → Result A ImageFault → Option A
@@ -69,11 +70,11 @@ module _ (on : ℕ → ℕ → Bool) (m : List ImageBlock) where
 
   abbrev pub fault_among : Leaf → List Kept → List ℕ → List PartAt → Option ImageFault
   fault_among leaf ws ats [] = None
-  fault_among leaf ws ats (s ∷ ss) = first_of (fault_at leaf ws ats s) (fault_among leaf ws ats ss)
+  fault_among leaf ws ats (s ∷ ss) = option_or (fault_at leaf ws ats s) (fault_among leaf ws ats ss)
 
   abbrev pub fault_seen : Seen → Option ImageFault
   fault_seen s = fault_among s.leaf s.words (reached m s.leaf s.words) (order_of s.leaf)
 
   abbrev pub fault_of_seen : List Seen → Option ImageFault
   fault_of_seen [] = None
-  fault_of_seen (s ∷ ss) = first_of (fault_seen s) (fault_of_seen ss)
+  fault_of_seen (s ∷ ss) = option_or (fault_seen s) (fault_of_seen ss)

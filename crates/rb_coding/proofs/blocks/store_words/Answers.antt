@@ -3,7 +3,7 @@ use Rattle.std.specs.Prelude.{IsOk, slice_index}
 use Rattle.rb_bytes.specs.Memory.{Memory}
 use Rattle.rb_bytes.specs.declared.fault.Trap.{Trap}
 use Rattle.rb_coding.specs.inner.Nodes.{subs_of}
-use Rattle.rb_coding.specs.inner.Packing.{made_of, word_made}
+use Rattle.rb_coding.specs.Packing.{made_of, word_made}
 use Rattle.rb_coding.proofs.GrowLemmas.{begins_more}
 use Rattle.rb_coding.proofs.PlaceLemmas.{got, store_goes, store_fits}
 use Rattle.rb_coding.proofs.blocks.store_words.Goals as goal

@@ -4,7 +4,7 @@ use Rattle.rb_bytes.specs.Memory.{IsGood}
 use Rattle.rb_layout.specs.Words.{begins_at}
 use Rattle.rb_rel.proofs.Storing.{written}
 use Rattle.rb_coding.specs.inner.Nodes.{subs_of}
-use Rattle.rb_coding.specs.inner.Packing.{word_made}
+use Rattle.rb_coding.specs.Packing.{word_made}
 use Rattle.rb_coding.proofs.blocks.store_words.Given as goal
 
 abbrev pub invariant-loop-word : goal.invariant-loop-word

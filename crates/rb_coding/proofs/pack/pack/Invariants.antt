@@ -1,7 +1,7 @@
 use Rattle.std.proofs.Common.{◌≡◌, drop}
 use Rattle.std.specs.Prelude.{slice_index}
 use Rattle.rb_coding.specs.inner.Nodes.{subs_of}
-use Rattle.rb_coding.specs.inner.Packing.{made_of}
+use Rattle.rb_coding.specs.Packing.{made_of}
 use Rattle.rb_coding.proofs.pack.pack.Given as goal
 
 abbrev pub invariant-loop-k : goal.invariant-loop-k

@@ -1,7 +1,7 @@
 use Rattle.std.proofs.Common.{◌≡◌, map, take}
 use Rattle.std.specs.Prelude.{slice_index}
 use Rattle.rb_coding.specs.inner.Nodes.{subs_of}
-use Rattle.rb_coding.specs.inner.Packing.{word_made}
+use Rattle.rb_coding.specs.Packing.{word_made}
 use Rattle.rb_coding.proofs.pack.pack_all.Given as goal
 
 abbrev pub invariant-loop-word : goal.invariant-loop-word

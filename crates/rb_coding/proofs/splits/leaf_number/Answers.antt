@@ -1,6 +1,6 @@
 use Rattle.std.proofs.Common.{None, sym, ap, ◌∙◌}
 use Rattle.std.specs.Option.{option_copied}
-use Rattle.rb_coding.specs.inner.Leading.{under_number}
+use Rattle.rb_coding.specs.Arms.{under_number}
 use Rattle.rb_coding.proofs.SplitLemmas.{leaf_only, turn, turned, turned_to, fewer}
 use Rattle.rb_coding.proofs.splits.leaf_number.Goals as goal
 

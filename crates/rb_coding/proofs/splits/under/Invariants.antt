@@ -1,5 +1,5 @@
 use Rattle.std.proofs.Common.{◌≡◌, drop}
-use Rattle.rb_coding.specs.inner.Leading.{under_number}
+use Rattle.rb_coding.specs.Arms.{under_number}
 use Rattle.rb_coding.proofs.splits.under.Given as goal
 
 abbrev pub invariant-loop-arm : goal.invariant-loop-arm

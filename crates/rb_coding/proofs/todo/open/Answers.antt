@@ -4,7 +4,7 @@ use Rattle.std.specs.Option.{option_copied}
 use Rattle.std.proofs.lemmas.Option.{slice_get_read}
 use Rattle.rb_core.specs.TypedPrograms.{IsTyped}
 use Rattle.rb_layout.specs.Flattening.{flat_layouts}
-use Rattle.rb_coding.specs.inner.Opening.{HaveFewFields}
+use Rattle.rb_coding.specs.FewFields.{HaveFewFields}
 use Rattle.rb_coding.proofs.FewFields.{few_fields}
 use Rattle.rb_coding.proofs.OpenLemmas.{on_ok, some_leaf, leaf_there, loadable, planned}
 use Rattle.rb_coding.proofs.todo.open.Goals as goal

@@ -1,6 +1,6 @@
 use Rattle.std.proofs.Common.{◌++◌, Some, None, sym, ap, ◌∙◌, append-nil}
 use Rattle.std.specs.Option.{option_copied}
-use Rattle.rb_coding.specs.inner.Leading.{under_number}
+use Rattle.rb_coding.specs.Arms.{under_number}
 use Rattle.rb_coding.proofs.SplitLemmas.{fewer}
 use Rattle.rb_image.specs.Asked.{asked_by}
 use Rattle.rb_image.proofs.AskedLemmas.{turn_asked, turn_stopped}

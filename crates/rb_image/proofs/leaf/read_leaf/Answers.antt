@@ -1,6 +1,6 @@
 use Rattle.std.proofs.Common.{Some, None, map, sym, ap, ◌∙◌, arith}
 use Rattle.std.specs.Option.{option_copied}
-use Rattle.rb_coding.specs.inner.Leading.{under_number}
+use Rattle.rb_coding.specs.Arms.{under_number}
 use Rattle.rb_coding.proofs.SplitLemmas.{fewer}
 use Rattle.rb_image.specs.Sites.{kept_of}
 use Rattle.rb_image.proofs.TreeSpans.{span_below, span_here}

@@ -1,9 +1,9 @@
 use Rattle.std.proofs.Common.{◌+◌, ◌/◌, [], ◌∷◌, ◌++◌, drop, length, refl, sym, ap, ◌∙◌, arith, append-nil}
+use Rattle.std.specs.Prelude.{unwrap_or}
 use Rattle.std.proofs.lemmas.Option.{slice_get_read}
 use Rattle.rb_image.specs.LeafWords.{numbers_at}
 use Rattle.rb_image.proofs.DropLemmas.{drop_past}
 use Rattle.rb_image.proofs.LeafWordLemmas.{number_more}
-use Rattle.rb_image.specs.Parts.{or_zero}
 use Rattle.rb_image.proofs.leaf_words.read_numbers.Goals as goal
 
 pub returns-clause-numbers : goal.returns-clause-numbers
@@ -32,7 +32,7 @@ loop-word-preserved g c =
     let read_most = c.read_block.ensures.most in
     record {
       numbers = c.loop-word.invariant.numbers ∙ number_more m at words j byte f before is
-          ∙ ap (λ zs. zs ++ rest) (ap (λ n. before ++ n ∷ []) (sym (c.or_zero.ensures ∙ ap or_zero c.read_block.ensures.word)) ∙ sym c.in_ok-push.ensures.items);
+          ∙ ap (λ zs. zs ++ rest) (ap (λ n. before ++ n ∷ []) (sym (c.unwrap_or.ensures ∙ ap (λ o. unwrap_or o 0) c.read_block.ensures.word)) ∙ sym c.in_ok-push.ensures.items);
       byte = omega (arith, short, low);
       least = omega (arith, least, read_least);
       most = omega (arith, most, read_most);

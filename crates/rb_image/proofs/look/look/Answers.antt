@@ -6,7 +6,7 @@ use Rattle.rb_core.specs.TypedPrograms.{IsTyped}
 use Rattle.rb_layout.specs.Flattening.{flat_layouts}
 use Rattle.rb_layout.specs.Positions.{layout_of}
 use Rattle.rb_image_text.specs.declared.fault.ImageFault.TheVariants.{Memory}
-use Rattle.rb_coding.specs.inner.Opening.{HaveFewFields}
+use Rattle.rb_coding.specs.FewFields.{HaveFewFields}
 use Rattle.rb_coding.proofs.FewFields.{few_fields}
 use Rattle.rb_image.specs.Parts.{at_of, ats_of, look as the_look}
 use Rattle.rb_image.specs.Splits.{leaf_at}

@@ -1,5 +1,5 @@
 use Rattle.std.proofs.Common.{◌≡◌, drop}
-use Rattle.rb_coding.specs.inner.Packing.{made_of}
+use Rattle.rb_coding.specs.Packing.{made_of}
 use Rattle.rb_image.specs.Rebuilds.{words_in}
 use Rattle.rb_image.proofs.pack.pack.Given as goal
 

@@ -1,5 +1,5 @@
 use Rattle.std.proofs.Common.{◌≡◌, map, take}
-use Rattle.rb_coding.specs.inner.Packing.{word_made}
+use Rattle.rb_coding.specs.Packing.{word_made}
 use Rattle.rb_image.specs.Rebuilds.{words_in}
 use Rattle.rb_image.proofs.pack.pack_all.Given as goal
 

@@ -1,6 +1,6 @@
 use Rattle.std.proofs.Common.{Some, None, sym, ap, ◌∙◌}
 use Rattle.std.specs.Option.{option_copied}
-use Rattle.rb_coding.specs.inner.Leading.{under_number}
+use Rattle.rb_coding.specs.Arms.{under_number}
 use Rattle.rb_coding.proofs.SplitLemmas.{fewer}
 use Rattle.rb_image.proofs.WalkLemmas.{leaf_walk, split_turn}
 use Rattle.rb_image.proofs.splits.leaf_at.Goals as goal

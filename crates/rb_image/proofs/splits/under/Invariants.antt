@@ -1,6 +1,0 @@
-use Rattle.std.proofs.Common.{◌≡◌, drop}
-use Rattle.rb_coding.specs.inner.Leading.{under_number}
-use Rattle.rb_image.proofs.splits.under.Given as goal
-
-abbrev pub invariant-loop-arm : goal.invariant-loop-arm
-invariant-loop-arm l = under_number l.arms l.other l.number ≡ under_number (drop l.arm-index l.arms) l.other l.number
