@@ -1,10 +1,10 @@
 -- Hexadecimal and decimal texts, digit by digit.
-use Rattle.std.proofs.Common.{◌≡◌, ℕ, zero, suc, ◌+◌, ◌*◌, ◌/◌, ◌%◌, ◌^◌, ◌<◌, ◌≤◌, List, [], ◌∷◌, ◌++◌, map, nat_lt, Bool, true, false, ◌==◌, codes, Some, refl, sym, ◌∙◌, ap, subst, arith}
-use Rattle.std.specs.Fmt.{decimal}
+use Rattle.std.proofs.Common.{◌≡◌, ℕ, zero, suc, ◌+◌, ◌*◌, ◌/◌, ◌%◌, ◌^◌, ◌<◌, ◌≤◌, List, [], ◌∷◌, ◌++◌, map, nat_lt, Bool, true, false, ◌==◌, Some, refl, sym, ◌∙◌, ap, subst, arith, append_assoc, append-nil, inl, inr}
+use Rattle.std.specs.Fmt.{decimal, digits, digits_onto}
 use Rattle.std.specs.Int.Digits.{digits_of}
-use Rattle.std.proofs.lemmas.Fmt.{decimal_step}
+use Rattle.std.proofs.lemmas.Fmt.{decimal_step, hex_one_digit}
 use Rattle.std.proofs.lemmas.Int.Digits.{digits_of_step}
-use Rattle.std.proofs.lemmas.Bool.{ne_eqb}
+use Rattle.std.proofs.lemmas.Bool.{cases_lt, eq-eqb, ne_eqb}
 use Rattle.std.proofs.lemmas.List.{map_push}
 use Rattle.std.proofs.lemmas.Grind.{common_steps}
 use Rattle.rb_image_text.specs.Text.{hex_digit, hexadecimal}
@@ -12,13 +12,24 @@ use Rattle.rb_image_text.specs.inner.Reading.{hex_of, digit_of}
 
 -- Hexadecimal --------------------------------------------------------------------------------------
 
-pub hex_zero : hexadecimal 0 ≡ codes "0"
-unfolding hexadecimal
-hex_zero = refl
+onto : (k n : ℕ) (acc : List ℕ) → 0 < n → n < 16 ^ k → digits_onto k 16 false n acc ≡ map hex_digit (digits_of 16 n) ++ acc
+onto zero n acc some small = absurd (omega (arith, some, small))
+onto (suc k) n acc some small =
+    let last = map hex_digit (digits_of 16 (n / 16)) in
+    let step : map hex_digit (digits_of 16 n) ≡ last ++ hex_digit (n % 16) ∷ [] =
+    ap (λ ds. map hex_digit ds) (digits_of_step 16 n (omega arith) some) ∙ map_push hex_digit (digits_of 16 (n / 16)) (n % 16) in
+    elim (cases_lt 0 (n / 16)) [
+      | inl more ↦
+          rw (ne_eqb (n / 16) 0 (λ e. omega (arith, e, more)))
+          (onto k (n / 16) (hex_digit (n % 16) ∷ acc) more (omega (arith, small)) ∙ sym (append_assoc last (hex_digit (n % 16) ∷ []) acc) ∙ ap (λ t. t ++ acc) (sym step))
+      | inr le ↦
+          let none : n / 16 ≡ 0 = omega (arith, le) in
+          rw (eq-eqb (n / 16) 0 none) (ap (λ q. map hex_digit (digits_of 16 q) ++ hex_digit (n % 16) ∷ acc) (sym none) ∙ sym (append_assoc last (hex_digit (n % 16) ∷ []) acc) ∙ ap (λ t. t ++ acc) (sym step))
+    ]
 
-some_hex : (n : ℕ) → 0 < n → hexadecimal n ≡ map hex_digit (digits_of 16 n)
-unfolding hexadecimal
-some_hex n h = rw (ne_eqb n 0 (λ e. omega (arith, e, h))) refl
+some_hex : (n : ℕ) → 0 < n → n < 2 ^ 64 → hexadecimal n ≡ map hex_digit (digits_of 16 n)
+unfolding digits
+some_hex n some small = onto 64 n [] some (omega (arith, small)) ∙ append-nil (map hex_digit (digits_of 16 n))
 
 split : (n d : ℕ) → d < 16 → ((n * 16 + d) / 16 ≡ n) × ((n * 16 + d) % 16 ≡ d)
 split n d h = (omega (arith, h), omega (arith, h))
@@ -30,23 +41,20 @@ digits_push n d some h =
 
 -- one digit
 pub hex_one : (d : ℕ) → d < 16 → hexadecimal d ≡ hex_digit d ∷ []
-hex_one zero h = hex_zero
-hex_one (suc d) h =
-    let some : 0 < suc d = omega arith in
-    some_hex (suc d) some ∙ ap (λ ds. map hex_digit ds) (ap (λ n. digits_of 16 n) (let e : suc d ≡ 0 * 16 + suc d = omega arith in e) ∙ digits_push 0 (suc d) (omega arith) h)
+hex_one d h = hex_one_digit false d h
 
 -- one digit more
-pub hex_push : (n d : ℕ) → 0 < n → d < 16 → hexadecimal (n * 16 + d) ≡ hexadecimal n ++ hex_digit d ∷ []
-hex_push n d some h =
-    some_hex (n * 16 + d) (omega (arith, some)) ∙ ap (λ ds. map hex_digit ds) (digits_push n d (omega (arith, some)) h)
-    ∙ map_push hex_digit (digits_of 16 n) d ∙ ap (λ t. t ++ hex_digit d ∷ []) (sym (some_hex n some))
+pub hex_push : (n d : ℕ) → 0 < n → d < 16 → n * 16 + d < 2 ^ 64 → hexadecimal (n * 16 + d) ≡ hexadecimal n ++ hex_digit d ∷ []
+hex_push n d some h small =
+    some_hex (n * 16 + d) (omega (arith, some)) small ∙ ap (λ ds. map hex_digit ds) (digits_push n d (omega (arith, some)) h)
+    ∙ map_push hex_digit (digits_of 16 n) d ∙ ap (λ t. t ++ hex_digit d ∷ []) (sym (some_hex n some (omega (arith, small))))
 
 -- what holds of one digit, and of one more, holds of all
 pub hex_by_digits : (P : ℕ → List ℕ → Type 0) → ((d : ℕ) → d < 16 → P d (hex_digit d ∷ []))
-    → ((n d : ℕ) (t : List ℕ) → 0 < n → d < 16 → P n t → P (n * 16 + d) (t ++ hex_digit d ∷ [])) → (k n : ℕ) → n ≤ k → P n (hexadecimal n)
-hex_by_digits P one more zero n le = subst (P n) (sym (hex_one n (omega (arith, le)))) (one n (omega (arith, le)))
-hex_by_digits P one more (suc k) n le = elim (nat_lt n 16) as (λ (b : Bool). nat_lt n 16 ≡ b → P n (hexadecimal n)) [
-  | true ↦ λ e. let small : n < 16 = grind (arith, common_steps) in subst (P n) (sym (hex_one n small)) (one n small)
+    → ((n d : ℕ) (t : List ℕ) → 0 < n → d < 16 → P n t → P (n * 16 + d) (t ++ hex_digit d ∷ [])) → (k n : ℕ) → n ≤ k → n < 2 ^ 64 → P n (hexadecimal n)
+hex_by_digits P one more zero n le small = subst (P n) (sym (hex_one n (omega (arith, le)))) (one n (omega (arith, le)))
+hex_by_digits P one more (suc k) n le small = elim (nat_lt n 16) as (λ (b : Bool). nat_lt n 16 ≡ b → P n (hexadecimal n)) [
+  | true ↦ λ e. let low : n < 16 = grind (arith, common_steps) in subst (P n) (sym (hex_one n low)) (one n low)
   | false ↦ λ e.
       let big : 16 ≤ n = grind (arith, common_steps) in
       let q : ℕ = n / 16 in
@@ -54,8 +62,9 @@ hex_by_digits P one more (suc k) n le = elim (nat_lt n 16) as (λ (b : Bool). na
       let low : d < 16 = omega arith in
       let high : 0 < q = omega (arith, big) in
       let whole : q * 16 + d ≡ n = omega arith in
+      let bound : q * 16 + d < 2 ^ 64 = omega (arith, whole, small) in
       subst (λ m. P m (hexadecimal m)) whole
-      (subst (P (q * 16 + d)) (sym (hex_push q d high low)) (more q d (hexadecimal q) high low (hex_by_digits P one more k q (omega (arith, le, big)))))
+      (subst (P (q * 16 + d)) (sym (hex_push q d high low bound)) (more q d (hexadecimal q) high low (hex_by_digits P one more k q (omega (arith, le, big)) (omega (arith, small)))))
 ] refl
 
 pub hex_of-digit : (d : ℕ) → d < 16 → hex_of (hex_digit d) ≡ Some d

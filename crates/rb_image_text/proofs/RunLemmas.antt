@@ -51,7 +51,7 @@ module _ (root : List ℕ) where
       ∙ more_hex_fed n d some h (omega (arith, small))
 
   word_run : (n : ℕ) → n < 2 ^ 64 → run (Some (at root [] (Prefix 2))) (hexadecimal n) ≡ Some (at root [] (Word n))
-  word_run n small = hex_by_digits ReadsWord (λ d h _. first_hex_fed d h) more_word n n (omega arith) small
+  word_run n small = hex_by_digits ReadsWord (λ d h _. first_hex_fed d h) more_word n n (omega arith) small small
 
 -- these are the root words where a blank or the line's end follows
 abbrev Ends : Reader → List ℕ → Type 0

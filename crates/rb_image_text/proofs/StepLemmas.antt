@@ -194,7 +194,7 @@ module _ (root : List ℕ) (hr : AreBelow (2 ^ 64) root) where
           let some : 0 < x = grind (arith, common_steps) in
           let few : x < 2 ^ 60 = grind (arith, common_steps) in
           record {
-            text = ap (λ t. (r ++ codes " 0x") ++ t) (hex_push x d some told.small) ∙ sym (append_assoc (r ++ codes " 0x") (hexadecimal x) (hex_digit d ∷ [])) ∙ last_hex ((r ++ codes " 0x") ++ hexadecimal x) b d told;
+            text = ap (λ t. (r ++ codes " 0x") ++ t) (hex_push x d some told.small (omega (arith, few, told.small))) ∙ sym (append_assoc (r ++ codes " 0x") (hexadecimal x) (hex_digit d ∷ [])) ∙ last_hex ((r ++ codes " 0x") ++ hexadecimal x) b d told;
             good = record { root = hr; blocks = tt; spot = (omega (arith, few, told.small), refl) };
           }) (λ _. tt)
 

@@ -1,4 +1,5 @@
 pub mod Images
+pub mod MemoryImages
 pub mod Places
 pub mod Refusals
 pub mod Stopping

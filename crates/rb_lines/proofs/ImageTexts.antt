@@ -1,25 +1,31 @@
 -- The texts of images grow at their end, and blocks are found by ascending address.
-use Rattle.std.proofs.Common.{◌≡◌, ℕ, zero, suc, ◌+◌, ◌<◌, ◌≤◌, true, false, List, [], ◌∷◌, ◌++◌, Option, Some, refl, sym, subst, ap, ◌∙◌, arith, append_assoc, append-nil, inl, inr}
+use Rattle.std.proofs.Common.{◌≡◌, ℕ, zero, suc, ◌+◌, ◌<◌, ◌≤◌, true, false, List, [], ◌∷◌, ◌++◌, length, Option, Some, refl, sym, subst, ap, ◌∙◌, arith, append_assoc, append-nil, inl, inr}
 use Rattle.std.specs.Prelude.{nat_le, find, slice_get, unwrap_or}
 use Rattle.std.proofs.lemmas.Bool.{cases_lt}
 use Rattle.std.proofs.lemmas.Bool.Decides.{nat_tests}
 use Rattle.std.proofs.lemmas.Option.{same_Some}
 use Rattle.rb_bytes.specs.Memory.{Memory, AreBlocks, byte_at}
 use Rattle.rb_bytes.proofs.BlockLemmas.{AreBlocks_le}
-use Rattle.rb_lines.specs.ImageTexts.{byte_text, bytes_text}
+use Rattle.rb_image_text.specs.MemoryImages.{bytes_over}
+use Rattle.rb_image_text.specs.Text.{byte_text, bytes_text}
 
 -- Bytes -------------------------------------------------------------------------------------
 
-pub bytes_next : (m : Memory) (at n : ℕ) → bytes_text m at (n + 1) ≡ bytes_text m at n ++ byte_text (unwrap_or (byte_at m.bytes (at + n)) 0)
-bytes_next m at n = let z : suc n ≡ n + 1 = omega arith in ap (bytes_text m at) (sym z) ∙ more at n
+pub bytes_next : (m : Memory) (at n : ℕ) → bytes_text (bytes_over m at (n + 1)) ≡ bytes_text (bytes_over m at n) ++ byte_text (unwrap_or (byte_at m.bytes (at + n)) 0)
+bytes_next m at n = let z : suc n ≡ n + 1 = omega arith in ap (λ k. bytes_text (bytes_over m at k)) (sym z) ∙ more at n
   where
-    more : (at n : ℕ) → bytes_text m at (suc n) ≡ bytes_text m at n ++ byte_text (unwrap_or (byte_at m.bytes (at + n)) 0)
+    more : (at n : ℕ) → bytes_text (bytes_over m at (suc n)) ≡ bytes_text (bytes_over m at n) ++ byte_text (unwrap_or (byte_at m.bytes (at + n)) 0)
     more at zero = let z : at ≡ at + 0 = omega arith in append-nil (byte_text (unwrap_or (byte_at m.bytes at) 0)) ∙ ap (λ a. byte_text (unwrap_or (byte_at m.bytes a) 0)) z
     more at (suc n) =
         let here = byte_text (unwrap_or (byte_at m.bytes at) 0) in
+        let behind = bytes_text (bytes_over m (at + 1) n) in
         let z : at + 1 + n ≡ at + suc n = omega arith in
-        ap (λ t. here ++ t) (more (at + 1) n ∙ ap (λ a. bytes_text m (at + 1) n ++ byte_text (unwrap_or (byte_at m.bytes a) 0)) z)
-        ∙ sym (append_assoc here (bytes_text m (at + 1) n) (byte_text (unwrap_or (byte_at m.bytes (at + suc n)) 0)))
+        ap (λ t. here ++ t) (more (at + 1) n ∙ ap (λ a. behind ++ byte_text (unwrap_or (byte_at m.bytes a) 0)) z)
+        ∙ sym (append_assoc here behind (byte_text (unwrap_or (byte_at m.bytes (at + suc n)) 0)))
+
+pub length-bytes_over : (m : Memory) (at n : ℕ) → length (bytes_over m at n) ≡ n
+length-bytes_over m at zero = refl
+length-bytes_over m at (suc n) = ap suc (length-bytes_over m (at + 1) n)
 
 -- Blocks ------------------------------------------------------------------------------------
 

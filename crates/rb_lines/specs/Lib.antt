@@ -3,7 +3,6 @@ pub mod ArgumentLines
 pub mod Delivery
 pub mod FileLines
 pub mod ImageLines
-pub mod ImageTexts
 pub mod Lines
 pub mod Notes
 pub mod Numbers

@@ -1,11 +1,10 @@
 //! Images: root words, and the blocks of a memory, as text.
 
-ghost use Rattle.std.specs.Prelude.{◌≡◌, ◌<◌, ◌+◌, ◌++◌, ◌^◌, false, IfOk, OnOk};
-ghost use Rattle.std.specs.Fmt.{digit_glyph};
-ghost use Rattle.std.specs.List.{flat_map};
+ghost use Rattle.std.specs.Prelude.{◌≡◌, ◌<◌, ◌+◌, ◌++◌, ◌^◌, IfOk, OnOk};
 ghost use Rattle.rb_bytes.specs.Memory.{IsGood};
-ghost use Rattle.rb_lines.specs.ImageTexts as image;
-ghost use Rattle.rb_lines.specs.ImageTexts.{block_line, bytes_text, image_text, root_line, word_text};
+ghost use Rattle.rb_image_text.specs.MemoryImages.{block_over, blocks_over, bytes_over, memory_image};
+ghost use Rattle.rb_image_text.specs.Text as spec;
+ghost use Rattle.rb_image_text.specs.Text.{block_text, blocks_text, bytes_text, hex_digit, image_text, root_text, word_text, words_text};
 
 use crate::line::{self, push};
 use rb_bytes::checked::CheckedMemory;
@@ -20,7 +19,7 @@ fn push_word(alloc: Global, text: &mut Vec<u8>, word: u64) -> Result<(), AllocEr
 }
 
 fn push_words(alloc: Global, text: &mut Vec<u8>, words: &[u64]) -> Result<(), AllocError>
-    ensures { OnOk result (text.new.items ≡ text.old.items ++ flat_map word_text words.now) }
+    ensures { OnOk result (text.new.items ≡ text.old.items ++ words_text words.now) }
 {
     for word in words {
         push_word(alloc, text, *word)?;
@@ -30,7 +29,7 @@ fn push_words(alloc: Global, text: &mut Vec<u8>, words: &[u64]) -> Result<(), Al
 
 // The line of root words.
 fn root(alloc: Global, words: &[u64]) -> Result<Vec<u8>, AllocError>
-    ensures { IfOk result (λ text. text.items ≡ root_line words.now) }
+    ensures { IfOk result (λ text. text.items ≡ root_text words.now) }
 {
     let mut text = Vec::from_slice(alloc, b"root")?;
     push_words(alloc, &mut text, words)?;
@@ -40,7 +39,7 @@ fn root(alloc: Global, words: &[u64]) -> Result<Vec<u8>, AllocError>
 // A hexadecimal digit.
 fn digit(number: u8) -> u8
     requires { number < 16 }
-    ensures { result ≡ digit_glyph false number }
+    ensures { result ≡ hex_digit number }
 {
     if number < 10 {
         b'0' + number
@@ -50,7 +49,7 @@ fn digit(number: u8) -> u8
 }
 
 fn push_byte(text: &mut Vec<u8>, byte: u8) -> Result<(), AllocError>
-    ensures { OnOk result (text.new.items ≡ text.old.items ++ image.byte_text byte) }
+    ensures { OnOk result (text.new.items ≡ text.old.items ++ spec.byte_text byte) }
 {
     push(text, &[digit(byte / 16), digit(byte % 16)])
 }
@@ -63,7 +62,7 @@ fn push_bytes(
     size: u64,
 ) -> Result<(), AllocError>
     requires { address + size < 2 ^ 64 }
-    ensures { OnOk result (text.new.items ≡ text.old.items ++ bytes_text memory.now address size) }
+    ensures { OnOk result (text.new.items ≡ text.old.items ++ bytes_text (bytes_over memory.now address size)) }
 {
     for at in 0..size {
         push_byte(text, memory.byte(address + at).unwrap_or(0))?;
@@ -79,7 +78,7 @@ fn block(
     size: u64,
 ) -> Result<Vec<u8>, AllocError>
     requires { address + size < 2 ^ 64 }
-    ensures { IfOk result (λ text. text.items ≡ block_line memory.now (address, size)) }
+    ensures { IfOk result (λ text. text.items ≡ block_text (block_over memory.now (address, size))) }
 {
     let mut text = format!(in alloc; "block {address} {size} ")?.into_bytes();
     push_bytes(&mut text, memory, address, size)?;
@@ -94,7 +93,7 @@ fn push_block(
     size: u64,
 ) -> Result<(), AllocError>
     requires { address + size < 2 ^ 64 }
-    ensures { OnOk result (text.new.items ≡ text.old.items ++ block_line memory.now (address, size)) }
+    ensures { OnOk result (text.new.items ≡ text.old.items ++ block_text (block_over memory.now (address, size))) }
 {
     let line = block(alloc, memory, address, size)?;
     push(text, line.as_slice())
@@ -103,7 +102,7 @@ fn push_block(
 // The lines of all blocks, by ascending address.
 fn push_blocks(alloc: Global, text: &mut Vec<u8>, memory: &CheckedMemory) -> Result<(), AllocError>
     requires { IsGood memory.now }
-    ensures { OnOk result (text.new.items ≡ text.old.items ++ flat_map (block_line memory.now) memory.now.blocks) }
+    ensures { OnOk result (text.new.items ≡ text.old.items ++ blocks_text (blocks_over memory.now)) }
 {
     let mut from = 0;
     for _turn in 0..memory.blocks() {
@@ -125,7 +124,7 @@ fn push_blocks(alloc: Global, text: &mut Vec<u8>, memory: &CheckedMemory) -> Res
 /// Want of memory.
 pub fn image(alloc: Global, words: &[u64], memory: &CheckedMemory) -> Result<Vec<u8>, AllocError>
     requires { IsGood memory.now }
-    ensures { IfOk result (λ text. text.items ≡ image_text words.now memory.now) }
+    ensures { IfOk result (λ text. text.items ≡ image_text (memory_image words.now memory.now)) }
 {
     let mut text = root(alloc, words)?;
     push_blocks(alloc, &mut text, memory)?;

@@ -13,12 +13,13 @@ use Rattle.rb_core.specs.declared.outcome.SourceEnd.{SourceEnd}
 use Rattle.rb_core.specs.declared.outcome.SourceEnd.TheVariants.{Done, Spent}
 use Rattle.rb_core.specs.declared.program.Program.{Program}
 use Rattle.rb_core.specs.declared.value.Value.{Value}
+use Rattle.rb_image_text.specs.MemoryImages.{memory_image}
+use Rattle.rb_image_text.specs.Text.{image_text}
 use Rattle.rb_layout.specs.Flattening.{flat_layouts}
 use Rattle.rb_layout.specs.declared.agreed.LaidOut.{LaidOut}
 use Rattle.rb_layout.specs.declared.layout.Layout.{Layout}
 use Rattle.rb_lines.specs.Answer.{Due, printed}
 use Rattle.rb_lines.specs.Delivery.{Change}
-use Rattle.rb_lines.specs.ImageTexts.{image_text}
 use Rattle.rb_rel.specs.Answers as answer
 use Rattle.rb_rel.specs.Placing.{Laid, Fits, Over}
 use Rattle.rb_rel.specs.Relation.{IsCleanlyRepresented}
@@ -44,12 +45,12 @@ module _ (agreed : LaidOut) (args : List Value) (limits : Limits) (end : End) (m
   p = agreed.covered.program
 
   abbrev due_to : End → Due
-  due_to x = end_due (λ words. image_text words m) limits.calls x taken
+  due_to x = end_due (λ words. image_text (memory_image words m)) limits.calls x taken
 
   pub record ShowsEnd (a : answer.Answer) : Type 0 where
     pub words : List ℕ
     pub show : (v : Value) → a ≡ answer.Shown v → IsImageOf p agreed.layouts limits args v words m
-    pub due : due_to end ≡ answer_due (λ v. image_text words m) limits.calls a taken
+    pub due : due_to end ≡ answer_due (λ v. image_text (memory_image words m)) limits.calls a taken
 
   at_end : (l : Laid) (e : SourceEnd) → laid_all p agreed.layouts limits args ≡ l
       → EndsAs (plan_of agreed) true (result_type p.funs p.main) (empty_memory limits.region) l e (end_over end m) → ShowsEnd (unbounded l e)
@@ -80,7 +81,7 @@ image_says : (p : Program) (args : List Value) (limits : Limits) (due : Due) →
     → (out err : Change) (steps : Counting) (status : ℕ) → Gives due out err steps status → SaysImage p args limits out err status
 image_says p args limits due r out err steps status g =
     let i = r.follows in
-    let shown : Value → List ℕ = λ v. image_text i.words i.memory in
+    let shown : Value → List ℕ = λ v. image_text (memory_image i.words i.memory) in
     let Is : Program → List Layout → Type 0 = λ q ls. ShowWhole q ls limits args i.words i.memory × (due ≡ answer_due shown limits.calls (whole_answer q ls limits args) i.taken) in
     let is : Is p (flat_layouts p) = subst (λ (ls : List Layout). Is p ls) r.laid.layouts (subst (λ (q : Program). Is q r.agreed.layouts) r.laid.program (i.show, i.shown)) in
     record {

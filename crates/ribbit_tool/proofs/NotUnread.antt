@@ -8,9 +8,10 @@ use Rattle.rb_core.specs.declared.program.Program.{Program}
 use Rattle.rb_core.specs.declared.types.Ty.{Ty}
 use Rattle.rb_core.specs.declared.value.Value.{Value}
 use Rattle.rb_image_text.specs.declared.image.Image.{Image}
+use Rattle.rb_image_text.specs.MemoryImages.{memory_image}
+use Rattle.rb_image_text.specs.Text.{image_text}
 use Rattle.rb_layout.specs.declared.agreed.LaidOut.{LaidOut}
 use Rattle.rb_lines.specs.Answer.{Due, refusal, status_of}
-use Rattle.rb_lines.specs.ImageTexts.{image_text}
 use Rattle.rb_lines.specs.Lines.{count_line, words_line}
 use Rattle.rb_lines.specs.declared.status.Status.TheVariants as status
 use Rattle.rb_machine.specs.Runs.{params_in}
@@ -90,7 +91,7 @@ module _ (bytes : List ℕ) (due : Due) where
   runs_other limits values = prepares_other values bytes _ due (λ agreed code args h. other_by due _ h.shown (answer_other (value_line agreed.covered.program) limits.calls (source_answer agreed.covered.program agreed.layouts limits args) h.taken))
 
   pub images_other : (limits : Limits) (values : List (List ℕ)) → ImagesFile limits values bytes due → status_of due ≢ 7
-  images_other limits values = prepares_other values bytes _ due (λ agreed code args h. other_by due _ h.shown (answer_other (λ v. image_text h.words h.memory) limits.calls (whole_answer agreed.covered.program agreed.layouts limits args) h.taken))
+  images_other limits values = prepares_other values bytes _ due (λ agreed code args h. other_by due _ h.shown (answer_other (λ v. image_text (memory_image h.words h.memory)) limits.calls (whole_answer agreed.covered.program agreed.layouts limits args) h.taken))
 
   pub counts_other : (limits : Limits) (values : List (List ℕ)) → CountsFile limits values bytes due → status_of due ≢ 7
   counts_other limits values = prepares_other values bytes _ due (λ agreed code args h. other_by due _ h.shown (answer_other (count_text agreed.covered.program h.tally) limits.calls (source_answer agreed.covered.program agreed.layouts limits args) h.taken))

@@ -7,10 +7,11 @@ use Rattle.rb_bytes.specs.Memory.{Memory, empty_memory}
 use Rattle.rb_command.specs.Command.{Limits, compile, image, count, gen, genrun, IsWordsOf}
 use Rattle.rb_core.specs.declared.program.Program.{Program}
 use Rattle.rb_core.specs.declared.value.Value.{Value}
+use Rattle.rb_image_text.specs.MemoryImages.{memory_image}
+use Rattle.rb_image_text.specs.Text.{image_text}
 use Rattle.rb_layout.specs.Flattening.{flat_layouts}
 use Rattle.rb_layout.specs.declared.agreed.LaidOut.{LaidOut}
 use Rattle.rb_lines.specs.Delivery.{Change, Took}
-use Rattle.rb_lines.specs.ImageTexts.{image_text}
 use Rattle.rb_run.specs.Calling.{IsCounted}
 use Rattle.rb_run.specs.declared.count.Tally.{Tally}
 use Rattle.rb_target.specs.Text.{code_text}
@@ -51,7 +52,8 @@ pub record SaysImage (p : Program) (args : List Value) (limits : Limits) (out er
   pub words : List ℕ
   pub memory : Memory
   pub show : ShowWhole p (flat_layouts p) limits args words memory
-  pub says : Says (λ v. image_text words memory) limits (whole_answer p (flat_layouts p) limits args) out err status
+  pub says : Says (λ v. image_text (memory_image words memory)) limits (whole_answer p (flat_layouts p) limits args)
+      out err status
 
 abbrev pub ImageHeadline : List (List ℕ) → Source → Change → Change → ℕ → Type 0
 ImageHeadline = OfCalls image SaysImage

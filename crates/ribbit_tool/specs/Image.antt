@@ -7,10 +7,11 @@ use Rattle.rb_command.specs.Command.{Limits}
 use Rattle.rb_core.specs.Typing.{param_types, result_type}
 use Rattle.rb_core.specs.declared.program.Program.{Program}
 use Rattle.rb_core.specs.declared.value.Value.{Value}
+use Rattle.rb_image_text.specs.MemoryImages.{memory_image}
+use Rattle.rb_image_text.specs.Text.{image_text}
 use Rattle.rb_layout.specs.declared.agreed.LaidOut.{LaidOut}
 use Rattle.rb_layout.specs.declared.layout.Layout.{Layout}
 use Rattle.rb_lines.specs.Answer.{Due}
-use Rattle.rb_lines.specs.ImageTexts.{image_text}
 use Rattle.rb_rel.specs.Answers.{Shown}
 use Rattle.rb_rel.specs.Placing.{Fits}
 use Rattle.rb_rel.specs.Relation.{IsCleanlyRepresented}
@@ -41,7 +42,8 @@ pub record Images (agreed : LaidOut) (code : List CodeFun) (args : List Value) (
   pub words : List ℕ
   pub memory : Memory
   pub show : ShowWhole agreed.covered.program agreed.layouts limits args words memory
-  pub shown : due ≡ answer_due (λ v. image_text words memory) limits.calls (whole_answer agreed.covered.program agreed.layouts limits args) taken
+  pub shown : due ≡ answer_due (λ v. image_text (memory_image words memory)) limits.calls
+      (whole_answer agreed.covered.program agreed.layouts limits args) taken
 
 -- of a file within the limit
 abbrev pub ImagesFile : Limits → List (List ℕ) → List ℕ → Due → Type 0

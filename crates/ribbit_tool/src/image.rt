@@ -6,7 +6,8 @@ ghost use Rattle.rb_accept.specs.View.{added};
 ghost use Rattle.rb_bytes.specs.Memory.{IsGood};
 ghost use Rattle.rb_command.specs.Command as spec;
 ghost use Rattle.rb_command.specs.View.{limits_view};
-ghost use Rattle.rb_lines.specs.ImageTexts.{image_text};
+ghost use Rattle.rb_image_text.specs.MemoryImages.{memory_image};
+ghost use Rattle.rb_image_text.specs.Text.{image_text};
 ghost use Rattle.rb_lines.specs.View.{Meets};
 ghost use Rattle.rb_run.specs.Calling.{IsEndOf};
 ghost use Rattle.ribbit_tool.specs.Answers.{Owes};
@@ -42,7 +43,8 @@ fn show(
     requires good { IsGood memory.now }
     requires ended { IsEndOf agreed.now end.now memory.now }
     ensures { (before steps : ℕ) → Meets (λ due. due
-        ≡ end_due (λ words. image_text words memory.now) calls end.now steps) before (before + steps) result }
+        ≡ end_due (λ words. image_text (memory_image words memory.now)) calls end.now steps)
+        before (before + steps) result }
 {
     let (status, line) = match end {
         End::Returned { words, .. } => {

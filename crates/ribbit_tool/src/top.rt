@@ -126,8 +126,7 @@ fn answer<S: Source, O: Sink, E: Sink, L: Ledger>(
     err: &mut E,
     steps: &mut Steps<L>,
 ) -> u8
-    ensures { Performs words.now
-        (source_of S.tells S.held S.readings S.faults src.old src.new)
+    ensures { Performs words.now (source_of S.tells S.held S.readings S.faults src.old src.new)
         (change O.tells O.taken O.account O.faults out.old out.new)
         (change E.tells E.taken E.account E.faults err.old err.new)
         (record { before = steps.old.taken; now = steps.new.taken }) result }
@@ -151,8 +150,7 @@ pub fn ribbit<S: Source, O: Sink, E: Sink, L: Ledger>(
     steps: &mut Steps<L>,
 ) -> u8
     // What was due, and how it was delivered.
-    ensures performs { Performs words.now
-        (source_of S.tells S.held S.readings S.faults src.old src.new)
+    ensures performs { Performs words.now (source_of S.tells S.held S.readings S.faults src.old src.new)
         (change O.tells O.taken O.account O.faults out.old out.new)
         (change E.tells E.taken E.account E.faults err.old err.new)
         (record { before = steps.old.taken; now = steps.new.taken }) result }
@@ -188,8 +186,7 @@ pub fn ribbit<S: Source, O: Sink, E: Sink, L: Ledger>(
         (change O.tells O.taken O.account O.faults out.old out.new)
         (change E.tells E.taken E.account E.faults err.old err.new) result }
     // The main theorem, for all words and files, and with faults of the source and the sinks.
-    ensures right { IsRight words.now
-        (source_of S.tells S.held S.readings S.faults src.old src.new)
+    ensures right { IsRight words.now (source_of S.tells S.held S.readings S.faults src.old src.new)
         (change O.tells O.taken O.account O.faults out.old out.new)
         (change E.tells E.taken E.account E.faults err.old err.new)
         (record { before = steps.old.taken; now = steps.new.taken }) result }

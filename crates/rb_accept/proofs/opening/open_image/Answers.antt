@@ -3,7 +3,7 @@ use Rattle.std.proofs.lemmas.Result.{err_from_is_err_and}
 use Rattle.rb_lines.proofs.Meeting.{refusal_met}
 use Rattle.rb_accept.specs.Accepting.{IsRefused}
 use Rattle.rb_accept.specs.Opening.{Opens, ReadsImage}
-use Rattle.rb_accept.specs.Reading.{IsUnread, Source, file_limit, image_limit, whole}
+use Rattle.rb_accept.specs.Reading.{IsUnread, file_limit, image_limit, source_of, whole}
 use Rattle.rb_accept.specs.View.{IsAcceptance}
 use Rattle.rb_accept.proofs.Accepted.{is_accepted}
 use Rattle.rb_accept.proofs.OpeningLaws.{both_added, both_in_turn, file_refused, file_unread, image_refused, one_of_two}
@@ -13,14 +13,7 @@ use Rattle.rb_accept.proofs.opening.open_image.Goals as goal
 
 pub returns-in_err-bytes-clause-read : goal.returns-in_err-bytes-clause-read
 returns-in_err-bytes-clause-read g c =
-    let source : Source = record {
-      tells = g.S.Source.tells c.args.src.now;
-      held = g.S.Source.held c.args.src.now;
-      old = g.S.Source.readings c.args.src.now;
-      new = g.S.Source.readings c.read_within.new.src;
-      before = g.S.Source.faults c.args.src.now;
-      now = g.S.Source.faults c.read_within.new.src;
-    } in
+    let source = source_of g.S.Source.tells g.S.Source.held g.S.Source.readings g.S.Source.faults c.args.src.now c.read_within.new.src in
     one_of_two source c.args.file.now c.args.image.now file_limit image_limit c.read_within.ensures.read
 
 pub returns-in_err-bytes-clause-refused : goal.returns-in_err-bytes-clause-refused
@@ -36,14 +29,7 @@ returns-in_err-bytes-clause-refused g c =
 
 pub returns-in_err-accepted-clause-read : goal.returns-in_err-accepted-clause-read
 returns-in_err-accepted-clause-read g c =
-    let source : Source = record {
-      tells = g.S.Source.tells c.args.src.now;
-      held = g.S.Source.held c.args.src.now;
-      old = g.S.Source.readings c.args.src.now;
-      new = g.S.Source.readings c.read_within.new.src;
-      before = g.S.Source.faults c.args.src.now;
-      now = g.S.Source.faults c.read_within.new.src;
-    } in
+    let source = source_of g.S.Source.tells g.S.Source.held g.S.Source.readings g.S.Source.faults c.args.src.now c.read_within.new.src in
     one_of_two source c.args.file.now c.args.image.now file_limit image_limit c.read_within.ensures.read
 
 pub returns-in_err-accepted-clause-refused : goal.returns-in_err-accepted-clause-refused

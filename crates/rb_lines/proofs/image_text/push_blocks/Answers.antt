@@ -1,11 +1,11 @@
-use Rattle.std.proofs.Common.{◌≡◌, ◌<◌, ◌++◌, ◌∙◌, ℕ, length, take, sym, ap, arith, Some}
+use Rattle.std.proofs.Common.{◌≡◌, ◌<◌, ◌++◌, ◌∙◌, ℕ, length, map, take, sym, ap, arith, Some}
 use Rattle.std.specs.Prelude.{slice_get}
-use Rattle.std.specs.List.{flat_map}
 use Rattle.std.proofs.lemmas.Option.{same_Some, slice_get-get_or}
 use Rattle.rb_target.proofs.Texts.{appended}
-use Rattle.rb_lines.specs.ImageTexts.{block_line}
+use Rattle.rb_image_text.specs.MemoryImages.{block_over}
+use Rattle.rb_image_text.specs.Text.{block_text, blocks_text}
 use Rattle.rb_lines.proofs.ImageTexts.{block_within, next_block, parted_next}
-use Rattle.rb_lines.proofs.TextLaws.{flat_map_next}
+use Rattle.rb_lines.proofs.TextLaws.{mapped_next}
 use Rattle.rb_lines.proofs.image_text.push_blocks.Goals as goal
 
 pub unreachable-requires : goal.unreachable-requires
@@ -44,6 +44,7 @@ loop-turn-preserved c =
     let item = same_Some _ b (sym (slice_get-get_or m.blocks turn b lt) ∙ at) in
     record {
       shown = appended _ _ _ _ _ _ c.loop-turn.invariant.shown c.in_ok-push_block-in-Some.ensures
-          (flat_map_next (block_line m) m.blocks turn b lt ∙ ap (λ x. flat_map (block_line m) (take turn m.blocks) ++ block_line m x) item);
+          (mapped_next block_text (block_over m) m.blocks turn b lt
+          ∙ ap (λ x. blocks_text (map (block_over m) (take turn m.blocks)) ++ block_text (block_over m x)) item);
       parted = parted_next m.blocks 64 m.next turn c.loop-turn.from c.requires.blocks c.loop-turn.invariant.parted b at;
     }

@@ -1,6 +1,6 @@
 use Rattle.rb_target.proofs.Texts.{appended}
+use Rattle.rb_image_text.specs.Text.{word_text}
 use Rattle.rb_lines.proofs.TextLaws.{flat_map_next}
-use Rattle.rb_lines.specs.ImageTexts.{word_text}
 use Rattle.rb_lines.proofs.image_text.push_words.Goals as goal
 
 pub loop-word-preserved : goal.loop-word-preserved

@@ -4,8 +4,9 @@ use Rattle.rb_command.specs.View.{limits_view}
 use Rattle.rb_core.specs.Typing.{param_types}
 use Rattle.rb_core.specs.Values.{all_of_types, is_of_type}
 use Rattle.rb_core.specs.declared.value.Value.{Value}
+use Rattle.rb_image_text.specs.MemoryImages.{memory_image}
+use Rattle.rb_image_text.specs.Text.{image_text}
 use Rattle.rb_lines.specs.Answer.{Due}
-use Rattle.rb_lines.specs.ImageTexts.{image_text}
 use Rattle.rb_lines.specs.View.{Meets}
 use Rattle.rb_lines.proofs.Meeting.{met}
 use Rattle.rb_run.specs.Calling.{IsCalled, IsCounted}
@@ -38,7 +39,7 @@ returns g c =
     let before = c.args.steps.now.taken in
     let memory = c.call_main.new.memory in
     let s = shows_end agreed r.args limits ran.end memory called k.0 in
-    let Said : Due → Type 0 = λ due. due ≡ end_due (λ words. image_text words memory) limits.calls ran.end k.0 in
+    let Said : Due → Type 0 = λ due. due ≡ end_due (λ words. image_text (memory_image words memory)) limits.calls ran.end k.0 in
     met Said (λ due. Images agreed r.code r.args limits due)
     (λ due e. record { taken = k.0; switches = ran.switches; counted = counted; words = s.words; memory = memory; show = s.show; shown = e ∙ s.due })
     before c.call_main.new.steps.taken c.show.result

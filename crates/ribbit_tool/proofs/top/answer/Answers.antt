@@ -1,6 +1,6 @@
 use Rattle.std.proofs.Common.{refl, List, ℕ, subst}
 use Rattle.rb_lines.specs.Answer.{printed, refusal}
-use Rattle.rb_lines.specs.Delivery.{Change, Prints, Refuses}
+use Rattle.rb_lines.specs.Delivery.{Prints, Refuses, change}
 use Rattle.rb_lines.specs.Lines.{no_memory_line}
 use Rattle.rb_lines.specs.Numbers.{status_number}
 use Rattle.rb_lines.specs.View.{due_after}
@@ -11,24 +11,8 @@ use Rattle.ribbit_tool.proofs.top.answer.Goals as goal
 pub returns-in-Ok : goal.returns-in-Ok
 returns-in-Ok g c =
     let a = c.in-Ok.ensures.owes in
-    let out : Change = record {
-      tells = g.O.Sink.tells c.args.out.now;
-      old = g.O.Sink.taken c.args.out.now;
-      new = g.O.Sink.taken c.print.new.out;
-      said = g.O.Sink.account c.args.out.now;
-      says = g.O.Sink.account c.print.new.out;
-      before = g.O.Sink.faults c.args.out.now;
-      now = g.O.Sink.faults c.print.new.out;
-    } in
-    let err : Change = record {
-      tells = g.E.Sink.tells c.args.err.now;
-      old = g.E.Sink.taken c.args.err.now;
-      new = g.E.Sink.taken c.print.new.err;
-      said = g.E.Sink.account c.args.err.now;
-      says = g.E.Sink.account c.print.new.err;
-      before = g.E.Sink.faults c.args.err.now;
-      now = g.E.Sink.faults c.print.new.err;
-    } in
+    let out = change g.O.Sink.tells g.O.Sink.taken g.O.Sink.account g.O.Sink.faults c.args.out.now c.print.new.out in
+    let err = change g.E.Sink.tells g.E.Sink.taken g.E.Sink.account g.E.Sink.faults c.args.err.now c.print.new.err in
     record {
       parsed = c.in-Ok.ensures.parsed;
       meant = c.in-Ok.ensures.meant;
@@ -42,24 +26,8 @@ returns-in-Ok g c =
 pub returns-in-Err-Refused : goal.returns-in-Err-Refused
 returns-in-Err-Refused g c =
     let a = rw c.in-Err-Refused.field-0-is at c.in-Err-Refused.ensures.owes in
-    let out : Change = record {
-      tells = g.O.Sink.tells c.args.out.now;
-      old = g.O.Sink.taken c.args.out.now;
-      new = g.O.Sink.taken c.refuse.new.out;
-      said = g.O.Sink.account c.args.out.now;
-      says = g.O.Sink.account c.refuse.new.out;
-      before = g.O.Sink.faults c.args.out.now;
-      now = g.O.Sink.faults c.refuse.new.out;
-    } in
-    let err : Change = record {
-      tells = g.E.Sink.tells c.args.err.now;
-      old = g.E.Sink.taken c.args.err.now;
-      new = g.E.Sink.taken c.refuse.new.err;
-      said = g.E.Sink.account c.args.err.now;
-      says = g.E.Sink.account c.refuse.new.err;
-      before = g.E.Sink.faults c.args.err.now;
-      now = g.E.Sink.faults c.refuse.new.err;
-    } in
+    let out = change g.O.Sink.tells g.O.Sink.taken g.O.Sink.account g.O.Sink.faults c.args.out.now c.refuse.new.out in
+    let err = change g.E.Sink.tells g.E.Sink.taken g.E.Sink.account g.E.Sink.faults c.args.err.now c.refuse.new.err in
     let refused = c.in-Err-Refused.refused in
     record {
       parsed = c.in-Err-Refused.ensures.parsed;

@@ -1,6 +1,6 @@
 use Rattle.std.proofs.Common.{[], refl, arith, Ok, Err}
 use Rattle.std.proofs.lemmas.Result.{err_from_is_err_and}
-use Rattle.rb_accept.specs.Reading.{Source}
+use Rattle.rb_accept.specs.Reading.{source_of}
 use Rattle.rb_accept.proofs.ReadLaws.{none_in_turn}
 use Rattle.rb_command.specs.View.{command_view}
 use Rattle.rb_command.proofs.OneCommand.{meaning}
@@ -17,14 +17,7 @@ returns-in-Ok g c = record {
 
 pub returns-in_ok-refused-in-Err-Usage : goal.returns-in_ok-refused-in-Err-Usage
 returns-in_ok-refused-in-Err-Usage g c =
-    let source : Source = record {
-      tells = g.S.Source.tells c.args.src.now;
-      held = g.S.Source.held c.args.src.now;
-      old = g.S.Source.readings c.args.src.now;
-      new = g.S.Source.readings c.args.src.now;
-      before = g.S.Source.faults c.args.src.now;
-      now = g.S.Source.faults c.args.src.now;
-    } in
+    let source = source_of g.S.Source.tells g.S.Source.held g.S.Source.readings g.S.Source.faults c.args.src.now c.args.src.now in
     record {
       parsed = Err c.in-Err-Usage.word;
       meant = rw c.in-Err-Usage.field-0-is at c.in-Err-Usage.ensures;
@@ -34,14 +27,7 @@ returns-in_ok-refused-in-Err-Usage g c =
 
 pub returns-in_err-refused-in-Err-Usage : goal.returns-in_err-refused-in-Err-Usage
 returns-in_err-refused-in-Err-Usage g c =
-    let source : Source = record {
-      tells = g.S.Source.tells c.args.src.now;
-      held = g.S.Source.held c.args.src.now;
-      old = g.S.Source.readings c.args.src.now;
-      new = g.S.Source.readings c.args.src.now;
-      before = g.S.Source.faults c.args.src.now;
-      now = g.S.Source.faults c.args.src.now;
-    } in
+    let source = source_of g.S.Source.tells g.S.Source.held g.S.Source.readings g.S.Source.faults c.args.src.now c.args.src.now in
     let p = err_from_is_err_and c.from_residual.result c.from_residual.ensures.1 in
     record {
       parsed = Err c.in-Err-Usage.word;
@@ -52,14 +38,7 @@ returns-in_err-refused-in-Err-Usage g c =
 
 pub returns-in-Err-Memory : goal.returns-in-Err-Memory
 returns-in-Err-Memory g c =
-    let source : Source = record {
-      tells = g.S.Source.tells c.args.src.now;
-      held = g.S.Source.held c.args.src.now;
-      old = g.S.Source.readings c.args.src.now;
-      new = g.S.Source.readings c.args.src.now;
-      before = g.S.Source.faults c.args.src.now;
-      now = g.S.Source.faults c.args.src.now;
-    } in
+    let source = source_of g.S.Source.tells g.S.Source.held g.S.Source.readings g.S.Source.faults c.args.src.now c.args.src.now in
     let some = meaning c.args.words.now in
     record {
       parsed = some.0;

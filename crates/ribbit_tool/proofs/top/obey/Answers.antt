@@ -1,5 +1,5 @@
 use Rattle.std.proofs.Common.{ℕ, List, length, drop, refl, sym, subst, Ok}
-use Rattle.rb_accept.specs.Reading.{Source, ReadsInTurn}
+use Rattle.rb_accept.specs.Reading.{ReadsInTurn, source_of}
 use Rattle.rb_accept.proofs.ReadLaws.{none_in_turn}
 use Rattle.rb_command.specs.Command.{gen, genrun, exec, peek}
 use Rattle.rb_command.specs.View.{command_view, limits_view}
@@ -12,14 +12,7 @@ use Rattle.ribbit_tool.proofs.top.obey.Goals as goal
 
 pub returns-in-Check-clause-read : goal.returns-in-Check-clause-read
 returns-in-Check-clause-read g c =
-    let source : Source = record {
-      tells = g.S.Source.tells c.args.src.now;
-      held = g.S.Source.held c.args.src.now;
-      old = g.S.Source.readings c.args.src.now;
-      new = g.S.Source.readings c.check_file.new.src;
-      before = g.S.Source.faults c.args.src.now;
-      now = g.S.Source.faults c.check_file.new.src;
-    } in
+    let source = source_of g.S.Source.tells g.S.Source.held g.S.Source.readings g.S.Source.faults c.args.src.now c.check_file.new.src in
     subst (λ (command : Command). ReadsInTurn (files_of (Ok (command_view command))) source) (sym c.in-Check.is) c.check_file.ensures.read
 
 pub returns-in-Check-clause-owed : goal.returns-in-Check-clause-owed
@@ -30,14 +23,7 @@ returns-in-Check-clause-owed g c =
 
 pub returns-in-Layout-clause-read : goal.returns-in-Layout-clause-read
 returns-in-Layout-clause-read g c =
-    let source : Source = record {
-      tells = g.S.Source.tells c.args.src.now;
-      held = g.S.Source.held c.args.src.now;
-      old = g.S.Source.readings c.args.src.now;
-      new = g.S.Source.readings c.layout_file.new.src;
-      before = g.S.Source.faults c.args.src.now;
-      now = g.S.Source.faults c.layout_file.new.src;
-    } in
+    let source = source_of g.S.Source.tells g.S.Source.held g.S.Source.readings g.S.Source.faults c.args.src.now c.layout_file.new.src in
     subst (λ (command : Command). ReadsInTurn (files_of (Ok (command_view command))) source) (sym c.in-Layout.is) c.layout_file.ensures.read
 
 pub returns-in-Layout-clause-owed : goal.returns-in-Layout-clause-owed
@@ -48,14 +34,7 @@ returns-in-Layout-clause-owed g c =
 
 pub returns-in-Compile-clause-read : goal.returns-in-Compile-clause-read
 returns-in-Compile-clause-read g c =
-    let source : Source = record {
-      tells = g.S.Source.tells c.args.src.now;
-      held = g.S.Source.held c.args.src.now;
-      old = g.S.Source.readings c.args.src.now;
-      new = g.S.Source.readings c.compile_file.new.src;
-      before = g.S.Source.faults c.args.src.now;
-      now = g.S.Source.faults c.compile_file.new.src;
-    } in
+    let source = source_of g.S.Source.tells g.S.Source.held g.S.Source.readings g.S.Source.faults c.args.src.now c.compile_file.new.src in
     subst (λ (command : Command). ReadsInTurn (files_of (Ok (command_view command))) source) (sym c.in-Compile.is) c.compile_file.ensures.read
 
 pub returns-in-Compile-clause-owed : goal.returns-in-Compile-clause-owed
@@ -66,14 +45,7 @@ returns-in-Compile-clause-owed g c =
 
 pub returns-in-Run-clause-read : goal.returns-in-Run-clause-read
 returns-in-Run-clause-read g c =
-    let source : Source = record {
-      tells = g.S.Source.tells c.args.src.now;
-      held = g.S.Source.held c.args.src.now;
-      old = g.S.Source.readings c.args.src.now;
-      new = g.S.Source.readings c.run_file.new.src;
-      before = g.S.Source.faults c.args.src.now;
-      now = g.S.Source.faults c.run_file.new.src;
-    } in
+    let source = source_of g.S.Source.tells g.S.Source.held g.S.Source.readings g.S.Source.faults c.args.src.now c.run_file.new.src in
     subst (λ (command : Command). ReadsInTurn (files_of (Ok (command_view command))) source) (sym c.in-Run.is) c.run_file.ensures.read
 
 pub returns-in-Run-clause-owed : goal.returns-in-Run-clause-owed
@@ -84,14 +56,7 @@ returns-in-Run-clause-owed g c =
 
 pub returns-in-Image-clause-read : goal.returns-in-Image-clause-read
 returns-in-Image-clause-read g c =
-    let source : Source = record {
-      tells = g.S.Source.tells c.args.src.now;
-      held = g.S.Source.held c.args.src.now;
-      old = g.S.Source.readings c.args.src.now;
-      new = g.S.Source.readings c.image_file.new.src;
-      before = g.S.Source.faults c.args.src.now;
-      now = g.S.Source.faults c.image_file.new.src;
-    } in
+    let source = source_of g.S.Source.tells g.S.Source.held g.S.Source.readings g.S.Source.faults c.args.src.now c.image_file.new.src in
     subst (λ (command : Command). ReadsInTurn (files_of (Ok (command_view command))) source) (sym c.in-Image.is) c.image_file.ensures.read
 
 pub returns-in-Image-clause-owed : goal.returns-in-Image-clause-owed
@@ -102,14 +67,7 @@ returns-in-Image-clause-owed g c =
 
 pub returns-in-Count-clause-read : goal.returns-in-Count-clause-read
 returns-in-Count-clause-read g c =
-    let source : Source = record {
-      tells = g.S.Source.tells c.args.src.now;
-      held = g.S.Source.held c.args.src.now;
-      old = g.S.Source.readings c.args.src.now;
-      new = g.S.Source.readings c.count_file.new.src;
-      before = g.S.Source.faults c.args.src.now;
-      now = g.S.Source.faults c.count_file.new.src;
-    } in
+    let source = source_of g.S.Source.tells g.S.Source.held g.S.Source.readings g.S.Source.faults c.args.src.now c.count_file.new.src in
     subst (λ (command : Command). ReadsInTurn (files_of (Ok (command_view command))) source) (sym c.in-Count.is) c.count_file.ensures.read
 
 pub returns-in-Count-clause-owed : goal.returns-in-Count-clause-owed
@@ -120,26 +78,12 @@ returns-in-Count-clause-owed g c =
 
 pub returns-in-Gen-clause-read : goal.returns-in-Gen-clause-read
 returns-in-Gen-clause-read g c =
-    let source : Source = record {
-      tells = g.S.Source.tells c.args.src.now;
-      held = g.S.Source.held c.args.src.now;
-      old = g.S.Source.readings c.args.src.now;
-      new = g.S.Source.readings c.args.src.now;
-      before = g.S.Source.faults c.args.src.now;
-      now = g.S.Source.faults c.args.src.now;
-    } in
+    let source = source_of g.S.Source.tells g.S.Source.held g.S.Source.readings g.S.Source.faults c.args.src.now c.args.src.now in
     none_in_turn source (files_of (Ok (command_view c.args.command.now))) refl
 
 pub returns-in-GenRun-clause-read : goal.returns-in-GenRun-clause-read
 returns-in-GenRun-clause-read g c =
-    let source : Source = record {
-      tells = g.S.Source.tells c.args.src.now;
-      held = g.S.Source.held c.args.src.now;
-      old = g.S.Source.readings c.args.src.now;
-      new = g.S.Source.readings c.args.src.now;
-      before = g.S.Source.faults c.args.src.now;
-      now = g.S.Source.faults c.args.src.now;
-    } in
+    let source = source_of g.S.Source.tells g.S.Source.held g.S.Source.readings g.S.Source.faults c.args.src.now c.args.src.now in
     none_in_turn source (files_of (Ok (command_view c.args.command.now))) refl
 
 pub returns-in-Gen-clause-owed : goal.returns-in-Gen-clause-owed
@@ -162,14 +106,7 @@ returns-in-GenRun-clause-owed g c =
 
 pub returns-in-Exec-clause-read : goal.returns-in-Exec-clause-read
 returns-in-Exec-clause-read g c =
-    let source : Source = record {
-      tells = g.S.Source.tells c.args.src.now;
-      held = g.S.Source.held c.args.src.now;
-      old = g.S.Source.readings c.args.src.now;
-      new = g.S.Source.readings c.run_code_file.new.src;
-      before = g.S.Source.faults c.args.src.now;
-      now = g.S.Source.faults c.run_code_file.new.src;
-    } in
+    let source = source_of g.S.Source.tells g.S.Source.held g.S.Source.readings g.S.Source.faults c.args.src.now c.run_code_file.new.src in
     subst (λ (command : Command). ReadsInTurn (files_of (Ok (command_view command))) source) (sym c.in-Exec.is) c.run_code_file.ensures.read
 
 pub returns-in-Exec-clause-owed : goal.returns-in-Exec-clause-owed
@@ -182,14 +119,7 @@ returns-in-Exec-clause-owed g c =
 
 pub returns-in-Value-clause-read : goal.returns-in-Value-clause-read
 returns-in-Value-clause-read g c =
-    let source : Source = record {
-      tells = g.S.Source.tells c.args.src.now;
-      held = g.S.Source.held c.args.src.now;
-      old = g.S.Source.readings c.args.src.now;
-      new = g.S.Source.readings c.value_file.new.src;
-      before = g.S.Source.faults c.args.src.now;
-      now = g.S.Source.faults c.value_file.new.src;
-    } in
+    let source = source_of g.S.Source.tells g.S.Source.held g.S.Source.readings g.S.Source.faults c.args.src.now c.value_file.new.src in
     subst (λ (command : Command). ReadsInTurn (files_of (Ok (command_view command))) source) (sym c.in-Value.is) c.value_file.ensures.read
 
 pub returns-in-Value-clause-owed : goal.returns-in-Value-clause-owed
@@ -200,14 +130,7 @@ returns-in-Value-clause-owed g c =
 
 pub returns-in-Peek-clause-read : goal.returns-in-Peek-clause-read
 returns-in-Peek-clause-read g c =
-    let source : Source = record {
-      tells = g.S.Source.tells c.args.src.now;
-      held = g.S.Source.held c.args.src.now;
-      old = g.S.Source.readings c.args.src.now;
-      new = g.S.Source.readings c.peek_file.new.src;
-      before = g.S.Source.faults c.args.src.now;
-      now = g.S.Source.faults c.peek_file.new.src;
-    } in
+    let source = source_of g.S.Source.tells g.S.Source.held g.S.Source.readings g.S.Source.faults c.args.src.now c.peek_file.new.src in
     subst (λ (command : Command). ReadsInTurn (files_of (Ok (command_view command))) source) (sym c.in-Peek.is) c.peek_file.ensures.read
 
 pub returns-in-Peek-clause-owed : goal.returns-in-Peek-clause-owed

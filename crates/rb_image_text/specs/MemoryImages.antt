@@ -1,0 +1,20 @@
+-- The image of root words over a memory: every block with its bytes, in the memory's order.
+use Rattle.std.specs.Prelude.{ℕ, zero, suc, ◌+◌, List, [], ◌∷◌, map, unwrap_or}
+use Rattle.rb_bytes.specs.Memory.{Memory, byte_at}
+use Rattle.rb_image_text.specs.declared.image.ImageBlock.{ImageBlock}
+use Rattle.rb_image_text.specs.declared.image.Image.{Image}
+
+-- so many bytes from an address on; one that was never written, of which a run's blocks have none, as 0
+abbrev pub bytes_over : Memory → ℕ → ℕ → List ℕ
+bytes_over m at zero = []
+bytes_over m at (suc count) = unwrap_or (byte_at m.bytes at) 0 ∷ bytes_over m (at + 1) count
+
+-- of a block's address and its size
+abbrev pub block_over : Memory → ℕ × ℕ → ImageBlock
+block_over m b = record { at = b.0; bytes = bytes_over m b.0 b.1 }
+
+abbrev pub blocks_over : Memory → List ImageBlock
+blocks_over m = map (block_over m) m.blocks
+
+abbrev pub memory_image : List ℕ → Memory → Image
+memory_image words m = record { root = words; blocks = blocks_over m }
