@@ -32,6 +32,14 @@ const TOLD: &str =
 const TOLD_INSIDE: &str =
     "type K = A | B;layout K <1> = split 0[0:1] { 0 => A : { word 1 { [0:1] = 0 } } 1 => B : { word 1 { [0:1] = 1 } } };type E = Off | On(K, u8);layout E <10> = split 0[0:1] { 0 => Off : { word 10 { [0:1] = 0 } } 1 => On(_, _) : { word 10 { [0:1] = 1, [1:1] .0, [2:8] .1 } } };type T = With(E, u8);layout T <18> = split 0[0:2] { 0 => With(Off, _) : { word 18 { [0:2] = 0, [2:8] .1 } } 1 => With(On(A, _), _) : { word 18 { [0:2] = 1, [2:8] .1, [10:8] .0.1 } } 2 => With(On(B, _), _) : { word 18 { [0:2] = 2, [2:8] .1, [10:8] .0.1 } } };fun main(t: T): u8 = match t { With(On(A, _), _) => 1, With(On(_, _), _) => 2, With(Off, y) => y };";
 
+// The same where the leaf does not tell the bit: it has bits of its own, and the byte of the entry stands behind it.
+const TOLD_ABOVE: &str =
+    "type K = A | B;layout K <1> = split 0[0:1] { 0 => A : { word 1 { [0:1] = 0 } } 1 => B : { word 1 { [0:1] = 1 } } };type E = Off | On(K, u8);layout E <10> = split 0[0:1] { 0 => Off : { word 10 { [0:1] = 0 } } 1 => On(_, _) : { word 10 { [0:1] = 1, [1:1] .0, [2:8] .1 } } };type T = With(E, u8);layout T <18> = split 0[0:1] { 0 => With(Off, _) : { word 18 { [0:1] = 0, [2:8] .1 } } 1 => With(On(_, _), _) : { word 18 { [0:1] = 1, [1:1] .0.0, [2:8] .1, [10:8] .0.1 } } };fun main(t: T): u8 = match t { With(On(A, 3), y) => y, With(On(_, _), _) => 1, With(Off, y) => y };";
+
+// An entry in an entry, of which the leaf tells both, and no bit; where the first one is off, it takes nothing apart.
+const TOLD_TWICE: &str =
+    "type K = A | B;layout K <1> = split 0[0:1] { 0 => A : { word 1 { [0:1] = 0 } } 1 => B : { word 1 { [0:1] = 1 } } };type E = Off | On(K, u8);layout E <10> = split 0[0:1] { 0 => Off : { word 10 { [0:1] = 0 } } 1 => On(_, _) : { word 10 { [0:1] = 1, [1:1] .0, [2:8] .1 } } };type F = Out | In(u8, E);layout F <19> = split 0[0:1] { 0 => Out : { word 19 { [0:1] = 0 } } 1 => In(_, _) : { word 19 { [0:1] = 1, [1:8] .0, [9:10] .1 } } };type T = With(F, u8);layout T <29> = split 0[0:2] { 0 => With(Out, _) : { word 29 { [0:2] = 0, [2:8] .1 } } 1 => With(In(_, Off), _) : { word 29 { [0:2] = 1, [2:8] .1, [10:8] .0.0 } } 2 => With(In(_, On(_, _)), _) : { word 29 { [0:2] = 2, [2:8] .1, [10:8] .0.0, [18:1] .0.1.0, [19:8] .0.1.1 } } };fun main(t: T): u8 = match t { With(In(_, On(B, 5)), _) => 1, With(In(7, Off), _) => 2, With(In(_, On(A, _)), y) => y, _ => 4 };";
+
 // Constructions of such a pair. The file shows the bit in the first, and none of it in the second.
 const SHOWN: &str =
     "type K = A | B;layout K <1> = split 0[0:1] { 0 => A : { word 1 { [0:1] = 0 } } 1 => B : { word 1 { [0:1] = 1 } } };type P = Tagged(K, u8);layout P <9> = split 0[0:1] { 0 => Tagged(A, _) : { word 9 { [0:1] = 0, [1:8] .1 } } 1 => Tagged(B, _) : { word 9 { [0:1] = 1, [1:8] .1 } } };fun main(x: u8): P = Tagged(B, x);";
@@ -66,7 +74,7 @@ fn code_texts_run(rt: HostRuntime) -> Result<(), Surprise> {
 // File, the start of a line, and how many lines of the file's code begin so, at least and at most.
 type Lines<'a> = (&'a str, &'a str, usize, usize);
 
-const LINES: [Lines; 21] = [
+const LINES: [Lines; 30] = [
     // an arm whose value is the function's result returns it
     (SUM, "return ", 3, 3),
     (SUM, "copy ", 0, 0),
@@ -74,9 +82,10 @@ const LINES: [Lines; 21] = [
     (RESULTS, "return ", 3, 3),
     (RESULTS, "copy ", 0, 0),
     (RESULTS, "jump ", 0, 0),
-    // the arms of a match in an operand leave theirs in one slot, and go on behind it, where the last one ends
+    // the arms of a match in an operand leave theirs in one slot, one as a number and one copied, and go on behind it, where
+    // the last one ends
     (OPERAND, "return ", 1, 1),
-    (OPERAND, "copy ", 2, 2),
+    (OPERAND, "copy ", 1, 1),
     (OPERAND, "jump ", 1, 1),
     // four tests of a field, each once: as a tree they were six
     (FOUR, "switch ", 0, 4),
@@ -84,11 +93,22 @@ const LINES: [Lines; 21] = [
     (TOLD, "switch ", 3, 3),
     // one switch finds the leaf, which tells an entry and its bit: neither is tested
     (TOLD_INSIDE, "switch ", 1, 1),
+    // one finds the leaf, which tells an entry, and each of the bit and the byte below it has one; they are read from the
+    // pair, so that no entry is put together
+    (TOLD_ABOVE, "switch ", 3, 3),
+    (TOLD_ABOVE, "put ", 0, 0),
+    // one finds the leaf; behind it the bit and the byte have one each, and the number of the other way one
+    (TOLD_TWICE, "switch ", 4, 4),
+    (TOLD_TWICE, "put ", 0, 0),
     // a constructor that the file shows is not looked at, and a variable's is, once
     (SHOWN, "switch ", 0, 0),
     (UNSHOWN, "switch ", 1, 1),
     // one switch tells the match whether the tree is empty, and one more the color where the clause of a node binds it
     (COLOUR, "switch ", 2, 2),
+    // a red node's way returns in place of a jump to the return, and no slot is set that each way sets again
+    (COLOUR, "jump ", 0, 0),
+    (COLOUR, "const ", 3, 3),
+    (COLOUR, "return ", 3, 3),
     // the match tells all three leaves apart, and a red node's number is where the leaf of red nodes has it
     (BY_COLOUR, "switch ", 2, 2),
     // a number in a block is loaded where the body uses it, and a tail where it is tested
@@ -99,7 +119,19 @@ const LINES: [Lines; 21] = [
     (TESTED, "alu ", 1, 1),
     // where the file shows what stands in an argument there is none; where it does not, one finds its leaf, which tells its bit
     (SHOWN_INSIDE, "switch ", 1, 1),
+    // a word that is tested in all its bits is tested as it is
+    (WHOLE, "take ", 0, 0),
+    // bits of a field are taken from the word in which the field stands
+    (INNER, "take ", 1, 1),
 ];
+
+// A bit in a word of its own.
+const WHOLE: &str =
+    "type K = A | B;layout K <1> = split 0[0:1] { 0 => A : { word 1 { [0:1] = 0 } } 1 => B : { word 1 { [0:1] = 1 } } };fun main(k: K): u8 = match k { A => 1, B => 2 };";
+
+// A bit beside a byte, in one word.
+const INNER: &str =
+    "type K = A | B;layout K <1> = split 0[0:1] { 0 => A : { word 1 { [0:1] = 0 } } 1 => B : { word 1 { [0:1] = 1 } } };type P = Pair(K, u8);layout P <9> = Pair(_, _) : { word 9 { [0:1] .0, [1:8] .1 } };fun main(p: P): u8 = match p { Pair(A, _) => 1, Pair(B, _) => 2 };";
 
 // A number in a block, which the body does not use.
 const UNUSED: &str =
@@ -173,7 +205,7 @@ fn the_text_does_as_many(rt: HostRuntime) -> Result<(), Fail> {
 }
 
 // Two switches for each pair, and one for each entry.
-const LEAVES: [CountRow; 7] = [
+const LEAVES: [CountRow; 16] = [
     (TOLD, "Tagged(A,3)", "value 1;calls 1;", 2, BEHIND),
     (TOLD, "Tagged(A,4)", "value 0;calls 1;", 2, BEHIND),
     (TOLD, "Tagged(B,4)", "value 2;calls 1;", 2, BEHIND),
@@ -193,6 +225,39 @@ const LEAVES: [CountRow; 7] = [
         BEHIND,
     ),
     (TOLD_INSIDE, "With(Off,9)", "value 9;calls 1;", 1, BEHIND),
+    (TOLD_ABOVE, "With(On(A,3),9)", "value 9;calls 1;", 3, BEHIND),
+    (TOLD_ABOVE, "With(On(A,4),9)", "value 1;calls 1;", 3, BEHIND),
+    (TOLD_ABOVE, "With(On(B,3),9)", "value 1;calls 1;", 2, BEHIND),
+    (TOLD_ABOVE, "With(Off,9)", "value 9;calls 1;", 1, BEHIND),
+    (
+        TOLD_TWICE,
+        "With(In(7,On(B,5)),9)",
+        "value 1;calls 1;",
+        3,
+        BEHIND,
+    ),
+    (
+        TOLD_TWICE,
+        "With(In(7,On(B,6)),9)",
+        "value 4;calls 1;",
+        3,
+        BEHIND,
+    ),
+    (
+        TOLD_TWICE,
+        "With(In(7,On(A,5)),9)",
+        "value 9;calls 1;",
+        2,
+        BEHIND,
+    ),
+    (
+        TOLD_TWICE,
+        "With(In(7,Off),9)",
+        "value 2;calls 1;",
+        2,
+        BEHIND,
+    ),
+    (TOLD_TWICE, "With(Out,9)", "value 4;calls 1;", 1, BEHIND),
 ];
 
 // No block is made.

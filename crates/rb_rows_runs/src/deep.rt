@@ -1,7 +1,7 @@
 //! Files whose layouts take subvalues apart: the colour of a node is told by its leaf, and stands in no part.
 //! The answers were given by the language's pages.
 
-use rb_rows_calls::counts::expect_counts;
+use rb_rows_calls::counts::{CountRow, expect_count_rows, expect_counts};
 use rb_rows_calls::rows::expect_rows;
 use rb_rows_calls::surprise::Surprise;
 
@@ -82,4 +82,46 @@ fn counts_over_them(rt: HostRuntime) -> Result<(), Surprise> {
         12,
         "blocks 3;bytes 36;",
     )
+}
+
+// A pair of three colours, whose leaf tells the first one: by one split the red ones, by another the two others.
+const PAIRED: &str =
+    "type C = R | G | B; layout C <2> = split 0[0:2] { 0 => R : { word 2 { [0:2] = 0 } } 1 => G : { word 2 { [0:2] = 1 } } 2 => B : { word 2 { [0:2] = 2 } } }; type P = P(C, C); layout P <4> = split 0[0:1] { 0 => P(R, _) : { word 4 { [0:1] = 0, [2:2] .1 } } 1 => split 0[1:1] { 0 => P(G, _) : { word 4 { [0:2] = 1, [2:2] .1 } } 1 => P(B, _) : { word 4 { [0:2] = 3, [2:2] .1 } } } }; fun main(p: P): u8 = match p { P(R, R) => 1, P(R, _) => 2, _ => 3 };";
+
+// Two leaves go the same way, and nothing of them is saved: the split between them is left out. Behind the third the second
+// field is looked at.
+const SAME_WAY: [CountRow; 4] = [
+    (
+        PAIRED,
+        "1 64 P(G,R)",
+        "value 3;calls 1;",
+        1,
+        "blocks 0;bytes 0;",
+    ),
+    (
+        PAIRED,
+        "1 64 P(B,B)",
+        "value 3;calls 1;",
+        1,
+        "blocks 0;bytes 0;",
+    ),
+    (
+        PAIRED,
+        "1 64 P(R,R)",
+        "value 1;calls 1;",
+        2,
+        "blocks 0;bytes 0;",
+    ),
+    (
+        PAIRED,
+        "1 64 P(R,B)",
+        "value 2;calls 1;",
+        2,
+        "blocks 0;bytes 0;",
+    ),
+];
+
+#[test]
+fn leaves_of_one_way_are_not_told_apart(rt: HostRuntime) -> Result<(), Surprise> {
+    expect_count_rows(rt.alloc(), "count E ", &SAME_WAY)
 }
