@@ -10,11 +10,14 @@ pub fn load_le(bytes: &[u8]) -> u64
     ensures fits { result < 2 ^ (8 * length bytes.now) }
     ensures stored { to_le_bytes (length bytes.now) result ≡ bytes.now }
 {
-    let mut word = 0;
-    for i in (0..bytes.len()).rev() {
-        word = 256 * word + u64::from(bytes[i]);
+    match bytes.len() {
+        1 => u64::from(bytes[0]),
+        2 => u64::from(u16::from_le_bytes([bytes[0], bytes[1]])),
+        4 => u64::from(u32::from_le_bytes([bytes[0], bytes[1], bytes[2], bytes[3]])),
+        _ => u64::from_le_bytes([
+            bytes[0], bytes[1], bytes[2], bytes[3], bytes[4], bytes[5], bytes[6], bytes[7],
+        ]),
     }
-    word
 }
 
 /// Writes `w` into 1, 2, 4 or 8 bytes, in which it fits.
@@ -24,9 +27,10 @@ pub fn store_le(bytes: &mut [u8], w: u64)
     ensures value { bytes.new ≡ to_le_bytes (length bytes.old) w }
     ensures loaded { from_le_bytes bytes.new ≡ w }
 {
-    let mut rest = w;
-    for i in 0..bytes.len() {
-        bytes[i] = (rest % 256) as u8;
-        rest /= 256;
+    match bytes.len() {
+        1 => bytes.copy_from_slice(&(w as u8).to_le_bytes()),
+        2 => bytes.copy_from_slice(&(w as u16).to_le_bytes()),
+        4 => bytes.copy_from_slice(&(w as u32).to_le_bytes()),
+        _ => bytes.copy_from_slice(&w.to_le_bytes()),
     }
 }

@@ -107,7 +107,7 @@ read_le-unwritten bytes (suc n) at a is =
           ],
         )
 
-digits : (n word : ℕ) → word % 2 ^ (8 * suc n) ≡ word % 256 + 256 * (word / 256 % 2 ^ (8 * n))
+pub digits : (n word : ℕ) → word % 2 ^ (8 * suc n) ≡ word % 256 + 256 * (word / 256 % 2 ^ (8 * n))
 digits n word =
     let e : 8 * suc n ≡ 8 * n + 8 = omega arith in
     ap (λ k. word % 2 ^ k) e ∙ mod-pow-add word (8 * n) 8 ∙ omega arith

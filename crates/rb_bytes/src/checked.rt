@@ -1,36 +1,26 @@
 //! A memory that tests each load and store.
 
-ghost use Rattle.std.specs.Prelude.{◌≡◌, ℕ, ◌≤◌, ◌<◌, ◌+◌, length, map, IfOk, IfSome, true, nat_le, find};
+ghost use Rattle.std.specs.Prelude.{◌≡◌, ℕ, ◌≤◌, ◌<◌, ◌+◌, get_or, length, map, IfOk, IfSome, true, nat_le, find};
+ghost use Rattle.rb_bits.specs.LittleEndian.{IsByteCount};
 ghost use Rattle.rb_bytes.specs.Memory.{IsGood, most_region, read_le, write_le, empty_memory, size_at, lies_within, byte_at};
-ghost use Rattle.rb_bytes.specs.Starts.{byte_of, start_of};
+ghost use Rattle.rb_bytes.specs.Starts.{written_in};
 
 use crate::fault::{Full, Trap};
 use crate::memory::ByteMemory;
+use rb_bits::{load_le, mask, store_le, take};
 use std::alloc::{AllocError, Global};
 use std::marker::Model;
-
-// What is known of one address.
-#[derive(Clone, Copy)]
-struct Cell {
-    // The byte that was written there.
-    byte: Option<u8>,
-    // The size of the block that begins there, or 0.
-    size: u16,
-}
-
-// An address at which nothing was written and no block begins.
-const UNTOUCHED: Cell = Cell {
-    byte: None,
-    size: 0,
-};
 
 /// A region that knows of each byte whether it was written and of each address whether a block
 /// begins there, so that no access is trusted. All of its memory is taken when it is made, and a part
 /// of it is first touched when a block is placed there.
 #[derive(Drop)]
 pub struct CheckedMemory {
-    // By address, up to the end of the last block; none before the first.
-    cells: Vec<Cell>,
+    // By address, up to the end of the last block; none before the first: the byte that was written there,
+    // 255 where one was and else 0, and the size of the block that begins there, or 0.
+    bytes: Vec<u8>,
+    marks: Vec<u8>,
+    sizes: Vec<u16>,
     blocks: u64,
     next: u64,
     limit: u64,
@@ -48,33 +38,48 @@ impl Model for CheckedMemory {
     ghost invariant = { IsKept };
 }
 
-// The number in some bytes, the lowest first, or the first of them that is unwritten.
-fn read_bytes(cells: &[Cell], at: u64, count: u64) -> Result<u64, Trap>
-    requires within { at + count ≤ length cells.now }
-    requires few { count ≤ 8 }
-    ensures { result ≡ read_le (map byte_of cells.now) count at }
+// Whether some bytes are written, by one look at the marks of all of them.
+fn are_written(marks: &[u8], at: u64, count: u64) -> bool
+    requires count { IsByteCount count }
+    requires within { at + count ≤ length marks.now }
+    ensures { result ≡ true → (a : ℕ) → at ≤ a → a < at + count → 0 < get_or marks.now a 0 }
 {
-    let mut word = 0;
-    for i in 0..count {
-        match cells[(at + i) as usize].byte {
-            None => return Err(Trap::Unwritten(at + i)),
-            Some(byte) => word += u64::from(byte) << (8 * i),
-        }
-    }
-    Ok(word)
+    load_le(&marks[at as usize..(at + count) as usize]) == mask(0, 8 * count as u32)
 }
 
-// Writes the low bytes of a word, the lowest first.
-fn write_bytes(cells: &mut [Cell], at: u64, count: u64, word: u64)
-    requires { at + count ≤ length cells.old }
-    ensures bytes { map byte_of cells.new ≡ write_le (map byte_of cells.old) count at word }
-    ensures starts { map start_of cells.new ≡ map start_of cells.old }
+// The number in some bytes, the lowest first, or the first of them that is unwritten.
+fn read_word(marks: &[u8], bytes: &[u8], at: u64, count: u64) -> Result<u64, Trap>
+    requires even { length marks.now ≡ length bytes.now }
+    requires count { IsByteCount count }
+    requires within { at + count ≤ length bytes.now }
+    ensures { result ≡ read_le (written_in marks.now bytes.now) count at }
 {
-    let mut rest = word;
-    for i in 0..count {
-        cells[(at + i) as usize].byte = Some((rest % 256) as u8);
-        rest /= 256;
+    if !are_written(marks, at, count) {
+        for i in at..at + count {
+            if marks[i as usize] == 0 {
+                return Err(Trap::Unwritten(i));
+            }
+        }
     }
+    Ok(load_le(&bytes[at as usize..(at + count) as usize]))
+}
+
+// Writes the low bytes of a word, the lowest first, and marks them.
+fn write_word(marks: &mut [u8], bytes: &mut [u8], at: u64, count: u64, word: u64)
+    requires even { length marks.old ≡ length bytes.old }
+    requires count { IsByteCount count }
+    requires within { at + count ≤ length bytes.old }
+    ensures { written_in marks.new bytes.new ≡ write_le (written_in marks.old bytes.old) count at word }
+{
+    let bits = 8 * count as u32;
+    store_le(
+        &mut marks[at as usize..(at + count) as usize],
+        mask(0, bits),
+    );
+    store_le(
+        &mut bytes[at as usize..(at + count) as usize],
+        take(word, 0, bits),
+    );
 }
 
 impl CheckedMemory {
@@ -89,7 +94,9 @@ impl CheckedMemory {
         ensures good { IfOk result (λ m. IsGood m) }
     {
         Ok(CheckedMemory {
-            cells: Vec::with_capacity(alloc, limit as usize)?,
+            bytes: Vec::with_capacity(alloc, limit as usize)?,
+            marks: Vec::with_capacity(alloc, limit as usize)?,
+            sizes: Vec::with_capacity(alloc, limit as usize)?,
             blocks: 0,
             next: 64,
             limit,
@@ -100,8 +107,8 @@ impl CheckedMemory {
     pub fn block_from(&self, address: u64) -> Option<(u64, u64)>
         ensures { result ≡ find (λ b. nat_le address b.0) self.now.blocks }
     {
-        for at in address..self.cells.len() as u64 {
-            match self.cells[at as usize].size {
+        for at in address..self.sizes.len() as u64 {
+            match self.sizes[at as usize] {
                 0 => {}
                 size => return Some((at, u64::from(size))),
             }
@@ -113,10 +120,13 @@ impl CheckedMemory {
     pub fn byte(&self, address: u64) -> Option<u8>
         ensures { result ≡ byte_at self.now.bytes address }
     {
-        if address >= self.cells.len() as u64 {
+        if address >= self.marks.len() as u64 {
             return None;
         }
-        self.cells[address as usize].byte
+        match self.marks[address as usize] {
+            0 => None,
+            _ => Some(self.bytes[address as usize]),
+        }
     }
 
     // The size of the block that begins at this address.
@@ -124,10 +134,10 @@ impl CheckedMemory {
         ensures value { result ≡ size_at self.now.blocks base }
         ensures within { IfSome result (λ size. base + size ≤ self.now.next) }
     {
-        if base >= self.cells.len() as u64 {
+        if base >= self.sizes.len() as u64 {
             return None;
         }
-        match self.cells[base as usize].size {
+        match self.sizes[base as usize] {
             0 => None,
             size => Some(u64::from(size)),
         }
@@ -174,8 +184,10 @@ impl ByteMemory for CheckedMemory {
                 limit: self.limit,
             });
         }
-        self.cells.resize((at + size) as usize, UNTOUCHED).unwrap();
-        self.cells[at as usize].size = size as u16;
+        self.bytes.resize((at + size) as usize, 0).unwrap();
+        self.marks.resize((at + size) as usize, 0).unwrap();
+        self.sizes.resize((at + size) as usize, 0).unwrap();
+        self.sizes[at as usize] = size as u16;
         self.blocks += 1;
         self.next = at + size;
         Ok(at)
@@ -185,14 +197,25 @@ impl ByteMemory for CheckedMemory {
         if !self.holds(base, offset, width / 8) {
             return Err(Trap::Astray(base, offset));
         }
-        read_bytes(self.cells.as_slice(), base + offset, width / 8)
+        read_word(
+            self.marks.as_slice(),
+            self.bytes.as_slice(),
+            base + offset,
+            width / 8,
+        )
     }
 
     fn store(&mut self, base: u64, offset: u64, width: u64, word: u64) -> Result<(), Trap> {
         if !self.holds(base, offset, width / 8) {
             return Err(Trap::Astray(base, offset));
         }
-        write_bytes(self.cells.as_mut_slice(), base + offset, width / 8, word);
+        write_word(
+            self.marks.as_mut_slice(),
+            self.bytes.as_mut_slice(),
+            base + offset,
+            width / 8,
+            word,
+        );
         Ok(())
     }
 }

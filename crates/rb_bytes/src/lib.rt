@@ -17,8 +17,10 @@
 //! What place, load and store do is defined once, on a memory as plain data: its limit, the next address,
 //! the blocks, and for each address the byte that was written there or none. [`memory::ByteMemory`] is the
 //! trait of all memories that do so, and [`checked::CheckedMemory`] the one that tests each access, by what
-//! it keeps for each address: the byte, and the size of the block that begins there. [`laws`] says of the
-//! definitions what a proof needs, as that a load after a store gives what was stored.
+//! it keeps for each address: the byte, a mark that it was written, and the size of the block that begins
+//! there. A load looks at the marks of all its bytes at once, and only where one lacks goes over them one by
+//! one. [`laws`] says of the definitions what a proof needs, as that a load after a store gives what was
+//! stored.
 #![tactic(auto)]
 
 pub mod checked;
