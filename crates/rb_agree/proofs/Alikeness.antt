@@ -1,6 +1,6 @@
 -- Leaves that are alike at a location exclude the same numbers there.
-use Rattle.std.proofs.Common.{◌≡◌, ℕ, zero, suc, ◌+◌, ◌-◌, ◌<◌, ◌≤◌, ◌⊎◌, inl, inr, min, max, List, [], ◌∷◌, length, get_or, Bool, true, false, ◌&&◌, leb, ltb, if◌then◌else◌, Option, Some, None, refl, sym, ap, subst, ◌∙◌, arith}
-use Rattle.std.specs.Prelude.{slice_get, nat_le, nat_lt}
+use Rattle.std.proofs.Common.{◌≡◌, ℕ, suc, ◌+◌, ◌-◌, ◌<◌, ◌≤◌, inl, inr, min, List, [], ◌∷◌, length, get_or, Bool, true, false, ◌&&◌, leb, ltb, if◌then◌else◌, Option, Some, None, refl, sym, ap, subst, ◌∙◌, arith}
+use Rattle.std.specs.Prelude.{slice_get}
 use Rattle.std.specs.Int.{bit_at}
 use Rattle.std.specs.Bool.{OnTrue}
 use Rattle.std.proofs.lemmas.Bool.{ltb-true, ltb-false}
@@ -19,13 +19,13 @@ use Rattle.rb_layout.specs.declared.layout.Part.{Part}
 use Rattle.rb_layout.specs.declared.layout.Kind.{Kind}
 use Rattle.rb_layout.specs.declared.layout.Kind.TheVariants.{Const, Bits, Word, Pointer}
 use Rattle.rb_layout.specs.declared.layout.WordRef.{WordRef}
-use Rattle.rb_layout.specs.Positions.{Open, open_positions}
+use Rattle.rb_layout.specs.Positions.{open_positions}
 use Rattle.rb_layout.specs.Flattening.{type_at}
 use Rattle.rb_layout.specs.Locations.{Reached, reached_at, resolve_from, range_in, or_else, bit_of_kind, bit_of_part, constant_bit}
 use Rattle.rb_layout.specs.Excluded.{Bars, differs, null, within, Excludes, HasNull, HasOtherBit}
 use Rattle.rb_layout.specs.Excluded as X
 use Rattle.rb_layout.specs.Splits.{IsNone}
-use Rattle.rb_layout.specs.A7.{Meets, Resolves}
+use Rattle.rb_layout.specs.A7.{Meets}
 use Rattle.rb_layout.proofs.OpenPositions.{position-typed, type-open}
 use Rattle.rb_agree.specs.inner.Passing.{IsLike, IsPrior}
 use Rattle.rb_agree.specs.inner.Alike.{AreAlike, AreKinds, ArePartsAlike, IsBeside, IsPartAlike}

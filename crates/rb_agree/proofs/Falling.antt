@@ -1,11 +1,12 @@
 -- Where each edge leads to a lower rank, no chain of edges comes back.
-use Rattle.std.proofs.Common.{◌≡◌, ℕ, ◌+◌, ◌<◌, ◌≤◌, List, [], ◌∷◌, length, Bool, true, false, nat_lt, Option, Some, None, Result, Ok, Err, IfOk, refl, sym, ap, subst, ◌∙◌, arith}
-use Rattle.std.specs.Prelude.{slice_get, MatchOption}
+use Rattle.std.proofs.Common.{◌≡◌, ℕ, ◌+◌, ◌<◌, ◌≤◌, List, [], ◌∷◌, length, Bool, true, false, nat_lt, Option, Some, Result, Ok, Err, IfOk, refl, sym, ap, subst, ◌∙◌, arith}
+use Rattle.std.specs.Prelude.{slice_get}
 use Rattle.std.specs.Bool.{OnTrue}
 use Rattle.std.proofs.lemmas.Bool.{ltb-true, ltb-false}
 use Rattle.std.proofs.lemmas.Option.{slice_get_past}
-use Rattle.rb_layout.specs.Cycles.{HasNoCycle, IsChain, IsCycle}
-use Rattle.rb_agree.specs.Graphs.{IsGraphOf, Leads, edges_of, row_in}
+use Rattle.rb_layout.specs.Cycles.{HasNoCycle, IsChain}
+use Rattle.rb_layout.specs.Graphs.{edges_of, Leads, row_in}
+use Rattle.rb_agree.specs.Graphs.{IsGraphOf}
 use Rattle.rb_agree.specs.inner.Order.{Falls, RowFalls, rank_of}
 
 -- edges of one more number

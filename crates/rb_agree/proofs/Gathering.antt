@@ -1,10 +1,9 @@
 -- Rows of runs that grow.
-use Rattle.std.proofs.Common.{◌≡◌, ◌≢◌, ℕ, zero, suc, ◌+◌, ◌<◌, ◌≤◌, List, [], ◌∷◌, ◌++◌, length, drop, get_or, Bool, true, false, ◌&&◌, ◌==◌, nat_eq, if◌then◌else◌, Some, Result, Ok, Err, OnOk, refl, sym, ap, subst, ◌∙◌, arith, append_assoc, append-nil, eqb-true}
+use Rattle.std.proofs.Common.{◌≡◌, ◌≢◌, ℕ, zero, suc, ◌+◌, ◌<◌, List, [], ◌∷◌, ◌++◌, length, Bool, true, false, ◌&&◌, ◌==◌, if◌then◌else◌, Some, Result, Ok, Err, OnOk, refl, sym, ap, subst, ◌∙◌, arith, append_assoc, append-nil, eqb-true}
 use mathlib.Core.Bool.{beq}
 use Rattle.std.specs.Prelude.{slice_get, slice_set}
-use Rattle.std.specs.List.{flat_map}
 use Rattle.std.proofs.lemmas.Grind.{common_steps}
-use Rattle.std.proofs.lemmas.Option.{same_Some, slice_get_within, get_or_from_slice_get}
+use Rattle.std.proofs.lemmas.Option.{same_Some, get_or_from_slice_get}
 use Rattle.rb_core.specs.declared.types.Ty.{Ty}
 use Rattle.rb_core.specs.declared.types.Ty.TheVariants.{Int, Named}
 use Rattle.rb_layout.specs.declared.layout.Leaf.{Leaf}
@@ -12,9 +11,9 @@ use Rattle.rb_layout.specs.declared.layout.Part.{Part}
 use Rattle.rb_layout.specs.declared.layout.Kind.{Kind}
 use Rattle.rb_layout.specs.declared.layout.Kind.TheVariants.{Const, Bits, Word, Pointer}
 use Rattle.rb_layout.specs.Flattening.{same_path}
-use Rattle.rb_agree.specs.declared.positions.Place.{Place}
+use Rattle.rb_layout.specs.declared.opens.OpenPosition.{OpenPosition}
 use Rattle.rb_agree.specs.declared.runs.Run.{Run}
-use Rattle.rb_agree.specs.inner.Held.{leaf_runs, kind_runs, part_runs}
+use Rattle.rb_agree.specs.inner.Held.{kind_runs, part_runs}
 use Rattle.rb_agree.specs.inner.Gathered.{Runs, AreGathered, AreNone, Gathers, blocks_runs, has_words, row, run_there, same_units, words_runs}
 use Rattle.rb_agree.specs.inner.Search.{AreOrdered, HasNone, IsNumberOf}
 use Rattle.rb_agree.proofs.Halving.{one-at}
@@ -64,11 +63,11 @@ none-more count rows new e h = record {
 
 -- What is added one after the other -----------------------------------------------------------------------
 
-module _ (places : List Place) where
+module _ (places : List OpenPosition) where
   -- what is still to be added, and the whole
   pub record GathersRest (whole rest : Runs) (old new : List (List Run)) : Type 0 where
     pub count : length new ≡ length old
-    pub each : (n : ℕ) (place : Place) → slice_get places n ≡ Some place → row new n ++ rest place.ty place.path ≡ row old n ++ whole place.ty place.path
+    pub each : (n : ℕ) (place : OpenPosition) → slice_get places n ≡ Some place → row new n ++ rest place.ty place.path ≡ row old n ++ whole place.ty place.path
 
   pub rest-first : (whole : Runs) (old : List (List Run)) → GathersRest whole whole old old
   rest-first whole old = record { count = refl; each = λ n place e. refl }
@@ -188,7 +187,7 @@ off-path p q h = elim (same_path p q) as (λ (b : Bool). same_path p q ≡ b →
   | false ↦ λ e. refl
 ] refl
 
-module _ (places : List Place) (path : List ℕ) (words : Bool) (run : Run) where
+module _ (places : List OpenPosition) (path : List ℕ) (words : Bool) (run : Run) where
   pub nowhere : (old : List (List Run)) → HasNone places path → Gathers places (run_there path words run) old old
   nowhere old h = record {
     count = refl;
@@ -198,16 +197,16 @@ module _ (places : List Place) (path : List ℕ) (words : Bool) (run : Run) wher
   }
 
   module _ (order : AreOrdered places) (n : ℕ) (h : IsNumberOf places path n) (old new : List (List Run)) where
-    elsewhere : (k : ℕ) (place : Place) → slice_get places k ≡ Some place → n ≢ k → run_there path words run place.ty place.path ≡ []
+    elsewhere : (k : ℕ) (place : OpenPosition) → slice_get places k ≡ Some place → n ≢ k → run_there path words run place.ty place.path ≡ []
     elsewhere k place e other = if-off (same_units words (has_words place.ty)) (same_path path place.path) run
         (off-path path place.path (λ same. one-at places order n k h.0 place h.1 e other (h.2 ∙ sym same)))
 
     pub other-units : words ≢ has_words h.0.ty → new ≡ old → Gathers places (run_there path words run) old new
     other-units differ e = record { count = ap (λ (rs : List (List Run)). length rs) e; each = λ k place f. ap (λ (rs : List (List Run)). row rs k) e ∙ sym (append-nil (row old k)) ∙ ap (λ (r : List Run). row old k ++ r) (sym (none k place f)) } where
-      none : (k : ℕ) (place : Place) → slice_get places k ≡ Some place → run_there path words run place.ty place.path ≡ []
+      none : (k : ℕ) (place : OpenPosition) → slice_get places k ≡ Some place → run_there path words run place.ty place.path ≡ []
       none k place f = elim (n == k) as (λ (b : Bool). (n == k) ≡ b → run_there path words run place.ty place.path ≡ []) [
         | true ↦ λ s. let one : h.0 ≡ place = same_Some h.0 place (sym h.1 ∙ subst (λ m. slice_get places m ≡ Some place) (sym (eqb-true n k s)) f) in
-            let off : same_units words (has_words place.ty) ≡ false = ap (λ (x : Place). same_units words (has_words x.ty)) (sym one) ∙ units-differ words (has_words h.0.ty) differ in
+            let off : same_units words (has_words place.ty) ≡ false = ap (λ (x : OpenPosition). same_units words (has_words x.ty)) (sym one) ∙ units-differ words (has_words h.0.ty) differ in
             rw off refl
         | false ↦ λ s. elsewhere k place f (λ same. let t : (n == k) ≡ true = grind (arith, common_steps, same) in cc)
       ] refl
@@ -217,12 +216,12 @@ module _ (places : List Place) (path : List ℕ) (words : Bool) (run : Run) wher
       count = ap (λ (rs : List (List Run)). length rs) e ∙ set-count old n (row old n ++ run ∷ []);
       each = λ k place f. ap (λ (rs : List (List Run)). row rs k) e ∙ at k place f;
     } where
-      at : (k : ℕ) (place : Place) → slice_get places k ≡ Some place → row (slice_set old n (row old n ++ run ∷ [])) k ≡ row old k ++ run_there path words run place.ty place.path
+      at : (k : ℕ) (place : OpenPosition) → slice_get places k ≡ Some place → row (slice_set old n (row old n ++ run ∷ [])) k ≡ row old k ++ run_there path words run place.ty place.path
       at k place f = elim (n == k) as (λ (b : Bool). (n == k) ≡ b → row (slice_set old n (row old n ++ run ∷ [])) k ≡ row old k ++ run_there path words run place.ty place.path) [
         | true ↦ λ s. let is : n ≡ k = eqb-true n k s in
             let one : h.0 ≡ place = same_Some h.0 place (sym h.1 ∙ subst (λ m. slice_get places m ≡ Some place) (sym is) f) in
-            let on : same_units words (has_words place.ty) ≡ true = ap (λ (x : Place). same_units words (has_words x.ty)) (sym one) ∙ units-are words (has_words h.0.ty) same in
-            let there : same_path path place.path ≡ true = ap (λ (x : Place). same_path path x.path) (sym one) ∙ ap (λ (q : List ℕ). same_path path q) h.2 ∙ same-self path in
+            let on : same_units words (has_words place.ty) ≡ true = ap (λ (x : OpenPosition). same_units words (has_words x.ty)) (sym one) ∙ units-are words (has_words h.0.ty) same in
+            let there : same_path path place.path ≡ true = ap (λ (x : OpenPosition). same_path path x.path) (sym one) ∙ ap (λ (q : List ℕ). same_path path q) h.2 ∙ same-self path in
             let added : run_there path words run place.ty place.path ≡ run ∷ [] = rw (on, there) refl in
             subst (λ m. row (slice_set old n (row old n ++ run ∷ [])) m ≡ row old m ++ run_there path words run place.ty place.path) is
             (set-here old n (row old n ++ run ∷ []) within ∙ ap (λ (r : List Run). row old n ++ r) (sym added))

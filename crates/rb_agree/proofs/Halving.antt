@@ -1,5 +1,5 @@
 -- Paths beside each other: what each side says of them.
-use Rattle.std.proofs.Common.{◌≡◌, ◌≢◌, ℕ, zero, suc, ◌+◌, ◌-◌, ◌/◌, ◌<◌, ◌≤◌, ◌⊎◌, inl, inr, min, List, [], ◌∷◌, length, drop, get_or, map, Bool, true, false, nat_lt, if◌then◌else◌, Some, refl, sym, ap, subst, ◌∙◌, arith, add-one, drop-cons, length-drop}
+use Rattle.std.proofs.Common.{◌≡◌, ◌≢◌, ℕ, ◌+◌, ◌-◌, ◌<◌, ◌≤◌, inl, inr, min, List, [], ◌∷◌, length, drop, get_or, Bool, true, false, nat_lt, if◌then◌else◌, Some, refl, sym, ap, subst, ◌∙◌, arith, add-one, drop-cons, length-drop}
 use Rattle.std.specs.Prelude.{slice_get}
 use Rattle.std.proofs.lemmas.Bool.{ltb-true, ltb-false}
 use Rattle.std.proofs.lemmas.List.{drop_all}
@@ -8,10 +8,10 @@ use Rattle.rb_core.specs.declared.types.DataDecl.{DataDecl}
 use Rattle.rb_core.specs.declared.pattern.Pat.{Pat}
 use Rattle.rb_layout.specs.Positions.{Open, IsLeftOf, open_positions}
 use Rattle.rb_layout.proofs.FromLeft.{opens_are_from_left}
-use Rattle.rb_agree.specs.declared.positions.Place.{Place}
+use Rattle.rb_layout.specs.declared.opens.OpenPosition.{OpenPosition}
 use Rattle.rb_agree.specs.declared.search.Side.{Side}
 use Rattle.rb_agree.specs.declared.search.Side.TheVariants.{Left, Same, Right, Along}
-use Rattle.rb_agree.specs.Placed.{shown_place, shown_places}
+use Rattle.rb_layout.specs.Opens.{open_at, opens_at}
 use Rattle.rb_agree.specs.inner.Search.{AreOrdered, side_of}
 use Rattle.rb_agree.proofs.Lists.{map-at}
 
@@ -101,49 +101,49 @@ module _ (p q : List ℕ) (k : ℕ) (s : Side) (all : min (length p) (length q) 
 
 -- Positions ---------------------------------------------------------------------------------------------
 
-module _ (places : List Place) (order : AreOrdered places) where
-  pub one-at : (j k : ℕ) (a b : Place) → slice_get places j ≡ Some a → slice_get places k ≡ Some b → j ≢ k → a.path ≢ b.path
+module _ (places : List OpenPosition) (order : AreOrdered places) where
+  pub one-at : (j k : ℕ) (a b : OpenPosition) → slice_get places j ≡ Some a → slice_get places k ≡ Some b → j ≢ k → a.path ≢ b.path
   one-at j k a b f g e same = elim (nat_lt j k) as (λ (c : Bool). nat_lt j k ≡ c → ⊥) [
     | true ↦ λ h. let l = order j k a b (ltb-true j k h) f g in not-both b.path b.path (subst (λ (p : List ℕ). IsLeftOf p b.path) same l) (subst (λ (p : List ℕ). IsLeftOf p b.path) same l)
     | false ↦ λ h. let m = ltb-false j k h in
         let l = order k j b a (omega (arith, m, e)) g f in not-both b.path b.path (subst (λ (p : List ℕ). IsLeftOf b.path p) same l) (subst (λ (p : List ℕ). IsLeftOf b.path p) same l)
   ] refl
 
-  module _ (path : List ℕ) (m : ℕ) (middle : Place) (at : slice_get places m ≡ Some middle) where
+  module _ (path : List ℕ) (m : ℕ) (middle : OpenPosition) (at : slice_get places m ≡ Some middle) where
     -- behind a position to whose left the path stands, and it itself
-    pub none-behind : side_of path middle.path ≡ Left → (k : ℕ) (place : Place) → m ≤ k → slice_get places k ≡ Some place → place.path ≢ path
+    pub none-behind : side_of path middle.path ≡ Left → (k : ℕ) (place : OpenPosition) → m ≤ k → slice_get places k ≡ Some place → place.path ≢ path
     none-behind e k place le f same = let l = left-of path middle.path e in elim (nat_lt m k) as (λ (c : Bool). nat_lt m k ≡ c → ⊥) [
       | true ↦ λ h. not-both path middle.path l (subst (λ (p : List ℕ). IsLeftOf middle.path p) same (order m k middle place (ltb-true m k h) at f))
       | false ↦ λ h. let n = ltb-false m k h in let is : m ≡ k = omega (arith, n, le) in
           let one : middle ≡ place = same_Some middle place (sym at ∙ subst (λ n. slice_get places n ≡ Some place) (sym is) f) in
-          let w : middle.path ≡ path = ap (λ (x : Place). x.path) one ∙ same in
+          let w : middle.path ≡ path = ap (λ (x : OpenPosition). x.path) one ∙ same in
           let g : IsLeftOf path path = subst (λ (p : List ℕ). IsLeftOf path p) w l in not-both path path g g
     ] refl
 
-    pub none-before : side_of path middle.path ≡ Right → (k : ℕ) (place : Place) → k < m + 1 → slice_get places k ≡ Some place → place.path ≢ path
+    pub none-before : side_of path middle.path ≡ Right → (k : ℕ) (place : OpenPosition) → k < m + 1 → slice_get places k ≡ Some place → place.path ≢ path
     none-before e k place le f same = let l = right-of path middle.path e in elim (nat_lt k m) as (λ (c : Bool). nat_lt k m ≡ c → ⊥) [
       | true ↦ λ h. not-both middle.path path l (subst (λ (p : List ℕ). IsLeftOf p middle.path) same (order k m place middle (ltb-true k m h) f at))
       | false ↦ λ h. let n = ltb-false k m h in let is : m ≡ k = omega (arith, n, le) in
           let one : middle ≡ place = same_Some middle place (sym at ∙ subst (λ n. slice_get places n ≡ Some place) (sym is) f) in
-          let w : middle.path ≡ path = ap (λ (x : Place). x.path) one ∙ same in
+          let w : middle.path ≡ path = ap (λ (x : OpenPosition). x.path) one ∙ same in
           let g : IsLeftOf path path = subst (λ (p : List ℕ). IsLeftOf p path) w l in not-both path path g g
     ] refl
 
-    pub none-along : side_of path middle.path ≡ Along → (k : ℕ) (place : Place) → slice_get places k ≡ Some place → place.path ≢ path
+    pub none-along : side_of path middle.path ≡ Along → (k : ℕ) (place : OpenPosition) → slice_get places k ≡ Some place → place.path ≢ path
     none-along e k place f same = let no = along-not path middle.path e in elim (nat_lt k m) as (λ (c : Bool). nat_lt k m ≡ c → ⊥) [
       | true ↦ λ h. no.0 (subst (λ (p : List ℕ). IsLeftOf p middle.path) same (order k m place middle (ltb-true k m h) f at))
       | false ↦ λ h. elim (nat_lt m k) as (λ (c : Bool). nat_lt m k ≡ c → ⊥) [
         | true ↦ λ g. no.1 (subst (λ (p : List ℕ). IsLeftOf middle.path p) same (order m k middle place (ltb-true m k g) at f))
         | false ↦ λ g. let a = ltb-false k m h in let b = ltb-false m k g in let is : m ≡ k = omega (arith, a, b) in
             let one : middle ≡ place = same_Some middle place (sym at ∙ subst (λ n. slice_get places n ≡ Some place) (sym is) f) in
-            let w : middle.path ≡ path = ap (λ (x : Place). x.path) one ∙ same in
+            let w : middle.path ≡ path = ap (λ (x : OpenPosition). x.path) one ∙ same in
             let s : Same ≡ Along = sym (side-self path) ∙ ap (λ (p : List ℕ). side_of path p) (sym w) ∙ e in cc
       ] refl
     ] refl
 
 -- the open positions of a provenance stand in order
-pub ordered : (types : List DataDecl) (prov : Pat) (places : List Place) → shown_places places ≡ open_positions types prov → AreOrdered places
+pub ordered : (types : List DataDecl) (prov : Pat) (places : List OpenPosition) → opens_at places ≡ open_positions types prov → AreOrdered places
 ordered types prov places is j k a b lt e f =
-    opens_are_from_left types prov j k (shown_place a) (shown_place b) lt
-    (ap (λ (os : List Open). slice_get os j) (sym is) ∙ map-at shown_place places j a e)
-    (ap (λ (os : List Open). slice_get os k) (sym is) ∙ map-at shown_place places k b f)
+    opens_are_from_left types prov j k (open_at a) (open_at b) lt
+    (ap (λ (os : List Open). slice_get os j) (sym is) ∙ map-at open_at places j a e)
+    (ap (λ (os : List Open). slice_get os k) (sym is) ∙ map-at open_at places k b f)

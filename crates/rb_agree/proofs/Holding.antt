@@ -22,8 +22,8 @@ use Rattle.rb_layout.specs.A6.{FailsHeld, HoldsEach, HoldsOnce, units_of, holds_
 use Rattle.rb_agree.specs.declared.runs.Run.{Run}
 use Rattle.rb_agree.specs.declared.items.Written.{Written}
 use Rattle.rb_agree.specs.declared.items.Item as D
-use Rattle.rb_agree.specs.declared.positions.Place.{Place}
-use Rattle.rb_agree.specs.Placed.{shown_place, shown_places}
+use Rattle.rb_layout.specs.declared.opens.OpenPosition.{OpenPosition}
+use Rattle.rb_layout.specs.Opens.{open_at, opens_at}
 use Rattle.rb_agree.specs.Written.{shown_item, shown_items, shown_part}
 use Rattle.rb_agree.specs.inner.Lists.{EachOf, SomeOf, FindsIn}
 use Rattle.rb_agree.specs.inner.Held.{AreOnce, FailsEach, FailsPath, FailsPlace, FailsUnits, HoldsPlace, IsOpenPath, block_runs, kind_runs, leaf_runs, part_paths, part_runs, run_if, times, word_runs}
@@ -149,19 +149,19 @@ module _ (p : Program) (leaf : Leaf) where
   place-found o runs n is all r h =
       if-ok r (λ x. MatchOption x (AreOnce runs n) (FailsUnits o.path runs n)) (λ x. MatchOption x (HoldsPlace p leaf o) (FailsPlace p leaf o)) (units-hold o runs n is all) h
 
-  abbrev pub ShownHolds : Place → Type 0
-  ShownHolds place = HoldsPlace p leaf (shown_place place)
+  abbrev pub ShownHolds : OpenPosition → Type 0
+  ShownHolds place = HoldsPlace p leaf (open_at place)
 
-  abbrev pub ShownFails : Place → Why → Type 0
-  ShownFails place why = FailsPlace p leaf (shown_place place) why
+  abbrev pub ShownFails : OpenPosition → Why → Type 0
+  ShownFails place why = FailsPlace p leaf (open_at place) why
 
-  all-hold : (ps : List Place) → shown_places ps ≡ open_positions p.types leaf.prov → (r : Option Why) → FindsIn ShownHolds ShownFails ps r → MatchOption r (HoldsEach p leaf) (FailsEach p leaf)
+  all-hold : (ps : List OpenPosition) → opens_at ps ≡ open_positions p.types leaf.prov → (r : Option Why) → FindsIn ShownHolds ShownFails ps r → MatchOption r (HoldsEach p leaf) (FailsEach p leaf)
   all-hold ps is None h = λ k o i e lt.
-      subst (λ (os : List Open). EachOf (HoldsPlace p leaf) os) is (each-map shown_place (HoldsPlace p leaf) ps h) k o e i lt
+      subst (λ (os : List Open). EachOf (HoldsPlace p leaf) os) is (each-map open_at (HoldsPlace p leaf) ps h) k o e i lt
   all-hold ps is (Some why) h =
-      subst (λ (os : List Open). SomeOf (λ (o : Open). FailsPlace p leaf o why) os) is (some-map shown_place (λ (o : Open). FailsPlace p leaf o why) ps h)
+      subst (λ (os : List Open). SomeOf (λ (o : Open). FailsPlace p leaf o why) os) is (some-map open_at (λ (o : Open). FailsPlace p leaf o why) ps h)
 
-  pub each-held : {E : Type 0} (ps : List Place) → shown_places ps ≡ open_positions p.types leaf.prov → (r : Result (Option Why) E) → IfOk r (FindsIn ShownHolds ShownFails ps)
+  pub each-held : {E : Type 0} (ps : List OpenPosition) → opens_at ps ≡ open_positions p.types leaf.prov → (r : Result (Option Why) E) → IfOk r (FindsIn ShownHolds ShownFails ps)
       → IfOk r (λ x. MatchOption x (HoldsEach p leaf) (FailsEach p leaf))
   each-held ps is r h = if-ok r (FindsIn ShownHolds ShownFails ps) (λ x. MatchOption x (HoldsEach p leaf) (FailsEach p leaf)) (all-hold ps is) h
 

@@ -10,7 +10,6 @@ pub mod PartLists
 pub mod Marking
 pub mod Searching
 pub mod Relating
-pub mod Opening
 mod Reaching
 mod Holding
 mod Falling

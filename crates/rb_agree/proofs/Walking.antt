@@ -1,7 +1,6 @@
 -- Walks over trees of splits, part by part.
-use Rattle.std.proofs.Common.{◌≡◌, ℕ, ◌+◌, ◌<◌, ◌≤◌, inl, inr, List, [], ◌∷◌, ◌++◌, map, length, take, get_or, add-one, Bool, true, false, Option, Some, None, refl, sym, ap, subst, ◌∙◌, arith}
-use Rattle.std.specs.Prelude.{slice_get, slice_set, MatchOption}
-use Rattle.std.specs.List.{flat_map}
+use Rattle.std.proofs.Common.{◌≡◌, ℕ, ◌+◌, ◌<◌, ◌≤◌, inl, inr, List, [], ◌∷◌, ◌++◌, map, length, take, get_or, add-one, Bool, Some, None, sym, ap, subst, ◌∙◌, arith}
+use Rattle.std.specs.Prelude.{slice_get}
 use Rattle.std.proofs.lemmas.List.{take_all, append-nil, append_assoc}
 use Rattle.std.proofs.lemmas.Option.{same_Some}
 use Rattle.std.proofs.lemmas.Bool.{cases_lt}
@@ -13,13 +12,12 @@ use Rattle.rb_layout.specs.declared.layout.FlatTree.{FlatTree}
 use Rattle.rb_layout.specs.declared.layout.FlatArm.{FlatArm}
 use Rattle.rb_layout.specs.declared.layout.Layout.{Layout}
 use Rattle.rb_layout.specs.declared.layout.Leaf.{Leaf}
-use Rattle.rb_layout.specs.declared.evidence.Why.{Why}
 use Rattle.rb_layout.specs.Splits.{Test, Is, IsNone, Route, Under, behind, arm_routes, routes_of, routes_under}
-use Rattle.rb_layout.specs.A7.{FailsTest, Meets, MeetsAll}
+use Rattle.rb_layout.specs.A7.{Meets, MeetsAll}
 use Rattle.rb_agree.specs.declared.passing.Span.{Span}
 use Rattle.rb_agree.specs.inner.Lists.{EachOf}
 use Rattle.rb_agree.specs.inner.Splits.{literals_in}
-use Rattle.rb_agree.specs.inner.Tests.{PassesRoute, arms_routes, other_routes}
+use Rattle.rb_agree.specs.inner.Tests.{arms_routes}
 use Rattle.rb_agree.specs.inner.Passing.{AreAsked, AreWalked, Covers, IsAmong, IsAsked, IsOff, Keeps, MeetsWhereOff}
 use Rattle.rb_agree.proofs.Lists.{each-append, each-first, each-map, each-none}
 use Rattle.rb_agree.proofs.Testing.{meets-all, routes-Leaf, routes-Split, under-routes}

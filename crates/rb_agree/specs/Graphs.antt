@@ -1,5 +1,5 @@
--- Graphs of numbers: for each number those to which it leads; and the graphs of types.
-use Rattle.std.specs.Prelude.{◌≡◌, ◌↔◌, ℕ, List, [], ◌∷◌, map, Option, Some, None, slice_get}
+-- The graphs of types, and when a graph shows a relation of numbers.
+use Rattle.std.specs.Prelude.{◌↔◌, ℕ, List, [], ◌∷◌, map, Option, Some, None}
 use Rattle.std.specs.List.{flat_map}
 use Rattle.rb_core.specs.declared.types.ConRef.{ConRef}
 use Rattle.rb_core.specs.declared.types.Ty.{Ty}
@@ -15,16 +15,7 @@ use Rattle.rb_layout.specs.declared.layout.Kind.TheVariants.{Const, Bits, Word, 
 use Rattle.rb_layout.specs.Positions.{open_positions}
 use Rattle.rb_layout.specs.Flattening.{type_at}
 use Rattle.rb_layout.specs.A9.{cons_below, cons_of}
-
-abbrev pub row_in : Option (List ℕ) → List ℕ
-row_in None = []
-row_in (Some row) = row
-
-abbrev pub edges_of : List (List ℕ) → ℕ → List ℕ
-edges_of graph t = row_in (slice_get graph t)
-
-abbrev pub Leads : List (List ℕ) → ℕ → ℕ → Type 0
-Leads graph t s = (k : ℕ) × (slice_get (edges_of graph t) k ≡ Some s)
+use Rattle.rb_layout.specs.Graphs.{Leads}
 
 -- the graph leads from a number to another just where they are related
 abbrev pub IsGraphOf : (ℕ → ℕ → Type 0) → List (List ℕ) → Type 0

@@ -2,5 +2,4 @@ pub mod Answers
 pub mod Written
 pub mod Pointing
 pub mod Graphs
-pub mod Placed
 pub mod inner

@@ -1,5 +1,5 @@
 -- Which layouts have a pointer part in a leaf.
-use Rattle.std.specs.Prelude.{◌≡◌, ℕ, ◌⊎◌, List, length, Bool, true, false, Option, Some, None, MatchBool, slice_get}
+use Rattle.std.specs.Prelude.{◌≡◌, ℕ, ◌⊎◌, List, length, Bool, true, false, Some, MatchBool, slice_get}
 use Rattle.rb_core.specs.declared.types.ConRef.{ConRef}
 use Rattle.rb_layout.specs.declared.layout.Layout.{Layout}
 use Rattle.rb_layout.specs.declared.layout.Leaf.{Leaf}
@@ -7,6 +7,7 @@ use Rattle.rb_layout.specs.declared.layout.Block.{Block}
 use Rattle.rb_layout.specs.declared.layout.FlatWord.{FlatWord}
 use Rattle.rb_layout.specs.declared.layout.Part.{Part}
 use Rattle.rb_layout.specs.declared.layout.Kind.TheVariants.{Pointer}
+use Rattle.rb_layout.specs.Graphs.{mark_of}
 use Rattle.rb_agree.specs.inner.Lists.{SomeOf}
 
 abbrev pub KindPoints : Part → Type 0
@@ -27,13 +28,6 @@ LeafPoints leaf = WordsPoint leaf.root ⊎ BlocksPoint leaf.blocks
 
 abbrev pub LeavesPoint : List Leaf → Type 0
 LeavesPoint leaves = SomeOf LeafPoints leaves
-
-abbrev pub mark_in : Option Bool → Bool
-mark_in None = false
-mark_in (Some mark) = mark
-
-abbrev pub mark_of : List Bool → ℕ → Bool
-mark_of marks t = mark_in (slice_get marks t)
 
 -- a mark for each layout, whether one of its leaves has a pointer part
 pub record AreMarks (layouts : List Layout) (marks : List Bool) : Type 0 where

@@ -6,10 +6,11 @@
 
 ghost use Rattle.std.specs.Prelude.{◌≡◌, IfOk, MatchOption, OnOk, MatchBool};
 ghost use Rattle.rb_layout.specs.Cycles.{HasNoCycle, IsCycleFrom};
-ghost use Rattle.rb_agree.specs.Graphs.{Leads, edges_of};
-ghost use Rattle.rb_agree.specs.inner.Ways.{AreUnmarked, HasEdge, HasNoEdge, all_added, added, state};
+ghost use Rattle.rb_layout.specs.Graphs.{HasEdge, HasNoEdge, Leads};
+ghost use Rattle.rb_agree.specs.inner.Ways.{all_added, added, state};
 
 use rb_core::seq::Seq;
+use rb_layout::graphs::{edges_of, no_marks};
 use std::alloc::{AllocError, Global};
 
 /// The way to a number that was found: the first number, each after it, and it itself.
@@ -17,27 +18,6 @@ use std::alloc::{AllocError, Global};
 pub struct Way {
     pub number: u32,
     pub way: Seq<u32>,
-}
-
-/// No number of so many is marked.
-pub(crate) fn no_marks(alloc: Global, count: usize) -> Result<Seq<bool>, AllocError>
-    ensures { IfOk result (λ marks. AreUnmarked count marks) }
-{
-    let mut marks = Seq::new(alloc);
-    for _i in 0..count {
-        marks.push(false)?;
-    }
-    Ok(marks)
-}
-
-/// The numbers to which a number leads; none for a number that the graph hasn't.
-pub(crate) fn edges_of(graph: &[Seq<u32>], number: u32) -> &[u32]
-    ensures { result.now ≡ edges_of graph.now number }
-{
-    match graph.get(number as usize) {
-        None => &[],
-        Some(row) => row.as_slice(),
-    }
 }
 
 // Marks and adds a number that was not found, with the way to it.

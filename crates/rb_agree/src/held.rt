@@ -9,15 +9,14 @@ ghost use Rattle.std.specs.List.{flat_map};
 ghost use Rattle.rb_layout.specs.Items.{content_paths, item_paths, paths_of};
 ghost use Rattle.rb_layout.specs.Positions.{open_positions};
 ghost use Rattle.rb_layout.specs.A6.{FailsHeld, HoldsEach, HoldsOnce, units_of};
-ghost use Rattle.rb_agree.specs.Placed.{shown_place};
-ghost use Rattle.rb_agree.specs.Written.{shown_content, shown_item, shown_items, shown_parts};
+ghost use Rattle.rb_layout.specs.Opens.{open_at};
+ghost use Rattle.rb_agree.specs.Written.{shown_content, shown_item, shown_items};
 ghost use Rattle.rb_agree.specs.inner.Lists.{FindsIn};
 ghost use Rattle.rb_agree.specs.inner.Held.{AreOnce, FailsEach, FailsPath, FailsPlace, FailsUnit, FailsUnits, HoldsPlace, IsOpenPath, has_unit, leaf_runs, part_paths, times};
 ghost use Rattle.rb_agree.specs.inner.Gathered.{AreGathered};
 
 use crate::items::{Content, Item, Written};
 use crate::parts::is_open;
-use crate::positions::{Place, places};
 use crate::runs::{Run, runs_at, runs_of};
 use rb_core::pattern::Pat;
 use rb_core::program::Program;
@@ -26,6 +25,7 @@ use rb_core::types::{DataDecl, Ty};
 use rb_layout::decls::shape_of;
 use rb_layout::evidence::Why;
 use rb_layout::layout::Leaf;
+use rb_layout::opens::{OpenPosition, opens};
 use std::alloc::{AllocError, Global};
 
 fn has_unit(run: &Run, unit: u64) -> bool
@@ -99,13 +99,13 @@ fn place_fault(
     alloc: Global,
     program: &Program,
     leaf: &Leaf,
-    place: &Place,
+    place: &OpenPosition,
     runs: &[Run],
 ) -> Result<Option<Why>, AllocError>
     requires { runs.now ≡ leaf_runs leaf.now place.now.ty place.now.path }
     ensures { IfOk result (λ found. MatchOption found
-        (HoldsPlace program.now leaf.now (shown_place place.now))
-        (FailsPlace program.now leaf.now (shown_place place.now))) }
+        (HoldsPlace program.now leaf.now (open_at place.now))
+        (FailsPlace program.now leaf.now (open_at place.now))) }
 {
     units_fault(alloc, &place.path, runs, units_of(program, place.ty))
 }
@@ -115,13 +115,13 @@ fn some_place_fault(
     alloc: Global,
     program: &Program,
     leaf: &Leaf,
-    places: &[Place],
+    places: &[OpenPosition],
     rows: &[Seq<Run>],
 ) -> Result<Option<Why>, AllocError>
     requires { AreGathered leaf.now places.now rows.now }
     ensures { IfOk result (λ found. FindsIn
-        (λ (place : Place). HoldsPlace program.now leaf.now (shown_place place))
-        (λ (place : Place). FailsPlace program.now leaf.now (shown_place place)) places.now found) }
+        (λ (place : OpenPosition). HoldsPlace program.now leaf.now (open_at place))
+        (λ (place : OpenPosition). FailsPlace program.now leaf.now (open_at place)) places.now found) }
 {
     for n in 0..places.len() {
         if let Some(why) = place_fault(alloc, program, leaf, &places[n], runs_at(rows, n))? {
@@ -136,7 +136,7 @@ fn places_fault(alloc: Global, program: &Program, leaf: &Leaf) -> Result<Option<
     ensures { IfOk result (λ found. MatchOption found
         (HoldsEach program.now leaf.now) (FailsEach program.now leaf.now)) }
 {
-    let list = places(alloc, program.types.as_slice(), &leaf.prov)?;
+    let list = opens(alloc, program.types.as_slice(), &leaf.prov)?;
     let rows = runs_of(alloc, leaf, list.as_slice())?;
     some_place_fault(alloc, program, leaf, list.as_slice(), rows.as_slice())
 }

@@ -9,10 +9,10 @@ ghost use Rattle.rb_agree.specs.Written.{shown_items};
 ghost use Rattle.rb_agree.specs.inner.Leaves.{AreWritten, items_or_none, items_under, leaves_or_none, shown_leaves};
 
 use crate::items::{Item, items_of};
-use crate::numbers::number_of;
 use rb_core::layout_decl::{Arm, LayTree, LayoutDecl};
 use rb_core::seq::Seq;
 use rb_layout::decls::decl_of;
+use rb_layout::numbers::number_of;
 use std::alloc::{AllocError, Global};
 
 // Adds the items of each leaf of a tree.

@@ -32,8 +32,6 @@
 //! | A9 no pointer | `pointers::pointer_fault`, over `pointers::pointing` | a leaf |
 //! | A10 no cycle | `graphs::holding_fault`, over `graphs::held` | a type |
 //!
-//! `positions::places` lists the open positions of a provenance.
-//!
 //! Missing values and common ones are found by the search in matrices of patterns; two provenances that
 //! have different constructors in one place are told apart before it is asked.
 //!
@@ -62,7 +60,6 @@ mod order;
 pub mod parts;
 mod passing;
 pub mod pointers;
-pub mod positions;
 pub mod roots;
 mod rules;
 mod runs;

@@ -8,12 +8,12 @@
 ghost use Rattle.std.specs.Prelude.{◌≡◌, ℕ, IfOk};
 ghost use Rattle.std.specs.Bool.{OnTrue};
 ghost use Rattle.rb_layout.specs.Cycles.{HasNoCycle};
-ghost use Rattle.rb_agree.specs.Graphs.{Leads};
+ghost use Rattle.rb_layout.specs.Graphs.{Leads};
 ghost use Rattle.rb_agree.specs.inner.Order.{Falls, RowFalls, rank_of};
 
-use crate::cycles::{edges_of, no_marks};
-use crate::numbers::number_of;
 use rb_core::seq::Seq;
+use rb_layout::graphs::{edges_of, no_marks};
+use rb_layout::numbers::number_of;
 use std::alloc::{AllocError, Global};
 
 // A number on the walk, and its edge that is next.

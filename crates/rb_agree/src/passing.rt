@@ -23,11 +23,11 @@ ghost use Rattle.rb_agree.specs.inner.Passing.{AreAsked, AreWalked, Covers, IsAs
 ghost use Rattle.rb_agree.specs.inner.Tests.{arms_routes};
 
 use crate::alike::are_alike;
-use crate::cycles::no_marks;
 use crate::tests::{else_fault, literal_fault};
 use rb_core::layout_decl::Loc;
 use rb_core::seq::Seq;
 use rb_core::types::DataDecl;
+use rb_layout::graphs::no_marks;
 use rb_layout::layout::{FlatArm, FlatTree, Layout, Leaf};
 use std::alloc::{AllocError, Global};
 

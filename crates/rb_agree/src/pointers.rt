@@ -4,7 +4,8 @@ ghost use Rattle.std.specs.Prelude.{◌≡◌, IfOk, MatchBool, MatchOption};
 ghost use Rattle.std.specs.List.{flat_map};
 ghost use Rattle.rb_layout.specs.A9.{FailsNoPointer, FlattensNoPointer, cons_below, cons_of};
 ghost use Rattle.rb_agree.specs.inner.Lists.{FindsIn};
-ghost use Rattle.rb_agree.specs.Pointing.{AreMarks, IsMarked, IsUnmarked, KindPoints, LeafPoints, PartsPoint, WordsPoint, BlocksPoint, LeavesPoint, mark_of};
+ghost use Rattle.rb_layout.specs.Graphs.{mark_of};
+ghost use Rattle.rb_agree.specs.Pointing.{AreMarks, IsMarked, IsUnmarked, KindPoints, LeafPoints, PartsPoint, WordsPoint, BlocksPoint, LeavesPoint};
 
 use rb_core::pattern::Pat;
 use rb_core::seq::Seq;

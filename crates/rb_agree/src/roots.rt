@@ -1,11 +1,11 @@
 //! Whether the root words of a leaf have the shape's widths.
 
-ghost use Rattle.std.specs.Prelude.{◌≡◌, IfOk, MatchOption};
+ghost use Rattle.std.specs.Prelude.{IfOk, MatchOption};
 ghost use Rattle.rb_layout.specs.A2.{FailsRoot, HasRoot};
 
-use crate::numbers::number_of;
 use rb_layout::evidence::Why;
 use rb_layout::layout::Leaf;
+use rb_layout::numbers::number_of;
 use std::alloc::AllocError;
 
 /// How a leaf's root words fail to have the widths of a shape.

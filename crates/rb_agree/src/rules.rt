@@ -9,7 +9,6 @@ ghost use Rattle.rb_layout.specs.A10.{FailsHolding, HoldsField};
 ghost use Rattle.rb_layout.specs.Cycles.{HasNoCycle};
 ghost use Rattle.rb_layout.specs.Items.{items_of, leaves_in};
 ghost use Rattle.rb_layout.specs.Flattening.{decl_of};
-ghost use Rattle.rb_layout.specs.Positions.{layout_of};
 ghost use Rattle.rb_layout.specs.Spots.{part_spots};
 ghost use Rattle.rb_agree.specs.Answers.{Finds};
 ghost use Rattle.rb_agree.specs.Written.{shown_items};
@@ -23,7 +22,6 @@ use crate::graphs::{flattening_fault, holding_fault};
 use crate::held::held_fault;
 use crate::items::Item;
 use crate::leaves::{items_at, leaves_at};
-use crate::numbers::number_of;
 use crate::parts::item_fault;
 use crate::passing::failing;
 use crate::pointers::pointer_fault;
@@ -36,6 +34,7 @@ use rb_core::program::Program;
 use rb_core::seq::Seq;
 use rb_layout::evidence::{Refused, Why};
 use rb_layout::layout::{Layout, Leaf};
+use rb_layout::numbers::number_of;
 use std::alloc::{AllocError, Global};
 
 /// A rule.

@@ -17,11 +17,11 @@ ghost use Rattle.rb_agree.specs.inner.Gathered.{AreGathered, AreNone, Gathers, b
 ghost use Rattle.rb_agree.specs.inner.Held.{part_runs};
 ghost use Rattle.rb_agree.specs.inner.Search.{AreOrdered};
 
-use crate::positions::Place;
 use crate::search::place_of;
 use rb_core::seq::Seq;
 use rb_core::types::Ty;
 use rb_layout::layout::{Block, FlatWord, Kind, Leaf, Part};
+use rb_layout::opens::OpenPosition;
 use std::alloc::{AllocError, Global};
 
 /// So many units of a position, from this one on.
@@ -55,7 +55,7 @@ fn has_words(ty: Ty) -> bool
 // Adds a run of words or of bits to those of the position at a path, where one is there that has such.
 fn add_at(
     alloc: Global,
-    places: &[Place],
+    places: &[OpenPosition],
     path: &[u32],
     words: bool,
     run: Run,
@@ -77,7 +77,7 @@ fn add_at(
 // Adds what a part holds.
 fn add_part(
     alloc: Global,
-    places: &[Place],
+    places: &[OpenPosition],
     part: &Part,
     rows: &mut Seq<Seq<Run>>,
 ) -> Result<(), AllocError>
@@ -107,7 +107,7 @@ fn add_part(
 
 fn add_parts(
     alloc: Global,
-    places: &[Place],
+    places: &[OpenPosition],
     parts: &[Part],
     rows: &mut Seq<Seq<Run>>,
 ) -> Result<(), AllocError>
@@ -123,7 +123,7 @@ fn add_parts(
 
 fn add_words(
     alloc: Global,
-    places: &[Place],
+    places: &[OpenPosition],
     words: &[FlatWord],
     rows: &mut Seq<Seq<Run>>,
 ) -> Result<(), AllocError>
@@ -139,7 +139,7 @@ fn add_words(
 
 fn add_blocks(
     alloc: Global,
-    places: &[Place],
+    places: &[OpenPosition],
     blocks: &[Block],
     rows: &mut Seq<Seq<Run>>,
 ) -> Result<(), AllocError>
@@ -168,7 +168,7 @@ fn no_runs(alloc: Global, count: usize) -> Result<Seq<Seq<Run>>, AllocError>
 pub(crate) fn runs_of(
     alloc: Global,
     leaf: &Leaf,
-    places: &[Place],
+    places: &[OpenPosition],
 ) -> Result<Seq<Seq<Run>>, AllocError>
     requires { AreOrdered places.now }
     ensures { IfOk result (AreGathered leaf.now places.now) }

@@ -14,7 +14,7 @@
 ghost use Rattle.std.specs.Prelude.{◌≡◌, ◌<◌, length, min, MatchOption};
 ghost use Rattle.rb_agree.specs.inner.Search.{AreOrdered, HasNone, IsNumberOf, side_of};
 
-use crate::positions::Place;
+use rb_layout::opens::OpenPosition;
 
 /// Where a path stands beside another.
 #[derive(Clone, Copy)]
@@ -57,7 +57,7 @@ fn side_of(one: &[u32], other: &[u32]) -> Side
 }
 
 /// The number of the open position at a path.
-pub(crate) fn place_of(places: &[Place], path: &[u32]) -> Option<usize>
+pub(crate) fn place_of(places: &[OpenPosition], path: &[u32]) -> Option<usize>
     requires { AreOrdered places.now }
     ensures place { MatchOption result (HasNone places.now path.now) (IsNumberOf places.now path.now) }
     ensures within { MatchOption result (Unit {0}) (λ n. n < length places.now) }

@@ -1,17 +1,17 @@
 //! Whether each type has a layout, and shapes have words of 1 to 64 bits.
 
-ghost use Rattle.std.specs.Prelude.{◌≡◌, ◌↔◌, IfOk, IsTrue, List, MatchOption, Some};
+ghost use Rattle.std.specs.Prelude.{◌↔◌, IfOk, IsTrue, List, MatchOption, Some};
 ghost use Rattle.std.specs.Option.{option_copied};
 ghost use Rattle.rb_layout.specs.declared.layout.Layout.{Layout};
 ghost use Rattle.rb_layout.specs.Spots.{shape_spots};
 ghost use Rattle.rb_agree.specs.Answers.{Finds};
 ghost use Rattle.rb_layout.specs.A1.{FailsShape, HasShape, IsShapeWidth};
 
-use crate::numbers::number_of;
 use rb_core::layout_decl::LayoutDecl;
 use rb_core::program::Program;
 use rb_layout::decls::decl_of;
 use rb_layout::evidence::{Refused, Why};
+use rb_layout::numbers::number_of;
 use std::alloc::AllocError;
 
 fn is_shape_width(width: u64) -> bool

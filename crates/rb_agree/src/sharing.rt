@@ -19,13 +19,13 @@ ghost use Rattle.rb_layout.specs.declared.layout.Leaf.{Leaf};
 ghost use Rattle.rb_matrix.specs.Search.{AreInhabited, IsTypeIn};
 ghost use Rattle.rb_agree.specs.inner.Sharing.{ApartWhereOff, AreGroups, AreHeads, HaveAll, IsAlone, IsGroupOf, MayBe, SharesNone, con_at, heads_in, root_con, sub_at};
 
-use crate::cycles::no_marks;
-use crate::numbers::number_of;
 use crate::values::{apart_fault, have_common};
 use rb_core::pattern::Pat;
 use rb_core::seq::Seq;
 use rb_core::types::DataDecl;
+use rb_layout::graphs::no_marks;
 use rb_layout::layout::{Layout, Leaf};
+use rb_layout::numbers::number_of;
 use std::alloc::{AllocError, Global};
 
 // How many constructors a type has at most.

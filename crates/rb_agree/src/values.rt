@@ -1,6 +1,6 @@
 //! Whether each value of a type has exactly one leaf.
 
-ghost use Rattle.std.specs.Prelude.{◌≡◌, ◌<◌, length, map, IfOk, IsTrue, MatchBool, MatchOption};
+ghost use Rattle.std.specs.Prelude.{◌≡◌, ◌<◌, length, IfOk, MatchBool, MatchOption};
 ghost use Rattle.std.specs.Bool.{OnTrue};
 ghost use Rattle.rb_core.specs.declared.types.Ty.TheVariants as Tys;
 ghost use Rattle.rb_layout.specs.declared.layout.Leaf.{Leaf};
@@ -8,12 +8,12 @@ ghost use Rattle.rb_layout.specs.A5.{FailsApart, FailsComplete, HaveCommon, IsAp
 ghost use Rattle.rb_matrix.specs.Search.{AreInhabited, IsTypeIn};
 ghost use Rattle.rb_agree.specs.inner.Values.{AreDifferent, HaveDifferent, provenances_in};
 
-use crate::numbers::number_of;
 use rb_core::pattern::Pat;
 use rb_core::seq::Seq;
 use rb_core::types::{DataDecl, Ty};
 use rb_layout::evidence::Why;
 use rb_layout::layout::{Layout, Leaf};
+use rb_layout::numbers::number_of;
 use rb_matrix::{MatrixFault, common, exhaust};
 use std::alloc::{AllocError, Global};
 

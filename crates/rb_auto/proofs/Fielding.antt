@@ -8,7 +8,8 @@ use Rattle.rb_core.specs.declared.types.Ty.TheVariants.{Int, Named}
 use Rattle.rb_core.specs.declared.types.DataDecl.{DataDecl}
 use Rattle.rb_layout.specs.Cycles.{HasNoCycle, IsChain}
 use Rattle.rb_auto.specs.Fields.{cons_of, cons_in, HasField, IsRecursive, IsFinite}
-use Rattle.rb_auto.specs.inner.Graphs.{HasCycle, Leads, con_types, field_graph, field_types, named_types, row_in}
+use Rattle.rb_layout.specs.Graphs.{Leads, row_in}
+use Rattle.rb_auto.specs.inner.Graphs.{HasCycle, con_types, field_graph, field_types, named_types}
 
 -- something stands in a list
 abbrev pub In : {A : Type 0} → A → List A → Type 0

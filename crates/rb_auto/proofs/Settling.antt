@@ -10,7 +10,7 @@ use Rattle.rb_auto.specs.declared.room.Room.TheVariants.{Word, Recursive, Bits}
 use Rattle.rb_auto.specs.Widths.{need}
 use Rattle.rb_auto.specs.Rooms.{IsRoom, AreRooms, AreTheRooms}
 use Rattle.rb_auto.specs.inner.Settling.{Extends, IsSettled, AreSettled, IsFirst}
-use Rattle.rb_auto.proofs.Searching.{get-of}
+use Rattle.rb_layout.proofs.GraphLemmas.{get-of}
 
 there : {A : Type 0} (xs : List A) (k : ℕ) → k < length xs → (x : A) × (slice_get xs k ≡ Some x)
 there [] k lt = absurd (omega (arith, lt))

@@ -9,13 +9,13 @@ ghost use Rattle.rb_auto.specs.Items.{form_tag};
 use crate::field_words::words_of;
 use crate::form::Form;
 use crate::items::{form_tag, form_width, leaf_items};
-use crate::numbers::number_of;
 use crate::room::Room;
 use rb_core::layout_decl::{Arm, LayTree, LayoutDecl, Loc};
 use rb_core::pattern::Pat;
 use rb_core::program::Program;
 use rb_core::seq::Seq;
 use rb_core::types::{Con, ConRef, DataDecl};
+use rb_layout::numbers::number_of;
 use std::alloc::{AllocError, Global};
 
 /// The constructors of a type.

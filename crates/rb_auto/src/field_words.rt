@@ -4,13 +4,13 @@ ghost use Rattle.std.specs.Prelude.{◌≡◌, ◌++◌, IfOk, OnOk, map};
 ghost use Rattle.rb_auto.specs.FieldWords.{content, field_words, words_from, words_of};
 ghost use Rattle.rb_auto.specs.Widths.{counted, widths};
 
-use crate::numbers::number_of;
 use crate::room::{Room, counted, room_width};
 use rb_core::layout_decl::PartKind;
 use rb_core::program::Program;
 use rb_core::seq::Seq;
 use rb_core::types::Ty;
 use rb_layout::decls::decl_of;
+use rb_layout::numbers::number_of;
 use std::alloc::{AllocError, Global};
 
 /// A word of a field: the field's number, the word's own where the field has several, and its width

@@ -24,7 +24,6 @@ pub mod field_words;
 pub mod form;
 mod items;
 pub mod laws;
-mod numbers;
 mod recursion;
 pub mod room;
 pub mod rooms;

@@ -7,10 +7,12 @@
 ghost use Rattle.std.specs.Prelude.{◌≡◌, ◌++◌, IfOk, MatchBool, OnOk};
 ghost use Rattle.std.specs.List.{flat_map};
 ghost use Rattle.rb_layout.specs.Cycles.{HasNoCycle};
-ghost use Rattle.rb_auto.specs.inner.Graphs.{AreUnmarked, HasCycle, HasEdge, HasNoEdge, Leads, added, all_added, con_types, edges_of, field_graph, named_types, state};
+ghost use Rattle.rb_layout.specs.Graphs.{HasEdge, HasNoEdge, Leads};
+ghost use Rattle.rb_auto.specs.inner.Graphs.{HasCycle, added, all_added, con_types, field_graph, named_types, state};
 
 use rb_core::seq::Seq;
 use rb_core::types::{Con, DataDecl, Ty};
+use rb_layout::graphs::{edges_of, no_marks};
 use std::alloc::{AllocError, Global};
 
 // Adds the types of fields.
@@ -45,26 +47,6 @@ pub(crate) fn field_graph(alloc: Global, types: &[DataDecl]) -> Result<Seq<Seq<u
         graph.push(field_row(alloc, data.cons.as_slice())?)?;
     }
     Ok(graph)
-}
-
-// No number of so many is marked.
-fn no_marks(alloc: Global, count: usize) -> Result<Seq<bool>, AllocError>
-    ensures { IfOk result (λ marks. AreUnmarked count marks) }
-{
-    let mut marks = Seq::new(alloc);
-    for _i in 0..count {
-        marks.push(false)?;
-    }
-    Ok(marks)
-}
-
-fn edges_of(graph: &[Seq<u32>], number: u32) -> &[u32]
-    ensures { result.now ≡ edges_of graph.now number }
-{
-    match graph.get(number as usize) {
-        None => &[],
-        Some(row) => row.as_slice(),
-    }
 }
 
 // Marks and adds a number that was not found.

@@ -14,13 +14,13 @@ ghost use Rattle.rb_auto.specs.inner.Graphs.{field_graph};
 ghost use Rattle.rb_auto.specs.inner.Settling.{AreSettled, Extends, IsFirst};
 
 use crate::derived::cons_of;
-use crate::numbers::number_of;
 use crate::recursion::{field_graph, is_recursive};
 use crate::room::{Room, counted, room_width};
 use rb_core::program::Program;
 use rb_core::seq::Seq;
 use rb_core::types::{Auto, Con, Ty};
 use rb_layout::decls::decl_of;
+use rb_layout::numbers::number_of;
 use std::alloc::{AllocError, Global};
 
 /// The least number of bits that tell so many constructors apart.

@@ -18,6 +18,7 @@ use Rattle.rb_layout.specs.Words.{begins_at, size_of}
 use Rattle.rb_rel.specs.Answers.{making_of}
 use Rattle.rb_rel.specs.Placing.{Fits, Request, request_of, requests_of, lay}
 use Rattle.rb_rel.specs.Relation.{IsFound, Placed, Made, Represents, number, built, Represent}
+use Rattle.rb_rel.proofs.Elsewhere.{made_elsewhere}
 use Rattle.rb_rel.proofs.Growth.{Represents-kept}
 use Rattle.rb_rel.proofs.Storing.{with_block, with_blocks, laid_more}
 use Rattle.rb_coding.specs.Encoding.{only, StandsAlone, StandApart}
@@ -112,20 +113,7 @@ module _ (m m' : Memory) (wider : IsWider m m') where
 
   module _ (types : List DataDecl) (layouts : List Layout) where
     abbrev made_wider : (t : ℕ) (v : Value) (ws : List ℕ) → Made types layouts m true t v ws → Made types layouts m' true t v ws
-    made_wider t v ws b = record {
-      layout = b.layout;
-      number = b.number;
-      leaf = b.leaf;
-      is_layout = b.is_layout;
-      is_leaf = b.is_leaf;
-      is_number = b.is_number;
-      shaped = b.shaped;
-      subs = b.subs;
-      ats = b.ats;
-      at = b.at;
-      is_at = b.is_at;
-      placed = placed_wider b.leaf ws b.subs b.ats b.placed;
-    }
+    made_wider t v ws b = made_elsewhere types layouts m m' true true t v ws b (placed_wider b.leaf ws b.subs b.ats b.placed)
 
     pub represents_wider : {ty : Ty} {v : Value} {ws : List ℕ} → Represents types layouts m true ty v ws → Represents types layouts m' true ty v ws
     represents_wider (number bits x lt) = number bits x lt

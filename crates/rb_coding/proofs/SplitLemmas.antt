@@ -51,36 +51,36 @@ pub small_load : (m : Memory) → IsGood m → (base offset width r : ℕ) → l
 small_load m good base offset width r is = fits_small base (address_small m base offset width r good is)
 
 -- Trees --------------------------------------------------------------------------------------------
-under_is : (a : FlatArm) → routes_under a ≡ record { literal = a.literal; of = routes_of a.under }
+pub under_is : (a : FlatArm) → routes_under a ≡ record { literal = a.literal; of = routes_of a.under }
 unfolding denote.Hole.Carrier.roll
 under_is a = fold-roll-FlatArm (List Route) (Under (List Route)) routes_step routes_arm (record { literal = a.literal; under = a.under })
 
-splits_is : (a : FlatArm) → splits_under a ≡ record { literal = a.literal; of = splits_of a.under }
+pub splits_is : (a : FlatArm) → splits_under a ≡ record { literal = a.literal; of = splits_of a.under }
 unfolding denote.Hole.Carrier.roll
 splits_is a = fold-roll-FlatArm (List SplitAt) (Under (List SplitAt)) splits_step splits_arm (record { literal = a.literal; under = a.under })
 
-abbrev other_routes : Option FlatTree → Option (List Route)
+abbrev pub other_routes : Option FlatTree → Option (List Route)
 other_routes None = None
 other_routes (Some t) = Some (routes_of t)
 
-abbrev other_splits : Option FlatTree → Option (List SplitAt)
+abbrev pub other_splits : Option FlatTree → Option (List SplitAt)
 other_splits None = None
 other_splits (Some t) = Some (splits_of t)
 
-abbrev arms_routes : Loc → List FlatArm → List Route
+abbrev pub arms_routes : Loc → List FlatArm → List Route
 arms_routes loc arms = flat_map (arm_routes loc) (map routes_under arms)
 
-abbrev arms_splits : List FlatArm → List SplitAt
+abbrev pub arms_splits : List FlatArm → List SplitAt
 arms_splits arms = flat_map (λ arm. arm.of) (map splits_under arms)
 
-tree_routes : (loc : Loc) (arms : List FlatArm) (other : Option FlatTree) → routes_of (Split loc arms other) ≡ arms_routes loc arms ++ else_routes loc (literals_of (map routes_under arms)) (other_routes other)
+pub tree_routes : (loc : Loc) (arms : List FlatArm) (other : Option FlatTree) → routes_of (Split loc arms other) ≡ arms_routes loc arms ++ else_routes loc (literals_of (map routes_under arms)) (other_routes other)
 tree_routes loc arms None = F.fold-Split (List Route) (Under (List Route)) routes_step routes_arm loc arms
 tree_routes loc arms (Some t) = F.fold-Split-else (List Route) (Under (List Route)) routes_step routes_arm loc arms t
 
-abbrev split_of : Loc → List FlatArm → Option FlatTree → SplitAt
+abbrev pub split_of : Loc → List FlatArm → Option FlatTree → SplitAt
 split_of loc arms other = record { loc = loc; literals = literals_of (map splits_under arms); other = is_some (other_splits other) }
 
-tree_splits : (loc : Loc) (arms : List FlatArm) (other : Option FlatTree) → splits_of (Split loc arms other) ≡ split_of loc arms other ∷ (arms_splits arms ++ splits_or_none (other_splits other))
+pub tree_splits : (loc : Loc) (arms : List FlatArm) (other : Option FlatTree) → splits_of (Split loc arms other) ≡ split_of loc arms other ∷ (arms_splits arms ++ splits_or_none (other_splits other))
 tree_splits loc arms None = F.fold-Split (List SplitAt) (Under (List SplitAt)) splits_step splits_arm loc arms
 tree_splits loc arms (Some t) = F.fold-Split-else (List SplitAt) (Under (List SplitAt)) splits_step splits_arm loc arms t
 

@@ -1,10 +1,8 @@
 //! What a program does, for tests: the source meaning, computed.
 
-ghost use Rattle.std.specs.Prelude.{◌≡◌, ◌≤◌, ◌++◌, ◌∷◌, [], ℕ, Some, None, IfOk, OnOk, map, slice_get};
-ghost use Rattle.rb_core.specs.declared.outcome.Event.TheVariants.{Matched};
-ghost use Rattle.rb_core.specs.Typing.{operand_wanted, field_types, param_types};
-ghost use Rattle.rb_core.specs.Inference.{width_of, with_binder, operands_type, match_type, inferred_type, clause_inferred};
-ghost use Rattle.rb_core.specs.Meaning.{call_of, call_within, meaning_of, clause_meaning, all_of, first_of, after, then_do, then_with, built, combined, cut_to, with_value};
+ghost use Rattle.std.specs.Prelude.{◌≡◌, ◌≤◌, [], ℕ, Option, IfOk, OnOk, map, slice_get};
+ghost use Rattle.rb_core.specs.declared.expression.Expr as X;
+ghost use Rattle.rb_core.specs.Meaning.{call_of, call_within, meaning_of, clause_meaning, all_of, first_of};
 ghost use Rattle.rb_core.specs.Outcomes.{Gives, GivesParts, IsWithinCalls, IsPartsWithinCalls};
 
 use crate::environment::{Frame, bind_arguments, scope_of, value_of};
@@ -171,11 +169,9 @@ fn eval_invoke(
     frame: &mut Frame,
     log: &mut Seq<Event>,
 ) -> Result<SourceEnd, AllocError>
-    ensures gives { IfOk result (λ end. (k : ℕ) → calls ≤ k
-        → Gives (then_with (all_of (map (meaning_of program.now
-        (call_within program.now k) frame.old.fun) parts.now)
-        (param_types program.now.funs fun) frame.old.scope [] calls frame.old.values)
-        (λ vs rest. call_within program.now k fun rest vs)) log.old log.new end) }
+    ensures gives { (at : ℕ) (wanted : Option Ty) → IfOk result (λ end. (k : ℕ) → calls ≤ k
+        → Gives (meaning_of program.now (call_within program.now k) frame.old.fun (X.Call at fun parts.now) wanted
+        frame.old.scope calls frame.old.values) log.old log.new end) }
     ensures fewer { IfOk result (IsWithinCalls calls) }
     ensures frame { OnOk result (frame.new ≡ frame.old) }
 {
@@ -199,11 +195,9 @@ fn eval_build(
     frame: &mut Frame,
     log: &mut Seq<Event>,
 ) -> Result<SourceEnd, AllocError>
-    ensures gives { IfOk result (λ end. (k : ℕ) → calls ≤ k
-        → Gives (then_with (all_of (map (meaning_of program.now
-        (call_within program.now k) frame.old.fun) parts.now)
-        (field_types program.now.types con) frame.old.scope [] calls frame.old.values)
-        (built con)) log.old log.new end) }
+    ensures gives { (at : ℕ) (wanted : Option Ty) → IfOk result (λ end. (k : ℕ) → calls ≤ k
+        → Gives (meaning_of program.now (call_within program.now k) frame.old.fun (X.Build at con parts.now) wanted
+        frame.old.scope calls frame.old.values) log.old log.new end) }
     ensures fewer { IfOk result (IsWithinCalls calls) }
     ensures frame { OnOk result (frame.new ≡ frame.old) }
 {
@@ -230,14 +224,9 @@ fn eval_binary(
     frame: &mut Frame,
     log: &mut Seq<Event>,
 ) -> Result<SourceEnd, AllocError>
-    ensures gives { IfOk result (λ end. (k : ℕ) → calls ≤ k
-        → Gives (then_do (meaning_of program.now (call_within program.now k) frame.old.fun a.now
-        (operand_wanted op wanted) frame.old.scope calls frame.old.values)
-        (λ v rest. then_do (meaning_of program.now (call_within program.now k) frame.old.fun b.now
-        (Some (operands_type op wanted (inferred_type program.now.types program.now.funs a.now None
-        frame.old.scope))) frame.old.scope rest frame.old.values)
-        (combined op (width_of (operands_type op wanted
-        (inferred_type program.now.types program.now.funs a.now None frame.old.scope))) v))) log.old log.new end) }
+    ensures gives { (at : ℕ) → IfOk result (λ end. (k : ℕ) → calls ≤ k
+        → Gives (meaning_of program.now (call_within program.now k) frame.old.fun (X.Binary at op a.now b.now) wanted
+        frame.old.scope calls frame.old.values) log.old log.new end) }
     ensures fewer { IfOk result (IsWithinCalls calls) }
     ensures frame { OnOk result (frame.new ≡ frame.old) }
 {
@@ -266,10 +255,9 @@ fn eval_to(
     frame: &mut Frame,
     log: &mut Seq<Event>,
 ) -> Result<SourceEnd, AllocError>
-    ensures gives { IfOk result (λ end. (k : ℕ) → calls ≤ k
-        → Gives (then_do (meaning_of program.now
-        (call_within program.now k) frame.old.fun a.now None frame.old.scope calls frame.old.values)
-        (cut_to bits)) log.old log.new end) }
+    ensures gives { (at : ℕ) (wanted : Option Ty) → IfOk result (λ end. (k : ℕ) → calls ≤ k
+        → Gives (meaning_of program.now (call_within program.now k) frame.old.fun (X.To at bits a.now) wanted
+        frame.old.scope calls frame.old.values) log.old log.new end) }
     ensures fewer { IfOk result (IsWithinCalls calls) }
     ensures frame { OnOk result (frame.new ≡ frame.old) }
 {
@@ -294,12 +282,10 @@ fn eval_let(
     frame: &mut Frame,
     log: &mut Seq<Event>,
 ) -> Result<SourceEnd, AllocError>
-    ensures gives { IfOk result (λ end. (k : ℕ) → calls ≤ k
-        → Gives (then_do (meaning_of program.now (call_within program.now k) frame.old.fun a.now
-        (Some binder.ty) frame.old.scope calls frame.old.values)
-        (λ v rest. meaning_of program.now (call_within program.now k) frame.old.fun b.now wanted
-        (with_binder frame.old.scope binder.var binder.ty) rest
-        (with_value frame.old.values binder.var v))) log.old log.new end) }
+    ensures gives { (at : ℕ) → IfOk result (λ end. (k : ℕ) → calls ≤ k
+        → Gives (meaning_of program.now (call_within program.now k) frame.old.fun
+        (X.Let at binder.var binder.ty a.now b.now) wanted
+        frame.old.scope calls frame.old.values) log.old log.new end) }
     ensures fewer { IfOk result (IsWithinCalls calls) }
     ensures frame { OnOk result (frame.new ≡ frame.old) }
 {
@@ -328,15 +314,9 @@ fn eval_match(
     log: &mut Seq<Event>,
 ) -> Result<SourceEnd, AllocError>
     ensures gives { IfOk result (λ end. (k : ℕ) → calls ≤ k
-        → Gives (then_do (meaning_of program.now
-        (call_within program.now k) frame.old.fun scrutinee.now None frame.old.scope calls frame.old.values)
-        (λ v rest. after (Matched frame.old.fun at ∷ [])
-        (first_of program.now.types (inferred_type program.now.types program.now.funs scrutinee.now None
-        frame.old.scope) (map (clause_meaning program.now (call_within program.now k) frame.old.fun) clauses.now)
-        wanted (Some (match_type program.now.types wanted
-        (map (clause_inferred program.now.types program.now.funs) clauses.now)
-        (inferred_type program.now.types program.now.funs scrutinee.now None frame.old.scope) frame.old.scope))
-        frame.old.scope v rest frame.old.values))) log.old log.new end) }
+        → Gives (meaning_of program.now (call_within program.now k) frame.old.fun
+        (X.Match at scrutinee.now clauses.now) wanted
+        frame.old.scope calls frame.old.values) log.old log.new end) }
     ensures fewer { IfOk result (IsWithinCalls calls) }
     ensures frame { OnOk result (frame.new ≡ frame.old) }
 {

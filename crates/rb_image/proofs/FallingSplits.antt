@@ -2,16 +2,13 @@
 -- there too.
 use Rattle.std.proofs.Common.{◌≡◌, ℕ, suc, nat_eq, inl, inr, map, List, [], ◌∷◌, ◌++◌, Bool, true, false, Option, Some, None, Result, Ok, refl, sym, subst, ap, ◌∙◌}
 use Rattle.std.specs.Prelude.{slice_get, if◌then◌else◌}
-use Rattle.std.specs.List.{flat_map}
 use Rattle.std.proofs.lemmas.Option.{same_Some}
 use Rattle.rb_core.specs.declared.layout_decl.Loc.{Loc}
 use Rattle.rb_bytes.specs.Memory.{Memory}
 use Rattle.rb_layout.specs.declared.layout.FlatTree.{FlatTree, Split, Leaf}
-use Rattle.rb_layout.specs.declared.layout.FlatTree.TheFolds.{fold-roll-FlatArm}
 use Rattle.rb_layout.specs.declared.layout.FlatArm.{FlatArm}
 use Rattle.rb_layout.specs.A7.{IsAbove}
-use Rattle.rb_layout.specs.Splits.{Test, Is, IsNone, Route, behind, Under, arm_routes, else_routes, literals_of, routes_step, routes_arm, routes_of, routes_under}
-use Rattle.rb_layout.proofs.FlatForms as F
+use Rattle.rb_layout.specs.Splits.{Test, Is, IsNone, Route, behind, Under, arm_routes, else_routes, literals_of, routes_of, routes_under}
 use Rattle.rb_layout.proofs.FlatForms.{Each, tree-induction}
 use Rattle.rb_rel.proofs.Lists.{get-append, get-left, get-mapped, get-right}
 use Rattle.rb_coding.specs.Arms.{under_number}
@@ -19,6 +16,7 @@ use Rattle.rb_coding.specs.inner.Leading.{Leads}
 use Rattle.rb_coding.proofs.SplitLemmas.{leaf_only, turn}
 use Rattle.rb_image_text.specs.declared.fault.ImageFault.{ImageFault}
 use Rattle.rb_image_text.specs.declared.image.ImageBlock.{ImageBlock}
+use Rattle.rb_coding.proofs.SplitLemmas.{arms_routes, other_routes, tree_routes, under_is}
 use Rattle.rb_image.specs.declared.kept.Kept.{Kept}
 use Rattle.rb_image.specs.Splits.{leaf_at}
 use Rattle.rb_image.proofs.FallingWords.{HasRange}
@@ -28,21 +26,6 @@ use Rattle.rb_image.proofs.WalkLemmas.{leaf_walk, split_turn}
 abbrev pub loc_of : Test → Loc
 loc_of (Is loc c) = loc
 loc_of (IsNone loc cs) = loc
-
-under_is : (a : FlatArm) → routes_under a ≡ record { literal = a.literal; of = routes_of a.under }
-unfolding denote.Hole.Carrier.roll
-under_is a = fold-roll-FlatArm (List Route) (Under (List Route)) routes_step routes_arm (record { literal = a.literal; under = a.under })
-
-abbrev other_routes : Option FlatTree → Option (List Route)
-other_routes None = None
-other_routes (Some t) = Some (routes_of t)
-
-abbrev arms_routes : Loc → List FlatArm → List Route
-arms_routes loc arms = flat_map (arm_routes loc) (map routes_under arms)
-
-tree_routes : (loc : Loc) (arms : List FlatArm) (other : Option FlatTree) → routes_of (Split loc arms other) ≡ arms_routes loc arms ++ else_routes loc (literals_of (map routes_under arms)) (other_routes other)
-tree_routes loc arms None = F.fold-Split (List Route) (Under (List Route)) routes_step routes_arm loc arms
-tree_routes loc arms (Some t) = F.fold-Split-else (List Route) (Under (List Route)) routes_step routes_arm loc arms t
 
 -- a route that stands among others, behind a test of this location
 record IsBehind (loc : Loc) (r : Route) (rs : List Route) : Type 0 where

@@ -32,7 +32,6 @@ pub mod LookLemmas
 pub mod MatchLemmas
 pub mod Members
 pub mod NarrowLeaves
-pub mod OpenLemmas
 pub mod OrderLemmas
 pub mod PackedWords
 pub mod PartWords

@@ -1,35 +1,16 @@
 -- What is left of the span of a tree of splits below one of them.
-use Rattle.std.proofs.Common.{◌≡◌, ℕ, ◌+◌, ◌≤◌, nat_eq, map, length, List, [], ◌∷◌, ◌++◌, Bool, true, false, Option, Some, None, sym, ap, ◌∙◌, arith}
-use Rattle.std.specs.Prelude.{is_some, if◌then◌else◌}
-use Rattle.std.specs.List.{flat_map, sum_by}
+use Rattle.std.proofs.Common.{◌≡◌, ℕ, ◌+◌, ◌≤◌, nat_eq, length, List, [], ◌∷◌, ◌++◌, Bool, true, false, Option, Some, None, sym, ap, ◌∙◌, arith}
+use Rattle.std.specs.Prelude.{if◌then◌else◌}
+use Rattle.std.specs.List.{sum_by}
 use Rattle.std.proofs.lemmas.List.Sums.{sum_by-append, sum_by-cons}
 use Rattle.std.proofs.lemmas.Option.{same_Some}
 use Rattle.rb_core.specs.declared.layout_decl.Loc.{Loc}
 use Rattle.rb_layout.specs.declared.layout.FlatTree.{FlatTree, Split}
-use Rattle.rb_layout.specs.declared.layout.FlatTree.TheFolds.{fold-roll-FlatArm}
 use Rattle.rb_layout.specs.declared.layout.FlatArm.{FlatArm}
-use Rattle.rb_layout.specs.Splits.{Under, literals_of, SplitAt, splits_or_none, splits_step, splits_arm, splits_of, splits_under}
-use Rattle.rb_layout.proofs.FlatForms as F
+use Rattle.rb_layout.specs.Splits.{Under, SplitAt, splits_or_none, splits_of, splits_under}
 use Rattle.rb_coding.specs.Arms.{under_number}
+use Rattle.rb_coding.proofs.SplitLemmas.{arms_splits, other_splits, split_of, splits_is, tree_splits}
 use Rattle.rb_image.specs.Spans.{split_span, tree_span}
-
-splits_is : (a : FlatArm) → splits_under a ≡ record { literal = a.literal; of = splits_of a.under }
-unfolding denote.Hole.Carrier.roll
-splits_is a = fold-roll-FlatArm (List SplitAt) (Under (List SplitAt)) splits_step splits_arm (record { literal = a.literal; under = a.under })
-
-abbrev other_splits : Option FlatTree → Option (List SplitAt)
-other_splits None = None
-other_splits (Some t) = Some (splits_of t)
-
-abbrev arms_splits : List FlatArm → List SplitAt
-arms_splits arms = flat_map (λ arm. arm.of) (map splits_under arms)
-
-abbrev split_at : Loc → List FlatArm → Option FlatTree → SplitAt
-split_at loc arms other = record { loc = loc; literals = literals_of (map splits_under arms); other = is_some (other_splits other) }
-
-tree_splits : (loc : Loc) (arms : List FlatArm) (other : Option FlatTree) → splits_of (Split loc arms other) ≡ split_at loc arms other ∷ (arms_splits arms ++ splits_or_none (other_splits other))
-tree_splits loc arms None = F.fold-Split (List SplitAt) (Under (List SplitAt)) splits_step splits_arm loc arms
-tree_splits loc arms (Some t) = F.fold-Split-else (List SplitAt) (Under (List SplitAt)) splits_step splits_arm loc arms t
 
 abbrev total : List SplitAt → ℕ
 total splits = sum_by split_span splits
@@ -57,7 +38,7 @@ the_span : (tree : FlatTree) (loc : Loc) (arms : List FlatArm) (other : Option F
     → tree_span tree ≡ 1 + length loc.steps + (total (arms_splits arms) + total (splits_or_none (other_splits other)))
 the_span tree loc arms other is =
     ap total (ap splits_of is ∙ tree_splits loc arms other)
-    ∙ sum_by-cons split_span (split_at loc arms other) (arms_splits arms ++ splits_or_none (other_splits other))
+    ∙ sum_by-cons split_span (split_of loc arms other) (arms_splits arms ++ splits_or_none (other_splits other))
     ∙ ap (λ n. 1 + length loc.steps + n) (sum_by-append split_span (arms_splits arms) (splits_or_none (other_splits other)))
 
 -- a split itself takes no more than the span of its tree

@@ -13,12 +13,13 @@ use crate::kept::{Kept, Place};
 use crate::order::Spot;
 use crate::parts::kept_at;
 use crate::splits::range_of;
-use rb_coding::lookup::word_count;
+use rb_core::inference::types_of_fields;
 use rb_core::pattern::Pat;
 use rb_core::seq::Seq;
 use rb_core::types::{ConRef, DataDecl, Ty};
 use rb_image_text::image::ImageBlock;
 use rb_layout::layout::{Kind, Layout};
+use rb_rel::words::word_count;
 use std::alloc::{AllocError, Global};
 
 /// A leaf that was examined: the types and layouts that it is over, the image's blocks, the place's words, the leaf's
@@ -74,19 +75,6 @@ impl<'a> Examined<'a> {
             words.push(self.word(path, number as u64))?;
         }
         Ok(words)
-    }
-}
-
-/// The types of the fields of a constructor.
-pub(crate) fn fields_of(types: &[DataDecl], con: ConRef) -> &[Ty]
-    ensures { result.now ≡ types_or_none (fields_of types.now con) }
-{
-    match types.get(con.ty as usize) {
-        None => &[],
-        Some(data) => match data.cons.get(con.con as usize) {
-            None => &[],
-            Some(con) => con.fields.as_slice(),
-        },
     }
 }
 
@@ -146,7 +134,7 @@ pub(crate) fn add_places(
         Pat::Var(_, _) => add_place(alloc, examined, ty, path, places),
         Pat::Num(_, _) => Ok(()),
         Pat::Con(_, con, pats) => {
-            let tys = fields_of(examined.types, *con);
+            let tys = types_of_fields(examined.types, *con);
             add_fields(alloc, examined, pats.as_slice(), tys, path, places)
         }
     }

@@ -4,7 +4,7 @@ ghost use Rattle.std.specs.Prelude.{◌≡◌, slice_get};
 ghost use Rattle.std.specs.Option.{option_copied};
 ghost use Rattle.rb_image.specs.Fields.{field_of, position_or_none, with_type};
 
-use crate::below::fields_of;
+use rb_core::inference::types_of_fields;
 use rb_core::pattern::Pat;
 use rb_core::types::{DataDecl, Ty};
 
@@ -46,7 +46,7 @@ pub fn field_of<'a>(types: &[DataDecl], pat: &'a Pat, field: u32) -> Option<Insi
         Pat::Var(_, _) => None,
         Pat::Num(_, _) => None,
         Pat::Con(_, con, pats) => {
-            let ty = type_at(fields_of(types, *con), field);
+            let ty = type_at(types_of_fields(types, *con), field);
             paired(pats.get(field as usize), ty)
         }
     }

@@ -119,7 +119,6 @@ pub mod leaf_words;
 pub mod look;
 mod matching;
 pub mod memory;
-mod opens;
 mod order;
 mod pack;
 mod parts;

@@ -10,7 +10,6 @@ ghost use Rattle.rb_image_text.specs.declared.fault.ImageFault.TheVariants.{Memo
 
 use crate::arrival::take_apart;
 use crate::below::longer;
-use crate::opens::field_number;
 use crate::view::View;
 use crate::walk::open_data;
 use rb_core::pattern::Pat;
@@ -19,6 +18,7 @@ use rb_image_text::fault::ImageFault;
 use rb_image_text::image::Image;
 use rb_layout::agreed::Agreed;
 use rb_layout::layout::Leaf;
+use rb_layout::numbers::number_of;
 use std::alloc::Global;
 
 fn same_con(con: ConRef, other: ConRef) -> bool
@@ -101,7 +101,7 @@ fn match_fields(
 {
     let types = agreed.covered().program().types.as_slice();
     for (i, pat) in pats.iter().enumerate() {
-        let field = field_number(i)?;
+        let field = number_of(i)?;
         let at = longer(alloc, view.at, field as usize)?;
         let Some(below) = view.down(image, types, at.as_slice(), field) else {
             return Ok(false);

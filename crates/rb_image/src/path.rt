@@ -14,12 +14,12 @@ ghost use Rattle.rb_image_text.specs.Places.{AreInPlace};
 use crate::check::{fault_of, words_of};
 use crate::fields::root_sites;
 use crate::walk::{Walk, tell_orderly, walk_along};
-use rb_coding::lookup::word_count;
 use rb_core::types::Ty;
 use rb_edge::steps::{Ledger, Steps};
 use rb_image_text::fault::ImageFault;
 use rb_image_text::image::Image;
 use rb_layout::agreed::Agreed;
+use rb_rel::words::word_count;
 use std::alloc::Global;
 
 /// Tells that the program is typed.

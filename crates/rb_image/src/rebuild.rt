@@ -5,13 +5,13 @@ ghost use Rattle.rb_image.specs.Given.{IsGiven};
 ghost use Rattle.rb_image.specs.Rebuilds as spec;
 ghost use Rattle.rb_image.specs.Views.{integer_here, words_here};
 ghost use Rattle.rb_image.specs.Walks.{ArePassed, where_of};
-ghost use Rattle.rb_image.specs.inner.Standing.{IsShown, opens_at, shown};
+ghost use Rattle.rb_layout.specs.Opens.{opens_at};
+ghost use Rattle.rb_image.specs.inner.Standing.{IsShown, shown};
 ghost use Rattle.rb_image_text.specs.Places.{AreInPlace};
 
 use crate::arrival::along;
 use crate::kept::Kept;
 use crate::matching::choose;
-use crate::opens::{OpenAt, opens};
 use crate::pack::{FieldWords, pack_all};
 use crate::view::View;
 use crate::walk::Walk;
@@ -22,6 +22,7 @@ use rb_core::types::Ty;
 use rb_image_text::fault::ImageFault;
 use rb_image_text::image::Image;
 use rb_layout::agreed::Agreed;
+use rb_layout::opens::{OpenPosition, opens};
 use std::alloc::{AllocError, Global};
 
 /// The numbers of words.
@@ -104,7 +105,7 @@ fn fields_at<'a>(
     agreed: &'a Agreed,
     image: &Image,
     depth: usize,
-    opens: &[OpenAt],
+    opens: &[OpenPosition],
     view: &View<'a>,
 ) -> Result<Seq<FieldWords>, ImageFault>
     requires placed { AreInPlace image.now.blocks }

@@ -14,10 +14,10 @@ use crate::integers::integer_at;
 use crate::kept::Kept;
 use crate::leaf_words::LeafWords;
 use crate::order::{Spot, order_of};
-use rb_coding::lookup::word_count;
 use rb_core::types::{DataDecl, Ty};
 use rb_image_text::image::Image;
 use rb_layout::layout::{Layout, Leaf};
+use rb_rel::words::word_count;
 use std::alloc::{AllocError, Global};
 
 /// A position in a leaf: the leaf and its words, the path of field numbers from its root, and what its provenance has

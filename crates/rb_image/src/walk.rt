@@ -15,7 +15,6 @@ ghost use Rattle.rb_image_text.specs.Places.{AreInPlace};
 use crate::inside::{Inside, field_of};
 use crate::site::Site;
 use crate::visit::{Visited, visit};
-use rb_coding::lookup::word_count;
 use rb_core::pattern::Pat;
 use rb_core::seq::Seq;
 use rb_core::types::Ty;
@@ -23,6 +22,7 @@ use rb_edge::steps::{Ledger, Steps};
 use rb_image_text::fault::ImageFault;
 use rb_image_text::image::Image;
 use rb_layout::agreed::Agreed;
+use rb_rel::words::word_count;
 use std::alloc::Global;
 
 /// A subvalue of a data type on a path: its type, the sites of its words, its leaf with the words of that, and the path

@@ -2,6 +2,7 @@
 use Rattle.std.proofs.Common.{◌≡◌, ℕ, List, [], ◌∷◌, map, Some, None, subst}
 use denote.Hole.Holds.{Such}
 use Rattle.rb_core.specs.declared.layout_decl.Loc.{Loc}
+pub use Rattle.rb_core.proofs.LayoutInduction.{Each}
 use Rattle.rb_layout.specs.declared.layout.FlatArm.{FlatArm, FlatArm-F}
 use Rattle.rb_layout.specs.declared.layout.FlatTree.{FlatTree}
 use Rattle.rb_layout.specs.declared.layout.FlatTree as X
@@ -26,11 +27,6 @@ module _ (A B : Type 0) (step : FlatTree-F A B → A) (arm_step : FlatArm-F A B 
       ≡ step (Layer.Split loc (map (fold-FlatArm A B step arm_step) arms) (Some (fold-FlatTree A B step arm_step other)))
   unfolding X.roll-FlatTree denote.Hole.Carrier.roll
   fold-Split-else loc arms other = fold-roll-FlatTree A B step arm_step (Layer.Split loc arms (Some other))
-
--- of each of a list
-abbrev pub Each : {A : Type 0} → (A → Type 0) → List A → Type 0
-Each P [] = Unit {0}
-Each P (x ∷ xs) = P x × Each P xs
 
 -- what holds of each tree where it holds of what stands below it
 pub record TreeCases (P : FlatTree → Type 0) : Type 0 where

@@ -2,6 +2,7 @@ pub mod Disjoint
 pub mod FlatForms
 pub mod WrittenForms
 pub mod Walks
+pub mod OpenLemmas
 pub mod LayingLemmas
 pub mod TreeLemmas
 pub mod LayoutLists
@@ -25,3 +26,4 @@ pub mod FindLemmas
 pub mod SettleLemmas
 pub mod Excluding
 pub mod ShortCycles
+pub mod GraphLemmas

@@ -1,4 +1,5 @@
 pub mod Positions
+pub mod Opens
 pub mod Words
 pub mod Locations
 pub mod Excluded
@@ -9,6 +10,7 @@ pub mod Readable
 pub mod Each
 pub mod Pointers
 pub mod Cycles
+pub mod Graphs
 pub mod A1
 pub mod A2
 pub mod A3

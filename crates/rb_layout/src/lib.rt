@@ -14,6 +14,8 @@
 //! has two words: one with bits 0 up to 64 of field `.0`, one with word 0 of field `.1`. Inner blocks
 //! have lower numbers than the blocks that point to them, so who builds them in the order of their
 //! numbers has each address when it is needed.
+//!
+//! `opens::opens` lists the open positions of a provenance, here `.0` and `.1`, each with its type.
 #![tactic(auto)]
 
 pub mod agreed;
@@ -26,10 +28,13 @@ pub mod flat_layouts;
 mod flat_leaf;
 mod flat_tree;
 mod goals;
+pub mod graphs;
 pub mod known;
 pub mod laws;
 pub mod layout;
 pub mod locate;
+pub mod numbers;
+pub mod opens;
 mod part_goals;
 pub mod positions;
 mod settling;

@@ -7,6 +7,7 @@ ghost use Rattle.rb_layout.specs.Positions.{open_positions, root_type, types_or_
 ghost use Rattle.rb_layout.specs.Flattening.{type_at};
 ghost use Rattle.rb_layout.specs.inner.Walking.{HasNoSub, HasSub, walked};
 
+use rb_core::inference::types_of_fields;
 use rb_core::pattern::Pat;
 use rb_core::types::{ConRef, DataDecl, Ty};
 
@@ -37,8 +38,8 @@ fn walk(types: &[DataDecl], prov: &Pat, root: Ty, path: &[u32]) -> Option<Ty>
     }
 }
 
-// The type that a provenance is of.
-fn type_of_root(prov: &Pat) -> Ty
+/// The type that a provenance is of.
+pub fn type_of_root(prov: &Pat) -> Ty
     ensures { result ≡ root_type (out-Pat prov.now) }
 {
     match prov {
@@ -48,16 +49,11 @@ fn type_of_root(prov: &Pat) -> Ty
 }
 
 // The type of a constructor's field, if it is there.
+#[tactic(auto, using(crate::proofs::OpenLemmas::fields_same))]
 fn field_type(types: &[DataDecl], con: ConRef, field: u32) -> Option<Ty>
     ensures { result ≡ slice_get (types_or_none (fields_of types.now con)) field }
 {
-    let Some(data) = types.get(con.ty as usize) else {
-        return None;
-    };
-    match data.cons.get(con.con as usize) {
-        None => None,
-        Some(con) => con.fields.get(field as usize).copied(),
-    }
+    types_of_fields(types, con).get(field as usize).copied()
 }
 
 // The subpattern for a field, with its type.

@@ -1,7 +1,7 @@
 -- A completed program: it has what is derived for each type that is left to the compiler, and is well numbered.
-use Rattle.std.proofs.Common.{◌≡◌, ℕ, zero, suc, ◌+◌, ◌<◌, Bool, true, false, ◌&&◌, ◌||◌, cond, not, List, [], ◌∷◌, ◌++◌, map, length, nat_eq, nat_lt, Option, Some, None, Ok, Err, IfOk, Result, refl, sym, ◌∙◌, ap, subst, arith, slice_get, codes}
-use Rattle.std.proofs.lemmas.Bool.{eq-eqb, eqb-true, ltb-true}
-use Rattle.std.proofs.lemmas.List.{append_assoc, length-map, map-append}
+use Rattle.std.proofs.Common.{◌≡◌, ℕ, zero, suc, ◌+◌, ◌<◌, Bool, true, false, ◌||◌, cond, not, List, [], ◌∷◌, ◌++◌, map, length, nat_eq, nat_lt, Option, Some, None, Ok, Err, IfOk, Result, refl, sym, ◌∙◌, ap, subst, arith, slice_get, codes}
+use Rattle.std.proofs.lemmas.Bool.{eq-eqb, ltb-true}
+use Rattle.std.proofs.lemmas.List.{append_assoc, map-append}
 use Rattle.std.proofs.lemmas.Option.{same_Some}
 use Rattle.std.specs.List.{list_any, list_all}
 use Rattle.std.specs.Prelude.{◌==◌, if◌then◌else◌}
@@ -12,7 +12,6 @@ use Rattle.rb_core.specs.declared.program.Program.{Program}
 use Rattle.rb_core.specs.declared.layout_decl.LayoutDecl.{LayoutDecl}
 use Rattle.rb_core.specs.WellNumbered.{IsWellNumbered, is_distinct, layout_is_numbered}
 use Rattle.rb_layout.specs.Flattening.{decl_of}
-use Rattle.rb_syntax.specs.declared.tree.ItemTree.{ItemTree}
 use Rattle.rb_syntax.specs.declared.tree.FileTree.{FileTree}
 use Rattle.rb_auto.specs.Answers.{Derives, IsAnswer}
 use Rattle.rb_auto.specs.Completed.{Completes, completed}
@@ -25,7 +24,7 @@ use Rattle.rb_names.specs.declared.tables.Tables.{Tables}
 use Rattle.rb_names.specs.Tables.{Name, Table, meaning}
 use Rattle.rb_names.specs.Definitions.{defined_twice, numbered_from, tables_of, type_names}
 use Rattle.rb_names.specs.Programs.{main_number, no_twice, numbered, numbered_items}
-use Rattle.rb_names.specs.Completing.{AreDerived, IsCompleted, IsDerived, IsWhole, first_refusal, kinds_of, layouts_in, left_in, left_types, numbers_of, with_number}
+use Rattle.rb_names.specs.Completing.{AreDerived, IsCompleted, IsWhole, first_refusal, kinds_of, layouts_in, left_in, left_types, numbers_of, with_number}
 use Rattle.rb_names.specs.inner.Deriving.{IsAllDerived, IsWith}
 use Rattle.rb_names.proofs.Inverting.{then-ok, ok-is}
 use Rattle.rb_names.proofs.DistinctNumbers.{AreDistinct, IsIn, IsNotIn, apart-from-front, other-way, without-distinct}

@@ -1,9 +1,8 @@
 -- What holds of all that is written from a place on, and then of what is written from the next place on, holds behind each part.
-use Rattle.std.proofs.Common.{◌≡◌, ℕ, suc, ◌^◌, nat_lt, List, [], ◌∷◌, map, Bool, true, false, Option, Some, None, refl, sym, subst}
+use Rattle.std.proofs.Common.{ℕ, suc, ◌^◌, nat_lt, List, [], ◌∷◌, map, Bool, true, false, subst}
 use Rattle.rb_syntax.specs.declared.token.Token.{Token}
 use Rattle.rb_syntax.specs.declared.token.Token.TheVariants as tok
 use Rattle.rb_syntax.specs.declared.token.Symbol.TheVariants as symbol
-use Rattle.rb_syntax.specs.declared.tree.NameTree.{NameTree}
 use Rattle.rb_syntax.specs.declared.tree.TyTree.{TyTree}
 use Rattle.rb_syntax.specs.declared.tree.TyTree.TheVariants as ty
 use Rattle.rb_syntax.specs.declared.tree.ConTree.{ConTree}
@@ -25,8 +24,8 @@ use Rattle.rb_syntax.specs.declared.tree.FunTree.{FunTree}
 use Rattle.rb_syntax.specs.declared.tree.LayoutTree.{LayoutTree}
 use Rattle.rb_syntax.specs.declared.tree.ItemTree.{ItemTree}
 use Rattle.rb_syntax.specs.declared.tree.ItemTree.TheVariants as top
-use Rattle.rb_syntax.specs.Written.{Written, Writing, token, number, node, checked, each, each_behind, some_with, any_with}
-use Rattle.rb_syntax.specs.Spelling.{Deep, at_level, is_width, uint_written, ty_written, fields_written, pat_written, expr_written, clause_written, con_written, type_written, param_written, fun_written, layout_written, item_written, split_written, arm_written, range_written, field_written, path_written, loc_step_written, loc_written, lay_item_written, kind_written, part_written, below_written, prov_written, root_checked, width_written}
+use Rattle.rb_syntax.specs.Written.{Written, Writing, token, checked, each, each_behind, some_with, any_with}
+use Rattle.rb_syntax.specs.Spelling.{at_level, is_width, uint_written, ty_written, fields_written, pat_written, expr_written, clause_written, con_written, type_written, param_written, fun_written, layout_written, item_written, split_written, arm_written, range_written, field_written, path_written, loc_step_written, loc_written, lay_item_written, kind_written, part_written, below_written, prov_written, root_checked, width_written}
 use Rattle.rb_syntax.proofs.SpellingLemmas as spelled
 use Rattle.rb_syntax.proofs.LayoutSpelling as shapes
 use Rattle.rb_core.proofs.LayoutInduction as layouts

@@ -1,9 +1,7 @@
 -- What was found where numbering found something.
-use Rattle.std.proofs.Common.{◌≡◌, ℕ, suc, List, [], ◌∷◌, map, length, Option, Some, None, Ok, Err, refl, sym, ◌∙◌, ap, subst}
+use Rattle.std.proofs.Common.{◌≡◌, Option, Some, None, Ok, Err, refl}
 use Rattle.rb_syntax.specs.declared.tree.NameTree.{NameTree}
-use Rattle.rb_names.specs.declared.fault.NameFault.{NameFault}
-use Rattle.rb_names.specs.Numbering.{Resolved, and_then, all_of, known, Numbered, Numbering, numbered_as, in_turn}
-use Rattle.rb_names.specs.Scopes.{Scope}
+use Rattle.rb_names.specs.Numbering.{Resolved, and_then, known}
 
 pub then-ok : {A B : Type 0} (r : Resolved A) (f : A → Resolved B) (y : B) → and_then r f ≡ Ok y → (x : A) × (r ≡ Ok x) × (f x ≡ Ok y)
 then-ok (Ok x) f y e = (x, refl, e)

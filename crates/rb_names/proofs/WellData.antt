@@ -1,7 +1,6 @@
 -- The types of a file that was read are well numbered.
-use Rattle.std.proofs.Common.{◌≡◌, ℕ, zero, suc, ◌+◌, ◌-◌, ◌<◌, ◌≤◌, List, [], ◌∷◌, ◌++◌, map, length, Bool, true, false, ◌&&◌, nat_lt, nat_le, Option, Some, None, Ok, Err, refl, sym, ◌∙◌, ap, subst, arith}
+use Rattle.std.proofs.Common.{◌≡◌, ℕ, ◌<◌, List, [], ◌∷◌, map, length, Bool, true, false, ◌&&◌, nat_lt, nat_le, Some, Ok, refl, ◌∙◌, ap, arith}
 use Rattle.std.proofs.lemmas.Grind.{common_steps}
-use Rattle.std.proofs.lemmas.List.{length-map}
 use Rattle.std.specs.List.{list_all}
 use Rattle.rb_core.specs.declared.types.Ty.{Ty}
 use Rattle.rb_core.specs.declared.types.Con.{Con}
@@ -13,21 +12,20 @@ use Rattle.rb_syntax.specs.declared.token.Symbol.TheVariants as symbol
 use Rattle.rb_syntax.specs.declared.tree.TyTree.{TyTree}
 use Rattle.rb_syntax.specs.declared.tree.ConTree.{ConTree}
 use Rattle.rb_syntax.specs.declared.tree.TypeTree.{TypeTree}
-use Rattle.rb_syntax.specs.declared.tree.FunTree.{FunTree}
 use Rattle.rb_syntax.specs.declared.tree.ItemTree.{ItemTree}
 use Rattle.rb_syntax.specs.declared.tree.ItemTree.TheVariants as top
-use Rattle.rb_syntax.specs.Written.{Written, Writing, token, number, node, flaw, tokens_in, HaveNoFlaw, AreNumbered, each, each_behind, some_with}
+use Rattle.rb_syntax.specs.Written.{Written, token, number, node, flaw, tokens_in, each, each_behind, some_with}
 use Rattle.rb_syntax.specs.Spelling.{ty_written, fields_written, con_written, type_written, item_written}
 use Rattle.rb_names.specs.declared.tables.Tables.{Tables}
 use Rattle.rb_names.specs.declared.items.Items.{Items}
 use Rattle.rb_names.specs.Tables.{Name, meaning}
 use Rattle.rb_names.specs.Definitions.{types_in, functions_in, tables_of}
-use Rattle.rb_names.specs.Numbering.{Resolved, and_then, all_of, numbered_type, numbered_constructor, numbered_data, numbered_function}
+use Rattle.rb_names.specs.Numbering.{all_of, numbered_type, numbered_constructor, numbered_data, numbered_function}
 use Rattle.rb_names.specs.Programs.{numbered_items}
 use Rattle.rb_names.specs.Written.{AreNamed, con_is_counted, type_is_counted, item_is_counted, AreCounted}
 use Rattle.rb_names.proofs.Rising.{Right}
 use Rattle.rb_names.proofs.Inverting.{then-ok, ok-is}
-use Rattle.rb_names.proofs.Dropping.{con-drops, data-drops, item-drops}
+use Rattle.rb_names.proofs.Dropping.{con-drops, item-drops}
 use Rattle.rb_names.proofs.WellNames.{all-cons, all-nil, all-length, items-types, items-functions, known_type}
 use Rattle.rb_names.proofs.WellTypes.{TypeWell, type-well}
 

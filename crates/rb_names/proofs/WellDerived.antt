@@ -1,8 +1,7 @@
 -- Derived layouts are well numbered.
-use Rattle.std.proofs.Common.{◌≡◌, ℕ, zero, suc, ◌+◌, ◌*◌, ◌^◌, ◌<◌, ◌≤◌, List, [], ◌∷◌, ◌++◌, map, length, Bool, true, false, ◌&&◌, nat_lt, nat_le, is_some, Option, Some, None, refl, sym, ◌∙◌, ap, subst, arith}
+use Rattle.std.proofs.Common.{◌≡◌, ℕ, zero, suc, ◌+◌, ◌*◌, ◌^◌, ◌<◌, ◌≤◌, List, [], ◌∷◌, map, length, Bool, true, false, nat_lt, nat_le, is_some, Option, Some, None, refl, sym, ◌∙◌, ap, subst, arith}
 use Rattle.std.proofs.lemmas.Grind.{common_steps}
 use Rattle.std.proofs.lemmas.Bool.{leb-true}
-use Rattle.std.proofs.lemmas.List.{length-append, length-map}
 use Rattle.std.proofs.lemmas.List.Sums.{sum_by-cons}
 use Rattle.std.specs.Prelude.{slice_get, if◌then◌else◌}
 use Rattle.std.specs.List.{list_all, sum_by}
@@ -10,21 +9,18 @@ use Rattle.rb_core.specs.declared.types.Ty.{Ty}
 use Rattle.rb_core.specs.declared.types.Con.{Con}
 use Rattle.rb_core.specs.declared.types.ConRef.{ConRef}
 use Rattle.rb_core.specs.declared.types.DataDecl.{DataDecl}
-use Rattle.rb_core.specs.declared.pattern.Pat.{Pat}
 use Rattle.rb_core.specs.declared.pattern.Pat.TheVariants as P
-use Rattle.rb_core.specs.declared.pattern.Pat.TheFolds.{fold-Pat}
 use Rattle.rb_core.specs.declared.program.Program.{Program}
 use Rattle.rb_core.specs.declared.layout_decl.LayItem.{LayItem}
 use Rattle.rb_core.specs.declared.layout_decl.LayItem.TheVariants as I
 use Rattle.rb_core.specs.declared.layout_decl.PartDecl.{PartDecl}
 use Rattle.rb_core.specs.declared.layout_decl.PartKind.{PartKind}
 use Rattle.rb_core.specs.declared.layout_decl.PartKind.TheVariants as K
-use Rattle.rb_core.specs.declared.layout_decl.Arm.{Arm}
 use Rattle.rb_core.specs.declared.layout_decl.LayTree.TheVariants as S
 use Rattle.rb_core.specs.Layouts as lay
 use Rattle.rb_core.specs.Layouts.{WrittenLeaf, leaves, provenances, is_short, written, written_path, leaf_is_short, is_short_layout}
 use Rattle.rb_core.specs.Values.{fields_in, fields_of_con}
-use Rattle.rb_core.specs.WellNumbered.{IsWellNumbered, below_step, is_constructor, layout_is_numbered, may_be_below, pattern_is_numbered, pattern_step, Below, provenance_is_numbered}
+use Rattle.rb_core.specs.WellNumbered.{IsWellNumbered, below_step, is_constructor, layout_is_numbered, may_be_below, pattern_step, Below, provenance_is_numbered}
 use Rattle.rb_core.proofs.PatternLaws.{fold-Wild}
 use Rattle.rb_layout.proofs.FlatForms as flat
 use Rattle.rb_auto.specs.declared.field_words.FieldWord.{FieldWord}
@@ -33,7 +29,7 @@ use Rattle.rb_auto.specs.declared.form.Form.TheVariants.{Boxed, Packed}
 use Rattle.rb_auto.specs.declared.room.Room.{Room}
 use Rattle.rb_auto.specs.Fields.{cons_in, cons_of}
 use Rattle.rb_auto.specs.FieldWords.{content, content_in, words_of}
-use Rattle.rb_auto.specs.Items.{block_items, boxed_parts, field_item, form_parts, form_tag, form_width, group_item, groups, leaf_items, packed_parts, part, parts_from, pointer_parts, tag_parts, whole_word}
+use Rattle.rb_auto.specs.Items.{block_items, boxed_parts, field_item, form_parts, form_tag, form_width, group_item, groups, leaf_items, packed_parts, part, parts_from, pointer_parts, whole_word}
 use Rattle.rb_auto.specs.Derived.{arms_from, derived, leaf, provenance, tag_loc, tree_of}
 use Rattle.rb_auto.proofs.Leaves.{leaves_from, tree-leaves}
 use Rattle.rb_auto.proofs.Lists.{IsGroup, are-groups, few-groups}
@@ -41,7 +37,7 @@ use Rattle.rb_auto.proofs.Numbering.{TypeIsSmall, type-is-small, words-count}
 use Rattle.rb_names.specs.declared.tables.Tables.{Tables}
 use Rattle.rb_names.specs.Tables.{Name, meaning}
 use Rattle.rb_names.proofs.WellLists.{Each, both, each-passes, length-of-map}
-use Rattle.rb_names.proofs.WellLeaves.{OfItem, counted, counted-all, counted-Const, counted-part, counted-PartWord, counted-Pointer, counted-Whole, counted-Word, few-short, kind_counted, part_counted, short-round}
+use Rattle.rb_names.proofs.WellLeaves.{counted, counted-all, counted-Const, counted-part, counted-PartWord, counted-Pointer, counted-Whole, counted-Word, few-short, kind_counted, part_counted, short-round}
 use Rattle.rb_names.proofs.WellLayouts.{short-arm, short-Leaf, short-None, tree_short, under_short}
 use Rattle.rb_names.proofs.WellProvenances.{IsBelow, con-good, short-of}
 

@@ -1,11 +1,10 @@
 -- Expressions of a file that was read are well numbered, and the numbers of their matches rise.
-use Rattle.std.proofs.Common.{◌≡◌, ℕ, suc, ◌+◌, ◌-◌, ◌^◌, ◌<◌, ◌≤◌, List, [], ◌∷◌, ◌++◌, map, length, Bool, true, false, ◌&&◌, ◌||◌, nat_lt, nat_eq, is_some, if◌then◌else◌, cond, Option, Some, None, Ok, Err, refl, sym, ◌∙◌, ap, subst, arith}
+use Rattle.std.proofs.Common.{◌≡◌, ℕ, suc, ◌+◌, ◌^◌, ◌<◌, ◌≤◌, List, [], ◌∷◌, ◌++◌, map, length, Bool, true, false, ◌&&◌, ◌||◌, nat_lt, nat_eq, if◌then◌else◌, cond, Option, Some, Ok, refl, sym, ◌∙◌, ap, subst, arith}
 use Rattle.std.proofs.lemmas.Grind.{common_steps}
 use Rattle.std.proofs.lemmas.List.Folds.{list_any-append}
 use Rattle.std.proofs.lemmas.Slice.Eq.{bytes_eq-Decides}
-use Rattle.std.specs.List.{list_any, list_all, flat_map}
+use Rattle.std.specs.List.{list_any}
 use Rattle.std.specs.Str.{bytes_eq}
-use Rattle.rb_core.specs.declared.types.Ty.{Ty}
 use Rattle.rb_core.specs.declared.types.Ty.TheVariants as core_ty
 use Rattle.rb_core.specs.declared.types.ConRef.{ConRef}
 use Rattle.rb_core.specs.declared.types.DataDecl.{DataDecl}
@@ -17,7 +16,7 @@ use Rattle.rb_core.specs.declared.expression.Expr.{Expr}
 use Rattle.rb_core.specs.declared.expression.Expr as C
 use Rattle.rb_core.specs.declared.expression.Expr.TheOpen as E
 use Rattle.rb_core.specs.declared.expression.Expr.TheOpen.{Expr-F, Clause-F}
-use Rattle.rb_core.specs.declared.expression.Expr.TheFolds.{fold-Expr, fold-Clause, fold-roll-Expr, fold_out-Clause}
+use Rattle.rb_core.specs.declared.expression.Expr.TheFolds.{fold-Clause, fold-roll-Expr, fold_out-Clause}
 use Rattle.rb_core.specs.Layouts.{is_short}
 use Rattle.rb_core.specs.WellNumbered as well
 use Rattle.rb_core.specs.WellNumbered.{Within, is_between, is_constructor, is_type, all_within, all_tokens, expression_step, expression_is_numbered, matches_step, clause_matches, match_tokens, pattern_is_numbered, vars_of}
@@ -32,18 +31,18 @@ use Rattle.rb_syntax.specs.declared.tree.PatTree.{PatTree}
 use Rattle.rb_syntax.specs.declared.tree.ClauseTree.{ClauseTree}
 use Rattle.rb_syntax.specs.declared.tree.ExprTree.{ExprTree}
 use Rattle.rb_syntax.specs.declared.tree.ExprTree as X
-use Rattle.rb_syntax.specs.Written.{Written, Writing, token, number, node, tokens_in, HaveNoFlaw, AreNumbered, each_behind, any_with, some_with}
-use Rattle.rb_syntax.specs.Spelling.{Deep, at_level, fields_written, op_word, reserved, ty_written, uint_written, pat_written, expr_written, clause_written}
+use Rattle.rb_syntax.specs.Written.{Written, Writing, token, number, node, tokens_in, each_behind, any_with, some_with}
+use Rattle.rb_syntax.specs.Spelling.{fields_written, op_word, reserved, ty_written, uint_written, pat_written, expr_written, clause_written}
 use Rattle.rb_syntax.proofs.SpellingLemmas as spelled
-use Rattle.rb_syntax.proofs.ExpressionInduction.{Each, EachBody, Cases, induction}
+use Rattle.rb_syntax.proofs.ExpressionInduction.{Each, EachBody, induction}
 use Rattle.rb_names.specs.declared.tables.Tables.{Tables}
 use Rattle.rb_names.specs.Tables.{Name, meaning}
 use Rattle.rb_names.specs.Scopes.{Scope, inside, with_name, with_names, names_in, binders_of}
-use Rattle.rb_names.specs.Numbering.{Resolved, and_then, known, Numbered, Numbering, numbered_as, in_turn, numbered_type, numbered_pattern, numbered_expression, numbered_clause}
+use Rattle.rb_names.specs.Numbering.{known, Numbered, Numbering, in_turn, numbered_type, numbered_pattern, numbered_expression, numbered_clause}
 use Rattle.rb_names.proofs.ExpressionEquations as numbering
 use Rattle.rb_names.proofs.Rising.{Rise, rise-wider, rise-append, Right, place}
 use Rattle.rb_names.proofs.Inverting.{then-ok, known-ok, ok-is}
-use Rattle.rb_names.proofs.WellTypes.{TypeWell, type-well, checked-right}
+use Rattle.rb_names.proofs.WellTypes.{TypeWell, type-well}
 use Rattle.rb_names.proofs.WellPatterns.{at_level-map, and-both, any-left, any-right, or-cases, length-map, short-list, moved, PatternWell, pattern-well}
 
 abbrev comma : Token

@@ -1,5 +1,5 @@
 -- Functions of a file that was read are well numbered.
-use Rattle.std.proofs.Common.{◌≡◌, ℕ, suc, ◌+◌, ◌-◌, ◌^◌, ◌<◌, ◌≤◌, List, [], ◌∷◌, ◌++◌, map, length, Bool, true, false, ◌&&◌, ◌||◌, nat_lt, nat_le, nat_eq, Option, Some, None, Ok, Err, refl, sym, ◌∙◌, ap, subst, arith}
+use Rattle.std.proofs.Common.{◌≡◌, ℕ, suc, ◌^◌, ◌<◌, ◌≤◌, List, [], ◌∷◌, map, length, Bool, true, false, ◌||◌, nat_lt, nat_le, nat_eq, Some, Ok, refl, sym, ◌∙◌, ap, subst, arith}
 use Rattle.std.proofs.lemmas.Grind.{common_steps}
 use Rattle.std.specs.List.{list_any, list_all}
 use Rattle.std.specs.Str.{bytes_eq}
@@ -11,16 +11,15 @@ use Rattle.rb_core.specs.declared.program.Fun.{Fun}
 use Rattle.rb_core.specs.WellNumbered.{is_constructor, is_lower, is_type, param_is_numbered, function_is_numbered, match_tokens}
 use Rattle.rb_syntax.specs.declared.token.Token.{Token}
 use Rattle.rb_syntax.specs.declared.token.Token.TheVariants as tok
-use Rattle.rb_syntax.specs.declared.token.Word.TheVariants as word
 use Rattle.rb_syntax.specs.declared.token.Symbol.TheVariants as symbol
 use Rattle.rb_syntax.specs.declared.tree.ParamTree.{ParamTree}
 use Rattle.rb_syntax.specs.declared.tree.FunTree.{FunTree}
-use Rattle.rb_syntax.specs.Written.{Written, Writing, token, number, tokens_in, HaveNoFlaw, AreNumbered, each_behind, any_with}
-use Rattle.rb_syntax.specs.Spelling.{reserved, ty_written, param_written, expr_written, fun_written}
+use Rattle.rb_syntax.specs.Written.{Written, token, tokens_in, each_behind, any_with}
+use Rattle.rb_syntax.specs.Spelling.{ty_written, param_written, expr_written, fun_written}
 use Rattle.rb_names.specs.declared.tables.Tables.{Tables}
 use Rattle.rb_names.specs.Tables.{Name, meaning}
-use Rattle.rb_names.specs.Scopes.{Scope, inside, with_names, param_binders}
-use Rattle.rb_names.specs.Numbering.{Resolved, and_then, all_of, known, Numbered, numbered_type, numbered_expression, numbered_param, numbered_function}
+use Rattle.rb_names.specs.Scopes.{Scope, inside, param_binders}
+use Rattle.rb_names.specs.Numbering.{all_of, known, numbered_type, numbered_expression, numbered_param, numbered_function}
 use Rattle.rb_names.proofs.Rising.{Rise, rise-wider, Right, place}
 use Rattle.rb_names.proofs.Inverting.{then-ok, known-ok, ok-is}
 use Rattle.rb_names.proofs.WellTypes.{TypeWell, type-well}

@@ -1,26 +1,25 @@
 -- The functions of a file that was read are well numbered, and the numbers of their matches rise.
-use Rattle.std.proofs.Common.{◌≡◌, ℕ, suc, ◌+◌, ◌-◌, ◌^◌, ◌<◌, ◌≤◌, List, [], ◌∷◌, ◌++◌, map, length, Bool, true, false, ◌&&◌, nat_lt, nat_le, Option, Some, None, Ok, Err, refl, sym, ◌∙◌, ap, subst, arith}
+use Rattle.std.proofs.Common.{◌≡◌, ℕ, ◌^◌, ◌<◌, ◌≤◌, List, [], ◌∷◌, map, length, Bool, true, false, ◌&&◌, nat_lt, nat_le, Some, Ok, refl, subst, arith}
 use Rattle.std.proofs.lemmas.Grind.{common_steps}
 use Rattle.std.specs.List.{list_all, flat_map}
 use Rattle.rb_core.specs.declared.types.ConRef.{ConRef}
 use Rattle.rb_core.specs.declared.types.DataDecl.{DataDecl}
 use Rattle.rb_core.specs.declared.program.Fun.{Fun}
 use Rattle.rb_core.specs.WellNumbered.{is_constructor, function_is_numbered, match_tokens}
-use Rattle.rb_syntax.specs.declared.tree.NameTree.{NameTree}
 use Rattle.rb_syntax.specs.declared.tree.ItemTree.{ItemTree}
 use Rattle.rb_syntax.specs.declared.tree.ItemTree.TheVariants as top
-use Rattle.rb_syntax.specs.Written.{Written, Writing, token, number, node, flaw, tokens_in, HaveNoFlaw, AreNumbered, each}
-use Rattle.rb_syntax.specs.Spelling.{fun_written, item_written}
+use Rattle.rb_syntax.specs.Written.{Written, token, number, node, flaw, tokens_in, each}
+use Rattle.rb_syntax.specs.Spelling.{item_written}
 use Rattle.rb_syntax.specs.declared.token.Token.{Token}
 use Rattle.rb_syntax.specs.declared.token.Token.TheVariants as tok
 use Rattle.rb_names.specs.declared.tables.Tables.{Tables}
 use Rattle.rb_names.specs.declared.items.Items.{Items}
 use Rattle.rb_names.specs.Tables.{Name, meaning}
-use Rattle.rb_names.specs.Numbering.{Resolved, and_then, known, numbered_data, numbered_layout, numbered_function}
+use Rattle.rb_names.specs.Numbering.{known, numbered_data, numbered_layout, numbered_function}
 use Rattle.rb_names.specs.Programs.{numbered_items}
 use Rattle.rb_names.specs.Written.{AreNamed, item_is_counted}
 use Rattle.rb_names.proofs.Rising.{Rise, rise-wider, rise-append, Right, place}
-use Rattle.rb_names.proofs.Inverting.{then-ok, known-ok, ok-is}
+use Rattle.rb_names.proofs.Inverting.{then-ok, ok-is}
 use Rattle.rb_names.proofs.Dropping.{item-drops}
 use Rattle.rb_names.proofs.WellPatterns.{and-both}
 use Rattle.rb_names.proofs.WellFunctions.{FunctionWell, function-well}

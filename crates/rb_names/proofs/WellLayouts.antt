@@ -1,5 +1,5 @@
 -- Layouts of a file that was read are well numbered.
-use Rattle.std.proofs.Common.{◌≡◌, ℕ, zero, suc, ◌+◌, ◌-◌, ◌^◌, ◌<◌, ◌≤◌, List, [], ◌∷◌, ◌++◌, map, length, Bool, true, false, ◌&&◌, nat_lt, nat_le, Option, Some, None, Ok, Err, refl, sym, ◌∙◌, ap, subst, arith}
+use Rattle.std.proofs.Common.{◌≡◌, ℕ, suc, ◌+◌, ◌^◌, ◌<◌, ◌≤◌, List, [], ◌∷◌, ◌++◌, map, length, Bool, true, nat_lt, Option, Some, None, Ok, refl, sym, ◌∙◌, ap, subst, arith}
 use Rattle.std.proofs.lemmas.Grind.{common_steps}
 use Rattle.std.proofs.lemmas.List.Sums.{sum_by-cons}
 use Rattle.std.specs.List.{list_all, flat_map, sum_by}
@@ -15,9 +15,8 @@ use Rattle.rb_core.specs.declared.layout_decl.LayTree as L
 use Rattle.rb_core.specs.declared.layout_decl.LayTree.TheOpen as T
 use Rattle.rb_core.specs.declared.layout_decl.LayTree.TheFolds.{fold-LayTree, fold-Arm, fold-roll-LayTree, fold_out-Arm}
 use Rattle.rb_core.specs.declared.layout_decl.LayoutDecl.{LayoutDecl}
-use Rattle.rb_core.specs.Layouts.{WrittenLeaf, leaves, leaves_under, leaves_step, arm_leaves, provenances, is_short, leaf_is_short, tree_step, arm_is_short, is_short_layout}
+use Rattle.rb_core.specs.Layouts.{WrittenLeaf, leaves, leaves_under, leaves_step, arm_leaves, provenances, is_short, leaf_is_short, tree_step, arm_is_short}
 use Rattle.rb_core.specs.WellNumbered.{is_constructor, is_between, provenance_is_numbered, layout_is_numbered}
-use Rattle.rb_syntax.specs.declared.token.Token.{Token}
 use Rattle.rb_syntax.specs.declared.token.Token.TheVariants as tok
 use Rattle.rb_syntax.specs.declared.token.Word.TheVariants as word
 use Rattle.rb_syntax.specs.declared.token.Symbol.TheVariants as symbol
@@ -28,8 +27,8 @@ use Rattle.rb_syntax.specs.declared.tree.SplitTree as S
 use Rattle.rb_syntax.specs.declared.tree.SplitTree.TheOpen as split
 use Rattle.rb_syntax.specs.declared.tree.SplitTree.TheFolds.{fold-roll-SplitTree, fold_out-ArmTree}
 use Rattle.rb_syntax.specs.declared.tree.LayoutTree.{LayoutTree}
-use Rattle.rb_syntax.specs.Written.{Written, Writing, token, number, node, flaw, tokens_in, each, some_with}
-use Rattle.rb_syntax.specs.Spelling.{Deep, at_level, comma, prov_written, loc_step_written, loc_written, lay_item_written, split_written, arm_written, width_written, layout_written}
+use Rattle.rb_syntax.specs.Written.{Written, Writing, token, number, node, tokens_in, each, some_with}
+use Rattle.rb_syntax.specs.Spelling.{comma, prov_written, loc_step_written, loc_written, lay_item_written, split_written, arm_written, width_written, layout_written}
 use Rattle.rb_syntax.proofs.SpellingLemmas.{arm-is, split-Leaf, split-None, split-Some}
 use Rattle.rb_names.specs.declared.tables.Tables.{Tables}
 use Rattle.rb_names.specs.Tables.{Name, meaning}
@@ -38,7 +37,7 @@ use Rattle.rb_names.proofs.Rising.{Right}
 use Rattle.rb_names.proofs.Inverting.{then-ok, known-ok, ok-is}
 use Rattle.rb_core.proofs.LayoutInduction as lay-items
 use Rattle.rb_syntax.proofs.SplitInduction as induction
-use Rattle.rb_names.proofs.WellLists.{Each, each-of, each-passes, both, length-of-map, all-ok, off-token, off-number, off-node, right-as, Is, Fine, is-as, Are, AreWell, are-each, are-some}
+use Rattle.rb_names.proofs.WellLists.{Each, each-of, each-passes, both, length-of-map, off-token, off-number, off-node, right-as, Fine, is-as, are-each, are-some}
 use Rattle.rb_names.proofs.WellProvenances.{at_level-of, short-of, both-of, provenance-well}
 use Rattle.rb_names.proofs.WellLeaves.{leaf-well}
 

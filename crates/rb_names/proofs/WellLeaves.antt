@@ -1,8 +1,8 @@
 -- Items of layouts of a file that was read: no more items and parts than tokens, and each list is short.
-use Rattle.std.proofs.Common.{◌≡◌, ℕ, zero, suc, ◌+◌, ◌-◌, ◌^◌, ◌<◌, ◌≤◌, List, [], ◌∷◌, ◌++◌, map, length, Bool, true, false, ◌&&◌, nat_lt, Ok, Err, refl, sym, ◌∙◌, ap, subst, arith}
+use Rattle.std.proofs.Common.{◌≡◌, ℕ, suc, ◌+◌, ◌^◌, ◌<◌, ◌≤◌, List, [], ◌∷◌, map, length, true, nat_lt, Ok, refl, ◌∙◌, ap, subst, arith}
 use Rattle.std.proofs.lemmas.Grind.{common_steps}
 use Rattle.std.proofs.lemmas.List.Sums.{sum_by-cons}
-use Rattle.std.specs.List.{list_all, sum_by}
+use Rattle.std.specs.List.{sum_by}
 use Rattle.rb_core.specs.declared.layout_decl.PartDecl.{PartDecl}
 use Rattle.rb_core.specs.declared.layout_decl.PartKind.{PartKind}
 use Rattle.rb_core.specs.declared.layout_decl.PartKind as K
@@ -10,22 +10,21 @@ use Rattle.rb_core.specs.declared.layout_decl.LayItem.{LayItem}
 use Rattle.rb_core.specs.declared.layout_decl.LayItem as I
 use Rattle.rb_core.specs.declared.layout_decl.LayItem.TheViews as V
 use Rattle.rb_core.specs.declared.layout_decl.LayItem.TheOpen as item
-use Rattle.rb_core.specs.declared.layout_decl.LayItem.TheFolds.{fold-LayItem, fold-PartKind, fold-PartDecl, fold-roll-LayItem, fold-roll-PartKind, fold_out-PartDecl}
+use Rattle.rb_core.specs.declared.layout_decl.LayItem.TheFolds.{fold-PartKind, fold-PartDecl, fold-roll-LayItem, fold-roll-PartKind, fold_out-PartDecl}
 use Rattle.rb_core.specs.Layouts as lay
 use Rattle.rb_core.specs.Layouts.{is_short, written, written_round, written_path, kind_step, part_step, item_step, leaf_is_short}
-use Rattle.rb_syntax.specs.declared.token.Token.{Token}
 use Rattle.rb_syntax.specs.declared.token.Token.TheVariants as tok
 use Rattle.rb_syntax.specs.declared.token.Word.TheVariants as word
 use Rattle.rb_syntax.specs.declared.token.Symbol.TheVariants as symbol
-use Rattle.rb_syntax.specs.Written.{Written, Writing, token, number, node, flaw, tokens_in, each, any_with, some_with}
-use Rattle.rb_syntax.specs.Spelling.{Deep, at_level, comma, range_written, field_written, path_written, kind_written, part_written, lay_item_written}
+use Rattle.rb_syntax.specs.Written.{Written, Writing, token, node, tokens_in, any_with, some_with}
+use Rattle.rb_syntax.specs.Spelling.{comma, range_written, field_written, path_written, kind_written, part_written, lay_item_written}
 use Rattle.rb_syntax.proofs.LayoutSpelling.{item-Word, item-Inline, part-is, kind-Const, kind-Whole, kind-Slice, kind-Word, kind-Pointer}
-use Rattle.rb_names.specs.Numbering.{Resolved, all_of}
+use Rattle.rb_names.specs.Numbering.{Resolved}
 use Rattle.rb_names.proofs.Rising.{Right}
 use Rattle.rb_names.proofs.Inverting.{ok-is}
 use Rattle.rb_names.proofs.WellTypes.{checked-right}
 use Rattle.rb_core.proofs.LayoutInduction as induction
-use Rattle.rb_names.proofs.WellLists.{Each, each-of, each-passes, both, length-of-map, all-ok, off-token, off-number, off-node, right-as, Is, Fine, is-as, Are, AreWell, are-each, are-any, are-some}
+use Rattle.rb_names.proofs.WellLists.{Each, each-passes, both, length-of-map, all-ok, off-token, off-node, right-as, Fine, is-as, are-each, are-any, are-some}
 use Rattle.rb_names.proofs.WellProvenances.{at_level-of, short-of}
 
 -- an item, a kind and a part as they are counted

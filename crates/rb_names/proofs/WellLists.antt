@@ -1,10 +1,10 @@
 -- Lists of parts of a file that was read: how many there are, and that each is well numbered.
-use Rattle.std.proofs.Common.{◌≡◌, ℕ, zero, suc, ◌+◌, ◌<◌, ◌≤◌, List, [], ◌∷◌, ◌++◌, map, length, Bool, true, false, ◌&&◌, Ok, Err, refl, sym, ◌∙◌, ap, subst, arith}
+use Rattle.std.proofs.Common.{◌≡◌, ℕ, suc, ◌+◌, ◌<◌, ◌≤◌, List, [], ◌∷◌, map, length, Bool, true, ◌&&◌, Ok, refl, ap, subst, arith}
 use Rattle.std.proofs.lemmas.List.Sums.{sum_by-cons}
 use Rattle.std.specs.List.{list_all, sum_by}
 use Rattle.rb_syntax.specs.declared.token.Token.{Token}
-use Rattle.rb_syntax.specs.Written.{Written, Writing, token, number, node, tokens_in, HaveNoFlaw, AreNumbered, each, each_behind, some_with, any_with}
-use Rattle.rb_names.specs.Numbering.{Resolved, and_then, all_of}
+use Rattle.rb_syntax.specs.Written.{Written, Writing, token, number, node, tokens_in, each, each_behind, some_with, any_with}
+use Rattle.rb_names.specs.Numbering.{Resolved, all_of}
 use Rattle.rb_names.proofs.Rising.{Right}
 use Rattle.rb_names.proofs.Inverting.{then-ok, ok-is}
 

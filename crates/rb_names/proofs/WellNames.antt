@@ -1,8 +1,8 @@
 -- What names of a file stand for is in the program, and no two of its names are equal.
-use Rattle.std.proofs.Common.{◌≡◌, ℕ, zero, suc, ◌+◌, ◌<◌, ◌≤◌, cond, List, [], ◌∷◌, ◌++◌, map, length, Bool, true, false, ◌&&◌, ◌||◌, not, nat_lt, nat_eq, is_some, Option, Some, None, Ok, Err, refl, sym, ◌∙◌, ap, subst, arith, slice_get, codes}
+use Rattle.std.proofs.Common.{◌≡◌, ℕ, zero, suc, ◌+◌, ◌<◌, ◌≤◌, cond, List, [], ◌∷◌, ◌++◌, map, length, Bool, true, false, ◌&&◌, ◌||◌, not, nat_lt, nat_eq, is_some, Option, Some, None, Ok, refl, sym, ◌∙◌, ap, arith, slice_get, codes}
 use Rattle.std.proofs.lemmas.Grind.{common_steps}
 use Rattle.std.proofs.lemmas.List.{length-map, append_assoc, append-nil}
-use Rattle.std.specs.List.{list_any, list_all, flat_map}
+use Rattle.std.specs.List.{list_any, flat_map}
 use Rattle.std.specs.Str.{bytes_eq}
 use Rattle.std.specs.Cmp.Lexicographic.{bytes_decides}
 use Rattle.std.proofs.lemmas.Cmp.{nat_list_eq_equiv}
@@ -11,13 +11,12 @@ use Rattle.rb_core.specs.declared.types.Con.{Con}
 use Rattle.rb_core.specs.declared.types.DataDecl.{DataDecl}
 use Rattle.rb_core.specs.declared.program.Fun.{Fun}
 use Rattle.rb_core.specs.declared.layout_decl.LayoutDecl.{LayoutDecl}
-use Rattle.rb_core.specs.Values.{fields_of_con, fields_in, fields_of}
+use Rattle.rb_core.specs.Values.{fields_of_con, fields_in}
 use Rattle.rb_core.specs.WellNumbered.{is_constructor, is_distinct, con_names}
 use Rattle.rb_syntax.specs.declared.tree.NameTree.{NameTree}
 use Rattle.rb_syntax.specs.declared.tree.ConTree.{ConTree}
 use Rattle.rb_syntax.specs.declared.tree.TypeTree.{TypeTree}
 use Rattle.rb_syntax.specs.declared.tree.FunTree.{FunTree}
-use Rattle.rb_syntax.specs.declared.tree.LayoutTree.{LayoutTree}
 use Rattle.rb_syntax.specs.declared.tree.ItemTree.{ItemTree}
 use Rattle.rb_syntax.specs.declared.tree.ItemTree.TheVariants as top
 use Rattle.rb_names.specs.declared.tables.Tables.{Tables}
@@ -27,7 +26,7 @@ use Rattle.rb_names.specs.Scopes.{param_binders, inside}
 use Rattle.rb_names.specs.Definitions.{Kind, OfType, OfConstructor, OfFunction, OfLayout, Definition, same_kind, same_definition, constructor_definition, layout_definition, definitions, first_again, defined_twice, types_in, functions_in, numbered_from, constructors_from, constructors_of, type_names, function_names, tables_of}
 use Rattle.rb_names.specs.Numbering.{Resolved, and_then, all_of, known, numbered_type, numbered_constructor, numbered_data, numbered_split, numbered_layout, numbered_function, numbered_param, numbered_expression}
 use Rattle.rb_names.specs.Programs.{with_type, with_layout, with_function, numbered_items, main_number}
-use Rattle.rb_names.specs.Completing.{left_in, numbers_of, with_number}
+use Rattle.rb_names.specs.Completing.{left_in, numbers_of}
 use Rattle.rb_names.proofs.DefiningLemmas.{any-append}
 use Rattle.rb_names.proofs.DistinctNumbers.{AreDistinct, front-distinct, moved-distinct, moved-not-in}
 use Rattle.rb_names.proofs.Inverting.{then-ok, known-ok, ok-is}

@@ -1,5 +1,5 @@
 -- Patterns of a file that was read are well numbered.
-use Rattle.std.proofs.Common.{◌≡◌, ℕ, suc, ◌+◌, ◌-◌, ◌^◌, ◌<◌, ◌≤◌, List, [], ◌∷◌, ◌++◌, map, length, Bool, true, false, ◌&&◌, ◌||◌, nat_lt, nat_eq, is_some, Option, Some, None, Ok, Err, refl, sym, ◌∙◌, ap, subst, arith}
+use Rattle.std.proofs.Common.{◌≡◌, ℕ, suc, ◌+◌, ◌^◌, ◌<◌, ◌≤◌, List, [], ◌∷◌, ◌++◌, map, length, Bool, true, false, ◌&&◌, ◌||◌, nat_eq, Option, Some, Ok, refl, sym, ◌∙◌, ap, subst, arith}
 use Rattle.std.proofs.lemmas.Grind.{common_steps}
 use Rattle.std.proofs.lemmas.List.Folds.{list_any-append}
 use Rattle.std.proofs.lemmas.Slice.Eq.{bytes_eq-Decides}
@@ -18,14 +18,14 @@ use Rattle.rb_syntax.specs.declared.token.Symbol.TheVariants as symbol
 use Rattle.rb_syntax.specs.declared.tree.NameTree.{NameTree}
 use Rattle.rb_syntax.specs.declared.tree.PatTree.{PatTree}
 use Rattle.rb_syntax.specs.declared.tree.PatTree as P
-use Rattle.rb_syntax.specs.Written.{Written, Writing, token, number, node, tokens_in, HaveNoFlaw, AreNumbered, each_behind}
+use Rattle.rb_syntax.specs.Written.{Written, Writing, token, number, node, tokens_in, each_behind}
 use Rattle.rb_syntax.specs.Spelling.{Deep, at_level, fields_written, pat_written}
 use Rattle.rb_syntax.proofs.SpellingLemmas.{pat-Wild, pat-Var, pat-Num, pat-Con}
-use Rattle.rb_syntax.proofs.PatternInduction.{Each, Cases, induction}
+use Rattle.rb_syntax.proofs.PatternInduction.{Each, induction}
 use Rattle.rb_names.specs.declared.tables.Tables.{Tables}
 use Rattle.rb_names.specs.Tables.{Name, meaning}
 use Rattle.rb_names.specs.Scopes.{Scope, names_in}
-use Rattle.rb_names.specs.Numbering.{Resolved, and_then, all_of, known, numbered_pattern}
+use Rattle.rb_names.specs.Numbering.{Resolved, all_of, known, numbered_pattern}
 use Rattle.rb_names.proofs.PatternEquations.{names-Wild, names-Var, names-Num, names-Con, pattern-Wild, pattern-Var, pattern-Num, pattern-Con}
 use Rattle.rb_names.proofs.Rising.{Right}
 use Rattle.rb_names.proofs.Inverting.{then-ok, known-ok, ok-is}

@@ -1,30 +1,28 @@
 -- The program of a file that was read is well numbered.
-use Rattle.std.proofs.Common.{◌≡◌, ℕ, suc, ◌-◌, ◌^◌, ◌<◌, ◌≤◌, List, [], ◌∷◌, map, length, Bool, true, false, ◌&&◌, nat_lt, nat_le, Option, Some, None, Ok, Err, IfOk, refl, sym, ◌∙◌, ap, subst, arith}
+use Rattle.std.proofs.Common.{◌≡◌, ℕ, ◌^◌, ◌<◌, ◌≤◌, List, [], ◌∷◌, map, length, true, nat_lt, nat_le, Option, Some, None, Ok, Err, IfOk, refl, sym, ap, subst, arith}
 use Rattle.std.proofs.lemmas.Grind.{common_steps}
 use Rattle.std.specs.Prelude.{codes}
-use Rattle.std.specs.List.{list_all, flat_map}
+use Rattle.std.specs.List.{list_all}
 use Rattle.rb_core.specs.declared.types.ConRef.{ConRef}
 use Rattle.rb_core.specs.declared.types.DataDecl.{DataDecl}
-use Rattle.rb_core.specs.declared.program.Fun.{Fun}
 use Rattle.rb_core.specs.declared.program.Program.{Program}
-use Rattle.rb_core.specs.declared.layout_decl.LayoutDecl.{LayoutDecl}
-use Rattle.rb_core.specs.WellNumbered.{is_constructor, layout_is_numbered, match_tokens, IsWellNumbered}
+use Rattle.rb_core.specs.WellNumbered.{is_constructor, layout_is_numbered, IsWellNumbered}
 use Rattle.rb_syntax.specs.declared.token.Token.{Token}
 use Rattle.rb_syntax.specs.declared.tree.NameTree.{NameTree}
 use Rattle.rb_syntax.specs.declared.tree.ItemTree.{ItemTree}
 use Rattle.rb_syntax.specs.declared.tree.ItemTree.TheVariants as top
 use Rattle.rb_syntax.specs.declared.tree.FileTree.{FileTree}
-use Rattle.rb_syntax.specs.Written.{Written, tokens_in, HaveNoFlaw, AreNumbered, each}
-use Rattle.rb_syntax.specs.Spelling.{file_written, item_written}
+use Rattle.rb_syntax.specs.Written.{Written, tokens_in, each}
+use Rattle.rb_syntax.specs.Spelling.{item_written}
 use Rattle.rb_names.specs.declared.tables.Tables.{Tables}
 use Rattle.rb_names.specs.declared.items.Items.{Items}
 use Rattle.rb_names.specs.Answers.{Answers}
 use Rattle.rb_names.specs.Tables.{Name, meaning}
 use Rattle.rb_names.specs.Definitions.{tables_of, defined_twice}
-use Rattle.rb_names.specs.Numbering.{Resolved, and_then, known, numbered_data, numbered_layout, numbered_function}
+use Rattle.rb_names.specs.Numbering.{Resolved, known, numbered_data, numbered_layout, numbered_function}
 use Rattle.rb_names.specs.Programs.{numbered_items, no_twice, main_number, numbered}
-use Rattle.rb_names.specs.Written.{AreNamed, AreCounted, IsWritten, item_is_counted}
-use Rattle.rb_names.proofs.Rising.{Rise, rise-distinct, Right, place}
+use Rattle.rb_names.specs.Written.{AreNamed, IsWritten, item_is_counted}
+use Rattle.rb_names.proofs.Rising.{rise-distinct, Right, place}
 use Rattle.rb_names.proofs.Inverting.{then-ok, ok-is}
 use Rattle.rb_names.proofs.WellPatterns.{and-both}
 use Rattle.rb_names.proofs.WellNames as names

@@ -1,5 +1,5 @@
 -- Provenances of a file that was read are well numbered.
-use Rattle.std.proofs.Common.{◌≡◌, ℕ, zero, suc, ◌+◌, ◌-◌, ◌^◌, ◌<◌, ◌≤◌, List, [], ◌∷◌, ◌++◌, map, length, Bool, true, false, ◌&&◌, nat_lt, is_some, Option, Some, None, Ok, Err, refl, sym, ◌∙◌, ap, subst, arith}
+use Rattle.std.proofs.Common.{◌≡◌, ℕ, suc, ◌+◌, ◌^◌, ◌<◌, ◌≤◌, List, [], ◌∷◌, map, length, Bool, true, false, ◌&&◌, Some, Ok, refl, sym, ◌∙◌, ap, subst, arith}
 use Rattle.std.proofs.lemmas.Grind.{common_steps}
 use Rattle.std.specs.List.{list_all}
 use Rattle.rb_core.specs.declared.types.ConRef.{ConRef}
@@ -10,23 +10,22 @@ use Rattle.rb_core.specs.declared.pattern.Pat.TheFolds.{fold-Pat}
 use Rattle.rb_core.specs.Layouts.{is_short}
 use Rattle.rb_core.specs.WellNumbered.{is_constructor, pattern_is_numbered, pattern_step, Below, either, may_be_below, below_step, is_provenance, provenance_is_numbered}
 use Rattle.rb_core.proofs.PatternLaws.{fold-Wild, fold-Con}
-use Rattle.rb_syntax.specs.declared.token.Token.{Token}
 use Rattle.rb_syntax.specs.declared.token.Token.TheVariants as tok
 use Rattle.rb_syntax.specs.declared.token.Symbol.TheVariants as symbol
 use Rattle.rb_syntax.specs.declared.tree.NameTree.{NameTree}
 use Rattle.rb_syntax.specs.declared.tree.PatTree.{PatTree}
 use Rattle.rb_syntax.specs.declared.tree.PatTree as P
-use Rattle.rb_syntax.specs.Written.{Written, Writing, token, number, node, flaw, tokens_in, HaveNoFlaw, AreNumbered, each_behind}
+use Rattle.rb_syntax.specs.Written.{Written, Writing, token, number, node, flaw, tokens_in, each_behind}
 use Rattle.rb_syntax.specs.Spelling.{Deep, at_level, comma, fields_written, below_written, prov_written}
 use Rattle.rb_syntax.proofs.LayoutSpelling.{below-Wild, below-Var, below-Num, below-Con}
 use Rattle.rb_syntax.proofs.PatternInduction as pattern
 use Rattle.rb_names.specs.declared.tables.Tables.{Tables}
 use Rattle.rb_names.specs.Tables.{Name, meaning}
-use Rattle.rb_names.specs.Numbering.{Resolved, and_then, all_of, known, numbered_pattern}
+use Rattle.rb_names.specs.Numbering.{all_of, known, numbered_pattern}
 use Rattle.rb_names.proofs.PatternEquations.{pattern-Wild, pattern-Con}
 use Rattle.rb_names.proofs.Rising.{Right}
 use Rattle.rb_names.proofs.Inverting.{then-ok, known-ok, ok-is}
-use Rattle.rb_names.proofs.WellLists.{Each, each-of, each-passes, both, length-of-map, off-token, off-number, off-node, right-as, Is, Fine, is-as, Are, AreWell, are-behind, are-any}
+use Rattle.rb_names.proofs.WellLists.{Each, each-of, each-passes, both, length-of-map, off-token, off-number, off-node, right-as, Is, Fine, is-as, Are, are-any}
 
 pub at_level-of : {A : Type 0} (w : A → Deep) (l : ℕ) (xs : List A) → at_level l (map w xs) ≡ map (λ x. w x l) xs
 at_level-of w l [] = refl

@@ -75,6 +75,7 @@ pub fn number_expression<'a>(
     }
 }
 
+// The expression of a tree, in a box.
 #[cycle(expression)]
 fn number_boxed<'a>(
     alloc: Global,
@@ -112,6 +113,7 @@ fn number_inside<'a>(
     Ok(expr)
 }
 
+// The expressions of trees, from left to right.
 #[cycle(expression)]
 fn number_expressions<'a>(
     alloc: Global,
@@ -132,6 +134,7 @@ fn number_expressions<'a>(
     Ok(exprs)
 }
 
+// The clauses of a match, in their order.
 #[cycle(expression)]
 fn number_clauses<'a>(
     alloc: Global,

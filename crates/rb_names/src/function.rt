@@ -70,6 +70,7 @@ fn bind_params<'a>(frame: &mut Frame<'a>, trees: &'a [ParamTree]) -> Result<(), 
     Ok(())
 }
 
+// A parameter with the numbers of its variable and of its type.
 fn number_param(
     alloc: Global,
     tables: &Tables,
@@ -87,6 +88,7 @@ fn number_param(
     })
 }
 
+// The parameters of a function, in their order.
 fn number_params(
     alloc: Global,
     tables: &Tables,

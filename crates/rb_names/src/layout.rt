@@ -5,12 +5,12 @@ ghost use Rattle.rb_names.specs.Answers.{Answers};
 ghost use Rattle.rb_names.specs.Numbering.{all_of, numbered_arm, numbered_layout, numbered_split};
 
 use crate::fault::{NameFault, known};
-use crate::layout_items::copy_items;
 use crate::pattern::number_pattern;
 use crate::scope::Scope;
 use crate::tables::Tables;
 use rb_core::boxed::Boxed;
 use rb_core::layout_decl::{Arm, LayTree, LayoutDecl};
+use rb_core::layout_items::copy_items;
 use rb_core::seq::Seq;
 use rb_syntax::tree::{ArmTree, LayoutTree, SplitTree};
 use std::alloc::Global;
@@ -38,6 +38,7 @@ pub fn number_layout(
     })
 }
 
+// The tree of a layout, with numbers in the provenances of its leaves.
 #[cycle(splitting)]
 fn number_split(alloc: Global, tables: &Tables, tree: &SplitTree) -> Result<LayTree, NameFault>
     ensures { Answers result (numbered_split tables.now tree.now) }
@@ -63,6 +64,7 @@ fn number_split(alloc: Global, tables: &Tables, tree: &SplitTree) -> Result<LayT
     }
 }
 
+// The arms of a split, in their order.
 #[cycle(splitting)]
 fn number_arms(alloc: Global, tables: &Tables, trees: &[ArmTree]) -> Result<Seq<Arm>, NameFault>
     ensures { Answers result (all_of (map (numbered_arm tables.now) trees.now)) }
@@ -75,6 +77,7 @@ fn number_arms(alloc: Global, tables: &Tables, trees: &[ArmTree]) -> Result<Seq<
     Ok(arms)
 }
 
+// An arm of a split: its literal stays.
 #[cycle(splitting)]
 fn number_arm(alloc: Global, tables: &Tables, tree: &ArmTree) -> Result<Arm, NameFault>
     ensures { Answers result (numbered_arm tables.now tree.now) }

@@ -35,7 +35,6 @@ mod frame;
 mod function;
 mod items;
 mod layout;
-mod layout_items;
 mod left;
 mod pattern;
 mod scope;
@@ -67,6 +66,7 @@ pub fn resolve(alloc: Global, tree: &FileTree) -> Result<Program, NameFault>
     number_file(alloc, tree)
 }
 
+// The program of a tree, or the first fault of its names.
 fn number_file(alloc: Global, tree: &FileTree) -> Result<Program, NameFault>
     ensures { Answers result (numbered tree.now) }
 {

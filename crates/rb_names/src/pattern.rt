@@ -59,6 +59,7 @@ fn bind_names<'a>(frame: &mut Frame<'a>, tree: &'a PatTree) -> Result<(), NameFa
     }
 }
 
+// The variables of several patterns, from left to right.
 #[cycle(binding)]
 fn bind_all_names<'a>(frame: &mut Frame<'a>, trees: &'a [PatTree]) -> Result<(), NameFault>
     ensures ok { OnOk result (frame.new ≡ with_binders frame.old (flat_map names_in trees.now)) }
@@ -100,6 +101,7 @@ pub fn number_pattern(
     }
 }
 
+// The patterns of trees, from left to right.
 #[cycle(numbering)]
 fn number_patterns(
     alloc: Global,

@@ -84,6 +84,7 @@ fn add_type_name<'a>(types: &mut Table<'a, u32>, item: &'a ItemTree) -> Result<(
     }
 }
 
+// Puts what an item defines into the tables: the constructors of a type, a function, or a layout.
 fn define_item<'a>(
     alloc: Global,
     types: &Table<'a, u32>,
@@ -160,6 +161,7 @@ fn define_constructors<'a>(
     Ok(())
 }
 
+// A function has the number of functions before it.
 fn define_function<'a>(
     alloc: Global,
     name: &'a NameTree,

@@ -28,6 +28,7 @@ pub fn number_type(alloc: Global, tables: &Tables, tree: &TyTree) -> Result<Ty, 
     }
 }
 
+// The types of fields, in their order.
 fn number_fields(alloc: Global, tables: &Tables, trees: &[TyTree]) -> Result<Seq<Ty>, NameFault>
     ensures { Answers result (all_of (map (numbered_type tables.now) trees.now)) }
 {
@@ -39,6 +40,7 @@ fn number_fields(alloc: Global, tables: &Tables, trees: &[TyTree]) -> Result<Seq
     Ok(fields)
 }
 
+// A constructor with the types of its fields.
 fn number_constructor(alloc: Global, tables: &Tables, tree: &ConTree) -> Result<Con, NameFault>
     ensures { Answers result (numbered_constructor tables.now tree.now) }
 {
@@ -47,6 +49,7 @@ fn number_constructor(alloc: Global, tables: &Tables, tree: &ConTree) -> Result<
     Ok(Con { name, fields })
 }
 
+// The constructors of a type, in their order.
 fn number_constructors(
     alloc: Global,
     tables: &Tables,

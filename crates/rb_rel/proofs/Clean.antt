@@ -7,6 +7,7 @@ use Rattle.rb_bytes.specs.Memory.{Memory}
 use Rattle.rb_layout.specs.declared.layout.Leaf.{Leaf}
 use Rattle.rb_layout.specs.declared.layout.Layout.{Layout}
 use Rattle.rb_rel.specs.Relation.{Placed, Made, Represents, number, built}
+use Rattle.rb_rel.proofs.Elsewhere.{made_elsewhere}
 
 module _ (types : List DataDecl) (layouts : List Layout) (m : Memory) where
   Placed-clean : (leaf : Leaf) (ws : List ℕ) (subs : List ℕ → List ℕ) (ats : ℕ → ℕ) → Placed leaf ws m true subs ats → Placed leaf ws m false subs ats
@@ -17,20 +18,7 @@ module _ (types : List DataDecl) (layouts : List Layout) (m : Memory) where
   }
 
   abbrev Made-clean : (t : ℕ) (v : Value) (ws : List ℕ) → Made types layouts m true t v ws → Made types layouts m false t v ws
-  Made-clean t v ws b = record {
-    layout = b.layout;
-    number = b.number;
-    leaf = b.leaf;
-    is_layout = b.is_layout;
-    is_leaf = b.is_leaf;
-    is_number = b.is_number;
-    shaped = b.shaped;
-    subs = b.subs;
-    ats = b.ats;
-    at = b.at;
-    is_at = b.is_at;
-    placed = Placed-clean b.leaf ws b.subs b.ats b.placed;
-  }
+  Made-clean t v ws b = made_elsewhere types layouts m m true false t v ws b (Placed-clean b.leaf ws b.subs b.ats b.placed)
 
   pub Represents-clean : {ty : Ty} {v : Value} {ws : List ℕ} → Represents types layouts m true ty v ws → Represents types layouts m false ty v ws
   Represents-clean (number bits x lt) = number bits x lt

@@ -11,6 +11,7 @@ use Rattle.rb_layout.specs.declared.layout.FlatWord.{FlatWord}
 use Rattle.rb_layout.specs.declared.layout.Layout.{Layout}
 use Rattle.rb_layout.specs.Words.{begins_at}
 use Rattle.rb_rel.specs.Relation.{IsFound, Placed, Made, Represents, number, built, Represent}
+use Rattle.rb_rel.proofs.Elsewhere.{made_elsewhere}
 
 module _ (m m' : Memory) (g : Extends m m') where
   found_kept : (b : Option ℕ) (fs : List FlatWord) (f : FlatWord) (j : ℕ) (ws : List ℕ) (ats : ℕ → ℕ) (w : ℕ) → IsFound b fs f j ws ats m w → IsFound b fs f j ws ats m' w
@@ -26,20 +27,7 @@ module _ (m m' : Memory) (g : Extends m m') where
 
   module _ (types : List DataDecl) (layouts : List Layout) (clean : Bool) where
     abbrev pub Made-kept : (t : ℕ) (v : Value) (ws : List ℕ) → Made types layouts m clean t v ws → Made types layouts m' clean t v ws
-    Made-kept t v ws b = record {
-      layout = b.layout;
-      number = b.number;
-      leaf = b.leaf;
-      is_layout = b.is_layout;
-      is_leaf = b.is_leaf;
-      is_number = b.is_number;
-      shaped = b.shaped;
-      subs = b.subs;
-      ats = b.ats;
-      at = b.at;
-      is_at = b.is_at;
-      placed = Placed-kept b.leaf ws clean b.subs b.ats b.placed;
-    }
+    Made-kept t v ws b = made_elsewhere types layouts m m' clean clean t v ws b (Placed-kept b.leaf ws clean b.subs b.ats b.placed)
 
     pub Represents-kept : {ty : Ty} {v : Value} {ws : List ℕ} → Represents types layouts m clean ty v ws → Represents types layouts m' clean ty v ws
     Represents-kept (number bits x lt) = number bits x lt

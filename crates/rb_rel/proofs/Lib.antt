@@ -5,6 +5,7 @@ pub mod Clean
 pub mod Counterexamples
 pub mod Counting
 pub mod Declared
+pub mod Elsewhere
 pub mod Examples
 pub mod Existence
 pub mod Fitting

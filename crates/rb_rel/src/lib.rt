@@ -27,3 +27,4 @@
 #![tactic(auto)]
 
 pub mod laws;
+pub mod words;

@@ -8,7 +8,7 @@ use Rattle.rb_layout.specs.declared.layout.Block.{Block}
 use Rattle.rb_layout.specs.declared.layout.FlatWord.{FlatWord}
 use Rattle.rb_layout.specs.declared.layout.Part.{Part}
 use Rattle.rb_layout.specs.Flattening.{same_path}
-use Rattle.rb_agree.specs.declared.positions.Place.{Place}
+use Rattle.rb_layout.specs.declared.opens.OpenPosition.{OpenPosition}
 use Rattle.rb_agree.specs.declared.runs.Run.{Run}
 use Rattle.rb_agree.specs.inner.Held.{block_runs, leaf_runs, part_runs, word_runs}
 
@@ -43,9 +43,9 @@ abbrev pub row : List (List Run) → ℕ → List Run
 row rows n = slice_index_or rows n []
 
 -- the row of each position grows by what is held of it
-pub record Gathers (places : List Place) (runs : Runs) (old new : List (List Run)) : Type 0 where
+pub record Gathers (places : List OpenPosition) (runs : Runs) (old new : List (List Run)) : Type 0 where
   pub count : length new ≡ length old
-  pub each : (n : ℕ) (place : Place) → slice_get places n ≡ Some place → row new n ≡ row old n ++ runs place.ty place.path
+  pub each : (n : ℕ) (place : OpenPosition) → slice_get places n ≡ Some place → row new n ≡ row old n ++ runs place.ty place.path
 
 -- so many empty rows
 pub record AreNone (count : ℕ) (rows : List (List Run)) : Type 0 where
@@ -53,5 +53,5 @@ pub record AreNone (count : ℕ) (rows : List (List Run)) : Type 0 where
   pub each : (n : ℕ) → row rows n ≡ []
 
 -- the row of each position is what the leaf holds of it
-abbrev pub AreGathered : Leaf → List Place → List (List Run) → Type 0
-AreGathered leaf places rows = (n : ℕ) (place : Place) → slice_get places n ≡ Some place → row rows n ≡ leaf_runs leaf place.ty place.path
+abbrev pub AreGathered : Leaf → List OpenPosition → List (List Run) → Type 0
+AreGathered leaf places rows = (n : ℕ) (place : OpenPosition) → slice_get places n ≡ Some place → row rows n ≡ leaf_runs leaf place.ty place.path

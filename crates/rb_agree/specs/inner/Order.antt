@@ -1,6 +1,6 @@
 -- Graphs whose edges all lead to lower ranks.
 use Rattle.std.specs.Prelude.{◌≡◌, ℕ, ◌<◌, List, Some, slice_get, slice_index_or}
-use Rattle.rb_agree.specs.Graphs.{Leads}
+use Rattle.rb_layout.specs.Graphs.{Leads}
 
 abbrev pub rank_of : List ℕ → ℕ → ℕ
 rank_of ranks t = slice_index_or ranks t 0

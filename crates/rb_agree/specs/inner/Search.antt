@@ -1,7 +1,7 @@
 -- Paths beside each other, and the open position at a path.
 use Rattle.std.specs.Prelude.{◌≡◌, ◌≢◌, ℕ, ◌<◌, List, [], ◌∷◌, Some, slice_get, nat_lt, if◌then◌else◌}
 use Rattle.rb_layout.specs.Positions.{IsLeftOf}
-use Rattle.rb_agree.specs.declared.positions.Place.{Place}
+use Rattle.rb_layout.specs.declared.opens.OpenPosition.{OpenPosition}
 use Rattle.rb_agree.specs.declared.search.Side.{Side}
 use Rattle.rb_agree.specs.declared.search.Side.TheVariants.{Left, Same, Right, Along}
 
@@ -12,13 +12,13 @@ side_of (i ∷ p) [] = Along
 side_of (i ∷ p) (j ∷ q) = if nat_lt i j then Left else if nat_lt j i then Right else side_of p q
 
 -- each position stands to the left of those after it
-abbrev pub AreOrdered : List Place → Type 0
-AreOrdered places = (j k : ℕ) (a b : Place) → j < k → slice_get places j ≡ Some a → slice_get places k ≡ Some b → IsLeftOf a.path b.path
+abbrev pub AreOrdered : List OpenPosition → Type 0
+AreOrdered places = (j k : ℕ) (a b : OpenPosition) → j < k → slice_get places j ≡ Some a → slice_get places k ≡ Some b → IsLeftOf a.path b.path
 
 -- no position is at the path
-abbrev pub HasNone : List Place → List ℕ → Type 0
-HasNone places path = (k : ℕ) (place : Place) → slice_get places k ≡ Some place → place.path ≢ path
+abbrev pub HasNone : List OpenPosition → List ℕ → Type 0
+HasNone places path = (k : ℕ) (place : OpenPosition) → slice_get places k ≡ Some place → place.path ≢ path
 
 -- the position with this number is at the path
-abbrev pub IsNumberOf : List Place → List ℕ → ℕ → Type 0
-IsNumberOf places path n = (place : Place) × (slice_get places n ≡ Some place) × (place.path ≡ path)
+abbrev pub IsNumberOf : List OpenPosition → List ℕ → ℕ → Type 0
+IsNumberOf places path n = (place : OpenPosition) × (slice_get places n ≡ Some place) × (place.path ≡ path)

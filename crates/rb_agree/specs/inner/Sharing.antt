@@ -1,5 +1,5 @@
 -- Leaves that may share a value: those whose provenances have no different constructors at a path of fields.
-use Rattle.std.specs.Prelude.{◌≡◌, ℕ, ◌<◌, List, [], ◌∷◌, map, Bool, false, Option, Some, None, slice_get}
+use Rattle.std.specs.Prelude.{◌≡◌, ℕ, ◌<◌, List, [], ◌∷◌, map, Bool, Option, Some, None, slice_get}
 use Rattle.rb_core.specs.declared.types.DataDecl.{DataDecl}
 use Rattle.rb_core.specs.declared.pattern.Pat.{Pat, out-Pat}
 use Rattle.rb_core.specs.declared.pattern.Pat.TheOpen as P

@@ -1,5 +1,5 @@
 -- What a search for a cycle has found: which numbers are marked, and the ways to them.
-use Rattle.std.specs.Prelude.{◌≡◌, ℕ, List, [], ◌∷◌, ◌++◌, length, Bool, true, false, Option, Some, None, slice_get, slice_set}
+use Rattle.std.specs.Prelude.{ℕ, List, [], ◌∷◌, ◌++◌, Bool, true, false, Option, Some, None, slice_get, slice_set}
 use Rattle.rb_agree.specs.declared.cycles.Way.{Way}
 
 pub record State : Type 0 where
@@ -8,9 +8,6 @@ pub record State : Type 0 where
 
 abbrev pub state : List Bool → List Way → State
 state marks found = record { marks = marks; found = found }
-
-abbrev pub AreUnmarked : ℕ → List Bool → Type 0
-AreUnmarked count marks = (length marks ≡ count) × ((k : ℕ) (m : Bool) → slice_get marks k ≡ Some m → m ≡ false)
 
 -- a number with the way to it, where it was not found before
 abbrev pub added_if : Option Bool → List ℕ → ℕ → State → State
@@ -25,9 +22,3 @@ added way next s = added_if (slice_get s.marks next) way next s
 abbrev pub all_added : List ℕ → List ℕ → State → State
 all_added way [] s = s
 all_added way (next ∷ edges) s = all_added way edges (added way next s)
-
-abbrev pub HasEdge : List ℕ → ℕ → Type 0
-HasEdge edges t = (k : ℕ) × (slice_get edges k ≡ Some t)
-
-abbrev pub HasNoEdge : List ℕ → ℕ → Type 0
-HasNoEdge edges t = (k s : ℕ) → slice_get edges k ≡ Some s → s ≡ t → ⊥

@@ -1,5 +1,5 @@
 -- For each type those that it has as fields, and what a search in such a graph has found.
-use Rattle.std.specs.Prelude.{◌≡◌, ℕ, List, [], ◌∷◌, ◌++◌, map, length, Bool, true, false, Option, Some, None, slice_get, slice_set}
+use Rattle.std.specs.Prelude.{ℕ, List, [], ◌∷◌, ◌++◌, map, Bool, true, false, Option, Some, None, slice_get, slice_set}
 use Rattle.std.specs.List.{flat_map}
 use Rattle.rb_core.specs.declared.types.Ty.{Ty}
 use Rattle.rb_core.specs.declared.types.Ty.TheVariants.{Int, Named}
@@ -20,17 +20,6 @@ field_types d = flat_map con_types d.cons
 abbrev pub field_graph : List DataDecl → List (List ℕ)
 field_graph types = map field_types types
 
-abbrev pub row_in : Option (List ℕ) → List ℕ
-row_in None = []
-row_in (Some row) = row
-
-abbrev pub edges_of : List (List ℕ) → ℕ → List ℕ
-edges_of graph t = row_in (slice_get graph t)
-
--- the graph leads from a number to another
-abbrev pub Leads : List (List ℕ) → ℕ → ℕ → Type 0
-Leads graph t s = (k : ℕ) × (slice_get (edges_of graph t) k ≡ Some s)
-
 -- a cycle goes through the number
 abbrev pub HasCycle : (ℕ → ℕ → Type 0) → ℕ → Type 0
 HasCycle R t = (ts : List ℕ) × IsCycle R (t ∷ ts)
@@ -42,9 +31,6 @@ pub record State : Type 0 where
 
 abbrev pub state : List Bool → List ℕ → State
 state marks found = record { marks = marks; found = found }
-
-abbrev pub AreUnmarked : ℕ → List Bool → Type 0
-AreUnmarked count marks = (length marks ≡ count) × ((k : ℕ) (m : Bool) → slice_get marks k ≡ Some m → m ≡ false)
 
 -- a number, where it was not found before
 abbrev pub added_if : Option Bool → ℕ → State → State
@@ -58,9 +44,3 @@ added next s = added_if (slice_get s.marks next) next s
 abbrev pub all_added : List ℕ → State → State
 all_added [] s = s
 all_added (next ∷ edges) s = all_added edges (added next s)
-
-abbrev pub HasEdge : List ℕ → ℕ → Type 0
-HasEdge edges t = (k : ℕ) × (slice_get edges k ≡ Some t)
-
-abbrev pub HasNoEdge : List ℕ → ℕ → Type 0
-HasNoEdge edges t = (k s : ℕ) → slice_get edges k ≡ Some s → s ≡ t → ⊥

@@ -1,10 +1,9 @@
 -- Splits that are read on the way to one leaf.
-use Rattle.std.specs.Prelude.{◌≡◌, ℕ, List, [], ◌∷◌, nat_eq, Option, Some, slice_get, if◌then◌else◌}
+use Rattle.std.specs.Prelude.{◌≡◌, ℕ, List, Some, slice_get}
 use Rattle.rb_core.specs.declared.layout_decl.Loc.{Loc}
 use Rattle.rb_core.specs.declared.layout_decl.Step.{Step}
 use Rattle.rb_bytes.specs.Memory.{Memory, IsWidth}
 use Rattle.rb_layout.specs.declared.layout.FlatTree.{FlatTree}
-use Rattle.rb_layout.specs.declared.layout.FlatArm.{FlatArm}
 use Rattle.rb_layout.specs.Splits.{Test, Is, IsNone, Route, routes_of, splits_of}
 use Rattle.rb_layout.specs.A7.{IsLiteral}
 use Rattle.rb_rel.specs.Reading.{read_loc}

@@ -1,11 +1,8 @@
 -- A value of a data type that is opened: the words of its fields, and what it comes to.
-use Rattle.std.specs.Prelude.{ℕ, ◌≤◌, List, length}
-use Rattle.rb_core.specs.declared.types.DataDecl.{DataDecl}
-use Rattle.rb_core.specs.declared.types.Ty.TheVariants.{Named}
+use Rattle.std.specs.Prelude.{ℕ, List}
 use Rattle.rb_core.specs.declared.pattern.Pat.{Pat}
 use Rattle.rb_coding.specs.declared.plan.Opening.{Opening}
 use Rattle.rb_coding.specs.inner.Gathering.{field_words}
-use Rattle.rb_coding.specs.inner.Nodes.{field_list}
 use Rattle.rb_coding.specs.inner.Planning.{Planned, plan_of}
 
 -- the words of the field at a path

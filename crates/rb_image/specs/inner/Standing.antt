@@ -9,7 +9,6 @@ use Rattle.rb_image.specs.declared.arrival.Arrival.{Arrival}
 use Rattle.rb_image.specs.declared.arrival.Source.{Source}
 use Rattle.rb_image.specs.declared.arrival.Source.TheVariants.{Lent, Own}
 use Rattle.rb_image.specs.declared.leaf_words.LeafWords.{LeafWords}
-use Rattle.rb_image.specs.declared.opens.OpenAt.{OpenAt}
 use Rattle.rb_image.specs.declared.pack.FieldWords.{FieldWords}
 use Rattle.rb_image.specs.declared.view.View.{View}
 use Rattle.rb_image.specs.Fields.{position_of}
@@ -56,16 +55,6 @@ pub record IsCome (m : List ImageBlock) (x : Arrival) : Type 0 where
 abbrev pub first_fault : Option ImageFault → ImageFault → Option ImageFault
 first_fault None fault = Some fault
 first_fault (Some before) fault = Some before
-
-abbrev pub open_at : OpenAt → Open
-open_at o = record { path = o.path; ty = o.ty }
-
-abbrev pub opens_at : List OpenAt → List Open
-opens_at os = map open_at os
-
--- a position below a path
-abbrev pub under : List ℕ → Open → Open
-under path o = record { path = path ++ o.path; ty = o.ty }
 
 -- a fault that came before is given where no leaf is found
 abbrev pub or_before : Option ImageFault → Result Leaf ImageFault → Result Leaf ImageFault

@@ -1,5 +1,5 @@
 use Rattle.std.proofs.Common.{◌<◌, ℕ}
-use Rattle.rb_agree.specs.Graphs.{Leads}
+use Rattle.rb_layout.specs.Graphs.{Leads}
 use Rattle.rb_agree.specs.inner.Order.{rank_of}
 use Rattle.rb_agree.proofs.order.falls.Given as goal
 

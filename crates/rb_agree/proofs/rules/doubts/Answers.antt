@@ -1,4 +1,4 @@
-use Rattle.std.proofs.Common.{sym, subst}
+use Rattle.std.proofs.Common.{subst}
 use Rattle.rb_agree.specs.declared.rules.Rule.{Rule}
 use Rattle.rb_agree.specs.inner.Rules.{IsReady}
 use Rattle.rb_agree.proofs.Ruling.{holds-nowhere, holds-tests, holds-values, inhabited, type-in}

@@ -1,6 +1,6 @@
-use Rattle.std.proofs.Common.{◌≡◌, ◌<◌, length, get_or, sym, subst, ap, ◌∙◌, arith, refl}
+use Rattle.std.proofs.Common.{◌≡◌, ◌<◌, length, get_or, sym, ap, ◌∙◌, arith, refl}
 use Rattle.std.proofs.lemmas.Option.{same_Some, slice_get-get_or}
-use Rattle.rb_agree.specs.declared.positions.Place.{Place}
+use Rattle.rb_layout.specs.declared.opens.OpenPosition.{OpenPosition}
 use Rattle.rb_agree.specs.inner.Gathered.{Gathers, has_words, run_there}
 use Rattle.rb_agree.proofs.Gathering.{here-added, nowhere, other-units, units-other, units-same, where-ok}
 use Rattle.rb_agree.proofs.runs.add_at.Goals as goal
@@ -14,9 +14,9 @@ add_run-requires c = omega (arith, c.in-Some.ensures.within, c.requires.rows)
 pub returns-then-words-has_words : goal.returns-then-words-has_words
 returns-then-words-has_words c =
     let h = c.in-Some.ensures.place in
-    let place : Place = get_or c.args.places.now c.in-Some.n c.index-places-n.result in
+    let place : OpenPosition = get_or c.args.places.now c.in-Some.n c.index-places-n.result in
     let at = slice_get-get_or c.args.places.now c.in-Some.n c.index-places-n.result c.in-Some.ensures.within in
-    let units : has_words place.ty ≡ has_words h.0.ty = ap (λ (x : Place). has_words x.ty) (same_Some place h.0 (sym at ∙ h.1)) in
+    let units : has_words place.ty ≡ has_words h.0.ty = ap (λ (x : OpenPosition). has_words x.ty) (same_Some place h.0 (sym at ∙ h.1)) in
     let inside : c.in-Some.n < length c.args.rows.now = omega (arith, c.in-Some.ensures.within, c.requires.rows) in
     where-ok c.add_run.result _ (Gathers c.args.places.now (run_there c.args.path.now c.args.words c.args.run) c.args.rows.now c.add_run.new.rows)
     (λ e. here-added c.args.places.now c.args.path.now c.args.words c.args.run c.requires.order c.in-Some.n h c.args.rows.now c.add_run.new.rows
@@ -25,8 +25,8 @@ returns-then-words-has_words c =
 pub returns : goal.returns
 returns c =
     let h = c.in-Some.ensures.place in
-    let place : Place = get_or c.args.places.now c.in-Some.n c.index-places-n.result in
+    let place : OpenPosition = get_or c.args.places.now c.in-Some.n c.index-places-n.result in
     let at = slice_get-get_or c.args.places.now c.in-Some.n c.index-places-n.result c.in-Some.ensures.within in
-    let units : has_words place.ty ≡ has_words h.0.ty = ap (λ (x : Place). has_words x.ty) (same_Some place h.0 (sym at ∙ h.1)) in
+    let units : has_words place.ty ≡ has_words h.0.ty = ap (λ (x : OpenPosition). has_words x.ty) (same_Some place h.0 (sym at ∙ h.1)) in
     other-units c.args.places.now c.args.path.now c.args.words c.args.run c.requires.order c.in-Some.n h c.args.rows.now c.args.rows.now
     (λ e. units-other c.args.words c.has_words.result c.if-words-has_words.false (e ∙ sym units ∙ sym c.has_words.ensures)) refl

@@ -1,7 +1,6 @@
-use Rattle.std.proofs.Common.{◌≡◌, Bool, false, List, ℕ, length, sym, subst, ap}
-use Rattle.std.specs.Prelude.{MatchOption}
+use Rattle.std.proofs.Common.{◌≡◌, Bool, false, List, length, subst}
 use Rattle.rb_layout.specs.declared.layout.Leaf.{Leaf}
-use Rattle.rb_agree.specs.inner.Sharing.{IsAlone, IsGroupOf, SharesNone}
+use Rattle.rb_agree.specs.inner.Sharing.{IsAlone, SharesNone}
 use Rattle.rb_agree.proofs.Grouping.{is-alone}
 use Rattle.rb_agree.proofs.Holding.{if-ok}
 use Rattle.rb_agree.proofs.sharing.shares.Goals as goal

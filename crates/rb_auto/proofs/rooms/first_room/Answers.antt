@@ -1,7 +1,8 @@
 use Rattle.std.proofs.Common.{subst}
 use Rattle.std.specs.Prelude.{MatchBool}
 use Rattle.rb_layout.specs.Cycles.{HasNoCycle}
-use Rattle.rb_auto.specs.inner.Graphs.{HasCycle, Leads}
+use Rattle.rb_layout.specs.Graphs.{Leads}
+use Rattle.rb_auto.specs.inner.Graphs.{HasCycle}
 use Rattle.rb_auto.proofs.Fielding.{is-recursive, is-finite}
 use Rattle.rb_auto.proofs.rooms.first_room.Goals as goal
 

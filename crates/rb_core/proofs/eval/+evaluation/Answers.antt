@@ -16,33 +16,33 @@ pub eval_expr-returns-in_ok-value-in-Var-clause-gives : goal.eval_expr-returns-i
 eval_expr-returns-in_ok-value-in-Var-clause-gives t c = λ k h. rw (c.in-Var.is, meaning-Var, ← c.as_slice.ensures, ← c.in_ok-value-in-Var.ensures) (Gives-here _ _ _)
 
 pub eval_expr-returns-in-Call-clause-gives : goal.eval_expr-returns-in-Call-clause-gives
-eval_expr-returns-in-Call-clause-gives t c = rw c.in-Call.is (simp (meaning-Call, ← c.as_slice-in-Call.ensures) c.eval_invoke.ensures.gives)
+eval_expr-returns-in-Call-clause-gives t c = rw c.in-Call.is (simp (← c.as_slice-in-Call.ensures) (c.eval_invoke.ensures.gives _ _))
 
 pub eval_expr-returns-in-Build-clause-gives : goal.eval_expr-returns-in-Build-clause-gives
-eval_expr-returns-in-Build-clause-gives t c = rw c.in-Build.is (simp (meaning-Build, ← c.as_slice-in-Build.ensures) c.eval_build.ensures.gives)
+eval_expr-returns-in-Build-clause-gives t c = rw c.in-Build.is (simp (← c.as_slice-in-Build.ensures) (c.eval_build.ensures.gives _ _))
 
 pub eval_expr-returns-in-Binary-clause-gives : goal.eval_expr-returns-in-Binary-clause-gives
-eval_expr-returns-in-Binary-clause-gives t c = rw c.in-Binary.is (simp (meaning-Binary, ← c.get.ensures, ← c.get-in-Binary.ensures) c.eval_binary.ensures.gives)
+eval_expr-returns-in-Binary-clause-gives t c = rw c.in-Binary.is (simp (← c.get.ensures, ← c.get-in-Binary.ensures) (c.eval_binary.ensures.gives _))
 
 pub eval_expr-returns-in-To-clause-gives : goal.eval_expr-returns-in-To-clause-gives
-eval_expr-returns-in-To-clause-gives t c = rw c.in-To.is (simp (meaning-To, ← c.get-in-To.ensures) c.eval_to.ensures.gives)
+eval_expr-returns-in-To-clause-gives t c = rw c.in-To.is (simp (← c.get-in-To.ensures) (c.eval_to.ensures.gives _ _))
 
 pub eval_expr-returns-in-Let-clause-gives : goal.eval_expr-returns-in-Let-clause-gives
-eval_expr-returns-in-Let-clause-gives t c = rw c.in-Let.is (simp (meaning-Let, ← c.get-in-Let.ensures, ← c.get-in-Let-2.ensures) c.eval_let.ensures.gives)
+eval_expr-returns-in-Let-clause-gives t c = rw c.in-Let.is (simp (← c.get-in-Let.ensures, ← c.get-in-Let-2.ensures) (c.eval_let.ensures.gives _))
 
 pub eval_expr-returns-in-Match-clause-gives : goal.eval_expr-returns-in-Match-clause-gives
-eval_expr-returns-in-Match-clause-gives t c = rw c.in-Match.is (simp (meaning-Match, ← c.get-in-Match.ensures, ← c.as_slice-in-Match.ensures) c.eval_match.ensures.gives)
+eval_expr-returns-in-Match-clause-gives t c = rw c.in-Match.is (simp (← c.get-in-Match.ensures, ← c.as_slice-in-Match.ensures) c.eval_match.ensures.gives)
 
 -- a call
 pub eval_invoke-returns-in-Cut-clause-gives : goal.eval_invoke-returns-in-Cut-clause-gives
-eval_invoke-returns-in-Cut-clause-gives t c = λ k h.
-    Gives-cut _ _ _ _ (rw (c.in-Cut.is, c.as_slice.ensures, c.in_ok-tys.ensures) at (c.in_ok-eval_all.ensures.gives k h))
+eval_invoke-returns-in-Cut-clause-gives t c = λ at wanted k h. rw meaning-Call
+    (Gives-cut _ _ _ _ (rw (c.in-Cut.is, c.as_slice.ensures, c.in_ok-tys.ensures) at (c.in_ok-eval_all.ensures.gives k h)))
 
 pub eval_invoke-returns-clause-gives : goal.eval_invoke-returns-clause-gives
-eval_invoke-returns-clause-gives t c = λ k h.
-    let fewer = rw c.in-AllDone.is at c.in_ok-eval_all.ensures.fewer in
+eval_invoke-returns-clause-gives t c = λ at wanted k h. rw meaning-Call
+    (let fewer = rw c.in-AllDone.is at c.in_ok-eval_all.ensures.fewer in
     Gives-all _ _ _ _ _ _ _ _ (rw (c.in-AllDone.is, c.as_slice.ensures, c.in_ok-tys.ensures) at (c.in_ok-eval_all.ensures.gives k h))
-    (rw c.as_slice-in-AllDone.ensures at (c.in_ok-end-in-AllDone.ensures.gives k (le_trans fewer h)))
+    (rw c.as_slice-in-AllDone.ensures at (c.in_ok-end-in-AllDone.ensures.gives k (le_trans fewer h))))
 
 pub eval_call-returns-in_default-clause-gives : goal.eval_call-returns-in_default-clause-gives
 eval_call-returns-in_default-clause-gives t c = λ k h.
@@ -63,62 +63,65 @@ eval_call-returns-clause-gives t c = λ k h.
 
 -- a construction
 pub eval_build-returns-in-Cut-clause-gives : goal.eval_build-returns-in-Cut-clause-gives
-eval_build-returns-in-Cut-clause-gives t c = λ k h. Gives-cut _ _ _ _ (rw (c.in-Cut.is, c.types_of_fields-tys.ensures, c.as_slice.ensures) at (c.in_ok-eval_all.ensures.gives k h))
+eval_build-returns-in-Cut-clause-gives t c = λ at wanted k h. rw meaning-Build
+    (Gives-cut _ _ _ _ (rw (c.in-Cut.is, c.types_of_fields-tys.ensures, c.as_slice.ensures) at (c.in_ok-eval_all.ensures.gives k h)))
 
 pub eval_build-returns-in_ok-push-in-AllDone-clause-gives : goal.eval_build-returns-in_ok-push-in-AllDone-clause-gives
-eval_build-returns-in_ok-push-in-AllDone-clause-gives t c = λ k h.
-    Gives-all _ _ _ _ _ _ _ _ (rw (c.in-AllDone.is, c.types_of_fields-tys.ensures, c.as_slice.ensures) at (c.in_ok-eval_all.ensures.gives k h))
-    (Gives-after _ _ _ _ _ _ (rw c.in_ok-copy-in-AllDone.ensures at c.in_ok-push-in-AllDone.ensures.ok) (Gives-here _ _ _))
+eval_build-returns-in_ok-push-in-AllDone-clause-gives t c = λ at wanted k h. rw meaning-Build
+    (Gives-all _ _ _ _ _ _ _ _ (rw (c.in-AllDone.is, c.types_of_fields-tys.ensures, c.as_slice.ensures) at (c.in_ok-eval_all.ensures.gives k h))
+    (Gives-after _ _ _ _ _ _ (rw c.in_ok-copy-in-AllDone.ensures at c.in_ok-push-in-AllDone.ensures.ok) (Gives-here _ _ _)))
 
 -- one operand
 pub eval_to-returns-in-Spent-clause-gives : goal.eval_to-returns-in-Spent-clause-gives
-eval_to-returns-in-Spent-clause-gives t c = λ k h. Gives-spent _ _ _ _ (rw c.in-Spent.is at (c.in_ok-eval_expr.ensures.gives k h))
+eval_to-returns-in-Spent-clause-gives t c = λ at wanted k h. rw meaning-To
+    (Gives-spent _ _ _ _ (rw c.in-Spent.is at (c.in_ok-eval_expr.ensures.gives k h)))
 
 pub eval_to-returns-in-Done-clause-gives : goal.eval_to-returns-in-Done-clause-gives
-eval_to-returns-in-Done-clause-gives t c = λ k h.
-    rw (c.low_bits.ensures, c.number.ensures)
-    (Gives-done _ _ _ _ _ _ _ _ (rw c.in-Done.is at (c.in_ok-eval_expr.ensures.gives k h)) (Gives-here _ _ _))
+eval_to-returns-in-Done-clause-gives t c = λ at wanted k h. rw meaning-To
+    (rw (c.low_bits.ensures, c.number.ensures)
+    (Gives-done _ _ _ _ _ _ _ _ (rw c.in-Done.is at (c.in_ok-eval_expr.ensures.gives k h)) (Gives-here _ _ _)))
 
 -- two operands
 pub eval_binary-returns-in-Spent-clause-gives : goal.eval_binary-returns-in-Spent-clause-gives
-eval_binary-returns-in-Spent-clause-gives t c = λ k h.
-    Gives-spent _ _ _ _ (rw (c.in-Spent.is, c.in_ok-ty.ensures.scope, c.wanted_of_operand-first_wanted.ensures) at (c.in_ok-eval_expr.ensures.gives k h))
+eval_binary-returns-in-Spent-clause-gives t c = λ at k h. rw meaning-Binary
+    (Gives-spent _ _ _ _ (rw (c.in-Spent.is, c.in_ok-ty.ensures.scope, c.wanted_of_operand-first_wanted.ensures) at (c.in_ok-eval_expr.ensures.gives k h)))
 
 pub eval_binary-returns-in-Spent-2-clause-gives : goal.eval_binary-returns-in-Spent-2-clause-gives
-eval_binary-returns-in-Spent-2-clause-gives t c = λ k h.
-    let fewer = rw c.in-Done.is at c.in_ok-eval_expr.ensures.fewer in
+eval_binary-returns-in-Spent-2-clause-gives t c = λ at k h. rw meaning-Binary
+    (let fewer = rw c.in-Done.is at c.in_ok-eval_expr.ensures.fewer in
     Gives-done _ _ _ _ _ _ _ _ (rw (c.in-Done.is, c.in_ok-ty.ensures.scope, c.wanted_of_operand-first_wanted.ensures) at (c.in_ok-eval_expr.ensures.gives k h))
-    (Gives-spent _ _ _ _ (rw (c.in-Spent-2.is, c.in_ok-eval_expr.ensures.frame, c.in_ok-ty.ensures.scope, c.in_ok-ty.ensures.ty) at (c.in_ok-eval_expr-2.ensures.gives k (le_trans fewer h))))
+    (Gives-spent _ _ _ _ (rw (c.in-Spent-2.is, c.in_ok-eval_expr.ensures.frame, c.in_ok-ty.ensures.scope, c.in_ok-ty.ensures.ty) at (c.in_ok-eval_expr-2.ensures.gives k (le_trans fewer h)))))
 
 pub eval_binary-returns-in-Done-2-clause-gives : goal.eval_binary-returns-in-Done-2-clause-gives
-eval_binary-returns-in-Done-2-clause-gives t c = λ k h.
-    let fewer = rw c.in-Done.is at c.in_ok-eval_expr.ensures.fewer in
+eval_binary-returns-in-Done-2-clause-gives t c = λ at k h. rw meaning-Binary
+    (let fewer = rw c.in-Done.is at c.in_ok-eval_expr.ensures.fewer in
     rw (c.apply-n.ensures, c.width.ensures.width, c.number.ensures, c.number-in-Done-2.ensures, c.in_ok-ty.ensures.ty)
     (Gives-done _ _ _ _ _ _ _ _ (rw (c.in-Done.is, c.in_ok-ty.ensures.scope, c.wanted_of_operand-first_wanted.ensures) at (c.in_ok-eval_expr.ensures.gives k h))
     (Gives-done _ _ _ _ _ _ _ _ (rw (c.in-Done-2.is, c.in_ok-eval_expr.ensures.frame, c.in_ok-ty.ensures.scope, c.in_ok-ty.ensures.ty) at (c.in_ok-eval_expr-2.ensures.gives k (le_trans fewer h)))
-    (Gives-here _ _ _)))
+    (Gives-here _ _ _))))
 
 -- let
 pub eval_let-returns-in-Spent-clause-gives : goal.eval_let-returns-in-Spent-clause-gives
-eval_let-returns-in-Spent-clause-gives t c = λ k h. Gives-spent _ _ _ _ (rw c.in-Spent.is at (c.in_ok-eval_expr.ensures.gives k h))
+eval_let-returns-in-Spent-clause-gives t c = λ at k h. rw meaning-Let
+    (Gives-spent _ _ _ _ (rw c.in-Spent.is at (c.in_ok-eval_expr.ensures.gives k h)))
 
 pub eval_let-returns-in_ok-end-in-Done-clause-gives : goal.eval_let-returns-in_ok-end-in-Done-clause-gives
-eval_let-returns-in_ok-end-in-Done-clause-gives t c = λ k h.
-    let fewer = rw c.in-Done.is at c.in_ok-eval_expr.ensures.fewer in
+eval_let-returns-in_ok-end-in-Done-clause-gives t c = λ at k h. rw meaning-Let
+    (let fewer = rw c.in-Done.is at c.in_ok-eval_expr.ensures.fewer in
     Gives-done _ _ _ _ _ _ _ _ (rw c.in-Done.is at (c.in_ok-eval_expr.ensures.gives k h))
-    (rw (c.in_ok-push-in-Done.ensures.fun, c.in_ok-push-in-Done.ensures.scope, c.in_ok-push-in-Done.ensures.values, c.in_ok-eval_expr.ensures.frame) at (c.in_ok-end-in-Done.ensures.gives k (le_trans fewer h)))
+    (rw (c.in_ok-push-in-Done.ensures.fun, c.in_ok-push-in-Done.ensures.scope, c.in_ok-push-in-Done.ensures.values, c.in_ok-eval_expr.ensures.frame) at (c.in_ok-end-in-Done.ensures.gives k (le_trans fewer h))))
 
 -- match
 pub eval_match-returns-in-Spent-clause-gives : goal.eval_match-returns-in-Spent-clause-gives
-eval_match-returns-in-Spent-clause-gives t c = λ k h.
-    Gives-spent _ _ _ _ (rw (c.in-Spent.is, c.in_ok-others.ensures.scope, c.in_ok-ty.ensures.scope) at (c.in_ok-eval_expr.ensures.gives k h))
+eval_match-returns-in-Spent-clause-gives t c = λ k h. rw meaning-Match
+    (Gives-spent _ _ _ _ (rw (c.in-Spent.is, c.in_ok-others.ensures.scope, c.in_ok-ty.ensures.scope) at (c.in_ok-eval_expr.ensures.gives k h)))
 
 pub eval_match-returns-in_ok-end-in-Done-clause-gives : goal.eval_match-returns-in_ok-end-in-Done-clause-gives
-eval_match-returns-in_ok-end-in-Done-clause-gives t c = λ k h.
-    let fewer = rw c.in-Done.is at c.in_ok-eval_expr.ensures.fewer in
+eval_match-returns-in_ok-end-in-Done-clause-gives t c = λ k h. rw meaning-Match
+    (let fewer = rw c.in-Done.is at c.in_ok-eval_expr.ensures.fewer in
     Gives-done _ _ _ _ _ _ _ _ (rw (c.in-Done.is, c.in_ok-others.ensures.scope, c.in_ok-ty.ensures.scope) at (c.in_ok-eval_expr.ensures.gives k h))
     (Gives-after _ _ _ _ _ _ (rw c.in_ok-eval_expr.ensures.frame at c.in_ok-push-in-Done.ensures.ok)
-    (rw (c.in_ok-eval_expr.ensures.frame, c.in_ok-others.ensures.ty, c.in_ok-others.ensures.scope, c.in_ok-ty.ensures.ty, c.in_ok-ty.ensures.scope) at (c.in_ok-end-in-Done.ensures.gives k (le_trans fewer h))))
+    (rw (c.in_ok-eval_expr.ensures.frame, c.in_ok-others.ensures.ty, c.in_ok-others.ensures.scope, c.in_ok-ty.ensures.ty, c.in_ok-ty.ensures.scope) at (c.in_ok-end-in-Done.ensures.gives k (le_trans fewer h)))))
 
 -- clauses
 pub eval_clauses-returns-then-matches-clause-gives : goal.eval_clauses-returns-then-matches-clause-gives

@@ -7,7 +7,8 @@ use Rattle.rb_layout.specs.Positions.{layout_of, open_positions}
 use Rattle.rb_image.specs.declared.pack.FieldWords.{FieldWords}
 use Rattle.rb_image.specs.Rebuilds.{chosen, fields_at, packed, rebuilt_within}
 use Rattle.rb_image.specs.Splits.{and_then}
-use Rattle.rb_image.specs.inner.Standing.{opens_at, shown}
+use Rattle.rb_layout.specs.Opens.{opens_at}
+use Rattle.rb_image.specs.inner.Standing.{shown}
 use Rattle.rb_image.proofs.GivenLemmas.{first_err}
 use Rattle.rb_image.proofs.LookLemmas.{given_ok, given_on}
 use Rattle.rb_image.proofs.RebuildLemmas.{in_leaf, rebuilt_more}

@@ -1,6 +1,7 @@
 use Rattle.std.proofs.Common.{◌≡◌, ◌+◌, ◌*◌, drop}
 use Rattle.rb_image.specs.Rebuilds.{fields_at, rebuilt_within}
-use Rattle.rb_image.specs.inner.Standing.{opens_at, shown, with_fields}
+use Rattle.rb_layout.specs.Opens.{opens_at}
+use Rattle.rb_image.specs.inner.Standing.{shown, with_fields}
 use Rattle.rb_image.proofs.rebuild.+rebuilding.Given as goal
 
 abbrev pub decreases-rebuild_within : goal.decreases-rebuild_within
