@@ -28,6 +28,7 @@ pub struct Opened {
     pub image: Image,
 }
 
+// The status of an image's fault.
 fn status_of(fault: ImageFault) -> Status
     ensures { result ≡ image_status fault }
 {

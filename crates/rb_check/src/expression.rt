@@ -65,31 +65,19 @@ pub fn type_expression(
     match expr {
         Expr::Num(at, n) => type_number(*at, *n, wanted),
         Expr::Var(at, var) => fit(*at, wanted, variable_type(*var, scope.as_slice())),
-        Expr::Call(at, fun, parts) => type_call(
-            program,
-            *at,
-            *fun,
-            parts.as_slice(),
-            wanted,
-            scope,
-        ),
-        Expr::Build(at, con, parts) => type_build(
-            program,
-            *at,
-            *con,
-            parts.as_slice(),
-            wanted,
-            scope,
-        ),
-        Expr::Binary(at, op, a, b) => type_binary(
-            program,
-            *at,
-            *op,
-            a.get(),
-            b.get(),
-            wanted,
-            scope,
-        ),
+        Expr::Call(at, fun, parts) => {
+            let parts = parts.as_slice();
+            type_call(program, *at, *fun, parts, wanted, scope)
+        }
+        Expr::Build(at, con, parts) => {
+            let parts = parts.as_slice();
+            type_build(program, *at, *con, parts, wanted, scope)
+        }
+        Expr::Binary(at, op, a, b) => {
+            let a = a.get();
+            let b = b.get();
+            type_binary(program, *at, *op, a, b, wanted, scope)
+        }
         Expr::To(at, bits, a) => {
             type_integer(program, a.get(), None, scope)?;
             fit(*at, wanted, Ty::Int(*bits))
@@ -102,13 +90,10 @@ pub fn type_expression(
             };
             type_let(program, param, a.get(), b.get(), wanted, scope)
         }
-        Expr::Match(_, scrutinee, cases) => type_match(
-            program,
-            scrutinee.get(),
-            cases.as_slice(),
-            wanted,
-            scope,
-        ),
+        Expr::Match(_, scrutinee, cases) => {
+            let cases = cases.as_slice();
+            type_match(program, scrutinee.get(), cases, wanted, scope)
+        }
     }
 }
 

@@ -2,8 +2,23 @@
 //! which clauses of its matches no value reaches, or the first match that misses a value.
 //!
 //! An expression is typed at a wanted type or none, as in bidirectional typing (Pierce and Turner,
-//! "Local Type Inference", 2000). Each call here answers exactly what the definition of typing in
-//! `rb_core` gives. No call recurses deeper than expressions, patterns and layouts are nested.
+//! "Local Type Inference", 2000). Take `fun f(n: u8): u16 = let m: u16 = to u16(n) in add(m, 1000);`:
+//!
+//! ```text
+//! expression     wanted    found
+//! to u16(n)      u16       u16
+//! n              none      u8, an integer, as it has to be
+//! add(m, 1000)   u16       u16
+//! m              u16       u16
+//! 1000           u16       u16, the type of the first operand, which holds it
+//! ```
+//!
+//! Of `add(n, 1000)` where a `u8` is wanted the number is at fault: `u8` is wanted, and the least type that
+//! holds it is `u10`. Each call here answers exactly what the definition of typing in `rb_core` gives. No
+//! call recurses deeper than expressions, patterns and layouts are nested.
+//!
+//! Coverage goes match by match, in the file's order, by the matrix of the match's patterns: what
+//! `rb_matrix` finds that no row matches is missed, and a row that nothing reaches is noted.
 #![tactic(auto)]
 
 ghost use Rattle.std.specs.Prelude.{OnOk, IfErr, IsOkUnless};

@@ -1,6 +1,6 @@
 -- Steps of a path one after the other, as they are cut at points.
-use Rattle.std.proofs.Common.{◌≡◌, ◌==◌, ◌<◌, ℕ, zero, suc, List, [], ◌∷◌, ◌++◌, length, refl, sym, ap, subst, ◌∙◌, append_assoc, append-nil, length-append, arith, Bool, true, false, Option, Some, None, MatchBool, get_or, eqb-true}
-use Rattle.std.specs.List.{All, IsFirstMatchOrLen}
+use Rattle.std.proofs.Common.{◌≡◌, ◌==◌, ◌<◌, ℕ, List, [], ◌∷◌, ◌++◌, length, refl, sym, ap, subst, ◌∙◌, append_assoc, append-nil, length-append, arith, Bool, true, false, Option, Some, None, MatchBool, eqb-true}
+use Rattle.std.specs.List.{IsFirstMatchOrLen}
 use Rattle.std.proofs.Math.ListN.{get_or-append}
 use Rattle.std.proofs.Math.Seq.{get_or-append_seam}
 use Rattle.rb_command.specs.inner.Parsing.{step_in, first_step, steps_from}

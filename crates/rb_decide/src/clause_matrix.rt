@@ -66,6 +66,7 @@ pub fn first_tested(pats: &[Pat]) -> Option<usize>
     None
 }
 
+// Adds copies of columns at the end.
 fn push_columns(alloc: Global, columns: &mut Seq<Column>, more: &[Column]) -> Result<(), AllocError>
     ensures { OnOk result (columns.new ≡ columns.old ++ more.now) }
 {
@@ -75,6 +76,7 @@ fn push_columns(alloc: Global, columns: &mut Seq<Column>, more: &[Column]) -> Re
     Ok(())
 }
 
+// Adds copies of patterns at the end.
 fn push_patterns(alloc: Global, pats: &mut Seq<Pat>, more: &[Pat]) -> Result<(), AllocError>
     ensures { OnOk result (pats.new ≡ pats.old ++ more.now) }
 {

@@ -8,6 +8,7 @@ use crate::decision_graph::{GraphArm, GraphNode};
 use rb_matrix::matrix::Head;
 use std::alloc::{AllocError, Global};
 
+// Adds the three numbers that tell a head.
 fn push_head(key: &mut Vec<u64>, head: Head) -> Result<(), AllocError>
     ensures { OnOk result (key.new.items ≡ key.old.items ++ head_key head) }
 {
@@ -26,6 +27,7 @@ fn push_head(key: &mut Vec<u64>, head: Head) -> Result<(), AllocError>
     Ok(())
 }
 
+// Adds the numbers of the fields on the way to a position.
 fn push_position(key: &mut Vec<u64>, position: &[u32]) -> Result<(), AllocError>
     ensures { OnOk result (key.new.items ≡ key.old.items ++ position.now) }
 {
@@ -35,6 +37,7 @@ fn push_position(key: &mut Vec<u64>, position: &[u32]) -> Result<(), AllocError>
     Ok(())
 }
 
+// Adds the heads of arms, each with the number of the node below it.
 fn push_arms(key: &mut Vec<u64>, arms: &[GraphArm]) -> Result<(), AllocError>
     ensures { OnOk result (key.new.items ≡ key.old.items ++ flat_map arm_key arms.now) }
 {
@@ -45,6 +48,7 @@ fn push_arms(key: &mut Vec<u64>, arms: &[GraphArm]) -> Result<(), AllocError>
     Ok(())
 }
 
+// Adds 0 where there is no branch for the others, else 1 and the number of its node.
 fn push_other(key: &mut Vec<u64>, other: Option<u32>) -> Result<(), AllocError>
     ensures { OnOk result (key.new.items ≡ key.old.items ++ other_key other) }
 {

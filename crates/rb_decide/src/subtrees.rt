@@ -32,6 +32,7 @@ fn add_tree(alloc: Global, sharing: &mut Sharing, tree: &Tree) -> Result<u32, Al
     }
 }
 
+// Adds the trees below arms, and links to their nodes.
 #[cycle(sharing)]
 fn add_arms(
     alloc: Global,
@@ -52,6 +53,7 @@ fn add_arms(
     Ok(links)
 }
 
+// Adds the tree for the others, where there is one.
 #[cycle(sharing)]
 fn add_other(
     alloc: Global,

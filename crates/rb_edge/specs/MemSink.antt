@@ -1,8 +1,8 @@
 -- A sink in memory: what it is between two calls, and what a write does.
-use Rattle.std.specs.Prelude.{ℕ, ◌-◌, ◌==◌, nat_lt, ◌&&◌, ◌||◌, min, List, ◌++◌, length, take, Bool, Result, Ok, Err, if◌then◌else◌}
+use Rattle.std.specs.Prelude.{ℕ, ◌-◌, ◌==◌, nat_lt, ◌&&◌, ◌||◌, min, List, [], ◌++◌, length, take, Bool, Result, Ok, Err, if◌then◌else◌}
 use Rattle.rb_edge.specs.declared.source.Failed.{Failed}
 use Rattle.rb_edge.specs.Faults.{one_more}
-use Rattle.rb_edge.specs.History.{Account, after_take, after_break}
+use Rattle.rb_edge.specs.History.{Account, no_account, after_take, after_break}
 use Rattle.rb_edge.specs.Calls.{fails_at, next_call}
 
 pub record SinkState : Type 0 where
@@ -20,6 +20,11 @@ pub record SinkState : Type 0 where
   pub account : Account
   -- how many faults there were
   pub faults : ℕ
+
+-- a sink of that room, before its first call
+abbrev pub new_sink : ℕ → ℕ → List ℕ → SinkState
+new_sink room step fail =
+    record { room = room; step = step; fail = fail; calls = 0; taken = []; account = no_account; faults = 0 }
 
 -- how many bytes it can still take
 abbrev pub room_left : SinkState → ℕ

@@ -25,6 +25,11 @@ pub record SourceState : Type 0 where
   -- how many faults there were
   pub faults : ℕ
 
+-- a source that holds those files, before its first call
+abbrev pub new_source : List NamedBytes → ℕ → List ℕ → SourceState
+new_source files step fail =
+    record { files = files; step = step; fail = fail; calls = 0; left = []; readings = []; faults = 0 }
+
 -- the bytes of a file, or none
 abbrev pub bytes_in : Option NamedBytes → List ℕ
 bytes_in None = []

@@ -2,8 +2,8 @@
 
 ghost use Rattle.std.specs.Prelude.{◌≡◌, ◌≤◌, ◌<◌, ◌+◌, ◌++◌, ℕ, List, [], Bool, true, IsTrue, IfOk, OnErr, Ok, Err, take, length};
 ghost use Rattle.rb_edge.specs.Faults.{Rose};
-ghost use Rattle.rb_edge.specs.History.{Account, no_account, after_take, after_break};
-ghost use Rattle.rb_edge.specs.MemSink.{after_write};
+ghost use Rattle.rb_edge.specs.History.{Account, after_take, after_break};
+ghost use Rattle.rb_edge.specs.MemSink.{new_sink, after_write};
 
 use crate::calls::is_failing;
 use crate::history::Said;
@@ -59,15 +59,7 @@ impl MemSink {
         fail: Seq<u64>,
     ) -> Result<MemSink, AllocError>
         requires { 1 ≤ step }
-        ensures { IfOk result (λ s. s ≡ record {
-          room = room;
-          step = step;
-          fail = fail;
-          calls = 0;
-          taken = [];
-          account = no_account;
-          faults = 0;
-        }) }
+        ensures { IfOk result (λ s. s ≡ new_sink room step fail) }
     {
         let bytes = Vec::with_capacity(alloc, room)?;
         Ok(MemSink {

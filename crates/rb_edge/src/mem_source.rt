@@ -6,7 +6,7 @@ ghost use Rattle.rb_edge.specs.Faults.{Rose};
 ghost use Rattle.rb_edge.specs.History.{Reading, begun, missed, broken, on_last};
 ghost use Rattle.rb_edge.specs.History as history;
 ghost use Rattle.rb_edge.specs.Source.{HoldsTheSame, Gives, FailsToOpen};
-ghost use Rattle.rb_edge.specs.MemSource.{held_in, bytes_of, after_open, after_read};
+ghost use Rattle.rb_edge.specs.MemSource.{new_source, held_in, bytes_of, after_open, after_read};
 
 use crate::calls::is_failing;
 use crate::history::Readings;
@@ -53,15 +53,7 @@ impl MemSource {
     /// `fail` fail. No file is open.
     pub fn new(files: Seq<NamedBytes>, step: usize, fail: Seq<u64>) -> MemSource
         requires { 1 ≤ step }
-        ensures { result ≡ record {
-          files = files;
-          step = step;
-          fail = fail;
-          calls = 0;
-          left = [];
-          readings = [];
-          faults = 0;
-        } }
+        ensures { result ≡ new_source files step fail }
     {
         MemSource {
             files,

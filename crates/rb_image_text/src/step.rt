@@ -44,6 +44,7 @@ fn digit_of(byte: u8) -> Option<u8>
     }
 }
 
+// Within the word `root`, of which so many bytes are read; behind it a word or the line's end.
 fn root_step(read: usize, byte: u8) -> Move
     ensures { result ≡ spec.root_step read byte }
 {
@@ -62,6 +63,7 @@ fn root_step(read: usize, byte: u8) -> Move
     }
 }
 
+// Within the `0x` before a word, of which so many bytes are read; behind it the word's first digit.
 fn prefix_step(read: usize, byte: u8) -> Move
     ensures { result ≡ spec.prefix_step read byte }
 {
@@ -79,6 +81,7 @@ fn prefix_step(read: usize, byte: u8) -> Move
     }
 }
 
+// Within a word, in hexadecimal digits without a leading zero.
 fn word_step(word: u64, byte: u8) -> Move
     ensures { result ≡ spec.word_step word byte }
 {
@@ -100,6 +103,8 @@ fn word_step(word: u64, byte: u8) -> Move
     }
 }
 
+// Within the word `block` and its blank, of which so many bytes are read; behind them the address's first
+// digit.
 fn line_step(read: usize, byte: u8) -> Move
     ensures { result ≡ spec.line_step read byte }
 {
@@ -117,6 +122,7 @@ fn line_step(read: usize, byte: u8) -> Move
     }
 }
 
+// Within the address of a block, in decimal digits without a leading zero.
 fn address_step(address: u64, byte: u8) -> Move
     ensures { result ≡ spec.address_step address byte }
 {
@@ -136,6 +142,7 @@ fn address_step(address: u64, byte: u8) -> Move
     }
 }
 
+// At the first digit of the size of the block at an address.
 fn sizing_step(address: u64, byte: u8) -> Move
     ensures { result ≡ spec.sizing_step address byte }
 {
@@ -151,6 +158,7 @@ fn sizing_step(address: u64, byte: u8) -> Move
     }
 }
 
+// Within the size of a block, up to the most bytes that a block has.
 fn size_step(alloc: Global, address: u64, size: usize, byte: u8) -> Move
     ensures { result ≡ spec.size_step address size byte }
 {
@@ -173,6 +181,7 @@ fn size_step(alloc: Global, address: u64, size: usize, byte: u8) -> Move
     }
 }
 
+// Between two bytes of a block with so many bytes; behind the last the line ends.
 fn bytes_step(block: ImageBlock, size: usize, byte: u8) -> Move
     ensures { result ≡ spec.bytes_step block size byte }
 {
@@ -188,6 +197,7 @@ fn bytes_step(block: ImageBlock, size: usize, byte: u8) -> Move
     }
 }
 
+// Behind the upper digit of a byte of a block.
 fn half_step(block: ImageBlock, size: usize, upper: u8, byte: u8) -> Result<Move, AllocError>
     requires { upper < 16 }
     ensures { IfOk result (λ m. m ≡ spec.half_step block size upper byte) }

@@ -13,24 +13,28 @@ use std::alloc::{AllocError, Global};
 /// The most nodes of an argument, and of a value that is shown.
 pub const NODES: u64 = 1_000_000;
 
+// The beginning of a line that says what is wrong with an argument.
 fn begin_argument(alloc: Global, number: u64) -> Result<Vec<u8>, AllocError>
     ensures { IfOk result (λ text. text.items ≡ argument_begun number) }
 {
     Ok(format!(in alloc; "ribbit: argument {number}: ")?.into_bytes())
 }
 
+// The line of an argument that spells no value: the byte at which none goes on.
 fn syntax(alloc: Global, number: u64, at: u64) -> Result<Vec<u8>, AllocError>
     ensures { IfOk result (λ text. text.items ≡ spec.syntax_line number at) }
 {
     Ok(format!(in alloc; "ribbit: argument {number}: syntax at byte {at}\n")?.into_bytes())
 }
 
+// The line of an argument with too many nodes.
 fn large(alloc: Global, number: u64) -> Result<Vec<u8>, AllocError>
     ensures { IfOk result (λ text. text.items ≡ spec.large_line number) }
 {
     Ok(format!(in alloc; "ribbit: argument {number}: over {NODES} nodes\n")?.into_bytes())
 }
 
+// The line of an argument that is a value, but none of the type; the byte is that of what does not fit.
 fn misfit(
     alloc: Global,
     types: &[DataDecl],

@@ -19,6 +19,7 @@ pub fn at_byte(alloc: Global, fault: &str, at: u64) -> Result<Vec<u8>, AllocErro
     Ok(format!(in alloc; "ribbit: {fault} at byte {at}\n")?.into_bytes())
 }
 
+// What a limit counts, as words.
 fn quantity(quantity: Quantity) -> &'static str
     ensures { result.now ≡ line.quantity_text quantity }
 {

@@ -18,6 +18,7 @@ fn push_word(alloc: Global, text: &mut Vec<u8>, word: u64) -> Result<(), AllocEr
     push(text, format!(in alloc; " 0x{word:x}")?.as_bytes())
 }
 
+// The words one after the other, each behind a blank.
 fn push_words(alloc: Global, text: &mut Vec<u8>, words: &[u64]) -> Result<(), AllocError>
     ensures { OnOk result (text.new.items ≡ text.old.items ++ words_text words.now) }
 {
@@ -48,6 +49,7 @@ fn digit(number: u8) -> u8
     }
 }
 
+// A byte as two hexadecimal digits.
 fn push_byte(text: &mut Vec<u8>, byte: u8) -> Result<(), AllocError>
     ensures { OnOk result (text.new.items ≡ text.old.items ++ spec.byte_text byte) }
 {
@@ -85,6 +87,7 @@ fn block(
     line::end(text)
 }
 
+// The line of a block behind the text so far.
 fn push_block(
     alloc: Global,
     text: &mut Vec<u8>,

@@ -11,6 +11,7 @@ use rb_core::program::Note;
 use rb_syntax::token::Placed;
 use std::alloc::{AllocError, Global};
 
+// The line of a clause that no value reaches. Clauses are counted from 0.
 fn note(alloc: Global, clause: u64, at: u64) -> Result<Vec<u8>, AllocError>
     ensures { IfOk result (λ text. text.items ≡ line.note_line clause at) }
 {
@@ -20,6 +21,7 @@ fn note(alloc: Global, clause: u64, at: u64) -> Result<Vec<u8>, AllocError>
     Ok(line.into_bytes())
 }
 
+// The line of a note behind the text so far.
 fn push_note(
     alloc: Global,
     text: &mut Vec<u8>,
@@ -35,6 +37,7 @@ fn push_note(
     Ok(())
 }
 
+// A line for each note behind the text so far.
 fn push_notes(
     alloc: Global,
     text: &mut Vec<u8>,

@@ -1,11 +1,11 @@
 -- Instructions of one call, up to where it calls another, returns, or ends the run.
-use Rattle.std.specs.Prelude.{◌≡◌, ℕ, ◌+◌, ◌<◌, ◌≤◌, List, length, slice_get}
+use Rattle.std.specs.Prelude.{ℕ, ◌+◌, ◌<◌, ◌≤◌, List, length, slice_get}
 use Rattle.rb_bytes.specs.Memory.{Memory}
 use Rattle.rb_target.specs.Meaning.{World, Outcome, Callee, over, from}
 use Rattle.rb_target.specs.Laws.{IsFinal}
 use Rattle.rb_target.specs.declared.instr.Instr.{Instr}
 use Rattle.rb_machine.specs.Runs.{IsNotTrapped}
-use Rattle.rb_machine.specs.Turns.{IsLeave}
+use Rattle.rb_machine.specs.Turns.{world, IsLeave}
 use Rattle.rb_machine.specs.declared.state.Stop.{Stop}
 use Rattle.rb_machine.specs.declared.state.Stop.TheVariants.{At, Ends}
 
@@ -23,4 +23,5 @@ IsStop body start (Ends e) count switches = IsFinal e
 -- the body does not trap from there, whatever calls do, at some number of calls left and of instructions so far
 abbrev pub IsQuietFrom : List Instr → ℕ → List ℕ → Memory → ℕ → Type 0
 IsQuietFrom body pc slots m switches =
-    (callee : Callee) × (left : ℕ) × (taken : ℕ) × IsNotTrapped (from body callee pc slots (record { left = left; memory = m; switches = switches; taken = taken })).ended
+    (callee : Callee) × (left : ℕ) × (taken : ℕ)
+    × IsNotTrapped (from body callee pc slots (world left m switches taken)).ended

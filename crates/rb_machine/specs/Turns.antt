@@ -24,7 +24,9 @@ dests_in o = []
 -- a call that waits, with its slots, goes on where the end is a return
 abbrev pub resume : List CodeFun → ℕ → Frame → List ℕ → Outcome → Outcome
 resume funs depth frame slots o =
-    after_call o.ended o.world (λ words. from (body_of funs frame.fun) (enter funs depth) (frame.pc + 1) (put_slots slots (dests_in (slice_get (body_of funs frame.fun) frame.pc)) words) o.world)
+    after_call o.ended o.world
+    (λ words. from (body_of funs frame.fun) (enter funs depth) (frame.pc + 1)
+    (put_slots slots (dests_in (slice_get (body_of funs frame.fun) frame.pc)) words) o.world)
 
 -- how many slots a function has
 abbrev pub width_of : List CodeFun → ℕ → ℕ
@@ -35,7 +37,8 @@ width_of funs fun = slots_in (slice_get funs fun)
 abbrev pub unwind : List CodeFun → ℕ → List Frame → List ℕ → Outcome → Outcome
 unwind funs depth [] stack o = o
 unwind funs depth (frame ∷ frames) stack o =
-    resume funs depth frame (take (width_of funs frame.fun) stack) (unwind funs (depth - 1) frames (drop (width_of funs frame.fun) stack) o)
+    resume funs depth frame (take (width_of funs frame.fun) stack)
+    (unwind funs (depth - 1) frames (drop (width_of funs frame.fun) stack) o)
 
 -- the slots of the calls that wait, and those of the current one
 abbrev pub waiting_slots : State → List ℕ
@@ -44,13 +47,18 @@ waiting_slots s = take s.base s.stack.items
 abbrev pub current_slots : State → List ℕ
 current_slots s = drop s.base s.stack.items
 
+-- so many calls left, a memory, and so many switches and instructions so far
+abbrev pub world : ℕ → Memory → ℕ → ℕ → World
+world left m switches taken = record { left = left; memory = m; switches = switches; taken = taken }
+
 abbrev pub world_of : State → Memory → ℕ → World
-world_of s m taken = record { left = s.left; memory = m; switches = s.switches; taken = taken }
+world_of s m taken = world s.left m s.switches taken
 
 -- what is still to come
 abbrev pub rest_of : List CodeFun → ℕ → State → Memory → ℕ → Outcome
 rest_of funs depth s m taken =
-    unwind funs depth s.frames.items (waiting_slots s) (from (body_of funs s.fun) (enter funs (depth - length s.frames.items)) s.pc (current_slots s) (world_of s m taken))
+    unwind funs depth s.frames.items (waiting_slots s)
+    (from (body_of funs s.fun) (enter funs (depth - length s.frames.items)) s.pc (current_slots s) (world_of s m taken))
 
 -- how many instructions can still come at this place
 abbrev pub room_at : List CodeFun → ℕ → ℕ → ℕ
@@ -134,14 +142,16 @@ IsLeft i (Goes t) old new = Unit {0}
 IsLeft i (Ends e) old new = Unit {0}
 
 -- from the state s over the memory m so many instructions lead to s' over m'
-pub record Turned (funs : List CodeFun) (depth : ℕ) (s : State) (m : Memory) (s' : State) (m' : Memory) (count : ℕ) : Type 0 where
+pub record Turned (funs : List CodeFun) (depth : ℕ) (s : State) (m : Memory) (s' : State) (m' : Memory)
+    (count : ℕ) : Type 0 where
   pub sound : IsSound funs depth s'
   pub less : work funs s' + count ≤ work funs s
   pub same : (taken : ℕ) → rest_of funs depth s m taken ≡ rest_of funs depth s' m' (taken + count)
 
 -- from there so many instructions end the run
 abbrev pub Ended : List CodeFun → ℕ → State → Memory → End → State → Memory → ℕ → Type 0
-Ended funs depth s m e s' m' count = (taken : ℕ) → rest_of funs depth s m taken ≡ over e (world_of s' m' (taken + count))
+Ended funs depth s m e s' m' count =
+    (taken : ℕ) → rest_of funs depth s m taken ≡ over e (world_of s' m' (taken + count))
 
 -- the rest does not trap
 abbrev pub IsQuiet : List CodeFun → ℕ → State → Memory → Type 0

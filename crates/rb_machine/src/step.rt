@@ -4,7 +4,7 @@ ghost use Rattle.std.specs.Prelude.{◌≡◌, ℕ, ◌<◌, ◌≤◌, ◌+◌,
 ghost use Rattle.rb_bytes.specs.Memory.{IsWidth, load_of, store_of, place_of};
 ghost use Rattle.rb_target.specs.Meaning.{Next, Callee, act, target_of as the_target_of};
 ghost use Rattle.rb_target.specs.Validity.{IsFine};
-ghost use Rattle.rb_machine.specs.Turns.{IsFlow, flow_to, MayRun, GoesOn, IsLeft};
+ghost use Rattle.rb_machine.specs.Turns.{world, IsFlow, flow_to, MayRun, GoesOn, IsLeft};
 
 use crate::alu::{alu, low_bits};
 use crate::state::{Flow, Leave};
@@ -32,14 +32,8 @@ pub fn step<'a, M: ByteMemory>(
     requires switches { switches.old < 2 ^ 127 }
     requires checks { M.CHECKS ≡ false → MayRun (M.memory memory.old) slots.old instr.now }
     ensures flow { (next : Next) (callee : Callee) (left taken : ℕ) →
-        act instr.now next callee pc slots.old
-        (record { left = left; memory = M.memory memory.old; switches = switches.old; taken = taken })
-        ≡ flow_to instr.now callee pc result next slots.new (record {
-          left = left;
-          memory = M.memory memory.new;
-          switches = switches.new;
-          taken = taken;
-        }) }
+        act instr.now next callee pc slots.old (world left (M.memory memory.old) switches.old taken)
+        ≡ flow_to instr.now callee pc result next slots.new (world left (M.memory memory.new) switches.new taken) }
     ensures target { IsFlow (length fun.now.body) pc result }
     ensures switches { switches.new ≤ switches.old + 1 }
     ensures leaves { IsLeft instr.now result switches.old switches.new }

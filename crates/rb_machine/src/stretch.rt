@@ -5,6 +5,7 @@ ghost use Rattle.rb_bytes.specs.Memory.{Memory};
 ghost use Rattle.rb_target.specs.Meaning.{Callee, from};
 ghost use Rattle.rb_target.specs.Validity.{IsValidFun};
 ghost use Rattle.rb_target.specs.Laws.{Law};
+ghost use Rattle.rb_machine.specs.Turns.{world};
 ghost use Rattle.rb_machine.specs.Stretches.{stop_to, IsStop, IsQuietFrom};
 
 use crate::state::{Flow, Stop};
@@ -31,15 +32,9 @@ pub fn stretch<'a, M: ByteMemory, L: Ledger>(
     requires switches { switches.old + length fun.now.body < 2 ^ 127 + start }
     requires checks { M.CHECKS ≡ false → IsQuietFrom fun.now.body start slots.old (M.memory memory.old) switches.old }
     ensures same { (callee : Callee) (left taken : ℕ) →
-        from fun.now.body callee start slots.old
-        (record { left = left; memory = M.memory memory.old; switches = switches.old; taken = taken })
+        from fun.now.body callee start slots.old (world left (M.memory memory.old) switches.old taken)
         ≡ stop_to fun.now.body callee result slots.new
-        (record {
-          left = left;
-          memory = M.memory memory.new;
-          switches = switches.new;
-          taken = taken + (steps.new.taken - steps.old.taken);
-        }) }
+        (world left (M.memory memory.new) switches.new (taken + (steps.new.taken - steps.old.taken))) }
     ensures stop { IsStop fun.now.body start result (steps.new.taken - steps.old.taken) (switches.new - switches.old) }
     ensures ticks { steps.old.taken ≤ steps.new.taken }
 {
@@ -82,15 +77,9 @@ pub fn stretch_above<'a, M: ByteMemory, L: Ledger>(
         (M.memory memory.old) switches.old }
     ensures below { take base stack.new ≡ take base stack.old }
     ensures same { (callee : Callee) (left taken : ℕ) →
-        from fun.now.body callee start (drop base stack.old)
-        (record { left = left; memory = M.memory memory.old; switches = switches.old; taken = taken })
+        from fun.now.body callee start (drop base stack.old) (world left (M.memory memory.old) switches.old taken)
         ≡ stop_to fun.now.body callee result (drop base stack.new)
-        (record {
-          left = left;
-          memory = M.memory memory.new;
-          switches = switches.new;
-          taken = taken + (steps.new.taken - steps.old.taken);
-        }) }
+        (world left (M.memory memory.new) switches.new (taken + (steps.new.taken - steps.old.taken))) }
     ensures stop { IsStop fun.now.body start result (steps.new.taken - steps.old.taken) (switches.new - switches.old) }
     ensures ticks { steps.old.taken ≤ steps.new.taken }
 {

@@ -170,5 +170,6 @@ pub record IsWorking (types : List DataDecl) (root : Problem) (ps : List Problem
   pub none : AllNone types ps → NoneIn types root
   pub within : AreWithin types root ps
 
+-- the problem that a search begins with
 abbrev pub root_of : List Ty → List (List Pat) → List (List Pat) → Problem
 root_of tys wanted unwanted = record { tys = tys; wanted = wanted; unwanted = unwanted; steps = [] }

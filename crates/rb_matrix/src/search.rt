@@ -11,7 +11,7 @@ ghost use Rattle.std.specs.Prelude.{◌≡◌, List, IfOk, []};
 ghost use Rattle.rb_core.specs.declared.types.DataDecl as DataDecls;
 ghost use Rattle.rb_matrix.specs.Rows.{row_matches, any_row, all_rows};
 ghost use Rattle.rb_matrix.specs.Search.{AreInhabited, AreTypesIn, IsAnswer};
-ghost use Rattle.rb_matrix.specs.Problems.{IsOutcome};
+ghost use Rattle.rb_matrix.specs.Problems.{IsOutcome, root_of};
 
 use crate::open::some_is_open;
 use crate::part::parts_of;
@@ -72,12 +72,7 @@ fn root(
     wanted: &[Seq<Pat>],
     unwanted: &[Seq<Pat>],
 ) -> Result<Problem, AllocError>
-    ensures { IfOk result (λ p. p ≡ record {
-      tys = tys.now;
-      wanted = wanted.now;
-      unwanted = unwanted.now;
-      steps = [];
-    }) }
+    ensures { IfOk result (λ p. p ≡ root_of tys.now wanted.now unwanted.now) }
 {
     Ok(Problem {
         tys: Stack::from_seq(Seq::from_vec(Vec::from_slice(alloc, tys)?)),

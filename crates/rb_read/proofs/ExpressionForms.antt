@@ -1,5 +1,5 @@
 -- Expressions and clauses.
-use Rattle.std.proofs.Common.{◌≡◌, ℕ, zero, suc, ◌+◌, ◌-◌, ◌≤◌, List, [], ◌∷◌, ◌++◌, map, length, Bool, true, false, nat_lt, Option, Some, None, is_some, Ok, Err, refl, sym, ◌∙◌, ap, subst, arith}
+use Rattle.std.proofs.Common.{◌≡◌, ℕ, zero, suc, ◌+◌, List, [], ◌∷◌, map, Bool, true, false, nat_lt, Option, Some, None, is_some, refl, ◌∙◌, ap, subst, arith}
 use Rattle.rb_core.specs.declared.expression.Op.{Op}
 use Rattle.rb_core.specs.declared.expression.Op.TheVariants as op
 use Rattle.rb_syntax.specs.declared.token.Word.{Word}
@@ -15,8 +15,8 @@ use Rattle.rb_syntax.specs.declared.tree.ExprTree.{ExprTree, out-ExprTree, roll-
 use Rattle.rb_syntax.specs.declared.tree.ExprTree as X
 use Rattle.rb_syntax.specs.declared.tree.ExprTree.TheOpen as expr
 use Rattle.rb_syntax.specs.declared.tree.ExprTree.TheOpen.{ExprTree-F}
-use Rattle.rb_syntax.specs.Written.{Written, Writing, token, number, node, tokens_in, some_with, any_with, checked}
-use Rattle.rb_syntax.specs.Spelling.{at_level, fields_written, reserved, op_word, ty_written, lower_written, uint_written, pat_written, expr_written, clause_written}
+use Rattle.rb_syntax.specs.Written.{Written, Writing, token, number, node, tokens_in, some_with, any_with}
+use Rattle.rb_syntax.specs.Spelling.{fields_written, op_word, ty_written, lower_written, uint_written, pat_written, expr_written, clause_written}
 use Rattle.rb_syntax.proofs.SpellingLemmas.{expr-Num, expr-Var, expr-Call, expr-Build, expr-Binary, expr-To, expr-Let, expr-Match, clause-is}
 use Rattle.rb_read.specs.declared.starting.Form.{Form}
 use Rattle.rb_read.specs.declared.starting.Form.TheVariants as form
@@ -28,8 +28,8 @@ use Rattle.rb_read.specs.Tokens.{lower_name, width}
 use Rattle.rb_read.specs.Reading.{named, called, type_tree, pattern, begins_expression, is_form, expression_one, expression}
 use Rattle.rb_read.specs.Reading as reading
 use Rattle.rb_read.proofs.Forms.{IsRight, Again, Clear, IsForm}
-use Rattle.rb_read.proofs.FormLaws.{nat_lt-zero, nothing-form, pair-form, first-strict, iso-form, into-strict, alias-form}
-use Rattle.rb_read.proofs.NodeForms.{AtToken, IsPart, part-form, none-at, node-at, node-again, if-at, IsDeep, IsDeepBegun, zero-form}
+use Rattle.rb_read.proofs.FormLaws.{nothing-form, pair-form, first-strict, iso-form, into-strict, alias-form}
+use Rattle.rb_read.proofs.NodeForms.{AtToken, IsPart, part-form, none-at, node-at, node-again, IsDeep, IsDeepBegun, zero-form}
 use Rattle.rb_read.proofs.TokenForms.{symbol-part, word-part, lower-part, width-part}
 use Rattle.rb_read.proofs.TypeForms.{opens_paren, all-clear, before-any, type-part}
 use Rattle.rb_read.proofs.ListForms.{perhaps, optional-form, in_parens-form, some_closed-form, any_closed-form}

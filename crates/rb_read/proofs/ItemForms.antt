@@ -1,23 +1,18 @@
 -- Items and files.
-use Rattle.std.proofs.Common.{◌≡◌, ℕ, zero, suc, ◌+◌, ◌-◌, ◌≤◌, List, [], ◌∷◌, ◌++◌, map, length, Bool, true, false, nat_lt, Option, Some, None, is_some, Ok, Err, refl, sym, ◌∙◌, ap, subst, arith}
+use Rattle.std.proofs.Common.{◌≡◌, ℕ, List, [], ◌∷◌, ◌++◌, map, Bool, false, is_some, refl, arith}
 use Rattle.rb_core.specs.declared.types.Auto.{Auto}
 use Rattle.rb_core.specs.declared.types.Auto.TheVariants as auto
-use Rattle.rb_syntax.specs.declared.token.Word.{Word}
 use Rattle.rb_syntax.specs.declared.token.Word.TheVariants as word
 use Rattle.rb_syntax.specs.declared.token.Symbol.TheVariants as symbol
 use Rattle.rb_syntax.specs.declared.token.Token.{Token}
 use Rattle.rb_syntax.specs.declared.token.Token.TheVariants as tok
 use Rattle.rb_syntax.specs.declared.tree.NameTree.{NameTree}
-use Rattle.rb_syntax.specs.declared.tree.SplitTree.{SplitTree}
-use Rattle.rb_syntax.specs.declared.tree.TypeTree.{TypeTree}
-use Rattle.rb_syntax.specs.declared.tree.LayoutTree.{LayoutTree}
-use Rattle.rb_syntax.specs.declared.tree.FunTree.{FunTree}
 use Rattle.rb_syntax.specs.declared.tree.ItemTree.{ItemTree}
 use Rattle.rb_syntax.specs.declared.tree.ItemTree.TheVariants as top
 use Rattle.rb_syntax.specs.Written.{Written, Writing, token, number, tokens_in, each, some_with, any_with}
 use Rattle.rb_syntax.specs.Spelling as spelling
 use Rattle.rb_syntax.specs.Spelling.{num, reserved, upper_written, lower_written, ty_written, con_written, param_written, width_written, item_written}
-use Rattle.rb_read.specs.Combining.{Reader, pair, into, nothing, expect, some_closed, any_closed, each_of}
+use Rattle.rb_read.specs.Combining.{Reader, pair, into, nothing, expect, some_closed, any_closed}
 use Rattle.rb_read.specs.Open.{Open, one, many, first, next, the, a_number, a_lower, an_upper, a_type, a_con, a_param, derived, layout_rest, item, begins, start}
 use Rattle.rb_read.specs.Open as open_at
 use Rattle.rb_read.specs.Tokens as tokens
@@ -25,10 +20,10 @@ use Rattle.rb_read.specs.Tokens.{lower_name, upper_name}
 use Rattle.rb_read.specs.Reading.{LayoutRest, laid_out, auto_from, auto_word, layout_of, con_tree, param_tree, type_tree, expression, layout_tree, begins_item, file_items}
 use Rattle.rb_read.specs.Reading as reading
 use Rattle.rb_read.proofs.Forms.{IsRight, Again, Clear, IsForm}
-use Rattle.rb_read.proofs.FormLaws.{nat_lt-zero, all-clear, nothing-form, pair-form}
+use Rattle.rb_read.proofs.FormLaws.{nat_lt-zero, nothing-form, pair-form}
 use Rattle.rb_read.proofs.NodeForms.{AtToken, IsPart, part-form, none-at, node-at, node-at-by, node-again, AreMarks, AllAre, is_deeper}
 use Rattle.rb_read.proofs.TokenForms.{symbol-part, lower-part, upper-part, number-part}
-use Rattle.rb_read.proofs.TypeForms.{opens_paren, before-any, type-part, con-part, param-part}
+use Rattle.rb_read.proofs.TypeForms.{before-any, type-part, con-part, param-part}
 use Rattle.rb_read.proofs.ExpressionForms.{expression-part}
 use Rattle.rb_read.proofs.ListForms.{some_closed-form, any_closed-form, each-form}
 use Rattle.rb_read.proofs.TreeForms.{at_tree, tree-part}

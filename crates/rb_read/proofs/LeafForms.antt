@@ -1,5 +1,5 @@
 -- Parts and items of a leaf.
-use Rattle.std.proofs.Common.{◌≡◌, ℕ, zero, suc, ◌+◌, ◌-◌, List, [], ◌∷◌, ◌++◌, map, length, Bool, true, false, ◌||◌, nat_lt, Option, Some, None, is_some, Ok, Err, refl, sym, ◌∙◌, ap, subst, arith}
+use Rattle.std.proofs.Common.{◌≡◌, ℕ, zero, suc, ◌+◌, List, [], ◌∷◌, ◌++◌, map, Bool, true, false, ◌||◌, nat_lt, Option, Some, None, is_some, Ok, Err, refl, ◌∙◌, ap, subst, arith}
 use Rattle.rb_core.specs.declared.layout_decl.LayItem.{LayItem, out-LayItem, roll-out-LayItem}
 use Rattle.rb_core.specs.declared.layout_decl.LayItem as I
 use Rattle.rb_core.specs.declared.layout_decl.LayItem.TheViews as V
@@ -8,16 +8,15 @@ use Rattle.rb_core.specs.declared.layout_decl.LayItem.TheOpen.{LayItem-F, PartKi
 use Rattle.rb_core.specs.declared.layout_decl.PartKind.{PartKind}
 use Rattle.rb_core.specs.declared.layout_decl.PartKind as K
 use Rattle.rb_core.specs.declared.layout_decl.PartDecl.{PartDecl}
-use Rattle.rb_syntax.specs.declared.token.Word.{Word}
 use Rattle.rb_syntax.specs.declared.token.Word.TheVariants as word
 use Rattle.rb_syntax.specs.declared.token.Symbol.TheVariants as symbol
 use Rattle.rb_syntax.specs.declared.token.Token.{Token}
 use Rattle.rb_syntax.specs.declared.token.Token.TheVariants as tok
 use Rattle.rb_syntax.specs.Written.{Written, Writing, token, node, flaw, tokens_in, each, any_with}
-use Rattle.rb_syntax.specs.Spelling.{num, reserved, range_written, field_written, path_written, kind_written, part_written, lay_item_written}
+use Rattle.rb_syntax.specs.Spelling.{num, reserved, range_written, field_written, kind_written, part_written, lay_item_written}
 use Rattle.rb_syntax.proofs.LayoutSpelling.{item-Word, item-Inline, part-is, kind-Const, kind-Whole, kind-Slice, kind-Word, kind-Pointer}
-use Rattle.rb_read.specs.Starting.{is_symbol, is_word}
-use Rattle.rb_read.specs.Combining.{Reader, Reading, ◌>>=◌, deep, pair, into, expect, optional, any_closed}
+use Rattle.rb_read.specs.Starting.{is_symbol}
+use Rattle.rb_read.specs.Combining.{Reader, Reading, ◌>>=◌, pair, into, expect, optional, any_closed}
 use Rattle.rb_read.specs.Open.{Open, one, maybe, many, first, the, a_number, a_field, a_range, into_field, begins, if_so, ahead_of}
 use Rattle.rb_read.specs.Open as open_at
 use Rattle.rb_read.specs.Tokens.{number, field}

@@ -1,25 +1,23 @@
 -- Ranges, paths and locations.
-use Rattle.std.proofs.Common.{◌≡◌, ℕ, suc, ◌^◌, List, [], ◌∷◌, ◌++◌, map, length, Bool, true, false, nat_lt, Option, Some, None, is_some, Ok, Err, refl, sym, ◌∙◌, ap, subst}
-use Rattle.rb_core.specs.declared.layout_decl.Step.{Step}
-use Rattle.rb_core.specs.declared.layout_decl.Loc.{Loc}
+use Rattle.std.proofs.Common.{◌≡◌, ℕ, List, [], ◌∷◌, map, Bool, true, false, is_some, refl}
 use Rattle.rb_syntax.specs.declared.token.Symbol.{Symbol}
 use Rattle.rb_syntax.specs.declared.token.Symbol.TheVariants as symbol
 use Rattle.rb_syntax.specs.declared.token.Token.{Token}
 use Rattle.rb_syntax.specs.declared.token.Token.TheVariants as tok
-use Rattle.rb_syntax.specs.Written.{Written, Writing, token, tokens_in, each, checked}
-use Rattle.rb_syntax.specs.Spelling.{num, range_written, field_written, path_written, loc_step_written, loc_written}
+use Rattle.rb_syntax.specs.Written.{Writing, token, each}
+use Rattle.rb_syntax.specs.Spelling.{num, range_written, field_written, loc_step_written, loc_written}
 use Rattle.rb_read.specs.Starting.{is_symbol}
-use Rattle.rb_read.specs.Combining.{Reader, pair, into, expect, each_of}
+use Rattle.rb_read.specs.Combining.{pair, expect, each_of}
 use Rattle.rb_read.specs.Open.{Open, one, maybe, many, the, a_number, a_field, a_range, into_field, begins, if_so, ahead_of}
 use Rattle.rb_read.specs.Open as open_at
-use Rattle.rb_read.specs.Tokens.{number, field}
+use Rattle.rb_read.specs.Tokens.{number}
 use Rattle.rb_read.specs.Reading.{range_rest, range, field_in, more_fields, path, location}
 use Rattle.rb_read.specs.Reading as reading
-use Rattle.rb_read.proofs.Forms.{IsRight, Again, Clear, IsForm}
-use Rattle.rb_read.proofs.FormLaws.{pair-form, first-strict, iso-form, into-strict, alias-form}
+use Rattle.rb_read.proofs.Forms.{IsForm}
+use Rattle.rb_read.proofs.FormLaws.{first-strict, iso-form, into-strict, alias-form}
 use Rattle.rb_read.proofs.NodeForms.{IsPart}
 use Rattle.rb_read.proofs.TokenForms.{symbol-part, number-part, field-part}
-use Rattle.rb_read.proofs.TypeForms.{all-clear, before-any}
+use Rattle.rb_read.proofs.TypeForms.{before-any}
 use Rattle.rb_read.proofs.ListForms.{each-form}
 
 -- a part of the grammar that begins with a symbol, and with nothing else

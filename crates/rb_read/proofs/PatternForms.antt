@@ -1,5 +1,5 @@
 -- Patterns and provenances.
-use Rattle.std.proofs.Common.{◌≡◌, ℕ, zero, suc, ◌+◌, ◌-◌, ◌≤◌, List, [], ◌∷◌, ◌++◌, map, length, Bool, true, false, nat_lt, Some, None, Ok, Err, refl, sym, ◌∙◌, ap, subst, arith}
+use Rattle.std.proofs.Common.{◌≡◌, ℕ, zero, suc, ◌+◌, List, [], ◌∷◌, map, true, false, nat_lt, None, refl, ◌∙◌, ap, subst, arith}
 use Rattle.std.proofs.lemmas.Grind.{common_steps}
 use Rattle.rb_syntax.specs.declared.token.Symbol.TheVariants as symbol
 use Rattle.rb_syntax.specs.declared.token.Token.{Token}
@@ -7,21 +7,20 @@ use Rattle.rb_syntax.specs.declared.token.Token.TheVariants as tok
 use Rattle.rb_syntax.specs.declared.tree.NameTree.{NameTree}
 use Rattle.rb_syntax.specs.declared.tree.PatTree.{PatTree}
 use Rattle.rb_syntax.specs.declared.tree.PatTree as P
-use Rattle.rb_syntax.specs.Written.{Written, Writing, token, number, node, flaw, tokens_in}
+use Rattle.rb_syntax.specs.Written.{Written, token, number, node, flaw, tokens_in}
 use Rattle.rb_syntax.specs.Spelling.{Deep, at_level, fields_written, pat_written, below_written, prov_written}
 use Rattle.rb_syntax.proofs.SpellingLemmas.{pat-Wild, pat-Var, pat-Num, pat-Con}
 use Rattle.rb_syntax.proofs.LayoutSpelling.{below-Wild, below-Var, below-Num, below-Con}
-use Rattle.rb_syntax.proofs.PatternInduction.{Each, Cases, induction}
-use Rattle.rb_read.specs.Starting.{is_symbol}
-use Rattle.rb_read.specs.Combining.{Reader, into, nothing, pair, in_parens, beyond}
-use Rattle.rb_read.specs.Open.{Open, maybe, fields, pat, below, prov, begins, as_pattern}
+use Rattle.rb_syntax.proofs.PatternInduction.{induction}
+use Rattle.rb_read.specs.Combining.{Reader, into, nothing, in_parens, beyond}
+use Rattle.rb_read.specs.Open.{maybe, fields, pat, below, prov, begins, as_pattern}
 use Rattle.rb_read.specs.Reading.{named, begins_pattern, pattern_from, pattern_one, pattern, begins_below, below_from, below_one, is_upper, provenance_from, provenance_one, provenance}
 use Rattle.rb_read.specs.Reading as reading
 use Rattle.rb_read.proofs.Forms.{IsRight, Again, Clear, IsForm}
-use Rattle.rb_read.proofs.FormLaws.{nat_lt-zero, nothing-form, pair-form}
-use Rattle.rb_read.proofs.NodeForms.{AtToken, IsPart, part-form, none-at, node-at, node-again, if-at, IsDeep, IsDeepBegun, zero-form}
+use Rattle.rb_read.proofs.FormLaws.{nothing-form}
+use Rattle.rb_read.proofs.NodeForms.{AtToken, IsPart, part-form, none-at, node-at, node-again, IsDeep, IsDeepBegun, zero-form}
 use Rattle.rb_read.proofs.ListForms.{in_parens-form}
-use Rattle.rb_read.proofs.TypeForms.{opens_paren, all-clear, before-any}
+use Rattle.rb_read.proofs.TypeForms.{opens_paren, all-clear}
 
 pub at_level-map : {A : Type 0} (w : A → Deep) (l : ℕ) (xs : List A) → at_level l (map w xs) ≡ map (λ x. w x l) xs
 at_level-map w l [] = refl

@@ -1,5 +1,5 @@
 -- Trees of layouts.
-use Rattle.std.proofs.Common.{◌≡◌, ℕ, zero, suc, ◌+◌, ◌-◌, ◌≤◌, List, [], ◌∷◌, ◌++◌, map, length, Bool, true, false, nat_lt, Option, Some, None, is_some, Ok, Err, IfOk, refl, sym, ◌∙◌, ap, subst, arith}
+use Rattle.std.proofs.Common.{◌≡◌, ℕ, zero, suc, ◌+◌, ◌-◌, List, [], ◌∷◌, map, length, Bool, true, false, nat_lt, Option, Some, None, is_some, refl, ◌∙◌, ap, subst, arith}
 use Rattle.std.proofs.lemmas.Grind.{common_steps}
 use Rattle.rb_core.specs.declared.layout_decl.Loc.{Loc}
 use Rattle.rb_core.specs.declared.layout_decl.LayItem.{LayItem}
@@ -17,23 +17,22 @@ use Rattle.rb_syntax.specs.declared.tree.SplitTree as S
 use Rattle.rb_syntax.specs.declared.tree.SplitTree.TheOpen as split
 use Rattle.rb_syntax.specs.declared.tree.SplitTree.TheOpen.{SplitTree-F}
 use Rattle.rb_syntax.specs.Written.{Written, Writing, token, number, node, flaw, tokens_in, each, some_with}
-use Rattle.rb_syntax.specs.Spelling.{num, reserved, fields_written, below_written, prov_written, loc_written, lay_item_written, split_written, arm_written}
+use Rattle.rb_syntax.specs.Spelling.{fields_written, below_written, prov_written, loc_written, split_written, arm_written}
 use Rattle.rb_syntax.proofs.SpellingLemmas.{arm-is, split-Leaf, split-None, split-Some}
-use Rattle.rb_syntax.proofs.LayoutSpelling.{below-Wild, below-Var, below-Num, below-Con}
-use Rattle.rb_read.specs.Starting.{is_symbol, is_word, is_number}
-use Rattle.rb_read.specs.Combining.{Reader, pair, into, expect, expect_word, optional, some_closed, each_of, beyond}
+use Rattle.rb_syntax.proofs.LayoutSpelling.{below-Var, below-Num}
+use Rattle.rb_read.specs.Starting.{is_word, is_number}
+use Rattle.rb_read.specs.Combining.{Reader, pair, expect, optional, some_closed, each_of, beyond}
 use Rattle.rb_read.specs.Open.{Open, one, maybe, many, first, next, the, the_word, a_number, a_range, begins, if_so, ahead_of}
 use Rattle.rb_read.specs.Open as open_at
-use Rattle.rb_read.specs.Tokens as tokens
 use Rattle.rb_read.specs.Reading.{begins_tree, arm_tree, else_tree, split_rest, leaf, tree_by, layout_tree, location, lay_item_tree, provenance}
 use Rattle.rb_read.proofs.Forms.{IsRight, Again, Clear, IsForm}
-use Rattle.rb_read.proofs.FormLaws.{nat_lt-zero, all-clear, ok-same, IsStrict, pair-form, first-strict, iso-form, into-strict, alias-form}
+use Rattle.rb_read.proofs.FormLaws.{all-clear, pair-form, first-strict, iso-form, into-strict, alias-form}
 use Rattle.rb_read.proofs.NodeForms.{AtToken, IsPart, part-form, none-at, node-at, node-again, whole-at, whole-again, IsDeep, IsDeepBegun, zero-form}
 use Rattle.rb_read.proofs.TokenForms.{symbol-part, word-part, number-part}
 use Rattle.rb_read.proofs.TypeForms.{opens_paren, before-any}
 use Rattle.rb_read.proofs.ListForms.{perhaps, some_closed-form, optional-form, each-form}
 use Rattle.rb_read.proofs.PatternForms.{by_form, at_level-map, within, not-within, below-con-written, provenance-part}
-use Rattle.rb_read.proofs.LocationForms.{opens_arrow, opens_dot, location-form}
+use Rattle.rb_read.proofs.LocationForms.{location-form}
 use Rattle.rb_read.proofs.LeafForms.{at_item, item-part}
 
 abbrev none : Token → Bool

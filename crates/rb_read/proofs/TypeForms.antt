@@ -1,12 +1,10 @@
 -- Types, constructors and parameters.
-use Rattle.std.proofs.Common.{◌≡◌, ℕ, suc, ◌-◌, ◌≤◌, List, [], ◌∷◌, ◌++◌, map, length, Bool, true, false, Some, None, Ok, Err, refl, sym, ◌∙◌, ap, subst}
+use Rattle.std.proofs.Common.{◌≡◌, ℕ, suc, ◌-◌, List, [], ◌∷◌, ◌++◌, map, length, Bool, true, false, Ok, Err, refl, sym, ◌∙◌, ap}
 use Rattle.rb_syntax.specs.declared.token.Symbol.TheVariants as symbol
 use Rattle.rb_syntax.specs.declared.token.Token.{Token}
 use Rattle.rb_syntax.specs.declared.token.Token.TheVariants as tok
 use Rattle.rb_syntax.specs.declared.tree.TyTree.{TyTree}
 use Rattle.rb_syntax.specs.declared.tree.TyTree.TheVariants as ty
-use Rattle.rb_syntax.specs.declared.tree.ConTree.{ConTree}
-use Rattle.rb_syntax.specs.declared.tree.ParamTree.{ParamTree}
 use Rattle.rb_syntax.specs.Written.{Written, Writing, token, number, tokens_in}
 use Rattle.rb_syntax.specs.Spelling.{is_width, ty_written, fields_written, con_written, param_written}
 use Rattle.rb_read.specs.Starting.{is_symbol}

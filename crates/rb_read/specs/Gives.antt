@@ -1,5 +1,5 @@
 -- What code answers, against what a reader gives.
-use Rattle.std.specs.Prelude.{◌≡◌, ℕ, List, Result, Ok, Err}
+use Rattle.std.specs.Prelude.{◌≡◌, List, Result, Ok, Err}
 use Rattle.rb_syntax.specs.declared.token.Token.{Token}
 use Rattle.rb_read.specs.declared.stop.Stop as stops
 use Rattle.rb_read.specs.declared.stop.Stop.TheVariants as stop

@@ -1,5 +1,5 @@
 -- The counts of a file that have a limit.
-use Rattle.std.specs.Prelude.{ℕ, List, [], ◌∷◌, map, length, Bool, nat_lt, Option, Some, None, find}
+use Rattle.std.specs.Prelude.{ℕ, List, [], ◌∷◌, map, length, Bool, nat_lt, Option, find}
 use Rattle.std.specs.List.{flat_map}
 use Rattle.rb_core.specs.Limits as limits
 use Rattle.rb_syntax.specs.declared.tree.ConTree.{ConTree}

@@ -11,7 +11,6 @@ use Rattle.rb_core.specs.declared.layout_decl.LayItem.TheVariants as lay_item
 use Rattle.rb_core.specs.declared.layout_decl.PartKind.{PartKind}
 use Rattle.rb_core.specs.declared.layout_decl.PartKind.TheVariants as kind
 use Rattle.rb_core.specs.declared.layout_decl.PartDecl.{PartDecl}
-use Rattle.rb_syntax.specs.declared.token.Word.{Word}
 use Rattle.rb_syntax.specs.declared.token.Word.TheVariants as word
 use Rattle.rb_syntax.specs.declared.token.Symbol.TheVariants as symbol
 use Rattle.rb_syntax.specs.declared.token.Token.{Token}
@@ -20,25 +19,22 @@ use Rattle.rb_syntax.specs.declared.tree.NameTree.{NameTree}
 use Rattle.rb_syntax.specs.declared.tree.TyTree.{TyTree}
 use Rattle.rb_syntax.specs.declared.tree.TyTree.TheVariants as ty
 use Rattle.rb_syntax.specs.declared.tree.ConTree.{ConTree}
-use Rattle.rb_syntax.specs.declared.tree.TypeTree.{TypeTree}
 use Rattle.rb_syntax.specs.declared.tree.PatTree.{PatTree}
 use Rattle.rb_syntax.specs.declared.tree.PatTree.TheVariants as pat
 use Rattle.rb_syntax.specs.declared.tree.ExprTree.{ExprTree}
 use Rattle.rb_syntax.specs.declared.tree.ExprTree.TheVariants as expr
 use Rattle.rb_syntax.specs.declared.tree.ClauseTree.{ClauseTree}
 use Rattle.rb_syntax.specs.declared.tree.ParamTree.{ParamTree}
-use Rattle.rb_syntax.specs.declared.tree.FunTree.{FunTree}
 use Rattle.rb_syntax.specs.declared.tree.SplitTree.{SplitTree}
 use Rattle.rb_syntax.specs.declared.tree.SplitTree.TheVariants as split
 use Rattle.rb_syntax.specs.declared.tree.ArmTree.{ArmTree}
-use Rattle.rb_syntax.specs.declared.tree.LayoutTree.{LayoutTree}
 use Rattle.rb_syntax.specs.declared.tree.ItemTree.{ItemTree}
 use Rattle.rb_syntax.specs.declared.tree.ItemTree.TheVariants as top
 use Rattle.rb_syntax.specs.Spelling.{is_width}
 use Rattle.rb_read.specs.declared.starting.Form.{Form}
 use Rattle.rb_read.specs.declared.starting.Form.TheVariants as form
 use Rattle.rb_read.specs.Starting.{is_symbol, is_word, is_number, form_of}
-use Rattle.rb_read.specs.Combining.{Reader, Reading, stuck, deep, ◌>>=◌, pair, into, nothing, passing, expect, expect_word, begins_with, some_closed, any_closed, in_parens, optional, each_of, beyond}
+use Rattle.rb_read.specs.Combining.{Reader, stuck, deep, pair, into, expect, expect_word, some_closed, any_closed, in_parens, optional, each_of, beyond}
 use Rattle.rb_read.specs.Tokens.{lower_name, upper_name, number, field, width}
 
 -- a number that some bytes begin at

@@ -1,6 +1,5 @@
 -- What a token is, and what it begins.
-use Rattle.std.specs.Prelude.{ℕ, List, [], ◌∷◌, Bool, true, false, ◌==◌}
-use Rattle.rb_core.specs.declared.expression.Op.{Op}
+use Rattle.std.specs.Prelude.{ℕ, Bool, true, false, ◌==◌}
 use Rattle.rb_core.specs.declared.expression.Op.TheVariants as op
 use Rattle.rb_syntax.specs.declared.token.Word.{Word}
 use Rattle.rb_syntax.specs.declared.token.Word.TheVariants as word

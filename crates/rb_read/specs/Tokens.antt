@@ -1,6 +1,5 @@
 -- Readers of one token.
-use Rattle.std.specs.Prelude.{ℕ, suc, ◌-◌, ◌^◌, List, [], ◌∷◌, length, nat_lt, if◌then◌else◌, Ok, Err}
-use Rattle.rb_syntax.specs.declared.token.Token.{Token}
+use Rattle.std.specs.Prelude.{ℕ, suc, ◌-◌, ◌^◌, ◌∷◌, length, nat_lt, if◌then◌else◌, Ok, Err}
 use Rattle.rb_syntax.specs.declared.token.Token.TheVariants as token
 use Rattle.rb_syntax.specs.declared.tree.NameTree.{NameTree}
 use Rattle.rb_syntax.specs.Spelling.{is_width}

@@ -103,6 +103,7 @@ fn parameters_of_main(alloc: Global, agreed: &Agreed) -> Result<Seq<Ty>, AllocEr
     }
 }
 
+// The parameters' types, in their order.
 fn types_of(alloc: Global, params: &[Param]) -> Result<Seq<Ty>, AllocError>
     ensures { IfOk result (λ tys. tys ≡ map (λ p. p.ty) params.now) }
 {

@@ -21,6 +21,7 @@ use Rattle.rb_show.specs.Patterns.{pattern_text}
 
 -- Names -------------------------------------------------------------------------------------
 
+-- the name of a type, by its number
 abbrev pub name_of : List DataDecl → ℕ → List ℕ
 name_of types t = type_name (slice_get types t)
 

@@ -47,6 +47,7 @@ fn see_expressions(exprs: &[Expr])
     }
 }
 
+// Looks at the numbers of clauses' bodies.
 #[cycle(seeing)]
 fn see_clauses(clauses: &[Clause])
     ensures { all_true (map clause_has_words clauses.now) ≡ true }
@@ -56,6 +57,7 @@ fn see_clauses(clauses: &[Clause])
     }
 }
 
+// Looks at the numbers of functions' bodies.
 fn see_functions(funs: &[Fun])
     ensures { all_true (map body_has_words funs.now) ≡ true }
 {

@@ -1,5 +1,5 @@
 -- The tokens before the first fault, piece by piece.
-use Rattle.std.proofs.Common.{◌≡◌, ℕ, zero, suc, ◌+◌, ◌-◌, ◌<◌, ◌≤◌, List, [], ◌∷◌, length, drop, Bool, true, false, ◌==◌, if◌then◌else◌, Option, Some, None, Ok, Err, refl, sym, ◌∙◌, ap, arith, length-drop, inl, inr}
+use Rattle.std.proofs.Common.{◌≡◌, ℕ, zero, suc, ◌+◌, ◌-◌, ◌<◌, ◌≤◌, List, [], ◌∷◌, length, drop, false, ◌==◌, Some, None, Ok, Err, refl, sym, ◌∙◌, ap, arith, length-drop, inl, inr}
 use Rattle.std.proofs.lemmas.List.{drop-drop}
 use Rattle.std.proofs.lemmas.Grind.{common_steps}
 use Rattle.rb_syntax.specs.declared.token.Token.{Token}
@@ -8,7 +8,7 @@ use Rattle.rb_syntax.specs.declared.piece.Piece.{Piece}
 use Rattle.rb_syntax.specs.declared.piece.Piece.TheVariants as piece
 use Rattle.rb_syntax.specs.declared.lex.LexFault.TheVariants.{BadByte, NumberTooWide, Memory}
 use Rattle.rb_syntax.specs.Pieces.{piece_at}
-use Rattle.rb_syntax.specs.Lexing.{Lexed, before, with_piece, lexed_from, lexed}
+use Rattle.rb_syntax.specs.Lexing.{Lexed, before, with_piece, lexed_from}
 use Rattle.rb_syntax.specs.Cutting.{Cut}
 use Rattle.rb_syntax.specs.Cutting as cut
 use Rattle.rb_syntax.specs.Fronts.{Front, ends, behind, with_front, front_from, front_at, front, AgreesWith, IsStop, IsFrontOf}

@@ -4,7 +4,7 @@ use Rattle.std.specs.Prelude.{All, IfSome}
 use Rattle.std.proofs.lemmas.Bool.{false≢true}
 use Rattle.std.proofs.lemmas.Option.{same_Some, slice_get_cases}
 use Rattle.std.proofs.lemmas.List.Elements.{All-nil, All-cons, All-head, All-tail, All-get_or}
-use Rattle.rb_target.specs.Validity.{SlotsFit, AreSlots, IsTarget, AreArms, TargetsFit, FitsCall, CallsFit, EndsInReturn, IsValid, IsValidFun, dest_count}
+use Rattle.rb_target.specs.Validity.{SlotsFit, IsTarget, TargetsFit, FitsCall, CallsFit, EndsInReturn, IsValid, IsValidFun, dest_count}
 use Rattle.rb_target.specs.Spelled.{IsSpelledFun, AreSpelled}
 use Rattle.rb_target.specs.Faults.{Fails, MiscountsSlots, HasBadSlot, HasBadJump, HasBadCall, InFun, Stands, IsFirstFault, IsCountable, place_of}
 use Rattle.rb_target.specs.Checking.{Holds, CountsSlots, HasGoodSlots, HasGoodJumps, HasGoodCalls, IsFaultless, IsFaultAt, IsFaultIn}

@@ -5,6 +5,7 @@ use Rattle.rb_target.specs.declared.instr.SwitchArm.{SwitchArm}
 use Rattle.rb_target.specs.declared.instr.Instr.{Instr}
 use Rattle.rb_target.specs.declared.instr.Instr.TheVariants.{Jump, Switch}
 use Rattle.rb_target.specs.declared.body.Hole.{Hole}
+use Rattle.rb_target.specs.declared.code.CodeFun.{CodeFun}
 
 -- the instructions of a body
 abbrev pub most_instrs : ℕ
@@ -54,6 +55,11 @@ with_instr (Some i) code h t = slice_set code h.pc (retargeted i h.arm t)
 
 abbrev pub patched : Sheet → Hole → ℕ → Sheet
 patched b h t = record b { code = with_instr (slice_get b.code h.pc) b.code h t }
+
+-- the function of that name whose code this is, with so many results
+abbrev pub finished : Sheet → List ℕ → ℕ → CodeFun
+finished b name results =
+    record { name = name; params = b.params; results = results; slots = b.slots; body = b.code }
 
 -- each slot after the parameters is written by some instruction
 abbrev pub AreWritten : Sheet → Type 0

@@ -1,7 +1,7 @@
 //! The code of one function while it is made.
 
 ghost use Rattle.std.specs.Prelude.{◌≡◌, ℕ, ◌+◌, ◌<◌, ◌≤◌, ◌^◌, ◌∷◌, ◌++◌, [], IfOk, OnOk, OnErr, length, Some, Option};
-ghost use Rattle.rb_target.specs.Sheet.{Sheet, most_instrs, pushed, with_slot, patched, retargeted, retargeted_arm, IsHole, IsHoleIn, AreWritten};
+ghost use Rattle.rb_target.specs.Sheet.{Sheet, most_instrs, pushed, with_slot, patched, finished, retargeted, retargeted_arm, IsHole, IsHoleIn, AreWritten};
 ghost use Rattle.rb_target.specs.Validity.{dest_count};
 
 use crate::code::CodeFun;
@@ -112,13 +112,7 @@ impl Body {
     /// The function. Its slots are the parameters and the slots given, each of which some instruction writes.
     pub fn finish(self, name: Name, results: usize) -> CodeFun
         requires { AreWritten self }
-        ensures value { result ≡ record {
-          name = name;
-          params = self.params;
-          results = results;
-          slots = self.slots;
-          body = self.code;
-        } }
+        ensures value { result ≡ finished self name results }
         ensures written { self.slots ≤ self.params + dest_count self.code }
         ensures small { (self.slots < 2 ^ 64) × (length self.code ≤ most_instrs) }
     {

@@ -32,16 +32,19 @@ abbrev pub con_fields : List DataDecl → Option ConRef → Option (List Ty)
 con_fields types None = None
 con_fields types (Some c) = fields_of types c
 
--- a name fits where its type has a constructor of that name with so many fields; then each field is tried at its own type
+-- a name fits where its type has a constructor of that name with so many fields; then each field is tried at its
+-- own type
 abbrev pub misfits_of : ℕ → ℕ → (List Ty → List ℕ) → Option (List Ty) → List ℕ
 misfits_of at count each None = at ∷ []
 misfits_of at count each (Some tys) = if count == length tys then each tys else at ∷ []
 
--- a number fits an integer type that holds it. The bytes of the nodes that do not fit their type, outer before inner and left to right; below such a node none is tried
+-- a number fits an integer type that holds it. The bytes of the nodes that do not fit their type, outer before
+-- inner and left to right; below such a node none is tried
 abbrev mutual
   pub misfits : List DataDecl → Term → Ty → List ℕ
   misfits types (number at n) ty = if holds ty n then [] else at ∷ []
-  misfits types (build at name fields) ty = misfits_of at (term_count fields) (misfits_each types fields) (con_fields types (con_named types ty name))
+  misfits types (build at name fields) ty =
+      misfits_of at (term_count fields) (misfits_each types fields) (con_fields types (con_named types ty name))
 
   pub misfits_each : List DataDecl → Terms → List Ty → List ℕ
   misfits_each types none tys = []
@@ -65,7 +68,8 @@ abbrev mutual
   pub value_of : List DataDecl → Term → Ty → Value
   value_of types (number at n) ty = Num n
   value_of types (build at name fields) ty =
-      val.Con (con_number (con_named types ty name)) (values_of types fields (or_none (con_fields types (con_named types ty name))))
+      val.Con (con_number (con_named types ty name))
+      (values_of types fields (or_none (con_fields types (con_named types ty name))))
 
   pub values_of : List DataDecl → Terms → List Ty → List Value
   values_of types none tys = []

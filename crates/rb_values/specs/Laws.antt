@@ -14,7 +14,8 @@ use Rattle.rb_values.specs.Texts.{text_of}
 
 -- a text at a type within a limit has one answer, want of memory aside
 abbrev pub AnswersOnce : Type 0
-AnswersOnce = (types : List DataDecl) (ty : Ty) (limit : ℕ) (text : List ℕ) (r s : Result Value ValueFault) → r ≢ Err Memory → s ≢ Err Memory
+AnswersOnce = (types : List DataDecl) (ty : Ty) (limit : ℕ) (text : List ℕ) (r s : Result Value ValueFault)
+    → r ≢ Err Memory → s ≢ Err Memory
     → IsRead types ty limit text r → IsRead types ty limit text s → r ≡ s
 
 -- types as a program has them: each names types that there are, and no two constructors have one name

@@ -30,7 +30,8 @@ values_from links (n ∷ ns) vs = values_from links ns (vs ++ value_of links vs 
 -- a node's links are there and lead down
 abbrev pub IsBelow : List ℕ → ℕ → Node → Type 0
 IsBelow links i (Number n) = Unit {0}
-IsBelow links i (Build k first count) = (first + count ≤ length links) × ((j : ℕ) → j < count → slice_index_or links (first + j) 0 < i)
+IsBelow links i (Build k first count) = (first + count ≤ length links)
+    × ((j : ℕ) → j < count → slice_index_or links (first + j) 0 < i)
 
 abbrev pub AreBelow : List ℕ → ℕ → List Node → Type 0
 AreBelow links low ns = (i : ℕ) (d : Node) → i < length ns → IsBelow links (low + i) (slice_index_or ns i d)
@@ -42,7 +43,8 @@ IsLayer v (L.Con k count) = (v ≡ Con k (subs v)) × (length (subs v) ≡ count
 -- the subterms of a value in post-order, each occurrence by itself
 abbrev pub posts_step : Value-F (Value × List Value) → List Value
 posts_step (V.Num n) = Num n ∷ []
-posts_step (V.Con k ps) = flat_map (λ (p : Value × List Value). p.1) ps ++ Con k (map (λ (p : Value × List Value). p.0) ps) ∷ []
+posts_step (V.Con k ps) =
+    flat_map (λ (p : Value × List Value). p.1) ps ++ Con k (map (λ (p : Value × List Value). p.0) ps) ∷ []
 
 abbrev pub posts : Value → List Value
 posts = para-Value (List Value) posts_step

@@ -18,7 +18,8 @@ Begins before = (t : Term) × (more : List Sign) × (before ++ more ≡ spelled 
 -- no value is spelled so, from this byte on
 pub data StopsAt (text : List ℕ) (p : ℕ) : Type 0 where
   -- a value goes on up to this token, which begins there, and none goes on with it
-  token : (before : List Placed) (here : Placed) (behind : List Placed) → (front text).tokens ≡ before ++ here ∷ behind → here.at ≡ p
+  token : (before : List Placed) (here : Placed) (behind : List Placed)
+      → (front text).tokens ≡ before ++ here ∷ behind → here.at ≡ p
       → Begins (signs before) → (Begins (signs before ++ sign_of here ∷ []) → ⊥) → StopsAt text p
   -- a value goes on up to the byte at which the text has no token
   refused : (front text).fault ≡ Some p → Begins (signs (front text).tokens) → StopsAt text p
@@ -39,5 +40,6 @@ abbrev pub IsRead : List DataDecl → Ty → ℕ → List ℕ → Result Value V
 IsRead types ty limit text (Ok v) = Reads types ty limit text v
 IsRead types ty limit text (Err (ValueSyntax p)) = StopsAt text p
 IsRead types ty limit text (Err ValueTooLarge) = (t : Term) × Spells text t × (limit < term_nodes t)
-IsRead types ty limit text (Err (ValueType p)) = (t : Term) × Spells text t × (term_nodes t ≤ limit) × (first (misfits types t ty) ≡ Some p)
+IsRead types ty limit text (Err (ValueType p)) = (t : Term) × Spells text t × (term_nodes t ≤ limit)
+    × (first (misfits types t ty) ≡ Some p)
 IsRead types ty limit text (Err Memory) = Unit {0}

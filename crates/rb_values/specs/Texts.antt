@@ -57,7 +57,8 @@ fields_text tys j (f ∷ fs) = before j ++ (f (tys j) ++ fields_text tys (j + 1)
 
 abbrev pub text_step : List DataDecl → Value-F (Ty → List ℕ) → Ty → List ℕ
 text_step types (Layer.Num n) ty = decimal n
-text_step types (Layer.Con k fs) ty = name_of types (type_index ty) k ++ fields_text (field_of types (type_index ty) k) 0 fs
+text_step types (Layer.Con k fs) ty =
+    name_of types (type_index ty) k ++ fields_text (field_of types (type_index ty) k) 0 fs
 
 -- the text of a value at a type
 abbrev pub text_of : List DataDecl → Value → Ty → List ℕ

@@ -13,8 +13,8 @@ use rb_core::decimal::digits;
 use rb_core::types::{Con, DataDecl, Ty};
 use std::alloc::{AllocError, Global};
 
-// A construction whose fields from `next` on are still to be written: its node, its constructor's and
-// its type's number.
+/// A construction whose fields from `next` on are still to be written: its node, its constructor's and
+/// its type's number.
 #[derive(Clone, Copy)]
 pub struct Frame {
     pub node: usize,
@@ -23,6 +23,7 @@ pub struct Frame {
     pub next: usize,
 }
 
+// The number of a data type; 0 stands for one of integers, which have no constructors.
 fn type_index(ty: Ty) -> u32
     ensures { result ≡ type_index ty }
 {
@@ -32,6 +33,7 @@ fn type_index(ty: Ty) -> u32
     }
 }
 
+// The constructor with this number of the type with that number.
 fn con_of(types: &[DataDecl], t: u32, k: u32) -> Option<&Con>
     ensures { option_copied result ≡ con_of types.now t k }
 {
@@ -41,6 +43,7 @@ fn con_of(types: &[DataDecl], t: u32, k: u32) -> Option<&Con>
     }
 }
 
+// The type of a field; `u1` where there is none.
 #[tactic(auto, unfolding(crate::specs::Texts::field_of))]
 fn field_of(types: &[DataDecl], t: u32, k: u32, j: usize) -> Ty
     ensures { result ≡ field_of types.now t k j }
@@ -54,6 +57,7 @@ fn field_of(types: &[DataDecl], t: u32, k: u32, j: usize) -> Ty
     }
 }
 
+// The name of a constructor; nothing where there is none.
 #[tactic(auto, unfolding(crate::specs::Texts::name_of))]
 fn write_name(types: &[DataDecl], t: u32, k: u32, out: &mut Vec<u8>) -> Result<(), AllocError>
     ensures { OnOk result (out.new.items ≡ out.old.items ++ name_of types.now t k) }
@@ -64,12 +68,14 @@ fn write_name(types: &[DataDecl], t: u32, k: u32, out: &mut Vec<u8>) -> Result<(
     }
 }
 
+// A number in decimal digits.
 fn write_number(n: u64, out: &mut Vec<u8>) -> Result<(), AllocError>
     ensures { OnOk result (out.new.items ≡ out.old.items ++ decimal n) }
 {
     out.extend_from_slice(digits(n).as_slice())
 }
 
+// What stands before a field: a parenthesis before the first, else a comma and a blank.
 #[tactic(auto, unfolding(crate::specs::Texts::before))]
 fn write_before(j: usize, out: &mut Vec<u8>) -> Result<(), AllocError>
     ensures { OnOk result (out.new.items ≡ out.old.items ++ before j) }
@@ -77,6 +83,7 @@ fn write_before(j: usize, out: &mut Vec<u8>) -> Result<(), AllocError>
     out.extend_from_slice(if j == 0 { b"(" } else { b", " })
 }
 
+// What stands behind the last field: a parenthesis, where there are any.
 #[tactic(auto, unfolding(crate::specs::Texts::after_last))]
 fn write_after(j: usize, out: &mut Vec<u8>) -> Result<(), AllocError>
     ensures { OnOk result (out.new.items ≡ out.old.items ++ after_last j) }
@@ -146,6 +153,7 @@ fn turn(
     Ok(())
 }
 
+// The text of the value at a node. A frame stands for a construction whose fields are not all written.
 fn print_node(
     alloc: Global,
     types: &[DataDecl],

@@ -20,6 +20,7 @@ pub enum Sign {
     Other,
 }
 
+// What a symbol is in the text of a value.
 fn symbol_sign(symbol: Symbol) -> Sign
     ensures { result ≡ symbol_sign symbol }
 {

@@ -39,6 +39,7 @@ pub struct Typing {
     pub builder: Builder,
 }
 
+// Whether values of a type may be this number.
 fn holds(ty: Ty, n: u64) -> bool
     ensures { result ≡ typing.holds ty n }
 {
@@ -55,6 +56,7 @@ fn con_index(cons: &[Con], name: &[u8]) -> Option<usize>
     cons.iter().position(|con| con.name.as_slice() == name)
 }
 
+// The constructor of a data type that has this name; a type of integers has none.
 fn con_named(types: &[DataDecl], ty: Ty, name: &[u8]) -> Result<Option<ConRef>, ValueFault>
     ensures { IfOk result (λ con. con ≡ fit.con_named types.now ty name.now) }
 {
@@ -74,6 +76,7 @@ fn con_named(types: &[DataDecl], ty: Ty, name: &[u8]) -> Result<Option<ConRef>, 
     }
 }
 
+// The same where a type is expected; where none is, there is no constructor.
 fn con_at(types: &[DataDecl], ty: Option<Ty>, name: &[u8]) -> Result<Option<ConRef>, ValueFault>
     ensures { IfOk result (λ con. con ≡ keep.con_at types.now ty name.now) }
 {
@@ -83,6 +86,7 @@ fn con_at(types: &[DataDecl], ty: Option<Ty>, name: &[u8]) -> Result<Option<ConR
     }
 }
 
+// The types of a constructor's fields, where there is such a constructor.
 fn con_fields(types: &[DataDecl], con: Option<ConRef>) -> Option<&[Ty]>
     ensures { option_copied result ≡ fit.con_fields types.now con }
 {
@@ -102,6 +106,7 @@ fn con_fields(types: &[DataDecl], con: Option<ConRef>) -> Option<&[Ty]>
     Some(cons[number].fields.as_slice())
 }
 
+// The type of one of the fields, where there is such a field.
 fn field_at(types: &[DataDecl], con: Option<ConRef>, i: usize) -> Option<Ty>
     ensures { result ≡ keep.field_at (fit.con_fields types.now con) i }
 {
@@ -111,6 +116,7 @@ fn field_at(types: &[DataDecl], con: Option<ConRef>, i: usize) -> Option<Ty>
     }
 }
 
+// The number of a constructor in its type; 0 where there is none.
 fn con_number(con: Option<ConRef>) -> u32
     ensures { result ≡ fit.con_number con }
 {
@@ -120,6 +126,7 @@ fn con_number(con: Option<ConRef>) -> u32
     }
 }
 
+// Whether everything read so far fits its type.
 fn is_clean(fault: Option<usize>) -> bool
     ensures { result ≡ keep.is_clean fault }
 {
@@ -129,6 +136,7 @@ fn is_clean(fault: Option<usize>) -> bool
     }
 }
 
+// The first of two bounds, unless the second is less.
 fn least(a: usize, b: usize) -> usize
     ensures below { result ≤ b }
     ensures same { a ≤ b → result ≡ a }

@@ -36,6 +36,7 @@ fn number(alloc: Global, name: &str, count: u128) -> Result<Vec<u8>, AllocError>
     Ok(format!(in alloc; "{name} {count}\n")?.into_bytes())
 }
 
+// The line of a count behind the text so far.
 fn push_line(alloc: Global, text: &mut Vec<u8>, name: &str, count: u128) -> Result<(), AllocError>
     ensures { OnOk result (text.new.items ≡ text.old.items ++ number_line name.now count) }
 {

@@ -36,6 +36,7 @@ fn sum(alloc: Global, i: u64, j: u64) -> Result<Vec<u8>, AllocError>
     Ok(line.into_bytes())
 }
 
+// The line of a function behind the text so far.
 fn push_sum(alloc: Global, text: &mut Vec<u8>, i: u64, j: u64) -> Result<(), AllocError>
     ensures { OnOk result (text.new.items ≡ text.old.items ++ sum_line i j) }
 {

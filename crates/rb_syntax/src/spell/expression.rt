@@ -121,9 +121,8 @@ fn put_let(
     a: &ExprTree,
     b: &ExprTree,
 ) -> Result<(), AllocError>
-    ensures { OnOk result ((l : ℕ) → Wrote (λ rest. spelling.reserved word.Let
-        ∷ lower_written name.now (spelling.sym symbol.Colon
-        ∷ ty_written ty.now (spelling.sym symbol.Equals
+    ensures { OnOk result ((l : ℕ) → Wrote (λ rest. spelling.reserved word.Let ∷ lower_written name.now
+        (spelling.sym symbol.Colon ∷ ty_written ty.now (spelling.sym symbol.Equals
         ∷ expr_written a.now l (spelling.reserved word.In ∷ expr_written b.now l rest))))
         out.old.items out.new.items) }
 {

@@ -25,8 +25,10 @@ IsSettled types ty t (Err Memory) = Unit {0}
 
 -- at the end of a text of so many bytes
 abbrev pub IsFinished : List DataDecl → Ty → ℕ → State → ℕ → Result Value ValueFault → Type 0
-IsFinished types ty limit s len (Ok v) = (t : Term) × (term_of s ≡ Some t) × (term_nodes t ≤ limit) × (misfits types t ty ≡ []) × (v ≡ value_of types t ty)
+IsFinished types ty limit s len (Ok v) = (t : Term) × (term_of s ≡ Some t) × (term_nodes t ≤ limit)
+    × (misfits types t ty ≡ []) × (v ≡ value_of types t ty)
 IsFinished types ty limit s len (Err (ValueSyntax p)) = (p ≡ len) × (term_of s ≡ None)
 IsFinished types ty limit s len (Err ValueTooLarge) = (t : Term) × (term_of s ≡ Some t) × (limit < term_nodes t)
-IsFinished types ty limit s len (Err (ValueType p)) = (t : Term) × (term_of s ≡ Some t) × (term_nodes t ≤ limit) × (first (misfits types t ty) ≡ Some p)
+IsFinished types ty limit s len (Err (ValueType p)) = (t : Term) × (term_of s ≡ Some t) × (term_nodes t ≤ limit)
+    × (first (misfits types t ty) ≡ Some p)
 IsFinished types ty limit s len (Err Memory) = Unit {0}

@@ -9,7 +9,8 @@ use Rattle.rb_values.specs.Nodes.{at}
 use Rattle.rb_values.specs.declared.print.Frame.{Frame}
 
 abbrev pub frame_text : List DataDecl → List Value → Frame → List ℕ
-frame_text types vs f = fields_text (field_of types f.ty f.con) f.next (map (text_of types) (drop f.next (subs (at vs f.node))))
+frame_text types vs f = fields_text (field_of types f.ty f.con) f.next
+    (map (text_of types) (drop f.next (subs (at vs f.node))))
 
 -- frames, outermost first
 abbrev pub pending : List DataDecl → List Value → List Frame → List ℕ
@@ -30,13 +31,15 @@ AreFrames vs [] = Unit {0}
 AreFrames vs (f ∷ fs) = IsFrame vs f × AreFrames vs fs
 
 -- a value's head is written and its fields wait
-pub record Opened (types : List DataDecl) (vs : List Value) (node : ℕ) (ty : Ty) (old new : List Frame) (out written : List ℕ) : Type 0 where
+pub record Opened (types : List DataDecl) (vs : List Value) (node : ℕ) (ty : Ty) (old new : List Frame)
+    (out written : List ℕ) : Type 0 where
   pub frames : AreFrames vs old → AreFrames vs new
   pub text : written ++ pending types vs new ≡ out ++ (text_of types (at vs node) ty ++ pending types vs old)
   pub less : work vs new + 1 ≤ work vs old + 2 * node_count (at vs node)
 
 -- one more field of a frame that was taken from the stack, or its end, is written
-pub record Turned (types : List DataDecl) (vs : List Value) (frame : Frame) (old new : List Frame) (out written : List ℕ) : Type 0 where
+pub record Turned (types : List DataDecl) (vs : List Value) (frame : Frame) (old new : List Frame)
+    (out written : List ℕ) : Type 0 where
   pub frames : AreFrames vs new
   pub text : written ++ pending types vs new ≡ out ++ (frame_text types vs frame ++ pending types vs old)
   pub less : work vs new < work vs old + frame_work vs frame

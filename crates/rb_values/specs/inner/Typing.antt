@@ -35,7 +35,8 @@ fields_misfits at each (Some tys) = each tys
 
 abbrev pub wait_misfits : List DataDecl → Option Ty → Wait → List ℕ
 wait_misfits types None o = []
-wait_misfits types (Some ty) o = fields_misfits o.at (misfits_each types o.fields) (con_fields types (con_named types ty o.name))
+wait_misfits types (Some ty) o =
+    fields_misfits o.at (misfits_each types o.fields) (con_fields types (con_named types ty o.name))
 
 abbrev pub wait_values : List DataDecl → Option Ty → Wait → List Value
 wait_values types e o = values_of types o.fields (or_none (con_fields types (con_at types e o.name)))
@@ -59,7 +60,12 @@ module _ (types : List DataDecl) (root : Ty) where
   built (o ∷ os) = built os ++ wait_values types (expected os) o
 
   abbrev pub frame_of : Wait → List Wait → Frame
-  frame_of o os = record { at = o.at; con = con_at types (expected os) o.name; next = term_count o.fields; clean = is_clean (first (faults os)) }
+  frame_of o os = record {
+    at = o.at;
+    con = con_at types (expected os) o.name;
+    next = term_count o.fields;
+    clean = is_clean (first (faults os));
+  }
 
   abbrev pub frames_of : List Wait → List Frame
   frames_of [] = []
@@ -82,7 +88,8 @@ module _ (types : List DataDecl) (root : Ty) where
 
   -- what is kept of a state: the frames of its names, the name that stands last, the first node that does not fit,
   -- and the values so far where all fit
-  pub record IsTypedAs (s : State) (frames : List Frame) (name : Option Frame) (fault : Option ℕ) (values : List Value) : Type 0 where
+  pub record IsTypedAs (s : State) (frames : List Frame) (name : Option Frame) (fault : Option ℕ)
+      (values : List Value) : Type 0 where
     pub frames_are : frames ≡ frames_of (waits_of s)
     pub name_is : name ≡ state_name s
     pub fault_is : fault ≡ first (state_faults s)
@@ -92,7 +99,8 @@ module _ (types : List DataDecl) (root : Ty) where
   IsTyped s t = IsTypedAs s t.frames.items t.name t.fault t.builder
 
   -- a name's fields are all there, and it is no longer open
-  pub record IsClosing (o : Wait) (os : List Wait) (frames : List Frame) (name : Option Frame) (fault : Option ℕ) (values : List Value) : Type 0 where
+  pub record IsClosing (o : Wait) (os : List Wait) (frames : List Frame) (name : Option Frame) (fault : Option ℕ)
+      (values : List Value) : Type 0 where
     pub frames_are : frames ≡ frames_of os
     pub name_is : name ≡ None
     pub fault_is : fault ≡ first (faults (o ∷ os))

@@ -11,23 +11,23 @@ use Rattle.rb_check.proofs.expression.+typing.Goals as goal
 pub type_expression-returns-in-Call-clause-answers : goal.type_expression-returns-in-Call-clause-answers
 type_expression-returns-in-Call-clause-answers t c =
     Answers-at c.args.program.now.types c.args.program.now.funs _ _ _ c.args.wanted (binders c.args.scope.now) _
-    (c.in-Call.is ∙ ap (X.Call c.in-Call.at c.in-Call.fun) (sym c.as_slice-in-Call.ensures))
-    (type-Call c.args.program.now.types c.args.program.now.funs c.in-Call.at c.in-Call.fun c.as_slice-in-Call.result.now c.args.wanted (binders c.args.scope.now))
+    (c.in-Call.is ∙ ap (X.Call c.in-Call.at c.in-Call.fun) (sym c.as_slice-parts.ensures))
+    (type-Call c.args.program.now.types c.args.program.now.funs c.in-Call.at c.in-Call.fun c.as_slice-parts.result.now c.args.wanted (binders c.args.scope.now))
     c.type_call.ensures.answers
 
 pub type_expression-returns-in-Build-clause-answers : goal.type_expression-returns-in-Build-clause-answers
 type_expression-returns-in-Build-clause-answers t c =
     Answers-at c.args.program.now.types c.args.program.now.funs _ _ _ c.args.wanted (binders c.args.scope.now) _
-    (c.in-Build.is ∙ ap (X.Build c.in-Build.at c.in-Build.con) (sym c.as_slice-in-Build.ensures))
-    (type-Build c.args.program.now.types c.args.program.now.funs c.in-Build.at c.in-Build.con c.as_slice-in-Build.result.now c.args.wanted (binders c.args.scope.now))
+    (c.in-Build.is ∙ ap (X.Build c.in-Build.at c.in-Build.con) (sym c.as_slice-parts-in-Build.ensures))
+    (type-Build c.args.program.now.types c.args.program.now.funs c.in-Build.at c.in-Build.con c.as_slice-parts-in-Build.result.now c.args.wanted (binders c.args.scope.now))
     c.type_build.ensures.answers
 
 pub type_expression-returns-in-Binary-clause-answers : goal.type_expression-returns-in-Binary-clause-answers
 type_expression-returns-in-Binary-clause-answers t c =
     Answers-at c.args.program.now.types c.args.program.now.funs _ _ _ c.args.wanted (binders c.args.scope.now) _
-    (c.in-Binary.is ∙ ap (λ (a : Expr). X.Binary c.in-Binary.at c.in-Binary.op a c.in-Binary.b) (sym c.get.ensures)
-    ∙ ap (X.Binary c.in-Binary.at c.in-Binary.op c.get.result.now) (sym c.get-in-Binary.ensures))
-    (type-Binary c.args.program.now.types c.args.program.now.funs c.in-Binary.at c.in-Binary.op c.get.result.now c.get-in-Binary.result.now c.args.wanted (binders c.args.scope.now))
+    (c.in-Binary.is ∙ ap (λ (a : Expr). X.Binary c.in-Binary.at c.in-Binary.op a c.in-Binary.b) (sym c.get-a.ensures)
+    ∙ ap (X.Binary c.in-Binary.at c.in-Binary.op c.get-a.result.now) (sym c.get-b.ensures))
+    (type-Binary c.args.program.now.types c.args.program.now.funs c.in-Binary.at c.in-Binary.op c.get-a.result.now c.get-b.result.now c.args.wanted (binders c.args.scope.now))
     c.type_binary.ensures.answers
 
 pub type_arguments-returns-in_err-type_expression-clause-answers : goal.type_arguments-returns-in_err-type_expression-clause-answers

@@ -1,8 +1,7 @@
-use Rattle.std.proofs.Common.{◌==◌, List, ℕ, sym, ap, subst, ◌∙◌, rules}
+use Rattle.std.proofs.Common.{ℕ, sym, ap, ◌∙◌, rules}
 use Rattle.std.proofs.lemmas.List.Sorted.{answers_always}
 use Rattle.rb_core.specs.Decimal.{number_in}
-use Rattle.rb_command.specs.inner.Parsing.{steps_from}
-use Rattle.rb_command.proofs.PathsRead.{prepended-nil, no_more, one_more, no_step, is_point, steps_left}
+use Rattle.rb_command.proofs.PathsRead.{no_more, one_more, no_step, is_point}
 use Rattle.rb_command.proofs.path.parse_steps.Goals as goal
 
 pub loop-digits-init : goal.loop-digits-init

@@ -1,4 +1,4 @@
-use Rattle.std.proofs.Common.{◌≡◌, sym, ◌∙◌}
+use Rattle.std.proofs.Common.{sym}
 use Rattle.rb_read.proofs.LimitLemmas.{over-here, over-later}
 use Rattle.rb_read.proofs.limits.items_over.Goals as goal
 

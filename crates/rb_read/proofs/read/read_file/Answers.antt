@@ -1,4 +1,3 @@
-use Rattle.std.proofs.Common.{◌≡◌}
 use Rattle.rb_syntax.specs.Tokens.{tokens}
 use Rattle.rb_read.proofs.OneAnswer.{answered}
 use Rattle.rb_read.proofs.read.read_file.Goals as goal

@@ -1,4 +1,3 @@
-use Rattle.std.proofs.Common.{◌≡◌}
 use Rattle.rb_syntax.specs.Tokens.{tokens}
 use Rattle.rb_read.proofs.FileLemmas.{given-file, given-stuck, given-deep}
 use Rattle.rb_read.proofs.read.read_limited.Goals as goal

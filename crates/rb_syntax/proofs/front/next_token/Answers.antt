@@ -1,4 +1,4 @@
-use Rattle.std.proofs.Common.{◌≡◌, ◌+◌, ◌-◌, ◌<◌, ◌≤◌, length, drop, sym, ◌∙◌, arith, length-drop}
+use Rattle.std.proofs.Common.{◌≡◌, ◌<◌, ◌≤◌, length, drop, sym, ◌∙◌, arith, length-drop}
 use Rattle.rb_syntax.specs.declared.piece.Piece.TheVariants as piece
 use Rattle.rb_syntax.specs.Pieces.{piece_at}
 use Rattle.rb_syntax.proofs.LexLemmas.{rest_after}
