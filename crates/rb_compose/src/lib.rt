@@ -23,11 +23,12 @@
 //!
 //! - **A word** begins as its constants, and the other parts are added one by one. Some stand in a slot as they are to
 //!   stand in the word: an address whose alignment is the bit at which its part begins, a number or a word of a field
-//!   from bit 0 on. One `or` sets such a part beside the others, and where all constants are 0 the word begins as it
-//!   (`begin.rt`). The rest is put over: slices of numbers, words of data fields, addresses by their alignment; what
-//!   stands at bit 0 of a slot needs no `take` (`word.rt`). A word that is a field's word whole is no code at all where
-//!   it is stored, and a `copy` among the value's own words, which have new slots. All bits outside parts are 0: the
-//!   value is as clean as its fields.
+//!   from bit 0 on. One `or` sets such a part beside the others. Where all constants are 0 the word begins as its first
+//!   other part (`begin.rt`): as the slot that holds it in its place, by one `take` where it is bits of a number that
+//!   are to stand from bit 0 on, and else as a zero. The rest is put over: slices of numbers, words of data fields,
+//!   addresses by their alignment; what stands at bit 0 of a slot needs no `take` (`word.rt`). A word that is a field's
+//!   word whole is no code at all where it is stored, and a `copy` among the value's own words, which have new slots.
+//!   All bits outside parts are 0: the value is as clean as its fields.
 //! - **Blocks** are placed by number, inner ones before the outer ones that point to them, so that each address
 //!   is known when it is put into a word. Every word of a block is stored, also one without parts, so that each
 //!   byte is written (`block.rt`).

@@ -36,7 +36,7 @@ use Rattle.rb_fetch.specs.Finding.{IsPlanOf}
 use Rattle.rb_fetch.specs.Fields.{FieldAt, AreFieldReads, ReadsField}
 use Rattle.rb_fetch.specs.inner.Placing.{IsAgreedLeaf}
 use Rattle.rb_fetch.specs.inner.Rebuilding.{FetchesOpen}
-use Rattle.rb_fetch.specs.inner.Fields.{HoldsInt, ReadsAs, ReadsInt, ReadsWord, ReadWords, leaf_within, leaf_at, words_at}
+use Rattle.rb_fetch.specs.inner.Fields.{HoldsInt, ReadsAs, ReadsInt, ReadsWord, ReadWords, leaf_within, leaf_at}
 use Rattle.rb_fetch.proofs.Finding.{of_plan}
 use Rattle.rb_fetch.proofs.Fitting.{root_widths}
 use Rattle.rb_fetch.proofs.Spans.{unit_there}
@@ -117,7 +117,7 @@ module _ (plan : Plan) (typed : IsTyped plan.program) (agreed : AreAgreed plan.p
       }
 
   -- a field of a data type
-  pub data_field : (s : ℕ) → ty ≡ Named s → (reads : List Read) → ReadWords f.leaf words path s (words_at plan.layouts s) reads → AreFieldReads plan t n path ty f.layout words reads
+  pub data_field : (s : ℕ) → ty ≡ Named s → (reads : List Read) → ReadWords f.leaf words path s (word_count plan.layouts (Named s)) reads → AreFieldReads plan t n path ty f.layout words reads
   data_field u is reads rw1 =
       let law = lawful plan.program agreed.1 typed in
       let o1 : Open = record { path = path; ty = Named u } in
@@ -188,12 +188,12 @@ module _ (agreed : LaidOut) (typed : IsTyped agreed.covered.program) (flat : agr
         let same : ty ≡ Int width = same_Some ty (Int width) (sym (same_type plan of ty f) ∙ is) in
         int_field plan p.0 p.1 t n path ty f words count width same read (subst (λ l. ReadsInt l words path width read) (same_leaf plan of ty f) reads)
 
-    pub reads_data : (s : ℕ) → type_at (open_positions agreed.covered.program.types leaf.prov) path ≡ Some (Named s) → (reads : List Read) → ReadWords leaf words path s (words_at agreed.layouts s) reads → ReadsField agreed t n path words reads
+    pub reads_data : (s : ℕ) → type_at (open_positions agreed.covered.program.types leaf.prov) path ≡ Some (Named s) → (reads : List Read) → ReadWords leaf words path s (word_count agreed.layouts (Named s)) reads → ReadsField agreed t n path words reads
     reads_data s is reads rw1 plan of ty f count =
         let p = of_plan agreed typed flat agrees t plan of in
         let same : ty ≡ Named s = same_Some ty (Named s) (sym (same_type plan of ty f) ∙ is) in
-        let moved = subst (λ l. ReadWords l words path s (words_at agreed.layouts s) reads) (same_leaf plan of ty f) rw1 in
-        data_field plan p.0 p.1 t n path ty f words count s same reads (subst (λ ls. ReadWords f.leaf words path s (words_at ls s) reads) (sym of.layouts) moved)
+        let moved = subst (λ l. ReadWords l words path s (word_count agreed.layouts (Named s)) reads) (same_leaf plan of ty f) rw1 in
+        data_field plan p.0 p.1 t n path ty f words count s same reads (subst (λ ls. ReadWords f.leaf words path s (word_count ls (Named s)) reads) (sym of.layouts) moved)
 
 -- Slots
 

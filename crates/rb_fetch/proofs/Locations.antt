@@ -1,5 +1,5 @@
 -- What stands at a location as data means what is read there, and code can be made of it.
-use Rattle.std.proofs.Common.{◌≡◌, ℕ, zero, suc, ◌+◌, ◌*◌, ◌/◌, ◌%◌, ◌^◌, ◌<◌, ◌≤◌, ◌&&◌, inl, inr, true, List, [], ◌∷◌, length, map, Option, Some, None, Result, Ok, Err, refl, sym, subst, ap, ◌∙◌, arith}
+use Rattle.std.proofs.Common.{◌≡◌, ◌==◌, if◌then◌else◌, Bool, false, eqb-true, ℕ, zero, suc, ◌+◌, ◌*◌, ◌/◌, ◌%◌, ◌^◌, ◌<◌, ◌≤◌, ◌&&◌, inl, inr, true, List, [], ◌∷◌, length, map, Option, Some, None, Result, Ok, Err, refl, sym, subst, ap, ◌∙◌, arith}
 use Rattle.std.proofs.lemmas.Bool.Decides.{nat_tests}
 use Rattle.std.proofs.Math.Nat.{mod-eq_of_lt}
 use Rattle.std.proofs.Math.Pow.{pow_mono}
@@ -26,7 +26,7 @@ use Rattle.rb_fragment.proofs.Pieces.{straight_weaken}
 use Rattle.rb_fragment.proofs.ReadForms.{both, mean-Bits, mean-Address, mean-Loaded, fits-Bits, fits-Address, fits-Loaded}
 use Rattle.rb_fetch.specs.Fetching.{StepsFit, LocFits, IsReadAt, AreSmall, FetchesAt, FetchesLoc}
 use Rattle.rb_fetch.specs.declared.span.Span.{Span}
-use Rattle.rb_fetch.specs.inner.Reads.{IsSmall, Spans, IsSameRange, ReadsRange, IsAll, capped, step_span, span_on, read_or, SpansLoc}
+use Rattle.rb_fetch.specs.inner.Reads.{IsSmall, Spans, IsSameRange, ReadsRange, is_all, reach, capped, step_span, span_on, read_or, SpansLoc}
 
 -- Fitting
 
@@ -53,6 +53,33 @@ width_yes w (inr (inl e)) = ap is_width e
 width_yes w (inr (inr (inl e))) = ap is_width e
 width_yes w (inr (inr (inr e))) = ap is_width e
 
+-- All bits of a word
+
+all_is : (width : Option ℕ) (o l : ℕ) → is_all width o l ≡ true → (o ≡ 0) × (width ≡ Some l)
+all_is None o l h = absurd cc
+all_is (Some width) o l h =
+    let e = both (o == 0) (l == width) h in (eqb-true o 0 e.0, ap Some (sym (eqb-true l width e.1)))
+
+reach_range : (width : Option ℕ) (o l : ℕ) → IsRange o l → IsRange o (reach width o l)
+reach_range width o l range = go (is_all width o l) refl
+  where
+    go : (b : Bool) → is_all width o l ≡ b → IsRange o (if b then 64 else l)
+    go true is = let low = (all_is width o l is).0 in (omega arith, omega (arith, low))
+    go false is = range
+
+-- the bits over which a range reaches are those of the range
+reach_bits : (width : Option ℕ) (o l w : ℕ) → IsRange o l → IsSmall width w → take_of w o (reach width o l) ≡ take_of w o l
+reach_bits width o l w range small = go (is_all width o l) refl
+  where
+    go : (b : Bool) → is_all width o l ≡ b → take_of w o (if b then 64 else l) ≡ take_of w o l
+    go true is =
+        let all = all_is width o l is in
+        let lt : w < 2 ^ l = subst (λ v. IsSmall v w) all.1 small in
+        let le : l ≤ 64 = omega (arith, range.1) in
+        let more : 2 ^ l ≤ 2 ^ 64 = pow_mono le in
+        ap (λ i. take_of w i 64) all.0 ∙ take_whole w 64 (omega (arith, lt, more)) ∙ sym (take_whole w l lt) ∙ ap (λ i. take_of w i l) (sym all.0)
+    go false is = refl
+
 module _ (n : ℕ) where
   address_fits : (r : Read) (o l align : ℕ) → fits n r ≡ true → IsRange o l → fits n (Address r (capped o) (capped l) align) ≡ true
   address_fits r o l align f range = fits-Address n r (capped o) (capped l) align ∙ ap (λ t. t && is_range (capped o) (capped l)) f ∙ range_yes o l range
@@ -67,7 +94,7 @@ module _ (n : ℕ) where
   span_fits [] p f h = f
   span_fits (s ∷ steps) p f h =
       span_fits steps (step_span p s)
-      (loaded_fits (Address p.read (capped p.o) (capped p.l) s.align) s.byte s.width (address_fits p.read p.o p.l s.align f h.0) h.1 h.2) h.3
+      (loaded_fits (Address p.read (capped p.o) (capped (reach p.width p.o p.l)) s.align) s.byte s.width (address_fits p.read p.o (reach p.width p.o p.l) s.align f (reach_range p.width p.o p.l h.0)) h.1 h.2) h.3
 
   pub word_fits : (words : List Read) (k : ℕ) → AllFit n words → k < length words → fits n (read_or (slice_get words k)) ≡ true
   word_fits [] k all lt = absurd (omega (arith, lt))
@@ -138,17 +165,20 @@ module _ (s : List ℕ) (m : Memory) (good : IsGood m) (x : ℕ) where
       let w = h.word in
       let o = p.o in
       let l = p.l in
-      let co = capped-is o (omega (arith, fit.0.0, fit.0.1)) in
-      let cl = capped-is l (omega (arith, fit.0.1)) in
+      let n = reach p.width o l in
+      let range = reach_range p.width o l fit.0 in
+      let co = capped-is o (omega (arith, range.0, range.1)) in
+      let cn = capped-is n (omega (arith, range.1)) in
+      let same = reach_bits p.width o l w fit.0 h.small in
       let cw = width_capped t.width fit.2 in
       let a = take_of w o l * t.align in
       let q = after_some (load_of m a t.byte t.width) (λ k. read_from m k t.o t.l steps) x e in
       let low = address_small m a t.byte t.width q.0 good q.1 in
       let whole : a % 2 ^ 64 ≡ a = mod-eq_of_lt (omega (arith, low)) in
-      let address = Address p.read (capped o) (capped l) t.align in
+      let address = Address p.read (capped o) (capped n) t.align in
       let at : mean address s m ≡ Some a =
-      mean-Address p.read (capped o) (capped l) t.align s m ∙ ap (λ v. where_some v (λ k. Some (take_of k (capped o) (capped l) * t.align % 2 ^ 64))) h.is_word
-      ∙ ap (λ k. Some (take_of w k (capped l) * t.align % 2 ^ 64)) co ∙ ap (λ k. Some (take_of w o k * t.align % 2 ^ 64)) cl ∙ ap (λ k. Some k) whole in
+      mean-Address p.read (capped o) (capped n) t.align s m ∙ ap (λ v. where_some v (λ k. Some (take_of k (capped o) (capped n) * t.align % 2 ^ 64))) h.is_word
+      ∙ ap (λ k. Some (take_of w k (capped n) * t.align % 2 ^ 64)) co ∙ ap (λ k. Some (take_of w o k * t.align % 2 ^ 64)) cn ∙ ap (λ k. Some (k * t.align % 2 ^ 64)) same ∙ ap (λ k. Some k) whole in
       let next : mean (Loaded address t.byte (capped t.width)) s m ≡ Some q.0 =
       mean-Loaded address t.byte (capped t.width) s m ∙ ap (λ v. where_some v (λ base. loaded (load_of m base t.byte (capped t.width)))) at
       ∙ ap (λ k. loaded (load_of m a t.byte k)) cw ∙ ap loaded q.1 in
@@ -196,8 +226,8 @@ bits_read p = record {
 }
 
 -- a range that is all bits of a word is the word
-pub all_read : (p : Span) → IsAll p.width p.o p.l → ReadsRange p p.read
-all_read p all = record {
+pub all_read : (p : Span) → is_all p.width p.o p.l ≡ true → ReadsRange p p.read
+all_read p is = let all = all_is p.width p.o p.l is in record {
   fit = λ k f range. f;
   means = λ s m x range h.
       let small : h.word < 2 ^ p.l = subst (λ o. IsSmall o h.word) all.1 h.small in

@@ -1,6 +1,7 @@
 -- What the code of a tree of splits does.
 use Rattle.std.proofs.Common.{◌≡◌, ◌≢◌, ℕ, zero, suc, ◌+◌, ◌<◌, ◌≤◌, ◌⊎◌, inl, inr, List, [], ◌∷◌, ◌++◌, length, Option, Some, None, refl, sym, subst, ap, ◌∙◌, arith, length-append}
-use Rattle.std.specs.Prelude.{slice_get, slice_index, All, IfSome}
+use Rattle.std.specs.Prelude.{slice_get, slice_index, All, IfSome, is_some}
+use Rattle.std.specs.Bool.{then_some}
 use Rattle.std.proofs.lemmas.List.Elements.{All-nil, All-cons}
 use Rattle.std.proofs.lemmas.Option.{slice_get_within, same_Some}
 use Rattle.rb_core.specs.declared.layout_decl.Loc.{Loc}
@@ -27,7 +28,7 @@ use Rattle.rb_fragment.specs.declared.reads.Read.{Read}
 use Rattle.rb_fragment.specs.Plan.{Plan}
 use Rattle.rb_fragment.specs.WordReads.{AreMeant, AllFit}
 use Rattle.rb_fetch.specs.Fetching.{FetchesAt}
-use Rattle.rb_fetch.specs.inner.Looking.{TreeFits, Does, IsLeafHole, AreBefore, Looks, open_arm, open_arms_of, open_else_of, under_arm, under_at, switch_of, SplitDone}
+use Rattle.rb_fetch.specs.inner.Looking.{TreeFits, Does, IsLeafHole, AreBefore, Looks, open_arm, open_arms_of, under_arm, under_at, switch_of, SplitDone}
 use Rattle.rb_fetch.proofs.LeafNumbers.{leaf_below, under_below}
 use Rattle.rb_fetch.proofs.Trees.{AllSmall, literals, walk-Leaf, walked, nested, fit-under, fit-split}
 
@@ -133,10 +134,10 @@ module _ (words : List Read) (widths : List ℕ) (loc : Loc) (arms : List FlatAr
 
   -- each arm and the else are holes of the switch
   pub hole_at : (o : Option Instr) (x : Option ℕ) (t : FlatTree) → under_at arms other x ≡ Some t → shape_in o ≡ Some (shape switch) → IsHoleIn o x
-  hole_at o (Some k) t e is = arm_hole o slot (open_else_of (pc + 1) other) (open_arms_of (pc + 1) arms) k is (let h = arm_within arms k t e in let n = open_length (pc + 1) arms in omega (arith, h, n))
+  hole_at o (Some k) t e is = arm_hole o slot (then_some (is_some other) (pc + 1)) (open_arms_of (pc + 1) arms) k is (let h = arm_within arms k t e in let n = open_length (pc + 1) arms in omega (arith, h, n))
   hole_at o None t e is =
       else_hole o slot (pc + 1) (open_arms_of (pc + 1) arms)
-      (is ∙ ap (λ (y : Option FlatTree). Some (shape (Switch slot (open_else_of (pc + 1) y) (open_arms_of (pc + 1) arms)))) e)
+      (is ∙ ap (λ (y : Option FlatTree). Some (shape (Switch slot (then_some (is_some y) (pc + 1)) (open_arms_of (pc + 1) arms)))) e)
 
   arms_small : (t : ℕ) (ys : List FlatArm) → AllSmall (literals ys) → All (λ (x : SwitchArm). x.number < 18446744073709551616) (open_arms_of t ys)
   arms_small t [] h = All-nil (λ (x : SwitchArm). x.number < 18446744073709551616)
@@ -146,7 +147,7 @@ module _ (words : List Read) (widths : List ℕ) (loc : Loc) (arms : List FlatAr
   arms_forward q [] = All-nil (λ (x : SwitchArm). IsTarget (q + 1 + 1) q x.target)
   arms_forward q (a ∷ ys) = All-cons (λ (x : SwitchArm). IsTarget (q + 1 + 1) q x.target) (open_arm (q + 1) a) (open_arms_of (q + 1) ys) (omega arith, omega arith) (arms_forward q ys)
 
-  else_forward : (q : ℕ) (o : Option FlatTree) → IfSome (open_else_of (q + 1) o) (λ t. IsTarget (q + 1 + 1) q t)
+  else_forward : (q : ℕ) (o : Option FlatTree) → IfSome (then_some (is_some o) (q + 1)) (λ t. IsTarget (q + 1 + 1) q t)
   else_forward q None = tt
   else_forward q (Some t) = (omega arith, omega arith)
 
@@ -358,7 +359,7 @@ module _ (words : List Read) (widths : List ℕ) (loc : Loc) (arms : List FlatAr
             let w1 = switched (taken r.2) in
             let a = fin pc low d.long in
             let shaped = a.shapes ∙ d.shaped in
-            let sw = switch_shape (slice_get final pc) slot (open_else_of (pc + 1) other) (open_arms_of (pc + 1) arms) shaped in
+            let sw = switch_shape (slice_get final pc) slot (then_some (is_some other) (pc + 1)) (open_arms_of (pc + 1) arms) shaped in
             let arm = pick (literals arms) wk.value in
             let ld = d.runs plan final callee next n0 top law all (omega (arith, le, more)) st.given le' fits below1 shaped (λ z dz no. a.targets z no) (λ q lo hi. fin q (omega (arith, lo, low)) hi) arm wk.tree (covers arm wk.tree wk.is_tree) wk.is_tree in
             let goes : target_of sw.list sw.other (slice_index s1 slot) ≡ Some ld.0 =

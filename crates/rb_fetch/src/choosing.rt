@@ -240,7 +240,8 @@ fn look(
     words: &[usize],
 ) -> Result<Seq<Way>, AllocError>
     ensures chooses { IfOk result (λ ways. IsPartIn parts.old place.now.path place.now.con.ty words.now
-        → ChoosesBy agreed.now ty leaves.now seen.old parts.old place.now.path place.now.con.ty body.old body.new ways) }
+        → ChoosesBy agreed.now ty leaves.now seen.old parts.old place.now.path place.now.con.ty body.old body.new
+        ways) }
     ensures ways { IfOk result (λ ways. AreOpen (length body.old.code) body.new.code ways) }
     ensures grows { OnOk result (Grows body.old.code body.new.code) }
     ensures parts { OnOk result (parts.new ≡ parts.old) }

@@ -14,6 +14,7 @@ use crate::way::spot_read;
 use rb_core::seq::Seq;
 use rb_core::types::Ty;
 use rb_fragment::reads::Read;
+use rb_fragment::slots::word_count;
 use rb_layout::agreed::Agreed;
 use rb_layout::layout::{Layout, Leaf};
 use rb_layout::positions::type_at;
@@ -48,7 +49,7 @@ pub fn field_reads(
             Ok(reads)
         }
         Some(Ty::Named(field)) => {
-            let count = word_count(agreed.layouts(), field);
+            let count = word_count(agreed.layouts(), Ty::Named(field));
             let reads = word_reads(alloc, leaf, field, path, words, count)?;
             Ok(reads)
         }
@@ -61,16 +62,6 @@ fn leaf_at(layouts: &[Layout], ty: u32, leaf: usize) -> Option<&Leaf>
     match layouts.get(ty as usize) {
         None => None,
         Some(layout) => layout.leaves.get(leaf),
-    }
-}
-
-// How many words a data type's values have.
-fn word_count(layouts: &[Layout], ty: u32) -> usize
-    ensures { result ≡ fields.words_at layouts.now ty }
-{
-    match layouts.get(ty as usize) {
-        None => 0,
-        Some(layout) => layout.shape.len(),
     }
 }
 

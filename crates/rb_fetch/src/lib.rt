@@ -12,10 +12,12 @@
 //! ```
 //!
 //! Where slot 0 holds a list with a cell, the number of its first cell stands behind bits 3 up to 64 of
-//! slot 0. [`fetch::fetch_loc`] takes these bits, so that the tag is left behind, multiplies them by 8, and
-//! loads the 64 bits at byte 0 from there. The location is said as a number that code can make (`Read` of
-//! `rb_fragment`), and made by `make`: that the code reads what the location says is a matter of meanings.
-//! So the words of a value need not stand in slots: each may be such a number itself.
+//! slot 0: these bits times 8 are its address. [`fetch::fetch_loc`] masks them with an `and`, which leaves the tag
+//! behind and is that product already, since they begin at bit 3, and loads the 64 bits at byte 0 from there. Bits that
+//! stand elsewhere are taken and multiplied; a word that is an address in all its bits is only multiplied. The location
+//! is said as a number that code can make (`Read` of `rb_fragment`), and made by `make`: that the code reads what the
+//! location says is a matter of meanings. So the words of a value need not stand in slots: each may be such a number
+//! itself.
 //!
 //! That is safe only where the list has a cell. So [`look::find_leaf`] first takes bit 0 of slot 0 and
 //! switches on it: its arm for 1 is a hole of leaf 0, and its arm for 0 a hole of leaf 1. The caller puts
@@ -63,18 +65,17 @@
 //! ```text
 //! 0  switch 0 - 0 1 1 2     the leaf of the colour
 //! 1  jump 3                 red
-//! 2  jump 10                black
+//! 2  jump 9                 black
 //! 3  place 3 16 8           a block with the fields 1 and 2, which are in slots 1 and 2
 //! 4  store 3 0 64 1
 //! 5  store 3 8 64 2
-//! 6  const 4 1              the word of a red node, in slot 4
-//! 7  take 5 3 3 61
-//! 8  put 4 5 3 61
-//! 9  jump 18
-//! 10 place 6 16 8           the same for a black node, its word in slot 7
+//! 6  const 4 1              the word of a red node, in slot 4: its tag,
+//! 7  alu or 64 4 4 3        and beside it the address, which stands in its place
+//! 8  jump 16
+//! 9  place 5 16 8           the same for a black node, its word in slot 6
 //!    ..
-//! 16 copy 4 7               to where the first way left its word
-//! 17 jump 18
+//! 14 copy 4 6               to where the first way left its word
+//! 15 jump 16
 //! ```
 //!
 //! A look is taken where the first leaf that is still possible has a constructor and nothing is known. The leaf

@@ -1,15 +1,16 @@
 //! Code that finds the leaf of a value, by a tree of splits.
 
-ghost use Rattle.std.specs.Prelude.{◌≡◌, ℕ, ◌+◌, ◌<◌, ◌≤◌, ◌^◌, IfOk, OnOk, length};
+ghost use Rattle.std.specs.Prelude.{◌≡◌, ℕ, ◌+◌, ◌<◌, ◌≤◌, ◌^◌, ◌++◌, ◌∷◌, [], None, IfOk, OnOk, length};
+ghost use Rattle.rb_target.specs.declared.instr.Instr.TheVariants.{Jump};
 ghost use Rattle.rb_target.specs.Growth.{Grows};
+ghost use Rattle.rb_target.specs.Sheet.{IsHole, patched, pushed};
 ghost use Rattle.rb_fragment.specs.Arms.{AreHoles, AreOfOneWay};
 ghost use Rattle.rb_fetch.specs.Finding.{FindsGroup, FindsGroupOf, FindsLeaf, FindsLeafOf, leaf_count};
 ghost use Rattle.rb_fetch.specs.Pruning.{AreBelow};
-ghost use Rattle.rb_fetch.specs.inner.Looking.{open_arms_of, open_else_of, Looks};
+ghost use Rattle.rb_fetch.specs.inner.Looking.{open_arms_of, Looks};
 
 use crate::fetch::fetch_bits;
 use crate::prune::pruned;
-use rb_core::boxed::Boxed;
 use rb_core::seq::Seq;
 use rb_fragment::reads::{Read, slot_reads};
 use rb_layout::agreed::Agreed;
@@ -142,39 +143,19 @@ fn look(
 {
     match tree {
         FlatTree::Leaf(leaf) => {
-            let pc = body.len();
-            body.push(Instr::Jump(pc + 1))?;
-            holes.push(Hole {
-                pc,
-                arm: None,
-                leaf: *leaf as usize,
-            })?;
+            leave(body, *leaf as usize, holes)?;
             Ok(())
         }
         FlatTree::Split(loc, arms, other) => {
             let slot = fetch_bits(alloc, body, words, widths, loc)?;
             let pc = body.len();
             let places = open_arms(alloc, arms.as_slice(), pc + 1)?;
-            body.push(Instr::Switch(slot, open_else(other, pc + 1), places))?;
+            body.push(Instr::Switch(slot, other.is_some().then_some(pc + 1), places))?;
             for (k, arm) in arms.as_slice().iter().enumerate() {
                 match &arm.under {
-                    FlatTree::Leaf(number) => {
-                        holes.push(Hole {
-                            pc,
-                            arm: Some(k),
-                            leaf: *number as usize,
-                        })?;
-                    }
+                    FlatTree::Leaf(leaf) => holes.push(way_out(pc, Some(k), *leaf as usize))?,
                     FlatTree::Split(_, _, _) => {
-                        let here = body.len();
-                        body.patch(
-                            &Hole {
-                                pc,
-                                arm: Some(k),
-                                leaf: 0,
-                            },
-                            here,
-                        );
+                        lead_here(body, pc, Some(k));
                         look(alloc, body, words, widths, &arm.under, holes)?;
                     }
                 }
@@ -183,23 +164,11 @@ fn look(
                 None => Ok(()),
                 Some(tree) => match tree.get() {
                     FlatTree::Leaf(leaf) => {
-                        holes.push(Hole {
-                            pc,
-                            arm: None,
-                            leaf: *leaf as usize,
-                        })?;
+                        holes.push(way_out(pc, None, *leaf as usize))?;
                         Ok(())
                     }
                     FlatTree::Split(_, _, _) => {
-                        let here = body.len();
-                        body.patch(
-                            &Hole {
-                                pc,
-                                arm: None,
-                                leaf: 0,
-                            },
-                            here,
-                        );
+                        lead_here(body, pc, None);
                         look(alloc, body, words, widths, tree.get(), holes)?;
                         Ok(())
                     }
@@ -207,6 +176,35 @@ fn look(
             }
         }
     }
+}
+
+// A way out to a leaf: a jump, or an arm of a switch, or its else.
+fn way_out(pc: usize, arm: Option<usize>, leaf: usize) -> Hole
+    ensures { result ≡ record { pc = pc; arm = arm; leaf = leaf } }
+{
+    Hole { pc, arm, leaf }
+}
+
+// Code of one leaf: a jump, which is its hole.
+fn leave(body: &mut Body, leaf: usize, holes: &mut Seq<Hole>) -> Result<(), AllocError>
+    ensures code { OnOk result (body.new ≡ pushed body.old (Jump (length body.old.code + 1))) }
+    ensures holes { OnOk result (holes.new
+        ≡ holes.old ++ record { pc = length body.old.code; arm = None; leaf = leaf } ∷ []) }
+{
+    let pc = body.len();
+    body.push(Instr::Jump(pc + 1))?;
+    holes.push(way_out(pc, None, leaf))?;
+    Ok(())
+}
+
+// An arm of a switch, or its else, leads to the end of the code.
+fn lead_here(body: &mut Body, pc: usize, arm: Option<usize>)
+    requires inside { IsHole body.old.code (record { pc = pc; arm = arm; leaf = 0 }) }
+    requires forward { pc < length body.old.code }
+    ensures { body.new ≡ patched body.old (record { pc = pc; arm = arm; leaf = 0 }) (length body.old.code) }
+{
+    let here = body.len();
+    body.patch(&way_out(pc, arm, 0), here);
 }
 
 // A switch's arms, each still open: it leads to the next instruction.
@@ -221,13 +219,4 @@ fn open_arms(alloc: Global, arms: &[FlatArm], next: usize) -> Result<Seq<SwitchA
         })?;
     }
     Ok(found)
-}
-
-fn open_else(other: &Option<Boxed<FlatTree>>, next: usize) -> Option<usize>
-    ensures { result ≡ open_else_of next other.now }
-{
-    match other {
-        None => None,
-        Some(_) => Some(next),
-    }
 }

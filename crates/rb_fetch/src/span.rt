@@ -1,7 +1,7 @@
 //! Where locations lead, as reads.
 
 ghost use Rattle.std.specs.Prelude.{◌≡◌, ◌+◌, ◌≤◌, true, IfOk, slice_get};
-ghost use Rattle.rb_fetch.specs.inner.Reads.{capped, IsAll, IsSameRange, ReadsRange, read_or, SpansLoc, span_on};
+ghost use Rattle.rb_fetch.specs.inner.Reads.{capped, is_all, IsSameRange, ReadsRange, read_or, reach, SpansLoc, span_on};
 
 use rb_core::boxed::Boxed;
 use rb_core::layout_decl::{Loc, Step};
@@ -88,8 +88,9 @@ fn span_behind(alloc: Global, first: Span, steps: &[Step]) -> Result<Span, Alloc
 {
     let mut span = first;
     for step in steps {
-        let Span { read, o, l, .. } = span;
-        let address = Read::Address(Boxed::new(alloc, read)?, bits(o), bits(l), step.align);
+        let Span { read, width, o, l } = span;
+        let count = reach(width, o, l);
+        let address = Read::Address(Boxed::new(alloc, read)?, bits(o), bits(count), step.align);
         let read = Read::Loaded(Boxed::new(alloc, address)?, step.byte, bits(step.width));
         span = Span {
             read,
@@ -99,6 +100,13 @@ fn span_behind(alloc: Global, first: Span, steps: &[Step]) -> Result<Span, Alloc
         };
     }
     Ok(span)
+}
+
+// How many bits of a word a range reaches over: all of a slot where the word has no others.
+fn reach(width: Option<u64>, o: u64, l: u64) -> u64
+    ensures { result ≡ reach width o l }
+{
+    if is_all(width, o, l) { 64 } else { l }
 }
 
 /// The bits of a range: the word itself where it has no others.
@@ -117,7 +125,7 @@ pub fn span_bits(alloc: Global, span: Span) -> Result<Read, AllocError>
 
 // Whether a range is all bits that a word may have.
 fn is_all(width: Option<u64>, o: u64, l: u64) -> bool
-    ensures { result ≡ true → IsAll width o l }
+    ensures { result ≡ is_all width o l }
 {
     match width {
         None => false,

@@ -4,6 +4,7 @@ use Rattle.std.proofs.lemmas.Bool.Decides.{nat_tests}
 use Rattle.std.proofs.lemmas.Grind.{common_steps}
 use Rattle.std.proofs.lemmas.Option.{same_Some}
 use Rattle.std.proofs.Math.Nat.{mod-eq_of_lt}
+use Rattle.std.proofs.lemmas.Nat.{mul-mod_first}
 use Rattle.std.specs.Prelude.{bit_and, slice_index, slice_set, nat_le}
 use Rattle.std.specs.List.{list_all}
 use Rattle.rb_core.specs.WellNumbered.{either}
@@ -23,6 +24,7 @@ use Rattle.rb_fragment.specs.Plan.{Plan}
 use Rattle.rb_fragment.specs.Adding.{Adds}
 use Rattle.rb_fragment.specs.Pieces.{Straight, AtEnd}
 use Rattle.rb_fragment.specs.Reads.{where_some, loaded, Meant, joined_over, mean, meant_of, is_range, is_width, fits, fits_share, Makes}
+use Rattle.rb_fragment.specs.inner.Addresses.{multiple}
 use Rattle.rb_fragment.specs.inner.Shares.{PutsOne, PutsShare, PutsAll, PutsShares, PutsSome}
 use Rattle.rb_fragment.proofs.Adding.{Adds-refl, Adds-trans, Adds-one, push_adds}
 use Rattle.rb_fragment.proofs.Pieces.{piece_none, piece_weaken, straight_seq, straight_weaken, straight_frame, straight_write}
@@ -136,52 +138,60 @@ module _ (plan : Plan) where
   straight_fewer : (n n' : ℕ) (a b : Sheet) (Pre Post : List ℕ → Memory → Type 0) → n' ≤ n → Straight plan n a b Pre Post → Straight plan n' a b Pre Post
   straight_fewer n n' a b Pre Post le p = piece_weaken plan n n' a b (λ pc. ⊥) 0 0 Pre Pre (AtEnd b Post) (AtEnd b Post) le (omega arith) (λ s m x. x) (λ pc s m x. x) p
 
-  module _ (r : Read) (o l align : ℕ) (a b : Sheet) (xs k : ℕ) (fit : fits k (Address r o l align) ≡ true) (small : align < 2 ^ 64) (made : Makes plan r a b xs) where
+  -- a number times a unit, where that is another read
+  module _ (p q : Read) (unit : ℕ) (a b : Sheet) (xs : ℕ) (small : unit < 2 ^ 64) (made : Makes plan p a b xs)
+      (opened : (s : List ℕ) (m : Memory) (x : ℕ) → mean q s m ≡ Some x → (w : ℕ) × (mean p s m ≡ Some w) × (w * unit % 2 ^ 64 ≡ x)) where
     abbrev b1 : Sheet
-    b1 = pushed (with_slot b) (Take b.slots xs o l)
+    b1 = pushed (with_slot b) (Const b.slots unit)
 
     abbrev b2 : Sheet
-    b2 = pushed (with_slot b1) (Const b1.slots align)
+    b2 = multiple xs unit b
 
-    abbrev b3 : Sheet
-    b3 = pushed (with_slot b2) (Alu Mul 64 b2.slots b.slots b1.slots)
-
-    range : IsRange o l
-    range = range_is o l (both (fits k r) (is_range o l) (sym (fits-Address k r o l align) ∙ fit)).1
-
-    product_adds : Adds plan b b3
+    product_adds : Adds plan b b2
     product_adds =
-        Adds-trans plan b b1 b3 (Adds-one plan b (Take b.slots xs o l) (0, omega arith, refl) (record { bounded = range; slots_fit = (omega arith, omega (arith, made.given)); targets = tt; calls = tt }))
-        (Adds-trans plan b1 b2 b3 (Adds-one plan b1 (Const b1.slots align) (0, omega arith, refl) (record { bounded = small; slots_fit = omega arith; targets = tt; calls = tt }))
-        (Adds-one plan b2 (Alu Mul 64 b2.slots b.slots b1.slots) (0, omega arith, refl) (record { bounded = (omega arith, omega arith); slots_fit = (omega arith, omega arith, omega arith); targets = tt; calls = tt })))
+        Adds-trans plan b b1 b2 (Adds-one plan b (Const b.slots unit) (0, omega arith, refl) (record { bounded = small; slots_fit = omega arith; targets = tt; calls = tt }))
+        (Adds-one plan b1 (Alu Mul 64 b1.slots xs b.slots) (0, omega arith, refl) (record { bounded = (omega arith, omega arith); slots_fit = (omega arith, omega (arith, made.given), omega arith); targets = tt; calls = tt }))
 
-    -- a range, the unit, and their product
-    product : (w x : ℕ) → Straight plan a.slots b b3 (λ s m. (IsGood m × (take_of w o l * align % 2 ^ 64 ≡ x)) × (slice_index s xs ≡ w)) (λ s m. slice_index s b2.slots ≡ x)
+    product : (w x : ℕ) → Straight plan a.slots b b2 (λ s m. (IsGood m × (w * unit % 2 ^ 64 ≡ x)) × (slice_index s xs ≡ w)) (λ s m. slice_index s b1.slots ≡ x)
     product w x =
-        let part = take_of w o l in
-        let P0 : List ℕ → Memory → Type 0 = λ s m. (IsGood m × (part * align % 2 ^ 64 ≡ x)) × (slice_index s xs ≡ w) in
-        let P1 : List ℕ → Memory → Type 0 = λ s m. slice_index s b.slots * align % 2 ^ 64 ≡ x in
-        let P2 : List ℕ → Memory → Type 0 = λ s m. alu_of Mul 64 (slice_index s b.slots) (slice_index s b1.slots) ≡ x in
-        let P3 : List ℕ → Memory → Type 0 = λ s m. slice_index s b2.slots ≡ x in
+        let P0 : List ℕ → Memory → Type 0 = λ s m. (IsGood m × (w * unit % 2 ^ 64 ≡ x)) × (slice_index s xs ≡ w) in
+        let P1 : List ℕ → Memory → Type 0 = λ s m. alu_of Mul 64 (slice_index s xs) (slice_index s b.slots) ≡ x in
+        let P2 : List ℕ → Memory → Type 0 = λ s m. slice_index s b1.slots ≡ x in
         let le : a.slots ≤ b.slots = made.adds.more in
         let first : Straight plan a.slots b b1 P0 P1 =
-        straight_weaken plan a.slots b b1 (λ s m. take_of (slice_index s xs) o l * align % 2 ^ 64 ≡ x) P0 P1 P1
-        (λ s m pre. ap (λ y. take_of y o l * align % 2 ^ 64) pre.1 ∙ pre.0.1) (λ s m p. p) (straight_take plan a.slots b le (λ y m. y * align % 2 ^ 64 ≡ x) xs o l made.given range) in
-        let unit : Straight plan a.slots b1 b2 P1 P2 =
-        straight_fewer b1.slots a.slots b1 b2 P1 P2 (omega (arith, le))
-        (straight_weaken plan b1.slots b1 b2 (λ s m. P1 s m × (align ≡ align)) P1 (λ s m. P1 s m × (slice_index s b1.slots ≡ align)) P2
-        (λ s m p. (p, refl)) (λ s m p. ap (λ y. slice_index s b.slots * y % 2 ^ 64) p.1 ∙ p.0)
-        (straight_frame plan b1.slots b1 b2 P1 (λ s m. align ≡ align) (λ s m. slice_index s b1.slots ≡ align) (λ s s' m kept p. ap (λ y. y * align % 2 ^ 64) (kept.same b.slots (omega arith)) ∙ p)
-        (straight_const plan b1.slots b1 (omega arith) (λ y m. y ≡ align) align small))) in
-        let last : Straight plan a.slots b2 b3 P2 P3 = straight_alu plan a.slots b2 (omega (arith, le)) (λ y m. y ≡ x) Mul 64 b.slots b1.slots (omega arith) (omega arith) (omega arith) (omega arith) in
-        straight_seq plan a.slots b b1 b3 P0 P1 P3 first (straight_seq plan a.slots b1 b2 b3 P1 P2 P3 unit last)
+        straight_fewer b.slots a.slots b b1 P0 P1 le
+        (straight_weaken plan b.slots b b1 (λ s m. P0 s m × (unit ≡ unit)) P0 (λ s m. P0 s m × (slice_index s b.slots ≡ unit)) P1
+        (λ s m h. (h, refl)) (λ s m h. ap (λ y. y * slice_index s b.slots % 2 ^ 64) h.0.1 ∙ ap (λ y. w * y % 2 ^ 64) h.1 ∙ h.0.0.1)
+        (straight_frame plan b.slots b b1 P0 (λ s m. unit ≡ unit) (λ s m. slice_index s b.slots ≡ unit) (λ s s' m kept h. (h.0, kept.same xs made.given ∙ h.1))
+        (straight_const plan b.slots b (omega arith) (λ y m. y ≡ unit) unit small))) in
+        let last : Straight plan a.slots b1 b2 P1 P2 = straight_alu plan a.slots b1 (omega (arith, le)) (λ y m. y ≡ x) Mul 64 xs b.slots (omega arith) (omega arith) (omega (arith, made.given)) (omega arith) in
+        straight_seq plan a.slots b b1 b2 P0 P1 P2 first last
 
-    pub made_address : Makes plan (Address r o l align) a b3 b2.slots
-    made_address =
-        then_makes r (Address r o l align) a b b3 xs b2.slots made product_adds (omega arith) (λ w x m. take_of w o l * align % 2 ^ 64 ≡ x)
-        (λ s m x e.
-        let h = some_then (mean r s m) (λ w. Some (take_of w o l * align % 2 ^ 64)) x (sym (mean-Address r o l align s m) ∙ e) in
-        (h.0, h.1, same_Some (take_of h.0 o l * align % 2 ^ 64) x h.2)) product
+    made_multiple : Makes plan q a b2 b1.slots
+    made_multiple = then_makes p q a b b2 xs b1.slots made product_adds (omega arith) (λ w x m. w * unit % 2 ^ 64 ≡ x) opened product
+
+  -- a range, the unit, and their product
+  pub made_address : (r : Read) (o l align : ℕ) (a b : Sheet) (xs k : ℕ) → fits k (Address r o l align) ≡ true → align < 2 ^ 64 → Makes plan r a b xs
+      → let c = pushed (with_slot b) (Take b.slots xs o l) in Makes plan (Address r o l align) a (multiple b.slots align c) (c.slots + 1)
+  made_address r o l align a b xs k fit small made =
+      let c = pushed (with_slot b) (Take b.slots xs o l) in
+      let fit_bits : fits k (Bits r o l) ≡ true = fits-Bits k r o l ∙ sym (fits-Address k r o l align) ∙ fit in
+      made_multiple (Bits r o l) (Address r o l align) align a c b.slots small (made_bits r o l a b xs k fit_bits made)
+      (λ s m x e.
+      let h = some_then (mean r s m) (λ w. Some (take_of w o l * align % 2 ^ 64)) x (sym (mean-Address r o l align s m) ∙ e) in
+      let part = take_of h.0 o l in
+      (part, mean-Bits r o l s m ∙ ap (λ v. where_some v (λ w. Some (take_of w o l))) h.1, same_Some (part * align % 2 ^ 64) x h.2))
+
+  -- all bits of a slot, times the unit, are the word itself, times the unit
+  pub made_scaled : (r : Read) (o l align : ℕ) (a b : Sheet) (xs : ℕ) → o ≡ 0 → l ≡ 64 → align < 2 ^ 64 → Makes plan r a b xs → Makes plan (Address r o l align) a (multiple xs align b) (b.slots + 1)
+  made_scaled r o l align a b xs low long small made =
+      made_multiple r (Address r o l align) align a b xs small made
+      (λ s m x e.
+      let h = some_then (mean r s m) (λ w. Some (take_of w o l * align % 2 ^ 64)) x (sym (mean-Address r o l align s m) ∙ e) in
+      let w = h.0 in
+      let one : w / 2 ^ 0 ≡ w = omega arith in
+      let all : take_of w o l ≡ w % 2 ^ 64 = ap (λ i. take_of w i l) low ∙ ap (λ i. take_of w 0 i) long ∙ ap (λ y. y % 2 ^ 64) one in
+      (w, h.1, sym (mul-mod_first w align (2 ^ 64)) ∙ ap (λ y. y * align % 2 ^ 64) (sym all) ∙ same_Some (take_of w o l * align % 2 ^ 64) x h.2))
 
   -- a range that stands in its place, and the bits beside it masked off
   module _ (r : Read) (o l : ℕ) (a b : Sheet) (xs : ℕ) (range : IsRange o l) (made : Makes plan r a b xs) where

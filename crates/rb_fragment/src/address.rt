@@ -1,9 +1,9 @@
 //! Code that makes the address that a pointer part says.
 
-ghost use Rattle.std.specs.Prelude.{◌≡◌, ◌^◌, ◌≤◌, IfOk, IfSome, OnOk};
+ghost use Rattle.std.specs.Prelude.{◌≡◌, ◌+◌, ◌^◌, ◌<◌, ◌≤◌, IfOk, IfSome, OnOk, true};
 ghost use Rattle.rb_bits.specs.Words.{IsRange, mask_of};
 ghost use Rattle.rb_target.specs.Growth.{Grows};
-ghost use Rattle.rb_fragment.specs.inner.Addresses.{MakesAddress};
+ghost use Rattle.rb_fragment.specs.inner.Addresses.{multiple, MakesAddress};
 
 use crate::emit::{emit_alu, emit_const, emit_take};
 use rb_bits::mask;
@@ -12,7 +12,8 @@ use rb_target::instr::AluOp;
 use std::alloc::AllocError;
 
 /// Bits `o` up to `o + l` of a slot's word, times an alignment. Where they begin at the alignment's own bit they stand
-/// in their place already, and the bits beside them are masked off.
+/// in their place already, and the bits beside them are masked off. Where they are all bits of a slot, the word itself
+/// is multiplied.
 ///
 /// # Errors
 ///
@@ -36,12 +37,33 @@ pub(crate) fn emit_address(
             Ok(slot)
         }
         None => {
+            if is_whole(o, l) {
+                let slot = emit_multiple(body, from, align)?;
+                return Ok(slot);
+            }
             let part = emit_take(body, from, o, l)?;
-            let unit = emit_const(body, align)?;
-            let slot = emit_alu(body, AluOp::Mul, 64, part, unit)?;
+            let slot = emit_multiple(body, part, align)?;
             Ok(slot)
         }
     }
+}
+
+// Whether a range is all bits of a slot.
+fn is_whole(o: u8, l: u8) -> bool
+    ensures { result ≡ true → (o ≡ 0) × (l ≡ 64) }
+{
+    o == 0 && l == 64
+}
+
+// A slot's word, times an alignment.
+fn emit_multiple(body: &mut Body, from: usize, align: u64) -> Result<usize, AllocError>
+    ensures small { align < 2 ^ 64 }
+    ensures slot { IfOk result (λ slot. slot ≡ body.old.slots + 1) }
+    ensures code { OnOk result (body.new ≡ multiple from align body.old) }
+{
+    let unit = emit_const(body, align)?;
+    let slot = emit_alu(body, AluOp::Mul, 64, from, unit)?;
+    Ok(slot)
 }
 
 // The mask of a range that begins at the bit that an alignment is.

@@ -10,7 +10,7 @@ use Rattle.rb_layout.specs.declared.layout.Part.{Part}
 use Rattle.rb_layout.specs.declared.layout.Kind.{Kind}
 use Rattle.rb_layout.specs.declared.layout.Kind.TheVariants.{Const, Bits, Word, Pointer}
 use Rattle.rb_layout.specs.Positions.{layout_of}
-use Rattle.rb_rel.specs.Relation.{HoldsKind, Placed, shape_length}
+use Rattle.rb_rel.specs.Relation.{HoldsKind, Placed}
 use Rattle.rb_fragment.specs.declared.reads.Read.{Read, Slot}
 use Rattle.rb_fragment.specs.declared.reads.Share.{Share}
 use Rattle.rb_fragment.specs.Reads.{mean, meant_of, joined_over, fits, fits_share}
@@ -94,6 +94,3 @@ leaf_within (Some layout) n = slice_get layout.leaves n
 
 abbrev pub leaf_at : List Layout → ℕ → ℕ → Option Leaf
 leaf_at layouts t n = leaf_within (layout_of layouts t) n
-
-abbrev pub words_at : List Layout → ℕ → ℕ
-words_at layouts t = shape_length (layout_of layouts t)

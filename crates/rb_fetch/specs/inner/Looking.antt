@@ -1,5 +1,6 @@
 -- The code of a tree of splits while it is made: which of a switch's targets are done.
-use Rattle.std.specs.Prelude.{◌≡◌, ℕ, ◌+◌, ◌<◌, ◌≤◌, ◌^◌, ◌⊎◌, List, map, length, Option, Some, None, slice_get}
+use Rattle.std.specs.Prelude.{◌≡◌, ℕ, ◌+◌, ◌<◌, ◌≤◌, ◌^◌, ◌⊎◌, List, map, length, Option, Some, None, is_some, slice_get}
+use Rattle.std.specs.Bool.{then_some}
 use Rattle.rb_core.specs.declared.layout_decl.Loc.{Loc}
 use Rattle.rb_bytes.specs.Memory.{IsGood}
 use Rattle.rb_target.specs.declared.instr.SwitchArm.{SwitchArm}
@@ -86,10 +87,6 @@ open_arm t a = record { number = a.literal; target = t }
 abbrev pub open_arms_of : ℕ → List FlatArm → List SwitchArm
 open_arms_of t arms = map (open_arm t) arms
 
-abbrev pub open_else_of : ℕ → Option FlatTree → Option ℕ
-open_else_of t None = None
-open_else_of t (Some tree) = Some t
-
 abbrev pub under_arm : Option FlatArm → Option FlatTree
 under_arm None = None
 under_arm (Some a) = Some a.under
@@ -101,7 +98,7 @@ under_at arms other (Some k) = under_arm (slice_get arms k)
 
 -- the switch of a split, whose word was fetched into a slot by the code c
 abbrev pub switch_of : Sheet → ℕ → List FlatArm → Option FlatTree → Instr
-switch_of c slot arms other = Switch slot (open_else_of (length c.code + 1) other) (open_arms_of (length c.code + 1) arms)
+switch_of c slot arms other = Switch slot (then_some (is_some other) (length c.code + 1)) (open_arms_of (length c.code + 1) arms)
 
 -- A split whose word is fetched by the code c, whose switch stands, and some of whose targets are done.
 pub record SplitDone (words : List Read) (widths : List ℕ) (loc : Loc) (arms : List FlatArm) (other : Option FlatTree) (c : Sheet) (slot : ℕ) (hs0 : List Hole) (Done : Option ℕ → Type 0) (b : Sheet) (hs : List Hole) : Type 0 where

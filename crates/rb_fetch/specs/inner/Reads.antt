@@ -1,5 +1,5 @@
 -- What stands at a location, as data from which code is made.
-use Rattle.std.specs.Prelude.{◌≡◌, ℕ, ◌^◌, ◌<◌, min, true, List, [], ◌∷◌, Option, Some, None, slice_get}
+use Rattle.std.specs.Prelude.{◌≡◌, ℕ, ◌^◌, ◌<◌, ◌==◌, ◌&&◌, if◌then◌else◌, min, Bool, true, false, List, [], ◌∷◌, Option, Some, None, slice_get}
 use Rattle.rb_core.specs.declared.layout_decl.Loc.{Loc}
 use Rattle.rb_core.specs.declared.layout_decl.Step.{Step}
 use Rattle.rb_bits.specs.Words.{IsRange, take_of}
@@ -38,14 +38,19 @@ pub record ReadsRange (p : Span) (read : Read) : Type 0 where
   pub means : (s : List ℕ) (m : Memory) (x : ℕ) → IsRange p.o p.l → Spans p s m x → mean read s m ≡ Some x
   pub origin : (x : ℕ) → read ≡ Slot x → (width : ℕ) × (p.width ≡ Some width) × (p.read ≡ Slot x)
 
--- the range is all bits of a word of this width
-abbrev pub IsAll : Option ℕ → ℕ → ℕ → Type 0
-IsAll width o l = (o ≡ 0) × (width ≡ Some l)
+-- whether a range is all bits of a word of this width
+abbrev pub is_all : Option ℕ → ℕ → ℕ → Bool
+is_all None o l = false
+is_all (Some width) o l = (o == 0) && (l == width)
+
+-- how many bits of a word it reaches over: all of a slot, where the word has no others
+abbrev pub reach : Option ℕ → ℕ → ℕ → ℕ
+reach width o l = if is_all width o l then 64 else l
 
 -- what is loaded by a step from a range, and the range of it
 abbrev pub step_span : Span → Step → Span
 step_span p s = record {
-  read = Loaded (Address p.read (capped p.o) (capped p.l) s.align) s.byte (capped s.width);
+  read = Loaded (Address p.read (capped p.o) (capped (reach p.width p.o p.l)) s.align) s.byte (capped s.width);
   width = Some s.width;
   o = s.o;
   l = s.l;

@@ -1,6 +1,8 @@
 -- How an address is made of the word that holds its pointer part, for the proof of what makes it.
 use Rattle.std.specs.Prelude.{◌≡◌, ℕ, true}
-use Rattle.rb_target.specs.Sheet.{Sheet}
+use Rattle.rb_target.specs.declared.instr.AluOp.TheVariants.{Mul}
+use Rattle.rb_target.specs.declared.instr.Instr.TheVariants.{Const, Alu}
+use Rattle.rb_target.specs.Sheet.{Sheet, pushed, with_slot}
 use Rattle.rb_fragment.specs.declared.reads.Read.{Read, Address}
 use Rattle.rb_fragment.specs.Plan.{Plan}
 use Rattle.rb_fragment.specs.Reads.{fits, Makes}
@@ -10,3 +12,9 @@ abbrev pub MakesAddress : ℕ → ℕ → ℕ → ℕ → Sheet → Sheet → �
 MakesAddress from o l align old new slot =
     (plan : Plan) (r : Read) (a : Sheet) (k : ℕ) → fits k (Address r o l align) ≡ true → Makes plan r a old from
     → Makes plan (Address r o l align) a new slot
+
+-- a slot's word times a number, behind other code
+abbrev pub multiple : ℕ → ℕ → Sheet → Sheet
+multiple from unit old =
+    let one = pushed (with_slot old) (Const old.slots unit) in
+    pushed (with_slot one) (Alu Mul 64 one.slots from old.slots)
