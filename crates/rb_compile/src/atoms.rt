@@ -164,6 +164,7 @@ fn result_type(op: Op, ty: Ty) -> Ty
     }
 }
 
+// The machine's operation for an operator.
 fn alu_op(op: Op) -> AluOp
     ensures { result ≡ alu_op_of op }
 {
@@ -189,6 +190,7 @@ fn width(ty: Ty) -> u8
     }
 }
 
+// The first of some slots; 0 where there is none.
 fn first_slot(slots: &[usize]) -> usize
     ensures { result ≡ slice_index slots.now 0 }
 {

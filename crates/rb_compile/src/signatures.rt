@@ -41,6 +41,7 @@ pub(crate) fn field_types(
     Ok(fields)
 }
 
+// The types of a constructor's fields, where there is such a constructor.
 fn fields_in(alloc: Global, types: &[DataDecl], con: ConRef) -> Result<Option<Seq<Ty>>, AllocError>
     ensures { IfOk result (λ o. o ≡ fields_of types.now con) }
 {

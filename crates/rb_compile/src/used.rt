@@ -112,6 +112,7 @@ fn prune(alloc: Global, marks: &Marks, pat: &Pat) -> Result<Pat, AllocError>
     }
 }
 
+// Patterns without the variables that are not marked.
 #[cycle(pruning)]
 fn prune_all(alloc: Global, marks: &Marks, pats: &[Pat]) -> Result<Seq<Pat>, AllocError>
     ensures { IfOk result (λ ps. ps ≡ map (pruned (is_kept marks.now)) pats.now) }

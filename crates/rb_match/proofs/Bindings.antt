@@ -104,7 +104,7 @@ field_none agreed t leaf words sub field i old b none = λ plan of all count.
       given = tt;
       origin = λ x o. absurd o;
       runs = λ clean v bs layout is_layout is_leaf parts.
-          nothing plan old (mend_at plan.layouts t leaf i + binding_bound plan.program.types plan.layouts field sub) (λ s m. IsGood m × Rep plan m clean (Named t) v (slots_at s words)) (λ s m. Holds plan clean s m [] bs) (λ s m pre. subst (λ l. Holds plan clean s m [] l) (sym (parts.3 ∙ n.1 parts.0)) tt);
+          nothing plan old (mend_at plan.layouts t leaf (i ∷ []) + binding_bound plan.program.types plan.layouts field sub) (λ s m. IsGood m × Rep plan m clean (Named t) v (slots_at s words)) (λ s m. Holds plan clean s m [] bs) (λ s m pre. subst (λ l. Holds plan clean s m [] l) (sym (parts.3 ∙ n.1 parts.0)) tt);
     }
 
 pub unbound_binds_at : (agreed : LaidOut) (t : Ty) (pat : Pat) (words : List ℕ) (old : Sheet) → is_unbound pat ≡ true → BindsAt agreed t pat words old old []
@@ -115,7 +115,7 @@ field_unbound agreed t leaf words sub field i old none = let n = unbound_binds s
 
 -- a field that is fetched, and then bound
 pub field_binds : (agreed : LaidOut) (t leaf : ℕ) (words : List ℕ) (sub : Pat) (field : Ty) (i : ℕ) (old mid new : Sheet) (slots : List ℕ) (bound : List Local)
-    → FetchesPart agreed t leaf i field words old mid slots → BindsAt agreed field sub slots mid new bound → BindsField agreed t leaf words sub field i old new bound
+    → FetchesPart agreed t leaf (i ∷ []) field words old mid slots → BindsAt agreed field sub slots mid new bound → BindsField agreed t leaf words sub field i old new bound
 field_binds agreed t leaf words sub field i old mid new slots bound fetches binds = λ plan of all count.
     let g = fetches plan of all count in
     let b = binds plan of g.given g.count in
@@ -129,7 +129,7 @@ field_binds agreed t leaf words sub field i old mid new slots bound fetches bind
           let Part : List ℕ → Memory → Type 0 = λ s m. Rep plan m clean field parts.0 (slots_at s slots) in
           let Mid : List ℕ → Memory → Type 0 = λ s m. IsGood m × Part s m in
           let Post : List ℕ → Memory → Type 0 = λ s m. Holds plan clean s m bound bs in
-          let k1 = mend_at plan.layouts t leaf i in
+          let k1 = mend_at plan.layouts t leaf (i ∷ []) in
           let k2 = binding_bound plan.program.types plan.layouts field sub in
           let framed = piece_framed plan old.slots old mid k1 (λ s m. IsGood m) Pre Part (λ s s' m k x. x) (g.runs clean v parts.0 layout is_layout is_leaf parts.1) in
           let first = piece_less plan old.slots old.slots old mid k1 k1 (λ s m. IsGood m × Pre s m) Pre Mid Mid (omega arith) (omega arith) (λ s m x. (x.0, x)) (λ s m x. x) framed in
@@ -207,7 +207,7 @@ fields_binds agreed t leaf words sub subs field fields i old mid new bound more 
     shifted : (i j : ℕ) → i + suc j ≡ i + 1 + j
     shifted i j = omega arith
 
-    go : (plan : Plan) (f : BindsParts plan (mend_at plan.layouts t leaf i + binding_bound plan.program.types plan.layouts field sub) t leaf words (binders plan.program.types sub field) old mid bound (FieldMatches sub i))
+    go : (plan : Plan) (f : BindsParts plan (mend_at plan.layouts t leaf (i ∷ []) + binding_bound plan.program.types plan.layouts field sub) t leaf words (binders plan.program.types sub field) old mid bound (FieldMatches sub i))
         (o : BindsParts plan (mends_from plan.layouts t leaf subs (i + 1) + fields_bound plan subs fields) t leaf words (all_binders (map (binders plan.program.types) subs) fields) mid new more (FieldsMatch subs (i + 1)))
         → AllBelow old.slots words → (clean : Bool) (v : Value) (bs : List Binding) (layout : Layout) → layout_of plan.layouts t ≡ Some layout → leaf_of layout v ≡ Some leaf
         → (vs : List Value) → ((j : ℕ) → part_at v ((i + j) ∷ []) ≡ slice_get vs j) → all_pass (map matches_of (sub ∷ subs)) vs ≡ true → bs ≡ all_bound (map bindings (sub ∷ subs)) vs
@@ -223,7 +223,7 @@ fields_binds agreed t leaf words sub subs field fields i old mid new bound more 
         let Has1 : List ℕ → Memory → Type 0 = λ s m. Holds plan clean s m bound bs1 in
         let Has2 : List ℕ → Memory → Type 0 = λ s m. Holds plan clean s m more bs2 in
         let keep_pre : (s s' : List ℕ) (m : Memory) → Keeps old.slots s s' → Pre s m → Pre s' m = λ s s' m k x. (x.0, subst (λ ws. Rep plan m clean (Named t) v ws) (sym (slots_at-kept old.slots s s' words all k)) x.1) in
-        let k1 = mend_at plan.layouts t leaf i + binding_bound plan.program.types plan.layouts field sub in
+        let k1 = mend_at plan.layouts t leaf (i ∷ []) + binding_bound plan.program.types plan.layouts field sub in
         let k2 = mends_from plan.layouts t leaf subs (i + 1) + fields_bound plan subs fields in
         let Post : List ℕ → Memory → Type 0 = λ s m. Holds plan clean s m (bound ++ more) bs in
         let Mid : List ℕ → Memory → Type 0 = λ s m. Has1 s m × Pre s m in
@@ -240,14 +240,14 @@ pub begins_with : (d : ℕ) (ts : List (Value → Bool)) (l : Value-F Value) →
 begins_with d ts (V.Num n) e = absurd (false≢true e)
 begins_with d ts (V.Con k us) e = let b = both (d == k) (all_pass ts us) e in (us, ap (λ n. V.Con n us) (sym (same-nat d k b.0)), b.1)
 
-mends_more : (layouts : List Layout) (t leaf : ℕ) (subs : List Pat) (i : ℕ) → mends_at layouts t leaf i + mends_from layouts t leaf subs i ≡ mends_at layouts t leaf (i + length subs)
-mends_more layouts t leaf [] i = let z : i + 0 ≡ i = omega arith in (let e = ap (mends_at layouts t leaf) z in omega (arith, e))
+mends_more : (layouts : List Layout) (t leaf : ℕ) (subs : List Pat) (i : ℕ) → mends_at layouts t leaf [] i + mends_from layouts t leaf subs i ≡ mends_at layouts t leaf [] (i + length subs)
+mends_more layouts t leaf [] i = let z : i + 0 ≡ i = omega arith in (let e = ap (mends_at layouts t leaf []) z in omega (arith, e))
 mends_more layouts t leaf (p ∷ ps) i =
     let up : suc i ≡ i + 1 = omega arith in
     let z : i + 1 + length ps ≡ i + suc (length ps) = omega arith in
     let h = mends_more layouts t leaf ps (i + 1) in
-    let a = ap (mends_at layouts t leaf) up in
-    let b = ap (mends_at layouts t leaf) z in omega (arith, h, a, b)
+    let a = ap (mends_at layouts t leaf []) up in
+    let b = ap (mends_at layouts t leaf []) z in omega (arith, h, a, b)
 
 pub look_more : (layouts : List Layout) (t : ℕ) → rebuilding layouts (Named t) ≤ binding_look layouts (Named t)
 look_more layouts t = go (is_plain layouts t)

@@ -1,5 +1,5 @@
--- What rebuilding the fields of one leaf costs is within its type's mending, and the fields are there.
-use Rattle.std.proofs.Common.{◌≡◌, ℕ, zero, suc, ◌+◌, ◌≤◌, ◌==◌, Bool, true, false, List, [], ◌∷◌, map, length, Option, Some, None, refl, sym, ap, ◌∙◌, arith}
+-- What rebuilding parts of one leaf costs is within its type's mending, and the parts are there.
+use Rattle.std.proofs.Common.{◌≡◌, ℕ, zero, suc, ◌+◌, ◌≤◌, ◌==◌, Bool, true, false, List, [], ◌∷◌, ◌++◌, map, length, Option, Some, None, refl, sym, ap, ◌∙◌, arith}
 use Rattle.std.specs.Prelude.{slice_get, drop, if◌then◌else◌, ◌&&◌}
 use Rattle.std.specs.List.{list_all, sum_by}
 use Rattle.std.proofs.lemmas.Bool.{false≢true}
@@ -12,7 +12,7 @@ use Rattle.rb_core.specs.declared.types.Ty.TheVariants.{Named}
 use Rattle.rb_core.specs.declared.pattern.Pat.{Pat, out-Pat}
 use Rattle.rb_core.specs.declared.pattern.Pat.TheVariants.{outs-Wild, outs-Var, outs-Num, outs-Con}
 use Rattle.rb_core.specs.Matching.{all_pass, is_con, matches_of}
-use Rattle.rb_core.specs.Values.{part_at, subs_in}
+use Rattle.rb_core.specs.Values.{part_at, part_from, subs_in}
 use Rattle.rb_core.proofs.MatchingForms.{matches-Con}
 use Rattle.rb_core.proofs.PatternLaws.{fold-Con, induction}
 use Rattle.rb_decide.specs.Decisions.{subpatterns}
@@ -24,7 +24,7 @@ use Rattle.rb_rel.proofs.Leaves.{leaf_matches}
 use Rattle.rb_fragment.specs.Plan.{Plan}
 use Rattle.rb_match.specs.Bounding.{is_plain, rebuilding}
 use Rattle.rb_match.specs.inner.Asking.{leaf_in}
-use Rattle.rb_match.specs.inner.Saving.{HasField, mend_at, mend_field, mend_pattern, mends_at}
+use Rattle.rb_match.specs.inner.Saving.{HasPart, mend_at, mend_below, mend_inside, mend_pattern, mends_at, pattern_at, prov_at, provenance}
 use Rattle.rb_match.proofs.Edges.{same-nat}
 
 both : (a b : Bool) → (a && b) ≡ true → (a ≡ true) × (b ≡ true)
@@ -75,17 +75,49 @@ module _ (layouts : List Layout) where
         let r = some-within ps 0 i in omega (arith, e, h, r);
   }) q
 
-  mends-some : (t number : ℕ) (leaf : Leaf) (i : ℕ) → leaf_in (layout_of layouts t) number ≡ Some leaf → mends_at layouts t number i ≡ some (subpatterns (out-Pat leaf.prov)) i
-  mends-some t number leaf zero is = refl
-  mends-some t number leaf (suc i) is =
-      let r = mends-some t number leaf i is in
-      let e : mend_at layouts t number i ≡ mend_pattern layouts (slice_get (subpatterns (out-Pat leaf.prov)) i) = ap (λ o. mend_field layouts o i) is in omega (arith, r, e)
+  -- one field further
+  abbrev sub_of : Option Pat → ℕ → Option Pat
+  sub_of None i = None
+  sub_of (Some p) i = slice_get (subpatterns (out-Pat p)) i
 
-  mends-none : (t number i : ℕ) → leaf_in (layout_of layouts t) number ≡ None → mends_at layouts t number i ≡ 0
-  mends-none t number zero is = refl
-  mends-none t number (suc i) is =
-      let r = mends-none t number i is in
-      let e : mend_at layouts t number i ≡ 0 = ap (λ o. mend_field layouts o i) is in omega (arith, r, e)
+  pattern-snoc : (o : Option Pat) (path : List ℕ) (i : ℕ) → pattern_at o (path ++ i ∷ []) ≡ sub_of (pattern_at o path) i
+  pattern-snoc None [] i = refl
+  pattern-snoc None (k ∷ path) i = refl
+  pattern-snoc (Some p) [] i = here (slice_get (subpatterns (out-Pat p)) i)
+    where
+      here : (o : Option Pat) → pattern_at o [] ≡ o
+      here None = refl
+      here (Some q) = refl
+  pattern-snoc (Some p) (k ∷ path) i = pattern-snoc (slice_get (subpatterns (out-Pat p)) k) path i
+
+  mends-inside : (t number : ℕ) (path : List ℕ) (o : Option Pat) → prov_at layouts t number path ≡ o → (i : ℕ) → mends_at layouts t number path i ≤ mend_inside layouts o
+  mends-inside t number path None is zero = omega arith
+  mends-inside t number path None is (suc i) =
+      let r = mends-inside t number path None is i in
+      let e : mend_at layouts t number (path ++ i ∷ []) ≡ 0 = ap (mend_pattern layouts) (pattern-snoc (provenance (leaf_in (layout_of layouts t) number)) path i ∙ ap (λ o. sub_of o i) is) in omega (arith, r, e)
+  mends-inside t number path (Some p) is i = (let a = same i in let b = some-all p i in omega (arith, a, b))
+    where
+      same : (i : ℕ) → mends_at layouts t number path i ≡ some (subpatterns (out-Pat p)) i
+      same zero = refl
+      same (suc i) =
+          let r = same i in
+          let e : mend_at layouts t number (path ++ i ∷ []) ≡ mend_pattern layouts (slice_get (subpatterns (out-Pat p)) i) = ap (mend_pattern layouts) (pattern-snoc (provenance (leaf_in (layout_of layouts t) number)) path i ∙ ap (λ o. sub_of o i) is) in omega (arith, r, e)
+
+  -- parts at and below fields, each once, are parts below what has the fields
+  pub mends_below : (t number : ℕ) (path : List ℕ) (i : ℕ) → mends_at layouts t number path i ≤ mend_below layouts t number path
+  mends_below t number path i = mends-inside t number path (prov_at layouts t number path) refl i
+
+  -- and those are parts at or below it
+  pub below_at : (t number : ℕ) (path : List ℕ) → mend_below layouts t number path ≤ mend_at layouts t number path
+  below_at t number path = go (prov_at layouts t number path)
+    where
+      less : (hs : List Head) → sum_by cost (drop 1 hs) ≤ sum_by cost hs
+      less [] = omega arith
+      less (h ∷ hs) = (let c = sum_by-cons cost h hs in omega (arith, c))
+
+      go : (o : Option Pat) → mend_inside layouts o ≤ mend_pattern layouts o
+      go None = omega arith
+      go (Some p) = less (heads_of p)
 
   greatest-at : (ls : List Leaf) (k : ℕ) (leaf : Leaf) → slice_get ls k ≡ Some leaf → mend_leaf (choose_of layouts) leaf ≤ greatest (map (mend_leaf (choose_of layouts)) ls)
   greatest-at [] k leaf e = absurd cc
@@ -101,36 +133,41 @@ module _ (layouts : List Layout) where
   no-heads [] e = refl
   no-heads (h ∷ hs) e = absurd (let x = same-nat (length (h ∷ hs)) 0 e in omega (arith, x))
 
-  -- rebuilding fields of one leaf, each once
-  pub mends_within : (t : ℕ) → mend_of layouts t ≡ greatest (map (mend_leaf (choose_of layouts)) (leaves_in (layout_of layouts t))) → (number i : ℕ) → mends_at layouts t number i ≤ rebuilding layouts (Named t)
-  mends_within t recurs number i = in_layout (layout_of layouts t) refl
+  -- rebuilding what one leaf takes apart
+  pub mend_within : (t : ℕ) → mend_of layouts t ≡ greatest (map (mend_leaf (choose_of layouts)) (leaves_in (layout_of layouts t))) → (number : ℕ) → mend_below layouts t number [] ≤ rebuilding layouts (Named t)
+  mend_within t recurs number = in_layout (layout_of layouts t) refl
     where
-      in_both : (layout : Layout) → layout_of layouts t ≡ Some layout → (leaf : Leaf) → slice_get layout.leaves number ≡ Some leaf → (u : Bool) → is_plain layouts t ≡ u → mends_at layouts t number i ≤ (if u then 0 else mend_of layouts t)
-      in_both layout is leaf at true plain =
-          let a = mends-some t number leaf i (ap (λ o. leaf_in o number) is ∙ at) in
-          let b = some-all leaf.prov i in
-          let s = shallow-at layout.leaves (ap (λ o. list_all is_shallow (leaves_in o)) (sym is) ∙ plain) number leaf at in
-          let c = no-heads (inner_heads leaf) s in omega (arith, a, b, c)
-      in_both layout is leaf at false plain =
-          let a = mends-some t number leaf i (ap (λ o. leaf_in o number) is ∙ at) in
-          let b = some-all leaf.prov i in
-          let g = greatest-at layout.leaves number leaf at in
-          let e = ap (λ o. greatest (map (mend_leaf (choose_of layouts)) (leaves_in o))) is in omega (arith, a, b, g, e, recurs)
+      here : (layout : Layout) → layout_of layouts t ≡ Some layout → (leaf : Leaf) → slice_get layout.leaves number ≡ Some leaf → mend_below layouts t number [] ≡ sum_by cost (inner_heads leaf)
+      here layout is leaf at = ap (λ o. mend_inside layouts (pattern_at (provenance o) [])) (ap (λ o. leaf_in o number) is ∙ at)
 
-      in_leaf : (layout : Layout) → layout_of layouts t ≡ Some layout → (o : Option Leaf) → slice_get layout.leaves number ≡ o → mends_at layouts t number i ≤ rebuilding layouts (Named t)
-      in_leaf layout is None none = (let z = mends-none t number i (ap (λ o. leaf_in o number) is ∙ none) in omega (arith, z))
+      in_both : (layout : Layout) → layout_of layouts t ≡ Some layout → (leaf : Leaf) → slice_get layout.leaves number ≡ Some leaf → (u : Bool) → is_plain layouts t ≡ u → mend_below layouts t number [] ≤ (if u then 0 else mend_of layouts t)
+      in_both layout is leaf at true plain =
+          let a = here layout is leaf at in
+          let s = shallow-at layout.leaves (ap (λ o. list_all is_shallow (leaves_in o)) (sym is) ∙ plain) number leaf at in
+          let c = no-heads (inner_heads leaf) s in omega (arith, a, c)
+      in_both layout is leaf at false plain =
+          let a = here layout is leaf at in
+          let g = greatest-at layout.leaves number leaf at in
+          let e = ap (λ o. greatest (map (mend_leaf (choose_of layouts)) (leaves_in o))) is in omega (arith, a, g, e, recurs)
+
+      in_leaf : (layout : Layout) → layout_of layouts t ≡ Some layout → (o : Option Leaf) → slice_get layout.leaves number ≡ o → mend_below layouts t number [] ≤ rebuilding layouts (Named t)
+      in_leaf layout is None none = (let z = ap (λ o. mend_inside layouts (pattern_at (provenance o) [])) (ap (λ o. leaf_in o number) is ∙ none) in omega (arith, z))
       in_leaf layout is (Some leaf) at = in_both layout is leaf at (is_plain layouts t) refl
 
-      in_layout : (o : Option Layout) → layout_of layouts t ≡ o → mends_at layouts t number i ≤ rebuilding layouts (Named t)
-      in_layout None is = (let z = mends-none t number i (ap (λ o. leaf_in o number) is) in omega (arith, z))
+      in_layout : (o : Option Layout) → layout_of layouts t ≡ o → mend_below layouts t number [] ≤ rebuilding layouts (Named t)
+      in_layout None is = (let z = ap (λ o. mend_inside layouts (pattern_at (provenance (leaf_in o number)) [])) is in omega (arith, z))
       in_layout (Some layout) is = in_leaf layout is (slice_get layout.leaves number) refl
+
+  -- rebuilding fields of one leaf, each once
+  pub mends_within : (t : ℕ) → mend_of layouts t ≡ greatest (map (mend_leaf (choose_of layouts)) (leaves_in (layout_of layouts t))) → (number i : ℕ) → mends_at layouts t number [] i ≤ rebuilding layouts (Named t)
+  mends_within t recurs number i = (let a = mends_below t number [] i in let b = mend_within t recurs number in omega (arith, a, b))
 
 -- Fields that are there
 
-passed : (ts : List (Value → Bool)) (us : List Value) (k : ℕ) (t : Value → Bool) → all_pass ts us ≡ true → slice_get ts k ≡ Some t → (u : Value) × (slice_get us k ≡ Some u)
+passed : (ts : List (Value → Bool)) (us : List Value) (k : ℕ) (t : Value → Bool) → all_pass ts us ≡ true → slice_get ts k ≡ Some t → (u : Value) × (slice_get us k ≡ Some u) × (t u ≡ true)
 passed [] us k t all e = absurd cc
 passed (x ∷ ts) [] k t all e = absurd (false≢true all)
-passed (x ∷ ts) (u ∷ us) zero t all e = (u, refl)
+passed (x ∷ ts) (u ∷ us) zero t all e = (u, refl, ap (λ f. f u) (sym (same_Some x t e)) ∙ (both (x u) (all_pass ts us) all).0)
 passed (x ∷ ts) (u ∷ us) (suc k) t all e = passed ts us k t (both (x u) (all_pass ts us) all).1 e
 
 get-tests : (ps : List Pat) (k : ℕ) (p : Pat) → slice_get ps k ≡ Some p → slice_get (map matches_of ps) k ≡ Some (matches_of p)
@@ -142,9 +179,9 @@ begun : (d : ℕ) (ts : List (Value → Bool)) (l : Value-F Value) → is_con d 
 begun d ts (V.Num n) e = absurd (false≢true e)
 begun d ts (V.Con k us) e = let b = both (d == k) (all_pass ts us) e in (us, refl, b.1)
 
--- a value that a pattern matches has a part at each subpattern
-pub has_sub : (q : Pat) (v : Value) (field : ℕ) (sub : Pat) → slice_get (subpatterns (out-Pat q)) field ≡ Some sub → matches_of q v ≡ true → (part : Value) × (part_at v (field ∷ []) ≡ Some part)
-has_sub q v field sub = induction (λ q. slice_get (subpatterns (out-Pat q)) field ≡ Some sub → matches_of q v ≡ true → (part : Value) × (part_at v (field ∷ []) ≡ Some part)) (record {
+-- a value that a pattern matches has a part at each of its paths, which the pattern there matches
+pub has_sub : (q : Pat) (v : Value) (field : ℕ) (sub : Pat) → slice_get (subpatterns (out-Pat q)) field ≡ Some sub → matches_of q v ≡ true → (part : Value) × (slice_get (subs_in (out-Value v)) field ≡ Some part) × (matches_of sub part ≡ true)
+has_sub q v field sub = induction (λ q. slice_get (subpatterns (out-Pat q)) field ≡ Some sub → matches_of q v ≡ true → (part : Value) × (slice_get (subs_in (out-Value v)) field ≡ Some part) × (matches_of sub part ≡ true)) (record {
   wild = λ at e m. absurd (let z = ap (λ l. slice_get (subpatterns l) field) (sym (outs-Wild at)) ∙ e in cc);
   var = λ at x e m. absurd (let z = ap (λ l. slice_get (subpatterns l) field) (sym (outs-Var at x)) ∙ e in cc);
   num = λ at n e m. absurd (let z = ap (λ l. slice_get (subpatterns l) field) (sym (outs-Num at n)) ∙ e in cc);
@@ -152,13 +189,25 @@ has_sub q v field sub = induction (λ q. slice_get (subpatterns (out-Pat q)) fie
       let b = begun c.con (map matches_of ps) (out-Value v) (sym (matches-Con v at c ps) ∙ m) in
       let s = get-tests ps field sub (ap (λ l. slice_get (subpatterns l) field) (sym (outs-Con at c ps)) ∙ e) in
       let r = passed (map matches_of ps) b.0 field (matches_of sub) b.2 s in
-      (r.0, ap (λ us. slice_get us field) b.1 ∙ r.1);
+      (r.0, ap (λ us. slice_get us field) b.1 ∙ r.1, r.2);
 }) q
 
-pub has_field : (plan : Plan) (t number field : ℕ) (layout : Layout) (leaf : Leaf) (sub : Pat) → layout_of plan.layouts t ≡ Some layout → slice_get layout.leaves number ≡ Some leaf → slice_get (subpatterns (out-Pat leaf.prov)) field ≡ Some sub
-    → HasField plan t number field
-has_field plan t number field layout leaf sub is at is_sub = λ v layout1 is1 is_leaf.
+pub has_below : (q : Pat) (v : Value) (path : List ℕ) (sub : Pat) → pattern_at (Some q) path ≡ Some sub → matches_of q v ≡ true → (part : Value) × (part_at v path ≡ Some part)
+has_below q v [] sub e m = (v, refl)
+has_below q v (i ∷ path) sub e m = go (λ p u e m. has_below p u path sub e m) (slice_get (subpatterns (out-Pat q)) i) refl e
+  where
+    go : ((p : Pat) (u : Value) → pattern_at (Some p) path ≡ Some sub → matches_of p u ≡ true → (part : Value) × (part_at u path ≡ Some part))
+        → (o : Option Pat) → slice_get (subpatterns (out-Pat q)) i ≡ o → pattern_at o path ≡ Some sub → (part : Value) × (part_at v (i ∷ path) ≡ Some part)
+    go below None is e = absurd cc
+    go below (Some p) is e =
+        let h = has_sub q v i p is m in
+        let r = below p h.0 e h.2 in
+        (r.0, ap (λ o. part_from o path) h.1 ∙ r.1)
+
+pub has_part : (plan : Plan) (t number : ℕ) (path : List ℕ) (layout : Layout) (leaf : Leaf) (sub : Pat) → layout_of plan.layouts t ≡ Some layout → slice_get layout.leaves number ≡ Some leaf → pattern_at (Some leaf.prov) path ≡ Some sub
+    → HasPart plan t number path
+has_part plan t number path layout leaf sub is at is_sub = λ v layout1 is1 is_leaf.
     let same : layout1 ≡ layout = same_Some layout1 layout (sym is1 ∙ is) in
     let e : leaf_of layout v ≡ Some number = ap (λ (y : Layout). leaf_of y v) (sym same) ∙ is_leaf in
     let start : 0 + number ≡ number = omega arith in
-    has_sub leaf.prov v field sub is_sub (leaf_matches layout.leaves v 0 number leaf e number start at)
+    has_below leaf.prov v path sub is_sub (leaf_matches layout.leaves v 0 number leaf e number start at)

@@ -1,6 +1,7 @@
 -- A test of an integer: one switch over its numbers.
 use Rattle.std.proofs.Common.{◌≡◌, ℕ, ◌≤◌, zero, suc, ◌+◌, ◌<◌, ◌⊎◌, inl, inr, Bool, true, false, List, [], ◌∷◌, ◌++◌, length, Option, Some, None, refl, sym, subst, ap, ◌∙◌, arith, length-append}
-use Rattle.std.specs.Prelude.{slice_get, slice_index, if◌then◌else◌, ◌&&◌, nat_eq, All, IfSome}
+use Rattle.std.specs.Prelude.{slice_get, slice_index, if◌then◌else◌, ◌&&◌, nat_eq, All, IfSome, is_some}
+use Rattle.std.specs.Bool.{then_some}
 use Rattle.std.proofs.lemmas.Bool.{false≢true, ltb-true}
 use Rattle.std.proofs.lemmas.List.{length-map}
 use Rattle.std.proofs.lemmas.List.Elements.{All-nil, All-cons}
@@ -32,7 +33,7 @@ use Rattle.rb_fragment.proofs.Adding.{Adds-trans, push_adds}
 use Rattle.rb_match.specs.declared.knowledge.Known.{Known}
 use Rattle.rb_match.specs.declared.knowledge.Edge.{Edge}
 use Rattle.rb_match.specs.inner.Knowing.{IsEdge, seen}
-use Rattle.rb_match.specs.inner.Asking.{take_link, number_of, is_number, are_numbers, number_arm, number_arms, open_else_of, edge_in, arm_edges, else_edges, StandOpen, AsksNumber}
+use Rattle.rb_match.specs.inner.Asking.{take_link, number_of, is_number, are_numbers, number_arm, number_arms, edge_in, arm_edges, else_edges, StandOpen, AsksNumber}
 use Rattle.rb_match.proofs.Edges.{edge_append, edge_left, edge_right, open_edge}
 use Rattle.rb_match.proofs.Following.{carried_known, known-kept}
 
@@ -63,7 +64,7 @@ module _ (nodes : List GraphNode) (read : Read) (known : List Known) (arms : Lis
   ways = number_arms (pc + 1) arms
 
   abbrev pub switch : Instr
-  switch = Switch slot (open_else_of (pc + 1) other) ways
+  switch = Switch slot (then_some (is_some other) (pc + 1)) ways
 
   abbrev pub new : Sheet
   new = pushed mid switch
@@ -112,8 +113,8 @@ module _ (nodes : List GraphNode) (read : Read) (known : List Known) (arms : Lis
     | inl a ↦
         let lt = slice_get_within arms a.0 a.1 a.2 in
         let n : length ways ≡ length arms = length-map arms (λ (x : GraphArm). number_arm (pc + 1) x.head) in
-        subst (λ (x : Edge). IsHoleIn o x.hole.arm) (sym a.3) (arm_hole o slot (open_else_of (pc + 1) other) ways a.0 is (omega (arith, lt, n)))
-    | inr l ↦ subst (λ (x : Edge). IsHoleIn o x.hole.arm) (sym l.2) (else_hole o slot (pc + 1) ways (is ∙ ap (λ x. Some (shape (Switch slot (open_else_of (pc + 1) x) ways))) l.1))
+        subst (λ (x : Edge). IsHoleIn o x.hole.arm) (sym a.3) (arm_hole o slot (then_some (is_some other) (pc + 1)) ways a.0 is (omega (arith, lt, n)))
+    | inr l ↦ subst (λ (x : Edge). IsHoleIn o x.hole.arm) (sym l.2) (else_hole o slot (pc + 1) ways (is ∙ ap (λ x. Some (shape (Switch slot (then_some (is_some x) (pc + 1)) ways))) l.1))
   ]
 
   is_pc : (e : Edge) → IsEdge e edges → e.hole.pc ≡ pc
@@ -178,7 +179,7 @@ module _ (nodes : List GraphNode) (read : Read) (known : List Known) (arms : Lis
   arms_forward [] = All-nil (λ (x : SwitchArm). IsTarget (pc + 1 + 1) pc x.target)
   arms_forward (y ∷ ys) = All-cons (λ (x : SwitchArm). IsTarget (pc + 1 + 1) pc x.target) (number_arm (pc + 1) y.head) (number_arms (pc + 1) ys) (omega arith, omega arith) (arms_forward ys)
 
-  else_forward : (o : Option ℕ) → IfSome (open_else_of (pc + 1) o) (λ t. IsTarget (pc + 1 + 1) pc t)
+  else_forward : (o : Option ℕ) → IfSome (then_some (is_some o) (pc + 1)) (λ t. IsTarget (pc + 1 + 1) pc t)
   else_forward None = tt
   else_forward (Some t) = (omega arith, omega arith)
 
@@ -203,7 +204,7 @@ module _ (nodes : List GraphNode) (read : Read) (known : List Known) (arms : Lis
             let r = (mk.runs x).runs final callee next law agrees s w (omega (arith, long)) (good, word) in
             let a = fin pc longer (omega (arith, len)) in
             let shaped = a.shapes ∙ ap shape_in (get-seam mid.code switch []) in
-            let sw = switch_shape (slice_get final pc) slot (open_else_of (pc + 1) other) ways shaped in
+            let sw = switch_shape (slice_get final pc) slot (then_some (is_some other) (pc + 1)) ways shaped in
             let link : take_link arms other (V.Num x) ≡ Some node = ap (take_link arms other) (sym (outs-Num x)) ∙ ap (λ u. take_link arms other (out-Value u)) (sym int.1) ∙ takes in
             let i = edge_of x node (goes arms x node nums link) in
             let hole = hole_in (slice_get final pc) (picked arms x) (is_hole (slice_get final pc) shaped (edge_in nodes pc (picked arms x) node known) i) in

@@ -48,8 +48,9 @@ use Rattle.rb_match.specs.Bounding.{choosing_look, rebuilding}
 use Rattle.rb_match.specs.inner.Knowing.{AreKnown, IsEdge, IsKnown, seen}
 use Rattle.rb_match.specs.inner.Asking.{AreGroups, AreSpots, LeavesWhere, StandOpen, group_for, edge_at, holes_of, take_link}
 use Rattle.rb_match.specs.inner.Clauses.{way_holes}
-use Rattle.rb_match.specs.inner.Opening.{AsksDeep, CanOpen, GoOn, HasGroupOnward, IsAlone, IsOnward, LeadLeaves, LeadsAll, LeadsFrom, LeadsLeaf, LeadsWays, PartLeads, StepsWay, WaysLead, WaysStand, group_onward, pending, shared_edge, shared_edges}
+use Rattle.rb_match.specs.inner.Opening.{AsksDeep, CanOpen, GoOn, HasGroupOnward, IsAlone, IsOnward, LeadLeaves, LeadsAll, LeadsFrom, LeadsLeaf, LeadsWays, PartLeads, ShowOnward, StepsWay, WaysLead, WaysStand, group_onward, pending, shared_edge, shared_edges}
 use Rattle.rb_match.specs.inner.Saving.{IsThereWith, Knows, SavesFields}
+use Rattle.rb_match.specs.inner.Threading.{AllFollow}
 use Rattle.rb_match.proofs.ClauseForms.{way_from, way_in}
 use Rattle.rb_match.proofs.Edges.{all_holes_from, closable_from, hole_at, other-nat, same-nat, edge_append, edge_left, edge_open, edge_right, in_append, in_left, in_right, open_edge, patchable_from}
 use Rattle.rb_match.proofs.Following.{carried_known, known-kept, snoc-at}
@@ -139,9 +140,9 @@ group_within [] leaf g e = absurd (let z = e in cc)
 group_within (x ∷ groups) zero g e = omega arith
 group_within (x ∷ groups) (suc leaf) g e = let r = group_within groups leaf g e in omega (arith, r)
 
-module _ (agreed : LaidOut) (t : ℕ) (words : List ℕ) (spots : List Spot) (known : List Known) (position : Bor (List ℕ)) (holes : List Hole) (i : ℕ) (found : Option Onward) (old : Sheet) (edges : List Edge) where
+module _ (agreed : LaidOut) (t : ℕ) (words : List ℕ) (spots : List Spot) (position : Bor (List ℕ)) (holes : List Hole) (i : ℕ) (found : Option Onward) (old : Sheet) (edges : List Edge) where
   abbrev Steps : Sheet → List Edge → Type 0
-  Steps new more = StepsWay agreed t words spots known position holes i found old edges new more
+  Steps new more = StepsWay agreed t words spots position holes i found old edges new more
 
   -- fewer are pending
   later_pending : (h : Hole) → IsIn h (pending (i + 1) holes) → IsIn h (pending i holes)
@@ -151,7 +152,7 @@ module _ (agreed : LaidOut) (t : ℕ) (words : List ℕ) (spots : List Spot) (kn
   skips : ((groups : List (Option ℕ)) → IsAlone groups i found → (leaf : ℕ) → group_at groups leaf ≡ Some i → ⊥) → Steps old edges
   skips none = record {
     stands = λ mid top st. record { grows = st.grows; high = st.high; are_holes = λ h j. st.are_holes h (later_pending h j); are_open = st.are_open; one = st.one };
-    leads = λ graph arms other groups plan n mid top goes alone of are low count ways st f. record {
+    leads = λ known graph arms other groups plan n mid top goes alone of are low count ways st f. record {
       adds = f.adds;
       leaves = λ final callee next law fin s w clean v part layout leaf node long there is_part is_layout is_leaf takes group has.
           let fin1 : Finishes final old.code (pending i holes ++ holes_of edges) (length mid.code) (length old.code) = λ q l h.
@@ -326,13 +327,10 @@ module _ (agreed : LaidOut) (t : ℕ) (words : List ℕ) (spots : List Spot) (kn
               let hi = st.high in
               landed.leads (record { pc = h.pc; arm = h.arm; leaf = 0 }) w s.0 (omega (arith, s.1, hi))
 
-      abbrev facts : List Known
-      facts = known ++ K.Leaf position t i ∷ []
-
-      pub opens_way : found ≡ Some o → SavesFields agreed t i words spots position.now facts more b c → Steps way_code all
+      pub opens_way : found ≡ Some o → SavesFields agreed t i words spots position.now o.known more b c → Steps way_code all
       opens_way is_found saves = record {
         stands = λ mid top st. way_stands mid top st;
-        leads = λ graph arms other groups plan n mid top goes alone of are low count ways st f.
+        leads = λ known graph arms other groups plan n mid top goes alone of are low count ways st f.
             let slots = closed_slots old here targets in
             let more_slots = f.adds.more in
             let adds1 = adds_closed plan mid old here targets (length old.code) refl f.adds all_here (closable_from (length mid.code) (length old.code) here targets (λ h j.
@@ -348,22 +346,22 @@ module _ (agreed : LaidOut) (t : ℕ) (words : List ℕ) (spots : List Spot) (kn
                   let more1 = k.adds.more in
                   let r = f.leaves final callee next law (fin_old mid top st ways final fin) s w clean v part layout leaf node1 (omega (arith, long, more1, slots)) there is_part is_layout is_leaf takes group has in
                   let mine = λ (e : group ≡ i). (subst (IsAlone groups i) is_found alone leaf (has ∙ ap Some e)).0 in
-                  (λ lt. go graph arms other plan n mid top goes of are low le st k ways final callee next law fin s w clean v part layout leaf node1 group long there is_part is_layout is_leaf takes mine r lt (group == i) refl, λ at. r.1 (omega (arith, at)));
+                  (λ lt. go known graph arms other plan n mid top goes of are low le st k ways final callee next law fin s w clean v part layout leaf node1 group long there is_part is_layout is_leaf takes mine r lt (group == i) refl, λ at. r.1 (omega (arith, at)));
             };
       }
         where
           below : {a : ℕ} → a < i + 1 → (a ≡ i → ⊥) → a < i
           below {a = a} lt ne = grind (arith, lt, ne)
 
-          go : (graph : Whole) (arms : List GraphArm) (other : Option ℕ) (plan : Plan) (n : ℕ) (mid : Sheet) (top : ℕ) → LeadsLeaf agreed graph t known position arms other i found → IsPlanOf agreed plan → (are : AreSpots plan n mid.slots spots) → AllBelow mid.slots words → mid.slots ≤ b.slots
-              → (st : WaysStand mid top holes i old edges) → (k : Knows plan n (rebuilding plan.layouts (Named t)) t i words spots position.now facts more b c) → (ways : AreOfOneWay holes)
+          go : (known : List Known) (graph : Whole) (arms : List GraphArm) (other : Option ℕ) (plan : Plan) (n : ℕ) (mid : Sheet) (top : ℕ) → LeadsLeaf agreed graph t known position arms other i found → IsPlanOf agreed plan → (are : AreSpots plan n mid.slots spots) → AllBelow mid.slots words → mid.slots ≤ b.slots
+              → (st : WaysStand mid top holes i old edges) → (k : Knows plan n (rebuilding plan.layouts (Named t)) t i words spots position.now o.known more b c) → (ways : AreOfOneWay holes)
               → (final : List Instr) (callee : Callee) (next : Next) → Law final callee next → Finishes final way_code.code (pending (i + 1) holes ++ holes_of all) (length mid.code) (length way_code.code)
               → (s : List ℕ) (w : World) (clean : Bool) (v part : Value) (layout : Layout) (leaf node1 group : ℕ) → way_code.slots ≤ length s → IsThereWith plan clean t v part words spots known s w.memory
               → part_at v position.now ≡ Some part → layout_of plan.layouts t ≡ Some layout → leaf_of layout part ≡ Some leaf → take_link arms other (out-Value part) ≡ Some node1 → (group ≡ i → leaf ≡ i)
               → (group < i → LeavesWhere (IsOnward agreed graph node1) plan final next edges n (choosing_look plan.layouts (Named t)) (length mid.code) s w clean v spots)
               × (i ≤ group → Leaves final next holes mid.slots (depth_of plan.layouts (Named t)) (length mid.code) s w group (λ s' m. Unit {0}))
               → group < i + 1 → (u : Bool) → (group == i) ≡ u → LeavesWhere (IsOnward agreed graph node1) plan final next all n (choosing_look plan.layouts (Named t)) (length mid.code) s w clean v spots
-          go graph arms other plan n mid top goes of are low le st k ways final callee next law fin s w clean v part layout leaf node1 group long there is_part is_layout is_leaf takes mine r lt false e =
+          go known graph arms other plan n mid top goes of are low le st k ways final callee next law fin s w clean v part layout leaf node1 group long there is_part is_layout is_leaf takes mine r lt false e =
               let q = r.0 (below lt (other-nat group i e)) in
               record {
                 edge = q.edge;
@@ -378,7 +376,7 @@ module _ (agreed : LaidOut) (t : ℕ) (words : List ℕ) (spots : List Spot) (kn
                 known = q.known;
                 is_node = q.is_node;
               }
-          go graph arms other plan n mid top goes of are low le st k ways final callee next law fin s w clean v part layout leaf node1 group long there is_part is_layout is_leaf takes mine r lt true e =
+          go known graph arms other plan n mid top goes of are low le st k ways final callee next law fin s w clean v part layout leaf node1 group long there is_part is_layout is_leaf takes mine r lt true e =
               let is : group ≡ i = same-nat group i e in
               let is_i : leaf_of layout part ≡ Some i = is_leaf ∙ ap Some (mine is) in
               let q = r.1 (omega (arith, is)) in
@@ -386,12 +384,15 @@ module _ (agreed : LaidOut) (t : ℕ) (words : List ℕ) (spots : List Spot) (kn
               let mem = sym q.later.memory in
               let kept = known-kept mid.slots plan clean v spots s q.slots w.memory q.keeps are.below known there.1 in
               let words1 : slots_at q.slots words ≡ slots_at s words = slots_at-kept mid.slots s q.slots words low q.keeps in
-              let there1 : IsThereWith plan clean t v part words spots facts q.slots w.memory = (
+              let facts : List Known = known ++ K.Leaf position t i ∷ [] in
+              let all_facts : AreKnown (seen plan clean v spots q.slots w.memory) facts = leaf_known t i position plan clean v part layout spots q.slots w.memory known kept is_part is_layout is_i in
+              let shows : AllFollow agreed facts o.known = subst (ShowOnward agreed facts) is_found goes.shows in
+              let there1 : IsThereWith plan clean t v part words spots o.known q.slots w.memory = (
                 (there.0.0, subst (λ ws. Rep plan w.memory clean (Named t) part ws) (sym words1) there.0.1),
-                leaf_known t i position plan clean v part layout spots q.slots w.memory known kept is_part is_layout is_i,
+                shows (seen plan clean v spots q.slots w.memory) of all_facts,
               ) in
               let p = k.runs clean v part layout is_layout is_i is_part in
-              let r2 = p.runs final callee next law (agrees_way mid top st ways final fin) q.slots q.world (omega (arith, q.keeps.long, long)) (subst (λ m. IsThereWith plan clean t v part words spots facts q.slots m) mem there1) in
+              let r2 = p.runs final callee next law (agrees_way mid top st ways final fin) q.slots q.world (omega (arith, q.keeps.long, long)) (subst (λ m. IsThereWith plan clean t v part words spots o.known q.slots m) mem there1) in
               let pc = length c.code in
               let m1 = st.grows.longer in
               let g1 = grows.longer in
@@ -411,7 +412,7 @@ module _ (agreed : LaidOut) (t : ℕ) (words : List ℕ) (spots : List Spot) (kn
                 is_node = (
                   facts,
                   q.slots,
-                  there1.1,
+                  all_facts,
                   goes_on agreed graph t known position arms other i found goes o is_found plan of layout part node1 is_layout is_i takes,
                 );
               }

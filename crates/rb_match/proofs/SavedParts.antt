@@ -16,6 +16,7 @@ use Rattle.rb_fragment.proofs.Moves.{one-below, slots_from-above, slots_from-bel
 use Rattle.rb_fragment.proofs.Pieces.{piece_none, piece_weaken, straight_seq}
 use Rattle.rb_fragment.proofs.Steps.{straight_const}
 use Rattle.rb_match.specs.declared.knowledge.Spot.{Spot}
+use Rattle.rb_match.specs.declared.saving.Source.{Source}
 use Rattle.std.proofs.Common.{Bool, true, false, append_assoc, append-nil, ◌==◌}
 use Rattle.std.specs.Prelude.{slice_index, slice_set}
 use Rattle.rb_core.specs.declared.value.Value.{Value}
@@ -44,21 +45,20 @@ use Rattle.rb_core.specs.declared.pattern.Pat.TheVariants.{outs-Con}
 use Rattle.rb_core.specs.declared.types.ConRef.{ConRef}
 use Rattle.rb_core.specs.Typing.{field_types}
 use Rattle.rb_decide.specs.Decisions.{subpatterns}
-use Rattle.std.specs.Prelude.{unwrap_or}
+use Rattle.std.specs.Prelude.{IfSome, unwrap_or}
+use Rattle.rb_core.specs.declared.types.DataDecl.{DataDecl}
 use Rattle.std.proofs.Common.{Option, Some, None}
 use Rattle.rb_core.specs.Values.{fields_of}
-use Rattle.rb_layout.specs.declared.layout.Leaf as L
 use Rattle.rb_layout.specs.Positions.{types_or_none}
 use Rattle.rb_layout.specs.inner.Walking.{pair_of, sub_in}
 use Rattle.rb_fragment.proofs.MakingAll.{take_more}
-use Rattle.rb_match.proofs.Mending.{has_field}
+use Rattle.rb_match.proofs.Mending.{has_part}
 use Rattle.rb_match.specs.inner.Asking.{leaf_in}
 use Rattle.rb_match.specs.declared.knowledge.Known.{Known}
 use Rattle.rb_match.specs.declared.knowledge.Known.TheVariants.{Leaf, Saved}
-use Rattle.rb_match.specs.Bounding.{rebuilding}
 use Rattle.rb_match.specs.inner.Asking.{AreSpots}
 use Rattle.rb_match.specs.inner.Knowing.{AreKnown, IsKnown, IsSaved, seen}
-use Rattle.rb_match.specs.inner.Saving.{Anything, FetchesPart, GivesSpots, IsPositionOf, IsSpotAt, IsThere, IsThereWith, KeepsOthers, Learns, SavesField, SavesFields, SavesPart, SavesSome, Zeroes, mend_at, mend_field, mend_pattern, mends_at}
+use Rattle.rb_match.specs.inner.Saving.{Anything, FetchesPart, GivesSpots, IsPositionOf, IsSpotAt, IsThere, HasBelow, IsThereWith, KeepsOthers, Learns, SavesAt, SavesPart, Zeroes, mend_at, mend_pattern, pattern_at, provenance}
 use Rattle.rb_match.proofs.Composing.{pieces}
 use Rattle.rb_match.proofs.Edges.{other-nat, same-nat}
 use Rattle.rb_match.proofs.Following.{snoc-at}
@@ -183,23 +183,49 @@ slots_at-apart n ds (x ∷ xs) s s' keeps below apart =
 
 -- Fetching and saving -----------------------------------------------------------------------------
 
-pub fetches_part : (agreed : LaidOut) (t leaf field : ℕ) (at : Ty) (words : List ℕ) (old new : Sheet) (slots : List ℕ) → IsPositionOf agreed t leaf field at → FetchesField agreed t leaf (field ∷ []) words old new slots → FetchesPart agreed t leaf field at words old new slots
-fetches_part agreed t leaf field at words old new slots (layout, found, sub, is, is_leaf, is_sub, is_at) fetches = λ plan of low count.
+-- what is found at a path of a pattern stands there
+found-pattern : (types : List DataDecl) (p : Pat) (t : Ty) (path : List ℕ) (sub : Pat) (at : Ty) → found_at types (Some (p, t)) path ≡ Some (sub, at) → pattern_at (Some p) path ≡ Some sub
+found-pattern types p t [] sub at e = ap (λ (x : Option (Pat × Ty)). first x) e
+  where
+    first : Option (Pat × Ty) → Option Pat
+    first None = None
+    first (Some x) = Some x.0
+found-pattern types p t (i ∷ path) sub at e = step (λ q ty e. found-pattern types q ty path sub at e) (out-Pat p) e
+  where
+    Found : Pat → Ty → Type 0
+    Found q ty = found_at types (Some (q, ty)) path ≡ Some (sub, at) → pattern_at (Some q) path ≡ Some sub
+
+    pairs : ((q : Pat) (ty : Ty) → Found q ty) → (o : Option Pat) (u : Option Ty) → found_at types (pair_of o u) path ≡ Some (sub, at) → pattern_at o path ≡ Some sub
+    pairs more None u e = absurd cc
+    pairs more (Some q) None e = absurd cc
+    pairs more (Some q) (Some ty) e = more q ty e
+
+    step : ((q : Pat) (ty : Ty) → Found q ty) → (l : P.Pat-F Pat) → found_at types (sub_in types l i) path ≡ Some (sub, at) → pattern_at (slice_get (subpatterns l) i) path ≡ Some sub
+    step more (P.Wild tok) e = absurd cc
+    step more (P.Var tok x) e = absurd cc
+    step more (P.Num tok n) e = absurd cc
+    step more (P.Con tok c ps) e = pairs more (slice_get ps i) (slice_get (types_or_none (fields_of types c)) i) e
+
+pub fetches_part : (agreed : LaidOut) (t leaf : ℕ) (path : List ℕ) (at : Ty) (words : List ℕ) (old new : Sheet) (slots : List ℕ) → IsPositionOf agreed t leaf path at → FetchesField agreed t leaf path words old new slots → FetchesPart agreed t leaf path at words old new slots
+fetches_part agreed t leaf path at words old new slots (layout, found, is, is_leaf, there) fetches = λ plan of low count.
+    let sub = there.0 in
+    let is_at = there.1 in
     let layout1 : layout_of plan.layouts t ≡ Some layout = ap (λ ls. layout_of ls t) of.layouts ∙ is in
-    let at1 : sub_pattern plan.program.types found.prov field ≡ Some (sub, at) = ap (λ (p : Rattle.rb_core.specs.declared.program.Program.Program). sub_pattern p.types found.prov field) of.program ∙ is_at in
-    let position : PositionAt plan t leaf (field ∷ []) at = record {
+    let at1 : found_at plan.program.types (Some (found.prov, Named t)) path ≡ Some (sub, at) = ap (λ (p : Rattle.rb_core.specs.declared.program.Program.Program). found_at p.types (Some (found.prov, Named t)) path) of.program ∙ is_at in
+    let position : PositionAt plan t leaf path at = record {
       layout = layout;
       leaf = found;
       pat = sub;
       is_layout = layout1;
       is_leaf = is_leaf;
-      is_position = ap (λ o. found_at plan.program.types o []) at1;
+      is_position = at1;
     } in
     let f = fetches plan of at position low count in
-    let most : mend_at plan.layouts t leaf field ≡ mend_under plan.layouts sub =
-    ap (λ o. mend_field plan.layouts (leaf_in o leaf) field) layout1 ∙ ap (λ o. mend_field plan.layouts o field) is_leaf ∙ ap (λ o. mend_pattern plan.layouts o) is_sub in
+    let is_sub = found-pattern plan.program.types found.prov (Named t) path sub at at1 in
+    let most : mend_at plan.layouts t leaf path ≡ mend_under plan.layouts sub =
+    ap (λ o. mend_pattern plan.layouts (pattern_at (provenance o) path)) (ap (λ o. leaf_in o leaf) layout1 ∙ is_leaf) ∙ ap (λ o. mend_pattern plan.layouts o) is_sub in
     record {
-      has = has_field plan t leaf field layout found sub layout1 is_leaf is_sub;
+      has = has_part plan t leaf path layout found sub layout1 is_leaf is_sub;
       adds = f.adds;
       given = f.given;
       count = f.count;
@@ -216,9 +242,9 @@ below-origin n xs words origin ds below apart = λ x i j. elim (origin x j) [
   | inr w ↦ apart x i w
 ]
 
-pub saves_part : (agreed : LaidOut) (t leaf field : ℕ) (words : List ℕ) (spot : Spot) (old mid : Sheet) (slots : List ℕ) → AreApart spot.slots words → FetchesPart agreed t leaf field spot.ty words old mid slots
-    → SavesPart agreed t leaf field words spot old (with_copies mid spot.slots slots)
-saves_part agreed t leaf field words spot old mid slots apart fetches = λ plan n of le from below distinct count low long.
+pub saves_part : (agreed : LaidOut) (t leaf : ℕ) (path words : List ℕ) (spot : Spot) (old mid : Sheet) (slots : List ℕ) → AreApart spot.slots words → FetchesPart agreed t leaf path spot.ty words old mid slots
+    → SavesPart agreed t leaf path words spot old (with_copies mid spot.slots slots)
+saves_part agreed t leaf path words spot old mid slots apart fetches = λ plan n of le from below distinct count low long.
     let f = fetches plan of low long in
     let ds = spot.slots in
     let more = f.adds.more in
@@ -237,7 +263,7 @@ saves_part agreed t leaf field words spot old mid slots apart fetches = λ plan 
           let Kept : List ℕ → Memory → Type 0 = λ s m. (length s ≡ length s0) × ((x : ℕ) → x < old.slots → slice_index s x ≡ slice_index s0 x) in
           let Part : List ℕ → Memory → Type 0 = λ s m. Rep plan m clean spot.ty part (slots_at s slots) in
           let Post : List ℕ → Memory → Type 0 = λ s m. KeepsOthers old.slots ds s0 s × Rep plan m clean spot.ty part (slots_at s ds) in
-          let most = mend_at plan.layouts t leaf field in
+          let most = mend_at plan.layouts t leaf path in
           let run = f.runs clean v part layout is is_leaf is_part in
           let framed = piece_frame plan old.slots old mid Nowhere most Kept (λ s m. IsThere plan clean t v words s m) (AtEnd mid Part) (λ s s' m k x. (k.long ∙ x.0, λ y lt. k.same y lt ∙ x.1 y lt)) run in
           let Long : List ℕ → Memory → Type 0 = λ s m. (mid.slots ≤ length s) × Pre s m in
@@ -275,15 +301,15 @@ learns-none agreed most t leaf words spots position known b = λ plan n of are l
 }
 
 -- one spot more is known
-pub saves_field : (agreed : LaidOut) (t leaf field k : ℕ) (words : List ℕ) (spots : List Spot) (spot : Spot) (position : List ℕ) (known : List Known) (old new : Sheet) → slice_get spots k ≡ Some spot → spot.position ≡ position ++ field ∷ []
-    → SavesPart agreed t leaf field words spot old new → SavesField agreed t leaf words spots position field known (known ++ Saved k ∷ []) old new
-saves_field agreed t leaf field k words spots spot position known old new at there saves = λ plan n of are low count.
+pub saves_field : (agreed : LaidOut) (t leaf : ℕ) (path : List ℕ) (k : ℕ) (words : List ℕ) (spots : List Spot) (spot : Spot) (position : List ℕ) (known : List Known) (old new : Sheet) → slice_get spots k ≡ Some spot → spot.position ≡ position ++ path
+    → SavesPart agreed t leaf path words spot old new → Learns agreed (λ plan. mend_at plan.layouts t leaf path) t leaf words spots position known (known ++ Saved k ∷ []) old new
+saves_field agreed t leaf path k words spots spot position known old new at there saves = λ plan n of are low count.
     let p = saves plan n of are.low (are.from k spot at) (are.below k spot at) (are.distinct k spot at) (are.count k spot at) low count in
     record {
       adds = p.adds;
       runs = λ clean v part layout is is_leaf is_part.
           let has = p.has part layout is is_leaf in
-          let most = mend_at plan.layouts t leaf field in
+          let most = mend_at plan.layouts t leaf path in
           let Post : List ℕ → Memory → Type 0 = λ s m. IsThereWith plan clean t v part words spots (known ++ Saved k ∷ []) s m in
           record {
             adds = p.adds;
@@ -295,7 +321,7 @@ saves_field agreed t leaf field k words spots spot position known old new at the
                 let others = r.6.1.0 in
                 let words1 : slots_at r.1 words ≡ slots_at s words = slots_at-apart old.slots spot.slots words s r.1 others low p.apart in
                 let is_there : IsThere plan clean t part words r.1 m = (pre.0.0, subst (λ ws. Rep plan m clean (Named t) part ws) (sym words1) pre.0.1) in
-                let new_part : part_at v spot.position ≡ Some has.0 = ap (part_at v) there ∙ part-append (Some v) position (field ∷ []) ∙ ap (λ o. part_from o (field ∷ [])) is_part ∙ has.1 in
+                let new_part : part_at v spot.position ≡ Some has.0 = ap (part_at v) there ∙ part-append (Some v) position path ∙ ap (λ o. part_from o path) is_part ∙ has.1 in
                 let here : IsSaved view k = (spot, at, (has.0, new_part, r.6.1.1)) in
                 let facts : AreKnown view (known ++ Saved k ∷ []) = λ i x e. elim (snoc-at known (Saved k) x i e) [
                   | inl j ↦ kept plan n clean v s r.1 m are at here others x (pre.1 i x j)
@@ -329,17 +355,17 @@ learns-more agreed first second t leaf words spots position known more most a b 
           (f.runs clean v part layout is is_leaf is_part) (g.runs clean v part layout is is_leaf is_part);
     }
 
--- the fields of one leaf, each once
-pub saves_all : (agreed : LaidOut) (t leaf i : ℕ) (words : List ℕ) (spots : List Spot) (position : List ℕ) (known more : List Known) (old new : Sheet)
-    → ((plan : Plan) → IsPlanOf agreed plan → mends_at plan.layouts t leaf i ≤ rebuilding plan.layouts (Named t)) → SavesSome agreed t leaf words spots position i known more old new → SavesFields agreed t leaf words spots position known more old new
-saves_all agreed t leaf i words spots position known more old new within saves = λ plan n of are low count.
+-- at least so many switches are allowed
+pub learns-less : (agreed : LaidOut) (less most : Plan → ℕ) (t leaf : ℕ) (words : List ℕ) (spots : List Spot) (position : List ℕ) (known more : List Known) (old new : Sheet)
+    → ((plan : Plan) → IsPlanOf agreed plan → less plan ≤ most plan) → Learns agreed less t leaf words spots position known more old new → Learns agreed most t leaf words spots position known more old new
+learns-less agreed less most t leaf words spots position known more old new within saves = λ plan n of are low count.
     let f = saves plan n of are low count in
     record {
       adds = f.adds;
       runs = λ clean v part layout is is_leaf is_part.
           let Pre : List ℕ → Memory → Type 0 = λ s m. IsThereWith plan clean t v part words spots known s m in
           let Post : List ℕ → Memory → Type 0 = λ s m. IsThereWith plan clean t v part words spots more s m in
-          piece_weaken plan n n old new Nowhere (mends_at plan.layouts t leaf i) (rebuilding plan.layouts (Named t)) Pre Pre (AtEnd new Post) (AtEnd new Post) (omega arith) (within plan of) (λ s m x. x) (λ pc s m x. x) (f.runs clean v part layout is is_leaf is_part);
+          piece_weaken plan n n old new Nowhere (less plan) (most plan) Pre Pre (AtEnd new Post) (AtEnd new Post) (omega arith) (within plan of) (λ s m x. x) (λ pc s m x. x) (f.runs clean v part layout is is_leaf is_part);
     }
 
 -- Answers of tests ---------------------------------------------------------------------------------
@@ -362,25 +388,32 @@ apart_more xs others i x at apart none = λ y h j. elim (one-append (take i xs) 
   | inr k ↦ elim k [ inl e ↦ none (subst (λ z. IsOneOf z others) e j) | inr z ↦ z ]
 ]
 
-pub position_is : (agreed : LaidOut) (t leaf field : ℕ) (at : Ty) (layout : Layout) (found : L.Leaf) (sub : Pat) (token : ℕ) (c : ConRef) (subs : List Pat) → layout_of agreed.layouts t ≡ Some layout → slice_get layout.leaves leaf ≡ Some found → found.prov ≡ Con token c subs
-    → slice_get subs field ≡ Some sub → slice_get (field_types agreed.covered.program.types c) field ≡ Some at → IsPositionOf agreed t leaf field at
-position_is agreed t leaf field at layout found sub token c subs is is_leaf prov is_sub is_type =
-    let out : out-Pat found.prov ≡ P.Con token c subs = ap out-Pat prov ∙ outs-Con token c subs in
-    let types = agreed.covered.program.types in
-    let pair : sub_pattern types found.prov field ≡ pair_of (slice_get subs field) (slice_get (types_or_none (fields_of types c)) field) = ap (λ l. sub_in types l field) out in
-    (layout, found, sub, is, is_leaf, ap (λ l. slice_get (subpatterns l) field) out ∙ is_sub, pair ∙ ap (λ o. pair_of o (slice_get (types_or_none (fields_of types c)) field)) is_sub ∙ ap (λ ts. pair_of (Some sub) (slice_get ts field)) (same (fields_of types c)) ∙ ap (pair_of (Some sub)) is_type)
+pub here_is : (types : List DataDecl) (t : Ty) (pat : Pat) → HasBelow types t pat [] t
+here_is types t pat = (pat, refl)
+
+pub below_is : (types : List DataDecl) (t u at : Ty) (pat sub : Pat) (field : ℕ) (path : List ℕ) (token : ℕ) (c : ConRef) (subs : List Pat) → pat ≡ Con token c subs → slice_get subs field ≡ Some sub → slice_get (field_types types c) field ≡ Some u
+    → HasBelow types u sub path at → HasBelow types t pat (field ∷ path) at
+below_is types t u at pat sub field path token c subs is is_sub is_type (found, at_path) =
+    let out : out-Pat pat ≡ P.Con token c subs = ap out-Pat is ∙ outs-Con token c subs in
+    let pair : sub_pattern types pat field ≡ Some (sub, u) = ap (λ l. sub_in types l field) out ∙ ap (λ o. pair_of o (slice_get (types_or_none (fields_of types c)) field)) is_sub ∙ ap (λ ts. pair_of (Some sub) (slice_get ts field)) (same (fields_of types c)) ∙ ap (pair_of (Some sub)) is_type in
+    (found, ap (λ o. found_at types o path) pair ∙ at_path)
   where
     same : (o : Option (List Ty)) → types_or_none o ≡ unwrap_or o []
     same None = refl
     same (Some ts) = refl
+
+pub below_option : (types : List DataDecl) (t u : Ty) (pat sub : Pat) (field : ℕ) (path : List ℕ) (token : ℕ) (c : ConRef) (subs : List Pat) (o : Option Ty) → pat ≡ Con token c subs → slice_get subs field ≡ Some sub → slice_get (field_types types c) field ≡ Some u
+    → IfSome o (λ at. HasBelow types u sub path at) → IfSome o (λ at. HasBelow types t pat (field ∷ path) at)
+below_option types t u pat sub field path token c subs None is is_sub is_type h = tt
+below_option types t u pat sub field path token c subs (Some at) is is_sub is_type h = below_is types t u at pat sub field path token c subs is is_sub is_type h
 
 pub item-is : (xs : List Spot) (k : ℕ) (x d : Spot) → slice_get xs k ≡ Some x → x ≡ get_or xs k d
 item-is [] k x d e = absurd cc
 item-is (y ∷ xs) zero x d e = sym (same_Some y x e)
 item-is (y ∷ xs) (suc k) x d e = item-is xs k x d e
 
-pub saves_spot : (agreed : LaidOut) (t leaf field k : ℕ) (words : List ℕ) (spots : List Spot) (spot : Spot) (position : List ℕ) (at : Ty) (known : List Known) (old new : Sheet) → IsSpotAt spots (position ++ field ∷ []) at k → (d : Spot) → spot ≡ get_or spots k d
-    → SavesPart agreed t leaf field words spot old new → SavesField agreed t leaf words spots position field known (known ++ Saved k ∷ []) old new
-saves_spot agreed t leaf field k words spots spot position at known old new (there, is, place, of) d same saves =
-    let e : there ≡ spot = item-is spots k there d is ∙ sym same in
-    saves_field agreed t leaf field k words spots spot position known old new (is ∙ ap Some e) (ap (λ (x : Spot). x.position) (sym e) ∙ place) saves
+pub saves_spot : (agreed : LaidOut) (source : Source) (path : List ℕ) (k : ℕ) (spot : Spot) (at : Ty) (known : List Known) (old new : Sheet) → IsSpotAt source.spots.now (source.position.now ++ path) at k → (d : Spot) → spot ≡ get_or source.spots.now k d
+    → SavesPart agreed source.ty source.leaf path source.words.now spot old new → SavesAt agreed source path known (known ++ Saved k ∷ []) old new
+saves_spot agreed source path k spot at known old new (there, is, place, of) d same saves =
+    let e : there ≡ spot = item-is source.spots.now k there d is ∙ sym same in
+    saves_field agreed source.ty source.leaf path k source.words.now source.spots.now spot source.position.now known old new (is ∙ ap Some e) (ap (λ (x : Spot). x.position) (sym e) ∙ place) saves

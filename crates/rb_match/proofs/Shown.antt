@@ -1,5 +1,5 @@
 -- What provenances show: what stands at a position, and which leaf all values have that a pattern matches.
-use Rattle.std.proofs.Common.{◌≡◌, ℕ, zero, suc, ◌+◌, ◌<◌, ◌==◌, ◌⊎◌, inl, inr, Bool, true, false, List, [], ◌∷◌, ◌++◌, map, length, Option, Some, None, refl, sym, subst, ap, ◌∙◌, arith}
+use Rattle.std.proofs.Common.{◌≡◌, ℕ, zero, suc, ◌+◌, ◌<◌, ◌==◌, inl, inr, Bool, true, false, List, [], ◌∷◌, ◌++◌, map, length, Option, Some, None, refl, sym, subst, ap, ◌∙◌, arith}
 use Rattle.std.specs.Prelude.{IfSome, ◌&&◌, slice_get, if◌then◌else◌}
 use Rattle.std.proofs.lemmas.Bool.{false≢true}
 use Rattle.std.proofs.lemmas.Grind.{common_steps}
@@ -18,7 +18,7 @@ use Rattle.rb_rel.proofs.Leaves.{leaf_matches}
 use Rattle.rb_target.proofs.Growing.{below_or}
 use Rattle.rb_match.specs.declared.knowledge.Known.{Known}
 use Rattle.rb_match.specs.declared.knowledge.Known.TheVariants as K
-use Rattle.rb_match.specs.inner.Knowing.{AreKnown, IsKnown}
+use Rattle.rb_match.specs.inner.Knowing.{IsKnown}
 use Rattle.rb_match.specs.inner.Binding.{AreApart}
 use Rattle.rb_match.specs.inner.Threading.{AllFollow, AreWild, BeginsWith, Covers, HasSub, IsAtLeaf, IsFirst, IsLeafOfAll, IsWild, ShowTogether, Tells, TellTogether}
 use Rattle.rb_match.proofs.Apart.{pass-at}

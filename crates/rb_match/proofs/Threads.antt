@@ -1,16 +1,12 @@
 -- Where edges lead on: from a test that what is known decides to the node of its arm.
-use Rattle.std.proofs.Common.{◌≡◌, ℕ, zero, suc, ◌+◌, ◌≤◌, true, List, [], ◌∷◌, ◌++◌, map, length, Option, Some, None, refl, sym, subst, ap, ◌∙◌, arith}
+use Rattle.std.proofs.Common.{◌≡◌, ℕ, zero, suc, ◌+◌, ◌≤◌, List, [], ◌∷◌, ◌++◌, length, Option, Some, None, refl, sym, subst, ap, ◌∙◌, arith}
 use Rattle.std.specs.Prelude.{IfSome, slice_get}
 use Rattle.std.proofs.lemmas.Option.{same_Some}
-use Rattle.rb_core.specs.declared.value.Value.{Value, out-Value}
+use Rattle.rb_core.specs.declared.value.Value.{out-Value}
 use Rattle.rb_core.specs.declared.value.Value.TheOpen as V
 use Rattle.rb_core.specs.declared.types.Ty.{Ty}
-use Rattle.rb_core.specs.declared.types.ConRef.{ConRef}
 use Rattle.rb_core.specs.declared.program.Program.{Program}
-use Rattle.rb_core.specs.declared.pattern.Pat.{Pat, Con}
-use Rattle.rb_core.specs.Matching.{all_pass, matches_of}
-use Rattle.rb_core.specs.Values.{part_at, part_from, subs_in}
-use Rattle.rb_core.proofs.MatchingForms.{matches-Con}
+use Rattle.rb_core.specs.declared.pattern.Pat.{Pat}
 use Rattle.rb_decide.specs.declared.decision_graph.GraphArm.{GraphArm}
 use Rattle.rb_decide.specs.declared.decision_graph.GraphNode.{GraphNode}
 use Rattle.rb_decide.specs.declared.decision_graph.GraphNode.TheVariants.{Test}
@@ -19,15 +15,10 @@ use Rattle.rb_target.specs.Sheet.{Sheet, IsHoleIn}
 use Rattle.rb_target.specs.Targets.{Finishes, target_in}
 use Rattle.rb_target.proofs.Finishing.{agrees-sub}
 use Rattle.rb_layout.specs.declared.agreed.LaidOut.{LaidOut}
-use Rattle.rb_layout.specs.declared.layout.Layout.{Layout}
-use Rattle.rb_layout.specs.declared.layout.Leaf.{Leaf}
-use Rattle.rb_layout.specs.Positions.{layout_of, leaf_of}
-use Rattle.rb_rel.proofs.Leaves.{leaf_matches}
 use Rattle.rb_fetch.specs.Finding.{IsPlanOf}
 use Rattle.rb_fragment.specs.declared.reads.Read.{Read}
 use Rattle.rb_fragment.specs.Plan.{Plan}
 use Rattle.rb_match.specs.declared.knowledge.Known.{Known}
-use Rattle.rb_match.specs.declared.knowledge.Known.TheVariants as K
 use Rattle.rb_match.specs.declared.knowledge.Edge.{Edge}
 use Rattle.rb_match.specs.declared.knowledge.Spot.{Spot}
 use Rattle.rb_match.specs.Bounding.{Place}
@@ -36,13 +27,10 @@ use Rattle.rb_match.specs.inner.Places.{IsLookedAt}
 use Rattle.rb_match.specs.inner.Asking.{holes_of, take_link}
 use Rattle.rb_match.specs.inner.Flowing.{Flows, IsOn, job_of}
 use Rattle.rb_match.specs.inner.Threading.{AllFollow, Ascend, AreThreaded, BeginsWith, IsDecided, IsThreaded, LeadsOn, TellTogether, Threads}
-use Rattle.rb_match.proofs.Bindings.{begins_with}
 use Rattle.rb_match.proofs.Edges.{edge_open, open_edge}
-use Rattle.rb_match.proofs.LeafTests.{both, link_same}
+use Rattle.rb_match.proofs.LeafTests.{link_same}
 use Rattle.rb_match.proofs.Passing.{passes, tested}
-use Rattle.rb_match.proofs.Placing.{part-append}
 use Rattle.rb_match.proofs.Testing.{looks-snoc}
-use denote.Ref.{Bor}
 
 -- Tests
 

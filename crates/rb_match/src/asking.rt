@@ -4,7 +4,7 @@ ghost use Rattle.std.specs.Prelude.{◌≡◌, ◌∷◌, ◌++◌, ◌<◌, ◌
 ghost use Rattle.rb_core.specs.declared.value.Value.TheOpen as Layers;
 ghost use Rattle.rb_target.specs.Growth.{Grows};
 ghost use Rattle.rb_fetch.specs.Finding.{leaf_count};
-ghost use Rattle.rb_match.specs.inner.Asking.{number_arm, number_arms, is_number, are_numbers, open_else_of, is_test, carried, edge_at, edge_in, arm_edges, else_edges, leaf_con, link_at, take_link, node_for, facts_for, IsGrouped, AreGroups, edge_for, leaf_edges_of, StandOpen, AsksNumber, AsksLeaf};
+ghost use Rattle.rb_match.specs.inner.Asking.{number_arm, number_arms, is_number, are_numbers, is_test, carried, edge_at, edge_in, arm_edges, else_edges, leaf_con, link_at, take_link, node_for, facts_for, IsGrouped, AreGroups, edge_for, leaf_edges_of, StandOpen, AsksNumber, AsksLeaf};
 ghost use Rattle.rb_match.specs.inner.Opening.{Asks};
 
 use crate::deep::ask_deep;
@@ -55,15 +55,6 @@ fn switch_arms(alloc: Global, arms: &[GraphArm], next: usize) -> Result<Seq<Swit
         found.push(switch_arm(arm.head, next)?)?;
     }
     Ok(found)
-}
-
-fn open_else(other: Option<u32>, next: usize) -> Option<usize>
-    ensures { result ≡ open_else_of next other }
-{
-    match other {
-        None => None,
-        Some(_) => Some(next),
-    }
 }
 
 // Whether a node asks for more.
@@ -184,12 +175,19 @@ fn ask_number<'a>(
     let slot = make(body, read)?;
     let pc = body.len();
     let ways = switch_arms(alloc, arms, pc + 1)?;
-    body.push(Instr::Switch(slot, open_else(other, pc + 1), ways))?;
+    body.push(Instr::Switch(slot, other.is_some().then_some(pc + 1), ways))?;
     let edges = edges_of_switch(alloc, nodes, pc, known, arms, other)?;
     Ok(edges)
 }
 
 // Constructors ----------------------------------------------------------------------------------
+
+/// The provenance of a leaf.
+pub fn prov_of<'a>(agreed: &'a Agreed, ty: u32, leaf: usize) -> Option<&'a Pat> {
+    let layout = agreed.layouts().get(ty as usize)?;
+    let leaf = layout.leaves.get(leaf)?;
+    Some(&leaf.prov)
+}
 
 /// The constructor of a leaf's values.
 pub fn con_of(agreed: &Agreed, ty: u32, leaf: usize) -> Option<u32>
@@ -485,7 +483,7 @@ pub fn ask<'a>(
     alloc: Global,
     body: &mut Body,
     agreed: &Agreed,
-    graph: &Whole,
+    graph: &Whole<'a>,
     words: &[Read],
     spots: &[Spot],
     known: &[Known<'a>],

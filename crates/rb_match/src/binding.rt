@@ -371,7 +371,8 @@ fn bind_field(
     if binds_nothing(sub) {
         return Ok(Seq::new(alloc));
     }
-    let slots = fetch_part(alloc, body, agreed, ty, leaf, words, i, field)?;
+    let path = [i];
+    let slots = fetch_part(alloc, body, agreed, ty, leaf, words, &path, field)?;
     let bound = bind_at(alloc, body, agreed, field, slots.as_slice(), sub)?;
     Ok(bound)
 }

@@ -9,7 +9,7 @@ ghost use Rattle.rb_match.specs.inner.Trees.{TakesShared, TakesTree};
 
 use crate::clauses::emit_clauses;
 use crate::engine::emit_graph;
-use crate::spots::give_spots_for;
+use crate::spots::{Whole, give_spots_for};
 use rb_core::pattern::Pat;
 use rb_core::seq::Seq;
 use rb_core::types::Ty;
@@ -56,9 +56,8 @@ pub fn emit_shared(
     let nodes = graph.nodes.as_slice();
     let spots = give_spots_for(alloc, body, agreed, pats)?;
     let spots = spots.as_slice();
-    let holes = emit_graph(
-        alloc, body, agreed, ty, words, pats, spots, nodes, graph.root,
-    )?;
+    let whole = Whole { ty, pats, nodes };
+    let holes = emit_graph(alloc, body, agreed, &whole, words, spots, graph.root)?;
     Ok(holes)
 }
 

@@ -7,17 +7,16 @@ ghost use Rattle.rb_fragment.specs.Arms.{closed};
 ghost use Rattle.rb_match.specs.inner.Clauses.{way_holes};
 ghost use Rattle.rb_fetch.specs.Finding.{leaf_count};
 ghost use Rattle.rb_match.specs.inner.Asking.{AreGroups, StandOpen};
+ghost use Rattle.rb_match.specs.inner.Threading.{AllFollow};
 ghost use Rattle.rb_match.specs.inner.Opening.{AsksDeep, CanOpen, HasGroupOnward, LeadsFrom, LeadsLeaf, LeadsWays, StepsWay, group_onward, shared_edges};
 
-use crate::asking::{con_of, count_leaves, edge, edge_within, link_of};
+use crate::asking::{con_of, count_leaves, edge, edge_within, link_of, mark_tested_below, prov_of};
 use crate::clauses::holes_of;
-use crate::knowledge::{Edge, Known, Spot, with_known};
-use crate::place::fields_of;
-use crate::saving::save_fields;
-use crate::spots::{Whole, wanted_fields};
-use crate::threading::node_onward;
+use crate::knowledge::{Edge, Known, Spot, copy_known, with_known};
+use crate::saving::{Source, save_fields};
+use crate::spots::{Whole, needs_from};
+use crate::threading::{Exit, lead_on};
 use rb_core::seq::Seq;
-use rb_core::types::ConRef;
 use rb_decide::clause_matrix::number_of;
 use rb_decide::decision_graph::{GraphArm, GraphNode};
 use rb_fetch::look::find_group;
@@ -41,56 +40,74 @@ fn land_leaf(alloc: Global, body: &mut Body, holes: &[Hole], leaf: usize) -> Res
     Ok(())
 }
 
-// Where the values of a leaf lead on from a test. Its leaf is needed where later tests look below the part.
+/// Where the values of a leaf lead on from a test. Its leaf is needed where later tests look below the part.
 #[derive(Drop)]
-pub struct Onward {
+pub struct Onward<'a> {
+    /// The node, by number.
     pub node: u32,
-    // for each field, whether later tests need it
-    pub wanted: Seq<bool>,
-    // whether they need some field
+    /// Whether later tests need parts below it.
     pub saves: bool,
+    /// If so, what is known before they are saved.
+    pub known: Seq<Known<'a>>,
 }
 
-// Whether some field is wanted.
-fn saves_some(wanted: &[bool]) -> bool {
-    for is in wanted {
-        if *is {
-            return true;
-        }
-    }
-    false
-}
-
-// The node to which what is known leads from one on. Without a graph it stays where it is.
-fn node_from(
+// The node to which what is known behind a look leads from one on, and what is shown on the way. Without a graph it
+// stays where it is.
+fn node_from<'a>(
     alloc: Global,
     agreed: &Agreed,
-    graph: &Whole,
-    known: &[Known],
+    graph: &Whole<'a>,
+    exit: &Option<Exit>,
+    known: &mut Seq<Known<'a>>,
     node: usize,
 ) -> Result<usize, AllocError>
-    ensures { IfOk result (λ end. LeadsFrom agreed.now graph.now known.now node end) }
+    ensures leads { IfOk result (λ end. LeadsFrom agreed.now graph.now known.old node end) }
+    ensures known { IfOk result (λ end. AllFollow agreed.now known.old known.new) }
 {
     if graph.nodes.is_empty() {
         return Ok(node);
     }
     let (pats, nodes) = (graph.pats, graph.nodes);
-    let end = node_onward(alloc, agreed, graph.ty, pats, nodes, known, node)?;
+    let end = lead_on(alloc, agreed, graph.ty, pats, nodes, exit, known, node)?;
     Ok(end)
+}
+
+// Whether parts below the one that was looked at are needed from a node on.
+fn saves_at(nodes: &[GraphNode], below: &[bool], node: usize) -> bool {
+    nodes.is_empty() || matches!(below.get(node), Some(true))
+}
+
+// What a way of a leaf carries: where nothing is saved, nothing that the leaf tells.
+fn carried_onward<'a>(
+    alloc: Global,
+    agreed: &Agreed,
+    saves: bool,
+    known: Seq<Known<'a>>,
+) -> Seq<Known<'a>>
+    ensures { AllFollow agreed.now known.entry result }
+{
+    if saves { known } else { Seq::new(alloc) }
+}
+
+// The way of a leaf behind a look at a position.
+fn exit_of<'a>(agreed: &'a Agreed, ty: u32, leaf: usize, position: &'a [u32]) -> Option<Exit<'a>> {
+    let prov = prov_of(agreed, ty, leaf)?;
+    Some(Exit { position, prov })
 }
 
 // Where values of a leaf lead on; nowhere where none of them can be here.
 fn onward_of<'a>(
     alloc: Global,
     agreed: &Agreed,
-    graph: &Whole,
+    graph: &Whole<'a>,
+    below: &[bool],
     ty: u32,
     leaf: usize,
     known: &[Known<'a>],
     position: &&'a [u32],
     arms: &[GraphArm],
     other: Option<u32>,
-) -> Result<Option<Onward>, AllocError>
+) -> Result<Option<Onward<'a>>, AllocError>
     ensures { IfOk result
         (λ found. LeadsLeaf agreed.now graph.now ty known.now position.now arms.now other leaf found) }
 {
@@ -100,16 +117,14 @@ fn onward_of<'a>(
     let Some(node) = link_of(arms, other, con) else {
         return Ok(None);
     };
-    let facts = with_known(alloc, known, *position, ty, leaf)?;
-    let onward = node_from(alloc, agreed, graph, facts.as_slice(), node as usize)?;
-    let types = agreed.covered().program().types.as_slice();
-    let fields = fields_of(types, ConRef { ty, con });
-    let wanted = wanted_fields(alloc, graph.nodes, onward, *position, fields.len())?;
-    let saves = saves_some(wanted.as_slice());
+    let exit = exit_of(agreed, ty, leaf, *position);
+    let mut facts = with_known(alloc, known, *position, ty, leaf)?;
+    let end = node_from(alloc, agreed, graph, &exit, &mut facts, node as usize)?;
+    let saves = saves_at(graph.nodes, below, end);
     Ok(Some(Onward {
-        node: number_of(onward)?,
-        wanted,
+        node: number_of(end)?,
         saves,
+        known: carried_onward(alloc, agreed, saves, facts),
     }))
 }
 
@@ -117,19 +132,23 @@ fn onward_of<'a>(
 fn onward_all<'a>(
     alloc: Global,
     agreed: &Agreed,
-    graph: &Whole,
+    graph: &Whole<'a>,
     ty: u32,
     known: &[Known<'a>],
     position: &&'a [u32],
     arms: &[GraphArm],
     other: Option<u32>,
-) -> Result<Seq<Option<Onward>>, AllocError>
+) -> Result<Seq<Option<Onward<'a>>>, AllocError>
     ensures { IfOk result (λ all. AreGroups (LeadsLeaf agreed.now graph.now ty known.now position.now arms.now other)
         (leaf_count agreed.now ty) all) }
 {
+    let below = mark_tested_below(alloc, graph.nodes, *position)?;
+    let below = below.as_slice();
     let mut all = Seq::new(alloc);
     for leaf in 0..count_leaves(agreed, ty) {
-        all.push(onward_of(alloc, agreed, graph, ty, leaf, known, position, arms, other)?)?;
+        all.push(onward_of(
+            alloc, agreed, graph, below, ty, leaf, known, position, arms, other,
+        )?)?;
     }
     Ok(all)
 }
@@ -156,7 +175,8 @@ fn group_of_way(
     }
 }
 
-// The groups of leaves: a leaf of which fields are saved is one by itself, and all others that lead on to a node are one.
+// The groups of leaves: a leaf of which fields are saved is one by itself, and all others that lead on to a node are
+// one.
 fn groups_onward(alloc: Global, onward: &[Option<Onward>]) -> Result<Seq<Option<u32>>, AllocError>
     ensures { IfOk result (λ groups. AreGroups (HasGroupOnward onward.now) (length onward.now) groups) }
 {
@@ -168,25 +188,33 @@ fn groups_onward(alloc: Global, onward: &[Option<Onward>]) -> Result<Seq<Option<
     Ok(groups)
 }
 
+/// A part that is tested: its type, the slots of its words, the spots for its fields, and what is known at its
+/// position.
+#[derive(Clone, Copy)]
+pub struct Tested<'b, 'a> {
+    pub ty: u32,
+    pub words: &'b [usize],
+    pub spots: &'b [Spot],
+    pub known: &'b [Known<'a>],
+    pub position: &'a [u32],
+}
+
 // The way of a leaf that is a group by itself: what other tests need of its fields is saved, and it goes on by an open
 // jump.
 fn open_way<'a>(
     alloc: Global,
     body: &mut Body,
     agreed: &Agreed,
-    ty: u32,
-    words: &[usize],
-    spots: &[Spot],
-    known: &[Known<'a>],
-    position: &&'a [u32],
+    nodes: &[GraphNode],
+    part: &Tested<'_, 'a>,
     holes: &[Hole],
     leaf: usize,
-    onward: &Option<Onward>,
+    onward: &Option<Onward<'a>>,
     edges: Seq<Edge<'a>>,
 ) -> Result<Seq<Edge<'a>>, AllocError>
     requires { CanOpen body.old.code holes.now leaf }
-    ensures steps { IfOk result (λ more. StepsWay agreed.now ty words.now spots.now known.now position.now holes.now leaf
-        onward.now body.old edges.entry body.new more) }
+    ensures steps { IfOk result (λ more. StepsWay agreed.now part.now.ty part.now.words.now part.now.spots.now
+        part.now.position holes.now leaf onward.now body.old edges.entry body.new more) }
 {
     let Some(onward) = onward else {
         return Ok(edges);
@@ -194,20 +222,24 @@ fn open_way<'a>(
     if !onward.saves {
         return Ok(edges);
     }
-    let Some(con) = con_of(agreed, ty, leaf) else {
-        return Err(AllocError);
-    };
     let mut edges = edges;
     land_leaf(alloc, body, holes, leaf)?;
-    let known = with_known(alloc, known, *position, ty, leaf)?;
-    let con = ConRef { ty, con };
-    let wanted = onward.wanted.as_slice();
-    let known = save_fields(
-        alloc, body, agreed, con, leaf, words, spots, wanted, *position, known,
-    )?;
+    let needs = needs_from(alloc, nodes, onward.node as usize)?;
+    let told = onward.known.as_slice();
+    let known = copy_known(alloc, told)?;
+    let source = Source {
+        ty: part.ty,
+        leaf,
+        words: part.words,
+        position: part.position,
+        spots: part.spots,
+        needs: &needs,
+    };
+    let known = save_fields(alloc, body, agreed, &source, known)?;
+    let node = onward.node;
     let pc = body.len();
     body.push(Instr::Jump(pc + 1))?;
-    edges.push(edge(alloc, pc, None, onward.node, known.as_slice())?)?;
+    edges.push(edge(alloc, pc, None, node, known.as_slice())?)?;
     Ok(edges)
 }
 
@@ -237,29 +269,32 @@ fn open_ways<'a>(
     body: &mut Body,
     agreed: &Agreed,
     nodes: &[GraphNode],
-    ty: u32,
-    words: &[usize],
-    spots: &[Spot],
-    known: &[Known<'a>],
-    position: &&'a [u32],
-    onward: &[Option<Onward>],
+    part: &Tested<'_, 'a>,
+    onward: &[Option<Onward<'a>>],
 ) -> Result<Seq<Edge<'a>>, AllocError>
-    ensures leads { IfOk result (λ edges. LeadsWays agreed.now ty words.now spots.now known.now position.now onward.now
-        body.old body.new edges) }
+    ensures leads { IfOk result (λ edges. LeadsWays agreed.now part.now.ty part.now.words.now part.now.spots.now
+        part.now.known.now part.now.position onward.now body.old body.new edges) }
     ensures stands { IfOk result (λ edges. StandOpen body.old body.new edges) }
     ensures grows { OnOk result (Grows body.old.code body.new.code) }
 {
     let groups = groups_onward(alloc, onward)?;
-    let holes = find_group(alloc, body, words, agreed, ty, groups.as_slice())?;
+    let holes = find_group(alloc, body, part.words, agreed, part.ty, groups.as_slice())?;
     let holes = holes.as_slice();
     let mut edges = Seq::new(alloc);
     for leaf in 0..onward.len() {
-        let way = &onward[leaf];
         edges = open_way(
-            alloc, body, agreed, ty, words, spots, known, position, holes, leaf, way, edges,
+            alloc,
+            body,
+            agreed,
+            nodes,
+            part,
+            holes,
+            leaf,
+            &onward[leaf],
+            edges,
         )?;
     }
-    let shared = edges_onward(alloc, nodes, holes, onward.len(), known)?;
+    let shared = edges_onward(alloc, nodes, holes, onward.len(), part.known)?;
     match edges.append(shared) {
         None => Ok(edges),
         Some(_) => Err(AllocError),
@@ -278,7 +313,7 @@ pub fn ask_deep<'a>(
     alloc: Global,
     body: &mut Body,
     agreed: &Agreed,
-    graph: &Whole,
+    graph: &Whole<'a>,
     ty: u32,
     reads: &[Read],
     spots: &[Spot],
@@ -296,9 +331,13 @@ pub fn ask_deep<'a>(
     let words = make_all(alloc, body, reads)?;
     let words = words.as_slice();
     let onward = onward.as_slice();
-    let nodes = graph.nodes;
-    let edges = open_ways(
-        alloc, body, agreed, nodes, ty, words, spots, known, &position, onward,
-    )?;
+    let part = Tested {
+        ty,
+        words,
+        spots,
+        known,
+        position,
+    };
+    let edges = open_ways(alloc, body, agreed, graph.nodes, &part, onward)?;
     Ok(edges)
 }

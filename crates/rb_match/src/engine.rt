@@ -10,9 +10,7 @@ use crate::asking::{ask, edge};
 use crate::knowledge::{Edge, Spot, node_known};
 use crate::spots::Whole;
 use crate::threading::thread;
-use rb_core::pattern::Pat;
 use rb_core::seq::Seq;
-use rb_core::types::Ty;
 use rb_decide::decision_graph::GraphNode;
 use rb_fragment::patch::patch_all;
 use rb_fragment::reads::Read;
@@ -74,18 +72,16 @@ fn emit_node<'a>(
     alloc: Global,
     body: &mut Body,
     agreed: &Agreed,
-    ty: Ty,
+    graph: &Whole<'a>,
     words: &[Read],
-    pats: &[Pat],
     spots: &[Spot],
-    nodes: &'a [GraphNode],
     node: &'a GraphNode,
     number: usize,
     edges: Seq<Edge<'a>>,
 ) -> Result<Seq<Edge<'a>>, AllocError>
     requires { AreOpen 0 body.old.code edges }
-    ensures { IfOk result (λ more. StepsNode agreed.now ty words.now pats.now spots.now nodes.now node.now number
-        body.old edges.entry body.new more) }
+    ensures { IfOk result (λ more. StepsNode agreed.now graph.now.ty words.now graph.now.pats.now spots.now
+        graph.now.nodes.now node.now number body.old edges.entry body.new more) }
 {
     match node {
         GraphNode::Clause(_) => Ok(edges),
@@ -97,11 +93,10 @@ fn emit_node<'a>(
             let position = position.as_slice();
             let arms = arms.as_slice();
             let mut rest = land(alloc, body, edges, number)?;
-            let graph = Whole { ty, pats, nodes };
             let asked = ask(
-                alloc, body, agreed, &graph, words, spots, known, position, arms, *other,
+                alloc, body, agreed, graph, words, spots, known, position, arms, *other,
             )?;
-            let onward = thread(alloc, agreed, ty, pats, nodes, asked)?;
+            let onward = thread(alloc, agreed, graph.ty, graph.pats, graph.nodes, asked)?;
             match rest.append(onward) {
                 None => Ok(rest),
                 Some(_) => Err(AllocError),
@@ -115,29 +110,26 @@ fn begin<'a>(
     alloc: Global,
     body: &mut Body,
     agreed: &Agreed,
-    ty: Ty,
+    graph: &Whole<'a>,
     words: &[Read],
-    pats: &[Pat],
     spots: &[Spot],
-    nodes: &'a [GraphNode],
     root: u32,
 ) -> Result<Seq<Edge<'a>>, AllocError>
-    ensures { IfOk result
-        (λ edges. Begins agreed.now ty words.now pats.now spots.now nodes.now root body.old body.new edges) }
+    ensures { IfOk result (λ edges. Begins agreed.now graph.now.ty words.now graph.now.pats.now spots.now
+        graph.now.nodes.now root body.old body.new edges) }
 {
-    let Some(node) = nodes.get(root as usize) else {
+    let Some(node) = graph.nodes.get(root as usize) else {
         return Err(AllocError);
     };
     match node {
         GraphNode::Test(position, arms, other) => {
             let position = position.as_slice();
             let arms = arms.as_slice();
-            let graph = Whole { ty, pats, nodes };
             let edges = ask(
                 alloc,
                 body,
                 agreed,
-                &graph,
+                graph,
                 words,
                 spots,
                 &[],
@@ -145,7 +137,7 @@ fn begin<'a>(
                 arms,
                 *other,
             )?;
-            let onward = thread(alloc, agreed, ty, pats, nodes, edges)?;
+            let onward = thread(alloc, agreed, graph.ty, graph.pats, graph.nodes, edges)?;
             Ok(onward)
         }
         GraphNode::Clause(_) => {
@@ -202,28 +194,28 @@ pub fn emit_graph(
     alloc: Global,
     body: &mut Body,
     agreed: &Agreed,
-    ty: Ty,
+    graph: &Whole,
     words: &[Read],
-    pats: &[Pat],
     spots: &[Spot],
-    nodes: &[GraphNode],
     root: u32,
 ) -> Result<Seq<Hole>, AllocError>
-    ensures holes { IfOk result (λ holes. AreHoles (length body.old.code) (length pats.now) body.new.code holes) }
+    ensures holes { IfOk result
+        (λ holes. AreHoles (length body.old.code) (length graph.now.pats.now) body.new.code holes) }
     ensures ways { IfOk result (λ holes. AreOfOneWay holes) }
-    ensures takes { IfOk result
-        (λ holes. TakesGraph agreed.now ty words.now pats.now spots.now nodes.now root body.old body.new holes) }
+    ensures takes { IfOk result (λ holes. TakesGraph agreed.now graph.now.ty words.now graph.now.pats.now spots.now
+        graph.now.nodes.now root body.old body.new holes) }
     ensures grows { OnOk result (Grows body.old.code body.new.code) }
 {
-    let mut edges = begin(alloc, body, agreed, ty, words, pats, spots, nodes, root)?;
+    let mut edges = begin(alloc, body, agreed, graph, words, spots, root)?;
+    let nodes = graph.nodes;
     let count = nodes.len();
     for i in 0..count {
         let number = count - 1 - i;
         let node = &nodes[number];
         edges = emit_node(
-            alloc, body, agreed, ty, words, pats, spots, nodes, node, number, edges,
+            alloc, body, agreed, graph, words, spots, node, number, edges,
         )?;
     }
-    let holes = clause_holes(alloc, nodes, edges.as_slice(), pats.len())?;
+    let holes = clause_holes(alloc, nodes, edges.as_slice(), graph.pats.len())?;
     Ok(holes)
 }

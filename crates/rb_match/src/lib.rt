@@ -14,9 +14,9 @@
 //! first field is bits of them, said as a read (`rb_fragment`) and made only now. A switch on its leaf has
 //! two arms, and each is an *edge*: a target that is still open, with the number of the node to which it
 //! leads, and with the leaves that are known there (`knowledge`). The arm of A leads to clause 0, which
-//! has no code and needs no facts: its edges are the answer's holes. The arm of B leads to the next node. When that node's
-//! turn comes, all edges that lead to it are set to the end of the code, what all of them know is known
-//! there, and its test is emitted: so the second field is read from the same slots. A number is tested by
+//! has no code and needs no facts: its edges are the answer's holes. The arm of B leads to the next node. When
+//! that node's turn comes, all edges that lead to it are set to the end of the code, what all of them know is
+//! known there, and its test is emitted: so the second field is read from the same slots. A number is tested by
 //! one switch over all literals of its column.
 //!
 //! A look tells leaves apart only where it has to (`find_group_of` of `rb_fetch`): leaves of constructors that can't be
@@ -45,8 +45,8 @@
 //! a look at a part of such a type *saves* what later tests need ([`deep`]). Before the first node each field at
 //! which some pattern looks is given a *spot*: slots of its own, the same ones whichever leaf it comes from
 //! ([`spots`]). The look finds the leaf; on the way of leaf 1 the field `.1` is taken and copied into its spot, and
-//! an open jump leads on ([`saving`]). Of leaf 0 nothing is saved: its edge is the look's own, and if several such leaves
-//! led on to one node, the look would not tell them apart.
+//! an open jump leads on ([`saving`]). Of leaf 0 nothing is saved: its edge is the look's own, and if several such
+//! leaves led on to one node, the look would not tell them apart.
 //! The edge of leaf 1 knows one fact more: that this spot holds its part. Where the edges
 //! of several leaves meet, what all of them saved is known, since the spots are the same; so
 //! [`place::place_of`] begins at the nearest saved part at or above a position, and reads fields from there downward.
@@ -63,9 +63,16 @@
 //! `.0` are: that is what a look at `.0` would have told. Where all values of `Some` have one leaf, which takes no
 //! field apart, that leaf is known without a look ([`threading`]), and the edge says so. What stands below is read
 //! from where `T(Some(_, _), _)` has it, if that leaf is known there ([`place`]), so that nothing is put together;
-//! and else from the spot of `.0`. A test that a leaf decides is looked at in two cases only: where another test
-//! stands between, behind which ways of several leaves meet; and where a test below it can be met and its
-//! constructor has several leaves, or one that takes a field apart.
+//! and else from the spot of `.0`.
+//!
+//! Where `Some` has several leaves, or one that takes a field apart, the fields of `.0` have spots of their own. So the
+//! way of the leaf `T(Some(_, _), _)` *opens* `.0` ([`saving`]): it saves those fields themselves, and `.0` is neither
+//! put together nor looked at. That can be done at the exit of a look alone, and a part is opened only where
+//! all parts between it and the one that is looked at are.
+//!
+//! So a test that a leaf decides is looked at in two cases only: where another test stands between, and ways of several
+//! leaves meet behind it or the part would have to be opened; and where the part would have to be opened but stands in
+//! one whose leaf its constructor shows.
 //!
 //! Where the tree has more than 512 nodes, clauses are tried one by one ([`clauses`]), each by the same
 //! code for the two patterns `p` and `_`; what it doesn't match goes on at the next clause.
@@ -75,16 +82,16 @@
 //! field that holds a variable is fetched on the way to it.
 #![tactic(auto)]
 
-pub mod asking;
+mod asking;
 pub mod binding;
 pub mod choosing;
-pub mod clauses;
-pub mod deep;
-pub mod engine;
-pub mod knowledge;
+mod clauses;
+mod deep;
+mod engine;
+mod knowledge;
 pub mod laws;
-pub mod patterns;
-pub mod place;
-pub mod saving;
-pub mod spots;
-pub mod threading;
+mod patterns;
+mod place;
+mod saving;
+mod spots;
+mod threading;

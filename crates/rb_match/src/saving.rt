@@ -3,14 +3,16 @@
 ghost use Rattle.std.specs.Prelude.{◌≡◌, ◌∷◌, ◌++◌, [], IfOk, IfSome, OnOk, true, false};
 ghost use Rattle.rb_target.specs.Growth.{Grows};
 ghost use Rattle.rb_fragment.specs.Slots.{AreApart, IsOneOf};
-ghost use Rattle.rb_match.specs.inner.Saving.{FetchesPart, IsPositionOf, IsSpotAt, SavesField, SavesFields, SavesPart};
+ghost use Rattle.rb_match.specs.inner.Saving.{FetchesPart, HasBelow, IsPositionOf, IsSpotAt, SavesAt, SavesBelow, SavesFields, SavesPart};
 
-use crate::knowledge::{Known, Spot, copy_known, same_position};
+use crate::asking::prov_of;
+use crate::knowledge::{Known, Spot, same_position};
 use crate::place::fields_of;
-use crate::spots::field_below;
+use crate::spots::{Needs, field_below, is_needed, is_tested};
+use crate::threading::is_opened;
 use rb_core::pattern::Pat;
 use rb_core::seq::Seq;
-use rb_core::types::{ConRef, Ty};
+use rb_core::types::{DataDecl, Ty};
 use rb_decide::clause_matrix::number_of;
 use rb_fetch::field::fetch_field;
 use rb_fragment::emit::emit_copies;
@@ -18,7 +20,7 @@ use rb_layout::agreed::Agreed;
 use rb_target::body::Body;
 use std::alloc::{AllocError, Global};
 
-/// Code that leaves the words of a field of a leaf in slots, where it has this type.
+/// Code that leaves the words of the part at a path of a leaf in slots, where it has this type.
 ///
 /// # Errors
 ///
@@ -30,23 +32,42 @@ pub fn fetch_part(
     ty: u32,
     leaf: usize,
     words: &[usize],
-    field: u32,
+    path: &[u32],
     at: Ty,
 ) -> Result<Seq<usize>, AllocError>
-    ensures fetches { IfOk result (λ slots. FetchesPart agreed.now ty leaf field at words.now body.old body.new slots) }
+    ensures fetches { IfOk result
+        (λ slots. FetchesPart agreed.now ty leaf path.now at words.now body.old body.new slots) }
     ensures grows { OnOk result (Grows body.old.code body.new.code) }
 {
-    if !is_position(agreed, ty, leaf, field, at) {
+    if !is_position(agreed, ty, leaf, path, at) {
         return Err(AllocError);
     }
-    let path = [field];
-    let slots = fetch_field(alloc, body, words, agreed, ty, leaf, &path)?;
+    let slots = fetch_field(alloc, body, words, agreed, ty, leaf, path)?;
     Ok(slots)
 }
 
-// Whether a leaf of constructed values has a field of this type.
-fn is_position(agreed: &Agreed, ty: u32, leaf: usize, field: u32, at: Ty) -> bool
-    ensures { result ≡ true → IsPositionOf agreed.now ty leaf field at }
+// The type of what stands at a path of a pattern of a type.
+fn type_below(types: &[DataDecl], ty: Ty, pat: &Pat, path: &[u32]) -> Option<Ty>
+    ensures { IfSome result (λ at. HasBelow types.now ty pat.now path.now at) }
+{
+    let [field, rest @ ..] = path else {
+        return Some(ty);
+    };
+    match pat {
+        Pat::Wild(_) | Pat::Var(_, _) | Pat::Num(_, _) => None,
+        Pat::Con(_, con, subs) => {
+            let fields = fields_of(types, *con);
+            match (subs.get(*field as usize), fields.get(*field as usize)) {
+                (Some(sub), Some(at)) => type_below(types, *at, sub, rest),
+                _ => None,
+            }
+        }
+    }
+}
+
+// Whether a leaf has a part of this type at a path.
+fn is_position(agreed: &Agreed, ty: u32, leaf: usize, path: &[u32], at: Ty) -> bool
+    ensures { result ≡ true → IsPositionOf agreed.now ty leaf path.now at }
 {
     let Some(layout) = agreed.layouts().get(ty as usize) else {
         return false;
@@ -55,15 +76,9 @@ fn is_position(agreed: &Agreed, ty: u32, leaf: usize, field: u32, at: Ty) -> boo
         return false;
     };
     let types = agreed.covered().program().types.as_slice();
-    match &leaf.prov {
-        Pat::Wild(_) | Pat::Var(_, _) | Pat::Num(_, _) => false,
-        Pat::Con(_, con, subs) => {
-            let fields = fields_of(types, *con);
-            match (subs.get(field as usize), fields.get(field as usize)) {
-                (Some(_), Some(found)) => *found == at,
-                _ => false,
-            }
-        }
+    match type_below(types, Ty::Named(ty), &leaf.prov, path) {
+        None => false,
+        Some(found) => found == at,
     }
 }
 
@@ -102,7 +117,7 @@ pub fn spot_at(spots: &[Spot], position: &[u32], ty: Ty) -> Option<usize>
     None
 }
 
-// Saves one field in a spot, whose slots are none of the part's.
+// Saves the part at a path in a spot, whose slots are none of the value's.
 fn save_part(
     alloc: Global,
     body: &mut Body,
@@ -110,64 +125,137 @@ fn save_part(
     ty: u32,
     leaf: usize,
     words: &[usize],
-    field: u32,
+    path: &[u32],
     spot: &Spot,
 ) -> Result<(), AllocError>
-    ensures saves { OnOk result (SavesPart agreed.now ty leaf field words.now spot.now body.old body.new) }
+    ensures saves { OnOk result (SavesPart agreed.now ty leaf path.now words.now spot.now body.old body.new) }
     ensures grows { OnOk result (Grows body.old.code body.new.code) }
 {
     let into = spot.slots.as_slice();
     if !are_apart(into, words) {
         return Err(AllocError);
     }
-    let slots = fetch_part(alloc, body, agreed, ty, leaf, words, field, spot.ty)?;
+    let slots = fetch_part(alloc, body, agreed, ty, leaf, words, path, spot.ty)?;
     emit_copies(body, into, slots.as_slice())?;
     Ok(())
 }
 
-// Whether a field is wanted.
-fn is_wanted(wanted: &[bool], field: u32) -> bool {
-    match wanted.get(field as usize) {
-        None => false,
-        Some(is) => *is,
-    }
+// A position further on by a path.
+fn position_at(alloc: Global, position: &[u32], path: &[u32]) -> Result<Seq<u32>, AllocError>
+    ensures { IfOk result (λ below. below ≡ position.now ++ path.now) }
+{
+    let mut below = Vec::from_slice(alloc, position)?;
+    below.extend_from_slice(path)?;
+    Ok(Seq::from_vec(below))
 }
 
-// Saves field number `field` of the part at a position where it is wanted and there is a spot for it.
-fn save_field<'a>(
+/// A part of a value of which parts are saved: its type and leaf, the slots of its words, its position, the spots that
+/// there are, and what later tests need.
+#[derive(Clone, Copy)]
+pub struct Source<'b, 'a> {
+    pub ty: u32,
+    pub leaf: usize,
+    pub words: &'b [usize],
+    pub position: &'b [u32],
+    pub spots: &'b [Spot],
+    pub needs: &'b Needs<'a>,
+}
+
+// Saves what stands at a path of a part whole, where there is a spot for its position.
+fn save_whole<'a>(
     alloc: Global,
     body: &mut Body,
     agreed: &Agreed,
-    ty: u32,
-    leaf: usize,
-    words: &[usize],
-    spots: &[Spot],
-    wanted: &[bool],
-    position: &[u32],
-    field: u32,
+    source: &Source,
+    path: &[u32],
+    below: &[u32],
     at: Ty,
     mut known: Seq<Known<'a>>,
 ) -> Result<Seq<Known<'a>>, AllocError>
-    ensures saves { IfOk result (λ more. SavesField agreed.now ty leaf words.now spots.now position.now field
-        known.entry more body.old body.new) }
+    ensures saves { IfOk result (λ more. below.now ≡ source.now.position.now ++ path.now
+        → SavesAt agreed.now source.now path.now known.entry more body.old body.new) }
     ensures grows { OnOk result (Grows body.old.code body.new.code) }
 {
-    if !is_wanted(wanted, field) {
-        return Ok(known);
-    }
-    let below = field_below(alloc, position, field)?;
-    match spot_at(spots, below.as_slice(), at) {
+    let spots = source.spots;
+    match spot_at(spots, below, at) {
         None => Ok(known),
         Some(k) => {
-            save_part(alloc, body, agreed, ty, leaf, words, field, &spots[k])?;
+            let (ty, leaf) = (source.ty, source.leaf);
+            let spot = &spots[k];
+            save_part(alloc, body, agreed, ty, leaf, source.words, path, spot)?;
             known.push(Known::Saved { spot: k })?;
             Ok(known)
         }
     }
 }
 
-/// Code that saves each field that is wanted and for which there is a spot, of a part at a position of a value, where
-/// the part has this leaf and its words stand in slots. The answer is what is known then.
+// Saves what is needed of what stands at a path of a part: whole, or field by field where it is opened, which asks that
+// no test looks at it itself.
+#[cycle(saving)]
+fn save_at<'a>(
+    alloc: Global,
+    body: &mut Body,
+    agreed: &Agreed,
+    source: &Source,
+    path: &[u32],
+    sub: &Pat,
+    at: Ty,
+    known: Seq<Known<'a>>,
+) -> Result<Seq<Known<'a>>, AllocError>
+    ensures saves { IfOk result
+        (λ more. SavesAt agreed.now source.now path.now known.entry more body.old body.new) }
+    ensures grows { OnOk result (Grows body.old.code body.new.code) }
+{
+    let below = position_at(alloc, source.position, path)?;
+    let below = below.as_slice();
+    if !is_needed(source.needs, below) {
+        return Ok(known);
+    }
+    if is_opened(agreed, sub) && !is_tested(source.needs, below) {
+        let parts = save_below(alloc, body, agreed, source, path, sub, known)?;
+        return Ok(parts);
+    }
+    let whole = save_whole(alloc, body, agreed, source, path, below, at, known)?;
+    Ok(whole)
+}
+
+// The same of each field of what stands at a path.
+#[cycle(saving)]
+fn save_below<'a>(
+    alloc: Global,
+    body: &mut Body,
+    agreed: &Agreed,
+    source: &Source,
+    path: &[u32],
+    pat: &Pat,
+    known: Seq<Known<'a>>,
+) -> Result<Seq<Known<'a>>, AllocError>
+    ensures saves { IfOk result
+        (λ more. SavesBelow agreed.now source.now path.now known.entry more body.old body.new) }
+    ensures grows { OnOk result (Grows body.old.code body.new.code) }
+{
+    match pat {
+        Pat::Wild(_) | Pat::Var(_, _) | Pat::Num(_, _) => Ok(known),
+        Pat::Con(_, con, subs) => {
+            let types = agreed.covered().program().types.as_slice();
+            let fields = fields_of(types, *con);
+            let mut known = known;
+            for (j, sub) in subs.as_slice().iter().enumerate() {
+                let Some(at) = fields.get(j) else {
+                    return Err(AllocError);
+                };
+                let number = number_of(j)?;
+                let below = field_below(alloc, path, number)?;
+                let below = below.as_slice();
+                known = save_at(alloc, body, agreed, source, below, sub, *at, known)?;
+            }
+            Ok(known)
+        }
+    }
+}
+
+/// Code that saves what is needed of a part of a value whose words stand in slots, in spots. The answer is what is
+/// known then.
 ///
 /// # Errors
 ///
@@ -176,28 +264,18 @@ pub fn save_fields<'a>(
     alloc: Global,
     body: &mut Body,
     agreed: &Agreed,
-    con: ConRef,
-    leaf: usize,
-    words: &[usize],
-    spots: &[Spot],
-    wanted: &[bool],
-    position: &[u32],
+    source: &Source,
     known: Seq<Known<'a>>,
 ) -> Result<Seq<Known<'a>>, AllocError>
-    ensures saves { IfOk result (λ more. SavesFields agreed.now con.ty leaf words.now spots.now position.now
-        known.entry more body.old body.new) }
+    ensures saves { IfOk result (λ more. SavesFields agreed.now source.now.ty source.now.leaf source.now.words.now
+        source.now.spots.now source.now.position.now known.entry more body.old body.new) }
     ensures grows { OnOk result (Grows body.old.code body.new.code) }
 {
-    let types = agreed.covered().program().types.as_slice();
     let _flat = agreed.layouts();
-    let fields = fields_of(types, con);
-    let mut known = known;
-    for (j, field) in fields.iter().enumerate() {
-        let number = number_of(j)?;
-        known = save_field(
-            alloc, body, agreed, con.ty, leaf, words, spots, wanted, position, number, *field,
-            known,
-        )?;
-    }
+    let _typed = agreed.covered().program();
+    let Some(prov) = prov_of(agreed, source.ty, source.leaf) else {
+        return Err(AllocError);
+    };
+    let known = save_below(alloc, body, agreed, source, &[], prov, known)?;
     Ok(known)
 }

@@ -200,46 +200,65 @@ pub fn is_within(position: &[u32], above: &[u32]) -> bool
     position.starts_with(above)
 }
 
-// Marks the field of the part at a position at which a test stands, or below which it does. One test is enough, so
-// that most positions need not be compared.
-fn mark_field(wanted: &mut Seq<bool>, position: &[u32], tested: &[u32]) {
-    if let Some(field) = tested.get(position.len()) {
-        let field = *field as usize;
-        if let Some(false) = wanted.get(field) {
-            if is_within(tested, position) {
-                set_at(wanted, field);
-            }
-        }
-    }
+/// Which parts later tests need.
+#[derive(Drop)]
+pub enum Needs<'a> {
+    /// All that can be saved.
+    All,
+    /// Those at which, or below which, a test at one of these positions stands.
+    Tests(Seq<&'a [u32]>),
 }
 
-/// For each of so many fields of the part at a position, whether a test at it or below it can be met from a node on.
-/// Links go to lower numbers, so that no node above that one is met. Where there are no nodes, each field is wanted.
+/// What the tests need that can be met from a node on. Links go to lower numbers, so that no node above that one is
+/// met. Where there are no nodes, all is needed.
 ///
 /// # Errors
 ///
 /// Want of memory.
-pub fn wanted_fields(
+pub fn needs_from<'a>(
     alloc: Global,
-    nodes: &[GraphNode],
+    nodes: &'a [GraphNode],
     node: usize,
-    position: &[u32],
-    fields: usize,
-) -> Result<Seq<bool>, AllocError> {
+) -> Result<Needs<'a>, AllocError> {
+    if nodes.is_empty() {
+        return Ok(Needs::All);
+    }
     let count = if node < nodes.len() { node + 1 } else { 0 };
-    let mut wanted = marks(alloc, fields, nodes.is_empty())?;
+    let mut tests = Seq::new(alloc);
     let mut reached = marks(alloc, count, false)?;
     set_at(&mut reached, node);
     for i in 0..count {
         let number = count - 1 - i;
         if let Some(true) = reached.get(number) {
             if let Some(GraphNode::Test(tested, arms, other)) = nodes.get(number) {
-                mark_field(&mut wanted, position, tested.as_slice());
+                tests.push(tested.as_slice())?;
                 mark_links(&mut reached, arms.as_slice(), *other);
             }
         }
     }
-    Ok(wanted)
+    Ok(Needs::Tests(tests))
+}
+
+/// Whether the part at a position is needed, or one below it.
+pub fn is_needed(needs: &Needs, position: &[u32]) -> bool {
+    match needs {
+        Needs::All => true,
+        Needs::Tests(tests) => tests
+            .as_slice()
+            .iter()
+            .any(|tested| is_within(tested, position)),
+    }
+}
+
+/// Whether the part at a position is looked at itself.
+pub fn is_tested(needs: &Needs, position: &[u32]) -> bool {
+    match needs {
+        Needs::All => true,
+        Needs::Tests(tests) => tests
+            .as_slice()
+            .iter()
+            .any(|tested| same_position(tested, position)),
+    }
 }
 
 // Their slots ------------------------------------------------------------------------------------

@@ -1,6 +1,7 @@
 //! Tests that what is known decides: they need no code, and an edge that leads to one leads on to the node of
 //! its arm. A test below it needs the leaf that it would have found. Where all values of the constructor there have one
-//! leaf, which takes no field apart, that leaf is known from then on; else the test stays if such a one can be met.
+//! leaf, which takes no field apart, that leaf is known from then on. Else, behind the look that decides it, the exit
+//! opens the part: it saves the fields themselves that such tests need. Elsewhere the test stays if one can be met.
 
 ghost use Rattle.std.specs.Prelude.{◌≡◌, IfOk, IfSome, OnOk, true};
 ghost use Rattle.rb_match.specs.inner.Threading.{AllFollow, Ascend, AreThreaded, AreWild, BeginsWith, Covers, HasSub, IsAtLeaf, IsDecided, IsFirst, IsLeafOfAll, IsThreaded, IsWild, LeadsOn, ShowTogether, Tells, TellTogether, Threads};
@@ -9,7 +10,7 @@ use crate::asking::{link_of, mark_tested_below};
 use crate::knowledge::{Edge, Known, copy_known, position_below};
 use crate::patterns::are_apart;
 use crate::place::is_looked_at;
-use crate::spots::{marks, set_at};
+use crate::spots::{is_deep, is_within, marks, set_at};
 use rb_core::pattern::Pat;
 use rb_core::seq::Seq;
 use rb_core::types::{ConRef, Ty};
@@ -232,6 +233,59 @@ fn shown<'a>(agreed: &Agreed, known: &[Known], position: &'a [u32]) -> Option<Kn
     leaf_shown(agreed, sub, position)
 }
 
+// Exits ---------------------------------------------------------------------------------------------
+
+/// The way of a leaf behind the look that found it: the position of the look, and the leaf's provenance.
+#[derive(Clone, Copy)]
+pub struct Exit<'a> {
+    pub position: &'a [u32],
+    pub prov: &'a Pat,
+}
+
+/// Whether an exit opens a part that a leaf has taken apart, instead of rebuilding it: its type has spots for its
+/// fields, and its constructor doesn't show its leaf.
+pub fn is_opened(agreed: &Agreed, sub: &Pat) -> bool {
+    match sub {
+        Pat::Wild(_) | Pat::Var(_, _) | Pat::Num(_, _) => false,
+        Pat::Con(_, con, _) => is_deep(agreed, con.ty)
+            && leaf_of_all(agreed, con.ty, sub).is_none(),
+    }
+}
+
+// Whether an exit opens each part on a path below a pattern.
+fn are_opened(agreed: &Agreed, pat: &Pat, path: &[u32]) -> bool {
+    let [field, rest @ ..] = path else {
+        return true;
+    };
+    match pat {
+        Pat::Wild(_) | Pat::Var(_, _) | Pat::Num(_, _) => false,
+        Pat::Con(_, _, subs) => match subs.get(*field as usize) {
+            None => false,
+            Some(sub) => is_opened(agreed, sub) && are_opened(agreed, sub, rest),
+        },
+    }
+}
+
+// Whether code at an exit saves the fields of the part at a position that tests need.
+fn opens(agreed: &Agreed, exit: &Option<Exit>, position: &[u32]) -> bool {
+    let Some(exit) = exit else {
+        return false;
+    };
+    match position_below(position, exit.position) {
+        None => false,
+        Some(path) => are_opened(agreed, exit.prov, path),
+    }
+}
+
+// Whether a way carries what is shown of the part at a position. An exit does of parts below its look alone, since
+// leaves that lead on to one node may go by one way, which carries what was known before the look.
+fn carries(exit: &Option<Exit>, position: &[u32]) -> bool {
+    match exit {
+        None => true,
+        Some(exit) => is_within(position, exit.position),
+    }
+}
+
 // Nodes ---------------------------------------------------------------------------------------------
 
 // Marks each node that is marked in another list.
@@ -244,10 +298,11 @@ fn mark_all(marks: &mut Seq<bool>, others: &[bool]) {
 }
 
 // What is known behind a decided test: the leaf of its part, where a test below it can be met from the next node on.
-// Where that leaf is not shown, each node is marked from which such a test can be met.
+// Where that leaf is not shown, and no exit opens the part, each node is marked from which such a test can be met.
 fn pass_over<'a>(
     alloc: Global,
     agreed: &Agreed,
+    exit: &Option<Exit>,
     nodes: &'a [GraphNode],
     node: usize,
     next: usize,
@@ -262,24 +317,22 @@ fn pass_over<'a>(
     let position = position.as_slice();
     let below = mark_tested_below(alloc, nodes, position)?;
     let below = below.as_slice();
-    if !is_marked(below, next) {
+    if !is_marked(below, next) || opens(agreed, exit, position) {
         return Ok(());
     }
-    match shown(agreed, known.as_slice(), position) {
-        None => {
-            mark_all(met, below);
-            Ok(())
-        }
-        Some(fact) => {
+    if carries(exit, position) {
+        if let Some(fact) = shown(agreed, known.as_slice(), position) {
             known.push(fact)?;
-            Ok(())
+            return Ok(());
         }
     }
+    mark_all(met, below);
+    Ok(())
 }
 
-/// The node to which what is known leads from one on, over tests that it decides; what they show is known then. It is the
-/// last one from which no test can be met that reads from a part whose leaf a look on the way would have told, where
-/// nothing shows that leaf.
+/// The node to which what is known leads from one on, over tests that it decides; what they show is known then. It is
+/// the last one from which no test can be met that reads from a part whose leaf a look on the way would have told,
+/// where nothing shows that leaf and the exit, if the way is one, doesn't open the part.
 ///
 /// # Errors
 ///
@@ -290,6 +343,7 @@ pub fn lead_on<'a>(
     ty: Ty,
     pats: &[Pat],
     nodes: &'a [GraphNode],
+    exit: &Option<Exit>,
     known: &mut Seq<Known<'a>>,
     node: usize,
 ) -> Result<usize, AllocError>
@@ -303,33 +357,12 @@ pub fn lead_on<'a>(
         let Some(next) = node_behind(agreed, ty, pats, nodes, known.as_slice(), here) else {
             return Ok(end);
         };
-        pass_over(alloc, agreed, nodes, here, next, known, &mut met)?;
+        pass_over(alloc, agreed, exit, nodes, here, next, known, &mut met)?;
         here = next;
         if !is_marked(met.as_slice(), here) {
             end = here;
         }
     }
-    Ok(end)
-}
-
-/// The node to which what is known leads from one on.
-///
-/// # Errors
-///
-/// Want of memory.
-pub fn node_onward<'a>(
-    alloc: Global,
-    agreed: &Agreed,
-    ty: Ty,
-    pats: &[Pat],
-    nodes: &'a [GraphNode],
-    known: &[Known<'a>],
-    node: usize,
-) -> Result<usize, AllocError>
-    ensures { IfOk result (λ end. LeadsOn agreed.now ty pats.now nodes.now known.now node end) }
-{
-    let mut facts = copy_known(alloc, known)?;
-    let end = lead_on(alloc, agreed, ty, pats, nodes, &mut facts, node)?;
     Ok(end)
 }
 
@@ -378,7 +411,16 @@ fn thread_edge<'a>(
     ensures { IfOk result (λ e. IsThreaded agreed.now ty pats.now nodes.now edge.now e) }
 {
     let mut facts = copy_known(alloc, edge.known.as_slice())?;
-    let leaf = lead_on(alloc, agreed, ty, pats, nodes, &mut facts, edge.hole.leaf)?;
+    let leaf = lead_on(
+        alloc,
+        agreed,
+        ty,
+        pats,
+        nodes,
+        &None,
+        &mut facts,
+        edge.hole.leaf,
+    )?;
     let known = carried(alloc, agreed, nodes, leaf, facts);
     Ok(Edge {
         hole: Hole {

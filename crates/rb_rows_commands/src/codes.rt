@@ -133,6 +133,14 @@ fn nests_deeply(rt: HostRuntime) -> Result<(), Surprise> {
     expect_row(rt.alloc(), DEEP)
 }
 
+// A name is shown as it came, with the bytes that no screen shows.
+const UNSEEN: &str = "|E a\nb\x01\x7f 1 64|10 0 ribbit: no function a;b\x01\x7f;";
+
+#[test]
+fn shows_names_as_they_came(rt: HostRuntime) -> Result<(), Surprise> {
+    expect_row(rt.alloc(), UNSEEN)
+}
+
 // A code text over its limit is read one byte further.
 #[test]
 fn refuses_long_codes(rt: HostRuntime) -> Result<(), Fail> {

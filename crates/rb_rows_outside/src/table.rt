@@ -27,8 +27,12 @@ const UNWRITTEN: u8 = 8;
 // A byte at a time, some, and all at once.
 const SIZES: [usize; 3] = [1, 7, 5000];
 
-// How many bytes of a line were taken before each of its first writes, at seven bytes a write.
-const LINE: [(u64, usize); 3] = [(0, 0), (1, 7), (2, 14)];
+// A line that is tried, and the steps that came before it.
+#[derive(Clone, Copy)]
+struct Line<'a> {
+    text: &'a [u8],
+    steps: Option<u128>,
+}
 
 // A row.
 #[derive(Clone, Copy)]
@@ -158,22 +162,49 @@ fn each_room(alloc: Global, call: &Call, step: usize) -> Result<(), Surprise> {
     Ok(())
 }
 
-// Both sinks fail: the output at its first write, or at its second, and then a write of the line. Where a
-// refusal is due, the output fails in vain, for it is not written.
-fn both_sinks(alloc: Global, call: &Call) -> Result<(), Surprise> {
-    for (number, taken) in &LINE {
-        let mut wanted = cut(call, *taken);
-        if call.status == 0 {
-            wanted.out = b"";
-            wanted.err = front(WRITE_FAULT, *taken);
-        }
+// The output fails at its first write, and then each write of a line.
+fn each_line_write(
+    alloc: Global,
+    call: &Call,
+    source: Side,
+    line: Line,
+    step: usize,
+) -> Result<(), Surprise> {
+    let mut writes = 0u64;
+    let mut taken = 0usize;
+    for piece in line.text.chunks(step.max(1)) {
         let outside = Outside {
-            source: EASY,
+            source,
             out: failing(1, 0),
-            err: failing(7, *number),
+            err: failing(step, writes),
+        };
+        let wanted = Answer {
+            status: UNWRITTEN,
+            out: b"",
+            err: front(line.text, taken),
+            steps: line.steps,
         };
         look(alloc, call, outside, wanted)?;
+        writes = writes.saturating_add(1);
+        taken = taken.saturating_add(piece.len());
     }
+    Ok(())
+}
+
+// Both sinks fail: the output at its first write, and then each write of the line. Where a refusal is due, the output
+// fails in vain, for it is not written.
+fn both_sinks(alloc: Global, call: &Call, step: usize) -> Result<(), Surprise> {
+    let text = if call.status == 0 {
+        WRITE_FAULT
+    } else {
+        call.text
+    };
+    let steps = call.steps;
+    each_line_write(alloc, call, EASY, Line { text, steps }, step)
+}
+
+// The output fails at its second write, and then the first one of the line.
+fn second_write_and_line(alloc: Global, call: &Call) -> Result<(), Surprise> {
     let mut wanted = cut(call, 1);
     wanted.err = b"";
     let outside = Outside {
@@ -185,23 +216,13 @@ fn both_sinks(alloc: Global, call: &Call) -> Result<(), Surprise> {
     Ok(())
 }
 
-// The source fails, and then a write of the line.
-fn source_and_sink(alloc: Global, call: &Call) -> Result<(), Surprise> {
-    for (number, taken) in &LINE {
-        let outside = Outside {
-            source: failing(10, 1),
-            out: failing(1, 0),
-            err: failing(7, *number),
-        };
-        let wanted = Answer {
-            status: UNWRITTEN,
-            out: b"",
-            err: front(READ_FAULT, *taken),
-            steps: Some(0),
-        };
-        look(alloc, call, outside, wanted)?;
-    }
-    Ok(())
+// The source fails, and then each write of the line.
+fn source_and_sink(alloc: Global, call: &Call, step: usize) -> Result<(), Surprise> {
+    let line = Line {
+        text: READ_FAULT,
+        steps: Some(0),
+    };
+    each_line_write(alloc, call, failing(10, 1), line, step)
 }
 
 // Looks at a call with nothing failing, and then with each part of the outside failing in turn.
@@ -213,12 +234,12 @@ fn expect_call(alloc: Global, call: Call, sizes: &[usize]) -> Result<(), Surpris
         each_source_call(alloc, &call, *size)?;
         each_write(alloc, &call, *size)?;
         each_room(alloc, &call, *size)?;
+        both_sinks(alloc, &call, *size)?;
+        if !call.held.file.is_empty() {
+            source_and_sink(alloc, &call, *size)?;
+        }
     }
-    both_sinks(alloc, &call)?;
-    if !call.held.file.is_empty() {
-        source_and_sink(alloc, &call)?;
-    }
-    Ok(())
+    second_write_and_line(alloc, &call)
 }
 
 /// Looks at a row with nothing failing, and then with each part of the outside failing in turn, for pieces

@@ -18,7 +18,7 @@ block 64 16 02000000000000000100000000000000
 block 80 16 01000000000000005000000000000000
 ";
 
-const VALUE: [ImageRow; 6] = [
+const VALUE: [ImageRow; 7] = [
     ("value E I", LIST, LIST_IMAGE, 0, b"Cons(1, Cons(2, Nil))\n"),
     (
         "value E I",
@@ -43,6 +43,8 @@ const VALUE: [ImageRow; 6] = [
         b"ribbit: unknown name y at byte 17\n",
     ),
     ("value F I", b"", b"", 7, b"ribbit: read fault\n"),
+    // no image is held under the name `J`
+    ("value E J", LIST, b"", 7, b"ribbit: read fault\n"),
     ("value E", b"", b"", 6, b"ribbit: usage at word 3\n"),
 ];
 

@@ -40,6 +40,14 @@ const TOLD_ABOVE: &str =
 const TOLD_TWICE: &str =
     "type K = A | B;layout K <1> = split 0[0:1] { 0 => A : { word 1 { [0:1] = 0 } } 1 => B : { word 1 { [0:1] = 1 } } };type E = Off | On(K, u8);layout E <10> = split 0[0:1] { 0 => Off : { word 10 { [0:1] = 0 } } 1 => On(_, _) : { word 10 { [0:1] = 1, [1:1] .0, [2:8] .1 } } };type F = Out | In(u8, E);layout F <19> = split 0[0:1] { 0 => Out : { word 19 { [0:1] = 0 } } 1 => In(_, _) : { word 19 { [0:1] = 1, [1:8] .0, [9:10] .1 } } };type T = With(F, u8);layout T <29> = split 0[0:2] { 0 => With(Out, _) : { word 29 { [0:2] = 0, [2:8] .1 } } 1 => With(In(_, Off), _) : { word 29 { [0:2] = 1, [2:8] .1, [10:8] .0.0 } } 2 => With(In(_, On(_, _)), _) : { word 29 { [0:2] = 2, [2:8] .1, [10:8] .0.0, [18:1] .0.1.0, [19:8] .0.1.1 } } };fun main(t: T): u8 = match t { With(In(_, On(B, 5)), _) => 1, With(In(7, Off), _) => 2, With(In(_, On(A, _)), y) => y, _ => 4 };";
 
+// An entry that has two leaves, of which the pair's leaf tells one. The byte of the entry it does not tell.
+const OPENED: &str =
+    "type K = A | B;layout K <1> = split 0[0:1] { 0 => A : { word 1 { [0:1] = 0 } } 1 => B : { word 1 { [0:1] = 1 } } };type E = Off | On(u8, K);layout E <10> = split 0[0:2] { 0 => Off : { word 10 { [0:2] = 0 } } 1 => On(_, A) : { word 10 { [0:2] = 1, [2:8] .0 } } 2 => On(_, B) : { word 10 { [0:2] = 2, [2:8] .0 } } };type T = With(E, u8);layout T <18> = split 0[0:2] { 0 => With(Off, _) : { word 18 { [0:2] = 0, [2:8] .1 } } 1 => With(On(_, A), _) : { word 18 { [0:2] = 1, [2:8] .0.0, [10:8] .1 } } 2 => With(On(_, B), _) : { word 18 { [0:2] = 2, [2:8] .1, [10:8] .0.0 } } };fun main(t: T): u8 = match t { With(On(3, _), y) => y, With(On(_, _), _) => 1, With(Off, y) => y };";
+
+// An entry that each of two leaves of a pair tells, whose fields stand elsewhere in each.
+const MET: &str =
+    "type K = A | B;layout K <1> = split 0[0:1] { 0 => A : { word 1 { [0:1] = 0 } } 1 => B : { word 1 { [0:1] = 1 } } };type E = Off | On(K, u8);layout E <10> = split 0[0:1] { 0 => Off : { word 10 { [0:1] = 0 } } 1 => On(_, _) : { word 10 { [0:1] = 1, [1:1] .0, [2:8] .1 } } };type T = With(E, K);layout T <11> = split 0[0:2] { 0 => With(Off, _) : { word 11 { [0:2] = 0, [2:1] .1 } } 1 => With(On(_, _), A) : { word 11 { [0:2] = 1, [2:1] .0.0, [3:8] .0.1 } } 2 => With(On(_, _), B) : { word 11 { [0:2] = 2, [2:8] .0.1, [10:1] .0.0 } } };fun main(t: T): u8 = match t { With(On(A, 3), _) => 1, With(Off, A) => 2, _ => 3 };";
+
 // Constructions of such a pair. The file shows the bit in the first, and none of it in the second.
 const SHOWN: &str =
     "type K = A | B;layout K <1> = split 0[0:1] { 0 => A : { word 1 { [0:1] = 0 } } 1 => B : { word 1 { [0:1] = 1 } } };type P = Tagged(K, u8);layout P <9> = split 0[0:1] { 0 => Tagged(A, _) : { word 9 { [0:1] = 0, [1:8] .1 } } 1 => Tagged(B, _) : { word 9 { [0:1] = 1, [1:8] .1 } } };fun main(x: u8): P = Tagged(B, x);";
@@ -74,7 +82,7 @@ fn code_texts_run(rt: HostRuntime) -> Result<(), Surprise> {
 // File, the start of a line, and how many lines of the file's code begin so, at least and at most.
 type Lines<'a> = (&'a str, &'a str, usize, usize);
 
-const LINES: [Lines; 30] = [
+const LINES: [Lines; 33] = [
     // an arm whose value is the function's result returns it
     (SUM, "return ", 3, 3),
     (SUM, "copy ", 0, 0),
@@ -100,6 +108,12 @@ const LINES: [Lines; 30] = [
     // one finds the leaf; behind it the bit and the byte have one each, and the number of the other way one
     (TOLD_TWICE, "switch ", 4, 4),
     (TOLD_TWICE, "put ", 0, 0),
+    // one finds the leaf, for two ways of which the byte has one; where it is bound, one finds the leaf again. No entry
+    // is put together
+    (OPENED, "switch ", 3, 3),
+    (OPENED, "put ", 0, 0),
+    // one finds the leaf, and each field has one
+    (MET, "switch ", 4, 4),
     // a constructor that the file shows is not looked at, and a variable's is, once
     (SHOWN, "switch ", 0, 0),
     (UNSHOWN, "switch ", 1, 1),
@@ -205,7 +219,7 @@ fn the_text_does_as_many(rt: HostRuntime) -> Result<(), Fail> {
 }
 
 // Two switches for each pair, and one for each entry.
-const LEAVES: [CountRow; 16] = [
+const LEAVES: [CountRow; 24] = [
     (TOLD, "Tagged(A,3)", "value 1;calls 1;", 2, BEHIND),
     (TOLD, "Tagged(A,4)", "value 0;calls 1;", 2, BEHIND),
     (TOLD, "Tagged(B,4)", "value 2;calls 1;", 2, BEHIND),
@@ -258,6 +272,14 @@ const LEAVES: [CountRow; 16] = [
         BEHIND,
     ),
     (TOLD_TWICE, "With(Out,9)", "value 4;calls 1;", 1, BEHIND),
+    (OPENED, "With(On(3,A),9)", "value 9;calls 1;", 3, BEHIND),
+    (OPENED, "With(On(3,B),9)", "value 9;calls 1;", 3, BEHIND),
+    (OPENED, "With(On(4,B),9)", "value 1;calls 1;", 2, BEHIND),
+    (OPENED, "With(Off,9)", "value 9;calls 1;", 1, BEHIND),
+    (MET, "With(On(A,3),A)", "value 1;calls 1;", 3, BEHIND),
+    (MET, "With(On(A,3),B)", "value 1;calls 1;", 3, BEHIND),
+    (MET, "With(On(B,3),B)", "value 3;calls 1;", 2, BEHIND),
+    (MET, "With(Off,A)", "value 2;calls 1;", 2, BEHIND),
 ];
 
 // No block is made.

@@ -526,6 +526,7 @@ fn two_shapes(rt: HostRuntime) -> Result<(), Surprise> {
     expect_parts(rt.alloc(), BOTH, &TWO_SHAPES)
 }
 
+// A constant that differs is a fault beside the end of the path and in the part that is shown, and nowhere else.
 #[test]
 fn marks(rt: HostRuntime) -> Result<(), Surprise> {
     expect_parts(rt.alloc(), MARK, &MARKS)

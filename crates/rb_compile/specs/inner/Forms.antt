@@ -36,7 +36,8 @@ EmitsExpr plan f e wanted locals old new held =
 abbrev pub EmitsFirst : Plan → ℕ → ℕ → List Expr → List Ty → List Local → Sheet → Sheet → List Held → Type 0
 EmitsFirst plan f n es ts locals old new hs =
     AreReady plan f es ts locals old.slots → AreGiven plan old.slots locals
-    → EmitsAll plan (AreAsShown (map shown_of (take n es))) (λ calls. map (meaning_of plan.program calls f) (take n es)) ts locals old new hs
+    → EmitsAll plan (AreAsShown (map shown_of (take n es)))
+    (λ calls. map (meaning_of plan.program calls f) (take n es)) ts locals old new hs
 
 -- the width that an instruction states: no typed program has an integer of no bits
 abbrev pub stated_width : Ty → ℕ

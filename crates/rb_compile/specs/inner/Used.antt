@@ -76,12 +76,15 @@ MarksMore old new = (x : ℕ) → is_kept old x ≡ true → is_kept new x ≡ t
 
 -- the variables of an expression are kept
 abbrev pub IsPrunedFor : Expr → Pat → Pat → Type 0
-IsPrunedFor body pat p = (keeps : ℕ → Bool) × ((x : ℕ) → Contains (variables_in body) x → keeps x ≡ true) × (p ≡ pruned keeps pat)
+IsPrunedFor body pat p = (keeps : ℕ → Bool) × ((x : ℕ) → Contains (variables_in body) x → keeps x ≡ true)
+    × (p ≡ pruned keeps pat)
 
--- What a clause's body needs of what takes the pattern's place, at a scrutinee of type s: it matches where the pattern does,
--- binds the body's variables to the same, and costs no more to bind.
+-- What a clause's body needs of what takes the pattern's place, at a scrutinee of type s: it matches where the
+-- pattern does, binds the body's variables to the same, and costs no more to bind.
 pub record Serves (types : List DataDecl) (layouts : List Layout) (body : Expr) (pat q : Pat) (s : Ty) : Type 0 where
   pub matches : (v : Value) → matches_of pat v ≡ true → matches_of q v ≡ true
   pub few : binding_bound types layouts s q ≤ binding_bound types layouts s pat
-  pub scopes : (scope : List Binder) → ScopesAgree (variables_in body) (scope ++ binders types pat s) (scope ++ binders types q s)
-  pub values : (env : List Binding) (v : Value) → ValuesAgree (variables_in body) (env ++ bindings pat v) (env ++ bindings q v)
+  pub scopes : (scope : List Binder) → ScopesAgree (variables_in body) (scope ++ binders types pat s)
+      (scope ++ binders types q s)
+  pub values : (env : List Binding) (v : Value) → ValuesAgree (variables_in body) (env ++ bindings pat v)
+      (env ++ bindings q v)

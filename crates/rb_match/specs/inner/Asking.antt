@@ -82,10 +82,6 @@ abbrev pub are_numbers : List GraphArm → Bool
 are_numbers [] = true
 are_numbers (a ∷ arms) = is_number a.head && are_numbers arms
 
-abbrev pub open_else_of : ℕ → Option ℕ → Option ℕ
-open_else_of next None = None
-open_else_of next (Some link) = Some next
-
 abbrev pub edge_at : ℕ → Option ℕ → ℕ → List Known → Edge
 edge_at pc arm node known = record { hole = record { pc = pc; arm = arm; leaf = node }; known = known }
 

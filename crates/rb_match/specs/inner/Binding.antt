@@ -108,7 +108,7 @@ FieldMatches sub i v bs = (part : Value) × (part_at v (i ∷ []) ≡ Some part)
 abbrev pub BindsField : LaidOut → ℕ → ℕ → List ℕ → Pat → Ty → ℕ → Sheet → Sheet → List Local → Type 0
 BindsField agreed t leaf words sub field i old new bound =
     (plan : Plan) → IsPlanOf agreed plan → AllBelow old.slots words → length words ≡ words_of plan (Named t)
-    → BindsParts plan (mend_at plan.layouts t leaf i + binding_bound plan.program.types plan.layouts field sub) t leaf words (binders plan.program.types sub field) old new bound (FieldMatches sub i)
+    → BindsParts plan (mend_at plan.layouts t leaf (i ∷ []) + binding_bound plan.program.types plan.layouts field sub) t leaf words (binders plan.program.types sub field) old new bound (FieldMatches sub i)
 
 -- Saved fields ------------------------------------------------------------------------------------
 

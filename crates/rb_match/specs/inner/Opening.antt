@@ -37,7 +37,7 @@ use Rattle.rb_match.specs.Bounding.{choosing_look}
 use Rattle.rb_match.specs.inner.Knowing.{AreKnown, View, seen}
 use Rattle.rb_match.specs.inner.Asking.{AreGroups, AreOpen, AreSpots, Asked, AskedThere, LeadOneWay, LeavesWhere, edge_in, group_for, holes_of, leaf_con, take_link}
 use Rattle.rb_match.specs.inner.Saving.{IsThereWith}
-use Rattle.rb_match.specs.inner.Threading.{LeadsOn}
+use Rattle.rb_match.specs.inner.Threading.{AllFollow, LeadsOn}
 
 -- holes of leaves from a number on, whose ways are still to be made
 abbrev pub pending : ℕ → List Hole → List Hole
@@ -69,11 +69,17 @@ GoOn Leads None (Some found) = ⊥
 GoOn Leads (Some node) None = ⊥
 GoOn Leads (Some node) (Some found) = Leads node found.node
 
+-- facts that are so where others are, on the way of a leaf that goes on
+abbrev pub ShowOnward : LaidOut → List Known → Option Onward → Type 0
+ShowOnward agreed known None = Unit {0}
+ShowOnward agreed known (Some found) = AllFollow agreed known found.known
+
 -- where the values of a leaf go behind a test
 pub record LeadsLeaf (agreed : LaidOut) (graph : Whole) (t : ℕ) (known : List Known) (position : Bor (List ℕ)) (arms : List GraphArm) (other : Option ℕ) (leaf : ℕ) (found : Option Onward) : Type 0 where
   pub con : ℕ
   pub is_con : leaf_con agreed t leaf ≡ Some con
   pub goes : GoOn (LeadsFrom agreed graph (known ++ K.Leaf position t leaf ∷ [])) (take_link arms other (V.Con con [])) found
+  pub shows : ShowOnward agreed (known ++ K.Leaf position t leaf ∷ []) found
 
 abbrev pub LeadLeaves : LaidOut → Whole → ℕ → List Known → Bor (List ℕ) → List GraphArm → Option ℕ → List (Option Onward) → Type 0
 LeadLeaves agreed graph t known position arms other = AreGroups (LeadsLeaf agreed graph t known position arms other) (leaf_count agreed t)
@@ -120,9 +126,9 @@ IsAlone groups i None = (leaf : ℕ) → group_at groups leaf ≡ Some i → ⊥
 IsAlone groups i (Some found) = (leaf : ℕ) → group_at groups leaf ≡ Some i → (leaf ≡ i) × (found.saves ≡ true)
 
 -- one more way
-pub record StepsWay (agreed : LaidOut) (t : ℕ) (words : List ℕ) (spots : List Spot) (known : List Known) (position : Bor (List ℕ)) (holes : List Hole) (i : ℕ) (found : Option Onward) (old : Sheet) (edges : List Edge) (new : Sheet) (more : List Edge) : Type 0 where
+pub record StepsWay (agreed : LaidOut) (t : ℕ) (words : List ℕ) (spots : List Spot) (position : Bor (List ℕ)) (holes : List Hole) (i : ℕ) (found : Option Onward) (old : Sheet) (edges : List Edge) (new : Sheet) (more : List Edge) : Type 0 where
   pub stands : (mid : Sheet) (top : ℕ) → WaysStand mid top holes i old edges → WaysStand mid top holes (i + 1) new more
-  pub leads : (graph : Whole) (arms : List GraphArm) (other : Option ℕ) (groups : List (Option ℕ)) (plan : Plan) (n : ℕ) (mid : Sheet) (top : ℕ) → LeadsLeaf agreed graph t known position arms other i found → IsAlone groups i found
+  pub leads : (known : List Known) (graph : Whole) (arms : List GraphArm) (other : Option ℕ) (groups : List (Option ℕ)) (plan : Plan) (n : ℕ) (mid : Sheet) (top : ℕ) → LeadsLeaf agreed graph t known position arms other i found → IsAlone groups i found
       → IsPlanOf agreed plan → AreSpots plan n mid.slots spots → AllBelow mid.slots words → length words ≡ words_of plan (Named t) → AreOfOneWay holes → WaysStand mid top holes i old edges
       → WaysLead (IsOnward agreed graph) plan n t words spots known position.now arms other groups mid holes i old edges → WaysLead (IsOnward agreed graph) plan n t words spots known position.now arms other groups mid holes (i + 1) new more
 

@@ -1,8 +1,9 @@
 -- Slots in which parts of a value are saved, and code that saves them.
-use Rattle.std.specs.Prelude.{◌≡◌, ℕ, zero, suc, ◌+◌, ◌<◌, ◌≤◌, ◌⊎◌, List, [], ◌∷◌, Bool, Option, Some, None, length, nat_eq, slice_get, slice_index, ◌==◌, ◌&&◌}
+use Rattle.std.specs.Prelude.{◌≡◌, ℕ, zero, suc, ◌+◌, ◌<◌, ◌≤◌, ◌⊎◌, List, [], ◌∷◌, Bool, Option, Some, None, length, nat_eq, drop, slice_get, slice_index, ◌++◌, ◌==◌, ◌&&◌}
 use Rattle.std.specs.List.{starts_with, sum_by}
 use Rattle.rb_core.specs.declared.value.Value.{Value}
 use Rattle.rb_core.specs.declared.types.Ty.{Ty}
+use Rattle.rb_core.specs.declared.types.DataDecl.{DataDecl}
 use Rattle.rb_core.specs.declared.types.Ty.TheVariants.{Named}
 use Rattle.rb_core.specs.declared.pattern.Pat.{Pat, Con, out-Pat}
 use Rattle.rb_core.specs.declared.types.ConRef.{ConRef}
@@ -16,7 +17,7 @@ use Rattle.rb_layout.specs.declared.agreed.LaidOut.{LaidOut}
 use Rattle.rb_layout.specs.declared.layout.Layout.{Layout}
 use Rattle.rb_layout.specs.declared.layout.Leaf.{Leaf}
 use Rattle.rb_layout.specs.Positions.{layout_of, leaf_of}
-use Rattle.rb_layout.specs.inner.Walking.{sub_pattern}
+use Rattle.rb_fetch.specs.Positions.{found_at}
 use Rattle.rb_rel.specs.Switches.{Head, choose_of, heads_of}
 use Rattle.rb_fragment.specs.Adding.{Adds}
 use Rattle.rb_fragment.specs.Plan.{Plan, Rep, words_of}
@@ -25,6 +26,7 @@ use Rattle.rb_fragment.specs.Slots.{AllBelow, AllFrom, AreApart, IsDistinct, IsO
 use Rattle.rb_fetch.specs.Finding.{IsPlanOf}
 use Rattle.rb_match.specs.declared.knowledge.Known.{Known}
 use Rattle.rb_match.specs.declared.knowledge.Spot.{Spot}
+use Rattle.rb_match.specs.declared.saving.Source.{Source}
 use Rattle.rb_match.specs.Bounding.{rebuilding}
 use Rattle.rb_match.specs.inner.Knowing.{AreKnown, seen}
 use Rattle.rb_match.specs.inner.Asking.{AreSpots, leaf_in}
@@ -62,51 +64,72 @@ HasConstructor subs = (k : ℕ) × (token : ℕ) × (c : ConRef) × (ps : List P
 
 -- Fields ----------------------------------------------------------------------------------------
 
--- the switches that rebuild what a leaf took apart at and below a field
+-- what stands at a path of a pattern
+abbrev pub pattern_at : Option Pat → List ℕ → Option Pat
+pattern_at None path = None
+pattern_at (Some p) [] = Some p
+pattern_at (Some p) (i ∷ path) = pattern_at (slice_get (subpatterns (out-Pat p)) i) path
+
+abbrev pub provenance : Option Leaf → Option Pat
+provenance None = None
+provenance (Some leaf) = Some leaf.prov
+
+abbrev pub prov_at : List Layout → ℕ → ℕ → List ℕ → Option Pat
+prov_at layouts t leaf path = pattern_at (provenance (leaf_in (layout_of layouts t) leaf)) path
+
+-- the switches that rebuild what a leaf took apart at and below a path
 abbrev pub mend_pattern : List Layout → Option Pat → ℕ
 mend_pattern layouts None = 0
 mend_pattern layouts (Some p) = sum_by (λ (h : Head). choose_of layouts h.con.ty h.con.con) (heads_of p)
 
-abbrev pub mend_field : List Layout → Option Leaf → ℕ → ℕ
-mend_field layouts None field = 0
-mend_field layouts (Some leaf) field = mend_pattern layouts (slice_get (subpatterns (out-Pat leaf.prov)) field)
+abbrev pub mend_at : List Layout → ℕ → ℕ → List ℕ → ℕ
+mend_at layouts t leaf path = mend_pattern layouts (prov_at layouts t leaf path)
 
-abbrev pub mend_at : List Layout → ℕ → ℕ → ℕ → ℕ
-mend_at layouts t leaf field = mend_field layouts (leaf_in (layout_of layouts t) leaf) field
+-- and below it alone
+abbrev pub mend_inside : List Layout → Option Pat → ℕ
+mend_inside layouts None = 0
+mend_inside layouts (Some p) = sum_by (λ (h : Head). choose_of layouts h.con.ty h.con.con) (drop 1 (heads_of p))
 
--- and of the first so many fields
-abbrev pub mends_at : List Layout → ℕ → ℕ → ℕ → ℕ
-mends_at layouts t leaf zero = 0
-mends_at layouts t leaf (suc i) = mends_at layouts t leaf i + mend_at layouts t leaf i
+abbrev pub mend_below : List Layout → ℕ → ℕ → List ℕ → ℕ
+mend_below layouts t leaf path = mend_inside layouts (prov_at layouts t leaf path)
 
--- field of the constructor with which the leaf's provenance begins, of this type
-abbrev pub IsPositionOf : LaidOut → ℕ → ℕ → ℕ → Ty → Type 0
-IsPositionOf agreed t leaf field at =
-    (layout : Layout) × (found : Leaf) × (sub : Pat) × (layout_of agreed.layouts t ≡ Some layout) × (slice_get layout.leaves leaf ≡ Some found)
-    × (slice_get (subpatterns (out-Pat found.prov)) field ≡ Some sub) × (sub_pattern agreed.covered.program.types found.prov field ≡ Some (sub, at))
+-- and at and below the first so many fields of what stands there
+abbrev pub mends_at : List Layout → ℕ → ℕ → List ℕ → ℕ → ℕ
+mends_at layouts t leaf path zero = 0
+mends_at layouts t leaf path (suc i) = mends_at layouts t leaf path i + mend_at layouts t leaf (path ++ i ∷ [])
 
--- each value of the leaf has the field
-abbrev pub HasField : Plan → ℕ → ℕ → ℕ → Type 0
-HasField plan t leaf field =
-    (v : Value) (layout : Layout) → layout_of plan.layouts t ≡ Some layout → leaf_of layout v ≡ Some leaf → (part : Value) × (part_at v (field ∷ []) ≡ Some part)
+-- at a path of a pattern of a type stands one of this type
+abbrev pub HasBelow : List DataDecl → Ty → Pat → List ℕ → Ty → Type 0
+HasBelow types t pat path at = (sub : Pat) × (found_at types (Some (pat, t)) path ≡ Some (sub, at))
+
+-- at a path of the leaf's provenance
+abbrev pub IsPositionOf : LaidOut → ℕ → ℕ → List ℕ → Ty → Type 0
+IsPositionOf agreed t leaf path at =
+    (layout : Layout) × (found : Leaf) × (layout_of agreed.layouts t ≡ Some layout) × (slice_get layout.leaves leaf ≡ Some found)
+    × HasBelow agreed.covered.program.types (Named t) found.prov path at
+
+-- each value of the leaf has a part there
+abbrev pub HasPart : Plan → ℕ → ℕ → List ℕ → Type 0
+HasPart plan t leaf path =
+    (v : Value) (layout : Layout) → layout_of plan.layouts t ≡ Some layout → leaf_of layout v ≡ Some leaf → (part : Value) × (part_at v path ≡ Some part)
 
 -- the words in some slots represent a value of the type
 abbrev pub IsThere : Plan → Bool → ℕ → Value → List ℕ → List ℕ → Memory → Type 0
 IsThere plan clean t v words s m = IsGood m × Rep plan m clean (Named t) v (slots_at s words)
 
--- The appended code leaves the words of a field of a leaf in slots, each of which is new or one of the value's.
-pub record PartIsFetched (plan : Plan) (t leaf field : ℕ) (at : Ty) (words : List ℕ) (old new : Sheet) (slots : List ℕ) : Type 0 where
-  pub has : HasField plan t leaf field
+-- The appended code leaves the words of a part of a leaf in slots, each of which is new or one of the value's.
+pub record PartIsFetched (plan : Plan) (t leaf : ℕ) (path : List ℕ) (at : Ty) (words : List ℕ) (old new : Sheet) (slots : List ℕ) : Type 0 where
+  pub has : HasPart plan t leaf path
   pub adds : Adds plan old new
   pub given : AllBelow new.slots slots
   pub count : length slots ≡ words_of plan at
   pub origin : (x : ℕ) → IsOneOf x slots → (old.slots ≤ x) ⊎ IsOneOf x words
-  pub runs : (clean : Bool) (v part : Value) (layout : Layout) → layout_of plan.layouts t ≡ Some layout → leaf_of layout v ≡ Some leaf → part_at v (field ∷ []) ≡ Some part
-      → Piece plan old.slots old new Nowhere (mend_at plan.layouts t leaf field) (λ s m. IsThere plan clean t v words s m) (AtEnd new (λ s m. Rep plan m clean at part (slots_at s slots)))
+  pub runs : (clean : Bool) (v part : Value) (layout : Layout) → layout_of plan.layouts t ≡ Some layout → leaf_of layout v ≡ Some leaf → part_at v path ≡ Some part
+      → Piece plan old.slots old new Nowhere (mend_at plan.layouts t leaf path) (λ s m. IsThere plan clean t v words s m) (AtEnd new (λ s m. Rep plan m clean at part (slots_at s slots)))
 
-abbrev pub FetchesPart : LaidOut → ℕ → ℕ → ℕ → Ty → List ℕ → Sheet → Sheet → List ℕ → Type 0
-FetchesPart agreed t leaf field at words old new slots =
-    (plan : Plan) → IsPlanOf agreed plan → AllBelow old.slots words → length words ≡ words_of plan (Named t) → PartIsFetched plan t leaf field at words old new slots
+abbrev pub FetchesPart : LaidOut → ℕ → ℕ → List ℕ → Ty → List ℕ → Sheet → Sheet → List ℕ → Type 0
+FetchesPart agreed t leaf path at words old new slots =
+    (plan : Plan) → IsPlanOf agreed plan → AllBelow old.slots words → length words ≡ words_of plan (Named t) → PartIsFetched plan t leaf path at words old new slots
 
 -- Saving ----------------------------------------------------------------------------------------
 
@@ -114,19 +137,19 @@ FetchesPart agreed t leaf field at words old new slots =
 abbrev pub KeepsOthers : ℕ → List ℕ → List ℕ → List ℕ → Type 0
 KeepsOthers n dests s s' = (x : ℕ) → x < n → (IsOneOf x dests → ⊥) → slice_index s' x ≡ slice_index s x
 
--- The appended code leaves the words of a field of a leaf in the slots of a spot, and keeps all others.
-pub record PartIsSaved (plan : Plan) (n t leaf field : ℕ) (words : List ℕ) (spot : Spot) (old new : Sheet) : Type 0 where
-  pub has : HasField plan t leaf field
+-- The appended code leaves the words of a part of a leaf in the slots of a spot, and keeps all others.
+pub record PartIsSaved (plan : Plan) (n t leaf : ℕ) (path words : List ℕ) (spot : Spot) (old new : Sheet) : Type 0 where
+  pub has : HasPart plan t leaf path
   pub adds : Adds plan old new
   pub apart : AreApart spot.slots words
-  pub runs : (clean : Bool) (v part : Value) (layout : Layout) (s0 : List ℕ) → layout_of plan.layouts t ≡ Some layout → leaf_of layout v ≡ Some leaf → part_at v (field ∷ []) ≡ Some part
-      → Piece plan n old new Nowhere (mend_at plan.layouts t leaf field) (λ s m. (s ≡ s0) × IsThere plan clean t v words s m)
+  pub runs : (clean : Bool) (v part : Value) (layout : Layout) (s0 : List ℕ) → layout_of plan.layouts t ≡ Some layout → leaf_of layout v ≡ Some leaf → part_at v path ≡ Some part
+      → Piece plan n old new Nowhere (mend_at plan.layouts t leaf path) (λ s m. (s ≡ s0) × IsThere plan clean t v words s m)
       (AtEnd new (λ s m. KeepsOthers old.slots spot.slots s0 s × Rep plan m clean spot.ty part (slots_at s spot.slots)))
 
-abbrev pub SavesPart : LaidOut → ℕ → ℕ → ℕ → List ℕ → Spot → Sheet → Sheet → Type 0
-SavesPart agreed t leaf field words spot old new =
+abbrev pub SavesPart : LaidOut → ℕ → ℕ → List ℕ → List ℕ → Spot → Sheet → Sheet → Type 0
+SavesPart agreed t leaf path words spot old new =
     (plan : Plan) (n : ℕ) → IsPlanOf agreed plan → n ≤ old.slots → AllFrom n spot.slots → AllBelow old.slots spot.slots → IsDistinct spot.slots → length spot.slots ≡ words_of plan spot.ty
-    → AllBelow old.slots words → length words ≡ words_of plan (Named t) → PartIsSaved plan n t leaf field words spot old new
+    → AllBelow old.slots words → length words ≡ words_of plan (Named t) → PartIsSaved plan n t leaf path words spot old new
 
 -- the words of a part stand in slots, and these facts hold
 abbrev pub IsThereWith : Plan → Bool → ℕ → Value → Value → List ℕ → List Spot → List Known → List ℕ → Memory → Type 0
@@ -141,7 +164,7 @@ pub record Knows (plan : Plan) (n most t leaf : ℕ) (words : List ℕ) (spots :
 -- what the fields of some patterns cost, the first of which is field i
 abbrev pub mends_from : List Layout → ℕ → ℕ → List Pat → ℕ → ℕ
 mends_from layouts t leaf [] i = 0
-mends_from layouts t leaf (p ∷ ps) i = mend_at layouts t leaf i + mends_from layouts t leaf ps (i + 1)
+mends_from layouts t leaf (p ∷ ps) i = mend_at layouts t leaf (i ∷ []) + mends_from layouts t leaf ps (i + 1)
 
 -- at most so many switches in each plan
 abbrev pub Learns : LaidOut → (Plan → ℕ) → ℕ → ℕ → List ℕ → List Spot → List ℕ → List Known → List Known → Sheet → Sheet → Type 0
@@ -149,12 +172,21 @@ Learns agreed most t leaf words spots position known more old new =
     (plan : Plan) (n : ℕ) → IsPlanOf agreed plan → AreSpots plan n old.slots spots → AllBelow old.slots words → length words ≡ words_of plan (Named t)
     → Knows plan n (most plan) t leaf words spots position known more old new
 
-abbrev pub SavesField : LaidOut → ℕ → ℕ → List ℕ → List Spot → List ℕ → ℕ → List Known → List Known → Sheet → Sheet → Type 0
-SavesField agreed t leaf words spots position field = Learns agreed (λ plan. mend_at plan.layouts t leaf field) t leaf words spots position
+-- of a part, as many as a leaf and a path in it say
+abbrev pub LearnsOf : LaidOut → (List Layout → ℕ → ℕ → ℕ) → Source → List Known → List Known → Sheet → Sheet → Type 0
+LearnsOf agreed most source = Learns agreed (λ plan. most plan.layouts source.ty source.leaf) source.ty source.leaf source.words.now source.spots.now source.position.now
 
--- the first so many fields
-abbrev pub SavesSome : LaidOut → ℕ → ℕ → List ℕ → List Spot → List ℕ → ℕ → List Known → List Known → Sheet → Sheet → Type 0
-SavesSome agreed t leaf words spots position i = Learns agreed (λ plan. mends_at plan.layouts t leaf i) t leaf words spots position
+-- what stands at a path of the leaf
+abbrev pub SavesAt : LaidOut → Source → List ℕ → List Known → List Known → Sheet → Sheet → Type 0
+SavesAt agreed source path = LearnsOf agreed (λ layouts t leaf. mend_at layouts t leaf path) source
+
+-- what stands below it
+abbrev pub SavesBelow : LaidOut → Source → List ℕ → List Known → List Known → Sheet → Sheet → Type 0
+SavesBelow agreed source path = LearnsOf agreed (λ layouts t leaf. mend_below layouts t leaf path) source
+
+-- in the first so many fields
+abbrev pub SavesSome : LaidOut → Source → List ℕ → ℕ → List Known → List Known → Sheet → Sheet → Type 0
+SavesSome agreed source path i = LearnsOf agreed (λ layouts t leaf. mends_at layouts t leaf path i) source
 
 abbrev pub SavesFields : LaidOut → ℕ → ℕ → List ℕ → List Spot → List ℕ → List Known → List Known → Sheet → Sheet → Type 0
 SavesFields agreed t leaf words spots position = Learns agreed (λ plan. rebuilding plan.layouts (Named t)) t leaf words spots position

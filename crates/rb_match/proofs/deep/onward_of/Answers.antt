@@ -3,6 +3,7 @@ use Rattle.rb_match.specs.declared.deep.Onward.{Onward}
 use Rattle.rb_match.specs.declared.knowledge.Known.{Known}
 use Rattle.rb_match.specs.declared.knowledge.Known.TheVariants as K
 use Rattle.rb_match.specs.inner.Opening.{GoOn, LeadsFrom}
+use Rattle.rb_match.specs.inner.Threading.{AllFollow}
 use Rattle.rb_match.proofs.deep.onward_of.Goals as goal
 
 pub returns : goal.returns
@@ -12,11 +13,12 @@ returns c =
     let node = c.in-Some-link_of.node in
     let link = sym (sym c.link_of.ensures ∙ c.in-Some-link_of.is) in
     let facts : List Known = c.args.known.now ++ K.Leaf c.args.position.now c.args.ty c.args.leaf ∷ [] in
-    let found : Onward = record { node = c.in_ok-number_of.field-0; wanted = c.in_ok-wanted.wanted; saves = c.saves_some-saves.result } in
-    let lead : LeadsFrom agreed graph c.in_ok-facts.facts node c.in_ok-onward.onward = rw c.as_slice.ensures at c.in_ok-onward.ensures in
-    let leads : LeadsFrom agreed graph facts node c.in_ok-onward.onward = subst (λ fs. LeadsFrom agreed graph fs node c.in_ok-onward.onward) c.in_ok-facts.ensures lead in
+    let known = c.carried_onward.result in
+    let found : Onward = record { node = c.in_ok-number_of.field-0; saves = c.saves_at-saves.result; known = known } in
+    let leads : LeadsFrom agreed graph facts node c.in_ok-end.end = subst (λ fs. LeadsFrom agreed graph fs node c.in_ok-end.end) c.in_ok-facts.ensures c.in_ok-end.ensures.leads in
     record {
       con = c.in-Some.con;
       is_con = sym c.con_of.ensures ∙ c.in-Some.is;
       goes = subst (λ l. GoOn (LeadsFrom agreed graph facts) l (Some found)) link (subst (λ m. LeadsFrom agreed graph facts node m) (sym c.in_ok-number_of.ensures) leads);
+      shows = subst (λ fs. AllFollow agreed fs known) c.in_ok-facts.ensures (λ at of all. c.carried_onward.ensures at of (c.in_ok-end.ensures.known at of all));
     }

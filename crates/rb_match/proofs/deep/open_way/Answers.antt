@@ -4,19 +4,19 @@ use Rattle.rb_match.proofs.deep.open_way.Goals as goal
 
 pub returns-in_default : goal.returns-in_default
 returns-in_default c = record {
-  steps = skips_none c.args.agreed.now c.args.ty c.args.words.now c.args.spots.now c.args.known.now c.args.position.now c.args.holes.now c.args.leaf c.args.onward.now c.args.body.now c.args.edges c.in_default.is;
+  steps = skips_none c.args.agreed.now c.args.part.now.ty c.args.part.now.words.now c.args.part.now.spots.now c.args.part.now.position c.args.holes.now c.args.leaf c.args.onward.now c.args.body.now c.args.edges c.in_default.is;
 }
 
 pub returns-then-not-onward : goal.returns-then-not-onward
 returns-then-not-onward c =
     let shared : c.in-Some.onward.saves ≡ false = grind (arith, c.if-not-onward.true) in
     record {
-      steps = skips_shared c.args.agreed.now c.args.ty c.args.words.now c.args.spots.now c.args.known.now c.args.position.now c.args.holes.now c.args.leaf c.args.onward.now c.args.body.now c.args.edges c.in-Some.onward c.in-Some.is shared;
+      steps = skips_shared c.args.agreed.now c.args.part.now.ty c.args.part.now.words.now c.args.part.now.spots.now c.args.part.now.position c.args.holes.now c.args.leaf c.args.onward.now c.args.body.now c.args.edges c.in-Some.onward c.in-Some.is shared;
     }
 
 pub returns : goal.returns
 returns c =
     rw (c.in_ok-push-2.ensures.ok, c.in_ok-edge.ensures, c.as_slice.ensures, c.in_ok-push.ensures.ok, c.len-pc.ensures.value) (record {
-      steps = opens_way c.args.agreed.now c.args.ty c.args.words.now c.args.spots.now c.args.known.now c.args.position.now c.args.holes.now c.args.leaf c.args.onward.now c.args.body.now c.args.edges c.in-Some.onward c.save_fields.new.body c.in_ok-known-2.known c.requires
-          (rw c.in_ok-land_leaf.ensures at c.in_ok-known-2.ensures.grows) c.in-Some.is (rw (c.in_ok-land_leaf.ensures, c.in_ok-known.ensures) at c.in_ok-known-2.ensures.saves);
+      steps = opens_way c.args.agreed.now c.args.part.now.ty c.args.part.now.words.now c.args.part.now.spots.now c.args.part.now.position c.args.holes.now c.args.leaf c.args.onward.now c.args.body.now c.args.edges c.in-Some.onward c.save_fields.new.body c.in_ok-known-2.known c.requires
+          (rw c.in_ok-land_leaf.ensures at c.in_ok-known-2.ensures.grows) c.in-Some.is (rw (c.in_ok-land_leaf.ensures, c.in_ok-known.ensures, c.as_slice-told.ensures) at c.in_ok-known-2.ensures.saves);
     })

@@ -15,7 +15,7 @@ loop-leaf-init c =
       leads = (
         groups,
         c.in_ok-groups.ensures,
-        λ graph arms other. ways_lead c.args.agreed.now graph c.args.ty c.args.words.now c.args.spots.now c.args.known.now c.args.position.now arms other c.args.onward.now c.args.body.now found groups holes (rw c.as_slice.ensures at c.in_ok-holes.ensures.group),
+        λ graph arms other. ways_lead c.args.agreed.now graph c.args.part.now.ty c.args.part.now.words.now c.args.part.now.spots.now c.args.part.now.known.now c.args.part.now.position arms other c.args.onward.now c.args.body.now found groups holes (rw c.as_slice.ensures at c.in_ok-holes.ensures.group),
       );
       stands = (
         length found.code,
@@ -46,8 +46,8 @@ loop-leaf-preserved c =
         l.1,
         λ graph arms other plan n goes of are low count.
             let g = goes.each i (let z = goes.long in omega (arith, z, lt)) in
-            let lead = subst (LeadsLeaf c.args.agreed.now graph c.args.ty c.args.known.now c.args.position.now arms other i) (same_Some g.0 found (sym g.1 ∙ at)) g.2 in
-            step.leads graph arms other l.0 plan n c.args.body.now st.0 lead alone of are low count ways st.2 (l.2 graph arms other plan n goes of are low count),
+            let lead = subst (LeadsLeaf c.args.agreed.now graph c.args.part.now.ty c.args.part.now.known.now c.args.part.now.position arms other i) (same_Some g.0 found (sym g.1 ∙ at)) g.2 in
+            step.leads c.args.part.now.known.now graph arms other l.0 plan n c.args.body.now st.0 lead alone of are low count ways st.2 (l.2 graph arms other plan n goes of are low count),
       );
       stands = (st.0, st.1, step.stands c.args.body.now st.0 st.2);
     })
@@ -61,9 +61,9 @@ returns-in-None-clause-leads c =
     let edges = c.loop-leaf.edges in
     let end : c.loop-leaf.leaf ≡ length onward = omega (arith, c.loop-leaf-test.false, c.loop-leaf.auto.leaf-end) in
     let st = subst (λ i. StandBehind old holes i new edges) end c.loop-leaf.invariant.stands in
-    let l = subst (λ i. LeadsSome c.args.agreed.now c.args.ty c.args.words.now c.args.spots.now c.args.known.now c.args.position.now onward i old holes new edges) end c.loop-leaf.invariant.leads in
+    let l = subst (λ i. LeadsSome c.args.agreed.now c.args.part.now.ty c.args.part.now.words.now c.args.part.now.spots.now c.args.part.now.known.now c.args.part.now.position onward i old holes new edges) end c.loop-leaf.invariant.leads in
     rw (c.in-None.ensures, c.in_ok-shared.ensures) (λ graph arms other plan n goes of are low count.
-    ways_part c.args.nodes.now c.args.known.now holes (length onward) old new edges st.0 st.1 st.2 c.args.agreed.now graph c.args.ty c.args.words.now c.args.spots.now c.args.position.now arms other onward l.0 plan n refl l.1 goes of are
+    ways_part c.args.nodes.now c.args.part.now.known.now holes (length onward) old new edges st.0 st.1 st.2 c.args.agreed.now graph c.args.part.now.ty c.args.part.now.words.now c.args.part.now.spots.now c.args.part.now.position arms other onward l.0 plan n refl l.1 goes of are
     (l.2 graph arms other plan n goes of are low count))
 
 pub returns-in-None-clause-stands : goal.returns-in-None-clause-stands
@@ -75,7 +75,7 @@ returns-in-None-clause-stands c =
     let edges = c.loop-leaf.edges in
     let end : c.loop-leaf.leaf ≡ length onward = omega (arith, c.loop-leaf-test.false, c.loop-leaf.auto.leaf-end) in
     let st = subst (λ i. StandBehind old holes i new edges) end c.loop-leaf.invariant.stands in
-    rw (c.in-None.ensures, c.in_ok-shared.ensures) (ways_open c.args.nodes.now c.args.known.now holes (length onward) old new edges st.0 st.1 st.2 (rw c.as_slice-holes.ensures c.in_ok-holes.ensures.ways) st.2.grows)
+    rw (c.in-None.ensures, c.in_ok-shared.ensures) (ways_open c.args.nodes.now c.args.part.now.known.now holes (length onward) old new edges st.0 st.1 st.2 (rw c.as_slice-holes.ensures c.in_ok-holes.ensures.ways) st.2.grows)
 
 pub returns-in-None-clause-grows : goal.returns-in-None-clause-grows
 returns-in-None-clause-grows c = c.loop-leaf.invariant.stands.2.grows
