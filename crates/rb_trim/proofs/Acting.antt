@@ -1,5 +1,5 @@
 -- One instruction of a body and the one that stands for it do alike.
-use Rattle.std.proofs.Common.{◌≡◌, ℕ, ◌+◌, ◌%◌, ◌^◌, ◌<◌, ◌≤◌, ◌⊎◌, inl, inr, Bool, true, false, nat_eq, cond, List, [], ◌∷◌, map, length, Option, Some, None, refl, sym, subst, ap, ◌∙◌, arith}
+use Rattle.std.proofs.Common.{◌≡◌, ℕ, ◌+◌, ◌%◌, ◌^◌, ◌<◌, ◌≤◌, ◌⊎◌, inl, inr, Bool, true, false, nat_eq, cond, List, [], ◌∷◌, ◌++◌, map, length, Option, Some, None, refl, sym, subst, ap, ◌∙◌, arith}
 use Rattle.std.proofs.lemmas.List.{length-set, length-map}
 use Rattle.std.proofs.lemmas.List.Elements.{All-head, All-tail}
 use Rattle.std.specs.Prelude.{slice_get, slice_index, slice_set, IfSome, All}
@@ -34,25 +34,39 @@ fits_some None ds froms fits = absurd fits
 fits_some (Some f) ds froms fits = (f, refl, fits.1)
 
 -- a moved switch leads where the switch leads
-moved_target : (h : Hints) (arms : List SwitchArm) (other : Option ℕ) (word : ℕ) → target_of (map (λ (arm : SwitchArm). moved_arm h arm) arms) (landing_in h other) word ≡ landing_in h (target_of arms other word)
+pub moved_target : (h : Hints) (arms : List SwitchArm) (other : Option ℕ) (word : ℕ) → target_of (map (λ (arm : SwitchArm). moved_arm h arm) arms) (landing_in h other) word ≡ landing_in h (target_of arms other word)
 moved_target h [] other word = refl
 moved_target h (arm ∷ arms) other word =
     let more = moved_target h arms other word in
     let P : Bool → Type 0 = λ b. cond b (Some (landing h arm.target)) (target_of (map (λ (arm : SwitchArm). moved_arm h arm) arms) (landing_in h other) word) ≡ landing_in h (cond b (Some arm.target) (target_of arms other word)) in
     elim (nat_eq arm.number word) as P [ true ↦ refl | false ↦ more ]
 
-led : (P : ℕ → Type 0) (arms : List SwitchArm) (other : Option ℕ) (word t : ℕ) → All (λ (arm : SwitchArm). P arm.target) arms → IfSome other P → target_of arms other word ≡ Some t → P t
-led P [] other word t a o e = subst (λ (x : Option ℕ). IfSome x P) e o
-led P (arm ∷ arms) other word t a o e =
+pub led_to : (P : ℕ → Type 0) (arms : List SwitchArm) (other : Option ℕ) (word t : ℕ) → All (λ (arm : SwitchArm). P arm.target) arms → IfSome other P → target_of arms other word ≡ Some t → P t
+led_to P [] other word t a o e = subst (λ (x : Option ℕ). IfSome x P) e o
+led_to P (arm ∷ arms) other word t a o e =
     let Q : Bool → Type 0 = λ b. cond b (Some arm.target) (target_of arms other word) ≡ Some t → P t in
     (elim (nat_eq arm.number word) as Q [
       | true ↦ λ h. subst (λ (x : Option ℕ). IfSome x P) h (All-head (λ (arm : SwitchArm). P arm.target) arm arms a)
-      | false ↦ λ h. led P arms other word t (All-tail (λ (arm : SwitchArm). P arm.target) arm arms a) o h
+      | false ↦ λ h. led_to P arms other word t (All-tail (λ (arm : SwitchArm). P arm.target) arm arms a) o h
     ]) e
 
-switch_near : (h : Hints) (o : Option ℕ) (word : ℕ) (v w : World) (g k : ℕ → Outcome) → Near v w → ((t : ℕ) → o ≡ Some t → IsNoDearer (g (landing h t)) (k t)) → IsNoDearer (after_switch (landing_in h o) word v g) (after_switch o word w k)
+pub switch_near : (h : Hints) (o : Option ℕ) (word : ℕ) (v w : World) (g k : ℕ → Outcome) → Near v w → ((t : ℕ) → o ≡ Some t → IsNoDearer (g (landing h t)) (k t)) → IsNoDearer (after_switch (landing_in h o) word v g) (after_switch o word w k)
 switch_near h None word v w g k n e = over_near (Trapped (Unmatched word)) v w n
 switch_near h (Some t) word v w g k n e = e t refl
+
+-- of the arms of two switches the first one's are taken first
+pub first_or : (h : Hints) (P : ℕ → Type 0) (arms more : List SwitchArm) (other : Option ℕ) (t word : ℕ) → All (λ (arm : SwitchArm). P arm.target) arms
+    → ((u : ℕ) × P u × (target_of arms (Some t) word ≡ Some u) × (target_of (map (λ (arm : SwitchArm). moved_arm h arm) arms ++ more) other word ≡ Some (landing h u)))
+    ⊎ ((target_of arms (Some t) word ≡ Some t) × (target_of (map (λ (arm : SwitchArm). moved_arm h arm) arms ++ more) other word ≡ target_of more other word))
+first_or h P [] more other t word all = inr (refl, refl)
+first_or h P (arm ∷ arms) more other t word all =
+    let rest = first_or h P arms more other t word (All-tail (λ (arm : SwitchArm). P arm.target) arm arms all) in
+    let old = target_of arms (Some t) word in
+    let new = target_of (map (λ (arm : SwitchArm). moved_arm h arm) arms ++ more) other word in
+    let Q : Bool → Type 0 = λ b.
+    ((u : ℕ) × P u × (cond b (Some arm.target) old ≡ Some u) × (cond b (Some (landing h arm.target)) new ≡ Some (landing h u)))
+    ⊎ ((cond b (Some arm.target) old ≡ Some t) × (cond b (Some (landing h arm.target)) new ≡ target_of more other word)) in
+    elim (nat_eq arm.number word) as Q [ true ↦ inl (arm.target, All-head (λ (arm : SwitchArm). P arm.target) arm arms all, refl, refl) | false ↦ rest ]
 
 sets_one : (i : Instr) (a b : ℕ) → Sets i a → Sets i b → a ≡ b
 sets_one (Const d c) a b e f = sym e ∙ f
@@ -208,7 +222,7 @@ module _ (h : Hints) (apart : AreApart h) (funs : List CodeFun) (body : List Ins
       (subst (λ y. IsNoDearer (after_switch (target_of (map (λ (arm : SwitchArm). moved_arm h arm) arms) (landing_in h other) y) y (switched v) (λ t. next' t s' (switched v))) (act (Switch a other arms) next old pc s w)) (sym (named a m.0 m.2))
       (subst (λ o. IsNoDearer (after_switch o x (switched v) (λ t. next' t s' (switched v))) (act (Switch a other arms) next old pc s w)) (sym e)
       (switch_near h (target_of arms other x) x (switched v) (switched w) (λ t. next' t s' (switched v)) (λ t. next t s (switched w)) n1
-      (λ t is. go t (landing h t) s s' (switched w) (switched v) (inr (led J arms other x t leads.1 leads.0 is, refl)) (refl, refl) long long' (as_is (Switch a other arms) (λ n sets. sets)) n1))))
+      (λ t is. go t (landing h t) s s' (switched w) (switched v) (inr (led_to J arms other x t leads.1 leads.0 is, refl)) (refl, refl) long long' (as_is (Switch a other arms) (λ n sets. sets)) n1))))
   acts_alike (Call g ds froms) j m fit fit' call leads jumps go =
       let f : SlotsFit slots' (Call g m.0 m.1) = subst (λ (k : Instr). SlotsFit slots' k) m.2 fit' in
       let words = slots_at s froms in

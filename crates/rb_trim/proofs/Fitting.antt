@@ -1,8 +1,8 @@
 -- A shorter body is valid, and so are shorter functions together.
-use Rattle.std.proofs.Common.{◌≡◌, ◌≢◌, ℕ, zero, suc, ◌+◌, ◌-◌, ◌^◌, ◌<◌, inl, inr, List, [], ◌∷◌, ◌++◌, map, length, take, Option, Some, None, refl, sym, subst, ap, ◌∙◌, arith, length-append, get_or}
+use Rattle.std.proofs.Common.{◌≡◌, ◌≢◌, ℕ, zero, suc, ◌+◌, ◌^◌, ◌<◌, inl, inr, List, [], ◌∷◌, ◌++◌, map, length, take, Option, Some, None, refl, sym, subst, ap, ◌∙◌, arith, length-append, get_or}
 use Rattle.std.proofs.lemmas.Option.{slice_get_within, same_Some}
 use Rattle.std.proofs.lemmas.List.{get_or_default}
-use Rattle.std.proofs.lemmas.List.Elements.{All-head, All-tail, All-cons, All-nil}
+use Rattle.std.proofs.lemmas.List.Elements.{All-head, All-tail, All-cons, All-nil, All-append}
 use Rattle.std.specs.Prelude.{◌⊎◌, slice_get, All, Contains}
 use Rattle.rb_target.specs.Validity.{IsBounded, CallsFit, FitsCall, IsFine, IsLower, IsValid, IsValidFun}
 use Rattle.rb_target.specs.declared.instr.SwitchArm.{SwitchArm}
@@ -15,7 +15,7 @@ use Rattle.rb_trim.specs.declared.fact.Content.TheVariants.{Number, Same, Part, 
 use Rattle.rb_trim.specs.declared.fact.Fact.{Fact}
 use Rattle.rb_trim.specs.declared.hints.Hints.{Hints}
 use Rattle.rb_trim.specs.Trimming.{HasSameHead, IsTrimOf}
-use Rattle.rb_trim.specs.inner.Moving.{AreApart, IsApart, KeepParams, KeepsParam, AreDests, AreNames, IsDest, IsName, dead_at, facts_at, place, end, moved_arm, IsReached, Makes, IsWrite, IsRemade, IsMoved, IsLeftOut, EndsWell, LivesOn, JumpsOn, IsStep, HaveSameHeads, IsTrimmed}
+use Rattle.rb_trim.specs.inner.Moving.{AreApart, IsApart, KeepParams, KeepsParam, AreDests, AreNames, IsDest, IsName, dead_at, facts_at, place, end, moved_arm, IsReached, Makes, IsWrite, IsRemade, IsMoved, IsInto, IsFolded, Stands, IsSkipped, EndsWell, LivesOn, JumpsOn, IsStep, HaveSameHeads, IsTrimmed}
 use Rattle.rb_trim.specs.inner.Stepping.{LivesAt, JumpsOnAt, IsKnownOn, Steps, HaveOrigins, Walks, IsRanged, IsFit, AreTrimmed}
 use Rattle.rb_trim.proofs.Slots.{same_or}
 use Rattle.rb_trim.proofs.Whole.{past, trim_of}
@@ -119,13 +119,25 @@ module _ (h : Hints) (facts : List Fact) (body : List Instr) (pc : ℕ) where
     calls (Return froms) j m c1 =
         subst (CallsFit funs' results') (sym m.1) (names_long h facts pc froms m.0 m.2 ∙ c1 ∙ sym same)
 
+into_bounded : (h : Hints) (body : List Instr) (pc : ℕ) (i j : Instr) → IsInto h body pc i j → IsBounded i → IsBounded j
+into_bounded h body pc i j into b =
+    let was : IsBounded (Load into.slot into.base into.offset into.width) = subst IsBounded into.is b in
+    subst IsBounded (sym into.stands) was
+
+folded_bounded : (h : Hints) (body : List Instr) (pc : ℕ) (i j : Instr) (fold : IsFolded h body pc i j) → IsBounded i → IsBounded (Switch fold.from fold.other fold.more) → IsBounded j
+folded_bounded h body pc i j fold b more =
+    let was : IsBounded (Switch fold.slot (Some fold.target) fold.arms) = subst IsBounded fold.is b in
+    subst IsBounded (sym fold.stands)
+    (All-append (λ (arm : SwitchArm). arm.number < 2 ^ 64) (map (λ (arm : SwitchArm). moved_arm h arm) fold.arms) (map (λ (arm : SwitchArm). moved_arm h arm) fold.more)
+    (arms_bounded h fold.arms was) (arms_bounded h fold.more more))
+
 -- The walk
 
 module _ (h : Hints) (body : List Instr) where
   step_stays : (new more : List Instr) (pc : ℕ) (i : Instr) → IsStep h body new pc i → IsStep h body (new ++ more) pc i
   step_stays new more pc i step = record {
     stands = elim step.stands [
-      | inl kept ↦ inl (kept.0, get-append new more (place h pc) (slice_get_within new (place h pc) kept.0 kept.1) ∙ kept.1, kept.2, kept.3)
+      | inl kept ↦ inl (kept.0, get-append new more (place h pc) (slice_get_within new (place h pc) kept.0 kept.1) ∙ kept.1, kept.2)
       | inr out ↦ inr out
     ];
     ends = step.ends;
@@ -135,7 +147,7 @@ module _ (h : Hints) (body : List Instr) where
   step_new : (new more : List Instr) (pc : ℕ) (i : Instr) → Steps h body pc i new more → IsStep h body more pc i
   step_new new more pc i steps = record {
     stands = elim steps.stands [
-      | inl made ↦ inl (made.instr, ap (λ l. slice_get l (place h pc)) made.more ∙ ap (λ n. slice_get (new ++ made.instr ∷ []) n) made.here ∙ get-seam new made.instr [], made.moved, made.next)
+      | inl made ↦ inl (made.instr, ap (λ l. slice_get l (place h pc)) made.more ∙ ap (λ n. slice_get (new ++ made.instr ∷ []) n) made.here ∙ get-seam new made.instr [], made.for)
       | inr out ↦ inr out.0
     ];
     ends = steps.ends;
@@ -149,39 +161,28 @@ module _ (h : Hints) (body : List Instr) where
         | inr out ↦ subst (λ l. IsStep h body l at k) (sym out.1) old
       ]
 
-  origin_of : (new : List Instr) (j : Instr) (at : ℕ) (k : Instr) (pc : ℕ) (i : Instr) → HaveOrigins h body new → slice_get body pc ≡ Some i → IsMoved h (facts_at h pc) body pc i j → slice_get (new ++ j ∷ []) at ≡ Some k
-      → (pc : ℕ) × (i : Instr) × (slice_get body pc ≡ Some i) × IsMoved h (facts_at h pc) body pc i k
-  origin_of new j at k pc i origins is moved got =
+  origin_of : (new : List Instr) (j : Instr) (at : ℕ) (k : Instr) (pc : ℕ) (i : Instr) → HaveOrigins h body new → slice_get body pc ≡ Some i → Stands h body pc i j → slice_get (new ++ j ∷ []) at ≡ Some k
+      → (pc : ℕ) × (i : Instr) × (slice_get body pc ≡ Some i) × Stands h body pc i k
+  origin_of new j at k pc i origins is for got =
       elim (below_or at (length new)) [
         | inl lt ↦ origins at k (sym (get-append new (j ∷ []) at lt) ∙ got)
         | inr le ↦
             let lt : at < length (new ++ j ∷ []) = slice_get_within (new ++ j ∷ []) at k got in
             let here : at ≡ length new = omega (arith, le, lt, length-append new (j ∷ [])) in
             let same : j ≡ k = same_Some j k (sym (get-seam new j []) ∙ sym (ap (λ n. slice_get (new ++ j ∷ []) n) here) ∙ got) in
-            (pc, i, is, subst (λ (x : Instr). IsMoved h (facts_at h pc) body pc i x) same moved)
+            (pc, i, is, subst (λ (x : Instr). Stands h body pc i x) same for)
       ]
 
-  pub step_kept : (pc : ℕ) (i : Instr) (old new : List Instr) (here next behind : ℕ) (facts : List Fact) (j : Instr) → here ≡ place h pc → next ≡ place h behind → behind ≡ pc + 1 → here ≡ length old → next - here ≡ 1
-      → new ≡ old ++ j ∷ [] → facts ≡ facts_at h pc → IsMoved h facts body pc i j → EndsWell h pc i → IsKnownOn h pc i → Steps h body pc i old new
-  step_kept pc i old new here next behind facts j a b c d e f g m ends k = record {
-    stands = inl (record {
-      here = sym a ∙ d;
-      instr = j;
-      more = f;
-      moved = subst (λ fs. IsMoved h fs body pc i j) g m;
-      next = omega (arith, a, b ∙ ap (λ n. place h n) c, e);
-    });
+  pub step_kept : (pc : ℕ) (i : Instr) (old new : List Instr) (here : ℕ) (j : Instr) → here ≡ place h pc → here ≡ length old
+      → new ≡ old ++ j ∷ [] → Stands h body pc i j → EndsWell h pc i → IsKnownOn h pc i → Steps h body pc i old new
+  step_kept pc i old new here j a b c for ends k = record {
+    stands = inl (record { here = sym a ∙ b; instr = j; more = c; for = for });
     ends = ends;
     known = k;
   }
 
-  pub step_out : (pc : ℕ) (i : Instr) (old new : List Instr) (here next behind : ℕ) → here ≡ place h pc → next ≡ place h behind → behind ≡ pc + 1 → next ≡ here
-      → new ≡ old → (IsReached h pc → IsLeftOut h pc i) → EndsWell h pc i → IsKnownOn h pc i → Steps h body pc i old new
-  step_out pc i old new here next behind a b c e f m ends k = record {
-    stands = inr ((m, sym (b ∙ ap (λ n. place h n) c) ∙ e ∙ a), f);
-    ends = ends;
-    known = k;
-  }
+  pub step_out : (pc : ℕ) (i : Instr) (old new : List Instr) → new ≡ old → IsSkipped h pc i → EndsWell h pc i → IsKnownOn h pc i → Steps h body pc i old new
+  step_out pc i old new e out ends k = record { stands = inr (out, e); ends = ends; known = k }
 
   pub walks_none : Walks h body 0 []
   walks_none = record { steps = λ pc i lt is. absurd (omega (arith, lt)); origins = λ at j is. cc }
@@ -196,7 +197,7 @@ module _ (h : Hints) (body : List Instr) where
           subst (λ n. IsStep h body more n k) here (subst (λ (x : Instr). IsStep h body more count x) same (step_new new more count i steps))
     ];
     origins = λ at k got. elim steps.stands [
-      | inl made ↦ origin_of new made.instr at k count i walks.origins is made.moved (sym (ap (λ l. slice_get l at) made.more) ∙ got)
+      | inl made ↦ origin_of new made.instr at k count i walks.origins is made.for (sym (ap (λ l. slice_get l at) made.more) ∙ got)
       | inr out ↦ walks.origins at k (sym (ap (λ l. slice_get l at) out.1) ∙ got)
     ];
   }
@@ -210,10 +211,22 @@ module _ (f q : CodeFun) (h : Hints) (head : HasSameHead f q) (walks : Walks h f
       let old = valid.each from.0 from.1 from.2 in
       let each = (fit.each at (slice_get_within q.body at j is)).at j is in
       record {
-        bounded = bounded h (facts_at h from.0) f.body from.0 from.1 j from.3 old.bounded each.2;
+        bounded = elim from.3 [
+          | inl plain ↦ bounded h (facts_at h from.0) f.body from.0 from.1 j plain.1 old.bounded each.2
+          | inr merged ↦ elim merged [
+            | inl into ↦ into_bounded h f.body from.0 from.1 j into old.bounded
+            | inr fold ↦ folded_bounded h f.body from.0 from.1 j fold old.bounded (valid.each (end h fold.target) (Switch fold.from fold.other fold.more) fold.next).bounded
+          ]
+        ];
         slots = each.0;
         targets = each.1;
-        calls = calls h (facts_at h from.0) f.body from.0 funs funs' f.results q.results heads head.results (λ n k got. (valid.each n k got).calls) from.1 j from.3 old.calls;
+        calls = elim from.3 [
+          | inl plain ↦ calls h (facts_at h from.0) f.body from.0 funs funs' f.results q.results heads head.results (λ n k got. (valid.each n k got).calls) from.1 j plain.1 old.calls
+          | inr merged ↦ elim merged [
+            | inl into ↦ subst (CallsFit funs' q.results) (sym into.stands) tt
+            | inr fold ↦ subst (CallsFit funs' q.results) (sym fold.stands) tt
+          ]
+        ];
       }
 
   pub trimmed : AreApart h → KeepParams h f.params → place h 0 ≡ 0 → facts_at h 0 ≡ [] → IsReached h 0 → IsTrimmed f q

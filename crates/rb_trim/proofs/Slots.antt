@@ -1,5 +1,5 @@
 -- Slots under their new numbers.
-use Rattle.std.proofs.Common.{◌≡◌, ◌≢◌, Bool, true, false, not, ◌+◌, ℕ, zero, suc, ◌<◌, ◌≤◌, ◌⊎◌, inl, inr, List, [], ◌∷◌, length, refl, sym, subst, ap, ◌∙◌, arith, get_or-set_other, get_or-set_same}
+use Rattle.std.proofs.Common.{◌≡◌, ◌≢◌, Bool, true, false, not, ◌+◌, ℕ, zero, suc, ◌<◌, ◌≤◌, ◌⊎◌, inl, inr, List, [], ◌∷◌, ◌++◌, length, replicate, refl, sym, subst, ap, ◌∙◌, arith, get_or-set_other, get_or-set_same}
 use Rattle.std.proofs.lemmas.List.{length-set}
 use Rattle.std.proofs.lemmas.List.Elements.{All-head, All-tail}
 use Rattle.std.specs.Prelude.{IsTrue, ◌↔◌, slice_index, slice_set}
@@ -18,6 +18,17 @@ same_or zero zero = inl refl
 same_or zero (suc b) = inr (λ e. cc)
 same_or (suc a) zero = inr (λ e. cc)
 same_or (suc a) (suc b) = elim (same_or a b) [ inl e ↦ inl (ap suc e) | inr ne ↦ inr (λ e. ne (omega (arith, e))) ]
+
+pub zeros : (n k : ℕ) → slice_index (replicate {A = ℕ} n 0) k ≡ 0
+zeros zero k = refl
+zeros (suc n) zero = refl
+zeros (suc n) (suc k) = zeros n k
+
+-- slots past the end hold 0
+pub widened : (xs : List ℕ) (n k : ℕ) → slice_index (xs ++ replicate {A = ℕ} n 0) k ≡ slice_index xs k
+widened [] n k = zeros n k
+widened (x ∷ xs) n zero = refl
+widened (x ∷ xs) n (suc k) = widened xs n k
 
 -- some slots hold the same under their new numbers
 abbrev pub AgreeOn : Hints → (ℕ → Type 0) → List ℕ → List ℕ → Type 0

@@ -1,13 +1,15 @@
 -- From each instruction of a body on, the shorter body does alike.
-use Rattle.std.proofs.Common.{◌≡◌, ℕ, zero, suc, ◌+◌, ◌-◌, ◌<◌, ◌≤◌, ◌⊎◌, inl, inr, List, [], ◌∷◌, length, Option, Some, None, refl, sym, subst, ap, ◌∙◌, arith}
-use Rattle.std.proofs.lemmas.List.{length-set}
+use Rattle.std.proofs.Common.{◌≡◌, ℕ, zero, suc, ◌+◌, ◌-◌, ◌<◌, ◌≤◌, ◌⊎◌, inl, inr, List, [], ◌∷◌, ◌++◌, map, length, replicate, length-append, get_or-set_other, get_or-set_same, ◌≢◌, Option, Some, None, refl, sym, subst, ap, ◌∙◌, arith}
+use Rattle.std.proofs.lemmas.List.{length-set, length-replicate}
 use Rattle.std.proofs.lemmas.Option.{slice_get_within, same_Some}
-use Rattle.std.specs.Prelude.{slice_get, slice_index, slice_set, IfSome}
+use Rattle.std.specs.Prelude.{slice_get, slice_index, slice_set, IfSome, All}
 use Rattle.rb_bits.specs.Words.{take_of}
-use Rattle.rb_target.specs.Meaning.{World, Outcome, Next, Callee, act, over, taken, from, alu_of, after_load, slots_at}
+use Rattle.rb_bytes.specs.Memory.{load_of}
+use Rattle.rb_target.specs.Meaning.{World, Outcome, Next, Callee, act, over, taken, from, alu_of, after_load, after_switch, switched, target_of, slots_at}
 use Rattle.rb_target.specs.declared.outcome.End.TheVariants.{Returned}
 use Rattle.rb_target.specs.Laws.{Law}
 use Rattle.rb_target.specs.Validity.{IsTarget, TargetsFit, EndsInReturn, IsFine, IsValidFun}
+use Rattle.rb_target.specs.declared.instr.SwitchArm.{SwitchArm}
 use Rattle.rb_target.specs.declared.instr.Instr.{Instr}
 use Rattle.rb_target.specs.declared.instr.Instr.TheVariants.{Const, Copy, Alu, Take, Put, Load, Store, Place, Jump, Switch, Call, Return}
 use Rattle.rb_target.specs.declared.code.CodeFun.{CodeFun}
@@ -16,10 +18,10 @@ use Rattle.rb_trim.specs.declared.hints.Hints.{Hints}
 use Rattle.rb_trim.specs.Trimming.{IsNoDearer}
 use Rattle.rb_trim.specs.inner.Facts.{Hold, Turns}
 use Rattle.rb_trim.specs.inner.Following.{Sets}
-use Rattle.rb_trim.specs.inner.Moving.{IsUnread, IsReached, Agree, AreApart, AreNames, LivesOn, FallsOn, JumpsOn, GoesOn, EndsOn, facts_at, place, end, landing, IsIdle, IsJumped, Leads, IsKept, IsLeftOut, IsSkipped, IsStep}
-use Rattle.rb_trim.proofs.Outcomes.{Near, near_taken, near_behind, over_near}
-use Rattle.rb_trim.proofs.Slots.{AgreeOn, Borne, onward, set_unread, names_same}
-use Rattle.rb_trim.proofs.Acting.{CallsNear, Comes, acts_alike}
+use Rattle.rb_trim.specs.inner.Moving.{IsUnread, IsReached, IsPlain, IsRead, Agree, AreApart, IsDest, IsName, AreNames, IsMoved, IsCopied, IsInto, IsFolded, landing_in, moved_arm, LivesOn, FallsOn, JumpsOn, GoesOn, EndsOn, facts_at, place, end, landing, IsIdle, IsJumped, Leads, IsKept, IsLeftOut, IsSkipped, IsStep}
+use Rattle.rb_trim.proofs.Outcomes.{Near, near_taken, near_behind, over_near, load_near, near_switched, near_more}
+use Rattle.rb_trim.proofs.Slots.{AgreeOn, Borne, same_or, ever, widened, onward, set_agrees, set_unread, names_same}
+use Rattle.rb_trim.proofs.Acting.{CallsNear, Comes, acts_alike, moved_target, led_to, switch_near, first_or}
 
 get_some : (xs : List Instr) (k : ℕ) → k < length xs → (i : Instr) × (slice_get xs k ≡ Some i)
 get_some [] k lt = absurd (omega (arith, lt))
@@ -222,48 +224,48 @@ module _ (funs funs' : List CodeFun) (f q : CodeFun) (valid : IsValidFun funs f)
       (subst (λ n. IsNoDearer (over (Returned (slots_at s froms) n) v) (over (Returned (slots_at s froms) w.left) (taken w))) (sym near.left)
       (over_near (Returned (slots_at s froms) w.left) v (taken w) (near_behind v w near)))))
 
-  jumped : (pc t : ℕ) (j : Instr) → slice_get f.body pc ≡ Some (Jump t) → ((t : ℕ) → pc < t → t < length f.body → Both t) → IsReached h pc → IsJumped h f.body t j
+  jumped : (pc t : ℕ) (j : Instr) → slice_get f.body pc ≡ Some (Jump t) → ((t : ℕ) → pc < t → t < length f.body → Both t) → IsPlain h pc → IsReached h pc → IsJumped h f.body t j
       → (pc' : ℕ) (s s' : List ℕ) (v w : World) → Near v (taken w) → f.slots ≤ length s → q.slots ≤ length s' → Agree h pc s s' → Hold s w.memory (facts_at h pc)
       → IsNoDearer (act j (from q.body new) new pc' s' v) (from f.body old t s (taken w))
-  jumped pc t j is rest reached moved pc' s s' v w near long long' agree hold =
+  jumped pc t j is rest plain reached moved pc' s s' v w near long long' agree hold =
       let to : J pc (Jump t) t = led pc (Jump t) is in
       let agree1 : Agree h t s s' = onward h pc (Jump t) t s s' to.2.on.lives (jump_borne pc t s s' agree) in
       let hold1 : Hold s w.memory (facts_at h t) = holds_on pc (Jump t) t is to.2.on s s w (taken w) long hold (refl, refl) in
       elim moved [
         | inl e ↦
             subst (λ (k : Instr). IsNoDearer (act k (from q.body new) new pc' s' v) (from f.body old t s (taken w))) (sym e)
-            (goes_to pc t to.0 to.1 rest (to.2.comes reached) s' v long' s (taken w) near long agree1 hold1)
+            (goes_to pc t to.0 to.1 rest (to.2.comes plain reached) s' v long' s (taken w) near long agree1 hold1)
         | inr back ↦
             subst (λ (k : Instr). IsNoDearer (act k (from q.body new) new pc' s' v) (from f.body old t s (taken w))) (sym back.3)
             (goes_back pc t (rest t to.0 to.1).1 back.0 back.1 back.2 back.4 s' v s (taken w) near long agree1 hold1)
       ]
 
-  stays : (pc : ℕ) (i : Instr) → slice_get f.body pc ≡ Some i → ((t : ℕ) → pc < t → t < length f.body → Both t) → IsKept h f.body q.body pc i → IsReached h pc
+  stays : (pc : ℕ) (i : Instr) → slice_get f.body pc ≡ Some i → ((t : ℕ) → pc < t → t < length f.body → Both t) → (kept : IsKept h f.body q.body pc i) → IsPlain h pc → IsMoved h (facts_at h pc) f.body pc i kept.0 → place h (pc + 1) ≡ place h pc + 1 → IsReached h pc
       → (s' : List ℕ) (v : World) → q.slots ≤ length s' → (s : List ℕ) (w : World) → Near v w → f.slots ≤ length s → Agree h pc s s' → Hold s w.memory (facts_at h pc)
       → IsNoDearer (from q.body new (place h pc) s' v) (act i (from f.body old) old pc s (taken w))
-  stays pc i is rest kept reached s' v long' s w near long agree hold =
+  stays pc i is rest kept plain moved next_place reached s' v long' s w near long agree hold =
       let j = kept.0 in
       let fine : IsFine funs f pc i = valid.each pc i is in
       let fine' : IsFine funs' q (place h pc) j = valid'.each (place h pc) j kept.1 in
       subst (λ (o : Outcome). IsNoDearer o (act i (from f.body old) old pc s (taken w))) (sym (law'.step (place h pc) j s' v kept.1))
       (acts_alike h apart funs f.body f.results f.slots q.slots pc (place h pc) (facts_at h pc) new old calls (F pc i) (J pc i)
       (from q.body new) (from f.body old) s s' (taken v) (taken w) (near_taken v w near) long long' agree hold
-      i j kept.2 fine.slots fine'.slots fine.calls (led pc i is)
-      (λ t e moved to. jumped pc t j (is ∙ ap Some e) rest reached moved (place h pc) s s' (taken v) w (near_taken v w near) long long' agree hold)
+      i j moved fine.slots fine'.slots fine.calls (led pc i is)
+      (λ t e jump to. jumped pc t j (is ∙ ap Some e) rest plain reached jump (place h pc) s s' (taken v) w (near_taken v w near) long long' agree hold)
       (λ t t' s1 s1' w1 w1' comes turns long1 long1' agree1 near1. goes t t' s1 s1' w1 w1' comes turns long1 long1' agree1 near1))
     where
       goes : (t t' : ℕ) (s1 s1' : List ℕ) (w1 w1' : World) → Comes h pc (place h pc) (F pc i) (J pc i) t t' → Turns i s w.memory s1 w1.memory
           → f.slots ≤ length s1 → q.slots ≤ length s1' → AgreeOn h (Borne h pc i) s1 s1' → Near w1' w1 → IsNoDearer (from q.body new t' s1' w1') (from f.body old t s1 w1)
       goes t t' s1 s1' w1 w1' (inl falls) turns long1 long1' agree1 near1 =
           let to : F pc i t = falls.0 in
-          let there : t' ≡ place h t = falls.2 ∙ sym kept.3 ∙ ap (λ n. place h n) (sym falls.1) in
+          let there : t' ≡ place h t = falls.2 ∙ sym next_place ∙ ap (λ n. place h n) (sym falls.1) in
           subst (λ m. IsNoDearer (from q.body new m s1' w1') (from f.body old t s1 w1)) (sym there)
-          ((rest t to.0 to.1).0 (to.2.comes reached) s1' w1' long1' s1 w1 near1 long1 (onward h pc i t s1 s1' to.2.on.lives agree1)
+          ((rest t to.0 to.1).0 (to.2.comes plain reached) s1' w1' long1' s1 w1 near1 long1 (onward h pc i t s1 s1' to.2.on.lives agree1)
           (holds_on pc i t is to.2.on s s1 w w1 long hold turns))
       goes t t' s1 s1' w1 w1' (inr jumps) turns long1 long1' agree1 near1 =
           let to : J pc i t = jumps.0 in
           subst (λ m. IsNoDearer (from q.body new m s1' w1') (from f.body old t s1 w1)) (sym jumps.1)
-          (goes_to pc t to.0 to.1 rest (to.2.comes reached) s1' w1' long1' s1 w1 near1 long1 (onward h pc i t s1 s1' to.2.on.lives agree1)
+          (goes_to pc t to.0 to.1 rest (to.2.comes plain reached) s1' w1' long1' s1 w1 near1 long1 (onward h pc i t s1 s1' to.2.on.lives agree1)
           (holds_on pc i t is to.2.on s s1 w w1 long hold turns))
 
   skipped : (pc : ℕ) (i : Instr) → slice_get f.body pc ≡ Some i → ((t : ℕ) → pc < t → t < length f.body → Both t) → IsSkipped h pc i → FromHere pc
@@ -273,16 +275,178 @@ module _ (funs funs' : List CodeFun) (f q : CodeFun) (valid : IsValidFun funs f)
             let is' : slice_get f.body pc ≡ Some (Jump jump.0) = is ∙ ap Some jump.1 in
             let to : J pc (Jump jump.0) jump.0 = led pc (Jump jump.0) is' in
             subst (λ m. AtEnd pc s' v (from q.body new m s' v)) jump.2
-            (pass_jump pc jump.0 is' s' v (from q.body new (landing h jump.0) s' v) (goes_to pc jump.0 to.0 to.1 rest (to.2.comes reached) s' v long'))
+            (pass_jump pc jump.0 is' s' v (from q.body new (landing h jump.0) s' v) (goes_to pc jump.0 to.0 to.1 rest (to.2.comes skip.1 reached) s' v long'))
         | inr idle ↦
-            subst (λ m. AtEnd pc s' v (from q.body new m s' v)) skip.1
+            subst (λ m. AtEnd pc s' v (from q.body new m s' v)) skip.2
             (λ s w near long agree hold.
             subst (λ (p : Outcome). IsNoDearer (from q.body new (place h (pc + 1)) s' v) p) (sym (law.step pc i s w is))
             (idle_acts h f.slots pc (facts_at h pc) old (F pc i) (J pc i) (from f.body old) s s' (taken w) (from q.body new (place h (pc + 1)) s' v) long agree hold i idle (led pc i is)
             (λ to. to.2.on.lives)
-            (λ s1 to turns long1 agree1. (rest (pc + 1) to.0 to.1).0 (to.2.comes reached) s' v long' s1 (taken w) (near_behind v w near) long1 agree1
+            (λ s1 to turns long1 agree1. (rest (pc + 1) to.0 to.1).0 (to.2.comes skip.1 reached) s' v long' s1 (taken w) (near_behind v w near) long1 agree1
             (holds_on pc i (pc + 1) is to.2.on s s1 w (taken w) long hold turns))))
       ]
+
+  -- a load into the slot of a copy: both codes come to the copy, the new one as if the word stood past its slots, too
+  module _ (pc slot base offset width to to' base' : ℕ) (is : slice_get f.body pc ≡ Some (Load slot base offset width)) (is' : slice_get q.body (place h pc) ≡ Some (Load to' base' offset width))
+      (dest : IsDest h to to') (name : IsName h (facts_at h pc) pc base base') (copied : IsCopied h f.body (end h (pc + 1)) slot to) (next : place h (end h (pc + 1) + 1) ≡ place h pc + 1)
+      (rest : (t : ℕ) → pc < t → t < length f.body → Both t) (s' : List ℕ) (v : World) (long' : q.slots ≤ length s') where
+    abbrev pub here' : ℕ
+    here' = end h (pc + 1)
+
+    fits : (slot < f.slots) × (base < f.slots)
+    fits = (valid.each pc (Load slot base offset width) is).slots
+
+    fits' : (to' < q.slots) × (base' < q.slots)
+    fits' = (valid'.each (place h pc) (Load to' base' offset width) is').slots
+
+    -- where the word stands, too
+    abbrev pub wide : List ℕ
+    wide = s' ++ replicate {A = ℕ} (suc copied.name) 0
+
+    room : copied.name < length wide
+    room = omega (arith, length-append s' (replicate {A = ℕ} (suc copied.name) 0), length-replicate {A = ℕ} (suc copied.name) 0)
+
+    -- behind the copy
+    behind_copy : (x : ℕ) (s : List ℕ) → f.slots ≤ length s → Agree h here' s (slice_set wide copied.name x) → LivesOn h here' (Copy to copied.from) (here' + 1) → to < f.slots
+        → Agree h (here' + 1) (slice_set s to x) (slice_set s' to' x)
+    behind_copy x s long agree lives within k read =
+        elim (same_or slot k) [
+          | inl e ↦ absurd (copied.unread.by (subst (λ n. IsRead h (here' + 1) n) (sym e) read))
+          | inr ne ↦
+              set_agrees h apart (λ n. IsRead h here' n × (slot ≢ n)) to to' x s s' kept_apart dest (omega (arith, within, long)) (omega (arith, fits'.0, long')) k
+              (other_or ne (lives.by k read)) (ever h (here' + 1) k read)
+        ]
+      where
+        other_or : slot ≢ k → IsRead h here' k ⊎ Sets (Copy to copied.from) k → (IsRead h here' k × (slot ≢ k)) ⊎ (to ≡ k)
+        other_or ne (inl r) = inl (r, ne)
+        other_or ne (inr e) = inr e
+
+        kept_apart : AgreeOn h (λ n. IsRead h here' n × (slot ≢ n)) s s'
+        kept_apart n r e =
+            let off : slice_index h.names n ≢ copied.name = λ q. r.1 (sym copied.own.1 ∙ ap (λ m. slice_index h.origins m) (sym q) ∙ apart n e) in
+            sym (widened s' (suc copied.name) (slice_index h.names n)) ∙ sym (get_or-set_other wide copied.name (slice_index h.names n) x 0 off) ∙ agree n r.0
+
+    -- from the copy on
+    from_copy : (x : ℕ) → AtEnd here' (slice_set wide copied.name x) (taken v) (from q.body new (place h pc + 1) (slice_set s' to' x) (taken v))
+    from_copy x s w near long agree hold =
+        let at : slice_get f.body here' ≡ Some (Copy to copied.from) = copied.stands in
+        let falls : F here' (Copy to copied.from) (here' + 1) = led here' (Copy to copied.from) at in
+        let within : to < f.slots = (valid.each here' (Copy to copied.from) at).slots.0 in
+        let word : x ≡ slice_index s copied.from = sym (get_or-set_same wide copied.name x 0 room) ∙ copied.same.same s (slice_set wide copied.name x) w.memory agree hold in
+        let turns : Turns (Copy to copied.from) s w.memory (slice_set s to x) w.memory = (ap (λ y. slice_set s to y) word, refl) in
+        let back : pc + 1 ≤ here' = (passes_behind).0 in
+        subst (λ (p : Outcome). IsNoDearer (from q.body new (place h pc + 1) (slice_set s' to' x) (taken v)) p) (sym (law.step here' (Copy to copied.from) s w at))
+        (subst (λ y. IsNoDearer (from q.body new (place h pc + 1) (slice_set s' to' x) (taken v)) (from f.body old (here' + 1) (slice_set s to y) (taken w))) word
+        (subst (λ n. IsNoDearer (from q.body new n (slice_set s' to' x) (taken v)) (from f.body old (here' + 1) (slice_set s to x) (taken w))) next
+        ((rest (here' + 1) (omega (arith, back)) falls.1).0 copied.comes (slice_set s' to' x) (taken v) (omega (arith, long', length-set s' to' x))
+        (slice_set s to x) (taken w) (near_behind (taken v) w near) (omega (arith, long, length-set s to x))
+        (behind_copy x s long agree falls.2.on.lives within)
+        (holds_on here' (Copy to copied.from) (here' + 1) at falls.2.on s (slice_set s to x) w (taken w) long hold turns))))
+      where
+        passes_behind : Passes (pc + 1)
+        passes_behind = let behind : F pc (Load slot base offset width) (pc + 1) = led pc (Load slot base offset width) is in (rest (pc + 1) behind.0 behind.1).1
+
+    loads : AtEnd pc s' v (from q.body new (place h pc) s' v)
+    loads s w near long agree hold =
+        let old_word = load_of w.memory (slice_index s base) offset width in
+        let falls : F pc (Load slot base offset width) (pc + 1) = led pc (Load slot base offset width) is in
+        let e : load_of v.memory (slice_index s' base') offset width ≡ old_word =
+        ap (λ m. load_of m (slice_index s' base') offset width) near.memory ∙ ap (λ a. load_of w.memory a offset width) (name.same s s' w.memory agree hold) in
+        subst (λ (p : Outcome). IsNoDearer (from q.body new (place h pc) s' v) p) (sym (law.step pc (Load slot base offset width) s w is))
+        (subst (λ (p : Outcome). IsNoDearer p (act (Load slot base offset width) (from f.body old) old pc s (taken w))) (sym (law'.step (place h pc) (Load to' base' offset width) s' v is'))
+        (subst (λ r. IsNoDearer (after_load r (taken v) (λ x. from q.body new (place h pc + 1) (slice_set s' to' x) (taken v))) (act (Load slot base offset width) (from f.body old) old pc s (taken w))) (sym e)
+        (load_near old_word (taken v) (taken w) (λ x. from q.body new (place h pc + 1) (slice_set s' to' x) (taken v)) (λ x. from f.body old (pc + 1) (slice_set s slot x) (taken w)) (near_taken v w near)
+        (λ x loaded. (rest (pc + 1) falls.0 falls.1).1.2 (slice_set wide copied.name x) (taken v) (from q.body new (place h pc + 1) (slice_set s' to' x) (taken v)) (from_copy x)
+        (slice_set s slot x) (taken w) (near_taken v w near) (omega (arith, long, length-set s slot x))
+        (onward h pc (Load slot base offset width) (pc + 1) (slice_set s slot x) (slice_set wide copied.name x) falls.2.on.lives
+        (set_agrees h apart (λ n. IsRead h pc n) slot copied.name x s wide (λ n read ever. widened s' (suc copied.name) (slice_index h.names n) ∙ agree n read) copied.own (omega (arith, fits.0, long)) room))
+        (holds_on pc (Load slot base offset width) (pc + 1) is falls.2.on s (slice_set s slot x) w (taken w) long hold (x, loaded, refl, refl))))))
+
+  loads_into : (pc : ℕ) (i j : Instr) → slice_get f.body pc ≡ Some i → ((t : ℕ) → pc < t → t < length f.body → Both t) → slice_get q.body (place h pc) ≡ Some j → IsInto h f.body pc i j
+      → (s' : List ℕ) (v : World) → q.slots ≤ length s' → AtEnd pc s' v (from q.body new (place h pc) s' v)
+  loads_into pc i j is rest is' into s' v long' =
+      loads pc into.slot into.base into.offset into.width into.to into.to' into.base' (is ∙ ap Some into.is) (is' ∙ ap Some into.stands) into.dest into.name into.copied into.next rest s' v long'
+
+  -- a switch that has the arms of another, too
+  module _ (pc slot target : ℕ) (arms : List SwitchArm) (from_slot : ℕ) (other : Option ℕ) (more : List SwitchArm) (word : ℕ)
+      (is : slice_get f.body pc ≡ Some (Switch slot (Some target) arms)) (following : slice_get f.body (end h target) ≡ Some (Switch from_slot other more))
+      (is' : slice_get q.body (place h pc) ≡ Some (Switch word (landing_in h other) (map (λ (arm : SwitchArm). moved_arm h arm) arms ++ map (λ (arm : SwitchArm). moved_arm h arm) more)))
+      (name : IsName h (facts_at h pc) pc slot word) (same : IsName h (facts_at h (end h target)) (end h target) from_slot word)
+      (arms_come : All (λ (arm : SwitchArm). IsReached h (end h arm.target)) arms) (more_come : All (λ (arm : SwitchArm). IsReached h (end h arm.target)) more)
+      (other_comes : IfSome other (λ t. IsReached h (end h t)))
+      (rest : (t : ℕ) → pc < t → t < length f.body → Both t) (s' : List ℕ) (v : World) (long' : q.slots ≤ length s') where
+    abbrev pub then : ℕ
+    then = end h target
+
+    switch_borne : (u a : ℕ) (o : Option ℕ) (its : List SwitchArm) (s : List ℕ) → Agree h u s s' → AgreeOn h (Borne h u (Switch a o its)) s s'
+    switch_borne u a o its s agree k (inl read) e = agree k read
+    switch_borne u a o its s agree k (inr sets) e = absurd sets
+
+    -- where a switch leads
+    switched_to : (u a t : ℕ) (o : Option ℕ) (its : List SwitchArm) → slice_get f.body u ≡ Some (Switch a o its) → pc ≤ u → J u (Switch a o its) t × IsReached h (end h t)
+        → (v1 : World) (s : List ℕ) (w : World) → Near v1 (switched (taken w)) → f.slots ≤ length s → Agree h u s s' → Hold s w.memory (facts_at h u)
+        → IsNoDearer (from q.body new (landing h t) s' v1) (from f.body old t s (switched (taken w)))
+    switched_to u a t o its at le to v1 s w near long agree hold =
+        goes_to u t to.0.0 to.0.1 (λ n behind within. rest n (omega (arith, le, behind)) within) to.1 s' v1 long' s (switched (taken w)) near long
+        (onward h u (Switch a o its) t s s' to.0.2.on.lives (switch_borne u a o its s agree)) (holds_on u (Switch a o its) t at to.0.2.on s s w (switched (taken w)) long hold (refl, refl))
+
+    if_both : (P Q : ℕ → Type 0) (o : Option ℕ) → IfSome o P → IfSome o Q → IfSome o (λ t. P t × Q t)
+    if_both P Q None p r = p
+    if_both P Q (Some t) p r = (p, r)
+
+    leads : Leads (F pc (Switch slot (Some target) arms)) (J pc (Switch slot (Some target) arms)) (Switch slot (Some target) arms) pc
+    leads = led pc (Switch slot (Some target) arms) is
+
+    passes_on : Passes target
+    passes_on = (rest target leads.0.0 leads.0.1).1
+
+    -- the second switch
+    second : (v1 : World) → AtEnd then s' v1 (after_switch (target_of (map (λ (arm : SwitchArm). moved_arm h arm) more) (landing_in h other) (slice_index s' word)) (slice_index s' word) v1 (λ t. from q.body new t s' v1))
+    second v1 s w near long agree hold =
+        let x = slice_index s' word in
+        let e : slice_index s from_slot ≡ x = sym (same.same s s' w.memory agree hold) in
+        let i : Instr = Switch from_slot other more in
+        let ways : Leads (F then i) (J then i) i then = led then i following in
+        let near1 : Near v1 (switched (taken w)) = near_more v1 (taken w) (near_behind v1 w near) in
+        let P : ℕ → Type 0 = λ t. J then i t × IsReached h (end h t) in
+        let le : pc ≤ then = omega (arith, leads.0.0, passes_on.0) in
+        subst (λ (p : Outcome). IsNoDearer (after_switch (target_of (map (λ (arm : SwitchArm). moved_arm h arm) more) (landing_in h other) x) x v1 (λ t. from q.body new t s' v1)) p) (sym (law.step then i s w following))
+        (subst (λ y. IsNoDearer (after_switch (target_of (map (λ (arm : SwitchArm). moved_arm h arm) more) (landing_in h other) x) x v1 (λ t. from q.body new t s' v1)) (after_switch (target_of more other y) y (switched (taken w)) (λ t. from f.body old t s (switched (taken w))))) (sym e)
+        (subst (λ (o : Option ℕ). IsNoDearer (after_switch o x v1 (λ t. from q.body new t s' v1)) (after_switch (target_of more other x) x (switched (taken w)) (λ t. from f.body old t s (switched (taken w))))) (sym (moved_target h more other x))
+        (switch_near h (target_of more other x) x v1 (switched (taken w)) (λ t. from q.body new t s' v1) (λ t. from f.body old t s (switched (taken w))) near1
+        (λ t to. switched_to then from_slot t other more following le
+        (led_to P more other x t (λ k d lt. (ways.1 k d lt, more_come k d lt)) (if_both (J then i) (λ u. IsReached h (end h u)) other ways.0 other_comes) to) v1 s w near1 long agree hold))))
+
+    folds : AtEnd pc s' v (from q.body new (place h pc) s' v)
+    folds s w near long agree hold =
+        let x = slice_index s' word in
+        let e : slice_index s slot ≡ x = sym (name.same s s' w.memory agree hold) in
+        let i : Instr = Switch slot (Some target) arms in
+        let v1 = switched (taken v) in
+        let w1 = switched (taken w) in
+        let near1 : Near v1 w1 = near_switched (taken v) (taken w) (near_taken v w near) in
+        let both_arms = map (λ (arm : SwitchArm). moved_arm h arm) arms ++ map (λ (arm : SwitchArm). moved_arm h arm) more in
+        let P : ℕ → Type 0 = λ t. J pc i t × IsReached h (end h t) in
+        let onto : Agree h target s s' = onward h pc i target s s' leads.0.2.on.lives (switch_borne pc slot (Some target) arms s agree) in
+        let held : Hold s w.memory (facts_at h target) = holds_on pc i target is leads.0.2.on s s w w1 long hold (refl, refl) in
+        subst (λ (p : Outcome). IsNoDearer (from q.body new (place h pc) s' v) p) (sym (law.step pc i s w is))
+        (subst (λ (p : Outcome). IsNoDearer p (act i (from f.body old) old pc s (taken w))) (sym (law'.step (place h pc) (Switch word (landing_in h other) both_arms) s' v is'))
+        (subst (λ y. IsNoDearer (after_switch (target_of both_arms (landing_in h other) x) x v1 (λ t. from q.body new t s' v1)) (after_switch (target_of arms (Some target) y) y w1 (λ t. from f.body old t s w1))) (sym e)
+        (elim (first_or h P arms (map (λ (arm : SwitchArm). moved_arm h arm) more) (landing_in h other) target x (λ k d lt. (leads.1 k d lt, arms_come k d lt))) [
+          | inl hit ↦
+              subst (λ (o : Option ℕ). IsNoDearer (after_switch o x v1 (λ t. from q.body new t s' v1)) (after_switch (target_of arms (Some target) x) x w1 (λ t. from f.body old t s w1))) (sym hit.3)
+              (subst (λ (o : Option ℕ). IsNoDearer (from q.body new (landing h hit.0) s' v1) (after_switch o x w1 (λ t. from f.body old t s w1))) (sym hit.2)
+              (switched_to pc slot hit.0 (Some target) arms is (omega arith) hit.1 v1 s w near1 long agree hold))
+          | inr miss ↦
+              subst (λ (o : Option ℕ). IsNoDearer (after_switch o x v1 (λ t. from q.body new t s' v1)) (after_switch (target_of arms (Some target) x) x w1 (λ t. from f.body old t s w1))) (sym miss.1)
+              (subst (λ (o : Option ℕ). IsNoDearer (after_switch (target_of (map (λ (arm : SwitchArm). moved_arm h arm) more) (landing_in h other) x) x v1 (λ t. from q.body new t s' v1)) (after_switch o x w1 (λ t. from f.body old t s w1))) (sym miss.0)
+              (passes_on.2 s' v1 (after_switch (target_of (map (λ (arm : SwitchArm). moved_arm h arm) more) (landing_in h other) x) x v1 (λ t. from q.body new t s' v1)) (second v1) s w1 near1 long onto held))
+        ])))
+
+  folds_into : (pc : ℕ) (i j : Instr) → slice_get f.body pc ≡ Some i → ((t : ℕ) → pc < t → t < length f.body → Both t) → slice_get q.body (place h pc) ≡ Some j → IsFolded h f.body pc i j
+      → (s' : List ℕ) (v : World) → q.slots ≤ length s' → AtEnd pc s' v (from q.body new (place h pc) s' v)
+  folds_into pc i j is rest is' fold s' v long' =
+      folds pc fold.slot fold.target fold.arms fold.from fold.other fold.more fold.word (is ∙ ap Some fold.is) fold.next (is' ∙ ap Some fold.stands) fold.name fold.same fold.arms_come fold.more_come fold.other_comes rest s' v long'
 
   here : (pc : ℕ) → pc < length f.body → ((t : ℕ) → pc < t → t < length f.body → Both t) → Both pc
   here pc lt rest =
@@ -290,9 +454,15 @@ module _ (funs funs' : List CodeFun) (f q : CodeFun) (valid : IsValidFun funs f)
       let i = found.0 in
       let is : slice_get f.body pc ≡ Some i = found.1 in (
         λ reached s' v long'. elim (steps pc i is).stands [
-          | inl kept ↦ λ s w near long agree hold.
-              subst (λ (o : Outcome). IsNoDearer (from q.body new (place h pc) s' v) o) (sym (law.step pc i s w is))
-              (stays pc i is rest kept reached s' v long' s w near long agree hold)
+          | inl kept ↦ elim kept.2 [
+            | inl plain ↦ λ s w near long agree hold.
+                subst (λ (o : Outcome). IsNoDearer (from q.body new (place h pc) s' v) o) (sym (law.step pc i s w is))
+                (stays pc i is rest kept plain.0 plain.1 plain.2 reached s' v long' s w near long agree hold)
+            | inr merged ↦ elim merged [
+              | inl into ↦ loads_into pc i kept.0 is rest kept.1 into s' v long'
+              | inr folded ↦ folds_into pc i kept.0 is rest kept.1 folded s' v long'
+            ]
+          ]
           | inr skip ↦ skipped pc i is rest skip reached s' v long'
         ],
         passing pc i is (λ t behind within. (rest t behind within).1),

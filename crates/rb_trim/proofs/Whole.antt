@@ -18,6 +18,7 @@ use Rattle.rb_trim.specs.Trimming.{IsNoDearer, IsTrimOf}
 use Rattle.rb_trim.specs.inner.Facts.{Hold}
 use Rattle.rb_trim.specs.inner.Moving.{Agree, KeepParams, facts_at, place, IsTrimmed}
 use Rattle.rb_trim.proofs.Outcomes.{Near, over_near}
+use Rattle.rb_trim.proofs.Slots.{zeros}
 use Rattle.rb_trim.proofs.Acting.{CallsNear}
 use Rattle.rb_trim.proofs.Walking.{walk}
 
@@ -27,11 +28,6 @@ pub past : (xs : List ℕ) (k : ℕ) → length xs ≤ k → slice_index xs k �
 past [] k le = refl
 past (x ∷ xs) zero le = absurd (omega (arith, le))
 past (x ∷ xs) (suc k) le = past xs k (omega (arith, le))
-
-zeros : (n k : ℕ) → slice_index (replicate {A = ℕ} n 0) k ≡ 0
-zeros zero k = refl
-zeros (suc n) zero = refl
-zeros (suc n) (suc k) = zeros n k
 
 -- behind the words all slots begin as 0
 zero_behind : (words : List ℕ) (n k : ℕ) → length words ≤ k → slice_index (words ++ replicate {A = ℕ} n 0) k ≡ 0

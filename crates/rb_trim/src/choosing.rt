@@ -10,6 +10,9 @@ use rb_target::code::CodeFun;
 use rb_target::instr::{Instr, SwitchArm};
 use std::alloc::{AllocError, Global};
 
+// How many arms a switch takes at most from the one behind it.
+const MOST_ARMS: usize = 12;
+
 // What is wanted of a body, and what is read: for each instruction 1 where it is wanted, slots that are not read from
 // there on though a later line reads them, and where a jump to it goes on; for each slot one more than the number of the
 // last instruction that reads it.
@@ -22,7 +25,7 @@ pub(crate) struct Rest {
 }
 
 // Puts a number in a place, where there is one.
-fn put(numbers: &mut Seq<usize>, i: usize, number: usize) {
+pub(crate) fn put(numbers: &mut Seq<usize>, i: usize, number: usize) {
     if i < numbers.len() {
         let _old = numbers.replace(i, number);
     }
@@ -159,6 +162,104 @@ fn choose_one(
     Ok(())
 }
 
+// For each instruction 1 where another one may jump to it.
+fn targets(alloc: Global, body: &[Instr]) -> Result<Seq<usize>, AllocError> {
+    let same = numbers(alloc, body.len(), 0, 1)?;
+    let mut met = numbers(alloc, body.len(), 0, 0)?;
+    for instr in body {
+        match instr {
+            Instr::Jump(target) => put(&mut met, *target, 1),
+            Instr::Switch(_, other, arms) => {
+                reach_targets(&mut met, same.as_slice(), *other, arms.as_slice());
+            }
+            Instr::Const(..)
+            | Instr::Copy(..)
+            | Instr::Alu(..)
+            | Instr::Take(..)
+            | Instr::Put(..)
+            | Instr::Load(..)
+            | Instr::Store(..)
+            | Instr::Place(..)
+            | Instr::Call(..)
+            | Instr::Return(_) => {}
+        }
+    }
+    Ok(met)
+}
+
+// Whether an instruction copies a slot that is not read from there on.
+fn takes_over(rest: &Rest, facts: &[Seq<Fact>], body: &[Instr], at: usize, slot: usize) -> bool {
+    let Some(Instr::Copy(_, from)) = body.get(at) else {
+        return false;
+    };
+    number_at(rest.wanted.as_slice(), at) > 0
+        && source(facts_at(facts, at), *from) == slot
+        && !is_read(rest, at.saturating_add(1), slot)
+}
+
+// Whether the other way of a switch leads to a switch with few arms on the same word.
+fn leads_on(
+    rest: &Rest,
+    facts: &[Seq<Fact>],
+    body: &[Instr],
+    pc: usize,
+    slot: usize,
+    target: usize,
+) -> bool {
+    let at = number_at(rest.ends.as_slice(), target);
+    let Some(Instr::Switch(from, _, arms)) = body.get(at) else {
+        return false;
+    };
+    arms.len() <= MOST_ARMS
+        && source(facts_at(facts, at), *from) == source(facts_at(facts, pc), slot)
+}
+
+// For each instruction 1 where one instruction stands for it and another: a load of a word that is copied right behind,
+// and read by nothing else, and a switch whose other way leads to one on the same word.
+pub(crate) fn give(
+    alloc: Global,
+    body: &[Instr],
+    facts: &[Seq<Fact>],
+    rest: &Rest,
+) -> Result<Seq<usize>, AllocError> {
+    let mut given = numbers(alloc, body.len(), 0, 0)?;
+    let met = targets(alloc, body)?;
+    // the last instruction to which another one jumps, or 0
+    let mut last = 0;
+    let mut lasts = Seq::new(alloc);
+    for (pc, is_met) in met.as_slice().iter().enumerate() {
+        if *is_met > 0 {
+            last = pc;
+        }
+        lasts.push(last)?;
+    }
+    for (pc, instr) in body.iter().enumerate() {
+        if let Instr::Switch(slot, Some(target), _) = instr {
+            if leads_on(rest, facts, body, pc, *slot, *target) {
+                put(&mut given, pc, 1);
+            }
+        }
+        if let Instr::Load(slot, ..) = instr {
+            let at = number_at(rest.ends.as_slice(), pc.saturating_add(1));
+            let is_straight = number_at(lasts.as_slice(), at) <= pc;
+            if is_straight && takes_over(rest, facts, body, at, *slot) {
+                put(&mut given, pc, 1);
+            }
+        }
+    }
+    Ok(given)
+}
+
+// Takes back that an instruction stands with another where no run comes to it: of three switches on one word, each behind
+// the other way of the one before, the second one is left out, so that it cannot stand with the third.
+pub(crate) fn clear_unreached(given: &mut Seq<usize>, reached: &[usize]) {
+    for (pc, is_reached) in reached.iter().enumerate() {
+        if *is_reached == 0 {
+            put(given, pc, 0);
+        }
+    }
+}
+
 // From the last instruction back, what is wanted.
 pub(crate) fn choose(
     alloc: Global,
@@ -177,7 +278,7 @@ pub(crate) fn choose(
         ends: numbers(alloc, body.len(), 0, 1)?,
         reads: numbers(alloc, fun.slots, 0, 0)?,
     };
-    let met = reach(alloc, body, rest.ends.as_slice())?;
+    let met = reach(alloc, body, rest.ends.as_slice(), &[])?;
     for (pc, instr) in body.iter().enumerate().rev() {
         let known = facts_at(facts, pc);
         let slots = slots_at(late, pc);
@@ -187,11 +288,37 @@ pub(crate) fn choose(
     Ok(rest)
 }
 
+// A run may come to where it goes on from a switch's targets.
+fn reach_targets(
+    reached: &mut Seq<usize>,
+    ends: &[usize],
+    other: Option<usize>,
+    arms: &[SwitchArm],
+) {
+    for arm in arms {
+        put(reached, number_at(ends, arm.target), 1);
+    }
+    if let Some(target) = other {
+        put(reached, number_at(ends, target), 1);
+    }
+}
+
+// A run may come to the targets of the switch to which another one's other way leads.
+fn reach_next(reached: &mut Seq<usize>, body: &[Instr], ends: &[usize], other: Option<usize>) {
+    let Some(target) = other else {
+        return;
+    };
+    if let Some(Instr::Switch(_, other, arms)) = body.get(number_at(ends, target)) {
+        reach_targets(reached, ends, *other, arms.as_slice());
+    }
+}
+
 // For each instruction 1 where a run may come to it.
 pub(crate) fn reach(
     alloc: Global,
     body: &[Instr],
     ends: &[usize],
+    given: &[usize],
 ) -> Result<Seq<usize>, AllocError> {
     let mut reached = numbers(alloc, body.len(), 0, 0)?;
     put(&mut reached, 0, 1);
@@ -200,11 +327,11 @@ pub(crate) fn reach(
             match instr {
                 Instr::Jump(target) => put(&mut reached, number_at(ends, *target), 1),
                 Instr::Switch(_, other, arms) => {
-                    for arm in arms.as_slice() {
-                        put(&mut reached, number_at(ends, arm.target), 1);
-                    }
-                    if let Some(target) = other {
-                        put(&mut reached, number_at(ends, *target), 1);
+                    let is_folded = number_at(given, pc) > 0;
+                    let way = if is_folded { None } else { *other };
+                    reach_targets(&mut reached, ends, way, arms.as_slice());
+                    if is_folded {
+                        reach_next(&mut reached, body, ends, *other);
                     }
                 }
                 Instr::Return(_) => {}
@@ -216,7 +343,15 @@ pub(crate) fn reach(
                 | Instr::Load(..)
                 | Instr::Store(..)
                 | Instr::Place(..)
-                | Instr::Call(..) => put(&mut reached, pc.saturating_add(1), 1),
+                | Instr::Call(..) => {
+                    let behind = pc.saturating_add(1);
+                    if number_at(given, pc) > 0 {
+                        let copy = number_at(ends, behind);
+                        put(&mut reached, copy.saturating_add(1), 1);
+                    } else {
+                        put(&mut reached, behind, 1);
+                    }
+                }
             }
         }
     }
@@ -261,18 +396,30 @@ pub(crate) fn stays(
     Ok(stay)
 }
 
-// For each slot 1 where an instruction that stays writes it.
+// For each slot 1 where an instruction that stays writes it, and 2 where only loads would that write another slot.
 pub(crate) fn used(
     alloc: Global,
     fun: &CodeFun,
     rest: &Rest,
     reached: &[usize],
+    given: &[usize],
 ) -> Result<Seq<usize>, AllocError> {
     let mut uses = numbers(alloc, fun.slots, 0, 0)?;
-    for (pc, instr) in fun.body.as_slice().iter().enumerate() {
+    let body = fun.body.as_slice();
+    for (pc, instr) in body.iter().enumerate() {
         if number_at(reached, pc) > 0 && number_at(rest.wanted.as_slice(), pc) > 0 {
             if let Some(slot) = set_by(instr) {
-                put(&mut uses, slot, 1);
+                if number_at(given, pc) == 0 {
+                    put(&mut uses, slot, 1);
+                } else {
+                    if number_at(uses.as_slice(), slot) == 0 {
+                        put(&mut uses, slot, 2);
+                    }
+                    let at = number_at(rest.ends.as_slice(), pc.saturating_add(1));
+                    if let Some(to) = body.get(at).and_then(set_by) {
+                        put(&mut uses, to, 1);
+                    }
+                }
             }
             if let Instr::Call(_, dests, _) = instr {
                 for dest in dests.as_slice() {

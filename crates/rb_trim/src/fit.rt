@@ -80,6 +80,7 @@ fn is_ranged(instr: &Instr) -> bool
 {
     match instr {
         Instr::Const(_, number) => {
+            // Its type bounds it, once it is read.
             let _number = *number;
             true
         }

@@ -13,14 +13,19 @@ pub struct Hints {
     pub ends: Seq<usize>,
     /// For each instruction 1 where a run may come to it, and 0 where none does.
     pub reached: Seq<usize>,
+    /// For each instruction 1 where one instruction stands for it and for another behind it, else 0.
+    pub given: Seq<usize>,
     /// For each instruction what is known before it.
     pub facts: Seq<Seq<Fact>>,
     /// For each instruction some slots that no way from there on reads, though a later line may.
     pub dead: Seq<Seq<usize>>,
     /// For each slot one more than the number of the last instruction that reads it; 0 where none does.
     pub reads: Seq<usize>,
-    /// The new number of each slot.
+    /// How many slots the shorter body has.
+    pub slots: usize,
+    /// The new number of each slot: past the shorter body's slots where only loads would write it that write another
+    /// one now, and 0 where nothing writes or reads it.
     pub names: Seq<usize>,
-    /// For each new number the slot.
+    /// For each new number the slot, and behind them those of the slots past the shorter body's.
     pub origins: Seq<usize>,
 }

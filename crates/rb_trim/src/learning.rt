@@ -8,7 +8,7 @@ use rb_target::instr::Instr;
 use std::alloc::{AllocError, Global};
 
 /// How many facts are kept at most at a place, the newest ones, and how many slots.
-const MOST: usize = 12;
+pub(crate) const MOST: usize = 12;
 
 // So many numbers from this one on, each as much more than the one before.
 pub(crate) fn numbers(

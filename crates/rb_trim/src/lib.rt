@@ -2,35 +2,36 @@
 //!
 //! Code that is emitted part by part makes an address again for each field of a block, and makes words that nothing
 //! reads. [`trim::trim`] leaves such instructions out. Take the two reads of a list's block, whose pointer stands in
-//! bits 3 to 64 of slot 0:
+//! bits 3 to 64 of slot 0, so that the address is the word without its lowest bits:
 //!
 //! ```text
-//! take 3 0 3 61
-//! const 4 8
-//! alu mul 64 5 3 4
-//! load 6 5 0 64
-//! take 7 0 3 61
-//! const 8 8
-//! alu mul 64 9 7 8
-//! load 10 9 8 64
+//! const 1 18446744073709551608
+//! alu and 64 2 0 1
+//! load 3 2 0 64
+//! const 4 18446744073709551608
+//! alu and 64 5 0 4
+//! load 6 5 8 64
 //! ```
 //!
-//! Before each instruction some *facts* are known (`fact`): behind the first, that slot 3 holds bits 3 to 64 of slot
-//! 0. The fifth makes the same, so behind it slot 7 is known to hold the word of slot 3. What would read slot 7 reads
-//! slot 3, and since nothing reads slot 7 then, the instruction is *idle*, and so are the next two. The rest gets new
-//! numbers, instructions and slots:
+//! Before each instruction some *facts* are known (`fact`): behind the first, that slot 1 holds the number. The fourth
+//! makes the same, so behind it slot 4 is known to hold the word of slot 1, and behind the fifth slot 5 that of slot 2.
+//! What would read slot 5 reads slot 2, and since nothing reads slots 4 and 5 then, the two instructions are *idle*.
+//! The rest gets new numbers, instructions and slots:
 //!
 //! ```text
-//! take 3 0 3 61
-//! const 4 8
-//! alu mul 64 5 3 4
-//! load 6 5 0 64
-//! load 7 5 8 64
+//! const 1 18446744073709551608
+//! alu and 64 2 0 1
+//! load 3 2 0 64
+//! load 4 2 8 64
 //! ```
 //!
 //! What an instruction makes is *told* by what is known (`telling`): all bits that a word can have are the word itself,
 //! bits of bits are bits of the first word, bits of a number are a number, and bits put over all that a slot can hold
-//! are all of it. So `const 1 0`, `take 2 0 8 4`, `put 1 2 0 4` becomes `take 1 0 8 4`.
+//! are all of it. So `const 4 0`, `take 5 2 2 62`, `put 4 5 0 32` becomes `take 4 2 2 32`.
+//!
+//! A word that is copied is made anew where that takes no memory. A load whose word is copied right behind, and read by
+//! nothing else, makes it in the copy's slot (`giving`): `load 10 9 4 32`, `copy 4 10` becomes `load 4 9 4 32`.
+//! A switch whose other way leads to a switch on the same word has the arms of both (`folding`).
 //!
 //! A load is idle only where its word is known, since another one could be astray. A jump is idle where all that
 //! stands between it and its target is left out. A jump to a jump goes where that goes, and one to a return returns;
@@ -52,6 +53,8 @@
 mod choosing;
 mod fact;
 mod fit;
+mod folding;
+mod giving;
 mod guess;
 mod hints;
 mod knowing;

@@ -1,7 +1,7 @@
 //! The instructions that stand for others, under new numbers.
 
 ghost use Rattle.std.specs.Prelude.{◌≡◌, ◌↔◌, IfOk, IsTrue, Contains, map, slice_index};
-ghost use Rattle.rb_trim.specs.inner.Moving.{dead_at, end, facts_at, moved_arm, place, landing, landing_in, IsRead, IsDest, IsName, AreDests, AreNames, IsWrite, IsRemade, IsJumped, IsPut, IsMoved};
+ghost use Rattle.rb_trim.specs.inner.Moving.{dead_at, end, facts_at, moved_arm, place, landing, landing_in, IsReached, IsPlain, IsRead, IsDest, IsName, AreDests, AreNames, IsWrite, IsRemade, IsJumped, IsPut, IsMoved};
 
 use crate::fact::{Content, Fact};
 use crate::hints::Hints;
@@ -99,6 +99,20 @@ pub(crate) fn end_at(hints: &Hints, pc: usize) -> usize
     number_at(hints.ends.as_slice(), pc)
 }
 
+// Whether a run may come to an instruction.
+pub(crate) fn is_reached(hints: &Hints, pc: usize) -> bool
+    ensures { IsTrue result ↔ IsReached hints.now pc }
+{
+    number_at(hints.reached.as_slice(), pc) > 0
+}
+
+// Whether an instruction stands for no other one behind it.
+pub(crate) fn is_plain(hints: &Hints, pc: usize) -> bool
+    ensures { IsTrue result ↔ IsPlain hints.now pc }
+{
+    number_at(hints.given.as_slice(), pc) == 0
+}
+
 // The new number of an instruction, or of one behind it that is left.
 pub(crate) fn place_at(hints: &Hints, pc: usize) -> usize
     ensures { result ≡ place hints.now pc }
@@ -114,7 +128,7 @@ fn landing_at(hints: &Hints, pc: usize) -> usize
 }
 
 // The new number of a slot that is written.
-fn dest(hints: &Hints, slot: usize) -> Result<usize, Stop>
+pub(crate) fn dest(hints: &Hints, slot: usize) -> Result<usize, Stop>
     ensures { IfOk result (λ d. IsDest hints.now slot d) }
 {
     let new = name_at(hints, slot);
@@ -126,7 +140,7 @@ fn dest(hints: &Hints, slot: usize) -> Result<usize, Stop>
 }
 
 // The new number of a slot that is read, or of one that is known to hold the same word.
-fn name(hints: &Hints, facts: &[Fact], pc: usize, slot: usize) -> Result<usize, Stop>
+pub(crate) fn name(hints: &Hints, facts: &[Fact], pc: usize, slot: usize) -> Result<usize, Stop>
     ensures { IfOk result (λ a. IsName hints.now facts.now pc slot a) }
 {
     let from = source(facts, slot);
@@ -167,7 +181,7 @@ fn names(
     Ok(new)
 }
 
-fn other_landing(hints: &Hints, other: Option<usize>) -> Option<usize>
+pub(crate) fn other_landing(hints: &Hints, other: Option<usize>) -> Option<usize>
     ensures { result ≡ landing_in hints.now other }
 {
     match other {
@@ -177,7 +191,11 @@ fn other_landing(hints: &Hints, other: Option<usize>) -> Option<usize>
 }
 
 // A switch's arms with their new targets.
-fn arms_of(alloc: Global, hints: &Hints, arms: &[SwitchArm]) -> Result<Seq<SwitchArm>, AllocError>
+pub(crate) fn arms_of(
+    alloc: Global,
+    hints: &Hints,
+    arms: &[SwitchArm],
+) -> Result<Seq<SwitchArm>, AllocError>
     ensures { IfOk result (λ new. new ≡ map (λ arm. moved_arm hints.now arm) arms.now) }
 {
     let mut new = Seq::new(alloc);

@@ -2,25 +2,22 @@
 
 ghost use Rattle.std.specs.Prelude.{◌≡◌, ◌⊎◌, ◌+◌, ◌<◌, ◌↔◌, ℕ, OnOk, IfOk, IsTrue, Contains, length, slice_get, All, IfSome};
 ghost use Rattle.rb_target.specs.declared.instr.SwitchArm.{SwitchArm as SwitchArmDecl};
-ghost use Rattle.rb_trim.specs.inner.Moving.{facts_at, dead_at, end, place, IsUnread, IsReached, IsIdle, IsLeftOut, LivesOn, GoesOn, FallsOn, JumpsOn, EndsWell};
+ghost use Rattle.rb_trim.specs.inner.Moving.{facts_at, dead_at, end, place, IsUnread, IsReached, IsPlain, IsIdle, IsLeftOut, LivesOn, GoesOn, FallsOn, JumpsOn, EndsWell, IsSkipped, IsMerged, Stands};
 ghost use Rattle.rb_trim.specs.inner.Following.{IsLoaded, Sets};
 ghost use Rattle.rb_trim.specs.inner.Stepping.{JumpsOnAt, LivesAt, IsKnownOn, Steps, Walks};
 
 use crate::fact::{Content, Fact};
+use crate::folding::into_switch;
+use crate::giving::into_copy;
 use crate::hints::Hints;
 use crate::knowing::source;
-use crate::moving::{Stop, end_at, is_read, known_at, moved, number_at, place_at, unread_at};
+use crate::moving::{
+    Stop, end_at, is_plain, is_reached, is_read, known_at, moved, place_at, unread_at,
+};
 use crate::telling::{follow, sets};
 use rb_core::seq::Seq;
 use rb_target::instr::{Instr, SwitchArm};
 use std::alloc::Global;
-
-// Whether a run may come to an instruction.
-pub(crate) fn is_reached(hints: &Hints, pc: usize) -> bool
-    ensures { IsTrue result ↔ IsReached hints.now pc }
-{
-    number_at(hints.reached.as_slice(), pc) > 0
-}
 
 fn fact_at(facts: &[Fact], k: usize) -> Option<Fact>
     ensures { result ≡ slice_get facts.now k }
@@ -196,7 +193,7 @@ fn comes_on(hints: &Hints, pc: usize, target: usize) -> bool
 fn jumps_on(hints: &Hints, pc: usize, instr: &Instr, target: usize) -> bool
     ensures { IsTrue result → JumpsOn hints.now pc instr.now target }
 {
-    goes_on(hints, pc, instr, target) && comes_on(hints, pc, end_at(hints, target))
+    goes_on(hints, pc, instr, target) && comes_behind(hints, pc, end_at(hints, target))
 }
 
 fn arm_jumps_on(hints: &Hints, pc: usize, instr: &Instr, arms: &[SwitchArm], k: usize) -> bool
@@ -229,13 +226,20 @@ fn other_jumps_on(hints: &Hints, pc: usize, instr: &Instr, other: Option<usize>)
     }
 }
 
+// Whether a run may come to a place behind an instruction that stands for itself alone.
+fn comes_behind(hints: &Hints, pc: usize, target: usize) -> bool
+    ensures { IsTrue result → IsPlain hints.now pc → IsReached hints.now pc → IsReached hints.now target }
+{
+    !is_plain(hints, pc) || comes_on(hints, pc, target)
+}
+
 // Whether the instruction behind may come next.
 fn falls_on(hints: &Hints, pc: usize, instr: &Instr) -> bool
     ensures { IsTrue result → FallsOn hints.now pc instr.now (pc + 1) }
 {
     match pc.checked_add(1) {
         None => false,
-        Some(behind) => goes_on(hints, pc, instr, behind) && comes_on(hints, pc, behind),
+        Some(behind) => goes_on(hints, pc, instr, behind) && comes_behind(hints, pc, behind),
     }
 }
 
@@ -262,6 +266,63 @@ fn is_known_on(hints: &Hints, pc: usize, instr: &Instr) -> bool
     }
 }
 
+// Whether an instruction is left out.
+fn is_out(hints: &Hints, pc: usize, instr: &Instr) -> bool
+    ensures { IsTrue result → IsSkipped hints.now pc instr.now }
+{
+    match pc.checked_add(1) {
+        None => false,
+        Some(behind) => {
+            let here = place_at(hints, pc);
+            place_at(hints, behind) == here && is_plain(hints, pc) && may_go(hints, pc, instr)
+        }
+    }
+}
+
+// The instruction that stands for one of a body and for another behind it.
+fn merged(
+    alloc: Global,
+    hints: &Hints,
+    body: &[Instr],
+    pc: usize,
+    instr: &Instr,
+) -> Result<Instr, Stop>
+    ensures { IfOk result (λ j. IsMerged hints.now body.now pc instr.now j) }
+{
+    if let Instr::Switch(..) = instr {
+        let new = into_switch(alloc, hints, body, pc, instr)?;
+        return Ok(new);
+    }
+    let new = into_copy(hints, body, pc, instr)?;
+    Ok(new)
+}
+
+// The instruction that stands for one of a body.
+fn stands_for(
+    alloc: Global,
+    hints: &Hints,
+    body: &[Instr],
+    pc: usize,
+    instr: &Instr,
+) -> Result<Instr, Stop>
+    ensures { IfOk result (λ j. Stands hints.now body.now pc instr.now j) }
+{
+    if !is_plain(hints, pc) {
+        let new = merged(alloc, hints, body, pc, instr)?;
+        return Ok(new);
+    }
+    let here = place_at(hints, pc);
+    let Some(behind) = pc.checked_add(1) else {
+        return Err(Stop::Unfit);
+    };
+    let next = place_at(hints, behind);
+    if next.saturating_sub(here) != 1 {
+        return Err(Stop::Unfit);
+    }
+    let new = moved(alloc, hints, known_at(hints, pc), body, pc, instr)?;
+    Ok(new)
+}
+
 // The next instruction of a body, which stands under new numbers or is left out.
 fn step(
     alloc: Global,
@@ -273,31 +334,20 @@ fn step(
 ) -> Result<(), Stop>
     ensures { OnOk result (Steps hints.now body.now pc instr.now new.old new.new) }
 {
-    let here = place_at(hints, pc);
-    let Some(behind) = pc.checked_add(1) else {
-        return Err(Stop::Unfit);
-    };
-    let next = place_at(hints, behind);
     if !is_known_on(hints, pc, instr) {
         return Err(Stop::Unfit);
     }
     if !ends_well(hints, pc, instr) {
         return Err(Stop::Unfit);
     }
-    if next == here {
-        if !may_go(hints, pc, instr) {
-            return Err(Stop::Unfit);
-        }
+    let here = place_at(hints, pc);
+    if is_out(hints, pc, instr) {
         return Ok(());
     }
     if here != new.len() {
         return Err(Stop::Unfit);
     }
-    if next.saturating_sub(here) != 1 {
-        return Err(Stop::Unfit);
-    }
-    let facts = known_at(hints, pc);
-    let stands = moved(alloc, hints, facts, body, pc, instr)?;
+    let stands = stands_for(alloc, hints, body, pc, instr)?;
     new.push(stands)?;
     Ok(())
 }

@@ -8,8 +8,8 @@ ghost use Rattle.rb_trim.specs.inner.Stepping.{AreTrimmed};
 use crate::fit::{are_apart, fits, keep_params};
 use crate::guess::{guess, identity};
 use crate::hints::Hints;
-use crate::moving::{Stop, known_at, place_at};
-use crate::steps::{is_reached, walk};
+use crate::moving::{Stop, is_reached, known_at, place_at};
+use crate::steps::walk;
 use rb_core::seq::Seq;
 use rb_target::code::{Code, CodeFun};
 use std::alloc::{AllocError, Global};
@@ -27,7 +27,7 @@ fn trim_by(alloc: Global, fun: &CodeFun, hints: &Hints) -> Result<CodeFun, Stop>
     ensures { IfOk result (λ q. IsTrimmed fun.now q) }
 {
     let params = fun.params;
-    let slots = hints.origins.len();
+    let slots = hints.slots;
     let first = place_at(hints, 0);
     if first != 0 {
         return Err(Stop::Unfit);

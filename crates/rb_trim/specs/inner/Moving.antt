@@ -1,5 +1,5 @@
 -- When the instructions of a shorter body stand for those of a body.
-use Rattle.std.specs.Prelude.{◌≡◌, ℕ, ◌+◌, ◌<◌, ◌≤◌, ◌⊎◌, List, [], ◌∷◌, map, Option, Some, None, All, IfSome, Contains, slice_get, slice_index}
+use Rattle.std.specs.Prelude.{◌≡◌, ℕ, ◌+◌, ◌<◌, ◌≤◌, ◌⊎◌, List, [], ◌∷◌, ◌++◌, map, Option, Some, None, All, IfSome, Contains, slice_get, slice_index}
 use Rattle.rb_bytes.specs.Memory.{Memory}
 use Rattle.rb_target.specs.declared.instr.SwitchArm.{SwitchArm}
 use Rattle.rb_target.specs.declared.instr.Instr.{Instr}
@@ -43,6 +43,10 @@ landing h pc = place h (end h pc)
 -- a run may come to an instruction
 abbrev pub IsReached : Hints → ℕ → Type 0
 IsReached h pc = 0 < slice_index h.reached pc
+
+-- an instruction stands for no other one behind it
+abbrev pub IsPlain : Hints → ℕ → Type 0
+IsPlain h pc = slice_index h.given pc ≡ 0
 
 -- some instruction reads a slot
 abbrev pub IsEverRead : Hints → ℕ → Type 0
@@ -182,12 +186,12 @@ pub record GoesOn (h : Hints) (pc : ℕ) (i : Instr) (t : ℕ) : Type 0 where
 -- the instruction behind may come next
 pub record FallsOn (h : Hints) (pc : ℕ) (i : Instr) (t : ℕ) : Type 0 where
   pub on : GoesOn h pc i t
-  pub comes : IsReached h pc → IsReached h t
+  pub comes : IsPlain h pc → IsReached h pc → IsReached h t
 
 -- a jump may lead to a target
 pub record JumpsOn (h : Hints) (pc : ℕ) (i : Instr) (t : ℕ) : Type 0 where
   pub on : GoesOn h pc i t
-  pub comes : IsReached h pc → IsReached h (end h t)
+  pub comes : IsPlain h pc → IsReached h pc → IsReached h (end h t)
 
 -- the instruction behind is so where the run goes on there, and so is each target where it jumps
 abbrev pub Leads : (ℕ → Type 0) → (ℕ → Type 0) → Instr → ℕ → Type 0
@@ -196,14 +200,65 @@ Leads F J (Switch a other arms) pc = IfSome other J × All (λ (arm : SwitchArm)
 Leads F J (Return froms) pc = Unit {0}
 Leads F J i pc = F (pc + 1)
 
+-- an instruction copies a slot, which no instruction behind it reads
+pub record IsCopied (h : Hints) (body : List Instr) (at slot to : ℕ) : Type 0 where
+  pub from : ℕ
+  pub stands : slice_get body at ≡ Some (Copy to from)
+  pub name : ℕ
+  pub own : IsDest h slot name
+  pub same : IsName h (facts_at h at) at from name
+  pub unread : IsUnread h (at + 1) slot
+  pub comes : IsReached h (at + 1)
+
+-- a load makes its word in the slot to which it is copied right behind
+pub record IsInto (h : Hints) (body : List Instr) (pc : ℕ) (i j : Instr) : Type 0 where
+  pub slot : ℕ
+  pub base : ℕ
+  pub offset : ℕ
+  pub width : ℕ
+  pub to : ℕ
+  pub to' : ℕ
+  pub base' : ℕ
+  pub is : i ≡ Load slot base offset width
+  pub stands : j ≡ Load to' base' offset width
+  pub dest : IsDest h to to'
+  pub name : IsName h (facts_at h pc) pc base base'
+  pub copied : IsCopied h body (end h (pc + 1)) slot to
+  pub next : place h (end h (pc + 1) + 1) ≡ place h pc + 1
+
+-- a switch whose other way leads to one on the same word has the arms of both
+pub record IsFolded (h : Hints) (body : List Instr) (pc : ℕ) (i j : Instr) : Type 0 where
+  pub slot : ℕ
+  pub target : ℕ
+  pub arms : List SwitchArm
+  pub from : ℕ
+  pub other : Option ℕ
+  pub more : List SwitchArm
+  pub word : ℕ
+  pub is : i ≡ Switch slot (Some target) arms
+  pub next : slice_get body (end h target) ≡ Some (Switch from other more)
+  pub stands : j ≡ Switch word (landing_in h other) (map (λ arm. moved_arm h arm) arms ++ map (λ arm. moved_arm h arm) more)
+  pub name : IsName h (facts_at h pc) pc slot word
+  pub same : IsName h (facts_at h (end h target)) (end h target) from word
+  pub arms_come : All (λ (arm : SwitchArm). IsReached h (end h arm.target)) arms
+  pub more_come : All (λ (arm : SwitchArm). IsReached h (end h arm.target)) more
+  pub other_comes : IfSome other (λ t. IsReached h (end h t))
+
+-- an instruction stands for one of a body and for another behind it
+abbrev pub IsMerged : Hints → List Instr → ℕ → Instr → Instr → Type 0
+IsMerged h body pc i j = IsInto h body pc i j ⊎ IsFolded h body pc i j
+
+-- the instruction that stands for one of a body, alone or with another
+abbrev pub Stands : Hints → List Instr → ℕ → Instr → Instr → Type 0
+Stands h body pc i j =
+    (IsPlain h pc × IsMoved h (facts_at h pc) body pc i j × (place h (pc + 1) ≡ place h pc + 1)) ⊎ IsMerged h body pc i j
+
 -- the instruction stands in the new body, or need not
 abbrev pub IsKept : Hints → List Instr → List Instr → ℕ → Instr → Type 0
-IsKept h body new pc i =
-    (j : Instr) × (slice_get new (place h pc) ≡ Some j) × IsMoved h (facts_at h pc) body pc i j
-    × (place h (pc + 1) ≡ place h pc + 1)
+IsKept h body new pc i = (j : Instr) × (slice_get new (place h pc) ≡ Some j) × Stands h body pc i j
 
 abbrev pub IsSkipped : Hints → ℕ → Instr → Type 0
-IsSkipped h pc i = (IsReached h pc → IsLeftOut h pc i) × (place h (pc + 1) ≡ place h pc)
+IsSkipped h pc i = (IsReached h pc → IsLeftOut h pc i) × IsPlain h pc × (place h (pc + 1) ≡ place h pc)
 
 pub record IsStep (h : Hints) (body new : List Instr) (pc : ℕ) (i : Instr) : Type 0 where
   pub stands : IsKept h body new pc i ⊎ IsSkipped h pc i

@@ -8,7 +8,7 @@ use Rattle.rb_target.specs.declared.instr.Instr.TheVariants.{Const, Alu, Take}
 use Rattle.rb_target.specs.declared.code.CodeFun.{CodeFun}
 use Rattle.rb_trim.specs.declared.hints.Hints.{Hints}
 use Rattle.rb_trim.specs.inner.Following.{Sets}
-use Rattle.rb_trim.specs.inner.Moving.{facts_at, place, IsUnread, EndsWell, FallsOn, JumpsOn, IsMoved, IsSkipped, IsStep, IsTrimmed, Leads}
+use Rattle.rb_trim.specs.inner.Moving.{place, IsUnread, EndsWell, FallsOn, JumpsOn, Stands, IsSkipped, IsStep, IsTrimmed, Leads}
 
 -- the slot with this number among those that are not read is set, or not read at a place behind either
 pub record LivesAt (h : Hints) (slots : List ℕ) (i : Instr) (t k : ℕ) : Type 0 where
@@ -27,8 +27,7 @@ pub record IsAppended (h : Hints) (body : List Instr) (pc : ℕ) (i : Instr) (ol
   pub here : place h pc ≡ length old
   pub instr : Instr
   pub more : new ≡ old ++ instr ∷ []
-  pub moved : IsMoved h (facts_at h pc) body pc i instr
-  pub next : place h (pc + 1) ≡ place h pc + 1
+  pub for : Stands h body pc i instr
 
 -- one step of the walk
 pub record Steps (h : Hints) (body : List Instr) (pc : ℕ) (i : Instr) (old new : List Instr) : Type 0 where
@@ -40,7 +39,7 @@ pub record Steps (h : Hints) (body : List Instr) (pc : ℕ) (i : Instr) (old new
 abbrev pub HaveOrigins : Hints → List Instr → List Instr → Type 0
 HaveOrigins h body new =
     (at : ℕ) (j : Instr) → slice_get new at ≡ Some j
-    → (pc : ℕ) × (i : Instr) × (slice_get body pc ≡ Some i) × IsMoved h (facts_at h pc) body pc i j
+    → (pc : ℕ) × (i : Instr) × (slice_get body pc ≡ Some i) × Stands h body pc i j
 
 -- the first instructions of a body are gone through
 pub record Walks (h : Hints) (body : List Instr) (count : ℕ) (new : List Instr) : Type 0 where

@@ -4,7 +4,7 @@ use Rattle.rb_trim.proofs.trim.trim_by.Goals as goal
 
 pub returns : goal.returns
 returns c =
-    trimmed c.args.fun.now (record { name = c.in_ok-name.name; params = c.args.fun.now.params; results = c.args.fun.now.results; slots = c.len-slots.result; body = c.in_ok-body.body }) c.args.hints.now
+    trimmed c.args.fun.now (record { name = c.in_ok-name.name; params = c.args.fun.now.params; results = c.args.fun.now.results; slots = c.args.hints.now.slots; body = c.in_ok-body.body }) c.args.hints.now
     (record { name = c.in_ok-name.ensures; params = refl; results = refl })
     (rw c.as_slice.ensures at c.in_ok-body.ensures)
     (c.fits.ensures (search rules))
