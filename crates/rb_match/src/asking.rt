@@ -27,6 +27,7 @@ use std::alloc::{AllocError, Global};
 
 // Numbers ---------------------------------------------------------------------------------------
 
+// An arm of a switch.
 fn small_arm(number: u64, target: usize) -> SwitchArm
     ensures arm { result ≡ record { number = number; target = target } }
     ensures small { number < 2 ^ 64 }
@@ -473,8 +474,8 @@ fn ask_leaf<'a>(
 // Tests -----------------------------------------------------------------------------------------
 
 /// Code of a test at a position of a value of a type: it leaves by an edge to the node of the arm that is
-/// taken, or to one to which what is known leads on from there, which carries what is known there. Fields of the part
-/// there that have spots are saved in them. A position that no pattern looks at is never tested.
+/// taken, or to one to which what is known leads on from there, which carries what is known there. What later tests
+/// need of the part there is saved where it has spots. A position that no pattern looks at is never tested.
 ///
 /// # Errors
 ///

@@ -73,6 +73,7 @@ fn only_leaf(agreed: &Agreed, ty: u32, pat: &Pat) -> Option<usize>
     None
 }
 
+// Equal slots, in their order.
 fn copy_slots(alloc: Global, slots: &[usize]) -> Result<Seq<usize>, AllocError>
     ensures { IfOk result (λ copies. copies ≡ slots.now) }
 {

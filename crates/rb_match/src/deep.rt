@@ -188,8 +188,8 @@ fn groups_onward(alloc: Global, onward: &[Option<Onward>]) -> Result<Seq<Option<
     Ok(groups)
 }
 
-/// A part that is tested: its type, the slots of its words, the spots for its fields, and what is known at its
-/// position.
+/// A part that is tested: its type, the slots of its words, the spots that there are, what is known before the test,
+/// and the part's position.
 #[derive(Clone, Copy)]
 pub struct Tested<'b, 'a> {
     pub ty: u32,
@@ -301,10 +301,10 @@ fn open_ways<'a>(
     }
 }
 
-/// Code of a test of a data type at a position of a value, which saves those fields of the part there that
-/// have spots and are tested later: it leaves by an edge to a node to which what is known leads on from that of the arm
-/// that is taken, and which carries what is known there. Leaves that lead on to one node are not told apart where
-/// nothing of them is saved.
+/// Code of a test of a data type at a position of a value, which saves what later tests need of the part there: its
+/// fields that have spots, or, where it opens one of them, those below it. It leaves by an edge to a node to which what
+/// is known leads on from that of the arm that is taken, and which carries what is known there. Leaves that lead on to
+/// one node are not told apart where nothing of them is saved.
 ///
 /// # Errors
 ///

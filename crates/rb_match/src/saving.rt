@@ -82,6 +82,7 @@ fn is_position(agreed: &Agreed, ty: u32, leaf: usize, path: &[u32], at: Ty) -> b
     }
 }
 
+// Whether a slot is one of some.
 fn is_in(slots: &[usize], slot: usize) -> bool
     ensures { result ≡ false → IsOneOf slot slots.now → ⊥ }
 {

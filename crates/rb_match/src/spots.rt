@@ -41,6 +41,7 @@ fn takes_apart(leaf: &Leaf) -> bool
     }
 }
 
+// Whether one of some patterns is a constructor's.
 fn has_constructor(subs: &[Pat]) -> bool
     ensures { result ≡ true → HasConstructor subs.now }
 {
@@ -276,6 +277,7 @@ fn zeroes(alloc: Global, body: &mut Body, count: usize) -> Result<Seq<usize>, Al
     Ok(slots)
 }
 
+// An equal position.
 fn copy_position(alloc: Global, position: &[u32]) -> Result<Seq<u32>, AllocError> {
     let fields = Vec::from_slice(alloc, position)?;
     Ok(Seq::from_vec(fields))

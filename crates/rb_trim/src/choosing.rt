@@ -1,4 +1,4 @@
-//! From the last instruction of a body back, what is wanted of it.
+//! What is wanted of a body, from its last instruction back, which two instructions become one, and what runs come to.
 
 use crate::fact::{Content, Fact};
 use crate::knowing::source;

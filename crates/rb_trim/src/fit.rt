@@ -45,6 +45,7 @@ fn is_target(long: usize, pc: usize, target: usize) -> bool
     pc < target && target < long
 }
 
+// Whether each arm's target lies so.
 fn are_arms(long: usize, pc: usize, arms: &[SwitchArm]) -> bool
     ensures { IsTrue result ↔ AreArms long pc arms.now }
 {

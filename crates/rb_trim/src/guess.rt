@@ -31,7 +31,7 @@ pub(crate) fn identity(alloc: Global, fun: &CodeFun) -> Result<Hints, AllocError
     })
 }
 
-/// Hints that leave out what is known, what is not read and what no run comes to.
+/// Hints that leave out what is known, what is not read and what no run comes to, and make one of two instructions.
 ///
 /// # Errors
 ///

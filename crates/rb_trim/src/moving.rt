@@ -181,6 +181,7 @@ fn names(
     Ok(new)
 }
 
+// The new number of the instruction to which a switch's other way leads, if it has one.
 pub(crate) fn other_landing(hints: &Hints, other: Option<usize>) -> Option<usize>
     ensures { result ≡ landing_in hints.now other }
 {

@@ -19,6 +19,7 @@ use rb_core::seq::Seq;
 use rb_target::instr::{Instr, SwitchArm};
 use std::alloc::Global;
 
+// One of some facts, by its number.
 fn fact_at(facts: &[Fact], k: usize) -> Option<Fact>
     ensures { result ≡ slice_get facts.now k }
 {
@@ -196,6 +197,7 @@ fn jumps_on(hints: &Hints, pc: usize, instr: &Instr, target: usize) -> bool
     goes_on(hints, pc, instr, target) && comes_behind(hints, pc, end_at(hints, target))
 }
 
+// Whether one arm of a switch may lead to its target, if there is such an arm.
 fn arm_jumps_on(hints: &Hints, pc: usize, instr: &Instr, arms: &[SwitchArm], k: usize) -> bool
     ensures { IsTrue result → JumpsOnAt hints.now pc instr.now arms.now k }
 {
@@ -205,6 +207,7 @@ fn arm_jumps_on(hints: &Hints, pc: usize, instr: &Instr, arms: &[SwitchArm], k: 
     }
 }
 
+// Whether each arm may lead to its target.
 fn arms_jump_on(hints: &Hints, pc: usize, instr: &Instr, arms: &[SwitchArm]) -> bool
     ensures { IsTrue result
         → All (λ (arm : SwitchArmDecl). JumpsOn hints.now pc instr.now arm.target) arms.now }
@@ -217,6 +220,7 @@ fn arms_jump_on(hints: &Hints, pc: usize, instr: &Instr, arms: &[SwitchArm]) -> 
     true
 }
 
+// Whether a switch's other way may lead to its target, if it has one.
 fn other_jumps_on(hints: &Hints, pc: usize, instr: &Instr, other: Option<usize>) -> bool
     ensures { IsTrue result → IfSome other (λ t. JumpsOn hints.now pc instr.now t) }
 {
