@@ -27,7 +27,7 @@ use std::alloc::{AllocError, Global};
 
 // Numbers ---------------------------------------------------------------------------------------
 
-// An arm of a switch.
+// The arm of a switch for one number.
 fn small_arm(number: u64, target: usize) -> SwitchArm
     ensures arm { result ≡ record { number = number; target = target } }
     ensures small { number < 2 ^ 64 }

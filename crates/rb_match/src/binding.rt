@@ -15,9 +15,9 @@ use crate::deep::ask_deep;
 use crate::engine::land;
 use crate::knowledge::{Known, Spot, node_known, saved_known};
 use crate::patterns::{are_apart, binds_nothing};
-use crate::place::fields_of;
-use crate::saving::{fetch_part, spot_at};
+use crate::saving::{LeafSlots, fetch_part, spot_at};
 use crate::spots::{Wanted, Whole, field_below, give_spots, is_deep};
+use rb_core::inference::types_of_fields;
 use rb_core::pattern::Pat;
 use rb_core::seq::Seq;
 use rb_core::types::{ConRef, Ty};
@@ -73,7 +73,7 @@ fn only_leaf(agreed: &Agreed, ty: u32, pat: &Pat) -> Option<usize>
     None
 }
 
-// Equal slots, in their order.
+// An equal list of slots.
 fn copy_slots(alloc: Global, slots: &[usize]) -> Result<Seq<usize>, AllocError>
     ensures { IfOk result (λ copies. copies ≡ slots.now) }
 {
@@ -116,12 +116,16 @@ fn bind_at(
             }
             let types = agreed.covered().program().types.as_slice();
             let _flat = agreed.layouts();
-            let fields = fields_of(types, *con);
+            let fields = types_of_fields(types, *con);
             let subs = subs.as_slice();
             match leaf_for(agreed, ty, *con, pat) {
                 Some(leaf) => {
-                    let t = con.ty;
-                    let bound = bind_fields(alloc, body, agreed, t, leaf, words, subs, fields, 0)?;
+                    let value = LeafSlots {
+                        ty: con.ty,
+                        leaf,
+                        words,
+                    };
+                    let bound = bind_fields(alloc, body, agreed, &value, subs, fields, 0)?;
                     Ok(bound)
                 }
                 None => {
@@ -326,15 +330,13 @@ fn bind_fields(
     alloc: Global,
     body: &mut Body,
     agreed: &Agreed,
-    ty: u32,
-    leaf: usize,
-    words: &[usize],
+    value: &LeafSlots,
     subs: &[Pat],
     fields: &[Ty],
     i: usize,
 ) -> Result<Seq<Local>, AllocError>
-    ensures binds { IfOk result
-        (λ bound. BindsFields agreed.now ty leaf words.now subs.now fields.now i body.old body.new bound) }
+    ensures binds { IfOk result (λ bound. BindsFields agreed.now value.now.ty value.now.leaf value.now.words.now
+        subs.now fields.now i body.old body.new bound) }
     ensures grows { OnOk result (Grows body.old.code body.new.code) }
 {
     let [sub, subs @ ..] = subs else {
@@ -344,8 +346,8 @@ fn bind_fields(
         return Err(AllocError);
     };
     let number = number_of(i)?;
-    let mut bound = bind_field(alloc, body, agreed, ty, leaf, words, sub, *field, number)?;
-    let more = bind_fields(alloc, body, agreed, ty, leaf, words, subs, fields, i + 1)?;
+    let mut bound = bind_field(alloc, body, agreed, value, sub, *field, number)?;
+    let more = bind_fields(alloc, body, agreed, value, subs, fields, i + 1)?;
     match bound.append(more) {
         None => Ok(bound),
         Some(_) => Err(AllocError),
@@ -358,22 +360,20 @@ fn bind_field(
     alloc: Global,
     body: &mut Body,
     agreed: &Agreed,
-    ty: u32,
-    leaf: usize,
-    words: &[usize],
+    value: &LeafSlots,
     sub: &Pat,
     field: Ty,
     i: u32,
 ) -> Result<Seq<Local>, AllocError>
-    ensures binds { IfOk result
-        (λ bound. BindsField agreed.now ty leaf words.now sub.now field i body.old body.new bound) }
+    ensures binds { IfOk result (λ bound. BindsField agreed.now value.now.ty value.now.leaf value.now.words.now
+        sub.now field i body.old body.new bound) }
     ensures grows { OnOk result (Grows body.old.code body.new.code) }
 {
     if binds_nothing(sub) {
         return Ok(Seq::new(alloc));
     }
     let path = [i];
-    let slots = fetch_part(alloc, body, agreed, ty, leaf, words, &path, field)?;
+    let slots = fetch_part(alloc, body, agreed, value, &path, field)?;
     let bound = bind_at(alloc, body, agreed, field, slots.as_slice(), sub)?;
     Ok(bound)
 }

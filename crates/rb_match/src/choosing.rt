@@ -1,9 +1,8 @@
 //! Code that chooses a match's clause.
 
-ghost use Rattle.std.specs.Prelude.{◌≡◌, IfOk, OnOk, length, map};
+ghost use Rattle.std.specs.Prelude.{IfOk, OnOk, length};
 ghost use Rattle.rb_target.specs.Growth.{Grows};
 ghost use Rattle.rb_fragment.specs.Arms.{AreHoles, AreOfOneWay};
-ghost use Rattle.rb_fragment.specs.declared.reads.Read.{Slot};
 ghost use Rattle.rb_match.specs.Choosing.{Chooses};
 ghost use Rattle.rb_match.specs.inner.Trees.{TakesShared, TakesTree};
 
@@ -17,21 +16,10 @@ use rb_decide::decide::tree;
 use rb_decide::decision_graph::Graph;
 use rb_decide::decision_tree::{Tree, Tried};
 use rb_decide::subtrees::share;
-use rb_fragment::reads::Read;
+use rb_fragment::reads::{Read, slot_reads};
 use rb_layout::agreed::Agreed;
 use rb_target::body::{Body, Hole};
 use std::alloc::{AllocError, Global};
-
-// The words in slots, as reads.
-fn slot_reads(alloc: Global, words: &[usize]) -> Result<Seq<Read>, AllocError>
-    ensures { IfOk result (λ reads. reads ≡ map Slot words.now) }
-{
-    let mut reads = Seq::new(alloc);
-    for word in words {
-        reads.push(Read::Slot(*word))?;
-    }
-    Ok(reads)
-}
 
 /// Code of a decision graph, each node once. The parts that its tests need saved have slots of their own.
 ///

@@ -170,7 +170,7 @@ fn clause_hole(nodes: &[GraphNode], hole: &Hole, count: usize) -> Result<Hole, A
     }
 }
 
-// The holes of the edges that are left, each to its clause.
+// The holes of edges, all of which lead to clauses.
 fn clause_holes(
     alloc: Global,
     nodes: &[GraphNode],

@@ -25,6 +25,7 @@ pub fn are_apart(one: &Pat, other: &Pat) -> bool
     }
 }
 
+// Whether two patterns with the same number are apart.
 #[cycle(comparing)]
 fn are_apart_somewhere(ones: &[Pat], others: &[Pat]) -> bool
     ensures { OnTrue result (HaveApart ones.now others.now) }
@@ -51,6 +52,7 @@ pub fn binds_nothing(pat: &Pat) -> bool
     }
 }
 
+// Whether none of some patterns has a variable.
 #[cycle(seeking)]
 fn bind_nothing(pats: &[Pat]) -> bool
     ensures { result ≡ all_unbound (map is_unbound pats.now) }

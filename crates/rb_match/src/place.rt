@@ -1,13 +1,13 @@
 //! Where the words of a part of a value are.
 
 ghost use Rattle.std.specs.Prelude.{◌≡◌, IfOk, IfSome, true};
-ghost use Rattle.rb_core.specs.Typing.{field_types};
 ghost use Rattle.rb_match.specs.inner.Places.{BeginsPlace, FindsPlace, IsFieldOf, IsSpotOf, StepsPlace, IsLookedAt, HasPlace};
 
 use crate::knowledge::{Known, Spot, leaf_known, position_below, same_position, saved_known};
+use rb_core::inference::types_of_fields;
 use rb_core::pattern::Pat;
 use rb_core::seq::Seq;
-use rb_core::types::{ConRef, DataDecl, Ty};
+use rb_core::types::{DataDecl, Ty};
 use rb_fetch::field::field_reads;
 use rb_fragment::reads::{Read, slot_reads};
 use rb_layout::agreed::Agreed;
@@ -21,7 +21,7 @@ pub struct Place {
     pub reads: Seq<Read>,
 }
 
-// The place at so many first fields of a position.
+/// The place at so many first fields of a position.
 #[derive(Drop)]
 pub struct Begun {
     pub place: Place,
@@ -217,19 +217,6 @@ pub fn place_of(
     Ok(place)
 }
 
-/// The types of a constructor's fields.
-pub fn fields_of(types: &[DataDecl], con: ConRef) -> &[Ty]
-    ensures { result.now ≡ field_types types.now con }
-{
-    let Some(data) = types.get(con.ty as usize) else {
-        return &[];
-    };
-    match data.cons.get(con.con as usize) {
-        None => &[],
-        Some(con) => con.fields.as_slice(),
-    }
-}
-
 // Whether a pattern has a number or a constructor at a position, where this type is.
 fn has_place(types: &[DataDecl], ty: Ty, pat: &Pat, position: &[u32], at: Ty) -> bool
     ensures { result ≡ true → HasPlace types.now ty pat.now position.now at }
@@ -240,7 +227,7 @@ fn has_place(types: &[DataDecl], ty: Ty, pat: &Pat, position: &[u32], at: Ty) ->
         Pat::Con(_, con, subs) => match position {
             [] => ty == at,
             [field, rest @ ..] => {
-                let fields = fields_of(types, *con);
+                let fields = types_of_fields(types, *con);
                 match (subs.get(*field as usize), fields.get(*field as usize)) {
                     (Some(sub), Some(ty)) => has_place(types, *ty, sub, rest, at),
                     _ => false,

@@ -1,15 +1,15 @@
 //! Code that saves the fields of a part, from the leaf that it is known to have.
 
-ghost use Rattle.std.specs.Prelude.{◌≡◌, ◌∷◌, ◌++◌, [], IfOk, IfSome, OnOk, true, false};
+ghost use Rattle.std.specs.Prelude.{◌≡◌, ◌++◌, [], IfOk, IfSome, OnOk, true, false};
 ghost use Rattle.rb_target.specs.Growth.{Grows};
 ghost use Rattle.rb_fragment.specs.Slots.{AreApart, IsOneOf};
 ghost use Rattle.rb_match.specs.inner.Saving.{FetchesPart, HasBelow, IsPositionOf, IsSpotAt, SavesAt, SavesBelow, SavesFields, SavesPart};
 
 use crate::asking::prov_of;
 use crate::knowledge::{Known, Spot, same_position};
-use crate::place::fields_of;
 use crate::spots::{Needs, field_below, is_needed, is_tested};
 use crate::threading::is_opened;
+use rb_core::inference::types_of_fields;
 use rb_core::pattern::Pat;
 use rb_core::seq::Seq;
 use rb_core::types::{DataDecl, Ty};
@@ -20,6 +20,14 @@ use rb_layout::agreed::Agreed;
 use rb_target::body::Body;
 use std::alloc::{AllocError, Global};
 
+/// A value whose leaf is known: its type, its leaf, and the slots of its words.
+#[derive(Clone, Copy)]
+pub struct LeafSlots<'b> {
+    pub ty: u32,
+    pub leaf: usize,
+    pub words: &'b [usize],
+}
+
 /// Code that leaves the words of the part at a path of a leaf in slots, where it has this type.
 ///
 /// # Errors
@@ -29,20 +37,19 @@ pub fn fetch_part(
     alloc: Global,
     body: &mut Body,
     agreed: &Agreed,
-    ty: u32,
-    leaf: usize,
-    words: &[usize],
+    value: &LeafSlots,
     path: &[u32],
     at: Ty,
 ) -> Result<Seq<usize>, AllocError>
-    ensures fetches { IfOk result
-        (λ slots. FetchesPart agreed.now ty leaf path.now at words.now body.old body.new slots) }
+    ensures fetches { IfOk result (λ slots. FetchesPart agreed.now value.now.ty value.now.leaf path.now at
+        value.now.words.now body.old body.new slots) }
     ensures grows { OnOk result (Grows body.old.code body.new.code) }
 {
+    let (ty, leaf) = (value.ty, value.leaf);
     if !is_position(agreed, ty, leaf, path, at) {
         return Err(AllocError);
     }
-    let slots = fetch_field(alloc, body, words, agreed, ty, leaf, path)?;
+    let slots = fetch_field(alloc, body, value.words, agreed, ty, leaf, path)?;
     Ok(slots)
 }
 
@@ -56,7 +63,7 @@ fn type_below(types: &[DataDecl], ty: Ty, pat: &Pat, path: &[u32]) -> Option<Ty>
     match pat {
         Pat::Wild(_) | Pat::Var(_, _) | Pat::Num(_, _) => None,
         Pat::Con(_, con, subs) => {
-            let fields = fields_of(types, *con);
+            let fields = types_of_fields(types, *con);
             match (subs.get(*field as usize), fields.get(*field as usize)) {
                 (Some(sub), Some(at)) => type_below(types, *at, sub, rest),
                 _ => None,
@@ -123,20 +130,19 @@ fn save_part(
     alloc: Global,
     body: &mut Body,
     agreed: &Agreed,
-    ty: u32,
-    leaf: usize,
-    words: &[usize],
+    value: &LeafSlots,
     path: &[u32],
     spot: &Spot,
 ) -> Result<(), AllocError>
-    ensures saves { OnOk result (SavesPart agreed.now ty leaf path.now words.now spot.now body.old body.new) }
+    ensures saves { OnOk result (SavesPart agreed.now value.now.ty value.now.leaf path.now value.now.words.now spot.now
+        body.old body.new) }
     ensures grows { OnOk result (Grows body.old.code body.new.code) }
 {
     let into = spot.slots.as_slice();
-    if !are_apart(into, words) {
+    if !are_apart(into, value.words) {
         return Err(AllocError);
     }
-    let slots = fetch_part(alloc, body, agreed, ty, leaf, words, path, spot.ty)?;
+    let slots = fetch_part(alloc, body, agreed, value, path, spot.ty)?;
     emit_copies(body, into, slots.as_slice())?;
     Ok(())
 }
@@ -181,9 +187,12 @@ fn save_whole<'a>(
     match spot_at(spots, below, at) {
         None => Ok(known),
         Some(k) => {
-            let (ty, leaf) = (source.ty, source.leaf);
-            let spot = &spots[k];
-            save_part(alloc, body, agreed, ty, leaf, source.words, path, spot)?;
+            let value = LeafSlots {
+                ty: source.ty,
+                leaf: source.leaf,
+                words: source.words,
+            };
+            save_part(alloc, body, agreed, &value, path, &spots[k])?;
             known.push(Known::Saved { spot: k })?;
             Ok(known)
         }
@@ -239,7 +248,7 @@ fn save_below<'a>(
         Pat::Wild(_) | Pat::Var(_, _) | Pat::Num(_, _) => Ok(known),
         Pat::Con(_, con, subs) => {
             let types = agreed.covered().program().types.as_slice();
-            let fields = fields_of(types, *con);
+            let fields = types_of_fields(types, *con);
             let mut known = known;
             for (j, sub) in subs.as_slice().iter().enumerate() {
                 let Some(at) = fields.get(j) else {

@@ -9,7 +9,7 @@ ghost use Rattle.rb_match.specs.Bounding.{is_plain};
 ghost use Rattle.rb_match.specs.inner.Saving.{GivesSpots, HasConstructor, Zeroes, is_field};
 
 use crate::knowledge::{Spot, same_position};
-use crate::place::fields_of;
+use rb_core::inference::types_of_fields;
 use rb_core::pattern::Pat;
 use rb_core::seq::Seq;
 use rb_core::types::Ty;
@@ -41,7 +41,7 @@ fn takes_apart(leaf: &Leaf) -> bool
     }
 }
 
-// Whether one of some patterns is a constructor's.
+// Whether some of these patterns begins with a constructor.
 fn has_constructor(subs: &[Pat]) -> bool
     ensures { result ≡ true → HasConstructor subs.now }
 {
@@ -108,7 +108,7 @@ fn add_parts(
         Pat::Wild(_) | Pat::Var(_, _) | Pat::Num(_, _) => Ok(()),
         Pat::Con(_, con, subs) => {
             let types = agreed.covered().program().types.as_slice();
-            let fields = fields_of(types, *con);
+            let fields = types_of_fields(types, *con);
             let deep = is_deep(agreed, con.ty);
             for (j, sub) in subs.as_slice().iter().enumerate() {
                 match sub {

@@ -25,17 +25,17 @@ pub bind_at-returns-in_ok-bound-in-Some-clause-binds : goal.bind_at-returns-in_o
 bind_at-returns-in_ok-bound-in-Some-clause-binds t c =
     rw c.in-Con.is (con_binds c.args.agreed.now c.args.ty c.in-Con.field-0 c.in-Con.con c.in-Con.subs c.in-Some.leaf c.args.words.now c.args.body.now c.bind_fields.new.body c.in_ok-bound-in-Some.bound (mends_in c.args.agreed.now c.covered.ensures.agree c.layouts-flat.ensures.flat) c.in-Some.ensures.0
     (subst (λ p. IsOnlyLeaf c.args.agreed.now c.in-Con.con.ty p c.in-Some.leaf) c.in-Con.is c.in-Some.ensures.1)
-    (rw (c.as_slice-subs.ensures, c.fields_of-fields.ensures, c.as_slice-types.ensures, c.program.ensures.same, c.covered.ensures.same) at c.in_ok-bound-in-Some.ensures.binds))
+    (rw (c.as_slice-subs.ensures, c.types_of_fields-fields.ensures, c.as_slice-types.ensures, c.program.ensures.same, c.covered.ensures.same) at c.in_ok-bound-in-Some.ensures.binds))
 
 pub bind_field-returns-clause-binds : goal.bind_field-returns-clause-binds
 bind_field-returns-clause-binds t c =
-    field_binds c.args.agreed.now c.args.ty c.args.leaf c.args.words.now c.args.sub.now c.args.field c.args.i c.args.body.now c.fetch_part.new.body c.bind_at.new.body c.in_ok-slots.slots c.in_ok-bound.bound
+    field_binds c.args.agreed.now c.args.value.now.ty c.args.value.now.leaf c.args.value.now.words.now c.args.sub.now c.args.field c.args.i c.args.body.now c.fetch_part.new.body c.bind_at.new.body c.in_ok-slots.slots c.in_ok-bound.bound
     c.in_ok-slots.ensures.fetches (rw c.as_slice.ensures at c.in_ok-bound.ensures.binds)
 
 pub bind_fields-returns-in_default-clause-binds : goal.bind_fields-returns-in_default-clause-binds
 bind_fields-returns-in_default-clause-binds t c =
     let none = no-item c.args.subs.now c.in_default.len_below in
-    rw (none, c.new.ensures) (fields_none c.args.agreed.now c.args.ty c.args.leaf c.args.words.now c.args.fields.now c.args.i c.args.body.now)
+    rw (none, c.new.ensures) (fields_none c.args.agreed.now c.args.value.now.ty c.args.value.now.leaf c.args.value.now.words.now c.args.fields.now c.args.i c.args.body.now)
 
 pub bind_fields-bind_fields-requires : goal.bind_fields-bind_fields-requires
 bind_fields-bind_fields-requires t c =
@@ -66,12 +66,12 @@ bind_fields-returns-in-None-clause-binds t c =
     let whole = split-rest c.args.subs.now first c.in-len1-up.len_at_least c.sub-item.is in
     let field = get_or c.args.fields.now 0 (Int 0) in
     let fields = split-rest c.args.fields.now field c.in-len1-up-fields.len_at_least (get-same c.args.fields.now 0 (Int 0) field c.in-len1-up-fields.len_at_least) in
-    rw (whole, fields, c.in-None.ensures) (fields_binds c.args.agreed.now c.args.ty c.args.leaf c.args.words.now first _ field _ c.args.i c.args.body.now c.bind_field.new.body c.bind_fields.new.body c.in_ok-bound.bound c.in_ok-more.more
+    rw (whole, fields, c.in-None.ensures) (fields_binds c.args.agreed.now c.args.value.now.ty c.args.value.now.leaf c.args.value.now.words.now first _ field _ c.args.i c.args.body.now c.bind_field.new.body c.bind_fields.new.body c.in_ok-bound.bound c.in_ok-more.more
     (rw c.in_ok-number.ensures at c.in_ok-bound.ensures.binds) c.in_ok-more.ensures.binds)
 
 pub bind_at-returns-in_ok-bound-in-None-clause-binds : goal.bind_at-returns-in_ok-bound-in-None-clause-binds
 bind_at-returns-in_ok-bound-in-None-clause-binds t c =
-    rw c.in-Con.is (rw c.as_slice-subs.ensures at c.in_ok-bound-in-None.ensures.binds c.in-Con.field-0 (rw (c.as_slice-types.ensures, c.program.ensures.same, c.covered.ensures.same) at c.fields_of-fields.ensures))
+    rw c.in-Con.is (rw c.as_slice-subs.ensures at c.in_ok-bound-in-None.ensures.binds c.in-Con.field-0 (rw (c.as_slice-types.ensures, c.program.ensures.same, c.covered.ensures.same) at c.types_of_fields-fields.ensures))
 
 pub bind_at-bind_deep-requires : goal.bind_at-bind_deep-requires
 bind_at-bind_deep-requires t c =
@@ -135,7 +135,7 @@ bind_at-returns-then-binds_nothing-clause-binds t c = rw c.new-then-binds_nothin
 
 pub bind_field-returns-then-binds_nothing-clause-binds : goal.bind_field-returns-then-binds_nothing-clause-binds
 bind_field-returns-then-binds_nothing-clause-binds t c =
-    rw c.new.ensures (field_unbound c.args.agreed.now c.args.ty c.args.leaf c.args.words.now c.args.sub.now c.args.field c.args.i c.args.body.now (sym c.binds_nothing.ensures ∙ c.if-binds_nothing.true))
+    rw c.new.ensures (field_unbound c.args.agreed.now c.args.value.now.ty c.args.value.now.leaf c.args.value.now.words.now c.args.sub.now c.args.field c.args.i c.args.body.now (sym c.binds_nothing.ensures ∙ c.if-binds_nothing.true))
 
 pub bind_spot-returns-then-binds_nothing-clause-binds : goal.bind_spot-returns-then-binds_nothing-clause-binds
 bind_spot-returns-then-binds_nothing-clause-binds t c =

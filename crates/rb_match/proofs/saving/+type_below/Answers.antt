@@ -11,9 +11,9 @@ returns-in_default t c = rw (no-item c.args.path.now c.in_default.len_below) (he
 
 pub returns-in-Some-Some : goal.returns-in-Some-Some
 returns-in-Some-Some t c =
-    let fields = c.fields_of-fields.result.now in
+    let fields = c.types_of_fields-fields.result.now in
     let first = get_or c.args.path.now 0 0 in
     let known = slice_get_read fields (length fields) first c.in-Some-Some.at.now refl c.in-Some-Some.ensures'.lookup.3.0 c.in-Some-Some.ensures'.lookup.1 in
     let whole = split-rest c.args.path.now first c.in-len1-up.len_at_least (get-same c.args.path.now 0 0 first c.in-len1-up.len_at_least) in
     rw whole (below_option c.args.types.now c.args.ty c.in-Some-Some.at.now c.args.pat.now c.in-Some-Some.sub.now first (take (length c.args.path.now - 1) (drop 1 c.args.path.now)) c.in-Con.field-0 c.in-Con.con c.in-Con.subs c.type_below.result c.in-Con.is
-    (sym c.in-Some-Some.ensures.value) (ap (λ l. slice_get l first) (sym c.fields_of-fields.ensures) ∙ known) c.type_below.ensures)
+    (sym c.in-Some-Some.ensures.value) (ap (λ l. slice_get l first) (sym c.types_of_fields-fields.ensures) ∙ known) c.type_below.ensures)
