@@ -1,6 +1,6 @@
 //! Code of one test: from the words of a value to the edges of its arms.
 
-ghost use Rattle.std.specs.Prelude.{◌≡◌, ◌∷◌, ◌++◌, ◌<◌, ◌^◌, [], IfOk, OnOk, true, is_some, slice_get};
+ghost use Rattle.std.specs.Prelude.{◌≡◌, ◌++◌, ◌<◌, ◌^◌, [], IfOk, OnOk, true, is_some, slice_get};
 ghost use Rattle.rb_core.specs.declared.value.Value.TheOpen as Layers;
 ghost use Rattle.rb_target.specs.Growth.{Grows};
 ghost use Rattle.rb_fetch.specs.Finding.{leaf_count};
@@ -8,7 +8,7 @@ ghost use Rattle.rb_match.specs.inner.Asking.{number_arm, number_arms, is_number
 ghost use Rattle.rb_match.specs.inner.Opening.{Asks};
 
 use crate::deep::ask_deep;
-use crate::knowledge::{Edge, Known, Spot, copy_known, with_known};
+use crate::knowledge::{Edge, Known, Subject, Test, copy_known, with_known};
 use crate::place::{is_looked_at, place_of};
 use crate::spots::{Whole, has_spot_below, is_within};
 use rb_core::pattern::Pat;
@@ -389,17 +389,15 @@ fn leaf_edge<'a>(
     nodes: &[GraphNode],
     ty: u32,
     hole: &Hole,
-    known: &[Known<'a>],
-    position: &'a [u32],
-    arms: &[GraphArm],
-    other: Option<u32>,
+    test: &Test<'_, 'a>,
 ) -> Result<Option<Edge<'a>>, AllocError>
-    ensures { IfOk result
-        (λ e. e ≡ edge_for agreed.now nodes.now ty position.entry known.now arms.now other hole.now) }
+    ensures { IfOk result (λ e. e ≡ edge_for agreed.now nodes.now ty test.now.position test.now.known.now
+        test.now.arms.now test.now.other hole.now) }
 {
-    let Some(node) = node_of(agreed, ty, hole.leaf, arms, other)? else {
+    let Some(node) = node_of(agreed, ty, hole.leaf, test.arms, test.other)? else {
         return Ok(None);
     };
+    let (known, position) = (test.known, test.position);
     let known = known_within(alloc, agreed, nodes, node, known, position, ty, hole.leaf)?;
     Ok(Some(Edge {
         hole: Hole {
@@ -418,19 +416,14 @@ fn edges_of_leaves<'a>(
     nodes: &[GraphNode],
     ty: u32,
     holes: &[Hole],
-    known: &[Known<'a>],
-    position: &&'a [u32],
-    arms: &[GraphArm],
-    other: Option<u32>,
+    test: &Test<'_, 'a>,
 ) -> Result<Seq<Edge<'a>>, AllocError>
-    ensures { IfOk result (λ edges. edges
-        ≡ leaf_edges_of agreed.now nodes.now ty position.now known.now arms.now other holes.now) }
+    ensures { IfOk result (λ edges. edges ≡ leaf_edges_of agreed.now nodes.now ty test.now.position test.now.known.now
+        test.now.arms.now test.now.other holes.now) }
 {
     let mut edges = Seq::new(alloc);
     for hole in holes {
-        if let Some(found) = leaf_edge(
-            alloc, agreed, nodes, ty, hole, known, *position, arms, other,
-        )? {
+        if let Some(found) = leaf_edge(alloc, agreed, nodes, ty, hole, test)? {
             edges.push(found)?;
         }
     }
@@ -445,29 +438,17 @@ fn ask_leaf<'a>(
     nodes: &[GraphNode],
     ty: u32,
     reads: &[Read],
-    known: &[Known<'a>],
-    position: &'a [u32],
-    arms: &[GraphArm],
-    other: Option<u32>,
+    test: &Test<'_, 'a>,
 ) -> Result<Seq<Edge<'a>>, AllocError>
-    ensures asks { IfOk result
-        (λ edges. AsksLeaf agreed.now ty reads.now known.now position.now arms.now other body.old body.new edges) }
+    ensures asks { IfOk result (λ edges. AsksLeaf agreed.now ty reads.now test.now.known.now test.now.position.now
+        test.now.arms.now test.now.other body.old body.new edges) }
     ensures stand { IfOk result (λ edges. StandOpen body.old body.new edges) }
     ensures grows { OnOk result (Grows body.old.code body.new.code) }
 {
-    let groups = groups_of(alloc, agreed, nodes, ty, position, arms, other)?;
+    let (arms, other) = (test.arms, test.other);
+    let groups = groups_of(alloc, agreed, nodes, ty, test.position, arms, other)?;
     let holes = find_group_of(alloc, body, reads, agreed, ty, groups.as_slice())?;
-    let edges = edges_of_leaves(
-        alloc,
-        agreed,
-        nodes,
-        ty,
-        holes.as_slice(),
-        known,
-        &position,
-        arms,
-        other,
-    )?;
+    let edges = edges_of_leaves(alloc, agreed, nodes, ty, holes.as_slice(), test)?;
     Ok(edges)
 }
 
@@ -485,18 +466,16 @@ pub fn ask<'a>(
     body: &mut Body,
     agreed: &Agreed,
     graph: &Whole<'a>,
-    words: &[Read],
-    spots: &[Spot],
-    known: &[Known<'a>],
-    position: &'a [u32],
-    arms: &[GraphArm],
-    other: Option<u32>,
+    subject: &Subject,
+    test: &Test<'_, 'a>,
 ) -> Result<Seq<Edge<'a>>, AllocError>
-    ensures asks { IfOk result (λ edges. Asks agreed.now graph.now words.now spots.now known.now position.now arms.now
-        other body.old body.new edges) }
+    ensures asks { IfOk result (λ edges. Asks agreed.now graph.now subject.now.words.now subject.now.spots.now
+        test.now.known.now test.now.position.now test.now.arms.now test.now.other body.old body.new edges) }
     ensures stand { IfOk result (λ edges. StandOpen body.old body.new edges) }
     ensures grows { OnOk result (Grows body.old.code body.new.code) }
 {
+    let (words, spots) = (subject.words, subject.spots);
+    let (known, position) = (test.known, test.position);
     let place = place_of(alloc, agreed, graph.ty, words, spots, known, position)?;
     let types = agreed.covered().program().types.as_slice();
     if !is_looked_at(types, graph.ty, graph.pats, position, place.ty) {
@@ -505,28 +484,16 @@ pub fn ask<'a>(
     let reads = place.reads.as_slice();
     match place.ty {
         Ty::Int(_) => {
+            let (arms, other) = (test.arms, test.other);
             let edges = ask_number(alloc, body, graph.nodes, reads, known, arms, other)?;
             Ok(edges)
         }
         Ty::Named(t) => {
             if has_spot_below(spots, position) {
-                let edges = ask_deep(
-                    alloc, body, agreed, graph, t, reads, spots, known, position, arms, other,
-                )?;
+                let edges = ask_deep(alloc, body, agreed, graph, t, reads, spots, test)?;
                 Ok(edges)
             } else {
-                let edges = ask_leaf(
-                    alloc,
-                    body,
-                    agreed,
-                    graph.nodes,
-                    t,
-                    reads,
-                    known,
-                    position,
-                    arms,
-                    other,
-                )?;
+                let edges = ask_leaf(alloc, body, agreed, graph.nodes, t, reads, test)?;
                 Ok(edges)
             }
         }

@@ -13,7 +13,7 @@ ghost use Rattle.rb_match.specs.inner.Saving.{IsSpotAt};
 use crate::asking::count_leaves;
 use crate::deep::ask_deep;
 use crate::engine::land;
-use crate::knowledge::{Known, Spot, node_known, saved_known};
+use crate::knowledge::{Known, Spot, Test, node_known, saved_known};
 use crate::patterns::{are_apart, binds_nothing};
 use crate::saving::{LeafSlots, fetch_part, spot_at};
 use crate::spots::{Wanted, Whole, field_below, give_spots, is_deep};
@@ -205,19 +205,13 @@ fn save_together(
         pats: &[],
         nodes: &[],
     };
-    let edges = ask_deep(
-        alloc,
-        body,
-        agreed,
-        &graph,
-        ty,
-        reads,
-        spots,
-        &[],
-        &[],
-        &arms,
-        None,
-    )?;
+    let test = Test {
+        known: &[],
+        position: &[],
+        arms: &arms,
+        other: None,
+    };
+    let edges = ask_deep(alloc, body, agreed, &graph, ty, reads, spots, &test)?;
     let Some(known) = node_known(alloc, edges.as_slice(), 0)? else {
         return Err(AllocError);
     };

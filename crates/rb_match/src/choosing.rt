@@ -8,6 +8,7 @@ ghost use Rattle.rb_match.specs.inner.Trees.{TakesShared, TakesTree};
 
 use crate::clauses::emit_clauses;
 use crate::engine::emit_graph;
+use crate::knowledge::Subject;
 use crate::spots::{Whole, give_spots_for};
 use rb_core::pattern::Pat;
 use rb_core::seq::Seq;
@@ -45,7 +46,8 @@ pub fn emit_shared(
     let spots = give_spots_for(alloc, body, agreed, pats)?;
     let spots = spots.as_slice();
     let whole = Whole { ty, pats, nodes };
-    let holes = emit_graph(alloc, body, agreed, &whole, words, spots, graph.root)?;
+    let subject = Subject { words, spots };
+    let holes = emit_graph(alloc, body, agreed, &whole, &subject, graph.root)?;
     Ok(holes)
 }
 

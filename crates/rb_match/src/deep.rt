@@ -12,13 +12,13 @@ ghost use Rattle.rb_match.specs.inner.Opening.{AsksDeep, CanOpen, HasGroupOnward
 
 use crate::asking::{con_of, count_leaves, edge, edge_within, link_of, mark_tested_below, prov_of};
 use crate::clauses::holes_of;
-use crate::knowledge::{Edge, Known, Spot, copy_known, with_known};
+use crate::knowledge::{Edge, Known, Spot, Test, copy_known, with_known};
 use crate::saving::{Source, save_fields};
 use crate::spots::{Whole, needs_from};
 use crate::threading::{Exit, lead_on};
 use rb_core::seq::Seq;
 use rb_decide::clause_matrix::number_of;
-use rb_decide::decision_graph::{GraphArm, GraphNode};
+use rb_decide::decision_graph::GraphNode;
 use rb_fetch::look::find_group;
 use rb_fragment::make::make_all;
 use rb_fragment::patch::patch_all;
@@ -103,22 +103,19 @@ fn onward_of<'a>(
     below: &[bool],
     ty: u32,
     leaf: usize,
-    known: &[Known<'a>],
-    position: &&'a [u32],
-    arms: &[GraphArm],
-    other: Option<u32>,
+    test: &Test<'_, 'a>,
 ) -> Result<Option<Onward<'a>>, AllocError>
-    ensures { IfOk result
-        (λ found. LeadsLeaf agreed.now graph.now ty known.now position.now arms.now other leaf found) }
+    ensures { IfOk result (λ found. LeadsLeaf agreed.now graph.now ty test.now.known.now test.now.position
+        test.now.arms.now test.now.other leaf found) }
 {
     let Some(con) = con_of(agreed, ty, leaf) else {
         return Err(AllocError);
     };
-    let Some(node) = link_of(arms, other, con) else {
+    let Some(node) = link_of(test.arms, test.other, con) else {
         return Ok(None);
     };
-    let exit = exit_of(agreed, ty, leaf, *position);
-    let mut facts = with_known(alloc, known, *position, ty, leaf)?;
+    let exit = exit_of(agreed, ty, leaf, test.position);
+    let mut facts = with_known(alloc, test.known, test.position, ty, leaf)?;
     let end = node_from(alloc, agreed, graph, &exit, &mut facts, node as usize)?;
     let saves = saves_at(graph.nodes, below, end);
     Ok(Some(Onward {
@@ -134,21 +131,16 @@ fn onward_all<'a>(
     agreed: &Agreed,
     graph: &Whole<'a>,
     ty: u32,
-    known: &[Known<'a>],
-    position: &&'a [u32],
-    arms: &[GraphArm],
-    other: Option<u32>,
+    test: &Test<'_, 'a>,
 ) -> Result<Seq<Option<Onward<'a>>>, AllocError>
-    ensures { IfOk result (λ all. AreGroups (LeadsLeaf agreed.now graph.now ty known.now position.now arms.now other)
-        (leaf_count agreed.now ty) all) }
+    ensures { IfOk result (λ all. AreGroups (LeadsLeaf agreed.now graph.now ty test.now.known.now test.now.position
+        test.now.arms.now test.now.other) (leaf_count agreed.now ty) all) }
 {
-    let below = mark_tested_below(alloc, graph.nodes, *position)?;
+    let below = mark_tested_below(alloc, graph.nodes, test.position)?;
     let below = below.as_slice();
     let mut all = Seq::new(alloc);
     for leaf in 0..count_leaves(agreed, ty) {
-        all.push(onward_of(
-            alloc, agreed, graph, below, ty, leaf, known, position, arms, other,
-        )?)?;
+        all.push(onward_of(alloc, agreed, graph, below, ty, leaf, test)?)?;
     }
     Ok(all)
 }
@@ -188,10 +180,11 @@ fn groups_onward(alloc: Global, onward: &[Option<Onward>]) -> Result<Seq<Option<
     Ok(groups)
 }
 
-/// A part that is tested: its type, the slots of its words, the spots that there are, what is known before the test,
-/// and the part's position.
+/// A part that is tested: the nodes of the graph, the part's type, the slots of its words, the spots that there are,
+/// what is known before the test, and the part's position.
 #[derive(Clone, Copy)]
 pub struct Tested<'b, 'a> {
+    pub nodes: &'b [GraphNode],
     pub ty: u32,
     pub words: &'b [usize],
     pub spots: &'b [Spot],
@@ -205,7 +198,6 @@ fn open_way<'a>(
     alloc: Global,
     body: &mut Body,
     agreed: &Agreed,
-    nodes: &[GraphNode],
     part: &Tested<'_, 'a>,
     holes: &[Hole],
     leaf: usize,
@@ -224,7 +216,7 @@ fn open_way<'a>(
     }
     let mut edges = edges;
     land_leaf(alloc, body, holes, leaf)?;
-    let needs = needs_from(alloc, nodes, onward.node as usize)?;
+    let needs = needs_from(alloc, part.nodes, onward.node as usize)?;
     let told = onward.known.as_slice();
     let known = copy_known(alloc, told)?;
     let source = Source {
@@ -268,7 +260,6 @@ fn open_ways<'a>(
     alloc: Global,
     body: &mut Body,
     agreed: &Agreed,
-    nodes: &[GraphNode],
     part: &Tested<'_, 'a>,
     onward: &[Option<Onward<'a>>],
 ) -> Result<Seq<Edge<'a>>, AllocError>
@@ -282,19 +273,9 @@ fn open_ways<'a>(
     let holes = holes.as_slice();
     let mut edges = Seq::new(alloc);
     for leaf in 0..onward.len() {
-        edges = open_way(
-            alloc,
-            body,
-            agreed,
-            nodes,
-            part,
-            holes,
-            leaf,
-            &onward[leaf],
-            edges,
-        )?;
+        edges = open_way(alloc, body, agreed, part, holes, leaf, &onward[leaf], edges)?;
     }
-    let shared = edges_onward(alloc, nodes, holes, onward.len(), part.known)?;
+    let shared = edges_onward(alloc, part.nodes, holes, onward.len(), part.known)?;
     match edges.append(shared) {
         None => Ok(edges),
         Some(_) => Err(AllocError),
@@ -317,27 +298,25 @@ pub fn ask_deep<'a>(
     ty: u32,
     reads: &[Read],
     spots: &[Spot],
-    known: &[Known<'a>],
-    position: &'a [u32],
-    arms: &[GraphArm],
-    other: Option<u32>,
+    test: &Test<'_, 'a>,
 ) -> Result<Seq<Edge<'a>>, AllocError>
-    ensures asks { IfOk result (λ edges. AsksDeep agreed.now graph.now ty spots.now reads.now known.now position.now
-        arms.now other body.old body.new edges) }
+    ensures asks { IfOk result (λ edges. AsksDeep agreed.now graph.now ty spots.now reads.now test.now.known.now
+        test.now.position.now test.now.arms.now test.now.other body.old body.new edges) }
     ensures stand { IfOk result (λ edges. StandOpen body.old body.new edges) }
     ensures grows { OnOk result (Grows body.old.code body.new.code) }
 {
-    let onward = onward_all(alloc, agreed, graph, ty, known, &position, arms, other)?;
+    let onward = onward_all(alloc, agreed, graph, ty, test)?;
     let words = make_all(alloc, body, reads)?;
     let words = words.as_slice();
     let onward = onward.as_slice();
     let part = Tested {
+        nodes: graph.nodes,
         ty,
         words,
         spots,
-        known,
-        position,
+        known: test.known,
+        position: test.position,
     };
-    let edges = open_ways(alloc, body, agreed, graph.nodes, &part, onward)?;
+    let edges = open_ways(alloc, body, agreed, &part, onward)?;
     Ok(edges)
 }

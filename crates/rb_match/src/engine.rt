@@ -7,13 +7,12 @@ ghost use Rattle.rb_match.specs.inner.Asking.{AreOpen};
 ghost use Rattle.rb_match.specs.inner.Flowing.{landing_of, others_of, StepsNode, Begins, IsClauseHole, AreClauseHoles, TakesGraph};
 
 use crate::asking::{ask, edge};
-use crate::knowledge::{Edge, Spot, node_known};
+use crate::knowledge::{Edge, Subject, Test, node_known};
 use crate::spots::Whole;
 use crate::threading::thread;
 use rb_core::seq::Seq;
 use rb_decide::decision_graph::GraphNode;
 use rb_fragment::patch::patch_all;
-use rb_fragment::reads::Read;
 use rb_layout::agreed::Agreed;
 use rb_target::body::{Body, Hole};
 use rb_target::instr::Instr;
@@ -73,15 +72,14 @@ fn emit_node<'a>(
     body: &mut Body,
     agreed: &Agreed,
     graph: &Whole<'a>,
-    words: &[Read],
-    spots: &[Spot],
+    subject: &Subject,
     node: &'a GraphNode,
     number: usize,
     edges: Seq<Edge<'a>>,
 ) -> Result<Seq<Edge<'a>>, AllocError>
     requires { AreOpen 0 body.old.code edges }
-    ensures { IfOk result (λ more. StepsNode agreed.now graph.now.ty words.now graph.now.pats.now spots.now
-        graph.now.nodes.now node.now number body.old edges.entry body.new more) }
+    ensures { IfOk result (λ more. StepsNode agreed.now graph.now.ty subject.now.words.now graph.now.pats.now
+        subject.now.spots.now graph.now.nodes.now node.now number body.old edges.entry body.new more) }
 {
     match node {
         GraphNode::Clause(_) => Ok(edges),
@@ -92,10 +90,14 @@ fn emit_node<'a>(
             let known = known.as_slice();
             let position = position.as_slice();
             let arms = arms.as_slice();
+            let test = Test {
+                known,
+                position,
+                arms,
+                other: *other,
+            };
             let mut rest = land(alloc, body, edges, number)?;
-            let asked = ask(
-                alloc, body, agreed, graph, words, spots, known, position, arms, *other,
-            )?;
+            let asked = ask(alloc, body, agreed, graph, subject, &test)?;
             let onward = thread(alloc, agreed, graph.ty, graph.pats, graph.nodes, asked)?;
             match rest.append(onward) {
                 None => Ok(rest),
@@ -111,12 +113,11 @@ fn begin<'a>(
     body: &mut Body,
     agreed: &Agreed,
     graph: &Whole<'a>,
-    words: &[Read],
-    spots: &[Spot],
+    subject: &Subject,
     root: u32,
 ) -> Result<Seq<Edge<'a>>, AllocError>
-    ensures { IfOk result (λ edges. Begins agreed.now graph.now.ty words.now graph.now.pats.now spots.now
-        graph.now.nodes.now root body.old body.new edges) }
+    ensures { IfOk result (λ edges. Begins agreed.now graph.now.ty subject.now.words.now graph.now.pats.now
+        subject.now.spots.now graph.now.nodes.now root body.old body.new edges) }
 {
     let Some(node) = graph.nodes.get(root as usize) else {
         return Err(AllocError);
@@ -125,18 +126,13 @@ fn begin<'a>(
         GraphNode::Test(position, arms, other) => {
             let position = position.as_slice();
             let arms = arms.as_slice();
-            let edges = ask(
-                alloc,
-                body,
-                agreed,
-                graph,
-                words,
-                spots,
-                &[],
+            let test = Test {
+                known: &[],
                 position,
                 arms,
-                *other,
-            )?;
+                other: *other,
+            };
+            let edges = ask(alloc, body, agreed, graph, subject, &test)?;
             let onward = thread(alloc, agreed, graph.ty, graph.pats, graph.nodes, edges)?;
             Ok(onward)
         }
@@ -196,26 +192,23 @@ pub fn emit_graph(
     body: &mut Body,
     agreed: &Agreed,
     graph: &Whole,
-    words: &[Read],
-    spots: &[Spot],
+    subject: &Subject,
     root: u32,
 ) -> Result<Seq<Hole>, AllocError>
     ensures holes { IfOk result
         (λ holes. AreHoles (length body.old.code) (length graph.now.pats.now) body.new.code holes) }
     ensures ways { IfOk result (λ holes. AreOfOneWay holes) }
-    ensures takes { IfOk result (λ holes. TakesGraph agreed.now graph.now.ty words.now graph.now.pats.now spots.now
-        graph.now.nodes.now root body.old body.new holes) }
+    ensures takes { IfOk result (λ holes. TakesGraph agreed.now graph.now.ty subject.now.words.now graph.now.pats.now
+        subject.now.spots.now graph.now.nodes.now root body.old body.new holes) }
     ensures grows { OnOk result (Grows body.old.code body.new.code) }
 {
-    let mut edges = begin(alloc, body, agreed, graph, words, spots, root)?;
+    let mut edges = begin(alloc, body, agreed, graph, subject, root)?;
     let nodes = graph.nodes;
     let count = nodes.len();
     for i in 0..count {
         let number = count - 1 - i;
         let node = &nodes[number];
-        edges = emit_node(
-            alloc, body, agreed, graph, words, spots, node, number, edges,
-        )?;
+        edges = emit_node(alloc, body, agreed, graph, subject, node, number, edges)?;
     }
     let holes = clause_holes(alloc, nodes, edges.as_slice(), graph.pats.len())?;
     Ok(holes)

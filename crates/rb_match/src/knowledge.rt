@@ -6,6 +6,8 @@ ghost use Rattle.rb_match.specs.inner.Knowing.{FollowsLeaf, FollowsSaved, IsMet,
 
 use rb_core::seq::Seq;
 use rb_core::types::Ty;
+use rb_decide::decision_graph::GraphArm;
+use rb_fragment::reads::Read;
 use rb_target::body::Hole;
 use std::alloc::{AllocError, Global};
 
@@ -16,6 +18,13 @@ pub struct Spot {
     pub position: Seq<u32>,
     pub ty: Ty,
     pub slots: Seq<usize>,
+}
+
+/// A value that is matched: its words, and the spots of its parts.
+#[derive(Clone, Copy)]
+pub struct Subject<'a> {
+    pub words: &'a [Read],
+    pub spots: &'a [Spot],
 }
 
 /// A fact on a value. A position is that of the test that found a leaf, so a list of facts is copied as
@@ -32,6 +41,15 @@ pub enum Known<'a> {
     Saved {
         spot: usize,
     },
+}
+
+/// A test: what is known where it stands, the position of the part that it looks at, and the nodes to which it leads.
+#[derive(Clone, Copy)]
+pub struct Test<'b, 'a> {
+    pub known: &'b [Known<'a>],
+    pub position: &'a [u32],
+    pub arms: &'b [GraphArm],
+    pub other: Option<u32>,
 }
 
 /// A way out of emitted code, whose `leaf` is the number of the node to which it leads, with what is

@@ -12,7 +12,7 @@ returns c =
     let graph = c.args.graph.now in
     let node = c.in-Some-link_of.node in
     let link = sym (sym c.link_of.ensures ∙ c.in-Some-link_of.is) in
-    let facts : List Known = c.args.known.now ++ K.Leaf c.args.position.now c.args.ty c.args.leaf ∷ [] in
+    let facts : List Known = c.args.test.now.known.now ++ K.Leaf c.args.test.now.position c.args.ty c.args.leaf ∷ [] in
     let known = c.carried_onward.result in
     let found : Onward = record { node = c.in_ok-number_of.field-0; saves = c.saves_at-saves.result; known = known } in
     let leads : LeadsFrom agreed graph facts node c.in_ok-end.end = subst (λ fs. LeadsFrom agreed graph fs node c.in_ok-end.end) c.in_ok-facts.ensures c.in_ok-end.ensures.leads in

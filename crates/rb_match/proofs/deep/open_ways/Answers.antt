@@ -63,7 +63,7 @@ returns-in-None-clause-leads c =
     let st = subst (λ i. StandBehind old holes i new edges) end c.loop-leaf.invariant.stands in
     let l = subst (λ i. LeadsSome c.args.agreed.now c.args.part.now.ty c.args.part.now.words.now c.args.part.now.spots.now c.args.part.now.known.now c.args.part.now.position onward i old holes new edges) end c.loop-leaf.invariant.leads in
     rw (c.in-None.ensures, c.in_ok-shared.ensures) (λ graph arms other plan n goes of are low count.
-    ways_part c.args.nodes.now c.args.part.now.known.now holes (length onward) old new edges st.0 st.1 st.2 c.args.agreed.now graph c.args.part.now.ty c.args.part.now.words.now c.args.part.now.spots.now c.args.part.now.position arms other onward l.0 plan n refl l.1 goes of are
+    ways_part c.args.part.now.nodes.now c.args.part.now.known.now holes (length onward) old new edges st.0 st.1 st.2 c.args.agreed.now graph c.args.part.now.ty c.args.part.now.words.now c.args.part.now.spots.now c.args.part.now.position arms other onward l.0 plan n refl l.1 goes of are
     (l.2 graph arms other plan n goes of are low count))
 
 pub returns-in-None-clause-stands : goal.returns-in-None-clause-stands
@@ -75,7 +75,7 @@ returns-in-None-clause-stands c =
     let edges = c.loop-leaf.edges in
     let end : c.loop-leaf.leaf ≡ length onward = omega (arith, c.loop-leaf-test.false, c.loop-leaf.auto.leaf-end) in
     let st = subst (λ i. StandBehind old holes i new edges) end c.loop-leaf.invariant.stands in
-    rw (c.in-None.ensures, c.in_ok-shared.ensures) (ways_open c.args.nodes.now c.args.part.now.known.now holes (length onward) old new edges st.0 st.1 st.2 (rw c.as_slice-holes.ensures c.in_ok-holes.ensures.ways) st.2.grows)
+    rw (c.in-None.ensures, c.in_ok-shared.ensures) (ways_open c.args.part.now.nodes.now c.args.part.now.known.now holes (length onward) old new edges st.0 st.1 st.2 (rw c.as_slice-holes.ensures c.in_ok-holes.ensures.ways) st.2.grows)
 
 pub returns-in-None-clause-grows : goal.returns-in-None-clause-grows
 returns-in-None-clause-grows c = c.loop-leaf.invariant.stands.2.grows

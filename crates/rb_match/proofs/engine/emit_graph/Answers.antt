@@ -24,5 +24,5 @@ returns-clause-ways c =
 
 pub returns-clause-takes : goal.returns-clause-takes
 returns-clause-takes c =
-    graph_takes c.args.graph.now.nodes.now _ c.loop-i.edges c.in_ok-holes.holes (rw c.as_slice.ensures at c.in_ok-holes.ensures) c.args.agreed.now c.args.graph.now.ty c.args.words.now c.args.graph.now.pats.now c.args.spots.now c.args.root c.args.body.now c.loop-i.body
+    graph_takes c.args.graph.now.nodes.now _ c.loop-i.edges c.in_ok-holes.holes (rw c.as_slice.ensures at c.in_ok-holes.ensures) c.args.agreed.now c.args.graph.now.ty c.args.subject.now.words.now c.args.graph.now.pats.now c.args.subject.now.spots.now c.args.root c.args.body.now c.loop-i.body
     c.loop-i.invariant.flows
