@@ -20,6 +20,7 @@ use rb_build::build::emit_build;
 use rb_core::expression::{Clause, Expr, Op};
 use rb_core::seq::Seq;
 use rb_core::types::{ConRef, Ty};
+use rb_core::typing::Binder;
 use rb_fragment::held::{Held, Joined, Local};
 use rb_fragment::join::emit_join;
 use rb_fragment::patch::close_match;
@@ -74,7 +75,8 @@ pub(crate) fn emit_expr(
         Expr::Let(_, var, ty, a, b) => {
             let a = a.get();
             let b = b.get();
-            let held = emit_let(alloc, agreed, body, locals, *var, *ty, a, b, wanted)?;
+            let binder = Binder { var: *var, ty: *ty };
+            let held = emit_let(alloc, agreed, body, locals, binder, a, b, wanted)?;
             Ok(held)
         }
         Expr::Match(_, e, clauses) => {
@@ -117,22 +119,22 @@ fn emit_let(
     agreed: &Agreed,
     body: &mut Body,
     locals: &mut Seq<Local>,
-    var: u32,
-    ty: Ty,
+    binder: Binder,
     a: &Expr,
     b: &Expr,
     wanted: Option<Ty>,
 ) -> Result<Held, AllocError>
     ensures emits { IfOk result (λ held. (fun at : ℕ)
-        → EmitsExpr (plan_of agreed.now) fun (X.Let at var ty a.now b.now) wanted locals.old body.old body.new held) }
+        → EmitsExpr (plan_of agreed.now) fun (X.Let at binder.var binder.ty a.now b.now) wanted
+        locals.old body.old body.new held) }
     ensures grows { OnOk result (Grows body.old.code body.new.code) }
     ensures locals { OnOk result (locals.new ≡ locals.old) }
 {
-    let x = emit_expr(alloc, agreed, body, locals, a, Some(ty))?;
+    let x = emit_expr(alloc, agreed, body, locals, a, Some(binder.ty))?;
     let depth = locals.len();
     locals.push(Local {
-        var,
-        ty,
+        var: binder.var,
+        ty: binder.ty,
         slots: x.slots,
     })?;
     let y = emit_expr(alloc, agreed, body, locals, b, wanted)?;

@@ -38,6 +38,7 @@ pub(crate) fn compile_fun(
     Ok(code)
 }
 
+// The parameters, each with its slots, and how many slots these are.
 #[derive(Drop)]
 struct Params {
     locals: Seq<Local>,

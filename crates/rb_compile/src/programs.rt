@@ -17,7 +17,8 @@ use std::alloc::{AllocError, Global};
 /// The code of a program whose layouts agree: a function for each of its functions, in their order.
 ///
 /// # Errors
-/// `AllocError` where memory is wanting.
+///
+/// Want of memory, also where a function's code would have more than 2^24 instructions.
 pub fn compile(alloc: Global, agreed: &Agreed) -> Result<Code, AllocError>
     ensures refines { IfOk result (λ code. Refines (plan_of agreed.now) code) }
     ensures thrifty { IfOk result (λ code. IsThrifty (plan_of agreed.now) code) }

@@ -31,7 +31,8 @@ fn shown(alloc: Global, expr: &Expr) -> Result<Pat, AllocError>
 /// Patterns that the values of expressions match, one each.
 ///
 /// # Errors
-/// `AllocError` where memory is wanting.
+///
+/// Want of memory.
 #[cycle(showing)]
 pub(crate) fn shown_patterns(alloc: Global, exprs: &[Expr]) -> Result<Seq<Pat>, AllocError>
     ensures { IfOk result (λ pats. pats ≡ map shown_of exprs.now) }

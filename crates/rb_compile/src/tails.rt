@@ -12,6 +12,7 @@ use crate::used::used_pattern;
 use rb_core::expression::{Clause, Expr};
 use rb_core::seq::Seq;
 use rb_core::types::Ty;
+use rb_core::typing::Binder;
 use rb_fragment::held::{Held, Local};
 use rb_fragment::patch::patch_all;
 use rb_layout::agreed::Agreed;
@@ -41,7 +42,8 @@ pub(crate) fn emit_tail(
         Expr::Let(_, var, of, a, b) => {
             let a = a.get();
             let b = b.get();
-            emit_tail_let(alloc, agreed, body, locals, *var, *of, a, b, ty)?;
+            let binder = Binder { var: *var, ty: *of };
+            emit_tail_let(alloc, agreed, body, locals, binder, a, b, ty)?;
             Ok(())
         }
         Expr::Match(_, e, clauses) => {
@@ -87,22 +89,22 @@ fn emit_tail_let(
     agreed: &Agreed,
     body: &mut Body,
     locals: &mut Seq<Local>,
-    var: u32,
-    of: Ty,
+    binder: Binder,
     a: &Expr,
     b: &Expr,
     ty: Ty,
 ) -> Result<(), AllocError>
     ensures emits { OnOk result ((fun at : ℕ)
-        → EmitsReturn (plan_of agreed.now) fun (X.Let at var of a.now b.now) ty locals.old body.old body.new) }
+        → EmitsReturn (plan_of agreed.now) fun (X.Let at binder.var binder.ty a.now b.now) ty
+        locals.old body.old body.new) }
     ensures grows { OnOk result (Grows body.old.code body.new.code) }
     ensures locals { OnOk result (locals.new ≡ locals.old) }
 {
-    let x = emit_expr(alloc, agreed, body, locals, a, Some(of))?;
+    let x = emit_expr(alloc, agreed, body, locals, a, Some(binder.ty))?;
     let depth = locals.len();
     locals.push(Local {
-        var,
-        ty: of,
+        var: binder.var,
+        ty: binder.ty,
         slots: x.slots,
     })?;
     emit_tail(alloc, agreed, body, locals, b, ty)?;

@@ -160,7 +160,8 @@ fn no_marks(alloc: Global, pat: &Pat) -> Result<Marks, AllocError> {
 /// stand in the expression. Its constructors stay: they tell which leaves a value that it matches can have.
 ///
 /// # Errors
-/// `AllocError` where memory is wanting.
+///
+/// Want of memory.
 pub(crate) fn used_pattern(alloc: Global, pat: &Pat, body: &Expr) -> Result<Pat, AllocError>
     ensures { IfOk result (λ p. IsPrunedFor body.now pat.now p) }
 {

@@ -61,7 +61,7 @@ emit_binary-returns-clause-emits t c = λ fun at.
 pub emit_let-returns-clause-emits : goal.emit_let-returns-clause-emits
 emit_let-returns-clause-emits t c = λ fun at.
     let second = rw (c.in_ok-push.ensures.ok, c.in_ok-x.ensures.locals) at (c.in_ok-y.ensures.emits fun) in
-    let_expr (plan_of c.args.agreed.now) fun at c.args.var c.args.ty c.args.a.now c.args.b.now c.args.wanted c.args.locals.now c.args.body.now _ _ c.in_ok-x.x c.in_ok-y.y (c.in_ok-x.ensures.emits fun) second
+    let_expr (plan_of c.args.agreed.now) fun at c.args.binder.var c.args.binder.ty c.args.a.now c.args.b.now c.args.wanted c.args.locals.now c.args.body.now _ _ c.in_ok-x.x c.in_ok-y.y (c.in_ok-x.ensures.emits fun) second
 
 -- parts
 

@@ -24,7 +24,7 @@ emit_tail-returns-in_ok-emit_tail_match-in-Match-clause-emits t c = λ fun.
 pub emit_tail_let-returns-clause-emits : goal.emit_tail_let-returns-clause-emits
 emit_tail_let-returns-clause-emits t c = λ fun at.
     let second = rw (c.in_ok-push.ensures.ok, c.in_ok-x.ensures.locals) at (c.in_ok-emit_tail.ensures.emits fun) in
-    let_return (plan_of c.args.agreed.now) fun at c.args.var c.args.of c.args.a.now c.args.b.now c.args.ty c.args.locals.now c.args.body.now _ _ c.in_ok-x.x (c.in_ok-x.ensures.emits fun) second
+    let_return (plan_of c.args.agreed.now) fun at c.args.binder.var c.args.binder.ty c.args.a.now c.args.b.now c.args.ty c.args.locals.now c.args.body.now _ _ c.in_ok-x.x (c.in_ok-x.ensures.emits fun) second
 
 -- arms
 
