@@ -54,7 +54,8 @@ pub struct Bounds {
 /// source means.
 ///
 /// # Errors
-/// `AllocError` where memory is wanting.
+///
+/// Want of memory.
 pub fn answer_main<L: Ledger>(
     alloc: Global,
     agreed: &Agreed,

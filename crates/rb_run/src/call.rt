@@ -15,7 +15,7 @@ ghost use Rattle.rb_run.specs.Calling.{IsCalled, IsCounted};
 use rb_bytes::memory::ByteMemory;
 use rb_coding::encode::encode_all;
 use rb_coding::fault::EncodeFault;
-use rb_core::program::Param;
+use rb_core::inference::types_of_params;
 use rb_core::seq::Seq;
 use rb_core::types::Ty;
 use rb_edge::steps::{Ledger, Steps};
@@ -31,7 +31,8 @@ use std::alloc::{AllocError, Global};
 /// doesn't fit, nothing runs.
 ///
 /// # Errors
-/// `AllocError` where memory is wanting; then nothing is said of the memory and of the steps.
+///
+/// Want of memory; then nothing is said of the memory and of the steps.
 pub fn call_main<M: ByteMemory, L: Ledger>(
     alloc: Global,
     agreed: &Agreed,
@@ -94,22 +95,6 @@ fn parameters_of_main(alloc: Global, agreed: &Agreed) -> Result<Seq<Ty>, AllocEr
     ensures { IfOk result (λ tys. tys ≡ param_types agreed.now.covered.program.funs agreed.now.covered.program.main) }
 {
     let program = agreed.covered().program();
-    match program.funs.get(program.main as usize) {
-        None => Ok(Seq::new(alloc)),
-        Some(main) => {
-            let tys = types_of(alloc, main.params.as_slice())?;
-            Ok(tys)
-        }
-    }
-}
-
-// The parameters' types, in their order.
-fn types_of(alloc: Global, params: &[Param]) -> Result<Seq<Ty>, AllocError>
-    ensures { IfOk result (λ tys. tys ≡ map (λ p. p.ty) params.now) }
-{
-    let mut tys = Seq::new(alloc);
-    for param in params {
-        tys.push(param.ty)?;
-    }
+    let tys = types_of_params(alloc, program, program.main)?;
     Ok(tys)
 }

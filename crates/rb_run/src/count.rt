@@ -50,7 +50,8 @@ pub struct Counted {
 /// Runs `main` on some values over a fresh region, as [`crate::answer::answer_main`], and counts what it did.
 ///
 /// # Errors
-/// `AllocError` where memory is wanting.
+///
+/// Want of memory.
 pub fn count_main<L: Ledger>(
     alloc: Global,
     agreed: &Agreed,
