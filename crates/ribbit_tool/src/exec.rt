@@ -1,6 +1,6 @@
 //! The command `exec`: a function of a code text is run.
 
-ghost use Rattle.std.specs.Prelude.{◌≡◌, ◌≢◌, ◌≤◌, ◌<◌, ◌+◌, ℕ, length, IfOk, IfSome, Ok, slice_get, [], ◌∷◌};
+ghost use Rattle.std.specs.Prelude.{◌≡◌, ◌≢◌, ◌<◌, ◌+◌, ℕ, length, IfOk, IfSome, Ok, slice_get, [], ◌∷◌};
 ghost use Rattle.rb_accept.specs.Reading.{ReadsInTurn, code_limit, source_of};
 ghost use Rattle.rb_accept.specs.View.{added};
 ghost use Rattle.rb_bytes.specs.Memory.{empty_memory};

@@ -16,14 +16,18 @@ use rb_lines::line::push;
 use rb_lines::refusal::Refusal;
 use std::alloc::{AllocError, Global};
 
+// The type of lists.
 const LIST_TYPE: &[u8] = b"type List = Nil | Cons(u64, List);\n";
 
+// Its layout: the lowest bit of the pointer tells the leaves apart.
 const LIST_LAYOUT: &[u8] =
     b"layout List <64> = split 0[0:1] { 1 => Nil : { word 64 { [0:1] = 1 } } 0 => Cons(_, _) : { word 64 { [0:1] = 0, [3:61] -> 8 { word 64 { [0:64] .0 }, inline .1 } } } };\n";
 
+// The function that puts the numbers from 1 to `n` in front of a list.
 const UP: &[u8] =
     b"fun up(n: u64, l: List): List = match n { 0 => l, _ => up(sub(n, 1), Cons(n, l)) };\n";
 
+// What is run: the first function, on the numbers from 1 to 3,000.
 const MAIN: &[u8] = b"fun main(): u64 = f0(up(3000, Nil));\n";
 
 // Function `i`, which calls function `j`.

@@ -30,7 +30,7 @@ use rb_lines::refusal::{Refusal, Refused};
 use rb_lines::status::Status;
 use rb_run::call::call_main;
 use rb_target::outcome::End;
-use std::alloc::{AllocError, Global};
+use std::alloc::Global;
 
 // The text of a call's end over the memory that it left, or the refusal in its place.
 fn show(

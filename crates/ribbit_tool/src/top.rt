@@ -1,6 +1,6 @@
 //! The top call.
 
-ghost use Rattle.std.specs.Prelude.{◌≡◌, ◌≤◌, ℕ, List, IfOk, Ok};
+ghost use Rattle.std.specs.Prelude.{◌≡◌, IfOk, Ok};
 ghost use Rattle.rb_accept.specs.Reading.{ReadsInTurn, source_of};
 ghost use Rattle.rb_accept.specs.View.{added};
 ghost use Rattle.rb_command.specs.View.{command_view};
