@@ -1,10 +1,10 @@
 -- One instruction of a body and the one that stands for it do alike.
-use Rattle.std.proofs.Common.{◌≡◌, ℕ, ◌+◌, ◌%◌, ◌^◌, ◌<◌, ◌≤◌, ◌⊎◌, inl, inr, Bool, true, false, nat_eq, cond, List, [], ◌∷◌, ◌++◌, map, length, Option, Some, None, refl, sym, subst, ap, ◌∙◌, arith}
+use Rattle.std.proofs.Common.{◌≡◌, ℕ, ◌+◌, ◌%◌, ◌^◌, ◌<◌, ◌≤◌, ◌⊎◌, inl, inr, Bool, true, false, nat_eq, cond, List, [], ◌∷◌, ◌++◌, map, length, Option, Some, None, refl, sym, subst, ap, ◌∙◌, arith, eqb-true}
 use Rattle.std.proofs.lemmas.List.{length-set, length-map}
 use Rattle.std.proofs.lemmas.List.Elements.{All-head, All-tail}
 use Rattle.std.specs.Prelude.{slice_get, slice_index, slice_set, IfSome, All}
 use Rattle.rb_bits.specs.Words.{take_of, put_of}
-use Rattle.rb_bytes.specs.Memory.{load_of, store_of, place_of}
+use Rattle.rb_bytes.specs.Memory.{Memory, load_of, store_of, place_of}
 use Rattle.rb_target.specs.Meaning.{World, Outcome, Next, Callee, act, over, switched, with_memory, target_of, alu_of, slots_at, put_slots, after_load, after_store, after_place, after_switch, after_call}
 use Rattle.rb_target.specs.Validity.{SlotsFit, CallsFit, FitsCall}
 use Rattle.rb_target.specs.declared.outcome.End.TheVariants.{Returned, Trapped}
@@ -18,9 +18,9 @@ use Rattle.rb_trim.specs.declared.fact.Content.TheVariants.{Number, Same, Part, 
 use Rattle.rb_trim.specs.declared.fact.Fact.{Fact}
 use Rattle.rb_trim.specs.declared.hints.Hints.{Hints}
 use Rattle.rb_trim.specs.Trimming.{IsNoDearer}
-use Rattle.rb_trim.specs.inner.Facts.{IsContent, Hold, Turns}
+use Rattle.rb_trim.specs.inner.Facts.{IsContent, Hold, Says, Turns}
 use Rattle.rb_trim.specs.inner.Following.{Made, IsTold, Sets}
-use Rattle.rb_trim.specs.inner.Moving.{IsRead, Agree, AreApart, IsDest, IsName, landing, landing_in, moved_arm, Makes, IsWrite, IsRemade, IsPut, IsJumped, IsMoved, Leads}
+use Rattle.rb_trim.specs.inner.Moving.{tells, IsRead, Agree, AreApart, IsDest, IsName, landing, landing_in, moved_arm, Makes, IsWrite, IsRemade, IsPut, IsJumped, IsMoved, Leads}
 use Rattle.rb_trim.proofs.Outcomes.{Near, over_near, near_switched, near_memory, near_of, load_near, store_near, place_near, call_near}
 use Rattle.rb_trim.proofs.Slots.{AgreeOn, Borne, set_agrees, put_agrees, put_long, names_same}
 
@@ -41,32 +41,47 @@ moved_target h (arm ∷ arms) other word =
     let P : Bool → Type 0 = λ b. cond b (Some (landing h arm.target)) (target_of (map (λ (arm : SwitchArm). moved_arm h arm) arms) (landing_in h other) word) ≡ landing_in h (cond b (Some arm.target) (target_of arms other word)) in
     elim (nat_eq arm.number word) as P [ true ↦ refl | false ↦ more ]
 
-pub led_to : (P : ℕ → Type 0) (arms : List SwitchArm) (other : Option ℕ) (word t : ℕ) → All (λ (arm : SwitchArm). P arm.target) arms → IfSome other P → target_of arms other word ≡ Some t → P t
-led_to P [] other word t a o e = subst (λ (x : Option ℕ). IfSome x P) e o
-led_to P (arm ∷ arms) other word t a o e =
-    let Q : Bool → Type 0 = λ b. cond b (Some arm.target) (target_of arms other word) ≡ Some t → P t in
-    (elim (nat_eq arm.number word) as Q [
-      | true ↦ λ h. subst (λ (x : Option ℕ). IfSome x P) h (All-head (λ (arm : SwitchArm). P arm.target) arm arms a)
-      | false ↦ λ h. led_to P arms other word t (All-tail (λ (arm : SwitchArm). P arm.target) arm arms a) o h
-    ]) e
+same_nat : (a b : ℕ) → (nat_eq a b ≡ false) ⊎ ((nat_eq a b ≡ true) × (a ≡ b))
+same_nat a b =
+    let Q : Bool → Type 0 = λ c. nat_eq a b ≡ c → (nat_eq a b ≡ false) ⊎ ((nat_eq a b ≡ true) × (a ≡ b)) in
+    (elim (nat_eq a b) as Q [ true ↦ λ e. inr (e, eqb-true a b e) | false ↦ λ e. inl e ]) refl
+
+-- by some way a switch leads to a place, and what the way tells is so
+abbrev pub LedTo : (Option Fact → ℕ → Type 0) → List ℕ → Memory → ℕ → Type 0
+LedTo P s m t = (told : Option Fact) × P told t × Says told s m
+
+module _ (P : Option Fact → ℕ → Type 0) (a : ℕ) (s : List ℕ) (m : Memory) where
+  pub led_to : (arms : List SwitchArm) (other : Option ℕ) (word t : ℕ) → slice_index s a ≡ word → All (λ (arm : SwitchArm). P (tells a arm.number) arm.target) arms → IfSome other (P None) → target_of arms other word ≡ Some t → LedTo P s m t
+  led_to [] other word t is all o e = (None, subst (λ (x : Option ℕ). IfSome x (P None)) e o, tt)
+  led_to (arm ∷ arms) other word t is all o e =
+      let Q : Bool → Type 0 = λ b. cond b (Some arm.target) (target_of arms other word) ≡ Some t in
+      elim (same_nat arm.number word) [
+        | inl off ↦ led_to arms other word t is (All-tail (λ (arm : SwitchArm). P (tells a arm.number) arm.target) arm arms all) o (subst Q off e)
+        | inr same ↦
+            let hit : Some arm.target ≡ Some t = subst Q same.0 e in
+            (tells a arm.number, subst (λ (x : Option ℕ). IfSome x (P (tells a arm.number))) hit (All-head (λ (arm : SwitchArm). P (tells a arm.number) arm.target) arm arms all), is ∙ sym same.1)
+      ]
 
 pub switch_near : (h : Hints) (o : Option ℕ) (word : ℕ) (v w : World) (g k : ℕ → Outcome) → Near v w → ((t : ℕ) → o ≡ Some t → IsNoDearer (g (landing h t)) (k t)) → IsNoDearer (after_switch (landing_in h o) word v g) (after_switch o word w k)
 switch_near h None word v w g k n e = over_near (Trapped (Unmatched word)) v w n
 switch_near h (Some t) word v w g k n e = e t refl
 
 -- of the arms of two switches the first one's are taken first
-pub first_or : (h : Hints) (P : ℕ → Type 0) (arms more : List SwitchArm) (other : Option ℕ) (t word : ℕ) → All (λ (arm : SwitchArm). P arm.target) arms
-    → ((u : ℕ) × P u × (target_of arms (Some t) word ≡ Some u) × (target_of (map (λ (arm : SwitchArm). moved_arm h arm) arms ++ more) other word ≡ Some (landing h u)))
+pub first_or : (h : Hints) (P : Option Fact → ℕ → Type 0) (a : ℕ) (s : List ℕ) (m : Memory) (arms more : List SwitchArm) (other : Option ℕ) (t word : ℕ) → slice_index s a ≡ word → All (λ (arm : SwitchArm). P (tells a arm.number) arm.target) arms
+    → ((u : ℕ) × LedTo P s m u × (target_of arms (Some t) word ≡ Some u) × (target_of (map (λ (arm : SwitchArm). moved_arm h arm) arms ++ more) other word ≡ Some (landing h u)))
     ⊎ ((target_of arms (Some t) word ≡ Some t) × (target_of (map (λ (arm : SwitchArm). moved_arm h arm) arms ++ more) other word ≡ target_of more other word))
-first_or h P [] more other t word all = inr (refl, refl)
-first_or h P (arm ∷ arms) more other t word all =
-    let rest = first_or h P arms more other t word (All-tail (λ (arm : SwitchArm). P arm.target) arm arms all) in
+first_or h P a s m [] more other t word is all = inr (refl, refl)
+first_or h P a s m (arm ∷ arms) more other t word is all =
+    let rest = first_or h P a s m arms more other t word is (All-tail (λ (arm : SwitchArm). P (tells a arm.number) arm.target) arm arms all) in
     let old = target_of arms (Some t) word in
     let new = target_of (map (λ (arm : SwitchArm). moved_arm h arm) arms ++ more) other word in
     let Q : Bool → Type 0 = λ b.
-    ((u : ℕ) × P u × (cond b (Some arm.target) old ≡ Some u) × (cond b (Some (landing h arm.target)) new ≡ Some (landing h u)))
+    ((u : ℕ) × LedTo P s m u × (cond b (Some arm.target) old ≡ Some u) × (cond b (Some (landing h arm.target)) new ≡ Some (landing h u)))
     ⊎ ((cond b (Some arm.target) old ≡ Some t) × (cond b (Some (landing h arm.target)) new ≡ target_of more other word)) in
-    elim (nat_eq arm.number word) as Q [ true ↦ inl (arm.target, All-head (λ (arm : SwitchArm). P arm.target) arm arms all, refl, refl) | false ↦ rest ]
+    elim (same_nat arm.number word) [
+      | inl off ↦ subst Q (sym off) rest
+      | inr same ↦ subst Q (sym same.0) (inl (arm.target, (tells a arm.number, All-head (λ (arm : SwitchArm). P (tells a arm.number) arm.target) arm arms all, is ∙ sym same.1), refl, refl))
+    ]
 
 sets_one : (i : Instr) (a b : ℕ) → Sets i a → Sets i b → a ≡ b
 sets_one (Const d c) a b e f = sym e ∙ f
@@ -83,17 +98,17 @@ sets_one (Call g ds froms) a b e f = absurd e
 sets_one (Return froms) a b e f = absurd e
 
 -- where a run goes on: at the instruction behind, or at a target
-abbrev pub Comes : Hints → ℕ → ℕ → (ℕ → Type 0) → (ℕ → Type 0) → ℕ → ℕ → Type 0
-Comes h pc pc' F J t t' = (F t × (t ≡ pc + 1) × (t' ≡ pc' + 1)) ⊎ (J t × (t' ≡ landing h t))
+abbrev pub Comes : Hints → ℕ → ℕ → (ℕ → Type 0) → (Option Fact → ℕ → Type 0) → List ℕ → Memory → ℕ → ℕ → Type 0
+Comes h pc pc' F J s m t t' = (F t × (t ≡ pc + 1) × (t' ≡ pc' + 1)) ⊎ (LedTo J s m t × (t' ≡ landing h t))
 
 -- what goes on behind an instruction
-abbrev pub GoesFrom : Hints → ℕ → ℕ → ℕ → ℕ → (ℕ → Type 0) → (ℕ → Type 0) → Next → Next → Instr → List ℕ → World → Type 0
+abbrev pub GoesFrom : Hints → ℕ → ℕ → ℕ → ℕ → (ℕ → Type 0) → (Option Fact → ℕ → Type 0) → Next → Next → Instr → List ℕ → World → Type 0
 GoesFrom h slots slots' pc pc' F J next' next i s w =
-    (t t' : ℕ) (s1 s1' : List ℕ) (w1 w1' : World) → Comes h pc pc' F J t t' → Turns i s w.memory s1 w1.memory
+    (t t' : ℕ) (s1 s1' : List ℕ) (w1 w1' : World) → Comes h pc pc' F J s w.memory t t' → Turns i s w.memory s1 w1.memory
     → slots ≤ length s1 → slots' ≤ length s1' → AgreeOn h (Borne h pc i) s1 s1' → Near w1' w1 → IsNoDearer (next' t' s1' w1') (next t s1 w1)
 
 module _ (h : Hints) (apart : AreApart h) (funs : List CodeFun) (body : List Instr) (results slots slots' pc pc' : ℕ) (facts : List Fact) (new old : Callee) (calls : CallsNear funs new old)
-    (F J : ℕ → Type 0) (next' next : Next) (s s' : List ℕ) (v w : World) (near : Near v w) (long : slots ≤ length s) (long' : slots' ≤ length s')
+    (F : ℕ → Type 0) (J : Option Fact → ℕ → Type 0) (next' next : Next) (s s' : List ℕ) (v w : World) (near : Near v w) (long : slots ≤ length s) (long' : slots' ≤ length s')
     (agree : Agree h pc s s') (hold : Hold s w.memory facts) where
   -- the slots as they are
   as_is : (i : Instr) → ((k : ℕ) → Sets i k → ⊥) → AgreeOn h (Borne h pc i) s s'
@@ -170,7 +185,7 @@ module _ (h : Hints) (apart : AreApart h) (funs : List CodeFun) (body : List Ins
 
   -- a jump, or the return to which it comes
   abbrev pub Jumps : ℕ → Instr → Type 0
-  Jumps t j = IsJumped h body t j → J t → IsNoDearer (act j next' new pc' s' v) (next t s w)
+  Jumps t j = IsJumped h body t j → J None t → IsNoDearer (act j next' new pc' s' v) (next t s w)
 
   pub acts_alike : (i j : Instr) → IsMoved h facts body pc i j → SlotsFit slots i → SlotsFit slots' j → CallsFit funs results i → Leads F J i pc
       → ((t : ℕ) → i ≡ Jump t → Jumps t j) → GoesFrom h slots slots' pc pc' F J next' next i s w → IsNoDearer (act j next' new pc' s' v) (act i next old pc s w)
@@ -222,7 +237,7 @@ module _ (h : Hints) (apart : AreApart h) (funs : List CodeFun) (body : List Ins
       (subst (λ y. IsNoDearer (after_switch (target_of (map (λ (arm : SwitchArm). moved_arm h arm) arms) (landing_in h other) y) y (switched v) (λ t. next' t s' (switched v))) (act (Switch a other arms) next old pc s w)) (sym (named a m.0 m.2))
       (subst (λ o. IsNoDearer (after_switch o x (switched v) (λ t. next' t s' (switched v))) (act (Switch a other arms) next old pc s w)) (sym e)
       (switch_near h (target_of arms other x) x (switched v) (switched w) (λ t. next' t s' (switched v)) (λ t. next t s (switched w)) n1
-      (λ t is. go t (landing h t) s s' (switched w) (switched v) (inr (led_to J arms other x t leads.1 leads.0 is, refl)) (refl, refl) long long' (as_is (Switch a other arms) (λ n sets. sets)) n1))))
+      (λ t is. go t (landing h t) s s' (switched w) (switched v) (inr (led_to J a s w.memory arms other x t refl leads.1 leads.0 is, refl)) (refl, refl) long long' (as_is (Switch a other arms) (λ n sets. sets)) n1))))
   acts_alike (Call g ds froms) j m fit fit' call leads jumps go =
       let f : SlotsFit slots' (Call g m.0 m.1) = subst (λ (k : Instr). SlotsFit slots' k) m.2 fit' in
       let words = slots_at s froms in

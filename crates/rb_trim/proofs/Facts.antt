@@ -1,5 +1,5 @@
 -- What facts tell, and which hold behind an instruction.
-use Rattle.std.proofs.Common.{Bool, true, false, ◌≡◌, ◌≢◌, ℕ, zero, suc, ◌+◌, ◌*◌, ◌/◌, ◌%◌, ◌^◌, ◌<◌, ◌≤◌, nat_eq, nat_lt, cond, inl, inr, List, [], ◌∷◌, length, Some, refl, sym, subst, ap, ◌∙◌, arith, get_or, get_or-set_other, get_or-set_same}
+use Rattle.std.proofs.Common.{Bool, true, false, ◌≡◌, ◌≢◌, ℕ, zero, suc, ◌+◌, ◌*◌, ◌/◌, ◌%◌, ◌^◌, ◌<◌, ◌≤◌, nat_eq, nat_lt, cond, inl, inr, List, [], ◌∷◌, length, Option, Some, refl, sym, subst, ap, ◌∙◌, arith, get_or, get_or-set_other, get_or-set_same}
 use Rattle.std.proofs.lemmas.Option.{slice_get_within, same_Some}
 use Rattle.std.proofs.Math.Pow.{pow_mono}
 use Rattle.std.proofs.Math.Nat.{mod-lt, div-eq_of_lt, div-one}
@@ -18,8 +18,8 @@ use Rattle.rb_target.specs.declared.instr.Instr.TheVariants.{Const, Copy, Alu, T
 use Rattle.rb_trim.specs.declared.fact.Content.{Content}
 use Rattle.rb_trim.specs.declared.fact.Content.TheVariants.{Number, Same, Part, Computed, Loaded}
 use Rattle.rb_trim.specs.declared.fact.Fact.{Fact}
-use Rattle.rb_trim.specs.inner.Facts.{IsContent, IsSo, Turns, Follows}
-use Rattle.rb_trim.specs.inner.Following.{AreSame, IsAsMuch, IsHeld, IsBelow, IsNarrow, IsLaid, Made, IsTold, Sets, IsToldBy, WritesTo, Changes, Keeps, FollowsOne, FollowsAt, IsLoaded, made_of}
+use Rattle.rb_trim.specs.inner.Facts.{IsContent, IsSo, Says, Turns, Follows}
+use Rattle.rb_trim.specs.inner.Following.{AreSame, IsAsMuch, IsHeld, IsBelow, IsNarrow, IsLaid, Made, IsTold, Sets, IsToldBy, WritesTo, Changes, Keeps, FollowsOne, FollowsAt, HoldsBehind, IsLoaded, made_of}
 
 get_at : (xs : List Fact) (k : ℕ) (x : Fact) → k < length xs → get_or xs k x ≡ x → slice_get xs k ≡ Some x
 get_at [] k x lt e = absurd (omega (arith, lt))
@@ -331,9 +331,26 @@ module _ (facts : List Fact) (i : Instr) (told : Fact) (is_told : IsTold facts i
         subst (λ (c : Content). IsContent s' m' c (slice_index s' fact.slot)) (sym same) (word ∙ one ∙ sym stays);
   }
 
+-- a fact that holds by each way holds by one
+pub one_behind : (facts : List Fact) (told : Option Fact) (i : Instr) (fact : Fact) → FollowsOne facts i fact → HoldsBehind facts told i fact
+one_behind facts told i fact one = record { by = λ slots s s' m m' long fit hold says t. one.by slots s s' m m' long fit hold t }
+
+-- a fact that the way tells holds behind it
+pub said_so : (facts : List Fact) (told : Option Fact) (i : Instr) (fact said : Fact) (from : ℕ) → told ≡ Some said → AreSame facts said.slot from → fact.slot ≡ from → fact.content ≡ said.content
+    → ¬ WritesTo i fact.slot → Keeps i fact.content → HoldsBehind facts told i fact
+said_so facts told i fact said from is same at content unlike keeps = record {
+  by = λ slots s s' m m' long fit hold says t.
+      let way : IsContent s m said.content (slice_index s said.slot) = subst (λ (o : Option Fact). Says o s m) is says in
+      let word : slice_index s fact.slot ≡ slice_index s said.slot = ap (λ n. slice_index s n) at ∙ same s m hold in
+      let before : IsSo s m fact = subst (λ (c : Content). IsContent s m c (slice_index s fact.slot)) (sym content) (subst (λ y. IsContent s m said.content y) (sym word) way) in
+      let stays = spares i fact.slot s s' m m' unlike t in
+      kept_content i fact.content (slice_index s' fact.slot) s s' m m' keeps t
+      (subst (λ y. IsContent s m fact.content y) (sym stays) before);
+}
+
 -- each fact holds behind the instruction
-pub follows_all : (facts : List Fact) (i : Instr) (behind : List Fact) → ((k : ℕ) → k < length behind → FollowsAt facts i behind k) → Follows facts i behind
-follows_all facts i behind each = record {
-  by = λ slots s s' m m' long fit hold t fact known.
-      ((each known.0 known.1).at fact (get_at behind known.0 fact known.1 known.2)).by slots s s' m m' long fit hold t;
+pub follows_all : (facts : List Fact) (told : Option Fact) (i : Instr) (behind : List Fact) → ((k : ℕ) → k < length behind → FollowsAt facts told i behind k) → Follows facts told i behind
+follows_all facts told i behind each = record {
+  by = λ slots s s' m m' long fit hold says t fact known.
+      ((each known.0 known.1).at fact (get_at behind known.0 fact known.1 known.2)).by slots s s' m m' long fit hold says t;
 }

@@ -15,7 +15,7 @@ use Rattle.rb_trim.specs.declared.fact.Content.TheVariants.{Number, Same, Part, 
 use Rattle.rb_trim.specs.declared.fact.Fact.{Fact}
 use Rattle.rb_trim.specs.declared.hints.Hints.{Hints}
 use Rattle.rb_trim.specs.Trimming.{HasSameHead, IsTrimOf}
-use Rattle.rb_trim.specs.inner.Moving.{AreApart, IsApart, KeepParams, KeepsParam, AreDests, AreNames, IsDest, IsName, dead_at, facts_at, place, end, moved_arm, IsReached, Makes, IsWrite, IsRemade, IsMoved, IsInto, IsFolded, Stands, IsSkipped, EndsWell, LivesOn, JumpsOn, IsStep, HaveSameHeads, IsTrimmed}
+use Rattle.rb_trim.specs.inner.Moving.{tells, AreApart, IsApart, KeepParams, KeepsParam, AreDests, AreNames, IsDest, IsName, dead_at, facts_at, place, end, moved_arm, IsReached, Makes, IsWrite, IsRemade, IsMoved, IsInto, IsFolded, Stands, IsSkipped, EndsWell, LivesOn, JumpsOn, IsStep, HaveSameHeads, IsTrimmed}
 use Rattle.rb_trim.specs.inner.Stepping.{LivesAt, JumpsOnAt, IsKnownOn, Steps, HaveOrigins, Walks, IsRanged, IsFit, AreTrimmed}
 use Rattle.rb_trim.proofs.Slots.{same_or}
 use Rattle.rb_trim.proofs.Whole.{past, trim_of}
@@ -249,8 +249,8 @@ module _ (f q : CodeFun) (h : Hints) (head : HasSameHead f q) (walks : Walks h f
 
 -- The parts of the tests
 
-pub arms_all : (h : Hints) (pc : ℕ) (i : Instr) (arms : List SwitchArm) → ((k : ℕ) → k < length arms → JumpsOnAt h pc i arms k) → All (λ (arm : SwitchArm). JumpsOn h pc i arm.target) arms
-arms_all h pc i arms each = λ k d lt. (each k lt).at (get_or arms k d) (get_there arms k d lt)
+pub arms_all : (h : Hints) (pc : ℕ) (i : Instr) (a : ℕ) (arms : List SwitchArm) → ((k : ℕ) → k < length arms → JumpsOnAt h pc i a arms k) → All (λ (arm : SwitchArm). JumpsOn h pc i (tells a arm.number) arm.target) arms
+arms_all h pc i a arms each = λ k d lt. (each k lt).at (get_or arms k d) (get_there arms k d lt)
   where
     get_there : (xs : List SwitchArm) (k : ℕ) (d : SwitchArm) → k < length xs → slice_get xs k ≡ Some (get_or xs k d)
     get_there [] k d lt = absurd (omega (arith, lt))

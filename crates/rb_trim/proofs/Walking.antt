@@ -16,12 +16,12 @@ use Rattle.rb_target.specs.declared.code.CodeFun.{CodeFun}
 use Rattle.rb_trim.specs.declared.fact.Fact.{Fact}
 use Rattle.rb_trim.specs.declared.hints.Hints.{Hints}
 use Rattle.rb_trim.specs.Trimming.{IsNoDearer}
-use Rattle.rb_trim.specs.inner.Facts.{Hold, Turns}
+use Rattle.rb_trim.specs.inner.Facts.{Hold, Says, Turns}
 use Rattle.rb_trim.specs.inner.Following.{Sets}
 use Rattle.rb_trim.specs.inner.Moving.{IsUnread, IsReached, IsPlain, IsRead, Agree, AreApart, IsDest, IsName, AreNames, IsMoved, IsCopied, IsInto, IsFolded, landing_in, moved_arm, LivesOn, FallsOn, JumpsOn, GoesOn, EndsOn, facts_at, place, end, landing, IsIdle, IsJumped, Leads, IsKept, IsLeftOut, IsSkipped, IsStep}
 use Rattle.rb_trim.proofs.Outcomes.{Near, near_taken, near_behind, over_near, load_near, near_switched, near_more}
 use Rattle.rb_trim.proofs.Slots.{AgreeOn, Borne, same_or, ever, widened, onward, set_agrees, set_unread, names_same}
-use Rattle.rb_trim.proofs.Acting.{CallsNear, Comes, acts_alike, moved_target, led_to, switch_near, first_or}
+use Rattle.rb_trim.proofs.Acting.{CallsNear, Comes, LedTo, acts_alike, moved_target, led_to, switch_near, first_or}
 
 get_some : (xs : List Instr) (k : ℕ) → k < length xs → (i : Instr) × (slice_get xs k ≡ Some i)
 get_some [] k lt = absurd (omega (arith, lt))
@@ -48,10 +48,10 @@ module _ (h : Hints) (body : List Instr) (ends : EndsInReturn body) (pc : ℕ) w
   abbrev pub Falls : Instr → ℕ → Type 0
   Falls i t = (pc < t) × (t < length body) × FallsOn h pc i t
 
-  abbrev pub Jumps : Instr → ℕ → Type 0
-  Jumps i t = (pc < t) × (t < length body) × JumpsOn h pc i t
+  abbrev pub Jumps : Instr → Option Fact → ℕ → Type 0
+  Jumps i told t = (pc < t) × (t < length body) × JumpsOn h pc i told t
 
-  other_led : (i : Instr) (other : Option ℕ) → IfSome other (λ t. IsTarget (length body) pc t) → IfSome other (JumpsOn h pc i) → IfSome other (Jumps i)
+  other_led : (i : Instr) (other : Option ℕ) → IfSome other (λ t. IsTarget (length body) pc t) → IfSome other (JumpsOn h pc i None) → IfSome other (Jumps i None)
   other_led i None fit known = fit
   other_led i (Some t) fit known = (fit.0, fit.1, known)
 
@@ -104,7 +104,7 @@ module _ (h : Hints) (pc : ℕ) where
   left_case (Return froms) on = inr on
 
 -- an instruction that is left out
-module _ (h : Hints) (slots pc : ℕ) (facts : List Fact) (old : Callee) (F J : ℕ → Type 0) (next : Next) (s s' : List ℕ) (w : World) (o : Outcome)
+module _ (h : Hints) (slots pc : ℕ) (facts : List Fact) (old : Callee) (F : ℕ → Type 0) (J : Option Fact → ℕ → Type 0) (next : Next) (s s' : List ℕ) (w : World) (o : Outcome)
     (long : slots ≤ length s) (agree : Agree h pc s s') (hold : Hold s w.memory facts) where
   abbrev pub PassesOn : Instr → Type 0
   PassesOn i = (s1 : List ℕ) → F (pc + 1) → Turns i s w.memory s1 w.memory → slots ≤ length s1 → Agree h (pc + 1) s1 s' → IsNoDearer o (next (pc + 1) s1 w)
@@ -136,16 +136,16 @@ module _ (funs funs' : List CodeFun) (f q : CodeFun) (valid : IsValidFun funs f)
   abbrev pub F : ℕ → Instr → ℕ → Type 0
   F pc i t = Falls h f.body valid.ends pc i t
 
-  abbrev pub J : ℕ → Instr → ℕ → Type 0
-  J pc i t = Jumps h f.body valid.ends pc i t
+  abbrev pub J : ℕ → Instr → Option Fact → ℕ → Type 0
+  J pc i told t = Jumps h f.body valid.ends pc i told t
 
   led : (pc : ℕ) (i : Instr) → slice_get f.body pc ≡ Some i → Leads (F pc i) (J pc i) i pc
   led pc i is = led_behind h f.body valid.ends pc i is (valid.each pc i is).targets (steps pc i is).known
 
   -- what holds behind an instruction holds at a place behind it
-  holds_on : (pc : ℕ) (i : Instr) (t : ℕ) → slice_get f.body pc ≡ Some i → GoesOn h pc i t → (s s1 : List ℕ) (w w1 : World) → f.slots ≤ length s → Hold s w.memory (facts_at h pc)
+  holds_on : (pc : ℕ) (i : Instr) (told : Option Fact) (t : ℕ) → slice_get f.body pc ≡ Some i → GoesOn h pc i told t → (s s1 : List ℕ) (w w1 : World) → f.slots ≤ length s → Hold s w.memory (facts_at h pc) → Says told s w.memory
       → Turns i s w.memory s1 w1.memory → Hold s1 w1.memory (facts_at h t)
-  holds_on pc i t is goes s s1 w w1 long hold turns = goes.follows.by f.slots s s1 w.memory w1.memory long (valid.each pc i is).slots hold turns
+  holds_on pc i told t is goes s s1 w w1 long hold says turns = goes.follows.by f.slots s s1 w.memory w1.memory long (valid.each pc i is).slots hold says turns
 
   jump_borne : (pc t : ℕ) (s s' : List ℕ) → Agree h pc s s' → AgreeOn h (Borne h pc (Jump t)) s s'
   jump_borne pc t s s' agree k (inl read) e = agree k read
@@ -160,17 +160,17 @@ module _ (funs funs' : List CodeFun) (f q : CodeFun) (valid : IsValidFun funs f)
 
   pass_jump : (pc t : ℕ) → slice_get f.body pc ≡ Some (Jump t) → (s' : List ℕ) (v : World) (o : Outcome) → AtEnd t s' v o → AtEnd pc s' v o
   pass_jump pc t is s' v o go s w near long agree hold =
-      let to : J pc (Jump t) t = led pc (Jump t) is in
+      let to : J pc (Jump t) None t = led pc (Jump t) is in
       subst (λ (p : Outcome). IsNoDearer o p) (sym (law.step pc (Jump t) s w is))
       (go s (taken w) (near_behind v w near) long (onward h pc (Jump t) t s s' to.2.on.lives (jump_borne pc t s s' agree))
-      (holds_on pc (Jump t) t is to.2.on s s w (taken w) long hold (refl, refl)))
+      (holds_on pc (Jump t) None t is to.2.on s s w (taken w) long hold tt (refl, refl)))
 
   pass_idle : (pc : ℕ) (i : Instr) → slice_get f.body pc ≡ Some i → IsIdle h (facts_at h pc) pc i → (s' : List ℕ) (v : World) (o : Outcome) → AtEnd (pc + 1) s' v o → AtEnd pc s' v o
   pass_idle pc i is idle s' v o go s w near long agree hold =
       subst (λ (p : Outcome). IsNoDearer o p) (sym (law.step pc i s w is))
       (idle_acts h f.slots pc (facts_at h pc) old (F pc i) (J pc i) (from f.body old) s s' (taken w) o long agree hold i idle (led pc i is)
       (λ to. to.2.on.lives)
-      (λ s1 to turns long1 agree1. go s1 (taken w) (near_behind v w near) long1 agree1 (holds_on pc i (pc + 1) is to.2.on s s1 w (taken w) long hold turns)))
+      (λ s1 to turns long1 agree1. go s1 (taken w) (near_behind v w near) long1 agree1 (holds_on pc i None (pc + 1) is to.2.on s s1 w (taken w) long hold tt turns)))
 
   from_end : (pc t : ℕ) → pc < t → Passes t → end h pc ≡ end h t → ((s' : List ℕ) (v : World) (o : Outcome) → AtEnd t s' v o → AtEnd pc s' v o) → Passes pc
   from_end pc t lt rest e pass = (
@@ -186,7 +186,7 @@ module _ (funs funs' : List CodeFun) (f q : CodeFun) (valid : IsValidFun funs f)
         | inr on ↦ elim (ends_case h pc i on) [
           | inl jump ↦
               let is' : slice_get f.body pc ≡ Some (Jump jump.0) = is ∙ ap Some jump.1 in
-              let to : J pc (Jump jump.0) jump.0 = led pc (Jump jump.0) is' in
+              let to : J pc (Jump jump.0) None jump.0 = led pc (Jump jump.0) is' in
               from_end pc jump.0 to.0 (rest jump.0 to.0 to.1) jump.2 (pass_jump pc jump.0 is')
           | inr idle ↦
               let lt : pc + 1 < length f.body = within_next pc i is idle.1 in
@@ -228,9 +228,9 @@ module _ (funs funs' : List CodeFun) (f q : CodeFun) (valid : IsValidFun funs f)
       → (pc' : ℕ) (s s' : List ℕ) (v w : World) → Near v (taken w) → f.slots ≤ length s → q.slots ≤ length s' → Agree h pc s s' → Hold s w.memory (facts_at h pc)
       → IsNoDearer (act j (from q.body new) new pc' s' v) (from f.body old t s (taken w))
   jumped pc t j is rest plain reached moved pc' s s' v w near long long' agree hold =
-      let to : J pc (Jump t) t = led pc (Jump t) is in
+      let to : J pc (Jump t) None t = led pc (Jump t) is in
       let agree1 : Agree h t s s' = onward h pc (Jump t) t s s' to.2.on.lives (jump_borne pc t s s' agree) in
-      let hold1 : Hold s w.memory (facts_at h t) = holds_on pc (Jump t) t is to.2.on s s w (taken w) long hold (refl, refl) in
+      let hold1 : Hold s w.memory (facts_at h t) = holds_on pc (Jump t) None t is to.2.on s s w (taken w) long hold tt (refl, refl) in
       elim moved [
         | inl e ↦
             subst (λ (k : Instr). IsNoDearer (act k (from q.body new) new pc' s' v) (from f.body old t s (taken w))) (sym e)
@@ -254,26 +254,26 @@ module _ (funs funs' : List CodeFun) (f q : CodeFun) (valid : IsValidFun funs f)
       (λ t e jump to. jumped pc t j (is ∙ ap Some e) rest plain reached jump (place h pc) s s' (taken v) w (near_taken v w near) long long' agree hold)
       (λ t t' s1 s1' w1 w1' comes turns long1 long1' agree1 near1. goes t t' s1 s1' w1 w1' comes turns long1 long1' agree1 near1))
     where
-      goes : (t t' : ℕ) (s1 s1' : List ℕ) (w1 w1' : World) → Comes h pc (place h pc) (F pc i) (J pc i) t t' → Turns i s w.memory s1 w1.memory
+      goes : (t t' : ℕ) (s1 s1' : List ℕ) (w1 w1' : World) → Comes h pc (place h pc) (F pc i) (J pc i) s w.memory t t' → Turns i s w.memory s1 w1.memory
           → f.slots ≤ length s1 → q.slots ≤ length s1' → AgreeOn h (Borne h pc i) s1 s1' → Near w1' w1 → IsNoDearer (from q.body new t' s1' w1') (from f.body old t s1 w1)
       goes t t' s1 s1' w1 w1' (inl falls) turns long1 long1' agree1 near1 =
           let to : F pc i t = falls.0 in
           let there : t' ≡ place h t = falls.2 ∙ sym next_place ∙ ap (λ n. place h n) (sym falls.1) in
           subst (λ m. IsNoDearer (from q.body new m s1' w1') (from f.body old t s1 w1)) (sym there)
           ((rest t to.0 to.1).0 (to.2.comes plain reached) s1' w1' long1' s1 w1 near1 long1 (onward h pc i t s1 s1' to.2.on.lives agree1)
-          (holds_on pc i t is to.2.on s s1 w w1 long hold turns))
+          (holds_on pc i None t is to.2.on s s1 w w1 long hold tt turns))
       goes t t' s1 s1' w1 w1' (inr jumps) turns long1 long1' agree1 near1 =
-          let to : J pc i t = jumps.0 in
+          let to : J pc i jumps.0.0 t = jumps.0.1 in
           subst (λ m. IsNoDearer (from q.body new m s1' w1') (from f.body old t s1 w1)) (sym jumps.1)
           (goes_to pc t to.0 to.1 rest (to.2.comes plain reached) s1' w1' long1' s1 w1 near1 long1 (onward h pc i t s1 s1' to.2.on.lives agree1)
-          (holds_on pc i t is to.2.on s s1 w w1 long hold turns))
+          (holds_on pc i jumps.0.0 t is to.2.on s s1 w w1 long hold jumps.0.2 turns))
 
   skipped : (pc : ℕ) (i : Instr) → slice_get f.body pc ≡ Some i → ((t : ℕ) → pc < t → t < length f.body → Both t) → IsSkipped h pc i → FromHere pc
   skipped pc i is rest skip reached s' v long' =
       elim (left_case h pc i (skip.0 reached)) [
         | inl jump ↦
             let is' : slice_get f.body pc ≡ Some (Jump jump.0) = is ∙ ap Some jump.1 in
-            let to : J pc (Jump jump.0) jump.0 = led pc (Jump jump.0) is' in
+            let to : J pc (Jump jump.0) None jump.0 = led pc (Jump jump.0) is' in
             subst (λ m. AtEnd pc s' v (from q.body new m s' v)) jump.2
             (pass_jump pc jump.0 is' s' v (from q.body new (landing h jump.0) s' v) (goes_to pc jump.0 to.0 to.1 rest (to.2.comes skip.1 reached) s' v long'))
         | inr idle ↦
@@ -283,7 +283,7 @@ module _ (funs funs' : List CodeFun) (f q : CodeFun) (valid : IsValidFun funs f)
             (idle_acts h f.slots pc (facts_at h pc) old (F pc i) (J pc i) (from f.body old) s s' (taken w) (from q.body new (place h (pc + 1)) s' v) long agree hold i idle (led pc i is)
             (λ to. to.2.on.lives)
             (λ s1 to turns long1 agree1. (rest (pc + 1) to.0 to.1).0 (to.2.comes skip.1 reached) s' v long' s1 (taken w) (near_behind v w near) long1 agree1
-            (holds_on pc i (pc + 1) is to.2.on s s1 w (taken w) long hold turns))))
+            (holds_on pc i None (pc + 1) is to.2.on s s1 w (taken w) long hold tt turns))))
       ]
 
   -- a load into the slot of a copy: both codes come to the copy, the new one as if the word stood past its slots, too
@@ -341,7 +341,7 @@ module _ (funs funs' : List CodeFun) (f q : CodeFun) (valid : IsValidFun funs f)
         ((rest (here' + 1) (omega (arith, back)) falls.1).0 copied.comes (slice_set s' to' x) (taken v) (omega (arith, long', length-set s' to' x))
         (slice_set s to x) (taken w) (near_behind (taken v) w near) (omega (arith, long, length-set s to x))
         (behind_copy x s long agree falls.2.on.lives within)
-        (holds_on here' (Copy to copied.from) (here' + 1) at falls.2.on s (slice_set s to x) w (taken w) long hold turns))))
+        (holds_on here' (Copy to copied.from) None (here' + 1) at falls.2.on s (slice_set s to x) w (taken w) long hold tt turns))))
       where
         passes_behind : Passes (pc + 1)
         passes_behind = let behind : F pc (Load slot base offset width) (pc + 1) = led pc (Load slot base offset width) is in (rest (pc + 1) behind.0 behind.1).1
@@ -360,7 +360,7 @@ module _ (funs funs' : List CodeFun) (f q : CodeFun) (valid : IsValidFun funs f)
         (slice_set s slot x) (taken w) (near_taken v w near) (omega (arith, long, length-set s slot x))
         (onward h pc (Load slot base offset width) (pc + 1) (slice_set s slot x) (slice_set wide copied.name x) falls.2.on.lives
         (set_agrees h apart (λ n. IsRead h pc n) slot copied.name x s wide (λ n read ever. widened s' (suc copied.name) (slice_index h.names n) ∙ agree n read) copied.own (omega (arith, fits.0, long)) room))
-        (holds_on pc (Load slot base offset width) (pc + 1) is falls.2.on s (slice_set s slot x) w (taken w) long hold (x, loaded, refl, refl))))))
+        (holds_on pc (Load slot base offset width) None (pc + 1) is falls.2.on s (slice_set s slot x) w (taken w) long hold tt (x, loaded, refl, refl))))))
 
   loads_into : (pc : ℕ) (i j : Instr) → slice_get f.body pc ≡ Some i → ((t : ℕ) → pc < t → t < length f.body → Both t) → slice_get q.body (place h pc) ≡ Some j → IsInto h f.body pc i j
       → (s' : List ℕ) (v : World) → q.slots ≤ length s' → AtEnd pc s' v (from q.body new (place h pc) s' v)
@@ -383,12 +383,12 @@ module _ (funs funs' : List CodeFun) (f q : CodeFun) (valid : IsValidFun funs f)
     switch_borne u a o its s agree k (inr sets) e = absurd sets
 
     -- where a switch leads
-    switched_to : (u a t : ℕ) (o : Option ℕ) (its : List SwitchArm) → slice_get f.body u ≡ Some (Switch a o its) → pc ≤ u → J u (Switch a o its) t × IsReached h (end h t)
-        → (v1 : World) (s : List ℕ) (w : World) → Near v1 (switched (taken w)) → f.slots ≤ length s → Agree h u s s' → Hold s w.memory (facts_at h u)
+    switched_to : (u a t : ℕ) (o : Option ℕ) (its : List SwitchArm) → slice_get f.body u ≡ Some (Switch a o its) → pc ≤ u
+        → (v1 : World) (s : List ℕ) (w : World) → LedTo (λ told n. J u (Switch a o its) told n × IsReached h (end h n)) s w.memory t → Near v1 (switched (taken w)) → f.slots ≤ length s → Agree h u s s' → Hold s w.memory (facts_at h u)
         → IsNoDearer (from q.body new (landing h t) s' v1) (from f.body old t s (switched (taken w)))
-    switched_to u a t o its at le to v1 s w near long agree hold =
-        goes_to u t to.0.0 to.0.1 (λ n behind within. rest n (omega (arith, le, behind)) within) to.1 s' v1 long' s (switched (taken w)) near long
-        (onward h u (Switch a o its) t s s' to.0.2.on.lives (switch_borne u a o its s agree)) (holds_on u (Switch a o its) t at to.0.2.on s s w (switched (taken w)) long hold (refl, refl))
+    switched_to u a t o its at le v1 s w to near long agree hold =
+        goes_to u t to.1.0.0 to.1.0.1 (λ n behind within. rest n (omega (arith, le, behind)) within) to.1.1 s' v1 long' s (switched (taken w)) near long
+        (onward h u (Switch a o its) t s s' to.1.0.2.on.lives (switch_borne u a o its s agree)) (holds_on u (Switch a o its) to.0 t at to.1.0.2.on s s w (switched (taken w)) long hold to.2 (refl, refl))
 
     if_both : (P Q : ℕ → Type 0) (o : Option ℕ) → IfSome o P → IfSome o Q → IfSome o (λ t. P t × Q t)
     if_both P Q None p r = p
@@ -408,14 +408,14 @@ module _ (funs funs' : List CodeFun) (f q : CodeFun) (valid : IsValidFun funs f)
         let i : Instr = Switch from_slot other more in
         let ways : Leads (F then i) (J then i) i then = led then i following in
         let near1 : Near v1 (switched (taken w)) = near_more v1 (taken w) (near_behind v1 w near) in
-        let P : ℕ → Type 0 = λ t. J then i t × IsReached h (end h t) in
+        let P : Option Fact → ℕ → Type 0 = λ told t. J then i told t × IsReached h (end h t) in
         let le : pc ≤ then = omega (arith, leads.0.0, passes_on.0) in
         subst (λ (p : Outcome). IsNoDearer (after_switch (target_of (map (λ (arm : SwitchArm). moved_arm h arm) more) (landing_in h other) x) x v1 (λ t. from q.body new t s' v1)) p) (sym (law.step then i s w following))
         (subst (λ y. IsNoDearer (after_switch (target_of (map (λ (arm : SwitchArm). moved_arm h arm) more) (landing_in h other) x) x v1 (λ t. from q.body new t s' v1)) (after_switch (target_of more other y) y (switched (taken w)) (λ t. from f.body old t s (switched (taken w))))) (sym e)
         (subst (λ (o : Option ℕ). IsNoDearer (after_switch o x v1 (λ t. from q.body new t s' v1)) (after_switch (target_of more other x) x (switched (taken w)) (λ t. from f.body old t s (switched (taken w))))) (sym (moved_target h more other x))
         (switch_near h (target_of more other x) x v1 (switched (taken w)) (λ t. from q.body new t s' v1) (λ t. from f.body old t s (switched (taken w))) near1
-        (λ t to. switched_to then from_slot t other more following le
-        (led_to P more other x t (λ k d lt. (ways.1 k d lt, more_come k d lt)) (if_both (J then i) (λ u. IsReached h (end h u)) other ways.0 other_comes) to) v1 s w near1 long agree hold))))
+        (λ t to. switched_to then from_slot t other more following le v1 s w
+        (led_to P from_slot s w.memory more other x t e (λ k d lt. (ways.1 k d lt, more_come k d lt)) (if_both (J then i None) (λ u. IsReached h (end h u)) other ways.0 other_comes) to) near1 long agree hold))))
 
     folds : AtEnd pc s' v (from q.body new (place h pc) s' v)
     folds s w near long agree hold =
@@ -426,17 +426,17 @@ module _ (funs funs' : List CodeFun) (f q : CodeFun) (valid : IsValidFun funs f)
         let w1 = switched (taken w) in
         let near1 : Near v1 w1 = near_switched (taken v) (taken w) (near_taken v w near) in
         let both_arms = map (λ (arm : SwitchArm). moved_arm h arm) arms ++ map (λ (arm : SwitchArm). moved_arm h arm) more in
-        let P : ℕ → Type 0 = λ t. J pc i t × IsReached h (end h t) in
+        let P : Option Fact → ℕ → Type 0 = λ told t. J pc i told t × IsReached h (end h t) in
         let onto : Agree h target s s' = onward h pc i target s s' leads.0.2.on.lives (switch_borne pc slot (Some target) arms s agree) in
-        let held : Hold s w.memory (facts_at h target) = holds_on pc i target is leads.0.2.on s s w w1 long hold (refl, refl) in
+        let held : Hold s w.memory (facts_at h target) = holds_on pc i None target is leads.0.2.on s s w w1 long hold tt (refl, refl) in
         subst (λ (p : Outcome). IsNoDearer (from q.body new (place h pc) s' v) p) (sym (law.step pc i s w is))
         (subst (λ (p : Outcome). IsNoDearer p (act i (from f.body old) old pc s (taken w))) (sym (law'.step (place h pc) (Switch word (landing_in h other) both_arms) s' v is'))
         (subst (λ y. IsNoDearer (after_switch (target_of both_arms (landing_in h other) x) x v1 (λ t. from q.body new t s' v1)) (after_switch (target_of arms (Some target) y) y w1 (λ t. from f.body old t s w1))) (sym e)
-        (elim (first_or h P arms (map (λ (arm : SwitchArm). moved_arm h arm) more) (landing_in h other) target x (λ k d lt. (leads.1 k d lt, arms_come k d lt))) [
+        (elim (first_or h P slot s w.memory arms (map (λ (arm : SwitchArm). moved_arm h arm) more) (landing_in h other) target x e (λ k d lt. (leads.1 k d lt, arms_come k d lt))) [
           | inl hit ↦
               subst (λ (o : Option ℕ). IsNoDearer (after_switch o x v1 (λ t. from q.body new t s' v1)) (after_switch (target_of arms (Some target) x) x w1 (λ t. from f.body old t s w1))) (sym hit.3)
               (subst (λ (o : Option ℕ). IsNoDearer (from q.body new (landing h hit.0) s' v1) (after_switch o x w1 (λ t. from f.body old t s w1))) (sym hit.2)
-              (switched_to pc slot hit.0 (Some target) arms is (omega arith) hit.1 v1 s w near1 long agree hold))
+              (switched_to pc slot hit.0 (Some target) arms is (omega arith) v1 s w hit.1 near1 long agree hold))
           | inr miss ↦
               subst (λ (o : Option ℕ). IsNoDearer (after_switch o x v1 (λ t. from q.body new t s' v1)) (after_switch (target_of arms (Some target) x) x w1 (λ t. from f.body old t s w1))) (sym miss.1)
               (subst (λ (o : Option ℕ). IsNoDearer (after_switch (target_of (map (λ (arm : SwitchArm). moved_arm h arm) more) (landing_in h other) x) x v1 (λ t. from q.body new t s' v1)) (after_switch o x w1 (λ t. from f.body old t s w1))) (sym miss.0)

@@ -122,6 +122,26 @@ fn behind(alloc: Global, facts: &[Fact], instr: &Instr) -> Result<Seq<Fact>, All
     Ok(after)
 }
 
+// What is known where a slot, or one with the same word, holds a number: the newest facts, and this one.
+fn told_in(
+    alloc: Global,
+    facts: &[Fact],
+    slot: usize,
+    number: u64,
+) -> Result<Seq<Fact>, AllocError> {
+    let mut told = Seq::new(alloc);
+    for (i, fact) in facts.iter().enumerate() {
+        if facts.len() - i < MOST {
+            told.push(*fact)?;
+        }
+    }
+    told.push(Fact {
+        slot: source(facts, slot),
+        content: Content::Number(number),
+    })?;
+    Ok(told)
+}
+
 // The edges of an instruction.
 fn spread(
     alloc: Global,
@@ -132,9 +152,10 @@ fn spread(
 ) -> Result<(), AllocError> {
     match instr {
         Instr::Jump(target) => meet(alloc, known, *target, facts),
-        Instr::Switch(_, other, arms) => {
+        Instr::Switch(slot, other, arms) => {
             for arm in arms.as_slice() {
-                meet(alloc, known, arm.target, facts)?;
+                let told = told_in(alloc, facts, *slot, arm.number)?;
+                meet(alloc, known, arm.target, told.as_slice())?;
             }
             match other {
                 None => Ok(()),

@@ -29,6 +29,9 @@
 //! bits of bits are bits of the first word, bits of a number are a number, and bits put over all that a slot can hold
 //! are all of it. So `const 4 0`, `take 5 2 2 62`, `put 4 5 0 32` becomes `take 4 2 2 32`.
 //!
+//! A switch tells in each arm what its slot holds: behind `switch 3 - 0 5 1 7`, at the instruction 5, slot 3 holds 0. So
+//! `const 2 0` there makes the word of slot 3, and what would read slot 2 reads slot 3.
+//!
 //! A word that is copied is made anew where that takes no memory. A load whose word is copied right behind, and read by
 //! nothing else, makes it in the copy's slot (`giving`): `load 10 9 4 32`, `copy 4 10` becomes `load 4 9 4 32`.
 //! A switch whose other way leads to a switch on the same word has the arms of both (`folding`).

@@ -1,8 +1,8 @@
 //! One instruction after the other.
 
-ghost use Rattle.std.specs.Prelude.{◌≡◌, ◌⊎◌, ◌+◌, ◌<◌, ◌↔◌, ℕ, OnOk, IfOk, IsTrue, Contains, length, slice_get, All, IfSome};
+ghost use Rattle.std.specs.Prelude.{◌≡◌, ◌⊎◌, ◌+◌, ◌<◌, ◌↔◌, ℕ, None, OnOk, IfOk, IsTrue, Contains, length, slice_get, All, IfSome};
 ghost use Rattle.rb_target.specs.declared.instr.SwitchArm.{SwitchArm as SwitchArmDecl};
-ghost use Rattle.rb_trim.specs.inner.Moving.{facts_at, dead_at, end, place, IsUnread, IsReached, IsPlain, IsIdle, IsLeftOut, LivesOn, GoesOn, FallsOn, JumpsOn, EndsWell, IsSkipped, IsMerged, Stands};
+ghost use Rattle.rb_trim.specs.inner.Moving.{facts_at, dead_at, end, place, IsUnread, IsReached, IsPlain, IsIdle, IsLeftOut, LivesOn, GoesOn, FallsOn, JumpsOn, EndsWell, tells, IsSkipped, IsMerged, Stands};
 ghost use Rattle.rb_trim.specs.inner.Following.{IsLoaded, Sets};
 ghost use Rattle.rb_trim.specs.inner.Stepping.{JumpsOnAt, LivesAt, IsKnownOn, Steps, Walks};
 
@@ -14,7 +14,7 @@ use crate::knowing::source;
 use crate::moving::{
     Stop, end_at, is_plain, is_reached, is_read, known_at, moved, place_at, unread_at,
 };
-use crate::telling::{follow, sets};
+use crate::telling::{follow, sets, tells};
 use rb_core::seq::Seq;
 use rb_target::instr::{Instr, SwitchArm};
 use std::alloc::Global;
@@ -173,14 +173,14 @@ fn lives_on(hints: &Hints, pc: usize, instr: &Instr, target: usize) -> bool
     each_lives(hints, unread_at(hints, pc), instr, target)
 }
 
-// Whether what is said of a place holds behind an instruction.
-fn goes_on(hints: &Hints, pc: usize, instr: &Instr, target: usize) -> bool
-    ensures { IsTrue result → GoesOn hints.now pc instr.now target }
+// Whether what is said of a place holds behind an instruction, by a way that tells this.
+fn goes_on(hints: &Hints, pc: usize, instr: &Instr, told: Option<Fact>, target: usize) -> bool
+    ensures { IsTrue result → GoesOn hints.now pc instr.now told target }
 {
     if !lives_on(hints, pc, instr, target) {
         return false;
     }
-    follow(known_at(hints, pc), instr, known_at(hints, target))
+    follow(known_at(hints, pc), told, instr, known_at(hints, target))
 }
 
 // Whether a run may come to a place behind an instruction, if it may come to the instruction.
@@ -190,30 +190,40 @@ fn comes_on(hints: &Hints, pc: usize, target: usize) -> bool
     !is_reached(hints, pc) || is_reached(hints, target)
 }
 
-// Whether a jump may lead to a target.
-fn jumps_on(hints: &Hints, pc: usize, instr: &Instr, target: usize) -> bool
-    ensures { IsTrue result → JumpsOn hints.now pc instr.now target }
+// Whether a way that tells this may lead to a target.
+fn jumps_on(hints: &Hints, pc: usize, instr: &Instr, told: Option<Fact>, target: usize) -> bool
+    ensures { IsTrue result → JumpsOn hints.now pc instr.now told target }
 {
-    goes_on(hints, pc, instr, target) && comes_behind(hints, pc, end_at(hints, target))
+    goes_on(hints, pc, instr, told, target) && comes_behind(hints, pc, end_at(hints, target))
 }
 
-// Whether one arm of a switch may lead to its target, if there is such an arm.
-fn arm_jumps_on(hints: &Hints, pc: usize, instr: &Instr, arms: &[SwitchArm], k: usize) -> bool
-    ensures { IsTrue result → JumpsOnAt hints.now pc instr.now arms.now k }
+// Whether an arm of a switch on a slot may lead to its target: there the slot holds the arm's number.
+fn arm_jumps_on(
+    hints: &Hints,
+    pc: usize,
+    instr: &Instr,
+    slot: usize,
+    arms: &[SwitchArm],
+    k: usize,
+) -> bool
+    ensures { IsTrue result → JumpsOnAt hints.now pc instr.now slot arms.now k }
 {
     match arms.get(k) {
         None => true,
-        Some(arm) => jumps_on(hints, pc, instr, arm.target),
+        Some(arm) => {
+            let told = tells(slot, arm.number);
+            jumps_on(hints, pc, instr, told, arm.target)
+        }
     }
 }
 
-// Whether each arm may lead to its target.
-fn arms_jump_on(hints: &Hints, pc: usize, instr: &Instr, arms: &[SwitchArm]) -> bool
+// Whether each arm of a switch on a slot may lead to its target.
+fn arms_jump_on(hints: &Hints, pc: usize, instr: &Instr, slot: usize, arms: &[SwitchArm]) -> bool
     ensures { IsTrue result
-        → All (λ (arm : SwitchArmDecl). JumpsOn hints.now pc instr.now arm.target) arms.now }
+        → All (λ (arm : SwitchArmDecl). JumpsOn hints.now pc instr.now (tells slot arm.number) arm.target) arms.now }
 {
     for k in 0..arms.len() {
-        if !arm_jumps_on(hints, pc, instr, arms, k) {
+        if !arm_jumps_on(hints, pc, instr, slot, arms, k) {
             return false;
         }
     }
@@ -222,11 +232,11 @@ fn arms_jump_on(hints: &Hints, pc: usize, instr: &Instr, arms: &[SwitchArm]) -> 
 
 // Whether a switch's other way may lead to its target, if it has one.
 fn other_jumps_on(hints: &Hints, pc: usize, instr: &Instr, other: Option<usize>) -> bool
-    ensures { IsTrue result → IfSome other (λ t. JumpsOn hints.now pc instr.now t) }
+    ensures { IsTrue result → IfSome other (JumpsOn hints.now pc instr.now None) }
 {
     match other {
         None => true,
-        Some(target) => jumps_on(hints, pc, instr, target),
+        Some(target) => jumps_on(hints, pc, instr, None, target),
     }
 }
 
@@ -243,7 +253,7 @@ fn falls_on(hints: &Hints, pc: usize, instr: &Instr) -> bool
 {
     match pc.checked_add(1) {
         None => false,
-        Some(behind) => goes_on(hints, pc, instr, behind) && comes_behind(hints, pc, behind),
+        Some(behind) => goes_on(hints, pc, instr, None, behind) && comes_behind(hints, pc, behind),
     }
 }
 
@@ -252,10 +262,10 @@ fn is_known_on(hints: &Hints, pc: usize, instr: &Instr) -> bool
     ensures { IsTrue result → IsKnownOn hints.now pc instr.now }
 {
     match instr {
-        Instr::Jump(target) => jumps_on(hints, pc, instr, *target),
-        Instr::Switch(_, other, arms) => {
+        Instr::Jump(target) => jumps_on(hints, pc, instr, None, *target),
+        Instr::Switch(slot, other, arms) => {
             other_jumps_on(hints, pc, instr, *other)
-                && arms_jump_on(hints, pc, instr, arms.as_slice())
+                && arms_jump_on(hints, pc, instr, *slot, arms.as_slice())
         }
         Instr::Return(_) => true,
         Instr::Const(..)

@@ -3,7 +3,8 @@
 ghost use Rattle.std.specs.Prelude.{◌≡◌, ◌↔◌, IfSome, IsTrue, Some, Contains};
 ghost use Rattle.rb_target.specs.declared.instr.Instr.TheVariants.{Put};
 ghost use Rattle.rb_trim.specs.inner.Facts.{Follows};
-ghost use Rattle.rb_trim.specs.inner.Following.{IsLaid, IsTold, IsToldBy, WritesTo, Changes, Keeps, Sets, FollowsOne, FollowsAt, made_of};
+ghost use Rattle.rb_trim.specs.inner.Following.{IsLaid, IsTold, IsToldBy, WritesTo, Changes, Keeps, Sets, FollowsOne, FollowsAt, HoldsBehind, made_of};
+ghost use Rattle.rb_trim.specs.inner.Moving.{tells as tells_of};
 
 use crate::fact::{Content, Fact};
 use crate::knowing::{is_known, is_narrow, part, resolved, source};
@@ -229,22 +230,62 @@ pub(crate) fn stays(facts: &[Fact], instr: &Instr, fact: &Fact) -> bool
     keeps_content(instr, &fact.content)
 }
 
-// Whether one of some facts holds behind an instruction.
-fn follows_at(facts: &[Fact], instr: &Instr, behind: &[Fact], k: usize) -> bool
-    ensures { IsTrue result → FollowsAt facts.now instr.now behind.now k }
+// What the way of a number behind a switch on a slot tells.
+pub(crate) fn tells(slot: usize, number: u64) -> Option<Fact>
+    ensures { result ≡ tells_of slot number }
+{
+    fact(slot, Content::Number(number))
+}
+
+// Whether a fact that a way tells holds behind an instruction: it may be told of another slot with the same word.
+fn is_said(facts: &[Fact], told: Option<Fact>, instr: &Instr, fact: &Fact) -> bool
+    ensures { IsTrue result → HoldsBehind facts.now told instr.now fact.now }
+{
+    let Some(said) = told else {
+        return false;
+    };
+    let from = source(facts, said.slot);
+    if fact.slot != from {
+        return false;
+    }
+    if fact.content != said.content {
+        return false;
+    }
+    if writes_to(instr, fact.slot) {
+        return false;
+    }
+    keeps_content(instr, &fact.content)
+}
+
+// Whether a fact holds behind an instruction, by a way that tells this.
+fn holds_behind(facts: &[Fact], told: Option<Fact>, instr: &Instr, fact: &Fact) -> bool
+    ensures { IsTrue result → HoldsBehind facts.now told instr.now fact.now }
+{
+    if stays(facts, instr, fact) {
+        return true;
+    }
+    if is_made(facts, instr, fact) {
+        return true;
+    }
+    is_said(facts, told, instr, fact)
+}
+
+// Whether one of some facts holds behind an instruction, by a way that tells this.
+fn follows_at(facts: &[Fact], told: Option<Fact>, instr: &Instr, behind: &[Fact], k: usize) -> bool
+    ensures { IsTrue result → FollowsAt facts.now told instr.now behind.now k }
 {
     match behind.get(k) {
         None => true,
-        Some(fact) => stays(facts, instr, fact) || is_made(facts, instr, fact),
+        Some(fact) => holds_behind(facts, told, instr, fact),
     }
 }
 
-// Whether facts hold behind an instruction.
-pub(crate) fn follow(facts: &[Fact], instr: &Instr, behind: &[Fact]) -> bool
-    ensures { IsTrue result → Follows facts.now instr.now behind.now }
+// Whether facts hold behind an instruction, by a way that tells this.
+pub(crate) fn follow(facts: &[Fact], told: Option<Fact>, instr: &Instr, behind: &[Fact]) -> bool
+    ensures { IsTrue result → Follows facts.now told instr.now behind.now }
 {
     for k in 0..behind.len() {
-        if !follows_at(facts, instr, behind, k) {
+        if !follows_at(facts, told, instr, behind, k) {
             return false;
         }
     }

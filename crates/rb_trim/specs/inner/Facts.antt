@@ -1,5 +1,5 @@
 -- What facts say, what instructions do to slots and memory, and which facts hold behind them.
-use Rattle.std.specs.Prelude.{◌≡◌, ℕ, ◌%◌, ◌^◌, ◌≤◌, List, length, slice_index, slice_set, Ok, Contains}
+use Rattle.std.specs.Prelude.{◌≡◌, ℕ, ◌%◌, ◌^◌, ◌≤◌, List, length, slice_index, slice_set, Option, IfSome, Ok, Contains}
 use Rattle.rb_bits.specs.Words.{take_of, put_of}
 use Rattle.rb_bytes.specs.Memory.{Memory, load_of}
 use Rattle.rb_target.specs.Meaning.{alu_of, put_slots}
@@ -24,6 +24,10 @@ IsSo s m fact = IsContent s m fact.content (slice_index s fact.slot)
 abbrev pub Hold : List ℕ → Memory → List Fact → Type 0
 Hold s m facts = (fact : Fact) → Contains facts fact → IsSo s m fact
 
+-- what a way tells of the slots before it holds, if it tells anything
+abbrev pub Says : Option Fact → List ℕ → Memory → Type 0
+Says told s m = IfSome told (λ fact. IsSo s m fact)
+
 -- Slots and memory before an instruction, and behind it where the run goes on in the function. What a store, a place
 -- and a call do to memory is left open.
 abbrev pub Turns : Instr → List ℕ → Memory → List ℕ → Memory → Type 0
@@ -41,7 +45,7 @@ Turns (Switch a other arms) s m s' m' = (s' ≡ s) × (m' ≡ m)
 Turns (Call f ds froms) s m s' m' = (words : List ℕ) × (s' ≡ put_slots s ds words)
 Turns (Return froms) s m s' m' = ⊥
 
--- behind the instruction these facts hold, where those hold before it
-pub record Follows (facts : List Fact) (i : Instr) (behind : List Fact) : Type 0 where
-  pub by : (slots : ℕ) (s s' : List ℕ) (m m' : Memory) → slots ≤ length s → SlotsFit slots i → Hold s m facts → Turns i s m s' m'
-      → Hold s' m' behind
+-- behind the instruction these facts hold, where those hold before it, by a way that tells this
+pub record Follows (facts : List Fact) (told : Option Fact) (i : Instr) (behind : List Fact) : Type 0 where
+  pub by : (slots : ℕ) (s s' : List ℕ) (m m' : Memory) → slots ≤ length s → SlotsFit slots i → Hold s m facts → Says told s m
+      → Turns i s m s' m' → Hold s' m' behind

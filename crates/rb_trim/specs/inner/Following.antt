@@ -8,7 +8,7 @@ use Rattle.rb_target.specs.declared.instr.Instr.TheVariants.{Const, Copy, Alu, T
 use Rattle.rb_trim.specs.declared.fact.Content.{Content}
 use Rattle.rb_trim.specs.declared.fact.Content.TheVariants.{Number, Same, Part, Computed, Loaded}
 use Rattle.rb_trim.specs.declared.fact.Fact.{Fact}
-use Rattle.rb_trim.specs.inner.Facts.{IsContent, IsSo, Hold, Turns}
+use Rattle.rb_trim.specs.inner.Facts.{IsContent, IsSo, Hold, Says, Turns}
 
 -- two slots hold the same word where the facts hold
 abbrev pub AreSame : List Fact → ℕ → ℕ → Type 0
@@ -116,6 +116,11 @@ pub record FollowsOne (facts : List Fact) (i : Instr) (fact : Fact) : Type 0 whe
   pub by : (slots : ℕ) (s s' : List ℕ) (m m' : Memory) → slots ≤ length s → SlotsFit slots i → Hold s m facts → Turns i s m s' m'
       → IsSo s' m' fact
 
+-- one fact holds behind the instruction, by a way that tells this
+pub record HoldsBehind (facts : List Fact) (told : Option Fact) (i : Instr) (fact : Fact) : Type 0 where
+  pub by : (slots : ℕ) (s s' : List ℕ) (m m' : Memory) → slots ≤ length s → SlotsFit slots i → Hold s m facts → Says told s m
+      → Turns i s m s' m' → IsSo s' m' fact
+
 -- the fact with this number holds behind the instruction
-pub record FollowsAt (facts : List Fact) (i : Instr) (behind : List Fact) (k : ℕ) : Type 0 where
-  pub at : (fact : Fact) → slice_get behind k ≡ Some fact → FollowsOne facts i fact
+pub record FollowsAt (facts : List Fact) (told : Option Fact) (i : Instr) (behind : List Fact) (k : ℕ) : Type 0 where
+  pub at : (fact : Fact) → slice_get behind k ≡ Some fact → HoldsBehind facts told i fact

@@ -178,25 +178,30 @@ EndsWell h pc i = (end h pc ≡ pc) ⊎ EndsOn h pc i
 pub record LivesOn (h : Hints) (pc : ℕ) (i : Instr) (t : ℕ) : Type 0 where
   pub by : (k : ℕ) → IsRead h t k → IsRead h pc k ⊎ Sets i k
 
--- what is said of a place holds behind an instruction
-pub record GoesOn (h : Hints) (pc : ℕ) (i : Instr) (t : ℕ) : Type 0 where
+-- what the way of a number behind a switch tells of the slot
+abbrev pub tells : ℕ → ℕ → Option Fact
+tells a number = Some (record { slot = a; content = Number number })
+
+-- what is said of a place holds behind an instruction, by a way that tells this
+pub record GoesOn (h : Hints) (pc : ℕ) (i : Instr) (told : Option Fact) (t : ℕ) : Type 0 where
   pub lives : LivesOn h pc i t
-  pub follows : Follows (facts_at h pc) i (facts_at h t)
+  pub follows : Follows (facts_at h pc) told i (facts_at h t)
 
 -- the instruction behind may come next
 pub record FallsOn (h : Hints) (pc : ℕ) (i : Instr) (t : ℕ) : Type 0 where
-  pub on : GoesOn h pc i t
+  pub on : GoesOn h pc i None t
   pub comes : IsPlain h pc → IsReached h pc → IsReached h t
 
--- a jump may lead to a target
-pub record JumpsOn (h : Hints) (pc : ℕ) (i : Instr) (t : ℕ) : Type 0 where
-  pub on : GoesOn h pc i t
+-- a way that tells this may lead to a target
+pub record JumpsOn (h : Hints) (pc : ℕ) (i : Instr) (told : Option Fact) (t : ℕ) : Type 0 where
+  pub on : GoesOn h pc i told t
   pub comes : IsPlain h pc → IsReached h pc → IsReached h (end h t)
 
 -- the instruction behind is so where the run goes on there, and so is each target where it jumps
-abbrev pub Leads : (ℕ → Type 0) → (ℕ → Type 0) → Instr → ℕ → Type 0
-Leads F J (Jump t) pc = J t
-Leads F J (Switch a other arms) pc = IfSome other J × All (λ (arm : SwitchArm). J arm.target) arms
+abbrev pub Leads : (ℕ → Type 0) → (Option Fact → ℕ → Type 0) → Instr → ℕ → Type 0
+Leads F J (Jump t) pc = J None t
+Leads F J (Switch a other arms) pc =
+    IfSome other (J None) × All (λ (arm : SwitchArm). J (tells a arm.number) arm.target) arms
 Leads F J (Return froms) pc = Unit {0}
 Leads F J i pc = F (pc + 1)
 

@@ -8,15 +8,15 @@ use Rattle.rb_target.specs.declared.instr.Instr.TheVariants.{Const, Alu, Take}
 use Rattle.rb_target.specs.declared.code.CodeFun.{CodeFun}
 use Rattle.rb_trim.specs.declared.hints.Hints.{Hints}
 use Rattle.rb_trim.specs.inner.Following.{Sets}
-use Rattle.rb_trim.specs.inner.Moving.{place, IsUnread, EndsWell, FallsOn, JumpsOn, Stands, IsSkipped, IsStep, IsTrimmed, Leads}
+use Rattle.rb_trim.specs.inner.Moving.{place, tells, IsUnread, EndsWell, FallsOn, JumpsOn, Stands, IsSkipped, IsStep, IsTrimmed, Leads}
 
 -- the slot with this number among those that are not read is set, or not read at a place behind either
 pub record LivesAt (h : Hints) (slots : List ℕ) (i : Instr) (t k : ℕ) : Type 0 where
   pub at : (slot : ℕ) → slice_get slots k ≡ Some slot → Sets i slot ⊎ IsUnread h t slot
 
 -- the arm with this number may lead to its target
-pub record JumpsOnAt (h : Hints) (pc : ℕ) (i : Instr) (arms : List SwitchArm) (k : ℕ) : Type 0 where
-  pub at : (arm : SwitchArm) → slice_get arms k ≡ Some arm → JumpsOn h pc i arm.target
+pub record JumpsOnAt (h : Hints) (pc : ℕ) (i : Instr) (a : ℕ) (arms : List SwitchArm) (k : ℕ) : Type 0 where
+  pub at : (arm : SwitchArm) → slice_get arms k ≡ Some arm → JumpsOn h pc i (tells a arm.number) arm.target
 
 -- all that is said of the places holds wherever a run goes on behind the instruction
 abbrev pub IsKnownOn : Hints → ℕ → Instr → Type 0
