@@ -1,5 +1,6 @@
 -- One instruction of a body and the one that stands for it do alike.
-use Rattle.std.proofs.Common.{◌≡◌, ℕ, ◌+◌, ◌%◌, ◌^◌, ◌<◌, ◌≤◌, ◌⊎◌, inl, inr, Bool, true, false, nat_eq, cond, List, [], ◌∷◌, ◌++◌, map, length, Option, Some, None, refl, sym, subst, ap, ◌∙◌, arith, eqb-true}
+use Rattle.std.proofs.Common.{◌≡◌, ℕ, ◌+◌, ◌%◌, ◌^◌, ◌<◌, ◌≤◌, ◌⊎◌, inl, inr, Bool, true, false, nat_eq, cond, List, [], ◌∷◌, ◌++◌, map, length, Option, Some, None, refl, sym, subst, ap, ◌∙◌, arith, eqb-true, zero, suc, get_or}
+use Rattle.std.proofs.lemmas.Bool.{eq-eqb}
 use Rattle.std.proofs.lemmas.List.{length-set, length-map}
 use Rattle.std.proofs.lemmas.List.Elements.{All-head, All-tail}
 use Rattle.std.specs.Prelude.{slice_get, slice_index, slice_set, IfSome, All}
@@ -19,8 +20,9 @@ use Rattle.rb_trim.specs.declared.fact.Fact.{Fact}
 use Rattle.rb_trim.specs.declared.hints.Hints.{Hints}
 use Rattle.rb_trim.specs.Trimming.{IsNoDearer}
 use Rattle.rb_trim.specs.inner.Facts.{IsContent, Hold, Says, Turns}
-use Rattle.rb_trim.specs.inner.Following.{Made, IsTold, Sets}
-use Rattle.rb_trim.specs.inner.Moving.{tells, IsRead, Agree, AreApart, IsDest, IsName, landing, landing_in, moved_arm, Makes, IsWrite, IsRemade, IsPut, IsJumped, IsMoved, Leads}
+use Rattle.rb_trim.specs.inner.Following.{AreSame, IsNarrow, Made, IsTold, Sets}
+use Rattle.rb_trim.specs.inner.Moving.{tells, IsWhole, IsRead, Agree, AreApart, IsDest, IsName, landing, landing_in, moved_arm, Makes, IsWrite, IsRemade, IsPut, IsJumped, IsMoved, Leads}
+use Rattle.rb_trim.specs.inner.Stepping.{HasArm}
 use Rattle.rb_trim.proofs.Outcomes.{Near, over_near, near_switched, near_memory, near_of, load_near, store_near, place_near, call_near}
 use Rattle.rb_trim.proofs.Slots.{AgreeOn, Borne, set_agrees, put_agrees, put_long, names_same}
 
@@ -45,6 +47,43 @@ same_nat : (a b : ℕ) → (nat_eq a b ≡ false) ⊎ ((nat_eq a b ≡ true) × 
 same_nat a b =
     let Q : Bool → Type 0 = λ c. nat_eq a b ≡ c → (nat_eq a b ≡ false) ⊎ ((nat_eq a b ≡ true) × (a ≡ b)) in
     (elim (nat_eq a b) as Q [ true ↦ λ e. inr (e, eqb-true a b e) | false ↦ λ e. inl e ]) refl
+
+-- a switch takes the arm of a number, where it has one
+module _ (other : Option ℕ) (x : ℕ) where
+  pub some_arm : (arms : List SwitchArm) (k : ℕ) (arm : SwitchArm) → k < length arms → get_or arms k arm ≡ arm → arm.number ≡ x → target_of arms other x ≡ None → ⊥
+  some_arm [] k arm lt at is e = absurd (omega (arith, lt))
+  some_arm (a ∷ arms) zero arm lt at is e =
+      let same : a.number ≡ x = ap (λ (y : SwitchArm). y.number) at ∙ is in
+      let hit : nat_eq a.number x ≡ true = subst (λ n. nat_eq a.number n ≡ true) same (eq-eqb a.number a.number refl) in
+      let no : Some a.target ≡ None = subst (λ b. cond b (Some a.target) (target_of arms other x) ≡ None) hit e in cc
+  some_arm (a ∷ arms) (suc k) arm lt at is e =
+      elim (same_nat a.number x) [
+        | inl off ↦ some_arm arms k arm (omega (arith, lt)) at is (subst (λ b. cond b (Some a.target) (target_of arms other x) ≡ None) off e)
+        | inr same ↦ let no : Some a.target ≡ None = subst (λ b. cond b (Some a.target) (target_of arms other x) ≡ None) same.0 e in cc
+      ]
+
+-- a switch on few bits with an arm for each number comes to one
+pub whole_arms : (facts : List Fact) (slot from l count : ℕ) (other : Option ℕ) (arms : List SwitchArm) → AreSame facts slot from → IsNarrow facts from l → 2 ^ l ≤ count
+    → ((n : ℕ) → n < count → HasArm arms n) → IsWhole facts slot other arms
+whole_arms facts slot from l count other arms same narrow most all = record {
+  by = λ s m hold e.
+      let x = slice_index s slot in
+      let below : slice_index s from < 2 ^ l = narrow s m hold in
+      let has : HasArm arms x = all x (omega (arith, below, most, same s m hold)) in
+      some_arm other x arms has.0 has.1 has.2 has.3 has.4 e;
+}
+
+-- one with another way comes to that
+pub whole_other : (facts : List Fact) (slot : ℕ) (other : Option ℕ) (t : ℕ) (arms : List SwitchArm) → other ≡ Some t → IsWhole facts slot other arms
+whole_other facts slot other t arms is = record { by = λ s m hold e. some_way arms (slice_index s slot) (subst (λ (o : Option ℕ). target_of arms o (slice_index s slot) ≡ None) is e) }
+  where
+    some_way : (arms : List SwitchArm) (x : ℕ) → target_of arms (Some t) x ≡ None → ⊥
+    some_way [] x e = cc
+    some_way (arm ∷ arms) x e =
+        elim (same_nat arm.number x) [
+          | inl off ↦ some_way arms x (subst (λ b. cond b (Some arm.target) (target_of arms (Some t) x) ≡ None) off e)
+          | inr same ↦ let no : Some arm.target ≡ None = subst (λ b. cond b (Some arm.target) (target_of arms (Some t) x) ≡ None) same.0 e in cc
+        ]
 
 -- by some way a switch leads to a place, and what the way tells is so
 abbrev pub LedTo : (Option Fact → ℕ → Type 0) → List ℕ → Memory → ℕ → Type 0

@@ -15,8 +15,8 @@ use Rattle.rb_trim.specs.declared.fact.Content.TheVariants.{Number, Same, Part, 
 use Rattle.rb_trim.specs.declared.fact.Fact.{Fact}
 use Rattle.rb_trim.specs.declared.hints.Hints.{Hints}
 use Rattle.rb_trim.specs.Trimming.{HasSameHead, IsTrimOf}
-use Rattle.rb_trim.specs.inner.Moving.{tells, AreApart, IsApart, KeepParams, KeepsParam, AreDests, AreNames, IsDest, IsName, dead_at, facts_at, place, end, moved_arm, IsReached, Makes, IsWrite, IsRemade, IsMoved, IsInto, IsFolded, Stands, IsSkipped, EndsWell, LivesOn, JumpsOn, IsStep, HaveSameHeads, IsTrimmed}
-use Rattle.rb_trim.specs.inner.Stepping.{LivesAt, JumpsOnAt, IsKnownOn, Steps, HaveOrigins, Walks, IsRanged, IsFit, AreTrimmed}
+use Rattle.rb_trim.specs.inner.Moving.{tells, AreApart, IsApart, KeepParams, KeepsParam, AreDests, AreNames, IsDest, IsName, dead_at, facts_at, place, end, moved_arm, IsReached, Makes, IsWrite, IsRemade, IsMoved, IsInto, IsFolded, ComesBack, Stands, IsSkipped, EndsWell, LivesOn, JumpsOn, IsStep, HaveSameHeads, IsTrimmed}
+use Rattle.rb_trim.specs.inner.Stepping.{ComesBackAt, LivesAt, JumpsOnAt, IsKnownOn, Steps, HaveOrigins, Walks, IsRanged, IsFit, AreTrimmed}
 use Rattle.rb_trim.proofs.Slots.{same_or}
 use Rattle.rb_trim.proofs.Whole.{past, trim_of}
 
@@ -215,7 +215,10 @@ module _ (f q : CodeFun) (h : Hints) (head : HasSameHead f q) (walks : Walks h f
           | inl plain ↦ bounded h (facts_at h from.0) f.body from.0 from.1 j plain.1 old.bounded each.2
           | inr merged ↦ elim merged [
             | inl into ↦ into_bounded h f.body from.0 from.1 j into old.bounded
-            | inr fold ↦ folded_bounded h f.body from.0 from.1 j fold old.bounded (valid.each (end h fold.target) (Switch fold.from fold.other fold.more) fold.next).bounded
+            | inr more ↦ elim more [
+              | inl fold ↦ folded_bounded h f.body from.0 from.1 j fold old.bounded (valid.each (end h fold.target) (Switch fold.from fold.other fold.more) fold.next).bounded
+              | inr back ↦ subst IsBounded (sym back.stands) tt
+            ]
           ]
         ];
         slots = each.0;
@@ -224,7 +227,13 @@ module _ (f q : CodeFun) (h : Hints) (head : HasSameHead f q) (walks : Walks h f
           | inl plain ↦ calls h (facts_at h from.0) f.body from.0 funs funs' f.results q.results heads head.results (λ n k got. (valid.each n k got).calls) from.1 j plain.1 old.calls
           | inr merged ↦ elim merged [
             | inl into ↦ subst (CallsFit funs' q.results) (sym into.stands) tt
-            | inr fold ↦ subst (CallsFit funs' q.results) (sym fold.stands) tt
+            | inr more ↦ elim more [
+              | inl fold ↦ subst (CallsFit funs' q.results) (sym fold.stands) tt
+              | inr back ↦
+                  subst (CallsFit funs' q.results) (sym back.stands)
+                  (names_long h (facts_at h (end h back.first)) (end h back.first) back.one.froms back.words back.one.names
+                  ∙ (valid.each (end h back.first) (Return back.one.froms) back.one.stands).calls ∙ sym head.results)
+            ]
           ]
         ];
       }
@@ -248,6 +257,14 @@ module _ (f q : CodeFun) (h : Hints) (head : HasSameHead f q) (walks : Walks h f
   }
 
 -- The parts of the tests
+
+pub arms_back : (h : Hints) (body : List Instr) (words : List ℕ) (arms : List SwitchArm) → ((k : ℕ) → k < length arms → ComesBackAt h body words arms k) → All (λ (arm : SwitchArm). ComesBack h body words arm.target) arms
+arms_back h body words arms each = λ k d lt. (each k lt).at (get_or arms k d) (get_there arms k d lt)
+  where
+    get_there : (xs : List SwitchArm) (k : ℕ) (d : SwitchArm) → k < length xs → slice_get xs k ≡ Some (get_or xs k d)
+    get_there [] k d lt = absurd (omega (arith, lt))
+    get_there (x ∷ xs) zero d lt = refl
+    get_there (x ∷ xs) (suc k) d lt = get_there xs k d (omega (arith, lt))
 
 pub arms_all : (h : Hints) (pc : ℕ) (i : Instr) (a : ℕ) (arms : List SwitchArm) → ((k : ℕ) → k < length arms → JumpsOnAt h pc i a arms k) → All (λ (arm : SwitchArm). JumpsOn h pc i (tells a arm.number) arm.target) arms
 arms_all h pc i a arms each = λ k d lt. (each k lt).at (get_or arms k d) (get_there arms k d lt)

@@ -18,7 +18,7 @@ use Rattle.rb_trim.specs.declared.hints.Hints.{Hints}
 use Rattle.rb_trim.specs.Trimming.{IsNoDearer}
 use Rattle.rb_trim.specs.inner.Facts.{Hold, Says, Turns}
 use Rattle.rb_trim.specs.inner.Following.{Sets}
-use Rattle.rb_trim.specs.inner.Moving.{IsUnread, IsReached, IsPlain, IsRead, Agree, AreApart, IsDest, IsName, AreNames, IsMoved, IsCopied, IsInto, IsFolded, landing_in, moved_arm, LivesOn, FallsOn, JumpsOn, GoesOn, EndsOn, facts_at, place, end, landing, IsIdle, IsJumped, Leads, IsKept, IsLeftOut, IsSkipped, IsStep}
+use Rattle.rb_trim.specs.inner.Moving.{IsUnread, IsReached, IsPlain, IsRead, Agree, AreApart, IsDest, IsName, AreNames, IsMoved, IsCopied, IsInto, IsFolded, IsWhole, ComesBack, IsBack, landing_in, moved_arm, LivesOn, FallsOn, JumpsOn, GoesOn, EndsOn, facts_at, place, end, landing, IsIdle, IsJumped, Leads, IsKept, IsLeftOut, IsSkipped, IsStep}
 use Rattle.rb_trim.proofs.Outcomes.{Near, near_taken, near_behind, over_near, load_near, near_switched, near_more}
 use Rattle.rb_trim.proofs.Slots.{AgreeOn, Borne, same_or, ever, widened, onward, set_agrees, set_unread, names_same}
 use Rattle.rb_trim.proofs.Acting.{CallsNear, Comes, LedTo, acts_alike, moved_target, led_to, switch_near, first_or}
@@ -367,6 +367,15 @@ module _ (funs funs' : List CodeFun) (f q : CodeFun) (valid : IsValidFun funs f)
   loads_into pc i j is rest is' into s' v long' =
       loads pc into.slot into.base into.offset into.width into.to into.to' into.base' (is ∙ ap Some into.is) (is' ∙ ap Some into.stands) into.dest into.name into.copied into.next rest s' v long'
 
+  -- a switch writes no slot
+  switch_borne : (s' : List ℕ) (u a : ℕ) (o : Option ℕ) (its : List SwitchArm) (s : List ℕ) → Agree h u s s' → AgreeOn h (Borne h u (Switch a o its)) s s'
+  switch_borne s' u a o its s agree k (inl read) e = agree k read
+  switch_borne s' u a o its s agree k (inr sets) e = absurd sets
+
+  if_both : (P Q : ℕ → Type 0) (o : Option ℕ) → IfSome o P → IfSome o Q → IfSome o (λ t. P t × Q t)
+  if_both P Q None p r = p
+  if_both P Q (Some t) p r = (p, r)
+
   -- a switch that has the arms of another, too
   module _ (pc slot target : ℕ) (arms : List SwitchArm) (from_slot : ℕ) (other : Option ℕ) (more : List SwitchArm) (word : ℕ)
       (is : slice_get f.body pc ≡ Some (Switch slot (Some target) arms)) (following : slice_get f.body (end h target) ≡ Some (Switch from_slot other more))
@@ -378,21 +387,13 @@ module _ (funs funs' : List CodeFun) (f q : CodeFun) (valid : IsValidFun funs f)
     abbrev pub then : ℕ
     then = end h target
 
-    switch_borne : (u a : ℕ) (o : Option ℕ) (its : List SwitchArm) (s : List ℕ) → Agree h u s s' → AgreeOn h (Borne h u (Switch a o its)) s s'
-    switch_borne u a o its s agree k (inl read) e = agree k read
-    switch_borne u a o its s agree k (inr sets) e = absurd sets
-
     -- where a switch leads
     switched_to : (u a t : ℕ) (o : Option ℕ) (its : List SwitchArm) → slice_get f.body u ≡ Some (Switch a o its) → pc ≤ u
         → (v1 : World) (s : List ℕ) (w : World) → LedTo (λ told n. J u (Switch a o its) told n × IsReached h (end h n)) s w.memory t → Near v1 (switched (taken w)) → f.slots ≤ length s → Agree h u s s' → Hold s w.memory (facts_at h u)
         → IsNoDearer (from q.body new (landing h t) s' v1) (from f.body old t s (switched (taken w)))
     switched_to u a t o its at le v1 s w to near long agree hold =
         goes_to u t to.1.0.0 to.1.0.1 (λ n behind within. rest n (omega (arith, le, behind)) within) to.1.1 s' v1 long' s (switched (taken w)) near long
-        (onward h u (Switch a o its) t s s' to.1.0.2.on.lives (switch_borne u a o its s agree)) (holds_on u (Switch a o its) to.0 t at to.1.0.2.on s s w (switched (taken w)) long hold to.2 (refl, refl))
-
-    if_both : (P Q : ℕ → Type 0) (o : Option ℕ) → IfSome o P → IfSome o Q → IfSome o (λ t. P t × Q t)
-    if_both P Q None p r = p
-    if_both P Q (Some t) p r = (p, r)
+        (onward h u (Switch a o its) t s s' to.1.0.2.on.lives (switch_borne s' u a o its s agree)) (holds_on u (Switch a o its) to.0 t at to.1.0.2.on s s w (switched (taken w)) long hold to.2 (refl, refl))
 
     leads : Leads (F pc (Switch slot (Some target) arms)) (J pc (Switch slot (Some target) arms)) (Switch slot (Some target) arms) pc
     leads = led pc (Switch slot (Some target) arms) is
@@ -427,7 +428,7 @@ module _ (funs funs' : List CodeFun) (f q : CodeFun) (valid : IsValidFun funs f)
         let near1 : Near v1 w1 = near_switched (taken v) (taken w) (near_taken v w near) in
         let both_arms = map (λ (arm : SwitchArm). moved_arm h arm) arms ++ map (λ (arm : SwitchArm). moved_arm h arm) more in
         let P : Option Fact → ℕ → Type 0 = λ told t. J pc i told t × IsReached h (end h t) in
-        let onto : Agree h target s s' = onward h pc i target s s' leads.0.2.on.lives (switch_borne pc slot (Some target) arms s agree) in
+        let onto : Agree h target s s' = onward h pc i target s s' leads.0.2.on.lives (switch_borne s' pc slot (Some target) arms s agree) in
         let held : Hold s w.memory (facts_at h target) = holds_on pc i None target is leads.0.2.on s s w w1 long hold tt (refl, refl) in
         subst (λ (p : Outcome). IsNoDearer (from q.body new (place h pc) s' v) p) (sym (law.step pc i s w is))
         (subst (λ (p : Outcome). IsNoDearer p (act i (from f.body old) old pc s (taken w))) (sym (law'.step (place h pc) (Switch word (landing_in h other) both_arms) s' v is'))
@@ -448,6 +449,47 @@ module _ (funs funs' : List CodeFun) (f q : CodeFun) (valid : IsValidFun funs f)
   folds_into pc i j is rest is' fold s' v long' =
       folds pc fold.slot fold.target fold.arms fold.from fold.other fold.more fold.word (is ∙ ap Some fold.is) fold.next (is' ∙ ap Some fold.stands) fold.name fold.same fold.arms_come fold.more_come fold.other_comes rest s' v long'
 
+  -- a switch that returns
+  module _ (pc slot : ℕ) (other : Option ℕ) (arms : List SwitchArm) (words : List ℕ) (is : slice_get f.body pc ≡ Some (Switch slot other arms)) (is' : slice_get q.body (place h pc) ≡ Some (Return words))
+      (whole : IsWhole (facts_at h pc) slot other arms) (arms_back : All (λ (arm : SwitchArm). ComesBack h f.body words arm.target) arms) (other_back : IfSome other (ComesBack h f.body words))
+      (rest : (t : ℕ) → pc < t → t < length f.body → Both t) (s' : List ℕ) (v : World) where
+    abbrev pub turn : Instr
+    turn = Switch slot other arms
+
+    ways : Leads (F pc turn) (J pc turn) turn pc
+    ways = led pc turn is
+
+    abbrev pub P : Option Fact → ℕ → Type 0
+    P told t = J pc turn told t × ComesBack h f.body words t
+
+    returns : AtEnd pc s' v (from q.body new (place h pc) s' v)
+    returns s w near long agree hold =
+        let x = slice_index s slot in
+        subst (λ (p : Outcome). IsNoDearer (from q.body new (place h pc) s' v) p) (sym (law.step pc turn s w is))
+        (subst (λ (p : Outcome). IsNoDearer p (act turn (from f.body old) old pc s (taken w))) (sym (law'.step (place h pc) (Return words) s' v is'))
+        (each (target_of arms other x) refl))
+      where
+        w1 : World
+        w1 = switched (taken w)
+
+        near1 : Near (taken v) w1
+        near1 = near_more (taken v) (taken w) (near_taken v w near)
+
+        each : (o : Option ℕ) → target_of arms other (slice_index s slot) ≡ o
+            → IsNoDearer (over (Returned (slots_at s' words) (taken v).left) (taken v)) (after_switch o (slice_index s slot) w1 (λ t. from f.body old t s w1))
+        each None e = absurd (whole.by s w.memory hold e)
+        each (Some t) e =
+            let to : LedTo P s w.memory t = led_to P slot s w.memory arms other (slice_index s slot) t refl (λ k d lt. (ways.1 k d lt, arms_back k d lt)) (if_both (J pc turn None) (ComesBack h f.body words) other ways.0 other_back) e in
+            let back : ComesBack h f.body words t = to.1.1 in
+            goes_back pc t (rest t to.1.0.0 to.1.0.1).1 back.froms words back.stands back.names s' (taken v) s w1 near1 long
+            (onward h pc turn t s s' to.1.0.2.on.lives (switch_borne s' pc slot other arms s agree))
+            (holds_on pc turn to.0 t is to.1.0.2.on s s w w1 long hold to.2 (refl, refl))
+
+  turns_back : (pc : ℕ) (i j : Instr) → slice_get f.body pc ≡ Some i → ((t : ℕ) → pc < t → t < length f.body → Both t) → slice_get q.body (place h pc) ≡ Some j → IsBack h f.body pc i j
+      → (s' : List ℕ) (v : World) → AtEnd pc s' v (from q.body new (place h pc) s' v)
+  turns_back pc i j is rest is' back s' v =
+      returns pc back.slot back.other back.arms back.words (is ∙ ap Some back.is) (is' ∙ ap Some back.stands) back.whole back.arms_back back.other_back rest s' v
+
   here : (pc : ℕ) → pc < length f.body → ((t : ℕ) → pc < t → t < length f.body → Both t) → Both pc
   here pc lt rest =
       let found = get_some f.body pc lt in
@@ -460,7 +502,10 @@ module _ (funs funs' : List CodeFun) (f q : CodeFun) (valid : IsValidFun funs f)
                 (stays pc i is rest kept plain.0 plain.1 plain.2 reached s' v long' s w near long agree hold)
             | inr merged ↦ elim merged [
               | inl into ↦ loads_into pc i kept.0 is rest kept.1 into s' v long'
-              | inr folded ↦ folds_into pc i kept.0 is rest kept.1 folded s' v long'
+              | inr more ↦ elim more [
+                | inl folded ↦ folds_into pc i kept.0 is rest kept.1 folded s' v long'
+                | inr back ↦ turns_back pc i kept.0 is rest kept.1 back s' v
+              ]
             ]
           ]
           | inr skip ↦ skipped pc i is rest skip reached s' v long'

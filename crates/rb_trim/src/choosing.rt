@@ -1,9 +1,11 @@
 //! What is wanted of a body, from its last instruction back, which two instructions become one, and what runs come to.
 
 use crate::fact::{Content, Fact};
+use crate::hints::RETURNS;
 use crate::knowing::source;
 use crate::learning::{facts_at, holder, numbers, read_by, set_by, slots_at};
 use crate::moving::number_at;
+use crate::returning::is_whole;
 use crate::telling::sets;
 use rb_core::seq::Seq;
 use rb_target::code::CodeFun;
@@ -12,6 +14,9 @@ use std::alloc::{AllocError, Global};
 
 // How many arms a switch takes at most from the one behind it.
 const MOST_ARMS: usize = 12;
+
+// How many words a switch returns at most.
+const MOST_WORDS: usize = 12;
 
 // What is wanted of a body, and what is read: for each instruction 1 where it is wanted, slots that are not read from
 // there on though a later line reads them, and where a jump to it goes on; for each slot one more than the number of the
@@ -214,8 +219,78 @@ fn leads_on(
         && source(facts_at(facts, at), *from) == source(facts_at(facts, pc), slot)
 }
 
+// The slots whose words a way returns, if it returns few.
+fn words_back(
+    alloc: Global,
+    rest: &Rest,
+    facts: &[Seq<Fact>],
+    body: &[Instr],
+    target: usize,
+) -> Result<Option<Seq<usize>>, AllocError> {
+    let at = number_at(rest.ends.as_slice(), target);
+    let Some(Instr::Return(froms)) = body.get(at) else {
+        return Ok(None);
+    };
+    if froms.as_slice().len() > MOST_WORDS {
+        return Ok(None);
+    }
+    let known = facts_at(facts, at);
+    let mut words = Seq::new(alloc);
+    for from in froms.as_slice() {
+        words.push(source(known, *from))?;
+    }
+    Ok(Some(words))
+}
+
+// Whether a way returns the words of these slots.
+fn gives(
+    alloc: Global,
+    rest: &Rest,
+    facts: &[Seq<Fact>],
+    body: &[Instr],
+    words: &[usize],
+    target: usize,
+) -> Result<bool, AllocError> {
+    match words_back(alloc, rest, facts, body, target)? {
+        None => Ok(false),
+        Some(found) => Ok(found.as_slice() == words),
+    }
+}
+
+// Whether each way of a switch returns the same words.
+fn turns_back(
+    alloc: Global,
+    rest: &Rest,
+    facts: &[Seq<Fact>],
+    body: &[Instr],
+    pc: usize,
+    instr: &Instr,
+) -> Result<bool, AllocError> {
+    let Instr::Switch(slot, other, arms) = instr else {
+        return Ok(false);
+    };
+    let arms = arms.as_slice();
+    let Some(first) = arms.first() else {
+        return Ok(false);
+    };
+    let Some(words) = words_back(alloc, rest, facts, body, first.target)? else {
+        return Ok(false);
+    };
+    for arm in arms {
+        if !gives(alloc, rest, facts, body, words.as_slice(), arm.target)? {
+            return Ok(false);
+        }
+    }
+    if let Some(target) = other {
+        if !gives(alloc, rest, facts, body, words.as_slice(), *target)? {
+            return Ok(false);
+        }
+    }
+    Ok(is_whole(facts_at(facts, pc), *slot, *other, arms))
+}
+
 // For each instruction 1 where one instruction stands for it and another: a load of a word that is copied right behind,
-// and read by nothing else, and a switch whose other way leads to one on the same word.
+// and read by nothing else, and a switch whose other way leads to one on the same word. 2 where a switch returns.
 pub(crate) fn give(
     alloc: Global,
     body: &[Instr],
@@ -238,6 +313,9 @@ pub(crate) fn give(
             if leads_on(rest, facts, body, pc, *slot, *target) {
                 put(&mut given, pc, 1);
             }
+        }
+        if turns_back(alloc, rest, facts, body, pc, instr)? {
+            put(&mut given, pc, RETURNS);
         }
         if let Instr::Load(slot, ..) = instr {
             let at = number_at(rest.ends.as_slice(), pc.saturating_add(1));
@@ -326,7 +404,7 @@ pub(crate) fn reach(
         if number_at(reached.as_slice(), pc) > 0 {
             match instr {
                 Instr::Jump(target) => put(&mut reached, number_at(ends, *target), 1),
-                Instr::Switch(_, other, arms) => {
+                Instr::Switch(_, other, arms) if number_at(given, pc) != RETURNS => {
                     let is_folded = number_at(given, pc) > 0;
                     let way = if is_folded { None } else { *other };
                     reach_targets(&mut reached, ends, way, arms.as_slice());
@@ -334,7 +412,7 @@ pub(crate) fn reach(
                         reach_next(&mut reached, body, ends, *other);
                     }
                 }
-                Instr::Return(_) => {}
+                Instr::Switch(..) | Instr::Return(_) => {}
                 Instr::Const(..)
                 | Instr::Copy(..)
                 | Instr::Alu(..)

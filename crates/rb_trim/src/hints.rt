@@ -3,6 +3,9 @@
 use crate::fact::Fact;
 use rb_core::seq::Seq;
 
+/// Stands for a switch that returns at once.
+pub(crate) const RETURNS: usize = 2;
+
 /// What is left out of a body, and the new numbers of its instructions and slots. Nothing is right by itself: `trim`
 /// tests what it rests on.
 #[derive(Drop)]
@@ -13,7 +16,8 @@ pub struct Hints {
     pub ends: Seq<usize>,
     /// For each instruction 1 where a run may come to it, and 0 where none does.
     pub reached: Seq<usize>,
-    /// For each instruction 1 where one instruction stands for it and for another behind it, else 0.
+    /// For each instruction 1 where one instruction stands for it and for another behind it, 2 where a switch returns at
+    /// once, else 0.
     pub given: Seq<usize>,
     /// For each instruction what is known before it.
     pub facts: Seq<Seq<Fact>>,

@@ -63,6 +63,7 @@ mod hints;
 mod knowing;
 mod learning;
 mod moving;
+mod returning;
 mod steps;
 mod telling;
 pub mod trim;

@@ -4,7 +4,7 @@ ghost use Rattle.std.specs.Prelude.{◌≡◌, ◌↔◌, IfOk, IsTrue, Contains
 ghost use Rattle.rb_trim.specs.inner.Moving.{dead_at, end, facts_at, moved_arm, place, landing, landing_in, IsReached, IsPlain, IsRead, IsDest, IsName, AreDests, AreNames, IsWrite, IsRemade, IsJumped, IsPut, IsMoved};
 
 use crate::fact::{Content, Fact};
-use crate::hints::Hints;
+use crate::hints::{Hints, RETURNS};
 use crate::knowing::{remade, source};
 use crate::telling::told;
 use rb_core::seq::Seq;
@@ -113,6 +113,11 @@ pub(crate) fn is_plain(hints: &Hints, pc: usize) -> bool
     number_at(hints.given.as_slice(), pc) == 0
 }
 
+// Whether a switch is to return at once.
+pub(crate) fn turns_back(hints: &Hints, pc: usize) -> bool {
+    number_at(hints.given.as_slice(), pc) == RETURNS
+}
+
 // The new number of an instruction, or of one behind it that is left.
 pub(crate) fn place_at(hints: &Hints, pc: usize) -> usize
     ensures { result ≡ place hints.now pc }
@@ -164,7 +169,7 @@ fn dests(alloc: Global, hints: &Hints, slots: &[usize]) -> Result<Seq<usize>, St
 }
 
 // The new numbers of slots that are read.
-fn names(
+pub(crate) fn names(
     alloc: Global,
     hints: &Hints,
     facts: &[Fact],

@@ -12,8 +12,9 @@ use crate::giving::into_copy;
 use crate::hints::Hints;
 use crate::knowing::source;
 use crate::moving::{
-    Stop, end_at, is_plain, is_reached, is_read, known_at, moved, place_at, unread_at,
+    Stop, end_at, is_plain, is_reached, is_read, known_at, moved, place_at, turns_back, unread_at,
 };
+use crate::returning::into_return;
 use crate::telling::{follow, sets, tells};
 use rb_core::seq::Seq;
 use rb_target::instr::{Instr, SwitchArm};
@@ -293,7 +294,7 @@ fn is_out(hints: &Hints, pc: usize, instr: &Instr) -> bool
     }
 }
 
-// The instruction that stands for one of a body and for another behind it.
+// The instruction that stands for one of a body and for others behind it.
 fn merged(
     alloc: Global,
     hints: &Hints,
@@ -304,6 +305,10 @@ fn merged(
     ensures { IfOk result (λ j. IsMerged hints.now body.now pc instr.now j) }
 {
     if let Instr::Switch(..) = instr {
+        if turns_back(hints, pc) {
+            let new = into_return(alloc, hints, body, pc, instr)?;
+            return Ok(new);
+        }
         let new = into_switch(alloc, hints, body, pc, instr)?;
         return Ok(new);
     }

@@ -5,6 +5,7 @@ use Rattle.rb_target.specs.declared.instr.SwitchArm.{SwitchArm}
 use Rattle.rb_target.specs.declared.instr.Instr.{Instr}
 use Rattle.rb_target.specs.declared.instr.Instr.TheVariants.{Const, Copy, Alu, Take, Put, Load, Store, Place, Jump, Switch, Call, Return}
 use Rattle.rb_target.specs.declared.code.CodeFun.{CodeFun}
+use Rattle.rb_target.specs.Meaning.{target_of}
 use Rattle.rb_target.specs.Validity.{IsValidFun}
 use Rattle.rb_trim.specs.Trimming.{HasSameHead}
 use Rattle.rb_trim.specs.declared.fact.Fact.{Fact}
@@ -249,9 +250,33 @@ pub record IsFolded (h : Hints) (body : List Instr) (pc : ℕ) (i j : Instr) : T
   pub more_come : All (λ (arm : SwitchArm). IsReached h (end h arm.target)) more
   pub other_comes : IfSome other (λ t. IsReached h (end h t))
 
--- an instruction stands for one of a body and for another behind it
+-- a switch on a slot comes to one of its ways
+pub record IsWhole (facts : List Fact) (slot : ℕ) (other : Option ℕ) (arms : List SwitchArm) : Type 0 where
+  pub by : (s : List ℕ) (m : Memory) → Hold s m facts → target_of arms other (slice_index s slot) ≡ None → ⊥
+
+-- a way comes to the return of these words, under new numbers
+pub record ComesBack (h : Hints) (body : List Instr) (words : List ℕ) (t : ℕ) : Type 0 where
+  pub froms : List ℕ
+  pub stands : slice_get body (end h t) ≡ Some (Return froms)
+  pub names : AreNames h (facts_at h (end h t)) (end h t) froms words
+
+-- a switch all of whose ways return the same words returns
+pub record IsBack (h : Hints) (body : List Instr) (pc : ℕ) (i j : Instr) : Type 0 where
+  pub slot : ℕ
+  pub other : Option ℕ
+  pub arms : List SwitchArm
+  pub words : List ℕ
+  pub first : ℕ
+  pub is : i ≡ Switch slot other arms
+  pub stands : j ≡ Return words
+  pub whole : IsWhole (facts_at h pc) slot other arms
+  pub one : ComesBack h body words first
+  pub arms_back : All (λ (arm : SwitchArm). ComesBack h body words arm.target) arms
+  pub other_back : IfSome other (ComesBack h body words)
+
+-- an instruction stands for one of a body and for others behind it
 abbrev pub IsMerged : Hints → List Instr → ℕ → Instr → Instr → Type 0
-IsMerged h body pc i j = IsInto h body pc i j ⊎ IsFolded h body pc i j
+IsMerged h body pc i j = IsInto h body pc i j ⊎ (IsFolded h body pc i j ⊎ IsBack h body pc i j)
 
 -- the instruction that stands for one of a body, alone or with another
 abbrev pub Stands : Hints → List Instr → ℕ → Instr → Instr → Type 0

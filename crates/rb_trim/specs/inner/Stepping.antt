@@ -1,5 +1,5 @@
 -- Words for the parts of a walk through a body.
-use Rattle.std.specs.Prelude.{◌≡◌, ℕ, ◌+◌, ◌^◌, ◌<◌, ◌≤◌, ◌⊎◌, List, [], ◌∷◌, ◌++◌, length, Some, slice_get}
+use Rattle.std.specs.Prelude.{◌≡◌, ℕ, ◌+◌, ◌^◌, ◌<◌, ◌≤◌, ◌⊎◌, List, [], ◌∷◌, ◌++◌, length, Some, slice_get, Any}
 use Rattle.rb_bits.specs.Words.{IsRange}
 use Rattle.rb_target.specs.Validity.{SlotsFit, TargetsFit, EndsInReturn, dest_count}
 use Rattle.rb_target.specs.declared.instr.SwitchArm.{SwitchArm}
@@ -8,7 +8,7 @@ use Rattle.rb_target.specs.declared.instr.Instr.TheVariants.{Const, Alu, Take}
 use Rattle.rb_target.specs.declared.code.CodeFun.{CodeFun}
 use Rattle.rb_trim.specs.declared.hints.Hints.{Hints}
 use Rattle.rb_trim.specs.inner.Following.{Sets}
-use Rattle.rb_trim.specs.inner.Moving.{place, tells, IsUnread, EndsWell, FallsOn, JumpsOn, Stands, IsSkipped, IsStep, IsTrimmed, Leads}
+use Rattle.rb_trim.specs.inner.Moving.{place, tells, IsUnread, EndsWell, FallsOn, JumpsOn, Stands, IsSkipped, IsStep, IsTrimmed, Leads, ComesBack}
 
 -- the slot with this number among those that are not read is set, or not read at a place behind either
 pub record LivesAt (h : Hints) (slots : List ℕ) (i : Instr) (t k : ℕ) : Type 0 where
@@ -17,6 +17,14 @@ pub record LivesAt (h : Hints) (slots : List ℕ) (i : Instr) (t k : ℕ) : Type
 -- the arm with this number may lead to its target
 pub record JumpsOnAt (h : Hints) (pc : ℕ) (i : Instr) (a : ℕ) (arms : List SwitchArm) (k : ℕ) : Type 0 where
   pub at : (arm : SwitchArm) → slice_get arms k ≡ Some arm → JumpsOn h pc i (tells a arm.number) arm.target
+
+-- the arm with this number comes to the return of these words
+pub record ComesBackAt (h : Hints) (body : List Instr) (words : List ℕ) (arms : List SwitchArm) (k : ℕ) : Type 0 where
+  pub at : (arm : SwitchArm) → slice_get arms k ≡ Some arm → ComesBack h body words arm.target
+
+-- a switch has an arm for the number
+abbrev pub HasArm : List SwitchArm → ℕ → Type 0
+HasArm arms number = Any (λ (arm : SwitchArm). arm.number ≡ number) arms
 
 -- all that is said of the places holds wherever a run goes on behind the instruction
 abbrev pub IsKnownOn : Hints → ℕ → Instr → Type 0

@@ -1,0 +1,185 @@
+//! Switches all of whose ways return the same words: they return.
+
+ghost use Rattle.std.specs.Prelude.{◌≡◌, ◌<◌, ◌≤◌, ◌^◌, ℕ, All, IfOk, IfSome, IsTrue, OnOk};
+ghost use Rattle.rb_target.specs.declared.instr.SwitchArm.{SwitchArm as SwitchArmDecl};
+ghost use Rattle.rb_trim.specs.inner.Moving.{ComesBack, IsBack, IsWhole};
+ghost use Rattle.rb_trim.specs.inner.Stepping.{ComesBackAt, HasArm};
+
+use crate::fact::Fact;
+use crate::hints::Hints;
+use crate::knowing::{is_narrow, source};
+use crate::moving::{Stop, end_at, known_at, names};
+use rb_core::seq::Seq;
+use rb_target::instr::{Instr, SwitchArm};
+use std::alloc::Global;
+
+// Whether a switch has an arm for a number.
+fn has_arm(arms: &[SwitchArm], number: u64) -> bool
+    ensures { IsTrue result → HasArm arms.now number }
+{
+    arms.iter().any(|arm| arm.number == number)
+}
+
+// Whether a switch has arms for so many numbers from 0 on.
+fn has_arms(arms: &[SwitchArm], count: u64) -> bool
+    ensures { IsTrue result → ((number : ℕ) → number < count → HasArm arms.now number) }
+{
+    for number in 0..count {
+        if !has_arm(arms, number) {
+            return false;
+        }
+    }
+    true
+}
+
+// Whether a slot has at most so many bits, and a switch an arm for each number of so many.
+fn has_all(
+    facts: &[Fact],
+    slot: usize,
+    other: Option<usize>,
+    arms: &[SwitchArm],
+    l: u8,
+    count: u64,
+) -> bool
+    requires { 2 ^ l ≤ count }
+    ensures { IsTrue result → IsWhole facts.now slot other arms.now }
+{
+    let from = source(facts, slot);
+    if !is_narrow(facts, from, l) {
+        return false;
+    }
+    has_arms(arms, count)
+}
+
+/// Whether a switch on a slot comes to one of its ways: it has another way, or an arm for each number of few bits.
+pub(crate) fn is_whole(
+    facts: &[Fact],
+    slot: usize,
+    other: Option<usize>,
+    arms: &[SwitchArm],
+) -> bool
+    ensures { IsTrue result → IsWhole facts.now slot other arms.now }
+{
+    if let Some(_) = other {
+        return true;
+    }
+    if has_all(facts, slot, other, arms, 1, 2) {
+        return true;
+    }
+    if has_all(facts, slot, other, arms, 2, 4) {
+        return true;
+    }
+    has_all(facts, slot, other, arms, 3, 8)
+}
+
+// The words that a way returns, under new numbers.
+fn words_of(alloc: Global, hints: &Hints, body: &[Instr], target: usize) -> Result<Seq<usize>, Stop>
+    ensures { IfOk result (λ words. ComesBack hints.now body.now words target) }
+{
+    let end = end_at(hints, target);
+    let Some(Instr::Return(froms)) = body.get(end) else {
+        return Err(Stop::Unfit);
+    };
+    let words = names(alloc, hints, known_at(hints, end), end, froms.as_slice())?;
+    Ok(words)
+}
+
+// Tests that a way returns these words.
+fn comes_back(
+    alloc: Global,
+    hints: &Hints,
+    body: &[Instr],
+    words: &[usize],
+    target: usize,
+) -> Result<(), Stop>
+    ensures { OnOk result (ComesBack hints.now body.now words.now target) }
+{
+    let found = words_of(alloc, hints, body, target)?;
+    if !are_same(found.as_slice(), words) {
+        return Err(Stop::Unfit);
+    }
+    Ok(())
+}
+
+fn are_same(words: &[usize], others: &[usize]) -> bool
+    ensures { IsTrue result → (words.now ≡ others.now) }
+{
+    words == others
+}
+
+fn arm_comes_back(
+    alloc: Global,
+    hints: &Hints,
+    body: &[Instr],
+    words: &[usize],
+    arms: &[SwitchArm],
+    k: usize,
+) -> Result<(), Stop>
+    ensures { OnOk result (ComesBackAt hints.now body.now words.now arms.now k) }
+{
+    match arms.get(k) {
+        None => Ok(()),
+        Some(arm) => comes_back(alloc, hints, body, words, arm.target),
+    }
+}
+
+// Tests that each arm returns these words.
+fn arms_come_back(
+    alloc: Global,
+    hints: &Hints,
+    body: &[Instr],
+    words: &[usize],
+    arms: &[SwitchArm],
+) -> Result<(), Stop>
+    ensures { OnOk result
+        (All (λ (arm : SwitchArmDecl). ComesBack hints.now body.now words.now arm.target) arms.now) }
+{
+    for k in 0..arms.len() {
+        arm_comes_back(alloc, hints, body, words, arms, k)?;
+    }
+    Ok(())
+}
+
+fn other_comes_back(
+    alloc: Global,
+    hints: &Hints,
+    body: &[Instr],
+    words: &[usize],
+    other: Option<usize>,
+) -> Result<(), Stop>
+    ensures { OnOk result (IfSome other (ComesBack hints.now body.now words.now)) }
+{
+    match other {
+        None => Ok(()),
+        Some(target) => comes_back(alloc, hints, body, words, target),
+    }
+}
+
+/// The return of the words that each way of a switch returns, under new numbers.
+///
+/// # Errors
+///
+/// A way does not return them, the switch may come to none, or want of memory.
+pub(crate) fn into_return(
+    alloc: Global,
+    hints: &Hints,
+    body: &[Instr],
+    pc: usize,
+    instr: &Instr,
+) -> Result<Instr, Stop>
+    ensures { IfOk result (λ j. IsBack hints.now body.now pc instr.now j) }
+{
+    let Instr::Switch(slot, other, arms) = instr else {
+        return Err(Stop::Unfit);
+    };
+    let Some(arm) = arms.as_slice().first() else {
+        return Err(Stop::Unfit);
+    };
+    if !is_whole(known_at(hints, pc), *slot, *other, arms.as_slice()) {
+        return Err(Stop::Unfit);
+    }
+    let words = words_of(alloc, hints, body, arm.target)?;
+    arms_come_back(alloc, hints, body, words.as_slice(), arms.as_slice())?;
+    other_comes_back(alloc, hints, body, words.as_slice(), *other)?;
+    Ok(Instr::Return(words))
+}
