@@ -7,6 +7,7 @@ texts of bench/code that are run by `exec`.
 """
 import itertools
 import os
+import string
 
 LIMIT = 262_144
 IMAGE_LIMIT = 16_777_216
@@ -226,6 +227,11 @@ def literals(n):
     return f"fun main(x: u64): u64 = match x {{{clauses},_=>0}};\n"
 
 
+def short_clauses(n):
+    """A match of 1,000 n literals with one answer, so that more of them fit into a file."""
+    return f"fun main(x: u64): u64 = match x {{{comma(f'{i}=>0' for i in range(1000 * n))},_=>1}};\n"
+
+
 def wilds(n):
     """A match of 1,000 n clauses, all of them `_`."""
     return f"fun main(x: u64): u64 = match x {{{comma(['_=>0'] * (1000 * n))}}};\n"
@@ -249,6 +255,15 @@ def heads(n):
     types = f"type S={'|'.join(f'{con}({fields_})' for con in cons)};\n"
     clauses = [f"{con}({comma('_' * 32)})=>0" for con in cons] + ["_=>0"] * (1000 * n)
     return types + f"fun f(s: S): u8 = match s {{{comma(clauses)}}};\n" + MAIN
+
+
+def unfolded(n):
+    """A match on a value and a number: a clause for each of 256 constructors of 32 fields, and 100 n that look at the number alone."""
+    cons = names("C", 256)
+    fields_ = comma(["u8"] * 32)
+    types = f"type S={'|'.join(f'{con}({fields_})' for con in cons)};\ntype P=P(S,u64);\n"
+    clauses = [f"P({con}({comma('_' * 32)}),0)=>0" for con in cons] + [f"P(_,{k})=>0" for k in range(1, 100 * n + 1)] + ["_=>0"]
+    return types + f"fun f(p: P): u8 = match p {{{comma(clauses)}}};\n" + MAIN
 
 
 def balanced(levels, leaf):
@@ -277,6 +292,13 @@ def binders(n):
 def unknown(n):
     """A constructor that is not there, with 1,000 n names."""
     return f"fun main(): u8 = match 0 {{C({comma(f'x{i}' for i in range(1000 * n))})=>0}};\n"
+
+
+def short_names(n):
+    """The same with 1,000 n names of three letters, whose first is that of no reserved word of three."""
+    second = string.ascii_letters + string.digits + "_"
+    found = map("".join, itertools.product("bcdeghijknopqrtvwyz", second, second))
+    return f"fun main(): u8 = match 0 {{C({comma(itertools.islice(found, 1000 * n))})=>0}};\n"
 
 
 # Matches that are compiled ------------------------------------------------------------------------------------------------
@@ -481,7 +503,10 @@ AGREEING = [
     (niches, 70), (bits, 24), (chain, 1000), (flat, 1000), (steps, 60), (fields, 256),
 ]
 REFUSED = [(closed, 300), (twice, 64), (ring, 900)]
-MATCHES = [(literals, 16), (wilds, 52), (columns, 32), (heads, 40), (pattern, 32), (binders, 28), (unknown, 36)]
+MATCHES = [
+    (literals, 16), (short_clauses, 28), (wilds, 52), (columns, 32), (heads, 40), (unfolded, 4), (pattern, 32), (binders, 28), (unknown, 36),
+    (short_names, 65),
+]
 COMPILED = [(coloured, 8)]
 PLAIN = [(functions, 9998), (levels, 280), (text, 2000)]
 RUNS = [
