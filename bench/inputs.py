@@ -232,6 +232,11 @@ def short_clauses(n):
     return f"fun main(x: u64): u64 = match x {{{comma(f'{i}=>0' for i in range(1000 * n))},_=>1}};\n"
 
 
+def wrapped(n):
+    """A match of 1,000 n clauses with one constructor, each with a number in it."""
+    return f"type P=P(u64);\nfun f(p: P): u8 = match p {{{comma(f'P({i})=>0' for i in range(1000 * n))},_=>1}};\n" + MAIN
+
+
 def wilds(n):
     """A match of 1,000 n clauses, all of them `_`."""
     return f"fun main(x: u64): u64 = match x {{{comma(['_=>0'] * (1000 * n))}}};\n"
@@ -504,8 +509,8 @@ AGREEING = [
 ]
 REFUSED = [(closed, 300), (twice, 64), (ring, 900)]
 MATCHES = [
-    (literals, 16), (short_clauses, 28), (wilds, 52), (columns, 32), (heads, 40), (unfolded, 4), (pattern, 32), (binders, 28), (unknown, 36),
-    (short_names, 65),
+    (literals, 16), (short_clauses, 28), (wrapped, 20), (wilds, 52), (columns, 32), (heads, 40), (unfolded, 4), (pattern, 32), (binders, 28),
+    (unknown, 36), (short_names, 65),
 ]
 COMPILED = [(coloured, 8)]
 PLAIN = [(functions, 9998), (levels, 280), (text, 2000)]
