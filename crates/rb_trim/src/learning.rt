@@ -77,9 +77,9 @@ fn meet(alloc: Global, known: &mut Knowledge, pc: usize, facts: &[Fact]) -> Resu
     Ok(())
 }
 
-// The slot that is known to hold a content.
+// The slot that is known to hold a content, by the newest fact.
 pub(crate) fn holder(facts: &[Fact], content: Content) -> Option<usize> {
-    for fact in facts {
+    for fact in facts.iter().rev() {
         if fact.content == content {
             return Some(fact.slot);
         }

@@ -34,7 +34,9 @@
 //!
 //! A word that is copied is made anew where that takes no memory. A load whose word is copied right behind, and read by
 //! nothing else, makes it in the copy's slot (`giving`): `load 10 9 4 32`, `copy 4 10` becomes `load 4 9 4 32`.
-//! A switch whose other way leads to a switch on the same word has the arms of both (`folding`).
+//! A switch whose other way leads to a switch on the same word has the arms of both (`folding`). A switch that cannot trap
+//! and all of whose ways return the same words returns them (`returning`): where slot 3 has one bit, `switch 3 - 0 5 1 7`
+//! with `return 3` at 5 and at 7 becomes `return 3`.
 //!
 //! A load is idle only where its word is known, since another one could be astray. A jump is idle where all that
 //! stands between it and its target is left out. A jump to a jump goes where that goes, and one to a return returns;
