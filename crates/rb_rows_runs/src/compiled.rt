@@ -117,12 +117,12 @@ const LINES: [Lines; 33] = [
     // a constructor that the file shows is not looked at, and a variable's is, once
     (SHOWN, "switch ", 0, 0),
     (UNSHOWN, "switch ", 1, 1),
-    // one switch tells the match whether the tree is empty, and one more the color where the clause of a node binds it
-    (COLOUR, "switch ", 2, 2),
-    // a red node's way returns in place of a jump to the return, and no slot is set that each way sets again
+    // one switch tells the match whether the tree is empty; the color is the bit that tells a node's leaf, so that both
+    // ways return that bit, and no switch tells them apart
+    (COLOUR, "switch ", 1, 1),
     (COLOUR, "jump ", 0, 0),
-    (COLOUR, "const ", 3, 3),
-    (COLOUR, "return ", 3, 3),
+    (COLOUR, "const ", 1, 1),
+    (COLOUR, "return ", 2, 2),
     // the match tells all three leaves apart, and a red node's number is where the leaf of red nodes has it
     (BY_COLOUR, "switch ", 2, 2),
     // a number in a block is loaded where the body uses it, and a tail where it is tested
