@@ -290,20 +290,20 @@ fn a_leaf_decides_a_test(rt: HostRuntime) -> Result<(), Surprise> {
     expect_count_rows(rt.alloc(), "count E 1 64 ", &LEAVES)
 }
 
-// One switch for an empty tree, and one more for a node.
+// One switch tells whether a tree is empty; a node's color takes none, and its number one more, which tells its leaf.
 const TREES: [CountRow; 6] = [
     (
         COLOUR,
         "Node(Red,Empty,7,Empty)",
         "value Red;calls 1;",
-        2,
+        1,
         NODE,
     ),
     (
         COLOUR,
         "Node(Black,Empty,7,Empty)",
         "value Black;calls 1;",
-        2,
+        1,
         NODE,
     ),
     (COLOUR, "Empty", "value Black;calls 1;", 1, BEHIND),
