@@ -25,7 +25,7 @@ const UNREAD: u8 = 7;
 const UNWRITTEN: u8 = 8;
 
 // A byte at a time, some, and all at once.
-const SIZES: [usize; 3] = [1, 7, 5000];
+const SIZES: [usize; 3] = [1, 10, 5000];
 
 // A line that is tried, and the steps that came before it.
 #[derive(Clone, Copy)]
@@ -216,6 +216,19 @@ fn second_write_and_line(alloc: Global, call: &Call) -> Result<(), Surprise> {
     Ok(())
 }
 
+// Both sinks have room of one byte.
+fn one_byte_each(alloc: Global, call: &Call, step: usize) -> Result<(), Surprise> {
+    let mut wanted = cut(call, 1);
+    wanted.err = front(wanted.err, 1);
+    let outside = Outside {
+        source: EASY,
+        out: holding(step, 1),
+        err: holding(step, 1),
+    };
+    look(alloc, call, outside, wanted)?;
+    Ok(())
+}
+
 // The source fails, and then each write of the line.
 fn source_and_sink(alloc: Global, call: &Call, step: usize) -> Result<(), Surprise> {
     let line = Line {
@@ -235,6 +248,7 @@ fn expect_call(alloc: Global, call: Call, sizes: &[usize]) -> Result<(), Surpris
         each_write(alloc, &call, *size)?;
         each_room(alloc, &call, *size)?;
         both_sinks(alloc, &call, *size)?;
+        one_byte_each(alloc, &call, *size)?;
         if !call.held.file.is_empty() {
             source_and_sink(alloc, &call, *size)?;
         }
