@@ -1,7 +1,8 @@
 //! Images of values: the words and the blocks in which they are represented. The answers were given by
 //! the language's pages, and by a program apart from this one that was written from them alone.
 
-use crate::layouts::{BRANCH, INSERT, LIST, PAIR, SHAPE, TWIN};
+use crate::deep::INSERTED;
+use crate::layouts::{BRANCH, INSERT, LIST, PAIR, PUSHED, SHAPE, TWIN};
 use rb_rows_calls::call::expect_answer;
 use rb_rows_calls::rows::expect_rows;
 use rb_rows_calls::surprise::Surprise;
@@ -43,8 +44,41 @@ const MADE_SHAPE: &str =
 const MADE_PAIR: &str =
     "type Pair = Two(u64, u64);layout Pair <64> = Two(_, _) : { word 64 { [0:64] -> 8 { word 64 { [0:64] .0 }, word 64 { [0:64] -> 8 { word 64 { [0:64] .1 } } } } } };fun main(): Pair = Two(5, 6);";
 
-// File, limits, answer.
-const MADE: [(&str, &str, &str); 7] = [
+// An empty list that the code makes.
+const MADE_NIL: &str =
+    "type List = Nil | Cons(u64, List);layout List <64> = split 0[0:1] { 1 => Nil : { word 64 { [0:1] = 1 } } 0 => Cons(_, _) : { word 64 { [0:1] = 0, [3:61] -> 8 { word 64 { [0:64] .0 }, inline .1 } } } };fun main(): List = Nil;";
+
+// An empty tree that the code makes.
+const MADE_EMPTY: &str =
+    "type Color = Red | Black;layout Color <1> = split 0[0:1] { 0 => Red : { word 1 { [0:1] = 0 } } 1 => Black : { word 1 { [0:1] = 1 } } };type Tree = Empty | Node(Color, Tree, u32, Tree);layout Tree <32> = split 0[0:32] { 0 => Empty : { word 32 { [0:32] = 0 } } else => Node(_, _, _, _) : { word 32 { [0:1] .0, [2:22] -> 4 { word 32 { [0:32] .2 }, inline .1, inline .3 } } } };fun main(): Tree = Empty;";
+
+// A tree of three nodes that the code makes.
+const MADE_TREE: &str =
+    "type Color = Red | Black;layout Color <1> = split 0[0:1] { 0 => Red : { word 1 { [0:1] = 0 } } 1 => Black : { word 1 { [0:1] = 1 } } };type Tree = Empty | Node(Color, Tree, u32, Tree);layout Tree <32> = split 0[0:32] { 0 => Empty : { word 32 { [0:32] = 0 } } else => Node(_, _, _, _) : { word 32 { [0:1] .0, [2:22] -> 4 { word 32 { [0:32] .2 }, inline .1, inline .3 } } } };fun main(): Tree = Node(Black, Node(Red, Empty, 1, Empty), 2, Node(Black, Empty, 3, Empty));";
+
+// A node of a color that is given.
+const MADE_NODE: &str =
+    "type Color = Red | Black;layout Color <1> = split 0[0:1] { 0 => Red : { word 1 { [0:1] = 0 } } 1 => Black : { word 1 { [0:1] = 1 } } };type Tree = Empty | Node(Color, Tree, u32, Tree);layout Tree <32> = split 0[0:32] { 0 => Empty : { word 32 { [0:32] = 0 } } else => Node(_, _, _, _) : { word 32 { [0:1] .0, [2:22] -> 4 { word 32 { [0:32] .2 }, inline .1, inline .3 } } } };fun main(c: Color, x: u32): Tree = Node(c, Empty, x, Empty);";
+
+// A box is made of a dot and a number, and a dot of the height of a box.
+const TURNED: &str =
+    "type Shape = Dot(u8) | Box(u32, u32);layout Shape <32> = split 0[0:32] -> 4 @0:8[0:8] { 0 => Dot(_) : { word 32 { [0:32] -> 4 { word 8 { [0:8] = 0 }, word 8 { [0:8] .0 } } } } 1 => Box(_, _) : { word 32 { [0:32] -> 4 { word 8 { [0:8] = 1 }, word 32 { [0:32] .0 }, word 32 { [0:32] .1 } } } } };fun main(s: Shape, x: u32): Shape = match s { Dot(b) => Box(x, to u32(b)), Box(_, h) => Dot(to u8(h)) };";
+
+// The numbers of a pair change places.
+const SWAPPED: &str =
+    "type Pair = Two(u64, u64);layout Pair <64> = Two(_, _) : { word 64 { [0:64] -> 8 { word 64 { [0:64] .0 }, word 64 { [0:64] -> 8 { word 64 { [0:64] .1 } } } } } };fun main(p: Pair): Pair = match p { Two(x, y) => Two(y, x) };";
+
+// An instruction that the code makes.
+const MADE_BRANCH: &str =
+    "type Instr = Branch(u3, u5, u5, u12);layout Instr <32> = Branch(_, _, _, _) : { word 32 { [0:7] = 99, [7:1] .3[10:1], [8:4] .3[0:4], [12:3] .0, [15:5] .1, [20:5] .2, [25:6] .3[4:6], [31:1] .3[11:1] } };fun main(f: u3, a: u5, b: u5, o: u12): Instr = Branch(f, a, b, o);";
+
+// Two pairs and a byte; the bit of the first pair, which is given, tells where its byte stands.
+const MADE_TRIO: &str =
+    "type K = A | B;layout K <1> = split 0[0:1] { 0 => A : { word 1 { [0:1] = 0 } } 1 => B : { word 1 { [0:1] = 1 } } };type P = Tagged(K, u8);layout P <9> = Tagged(_, _) : { word 9 { [0:1] .0, [1:8] .1 } };type D = Trio(P, u8, P);layout D <40> = split 0[0:1] { 0 => Trio(Tagged(A, _), _, _) : { word 40 { [0:1] = 0, [1:8] .0.1, [9:8] .1, [17:9] .2 } } 1 => Trio(Tagged(B, _), _, _) : { word 40 { [0:1] = 1, [1:8] .1, [9:8] .0.1, [17:9] .2 } } };fun main(p: P, x: u8, q: P): D = Trio(p, x, q);";
+
+// File, limits and fields, answer: values as the code makes them. The words and the bytes of the blocks were worked out
+// by hand from the layouts, with the blocks of arguments first, and then inner blocks before outer ones.
+const MADE: [(&str, &str, &str); 28] = [
     (
         MADE_LIST,
         "1 96",
@@ -79,6 +113,99 @@ const MADE: [(&str, &str, &str); 7] = [
         MADE_PAIR,
         "1 71",
         "5 ribbit: region full: next 64, size 8, align 8, limit 71;",
+    ),
+    (MADE_NIL, "1 64", "0 root 0x1;"),
+    // behind the 9 stands the pointer to the block of the argument
+    (
+        PUSHED,
+        "1 96 Cons(1,Nil)",
+        "0 root 0x50;block 64 16 01000000000000000100000000000000;block 80 16 09000000000000004000000000000000;",
+    ),
+    (MADE_EMPTY, "1 64", "0 root 0x0;"),
+    (
+        MADE_NODE,
+        "1 76 Red 7",
+        "0 root 0x40;block 64 12 070000000000000000000000;",
+    ),
+    (
+        MADE_NODE,
+        "1 76 Black 7",
+        "0 root 0x41;block 64 12 070000000000000000000000;",
+    ),
+    (
+        MADE_TREE,
+        "1 100",
+        "0 root 0x59;block 64 12 010000000000000000000000;block 76 12 030000000000000000000000;block 88 12 02000000400000004d000000;",
+    ),
+    (
+        MADE_TREE,
+        "1 99",
+        "5 ribbit: region full: next 88, size 12, align 4, limit 99;",
+    ),
+    // a number is inserted into no node, to the left, and where it is; the node's color stays
+    (
+        INSERT,
+        "2 76 Empty 9",
+        "0 root 0x40;block 64 12 090000000000000000000000;",
+    ),
+    (
+        INSERT,
+        "3 100 Node(Red,Empty,7,Empty) 5",
+        "0 root 0x58;block 64 12 070000000000000000000000;block 76 12 050000000000000000000000;block 88 12 070000004c00000000000000;",
+    ),
+    (
+        INSERT,
+        "2 76 Node(Black,Empty,7,Empty) 7",
+        "0 root 0x41;block 64 12 070000000000000000000000;",
+    ),
+    (
+        INSERTED,
+        "2 76 Empty 9",
+        "0 root 0x40;block 64 12 090000000000000000000000;",
+    ),
+    (
+        INSERTED,
+        "3 100 Node(Red,Empty,7,Empty) 5",
+        "0 root 0x58;block 64 12 070000000000000000000000;block 76 12 050000000000000000000000;block 88 12 070000004c00000000000000;",
+    ),
+    // a block of 9 bytes behind one of 2, and one of 2 behind one of 9, each at the next multiple of 4
+    (
+        TURNED,
+        "1 77 Dot(5) 258",
+        "0 root 0x11;block 64 2 0005;block 68 9 010201000005000000;",
+    ),
+    (
+        TURNED,
+        "1 76 Dot(5) 258",
+        "5 ribbit: region full: next 66, size 9, align 4, limit 76;",
+    ),
+    (
+        TURNED,
+        "1 78 Box(258,7) 0",
+        "0 root 0x13;block 64 9 010201000007000000;block 76 2 0007;",
+    ),
+    (
+        TURNED,
+        "1 77 Box(258,7) 0",
+        "5 ribbit: region full: next 73, size 2, align 4, limit 77;",
+    ),
+    (
+        SWAPPED,
+        "1 112 Two(5,6)",
+        "0 root 0xc;block 64 8 0600000000000000;block 72 16 05000000000000000800000000000000;block 88 8 0500000000000000;block 96 16 06000000000000000b00000000000000;",
+    ),
+    // 2730 is 101010101010 in bits
+    (MADE_BRANCH, "1 64 0 1 2 4", "0 root 0x208463;"),
+    (MADE_BRANCH, "1 64 7 31 30 2730", "0 root 0xd5effa63;"),
+    (
+        MADE_TRIO,
+        "1 64 Tagged(A,5) 8 Tagged(B,3)",
+        "0 root 0xe100a;",
+    ),
+    (
+        MADE_TRIO,
+        "1 64 Tagged(B,5) 8 Tagged(A,3)",
+        "0 root 0xc0a11;",
     ),
 ];
 
