@@ -208,7 +208,7 @@ fn lay_out(
 ///
 /// # Errors
 ///
-/// The answer to its first fault, or want of memory.
+/// The answer to its first fault; or want of memory.
 pub fn accept(alloc: Global, bytes: &[u8]) -> Result<Accepted, Refusal>
     requires { length bytes.now ≤ file_limit }
     ensures accepted { IfOk result (IsAcceptance bytes.now) }

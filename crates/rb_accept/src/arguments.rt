@@ -2,7 +2,6 @@
 
 ghost use Rattle.std.specs.Prelude.{◌≡◌, ◌≢◌, length, map, IfOk, IfErr, Ok};
 ghost use Rattle.rb_core.specs.Typing.{param_types};
-ghost use Rattle.rb_core.specs.Values.{all_of_types, is_of_type};
 ghost use Rattle.rb_lines.specs.Answer.{refusal};
 ghost use Rattle.rb_lines.specs.ArgumentLines.{argument_line, node_limit};
 ghost use Rattle.rb_lines.specs.View.{due_of, IsRefusal};

@@ -62,7 +62,7 @@ fn refuse_long(alloc: Global, limit: usize) -> Result<Refused, AllocError>
 ///
 /// # Errors
 ///
-/// The answer to a file that is over the limit or not read, or want of memory.
+/// The answer to a file that is over the limit or not read; or want of memory.
 pub fn read_within<S: Source>(
     alloc: Global,
     src: &mut S,

@@ -14,7 +14,7 @@
 //! excludes the literals beside the `else`, each of which is a question to all leaves of that type, the
 //! second does.
 
-ghost use Rattle.std.specs.Prelude.{◌≡◌, IfOk};
+ghost use Rattle.std.specs.Prelude.{◌≡◌};
 ghost use Rattle.std.specs.Bool.{OnTrue};
 ghost use Rattle.rb_agree.specs.inner.Alike.{AreAlike, AreKinds, ArePartsAlike, IsBeside, IsPartAlike};
 
@@ -40,6 +40,7 @@ fn is_beside(part: &Part, o: u64, l: u64) -> bool
     false
 }
 
+// Whether both are the same data type; false also where one is an integer or missing.
 fn same_type(one: Option<Ty>, other: Option<Ty>) -> bool
     ensures { OnTrue result (one ≡ other) }
 {
@@ -87,6 +88,7 @@ fn same_kind(types: &[DataDecl], one: &Pat, other: &Pat, kind: &Kind, kind_2: &K
     }
 }
 
+// Whether two parts are alike in a location's range: both beside it, or of the same bits and of one kind.
 fn is_part_alike(
     types: &[DataDecl],
     one: &Pat,

@@ -13,7 +13,7 @@
 //! words finds that order, behind each pointer among the blocks of lower numbers, for inner blocks are
 //! numbered before outer ones. Where it finds nothing, a look at each block decides.
 
-ghost use Rattle.std.specs.Prelude.{◌≡◌, ◌↔◌, ◌<◌, ◌^◌, ◌≤◌, length, IfOk, IfSome, IsTrue, MatchOption};
+ghost use Rattle.std.specs.Prelude.{◌≡◌, ◌↔◌, ◌^◌, ◌≤◌, length, IfSome, IsTrue, MatchOption};
 ghost use Rattle.rb_layout.specs.A4.{FailsBlocks, HasBlocks, IsAlignment, IsBlockLength, IsBlockWidth, IsWide};
 ghost use Rattle.rb_agree.specs.inner.Lists.{EachOf, SomeOf};
 ghost use Rattle.rb_agree.specs.inner.Blocks.{FailsBlock, FailsInBlocks, FailsKind, FailsLength, FailsNear, FailsNearPart, FailsPointer, FailsWidth, HasWidth, IsBlock, IsKind, ArePartsFine, ArePointersFine, FailsParts, FailsPointers, pointed_block};
@@ -21,6 +21,7 @@ ghost use Rattle.rb_agree.specs.inner.Blocks.{FailsBlock, FailsInBlocks, FailsKi
 use rb_layout::evidence::Why;
 use rb_layout::layout::{Block, FlatWord, Kind, Leaf, Part};
 
+// Whether a word of a block may have so many bits: 8, 16, 32 or 64.
 fn is_block_width(width: u64) -> bool
     ensures { IsTrue result ↔ IsBlockWidth width }
 {
@@ -59,6 +60,7 @@ fn pointer_fault(l: u64, align: u64) -> Option<Why>
     }
 }
 
+// How a part fails that is a pointer; none of another kind does.
 fn part_fault(part: &Part) -> Option<Why>
     ensures { MatchOption result (IsKind part.now.l part.now.kind) (FailsKind part.now.l part.now.kind) }
 {
@@ -70,6 +72,7 @@ fn part_fault(part: &Part) -> Option<Why>
     }
 }
 
+// How a pointer among the parts of a word fails.
 fn parts_fault(parts: &[Part]) -> Option<Why>
     ensures { MatchOption result (ArePartsFine parts.now) (FailsParts parts.now) }
 {
@@ -115,6 +118,7 @@ fn length_fault(words: &[FlatWord]) -> Option<Why>
     None
 }
 
+// How a block fails by its number of words, the width of one, or a pointer in one.
 fn block_fault(block: &Block) -> Option<Why>
     ensures { MatchOption result (IsBlock block.now) (FailsBlock block.now) }
 {
@@ -128,6 +132,7 @@ fn block_fault(block: &Block) -> Option<Why>
     pointers_fault(words)
 }
 
+// How some block fails, looked at by itself.
 fn each_block_fault(blocks: &[Block]) -> Option<Why>
     ensures { MatchOption result
         (EachOf IsBlock blocks.now) (λ why. SomeOf (λ block. FailsBlock block why) blocks.now) }

@@ -12,7 +12,7 @@ pub enum AgreeFault {
     /// A rule fails, first at this place, and why.
     #[error("a layout breaks a rule")]
     Rule(Refused),
-    /// Memory was wanting.
+    /// Want of memory.
     #[error("no memory")]
     Memory,
 }

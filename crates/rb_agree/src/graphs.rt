@@ -1,12 +1,12 @@
 //! The graphs of types: which types each flattens, and which it holds in its root words; and whether a
 //! cycle goes through a type.
 
-ghost use Rattle.std.specs.Prelude.{◌≡◌, ◌++◌, map, IfOk, MatchOption, OnOk};
+ghost use Rattle.std.specs.Prelude.{◌≡◌, ◌++◌, IfOk, MatchOption, OnOk};
 ghost use Rattle.std.specs.List.{flat_map};
 ghost use Rattle.rb_layout.specs.Cycles.{HasNoCycle};
 ghost use Rattle.rb_layout.specs.A9.{FailsFlattening, Flattens};
 ghost use Rattle.rb_layout.specs.A10.{FailsHolding, HoldsField};
-ghost use Rattle.rb_agree.specs.Graphs.{IsGraphOf, below_types, flat_row, held_row, leaf_holds, leaf_types, part_holds, pattern_types, word_holds};
+ghost use Rattle.rb_agree.specs.Graphs.{IsGraphOf, below_types, leaf_holds, leaf_types, part_holds, pattern_types, word_holds};
 
 use crate::cycles::cycle_from;
 use rb_core::pattern::Pat;
@@ -33,6 +33,7 @@ fn add_types(pat: &Pat, row: &mut Seq<u32>) -> Result<(), AllocError>
     }
 }
 
+// Adds the types of the constructors in each of these patterns, from left to right.
 #[cycle(listing)]
 fn add_all_types(pats: &[Pat], row: &mut Seq<u32>) -> Result<(), AllocError>
     ensures { OnOk result (row.new ≡ row.old ++ flat_map pattern_types pats.now) }
@@ -55,6 +56,7 @@ fn add_below(prov: &Pat, row: &mut Seq<u32>) -> Result<(), AllocError>
     }
 }
 
+// The types that these leaves flatten, leaf by leaf, each as often as it is found.
 fn flat_row(alloc: Global, leaves: &[Leaf]) -> Result<Seq<u32>, AllocError>
     ensures { IfOk result (λ row. row ≡ flat_map leaf_types leaves.now) }
 {
@@ -101,6 +103,7 @@ fn add_part(
     }
 }
 
+// Adds the types of the fields of which the parts of a word have words.
 fn add_parts(
     types: &[DataDecl],
     prov: &Pat,
@@ -115,6 +118,7 @@ fn add_parts(
     Ok(())
 }
 
+// Adds the types of the fields of which the parts of these words have words.
 fn add_words(
     types: &[DataDecl],
     prov: &Pat,
@@ -129,6 +133,7 @@ fn add_words(
     Ok(())
 }
 
+// The types of the fields of which root words of these leaves have words, each as often as it is found.
 fn held_row(alloc: Global, types: &[DataDecl], leaves: &[Leaf]) -> Result<Seq<u32>, AllocError>
     ensures { IfOk result (λ row. row ≡ flat_map (leaf_holds types.now) leaves.now) }
 {

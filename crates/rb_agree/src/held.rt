@@ -28,6 +28,7 @@ use rb_layout::layout::Leaf;
 use rb_layout::opens::{OpenPosition, opens};
 use std::alloc::{AllocError, Global};
 
+// Whether a run has the unit with this number.
 fn has_unit(run: &Run, unit: u64) -> bool
     ensures { result ≡ has_unit run.now unit }
 {
@@ -158,6 +159,7 @@ fn path_fault(
     Ok(Some(Why::NotOpen(path.copy(alloc)?)))
 }
 
+// How the path of what a part holds, if it has one, fails to be that of an open position.
 fn content_fault(
     alloc: Global,
     types: &[DataDecl],
@@ -177,6 +179,7 @@ fn content_fault(
     }
 }
 
+// How a path that the parts of a word hold fails to be that of an open position.
 fn parts_fault(
     alloc: Global,
     types: &[DataDecl],
@@ -195,6 +198,7 @@ fn parts_fault(
     Ok(None)
 }
 
+// How a path that one item names fails to be that of an open position.
 fn item_fault(
     alloc: Global,
     types: &[DataDecl],

@@ -3,7 +3,7 @@
 ghost use Rattle.std.specs.Prelude.{◌≡◌, ◌++◌, map, IfOk, OnOk};
 ghost use Rattle.std.specs.List.{flat_map};
 ghost use Rattle.rb_layout.specs.Items.{item_list, item_lists};
-ghost use Rattle.rb_agree.specs.Written.{content_of, inside_of, shown_content, shown_item, shown_items, shown_part, written_part};
+ghost use Rattle.rb_agree.specs.Written.{content_of, inside_of, shown_content, shown_items, shown_part, written_part};
 
 use rb_core::layout_decl::{LayItem, PartDecl, PartKind};
 use rb_core::seq::Seq;
@@ -42,6 +42,7 @@ pub enum Item {
     Field(Seq<u32>),
 }
 
+// What a part of this kind is written to hold, apart from what stands behind a pointer.
 fn content_of(alloc: Global, kind: &PartKind) -> Result<Content, AllocError>
     ensures { IfOk result (λ content. shown_content content ≡ content_of kind.now) }
 {
@@ -80,6 +81,7 @@ fn add_items(alloc: Global, items: &[LayItem], out: &mut Seq<Item>) -> Result<()
     Ok(())
 }
 
+// Adds an item, and after a word the items behind its pointers.
 #[cycle(writing)]
 fn add_item(alloc: Global, item: &LayItem, out: &mut Seq<Item>) -> Result<(), AllocError>
     ensures { OnOk result (shown_items out.new ≡ shown_items out.old ++ item_list item.now) }
@@ -105,6 +107,7 @@ fn add_inside(alloc: Global, parts: &[PartDecl], out: &mut Seq<Item>) -> Result<
     Ok(())
 }
 
+// Adds the items behind a part that is a pointer, and nothing for another part.
 #[cycle(writing)]
 fn add_behind(alloc: Global, part: &PartDecl, out: &mut Seq<Item>) -> Result<(), AllocError>
     ensures { OnOk result (shown_items out.new ≡ shown_items out.old ++ inside_of part.now) }

@@ -35,6 +35,7 @@ fn add_tree(alloc: Global, tree: &LayTree, out: &mut Seq<Seq<Item>>) -> Result<(
     }
 }
 
+// Adds the items of each leaf below these arms, arm by arm.
 #[cycle(reading)]
 fn add_arms(alloc: Global, arms: &[Arm], out: &mut Seq<Seq<Item>>) -> Result<(), AllocError>
     ensures { OnOk result
@@ -61,6 +62,10 @@ fn leaves_of(alloc: Global, decls: &[LayoutDecl], ty: u32) -> Result<Seq<Seq<Ite
 }
 
 /// For each of so many types the items of each leaf of its layout.
+///
+/// # Errors
+///
+/// Want of memory.
 pub(crate) fn all_leaves(
     alloc: Global,
     decls: &[LayoutDecl],

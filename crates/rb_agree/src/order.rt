@@ -16,7 +16,7 @@ use rb_layout::graphs::{edges_of, no_marks};
 use rb_layout::numbers::number_of;
 use std::alloc::{AllocError, Global};
 
-// A number on the walk, and its edge that is next.
+/// A number on the walk, and its edge that is next.
 #[derive(Clone, Copy)]
 pub struct Visit {
     pub number: u32,
@@ -88,6 +88,7 @@ fn ranks_in(alloc: Global, graph: &[Seq<u32>]) -> Result<Seq<usize>, AllocError>
     Ok(ranks)
 }
 
+// When a number was done, as its rank tells; 0 for a number without one.
 fn rank_of(ranks: &[usize], number: u32) -> usize
     ensures { result ≡ rank_of ranks.now number }
 {
@@ -123,6 +124,10 @@ fn falls(graph: &[Seq<u32>], ranks: &[usize]) -> Result<bool, AllocError>
 }
 
 /// Whether a graph is known to have no cycle.
+///
+/// # Errors
+///
+/// Want of memory.
 pub(crate) fn has_no_cycle(alloc: Global, graph: &[Seq<u32>]) -> Result<bool, AllocError>
     ensures { IfOk result (λ b. OnTrue b ((t : ℕ) → HasNoCycle (Leads graph.now) t)) }
 {

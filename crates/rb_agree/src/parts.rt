@@ -1,7 +1,7 @@
 //! Whether the parts of written words lie in them, are disjoint, and fit what they hold.
 
-ghost use Rattle.std.specs.Prelude.{◌≡◌, ◌↔◌, ℕ, ◌<◌, ◌≤◌, ◌^◌, length, IfOk, IsTrue, MatchOption, Some};
-ghost use Rattle.rb_layout.specs.Flattening.{IsOpenIn, type_at};
+ghost use Rattle.std.specs.Prelude.{◌≡◌, ◌↔◌, ◌<◌, ◌≤◌, length, IfOk, IsTrue, MatchOption};
+ghost use Rattle.rb_layout.specs.Flattening.{IsOpenIn};
 ghost use Rattle.rb_layout.specs.Positions.{open_positions};
 ghost use Rattle.rb_layout.specs.A3.{FailsItem, Fits, FitsSlice, FitsWhole, FitsWord, IsPlaced, ItemFits, LiesIn, PartsFit};
 ghost use Rattle.rb_layout.specs.declared.evidence.Why.TheVariants as Whys;
@@ -62,6 +62,7 @@ fn fits_word(decls: &[LayoutDecl], ty: Option<Ty>, l: u64, j: u64) -> bool
     }
 }
 
+/// Whether an open position of a provenance stands at a path.
 pub(crate) fn is_open(types: &[DataDecl], prov: &Pat, path: &Seq<u32>) -> bool
     ensures { IsTrue result ↔ IsOpenIn (open_positions types.now prov.now) path.now }
 {
@@ -133,6 +134,7 @@ fn fit_fault(
     }
 }
 
+// Whether `l` bits from bit `o` on, at least one, lie in a word of `width` bits.
 fn lies_in(width: u64, o: u64, l: u64) -> bool
     ensures { IsTrue result ↔ LiesIn width o l }
 {

@@ -249,6 +249,10 @@ fn walk_arms(
 }
 
 /// A mark for each leaf of a layout, off only where the leaf passes the tests on each way to it.
+///
+/// # Errors
+///
+/// Want of memory.
 pub(crate) fn failing(
     alloc: Global,
     types: &[DataDecl],

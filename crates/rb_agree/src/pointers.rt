@@ -13,6 +13,7 @@ use rb_layout::evidence::Why;
 use rb_layout::layout::{Block, FlatWord, Kind, Layout, Leaf, Part};
 use std::alloc::{AllocError, Global};
 
+// Whether a part is a pointer.
 fn part_points(part: &Part) -> bool
     ensures { MatchBool result (KindPoints part.now) (KindPoints part.now → ⊥) }
 {
@@ -24,6 +25,7 @@ fn part_points(part: &Part) -> bool
     }
 }
 
+// Whether one of the parts of a word is a pointer.
 fn parts_point(parts: &[Part]) -> bool
     ensures { MatchBool result (PartsPoint parts.now) (PartsPoint parts.now → ⊥) }
 {
@@ -35,6 +37,7 @@ fn parts_point(parts: &[Part]) -> bool
     false
 }
 
+// Whether one of these words has a pointer part.
 fn words_point(words: &[FlatWord]) -> bool
     ensures { MatchBool result (WordsPoint words.now) (WordsPoint words.now → ⊥) }
 {
@@ -46,6 +49,7 @@ fn words_point(words: &[FlatWord]) -> bool
     false
 }
 
+// Whether a word of one of these blocks has a pointer part.
 fn blocks_point(blocks: &[Block]) -> bool
     ensures { MatchBool result (BlocksPoint blocks.now) (BlocksPoint blocks.now → ⊥) }
 {
@@ -94,6 +98,7 @@ pub fn pointing(alloc: Global, layouts: &[Layout]) -> Result<Seq<bool>, AllocErr
     Ok(marks)
 }
 
+// The mark of a type; off where it has none.
 fn is_marked(marks: &[bool], ty: u32) -> bool
     ensures { result ≡ mark_of marks.now ty }
 {
@@ -121,6 +126,7 @@ fn marked_in(marks: &[bool], pat: &Pat) -> Option<u32>
     }
 }
 
+// The first marked type of whose constructors one stands in these patterns, from left to right.
 #[cycle(marking)]
 fn marked_among(marks: &[bool], pats: &[Pat]) -> Option<u32>
     ensures { FindsIn (IsUnmarked marks.now) (IsMarked marks.now) (flat_map cons_of pats.now) result }

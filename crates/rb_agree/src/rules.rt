@@ -1,7 +1,7 @@
 //! The rules behind that on shapes, each at its places in their order: by type, and in a type those
 //! without a leaf before those with one.
 
-ghost use Rattle.std.specs.Prelude.{◌≡◌, ℕ, IfOk, List, MatchOption, None, Option, Some, slice_get};
+ghost use Rattle.std.specs.Prelude.{◌≡◌, ℕ, IfOk, List, MatchOption, Some, slice_get};
 ghost use Rattle.std.specs.Bool.{OnTrue};
 ghost use Rattle.rb_layout.specs.declared.layout.Layout.{Layout};
 ghost use Rattle.rb_layout.specs.A9.{FailsFlattening, Flattens};
@@ -88,6 +88,7 @@ pub struct Ruled<'a> {
     pub layout: &'a Layout,
 }
 
+// The number by which a refusal names a rule: 2 to 10.
 fn rule_number(rule: Rule) -> u8
     ensures { result ≡ rule_number rule }
 {
@@ -195,6 +196,7 @@ fn doubts(alloc: Global, ruled: &Ruled) -> Result<Seq<bool>, AllocError>
     }
 }
 
+// Whether leaf `n` has a mark that is off.
 fn is_off(marks: &[bool], n: usize) -> bool
     ensures { OnTrue result (IsOff marks.now n) }
 {

@@ -105,6 +105,7 @@ fn add_part(
     }
 }
 
+// Adds what the parts of a word hold.
 fn add_parts(
     alloc: Global,
     places: &[OpenPosition],
@@ -121,6 +122,7 @@ fn add_parts(
     Ok(())
 }
 
+// Adds what the parts of these words hold.
 fn add_words(
     alloc: Global,
     places: &[OpenPosition],
@@ -137,6 +139,7 @@ fn add_words(
     Ok(())
 }
 
+// Adds what the parts in these blocks hold.
 fn add_blocks(
     alloc: Global,
     places: &[OpenPosition],
@@ -165,6 +168,10 @@ fn no_runs(alloc: Global, count: usize) -> Result<Seq<Seq<Run>>, AllocError>
 }
 
 /// For each of these positions what the parts of a leaf hold of it.
+///
+/// # Errors
+///
+/// Want of memory.
 pub(crate) fn runs_of(
     alloc: Global,
     leaf: &Leaf,

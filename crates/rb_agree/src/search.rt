@@ -29,6 +29,7 @@ pub enum Side {
     Along,
 }
 
+// How many fields the shorter of two paths has.
 fn shorter(one: &[u32], other: &[u32]) -> usize
     ensures { result ≡ min (length one.now) (length other.now) }
 {
@@ -39,6 +40,7 @@ fn shorter(one: &[u32], other: &[u32]) -> usize
     }
 }
 
+// Where a path stands beside another, told by the first field where they differ.
 fn side_of(one: &[u32], other: &[u32]) -> Side
     ensures { result ≡ side_of one.now other.now }
 {

@@ -14,6 +14,7 @@ use rb_layout::evidence::{Refused, Why};
 use rb_layout::numbers::number_of;
 use std::alloc::AllocError;
 
+// Whether a word of a shape may have so many bits: 1 to 64.
 fn is_shape_width(width: u64) -> bool
     ensures { IsTrue result ↔ IsShapeWidth width }
 {

@@ -15,7 +15,6 @@ ghost use Rattle.std.specs.Prelude.{◌≡◌, false, length, slice_get, IfOk, M
 ghost use Rattle.std.specs.Option.{option_copied};
 ghost use Rattle.rb_core.specs.declared.pattern.Pat.{out-Pat};
 ghost use Rattle.rb_core.specs.declared.types.Ty.TheVariants as Tys;
-ghost use Rattle.rb_layout.specs.declared.layout.Leaf.{Leaf};
 ghost use Rattle.rb_matrix.specs.Search.{AreInhabited, IsTypeIn};
 ghost use Rattle.rb_agree.specs.inner.Sharing.{ApartWhereOff, AreGroups, AreHeads, HaveAll, IsAlone, IsGroupOf, MayBe, SharesNone, con_at, heads_in, root_con, sub_at};
 
@@ -31,6 +30,7 @@ use std::alloc::{AllocError, Global};
 // How many constructors a type has at most.
 const CONSTRUCTORS: usize = 256;
 
+// The pattern in a field of a pattern's root constructor, if there is one.
 fn sub_at(pat: &Pat, field: u32) -> Option<&Pat>
     ensures { option_copied result ≡ sub_at (out-Pat pat.now) field }
 {
@@ -42,6 +42,7 @@ fn sub_at(pat: &Pat, field: u32) -> Option<&Pat>
     }
 }
 
+// The number of the constructor at a pattern's root, if one stands there.
 fn root_con(pat: &Pat) -> Option<u32>
     ensures { result ≡ root_con (out-Pat pat.now) }
 {
@@ -99,6 +100,7 @@ fn add_paths(
     }
 }
 
+// Adds the paths of the constructors in these patterns, which stand in the fields at `path`.
 #[cycle(finding)]
 fn add_paths_below(
     alloc: Global,
@@ -154,6 +156,7 @@ fn telling(alloc: Global, leaves: &[Leaf]) -> Result<Seq<u32>, AllocError> {
     Ok(best)
 }
 
+// Whether a leaf may have a constructor, where `head` is the one that it is known to have, if any.
 fn may_be(head: Option<u32>, con: u32) -> bool
     ensures { result ≡ false → MayBe head con → ⊥ }
 {
@@ -258,6 +261,10 @@ fn shares(
 }
 
 /// A mark for each leaf of a layout, off only where the leaf shares no value with a later one.
+///
+/// # Errors
+///
+/// Want of memory.
 pub(crate) fn sharing(
     alloc: Global,
     types: &[DataDecl],

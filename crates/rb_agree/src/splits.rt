@@ -1,10 +1,9 @@
 //! Whether the literals of splits are distinct and fit, and each split has an arm.
 
-ghost use Rattle.std.specs.Prelude.{◌≡◌, ◌<◌, ◌^◌, map, IfOk, MatchOption};
-ghost use Rattle.rb_layout.specs.declared.layout.FlatArm.{FlatArm};
+ghost use Rattle.std.specs.Prelude.{◌≡◌, ◌<◌, ◌^◌, IfOk, MatchOption};
 ghost use Rattle.rb_layout.specs.Splits.{splits_of};
 ghost use Rattle.rb_layout.specs.A8.{AllSplitWell, FailsSplits, SplitsWell, length_of};
-ghost use Rattle.rb_agree.specs.inner.Lists.{EachOf, FindsIn};
+ghost use Rattle.rb_agree.specs.inner.Lists.{FindsIn};
 ghost use Rattle.rb_agree.specs.inner.Splits.{AreDistinct, AreFit, FailsSplit, IsAmong, IsTwice, arm_splits, literals_in, split_of};
 
 use crate::numbers::fits;

@@ -30,6 +30,10 @@ pub enum Below {
 }
 
 /// How a leaf fails to have a literal at a location.
+///
+/// # Errors
+///
+/// Want of memory.
 pub(crate) fn literal_fault(
     alloc: Global,
     types: &[DataDecl],
@@ -88,6 +92,10 @@ fn is_excluded(
 }
 
 /// How a leaf fails to exclude the literals of arms at a location.
+///
+/// # Errors
+///
+/// Want of memory.
 pub(crate) fn else_fault(
     alloc: Global,
     types: &[DataDecl],

@@ -3,7 +3,6 @@
 ghost use Rattle.std.specs.Prelude.{◌≡◌, ◌<◌, length, IfOk, MatchBool, MatchOption};
 ghost use Rattle.std.specs.Bool.{OnTrue};
 ghost use Rattle.rb_core.specs.declared.types.Ty.TheVariants as Tys;
-ghost use Rattle.rb_layout.specs.declared.layout.Leaf.{Leaf};
 ghost use Rattle.rb_layout.specs.A5.{FailsApart, FailsComplete, HaveCommon, IsApart, IsComplete};
 ghost use Rattle.rb_matrix.specs.Search.{AreInhabited, IsTypeIn};
 ghost use Rattle.rb_agree.specs.inner.Values.{AreDifferent, HaveDifferent, provenances_in};
@@ -75,6 +74,7 @@ fn are_different(one: &Pat, other: &Pat) -> bool
     }
 }
 
+// Whether the patterns of some field, one of each list, have different constructors in one place.
 #[cycle(comparing)]
 fn differ_somewhere(ones: &[Pat], others: &[Pat]) -> bool
     ensures { OnTrue result (HaveDifferent ones.now others.now) }
@@ -90,6 +90,10 @@ fn differ_somewhere(ones: &[Pat], others: &[Pat]) -> bool
 }
 
 /// Whether two provenances of a type have a common value.
+///
+/// # Errors
+///
+/// Want of memory.
 pub(crate) fn have_common(
     alloc: Global,
     types: &[DataDecl],

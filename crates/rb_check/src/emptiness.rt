@@ -1,6 +1,6 @@
 //! Types without a value: those that no constructor ends.
 
-ghost use Rattle.std.specs.Prelude.{◌≡◌, length, MatchOption, IfOk, vec_len};
+ghost use Rattle.std.specs.Prelude.{◌≡◌, length, MatchOption, IfOk};
 ghost use Rattle.std.specs.List.{list_all};
 ghost use Rattle.rb_core.specs.TypedPrograms.{HaveValues, IsFirstEmpty};
 ghost use Rattle.rb_check.specs.Emptiness.{AllMarked, IsFirstUnmarked, IsNewlyLive, IsSettled, is_marked, mark_of, type_is_live};

@@ -1,6 +1,6 @@
 //! Patterns: the variables that one binds at a type.
 
-ghost use Rattle.std.specs.Prelude.{◌≡◌, ◌<◌, ◌==◌, length, map, take, drop, OnOk};
+ghost use Rattle.std.specs.Prelude.{◌≡◌, ◌==◌, length, map, take, drop, OnOk};
 ghost use Rattle.std.specs.List.{list_any};
 ghost use Rattle.rb_core.specs.Typing.{also_bound, fields_match, pattern_binders, pattern_params, repeated};
 ghost use Rattle.rb_check.specs.Answers.{Leaves, binders, within};

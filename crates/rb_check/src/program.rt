@@ -8,7 +8,7 @@ ghost use Rattle.rb_check.specs.Answers.{HasFault, arm_fault};
 use crate::expression::type_expression;
 use crate::pattern::{bind_whole, repeated};
 use rb_core::layout_decl::{Arm, LayTree, LayoutDecl};
-use rb_core::program::{Fun, Param, Program};
+use rb_core::program::{Fun, Program};
 use rb_core::seq::Seq;
 use rb_core::types::{DataDecl, Ty};
 use rb_core::typing::TypeFault;

@@ -1,7 +1,7 @@
 //! Single types: what holds a number, and whether a found type is the wanted one.
 
-ghost use Rattle.std.specs.Prelude.{◌≡◌, ℕ, ◌^◌, ◌<◌, ◌≤◌};
-ghost use Rattle.rb_core.specs.Typing.{fits, holds, integer, integer_wanted, least_width, number, number_type};
+ghost use Rattle.std.specs.Prelude.{◌≡◌, ◌≤◌};
+ghost use Rattle.rb_core.specs.Typing.{fits, holds, integer, least_width, number, number_type};
 ghost use Rattle.rb_check.specs.Answers.{Answers};
 
 use rb_core::types::Ty;

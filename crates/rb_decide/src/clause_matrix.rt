@@ -1,7 +1,6 @@
 //! Clause matrices: rows of patterns with their clauses, over columns with their positions.
 
 ghost use Rattle.std.specs.Prelude.{◌≡◌, ◌∷◌, ◌++◌, [], IfOk, OnOk, map, is_some};
-ghost use Rattle.std.specs.Option.{option_copied};
 ghost use Rattle.rb_matrix.specs.Heads.{layer_head};
 ghost use Rattle.rb_core.specs.declared.pattern.Pat as Pats;
 ghost use Rattle.rb_decide.specs.ClauseMatrices.{to_front, row_to_front, first_test, match_rows};

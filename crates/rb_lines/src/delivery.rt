@@ -1,6 +1,5 @@
 //! Delivery: a text goes to the output, or a line to the error output.
 
-ghost use Rattle.std.specs.Prelude.{◌≡◌, ◌++◌, ℕ, List, Bool, take, IsTrue};
 ghost use Rattle.rb_lines.specs.Delivery.{Prints, Refuses, Tried, change};
 ghost use Rattle.rb_lines.specs.Numbers.{status_number};
 

@@ -20,7 +20,7 @@ pub enum Refusal {
     /// The answer in its place.
     #[error("refused")]
     Refused(Refused),
-    /// Memory ran out.
+    /// Want of memory.
     #[error("no memory")]
     Memory,
 }

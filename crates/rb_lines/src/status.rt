@@ -20,7 +20,7 @@ pub enum Status {
     Usage,
     /// A file was not read.
     Unread,
-    /// Memory ran out.
+    /// Want of memory.
     NoMemory,
     /// The arguments are none of the function's, or there is no such function.
     Argument,

@@ -1,7 +1,7 @@
 //! What is known of a value on its way through a graph, and the ways out of code that lead on.
 
 ghost use Rattle.std.specs.Prelude.{◌≡◌, ◌∷◌, ◌++◌, [], IfOk, IfSome, true};
-ghost use Rattle.rb_match.specs.declared.knowledge.Known.TheVariants.{Leaf, Saved};
+ghost use Rattle.rb_match.specs.declared.knowledge.Known.TheVariants.{Leaf};
 ghost use Rattle.rb_match.specs.inner.Knowing.{FollowsLeaf, FollowsSaved, IsMet, IsCommon, IsShared, SharesKnown};
 
 use rb_core::seq::Seq;

@@ -1,6 +1,6 @@
 //! Code that saves the fields of a part, from the leaf that it is known to have.
 
-ghost use Rattle.std.specs.Prelude.{◌≡◌, ◌++◌, [], IfOk, IfSome, OnOk, true, false};
+ghost use Rattle.std.specs.Prelude.{◌≡◌, ◌++◌, IfOk, IfSome, OnOk, true, false};
 ghost use Rattle.rb_target.specs.Growth.{Grows};
 ghost use Rattle.rb_fragment.specs.Slots.{AreApart, IsOneOf};
 ghost use Rattle.rb_match.specs.inner.Saving.{FetchesPart, HasBelow, IsPositionOf, IsSpotAt, SavesAt, SavesBelow, SavesFields, SavesPart};

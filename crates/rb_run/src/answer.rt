@@ -79,6 +79,10 @@ pub fn answer_main<L: Ledger>(
 }
 
 /// What the end of a call of `main` comes to, over the memory that it left.
+///
+/// # Errors
+///
+/// Want of memory.
 pub(crate) fn answer_to(
     alloc: Global,
     agreed: &Agreed,

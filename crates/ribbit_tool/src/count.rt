@@ -104,6 +104,11 @@ fn count_prepared<L: Ledger>(
 }
 
 /// The text for a file within the limit.
+///
+/// # Errors
+///
+/// The answer to a file that is not accepted, to words that spell no arguments, and to a run that passes a limit; or
+/// want of memory.
 pub(crate) fn count_bytes<L: Ledger>(
     alloc: Global,
     bytes: &[u8],

@@ -86,7 +86,7 @@ pub fn generate_file(alloc: Global, functions: Functions) -> Result<Vec<u8>, Ref
 ///
 /// # Errors
 ///
-/// The answer to a file that is not accepted and to a run that passes a limit, or want of memory.
+/// The answer to a file that is not accepted and to a run that passes a limit; or want of memory.
 pub fn count_generated<L: Ledger>(
     alloc: Global,
     functions: Functions,

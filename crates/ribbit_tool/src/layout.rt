@@ -31,7 +31,7 @@ fn layout_bytes(alloc: Global, bytes: &[u8]) -> Result<Vec<u8>, Refusal>
 ///
 /// # Errors
 ///
-/// The answer to a file that is not read or not accepted, or want of memory.
+/// The answer to a file that is not read or not accepted; or want of memory.
 pub fn layout_file<S: Source>(alloc: Global, src: &mut S, file: &[u8]) -> Result<Vec<u8>, Refusal>
     ensures read { ReadsInTurn ((file.now, file_limit) ∷ [])
         (source_of S.tells S.held S.readings S.faults src.old src.new) }

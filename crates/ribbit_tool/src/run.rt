@@ -48,7 +48,7 @@ pub struct Prepared {
 ///
 /// # Errors
 ///
-/// The answer to words that spell no arguments of `main`, or want of memory.
+/// The answer to words that spell no arguments of `main`; or want of memory.
 pub fn prepare(alloc: Global, agreed: &Agreed, words: &[Name]) -> Result<Prepared, Refusal>
     ensures prepared { IfOk result (λ r. IsPrepared agreed.now r.code r.args) }
     ensures spelled { IfOk result (λ r. Spell agreed.now.covered.program words.now r.args) }
@@ -60,6 +60,10 @@ pub fn prepare(alloc: Global, agreed: &Agreed, words: &[Name]) -> Result<Prepare
 }
 
 /// The text of a value of a type, on a line.
+///
+/// # Errors
+///
+/// Want of memory.
 pub(crate) fn show_at(
     alloc: Global,
     types: &[DataDecl],
@@ -73,6 +77,10 @@ pub(crate) fn show_at(
 }
 
 /// The text of a value of the result type of `main`, on a line.
+///
+/// # Errors
+///
+/// Want of memory.
 pub(crate) fn show_value(
     alloc: Global,
     program: &Program,

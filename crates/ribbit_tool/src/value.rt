@@ -34,6 +34,10 @@ pub(crate) fn layouts_are_flat(agreed: &Agreed)
 }
 
 /// The value of a type that an image holds, on a line.
+///
+/// # Errors
+///
+/// The answer to an image that holds no value to be shown; or want of memory.
 pub(crate) fn value_text(
     alloc: Global,
     agreed: &Agreed,
