@@ -85,7 +85,8 @@ lex_due lexing.Memory = refusal status.NoMemory no_memory_line
 
 -- of tokens in a file of so many bytes
 abbrev pub read_due : List Placed → ℕ → ReadFault → Due
-read_due placed size (reading.TooDeep t) = refusal status.Limit (at_byte (codes "nesting over 128") (byte_of placed size t))
+read_due placed size (reading.TooDeep t) =
+    refusal status.Limit (at_byte (codes "nesting over 128") (byte_of placed size t))
 read_due placed size (reading.Syntax t) = refusal status.Syntax (at_byte (codes "syntax") (byte_of placed size t))
 read_due placed size (reading.Limit q count) = refusal status.Limit (limit_line q count)
 read_due placed size reading.Memory = refusal status.NoMemory no_memory_line
@@ -98,9 +99,12 @@ name_due placed size names.Memory = refusal status.NoMemory no_memory_line
 
 abbrev pub type_due : List DataDecl → List Placed → ℕ → TypeFault → Due
 type_due ts placed size (types.Empty t) = refusal status.Meaning (empty_line ts t)
-type_due ts placed size (types.Mismatch t wanted found) = refusal status.Meaning (mismatch_line ts wanted found (byte_of placed size t))
-type_due ts placed size (types.Arity t wanted found) = refusal status.Meaning (arity_line wanted found (byte_of placed size t))
-type_due ts placed size (types.VariableTwice t) = refusal status.Meaning (at_byte (codes "variable twice") (byte_of placed size t))
+type_due ts placed size (types.Mismatch t wanted found) =
+    refusal status.Meaning (mismatch_line ts wanted found (byte_of placed size t))
+type_due ts placed size (types.Arity t wanted found) =
+    refusal status.Meaning (arity_line wanted found (byte_of placed size t))
+type_due ts placed size (types.VariableTwice t) =
+    refusal status.Meaning (at_byte (codes "variable twice") (byte_of placed size t))
 type_due ts placed size types.Memory = refusal status.NoMemory no_memory_line
 
 abbrev pub match_due : List DataDecl → List Placed → ℕ → ℕ → Pat → Due
@@ -120,15 +124,20 @@ pub data IsRefused (bytes : List ℕ) (due : Due) : Type 0 where
   uncut : (fault : LexFault) → IsUncut bytes fault → due ≡ lex_due fault → IsRefused bytes due
   misread : (placed : List Placed) → HasTokens bytes placed → (fault : ReadFault) → IsAnswer (tokens placed) (Err fault)
       → due ≡ read_due placed (length bytes) fault → IsRefused bytes due
-  misnamed : (placed : List Placed) (file : FileTree) → IsRead bytes placed file → (fault : NameFault) → numbered file ≡ Err fault
+  misnamed : (placed : List Placed) (file : FileTree) → IsRead bytes placed file → (fault : NameFault)
+      → numbered file ≡ Err fault
       → due ≡ name_due placed (length bytes) fault → IsRefused bytes due
-  mistyped : (placed : List Placed) (p : Program) → IsProgramOf bytes placed p → (fault : TypeFault) → fault ≢ types.Memory → IsFirstFault p fault
+  mistyped : (placed : List Placed) (p : Program) → IsProgramOf bytes placed p → (fault : TypeFault)
+      → fault ≢ types.Memory → IsFirstFault p fault
       → due ≡ type_due p.types placed (length bytes) fault → IsRefused bytes due
-  uncovered : (placed : List Placed) (p : Program) → IsProgramOf bytes placed p → IsTyped p → (t : ℕ) (q : Pat) → IsCoverFault p (Missing t q)
+  uncovered : (placed : List Placed) (p : Program) → IsProgramOf bytes placed p → IsTyped p → (t : ℕ) (q : Pat)
+      → IsCoverFault p (Missing t q)
       → due ≡ match_due p.types placed (length bytes) t q → IsRefused bytes due
-  underived : (placed : List Placed) (p : Program) (fault : AutoFault) → IsNamedWith bytes placed (completed_as p (Some fault)) → IsTyped p
+  underived : (placed : List Placed) (p : Program) (fault : AutoFault)
+      → IsNamedWith bytes placed (completed_as p (Some fault)) → IsTyped p
       → AreExhaustive p.types (sites_of p) → due ≡ derived_due p.types fault → IsRefused bytes due
-  mislaid : (placed : List Placed) (p : Program) → IsNamed bytes placed p → IsTyped p → AreExhaustive p.types (sites_of p)
+  mislaid : (placed : List Placed) (p : Program) → IsNamed bytes placed p → IsTyped p
+      → AreExhaustive p.types (sites_of p)
       → (fault : Disagreed) → IsRefusedBy p (flat_layouts p) fault → due ≡ layout_due p fault → IsRefused bytes due
 
 -- The step ----------------------------------------------------------------------------------

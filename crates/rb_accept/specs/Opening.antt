@@ -35,15 +35,18 @@ pub data Spells (text : List ℕ) (Then : Image → Due → Type 0) (due : Due) 
 abbrev pub ReadsImage : List ℕ → (Image → Due → Type 0) → List Reading → Due → Type 0
 ReadsImage image Then readings due = ReadsOne image image_limit (λ text d. Spells text Then d) readings due
 
--- What is due to a file over what is read after it: it is refused, and nothing is; or it is accepted, and something follows.
-pub data AcceptsFirst (bytes : List ℕ) (Then : Program → List Reading → Due → Type 0) (later : List Reading) (due : Due) : Type 0 where
+-- What is due to a file over what is read after it: it is refused, and nothing is; or it is accepted, and
+-- something follows.
+pub data AcceptsFirst (bytes : List ℕ) (Then : Program → List Reading → Due → Type 0) (later : List Reading)
+    (due : Due) : Type 0 where
   turned_down : IsRefused bytes due → later ≡ [] → AcceptsFirst bytes Then later due
   accepted : (p : Program) → IsAccepted bytes p → Then p later due → AcceptsFirst bytes Then later due
 
 -- What is due to FILE and IMAGE: FILE is read and accepted, then IMAGE is read, and something follows.
 abbrev pub Opens : List ℕ → List ℕ → Following → List Reading → Due → Type 0
 Opens file image Then readings due =
-    Reads file file_limit (λ bytes later d. AcceptsFirst bytes (λ p rs e. ReadsImage image (Then p) rs e) later d) readings due
+    Reads file file_limit
+    (λ bytes later d. AcceptsFirst bytes (λ p rs e. ReadsImage image (Then p) rs e) later d) readings due
 
 -- Read images -------------------------------------------------------------------------------
 

@@ -32,16 +32,19 @@ whole name bytes = record { name = name; bytes = bytes; course = ended }
 -- which one byte further was read, and no more, so the count that is shown is one more than the limit; or
 -- its opening or a read failed.
 pub data IsUnread (name : List ℕ) (limit : ℕ) (readings : List Reading) (due : Due) : Type 0 where
-  too_long : (bytes : List ℕ) → length bytes ≡ limit + 1 → readings ≡ record { name = name; bytes = bytes; course = going } ∷ []
+  too_long : (bytes : List ℕ) → length bytes ≡ limit + 1
+      → readings ≡ record { name = name; bytes = bytes; course = going } ∷ []
       → due ≡ refusal Limit (file_bytes_line (limit + 1) limit) → IsUnread name limit readings due
   not_read : (bytes : List ℕ) → readings ≡ record { name = name; bytes = bytes; course = failed } ∷ []
       → due ≡ refusal Unread read_fault_line → IsUnread name limit readings due
 
 -- What is due where a file is read with its limit, and what follows where it is within the limit, over what
 -- is read after it.
-pub data Reads (name : List ℕ) (limit : ℕ) (Then : List ℕ → List Reading → Due → Type 0) (readings : List Reading) (due : Due) : Type 0 where
+pub data Reads (name : List ℕ) (limit : ℕ) (Then : List ℕ → List Reading → Due → Type 0) (readings : List Reading)
+    (due : Due) : Type 0 where
   unread : IsUnread name limit readings due → Reads name limit Then readings due
-  within : (bytes : List ℕ) (later : List Reading) → readings ≡ whole name bytes ∷ later → length bytes ≤ limit → Then bytes later due
+  within : (bytes : List ℕ) (later : List Reading) → readings ≡ whole name bytes ∷ later → length bytes ≤ limit
+      → Then bytes later due
       → Reads name limit Then readings due
 
 -- Nothing is read after it.
@@ -62,8 +65,14 @@ pub record Source : Type 0 where
 
 -- that of a source by what the trait says of it
 abbrev pub source_of : {S : Type 0} → (S → Bool) → (S → Holds) → (S → List Reading) → (S → ℕ) → S → S → Source
-source_of tells held readings faults old new =
-    record { tells = tells old; held = held old; old = readings old; new = readings new; before = faults old; now = faults new }
+source_of tells held readings faults old new = record {
+  tells = tells old;
+  held = held old;
+  old = readings old;
+  new = readings new;
+  before = faults old;
+  now = faults new;
+}
 
 -- what it handed out in the call
 abbrev pub handed_out : Source → List Reading

@@ -20,7 +20,8 @@ arm_under lower a = record { head = a.head; under = tree_under lower a.under }
 
 -- a node's tree: that of a lower node in the place of each link
 abbrev pub node_tree : List Tree → GraphNode → Tree
-node_tree lower (Test position arms other) = Trees.Test position (map (arm_under lower) arms) (option_map (tree_under lower) other)
+node_tree lower (Test position arms other) =
+    Trees.Test position (map (arm_under lower) arms) (option_map (tree_under lower) other)
 node_tree lower (Clause k) = Trees.Clause k
 
 abbrev pub trees_onto : List Tree → List GraphNode → List Tree

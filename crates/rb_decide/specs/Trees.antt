@@ -94,12 +94,14 @@ arms_of types sub c cs rows (h ∷ hs) =
 
 -- the branch D, unless the heads are a complete signature
 abbrev pub other_of : List DataDecl → Subtree → Column → List Column → List Row → Option Tree
-other_of types sub c cs rows = if is_complete types c.ty (column_heads rows) then None else Some (sub cs (default_rows rows))
+other_of types sub c cs rows =
+    if is_complete types c.ty (column_heads rows) then None else Some (sub cs (default_rows rows))
 
 -- a test of the first column; there is one where a row has a head
 abbrev pub test_of : List DataDecl → Subtree → List Column → List Row → Tree
 test_of types sub [] rows = Clause 0
-test_of types sub (c ∷ cs) rows = Test c.position (arms_of types sub c cs rows (column_heads rows)) (other_of types sub c cs rows)
+test_of types sub (c ∷ cs) rows =
+    Test c.position (arms_of types sub c cs rows (column_heads rows)) (other_of types sub c cs rows)
 
 -- the first row's clause, or a test of the first column in which it has a head
 abbrev pub tree_at : List DataDecl → Subtree → List Column → List Row → ℕ → Option ℕ → Tree

@@ -23,7 +23,8 @@ abbrev pub large_line : ℕ → List ℕ
 large_line number = ended (argument_begun number ++ codes "over " ++ decimal node_limit ++ codes " nodes")
 
 abbrev pub misfit_line : List DataDecl → ℕ → Ty → ℕ → List ℕ
-misfit_line types number ty at = ended (argument_begun number ++ codes "no value of " ++ type_text types ty ++ codes " at byte " ++ decimal at)
+misfit_line types number ty at =
+    ended (argument_begun number ++ codes "no value of " ++ type_text types ty ++ codes " at byte " ++ decimal at)
 
 abbrev pub argument_line : List DataDecl → ℕ → Ty → ValueFault → List ℕ
 argument_line types number ty (kind.ValueSyntax at) = syntax_line number at

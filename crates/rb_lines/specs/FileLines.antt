@@ -28,7 +28,9 @@ quantity_text Parameters = codes "parameters"
 quantity_text ShapeWords = codes "shape words"
 
 abbrev pub limit_line : Quantity → ℕ → List ℕ
-limit_line q count = ended (begun (codes "limit ") ++ quantity_text q ++ codes ": " ++ decimal count ++ codes " over " ++ decimal (greatest q))
+limit_line q count =
+    ended (begun (codes "limit ") ++ quantity_text q ++ codes ": " ++ decimal count ++ codes " over "
+    ++ decimal (greatest q))
 
 -- Names -------------------------------------------------------------------------------------
 
@@ -51,29 +53,37 @@ abbrev pub empty_line : List DataDecl → ℕ → List ℕ
 empty_line types t = ended (begun (codes "type ") ++ type_name (slice_get types t) ++ codes " has no value")
 
 abbrev pub mismatch_line : List DataDecl → Ty → Ty → ℕ → List ℕ
-mismatch_line types wanted found at = ended (begun (codes "wanted ") ++ type_text types wanted ++ codes ", found " ++ type_text types found
+mismatch_line types wanted found at =
+    ended (begun (codes "wanted ") ++ type_text types wanted ++ codes ", found " ++ type_text types found
     ++ codes " at byte " ++ decimal at)
 
 abbrev pub arity_line : ℕ → ℕ → ℕ → List ℕ
-arity_line wanted found at = ended (begun (codes "wanted ") ++ decimal wanted ++ codes " arguments, found " ++ decimal found
+arity_line wanted found at =
+    ended (begun (codes "wanted ") ++ decimal wanted ++ codes " arguments, found " ++ decimal found
     ++ codes " at byte " ++ decimal at)
 
 -- Derived layouts ---------------------------------------------------------------------------
 
 -- a packed type that reaches itself
 abbrev pub recursive_line : List DataDecl → ℕ → List ℕ
-recursive_line types t = ended (begun (codes "layout of ") ++ type_name (slice_get types t) ++ codes ": packed: recursive")
+recursive_line types t =
+    ended (begun (codes "layout of ") ++ type_name (slice_get types t) ++ codes ": packed: recursive")
 
 -- a packed type that needs so many bits
 abbrev pub wide_line : List DataDecl → ℕ → ℕ → List ℕ
-wide_line types t bits = ended (begun (codes "layout of ") ++ type_name (slice_get types t) ++ codes ": packed: " ++ decimal bits ++ codes " bits")
+wide_line types t bits =
+    ended (begun (codes "layout of ") ++ type_name (slice_get types t) ++ codes ": packed: " ++ decimal bits
+    ++ codes " bits")
 
 -- Patterns ----------------------------------------------------------------------------------
 
 abbrev pub missing_line : List DataDecl → Pat → ℕ → List ℕ
-missing_line types p at = ended (begun (codes "match at byte ") ++ decimal at ++ codes " misses " ++ pattern_text types p)
+missing_line types p at =
+    ended (begun (codes "match at byte ") ++ decimal at ++ codes " misses " ++ pattern_text types p)
 
 -- Notes -------------------------------------------------------------------------------------
 
 abbrev pub note_line : ℕ → ℕ → List ℕ
-note_line clause at = codes "note: clause " ++ decimal clause ++ codes " of the match at byte " ++ decimal at ++ codes " is never reached\n"
+note_line clause at =
+    codes "note: clause " ++ decimal clause ++ codes " of the match at byte " ++ decimal at
+    ++ codes " is never reached\n"

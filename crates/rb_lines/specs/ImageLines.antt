@@ -16,7 +16,8 @@ fault_at number kind at = ended (begun (codes "image ") ++ decimal number ++ kin
 
 -- in the block that begins at a base, or at base 0 in the root words
 abbrev pub fault_in : ℕ → ℕ → List ℕ → ℕ → List ℕ
-fault_in number base kind at = ended (begun (codes "image ") ++ decimal number ++ codes ": base " ++ decimal base ++ kind ++ decimal at)
+fault_in number base kind at =
+    ended (begun (codes "image ") ++ decimal number ++ codes ": base " ++ decimal base ++ kind ++ decimal at)
 
 -- A value of too many nodes is no fault of an image, but a limit of what is shown.
 abbrev pub image_status : ImageFault → Status

@@ -28,13 +28,15 @@ no_memory_line = codes "ribbit: no memory\n"
 
 -- a file's bytes over their limit
 abbrev pub file_bytes_line : ℕ → ℕ → List ℕ
-file_bytes_line count limit = ended (begun (codes "limit file bytes: ") ++ decimal count ++ codes " over " ++ decimal limit)
+file_bytes_line count limit =
+    ended (begun (codes "limit file bytes: ") ++ decimal count ++ codes " over " ++ decimal limit)
 
 abbrev pub spent_line : ℕ → List ℕ
 spent_line calls = ended (begun (codes "calls spent: ") ++ decimal calls)
 
 abbrev pub count_line : ℕ → ℕ → List ℕ
-count_line wanted found = ended (begun (codes "wanted ") ++ decimal wanted ++ codes " arguments, found " ++ decimal found)
+count_line wanted found =
+    ended (begun (codes "wanted ") ++ decimal wanted ++ codes " arguments, found " ++ decimal found)
 
 -- code that has no function of this name
 abbrev pub no_function_line : List ℕ → List ℕ
@@ -46,10 +48,13 @@ full_line f = ended (begun (codes "region full: next ") ++ decimal f.next ++ cod
     ++ codes ", align " ++ decimal f.align ++ codes ", limit " ++ decimal f.limit)
 
 abbrev pub trap_line : Trap → List ℕ
-trap_line (Astray base offset) = ended (begun (codes "trap ") ++ decimal (trap_number (Astray base offset)) ++ codes ": base " ++ decimal base
+trap_line (Astray base offset) =
+    ended (begun (codes "trap ") ++ decimal (trap_number (Astray base offset)) ++ codes ": base " ++ decimal base
     ++ codes ", offset " ++ decimal offset)
-trap_line (Unwritten address) = ended (begun (codes "trap ") ++ decimal (trap_number (Unwritten address)) ++ codes ": address " ++ decimal address)
-trap_line (Unmatched word) = ended (begun (codes "trap ") ++ decimal (trap_number (Unmatched word)) ++ codes ": word " ++ decimal word)
+trap_line (Unwritten address) =
+    ended (begun (codes "trap ") ++ decimal (trap_number (Unwritten address)) ++ codes ": address " ++ decimal address)
+trap_line (Unmatched word) =
+    ended (begun (codes "trap ") ++ decimal (trap_number (Unmatched word)) ++ codes ": word " ++ decimal word)
 
 -- functions that are not valid together: the fault's kind, and where it stands
 abbrev pub at_instruction : ℕ → ℕ → ℕ → List ℕ

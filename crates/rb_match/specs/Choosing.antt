@@ -49,13 +49,15 @@ Chooses agreed t pats words old new holes =
 
 -- the appended code leaves what a pattern binds in slots that are new or the value's own, within the share of the
 -- bound that is left to binding
-pub record Binds (plan : Plan) (pat : Pat) (t : Ty) (words : List ℕ) (old new : Sheet) (bound : List Local) : Type 0 where
+pub record Binds (plan : Plan) (pat : Pat) (t : Ty) (words : List ℕ) (old new : Sheet)
+    (bound : List Local) : Type 0 where
   pub adds : Adds plan old new
   pub scope : scope_of bound ≡ binders plan.program.types pat t
   pub given : AreGiven plan new.slots bound
   pub origin : (x : ℕ) → IsOfLocal x bound → (old.slots ≤ x) ⊎ IsOneOf x words
   pub runs : (clean : Bool) (v : Value) → matches_of pat v ≡ true
-      → Piece plan old.slots old new Nowhere (binding_bound plan.program.types plan.layouts t pat) (λ s m. IsGood m × Rep plan m clean t v (slots_at s words))
+      → Piece plan old.slots old new Nowhere (binding_bound plan.program.types plan.layouts t pat)
+      (λ s m. IsGood m × Rep plan m clean t v (slots_at s words))
       (AtEnd new (λ s m. Holds plan clean s m bound (bindings pat v)))
 
 -- run on words of a value that the pattern matches, the appended code binds the pattern's variables

@@ -34,7 +34,8 @@ end_over end m = over end (record { left = 0; memory = m; switches = 0; taken = 
 
 -- where the blocks of the arguments end up
 abbrev pub laid_arguments : LaidOut → List Value → Memory → Laid
-laid_arguments agreed args m = lay m.limit m.next (requests_of agreed.layouts (making_arguments agreed.covered.program args))
+laid_arguments agreed args m =
+    lay m.limit m.next (requests_of agreed.layouts (making_arguments agreed.covered.program args))
 
 -- the words represent the arguments in a memory that has grown from the old one: each argument cleanly, and
 -- over just the blocks that its own constructions ask for
@@ -44,11 +45,13 @@ HoldArguments agreed args old m blocks next ws =
     StandApart p.types agreed.layouts m (param_types p.funs p.main) args old.next blocks next ws
 
 -- The call of `main` does what the source does, from the memory as it was to the memory as it is.
-pub record IsCalled (agreed : LaidOut) (args : List Value) (calls : ℕ) (old : Memory) (end : End) (new : Memory) : Type 0 where
+pub record IsCalled (agreed : LaidOut) (args : List Value) (calls : ℕ) (old : Memory) (end : End)
+    (new : Memory) : Type 0 where
   -- the end is Full with the first request that does not fit, or Spent, or words that represent the value,
   -- with clean free bits, and as many calls left
   pub ends : EndsAs (plan_of agreed) true (result_type agreed.covered.program.funs agreed.covered.program.main) old
-      (laid_call agreed args calls old) (call_of agreed.covered.program agreed.covered.program.main calls args).end (end_over end new)
+      (laid_call agreed args calls old)
+      (call_of agreed.covered.program agreed.covered.program.main calls args).end (end_over end new)
   -- where it returns, some words represent each argument over its own blocks
   pub arguments : (words : List ℕ) (left : ℕ) → end ≡ Returned words left
       → (blocks : List (ℕ × ℕ)) (next : ℕ) → laid_arguments agreed args old ≡ Fits blocks next
@@ -61,7 +64,8 @@ CountsAs agreed code args calls old (Over full) steps switches = (steps ≡ 0) �
 CountsAs agreed code args calls old (Fits blocks next) steps switches =
     let p = agreed.covered.program in
     (ws : List ℕ) × (m : Memory) × Grown old m blocks next × HoldArguments agreed args old m blocks next ws
-    × (steps ≡ (run_of code calls p.main ws m).world.taken) × (switches ≡ (run_of code calls p.main ws m).world.switches)
+    × (steps ≡ (run_of code calls p.main ws m).world.taken)
+    × (switches ≡ (run_of code calls p.main ws m).world.switches)
 
 abbrev pub IsCounted : LaidOut → List CodeFun → List Value → ℕ → Memory → ℕ → ℕ → Type 0
 IsCounted agreed code args calls old steps switches =

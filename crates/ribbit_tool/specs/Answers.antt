@@ -37,12 +37,16 @@ abbrev pub Answers : Parsed → List Reading → Due → Type 0
 Answers (Ok (check file)) readings due = ReadsOne file file_limit (λ bytes d. ChecksFile bytes d) readings due
 Answers (Ok (layout file)) readings due = ReadsOne file file_limit (λ bytes d. LaysOutFile bytes d) readings due
 Answers (Ok (compile file)) readings due = ReadsOne file file_limit (λ bytes d. CompilesFile bytes d) readings due
-Answers (Ok (run file limits values)) readings due = ReadsOne file file_limit (λ bytes d. RunsFile limits values bytes d) readings due
-Answers (Ok (image file limits values)) readings due = ReadsOne file file_limit (λ bytes d. ImagesFile limits values bytes d) readings due
-Answers (Ok (count file limits values)) readings due = ReadsOne file file_limit (λ bytes d. CountsFile limits values bytes d) readings due
+Answers (Ok (run file limits values)) readings due =
+    ReadsOne file file_limit (λ bytes d. RunsFile limits values bytes d) readings due
+Answers (Ok (image file limits values)) readings due =
+    ReadsOne file file_limit (λ bytes d. ImagesFile limits values bytes d) readings due
+Answers (Ok (count file limits values)) readings due =
+    ReadsOne file file_limit (λ bytes d. CountsFile limits values bytes d) readings due
 Answers (Ok (gen functions)) readings due = Generates functions due
 Answers (Ok (genrun functions limits)) readings due = CountsGenerated functions limits due
-Answers (Ok (exec code function limits words)) readings due = ReadsOne code code_limit (λ bytes d. Executes function limits words bytes d) readings due
+Answers (Ok (exec code function limits words)) readings due =
+    ReadsOne code code_limit (λ bytes d. Executes function limits words bytes d) readings due
 Answers (Ok (value file second)) readings due = ReadsValue file second readings due
 Answers (Ok (peek file second path)) readings due = PeeksValue file second path readings due
 Answers (Err word) readings due = due ≡ refusal Usage (usage_line word)

@@ -25,7 +25,8 @@ number_line name count = ended (name ++ codes " " ++ decimal count)
 -- the value, and how many calls were made, switches done, blocks placed and bytes taken
 abbrev pub count_text : Program → Tally → Value → List ℕ
 count_text p tally v =
-    codes "value " ++ value_line p v ++ number_line (codes "calls") tally.calls ++ number_line (codes "switches") tally.switches
+    codes "value " ++ value_line p v ++ number_line (codes "calls") tally.calls
+    ++ number_line (codes "switches") tally.switches
     ++ number_line (codes "blocks") tally.blocks ++ number_line (codes "bytes") tally.bytes
 
 -- What is due -------------------------------------------------------------------------------
@@ -33,17 +34,21 @@ count_text p tally v =
 -- where a call of `main` over a fresh region returns: the calls that are not left, the blocks that were laid,
 -- and the bytes from address 64 up to the next one
 abbrev pub IsMainTally : Program → List Layout → Limits → List Value → Tally → Type 0
-IsMainTally p layouts limits args tally = IsTally (laid_all p layouts limits args) (call_of p p.main limits.calls args).end limits.calls tally
+IsMainTally p layouts limits args tally =
+    IsTally (laid_all p layouts limits args) (call_of p p.main limits.calls args).end limits.calls tally
 
 -- The source's answer is due, its value with what the run did; the switches and the steps are those of the
 -- code's run on words that represent the values.
-pub record Counts (agreed : LaidOut) (code : List CodeFun) (args : List Value) (limits : Limits) (due : Due) : Type 0 where
+pub record Counts (agreed : LaidOut) (code : List CodeFun) (args : List Value) (limits : Limits)
+    (due : Due) : Type 0 where
   pub taken : ℕ
   pub tally : Tally
   pub counted : IsCounted agreed code args limits.calls (empty_memory limits.region) taken tally.switches
   pub tallied : IsMainTally agreed.covered.program agreed.layouts limits args tally
-  pub shown : due ≡ answer_due (count_text agreed.covered.program tally) limits.calls (source_answer agreed.covered.program agreed.layouts limits args) taken
+  pub shown : due ≡ answer_due (count_text agreed.covered.program tally) limits.calls
+      (source_answer agreed.covered.program agreed.layouts limits args) taken
 
 -- of a file within the limit
 abbrev pub CountsFile : Limits → List (List ℕ) → List ℕ → Due → Type 0
-CountsFile limits words bytes due = PreparesFile words bytes (λ agreed code args d. Counts agreed code args limits d) due
+CountsFile limits words bytes due =
+    PreparesFile words bytes (λ agreed code args d. Counts agreed code args limits d) due

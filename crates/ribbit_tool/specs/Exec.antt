@@ -50,7 +50,9 @@ exec_due funs name limits words = named_due funs name limits words (fun_named fu
 -- What is due to the bytes of a code text: valid code is run, and of other functions the first fault is
 -- shown. Where the bytes are no text of functions, it is the first byte from which none goes on.
 pub data Executes (name : List ℕ) (limits : Limits) (words : List ℕ) (bytes : List ℕ) (due : Due) : Type 0 where
-  executed : (funs : List CodeFun) → IsValid funs → bytes ≡ code_text funs → due ≡ exec_due funs name limits words → Executes name limits words bytes due
-  faulty : (funs : List CodeFun) → IsTextOf bytes funs → (fault : CodeFault) → IsFirstFault funs fault → due ≡ refusal status.Code (code_line fault)
+  executed : (funs : List CodeFun) → IsValid funs → bytes ≡ code_text funs → due ≡ exec_due funs name limits words
       → Executes name limits words bytes due
-  no_code : (at : ℕ) → StopsAt bytes at → due ≡ refusal status.Code (code_line (CodeSyntax at)) → Executes name limits words bytes due
+  faulty : (funs : List CodeFun) → IsTextOf bytes funs → (fault : CodeFault) → IsFirstFault funs fault
+      → due ≡ refusal status.Code (code_line fault) → Executes name limits words bytes due
+  no_code : (at : ℕ) → StopsAt bytes at → due ≡ refusal status.Code (code_line (CodeSyntax at))
+      → Executes name limits words bytes due

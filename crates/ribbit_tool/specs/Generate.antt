@@ -19,7 +19,9 @@ up_line = codes "fun up(n: u64, l: List): List = match n { 0 => l, _ => up(sub(n
 
 -- function i adds the first item to what function j makes of the others
 abbrev pub sum_line : ℕ → ℕ → List ℕ
-sum_line i j = ended (codes "fun f" ++ decimal i ++ codes "(l: List): u64 = match l { Nil => 0, Cons(x, r) => add(x, f" ++ decimal j ++ codes "(r)) };")
+sum_line i j =
+    ended (codes "fun f" ++ decimal i ++ codes "(l: List): u64 = match l { Nil => 0, Cons(x, r) => add(x, f"
+    ++ decimal j ++ codes "(r)) };")
 
 abbrev pub main_line : List ℕ
 main_line = codes "fun main(): u64 = f0(up(3000, Nil));\n"

@@ -33,11 +33,13 @@ Says shown limits answer.TooLarge out err status =
 
 -- What is promised of a command that calls `main`, where the file gave bytes that are accepted, its values
 -- are of `main`'s types, no write failed and memory did not run out.
-abbrev pub OfCalls : (List ℕ → Limits → List (List ℕ) → Command) → (Program → List Value → Limits → Change → Change → ℕ → Type 0)
+abbrev pub OfCalls : (List ℕ → Limits → List (List ℕ) → Command)
+    → (Program → List Value → Limits → Change → Change → ℕ → Type 0)
     → List (List ℕ) → Source → Change → Change → ℕ → Type 0
 OfCalls command Promised words source out err status =
     (file : List ℕ) (limits : Limits) (values : List (List ℕ)) → IsWordsOf (command file limits values) words
-    → (bytes : List ℕ) → Gave source file bytes → (p : Program) → IsAccepted bytes p → (args : List Value) → Spell p values args
+    → (bytes : List ℕ) → Gave source file bytes → (p : Program) → IsAccepted bytes p → (args : List Value)
+    → Spell p values args
     → IsCalm out err status → Promised p args limits out err status
 
 abbrev pub Headline : List (List ℕ) → Source → Change → Change → ℕ → Type 0

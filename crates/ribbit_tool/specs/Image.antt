@@ -20,7 +20,8 @@ use Rattle.rb_target.specs.declared.code.CodeFun.{CodeFun}
 use Rattle.ribbit_tool.specs.Run.{PreparesFile, answer_due, laid_all, laid_values, whole_answer}
 
 -- words and a memory that show a value of `main`: the memory has just the blocks that are asked for
-pub record IsImageOf (p : Program) (layouts : List Layout) (limits : Limits) (args : List Value) (v : Value) (words : List ℕ) (m : Memory) : Type 0 where
+pub record IsImageOf (p : Program) (layouts : List Layout) (limits : Limits) (args : List Value) (v : Value)
+    (words : List ℕ) (m : Memory) : Type 0 where
   pub asked : laid_all p layouts limits args ≡ Fits m.blocks m.next
   pub whole : AreWhole m m.blocks
   pub good : IsGood m
@@ -32,10 +33,12 @@ pub record IsImageOf (p : Program) (layouts : List Layout) (limits : Limits) (ar
 
 -- they show the value that is answered, if one is
 abbrev pub ShowWhole : Program → List Layout → Limits → List Value → List ℕ → Memory → Type 0
-ShowWhole p layouts limits args words m = (v : Value) → whole_answer p layouts limits args ≡ Shown v → IsImageOf p layouts limits args v words m
+ShowWhole p layouts limits args words m =
+    (v : Value) → whole_answer p layouts limits args ≡ Shown v → IsImageOf p layouts limits args v words m
 
 -- The source's answer is due, and of its value, which is never too large, an image.
-pub record Images (agreed : LaidOut) (code : List CodeFun) (args : List Value) (limits : Limits) (due : Due) : Type 0 where
+pub record Images (agreed : LaidOut) (code : List CodeFun) (args : List Value) (limits : Limits)
+    (due : Due) : Type 0 where
   pub taken : ℕ
   pub switches : ℕ
   pub counted : IsCounted agreed code args limits.calls (empty_memory limits.region) taken switches
@@ -47,4 +50,5 @@ pub record Images (agreed : LaidOut) (code : List CodeFun) (args : List Value) (
 
 -- of a file within the limit
 abbrev pub ImagesFile : Limits → List (List ℕ) → List ℕ → Due → Type 0
-ImagesFile limits words bytes due = PreparesFile words bytes (λ agreed code args d. Images agreed code args limits d) due
+ImagesFile limits words bytes due =
+    PreparesFile words bytes (λ agreed code args d. Images agreed code args limits d) due

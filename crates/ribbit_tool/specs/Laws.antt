@@ -36,4 +36,5 @@ CompiledTextsRun =
     → Reps (plan_of agreed) (empty_memory limits.region) clean (types_of f) args words
     → (due : Due) → Executes f.name limits words (code_text code) due
     → (run : Outcome) × (due ≡ outcome_due run limits.calls)
-    × DoesAs (plan_of agreed) clean f.result (empty_memory limits.region) (call_of agreed.covered.program g limits.calls args) run
+    × DoesAs (plan_of agreed) clean f.result (empty_memory limits.region)
+    (call_of agreed.covered.program g limits.calls args) run

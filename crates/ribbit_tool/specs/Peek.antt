@@ -21,7 +21,8 @@ rooted_at image part = record { root = part.words; blocks = image.blocks }
 -- What is due to an image that is to hold a value of a type, and a path: the path leads to a part, and what is due to
 -- the image of that part is; or it does not, and the fault that it has is shown.
 pub data Peeks (p : Program) (ty : Ty) (path : List ℕ) (image : Image) (due : Due) : Type 0 where
-  found : (part : Peeked) → IsPart p.types (flat_layouts p) image ty path part → ReadsBack p part.ty (rooted_at image part) due
+  found : (part : Peeked) → IsPart p.types (flat_layouts p) image ty path part
+      → ReadsBack p part.ty (rooted_at image part) due
       → Peeks p ty path image due
   stopped : (fault : ImageFault) → IsPartFault p.types (flat_layouts p) image ty path fault → due ≡ image_due fault
       → Peeks p ty path image due

@@ -29,10 +29,12 @@ pub record Gives (due : Due) (out err : Change) (steps : Counting) (status : ℕ
 
 -- the right answer was given to what was read
 abbrev pub GivesAnswer : Parsed → Source → Change → Change → Counting → ℕ → Type 0
-GivesAnswer parsed source out err steps status = (due : Due) × Answers parsed (handed_out source) due × Gives due out err steps status
+GivesAnswer parsed source out err steps status =
+    (due : Due) × Answers parsed (handed_out source) due × Gives due out err steps status
 
 -- What was due, and how it was delivered. Where memory ran out, nothing is said of the steps.
-pub record Performs (words : List (List ℕ)) (source : Source) (out err : Change) (steps : Counting) (status : ℕ) : Type 0 where
+pub record Performs (words : List (List ℕ)) (source : Source) (out err : Change) (steps : Counting)
+    (status : ℕ) : Type 0 where
   pub parsed : Parsed
   pub meant : IsParsed words parsed
   pub reads : ReadsInTurn (files_of parsed) source
@@ -60,7 +62,8 @@ pub record IsMissing (source : Source) : Type 0 where
   pub earlier : List Reading
   pub last : handed_out source ≡ earlier ++ missed name ∷ []
 
-pub record IsRight (words : List (List ℕ)) (source : Source) (out err : Change) (steps : Counting) (status : ℕ) : Type 0 where
+pub record IsRight (words : List (List ℕ)) (source : Source) (out err : Change) (steps : Counting)
+    (status : ℕ) : Type 0 where
   -- what the words come to: a command, or the first word at fault
   pub parsed : Parsed
   pub meant : IsParsed words parsed

@@ -30,14 +30,16 @@ use Rattle.ribbit_tool.specs.Compiling.{IsCompiled, IsLaidOut}
 -- code that does what the program means, and values of the types of `main`
 pub record IsPrepared (agreed : LaidOut) (code : List CodeFun) (args : List Value) : Type 0 where
   pub compiled : IsCompiled agreed code
-  pub typed : all_of_types (map (is_of_type agreed.covered.program.types) args) (param_types agreed.covered.program.funs agreed.covered.program.main) ≡ true
+  pub typed : all_of_types (map (is_of_type agreed.covered.program.types) args)
+      (param_types agreed.covered.program.funs agreed.covered.program.main) ≡ true
 
 -- What is due to an accepted program and words: they spell no arguments of `main`; or they do, there is code
 -- that does what the source means, and something follows.
 pub data Prepares (words : List (List ℕ)) (Then : LaidOut → List CodeFun → List Value → Due → Type 0) (p : Program)
     (due : Due) : Type 0 where
   misfit : IsMisfit p words due → Prepares words Then p due
-  prepared : (agreed : LaidOut) → IsLaidOut p agreed → (code : List CodeFun) (args : List Value) → IsPrepared agreed code args → Spell p words args
+  prepared : (agreed : LaidOut) → IsLaidOut p agreed → (code : List CodeFun) (args : List Value)
+      → IsPrepared agreed code args → Spell p words args
       → Then agreed code args due → Prepares words Then p due
 
 -- of a file within the limit
@@ -59,11 +61,13 @@ answer_due shown calls answer.TooLarge steps = refused status.TooLarge (large_li
 
 -- where the blocks of the values end up over a fresh region, and then those of the call
 abbrev pub laid_values : Program → List Layout → Limits → List Value → Laid
-laid_values p layouts limits args = lay limits.region 64 (requests_of layouts (all_makings p.types args (param_types p.funs p.main)))
+laid_values p layouts limits args =
+    lay limits.region 64 (requests_of layouts (all_makings p.types args (param_types p.funs p.main)))
 
 abbrev pub laid_all : Program → List Layout → Limits → List Value → Laid
 laid_all p layouts limits args =
-    lay limits.region 64 (requests_of layouts (all_makings p.types args (param_types p.funs p.main) ++ (call_of p p.main limits.calls args).log))
+    lay limits.region 64 (requests_of layouts (all_makings p.types args (param_types p.funs p.main)
+    ++ (call_of p p.main limits.calls args).log))
 
 -- the answer, however many nodes the value has
 abbrev pub unbounded : Laid → SourceEnd → answer.Answer
@@ -82,11 +86,13 @@ value_line p v = ended (text_of p.types v (result_type p.funs p.main))
 
 -- The source's answer is due, with the steps of the code's run on words that represent the values, over a
 -- fresh region.
-pub record Runs (agreed : LaidOut) (code : List CodeFun) (args : List Value) (limits : Limits) (due : Due) : Type 0 where
+pub record Runs (agreed : LaidOut) (code : List CodeFun) (args : List Value) (limits : Limits)
+    (due : Due) : Type 0 where
   pub taken : ℕ
   pub switches : ℕ
   pub counted : IsCounted agreed code args limits.calls (empty_memory limits.region) taken switches
-  pub shown : due ≡ answer_due (value_line agreed.covered.program) limits.calls (source_answer agreed.covered.program agreed.layouts limits args) taken
+  pub shown : due ≡ answer_due (value_line agreed.covered.program) limits.calls
+      (source_answer agreed.covered.program agreed.layouts limits args) taken
 
 -- of a file within the limit
 abbrev pub RunsFile : Limits → List (List ℕ) → List ℕ → Due → Type 0

@@ -23,10 +23,14 @@ use Rattle.rb_values.specs.Texts.{text_of}
 -- pointer that a block holds leads to a block with a lower address; then the value is shown on a line, if it is not too
 -- large. Or else the image's first fault is shown.
 pub data ReadsBack (p : Program) (ty : Ty) (image : Image) (due : Due) : Type 0 where
-  holds : (v : Value) → RootDescends p image ty v → node_count v ≤ node_limit → due ≡ printed (ended (text_of p.types v ty)) 0 → ReadsBack p ty image due
-  large : (v : Value) → RootDescends p image ty v → node_limit < node_count v → due ≡ refusal TooLarge (large_line node_limit) → ReadsBack p ty image due
-  unsound : (fault : ImageFault) → IsFirstFault p.types (flat_layouts p) image ty fault → due ≡ image_due fault → ReadsBack p ty image due
+  holds : (v : Value) → RootDescends p image ty v → node_count v ≤ node_limit
+      → due ≡ printed (ended (text_of p.types v ty)) 0 → ReadsBack p ty image due
+  large : (v : Value) → RootDescends p image ty v → node_limit < node_count v
+      → due ≡ refusal TooLarge (large_line node_limit) → ReadsBack p ty image due
+  unsound : (fault : ImageFault) → IsFirstFault p.types (flat_layouts p) image ty fault → due ≡ image_due fault
+      → ReadsBack p ty image due
 
 -- of FILE and IMAGE
 abbrev pub ReadsValue : List ℕ → List ℕ → List Reading → Due → Type 0
-ReadsValue file image readings due = Opens file image (λ p i d. ReadsBack p (result_type p.funs p.main) i d) readings due
+ReadsValue file image readings due =
+    Opens file image (λ p i d. ReadsBack p (result_type p.funs p.main) i d) readings due

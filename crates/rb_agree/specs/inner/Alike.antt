@@ -28,7 +28,8 @@ module _ (types : List DataDecl) (one other : Pat) where
   AreKinds (Bits p a) (Pointer b c) = ⊥
   AreKinds (Word p j) (Const d) = ⊥
   AreKinds (Word p j) (Bits q b) = ⊥
-  AreKinds (Word p j) (Word q k) = (j ≡ k) × (type_at (open_positions types one) p ≡ type_at (open_positions types other) q)
+  AreKinds (Word p j) (Word q k) =
+      (j ≡ k) × (type_at (open_positions types one) p ≡ type_at (open_positions types other) q)
   AreKinds (Word p j) (Pointer b c) = ⊥
   AreKinds (Pointer a b) (Const d) = ⊥
   AreKinds (Pointer a b) (Bits q c) = ⊥

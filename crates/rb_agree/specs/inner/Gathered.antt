@@ -45,7 +45,8 @@ row rows n = slice_index_or rows n []
 -- the row of each position grows by what is held of it
 pub record Gathers (places : List OpenPosition) (runs : Runs) (old new : List (List Run)) : Type 0 where
   pub count : length new ≡ length old
-  pub each : (n : ℕ) (place : OpenPosition) → slice_get places n ≡ Some place → row new n ≡ row old n ++ runs place.ty place.path
+  pub each : (n : ℕ) (place : OpenPosition) → slice_get places n ≡ Some place
+      → row new n ≡ row old n ++ runs place.ty place.path
 
 -- so many empty rows
 pub record AreNone (count : ℕ) (rows : List (List Run)) : Type 0 where
@@ -54,4 +55,5 @@ pub record AreNone (count : ℕ) (rows : List (List Run)) : Type 0 where
 
 -- the row of each position is what the leaf holds of it
 abbrev pub AreGathered : Leaf → List OpenPosition → List (List Run) → Type 0
-AreGathered leaf places rows = (n : ℕ) (place : OpenPosition) → slice_get places n ≡ Some place → row rows n ≡ leaf_runs leaf place.ty place.path
+AreGathered leaf places rows =
+    (n : ℕ) (place : OpenPosition) → slice_get places n ≡ Some place → row rows n ≡ leaf_runs leaf place.ty place.path

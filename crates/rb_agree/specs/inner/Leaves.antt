@@ -27,4 +27,6 @@ leaves_or_none (Some leaves) = leaves
 
 -- for each of so many types the items of each leaf of its layout
 abbrev pub AreWritten : List LayoutDecl → ℕ → List (List (List Item)) → Type 0
-AreWritten decls count written = (t : ℕ) → t < count → shown_leaves (leaves_or_none (slice_get written t)) ≡ items_under (leaves_in (decl_of decls t))
+AreWritten decls count written =
+    (t : ℕ) → t < count
+    → shown_leaves (leaves_or_none (slice_get written t)) ≡ items_under (leaves_in (decl_of decls t))

@@ -15,7 +15,8 @@ module _ (decls : List LayoutDecl) (opens : List Open) where
   -- how a part of item i fails to fit what it holds
   abbrev pub FailsFit : ℕ → WrittenPart → Why → Type 0
   FailsFit i p (ConstWide j c l) = (j ≡ i) × (p.l ≡ l) × (p.content ≡ Number c) × (c < 2 ^ l → ⊥)
-  FailsFit i p (Misfit j o l path) = (j ≡ i) × (p.o ≡ o) × (p.l ≡ l) × (content_paths p.content ≡ path ∷ []) × (Fits decls opens l p.content → ⊥)
+  FailsFit i p (Misfit j o l path) =
+      (j ≡ i) × (p.o ≡ o) × (p.l ≡ l) × (content_paths p.content ≡ path ∷ []) × (Fits decls opens l p.content → ⊥)
   FailsFit i p why = ⊥
 
   pub record IsPartFine (width : ℕ) (p : WrittenPart) : Type 0 where
@@ -50,7 +51,8 @@ abbrev pub HasBit : ℕ → ℕ → ℕ → ℕ → Type 0
 HasBit o l b m = IsIn o l b × IsIn b m b
 
 abbrev pub FailsPair : ℕ → Written → Written → Why → Type 0
-FailsPair i p q (Overlap j o l b m) = (j ≡ i) × ((IsFirst p q o l b m × (o ≤ b)) ⊎ (IsFirst q p o l b m × (o < b))) × HasBit o l b m
+FailsPair i p q (Overlap j o l b m) =
+    (j ≡ i) × ((IsFirst p q o l b m × (o ≤ b)) ⊎ (IsFirst q p o l b m × (o < b))) × HasBit o l b m
 FailsPair i p q why = ⊥
 
 module _ (opens : List Open) where
@@ -63,11 +65,14 @@ module _ (opens : List Open) where
 
   -- part k has no bit in common with one before it
   abbrev pub IsApartBefore : List Written → ℕ → Type 0
-  IsApartBefore parts k = (j : ℕ) (p q : Written) → j < k → slice_get parts j ≡ Some p → slice_get parts k ≡ Some q → IsSet p → IsSet q → AreDisjoint p.o p.l q.o q.l
+  IsApartBefore parts k =
+      (j : ℕ) (p q : Written) → j < k → slice_get parts j ≡ Some p → slice_get parts k ≡ Some q → IsSet p → IsSet q
+      → AreDisjoint p.o p.l q.o q.l
 
   abbrev pub FailsBefore : ℕ → List Written → ℕ → Why → Type 0
   FailsBefore i parts k why =
-      (j : ℕ) × (p : Written) × (q : Written) × (j < k) × (slice_get parts j ≡ Some p) × (slice_get parts k ≡ Some q) × IsSet p × IsSet q × FailsPair i p q why
+      (j : ℕ) × (p : Written) × (q : Written) × (j < k) × (slice_get parts j ≡ Some p) × (slice_get parts k ≡ Some q)
+      × IsSet p × IsSet q × FailsPair i p q why
 
   abbrev pub AreApart : List Written → Type 0
   AreApart parts = (k : ℕ) → IsApartBefore parts k

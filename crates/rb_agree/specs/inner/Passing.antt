@@ -1,4 +1,5 @@
--- What a walk over a tree of splits finds: which leaves may fail a test on a way to them. A leaf whose mark is off passes.
+-- What a walk over a tree of splits finds: which leaves may fail a test on a way to them. A leaf whose
+-- mark is off passes.
 use Rattle.std.specs.Prelude.{◌≡◌, ℕ, ◌<◌, ◌≤◌, List, Bool, false, Option, Some, None, slice_get}
 use Rattle.rb_core.specs.declared.types.DataDecl.{DataDecl}
 use Rattle.rb_core.specs.declared.layout_decl.Loc.{Loc}
@@ -41,7 +42,8 @@ Covers whole span = (whole.first ≤ span.first) × (span.end ≤ whole.end)
 module _ (types : List DataDecl) (layouts : List Layout) (leaves : List Leaf) where
   -- where the mark of leaf n is off, it meets the test
   abbrev pub MeetsWhereOff : List Bool → ℕ → Test → Type 0
-  MeetsWhereOff marks n test = IsOff marks n → (leaf : Leaf) → slice_get leaves n ≡ Some leaf → Meets types layouts leaf test
+  MeetsWhereOff marks n test =
+      IsOff marks n → (leaf : Leaf) → slice_get leaves n ≡ Some leaf → Meets types layouts leaf test
 
   -- a leaf with this number, if there is one, meets the test
   abbrev pub IsPrior : Test → Option ℕ → Type 0
@@ -66,9 +68,11 @@ module _ (types : List DataDecl) (layouts : List Layout) (leaves : List Leaf) wh
 
 -- a leaf is alike at a location to the one with this number
 abbrev pub IsLike : List DataDecl → List Leaf → Leaf → Loc → Option ℕ → Type 0
-IsLike types leaves leaf loc prior = (n : ℕ) × (one : Leaf) × (prior ≡ Some n) × (slice_get leaves n ≡ Some one) × AreAlike types one leaf loc
+IsLike types leaves leaf loc prior =
+    (n : ℕ) × (one : Leaf) × (prior ≡ Some n) × (slice_get leaves n ≡ Some one) × AreAlike types one leaf loc
 
 -- each leaf whose mark is off passes the tests on each way to it
 abbrev pub PassWhereOff : List DataDecl → List Layout → Layout → List Bool → Type 0
 PassWhereOff types layouts layout marks =
-    (n : ℕ) (leaf : Leaf) → IsOff marks n → slice_get layout.leaves n ≡ Some leaf → MeetsAll types layouts layout.tree n leaf
+    (n : ℕ) (leaf : Leaf) → IsOff marks n → slice_get layout.leaves n ≡ Some leaf
+    → MeetsAll types layouts layout.tree n leaf

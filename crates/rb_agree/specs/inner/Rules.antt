@@ -106,7 +106,8 @@ pub record IsKnown (p : Program) (layouts : List Layout) (related : Related) : T
 -- at each leaf whose mark is off the rule holds
 abbrev pub HoldsWhereOff : Program → List Layout → Rule → ℕ → Layout → List Bool → Type 0
 HoldsWhereOff p layouts rule t layout marks =
-    (n : ℕ) (leaf : Leaf) → IsOff marks n → slice_get layout.leaves n ≡ Some leaf → Checked p layouts (leaf_spots p.layouts rule t layout n leaf) None
+    (n : ℕ) (leaf : Leaf) → IsOff marks n → slice_get layout.leaves n ≡ Some leaf
+    → Checked p layouts (leaf_spots p.layouts rule t layout n leaf) None
 
 -- A layout under a rule ---------------------------------------------------------------------
 

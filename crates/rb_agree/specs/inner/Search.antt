@@ -13,7 +13,9 @@ side_of (i ∷ p) (j ∷ q) = if nat_lt i j then Left else if nat_lt j i then Ri
 
 -- each position stands to the left of those after it
 abbrev pub AreOrdered : List OpenPosition → Type 0
-AreOrdered places = (j k : ℕ) (a b : OpenPosition) → j < k → slice_get places j ≡ Some a → slice_get places k ≡ Some b → IsLeftOf a.path b.path
+AreOrdered places =
+    (j k : ℕ) (a b : OpenPosition) → j < k → slice_get places j ≡ Some a → slice_get places k ≡ Some b
+    → IsLeftOf a.path b.path
 
 -- no position is at the path
 abbrev pub HasNone : List OpenPosition → List ℕ → Type 0

@@ -42,7 +42,8 @@ IsIn members m = (k : ℕ) × (slice_get members k ≡ Some m)
 
 -- all before number i that may have a constructor
 abbrev pub HaveBefore : List (Option ℕ) → ℕ → ℕ → List ℕ → Type 0
-HaveBefore heads con i members = (m : ℕ) (head : Option ℕ) → m < i → slice_get heads m ≡ Some head → MayBe head con → IsIn members m
+HaveBefore heads con i members =
+    (m : ℕ) (head : Option ℕ) → m < i → slice_get heads m ≡ Some head → MayBe head con → IsIn members m
 
 abbrev pub HaveAll : List (Option ℕ) → ℕ → List ℕ → Type 0
 HaveAll heads con members = (m : ℕ) (head : Option ℕ) → slice_get heads m ≡ Some head → MayBe head con → IsIn members m
@@ -63,12 +64,15 @@ module _ (types : List DataDecl) (t : ℕ) where
   -- leaf n shares no value with a later one of these, up to the i-th
   abbrev pub SharesNone : List Leaf → ℕ → Leaf → List ℕ → ℕ → Type 0
   SharesNone leaves n leaf members i =
-      (k m : ℕ) (later : Leaf) → k < i → slice_get members k ≡ Some m → n < m → slice_get leaves m ≡ Some later → HaveCommon types t leaf.prov later.prov → ⊥
+      (k m : ℕ) (later : Leaf) → k < i → slice_get members k ≡ Some m → n < m → slice_get leaves m ≡ Some later
+      → HaveCommon types t leaf.prov later.prov → ⊥
 
   -- leaf n shares no value with a later one
   abbrev pub IsAlone : List Leaf → ℕ → Leaf → Type 0
-  IsAlone leaves n leaf = (m : ℕ) (later : Leaf) → n < m → slice_get leaves m ≡ Some later → HaveCommon types t leaf.prov later.prov → ⊥
+  IsAlone leaves n leaf =
+      (m : ℕ) (later : Leaf) → n < m → slice_get leaves m ≡ Some later → HaveCommon types t leaf.prov later.prov → ⊥
 
   -- each leaf whose mark is off shares no value with a later one
   abbrev pub ApartWhereOff : List Leaf → List Bool → Type 0
-  ApartWhereOff leaves marks = (n : ℕ) (leaf : Leaf) → IsOff marks n → slice_get leaves n ≡ Some leaf → IsAlone leaves n leaf
+  ApartWhereOff leaves marks =
+      (n : ℕ) (leaf : Leaf) → IsOff marks n → slice_get leaves n ≡ Some leaf → IsAlone leaves n leaf

@@ -13,4 +13,5 @@ AreDifferent p q = (v : Value) → Matches p v → Matches q v → ⊥
 
 -- two patterns with the same number are different
 abbrev pub HaveDifferent : List Pat → List Pat → Type 0
-HaveDifferent ps qs = (i : ℕ) × (p : Pat) × (q : Pat) × (slice_get ps i ≡ Some p) × (slice_get qs i ≡ Some q) × AreDifferent p q
+HaveDifferent ps qs =
+    (i : ℕ) × (p : Pat) × (q : Pat) × (slice_get ps i ≡ Some p) × (slice_get qs i ≡ Some q) × AreDifferent p q

@@ -13,8 +13,10 @@ state marks found = record { marks = marks; found = found }
 abbrev pub added_if : Option Bool → List ℕ → ℕ → State → State
 added_if None way next s = s
 added_if (Some true) way next s = s
-added_if (Some false) way next s =
-    record { marks = slice_set s.marks next true; found = s.found ++ record { number = next; way = way ++ next ∷ [] } ∷ [] }
+added_if (Some false) way next s = record {
+  marks = slice_set s.marks next true;
+  found = s.found ++ record { number = next; way = way ++ next ∷ [] } ∷ [];
+}
 
 abbrev pub added : List ℕ → ℕ → State → State
 added way next s = added_if (slice_get s.marks next) way next s

@@ -37,6 +37,7 @@ IsTestBuilt types cols rows old new r =
     (n : ℕ) → heads_in rows ≤ suc n → IsBuilt (test_of types (tree_within types n) cols rows) old new r
 
 -- the branches of such a test, one for each head
-abbrev pub AreArmsBuilt : List DataDecl → Column → List Column → List Row → List Head → ℕ → ℕ → Option (List TreeArm) → Type 0
+abbrev pub AreArmsBuilt : List DataDecl → Column → List Column → List Row → List Head → ℕ → ℕ → Option (List TreeArm)
+    → Type 0
 AreArmsBuilt types c cs rows hs old new r =
     (n : ℕ) → heads_in rows ≤ suc n → AreBuilt (arms_of types (tree_within types n) c cs rows hs) old new r

@@ -25,7 +25,8 @@ Chain = Column → Tree → Tree
 -- a test of one head
 abbrev pub one_test : List DataDecl → Head → Chain
 one_test types h c t =
-    Test c.position (record { head = h; under = t } ∷ []) (if is_complete types c.ty (h ∷ []) then None else Some (Clause 1))
+    Test c.position (record { head = h; under = t } ∷ [])
+    (if is_complete types c.ty (h ∷ []) then None else Some (Clause 1))
 
 -- the first pattern's tests first
 abbrev pub chain_row : List Chain → List Column → Tree → Tree
@@ -35,7 +36,8 @@ chain_row (f ∷ fs) (c ∷ cs) t = f c (chain_row fs cs t)
 
 -- those of a constructor's fields; a pattern with another number of subpatterns matches nothing
 abbrev pub chain_fields : List Chain → List ℕ → List Ty → Tree → Tree
-chain_fields fs position tys t = if length fs == length tys then chain_row fs (field_columns position 0 tys) t else Clause 1
+chain_fields fs position tys t =
+    if length fs == length tys then chain_row fs (field_columns position 0 tys) t else Clause 1
 
 abbrev pub chain_step : List DataDecl → Pat-F Chain → Chain
 chain_step types (P.Wild at) c t = t
@@ -55,7 +57,8 @@ pub record AreChained (nodes : List GraphNode) : Type 0 where
   pub others : slice_get nodes 0 ≡ Some (G.Clause 1)
 
 -- at most so many nodes were added before the one at a number: to its tree this one's tree is as the chain says
-pub record IsChained (put : Tree → Tree) (most : ℕ) (old : List GraphNode) (under : ℕ) (new : List GraphNode) (i : ℕ) : Type 0 where
+pub record IsChained (put : Tree → Tree) (most : ℕ) (old : List GraphNode) (under : ℕ) (new : List GraphNode)
+    (i : ℕ) : Type 0 where
   pub fine : AreChained new
   pub within : i < length new
   pub few : length new ≤ length old + most

@@ -41,7 +41,8 @@ number_at s key = lookup (λ k. bytes_eq key k.items) s.numbers.entries
 pub record IsFine (s : Sharing) : Type 0 where
   pub lower : LinksAreLower s.nodes
   pub known : (i : ℕ) (n : GraphNode) → slice_get s.nodes i ≡ Some n → number_at s (node_key n) ≡ Some i
-  pub sound : (key : List ℕ) (i : ℕ) → number_at s key ≡ Some i → (n : GraphNode) × (slice_get s.nodes i ≡ Some n) × (node_key n ≡ key)
+  pub sound : (key : List ℕ) (i : ℕ) → number_at s key ≡ Some i
+      → (n : GraphNode) × (slice_get s.nodes i ≡ Some n) × (node_key n ≡ key)
 
 -- one key has a number, and the others what they had
 abbrev pub AddsKey : Sharing → Sharing → List ℕ → ℕ → Type 0

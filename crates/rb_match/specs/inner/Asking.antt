@@ -121,8 +121,8 @@ abbrev pub link_at : List GraphArm → Option ℕ → Option ℕ → Option ℕ
 link_at arms other None = None
 link_at arms other (Some c) = take_link arms other (V.Con c [])
 
--- Leaves are told apart by groups: a leaf that is a group by itself has its own number, and the group of all others that
--- lead to a node has the node's number behind those of the leaves.
+-- Leaves are told apart by groups: a leaf that is a group by itself has its own number, and the group of all
+-- others that lead to a node has the node's number behind those of the leaves.
 abbrev pub group_for : ℕ → Bool → ℕ → Option ℕ → Option ℕ
 group_for count itself leaf None = None
 group_for count itself leaf (Some node) = Some (if itself then leaf else count + node)
@@ -130,7 +130,8 @@ group_for count itself leaf (Some node) = Some (if itself then leaf else count +
 -- the node to which the leaves of a group lead
 abbrev pub node_for : LaidOut → ℕ → List GraphArm → Option ℕ → ℕ → Option ℕ
 node_for agreed t arms other group =
-    if nat_lt group (leaf_count agreed t) then link_at arms other (leaf_con agreed t group) else Some (group - leaf_count agreed t)
+    if nat_lt group (leaf_count agreed t) then link_at arms other (leaf_con agreed t group)
+    else Some (group - leaf_count agreed t)
 
 -- and what is known of them: the leaf where it is a group by itself
 abbrev pub facts_for : LaidOut → ℕ → Bor (List ℕ) → List Known → ℕ → List Known
@@ -138,7 +139,8 @@ facts_for agreed t position known group =
     if nat_lt group (leaf_count agreed t) then known ++ K.Leaf position t group ∷ [] else known
 
 -- a leaf that leads to a node has one of its two groups, and one that can't be here has none
-pub record IsGrouped (agreed : LaidOut) (t : ℕ) (arms : List GraphArm) (other : Option ℕ) (leaf : ℕ) (group : Option ℕ) : Type 0 where
+pub record IsGrouped (agreed : LaidOut) (t : ℕ) (arms : List GraphArm) (other : Option ℕ) (leaf : ℕ)
+    (group : Option ℕ) : Type 0 where
   pub con : ℕ
   pub is_con : leaf_con agreed t leaf ≡ Some con
   pub itself : Bool
@@ -153,7 +155,8 @@ abbrev pub edge_to : List GraphNode → Hole → List Known → Option ℕ → O
 edge_to nodes h facts None = None
 edge_to nodes h facts (Some node) = Some (edge_in nodes h.pc h.arm node facts)
 
-abbrev pub edge_for : LaidOut → List GraphNode → ℕ → Bor (List ℕ) → List Known → List GraphArm → Option ℕ → Hole → Option Edge
+abbrev pub edge_for : LaidOut → List GraphNode → ℕ → Bor (List ℕ) → List Known → List GraphArm → Option ℕ → Hole
+    → Option Edge
 edge_for agreed nodes t position known arms other h =
     edge_to nodes h (facts_for agreed t position known h.leaf) (node_for agreed t arms other h.leaf)
 
@@ -161,10 +164,12 @@ abbrev pub keep_edge : Option Edge → List Edge → List Edge
 keep_edge None es = es
 keep_edge (Some e) es = e ∷ es
 
-abbrev pub leaf_edges_of : LaidOut → List GraphNode → ℕ → Bor (List ℕ) → List Known → List GraphArm → Option ℕ → List Hole → List Edge
+abbrev pub leaf_edges_of : LaidOut → List GraphNode → ℕ → Bor (List ℕ) → List Known → List GraphArm → Option ℕ
+    → List Hole → List Edge
 leaf_edges_of agreed nodes t position known arms other [] = []
 leaf_edges_of agreed nodes t position known arms other (h ∷ hs) =
-    keep_edge (edge_for agreed nodes t position known arms other h) (leaf_edges_of agreed nodes t position known arms other hs)
+    keep_edge (edge_for agreed nodes t position known arms other h)
+    (leaf_edges_of agreed nodes t position known arms other hs)
 
 -- Edges -----------------------------------------------------------------------------------------
 
@@ -180,14 +185,18 @@ AreOpen from code edges = (e : Edge) → IsEdge e edges → (from ≤ e.hole.pc)
 
 -- one target leads to one node
 abbrev pub LeadOneWay : List Edge → Type 0
-LeadOneWay edges = (e f : Edge) → IsEdge e edges → IsEdge f edges → e.hole.pc ≡ f.hole.pc → e.hole.arm ≡ f.hole.arm → e.hole.leaf ≡ f.hole.leaf
+LeadOneWay edges =
+    (e f : Edge) → IsEdge e edges → IsEdge f edges → e.hole.pc ≡ f.hole.pc → e.hole.arm ≡ f.hole.arm
+    → e.hole.leaf ≡ f.hole.leaf
 
 pub record StandOpen (old new : Sheet) (edges : List Edge) : Type 0 where
   pub are_open : AreOpen (length old.code) new.code edges
   pub one : LeadOneWay edges
 
--- the run goes out by an edge, whatever its target, to a node of which this is so, with what is known there; the first n slots are kept
-pub record LeavesWhere (To : View → ℕ → Type 0) (plan : Plan) (final : List Instr) (next : Next) (edges : List Edge) (n most start : ℕ) (s : List ℕ) (w : World) (clean : Bool) (v : Value) (spots : List Spot) : Type 0 where
+-- the run goes out by an edge, whatever its target, to a node of which this is so, with what is known there;
+-- the first n slots are kept
+pub record LeavesWhere (To : View → ℕ → Type 0) (plan : Plan) (final : List Instr) (next : Next) (edges : List Edge)
+    (n most start : ℕ) (s : List ℕ) (w : World) (clean : Bool) (v : Value) (spots : List Spot) : Type 0 where
   pub edge : Edge
   pub is_edge : IsEdge edge edges
   pub target : ℕ
@@ -204,48 +213,68 @@ pub record LeavesWhere (To : View → ℕ → Type 0) (plan : Plan) (final : Lis
 abbrev pub IsNode : ℕ → View → ℕ → Type 0
 IsNode node view k = k ≡ node
 
-abbrev pub LeavesBy : Plan → List Instr → Next → List Edge → ℕ → ℕ → ℕ → List ℕ → World → Bool → Value → List Spot → ℕ → Type 0
-LeavesBy plan final next edges n most start s w clean v spots node = LeavesWhere (IsNode node) plan final next edges n most start s w clean v spots
+abbrev pub LeavesBy : Plan → List Instr → Next → List Edge → ℕ → ℕ → ℕ → List ℕ → World → Bool → Value → List Spot → ℕ
+    → Type 0
+LeavesBy plan final next edges n most start s w clean v spots node =
+    LeavesWhere (IsNode node) plan final next edges n most start s w clean v spots
 
 -- Tests -----------------------------------------------------------------------------------------
 
--- spots that code may write: their slots are from n on and below m, as many as their types have words, and no two share one
+-- spots that code may write: their slots are from n on and below m, as many as their types have words, and
+-- no two share one
 pub record AreSpots (plan : Plan) (n m : ℕ) (spots : List Spot) : Type 0 where
   pub low : n ≤ m
   pub from : (k : ℕ) (spot : Spot) → slice_get spots k ≡ Some spot → AllFrom n spot.slots
   pub below : SpotsBelow m spots
   pub count : HaveWords plan spots
   pub distinct : (k : ℕ) (spot : Spot) → slice_get spots k ≡ Some spot → IsDistinct spot.slots
-  pub apart : (j k : ℕ) (a b : Spot) → slice_get spots j ≡ Some a → slice_get spots k ≡ Some b → (j ≡ k → ⊥) → AreApart a.slots b.slots
+  pub apart : (j k : ℕ) (a b : Spot) → slice_get spots j ≡ Some a → slice_get spots k ≡ Some b → (j ≡ k → ⊥)
+      → AreApart a.slots b.slots
 
 -- Over reads of the part that is tested: the run leaves by an edge to where the node of the arm that is taken leads.
-pub record AskedThere (To : ℕ → View → ℕ → Type 0) (plan : Plan) (ty : Ty) (n : ℕ) (spots : List Spot) (reads : List Read) (known : List Known) (position : List ℕ) (arms : List GraphArm) (other : Option ℕ) (old new : Sheet) (edges : List Edge) : Type 0 where
+pub record AskedThere (To : ℕ → View → ℕ → Type 0) (plan : Plan) (ty : Ty) (n : ℕ) (spots : List Spot)
+    (reads : List Read) (known : List Known) (position : List ℕ) (arms : List GraphArm) (other : Option ℕ)
+    (old new : Sheet) (edges : List Edge) : Type 0 where
   pub adds : Adds plan old new
-  pub leaves : (final : List Instr) (callee : Callee) (next : Next) → Law final callee next → Finishes final new.code (holes_of edges) (length old.code) (length new.code)
-      → (s : List ℕ) (w : World) (v part : Value) (clean : Bool) (ws : List ℕ) (node : ℕ) → new.slots ≤ length s → IsGood w.memory → AreMeant reads s w.memory ws → Rep plan w.memory clean ty part ws
-      → AreKnown (seen plan clean v spots s w.memory) known → part_at v position ≡ Some part → take_link arms other (out-Value part) ≡ Some node
-      → LeavesWhere (To node) plan final next edges n (choosing_look plan.layouts ty) (length old.code) s w clean v spots
+  pub leaves : (final : List Instr) (callee : Callee) (next : Next) → Law final callee next
+      → Finishes final new.code (holes_of edges) (length old.code) (length new.code)
+      → (s : List ℕ) (w : World) (v part : Value) (clean : Bool) (ws : List ℕ) (node : ℕ) → new.slots ≤ length s
+      → IsGood w.memory → AreMeant reads s w.memory ws → Rep plan w.memory clean ty part ws
+      → AreKnown (seen plan clean v spots s w.memory) known → part_at v position ≡ Some part
+      → take_link arms other (out-Value part) ≡ Some node
+      → LeavesWhere (To node) plan final next edges n (choosing_look plan.layouts ty) (length old.code)
+      s w clean v spots
 
 -- to this node itself
-abbrev pub AskedAt : Plan → Ty → ℕ → List Spot → List Read → List Known → List ℕ → List GraphArm → Option ℕ → Sheet → Sheet → List Edge → Type 0
+abbrev pub AskedAt : Plan → Ty → ℕ → List Spot → List Read → List Known → List ℕ → List GraphArm → Option ℕ → Sheet
+    → Sheet → List Edge → Type 0
 AskedAt = AskedThere IsNode
 
 abbrev pub AsksNumber : List Read → List Known → List GraphArm → Option ℕ → Sheet → Sheet → List Edge → Type 0
 AsksNumber reads known arms other old new edges =
-    (plan : Plan) (n bits : ℕ) (position : List ℕ) (spots : List Spot) → n ≤ old.slots → SpotsBelow old.slots spots → AllFit old.slots reads → AskedAt plan (Int bits) n spots reads known position arms other old new edges
+    (plan : Plan) (n bits : ℕ) (position : List ℕ) (spots : List Spot) → n ≤ old.slots → SpotsBelow old.slots spots
+    → AllFit old.slots reads → AskedAt plan (Int bits) n spots reads known position arms other old new edges
 
 -- wherever parts are saved
-abbrev pub AsksLeaf : LaidOut → ℕ → List Read → List Known → List ℕ → List GraphArm → Option ℕ → Sheet → Sheet → List Edge → Type 0
+abbrev pub AsksLeaf : LaidOut → ℕ → List Read → List Known → List ℕ → List GraphArm → Option ℕ → Sheet → Sheet
+    → List Edge → Type 0
 AsksLeaf agreed t reads known position arms other old new edges =
-    (plan : Plan) (n : ℕ) (spots : List Spot) → IsPlanOf agreed plan → AreSpots plan n old.slots spots → AllFit old.slots reads → length reads ≡ words_of plan (Named t)
+    (plan : Plan) (n : ℕ) (spots : List Spot) → IsPlanOf agreed plan → AreSpots plan n old.slots spots
+    → AllFit old.slots reads → length reads ≡ words_of plan (Named t)
     → AskedAt plan (Named t) n spots reads known position arms other old new edges
 
 -- over reads of the whole value
-pub record Asked (To : ℕ → View → ℕ → Type 0) (plan : Plan) (ty : Ty) (n : ℕ) (words : List Read) (pats : List Pat) (spots : List Spot) (known : List Known) (position : List ℕ) (arms : List GraphArm) (other : Option ℕ) (old new : Sheet) (edges : List Edge) : Type 0 where
+pub record Asked (To : ℕ → View → ℕ → Type 0) (plan : Plan) (ty : Ty) (n : ℕ) (words : List Read)
+    (pats : List Pat) (spots : List Spot) (known : List Known) (position : List ℕ) (arms : List GraphArm)
+    (other : Option ℕ) (old new : Sheet) (edges : List Edge) : Type 0 where
   pub at : Ty
   pub looked : IsLookedAt plan.program.types ty pats position at
   pub adds : Adds plan old new
-  pub leaves : (final : List Instr) (callee : Callee) (next : Next) → Law final callee next → Finishes final new.code (holes_of edges) (length old.code) (length new.code)
-      → (s : List ℕ) (w : World) (v part : Value) (clean : Bool) (ws : List ℕ) (node : ℕ) → new.slots ≤ length s → IsGood w.memory → AreMeant words s w.memory ws → Rep plan w.memory clean ty v ws
-      → AreKnown (seen plan clean v spots s w.memory) known → part_at v position ≡ Some part → take_link arms other (out-Value part) ≡ Some node
-      → LeavesWhere (To node) plan final next edges n (choosing_look plan.layouts at) (length old.code) s w clean v spots
+  pub leaves : (final : List Instr) (callee : Callee) (next : Next) → Law final callee next
+      → Finishes final new.code (holes_of edges) (length old.code) (length new.code)
+      → (s : List ℕ) (w : World) (v part : Value) (clean : Bool) (ws : List ℕ) (node : ℕ) → new.slots ≤ length s
+      → IsGood w.memory → AreMeant words s w.memory ws → Rep plan w.memory clean ty v ws
+      → AreKnown (seen plan clean v spots s w.memory) known → part_at v position ≡ Some part
+      → take_link arms other (out-Value part) ≡ Some node
+      → LeavesWhere (To node) plan final next edges n (choosing_look plan.layouts at) (length old.code)
+      s w clean v spots

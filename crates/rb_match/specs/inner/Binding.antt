@@ -76,39 +76,49 @@ is_unbound = fold-Pat Bool unbound_step
 -- at a value of a type
 abbrev pub BindsAt : LaidOut → Ty → Pat → List ℕ → Sheet → Sheet → List Local → Type 0
 BindsAt agreed t pat words old new bound =
-    (plan : Plan) → IsPlanOf agreed plan → AllBelow old.slots words → length words ≡ words_of plan t → Binds plan pat t words old new bound
+    (plan : Plan) → IsPlanOf agreed plan → AllBelow old.slots words → length words ≡ words_of plan t
+    → Binds plan pat t words old new bound
 
--- the appended code leaves what some patterns bind in slots that are new or the value's own, where the value has this leaf
-pub record BindsParts (plan : Plan) (most t leaf : ℕ) (words : List ℕ) (scope : List Binder) (old new : Sheet) (bound : List Local)
-    (Parts : Value → List Binding → Type 0) : Type 0 where
+-- the appended code leaves what some patterns bind in slots that are new or the value's own, where the value
+-- has this leaf
+pub record BindsParts (plan : Plan) (most t leaf : ℕ) (words : List ℕ) (scope : List Binder) (old new : Sheet)
+    (bound : List Local) (Parts : Value → List Binding → Type 0) : Type 0 where
   pub adds : Adds plan old new
   pub is_scope : scope_of bound ≡ scope
   pub given : AreGiven plan new.slots bound
   pub origin : (x : ℕ) → IsOfLocal x bound → (old.slots ≤ x) ⊎ IsOneOf x words
-  pub runs : (clean : Bool) (v : Value) (bs : List Binding) (layout : Layout) → layout_of plan.layouts t ≡ Some layout → leaf_of layout v ≡ Some leaf → Parts v bs
-      → Piece plan old.slots old new Nowhere most (λ s m. IsGood m × Rep plan m clean (Named t) v (slots_at s words)) (AtEnd new (λ s m. Holds plan clean s m bound bs))
+  pub runs : (clean : Bool) (v : Value) (bs : List Binding) (layout : Layout) → layout_of plan.layouts t ≡ Some layout
+      → leaf_of layout v ≡ Some leaf → Parts v bs
+      → Piece plan old.slots old new Nowhere most
+      (λ s m. IsGood m × Rep plan m clean (Named t) v (slots_at s words))
+      (AtEnd new (λ s m. Holds plan clean s m bound bs))
 
 -- the fields from i on match their patterns, which bind these
 abbrev pub FieldsMatch : List Pat → ℕ → Value → List Binding → Type 0
 FieldsMatch subs i v bs =
-    (vs : List Value) × ((j : ℕ) → part_at v ((i + j) ∷ []) ≡ slice_get vs j) × (all_pass (map matches_of subs) vs ≡ true) × (bs ≡ all_bound (map bindings subs) vs)
+    (vs : List Value) × ((j : ℕ) → part_at v ((i + j) ∷ []) ≡ slice_get vs j)
+    × (all_pass (map matches_of subs) vs ≡ true) × (bs ≡ all_bound (map bindings subs) vs)
 
 -- the switches that bind what stands in some patterns of fields
 abbrev pub fields_bound : Plan → List Pat → List Ty → ℕ
-fields_bound plan subs fields = looks_with (binding_look plan.layouts) (places_below (map (places_in plan.program.types) subs) fields 0)
+fields_bound plan subs fields =
+    looks_with (binding_look plan.layouts) (places_below (map (places_in plan.program.types) subs) fields 0)
 
 abbrev pub BindsFields : LaidOut → ℕ → ℕ → List ℕ → List Pat → List Ty → ℕ → Sheet → Sheet → List Local → Type 0
 BindsFields agreed t leaf words subs fields i old new bound =
     (plan : Plan) → IsPlanOf agreed plan → AllBelow old.slots words → length words ≡ words_of plan (Named t)
-    → BindsParts plan (mends_from plan.layouts t leaf subs i + fields_bound plan subs fields) t leaf words (all_binders (map (binders plan.program.types) subs) fields) old new bound (FieldsMatch subs i)
+    → BindsParts plan (mends_from plan.layouts t leaf subs i + fields_bound plan subs fields) t leaf words
+    (all_binders (map (binders plan.program.types) subs) fields) old new bound (FieldsMatch subs i)
 
 abbrev pub FieldMatches : Pat → ℕ → Value → List Binding → Type 0
-FieldMatches sub i v bs = (part : Value) × (part_at v (i ∷ []) ≡ Some part) × (matches_of sub part ≡ true) × (bs ≡ bindings sub part)
+FieldMatches sub i v bs =
+    (part : Value) × (part_at v (i ∷ []) ≡ Some part) × (matches_of sub part ≡ true) × (bs ≡ bindings sub part)
 
 abbrev pub BindsField : LaidOut → ℕ → ℕ → List ℕ → Pat → Ty → ℕ → Sheet → Sheet → List Local → Type 0
 BindsField agreed t leaf words sub field i old new bound =
     (plan : Plan) → IsPlanOf agreed plan → AllBelow old.slots words → length words ≡ words_of plan (Named t)
-    → BindsParts plan (mend_at plan.layouts t leaf (i ∷ []) + binding_bound plan.program.types plan.layouts field sub) t leaf words (binders plan.program.types sub field) old new bound (FieldMatches sub i)
+    → BindsParts plan (mend_at plan.layouts t leaf (i ∷ []) + binding_bound plan.program.types plan.layouts field sub)
+    t leaf words (binders plan.program.types sub field) old new bound (FieldMatches sub i)
 
 -- Saved fields ------------------------------------------------------------------------------------
 
@@ -116,40 +126,49 @@ BindsField agreed t leaf words sub field i old new bound =
 abbrev pub AreSeen : Plan → Bool → Value → List Spot → List Known → List ℕ → Memory → Type 0
 AreSeen plan clean v spots known s m = IsGood m × AreKnown (seen plan clean v spots s m) known
 
--- Run on the words of a value that begins with the constructor, whatever its leaf, the appended code saves fields: the facts are known then.
-pub record SavedTogether (plan : Plan) (n : ℕ) (c : ConRef) (words : List ℕ) (spots : List Spot) (known : List Known) (old new : Sheet) : Type 0 where
+-- Run on the words of a value that begins with the constructor, whatever its leaf, the appended code saves
+-- fields: the facts are known then.
+pub record SavedTogether (plan : Plan) (n : ℕ) (c : ConRef) (words : List ℕ) (spots : List Spot) (known : List Known)
+    (old new : Sheet) : Type 0 where
   pub adds : Adds plan old new
   pub runs : (clean : Bool) (v : Value) (us : List Value) → out-Value v ≡ V.Con c.con us
-      → Piece plan n old new Nowhere (choosing_look plan.layouts (Named c.ty)) (λ s m. IsThere plan clean c.ty v words s m) (AtEnd new (λ s m. AreSeen plan clean v spots known s m))
+      → Piece plan n old new Nowhere (choosing_look plan.layouts (Named c.ty))
+      (λ s m. IsThere plan clean c.ty v words s m) (AtEnd new (λ s m. AreSeen plan clean v spots known s m))
 
 abbrev pub SavesTogether : LaidOut → ConRef → List ℕ → List Spot → List Known → Sheet → Sheet → Type 0
 SavesTogether agreed c words spots known old new =
-    (plan : Plan) (n : ℕ) → IsPlanOf agreed plan → AreSpots plan n old.slots spots → AllBelow old.slots words → length words ≡ words_of plan (Named c.ty)
+    (plan : Plan) (n : ℕ) → IsPlanOf agreed plan → AreSpots plan n old.slots spots → AllBelow old.slots words
+    → length words ≡ words_of plan (Named c.ty)
     → SavedTogether plan n c words spots known old new
 
 -- the appended code leaves what some patterns bind in slots from n on, where these facts are known of the value
-pub record BindsSaved (plan : Plan) (n most : ℕ) (spots : List Spot) (known : List Known) (scope : List Binder) (old new : Sheet) (bound : List Local) (Parts : Value → List Binding → Type 0) : Type 0 where
+pub record BindsSaved (plan : Plan) (n most : ℕ) (spots : List Spot) (known : List Known) (scope : List Binder)
+    (old new : Sheet) (bound : List Local) (Parts : Value → List Binding → Type 0) : Type 0 where
   pub adds : Adds plan old new
   pub is_scope : scope_of bound ≡ scope
   pub given : AreGiven plan new.slots bound
   pub origin : (x : ℕ) → IsOfLocal x bound → n ≤ x
   pub runs : (clean : Bool) (v : Value) (bs : List Binding) → Parts v bs
-      → Piece plan old.slots old new Nowhere most (λ s m. AreSeen plan clean v spots known s m) (AtEnd new (λ s m. Holds plan clean s m bound bs))
+      → Piece plan old.slots old new Nowhere most (λ s m. AreSeen plan clean v spots known s m)
+      (AtEnd new (λ s m. Holds plan clean s m bound bs))
 
 abbrev pub BindsSpots : LaidOut → List Spot → List Known → List Pat → List Ty → ℕ → Sheet → Sheet → List Local → Type 0
 BindsSpots agreed spots known subs fields i old new bound =
     (plan : Plan) (n : ℕ) → IsPlanOf agreed plan → AreSpots plan n old.slots spots
-    → BindsSaved plan n (fields_bound plan subs fields) spots known (all_binders (map (binders plan.program.types) subs) fields) old new bound (FieldsMatch subs i)
+    → BindsSaved plan n (fields_bound plan subs fields) spots known
+    (all_binders (map (binders plan.program.types) subs) fields) old new bound (FieldsMatch subs i)
 
 abbrev pub BindsSpot : LaidOut → List Spot → List Known → Pat → Ty → ℕ → Sheet → Sheet → List Local → Type 0
 BindsSpot agreed spots known sub field i old new bound =
     (plan : Plan) (n : ℕ) → IsPlanOf agreed plan → AreSpots plan n old.slots spots
-    → BindsSaved plan n (binding_bound plan.program.types plan.layouts field sub) spots known (binders plan.program.types sub field) old new bound (FieldMatches sub i)
+    → BindsSaved plan n (binding_bound plan.program.types plan.layouts field sub) spots known
+    (binders plan.program.types sub field) old new bound (FieldMatches sub i)
 
 -- a constructor of a type of which some leaf takes a subvalue apart
 abbrev pub BindsDeep : LaidOut → Ty → ConRef → List ℕ → List Pat → List Ty → Sheet → Sheet → List Local → Type 0
 BindsDeep agreed t c words subs fields old new bound =
-    (token : ℕ) → fields ≡ field_types agreed.covered.program.types c → BindsAt agreed t (Con token c subs) words old new bound
+    (token : ℕ) → fields ≡ field_types agreed.covered.program.types c
+    → BindsAt agreed t (Con token c subs) words old new bound
 
 -- Sizes: each part of a pattern weighs less than what it is part of ------------------------------
 

@@ -27,12 +27,15 @@ use Rattle.rb_match.specs.inner.Trees.{TakesTree}
 -- the holes of a way, by another name
 abbrev pub way_holes : ℕ → ℕ → List Hole → List Hole
 way_holes way name [] = []
-way_holes way name (h ∷ hs) = if h.leaf == way then record { pc = h.pc; arm = h.arm; leaf = name } ∷ way_holes way name hs else way_holes way name hs
+way_holes way name (h ∷ hs) =
+    if h.leaf == way then record { pc = h.pc; arm = h.arm; leaf = name } ∷ way_holes way name hs
+    else way_holes way name hs
 
 -- the code of a match of one clause and a wildcard
 abbrev pub TakesAlone : LaidOut → Ty → List Read → Pat → Sheet → Sheet → List Hole → Type 0
 TakesAlone agreed ty words pat old new holes =
-    TakesTree agreed ty words (pat ∷ Wild 0 ∷ []) (match_tree agreed.covered.program.types ty (pat ∷ Wild 0 ∷ [])) old new holes
+    TakesTree agreed ty words (pat ∷ Wild 0 ∷ [])
+    (match_tree agreed.covered.program.types ty (pat ∷ Wild 0 ∷ [])) old new holes
 
 -- the run comes to the end of the code, after at most so many switches
 pub record GoesOn (next : Next) (n most start end : ℕ) (s : List ℕ) (w : World) : Type 0 where
@@ -47,16 +50,22 @@ abbrev pub round_of : Plan → Ty → List Pat → ℕ
 round_of plan ty pats = looks_with (choosing_look plan.layouts) (places_of plan.program.types ty pats)
 
 -- of each value that is represented, whatever the open targets are
-abbrev pub OnValues : Plan → Ty → List Read → Sheet → Sheet → List Hole → (List Instr → Next → List ℕ → World → Value → Type 0) → Type 0
+abbrev pub OnValues : Plan → Ty → List Read → Sheet → Sheet → List Hole
+    → (List Instr → Next → List ℕ → World → Value → Type 0) → Type 0
 OnValues plan ty words old new holes Ends =
-    (final : List Instr) (callee : Callee) (next : Next) → Law final callee next → Finishes final new.code holes (length old.code) (length new.code)
-    → (s : List ℕ) (w : World) (v : Value) (clean : Bool) (ws : List ℕ) → new.slots ≤ length s → IsGood w.memory → AreMeant words s w.memory ws → Rep plan w.memory clean ty v ws → Ends final next s w v
+    (final : List Instr) (callee : Callee) (next : Next) → Law final callee next
+    → Finishes final new.code holes (length old.code) (length new.code)
+    → (s : List ℕ) (w : World) (v : Value) (clean : Bool) (ws : List ℕ) → new.slots ≤ length s → IsGood w.memory
+    → AreMeant words s w.memory ws → Rep plan w.memory clean ty v ws → Ends final next s w v
 
 -- where it matches the run leaves by a hole of the clause, else it goes on behind the code
-pub record ClauseTried (plan : Plan) (ty : Ty) (words : List Read) (pats : List Pat) (pat : Pat) (number : ℕ) (old new : Sheet) (holes : List Hole) : Type 0 where
+pub record ClauseTried (plan : Plan) (ty : Ty) (words : List Read) (pats : List Pat) (pat : Pat) (number : ℕ)
+    (old new : Sheet) (holes : List Hole) : Type 0 where
   pub adds : Adds plan old new
-  pub matched : OnValues plan ty words old new holes (λ final next s w v. matches_of pat v ≡ true → Leaves final next holes old.slots (round_of plan ty pats) (length old.code) s w number (λ s' m. Unit {0}))
-  pub other : OnValues plan ty words old new holes (λ final next s w v. matches_of pat v ≡ false → GoesOn next old.slots (round_of plan ty pats) (length old.code) (length new.code) s w)
+  pub matched : OnValues plan ty words old new holes (λ final next s w v. matches_of pat v ≡ true
+      → Leaves final next holes old.slots (round_of plan ty pats) (length old.code) s w number (λ s' m. Unit {0}))
+  pub other : OnValues plan ty words old new holes (λ final next s w v. matches_of pat v ≡ false
+      → GoesOn next old.slots (round_of plan ty pats) (length old.code) (length new.code) s w)
 
 pub record IsFineFor (agreed : LaidOut) (plan : Plan) (ty : Ty) (words : List Read) (old : Sheet) : Type 0 where
   pub of : IsPlanOf agreed plan
@@ -68,18 +77,24 @@ pub record HolesStand (old new : Sheet) (count : ℕ) (holes : List Hole) : Type
   pub holes_are : AreHoles (length old.code) count new.code holes
   pub ways : AreOfOneWay holes
 
-pub record TriesClause (agreed : LaidOut) (ty : Ty) (words : List Read) (pat : Pat) (number : ℕ) (old new : Sheet) (holes : List Hole) : Type 0 where
+pub record TriesClause (agreed : LaidOut) (ty : Ty) (words : List Read) (pat : Pat) (number : ℕ) (old new : Sheet)
+    (holes : List Hole) : Type 0 where
   pub stand : HolesStand old new (number + 1) holes
-  pub tries : (plan : Plan) → IsFineFor agreed plan ty words old → (pats : List Pat) (k : ℕ) → slice_get pats k ≡ Some pat → ClauseTried plan ty words pats pat number old new holes
+  pub tries : (plan : Plan) → IsFineFor agreed plan ty words old → (pats : List Pat) (k : ℕ)
+      → slice_get pats k ≡ Some pat → ClauseTried plan ty words pats pat number old new holes
 
 -- the first so many clauses are tried
-pub record AllTried (plan : Plan) (ty : Ty) (words : List Read) (pats : List Pat) (count : ℕ) (old new : Sheet) (holes : List Hole) : Type 0 where
+pub record AllTried (plan : Plan) (ty : Ty) (words : List Read) (pats : List Pat) (count : ℕ) (old new : Sheet)
+    (holes : List Hole) : Type 0 where
   pub adds : Adds plan old new
-  pub chosen : OnValues plan ty words old new holes (λ final next s w v. (k : ℕ) → chosen_clause pats v ≡ Some k → k < count
+  pub chosen : OnValues plan ty words old new holes (λ final next s w v. (k : ℕ) → chosen_clause pats v ≡ Some k
+      → k < count
       → Leaves final next holes old.slots (count * round_of plan ty pats) (length old.code) s w k (λ s' m. Unit {0}))
-  pub later : OnValues plan ty words old new holes (λ final next s w v. (k : ℕ) → chosen_clause pats v ≡ Some k → count ≤ k
+  pub later : OnValues plan ty words old new holes (λ final next s w v. (k : ℕ) → chosen_clause pats v ≡ Some k
+      → count ≤ k
       → GoesOn next old.slots (count * round_of plan ty pats) (length old.code) (length new.code) s w)
 
-pub record TriesAll (agreed : LaidOut) (ty : Ty) (words : List Read) (pats : List Pat) (count : ℕ) (old new : Sheet) (holes : List Hole) : Type 0 where
+pub record TriesAll (agreed : LaidOut) (ty : Ty) (words : List Read) (pats : List Pat) (count : ℕ) (old new : Sheet)
+    (holes : List Hole) : Type 0 where
   pub stand : HolesStand old new count holes
   pub tries : (plan : Plan) → IsFineFor agreed plan ty words old → AllTried plan ty words pats count old new holes

@@ -37,7 +37,8 @@ use Rattle.rb_match.specs.inner.Asking.{AreSpots, holes_of, StandOpen}
 abbrev pub landing_of : ℕ → List Edge → List Hole
 landing_of node [] = []
 landing_of node (e ∷ es) =
-    if e.hole.leaf == node then record { pc = e.hole.pc; arm = e.hole.arm; leaf = 0 } ∷ landing_of node es else landing_of node es
+    if e.hole.leaf == node then record { pc = e.hole.pc; arm = e.hole.arm; leaf = 0 } ∷ landing_of node es
+    else landing_of node es
 
 abbrev pub others_of : ℕ → List Edge → List Edge
 others_of node [] = []
@@ -58,7 +59,8 @@ path_of p = p.path
 abbrev pub looks : Plan → List Place → ℕ
 looks plan path = looks_with (choosing_look plan.layouts) path
 
--- what is asked of the code, and where it begins; the slots below the base are kept, and parts are saved in spots above it
+-- what is asked of the code, and where it begins; the slots below the base are kept, and parts are saved in
+-- spots above it
 pub record Job : Type 0 where
   pub base : ℕ
   pub spots : List Spot
@@ -76,13 +78,15 @@ AllLookedAt job path = (p : Place) → IsPlaceIn p path → IsLookedAt job.plan.
 -- a value that came from the root to a node, at which these places were looked at on the way
 pub record IsOn (job : Job) (v : Value) (n : ℕ) (path : List Place) : Type 0 where
   pub same : (k : ℕ) → taken (tree_at job.nodes job.root) v ≡ Some k → taken (tree_at job.nodes n) v ≡ Some k
-  pub onward : (tail : Way) → HasWay (ways (tree_at job.nodes n)) tail → HasWay (ways (tree_at job.nodes job.root)) (map path_of path ++ tail)
+  pub onward : (tail : Way) → HasWay (ways (tree_at job.nodes n)) tail
+      → HasWay (ways (tree_at job.nodes job.root)) (map path_of path ++ tail)
   pub looked : AllLookedAt job path
 
 -- Runs ------------------------------------------------------------------------------------------
 
 -- the run goes out by an edge, whatever its target
-pub record Arrives (job : Job) (final : List Instr) (next : Next) (edges : List Edge) (s : List ℕ) (w : World) (clean : Bool) (v : Value) : Type 0 where
+pub record Arrives (job : Job) (final : List Instr) (next : Next) (edges : List Edge) (s : List ℕ) (w : World)
+    (clean : Bool) (v : Value) : Type 0 where
   pub edge : Edge
   pub is_edge : IsEdge edge edges
   pub target : ℕ
@@ -97,7 +101,8 @@ pub record Arrives (job : Job) (final : List Instr) (next : Next) (edges : List 
   pub on : IsOn job v edge.hole.leaf path
 
 -- the run comes to an instruction at which the code of a node begins
-pub record Lands (job : Job) (next : Next) (here : ℕ) (known : List Known) (n : ℕ) (s : List ℕ) (w : World) (clean : Bool) (v : Value) : Type 0 where
+pub record Lands (job : Job) (next : Next) (here : ℕ) (known : List Known) (n : ℕ) (s : List ℕ) (w : World)
+    (clean : Bool) (v : Value) : Type 0 where
   pub slots : List ℕ
   pub world : World
   pub runs : next (length job.first.code) s w ≡ next here slots world
@@ -122,8 +127,10 @@ Run = List Instr → Next → List ℕ → World → Bool → Value → Type 0
 -- whatever the open targets are, runs over given values do this
 abbrev pub Runs : Job → Sheet → List Edge → Run → Type 0
 Runs job new edges Does =
-    (final : List Instr) (callee : Callee) (next : Next) → Law final callee next → Finishes final new.code (holes_of edges) (length job.first.code) (length new.code)
-    → (s : List ℕ) (w : World) (clean : Bool) (v : Value) → new.slots ≤ length s → IsGiven job s w.memory clean v → Does final next s w clean v
+    (final : List Instr) (callee : Callee) (next : Next) → Law final callee next
+    → Finishes final new.code (holes_of edges) (length job.first.code) (length new.code)
+    → (s : List ℕ) (w : World) (clean : Bool) (v : Value) → new.slots ≤ length s → IsGiven job s w.memory clean v
+    → Does final next s w clean v
 
 pub record Flows (job : Job) (new : Sheet) (edges : List Edge) : Type 0 where
   pub adds : Adds job.plan job.first new
@@ -131,7 +138,8 @@ pub record Flows (job : Job) (new : Sheet) (edges : List Edge) : Type 0 where
 
 pub record FlowsHere (job : Job) (new : Sheet) (edges : List Edge) (known : List Known) (n : ℕ) : Type 0 where
   pub adds : Adds job.plan job.first new
-  pub arrives : Runs job new edges (λ final next s w clean v. Arrives job final next edges s w clean v ⊎ Lands job next (length new.code) known n s w clean v)
+  pub arrives : Runs job new edges (λ final next s w clean v. Arrives job final next edges s w clean v
+      ⊎ Lands job next (length new.code) known n s w clean v)
 
 pub record IsFineJob (agreed : LaidOut) (job : Job) : Type 0 where
   pub of : IsPlanOf agreed job.plan
@@ -144,21 +152,37 @@ pub record IsFineJob (agreed : LaidOut) (job : Job) : Type 0 where
 
 -- the job that is done for a graph from some code on
 abbrev pub job_of : Plan → ℕ → List Spot → Ty → List Read → List Pat → List GraphNode → ℕ → Sheet → Job
-job_of plan base spots ty words pats nodes root first = record { base = base; spots = spots; plan = plan; ty = ty; words = words; pats = pats; nodes = nodes; root = root; first = first }
+job_of plan base spots ty words pats nodes root first = record {
+  base = base;
+  spots = spots;
+  plan = plan;
+  ty = ty;
+  words = words;
+  pats = pats;
+  nodes = nodes;
+  root = root;
+  first = first;
+}
 
 -- what stands in any case
 pub record Stands (first new : Sheet) (edges : List Edge) : Type 0 where
   pub grows : Grows first.code new.code
   pub stand : StandOpen first new edges
 
-pub record StepsNode (agreed : LaidOut) (ty : Ty) (words : List Read) (pats : List Pat) (spots : List Spot) (nodes : List GraphNode) (node : GraphNode) (n : ℕ) (old : Sheet) (edges : List Edge) (new : Sheet) (more : List Edge) : Type 0 where
+pub record StepsNode (agreed : LaidOut) (ty : Ty) (words : List Read) (pats : List Pat) (spots : List Spot)
+    (nodes : List GraphNode) (node : GraphNode) (n : ℕ) (old : Sheet) (edges : List Edge) (new : Sheet)
+    (more : List Edge) : Type 0 where
   pub stands : (first : Sheet) → Stands first old edges → Stands first new more
-  pub flows : (plan : Plan) (base : ℕ) (root : ℕ) (first : Sheet) → let job = job_of plan base spots ty words pats nodes root first in
-      IsFineJob agreed job → slice_get nodes n ≡ Some node → Stands first old edges → Flows job old edges → Flows job new more
+  pub flows : (plan : Plan) (base : ℕ) (root : ℕ) (first : Sheet)
+      → let job = job_of plan base spots ty words pats nodes root first in
+      IsFineJob agreed job → slice_get nodes n ≡ Some node → Stands first old edges → Flows job old edges
+      → Flows job new more
 
-pub record Begins (agreed : LaidOut) (ty : Ty) (words : List Read) (pats : List Pat) (spots : List Spot) (nodes : List GraphNode) (root : ℕ) (old new : Sheet) (edges : List Edge) : Type 0 where
+pub record Begins (agreed : LaidOut) (ty : Ty) (words : List Read) (pats : List Pat) (spots : List Spot)
+    (nodes : List GraphNode) (root : ℕ) (old new : Sheet) (edges : List Edge) : Type 0 where
   pub stands : Stands old new edges
-  pub flows : (plan : Plan) (base : ℕ) → let job = job_of plan base spots ty words pats nodes root old in IsFineJob agreed job → Flows job new edges
+  pub flows : (plan : Plan) (base : ℕ)
+      → let job = job_of plan base spots ty words pats nodes root old in IsFineJob agreed job → Flows job new edges
 
 -- Clauses ---------------------------------------------------------------------------------------
 
@@ -171,10 +195,12 @@ pub record IsClauseHole (nodes : List GraphNode) (count : ℕ) (old new : Hole) 
 -- the holes are the edges, each with its clause
 pub record AreClauseHoles (nodes : List GraphNode) (count : ℕ) (edges : List Edge) (holes : List Hole) : Type 0 where
   pub long : length holes ≡ length edges
-  pub each : (k : ℕ) (e : Edge) (h : Hole) → slice_get edges k ≡ Some e → slice_get holes k ≡ Some h → IsClauseHole nodes count e.hole h
+  pub each : (k : ℕ) (e : Edge) (h : Hole) → slice_get edges k ≡ Some e → slice_get holes k ≡ Some h
+      → IsClauseHole nodes count e.hole h
 
 -- the run leaves by a hole of the clause, after looks at places on one way through the graph
-pub record LeavesOn (job : Job) (final : List Instr) (next : Next) (holes : List Hole) (s : List ℕ) (w : World) (k : ℕ) : Type 0 where
+pub record LeavesOn (job : Job) (final : List Instr) (next : Next) (holes : List Hole) (s : List ℕ) (w : World)
+    (k : ℕ) : Type 0 where
   pub path : List Place
   pub is_way : HasWay (ways (tree_at job.nodes job.root)) (map path_of path)
   pub looked : AllLookedAt job path
@@ -182,9 +208,13 @@ pub record LeavesOn (job : Job) (final : List Instr) (next : Next) (holes : List
 
 pub record Takes (job : Job) (new : Sheet) (holes : List Hole) : Type 0 where
   pub adds : Adds job.plan job.first new
-  pub leaves : (final : List Instr) (callee : Callee) (next : Next) → Law final callee next → Finishes final new.code holes (length job.first.code) (length new.code)
-      → (s : List ℕ) (w : World) (clean : Bool) (v : Value) → new.slots ≤ length s → (g : IsGiven job s w.memory clean v) → LeavesOn job final next holes s w g.clause
+  pub leaves : (final : List Instr) (callee : Callee) (next : Next) → Law final callee next
+      → Finishes final new.code holes (length job.first.code) (length new.code)
+      → (s : List ℕ) (w : World) (clean : Bool) (v : Value) → new.slots ≤ length s
+      → (g : IsGiven job s w.memory clean v) → LeavesOn job final next holes s w g.clause
 
-abbrev pub TakesGraph : LaidOut → Ty → List Read → List Pat → List Spot → List GraphNode → ℕ → Sheet → Sheet → List Hole → Type 0
+abbrev pub TakesGraph : LaidOut → Ty → List Read → List Pat → List Spot → List GraphNode → ℕ → Sheet → Sheet → List Hole
+    → Type 0
 TakesGraph agreed ty words pats spots nodes root old new holes =
-    (plan : Plan) (base : ℕ) → let job = job_of plan base spots ty words pats nodes root old in IsFineJob agreed job → Takes job new holes
+    (plan : Plan) (base : ℕ)
+    → let job = job_of plan base spots ty words pats nodes root old in IsFineJob agreed job → Takes job new holes

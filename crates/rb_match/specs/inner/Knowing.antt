@@ -32,12 +32,14 @@ SpotsBelow n spots = (k : ℕ) (spot : Spot) → slice_get spots k ≡ Some spot
 -- the part of the value at the position has this leaf
 abbrev pub IsLeafAt : Plan → Value → List ℕ → ℕ → ℕ → Type 0
 IsLeafAt plan v position ty leaf =
-    (part : Value) × (layout : Layout) × (part_at v position ≡ Some part) × (layout_of plan.layouts ty ≡ Some layout) × (leaf_of layout part ≡ Some leaf)
+    (part : Value) × (layout : Layout) × (part_at v position ≡ Some part) × (layout_of plan.layouts ty ≡ Some layout)
+    × (leaf_of layout part ≡ Some leaf)
 
 -- the spot's slots hold words that represent the part of the value at its position
 abbrev pub HoldsPart : View → Spot → Type 0
 HoldsPart at spot =
-    (part : Value) × (part_at at.value spot.position ≡ Some part) × Rep at.plan at.memory at.clean spot.ty part (slots_at at.slots spot.slots)
+    (part : Value) × (part_at at.value spot.position ≡ Some part)
+    × Rep at.plan at.memory at.clean spot.ty part (slots_at at.slots spot.slots)
 
 abbrev pub IsSaved : View → ℕ → Type 0
 IsSaved at k = (spot : Spot) × (slice_get at.spots k ≡ Some spot) × HoldsPart at spot
@@ -79,4 +81,5 @@ IsEdge e es = (k : ℕ) × (slice_get es k ≡ Some e)
 
 -- what holds behind each edge to a node
 abbrev pub IsCommon : List Edge → ℕ → Option (List Known) → Type 0
-IsCommon edges node r = (at : View) (e : Edge) → IsEdge e edges → e.hole.leaf ≡ node → AreKnown at e.known → AreFound at r
+IsCommon edges node r =
+    (at : View) (e : Edge) → IsEdge e edges → e.hole.leaf ≡ node → AreKnown at e.known → AreFound at r

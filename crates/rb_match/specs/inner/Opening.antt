@@ -48,7 +48,8 @@ pending i (h ∷ hs) = if nat_le i h.leaf then h ∷ pending i hs else pending i
 abbrev pub CanOpen : List Instr → List Hole → ℕ → Type 0
 CanOpen code holes i = (h : Hole) → IsIn h (pending i holes) → IsHole code h
 
--- Behind code that finds a leaf, which ends at a number, stand the ways of the leaves below i; the holes of the others are open.
+-- Behind code that finds a leaf, which ends at a number, stand the ways of the leaves below i; the holes of
+-- the others are open.
 pub record WaysStand (mid : Sheet) (top : ℕ) (holes : List Hole) (i : ℕ) (b : Sheet) (edges : List Edge) : Type 0 where
   pub grows : Grows mid.code b.code
   pub high : top ≤ length b.code
@@ -60,7 +61,8 @@ pub record WaysStand (mid : Sheet) (top : ℕ) (holes : List Hole) (i : ℕ) (b 
 
 -- what is known leads from a node on to another; where there is no graph, to that node itself
 abbrev pub LeadsFrom : LaidOut → Whole → List Known → ℕ → ℕ → Type 0
-LeadsFrom agreed graph known node m = LeadsOn agreed graph.ty graph.pats.now graph.nodes.now known node m × (graph.nodes.now ≡ [] → m ≡ node)
+LeadsFrom agreed graph known node m =
+    LeadsOn agreed graph.ty graph.pats.now graph.nodes.now known node m × (graph.nodes.now ≡ [] → m ≡ node)
 
 -- the values of a leaf go where the node leads; if they go to none, nowhere
 abbrev pub GoOn : (ℕ → ℕ → Type 0) → Option ℕ → Option Onward → Type 0
@@ -75,14 +77,18 @@ ShowOnward agreed known None = Unit {0}
 ShowOnward agreed known (Some found) = AllFollow agreed known found.known
 
 -- where the values of a leaf go behind a test
-pub record LeadsLeaf (agreed : LaidOut) (graph : Whole) (t : ℕ) (known : List Known) (position : Bor (List ℕ)) (arms : List GraphArm) (other : Option ℕ) (leaf : ℕ) (found : Option Onward) : Type 0 where
+pub record LeadsLeaf (agreed : LaidOut) (graph : Whole) (t : ℕ) (known : List Known) (position : Bor (List ℕ))
+    (arms : List GraphArm) (other : Option ℕ) (leaf : ℕ) (found : Option Onward) : Type 0 where
   pub con : ℕ
   pub is_con : leaf_con agreed t leaf ≡ Some con
-  pub goes : GoOn (LeadsFrom agreed graph (known ++ K.Leaf position t leaf ∷ [])) (take_link arms other (V.Con con [])) found
+  pub goes : GoOn (LeadsFrom agreed graph (known ++ K.Leaf position t leaf ∷ []))
+      (take_link arms other (V.Con con [])) found
   pub shows : ShowOnward agreed (known ++ K.Leaf position t leaf ∷ []) found
 
-abbrev pub LeadLeaves : LaidOut → Whole → ℕ → List Known → Bor (List ℕ) → List GraphArm → Option ℕ → List (Option Onward) → Type 0
-LeadLeaves agreed graph t known position arms other = AreGroups (LeadsLeaf agreed graph t known position arms other) (leaf_count agreed t)
+abbrev pub LeadLeaves : LaidOut → Whole → ℕ → List Known → Bor (List ℕ) → List GraphArm → Option ℕ
+    → List (Option Onward) → Type 0
+LeadLeaves agreed graph t known position arms other =
+    AreGroups (LeadsLeaf agreed graph t known position arms other) (leaf_count agreed t)
 
 -- a leaf of which fields are saved is a group by itself, and all others that lead on to a node are one
 abbrev pub group_onward : ℕ → ℕ → Option Onward → Option ℕ
@@ -90,7 +96,8 @@ group_onward count leaf None = None
 group_onward count leaf (Some found) = group_for count found.saves leaf (Some found.node)
 
 abbrev pub HasGroupOnward : List (Option Onward) → ℕ → Option ℕ → Type 0
-HasGroupOnward onward leaf group = (found : Option Onward) × (slice_get onward leaf ≡ Some found) × (group ≡ group_onward (length onward) leaf found)
+HasGroupOnward onward leaf group =
+    (found : Option Onward) × (slice_get onward leaf ≡ Some found) × (group ≡ group_onward (length onward) leaf found)
 
 -- the edges of such groups, whose numbers are from a count on
 abbrev pub shared_edge : List GraphNode → ℕ → List Known → Hole → Edge
@@ -102,23 +109,33 @@ shared_edges nodes count known holes = map (shared_edge nodes count known) (pend
 -- facts that are so, or were before slots were written, lead from a node on
 abbrev pub IsOnward : LaidOut → Whole → ℕ → View → ℕ → Type 0
 IsOnward agreed graph node view k =
-    (told : List Known) × (s : List ℕ) × AreKnown (seen view.plan view.clean view.value view.spots s view.memory) told × LeadsFrom agreed graph told node k
+    (told : List Known) × (s : List ℕ) × AreKnown (seen view.plan view.clean view.value view.spots s view.memory) told
+    × LeadsFrom agreed graph told node k
 
 -- Ways ------------------------------------------------------------------------------------------
 
 -- what a run does on a part of a leaf that goes on at a node
-abbrev pub OnLeaves : Plan → ℕ → List ℕ → List Spot → List Known → List ℕ → List GraphArm → Option ℕ → Sheet → Sheet → List Hole → (List Instr → Next → List ℕ → World → Bool → Value → ℕ → ℕ → Type 0) → Type 0
+abbrev pub OnLeaves : Plan → ℕ → List ℕ → List Spot → List Known → List ℕ → List GraphArm → Option ℕ → Sheet → Sheet
+    → List Hole → (List Instr → Next → List ℕ → World → Bool → Value → ℕ → ℕ → Type 0) → Type 0
 OnLeaves plan t words spots known position arms other mid b holes Does =
-    (final : List Instr) (callee : Callee) (next : Next) → Law final callee next → Finishes final b.code holes (length mid.code) (length b.code)
-    → (s : List ℕ) (w : World) (clean : Bool) (v part : Value) (layout : Layout) (leaf node : ℕ) → b.slots ≤ length s → IsThereWith plan clean t v part words spots known s w.memory
-    → part_at v position ≡ Some part → layout_of plan.layouts t ≡ Some layout → leaf_of layout part ≡ Some leaf → take_link arms other (out-Value part) ≡ Some node → Does final next s w clean v leaf node
+    (final : List Instr) (callee : Callee) (next : Next) → Law final callee next
+    → Finishes final b.code holes (length mid.code) (length b.code)
+    → (s : List ℕ) (w : World) (clean : Bool) (v part : Value) (layout : Layout) (leaf node : ℕ) → b.slots ≤ length s
+    → IsThereWith plan clean t v part words spots known s w.memory
+    → part_at v position ≡ Some part → layout_of plan.layouts t ≡ Some layout → leaf_of layout part ≡ Some leaf
+    → take_link arms other (out-Value part) ≡ Some node → Does final next s w clean v leaf node
 
 -- A run on a part leaves by an edge where the group of its leaf is below i, and else by a hole of the group.
-pub record WaysLead (To : ℕ → View → ℕ → Type 0) (plan : Plan) (n t : ℕ) (words : List ℕ) (spots : List Spot) (known : List Known) (position : List ℕ) (arms : List GraphArm) (other : Option ℕ) (groups : List (Option ℕ)) (mid : Sheet) (holes : List Hole) (i : ℕ) (b : Sheet) (edges : List Edge) : Type 0 where
+pub record WaysLead (To : ℕ → View → ℕ → Type 0) (plan : Plan) (n t : ℕ) (words : List ℕ) (spots : List Spot)
+    (known : List Known) (position : List ℕ) (arms : List GraphArm) (other : Option ℕ) (groups : List (Option ℕ))
+    (mid : Sheet) (holes : List Hole) (i : ℕ) (b : Sheet) (edges : List Edge) : Type 0 where
   pub adds : Adds plan mid b
-  pub leaves : OnLeaves plan t words spots known position arms other mid b (pending i holes ++ holes_of edges) (λ final next s w clean v leaf node. (group : ℕ) → group_at groups leaf ≡ Some group
-      → (group < i → LeavesWhere (To node) plan final next edges n (choosing_look plan.layouts (Named t)) (length mid.code) s w clean v spots)
-      × (i ≤ group → Leaves final next holes mid.slots (depth_of plan.layouts (Named t)) (length mid.code) s w group (λ s' m. Unit {0})))
+  pub leaves : OnLeaves plan t words spots known position arms other mid b (pending i holes ++ holes_of edges)
+      (λ final next s w clean v leaf node. (group : ℕ) → group_at groups leaf ≡ Some group
+      → (group < i → LeavesWhere (To node) plan final next edges n (choosing_look plan.layouts (Named t))
+      (length mid.code) s w clean v spots)
+      × (i ≤ group → Leaves final next holes mid.slots (depth_of plan.layouts (Named t)) (length mid.code) s w group
+      (λ s' m. Unit {0})))
 
 -- only leaf i has the group i, and has fields to save
 abbrev pub IsAlone : List (Option ℕ) → ℕ → Option Onward → Type 0
@@ -126,51 +143,72 @@ IsAlone groups i None = (leaf : ℕ) → group_at groups leaf ≡ Some i → ⊥
 IsAlone groups i (Some found) = (leaf : ℕ) → group_at groups leaf ≡ Some i → (leaf ≡ i) × (found.saves ≡ true)
 
 -- one more way
-pub record StepsWay (agreed : LaidOut) (t : ℕ) (words : List ℕ) (spots : List Spot) (position : Bor (List ℕ)) (holes : List Hole) (i : ℕ) (found : Option Onward) (old : Sheet) (edges : List Edge) (new : Sheet) (more : List Edge) : Type 0 where
+pub record StepsWay (agreed : LaidOut) (t : ℕ) (words : List ℕ) (spots : List Spot) (position : Bor (List ℕ))
+    (holes : List Hole) (i : ℕ) (found : Option Onward) (old : Sheet) (edges : List Edge) (new : Sheet)
+    (more : List Edge) : Type 0 where
   pub stands : (mid : Sheet) (top : ℕ) → WaysStand mid top holes i old edges → WaysStand mid top holes (i + 1) new more
-  pub leads : (known : List Known) (graph : Whole) (arms : List GraphArm) (other : Option ℕ) (groups : List (Option ℕ)) (plan : Plan) (n : ℕ) (mid : Sheet) (top : ℕ) → LeadsLeaf agreed graph t known position arms other i found → IsAlone groups i found
-      → IsPlanOf agreed plan → AreSpots plan n mid.slots spots → AllBelow mid.slots words → length words ≡ words_of plan (Named t) → AreOfOneWay holes → WaysStand mid top holes i old edges
-      → WaysLead (IsOnward agreed graph) plan n t words spots known position.now arms other groups mid holes i old edges → WaysLead (IsOnward agreed graph) plan n t words spots known position.now arms other groups mid holes (i + 1) new more
+  pub leads : (known : List Known) (graph : Whole) (arms : List GraphArm) (other : Option ℕ)
+      (groups : List (Option ℕ)) (plan : Plan) (n : ℕ) (mid : Sheet) (top : ℕ)
+      → LeadsLeaf agreed graph t known position arms other i found → IsAlone groups i found
+      → IsPlanOf agreed plan → AreSpots plan n mid.slots spots → AllBelow mid.slots words
+      → length words ≡ words_of plan (Named t) → AreOfOneWay holes → WaysStand mid top holes i old edges
+      → WaysLead (IsOnward agreed graph) plan n t words spots known position.now arms other groups mid holes i old edges
+      → WaysLead (IsOnward agreed graph) plan n t words spots known position.now arms other groups mid holes (i + 1)
+      new more
 
 -- the ways of the groups below i
-abbrev pub LeadsAll : LaidOut → Whole → ℕ → List ℕ → List Spot → List Known → Bor (List ℕ) → List GraphArm → Option ℕ → List (Option Onward) → List (Option ℕ) → ℕ → Sheet → List Hole → Sheet → List Edge → Type 0
+abbrev pub LeadsAll : LaidOut → Whole → ℕ → List ℕ → List Spot → List Known → Bor (List ℕ) → List GraphArm → Option ℕ
+    → List (Option Onward) → List (Option ℕ) → ℕ → Sheet → List Hole → Sheet → List Edge → Type 0
 LeadsAll agreed graph t words spots known position arms other onward groups i old holes new edges =
-    (plan : Plan) (n : ℕ) → LeadLeaves agreed graph t known position arms other onward → IsPlanOf agreed plan → AreSpots plan n old.slots spots → AllBelow old.slots words → length words ≡ words_of plan (Named t)
+    (plan : Plan) (n : ℕ) → LeadLeaves agreed graph t known position arms other onward → IsPlanOf agreed plan
+    → AreSpots plan n old.slots spots → AllBelow old.slots words → length words ≡ words_of plan (Named t)
     → WaysLead (IsOnward agreed graph) plan n t words spots known position.now arms other groups old holes i new edges
 
 -- and those groups are the leaves'
-abbrev pub LeadsSome : LaidOut → ℕ → List ℕ → List Spot → List Known → Bor (List ℕ) → List (Option Onward) → ℕ → Sheet → List Hole → Sheet → List Edge → Type 0
+abbrev pub LeadsSome : LaidOut → ℕ → List ℕ → List Spot → List Known → Bor (List ℕ) → List (Option Onward) → ℕ → Sheet
+    → List Hole → Sheet → List Edge → Type 0
 LeadsSome agreed t words spots known position onward i old holes new edges =
     (groups : List (Option ℕ)) × AreGroups (HasGroupOnward onward) (length onward) groups
-    × ((graph : Whole) (arms : List GraphArm) (other : Option ℕ) → LeadsAll agreed graph t words spots known position arms other onward groups i old holes new edges)
+    × ((graph : Whole) (arms : List GraphArm) (other : Option ℕ)
+    → LeadsAll agreed graph t words spots known position arms other onward groups i old holes new edges)
 
 -- the ways stand behind code that finds the leaf
 abbrev pub StandBehind : Sheet → List Hole → ℕ → Sheet → List Edge → Type 0
 StandBehind mid holes i b edges = (top : ℕ) × (length mid.code ≤ top) × WaysStand mid top holes i b edges
 
 -- a run on a part leaves by an edge
-pub record PartLeads (To : ℕ → View → ℕ → Type 0) (plan : Plan) (n t : ℕ) (words : List ℕ) (spots : List Spot) (known : List Known) (position : List ℕ) (arms : List GraphArm) (other : Option ℕ) (old new : Sheet) (edges : List Edge) : Type 0 where
+pub record PartLeads (To : ℕ → View → ℕ → Type 0) (plan : Plan) (n t : ℕ) (words : List ℕ) (spots : List Spot)
+    (known : List Known) (position : List ℕ) (arms : List GraphArm) (other : Option ℕ) (old new : Sheet)
+    (edges : List Edge) : Type 0 where
   pub adds : Adds plan old new
   pub leaves : OnLeaves plan t words spots known position arms other old new (holes_of edges)
-      (λ final next s w clean v leaf node. LeavesWhere (To node) plan final next edges n (choosing_look plan.layouts (Named t)) (length old.code) s w clean v spots)
+      (λ final next s w clean v leaf node. LeavesWhere (To node) plan final next edges n
+      (choosing_look plan.layouts (Named t)) (length old.code) s w clean v spots)
 
 -- the ways of all leaves of a part behind code that finds its leaf
-abbrev pub LeadsWays : LaidOut → ℕ → List ℕ → List Spot → List Known → Bor (List ℕ) → List (Option Onward) → Sheet → Sheet → List Edge → Type 0
+abbrev pub LeadsWays : LaidOut → ℕ → List ℕ → List Spot → List Known → Bor (List ℕ) → List (Option Onward) → Sheet
+    → Sheet → List Edge → Type 0
 LeadsWays agreed t words spots known position onward old new edges =
-    (graph : Whole) (arms : List GraphArm) (other : Option ℕ) (plan : Plan) (n : ℕ) → LeadLeaves agreed graph t known position arms other onward
-    → IsPlanOf agreed plan → AreSpots plan n old.slots spots → AllBelow old.slots words → length words ≡ words_of plan (Named t)
+    (graph : Whole) (arms : List GraphArm) (other : Option ℕ) (plan : Plan) (n : ℕ)
+    → LeadLeaves agreed graph t known position arms other onward
+    → IsPlanOf agreed plan → AreSpots plan n old.slots spots → AllBelow old.slots words
+    → length words ≡ words_of plan (Named t)
     → PartLeads (IsOnward agreed graph) plan n t words spots known position.now arms other old new edges
 
 -- Tests -----------------------------------------------------------------------------------------
 
 -- over reads of the part that is tested, with its fields saved
-abbrev pub AsksDeep : LaidOut → Whole → ℕ → List Spot → List Read → List Known → List ℕ → List GraphArm → Option ℕ → Sheet → Sheet → List Edge → Type 0
+abbrev pub AsksDeep : LaidOut → Whole → ℕ → List Spot → List Read → List Known → List ℕ → List GraphArm → Option ℕ
+    → Sheet → Sheet → List Edge → Type 0
 AsksDeep agreed graph t spots reads known position arms other old new edges =
-    (plan : Plan) (n : ℕ) → IsPlanOf agreed plan → AreSpots plan n old.slots spots → AllFit old.slots reads → length reads ≡ words_of plan (Named t)
+    (plan : Plan) (n : ℕ) → IsPlanOf agreed plan → AreSpots plan n old.slots spots → AllFit old.slots reads
+    → length reads ≡ words_of plan (Named t)
     → AskedThere (IsOnward agreed graph) plan (Named t) n spots reads known position arms other old new edges
 
 -- over reads of the whole value, of which a graph tests a part
-abbrev pub Asks : LaidOut → Whole → List Read → List Spot → List Known → List ℕ → List GraphArm → Option ℕ → Sheet → Sheet → List Edge → Type 0
+abbrev pub Asks : LaidOut → Whole → List Read → List Spot → List Known → List ℕ → List GraphArm → Option ℕ → Sheet
+    → Sheet → List Edge → Type 0
 Asks agreed graph words spots known position arms other old new edges =
-    (plan : Plan) (n : ℕ) → IsPlanOf agreed plan → AreSpots plan n old.slots spots → AllFit old.slots words → length words ≡ words_of plan graph.ty
+    (plan : Plan) (n : ℕ) → IsPlanOf agreed plan → AreSpots plan n old.slots spots → AllFit old.slots words
+    → length words ≡ words_of plan graph.ty
     → Asked (IsOnward agreed graph) plan graph.ty n words graph.pats.now spots known position arms other old new edges

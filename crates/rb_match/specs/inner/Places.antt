@@ -27,16 +27,20 @@ IsFieldOf agreed t leaf path ty = (plan : Plan) → IsPlanOf agreed plan → Fie
 abbrev pub HaveWords : Plan → List Spot → Type 0
 HaveWords plan spots = (k : ℕ) (spot : Spot) → slice_get spots k ≡ Some spot → length spot.slots ≡ words_of plan spot.ty
 
--- Over reads of a value's words, and spots: where these facts are known of the value, the place is where its part at the position is.
-pub record ReadsPlace (plan : Plan) (ty : Ty) (words : List Read) (spots : List Spot) (known : List Known) (position : List ℕ) (place : Place) : Type 0 where
+-- Over reads of a value's words, and spots: where these facts are known of the value, the place is where its part at
+-- the position is.
+pub record ReadsPlace (plan : Plan) (ty : Ty) (words : List Read) (spots : List Spot) (known : List Known)
+    (position : List ℕ) (place : Place) : Type 0 where
   pub count : length place.reads ≡ words_of plan place.ty
   pub fit : (k : ℕ) → AllFit k words → SpotsBelow k spots → AllFit k place.reads
-  pub means : (clean : Bool) (v : Value) (ws s : List ℕ) (m : Memory) → IsGood m → AreMeant words s m ws → Rep plan m clean ty v ws → AreKnown (seen plan clean v spots s m) known
+  pub means : (clean : Bool) (v : Value) (ws s : List ℕ) (m : Memory) → IsGood m → AreMeant words s m ws
+      → Rep plan m clean ty v ws → AreKnown (seen plan clean v spots s m) known
       → IsPartMeant plan clean place.ty v position place.reads s m
 
 abbrev pub FindsPlace : LaidOut → Ty → List Read → List Spot → List Known → List ℕ → Place → Type 0
 FindsPlace agreed ty words spots known position place =
-    (plan : Plan) → IsPlanOf agreed plan → length words ≡ words_of plan ty → HaveWords plan spots → ReadsPlace plan ty words spots known position place
+    (plan : Plan) → IsPlanOf agreed plan → length words ≡ words_of plan ty → HaveWords plan spots
+    → ReadsPlace plan ty words spots known position place
 
 -- from a place at so many first fields of a position
 abbrev pub BeginsPlace : LaidOut → Ty → List Read → List Spot → List Known → List ℕ → Begun → Type 0
@@ -46,11 +50,13 @@ BeginsPlace agreed ty words spots known position begun =
 -- one field further
 abbrev pub StepsPlace : LaidOut → Place → List Known → List ℕ → ℕ → Place → Type 0
 StepsPlace agreed place known prefix field next =
-    (ty : Ty) (words : List Read) (spots : List Spot) → FindsPlace agreed ty words spots known prefix place → FindsPlace agreed ty words spots known (prefix ++ field ∷ []) next
+    (ty : Ty) (words : List Read) (spots : List Spot) → FindsPlace agreed ty words spots known prefix place
+    → FindsPlace agreed ty words spots known (prefix ++ field ∷ []) next
 
 -- the spot that a part is known to be saved in
 abbrev pub IsSpotOf : LaidOut → List Spot → List Known → List ℕ → Place → Type 0
-IsSpotOf agreed spots known position place = (ty : Ty) (words : List Read) → FindsPlace agreed ty words spots known position place
+IsSpotOf agreed spots known position place =
+    (ty : Ty) (words : List Read) → FindsPlace agreed ty words spots known position place
 
 -- the place is one of those
 abbrev pub IsPlaceIn : bounding.Place → List bounding.Place → Type 0
@@ -60,4 +66,5 @@ abbrev pub HasPlace : List DataDecl → Ty → Pat → List ℕ → Ty → Type 
 HasPlace types t pat position at = IsPlaceIn (record { path = position; ty = at }) (places_in types pat t)
 
 abbrev pub IsLookedAt : List DataDecl → Ty → List Pat → List ℕ → Ty → Type 0
-IsLookedAt types t pats position at = IsPlaceIn (record { path = position; ty = at }) (flat_map (λ pat. places_in types pat t) pats)
+IsLookedAt types t pats position at =
+    IsPlaceIn (record { path = position; ty = at }) (flat_map (λ pat. places_in types pat t) pats)

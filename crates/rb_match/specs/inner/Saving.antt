@@ -52,7 +52,8 @@ GivesSpots agreed old new spots = (plan : Plan) → IsPlanOf agreed plan → Giv
 
 -- the spot of a part of this type at the position
 abbrev pub IsSpotAt : List Spot → List ℕ → Ty → ℕ → Type 0
-IsSpotAt spots position ty k = (spot : Spot) × (slice_get spots k ≡ Some spot) × (spot.position ≡ position) × (spot.ty ≡ ty)
+IsSpotAt spots position ty k =
+    (spot : Spot) × (slice_get spots k ≡ Some spot) × (spot.position ≡ position) × (spot.ty ≡ ty)
 
 -- the position is that of a field of the part at the other
 abbrev pub is_field : List ℕ → List ℕ → Bool
@@ -60,7 +61,8 @@ is_field position above = (length position == length above + 1) && starts_with n
 
 -- one of some patterns is a constructor
 abbrev pub HasConstructor : List Pat → Type 0
-HasConstructor subs = (k : ℕ) × (token : ℕ) × (c : ConRef) × (ps : List Pat) × (slice_get subs k ≡ Some (Con token c ps))
+HasConstructor subs =
+    (k : ℕ) × (token : ℕ) × (c : ConRef) × (ps : List Pat) × (slice_get subs k ≡ Some (Con token c ps))
 
 -- Fields ----------------------------------------------------------------------------------------
 
@@ -105,31 +107,37 @@ HasBelow types t pat path at = (sub : Pat) × (found_at types (Some (pat, t)) pa
 -- at a path of the leaf's provenance
 abbrev pub IsPositionOf : LaidOut → ℕ → ℕ → List ℕ → Ty → Type 0
 IsPositionOf agreed t leaf path at =
-    (layout : Layout) × (found : Leaf) × (layout_of agreed.layouts t ≡ Some layout) × (slice_get layout.leaves leaf ≡ Some found)
+    (layout : Layout) × (found : Leaf) × (layout_of agreed.layouts t ≡ Some layout)
+    × (slice_get layout.leaves leaf ≡ Some found)
     × HasBelow agreed.covered.program.types (Named t) found.prov path at
 
 -- each value of the leaf has a part there
 abbrev pub HasPart : Plan → ℕ → ℕ → List ℕ → Type 0
 HasPart plan t leaf path =
-    (v : Value) (layout : Layout) → layout_of plan.layouts t ≡ Some layout → leaf_of layout v ≡ Some leaf → (part : Value) × (part_at v path ≡ Some part)
+    (v : Value) (layout : Layout) → layout_of plan.layouts t ≡ Some layout → leaf_of layout v ≡ Some leaf
+    → (part : Value) × (part_at v path ≡ Some part)
 
 -- the words in some slots represent a value of the type
 abbrev pub IsThere : Plan → Bool → ℕ → Value → List ℕ → List ℕ → Memory → Type 0
 IsThere plan clean t v words s m = IsGood m × Rep plan m clean (Named t) v (slots_at s words)
 
 -- The appended code leaves the words of a part of a leaf in slots, each of which is new or one of the value's.
-pub record PartIsFetched (plan : Plan) (t leaf : ℕ) (path : List ℕ) (at : Ty) (words : List ℕ) (old new : Sheet) (slots : List ℕ) : Type 0 where
+pub record PartIsFetched (plan : Plan) (t leaf : ℕ) (path : List ℕ) (at : Ty) (words : List ℕ) (old new : Sheet)
+    (slots : List ℕ) : Type 0 where
   pub has : HasPart plan t leaf path
   pub adds : Adds plan old new
   pub given : AllBelow new.slots slots
   pub count : length slots ≡ words_of plan at
   pub origin : (x : ℕ) → IsOneOf x slots → (old.slots ≤ x) ⊎ IsOneOf x words
-  pub runs : (clean : Bool) (v part : Value) (layout : Layout) → layout_of plan.layouts t ≡ Some layout → leaf_of layout v ≡ Some leaf → part_at v path ≡ Some part
-      → Piece plan old.slots old new Nowhere (mend_at plan.layouts t leaf path) (λ s m. IsThere plan clean t v words s m) (AtEnd new (λ s m. Rep plan m clean at part (slots_at s slots)))
+  pub runs : (clean : Bool) (v part : Value) (layout : Layout) → layout_of plan.layouts t ≡ Some layout
+      → leaf_of layout v ≡ Some leaf → part_at v path ≡ Some part
+      → Piece plan old.slots old new Nowhere (mend_at plan.layouts t leaf path)
+      (λ s m. IsThere plan clean t v words s m) (AtEnd new (λ s m. Rep plan m clean at part (slots_at s slots)))
 
 abbrev pub FetchesPart : LaidOut → ℕ → ℕ → List ℕ → Ty → List ℕ → Sheet → Sheet → List ℕ → Type 0
 FetchesPart agreed t leaf path at words old new slots =
-    (plan : Plan) → IsPlanOf agreed plan → AllBelow old.slots words → length words ≡ words_of plan (Named t) → PartIsFetched plan t leaf path at words old new slots
+    (plan : Plan) → IsPlanOf agreed plan → AllBelow old.slots words → length words ≡ words_of plan (Named t)
+    → PartIsFetched plan t leaf path at words old new slots
 
 -- Saving ----------------------------------------------------------------------------------------
 
@@ -142,24 +150,32 @@ pub record PartIsSaved (plan : Plan) (n t leaf : ℕ) (path words : List ℕ) (s
   pub has : HasPart plan t leaf path
   pub adds : Adds plan old new
   pub apart : AreApart spot.slots words
-  pub runs : (clean : Bool) (v part : Value) (layout : Layout) (s0 : List ℕ) → layout_of plan.layouts t ≡ Some layout → leaf_of layout v ≡ Some leaf → part_at v path ≡ Some part
-      → Piece plan n old new Nowhere (mend_at plan.layouts t leaf path) (λ s m. (s ≡ s0) × IsThere plan clean t v words s m)
+  pub runs : (clean : Bool) (v part : Value) (layout : Layout) (s0 : List ℕ) → layout_of plan.layouts t ≡ Some layout
+      → leaf_of layout v ≡ Some leaf → part_at v path ≡ Some part
+      → Piece plan n old new Nowhere (mend_at plan.layouts t leaf path)
+      (λ s m. (s ≡ s0) × IsThere plan clean t v words s m)
       (AtEnd new (λ s m. KeepsOthers old.slots spot.slots s0 s × Rep plan m clean spot.ty part (slots_at s spot.slots)))
 
 abbrev pub SavesPart : LaidOut → ℕ → ℕ → List ℕ → List ℕ → Spot → Sheet → Sheet → Type 0
 SavesPart agreed t leaf path words spot old new =
-    (plan : Plan) (n : ℕ) → IsPlanOf agreed plan → n ≤ old.slots → AllFrom n spot.slots → AllBelow old.slots spot.slots → IsDistinct spot.slots → length spot.slots ≡ words_of plan spot.ty
-    → AllBelow old.slots words → length words ≡ words_of plan (Named t) → PartIsSaved plan n t leaf path words spot old new
+    (plan : Plan) (n : ℕ) → IsPlanOf agreed plan → n ≤ old.slots → AllFrom n spot.slots → AllBelow old.slots spot.slots
+    → IsDistinct spot.slots → length spot.slots ≡ words_of plan spot.ty
+    → AllBelow old.slots words → length words ≡ words_of plan (Named t)
+    → PartIsSaved plan n t leaf path words spot old new
 
 -- the words of a part stand in slots, and these facts hold
 abbrev pub IsThereWith : Plan → Bool → ℕ → Value → Value → List ℕ → List Spot → List Known → List ℕ → Memory → Type 0
-IsThereWith plan clean t v part words spots known s m = IsThere plan clean t part words s m × AreKnown (seen plan clean v spots s m) known
+IsThereWith plan clean t v part words spots known s m =
+    IsThere plan clean t part words s m × AreKnown (seen plan clean v spots s m) known
 
 -- The appended code goes from some facts on a value to more, where the part at a position has this leaf.
-pub record Knows (plan : Plan) (n most t leaf : ℕ) (words : List ℕ) (spots : List Spot) (position : List ℕ) (known more : List Known) (old new : Sheet) : Type 0 where
+pub record Knows (plan : Plan) (n most t leaf : ℕ) (words : List ℕ) (spots : List Spot) (position : List ℕ)
+    (known more : List Known) (old new : Sheet) : Type 0 where
   pub adds : Adds plan old new
-  pub runs : (clean : Bool) (v part : Value) (layout : Layout) → layout_of plan.layouts t ≡ Some layout → leaf_of layout part ≡ Some leaf → part_at v position ≡ Some part
-      → Piece plan n old new Nowhere most (λ s m. IsThereWith plan clean t v part words spots known s m) (AtEnd new (λ s m. IsThereWith plan clean t v part words spots more s m))
+  pub runs : (clean : Bool) (v part : Value) (layout : Layout) → layout_of plan.layouts t ≡ Some layout
+      → leaf_of layout part ≡ Some leaf → part_at v position ≡ Some part
+      → Piece plan n old new Nowhere most (λ s m. IsThereWith plan clean t v part words spots known s m)
+      (AtEnd new (λ s m. IsThereWith plan clean t v part words spots more s m))
 
 -- what the fields of some patterns cost, the first of which is field i
 abbrev pub mends_from : List Layout → ℕ → ℕ → List Pat → ℕ → ℕ
@@ -167,14 +183,18 @@ mends_from layouts t leaf [] i = 0
 mends_from layouts t leaf (p ∷ ps) i = mend_at layouts t leaf (i ∷ []) + mends_from layouts t leaf ps (i + 1)
 
 -- at most so many switches in each plan
-abbrev pub Learns : LaidOut → (Plan → ℕ) → ℕ → ℕ → List ℕ → List Spot → List ℕ → List Known → List Known → Sheet → Sheet → Type 0
+abbrev pub Learns : LaidOut → (Plan → ℕ) → ℕ → ℕ → List ℕ → List Spot → List ℕ → List Known → List Known → Sheet → Sheet
+    → Type 0
 Learns agreed most t leaf words spots position known more old new =
-    (plan : Plan) (n : ℕ) → IsPlanOf agreed plan → AreSpots plan n old.slots spots → AllBelow old.slots words → length words ≡ words_of plan (Named t)
+    (plan : Plan) (n : ℕ) → IsPlanOf agreed plan → AreSpots plan n old.slots spots → AllBelow old.slots words
+    → length words ≡ words_of plan (Named t)
     → Knows plan n (most plan) t leaf words spots position known more old new
 
 -- of a part, as many as a leaf and a path in it say
 abbrev pub LearnsOf : LaidOut → (List Layout → ℕ → ℕ → ℕ) → Source → List Known → List Known → Sheet → Sheet → Type 0
-LearnsOf agreed most source = Learns agreed (λ plan. most plan.layouts source.ty source.leaf) source.ty source.leaf source.words.now source.spots.now source.position.now
+LearnsOf agreed most source =
+    Learns agreed (λ plan. most plan.layouts source.ty source.leaf) source.ty source.leaf source.words.now
+    source.spots.now source.position.now
 
 -- what stands at a path of the leaf
 abbrev pub SavesAt : LaidOut → Source → List ℕ → List Known → List Known → Sheet → Sheet → Type 0
@@ -188,5 +208,7 @@ SavesBelow agreed source path = LearnsOf agreed (λ layouts t leaf. mend_below l
 abbrev pub SavesSome : LaidOut → Source → List ℕ → ℕ → List Known → List Known → Sheet → Sheet → Type 0
 SavesSome agreed source path i = LearnsOf agreed (λ layouts t leaf. mends_at layouts t leaf path i) source
 
-abbrev pub SavesFields : LaidOut → ℕ → ℕ → List ℕ → List Spot → List ℕ → List Known → List Known → Sheet → Sheet → Type 0
-SavesFields agreed t leaf words spots position = Learns agreed (λ plan. rebuilding plan.layouts (Named t)) t leaf words spots position
+abbrev pub SavesFields : LaidOut → ℕ → ℕ → List ℕ → List Spot → List ℕ → List Known → List Known → Sheet → Sheet
+    → Type 0
+SavesFields agreed t leaf words spots position =
+    Learns agreed (λ plan. rebuilding plan.layouts (Named t)) t leaf words spots position

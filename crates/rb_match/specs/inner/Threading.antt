@@ -53,7 +53,8 @@ abbrev pub BeginsWith : Pat → ℕ → Type 0
 BeginsWith pat c = (v : Value) → matches_of pat v ≡ true → (us : List Value) × (out-Value v ≡ V.Con c us)
 
 -- what is known leads from a test at a place that some pattern looks at to this node
-pub record IsDecided (agreed : LaidOut) (ty : Ty) (pats : List Pat) (known : List Known) (position : List ℕ) (arms : List GraphArm) (other : Option ℕ) (node : ℕ) : Type 0 where
+pub record IsDecided (agreed : LaidOut) (ty : Ty) (pats : List Pat) (known : List Known) (position : List ℕ)
+    (arms : List GraphArm) (other : Option ℕ) (node : ℕ) : Type 0 where
   pub at : Ty
   pub looked : IsLookedAt agreed.covered.program.types ty pats position at
   pub takes : (view : View) → IsPlanOf agreed view.plan → AreKnown view known
@@ -99,12 +100,15 @@ AllFollow agreed known more = (at : View) → IsPlanOf agreed at.plan → AreKno
 -- each value at node n of which these facts are known is at node m as well, and the way there costs no less
 abbrev pub LeadsOn : LaidOut → Ty → List Pat → List GraphNode → List Known → ℕ → ℕ → Type 0
 LeadsOn agreed ty pats nodes known n m =
-    (plan : Plan) (base : ℕ) (spots : List Spot) (words : List Read) (root : ℕ) (first : Sheet) → let job = job_of plan base spots ty words pats nodes root first in
-    IsPlanOf agreed plan → LinksAreLower nodes → (clean : Bool) (v : Value) (s : List ℕ) (w : Memory) (clause : ℕ) (path : List Place)
+    (plan : Plan) (base : ℕ) (spots : List Spot) (words : List Read) (root : ℕ) (first : Sheet)
+    → let job = job_of plan base spots ty words pats nodes root first in
+    IsPlanOf agreed plan → LinksAreLower nodes
+    → (clean : Bool) (v : Value) (s : List ℕ) (w : Memory) (clause : ℕ) (path : List Place)
     → AreKnown (seen plan clean v spots s w) known → taken (tree_at nodes root) v ≡ Some clause → IsOn job v n path
     → (longer : List Place) × (looks plan path ≤ looks plan longer) × IsOn job v m longer
 
-pub record IsThreaded (agreed : LaidOut) (ty : Ty) (pats : List Pat) (nodes : List GraphNode) (old new : Edge) : Type 0 where
+pub record IsThreaded (agreed : LaidOut) (ty : Ty) (pats : List Pat) (nodes : List GraphNode)
+    (old new : Edge) : Type 0 where
   pub pc : new.hole.pc ≡ old.hole.pc
   pub arm : new.hole.arm ≡ old.hole.arm
   pub known : AllFollow agreed old.known new.known
@@ -115,7 +119,8 @@ abbrev pub AreThreaded : LaidOut → Ty → List Pat → List GraphNode → List
 AreThreaded agreed ty pats nodes [] [] = Unit {0}
 AreThreaded agreed ty pats nodes [] (f ∷ fs) = ⊥
 AreThreaded agreed ty pats nodes (e ∷ es) [] = ⊥
-AreThreaded agreed ty pats nodes (e ∷ es) (f ∷ fs) = IsThreaded agreed ty pats nodes e f × AreThreaded agreed ty pats nodes es fs
+AreThreaded agreed ty pats nodes (e ∷ es) (f ∷ fs) =
+    IsThreaded agreed ty pats nodes e f × AreThreaded agreed ty pats nodes es fs
 
 -- each edge is at a later instruction than those before it, the first from a number on
 abbrev pub Ascend : ℕ → List Edge → Type 0
@@ -123,6 +128,7 @@ Ascend from [] = Unit {0}
 Ascend from (e ∷ es) = (from ≤ e.hole.pc) × Ascend (e.hole.pc + 1) es
 
 -- edges that are open as they were, each to where it leads on
-pub record Threads (agreed : LaidOut) (ty : Ty) (pats : List Pat) (nodes : List GraphNode) (old new : List Edge) : Type 0 where
+pub record Threads (agreed : LaidOut) (ty : Ty) (pats : List Pat) (nodes : List GraphNode)
+    (old new : List Edge) : Type 0 where
   pub threaded : AreThreaded agreed ty pats nodes old new
   pub stand : (before after : Sheet) → StandOpen before after old → StandOpen before after new

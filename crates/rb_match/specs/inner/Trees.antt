@@ -26,23 +26,29 @@ use Rattle.rb_match.specs.inner.Places.{IsLookedAt, IsPlaceIn}
 use Rattle.rb_match.specs.inner.Flowing.{HasWay, path_of, looks}
 
 -- the run leaves by a hole of the clause, after looks at the places of one way of the tree
-pub record LeavesTree (plan : Plan) (ty : Ty) (pats : List Pat) (tree : Tree) (final : List Instr) (next : Next) (holes : List Hole) (n start : ℕ) (s : List ℕ) (w : World) (k : ℕ) : Type 0 where
+pub record LeavesTree (plan : Plan) (ty : Ty) (pats : List Pat) (tree : Tree) (final : List Instr) (next : Next)
+    (holes : List Hole) (n start : ℕ) (s : List ℕ) (w : World) (k : ℕ) : Type 0 where
   pub path : List Place
   pub is_way : HasWay (ways tree) (map path_of path)
   pub looked : (p : Place) → IsPlaceIn p path → IsLookedAt plan.program.types ty pats p.path p.ty
   pub leaves : Leaves final next holes n (looks plan path) start s w k (λ s' m. Unit {0})
 
-pub record TreeTakes (plan : Plan) (ty : Ty) (words : List Read) (pats : List Pat) (tree : Tree) (old new : Sheet) (holes : List Hole) : Type 0 where
+pub record TreeTakes (plan : Plan) (ty : Ty) (words : List Read) (pats : List Pat) (tree : Tree) (old new : Sheet)
+    (holes : List Hole) : Type 0 where
   pub adds : Adds plan old new
-  pub leaves : (final : List Instr) (callee : Callee) (next : Next) → Law final callee next → Finishes final new.code holes (length old.code) (length new.code)
-      → (s : List ℕ) (w : World) (v : Value) (clean : Bool) (ws : List ℕ) (k : ℕ) → new.slots ≤ length s → IsGood w.memory → AreMeant words s w.memory ws → Rep plan w.memory clean ty v ws
+  pub leaves : (final : List Instr) (callee : Callee) (next : Next) → Law final callee next
+      → Finishes final new.code holes (length old.code) (length new.code)
+      → (s : List ℕ) (w : World) (v : Value) (clean : Bool) (ws : List ℕ) (k : ℕ) → new.slots ≤ length s
+      → IsGood w.memory → AreMeant words s w.memory ws → Rep plan w.memory clean ty v ws
       → taken tree v ≡ Some k → LeavesTree plan ty pats tree final next holes old.slots (length old.code) s w k
 
 abbrev pub TakesTree : LaidOut → Ty → List Read → List Pat → Tree → Sheet → Sheet → List Hole → Type 0
 TakesTree agreed ty words pats tree old new holes =
-    (plan : Plan) → IsPlanOf agreed plan → ((k : ℕ) → old.slots ≤ k → AllFit k words) → length words ≡ words_of plan ty → TreeTakes plan ty words pats tree old new holes
+    (plan : Plan) → IsPlanOf agreed plan → ((k : ℕ) → old.slots ≤ k → AllFit k words) → length words ≡ words_of plan ty
+    → TreeTakes plan ty words pats tree old new holes
 
 -- the same of a graph, whatever tree it unfolds to
 abbrev pub TakesShared : LaidOut → Ty → List Read → List Pat → Graph → Sheet → Sheet → List Hole → Type 0
 TakesShared agreed ty words pats graph old new holes =
-    (tree : Tree) → unfolding_of graph ≡ Some tree → LinksAreLower graph.nodes → TakesTree agreed ty words pats tree old new holes
+    (tree : Tree) → unfolding_of graph ≡ Some tree → LinksAreLower graph.nodes
+    → TakesTree agreed ty words pats tree old new holes

@@ -10,7 +10,8 @@ use Rattle.ribbit_tool.specs.Answers.{Owes, files_of}
 use Rattle.ribbit_tool.specs.Promise.{Counting}
 
 -- the files of what the words come to were read, and the text or the line is what is owed to it
-pub record Composes (words : List (List ℕ)) (source : Source) (steps : Counting) (text : Result (Vec ℕ Global) Refusal) : Type 0 where
+pub record Composes (words : List (List ℕ)) (source : Source) (steps : Counting)
+    (text : Result (Vec ℕ Global) Refusal) : Type 0 where
   pub parsed : Parsed
   pub meant : IsParsed words parsed
   pub reads : ReadsInTurn (files_of parsed) source
