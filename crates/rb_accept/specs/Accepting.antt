@@ -51,6 +51,7 @@ pub record IsNamedWith (bytes : List ℕ) (placed : List Placed) (c : Completed)
   pub named : numbered file ≡ Ok written
   pub completed : IsCompleted file written c
 
+-- a program with the fault of its derived layouts, if there is one
 abbrev pub completed_as : Program → Option AutoFault → Completed
 completed_as p refused = record { program = p; refused = refused }
 
@@ -78,6 +79,7 @@ IsUncut bytes (lexing.BadByte at) = HasBadByte bytes at
 IsUncut bytes (lexing.NumberTooWide at) = HasWideNumber bytes at
 IsUncut bytes lexing.Memory = ⊥
 
+-- what is due where the bytes are no tokens
 abbrev pub lex_due : LexFault → Due
 lex_due (lexing.BadByte at) = refusal status.Syntax (at_byte (codes "bad byte") at)
 lex_due (lexing.NumberTooWide at) = refusal status.Syntax (at_byte (codes "number over 64 bits") at)
@@ -91,12 +93,14 @@ read_due placed size (reading.Syntax t) = refusal status.Syntax (at_byte (codes 
 read_due placed size (reading.Limit q count) = refusal status.Limit (limit_line q count)
 read_due placed size reading.Memory = refusal status.NoMemory no_memory_line
 
+-- what is due where the names fail, of tokens in a file of so many bytes
 abbrev pub name_due : List Placed → ℕ → NameFault → Due
 name_due placed size (names.Twice name t) = refusal status.Meaning (twice_line name (byte_of placed size t))
 name_due placed size (names.Unknown name t) = refusal status.Meaning (unknown_line name (byte_of placed size t))
 name_due placed size names.NoMain = refusal status.Meaning no_main_line
 name_due placed size names.Memory = refusal status.NoMemory no_memory_line
 
+-- what is due where the program is not typed
 abbrev pub type_due : List DataDecl → List Placed → ℕ → TypeFault → Due
 type_due ts placed size (types.Empty t) = refusal status.Meaning (empty_line ts t)
 type_due ts placed size (types.Mismatch t wanted found) =
@@ -107,14 +111,17 @@ type_due ts placed size (types.VariableTwice t) =
     refusal status.Meaning (at_byte (codes "variable twice") (byte_of placed size t))
 type_due ts placed size types.Memory = refusal status.NoMemory no_memory_line
 
+-- what is due to the match at a token that misses a pattern's values
 abbrev pub match_due : List DataDecl → List Placed → ℕ → ℕ → Pat → Due
 match_due ts placed size t q = refusal status.Meaning (missing_line ts q (byte_of placed size t))
 
+-- what is due where a layout cannot be derived
 abbrev pub derived_due : List DataDecl → AutoFault → Due
 derived_due ts (auto.PackedRecursive t) = refusal status.Layout (recursive_line ts t)
 derived_due ts (auto.PackedWide t bits) = refusal status.Layout (wide_line ts t bits)
 derived_due ts auto.Memory = refusal status.NoMemory no_memory_line
 
+-- what is due where a layout breaks a rule
 abbrev pub layout_due : Program → Disagreed → Due
 layout_due p fault = refusal status.Layout (ended (begun (refusal_text p.types (flat_layouts p) fault)))
 

@@ -95,7 +95,8 @@ fn read_image_file<S: Source>(alloc: Global, src: &mut S, image: &[u8]) -> Resul
 ///
 /// # Errors
 ///
-/// The answer to a file that is not read or not accepted, or to an image that is not read or spelled; or want of memory.
+/// The answer to a file that is not read or not accepted, or to an image that is not read or spelled; or want
+/// of memory.
 pub fn open_image<S: Source>(
     alloc: Global,
     src: &mut S,

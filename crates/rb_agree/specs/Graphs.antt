@@ -21,6 +21,7 @@ use Rattle.rb_layout.specs.Graphs.{Leads}
 abbrev pub IsGraphOf : (ℕ → ℕ → Type 0) → List (List ℕ) → Type 0
 IsGraphOf R graph = (t s : ℕ) → Leads graph t s ↔ R t s
 
+-- the types of constructors
 abbrev pub types_of_cons : List ConRef → List ℕ
 types_of_cons cs = map (λ (c : ConRef). c.ty) cs
 
@@ -28,12 +29,15 @@ types_of_cons cs = map (λ (c : ConRef). c.ty) cs
 abbrev pub pattern_types : Pat → List ℕ
 pattern_types p = types_of_cons (cons_of p)
 
+-- the types of the constructors below a provenance's root
 abbrev pub below_types : Pat → List ℕ
 below_types p = types_of_cons (cons_below p)
 
+-- the types that a leaf flattens, as often as it does
 abbrev pub leaf_types : Leaf → List ℕ
 leaf_types leaf = below_types leaf.prov
 
+-- the types that the leaves of a layout flatten, leaf by leaf
 abbrev pub flat_row : Layout → List ℕ
 flat_row layout = flat_map leaf_types layout.leaves
 
@@ -43,20 +47,25 @@ held_type None = []
 held_type (Some (Int bits)) = []
 held_type (Some (Named s)) = s ∷ []
 
+-- the type of the field of which such a part has a word, if it is a data type
 abbrev pub kind_holds : List DataDecl → Pat → Kind → List ℕ
 kind_holds types prov (Const c) = []
 kind_holds types prov (Bits path a) = []
 kind_holds types prov (Word path j) = held_type (type_at (open_positions types prov) path)
 kind_holds types prov (Pointer align b) = []
 
+-- the same of a part
 abbrev pub part_holds : List DataDecl → Pat → Part → List ℕ
 part_holds types prov p = kind_holds types prov p.kind
 
+-- the types of the fields of which the parts of a word have words
 abbrev pub word_holds : List DataDecl → Pat → FlatWord → List ℕ
 word_holds types prov f = flat_map (part_holds types prov) f.parts
 
+-- the types of the fields of which the root words of a leaf have words
 abbrev pub leaf_holds : List DataDecl → Leaf → List ℕ
 leaf_holds types leaf = flat_map (word_holds types leaf.prov) leaf.root
 
+-- the same of all leaves of a layout, leaf by leaf
 abbrev pub held_row : List DataDecl → Layout → List ℕ
 held_row types layout = flat_map (leaf_holds types) layout.leaves

@@ -10,15 +10,19 @@ use Rattle.rb_layout.specs.declared.layout.Kind.TheVariants.{Pointer}
 use Rattle.rb_layout.specs.Graphs.{mark_of}
 use Rattle.rb_agree.specs.inner.Lists.{SomeOf}
 
+-- a part is a pointer
 abbrev pub KindPoints : Part → Type 0
 KindPoints p = (align : ℕ) × (b : ℕ) × (p.kind ≡ Pointer align b)
 
+-- one of these parts is a pointer
 abbrev pub PartsPoint : List Part → Type 0
 PartsPoint parts = SomeOf KindPoints parts
 
+-- one of these words has a pointer part
 abbrev pub WordsPoint : List FlatWord → Type 0
 WordsPoint words = SomeOf (λ (f : FlatWord). PartsPoint f.parts) words
 
+-- a word of one of these blocks has a pointer part
 abbrev pub BlocksPoint : List Block → Type 0
 BlocksPoint blocks = SomeOf (λ (b : Block). WordsPoint b.words) blocks
 
@@ -26,6 +30,7 @@ BlocksPoint blocks = SomeOf (λ (b : Block). WordsPoint b.words) blocks
 abbrev pub LeafPoints : Leaf → Type 0
 LeafPoints leaf = WordsPoint leaf.root ⊎ BlocksPoint leaf.blocks
 
+-- one of these leaves has a pointer part
 abbrev pub LeavesPoint : List Leaf → Type 0
 LeavesPoint leaves = SomeOf LeafPoints leaves
 
@@ -35,8 +40,10 @@ pub record AreMarks (layouts : List Layout) (marks : List Bool) : Type 0 where
   pub each : (t : ℕ) (layout : Layout) (mark : Bool) → slice_get layouts t ≡ Some layout → slice_get marks t ≡ Some mark
       → MatchBool mark (LeavesPoint layout.leaves) (LeavesPoint layout.leaves → ⊥)
 
+-- the type of a constructor has no mark
 abbrev pub IsUnmarked : List Bool → ConRef → Type 0
 IsUnmarked marks c = mark_of marks c.ty ≡ false
 
+-- the type of a constructor is t, and has a mark
 abbrev pub IsMarked : List Bool → ConRef → ℕ → Type 0
 IsMarked marks c t = (c.ty ≡ t) × (mark_of marks c.ty ≡ true)

@@ -11,6 +11,7 @@ use Rattle.rb_agree.specs.declared.items.Written.{Written}
 use Rattle.rb_agree.specs.declared.items.Item.{Item}
 use Rattle.rb_agree.specs.declared.items.Item.TheVariants.{Parts, Field}
 
+-- what a part is written to hold, as the rules speak of it
 abbrev pub shown_content : Content → I.Content
 shown_content (Number c) = I.Number c
 shown_content (Whole path) = I.Whole path
@@ -18,16 +19,20 @@ shown_content (Slice path a k) = I.Slice path a k
 shown_content (WordOf path j) = I.WordOf path j
 shown_content (Address align) = I.Address align
 
+-- a part as it is written, as the rules speak of it
 abbrev pub shown_part : Written → I.WrittenPart
 shown_part w = record { o = w.o; l = w.l; content = shown_content w.content }
 
+-- and parts
 abbrev pub shown_parts : List Written → List I.WrittenPart
 shown_parts ws = map shown_part ws
 
+-- an item as it is written, as the rules speak of it
 abbrev pub shown_item : Item → I.Item
 shown_item (Parts width parts) = I.AWord width (map shown_part parts)
 shown_item (Field path) = I.AField path
 
+-- and items
 abbrev pub shown_items : List Item → List I.Item
 shown_items items = map shown_item items
 
@@ -35,14 +40,18 @@ shown_items items = map shown_item items
 abbrev pub kind_around : PartKind → Around I.Content
 kind_around = fold-PartKind (List I.Item) (Around I.Content) (Around I.WrittenPart) item_step kind_step part_step
 
+-- a part as it is written, and the items behind its pointer
 abbrev pub part_around : PartDecl → Around I.WrittenPart
 part_around = fold-PartDecl (List I.Item) (Around I.Content) (Around I.WrittenPart) item_step kind_step part_step
 
+-- what a part of this kind is written to hold
 abbrev pub content_of : PartKind → I.Content
 content_of kind = (kind_around kind).it
 
+-- a part without what stands behind it
 abbrev pub written_part : PartDecl → I.WrittenPart
 written_part p = (part_around p).it
 
+-- the items behind a part, if it is a pointer
 abbrev pub inside_of : PartDecl → List I.Item
 inside_of p = (part_around p).inside

@@ -33,6 +33,7 @@ pub record IsNumberedSite (types : List DataDecl) (s : Site) : Type 0 where
   pub ty : IsTypeIn types s.scrutinee
   pub short : length s.patterns < 2 ^ 32
 
+-- each of these matches is such
 abbrev pub AreNumberedSites : List DataDecl → List Site → Type 0
 AreNumberedSites types [] = Unit {0}
 AreNumberedSites types (s ∷ ss) = IsNumberedSite types s × AreNumberedSites types ss

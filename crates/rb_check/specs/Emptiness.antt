@@ -7,6 +7,7 @@ use Rattle.rb_core.specs.declared.types.Ty.TheVariants.{Int, Named}
 use Rattle.rb_core.specs.declared.types.Con.{Con}
 use Rattle.rb_core.specs.declared.types.DataDecl.{DataDecl}
 
+-- the mark of a type; off where it has none
 abbrev pub mark_of : List Bool → ℕ → Bool
 mark_of marks t = unwrap_or (slice_get marks t) false
 
@@ -15,6 +16,7 @@ abbrev pub is_marked : List Bool → Ty → Bool
 is_marked marks (Int bits) = true
 is_marked marks (Named t) = mark_of marks t
 
+-- all fields of a constructor are of types that are known to have values
 abbrev pub constructor_is_live : List Bool → Con → Bool
 constructor_is_live marks c = list_all (is_marked marks) c.fields
 
@@ -40,5 +42,6 @@ pub record IsFirstUnmarked (marks : List Bool) (t : ℕ) : Type 0 where
   pub unmarked : mark_of marks t ≡ false
   pub before : (s : ℕ) → s < t → mark_of marks s ≡ true
 
+-- each type has a mark
 abbrev pub AllMarked : List Bool → Type 0
 AllMarked marks = (s : ℕ) → s < length marks → mark_of marks s ≡ true

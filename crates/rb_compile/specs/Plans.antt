@@ -14,10 +14,12 @@ abbrev pub site_at : ℕ → List Site → Option Site
 site_at at [] = None
 site_at at (s ∷ ss) = if s.at == at then Some s else site_at at ss
 
+-- the matches of a function, in their order; none where there is no such function
 abbrev pub sites_in : Program → Option Fun → List Site
 sites_in p None = []
 sites_in p (Some f) = function_sites p.types p.funs f
 
+-- the switches that a match may cost; 0 where there is no such match
 abbrev pub bound_at : Program → List Layout → Option Site → ℕ
 bound_at p layouts None = 0
 bound_at p layouts (Some s) = bound_of p.types layouts s.scrutinee s.patterns

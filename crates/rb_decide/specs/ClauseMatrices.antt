@@ -13,6 +13,7 @@ use Rattle.rb_decide.specs.declared.clause_matrix.Row.{Row}
 
 -- The matrix of a match: one row for each clause, counted from k -----------------------------------
 
+-- a row for each pattern, with its clause's number, from k on
 abbrev pub match_rows : ℕ → List Pat → List Row
 match_rows k [] = []
 match_rows k (p ∷ ps) = record { pats = p ∷ []; clause = k } ∷ match_rows (suc k) ps
@@ -23,6 +24,7 @@ match_column ty = record { position = []; ty = ty }
 
 -- The column that is tested -------------------------------------------------------------------------
 
+-- the number of a column, counted with one more before it
 abbrev pub next_column : Option ℕ → Option ℕ
 next_column None = None
 next_column (Some i) = Some (suc i)
@@ -32,6 +34,7 @@ abbrev pub first_test : List Pat → Option ℕ
 first_test [] = None
 first_test (p ∷ ps) = if is_some (layer_head (out-Pat p)) then Some 0 else next_column (first_test ps)
 
+-- an item before others, if there is one
 abbrev pub before : {A : Type 0} → Option A → List A → List A
 before None xs = xs
 before (Some x) xs = x ∷ xs
@@ -40,15 +43,18 @@ before (Some x) xs = x ∷ xs
 abbrev pub to_front : {A : Type 0} → ℕ → List A → List A
 to_front i xs = before (slice_get xs i) (take i xs ++ drop (suc i) xs)
 
+-- a row with its pattern i at the front
 abbrev pub row_to_front : ℕ → Row → Row
 row_to_front i r = record { pats = to_front i r.pats; clause = r.clause }
 
 -- Its heads -----------------------------------------------------------------------------------------
 
+-- the heads but those equal to this one
 abbrev pub without : Head → List Head → List Head
 without h [] = []
 without h (g ∷ gs) = if layer_begins h (sample g) then without h gs else g ∷ without h gs
 
+-- a head before all others, if there is one
 abbrev pub with_first : Option Head → List Head → List Head
 with_first None hs = hs
 with_first (Some h) hs = h ∷ without h hs
@@ -58,10 +64,12 @@ abbrev pub column_heads : List Row → List Head
 column_heads [] = []
 column_heads (r ∷ rs) = with_first (row_head r.pats) (column_heads rs)
 
+-- f is true of each number below n
 abbrev pub all_below : ℕ → (ℕ → Bool) → Bool
 all_below zero f = true
 all_below (suc n) f = f n && all_below n f
 
+-- how many constructors a type has; 0 where there is no such type
 abbrev pub con_count : Option DataDecl → ℕ
 con_count None = 0
 con_count (Some d) = length d.cons
@@ -73,14 +81,17 @@ is_complete types (Named t) hs = all_below (con_count (slice_get types t)) (λ k
 
 -- S and D, each row with its clause -----------------------------------------------------------------
 
+-- a row of these patterns before others, if there are any
 abbrev pub keep_row : Option (List Pat) → ℕ → List Row → List Row
 keep_row None k rs = rs
 keep_row (Some ps) k rs = record { pats = ps; clause = k } ∷ rs
 
+-- the rows of values that begin with a head of n fields
 abbrev pub special_rows : Head → ℕ → List Row → List Row
 special_rows h n [] = []
 special_rows h n (r ∷ rs) = keep_row (special_row h n r.pats) r.clause (special_rows h n rs)
 
+-- the rows of values that begin with none of the heads
 abbrev pub default_rows : List Row → List Row
 default_rows [] = []
 default_rows (r ∷ rs) = keep_row (default_row r.pats) r.clause (default_rows rs)

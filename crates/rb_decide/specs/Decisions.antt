@@ -19,12 +19,14 @@ use Rattle.rb_decide.specs.Trees.{taken, size, Way, ways, match_tree}
 
 -- Heads at positions --------------------------------------------------------------------------------
 
+-- the patterns of a constructor's fields
 abbrev pub subpatterns : Pat-F Pat → List Pat
 subpatterns (P.Wild at) = []
 subpatterns (P.Var at x) = []
 subpatterns (P.Num at n) = []
 subpatterns (P.Con at c ps) = ps
 
+-- that of field i, where the pattern reaches there
 abbrev pub subpattern : Option Pat → ℕ → Option Pat
 subpattern None i = None
 subpattern (Some p) i = slice_get (subpatterns (out-Pat p)) i
@@ -34,6 +36,7 @@ abbrev pub pattern_from : Option Pat → List ℕ → Option Pat
 pattern_from p [] = p
 pattern_from p (i ∷ is) = pattern_from (subpattern p i) is
 
+-- a number or a constructor stands there
 abbrev pub is_head : Option Pat → Bool
 is_head None = false
 is_head (Some p) = is_some (layer_head (out-Pat p))
@@ -49,6 +52,7 @@ any_head_at (p ∷ ps) position = is_head (pattern_from (Some p) position) || an
 abbrev pub TakesChosen : List DataDecl → Ty → List Pat → Tree → Type 0
 TakesChosen types ty ps t = (v : Value) → is_of_type types v ty ≡ true → taken t v ≡ chosen_clause ps v
 
+-- no position stands twice on a way
 abbrev pub AreDistinct : Way → Type 0
 AreDistinct [] = Unit {0}
 AreDistinct (q ∷ qs) = AllByRecursion (λ r. q ≡ r → ⊥) qs × AreDistinct qs
@@ -57,6 +61,7 @@ AreDistinct (q ∷ qs) = AllByRecursion (λ r. q ≡ r → ⊥) qs × AreDistinc
 abbrev pub TestsOnce : Tree → Type 0
 TestsOnce t = AllByRecursion AreDistinct (ways t)
 
+-- at each position of a way some pattern has a number or a constructor
 abbrev pub HaveHeads : List Pat → Way → Type 0
 HaveHeads ps way = AllByRecursion (λ q. any_head_at ps q ≡ true) way
 
@@ -71,6 +76,7 @@ abbrev pub IsTried : List DataDecl → Ty → List Pat → ℕ → Tried → Typ
 IsTried types ty ps limit (Built t) = (t ≡ match_tree types ty ps) × (size t ≤ limit)
 IsTried types ty ps limit Over = limit < size (match_tree types ty ps)
 
+-- a built tree is so; nothing is said where there is none
 abbrev pub OnBuilt : Tried → (Tree → Type 0) → Type 0
 OnBuilt (Built t) P = P t
 OnBuilt Over P = Unit {0}

@@ -15,6 +15,7 @@ use Rattle.rb_decide.specs.declared.decision_graph.GraphArm.{GraphArm}
 abbrev pub tree_under : List Tree → ℕ → Tree
 tree_under lower i = unwrap_or (slice_get lower i) (Trees.Clause 0)
 
+-- an arm with the tree of its link, among those of lower nodes
 abbrev pub arm_under : List Tree → GraphArm → TreeArm
 arm_under lower a = record { head = a.head; under = tree_under lower a.under }
 
@@ -24,6 +25,7 @@ node_tree lower (Test position arms other) =
     Trees.Test position (map (arm_under lower) arms) (option_map (tree_under lower) other)
 node_tree lower (Clause k) = Trees.Clause k
 
+-- the trees of lower nodes, and then those of these nodes, each over all before it
 abbrev pub trees_onto : List Tree → List GraphNode → List Tree
 trees_onto lower [] = lower
 trees_onto lower (n ∷ ns) = trees_onto (lower ++ node_tree lower n ∷ []) ns
@@ -38,13 +40,16 @@ unfolding_of g = slice_get (node_trees g.nodes) g.root
 
 -- Sharing -------------------------------------------------------------------------------------------
 
+-- the number of the node below an arm
 abbrev pub arm_link : GraphArm → ℕ
 arm_link a = a.under
 
+-- that of the node that stands last, if there is one
 abbrev pub other_link : Option ℕ → List ℕ
 other_link None = []
 other_link (Some i) = i ∷ []
 
+-- the numbers to which a node links: those of its arms, then that of the node that stands last
 abbrev pub links : GraphNode → List ℕ
 links (Test position arms other) = map arm_link arms ++ other_link other
 links (Clause k) = []
@@ -57,6 +62,7 @@ LinksAreLower nodes = (i : ℕ) (n : GraphNode) → slice_get nodes i ≡ Some n
 abbrev pub NodesDiffer : List GraphNode → Type 0
 NodesDiffer nodes = (i j : ℕ) (n : GraphNode) → slice_get nodes i ≡ Some n → slice_get nodes j ≡ Some n → i ≡ j
 
+-- i is one of these numbers
 abbrev pub IsAmong : ℕ → List ℕ → Type 0
 IsAmong i is = (place : ℕ) × (slice_get is place ≡ Some i)
 

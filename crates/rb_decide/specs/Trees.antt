@@ -21,9 +21,11 @@ use Rattle.rb_decide.specs.ClauseMatrices.{match_rows, match_column, first_test,
 
 -- What a tree takes ---------------------------------------------------------------------------------
 
+-- the clause that is taken of a value, if one is
 abbrev pub Taking : Type 0
 Taking = Value → Option ℕ
 
+-- what stands last takes, if anything does
 abbrev pub take_other : Option Taking → Taking
 take_other None v = None
 take_other (Some t) v = t v
@@ -38,10 +40,12 @@ abbrev pub take_at : List (Head × Taking) → Option Taking → Option Value �
 take_at arms other None v = None
 take_at arms other (Some w) v = take_arm arms other (out-Value w) v
 
+-- what a node takes, from what its branches take
 abbrev pub taken_step : Tree-F Taking (Head × Taking) → Taking
 taken_step (T.Test position arms other) v = take_at arms other (part_at v position) v
 taken_step (T.Clause k) v = Some k
 
+-- an arm by its head and what its branch takes
 abbrev pub taken_arm_step : TreeArm-F Taking (Head × Taking) → Head × Taking
 taken_arm_step a = (a.head, a.under)
 
@@ -51,10 +55,12 @@ taken = fold-Tree Taking (Head × Taking) taken_step taken_arm_step
 
 -- Size ----------------------------------------------------------------------------------------------
 
+-- the size of a node, from those of its branches
 abbrev pub size_step : Tree-F ℕ ℕ → ℕ
 size_step (T.Test position sizes other) = 1 + sum sizes + unwrap_or other 0
 size_step (T.Clause k) = 1
 
+-- that of an arm's branch
 abbrev pub arm_size_step : TreeArm-F ℕ ℕ → ℕ
 arm_size_step a = a.under
 
@@ -64,13 +70,16 @@ size = fold-Tree ℕ ℕ size_step arm_size_step
 
 -- Ways ----------------------------------------------------------------------------------------------
 
+-- positions, one after another
 abbrev pub Way : Type 0
 Way = List (List ℕ)
 
+-- the ways from a node, from those of its branches
 abbrev pub ways_step : Tree-F (List Way) (List Way) → List Way
 ways_step (T.Test position ways other) = map (λ way. position ∷ way) (flat_map (λ ws. ws) ways ++ unwrap_or other [])
 ways_step (T.Clause k) = [] ∷ []
 
+-- those of an arm's branch
 abbrev pub arm_ways_step : TreeArm-F (List Way) (List Way) → List Way
 arm_ways_step a = a.under
 
@@ -113,10 +122,12 @@ abbrev pub tree_step : List DataDecl → Subtree → Subtree
 tree_step types sub cols [] = Clause 0
 tree_step types sub cols (r ∷ rs) = tree_at types sub cols (r ∷ rs) r.clause (first_test r.pats)
 
+-- the tree of a matrix by n steps, enough where it has at most n heads
 abbrev pub tree_within : List DataDecl → ℕ → Subtree
 tree_within types zero cols rows = tree_step types (λ cs rs. Clause 0) cols rows
 tree_within types (suc n) cols rows = tree_step types (tree_within types n) cols rows
 
+-- the patterns of a row
 abbrev pub row_pats : Row → List Pat
 row_pats r = r.pats
 

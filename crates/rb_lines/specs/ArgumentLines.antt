@@ -16,16 +16,20 @@ node_limit = 1000000
 abbrev pub argument_begun : ℕ → List ℕ
 argument_begun number = begun (codes "argument ") ++ decimal number ++ codes ": "
 
+-- the line of an argument that is no value from a byte on
 abbrev pub syntax_line : ℕ → ℕ → List ℕ
 syntax_line number at = ended (argument_begun number ++ codes "syntax at byte " ++ decimal at)
 
+-- the line of an argument with too many nodes
 abbrev pub large_line : ℕ → List ℕ
 large_line number = ended (argument_begun number ++ codes "over " ++ decimal node_limit ++ codes " nodes")
 
+-- the line of an argument that holds a value of another type at a byte
 abbrev pub misfit_line : List DataDecl → ℕ → Ty → ℕ → List ℕ
 misfit_line types number ty at =
     ended (argument_begun number ++ codes "no value of " ++ type_text types ty ++ codes " at byte " ++ decimal at)
 
+-- the line of what is wrong with an argument
 abbrev pub argument_line : List DataDecl → ℕ → Ty → ValueFault → List ℕ
 argument_line types number ty (kind.ValueSyntax at) = syntax_line number at
 argument_line types number ty kind.ValueTooLarge = large_line number

@@ -18,6 +18,7 @@ at_byte fault at = ended (begun fault ++ codes " at byte " ++ decimal at)
 
 -- Limits ------------------------------------------------------------------------------------
 
+-- what is counted
 abbrev pub quantity_text : Quantity → List ℕ
 quantity_text FileBytes = codes "file bytes"
 quantity_text Types = codes "types"
@@ -27,6 +28,7 @@ quantity_text Fields = codes "fields"
 quantity_text Parameters = codes "parameters"
 quantity_text ShapeWords = codes "shape words"
 
+-- the line of a count over its limit
 abbrev pub limit_line : Quantity → ℕ → List ℕ
 limit_line q count =
     ended (begun (codes "limit ") ++ quantity_text q ++ codes ": " ++ decimal count ++ codes " over "
@@ -34,29 +36,36 @@ limit_line q count =
 
 -- Names -------------------------------------------------------------------------------------
 
+-- the line of a name at a byte that stands for nothing
 abbrev pub unknown_line : List ℕ → ℕ → List ℕ
 unknown_line name at = ended (begun (codes "unknown name ") ++ name ++ codes " at byte " ++ decimal at)
 
+-- the line of a name that stands for two things, the second at a byte
 abbrev pub twice_line : List ℕ → ℕ → List ℕ
 twice_line name at = ended (begun (codes "name ") ++ name ++ codes " twice at byte " ++ decimal at)
 
+-- the line of a program without the function `main`
 abbrev pub no_main_line : List ℕ
 no_main_line = ended (begun (codes "no function main"))
 
 -- Types -------------------------------------------------------------------------------------
 
+-- a type as a line shows it: an integer by its width, a data type by its name
 abbrev pub type_text : List DataDecl → Ty → List ℕ
 type_text types (Int bits) = codes "u" ++ decimal bits
 type_text types (Named t) = type_name (slice_get types t)
 
+-- the line of a type without a value
 abbrev pub empty_line : List DataDecl → ℕ → List ℕ
 empty_line types t = ended (begun (codes "type ") ++ type_name (slice_get types t) ++ codes " has no value")
 
+-- the line of another type than the wanted one, at a byte
 abbrev pub mismatch_line : List DataDecl → Ty → Ty → ℕ → List ℕ
 mismatch_line types wanted found at =
     ended (begun (codes "wanted ") ++ type_text types wanted ++ codes ", found " ++ type_text types found
     ++ codes " at byte " ++ decimal at)
 
+-- the line of another number of arguments than the wanted one, at a byte
 abbrev pub arity_line : ℕ → ℕ → ℕ → List ℕ
 arity_line wanted found at =
     ended (begun (codes "wanted ") ++ decimal wanted ++ codes " arguments, found " ++ decimal found
@@ -77,12 +86,14 @@ wide_line types t bits =
 
 -- Patterns ----------------------------------------------------------------------------------
 
+-- the line of a match at a byte that misses a pattern's values
 abbrev pub missing_line : List DataDecl → Pat → ℕ → List ℕ
 missing_line types p at =
     ended (begun (codes "match at byte ") ++ decimal at ++ codes " misses " ++ pattern_text types p)
 
 -- Notes -------------------------------------------------------------------------------------
 
+-- the line of a clause that is never reached, in a match at a byte
 abbrev pub note_line : ℕ → ℕ → List ℕ
 note_line clause at =
     codes "note: clause " ++ decimal clause ++ codes " of the match at byte " ++ decimal at

@@ -30,6 +30,7 @@ image_status ImageTooLarge = status.TooLarge
 image_status (NoSuchPart step) = status.Image
 image_status Memory = status.NoMemory
 
+-- the line of what is wrong with an image
 abbrev pub image_line : ImageFault → List ℕ
 image_line (ImageSyntax at) = fault_at image_syntax (codes " at byte ") at
 image_line (ImageBlock block) = fault_at image_block (codes ": block ") block
@@ -40,5 +41,6 @@ image_line ImageTooLarge = large_line node_limit
 image_line (NoSuchPart step) = fault_at no_such_part (codes ": step ") step
 image_line Memory = no_memory_line
 
+-- what is due to it, before anything ran
 abbrev pub image_due : ImageFault → Due
 image_due fault = refusal (image_status fault) (image_line fault)

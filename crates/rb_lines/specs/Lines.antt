@@ -8,21 +8,27 @@ use Rattle.rb_target.specs.declared.fault.CodeFault.{CodeFault}
 use Rattle.rb_target.specs.declared.fault.CodeFault.TheVariants.{CodeSyntax, BadSlot, BadJump, BadCall, Memory}
 use Rattle.rb_lines.specs.Numbers.{code_syntax, bad_slot, bad_jump, bad_call, trap_number}
 
+-- a line for the error output begins so
 abbrev pub begun : List ℕ → List ℕ
 begun text = codes "ribbit: " ++ text
 
+-- each line ends with a newline
 abbrev pub ended : List ℕ → List ℕ
 ended text = text ++ codes "\n"
 
+-- the line of the first word at fault in a command
 abbrev pub usage_line : ℕ → List ℕ
 usage_line word = ended (begun (codes "usage at word ") ++ decimal word)
 
+-- the line of a file that is not read
 abbrev pub read_fault_line : List ℕ
 read_fault_line = codes "ribbit: read fault\n"
 
+-- the line of an output that failed
 abbrev pub write_fault_line : List ℕ
 write_fault_line = codes "ribbit: write fault\n"
 
+-- the line of want of memory
 abbrev pub no_memory_line : List ℕ
 no_memory_line = codes "ribbit: no memory\n"
 
@@ -31,9 +37,11 @@ abbrev pub file_bytes_line : ℕ → ℕ → List ℕ
 file_bytes_line count limit =
     ended (begun (codes "limit file bytes: ") ++ decimal count ++ codes " over " ++ decimal limit)
 
+-- the line of a run that would make more than so many calls
 abbrev pub spent_line : ℕ → List ℕ
 spent_line calls = ended (begun (codes "calls spent: ") ++ decimal calls)
 
+-- the line of a number of arguments that is not the function's
 abbrev pub count_line : ℕ → ℕ → List ℕ
 count_line wanted found =
     ended (begun (codes "wanted ") ++ decimal wanted ++ codes " arguments, found " ++ decimal found)
@@ -47,6 +55,7 @@ abbrev pub full_line : Full → List ℕ
 full_line f = ended (begun (codes "region full: next ") ++ decimal f.next ++ codes ", size " ++ decimal f.size
     ++ codes ", align " ++ decimal f.align ++ codes ", limit " ++ decimal f.limit)
 
+-- the line of a trap, with its number
 abbrev pub trap_line : Trap → List ℕ
 trap_line (Astray base offset) =
     ended (begun (codes "trap ") ++ decimal (trap_number (Astray base offset)) ++ codes ": base " ++ decimal base
@@ -61,6 +70,7 @@ abbrev pub at_instruction : ℕ → ℕ → ℕ → List ℕ
 at_instruction kind function instruction = ended (begun (codes "code ") ++ decimal kind
     ++ codes ": function " ++ decimal function ++ codes ", instruction " ++ decimal instruction)
 
+-- the line of bytes that are no code
 abbrev pub code_line : CodeFault → List ℕ
 code_line (CodeSyntax at) = ended (begun (codes "code ") ++ decimal code_syntax ++ codes " at byte " ++ decimal at)
 code_line (BadSlot n pc) = at_instruction bad_slot n pc
@@ -82,5 +92,6 @@ abbrev pub listed : List ℕ → List ℕ
 listed [] = []
 listed (n ∷ ns) = decimal n ++ spaced ns
 
+-- words on a line
 abbrev pub words_line : List ℕ → List ℕ
 words_line words = ended (listed words)

@@ -26,35 +26,41 @@ status_number status.Image = 16
 abbrev pub code_syntax : ℕ
 code_syntax = 20
 
--- a slot, a target or a call that is not valid
+-- a slot that a function has not got, or a number of slots that does not fit
 abbrev pub bad_slot : ℕ
 bad_slot = 21
 
+-- a target that is no later instruction, or a body that does not end in a return
 abbrev pub bad_jump : ℕ
 bad_jump = 22
 
+-- a call or a return whose numbers of arguments and results do not fit
 abbrev pub bad_call : ℕ
 bad_call = 23
 
+-- an access astray, an unwritten byte, and a word that a switch has no arm for
 abbrev pub trap_number : Trap → ℕ
 trap_number (Astray base offset) = 30
 trap_number (Unwritten address) = 31
 trap_number (Unmatched word) = 32
 
--- bytes that are no image text, and a block out of its place
+-- bytes that are no image text
 abbrev pub image_syntax : ℕ
 image_syntax = 40
 
+-- a block out of its place
 abbrev pub image_block : ℕ
 image_block = 41
 
--- a root word that does not fit, bits that no value has, and a pointer that leads nowhere
+-- a root word that is missing, too many or too wide
 abbrev pub bad_root : ℕ
 bad_root = 42
 
+-- a word with bits that no value has
 abbrev pub bad_bits : ℕ
 bad_bits = 43
 
+-- a pointer that leads nowhere
 abbrev pub bad_pointer : ℕ
 bad_pointer = 44
 

@@ -67,6 +67,7 @@ CountsAs agreed code args calls old (Fits blocks next) steps switches =
     × (steps ≡ (run_of code calls p.main ws m).world.taken)
     × (switches ≡ (run_of code calls p.main ws m).world.switches)
 
+-- so many steps and switches are those of the run behind the blocks of the arguments, where these fit
 abbrev pub IsCounted : LaidOut → List CodeFun → List Value → ℕ → Memory → ℕ → ℕ → Type 0
 IsCounted agreed code args calls old steps switches =
     CountsAs agreed code args calls old (laid_arguments agreed args old) steps switches

@@ -26,6 +26,7 @@ end_due shown calls Spent steps = refused status.Spent (spent_line calls) steps
 end_due shown calls (Full f) steps = refused status.Full (full_line f) steps
 end_due shown calls (Trapped t) steps = refused status.Trap (trap_line t) steps
 
+-- what is due to a run: its words on a line, or the line of its end
 abbrev pub outcome_due : Outcome → ℕ → Due
 outcome_due o calls = end_due words_line calls o.ended o.world.taken
 
@@ -40,10 +41,12 @@ call_due funs limits words f =
     then outcome_due (run_of funs limits.calls f words (empty_memory limits.region)) limits.calls
     else refusal status.Argument (count_line (params_in (slice_get funs f)) (length words))
 
+-- what is due to words for a function, if there is one of the name
 abbrev pub named_due : List CodeFun → List ℕ → Limits → List ℕ → Option ℕ → Due
 named_due funs name limits words None = refusal status.Argument (no_function_line name)
 named_due funs name limits words (Some f) = call_due funs limits words f
 
+-- and by the function's name
 abbrev pub exec_due : List CodeFun → List ℕ → Limits → List ℕ → Due
 exec_due funs name limits words = named_due funs name limits words (fun_named funs name)
 

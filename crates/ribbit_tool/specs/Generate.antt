@@ -10,6 +10,7 @@ use Rattle.ribbit_tool.specs.Count.{CountsFile}
 abbrev pub list_type : List ℕ
 list_type = codes "type List = Nil | Cons(u64, List);\n"
 
+-- the lowest bit tells the empty list from a pointer to a block, which holds an item and the rest
 abbrev pub list_layout : List ℕ
 list_layout = codes "layout List <64> = split 0[0:1] { 1 => Nil : { word 64 { [0:1] = 1 } } 0 => Cons(_, _) : { word 64 { [0:1] = 0, [3:61] -> 8 { word 64 { [0:64] .0 }, inline .1 } } } };\n"
 
@@ -23,6 +24,7 @@ sum_line i j =
     ended (codes "fun f" ++ decimal i ++ codes "(l: List): u64 = match l { Nil => 0, Cons(x, r) => add(x, f"
     ++ decimal j ++ codes "(r)) };")
 
+-- the sum of the numbers from 1 to 3000, by function 0
 abbrev pub main_line : List ℕ
 main_line = codes "fun main(): u64 = f0(up(3000, Nil));\n"
 
@@ -31,9 +33,11 @@ abbrev pub sum_lines : ℕ → ℕ → ℕ → List ℕ
 sum_lines functions i zero = []
 sum_lines functions i (suc count) = sum_line i ((i + 1) % functions) ++ sum_lines functions (i + 1) count
 
+-- the file: the type, its layout, and the functions
 abbrev pub generated : ℕ → List ℕ
 generated functions = list_type ++ list_layout ++ up_line ++ sum_lines functions 0 functions ++ main_line
 
+-- that file is printed
 abbrev pub Generates : ℕ → Due → Type 0
 Generates functions due = due ≡ printed (generated functions) 0
 

@@ -42,6 +42,7 @@ OfCalls command Promised words source out err status =
     → Spell p values args
     → IsCalm out err status → Promised p args limits out err status
 
+-- what is promised of `run`: the source's value or the limit that it passes first, as it is said
 abbrev pub Headline : List (List ℕ) → Source → Change → Change → ℕ → Type 0
 Headline = OfCalls run (λ p args limits out err status.
     Says (value_line p) limits (answer_of p (flat_layouts p) args limits.calls limits.region node_limit) out err status)

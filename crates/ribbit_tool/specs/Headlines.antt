@@ -55,6 +55,7 @@ pub record SaysImage (p : Program) (args : List Value) (limits : Limits) (out er
   pub says : Says (λ v. image_text (memory_image words memory)) limits (whole_answer p (flat_layouts p) limits args)
       out err status
 
+-- what is promised of `image`
 abbrev pub ImageHeadline : List (List ℕ) → Source → Change → Change → ℕ → Type 0
 ImageHeadline = OfCalls image SaysImage
 
@@ -77,6 +78,7 @@ pub record SaysCount (p : Program) (args : List Value) (limits : Limits) (out er
   pub done : AreSwitches p args limits tally.switches
   pub says : Says (count_text p tally) limits (source_answer p (flat_layouts p) limits args) out err status
 
+-- what is promised of `count`
 abbrev pub CountHeadline : List (List ℕ) → Source → Change → Change → ℕ → Type 0
 CountHeadline = OfCalls count SaysCount
 

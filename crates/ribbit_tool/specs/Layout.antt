@@ -6,6 +6,7 @@ use Rattle.rb_layout.specs.Flattening.{flat_layouts}
 use Rattle.rb_lines.specs.Answer.{Due, printed}
 use Rattle.rb_show.specs.Lines.{layouts_text}
 
+-- the layouts of a program in their flat forms
 abbrev pub layout_text : Program → List ℕ
 layout_text p = layouts_text p.types (flat_layouts p)
 

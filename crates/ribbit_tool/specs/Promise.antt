@@ -62,6 +62,7 @@ pub record IsMissing (source : Source) : Type 0 where
   pub earlier : List Reading
   pub last : handed_out source ≡ earlier ++ missed name ∷ []
 
+-- what is promised of each command, whatever is read and written
 pub record IsRight (words : List (List ℕ)) (source : Source) (out err : Change) (steps : Counting)
     (status : ℕ) : Type 0 where
   -- what the words come to: a command, or the first word at fault

@@ -64,6 +64,7 @@ abbrev pub laid_values : Program → List Layout → Limits → List Value → L
 laid_values p layouts limits args =
     lay limits.region 64 (requests_of layouts (all_makings p.types args (param_types p.funs p.main)))
 
+-- and then those of the call
 abbrev pub laid_all : Program → List Layout → Limits → List Value → Laid
 laid_all p layouts limits args =
     lay limits.region 64 (requests_of layouts (all_makings p.types args (param_types p.funs p.main)
@@ -75,6 +76,7 @@ unbounded (Over full) end = answer.Full full
 unbounded (Fits blocks next) Spent = answer.Spent
 unbounded (Fits blocks next) (Done v left) = answer.Shown v
 
+-- what the source comes to, however many nodes its value has
 abbrev pub whole_answer : Program → List Layout → Limits → List Value → answer.Answer
 whole_answer p layouts limits args = unbounded (laid_all p layouts limits args) (call_of p p.main limits.calls args).end
 

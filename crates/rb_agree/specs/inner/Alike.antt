@@ -40,6 +40,7 @@ module _ (types : List DataDecl) (one other : Pat) where
   abbrev pub IsPartAlike : ℕ → ℕ → Part → Part → Type 0
   IsPartAlike o l p q = (IsBeside o l p × IsBeside o l q) ⊎ ((p.o ≡ q.o) × (p.l ≡ q.l) × AreKinds p.kind q.kind)
 
+  -- two words have as many parts, and each is alike to that in its place
   abbrev pub ArePartsAlike : ℕ → ℕ → List Part → List Part → Type 0
   ArePartsAlike o l ps qs = (length ps ≡ length qs)
       × ((k : ℕ) (p q : Part) → slice_get ps k ≡ Some p → slice_get qs k ≡ Some q → IsPartAlike o l p q)

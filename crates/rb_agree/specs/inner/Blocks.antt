@@ -10,42 +10,52 @@ use Rattle.rb_layout.specs.declared.evidence.Why.TheVariants.{BlockWord, BlockWo
 use Rattle.rb_layout.specs.A4.{IsAlignment, IsBlockLength, IsBlockWidth, IsWide}
 use Rattle.rb_agree.specs.inner.Lists.{EachOf, SomeOf}
 
+-- how a pointer of l bits fails that counts align bytes: by that number, or by its bits with those it saves
 abbrev pub FailsPointer : ℕ → ℕ → Why → Type 0
 FailsPointer l align (Align a) = (a ≡ align) × (IsAlignment align → ⊥)
 FailsPointer l align (ShortPointer n) = ((k : ℕ) × (align ≡ 2 ^ k) × (n ≡ l + k)) × (n < 24)
 FailsPointer l align why = ⊥
 
+-- a part of l bits is no pointer, or one that is aligned and wide enough
 abbrev pub IsKind : ℕ → Kind → Type 0
 IsKind l (Const c) = Unit {0}
 IsKind l (Bits path a) = Unit {0}
 IsKind l (Word path j) = Unit {0}
 IsKind l (Pointer align b) = IsAlignment align × IsWide align l
 
+-- how a part of l bits fails by its kind
 abbrev pub FailsKind : ℕ → Kind → Why → Type 0
 FailsKind l (Const c) why = ⊥
 FailsKind l (Bits path a) why = ⊥
 FailsKind l (Word path j) why = ⊥
 FailsKind l (Pointer align b) why = FailsPointer l align why
 
+-- each of these parts is no pointer, or one that is aligned and wide enough
 abbrev pub ArePartsFine : List Part → Type 0
 ArePartsFine parts = EachOf (λ (p : Part). IsKind p.l p.kind) parts
 
+-- one of these parts fails so
 abbrev pub FailsParts : List Part → Why → Type 0
 FailsParts parts why = SomeOf (λ (p : Part). FailsKind p.l p.kind why) parts
 
+-- the parts of each of these words are fine
 abbrev pub ArePointersFine : List FlatWord → Type 0
 ArePointersFine words = EachOf (λ (f : FlatWord). ArePartsFine f.parts) words
 
+-- a part of one of these words fails so
 abbrev pub FailsPointers : List FlatWord → Why → Type 0
 FailsPointers words why = SomeOf (λ (f : FlatWord). FailsParts f.parts why) words
 
+-- a word of a block has 8, 16, 32 or 64 bits
 abbrev pub HasWidth : FlatWord → Type 0
 HasWidth f = IsBlockWidth f.width
 
+-- it has another width, which is named
 abbrev pub FailsWidth : Why → FlatWord → Type 0
 FailsWidth (BlockWord w) f = (f.width ≡ w) × (IsBlockWidth w → ⊥)
 FailsWidth why f = ⊥
 
+-- a block of 1 to 64 words of such widths, with pointers that are fine
 pub record IsBlock (block : Block) : Type 0 where
   pub length : IsBlockLength (length block.words)
   pub widths : EachOf HasWidth block.words
@@ -59,6 +69,7 @@ FailsBlock block (Align a) = FailsPointers block.words (Align a)
 FailsBlock block (ShortPointer n) = FailsPointers block.words (ShortPointer n)
 FailsBlock block why = ⊥
 
+-- so many words are none or more than 64
 abbrev pub FailsLength : List FlatWord → Why → Type 0
 FailsLength words (BlockWords n) = (length words ≡ n) × (IsBlockLength n → ⊥)
 FailsLength words why = ⊥
@@ -78,5 +89,6 @@ pointed_block (Pointer align b) = Some b
 abbrev pub FailsNearPart : List Block → Part → Why → Type 0
 FailsNearPart blocks part why = FailsKind part.l part.kind why ⊎ FailsInBlocks blocks why
 
+-- a pointer among these parts fails so, or a block
 abbrev pub FailsNear : List Block → List Part → Why → Type 0
 FailsNear blocks parts why = FailsParts parts why ⊎ FailsInBlocks blocks why

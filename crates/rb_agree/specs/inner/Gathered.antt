@@ -16,12 +16,15 @@ use Rattle.rb_agree.specs.inner.Held.{block_runs, leaf_runs, part_runs, word_run
 abbrev pub Runs : Type 0
 Runs = Ty → List ℕ → List Run
 
+-- the runs of a position in these parts, part by part
 abbrev pub parts_runs : List Part → Runs
 parts_runs parts ty path = flat_map (part_runs ty path) parts
 
+-- in these words
 abbrev pub words_runs : List FlatWord → Runs
 words_runs words ty path = flat_map (word_runs ty path) words
 
+-- in these blocks
 abbrev pub blocks_runs : List Block → Runs
 blocks_runs blocks ty path = flat_map (block_runs ty path) blocks
 
@@ -30,6 +33,7 @@ abbrev pub has_words : Ty → Bool
 has_words (Int bits) = false
 has_words (Named s) = true
 
+-- both are true, or both false
 abbrev pub same_units : Bool → Bool → Bool
 same_units true b = b
 same_units false true = false
@@ -39,6 +43,7 @@ same_units false false = true
 abbrev pub run_there : List ℕ → Bool → Run → Runs
 run_there there words run ty path = if same_units words (has_words ty) && same_path there path then run ∷ [] else []
 
+-- the runs of position n; none where there is no such position
 abbrev pub row : List (List Run) → ℕ → List Run
 row rows n = slice_index_or rows n []
 

@@ -8,19 +8,24 @@ use Rattle.rb_layout.specs.Items.{item_lists, leaves_in}
 use Rattle.rb_agree.specs.declared.items.Item.{Item}
 use Rattle.rb_agree.specs.Written.{shown_items}
 
+-- the items of leaves, as the rules speak of them
 abbrev pub shown_leaves : List (List Item) → List (List I.Item)
 shown_leaves leaves = map shown_items leaves
 
+-- the items of a leaf as it is written, an outer one before those inside it
 abbrev pub leaf_items : WrittenLeaf → List I.Item
 leaf_items w = item_lists w.items
 
+-- and of leaves
 abbrev pub items_under : List WrittenLeaf → List (List I.Item)
 items_under ws = map leaf_items ws
 
+-- the items, if there are any
 abbrev pub items_or_none : Option (List Item) → List I.Item
 items_or_none None = []
 items_or_none (Some items) = shown_items items
 
+-- the leaves, if there are any
 abbrev pub leaves_or_none : Option (List (List Item)) → List (List Item)
 leaves_or_none None = []
 leaves_or_none (Some leaves) = leaves

@@ -19,6 +19,7 @@ module _ (decls : List LayoutDecl) (opens : List Open) where
       (j ≡ i) × (p.o ≡ o) × (p.l ≡ l) × (content_paths p.content ≡ path ∷ []) × (Fits decls opens l p.content → ⊥)
   FailsFit i p why = ⊥
 
+  -- a part lies in its word where its path is open, and fits what it holds
   pub record IsPartFine (width : ℕ) (p : WrittenPart) : Type 0 where
     pub inside : IsPlaced opens p.content → LiesIn width p.o p.l
     pub fit : Fits decls opens p.l p.content
@@ -30,12 +31,15 @@ module _ (decls : List LayoutDecl) (opens : List Open) where
   FailsPlaced i width p (Misfit j o l path) = FailsFit i p (Misfit j o l path)
   FailsPlaced i width p why = ⊥
 
+  -- how a part fails whose path is open, if it has one
   abbrev pub FailsPart : ℕ → ℕ → WrittenPart → Why → Type 0
   FailsPart i width p why = IsPlaced opens p.content × FailsPlaced i width p why
 
+  -- each part of a word is fine
   abbrev pub AreFine : ℕ → List Written → Type 0
   AreFine width parts = EachOf (λ (w : Written). IsPartFine width (shown_part w)) parts
 
+  -- some part of a word fails so
   abbrev pub FailsSome : ℕ → ℕ → List Written → Why → Type 0
   FailsSome i width parts why = SomeOf (λ (w : Written). FailsPart i width (shown_part w) why) parts
 
@@ -47,15 +51,18 @@ module _ (decls : List LayoutDecl) (opens : List Open) where
 abbrev pub IsFirst : Written → Written → ℕ → ℕ → ℕ → ℕ → Type 0
 IsFirst p q o l b m = (p.o ≡ o) × (p.l ≡ l) × (q.o ≡ b) × (q.l ≡ m)
 
+-- bit b is one of the l bits from o on, and begins m bits, at least one
 abbrev pub HasBit : ℕ → ℕ → ℕ → ℕ → Type 0
 HasBit o l b m = IsIn o l b × IsIn b m b
 
+-- two parts overlap: how that is named, by the part that begins first
 abbrev pub FailsPair : ℕ → Written → Written → Why → Type 0
 FailsPair i p q (Overlap j o l b m) =
     (j ≡ i) × ((IsFirst p q o l b m × (o ≤ b)) ⊎ (IsFirst q p o l b m × (o < b))) × HasBit o l b m
 FailsPair i p q why = ⊥
 
 module _ (opens : List Open) where
+  -- the path of a part, if it has one, is open
   abbrev pub IsSet : Written → Type 0
   IsSet w = IsPlaced opens (shown_part w).content
 
@@ -69,13 +76,16 @@ module _ (opens : List Open) where
       (j : ℕ) (p q : Written) → j < k → slice_get parts j ≡ Some p → slice_get parts k ≡ Some q → IsSet p → IsSet q
       → AreDisjoint p.o p.l q.o q.l
 
+  -- part k overlaps an earlier one so
   abbrev pub FailsBefore : ℕ → List Written → ℕ → Why → Type 0
   FailsBefore i parts k why =
       (j : ℕ) × (p : Written) × (q : Written) × (j < k) × (slice_get parts j ≡ Some p) × (slice_get parts k ≡ Some q)
       × IsSet p × IsSet q × FailsPair i p q why
 
+  -- no part of a word overlaps another
   abbrev pub AreApart : List Written → Type 0
   AreApart parts = (k : ℕ) → IsApartBefore parts k
 
+  -- some part of a word overlaps an earlier one so
   abbrev pub FailsApart : ℕ → List Written → Why → Type 0
   FailsApart i parts why = (k : ℕ) × FailsBefore i parts k why

@@ -19,9 +19,11 @@ abbrev pub test_at : Loc → List FlatArm → Option ℕ → Test
 test_at loc arms (Some c) = Is loc c
 test_at loc arms None = IsNone loc (literals_in arms)
 
+-- what a split asks, as a test
 abbrev pub test_of : Asking → Test
 test_of a = test_at a.loc.now a.arms.now a.literal
 
+-- what it asks below its `else`
 abbrev pub else_of : Asking → Test
 else_of a = test_at a.loc.now a.arms.now None
 
@@ -33,9 +35,11 @@ IsOff marks n = slice_get marks n ≡ Some false
 abbrev pub Keeps : List Bool → List Bool → Type 0
 Keeps old new = (n : ℕ) → IsOff new n → IsOff old n
 
+-- leaf n is one of a span
 abbrev pub IsAmong : Span → ℕ → Type 0
 IsAmong span n = (span.first ≤ n) × (n < span.end)
 
+-- one span has all leaves of another
 abbrev pub Covers : Span → Span → Type 0
 Covers whole span = (whole.first ≤ span.first) × (span.end ≤ whole.end)
 

@@ -28,6 +28,7 @@ use Rattle.rb_agree.specs.Pointing.{AreMarks}
 use Rattle.rb_agree.specs.inner.Leaves.{AreWritten}
 use Rattle.rb_agree.specs.inner.Passing.{IsOff}
 
+-- the number of a rule, as it is printed
 abbrev pub rule_number : Rule → ℕ
 rule_number Roots = 2
 rule_number Parts = 3
@@ -63,15 +64,19 @@ leaf_spots decls Splits t layout n leaf = []
 leaf_spots decls Flattening t layout n leaf = S.NoPointer t n leaf ∷ []
 leaf_spots decls Holding t layout n leaf = []
 
+-- the places of a layout's leaves under a rule, leaf by leaf
 abbrev pub leaves_spots : List LayoutDecl → Rule → ℕ → Layout → List Spot
 leaves_spots decls rule t layout = by_leaves (leaf_spots decls rule t layout) 0 layout.leaves
 
+-- the places of a layout under a rule: that of its type, then those of its leaves
 abbrev pub spots_of : List LayoutDecl → Rule → ℕ → Layout → List Spot
 spots_of decls rule t layout = type_spots rule t layout ++ leaves_spots decls rule t layout
 
+-- the places of all layouts under a rule, type by type
 abbrev pub rule_spots : List LayoutDecl → List Layout → Rule → List Spot
 rule_spots decls layouts rule = by_types (spots_of decls rule) 0 layouts
 
+-- under some rules, rule by rule
 abbrev pub rules_spots : List LayoutDecl → List Layout → List Rule → List Spot
 rules_spots decls layouts rules = flat_map (rule_spots decls layouts) rules
 
@@ -79,6 +84,7 @@ rules_spots decls layouts rules = flat_map (rule_spots decls layouts) rules
 abbrev pub early_rules : List Rule
 early_rules = Roots ∷ Parts ∷ Blocks ∷ Values ∷ Fields ∷ []
 
+-- the rules that are looked at once all layouts keep the others
 abbrev pub late_rules : List Rule
 late_rules = Tests ∷ Splits ∷ Flattening ∷ Holding ∷ []
 
@@ -120,14 +126,17 @@ pub record IsRuled (r : Ruled) : Type 0 where
 abbrev pub FindsOf : Ruled → List Spot → Option Refused → Type 0
 FindsOf r spots found = Finds r.program.now r.layouts.now spots found
 
+-- what is found at the place of a layout's type under its rule
 abbrev pub FindsAtType : Ruled → Option Why → Type 0
 FindsAtType r why = FindsOf r (type_spots r.rule r.ty r.layout.now) (refusal (rule_number r.rule) r.ty None why)
 
+-- what is found at the places of its leaf n
 abbrev pub FindsAtLeaf : Ruled → ℕ → Leaf → Option Why → Type 0
 FindsAtLeaf r n leaf why =
     FindsOf r (leaf_spots r.program.now.layouts r.rule r.ty r.layout.now n leaf)
     (refusal (rule_number r.rule) r.ty (Some n) why)
 
+-- what is found at the places of all its leaves
 abbrev pub FindsAtLeaves : Ruled → Option Refused → Type 0
 FindsAtLeaves r = FindsOf r (leaves_spots r.program.now.layouts r.rule r.ty r.layout.now)
 

@@ -5,6 +5,7 @@ use Rattle.rb_layout.specs.declared.opens.OpenPosition.{OpenPosition}
 use Rattle.rb_agree.specs.declared.search.Side.{Side}
 use Rattle.rb_agree.specs.declared.search.Side.TheVariants.{Left, Same, Right, Along}
 
+-- where a path stands beside another, by the first field where they differ
 abbrev pub side_of : List ℕ → List ℕ → Side
 side_of [] [] = Same
 side_of [] (j ∷ q) = Along

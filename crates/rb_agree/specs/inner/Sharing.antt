@@ -8,12 +8,14 @@ use Rattle.rb_layout.specs.declared.layout.Leaf.{Leaf}
 use Rattle.rb_layout.specs.A5.{HaveCommon}
 use Rattle.rb_agree.specs.inner.Passing.{IsOff}
 
+-- the number of the constructor at a pattern's root, if one stands there
 abbrev pub root_con : Pat-F Pat → Option ℕ
 root_con (P.Wild at) = None
 root_con (P.Var at x) = None
 root_con (P.Num at n) = None
 root_con (P.Con at c ps) = Some c.con
 
+-- the pattern in field i of that constructor, if there is one
 abbrev pub sub_at : Pat-F Pat → ℕ → Option Pat
 sub_at (P.Wild at) i = None
 sub_at (P.Var at x) i = None
@@ -26,9 +28,11 @@ con_from None path = None
 con_from (Some p) [] = root_con (out-Pat p)
 con_from (Some p) (i ∷ path) = con_from (sub_at (out-Pat p) i) path
 
+-- the number of the constructor at a path of a pattern, if one stands there
 abbrev pub con_at : Pat → List ℕ → Option ℕ
 con_at p path = con_from (Some p) path
 
+-- that of each leaf
 abbrev pub heads_in : List ℕ → List Leaf → List (Option ℕ)
 heads_in path leaves = map (λ (leaf : Leaf). con_at leaf.prov path) leaves
 
@@ -37,6 +41,7 @@ abbrev pub MayBe : Option ℕ → ℕ → Type 0
 MayBe None con = Unit {0}
 MayBe (Some d) con = d ≡ con
 
+-- m is one of these members
 abbrev pub IsIn : List ℕ → ℕ → Type 0
 IsIn members m = (k : ℕ) × (slice_get members k ≡ Some m)
 
@@ -45,6 +50,7 @@ abbrev pub HaveBefore : List (Option ℕ) → ℕ → ℕ → List ℕ → Type 
 HaveBefore heads con i members =
     (m : ℕ) (head : Option ℕ) → m < i → slice_get heads m ≡ Some head → MayBe head con → IsIn members m
 
+-- all leaves that may have a constructor are members
 abbrev pub HaveAll : List (Option ℕ) → ℕ → List ℕ → Type 0
 HaveAll heads con members = (m : ℕ) (head : Option ℕ) → slice_get heads m ≡ Some head → MayBe head con → IsIn members m
 

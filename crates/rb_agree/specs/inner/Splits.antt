@@ -8,9 +8,11 @@ use Rattle.rb_layout.specs.declared.evidence.Why.TheVariants.{LiteralWide, Liter
 use Rattle.rb_layout.specs.Splits.{SplitAt, splits_under}
 use Rattle.rb_layout.specs.A8.{HasArm, length_of}
 
+-- the literals of arms, in their order
 abbrev pub literals_in : List FlatArm → List ℕ
 literals_in arms = map (λ (a : FlatArm). a.literal) arms
 
+-- a split by its location, the literals of its arms, and whether it has an `else`
 abbrev pub split_of : Loc → List FlatArm → Bool → SplitAt
 split_of loc arms other = record { loc = loc; literals = literals_in arms; other = other }
 
@@ -18,15 +20,19 @@ split_of loc arms other = record { loc = loc; literals = literals_in arms; other
 abbrev pub arm_splits : List FlatArm → List SplitAt
 arm_splits arms = flat_map (λ (a : FlatArm). (splits_under a).of) arms
 
+-- c is one of these literals
 abbrev pub IsAmong : List ℕ → ℕ → Type 0
 IsAmong cs c = (k : ℕ) × (slice_get cs k ≡ Some c)
 
+-- c stands in two places among these literals
 abbrev pub IsTwice : List ℕ → ℕ → Type 0
 IsTwice cs c = (j : ℕ) × (k : ℕ) × (j < k) × (slice_get cs j ≡ Some c) × (slice_get cs k ≡ Some c)
 
+-- each of these literals has at most so many bits
 abbrev pub AreFit : ℕ → List ℕ → Type 0
 AreFit bits cs = (k c : ℕ) → slice_get cs k ≡ Some c → c < 2 ^ bits
 
+-- no literal stands in two places
 abbrev pub AreDistinct : List ℕ → Type 0
 AreDistinct cs = (j k c : ℕ) → j < k → slice_get cs j ≡ Some c → slice_get cs k ≡ Some c → ⊥
 

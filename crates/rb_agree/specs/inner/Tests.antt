@@ -14,9 +14,11 @@ use Rattle.rb_agree.specs.declared.tests.Below.{Below}
 use Rattle.rb_agree.specs.declared.tests.Below.TheVariants.{Absent, Passes, Fails}
 use Rattle.rb_agree.specs.inner.Lists.{EachOf, SomeOf}
 
+-- the ways to leaves through these arms
 abbrev pub arms_routes : Loc → List FlatArm → List Route
 arms_routes loc arms = flat_map (λ (a : FlatArm). arm_routes loc (routes_under a)) arms
 
+-- the ways through the `else`, if there is one: behind the test that no literal is there
 abbrev pub other_routes : Loc → List ℕ → Option FlatTree → List Route
 other_routes loc literals None = []
 other_routes loc literals (Some tree) = map (behind (IsNone loc literals)) (routes_of tree)
@@ -48,6 +50,7 @@ module _ (types : List DataDecl) (layouts : List Layout) (leaf : Leaf) (n : ℕ)
   abbrev pub Leads : Route → Type 0
   Leads r = r.leaf ≡ n
 
+  -- a way leads to another leaf
   abbrev pub Misses : Route → Type 0
   Misses r = Leads r → ⊥
 
@@ -55,9 +58,12 @@ module _ (types : List DataDecl) (layouts : List Layout) (leaf : Leaf) (n : ℕ)
   abbrev pub PassesRoute : Route → Type 0
   PassesRoute r = Leads r → EachOf (Meets types layouts leaf) r.tests
 
+  -- a way leads to the leaf, which fails a test on it so
   abbrev pub FailsRoute : Why → Route → Type 0
   FailsRoute why r = Leads r × SomeOf (λ (t : Test). FailsTest types layouts leaf t why) r.tests
 
+  -- what is known of the leaf on these ways: none leads to it; or one does, and it passes the tests on each
+  -- that does; or it fails one so
   abbrev pub IsBelow : List Route → Below → Type 0
   IsBelow routes Absent = EachOf Misses routes
   IsBelow routes Passes = SomeOf Leads routes × EachOf PassesRoute routes

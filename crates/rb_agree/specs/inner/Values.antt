@@ -5,9 +5,11 @@ use Rattle.rb_core.specs.declared.pattern.Pat.{Pat}
 use Rattle.rb_layout.specs.declared.layout.Leaf.{Leaf}
 use Rattle.rb_layout.specs.A5.{Matches}
 
+-- the provenances of leaves
 abbrev pub provenances_in : List Leaf → List Pat
 provenances_in leaves = map (λ (l : Leaf). l.prov) leaves
 
+-- no value matches both patterns
 abbrev pub AreDifferent : Pat → Pat → Type 0
 AreDifferent p q = (v : Value) → Matches p v → Matches q v → ⊥
 

@@ -41,6 +41,7 @@ abbrev pub IsShared : Plan → ℕ → ℕ → Ty → Option Held → Type 0
 IsShared plan n m t None = Unit {0}
 IsShared plan n m t (Some h) = (h.ty ≡ t) × AreShared n m (words_of plan t) h.slots
 
+-- the slots in which arms leave their values, once an arm stands
 abbrev pub shared_slots : Option Held → List ℕ
 shared_slots None = []
 shared_slots (Some h) = h.slots
@@ -95,6 +96,7 @@ pub record ArmIsDone (plan : Plan) (f : ℕ) (c : Clause) (wanted : Option Ty) (
   pub same : (h : Held) → into ≡ Some h → r.into ≡ h
   pub clause : DoesClause plan f c wanted ls s t xs n r.into.slots a d r.join.pc
 
+-- where the clause and what stands before the match are ready, the code from a to d is such an arm
 abbrev pub EmitsArm : Plan → ℕ → Clause → Option Ty → List Local → Held → Option Held → Sheet → Sheet → Joined → Type 0
 EmitsArm plan f c wanted ls held into a d r =
     (s t : Ty) (n : ℕ) → ClauseIsReady plan f c wanted ls s t → GroundIsReady plan ls held s n a.slots
@@ -113,6 +115,7 @@ pub record ArmsDone (plan : Plan) (f i : ℕ) (cs : List Clause) (wanted : Optio
   pub shared : IsShared plan n q.slots t into
   pub arms : ArmsIn i e q joins starts (DoesNumber plan f cs wanted ls s t xs n (shared_slots into))
 
+-- where the clauses and what stands before the match are ready, the first i arms stand behind e
 abbrev pub EmitsArms : Plan → ℕ → ℕ → List Clause → Option Ty → List Local → Held → Sheet → Sheet
     → Option Held → List Hole → List ℕ → Type 0
 EmitsArms plan f i cs wanted ls held e q into joins starts =

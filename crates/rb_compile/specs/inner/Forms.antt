@@ -51,6 +51,7 @@ IsOne old i t new held = (new ≡ pushed (with_slot old) i) × (held ≡ record 
 abbrev pub alu_on : Sheet → Op → Ty → Held → Held → Instr
 alu_on b op t x y = Alu (alu_op_of op) (stated_width t) b.slots (slice_index x.slots 0) (slice_index y.slots 0)
 
+-- so many low bits of a value that is held in a word, taken to a new slot
 abbrev pub low_bits_of : Sheet → Held → ℕ → Instr
 low_bits_of b x bits = Take b.slots (slice_index x.slots 0) 0 bits
 
@@ -68,5 +69,6 @@ abbrev pub variable_is : Option Held → Sheet → Sheet → Held → Type 0
 variable_is None old new held = IsOne old (Const old.slots 0) (Int 64) new held
 variable_is (Some h) old new held = (new ≡ old) × (held ≡ h)
 
+-- the same by the variable's number, among those that are bound
 abbrev pub VariableIs : List Local → ℕ → Sheet → Sheet → Held → Type 0
 VariableIs ls x old new held = variable_is (held_or None x ls) old new held

@@ -18,10 +18,12 @@ pub record SiteIsReady (plan : Plan) (f : ℕ) (s : Site) : Type 0 where
   pub exhaustive : IsExhaustive plan.program.types s.scrutinee s.patterns
   pub paid : bound_of plan.program.types plan.layouts s.scrutinee s.patterns ≤ plan.bound f s.at
 
+-- s is one of these matches
 abbrev pub IsAmong : Site → List Site → Type 0
 IsAmong s [] = ⊥
 IsAmong s (x ∷ xs) = (x ≡ s) ⊎ IsAmong s xs
 
+-- each of these matches is ready
 abbrev pub SitesAreReady : Plan → ℕ → List Site → Type 0
 SitesAreReady plan f ss = (s : Site) → IsAmong s ss → SiteIsReady plan f s
 

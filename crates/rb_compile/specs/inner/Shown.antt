@@ -6,6 +6,7 @@ use Rattle.rb_core.specs.declared.expression.Expr.TheOpen.{Expr-F}
 use Rattle.rb_core.specs.declared.expression.Expr.TheFolds.{fold-Expr}
 use Rattle.rb_core.specs.declared.expression.Clause.{Clause-F}
 
+-- what an expression shows, from what its parts show
 abbrev pub shown_step : Expr-F Pat Pat → Pat
 shown_step (E.Num at n) = Wild 0
 shown_step (E.Var at x) = Wild 0
@@ -16,6 +17,7 @@ shown_step (E.To at bits p) = Wild 0
 shown_step (E.Let at x t p q) = Wild 0
 shown_step (E.Match at p qs) = Wild 0
 
+-- what a clause's body shows
 abbrev pub shown_body : Clause-F Pat Pat → Pat
 shown_body c = c.body
 

@@ -94,6 +94,7 @@ pub record DoesTailArm (plan : Plan) (f : ℕ) (c : Clause) (ls : List Local) (s
       (λ left. meaning_of plan.program calls f c.body (Some t) (clause_scope plan c ls s) left
       (env ++ bindings c.pat v)) t
 
+-- where the clause and what stands before the match are ready, the code from a to d is such an arm
 abbrev pub EmitsTailArm : Plan → ℕ → Clause → Ty → List Local → Held → Sheet → Sheet → Type 0
 EmitsTailArm plan f c t ls held a d =
     (s : Ty) (n : ℕ) → ClauseIsReady plan f c (Some t) ls s t → GroundIsReady plan ls held s n a.slots
@@ -138,6 +139,7 @@ abbrev pub TailsAreReady : Plan → ℕ → List Clause → List Local → Ty �
 TailsAreReady plan f cs ls s t =
     (k : ℕ) (c : Clause) → slice_get cs k ≡ Some c → ClauseIsReady plan f c (Some t) ls s t
 
+-- where the clauses and what stands before the match are ready, the first i arms stand behind e
 abbrev pub EmitsTailArms :
     Plan → ℕ → ℕ → List Clause → Ty → List Local → Held → Sheet → Sheet → List ℕ → Type 0
 EmitsTailArms plan f i cs t ls held e q starts =

@@ -23,6 +23,7 @@ use Rattle.rb_core.specs.Meaning.{value_in}
 use Rattle.rb_layout.specs.declared.layout.Layout.{Layout}
 use Rattle.rb_match.specs.Bounding.{binding_bound}
 
+-- the variables of an expression, from those of its parts
 abbrev pub variables_step : Expr-F (List ℕ) (List ℕ) → List ℕ
 variables_step (E.Num at n) = []
 variables_step (E.Var at x) = x ∷ []
@@ -33,6 +34,7 @@ variables_step (E.To at bits xs) = xs
 variables_step (E.Let at x t xs ys) = xs ++ ys
 variables_step (E.Match at xs yss) = xs ++ flat_map (λ ys. ys) yss
 
+-- those of a clause's body
 abbrev pub body_variables : Clause-F (List ℕ) (List ℕ) → List ℕ
 body_variables c = c.body
 
@@ -40,6 +42,7 @@ body_variables c = c.body
 abbrev pub variables_in : Expr → List ℕ
 variables_in = fold-Expr (List ℕ) (List ℕ) variables_step body_variables
 
+-- the variables that stand in the body of a clause
 abbrev pub variables_of_clause : Clause → List ℕ
 variables_of_clause = fold-Clause (List ℕ) (List ℕ) variables_step body_variables
 
@@ -53,6 +56,7 @@ ValuesAgree xs e e' = (x : ℕ) → Contains xs x → value_in e x ≡ value_in 
 
 -- Patterns without variables that are not used ---------------------------------------------------
 
+-- a pattern without numbers and the variables that are not kept, from such patterns in its fields
 abbrev pub pruned_step : (ℕ → Bool) → Pat-F Pat → Pat
 pruned_step keeps (P.Wild at) = Wild at
 pruned_step keeps (P.Var at x) = if keeps x then Var at x else Wild at
@@ -67,6 +71,7 @@ pruned keeps = fold-Pat Pat (pruned_step keeps)
 abbrev pub is_kept : Marks → ℕ → Bool
 is_kept m x = if nat_lt x m.first then true else unwrap_or (slice_get m.used (x - m.first)) true
 
+-- each of these variables is kept
 abbrev pub AreKept : List ℕ → Marks → Type 0
 AreKept xs m = (x : ℕ) → Contains xs x → is_kept m x ≡ true
 

@@ -9,6 +9,7 @@ use Rattle.rb_decide.specs.Trees.{size, heads_in, tree_within, test_of, arms_of}
 use Rattle.rb_core.specs.declared.types.Ty.{Ty}
 use Rattle.rb_core.specs.declared.types.DataDecl.{DataDecl}
 
+-- the type of the values in a column
 abbrev pub column_ty : Column → Ty
 column_ty c = c.ty
 
@@ -17,12 +18,15 @@ abbrev pub IsBuilt : Tree → ℕ → ℕ → Option Tree → Type 0
 IsBuilt t old new None = old < size t
 IsBuilt t old new (Some x) = (x ≡ t) × (size t + new ≡ old)
 
+-- the tree below an arm
 abbrev pub arm_tree : TreeArm → Tree
 arm_tree a = a.under
 
+-- the sizes of the trees below arms, taken together
 abbrev pub arms_size : List TreeArm → ℕ
 arms_size arms = sum (map (λ a. size (arm_tree a)) arms)
 
+-- the same of arms
 abbrev pub AreBuilt : List TreeArm → ℕ → ℕ → Option (List TreeArm) → Type 0
 AreBuilt ts old new None = old < arms_size ts
 AreBuilt ts old new (Some xs) = (xs ≡ ts) × (arms_size ts + new ≡ old)

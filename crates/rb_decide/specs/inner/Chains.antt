@@ -39,6 +39,7 @@ abbrev pub chain_fields : List Chain → List ℕ → List Ty → Tree → Tree
 chain_fields fs position tys t =
     if length fs == length tys then chain_row fs (field_columns position 0 tys) t else Clause 1
 
+-- the tests of a pattern, from those of its fields
 abbrev pub chain_step : List DataDecl → Pat-F Chain → Chain
 chain_step types (P.Wild at) c t = t
 chain_step types (P.Var at x) c t = t
@@ -46,6 +47,7 @@ chain_step types (P.Num at n) c t = one_test types (H.Num n) c t
 chain_step types (P.Con at con fs) c t =
     one_test types (H.Con con) c (chain_fields fs c.position (field_types types c.ty (H.Con con)) t)
 
+-- the tests of a pattern, put before a tree
 abbrev pub chain : List DataDecl → Pat → Chain
 chain types = fold-Pat Chain (chain_step types)
 
@@ -68,9 +70,11 @@ pub record IsChained (put : Tree → Tree) (most : ℕ) (old : List GraphNode) (
 abbrev pub IsTest : List DataDecl → Head → Column → List GraphNode → ℕ → List GraphNode → ℕ → Type 0
 IsTest types h c = IsChained (one_test types h c) 1
 
+-- of a pattern
 abbrev pub IsPatternChain : List DataDecl → Pat → Column → List GraphNode → ℕ → List GraphNode → ℕ → Type 0
 IsPatternChain types p c = IsChained (chain types p c) (head_count p)
 
+-- and of the patterns of a constructor's fields
 abbrev pub IsFieldChain : List DataDecl → List Pat → List ℕ → List Ty → List GraphNode → ℕ → List GraphNode → ℕ → Type 0
 IsFieldChain types ps position fields =
     IsChained (chain_fields (map (chain types) ps) position fields) (row_heads ps)

@@ -15,13 +15,16 @@ use Rattle.rb_decide.specs.Graphs.{node_trees, arm_link, other_link, LinksAreLow
 
 -- Keys ----------------------------------------------------------------------------------------------
 
+-- a head as a list of three numbers
 abbrev pub head_key : Head → List ℕ
 head_key (H.Num n) = 0 ∷ n ∷ 0 ∷ []
 head_key (H.Con c) = 1 ∷ c.ty ∷ c.con ∷ []
 
+-- an arm as a list of four: its head's, and its link
 abbrev pub arm_key : GraphArm → List ℕ
 arm_key a = head_key a.head ++ a.under ∷ []
 
+-- the link to what stands last, or that there is none
 abbrev pub other_key : Option ℕ → List ℕ
 other_key None = 0 ∷ []
 other_key (Some i) = 1 ∷ i ∷ []
@@ -48,6 +51,7 @@ pub record IsFine (s : Sharing) : Type 0 where
 abbrev pub AddsKey : Sharing → Sharing → List ℕ → ℕ → Type 0
 AddsKey old new key i = (q : List ℕ) → number_at new q ≡ (if bytes_eq q key then Some i else number_at old q)
 
+-- nodes are only added, behind the others
 abbrev pub Grows : Sharing → Sharing → Type 0
 Grows old new = (more : List GraphNode) × (new.nodes ≡ old.nodes ++ more)
 
@@ -55,6 +59,7 @@ Grows old new = (more : List GraphNode) × (new.nodes ≡ old.nodes ++ more)
 abbrev pub AddsReached : Sharing → Sharing → (ℕ → Type 0) → Type 0
 AddsReached old new IsEnd = (k : ℕ) → length old.nodes ≤ k → k < length new.nodes → IsEnd k ⊎ IsLinked new.nodes k
 
+-- a node has this number, and no other node is new
 pub record IsAdded (old new : Sharing) (n : GraphNode) (i : ℕ) : Type 0 where
   pub fine : IsFine new
   pub grown : Grows old new
@@ -75,18 +80,21 @@ Linked trees [] (l ∷ ls) = ⊥
 Linked trees (a ∷ as') [] = ⊥
 Linked trees (a ∷ as') (l ∷ ls) = (l.head ≡ a.head) × (slice_get trees l.under ≡ Some a.under) × Linked trees as' ls
 
+-- each tree of these arms has the number that its link says
 pub record AreShared (arms : List TreeArm) (old new : Sharing) (ls : List GraphArm) : Type 0 where
   pub fine : IsFine new
   pub grown : Grows old new
   pub there : Linked (node_trees new.nodes) arms ls
   pub reached : AddsReached old new (λ k. IsAmong k (map arm_link ls))
 
+-- what stands last is linked to where it is there
 abbrev pub OtherLinked : List Tree → Option Tree → Option ℕ → Type 0
 OtherLinked trees None None = Unit {0}
 OtherLinked trees None (Some i) = ⊥
 OtherLinked trees (Some t) None = ⊥
 OtherLinked trees (Some t) (Some i) = slice_get trees i ≡ Some t
 
+-- its tree has the number that its link says, if there is one
 pub record IsOtherShared (other : Option Tree) (old new : Sharing) (link : Option ℕ) : Type 0 where
   pub fine : IsFine new
   pub grown : Grows old new
