@@ -20,6 +20,7 @@ pub record Place : Type 0 where
   pub path : List ℕ
   pub ty : Ty
 
+-- a place in field i, seen from above the field
 abbrev pub place_below : ℕ → Place → Place
 place_below i p = record { path = i ∷ p.path; ty = p.ty }
 
@@ -29,6 +30,7 @@ places_below [] ts i = []
 places_below (p ∷ ps) [] i = []
 places_below (p ∷ ps) (t ∷ ts) i = map (place_below i) (p t) ++ places_below ps ts (i + 1)
 
+-- the places of a pattern at a type, from those of its subpatterns
 abbrev pub places_step : List DataDecl → Pat-F (Ty → List Place) → Ty → List Place
 places_step types (P.Wild at) t = []
 places_step types (P.Var at x) t = []
@@ -39,6 +41,7 @@ places_step types (P.Con at c ps) t = record { path = []; ty = t } ∷ places_be
 abbrev pub places_in : List DataDecl → Pat → Ty → List Place
 places_in types = fold-Pat (Ty → List Place) (places_step types)
 
+-- two places have one position and one type
 abbrev pub same_place : Place → Place → Bool
 same_place a b = same_path a.path b.path && same_type a.ty b.ty
 

@@ -53,6 +53,7 @@ take_link (a ∷ arms) other tested = if layer_begins a.head tested then Some a.
 
 -- What edges carry -----------------------------------------------------------------------------
 
+-- there is such a node, and it tests a position
 abbrev pub is_test : Option GraphNode → Bool
 is_test None = false
 is_test (Some (Clause k)) = false
@@ -64,24 +65,30 @@ carried nodes node known = if is_test (slice_get nodes node) then known else []
 
 -- Numbers ---------------------------------------------------------------------------------------
 
+-- the number of a head; 0 for a constructor
 abbrev pub number_of : Head → ℕ
 number_of (H.Num n) = n
 number_of (H.Con c) = 0
 
+-- a head is a number of at most 64 bits
 abbrev pub is_number : Head → Bool
 is_number (H.Num n) = nat_lt n (2 ^ 64)
 is_number (H.Con c) = false
 
+-- the arm of a switch for a head, with its target
 abbrev pub number_arm : ℕ → Head → SwitchArm
 number_arm next head = record { number = number_of head; target = next }
 
+-- the arms of a switch, one for each of these, all with one target
 abbrev pub number_arms : ℕ → List GraphArm → List SwitchArm
 number_arms next arms = map (λ (a : GraphArm). number_arm next a.head) arms
 
+-- each of these arms has a number of at most 64 bits
 abbrev pub are_numbers : List GraphArm → Bool
 are_numbers [] = true
 are_numbers (a ∷ arms) = is_number a.head && are_numbers arms
 
+-- an edge by its instruction, its arm, its node, and what is known there
 abbrev pub edge_at : ℕ → Option ℕ → ℕ → List Known → Edge
 edge_at pc arm node known = record { hole = record { pc = pc; arm = arm; leaf = node }; known = known }
 
@@ -89,26 +96,31 @@ edge_at pc arm node known = record { hole = record { pc = pc; arm = arm; leaf = 
 abbrev pub edge_in : List GraphNode → ℕ → Option ℕ → ℕ → List Known → Edge
 edge_in nodes pc arm node known = edge_at pc arm node (carried nodes node known)
 
+-- the edges of a switch by its arms, counted from k, each to the node of one of these
 abbrev pub arm_edges : List GraphNode → ℕ → List Known → List GraphArm → ℕ → List Edge
 arm_edges nodes pc known [] k = []
 arm_edges nodes pc known (a ∷ arms) k = edge_in nodes pc (Some k) a.under known ∷ arm_edges nodes pc known arms (k + 1)
 
+-- and by its `else`, if there is another node
 abbrev pub else_edges : List GraphNode → ℕ → List Known → Option ℕ → List Edge
 else_edges nodes pc known None = []
 else_edges nodes pc known (Some link) = edge_in nodes pc None link known ∷ []
 
 -- Constructors ----------------------------------------------------------------------------------
 
+-- the number of the constructor that stands there, if one does
 abbrev pub con_of_layer : Pat-F Pat → Option ℕ
 con_of_layer (P.Wild at) = None
 con_of_layer (P.Var at x) = None
 con_of_layer (P.Num at n) = None
 con_of_layer (P.Con at c ps) = Some c.con
 
+-- that of a leaf's provenance
 abbrev pub con_in : Option Leaf → Option ℕ
 con_in None = None
 con_in (Some leaf) = con_of_layer (out-Pat leaf.prov)
 
+-- leaf l of a layout, if there is one
 abbrev pub leaf_in : Option Layout → ℕ → Option Leaf
 leaf_in None l = None
 leaf_in (Some layout) l = slice_get layout.leaves l
@@ -117,6 +129,7 @@ leaf_in (Some layout) l = slice_get layout.leaves l
 abbrev pub leaf_con : LaidOut → ℕ → ℕ → Option ℕ
 leaf_con agreed t l = con_in (leaf_in (layout_of agreed.layouts t) l)
 
+-- the node to which a constructor leads
 abbrev pub link_at : List GraphArm → Option ℕ → Option ℕ → Option ℕ
 link_at arms other None = None
 link_at arms other (Some c) = take_link arms other (V.Con c [])
@@ -151,19 +164,23 @@ pub record AreGroups {A : Type 0} (IsGroup : ℕ → A → Type 0) (count : ℕ)
   pub long : length groups ≡ count
   pub each : (leaf : ℕ) → leaf < count → (group : A) × (slice_get groups leaf ≡ Some group) × IsGroup leaf group
 
+-- an edge by a hole, where it leads to a node
 abbrev pub edge_to : List GraphNode → Hole → List Known → Option ℕ → Option Edge
 edge_to nodes h facts None = None
 edge_to nodes h facts (Some node) = Some (edge_in nodes h.pc h.arm node facts)
 
+-- the edge by the hole of a group of leaves, where they lead to a node
 abbrev pub edge_for : LaidOut → List GraphNode → ℕ → Bor (List ℕ) → List Known → List GraphArm → Option ℕ → Hole
     → Option Edge
 edge_for agreed nodes t position known arms other h =
     edge_to nodes h (facts_for agreed t position known h.leaf) (node_for agreed t arms other h.leaf)
 
+-- an edge before others, if there is one
 abbrev pub keep_edge : Option Edge → List Edge → List Edge
 keep_edge None es = es
 keep_edge (Some e) es = e ∷ es
 
+-- the edges by these holes, each of which has the number of a group
 abbrev pub leaf_edges_of : LaidOut → List GraphNode → ℕ → Bor (List ℕ) → List Known → List GraphArm → Option ℕ
     → List Hole → List Edge
 leaf_edges_of agreed nodes t position known arms other [] = []
@@ -173,9 +190,11 @@ leaf_edges_of agreed nodes t position known arms other (h ∷ hs) =
 
 -- Edges -----------------------------------------------------------------------------------------
 
+-- the hole of an edge
 abbrev pub hole_of : Edge → Hole
 hole_of e = e.hole
 
+-- the holes of edges, in their order
 abbrev pub holes_of : List Edge → List Hole
 holes_of es = map hole_of es
 
@@ -189,6 +208,7 @@ LeadOneWay edges =
     (e f : Edge) → IsEdge e edges → IsEdge f edges → e.hole.pc ≡ f.hole.pc → e.hole.arm ≡ f.hole.arm
     → e.hole.leaf ≡ f.hole.leaf
 
+-- edges are open in the code from old to new, and each target of theirs leads to one node
 pub record StandOpen (old new : Sheet) (edges : List Edge) : Type 0 where
   pub are_open : AreOpen (length old.code) new.code edges
   pub one : LeadOneWay edges
@@ -213,6 +233,7 @@ pub record LeavesWhere (To : View → ℕ → Type 0) (plan : Plan) (final : Lis
 abbrev pub IsNode : ℕ → View → ℕ → Type 0
 IsNode node view k = k ≡ node
 
+-- to a node of this number
 abbrev pub LeavesBy : Plan → List Instr → Next → List Edge → ℕ → ℕ → ℕ → List ℕ → World → Bool → Value → List Spot → ℕ
     → Type 0
 LeavesBy plan final next edges n most start s w clean v spots node =
@@ -250,6 +271,7 @@ abbrev pub AskedAt : Plan → Ty → ℕ → List Spot → List Read → List Kn
     → Sheet → List Edge → Type 0
 AskedAt = AskedThere IsNode
 
+-- the code of a test of an integer, over reads of its word
 abbrev pub AsksNumber : List Read → List Known → List GraphArm → Option ℕ → Sheet → Sheet → List Edge → Type 0
 AsksNumber reads known arms other old new edges =
     (plan : Plan) (n bits : ℕ) (position : List ℕ) (spots : List Spot) → n ≤ old.slots → SpotsBelow old.slots spots

@@ -56,13 +56,16 @@ IsLeftOut agreed t p n = (leaf : Leaf) → leaf_in (layout_of agreed.layouts t) 
 abbrev pub IsOnly : LaidOut → ℕ → Pat → ℕ → ℕ → Type 0
 IsOnly agreed t p leaf count = (n : ℕ) → n < count → (n ≡ leaf) ⊎ IsLeftOut agreed t p n
 
+-- of all leaves of the type
 abbrev pub IsOnlyLeaf : LaidOut → ℕ → Pat → ℕ → Type 0
 IsOnlyLeaf agreed t p leaf = IsOnly agreed t p leaf (leaf_count agreed t)
 
+-- each of these is true
 abbrev pub all_unbound : List Bool → Bool
 all_unbound [] = true
 all_unbound (b ∷ bs) = b && all_unbound bs
 
+-- whether a pattern has no variable, from its subpatterns
 abbrev pub unbound_step : Pat-F Bool → Bool
 unbound_step (P.Wild at) = true
 unbound_step (P.Var at x) = false
@@ -104,16 +107,19 @@ abbrev pub fields_bound : Plan → List Pat → List Ty → ℕ
 fields_bound plan subs fields =
     looks_with (binding_look plan.layouts) (places_below (map (places_in plan.program.types) subs) fields 0)
 
+-- the code that binds the patterns of the fields from i on, at a leaf
 abbrev pub BindsFields : LaidOut → ℕ → ℕ → List ℕ → List Pat → List Ty → ℕ → Sheet → Sheet → List Local → Type 0
 BindsFields agreed t leaf words subs fields i old new bound =
     (plan : Plan) → IsPlanOf agreed plan → AllBelow old.slots words → length words ≡ words_of plan (Named t)
     → BindsParts plan (mends_from plan.layouts t leaf subs i + fields_bound plan subs fields) t leaf words
     (all_binders (map (binders plan.program.types) subs) fields) old new bound (FieldsMatch subs i)
 
+-- field i matches its pattern, which binds these
 abbrev pub FieldMatches : Pat → ℕ → Value → List Binding → Type 0
 FieldMatches sub i v bs =
     (part : Value) × (part_at v (i ∷ []) ≡ Some part) × (matches_of sub part ≡ true) × (bs ≡ bindings sub part)
 
+-- the code that binds the pattern of field i, at a leaf
 abbrev pub BindsField : LaidOut → ℕ → ℕ → List ℕ → Pat → Ty → ℕ → Sheet → Sheet → List Local → Type 0
 BindsField agreed t leaf words sub field i old new bound =
     (plan : Plan) → IsPlanOf agreed plan → AllBelow old.slots words → length words ≡ words_of plan (Named t)
@@ -135,6 +141,7 @@ pub record SavedTogether (plan : Plan) (n : ℕ) (c : ConRef) (words : List ℕ)
       → Piece plan n old new Nowhere (choosing_look plan.layouts (Named c.ty))
       (λ s m. IsThere plan clean c.ty v words s m) (AtEnd new (λ s m. AreSeen plan clean v spots known s m))
 
+-- the code saves fields of each leaf of the constructor
 abbrev pub SavesTogether : LaidOut → ConRef → List ℕ → List Spot → List Known → Sheet → Sheet → Type 0
 SavesTogether agreed c words spots known old new =
     (plan : Plan) (n : ℕ) → IsPlanOf agreed plan → AreSpots plan n old.slots spots → AllBelow old.slots words
@@ -152,12 +159,14 @@ pub record BindsSaved (plan : Plan) (n most : ℕ) (spots : List Spot) (known : 
       → Piece plan old.slots old new Nowhere most (λ s m. AreSeen plan clean v spots known s m)
       (AtEnd new (λ s m. Holds plan clean s m bound bs))
 
+-- the code that binds the patterns of the fields from i on, where these facts are known
 abbrev pub BindsSpots : LaidOut → List Spot → List Known → List Pat → List Ty → ℕ → Sheet → Sheet → List Local → Type 0
 BindsSpots agreed spots known subs fields i old new bound =
     (plan : Plan) (n : ℕ) → IsPlanOf agreed plan → AreSpots plan n old.slots spots
     → BindsSaved plan n (fields_bound plan subs fields) spots known
     (all_binders (map (binders plan.program.types) subs) fields) old new bound (FieldsMatch subs i)
 
+-- the code that binds the pattern of field i, where these facts are known
 abbrev pub BindsSpot : LaidOut → List Spot → List Known → Pat → Ty → ℕ → Sheet → Sheet → List Local → Type 0
 BindsSpot agreed spots known sub field i old new bound =
     (plan : Plan) (n : ℕ) → IsPlanOf agreed plan → AreSpots plan n old.slots spots
@@ -172,15 +181,18 @@ BindsDeep agreed t c words subs fields old new bound =
 
 -- Sizes: each part of a pattern weighs less than what it is part of ------------------------------
 
+-- the weights of a constructor's subpatterns, and 2 more for each
 abbrev pub weights : List ℕ → ℕ
 weights [] = 0
 weights (w ∷ ws) = w + 2 + weights ws
 
+-- the weight of a pattern, from those of its subpatterns
 abbrev pub weight_step : Pat-F ℕ → ℕ
 weight_step (P.Wild at) = 1
 weight_step (P.Var at x) = 1
 weight_step (P.Num at n) = 1
 weight_step (P.Con at c ws) = 2 + weights ws
 
+-- the weight of a pattern
 abbrev pub weight : Pat → ℕ
 weight = fold-Pat ℕ weight_step

@@ -67,16 +67,20 @@ pub record ClauseTried (plan : Plan) (ty : Ty) (words : List Read) (pats : List 
   pub other : OnValues plan ty words old new holes (λ final next s w v. matches_of pat v ≡ false
       → GoesOn next old.slots (round_of plan ty pats) (length old.code) (length new.code) s w)
 
+-- a plan of the layouts, and a read for each word of the type, which fits all slots that the code has or adds
 pub record IsFineFor (agreed : LaidOut) (plan : Plan) (ty : Ty) (words : List Read) (old : Sheet) : Type 0 where
   pub of : IsPlanOf agreed plan
   pub fit : (k : ℕ) → old.slots ≤ k → AllFit k words
   pub count : length words ≡ words_of plan ty
 
+-- the holes are in the code from old to new, each of one of so many clauses, and one target is of one
+-- clause
 pub record HolesStand (old new : Sheet) (count : ℕ) (holes : List Hole) : Type 0 where
   pub grows : Grows old.code new.code
   pub holes_are : AreHoles (length old.code) count new.code holes
   pub ways : AreOfOneWay holes
 
+-- the code tries one clause, among whatever clauses it stands
 pub record TriesClause (agreed : LaidOut) (ty : Ty) (words : List Read) (pat : Pat) (number : ℕ) (old new : Sheet)
     (holes : List Hole) : Type 0 where
   pub stand : HolesStand old new (number + 1) holes
@@ -94,6 +98,7 @@ pub record AllTried (plan : Plan) (ty : Ty) (words : List Read) (pats : List Pat
       → count ≤ k
       → GoesOn next old.slots (count * round_of plan ty pats) (length old.code) (length new.code) s w)
 
+-- the code tries the first so many clauses
 pub record TriesAll (agreed : LaidOut) (ty : Ty) (words : List Read) (pats : List Pat) (count : ℕ) (old new : Sheet)
     (holes : List Hole) : Type 0 where
   pub stand : HolesStand old new count holes

@@ -40,18 +40,22 @@ landing_of node (e ∷ es) =
     if e.hole.leaf == node then record { pc = e.hole.pc; arm = e.hole.arm; leaf = 0 } ∷ landing_of node es
     else landing_of node es
 
+-- the edges that lead to other nodes
 abbrev pub others_of : ℕ → List Edge → List Edge
 others_of node [] = []
 others_of node (e ∷ es) = if e.hole.leaf == node then others_of node es else e ∷ others_of node es
 
 -- Ways through a graph --------------------------------------------------------------------------
 
+-- the tree of a node
 abbrev pub tree_at : List GraphNode → ℕ → Tree
 tree_at nodes n = tree_under (node_trees nodes) n
 
+-- one of these ways
 abbrev pub HasWay : List Way → Way → Type 0
 HasWay ws way = (k : ℕ) × (slice_get ws k ≡ Some way)
 
+-- the position of a place
 abbrev pub path_of : Place → List ℕ
 path_of p = p.path
 
@@ -72,6 +76,7 @@ pub record Job : Type 0 where
   pub root : ℕ
   pub first : Sheet
 
+-- at each of these places some clause of the job has a number or a constructor
 abbrev pub AllLookedAt : Job → List Place → Type 0
 AllLookedAt job path = (p : Place) → IsPlaceIn p path → IsLookedAt job.plan.program.types job.ty job.pats p.path p.ty
 
@@ -121,6 +126,7 @@ pub record IsGiven (job : Job) (s : List ℕ) (m : Memory) (clean : Bool) (v : V
   pub clause : ℕ
   pub takes : taken (tree_at job.nodes job.root) v ≡ Some clause
 
+-- what a run may do, over a value
 abbrev pub Run : Type 1
 Run = List Instr → Next → List ℕ → World → Bool → Value → Type 0
 
@@ -132,15 +138,18 @@ Runs job new edges Does =
     → (s : List ℕ) (w : World) (clean : Bool) (v : Value) → new.slots ≤ length s → IsGiven job s w.memory clean v
     → Does final next s w clean v
 
+-- the code from the first on leads each given value out by an edge
 pub record Flows (job : Job) (new : Sheet) (edges : List Edge) : Type 0 where
   pub adds : Adds job.plan job.first new
   pub arrives : Runs job new edges (λ final next s w clean v. Arrives job final next edges s w clean v)
 
+-- or to its end, where the code of a node is to begin
 pub record FlowsHere (job : Job) (new : Sheet) (edges : List Edge) (known : List Known) (n : ℕ) : Type 0 where
   pub adds : Adds job.plan job.first new
   pub arrives : Runs job new edges (λ final next s w clean v. Arrives job final next edges s w clean v
       ⊎ Lands job next (length new.code) known n s w clean v)
 
+-- a job in a plan of the layouts, whose spots and reads fit, over nodes that link to lower ones
 pub record IsFineJob (agreed : LaidOut) (job : Job) : Type 0 where
   pub of : IsPlanOf agreed job.plan
   pub spots : AreSpots job.plan job.base job.first.slots job.spots
@@ -169,6 +178,7 @@ pub record Stands (first new : Sheet) (edges : List Edge) : Type 0 where
   pub grows : Grows first.code new.code
   pub stand : StandOpen first new edges
 
+-- one more node has its code: where all was fine up to its edges, it is behind them
 pub record StepsNode (agreed : LaidOut) (ty : Ty) (words : List Read) (pats : List Pat) (spots : List Spot)
     (nodes : List GraphNode) (node : GraphNode) (n : ℕ) (old : Sheet) (edges : List Edge) (new : Sheet)
     (more : List Edge) : Type 0 where
@@ -178,6 +188,7 @@ pub record StepsNode (agreed : LaidOut) (ty : Ty) (words : List Read) (pats : Li
       IsFineJob agreed job → slice_get nodes n ≡ Some node → Stands first old edges → Flows job old edges
       → Flows job new more
 
+-- the code of the root's node stands
 pub record Begins (agreed : LaidOut) (ty : Ty) (words : List Read) (pats : List Pat) (spots : List Spot)
     (nodes : List GraphNode) (root : ℕ) (old new : Sheet) (edges : List Edge) : Type 0 where
   pub stands : Stands old new edges
@@ -186,6 +197,7 @@ pub record Begins (agreed : LaidOut) (ty : Ty) (words : List Read) (pats : List 
 
 -- Clauses ---------------------------------------------------------------------------------------
 
+-- the hole of a clause, in the place of one that leads to its node
 pub record IsClauseHole (nodes : List GraphNode) (count : ℕ) (old new : Hole) : Type 0 where
   pub pc : new.pc ≡ old.pc
   pub arm : new.arm ≡ old.arm
@@ -206,6 +218,7 @@ pub record LeavesOn (job : Job) (final : List Instr) (next : Next) (holes : List
   pub looked : AllLookedAt job path
   pub leaves : Leaves final next holes job.base (looks job.plan path) (length job.first.code) s w k (λ s' m. Unit {0})
 
+-- the code from the first on leads each given value out by a hole of its clause
 pub record Takes (job : Job) (new : Sheet) (holes : List Hole) : Type 0 where
   pub adds : Adds job.plan job.first new
   pub leaves : (final : List Instr) (callee : Callee) (next : Next) → Law final callee next
@@ -213,6 +226,7 @@ pub record Takes (job : Job) (new : Sheet) (holes : List Hole) : Type 0 where
       → (s : List ℕ) (w : World) (clean : Bool) (v : Value) → new.slots ≤ length s
       → (g : IsGiven job s w.memory clean v) → LeavesOn job final next holes s w g.clause
 
+-- the code of a whole graph, whatever is fine to begin with
 abbrev pub TakesGraph : LaidOut → Ty → List Read → List Pat → List Spot → List GraphNode → ℕ → Sheet → Sheet → List Hole
     → Type 0
 TakesGraph agreed ty words pats spots nodes root old new holes =

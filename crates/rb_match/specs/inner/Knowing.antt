@@ -22,6 +22,7 @@ pub record View : Type 0 where
   pub slots : List ℕ
   pub memory : Memory
 
+-- such a view
 abbrev pub seen : Plan → Bool → Value → List Spot → List ℕ → Memory → View
 seen plan clean v spots s m = record { plan = plan; clean = clean; value = v; spots = spots; slots = s; memory = m }
 
@@ -41,20 +42,25 @@ HoldsPart at spot =
     (part : Value) × (part_at at.value spot.position ≡ Some part)
     × Rep at.plan at.memory at.clean spot.ty part (slots_at at.slots spot.slots)
 
+-- a part is saved in spot k
 abbrev pub IsSaved : View → ℕ → Type 0
 IsSaved at k = (spot : Spot) × (slice_get at.spots k ≡ Some spot) × HoldsPart at spot
 
+-- a fact is so: a part has a leaf, or is saved in a spot
 abbrev pub IsKnown : View → Known → Type 0
 IsKnown at (Leaf position ty leaf) = IsLeafAt at.plan at.value position.now ty leaf
 IsKnown at (Saved k) = IsSaved at k
 
+-- each of these facts is so
 abbrev pub AreKnown : View → List Known → Type 0
 AreKnown at known = (i : ℕ) (x : Known) → slice_get known i ≡ Some x → IsKnown at x
 
+-- where these facts are so, the part at the position has this leaf
 abbrev pub FollowsLeaf : List Known → ℕ → List ℕ → ℕ → Type 0
 FollowsLeaf known ty position leaf =
     (at : View) → AreKnown at known → IsLeafAt at.plan at.value position ty leaf
 
+-- where these facts are so, a part is saved in spot k
 abbrev pub FollowsSaved : List Known → ℕ → Type 0
 FollowsSaved known k = (at : View) → AreKnown at known → IsSaved at k
 
@@ -71,6 +77,7 @@ abbrev pub AreFound : View → Option (List Known) → Type 0
 AreFound at None = ⊥
 AreFound at (Some known) = AreKnown at known
 
+-- the answer is so where what was found before is so, or the edge leads to the node and what it says is so
 abbrev pub IsMet : Option (List Known) → Edge → ℕ → Option (List Known) → Type 0
 IsMet found edge node r =
     (at : View) → AreFound at found ⊎ ((edge.hole.leaf ≡ node) × AreKnown at edge.known) → AreFound at r

@@ -85,6 +85,7 @@ pub record LeadsLeaf (agreed : LaidOut) (graph : Whole) (t : ℕ) (known : List 
       (take_link arms other (V.Con con [])) found
   pub shows : ShowOnward agreed (known ++ K.Leaf position t leaf ∷ []) found
 
+-- each leaf of the type has where its values go
 abbrev pub LeadLeaves : LaidOut → Whole → ℕ → List Known → Bor (List ℕ) → List GraphArm → Option ℕ
     → List (Option Onward) → Type 0
 LeadLeaves agreed graph t known position arms other =
@@ -95,6 +96,7 @@ abbrev pub group_onward : ℕ → ℕ → Option Onward → Option ℕ
 group_onward count leaf None = None
 group_onward count leaf (Some found) = group_for count found.saves leaf (Some found.node)
 
+-- the group of a leaf, by where its values go on
 abbrev pub HasGroupOnward : List (Option Onward) → ℕ → Option ℕ → Type 0
 HasGroupOnward onward leaf group =
     (found : Option Onward) × (slice_get onward leaf ≡ Some found) × (group ≡ group_onward (length onward) leaf found)
@@ -103,6 +105,7 @@ HasGroupOnward onward leaf group =
 abbrev pub shared_edge : List GraphNode → ℕ → List Known → Hole → Edge
 shared_edge nodes count known h = edge_in nodes h.pc h.arm (h.leaf - count) known
 
+-- the edges of such groups by these holes
 abbrev pub shared_edges : List GraphNode → ℕ → List Known → List Hole → List Edge
 shared_edges nodes count known holes = map (shared_edge nodes count known) (pending count holes)
 

@@ -20,6 +20,7 @@ use Rattle.rb_match.specs.Bounding.{places_in}
 use Rattle.rb_match.specs.Bounding as bounding
 use Rattle.rb_match.specs.inner.Knowing.{AreKnown, SpotsBelow, seen}
 
+-- at a path of the leaf stands a field of this type
 abbrev pub IsFieldOf : LaidOut → ℕ → ℕ → List ℕ → Ty → Type 0
 IsFieldOf agreed t leaf path ty = (plan : Plan) → IsPlanOf agreed plan → FieldAt plan t leaf path ty
 
@@ -37,6 +38,7 @@ pub record ReadsPlace (plan : Plan) (ty : Ty) (words : List Read) (spots : List 
       → Rep plan m clean ty v ws → AreKnown (seen plan clean v spots s m) known
       → IsPartMeant plan clean place.ty v position place.reads s m
 
+-- the place is so in each plan of the layouts
 abbrev pub FindsPlace : LaidOut → Ty → List Read → List Spot → List Known → List ℕ → Place → Type 0
 FindsPlace agreed ty words spots known position place =
     (plan : Plan) → IsPlanOf agreed plan → length words ≡ words_of plan ty → HaveWords plan spots
@@ -62,9 +64,11 @@ IsSpotOf agreed spots known position place =
 abbrev pub IsPlaceIn : bounding.Place → List bounding.Place → Type 0
 IsPlaceIn p ps = (k : ℕ) × (slice_get ps k ≡ Some p)
 
+-- a pattern has a number or a constructor at the position, which has this type
 abbrev pub HasPlace : List DataDecl → Ty → Pat → List ℕ → Ty → Type 0
 HasPlace types t pat position at = IsPlaceIn (record { path = position; ty = at }) (places_in types pat t)
 
+-- one of some patterns has one there
 abbrev pub IsLookedAt : List DataDecl → Ty → List Pat → List ℕ → Ty → Type 0
 IsLookedAt types t pats position at =
     IsPlaceIn (record { path = position; ty = at }) (flat_map (λ pat. places_in types pat t) pats)

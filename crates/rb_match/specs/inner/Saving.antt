@@ -33,6 +33,7 @@ use Rattle.rb_match.specs.inner.Asking.{AreSpots, leaf_in}
 
 -- Spots -----------------------------------------------------------------------------------------
 
+-- nothing is asked of the slots and the memory
 abbrev pub Anything : List ℕ → Memory → Type 0
 Anything s m = Unit {0}
 
@@ -47,6 +48,7 @@ pub record GivenSpots (plan : Plan) (old new : Sheet) (spots : List Spot) : Type
   pub are : AreSpots plan old.slots new.slots spots
   pub straight : Straight plan old.slots old new Anything Anything
 
+-- in each plan of the layouts
 abbrev pub GivesSpots : LaidOut → Sheet → Sheet → List Spot → Type 0
 GivesSpots agreed old new spots = (plan : Plan) → IsPlanOf agreed plan → GivenSpots plan old new spots
 
@@ -72,10 +74,12 @@ pattern_at None path = None
 pattern_at (Some p) [] = Some p
 pattern_at (Some p) (i ∷ path) = pattern_at (slice_get (subpatterns (out-Pat p)) i) path
 
+-- the provenance of a leaf, if there is one
 abbrev pub provenance : Option Leaf → Option Pat
 provenance None = None
 provenance (Some leaf) = Some leaf.prov
 
+-- what stands at a path of a leaf's provenance
 abbrev pub prov_at : List Layout → ℕ → ℕ → List ℕ → Option Pat
 prov_at layouts t leaf path = pattern_at (provenance (leaf_in (layout_of layouts t) leaf)) path
 
@@ -84,6 +88,7 @@ abbrev pub mend_pattern : List Layout → Option Pat → ℕ
 mend_pattern layouts None = 0
 mend_pattern layouts (Some p) = sum_by (λ (h : Head). choose_of layouts h.con.ty h.con.con) (heads_of p)
 
+-- the same by the leaf and the path
 abbrev pub mend_at : List Layout → ℕ → ℕ → List ℕ → ℕ
 mend_at layouts t leaf path = mend_pattern layouts (prov_at layouts t leaf path)
 
@@ -92,6 +97,7 @@ abbrev pub mend_inside : List Layout → Option Pat → ℕ
 mend_inside layouts None = 0
 mend_inside layouts (Some p) = sum_by (λ (h : Head). choose_of layouts h.con.ty h.con.con) (drop 1 (heads_of p))
 
+-- the same by the leaf and the path
 abbrev pub mend_below : List Layout → ℕ → ℕ → List ℕ → ℕ
 mend_below layouts t leaf path = mend_inside layouts (prov_at layouts t leaf path)
 
@@ -134,6 +140,7 @@ pub record PartIsFetched (plan : Plan) (t leaf : ℕ) (path : List ℕ) (at : Ty
       → Piece plan old.slots old new Nowhere (mend_at plan.layouts t leaf path)
       (λ s m. IsThere plan clean t v words s m) (AtEnd new (λ s m. Rep plan m clean at part (slots_at s slots)))
 
+-- the code fetches the part at a path of the leaf
 abbrev pub FetchesPart : LaidOut → ℕ → ℕ → List ℕ → Ty → List ℕ → Sheet → Sheet → List ℕ → Type 0
 FetchesPart agreed t leaf path at words old new slots =
     (plan : Plan) → IsPlanOf agreed plan → AllBelow old.slots words → length words ≡ words_of plan (Named t)
@@ -156,6 +163,7 @@ pub record PartIsSaved (plan : Plan) (n t leaf : ℕ) (path words : List ℕ) (s
       (λ s m. (s ≡ s0) × IsThere plan clean t v words s m)
       (AtEnd new (λ s m. KeepsOthers old.slots spot.slots s0 s × Rep plan m clean spot.ty part (slots_at s spot.slots)))
 
+-- the code saves the part at a path of the leaf in a spot
 abbrev pub SavesPart : LaidOut → ℕ → ℕ → List ℕ → List ℕ → Spot → Sheet → Sheet → Type 0
 SavesPart agreed t leaf path words spot old new =
     (plan : Plan) (n : ℕ) → IsPlanOf agreed plan → n ≤ old.slots → AllFrom n spot.slots → AllBelow old.slots spot.slots
@@ -208,6 +216,7 @@ SavesBelow agreed source path = LearnsOf agreed (λ layouts t leaf. mend_below l
 abbrev pub SavesSome : LaidOut → Source → List ℕ → ℕ → List Known → List Known → Sheet → Sheet → Type 0
 SavesSome agreed source path i = LearnsOf agreed (λ layouts t leaf. mends_at layouts t leaf path i) source
 
+-- of a part, with at most as many switches as rebuild what its leaf took apart
 abbrev pub SavesFields : LaidOut → ℕ → ℕ → List ℕ → List Spot → List ℕ → List Known → List Known → Sheet → Sheet
     → Type 0
 SavesFields agreed t leaf words spots position =

@@ -66,6 +66,7 @@ pub record IsDecided (agreed : LaidOut) (ty : Ty) (pats : List Pat) (known : Lis
 abbrev pub IsWild : Pat → Type 0
 IsWild p = (v : Value) → matches_of p v ≡ true
 
+-- each of some patterns matches all values
 abbrev pub AreWild : List Pat → Type 0
 AreWild pats = (n : ℕ) (p : Pat) → slice_get pats n ≡ Some p → IsWild p
 
@@ -107,6 +108,7 @@ LeadsOn agreed ty pats nodes known n m =
     → AreKnown (seen plan clean v spots s w) known → taken (tree_at nodes root) v ≡ Some clause → IsOn job v n path
     → (longer : List Place) × (looks plan path ≤ looks plan longer) × IsOn job v m longer
 
+-- an edge that is open where the old one was, to a node to which that leads on
 pub record IsThreaded (agreed : LaidOut) (ty : Ty) (pats : List Pat) (nodes : List GraphNode)
     (old new : Edge) : Type 0 where
   pub pc : new.hole.pc ≡ old.hole.pc

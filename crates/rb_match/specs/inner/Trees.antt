@@ -33,6 +33,7 @@ pub record LeavesTree (plan : Plan) (ty : Ty) (pats : List Pat) (tree : Tree) (f
   pub looked : (p : Place) → IsPlaceIn p path → IsLookedAt plan.program.types ty pats p.path p.ty
   pub leaves : Leaves final next holes n (looks plan path) start s w k (λ s' m. Unit {0})
 
+-- the code of a tree leads each value out by a hole of the clause that the tree takes
 pub record TreeTakes (plan : Plan) (ty : Ty) (words : List Read) (pats : List Pat) (tree : Tree) (old new : Sheet)
     (holes : List Hole) : Type 0 where
   pub adds : Adds plan old new
@@ -42,6 +43,7 @@ pub record TreeTakes (plan : Plan) (ty : Ty) (words : List Read) (pats : List Pa
       → IsGood w.memory → AreMeant words s w.memory ws → Rep plan w.memory clean ty v ws
       → taken tree v ≡ Some k → LeavesTree plan ty pats tree final next holes old.slots (length old.code) s w k
 
+-- in each plan of the layouts, over reads of the value's words
 abbrev pub TakesTree : LaidOut → Ty → List Read → List Pat → Tree → Sheet → Sheet → List Hole → Type 0
 TakesTree agreed ty words pats tree old new holes =
     (plan : Plan) → IsPlanOf agreed plan → ((k : ℕ) → old.slots ≤ k → AllFit k words) → length words ≡ words_of plan ty
