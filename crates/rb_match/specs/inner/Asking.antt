@@ -271,13 +271,13 @@ abbrev pub AskedAt : Plan → Ty → ℕ → List Spot → List Read → List Kn
     → Sheet → List Edge → Type 0
 AskedAt = AskedThere IsNode
 
--- the code of a test of an integer, over reads of its word
+-- of an integer, over reads of its word
 abbrev pub AsksNumber : List Read → List Known → List GraphArm → Option ℕ → Sheet → Sheet → List Edge → Type 0
 AsksNumber reads known arms other old new edges =
     (plan : Plan) (n bits : ℕ) (position : List ℕ) (spots : List Spot) → n ≤ old.slots → SpotsBelow old.slots spots
     → AllFit old.slots reads → AskedAt plan (Int bits) n spots reads known position arms other old new edges
 
--- wherever parts are saved
+-- of the leaf of a data type, wherever parts are saved
 abbrev pub AsksLeaf : LaidOut → ℕ → List Read → List Known → List ℕ → List GraphArm → Option ℕ → Sheet → Sheet
     → List Edge → Type 0
 AsksLeaf agreed t reads known position arms other old new edges =

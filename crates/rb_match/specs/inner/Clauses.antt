@@ -73,8 +73,7 @@ pub record IsFineFor (agreed : LaidOut) (plan : Plan) (ty : Ty) (words : List Re
   pub fit : (k : ℕ) → old.slots ≤ k → AllFit k words
   pub count : length words ≡ words_of plan ty
 
--- the holes are in the code from old to new, each of one of so many clauses, and one target is of one
--- clause
+-- holes in the code from old to new, each of one of so many clauses, and one target is of one clause
 pub record HolesStand (old new : Sheet) (count : ℕ) (holes : List Hole) : Type 0 where
   pub grows : Grows old.code new.code
   pub holes_are : AreHoles (length old.code) count new.code holes

@@ -143,7 +143,7 @@ pub record Flows (job : Job) (new : Sheet) (edges : List Edge) : Type 0 where
   pub adds : Adds job.plan job.first new
   pub arrives : Runs job new edges (λ final next s w clean v. Arrives job final next edges s w clean v)
 
--- or to its end, where the code of a node is to begin
+-- out by an edge, or to the end of the code, where that of node n is to begin
 pub record FlowsHere (job : Job) (new : Sheet) (edges : List Edge) (known : List Known) (n : ℕ) : Type 0 where
   pub adds : Adds job.plan job.first new
   pub arrives : Runs job new edges (λ final next s w clean v. Arrives job final next edges s w clean v
@@ -226,7 +226,7 @@ pub record Takes (job : Job) (new : Sheet) (holes : List Hole) : Type 0 where
       → (s : List ℕ) (w : World) (clean : Bool) (v : Value) → new.slots ≤ length s
       → (g : IsGiven job s w.memory clean v) → LeavesOn job final next holes s w g.clause
 
--- the code of a whole graph, whatever is fine to begin with
+-- the code of a whole graph, from its root on, does what each fine job asks
 abbrev pub TakesGraph : LaidOut → Ty → List Read → List Pat → List Spot → List GraphNode → ℕ → Sheet → Sheet → List Hole
     → Type 0
 TakesGraph agreed ty words pats spots nodes root old new holes =
