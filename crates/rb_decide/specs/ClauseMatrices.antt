@@ -54,7 +54,7 @@ abbrev pub without : Head → List Head → List Head
 without h [] = []
 without h (g ∷ gs) = if layer_begins h (sample g) then without h gs else g ∷ without h gs
 
--- a head before all others, if there is one
+-- a head before the others but those equal to it, if there is one
 abbrev pub with_first : Option Head → List Head → List Head
 with_first None hs = hs
 with_first (Some h) hs = h ∷ without h hs

@@ -18,7 +18,7 @@ at_byte fault at = ended (begun fault ++ codes " at byte " ++ decimal at)
 
 -- Limits ------------------------------------------------------------------------------------
 
--- what is counted
+-- what is counted, as a line names it
 abbrev pub quantity_text : Quantity → List ℕ
 quantity_text FileBytes = codes "file bytes"
 quantity_text Types = codes "types"
