@@ -1,5 +1,6 @@
 pub mod BesideFirst
 pub mod Besides
+pub mod Branches
 pub mod Defaults
 pub mod Examples
 pub mod Exhausts

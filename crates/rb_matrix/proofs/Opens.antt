@@ -9,13 +9,15 @@ use Rattle.rb_core.specs.declared.pattern.Pat.{Pat, out-Pat}
 use Rattle.rb_core.specs.declared.pattern.Pat.TheOpen as P
 use Rattle.rb_core.specs.declared.pattern.Pat.TheOpen.{Pat-F}
 use Rattle.rb_matrix.specs.declared.problem.Problem.{Problem}
+use Rattle.rb_matrix.specs.declared.problem.Left.{Left}
+use Rattle.rb_matrix.specs.declared.problem.Left.TheVariants.{Whole}
 use Rattle.rb_matrix.specs.Open.{layer_open, is_open, any_open}
 use Rattle.rb_matrix.specs.Rows.{row_matches, any_row, all_rows, vector_of}
 use Rattle.rb_matrix.specs.Search.{IsNowhere}
-use Rattle.rb_matrix.specs.Problems.{IsSplit}
+use Rattle.rb_matrix.specs.inner.Left.{IsSplit}
 use Rattle.rb_matrix.proofs.Laws.{opened, open_matches}
 use Rattle.rb_matrix.proofs.Vectors.{and-left, and-right, vector-length}
-use Rattle.rb_matrix.proofs.Working.{no-parts}
+use Rattle.rb_matrix.proofs.Working.{no-split}
 
 layer-matches : (l : Pat-F Pat) (v : Value) → layer_open l ≡ true → open_matches l v ≡ true
 layer-matches (P.Wild at) v h = refl
@@ -55,5 +57,5 @@ nowhere types tys wanted unwanted h vs = by (vector_of types tys vs) refl
         ap (λ b. all_rows wanted vs && not b) (any-matches unwanted (length tys) vs h (vector-length types tys vs e)) ∙ and-false (all_rows wanted vs)
 
 -- an unwanted row without a head leaves nothing to look for
-pub lost-open : (types : List DataDecl) (p : Problem) (cs : List Problem) → cs ≡ [] → any_open p.unwanted (length p.tys) ≡ true → IsSplit types p cs
-lost-open types p cs e h = no-parts types p cs e (nowhere types p.tys p.wanted p.unwanted h)
+pub lost-open : (types : List DataDecl) (p : Problem) (ls : List Left) → ls ≡ [] → any_open p.unwanted (length p.tys) ≡ true → IsSplit types (Whole p) ls
+lost-open types p ls e h = no-split types (Whole p) ls e (nowhere types p.tys p.wanted p.unwanted h)

@@ -17,7 +17,7 @@ use Rattle.rb_matrix.specs.declared.matrix.Head.TheVariants as H
 use Rattle.rb_matrix.specs.declared.problem.Problem.{Problem}
 use Rattle.rb_matrix.specs.Heads.{layer_head, row_head, or_else, first_head, some_head}
 use Rattle.rb_matrix.specs.Specialize.{wilds, keep, number_image, con_image, special_image, special_row, special, default_image, default_row, defaults}
-use Rattle.rb_matrix.specs.Problems.{heads_step, head_count, row_heads, rows_heads, con_fields, decl_fields, fields_bound, heads_of, weight, cost, part_cost, costs, AreParts}
+use Rattle.rb_matrix.specs.Problems.{heads_step, head_count, row_heads, rows_heads, con_fields, decl_fields, fields_bound, heads_of, weight, cost, part_cost}
 use Rattle.rb_matrix.proofs.Besides.{con-at}
 
 sum-cons : {A : Type 0} (f : A → ℕ) (x : A) (xs : List A) → sum (map f (x ∷ xs)) ≡ f x + sum (map f xs)
@@ -99,6 +99,10 @@ defaults-heads : (rs : List (List Pat)) → rows_heads (defaults rs) ≤ rows_he
 defaults-heads [] = omega arith
 defaults-heads (r ∷ rs) = let a = keep-heads (default_row r) (defaults rs) in let b = default_row-heads r in let c = defaults-heads rs in omega (arith, a, b, c, rows-cons r rs)
 
+-- the first head of a column is one of its rows' heads
+pub first_head-count : (rs : List (List Pat)) → some_head (first_head rs) ≤ rows_heads rs
+first_head-count rs = let a = special-heads (H.Num 0) 0 rs in omega (arith, a)
+
 -- a row's own head is one of its heads
 pub row_head-count : (r : List Pat) → some_head (row_head r) ≤ row_heads r
 row_head-count r = let a = special_row-heads (H.Num 0) 0 r in omega (arith, a)
@@ -149,40 +153,52 @@ pub cheap : (types : List DataDecl) (p c : Problem) → (heads_of c ≤ heads_of
 unfolding cost part_cost
 cheap types p c h = powers (heads_of c) (heads_of p) (weight types c) (weight types p) h.0 h.1
   where
-    powers : (x y w u : ℕ) → x ≤ y → w < u → (x + 2) ^ w ≤ (y + 2) ^ (u - 1)
+    powers : (x y w u : ℕ) → x ≤ y → w < u → (2 * x + 2) ^ w ≤ (2 * y + 2) ^ (u - 1)
     powers x y w u le lt =
-        let le' : x + 2 ≤ y + 2 = omega (arith, le) in
-        let some : 0 < y + 2 = omega arith in
+        let le' : 2 * x + 2 ≤ 2 * y + 2 = omega (arith, le) in
+        let some : 0 < 2 * y + 2 = omega arith in
         let lt' : w ≤ u - 1 = omega (arith, lt) in
         let a = pow-le-pow_left le' w in
-        let b : (y + 2) ^ w ≤ (y + 2) ^ (u - 1) = pow-le-pow_right some lt' in omega (arith, a, b)
+        let b : (2 * y + 2) ^ w ≤ (2 * y + 2) ^ (u - 1) = pow-le-pow_right some lt' in omega (arith, a, b)
 
-parts-cost : (types : List DataDecl) (p : Problem) (cs : List Problem) → AreParts types p cs → costs types cs ≤ length cs * part_cost types p
-parts-cost types p [] h = omega arith
-parts-cost types p (c ∷ cs) h = let rest = parts-cost types p cs h.1 in let one = h.0.cheap in add (length cs) (part_cost types p) (cost types c) (costs types cs) one rest
-  where
-    add : (n u x y : ℕ) → x ≤ u → y ≤ n * u → x + y ≤ suc n * u
-    add n u x y a b = grind (arith, a, b)
-
-below-whole : (u y x z t : ℕ) → x ≤ z → z ≤ (y + 1) * u → 1 ≤ u → t ≡ u * (y + 2) → x < t
-below-whole u y x z t a b c d = grind (arith, a, b, c, d)
-
-pub parts-fewer : (types : List DataDecl) (p : Problem) (cs : List Problem) → AreParts types p cs → length cs ≤ heads_of p + 1 → 1 ≤ length p.tys → costs types cs < cost types p
-unfolding cost part_cost
-parts-fewer types p cs h le some =
-    let a = parts-cost types p cs h in
-    let w : 1 ≤ weight types p = omega (arith, some) in
-    by (length cs) (heads_of p) (weight types p) (costs types cs) a le w
-  where
-    by : (n y w x : ℕ) → x ≤ n * (y + 2) ^ (w - 1) → n ≤ y + 1 → 1 ≤ w → x < (y + 2) ^ w
-    by n y w x a le some =
-        let u : ℕ = (y + 2) ^ (w - 1) in
-        let positive : 1 ≤ (y + 2) ^ (w - 1) = one-le-pow (w - 1) (y + 2) (omega arith) in
-        let m : n * (y + 2) ^ (w - 1) ≤ (y + 1) * (y + 2) ^ (w - 1) = mul-le-mul_right ((y + 2) ^ (w - 1)) le in
-        let e : (w - 1) + 1 ≡ w = omega (arith, some) in
-        let whole : (y + 2) ^ w ≡ (y + 2) ^ (w - 1) * (y + 2) = ap (λ k. (y + 2) ^ k) (sym e) ∙ pow_more (y + 2) (w - 1) in
-        below-whole ((y + 2) ^ (w - 1)) y x (n * (y + 2) ^ (w - 1)) ((y + 2) ^ w) a m positive whole
-
-pub none-fewer : (types : List DataDecl) (p : Problem) → 0 < cost types p
+pub some-cost : (types : List DataDecl) (p : Problem) → 0 < cost types p
 unfolding cost
-none-fewer types p = let a = one-le-pow (weight types p) (heads_of p + 2) (omega arith) in omega (arith, a)
+some-cost types p = let a = one-le-pow (weight types p) (2 * heads_of p + 2) (omega arith) in omega (arith, a)
+
+pub some-part-cost : (types : List DataDecl) (p : Problem) → 0 < part_cost types p
+unfolding part_cost
+some-part-cost types p = let a = one-le-pow (weight types p - 1) (2 * heads_of p + 2) (omega arith) in omega (arith, a)
+
+-- a head less pays for its part
+pub one-head-less : (n u x : ℕ) → 0 < u → x ≤ u → n * (2 * u) + 1 + x < (n + 1) * (2 * u) + 1
+one-head-less n u x some le = grind (arith, some, le)
+
+-- a problem pays for all its heads
+pub heads-fewer : (types : List DataDecl) (p : Problem) (n : ℕ) → n ≤ heads_of p → 1 ≤ length p.tys → n * (2 * part_cost types p) + 1 < cost types p
+unfolding cost part_cost
+heads-fewer types p n le some = by (heads_of p) (weight types p) le (omega (arith, some))
+  where
+    below : (n y u t : ℕ) → n ≤ y → 1 ≤ u → t ≡ u * (2 * y + 2) → n * (2 * u) + 1 < t
+    below n y u t le some e = let m : n * (2 * u) ≤ y * (2 * u) = mul-le-mul_right (2 * u) le in grind (arith, m, some, e)
+
+    by : (y w : ℕ) → n ≤ y → 1 ≤ w → n * (2 * (2 * y + 2) ^ (w - 1)) + 1 < (2 * y + 2) ^ w
+    by y w le some =
+        let positive : 1 ≤ (2 * y + 2) ^ (w - 1) = one-le-pow (w - 1) (2 * y + 2) (omega arith) in
+        let e : (w - 1) + 1 ≡ w = omega (arith, some) in
+        let whole : (2 * y + 2) ^ w ≡ (2 * y + 2) ^ (w - 1) * (2 * y + 2) = ap (λ k. (2 * y + 2) ^ k) (sym e) ∙ pow_more (2 * y + 2) (w - 1) in
+        below n y ((2 * y + 2) ^ (w - 1)) ((2 * y + 2) ^ w) le positive whole
+
+-- a problem pays for one part
+pub part-fewer : (types : List DataDecl) (p c : Problem) → cost types c ≤ part_cost types p → 1 ≤ length p.tys → cost types c < cost types p
+unfolding cost part_cost
+part-fewer types p c le some = by (heads_of p) (weight types p) (cost types c) le (omega (arith, some))
+  where
+    below : (y u x t : ℕ) → x ≤ u → 1 ≤ u → t ≡ u * (2 * y + 2) → x < t
+    below y u x t le some e = grind (arith, le, some, e)
+
+    by : (y w x : ℕ) → x ≤ (2 * y + 2) ^ (w - 1) → 1 ≤ w → x < (2 * y + 2) ^ w
+    by y w x le some =
+        let positive : 1 ≤ (2 * y + 2) ^ (w - 1) = one-le-pow (w - 1) (2 * y + 2) (omega arith) in
+        let e : (w - 1) + 1 ≡ w = omega (arith, some) in
+        let whole : (2 * y + 2) ^ w ≡ (2 * y + 2) ^ (w - 1) * (2 * y + 2) = ap (λ k. (2 * y + 2) ^ k) (sym e) ∙ pow_more (2 * y + 2) (w - 1) in
+        below y ((2 * y + 2) ^ (w - 1)) x ((2 * y + 2) ^ w) le positive whole

@@ -1,5 +1,5 @@
 -- How the search goes on: the problems that are left, and how the answer of one gives its parent's.
-use Rattle.std.specs.Prelude.{◌≡◌, ℕ, ◌+◌, ◌-◌, ◌*◌, ◌^◌, ◌<◌, ◌≤◌, List, [], ◌∷◌, ◌++◌, map, length, sum, take, drop, Bool, true, false, Option, Some, None}
+use Rattle.std.specs.Prelude.{◌≡◌, ℕ, ◌+◌, ◌-◌, ◌*◌, ◌^◌, ◌≤◌, List, [], ◌∷◌, ◌++◌, map, length, sum, take, drop, Bool, true, false, Option, Some, None}
 use Rattle.rb_core.specs.declared.value.Value.{Value, out-Value}
 use Rattle.rb_core.specs.declared.value.Value.TheOpen.{Value-F}
 use Rattle.rb_core.specs.declared.types.Ty.{Ty}
@@ -18,8 +18,6 @@ use Rattle.rb_matrix.specs.declared.matrix.Head.TheVariants as H
 use Rattle.rb_matrix.specs.declared.problem.Step.{Step}
 use Rattle.rb_matrix.specs.declared.problem.Step.TheVariants.{Front, Fold}
 use Rattle.rb_matrix.specs.declared.problem.Problem.{Problem}
-use Rattle.rb_matrix.specs.declared.problem.Outcome.{Outcome}
-use Rattle.rb_matrix.specs.declared.problem.Outcome.TheVariants.{Solved, Split}
 use Rattle.rb_matrix.specs.Heads.{begins, any_begins}
 use Rattle.rb_matrix.specs.Search.{AreTypesIn, is_plain, sought, IsFound, IsNowhere}
 
@@ -51,10 +49,6 @@ FoundIn types p row = IsFound types p.tys p.wanted p.unwanted row
 
 abbrev pub NoneIn : List DataDecl → Problem → Type 0
 NoneIn types p = IsNowhere types p.tys p.wanted p.unwanted
-
-abbrev pub AllNone : List DataDecl → List Problem → Type 0
-AllNone types [] = Unit {0}
-AllNone types (p ∷ ps) = NoneIn types p × AllNone types ps
 
 -- no vector that begins with the head
 abbrev pub NoneBy : List DataDecl → Ty → List Ty → Problem → Head → Type 0
@@ -95,19 +89,15 @@ heads_of p = rows_heads p.wanted + rows_heads p.unwanted
 abbrev pub weight : List DataDecl → Problem → ℕ
 weight types p = heads_of p * (fields_bound types + 1) + length p.tys
 
--- a problem has fewer parts than the base, each of less weight
+-- each of a problem's heads counts for two parts, each of less weight
 unfoldable pub cost : List DataDecl → Problem → ℕ
-cost types p = (heads_of p + 2) ^ weight types p
+cost types p = (2 * heads_of p + 2) ^ weight types p
 
 -- no part costs more than this
 unfoldable pub part_cost : List DataDecl → Problem → ℕ
-part_cost types p = (heads_of p + 2) ^ (weight types p - 1)
+part_cost types p = (2 * heads_of p + 2) ^ (weight types p - 1)
 
-abbrev pub costs : List DataDecl → List Problem → ℕ
-costs types [] = 0
-costs types (p ∷ ps) = cost types p + costs types ps
-
--- What a step answers -----------------------------------------------------------------------------
+-- Parts -------------------------------------------------------------------------------------------
 
 pub record IsPart (types : List DataDecl) (p c : Problem) : Type 0 where
   pub live : AreTypesIn types c.tys
@@ -116,30 +106,10 @@ pub record IsPart (types : List DataDecl) (p c : Problem) : Type 0 where
   pub sound : (row : List Pat) → FoundIn types c row → FoundIn types p (closed step row)
   pub cheap : cost types c ≤ part_cost types p
 
-abbrev pub AreParts : List DataDecl → Problem → List Problem → Type 0
-AreParts types p [] = Unit {0}
-AreParts types p (c ∷ cs) = IsPart types p c × AreParts types p cs
-
--- parts that answer for the whole problem
-pub record IsSplit (types : List DataDecl) (p : Problem) (cs : List Problem) : Type 0 where
-  pub none : AllNone types cs → NoneIn types p
-  pub parts : AreParts types p cs
-  pub fewer : costs types cs < cost types p
-
-abbrev pub IsOutcome : List DataDecl → Problem → Outcome → Type 0
-IsOutcome types p (Solved steps) = FoundIn types p [] × (steps ≡ p.steps)
-IsOutcome types p (Split cs) = IsSplit types p cs.items
-
 -- one part for a head
 abbrev pub IsPartAt : List DataDecl → Ty → List Ty → Problem → Head → Option Problem → Type 0
 IsPartAt types ty ts p h None = NoneBy types ty ts p h
 IsPartAt types ty ts p h (Some c) = IsPart types p c × (NoneIn types c → NoneBy types ty ts p h)
-
--- at most one part for each head
-pub record AreByHeads (types : List DataDecl) (ty : Ty) (ts : List Ty) (p : Problem) (hs : List Head) (cs : List Problem) : Type 0 where
-  pub none : AllNone types cs → (v : Value) (vs : List Value) → any_begins hs (out-Value v) ≡ true → sought types (ty ∷ ts) p.wanted p.unwanted (v ∷ vs) ≡ false
-  pub parts : AreParts types p cs
-  pub count : length cs ≤ length hs
 
 -- a pattern beside what values begin with: it has a value of the type, and none that begins so
 pub record IsBeside (types : List DataDecl) (ty : Ty) (begun : Value-F Value → Bool) (q : Pat) : Type 0 where
@@ -153,22 +123,6 @@ pub record IsBeside (types : List DataDecl) (ty : Ty) (begun : Value-F Value →
 abbrev pub IsBesideAnswer : List DataDecl → Ty → List Head → Option Pat → Type 0
 IsBesideAnswer types ty hs None = (v : Value) → is_of_type types v ty ≡ true → any_begins hs (out-Value v) ≡ true
 IsBesideAnswer types ty hs (Some q) = IsBeside types ty (any_begins hs) q
-
--- The whole search --------------------------------------------------------------------------------
-
--- a problem below the root: its rows become rows for the root
-pub record IsWithin (types : List DataDecl) (root p : Problem) : Type 0 where
-  pub live : AreTypesIn types p.tys
-  pub sound : (row : List Pat) → FoundIn types p row → FoundIn types root (closed_all p.steps row)
-
-abbrev pub AreWithin : List DataDecl → Problem → List Problem → Type 0
-AreWithin types root [] = Unit {0}
-AreWithin types root (p ∷ ps) = IsWithin types root p × AreWithin types root ps
-
--- the problems that are left answer for the root
-pub record IsWorking (types : List DataDecl) (root : Problem) (ps : List Problem) : Type 0 where
-  pub none : AllNone types ps → NoneIn types root
-  pub within : AreWithin types root ps
 
 -- the problem that a search begins with
 abbrev pub root_of : List Ty → List (List Pat) → List (List Pat) → Problem

@@ -17,8 +17,9 @@
 //! ```
 //!
 //! The second line is the specialised matrix of `Nil`, the third the default matrix. The search keeps what
-//! is left in a list, so that it takes no deeper stack on wider or longer patterns. Only patterns
-//! themselves are copied and dropped by recursion, to their own depth.
+//! is left in a list, so that it takes no deeper stack on wider or longer patterns, and makes the matrix of
+//! a head when its turn comes, so that it does not hold one for each head. Only patterns themselves are
+//! copied and dropped by recursion, to their own depth.
 //!
 //! Every call speaks of all values of the types. It needs the types of a well numbered program, each
 //! of which has a value; the patterns need not be typed.

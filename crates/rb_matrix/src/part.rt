@@ -1,17 +1,16 @@
 //! The parts of a problem: what is left of it where its vectors begin with a head, or with none.
 
-ghost use Rattle.std.specs.Prelude.{◌≡◌, ◌+◌, ◌<◌, ◌≤◌, ◌∷◌, ◌++◌, [], List, ℕ, length, IfOk, OnOk, Some, None};
-ghost use Rattle.std.specs.Option.{option_to_list};
-ghost use Rattle.rb_core.specs.declared.value.Value as Values;
-ghost use Rattle.rb_core.specs.declared.value.Value.TheOpen as Layers;
-ghost use Rattle.rb_matrix.specs.Heads.{any_begins, column_begins, first_head, some_head};
+ghost use Rattle.std.specs.Prelude.{◌≡◌, ◌+◌, ◌≤◌, ◌∷◌, ◌++◌, [], IfOk, OnOk, None};
+ghost use Rattle.rb_matrix.specs.declared.problem.Left.TheVariants.{Whole, ByHead};
+ghost use Rattle.rb_matrix.specs.Heads.{column_begins, first_head, some_head};
 ghost use Rattle.rb_matrix.specs.Search.{AreInhabited, IsTypeIn, AreTypesIn};
-ghost use Rattle.rb_matrix.specs.Problems.{IsPartAt, AreByHeads, IsBeside, IsSplit, step_of, with_column};
+ghost use Rattle.rb_matrix.specs.Problems.{IsPartAt, IsBeside, step_of, with_column};
+ghost use Rattle.rb_matrix.specs.inner.Left.{IsReady, IsSplit, wholes};
 
 use crate::beside::pattern_beside;
 use crate::images::head_fields;
 use crate::matrix::Head;
-use crate::problem::{Problem, Step};
+use crate::problem::{Branches, Left, Problem, Step};
 use crate::rows::{default_images, first_head_in, heads_in, special_copies, special_images};
 use crate::stack::Stack;
 use rb_core::pattern::Pat;
@@ -151,79 +150,68 @@ fn last_part(
     }))
 }
 
-// What is left for each of the heads.
-fn first_parts(
-    alloc: Global,
-    types: &[DataDecl],
-    ty: Ty,
-    behind: &Problem,
-    heads: &[Head],
-) -> Result<Vec<Problem>, AllocError>
-    requires inhabited { AreInhabited types.now }
-    requires lives { AreTypesIn types.now behind.now.tys }
-    requires stands { 1 ≤ some_head (first_head behind.now.wanted) + some_head (first_head behind.now.unwanted) }
-    ensures { IfOk result (λ r. AreByHeads types.now ty behind.now.tys (with_column ty behind.now) heads.now r.items) }
-{
-    let mut parts = Vec::new(alloc);
-    for head in heads {
-        let Some(part) = part_at(alloc, types, ty, behind, *head)? else {
-            continue;
-        };
-        parts.push(part)?;
-    }
-    Ok(parts)
-}
-
 // Adds the part that there may be.
-fn add_part(parts: &mut Vec<Problem>, part: Option<Problem>) -> Result<(), AllocError>
-    ensures { OnOk result (parts.new.items ≡ parts.old.items ++ option_to_list part) }
+fn add_part(left: &mut Vec<Left>, part: Option<Problem>) -> Result<(), AllocError>
+    ensures { OnOk result (left.new.items ≡ left.old.items ++ wholes part) }
 {
     match part {
         None => Ok(()),
         Some(part) => {
-            parts.push(part)?;
+            left.push(Left::Whole(part))?;
             Ok(())
         }
     }
 }
 
-// The same. The part of the last head is made of the problem itself, so that nothing is copied where
-// there is one head.
-fn parts_at(
+/// Makes the part of the last head, and leaves the others for later, so that of each problem one part is
+/// held at a time. Where it is the only head, the part is made of the problem itself, and nothing is
+/// copied.
+///
+/// # Errors
+///
+/// Want of memory.
+pub fn next_part(
     alloc: Global,
     types: &[DataDecl],
-    ty: Ty,
-    behind: Problem,
-    mut heads: Seq<Head>,
-) -> Result<Vec<Problem>, AllocError>
+    branches: Branches,
+) -> Result<Vec<Left>, AllocError>
     requires inhabited { AreInhabited types.now }
-    requires lives { AreTypesIn types.now behind.tys }
-    requires stands { 1 ≤ some_head (first_head behind.wanted) + some_head (first_head behind.unwanted) }
-    ensures { IfOk result (λ r. AreByHeads types.now ty behind.tys (with_column ty behind) heads r.items) }
+    requires ready { IsReady types.now (ByHead branches) }
+    ensures { IfOk result (λ r. IsSplit types.now (ByHead branches) r.items) }
 {
-    let Some(last) = heads.pop() else {
-        return Ok(Vec::new(alloc));
+    let Branches {
+        ty,
+        behind,
+        mut heads,
+    } = branches;
+    let mut left = Vec::new(alloc);
+    let Some(head) = heads.pop() else {
+        return Ok(left);
     };
-    let mut parts = first_parts(alloc, types, ty, &behind, heads.as_slice())?;
-    let part = last_part(alloc, types, ty, behind, last)?;
-    add_part(&mut parts, part)?;
-    Ok(parts)
+    if heads.is_empty() {
+        let part = last_part(alloc, types, ty, behind, head)?;
+        add_part(&mut left, part)?;
+        return Ok(left);
+    }
+    let part = part_at(alloc, types, ty, &behind, head)?;
+    left.push(Left::ByHead(Branches { ty, behind, heads }))?;
+    add_part(&mut left, part)?;
+    Ok(left)
 }
 
 // What is left where the first value is one of the pattern's, which no head of the column begins.
-fn rest_parts(
+fn rest_part(
     alloc: Global,
     types: &[DataDecl],
     ty: Ty,
     behind: Problem,
     beside: Pat,
-) -> Result<Vec<Problem>, AllocError>
+) -> Result<Option<Problem>, AllocError>
     requires lives { AreTypesIn types.now behind.tys }
     requires none { first_head behind.wanted ≡ None }
     requires beside { IsBeside types.now ty (column_begins behind.unwanted) beside }
-    ensures { IfOk result (λ r. IsSplit types.now (with_column ty behind) r.items) }
+    ensures { IfOk result (λ r. IsSplit types.now (Whole (with_column ty behind)) (wholes r)) }
 {
-    let mut parts = Vec::new(alloc);
     let Problem {
         tys,
         wanted,
@@ -233,21 +221,19 @@ fn rest_parts(
     let count = wanted.len();
     let wanted = default_images(alloc, wanted)?;
     if wanted.len() < count {
-        return Ok(parts);
+        return Ok(None);
     }
     let unwanted = default_images(alloc, unwanted)?;
     steps.push(Step::Front(beside))?;
-    let part = Problem {
+    Ok(Some(Problem {
         tys,
         wanted,
         unwanted,
         steps,
-    };
-    parts.push(part)?;
-    Ok(parts)
+    }))
 }
 
-/// The parts of a problem whose first column has this type; the problem is given without that type.
+/// What is left of a problem whose first column has this type; the problem is given without that type.
 /// A head that a wanted row begins with is the only one that counts. Else, where the heads of the
 /// unwanted rows are not all that a value of the type begins with, the default matrix answers for all
 /// of them.
@@ -260,27 +246,29 @@ pub fn parts_of(
     types: &[DataDecl],
     ty: Ty,
     behind: Problem,
-) -> Result<Vec<Problem>, AllocError>
+) -> Result<Vec<Left>, AllocError>
     requires inhabited { AreInhabited types.now }
     requires live { IsTypeIn types.now ty }
     requires lives { AreTypesIn types.now behind.tys }
-    ensures { IfOk result (λ r. IsSplit types.now (with_column ty behind) r.items) }
+    ensures { IfOk result (λ r. IsSplit types.now (Whole (with_column ty behind)) r.items) }
 {
+    let mut left = Vec::new(alloc);
     if let Some(head) = first_head_in(behind.wanted.as_slice()) {
         let mut heads = Seq::new(alloc);
         heads.push(head)?;
-        let parts = parts_at(alloc, types, ty, behind, heads)?;
-        return Ok(parts);
+        left.push(Left::ByHead(Branches { ty, behind, heads }))?;
+        return Ok(left);
     }
     let heads = heads_in(alloc, behind.unwanted.as_slice())?;
     match pattern_beside(alloc, types, ty, heads.as_slice())? {
         None => {
-            let parts = parts_at(alloc, types, ty, behind, heads)?;
-            Ok(parts)
+            left.push(Left::ByHead(Branches { ty, behind, heads }))?;
+            Ok(left)
         }
         Some(beside) => {
-            let parts = rest_parts(alloc, types, ty, behind, beside)?;
-            Ok(parts)
+            let part = rest_part(alloc, types, ty, behind, beside)?;
+            add_part(&mut left, part)?;
+            Ok(left)
         }
     }
 }

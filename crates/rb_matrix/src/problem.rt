@@ -1,5 +1,6 @@
 //! What is left of a search.
 
+use crate::matrix::Head;
 use crate::rows::Row;
 use crate::stack::Stack;
 use rb_core::pattern::Pat;
@@ -25,11 +26,29 @@ pub struct Problem {
     pub steps: Seq<Step>,
 }
 
-/// What becomes of a problem.
+/// The parts of a problem that are not made yet: its vectors that begin with one of these heads. The
+/// problem is given without its first column's type.
+#[derive(Drop)]
+pub struct Branches {
+    pub ty: Ty,
+    pub behind: Problem,
+    pub heads: Seq<Head>,
+}
+
+/// What is left of a search.
+#[derive(Drop)]
+pub enum Left {
+    /// All vectors of a problem.
+    Whole(Problem),
+    /// Those that begin with one of some heads.
+    ByHead(Branches),
+}
+
+/// What becomes of what was left.
 #[derive(Drop)]
 pub enum Outcome {
     /// The empty row is its answer, and these are its steps.
     Solved(Seq<Step>),
-    /// Its parts answer for it.
-    Split(Vec<Problem>),
+    /// These answer for it.
+    Split(Vec<Left>),
 }

@@ -3,19 +3,23 @@
 //!
 //! What is left of a search stands in a list, not on the stack, so that it takes no deeper stack on
 //! wider or longer patterns. An unwanted row without a head ends its branch, so rows that each look at
-//! one column take a time that grows with their number. Time and memory grow as in Maranget's
-//! algorithm: exponentially in the number of columns at worst, where rows that look at several columns
-//! take turns, and about with the product of rows and heads for tables as one writes them.
+//! one column take a time that grows with their number. Time grows as in Maranget's algorithm:
+//! exponentially in the number of columns at worst, where rows that look at several columns take turns,
+//! and about with the product of rows and heads for tables as one writes them. Memory does not: the
+//! parts of a problem are made one after another, each when the one before has no answer, so that of
+//! each problem on the way one part is held, with the rows that its head keeps.
 
 ghost use Rattle.std.specs.Prelude.{◌≡◌, List, IfOk, []};
 ghost use Rattle.rb_core.specs.declared.types.DataDecl as DataDecls;
+ghost use Rattle.rb_matrix.specs.declared.problem.Left.TheVariants.{Whole};
 ghost use Rattle.rb_matrix.specs.Rows.{row_matches, any_row, all_rows};
 ghost use Rattle.rb_matrix.specs.Search.{AreInhabited, AreTypesIn, IsAnswer};
-ghost use Rattle.rb_matrix.specs.Problems.{IsOutcome, root_of};
+ghost use Rattle.rb_matrix.specs.Problems.{root_of};
+ghost use Rattle.rb_matrix.specs.inner.Left.{IsOutcome, IsReady};
 
 use crate::open::some_is_open;
-use crate::part::parts_of;
-use crate::problem::{Outcome, Problem, Step};
+use crate::part::{next_part, parts_of};
+use crate::problem::{Left, Outcome, Problem, Step};
 use crate::rows::Row;
 use crate::stack::Stack;
 use crate::witness::witness;
@@ -85,7 +89,7 @@ fn root(
 // Where no column is left, the rows decide.
 fn end(alloc: Global, wanted: &Seq<Row>, unwanted: &Seq<Row>, steps: Seq<Step>) -> Outcome
     ensures { (types : List DataDecls.DataDecl) → IsOutcome types
-        (record { tys = []; wanted = wanted.now; unwanted = unwanted.now; steps = steps }) result }
+        (Whole (record { tys = []; wanted = wanted.now; unwanted = unwanted.now; steps = steps })) result }
 {
     if !all_are_empty(wanted.as_slice()) {
         return Outcome::Split(Vec::new(alloc));
@@ -97,10 +101,10 @@ fn end(alloc: Global, wanted: &Seq<Row>, unwanted: &Seq<Row>, steps: Seq<Step>) 
 }
 
 // What becomes of a problem. Nothing is left where an unwanted row has no head.
-fn step(alloc: Global, types: &[DataDecl], problem: Problem) -> Result<Outcome, AllocError>
+fn split(alloc: Global, types: &[DataDecl], problem: Problem) -> Result<Outcome, AllocError>
     requires inhabited { AreInhabited types.now }
     requires live { AreTypesIn types.now problem.tys }
-    ensures { IfOk result (λ r. IsOutcome types.now problem r) }
+    ensures { IfOk result (λ r. IsOutcome types.now (Whole problem) r) }
 {
     if some_is_open(problem.unwanted.as_slice(), problem.tys.len()) {
         return Ok(Outcome::Split(Vec::new(alloc)));
@@ -124,6 +128,20 @@ fn step(alloc: Global, types: &[DataDecl], problem: Problem) -> Result<Outcome, 
     Ok(Outcome::Split(parts))
 }
 
+fn step(alloc: Global, types: &[DataDecl], left: Left) -> Result<Outcome, AllocError>
+    requires inhabited { AreInhabited types.now }
+    requires ready { IsReady types.now left }
+    ensures { IfOk result (λ r. IsOutcome types.now left r) }
+{
+    match left {
+        Left::Whole(problem) => split(alloc, types, problem),
+        Left::ByHead(branches) => {
+            let parts = next_part(alloc, types, branches)?;
+            Ok(Outcome::Split(parts))
+        }
+    }
+}
+
 /// A row of patterns that has a vector of the root's types, and all of whose vectors all wanted rows
 /// match and no unwanted one; None where there is no such vector. The patterns are numbers,
 /// constructors and wildcards.
@@ -142,9 +160,9 @@ pub fn find_in(
     ensures { IfOk result (λ r. IsAnswer types.now root.tys root.wanted root.unwanted r) }
 {
     let mut work = Vec::new(alloc);
-    work.push(root)?;
-    while let Some(problem) = work.pop() {
-        let outcome = step(alloc, types, problem)?;
+    work.push(Left::Whole(root))?;
+    while let Some(left) = work.pop() {
+        let outcome = step(alloc, types, left)?;
         match outcome {
             Outcome::Solved(steps) => {
                 let row = witness(alloc, steps)?;

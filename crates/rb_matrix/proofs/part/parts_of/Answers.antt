@@ -1,29 +1,35 @@
-use Rattle.std.proofs.Common.{◌≡◌, ◌∷◌, ◌++◌, [], refl, sym, ap, ◌∙◌, subst, arith}
+use Rattle.std.proofs.Common.{◌≡◌, ◌∷◌, ◌++◌, [], List, sym, ap, ◌∙◌, subst, arith}
 use Rattle.rb_core.specs.declared.value.Value.{Value, out-Value}
 use Rattle.rb_core.specs.declared.value.Value.TheOpen.{Value-F}
+use Rattle.rb_matrix.specs.declared.matrix.Head.{Head}
+use Rattle.rb_matrix.specs.declared.problem.Left.{Left}
+use Rattle.rb_matrix.specs.declared.problem.Left.TheVariants.{Whole, ByHead}
 use Rattle.rb_matrix.specs.Heads.{any_begins, column_begins, first_head}
-use Rattle.rb_matrix.specs.Problems.{AreByHeads, IsBesideAnswer, rows_heads, with_column}
-use Rattle.rb_matrix.proofs.Splits.{one-split, all-split, some-stands}
+use Rattle.rb_matrix.specs.Problems.{IsBesideAnswer, rows_heads, with_column}
+use Rattle.rb_matrix.specs.inner.Left.{IsSplit}
+use Rattle.rb_matrix.proofs.Splits.{some-stands}
+use Rattle.rb_matrix.proofs.Branches.{one-branch, all-branches}
 use Rattle.rb_matrix.proofs.part.parts_of.Goals as goal
 
 pub returns-in-Some : goal.returns-in-Some
 returns-in-Some c =
-    let one = c.in_ok-push.ensures.ok ∙ ap (λ l. l ++ c.in-Some.head ∷ []) c.new-heads.ensures in
-    one-split c.args.types.now c.args.ty c.args.behind.tys (with_column c.args.ty c.args.behind) refl c.in-Some.head _
+    let branches : Left = ByHead (record { ty = c.args.ty; behind = c.args.behind; heads = c.push.new.self }) in
+    subst (IsSplit c.args.types.now (Whole (with_column c.args.ty c.args.behind)))
+    (sym (c.in_ok-push-2.ensures.items ∙ ap (λ l. l ++ branches ∷ []) c.new-left.ensures.items))
+    (one-branch c.args.types.now c.args.ty c.args.behind c.push.new.self c.in-Some.head c.requires.lives
     (ap first_head (sym c.as_slice.ensures) ∙ sym c.first_head_in.ensures ∙ c.in-Some.is)
-    (subst (λ hs. AreByHeads c.args.types.now c.args.ty c.args.behind.tys (with_column c.args.ty c.args.behind) hs c.in_ok-parts.parts.items) one c.in_ok-parts.ensures)
+    (c.in_ok-push.ensures.ok ∙ ap (λ (l : List Head). l ++ c.in-Some.head ∷ []) c.new-heads.ensures))
 
-pub parts_at-requires-in-None-clause-stands : goal.parts_at-requires-in-None-clause-stands
-parts_at-requires-in-None-clause-stands c =
-    let all = subst (IsBesideAnswer c.args.types.now c.args.ty c.as_slice-3.result.now) c.in-None.is c.in_ok-pattern_beside.ensures.answer in
+pub returns-in_ok-push-in-None : goal.returns-in_ok-push-in-None
+returns-in_ok-push-in-None c =
+    let branches : Left = ByHead (record { ty = c.args.ty; behind = c.args.behind; heads = c.in_ok-heads.heads }) in
+    let every = subst (IsBesideAnswer c.args.types.now c.args.ty c.as_slice-3.result.now) c.in-None.is c.in_ok-pattern_beside.ensures.answer in
     let same : (l : Value-F Value) → any_begins c.as_slice-3.result.now l ≡ column_begins c.args.behind.unwanted l =
     (λ l. ap (λ hs. any_begins hs l) c.as_slice-3.ensures ∙ c.in_ok-heads.ensures.heads l ∙ ap (λ rows. column_begins rows l) c.as_slice-2.ensures) in
-    let stands = some-stands c.args.types.now c.requires.inhabited c.args.ty c.args.behind.unwanted c.as_slice-3.result.now c.requires.live same all in
-    omega (arith, stands)
-
-pub returns-in_ok-parts-in-None : goal.returns-in_ok-parts-in-None
-returns-in_ok-parts-in-None c =
-    let all = subst (IsBesideAnswer c.args.types.now c.args.ty c.as_slice-3.result.now) c.in-None.is c.in_ok-pattern_beside.ensures.answer in
-    let rows = ap rows_heads c.as_slice-2.ensures in let many = c.in_ok-heads.ensures.few in
-    all-split c.args.types.now c.args.ty c.args.behind.tys (with_column c.args.ty c.args.behind) refl c.in_ok-heads.heads _ (omega (arith, rows, many))
-    (λ v of. ap (λ hs. any_begins hs (out-Value v)) (sym c.as_slice-3.ensures) ∙ all v of) c.in_ok-parts-in-None.ensures
+    let rows = ap rows_heads c.as_slice-2.ensures in let few = c.in_ok-heads.ensures.few in
+    subst (IsSplit c.args.types.now (Whole (with_column c.args.ty c.args.behind)))
+    (sym (c.in_ok-push-in-None.ensures.items ∙ ap (λ l. l ++ branches ∷ []) c.new-left.ensures.items))
+    (all-branches c.args.types.now c.args.ty c.args.behind c.in_ok-heads.heads c.requires.lives
+    (some-stands c.args.types.now c.requires.inhabited c.args.ty c.args.behind.unwanted c.as_slice-3.result.now c.requires.live same every)
+    (omega (arith, rows, few))
+    (λ v of. ap (λ hs. any_begins hs (out-Value v)) (sym c.as_slice-3.ensures) ∙ every v of))

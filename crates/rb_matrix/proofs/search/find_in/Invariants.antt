@@ -1,8 +1,8 @@
-use Rattle.rb_matrix.specs.Problems.{IsWorking, costs}
+use Rattle.rb_matrix.specs.inner.Left.{IsWorking, costs}
 use Rattle.rb_matrix.proofs.search.find_in.Given as goal
 
-abbrev pub invariant-loop-problem : goal.invariant-loop-problem
-invariant-loop-problem l = IsWorking l.types l.fn.root l.work.items
+abbrev pub invariant-loop-left : goal.invariant-loop-left
+invariant-loop-left l = IsWorking l.types l.fn.root l.work.items
 
-abbrev pub decreases-loop-problem : goal.decreases-loop-problem
-decreases-loop-problem l = costs l.types l.work.items
+abbrev pub decreases-loop-left : goal.decreases-loop-left
+decreases-loop-left l = costs l.types l.work.items

@@ -1,10 +1,11 @@
 use Rattle.std.proofs.Common.{length, sym, ap, ◌∙◌, subst}
+use Rattle.rb_matrix.specs.declared.problem.Left.TheVariants.{Whole}
 use Rattle.rb_matrix.specs.Open.{any_open}
 use Rattle.rb_matrix.specs.Search.{AreTypesIn}
-use Rattle.rb_matrix.specs.Problems.{IsOutcome}
+use Rattle.rb_matrix.specs.inner.Left.{IsOutcome}
 use Rattle.rb_matrix.proofs.Opens.{lost-open}
 use Rattle.rb_matrix.proofs.Working.{split-column}
-use Rattle.rb_matrix.proofs.search.step.Goals as goal
+use Rattle.rb_matrix.proofs.search.split.Goals as goal
 
 pub returns-then-some_is_open : goal.returns-then-some_is_open
 returns-then-some_is_open c =
@@ -15,7 +16,7 @@ returns-then-some_is_open c =
 pub returns-in_default : goal.returns-in_default
 returns-in_default c =
     let p = c.args.problem in
-    subst (λ l. IsOutcome c.args.types.now (record { tys = l; wanted = p.wanted; unwanted = p.unwanted; steps = p.steps }) c.end.result) (sym c.in_default.ensures.0) (c.end.ensures c.args.types.now)
+    subst (λ l. IsOutcome c.args.types.now (Whole (record { tys = l; wanted = p.wanted; unwanted = p.unwanted; steps = p.steps })) c.end.result) (sym c.in_default.ensures.0) (c.end.ensures c.args.types.now)
 
 pub parts_of-requires-clause-live : goal.parts_of-requires-clause-live
 parts_of-requires-clause-live c = (subst (AreTypesIn c.args.types.now) c.in-Some.ensures c.requires.live).0
