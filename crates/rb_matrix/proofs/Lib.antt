@@ -1,6 +1,7 @@
 pub mod BesideFirst
 pub mod Besides
 pub mod Branches
+pub mod CountedRows
 pub mod Defaults
 pub mod Examples
 pub mod Exhausts

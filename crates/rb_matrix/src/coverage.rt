@@ -10,7 +10,7 @@ ghost use Rattle.rb_matrix.specs.inner.Passed.{ArePassed};
 
 use crate::passed::Passed;
 use crate::problem::Problem;
-use crate::rows::{Row, row_of};
+use crate::row::{Row, row_of};
 use crate::search::find_in;
 use crate::stack::Stack;
 use rb_core::pattern::Pat;

@@ -35,6 +35,7 @@ mod open;
 mod part;
 mod passed;
 mod problem;
+mod row;
 mod rows;
 pub mod search;
 mod stack;

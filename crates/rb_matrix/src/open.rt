@@ -1,9 +1,9 @@
-//! Rows without a head, which match every vector of their length.
+//! Patterns without a head, which match every vector of their length.
 
 ghost use Rattle.std.specs.Prelude.{◌≡◌};
-ghost use Rattle.rb_matrix.specs.Open.{is_open as the_open, any_open};
+ghost use Rattle.rb_matrix.specs.Open.{is_open as the_open};
 
-use crate::rows::Row;
+use crate::stack::Stack;
 use rb_core::pattern::Pat;
 
 fn are_open(pats: &[Pat]) -> bool
@@ -20,25 +20,14 @@ fn are_open(pats: &[Pat]) -> bool
     true
 }
 
+/// Whether none of the patterns has a head.
 #[tactic(auto, using(crate::proofs::OpenRows::open_append))]
-fn is_open(row: &Row) -> bool
-    ensures { result ≡ the_open row.now }
+pub fn is_open(pats: &Stack<Pat>) -> bool
+    ensures { result ≡ the_open pats.now }
 {
-    let (front, back) = row.as_slices();
+    let (front, back) = pats.as_slices();
     if !are_open(front) {
         return false;
     }
     are_open(back)
-}
-
-/// Whether one of the rows matches every vector of so many values, whatever they are.
-pub fn some_is_open(rows: &[Row], columns: usize) -> bool
-    ensures { result ≡ any_open rows.now columns }
-{
-    for row in rows {
-        if row.len() == columns && is_open(row) {
-            return true;
-        }
-    }
-    false
 }

@@ -1,7 +1,7 @@
 //! What is left of a search.
 
 use crate::matrix::Head;
-use crate::rows::Row;
+use crate::row::Row;
 use crate::stack::Stack;
 use rb_core::pattern::Pat;
 use rb_core::seq::Seq;

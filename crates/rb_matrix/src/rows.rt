@@ -1,70 +1,27 @@
-//! Rows of a search. Their images in the specialised and the default matrix are made of the rows
-//! themselves, so that what stands behind the first pattern is not copied.
+//! The rows of a search, and their images in the specialised and the default matrix.
 
-ghost use Rattle.std.specs.Prelude.{◌≡◌, ◌≤◌, ◌++◌, [], ◌∷◌, ℕ, None, length, OnOk, IfOk};
-ghost use Rattle.std.specs.Bool.{OnTrue};
+ghost use Rattle.std.specs.Prelude.{◌≡◌, ◌≤◌, length, IfOk};
 ghost use Rattle.rb_core.specs.declared.value.Value as Values;
 ghost use Rattle.rb_core.specs.declared.value.Value.TheOpen as Layers;
-ghost use Rattle.rb_matrix.specs.Heads.{any_begins, column_begins, row_head, first_head};
+ghost use Rattle.rb_matrix.specs.Heads.{any_begins, column_begins, first_head};
+ghost use Rattle.rb_matrix.specs.Open.{any_open};
 ghost use Rattle.rb_matrix.specs.Problems.{rows_heads};
-ghost use Rattle.rb_matrix.specs.Specialize.{wilds, special_row, special, default_row, defaults};
+ghost use Rattle.rb_matrix.specs.Specialize.{special_row, special, defaults};
 
 use crate::heads::add_head;
 use crate::matrix::Head;
 use crate::numbers::Numbers;
-use crate::stack::Stack;
-use rb_core::pattern::{Pat, copy_patterns};
+use crate::row::Row;
 use rb_core::seq::Seq;
 use std::alloc::{AllocError, Global};
 use std::collections::VecDeque;
-
-/// A row of patterns, which is taken apart from its front.
-pub type Row = Stack<Pat>;
-
-/// A pattern as a row.
-///
-/// # Errors
-///
-/// Want of memory.
-pub fn row_of(alloc: Global, pat: &Pat) -> Result<Row, AllocError>
-    ensures { IfOk result (λ r. r ≡ pat.now ∷ []) }
-{
-    let mut row = Stack::new(alloc);
-    row.push(pat.copy(alloc)?)?;
-    Ok(row)
-}
-
-// An equal row.
-fn row_copied(alloc: Global, row: &Row) -> Result<Row, AllocError>
-    ensures { IfOk result (λ r. r ≡ row.now) }
-{
-    let (front, back) = row.as_slices();
-    let mut copy = Stack::from_seq(copy_patterns(alloc, back)?);
-    copy.push_all(copy_patterns(alloc, front)?)?;
-    Ok(copy)
-}
-
-/// What a row begins with.
-pub fn head_of(row: &Row) -> Option<Head>
-    ensures { result ≡ row_head row.now }
-{
-    match row.first() {
-        None => None,
-        Some(first) => match first {
-            Pat::Wild(_) => None,
-            Pat::Var(_, _) => None,
-            Pat::Num(_, number) => Some(Head::Num(*number)),
-            Pat::Con(_, con, _) => Some(Head::Con(*con)),
-        },
-    }
-}
 
 /// The first head that stands in the first column.
 pub fn first_head_in(rows: &[Row]) -> Option<Head>
     ensures { result ≡ first_head rows.now }
 {
     for row in rows {
-        if let Some(head) = head_of(row) {
+        if let Some(head) = row.head() {
             return Some(head);
         }
     }
@@ -84,68 +41,9 @@ pub fn heads_in(alloc: Global, rows: &[Row]) -> Result<Seq<Head>, AllocError>
     let mut heads = Vec::new(alloc);
     let mut numbers = Numbers::new(alloc);
     for row in rows {
-        add_head(&mut heads, &mut numbers, head_of(row))?;
+        add_head(&mut heads, &mut numbers, row.head())?;
     }
     Ok(Seq::from_vec(heads))
-}
-
-// Puts so many wildcards in front.
-fn push_wilds(row: &mut Row, count: usize) -> Result<(), AllocError>
-    ensures { OnOk result (row.new ≡ wilds count ++ row.old) }
-{
-    for _i in 0..count {
-        row.push(Pat::Wild(0))?;
-    }
-    Ok(())
-}
-
-// The image of a row in the specialised matrix of a head with so many fields.
-fn special_of(mut row: Row, head: Head, fields: usize) -> Result<Option<Row>, AllocError>
-    ensures { IfOk result (λ r. r ≡ special_row head fields row) }
-{
-    let Some(first) = row.pop() else {
-        return Ok(None);
-    };
-    match first {
-        Pat::Wild(_) => push_wilds(&mut row, fields)?,
-        Pat::Var(_, _) => push_wilds(&mut row, fields)?,
-        Pat::Num(_, number) => {
-            if head != Head::Num(number) {
-                return Ok(None);
-            }
-        }
-        Pat::Con(_, con, pats) => {
-            let Head::Con(known) = head else {
-                return Ok(None);
-            };
-            if con.con != known.con || pats.len() != fields {
-                return Ok(None);
-            }
-            row.push_all(pats)?;
-        }
-    }
-    Ok(Some(row))
-}
-
-// Whether a row begins with another head, so that it has no image.
-fn is_other(row: &Row, head: Head) -> bool
-    ensures { OnTrue result ((n : ℕ) → special_row head n row.now ≡ None) }
-{
-    match row.first() {
-        None => true,
-        Some(first) => match first {
-            Pat::Wild(_) => false,
-            Pat::Var(_, _) => false,
-            Pat::Num(_, number) => match head {
-                Head::Num(known) => *number != known,
-                Head::Con(_) => true,
-            },
-            Pat::Con(_, con, _) => match head {
-                Head::Num(_) => true,
-                Head::Con(known) => con.con != known.con,
-            },
-        },
-    }
 }
 
 // The image of a row that stays. Only rows that may have one are copied.
@@ -157,11 +55,11 @@ fn special_copy(
 ) -> Result<Option<Row>, AllocError>
     ensures { IfOk result (λ r. r ≡ special_row head fields row.now) }
 {
-    if is_other(row, head) {
+    if row.is_other(head) {
         return Ok(None);
     }
-    let copy = row_copied(alloc, row)?;
-    special_of(copy, head, fields)
+    let copy = row.copy(alloc)?;
+    copy.special(head, fields)
 }
 
 /// The images of rows in the specialised matrix of a head with so many fields. The rows stay.
@@ -202,26 +100,11 @@ pub fn special_images(
     let mut kept = Seq::new(alloc);
     let mut left = VecDeque::from(rows.into_vec());
     while let Some(row) = left.pop_front() {
-        if let Some(image) = special_of(row, head, fields)? {
+        if let Some(image) = row.special(head, fields)? {
             kept.push(image)?;
         }
     }
     Ok(kept)
-}
-
-// The image of a row in the default matrix.
-fn rest_of(mut row: Row) -> Option<Row>
-    ensures { result ≡ default_row row }
-{
-    let Some(first) = row.pop() else {
-        return None;
-    };
-    match first {
-        Pat::Wild(_) => Some(row),
-        Pat::Var(_, _) => Some(row),
-        Pat::Num(_, _) => None,
-        Pat::Con(_, _, _) => None,
-    }
 }
 
 /// The images of rows in the default matrix, made of the rows.
@@ -235,9 +118,21 @@ pub fn default_images(alloc: Global, rows: Seq<Row>) -> Result<Seq<Row>, AllocEr
     let mut kept = Seq::new(alloc);
     let mut left = VecDeque::from(rows.into_vec());
     while let Some(row) = left.pop_front() {
-        if let Some(image) = rest_of(row) {
+        if let Some(image) = row.rest() {
             kept.push(image)?;
         }
     }
     Ok(kept)
+}
+
+/// Whether one of the rows matches every vector of so many values, whatever they are.
+pub fn some_is_open(rows: &[Row], columns: usize) -> bool
+    ensures { result ≡ any_open rows.now columns }
+{
+    for row in rows {
+        if row.has_length(columns) && row.is_open() {
+            return true;
+        }
+    }
+    false
 }

@@ -7,20 +7,21 @@
 //! exponentially in the number of columns at worst, where rows that look at several columns take turns,
 //! and about with the product of rows and heads for tables as one writes them. Memory does not: the
 //! parts of a problem are made one after another, each when the one before has no answer, so that of
-//! each problem on the way one part is held, with the rows that its head keeps.
+//! each problem on the way one part is held. A row of a part takes no more memory than the patterns that
+//! it is made of, since the wildcards for a head's fields are only counted.
 
 ghost use Rattle.std.specs.Prelude.{◌≡◌, List, IfOk, []};
 ghost use Rattle.rb_core.specs.declared.types.DataDecl as DataDecls;
 ghost use Rattle.rb_matrix.specs.declared.problem.Left.TheVariants.{Whole};
-ghost use Rattle.rb_matrix.specs.Rows.{row_matches, any_row, all_rows};
+ghost use Rattle.rb_matrix.specs.Rows.{any_row, all_rows};
 ghost use Rattle.rb_matrix.specs.Search.{AreInhabited, AreTypesIn, IsAnswer};
 ghost use Rattle.rb_matrix.specs.Problems.{root_of};
 ghost use Rattle.rb_matrix.specs.inner.Left.{IsOutcome, IsReady};
 
-use crate::open::some_is_open;
 use crate::part::{next_part, parts_of};
 use crate::problem::{Left, Outcome, Problem, Step};
-use crate::rows::Row;
+use crate::row::Row;
+use crate::rows::some_is_open;
 use crate::stack::Stack;
 use crate::witness::witness;
 use rb_core::pattern::{Pat, copy_patterns};
@@ -28,21 +29,12 @@ use rb_core::seq::Seq;
 use rb_core::types::{DataDecl, Ty};
 use std::alloc::{AllocError, Global};
 
-fn is_empty(row: &Row) -> bool
-    ensures { result ≡ row_matches row.now [] }
-{
-    match row.first() {
-        None => true,
-        Some(_first) => false,
-    }
-}
-
 // Whether a row matches the empty vector.
 fn some_is_empty(rows: &[Row]) -> bool
     ensures { result ≡ any_row rows.now [] }
 {
     for row in rows {
-        if is_empty(row) {
+        if row.is_empty() {
             return true;
         }
     }
@@ -53,7 +45,7 @@ fn all_are_empty(rows: &[Row]) -> bool
     ensures { result ≡ all_rows rows.now [] }
 {
     for row in rows {
-        if !is_empty(row) {
+        if !row.is_empty() {
             return false;
         }
     }
@@ -65,7 +57,7 @@ fn rows_copied(alloc: Global, rows: &[Seq<Pat>]) -> Result<Seq<Row>, AllocError>
 {
     let mut copies = Seq::new(alloc);
     for row in rows {
-        copies.push(Stack::from_seq(copy_patterns(alloc, row.as_slice())?))?;
+        copies.push(Row::from_seq(copy_patterns(alloc, row.as_slice())?))?;
     }
     Ok(copies)
 }

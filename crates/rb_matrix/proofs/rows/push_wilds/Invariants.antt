@@ -1,6 +1,0 @@
-use Rattle.std.proofs.Common.{◌≡◌, ◌++◌}
-use Rattle.rb_matrix.specs.Specialize.{wilds}
-use Rattle.rb_matrix.proofs.rows.push_wilds.Given as goal
-
-abbrev pub invariant-loop-i : goal.invariant-loop-i
-invariant-loop-i l = l.row ≡ wilds l._i ++ l.initial.row

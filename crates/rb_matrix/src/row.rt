@@ -1,0 +1,232 @@
+//! One row of a search. Its images in the specialised and the default matrix are made of the row itself.
+
+ghost use Rattle.std.specs.Prelude.{◌≡◌, ◌∷◌, ◌==◌, [], ℕ, None, length, IfOk};
+ghost use Rattle.std.specs.Bool.{OnTrue};
+ghost use Rattle.rb_matrix.specs.Heads.{row_head};
+ghost use Rattle.rb_matrix.specs.Open.{is_open as the_open};
+ghost use Rattle.rb_matrix.specs.Rows.{row_matches};
+ghost use Rattle.rb_matrix.specs.Specialize.{special_row, default_row};
+
+use crate::matrix::Head;
+use crate::open::is_open;
+use crate::stack::Stack;
+use rb_core::pattern::{Pat, copy_patterns};
+use rb_core::seq::Seq;
+use std::alloc::{AllocError, Global};
+use std::marker::Model;
+
+/// A row of patterns, which is taken apart from its front. The wildcards that a head's fields put in front
+/// are only counted, so that a row takes no more memory than the patterns that it is made of.
+#[derive(Drop)]
+pub struct Row {
+    wilds: usize,
+    behind: Stack<Pat>,
+}
+
+impl Model for Row {
+    ghost use Rattle.std.specs.Prelude.{List, ◌++◌};
+    ghost use Rattle.std.specs.Coded.{coded_list};
+    ghost use Rattle.rb_core.specs.declared.pattern.Pat.{Pat as Term};
+    ghost use Rattle.rb_core.specs.contracts.pattern.Pat as pat_row;
+    ghost use Rattle.rb_matrix.specs.Specialize.{wilds as so_many};
+
+    ghost Value = { List Term };
+
+    ghost coded = { coded_list pat_row.the_row.coded };
+
+    ghost view = { λ r. so_many r.wilds ++ r.behind };
+}
+
+/// A pattern as a row.
+///
+/// # Errors
+///
+/// Want of memory.
+pub fn row_of(alloc: Global, pat: &Pat) -> Result<Row, AllocError>
+    ensures { IfOk result (λ r. r ≡ pat.now ∷ []) }
+{
+    let mut behind = Stack::new(alloc);
+    behind.push(pat.copy(alloc)?)?;
+    Ok(Row { wilds: 0, behind })
+}
+
+// The image of patterns in the specialised matrix of a head with so many fields.
+fn special_of(mut pats: Stack<Pat>, head: Head, fields: usize) -> Result<Option<Row>, AllocError>
+    ensures { IfOk result (λ r. r ≡ special_row head fields pats) }
+{
+    let Some(first) = pats.pop() else {
+        return Ok(None);
+    };
+    match first {
+        Pat::Wild(_) => Ok(Some(Row {
+            wilds: fields,
+            behind: pats,
+        })),
+        Pat::Var(_, _) => Ok(Some(Row {
+            wilds: fields,
+            behind: pats,
+        })),
+        Pat::Num(_, number) => {
+            if head != Head::Num(number) {
+                return Ok(None);
+            }
+            Ok(Some(Row {
+                wilds: 0,
+                behind: pats,
+            }))
+        }
+        Pat::Con(_, con, subs) => {
+            let Head::Con(known) = head else {
+                return Ok(None);
+            };
+            if con.con != known.con || subs.len() != fields {
+                return Ok(None);
+            }
+            pats.push_all(subs)?;
+            Ok(Some(Row {
+                wilds: 0,
+                behind: pats,
+            }))
+        }
+    }
+}
+
+impl Row {
+    /// A row of these patterns.
+    pub fn from_seq(pats: Seq<Pat>) -> Row
+        ensures { result ≡ pats }
+    {
+        Row {
+            wilds: 0,
+            behind: Stack::from_seq(pats),
+        }
+    }
+
+    /// An equal row.
+    ///
+    /// # Errors
+    ///
+    /// Want of memory.
+    pub fn copy(&self, alloc: Global) -> Result<Row, AllocError>
+        ensures { IfOk result (λ r. r ≡ self.now) }
+    {
+        let (front, back) = self.behind.as_slices();
+        let mut behind = Stack::from_seq(copy_patterns(alloc, back)?);
+        behind.push_all(copy_patterns(alloc, front)?)?;
+        Ok(Row {
+            wilds: self.wilds,
+            behind,
+        })
+    }
+
+    /// Whether the row has no pattern, so that it matches the empty vector.
+    pub fn is_empty(&self) -> bool
+        ensures { result ≡ row_matches self.now [] }
+    {
+        if self.wilds > 0 {
+            return false;
+        }
+        match self.behind.first() {
+            None => true,
+            Some(_first) => false,
+        }
+    }
+
+    /// Whether the row has so many patterns.
+    pub fn has_length(&self, count: usize) -> bool
+        ensures { result ≡ (length self.now == count) }
+    {
+        self.wilds <= count && self.behind.len() == count - self.wilds
+    }
+
+    /// Whether the row has no head.
+    #[tactic(auto, using(crate::proofs::CountedRows::open_counted))]
+    pub fn is_open(&self) -> bool
+        ensures { result ≡ the_open self.now }
+    {
+        is_open(&self.behind)
+    }
+
+    /// What the row begins with.
+    pub fn head(&self) -> Option<Head>
+        ensures { result ≡ row_head self.now }
+    {
+        if self.wilds > 0 {
+            return None;
+        }
+        match self.behind.first() {
+            None => None,
+            Some(first) => match first {
+                Pat::Wild(_) => None,
+                Pat::Var(_, _) => None,
+                Pat::Num(_, number) => Some(Head::Num(*number)),
+                Pat::Con(_, con, _) => Some(Head::Con(*con)),
+            },
+        }
+    }
+
+    /// Whether the row begins with another head, so that it has no image.
+    pub fn is_other(&self, head: Head) -> bool
+        ensures { OnTrue result ((n : ℕ) → special_row head n self.now ≡ None) }
+    {
+        if self.wilds > 0 {
+            return false;
+        }
+        match self.behind.first() {
+            None => true,
+            Some(first) => match first {
+                Pat::Wild(_) => false,
+                Pat::Var(_, _) => false,
+                Pat::Num(_, number) => match head {
+                    Head::Num(known) => *number != known,
+                    Head::Con(_) => true,
+                },
+                Pat::Con(_, con, _) => match head {
+                    Head::Num(_) => true,
+                    Head::Con(known) => con.con != known.con,
+                },
+            },
+        }
+    }
+
+    /// The row's image in the specialised matrix of a head with so many fields.
+    ///
+    /// # Errors
+    ///
+    /// Want of memory.
+    #[tactic(auto, using(crate::proofs::CountedRows::special_counted))]
+    pub fn special(self, head: Head, fields: usize) -> Result<Option<Row>, AllocError>
+        ensures { IfOk result (λ r. r ≡ special_row head fields self) }
+    {
+        let Row { wilds, behind } = self;
+        if wilds > 0 {
+            let Some(wilds) = fields.checked_add(wilds - 1) else {
+                return Err(AllocError);
+            };
+            return Ok(Some(Row { wilds, behind }));
+        }
+        special_of(behind, head, fields)
+    }
+
+    /// The row's image in the default matrix.
+    pub fn rest(self) -> Option<Row>
+        ensures { result ≡ default_row self }
+    {
+        let Row { wilds, mut behind } = self;
+        if wilds > 0 {
+            return Some(Row {
+                wilds: wilds - 1,
+                behind,
+            });
+        }
+        let Some(first) = behind.pop() else {
+            return None;
+        };
+        match first {
+            Pat::Wild(_) => Some(Row { wilds: 0, behind }),
+            Pat::Var(_, _) => Some(Row { wilds: 0, behind }),
+            Pat::Num(_, _) => None,
+            Pat::Con(_, _, _) => None,
+        }
+    }
+}
