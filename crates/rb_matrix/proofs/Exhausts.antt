@@ -1,25 +1,21 @@
 -- What a search in one column says of the patterns.
-use Rattle.std.proofs.Common.{◌≡◌, ℕ, zero, suc, List, [], ◌∷◌, ◌++◌, map, length, take, Bool, true, false, ◌&&◌, ◌==◌, ◌||◌, not, Option, Some, None, refl, sym, ap, ◌∙◌, arith, subst}
+use Rattle.std.proofs.Common.{◌≡◌, ℕ, zero, suc, List, [], ◌∷◌, ◌++◌, length, take, Bool, true, false, ◌&&◌, ◌||◌, not, Option, Some, None, refl, sym, ap, ◌∙◌, arith, subst}
 use Rattle.std.specs.Prelude.{slice_get, is_some, IsSome, if◌then◌else◌}
 use Rattle.std.proofs.Math.Bool.{and-true}
-use Rattle.std.proofs.lemmas.Bool.{eqb-true, eq-eqb, false≢true, false_from_ne_true}
+use Rattle.std.proofs.lemmas.Bool.{false≢true}
 use Rattle.std.proofs.lemmas.List.{length-append}
 use Rattle.std.proofs.lemmas.Option.{slice_get_within}
-use Rattle.rb_core.specs.declared.value.Value.{Value, out-Value}
-use Rattle.rb_core.specs.declared.value.Value.TheOpen as V
-use Rattle.rb_core.specs.declared.types.ConRef.{ConRef}
+use Rattle.rb_core.specs.declared.value.Value.{Value}
 use Rattle.rb_core.specs.declared.types.DataDecl.{DataDecl}
 use Rattle.rb_core.specs.declared.types.Ty.{Ty}
-use Rattle.rb_core.specs.declared.pattern.Pat.{Pat, out-Pat}
-use Rattle.rb_core.specs.declared.pattern.Pat.TheOpen as L
-use Rattle.rb_core.specs.declared.pattern.Pat.TheOpen.{Pat-F}
-use Rattle.rb_core.specs.Matching.{all_pass, is_con, matches_of, next_clause, chosen_clause, IsExhaustive, IsUnreached}
+use Rattle.rb_core.specs.declared.pattern.Pat.{Pat}
+use Rattle.rb_core.specs.Matching.{matches_of, next_clause, chosen_clause, IsExhaustive, IsUnreached}
 use Rattle.rb_core.specs.Values.{is_of_type}
 use Rattle.rb_matrix.specs.Rows.{row_matches, any_row, all_rows}
 use Rattle.rb_matrix.specs.Search.{is_plain, sought, IsFound, IsNowhere, IsAnswer}
-use Rattle.rb_matrix.specs.inner.Against.{layers_apart, are_apart, rows_against}
+use Rattle.rb_matrix.specs.inner.Against.{StandFor}
 use Rattle.rb_matrix.specs.Exhaust.{one_each, any_matches, IsMissing, IsReached, IsReachAnswer, IsOneAnswer, both_match, IsCommon}
-use Rattle.rb_matrix.proofs.Laws.{or-false-left, or-false-right, opened, open_matches}
+use Rattle.rb_matrix.proofs.Laws.{or-false-left, or-false-right}
 use Rattle.rb_matrix.proofs.Vectors.{and-left, and-right, plain-length}
 
 -- The chosen clause ------------------------------------------------------------------------------
@@ -82,42 +78,6 @@ chosen-first (q ∷ ps) i p v at e = by (matches_of q v) refl (λ j k f. chosen-
         ap (λ k. matches_of p v && not (any_matches (take k (q ∷ ps)) v)) n.2
         ∙ ap (λ b. matches_of p v && not (b || any_matches (take n.0 ps) v)) f
         ∙ rest n.0 (there i n.0 at n.2) n.1
-
--- Rows that a pattern is held against ------------------------------------------------------------
-
-differ : (c d k : ℕ) (x y : Bool) → (c == d) ≡ false → ((d == k) && y) ≡ true → ((c == k) && x) ≡ false
-differ c d k x y apart hit = ap (λ b. b && x)
-    (false_from_ne_true (c == k) (λ e. false≢true (sym apart ∙ eq-eqb c d (eqb-true c k e ∙ sym (eqb-true d k (and-left (d == k) y hit))))))
-
-not-false : (b : Bool) → not b ≡ true → b ≡ false
-not-false true h = sym h
-not-false false h = refl
-
-cons-differ : (c d : ConRef) (ps qs : List Pat) (l : V.Value-F Value) → not (c.con == d.con) ≡ true → is_con d.con (map matches_of qs) l ≡ true → is_con c.con (map matches_of ps) l ≡ false
-cons-differ c d ps qs (V.Num n) apart hit = absurd (false≢true hit)
-cons-differ c d ps qs (V.Con k us) apart hit = differ c.con d.con k (all_pass (map matches_of ps) us) (all_pass (map matches_of qs) us) (not-false (c.con == d.con) apart) hit
-
-layers-differ : (l m : Pat-F Pat) (v : Value) → layers_apart l m ≡ true → open_matches m v ≡ true → open_matches l v ≡ false
-layers-differ (L.Wild at) m v apart hit = absurd (false≢true apart)
-layers-differ (L.Var at x) m v apart hit = absurd (false≢true apart)
-layers-differ (L.Num at n) m v apart hit = absurd (false≢true apart)
-layers-differ (L.Con at c ps) (L.Wild bt) v apart hit = absurd (false≢true apart)
-layers-differ (L.Con at c ps) (L.Var bt x) v apart hit = absurd (false≢true apart)
-layers-differ (L.Con at c ps) (L.Num bt n) v apart hit = absurd (false≢true apart)
-layers-differ (L.Con at c ps) (L.Con bt d qs) v apart hit = cons-differ c d ps qs (out-Value v) apart hit
-
--- what one matches, another that is apart does not
-apart-misses : (q p : Pat) (v : Value) → are_apart q p ≡ true → matches_of p v ≡ true → matches_of q v ≡ false
-apart-misses q p v apart hit = opened q v ∙ layers-differ (out-Pat q) (out-Pat p) v apart (sym (opened p v) ∙ hit)
-
--- so the rows match just what the patterns match
-pub against-any : (p : Pat) (ps : List Pat) (v : Value) → matches_of p v ≡ true → any_row (rows_against p ps) (v ∷ []) ≡ any_matches ps v
-against-any p [] v hit = refl
-against-any p (q ∷ qs) v hit = by (are_apart q p) refl (against-any p qs v hit)
-  where
-    by : (b : Bool) → are_apart q p ≡ b → any_row (rows_against p qs) (v ∷ []) ≡ any_matches qs v → any_row (if b then rows_against p qs else (q ∷ []) ∷ rows_against p qs) (v ∷ []) ≡ (matches_of q v || any_matches qs v)
-    by true e h = h ∙ ap (λ b. b || any_matches qs v) (sym (apart-misses q p v e hit))
-    by false e h = ap (λ b. b || any_row (rows_against p qs) (v ∷ [])) (and-true (matches_of q v)) ∙ ap (λ b. matches_of q v || b) h
 
 -- Rows of one pattern ----------------------------------------------------------------------------
 
@@ -190,10 +150,7 @@ module _ (types : List DataDecl) (ty : Ty) where
 
   -- One wanted pattern, and those before it -------------------------------------------------------
 
-  module _ (ps : List Pat) (i : ℕ) (p : Pat) (at : slice_get ps i ≡ Some p) where
-    abbrev U : List (List Pat)
-    U = rows_against p (take i ps)
-
+  module _ (ps : List Pat) (i : ℕ) (p : Pat) (at : slice_get ps i ≡ Some p) (U : List (List Pat)) (stand : StandFor p (take i ps) U) where
     abbrev W : List (List Pat)
     W = (p ∷ []) ∷ []
 
@@ -203,7 +160,7 @@ module _ (types : List DataDecl) (ty : Ty) where
 
     as-first : (v : Value) → (all_rows W (v ∷ []) && not (any_row U (v ∷ []))) ≡ (matches_of p v && not (any_matches (take i ps) v))
     as-first v = ap (λ b. (b && true) && not (any_row U (v ∷ []))) (and-true (matches_of p v)) ∙ ap (λ b. b && not (any_row U (v ∷ []))) (and-true (matches_of p v))
-        ∙ same-none (matches_of p v) (any_row U (v ∷ [])) (any_matches (take i ps) v) (against-any p (take i ps) v)
+        ∙ same-none (matches_of p v) (any_row U (v ∷ [])) (any_matches (take i ps) v) (stand v)
 
     not-both : (a b : Bool) → ((a && true) && b) ≡ false → a ≡ true → b ≡ true → ⊥
     not-both true true h e f = false≢true (sym h)

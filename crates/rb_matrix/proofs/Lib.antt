@@ -3,6 +3,7 @@ pub mod Besides
 pub mod Branches
 pub mod CountedRows
 pub mod Defaults
+pub mod Differing
 pub mod Examples
 pub mod Exhausts
 pub mod HeadLemmas

@@ -1,10 +1,9 @@
 -- What sets of numbers say of heads and of patterns that were gone over.
-use Rattle.std.proofs.Common.{◌≡◌, ℕ, zero, suc, ◌+◌, ◌^◌, List, [], ◌∷◌, ◌++◌, take, Bool, true, false, ◌&&◌, ◌||◌, ◌==◌, not, Some, None, refl, sym, ap, ◌∙◌, arith, subst, add-one}
+use Rattle.std.proofs.Common.{◌≡◌, ℕ, ◌+◌, ◌^◌, List, [], ◌∷◌, ◌++◌, take, Bool, true, false, ◌&&◌, ◌||◌, ◌==◌, not, Some, None, refl, sym, ap, ◌∙◌, arith, subst, add-one}
 use Rattle.std.specs.Prelude.{slice_get, is_some, nat_lt, if◌then◌else◌, cond}
 use Rattle.std.specs.Ordering.{nat_cmp, is_eq}
 use Rattle.std.proofs.lemmas.Bool.{eqb-true, eq-eqb, false≢true}
 use Rattle.std.proofs.lemmas.Bool.Decides.{nat_tests}
-use Rattle.std.proofs.lemmas.Option.{same_Some}
 use Rattle.rb_core.specs.declared.value.Value.{Value, Num, out-Value}
 use Rattle.rb_core.specs.declared.value.Value.TheOpen as V
 use Rattle.rb_core.specs.declared.types.DataDecl.{DataDecl}
@@ -23,6 +22,7 @@ use Rattle.rb_matrix.specs.Heads.{fields_at}
 use Rattle.rb_matrix.specs.Open.{layer_open}
 use Rattle.rb_matrix.specs.Known.{has}
 use Rattle.rb_matrix.specs.inner.Passed.{layer_number, some_open, some_number, ArePassed}
+use Rattle.rb_matrix.proofs.Differing.{or-assoc, take-suc}
 use Rattle.rb_matrix.proofs.Exhausts.{first-chosen, chosen-first}
 use Rattle.rb_matrix.proofs.Inhabited.{out-num}
 use Rattle.rb_matrix.proofs.Laws.{opened, open_matches}
@@ -55,10 +55,6 @@ or-both false true false d = refl
 or-both false false true d = refl
 or-both false false false d = refl
 
-or-assoc : (a b c : Bool) → (a || (b || c)) ≡ ((a || b) || c)
-or-assoc true b c = refl
-or-assoc false b c = refl
-
 some_open-append : (ps : List Pat) (p : Pat) → some_open (ps ++ p ∷ []) ≡ (some_open ps || layer_open (out-Pat p))
 some_open-append [] p = sym (or-false (layer_open (out-Pat p)))
 some_open-append (q ∷ ps) p = ap (λ b. layer_open (out-Pat q) || b) (some_open-append ps p) ∙ or-assoc (layer_open (out-Pat q)) (some_open ps) (layer_open (out-Pat p))
@@ -66,11 +62,6 @@ some_open-append (q ∷ ps) p = ap (λ b. layer_open (out-Pat q) || b) (some_ope
 some_number-append : (ps : List Pat) (p : Pat) (n : ℕ) → some_number (ps ++ p ∷ []) n ≡ (some_number ps n || layer_number (out-Pat p) n)
 some_number-append [] p n = sym (or-false (layer_number (out-Pat p) n))
 some_number-append (q ∷ ps) p n = ap (λ b. layer_number (out-Pat q) n || b) (some_number-append ps p n) ∙ or-assoc (layer_number (out-Pat q) n) (some_number ps n) (layer_number (out-Pat p) n)
-
-take-suc : (ps : List Pat) (i : ℕ) (p : Pat) → slice_get ps i ≡ Some p → take (suc i) ps ≡ take i ps ++ p ∷ []
-take-suc [] i p at = cc
-take-suc (q ∷ ps) zero p at = ap (λ r. r ∷ []) (same_Some q p at)
-take-suc (q ∷ ps) (suc i) p at = ap (λ rest. q ∷ rest) (take-suc ps i p at)
 
 pub passed-more : (ps : List Pat) (i : ℕ) (p : Pat) (old new : Passed) → slice_get ps i ≡ Some p → ArePassed (take i ps) old
     → new.all ≡ (old.all || layer_open (out-Pat p)) → ((n : ℕ) → has new.numbers n ≡ (has old.numbers n || layer_number (out-Pat p) n)) → ArePassed (take (i + 1) ps) new

@@ -5,9 +5,10 @@ ghost use Rattle.std.specs.Prelude.{◌≡◌, ◌<◌, ◌∷◌, [], IfOk, len
 ghost use Rattle.rb_matrix.specs.declared.coverage.MatrixFault.TheVariants as MatrixFaults;
 ghost use Rattle.rb_matrix.specs.Exhaust.{IsExhaustAnswer, IsReachAnswer, AreUnreached, IsCommonAnswer, IsOneAnswer, one_each};
 ghost use Rattle.rb_matrix.specs.Search.{AreInhabited, IsTypeIn};
-ghost use Rattle.rb_matrix.specs.inner.Against.{are_apart as the_apart, rows_against as the_against};
+ghost use Rattle.rb_matrix.specs.inner.Against.{StandFor};
 ghost use Rattle.rb_matrix.specs.inner.Passed.{ArePassed};
 
+use crate::apart::are_apart;
 use crate::passed::Passed;
 use crate::problem::Problem;
 use crate::row::{Row, row_of};
@@ -66,27 +67,10 @@ fn rows_of(alloc: Global, pats: &[Pat]) -> Result<Seq<Row>, AllocError>
     Ok(rows)
 }
 
-// Whether two patterns begin with different constructors.
-fn are_apart(one: &Pat, other: &Pat) -> bool
-    ensures { result ≡ the_apart one.now other.now }
-{
-    match one {
-        Pat::Wild(_) => false,
-        Pat::Var(_, _) => false,
-        Pat::Num(_, _) => false,
-        Pat::Con(_, con, _) => match other {
-            Pat::Wild(_) => false,
-            Pat::Var(_, _) => false,
-            Pat::Num(_, _) => false,
-            Pat::Con(_, known, _) => con.con != known.con,
-        },
-    }
-}
-
-// Each of the patterns as a row of its own, but none that begins with another constructor than the
-// pattern that they are held against.
+// Each of the patterns as a row of its own, but none that differs in one place from the pattern that
+// they are held against.
 fn rows_against(alloc: Global, pats: &[Pat], pat: &Pat) -> Result<Seq<Row>, AllocError>
-    ensures { IfOk result (λ r. r ≡ the_against pat.now pats.now) }
+    ensures { IfOk result (λ rows. StandFor pat.now pats.now rows) }
 {
     let mut rows = Seq::new(alloc);
     for other in pats {

@@ -25,6 +25,7 @@
 //! of which has a value; the patterns need not be typed.
 #![tactic(auto)]
 
+mod apart;
 pub mod beside;
 pub mod coverage;
 pub mod heads;

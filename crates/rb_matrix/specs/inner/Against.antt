@@ -1,28 +1,19 @@
 -- Patterns that another is held against.
-use Rattle.std.specs.Prelude.{List, [], ◌∷◌, Bool, false, not, ◌==◌, if◌then◌else◌}
-use Rattle.rb_core.specs.declared.types.ConRef.{ConRef}
-use Rattle.rb_core.specs.declared.pattern.Pat.{Pat, out-Pat}
-use Rattle.rb_core.specs.declared.pattern.Pat.TheOpen as P
-use Rattle.rb_core.specs.declared.pattern.Pat.TheOpen.{Pat-F}
+use Rattle.std.specs.Prelude.{◌≡◌, ℕ, List, [], ◌∷◌, true, Some, slice_get}
+use Rattle.rb_core.specs.declared.value.Value.{Value}
+use Rattle.rb_core.specs.declared.pattern.Pat.{Pat}
+use Rattle.rb_core.specs.Matching.{matches_of}
+use Rattle.rb_matrix.specs.Exhaust.{any_matches}
+use Rattle.rb_matrix.specs.Rows.{any_row}
 
--- whether a pattern begins with another constructor than this
-abbrev pub begins_other : ConRef → Pat-F Pat → Bool
-begins_other c (P.Wild at) = false
-begins_other c (P.Var at x) = false
-begins_other c (P.Num at n) = false
-begins_other c (P.Con at d qs) = not (c.con == d.con)
+-- no value matches both patterns
+abbrev pub AreApart : Pat → Pat → Type 0
+AreApart p q = (v : Value) → matches_of p v ≡ true → matches_of q v ≡ true → ⊥
 
-abbrev pub layers_apart : Pat-F Pat → Pat-F Pat → Bool
-layers_apart (P.Wild at) l = false
-layers_apart (P.Var at x) l = false
-layers_apart (P.Num at n) l = false
-layers_apart (P.Con at c ps) l = begins_other c l
+-- the patterns in one place are apart
+abbrev pub HaveApart : List Pat → List Pat → Type 0
+HaveApart ps qs = (i : ℕ) × (p : Pat) × (q : Pat) × (slice_get ps i ≡ Some p) × (slice_get qs i ≡ Some q) × AreApart p q
 
--- whether two patterns begin with different constructors
-abbrev pub are_apart : Pat → Pat → Bool
-are_apart p q = layers_apart (out-Pat p) (out-Pat q)
-
--- each pattern as a row of its own, without those that are apart from the one
-abbrev pub rows_against : Pat → List Pat → List (List Pat)
-rows_against p [] = []
-rows_against p (q ∷ qs) = if are_apart q p then rows_against p qs else (q ∷ []) ∷ rows_against p qs
+-- of the values that the pattern matches, the rows match those that the patterns match
+abbrev pub StandFor : Pat → List Pat → List (List Pat) → Type 0
+StandFor p ps rows = (v : Value) → matches_of p v ≡ true → any_row rows (v ∷ []) ≡ any_matches ps v

@@ -1,8 +1,7 @@
-use Rattle.std.proofs.Common.{◌≡◌, sym, subst, refl, take, Some}
+use Rattle.std.proofs.Common.{◌≡◌, sym, subst, refl, Some}
 use Rattle.std.specs.Prelude.{slice_get}
 use Rattle.std.proofs.lemmas.Option.{slice_get_read}
 use Rattle.rb_matrix.specs.Exhaust.{IsReachAnswer, IsOneAnswer}
-use Rattle.rb_matrix.specs.inner.Against.{rows_against}
 use Rattle.rb_matrix.proofs.Exhausts.{reach-answer}
 use Rattle.rb_matrix.proofs.coverage.is_found.Goals as goal
 
@@ -10,8 +9,6 @@ pub returns : goal.returns
 returns c =
     let p = c.index-pats-i.result in
     let at : slice_get c.args.pats.now c.args.i ≡ Some p = slice_get_read c.args.pats.now _ c.args.i p refl c.requires.within c.index-pats-i.is in
-    let before = rows_against p (take c.args.i c.args.pats.now) in
     subst (IsReachAnswer c.args.types.now c.args.ty c.args.pats.now c.args.i) (sym c.is_some.ensures)
-    (reach-answer c.args.types.now c.args.ty c.args.pats.now c.args.i p at c.in_ok-found.found
-    (subst (λ l. IsOneAnswer c.args.types.now c.args.ty l before c.in_ok-found.found) c.in_ok-wanted.ensures
-    (subst (λ l. IsOneAnswer c.args.types.now c.args.ty c.in_ok-wanted.wanted l c.in_ok-found.found) c.in_ok-unwanted.ensures c.in_ok-found.ensures)))
+    (reach-answer c.args.types.now c.args.ty c.args.pats.now c.args.i p at c.in_ok-unwanted.unwanted c.in_ok-unwanted.ensures c.in_ok-found.found
+    (subst (λ l. IsOneAnswer c.args.types.now c.args.ty l c.in_ok-unwanted.unwanted c.in_ok-found.found) c.in_ok-wanted.ensures c.in_ok-found.ensures))
