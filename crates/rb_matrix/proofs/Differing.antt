@@ -1,24 +1,25 @@
 -- Patterns that no value matches both, and rows that stand for patterns.
-use Rattle.std.proofs.Common.{◌≡◌, ℕ, zero, suc, List, [], ◌∷◌, ◌++◌, map, take, Bool, true, false, ◌&&◌, ◌||◌, ◌==◌, Some, refl, sym, ap, ◌∙◌, subst}
-use Rattle.std.specs.Prelude.{slice_get}
+use Rattle.std.proofs.Common.{◌≡◌, ℕ, zero, suc, List, [], ◌∷◌, ◌++◌, map, take, Bool, true, false, ◌&&◌, ◌||◌, ◌==◌, Some, refl, sym, ap, ◌∙◌, subst, arith, ◌⊎◌, inl, inr}
+use Rattle.std.specs.Prelude.{slice_get, Contains}
 use Rattle.std.specs.Bool.{OnTrue}
 use Rattle.std.proofs.Math.Bool.{and-true}
-use Rattle.std.proofs.lemmas.Bool.{eqb-true, false≢true, false_from_ne_true}
+use Rattle.std.proofs.lemmas.Bool.{eqb-true, false≢true}
 use Rattle.std.proofs.lemmas.Option.{same_Some}
+use Rattle.std.proofs.lemmas.List.Elements.{Contains-push_cases}
 use Rattle.rb_core.specs.declared.value.Value.{Value, out-Value}
 use Rattle.rb_core.specs.declared.value.Value.TheOpen as V
 use Rattle.rb_core.specs.declared.types.ConRef.{ConRef}
 use Rattle.rb_core.specs.declared.pattern.Pat.{Pat}
 use Rattle.rb_core.specs.declared.pattern.Pat as Pats
-use Rattle.rb_core.specs.Matching.{all_pass, is_con, matches_of}
+use Rattle.rb_core.specs.Matching.{all_pass, is_con, matches_of, option_matches, clause_matches}
 use Rattle.rb_matrix.specs.Exhaust.{any_matches}
 use Rattle.rb_matrix.specs.Rows.{row_matches, any_row}
-use Rattle.rb_matrix.specs.inner.Against.{AreApart, HaveApart, StandFor}
+use Rattle.rb_matrix.specs.inner.Against.{AreApart, HaveApart, AreRowsNear, StandFor}
 use Rattle.rb_matrix.proofs.Vectors.{and-left, and-right, con-matches}
 
 -- Fields -----------------------------------------------------------------------------------------
 
-pass-at : (ps : List Pat) (vs : List Value) (i : ℕ) (p : Pat) → all_pass (map matches_of ps) vs ≡ true → slice_get ps i ≡ Some p
+pub pass-at : (ps : List Pat) (vs : List Value) (i : ℕ) (p : Pat) → all_pass (map matches_of ps) vs ≡ true → slice_get ps i ≡ Some p
     → (v : Value) × (slice_get vs i ≡ Some v) × (matches_of p v ≡ true)
 pass-at [] vs i p h e = absurd cc
 pass-at (q ∷ ps) [] i p h e = absurd (false≢true h)
@@ -34,7 +35,7 @@ fields_apart ps qs vs d h g =
 
 -- Patterns ---------------------------------------------------------------------------------------
 
-at-con : (p : Pat) (at : ℕ) (c : ConRef) (ps : List Pat) (v : Value) → p ≡ Pats.Con at c ps → matches_of p v ≡ true → is_con c.con (map matches_of ps) (out-Value v) ≡ true
+pub at-con : (p : Pat) (at : ℕ) (c : ConRef) (ps : List Pat) (v : Value) → p ≡ Pats.Con at c ps → matches_of p v ≡ true → is_con c.con (map matches_of ps) (out-Value v) ≡ true
 at-con p at c ps v is m = sym (con-matches at c ps v) ∙ ap (λ (x : Pat). matches_of x v) (sym is) ∙ m
 
 module _ (at bt : ℕ) (c d : ConRef) (ps qs : List Pat) where
@@ -58,6 +59,10 @@ or-false : (b : Bool) → (b || false) ≡ b
 or-false true = refl
 or-false false = refl
 
+or-true : (b : Bool) → (b || true) ≡ true
+or-true true = refl
+or-true false = refl
+
 pub or-assoc : (a b c : Bool) → (a || (b || c)) ≡ ((a || b) || c)
 or-assoc true b c = refl
 or-assoc false b c = refl
@@ -66,23 +71,73 @@ any_row-append : (rows : List (List Pat)) (q : Pat) (v : Value) → any_row (row
 any_row-append [] q v = or-false (matches_of q v && true) ∙ and-true (matches_of q v)
 any_row-append (r ∷ rows) q v = ap (λ b. row_matches r (v ∷ []) || b) (any_row-append rows q v) ∙ or-assoc (row_matches r (v ∷ [])) (any_row rows (v ∷ [])) (matches_of q v)
 
-any_matches-append : (ps : List Pat) (q : Pat) (v : Value) → any_matches (ps ++ q ∷ []) v ≡ (any_matches ps v || matches_of q v)
-any_matches-append [] q v = or-false (matches_of q v)
-any_matches-append (p ∷ ps) q v = ap (λ b. matches_of p v || b) (any_matches-append ps q v) ∙ or-assoc (matches_of p v) (any_matches ps v) (matches_of q v)
-
 pub take-suc : (ps : List Pat) (i : ℕ) (p : Pat) → slice_get ps i ≡ Some p → take (suc i) ps ≡ take i ps ++ p ∷ []
 take-suc [] i p at = cc
 take-suc (q ∷ ps) zero p at = ap (λ r. r ∷ []) (same_Some q p at)
 take-suc (q ∷ ps) (suc i) p at = ap (λ rest. q ∷ rest) (take-suc ps i p at)
 
--- one more pattern, whose row is kept
-pub stand-more : (p : Pat) (ps more : List Pat) (rows kept : List (List Pat)) (q : Pat) → more ≡ ps ++ q ∷ [] → kept ≡ rows ++ (q ∷ []) ∷ [] → StandFor p ps rows → StandFor p more kept
-stand-more p ps more rows kept q is_more is_kept h = λ v m.
-    ap (λ (l : List (List Pat)). any_row l (v ∷ [])) is_kept ∙ any_row-append rows q v ∙ ap (λ b. b || matches_of q v) (h v m)
-    ∙ sym (ap (λ (l : List Pat). any_matches l v) is_more ∙ any_matches-append ps q v)
+-- where some pattern matches, one with a number does
+any-at : (ps : List Pat) (j : ℕ) (q : Pat) (v : Value) → slice_get ps j ≡ Some q → matches_of q v ≡ true → any_matches ps v ≡ true
+any-at [] j q v at m = absurd cc
+any-at (p ∷ ps) zero q v at m = ap (λ b. b || any_matches ps v) (ap (λ (x : Pat). matches_of x v) (same_Some p q at) ∙ m)
+any-at (p ∷ ps) (suc j) q v at m = ap (λ b. matches_of p v || b) (any-at ps j q v at m) ∙ or-true (matches_of p v)
 
--- one more that is apart, and has no row
-pub stand-apart : (p : Pat) (ps more : List Pat) (rows : List (List Pat)) (q : Pat) → more ≡ ps ++ q ∷ [] → AreApart q p → StandFor p ps rows → StandFor p more rows
-stand-apart p ps more rows q is_more apart h = λ v m.
-    h v m ∙ sym (or-false (any_matches ps v)) ∙ ap (λ b. any_matches ps v || b) (sym (false_from_ne_true (matches_of q v) (λ e. apart v e m)))
-    ∙ sym (ap (λ (l : List Pat). any_matches l v) is_more ∙ any_matches-append ps q v)
+some-at : (ps : List Pat) (v : Value) → any_matches ps v ≡ true → (j : ℕ) × (q : Pat) × (slice_get ps j ≡ Some q) × (matches_of q v ≡ true)
+some-at [] v e = absurd (false≢true e)
+some-at (p ∷ ps) v e = by (matches_of p v) refl e (λ h. some-at ps v h)
+  where
+    by : (b : Bool) → matches_of p v ≡ b → (b || any_matches ps v) ≡ true
+        → (any_matches ps v ≡ true → (j : ℕ) × (q : Pat) × (slice_get ps j ≡ Some q) × (matches_of q v ≡ true))
+        → (j : ℕ) × (q : Pat) × (slice_get (p ∷ ps) j ≡ Some q) × (matches_of q v ≡ true)
+    by true is h rest = (0, p, refl, is)
+    by false is h rest = let a = rest h in (suc a.0, a.1, a.2, a.3)
+
+-- no row yet
+pub rows-none : (p : Pat) (ps : List Pat) → AreRowsNear p ps [] []
+rows-none p ps = record {
+  among = λ v e. absurd (false≢true e);
+  each = λ v m j c e. absurd (let lt = c.1 in omega (arith, lt));
+}
+
+-- one more number, of which no row is kept
+pub rows-same : (p : Pat) (ps : List Pat) (js more : List ℕ) (rows : List (List Pat)) (j : ℕ) → more ≡ js ++ j ∷ [] → AreRowsNear p ps js rows
+    → ((v : Value) → matches_of p v ≡ true → clause_matches ps j v ≡ true → ⊥) → AreRowsNear p ps more rows
+rows-same p ps js more rows j is h never = record {
+  among = h.among;
+  each = λ v m k c e. elim (Contains-push_cases js j k (subst (λ (l : List ℕ). Contains l k) is c)) [
+    | inl l ↦ h.each v m k l e
+    | inr same ↦ absurd (never v m (ap (λ i. clause_matches ps i v) same ∙ e))
+  ];
+}
+
+-- one more, of which the row is kept
+pub rows-more : (p : Pat) (ps : List Pat) (js more : List ℕ) (rows kept : List (List Pat)) (j : ℕ) (q : Pat) → more ≡ js ++ j ∷ [] → kept ≡ rows ++ (q ∷ []) ∷ []
+    → slice_get ps j ≡ Some q → AreRowsNear p ps js rows → AreRowsNear p ps more kept
+rows-more p ps js more rows kept j q is is_kept at h = record {
+  among = λ v e. by v (any_row rows (v ∷ [])) refl (sym (now v) ∙ e);
+  each = λ v m k c e. now v ∙ elim (Contains-push_cases js j k (subst (λ (l : List ℕ). Contains l k) is c)) [
+    | inl l ↦ ap (λ b. b || matches_of q v) (h.each v m k l e)
+    | inr same ↦ ap (λ b. any_row rows (v ∷ []) || b) (sym (ap (λ o. option_matches o v) (ap (slice_get ps) (sym same) ∙ at)) ∙ e) ∙ or-true (any_row rows (v ∷ []))
+  ];
+}
+  where
+    now : (v : Value) → any_row kept (v ∷ []) ≡ (any_row rows (v ∷ []) || matches_of q v)
+    now v = ap (λ (l : List (List Pat)). any_row l (v ∷ [])) is_kept ∙ any_row-append rows q v
+
+    by : (v : Value) (b : Bool) → any_row rows (v ∷ []) ≡ b → (b || matches_of q v) ≡ true → any_matches ps v ≡ true
+    by v true e m = h.among v e
+    by v false e m = any-at ps j q v at m
+
+same-bool : (a b : Bool) → (a ≡ true → b ≡ true) → (b ≡ true → a ≡ true) → a ≡ b
+same-bool true b f g = sym (f refl)
+same-bool false true f g = g refl
+same-bool false false f g = refl
+
+pub rows-stand : (p : Pat) (ps : List Pat) (js : List ℕ) (rows : List (List Pat)) → AreRowsNear p ps js rows
+    → ((j : ℕ) (q : Pat) → slice_get ps j ≡ Some q → Contains js j ⊎ AreApart q p) → StandFor p ps rows
+rows-stand p ps js rows h near = λ v m. same-bool (any_row rows (v ∷ [])) (any_matches ps v) (h.among v) (λ e.
+    let a = some-at ps v e in
+    elim (near a.0 a.1 a.2) [
+      | inl c ↦ h.each v m a.0 c (ap (λ o. option_matches o v) a.2 ∙ a.3)
+      | inr apart ↦ absurd (apart v a.3 m)
+    ])

@@ -8,6 +8,7 @@ pub mod Examples
 pub mod Exhausts
 pub mod HeadLemmas
 pub mod Inhabited
+pub mod Keys
 pub mod Laws
 pub mod OpenRows
 pub mod Opens

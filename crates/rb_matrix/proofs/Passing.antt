@@ -1,5 +1,5 @@
 -- What sets of numbers say of heads and of patterns that were gone over.
-use Rattle.std.proofs.Common.{◌≡◌, ℕ, ◌+◌, ◌^◌, List, [], ◌∷◌, ◌++◌, take, Bool, true, false, ◌&&◌, ◌||◌, ◌==◌, not, Some, None, refl, sym, ap, ◌∙◌, arith, subst, add-one}
+use Rattle.std.proofs.Common.{◌≡◌, ℕ, zero, suc, ◌+◌, ◌^◌, List, [], ◌∷◌, ◌++◌, take, length, Bool, true, false, ◌&&◌, ◌||◌, ◌==◌, not, Some, None, refl, sym, ap, ◌∙◌, arith, subst, add-one}
 use Rattle.std.specs.Prelude.{slice_get, is_some, nat_lt, if◌then◌else◌, cond}
 use Rattle.std.specs.Ordering.{nat_cmp, is_eq}
 use Rattle.std.proofs.lemmas.Bool.{eqb-true, eq-eqb, false≢true}
@@ -21,6 +21,7 @@ use Rattle.rb_matrix.specs.Exhaust.{any_matches, IsReachAnswer}
 use Rattle.rb_matrix.specs.Heads.{fields_at}
 use Rattle.rb_matrix.specs.Open.{layer_open}
 use Rattle.rb_matrix.specs.Known.{has}
+use Rattle.rb_matrix.specs.inner.Index.{Extends}
 use Rattle.rb_matrix.specs.inner.Passed.{layer_number, some_open, some_number, ArePassed}
 use Rattle.rb_matrix.proofs.Differing.{or-assoc, take-suc}
 use Rattle.rb_matrix.proofs.Exhausts.{first-chosen, chosen-first}
@@ -63,12 +64,19 @@ some_number-append : (ps : List Pat) (p : Pat) (n : ℕ) → some_number (ps ++ 
 some_number-append [] p n = sym (or-false (layer_number (out-Pat p) n))
 some_number-append (q ∷ ps) p n = ap (λ b. layer_number (out-Pat q) n || b) (some_number-append ps p n) ∙ or-assoc (layer_number (out-Pat q) n) (some_number ps n) (layer_number (out-Pat p) n)
 
+take-length : (ps : List Pat) (i : ℕ) (p : Pat) → slice_get ps i ≡ Some p → length (take i ps) ≡ i
+take-length [] i p at = absurd cc
+take-length (q ∷ ps) zero p at = refl
+take-length (q ∷ ps) (suc i) p at = ap suc (take-length ps i p at)
+
 pub passed-more : (ps : List Pat) (i : ℕ) (p : Pat) (old new : Passed) → slice_get ps i ≡ Some p → ArePassed (take i ps) old
-    → new.all ≡ (old.all || layer_open (out-Pat p)) → ((n : ℕ) → has new.numbers n ≡ (has old.numbers n || layer_number (out-Pat p) n)) → ArePassed (take (i + 1) ps) new
-passed-more ps i p old new at known all numbers =
+    → new.all ≡ (old.all || layer_open (out-Pat p)) → ((n : ℕ) → has new.numbers n ≡ (has old.numbers n || layer_number (out-Pat p) n))
+    → Extends i p old.index new.index → ArePassed (take (i + 1) ps) new
+passed-more ps i p old new at known all numbers more =
     subst (λ qs. ArePassed qs new) (sym (ap (λ k. take k ps) (add-one i) ∙ take-suc ps i p at)) (record {
       all = all ∙ ap (λ b. b || layer_open (out-Pat p)) known.all ∙ sym (some_open-append (take i ps) p);
       numbers = λ n. numbers n ∙ ap (λ b. b || layer_number (out-Pat p) n) (known.numbers n) ∙ sym (some_number-append (take i ps) p n);
+      index = more (take i ps) (take-length ps i p at) known.index;
     })
 
 -- a pattern at a number

@@ -1,3 +1,4 @@
 pub mod Against
+pub mod Index
 pub mod Left
 pub mod Passed

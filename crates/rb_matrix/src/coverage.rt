@@ -5,11 +5,14 @@ ghost use Rattle.std.specs.Prelude.{◌≡◌, ◌<◌, ◌∷◌, [], IfOk, len
 ghost use Rattle.rb_matrix.specs.declared.coverage.MatrixFault.TheVariants as MatrixFaults;
 ghost use Rattle.rb_matrix.specs.Exhaust.{IsExhaustAnswer, IsReachAnswer, AreUnreached, IsCommonAnswer, IsOneAnswer, one_each};
 ghost use Rattle.rb_matrix.specs.Search.{AreInhabited, IsTypeIn};
-ghost use Rattle.rb_matrix.specs.inner.Against.{StandFor};
+ghost use Rattle.rb_matrix.specs.inner.Against.{AreRowsNear, StandFor};
+ghost use Rattle.rb_matrix.specs.inner.Index.{IsIndex};
 ghost use Rattle.rb_matrix.specs.inner.Passed.{ArePassed};
 
 use crate::apart::are_apart;
+use crate::index::Index;
 use crate::passed::Passed;
+use crate::positions::best_path;
 use crate::problem::Problem;
 use crate::row::{Row, row_of};
 use crate::search::find_in;
@@ -67,19 +70,41 @@ fn rows_of(alloc: Global, pats: &[Pat]) -> Result<Seq<Row>, AllocError>
     Ok(rows)
 }
 
-// Each of the patterns as a row of its own, but none that differs in one place from the pattern that
-// they are held against.
-fn rows_against(alloc: Global, pats: &[Pat], pat: &Pat) -> Result<Seq<Row>, AllocError>
-    ensures { IfOk result (λ rows. StandFor pat.now pats.now rows) }
+// Each of the patterns with these numbers as a row of its own, but none that differs in one place from
+// the pattern that they are held against.
+fn rows_near(
+    alloc: Global,
+    pats: &[Pat],
+    numbers: &[usize],
+    pat: &Pat,
+) -> Result<Seq<Row>, AllocError>
+    ensures { IfOk result (AreRowsNear pat.now pats.now numbers.now) }
 {
     let mut rows = Seq::new(alloc);
-    for other in pats {
+    for number in numbers {
+        let Some(other) = pats.get(*number) else {
+            continue;
+        };
         if are_apart(other, pat) {
             continue;
         }
         rows.push(row_of(alloc, other)?)?;
     }
     Ok(rows)
+}
+
+// Rows that stand for the patterns where one more is held against them.
+fn rows_against(
+    alloc: Global,
+    pats: &[Pat],
+    index: &Index,
+    pat: &Pat,
+) -> Result<Seq<Row>, AllocError>
+    requires index { IsIndex pats.now index.now }
+    ensures { IfOk result (StandFor pat.now pats.now) }
+{
+    let near = index.near(alloc, pats.len(), pat)?;
+    rows_near(alloc, pats, near.as_slice(), pat)
 }
 
 // A search in one column.
@@ -138,15 +163,17 @@ fn is_found(
     ty: Ty,
     pats: &[Pat],
     i: usize,
+    index: &Index,
 ) -> Result<bool, AllocError>
     requires inhabited { AreInhabited types.now }
     requires ty { IsTypeIn types.now ty }
     requires within { i < length pats.now }
+    requires index { IsIndex (take i pats.now) index.now }
     ensures { IfOk result (λ b. IsReachAnswer types.now ty pats.now i b) }
 {
     let pat = &pats[i];
     let wanted = one_row(alloc, pat)?;
-    let unwanted = rows_against(alloc, &pats[..i], pat)?;
+    let unwanted = rows_against(alloc, &pats[..i], index, pat)?;
     let found = find_one(alloc, types, ty, wanted, unwanted)?;
     Ok(found.is_some())
 }
@@ -173,9 +200,9 @@ fn is_reached(
     }
     match pat {
         Pat::Num(_, number) => Ok(passed.is_new(types, ty, *number)),
-        Pat::Wild(_) => is_found(alloc, types, ty, pats, i),
-        Pat::Var(_, _) => is_found(alloc, types, ty, pats, i),
-        Pat::Con(_, _, _) => is_found(alloc, types, ty, pats, i),
+        Pat::Wild(_) => is_found(alloc, types, ty, pats, i, &passed.index),
+        Pat::Var(_, _) => is_found(alloc, types, ty, pats, i, &passed.index),
+        Pat::Con(_, _, _) => is_found(alloc, types, ty, pats, i, &passed.index),
     }
 }
 
@@ -195,11 +222,11 @@ pub fn unreached(
     ensures { IfOk result (λ v. AreUnreached types.now ty rows.now v.items) }
 {
     let mut numbers = Vec::new(alloc);
-    let mut passed = Passed::new(alloc);
+    let mut passed = Passed::new(alloc, best_path(alloc, rows)?);
     for i in 0..rows.len() {
         let reached = is_reached(alloc, types, ty, rows, i, &passed)?;
         let pat = &rows[i];
-        passed.add(pat)?;
+        passed.add(alloc, i, pat)?;
         if reached {
             continue;
         }

@@ -1,5 +1,5 @@
 //! What is known of patterns that were gone over: enough to tell of a number at once whether one of
-//! them matches it.
+//! them matches it, and of another pattern which of them may have a value in common with it.
 
 ghost use Rattle.std.specs.Prelude.{◌≡◌, ◌&&◌, ◌||◌, [], ℕ, not, is_some, OnOk};
 ghost use Rattle.rb_core.specs.declared.pattern.Pat.{out-Pat};
@@ -7,43 +7,51 @@ ghost use Rattle.rb_matrix.specs.declared.matrix.Head.TheVariants as Heads;
 ghost use Rattle.rb_matrix.specs.Heads.{fields_at};
 ghost use Rattle.rb_matrix.specs.Open.{layer_open};
 ghost use Rattle.rb_matrix.specs.Known.{has};
+ghost use Rattle.rb_matrix.specs.inner.Index.{Extends};
 ghost use Rattle.rb_matrix.specs.inner.Passed.{layer_number, ArePassed};
 
 use crate::images::head_fields;
+use crate::index::Index;
 use crate::matrix::Head;
 use crate::numbers::Numbers;
 use rb_core::pattern::Pat;
+use rb_core::seq::Seq;
 use rb_core::types::{DataDecl, Ty};
 use std::alloc::{AllocError, Global};
 
-/// Patterns that were gone over: whether one of them matches every value, and their numbers.
+/// Patterns that were gone over: whether one of them matches every value, the numbers among them, and
+/// what stands in them at one path.
 #[derive(Drop)]
 pub struct Passed {
     pub all: bool,
     pub numbers: Numbers,
+    pub index: Index,
 }
 
 impl Passed {
-    /// No pattern.
-    pub fn new(alloc: Global) -> Self
+    /// No pattern, with the path of the index.
+    pub fn new(alloc: Global, path: Seq<usize>) -> Self
         ensures { ArePassed [] result }
     {
         Passed {
             all: false,
             numbers: Numbers::new(alloc),
+            index: Index::new(alloc, path),
         }
     }
 
-    /// Goes over one more pattern.
+    /// Goes over one more pattern, the one with this number.
     ///
     /// # Errors
     ///
     /// Want of memory.
-    pub fn add(&mut self, pat: &Pat) -> Result<(), AllocError>
+    pub fn add(&mut self, alloc: Global, number: usize, pat: &Pat) -> Result<(), AllocError>
         ensures all { OnOk result (self.new.all ≡ (self.old.all || layer_open (out-Pat pat.now))) }
         ensures numbers { OnOk result ((n : ℕ)
             → has self.new.numbers n ≡ (has self.old.numbers n || layer_number (out-Pat pat.now) n)) }
+        ensures index { OnOk result (Extends number pat.now self.old.index self.new.index) }
     {
+        self.index.add(alloc, number, pat)?;
         match pat {
             Pat::Wild(_) => {
                 self.all = true;
@@ -53,8 +61,8 @@ impl Passed {
                 self.all = true;
                 Ok(())
             }
-            Pat::Num(_, number) => {
-                self.numbers.insert(*number)?;
+            Pat::Num(_, value) => {
+                self.numbers.insert(*value)?;
                 Ok(())
             }
             Pat::Con(_, _, _) => Ok(()),

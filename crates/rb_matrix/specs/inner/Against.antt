@@ -1,8 +1,8 @@
 -- Patterns that another is held against.
-use Rattle.std.specs.Prelude.{◌≡◌, ℕ, List, [], ◌∷◌, true, Some, slice_get}
+use Rattle.std.specs.Prelude.{◌≡◌, ℕ, List, [], ◌∷◌, Contains, true, Some, slice_get}
 use Rattle.rb_core.specs.declared.value.Value.{Value}
 use Rattle.rb_core.specs.declared.pattern.Pat.{Pat}
-use Rattle.rb_core.specs.Matching.{matches_of}
+use Rattle.rb_core.specs.Matching.{matches_of, clause_matches}
 use Rattle.rb_matrix.specs.Exhaust.{any_matches}
 use Rattle.rb_matrix.specs.Rows.{any_row}
 
@@ -13,6 +13,11 @@ AreApart p q = (v : Value) → matches_of p v ≡ true → matches_of q v ≡ tr
 -- the patterns in one place are apart
 abbrev pub HaveApart : List Pat → List Pat → Type 0
 HaveApart ps qs = (i : ℕ) × (p : Pat) × (q : Pat) × (slice_get ps i ≡ Some p) × (slice_get qs i ≡ Some q) × AreApart p q
+
+-- rows of some of the patterns: of the values that one pattern matches, they match all that those with these numbers match
+pub record AreRowsNear (p : Pat) (ps : List Pat) (js : List ℕ) (rows : List (List Pat)) : Type 0 where
+  pub among : (v : Value) → any_row rows (v ∷ []) ≡ true → any_matches ps v ≡ true
+  pub each : (v : Value) → matches_of p v ≡ true → (j : ℕ) → Contains js j → clause_matches ps j v ≡ true → any_row rows (v ∷ []) ≡ true
 
 -- of the values that the pattern matches, the rows match those that the patterns match
 abbrev pub StandFor : Pat → List Pat → List (List Pat) → Type 0

@@ -1,0 +1,137 @@
+//! Patterns by what stands in them at one path, so that a pattern is not held against those that have
+//! another number or constructor there.
+
+ghost use Rattle.std.specs.Prelude.{◌≡◌, ◌<◌, [], ◌++◌, ℕ, true, Contains, OnOk, IfOk, IfSome, slice_index_or};
+ghost use Rattle.rb_core.specs.declared.value.Value.{Value};
+ghost use Rattle.rb_core.specs.Matching.{matches_of};
+ghost use Rattle.rb_core.specs.Values.{subs};
+ghost use Rattle.rb_matrix.specs.inner.Index.{HasKey, IsIndex, IsGrouped, Extends, AreNear};
+
+use rb_core::pattern::Pat;
+use rb_core::seq::Seq;
+use std::alloc::{AllocError, Global};
+use std::collections::BTreeMap;
+
+// The pattern of a field.
+fn field_of(pat: &Pat, field: usize) -> Option<&Pat>
+    ensures { IfSome result (λ sub. (v : Value) → matches_of pat.now v ≡ true
+        → matches_of sub.now (slice_index_or (subs v) field v) ≡ true) }
+{
+    match pat {
+        Pat::Wild(_) | Pat::Var(_, _) | Pat::Num(_, _) => None,
+        Pat::Con(_, _, pats) => pats.get(field),
+    }
+}
+
+// The number of what a pattern begins with.
+fn head_number(pat: &Pat) -> Option<u64>
+    ensures { IfSome result (HasKey pat.now []) }
+{
+    match pat {
+        Pat::Wild(_) | Pat::Var(_, _) => None,
+        Pat::Num(_, number) => Some(*number),
+        Pat::Con(_, con, _) => Some(u64::from(con.con)),
+    }
+}
+
+// The number of what stands in a pattern at a path of fields. None where a wildcard or a variable
+// stands there or on the way.
+fn key_at(pat: &Pat, path: &[usize]) -> Option<u64>
+    ensures { IfSome result (HasKey pat.now path.now) }
+{
+    let mut here = pat;
+    for field in path {
+        let Some(sub) = field_of(here, *field) else {
+            return None;
+        };
+        here = sub;
+    }
+    head_number(here)
+}
+
+// The numbers below this one.
+fn numbers_below(alloc: Global, count: usize) -> Result<Seq<usize>, AllocError>
+    ensures { IfOk result (λ js. (j : ℕ) → j < count → Contains js j) }
+{
+    let mut numbers = Seq::new(alloc);
+    for number in 0..count {
+        numbers.push(number)?;
+    }
+    Ok(numbers)
+}
+
+// Numbers, and more behind them.
+fn joined(alloc: Global, numbers: &Seq<usize>, more: &[usize]) -> Result<Seq<usize>, AllocError>
+    ensures { IfOk result (λ js. js ≡ numbers.now ++ more.now) }
+{
+    let mut all = numbers.copy(alloc)?;
+    for number in more {
+        all.push(*number)?;
+    }
+    Ok(all)
+}
+
+/// The numbers of patterns, by what stands in the patterns at one path.
+#[derive(Drop)]
+pub struct Index {
+    pub path: Seq<usize>,
+    pub keyless: Seq<usize>,
+    pub groups: BTreeMap<u64, Seq<usize>>,
+}
+
+impl Index {
+    /// Of no pattern.
+    pub fn new(alloc: Global, path: Seq<usize>) -> Self
+        ensures { IsIndex [] result }
+    {
+        Index {
+            path,
+            keyless: Seq::new(alloc),
+            groups: BTreeMap::new(alloc),
+        }
+    }
+
+    // Adds a number to the group of a key.
+    fn add_to_group(&mut self, alloc: Global, number: usize, key: u64) -> Result<(), AllocError>
+        ensures { OnOk result (IsGrouped key number self.old self.new) }
+    {
+        let mut group = match self.groups.remove(&key) {
+            None => Seq::new(alloc),
+            Some(group) => group,
+        };
+        group.push(number)?;
+        self.groups.insert(key, group)?;
+        Ok(())
+    }
+
+    /// Adds the pattern with this number, the next one.
+    ///
+    /// # Errors
+    ///
+    /// Want of memory.
+    pub fn add(&mut self, alloc: Global, number: usize, pat: &Pat) -> Result<(), AllocError>
+        ensures { OnOk result (Extends number pat.now self.old self.new) }
+    {
+        match key_at(pat, self.path.as_slice()) {
+            None => self.keyless.push(number),
+            Some(key) => self.add_to_group(alloc, number, key),
+        }
+    }
+
+    /// The numbers of those among the first `count` patterns that may have a value in common with this one.
+    ///
+    /// # Errors
+    ///
+    /// Want of memory.
+    pub fn near(&self, alloc: Global, count: usize, pat: &Pat) -> Result<Seq<usize>, AllocError>
+        ensures { IfOk result (AreNear pat.now count self.now) }
+    {
+        let Some(key) = key_at(pat, self.path.as_slice()) else {
+            return numbers_below(alloc, count);
+        };
+        match self.groups.get(&key) {
+            None => self.keyless.copy(alloc),
+            Some(group) => joined(alloc, &self.keyless, group.as_slice()),
+        }
+    }
+}
