@@ -77,7 +77,7 @@ take-suc (q ∷ ps) zero p at = ap (λ r. r ∷ []) (same_Some q p at)
 take-suc (q ∷ ps) (suc i) p at = ap (λ rest. q ∷ rest) (take-suc ps i p at)
 
 -- where some pattern matches, one with a number does
-any-at : (ps : List Pat) (j : ℕ) (q : Pat) (v : Value) → slice_get ps j ≡ Some q → matches_of q v ≡ true → any_matches ps v ≡ true
+pub any-at : (ps : List Pat) (j : ℕ) (q : Pat) (v : Value) → slice_get ps j ≡ Some q → matches_of q v ≡ true → any_matches ps v ≡ true
 any-at [] j q v at m = absurd cc
 any-at (p ∷ ps) zero q v at m = ap (λ b. b || any_matches ps v) (ap (λ (x : Pat). matches_of x v) (same_Some p q at) ∙ m)
 any-at (p ∷ ps) (suc j) q v at m = ap (λ b. matches_of p v || b) (any-at ps j q v at m) ∙ or-true (matches_of p v)

@@ -13,7 +13,7 @@ use Rattle.rb_core.specs.Matching.{matches_of, next_clause, chosen_clause, IsExh
 use Rattle.rb_core.specs.Values.{is_of_type}
 use Rattle.rb_matrix.specs.Rows.{row_matches, any_row, all_rows}
 use Rattle.rb_matrix.specs.Search.{is_plain, sought, IsFound, IsNowhere, IsAnswer}
-use Rattle.rb_matrix.specs.inner.Against.{StandFor}
+use Rattle.rb_matrix.specs.inner.Against.{IsCovered, StandFor}
 use Rattle.rb_matrix.specs.Exhaust.{one_each, any_matches, IsMissing, IsReached, IsReachAnswer, IsOneAnswer, both_match, IsCommon}
 use Rattle.rb_matrix.proofs.Laws.{or-false-left, or-false-right}
 use Rattle.rb_matrix.proofs.Vectors.{and-left, and-right, plain-length}
@@ -149,6 +149,12 @@ module _ (types : List DataDecl) (ty : Ty) where
   }
 
   -- One wanted pattern, and those before it -------------------------------------------------------
+
+  pub covered-unreached : (ps : List Pat) (i : ℕ) (p : Pat) → slice_get ps i ≡ Some p → IsCovered p (take i ps) → IsUnreached types ty ps i
+  covered-unreached ps i p at h v of e =
+      let hit = chosen-first ps i p v at e in
+      let any = h v (and-left (matches_of p v) (not (any_matches (take i ps) v)) hit) in
+      absurd (false≢true (sym (not-true _ (and-right (matches_of p v) (not (any_matches (take i ps) v)) hit)) ∙ any))
 
   module _ (ps : List Pat) (i : ℕ) (p : Pat) (at : slice_get ps i ≡ Some p) (U : List (List Pat)) (stand : StandFor p (take i ps) U) where
     abbrev W : List (List Pat)

@@ -2,6 +2,7 @@ pub mod BesideFirst
 pub mod Besides
 pub mod Branches
 pub mod CountedRows
+pub mod Covering
 pub mod Defaults
 pub mod Differing
 pub mod Examples

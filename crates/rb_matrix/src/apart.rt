@@ -1,7 +1,8 @@
-//! Whether two patterns differ in one place, so that no value matches both.
+//! Whether two patterns differ in one place, so that no value matches both, and whether one matches all
+//! that another does.
 
 ghost use Rattle.std.specs.Bool.{OnTrue};
-ghost use Rattle.rb_matrix.specs.inner.Against.{AreApart, HaveApart};
+ghost use Rattle.rb_matrix.specs.inner.Against.{AreApart, HaveApart, Covers, CoverEach};
 
 use rb_core::pattern::Pat;
 
@@ -44,4 +45,44 @@ fn have_apart(ones: &[Pat], others: &[Pat]) -> bool
         }
     }
     false
+}
+
+/// Whether a pattern has the number or the constructor of another in each place, or anything, so that it
+/// matches all that the other does.
+#[cycle(covering)]
+pub fn covers(one: &Pat, other: &Pat) -> bool
+    ensures { OnTrue result (Covers one.now other.now) }
+{
+    match one {
+        Pat::Wild(_) | Pat::Var(_, _) => true,
+        Pat::Num(_, number) => match other {
+            Pat::Wild(_) | Pat::Var(_, _) | Pat::Con(_, _, _) => false,
+            Pat::Num(_, known) => *number == *known,
+        },
+        Pat::Con(_, con, pats) => match other {
+            Pat::Wild(_) | Pat::Var(_, _) | Pat::Num(_, _) => false,
+            Pat::Con(_, known, others) => {
+                if con.con != known.con {
+                    return false;
+                }
+                cover_each(pats.as_slice(), others.as_slice())
+            }
+        },
+    }
+}
+
+// Whether as many patterns cover others one by one.
+#[cycle(covering)]
+fn cover_each(ones: &[Pat], others: &[Pat]) -> bool
+    ensures { OnTrue result (CoverEach ones.now others.now) }
+{
+    if ones.len() != others.len() {
+        return false;
+    }
+    for i in 0..ones.len() {
+        if !covers(&ones[i], &others[i]) {
+            return false;
+        }
+    }
+    true
 }

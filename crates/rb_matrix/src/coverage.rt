@@ -156,7 +156,7 @@ pub fn exhaust(alloc: Global, types: &[DataDecl], ty: Ty, rows: &[Pat]) -> Resul
     }
 }
 
-// Whether a pattern is the first match of some value, by a search.
+// Whether a pattern is the first match of some value, by a search where no earlier one covers it.
 fn is_found(
     alloc: Global,
     types: &[DataDecl],
@@ -172,6 +172,9 @@ fn is_found(
     ensures { IfOk result (λ b. IsReachAnswer types.now ty pats.now i b) }
 {
     let pat = &pats[i];
+    if index.has_covering(&pats[..i], pat) {
+        return Ok(false);
+    }
     let wanted = one_row(alloc, pat)?;
     let unwanted = rows_against(alloc, &pats[..i], index, pat)?;
     let found = find_one(alloc, types, ty, wanted, unwanted)?;

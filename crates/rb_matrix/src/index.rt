@@ -5,8 +5,11 @@ ghost use Rattle.std.specs.Prelude.{◌≡◌, ◌<◌, [], ◌++◌, ℕ, true,
 ghost use Rattle.rb_core.specs.declared.value.Value.{Value};
 ghost use Rattle.rb_core.specs.Matching.{matches_of};
 ghost use Rattle.rb_core.specs.Values.{subs};
+ghost use Rattle.std.specs.Bool.{OnTrue};
+ghost use Rattle.rb_matrix.specs.inner.Against.{IsCovered};
 ghost use Rattle.rb_matrix.specs.inner.Index.{HasKey, IsIndex, IsGrouped, Extends, AreNear};
 
+use crate::apart::covers;
 use rb_core::pattern::Pat;
 use rb_core::seq::Seq;
 use std::alloc::{AllocError, Global};
@@ -71,6 +74,21 @@ fn joined(alloc: Global, numbers: &Seq<usize>, more: &[usize]) -> Result<Seq<usi
     Ok(all)
 }
 
+// Whether one of the patterns with these numbers covers a pattern.
+fn are_covering(pats: &[Pat], numbers: &[usize], pat: &Pat) -> bool
+    ensures { OnTrue result (IsCovered pat.now pats.now) }
+{
+    for number in numbers {
+        let Some(other) = pats.get(*number) else {
+            continue;
+        };
+        if covers(other, pat) {
+            return true;
+        }
+    }
+    false
+}
+
 /// The numbers of patterns, by what stands in the patterns at one path.
 #[derive(Drop)]
 pub struct Index {
@@ -115,6 +133,23 @@ impl Index {
         match key_at(pat, self.path.as_slice()) {
             None => self.keyless.push(number),
             Some(key) => self.add_to_group(alloc, number, key),
+        }
+    }
+
+    /// Whether one of the patterns covers this one. Only one with the same number or constructor at the
+    /// path can, or one with none.
+    pub fn has_covering(&self, pats: &[Pat], pat: &Pat) -> bool
+        ensures { OnTrue result (IsCovered pat.now pats.now) }
+    {
+        if are_covering(pats, self.keyless.as_slice(), pat) {
+            return true;
+        }
+        let Some(key) = key_at(pat, self.path.as_slice()) else {
+            return false;
+        };
+        match self.groups.get(&key) {
+            None => false,
+            Some(group) => are_covering(pats, group.as_slice(), pat),
         }
     }
 
