@@ -21,7 +21,7 @@ use Rattle.rb_matrix.specs.Exhaust.{any_matches, IsReachAnswer}
 use Rattle.rb_matrix.specs.Heads.{fields_at}
 use Rattle.rb_matrix.specs.Open.{layer_open}
 use Rattle.rb_matrix.specs.Known.{has}
-use Rattle.rb_matrix.specs.inner.Index.{Extends}
+use Rattle.rb_matrix.specs.inner.Indexes.{BothExtend}
 use Rattle.rb_matrix.specs.inner.Passed.{layer_number, some_open, some_number, ArePassed}
 use Rattle.rb_matrix.proofs.Differing.{or-assoc, take-suc}
 use Rattle.rb_matrix.proofs.Exhausts.{first-chosen, chosen-first}
@@ -71,12 +71,15 @@ take-length (q ∷ ps) (suc i) p at = ap suc (take-length ps i p at)
 
 pub passed-more : (ps : List Pat) (i : ℕ) (p : Pat) (old new : Passed) → slice_get ps i ≡ Some p → ArePassed (take i ps) old
     → new.all ≡ (old.all || layer_open (out-Pat p)) → ((n : ℕ) → has new.numbers n ≡ (has old.numbers n || layer_number (out-Pat p) n))
-    → Extends i p old.index new.index → ArePassed (take (i + 1) ps) new
+    → BothExtend i p old.indexes new.indexes → ArePassed (take (i + 1) ps) new
 passed-more ps i p old new at known all numbers more =
     subst (λ qs. ArePassed qs new) (sym (ap (λ k. take k ps) (add-one i) ∙ take-suc ps i p at)) (record {
       all = all ∙ ap (λ b. b || layer_open (out-Pat p)) known.all ∙ sym (some_open-append (take i ps) p);
       numbers = λ n. numbers n ∙ ap (λ b. b || layer_number (out-Pat p) n) (known.numbers n) ∙ sym (some_number-append (take i ps) p n);
-      index = more (take i ps) (take-length ps i p at) known.index;
+      indexes = record {
+        first = more.first (take i ps) (take-length ps i p at) known.indexes.first;
+        second = more.second (take i ps) (take-length ps i p at) known.indexes.second;
+      };
     })
 
 -- a pattern at a number

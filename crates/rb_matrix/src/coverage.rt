@@ -6,13 +6,13 @@ ghost use Rattle.rb_matrix.specs.declared.coverage.MatrixFault.TheVariants as Ma
 ghost use Rattle.rb_matrix.specs.Exhaust.{IsExhaustAnswer, IsReachAnswer, AreUnreached, IsCommonAnswer, IsOneAnswer, one_each};
 ghost use Rattle.rb_matrix.specs.Search.{AreInhabited, IsTypeIn};
 ghost use Rattle.rb_matrix.specs.inner.Against.{AreRowsNear, StandFor};
-ghost use Rattle.rb_matrix.specs.inner.Index.{IsIndex};
+ghost use Rattle.rb_matrix.specs.inner.Indexes.{AreIndexes};
 ghost use Rattle.rb_matrix.specs.inner.Passed.{ArePassed};
 
 use crate::apart::are_apart;
-use crate::index::Index;
+use crate::indexes::Indexes;
 use crate::passed::Passed;
-use crate::positions::best_path;
+use crate::positions::best_paths;
 use crate::problem::Problem;
 use crate::row::{Row, row_of};
 use crate::search::find_in;
@@ -97,13 +97,13 @@ fn rows_near(
 fn rows_against(
     alloc: Global,
     pats: &[Pat],
-    index: &Index,
+    indexes: &Indexes,
     pat: &Pat,
 ) -> Result<Seq<Row>, AllocError>
-    requires index { IsIndex pats.now index.now }
+    requires indexes { AreIndexes pats.now indexes.now }
     ensures { IfOk result (StandFor pat.now pats.now) }
 {
-    let near = index.near(alloc, pats.len(), pat)?;
+    let near = indexes.near(alloc, pats.len(), pat)?;
     rows_near(alloc, pats, near.as_slice(), pat)
 }
 
@@ -163,20 +163,20 @@ fn is_found(
     ty: Ty,
     pats: &[Pat],
     i: usize,
-    index: &Index,
+    indexes: &Indexes,
 ) -> Result<bool, AllocError>
     requires inhabited { AreInhabited types.now }
     requires ty { IsTypeIn types.now ty }
     requires within { i < length pats.now }
-    requires index { IsIndex (take i pats.now) index.now }
+    requires indexes { AreIndexes (take i pats.now) indexes.now }
     ensures { IfOk result (λ b. IsReachAnswer types.now ty pats.now i b) }
 {
     let pat = &pats[i];
-    if index.has_covering(&pats[..i], pat) {
+    if indexes.has_covering(&pats[..i], pat) {
         return Ok(false);
     }
     let wanted = one_row(alloc, pat)?;
-    let unwanted = rows_against(alloc, &pats[..i], index, pat)?;
+    let unwanted = rows_against(alloc, &pats[..i], indexes, pat)?;
     let found = find_one(alloc, types, ty, wanted, unwanted)?;
     Ok(found.is_some())
 }
@@ -203,9 +203,9 @@ fn is_reached(
     }
     match pat {
         Pat::Num(_, number) => Ok(passed.is_new(types, ty, *number)),
-        Pat::Wild(_) => is_found(alloc, types, ty, pats, i, &passed.index),
-        Pat::Var(_, _) => is_found(alloc, types, ty, pats, i, &passed.index),
-        Pat::Con(_, _, _) => is_found(alloc, types, ty, pats, i, &passed.index),
+        Pat::Wild(_) => is_found(alloc, types, ty, pats, i, &passed.indexes),
+        Pat::Var(_, _) => is_found(alloc, types, ty, pats, i, &passed.indexes),
+        Pat::Con(_, _, _) => is_found(alloc, types, ty, pats, i, &passed.indexes),
     }
 }
 
@@ -225,7 +225,7 @@ pub fn unreached(
     ensures { IfOk result (λ v. AreUnreached types.now ty rows.now v.items) }
 {
     let mut numbers = Vec::new(alloc);
-    let mut passed = Passed::new(alloc, best_path(alloc, rows)?);
+    let mut passed = Passed::new(alloc, best_paths(alloc, rows)?);
     for i in 0..rows.len() {
         let reached = is_reached(alloc, types, ty, rows, i, &passed)?;
         let pat = &rows[i];

@@ -136,6 +136,26 @@ impl Index {
         }
     }
 
+    /// How many patterns have the same number or constructor at the path as this one, or none.
+    pub fn count_alike(&self, pat: &Pat) -> usize {
+        let count = self.keyless.len();
+        let Some(key) = key_at(pat, self.path.as_slice()) else {
+            return count;
+        };
+        match self.groups.get(&key) {
+            None => count,
+            Some(group) => count.saturating_add(group.len()),
+        }
+    }
+
+    /// How many of the first `count` patterns may have a value in common with this one.
+    pub fn count_near(&self, count: usize, pat: &Pat) -> usize {
+        if key_at(pat, self.path.as_slice()).is_none() {
+            return count;
+        }
+        self.count_alike(pat)
+    }
+
     /// Whether one of the patterns covers this one. Only one with the same number or constructor at the
     /// path can, or one with none.
     pub fn has_covering(&self, pats: &[Pat], pat: &Pat) -> bool

@@ -31,6 +31,7 @@ pub mod coverage;
 pub mod heads;
 pub mod images;
 mod index;
+mod indexes;
 pub mod matrix;
 pub mod numbers;
 mod open;

@@ -7,36 +7,36 @@ ghost use Rattle.rb_matrix.specs.declared.matrix.Head.TheVariants as Heads;
 ghost use Rattle.rb_matrix.specs.Heads.{fields_at};
 ghost use Rattle.rb_matrix.specs.Open.{layer_open};
 ghost use Rattle.rb_matrix.specs.Known.{has};
-ghost use Rattle.rb_matrix.specs.inner.Index.{Extends};
+ghost use Rattle.rb_matrix.specs.inner.Indexes.{BothExtend};
 ghost use Rattle.rb_matrix.specs.inner.Passed.{layer_number, ArePassed};
 
 use crate::images::head_fields;
-use crate::index::Index;
+use crate::indexes::Indexes;
 use crate::matrix::Head;
 use crate::numbers::Numbers;
+use crate::positions::Paths;
 use rb_core::pattern::Pat;
-use rb_core::seq::Seq;
 use rb_core::types::{DataDecl, Ty};
 use std::alloc::{AllocError, Global};
 
 /// Patterns that were gone over: whether one of them matches every value, the numbers among them, and
-/// what stands in them at one path.
+/// what stands in them at two paths.
 #[derive(Drop)]
 pub struct Passed {
     pub all: bool,
     pub numbers: Numbers,
-    pub index: Index,
+    pub indexes: Indexes,
 }
 
 impl Passed {
-    /// No pattern, with the path of the index.
-    pub fn new(alloc: Global, path: Seq<usize>) -> Self
+    /// No pattern, with the paths of the indexes.
+    pub fn new(alloc: Global, paths: Paths) -> Self
         ensures { ArePassed [] result }
     {
         Passed {
             all: false,
             numbers: Numbers::new(alloc),
-            index: Index::new(alloc, path),
+            indexes: Indexes::new(alloc, paths),
         }
     }
 
@@ -49,9 +49,9 @@ impl Passed {
         ensures all { OnOk result (self.new.all ≡ (self.old.all || layer_open (out-Pat pat.now))) }
         ensures numbers { OnOk result ((n : ℕ)
             → has self.new.numbers n ≡ (has self.old.numbers n || layer_number (out-Pat pat.now) n)) }
-        ensures index { OnOk result (Extends number pat.now self.old.index self.new.index) }
+        ensures indexes { OnOk result (BothExtend number pat.now self.old.indexes self.new.indexes) }
     {
-        self.index.add(alloc, number, pat)?;
+        self.indexes.add(alloc, number, pat)?;
         match pat {
             Pat::Wild(_) => {
                 self.all = true;

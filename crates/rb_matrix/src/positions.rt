@@ -1,4 +1,4 @@
-//! Where patterns differ most: the path at which they are best told apart.
+//! Where patterns differ most: the paths at which they are best told apart.
 
 use rb_core::pattern::Pat;
 use rb_core::seq::Seq;
@@ -108,13 +108,13 @@ impl Positions {
         Ok(Seq::from_vec(path))
     }
 
-    // The path at which the fewest pairs of patterns are not told apart.
-    fn best(&self) -> usize {
+    // The path, another than this one, that tells most pairs of patterns apart.
+    fn best_but(&self, other: Option<usize>) -> usize {
         let mut best = 0;
         let mut most = 0;
         for (number, position) in self.each.iter().enumerate() {
             let apart = pairs_apart(position);
-            if apart > most {
+            if apart > most && other != Some(number) {
                 best = number;
                 most = apart;
             }
@@ -133,16 +133,27 @@ fn pairs_apart(position: &Position) -> u64 {
     }
 }
 
-/// The path at which patterns are best told apart. Which one that is changes no answer.
+/// Two paths of fields, from the outside in.
+#[derive(Drop)]
+pub struct Paths {
+    pub first: Seq<usize>,
+    pub second: Seq<usize>,
+}
+
+/// The two paths at which patterns are best told apart. Which ones they are changes no answer.
 ///
 /// # Errors
 ///
 /// Want of memory.
-pub fn best_path(alloc: Global, pats: &[Pat]) -> Result<Seq<usize>, AllocError> {
+pub fn best_paths(alloc: Global, pats: &[Pat]) -> Result<Paths, AllocError> {
     let mut positions = Positions::new(alloc)?;
     for pat in pats {
         positions.count(pat, 0)?;
     }
-    let best = positions.best();
-    positions.path_to(alloc, best)
+    let first = positions.best_but(None);
+    let second = positions.best_but(Some(first));
+    Ok(Paths {
+        first: positions.path_to(alloc, first)?,
+        second: positions.path_to(alloc, second)?,
+    })
 }

@@ -1,4 +1,4 @@
--- Patterns that were gone over, with the set of the numbers among them and an index of them all.
+-- Patterns that were gone over, with the set of the numbers among them and two indexes of them all.
 use Rattle.std.specs.Prelude.{◌≡◌, ℕ, List, [], ◌∷◌, Bool, false, ◌||◌, ◌==◌}
 use Rattle.rb_core.specs.declared.pattern.Pat.{Pat, out-Pat}
 use Rattle.rb_core.specs.declared.pattern.Pat.TheOpen as P
@@ -6,7 +6,7 @@ use Rattle.rb_core.specs.declared.pattern.Pat.TheOpen.{Pat-F}
 use Rattle.rb_matrix.specs.declared.passed.Passed.{Passed}
 use Rattle.rb_matrix.specs.Known.{has}
 use Rattle.rb_matrix.specs.Open.{layer_open}
-use Rattle.rb_matrix.specs.inner.Index.{IsIndex}
+use Rattle.rb_matrix.specs.inner.Indexes.{AreIndexes}
 
 -- whether a pattern is this number
 abbrev pub layer_number : Pat-F Pat → ℕ → Bool
@@ -28,4 +28,4 @@ some_number (p ∷ ps) n = layer_number (out-Pat p) n || some_number ps n
 pub record ArePassed (ps : List Pat) (s : Passed) : Type 0 where
   pub all : s.all ≡ some_open ps
   pub numbers : (n : ℕ) → has s.numbers n ≡ some_number ps n
-  pub index : IsIndex ps s.index
+  pub indexes : AreIndexes ps s.indexes

@@ -8,4 +8,4 @@ pub returns : goal.returns
 returns c =
     let pats = c.args.pats.now in let p = c.args.pat.now in let js = c.in_ok-near.near in
     if-ok c.rows_near.result (AreRowsNear p pats c.as_slice.result.now) (StandFor p pats) c.rows_near.ensures
-    (λ rows h. rows-stand p pats js rows (subst (λ l. AreRowsNear p pats l rows) c.as_slice.ensures h) (c.in_ok-near.ensures pats refl c.requires.index))
+    (λ rows h. rows-stand p pats js rows (subst (λ l. AreRowsNear p pats l rows) c.as_slice.ensures h) (c.in_ok-near.ensures pats refl c.requires.indexes))

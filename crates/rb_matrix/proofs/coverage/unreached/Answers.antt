@@ -13,7 +13,7 @@ loop-i-preserved-then-reached c =
     record {
       unreached = reached-more c.args.types.now c.args.ty rows i c.loop-i.numbers.items c.loop-i.invariant.unreached
           (subst (IsReachAnswer c.args.types.now c.args.ty rows i) c.if-reached.true c.in_ok-reached.ensures);
-      passed = passed-more rows i p c.loop-i.passed _ at c.loop-i.invariant.passed c.in_ok-add.ensures.all c.in_ok-add.ensures.numbers c.in_ok-add.ensures.index;
+      passed = passed-more rows i p c.loop-i.passed _ at c.loop-i.invariant.passed c.in_ok-add.ensures.all c.in_ok-add.ensures.numbers c.in_ok-add.ensures.indexes;
     }
 
 pub loop-i-preserved : goal.loop-i-preserved
@@ -23,5 +23,5 @@ loop-i-preserved c =
     record {
       unreached = unreached-more c.args.types.now c.args.ty rows i c.loop-i.numbers.items c.loop-i.invariant.unreached _ c.in_ok-push.ensures.items
           (subst (IsReachAnswer c.args.types.now c.args.ty rows i) c.if-reached.false c.in_ok-reached.ensures);
-      passed = passed-more rows i p c.loop-i.passed _ at c.loop-i.invariant.passed c.in_ok-add.ensures.all c.in_ok-add.ensures.numbers c.in_ok-add.ensures.index;
+      passed = passed-more rows i p c.loop-i.passed _ at c.loop-i.invariant.passed c.in_ok-add.ensures.all c.in_ok-add.ensures.numbers c.in_ok-add.ensures.indexes;
     }
