@@ -30,10 +30,12 @@ AreCovered i ps qs = (k : ℕ) (p q : Pat) → k < i → slice_get ps k ≡ Some
 abbrev pub IsCovered : Pat → List Pat → Type 0
 IsCovered p ps = (v : Value) → matches_of p v ≡ true → any_matches ps v ≡ true
 
--- rows of some of the patterns: of the values that one pattern matches, they match all that those with these numbers match
+-- rows of some of the patterns: of the values that one pattern matches, they match all that those with
+-- these numbers match
 pub record AreRowsNear (p : Pat) (ps : List Pat) (js : List ℕ) (rows : List (List Pat)) : Type 0 where
   pub among : (v : Value) → any_row rows (v ∷ []) ≡ true → any_matches ps v ≡ true
-  pub each : (v : Value) → matches_of p v ≡ true → (j : ℕ) → Contains js j → clause_matches ps j v ≡ true → any_row rows (v ∷ []) ≡ true
+  pub each : (v : Value) → matches_of p v ≡ true
+      → (j : ℕ) → Contains js j → clause_matches ps j v ≡ true → any_row rows (v ∷ []) ≡ true
 
 -- of the values that the pattern matches, the rows match those that the patterns match
 abbrev pub StandFor : Pat → List Pat → List (List Pat) → Type 0
