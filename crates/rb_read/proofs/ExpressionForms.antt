@@ -22,8 +22,8 @@ use Rattle.rb_read.specs.declared.starting.Form.{Form}
 use Rattle.rb_read.specs.declared.starting.Form.TheVariants as form
 use Rattle.rb_read.specs.Starting.{is_symbol, form_of}
 use Rattle.rb_read.specs.Combining.{Reader, into, nothing, pair, expect, expect_word, optional, in_parens, some_closed, any_closed, beyond}
-use Rattle.rb_read.specs.Open as open_at
-use Rattle.rb_read.specs.Open.{Open, one, maybe, next, the, the_word, a_lower, a_width, a_type, fields, begins, as_expr, ahead_of, if_so}
+use Rattle.rb_read.proofs.Open as open_at
+use Rattle.rb_read.proofs.Open.{Open, one, maybe, next, the, the_word, a_lower, a_width, a_type, fields, begins, as_expr, ahead_of, if_so}
 use Rattle.rb_read.specs.Tokens.{lower_name, width}
 use Rattle.rb_read.specs.Reading.{named, called, type_tree, pattern, begins_expression, is_form, expression_one, expression}
 use Rattle.rb_read.specs.Reading as reading

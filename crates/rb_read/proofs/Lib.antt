@@ -18,6 +18,7 @@ pub mod Loops
 pub mod NodeForms
 mod Numbering
 pub mod OneAnswer
+pub mod Open
 mod OpenExamples
 pub mod PatternForms
 pub mod Pointers

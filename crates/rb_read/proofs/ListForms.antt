@@ -8,7 +8,7 @@ use Rattle.rb_syntax.specs.Written.{Written, token, tokens_in, Writing, each, ea
 use Rattle.rb_syntax.specs.Spelling.{comma, fields_written}
 use Rattle.rb_read.specs.Starting.{is_symbol}
 use Rattle.rb_read.specs.Combining.{stuck, deep, Reading, Reader, ◌>>=◌, into, passing, expect, at_front, begins_with, with_all, behind, some_of, some_closed, any_closed, in_parens, optional, many_of, each_of}
-use Rattle.rb_read.specs.Open.{Kind, fields, Open, one, maybe, many, first, next, Step, ahead_of, if_so, or_else, begins, step, is_done, stopped, end_of_tokens, go_on, run}
+use Rattle.rb_read.proofs.Open.{Kind, fields, Open, one, maybe, many, first, next, Step, ahead_of, if_so, or_else, begins, step, is_done, stopped, end_of_tokens, go_on, run}
 use Rattle.rb_read.proofs.Forms.{goes, Spells, Took, IsRight, Again, fits, exceeds, Clear, IsForm}
 use Rattle.rb_read.proofs.FormLaws.{ok-bind, ok-same, ok-if, goes-bind, goes-bind-ok, nat_lt-zero, IsStrict, into-again, clear-more, all-clear}
 use Rattle.rb_read.proofs.NodeForms.{IsPart, put-token, again-behind}

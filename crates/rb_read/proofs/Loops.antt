@@ -66,7 +66,7 @@ no_turn r separator close front count i ts all z h = sym h ∙ rw z refl
 
 -- where no level is left
 fails-beyond : (A : Type 0) (b : Bool) (n m : ℕ) → n ≡ m
-    → Fails {A = A} (if b then stop.Deep n else stop.Stuck n) (if b then Err (deep m) else Err (stuck m))
+    → Fails {R = A × List Token} (if b then stop.Deep n else stop.Stuck n) (if b then Err (deep m) else Err (stuck m))
 fails-beyond A true n m e = ap (λ k. Err (deep k)) (sym e)
 fails-beyond A false n m e = ap (λ k. Err (stuck k)) (sym e)
 

@@ -8,7 +8,7 @@ use Rattle.rb_syntax.specs.declared.token.Symbol.TheVariants.{Equals, Bar, OpenP
 use Rattle.rb_syntax.specs.declared.token.Token.{Token}
 use Rattle.rb_syntax.specs.declared.token.Token.TheVariants as token
 use Rattle.rb_read.specs.Starting.{form_of}
-use Rattle.rb_read.specs.Open.{as_pattern, begins, step, is_done, whole, stopped, too_deep, end_of_tokens, go_on, run, start}
+use Rattle.rb_read.proofs.Open.{as_pattern, begins, step, is_done, whole, stopped, too_deep, end_of_tokens, go_on, run, start}
 
 abbrev sym : Symbol → Token
 sym s = token.Symbol s

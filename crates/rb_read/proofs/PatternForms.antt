@@ -13,7 +13,7 @@ use Rattle.rb_syntax.proofs.SpellingLemmas.{pat-Wild, pat-Var, pat-Num, pat-Con}
 use Rattle.rb_syntax.proofs.LayoutSpelling.{below-Wild, below-Var, below-Num, below-Con}
 use Rattle.rb_syntax.proofs.PatternInduction.{induction}
 use Rattle.rb_read.specs.Combining.{Reader, into, nothing, in_parens, beyond}
-use Rattle.rb_read.specs.Open.{maybe, fields, pat, below, prov, begins, as_pattern}
+use Rattle.rb_read.proofs.Open.{maybe, fields, pat, below, prov, begins, as_pattern}
 use Rattle.rb_read.specs.Reading.{named, begins_pattern, pattern_from, pattern_one, pattern, begins_below, below_from, below_one, is_upper, provenance_from, provenance_one, provenance}
 use Rattle.rb_read.specs.Reading as reading
 use Rattle.rb_read.proofs.Forms.{IsRight, Again, Clear, IsForm}

@@ -3,8 +3,7 @@ use Rattle.std.proofs.Common.{◌≡◌, ℕ, zero, suc, List, refl, sym, subst}
 use Rattle.rb_syntax.specs.declared.token.Token.{Token}
 use Rattle.rb_read.specs.declared.stop.Stop.{Stop}
 use Rattle.rb_read.specs.Gives.{Fails}
-use Rattle.rb_read.specs.Reading.{lay_item_tree, item_one}
-use Rattle.rb_read.specs.Pointing.{pointed}
+use Rattle.rb_read.specs.Reading.{lay_item_tree, item_one, pointed}
 
 pub item-one : (n : ℕ) (ts : List Token) → lay_item_tree n ts ≡ item_one (λ us. pointed n us) ts
 unfolding lay_item_tree pointed

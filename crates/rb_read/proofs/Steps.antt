@@ -2,7 +2,7 @@
 use Rattle.std.proofs.Common.{◌≡◌, ◌≢◌, ℕ, suc, ◌+◌, ◌≤◌, List, [], ◌∷◌, ◌++◌, length, Bool, true, false, nat_lt, if◌then◌else◌, Option, Some, None, refl, ap, subst, arith}
 use Rattle.std.proofs.lemmas.Grind.{common_steps}
 use Rattle.rb_syntax.specs.declared.token.Token.{Token}
-use Rattle.rb_read.specs.Open.{Open, Step, step, is_done, End, whole, stopped, too_deep, end_of_tokens, go_on, run}
+use Rattle.rb_read.proofs.Open.{Open, Step, step, is_done, End, whole, stopped, too_deep, end_of_tokens, go_on, run}
 
 unfoldable pub goes_to : Step → (List Open → Option (List Open)) → Option (List Open)
 goes_to None behind = None

@@ -10,7 +10,7 @@ use Rattle.rb_syntax.specs.Spelling.{is_width, ty_written, fields_written, con_w
 use Rattle.rb_read.specs.Starting.{is_symbol}
 use Rattle.rb_read.specs.Combining.{Reading, Reader, ◌>>=◌, pair, into, nothing, expect, in_parens}
 use Rattle.rb_read.specs.Tokens.{lower_name}
-use Rattle.rb_read.specs.Open.{Open, one, maybe, the, an_upper, fields, a_type, a_con, a_param, begins, ahead_of}
+use Rattle.rb_read.proofs.Open.{Open, one, maybe, the, an_upper, fields, a_type, a_con, a_param, begins, ahead_of}
 use Rattle.rb_read.specs.Reading.{named, type_from, type_tree, con_tree, param_tree}
 use Rattle.rb_read.proofs.Forms.{IsRight, Again, Clear, IsForm}
 use Rattle.rb_read.proofs.FormLaws.{nat_lt-zero, nothing-form, pair-form, first-strict, iso-form, into-strict, alias-form}

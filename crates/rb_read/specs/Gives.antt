@@ -1,16 +1,31 @@
 -- What code answers, against what a reader gives.
-use Rattle.std.specs.Prelude.{◌≡◌, List, Result, Ok, Err}
-use Rattle.rb_syntax.specs.declared.token.Token.{Token}
+use Rattle.std.specs.Prelude.{◌≡◌, Option, Some, None, Result, Ok, Err}
+use Rattle.rb_read.specs.declared.item.LayoutRest.{LayoutRest}
+use Rattle.rb_read.specs.declared.item.LayoutRest.TheVariants as layout_rest
+use Rattle.rb_read.specs.declared.leaf.PathEnd.{PathEnd}
+use Rattle.rb_read.specs.declared.leaf.PathEnd.TheVariants as path_end
 use Rattle.rb_read.specs.declared.stop.Stop as stops
 use Rattle.rb_read.specs.declared.stop.Stop.TheVariants as stop
-use Rattle.rb_read.specs.Combining.{Reading, stuck, deep}
+use Rattle.rb_read.specs.Combining.{Fault, stuck, deep}
+use Rattle.rb_read.specs.Reading as reading
 
 -- the same fault, or want of memory
-abbrev pub Fails : {A : Type 0} → stops.Stop → Reading A → Type 0
+abbrev pub Fails : {R : Type 0} → stops.Stop → Result R Fault → Type 0
 Fails (stop.Stuck left) r = r ≡ Err (stuck left)
 Fails (stop.Deep left) r = r ≡ Err (deep left)
 Fails stop.Memory r = Unit {0}
 
-abbrev pub Gives : {X A : Type 0} → (X → A × List Token) → Result X stops.Stop → Reading A → Type 0
+-- what `seen` shows of the code's value, the same fault, or want of memory
+abbrev pub Gives : {X R : Type 0} → (X → R) → Result X stops.Stop → Result R Fault → Type 0
 Gives seen (Ok x) r = r ≡ Ok (seen x)
 Gives seen (Err e) r = Fails e r
+
+-- parts of forms that code holds, as readers give them
+abbrev pub seen_end : Option PathEnd → Option reading.PathEnd
+seen_end None = None
+seen_end (Some (path_end.Sliced first bits)) = Some (reading.sliced first bits)
+seen_end (Some (path_end.Numbered j)) = Some (reading.numbered j)
+
+abbrev pub seen_rest : LayoutRest → reading.LayoutRest
+seen_rest (layout_rest.LaidOut shape tree) = reading.laid_out shape tree
+seen_rest (layout_rest.Derived a) = reading.derived a

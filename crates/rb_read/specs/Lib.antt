@@ -3,10 +3,6 @@ pub mod Exact
 pub mod Files
 pub mod Gives
 pub mod Limits
-pub mod Open
-pub mod Pointing
 pub mod Reading
-pub mod Seen
 pub mod Starting
 pub mod Tokens
-pub mod Whole

@@ -269,6 +269,11 @@ unfoldable pub lay_item_tree : ℕ → Reader LayItem
 lay_item_tree zero ts = item_one no_pointer ts
 lay_item_tree (suc n) ts = item_one (pointer (λ us. lay_item_tree n us)) ts
 
+-- what stands behind `->` in a part, by the levels that are left
+unfoldable pub pointed : ℕ → Reader PartKind
+pointed zero ts = no_pointer ts
+pointed (suc n) ts = pointer (λ us. lay_item_tree n us) ts
+
 -- Trees of layouts.
 
 abbrev pub begins_tree : Token → Bool

@@ -22,6 +22,10 @@ pub(crate) trait Repeat: Read {
 }
 
 /// Parts one after the other, as long as the first token begins one.
+///
+/// # Errors
+///
+/// Where the reader of a part stops; or want of memory.
 pub(crate) fn read_each<T: Repeat + Drop>(
     alloc: Global,
     total: usize,

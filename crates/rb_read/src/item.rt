@@ -7,9 +7,8 @@ ghost use Rattle.rb_syntax.specs.declared.token.Token.TheVariants as token;
 ghost use Rattle.rb_syntax.specs.Tokens.{tokens};
 ghost use Rattle.rb_read.specs.Combining as combining;
 ghost use Rattle.rb_read.specs.Reading as reading;
-ghost use Rattle.rb_read.specs.Seen.{seen_rest};
 ghost use Rattle.rb_read.specs.Tokens.{number};
-ghost use Rattle.rb_read.specs.Gives.{Gives};
+ghost use Rattle.rb_read.specs.Gives.{Gives, seen_rest};
 
 use crate::each::Repeat;
 use crate::expression::read_expression;

@@ -7,10 +7,9 @@ ghost use Rattle.rb_syntax.specs.declared.token.Token.TheVariants as token;
 ghost use Rattle.rb_syntax.specs.declared.token.Word.TheVariants as word;
 ghost use Rattle.rb_syntax.specs.Tokens.{tokens};
 ghost use Rattle.rb_read.specs.Combining as combining;
-ghost use Rattle.rb_read.specs.Pointing.{pointed};
+ghost use Rattle.rb_read.specs.Gives.{Gives, seen_end};
 ghost use Rattle.rb_read.specs.Reading as reading;
-ghost use Rattle.rb_read.specs.Seen.{seen_end};
-ghost use Rattle.rb_read.specs.Gives.{Gives};
+ghost use Rattle.rb_read.specs.Reading.{pointed};
 
 use crate::each::read_each;
 use crate::location::{joined, read_path, read_range, read_range_rest};
@@ -78,7 +77,7 @@ fn read_held(alloc: Global, total: usize, placed: &[Placed]) -> Result<(PartKind
 
 // `8 { inline .1 }` behind the arrow of a pointer part.
 #[cycle(leaf)]
-#[tactic(auto, unfolding(crate::specs::Pointing::pointed, crate::specs::Reading::no_pointer, crate::specs::Reading::pointer, crate::specs::Combining::pair, crate::specs::Combining::into))]
+#[tactic(auto, unfolding(crate::specs::Reading::pointed, crate::specs::Reading::no_pointer, crate::specs::Reading::pointer, crate::specs::Combining::pair, crate::specs::Combining::into))]
 fn read_pointed<'a>(
     alloc: Global,
     levels: u32,
@@ -230,6 +229,11 @@ fn read_item<'a>(
 }
 
 /// One item or more, and the brace that closes them.
+///
+/// # Errors
+///
+/// `Stuck` at the first token at which no items go on, or `Deep` at the first that begins a pointer part beyond
+/// the levels, whichever stands first; or want of memory.
 #[cycle(leaf)]
 pub(crate) fn read_some_items<'a>(
     alloc: Global,

@@ -18,12 +18,21 @@ pub(crate) trait Read: Sized {
     ghost reader: { ℕ → Reader Self };
 
     /// Reads it, with the tokens behind it.
+    ///
+    /// # Errors
+    ///
+    /// `Stuck` at the first token at which no such part goes on, or `Deep` at the first that begins a node
+    /// beyond the levels, whichever stands first; or want of memory.
     fn read(alloc: Global, total: usize, placed: &[Placed]) -> Result<(Self, &[Placed]), Stop>
         requires { total < 2 ^ 32 }
         ensures { Gives (λ x. (x.0, tokens x.1.now)) result (reader total (tokens placed.now)) };
 }
 
 /// One part or more with a separator between, and the symbol that closes them.
+///
+/// # Errors
+///
+/// Where the reader of a part stops, or `Stuck` where neither symbol stands behind a part; or want of memory.
 pub(crate) fn read_some_closed<T: Read + Drop>(
     alloc: Global,
     total: usize,
@@ -50,6 +59,10 @@ pub(crate) fn read_some_closed<T: Read + Drop>(
 }
 
 /// Any number of parts with commas between, and the symbol that closes them.
+///
+/// # Errors
+///
+/// Where the reader of a part stops, or `Stuck` where neither symbol stands behind a part; or want of memory.
 #[tactic(auto, unfolding(crate::specs::Combining::any_closed))]
 pub(crate) fn read_any_closed<T: Read + Drop>(
     alloc: Global,
@@ -68,6 +81,10 @@ pub(crate) fn read_any_closed<T: Read + Drop>(
 }
 
 /// Parts in parentheses, or nothing.
+///
+/// # Errors
+///
+/// Where the reader of a part stops, or `Stuck` where neither symbol stands behind a part; or want of memory.
 #[tactic(auto, unfolding(crate::specs::Combining::in_parens))]
 pub(crate) fn read_in_parens<T: Read + Drop>(
     alloc: Global,

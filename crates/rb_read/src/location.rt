@@ -68,6 +68,10 @@ impl Repeat for u32 {
 }
 
 /// A path's fields, the first before the others.
+///
+/// # Errors
+///
+/// Want of memory.
 pub(crate) fn joined(first: u32, others: Seq<u32>) -> Result<Seq<u32>, AllocError>
     ensures { IfOk result (λ fields. fields ≡ first ∷ others) }
 {

@@ -9,7 +9,7 @@ ghost use Rattle.rb_read.specs.declared.fault.ReadFault.{ReadFault};
 ghost use Rattle.rb_read.specs.declared.fault.ReadFault.TheVariants.{Memory};
 ghost use Rattle.rb_read.specs.Exact as exact;
 ghost use Rattle.rb_read.specs.Files.{IsFile, IsAnswer, Answers};
-ghost use Rattle.rb_read.specs.Whole.{Yields};
+ghost use Rattle.rb_read.specs.Gives.{Gives};
 ghost use Rattle.rb_read.specs.Reading as reading;
 
 use crate::each::read_each;
@@ -24,7 +24,7 @@ use std::alloc::Global;
 // The file of the items, where no token is left.
 #[tactic(auto, unfolding(crate::specs::Exact::ended))]
 fn ended(items: Seq<ItemTree>, placed: &[Placed]) -> Result<FileTree, Stop>
-    ensures { Yields result (exact.ended items (tokens placed.now)) }
+    ensures { Gives (λ file. file) result (exact.ended items (tokens placed.now)) }
 {
     if placed.is_empty() {
         Ok(FileTree { items })
@@ -37,7 +37,8 @@ fn ended(items: Seq<ItemTree>, placed: &[Placed]) -> Result<FileTree, Stop>
 #[tactic(auto, unfolding(crate::specs::Exact::whole_file, crate::specs::Reading::file_items))]
 fn read_tree(alloc: Global, placed: &[Placed]) -> Result<FileTree, Stop>
     requires { length placed.now < 2 ^ 32 }
-    ensures { Yields result (exact.whole_file (reading.file_items (length placed.now) most_levels (tokens placed.now))) }
+    ensures { Gives (λ file. file) result
+        (exact.whole_file (reading.file_items (length placed.now) most_levels (tokens placed.now))) }
 {
     let (items, rest) = read_each(alloc, placed.len(), placed)?;
     let file = ended(items, rest)?;

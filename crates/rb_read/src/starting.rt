@@ -6,7 +6,7 @@ ghost use Rattle.rb_read.specs.Starting as starting;
 use rb_core::expression::Op;
 use rb_syntax::token::Word;
 
-/// What a reserved word begins as an expression.
+/// A form of expression that a reserved word begins.
 pub enum Form {
     Operation(Op),
     Conversion,

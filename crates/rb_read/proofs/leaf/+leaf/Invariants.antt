@@ -2,8 +2,7 @@ use Rattle.std.proofs.Common.{◌≡◌, ◌+◌, ◌-◌, ◌*◌, length}
 use Rattle.rb_syntax.specs.Tokens.{tokens}
 use Rattle.rb_syntax.specs.declared.token.Symbol.TheVariants as symbol
 use Rattle.rb_read.specs.Combining.{some_of, with_all}
-use Rattle.rb_read.specs.Pointing.{pointed}
-use Rattle.rb_read.specs.Reading.{part, lay_item_tree}
+use Rattle.rb_read.specs.Reading.{part, lay_item_tree, pointed}
 use Rattle.rb_read.proofs.leaf.+leaf.Given as goal
 
 abbrev pub decreases-read_items : goal.decreases-read_items
