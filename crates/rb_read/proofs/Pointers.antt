@@ -1,8 +1,12 @@
 -- A word or the words of a field, by what stands behind `->` in its parts.
-use Rattle.std.proofs.Common.{◌≡◌, ℕ, zero, suc, List, refl, sym, subst}
+use Rattle.std.proofs.Common.{◌≡◌, ℕ, zero, suc, List, Result, refl, sym, subst}
+use denote.Ref.{Bor}
+use Rattle.rb_core.specs.declared.layout_decl.LayItem.{LayItem}
+use Rattle.rb_syntax.specs.declared.token.Placed.{Placed}
 use Rattle.rb_syntax.specs.declared.token.Token.{Token}
+use Rattle.rb_syntax.specs.Tokens.{tokens}
 use Rattle.rb_read.specs.declared.stop.Stop.{Stop}
-use Rattle.rb_read.specs.Gives.{Fails}
+use Rattle.rb_read.specs.Gives.{Gives}
 use Rattle.rb_read.specs.Reading.{lay_item_tree, item_one, pointed}
 
 pub item-one : (n : ℕ) (ts : List Token) → lay_item_tree n ts ≡ item_one (λ us. pointed n us) ts
@@ -10,5 +14,6 @@ unfolding lay_item_tree pointed
 item-one zero ts = refl
 item-one (suc n) ts = refl
 
-pub fails-item : (e : Stop) (n : ℕ) (ts : List Token) → Fails e (item_one (λ us. pointed n us) ts) → Fails e (lay_item_tree n ts)
-fails-item e n ts h = subst (λ r. Fails e r) (sym (item-one n ts)) h
+pub gives-item : (r : Result (LayItem × Bor (List Placed)) Stop) (n : ℕ) (ts : List Token)
+    → Gives (λ x. (x.0, tokens x.1.now)) r (item_one (λ us. pointed n us) ts) → Gives (λ x. (x.0, tokens x.1.now)) r (lay_item_tree n ts)
+gives-item r n ts h = subst (λ q. Gives (λ x. (x.0, tokens x.1.now)) r q) (sym (item-one n ts)) h

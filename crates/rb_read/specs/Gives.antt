@@ -1,12 +1,15 @@
 -- What code answers, against what a reader gives.
-use Rattle.std.specs.Prelude.{◌≡◌, Option, Some, None, Result, Ok, Err}
+use Rattle.std.specs.Prelude.{◌≡◌, List, Option, Some, None, Result, Ok, Err}
+use denote.Ref.{Bor}
+use Rattle.rb_syntax.specs.declared.token.Placed.{Placed}
+use Rattle.rb_syntax.specs.Tokens.{tokens}
 use Rattle.rb_read.specs.declared.item.LayoutRest.{LayoutRest}
 use Rattle.rb_read.specs.declared.item.LayoutRest.TheVariants as layout_rest
 use Rattle.rb_read.specs.declared.leaf.PathEnd.{PathEnd}
 use Rattle.rb_read.specs.declared.leaf.PathEnd.TheVariants as path_end
 use Rattle.rb_read.specs.declared.stop.Stop as stops
 use Rattle.rb_read.specs.declared.stop.Stop.TheVariants as stop
-use Rattle.rb_read.specs.Combining.{Fault, stuck, deep}
+use Rattle.rb_read.specs.Combining.{Fault, Reader, stuck, deep}
 use Rattle.rb_read.specs.Reading as reading
 
 -- the same fault, or want of memory
@@ -19,6 +22,15 @@ Fails stop.Memory r = Unit {0}
 abbrev pub Gives : {X R : Type 0} → (X → R) → Result X stops.Stop → Result R Fault → Type 0
 Gives seen (Ok x) r = r ≡ Ok (seen x)
 Gives seen (Err e) r = Fails e r
+
+-- a part and the tokens behind it, or why reading stops
+abbrev pub Answer : Type 0 → Type 0
+Answer A = Result (A × Bor (List Placed)) stops.Stop
+
+-- each answer that `may` be given at tokens is what the reader gives there
+abbrev pub Reads : {A : Type 0} → Reader A → (Bor (List Placed) → Answer A → Type 0) → Type 0
+Reads {A} reader may = (placed : Bor (List Placed)) (result : Answer A) → may placed result
+    → Gives (λ x. (x.0, tokens x.1.now)) result (reader (tokens placed.now))
 
 -- parts of forms that code holds, as readers give them
 abbrev pub seen_end : Option PathEnd → Option reading.PathEnd

@@ -1,20 +1,32 @@
 //! Reads parts that stand one after the other.
 
-ghost use Rattle.std.specs.Prelude.{◌≡◌, ◌<◌, ◌^◌, Bool};
+ghost use Rattle.std.specs.Prelude.{◌≡◌, ℕ, ◌<◌, ◌^◌, Bool};
 ghost use Rattle.rb_syntax.specs.declared.token.Token.{Token};
 ghost use Rattle.rb_syntax.specs.Tokens.{tokens};
 ghost use Rattle.rb_read.specs.Combining as combining;
+ghost use Rattle.rb_read.specs.Combining.{Reader};
 ghost use Rattle.rb_read.specs.Gives.{Gives};
 
-use crate::list::Read;
 use crate::stop::Stop;
 use rb_core::seq::Seq;
 use rb_syntax::token::Placed;
 use std::alloc::Global;
 
 /// A part that may stand any number of times, known by its first token.
-pub(crate) trait Repeat: Read {
+pub(crate) trait Repeat: Sized {
+    ghost reader: { ℕ → Reader Self };
+
     ghost begins: { Token → Bool };
+
+    /// Reads it, with the tokens behind it.
+    ///
+    /// # Errors
+    ///
+    /// `Stuck` at the first token at which no such part goes on, or `Deep` at the first that begins a node
+    /// beyond the levels, whichever stands first; or want of memory.
+    fn read(alloc: Global, total: usize, placed: &[Placed]) -> Result<(Self, &[Placed]), Stop>
+        requires { total < 2 ^ 32 }
+        ensures { Gives (λ x. (x.0, tokens x.1.now)) result (reader total (tokens placed.now)) };
 
     /// Whether the first token begins one.
     fn begins_with(placed: &[Placed]) -> bool

@@ -9,6 +9,7 @@ ghost use Rattle.rb_read.specs.Reading as reading;
 ghost use Rattle.rb_read.specs.Gives.{Gives};
 
 use crate::beyond::beyond;
+use crate::list::{read_any_closed, read_in_parens, read_some_closed};
 use crate::pattern::read_pattern;
 use crate::starting::{Form, form_of};
 use crate::stop::Stop;
@@ -140,7 +141,6 @@ fn read_called<'a>(
 
 // Any number of expressions with commas between, and the parenthesis behind them.
 #[cycle(expressions)]
-#[tactic(auto, unfolding(crate::specs::Combining::any_closed))]
 fn read_arguments<'a>(
     alloc: Global,
     levels: u32,
@@ -151,10 +151,15 @@ fn read_arguments<'a>(
     ensures { Gives (λ x. (x.0, tokens x.1.now)) result
         (combining.any_closed (λ ts. reading.expression levels total ts) symbols.CloseParen (tokens placed.now)) }
 {
-    if begins_with(Symbol::CloseParen, placed) {
-        return Ok((Seq::new(alloc), &placed[1..]));
-    }
-    read_some_expressions(alloc, levels, total, placed)
+    read_any_closed(
+        alloc,
+        |rest|
+            requires { total < 2 ^ 32 }
+            ensures { Gives (λ x. (x.0, tokens x.1.now)) result (reading.expression levels total (tokens rest.now)) }
+        { read_expression(alloc, levels, total, rest) },
+        Symbol::CloseParen,
+        placed,
+    )
 }
 
 // A constructor with its fields, behind its name.
@@ -180,7 +185,6 @@ fn read_built<'a>(
 
 // A constructor's fields in parentheses, or nothing.
 #[cycle(expressions)]
-#[tactic(auto, unfolding(crate::specs::Combining::in_parens))]
 fn read_fields<'a>(
     alloc: Global,
     levels: u32,
@@ -191,37 +195,14 @@ fn read_fields<'a>(
     ensures { Gives (λ x. (x.0, tokens x.1.now)) result
         (combining.in_parens (λ ts. reading.expression levels total ts) (tokens placed.now)) }
 {
-    if begins_with(Symbol::OpenParen, placed) {
-        return read_some_expressions(alloc, levels, total, &placed[1..]);
-    }
-    Ok((Seq::new(alloc), placed))
-}
-
-// One expression or more, and the parenthesis behind them.
-#[cycle(expressions)]
-fn read_some_expressions<'a>(
-    alloc: Global,
-    levels: u32,
-    total: usize,
-    placed: &'a [Placed],
-) -> Result<(Seq<ExprTree>, &'a [Placed]), Stop>
-    requires { total < 2 ^ 32 }
-    ensures { Gives (λ x. (x.0, tokens x.1.now)) result
-        (combining.some_closed (λ ts. reading.expression levels total ts) symbols.Comma symbols.CloseParen
-        (tokens placed.now)) }
-{
-    let mut parts = Seq::new(alloc);
-    let mut rest = placed;
-    for _turn in 0..placed.len() {
-        let (part, behind) = read_expression(alloc, levels, total, rest)?;
-        parts.push(part)?;
-        if !begins_with(Symbol::Comma, behind) {
-            let behind = expect(Symbol::CloseParen, behind)?;
-            return Ok((parts, behind));
-        }
-        rest = &behind[1..];
-    }
-    Err(Stop::Stuck(0))
+    read_in_parens(
+        alloc,
+        |rest|
+            requires { total < 2 ^ 32 }
+            ensures { Gives (λ x. (x.0, tokens x.1.now)) result (reading.expression levels total (tokens rest.now)) }
+        { read_expression(alloc, levels, total, rest) },
+        placed,
+    )
 }
 
 // An expression behind the reserved word that it begins with.
@@ -355,18 +336,18 @@ fn read_clauses<'a>(
         (combining.some_closed (reading.clause_tree (λ ts. reading.pattern levels total ts)
         (λ ts. reading.expression levels total ts) total 0) symbols.Comma symbols.CloseBrace (tokens placed.now)) }
 {
-    let mut parts = Seq::new(alloc);
-    let mut rest = placed;
-    for _turn in 0..placed.len() {
-        let (part, behind) = read_clause(alloc, levels, total, rest)?;
-        parts.push(part)?;
-        if !begins_with(Symbol::Comma, behind) {
-            let behind = expect(Symbol::CloseBrace, behind)?;
-            return Ok((parts, behind));
-        }
-        rest = &behind[1..];
-    }
-    Err(Stop::Stuck(0))
+    read_some_closed(
+        alloc,
+        |rest|
+            requires { total < 2 ^ 32 }
+            ensures { Gives (λ x. (x.0, tokens x.1.now)) result
+                (reading.clause_tree (λ ts. reading.pattern levels total ts)
+                (λ ts. reading.expression levels total ts) total 0 (tokens rest.now)) }
+        { read_clause(alloc, levels, total, rest) },
+        Symbol::Comma,
+        Symbol::CloseBrace,
+        placed,
+    )
 }
 
 // `p => e`

@@ -13,14 +13,16 @@ ghost use Rattle.rb_read.specs.Gives.{Gives, seen_rest};
 use crate::each::Repeat;
 use crate::expression::read_expression;
 use crate::layout::read_layout_tree;
-use crate::list::{Read, read_any_closed, read_some_closed};
+use crate::list::{read_any_closed, read_some_closed};
 use crate::stop::Stop;
 use crate::tokens::{expect, number_of, read_lower, read_number, read_upper};
-use crate::types::read_type;
+use crate::types::{read_constructor, read_parameter, read_type};
 use rb_core::limits::MOST_LEVELS;
 use rb_core::seq::Seq;
 use rb_syntax::token::{Placed, Symbol, Token, Word};
-use rb_syntax::tree::{Auto, FunTree, ItemTree, LayoutTree, SplitTree, TypeTree};
+use rb_syntax::tree::{
+    Auto, ConTree, FunTree, ItemTree, LayoutTree, ParamTree, SplitTree, TypeTree,
+};
 use std::alloc::Global;
 
 /// A layout behind its type's name: its shape and tree, or the word of a derived one.
@@ -30,13 +32,49 @@ pub enum LayoutRest {
     Derived(Auto),
 }
 
-/// The width of a word of a shape.
-impl Read for u64 {
-    ghost reader = { λ _ ts. number ts };
+// The widths of a shape's words, and the sign that closes it.
+fn read_shape(alloc: Global, placed: &[Placed]) -> Result<(Seq<u64>, &[Placed]), Stop>
+    ensures { Gives (λ x. (x.0, tokens x.1.now)) result
+        (combining.some_closed number symbol.Comma symbol.Greater (tokens placed.now)) }
+{
+    read_some_closed(alloc, read_number, Symbol::Comma, Symbol::Greater, placed)
+}
 
-    fn read(_alloc: Global, _total: usize, placed: &[Placed]) -> Result<(u64, &[Placed]), Stop> {
-        read_number(placed)
-    }
+// A type's constructors with bars between, and the semicolon behind them.
+fn read_constructors(
+    alloc: Global,
+    total: usize,
+    placed: &[Placed],
+) -> Result<(Seq<ConTree>, &[Placed]), Stop>
+    requires { total < 2 ^ 32 }
+    ensures { Gives (λ x. (x.0, tokens x.1.now)) result
+        (combining.some_closed (reading.con_tree total) symbol.Bar symbol.Semicolon (tokens placed.now)) }
+{
+    read_some_closed(
+        alloc,
+        |rest| read_constructor(alloc, total, rest),
+        Symbol::Bar,
+        Symbol::Semicolon,
+        placed,
+    )
+}
+
+// Any number of parameters, and the parenthesis that closes them.
+fn read_parameters(
+    alloc: Global,
+    total: usize,
+    placed: &[Placed],
+) -> Result<(Seq<ParamTree>, &[Placed]), Stop>
+    requires { total < 2 ^ 32 }
+    ensures { Gives (λ x. (x.0, tokens x.1.now)) result
+        (combining.any_closed (reading.param_tree total) symbol.CloseParen (tokens placed.now)) }
+{
+    read_any_closed(
+        alloc,
+        |rest| read_parameter(alloc, total, rest),
+        Symbol::CloseParen,
+        placed,
+    )
 }
 
 // `boxed` or `packed`
@@ -77,7 +115,7 @@ fn read_laid_out(
     ensures { Gives (λ x. (seen_rest x.0, tokens x.1.now)) result
         (reading.layout_rest_from levels total (token.Symbol symbol.Less) (tokens placed.now)) }
 {
-    let (shape, rest) = read_some_closed(alloc, total, Symbol::Comma, Symbol::Greater, placed)?;
+    let (shape, rest) = read_shape(alloc, placed)?;
     let rest = expect(Symbol::Equals, rest)?;
     let (tree, rest) = read_layout_tree(alloc, levels, total, rest)?;
     let rest = expect(Symbol::Semicolon, rest)?;
@@ -144,7 +182,7 @@ fn read_type_item(
 {
     let (name, rest) = read_upper(alloc, total, placed)?;
     let rest = expect(Symbol::Equals, rest)?;
-    let (cons, rest) = read_some_closed(alloc, total, Symbol::Bar, Symbol::Semicolon, rest)?;
+    let (cons, rest) = read_constructors(alloc, total, rest)?;
     Ok((ItemTree::Types(TypeTree { name, cons }), rest))
 }
 
@@ -161,7 +199,7 @@ fn read_fun(
 {
     let (name, rest) = read_lower(alloc, total, placed)?;
     let rest = expect(Symbol::OpenParen, rest)?;
-    let (params, rest) = read_any_closed(alloc, total, Symbol::CloseParen, rest)?;
+    let (params, rest) = read_parameters(alloc, total, rest)?;
     let rest = expect(Symbol::Colon, rest)?;
     let (result, rest) = read_type(alloc, total, rest)?;
     let rest = expect(Symbol::Equals, rest)?;
@@ -177,8 +215,10 @@ fn read_fun(
 }
 
 /// A type, a layout or a function.
-impl Read for ItemTree {
+impl Repeat for ItemTree {
     ghost reader = { reading.file_item most_levels };
+
+    ghost begins = { λ t. reading.begins_item t };
 
     #[tactic(auto, unfolding(crate::specs::Reading::file_item, crate::specs::Reading::file_item_from))]
     fn read(alloc: Global, total: usize, placed: &[Placed]) -> Result<(ItemTree, &[Placed]), Stop> {
@@ -195,11 +235,6 @@ impl Read for ItemTree {
             },
         }
     }
-}
-
-/// The items of a file.
-impl Repeat for ItemTree {
-    ghost begins = { λ t. reading.begins_item t };
 
     fn begins_with(placed: &[Placed]) -> bool {
         match placed {

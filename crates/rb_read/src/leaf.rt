@@ -12,9 +12,10 @@ ghost use Rattle.rb_read.specs.Reading as reading;
 ghost use Rattle.rb_read.specs.Reading.{pointed};
 
 use crate::each::read_each;
+use crate::list::{read_any_closed, read_some_closed};
 use crate::location::{joined, read_path, read_range, read_range_rest};
 use crate::stop::Stop;
-use crate::tokens::{begins_with, expect, read_field, read_number};
+use crate::tokens::{expect, read_field, read_number};
 use rb_core::seq::Seq;
 use rb_syntax::token::{Placed, Symbol, Token, Word};
 use rb_syntax::tree::{LayItem, PartDecl, PartKind};
@@ -139,35 +140,8 @@ fn read_part<'a>(
     Ok((PartDecl { o, l, kind }, rest))
 }
 
-// One part or more, and the brace that closes them.
-#[cycle(leaf)]
-fn read_some_parts<'a>(
-    alloc: Global,
-    levels: u32,
-    total: usize,
-    placed: &'a [Placed],
-) -> Result<(Seq<PartDecl>, &'a [Placed]), Stop>
-    requires { total < 2 ^ 32 }
-    ensures { Gives (λ x. (x.0, tokens x.1.now)) result
-        (combining.some_closed (reading.part (pointed levels)) symbol.Comma symbol.CloseBrace (tokens placed.now)) }
-{
-    let mut parts = Seq::new(alloc);
-    let mut rest = placed;
-    for _turn in 0..placed.len() {
-        let (part, behind) = read_part(alloc, levels, total, rest)?;
-        parts.push(part)?;
-        if !begins_with(Symbol::Comma, behind) {
-            let behind = expect(Symbol::CloseBrace, behind)?;
-            return Ok((parts, behind));
-        }
-        rest = &behind[1..];
-    }
-    Err(Stop::Stuck(0))
-}
-
 // Any number of parts, and the brace that closes them.
 #[cycle(leaf)]
-#[tactic(auto, unfolding(crate::specs::Combining::any_closed))]
 fn read_parts<'a>(
     alloc: Global,
     levels: u32,
@@ -178,10 +152,15 @@ fn read_parts<'a>(
     ensures { Gives (λ x. (x.0, tokens x.1.now)) result
         (combining.any_closed (reading.part (pointed levels)) symbol.CloseBrace (tokens placed.now)) }
 {
-    if begins_with(Symbol::CloseBrace, placed) {
-        return Ok((Seq::new(alloc), &placed[1..]));
-    }
-    read_some_parts(alloc, levels, total, placed)
+    read_any_closed(
+        alloc,
+        |rest|
+            requires { total < 2 ^ 32 }
+            ensures { Gives (λ x. (x.0, tokens x.1.now)) result (reading.part (pointed levels) (tokens rest.now)) }
+        { read_part(alloc, levels, total, rest) },
+        Symbol::CloseBrace,
+        placed,
+    )
 }
 
 // `32 { [0:32] .0 }` behind the word `word`.
@@ -228,41 +207,8 @@ fn read_item<'a>(
     }
 }
 
-/// One item or more, and the brace that closes them.
-///
-/// # Errors
-///
-/// `Stuck` at the first token at which no items go on, or `Deep` at the first that begins a pointer part beyond
-/// the levels, whichever stands first; or want of memory.
-#[cycle(leaf)]
-pub(crate) fn read_some_items<'a>(
-    alloc: Global,
-    levels: u32,
-    total: usize,
-    placed: &'a [Placed],
-) -> Result<(Seq<LayItem>, &'a [Placed]), Stop>
-    requires { total < 2 ^ 32 }
-    ensures { Gives (λ x. (x.0, tokens x.1.now)) result
-        (combining.some_closed (λ us. reading.lay_item_tree levels us) symbol.Comma symbol.CloseBrace
-        (tokens placed.now)) }
-{
-    let mut items = Seq::new(alloc);
-    let mut rest = placed;
-    for _turn in 0..placed.len() {
-        let (item, behind) = read_item(alloc, levels, total, rest)?;
-        items.push(item)?;
-        if !begins_with(Symbol::Comma, behind) {
-            let behind = expect(Symbol::CloseBrace, behind)?;
-            return Ok((items, behind));
-        }
-        rest = &behind[1..];
-    }
-    Err(Stop::Stuck(0))
-}
-
 // Any number of items, and the brace that closes them.
 #[cycle(leaf)]
-#[tactic(auto, unfolding(crate::specs::Combining::any_closed))]
 fn read_items<'a>(
     alloc: Global,
     levels: u32,
@@ -273,8 +219,42 @@ fn read_items<'a>(
     ensures { Gives (λ x. (x.0, tokens x.1.now)) result
         (combining.any_closed (λ us. reading.lay_item_tree levels us) symbol.CloseBrace (tokens placed.now)) }
 {
-    if begins_with(Symbol::CloseBrace, placed) {
-        return Ok((Seq::new(alloc), &placed[1..]));
-    }
-    read_some_items(alloc, levels, total, placed)
+    read_any_closed(
+        alloc,
+        |rest|
+            requires { total < 2 ^ 32 }
+            ensures { Gives (λ x. (x.0, tokens x.1.now)) result (reading.item_one (pointed levels) (tokens rest.now)) }
+        { read_item(alloc, levels, total, rest) },
+        Symbol::CloseBrace,
+        placed,
+    )
+}
+
+/// One item or more, and the brace that closes them.
+///
+/// # Errors
+///
+/// `Stuck` at the first token at which no items go on, or `Deep` at the first that begins a pointer part beyond
+/// the levels, whichever stands first; or want of memory.
+pub(crate) fn read_some_items(
+    alloc: Global,
+    levels: u32,
+    total: usize,
+    placed: &[Placed],
+) -> Result<(Seq<LayItem>, &[Placed]), Stop>
+    requires { total < 2 ^ 32 }
+    ensures { Gives (λ x. (x.0, tokens x.1.now)) result
+        (combining.some_closed (λ us. reading.lay_item_tree levels us) symbol.Comma symbol.CloseBrace
+        (tokens placed.now)) }
+{
+    read_some_closed(
+        alloc,
+        |rest|
+            requires { total < 2 ^ 32 }
+            ensures { Gives (λ x. (x.0, tokens x.1.now)) result (reading.item_one (pointed levels) (tokens rest.now)) }
+        { read_item(alloc, levels, total, rest) },
+        Symbol::Comma,
+        Symbol::CloseBrace,
+        placed,
+    )
 }

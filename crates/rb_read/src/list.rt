@@ -1,11 +1,10 @@
-//! Reads lists of parts that hold no part of their own kind.
+//! Reads lists: parts with a separator between, and the symbol that closes them.
 
-ghost use Rattle.std.specs.Prelude.{ℕ, ◌<◌, ◌^◌};
-ghost use Rattle.rb_syntax.specs.declared.token.Symbol.TheVariants as symbols;
+ghost use Rattle.std.specs.Prelude.{◌≡◌, ◌<◌, ◌^◌};
 ghost use Rattle.rb_syntax.specs.Tokens.{tokens};
 ghost use Rattle.rb_read.specs.Combining as combining;
 ghost use Rattle.rb_read.specs.Combining.{Reader};
-ghost use Rattle.rb_read.specs.Gives.{Gives};
+ghost use Rattle.rb_read.specs.Gives.{Gives, Reads};
 
 use crate::stop::Stop;
 use crate::tokens::{begins_with, expect};
@@ -13,41 +12,26 @@ use rb_core::seq::Seq;
 use rb_syntax::token::{Placed, Symbol};
 use std::alloc::Global;
 
-/// A part of a file, which is read from the front of the tokens that are left.
-pub(crate) trait Read: Sized {
-    ghost reader: { ℕ → Reader Self };
-
-    /// Reads it, with the tokens behind it.
-    ///
-    /// # Errors
-    ///
-    /// `Stuck` at the first token at which no such part goes on, or `Deep` at the first that begins a node
-    /// beyond the levels, whichever stands first; or want of memory.
-    fn read(alloc: Global, total: usize, placed: &[Placed]) -> Result<(Self, &[Placed]), Stop>
-        requires { total < 2 ^ 32 }
-        ensures { Gives (λ x. (x.0, tokens x.1.now)) result (reader total (tokens placed.now)) };
-}
-
 /// One part or more with a separator between, and the symbol that closes them.
 ///
 /// # Errors
 ///
-/// Where the reader of a part stops, or `Stuck` where neither symbol stands behind a part; or want of memory.
-pub(crate) fn read_some_closed<T: Read + Drop>(
+/// Where `read` stops, or `Stuck` where neither symbol stands behind a part; or want of memory.
+pub(crate) fn read_some_closed<'a, T: Drop, F: Fn(&'a [Placed]) -> Result<(T, &'a [Placed]), Stop>>(
     alloc: Global,
-    total: usize,
+    read: F,
     separator: Symbol,
     close: Symbol,
-    placed: &[Placed],
-) -> Result<(Seq<T>, &[Placed]), Stop>
-    requires { total < 2 ^ 32 }
-    ensures { Gives (λ x. (x.0, tokens x.1.now)) result
-        (combining.some_closed (T.reader total) separator close (tokens placed.now)) }
+    placed: &'a [Placed],
+) -> Result<(Seq<T>, &'a [Placed]), Stop>
+    requires { F.IsAlwaysCallable read }
+    ensures { (part : Reader T) → Reads part (F.post read) → Gives (λ x. (x.0, tokens x.1.now)) result
+        (combining.some_closed part separator close (tokens placed.now)) }
 {
     let mut parts = Seq::new(alloc);
     let mut rest = placed;
     for _turn in 0..placed.len() {
-        let (part, behind) = T::read(alloc, total, rest)?;
+        let (part, behind) = read(rest)?;
         parts.push(part)?;
         if !begins_with(separator, behind) {
             let behind = expect(close, behind)?;
@@ -62,46 +46,41 @@ pub(crate) fn read_some_closed<T: Read + Drop>(
 ///
 /// # Errors
 ///
-/// Where the reader of a part stops, or `Stuck` where neither symbol stands behind a part; or want of memory.
+/// Where `read` stops, or `Stuck` where neither symbol stands behind a part; or want of memory.
 #[tactic(auto, unfolding(crate::specs::Combining::any_closed))]
-pub(crate) fn read_any_closed<T: Read + Drop>(
+pub(crate) fn read_any_closed<'a, T: Drop, F: Fn(&'a [Placed]) -> Result<(T, &'a [Placed]), Stop>>(
     alloc: Global,
-    total: usize,
+    read: F,
     close: Symbol,
-    placed: &[Placed],
-) -> Result<(Seq<T>, &[Placed]), Stop>
-    requires { total < 2 ^ 32 }
-    ensures { Gives (λ x. (x.0, tokens x.1.now)) result
-        (combining.any_closed (T.reader total) close (tokens placed.now)) }
+    placed: &'a [Placed],
+) -> Result<(Seq<T>, &'a [Placed]), Stop>
+    requires { F.IsAlwaysCallable read }
+    ensures { (part : Reader T) → Reads part (F.post read) → Gives (λ x. (x.0, tokens x.1.now)) result
+        (combining.any_closed part close (tokens placed.now)) }
 {
     if begins_with(close, placed) {
         return Ok((Seq::new(alloc), &placed[1..]));
     }
-    read_some_closed(alloc, total, Symbol::Comma, close, placed)
+    read_some_closed(alloc, read, Symbol::Comma, close, placed)
 }
 
-/// Parts in parentheses, or nothing.
+/// Parts in parentheses with commas between, or nothing.
 ///
 /// # Errors
 ///
-/// Where the reader of a part stops, or `Stuck` where neither symbol stands behind a part; or want of memory.
+/// Where `read` stops, or `Stuck` where neither symbol stands behind a part; or want of memory.
 #[tactic(auto, unfolding(crate::specs::Combining::in_parens))]
-pub(crate) fn read_in_parens<T: Read + Drop>(
+pub(crate) fn read_in_parens<'a, T: Drop, F: Fn(&'a [Placed]) -> Result<(T, &'a [Placed]), Stop>>(
     alloc: Global,
-    total: usize,
-    placed: &[Placed],
-) -> Result<(Seq<T>, &[Placed]), Stop>
-    requires { total < 2 ^ 32 }
-    ensures { Gives (λ x. (x.0, tokens x.1.now)) result (combining.in_parens (T.reader total) (tokens placed.now)) }
+    read: F,
+    placed: &'a [Placed],
+) -> Result<(Seq<T>, &'a [Placed]), Stop>
+    requires { F.IsAlwaysCallable read }
+    ensures { (part : Reader T) → Reads part (F.post read) → Gives (λ x. (x.0, tokens x.1.now)) result
+        (combining.in_parens part (tokens placed.now)) }
 {
     if begins_with(Symbol::OpenParen, placed) {
-        return read_some_closed(
-            alloc,
-            total,
-            Symbol::Comma,
-            Symbol::CloseParen,
-            &placed[1..],
-        );
+        return read_some_closed(alloc, read, Symbol::Comma, Symbol::CloseParen, &placed[1..]);
     }
     Ok((Seq::new(alloc), placed))
 }

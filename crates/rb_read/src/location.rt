@@ -8,7 +8,6 @@ ghost use Rattle.rb_read.specs.Reading as reading;
 ghost use Rattle.rb_read.specs.Gives.{Gives};
 
 use crate::each::{Repeat, read_each};
-use crate::list::Read;
 use crate::stop::Stop;
 use crate::tokens::{begins_with, expect, read_field, read_number};
 use rb_core::seq::Seq;
@@ -47,8 +46,10 @@ pub fn read_range(placed: &[Placed]) -> Result<((u64, u64), &[Placed]), Stop>
 }
 
 /// `.0`
-impl Read for u32 {
+impl Repeat for u32 {
     ghost reader = { λ _ ts. reading.field_in ts };
+
+    ghost begins = { λ t. starting.is_symbol symbol.Dot t };
 
     #[tactic(auto, unfolding(crate::specs::Reading::field_in, crate::specs::Combining::pair, crate::specs::Combining::into))]
     fn read(_alloc: Global, _total: usize, placed: &[Placed]) -> Result<(u32, &[Placed]), Stop> {
@@ -56,11 +57,6 @@ impl Read for u32 {
         let (field, rest) = read_field(rest)?;
         Ok((field, rest))
     }
-}
-
-/// The fields of a path.
-impl Repeat for u32 {
-    ghost begins = { λ t. starting.is_symbol symbol.Dot t };
 
     fn begins_with(placed: &[Placed]) -> bool {
         begins_with(Symbol::Dot, placed)
@@ -101,8 +97,10 @@ pub fn read_path(
 }
 
 /// `-> 4 @0:8[0:8]`
-impl Read for Step {
+impl Repeat for Step {
     ghost reader = { λ _ ts. reading.loc_step ts };
+
+    ghost begins = { λ t. starting.is_symbol symbol.Arrow t };
 
     #[tactic(auto, unfolding(crate::specs::Reading::loc_step, crate::specs::Combining::pair, crate::specs::Combining::into))]
     fn read(_alloc: Global, _total: usize, placed: &[Placed]) -> Result<(Step, &[Placed]), Stop> {
@@ -122,11 +120,6 @@ impl Read for Step {
         };
         Ok((step, rest))
     }
-}
-
-/// The steps of a location.
-impl Repeat for Step {
-    ghost begins = { λ t. starting.is_symbol symbol.Arrow t };
 
     fn begins_with(placed: &[Placed]) -> bool {
         begins_with(Symbol::Arrow, placed)

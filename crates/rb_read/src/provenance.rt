@@ -1,7 +1,6 @@
 //! Reads provenances.
 
 ghost use Rattle.std.specs.Prelude.{◌≡◌, ◌<◌, ◌^◌};
-ghost use Rattle.rb_syntax.specs.declared.token.Symbol.TheVariants as symbols;
 ghost use Rattle.rb_syntax.specs.declared.tree.PatTree.TheVariants as pats;
 ghost use Rattle.rb_syntax.specs.Tokens.{tokens};
 ghost use Rattle.rb_read.specs.Combining as combining;
@@ -9,8 +8,9 @@ ghost use Rattle.rb_read.specs.Reading as reading;
 ghost use Rattle.rb_read.specs.Gives.{Gives};
 
 use crate::beyond::beyond;
+use crate::list::read_in_parens;
 use crate::stop::Stop;
-use crate::tokens::{begins_with, expect, number_of};
+use crate::tokens::number_of;
 use rb_core::seq::Seq;
 use rb_syntax::token::{Placed, Symbol, Token};
 use rb_syntax::tree::{Name, NameTree, PatTree};
@@ -156,7 +156,6 @@ fn read_constructed<'a>(
 
 // A constructor's parts in parentheses, or nothing.
 #[cycle(below)]
-#[tactic(auto, unfolding(crate::specs::Combining::in_parens))]
 fn read_parts<'a>(
     alloc: Global,
     levels: u32,
@@ -167,35 +166,12 @@ fn read_parts<'a>(
     ensures { Gives (λ x. (x.0, tokens x.1.now)) result
         (combining.in_parens (λ ts. reading.below levels total ts) (tokens placed.now)) }
 {
-    if begins_with(Symbol::OpenParen, placed) {
-        return read_some_below(alloc, levels, total, &placed[1..]);
-    }
-    Ok((Seq::new(alloc), placed))
-}
-
-// One part or more, and the parenthesis behind them.
-#[cycle(below)]
-fn read_some_below<'a>(
-    alloc: Global,
-    levels: u32,
-    total: usize,
-    placed: &'a [Placed],
-) -> Result<(Seq<PatTree>, &'a [Placed]), Stop>
-    requires { total < 2 ^ 32 }
-    ensures { Gives (λ x. (x.0, tokens x.1.now)) result
-        (combining.some_closed (λ ts. reading.below levels total ts) symbols.Comma symbols.CloseParen
-        (tokens placed.now)) }
-{
-    let mut parts = Seq::new(alloc);
-    let mut rest = placed;
-    for _turn in 0..placed.len() {
-        let (part, behind) = read_below(alloc, levels, total, rest)?;
-        parts.push(part)?;
-        if !begins_with(Symbol::Comma, behind) {
-            let behind = expect(Symbol::CloseParen, behind)?;
-            return Ok((parts, behind));
-        }
-        rest = &behind[1..];
-    }
-    Err(Stop::Stuck(0))
+    read_in_parens(
+        alloc,
+        |rest|
+            requires { total < 2 ^ 32 }
+            ensures { Gives (λ x. (x.0, tokens x.1.now)) result (reading.below levels total (tokens rest.now)) }
+        { read_below(alloc, levels, total, rest) },
+        placed,
+    )
 }

@@ -2,12 +2,14 @@
 
 ghost use Rattle.std.specs.Prelude.{◌<◌, ◌^◌};
 ghost use Rattle.rb_syntax.specs.Tokens.{tokens};
+ghost use Rattle.rb_read.specs.Combining as combining;
 ghost use Rattle.rb_read.specs.Reading as reading;
 ghost use Rattle.rb_read.specs.Gives.{Gives};
 
-use crate::list::{Read, read_in_parens};
+use crate::list::read_in_parens;
 use crate::stop::Stop;
 use crate::tokens::{expect, number_of, read_lower, read_upper};
+use rb_core::seq::Seq;
 use rb_syntax::token::{Placed, Symbol, Token};
 use rb_syntax::tree::{ConTree, NameTree, ParamTree, TyTree};
 use std::alloc::Global;
@@ -40,41 +42,55 @@ pub fn read_type(
     }
 }
 
-/// The types of fields.
-impl Read for TyTree {
-    ghost reader = { reading.type_tree };
-
-    fn read(alloc: Global, total: usize, placed: &[Placed]) -> Result<(TyTree, &[Placed]), Stop> {
-        read_type(alloc, total, placed)
-    }
+// The types of a constructor's fields in parentheses, or nothing.
+fn read_fields(
+    alloc: Global,
+    total: usize,
+    placed: &[Placed],
+) -> Result<(Seq<TyTree>, &[Placed]), Stop>
+    requires { total < 2 ^ 32 }
+    ensures { Gives (λ x. (x.0, tokens x.1.now)) result
+        (combining.in_parens (reading.type_tree total) (tokens placed.now)) }
+{
+    read_in_parens(alloc, |rest| read_type(alloc, total, rest), placed)
 }
 
 /// `A` or `B(u8, T)`
-impl Read for ConTree {
-    ghost reader = { reading.con_tree };
-
-    #[tactic(auto, unfolding(crate::specs::Reading::con_tree, crate::specs::Combining::pair, crate::specs::Combining::into))]
-    fn read(alloc: Global, total: usize, placed: &[Placed]) -> Result<(ConTree, &[Placed]), Stop> {
-        let (name, rest) = read_upper(alloc, total, placed)?;
-        let (fields, rest) = read_in_parens(alloc, total, rest)?;
-        Ok((ConTree { name, fields }, rest))
-    }
+///
+/// # Errors
+///
+/// `Stuck` at the first token at which no constructor goes on; or want of memory.
+#[tactic(auto, unfolding(crate::specs::Reading::con_tree, crate::specs::Combining::pair, crate::specs::Combining::into))]
+pub fn read_constructor(
+    alloc: Global,
+    total: usize,
+    placed: &[Placed],
+) -> Result<(ConTree, &[Placed]), Stop>
+    requires { total < 2 ^ 32 }
+    ensures { Gives (λ x. (x.0, tokens x.1.now)) result (reading.con_tree total (tokens placed.now)) }
+{
+    let (name, rest) = read_upper(alloc, total, placed)?;
+    let (fields, rest) = read_fields(alloc, total, rest)?;
+    Ok((ConTree { name, fields }, rest))
 }
 
 /// `x: T`
-impl Read for ParamTree {
-    ghost reader = { reading.param_tree };
-
-    #[tactic(auto, unfolding(crate::specs::Reading::param_tree, crate::specs::Combining::pair, crate::specs::Combining::into))]
-    fn read(
-        alloc: Global,
-        total: usize,
-        placed: &[Placed],
-    ) -> Result<(ParamTree, &[Placed]), Stop> {
-        let (var, rest) = read_lower(alloc, total, placed)?;
-        let rest = expect(Symbol::Colon, rest)?;
-        let (ty, rest) = read_type(alloc, total, rest)?;
-        let at = var.at;
-        Ok((ParamTree { at, var, ty }, rest))
-    }
+///
+/// # Errors
+///
+/// `Stuck` at the first token at which no parameter goes on; or want of memory.
+#[tactic(auto, unfolding(crate::specs::Reading::param_tree, crate::specs::Combining::pair, crate::specs::Combining::into))]
+pub fn read_parameter(
+    alloc: Global,
+    total: usize,
+    placed: &[Placed],
+) -> Result<(ParamTree, &[Placed]), Stop>
+    requires { total < 2 ^ 32 }
+    ensures { Gives (λ x. (x.0, tokens x.1.now)) result (reading.param_tree total (tokens placed.now)) }
+{
+    let (var, rest) = read_lower(alloc, total, placed)?;
+    let rest = expect(Symbol::Colon, rest)?;
+    let (ty, rest) = read_type(alloc, total, rest)?;
+    let at = var.at;
+    Ok((ParamTree { at, var, ty }, rest))
 }

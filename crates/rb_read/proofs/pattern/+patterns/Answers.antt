@@ -1,7 +1,6 @@
-use Rattle.std.proofs.Common.{◌≡◌, ◌-◌, length, sym, arith}
-use Rattle.std.proofs.lemmas.Result.{err_from_is_err_and}
+use Rattle.std.proofs.Common.{rules}
 use Rattle.rb_read.specs.Reading.{pattern, begins_pattern}
-use Rattle.rb_read.proofs.Loops.{tokens-rest, ends-part, ends-close, goes_on, is_done, no_turn, beyond-fails}
+use Rattle.rb_read.proofs.Loops.{beyond-fails}
 use Rattle.rb_read.proofs.pattern.+patterns.Goals as goal
 
 pub read_pattern-returns-then-levels-eq0 : goal.read_pattern-returns-then-levels-eq0
@@ -9,26 +8,5 @@ unfolding pattern
 read_pattern-returns-then-levels-eq0 t c =
     rw (c.beyond.ensures, c.begins_pattern.ensures, c.if-levels-eq0.true) (beyond-fails _ (λ t. begins_pattern t) c.args.placed.now)
 
-pub read_some_patterns-returns-in_err-part : goal.read_some_patterns-returns-in_err-part
-read_some_patterns-returns-in_err-part t c =
-    let p = err_from_is_err_and c.from_residual.result c.from_residual.ensures.1 in
-    rw (p.1, p.2) (ends-part _ _ _ _ _ _ _ _ c.loop-turn-test.true c.loop-turn.invariant _ c.in_err-part.ensures)
-
-pub read_some_patterns-returns-in_err-behind : goal.read_some_patterns-returns-in_err-behind
-read_some_patterns-returns-in_err-behind t c =
-    let p = err_from_is_err_and c.from_residual-in_err-behind.result c.from_residual-in_err-behind.ensures.1 in
-    rw (p.1, p.2) (ends-close _ _ _ _ _ _ _ _ c.loop-turn-test.true c.loop-turn.invariant _ _ _ c.in_ok-part.ensures (sym c.if-not-begins_with.ensures) c.in_err-behind.ensures)
-
-pub read_some_patterns-returns-then-not-begins_with : goal.read_some_patterns-returns-then-not-begins_with
-read_some_patterns-returns-then-not-begins_with t c =
-    rw c.in_ok-push.ensures.ok (is_done _ _ _ _ _ _ _ _ c.loop-turn-test.true c.loop-turn.invariant _ _ _ c.in_ok-part.ensures (sym c.if-not-begins_with.ensures) c.in_ok-behind.ensures)
-
-pub read_some_patterns-loop-turn-preserved : goal.read_some_patterns-loop-turn-preserved
-read_some_patterns-loop-turn-preserved t c =
-    rw (c.in_ok-push.ensures.ok, tokens-rest c.in_ok-part.behind.now)
-    (goes_on _ _ _ _ _ _ _ _ c.loop-turn-test.true c.loop-turn.invariant _ _ c.in_ok-part.ensures (sym c.if-not-begins_with.ensures))
-
-pub read_some_patterns-returns : goal.read_some_patterns-returns
-read_some_patterns-returns t c =
-    let z : length c.args.placed.now - c.loop-turn._turn ≡ 0 = omega arith in
-    no_turn _ _ _ _ _ _ _ _ z c.loop-turn.invariant
+pub read_subpatterns-returns : goal.read_subpatterns-returns
+read_subpatterns-returns t c = c.read_in_parens.ensures (λ ts. pattern c.args.levels c.args.total ts) (λ ps r h. search rules)
