@@ -25,7 +25,7 @@ use Rattle.rb_read.specs.Combining.{Reader, into, nothing, pair, expect, expect_
 use Rattle.rb_read.proofs.Open as open_at
 use Rattle.rb_read.proofs.Open.{Open, one, maybe, next, the, the_word, a_lower, a_width, a_type, fields, begins, as_expr, ahead_of, if_so}
 use Rattle.rb_read.specs.Tokens.{lower_name, width}
-use Rattle.rb_read.specs.Reading.{named, called, type_tree, pattern, begins_expression, is_form, expression_one, expression}
+use Rattle.rb_read.specs.Reading.{named, called, type_tree, pattern, begins_expression, is_form, expression_one, expression, binding_of, clause_of, conversion_of, matching_of, operation_of}
 use Rattle.rb_read.specs.Reading as reading
 use Rattle.rb_read.proofs.Forms.{IsRight, Again, Clear, IsForm}
 use Rattle.rb_read.proofs.FormLaws.{nothing-form, pair-form, first-strict, iso-form, into-strict, alias-form}
@@ -219,12 +219,12 @@ module _ (total limit l : ℕ) (small : nat_lt limit l ≡ false) {inside : Read
       (λ b rest c. refl)))))
 
   abbrev one_clause : Reader ClauseTree
-  one_clause = into (λ p. record { pat = p.0; body = p.1.1 }) (pair inside (pair (expect symbol.FatArrow) inner))
+  one_clause = into clause_of (pair inside (pair (expect symbol.FatArrow) inner))
 
   clause-part : IsPart total limit opens_paren (open_at.clause (suc l)) (at_clause (suc l)) one_clause
   unfolding begins
   clause-part = record {
-    form = alias-form (λ t. refl) (iso-form (λ p. record { pat = p.0; body = p.1.1 }) (λ c. (c.pat, (tt, c.body))) (λ c. refl) (λ p rest. clause-is _ (suc l) rest)
+    form = alias-form (λ t. refl) (iso-form clause_of (λ c. (c.pat, (tt, c.body))) (λ c. refl) (λ p rest. clause-is _ (suc l) rest)
         (pair-form pat-in.form (before-any (symbol-part total limit symbol.FatArrow).form expr-in.form) (λ b rest c. refl)));
     strict = into-strict _ _ (first-strict pat-in.form (before-any (symbol-part total limit symbol.FatArrow).form expr-in.form) pat-in.strict);
   }
@@ -266,13 +266,13 @@ module _ (total limit l : ℕ) (small : nat_lt limit l ≡ false) {inside : Read
 
   form-at : (w : Word) (f : Form) → form_of w ≡ f → IsWordOf f w → AtToken total limit (open_at.expr l) (at_expr l) this (tok.Reserved w)
   unfolding begins expression_one reading.expression_from reading.from_form reading.operation reading.conversion reading.binding reading.matching reading.clause_tree
-  form-at w (form.Operation o) e h = node-at operands-form l (rw e refl) small (λ at p. X.Binary at o p.1.0 p.1.1.1.0) (λ ts. rw e refl) marks
+  form-at w (form.Operation o) e h = node-at operands-form l (rw e refl) small (λ at. operation_of at o) (λ ts. rw e refl) marks
       (λ at. tt) (λ at. (refl, tt)) (λ at. rw small refl) (λ at p rest. rw h (expr-Binary at o p.1.0 p.1.1.1.0 l rest))
-  form-at w form.Conversion e h = node-at conversion-form l (rw e refl) small (λ at p. X.To at p.0 p.1.1.0) (λ ts. rw e refl) marks
+  form-at w form.Conversion e h = node-at conversion-form l (rw e refl) small (λ at. conversion_of at) (λ ts. rw e refl) marks
       (λ at. tt) (λ at. (refl, tt)) (λ at. rw small refl) (λ at p rest. rw h (expr-To at p.0 p.1.1.0 l rest))
-  form-at w form.Binding e h = node-at binding-form l (rw e refl) small (λ at p. X.Let at p.0 p.1.1.0 p.1.1.1.1.0 p.1.1.1.1.1.1) (λ ts. rw e refl) marks
+  form-at w form.Binding e h = node-at binding-form l (rw e refl) small (λ at. binding_of at) (λ ts. rw e refl) marks
       (λ at. tt) (λ at. (refl, tt)) (λ at. rw small refl) (λ at p rest. rw h (expr-Let at p.0 p.1.1.0 p.1.1.1.1.0 p.1.1.1.1.1.1 l rest))
-  form-at w form.Matching e h = node-at matching-form l (rw e refl) small (λ at p. X.Match at p.0 p.1.1) (λ ts. rw e refl) marks
+  form-at w form.Matching e h = node-at matching-form l (rw e refl) small (λ at. matching_of at) (λ ts. rw e refl) marks
       (λ at. tt) (λ at. (refl, tt)) (λ at. rw small refl) (λ at p rest. rw h (match-written at p.0 p.1.1 l rest))
   form-at w form.Other e h = none-at (rw e refl) (λ ts. rw e refl)
 
@@ -299,13 +299,13 @@ module _ (total limit l : ℕ) (small : nat_lt limit l ≡ false) {inside : Read
       (call-written at x es l rest) (λ m h. rw (h.0, ← h.1.0) refl) i c)
       (λ at x es i. node-again build-form (tok.Upper x.text) (λ m es. X.Build m (named m x.text) es) (λ ts. refl) (node l ∷ number at ∷ number x.at ∷ []) tt (rw small refl) _ es rest _
       (build-written at x es l rest) (λ m h. rw (h.0, ← h.1.0) refl) i c)
-      (λ at o a b i. node-again operands-form (tok.Reserved (op_word o)) (λ m p. X.Binary m o p.1.0 p.1.1.1.0) (λ ts. rw (form_of-op_word o) refl) (marks at) tt (rw small refl) _ (tt, (a, (tt, (b, tt)))) rest _
+      (λ at o a b i. node-again operands-form (tok.Reserved (op_word o)) (λ m. operation_of m o) (λ ts. rw (form_of-op_word o) refl) (marks at) tt (rw small refl) _ (tt, (a, (tt, (b, tt)))) rest _
       (expr-Binary at o a b l rest) (λ m h. rw h.0 refl) i clear)
-      (λ at bits a i. node-again conversion-form (tok.Reserved word.To) (λ m p. X.To m p.0 p.1.1.0) (λ ts. refl) (marks at) tt (rw small refl) _ (bits, (tt, (a, tt))) rest _
+      (λ at bits a i. node-again conversion-form (tok.Reserved word.To) (λ m. conversion_of m) (λ ts. refl) (marks at) tt (rw small refl) _ (bits, (tt, (a, tt))) rest _
       (expr-To at bits a l rest) (λ m h. rw h.0 refl) i clear)
-      (λ at x t a b i. node-again binding-form (tok.Reserved word.Let) (λ m p. X.Let m p.0 p.1.1.0 p.1.1.1.1.0 p.1.1.1.1.1.1) (λ ts. refl) (marks at) tt (rw small refl) _ (x, (tt, (t, (tt, (a, (tt, b)))))) rest _
+      (λ at x t a b i. node-again binding-form (tok.Reserved word.Let) (λ m. binding_of m) (λ ts. refl) (marks at) tt (rw small refl) _ (x, (tt, (t, (tt, (a, (tt, b)))))) rest _
       (expr-Let at x t a b l rest) (λ m h. rw h.0 refl) i c)
-      (λ at a cs i. node-again matching-form (tok.Reserved word.Match) (λ m p. X.Match m p.0 p.1.1) (λ ts. refl) (marks at) tt (rw small refl) _ (a, (tt, cs)) rest _
+      (λ at a cs i. node-again matching-form (tok.Reserved word.Match) (λ m. matching_of m) (λ ts. refl) (marks at) tt (rw small refl) _ (a, (tt, cs)) rest _
       (match-written at a cs l rest) (λ m h. rw h.0 refl) i clear) where
         clear : Clear none (tokens_in rest)
         clear = all-clear (tokens_in rest)

@@ -20,7 +20,7 @@ use Rattle.rb_read.specs.Combining.{Reader, Reading, ◌>>=◌, pair, into, expe
 use Rattle.rb_read.proofs.Open.{Open, one, maybe, many, first, the, a_number, a_field, a_range, into_field, begins, if_so, ahead_of}
 use Rattle.rb_read.proofs.Open as open_at
 use Rattle.rb_read.specs.Tokens.{number, field}
-use Rattle.rb_read.specs.Reading.{PathEnd, sliced, numbered, ends_path, range_rest, range, field_in, more_fields, path, path_end_from, held, part_kind_from, part_kind, part, item_from, item_one, no_pointer, pointer, lay_item_tree}
+use Rattle.rb_read.specs.Reading.{PathEnd, sliced, numbered, ends_path, range_rest, range, field_in, more_fields, path, path_end_from, held, part_kind_from, part_kind, part, item_from, item_one, no_pointer, pointer, lay_item_tree, held_of, pointer_of, word_of}
 use Rattle.rb_read.specs.Reading as reading
 use Rattle.rb_read.proofs.Forms.{IsRight, Again, Clear, IsForm}
 use Rattle.rb_read.proofs.FormLaws.{nat_lt-zero, all-clear, pair-form, first-strict, iso-form, bars-form, into-strict, alias-form}
@@ -157,7 +157,7 @@ module _ (total limit l : ℕ) (pointed : Reader PartKind) (arrow : IsPointed to
   unfolding begins part_kind part_kind_from
   kind-on (tok.Symbol symbol.Equals) = node-at (number-part total limit).form 0 refl (nat_lt-zero limit) (λ at n. K.Const n) (λ ts. refl) (λ at. [])
       (λ at. tt) (λ at. tt) (λ at. refl) (λ at n rest. kind-Const n l rest)
-  kind-on (tok.Symbol symbol.Dot) = node-at (dotted-form total limit) 0 refl (nat_lt-zero limit) (λ at p. held (p.0 ∷ p.1.0) p.1.1) (λ ts. refl) (λ at. [])
+  kind-on (tok.Symbol symbol.Dot) = node-at (dotted-form total limit) 0 refl (nat_lt-zero limit) (λ at. held_of) (λ ts. refl) (λ at. [])
       (λ at. tt) (λ at. tt) (λ at. refl) (λ at p rest. held-written p.0 p.1.0 p.1.1 l rest)
   kind-on (tok.Symbol symbol.Arrow) = arrow.on
   kind-on _ = none-at refl (λ ts. refl)
@@ -167,7 +167,7 @@ module _ (total limit l : ℕ) (pointed : Reader PartKind) (arrow : IsPointed to
       → Again total limit (part_kind pointed) (held ns o) (at_kind l (held ns o) rest) rest
   unfolding part_kind part_kind_from
   held-again [] o rest i c = absurd (flawed-path total o l rest i)
-  held-again (n ∷ ns) o rest i c = node-again (dotted-form total limit) (tok.Symbol symbol.Dot) (λ at p. held (p.0 ∷ p.1.0) p.1.1) (λ ts. refl) [] tt refl _ (n, (ns, o)) rest _
+  held-again (n ∷ ns) o rest i c = node-again (dotted-form total limit) (tok.Symbol symbol.Dot) (λ at. held_of) (λ ts. refl) [] tt refl _ (n, (ns, o)) rest _
       (held-written n ns o l rest) (λ at h. refl) i c
 
   kind-again : (rest : List Written) → Clear path_bars (tokens_in rest) → (k : PartKind) → IsRight total (at_kind l k rest)
@@ -216,7 +216,7 @@ module _ (total limit l : ℕ) (pointed : Reader PartKind) (arrow : IsPointed to
 
   item-on : (t : Token) → AtToken total limit (open_at.lay_item l) (at_item l) (item_one pointed) t
   unfolding begins item_one item_from
-  item-on (tok.Reserved word.Word) = node-at parts-form 0 refl (nat_lt-zero limit) (λ at p. I.Word p.0 p.1.1) (λ ts. refl) (λ at. [])
+  item-on (tok.Reserved word.Word) = node-at parts-form 0 refl (nat_lt-zero limit) (λ at. word_of) (λ ts. refl) (λ at. [])
       (λ at. tt) (λ at. tt) (λ at. refl) (λ at p rest. word-written p.0 p.1.1 l rest)
   item-on (tok.Reserved word.Inline) = node-at fields-form 0 refl (nat_lt-zero limit) (λ at p. I.Inline (p.0 ∷ p.1)) (λ ts. inline-reads ts) (λ at. [])
       (λ at. tt) (λ at. tt) (λ at. refl) (λ at p rest. item-Inline (p.0 ∷ p.1) l rest)
@@ -232,7 +232,7 @@ module _ (total limit l : ℕ) (pointed : Reader PartKind) (arrow : IsPointed to
       → Again total limit (item_one pointed) x (at_item l x rest) rest
   unfolding item_one item_from
   item-again rest c = item_by_form (λ x. IsRight total (at_item l x rest) → Again total limit (item_one pointed) x (at_item l x rest) rest)
-      (λ bits parts i. node-again parts-form (tok.Reserved word.Word) (λ at p. I.Word p.0 p.1.1) (λ ts. refl) [] tt refl _ (bits, (tt, parts)) rest _
+      (λ bits parts i. node-again parts-form (tok.Reserved word.Word) (λ at. word_of) (λ ts. refl) [] tt refl _ (bits, (tt, parts)) rest _
       (word-written bits parts l rest) (λ at h. refl) i (all-clear (tokens_in rest)))
       (λ ns i. inline-again rest c ns i)
 
@@ -260,9 +260,9 @@ module _ (total limit l : ℕ) (small : nat_lt limit l ≡ false) {inner : Reade
   pointed-above : IsPointed total limit l (pointer inner)
   unfolding begins part_kind part_kind_from pointer
   pointed-above = record {
-    on = node-at block-form l refl small (λ at p. K.Pointer p.0 p.1.1) (λ ts. refl) (λ at. node l ∷ []) (λ at. tt) (λ at. tt) (λ at. rw small refl)
+    on = node-at block-form l refl small (λ at. pointer_of) (λ ts. refl) (λ at. node l ∷ []) (λ at. tt) (λ at. tt) (λ at. rw small refl)
         (λ at p rest. pointer-written p.0 p.1.1 l rest);
-    again = λ align items rest i. node-again block-form (tok.Symbol symbol.Arrow) (λ at p. K.Pointer p.0 p.1.1) (λ ts. refl) (node l ∷ []) tt (rw small refl) _ (align, (tt, items)) rest _
+    again = λ align items rest i. node-again block-form (tok.Symbol symbol.Arrow) (λ at. pointer_of) (λ ts. refl) (node l ∷ []) tt (rw small refl) _ (align, (tt, items)) rest _
         (pointer-written align items l rest) (λ at h. refl) i (all-clear (tokens_in rest));
   }
 

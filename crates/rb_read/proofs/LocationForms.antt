@@ -11,7 +11,7 @@ use Rattle.rb_read.specs.Combining.{pair, expect, each_of}
 use Rattle.rb_read.proofs.Open.{Open, one, maybe, many, the, a_number, a_field, a_range, into_field, begins, if_so, ahead_of}
 use Rattle.rb_read.proofs.Open as open_at
 use Rattle.rb_read.specs.Tokens.{number}
-use Rattle.rb_read.specs.Reading.{range_rest, range, field_in, more_fields, path, location}
+use Rattle.rb_read.specs.Reading.{range_rest, range, field_in, more_fields, path, location, location_of, range_of, step_of}
 use Rattle.rb_read.specs.Reading as reading
 use Rattle.rb_read.proofs.Forms.{IsForm}
 use Rattle.rb_read.proofs.FormLaws.{first-strict, iso-form, into-strict, alias-form}
@@ -36,7 +36,7 @@ range_rest_written r rest = num r.0 ∷ token (tok.Symbol symbol.Colon) ∷ num 
 
 pub range_rest-form : (total limit : ℕ) → IsForm total limit (λ _. false) open_at.range_rest range_rest_written range_rest
 unfolding range_rest
-range_rest-form total limit = iso-form (λ p. (p.0, p.1.1.0)) (λ r. (r.0, (tt, (r.1, tt)))) (λ r. refl) (λ p rest. refl)
+range_rest-form total limit = iso-form range_of (λ r. (r.0, (tt, (r.1, tt)))) (λ r. refl) (λ p rest. refl)
     (before-any (number-part total limit).form
     (before-any (symbol-part total limit symbol.Colon).form
     (before-any (number-part total limit).form (symbol-part total limit symbol.CloseBracket).form)))
@@ -70,7 +70,7 @@ opens_arrow t = is_symbol symbol.Arrow t
 pub loc_step-part : (total limit : ℕ) → IsPart total limit (λ _. false) open_at.loc_step loc_step_written reading.loc_step
 unfolding begins reading.loc_step
 loc_step-part total limit = record {
-  form = alias-form (λ t. by_symbol symbol.Arrow _ t) (iso-form (λ p. record { align = p.1.0; byte = p.1.1.1.0; width = p.1.1.1.1.1.0; o = p.1.1.1.1.1.1.0; l = p.1.1.1.1.1.1.1 })
+  form = alias-form (λ t. by_symbol symbol.Arrow _ t) (iso-form step_of
       (λ s. (tt, (s.align, (tt, (s.byte, (tt, (s.width, (s.o, s.l)))))))) (λ s. refl) (λ p rest. refl)
       (before-any (symbol-part total limit symbol.Arrow).form behind));
   strict = into-strict _ _ (first-strict (symbol-part total limit symbol.Arrow).form behind (symbol-part total limit symbol.Arrow).strict);
@@ -87,7 +87,7 @@ loc_step-part total limit = record {
 
 pub location-form : (total limit : ℕ) → IsForm total limit opens_arrow (one a_number ∷ one a_range ∷ many open_at.loc_step ∷ []) loc_written location
 unfolding begins location
-location-form total limit = iso-form (λ p. record { word = p.0; o = p.1.0.0; l = p.1.0.1; steps = p.1.1 }) (λ x. (x.word, ((x.o, x.l), x.steps))) (λ x. refl) (λ p rest. refl)
+location-form total limit = iso-form location_of (λ x. (x.word, ((x.o, x.l), x.steps))) (λ x. refl) (λ p rest. refl)
     (before-any (number-part total limit).form (before-any (range-part total limit).form steps)) where
       steps : IsForm total limit opens_arrow (many open_at.loc_step ∷ []) (λ ss rest. each (map loc_step_written ss) rest) (each_of opens_arrow reading.loc_step)
       steps = each-form (loc_step-part total limit) opens_arrow (λ t. is_so (is_symbol symbol.Arrow t) _) (λ t. refl)

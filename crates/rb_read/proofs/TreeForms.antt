@@ -24,7 +24,7 @@ use Rattle.rb_read.specs.Starting.{is_word, is_number}
 use Rattle.rb_read.specs.Combining.{Reader, pair, expect, optional, some_closed, each_of, beyond}
 use Rattle.rb_read.proofs.Open.{Open, one, maybe, many, first, next, the, the_word, a_number, a_range, begins, if_so, ahead_of}
 use Rattle.rb_read.proofs.Open as open_at
-use Rattle.rb_read.specs.Reading.{begins_tree, arm_tree, else_tree, split_rest, leaf, tree_by, layout_tree, location, lay_item_tree, provenance}
+use Rattle.rb_read.specs.Reading.{begins_tree, arm_tree, else_tree, split_rest, leaf, tree_by, layout_tree, location, lay_item_tree, provenance, arm_of, else_of, leaf_of, split_of}
 use Rattle.rb_read.proofs.Forms.{IsRight, Again, Clear, IsForm}
 use Rattle.rb_read.proofs.FormLaws.{all-clear, pair-form, first-strict, iso-form, into-strict, alias-form}
 use Rattle.rb_read.proofs.NodeForms.{AtToken, IsPart, part-form, none-at, node-at, node-again, whole-at, whole-again, IsDeep, IsDeepBegun, zero-form}
@@ -159,7 +159,7 @@ module _ (total limit l n : ℕ) (fits : l + suc n ≡ suc limit) {inner : Reade
   arm-part : IsPart total limit none (open_at.arm (suc l)) (at_arm (suc l)) (arm_tree inner)
   unfolding begins arm_tree
   arm-part = record {
-    form = alias-form begun (iso-form (λ p. record { literal = p.0; under = p.1.1 }) (λ a. (a.literal, (tt, a.under))) (λ a. refl) (λ p rest. arm-is _ (suc l) rest)
+    form = alias-form begun (iso-form arm_of (λ a. (a.literal, (tt, a.under))) (λ a. refl) (λ p rest. arm-is _ (suc l) rest)
         (before-any (number-part total limit).form arm-behind));
     strict = into-strict _ _ (first-strict (number-part total limit).form arm-behind (number-part total limit).strict);
   } where
@@ -170,7 +170,7 @@ module _ (total limit l n : ℕ) (fits : l + suc n ≡ suc limit) {inner : Reade
   else-part : IsPart total limit none (open_at.other (suc l)) (else_behind (suc l)) (else_tree inner)
   unfolding begins else_tree
   else-part = record {
-    form = alias-form (λ t. by_word word.Else _ t) (iso-form (λ p. p.1.1) (λ t. (tt, (tt, t))) (λ t. refl) (λ p rest. refl)
+    form = alias-form (λ t. by_word word.Else _ t) (iso-form else_of (λ t. (tt, (tt, t))) (λ t. refl) (λ p rest. refl)
         (before-any (word-part total limit word.Else).form arm-behind));
     strict = into-strict _ _ (first-strict (word-part total limit word.Else).form arm-behind (word-part total limit word.Else).strict);
   }
@@ -223,9 +223,9 @@ module _ (total limit l n : ℕ) (fits : l + suc n ≡ suc limit) {inner : Reade
 
   tree-on : (t : Token) → AtToken total limit (open_at.tree l) (at_tree l) this t
   unfolding begins tree_by split_rest leaf
-  tree-on (tok.Reserved word.Split) = node-at split-form l refl small (λ at p. S.Split p.0 p.1.1.0 p.1.1.1.0) (λ ts. refl) (λ at. node l ∷ [])
+  tree-on (tok.Reserved word.Split) = node-at split-form l refl small (λ at. split_of) (λ ts. refl) (λ at. node l ∷ [])
       (λ at. tt) (λ at. tt) (λ at. rw small refl) (λ at p rest. split-written p.0 p.1.1.0 p.1.1.1.0 l rest)
-  tree-on (tok.Upper x) = whole-at leaf-form refl (λ at p. S.Leaf at p.0 p.1.1.1) (λ ts. refl) (first-strict provenance-in.form leaf-behind provenance-in.strict) (λ at. node l ∷ number at ∷ [])
+  tree-on (tok.Upper x) = whole-at leaf-form refl (λ at. leaf_of at) (λ ts. refl) (first-strict provenance-in.form leaf-behind provenance-in.strict) (λ at. node l ∷ number at ∷ [])
       (λ at. tt) (λ at. (refl, tt)) (λ at. rw small refl) (λ at p rest. leaf-written at p.0 p.1.1.1 l rest)
   tree-on _ = none-at refl (λ ts. refl)
 
@@ -236,7 +236,7 @@ module _ (total limit l n : ℕ) (fits : l + suc n ≡ suc limit) {inner : Reade
       let vs : List Written = items_written (suc l) items rest in
       let j : IsRight total (node l ∷ number at ∷ prov_written p (suc l) vs) = subst (λ ws. IsRight total ws) (leaf-written at p items l rest) i in
       constructor-of (λ q. IsRight total (at_tree l (S.Leaf at q items) rest) → Again total limit this (S.Leaf at q items) (at_tree l (S.Leaf at q items) rest) rest) total (suc l) vs
-      (λ m x ps i'. whole-again leaf-form (tok.Upper x.text) (λ a y. S.Leaf a y.0 y.1.1.1) (λ ts. refl) (node l ∷ number at ∷ []) tt (rw small refl) _ (P.Con m x ps, (tt, (tt, items)))
+      (λ m x ps i'. whole-again leaf-form (tok.Upper x.text) (λ a. leaf_of a) (λ ts. refl) (node l ∷ number at ∷ []) tt (rw small refl) _ (P.Con m x ps, (tt, (tt, items)))
       (tokens_in (fields_written (map (λ q. below_written q (suc (suc l))) ps) vs)) rest _ (leaf-written at (P.Con m x ps) items l rest)
       (ap tokens_in (prov-con-written m x ps (suc l) vs)) (λ a h. rw h.0 refl) i' (all-clear (tokens_in rest)))
       p (j.0, j.1.1) i
@@ -244,7 +244,7 @@ module _ (total limit l n : ℕ) (fits : l + suc n ≡ suc limit) {inner : Reade
   tree-again : (rest : List Written) → (t : SplitTree) → IsRight total (at_tree l t rest) → Again total limit this t (at_tree l t rest) rest
   unfolding tree_by split_rest
   tree-again rest = tree_by_form (λ t. IsRight total (at_tree l t rest) → Again total limit this t (at_tree l t rest) rest)
-      (λ loc arms other i. node-again split-form (tok.Reserved word.Split) (λ at p. S.Split p.0 p.1.1.0 p.1.1.1.0) (λ ts. refl) (node l ∷ []) tt (rw small refl) _ (loc, (tt, (arms, (other, tt)))) rest _
+      (λ loc arms other i. node-again split-form (tok.Reserved word.Split) (λ at. split_of) (λ ts. refl) (node l ∷ []) tt (rw small refl) _ (loc, (tt, (arms, (other, tt)))) rest _
       (split-written loc arms other l rest) (λ at h. refl) i (all-clear (tokens_in rest)))
       (λ at p items i. leaf-again rest at p items i)
 

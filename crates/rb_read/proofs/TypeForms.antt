@@ -11,7 +11,7 @@ use Rattle.rb_read.specs.Starting.{is_symbol}
 use Rattle.rb_read.specs.Combining.{Reading, Reader, ◌>>=◌, pair, into, nothing, expect, in_parens}
 use Rattle.rb_read.specs.Tokens.{lower_name}
 use Rattle.rb_read.proofs.Open.{Open, one, maybe, the, an_upper, fields, a_type, a_con, a_param, begins, ahead_of}
-use Rattle.rb_read.specs.Reading.{named, type_from, type_tree, con_tree, param_tree}
+use Rattle.rb_read.specs.Reading.{named, type_from, type_tree, con_tree, param_tree, parameter_of}
 use Rattle.rb_read.proofs.Forms.{IsRight, Again, Clear, IsForm}
 use Rattle.rb_read.proofs.FormLaws.{nat_lt-zero, nothing-form, pair-form, first-strict, iso-form, into-strict, alias-form}
 use Rattle.rb_read.proofs.ListForms.{in_parens-form}
@@ -82,7 +82,7 @@ param-part total limit = part-form refl on
     (number x.at ∷ number x.var.at ∷ []) tt refl x (tt, x.ty) rest _ refl (λ at h. rw (← h.0) (ap (λ (m : ℕ). record { at = x.at; var = named m x.var.text; ty = x.ty }) (h.0 ∙ sym h.1.0))) i c) where
       reads : (name : List ℕ) (ts : List Token) → param_tree total (tok.Lower name ∷ ts)
           ≡ into (λ p. record { at = total - suc (length ts); var = named (total - suc (length ts)) name; ty = p.1 }) (pair (expect symbol.Colon) (type_tree total)) ts
-      reads name ts = behind-name (λ p. record { at = p.0.at; var = p.0; ty = p.1.1 }) (named (total - suc (length ts)) name) (pair (expect symbol.Colon) (type_tree total) ts)
+      reads name ts = behind-name parameter_of (named (total - suc (length ts)) name) (pair (expect symbol.Colon) (type_tree total) ts)
 
       on : (t : Token) → AtToken total limit a_param param_written (param_tree total) t
       on (tok.Lower x) = node-at (param-taken total limit) 0 refl (nat_lt-zero limit) (λ at p. record { at = at; var = named at x; ty = p.1 }) (λ ts. reads x ts) (λ at. number at ∷ number at ∷ [])

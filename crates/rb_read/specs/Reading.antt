@@ -1,5 +1,5 @@
--- Reading of files, form by form, as functions on lists of tokens. Nodes are counted by the levels that are left; `total` is
--- the number of all tokens of the file, so that what begins at `ts` has the number `total - length ts`.
+-- Reading of files, form by form, as functions on lists of tokens. Nodes are counted by the levels that are left;
+-- `total` is the number of all tokens of the file, so that what begins at `ts` has the number `total - length ts`.
 use Rattle.std.specs.Prelude.{ℕ, zero, suc, ◌-◌, List, [], ◌∷◌, length, Bool, true, false, if◌then◌else◌, Option, Some, None, Ok, Err}
 use Rattle.rb_core.specs.declared.expression.Op.{Op}
 use Rattle.rb_core.specs.declared.types.Auto.TheVariants as auto
@@ -57,10 +57,16 @@ type_tree total [] = Err (stuck 0)
 type_tree total (t ∷ ts) = type_from total t ts
 
 unfoldable pub con_tree : ℕ → Reader ConTree
-con_tree total = into (λ p. record { name = p.0; fields = p.1 }) (pair (upper_name total) (in_parens (type_tree total)))
+con_tree total = into (λ (name, fields). record { name = name; fields = fields })
+    (pair (upper_name total) (in_parens (type_tree total)))
+
+-- What is made of a form takes the form's parts in their order, with `_` for each symbol or word between them.
+
+abbrev pub parameter_of : NameTree × (Unit {0} × TyTree) → ParamTree
+parameter_of (name, (_, ty)) = record { at = name.at; var = name; ty = ty }
 
 unfoldable pub param_tree : ℕ → Reader ParamTree
-param_tree total = into (λ p. record { at = p.0.at; var = p.0; ty = p.1.1 }) (pair (lower_name total) (pair (expect symbol.Colon) (type_tree total)))
+param_tree total = into parameter_of (pair (lower_name total) (pair (expect symbol.Colon) (type_tree total)))
 
 -- Patterns and provenances.
 
@@ -138,27 +144,47 @@ abbrev pub called : ℕ → List ℕ → Option (List ExprTree) → ExprTree
 called at name None = expr.Var at (named at name)
 called at name (Some es) = expr.Call at (named at name) es
 
+abbrev pub operation_of : ℕ → Op → Unit {0} × (ExprTree × (Unit {0} × (ExprTree × Unit {0}))) → ExprTree
+operation_of at op (_, (first, (_, (second, _)))) = expr.Binary at op first second
+
+abbrev pub conversion_of : ℕ → ℕ × (Unit {0} × (ExprTree × Unit {0})) → ExprTree
+conversion_of at (bits, (_, (converted, _))) = expr.To at bits converted
+
+abbrev pub binding_of : ℕ → NameTree × (Unit {0} × (TyTree × (Unit {0} × (ExprTree × (Unit {0} × ExprTree)))))
+    → ExprTree
+binding_of at (name, (_, (ty, (_, (bound, (_, body)))))) = expr.Let at name ty bound body
+
+abbrev pub clause_of : PatTree × (Unit {0} × ExprTree) → ClauseTree
+clause_of (pattern, (_, body)) = record { pat = pattern; body = body }
+
+abbrev pub matching_of : ℕ → ExprTree × (Unit {0} × List ClauseTree) → ExprTree
+matching_of at (matched, (_, clauses)) = expr.Match at matched clauses
+
 -- over the readers of the patterns and expressions inside, with the number of the node's token
 module _ (inside : Reader PatTree) (inner : Reader ExprTree) (total at : ℕ) where
   unfoldable pub arguments : Reader (Option (List ExprTree))
-  arguments = optional (λ t. is_symbol symbol.OpenParen t) (into (λ p. p.1) (pair (expect symbol.OpenParen) (any_closed inner symbol.CloseParen)))
+  arguments = optional (λ t. is_symbol symbol.OpenParen t)
+      (into (λ p. p.1) (pair (expect symbol.OpenParen) (any_closed inner symbol.CloseParen)))
 
   unfoldable pub operation : Op → Reader ExprTree
-  operation op = into (λ p. expr.Binary at op p.1.0 p.1.1.1.0)
+  operation op = into (operation_of at op)
       (pair (expect symbol.OpenParen) (pair inner (pair (expect symbol.Comma) (pair inner (expect symbol.CloseParen)))))
 
   unfoldable pub conversion : Reader ExprTree
-  conversion = into (λ p. expr.To at p.0 p.1.1.0) (pair width (pair (expect symbol.OpenParen) (pair inner (expect symbol.CloseParen))))
+  conversion = into (conversion_of at)
+      (pair width (pair (expect symbol.OpenParen) (pair inner (expect symbol.CloseParen))))
 
   unfoldable pub binding : Reader ExprTree
-  binding = into (λ p. expr.Let at p.0 p.1.1.0 p.1.1.1.1.0 p.1.1.1.1.1.1)
-      (pair (lower_name total) (pair (expect symbol.Colon) (pair (type_tree total) (pair (expect symbol.Equals) (pair inner (pair (expect_word word.In) inner))))))
+  binding = into (binding_of at)
+      (pair (lower_name total) (pair (expect symbol.Colon) (pair (type_tree total)
+      (pair (expect symbol.Equals) (pair inner (pair (expect_word word.In) inner))))))
 
   unfoldable pub clause_tree : Reader ClauseTree
-  clause_tree = into (λ p. record { pat = p.0; body = p.1.1 }) (pair inside (pair (expect symbol.FatArrow) inner))
+  clause_tree = into clause_of (pair inside (pair (expect symbol.FatArrow) inner))
 
   unfoldable pub matching : Reader ExprTree
-  matching = into (λ p. expr.Match at p.0 p.1.1) (pair inner (pair (expect symbol.OpenBrace) (some_closed clause_tree symbol.Comma symbol.CloseBrace)))
+  matching = into (matching_of at)
+      (pair inner (pair (expect symbol.OpenBrace) (some_closed clause_tree symbol.Comma symbol.CloseBrace)))
 
   unfoldable pub from_form : Form → Reader ExprTree
   from_form (form.Operation op) ts = operation op ts
@@ -185,8 +211,13 @@ expression (suc n) total ts = expression_one (λ us. pattern n total us) (λ us.
 
 -- Ranges, paths and locations.
 
+-- its first bit and its length
+abbrev pub range_of : ℕ × (Unit {0} × (ℕ × Unit {0})) → ℕ × ℕ
+range_of (first, (_, (bits, _))) = (first, bits)
+
 unfoldable pub range_rest : Reader (ℕ × ℕ)
-range_rest = into (λ p. (p.0, p.1.1.0)) (pair number (pair (expect symbol.Colon) (pair number (expect symbol.CloseBracket))))
+range_rest = into range_of
+    (pair number (pair (expect symbol.Colon) (pair number (expect symbol.CloseBracket))))
 
 unfoldable pub range : Reader (ℕ × ℕ)
 range = into (λ p. p.1) (pair (expect symbol.OpenBracket) range_rest)
@@ -199,14 +230,22 @@ unfoldable pub more_fields : Reader (List ℕ)
 more_fields = each_of (λ t. is_symbol symbol.Dot t) field_in
 
 unfoldable pub path : Reader (List ℕ)
-path = into (λ p. p.0 ∷ p.1) (pair field_in more_fields)
+path = into (λ (first, others). first ∷ others) (pair field_in more_fields)
+
+abbrev pub step_of : Unit {0} × (ℕ × (Unit {0} × (ℕ × (Unit {0} × (ℕ × (ℕ × ℕ)))))) → Step
+step_of (_, (align, (_, (byte, (_, (width, (first, bits))))))) =
+    record { align = align; byte = byte; width = width; o = first; l = bits }
 
 unfoldable pub loc_step : Reader Step
-loc_step = into (λ p. record { align = p.1.0; byte = p.1.1.1.0; width = p.1.1.1.1.1.0; o = p.1.1.1.1.1.1.0; l = p.1.1.1.1.1.1.1 })
-    (pair (expect symbol.Arrow) (pair number (pair (expect symbol.At) (pair number (pair (expect symbol.Colon) (pair number range))))))
+loc_step = into step_of
+    (pair (expect symbol.Arrow) (pair number (pair (expect symbol.At) (pair number
+    (pair (expect symbol.Colon) (pair number range))))))
+
+abbrev pub location_of : ℕ × ((ℕ × ℕ) × List Step) → Loc
+location_of (word, ((first, bits), steps)) = record { word = word; o = first; l = bits; steps = steps }
 
 unfoldable pub location : Reader Loc
-location = into (λ p. record { word = p.0; o = p.1.0.0; l = p.1.0.1; steps = p.1.1 }) (pair number (pair range (each_of (λ t. is_symbol symbol.Arrow t) loc_step)))
+location = into location_of (pair number (pair range (each_of (λ t. is_symbol symbol.Arrow t) loc_step)))
 
 -- Parts and items of a leaf.
 
@@ -233,11 +272,21 @@ held fields None = kind.Whole fields
 held fields (Some (sliced first bits)) = kind.Slice fields first bits
 held fields (Some (numbered j)) = kind.Word fields j
 
+abbrev pub held_of : ℕ × (List ℕ × Option PathEnd) → PartKind
+held_of (first, (others, end)) = held (first ∷ others) end
+
+abbrev pub part_of : (ℕ × ℕ) × PartKind → PartDecl
+part_of ((first, bits), kind) = record { o = first; l = bits; kind = kind }
+
+abbrev pub word_of : ℕ × (Unit {0} × List PartDecl) → LayItem
+word_of (bits, (_, parts)) = lay_item.Word bits parts
+
 -- over the reader of what stands behind `->` in a part
 module _ (pointed : Reader PartKind) where
   unfoldable pub part_kind_from : Token → Reader PartKind
   part_kind_from (token.Symbol symbol.Equals) ts = into (λ n. kind.Const n) number ts
-  part_kind_from (token.Symbol symbol.Dot) ts = into (λ p. held (p.0 ∷ p.1.0) p.1.1) (pair field (pair more_fields (optional ends_path path_end))) ts
+  part_kind_from (token.Symbol symbol.Dot) ts =
+      into held_of (pair field (pair more_fields (optional ends_path path_end))) ts
   part_kind_from (token.Symbol symbol.Arrow) ts = pointed ts
   part_kind_from _ ts = refused ts
 
@@ -246,10 +295,11 @@ module _ (pointed : Reader PartKind) where
   part_kind (t ∷ ts) = part_kind_from t ts
 
   unfoldable pub part : Reader PartDecl
-  part = into (λ p. record { o = p.0.0; l = p.0.1; kind = p.1 }) (pair range part_kind)
+  part = into part_of (pair range part_kind)
 
   unfoldable pub item_from : Token → Reader LayItem
-  item_from (token.Reserved word.Word) ts = into (λ p. lay_item.Word p.0 p.1.1) (pair number (pair (expect symbol.OpenBrace) (any_closed part symbol.CloseBrace))) ts
+  item_from (token.Reserved word.Word) ts =
+      into word_of (pair number (pair (expect symbol.OpenBrace) (any_closed part symbol.CloseBrace))) ts
   item_from (token.Reserved word.Inline) ts = into (λ p. lay_item.Inline p) path ts
   item_from _ ts = refused ts
 
@@ -261,8 +311,12 @@ module _ (pointed : Reader PartKind) where
 unfoldable pub no_pointer : Reader PartKind
 no_pointer ts = Err (deep (suc (length ts)))
 
+abbrev pub pointer_of : ℕ × (Unit {0} × List LayItem) → PartKind
+pointer_of (align, (_, items)) = kind.Pointer align items
+
 unfoldable pub pointer : Reader LayItem → Reader PartKind
-pointer inner = into (λ p. kind.Pointer p.0 p.1.1) (pair number (pair (expect symbol.OpenBrace) (any_closed inner symbol.CloseBrace)))
+pointer inner = into pointer_of
+    (pair number (pair (expect symbol.OpenBrace) (any_closed inner symbol.CloseBrace)))
 
 -- a word or the words of a field, with so many levels left for the pointer parts in it
 unfoldable pub lay_item_tree : ℕ → Reader LayItem
@@ -281,20 +335,33 @@ begins_tree (token.Reserved w) = is_word word.Split (token.Reserved w)
 begins_tree (token.Upper name) = true
 begins_tree _ = false
 
+abbrev pub arm_of : ℕ × (Unit {0} × SplitTree) → ArmTree
+arm_of (literal, (_, under)) = record { literal = literal; under = under }
+
 unfoldable pub arm_tree : Reader SplitTree → Reader ArmTree
-arm_tree inner = into (λ p. record { literal = p.0; under = p.1.1 }) (pair number (pair (expect symbol.FatArrow) inner))
+arm_tree inner = into arm_of (pair number (pair (expect symbol.FatArrow) inner))
+
+abbrev pub else_of : Unit {0} × (Unit {0} × SplitTree) → SplitTree
+else_of (_, (_, under)) = under
 
 unfoldable pub else_tree : Reader SplitTree → Reader SplitTree
-else_tree inner = into (λ p. p.1.1) (pair (expect_word word.Else) (pair (expect symbol.FatArrow) inner))
+else_tree inner = into else_of (pair (expect_word word.Else) (pair (expect symbol.FatArrow) inner))
+
+abbrev pub split_of : Loc × (Unit {0} × (List ArmTree × (Option SplitTree × Unit {0}))) → SplitTree
+split_of (loc, (_, (arms, (other, _)))) = split.Split loc arms other
 
 unfoldable pub split_rest : Reader SplitTree → Reader SplitTree
-split_rest inner = into (λ p. split.Split p.0 p.1.1.0 p.1.1.1.0)
+split_rest inner = into split_of
     (pair location (pair (expect symbol.OpenBrace) (pair (each_of is_number (arm_tree inner))
     (pair (optional (λ t. is_word word.Else t) (else_tree inner)) (expect symbol.CloseBrace)))))
 
+abbrev pub leaf_of : ℕ → PatTree × (Unit {0} × (Unit {0} × List LayItem)) → SplitTree
+leaf_of at (provenance, (_, (_, items))) = split.Leaf at provenance items
+
 unfoldable pub leaf : ℕ → ℕ → ℕ → Reader SplitTree
-leaf n total at = into (λ p. split.Leaf at p.0 p.1.1.1)
-    (pair (provenance n total) (pair (expect symbol.Colon) (pair (expect symbol.OpenBrace) (some_closed (lay_item_tree n) symbol.Comma symbol.CloseBrace))))
+leaf n total at = into (leaf_of at)
+    (pair (provenance n total) (pair (expect symbol.Colon) (pair (expect symbol.OpenBrace)
+    (some_closed (lay_item_tree n) symbol.Comma symbol.CloseBrace))))
 
 -- by the first token: a split, behind its word, or a leaf
 unfoldable pub tree_by : Reader SplitTree → Reader SplitTree → Reader SplitTree
@@ -324,12 +391,25 @@ unfoldable pub auto_word : Reader Auto
 auto_word [] = Err (stuck 0)
 auto_word (t ∷ ts) = auto_from t ts
 
+abbrev pub laid_out_of : List ℕ × (Unit {0} × (SplitTree × Unit {0})) → LayoutRest
+laid_out_of (shape, (_, (tree, _))) = laid_out shape tree
+
+abbrev pub type_of : NameTree × (Unit {0} × List ConTree) → ItemTree
+type_of (name, (_, cons)) = top.Types (record { name = name; cons = cons })
+
+abbrev pub fun_of : NameTree × (Unit {0} × (List ParamTree × (Unit {0} × (TyTree × (Unit {0}
+    × (ExprTree × Unit {0})))))) → ItemTree
+fun_of (name, (_, (params, (_, (result, (_, (body, _))))))) =
+    top.Funs (record { name = name; params = params; result = result; body = body })
+
 -- an item at the number of its first token
 module _ (limit total : ℕ) where
   unfoldable pub layout_rest_from : Token → Reader LayoutRest
-  layout_rest_from (token.Symbol symbol.Less) ts = into (λ p. laid_out p.0 p.1.1.0)
-      (pair (some_closed number symbol.Comma symbol.Greater) (pair (expect symbol.Equals) (pair (layout_tree limit total) (expect symbol.Semicolon)))) ts
-  layout_rest_from (token.Symbol symbol.Equals) ts = into (λ p. derived p.0) (pair auto_word (expect symbol.Semicolon)) ts
+  layout_rest_from (token.Symbol symbol.Less) ts = into laid_out_of
+      (pair (some_closed number symbol.Comma symbol.Greater) (pair (expect symbol.Equals)
+      (pair (layout_tree limit total) (expect symbol.Semicolon)))) ts
+  layout_rest_from (token.Symbol symbol.Equals) ts =
+      into (λ p. derived p.0) (pair auto_word (expect symbol.Semicolon)) ts
   layout_rest_from _ ts = refused ts
 
   unfoldable pub layout_rest : Reader LayoutRest
@@ -341,15 +421,17 @@ module _ (limit total : ℕ) where
   layout_of at name (derived a) = top.Derived name a
 
   unfoldable pub type_item : Reader ItemTree
-  type_item = into (λ p. top.Types (record { name = p.0; cons = p.1.1 })) (pair (upper_name total) (pair (expect symbol.Equals) (some_closed (con_tree total) symbol.Bar symbol.Semicolon)))
+  type_item = into type_of
+      (pair (upper_name total) (pair (expect symbol.Equals) (some_closed (con_tree total) symbol.Bar symbol.Semicolon)))
 
   unfoldable pub layout_item : ℕ → Reader ItemTree
-  layout_item at = into (λ p. layout_of at p.0 p.1) (pair (upper_name total) layout_rest)
+  layout_item at = into (λ (name, rest). layout_of at name rest) (pair (upper_name total) layout_rest)
 
   unfoldable pub fun_item : Reader ItemTree
-  fun_item = into (λ p. top.Funs (record { name = p.0; params = p.1.1.0; result = p.1.1.1.1.0; body = p.1.1.1.1.1.1.0 }))
+  fun_item = into fun_of
       (pair (lower_name total) (pair (expect symbol.OpenParen) (pair (any_closed (param_tree total) symbol.CloseParen)
-      (pair (expect symbol.Colon) (pair (type_tree total) (pair (expect symbol.Equals) (pair (expression limit total) (expect symbol.Semicolon))))))))
+      (pair (expect symbol.Colon) (pair (type_tree total) (pair (expect symbol.Equals)
+      (pair (expression limit total) (expect symbol.Semicolon))))))))
 
   unfoldable pub file_item_from : ℕ → Token → Reader ItemTree
   file_item_from at (token.Reserved word.Type) ts = type_item ts
