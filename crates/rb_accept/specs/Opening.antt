@@ -35,8 +35,8 @@ pub data Spells (text : List ℕ) (Then : Image → Due → Type 0) (due : Due) 
 abbrev pub ReadsImage : List ℕ → (Image → Due → Type 0) → List Reading → Due → Type 0
 ReadsImage image Then readings due = ReadsOne image image_limit (λ text d. Spells text Then d) readings due
 
--- What is due to a file over what is read after it: it is refused, and nothing is; or it is accepted, and
--- something follows.
+-- What is due to a file over what is read after it: it is refused, and nothing is read after it; or
+-- it is accepted, and something follows.
 pub data AcceptsFirst (bytes : List ℕ) (Then : Program → List Reading → Due → Type 0) (later : List Reading)
     (due : Due) : Type 0 where
   turned_down : IsRefused bytes due → later ≡ [] → AcceptsFirst bytes Then later due

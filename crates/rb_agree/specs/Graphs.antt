@@ -58,11 +58,11 @@ kind_holds types prov (Pointer align b) = []
 abbrev pub part_holds : List DataDecl → Pat → Part → List ℕ
 part_holds types prov p = kind_holds types prov p.kind
 
--- the types of the fields of which the parts of a word have words
+-- the data types of the fields whose words stand in a word
 abbrev pub word_holds : List DataDecl → Pat → FlatWord → List ℕ
 word_holds types prov f = flat_map (part_holds types prov) f.parts
 
--- the types of the fields of which the root words of a leaf have words
+-- the data types of the fields whose words stand in a leaf's root words
 abbrev pub leaf_holds : List DataDecl → Leaf → List ℕ
 leaf_holds types leaf = flat_map (word_holds types leaf.prov) leaf.root
 

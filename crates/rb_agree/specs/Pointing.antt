@@ -40,10 +40,10 @@ pub record AreMarks (layouts : List Layout) (marks : List Bool) : Type 0 where
   pub each : (t : ℕ) (layout : Layout) (mark : Bool) → slice_get layouts t ≡ Some layout → slice_get marks t ≡ Some mark
       → MatchBool mark (LeavesPoint layout.leaves) (LeavesPoint layout.leaves → ⊥)
 
--- the type of a constructor has no mark
+-- the mark of a constructor's type is off
 abbrev pub IsUnmarked : List Bool → ConRef → Type 0
 IsUnmarked marks c = mark_of marks c.ty ≡ false
 
--- the type of a constructor is t, and has a mark
+-- the type of a constructor is t, and its mark is on
 abbrev pub IsMarked : List Bool → ConRef → ℕ → Type 0
 IsMarked marks c t = (c.ty ≡ t) × (mark_of marks c.ty ≡ true)

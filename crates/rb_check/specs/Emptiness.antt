@@ -42,6 +42,6 @@ pub record IsFirstUnmarked (marks : List Bool) (t : ℕ) : Type 0 where
   pub unmarked : mark_of marks t ≡ false
   pub before : (s : ℕ) → s < t → mark_of marks s ≡ true
 
--- each type has a mark
+-- the mark of each type is on
 abbrev pub AllMarked : List Bool → Type 0
 AllMarked marks = (s : ℕ) → s < length marks → mark_of marks s ≡ true

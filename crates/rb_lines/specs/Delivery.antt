@@ -57,7 +57,7 @@ pub data Refuses (number : ℕ) (line : List ℕ) (out err : Change) (status : �
   error_line : status ≡ number → Took out [] → Took err line → Refuses number line out err status
   error_failed : status ≡ 8 → Took out [] → CutOff err line → Refuses number line out err status
 
--- a text is printed, and a line is refused with its status
+-- a text is printed; a refusal is told by its line, with its status
 abbrev pub Delivers : Due → Change → Change → ℕ → Type 0
 Delivers (printed text steps) out err status = Prints text out err status
 Delivers (refused named line steps) out err status = Refuses (status_number named) line out err status

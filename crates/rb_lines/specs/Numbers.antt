@@ -34,7 +34,7 @@ bad_slot = 21
 abbrev pub bad_jump : ℕ
 bad_jump = 22
 
--- a call or a return whose numbers of arguments and results do not fit
+-- a call of no function, or a call or a return whose numbers of arguments and results do not fit
 abbrev pub bad_call : ℕ
 bad_call = 23
 
@@ -60,7 +60,7 @@ bad_root = 42
 abbrev pub bad_bits : ℕ
 bad_bits = 43
 
--- a pointer that leads nowhere
+-- a pointer to no block of the wanted size, or to one that is not lower
 abbrev pub bad_pointer : ℕ
 bad_pointer = 44
 

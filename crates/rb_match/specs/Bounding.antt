@@ -90,8 +90,7 @@ choosing_look layouts t = depth_of layouts t + rebuilding layouts t
 abbrev pub choosing_bound : List DataDecl → List Layout → Ty → List Pat → ℕ
 choosing_bound types layouts t pats = rounds types t pats * looks_with (choosing_look layouts) (places_of types t pats)
 
--- the switches that bind what stands below a constructor: none where the constructor has one leaf, which
--- takes nothing apart
+-- the switches that bind what stands below a constructor: none where no leaf of its type takes a subvalue apart
 abbrev pub binding_look : List Layout → Ty → ℕ
 binding_look layouts (Int bits) = 0
 binding_look layouts (Named t) = if is_plain layouts t then 0 else depth_of layouts (Named t) + mend_of layouts t

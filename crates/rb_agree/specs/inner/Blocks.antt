@@ -10,7 +10,7 @@ use Rattle.rb_layout.specs.declared.evidence.Why.TheVariants.{BlockWord, BlockWo
 use Rattle.rb_layout.specs.A4.{IsAlignment, IsBlockLength, IsBlockWidth, IsWide}
 use Rattle.rb_agree.specs.inner.Lists.{EachOf, SomeOf}
 
--- how a pointer of l bits fails that counts align bytes: by that number, or by its bits with those it saves
+-- how a pointer of l bits with this alignment fails: by the alignment, or by its bits with those that it saves
 abbrev pub FailsPointer : ℕ → ℕ → Why → Type 0
 FailsPointer l align (Align a) = (a ≡ align) × (IsAlignment align → ⊥)
 FailsPointer l align (ShortPointer n) = ((k : ℕ) × (align ≡ 2 ^ k) × (n ≡ l + k)) × (n < 24)

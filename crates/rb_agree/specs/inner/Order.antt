@@ -2,7 +2,7 @@
 use Rattle.std.specs.Prelude.{◌≡◌, ℕ, ◌<◌, List, Some, slice_get, slice_index_or}
 use Rattle.rb_layout.specs.Graphs.{Leads}
 
--- when a number is done; 0 where it has no rank
+-- the rank of a number; 0 where it has none
 abbrev pub rank_of : List ℕ → ℕ → ℕ
 rank_of ranks t = slice_index_or ranks t 0
 

@@ -19,7 +19,7 @@ module _ (decls : List LayoutDecl) (opens : List Open) where
       (j ≡ i) × (p.o ≡ o) × (p.l ≡ l) × (content_paths p.content ≡ path ∷ []) × (Fits decls opens l p.content → ⊥)
   FailsFit i p why = ⊥
 
-  -- a part lies in its word where its path is open, and fits what it holds
+  -- a part lies in its word where its path, if it has one, is open, and fits what it holds
   pub record IsPartFine (width : ℕ) (p : WrittenPart) : Type 0 where
     pub inside : IsPlaced opens p.content → LiesIn width p.o p.l
     pub fit : Fits decls opens p.l p.content
@@ -47,7 +47,7 @@ module _ (decls : List LayoutDecl) (opens : List Open) where
   abbrev pub FailsWord : ℕ → ℕ → List WrittenPart → Why → Type 0
   FailsWord i width parts why = IsOfItem i why × FailsParts decls opens width parts why
 
--- how two parts of item i, the first of which is written before the second, have a bit in common
+-- one part has the l bits from o on, and the other the m bits from b on
 abbrev pub IsFirst : Written → Written → ℕ → ℕ → ℕ → ℕ → Type 0
 IsFirst p q o l b m = (p.o ≡ o) × (p.l ≡ l) × (q.o ≡ b) × (q.l ≡ m)
 

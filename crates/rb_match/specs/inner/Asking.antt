@@ -108,7 +108,7 @@ else_edges nodes pc known (Some link) = edge_in nodes pc None link known ∷ []
 
 -- Constructors ----------------------------------------------------------------------------------
 
--- the number of the constructor that stands there, if one does
+-- the number of the constructor that a pattern begins with, if it begins with one
 abbrev pub con_of_layer : Pat-F Pat → Option ℕ
 con_of_layer (P.Wild at) = None
 con_of_layer (P.Var at x) = None

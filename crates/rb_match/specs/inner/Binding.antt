@@ -44,7 +44,7 @@ use Rattle.rb_match.specs.inner.Saving.{IsThere, mend_at, mends_from}
 abbrev pub AreApart : Pat → Pat → Type 0
 AreApart p q = (v : Value) → matches_of p v ≡ true → matches_of q v ≡ true → ⊥
 
--- two patterns with the same number are apart
+-- two patterns in one place are apart
 abbrev pub HaveApart : List Pat → List Pat → Type 0
 HaveApart ps qs = (i : ℕ) × (p : Pat) × (q : Pat) × (slice_get ps i ≡ Some p) × (slice_get qs i ≡ Some q) × AreApart p q
 
@@ -102,7 +102,7 @@ FieldsMatch subs i v bs =
     (vs : List Value) × ((j : ℕ) → part_at v ((i + j) ∷ []) ≡ slice_get vs j)
     × (all_pass (map matches_of subs) vs ≡ true) × (bs ≡ all_bound (map bindings subs) vs)
 
--- the switches that bind what stands in some patterns of fields
+-- the most switches of the code that binds what stands in some patterns of fields
 abbrev pub fields_bound : Plan → List Pat → List Ty → ℕ
 fields_bound plan subs fields =
     looks_with (binding_look plan.layouts) (places_below (map (places_in plan.program.types) subs) fields 0)
