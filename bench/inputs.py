@@ -237,6 +237,12 @@ def wrapped(n):
     return f"type P=P(u64);\nfun f(p: P): u8 = match p {{{comma(f'P({i})=>0' for i in range(1000 * n))},_=>1}};\n" + MAIN
 
 
+def crossed(n):
+    """A match of 1,000 n clauses that look at one of two numbers in turn, so that none of them is told apart from the next."""
+    clauses = (f"P({i},_)=>0,P(_,{i})=>0" for i in range(500 * n))
+    return f"type P=P(u64,u64);\nfun f(p: P): u8 = match p {{{comma(clauses)},_=>1}};\n" + MAIN
+
+
 def wilds(n):
     """A match of 1,000 n clauses, all of them `_`."""
     return f"fun main(x: u64): u64 = match x {{{comma(['_=>0'] * (1000 * n))}}};\n"
@@ -509,7 +515,7 @@ AGREEING = [
 ]
 REFUSED = [(closed, 300), (twice, 64), (ring, 900)]
 MATCHES = [
-    (literals, 16), (short_clauses, 28), (wrapped, 20), (wilds, 52), (columns, 32), (heads, 40), (unfolded, 4), (pattern, 32), (binders, 28),
+    (literals, 16), (short_clauses, 28), (wrapped, 20), (crossed, 18), (wilds, 52), (columns, 32), (heads, 40), (unfolded, 4), (pattern, 32), (binders, 28),
     (unknown, 36), (short_names, 65),
 ]
 COMPILED = [(coloured, 8)]
