@@ -81,7 +81,7 @@ is_complete types (Named t) hs = all_below (con_count (slice_get types t)) (λ k
 
 -- S and D, each row with its clause -----------------------------------------------------------------
 
--- a row of these patterns before others, if there are any
+-- the row that there may be, with its clause, before others
 abbrev pub keep_row : Option (List Pat) → ℕ → List Row → List Row
 keep_row None k rs = rs
 keep_row (Some ps) k rs = record { pats = ps; clause = k } ∷ rs

@@ -1,4 +1,4 @@
--- How the search goes on: the problems that are left, and how the answer of one gives its parent's.
+-- Problems and their parts: how a row for a part becomes one for its parent, and how much less is left.
 use Rattle.std.specs.Prelude.{◌≡◌, ℕ, ◌+◌, ◌-◌, ◌*◌, ◌^◌, ◌≤◌, List, [], ◌∷◌, ◌++◌, map, length, sum, take, drop, Bool, true, false, Option, Some, None}
 use Rattle.rb_core.specs.declared.value.Value.{Value, out-Value}
 use Rattle.rb_core.specs.declared.value.Value.TheOpen.{Value-F}

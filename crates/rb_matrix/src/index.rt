@@ -38,7 +38,7 @@ fn head_number(pat: &Pat) -> Option<u64>
 }
 
 // The number of what stands in a pattern at a path of fields. None where a wildcard or a variable
-// stands there or on the way.
+// stands there or on the way, or where there is no such field.
 fn key_at(pat: &Pat, path: &[usize]) -> Option<u64>
     ensures { IfSome result (HasKey pat.now path.now) }
 {
@@ -136,7 +136,7 @@ impl Index {
         }
     }
 
-    /// How many patterns have the same number or constructor at the path as this one, or none.
+    /// How many patterns have the same number or constructor at the path as this one, or nothing there.
     pub fn count_alike(&self, pat: &Pat) -> usize {
         let count = self.keyless.len();
         let Some(key) = key_at(pat, self.path.as_slice()) else {

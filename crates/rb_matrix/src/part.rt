@@ -164,7 +164,7 @@ fn add_part(left: &mut Vec<Left>, part: Option<Problem>) -> Result<(), AllocErro
 }
 
 /// Makes the part of the last head, and leaves the others for later, so that of each problem one part is
-/// held at a time. Where it is the only head, the part is made of the problem itself, and nothing is
+/// held at a time. Where it is the only head left, the part is made of the problem itself, and nothing is
 /// copied.
 ///
 /// # Errors
@@ -199,7 +199,8 @@ pub fn next_part(
     Ok(left)
 }
 
-// What is left where the first value is one of the pattern's, which no head of the column begins.
+// What is left where the first value is one that `beside` matches, which begins with no head of the
+// column.
 fn rest_part(
     alloc: Global,
     types: &[DataDecl],

@@ -5,7 +5,7 @@ use rb_core::seq::Seq;
 use std::alloc::{AllocError, Global};
 use std::collections::{BTreeMap, BTreeSet};
 
-// A path: the field of the one above that it leads to. At how many patterns a number or a constructor
+// A path: the field of the one above that it leads to. In how many patterns a number or a constructor
 // stands there, and how many different ones do.
 #[derive(Drop)]
 struct Position {
@@ -108,7 +108,8 @@ impl Positions {
         Ok(Seq::from_vec(path))
     }
 
-    // The path, another than this one, that tells most pairs of patterns apart.
+    // The path, another than this one, that is reckoned to tell most pairs of patterns apart; the empty
+    // path where none tells any.
     fn best_but(&self, other: Option<usize>) -> usize {
         let mut best = 0;
         let mut most = 0;
@@ -140,7 +141,7 @@ pub struct Paths {
     pub second: Seq<usize>,
 }
 
-/// The two paths at which patterns are best told apart. Which ones they are changes no answer.
+/// The two paths that are reckoned to tell patterns apart best. Which ones they are changes no answer.
 ///
 /// # Errors
 ///

@@ -165,7 +165,7 @@ impl Row {
         }
     }
 
-    /// Whether the row begins with another head, so that it has no image.
+    /// Whether the row has no pattern or begins with another head, so that it has no image.
     pub fn is_other(&self, head: Head) -> bool
         ensures { OnTrue result ((n : ℕ) → special_row head n self.now ≡ None) }
     {

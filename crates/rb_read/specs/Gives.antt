@@ -27,7 +27,7 @@ Gives seen (Err e) r = Fails e r
 abbrev pub Answer : Type 0 → Type 0
 Answer A = Result (A × Bor (List Placed)) stops.Stop
 
--- each answer that `may` be given at tokens is what the reader gives there
+-- each answer that `may` be given at tokens is what the reader gives there, or want of memory
 abbrev pub Reads : {A : Type 0} → Reader A → (Bor (List Placed) → Answer A → Type 0) → Type 0
 Reads {A} reader may = (placed : Bor (List Placed)) (result : Answer A) → may placed result
     → Gives (λ x. (x.0, tokens x.1.now)) result (reader (tokens placed.now))

@@ -37,7 +37,7 @@ use Rattle.rb_read.specs.Starting.{is_symbol, is_word, is_number, form_of}
 use Rattle.rb_read.specs.Combining.{Reader, stuck, deep, pair, into, expect, expect_word, some_closed, any_closed, in_parens, optional, each_of, beyond}
 use Rattle.rb_read.specs.Tokens.{lower_name, upper_name, number, field, width}
 
--- a number that some bytes begin at
+-- a name, with the number of its token
 abbrev pub named : ℕ → List ℕ → NameTree
 named at name = record { at = at; text = name }
 
@@ -60,7 +60,7 @@ unfoldable pub con_tree : ℕ → Reader ConTree
 con_tree total = into (λ (name, fields). record { name = name; fields = fields })
     (pair (upper_name total) (in_parens (type_tree total)))
 
--- What is made of a form takes the form's parts in their order, with `_` for each symbol or word between them.
+-- What is made of a form takes the form's parts in their order, with `_` for each symbol or word beside them.
 
 abbrev pub parameter_of : NameTree × (Unit {0} × TyTree) → ParamTree
 parameter_of (name, (_, ty)) = record { at = name.at; var = name; ty = ty }
@@ -211,7 +211,7 @@ expression (suc n) total ts = expression_one (λ us. pattern n total us) (λ us.
 
 -- Ranges, paths and locations.
 
--- its first bit and its length
+-- a range by its first bit and its length
 abbrev pub range_of : ℕ × (Unit {0} × (ℕ × Unit {0})) → ℕ × ℕ
 range_of (first, (_, (bits, _))) = (first, bits)
 
@@ -402,7 +402,7 @@ abbrev pub fun_of : NameTree × (Unit {0} × (List ParamTree × (Unit {0} × (Ty
 fun_of (name, (_, (params, (_, (result, (_, (body, _))))))) =
     top.Funs (record { name = name; params = params; result = result; body = body })
 
--- an item at the number of its first token
+-- over the levels of a body or a layout, and the number of all tokens
 module _ (limit total : ℕ) where
   unfoldable pub layout_rest_from : Token → Reader LayoutRest
   layout_rest_from (token.Symbol symbol.Less) ts = into laid_out_of

@@ -58,7 +58,7 @@ pub record AreChained (nodes : List GraphNode) : Type 0 where
   pub lower : LinksAreLower nodes
   pub others : slice_get nodes 0 ≡ Some (G.Clause 1)
 
--- at most so many nodes were added before the one at a number: to its tree this one's tree is as the chain says
+-- at most so many nodes were added; where node `under` had a tree, node i has the tree that `put` makes of it
 pub record IsChained (put : Tree → Tree) (most : ℕ) (old : List GraphNode) (under : ℕ) (new : List GraphNode)
     (i : ℕ) : Type 0 where
   pub fine : AreChained new

@@ -87,7 +87,7 @@ pub record AreShared (arms : List TreeArm) (old new : Sharing) (ls : List GraphA
   pub there : Linked (node_trees new.nodes) arms ls
   pub reached : AddsReached old new (λ k. IsAmong k (map arm_link ls))
 
--- what stands last is linked to where it is there
+-- the tree that stands last has the number of its link, and there is a link exactly where there is such a tree
 abbrev pub OtherLinked : List Tree → Option Tree → Option ℕ → Type 0
 OtherLinked trees None None = Unit {0}
 OtherLinked trees None (Some i) = ⊥

@@ -22,7 +22,7 @@ Covers p q = (v : Value) → matches_of q v ≡ true → matches_of p v ≡ true
 abbrev pub CoverEach : List Pat → List Pat → Type 0
 CoverEach ps qs = (vs : List Value) → row_matches qs vs ≡ true → row_matches ps vs ≡ true
 
--- so do each of the first so many patterns
+-- each of the first so many patterns matches all that the one in its place does
 abbrev pub AreCovered : ℕ → List Pat → List Pat → Type 0
 AreCovered i ps qs = (k : ℕ) (p q : Pat) → k < i → slice_get ps k ≡ Some p → slice_get qs k ≡ Some q → Covers p q
 

@@ -16,7 +16,7 @@ abbrev pub head_number : Value-F Value → ℕ
 head_number (V.Num n) = n
 head_number (V.Con k vs) = k
 
--- the same of what stands in a value at a path of fields; where there is no such field, the value itself does
+-- the same of what stands in a value at a path of fields; where a value has no such field, it stands there itself
 abbrev pub key_of : Value → List ℕ → ℕ
 key_of v [] = head_number (out-Value v)
 key_of v (i ∷ path) = key_of (slice_index_or (subs v) i v) path
@@ -36,7 +36,7 @@ IsKept x j p = Contains x.keyless j ⊎ ((k : ℕ) × HasKey p x.path k × IsIn 
 abbrev pub IsIndex : List Pat → Index → Type 0
 IsIndex ps x = (j : ℕ) (p : Pat) → slice_get ps j ≡ Some p → IsKept x j p
 
--- one more pattern
+-- an index of i patterns becomes one with this pattern behind them
 abbrev pub Extends : ℕ → Pat → Index → Index → Type 0
 Extends i p old new = (ps : List Pat) → length ps ≡ i → IsIndex ps old → IsIndex (ps ++ p ∷ []) new
 

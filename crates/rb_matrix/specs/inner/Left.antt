@@ -30,14 +30,16 @@ wholes (Some c) = Whole c ∷ []
 abbrev pub IsReady : List DataDecl → Left → Type 0
 IsReady types (Whole p) = AreTypesIn types p.tys
 IsReady types (ByHead b) =
-    AreTypesIn types b.behind.tys × (1 ≤ some_head (first_head b.behind.wanted) + some_head (first_head b.behind.unwanted))
+    AreTypesIn types b.behind.tys
+    × (1 ≤ some_head (first_head b.behind.wanted) + some_head (first_head b.behind.unwanted))
 
 -- Nothing is found --------------------------------------------------------------------------------
 
 -- no vector that begins with one of the heads
 abbrev pub NoneByHead : List DataDecl → Branches → Type 0
 NoneByHead types b =
-    (v : Value) (vs : List Value) → any_begins b.heads (out-Value v) ≡ true → sought types (parent b).tys b.behind.wanted b.behind.unwanted (v ∷ vs) ≡ false
+    (v : Value) (vs : List Value) → any_begins b.heads (out-Value v) ≡ true
+    → sought types (parent b).tys b.behind.wanted b.behind.unwanted (v ∷ vs) ≡ false
 
 abbrev pub NoneOf : List DataDecl → Left → Type 0
 NoneOf types (Whole p) = NoneIn types p
