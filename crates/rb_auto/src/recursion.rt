@@ -28,6 +28,7 @@ fn add_fields(fields: &[Ty], row: &mut Seq<u32>) -> Result<(), AllocError>
     Ok(())
 }
 
+// The data types that fields of constructors have, once for each such field.
 fn field_row(alloc: Global, cons: &[Con]) -> Result<Seq<u32>, AllocError>
     ensures { IfOk result (λ row. row ≡ flat_map con_types cons.now) }
 {

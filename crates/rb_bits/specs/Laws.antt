@@ -16,8 +16,10 @@ pub record AreTaken : Type 0 where
 
 pub record ArePut : Type 0 where
   pub back : (w o l part : ℕ) → part < 2 ^ l → take_of (put_of w o l part) o l ≡ part
-  pub elsewhere : (w o l part b m : ℕ) → part < 2 ^ l → AreDisjoint o l b m → take_of (put_of w o l part) b m ≡ take_of w b m
+  pub elsewhere : (w o l part b m : ℕ) → part < 2 ^ l → AreDisjoint o l b m
+      → take_of (put_of w o l part) b m ≡ take_of w b m
 
 -- to gather what was scattered gives the named bits back
 abbrev pub GathersBack : Type 0
-GathersBack = (w : ℕ) (slices : List Slice) (number : ℕ) → AreSlices slices → gather_of (scatter_of w slices number) slices ≡ named_bits_of number slices
+GathersBack = (w : ℕ) (slices : List Slice) (number : ℕ) → AreSlices slices
+    → gather_of (scatter_of w slices number) slices ≡ named_bits_of number slices

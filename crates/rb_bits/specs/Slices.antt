@@ -17,7 +17,8 @@ gather_of w slices = sum_by (λ (s : Slice). take_of w s.o s.l * 2 ^ s.a) slices
 -- the word without what stood at the slices, and with the number's bits there
 abbrev pub scatter_of : ℕ → List Slice → ℕ → ℕ
 scatter_of w slices number =
-    w - sum_by (λ (s : Slice). take_of w s.o s.l * 2 ^ s.o) slices + sum_by (λ (s : Slice). take_of number s.a s.l * 2 ^ s.o) slices
+    w - sum_by (λ (s : Slice). take_of w s.o s.l * 2 ^ s.o) slices
+    + sum_by (λ (s : Slice). take_of number s.a s.l * 2 ^ s.o) slices
 
 -- the bits of a number that the slices name, each in its place
 abbrev pub named_bits_of : ℕ → List Slice → ℕ
@@ -28,7 +29,8 @@ pub record IsGathered (w : ℕ) (slices : List Slice) (number : ℕ) : Type 0 wh
   pub inside : All (λ (s : Slice). (i : ℕ) → i < s.l → bit_at number (s.a + i) ≡ bit_at w (s.o + i)) slices
   pub outside : (i : ℕ) → All (λ (s : Slice). IsOutside s.a s.l i) slices → bit_at number i ≡ 0
 
--- bit by bit: bits o up to o + l of the new word are bits a up to a + l of the number, and its other bits are the old word's
+-- bit by bit: bits o up to o + l of the new word are bits a up to a + l of the number,
+-- and its other bits are the old word's
 pub record IsScattered (w : ℕ) (slices : List Slice) (number word : ℕ) : Type 0 where
   pub inside : All (λ (s : Slice). (i : ℕ) → i < s.l → bit_at word (s.o + i) ≡ bit_at number (s.a + i)) slices
   pub outside : (i : ℕ) → All (λ (s : Slice). IsOutside s.o s.l i) slices → bit_at word i ≡ bit_at w i

@@ -23,4 +23,5 @@ Builds agreed con hs shown old new held =
     (plan : Plan) → IsPlanOf agreed plan
     → (fields : List Ty) → fields_of plan.program.types con ≡ Some fields → map held_type hs ≡ fields
     → AllGiven plan old.slots hs
-    → (held.ty ≡ Named con.ty) × Applies plan (AreAsShown shown) (λ calls. built con) hs old new (Named con.ty) held.slots
+    → (held.ty ≡ Named con.ty) × Applies plan (AreAsShown shown) (λ calls. built con) hs old new (Named con.ty)
+    held.slots

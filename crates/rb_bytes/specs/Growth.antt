@@ -25,6 +25,7 @@ pub record Grown (old new : Memory) (blocks : List (ℕ × ℕ)) (p : ℕ) : Typ
 -- a memory has grown by nothing; growing twice is growing by both; what was there stays, and so do loads
 pub record IsGrowth : Type 0 where
   pub none : (m : Memory) → IsGood m → Grown m m [] m.next
-  pub twice : (a b c : Memory) (bs cs : List (ℕ × ℕ)) (p q : ℕ) → Grown a b bs p → Grown b c cs q → Grown a c (bs ++ cs) q
+  pub twice : (a b c : Memory) (bs cs : List (ℕ × ℕ)) (p q : ℕ) → Grown a b bs p → Grown b c cs q
+      → Grown a c (bs ++ cs) q
   pub extends : (old new : Memory) (bs : List (ℕ × ℕ)) (p : ℕ) → IsGood old → Grown old new bs p → Extends old new
   pub loads : (old new : Memory) (bs : List (ℕ × ℕ)) (p : ℕ) → IsGood old → Grown old new bs p → KeepsLoads old new

@@ -17,15 +17,18 @@ AreApart b o w c p v = (b + o + w / 8 ≤ c + p) ⊎ (c + p + v / 8 ≤ b + o)
 abbrev pub KeepsLoads : Memory → Memory → Type 0
 KeepsLoads old new = (b o w r : ℕ) → load_of old b o w ≡ Ok r → load_of new b o w ≡ Ok r
 
--- the memories differ at most in the bytes of one access: other bytes, loads of other bytes and loads from other blocks are the same
+-- the memories differ at most in the bytes of one access: other bytes,
+-- loads of other bytes and loads from other blocks are the same
 pub record ChangesOnly (old new : Memory) (base offset width : ℕ) : Type 0 where
-  pub bytes : (a : ℕ) → (a < base + offset) ⊎ (base + offset + width / 8 ≤ a) → byte_at new.bytes a ≡ byte_at old.bytes a
+  pub bytes : (a : ℕ) → (a < base + offset) ⊎ (base + offset + width / 8 ≤ a)
+      → byte_at new.bytes a ≡ byte_at old.bytes a
   pub elsewhere : (b o w : ℕ) → AreApart base offset width b o w → load_of new b o w ≡ load_of old b o w
   pub other_block : (b o w : ℕ) → base ≢ b → load_of new b o w ≡ load_of old b o w
 
 -- what an earlier memory had stays, where the access is above its next address
 abbrev pub KeepsEarlier : Memory → Memory → ℕ → ℕ → Type 0
-KeepsEarlier old new base offset = (early : Memory) → IsGood early → early.next ≤ base + offset → Extends early old → Extends early new
+KeepsEarlier old new base offset =
+    (early : Memory) → IsGood early → early.next ≤ base + offset → Extends early old → Extends early new
 
 -- from an address on the memory has these bytes, all of them written
 abbrev pub Spells : Memory → ℕ → List ℕ → Type 0

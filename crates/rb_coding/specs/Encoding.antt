@@ -27,12 +27,14 @@ only m blocks = record m { blocks = blocks }
 
 -- a value whose constructions' blocks are laid from one address to another: the words represent it over
 -- these blocks and no others, and free bits are 0
-pub record StandsAlone (types : List DataDecl) (layouts : List Layout) (m : Memory) (t : Ty) (v : Value) (from : ℕ) (blocks : List (ℕ × ℕ)) (to : ℕ) (ws : List ℕ) : Type 0 where
+pub record StandsAlone (types : List DataDecl) (layouts : List Layout) (m : Memory) (t : Ty) (v : Value) (from : ℕ)
+    (blocks : List (ℕ × ℕ)) (to : ℕ) (ws : List ℕ) : Type 0 where
   pub laid : lay m.limit from (requests_of layouts (making_of types v t)) ≡ Fits blocks to
   pub represents : IsCleanlyRepresented types layouts (only m blocks) t v ws
 
 -- values one behind the other, their words too, each over its own blocks
-abbrev pub StandApart : List DataDecl → List Layout → Memory → List Ty → List Value → ℕ → List (ℕ × ℕ) → ℕ → List ℕ → Type 0
+abbrev pub StandApart : List DataDecl → List Layout → Memory → List Ty → List Value → ℕ → List (ℕ × ℕ) → ℕ → List ℕ
+    → Type 0
 StandApart types layouts m [] [] from blocks to ws = (from ≡ to) × (blocks ≡ []) × (ws ≡ [])
 StandApart types layouts m [] (v ∷ vs) from blocks to ws = ⊥
 StandApart types layouts m (t ∷ ts) [] from blocks to ws = ⊥
@@ -43,9 +45,11 @@ StandApart types layouts m (t ∷ ts) (v ∷ vs) from blocks to ws =
 
 -- the old memory has grown by just the blocks of these requests and the words are right in it; or by
 -- those before the first that does not fit. Of want of memory nothing is said
-abbrev pub Encodes : (Memory → List (ℕ × ℕ) → List ℕ → Type 0) → List Request → Memory → Memory → Result (List ℕ) EncodeFault → Type 0
+abbrev pub Encodes : (Memory → List (ℕ × ℕ) → List ℕ → Type 0) → List Request → Memory → Memory
+    → Result (List ℕ) EncodeFault → Type 0
 Encodes right rs old new (Ok ws) =
-    (blocks : List (ℕ × ℕ)) × (next : ℕ) × (lay old.limit old.next rs ≡ Fits blocks next) × Grown old new blocks next × right new blocks ws
+    (blocks : List (ℕ × ℕ)) × (next : ℕ) × (lay old.limit old.next rs ≡ Fits blocks next)
+    × Grown old new blocks next × right new blocks ws
 Encodes right rs old new (Err (Full full)) =
     (lay old.limit old.next rs ≡ Over full) × Grown old new (laid_before old.limit old.next rs) full.next
 Encodes right rs old new (Err NoMemory) = Unit {0}

@@ -55,6 +55,7 @@ pub fn decode<M: ByteMemory>(
     Ok(builder.finish())
 }
 
+// The first of these words, or 0 where there is none.
 fn first(words: &[u64]) -> u64
     ensures { result ≡ slice_index words.now 0 }
 {

@@ -56,6 +56,7 @@ fn entry(
     }
 }
 
+// Puts a number at this place of a table, or nothing where the table has no such place.
 fn put_at(table: &mut Seq<u64>, i: u64, number: u64)
     ensures { table.new ≡ slice_set table.old i number }
 {
@@ -99,6 +100,7 @@ pub(crate) fn put_words(
     }
 }
 
+// The words of the block that was loaded at this place, or none where there is no such place.
 fn words_at(loaded: &[Seq<u64>], i: usize) -> &[u64]
     ensures { result.now ≡ slice_index_or loaded.now i [] }
 {
@@ -118,6 +120,7 @@ fn put_blocks(table: &mut Seq<u64>, path: &[u32], blocks: &[Block], loaded: &[Se
     }
 }
 
+// How many words represent a value of this type, or 0 where no type is given.
 fn count_at(layouts: &[Layout], ty: Option<Ty>) -> usize
     ensures { result ≡ count_at layouts.now ty }
 {

@@ -17,6 +17,7 @@ use rb_layout::layout::Layout;
 use rb_values::nodes::{Layer, Nodes};
 use std::alloc::{AllocError, Global};
 
+/// The sequence of this one word.
 pub(crate) fn one_word(alloc: Global, word: u64) -> Result<Seq<u64>, AllocError>
     ensures { IfOk result (λ words. words ≡ word ∷ []) }
 {

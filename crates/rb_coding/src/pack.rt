@@ -12,6 +12,7 @@ use rb_layout::layout::{FlatWord, Kind, Part};
 use rb_values::nodes::Nodes;
 use std::alloc::{AllocError, Global};
 
+// The address of a block, or 0 where it is not there.
 fn address(addresses: &[u64], block: u32) -> u64
     ensures { result ≡ slice_index addresses.now block }
 {

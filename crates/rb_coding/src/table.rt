@@ -38,6 +38,8 @@ fn arity_at(nodes: &Nodes, node: usize) -> usize
     }
 }
 
+// How many nodes the value of the node before this one has (for node 0, its own); 0 where its size
+// is not there.
 fn size_before(sizes: &[usize], node: usize) -> usize
     ensures { result ≡ slice_index sizes.now (node - 1) }
 {

@@ -97,6 +97,7 @@ impl From<AllocError> for CommandFault {
     }
 }
 
+// The least address at which the memory of a run may end, in bytes.
 const LEAST_REGION: u64 = 64;
 
 // The most functions of a generated file, `up` and `main` apart; clauses cite it as `most_generated`.

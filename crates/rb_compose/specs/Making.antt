@@ -32,19 +32,23 @@ opens_of_leaf plan leaf = open_positions plan.program.types leaf.prov
 abbrev pub Makes : Plan → Bool → ℕ → Next → ℕ → ℕ → ℕ → ℕ → List ℕ → Value → List ℕ → World → Type 0
 Makes plan clean most next start b n t slots v s w =
     Ends most (next start s w) w.memory (lay w.memory.limit w.memory.next (blocks_of plan.layouts t v)) (Done v w.left)
-    (λ u w'. Comes plan clean (next start s w) next b n (Named t) slots s u w' × (blocks_of plan.layouts t v ≡ [] → w'.memory ≡ w.memory))
+    (λ u w'. Comes plan clean (next start s w) next b n (Named t) slots s u w'
+    × (blocks_of plan.layouts t v ≡ [] → w'.memory ≡ w.memory))
 
 -- The appended code makes the values of leaf n of a type, of the subvalues at its open positions and as cleanly
 -- as these are, in new slots, each once. It does no switch.
-pub record LeafIsMade (plan : Plan) (t n : ℕ) (layout : Layout) (leaf : Leaf) (xs : List Subvalue) (old new : Sheet) (slots : List ℕ) : Type 0 where
+pub record LeafIsMade (plan : Plan) (t n : ℕ) (layout : Layout) (leaf : Leaf) (xs : List Subvalue) (old new : Sheet)
+    (slots : List ℕ) : Type 0 where
   pub adds : Adds plan old new
   pub given : AllBelow new.slots slots
   pub count : length slots ≡ words_of plan (Named t)
   pub fresh : AllFrom old.slots slots
   pub distinct : IsDistinct slots
   pub does : (clean : Bool) (v : Value) → leaf_of layout v ≡ Some n
-      → (final : List Instr) (callee : Callee) (next : Next) → Law final callee next → AgreesBut final new.code (length old.code) (length new.code) Nowhere
-      → (s : List ℕ) (w : World) → new.slots ≤ length s → IsGood w.memory → ArePartsHeld plan clean s w.memory (opens_of_leaf plan leaf) xs v
+      → (final : List Instr) (callee : Callee) (next : Next) → Law final callee next
+      → AgreesBut final new.code (length old.code) (length new.code) Nowhere
+      → (s : List ℕ) (w : World) → new.slots ≤ length s → IsGood w.memory
+      → ArePartsHeld plan clean s w.memory (opens_of_leaf plan leaf) xs v
       → Makes plan clean w.switches next (length old.code) (length new.code) old.slots t slots v s w
 
 -- in every program whose layouts agree

@@ -28,7 +28,8 @@ abbrev pub AreGivenAt : Plan → ℕ → List Open → List Subvalue → Type 0
 AreGivenAt plan n opens xs = (k : ℕ) (o : Open) → slice_get opens k ≡ Some o → IsGivenAt plan n xs o
 
 -- the slots at a position represent the part of a value there
-pub record IsPartHeld (plan : Plan) (clean : Bool) (s : List ℕ) (m : Memory) (xs : List Subvalue) (v : Value) (o : Open) : Type 0 where
+pub record IsPartHeld (plan : Plan) (clean : Bool) (s : List ℕ) (m : Memory) (xs : List Subvalue) (v : Value)
+    (o : Open) : Type 0 where
   pub held : Held
   pub is_there : subvalue_at xs o.path ≡ Some held
   pub part : Value
@@ -36,4 +37,5 @@ pub record IsPartHeld (plan : Plan) (clean : Bool) (s : List ℕ) (m : Memory) (
   pub represents : Rep plan m clean o.ty part (slots_at s held.slots)
 
 abbrev pub ArePartsHeld : Plan → Bool → List ℕ → Memory → List Open → List Subvalue → Value → Type 0
-ArePartsHeld plan clean s m opens xs v = (k : ℕ) (o : Open) → slice_get opens k ≡ Some o → IsPartHeld plan clean s m xs v o
+ArePartsHeld plan clean s m opens xs v =
+    (k : ℕ) (o : Open) → slice_get opens k ≡ Some o → IsPartHeld plan clean s m xs v o

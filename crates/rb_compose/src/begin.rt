@@ -100,6 +100,7 @@ pub(crate) fn after_constants(parts: &[Part]) -> &[Part]
     &[]
 }
 
+// Whether a part is a constant.
 fn is_constant(kind: &Kind) -> bool
     ensures { result ≡ is_constant kind.now }
 {

@@ -111,6 +111,7 @@ fn constants(parts: &[Part]) -> u64
     word
 }
 
+// A word with the constant of a part, if it has one that fits, in its place.
 fn with_constant(word: u64, part: &Part) -> u64
     ensures { result ≡ with_constant word part.now.o part.now.l part.now.kind }
 {
@@ -245,6 +246,7 @@ fn whole_slot(parts: &[Part], subs: &[Subvalue]) -> Option<usize>
     whole_part(parts.get(0), subs)
 }
 
+// The slot of a field's word that a part has whole, if there is a part and it is at bit 0.
 fn whole_part(part: Option<&Part>, subs: &[Subvalue]) -> Option<usize>
     ensures { result ≡ slot_of subs.now (whole_part subs.now (option_copied part.entry)) }
 {
@@ -277,6 +279,7 @@ fn whole_kind(l: u64, kind: &Kind, subs: &[Subvalue]) -> Option<usize>
     }
 }
 
+// Whether there is a type, and it is the integers of so many bits.
 fn is_int(l: u64, ty: Option<Ty>) -> bool
     ensures { result ≡ is_int l ty }
 {
@@ -306,6 +309,7 @@ fn field_slots<'a>(subs: &'a [Subvalue], path: &[u32]) -> &'a [usize]
     }
 }
 
+// The slot with this place, or 0 past the end.
 fn slot_at(slots: &[usize], number: u64) -> usize
     ensures { result ≡ slice_index slots.now number }
 {

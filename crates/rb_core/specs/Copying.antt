@@ -24,9 +24,11 @@ remaining fs = sum (map nodes_left fs)
 -- what one step down does: the whole stays the same, and fewer nodes remain
 abbrev pub Enters : Value → List Frame → List Frame → Turn → Type 0
 Enters v old new (Copied w) = (w ≡ v) × (new ≡ old)
-Enters v old new (Next first) = (plugged new first.now ≡ plugged old v) × (node_count first.now + remaining new < node_count v + remaining old)
+Enters v old new (Next first) =
+    (plugged new first.now ≡ plugged old v) × (node_count first.now + remaining new < node_count v + remaining old)
 
 -- what a step up does
 abbrev pub Leaves : Value → List Frame → List Frame → Turn → Type 0
 Leaves v old new (Copied w) = w ≡ plugged old v
-Leaves v old new (Next next) = (plugged new next.now ≡ plugged old v) × (node_count next.now + remaining new ≤ remaining old)
+Leaves v old new (Next next) =
+    (plugged new next.now ≡ plugged old v) × (node_count next.now + remaining new ≤ remaining old)

@@ -93,7 +93,8 @@ pub record AreSiteNotes (types : List DataDecl) (s : Site) (notes : List Note) :
 abbrev pub AreNotes : List DataDecl → List Site → List Note → Type 0
 AreNotes types [] notes = notes ≡ []
 AreNotes types (s ∷ ss) notes =
-    (here : List Note) × (rest : List Note) × (notes ≡ here ++ rest) × AreSiteNotes types s here × AreNotes types ss rest
+    (here : List Note) × (rest : List Note) × (notes ≡ here ++ rest) × AreSiteNotes types s here
+    × AreNotes types ss rest
 
 -- a program's matches are exhaustive, and the notes name exactly the unreached clauses
 pub record IsCovered (p : Program) (notes : List Note) : Type 0 where

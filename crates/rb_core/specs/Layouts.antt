@@ -92,7 +92,8 @@ abbrev pub arm_is_short : Arm-F Bool Bool → Bool
 arm_is_short a = a.under
 
 abbrev pub tree_step : LayTree-F Bool Bool → Bool
-tree_step (T.Split loc arms other) = is_short loc.steps && (is_short arms && (list_all (λ a. a) arms && other_is_short other))
+tree_step (T.Split loc arms other) =
+    is_short loc.steps && (is_short arms && (list_all (λ a. a) arms && other_is_short other))
 tree_step (T.Leaf at p items) = leaf_is_short items
 
 -- each list of a layout, its leaves, and each leaf's items and parts are so few

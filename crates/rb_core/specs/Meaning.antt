@@ -137,7 +137,8 @@ all_of (m ∷ ms) ts scope vs left env =
 
 -- the first clause that matches a value of type t, with the pattern's variables bound; one type is
 -- wanted of the first clause, and one of the others
-abbrev pub first_of : List DataDecl → Ty → List (Pat × Meaning) → Option Ty → Option Ty → List Binder → Value → ℕ → List Binding → Outcome
+abbrev pub first_of : List DataDecl → Ty → List (Pat × Meaning) → Option Ty → Option Ty → List Binder → Value → ℕ
+    → List Binding → Outcome
 first_of types t [] wanted others scope v left env = done (Num 0) left
 first_of types t (c ∷ cs) wanted others scope v left env =
     if matches_of c.0 v then c.1 wanted (scope ++ binders types c.0 t) left (env ++ bindings c.0 v)
@@ -179,14 +180,16 @@ meaning_step p calls f (E.Build at c es) wanted scope left env =
     then_with (all_of (map means es) (field_types p.types c) scope [] left env) (built c)
 meaning_step p calls f (E.Binary at op a b) wanted scope left env =
     let t = operands_type op wanted (inferred_type p.types p.funs a.0 None scope) in
-    then_do (a.1 (operand_wanted op wanted) scope left env) (λ v rest. then_do (b.1 (Some t) scope rest env) (combined op (width_of t) v))
+    then_do (a.1 (operand_wanted op wanted) scope left env)
+    (λ v rest. then_do (b.1 (Some t) scope rest env) (combined op (width_of t) v))
 meaning_step p calls f (E.To at bits a) wanted scope left env = then_do (a.1 None scope left env) (cut_to bits)
 meaning_step p calls f (E.Let at x ty a b) wanted scope left env =
     then_do (a.1 (Some ty) scope left env) (λ v rest. b.1 wanted (with_binder scope x ty) rest (with_value env x v))
 meaning_step p calls f (E.Match at e cs) wanted scope left env =
     let t = inferred_type p.types p.funs e.0 None scope in
     let others = Some (match_type p.types wanted (map (branch_inferred p) cs) t scope) in
-    then_do (e.1 None scope left env) (λ v rest. after (Matched f at ∷ []) (first_of p.types t (map branch_means cs) wanted others scope v rest env))
+    then_do (e.1 None scope left env) (λ v rest. after (Matched f at ∷ [])
+    (first_of p.types t (map branch_means cs) wanted others scope v rest env))
 
 abbrev pub clause_step : Clause-F Part Branch → Pat × Meaning
 clause_step c = (c.pat, c.body.1)

@@ -5,7 +5,8 @@ use Rattle.std.specs.Prelude.{◌≡◌, ℕ, suc, ◌<◌, ◌≤◌, List, ◌
 abbrev pub BeginsSome : {A : Type 0} → (List A → Type 0) → List A → Type 0
 BeginsSome {A} IsWhole xs = (more : List A) × IsWhole (xs ++ more)
 
--- the pieces before `at` begin something whole; with the piece there they don't, or there is none and they are not whole
+-- the pieces before `at` begin something whole;
+-- with the piece there they don't, or there is none and they are not whole
 pub record StopsAtIn {A : Type 0} (IsWhole : List A → Type 0) (xs : List A) (at : ℕ) : Type 0 where
   pub within : at ≤ length xs
   pub before : BeginsSome IsWhole (take at xs)

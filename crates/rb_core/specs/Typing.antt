@@ -85,7 +85,8 @@ binder_of p = record { var = p.var; ty = p.ty }
 -- the token of the first variable that stands before in the list, too
 abbrev pub repeat_after : List Param → List Param → Option ℕ
 repeat_after before [] = None
-repeat_after before (p ∷ ps) = if list_any (λ q. q.var == p.var) before then Some p.at else repeat_after (before ++ p ∷ []) ps
+repeat_after before (p ∷ ps) =
+    if list_any (λ q. q.var == p.var) before then Some p.at else repeat_after (before ++ p ∷ []) ps
 
 abbrev pub repeated : List Param → Option ℕ
 repeated = repeat_after []
@@ -160,7 +161,8 @@ each_argument (e ∷ es) (t ∷ ts) scope = and_then (e.answer (Some t) scope) (
 
 -- the number of arguments is checked before any of them
 abbrev pub arguments : ℕ → List Rule → List Ty → List Binder → Typing (Unit {0})
-arguments at es ts scope = if length es == length ts then each_argument es ts scope else Err (Arity at (length ts) (length es))
+arguments at es ts scope =
+    if length es == length ts then each_argument es ts scope else Err (Arity at (length ts) (length es))
 
 -- a function's parameters and result; a well numbered program has each function that it names
 abbrev pub params_of : Option Fun → List Param

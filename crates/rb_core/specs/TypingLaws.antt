@@ -16,12 +16,14 @@ WantedIsFound = (types : List DataDecl) (funs : List Fun) (e : Expr) (wanted : T
 
 -- the type that the source meaning reads off an expression is the one that typing gives it
 abbrev pub InferredIsFound : Type 0
-InferredIsFound = (types : List DataDecl) (funs : List Fun) (e : Expr) (wanted : Option Ty) (scope : List Binder) (t : Ty)
+InferredIsFound =
+    (types : List DataDecl) (funs : List Fun) (e : Expr) (wanted : Option Ty) (scope : List Binder) (t : Ty)
     → type_of types funs e wanted scope ≡ Ok t → inferred_type types funs e wanted scope ≡ t
 
 -- and the binders that it reads off a pattern are those that typing gives
 abbrev pub BindersAreFound : Type 0
-BindersAreFound = (types : List DataDecl) (p : Pat) (t : Ty) (bs : List Binder) → pattern_binders types p t ≡ Ok bs → bs ≡ binders types p t
+BindersAreFound = (types : List DataDecl) (p : Pat) (t : Ty) (bs : List Binder) → pattern_binders types p t ≡ Ok bs
+    → bs ≡ binders types p t
 
 -- a width is the least, from 1 on, that holds a number
 pub record IsLeastWidth (n width : ℕ) : Type 0 where

@@ -21,12 +21,14 @@ fn has_no_leading_zero(word: &[u8]) -> bool
     }
 }
 
+// Whether each byte is a decimal digit.
 fn is_digits(word: &[u8]) -> bool
     ensures { result ≡ list_all is_ascii_digit word.now }
 {
     word.iter().all(|byte| byte.is_ascii_digit())
 }
 
+// Whether the word is decimal digits, without a leading zero unless it is one digit alone.
 fn is_numeral(word: &[u8]) -> bool
     ensures { result ≡ spec.is_numeral word.now }
 {

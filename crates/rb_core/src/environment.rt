@@ -33,6 +33,7 @@ pub(crate) struct Depth {
 }
 
 impl Frame {
+    // How many variables there are now, to go back to with `truncate`.
     pub(crate) fn depth(&self) -> Depth
         ensures scope { result.scope ≡ length self.now.scope }
         ensures values { result.values ≡ length self.now.values }
@@ -162,6 +163,8 @@ pub(crate) fn bind(
     }
 }
 
+// Puts what several patterns bind, each at the part in its place, behind what is bound, up to where
+// the patterns or the parts end.
 #[cycle(binding)]
 #[tactic(auto, using(crate::proofs::BindingLemmas::bound_steps))]
 fn bind_all(

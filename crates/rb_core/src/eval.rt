@@ -40,6 +40,7 @@ pub fn eval(
     eval_program(alloc, typed.program(), fun, args.as_slice(), calls)
 }
 
+// What a call of a function does, with so many calls left, in a program that need not be typed.
 fn eval_program(
     alloc: Global,
     program: &Program,
@@ -54,6 +55,8 @@ fn eval_program(
     Ok(Outcome { log, end })
 }
 
+// How a call of a function ends, with so many calls left, of which it takes one. Its events go
+// behind those of the log.
 #[cycle(evaluation)]
 fn eval_call(
     alloc: Global,
@@ -89,6 +92,8 @@ fn eval_call(
     Ok(end)
 }
 
+// How an expression ends, at a wanted type or none. Its events go behind those of the log, and on
+// `Ok` the frame is what it was.
 #[cycle(evaluation)]
 fn eval_expr(
     alloc: Global,
@@ -159,6 +164,7 @@ fn eval_expr(
     }
 }
 
+// How a call expression ends: its arguments from left to right, then the call with their values.
 #[cycle(evaluation)]
 fn eval_invoke(
     alloc: Global,
@@ -185,6 +191,7 @@ fn eval_invoke(
     }
 }
 
+// How a construction ends: its parts from left to right, then the event that it is built.
 #[cycle(evaluation)]
 fn eval_build(
     alloc: Global,
@@ -212,6 +219,7 @@ fn eval_build(
     }
 }
 
+// How an operator ends: its operands from left to right, then what it gives at their width.
 #[cycle(evaluation)]
 fn eval_binary(
     alloc: Global,
@@ -245,6 +253,7 @@ fn eval_binary(
     }
 }
 
+// How a conversion to so many bits ends: its operand at no wanted type, then the low bits of it.
 #[cycle(evaluation)]
 fn eval_to(
     alloc: Global,
@@ -270,6 +279,7 @@ fn eval_to(
     }
 }
 
+// How a `let` ends: what it binds at the binder's type, then its body with one more variable.
 #[cycle(evaluation)]
 fn eval_let(
     alloc: Global,
@@ -301,6 +311,7 @@ fn eval_let(
     }
 }
 
+// How a match ends: its scrutinee, then the event that it is matched, then its clauses.
 #[cycle(evaluation)]
 fn eval_match(
     alloc: Global,
@@ -335,6 +346,8 @@ fn eval_match(
     }
 }
 
+// How the first clause that matches a value ends, or `0` where none does. One type is wanted of
+// the first of the clauses, and one of the others.
 #[cycle(evaluation)]
 fn eval_clauses(
     alloc: Global,
@@ -369,6 +382,7 @@ fn eval_clauses(
     Ok(SourceEnd::Done(Value::Num(0), calls))
 }
 
+// How parts end, from left to right, each at the type in its place, or at none behind the types.
 #[cycle(evaluation)]
 fn eval_all(
     alloc: Global,

@@ -68,6 +68,7 @@ pub fn infer_operands(
     Ok(wanted_of_operand(op, wanted).unwrap_or(found))
 }
 
+// The type of a `let`: that of its body, with the variable behind those of the scope.
 #[cycle(inferring)]
 fn infer_let(
     program: &Program,
@@ -145,6 +146,8 @@ pub fn bind_types(
     }
 }
 
+// Puts the variables of several patterns, each at the type in its place, behind those of a scope,
+// up to where the patterns or the types end.
 #[cycle(binding_types)]
 #[tactic(auto, using(crate::proofs::InferenceLemmas::binder_steps))]
 fn bind_all_types(
@@ -236,6 +239,7 @@ pub fn types_of_params(alloc: Global, program: &Program, fun: u32) -> Result<Seq
     }
 }
 
+// The types of these parameters, in their order.
 fn types_of(alloc: Global, params: &[Param]) -> Result<Seq<Ty>, AllocError>
     ensures { IfOk result (λ types. types ≡ map (λ p. p.ty) params.now) }
 {

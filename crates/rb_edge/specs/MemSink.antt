@@ -43,5 +43,19 @@ abbrev pub after_write : SinkState → List ℕ → Result ℕ Failed × SinkSta
 after_write s bytes =
     let n = write_count s (length bytes) in
     if write_fails s (length bytes)
-    then (Err (record {}), record s { calls = next_call s.calls; account = after_break s.account; faults = one_more s.faults })
-    else (Ok n, record s { calls = next_call s.calls; taken = s.taken ++ take n bytes; account = after_take (take n bytes) s.account })
+    then (
+      Err (record {}),
+      record s {
+        calls = next_call s.calls;
+        account = after_break s.account;
+        faults = one_more s.faults;
+      },
+    )
+    else (
+      Ok n,
+      record s {
+        calls = next_call s.calls;
+        taken = s.taken ++ take n bytes;
+        account = after_take (take n bytes) s.account;
+      },
+    )

@@ -3,9 +3,10 @@ use Rattle.std.specs.Prelude.{◌≡◌, ◌<◌, ◌↔◌, ℕ, List, [], ◌+
 use Rattle.rb_edge.specs.Faults.{Rose}
 
 -- The source tells its bytes as before or not, and holds the same under each name.
-pub record HoldsTheSame {S : Type 0} (tells : S → Bool) (held : S → List ℕ → Option (List ℕ)) (old new : S) : Type 0 where
-  pub tells_the_same : tells new ≡ tells old
-  pub holds_the_same : (name : List ℕ) → held new name ≡ held old name
+pub record HoldsTheSame {S : Type 0} (tells : S → Bool) (held : S → List ℕ → Option (List ℕ)) (old new : S) : Type 0
+  where
+    pub tells_the_same : tells new ≡ tells old
+    pub holds_the_same : (name : List ℕ) → held new name ≡ held old name
 
 -- The first n bytes of the buffer are the next bytes that were left, and n is 0 exactly at the end, or
 -- where the buffer is empty.

@@ -11,7 +11,8 @@ Begins (Some whole) bytes = (rest : List ℕ) × (whole ≡ bytes ++ rest)
 
 -- a file that was read within a limit: to its end, or one byte over the limit and no further
 abbrev pub read_to : ℕ → List ℕ → List ℕ → Reading
-read_to limit name bytes = record { name = name; bytes = bytes; course = if leb (length bytes) limit then ended else going }
+read_to limit name bytes =
+    record { name = name; bytes = bytes; course = if leb (length bytes) limit then ended else going }
 
 -- how a file was left that was not read so
 abbrev pub stopped_by : ReadFault → Course
@@ -20,7 +21,8 @@ stopped_by Memory = going
 
 -- A file was opened once, and nothing else; at most one byte over the limit was taken. The bytes that are
 -- answered are those that were handed out. Where the source tells, they are those that are held.
-pub record ReadsOnce {S : Type 0} (tells : S → Bool) (held : S → List ℕ → Option (List ℕ)) (readings : S → List Reading) (old new : S)
+pub record ReadsOnce {S : Type 0} (tells : S → Bool) (held : S → List ℕ → Option (List ℕ))
+    (readings : S → List Reading) (old new : S)
     (name : List ℕ) (limit : ℕ) (result : Result (List ℕ) ReadFault) : Type 0 where
   pub reading : Reading
   pub one_more : readings new ≡ readings old ++ reading ∷ []

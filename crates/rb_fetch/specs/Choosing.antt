@@ -35,24 +35,30 @@ pub record IsWay (plan : Plan) (layout : Layout) (n : ℕ) (way : Way) : Type 0 
 
 -- Of the arguments one way follows, which is of the construction's leaf: where slots represent the arguments, the
 -- run leaves by that way's hole, and slots represent, as cleanly, the parts at the leaf's open positions.
-pub record TakesWay (plan : Plan) (layout : Layout) (con : ConRef) (hs : List Held) (old new : Sheet) (choices : Choices) (vs : List Value) : Type 0 where
+pub record TakesWay (plan : Plan) (layout : Layout) (con : ConRef) (hs : List Held) (old new : Sheet)
+    (choices : Choices) (vs : List Value) : Type 0 where
   pub number : ℕ
   pub way : Way
   pub is_way : slice_get choices.ways number ≡ Some way
   pub is_leaf : leaf_of layout (Con con.con vs) ≡ Some way.leaf
   pub leaves : (clean : Bool) (leaf : Leaf) → slice_get layout.leaves way.leaf ≡ Some leaf
-      → Branches plan old.slots old new choices.holes (choose_of plan.layouts con.ty con.con) (λ k s m. (k ≡ number) × AreHeld plan clean s m hs vs)
+      → Branches plan old.slots old new choices.holes (choose_of plan.layouts con.ty con.con)
+      (λ k s m. (k ≡ number) × AreHeld plan clean s m hs vs)
       (λ k s m. ArePartsHeld plan clean s m (open_positions plan.program.types leaf.prov) way.fields (Con con.con vs))
 
 -- The appended code looks into the arguments of a construction until its leaf is known, where each argument matches
 -- the pattern that is shown of it.
-pub record Chooses (plan : Plan) (layout : Layout) (con : ConRef) (hs : List Held) (shown : List Pat) (old new : Sheet) (choices : Choices) : Type 0 where
+pub record Chooses (plan : Plan) (layout : Layout) (con : ConRef) (hs : List Held) (shown : List Pat)
+    (old new : Sheet) (choices : Choices) : Type 0 where
   pub adds : Adds plan old new
   pub ways : (k : ℕ) (way : Way) → slice_get choices.ways k ≡ Some way → IsWay plan layout new.slots way
-  pub takes : (vs : List Value) → AreAsShown shown vs → is_of_type plan.program.types (Con con.con vs) (Named con.ty) ≡ true
+  pub takes : (vs : List Value) → AreAsShown shown vs
+      → is_of_type plan.program.types (Con con.con vs) (Named con.ty) ≡ true
       → TakesWay plan layout con hs old new choices vs
 
 abbrev pub ChoosesLeaf : LaidOut → ConRef → List Held → List Pat → Sheet → Sheet → Choices → Type 0
 ChoosesLeaf agreed con hs shown old new choices =
-    (plan : Plan) → IsPlanOf agreed plan → (fields : List Ty) → fields_of plan.program.types con ≡ Some fields → map held_type hs ≡ fields
-    → AllGiven plan old.slots hs → (layout : Layout) → layout_of plan.layouts con.ty ≡ Some layout → Chooses plan layout con hs shown old new choices
+    (plan : Plan) → IsPlanOf agreed plan → (fields : List Ty) → fields_of plan.program.types con ≡ Some fields
+    → map held_type hs ≡ fields
+    → AllGiven plan old.slots hs → (layout : Layout) → layout_of plan.layouts con.ty ≡ Some layout
+    → Chooses plan layout con hs shown old new choices

@@ -26,18 +26,22 @@ use Rattle.rb_fetch.specs.Finding.{IsPlanOf}
 -- The appended code makes the value of the constructor from values that are held, one a field, and as cleanly as
 -- these are, in new slots: of values that match the patterns that are shown of them. It does at most as many
 -- switches as choosing the value's leaf takes.
-pub record IsConstructed (plan : Plan) (con : ConRef) (hs : List Held) (shown : List Pat) (old new : Sheet) (held : Held) : Type 0 where
+pub record IsConstructed (plan : Plan) (con : ConRef) (hs : List Held) (shown : List Pat) (old new : Sheet)
+    (held : Held) : Type 0 where
   pub kind : held.ty ≡ Named con.ty
   pub adds : Adds plan old new
   pub given : AllBelow new.slots held.slots
   pub count : length held.slots ≡ words_of plan (Named con.ty)
   pub fresh : AllFrom old.slots held.slots
   pub does : (clean : Bool) (vs : List Value) → AreAsShown shown vs
-      → (final : List Instr) (callee : Callee) (next : Next) → Law final callee next → AgreesBut final new.code (length old.code) (length new.code) Nowhere
+      → (final : List Instr) (callee : Callee) (next : Next) → Law final callee next
+      → AgreesBut final new.code (length old.code) (length new.code) Nowhere
       → (s : List ℕ) (w : World) → new.slots ≤ length s → IsGood w.memory → AreHeld plan clean s w.memory hs vs
-      → Makes plan clean (w.switches + choose_of plan.layouts con.ty con.con) next (length old.code) (length new.code) old.slots con.ty held.slots (Con con.con vs) s w
+      → Makes plan clean (w.switches + choose_of plan.layouts con.ty con.con) next (length old.code)
+      (length new.code) old.slots con.ty held.slots (Con con.con vs) s w
 
 abbrev pub Constructs : LaidOut → ConRef → List Held → List Pat → Sheet → Sheet → Held → Type 0
 Constructs agreed con hs shown old new held =
-    (plan : Plan) → IsPlanOf agreed plan → (fields : List Ty) → fields_of plan.program.types con ≡ Some fields → map held_type hs ≡ fields
+    (plan : Plan) → IsPlanOf agreed plan → (fields : List Ty) → fields_of plan.program.types con ≡ Some fields
+    → map held_type hs ≡ fields
     → AllGiven plan old.slots hs → IsConstructed plan con hs shown old new held

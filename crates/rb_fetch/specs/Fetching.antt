@@ -34,10 +34,12 @@ LocFits loc = StepsFit loc.o loc.l loc.steps
 
 -- the appended code leaves a number in a slot wherever Is says of the words in some slots which one it is,
 -- and keeps all slots that there were
-pub record Fetches (plan : Plan) (words : List ℕ) (Is : List ℕ → Memory → ℕ → Type 0) (old new : Sheet) (slot : ℕ) : Type 0 where
+pub record Fetches (plan : Plan) (words : List ℕ) (Is : List ℕ → Memory → ℕ → Type 0) (old new : Sheet)
+    (slot : ℕ) : Type 0 where
   pub adds : Adds plan old new
   pub given : slot < new.slots
-  pub runs : (x : ℕ) → Straight plan old.slots old new (λ s m. IsGood m × Is (slots_at s words) m x) (λ s m. slice_index s slot ≡ x)
+  pub runs : (x : ℕ) → Straight plan old.slots old new (λ s m. IsGood m × Is (slots_at s words) m x)
+      (λ s m. slice_index s slot ≡ x)
 
 abbrev pub IsReadAt : Loc → List ℕ → Memory → ℕ → Type 0
 IsReadAt loc ws m x = read_loc ws m loc ≡ Some x
@@ -45,22 +47,26 @@ IsReadAt loc ws m x = read_loc ws m loc ≡ Some x
 -- what is read at a location that instructions can read
 abbrev pub FetchesLoc : List ℕ → Loc → Sheet → Sheet → ℕ → Type 0
 FetchesLoc words loc old new slot =
-    (plan : Plan) → AllBelow old.slots words → loc.word < length words → LocFits loc → Fetches plan words (IsReadAt loc) old new slot
+    (plan : Plan) → AllBelow old.slots words → loc.word < length words → LocFits loc
+    → Fetches plan words (IsReadAt loc) old new slot
 
 -- each word has at most so many bits as stand in its place, where a number stands there
 abbrev pub AreSmall : List ℕ → List ℕ → Type 0
 AreSmall widths ws = (j width w : ℕ) → slice_get widths j ≡ Some width → slice_get ws j ≡ Some w → w < 2 ^ width
 
 -- The same from reads of the words: wherever they mean words of these widths at which the location comes to a number.
-pub record FetchesMeant (plan : Plan) (words : List Read) (widths : List ℕ) (loc : Loc) (old new : Sheet) (slot : ℕ) : Type 0 where
+pub record FetchesMeant (plan : Plan) (words : List Read) (widths : List ℕ) (loc : Loc) (old new : Sheet)
+    (slot : ℕ) : Type 0 where
   pub adds : Adds plan old new
   pub given : slot < new.slots
   pub runs : (ws : List ℕ) (x : ℕ) → AreSmall widths ws
-      → Straight plan old.slots old new (λ s m. IsGood m × AreMeant words s m ws × IsReadAt loc ws m x) (λ s m. slice_index s slot ≡ x)
+      → Straight plan old.slots old new (λ s m. IsGood m × AreMeant words s m ws × IsReadAt loc ws m x)
+      (λ s m. slice_index s slot ≡ x)
 
 abbrev pub FetchesAt : List Read → List ℕ → Loc → Sheet → Sheet → ℕ → Type 0
 FetchesAt words widths loc old new slot =
-    (plan : Plan) (k : ℕ) → k ≤ old.slots → AllFit k words → loc.word < length words → LocFits loc → FetchesMeant plan words widths loc old new slot
+    (plan : Plan) (k : ℕ) → k ≤ old.slots → AllFit k words → loc.word < length words → LocFits loc
+    → FetchesMeant plan words widths loc old new slot
 
 -- Represented values ---------------------------------------------------------------------------
 
@@ -84,6 +90,7 @@ pub record IsSound (plan : Plan) : Type 0 where
 abbrev pub FetchesBits : List ℕ → Loc → Sheet → Sheet → ℕ → Type 0
 FetchesBits words loc old new slot =
     (plan : Plan) → IsSound plan → AllBelow old.slots words
-    → (u n : ℕ) (layout : Layout) (leaf : Leaf) (x : Reached) → layout_of plan.layouts u ≡ Some layout → slice_get layout.leaves n ≡ Some leaf
+    → (u n : ℕ) (layout : Layout) (leaf : Leaf) (x : Reached) → layout_of plan.layouts u ≡ Some layout
+    → slice_get layout.leaves n ≡ Some leaf
     → length words ≡ length leaf.root → reached_at leaf loc ≡ Some x
     → (t : ℕ) → Fetches plan words (AreBitsAt plan t loc) old new slot

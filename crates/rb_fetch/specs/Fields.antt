@@ -33,7 +33,8 @@ pub record FieldAt (plan : Plan) (t n : ℕ) (path : List ℕ) (ty : Ty) : Type 
 -- Reads --------------------------------------------------------------------------------------
 
 -- the reads mean words that represent the part of a value at a path
-pub record IsPartMeant (plan : Plan) (clean : Bool) (ty : Ty) (v : Value) (path : List ℕ) (reads : List Read) (s : List ℕ) (m : Memory) : Type 0 where
+pub record IsPartMeant (plan : Plan) (clean : Bool) (ty : Ty) (v : Value) (path : List ℕ) (reads : List Read)
+    (s : List ℕ) (m : Memory) : Type 0 where
   pub part : Value
   pub words : List ℕ
   pub is_part : part_at v path ≡ Some part
@@ -42,16 +43,19 @@ pub record IsPartMeant (plan : Plan) (clean : Bool) (ty : Ty) (v : Value) (path 
 
 -- What the words of a field are, over reads of a value's words: wherever these mean words that represent a
 -- value of this leaf, the field's reads mean words that represent the part of it at the path, as cleanly.
-pub record AreFieldReads (plan : Plan) (t n : ℕ) (path : List ℕ) (ty : Ty) (layout : Layout) (words reads : List Read) : Type 0 where
+pub record AreFieldReads (plan : Plan) (t n : ℕ) (path : List ℕ) (ty : Ty) (layout : Layout)
+    (words reads : List Read) : Type 0 where
   pub count : length reads ≡ words_of plan ty
   pub fit : (k : ℕ) → AllFit k words → AllFit k reads
   pub origin : (x : ℕ) → IsSlotOf x reads → IsSlotOf x words
-  pub means : (clean : Bool) (v : Value) (ws s : List ℕ) (m : Memory) → IsGood m → AreMeant words s m ws → Rep plan m clean (Named t) v ws → leaf_of layout v ≡ Some n
+  pub means : (clean : Bool) (v : Value) (ws s : List ℕ) (m : Memory) → IsGood m → AreMeant words s m ws
+      → Rep plan m clean (Named t) v ws → leaf_of layout v ≡ Some n
       → IsPartMeant plan clean ty v path reads s m
 
 abbrev pub ReadsField : LaidOut → ℕ → ℕ → List ℕ → List Read → List Read → Type 0
 ReadsField agreed t n path words reads =
-    (plan : Plan) → IsPlanOf agreed plan → (ty : Ty) (f : FieldAt plan t n path ty) → length words ≡ words_of plan (Named t)
+    (plan : Plan) → IsPlanOf agreed plan → (ty : Ty) (f : FieldAt plan t n path ty)
+    → length words ≡ words_of plan (Named t)
     → AreFieldReads plan t n path ty f.layout words reads
 
 -- Slots --------------------------------------------------------------------------------------
@@ -60,16 +64,19 @@ ReadsField agreed t n path words reads =
 -- slots that there were. Each of the part's slots is new, or is one of the value's. A part at a constructor is
 -- rebuilt in its own type's layout, with at most as many switches as that takes; one at a wildcard is there,
 -- and takes none.
-pub record FieldIsFetched (plan : Plan) (t n : ℕ) (path : List ℕ) (ty : Ty) (f : PositionAt plan t n path ty) (words : List ℕ) (old new : Sheet) (slots : List ℕ) : Type 0 where
+pub record FieldIsFetched (plan : Plan) (t n : ℕ) (path : List ℕ) (ty : Ty) (f : PositionAt plan t n path ty)
+    (words : List ℕ) (old new : Sheet) (slots : List ℕ) : Type 0 where
   pub adds : Adds plan old new
   pub given : AllBelow new.slots slots
   pub count : length slots ≡ words_of plan ty
   pub origin : (x : ℕ) → IsOneOf x slots → (old.slots ≤ x) ⊎ IsOneOf x words
   pub runs : (clean : Bool) (v part : Value) → leaf_of f.layout v ≡ Some n → part_at v path ≡ Some part
       → Piece plan old.slots old new Nowhere (mend_under plan.layouts f.pat)
-      (λ s m. IsGood m × Rep plan m clean (Named t) v (slots_at s words)) (AtEnd new (λ s m. Rep plan m clean ty part (slots_at s slots)))
+      (λ s m. IsGood m × Rep plan m clean (Named t) v (slots_at s words))
+      (AtEnd new (λ s m. Rep plan m clean ty part (slots_at s slots)))
 
 abbrev pub FetchesField : LaidOut → ℕ → ℕ → List ℕ → List ℕ → Sheet → Sheet → List ℕ → Type 0
 FetchesField agreed t n path words old new slots =
-    (plan : Plan) → IsPlanOf agreed plan → (ty : Ty) (f : PositionAt plan t n path ty) → AllBelow old.slots words → length words ≡ words_of plan (Named t)
+    (plan : Plan) → IsPlanOf agreed plan → (ty : Ty) (f : PositionAt plan t n path ty) → AllBelow old.slots words
+    → length words ≡ words_of plan (Named t)
     → FieldIsFetched plan t n path ty f words old new slots

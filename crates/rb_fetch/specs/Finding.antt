@@ -37,7 +37,8 @@ pub record IsPlanOf (agreed : LaidOut) (plan : Plan) : Type 0 where
 abbrev pub FindsLeaf : LaidOut → ℕ → List ℕ → Sheet → Sheet → List Hole → Type 0
 FindsLeaf agreed t words old new holes =
     (plan : Plan) → IsPlanOf agreed plan → AllBelow old.slots words → length words ≡ word_count plan.layouts (Named t)
-    → Branches plan old.slots old new holes (depth_of plan.layouts (Named t)) (λ n s m. HasLeaf plan t n (slots_at s words) m) (λ n s m. Unit {0})
+    → Branches plan old.slots old new holes (depth_of plan.layouts (Named t))
+    (λ n s m. HasLeaf plan t n (slots_at s words) m) (λ n s m. Unit {0})
 
 -- the same over reads of the words, which may stand in memory still
 pub record HasLeafMeant (plan : Plan) (t n : ℕ) (reads : List Read) (s : List ℕ) (m : Memory) : Type 0 where
@@ -48,7 +49,8 @@ pub record HasLeafMeant (plan : Plan) (t n : ℕ) (reads : List Read) (s : List 
 abbrev pub FindsLeafOf : LaidOut → ℕ → List Read → Sheet → Sheet → List Hole → Type 0
 FindsLeafOf agreed t reads old new holes =
     (plan : Plan) → IsPlanOf agreed plan → AllFit old.slots reads → length reads ≡ word_count plan.layouts (Named t)
-    → Branches plan old.slots old new holes (depth_of plan.layouts (Named t)) (λ n s m. HasLeafMeant plan t n reads s m) (λ n s m. Unit {0})
+    → Branches plan old.slots old new holes (depth_of plan.layouts (Named t))
+    (λ n s m. HasLeafMeant plan t n reads s m) (λ n s m. Unit {0})
 
 -- the words represent a value of the type, whose leaf has this group
 pub record HasGroup (plan : Plan) (t : ℕ) (groups : List (Option ℕ)) (g : ℕ) (ws : List ℕ) (m : Memory) : Type 0 where
@@ -56,7 +58,8 @@ pub record HasGroup (plan : Plan) (t : ℕ) (groups : List (Option ℕ)) (g : �
   pub is_group : group_at groups leaf ≡ Some g
   pub has_leaf : HasLeaf plan t leaf ws m
 
-pub record HasGroupMeant (plan : Plan) (t : ℕ) (groups : List (Option ℕ)) (g : ℕ) (reads : List Read) (s : List ℕ) (m : Memory) : Type 0 where
+pub record HasGroupMeant (plan : Plan) (t : ℕ) (groups : List (Option ℕ)) (g : ℕ) (reads : List Read) (s : List ℕ)
+    (m : Memory) : Type 0 where
   pub words : List ℕ
   pub are_meant : AreMeant reads s m words
   pub has_group : HasGroup plan t groups g words m
@@ -69,18 +72,20 @@ group_depth_in groups (Some layout) = nesting_in (pruned_of groups layout.tree)
 abbrev pub group_depth : List Layout → ℕ → List (Option ℕ) → ℕ
 group_depth layouts t groups = group_depth_in groups (layout_of layouts t)
 
--- Run on words of a value whose leaf has a group, the appended code leaves by a hole of that group, with at most as many
--- switches as splits are nested where those that tell no group from another are left out.
+-- Run on words of a value whose leaf has a group, the appended code leaves by a hole of that group, with at most as
+-- many switches as splits are nested where those that tell no group from another are left out.
 abbrev pub FindsGroup : LaidOut → ℕ → List (Option ℕ) → List ℕ → Sheet → Sheet → List Hole → Type 0
 FindsGroup agreed t groups words old new holes =
     (plan : Plan) → IsPlanOf agreed plan → AllBelow old.slots words → length words ≡ word_count plan.layouts (Named t)
-    → Branches plan old.slots old new holes (group_depth plan.layouts t groups) (λ g s m. HasGroup plan t groups g (slots_at s words) m) (λ g s m. Unit {0})
+    → Branches plan old.slots old new holes (group_depth plan.layouts t groups)
+    (λ g s m. HasGroup plan t groups g (slots_at s words) m) (λ g s m. Unit {0})
 
 -- the same over reads of the words
 abbrev pub FindsGroupOf : LaidOut → ℕ → List (Option ℕ) → List Read → Sheet → Sheet → List Hole → Type 0
 FindsGroupOf agreed t groups reads old new holes =
     (plan : Plan) → IsPlanOf agreed plan → AllFit old.slots reads → length reads ≡ word_count plan.layouts (Named t)
-    → Branches plan old.slots old new holes (group_depth plan.layouts t groups) (λ g s m. HasGroupMeant plan t groups g reads s m) (λ g s m. Unit {0})
+    → Branches plan old.slots old new holes (group_depth plan.layouts t groups)
+    (λ g s m. HasGroupMeant plan t groups g reads s m) (λ g s m. Unit {0})
 
 -- the leaves of a type's layout
 abbrev pub leaves_within : Option Layout → ℕ

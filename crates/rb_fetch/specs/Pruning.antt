@@ -1,4 +1,5 @@
--- Trees of splits whose leaves form groups: below a split that leads one way alone there is no choice, and it is left out.
+-- Trees of splits whose leaves form groups:
+-- below a split that leads one way alone there is no choice, and it is left out.
 use Rattle.std.specs.Prelude.{◌≡◌, ℕ, ◌<◌, ◌≤◌, ◌==◌, ◌&&◌, List, [], ◌∷◌, Bool, true, false, Option, Some, None, slice_get, if◌then◌else◌}
 use Rattle.rb_core.specs.declared.layout_decl.Loc.{Loc}
 use Rattle.rb_bytes.specs.Memory.{Memory}
@@ -126,5 +127,6 @@ nesting_in (Some t) = nesting t
 -- Words that lead to a leaf of a group through the tree lead to the group through the other one, in which no more
 -- splits are nested.
 pub record Prunes (groups : List (Option ℕ)) (tree : FlatTree) (pruned : Option FlatTree) : Type 0 where
-  pub walks : (ws : List ℕ) (m : Memory) (leaf g : ℕ) → walk tree ws m ≡ Some leaf → group_at groups leaf ≡ Some g → walk_in pruned ws m ≡ Some g
+  pub walks : (ws : List ℕ) (m : Memory) (leaf g : ℕ) → walk tree ws m ≡ Some leaf → group_at groups leaf ≡ Some g
+      → walk_in pruned ws m ≡ Some g
   pub nests : nesting_in pruned ≤ nesting tree

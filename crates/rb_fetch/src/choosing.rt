@@ -64,6 +64,7 @@ fn end_way(
     Ok(Way { pc, leaf, fields })
 }
 
+// The open jumps of ways, each with the number of its way in place of a leaf.
 fn holes_of(alloc: Global, ways: &[Way]) -> Result<Seq<Hole>, AllocError>
     ensures { IfOk result (λ holes. holes ≡ holes_from 0 ways.now) }
 {

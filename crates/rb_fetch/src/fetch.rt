@@ -51,6 +51,7 @@ pub(crate) fn fetch_bits(
     Ok(slot)
 }
 
+// The number that stands in the place of a word among the widths.
 fn width_at(widths: &[u64], word: u64) -> Option<u64>
     ensures { result ≡ slice_get widths.now word }
 {

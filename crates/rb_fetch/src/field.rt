@@ -56,6 +56,7 @@ pub fn field_reads(
     }
 }
 
+// The leaf of a type with this number, where there is one.
 fn leaf_at(layouts: &[Layout], ty: u32, leaf: usize) -> Option<&Leaf>
     ensures { option_copied result ≡ fields.leaf_at layouts.now ty leaf }
 {
@@ -85,6 +86,7 @@ fn word_reads(
     Ok(reads)
 }
 
+// A read of the word with this number of such a field: zero where no part holds it.
 fn word_read(
     alloc: Global,
     leaf: &Leaf,

@@ -139,6 +139,7 @@ pub(crate) fn field_heads(alloc: Global, pats: &[Pat]) -> Result<Seq<Place>, All
     Ok(found)
 }
 
+// Whether a constructor has no fields.
 fn is_bare(types: &[DataDecl], con: ConRef) -> bool
     ensures { result ≡ is_bare types.now con }
 {
@@ -165,12 +166,14 @@ pub(crate) fn bare_paths(
     Ok(paths)
 }
 
+/// Whether two positions are the same.
 pub(crate) fn same_path(own: &[u32], path: &[u32]) -> bool
     ensures { result ≡ same_path own.now path.now }
 {
     own == path
 }
 
+// Whether a position is among some.
 fn is_among(paths: &[Seq<u32>], path: &[u32]) -> bool
     ensures { result ≡ is_among paths.now path.now }
 {
@@ -209,6 +212,7 @@ fn can_be(places: &[Place], path: &[u32], con: u32) -> bool
     true
 }
 
+/// The leaf with this number in a type's layout.
 pub(crate) fn leaf_at(layouts: &[Layout], ty: u32, leaf: usize) -> Option<&Leaf>
     ensures { option_copied result ≡ leaf_at layouts.now ty leaf }
 {
@@ -218,6 +222,7 @@ pub(crate) fn leaf_at(layouts: &[Layout], ty: u32, leaf: usize) -> Option<&Leaf>
     }
 }
 
+// Whether the leaf with this number can still be here where a constructor stands at a position.
 fn can_be_leaf(
     alloc: Global,
     layouts: &[Layout],
@@ -294,6 +299,7 @@ fn stands_at(places: &[Place], path: &[u32]) -> bool
     false
 }
 
+// Whether the leaf with this number takes the part at a position apart.
 fn takes_apart(
     alloc: Global,
     layouts: &[Layout],

@@ -40,6 +40,7 @@ pub(crate) fn is_leaf_for(leaf: &Leaf, con: u32) -> bool
     }
 }
 
+// Those of some leaves that are for the values of a constructor, by number.
 fn leaves_of(alloc: Global, leaves: &[Leaf], con: u32) -> Result<Seq<usize>, AllocError>
     ensures { IfOk result (λ found. found ≡ leaves_for con leaves.now 0) }
 {
@@ -81,6 +82,7 @@ pub(crate) fn count_leaves(layouts: &[Layout], ty: u32) -> Option<usize>
 
 // Parts -----------------------------------------------------------------------------------------
 
+// A copy of a value in slots.
 fn copy_held(alloc: Global, held: &Held) -> Result<Held, AllocError>
     ensures { IfOk result (λ copy. copy ≡ held.now) }
 {
@@ -88,6 +90,7 @@ fn copy_held(alloc: Global, held: &Held) -> Result<Held, AllocError>
     Ok(Held { ty: held.ty, slots })
 }
 
+// A copy of parts, with their positions.
 pub(crate) fn copy_parts(alloc: Global, parts: &[Subvalue]) -> Result<Seq<Subvalue>, AllocError>
     ensures { IfOk result (λ copies. copies ≡ parts.now) }
 {

@@ -28,6 +28,7 @@ pub struct Spot<'a> {
     pub part: &'a Part,
 }
 
+// Whether the path of a part is this one.
 fn same_path(own: &[u32], path: &[u32]) -> bool
     ensures { result ≡ same_path own.now path.now }
 {
@@ -47,6 +48,7 @@ fn has_bit(own: &[u32], path: &[u32], a: u64, l: u64, i: u64) -> bool
     i - a < l
 }
 
+// Whether word `j` of the field at a part's own path is word `i` of the field at this path.
 fn has_word(own: &[u32], path: &[u32], j: u64, i: u64) -> bool
     ensures { result ≡ (same_path own.now path.now && (j == i)) }
 {
@@ -56,6 +58,7 @@ fn has_word(own: &[u32], path: &[u32], j: u64, i: u64) -> bool
     j == i
 }
 
+// Whether a part holds a unit of the field of this type at a path.
 fn holds_unit(ty: Ty, path: &[u32], i: u64, part: &Part) -> bool
     ensures { result ≡ held.holds_unit ty path.now i part.now.l part.now.kind }
 {
@@ -75,6 +78,7 @@ fn holds_unit(ty: Ty, path: &[u32], i: u64, part: &Part) -> bool
     }
 }
 
+// Whether a part is a pointer to the block with this number.
 fn points_to(part: &Part, block: usize) -> bool
     ensures { result ≡ placing.points_to block part.now.kind }
 {
@@ -86,6 +90,7 @@ fn points_to(part: &Part, block: usize) -> bool
     }
 }
 
+// Whether a part is a wanted one.
 fn is_wanted(part: &Part, path: &[u32], wanted: Wanted) -> bool
     ensures { result ≡ placing.is_wanted path.now wanted part.now }
 {
@@ -95,6 +100,7 @@ fn is_wanted(part: &Part, path: &[u32], wanted: Wanted) -> bool
     }
 }
 
+// The first wanted part of a word.
 fn part_of<'a>(flat: &'a FlatWord, path: &[u32], wanted: Wanted) -> Option<&'a Part>
     ensures { MatchOption result (placing.NoneIn path.now wanted flat.now.parts)
         (λ x. placing.HasPart path.now wanted flat.now.parts x.now) }
@@ -107,6 +113,7 @@ fn part_of<'a>(flat: &'a FlatWord, path: &[u32], wanted: Wanted) -> Option<&'a P
     None
 }
 
+// Where the first wanted part stands in words of the root, or of a block.
 fn spot_in<'a>(
     words: &'a [FlatWord],
     block: Option<usize>,

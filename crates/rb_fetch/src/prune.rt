@@ -30,6 +30,7 @@ fn group_of(tree: &FlatTree) -> Option<u32>
     }
 }
 
+// Whether a tree leads to this group without a split.
 fn leads_to(tree: &FlatTree, group: u32) -> bool
     ensures { result ≡ is_group (group_of tree.now) group }
 {
@@ -39,6 +40,7 @@ fn leads_to(tree: &FlatTree, group: u32) -> bool
     }
 }
 
+// Whether all of these arms do.
 fn lead_all(arms: &[FlatArm], group: u32) -> bool
     ensures { result ≡ lead_all group arms.now }
 {
@@ -50,6 +52,7 @@ fn lead_all(arms: &[FlatArm], group: u32) -> bool
     true
 }
 
+// Whether the else does, or there is none.
 fn leads_else(other: &Option<FlatTree>, group: u32) -> bool
     ensures { result ≡ leads_else group other.now }
 {
@@ -128,6 +131,7 @@ fn joined(
     }
 }
 
+// What `pruned` gives. The call nests as deep as the tree.
 #[cycle(pruning)]
 fn prune(
     alloc: Global,

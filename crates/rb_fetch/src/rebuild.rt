@@ -63,6 +63,7 @@ pub(crate) fn fetch_field_at(
     }
 }
 
+// A copy of the numbers of slots.
 fn copy_slots(alloc: Global, slots: &[usize]) -> Result<Seq<usize>, AllocError>
     ensures { IfOk result (λ copy. copy ≡ slots.now) }
 {
@@ -73,6 +74,10 @@ fn copy_slots(alloc: Global, slots: &[usize]) -> Result<Seq<usize>, AllocError>
     Ok(copy)
 }
 
+/// A copy of a position.
+///
+/// # Errors
+/// `AllocError` where memory is wanting.
 pub(crate) fn copy_path(alloc: Global, path: &[u32]) -> Result<Seq<u32>, AllocError>
     ensures { IfOk result (λ copy. copy ≡ path.now) }
 {
@@ -96,6 +101,7 @@ fn pattern_at<'a>(pat: &'a Pat, path: &[u32]) -> Option<&'a Pat>
     }
 }
 
+// The subpattern of a constructor pattern in a field.
 fn sub_at(pat: &Pat, field: u32) -> Option<&Pat>
     ensures { option_copied result ≡ sub_at pat.now field }
 {

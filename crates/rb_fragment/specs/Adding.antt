@@ -11,7 +11,8 @@ use Rattle.rb_fragment.specs.Plan.{Plan, words_of, words_in, types_of}
 -- a call has the words of its function's parameters and result; there is no return yet
 abbrev pub CallsWell : Plan → Instr → Type 0
 CallsWell plan (Call g ds froms) =
-    (f : Fun) × (slice_get plan.program.funs g ≡ Some f) × (length ds ≡ words_of plan f.result) × (length froms ≡ words_in plan (types_of f))
+    (f : Fun) × (slice_get plan.program.funs g ≡ Some f) × (length ds ≡ words_of plan f.result)
+    × (length froms ≡ words_in plan (types_of f))
 CallsWell plan (Return froms) = ⊥
 CallsWell plan i = Unit {0}
 
@@ -32,4 +33,5 @@ pub record Adds (plan : Plan) (old new : Sheet) : Type 0 where
   pub more : old.slots ≤ new.slots
   pub params : new.params ≡ old.params
   pub written : (s : ℕ) → old.slots ≤ s → s < new.slots → IsWrittenFrom new.code (length old.code) s
-  pub fine : (pc : ℕ) (i : Instr) → length old.code ≤ pc → slice_get new.code pc ≡ Some i → IsFitting plan new.slots (length new.code) pc i
+  pub fine : (pc : ℕ) (i : Instr) → length old.code ≤ pc → slice_get new.code pc ≡ Some i
+      → IsFitting plan new.slots (length new.code) pc i

@@ -30,7 +30,8 @@ closed b (h ∷ hs) ts = closed (patched b h (slice_index ts h.leaf)) hs ts
 -- each is a hole in front of its target
 abbrev pub ArePatchable : List Instr → List Hole → List ℕ → Type 0
 ArePatchable code [] ts = Unit {0}
-ArePatchable code (h ∷ hs) ts = IsHole code h × (h.leaf < length ts) × (h.pc < slice_index ts h.leaf) × ArePatchable code hs ts
+ArePatchable code (h ∷ hs) ts =
+    IsHole code h × (h.leaf < length ts) × (h.pc < slice_index ts h.leaf) × ArePatchable code hs ts
 
 -- holes of instructions from a number on, each of one of so many ways
 abbrev pub AreHoles : ℕ → ℕ → List Instr → List Hole → Type 0

@@ -29,7 +29,8 @@ Comes plan clean out next b n t slots s v w =
 
 -- From the end of the old code to that of the new one the run does what o does, wherever Pre holds: in any
 -- finished code that has the new code, and with any calls that are the source's.
-pub record Fragment (plan : Plan) (clean : Bool) (calls : Calls) (old new : Sheet) (Pre : List ℕ → Memory → Type 0) (o : ℕ → Outcome)
+pub record Fragment (plan : Plan) (clean : Bool) (calls : Calls) (old new : Sheet) (Pre : List ℕ → Memory → Type 0)
+    (o : ℕ → Outcome)
     (t : Ty) (slots : List ℕ) : Type 0 where
   pub runs : (final : List Instr) (callee : Callee) (next : Next) → Law final callee next → Related plan calls callee
       → AgreesBut final new.code (length old.code) (length new.code) Nowhere
@@ -38,7 +39,8 @@ pub record Fragment (plan : Plan) (clean : Bool) (calls : Calls) (old new : Shee
       (Comes plan clean (next (length old.code) s w) next (length new.code) old.slots t slots s)
 
 -- the appended code leaves what ev gives in slots, which are new or a variable's
-pub record Emits (plan : Plan) (ev : Calls → ℕ → List Binding → Outcome) (locals : List Local) (old new : Sheet) (t : Ty)
+pub record Emits (plan : Plan) (ev : Calls → ℕ → List Binding → Outcome) (locals : List Local) (old new : Sheet)
+    (t : Ty)
     (slots : List ℕ) : Type 0 where
   pub adds : Adds plan old new
   pub given : AllBelow new.slots slots
@@ -52,7 +54,8 @@ abbrev pub AnyValues : List Value → Type 0
 AnyValues vs = Unit {0}
 
 -- the appended code does f of the values that are held, where they are such ones, and leaves the result in new slots
-pub record Applies (plan : Plan) (Such : List Value → Type 0) (f : Calls → List Value → ℕ → Outcome) (hs : List Held) (old new : Sheet) (t : Ty)
+pub record Applies (plan : Plan) (Such : List Value → Type 0) (f : Calls → List Value → ℕ → Outcome)
+    (hs : List Held) (old new : Sheet) (t : Ty)
     (slots : List ℕ) : Type 0 where
   pub adds : Adds plan old new
   pub given : AllBelow new.slots slots
@@ -63,7 +66,8 @@ pub record Applies (plan : Plan) (Such : List Value → Type 0) (f : Calls → L
 
 -- The appended code leaves the values of some expressions, each at its wanted type, in the slots of hs, and
 -- whatever code comes then does what go does of the values. They are such ones.
-pub record EmitsAll (plan : Plan) (Such : List Value → Type 0) (ms : Calls → List Meaning) (ts : List Ty) (locals : List Local) (old new : Sheet)
+pub record EmitsAll (plan : Plan) (Such : List Value → Type 0) (ms : Calls → List Meaning) (ts : List Ty)
+    (locals : List Local) (old new : Sheet)
     (hs : List Held) : Type 0 where
   pub adds : Adds plan old new
   pub given : AllGiven plan new.slots hs
@@ -79,7 +83,8 @@ pub record EmitsAll (plan : Plan) (Such : List Value → Type 0) (ms : Calls →
       → Grown w.memory w'.memory bs p → AreHeld plan clean s' w'.memory hs vs
       → Does plan w'.switches (next (length old.code) s w) w'.memory (go vs w'.left)
       (Comes plan clean (next (length old.code) s w) next b old.slots t slots s))
-      → Does plan w.switches (next (length old.code) s w) w.memory (then_with (all_of (ms calls) ts (scope_of locals) [] w.left env) go)
+      → Does plan w.switches (next (length old.code) s w) w.memory
+      (then_with (all_of (ms calls) ts (scope_of locals) [] w.left env) go)
       (Comes plan clean (next (length old.code) s w) next b old.slots t slots s)
 
 -- a call of function g, its result in new slots

@@ -19,7 +19,8 @@ use Rattle.rb_fragment.specs.Slots.{slots_from}
 abbrev pub param_locals : Plan → ℕ → List Param → List Local
 param_locals plan a [] = []
 param_locals plan a (p ∷ ps) =
-    record { var = p.var; ty = p.ty; slots = slots_from a (words_of plan p.ty) } ∷ param_locals plan (a + words_of plan p.ty) ps
+    record { var = p.var; ty = p.ty; slots = slots_from a (words_of plan p.ty) }
+    ∷ param_locals plan (a + words_of plan p.ty) ps
 
 abbrev pub param_words : Plan → Fun → ℕ
 param_words plan f = words_in plan (types_of f)
@@ -32,7 +33,8 @@ empty_sheet plan f = record { code = []; params = param_words plan f; slots = pa
 abbrev pub HasShapes : Plan → List CodeFun → Type 0
 HasShapes plan funs =
     (g : ℕ) (f : Fun) → slice_get plan.program.funs g ≡ Some f
-    → (q : CodeFun) × (slice_get funs g ≡ Some q) × (q.results ≡ words_of plan f.result) × (q.params ≡ param_words plan f)
+    → (q : CodeFun) × (slice_get funs g ≡ Some q) × (q.results ≡ words_of plan f.result)
+    × (q.params ≡ param_words plan f)
 
 -- The code q of function g: it is valid among functions of the right shapes, and does what the function
 -- does, wherever the calls in both do alike.
@@ -42,19 +44,24 @@ pub record Compiles (plan : Plan) (g : ℕ) (f : Fun) (q : CodeFun) : Type 0 whe
   pub results : q.results ≡ words_of plan f.result
   pub valid : (funs : List CodeFun) → HasShapes plan funs → IsValidFun funs q
   pub does : (calls : Calls) (callee : Callee) (next : Next) → Law q.body callee next → Related plan calls callee
-      → (clean : Bool) (vs : List Value) (ws : List ℕ) (w : World) → IsGood w.memory → Reps plan w.memory clean (types_of f) vs ws
-      → Does plan w.switches (next 0 (ws ++ replicate (q.slots - length ws) 0) w) w.memory (body_of plan.program calls (Some f) g w.left vs)
+      → (clean : Bool) (vs : List Value) (ws : List ℕ) (w : World) → IsGood w.memory
+      → Reps plan w.memory clean (types_of f) vs ws
+      → Does plan w.switches (next 0 (ws ++ replicate (q.slots - length ws) 0) w) w.memory
+      (body_of plan.program calls (Some f) g w.left vs)
       (Gives plan clean f.result (next 0 (ws ++ replicate (q.slots - length ws) 0) w))
 
 -- each function has its code
 abbrev pub AllCompile : Plan → List CodeFun → Type 0
 AllCompile plan funs =
-    (g : ℕ) (f : Fun) → slice_get plan.program.funs g ≡ Some f → (q : CodeFun) × (slice_get funs g ≡ Some q) × Compiles plan g f q
+    (g : ℕ) (f : Fun) → slice_get plan.program.funs g ≡ Some f → (q : CodeFun) × (slice_get funs g ≡ Some q)
+    × Compiles plan g f q
 
 -- Every run does what the source's call does: for all functions, represented arguments, good memories and
 -- numbers of calls, cleanly where the arguments are clean.
 abbrev pub RunsDo : Plan → List CodeFun → Type 0
 RunsDo plan funs =
-    (clean : Bool) (g : ℕ) (f : Fun) (vs : List Value) (ws : List ℕ) (n : ℕ) (m : Memory) → slice_get plan.program.funs g ≡ Some f → IsGood m
+    (clean : Bool) (g : ℕ) (f : Fun) (vs : List Value) (ws : List ℕ) (n : ℕ) (m : Memory)
+    → slice_get plan.program.funs g ≡ Some f → IsGood m
     → Reps plan m clean (types_of f) vs ws
-    → Does plan 0 (run_of funs n g ws m) m (call_of plan.program g n vs) (Gives plan clean f.result (run_of funs n g ws m))
+    → Does plan 0 (run_of funs n g ws m) m (call_of plan.program g n vs)
+    (Gives plan clean f.result (run_of funs n g ws m))

@@ -15,12 +15,16 @@ use Rattle.rb_fragment.specs.Fragments.{AnyValues, Applies, Emits, EmitsAll, cal
 
 abbrev pub CallsApply : Type 0
 CallsApply =
-    (plan : Plan) (a : Sheet) (g : ℕ) (f : Fun) (hs : List Held) → slice_get plan.program.funs g ≡ Some f → map held_type hs ≡ types_of f
+    (plan : Plan) (a : Sheet) (g : ℕ) (f : Fun) (hs : List Held) → slice_get plan.program.funs g ≡ Some f
+    → map held_type hs ≡ types_of f
     → AllGiven plan a.slots hs
-    → Applies plan AnyValues (λ calls vs left. calls g left vs) hs a (calling plan a g f hs) f.result (slots_from a.slots (words_of plan f.result))
+    → Applies plan AnyValues (λ calls vs left. calls g left vs) hs a (calling plan a g f hs) f.result
+    (slots_from a.slots (words_of plan f.result))
 
 abbrev pub PartsThenApply : Type 0
 PartsThenApply =
-    (plan : Plan) (ts : List Ty) (ls : List Local) (ms : Calls → List Meaning) (f : Calls → List Value → ℕ → Outcome) (a b c : Sheet)
-    (hs : List Held) (t : Ty) (slots : List ℕ) → EmitsAll plan AnyValues ms ts ls a b hs → Applies plan AnyValues f hs b c t slots
+    (plan : Plan) (ts : List Ty) (ls : List Local) (ms : Calls → List Meaning)
+    (f : Calls → List Value → ℕ → Outcome) (a b c : Sheet)
+    (hs : List Held) (t : Ty) (slots : List ℕ) → EmitsAll plan AnyValues ms ts ls a b hs
+    → Applies plan AnyValues f hs b c t slots
     → Emits plan (λ calls left env. then_with (all_of (ms calls) ts (scope_of ls) [] left env) (f calls)) ls a c t slots

@@ -37,6 +37,7 @@ Gives plan clean t out v w =
 -- the code's calls do what the source's do: for each function of the program and represented arguments
 abbrev pub Related : Plan → Calls → Callee → Type 0
 Related plan calls callee =
-    (clean : Bool) (g : ℕ) (f : Fun) (vs : List Value) (ws : List ℕ) (w : World) → slice_get plan.program.funs g ≡ Some f
+    (clean : Bool) (g : ℕ) (f : Fun) (vs : List Value) (ws : List ℕ) (w : World)
+    → slice_get plan.program.funs g ≡ Some f
     → IsGood w.memory → Reps plan w.memory clean (types_of f) vs ws
     → Does plan w.switches (callee g ws w) w.memory (calls g w.left vs) (Gives plan clean f.result (callee g ws w))

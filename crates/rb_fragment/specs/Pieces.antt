@@ -20,7 +20,8 @@ pub record IsLater (most : ℕ) (w w' : World) : Type 0 where
 -- from a number on the run comes to an instruction and slots of which Exit holds; the first n slots are kept
 abbrev pub Reached : Next → ℕ → ℕ → ℕ → (ℕ → List ℕ → Memory → Type 0) → List ℕ → World → Type 0
 Reached next start n most Exit s w =
-    (pc : ℕ) × (s' : List ℕ) × (w' : World) × (next start s w ≡ next pc s' w') × Keeps n s s' × IsLater most w w' × Exit pc s' w.memory
+    (pc : ℕ) × (s' : List ℕ) × (w' : World) × (next start s w ≡ next pc s' w') × Keeps n s s' × IsLater most w w'
+    × Exit pc s' w.memory
 
 -- From the end of old, where Pre holds, the run comes to Exit, with at most so many switches and the first
 -- n slots kept. Of the instructions at open places nothing is assumed.
@@ -41,8 +42,10 @@ AtEnd new Post pc s m = (pc ≡ length new.code) × Post s m
 abbrev pub Straight : Plan → ℕ → Sheet → Sheet → (List ℕ → Memory → Type 0) → (List ℕ → Memory → Type 0) → Type 0
 Straight plan n old new Pre Post = Piece plan n old new Nowhere 0 Pre (AtEnd new Post)
 
--- the run goes out by a hole of way k, whatever its target, with Exit, at most so many switches and the first n slots kept
-pub record Leaves (final : List Instr) (next : Next) (holes : List Hole) (n most start : ℕ) (s : List ℕ) (w : World) (k : ℕ)
+-- the run goes out by a hole of way k, whatever its target,
+-- with Exit, at most so many switches and the first n slots kept
+pub record Leaves (final : List Instr) (next : Next) (holes : List Hole) (n most start : ℕ) (s : List ℕ) (w : World)
+    (k : ℕ)
     (Exit : List ℕ → Memory → Type 0) : Type 0 where
   pub hole : Hole
   pub is_hole : IsIn hole holes
@@ -58,7 +61,8 @@ pub record Leaves (final : List Instr) (next : Next) (holes : List Hole) (n most
 
 -- From the end of old, where Pre k holds, the run leaves by a hole of way k, whatever the targets are that
 -- are open still: jumps, or arms of the switches themselves.
-pub record Branches (plan : Plan) (n : ℕ) (old new : Sheet) (holes : List Hole) (most : ℕ) (Pre : ℕ → List ℕ → Memory → Type 0)
+pub record Branches (plan : Plan) (n : ℕ) (old new : Sheet) (holes : List Hole) (most : ℕ)
+    (Pre : ℕ → List ℕ → Memory → Type 0)
     (Exit : ℕ → List ℕ → Memory → Type 0) : Type 0 where
   pub adds : Adds plan old new
   pub low : n ≤ old.slots

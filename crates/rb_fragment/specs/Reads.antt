@@ -90,7 +90,8 @@ fits_share n = fold-Share Bool Bool (fits_step n) share_fits
 pub record Makes (plan : Plan) (read : Read) (old new : Sheet) (slot : ℕ) : Type 0 where
   pub adds : Adds plan old new
   pub given : slot < new.slots
-  pub runs : (x : ℕ) → Straight plan old.slots old new (λ s m. IsGood m × (mean read s m ≡ Some x)) (λ s m. slice_index s slot ≡ x)
+  pub runs : (x : ℕ) → Straight plan old.slots old new (λ s m. IsGood m × (mean read s m ≡ Some x))
+      (λ s m. slice_index s slot ≡ x)
 
 abbrev pub MakesRead : Read → Sheet → Sheet → ℕ → Type 0
 MakesRead read old new slot = (plan : Plan) (k : ℕ) → k ≤ old.slots → fits k read ≡ true → Makes plan read old new slot

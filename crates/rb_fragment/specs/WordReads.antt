@@ -31,10 +31,12 @@ IsSlotOf x (r ∷ rs) = (r ≡ Slot x) ⊎ IsSlotOf x rs
 pub record MakesWords (plan : Plan) (reads : List Read) (old new : Sheet) (slots : List ℕ) : Type 0 where
   pub adds : Adds plan old new
   pub given : AllBelow new.slots slots
-  pub runs : (ws : List ℕ) → Straight plan old.slots old new (λ s m. IsGood m × AreMeant reads s m ws) (λ s m. slots_at s slots ≡ ws)
+  pub runs : (ws : List ℕ) → Straight plan old.slots old new (λ s m. IsGood m × AreMeant reads s m ws)
+      (λ s m. slots_at s slots ≡ ws)
 
 abbrev pub MakesAll : List Read → Sheet → Sheet → List ℕ → Type 0
-MakesAll reads old new slots = (plan : Plan) (k : ℕ) → k ≤ old.slots → AllFit k reads → MakesWords plan reads old new slots
+MakesAll reads old new slots =
+    (plan : Plan) (k : ℕ) → k ≤ old.slots → AllFit k reads → MakesWords plan reads old new slots
 
 -- each slot is new, or it held a read before
 abbrev pub AreNewOr : List Read → Sheet → List ℕ → Type 0

@@ -18,6 +18,7 @@ pub fn patch_all(body: &mut Body, holes: &[Hole], targets: &[usize])
     }
 }
 
+// The target of a way.
 fn target_of(targets: &[usize], way: usize) -> usize
     requires { way < length targets.now }
     ensures { result ≡ slice_index targets.now way }

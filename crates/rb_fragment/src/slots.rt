@@ -57,6 +57,7 @@ pub fn joined_slots(alloc: Global, held: &[Held]) -> Result<Seq<usize>, AllocErr
     Ok(slots)
 }
 
+// Adds slots behind those of a list.
 fn push_all(slots: &mut Seq<usize>, more: &[usize]) -> Result<(), AllocError>
     ensures { OnOk result (slots.new ≡ slots.old ++ more.now) }
 {

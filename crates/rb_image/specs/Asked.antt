@@ -39,10 +39,12 @@ asked_else (Some go) m ws = go m ws
 
 abbrev pub asked_arms : Kept → List (Under Asking) → Option Asking → Asking
 asked_arms range [] other m ws = asked_else other m ws
-asked_arms range (arm ∷ arms) other m ws = if nat_eq arm.literal range.number then arm.of m ws else asked_arms range arms other m ws
+asked_arms range (arm ∷ arms) other m ws =
+    if nat_eq arm.literal range.number then arm.of m ws else asked_arms range arms other m ws
 
 abbrev pub asked_step : FlatTree-F Asking (Under Asking) → Asking
-asked_step (T.Split loc arms other) m ws = ranges_at m ws loc ++ if_found (range_at m ws loc) (λ range. asked_arms range arms other m ws)
+asked_step (T.Split loc arms other) m ws =
+    ranges_at m ws loc ++ if_found (range_at m ws loc) (λ range. asked_arms range arms other m ws)
 asked_step (T.Leaf n) m ws = []
 
 abbrev pub asked_arm : FlatArm-F Asking (Under Asking) → Under Asking

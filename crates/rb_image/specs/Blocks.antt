@@ -22,7 +22,8 @@ is_width width = (width == 8) || ((width == 16) || ((width == 32) || (width == 6
 
 -- the number in so many bytes from one on, the lowest byte first, where there are so many
 abbrev pub number_in : List ℕ → ℕ → ℕ → Option ℕ
-number_in bytes byte count = if nat_le (byte + count) (length bytes) then Some (from_le_bytes (slice_range bytes byte (byte + count))) else None
+number_in bytes byte count =
+    if nat_le (byte + count) (length bytes) then Some (from_le_bytes (slice_range bytes byte (byte + count))) else None
 
 -- the word from a byte of a block on
 abbrev pub word_from : ImageBlock → ℕ → ℕ → Option ℕ

@@ -28,8 +28,8 @@ use Rattle.rb_image.specs.Values.{IsDeclared}
 
 -- Blocks in which words are kept -------------------------------------------------------------
 
--- the address of the block in which word j of a leaf is kept: that of the leaf's own block, which begins at its `ats`; or, for
--- root word j, `from j`, which is 0 where the word is kept in no block
+-- the address of the block in which word j of a leaf is kept: that of the leaf's own block, which begins at its
+-- `ats`; or, for root word j, `from j`, which is 0 where the word is kept in no block
 abbrev pub base_in : (ℕ → ℕ) → (ℕ → ℕ) → Option ℕ → ℕ → ℕ
 base_in from ats None j = from j
 base_in from ats (Some b) j = ats b
@@ -40,7 +40,8 @@ Falls base at = (base ≡ 0) ⊎ (at < base)
 
 -- each pointer part of a leaf that stands in a block leads to a block with a lower address
 abbrev pub PointersFall : Leaf → (ℕ → ℕ) → (ℕ → ℕ) → Type 0
-PointersFall leaf from ats = (r : WordRef) (l align b : ℕ) → PointsTo leaf r l align b → Falls (base_in from ats r.block r.word) (ats b)
+PointersFall leaf from ats =
+    (r : WordRef) (l align b : ℕ) → PointsTo leaf r l align b → Falls (base_in from ats r.block r.word) (ats b)
 
 -- a part in the word at r that is word j of the subvalue at a path
 pub record HasWord (leaf : Leaf) (r : WordRef) (path : List ℕ) (j : ℕ) : Type 0 where
@@ -53,15 +54,18 @@ pub record HasWord (leaf : Leaf) (r : WordRef) (path : List ℕ) (j : ℕ) : Typ
 
 -- each word of a subvalue is kept where the part stands that it is
 abbrev pub AreKept : Leaf → (ℕ → ℕ) → (ℕ → ℕ) → (List ℕ → ℕ → ℕ) → Type 0
-AreKept leaf from ats inner = (r : WordRef) (path : List ℕ) (j : ℕ) → HasWord leaf r path j → inner path j ≡ base_in from ats r.block r.word
+AreKept leaf from ats inner =
+    (r : WordRef) (path : List ℕ) (j : ℕ) → HasWord leaf r path j → inner path j ≡ base_in from ats r.block r.word
 
 -- Values -------------------------------------------------------------------------------------
 
--- the words represent the value at its type in the memory, where word j is kept in the block at `from j`, or in none where
--- that is 0; and all pointers fall, here and in the subvalues, whose words are kept in the blocks at `inner`
-pub data Descends (types : List DataDecl) (layouts : List Layout) (m : Memory) : Ty → Value → List ℕ → (ℕ → ℕ) → Type 0 where
+-- the words represent the value at its type in the memory, where word j is kept in the block at `from j`, or in none
+-- where that is 0; and all pointers fall, here and in the subvalues, whose words are kept in the blocks at `inner`
+pub data Descends (types : List DataDecl) (layouts : List Layout) (m : Memory) : Ty → Value → List ℕ → (ℕ → ℕ)
+    → Type 0 where
   number : (bits x : ℕ) (from : ℕ → ℕ) → x < 2 ^ bits → Descends types layouts m (Int bits) (Num x) (x ∷ []) from
-  built : (t : ℕ) (v : Value) (ws : List ℕ) (from : ℕ → ℕ) (b : Made types layouts m false t v ws) (inner : List ℕ → ℕ → ℕ)
+  built : (t : ℕ) (v : Value) (ws : List ℕ) (from : ℕ → ℕ) (b : Made types layouts m false t v ws)
+      (inner : List ℕ → ℕ → ℕ)
       → PointersFall b.leaf from b.ats → AreKept b.leaf from b.ats inner
       → ((k : ℕ) (o : Open) → slice_get (open_positions types b.leaf.prov) k ≡ Some o
       → Descends types layouts m o.ty (b.at o.path) (b.subs o.path) (inner o.path))
@@ -73,16 +77,21 @@ RootDescends p image ty v = Descends p.types (flat_layouts p) (image_memory imag
 
 -- an image whose root words do so is sound for the type
 abbrev pub DescendingImagesAreSound : Type 0
-DescendingImagesAreSound = (p : Program) → IsTyped p → Agrees p → (image : Image) → AreInPlace image.blocks → AreBlocks image.blocks
+DescendingImagesAreSound =
+    (p : Program) → IsTyped p → Agrees p → (image : Image) → AreInPlace image.blocks → AreBlocks image.blocks
     → (ty : Ty) (v : Value) → RootDescends p image ty v → IsSoundImage p.types (flat_layouts p) image ty
 
 -- the root words of an image that is sound for a type of the program do so
 abbrev pub SoundImagesDescend : Type 0
-SoundImagesDescend = (p : Program) → IsTyped p → Agrees p → (image : Image) → AreInPlace image.blocks → AreBlocks image.blocks
-    → (ty : Ty) → IsDeclared p.types ty → IsSoundImage p.types (flat_layouts p) image ty → (v : Value) × RootDescends p image ty v
+SoundImagesDescend =
+    (p : Program) → IsTyped p → Agrees p → (image : Image) → AreInPlace image.blocks → AreBlocks image.blocks
+    → (ty : Ty) → IsDeclared p.types ty → IsSoundImage p.types (flat_layouts p) image ty → (v : Value)
+    × RootDescends p image ty v
 
 -- what they represent in any memory in which the image's blocks stand is that value
 abbrev pub SoundValuesDescend : Type 0
-SoundValuesDescend = (p : Program) → IsTyped p → Agrees p → (image : Image) → AreInPlace image.blocks → AreBlocks image.blocks
-    → (ty : Ty) → IsDeclared p.types ty → IsSoundImage p.types (flat_layouts p) image ty → (m : Memory) → IsGood m → Stand image.blocks m
+SoundValuesDescend =
+    (p : Program) → IsTyped p → Agrees p → (image : Image) → AreInPlace image.blocks → AreBlocks image.blocks
+    → (ty : Ty) → IsDeclared p.types ty → IsSoundImage p.types (flat_layouts p) image ty → (m : Memory) → IsGood m
+    → Stand image.blocks m
     → (v : Value) → Represents p.types (flat_layouts p) m false ty v image.root → RootDescends p image ty v

@@ -16,6 +16,7 @@ use Rattle.std.specs.Prelude.{ℕ, List}
 
 -- where an image holds a value, the words of what stands at a path represent the part of the value there
 abbrev pub GivenPartsAreHeld : Type 0
-GivenPartsAreHeld = (p : Program) → IsTyped p → Agrees p → (image : Image) → AreInPlace image.blocks → AreBlocks image.blocks
+GivenPartsAreHeld =
+    (p : Program) → IsTyped p → Agrees p → (image : Image) → AreInPlace image.blocks → AreBlocks image.blocks
     → (ty : Ty) (v : Value) → RootDescends p image ty v → (path : List ℕ) (part : Peeked)
     → IsPart p.types (flat_layouts p) image ty path part → IsPartThere p image v path part.ty part.words

@@ -27,7 +27,8 @@ bit_in v i (Pointer align b) = 0
 -- bit i of the integer at a path: that of the first part which holds it, where parts have these numbers
 abbrev pub field_bit : (PartAt → ℕ) → Ty → List PartAt → List ℕ → ℕ → ℕ
 field_bit value ty [] path i = 0
-field_bit value ty (s ∷ ss) path i = if holds_unit ty path i s.part.l s.part.kind then bit_in (value s) i s.part.kind else field_bit value ty ss path i
+field_bit value ty (s ∷ ss) path i =
+    if holds_unit ty path i s.part.l s.part.kind then bit_in (value s) i s.part.kind else field_bit value ty ss path i
 
 -- the number in a part's bits
 abbrev pub value_in : List ImageBlock → LeafWords → PartAt → ℕ

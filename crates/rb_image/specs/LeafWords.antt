@@ -29,7 +29,8 @@ abbrev pub follow_kind : List ImageBlock → Leaf → List ℕ → Kept → Kind
 follow_kind m leaf ats bits (Const c) = ats
 follow_kind m leaf ats bits (Bits path a) = ats
 follow_kind m leaf ats bits (Word path j) = ats
-follow_kind m leaf ats bits (Pointer align b) = if slice_index ats b == 0 then with_found ats b (followed m leaf bits align b) else ats
+follow_kind m leaf ats bits (Pointer align b) =
+    if slice_index ats b == 0 then with_found ats b (followed m leaf bits align b) else ats
 
 abbrev pub follow_part : List ImageBlock → Leaf → List Kept → List ℕ → PartAt → List ℕ
 follow_part m leaf ws ats s = follow_kind m leaf ats (bits_at m ws ats s) s.part.kind
@@ -39,8 +40,8 @@ abbrev pub follow : List ImageBlock → Leaf → List Kept → List ℕ → List
 follow m leaf ws ats [] = ats
 follow m leaf ws ats (s ∷ ss) = follow m leaf ws (follow_part m leaf ws ats s) ss
 
--- the addresses of a leaf's blocks by number, on these words of its root; 0 for a block to which no pointer leads, as where
--- a pointer on the way is refused
+-- the addresses of a leaf's blocks by number, on these words of its root; 0 for a block to which no pointer leads, as
+-- where a pointer on the way is refused
 abbrev pub reached : List ImageBlock → Leaf → List Kept → List ℕ
 reached m leaf ws = follow m leaf ws (replicate (length leaf.blocks) 0) (order_of leaf)
 
@@ -53,7 +54,8 @@ numbers_at m at byte (f ∷ fs) = unwrap_or (word_in m at byte f.width) 0 ∷ nu
 
 -- those of the words of block b, none where its address is not known
 abbrev pub block_numbers : List ImageBlock → Leaf → List ℕ → ℕ → List ℕ
-block_numbers m leaf ats b = if slice_index ats b == 0 then [] else numbers_at m (slice_index ats b) 0 (words_in leaf (Some b))
+block_numbers m leaf ats b =
+    if slice_index ats b == 0 then [] else numbers_at m (slice_index ats b) 0 (words_in leaf (Some b))
 
 abbrev pub items_or_none : Option (Vec ℕ Global) → List ℕ
 items_or_none None = []

@@ -15,7 +15,8 @@ span_of b = (b.at, length b.bytes)
 -- what is written at the addresses from one on up to another: the bytes of the blocks, and nothing between them
 abbrev pub bytes_from : ℕ → List ImageBlock → ℕ → List (Option ℕ)
 bytes_from from [] to = replicate (to - from) None
-bytes_from from (b ∷ bs) to = replicate (b.at - from) None ++ (map Some b.bytes ++ bytes_from (b.at + length b.bytes) bs to)
+bytes_from from (b ∷ bs) to =
+    replicate (b.at - from) None ++ (map Some b.bytes ++ bytes_from (b.at + length b.bytes) bs to)
 
 -- the memory of so many bytes that has these blocks and no others
 abbrev pub memory_within : ℕ → List ImageBlock → Memory

@@ -37,7 +37,8 @@ behind inner (Word path j) = []
 behind inner (Pointer align b) = inner b
 
 abbrev pub with_inner : (ℕ → List PartAt) → Option ℕ → ℕ → ℕ → ℕ → Part → List PartAt
-with_inner inner block j byte width p = record { block = block; word = j; byte = byte; width = width; part = p } ∷ behind inner p.kind
+with_inner inner block j byte width p =
+    record { block = block; word = j; byte = byte; width = width; part = p } ∷ behind inner p.kind
 
 abbrev pub word_order : (ℕ → List PartAt) → Option ℕ → ℕ → ℕ → FlatWord → List PartAt
 word_order inner block j byte f = flat_map (with_inner inner block j byte f.width) (by_offset f)
@@ -45,7 +46,8 @@ word_order inner block j byte f = flat_map (with_inner inner block j byte f.widt
 -- words, the first of which is word j and begins at a byte
 abbrev pub words_order : (ℕ → List PartAt) → Option ℕ → ℕ → ℕ → List FlatWord → List PartAt
 words_order inner block j byte [] = []
-words_order inner block j byte (f ∷ fs) = word_order inner block j byte f ++ words_order inner block (j + 1) (byte + f.width / 8) fs
+words_order inner block j byte (f ∷ fs) =
+    word_order inner block j byte f ++ words_order inner block (j + 1) (byte + f.width / 8) fs
 
 -- the parts of a block, and of those that it leads to through fewer than `depth` pointers more
 abbrev pub block_order : Leaf → ℕ → ℕ → List PartAt

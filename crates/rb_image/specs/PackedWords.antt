@@ -18,12 +18,15 @@ use Rattle.rb_image.specs.Rebuilds.{packed, words_in}
 -- the words of each field at an open position of a leaf represent the part of the value there
 abbrev pub FieldsRepresent : Program → Memory → Bool → Value → Leaf → List FieldWords → Type 0
 FieldsRepresent p m clean v leaf fields = (k : ℕ) (o : Open) → slice_get (open_positions p.types leaf.prov) k ≡ Some o
-    → (u : Value) × (part_at v o.path ≡ Some u) × Represents p.types (flat_layouts p) m clean o.ty u (words_in fields o.path)
+    → (u : Value) × (part_at v o.path ≡ Some u)
+    × Represents p.types (flat_layouts p) m clean o.ty u (words_in fields o.path)
 
--- where the words of its fields represent the parts of a value, those that they make in its leaf represent the value, and
--- cleanly where the fields' do
+-- where the words of its fields represent the parts of a value, those that they make in its leaf represent the value,
+-- and cleanly where the fields' do
 abbrev pub PackedWordsRepresent : Type 0
-PackedWordsRepresent = (p : Program) → IsTyped p → Agrees p → (m : Memory) → IsGood m → (clean : Bool) (t : ℕ) (v : Value)
+PackedWordsRepresent =
+    (p : Program) → IsTyped p → Agrees p → (m : Memory) → IsGood m → (clean : Bool) (t : ℕ) (v : Value)
     → (layout : Layout) (n : ℕ) (leaf : Leaf) → layout_of (flat_layouts p) t ≡ Some layout → leaf_of layout v ≡ Some n
-    → slice_get layout.leaves n ≡ Some leaf → leaf.blocks ≡ [] → (fields : List FieldWords) → FieldsRepresent p m clean v leaf fields
+    → slice_get layout.leaves n ≡ Some leaf → leaf.blocks ≡ [] → (fields : List FieldWords)
+    → FieldsRepresent p m clean v leaf fields
     → Represents p.types (flat_layouts p) m clean (Named t) v (packed leaf fields)

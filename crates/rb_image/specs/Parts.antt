@@ -27,7 +27,12 @@ use Rattle.rb_image.specs.Splits.{and_then, nothing, or_fault, pointed_from, ran
 -- the word of a part, where the addresses of the leaf's blocks are known
 abbrev pub kept_at : List ImageBlock → List Kept → List ℕ → Option ℕ → PartAt → Kept
 kept_at m ws ats None s = word_at ws s.word
-kept_at m ws ats (Some b) s = record { number = unwrap_or (word_in m (slice_index ats b) s.byte s.width) 0; base = slice_index ats b; place = s.byte }
+kept_at m ws ats (Some b) s =
+    record {
+      number = unwrap_or (word_in m (slice_index ats b) s.byte s.width) 0;
+      base = slice_index ats b;
+      place = s.byte;
+    }
 
 -- the bits of a part
 abbrev pub bits_at : List ImageBlock → List Kept → List ℕ → PartAt → Kept
@@ -94,7 +99,8 @@ holds (Pointer align b) path j = false
 -- word j of the field at a path: the part that holds it
 abbrev pub field_word : List ImageBlock → List Kept → List ℕ → List PartAt → List ℕ → ℕ → Kept
 field_word m ws ats [] path j = nothing
-field_word m ws ats (s ∷ ss) path j = if holds s.part.kind path j then bits_at m ws ats s else field_word m ws ats ss path j
+field_word m ws ats (s ∷ ss) path j =
+    if holds s.part.kind path j then bits_at m ws ats s else field_word m ws ats ss path j
 
 -- n words of the field, from word j on
 abbrev pub field_words : (List ℕ → ℕ → Kept) → List ℕ → ℕ → ℕ → List Kept
@@ -104,22 +110,28 @@ field_words word path j (suc n) = word path j ∷ field_words word path (j + 1) 
 -- the place at an open position, if it is of a data type
 abbrev pub place_at : List Layout → (List ℕ → ℕ → Kept) → List ℕ → Ty → List At
 place_at layouts word path (Int bits) = []
-place_at layouts word path (Named t) = record { ty = t; words = field_words word path 0 (word_count layouts (Named t)) } ∷ []
+place_at layouts word path (Named t) =
+    record { ty = t; words = field_words word path 0 (word_count layouts (Named t)) } ∷ []
 
 -- the places at the open positions of a leaf, from left to right
 abbrev pub places_of : List DataDecl → List Layout → List ImageBlock → Leaf → List Kept → List ℕ → List At
 places_of types layouts m leaf ws ats =
-    flat_map (λ (o : Open). place_at layouts (field_word m ws ats (order_of leaf)) o.path o.ty) (open_positions types leaf.prov)
+    flat_map (λ (o : Open). place_at layouts (field_word m ws ats (order_of leaf)) o.path o.ty)
+    (open_positions types leaf.prov)
 
 -- One place ----------------------------------------------------------------------------------
 
-abbrev pub look_leaf : List DataDecl → List Layout → List ImageBlock → List Kept → Option Leaf → Result (List At) ImageFault
+abbrev pub look_leaf : List DataDecl → List Layout → List ImageBlock → List Kept → Option Leaf
+    → Result (List At) ImageFault
 look_leaf types layouts m ws None = Ok []
-look_leaf types layouts m ws (Some leaf) = and_then (addresses_of m leaf ws) (λ ats. Ok (places_of types layouts m leaf ws ats))
+look_leaf types layouts m ws (Some leaf) =
+    and_then (addresses_of m leaf ws) (λ ats. Ok (places_of types layouts m leaf ws ats))
 
-abbrev pub look_layout : List DataDecl → List Layout → List ImageBlock → List Kept → Option Layout → Result (List At) ImageFault
+abbrev pub look_layout : List DataDecl → List Layout → List ImageBlock → List Kept → Option Layout
+    → Result (List At) ImageFault
 look_layout types layouts m ws None = Ok []
-look_layout types layouts m ws (Some layout) = and_then (leaf_at layout.tree m ws) (λ n. look_leaf types layouts m ws (slice_get layout.leaves n))
+look_layout types layouts m ws (Some layout) =
+    and_then (leaf_at layout.tree m ws) (λ n. look_leaf types layouts m ws (slice_get layout.leaves n))
 
 -- the first fault of a place by itself, of its splits before its parts, or the places below it
 abbrev pub look : List DataDecl → List Layout → List ImageBlock → At → Result (List At) ImageFault

@@ -35,7 +35,8 @@ IsOpen (P.Con at c ps) = ⊥
 
 -- the integer of so many bits at the path inside the leaf of a subvalue
 abbrev pub integer_in : List ImageBlock → Seen → ℕ → ℕ
-integer_in m s bits = numbered bits (field_bit (λ (part : PartAt). (part_bits m s part).number) (Int bits) (order_of s.leaf) s.at)
+integer_in m s bits =
+    numbered bits (field_bit (λ (part : PartAt). (part_bits m s part).number) (Int bits) (order_of s.leaf) s.at)
 
 -- the word of an integer that stands at the end of a walk
 pub record IsIntegerEnd (m : List ImageBlock) (w : Where) (words : List ℕ) : Type 0 where
@@ -49,14 +50,17 @@ abbrev pub IsEnd : List ImageBlock → Where → List ℕ → Type 0
 IsEnd m w words = ((w.last.at ≡ []) × (words ≡ map (λ (k : Kept). k.number) w.last.words)) ⊎ IsIntegerEnd m w words
 
 -- they represent the part of a value at the path
-pub record IsPartThere (p : Program) (image : Image) (v : Value) (path : List ℕ) (ty : Ty) (words : List ℕ) : Type 0 where
-  pub part : Value
-  pub is_part : part_at v path ≡ Some part
-  pub represents : Represents p.types (flat_layouts p) (image_memory image.blocks) false ty part words
+pub record IsPartThere (p : Program) (image : Image) (v : Value) (path : List ℕ) (ty : Ty) (words : List ℕ) : Type 0
+  where
+    pub part : Value
+    pub is_part : part_at v path ≡ Some part
+    pub represents : Represents p.types (flat_layouts p) (image_memory image.blocks) false ty part words
 
 -- where an image holds a value, the words at the end of a path represent the part of the value there
 abbrev pub PathsLeadToParts : Type 0
-PathsLeadToParts = (p : Program) → IsTyped p → Agrees p → (image : Image) → AreInPlace image.blocks → AreBlocks image.blocks
+PathsLeadToParts =
+    (p : Program) → IsTyped p → Agrees p → (image : Image) → AreInPlace image.blocks → AreBlocks image.blocks
     → (t : ℕ) (v : Value) → RootDescends p image (Named t) v → (path : List ℕ) (w : Where)
-    → ◌≡◌ {A = Result Where ImageFault} (walked p.types (flat_layouts p) image.blocks t (kept_from 0 image.root) path) (Ok w)
+    → ◌≡◌ {A = Result Where ImageFault} (walked p.types (flat_layouts p) image.blocks t (kept_from 0 image.root)
+    path) (Ok w)
     → (words : List ℕ) → IsEnd image.blocks w words → IsPartThere p image v path w.here.ty words

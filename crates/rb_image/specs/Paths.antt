@@ -21,8 +21,8 @@ use Rattle.rb_image.specs.Roots.{kept_from, root_at}
 use Rattle.rb_image.specs.Walks.{Seen, Where, layout_at, moved, open_data, see, walked, where_of, words_on}
 use Rattle.rb_image.specs.Ways.{leads_below, refusal_of}
 
--- one of these words is kept in the block that begins at `base`, from byte `place` on; at base 0 it is the root word with that
--- number
+-- one of these words is kept in the block that begins at `base`, from byte `place` on; at base 0 it is the root word
+-- with that number
 pub record IsKeptAt (ks : List Kept) (base place : ℕ) : Type 0 where
   pub number : ℕ
   pub word : Kept
@@ -39,7 +39,8 @@ is_there ats (Some b) = not (slice_index ats b == 0)
 
 -- the word of a part, if it holds what stands at a path or below it, or its pointer leads to a word that does
 abbrev pub word_below : List ImageBlock → Leaf → List Kept → List ℕ → List ℕ → PartAt → List Kept
-word_below m leaf ws ats path s = if is_there ats s.block && leads_below leaf path s.part.kind then bits_at m ws ats s ∷ [] else []
+word_below m leaf ws ats path s =
+    if is_there ats s.block && leads_below leaf path s.part.kind then bits_at m ws ats s ∷ [] else []
 
 -- those of a leaf's words that hold what stands at a path or below it, and those whose pointers lead to them
 abbrev pub words_below : List ImageBlock → Leaf → List Kept → List ℕ → List ℕ → List Kept
@@ -86,8 +87,8 @@ module _ (layouts : List Layout) (m : List ImageBlock) where
   abbrev pub IsSeen : At → Result Seen ImageFault → Type 0
   IsSeen x r = see layouts m x.ty x.words ≡ r
 
-  -- a word has a fault in a subvalue: a split has no arm for its bits, or passes a pointer in it that is refused; or a part of
-  -- the leaf does not hold in it
+  -- a word has a fault in a subvalue: a split has no arm for its bits, or passes a pointer in it that is refused; or
+  -- a part of the leaf does not hold in it
   abbrev pub IsAtFault : At → ℕ → ℕ → ImageFault → Type 0
   IsAtFault x base place fault =
       (IsSeen x (Err fault) × IsKeptAt (words_asked x) base place × Names fault base place)
@@ -136,8 +137,8 @@ module _ (types : List DataDecl) (layouts : List Layout) (image : Image) (t : �
     pub is_step : IsStep before field here
     pub is_kept : IsKeptAt (words_ahead image.blocks (moved before field here).last) base place
 
-  -- a word on the path: of the root; one that the splits of a subvalue on the path read; or one that holds what comes next on
-  -- the path or below that, or whose pointer leads to such a word
+  -- a word on the path: of the root; one that the splits of a subvalue on the path read; or one that holds what comes
+  -- next on the path or below that, or whose pointer leads to such a word
   abbrev pub IsPathWord : ℕ → ℕ → Type 0
   IsPathWord base place = IsKeptAt root base place
       ⊎ ((x : At) × IsOnPath x × IsKeptAt (words_asked layouts image.blocks x) base place)

@@ -15,8 +15,8 @@ use Rattle.rb_image.specs.Roots.{AllFit, IsFirstMisfit, kept_from, widths_of}
 use Rattle.rb_image.specs.Walks.{Where}
 
 module _ (types : List DataDecl) (layouts : List Layout) (image : Image) where
-  -- the words of what stands at the end of a walk: those of a subvalue to whose own leaf one came; inside a leaf those of an
-  -- integer, or of a constructor that is rebuilt
+  -- the words of what stands at the end of a walk: those of a subvalue to whose own leaf one came; inside a leaf
+  -- those of an integer, or of a constructor that is rebuilt
   abbrev pub words_there : Where → List ℕ → Result (List ℕ) ImageFault
   words_there w [] = Ok (numbers_of w.last.words)
   words_there w (i ∷ at) = rebuilt types layouts image.blocks w
@@ -40,8 +40,8 @@ module _ (types : List DataDecl) (layouts : List Layout) (image : Image) where
   abbrev pub IsPart : Ty → List ℕ → Peeked → Type 0
   IsPart ty path part = AllFit (widths_of layouts ty) image.root × IsPartOf ty path part
 
-  -- a word on the path has this fault, for which what stands at the end of the path cannot be rebuilt: the leaf of a subvalue
-  -- below it has to be known, and does not hold there
+  -- a word on the path has this fault, for which what stands at the end of the path cannot be rebuilt: the leaf of a
+  -- subvalue below it has to be known, and does not hold there
   pub record IsEndFault (t : ℕ) (path : List ℕ) (fault : ImageFault) : Type 0 where
     pub end : Where
     pub is_come : IsCome types layouts image t path path end
@@ -57,8 +57,8 @@ module _ (types : List DataDecl) (layouts : List Layout) (image : Image) where
       HasPathFault types layouts image t path (IsOnPath types layouts image t path) fault
       ⊎ HasNoPart types layouts image t path fault ⊎ IsEndFault t path fault
 
-  -- why there is no part: a root word does not fit; a word on the path is at fault; a step names no field; or what stands at the
-  -- end cannot be rebuilt
+  -- why there is no part: a root word does not fit; a word on the path is at fault; a step names no field; or what
+  -- stands at the end cannot be rebuilt
   abbrev pub IsPartFault : Ty → List ℕ → ImageFault → Type 0
   IsPartFault ty path fault =
       ((i : ℕ) × (fault ≡ BadRoot i) × IsFirstMisfit (widths_of layouts ty) image.root i)

@@ -18,7 +18,8 @@ IsRead v limit (Err fault) = ((fault ≡ ImageTooLarge) × (limit < node_count v
 
 -- the image holds a value of more nodes
 abbrev pub IsOver : Program → Image → Ty → ℕ → ImageFault → Type 0
-IsOver p image ty limit fault = (fault ≡ ImageTooLarge) × (v : Value) × RootDescends p image ty v × (limit < node_count v)
+IsOver p image ty limit fault =
+    (fault ≡ ImageTooLarge) × (v : Value) × RootDescends p image ty v × (limit < node_count v)
 
 -- why no value is read: the image's first fault, or that its value has more nodes; or memory is wanting
 abbrev pub IsReason : Program → List Layout → Image → Ty → ℕ → ImageFault → Type 0

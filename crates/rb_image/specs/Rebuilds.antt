@@ -41,7 +41,8 @@ module _ (types : List DataDecl) where
   -- fields, the first of which is field i
   abbrev pub match_fields : List Matching → Standing → ℕ → Result Bool ImageFault
   match_fields [] x i = Ok true
-  match_fields (go ∷ gos) x i = and_then (match_field go (down types x i)) (λ so. if so then match_fields gos x (i + 1) else Ok false)
+  match_fields (go ∷ gos) x i =
+      and_then (match_field go (down types x i)) (λ so. if so then match_fields gos x (i + 1) else Ok false)
 
   abbrev pub match_con : ConRef → List Matching → Standing → Pat-F Pat → Result Bool ImageFault
   match_con c gos x (P.Wild at) = Ok false
@@ -59,7 +60,8 @@ or_later (Ok false) leaf later = later
 or_later (Err fault) leaf later = or_fault_before fault later
 
 module _ (types : List DataDecl) (layouts : List Layout) (m : List ImageBlock) where
-  -- a constructor asks for the leaf of what stands at its position; a wildcard asks for nothing. Provenances have no numbers
+  -- a constructor asks for the leaf of what stands at its position;
+  -- a wildcard asks for nothing. Provenances have no numbers
   abbrev pub match_step : Pat-F Matching → Matching
   match_step (P.Wild at) x = Ok true
   match_step (P.Var at v) x = Ok true
@@ -122,19 +124,27 @@ module _ (types : List DataDecl) (layouts : List Layout) (m : List ImageBlock) w
       and_then (chosen types layouts m (layout_at layouts t).leaves x) (λ leaf.
       and_then (fields_at (rebuilt_within n) x (open_positions types leaf.prov)) (λ fields. Ok (packed leaf fields)))
 
-  -- A field that is rebuilt is held in the words of the value whose field it is. Holding has no cycle, so no more types are held
-  -- one inside the other than there are layouts.
+  -- A field that is rebuilt is held in the words of the value whose field it is. Holding has no cycle, so no more
+  -- types are held one inside the other than there are layouts.
   abbrev pub words_of : Standing → Result (List ℕ) ImageFault
   words_of x = words_at (rebuilt_within (length layouts)) x.here.ty x
 
   abbrev pub end_of : Where → Standing
-  end_of w = record { leaf = w.last.leaf; root = w.last.words; addresses = reached m w.last.leaf w.last.words; at = w.last.at; here = w.here }
+  end_of w =
+      record {
+        leaf = w.last.leaf;
+        root = w.last.words;
+        addresses = reached m w.last.leaf w.last.words;
+        at = w.last.at;
+        here = w.here;
+      }
 
   abbrev pub unless_refused : Option ImageFault → Standing → Result (List ℕ) ImageFault
   unless_refused None x = words_of x
   unless_refused (Some fault) x = Err fault
 
-  -- the words of what stands at the end of a walk inside a leaf, where no pointer on the way to a field of it is refused
+  -- the words of what stands at the end of a walk inside a leaf,
+  -- where no pointer on the way to a field of it is refused
   abbrev pub rebuilt : Where → Result (List ℕ) ImageFault
   rebuilt w = let x = end_of w in
       unless_refused (refused_below m x.leaf x.root x.addresses x.at (order_of x.leaf)) x

@@ -36,24 +36,26 @@ abbrev pub is_plain : Pat → Bool
 is_plain = fold-Pat Bool plain_step
 
 module _ (p : Program) where
-  -- a pattern of a type, as it stands below the root of a provenance: it has no numbers, and the types that it takes apart
-  -- have no pointers
+  -- a pattern of a type, as it stands below the root of a provenance: it has no numbers, and the types that it takes
+  -- apart have no pointers
   pub record IsInner (pat : Pat) (ty : Ty) : Type 0 where
     pub fits : fits_type p.types pat ty ≡ true
     pub plain : is_plain pat ≡ true
     pub free : (k : ℕ) (c : ConRef) → slice_get (cons_of pat) k ≡ Some c → HasPointerPart (flat_layouts p) c.ty → ⊥
 
   module _ (m : Memory) (blocks : List ImageBlock) where
-    -- a value stands at a position that has a pattern of a type: the pattern matches it, and what stands open below has words
-    -- that represent the parts there
+    -- a value stands at a position that has a pattern of a type: the pattern matches it, and what stands open below
+    -- has words that represent the parts there
     pub record Stands (x : Standing) (v : Value) (pat : Pat) (ty : Ty) : Type 0 where
       pub is_pat : x.here.pat ≡ pat
       pub is_ty : x.here.ty ≡ ty
       pub inner : IsInner pat ty
       pub typed : is_of_type p.types v ty ≡ true
       pub matches : matches_of pat v ≡ true
-      pub fields : (k : ℕ) (o : Open) → slice_get (opens_of p.types pat ty) k ≡ Some o → (u : Value) × (part_at v o.path ≡ Some u)
-          × Represents p.types (flat_layouts p) m false o.ty u (open_words (flat_layouts p) blocks x (x.at ++ o.path) o.ty)
+      pub fields : (k : ℕ) (o : Open) → slice_get (opens_of p.types pat ty) k ≡ Some o → (u : Value)
+          × (part_at v o.path ≡ Some u)
+          × Represents p.types (flat_layouts p) m false o.ty u
+          (open_words (flat_layouts p) blocks x (x.at ++ o.path) o.ty)
 
     -- words represent the value, or memory is wanting
     abbrev pub AreRight : Ty → Value → Result (List ℕ) ImageFault → Type 0

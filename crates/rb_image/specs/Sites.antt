@@ -8,7 +8,8 @@ use Rattle.rb_image.specs.WordReads.{read_of}
 
 -- the word of which a site is a range
 abbrev pub word_there : Image → Site → Kept
-word_there image s = record { number = unwrap_or (read_of image s.base s.place s.width) 0; base = s.base; place = s.place }
+word_there image s =
+    record { number = unwrap_or (read_of image s.base s.place s.width) 0; base = s.base; place = s.place }
 
 -- the bits at a site, and where they are kept
 abbrev pub kept_of : Image → Site → Kept

@@ -1,5 +1,5 @@
--- Whether an image is sound from a place on, and the first fault that it has there: outer places before inner ones, from
--- left to right. It stands over what each place comes to by itself: its own fault, or the places below it.
+-- Whether an image is sound from a place on, and the first fault that it has there: outer places before inner ones,
+-- from left to right. It stands over what each place comes to by itself: its own fault, or the places below it.
 use Rattle.std.specs.Prelude.{◌≡◌, ◌⊎◌, ◌<◌, ℕ, List, Result, Ok, Err, Some, slice_get}
 use Rattle.rb_image_text.specs.declared.fault.ImageFault.{ImageFault}
 use Rattle.rb_image_text.specs.declared.fault.ImageFault.TheVariants.{Memory}
@@ -10,13 +10,16 @@ Looking = At → Result (List At) ImageFault
 
 -- a place has no fault of its own, and each place below it is sound
 pub data IsSound (look : Looking) : At → Type 0 where
-  sound : (p : At) (below : List At) → look p ≡ Ok below → ((k : ℕ) (q : At) → slice_get below k ≡ Some q → IsSound look q) → IsSound look p
+  sound : (p : At) (below : List At) → look p ≡ Ok below
+      → ((k : ℕ) (q : At) → slice_get below k ≡ Some q → IsSound look q) → IsSound look p
 
 -- the first fault from a place on: its own, or that of the first place below it that is not sound
 pub data HasFault (look : Looking) : At → ImageFault → Type 0 where
   own : (p : At) (fault : ImageFault) → look p ≡ Err fault → HasFault look p fault
-  inner : (p : At) (below : List At) (k : ℕ) (q : At) (fault : ImageFault) → look p ≡ Ok below → slice_get below k ≡ Some q
-      → ((j : ℕ) (r : At) → j < k → slice_get below j ≡ Some r → IsSound look r) → HasFault look q fault → HasFault look p fault
+  inner : (p : At) (below : List At) (k : ℕ) (q : At) (fault : ImageFault) → look p ≡ Ok below
+      → slice_get below k ≡ Some q
+      → ((j : ℕ) (r : At) → j < k → slice_get below j ≡ Some r → IsSound look r) → HasFault look q fault
+      → HasFault look p fault
 
 -- the image is sound from the place on, or this is its first fault; or memory is wanting
 abbrev pub IsFound : {A : Type 0} → Looking → At → Result A ImageFault → Type 0

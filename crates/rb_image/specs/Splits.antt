@@ -37,8 +37,8 @@ word_at ws j = slice_index_or ws j nothing
 abbrev pub range_of : Kept → ℕ → ℕ → Kept
 range_of w o l = record w { number = take_of w.number o l }
 
--- the address to which a pointer may lead that is kept in the block at `base`: any address of 64 bits from a root word, at
--- base 0, and a lower one from a block
+-- the address to which a pointer may lead that is kept in the block at `base`: any address of 64 bits from a root
+-- word, at base 0, and a lower one from a block
 abbrev pub pointed_from : ℕ → ℕ → Option ℕ
 pointed_from base at = if nat_lt at 18446744073709551616 && ((base == 0) || nat_lt at base) then Some at else None
 
@@ -77,7 +77,8 @@ walk_else range (Some go) m ws = go m ws
 
 abbrev pub walk_arms : Kept → List (Under Walk) → Option Walk → Walk
 walk_arms range [] other m ws = walk_else range other m ws
-walk_arms range (arm ∷ arms) other m ws = if nat_eq arm.literal range.number then arm.of m ws else walk_arms range arms other m ws
+walk_arms range (arm ∷ arms) other m ws =
+    if nat_eq arm.literal range.number then arm.of m ws else walk_arms range arms other m ws
 
 abbrev pub walk_step : FlatTree-F Walk (Under Walk) → Walk
 walk_step (T.Split loc arms other) m ws = and_then (range_at m ws loc) (λ range. walk_arms range arms other m ws)

@@ -34,8 +34,10 @@ module _ (p : Program) (m : Memory) where
     pub is_leaf : leaf_of layout v ≡ Some number
     pub is_number : slice_get layout.leaves number ≡ Some leaf
     pub is_seen : taken_apart (flat_layouts p) t ws ≡ Ok (from_root t ws leaf)
-    pub fields : (blocks : List ImageBlock) (k : ℕ) (o : Open) → slice_get (open_positions p.types leaf.prov) k ≡ Some o → (u : Value) × (part_at v o.path ≡ Some u)
-        × Represents p.types (flat_layouts p) m false o.ty u (open_words (flat_layouts p) blocks (from_root t ws leaf) o.path o.ty)
+    pub fields : (blocks : List ImageBlock) (k : ℕ) (o : Open)
+        → slice_get (open_positions p.types leaf.prov) k ≡ Some o → (u : Value) × (part_at v o.path ≡ Some u)
+        × Represents p.types (flat_layouts p) m false o.ty u
+        (open_words (flat_layouts p) blocks (from_root t ws leaf) o.path o.ty)
 
 -- words that represent a value of a type without pointers are seen in its leaf, though no image is looked at
 abbrev pub ValuesAreSeen : Type 0

@@ -16,8 +16,8 @@ use Rattle.rb_image_text.specs.declared.image.ImageBlock.{ImageBlock}
 use Rattle.rb_image.specs.Blocks.{size_at, word_in}
 use Rattle.rb_image.specs.Roots.{IsSoundImage}
 
--- the memory keeps what the blocks of an image are: each is there, of its size, and each word in them is loaded; and what
--- is written in the memory are bytes
+-- the memory keeps what the blocks of an image are: each is there, of its size, and each word in them is loaded; and
+-- what is written in the memory are bytes
 pub record Keeps (blocks : List ImageBlock) (m : Memory) : Type 0 where
   pub sizes : (at size : ℕ) → size_at blocks at ≡ Some size → M.size_at m.blocks at ≡ Some size
   pub words : (at byte width w : ℕ) → word_in blocks at byte width ≡ Some w → load_of m at byte width ≡ Ok w

@@ -16,8 +16,8 @@ use Rattle.rb_image.specs.Parts.{addresses_of, bits_at, field_word, field_words}
 use Rattle.rb_image.specs.Splits.{and_then, leaf_at, or_fault}
 use Rattle.rb_image.specs.Walks.{layout_at, leaf_or_none, open_data}
 
--- a position in a leaf: the leaf, the words of its root, the addresses of its blocks, the path from the root, and what its
--- provenance has there
+-- a position in a leaf: the leaf, the words of its root, the addresses of its blocks, the path from the root, and
+-- what its provenance has there
 pub record Standing : Type 0 where
   pub leaf : Leaf
   pub root : List Kept
@@ -43,8 +43,8 @@ down_to x i (Some pos) = Some (record x { at = x.at ++ i ∷ []; here = pos })
 abbrev pub down : List DataDecl → Standing → ℕ → Option Standing
 down types x i = down_to x i (field_of types x.here.pat i)
 
--- A value that has no pointers is looked at without an image: its splits lead to its leaf, and each constant of that is there,
--- or this is the first fault.
+-- A value that has no pointers is looked at without an image: its splits lead to its leaf, and each constant of that
+-- is there, or this is the first fault.
 abbrev pub taken_apart : List Layout → ℕ → List Kept → Result Standing ImageFault
 taken_apart layouts t ws =
     and_then (leaf_at (layout_at layouts t).tree [] ws) (λ n.
@@ -53,7 +53,8 @@ taken_apart layouts t ws =
 
 -- the integer that stands at a position
 abbrev pub integer_here : List ImageBlock → Standing → ℕ → ℕ
-integer_here m x bits = numbered bits (field_bit (λ s. (bits_at m x.root x.addresses s).number) (Int bits) (order_of x.leaf) x.at)
+integer_here m x bits =
+    numbered bits (field_bit (λ s. (bits_at m x.root x.addresses s).number) (Int bits) (order_of x.leaf) x.at)
 
 module _ (layouts : List Layout) (m : List ImageBlock) where
   -- the words of the value of a data type that stands at a position

@@ -20,10 +20,11 @@ use Rattle.rb_image.specs.Spans.{tree_span, word_span}
 use Rattle.rb_image.specs.Splits.{leaf_at}
 use Rattle.rb_image.specs.Ways.{refused_below}
 
--- the splits of a layout lead to its leaves, and each of these has so many root words; all its words are few and short, and
--- their parts narrow
+-- the splits of a layout lead to its leaves, and each of these has so many root words; all its words are few and
+-- short, and their parts narrow
 pub record IsTidy (layout : Layout) (count : ℕ) : Type 0 where
-  pub leads : (m : List ImageBlock) (ws : List Kept) (n : ℕ) → ◌≡◌ {A = Result ℕ ImageFault} (leaf_at layout.tree m ws) (Ok n)
+  pub leads : (m : List ImageBlock) (ws : List Kept) (n : ℕ)
+      → ◌≡◌ {A = Result ℕ ImageFault} (leaf_at layout.tree m ws) (Ok n)
       → (leaf : Leaf) × (slice_get layout.leaves n ≡ Some leaf)
   pub rooted : (n : ℕ) (leaf : Leaf) → slice_get layout.leaves n ≡ Some leaf → length leaf.root ≡ count
   pub readable : (n : ℕ) (leaf : Leaf) → slice_get layout.leaves n ≡ Some leaf → IsReadable leaf
@@ -31,7 +32,8 @@ pub record IsTidy (layout : Layout) (count : ℕ) : Type 0 where
 
 -- layouts that agree with their types are so
 abbrev pub LayoutsAreTidy : Type 0
-LayoutsAreTidy = (p : Program) → IsTyped p → Agrees p → (t : ℕ) (layout : Layout) → layout_of (flat_layouts p) t ≡ Some layout
+LayoutsAreTidy =
+    (p : Program) → IsTyped p → Agrees p → (t : ℕ) (layout : Layout) → layout_of (flat_layouts p) t ≡ Some layout
     → IsTidy layout (length layout.shape)
 
 -- the leaf is the one to which the splits lead on these words, and its words were read
@@ -49,4 +51,5 @@ own_span layout = tree_span layout.tree + sum_by word_span layout.leaves
 
 -- the first pointer that is refused on the way to what stands at a path of the leaf or below it
 abbrev pub first_refused : List ImageBlock → List ℕ → Visited → Option ImageFault
-first_refused m path x = refused_below m x.leaf.now x.words.root.items x.words.addresses.items path (order_of x.leaf.now)
+first_refused m path x =
+    refused_below m x.leaf.now x.words.root.items x.words.addresses.items path (order_of x.leaf.now)

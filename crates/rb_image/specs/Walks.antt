@@ -29,15 +29,16 @@ use Rattle.rb_image.specs.Splits.{and_then, leaf_at, or_fault}
 use Rattle.rb_image.specs.Visits.{own_span}
 use Rattle.rb_image.specs.Ways.{refused_below}
 
--- a subvalue of a data type that was come to: its type, the words at which it stands, its leaf, and the path inside the leaf
--- along which one goes on from it
+-- a subvalue of a data type that was come to: its type, the words at which it stands, its leaf, and the path inside
+-- the leaf along which one goes on from it
 pub record Seen : Type 0 where
   pub ty : ℕ
   pub words : List Kept
   pub leaf : Leaf
   pub at : List ℕ
 
--- how far one has come: the subvalues of data types before, outer ones first, the last of them, and the position in its leaf
+-- how far one has come: the subvalues of data types before,
+-- outer ones first, the last of them, and the position in its leaf
 pub record Where : Type 0 where
   pub before : List Seen
   pub last : Seen
@@ -94,7 +95,8 @@ module _ (layouts : List Layout) (m : List ImageBlock) where
   -- the subvalue of a data type at these words, or the first fault of its splits
   abbrev pub see : ℕ → List Kept → Result Seen ImageFault
   see t ws = let layout = layout_at layouts t in
-      and_then (leaf_at layout.tree m ws) (λ n. Ok (record { ty = t; words = ws; leaf = leaf_or_none (slice_get layout.leaves n); at = [] }))
+      and_then (leaf_at layout.tree m ws)
+      (λ n. Ok (record { ty = t; words = ws; leaf = leaf_or_none (slice_get layout.leaves n); at = [] }))
 
   -- the words of what stands at the path on which one goes on, or the first pointer that is refused on the way
   abbrev pub words_on : Seen → ℕ → Result (List Kept) ImageFault
@@ -106,12 +108,15 @@ module _ (layouts : List Layout) (m : List ImageBlock) where
   -- at an open position of a data type one goes on to its own leaf
   abbrev pub settled : Where → Option ℕ → Result Where ImageFault
   settled w None = Ok w
-  settled w (Some t) = and_then (words_on w.last t) (λ ws. and_then (see t ws) (λ s. Ok (arrived (w.before ++ w.last ∷ []) s)))
+  settled w (Some t) =
+      and_then (words_on w.last t) (λ ws. and_then (see t ws) (λ s. Ok (arrived (w.before ++ w.last ∷ []) s)))
 
 module _ (types : List DataDecl) (layouts : List Layout) (m : List ImageBlock) where
   -- one comes to field i of the constructor that was found; if there is none, step k of the path names no part
   abbrev pub step : ℕ → Where → ℕ → Result Where ImageFault
-  step k w i = and_then (or_fault (field_of types w.here.pat i) (NoSuchPart k)) (λ pos. settled layouts m (moved w i pos) (open_data pos))
+  step k w i =
+      and_then (or_fault (field_of types w.here.pat i) (NoSuchPart k))
+      (λ pos. settled layouts m (moved w i pos) (open_data pos))
 
   -- along the rest of a path, from step k on
   abbrev pub steps : ℕ → Where → List ℕ → Result Where ImageFault
@@ -137,7 +142,8 @@ module _ (types : List DataDecl) (layouts : List Layout) (m : List ImageBlock) w
   abbrev pub steps_span : ℕ → Where → List ℕ → ℕ
   steps_span k w [] = 0
   steps_span k w (i ∷ path) =
-      open_span layouts (field_of types w.here.pat i) + counted (step types layouts m k w i) (λ v. steps_span (k + 1) v path)
+      open_span layouts (field_of types w.here.pat i)
+      + counted (step types layouts m k w i) (λ v. steps_span (k + 1) v path)
 
   -- those of all data types to whose leaves one comes
   abbrev pub walk_span : ℕ → List Kept → List ℕ → ℕ

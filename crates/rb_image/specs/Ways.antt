@@ -21,7 +21,8 @@ is_below path (Pointer align b) = false
 -- it does, or one of the parts behind it does
 abbrev pub leads_below : Leaf → List ℕ → Kind → Bool
 leads_below leaf path kind =
-    is_below path kind || list_any (λ (s : PartAt). is_below path s.part.kind) (behind (block_order leaf (length leaf.blocks)) kind)
+    is_below path kind || list_any (λ (s : PartAt). is_below path s.part.kind)
+    (behind (block_order leaf (length leaf.blocks)) kind)
 
 abbrev pub fault_of : {A : Type 0} → Result A ImageFault → Option ImageFault
 fault_of (Ok x) = None
@@ -42,4 +43,5 @@ refused_at m leaf ws ats path s =
 -- the first fault among parts
 abbrev pub refused_below : List ImageBlock → Leaf → List Kept → List ℕ → List ℕ → List PartAt → Option ImageFault
 refused_below m leaf ws ats path [] = None
-refused_below m leaf ws ats path (s ∷ ss) = option_or (refused_at m leaf ws ats path s) (refused_below m leaf ws ats path ss)
+refused_below m leaf ws ats path (s ∷ ss) =
+    option_or (refused_at m leaf ws ats path s) (refused_below m leaf ws ats path ss)

@@ -53,6 +53,7 @@ pub(crate) fn size_at(blocks: &[ImageBlock], address: u64) -> Option<u64>
     }
 }
 
+// Whether this is the width of a word that can be read.
 fn is_width(width: u64) -> bool
     ensures { result ≡ is_width width }
 {

@@ -48,6 +48,7 @@ fn add_ahead(
     }
 }
 
+// The layout of the declared type with this number.
 fn layout_of(layouts: &[Layout], ty: u32) -> Option<&Layout>
     ensures { option_copied result ≡ layout_of layouts.now ty }
 {

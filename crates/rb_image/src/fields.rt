@@ -13,6 +13,7 @@ use crate::site::Site;
 use rb_layout::layout::{Leaf, Part};
 use std::alloc::{AllocError, Global};
 
+// The lesser of two numbers.
 fn lesser(a: u64, b: u64) -> u64
     ensures { result ≡ spec.lesser a b }
 {

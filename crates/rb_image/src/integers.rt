@@ -28,6 +28,7 @@ struct Gathered<'a> {
     order: &'a [Spot<'a>],
 }
 
+// The first number less the second, or zero where that is greater.
 fn less(a: u64, b: u64) -> u64
     ensures { result ≡ a - b }
 {

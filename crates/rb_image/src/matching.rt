@@ -21,6 +21,7 @@ use rb_layout::layout::Leaf;
 use rb_layout::numbers::number_of;
 use std::alloc::Global;
 
+// Whether two constructors are the same one of the same type.
 fn same_con(con: ConRef, other: ConRef) -> bool
     ensures { result ≡ spec.same_con con other }
 {
@@ -113,6 +114,7 @@ fn match_fields(
     Ok(true)
 }
 
+// Whether a fault is want of memory.
 fn is_memory(fault: ImageFault) -> bool
     ensures { IsTrue result ↔ (fault ≡ Memory) }
 {

@@ -52,6 +52,7 @@ pub(crate) fn tell_orderly(agreed: &Agreed)
     let _ = agreed.layouts();
 }
 
+// The data type that a type is: none for an integer.
 fn data_of(ty: Ty) -> Option<u32>
     ensures { result ≡ spec.data_of ty }
 {

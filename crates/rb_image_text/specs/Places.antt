@@ -21,7 +21,8 @@ pub record IsInPlace (before : ℕ) (b : ImageBlock) : Type 0 where
 
 -- each block before this number is in its place
 abbrev pub AreInPlaceBefore : List ImageBlock → ℕ → Type 0
-AreInPlaceBefore blocks n = (i : ℕ) (b : ImageBlock) → i < n → slice_get blocks i ≡ Some b → IsInPlace (end_before blocks i) b
+AreInPlaceBefore blocks n =
+    (i : ℕ) (b : ImageBlock) → i < n → slice_get blocks i ≡ Some b → IsInPlace (end_before blocks i) b
 
 abbrev pub AreInPlace : List ImageBlock → Type 0
 AreInPlace blocks = AreInPlaceBefore blocks (length blocks)

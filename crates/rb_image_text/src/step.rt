@@ -9,10 +9,13 @@ use rb_core::seq::Seq;
 use std::alloc::{AllocError, Global};
 use std::mem;
 
+// What the line of root words begins with.
 const ROOT: [u8; 4] = *b"root";
 
+// What a root word begins with, before its digits.
 const PREFIX: [u8; 2] = *b"0x";
 
+// What the line of a block begins with, before its address.
 const BLOCK: [u8; 6] = *b"block ";
 
 /// What is read of a text: whole root words and blocks, and what stands in part behind them.

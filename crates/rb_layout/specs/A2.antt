@@ -18,7 +18,8 @@ A2 layouts = EachLeaf layouts (λ t layout n leaf. HasRoot layout.shape leaf)
 
 -- how a leaf fails the rule
 abbrev pub FailsRoot : List ℕ → Leaf → Why → Type 0
-FailsRoot shape leaf (WordCount wanted found) = (wanted ≡ length shape) × (found ≡ length leaf.root) × (wanted ≡ found → ⊥)
+FailsRoot shape leaf (WordCount wanted found) =
+    (wanted ≡ length shape) × (found ≡ length leaf.root) × (wanted ≡ found → ⊥)
 FailsRoot shape leaf (WordWidth i width wanted) =
     (slice_get (widths_of leaf.root) i ≡ Some width) × (slice_get shape i ≡ Some wanted) × (width ≡ wanted → ⊥)
 FailsRoot shape leaf why = ⊥

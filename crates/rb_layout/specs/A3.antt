@@ -1,5 +1,5 @@
--- A3: the parts of each written word lie in it, are disjoint, and fit what they hold. A part whose path is not open places
--- nothing, and nothing is demanded of it.
+-- A3: the parts of each written word lie in it, are disjoint, and fit what they hold. A part whose path is not open
+-- places nothing, and nothing is demanded of it.
 use Rattle.std.specs.Prelude.{◌≡◌, ℕ, ◌+◌, ◌^◌, ◌<◌, ◌≤◌, ◌⊎◌, List, [], ◌∷◌, Option, Some, None, slice_get}
 use Rattle.rb_core.specs.declared.types.Ty.{Ty}
 use Rattle.rb_core.specs.declared.types.Ty.TheVariants.{Int, Named}
@@ -64,7 +64,8 @@ ItemFits decls opens (AField path) = Unit {0}
 
 abbrev pub A3 : Program → List Layout → Type 0
 A3 p layouts = EachLeaf layouts (λ t layout n leaf.
-    (i : ℕ) (item : Item) → slice_get (items_of p.layouts t n) i ≡ Some item → ItemFits p.layouts (open_positions p.types leaf.prov) item)
+    (i : ℕ) (item : Item) → slice_get (items_of p.layouts t n) i ≡ Some item
+    → ItemFits p.layouts (open_positions p.types leaf.prov) item)
 
 -- a placed part with this range
 pub record PartAt (opens : List Open) (parts : List WrittenPart) (o l : ℕ) : Type 0 where
@@ -79,7 +80,8 @@ pub record PartAt (opens : List Open) (parts : List WrittenPart) (o l : ℕ) : T
 abbrev pub IsIn : ℕ → ℕ → ℕ → Type 0
 IsIn o l i = (o ≤ i) × (i < o + l)
 
--- two placed parts with a bit in common, the one that begins lower first; of two that begin alike, the one written first
+-- two placed parts with a bit in common, the one that begins lower first;
+-- of two that begin alike, the one written first
 pub record Overlaps (opens : List Open) (parts : List WrittenPart) (o l b m : ℕ) : Type 0 where
   pub first : PartAt opens parts o l
   pub second : PartAt opens parts b m

@@ -26,7 +26,8 @@ abbrev pub IsWide : ℕ → ℕ → Type 0
 IsWide align l = (k : ℕ) → align ≡ 2 ^ k → 24 ≤ l + k
 
 pub record HasBlocks (leaf : Leaf) : Type 0 where
-  pub widths : (b : ℕ) (block : Block) (j : ℕ) (f : FlatWord) → slice_get leaf.blocks b ≡ Some block → slice_get block.words j ≡ Some f
+  pub widths : (b : ℕ) (block : Block) (j : ℕ) (f : FlatWord) → slice_get leaf.blocks b ≡ Some block
+      → slice_get block.words j ≡ Some f
       → IsBlockWidth f.width
   pub lengths : (b : ℕ) (block : Block) → slice_get leaf.blocks b ≡ Some block → IsBlockLength (length block.words)
   pub count : length leaf.blocks ≤ 64
@@ -39,12 +40,15 @@ A4 layouts = EachLeaf layouts (λ t layout n leaf. HasBlocks leaf)
 -- how a leaf fails the rule
 abbrev pub FailsBlocks : Leaf → Why → Type 0
 FailsBlocks leaf (BlockWord w) =
-    (b : ℕ) × (block : Block) × (j : ℕ) × (f : FlatWord) × (slice_get leaf.blocks b ≡ Some block) × (slice_get block.words j ≡ Some f)
+    (b : ℕ) × (block : Block) × (j : ℕ) × (f : FlatWord) × (slice_get leaf.blocks b ≡ Some block)
+    × (slice_get block.words j ≡ Some f)
     × (f.width ≡ w) × (IsBlockWidth w → ⊥)
 FailsBlocks leaf (BlockWords n) =
-    (b : ℕ) × (block : Block) × (slice_get leaf.blocks b ≡ Some block) × (length block.words ≡ n) × (IsBlockLength n → ⊥)
+    (b : ℕ) × (block : Block) × (slice_get leaf.blocks b ≡ Some block) × (length block.words ≡ n)
+    × (IsBlockLength n → ⊥)
 FailsBlocks leaf (Blocks n) = (length leaf.blocks ≡ n) × (64 < n)
 FailsBlocks leaf (Align align) = (r : WordRef) × (l : ℕ) × (b : ℕ) × PointsTo leaf r l align b × (IsAlignment align → ⊥)
 FailsBlocks leaf (ShortPointer n) =
-    (r : WordRef) × (l : ℕ) × (align : ℕ) × (b : ℕ) × PointsTo leaf r l align b × ((k : ℕ) × (align ≡ 2 ^ k) × (n ≡ l + k)) × (n < 24)
+    (r : WordRef) × (l : ℕ) × (align : ℕ) × (b : ℕ) × PointsTo leaf r l align b
+    × ((k : ℕ) × (align ≡ 2 ^ k) × (n ≡ l + k)) × (n < 24)
 FailsBlocks leaf why = ⊥

@@ -32,7 +32,8 @@ HaveCommon types t p q = (v : Value) × IsOf types t v × Matches p v × Matches
 -- leaf n and each later one have no common value
 abbrev pub IsApart : List DataDecl → ℕ → Layout → ℕ → Leaf → Type 0
 IsApart types t layout n leaf =
-    (m : ℕ) (later : Leaf) → n < m → slice_get layout.leaves m ≡ Some later → HaveCommon types t leaf.prov later.prov → ⊥
+    (m : ℕ) (later : Leaf) → n < m → slice_get layout.leaves m ≡ Some later
+    → HaveCommon types t leaf.prov later.prov → ⊥
 
 pub record A5 (types : List DataDecl) (layouts : List Layout) : Type 0 where
   pub apart : EachLeaf layouts (IsApart types)

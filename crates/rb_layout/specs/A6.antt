@@ -1,4 +1,5 @@
--- A6: each open position is held exactly once, each bit of an integer and each word of a data type; no other path is held.
+-- A6: each open position is held exactly once,
+-- each bit of an integer and each word of a data type; no other path is held.
 use Rattle.std.specs.Prelude.{◌≡◌, ℕ, ◌+◌, ◌<◌, ◌&&◌, leb, ltb, ◌==◌, sum, List, map, length, Bool, false, Some, slice_get, if◌then◌else◌}
 use Rattle.rb_core.specs.declared.types.Ty.{Ty}
 use Rattle.rb_core.specs.declared.types.Ty.TheVariants.{Int, Named}
@@ -48,14 +49,16 @@ units_of p (Int bits) = bits
 units_of p (Named s) = length (shape_of p.layouts s)
 
 abbrev pub HoldsEach : Program → Leaf → Type 0
-HoldsEach p leaf = (k : ℕ) (o : Open) (i : ℕ) → slice_get (open_positions p.types leaf.prov) k ≡ Some o → i < units_of p o.ty → held leaf o.ty o.path i ≡ 1
+HoldsEach p leaf = (k : ℕ) (o : Open) (i : ℕ) → slice_get (open_positions p.types leaf.prov) k ≡ Some o
+    → i < units_of p o.ty → held leaf o.ty o.path i ≡ 1
 
 abbrev pub IsOpen : List DataDecl → Leaf → List ℕ → Type 0
 IsOpen types leaf path = IsOpenIn (open_positions types leaf.prov) path
 
 -- each path that the items name is that of an open position
 abbrev pub HoldsNoOther : List DataDecl → Leaf → List Item → Type 0
-HoldsNoOther types leaf items = (k : ℕ) (path : List ℕ) → slice_get (paths_of items) k ≡ Some path → IsOpen types leaf path
+HoldsNoOther types leaf items =
+    (k : ℕ) (path : List ℕ) → slice_get (paths_of items) k ≡ Some path → IsOpen types leaf path
 
 pub record HoldsOnce (p : Program) (leaf : Leaf) (items : List Item) : Type 0 where
   pub each : HoldsEach p leaf
@@ -76,5 +79,6 @@ pub record UnitAt (p : Program) (leaf : Leaf) (path : List ℕ) (i : ℕ) : Type
 abbrev pub FailsHeld : Program → Leaf → List Item → Why → Type 0
 FailsHeld p leaf items (NotHeld path i) = (u : UnitAt p leaf path i) × (held leaf u.place.ty path i ≡ 0)
 FailsHeld p leaf items (HeldTwice path i) = (u : UnitAt p leaf path i) × (1 < held leaf u.place.ty path i)
-FailsHeld p leaf items (NotOpen path) = ((k : ℕ) × (slice_get (paths_of items) k ≡ Some path)) × (IsOpen p.types leaf path → ⊥)
+FailsHeld p leaf items (NotOpen path) =
+    ((k : ℕ) × (slice_get (paths_of items) k ≡ Some path)) × (IsOpen p.types leaf path → ⊥)
 FailsHeld p leaf items why = ⊥

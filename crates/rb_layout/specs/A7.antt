@@ -22,7 +22,8 @@ IsLiteral literals c = (k : ℕ) × (slice_get literals k ≡ Some c)
 -- what a split demands of a leaf below it
 abbrev pub Meets : List DataDecl → List Layout → Leaf → Test → Type 0
 Meets types layouts leaf (Is loc c) = Resolves leaf loc × (known leaf loc ≡ Some c)
-Meets types layouts leaf (IsNone loc literals) = Resolves leaf loc × ((c : ℕ) → IsLiteral literals c → Excludes types layouts leaf loc c)
+Meets types layouts leaf (IsNone loc literals) =
+    Resolves leaf loc × ((c : ℕ) → IsLiteral literals c → Excludes types layouts leaf loc c)
 
 -- a test on the way to leaf n
 pub record IsAbove (tree : FlatTree) (n : ℕ) (test : Test) : Type 0 where

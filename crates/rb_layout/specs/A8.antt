@@ -42,6 +42,7 @@ abbrev pub FailsSplits : Layout → Why → Type 0
 FailsSplits layout (LiteralWide loc c) =
     (s : SplitOf layout loc) × ((k : ℕ) × (slice_get s.split.literals k ≡ Some c)) × (c < 2 ^ length_of loc → ⊥)
 FailsSplits layout (LiteralTwice loc c) =
-    (s : SplitOf layout loc) × (j : ℕ) × (k : ℕ) × (j < k) × (slice_get s.split.literals j ≡ Some c) × (slice_get s.split.literals k ≡ Some c)
+    (s : SplitOf layout loc) × (j : ℕ) × (k : ℕ) × (j < k) × (slice_get s.split.literals j ≡ Some c)
+    × (slice_get s.split.literals k ≡ Some c)
 FailsSplits layout (NoArm loc) = (s : SplitOf layout loc) × (HasArm s.split → ⊥)
 FailsSplits layout why = ⊥

@@ -8,4 +8,5 @@ abbrev pub EachLayout : List Layout → (ℕ → Layout → Type 0) → Type 0
 EachLayout layouts P = (t : ℕ) (layout : Layout) → layout_of layouts t ≡ Some layout → P t layout
 
 abbrev pub EachLeaf : List Layout → (ℕ → Layout → ℕ → Leaf → Type 0) → Type 0
-EachLeaf layouts P = (t : ℕ) (layout : Layout) (n : ℕ) (leaf : Leaf) → layout_of layouts t ≡ Some layout → slice_get layout.leaves n ≡ Some leaf → P t layout n leaf
+EachLeaf layouts P = (t : ℕ) (layout : Layout) (n : ℕ) (leaf : Leaf) → layout_of layouts t ≡ Some layout
+    → slice_get layout.leaves n ≡ Some leaf → P t layout n leaf

@@ -48,15 +48,18 @@ pub record Meets (types : List DataDecl) (leaf : Leaf) (f : FlatWord) (o l s j p
   pub last : a + b ≡ min (o + l) (p + part.l)
   pub some : 1 ≤ b
 
--- a flat word of a leaf bars c on the range [o:l]: a finite derivation by three rules shows that it never has these bits
+-- a flat word of a leaf bars c on the range [o:l]:
+-- a finite derivation by three rules shows that it never has these bits
 pub data Bars (types : List DataDecl) (layouts : List Layout) : Leaf → FlatWord → ℕ → ℕ → ℕ → Type 0 where
   differs : (leaf : Leaf) (f : FlatWord) (o l c : ℕ) → HasOtherBit f o l c → Bars types layouts leaf f o l c
   null : (leaf : Leaf) (f : FlatWord) (o l c : ℕ) → HasNull f o l c → Bars types layouts leaf f o l c
   -- type s has a leaf, and in each of its leaves root word j bars c's bits of [a:b] on the range [a - p:b]
   within : (leaf : Leaf) (f : FlatWord) (o l c s j p a b : ℕ) → Meets types leaf f o l s j p a b
       → (layout : Layout) → layout_of layouts s ≡ Some layout → 0 < length layout.leaves
-      → ((n : ℕ) (under : Leaf) → slice_get layout.leaves n ≡ Some under → (g : FlatWord) × (slice_get under.root j ≡ Some g))
-      → ((n : ℕ) (under : Leaf) (g : FlatWord) → slice_get layout.leaves n ≡ Some under → slice_get under.root j ≡ Some g
+      → ((n : ℕ) (under : Leaf) → slice_get layout.leaves n ≡ Some under → (g : FlatWord)
+      × (slice_get under.root j ≡ Some g))
+      → ((n : ℕ) (under : Leaf) (g : FlatWord) → slice_get layout.leaves n ≡ Some under
+      → slice_get under.root j ≡ Some g
       → Bars types layouts under g (a - p) b (take_of c (a - o) b))
       → Bars types layouts leaf f o l c
 

@@ -20,7 +20,8 @@ pub record IsFlat (leaf : Leaf) : Type 0 where
   -- the block that a pointer leads to is there, has the pointer's alignment, and is numbered below what points to it
   pub below : (r : WordRef) (l align b : ℕ) → PointsTo leaf r l align b → HasBlock leaf align b × IsAbove r.block b
   -- each block has a pointer to it, from a root word or from a block above
-  pub pointed : (b : ℕ) (block : Block) → slice_get leaf.blocks b ≡ Some block → (r : WordRef) × (l : ℕ) × PointsTo leaf r l block.align b × IsAbove r.block b
+  pub pointed : (b : ℕ) (block : Block) → slice_get leaf.blocks b ≡ Some block → (r : WordRef) × (l : ℕ)
+      × PointsTo leaf r l block.align b × IsAbove r.block b
 
 -- each leaf of each flat form is so
 abbrev pub LeavesAreFlat : Type 0

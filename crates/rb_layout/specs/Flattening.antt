@@ -97,7 +97,8 @@ pointed align n laid = record {
   blocks = laid.blocks ++ record { align = align; words = laid.it } ∷ [];
 }
 
-abbrev pub kind_step : List Open → PartKind-F (Laying (List FlatWord)) (Laying (Option Kind)) (Laying (List Part)) → Laying (Option Kind)
+abbrev pub kind_step : List Open → PartKind-F (Laying (List FlatWord)) (Laying (Option Kind)) (Laying (List Part))
+    → Laying (Option Kind)
 kind_step opens (I.Const c) n = without_blocks (Some (Const c))
 kind_step opens (I.Whole path) n = without_blocks (whole_kind (type_at opens path) path)
 kind_step opens (I.Slice path a k) n = without_blocks (kind_if_open (type_at opens path) (Bits path a))
@@ -108,7 +109,8 @@ abbrev pub parts_of : ℕ → ℕ → Option Kind → List Part
 parts_of o l None = []
 parts_of o l (Some kind) = record { o = o; l = l; kind = kind } ∷ []
 
-abbrev pub part_step : PartDecl-F (Laying (List FlatWord)) (Laying (Option Kind)) (Laying (List Part)) → Laying (List Part)
+abbrev pub part_step : PartDecl-F (Laying (List FlatWord)) (Laying (Option Kind)) (Laying (List Part))
+    → Laying (List Part)
 part_step p n =
     let laid = p.kind n in
     record { it = parts_of p.o p.l laid.it; blocks = laid.blocks }
@@ -127,7 +129,8 @@ inlined decls None path = []
 inlined decls (Some (Int bits)) path = word_of bits (Bits path 0) ∷ []
 inlined decls (Some (Named s)) path = words_of path 0 (shape_of decls s)
 
-abbrev pub item_step : List LayoutDecl → List Open → LayItem-F (Laying (List FlatWord)) (Laying (Option Kind)) (Laying (List Part)) → Laying (List FlatWord)
+abbrev pub item_step : List LayoutDecl → List Open
+    → LayItem-F (Laying (List FlatWord)) (Laying (Option Kind)) (Laying (List Part)) → Laying (List FlatWord)
 item_step decls opens (I.LayItem::Word width parts) n =
     let laid = in_turn parts n in
     record { it = record { width = width; parts = laid.it } ∷ []; blocks = laid.blocks }
@@ -136,15 +139,18 @@ item_step decls opens (I.Inline path) n = without_blocks (inlined decls (type_at
 -- the words of an item, and its blocks
 abbrev pub item_laid : List LayoutDecl → List Open → LayItem → Laying (List FlatWord)
 item_laid decls opens =
-    fold-LayItem (Laying (List FlatWord)) (Laying (Option Kind)) (Laying (List Part)) (item_step decls opens) (kind_step opens) part_step
+    fold-LayItem (Laying (List FlatWord)) (Laying (Option Kind)) (Laying (List Part)) (item_step decls opens)
+    (kind_step opens) part_step
 
 abbrev pub kind_laid : List LayoutDecl → List Open → PartKind → Laying (Option Kind)
 kind_laid decls opens =
-    fold-PartKind (Laying (List FlatWord)) (Laying (Option Kind)) (Laying (List Part)) (item_step decls opens) (kind_step opens) part_step
+    fold-PartKind (Laying (List FlatWord)) (Laying (Option Kind)) (Laying (List Part)) (item_step decls opens)
+    (kind_step opens) part_step
 
 abbrev pub part_laid : List LayoutDecl → List Open → PartDecl → Laying (List Part)
 part_laid decls opens =
-    fold-PartDecl (Laying (List FlatWord)) (Laying (Option Kind)) (Laying (List Part)) (item_step decls opens) (kind_step opens) part_step
+    fold-PartDecl (Laying (List FlatWord)) (Laying (Option Kind)) (Laying (List Part)) (item_step decls opens)
+    (kind_step opens) part_step
 
 abbrev pub items_laid : List LayoutDecl → List Open → List LayItem → Laying (List FlatWord)
 items_laid decls opens items = in_turn (map (item_laid decls opens) items)
@@ -226,4 +232,5 @@ HaveLayouts p = (t : ℕ) → t < length p.types → (d : LayoutDecl) × (decl_o
 -- one layout for each type, and each the flat form of its type's
 pub record AreInOrder (p : Program) (layouts : List Layout) : Type 0 where
   pub count : length layouts ≡ length p.types
-  pub each : (t : ℕ) (d : LayoutDecl) → t < length p.types → decl_of p.layouts t ≡ Some d → slice_get layouts t ≡ Some (flat_layout p d)
+  pub each : (t : ℕ) (d : LayoutDecl) → t < length p.types → decl_of p.layouts t ≡ Some d
+      → slice_get layouts t ≡ Some (flat_layout p d)

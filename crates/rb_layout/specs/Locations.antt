@@ -58,13 +58,15 @@ next_ref leaf (Some b) s = ref_in b (word_beginning (words_in leaf (Some b)) 0 s
 -- the range has a bit and lies in the word
 abbrev pub range_in : Option FlatWord → WordRef → ℕ → ℕ → Option Reached
 range_in None r o l = None
-range_in (Some f) r o l = if leb 1 l && leb (o + l) f.width then Some (record { ref = r; word = f; o = o; l = l }) else None
+range_in (Some f) r o l =
+    if leb 1 l && leb (o + l) f.width then Some (record { ref = r; word = f; o = o; l = l }) else None
 
 -- each step goes from a pointer part of exactly the range and the alignment to a word of its block
 abbrev pub resolve_from : Leaf → Option WordRef → ℕ → ℕ → List Step → Option Reached
 resolve_from leaf None o l steps = None
 resolve_from leaf (Some r) o l [] = range_in (flat_at leaf r) r o l
-resolve_from leaf (Some r) o l (s ∷ steps) = resolve_from leaf (next_ref leaf (block_at (flat_at leaf r) o l s.align) s) s.o s.l steps
+resolve_from leaf (Some r) o l (s ∷ steps) =
+    resolve_from leaf (next_ref leaf (block_at (flat_at leaf r) o l s.align) s) s.o s.l steps
 
 -- from a root word on
 abbrev pub reached_at : Leaf → Loc → Option Reached

@@ -60,13 +60,16 @@ content_placed opens l (WordOf path j) = if_open (type_at opens path) (WordOf pa
 content_placed opens l (Address align) = Address align ∷ []
 
 abbrev pub part_placed : List Open → ℕ → WrittenPart → List Standing
-part_placed opens width p = map (λ content. record { width = width; o = p.o; l = p.l; holds = content }) (content_placed opens p.l p.content)
+part_placed opens width p =
+    map (λ content. record { width = width; o = p.o; l = p.l; holds = content }) (content_placed opens p.l p.content)
 
 abbrev pub placed : List LayoutDecl → List Open → Item → List Standing
 placed decls opens (AWord width parts) = flat_map (part_placed opens width) parts
 placed decls opens (AField path) = flat_map standing (inlined decls (type_at opens path) path)
 
--- the parts of a flat leaf are those that are written, each as often as it is written: they weigh the same, however parts are weighed
+-- the parts of a flat leaf are those that are written,
+-- each as often as it is written: they weigh the same, however parts are weighed
 abbrev pub EachStandsOnce : Type 0
 EachStandsOnce = (types : List DataDecl) (decls : List LayoutDecl) (w : WrittenLeaf) (weight : Standing → ℕ)
-    → sum_by weight (all_standing (flat_leaf types decls w)) ≡ sum_by weight (flat_map (placed decls (open_positions types w.provenance)) (item_lists w.items))
+    → sum_by weight (all_standing (flat_leaf types decls w))
+    ≡ sum_by weight (flat_map (placed decls (open_positions types w.provenance)) (item_lists w.items))

@@ -72,7 +72,8 @@ IsLeftOf (i ∷ p) (j ∷ q) = (i < j) ⊎ ((i ≡ j) × IsLeftOf p q)
 
 -- each position stands to the left of those after it
 abbrev pub AreFromLeft : List Open → Type 0
-AreFromLeft os = (j k : ℕ) (a b : Open) → j < k → slice_get os j ≡ Some a → slice_get os k ≡ Some b → IsLeftOf a.path b.path
+AreFromLeft os =
+    (j k : ℕ) (a b : Open) → j < k → slice_get os j ≡ Some a → slice_get os k ≡ Some b → IsLeftOf a.path b.path
 
 abbrev pub OpensAreFromLeft : Type 0
 OpensAreFromLeft = (types : List DataDecl) (prov : Pat) → AreFromLeft (open_positions types prov)

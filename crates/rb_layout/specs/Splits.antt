@@ -62,7 +62,8 @@ splits_or_none (Some splits) = splits
 
 abbrev pub splits_step : FlatTree-F (List SplitAt) (Under (List SplitAt)) → List SplitAt
 splits_step (T.Split loc arms other) =
-    record { loc = loc; literals = literals_of arms; other = is_some other } ∷ (flat_map (λ arm. arm.of) arms ++ splits_or_none other)
+    record { loc = loc; literals = literals_of arms; other = is_some other }
+    ∷ (flat_map (λ arm. arm.of) arms ++ splits_or_none other)
 splits_step (T.Leaf n) = []
 
 abbrev pub splits_arm : FlatArm-F (List SplitAt) (Under (List SplitAt)) → Under (List SplitAt)

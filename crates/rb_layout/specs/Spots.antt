@@ -1,4 +1,5 @@
--- The places that are checked, in their order: by rule, type, leaf and item, those without a leaf before those with one.
+-- The places that are checked, in their order: by rule, type,
+-- leaf and item, those without a leaf before those with one.
 use Rattle.std.specs.Prelude.{◌≡◌, ℕ, ◌+◌, ◌⊎◌, ◌↔◌, List, [], ◌∷◌, ◌++◌, Option, Some, None}
 use Rattle.rb_core.specs.declared.types.DataDecl.{DataDecl}
 use Rattle.rb_core.specs.declared.program.Program.{Program}
@@ -159,15 +160,18 @@ IsRefusal r spot why = (record { rule = r.rule; ty = r.ty; leaf = r.leaf } ≡ p
 
 -- a program is refused at the first place that fails
 abbrev pub IsRefusedBy : Program → List Layout → Refused → Type 0
-IsRefusedBy p layouts r = (spot : Spot) × Checked p layouts (all_spots p layouts) (Some (spot, r.why)) × IsRefusal r spot r.why
+IsRefusedBy p layouts r =
+    (spot : Spot) × Checked p layouts (all_spots p layouts) (Some (spot, r.why)) × IsRefusal r spot r.why
 
 -- evidence that fails a rule at a place never stands beside the rule holding there
 abbrev pub NeverBeside : Type 0
-NeverBeside = (p : Program) (layouts : List Layout) (spot : Spot) (why : Why) → Holds p layouts spot → Fails p layouts spot why → ⊥
+NeverBeside = (p : Program) (layouts : List Layout) (spot : Spot) (why : Why) → Holds p layouts spot
+    → Fails p layouts spot why → ⊥
 
 -- where types flatten or hold each other in a cycle, there is one to list from each of its types on
 abbrev pub CyclesAreListed : Type 0
-CyclesAreListed = (types : List DataDecl) (layouts : List Layout) → HasListed (Flattens layouts) × HasListed (HoldsField types layouts)
+CyclesAreListed = (types : List DataDecl) (layouts : List Layout) → HasListed (Flattens layouts)
+    × HasListed (HoldsField types layouts)
 
 -- the rules hold at all places exactly where the ten of them hold
 abbrev pub PlacesAreAll : Type 0

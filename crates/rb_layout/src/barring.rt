@@ -13,6 +13,7 @@ use rb_bits::take;
 use rb_core::pattern::Pat;
 use rb_core::types::DataDecl;
 
+// Whether a bit is known and another than the wanted one.
 fn is_other(bit: Option<u64>, wanted: u64) -> bool
     ensures { result ≡ is_other bit wanted }
 {
@@ -39,6 +40,7 @@ fn bit_differs(parts: &[Part], literal: Literal) -> bool
     false
 }
 
+// Whether a part of this kind is a pointer.
 fn is_pointer(kind: &Kind) -> bool
     ensures { result ≡ is_pointer kind.now }
 {
@@ -74,6 +76,7 @@ fn null_at(part: &Part, literal: Literal) -> bool
     take(literal.bits, from as u32, part.l as u32) == 0
 }
 
+// Whether some part is a pointer that the literal covers with zeros.
 #[tactic(auto, using(crate::proofs::BarLemmas::barring))]
 fn null_in(parts: &[Part], literal: Literal) -> bool
     requires { IsAsked literal }
@@ -104,6 +107,7 @@ fn part_barred(
     }
 }
 
+// Whether one of the parts gives a goal that is known to hold.
 #[tactic(auto, using(crate::proofs::BarLemmas::barring))]
 fn parts_barred(
     types: &[DataDecl],
@@ -143,6 +147,7 @@ pub(crate) fn word_barred(
     parts_barred(types, prov, parts, literal, entries)
 }
 
+// Whether a leaf has a goal's word, which never has the literal by one step from the known goals.
 fn leaf_barred(types: &[DataDecl], leaf: &Leaf, goal: &Goal, entries: &Goals) -> bool
     requires { IsAsked goal.now.literal }
     ensures { result ≡ leaf_barred (knows entries.now) types.now goal.now leaf.now }
@@ -159,6 +164,7 @@ fn leaf_barred(types: &[DataDecl], leaf: &Leaf, goal: &Goal, entries: &Goals) ->
     }
 }
 
+// Whether a goal holds in each of the leaves by one step from the known ones.
 #[tactic(auto, using(crate::proofs::BarLemmas::barring))]
 fn leaves_barred(types: &[DataDecl], leaves: &[Leaf], goal: &Goal, entries: &Goals) -> bool
     requires { IsAsked goal.now.literal }

@@ -12,6 +12,7 @@ use rb_core::pattern::Pat;
 use rb_core::types::DataDecl;
 use std::alloc::AllocError;
 
+// Adds the goal of a part, where it gives one.
 fn add_part(
     types: &[DataDecl],
     prov: &Pat,
@@ -48,6 +49,7 @@ pub(crate) fn add_parts(
     Ok(())
 }
 
+// Adds the goals of the parts of a goal's word in one leaf.
 fn add_leaf(
     types: &[DataDecl],
     leaf: &Leaf,
@@ -69,6 +71,7 @@ fn add_leaf(
     }
 }
 
+// Adds the goals of the parts of a goal's word in each of the leaves.
 #[tactic(auto, using(crate::proofs::FindLemmas::finding))]
 fn add_leaves(
     types: &[DataDecl],

@@ -61,6 +61,7 @@ fn flat_arms(
     Ok(flats)
 }
 
+// The flat form of an arm, whose leaves are added behind those that are there.
 #[cycle(splitting)]
 fn flat_arm(
     alloc: Global,

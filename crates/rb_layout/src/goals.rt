@@ -48,6 +48,7 @@ impl Model for Goals {
 }
 
 impl Goals {
+    /// No goals.
     pub fn new(alloc: Global) -> Self
         ensures { result ≡ [] }
     {
@@ -56,6 +57,7 @@ impl Goals {
         }
     }
 
+    /// How many goals there are.
     pub fn len(&self) -> usize
         ensures { result ≡ length self.now }
     {

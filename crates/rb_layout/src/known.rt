@@ -23,6 +23,7 @@ fn bit_of_kind(kind: &Kind, i: u64) -> Option<u64>
     }
 }
 
+// What bit `i` of a word is by a part, where the part is a constant that has this bit.
 fn bit_of_part(part: &Part, i: u64) -> Option<u64>
     requires { i < 64 }
     ensures { result ≡ bit_of_part part.now i }

@@ -18,6 +18,7 @@ pub struct End {
     pub l: u64,
 }
 
+// The words of a block of a leaf, and none where there is no such block.
 fn words_of(leaf: &Leaf, block: u32) -> &[FlatWord]
     ensures { result.now ≡ words_in leaf.now (Some block) }
 {
@@ -58,6 +59,7 @@ fn pointed_in(part: &Part, o: u64, l: u64, align: u64) -> Option<u32>
     }
 }
 
+// The block of the first of the parts that is a pointer of just this range and alignment.
 #[tactic(auto, using(crate::proofs::Locating::locating))]
 fn block_in(parts: &[Part], o: u64, l: u64, align: u64) -> Option<u32>
     ensures { result ≡ block_in parts.now o l align }
@@ -70,6 +72,7 @@ fn block_in(parts: &[Part], o: u64, l: u64, align: u64) -> Option<u32>
     None
 }
 
+// Whether a word that begins at byte `start` begins at this byte and has this width.
 fn begins_here(word: &FlatWord, start: u64, byte: u64, width: u64) -> bool
     ensures { result ≡ ((start == byte) && (word.now.width == width)) }
 {

@@ -52,7 +52,8 @@ NoneIn types p = IsNowhere types p.tys p.wanted p.unwanted
 
 -- no vector that begins with the head
 abbrev pub NoneBy : List DataDecl → Ty → List Ty → Problem → Head → Type 0
-NoneBy types ty ts p h = (v : Value) (vs : List Value) → begins h v ≡ true → sought types (ty ∷ ts) p.wanted p.unwanted (v ∷ vs) ≡ false
+NoneBy types ty ts p h =
+    (v : Value) (vs : List Value) → begins h v ≡ true → sought types (ty ∷ ts) p.wanted p.unwanted (v ∷ vs) ≡ false
 
 -- How much is left --------------------------------------------------------------------------------
 

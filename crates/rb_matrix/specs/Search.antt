@@ -52,12 +52,14 @@ abbrev pub sought : List DataDecl → List Ty → List (List Pat) → List (List
 sought types tys wanted unwanted vs = vector_of types tys vs && (all_rows wanted vs && not (any_row unwanted vs))
 
 -- a row of plain patterns that has a vector, and all of whose vectors are sought
-pub record IsFound (types : List DataDecl) (tys : List Ty) (wanted unwanted : List (List Pat)) (row : List Pat) : Type 0 where
+pub record IsFound (types : List DataDecl) (tys : List Ty) (wanted unwanted : List (List Pat))
+    (row : List Pat) : Type 0 where
   pub plain : row_plain types tys row ≡ true
   pub value : List Value
   pub matched : row_matches row value ≡ true
   pub found : sought types tys wanted unwanted value ≡ true
-  pub all : (vs : List Value) → vector_of types tys vs ≡ true → row_matches row vs ≡ true → sought types tys wanted unwanted vs ≡ true
+  pub all : (vs : List Value) → vector_of types tys vs ≡ true → row_matches row vs ≡ true
+      → sought types tys wanted unwanted vs ≡ true
 
 abbrev pub IsNowhere : List DataDecl → List Ty → List (List Pat) → List (List Pat) → Type 0
 IsNowhere types tys wanted unwanted = (vs : List Value) → sought types tys wanted unwanted vs ≡ false

@@ -82,10 +82,12 @@ defaulted m = record { tys = drop 1 m.tys; rows = defaults m.rows }
 abbrev pub UnfoldsAlike : List DataDecl → Head → Matrix → Matrix → Type 0
 UnfoldsAlike types h m s =
     (v : Value) (vs : List Value) → begins h v ≡ true → vector_of types m.tys (v ∷ vs) ≡ true
-    → (vector_of types s.tys (unfolded (v ∷ vs)) ≡ true) × (any_row m.rows (v ∷ vs) ≡ any_row s.rows (unfolded (v ∷ vs)))
+    → (vector_of types s.tys (unfolded (v ∷ vs)) ≡ true)
+    × (any_row m.rows (v ∷ vs) ≡ any_row s.rows (unfolded (v ∷ vs)))
 
 -- a vector whose first value has a head that stands nowhere in the first column is matched in the
 -- one exactly where its rest is matched in the other
 abbrev pub RestsAlike : Matrix → Matrix → Type 0
 RestsAlike m d =
-    (v : Value) (vs : List Value) → column_begins m.rows (out-Value v) ≡ false → any_row m.rows (v ∷ vs) ≡ any_row d.rows vs
+    (v : Value) (vs : List Value) → column_begins m.rows (out-Value v) ≡ false
+    → any_row m.rows (v ∷ vs) ≡ any_row d.rows vs

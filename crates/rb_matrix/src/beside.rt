@@ -64,6 +64,7 @@ fn missing_con(heads: &[Head], ty: u32, count: usize) -> Option<u32>
     None
 }
 
+// So many wildcards.
 fn wildcards(alloc: Global, count: usize) -> Result<Seq<Pat>, AllocError>
     ensures { IfOk result (λ r. r ≡ wilds count) }
 {
@@ -74,6 +75,8 @@ fn wildcards(alloc: Global, count: usize) -> Result<Seq<Pat>, AllocError>
     Ok(row)
 }
 
+// The first constructor of a type that is not among the heads, with a wildcard for each field; None
+// where there is none.
 fn con_beside(
     alloc: Global,
     types: &[DataDecl],

@@ -36,6 +36,7 @@ fn wilds_before(alloc: Global, count: usize, rest: &[Pat]) -> Result<Seq<Pat>, A
     Ok(row)
 }
 
+// Copies of the first patterns, and then of the rest.
 fn joined(alloc: Global, first: &[Pat], rest: &[Pat]) -> Result<Seq<Pat>, AllocError>
     ensures { IfOk result (λ r. r ≡ first.now ++ rest.now) }
 {
@@ -44,6 +45,8 @@ fn joined(alloc: Global, first: &[Pat], rest: &[Pat]) -> Result<Seq<Pat>, AllocE
     Ok(row)
 }
 
+// A row with its first pattern's subpatterns in place of it, or `fields` wildcards where it has no
+// head; None where it has another head or number of subpatterns, or where the row is empty.
 fn special_of_row(
     alloc: Global,
     head: Head,
@@ -81,6 +84,7 @@ fn special_of_row(
     }
 }
 
+// A row without its first pattern; None where that has a head, or where the row is empty.
 fn rest_of_row(alloc: Global, row: &[Pat]) -> Result<Option<Seq<Pat>>, AllocError>
     ensures { IfOk result (λ r. r ≡ default_row row.now) }
 {
@@ -186,6 +190,7 @@ fn holds(bits: u8, number: u64) -> bool
     number < 1u64 << bits
 }
 
+// The types of a constructor's fields, or None where there is no such constructor.
 fn con_fields(types: &[DataDecl], ty: u32, con: u32) -> Option<&[Ty]>
     ensures { option_copied result ≡ fields_in (slice_get types.now ty) con }
 {

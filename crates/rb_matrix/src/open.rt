@@ -6,6 +6,7 @@ ghost use Rattle.rb_matrix.specs.Open.{is_open as the_open};
 use crate::stack::Stack;
 use rb_core::pattern::Pat;
 
+// Whether none of the patterns of a slice has a head.
 fn are_open(pats: &[Pat]) -> bool
     ensures { result ≡ the_open pats.now }
 {

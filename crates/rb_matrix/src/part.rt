@@ -30,6 +30,7 @@ impl Step {
     }
 }
 
+// Equal steps, in the same order.
 fn steps_copied(alloc: Global, steps: &[Step]) -> Result<Seq<Step>, AllocError>
     ensures { IfOk result (λ r. r ≡ steps.now) }
 {
@@ -40,6 +41,7 @@ fn steps_copied(alloc: Global, steps: &[Step]) -> Result<Seq<Step>, AllocError>
     Ok(copies)
 }
 
+// Equal steps, and one more behind them.
 fn steps_with(alloc: Global, steps: &[Step], last: Step) -> Result<Seq<Step>, AllocError>
     ensures { IfOk result (λ r. r ≡ steps.now ++ last ∷ []) }
 {

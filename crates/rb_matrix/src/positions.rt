@@ -24,6 +24,7 @@ struct Positions {
 }
 
 impl Positions {
+    // The empty path alone, with nothing counted.
     fn new(alloc: Global) -> Result<Positions, AllocError> {
         let mut each = Vec::new(alloc);
         each.push(Position {

@@ -41,6 +41,7 @@ fn some_is_empty(rows: &[Row]) -> bool
     false
 }
 
+// Whether each row matches the empty vector.
 fn all_are_empty(rows: &[Row]) -> bool
     ensures { result ≡ all_rows rows.now [] }
 {
@@ -52,6 +53,7 @@ fn all_are_empty(rows: &[Row]) -> bool
     true
 }
 
+// Copies of rows, in the form in which a problem holds them.
 fn rows_copied(alloc: Global, rows: &[Seq<Pat>]) -> Result<Seq<Row>, AllocError>
     ensures { IfOk result (λ r. r ≡ rows.now) }
 {
@@ -62,6 +64,7 @@ fn rows_copied(alloc: Global, rows: &[Seq<Pat>]) -> Result<Seq<Row>, AllocError>
     Ok(copies)
 }
 
+// The problem that a search begins with, which holds copies of the rows.
 fn root(
     alloc: Global,
     tys: &[Ty],
@@ -120,6 +123,7 @@ fn split(alloc: Global, types: &[DataDecl], problem: Problem) -> Result<Outcome,
     Ok(Outcome::Split(parts))
 }
 
+// What becomes of what was left, be it a whole problem or branches of one.
 fn step(alloc: Global, types: &[DataDecl], left: Left) -> Result<Outcome, AllocError>
     requires inhabited { AreInhabited types.now }
     requires ready { IsReady types.now left }

@@ -61,7 +61,8 @@ first_refusal [] = None
 first_refusal (Ok d ∷ rs) = first_refusal rs
 first_refusal (Err e ∷ rs) = Some e
 
--- The layouts are derived by the written ones alone and stand after them, in the file's order; the first refusal is kept.
+-- The layouts are derived by the written ones alone and stand after them,
+-- in the file's order; the first refusal is kept.
 pub record IsCompleted (file : FileTree) (p : Program) (c : Completed) : Type 0 where
   pub answers : List Derives
   pub are_derived : AreDerived p (kinds_of file) (left_types file) answers

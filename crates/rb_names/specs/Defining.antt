@@ -34,7 +34,8 @@ pub record AreAdded (before more : List Definition) (known : Defining) : Type 0 
 
 -- the first of further definitions that is made again gives this fault
 abbrev pub IsAgain : (before more : List Definition) → NameFault → Type 0
-IsAgain before more fault = (rest : List Definition) → Answers {A = Unit {0}} (Err fault) (no_twice (first_again before (more ++ rest)))
+IsAgain before more fault =
+    (rest : List Definition) → Answers {A = Unit {0}} (Err fault) (no_twice (first_again before (more ++ rest)))
 
 -- a name that may be defined already
 abbrev pub made_again : Bool → NameTree → Option NameTree

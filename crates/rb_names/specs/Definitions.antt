@@ -82,7 +82,8 @@ same_definition d e = same_kind d.kind e.kind && bytes_eq d.name.text e.name.tex
 
 -- a layout belongs to a type; of another name it is none
 abbrev pub layout_definition : (types : List Name) → NameTree → List Definition
-layout_definition types name = if list_any (bytes_eq name.text) types then record { kind = OfLayout; name = name } ∷ [] else []
+layout_definition types name =
+    if list_any (bytes_eq name.text) types then record { kind = OfLayout; name = name } ∷ [] else []
 
 abbrev pub constructor_definition : ConTree → Definition
 constructor_definition c = record { kind = OfConstructor; name = c.name }
@@ -97,7 +98,8 @@ definitions types (top.Derived name a) = layout_definition types name
 -- the first definition that equals one before it
 abbrev pub first_again : (before after : List Definition) → Option NameTree
 first_again before [] = None
-first_again before (d ∷ ds) = if list_any (same_definition d) before then Some d.name else first_again (before ++ d ∷ []) ds
+first_again before (d ∷ ds) =
+    if list_any (same_definition d) before then Some d.name else first_again (before ++ d ∷ []) ds
 
 -- the first name of a file that was defined before in its table
 abbrev pub defined_twice : List ItemTree → Option NameTree

@@ -11,4 +11,8 @@ behind_in_turn xs rest = and_then rest (λ ys. numbered_as (xs ++ ys.what) ys.ne
 
 abbrev pub behind_items : Items → Resolved Items → Resolved Items
 behind_items xs rest = and_then rest (λ ys.
-    Ok (record { types = xs.types ++ ys.types; layouts = xs.layouts ++ ys.layouts; functions = xs.functions ++ ys.functions }))
+    Ok (record {
+      types = xs.types ++ ys.types;
+      layouts = xs.layouts ++ ys.layouts;
+      functions = xs.functions ++ ys.functions;
+    }))

@@ -1,5 +1,5 @@
--- Numbering: the tree with each name's number in its place, or the first name that stands for nothing. Each form has one
--- equation, and its parts are numbered in the order in which they are written.
+-- Numbering: the tree with each name's number in its place, or the first name that stands for nothing. Each form has
+-- one equation, and its parts are numbered in the order in which they are written.
 use Rattle.std.specs.Prelude.{ℕ, suc, ◌+◌, List, [], ◌∷◌, map, length, Option, Some, None, Result, Ok, Err}
 use Rattle.rb_core.specs.declared.types.Ty.{Ty}
 use Rattle.rb_core.specs.declared.types.Ty.TheVariants as core_ty
@@ -70,10 +70,12 @@ numbered_type t (ty.Int bits) = Ok (core_ty.Int bits)
 numbered_type t (ty.Named name) = and_then (known name (meaning t.types name.text)) (λ n. Ok (core_ty.Named n))
 
 abbrev pub numbered_constructor : Tables → ConTree → Resolved Con
-numbered_constructor t c = and_then (all_of (map (numbered_type t) c.fields)) (λ fields. Ok (record { name = c.name.text; fields = fields }))
+numbered_constructor t c =
+    and_then (all_of (map (numbered_type t) c.fields)) (λ fields. Ok (record { name = c.name.text; fields = fields }))
 
 abbrev pub numbered_data : Tables → TypeTree → Resolved DataDecl
-numbered_data t d = and_then (all_of (map (numbered_constructor t) d.cons)) (λ cons. Ok (record { name = d.name.text; cons = cons }))
+numbered_data t d =
+    and_then (all_of (map (numbered_constructor t) d.cons)) (λ cons. Ok (record { name = d.name.text; cons = cons }))
 
 -- a pattern within its own variables' scope
 abbrev pub pattern_step : Tables → Scope → PatTree-F (Resolved Pat) → Resolved Pat
@@ -81,7 +83,8 @@ pattern_step t scope (pat.Wild at) = Ok (core_pat.Wild at)
 pattern_step t scope (pat.Var at name) = and_then (known name (meaning scope name.text)) (λ x. Ok (core_pat.Var at x))
 pattern_step t scope (pat.Num at n) = Ok (core_pat.Num at n)
 pattern_step t scope (pat.Con at name ps) =
-    and_then (known name (meaning t.constructors name.text)) (λ c. and_then (all_of ps) (λ qs. Ok (core_pat.Con at c qs)))
+    and_then (known name (meaning t.constructors name.text))
+    (λ c. and_then (all_of ps) (λ qs. Ok (core_pat.Con at c qs)))
 
 abbrev pub numbered_pattern : Tables → Scope → PatTree → Resolved Pat
 numbered_pattern t scope = fold-PatTree (Resolved Pat) (pattern_step t scope)
@@ -103,7 +106,8 @@ numbered_as x next = Ok (record { what = x; next = next })
 -- parts within one scope, one after the other
 abbrev pub in_turn : {A : Type 0} → List (Numbering A) → Numbering (List A)
 in_turn [] scope next = numbered_as [] next
-in_turn (p ∷ ps) scope next = and_then (p scope next) (λ x. and_then (in_turn ps scope x.next) (λ xs. numbered_as (x.what ∷ xs.what) xs.next))
+in_turn (p ∷ ps) scope next =
+    and_then (p scope next) (λ x. and_then (in_turn ps scope x.next) (λ xs. numbered_as (x.what ∷ xs.what) xs.next))
 
 -- a clause's body stands inside the variables of its pattern
 abbrev pub clause_step : Tables → ClauseTree-F (Numbering Expr) (Numbering Clause) → Numbering Clause
@@ -114,19 +118,24 @@ clause_step t c scope next =
 
 abbrev pub expr_step : Tables → ExprTree-F (Numbering Expr) (Numbering Clause) → Numbering Expr
 expr_step t (expr.Num at n) scope next = numbered_as (core.Num at n) next
-expr_step t (expr.Var at name) scope next = and_then (known name (meaning scope name.text)) (λ x. numbered_as (core.Var at x) next)
+expr_step t (expr.Var at name) scope next =
+    and_then (known name (meaning scope name.text)) (λ x. numbered_as (core.Var at x) next)
 expr_step t (expr.Call at name es) scope next =
-    and_then (known name (meaning t.functions name.text)) (λ f. and_then (in_turn es scope next) (λ xs. numbered_as (core.Call at f xs.what) xs.next))
+    and_then (known name (meaning t.functions name.text))
+    (λ f. and_then (in_turn es scope next) (λ xs. numbered_as (core.Call at f xs.what) xs.next))
 expr_step t (expr.Build at name es) scope next =
-    and_then (known name (meaning t.constructors name.text)) (λ c. and_then (in_turn es scope next) (λ xs. numbered_as (core.Build at c xs.what) xs.next))
+    and_then (known name (meaning t.constructors name.text))
+    (λ c. and_then (in_turn es scope next) (λ xs. numbered_as (core.Build at c xs.what) xs.next))
 expr_step t (expr.Binary at op a b) scope next =
     and_then (a scope next) (λ x. and_then (b scope x.next) (λ y. numbered_as (core.Binary at op x.what y.what) y.next))
 expr_step t (expr.To at bits a) scope next = and_then (a scope next) (λ x. numbered_as (core.To at bits x.what) x.next)
 expr_step t (expr.Let at name ty a b) scope next =
-    and_then (numbered_type t ty) (λ u. and_then (a scope (suc next)) (λ x. and_then (b ((name.text, next) ∷ scope) x.next) (λ y.
+    and_then (numbered_type t ty) (λ u. and_then (a scope (suc next))
+    (λ x. and_then (b ((name.text, next) ∷ scope) x.next) (λ y.
     numbered_as (core.Let at next u x.what y.what) y.next)))
 expr_step t (expr.Match at e cs) scope next =
-    and_then (e scope next) (λ x. and_then (in_turn cs scope x.next) (λ ds. numbered_as (core.Match at x.what ds.what) ds.next))
+    and_then (e scope next) (λ x. and_then (in_turn cs scope x.next)
+    (λ ds. numbered_as (core.Match at x.what ds.what) ds.next))
 
 abbrev pub numbered_expression : Tables → ExprTree → Numbering Expr
 numbered_expression t = fold-ExprTree (Numbering Expr) (Numbering Clause) (expr_step t) (clause_step t)
@@ -138,7 +147,8 @@ numbered_clause t = fold-ClauseTree (Numbering Expr) (Numbering Clause) (expr_st
 
 abbrev pub numbered_param : Tables → Scope → ParamTree → Resolved Param
 numbered_param t scope p =
-    and_then (numbered_type t p.ty) (λ u. and_then (known p.var (meaning scope p.var.text)) (λ x. Ok (record { at = p.at; var = x; ty = u })))
+    and_then (numbered_type t p.ty) (λ u. and_then (known p.var (meaning scope p.var.text))
+    (λ x. Ok (record { at = p.at; var = x; ty = u })))
 
 -- a function's parameters are its first binders
 abbrev pub numbered_function : Tables → FunTree → Resolved Fun
@@ -154,7 +164,8 @@ numbered_else (Some r) = and_then r (λ t. Ok (Some t))
 
 -- a provenance has no variables
 abbrev pub split_step : Tables → SplitTree-F (Resolved LayTree) (Resolved Arm) → Resolved LayTree
-split_step t (split.Split loc arms other) = and_then (all_of arms) (λ xs. and_then (numbered_else other) (λ o. Ok (core_tree.Split loc xs o)))
+split_step t (split.Split loc arms other) =
+    and_then (all_of arms) (λ xs. and_then (numbered_else other) (λ o. Ok (core_tree.Split loc xs o)))
 split_step t (split.Leaf at prov items) = and_then (numbered_pattern t [] prov) (λ p. Ok (core_tree.Leaf at p items))
 
 abbrev pub arm_step : ArmTree-F (Resolved LayTree) (Resolved Arm) → Resolved Arm

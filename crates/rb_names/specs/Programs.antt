@@ -28,10 +28,14 @@ with_function f rest = record { types = rest.types; layouts = rest.layouts; func
 -- items in the file's order; a layout that is left to the compiler is none yet, but its type has to be there
 abbrev pub numbered_items : Tables → List ItemTree → Resolved Items
 numbered_items t [] = Ok (record { types = []; layouts = []; functions = [] })
-numbered_items t (top.Types d ∷ items) = and_then (numbered_data t d) (λ x. and_then (numbered_items t items) (λ rest. Ok (with_type x rest)))
-numbered_items t (top.Layouts l ∷ items) = and_then (numbered_layout t l) (λ x. and_then (numbered_items t items) (λ rest. Ok (with_layout x rest)))
-numbered_items t (top.Funs f ∷ items) = and_then (numbered_function t f) (λ x. and_then (numbered_items t items) (λ rest. Ok (with_function x rest)))
-numbered_items t (top.Derived name a ∷ items) = and_then (known name (meaning t.types name.text)) (λ n. numbered_items t items)
+numbered_items t (top.Types d ∷ items) =
+    and_then (numbered_data t d) (λ x. and_then (numbered_items t items) (λ rest. Ok (with_type x rest)))
+numbered_items t (top.Layouts l ∷ items) =
+    and_then (numbered_layout t l) (λ x. and_then (numbered_items t items) (λ rest. Ok (with_layout x rest)))
+numbered_items t (top.Funs f ∷ items) =
+    and_then (numbered_function t f) (λ x. and_then (numbered_items t items) (λ rest. Ok (with_function x rest)))
+numbered_items t (top.Derived name a ∷ items) =
+    and_then (known name (meaning t.types name.text)) (λ n. numbered_items t items)
 
 abbrev pub no_twice : Option NameTree → Resolved (Unit {0})
 no_twice None = Ok tt

@@ -6,8 +6,8 @@ use Rattle.rb_syntax.specs.declared.token.Word.{Word}
 use Rattle.rb_syntax.specs.declared.token.Token.{Token}
 use Rattle.rb_read.specs.Starting.{is_symbol, is_word}
 
--- why nothing is read: a token at which nothing goes on, or one that begins a node beyond the limit; each with the number of
--- the tokens from it on
+-- why nothing is read: a token at which nothing goes on, or one that begins a node beyond the limit; each with the
+-- number of the tokens from it on
 pub data Fault : Type 0 where
   stuck : (left : ℕ) → Fault
   deep : (left : ℕ) → Fault
@@ -68,7 +68,8 @@ behind separator close go x ts =
 -- one part or more, each but the last with a separator behind it, and then the symbol that closes them
 unfoldable pub some_of : {A : Type 0} → Reader A → Symbol → Symbol → ℕ → Reader (List A)
 some_of r separator close zero ts = Err (stuck 0)
-some_of r separator close (suc n) ts = r ts >>= λ x. behind separator close (λ us. some_of r separator close n us) x.0 x.1
+some_of r separator close (suc n) ts =
+    r ts >>= λ x. behind separator close (λ us. some_of r separator close n us) x.0 x.1
 
 -- there are no more of them than tokens
 abbrev pub some_closed : {A : Type 0} → Reader A → Symbol → Symbol → Reader (List A)
@@ -80,7 +81,8 @@ any_closed r close ts = if begins_with close ts then Ok ([], drop 1 ts) else som
 
 -- parts in parentheses, or nothing
 unfoldable pub in_parens : {A : Type 0} → Reader A → Reader (List A)
-in_parens r ts = if begins_with symbol.OpenParen ts then some_closed r symbol.Comma symbol.CloseParen (drop 1 ts) else Ok ([], ts)
+in_parens r ts =
+    if begins_with symbol.OpenParen ts then some_closed r symbol.Comma symbol.CloseParen (drop 1 ts) else Ok ([], ts)
 
 -- one where the first token passes the test, or nothing
 unfoldable pub optional : {A : Type 0} → (Token → Bool) → Reader A → Reader (Option A)

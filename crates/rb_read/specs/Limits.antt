@@ -53,7 +53,9 @@ functions_in (_ ∷ items) = functions_in items
 
 -- the types, the functions, and then item by item as they are written
 abbrev pub counts : List ItemTree → List Count
-counts items = counted Types (length (types_in items)) ∷ counted Functions (length (functions_in items)) ∷ flat_map item_counts items
+counts items =
+    counted Types (length (types_in items)) ∷ counted Functions (length (functions_in items))
+    ∷ flat_map item_counts items
 
 -- the first count over its limit
 abbrev pub first_over : FileTree → Option Count

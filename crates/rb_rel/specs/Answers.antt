@@ -62,4 +62,5 @@ answer_at (Fits blocks next) (Done v left) nodes = if nat_le (node_count v) node
 abbrev pub answer_of : Program → List Layout → List Value → ℕ → ℕ → ℕ → Answer
 answer_of p layouts args calls limit nodes =
     let o = call_of p p.main calls args in
-    answer_at (lay limit 64 (requests_of layouts (all_makings p.types args (param_types p.funs p.main) ++ o.log))) o.end nodes
+    answer_at (lay limit 64 (requests_of layouts (all_makings p.types args (param_types p.funs p.main) ++ o.log)))
+    o.end nodes

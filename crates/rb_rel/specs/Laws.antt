@@ -26,7 +26,8 @@ use Rattle.rb_core.specs.declared.types.Ty.TheVariants.{Named}
 -- what represents a value still does in a memory that has the old one's blocks and written bytes
 abbrev pub GrowthKeeps : Type 0
 GrowthKeeps = (types : List DataDecl) (layouts : List Layout) (clean : Bool) (old new : Memory) → Extends old new
-    → (ty : Ty) (v : Value) (ws : List ℕ) → Represents types layouts old clean ty v ws → Represents types layouts new clean ty v ws
+    → (ty : Ty) (v : Value) (ws : List ℕ) → Represents types layouts old clean ty v ws
+    → Represents types layouts new clean ty v ws
 
 -- a clean representation is a representation
 abbrev pub CleanRepresents : Type 0
@@ -36,7 +37,8 @@ CleanRepresents = (types : List DataDecl) (layouts : List Layout) (m : Memory) (
 -- where a location resolves in the leaf of a represented value, reading it goes astray nowhere and gives
 -- the bits that stand there
 abbrev pub ReadingGivesBits : Type 0
-ReadingGivesBits = (types : List DataDecl) (layouts : List Layout) (m : Memory) (clean : Bool) (t : ℕ) (v : Value) (ws : List ℕ)
+ReadingGivesBits =
+    (types : List DataDecl) (layouts : List Layout) (m : Memory) (clean : Bool) (t : ℕ) (v : Value) (ws : List ℕ)
     → (b : Made types layouts m clean t v ws) (loc : Loc) (x : Reached) → reached_at b.leaf loc ≡ Some x
     → IsRead b.leaf ws m clean b.subs b.ats x (read_loc ws m loc)
 
@@ -44,25 +46,31 @@ ReadingGivesBits = (types : List DataDecl) (layouts : List Layout) (m : Memory) 
 abbrev pub SplitsLead : Type 0
 SplitsLead = (p : Program) → IsTyped p → Agrees p → (m : Memory) (clean : Bool) → IsGood m
     → (t : ℕ) (v : Value) (ws : List ℕ) (layout : Layout) → layout_of (flat_layouts p) t ≡ Some layout
-    → Represents p.types (flat_layouts p) m clean (Named t) v ws → (n : ℕ) × (leaf_of layout v ≡ Some n) × (walk layout.tree ws m ≡ Some n)
+    → Represents p.types (flat_layouts p) m clean (Named t) v ws
+    → (n : ℕ) × (leaf_of layout v ≡ Some n) × (walk layout.tree ws m ≡ Some n)
 
 -- two values of one type that the same words represent are equal
 abbrev pub WordsAreOneValue : Type 0
 WordsAreOneValue = (p : Program) → IsTyped p → Agrees p → (m : Memory) (clean : Bool) → IsGood m
-    → (ty : Ty) (v u : Value) (ws : List ℕ) → Represents p.types (flat_layouts p) m clean ty v ws → Represents p.types (flat_layouts p) m clean ty u ws
+    → (ty : Ty) (v u : Value) (ws : List ℕ) → Represents p.types (flat_layouts p) m clean ty v ws
+    → Represents p.types (flat_layouts p) m clean ty u ws
     → v ≡ u
 
 -- what words represent is of the type
 abbrev pub RepresentedAreTyped : Type 0
 RepresentedAreTyped = (p : Program) → IsTyped p → Agrees p → (m : Memory) (clean : Bool)
-    → (ty : Ty) (v : Value) (ws : List ℕ) → Represents p.types (flat_layouts p) m clean ty v ws → is_of_type p.types v ty ≡ true
+    → (ty : Ty) (v : Value) (ws : List ℕ) → Represents p.types (flat_layouts p) m clean ty v ws
+    → is_of_type p.types v ty ≡ true
 
 -- A value whose blocks fit has a clean representation. It stands in a memory that has grown by exactly
 -- the blocks that the constructions of the value ask for, where they are laid, and by nothing else.
 abbrev pub ValuesHaveWords : Type 0
-ValuesHaveWords = (p : Program) → IsTyped p → Agrees p → (m : Memory) → IsGood m → (ty : Ty) (v : Value) → is_of_type p.types v ty ≡ true
-    → (blocks : List (ℕ × ℕ)) (next : ℕ) → lay m.limit m.next (requests_of (flat_layouts p) (making_of p.types v ty)) ≡ Fits blocks next
-    → (new : Memory) × (ws : List ℕ) × Grown m new blocks next × IsCleanlyRepresented p.types (flat_layouts p) new ty v ws
+ValuesHaveWords = (p : Program) → IsTyped p → Agrees p → (m : Memory) → IsGood m
+    → (ty : Ty) (v : Value) → is_of_type p.types v ty ≡ true
+    → (blocks : List (ℕ × ℕ)) (next : ℕ)
+    → lay m.limit m.next (requests_of (flat_layouts p) (making_of p.types v ty)) ≡ Fits blocks next
+    → (new : Memory) × (ws : List ℕ) × Grown m new blocks next
+    × IsCleanlyRepresented p.types (flat_layouts p) new ty v ws
 
 -- so have several values, made one after the other, as a program's arguments are
 abbrev pub ListsHaveWords : Type 0

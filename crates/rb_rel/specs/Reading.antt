@@ -39,13 +39,15 @@ abbrev pub read_loc : List ℕ → Memory → Loc → Option ℕ
 read_loc ws m loc = read_first m (slice_get ws loc.word) loc
 
 -- a flat word of a leaf, and the word that stands there in a representation
-pub record Stands (leaf : Leaf) (ws : List ℕ) (m : Memory) (clean : Bool) (subs : List ℕ → List ℕ) (ats : ℕ → ℕ) (r : WordRef) (f : FlatWord) (w : ℕ) : Type 0 where
+pub record Stands (leaf : Leaf) (ws : List ℕ) (m : Memory) (clean : Bool) (subs : List ℕ → List ℕ) (ats : ℕ → ℕ)
+    (r : WordRef) (f : FlatWord) (w : ℕ) : Type 0 where
   pub is_flat : flat_at leaf r ≡ Some f
   pub is_found : IsFound r.block (words_in leaf r.block) f r.word ws ats m w
   pub holds : WordHolds subs ats clean f w
 
 -- what is read where a location leads: the bits of its range, in the word that stands there
-pub record IsRead (leaf : Leaf) (ws : List ℕ) (m : Memory) (clean : Bool) (subs : List ℕ → List ℕ) (ats : ℕ → ℕ) (x : Reached) (n : Option ℕ) : Type 0 where
+pub record IsRead (leaf : Leaf) (ws : List ℕ) (m : Memory) (clean : Bool) (subs : List ℕ → List ℕ) (ats : ℕ → ℕ)
+    (x : Reached) (n : Option ℕ) : Type 0 where
   pub found : ℕ
   pub stands : Stands leaf ws m clean subs ats x.ref x.word found
   pub some : 1 ≤ x.l

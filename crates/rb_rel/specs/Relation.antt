@@ -61,9 +61,11 @@ IsFound (Some b) fs f j ws ats m w = load_of m (ats b) (begins_at fs j) f.width 
 
 -- the root words are as many as the leaf's, the memory has a block of exactly the size of each of the
 -- leaf's blocks, and each word of the root and of the blocks is there and holds
-pub record Placed (leaf : Leaf) (ws : List ℕ) (m : Memory) (clean : Bool) (subs : List ℕ → List ℕ) (ats : ℕ → ℕ) : Type 0 where
+pub record Placed (leaf : Leaf) (ws : List ℕ) (m : Memory) (clean : Bool) (subs : List ℕ → List ℕ)
+    (ats : ℕ → ℕ) : Type 0 where
   pub count : length ws ≡ length leaf.root
-  pub blocks : (b : ℕ) (block : Block) → slice_get leaf.blocks b ≡ Some block → size_at m.blocks (ats b) ≡ Some (size_of block)
+  pub blocks : (b : ℕ) (block : Block) → slice_get leaf.blocks b ≡ Some block
+      → size_at m.blocks (ats b) ≡ Some (size_of block)
   pub words : (r : WordRef) (f : FlatWord) → flat_at leaf r ≡ Some f
       → (w : ℕ) × IsFound r.block (words_in leaf r.block) f r.word ws ats m w × WordHolds subs ats clean f w
 
@@ -71,7 +73,8 @@ pub record Placed (leaf : Leaf) (ws : List ℕ) (m : Memory) (clean : Bool) (sub
 
 -- all that is said of words that represent a value of a data type, but for its subvalues: these are the
 -- values `at` open positions, with the words `subs` there
-pub record Made (types : List DataDecl) (layouts : List Layout) (m : Memory) (clean : Bool) (t : ℕ) (v : Value) (ws : List ℕ) : Type 0 where
+pub record Made (types : List DataDecl) (layouts : List Layout) (m : Memory) (clean : Bool) (t : ℕ) (v : Value)
+    (ws : List ℕ) : Type 0 where
   pub layout : Layout
   pub number : ℕ
   pub leaf : Leaf
@@ -82,11 +85,13 @@ pub record Made (types : List DataDecl) (layouts : List Layout) (m : Memory) (cl
   pub subs : List ℕ → List ℕ
   pub ats : ℕ → ℕ
   pub at : List ℕ → Value
-  pub is_at : (k : ℕ) (o : Open) → slice_get (open_positions types leaf.prov) k ≡ Some o → part_at v o.path ≡ Some (at o.path)
+  pub is_at : (k : ℕ) (o : Open) → slice_get (open_positions types leaf.prov) k ≡ Some o
+      → part_at v o.path ≡ Some (at o.path)
   pub placed : Placed leaf ws m clean subs ats
 
 -- the words represent the value at its type in the memory, cleanly where the flag is up
-pub data Represents (types : List DataDecl) (layouts : List Layout) (m : Memory) (clean : Bool) : Ty → Value → List ℕ → Type 0 where
+pub data Represents (types : List DataDecl) (layouts : List Layout) (m : Memory) (clean : Bool) : Ty → Value
+    → List ℕ → Type 0 where
   number : (bits x : ℕ) → x < 2 ^ bits → Represents types layouts m clean (Int bits) (Num x) (x ∷ [])
   built : (t : ℕ) (v : Value) (ws : List ℕ) (b : Made types layouts m clean t v ws)
       → ((k : ℕ) (o : Open) → slice_get (open_positions types b.leaf.prov) k ≡ Some o

@@ -106,7 +106,8 @@ places_of layouts t k =
 
 -- the looks at which the leaf of a construction is chosen, where mending is given
 abbrev pub choose_with : (ℕ → ℕ) → List Layout → ℕ → ℕ → ℕ
-choose_with mend layouts t k = sum_by (λ (h : Head). depth_of layouts (Named h.con.ty) + mend h.con.ty) (places_of layouts t k)
+choose_with mend layouts t k =
+    sum_by (λ (h : Head). depth_of layouts (Named h.con.ty) + mend h.con.ty) (places_of layouts t k)
 
 -- rebuilding the subvalues that a leaf has taken apart, where choosing is given
 abbrev pub mend_leaf : (ℕ → ℕ → ℕ) → Leaf → ℕ

@@ -32,7 +32,8 @@ IsPiece word k x = slice_get (pieces_of word) k ≡ Some x
 
 -- a free range ends below the bit beneath the next one
 abbrev pub FreeAreApart : Type 0
-FreeAreApart = (word : FlatWord) (j k o l m n : ℕ) → j < k → IsPiece word j (Free o l) → IsPiece word k (Free m n) → o + l < m
+FreeAreApart =
+    (word : FlatWord) (j k o l m n : ℕ) → j < k → IsPiece word j (Free o l) → IsPiece word k (Free m n) → o + l < m
 
 abbrev pub first_bit : Piece → ℕ
 first_bit (Held p) = p.o
@@ -51,7 +52,8 @@ parts_in (Free o l ∷ pieces) = parts_in pieces
 abbrev pub BeginInside : FlatWord → Type 0
 BeginInside word = (k : ℕ) (p : Part) → slice_get word.parts k ≡ Some p → p.o < word.width
 
--- the parts that are shown are the word's own, each as often as it is there: however parts are weighed, they weigh the same
+-- the parts that are shown are the word's own,
+-- each as often as it is there: however parts are weighed, they weigh the same
 abbrev pub EachPartIsShown : Type 0
 EachPartIsShown = (word : FlatWord) (weight : Part → ℕ) → BeginInside word
     → sum_by weight (parts_in (pieces_of word)) ≡ sum_by weight word.parts
@@ -61,4 +63,6 @@ leaves_shown layout = map (λ (r : Route). r.leaf) (routes_of layout.tree)
 
 -- each leaf of a layout is shown once, from left to right
 abbrev pub LeavesAreShown : Type 0
-LeavesAreShown = (p : Program) → EachLayout (flat_layouts p) (λ t layout. leaves_shown layout ≡ range_with_len 0 (length layout.leaves))
+LeavesAreShown =
+    (p : Program) → EachLayout (flat_layouts p)
+    (λ t layout. leaves_shown layout ≡ range_with_len 0 (length layout.leaves))

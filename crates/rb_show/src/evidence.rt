@@ -48,6 +48,7 @@ pub(crate) fn push_leaf(
     }
 }
 
+// The number of a word, and how many bits it has.
 fn push_width(text: &mut Vec<u8>, word: u32, width: u64) -> Result<(), AllocError>
     ensures { OnOk result (text.new.items ≡ text.old.items ++ width_text word width) }
 {
@@ -56,12 +57,14 @@ fn push_width(text: &mut Vec<u8>, word: u32, width: u64) -> Result<(), AllocErro
     push(text, b" bits")
 }
 
+// The number of the item where something fails, before what fails there.
 fn push_item(text: &mut Vec<u8>, item: u32) -> Result<(), AllocError>
     ensures { OnOk result (text.new.items ≡ text.old.items ++ item_text item) }
 {
     push_between(text, b"item ", item as u64, b": ")
 }
 
+// A literal, by its number alone.
 fn push_literal(text: &mut Vec<u8>, literal: u64) -> Result<(), AllocError>
     ensures { OnOk result (text.new.items ≡ text.old.items ++ literal_text literal) }
 {
@@ -69,6 +72,7 @@ fn push_literal(text: &mut Vec<u8>, literal: u64) -> Result<(), AllocError>
     push_number(text, literal)
 }
 
+// The location of the split where something fails, before what fails there.
 fn push_split(text: &mut Vec<u8>, loc: &Loc) -> Result<(), AllocError>
     ensures { OnOk result (text.new.items ≡ text.old.items ++ split_text loc.now) }
 {
@@ -77,6 +81,7 @@ fn push_split(text: &mut Vec<u8>, loc: &Loc) -> Result<(), AllocError>
     push(text, b": ")
 }
 
+// A field, by its path.
 fn push_field(text: &mut Vec<u8>, path: &[u32]) -> Result<(), AllocError>
     ensures { OnOk result (text.new.items ≡ text.old.items ++ field_text path.now) }
 {
@@ -94,6 +99,7 @@ fn unit(ty: Option<Ty>) -> &'static [u8]
     }
 }
 
+// What the field at a path of a leaf is counted in; bits, where the leaf is not there.
 fn unit_of(types: &[DataDecl], leaves: &[Leaf], leaf: u32, path: &[u32]) -> &'static [u8]
     ensures { result.now ≡ unit_in types.now (slice_get leaves.now leaf) path.now }
 {
@@ -130,6 +136,7 @@ fn push_later(text: &mut Vec<u8>, types: &[DataDecl], tys: &[u32]) -> Result<(),
     Ok(())
 }
 
+// The names of types, with commas between them.
 fn push_names(text: &mut Vec<u8>, types: &[DataDecl], tys: &[u32]) -> Result<(), AllocError>
     ensures { OnOk result (text.new.items ≡ text.old.items ++ names_text types.now tys.now) }
 {
@@ -153,6 +160,7 @@ fn length_of(loc: &Loc) -> u64
     length
 }
 
+// How many words are wanted, and how many were found.
 fn push_counts(text: &mut Vec<u8>, wanted: u64, found: u64) -> Result<(), AllocError>
     ensures { OnOk result (text.new.items ≡ text.old.items ++ counts_text wanted found) }
 {
@@ -163,6 +171,7 @@ fn push_counts(text: &mut Vec<u8>, wanted: u64, found: u64) -> Result<(), AllocE
     Ok(())
 }
 
+// That two leaves, each named by its provenance, have a common value.
 fn push_common(
     text: &mut Vec<u8>,
     types: &[DataDecl],
@@ -179,6 +188,7 @@ fn push_common(
     push(text, b" have a common value")
 }
 
+// That there is no leaf for a pattern.
 fn push_missing(text: &mut Vec<u8>, types: &[DataDecl], pat: &Pat) -> Result<(), AllocError>
     ensures { OnOk result (text.new.items ≡ text.old.items ++ missing_text types.now pat.now) }
 {
@@ -186,6 +196,7 @@ fn push_missing(text: &mut Vec<u8>, types: &[DataDecl], pat: &Pat) -> Result<(),
     push_pattern(text, types, pat)
 }
 
+// That a location does not resolve.
 fn push_unresolved(text: &mut Vec<u8>, loc: &Loc) -> Result<(), AllocError>
     ensures { OnOk result (text.new.items ≡ text.old.items ++ unresolved_text loc.now) }
 {
@@ -207,6 +218,7 @@ fn push_literal_at(
     push_loc(text, loc)
 }
 
+// That a type has a pointer.
 fn push_pointer(text: &mut Vec<u8>, types: &[DataDecl], ty: u32) -> Result<(), AllocError>
     ensures { OnOk result (text.new.items ≡ text.old.items ++ pointer_text types.now ty) }
 {
@@ -214,6 +226,7 @@ fn push_pointer(text: &mut Vec<u8>, types: &[DataDecl], ty: u32) -> Result<(), A
     push(text, b" has a pointer")
 }
 
+// The names of types, each of which flattens the next and the last the first.
 fn push_flattening(text: &mut Vec<u8>, types: &[DataDecl], tys: &[u32]) -> Result<(), AllocError>
     ensures { OnOk result (text.new.items ≡ text.old.items ++ flattening_text types.now tys.now) }
 {
@@ -222,6 +235,7 @@ fn push_flattening(text: &mut Vec<u8>, types: &[DataDecl], tys: &[u32]) -> Resul
     Ok(())
 }
 
+// The names of types, each of which holds the next in root words and the last the first.
 fn push_holding(text: &mut Vec<u8>, types: &[DataDecl], tys: &[u32]) -> Result<(), AllocError>
     ensures { OnOk result (text.new.items ≡ text.old.items ++ holding_text types.now tys.now) }
 {

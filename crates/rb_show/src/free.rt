@@ -6,12 +6,14 @@ ghost use Rattle.rb_show.specs.Pieces.{begins_free, free_bits, holds_bit, is_fre
 
 use rb_layout::layout::{FlatWord, Part};
 
+// Whether a part holds this bit of its word.
 fn holds_bit(part: &Part, bit: u64) -> bool
     ensures { result ≡ holds_bit bit part.now }
 {
     part.o <= bit && bit - part.o < part.l
 }
 
+// Whether any of these parts of a word holds this bit.
 fn is_held(parts: &[Part], bit: u64) -> bool
     ensures { result ≡ list_any (holds_bit bit) parts.now }
 {

@@ -14,6 +14,7 @@ use rb_core::types::DataDecl;
 use rb_layout::layout::Leaf;
 use std::alloc::AllocError;
 
+// The lines of a leaf, with those of the conditions of the splits above it.
 fn push_leaf(
     text: &mut Vec<u8>,
     types: &[DataDecl],

@@ -18,6 +18,7 @@ pub(crate) fn push_bits(text: &mut Vec<u8>, o: u64, l: u64) -> Result<(), AllocE
     Ok(())
 }
 
+// A step of a location: through a pointer, to bits of a word of its block.
 fn push_step(text: &mut Vec<u8>, step: &Step) -> Result<(), AllocError>
     ensures { OnOk result (text.new.items ≡ text.old.items ++ step_text step.now) }
 {
@@ -29,6 +30,7 @@ fn push_step(text: &mut Vec<u8>, step: &Step) -> Result<(), AllocError>
     Ok(())
 }
 
+// The steps of a location, one after the other.
 fn push_steps(text: &mut Vec<u8>, steps: &[Step]) -> Result<(), AllocError>
     ensures { OnOk result (text.new.items ≡ text.old.items ++ flat_map step_text steps.now) }
 {

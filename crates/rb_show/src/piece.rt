@@ -11,6 +11,7 @@ use crate::text::{push, push_number, push_range};
 use rb_layout::layout::{FlatWord, Kind, Part};
 use std::alloc::AllocError;
 
+// The numbers of a path, each behind a point.
 pub(crate) fn push_path(text: &mut Vec<u8>, path: &[u32]) -> Result<(), AllocError>
     ensures { OnOk result (text.new.items ≡ text.old.items ++ path_text path.now) }
 {
@@ -50,6 +51,7 @@ fn push_kind(text: &mut Vec<u8>, l: u64, kind: &Kind) -> Result<(), AllocError>
     Ok(())
 }
 
+// The line of a part: its range, and what it holds.
 fn push_part(text: &mut Vec<u8>, part: &Part) -> Result<(), AllocError>
     ensures { OnOk result (text.new.items ≡ text.old.items ++ piece_line (Held part.now)) }
 {
@@ -61,6 +63,7 @@ fn push_part(text: &mut Vec<u8>, part: &Part) -> Result<(), AllocError>
     Ok(())
 }
 
+// The line of a free range: so many bits from that bit on.
 fn push_free(text: &mut Vec<u8>, o: u64, l: u64) -> Result<(), AllocError>
     ensures { OnOk result (text.new.items ≡ text.old.items ++ piece_line (Free o l)) }
 {

@@ -29,6 +29,7 @@ pub fn push_name(text: &mut Vec<u8>, types: &[DataDecl], ty: u32) -> Result<(), 
     }
 }
 
+// The first line of a layout: the name of its type.
 fn push_type(text: &mut Vec<u8>, types: &[DataDecl], ty: u32) -> Result<(), AllocError>
     ensures { OnOk result (text.new.items ≡ text.old.items ++ type_line types.now ty) }
 {

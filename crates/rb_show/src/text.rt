@@ -7,12 +7,14 @@ ghost use Rattle.rb_show.specs.Locations.{range_text};
 use rb_core::decimal::digits;
 use std::alloc::AllocError;
 
+// Bytes, as they are.
 pub(crate) fn push(text: &mut Vec<u8>, bytes: &[u8]) -> Result<(), AllocError>
     ensures { OnOk result (text.new.items ≡ text.old.items ++ bytes.now) }
 {
     text.extend_from_slice(bytes)
 }
 
+// A number in decimal.
 pub(crate) fn push_number(text: &mut Vec<u8>, number: u64) -> Result<(), AllocError>
     ensures { OnOk result (text.new.items ≡ text.old.items ++ decimal number) }
 {

@@ -60,6 +60,7 @@ fn push_ways(
     }
 }
 
+// The way to this leaf, with a copy of the conditions above it.
 fn push_way(
     alloc: Global,
     leaf: u32,

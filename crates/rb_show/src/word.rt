@@ -23,6 +23,7 @@ fn push_width(text: &mut Vec<u8>, word: &FlatWord) -> Result<(), AllocError>
     Ok(())
 }
 
+// A word of a root, by its number.
 fn push_root_word(text: &mut Vec<u8>, number: u64, word: &FlatWord) -> Result<(), AllocError>
     ensures { OnOk result (text.new.items ≡ text.old.items ++ root_word_lines number word.now) }
 {
@@ -84,6 +85,7 @@ fn push_size(text: &mut Vec<u8>, size: u64, align: u64) -> Result<(), AllocError
     Ok(())
 }
 
+// A block's first line: its number, its size in bytes and its alignment.
 fn push_block_line(text: &mut Vec<u8>, number: u64, size: u64, align: u64) -> Result<(), AllocError>
     ensures { OnOk result (text.new.items ≡ text.old.items ++ block_line number size align) }
 {
@@ -93,6 +95,7 @@ fn push_block_line(text: &mut Vec<u8>, number: u64, size: u64, align: u64) -> Re
     Ok(())
 }
 
+// A block, by its number: its first line, and the lines of its words.
 fn push_block(text: &mut Vec<u8>, number: u64, block: &Block) -> Result<(), AllocError>
     requires { AreShort block.now.words }
     ensures { OnOk result (text.new.items ≡ text.old.items ++ block_lines number block.now) }

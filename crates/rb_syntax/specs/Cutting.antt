@@ -73,7 +73,8 @@ pub data Cut (Stops : ℕ → List ℕ → Type 0) : ℕ → List ℕ → List P
   stop : (at : ℕ) (bytes : List ℕ) → Stops at bytes → Cut Stops at bytes []
   gap : (at n : ℕ) (bytes : List ℕ) (tokens : List Placed) → IsLongest n bytes → IsGap (take n bytes)
       → Cut Stops (at + n) (drop n bytes) tokens → Cut Stops at bytes tokens
-  token : (at n : ℕ) (t : Token) (bytes : List ℕ) (tokens : List Placed) → IsLongest n bytes → IsWritten t (take n bytes)
+  token : (at n : ℕ) (t : Token) (bytes : List ℕ) (tokens : List Placed) → IsLongest n bytes
+      → IsWritten t (take n bytes)
       → Cut Stops (at + n) (drop n bytes) tokens → Cut Stops at bytes (record { token = t; at = at } ∷ tokens)
 
 -- all bytes are cut
@@ -89,11 +90,13 @@ pub data IsTokenRun (text : List ℕ) : Type 0 where
 -- behind so many good bytes the next is bad: no piece begins there; or the run does not go on as a token
 pub data IsBadBehind (k : ℕ) (bytes : List ℕ) : Type 0 where
   no_piece : k ≡ 0 → 0 < length bytes → ((n : ℕ) → n ≤ length bytes → IsPiece (take n bytes) → ⊥) → IsBadBehind k bytes
-  wrong_run : (n : ℕ) → IsLongest n bytes → k < n → IsTokenRun (take k bytes) → (IsTokenRun (take (suc k) bytes) → ⊥) → IsBadBehind k bytes
+  wrong_run : (n : ℕ) → IsLongest n bytes → k < n → IsTokenRun (take k bytes)
+      → (IsTokenRun (take (suc k) bytes) → ⊥) → IsBadBehind k bytes
 
 -- cut up to a bad byte
 abbrev pub HasBadByte : List ℕ → ℕ → Type 0
-HasBadByte bytes p = (tokens : List Placed) × Cut (λ at rest. (k : ℕ) × (p ≡ at + k) × IsBadBehind k rest) 0 bytes tokens
+HasBadByte bytes p =
+    (tokens : List Placed) × Cut (λ at rest. (k : ℕ) × (p ≡ at + k) × IsBadBehind k rest) 0 bytes tokens
 
 -- the longest piece is a number of 2^64 or more
 pub record IsWideNumber (bytes : List ℕ) : Type 0 where

@@ -32,7 +32,8 @@ with_front at piece.Wide rest = ends (Some at)
 unfoldable pub front_from : ℕ → ℕ → List ℕ → Front
 front_from zero at bytes = ends None
 front_from (suc n) at bytes =
-    if length bytes == 0 then ends None else with_front at (piece_at bytes) (λ len. front_from n (at + len) (drop len bytes))
+    if length bytes == 0 then ends None else with_front at (piece_at bytes)
+    (λ len. front_from n (at + len) (drop len bytes))
 
 -- the text from a byte on
 abbrev pub front_at : List ℕ → ℕ → Front
@@ -43,7 +44,8 @@ front text = front_from (length text) 0 text
 
 -- what stands next from a byte on: a token and the byte behind it, the first fault, or the end
 abbrev pub IsNext : List ℕ → ℕ → Next → Type 0
-IsNext text from (next.Token p end) = (front_at text from ≡ behind p (front_at text end)) × (from < end) × (end ≤ length text)
+IsNext text from (next.Token p end) =
+    (front_at text from ≡ behind p (front_at text end)) × (from < end) × (end ≤ length text)
 IsNext text from (next.Fault p) = front_at text from ≡ ends (Some p)
 IsNext text from next.End = front_at text from ≡ ends None
 

@@ -28,7 +28,8 @@ with_piece at piece.Wide behind = Err (NumberTooWide at)
 unfoldable pub lexed_from : ℕ → ℕ → List ℕ → Lexed
 lexed_from zero at bytes = Ok []
 lexed_from (suc n) at bytes =
-    if length bytes == 0 then Ok [] else with_piece at (piece_at bytes) (λ len. lexed_from n (at + len) (drop len bytes))
+    if length bytes == 0 then Ok [] else with_piece at (piece_at bytes)
+    (λ len. lexed_from n (at + len) (drop len bytes))
 
 -- each piece has a byte, so a text has no more pieces than bytes
 abbrev pub lexed : List ℕ → Lexed

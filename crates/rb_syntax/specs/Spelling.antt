@@ -98,7 +98,8 @@ abbrev pub pat_step : PatTree-F Deep → Deep
 pat_step (pat.Wild at) l rest = node l ∷ number at ∷ sym symbol.Underscore ∷ rest
 pat_step (pat.Var at name) l rest = node l ∷ number at ∷ lower_written name rest
 pat_step (pat.Num at n) l rest = node l ∷ number at ∷ num n ∷ rest
-pat_step (pat.Con at name ps) l rest = node l ∷ number at ∷ upper_written name (fields_written (at_level (suc l) ps) rest)
+pat_step (pat.Con at name ps) l rest =
+    node l ∷ number at ∷ upper_written name (fields_written (at_level (suc l) ps) rest)
 
 abbrev pub pat_written : PatTree → Deep
 pat_written = fold-PatTree Deep pat_step
@@ -119,14 +120,16 @@ abbrev pub expr_step : ExprTree-F Deep Deep → Deep
 expr_step (expr.Num at n) l rest = node l ∷ number at ∷ num n ∷ rest
 expr_step (expr.Var at name) l rest = node l ∷ number at ∷ lower_written name rest
 expr_step (expr.Call at name es) l rest =
-    node l ∷ number at ∷ lower_written name (sym symbol.OpenParen ∷ any_with comma (at_level (suc l) es) (sym symbol.CloseParen ∷ rest))
+    node l ∷ number at ∷ lower_written name
+    (sym symbol.OpenParen ∷ any_with comma (at_level (suc l) es) (sym symbol.CloseParen ∷ rest))
 expr_step (expr.Build at name es) l rest =
     node l ∷ number at ∷ upper_written name (fields_written (at_level (suc l) es) rest)
 expr_step (expr.Binary at op a b) l rest =
     node l ∷ number at ∷ reserved (op_word op) ∷ sym symbol.OpenParen
     ∷ a (suc l) (token comma ∷ b (suc l) (sym symbol.CloseParen ∷ rest))
 expr_step (expr.To at bits a) l rest =
-    node l ∷ number at ∷ reserved word.To ∷ uint_written bits (sym symbol.OpenParen ∷ a (suc l) (sym symbol.CloseParen ∷ rest))
+    node l ∷ number at ∷ reserved word.To
+    ∷ uint_written bits (sym symbol.OpenParen ∷ a (suc l) (sym symbol.CloseParen ∷ rest))
 expr_step (expr.Let at name t a b) l rest =
     node l ∷ number at ∷ reserved word.Let ∷ lower_written name (sym symbol.Colon ∷ ty_written t (sym symbol.Equals
     ∷ a (suc l) (reserved word.In ∷ b (suc l) rest)))
@@ -159,7 +162,8 @@ path_written (f ∷ fs) rest = field_written f (each (map field_written fs) rest
 
 abbrev pub loc_step_written : Step → Writing
 loc_step_written s rest =
-    sym symbol.Arrow ∷ num s.align ∷ sym symbol.At ∷ num s.byte ∷ sym symbol.Colon ∷ num s.width ∷ range_written s.o s.l rest
+    sym symbol.Arrow ∷ num s.align ∷ sym symbol.At ∷ num s.byte ∷ sym symbol.Colon ∷ num s.width
+    ∷ range_written s.o s.l rest
 
 abbrev pub loc_written : Loc → Writing
 loc_written loc rest = num loc.word ∷ range_written loc.o loc.l (each (map loc_step_written loc.steps) rest)
@@ -170,14 +174,16 @@ kind_step (item.Whole path) l rest = path_written path rest
 kind_step (item.Slice path first bits) l rest = path_written path (range_written first bits rest)
 kind_step (item.PartKind::Word path j) l rest = path_written path (reserved word.Word ∷ num j ∷ rest)
 kind_step (item.Pointer align items) l rest =
-    node l ∷ sym symbol.Arrow ∷ num align ∷ sym symbol.OpenBrace ∷ any_with comma (at_level (suc l) items) (sym symbol.CloseBrace ∷ rest)
+    node l ∷ sym symbol.Arrow ∷ num align ∷ sym symbol.OpenBrace
+    ∷ any_with comma (at_level (suc l) items) (sym symbol.CloseBrace ∷ rest)
 
 abbrev pub part_step : PartDecl-F Deep Deep Deep → Deep
 part_step p l rest = range_written p.o p.l (p.kind l rest)
 
 abbrev pub lay_item_step : LayItem-F Deep Deep Deep → Deep
 lay_item_step (item.LayItem::Word bits parts) l rest =
-    reserved word.Word ∷ num bits ∷ sym symbol.OpenBrace ∷ any_with comma (at_level l parts) (sym symbol.CloseBrace ∷ rest)
+    reserved word.Word ∷ num bits ∷ sym symbol.OpenBrace
+    ∷ any_with comma (at_level l parts) (sym symbol.CloseBrace ∷ rest)
 lay_item_step (item.Inline path) l rest = reserved word.Inline ∷ path_written path rest
 
 -- a word or the words of a field; the pointer parts in it are at this level
@@ -195,7 +201,8 @@ abbrev pub prov_step : PatTree-F Deep → Deep
 prov_step (pat.Wild at) l rest = node l ∷ number at ∷ sym symbol.Underscore ∷ rest
 prov_step (pat.Var at name) l rest = flaw ∷ rest
 prov_step (pat.Num at n) l rest = flaw ∷ rest
-prov_step (pat.Con at name ps) l rest = node l ∷ number at ∷ upper_written name (fields_written (at_level (suc l) ps) rest)
+prov_step (pat.Con at name ps) l rest =
+    node l ∷ number at ∷ upper_written name (fields_written (at_level (suc l) ps) rest)
 
 -- a provenance itself is a constructor
 abbrev pub root_checked : PatTree-F PatTree → Writing
@@ -239,14 +246,16 @@ con_written c rest = upper_written c.name (fields_written (map ty_written c.fiel
 
 abbrev pub type_written : TypeTree → Writing
 type_written t rest =
-    reserved word.Type ∷ upper_written t.name (sym symbol.Equals ∷ some_with bar (map con_written t.cons) (sym symbol.Semicolon ∷ rest))
+    reserved word.Type ∷ upper_written t.name
+    (sym symbol.Equals ∷ some_with bar (map con_written t.cons) (sym symbol.Semicolon ∷ rest))
 
 abbrev pub width_written : ℕ → Writing
 width_written bits rest = num bits ∷ rest
 
 abbrev pub layout_written : LayoutTree → Writing
 layout_written t rest =
-    number t.at ∷ reserved word.Layout ∷ upper_written t.ty (sym symbol.Less ∷ some_with comma (map width_written t.shape)
+    number t.at ∷ reserved word.Layout ∷ upper_written t.ty
+    (sym symbol.Less ∷ some_with comma (map width_written t.shape)
     (sym symbol.Greater ∷ sym symbol.Equals ∷ split_written t.tree 1 (sym symbol.Semicolon ∷ rest)))
 
 abbrev pub param_written : ParamTree → Writing

@@ -59,7 +59,8 @@ words = word.Type ∷ word.Layout ∷ word.Fun ∷ word.Let ∷ word.In ∷ word
 
 -- all symbols, those of two bytes first
 abbrev pub symbols : List Symbol
-symbols = symbol.Arrow ∷ symbol.FatArrow ∷ symbol.Equals ∷ symbol.Bar ∷ symbol.OpenParen ∷ symbol.CloseParen ∷ symbol.Comma
+symbols =
+    symbol.Arrow ∷ symbol.FatArrow ∷ symbol.Equals ∷ symbol.Bar ∷ symbol.OpenParen ∷ symbol.CloseParen ∷ symbol.Comma
     ∷ symbol.Semicolon ∷ symbol.OpenBrace ∷ symbol.CloseBrace ∷ symbol.Less ∷ symbol.Greater ∷ symbol.Colon
     ∷ symbol.OpenBracket ∷ symbol.CloseBracket ∷ symbol.Dot ∷ symbol.At ∷ symbol.Underscore ∷ []
 

@@ -75,6 +75,7 @@ fn run_piece(alloc: Global, first: u8, run: &[u8]) -> Result<Piece, AllocError>
     }
 }
 
+// The symbol at the front of bytes, or `Bad(0)` where none stands there.
 #[tactic(auto, unfolding(crate::specs::Pieces::symbol_piece))]
 fn symbol_piece(bytes: &[u8]) -> Piece
     ensures { result ≡ piece.symbol_piece (text.symbol_at bytes.now) }
@@ -102,6 +103,7 @@ fn first_piece(alloc: Global, first: u8, bytes: &[u8]) -> Result<Piece, AllocErr
     Ok(symbol_piece(bytes))
 }
 
+// The piece at the front of bytes, or an empty gap where there are none.
 #[tactic(auto, unfolding(crate::specs::Pieces::piece_at))]
 fn piece_at(alloc: Global, bytes: &[u8]) -> Result<Piece, AllocError>
     ensures { IfOk result (λ p. p ≡ piece.piece_at bytes.now) }

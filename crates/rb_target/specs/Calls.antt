@@ -10,8 +10,10 @@ use Rattle.rb_target.specs.Meaning.{World, over, from, enter, body_of, first_slo
 pub record AreCalls (funs : List CodeFun) : Type 0 where
   pub none : (depth f : ℕ) (words : List ℕ) (w : World) → w.left ≡ 0 → enter funs depth f words w ≡ over Spent w
   pub one : (depth f n : ℕ) (words : List ℕ) (w : World) → w.left ≡ suc n
-      → enter funs (suc depth) f words w ≡ from (body_of funs f) (enter funs depth) 0 (first_slots funs f words) (with_left w n)
-  pub tells : (depth f left : ℕ) (words results : List ℕ) (w : World) → (enter funs depth f words w).ended ≡ Returned results left
+      → enter funs (suc depth) f words w
+      ≡ from (body_of funs f) (enter funs depth) 0 (first_slots funs f words) (with_left w n)
+  pub tells : (depth f left : ℕ) (words results : List ℕ) (w : World)
+      → (enter funs depth f words w).ended ≡ Returned results left
       → left ≡ (enter funs depth f words w).world.left
 
 -- a run keeps a good memory good

@@ -40,4 +40,5 @@ pub record IsFaultAt (funs : List CodeFun) (n pc : ℕ) (fault : CodeFault) : Ty
 pub record IsFaultIn (funs : List CodeFun) (n : ℕ) (fault : CodeFault) : Type 0 where
   pub stands : Stands funs fault
   pub function : (place_of fault).0 ≡ n
-  pub first : (other : CodeFault) → Stands funs other → (place_of other).0 ≡ n → ¬ IsBefore (place_of other) (place_of fault)
+  pub first : (other : CodeFault) → Stands funs other → (place_of other).0 ≡ n
+      → ¬ IsBefore (place_of other) (place_of fault)

@@ -93,7 +93,9 @@ key_bytes key.Return = codes "return"
 key_bytes key.End = codes "end"
 
 abbrev pub keys : List Key
-keys = key.Const ∷ key.Copy ∷ key.Alu ∷ key.Take ∷ key.Put ∷ key.Load ∷ key.Store ∷ key.Place ∷ key.Jump ∷ key.Switch ∷ key.Call ∷ key.Return ∷ key.End ∷ []
+keys =
+    key.Const ∷ key.Copy ∷ key.Alu ∷ key.Take ∷ key.Put ∷ key.Load ∷ key.Store ∷ key.Place ∷ key.Jump ∷ key.Switch
+    ∷ key.Call ∷ key.Return ∷ key.End ∷ []
 
 abbrev pub ops : List AluOp
 ops = Add ∷ Sub ∷ Mul ∷ And ∷ Or ∷ Xor ∷ Eq ∷ Lt ∷ []
@@ -217,7 +219,8 @@ after_number (Jump t) First last n = line_at (Jump n) Second n
 after_number (Switch a other arms) First last n = line_at (Switch n other arms) Second n
 after_number (Switch a other arms) Second last n = line_at (Switch a (Some n) []) Third n
 after_number (Switch a other arms) Third last n = line_at (Switch a other arms) Fourth n
-after_number (Switch a other arms) Fourth last n = line_at (Switch a other (arms ++ record { number = last; target = n } ∷ [])) Third n
+after_number (Switch a other arms) Fourth last n =
+    line_at (Switch a other (arms ++ record { number = last; target = n } ∷ [])) Third n
 after_number (Call f ds froms) First last n = line_at (Call n [] froms) Second n
 after_number (Call f ds froms) Second last n = line_at (Call f (ds ++ n ∷ []) froms) Second n
 after_number (Call f ds froms) Third last n = line_at (Call f ds (froms ++ n ∷ [])) Third n

@@ -19,7 +19,8 @@ IsFinal e = Unit {0}
 pub record IsLawful (funs : List CodeFun) : Type 0 where
   pub unrolls : (f : ℕ) (callee : Callee) → Law (body_of funs f) callee (from (body_of funs f) callee)
   -- calls can't nest deeper than the calls that are left, so any two bounds that large give the same
-  pub deep : (d e f : ℕ) (words : List ℕ) (w : World) → w.left ≤ d → w.left ≤ e → enter funs d f words w ≡ enter funs e f words w
+  pub deep : (d e f : ℕ) (words : List ℕ) (w : World) → w.left ≤ d → w.left ≤ e
+      → enter funs d f words w ≡ enter funs e f words w
   pub final : (o : Outcome) (go : List ℕ → Outcome) → IsFinal o.ended → after_call o.ended o.world go ≡ o
   -- no call gives calls back
   pub falls : (d f : ℕ) (words : List ℕ) (w : World) → (enter funs d f words w).world.left ≤ w.left

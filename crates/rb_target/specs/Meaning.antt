@@ -101,7 +101,8 @@ act (Take d a o l) next callee pc slots w = next (pc + 1) (slice_set slots d (ta
 act (Put d a o l) next callee pc slots w =
     next (pc + 1) (slice_set slots d (put_of (slice_index slots d) o l (slice_index slots a % 2 ^ l))) w
 act (Load d a offset width) next callee pc slots w =
-    after_load (load_of w.memory (slice_index slots a) offset width) w (λ word. next (pc + 1) (slice_set slots d word) w)
+    after_load (load_of w.memory (slice_index slots a) offset width) w
+    (λ word. next (pc + 1) (slice_set slots d word) w)
 act (Store a offset width v) next callee pc slots w =
     let stored = store_of w.memory (slice_index slots a) offset width (slice_index slots v) in
     let w' = with_memory w stored.1 in
@@ -112,7 +113,8 @@ act (Place d size align) next callee pc slots w =
     after_place placed.0 w' (λ a. next (pc + 1) (slice_set slots d a) w')
 act (Jump t) next callee pc slots w = next t slots w
 act (Switch a other arms) next callee pc slots w =
-    after_switch (target_of arms other (slice_index slots a)) (slice_index slots a) (switched w) (λ t. next t slots (switched w))
+    after_switch (target_of arms other (slice_index slots a)) (slice_index slots a) (switched w)
+    (λ t. next t slots (switched w))
 act (Call f ds froms) next callee pc slots w =
     let back = callee f (slots_at slots froms) w in
     after_call back.ended back.world (λ words. next (pc + 1) (put_slots slots ds words) back.world)

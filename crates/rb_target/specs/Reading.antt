@@ -39,7 +39,8 @@ named name = record { name = name; params = 0; results = 0; slots = 0; body = []
 abbrev pub line_next : CodeFun → Line → ℕ → Move
 line_next f l g =
     if (g == 32) && is_open (field l.instr l.turn) then To (Within f l)
-    else (if (g == 10) && may_end l.instr l.turn then To (Starting (record f { body = f.body ++ l.instr ∷ [] })) else Refused)
+    else (if (g == 10) && may_end l.instr l.turn then To (Starting (record f { body = f.body ++ l.instr ∷ [] }))
+    else Refused)
 
 abbrev pub key_next : CodeFun → ℕ → Key → Move
 key_next f g key.End = if g == 10 then Closed f else Refused

@@ -63,4 +63,5 @@ finished b name results =
 
 -- each slot after the parameters is written by some instruction
 abbrev pub AreWritten : Sheet → Type 0
-AreWritten b = (s : ℕ) → b.params ≤ s → s < b.slots → (pc : ℕ) × (i : Instr) × (slice_get b.code pc ≡ Some i) × Contains (dests i) s
+AreWritten b = (s : ℕ) → b.params ≤ s → s < b.slots → (pc : ℕ) × (i : Instr) × (slice_get b.code pc ≡ Some i)
+    × Contains (dests i) s

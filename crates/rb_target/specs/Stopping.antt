@@ -19,7 +19,8 @@ IsCode bytes = (funs : List CodeFun) × IsTextOf bytes funs
 abbrev pub IsFront : List ℕ → Type 0
 IsFront bytes = BeginsSome IsCode bytes
 
--- the bytes before `at` begin some code text; with the byte there they don't, or there is none and they are no whole text
+-- the bytes before `at` begin some code text;
+-- with the byte there they don't, or there is none and they are no whole text
 abbrev pub StopsAt : List ℕ → ℕ → Type 0
 StopsAt bytes at = StopsAtIn IsCode bytes at
 

@@ -54,7 +54,8 @@ IsOpen hs pc arm = (h : Hole) × IsIn h hs × (h.pc ≡ pc) × (h.arm ≡ arm)
 pub record AgreesAt (final code : List Instr) (hs : List Hole) (pc : ℕ) : Type 0 where
   pub same : ((arm : Option ℕ) → IsOpen hs pc arm → ⊥) → slice_get final pc ≡ slice_get code pc
   pub shapes : shape_in (slice_get final pc) ≡ shape_in (slice_get code pc)
-  pub targets : (arm : Option ℕ) → (IsOpen hs pc arm → ⊥) → target_in (slice_get final pc) arm ≡ target_in (slice_get code pc) arm
+  pub targets : (arm : Option ℕ) → (IsOpen hs pc arm → ⊥)
+      → target_in (slice_get final pc) arm ≡ target_in (slice_get code pc) arm
 
 -- the finished code is this code from a up to b, with open targets that are anything
 abbrev pub Finishes : List Instr → List Instr → List Hole → ℕ → ℕ → Type 0
@@ -64,7 +65,8 @@ Finishes final code hs a b = (pc : ℕ) → a ≤ pc → pc < b → AgreesAt fin
 pub record SetsTarget (b : Sheet) (h : Hole) (t : ℕ) (c : Sheet) : Type 0 where
   pub long : length c.code ≡ length b.code
   pub target : target_in (slice_get c.code h.pc) h.arm ≡ Some t
-  pub others : (arm : Option ℕ) → arm ≢ h.arm → target_in (slice_get c.code h.pc) arm ≡ target_in (slice_get b.code h.pc) arm
+  pub others : (arm : Option ℕ) → arm ≢ h.arm
+      → target_in (slice_get c.code h.pc) arm ≡ target_in (slice_get b.code h.pc) arm
   pub shapes : shape_in (slice_get c.code h.pc) ≡ shape_in (slice_get b.code h.pc)
   pub elsewhere : (pc : ℕ) → pc ≢ h.pc → slice_get c.code pc ≡ slice_get b.code pc
   pub written : (pc : ℕ) → dests_in (slice_get c.code pc) ≡ dests_in (slice_get b.code pc)

@@ -77,6 +77,7 @@ fn is_target(long: usize, pc: usize, target: usize) -> bool
     pc < target && target < long
 }
 
+// Whether the targets of all arms lie behind an instruction and within the body.
 fn are_arms(long: usize, pc: usize, arms: &[SwitchArm]) -> bool
     ensures { IsTrue result ↔ AreArms long pc arms.now }
 {

@@ -40,6 +40,7 @@ fn push_numbers(words: &mut Vec<Word>, items: &[u64]) -> Result<(), AllocError>
     Ok(())
 }
 
+// A new list with the words of some numbers.
 fn plain(alloc: Global, items: &[u64]) -> Result<Vec<Word>, AllocError>
     ensures { IfOk result (λ v. v.items ≡ numbers items.now) }
 {
@@ -146,6 +147,7 @@ fn push_line(text: &mut Vec<u8>, first: &[u8], words: &[Word]) -> Result<(), All
     Ok(())
 }
 
+// Words, each after a blank.
 fn push_words(text: &mut Vec<u8>, words: &[Word]) -> Result<(), AllocError>
     ensures { IfOk result (λ _. text.new.items ≡ text.old.items ++ spaced words.now) }
 {
@@ -155,6 +157,7 @@ fn push_words(text: &mut Vec<u8>, words: &[Word]) -> Result<(), AllocError>
     Ok(())
 }
 
+// The lines of a body, one an instruction.
 fn push_body(alloc: Global, text: &mut Vec<u8>, body: &[Instr]) -> Result<(), AllocError>
     ensures { IfOk result (λ _. text.new.items ≡ text.old.items ++ body_text body.now) }
 {
@@ -165,6 +168,7 @@ fn push_body(alloc: Global, text: &mut Vec<u8>, body: &[Instr]) -> Result<(), Al
     Ok(())
 }
 
+// A function: its first line, the lines of its body, and the line `end`.
 fn push_fun(alloc: Global, text: &mut Vec<u8>, fun: &CodeFun) -> Result<(), AllocError>
     ensures { IfOk result (λ _. text.new.items ≡ text.old.items ++ fun_text fun.now) }
 {

@@ -21,6 +21,7 @@ pub record HasSameHead (f q : CodeFun) : Type 0 where
 -- the same functions, each of whose runs is no dearer, from any words that it takes and any memory
 pub record IsTrimOf (old new : List CodeFun) : Type 0 where
   pub count : length new ≡ length old
-  pub heads : (g : ℕ) (f : CodeFun) → slice_get old g ≡ Some f → (q : CodeFun) × (slice_get new g ≡ Some q) × HasSameHead f q
+  pub heads : (g : ℕ) (f : CodeFun) → slice_get old g ≡ Some f → (q : CodeFun) × (slice_get new g ≡ Some q)
+      × HasSameHead f q
   pub runs : (g : ℕ) (f : CodeFun) (n : ℕ) (ws : List ℕ) (m : Memory) → slice_get old g ≡ Some f → length ws ≡ f.params
       → IsNoDearer (run_of new n g ws m) (run_of old n g ws m)

@@ -101,12 +101,14 @@ fn comes_back(
     Ok(())
 }
 
+// Whether two lists have the same words.
 fn are_same(words: &[usize], others: &[usize]) -> bool
     ensures { IsTrue result → (words.now ≡ others.now) }
 {
     words == others
 }
 
+// Tests that the arm with this place, if there is one, returns these words.
 fn arm_comes_back(
     alloc: Global,
     hints: &Hints,
@@ -140,6 +142,7 @@ fn arms_come_back(
     Ok(())
 }
 
+// Tests that the other way, if there is one, returns these words.
 fn other_comes_back(
     alloc: Global,
     hints: &Hints,

@@ -32,6 +32,7 @@ fn made(instr: &Instr) -> Option<Fact>
     }
 }
 
+// The fact that a slot has a content. It is never none.
 fn fact(slot: usize, content: Content) -> Option<Fact>
     ensures { result ≡ Some (record { slot = slot; content = content }) }
 {

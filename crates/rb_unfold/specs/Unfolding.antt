@@ -55,8 +55,8 @@ abbrev pub block_seen : Leaf → ℕ → ℕ → List Seen
 block_seen leaf zero b = []
 block_seen leaf (suc depth) b = words_seen (block_seen leaf depth) (words_in leaf (Some b))
 
--- all that is seen of a leaf along its pointers: these lead from a block to blocks of lower numbers, so no way along them
--- passes more blocks than the leaf has
+-- all that is seen of a leaf along its pointers: these lead from a block to blocks of lower numbers, so no way along
+-- them passes more blocks than the leaf has
 abbrev pub unfolded : Leaf → List Seen
 unfolded leaf = words_seen (block_seen leaf (length leaf.blocks)) leaf.root
 
@@ -80,7 +80,8 @@ kind_step (I.Pointer align items) = record { it = Address align; inside = in_blo
 
 -- a part in a word of this width: what is placed for it, and what is written behind it
 abbrev pub part_step : List Open → PartDecl-F (List Seen) (Nested Content) (ℕ → List Seen) → ℕ → List Seen
-part_step opens p width = map Has (part_placed opens width (record { o = p.o; l = p.l; content = p.kind.it })) ++ p.kind.inside
+part_step opens p width =
+    map Has (part_placed opens width (record { o = p.o; l = p.l; content = p.kind.it })) ++ p.kind.inside
 
 -- a word of an inlined field: it has no pointers
 abbrev pub field_word : FlatWord → List Seen
@@ -93,7 +94,8 @@ item_step decls opens (I.Inline path) = flat_map field_word (inlined decls (type
 
 -- what is written of an item
 abbrev pub item_written : List LayoutDecl → List Open → LayItem → List Seen
-item_written decls opens = fold-LayItem (List Seen) (Nested Content) (ℕ → List Seen) (item_step decls opens) kind_step (part_step opens)
+item_written decls opens =
+    fold-LayItem (List Seen) (Nested Content) (ℕ → List Seen) (item_step decls opens) kind_step (part_step opens)
 
 -- all that is written of a leaf, from left to right
 abbrev pub leaf_written : List DataDecl → List LayoutDecl → WrittenLeaf → List Seen

@@ -14,6 +14,8 @@ const NO_MEMORY: u8 = 9;
 // The status where the runtime does not hand out the words.
 const NO_WORDS: u8 = 17;
 
+// Calls `ribbit` with the words behind the program's name.
+// The status is its answer, or one of those above.
 fn main(rt: HostRuntime) -> ExitCode {
     let Ok(mut args) = std::env::args(&rt) else {
         return ExitCode::from(NO_WORDS);

@@ -42,8 +42,10 @@ pub record ArePlaceable (blocks : List Block) : Type 0 where
   pub short : (b : ℕ) (block : Block) → slice_get blocks b ≡ Some block → AreShort block.words
   pub sizes : (b : ℕ) (block : Block) → slice_get blocks b ≡ Some block → IsSize (size_of block)
   pub aligns : (b : ℕ) (block : Block) → slice_get blocks b ≡ Some block → IsAlign block.align
-  pub widths : (b : ℕ) (block : Block) → slice_get blocks b ≡ Some block → (j : ℕ) (f : FlatWord) → slice_get block.words j ≡ Some f → IsBlockWidth f.width
-  pub below : (b : ℕ) (block : Block) → slice_get blocks b ≡ Some block → (j : ℕ) (f : FlatWord) → slice_get block.words j ≡ Some f
+  pub widths : (b : ℕ) (block : Block) → slice_get blocks b ≡ Some block → (j : ℕ) (f : FlatWord)
+      → slice_get block.words j ≡ Some f → IsBlockWidth f.width
+  pub below : (b : ℕ) (block : Block) → slice_get blocks b ≡ Some block → (j : ℕ) (f : FlatWord)
+      → slice_get block.words j ≡ Some f
       → (k : ℕ) (p : Part) → slice_get f.parts k ≡ Some p → (align c : ℕ) → p.kind ≡ Pointer align c → c < b
 
 -- blocks are placed at addresses and filled with the words that their parts make
@@ -58,6 +60,7 @@ ArePlaced subs blocks old new (Err NoMemory) = Unit {0}
 abbrev pub IsMade : (List ℕ → List ℕ) → Leaf → Memory → Memory → Result (List ℕ) EncodeFault → Type 0
 IsMade subs leaf old new (Ok ws) =
     (bs : List (ℕ × ℕ)) × Progress old new (map request_of leaf.blocks) bs
-    × (new ≡ with_blocks (word_made subs (address_at bs)) old leaf.blocks) × (ws ≡ map (word_made subs (address_at bs)) leaf.root)
+    × (new ≡ with_blocks (word_made subs (address_at bs)) old leaf.blocks)
+    × (ws ≡ map (word_made subs (address_at bs)) leaf.root)
 IsMade subs leaf old new (Err (Full full)) = Stopped old new (map request_of leaf.blocks) full
 IsMade subs leaf old new (Err NoMemory) = Unit {0}

@@ -36,7 +36,8 @@ put_entry table (Some e) = slice_set table e.0 e.1
 
 -- what a part of word w puts
 abbrev pub put_part : Wanted → List ℕ → ℕ → List ℕ → Part → List ℕ
-put_part wanted path w table p = put_entry table (entry wanted path (slice_index table 0) (take_of w p.o p.l) p.l p.kind)
+put_part wanted path w table p =
+    put_entry table (entry wanted path (slice_index table 0) (take_of w p.o p.l) p.l p.kind)
 
 abbrev pub put_parts : Wanted → List ℕ → ℕ → List Part → List ℕ → List ℕ
 put_parts wanted path w [] table = table
@@ -45,12 +46,14 @@ put_parts wanted path w (p ∷ ps) table = put_parts wanted path w ps (put_part 
 -- flat words, the first of which is word j
 abbrev pub put_words : Wanted → List ℕ → List FlatWord → List ℕ → ℕ → List ℕ → List ℕ
 put_words wanted path [] ws j table = table
-put_words wanted path (f ∷ fs) ws j table = put_words wanted path fs ws (j + 1) (put_parts wanted path (slice_index ws j) f.parts table)
+put_words wanted path (f ∷ fs) ws j table =
+    put_words wanted path fs ws (j + 1) (put_parts wanted path (slice_index ws j) f.parts table)
 
 -- blocks, whose words were loaded from the last block to the first
 abbrev pub put_blocks : List ℕ → List Block → List (List ℕ) → List ℕ → List ℕ
 put_blocks path [] loaded table = table
-put_blocks path (b ∷ bs) loaded table = put_blocks path bs loaded (put_words Field path b.words (slice_index_or loaded (length bs) []) 0 table)
+put_blocks path (b ∷ bs) loaded table =
+    put_blocks path bs loaded (put_words Field path b.words (slice_index_or loaded (length bs) []) 0 table)
 
 abbrev pub count_at : List Layout → Option Ty → ℕ
 count_at layouts None = 0
@@ -60,4 +63,5 @@ count_at layouts (Some ty) = word_count layouts ty
 abbrev pub field_words : List DataDecl → List Layout → Leaf → List ℕ → List (List ℕ) → List ℕ → List ℕ
 field_words types layouts leaf ws loaded path =
     put_blocks path leaf.blocks loaded
-    (put_words Field path leaf.root ws 0 (replicate (count_at layouts (type_at (open_positions types leaf.prov) path)) 0))
+    (put_words Field path leaf.root ws 0
+    (replicate (count_at layouts (type_at (open_positions types leaf.prov) path)) 0))

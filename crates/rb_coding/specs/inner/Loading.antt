@@ -16,12 +16,14 @@ CanLoad m base fs = (j : ℕ) (f : FlatWord) → slice_get fs j ≡ Some f
 
 -- these are they
 abbrev pub AreLoaded : Memory → ℕ → List FlatWord → List ℕ → Type 0
-AreLoaded m base fs ws = (j : ℕ) (f : FlatWord) → slice_get fs j ≡ Some f → load_of m base (begins_at fs j) f.width ≡ Ok (slice_index ws j)
+AreLoaded m base fs ws = (j : ℕ) (f : FlatWord) → slice_get fs j ≡ Some f
+    → load_of m base (begins_at fs j) f.width ≡ Ok (slice_index ws j)
 
 -- a leaf that was placed over root words
 pub record IsLoadable (leaf : Leaf) (ws : List ℕ) (m : Memory) : Type 0 where
   pub flat : IsFlat leaf
-  pub widths : (b : ℕ) (block : Block) (j : ℕ) (f : FlatWord) → slice_get leaf.blocks b ≡ Some block → slice_get block.words j ≡ Some f → IsBlockWidth f.width
+  pub widths : (b : ℕ) (block : Block) (j : ℕ) (f : FlatWord) → slice_get leaf.blocks b ≡ Some block
+      → slice_get block.words j ≡ Some f → IsBlockWidth f.width
   pub subs : List ℕ → List ℕ
   pub ats : ℕ → ℕ
   pub placed : Placed leaf ws m false subs ats

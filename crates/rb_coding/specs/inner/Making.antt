@@ -23,6 +23,8 @@ IsNumber v old new (Err (Full full)) = ⊥
 IsNumber v old new (Err NoMemory) = Unit {0}
 
 -- the word of a number is itself, and a value of a data type has the words of its leaf
-abbrev pub IsNodeMade : List Layout → Ty → Value → (List ℕ → List ℕ) → Memory → Memory → Result (List ℕ) EncodeFault → Type 0
+abbrev pub IsNodeMade : List Layout → Ty → Value → (List ℕ → List ℕ) → Memory → Memory → Result (List ℕ) EncodeFault
+    → Type 0
 IsNodeMade layouts (Int bits) v subs old new result = IsNumber v old new result
-IsNodeMade layouts (Named t) v subs old new result = (leaf : Leaf) × (leaf_in (layout_of layouts t) v ≡ Some leaf) × IsMade subs leaf old new result
+IsNodeMade layouts (Named t) v subs old new result =
+    (leaf : Leaf) × (leaf_in (layout_of layouts t) v ≡ Some leaf) × IsMade subs leaf old new result

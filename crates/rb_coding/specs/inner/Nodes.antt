@@ -34,7 +34,8 @@ typed_in_turn (f ∷ fs) (t ∷ ts) = f t ++ typed_in_turn fs ts
 abbrev pub typed_step : List DataDecl → Value-F (Value × Typing) → Typing
 typed_step types (V.Num n) ty = (Num n, ty) ∷ []
 typed_step types (V.Con k ps) ty =
-    typed_in_turn (map (λ (p : Value × Typing). p.1) ps) (field_list types ty k) ++ (Con k (map (λ (p : Value × Typing). p.0) ps), ty) ∷ []
+    typed_in_turn (map (λ (p : Value × Typing). p.1) ps) (field_list types ty k)
+    ++ (Con k (map (λ (p : Value × Typing). p.0) ps), ty) ∷ []
 
 -- the nodes of a value in post-order, each with its type
 abbrev pub typed_posts : List DataDecl → Value → Typing

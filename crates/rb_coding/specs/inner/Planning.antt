@@ -25,7 +25,8 @@ abbrev pub plan_step : List DataDecl → (List ℕ → List ℕ) → Pat-F Plann
 plan_step types subs (P.Wild at) ty path = Visit ty (subs path) ∷ []
 plan_step types subs (P.Var at x) ty path = Visit ty (subs path) ∷ []
 plan_step types subs (P.Num at n) ty path = Visit ty (n ∷ []) ∷ []
-plan_step types subs (P.Con at c fs) ty path = Join c.con (length fs) ∷ fields_plan fs (types_or_none (fields_of types c)) path 0
+plan_step types subs (P.Con at c fs) ty path =
+    Join c.con (length fs) ∷ fields_plan fs (types_or_none (fields_of types c)) path 0
 
 -- an open position is visited, and a constructor joins its fields
 abbrev pub plan_of : List DataDecl → (List ℕ → List ℕ) → Pat → Planned

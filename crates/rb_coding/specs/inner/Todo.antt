@@ -11,7 +11,8 @@ use Rattle.rb_coding.specs.declared.todo.Step.TheVariants.{Visit, Join}
 -- one step puts a value that its words represent on a stack, or joins the last values on it
 abbrev pub After : Program → Memory → Step → List Value → List Value → Type 0
 After p m (Visit ty ws) old new = (v : Value) × AreOf p m ty ws v × (new ≡ old ++ v ∷ [])
-After p m (Join k count) old new = (count ≤ length old) × (new ≡ take (length old - count) old ++ Con k (drop (length old - count) old) ∷ [])
+After p m (Join k count) old new =
+    (count ≤ length old) × (new ≡ take (length old - count) old ++ Con k (drop (length old - count) old) ∷ [])
 
 -- steps, the last of which is done first
 abbrev pub Runs : Program → Memory → List Step → List Value → List Value → Type 0
@@ -30,4 +31,5 @@ weights (s ∷ ss) = weight s + weights ss
 -- steps are added that put the value of these words on the stack, one of them a join
 abbrev pub IsOpened : Program → Memory → ℕ → List ℕ → List Step → List Step → Type 0
 IsOpened p m t ws old new = (v : Value) → AreOf p m (Named t) ws v
-    → (steps : List Step) × (new ≡ old ++ steps) × ((done : List Value) → Runs p m steps done (done ++ v ∷ [])) × (weights steps < 2 * length steps)
+    → (steps : List Step) × (new ≡ old ++ steps) × ((done : List Value) → Runs p m steps done (done ++ v ∷ []))
+    × (weights steps < 2 * length steps)

@@ -19,7 +19,8 @@ at_number n (Some number) go = go number
 
 -- goes on with the number that the word of this number spells
 abbrev pub with_number : ℕ → ℕ → ℕ → List (List ℕ) → (ℕ → List (List ℕ) → Parsed) → Parsed
-with_number n low high words go = with_word n words (λ w ws. at_number n (number_in low high w) (λ number. go number ws))
+with_number n low high words go =
+    with_word n words (λ w ws. at_number n (number_in low high w) (λ number. go number ws))
 
 -- CALLS and REGION, from the word of this number on
 abbrev pub with_limits : ℕ → List (List ℕ) → (Limits → List (List ℕ) → Parsed) → Parsed
@@ -45,7 +46,8 @@ compile_words words = with_word 2 words (λ file ws. alone 3 (compile file) ws)
 
 -- FILE CALLS REGION and zero or more VALUE
 abbrev pub with_call : List (List ℕ) → (List ℕ → Limits → List (List ℕ) → Command) → Parsed
-with_call words command = with_word 2 words (λ file ws. with_limits 3 ws (λ limits values. Ok (command file limits values)))
+with_call words command =
+    with_word 2 words (λ file ws. with_limits 3 ws (λ limits values. Ok (command file limits values)))
 
 abbrev pub run_words : List (List ℕ) → Parsed
 run_words words = with_call words run
@@ -112,7 +114,8 @@ first_step (Some step) (Some path) = Some (step ∷ path)
 -- the steps that bytes spell of which these digits are the first, a point between one and the next
 abbrev pub steps_from : List ℕ → List ℕ → Option (List ℕ)
 steps_from digits [] = first_step (step_in digits) (Some [])
-steps_from digits (b ∷ bs) = if b == 46 then first_step (step_in digits) (steps_from [] bs) else steps_from (digits ++ b ∷ []) bs
+steps_from digits (b ∷ bs) =
+    if b == 46 then first_step (step_in digits) (steps_from [] bs) else steps_from (digits ++ b ∷ []) bs
 
 -- the path that a word spells
 abbrev pub path_in : List ℕ → Option (List ℕ)

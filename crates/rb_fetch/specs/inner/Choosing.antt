@@ -63,21 +63,25 @@ parts_under path i (h ∷ hs) = record { path = path ++ i ∷ []; held = h } ∷
 -- the value has parts there, of these types
 abbrev pub HasParts : List DataDecl → Value → List Subvalue → Type 0
 HasParts types v xs =
-    (k : ℕ) (x : Subvalue) → slice_get xs k ≡ Some x → (u : Value) × (part_at v x.path ≡ Some u) × (is_of_type types u x.held.ty ≡ true)
+    (k : ℕ) (x : Subvalue) → slice_get xs k ≡ Some x → (u : Value) × (part_at v x.path ≡ Some u)
+    × (is_of_type types u x.held.ty ≡ true)
 
 -- each has as many slots as its type has words, all below n
 abbrev pub PartsGiven : Plan → ℕ → List Subvalue → Type 0
 PartsGiven plan n xs =
-    (k : ℕ) (x : Subvalue) → slice_get xs k ≡ Some x → AllBelow n x.held.slots × (length x.held.slots ≡ words_of plan x.held.ty)
+    (k : ℕ) (x : Subvalue) → slice_get xs k ≡ Some x → AllBelow n x.held.slots
+    × (length x.held.slots ≡ words_of plan x.held.ty)
 
 -- the slots represent the value's parts
 abbrev pub PartsHold : Plan → Bool → Value → List ℕ → Memory → List Subvalue → Type 0
 PartsHold plan clean v s m xs =
-    (k : ℕ) (x : Subvalue) → slice_get xs k ≡ Some x → (u : Value) → part_at v x.path ≡ Some u → Rep plan m clean x.held.ty u (slots_at s x.held.slots)
+    (k : ℕ) (x : Subvalue) → slice_get xs k ≡ Some x → (u : Value) → part_at v x.path ≡ Some u
+    → Rep plan m clean x.held.ty u (slots_at s x.held.slots)
 
 -- a part of a data type at a position stands in these slots
 abbrev pub IsPartIn : List Subvalue → List ℕ → ℕ → List ℕ → Type 0
-IsPartIn xs path t words = (k : ℕ) × (x : Subvalue) × (slice_get xs k ≡ Some x) × (x.path ≡ path) × (x.held.ty ≡ Named t) × (x.held.slots ≡ words)
+IsPartIn xs path t words = (k : ℕ) × (x : Subvalue) × (slice_get xs k ≡ Some x) × (x.path ≡ path)
+    × (x.held.ty ≡ Named t) × (x.held.slots ≡ words)
 
 -- the first part at a position is of this type
 abbrev pub HasType : List Subvalue → List ℕ → Ty → Type 0
@@ -100,7 +104,8 @@ HasLeaves layouts t count = (layout : Layout) × (layout_of layouts t ≡ Some l
 -- leaves of a layout by number, for the values of constructor k
 abbrev pub AreLeavesOf : Layout → ℕ → List ℕ → Type 0
 AreLeavesOf layout k leaves =
-    (i n : ℕ) → slice_get leaves i ≡ Some n → (leaf : Leaf) × (slice_get layout.leaves n ≡ Some leaf) × (is_leaf_for k leaf ≡ true)
+    (i n : ℕ) → slice_get leaves i ≡ Some n → (leaf : Leaf) × (slice_get layout.leaves n ≡ Some leaf)
+    × (is_leaf_for k leaf ≡ true)
 
 -- where no look is needed any more, the value has the constructor of each of these leaves
 abbrev pub HasLooked : Layout → Value → List ℕ → List (List ℕ) → Type 0
@@ -149,7 +154,8 @@ IsWayAt ways pc = (k : ℕ) × (way : Way) × (slice_get ways k ≡ Some way) ×
 -- open jumps of ways, one behind the other from an instruction on
 abbrev pub AreOpen : ℕ → List Instr → List Way → Type 0
 AreOpen from code [] = Unit {0}
-AreOpen from code (way ∷ ways) = (from ≤ way.pc) × ((t : ℕ) × (slice_get code way.pc ≡ Some (Jump t))) × AreOpen (way.pc + 1) code ways
+AreOpen from code (way ∷ ways) =
+    (from ≤ way.pc) × ((t : ℕ) × (slice_get code way.pc ≡ Some (Jump t))) × AreOpen (way.pc + 1) code ways
 
 -- the holes of ways, the first of which is way k
 abbrev pub holes_from : ℕ → List Way → List Hole
@@ -167,45 +173,54 @@ pub record IsEndOf (agreed : LaidOut) (t n : ℕ) (xs : List Subvalue) (old new 
 -- all parts at open positions of the way's leaf are given
 abbrev pub IsWayOf : Plan → Layout → ℕ → Way → Type 0
 IsWayOf plan layout n way =
-    (leaf : Leaf) × (slice_get layout.leaves way.leaf ≡ Some leaf) × AreGivenAt plan n (open_positions plan.program.types leaf.prov) way.fields
+    (leaf : Leaf) × (slice_get layout.leaves way.leaf ≡ Some leaf)
+    × AreGivenAt plan n (open_positions plan.program.types leaf.prov) way.fields
 
 abbrev pub AreWaysOf : Plan → Layout → ℕ → List Way → Type 0
 AreWaysOf plan layout n ways = (k : ℕ) (way : Way) → slice_get ways k ≡ Some way → IsWayOf plan layout n way
 
 -- where the value's leaf is n, the run comes to the jump of one way, the same for all runs, which is of that leaf
-pub record Takes (plan : Plan) (old new : Sheet) (ways : List Way) (v : Value) (n most : ℕ) (Pre : Bool → List ℕ → Memory → Type 0) : Type 0 where
+pub record Takes (plan : Plan) (old new : Sheet) (ways : List Way) (v : Value) (n most : ℕ)
+    (Pre : Bool → List ℕ → Memory → Type 0) : Type 0 where
   pub number : ℕ
   pub way : Way
   pub is_way : slice_get ways number ≡ Some way
   pub is_leaf : way.leaf ≡ n
   pub parts : HasParts plan.program.types v way.fields
-  pub does : (clean : Bool) → Piece plan old.slots old new (IsWayAt ways) most (Pre clean) (λ pc s m. (pc ≡ way.pc) × PartsHold plan clean v s m way.fields)
+  pub does : (clean : Bool) → Piece plan old.slots old new (IsWayAt ways) most (Pre clean)
+      (λ pc s m. (pc ≡ way.pc) × PartsHold plan clean v s m way.fields)
 
 -- Choosing -----------------------------------------------------------------------------------
 
 -- the plan of an agreed program, some leaves for values of constructor k of type t, and parts in slots below n
-pub record IsReady (agreed : LaidOut) (plan : Plan) (t k : ℕ) (layout : Layout) (leaves : List ℕ) (xs : List Subvalue) (n : ℕ) : Type 0 where
+pub record IsReady (agreed : LaidOut) (plan : Plan) (t k : ℕ) (layout : Layout) (leaves : List ℕ)
+    (xs : List Subvalue) (n : ℕ) : Type 0 where
   pub of : IsPlanOf agreed plan
   pub is_layout : layout_of plan.layouts t ≡ Some layout
   pub are_leaves : AreLeavesOf layout k leaves
   pub given : PartsGiven plan n xs
 
 -- the code takes each value of one of the leaves to a way of its leaf
-pub record ChoosesWays (plan : Plan) (t k : ℕ) (layout : Layout) (leaves : List ℕ) (seen : Seen) (xs : List Subvalue) (old new : Sheet) (ways : List Way) : Type 0 where
+pub record ChoosesWays (plan : Plan) (t k : ℕ) (layout : Layout) (leaves : List ℕ) (seen : Seen)
+    (xs : List Subvalue) (old new : Sheet) (ways : List Way) : Type 0 where
   pub adds : Adds plan old new
   pub are_ways : AreWaysOf plan layout new.slots ways
-  pub takes : (v : Value) → is_of_type plan.program.types v (Named t) ≡ true → HasParts plan.program.types v xs → Follows layout v leaves seen
+  pub takes : (v : Value) → is_of_type plan.program.types v (Named t) ≡ true → HasParts plan.program.types v xs
+      → Follows layout v leaves seen
       → (n i : ℕ) → leaf_of layout v ≡ Some n → slice_get leaves i ≡ Some n
-      → Takes plan old new ways v n (left_of plan.layouts t k seen.looked) (λ clean s m. IsGood m × PartsHold plan clean v s m xs)
+      → Takes plan old new ways v n (left_of plan.layouts t k seen.looked)
+      (λ clean s m. IsGood m × PartsHold plan clean v s m xs)
 
 abbrev pub ChoosesFrom : LaidOut → ℕ → List ℕ → Seen → List Subvalue → Sheet → Sheet → List Way → Type 0
 ChoosesFrom agreed t leaves seen xs old new ways =
-    (plan : Plan) (k : ℕ) (layout : Layout) → IsReady agreed plan t k layout leaves xs old.slots → ChoosesWays plan t k layout leaves seen xs old new ways
+    (plan : Plan) (k : ℕ) (layout : Layout) → IsReady agreed plan t k layout leaves xs old.slots
+    → ChoosesWays plan t k layout leaves seen xs old new ways
 
 -- the same by a look at a place
 abbrev pub ChoosesBy : LaidOut → ℕ → List ℕ → Seen → List Subvalue → List ℕ → ℕ → Sheet → Sheet → List Way → Type 0
 ChoosesBy agreed t leaves seen xs path s old new ways =
-    (plan : Plan) (k : ℕ) (layout : Layout) → IsReady agreed plan t k layout leaves xs old.slots → IsPlaceOf layout leaves seen.looked path s
+    (plan : Plan) (k : ℕ) (layout : Layout) → IsReady agreed plan t k layout leaves xs old.slots
+    → IsPlaceOf layout leaves seen.looked path s
     → ChoosesWays plan t k layout leaves seen xs old new ways
 
 -- Below one leaf -----------------------------------------------------------------------------
@@ -217,39 +232,50 @@ pub record IsRead (plan : Plan) (s : ℕ) (inner : Layout) (words : List ℕ) (n
   pub count : length words ≡ words_of plan (Named s)
 
 -- the fields of a part whose leaf is known are fetched, as parts of the whole value
-pub record GivesFields (plan : Plan) (path : List ℕ) (s l : ℕ) (inner : Layout) (leaf : Leaf) (words : List ℕ) (old new : Sheet) (xs ys : List Subvalue) : Type 0 where
+pub record GivesFields (plan : Plan) (path : List ℕ) (s l : ℕ) (inner : Layout) (leaf : Leaf) (words : List ℕ)
+    (old new : Sheet) (xs ys : List Subvalue) : Type 0 where
   pub adds : Adds plan old new
   pub fresh : List Subvalue
   pub more : ys ≡ xs ++ fresh
   pub given : PartsGiven plan new.slots fresh
-  pub parts : (v u : Value) → part_at v path ≡ Some u → is_of_type plan.program.types u (Named s) ≡ true → leaf_of inner u ≡ Some l → HasParts plan.program.types v fresh
-  pub does : (v u : Value) → part_at v path ≡ Some u → is_of_type plan.program.types u (Named s) ≡ true → leaf_of inner u ≡ Some l → (clean : Bool)
-      → Piece plan old.slots old new Nowhere (mend_leaf (choose_of plan.layouts) leaf) (λ s1 m. IsGood m × Rep plan m clean (Named s) u (slots_at s1 words))
+  pub parts : (v u : Value) → part_at v path ≡ Some u → is_of_type plan.program.types u (Named s) ≡ true
+      → leaf_of inner u ≡ Some l → HasParts plan.program.types v fresh
+  pub does : (v u : Value) → part_at v path ≡ Some u → is_of_type plan.program.types u (Named s) ≡ true
+      → leaf_of inner u ≡ Some l → (clean : Bool)
+      → Piece plan old.slots old new Nowhere (mend_leaf (choose_of plan.layouts) leaf)
+      (λ s1 m. IsGood m × Rep plan m clean (Named s) u (slots_at s1 words))
       (AtEnd new (λ s1 m. PartsHold plan clean v s1 m fresh))
 
-abbrev pub FetchesFields : LaidOut → List ℕ → ConRef → ℕ → List ℕ → Sheet → Sheet → List Subvalue → List Subvalue → Type 0
+abbrev pub FetchesFields : LaidOut → List ℕ → ConRef → ℕ → List ℕ → Sheet → Sheet → List Subvalue → List Subvalue
+    → Type 0
 FetchesFields agreed path con l words old new xs ys =
-    (plan : Plan) (inner : Layout) (leaf : Leaf) → IsPlanOf agreed plan → IsRead plan con.ty inner words old.slots → slice_get inner.leaves l ≡ Some leaf
+    (plan : Plan) (inner : Layout) (leaf : Leaf) → IsPlanOf agreed plan → IsRead plan con.ty inner words old.slots
+    → slice_get inner.leaves l ≡ Some leaf
     → is_leaf_for con.con leaf ≡ true → GivesFields plan path con.ty l inner leaf words old new xs ys
 
 -- where the part at the place has leaf l, the code takes each value of one of the leaves to a way of its leaf
-pub record ChoosesBelow (plan : Plan) (t k : ℕ) (layout : Layout) (leaves : List ℕ) (seen : Seen) (xs : List Subvalue) (path : List ℕ) (s : ℕ) (inner : Layout) (words : List ℕ) (l : ℕ)
+pub record ChoosesBelow (plan : Plan) (t k : ℕ) (layout : Layout) (leaves : List ℕ) (seen : Seen)
+    (xs : List Subvalue) (path : List ℕ) (s : ℕ) (inner : Layout) (words : List ℕ) (l : ℕ)
     (old new : Sheet) (ways : List Way) : Type 0 where
   pub adds : Adds plan old new
   pub are_ways : AreWaysOf plan layout new.slots ways
-  pub takes : (v u : Value) → is_of_type plan.program.types v (Named t) ≡ true → HasParts plan.program.types v xs → Follows layout v leaves seen
+  pub takes : (v u : Value) → is_of_type plan.program.types v (Named t) ≡ true → HasParts plan.program.types v xs
+      → Follows layout v leaves seen
       → part_at v path ≡ Some u → is_of_type plan.program.types u (Named s) ≡ true → leaf_of inner u ≡ Some l
       → (n i : ℕ) → leaf_of layout v ≡ Some n → slice_get leaves i ≡ Some n
       → Takes plan old new ways v n (mend_of plan.layouts s + left_of plan.layouts t k (seen.looked ++ path ∷ []))
       (λ clean s1 m. IsGood m × PartsHold plan clean v s1 m xs × Rep plan m clean (Named s) u (slots_at s1 words))
 
-abbrev pub ChoosesUnder : LaidOut → ℕ → List ℕ → Seen → List Subvalue → List ℕ → ℕ → List ℕ → ℕ → Sheet → Sheet → List Way → Type 0
+abbrev pub ChoosesUnder : LaidOut → ℕ → List ℕ → Seen → List Subvalue → List ℕ → ℕ → List ℕ → ℕ → Sheet → Sheet
+    → List Way → Type 0
 ChoosesUnder agreed t leaves seen xs path s words l old new ways =
-    (plan : Plan) (k : ℕ) (layout inner : Layout) → IsReady agreed plan t k layout leaves xs old.slots → IsRead plan s inner words old.slots
+    (plan : Plan) (k : ℕ) (layout inner : Layout) → IsReady agreed plan t k layout leaves xs old.slots
+    → IsRead plan s inner words old.slots
     → ChoosesBelow plan t k layout leaves seen xs path s inner words l old new ways
 
 -- the code of one leaf behind e in longer code q
-pub record BranchIn (e q : Sheet) (start : ℕ) (ways : List Way) (DoesBranch : Sheet → Sheet → List Way → Type 0) : Type 0 where
+pub record BranchIn (e q : Sheet) (start : ℕ) (ways : List Way)
+    (DoesBranch : Sheet → Sheet → List Way → Type 0) : Type 0 where
   pub first : Sheet
   pub last : Sheet
   pub own : List Way
@@ -262,20 +288,24 @@ pub record BranchIn (e q : Sheet) (start : ℕ) (ways : List Way) (DoesBranch : 
   pub alone : (pc : ℕ) → IsWayAt ways pc → length first.code ≤ pc → pc < length last.code → IsWayAt own pc
   pub does : DoesBranch first last own
 
-pub record BranchesStand (agreed : LaidOut) (plan : Plan) (t k : ℕ) (layout : Layout) (leaves : List ℕ) (seen : Seen) (xs : List Subvalue) (path : List ℕ) (s : ℕ) (inner : Layout) (words : List ℕ)
+pub record BranchesStand (agreed : LaidOut) (plan : Plan) (t k : ℕ) (layout : Layout) (leaves : List ℕ)
+    (seen : Seen) (xs : List Subvalue) (path : List ℕ) (s : ℕ) (inner : Layout) (words : List ℕ)
     (count : ℕ) (e q : Sheet) (starts : List ℕ) (ways : List Way) : Type 0 where
   pub adds : Adds plan e q
   pub are_ways : AreWaysOf plan layout q.slots ways
   pub each : (l : ℕ) → l < count
-      → BranchIn e q (slice_index starts l) ways (λ first last own. ChoosesBelow plan t k layout leaves seen xs path s inner words l first last own)
+      → BranchIn e q (slice_index starts l) ways
+      (λ first last own. ChoosesBelow plan t k layout leaves seen xs path s inner words l first last own)
 
 -- the first so many leaves have their code behind e
-pub record BranchesDone (agreed : LaidOut) (t : ℕ) (leaves : List ℕ) (seen : Seen) (xs : List Subvalue) (path : List ℕ) (s : ℕ) (words : List ℕ)
+pub record BranchesDone (agreed : LaidOut) (t : ℕ) (leaves : List ℕ) (seen : Seen) (xs : List Subvalue)
+    (path : List ℕ) (s : ℕ) (words : List ℕ)
     (count : ℕ) (e q : Sheet) (starts : List ℕ) (ways : List Way) : Type 0 where
   pub grows : Grows e.code q.code
   pub starts_from : AllFrom (length e.code) starts
   pub starts_below : AllBelow (length q.code + 1) starts
   pub many : length starts ≡ count
   pub are_open : AreOpen (length e.code) q.code ways
-  pub stand : (plan : Plan) (k : ℕ) (layout inner : Layout) → IsReady agreed plan t k layout leaves xs e.slots → IsRead plan s inner words e.slots
+  pub stand : (plan : Plan) (k : ℕ) (layout inner : Layout) → IsReady agreed plan t k layout leaves xs e.slots
+      → IsRead plan s inner words e.slots
       → BranchesStand agreed plan t k layout leaves seen xs path s inner words count e q starts ways

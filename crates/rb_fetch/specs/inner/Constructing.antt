@@ -64,7 +64,11 @@ moved b (Some xs) slots = record b { code = b.code ++ copies xs slots }
 pub record IsMet (into : Option (List ℕ)) (slots : List ℕ) (c d : Sheet) (r : Met) : Type 0 where
   pub shared : r.into ≡ met_in into slots
   pub code : d ≡ joining c (moved_to into) (moved_from into slots)
-  pub join : r.join ≡ record { pc = length c.code + length (copies (moved_to into) (moved_from into slots)); arm = None; leaf = 0 }
+  pub join : r.join ≡ record {
+    pc = length c.code + length (copies (moved_to into) (moved_from into slots));
+    arm = None;
+    leaf = 0;
+  }
 
 -- the slots that the arms share, once there are some
 abbrev pub IsShared : Plan → ℕ → ℕ → ℕ → Option (List ℕ) → Type 0
@@ -82,12 +86,16 @@ Reaches (suc i) (Some xs) = Unit {0}
 -- the code from a to d makes the values of the way's leaf, and comes to an open jump with them in the shared slots
 abbrev pub MakesArm : Plan → ℕ → Layout → Way → ℕ → List ℕ → Sheet → Sheet → ℕ → Type 0
 MakesArm plan t layout way n into a d join =
-    (leaf : Leaf) → slice_get layout.leaves way.leaf ≡ Some leaf → (clean : Bool) (v : Value) → leaf_of layout v ≡ Some way.leaf
-    → (final : List Instr) (callee : Callee) (next : Next) → Law final callee next → AgreesBut final d.code (length a.code) (length d.code) (λ pc. pc ≡ join)
-    → (s : List ℕ) (w : World) → d.slots ≤ length s → IsGood w.memory → ArePartsHeld plan clean s w.memory (open_positions plan.program.types leaf.prov) way.fields v
+    (leaf : Leaf) → slice_get layout.leaves way.leaf ≡ Some leaf → (clean : Bool) (v : Value)
+    → leaf_of layout v ≡ Some way.leaf
+    → (final : List Instr) (callee : Callee) (next : Next) → Law final callee next
+    → AgreesBut final d.code (length a.code) (length d.code) (λ pc. pc ≡ join)
+    → (s : List ℕ) (w : World) → d.slots ≤ length s → IsGood w.memory
+    → ArePartsHeld plan clean s w.memory (open_positions plan.program.types leaf.prov) way.fields v
     → Makes plan clean w.switches next (length a.code) join n t into v s w
 
-pub record ArmIsMade (plan : Plan) (t : ℕ) (layout : Layout) (way : Way) (n : ℕ) (into : Option (List ℕ)) (a d : Sheet) (r : Met) : Type 0 where
+pub record ArmIsMade (plan : Plan) (t : ℕ) (layout : Layout) (way : Way) (n : ℕ) (into : Option (List ℕ))
+    (a d : Sheet) (r : Met) : Type 0 where
   pub adds : Adds plan a d
   pub shared : IsShared plan n d.slots t (Some r.into)
   pub same : (xs : List ℕ) → into ≡ Some xs → r.into ≡ xs
@@ -96,23 +104,29 @@ pub record ArmIsMade (plan : Plan) (t : ℕ) (layout : Layout) (way : Way) (n : 
 -- in every program whose layouts agree, where the way's subvalues are in slots below n
 abbrev pub EmitsArm : ℕ → List Leaf → Way → Option (List ℕ) → Sheet → Sheet → Met → Type 0
 EmitsArm t leaves way into a d r =
-    (plan : Plan) → IsTyped plan.program → AreAgreed plan.program plan.layouts → (layout : Layout) → layout_of plan.layouts t ≡ Some layout → layout.leaves ≡ leaves
-    → (n : ℕ) → n ≤ a.slots → IsWay plan layout n way → IsShared plan n a.slots t into → ArmIsMade plan t layout way n into a d r
+    (plan : Plan) → IsTyped plan.program → AreAgreed plan.program plan.layouts → (layout : Layout)
+    → layout_of plan.layouts t ≡ Some layout → layout.leaves ≡ leaves
+    → (n : ℕ) → n ≤ a.slots → IsWay plan layout n way → IsShared plan n a.slots t into
+    → ArmIsMade plan t layout way n into a d r
 
 -- the arm with number k
 abbrev pub MakesNumber : Plan → ℕ → Layout → List Way → ℕ → List ℕ → ℕ → Sheet → Sheet → ℕ → Type 0
-MakesNumber plan t layout ways n into k a d join = (way : Way) → slice_get ways k ≡ Some way → MakesArm plan t layout way n into a d join
+MakesNumber plan t layout ways n into k a d join =
+    (way : Way) → slice_get ways k ≡ Some way → MakesArm plan t layout way n into a d join
 
 -- the first i arms stand behind e
-pub record ArmsAreMade (plan : Plan) (t : ℕ) (layout : Layout) (ways : List Way) (i : ℕ) (e q : Sheet) (into : Option (List ℕ)) (joins : List Hole) (starts : List ℕ) : Type 0 where
+pub record ArmsAreMade (plan : Plan) (t : ℕ) (layout : Layout) (ways : List Way) (i : ℕ) (e q : Sheet)
+    (into : Option (List ℕ)) (joins : List Hole) (starts : List ℕ) : Type 0 where
   pub adds : Adds plan e q
   pub shared : IsShared plan e.slots q.slots t into
   pub arms : ArmsIn i e q joins starts (MakesNumber plan t layout ways e.slots (moved_to into))
 
 abbrev pub EmitsArms : ℕ → List Leaf → List Way → ℕ → Sheet → Sheet → Option (List ℕ) → List Hole → List ℕ → Type 0
 EmitsArms t leaves ways i e q into joins starts =
-    (plan : Plan) → IsTyped plan.program → AreAgreed plan.program plan.layouts → (layout : Layout) → layout_of plan.layouts t ≡ Some layout → layout.leaves ≡ leaves
-    → ((k : ℕ) (way : Way) → slice_get ways k ≡ Some way → IsWay plan layout e.slots way) → ArmsAreMade plan t layout ways i e q into joins starts
+    (plan : Plan) → IsTyped plan.program → AreAgreed plan.program plan.layouts → (layout : Layout)
+    → layout_of plan.layouts t ≡ Some layout → layout.leaves ≡ leaves
+    → ((k : ℕ) (way : Way) → slice_get ways k ≡ Some way → IsWay plan layout e.slots way)
+    → ArmsAreMade plan t layout ways i e q into joins starts
 
 -- all arms behind e, which meet behind them
 pub record WaysMeet (t : ℕ) (leaves : List Leaf) (choices : Choices) (e new : Sheet) (held : Held) : Type 0 where

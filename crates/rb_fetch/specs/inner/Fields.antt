@@ -27,7 +27,8 @@ pub record SpansPart (leaf : Leaf) (words : List Read) (span : Span) (l : ℕ) (
   pub long : span.l ≡ l
   pub range : IsRange span.o span.l
   pub fit : (k : ℕ) → AllFit k words → length words ≡ length leaf.root → fits k span.read ≡ true
-  pub means : (ws s : List ℕ) (m : Memory) (clean : Bool) (subs : List ℕ → List ℕ) (ats : ℕ → ℕ) → IsGood m → AreMeant words s m ws → Placed leaf ws m clean subs ats
+  pub means : (ws s : List ℕ) (m : Memory) (clean : Bool) (subs : List ℕ → List ℕ) (ats : ℕ → ℕ) → IsGood m
+      → AreMeant words s m ws → Placed leaf ws m clean subs ats
       → (n : ℕ) × Spans span s m n × HoldsKind subs ats n l kind
   pub origin : (width x : ℕ) → span.width ≡ Some width → span.read ≡ Slot x → IsSlotOf x words
 
@@ -35,14 +36,16 @@ pub record SpansPart (leaf : Leaf) (words : List Read) (span : Span) (l : ℕ) (
 pub record ReadsPart (leaf : Leaf) (words : List Read) (read : Read) (l : ℕ) (kind : Kind) : Type 0 where
   pub fit : (k : ℕ) → AllFit k words → length words ≡ length leaf.root → fits k read ≡ true
   pub origin : (x : ℕ) → read ≡ Slot x → IsSlotOf x words
-  pub means : (ws s : List ℕ) (m : Memory) (clean : Bool) (subs : List ℕ → List ℕ) (ats : ℕ → ℕ) → IsGood m → AreMeant words s m ws → Placed leaf ws m clean subs ats
+  pub means : (ws s : List ℕ) (m : Memory) (clean : Bool) (subs : List ℕ → List ℕ) (ats : ℕ → ℕ) → IsGood m
+      → AreMeant words s m ws → Placed leaf ws m clean subs ats
       → (n : ℕ) × (mean read s m ≡ Some n) × HoldsKind subs ats n l kind
 
 -- the read means a number of the words at open positions
 pub record ReadsAs (leaf : Leaf) (words : List Read) (read : Read) (number : (List ℕ → List ℕ) → ℕ) : Type 0 where
   pub fit : (k : ℕ) → AllFit k words → length words ≡ length leaf.root → fits k read ≡ true
   pub origin : (x : ℕ) → read ≡ Slot x → IsSlotOf x words
-  pub means : (ws s : List ℕ) (m : Memory) (clean : Bool) (subs : List ℕ → List ℕ) (ats : ℕ → ℕ) → IsGood m → AreMeant words s m ws → Placed leaf ws m clean subs ats
+  pub means : (ws s : List ℕ) (m : Memory) (clean : Bool) (subs : List ℕ → List ℕ) (ats : ℕ → ℕ) → IsGood m
+      → AreMeant words s m ws → Placed leaf ws m clean subs ats
       → mean read s m ≡ Some (number subs)
 
 -- Integers
@@ -65,8 +68,10 @@ HoldsInt leaf path width = (i : ℕ) → i < width → NoSpot leaf path (UnitOf 
 
 -- the first i bits of the integer at a path, by shares side by side
 pub record Slices (leaf : Leaf) (words : List Read) (path : List ℕ) (i : ℕ) (shares : List Share) : Type 0 where
-  pub fit : (k : ℕ) → AllFit k words → length words ≡ length leaf.root → list_all (λ b. b) (map (fits_share k) shares) ≡ true
-  pub means : (ws s : List ℕ) (m : Memory) (clean : Bool) (subs : List ℕ → List ℕ) (ats : ℕ → ℕ) → IsGood m → AreMeant words s m ws → Placed leaf ws m clean subs ats
+  pub fit : (k : ℕ) → AllFit k words → length words ≡ length leaf.root
+      → list_all (λ b. b) (map (fits_share k) shares) ≡ true
+  pub means : (ws s : List ℕ) (m : Memory) (clean : Bool) (subs : List ℕ → List ℕ) (ats : ℕ → ℕ) → IsGood m
+      → AreMeant words s m ws → Placed leaf ws m clean subs ats
       → joined_over 0 (map meant_of shares) s m ≡ Some (take_of (slice_index (subs path) 0) 0 i)
 
 abbrev pub JoinsInt : Leaf → List Read → List ℕ → ℕ → List Share → Type 0
@@ -74,7 +79,8 @@ JoinsInt leaf words path width shares = width ≤ 64 → HoldsInt leaf path widt
 
 abbrev pub ReadsInt : Leaf → List Read → List ℕ → ℕ → Read → Type 0
 ReadsInt leaf words path width read =
-    width ≤ 64 → HoldsInt leaf path width → ReadsAs leaf words read (λ subs. take_of (slice_index (subs path) 0) 0 width)
+    width ≤ 64 → HoldsInt leaf path width
+    → ReadsAs leaf words read (λ subs. take_of (slice_index (subs path) 0) 0 width)
 
 -- Words of fields
 

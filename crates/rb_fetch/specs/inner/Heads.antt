@@ -74,7 +74,8 @@ leaves_beside layouts t (h ∷ hs) ns = leaves_beside layouts t hs (leaves_that_
 -- the leaves of a constructor, by number, where the first of these has number n
 abbrev pub leaves_for : ℕ → List Leaf → ℕ → List ℕ
 leaves_for k [] n = []
-leaves_for k (leaf ∷ leaves) n = if is_leaf_for k leaf then n ∷ leaves_for k leaves (n + 1) else leaves_for k leaves (n + 1)
+leaves_for k (leaf ∷ leaves) n =
+    if is_leaf_for k leaf then n ∷ leaves_for k leaves (n + 1) else leaves_for k leaves (n + 1)
 
 -- the constructors below the root of a leaf's provenance
 abbrev pub heads_in : Option Leaf → List Head
@@ -93,7 +94,8 @@ takes_apart path (Some leaf) = stands_at path (inner_heads leaf)
 -- one of the leaves has a constructor there
 abbrev pub take_apart : List Layout → ℕ → List ℕ → List ℕ → Bool
 take_apart layouts t path [] = false
-take_apart layouts t path (n ∷ ns) = if takes_apart path (leaf_at layouts t n) then true else take_apart layouts t path ns
+take_apart layouts t path (n ∷ ns) =
+    if takes_apart path (leaf_at layouts t n) then true else take_apart layouts t path ns
 
 -- Parts
 

@@ -41,7 +41,8 @@ TreeFits n tree = (k : ℕ) (split : SplitAt) → slice_get (splits_of tree) k �
 -- from a number on the run leaves by a hole of the leaf to which the tree leads, for words of these widths
 abbrev pub Does : List Instr → Next → List Read → List ℕ → FlatTree → List Hole → ℕ → ℕ → ℕ → Type 0
 Does final next words widths tree hs n top start =
-    (s : List ℕ) (w : World) (k : ℕ) (ws : List ℕ) → top ≤ length s → IsGood w.memory → AreMeant words s w.memory ws → AreSmall widths ws → walk tree ws w.memory ≡ Some k
+    (s : List ℕ) (w : World) (k : ℕ) (ws : List ℕ) → top ≤ length s → IsGood w.memory → AreMeant words s w.memory ws
+    → AreSmall widths ws → walk tree ws w.memory ≡ Some k
     → Leaves final next hs n (nesting tree) start s w k (λ s' m. Unit {0})
 
 -- a target from which on the run does the tree
@@ -69,12 +70,14 @@ abbrev pub AreBefore : ℕ → List Hole → Type 0
 AreBefore a hs = (h : Hole) → IsIn h hs → h.pc < a
 
 -- The code from the end of the old one on does the tree, and leaves by holes of its leaves.
-pub record Looks (words : List Read) (widths : List ℕ) (tree : FlatTree) (old : Sheet) (hs0 : List Hole) (new : Sheet) (hs : List Hole) : Type 0 where
+pub record Looks (words : List Read) (widths : List ℕ) (tree : FlatTree) (old : Sheet) (hs0 : List Hole)
+    (new : Sheet) (hs : List Hole) : Type 0 where
   pub more : MoreHoles hs0 hs (length old.code) (length new.code)
   pub leaves : (count : ℕ) → LeavesBelow count tree → (h : Hole) → IsIn h hs → IsIn h hs0 ⊎ IsLeafHole count new.code h
   pub ways : AreBefore (length old.code) hs0 → AreOfOneWay hs0 → AreOfOneWay hs
   pub adds : (plan : Plan) (k : ℕ) → k ≤ old.slots → AllFit k words → TreeFits (length words) tree → Adds plan old new
-  pub runs : (plan : Plan) (final : List Instr) (callee : Callee) (next : Next) (n top : ℕ) → Law final callee next → AllFit n words → n ≤ old.slots → new.slots ≤ top → TreeFits (length words) tree
+  pub runs : (plan : Plan) (final : List Instr) (callee : Callee) (next : Next) (n top : ℕ) → Law final callee next
+      → AllFit n words → n ≤ old.slots → new.slots ≤ top → TreeFits (length words) tree
       → AreBefore (length old.code) hs0 → Finishes final new.code hs (length old.code) (length new.code)
       → Does final next words widths tree hs n top (length old.code)
 
@@ -98,24 +101,32 @@ under_at arms other (Some k) = under_arm (slice_get arms k)
 
 -- the switch of a split, whose word was fetched into a slot by the code c
 abbrev pub switch_of : Sheet → ℕ → List FlatArm → Option FlatTree → Instr
-switch_of c slot arms other = Switch slot (then_some (is_some other) (length c.code + 1)) (open_arms_of (length c.code + 1) arms)
+switch_of c slot arms other =
+    Switch slot (then_some (is_some other) (length c.code + 1)) (open_arms_of (length c.code + 1) arms)
 
 -- A split whose word is fetched by the code c, whose switch stands, and some of whose targets are done.
-pub record SplitDone (words : List Read) (widths : List ℕ) (loc : Loc) (arms : List FlatArm) (other : Option FlatTree) (c : Sheet) (slot : ℕ) (hs0 : List Hole) (Done : Option ℕ → Type 0) (b : Sheet) (hs : List Hole) : Type 0 where
+pub record SplitDone (words : List Read) (widths : List ℕ) (loc : Loc) (arms : List FlatArm)
+    (other : Option FlatTree) (c : Sheet) (slot : ℕ) (hs0 : List Hole) (Done : Option ℕ → Type 0) (b : Sheet)
+    (hs : List Hole) : Type 0 where
   pub fetched : (q : ℕ) → q < length c.code → slice_get b.code q ≡ slice_get c.code q
   pub shaped : shape_in (slice_get b.code (length c.code)) ≡ Some (shape (switch_of c slot arms other))
   pub long : length c.code < length b.code
   pub more : MoreHoles hs0 hs (length c.code) (length b.code)
   pub done : (h : Hole) → IsIn h hs → h.pc ≡ length c.code → IsIn h hs0 ⊎ Done h.arm
-  pub leaves : (count : ℕ) → LeavesBelow count (Split loc arms other) → (h : Hole) → IsIn h hs → IsIn h hs0 ⊎ IsLeafHole count b.code h
+  pub leaves : (count : ℕ) → LeavesBelow count (Split loc arms other) → (h : Hole) → IsIn h hs
+      → IsIn h hs0 ⊎ IsLeafHole count b.code h
   pub ways : AreBefore (length c.code) hs0 → AreOfOneWay hs0 → AreOfOneWay hs
-  pub adds : (plan : Plan) (k : ℕ) → slot < c.slots → k ≤ c.slots → AllFit k words → TreeFits (length words) (Split loc arms other) → Adds plan c b
-  pub runs : (plan : Plan) (final : List Instr) (callee : Callee) (next : Next) (n top : ℕ) → Law final callee next → AllFit n words → n ≤ c.slots → slot < c.slots → b.slots ≤ top
+  pub adds : (plan : Plan) (k : ℕ) → slot < c.slots → k ≤ c.slots → AllFit k words
+      → TreeFits (length words) (Split loc arms other) → Adds plan c b
+  pub runs : (plan : Plan) (final : List Instr) (callee : Callee) (next : Next) (n top : ℕ) → Law final callee next
+      → AllFit n words → n ≤ c.slots → slot < c.slots → b.slots ≤ top
       → TreeFits (length words) (Split loc arms other) → AreBefore (length c.code) hs0
       → shape_in (slice_get final (length c.code)) ≡ Some (shape (switch_of c slot arms other))
-      → ((arm : Option ℕ) → Done arm → (IsOpen hs (length c.code) arm → ⊥) → target_in (slice_get final (length c.code)) arm ≡ target_in (slice_get b.code (length c.code)) arm)
+      → ((arm : Option ℕ) → Done arm → (IsOpen hs (length c.code) arm → ⊥)
+      → target_in (slice_get final (length c.code)) arm ≡ target_in (slice_get b.code (length c.code)) arm)
       → Finishes final b.code hs (length c.code + 1) (length b.code)
-      → (arm : Option ℕ) (tree : FlatTree) → Done arm → under_at arms other arm ≡ Some tree → Leads final next words widths tree hs n top (length c.code) arm
+      → (arm : Option ℕ) (tree : FlatTree) → Done arm → under_at arms other arm ≡ Some tree
+      → Leads final next words widths tree hs n top (length c.code) arm
 
 -- the first k arms
 abbrev pub IsBefore : ℕ → Option ℕ → Type 0
@@ -123,7 +134,8 @@ IsBefore k None = ⊥
 IsBefore k (Some j) = j < k
 
 -- a split's switch at pc, of whose arms the first k are done
-pub record ArmsDone (words : List Read) (widths : List ℕ) (tree : FlatTree) (arms : List FlatArm) (other : Option FlatTree) (old : Sheet) (hs0 : List Hole) (pc k : ℕ) (b : Sheet) (hs : List Hole) : Type 0 where
+pub record ArmsDone (words : List Read) (widths : List ℕ) (tree : FlatTree) (arms : List FlatArm)
+    (other : Option FlatTree) (old : Sheet) (hs0 : List Hole) (pc k : ℕ) (b : Sheet) (hs : List Hole) : Type 0 where
   pub grows : Grows old.code b.code
   pub loc : Loc
   pub is_tree : tree ≡ Split loc arms other

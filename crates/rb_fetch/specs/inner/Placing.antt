@@ -54,10 +54,11 @@ NoSpot leaf path wanted = (b : Option ℕ) → NoneOf path wanted (words_in leaf
 abbrev pub HasPart : List ℕ → Wanted → List Part → Part → Type 0
 HasPart path wanted parts p = (k : ℕ) × (slice_get parts k ≡ Some p) × (is_wanted path wanted p ≡ true)
 
-pub record IsSpotOf (path : List ℕ) (wanted : Wanted) (words : List FlatWord) (block : Option ℕ) (x : Spot) : Type 0 where
-  pub is_block : x.block ≡ block
-  pub is_word : slice_get words x.word ≡ Some x.flat.now
-  pub has : HasPart path wanted x.flat.now.parts x.part.now
+pub record IsSpotOf (path : List ℕ) (wanted : Wanted) (words : List FlatWord) (block : Option ℕ) (x : Spot) : Type 0
+  where
+    pub is_block : x.block ≡ block
+    pub is_word : slice_get words x.word ≡ Some x.flat.now
+    pub has : HasPart path wanted x.flat.now.parts x.part.now
 
 -- a part stands at a spot
 pub record IsSpot (leaf : Leaf) (x : Spot) : Type 0 where
@@ -73,7 +74,14 @@ pub record IsWantedSpot (leaf : Leaf) (path : List ℕ) (wanted : Wanted) (x : S
 
 -- from the pointer to a block to a part in it
 abbrev pub step_of : Block → Spot → Step
-step_of block x = record { align = block.align; byte = begins_at block.words x.word; width = x.flat.now.width; o = x.part.now.o; l = x.part.now.l }
+step_of block x =
+    record {
+      align = block.align;
+      byte = begins_at block.words x.word;
+      width = x.flat.now.width;
+      o = x.part.now.o;
+      l = x.part.now.l;
+    }
 
 -- the number of blocks from this one outwards
 abbrev pub outer_count : Leaf → Option ℕ → ℕ

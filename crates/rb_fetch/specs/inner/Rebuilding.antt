@@ -45,32 +45,40 @@ pattern_at (Some p) (i ∷ path) = pattern_at (sub_at p i) path
 abbrev pub FetchesPart : LaidOut → ℕ → ℕ → Pat → List ℕ → List ℕ → Sheet → Sheet → List ℕ → Type 0
 FetchesPart agreed t n pat path words old new slots =
     (plan : Plan) → IsPlanOf agreed plan → (ty : Ty) (f : PositionAt plan t n path ty) → f.pat ≡ pat → (path ≡ [] → ⊥)
-    → AllBelow old.slots words → length words ≡ words_of plan (Named t) → FieldIsFetched plan t n path ty f words old new slots
+    → AllBelow old.slots words → length words ≡ words_of plan (Named t)
+    → FieldIsFetched plan t n path ty f words old new slots
 
 -- A field at an open position is fetched without a switch: each of its slots is new, or is one of the value's.
-pub record OpenIsFetched (plan : Plan) (t n : ℕ) (path : List ℕ) (ty : Ty) (layout : Layout) (words : List ℕ) (old new : Sheet) (slots : List ℕ) : Type 0 where
+pub record OpenIsFetched (plan : Plan) (t n : ℕ) (path : List ℕ) (ty : Ty) (layout : Layout) (words : List ℕ)
+    (old new : Sheet) (slots : List ℕ) : Type 0 where
   pub adds : Adds plan old new
   pub given : AllBelow new.slots slots
   pub count : length slots ≡ words_of plan ty
   pub origin : (x : ℕ) → IsOneOf x slots → (old.slots ≤ x) ⊎ IsOneOf x words
   pub runs : (clean : Bool) (v part : Value) → leaf_of layout v ≡ Some n → part_at v path ≡ Some part
-      → Straight plan old.slots old new (λ s m. IsGood m × Rep plan m clean (Named t) v (slots_at s words)) (λ s m. Rep plan m clean ty part (slots_at s slots))
+      → Straight plan old.slots old new (λ s m. IsGood m × Rep plan m clean (Named t) v (slots_at s words))
+      (λ s m. Rep plan m clean ty part (slots_at s slots))
 
 abbrev pub FetchesOpen : LaidOut → ℕ → ℕ → List ℕ → List ℕ → Sheet → Sheet → List ℕ → Type 0
 FetchesOpen agreed t n path words old new slots =
-    (plan : Plan) → IsPlanOf agreed plan → (ty : Ty) (f : FieldAt plan t n path ty) → AllBelow old.slots words → length words ≡ words_of plan (Named t)
+    (plan : Plan) → IsPlanOf agreed plan → (ty : Ty) (f : FieldAt plan t n path ty) → AllBelow old.slots words
+    → length words ≡ words_of plan (Named t)
     → OpenIsFetched plan t n path ty f.layout words old new slots
 
 -- The appended code leaves the parts at the first so many fields of the constructor at a path in slots.
-pub record PartsAreFetched (plan : Plan) (t n : ℕ) (layout : Layout) (c : ConRef) (ps : List Pat) (path : List ℕ) (words : List ℕ) (old new : Sheet) (hs : List Held) : Type 0 where
+pub record PartsAreFetched (plan : Plan) (t n : ℕ) (layout : Layout) (c : ConRef) (ps : List Pat) (path : List ℕ)
+    (words : List ℕ) (old new : Sheet) (hs : List Held) : Type 0 where
   pub adds : Adds plan old new
   pub given : AllGiven plan new.slots hs
   pub kinds : map held_type hs ≡ take (length hs) (types_or_none (fields_of plan.program.types c))
-  pub runs : (clean : Bool) (v part : Value) → leaf_of layout v ≡ Some n → part_at v path ≡ Some part → length hs ≤ length (subs part)
+  pub runs : (clean : Bool) (v part : Value) → leaf_of layout v ≡ Some n → part_at v path ≡ Some part
+      → length hs ≤ length (subs part)
       → Piece plan old.slots old new Nowhere (sum_by (mend_under plan.layouts) (take (length hs) ps))
-      (λ s m. IsGood m × Rep plan m clean (Named t) v (slots_at s words)) (AtEnd new (λ s m. AreHeld plan clean s m hs (take (length hs) (subs part))))
+      (λ s m. IsGood m × Rep plan m clean (Named t) v (slots_at s words))
+      (AtEnd new (λ s m. AreHeld plan clean s m hs (take (length hs) (subs part))))
 
 abbrev pub FetchesParts : LaidOut → ℕ → ℕ → ConRef → List Pat → ℕ → List ℕ → List ℕ → Sheet → Sheet → List Held → Type 0
 FetchesParts agreed t n c ps k path words old new hs =
     (plan : Plan) → IsPlanOf agreed plan → (at : ℕ) (ty : Ty) (f : PositionAt plan t n path ty) → f.pat ≡ Con at c ps
-    → AllBelow old.slots words → length words ≡ words_of plan (Named t) → (length hs ≡ k) × PartsAreFetched plan t n f.layout c ps path words old new hs
+    → AllBelow old.slots words → length words ≡ words_of plan (Named t) → (length hs ≡ k)
+    × PartsAreFetched plan t n f.layout c ps path words old new hs

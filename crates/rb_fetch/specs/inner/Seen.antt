@@ -7,7 +7,8 @@ use Rattle.rb_fetch.specs.inner.Heads.{bare_paths, shown_heads}
 
 -- a look was at the path, and these constructors stand in the value
 abbrev pub seen_more : List DataDecl → Seen → List ℕ → List Place → Seen
-seen_more types seen path ps = record { looked = seen.looked ++ path ∷ bare_paths types (shown_heads ps); known = seen.known ++ ps }
+seen_more types seen path ps =
+    record { looked = seen.looked ++ path ∷ bare_paths types (shown_heads ps); known = seen.known ++ ps }
 
 -- the first so many positions and constructors
 abbrev pub seen_before : ℕ → ℕ → Seen → Seen

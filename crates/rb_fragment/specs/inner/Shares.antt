@@ -13,16 +13,19 @@ use Rattle.rb_fragment.specs.Reads.{joined_over, meant_of, fits_share}
 pub record PutsOne (plan : Plan) (p : Share) (k d : ℕ) (old new : Sheet) : Type 0 where
   pub adds : Adds plan old new
   pub runs : (rest : List Share) → list_all (λ b. b) (map (fits_share k) rest) ≡ true → (x : ℕ)
-      → Straight plan d old new (λ s m. IsGood m × (joined_over (slice_index s d) (map meant_of (p ∷ rest)) s m ≡ Some x))
+      → Straight plan d old new (λ s m. IsGood m
+      × (joined_over (slice_index s d) (map meant_of (p ∷ rest)) s m ≡ Some x))
       (λ s m. IsGood m × (joined_over (slice_index s d) (map meant_of rest) s m ≡ Some x))
 
 abbrev pub PutsShare : Share → ℕ → Sheet → Sheet → Type 0
-PutsShare p d old new = (plan : Plan) (k : ℕ) → k ≤ d → d < old.slots → fits_share k p ≡ true → PutsOne plan p k d old new
+PutsShare p d old new =
+    (plan : Plan) (k : ℕ) → k ≤ d → d < old.slots → fits_share k p ≡ true → PutsOne plan p k d old new
 
 -- the appended code puts shares into the slot d, one after the other, over what stands there
 pub record PutsAll (plan : Plan) (shares : List Share) (d : ℕ) (old new : Sheet) : Type 0 where
   pub adds : Adds plan old new
-  pub runs : (x : ℕ) → Straight plan d old new (λ s m. IsGood m × (joined_over (slice_index s d) (map meant_of shares) s m ≡ Some x))
+  pub runs : (x : ℕ) → Straight plan d old new
+      (λ s m. IsGood m × (joined_over (slice_index s d) (map meant_of shares) s m ≡ Some x))
       (λ s m. slice_index s d ≡ x)
 
 abbrev pub PutsShares : List Share → ℕ → Sheet → Sheet → Type 0
@@ -33,7 +36,8 @@ PutsShares shares d old new =
 -- the first i of them
 pub record PutsSome (plan : Plan) (shares : List Share) (i d : ℕ) (old new : Sheet) : Type 0 where
   pub adds : Adds plan old new
-  pub runs : (x : ℕ) → Straight plan d old new (λ s m. IsGood m × (joined_over (slice_index s d) (map meant_of shares) s m ≡ Some x))
+  pub runs : (x : ℕ) → Straight plan d old new
+      (λ s m. IsGood m × (joined_over (slice_index s d) (map meant_of shares) s m ≡ Some x))
       (λ s m. IsGood m × (joined_over (slice_index s d) (map meant_of (drop i shares)) s m ≡ Some x))
 
 abbrev pub PutsFirst : List Share → ℕ → ℕ → Sheet → Sheet → Type 0

@@ -59,7 +59,8 @@ words_of_path layouts image seen = kept_from 0 image.root ++ flat_map (words_see
 
 -- words are those of a path
 abbrev pub IsFoundOn : List Layout → Image → List Seen → List WordAt → Type 0
-IsFoundOn layouts image seen found = (base place : ℕ) → has_word found base place ≡ is_kept_at (words_of_path layouts image seen) base place
+IsFoundOn layouts image seen found =
+    (base place : ℕ) → has_word found base place ≡ is_kept_at (words_of_path layouts image seen) base place
 
 -- Faults -------------------------------------------------------------------------------------
 module _ (on : ℕ → ℕ → Bool) (m : List ImageBlock) where

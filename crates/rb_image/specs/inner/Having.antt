@@ -18,9 +18,11 @@ HaveValues p layouts = (image : Image) (ty : Ty) → IsDeclared p.types ty → I
     → (m : Memory) → Keeps image.blocks m → (v : Value) × AreOf p m ty image.root v
 
 abbrev pub HaveDescents : Program → List Layout → Type 0
-HaveDescents p layouts = (image : Image) → AreInPlace image.blocks → AreBlocks image.blocks → (ty : Ty) → IsDeclared p.types ty
+HaveDescents p layouts =
+    (image : Image) → AreInPlace image.blocks → AreBlocks image.blocks → (ty : Ty) → IsDeclared p.types ty
     → IsSoundImage p.types layouts image ty → (v : Value) × RootDescends p image ty v
 
 abbrev pub AreSoundWhereTheyDescend : Program → List Layout → Type 0
-AreSoundWhereTheyDescend p layouts = (image : Image) → AreInPlace image.blocks → AreBlocks image.blocks → (ty : Ty) (v : Value)
+AreSoundWhereTheyDescend p layouts =
+    (image : Image) → AreInPlace image.blocks → AreBlocks image.blocks → (ty : Ty) (v : Value)
     → RootDescends p image ty v → IsSoundImage p.types layouts image ty

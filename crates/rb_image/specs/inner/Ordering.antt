@@ -13,4 +13,5 @@ use Rattle.rb_image.specs.Visits.{IsTidy}
 pub record AreOrderly (types : List DataDecl) (layouts : List Layout) : Type 0 where
   pub tidy : (t : ℕ) (layout : Layout) → layout_of layouts t ≡ Some layout → IsTidy layout (length layout.shape)
   pub there : (t : ℕ) → t < length types → (layout : Layout) × (layout_of layouts t ≡ Some layout)
-  pub declared : (c : ConRef) (i : ℕ) (ty : Ty) → slice_get (types_or_none (fields_of types c)) i ≡ Some ty → IsDeclared types ty
+  pub declared : (c : ConRef) (i : ℕ) (ty : Ty) → slice_get (types_or_none (fields_of types c)) i ≡ Some ty
+      → IsDeclared types ty

@@ -57,7 +57,8 @@ line_step read b = if nat_lt read 6 then keyed (codes "block ") read b (Line (re
 
 abbrev pub more_address : ℕ → Option ℕ → Move
 more_address n None = move.Refused
-more_address n (Some d) = if nat_lt 0 n && nat_lt (n * 10 + d) (2 ^ 64) then move.To (Address (n * 10 + d)) else move.Refused
+more_address n (Some d) =
+    if nat_lt 0 n && nat_lt (n * 10 + d) (2 ^ 64) then move.To (Address (n * 10 + d)) else move.Refused
 
 abbrev pub address_step : ℕ → ℕ → Move
 address_step n b = if b == 32 then move.To (Sizing n) else more_address n (digit_of b)

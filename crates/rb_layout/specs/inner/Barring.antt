@@ -36,7 +36,8 @@ is_pointer (Pointer align b) = true
 
 -- a pointer that lies wholly in the range, where the literal has only zeros
 abbrev pub null_at : Literal → Part → Bool
-null_at x p = (is_pointer p.kind && (leb x.o p.o && leb (p.o + p.l) (x.o + x.l))) && (take_of x.bits (p.o - x.o) p.l == 0)
+null_at x p =
+    (is_pointer p.kind && (leb x.o p.o && leb (p.o + p.l) (x.o + x.l))) && (take_of x.bits (p.o - x.o) p.l == 0)
 
 abbrev pub null_in : List Part → Literal → Bool
 null_in [] x = false
@@ -75,7 +76,8 @@ goal_in type_of x p = goal_of type_of (part_literal x p) p.kind
 abbrev pub same_goal : Goal → Goal → Bool
 same_goal h g =
     (g.ty == h.ty)
-    && ((g.word == h.word) && ((g.literal.o == h.literal.o) && ((g.literal.l == h.literal.l) && (g.literal.bits == h.literal.bits))))
+    && ((g.word == h.word) && ((g.literal.o == h.literal.o)
+    && ((g.literal.l == h.literal.l) && (g.literal.bits == h.literal.bits))))
 
 -- the first entry of a goal says that it is known to hold
 abbrev pub knows : List Entry → Goal → Bool
@@ -102,7 +104,8 @@ root_barred known type_of x None = false
 root_barred known type_of x (Some f) = word_barred known type_of x f.parts
 
 abbrev pub leaf_barred : (Goal → Bool) → List DataDecl → Goal → Leaf → Bool
-leaf_barred known types g leaf = root_barred known (position_type types leaf.prov) g.literal (slice_get leaf.root g.word)
+leaf_barred known types g leaf =
+    root_barred known (position_type types leaf.prov) g.literal (slice_get leaf.root g.word)
 
 abbrev pub leaves_barred : (Goal → Bool) → List DataDecl → Goal → List Leaf → Bool
 leaves_barred known types g [] = true

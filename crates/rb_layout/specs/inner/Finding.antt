@@ -63,7 +63,8 @@ IsIn es g = has_goal es g ≡ true
 -- the goals below a goal are among the entries
 abbrev pub HasBelow : List DataDecl → List Layout → List Entry → Goal → Type 0
 HasBelow types layouts es g =
-    (n : ℕ) (layout : Layout) (leaf : Leaf) (f : FlatWord) → layout_of layouts g.ty ≡ Some layout → slice_get layout.leaves n ≡ Some leaf
+    (n : ℕ) (layout : Layout) (leaf : Leaf) (f : FlatWord) → layout_of layouts g.ty ≡ Some layout
+    → slice_get layout.leaves n ≡ Some leaf
     → slice_get leaf.root g.word ≡ Some f → (k : ℕ) (p : Part) (h : Goal) → slice_get f.parts k ≡ Some p
     → goal_in (position_type types leaf.prov) g.literal p ≡ Some h → IsIn es h
 

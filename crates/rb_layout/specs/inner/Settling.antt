@@ -32,7 +32,8 @@ passed types layouts (suc n) es = passed types layouts n (looked types layouts n
 -- one of them is marked in it
 abbrev pub changes : List DataDecl → List Layout → ℕ → List Entry → Bool
 changes types layouts zero es = false
-changes types layouts (suc n) es = turns types layouts es (slice_get es n) || changes types layouts n (looked types layouts n es)
+changes types layouts (suc n) es =
+    turns types layouts es (slice_get es n) || changes types layouts n (looked types layouts n es)
 
 -- how many are not marked
 abbrev pub pending : List Entry → ℕ
@@ -44,8 +45,10 @@ pub record Holds (types : List DataDecl) (layouts : List Layout) (g : Goal) : Ty
   pub layout : Layout
   pub is_layout : layout_of layouts g.ty ≡ Some layout
   pub some : 0 < length layout.leaves
-  pub words : (n : ℕ) (leaf : Leaf) → slice_get layout.leaves n ≡ Some leaf → (f : FlatWord) × (slice_get leaf.root g.word ≡ Some f)
-  pub bars : (n : ℕ) (leaf : Leaf) (f : FlatWord) → slice_get layout.leaves n ≡ Some leaf → slice_get leaf.root g.word ≡ Some f
+  pub words : (n : ℕ) (leaf : Leaf) → slice_get layout.leaves n ≡ Some leaf → (f : FlatWord)
+      × (slice_get leaf.root g.word ≡ Some f)
+  pub bars : (n : ℕ) (leaf : Leaf) (f : FlatWord) → slice_get layout.leaves n ≡ Some leaf
+      → slice_get leaf.root g.word ≡ Some f
       → Bars types layouts leaf f g.literal.o g.literal.l g.literal.bits
 
 -- each marked goal holds

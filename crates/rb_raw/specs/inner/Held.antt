@@ -10,7 +10,8 @@ bytes_of r = r.written.bytes
 
 -- each byte that was written stands in its place, and the lease is the right to free these places
 pub record IsHeld (r : Inside) : Type 0 where
-  pub leased : (lease_ptr r.lease ≡ slots_ptr r.places) × (lease_len r.lease ≡ slots_len r.places) × (lease_heap r.lease ≡ r.alloc)
+  pub leased : (lease_ptr r.lease ≡ slots_ptr r.places) × (lease_len r.lease ≡ slots_len r.places)
+      × (lease_heap r.lease ≡ r.alloc)
   pub long : slots_len r.places ≡ length r.written.bytes
   pub filled : (a b : ℕ) → byte_at r.written.bytes a ≡ Some b → IsTrue (slice_index_or (slots_filled r.places) a false)
   pub holds : (a b : ℕ) → byte_at r.written.bytes a ≡ Some b → slice_get (slots_items r.places) a ≡ Some b

@@ -8,6 +8,7 @@ use crate::instr::AluOp;
 use crate::word::{Word, op_name};
 use rb_core::decimal::number_in;
 
+// Every key.
 const KEYS: [Key; 13] = [
     Key::Const,
     Key::Copy,
@@ -24,6 +25,7 @@ const KEYS: [Key; 13] = [
     Key::End,
 ];
 
+// Every operation.
 const OPS: [AluOp; 8] = [
     AluOp::Add,
     AluOp::Sub,
@@ -36,6 +38,7 @@ const OPS: [AluOp; 8] = [
 ];
 
 impl Key {
+    // The bytes of a key as it is written.
     fn text(self) -> &'static [u8]
         ensures { result.now ≡ spec.key_bytes self }
     {
@@ -169,6 +172,7 @@ impl Field {
         }
     }
 
+    // Whether some word that is no number and may stand there begins so.
     fn is_name_front(self, text: &[u8]) -> bool
         ensures { result ≡ spec.named_front self text.now }
     {
@@ -195,6 +199,7 @@ impl Field {
     }
 }
 
+// Whether a number is a width in bits: 8, 16, 32 or 64.
 fn is_width(number: u64) -> bool
     ensures { result ≡ spec.has Field.Width number }
 {

@@ -135,6 +135,7 @@ impl Line {
 
 // One number more ------------------------------------------------------------------------------
 
+// A slot before the number that it gets.
 fn next_const(dest: usize, number: u64, turn: Turn, last: u64, n: u64) -> Line
     ensures { result ≡ spec.after_number (Instr.Const dest number) turn last n }
 {
@@ -145,6 +146,7 @@ fn next_const(dest: usize, number: u64, turn: Turn, last: u64, n: u64) -> Line
     }
 }
 
+// The slot that gets a word before the one that has it.
 fn next_copy(dest: usize, from: usize, turn: Turn, last: u64, n: u64) -> Line
     ensures { result ≡ spec.after_number (Instr.Copy dest from) turn last n }
 {
@@ -178,6 +180,7 @@ fn next_alu(
     }
 }
 
+// Two slots before the offset and the length of the bits that are taken from the second.
 fn next_take(dest: usize, from: usize, range: (u8, u8), turn: Turn, last: u64, n: u64) -> Line
     requires { spec.has (spec.field (Instr.Take dest from range.0 range.1) turn) n ≡ true }
     ensures { result ≡ spec.after_number (Instr.Take dest from range.0 range.1) turn last n }
@@ -192,6 +195,7 @@ fn next_take(dest: usize, from: usize, range: (u8, u8), turn: Turn, last: u64, n
     }
 }
 
+// Two slots before the offset and the length of the bits that are replaced in the first.
 fn next_put(dest: usize, from: usize, range: (u8, u8), turn: Turn, last: u64, n: u64) -> Line
     requires { spec.has (spec.field (Instr.Put dest from range.0 range.1) turn) n ≡ true }
     ensures { result ≡ spec.after_number (Instr.Put dest from range.0 range.1) turn last n }
@@ -206,6 +210,7 @@ fn next_put(dest: usize, from: usize, range: (u8, u8), turn: Turn, last: u64, n:
     }
 }
 
+// The slot that gets a word and that of the address before an offset and a width.
 fn next_load(dest: usize, base: usize, word: (u64, u8), turn: Turn, last: u64, n: u64) -> Line
     requires { spec.has (spec.field (Instr.Load dest base word.0 word.1) turn) n ≡ true }
     ensures { result ≡ spec.after_number (Instr.Load dest base word.0 word.1) turn last n }
@@ -224,6 +229,7 @@ fn next_load(dest: usize, base: usize, word: (u64, u8), turn: Turn, last: u64, n
     }
 }
 
+// The slot of the address, an offset and a width before the slot whose word is stored.
 fn next_store(base: usize, word: (u64, u8), from: usize, turn: Turn, last: u64, n: u64) -> Line
     requires { spec.has (spec.field (Instr.Store base word.0 word.1 from) turn) n ≡ true }
     ensures { result ≡ spec.after_number (Instr.Store base word.0 word.1 from) turn last n }
@@ -246,6 +252,7 @@ fn next_store(base: usize, word: (u64, u8), from: usize, turn: Turn, last: u64, 
     }
 }
 
+// The slot that gets an address before the size and the alignment of the block.
 fn next_place(dest: usize, size: u64, align: u64, turn: Turn, last: u64, n: u64) -> Line
     ensures { result ≡ spec.after_number (Instr.Place dest size align) turn last n }
 {
@@ -257,6 +264,7 @@ fn next_place(dest: usize, size: u64, align: u64, turn: Turn, last: u64, n: u64)
     }
 }
 
+// A target alone.
 fn next_jump(target: usize, turn: Turn, last: u64, n: u64) -> Line
     ensures { result ≡ spec.after_number (Instr.Jump target) turn last n }
 {
@@ -298,6 +306,8 @@ fn next_switch(
     }
 }
 
+// A function's number, the slots its results go to at the second turn, and those of its words at
+// the third.
 fn next_call(
     alloc: Global,
     fun: usize,
@@ -326,6 +336,7 @@ fn next_call(
     }
 }
 
+// The slots of the words that are returned, all of them at the first turn.
 fn next_return(mut froms: Seq<usize>, turn: Turn, last: u64, n: u64) -> Result<Line, AllocError>
     ensures { IfOk result (λ l. l ≡ spec.after_number (Instr.Return froms) turn last n) }
 {

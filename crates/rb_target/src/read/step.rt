@@ -31,18 +31,21 @@ impl Model for Reader {
     ghost view = { λ r. record { funs = r.funs; spot = r.spot; word = r.word.items } };
 }
 
+// Whether a byte is a blank or a line's end.
 fn is_gap(byte: u8) -> bool
     ensures { result ≡ spec.is_gap byte }
 {
     byte == b' ' || byte == b'\n'
 }
 
+// Whether a byte is a small letter.
 fn is_small(byte: u8) -> bool
     ensures { result ≡ spec.is_small byte }
 {
     b'a' <= byte && byte <= b'z'
 }
 
+// Whether a byte may stand in a function's name behind the first: a letter, a digit or `_`.
 fn is_name_byte(byte: u8) -> bool
     ensures { result ≡ spec.is_name_byte byte }
 {
@@ -170,6 +173,7 @@ fn named(alloc: Global, name: &[u8], gap: u8) -> Result<Move, AllocError>
     Ok(Move::To(Spot::Heading(fun, Turn::First)))
 }
 
+// Behind a word outside of functions, where only `fun` and a blank go on.
 fn outside(word: &[u8], gap: u8) -> Move
     ensures { result ≡ spec.step Spot.Outside word.now gap }
 {

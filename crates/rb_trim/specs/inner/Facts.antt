@@ -47,5 +47,6 @@ Turns (Return froms) s m s' m' = ⊥
 
 -- behind the instruction these facts hold, where those hold before it, by a way that tells this
 pub record Follows (facts : List Fact) (told : Option Fact) (i : Instr) (behind : List Fact) : Type 0 where
-  pub by : (slots : ℕ) (s s' : List ℕ) (m m' : Memory) → slots ≤ length s → SlotsFit slots i → Hold s m facts → Says told s m
+  pub by : (slots : ℕ) (s s' : List ℕ) (m m' : Memory) → slots ≤ length s → SlotsFit slots i → Hold s m facts
+      → Says told s m
       → Turns i s m s' m' → Hold s' m' behind

@@ -113,12 +113,14 @@ Keeps i (Loaded a offset width) = (¬ WritesTo i a) × (¬ Changes i)
 
 -- one fact holds behind the instruction
 pub record FollowsOne (facts : List Fact) (i : Instr) (fact : Fact) : Type 0 where
-  pub by : (slots : ℕ) (s s' : List ℕ) (m m' : Memory) → slots ≤ length s → SlotsFit slots i → Hold s m facts → Turns i s m s' m'
+  pub by : (slots : ℕ) (s s' : List ℕ) (m m' : Memory) → slots ≤ length s → SlotsFit slots i → Hold s m facts
+      → Turns i s m s' m'
       → IsSo s' m' fact
 
 -- one fact holds behind the instruction, by a way that tells this
 pub record HoldsBehind (facts : List Fact) (told : Option Fact) (i : Instr) (fact : Fact) : Type 0 where
-  pub by : (slots : ℕ) (s s' : List ℕ) (m m' : Memory) → slots ≤ length s → SlotsFit slots i → Hold s m facts → Says told s m
+  pub by : (slots : ℕ) (s s' : List ℕ) (m m' : Memory) → slots ≤ length s → SlotsFit slots i → Hold s m facts
+      → Says told s m
       → Turns i s m s' m' → IsSo s' m' fact
 
 -- the fact with this number holds behind the instruction

@@ -243,7 +243,8 @@ pub record IsFolded (h : Hints) (body : List Instr) (pc : ℕ) (i j : Instr) : T
   pub word : ℕ
   pub is : i ≡ Switch slot (Some target) arms
   pub next : slice_get body (end h target) ≡ Some (Switch from other more)
-  pub stands : j ≡ Switch word (landing_in h other) (map (λ arm. moved_arm h arm) arms ++ map (λ arm. moved_arm h arm) more)
+  pub stands : j ≡ Switch word (landing_in h other)
+      (map (λ arm. moved_arm h arm) arms ++ map (λ arm. moved_arm h arm) more)
   pub name : IsName h (facts_at h pc) pc slot word
   pub same : IsName h (facts_at h (end h target)) (end h target) from word
   pub arms_come : All (λ (arm : SwitchArm). IsReached h (end h arm.target)) arms
@@ -281,7 +282,8 @@ IsMerged h body pc i j = IsInto h body pc i j ⊎ (IsFolded h body pc i j ⊎ Is
 -- the instruction that stands for one of a body, alone or with another
 abbrev pub Stands : Hints → List Instr → ℕ → Instr → Instr → Type 0
 Stands h body pc i j =
-    (IsPlain h pc × IsMoved h (facts_at h pc) body pc i j × (place h (pc + 1) ≡ place h pc + 1)) ⊎ IsMerged h body pc i j
+    (IsPlain h pc × IsMoved h (facts_at h pc) body pc i j × (place h (pc + 1) ≡ place h pc + 1)) ⊎ IsMerged h body
+    pc i j
 
 -- the instruction stands in the new body, or need not
 abbrev pub IsKept : Hints → List Instr → List Instr → ℕ → Instr → Type 0

@@ -76,4 +76,5 @@ pub record IsFit (slots params : ℕ) (body : List Instr) : Type 0 where
 -- the first functions have shorter ones
 pub record AreTrimmed (funs : List CodeFun) (count : ℕ) (new : List CodeFun) : Type 0 where
   pub long : length new ≡ count
-  pub each : (g : ℕ) (f : CodeFun) → g < count → slice_get funs g ≡ Some f → (q : CodeFun) × (slice_get new g ≡ Some q) × IsTrimmed f q
+  pub each : (g : ℕ) (f : CodeFun) → g < count → slice_get funs g ≡ Some f → (q : CodeFun)
+      × (slice_get new g ≡ Some q) × IsTrimmed f q
