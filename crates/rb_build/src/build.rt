@@ -16,7 +16,8 @@ use std::alloc::{AllocError, Global};
 /// that is shown of it; a wildcard shows nothing.
 ///
 /// # Errors
-/// `AllocError` where memory is wanting.
+///
+/// Want of memory.
 pub fn emit_build(
     alloc: Global,
     body: &mut Body,

@@ -111,7 +111,8 @@ fn constants(parts: &[Part]) -> u64
     word
 }
 
-// A word with the constant of a part, if it has one that fits, in its place.
+// A word with the low bits of a part's constant in the part's range; the word as it is where the
+// part has no constant, or where its range, as `bits` caps it, has no bit or ends past bit 64.
 fn with_constant(word: u64, part: &Part) -> u64
     ensures { result ≡ with_constant word part.now.o part.now.l part.now.kind }
 {

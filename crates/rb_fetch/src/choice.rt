@@ -37,7 +37,8 @@ pub struct Choices {
 /// that is shown of it. What these patterns decide costs no look.
 ///
 /// # Errors
-/// `AllocError` where memory is wanting.
+///
+/// Want of memory.
 pub fn choose_leaf(
     alloc: Global,
     body: &mut Body,

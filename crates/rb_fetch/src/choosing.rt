@@ -82,7 +82,8 @@ fn holes_of(alloc: Global, ways: &[Way]) -> Result<Seq<Hole>, AllocError>
 /// What `choose_leaf` appends, where so many calls may be nested still.
 ///
 /// # Errors
-/// `AllocError` where memory is wanting.
+///
+/// Want of memory.
 #[cycle(fetching)]
 pub(crate) fn choose_leaf_at(
     alloc: Global,
@@ -523,7 +524,8 @@ fn fetch_parts(
 /// What `construct` appends, where so many calls may be nested still.
 ///
 /// # Errors
-/// `AllocError` where memory is wanting.
+///
+/// Want of memory.
 #[cycle(fetching)]
 pub(crate) fn construct_at(
     alloc: Global,

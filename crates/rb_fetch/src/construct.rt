@@ -33,7 +33,8 @@ use std::alloc::{AllocError, Global};
 /// that is shown of it; a wildcard shows nothing.
 ///
 /// # Errors
-/// `AllocError` where memory is wanting.
+///
+/// Want of memory.
 pub fn construct(
     alloc: Global,
     body: &mut Body,

@@ -14,7 +14,8 @@ use std::alloc::{AllocError, Global};
 /// Code that reads the bits at a location, from the words in some slots. Answers the slot that holds them.
 ///
 /// # Errors
-/// `AllocError` where memory is wanting.
+///
+/// Want of memory.
 pub fn fetch_loc(
     alloc: Global,
     body: &mut Body,
@@ -34,7 +35,8 @@ pub fn fetch_loc(
 /// place among the widths, where one does.
 ///
 /// # Errors
-/// `AllocError` where memory is wanting.
+///
+/// Want of memory.
 pub(crate) fn fetch_bits(
     alloc: Global,
     body: &mut Body,
@@ -51,7 +53,7 @@ pub(crate) fn fetch_bits(
     Ok(slot)
 }
 
-// The number that stands in the place of a word among the widths.
+// The number that stands in the place of a word among the widths, where one does.
 fn width_at(widths: &[u64], word: u64) -> Option<u64>
     ensures { result ≡ slice_get widths.now word }
 {

@@ -25,7 +25,8 @@ use std::alloc::{AllocError, Global};
 /// position of the leaf's provenance.
 ///
 /// # Errors
-/// `AllocError` where memory is wanting.
+///
+/// Want of memory.
 pub fn field_reads(
     alloc: Global,
     agreed: &Agreed,
@@ -112,7 +113,8 @@ fn word_read(
 /// layout, which places no block. At the root it is the value itself.
 ///
 /// # Errors
-/// `AllocError` where memory is wanting.
+///
+/// Want of memory.
 pub fn fetch_field(
     alloc: Global,
     body: &mut Body,

@@ -24,7 +24,8 @@ pub(crate) struct Place {
 /// The number of a field.
 ///
 /// # Errors
-/// `AllocError` where it is past all numbers of fields, as it never is.
+///
+/// Want of memory is the answer where it is past all numbers of fields, as it never is.
 pub(crate) fn number_of(field: usize) -> Result<u32, AllocError>
     ensures { IfOk result (λ n. n ≡ field) }
 {
@@ -37,7 +38,8 @@ pub(crate) fn number_of(field: usize) -> Result<u32, AllocError>
 /// The position of a field of the part at a position.
 ///
 /// # Errors
-/// `AllocError` where memory is wanting.
+///
+/// Want of memory.
 pub(crate) fn field_path(
     alloc: Global,
     path: &Seq<u32>,
@@ -96,7 +98,8 @@ fn add_heads_below(
 /// before inner ones and from left to right.
 ///
 /// # Errors
-/// `AllocError` where memory is wanting.
+///
+/// Want of memory.
 pub(crate) fn heads_under(
     alloc: Global,
     leaf: &Leaf,
@@ -117,7 +120,8 @@ pub(crate) fn heads_under(
 /// Those of a whole value's leaf.
 ///
 /// # Errors
-/// `AllocError` where memory is wanting.
+///
+/// Want of memory.
 pub(crate) fn heads(alloc: Global, leaf: &Leaf) -> Result<Seq<Place>, AllocError>
     ensures { IfOk result (λ found. shown_heads found ≡ inner_heads leaf.now) }
 {
@@ -129,7 +133,8 @@ pub(crate) fn heads(alloc: Global, leaf: &Leaf) -> Result<Seq<Place>, AllocError
 /// The constructors of patterns, one a field, at their positions in the whole.
 ///
 /// # Errors
-/// `AllocError` where memory is wanting.
+///
+/// Want of memory.
 pub(crate) fn field_heads(alloc: Global, pats: &[Pat]) -> Result<Seq<Place>, AllocError>
     ensures { IfOk result (λ found. shown_heads found ≡ heads_below (map heads_of pats.now) 0) }
 {
@@ -149,7 +154,8 @@ fn is_bare(types: &[DataDecl], con: ConRef) -> bool
 /// The positions of those constructors that have no fields.
 ///
 /// # Errors
-/// `AllocError` where memory is wanting.
+///
+/// Want of memory.
 pub(crate) fn bare_paths(
     alloc: Global,
     types: &[DataDecl],
@@ -246,7 +252,8 @@ fn can_be_leaf(
 /// provenances have it there, or none.
 ///
 /// # Errors
-/// `AllocError` where memory is wanting.
+///
+/// Want of memory.
 pub(crate) fn leaves_with(
     alloc: Global,
     layouts: &[Layout],
@@ -269,7 +276,8 @@ pub(crate) fn leaves_with(
 /// The leaves of some that can still be here where each of these constructors stands at its position.
 ///
 /// # Errors
-/// `AllocError` where memory is wanting.
+///
+/// Want of memory.
 pub(crate) fn leaves_beside(
     alloc: Global,
     layouts: &[Layout],
@@ -321,7 +329,8 @@ fn takes_apart(
 /// Whether one of some leaves takes the part at a position apart: its provenance has a constructor there.
 ///
 /// # Errors
-/// `AllocError` where memory is wanting.
+///
+/// Want of memory.
 pub(crate) fn take_apart(
     alloc: Global,
     layouts: &[Layout],

@@ -36,7 +36,8 @@ pub(crate) struct Below {
 /// What follows of the leaves of a whole of type `ty` where the part at a place has this leaf.
 ///
 /// # Errors
-/// `AllocError` where memory is wanting, or there is no such leaf.
+///
+/// Want of memory; the same answer where there is no such leaf.
 pub(crate) fn below_leaf(
     alloc: Global,
     layouts: &[Layout],
@@ -66,7 +67,8 @@ pub(crate) fn below_leaf(
 /// Adds that a look was at a position, and constructors that stand in the value. Those without fields need no look.
 ///
 /// # Errors
-/// `AllocError` where memory is wanting.
+///
+/// Want of memory.
 pub(crate) fn see(
     alloc: Global,
     types: &[DataDecl],
@@ -174,7 +176,8 @@ fn sole(leaves: &[usize]) -> Option<usize>
 /// below leave one.
 ///
 /// # Errors
-/// `AllocError` where memory is wanting.
+///
+/// Want of memory.
 pub(crate) fn leaf_known(
     alloc: Global,
     layouts: &[Layout],

@@ -23,7 +23,8 @@ use std::alloc::{AllocError, Global};
 /// are holes themselves.
 ///
 /// # Errors
-/// `AllocError` where memory is wanting.
+///
+/// Want of memory.
 pub fn find_leaf(
     alloc: Global,
     body: &mut Body,
@@ -45,7 +46,8 @@ pub fn find_leaf(
 /// The same from reads of the value's words, which may stand in memory still.
 ///
 /// # Errors
-/// `AllocError` where memory is wanting.
+///
+/// Want of memory.
 pub fn find_leaf_of(
     alloc: Global,
     body: &mut Body,
@@ -75,7 +77,8 @@ pub fn find_leaf_of(
 /// has one. The groups are given leaf by leaf; where one group is left, no word is tested.
 ///
 /// # Errors
-/// `AllocError` where memory is wanting.
+///
+/// Want of memory.
 pub fn find_group(
     alloc: Global,
     body: &mut Body,
@@ -98,7 +101,8 @@ pub fn find_group(
 /// The same from reads of the value's words, which may stand in memory still.
 ///
 /// # Errors
-/// `AllocError` where memory is wanting.
+///
+/// Want of memory.
 pub fn find_group_of(
     alloc: Global,
     body: &mut Body,

@@ -120,7 +120,8 @@ pub(crate) fn parts_of(alloc: Global, args: &[Held]) -> Result<Seq<Subvalue>, Al
 /// Adds the values of the fields of the part at a position.
 ///
 /// # Errors
-/// `AllocError` where memory is wanting.
+///
+/// Want of memory.
 pub(crate) fn add_parts(
     alloc: Global,
     path: &Seq<u32>,
@@ -226,7 +227,8 @@ fn find_below(
 /// positions above them found them.
 ///
 /// # Errors
-/// `AllocError` where memory is wanting.
+///
+/// Want of memory.
 pub(crate) fn find_fields(
     alloc: Global,
     types: &[DataDecl],

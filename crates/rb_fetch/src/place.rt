@@ -58,7 +58,7 @@ fn has_word(own: &[u32], path: &[u32], j: u64, i: u64) -> bool
     j == i
 }
 
-// Whether a part holds a unit of the field of this type at a path.
+// Whether a part holds unit `i` of the field of this type at a path: a bit, or a word of a data type.
 fn holds_unit(ty: Ty, path: &[u32], i: u64, part: &Part) -> bool
     ensures { result ≡ held.holds_unit ty path.now i part.now.l part.now.kind }
 {

@@ -185,7 +185,8 @@ fn prune_arms(
 /// is that group's leaf. None where no leaf has a group.
 ///
 /// # Errors
-/// `AllocError` where memory is wanting.
+///
+/// Want of memory.
 pub fn pruned(
     alloc: Global,
     tree: &FlatTree,

@@ -25,7 +25,8 @@ pub(crate) const DEPTH: usize = 4294967295;
 /// What `fetch_field` appends, where so many calls may be nested still.
 ///
 /// # Errors
-/// `AllocError` where memory is wanting.
+///
+/// Want of memory.
 pub(crate) fn fetch_field_at(
     alloc: Global,
     body: &mut Body,
@@ -77,7 +78,8 @@ fn copy_slots(alloc: Global, slots: &[usize]) -> Result<Seq<usize>, AllocError>
 /// A copy of a position.
 ///
 /// # Errors
-/// `AllocError` where memory is wanting.
+///
+/// Want of memory.
 pub(crate) fn copy_path(alloc: Global, path: &[u32]) -> Result<Seq<u32>, AllocError>
     ensures { IfOk result (λ copy. copy ≡ path.now) }
 {
@@ -114,7 +116,8 @@ fn sub_at(pat: &Pat, field: u32) -> Option<&Pat>
 /// Code that leaves the words of a field at an open position in slots.
 ///
 /// # Errors
-/// `AllocError` where memory is wanting.
+///
+/// Want of memory.
 pub(crate) fn fetch_open(
     alloc: Global,
     body: &mut Body,

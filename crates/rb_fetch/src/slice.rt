@@ -16,7 +16,8 @@ use std::alloc::{AllocError, Global};
 /// An integer of so many bits: bits of one word where a part holds it whole, else its slices side by side.
 ///
 /// # Errors
-/// `AllocError` where memory is wanting.
+///
+/// Want of memory.
 pub(crate) fn int_read(
     alloc: Global,
     leaf: &Leaf,

@@ -21,7 +21,8 @@ pub struct Span {
 /// from there. The word at which the location begins has at most `width` bits, where that is known.
 ///
 /// # Errors
-/// `AllocError` where memory is wanting.
+///
+/// Want of memory.
 pub fn span_at(
     alloc: Global,
     words: &[Read],
@@ -112,7 +113,8 @@ fn reach(width: Option<u64>, o: u64, l: u64) -> u64
 /// The bits of a range: the word itself where it has no others.
 ///
 /// # Errors
-/// `AllocError` where memory is wanting.
+///
+/// Want of memory.
 pub fn span_bits(alloc: Global, span: Span) -> Result<Read, AllocError>
     ensures { IfOk result (λ read. ReadsRange span read) }
 {

@@ -59,7 +59,8 @@ fn step_to(block: &Block, spot: Spot) -> Step
 /// The bits of a part, over reads of the words of a value of the leaf.
 ///
 /// # Errors
-/// `AllocError` where memory is wanting.
+///
+/// Want of memory.
 pub(crate) fn spot_span(
     alloc: Global,
     leaf: &Leaf,
@@ -88,7 +89,8 @@ fn root_width(leaf: &Leaf, word: u64) -> Option<u64>
 /// A part as a read: the word itself where the part is all of it.
 ///
 /// # Errors
-/// `AllocError` where memory is wanting.
+///
+/// Want of memory.
 pub(crate) fn spot_read(
     alloc: Global,
     leaf: &Leaf,

@@ -46,7 +46,7 @@ fn joined(alloc: Global, first: &[Pat], rest: &[Pat]) -> Result<Seq<Pat>, AllocE
 }
 
 // A row with its first pattern's subpatterns in place of it, or `fields` wildcards where it has no
-// head; None where it has another head or number of subpatterns, or where the row is empty.
+// head; None for another head, a constructor with not so many subpatterns, or an empty row.
 fn special_of_row(
     alloc: Global,
     head: Head,

@@ -99,7 +99,7 @@ fn unit(ty: Option<Ty>) -> &'static [u8]
     }
 }
 
-// What the field at a path of a leaf is counted in; bits, where the leaf is not there.
+// What the field at a path of a leaf is counted in; bits, where there is no such leaf or field.
 fn unit_of(types: &[DataDecl], leaves: &[Leaf], leaf: u32, path: &[u32]) -> &'static [u8]
     ensures { result.now ≡ unit_in types.now (slice_get leaves.now leaf) path.now }
 {

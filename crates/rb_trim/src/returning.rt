@@ -101,7 +101,7 @@ fn comes_back(
     Ok(())
 }
 
-// Whether two lists have the same words.
+// Whether two lists have the same words, in the same order.
 fn are_same(words: &[usize], others: &[usize]) -> bool
     ensures { IsTrue result → (words.now ≡ others.now) }
 {
