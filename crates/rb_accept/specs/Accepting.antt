@@ -38,12 +38,13 @@ use Rattle.rb_syntax.specs.declared.tree.FileTree.{FileTree}
 
 -- Accepted files ----------------------------------------------------------------------------
 
--- the bytes are these tokens, and they are this file
+-- the bytes are cut into these tokens, and the tokens are this file, within its limits
 pub record IsRead (bytes : List ℕ) (placed : List Placed) (file : FileTree) : Type 0 where
   pub cut : HasTokens bytes placed
   pub tree : IsAnswer (tokens placed) (Ok file)
 
--- and this is its program with the layouts that are left to the compiler, and the first of them that is refused
+-- the bytes are a file of these tokens, and `c` is its program with the layouts that are left to the compiler, and
+-- the first of them that is refused, if one is
 pub record IsNamedWith (bytes : List ℕ) (placed : List Placed) (c : Completed) : Type 0 where
   pub file : FileTree
   pub read : IsRead bytes placed file
@@ -51,19 +52,20 @@ pub record IsNamedWith (bytes : List ℕ) (placed : List Placed) (c : Completed)
   pub named : numbered file ≡ Ok written
   pub completed : IsCompleted file written c
 
--- a program with the fault of its derived layouts, if there is one
+-- a program with its derived layouts, and the fault of the first of them that is refused, if there is one
 abbrev pub completed_as : Program → Option AutoFault → Completed
 completed_as p refused = record { program = p; refused = refused }
 
--- none is refused
+-- the bytes are a file of these tokens with this program, and no layout that is left to the compiler is refused
 abbrev pub IsNamed : List ℕ → List Placed → Program → Type 0
 IsNamed bytes placed p = IsNamedWith bytes placed (completed_as p None)
 
--- whatever is refused
+-- the bytes are a file of these tokens with this program, whether a layout left to the compiler is refused or not
 abbrev pub IsProgramOf : List ℕ → List Placed → Program → Type 0
 IsProgramOf bytes placed p = (refused : Option AutoFault) × IsNamedWith bytes placed (completed_as p refused)
 
--- and it is typed, each of its matches is exhaustive, and its layouts agree
+-- the bytes are a file with this program, no derived layout is refused, the program is typed, each of its matches is
+-- exhaustive, and its layouts agree
 pub record IsAccepted (bytes : List ℕ) (p : Program) : Type 0 where
   pub placed : List Placed
   pub named : IsNamed bytes placed p
@@ -73,7 +75,7 @@ pub record IsAccepted (bytes : List ℕ) (p : Program) : Type 0 where
 
 -- Refused files -----------------------------------------------------------------------------
 
--- why the bytes are no tokens: a bad byte, or a number that is too wide
+-- why the bytes are no tokens: a bad byte, or a number that is too wide; never want of memory
 abbrev pub IsUncut : List ℕ → LexFault → Type 0
 IsUncut bytes (lexing.BadByte at) = HasBadByte bytes at
 IsUncut bytes (lexing.NumberTooWide at) = HasWideNumber bytes at
@@ -85,7 +87,7 @@ lex_due (lexing.BadByte at) = refusal status.Syntax (at_byte (codes "bad byte") 
 lex_due (lexing.NumberTooWide at) = refusal status.Syntax (at_byte (codes "number over 64 bits") at)
 lex_due lexing.Memory = refusal status.NoMemory no_memory_line
 
--- of tokens in a file of so many bytes
+-- what is due where the tokens are no file within its limits, in a file of so many bytes
 abbrev pub read_due : List Placed → ℕ → ReadFault → Due
 read_due placed size (reading.TooDeep t) =
     refusal status.Limit (at_byte (codes "nesting over 128") (byte_of placed size t))
@@ -93,14 +95,15 @@ read_due placed size (reading.Syntax t) = refusal status.Syntax (at_byte (codes 
 read_due placed size (reading.Limit q count) = refusal status.Limit (limit_line q count)
 read_due placed size reading.Memory = refusal status.NoMemory no_memory_line
 
--- what is due where the names fail, of tokens in a file of so many bytes
+-- what is due where a name is defined twice or stands for nothing, or there is no `main`, in a file of these tokens
+-- and so many bytes
 abbrev pub name_due : List Placed → ℕ → NameFault → Due
 name_due placed size (names.Twice name t) = refusal status.Meaning (twice_line name (byte_of placed size t))
 name_due placed size (names.Unknown name t) = refusal status.Meaning (unknown_line name (byte_of placed size t))
 name_due placed size names.NoMain = refusal status.Meaning no_main_line
 name_due placed size names.Memory = refusal status.NoMemory no_memory_line
 
--- what is due where the program is not typed
+-- what is due where the program is not typed, with its types, the tokens of its file, and the count of its bytes
 abbrev pub type_due : List DataDecl → List Placed → ℕ → TypeFault → Due
 type_due ts placed size (types.Empty t) = refusal status.Meaning (empty_line ts t)
 type_due ts placed size (types.Mismatch t wanted found) =
@@ -111,7 +114,7 @@ type_due ts placed size (types.VariableTwice t) =
     refusal status.Meaning (at_byte (codes "variable twice") (byte_of placed size t))
 type_due ts placed size types.Memory = refusal status.NoMemory no_memory_line
 
--- what is due to the match at a token that misses a pattern's values
+-- what is due where the match at token `t` misses the values of pattern `q`, in a file of so many bytes
 abbrev pub match_due : List DataDecl → List Placed → ℕ → ℕ → Pat → Due
 match_due ts placed size t q = refusal status.Meaning (missing_line ts q (byte_of placed size t))
 

@@ -15,7 +15,8 @@ use Rattle.rb_values.specs.declared.fault.ValueFault.TheVariants as kind
 
 -- Values ------------------------------------------------------------------------------------
 
--- each word spells a value of its type, within the limit
+-- there are as many words and values as types, and each word spells its value, which is of its type and within the
+-- limit of nodes
 abbrev pub AreRead : List DataDecl → List Ty → List (List ℕ) → List Value → Type 0
 AreRead types [] [] [] = Unit {0}
 AreRead types (t ∷ ts) (w ∷ ws) (v ∷ vs) = IsRead types t node_limit w (Ok v) × AreRead types ts ws vs
@@ -24,20 +25,20 @@ AreRead types [] (w ∷ ws) vs = ⊥
 AreRead types (t ∷ ts) [] vs = ⊥
 AreRead types (t ∷ ts) (w ∷ ws) [] = ⊥
 
--- the words spell arguments of `main`
+-- the words spell these arguments of `main`, one for each of its parameters
 abbrev pub Spell : Program → List (List ℕ) → List Value → Type 0
 Spell p words args = AreRead p.types (param_types p.funs p.main) words args
 
 -- Refusals ----------------------------------------------------------------------------------
 
--- a word is no value of its type within the limit
+-- the word of this number, counted from 1, is no value of its type within the limit of nodes, and this is due to it
 pub record IsRefusedAt (types : List DataDecl) (number : ℕ) (ty : Ty) (word : List ℕ) (due : Due) : Type 0 where
   pub fault : ValueFault
   pub known : fault ≢ kind.Memory
   pub refused : IsRead types ty node_limit word (Err fault)
   pub shown : due ≡ refusal Argument (argument_line types number ty fault)
 
--- the first word that spells no value of its type
+-- this is due to the first word that spells no value of its type, where all words before it spell theirs
 pub record IsFirstRefused (types : List DataDecl) (tys : List Ty) (words : List (List ℕ)) (due : Due) : Type 0 where
   pub place : ℕ
   pub ty : Ty

@@ -23,6 +23,6 @@ HaveOneTree = (ts : List Token) (file other : FileTree) → IsAnswer ts (Ok file
 abbrev pub HaveOneProgram : Type 0
 HaveOneProgram = (bytes : List ℕ) (p q : Program) → IsAccepted bytes p → IsAccepted bytes q → p ≡ q
 
--- and is not refused where it has one
+-- a text that has an accepted program is not refused
 abbrev pub HaveNoRefusal : Type 0
 HaveNoRefusal = (bytes : List ℕ) (p : Program) (due : Due) → IsAccepted bytes p → IsRefused bytes due → ⊥

@@ -15,11 +15,11 @@ use Rattle.rb_accept.specs.Reading.{Reads, ReadsOne, file_limit, image_limit, wh
 use Rattle.rb_accept.specs.View.{IsAcceptance}
 use Rattle.rb_accept.specs.declared.opening.Opened.{Opened}
 
--- what follows an accepted program and an image
+-- what may follow an accepted program and an image: a demand on what is due then
 abbrev pub Following : Type 1
 Following = Program → Image → Due → Type 0
 
--- the text is none of an image whose blocks are in their places: why
+-- the text is none of an image whose blocks are in their places, and this is due to it by its fault
 pub record IsGarbled (text : List ℕ) (due : Due) : Type 0 where
   pub fault : ImageFault
   pub known : fault ≢ Memory
@@ -31,7 +31,7 @@ pub data Spells (text : List ℕ) (Then : Image → Due → Type 0) (due : Due) 
   garbled : IsGarbled text due → Spells text Then due
   spelled : (image : Image) → IsTextOf text image → AreInPlace image.blocks → Then image due → Spells text Then due
 
--- where IMAGE is read, and nothing after it
+-- what is due where IMAGE is read with its limit, and nothing after it; `Then` follows where its text spells an image
 abbrev pub ReadsImage : List ℕ → (Image → Due → Type 0) → List Reading → Due → Type 0
 ReadsImage image Then readings due = ReadsOne image image_limit (λ text d. Spells text Then d) readings due
 
@@ -50,7 +50,8 @@ Opens file image Then readings due =
 
 -- Read images -------------------------------------------------------------------------------
 
--- the image was read, and nothing else
+-- the file of this name was read within its limit, and nothing else, and its text is that of image `i`, whose blocks
+-- are in their places
 pub record IsReadAs (image : List ℕ) (readings : List Reading) (i : Image) : Type 0 where
   pub text : List ℕ
   pub is : readings ≡ whole image text ∷ []
@@ -58,7 +59,7 @@ pub record IsReadAs (image : List ℕ) (readings : List Reading) (i : Image) : T
   pub spelled : IsTextOf text i
   pub placed : AreInPlace i.blocks
 
--- a file was read and accepted, and then an image was read
+-- a file was read and accepted, and then an image was read, and nothing after it
 pub record IsOpened (file image : List ℕ) (readings : List Reading) (o : Opened) : Type 0 where
   pub bytes : List ℕ
   pub later : List Reading

@@ -8,7 +8,7 @@ use Rattle.rb_lines.specs.Answer.{Due, refusal}
 use Rattle.rb_lines.specs.Lines.{read_fault_line, file_bytes_line}
 use Rattle.rb_lines.specs.declared.status.Status.TheVariants.{Unread, Limit}
 
--- the bytes that are held under a name, or nothing
+-- what is held under names: for each name its bytes, or nothing
 abbrev pub Holds : Type 0
 Holds = List ℕ → Option (List ℕ)
 
@@ -24,7 +24,7 @@ code_limit = 16777216
 abbrev pub image_limit : ℕ
 image_limit = 16777216
 
--- a file that was read to its end
+-- the reading of a file that was read to its end
 abbrev pub whole : List ℕ → List ℕ → Reading
 whole name bytes = record { name = name; bytes = bytes; course = ended }
 
@@ -38,8 +38,8 @@ pub data IsUnread (name : List ℕ) (limit : ℕ) (readings : List Reading) (due
   not_read : (bytes : List ℕ) → readings ≡ record { name = name; bytes = bytes; course = failed } ∷ []
       → due ≡ refusal Unread read_fault_line → IsUnread name limit readings due
 
--- What is due where a file is read with its limit, and what follows where it is within the limit, over what
--- is read after it.
+-- What is due where a file is read with its limit: it was not read to its end; or it is within the limit, and
+-- `Then` follows, over its bytes and what is read after it.
 pub data Reads (name : List ℕ) (limit : ℕ) (Then : List ℕ → List Reading → Due → Type 0) (readings : List Reading)
     (due : Due) : Type 0 where
   unread : IsUnread name limit readings due → Reads name limit Then readings due
@@ -47,7 +47,7 @@ pub data Reads (name : List ℕ) (limit : ℕ) (Then : List ℕ → List Reading
       → Then bytes later due
       → Reads name limit Then readings due
 
--- Nothing is read after it.
+-- what is due where a file is read with its limit, and nothing is read after it; `Then` follows over its bytes
 abbrev pub ReadsOne : List ℕ → ℕ → (List ℕ → Due → Type 0) → List Reading → Due → Type 0
 ReadsOne name limit Then readings due = Reads name limit (λ bytes later d. (later ≡ []) × Then bytes d) readings due
 
@@ -63,7 +63,8 @@ pub record Source : Type 0 where
   pub before : ℕ
   pub now : ℕ
 
--- that of a source by what the trait says of it
+-- a source `old` before a call and `new` after it, by what the trait says of it: whether it tells what it holds,
+-- that, what it handed out, and its count of faults
 abbrev pub source_of : {S : Type 0} → (S → Bool) → (S → Holds) → (S → List Reading) → (S → ℕ) → S → S → Source
 source_of tells held readings faults old new = record {
   tells = tells old;
@@ -74,7 +75,7 @@ source_of tells held readings faults old new = record {
   now = faults new;
 }
 
--- what it handed out in the call
+-- what the source handed out in the call, without what it had handed out before
 abbrev pub handed_out : Source → List Reading
 handed_out source = drop (length source.old) source.new
 

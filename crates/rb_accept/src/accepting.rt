@@ -37,13 +37,14 @@ use std::alloc::Global;
 /// A file that is accepted.
 #[derive(Drop)]
 pub struct Accepted {
-    /// Its tokens.
+    /// The tokens of the file.
     pub placed: Vec<Placed>,
-    /// Its program with the layouts that are derived, and with the flat forms of all its layouts.
+    /// The program of the file with the layouts that are derived, and with the flat forms of all
+    /// its layouts.
     pub agreed: Agreed,
 }
 
-// The tokens of the bytes.
+// The tokens of the bytes, or the answer to a bad byte or a number that is too wide.
 fn cut(alloc: Global, bytes: &[u8]) -> Result<Vec<Placed>, Refusal>
     ensures tokens { IfOk result (λ placed. HasTokens bytes.now placed.items) }
     ensures refused { IfErr result (IsRefusal (IsRefused bytes.now)) }
@@ -57,7 +58,7 @@ fn cut(alloc: Global, bytes: &[u8]) -> Result<Vec<Placed>, Refusal>
     }
 }
 
-// The tree of the tokens.
+// The tree of the tokens, or the answer where they are no file within its limits.
 fn read(alloc: Global, bytes: &[u8], placed: &[Placed]) -> Result<FileTree, Refusal>
     requires few { length bytes.now ≤ file_limit }
     requires tokens { HasTokens bytes.now placed.now }
@@ -73,7 +74,8 @@ fn read(alloc: Global, bytes: &[u8], placed: &[Placed]) -> Result<FileTree, Refu
     }
 }
 
-// The program of the tree, with the layouts that are written.
+// The program of the tree, with the layouts that are written, or the answer to a name that is
+// defined twice or stands for nothing, or to a file without `main`.
 fn name(alloc: Global, bytes: &[u8], placed: &[Placed], file: &FileTree) -> Result<Program, Refusal>
     requires few { length bytes.now ≤ file_limit }
     requires read { IsRead bytes.now placed.now file.now }
@@ -90,7 +92,8 @@ fn name(alloc: Global, bytes: &[u8], placed: &[Placed], file: &FileTree) -> Resu
     }
 }
 
-// The program with the layouts that are derived, and the first of them that is refused.
+// The program with the layouts that are derived, and the first of them that is refused, if one is.
+// That one is answered only after types and matches were checked.
 fn add_layouts(
     alloc: Global,
     bytes: &[u8],
@@ -109,7 +112,7 @@ fn add_layouts(
     Ok(completed)
 }
 
-// The program with its types.
+// The program, now known to be typed, or the answer to its first fault of types.
 fn ascribe(
     alloc: Global,
     bytes: &[u8],
@@ -132,7 +135,8 @@ fn ascribe(
     }
 }
 
-// The program with the notes on its clauses.
+// The program with the notes on its clauses that no value reaches, or the answer to a match that is
+// not exhaustive.
 fn annotate(
     alloc: Global,
     bytes: &[u8],
@@ -156,7 +160,8 @@ fn annotate(
     }
 }
 
-// Whether each layout that is left to the compiler is derived.
+// Goes on where each layout that is left to the compiler was derived; else answers the first that
+// is refused.
 fn have_derived(
     alloc: Global,
     bytes: &[u8],
@@ -180,7 +185,8 @@ fn have_derived(
     }
 }
 
-// The program with the flat forms of its layouts, which agree with its types.
+// The program with the flat forms of its layouts, which agree with its types, or the answer to the
+// first place where they break a rule.
 fn lay_out(
     alloc: Global,
     bytes: &[u8],

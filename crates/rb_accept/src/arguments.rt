@@ -44,7 +44,8 @@ fn refuse_argument(
     })
 }
 
-// The value of this type that the argument of this number spells.
+// The value of this type that the argument of this number spells, or the answer where it spells
+// none.
 fn read_argument(
     alloc: Global,
     types: &[DataDecl],
@@ -64,7 +65,8 @@ fn read_argument(
     }
 }
 
-// The values that as many words as parameters spell.
+// The values that the words spell, of which there are as many as parameters, or the answer to the
+// first that spells none.
 fn read_each(
     alloc: Global,
     types: &[DataDecl],

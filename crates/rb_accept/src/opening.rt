@@ -28,7 +28,8 @@ pub struct Opened {
     pub image: Image,
 }
 
-// The status of an image's fault.
+// The status of an image's fault: too many nodes are a limit of what is shown, all else but want of
+// memory a fault of the image.
 fn status_of(fault: ImageFault) -> Status
     ensures { result ≡ image_status fault }
 {
@@ -63,7 +64,8 @@ pub fn refuse_image(alloc: Global, fault: ImageFault) -> Result<Refused, AllocEr
     })
 }
 
-// The image of a text.
+// The image that a text spells, with its blocks in their places, or the answer where it spells
+// none.
 fn read_text(alloc: Global, text: &[u8]) -> Result<Image, Refusal>
     ensures spelled { IfOk result (IsTextOf text.now) }
     ensures placed { IfOk result (λ i. AreInPlace i.blocks) }
@@ -78,7 +80,8 @@ fn read_text(alloc: Global, text: &[u8]) -> Result<Image, Refusal>
     }
 }
 
-// The image of that name.
+// The image in the file of that name, which is read within its limit, or the answer where it is not
+// read or is none.
 fn read_image_file<S: Source>(alloc: Global, src: &mut S, image: &[u8]) -> Result<Image, Refusal>
     ensures read { ReadsInTurn ((image.now, image_limit) ∷ [])
         (source_of S.tells S.held S.readings S.faults src.old src.new) }

@@ -28,7 +28,7 @@ pub const CODE_LIMIT: usize = 16_777_216;
 /// The most bytes that an image's text may have.
 pub const IMAGE_LIMIT: usize = 16_777_216;
 
-// The answer where a source gave no file.
+// The answer where a source gave no file, since its opening or a read of it failed.
 fn refuse_reading(alloc: Global, fault: ReadFault) -> Result<Refused, AllocError>
     ensures failed { IfOk result (λ c. fault ≡ Failed) }
     ensures due { IfOk result (λ c. due_of c ≡ refusal Unread read_fault_line) }
@@ -45,7 +45,8 @@ fn refuse_reading(alloc: Global, fault: ReadFault) -> Result<Refused, AllocError
     }
 }
 
-// The answer to a file over the limit.
+// The answer to a file over the limit. Only one byte over it is read, so the count in the line is
+// one more than the limit.
 fn refuse_long(alloc: Global, limit: usize) -> Result<Refused, AllocError>
     requires { limit < 2 ^ 32 }
     ensures { IfOk result (λ c. due_of c ≡ refusal Limit (file_bytes_line (limit + 1) limit)) }

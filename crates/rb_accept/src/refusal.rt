@@ -32,7 +32,7 @@ use rb_syntax::lex::LexFault;
 use rb_syntax::token::Placed;
 use std::alloc::{AllocError, Global};
 
-/// The answer to bytes without tokens.
+/// The answer to bytes that are no tokens: a bad byte, or a number that is too wide.
 ///
 /// # Errors
 ///
@@ -60,7 +60,7 @@ pub fn refuse_bytes(alloc: Global, fault: LexFault) -> Result<Refused, AllocErro
     }
 }
 
-/// The answer to tokens that are no file.
+/// The answer to tokens that are no file within its limits.
 ///
 /// # Errors
 ///

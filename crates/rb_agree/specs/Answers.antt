@@ -1,4 +1,4 @@
--- What checking places in their order answers.
+-- What checking places in their order answers. A place is a type, a leaf or an item at which a rule is checked.
 use Rattle.std.specs.Prelude.{List, Option, Some, None}
 use Rattle.rb_core.specs.declared.program.Program.{Program}
 use Rattle.rb_layout.specs.declared.layout.Layout.{Layout}
@@ -8,12 +8,14 @@ use Rattle.rb_layout.specs.Spots.{Spot, Checked, IsRefusal, IsRefusedBy}
 use Rattle.rb_agree.specs.declared.fault.AgreeFault.{AgreeFault}
 use Rattle.rb_agree.specs.declared.fault.AgreeFault.TheVariants.{Rule, Memory}
 
--- no refusal where the rule holds at all of the places, and else that of the first at which it fails
+-- what is found at these places in their order: nothing where the rules hold at all of them, and else the refusal of
+-- the first that fails
 abbrev pub Finds : Program → List Layout → List Spot → Option Refused → Type 0
 Finds p layouts spots None = Checked p layouts spots None
 Finds p layouts spots (Some r) = (s : Spot) × Checked p layouts spots (Some (s, r.why)) × IsRefusal r s r.why
 
--- a program's layouts are refused at the first place that fails; want of memory says nothing of them
+-- a fault that may be answered for a program: the refusal at the first place (by rule, type, leaf and item) where its
+-- layouts fail a rule of agreement; or want of memory, which says nothing of them
 abbrev pub IsAgreeFault : Program → AgreeFault → Type 0
 IsAgreeFault p (Rule refused) = IsRefusedBy p (flat_layouts p) refused
 IsAgreeFault p Memory = Unit {0}

@@ -1,4 +1,5 @@
--- The graphs of types, and when a graph shows a relation of numbers.
+-- The graphs of types, and when a graph shows a relation of numbers. A graph lists for each number, that of a type,
+-- those to which it leads.
 use Rattle.std.specs.Prelude.{◌↔◌, ℕ, List, [], ◌∷◌, map, Option, Some, None}
 use Rattle.std.specs.List.{flat_map}
 use Rattle.rb_core.specs.declared.types.ConRef.{ConRef}
@@ -21,11 +22,11 @@ use Rattle.rb_layout.specs.Graphs.{Leads}
 abbrev pub IsGraphOf : (ℕ → ℕ → Type 0) → List (List ℕ) → Type 0
 IsGraphOf R graph = (t s : ℕ) → Leads graph t s ↔ R t s
 
--- the types of constructors
+-- the types of constructors, in order
 abbrev pub types_of_cons : List ConRef → List ℕ
 types_of_cons cs = map (λ (c : ConRef). c.ty) cs
 
--- the types of the constructors of a pattern, and of those below its root
+-- the types of all constructors in a pattern, its root's and those below it
 abbrev pub pattern_types : Pat → List ℕ
 pattern_types p = types_of_cons (cons_of p)
 
@@ -33,7 +34,7 @@ pattern_types p = types_of_cons (cons_of p)
 abbrev pub below_types : Pat → List ℕ
 below_types p = types_of_cons (cons_below p)
 
--- the types that a leaf flattens, as often as it does
+-- the types that a leaf flattens, those of the constructors below its provenance's root, once for each
 abbrev pub leaf_types : Leaf → List ℕ
 leaf_types leaf = below_types leaf.prov
 
@@ -41,20 +42,20 @@ leaf_types leaf = below_types leaf.prov
 abbrev pub flat_row : Layout → List ℕ
 flat_row layout = flat_map leaf_types layout.leaves
 
--- the type of the field of which a part has a word
+-- the data type that the type of a field is, as a list; empty where there is no such field, or it is an integer
 abbrev pub held_type : Option Ty → List ℕ
 held_type None = []
 held_type (Some (Int bits)) = []
 held_type (Some (Named s)) = s ∷ []
 
--- the type of the field of which such a part has a word, if it is a data type
+-- the data type of the field of which a part of this kind has a word, as a list; empty where it has none
 abbrev pub kind_holds : List DataDecl → Pat → Kind → List ℕ
 kind_holds types prov (Const c) = []
 kind_holds types prov (Bits path a) = []
 kind_holds types prov (Word path j) = held_type (type_at (open_positions types prov) path)
 kind_holds types prov (Pointer align b) = []
 
--- the same of a part
+-- the data type of the field of which a part has a word, as a list; empty where it has none
 abbrev pub part_holds : List DataDecl → Pat → Part → List ℕ
 part_holds types prov p = kind_holds types prov p.kind
 
@@ -66,6 +67,6 @@ word_holds types prov f = flat_map (part_holds types prov) f.parts
 abbrev pub leaf_holds : List DataDecl → Leaf → List ℕ
 leaf_holds types leaf = flat_map (word_holds types leaf.prov) leaf.root
 
--- the same of all leaves of a layout, leaf by leaf
+-- the data types of the fields whose words stand in the root words of a layout's leaves, leaf by leaf
 abbrev pub held_row : List DataDecl → Layout → List ℕ
 held_row types layout = flat_map (leaf_holds types) layout.leaves

@@ -40,7 +40,7 @@ pub record AreMarks (layouts : List Layout) (marks : List Bool) : Type 0 where
   pub each : (t : ℕ) (layout : Layout) (mark : Bool) → slice_get layouts t ≡ Some layout → slice_get marks t ≡ Some mark
       → MatchBool mark (LeavesPoint layout.leaves) (LeavesPoint layout.leaves → ⊥)
 
--- the mark of a constructor's type is off
+-- the mark of a constructor's type is off or missing
 abbrev pub IsUnmarked : List Bool → ConRef → Type 0
 IsUnmarked marks c = mark_of marks c.ty ≡ false
 

@@ -24,7 +24,8 @@ use rb_layout::flatten;
 use rb_layout::layout::Layout;
 use std::alloc::{AllocError, Global};
 
-// How the layouts of a program are related.
+// How the layouts of a program are related: their written items, pointers and graphs, found once
+// for all rules.
 fn related(alloc: Global, program: &Program, layouts: &[Layout]) -> Result<Related, AllocError>
     requires typed { IsTyped program.now }
     requires count { length layouts.now ≡ length program.now.types }

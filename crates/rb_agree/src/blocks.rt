@@ -28,7 +28,8 @@ fn is_block_width(width: u64) -> bool
     width == 8 || width == 16 || width == 32 || width == 64
 }
 
-// How many bits an alignment saves.
+// How many bits an alignment saves, `k` where it is 2^k; None where it is no power of two from 1 to
+// 64.
 fn bits_saved(align: u64) -> Option<u64>
     ensures { MatchOption result (IsAlignment align → ⊥) (λ k. (k ≤ 6) × (align ≡ 2 ^ k)) }
 {
@@ -145,7 +146,7 @@ fn each_block_fault(blocks: &[Block]) -> Option<Why>
     None
 }
 
-// The number of the block to which a part points.
+// The number of the block to which a part points; None where it is no pointer.
 fn pointed_block(part: &Part) -> Option<u32>
     ensures { result ≡ pointed_block part.now.kind }
 {

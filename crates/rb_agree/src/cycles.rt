@@ -20,7 +20,8 @@ pub struct Way {
     pub way: Seq<u32>,
 }
 
-// Marks and adds a number that was not found, with the way to it.
+// Marks and adds number `next`, whose way is `way` and then itself, if it was not found before;
+// nothing changes where it has no mark.
 fn add(
     alloc: Global,
     way: &Seq<u32>,
@@ -48,7 +49,8 @@ fn add(
     Ok(())
 }
 
-// Adds what a number leads to, until that is the first number. Tells whether it is.
+// Adds the numbers to which these edges lead, each at the end of `way`, until one is `start`, from
+// which the search began. Tells whether one is.
 fn follow(
     alloc: Global,
     edges: &[u32],

@@ -17,7 +17,7 @@ use rb_layout::layout::{FlatWord, Kind, Layout, Leaf, Part};
 use rb_layout::positions::type_at;
 use std::alloc::{AllocError, Global};
 
-// Adds the types of a pattern's constructors.
+// Adds the types of all constructors in a pattern, its root's and those below it.
 #[cycle(listing)]
 fn add_types(pat: &Pat, row: &mut Seq<u32>) -> Result<(), AllocError>
     ensures { OnOk result (row.new ≡ row.old ++ pattern_types pat.now) }
@@ -67,7 +67,7 @@ fn flat_row(alloc: Global, leaves: &[Leaf]) -> Result<Seq<u32>, AllocError>
     Ok(row)
 }
 
-/// For each type those that its layout flattens.
+/// For each type those that its layout flattens, as a graph: a cycle in it is a fault.
 ///
 /// # Errors
 ///
@@ -82,7 +82,7 @@ pub fn flattened(alloc: Global, layouts: &[Layout]) -> Result<Seq<Seq<u32>>, All
     Ok(graph)
 }
 
-// Adds the type of the field of which a part has a word.
+// Adds the data type of the field of which a part has a word, if it has one.
 fn add_part(
     types: &[DataDecl],
     prov: &Pat,
@@ -144,7 +144,8 @@ fn held_row(alloc: Global, types: &[DataDecl], leaves: &[Leaf]) -> Result<Seq<u3
     Ok(row)
 }
 
-/// For each type those of whose fields its root words have words.
+/// For each type the data types of the fields of which its root words have words, as a graph: a
+/// cycle in it is a fault.
 ///
 /// # Errors
 ///

@@ -35,7 +35,7 @@ fn has_unit(run: &Run, unit: u64) -> bool
     run.first <= unit && unit - run.first < run.count
 }
 
-// How many runs have a unit.
+// How many of these runs have the unit with this number.
 fn times(runs: &[Run], unit: u64) -> usize
     ensures { result ≡ times runs.now unit }
 {
@@ -67,7 +67,8 @@ fn unit_fault(
     Ok(Some(Why::HeldTwice(path.copy(alloc)?, unit)))
 }
 
-// How many units a position of this type has.
+// How many units a position of this type has: the bits of an integer, or the words of a data type's
+// shape.
 fn units_of(program: &Program, ty: Ty) -> u64
     ensures { result ≡ units_of program.now ty }
 {

@@ -96,7 +96,7 @@ fn add_item(alloc: Global, item: &LayItem, out: &mut Seq<Item>) -> Result<(), Al
     }
 }
 
-// Adds the items behind pointers.
+// Adds the items behind those of these parts that are pointers, from left to right.
 #[cycle(writing)]
 fn add_inside(alloc: Global, parts: &[PartDecl], out: &mut Seq<Item>) -> Result<(), AllocError>
     ensures { OnOk result (shown_items out.new ≡ shown_items out.old ++ flat_map inside_of parts.now) }

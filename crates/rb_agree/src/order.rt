@@ -23,7 +23,7 @@ pub struct Visit {
     pub edge: usize,
 }
 
-// Goes on to a number, if the walk was not there.
+// Marks a number and puts it on top of the walk, if the walk was not there yet.
 fn enter(number: u32, marks: &mut Seq<bool>, walk: &mut Seq<Visit>) -> Result<(), AllocError> {
     let at = number as usize;
     if let Some(false) = marks.get(at) {
@@ -33,7 +33,8 @@ fn enter(number: u32, marks: &mut Seq<bool>, walk: &mut Seq<Visit>) -> Result<()
     Ok(())
 }
 
-// Walks from a number on, and adds each that is done.
+// Walks from a number on, and adds each number when all its edges have been followed; nothing is
+// added where the walk was at the first number before.
 fn walk_from(
     alloc: Global,
     graph: &[Seq<u32>],
@@ -72,7 +73,7 @@ fn done_in(alloc: Global, graph: &[Seq<u32>]) -> Result<Seq<u32>, AllocError> {
     Ok(done)
 }
 
-// When each number of a graph is done: the first at 0.
+// The rank of each number of a graph: how many numbers are done before it.
 fn ranks_in(alloc: Global, graph: &[Seq<u32>]) -> Result<Seq<usize>, AllocError> {
     let done = done_in(alloc, graph)?;
     let mut ranks = Seq::new(alloc);

@@ -165,7 +165,7 @@ fn part_fault(
     fit_fault(alloc, types, decls, prov, i, part)
 }
 
-// How some part of a word fails by itself.
+// How some part of item `i`, a word of so many bits, fails by itself.
 fn each_fault(
     alloc: Global,
     types: &[DataDecl],

@@ -65,7 +65,8 @@ fn joined(one: Span, other: Span) -> Span
     Span { first, end }
 }
 
-// Puts a leaf's mark on.
+// Puts the mark of leaf `n` on, which says that the leaf may fail a test; nothing changes where it
+// has none.
 fn mark(marks: &mut Seq<bool>, n: usize)
     ensures keeps { Keeps marks.old marks.new }
     ensures on { IsOff marks.new n → ⊥ }
@@ -153,7 +154,7 @@ fn ask(
     Ok(prior)
 }
 
-// Marks those of these leaves that fail what a split asks.
+// Marks those leaves of a span that fail what a split asks of them.
 fn ask_all(
     alloc: Global,
     types: &[DataDecl],
@@ -174,7 +175,8 @@ fn ask_all(
     Ok(())
 }
 
-// Marks the leaves of a tree that fail a test in it, and answers which leaves stand there.
+// Marks the leaves of a tree that fail a test in it on a way to them, and answers a span in which
+// all its leaves stand.
 #[cycle(walking)]
 fn walk_tree(
     alloc: Global,
@@ -216,7 +218,8 @@ fn walk_tree(
     }
 }
 
-// Marks the leaves below arms that fail a test there, and answers which leaves stand there.
+// Marks the leaves below arms that fail an arm's literal or a test below it, and answers a span in
+// which all leaves below the arms stand.
 #[cycle(walking)]
 fn walk_arms(
     alloc: Global,

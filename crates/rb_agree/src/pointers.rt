@@ -98,7 +98,7 @@ pub fn pointing(alloc: Global, layouts: &[Layout]) -> Result<Seq<bool>, AllocErr
     Ok(marks)
 }
 
-// The mark of a type; off where it has none.
+// The mark of a type, whether a leaf of it has a pointer part; off where the type has no mark.
 fn is_marked(marks: &[bool], ty: u32) -> bool
     ensures { result ≡ mark_of marks.now ty }
 {

@@ -105,7 +105,7 @@ fn rule_number(rule: Rule) -> u8
     }
 }
 
-// How the first item that fails does.
+// How the first item of a leaf that fails the rule on parts does; None where all items keep it.
 fn items_fault(
     alloc: Global,
     program: &Program,
@@ -246,7 +246,8 @@ fn flat_cycle(
     flattening_fault(alloc, layouts, related.flattened.as_slice(), ty)
 }
 
-// A cycle of holding through a type, likewise.
+// A cycle of types that hold each other in root words, through a type: it is searched for where it
+// is not known that there is none.
 fn hold_cycle(
     alloc: Global,
     program: &Program,
@@ -271,7 +272,8 @@ fn hold_cycle(
     )
 }
 
-// How a type fails a rule at no leaf.
+// How a type fails a rule at the place that is the type itself; None for a rule that has places at
+// leaves alone.
 fn type_fault(alloc: Global, ruled: &Ruled) -> Result<Option<Why>, AllocError>
     requires ruled { IsRuled ruled.now }
     ensures { IfOk result (FindsAtType ruled.now) }

@@ -31,7 +31,7 @@ pub struct Run {
     pub count: u64,
 }
 
-// Adds a run to those of position `n`.
+// Adds a run at the end of those of position `n`.
 fn add_run(alloc: Global, n: usize, run: Run, rows: &mut Seq<Seq<Run>>) -> Result<(), AllocError>
     requires { n < length rows.old }
     ensures { OnOk result (rows.new ≡ slice_set rows.old n (row rows.old n ++ run ∷ [])) }
@@ -74,7 +74,7 @@ fn add_at(
     Ok(())
 }
 
-// Adds what a part holds.
+// Adds what a part holds to the runs of the position at its path, if it is open.
 fn add_part(
     alloc: Global,
     places: &[OpenPosition],
@@ -105,7 +105,7 @@ fn add_part(
     }
 }
 
-// Adds what the parts of a word hold.
+// Adds what the parts of a word hold, each to the runs of its position.
 fn add_parts(
     alloc: Global,
     places: &[OpenPosition],
@@ -122,7 +122,7 @@ fn add_parts(
     Ok(())
 }
 
-// Adds what the parts of these words hold.
+// Adds what the parts of these words hold, each to the runs of its position.
 fn add_words(
     alloc: Global,
     places: &[OpenPosition],
@@ -139,7 +139,7 @@ fn add_words(
     Ok(())
 }
 
-// Adds what the parts in these blocks hold.
+// Adds what the parts in these blocks hold, each to the runs of its position.
 fn add_blocks(
     alloc: Global,
     places: &[OpenPosition],
@@ -156,7 +156,7 @@ fn add_blocks(
     Ok(())
 }
 
-// No runs of so many positions.
+// An empty list of runs for each of so many positions, to begin with.
 fn no_runs(alloc: Global, count: usize) -> Result<Seq<Seq<Run>>, AllocError>
     ensures { IfOk result (AreNone count) }
 {

@@ -21,7 +21,7 @@ fn is_shape_width(width: u64) -> bool
     1 <= width && width <= 64
 }
 
-// The first word of a shape whose width is none.
+// The first word of a layout's shape that has no bits or over 64, with its number and width.
 fn shape_fault(decl: &LayoutDecl) -> Result<Option<Why>, AllocError>
     ensures { IfOk result (λ found. MatchOption found (HasShape (Some decl.now)) (FailsShape (Some decl.now))) }
 {

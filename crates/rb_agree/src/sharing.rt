@@ -81,7 +81,7 @@ fn heads_in(alloc: Global, path: &[u32], leaves: &[Leaf]) -> Result<Seq<Option<u
     Ok(heads)
 }
 
-// Adds the paths of a pattern's constructors.
+// Adds the path of each constructor in a pattern that stands at `path`.
 #[cycle(finding)]
 fn add_paths(
     alloc: Global,
@@ -116,7 +116,7 @@ fn add_paths_below(
     Ok(())
 }
 
-// How many constructors stand there.
+// How many different constructors stand among these, those of a type's leaves at one path.
 fn distinct(alloc: Global, heads: &[Option<u32>]) -> Result<usize, AllocError> {
     let mut seen = no_marks(alloc, CONSTRUCTORS)?;
     for head in heads {
@@ -136,7 +136,8 @@ fn distinct(alloc: Global, heads: &[Option<u32>]) -> Result<usize, AllocError> {
     Ok(count)
 }
 
-// The constructors of the leaves at the place of the first leaf's where most of them stand.
+// The path of a constructor in the first leaf's provenance at which the leaves have most different
+// constructors, so that it tells most of them apart.
 fn telling(alloc: Global, leaves: &[Leaf]) -> Result<Seq<u32>, AllocError> {
     let mut best = Seq::new(alloc);
     let Some(first) = leaves.get(0) else {
@@ -218,7 +219,8 @@ fn shares_with(
     Ok(false)
 }
 
-// The leaves that leaf `n` is to be compared with, where it has a constructor at the chosen place.
+// The leaves that leaf `n` is to be compared with, where it has a constructor at the chosen place;
+// None where it has none, or that has no group, so that it is compared with all later ones.
 fn group_of<'a>(heads: &[Option<u32>], groups: &'a [Seq<u32>], n: usize) -> Option<&'a [u32]>
     requires { AreGroups heads.now groups.now }
     ensures { MatchOption result (Unit {0}) (λ members. IsGroupOf heads.now n members.now) }

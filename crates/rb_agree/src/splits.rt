@@ -24,7 +24,7 @@ pub(crate) fn length_of(loc: &Loc) -> u64
     l
 }
 
-// The literals of arms.
+// The literals of arms, in their order.
 fn literals_of(alloc: Global, arms: &[FlatArm]) -> Result<Seq<u64>, AllocError>
     ensures { IfOk result (λ literals. literals ≡ literals_in arms.now) }
 {
@@ -35,7 +35,7 @@ fn literals_of(alloc: Global, arms: &[FlatArm]) -> Result<Seq<u64>, AllocError>
     Ok(literals)
 }
 
-// A literal of more than so many bits.
+// The first literal that has more than so many bits, if there is one.
 fn wide_literal(literals: &[u64], bits: u64) -> Option<u64>
     ensures { MatchOption result (AreFit bits literals.now) (λ c. IsAmong literals.now c × (c < 2 ^ bits → ⊥)) }
 {
@@ -47,7 +47,7 @@ fn wide_literal(literals: &[u64], bits: u64) -> Option<u64>
     None
 }
 
-// A literal that stands twice.
+// The first literal that stands among those before it, too, if there is one.
 fn twice(literals: &[u64]) -> Option<u64>
     ensures { MatchOption result (AreDistinct literals.now) (IsTwice literals.now) }
 {
@@ -85,7 +85,7 @@ fn split_fault(
     Ok(None)
 }
 
-// How a split of a tree fails.
+// How some split of a tree fails, outer ones before inner ones.
 #[cycle(splitting)]
 fn tree_fault(alloc: Global, tree: &FlatTree) -> Result<Option<Why>, AllocError>
     ensures { IfOk result (FindsIn SplitsWell FailsSplit (splits_of tree.now)) }
@@ -107,7 +107,7 @@ fn tree_fault(alloc: Global, tree: &FlatTree) -> Result<Option<Why>, AllocError>
     }
 }
 
-// How a split below some arm fails.
+// How some split in the trees below these arms fails, arm by arm.
 #[cycle(splitting)]
 fn arms_fault(alloc: Global, arms: &[FlatArm]) -> Result<Option<Why>, AllocError>
     ensures { IfOk result (FindsIn SplitsWell FailsSplit (arm_splits arms.now)) }

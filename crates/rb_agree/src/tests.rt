@@ -121,7 +121,8 @@ pub(crate) fn else_fault(
     Ok(None)
 }
 
-// What is known of a leaf behind an arm's literal.
+// What is known of a leaf behind an arm's literal, by what is known of it below the arm: it is
+// asked for the literal only where it passes below.
 fn behind_arm(
     alloc: Global,
     types: &[DataDecl],
@@ -144,7 +145,8 @@ fn behind_arm(
     }
 }
 
-// What is known of a leaf behind the `else` beside arms.
+// What is known of a leaf behind the `else` beside arms, by what is known of it below: it is asked
+// to exclude the arms' literals only where it passes below.
 fn behind_else(
     alloc: Global,
     types: &[DataDecl],
@@ -177,7 +179,8 @@ fn status_of(stands: bool) -> Below
     Below::Absent
 }
 
-// What is known of leaf `n` in a tree.
+// What is known of leaf `n` in a tree: whether it stands there, and passes the tests on each way to
+// it.
 #[cycle(testing)]
 fn tree_tests(
     alloc: Global,

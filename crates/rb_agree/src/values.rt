@@ -16,7 +16,7 @@ use rb_layout::numbers::number_of;
 use rb_matrix::{MatrixFault, common, exhaust};
 use std::alloc::{AllocError, Global};
 
-// The provenances of leaves.
+// The provenances of leaves, in order.
 fn provenances(alloc: Global, leaves: &[Leaf]) -> Result<Seq<Pat>, AllocError>
     ensures { IfOk result (λ pats. pats ≡ provenances_in leaves.now) }
 {

@@ -16,11 +16,11 @@ use Rattle.rb_auto.specs.Completed.{Completes, HaveTypedProvenances, completed}
 use Rattle.rb_auto.specs.Obeying.{ObeysAt}
 
 module _ (kinds : List (Option Auto)) where
-  -- no layout is derived for the type
+  -- type t is none of those for which a layout is derived
   abbrev pub IsWritten : ℕ → Type 0
   IsWritten t = kind_of kinds t ≡ None
 
-  -- a relation among types whose layouts are written
+  -- relation R leads from type t to type s, and for neither of them a layout is derived
   abbrev pub AmongWritten : (ℕ → ℕ → Type 0) → ℕ → ℕ → Type 0
   AmongWritten R t s = IsWritten t × IsWritten s × R t s
 
@@ -31,10 +31,12 @@ pub record WrittenObey (p : Program) (kinds : List (Option Auto)) (layouts : Lis
   pub no_flattening : (t : ℕ) → HasNoCycle (AmongWritten kinds (Flattens layouts)) t
   pub no_holding : (t : ℕ) → HasNoCycle (AmongWritten kinds (HoldsField p.types layouts)) t
 
--- no written layout flattens a boxed type
+-- no type without a derived layout flattens a type whose derived layout is boxed
 abbrev pub FlattenNoBoxed : List (Option Auto) → List Layout → Type 0
 FlattenNoBoxed kinds layouts = (t s : ℕ) → IsWritten kinds t → Flattens layouts t s → kind_of kinds s ≡ Some Boxed → ⊥
 
+-- The law. A well numbered program with typed provenances, completed by the layouts derived for it, agrees where its
+-- written layouts obey the rules and flatten no boxed type.
 abbrev pub CompletedAgree : Type 0
 CompletedAgree = (p : Program) (kinds : List (Option Auto)) (derived : List LayoutDecl)
     → IsWellNumbered p → HaveTypedProvenances p → Completes p kinds derived

@@ -1,4 +1,5 @@
--- What is answered where a layout is to be derived.
+-- What is answered where a layout is to be derived. Of each type `kinds` says which layout is derived for it, if any,
+-- and `rooms` how wide its word is.
 use Rattle.std.specs.Prelude.{◌≡◌, ℕ, max, nat_le, if◌then◌else◌, List, Option, Some, None, Result, Ok, Err, slice_get}
 use Rattle.rb_core.specs.declared.types.Auto.{Auto}
 use Rattle.rb_core.specs.declared.types.Auto.TheVariants as Kinds
@@ -13,36 +14,41 @@ use Rattle.rb_auto.specs.Widths.{tag_of}
 use Rattle.rb_auto.specs.Derived.{derived}
 use Rattle.rb_auto.specs.Rooms.{kind_of, AreTheRooms}
 
+-- what deriving the layout of a type answers: the layout, or why there is none
 abbrev pub Derives : Type 0
 Derives = Result LayoutDecl AutoFault
 
--- a packed type that does not reach itself and needs n bits
+-- the answer for a packed type t that does not reach itself and needs n bits: its layout, in a word of n bits, of one
+-- at least; or that it needs over 64
 abbrev pub packed_fit : Program → List Room → ℕ → ℕ → Derives
 packed_fit p rooms t n =
     if nat_le n 64 then Ok (derived p rooms t (Packed (tag_of p t) (max n 1))) else Err (PackedWide t n)
 
--- a packed type of this room: refused where it reaches itself, or else needs over 64 bits
+-- the answer for a packed type t of this room: it is refused where it reaches itself or needs over 64 bits; want of
+-- memory where there is no room, or one that no packed type has
 abbrev pub packed_answer : Program → List Room → ℕ → Option Room → Derives
 packed_answer p rooms t None = Err Memory
 packed_answer p rooms t (Some Word) = Err Memory
 packed_answer p rooms t (Some Recursive) = Err (PackedRecursive t)
 packed_answer p rooms t (Some (Bits n)) = packed_fit p rooms t n
 
--- a type of this kind
+-- the answer for type t, for which this kind of layout is to be derived; want of memory where none is
 abbrev pub answer_by : Program → List Room → ℕ → Option Auto → Derives
 answer_by p rooms t None = Err Memory
 answer_by p rooms t (Some Kinds.Boxed) = Ok (derived p rooms t Boxed)
 answer_by p rooms t (Some Kinds.Packed) = packed_answer p rooms t (slice_get rooms t)
 
+-- the answer for type t, by the kinds of layouts that are to be derived and the rooms of all types
 abbrev pub answer : Program → List (Option Auto) → List Room → ℕ → Derives
 answer p kinds rooms t = answer_by p rooms t (kind_of kinds t)
 
--- want of memory says nothing
+-- an answer is the expected one, or want of memory, which says nothing
 abbrev pub Answers : Derives → Derives → Type 0
 Answers (Err Memory) expected = Unit {0}
 Answers r expected = r ≡ expected
 
--- by the only rooms of the types
+-- an answer is right for type t: the one by the rooms of the types, of which there are no others; or want of memory,
+-- which says nothing
 abbrev pub IsAnswer : Program → List (Option Auto) → ℕ → Derives → Type 0
 IsAnswer p kinds t (Err Memory) = Unit {0}
 IsAnswer p kinds t r = (rooms : List Room) × AreTheRooms p kinds rooms × Answers r (answer p kinds rooms t)

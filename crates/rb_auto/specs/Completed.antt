@@ -8,20 +8,22 @@ use Rattle.rb_layout.specs.Flattening.{decl_of}
 use Rattle.rb_auto.specs.Rooms.{kind_of}
 use Rattle.rb_auto.specs.Answers.{IsAnswer}
 
--- the program with these layouts
+-- a program with these layouts in the place of its own
 abbrev pub with_layouts : Program → List LayoutDecl → Program
 with_layouts p decls = record p { layouts = decls }
 
--- each is what is derived for its type; each type of which one is to be derived has one there, and none that is written
+-- each of these layouts is what is derived for its type; each type of which one is to be derived has one there, and
+-- none that is written
 pub record Completes (p : Program) (kinds : List (Option Auto)) (derived : List LayoutDecl) : Type 0 where
   pub each : (k : ℕ) (d : LayoutDecl) → slice_get derived k ≡ Some d → IsAnswer p kinds d.ty (Ok d)
   pub all : (t : ℕ) (kind : Auto) → t < length p.types → kind_of kinds t ≡ Some kind
       → (d : LayoutDecl) × (decl_of derived t ≡ Some d)
   pub alone : (t : ℕ) (kind : Auto) → kind_of kinds t ≡ Some kind → decl_of p.layouts t ≡ None
 
+-- a program completed by derived layouts: its own ones, and these after them
 abbrev pub completed : Program → List LayoutDecl → Program
 completed p derived = with_layouts p (p.layouts ++ derived)
 
--- each provenance of a program's layouts is a pattern of its type
+-- each provenance in a program's layouts is a pattern of the layout's type
 abbrev pub HaveTypedProvenances : Program → Type 0
 HaveTypedProvenances p = (k : ℕ) (d : LayoutDecl) → slice_get p.layouts k ≡ Some d → layout_fault p.types d ≡ None

@@ -15,27 +15,31 @@ use Rattle.rb_auto.specs.Fields.{cons_of}
 use Rattle.rb_auto.specs.FieldWords.{words_of}
 use Rattle.rb_auto.specs.Items.{form_width, form_tag, leaf_items}
 
--- constructor k of type t over wildcards
+-- the provenance of the leaf of constructor c, number k of type t: the constructor over wildcards
 abbrev pub provenance : ℕ → ℕ → Con → Pat
 provenance t k c = P.Con 0 (record { ty = t; con = k }) (map (λ ty. P.Wild 0) c.fields)
 
--- bits 0 up to l of the word
+-- the location of a tag of l bits: the l bits from bit 0 on of word 0
 abbrev pub tag_loc : ℕ → Loc
 tag_loc l = record { word = 0; o = 0; l = l; steps = [] }
 
 module _ (p : Program) (rooms : List Room) (t : ℕ) (form : Form) where
+  -- the leaf of constructor c, with number k: its provenance, and the one word of the form with its tag and its
+  -- fields
   abbrev pub leaf : ℕ → Con → LayTree
   leaf k c = S.Leaf 0 (provenance t k c) (leaf_items form k (words_of p rooms c.fields))
 
-  -- an arm for each constructor, the first of which is constructor k
+  -- an arm for each of these constructors, the first of which has number k in the type
   abbrev pub arms_from : ℕ → List Con → List Arm
   arms_from k [] = []
   arms_from k (c ∷ cs) = record { literal = k; under = leaf k c } ∷ arms_from (k + 1) cs
 
-  -- without a tag the tree is the leaf of the only constructor
+  -- a split on a tag of so many bits, with an arm for each constructor; without a tag the leaf of the only
+  -- constructor
   abbrev pub tree_of : ℕ → List Con → LayTree
   tree_of zero (c ∷ []) = leaf 0 c
   tree_of tag cs = S.Split (tag_loc tag) (arms_from 0 cs) None
 
+  -- the layout that is derived for type t in this form
   abbrev pub derived : LayoutDecl
   derived = record { at = 0; ty = t; shape = form_width form ∷ []; tree = tree_of (form_tag form) (cons_of p.types t) }

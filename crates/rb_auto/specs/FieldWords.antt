@@ -8,28 +8,31 @@ use Rattle.rb_auto.specs.declared.field_words.FieldWord.{FieldWord}
 use Rattle.rb_auto.specs.declared.room.Room.{Room}
 use Rattle.rb_auto.specs.Widths.{widths}
 
--- the only word of field i is written `.i`, and word j of several `.i word j`
+-- what a part is written to hold for a word of field i: the only one is `.i`, and word j of several is `.i word j`
 abbrev pub content_in : ℕ → Option ℕ → PartKind
 content_in i None = K.Whole (i ∷ [])
 content_in i (Some j) = K.Word (i ∷ []) j
 
+-- what a part is written to hold that holds this word of a field
 abbrev pub content : FieldWord → PartKind
 content w = content_in w.field w.word
 
+-- words of field i with these widths, the first of which is word j of the field
 abbrev pub words_from : ℕ → ℕ → List ℕ → List FieldWord
 words_from i j [] = []
 words_from i j (w ∷ ws) = record { field = i; word = Some j; width = w } ∷ words_from i (j + 1) ws
 
--- field i with words of these widths
+-- the words of field i, which have these widths; an only word has no number of its own
 abbrev pub field_words : ℕ → List ℕ → List FieldWord
 field_words i [] = []
 field_words i (w ∷ []) = record { field = i; word = None; width = w } ∷ []
 field_words i (w ∷ v ∷ ws) = words_from i 0 (w ∷ v ∷ ws)
 
--- fields of these types, the first of which is field i
+-- the words of fields of these types, in order, the first of which is field i
 abbrev pub fields_words : Program → List Room → ℕ → List Ty → List FieldWord
 fields_words p rooms i [] = []
 fields_words p rooms i (ty ∷ tys) = field_words i (widths p rooms ty) ++ fields_words p rooms (i + 1) tys
 
+-- the words of the fields of a constructor, which have these types, in order
 abbrev pub words_of : Program → List Room → List Ty → List FieldWord
 words_of p rooms tys = fields_words p rooms 0 tys

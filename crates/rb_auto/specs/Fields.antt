@@ -5,11 +5,12 @@ use Rattle.rb_core.specs.declared.types.DataDecl.{DataDecl}
 use Rattle.rb_core.specs.declared.types.Ty.TheVariants.{Named}
 use Rattle.rb_layout.specs.Cycles.{IsCycle, HasNoCycle}
 
+-- the constructors in a type's declaration; none where it is missing
 abbrev pub cons_in : Option DataDecl → List Con
 cons_in None = []
 cons_in (Some d) = d.cons
 
--- the constructors of a type
+-- the constructors of type t; none where there is no such type
 abbrev pub cons_of : List DataDecl → ℕ → List Con
 cons_of types t = cons_in (slice_get types t)
 
@@ -25,5 +26,6 @@ pub record HasField (types : List DataDecl) (t s : ℕ) : Type 0 where
 abbrev pub IsRecursive : List DataDecl → ℕ → Type 0
 IsRecursive types t = (ts : List ℕ) × IsCycle (HasField types) (t ∷ ts)
 
+-- a type does not reach itself through fields
 abbrev pub IsFinite : List DataDecl → ℕ → Type 0
 IsFinite types t = HasNoCycle (HasField types) t

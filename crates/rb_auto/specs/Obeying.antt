@@ -26,15 +26,15 @@ use Rattle.rb_auto.specs.Rooms.{kind_of}
 use Rattle.rb_auto.specs.Completed.{Completes, HaveTypedProvenances, completed}
 
 module _ (layouts : List Layout) (t : ℕ) where
-  -- of the layout of type t, if it has one
+  -- P holds of the layout of type t, if the type has one
   abbrev pub AtLayout : (Layout → Type 0) → Type 0
   AtLayout P = (layout : Layout) → layout_of layouts t ≡ Some layout → P layout
 
-  -- of each of its leaves, with its number
+  -- P holds of each leaf of the layout of type t, together with that layout and the leaf's number
   abbrev pub AtLeaves : (Layout → ℕ → Leaf → Type 0) → Type 0
   AtLeaves P = AtLayout (λ layout. (n : ℕ) (leaf : Leaf) → slice_get layout.leaves n ≡ Some leaf → P layout n leaf)
 
--- the layout of type t, one of these, obeys the first eight rules
+-- the layout of type t, one of these, obeys the rules A1 to A8
 pub record ObeysAt (p : Program) (layouts : List Layout) (t : ℕ) : Type 0 where
   pub a1 : HasShape (decl_of p.layouts t)
   pub a2 : AtLeaves layouts t (λ layout n leaf. HasRoot layout.shape leaf)
@@ -47,28 +47,30 @@ pub record ObeysAt (p : Program) (layouts : List Layout) (t : ℕ) : Type 0 wher
   pub a7 : AtLeaves layouts t (λ layout n leaf. MeetsAll p.types layouts layout.tree n leaf)
   pub a8 : AtLayout layouts t AllSplitWell
 
--- the types of a type's fields have shapes
+-- each data type that type t has as a field has a layout with a shape of words of 1 to 64 bits
 abbrev pub FieldsHaveShapes : Program → ℕ → Type 0
 FieldsHaveShapes p t = (s : ℕ) → HasField p.types t s → HasShape (decl_of p.layouts s)
 
--- of each type for which a layout is derived: p has the written layouts, q all, one for each type at least
+-- P holds for each type t for which a layout is derived: p has the written layouts, and q all, one for each type at
+-- least
 abbrev pub OfEachDerived : (Program → Program → ℕ → Auto → Type 0) → Type 0
 OfEachDerived P = (p : Program) (kinds : List (Option Auto)) (derived : List LayoutDecl)
     → IsWellNumbered p → Completes p kinds derived → HaveLayouts (completed p derived)
     → (t : ℕ) (kind : Auto) → t < length p.types → kind_of kinds t ≡ Some kind → P p (completed p derived) t kind
 
--- A1 to A8
+-- A1 to A8: a derived layout obeys them, where the data types of its type's fields have shapes
 abbrev pub DerivedObey : Type 0
 DerivedObey = OfEachDerived (λ p q t kind. FieldsHaveShapes q t → ObeysAt q (flat_layouts q) t)
 
--- A9: a derived layout flattens nothing, and a packed one has no pointer
+-- A9: a derived layout flattens nothing
 abbrev pub DerivedFlattenNothing : Type 0
 DerivedFlattenNothing = OfEachDerived (λ p q t kind. (s : ℕ) → Flattens (flat_layouts q) t s → ⊥)
 
+-- A9: a packed layout has no pointer in its leaves, so that its type may be flattened
 abbrev pub PackedHaveNoPointer : Type 0
 PackedHaveNoPointer = OfEachDerived (λ p q t kind. kind ≡ Packed → HasPointerPart (flat_layouts q) t → ⊥)
 
--- A10
+-- A10: a derived layout stands on no cycle of types that hold each other in root words, where provenances are typed
 abbrev pub DerivedAreOnNoCycle : Type 0
 DerivedAreOnNoCycle =
     OfEachDerived (λ p q t kind. HaveTypedProvenances p → HasNoCycle (HoldsField q.types (flat_layouts q)) t)

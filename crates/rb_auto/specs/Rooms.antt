@@ -1,4 +1,4 @@
--- The rooms of a program's types.
+-- The rooms of a program's types. A room says how wide the word of a type is where its layout is derived.
 use Rattle.std.specs.Prelude.{◌≡◌, ℕ, List, length, Option, Some, None, slice_get}
 use Rattle.rb_core.specs.declared.types.Auto.{Auto}
 use Rattle.rb_core.specs.declared.types.Auto.TheVariants.{Packed}
@@ -8,15 +8,16 @@ use Rattle.rb_auto.specs.declared.room.Room.TheVariants.{Word, Recursive, Bits}
 use Rattle.rb_auto.specs.Fields.{IsRecursive, IsFinite}
 use Rattle.rb_auto.specs.Widths.{need}
 
+-- the kind of layout that an entry of a type says is derived for it, if any; none where the entry is missing
 abbrev pub kind_in : Option (Option Auto) → Option Auto
 kind_in None = None
 kind_in (Some kind) = kind
 
--- which layout is derived for a type, if any
+-- which kind of layout is derived for type t, if any
 abbrev pub kind_of : List (Option Auto) → ℕ → Option Auto
 kind_of kinds t = kind_in (slice_get kinds t)
 
--- a packed type reaches itself or needs so many bits; any other has a whole word
+-- a room is that of type t: a packed type reaches itself or needs so many bits; any other type has a whole word
 abbrev pub IsRoom : Program → List (Option Auto) → List Room → ℕ → Room → Type 0
 IsRoom p kinds rooms t Word = kind_of kinds t ≡ Some Packed → ⊥
 IsRoom p kinds rooms t Recursive = (kind_of kinds t ≡ Some Packed) × IsRecursive p.types t
@@ -27,7 +28,7 @@ pub record AreRooms (p : Program) (kinds : List (Option Auto)) (rooms : List Roo
   pub count : length rooms ≡ length p.types
   pub each : (t : ℕ) (room : Room) → slice_get rooms t ≡ Some room → IsRoom p kinds rooms t room
 
--- these are the rooms, and there are no others
+-- these are the rooms of a program's types, and there are no others
 pub record AreTheRooms (p : Program) (kinds : List (Option Auto)) (rooms : List Room) : Type 0 where
   pub are : AreRooms p kinds rooms
   pub only : (others : List Room) → AreRooms p kinds others → others ≡ rooms

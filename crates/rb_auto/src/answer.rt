@@ -14,7 +14,8 @@ use rb_core::program::Program;
 use rb_core::types::Auto;
 use std::alloc::Global;
 
-// The layout of a packed type that needs so many bits.
+// The layout of a packed type that doesn't reach itself and needs so many bits: it is refused where
+// they are over 64, and its word has at least one.
 fn packed_fit(
     alloc: Global,
     program: &Program,
@@ -35,7 +36,8 @@ fn packed_fit(
     Ok(decl)
 }
 
-// The layout of a packed type.
+// The layout of a packed type, by its room: it is refused where it reaches itself or needs over 64
+// bits. No room, or one that no packed type has, meets want of memory.
 fn packed(
     alloc: Global,
     program: &Program,

@@ -18,7 +18,7 @@ use rb_core::types::{Con, ConRef, DataDecl};
 use rb_layout::numbers::number_of;
 use std::alloc::{AllocError, Global};
 
-/// The constructors of a type.
+/// The constructors of a type; none where there is no such type.
 pub(crate) fn cons_of(types: &[DataDecl], ty: u32) -> &[Con]
     ensures { result.now ≡ cons_of types.now ty }
 {
@@ -28,7 +28,7 @@ pub(crate) fn cons_of(types: &[DataDecl], ty: u32) -> &[Con]
     }
 }
 
-// A constructor over wildcards.
+// The provenance of the leaf of constructor `con` of a type: the constructor over wildcards.
 fn provenance(alloc: Global, ty: u32, con: u32, decl: &Con) -> Result<Pat, AllocError>
     ensures { IfOk result (λ pat. pat ≡ provenance ty con decl.now) }
 {
@@ -39,7 +39,7 @@ fn provenance(alloc: Global, ty: u32, con: u32, decl: &Con) -> Result<Pat, Alloc
     Ok(Pat::Con(0, ConRef { ty, con }, pats))
 }
 
-// The leaf of a constructor.
+// The leaf of constructor `con`: its provenance, and one word with its tag and its fields.
 fn leaf(
     alloc: Global,
     program: &Program,
@@ -57,7 +57,7 @@ fn leaf(
     Ok(LayTree::Leaf(0, prov, items))
 }
 
-// An arm for each constructor.
+// An arm for each constructor, in order, whose literal is the constructor's number.
 fn arms(
     alloc: Global,
     program: &Program,
@@ -102,7 +102,8 @@ fn split(
     Ok(LayTree::Split(loc, arms, None))
 }
 
-// The tree of a type's constructors.
+// The tree of a type's constructors: a split of the tag, or the leaf of the only constructor where
+// the tag has no bits.
 fn tree_of(
     alloc: Global,
     program: &Program,

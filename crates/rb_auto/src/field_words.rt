@@ -34,7 +34,7 @@ pub(crate) fn content(alloc: Global, word: &FieldWord) -> Result<PartKind, Alloc
     }
 }
 
-// Adds a word for each word of a shape.
+// Adds a word of a field for each word of a written shape, all with numbers of their own.
 fn add_words(field: u32, shape: &[u64], words: &mut Seq<FieldWord>) -> Result<(), AllocError>
     ensures { OnOk result (words.new ≡ words.old ++ words_from field 0 (map counted shape.now)) }
 {
@@ -48,7 +48,7 @@ fn add_words(field: u32, shape: &[u64], words: &mut Seq<FieldWord>) -> Result<()
     Ok(())
 }
 
-// Adds the words of a field whose type has this written shape.
+// Adds the words of a field whose type has this written shape; an only word has no number.
 fn add_shape(field: u32, shape: &[u64], words: &mut Seq<FieldWord>) -> Result<(), AllocError>
     ensures { OnOk result (words.new ≡ words.old ++ field_words field (map counted shape.now)) }
 {
@@ -62,7 +62,8 @@ fn add_shape(field: u32, shape: &[u64], words: &mut Seq<FieldWord>) -> Result<()
     add_words(field, shape, words)
 }
 
-// Adds the words of a field.
+// Adds the words of a field: one for an integer, those of the written layout for a data type that
+// has one, and else the one word by its room.
 fn add_field(
     program: &Program,
     rooms: &[Room],

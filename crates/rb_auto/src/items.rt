@@ -16,7 +16,7 @@ pub const BOX_TAG_BITS: u64 = 8;
 /// The bytes of which a boxed type's pointer counts multiples.
 pub const BOX_ALIGN: u64 = 8;
 
-/// The words of a block.
+/// How many words a block may have at most.
 pub const BLOCK_WORDS: usize = 64;
 
 // A whole word with one part from bit 0 on.
@@ -28,7 +28,7 @@ fn whole_word(alloc: Global, l: u64, kind: PartKind) -> Result<LayItem, AllocErr
     Ok(LayItem::Word(WORD_BITS, parts))
 }
 
-// A word for each word of fields.
+// A word of a block for each of these words of fields, from bit 0 on.
 fn field_items(alloc: Global, words: &[FieldWord]) -> Result<Seq<LayItem>, AllocError>
     ensures { IfOk result (λ items. items ≡ map field_item words.now) }
 {
@@ -64,7 +64,8 @@ fn group_items(alloc: Global, words: &[FieldWord]) -> Result<Seq<LayItem>, Alloc
     Ok(items)
 }
 
-// The words of a constructor's block.
+// The words of a constructor's block: those of its fields, or pointers to groups of them where
+// there are more than a block may have.
 fn block_items(alloc: Global, words: &[FieldWord]) -> Result<Seq<LayItem>, AllocError>
     ensures { IfOk result (λ items. items ≡ block_items words.now) }
 {
@@ -75,7 +76,8 @@ fn block_items(alloc: Global, words: &[FieldWord]) -> Result<Seq<LayItem>, Alloc
     }
 }
 
-// The parts of a boxed constructor's word.
+// The parts of a boxed constructor's word: its tag, and the pointer to the words of its fields, if
+// it has any.
 fn boxed_parts(alloc: Global, con: u32, words: &[FieldWord]) -> Result<Seq<PartDecl>, AllocError>
     ensures { IfOk result (λ parts. parts ≡ boxed_parts con words.now) }
 {
@@ -95,7 +97,7 @@ fn boxed_parts(alloc: Global, con: u32, words: &[FieldWord]) -> Result<Seq<PartD
     Ok(parts)
 }
 
-// Adds the words one after the other, from bit `from` upwards.
+// Adds a part for each of these words, one after the other from bit `from` upwards, without a gap.
 fn add_words(
     alloc: Global,
     from: u64,
@@ -119,7 +121,8 @@ fn add_words(
     Ok(())
 }
 
-// The parts of a packed constructor's word.
+// The parts of a packed constructor's word: its tag, if that has bits, and the words of its fields
+// behind it.
 fn packed_parts(
     alloc: Global,
     tag: u64,
@@ -140,7 +143,7 @@ fn packed_parts(
     Ok(parts)
 }
 
-/// The bits of the tag.
+/// How many bits the tag of a derived layout in this form has.
 pub(crate) fn form_tag(form: Form) -> u64
     ensures { result ≡ form_tag form }
 {
@@ -150,7 +153,7 @@ pub(crate) fn form_tag(form: Form) -> u64
     }
 }
 
-/// The bits of the word.
+/// How many bits the word of a derived layout in this form has.
 pub(crate) fn form_width(form: Form) -> u64
     ensures { result ≡ form_width form }
 {
@@ -160,7 +163,7 @@ pub(crate) fn form_width(form: Form) -> u64
     }
 }
 
-// The parts of a constructor's word.
+// The parts of a constructor's word in this form, where its fields have these words.
 fn form_parts(
     alloc: Global,
     form: Form,
@@ -175,7 +178,7 @@ fn form_parts(
     }
 }
 
-/// The one word of a constructor.
+/// The items of a constructor's leaf: one word in this form, with its tag and its fields' words.
 pub(crate) fn leaf_items(
     alloc: Global,
     form: Form,

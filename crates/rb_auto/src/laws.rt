@@ -11,7 +11,8 @@ pub fn derived_layouts_obey()
     ensures { DerivedObey }
 {}
 
-/// A derived layout flattens nothing.
+/// A derived layout flattens nothing, as the provenances of its leaves have no constructors below
+/// their roots.
 pub fn derived_layouts_flatten_nothing()
     ensures { DerivedFlattenNothing }
 {}

@@ -15,7 +15,7 @@ use rb_core::types::{Con, DataDecl, Ty};
 use rb_layout::graphs::{edges_of, no_marks};
 use std::alloc::{AllocError, Global};
 
-// Adds the types of fields.
+// Adds the data types among the types of fields, once for each such field.
 fn add_fields(fields: &[Ty], row: &mut Seq<u32>) -> Result<(), AllocError>
     ensures { OnOk result (row.new ≡ row.old ++ flat_map named_types fields.now) }
 {
@@ -39,7 +39,7 @@ fn field_row(alloc: Global, cons: &[Con]) -> Result<Seq<u32>, AllocError>
     Ok(row)
 }
 
-/// For each type those that it has as fields.
+/// For each type the data types that it has as fields: the graph in which cycles are looked for.
 pub(crate) fn field_graph(alloc: Global, types: &[DataDecl]) -> Result<Seq<Seq<u32>>, AllocError>
     ensures { IfOk result (λ graph. graph ≡ field_graph types.now) }
 {
@@ -50,7 +50,7 @@ pub(crate) fn field_graph(alloc: Global, types: &[DataDecl]) -> Result<Seq<Seq<u
     Ok(graph)
 }
 
-// Marks and adds a number that was not found.
+// Marks and adds a number, if it was not found before; nothing changes where it has no mark.
 fn add(next: u32, marks: &mut Seq<bool>, found: &mut Seq<u32>) -> Result<(), AllocError>
     ensures { OnOk result (state marks.new found.new ≡ added next (state marks.old found.old)) }
 {
@@ -67,7 +67,8 @@ fn add(next: u32, marks: &mut Seq<bool>, found: &mut Seq<u32>) -> Result<(), All
     Ok(())
 }
 
-// Adds what a number leads to, until that is the first number. Tells whether it is.
+// Adds the numbers to which these edges lead, until one leads to the number `start`, from which the
+// search began. Tells whether one does.
 fn follow(
     edges: &[u32],
     start: u32,

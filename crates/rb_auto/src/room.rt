@@ -18,7 +18,8 @@ pub enum Room {
     Bits(u64),
 }
 
-// The width of its word: one that is refused counts as a whole word.
+// The width of the word of a type with this room, one bit at least: a type that is refused counts
+// as a whole word.
 fn word_width(room: Room) -> u64
     ensures { result ≡ word_width room }
 {

@@ -35,7 +35,7 @@ pub(crate) fn tag_bits(count: usize) -> u64
     63
 }
 
-// The sum of the widths of a written shape.
+// The sum of the widths of a written shape, as they count; None where it is 2^64 or more.
 fn shape_width(shape: &[u64]) -> Option<u64>
     ensures { IfSome result (λ bits. bits ≡ sum_by counted shape.now) }
 {
@@ -46,7 +46,8 @@ fn shape_width(shape: &[u64]) -> Option<u64>
     Some(bits)
 }
 
-// The width of a field, where the room of its type is known.
+// How many bits all words of a field have, where the room of its type is known or not needed; None
+// where it isn't, or the number is too great.
 fn field_width(program: &Program, settled: &[Option<Room>], ty: Ty) -> Option<u64>
     ensures { IfSome result (λ bits. (rooms : List TheRoom)
         → Extends settled.now rooms → bits ≡ field_width program.now rooms ty) }
@@ -64,7 +65,8 @@ fn field_width(program: &Program, settled: &[Option<Room>], ty: Ty) -> Option<u6
     }
 }
 
-// The width of a constructor, where the rooms of its fields' types are known.
+// How many bits all words of a constructor's fields have, where the rooms of their types are known;
+// None where one isn't, or the number is too great.
 fn con_width(program: &Program, settled: &[Option<Room>], con: &Con) -> Option<u64>
     ensures { IfSome result (λ bits. (rooms : List TheRoom)
         → Extends settled.now rooms → bits ≡ con_width program.now rooms con.now) }
@@ -76,7 +78,7 @@ fn con_width(program: &Program, settled: &[Option<Room>], con: &Con) -> Option<u
     Some(bits)
 }
 
-// The greatest width of some constructors.
+// The greatest width of these constructors, 0 of none; None where the width of one isn't known.
 fn greatest_width(program: &Program, settled: &[Option<Room>], cons: &[Con]) -> Option<u64>
     ensures { IfSome result (λ bits. (rooms : List TheRoom) → Extends settled.now rooms
         → bits ≡ greatest (map (con_width program.now rooms) cons.now)) }
@@ -88,7 +90,8 @@ fn greatest_width(program: &Program, settled: &[Option<Room>], cons: &[Con]) -> 
     Some(most)
 }
 
-// What a type needs to be packed, where the rooms of its fields' types are known.
+// How many bits a type needs to be packed, for its tag and its longest constructor, where the rooms
+// of its fields' types are known; None where one isn't, or the number is too great.
 fn need(program: &Program, settled: &[Option<Room>], ty: u32) -> Option<u64>
     ensures { IfSome result (λ bits. (rooms : List TheRoom)
         → Extends settled.now rooms → bits ≡ need program.now rooms ty) }
@@ -98,7 +101,7 @@ fn need(program: &Program, settled: &[Option<Room>], ty: u32) -> Option<u64>
     tag_bits(cons.len()).checked_add(most)
 }
 
-// Which layout is derived for a type, if any.
+// Which layout is derived for a type, if any; None also where there is no such type.
 pub(crate) fn kind_of(kinds: &[Option<Auto>], ty: u32) -> Option<Auto>
     ensures { result ≡ kind_of kinds.now ty }
 {
@@ -108,7 +111,8 @@ pub(crate) fn kind_of(kinds: &[Option<Auto>], ty: u32) -> Option<Auto>
     }
 }
 
-// The room of a type, but for what a packed one that doesn't reach itself needs.
+// The room of a type as it is known at first; None for a packed type that doesn't reach itself,
+// whose bits are still to be counted.
 fn first_room(
     alloc: Global,
     program: &Program,
@@ -132,7 +136,7 @@ fn first_room(
     }
 }
 
-// The rooms that are known at first.
+// The rooms of all types as they are known at first, before any bits are counted.
 fn first_rooms(
     alloc: Global,
     program: &Program,
@@ -149,7 +153,8 @@ fn first_rooms(
     Ok(settled)
 }
 
-// Counts what a type needs, where it isn't known and now can be. Tells whether it could.
+// Counts the bits that a type needs, where its room isn't known and those of its fields' types are.
+// Tells whether it could.
 fn settle_type(program: &Program, settled: &mut Seq<Option<Room>>, ty: u32) -> bool
     ensures { (kinds : List (Option Kind))
         → AreSettled program.now kinds settled.old → AreSettled program.now kinds settled.new }
@@ -168,7 +173,8 @@ fn settle_type(program: &Program, settled: &mut Seq<Option<Room>>, ty: u32) -> b
     }
 }
 
-// Counts what types need, in their order. Tells whether any could be counted.
+// Goes over all types once, in their order, and counts the bits of those of which it can. Tells
+// whether there was one.
 fn settle_all(program: &Program, settled: &mut Seq<Option<Room>>) -> Result<bool, AllocError>
     ensures { (kinds : List (Option Kind))
         → OnOk result (AreSettled program.now kinds settled.old → AreSettled program.now kinds settled.new) }
@@ -182,7 +188,7 @@ fn settle_all(program: &Program, settled: &mut Seq<Option<Room>>) -> Result<bool
     Ok(some)
 }
 
-// Counts what types need, until all are known or none more can be.
+// Goes over the types again and again, until all rooms are known or no more bits can be counted.
 fn settle(program: &Program, settled: &mut Seq<Option<Room>>) -> Result<(), AllocError>
     ensures { (kinds : List (Option Kind))
         → OnOk result (AreSettled program.now kinds settled.old → AreSettled program.now kinds settled.new) }
@@ -195,7 +201,7 @@ fn settle(program: &Program, settled: &mut Seq<Option<Room>>) -> Result<(), Allo
     Ok(())
 }
 
-// The rooms, all of which are known.
+// The rooms, all of which are known; one that isn't meets want of memory.
 fn all_settled(alloc: Global, settled: &[Option<Room>]) -> Result<Seq<Room>, AllocError>
     ensures { IfOk result (λ rooms. map Some rooms ≡ settled.now) }
 {

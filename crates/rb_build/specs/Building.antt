@@ -1,4 +1,5 @@
--- What code that constructs a value owes.
+-- What code that constructs a value owes, against the source's construction. What is shown of a field is a pattern
+-- that its value matches; a wildcard shows nothing.
 use Rattle.std.specs.Prelude.{◌≡◌, List, map, Some}
 use Rattle.rb_core.specs.declared.types.Ty.{Ty}
 use Rattle.rb_core.specs.declared.types.Ty.TheVariants.{Named}

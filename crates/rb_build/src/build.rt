@@ -12,8 +12,9 @@ use rb_layout::agreed::Agreed;
 use rb_target::body::Body;
 use std::alloc::{AllocError, Global};
 
-/// Code that constructs a value by a constructor, of values that are held, one a field. Each matches the pattern
-/// that is shown of it; a wildcard shows nothing.
+/// Code that constructs a value by a constructor, of values that are held, one a field, as the source does: its
+/// one event is that the value is built. Each of the values matches the pattern that is shown of it; a wildcard
+/// shows nothing. Answers the value, in new slots.
 ///
 /// # Errors
 ///

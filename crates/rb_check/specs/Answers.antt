@@ -20,14 +20,15 @@ Answers (Err Memory) gives = Unit {0}
 Answers (Err (Empty t)) gives = ⊥
 Answers (Err fault) gives = gives ≡ Err fault
 
--- what a call left behind is what typing gives
+-- what a call that is done left behind is what typing gives, and its fault is the fault there;
+-- want of memory says nothing
 abbrev pub Leaves : {A : Type 0} → Typing (Unit {0}) → A → Typing A → Type 0
 Leaves (Ok done) left gives = gives ≡ Ok left
 Leaves (Err Memory) left gives = Unit {0}
 Leaves (Err (Empty t)) left gives = ⊥
 Leaves (Err fault) left gives = gives ≡ Err fault
 
--- the answer's fault is this one
+-- the answer is this fault, or done where there is none; want of memory says nothing of it
 abbrev pub HasFault : Typing (Unit {0}) → Option TypeFault → Type 0
 HasFault (Ok done) fault = fault ≡ None
 HasFault (Err Memory) fault = Unit {0}
@@ -38,15 +39,15 @@ HasFault (Err found) fault = fault ≡ Some found
 abbrev pub arm_fault : List DataDecl → ℕ → Arm → Option TypeFault
 arm_fault types ty arm = first_fault (map (provenance_fault types ty) (arm_provenances arm))
 
--- the binders of a list of parameters and variables
+-- the binders of a list of parameters and variables, in order
 abbrev pub binders : List Param → List Binder
 binders = map binder_of
 
--- further binders within these
+-- the binders of a scope with further ones behind them, or the fault that stands in place of these
 abbrev pub within : List Binder → Typing (List Binder) → Typing (List Binder)
 within scope inner = and_then inner (λ more. Ok (scope ++ more))
 
--- the types that are wanted of arguments
+-- the types that are wanted of arguments, in order: those of parameters, or of fields
 abbrev pub wanted_types : Wanted → List Ty
 wanted_types (Params ps) = map (λ p. p.ty) ps.now
 wanted_types (Fields ts) = ts.now

@@ -1,4 +1,5 @@
--- How the checker goes over the matches of a program, and which match it refuses a program for.
+-- How the checker goes over the matches of a program, and which match it refuses a program for. A site is a match
+-- with its token, its scrutinee's type and its clauses' patterns.
 use Rattle.std.specs.Prelude.{◌≡◌, ◌<◌, ◌^◌, List, [], ◌∷◌, ◌++◌, length}
 use Rattle.std.specs.List.{flat_map}
 use Rattle.rb_core.specs.declared.types.Ty.{Ty}
@@ -20,11 +21,11 @@ use Rattle.rb_check.specs.declared.coverage.CoverFault.TheVariants.{Missing, Mem
 
 -- The matches ---------------------------------------------------------------------------------
 
--- those of arguments
+-- the matches in arguments, from the first argument to the last, all within one scope
 abbrev pub argument_sites : List DataDecl → List Fun → List Binder → List Expr → List Site
 argument_sites types funs scope = flat_map (λ (e : Expr). sites types funs e scope)
 
--- those of a clause's body, within what its pattern binds at the scrutinee's type
+-- the matches in the body of a clause, within what its pattern binds at the scrutinee's type t
 abbrev pub body_sites : List DataDecl → List Fun → Ty → List Binder → Clause → List Site
 body_sites types funs t scope c = sites types funs c.body (scope ++ binders types c.pat t)
 
@@ -33,14 +34,14 @@ pub record IsNumberedSite (types : List DataDecl) (s : Site) : Type 0 where
   pub ty : IsTypeIn types s.scrutinee
   pub short : length s.patterns < 2 ^ 32
 
--- each of these matches is such
+-- each of these matches has a scrutinee of a type of the program, and clauses that 32 bits number
 abbrev pub AreNumberedSites : List DataDecl → List Site → Type 0
 AreNumberedSites types [] = Unit {0}
 AreNumberedSites types (s ∷ ss) = IsNumberedSite types s × AreNumberedSites types ss
 
 -- Answers -------------------------------------------------------------------------------------
 
--- the notes on a match are added to others
+-- a match is exhaustive, and the notes on its clauses that no value reaches are added behind the old ones
 pub record IsSiteCovered (types : List DataDecl) (s : Site) (old new : List Note) : Type 0 where
   pub exhaustive : IsExhaustive types s.scrutinee s.patterns
   pub here : List Note
@@ -53,7 +54,7 @@ abbrev pub IsSiteRefused : List DataDecl → Site → CoverFault → Type 0
 IsSiteRefused types s (Missing at q) = (s.at ≡ at) × IsMissing types s.scrutinee s.patterns q
 IsSiteRefused types s Memory = Unit {0}
 
--- matches are covered by these notes
+-- all these matches are exhaustive, and the notes are those on their clauses that no value reaches
 pub record AreCovered (types : List DataDecl) (ss : List Site) (notes : List Note) : Type 0 where
   pub exhaustive : AreExhaustive types ss
   pub exact : AreNotes types ss notes
@@ -67,11 +68,13 @@ pub record IsFirstRefused (types : List DataDecl) (ss : List Site) (fault : Cove
   pub exhaustive : AreExhaustive types before
   pub refused : IsSiteRefused types site fault
 
--- the fault of matches
+-- a fault that may be answered for matches: the first of them that is not exhaustive, or want
+-- of memory, which says nothing of them
 abbrev pub AreRefused : List DataDecl → List Site → CoverFault → Type 0
 AreRefused types ss (Missing at q) = IsFirstRefused types ss (Missing at q)
 AreRefused types ss Memory = Unit {0}
 
--- the fault of a program: its first match, in the file's order, that is not exhaustive
+-- a fault that may be answered for a program: its first match, in the file's order, that is not exhaustive; or want
+-- of memory, which says nothing of it
 abbrev pub IsCoverFault : Program → CoverFault → Type 0
 IsCoverFault p = AreRefused p.types (sites_of p)

@@ -20,23 +20,23 @@ is_marked marks (Named t) = mark_of marks t
 abbrev pub constructor_is_live : List Bool → Con → Bool
 constructor_is_live marks c = list_all (is_marked marks) c.fields
 
--- some constructor has fields of marked types alone
+-- some constructor of a data type has only fields of types that are known to have values, so it has a value, too
 abbrev pub type_is_live : List Bool → DataDecl → Bool
 type_is_live marks d = list_any (constructor_is_live marks) d.cons
 
--- a type that is to be marked
+-- type t is to be marked: it has no mark, and some constructor of it has only fields of types known to have values
 pub record IsNewlyLive (types : List DataDecl) (marks : List Bool) (t : ℕ) : Type 0 where
   pub data_type : DataDecl
   pub there : slice_get types t ≡ Some data_type
   pub unmarked : mark_of marks t ≡ false
   pub live : type_is_live marks data_type ≡ true
 
--- no type is left to be marked
+-- no type is left to be marked: none without a mark has a constructor with only fields of types known to have values
 abbrev pub IsSettled : List DataDecl → List Bool → Type 0
 IsSettled types marks =
     (t : ℕ) (d : DataDecl) → slice_get types t ≡ Some d → mark_of marks t ≡ false → type_is_live marks d ≡ false
 
--- the first type without a mark
+-- t is the number of the first type without a mark
 pub record IsFirstUnmarked (marks : List Bool) (t : ℕ) : Type 0 where
   pub within : t < length marks
   pub unmarked : mark_of marks t ≡ false

@@ -55,7 +55,8 @@ pub fn cover(alloc: Global, typed: &Typed) -> Result<Seq<Note>, CoverFault>
     cover_sites(alloc, program.types.as_slice(), sites.as_slice())
 }
 
-// The notes on some matches.
+// The notes on the clauses of these matches that no value reaches; or the first match that is not
+// exhaustive.
 fn cover_sites(alloc: Global, types: &[DataDecl], sites: &[Site]) -> Result<Seq<Note>, CoverFault>
     requires inhabited { AreInhabited types.now }
     requires numbered { AreNumberedSites types.now sites.now }
@@ -69,7 +70,8 @@ fn cover_sites(alloc: Global, types: &[DataDecl], sites: &[Site]) -> Result<Seq<
     Ok(notes)
 }
 
-// Adds the notes on one match.
+// Adds the notes on the clauses of one match that no value reaches; the match is refused where it
+// is not exhaustive.
 fn cover_site(
     alloc: Global,
     types: &[DataDecl],
@@ -87,7 +89,8 @@ fn cover_site(
     Ok(())
 }
 
-// Whether a match is exhaustive.
+// Done only where a match is exhaustive. The fault is its token with a pattern that it misses, or
+// want of memory.
 fn exhaust_site(alloc: Global, types: &[DataDecl], site: &Site) -> Result<(), CoverFault>
     requires inhabited { AreInhabited types.now }
     requires numbered { IsNumberedSite types.now site.now }

@@ -25,7 +25,8 @@ pub fn first_empty(alloc: Global, types: &[DataDecl]) -> Result<Option<usize>, A
     Ok(first_unmarked(marks.as_slice()))
 }
 
-// A type that is to be marked, if one is left.
+// A type that is to be marked, if one is left: it has no mark, and some constructor of it has only
+// fields of types that are known to have values.
 fn next_live(types: &[DataDecl], marks: &[bool]) -> Option<usize>
     requires { length marks.now ≡ length types.now }
     ensures { MatchOption result (IsSettled types.now marks.now) (IsNewlyLive types.now marks.now) }
@@ -50,7 +51,7 @@ fn first_unmarked(marks: &[bool]) -> Option<usize>
     None
 }
 
-// Whether the data type with this number is marked.
+// Whether the data type with this number is marked; it is not where it has no mark.
 fn is_mark(marks: &[bool], t: usize) -> bool
     ensures { result ≡ mark_of marks.now t }
 {
@@ -60,7 +61,7 @@ fn is_mark(marks: &[bool], t: usize) -> bool
     }
 }
 
-// Whether a type is known to have a value.
+// Whether a type is known to have a value: an integer type is, and a marked data type.
 fn is_marked(marks: &[bool], ty: Ty) -> bool
     ensures { result ≡ is_marked marks.now ty }
 {
@@ -70,7 +71,7 @@ fn is_marked(marks: &[bool], ty: Ty) -> bool
     }
 }
 
-// Whether some constructor has fields of marked types alone.
+// Whether some constructor of a data type has only fields of types that are known to have values.
 fn is_live(marks: &[bool], data_type: &DataDecl) -> bool
     ensures { result ≡ type_is_live marks.now data_type.now }
 {
@@ -81,7 +82,7 @@ fn is_live(marks: &[bool], data_type: &DataDecl) -> bool
         .any(|con| are_marked(marks, con.fields.as_slice()))
 }
 
-// Whether each of these types is marked.
+// Whether each of these types is known to have a value.
 fn are_marked(marks: &[bool], fields: &[Ty]) -> bool
     ensures { result ≡ list_all (is_marked marks.now) fields.now }
 {

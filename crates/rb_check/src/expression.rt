@@ -143,7 +143,8 @@ fn type_build(
     fit(at, wanted, Ty::Named(con.ty))
 }
 
-// Types each argument with its type wanted, after their number is checked.
+// Types each argument with its type wanted. Before that, there have to be as many of them as types:
+// `Arity` at the token `at` else.
 #[cycle(typing)]
 fn type_arguments(
     program: &Program,
@@ -187,7 +188,7 @@ fn type_binary(
     fit(at, wanted, type_of_operator(op, second))
 }
 
-// The type of an expression that has to be an integer.
+// The type of an expression that has to be an integer: `Mismatch` where it is of a data type.
 #[cycle(typing)]
 fn type_integer(
     program: &Program,
@@ -265,7 +266,7 @@ fn type_clauses(
     Ok(found.unwrap_or(Ty::Int(64)))
 }
 
-// The type of a clause's body, within what its pattern binds.
+// The type of a clause's body, within the scope and what its pattern binds at the scrutinee's type.
 #[cycle(typing)]
 fn type_clause(
     program: &Program,
@@ -285,7 +286,8 @@ fn type_clause(
     Ok(found)
 }
 
-// The first token of an expression.
+// The number of an expression's first token: there it is refused where it has to be an integer and
+// is none.
 fn first_token(expr: &Expr) -> u32
     ensures { (types : List DataDecl) → (funs : List Fun) → (rule_of types funs expr.now).at ≡ result }
 {
@@ -313,7 +315,7 @@ fn variable_type(var: u32, scope: &[Param]) -> Ty
     Ty::Int(64)
 }
 
-// The parameters of the function with this number.
+// The parameters of the function with this number; none where there is no such function.
 fn params_of(program: &Program, fun: u32) -> &[Param]
     ensures { result.now ≡ params_of (slice_get program.now.funs fun) }
 {

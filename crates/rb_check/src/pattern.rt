@@ -123,7 +123,8 @@ pub fn bind_pattern(
     }
 }
 
-// Adds what the subpatterns of a constructor bind, after their number is checked.
+// Adds what the subpatterns of a constructor bind. Before that, there have to be as many of them as
+// fields: `Arity` at the token `at` else.
 #[cycle(pattern)]
 fn bind_fields(
     types: &[DataDecl],

@@ -45,7 +45,7 @@ fn add_function(
     Ok(())
 }
 
-// The parameters as the outermost binders.
+// The binders of a function's parameters, in order, which are the outermost of its body.
 fn binders_of(alloc: Global, params: &[Param]) -> Result<Seq<Binder>, AllocError>
     ensures { IfOk result (λ scope. scope ≡ map binder_of params.now) }
 {
@@ -114,7 +114,7 @@ fn add_sites(
     }
 }
 
-// Adds the matches of arguments.
+// Adds the matches of arguments, from the first argument to the last, all within the same scope.
 #[cycle(adding)]
 fn add_arguments(
     alloc: Global,
@@ -133,7 +133,7 @@ fn add_arguments(
     Ok(())
 }
 
-// Adds the matches of the body of a `let`.
+// Adds the matches of the body of a `let`, within the scope and the variable that it binds.
 #[cycle(adding)]
 fn add_under(
     alloc: Global,
@@ -174,7 +174,7 @@ fn add_bodies(
     Ok(())
 }
 
-// Adds the matches of a clause's body, within what its pattern binds.
+// Adds the matches of a clause's body, within the scope and what its pattern binds at type `ty`.
 #[cycle(adding)]
 fn add_body(
     alloc: Global,
@@ -195,7 +195,7 @@ fn add_body(
     Ok(())
 }
 
-// The patterns of clauses.
+// Copies of the patterns of clauses, in order, for the site of their match.
 fn patterns_of(alloc: Global, clauses: &[Clause]) -> Result<Seq<Pat>, AllocError>
     ensures { IfOk result (λ patterns. patterns ≡ map (λ c. c.pat) clauses.now) }
 {

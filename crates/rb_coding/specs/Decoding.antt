@@ -10,11 +10,12 @@ use Rattle.rb_rel.specs.Relation.{Represents}
 use Rattle.rb_coding.specs.declared.fault.DecodeFault.{DecodeFault}
 use Rattle.rb_coding.specs.declared.fault.DecodeFault.TheVariants.{TooLarge, Memory as NoMemory}
 
--- the words represent the value, their free bits being anything
+-- these words represent the value in a memory, at a type of the program; their free bits are anything
 abbrev pub AreOf : Program → Memory → Ty → List ℕ → Value → Type 0
 AreOf p m ty ws v = Represents p.types (flat_layouts p) m false ty v ws
 
--- it is this value and has at most so many nodes, or it has more
+-- what may be answered for words of value v: v, where it has at most `limit` nodes, or that it is too large, where it
+-- has more; want of memory says nothing of it
 abbrev pub IsDecoded : Value → ℕ → Result Value DecodeFault → Type 0
 IsDecoded v limit (Ok found) = (found ≡ v) × (node_count v ≤ limit)
 IsDecoded v limit (Err TooLarge) = limit < node_count v

@@ -14,7 +14,8 @@ use Rattle.rb_rel.specs.Relation.{IsCleanlyRepresented}
 use Rattle.rb_coding.specs.declared.fault.EncodeFault.{EncodeFault}
 use Rattle.rb_coding.specs.declared.fault.EncodeFault.TheVariants.{Full, Memory as NoMemory}
 
--- where the requests before the first that does not fit end up
+-- where the requests before the first that would end beyond `limit` are laid, from address `next` on: each by address
+-- and size, and all of them where none would
 abbrev pub laid_before : ℕ → ℕ → List Request → List (ℕ × ℕ)
 laid_before limit next [] = []
 laid_before limit next (r ∷ rs) =
@@ -32,7 +33,8 @@ pub record StandsAlone (types : List DataDecl) (layouts : List Layout) (m : Memo
   pub laid : lay m.limit from (requests_of layouts (making_of types v t)) ≡ Fits blocks to
   pub represents : IsCleanlyRepresented types layouts (only m blocks) t v ws
 
--- values one behind the other, their words too, each over its own blocks
+-- values of these types, laid one behind the other from one address to another, with their words one behind the
+-- other, too: each value stands over its own blocks alone
 abbrev pub StandApart : List DataDecl → List Layout → Memory → List Ty → List Value → ℕ → List (ℕ × ℕ) → ℕ → List ℕ
     → Type 0
 StandApart types layouts m [] [] from blocks to ws = (from ≡ to) × (blocks ≡ []) × (ws ≡ [])
@@ -54,13 +56,15 @@ Encodes right rs old new (Err (Full full)) =
     (lay old.limit old.next rs ≡ Over full) × Grown old new (laid_before old.limit old.next rs) full.next
 Encodes right rs old new (Err NoMemory) = Unit {0}
 
--- a value of a type: the words represent it over the new blocks alone, and free bits are 0
+-- what may come of encoding a value of a type: its words represent it over the new blocks alone, and free bits are 0;
+-- or one of its blocks does not fit. Want of memory says nothing of it
 abbrev pub IsEncoded : Program → Ty → Value → Memory → Memory → Result (List ℕ) EncodeFault → Type 0
 IsEncoded p ty v old new =
     Encodes (λ m blocks ws. IsCleanlyRepresented p.types (flat_layouts p) (only m blocks) ty v ws)
     (requests_of (flat_layouts p) (making_of p.types v ty)) old new
 
--- several values, made one after the other: each stands over its own blocks alone
+-- what may come of encoding values one after the other: the words of each represent it over its own blocks alone; or
+-- one of their blocks does not fit. Want of memory says nothing of it
 abbrev pub AreEncoded : Program → List Ty → List Value → Memory → Memory → Result (List ℕ) EncodeFault → Type 0
 AreEncoded p ts vs old new =
     Encodes (λ m blocks ws. StandApart p.types (flat_layouts p) m ts vs old.next blocks m.next ws)

@@ -20,7 +20,8 @@ pub fn take_from(word: u64, o: u64, l: u64) -> u64
     high % (1 << l)
 }
 
-/// A word with the low bits of `part` put into its bits `o` up to `o + l`, where these are bits of it.
+/// A word with the low bits of `part` put into its bits `o` up to `o + l`; the word as it is where
+/// `l` is 0 or these are not all bits of it.
 pub fn put_into(word: u64, o: u64, l: u64, part: u64) -> u64
     ensures { result ≡ put_into word o l part }
 {

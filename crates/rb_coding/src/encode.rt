@@ -59,7 +59,8 @@ pub fn encode<M: ByteMemory>(
 ///
 /// # Errors
 ///
-/// As for one value.
+/// `Full` exactly where a block of one of the values doesn't fit, the first one; those before it
+/// are placed and written. Or want of memory.
 pub fn encode_all<M: ByteMemory>(
     alloc: Global,
     agreed: &Agreed,

@@ -21,7 +21,9 @@ pub enum Wanted {
     Field,
 }
 
-// The entry for which a part of `l` bits with a number in them stands, and what it is to be.
+// The entry for which a part of `l` bits with a number in them stands, and what it is to be; none
+// where the part has no entry in the table. Where it is a slice of an integer, the number is put
+// into `first`, the first entry so far.
 fn entry(
     wanted: Wanted,
     path: &[u32],
@@ -65,7 +67,7 @@ fn put_at(table: &mut Seq<u64>, i: u64, number: u64)
     }
 }
 
-// Puts what the parts of a word stand for.
+// Puts into a table what the parts of a word stand for, where `word` is its value.
 fn put_parts(table: &mut Seq<u64>, wanted: Wanted, path: &[u32], parts: &[Part], word: u64)
     ensures { table.new ≡ put_parts wanted path.now word parts.now table.old }
 {
@@ -79,7 +81,7 @@ fn put_parts(table: &mut Seq<u64>, wanted: Wanted, path: &[u32], parts: &[Part],
     }
 }
 
-/// Puts what the parts of words stand for.
+/// Puts into a table what the parts of flat words stand for, where `words` has the value of each.
 pub(crate) fn put_words(
     table: &mut Seq<u64>,
     wanted: Wanted,
@@ -110,7 +112,8 @@ fn words_at(loaded: &[Seq<u64>], i: usize) -> &[u64]
     }
 }
 
-// Puts what the parts of blocks stand for, whose words were loaded from the last block to the first.
+// Puts what the parts of blocks stand for into the table of the field at a path. The words of the
+// blocks were loaded from the last block to the first.
 fn put_blocks(table: &mut Seq<u64>, path: &[u32], blocks: &[Block], loaded: &[Seq<u64>])
     ensures { table.new ≡ put_blocks path.now blocks.now loaded.now table.old }
 {

@@ -13,7 +13,7 @@ use rb_core::pattern::Pat;
 use rb_layout::layout::{Layout, Leaf};
 use rb_values::nodes::{Layer, Nodes};
 
-// The node of a field, where it is there.
+// The node of a field of a node; the node itself where it has no such field.
 fn child_at(nodes: &Nodes, node: usize, field: usize) -> usize
     ensures { field < length (subs (at nodes.now node)) → at nodes.now result ≡ at (subs (at nodes.now node)) field }
 {
@@ -64,7 +64,7 @@ fn all_match(pats: &[Pat], nodes: &Nodes, node: usize, count: usize) -> bool
     true
 }
 
-// The first leaf whose provenance matches.
+// The first of these leaves whose provenance matches a node; none where none does.
 fn leaf_among<'a>(leaves: &'a [Leaf], nodes: &Nodes, node: usize) -> Option<&'a Leaf>
     ensures { option_copied result ≡ leaf_numbered leaves.now (leaf_from leaves.now (at nodes.now node) 0) }
 {
@@ -76,7 +76,8 @@ fn leaf_among<'a>(leaves: &'a [Leaf], nodes: &Nodes, node: usize) -> Option<&'a 
     None
 }
 
-/// The leaf of a node at a data type.
+/// The leaf of a node at data type `ty`: the first in the type's layout whose provenance matches
+/// it. None where there is no such leaf.
 pub(crate) fn leaf_of<'a>(
     layouts: &'a [Layout],
     ty: u32,

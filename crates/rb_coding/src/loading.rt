@@ -10,7 +10,7 @@ use rb_core::seq::Seq;
 use rb_layout::layout::{FlatWord, Leaf};
 use std::alloc::{AllocError, Global};
 
-// The words of a block that begins at the base.
+// The words of a block that begins at the address `base`, each loaded with its width.
 fn load_words<M: ByteMemory>(
     alloc: Global,
     memory: &M,

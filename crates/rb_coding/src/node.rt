@@ -26,7 +26,8 @@ pub(crate) fn one_word(alloc: Global, word: u64) -> Result<Seq<u64>, AllocError>
     Ok(words)
 }
 
-/// The words of a node at its type, given those of the nodes before it. The blocks of its leaf are placed.
+/// The words of a node at its type, given those of the nodes before it. The blocks of its leaf are
+/// placed in the memory and filled.
 pub(crate) fn node_words<M: ByteMemory>(
     alloc: Global,
     memory: &mut M,

@@ -22,14 +22,15 @@ fn address(addresses: &[u64], block: u32) -> u64
     }
 }
 
-// An address in steps of an alignment.
+// An address in steps of an alignment, as a pointer holds it.
 fn scaled(address: u64, align: u64) -> u64
     ensures { result ≡ address / align }
 {
     if align == 0 { 0 } else { address / align }
 }
 
-// What a part of a node's word is to hold.
+// The number that a part of a word of a node is to hold: a constant, bits or a word of a field, or
+// the address of a block in steps of its alignment.
 fn number_of(part: &Part, nodes: &Nodes, node: usize, table: &Table, addresses: &[u64]) -> u64
     ensures { result ≡ number_of (subs_of table.now nodes.now node) (slice_index addresses.now)
         part.now.l part.now.kind }
@@ -61,7 +62,7 @@ pub(crate) fn pack(
     word
 }
 
-/// The root words of a node.
+/// The words of a node that these flat words describe, each made from its parts.
 pub(crate) fn pack_all(
     alloc: Global,
     words: &[FlatWord],

@@ -28,7 +28,7 @@ pub struct Opening<'a> {
 }
 
 impl<'a> Opening<'a> {
-    // The words of the field at a path.
+    // The words of the field at a path of the value that is opened.
     fn words_of(&self, alloc: Global, path: &[u32]) -> Result<Seq<u64>, AllocError>
         ensures { IfOk result (λ words. words ≡ words_of self.now path.now) }
     {
@@ -88,7 +88,8 @@ pub(crate) fn plan(
     }
 }
 
-// Adds those of the fields of a constructor, of the last field first.
+// Adds the steps of the fields of a constructor, those of the last field first: the last step is
+// done first.
 #[cycle(planning)]
 fn plan_fields(
     alloc: Global,

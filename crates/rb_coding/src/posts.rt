@@ -29,7 +29,7 @@ pub(crate) fn sizes_of(alloc: Global, value: &Forest) -> Result<Seq<usize>, Allo
     Ok(sizes)
 }
 
-/// The types of the fields of a constructor of a type.
+/// The types of the fields of a constructor of a type; none where the type has no such constructor.
 pub(crate) fn field_list(types: &[DataDecl], ty: Ty, con: u32) -> &[Ty]
     ensures { result.now ≡ field_list types.now ty con }
 {
@@ -45,7 +45,7 @@ pub(crate) fn field_list(types: &[DataDecl], ty: Ty, con: u32) -> &[Ty]
     }
 }
 
-// Adds the types of a node's fields.
+// Adds the types of a node's fields to the types that wait for their nodes; a number has none.
 fn push_fields(
     types: &[DataDecl],
     ty: Ty,

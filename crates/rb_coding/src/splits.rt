@@ -13,7 +13,7 @@ use rb_core::boxed::Boxed;
 use rb_core::layout_decl::Loc;
 use rb_layout::layout::{FlatArm, FlatTree};
 
-// The number at a location.
+// The number that is read at a location, from the root words and the memory.
 fn read_loc<M: ByteMemory>(memory: &M, words: &[u64], loc: &Loc) -> u64
     requires good { IsGood (M.memory memory.now) }
     requires reads { (n : ℕ) × Reads words.now (M.memory memory.now) loc.now n }

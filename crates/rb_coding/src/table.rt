@@ -9,7 +9,7 @@ use crate::lookup::item;
 use rb_core::seq::Seq;
 use rb_values::nodes::{Layer, Nodes};
 
-/// How many nodes the value of each node has, and the words of each node so far.
+/// A table by node: how many nodes the value of each node has, and the words of each node so far.
 #[derive(Drop)]
 pub struct Table {
     pub sizes: Seq<usize>,
@@ -49,7 +49,7 @@ fn size_before(sizes: &[usize], node: usize) -> usize
     }
 }
 
-/// Where the nodes of the last `count` subvalues before a node begin.
+/// Where the nodes of the last `count` subvalues before node `end` begin; `end` where `count` is 0.
 pub(crate) fn start_of(sizes: &[usize], end: usize, count: usize) -> usize
     ensures { result ≡ start_of sizes.now end count }
 {
@@ -60,7 +60,7 @@ pub(crate) fn start_of(sizes: &[usize], end: usize, count: usize) -> usize
     start
 }
 
-// The node of a field: the nodes of the fields behind it stand between it and the node.
+// The node of a field of a node: the nodes of the fields behind it stand between it and the node.
 fn field_node(nodes: &Nodes, sizes: &[usize], node: usize, field: u32) -> usize
     ensures { result ≡ field_node nodes.now sizes.now node field }
 {
@@ -68,7 +68,7 @@ fn field_node(nodes: &Nodes, sizes: &[usize], node: usize, field: u32) -> usize
     start_of(sizes, node, behind).saturating_sub(1)
 }
 
-// The node at a path.
+// The node at a path of field numbers below the node `root`.
 fn node_at(nodes: &Nodes, sizes: &[usize], root: usize, path: &[u32]) -> usize
     ensures { result ≡ node_at nodes.now sizes.now root path.now }
 {
@@ -80,7 +80,7 @@ fn node_at(nodes: &Nodes, sizes: &[usize], root: usize, path: &[u32]) -> usize
 }
 
 impl Table {
-    /// Word `j` of the subvalue at a path of a node.
+    /// Word `j` of the value at a path below a node; 0 where the table has none for it.
     pub(crate) fn word(&self, nodes: &Nodes, node: usize, path: &[u32], j: u64) -> u64
         ensures { result ≡ slice_index (subs_of self.now nodes.now node path.now) j }
     {

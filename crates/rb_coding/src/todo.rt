@@ -25,8 +25,8 @@ pub enum Step {
     Join(u32, usize),
 }
 
-/// What the words of a value of a data type come to: its leaf's constructors and open positions, so
-/// that the last thing is to be done first.
+/// Adds to what is to be done what the words of a value of a data type come to: its leaf's
+/// constructors, numbers and open positions. The last step is to be done first.
 pub(crate) fn open<M: ByteMemory>(
     alloc: Global,
     agreed: &Agreed,

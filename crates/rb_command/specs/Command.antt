@@ -12,6 +12,8 @@ pub record Limits : Type 0 where
   pub calls : ℕ
   pub region : ℕ
 
+-- a command with its arguments: names of files and functions and values as the bytes of their words, and numbers and
+-- paths as what their words spell
 pub data Command : Type 0 where
   check : (file : List ℕ) → Command
   layout : (file : List ℕ) → Command
@@ -27,9 +29,11 @@ pub data Command : Type 0 where
 
 -- Commands as words -------------------------------------------------------------------------
 
+-- the number n is at least `low` and at most `high`
 abbrev pub IsBetween : ℕ → ℕ → ℕ → Type 0
 IsBetween low high n = (low ≤ n) × (n ≤ high)
 
+-- CALLS is at most `most_calls`, and REGION is from 64 to `most_region`
 abbrev pub AreLimits : Limits → Type 0
 AreLimits limits = IsBetween 0 most_calls limits.calls × IsBetween 64 most_region limits.region
 
@@ -37,6 +41,7 @@ AreLimits limits = IsBetween 0 most_calls limits.calls × IsBetween 64 most_regi
 abbrev pub most_generated : ℕ
 most_generated = 2000
 
+-- a generated file may have so many functions beside `up` and `main`: at least 1, and at most `most_generated`
 abbrev pub IsFunctionCount : ℕ → Type 0
 IsFunctionCount functions = IsBetween 1 most_generated functions
 
@@ -54,11 +59,11 @@ IsWithinBounds (exec code function limits words) = AreLimits limits × All (λ w
 IsWithinBounds (value file second) = Unit {0}
 IsWithinBounds (peek file second path) = AreSteps path
 
--- CALLS and REGION, and the words behind them
+-- the words of CALLS and REGION, in front of the words behind them
 abbrev pub with_limits : Limits → List (List ℕ) → List (List ℕ)
 with_limits limits behind = decimal limits.calls ∷ decimal limits.region ∷ behind
 
--- how a command is written
+-- the words of a command, as it is written on the command line
 abbrev pub words_of : Command → List (List ℕ)
 words_of (check file) = codes "check" ∷ file ∷ []
 words_of (layout file) = codes "layout" ∷ file ∷ []
@@ -72,12 +77,14 @@ words_of (exec code function limits words) = codes "exec" ∷ code ∷ function 
 words_of (value file second) = codes "value" ∷ file ∷ second ∷ []
 words_of (peek file second path) = codes "peek" ∷ file ∷ second ∷ path_text path ∷ []
 
+-- these words are how the command is written, and its numbers lie within their bounds
 pub record IsWordsOf (command : Command) (words : List (List ℕ)) : Type 0 where
   pub bounded : IsWithinBounds command
   pub written : words ≡ words_of command
 
 -- Words that are no command -----------------------------------------------------------------
 
+-- these words are those of some command
 abbrev pub AreCommand : List (List ℕ) → Type 0
 AreCommand words = (command : Command) × IsWordsOf command words
 
@@ -94,7 +101,7 @@ pub record IsUsageAt (words : List (List ℕ)) (word : ℕ) : Type 0 where
 abbrev pub Parsed : Type 0
 Parsed = Result Command ℕ
 
--- what the words come to
+-- what may be answered for words: the command that they write, or the number of the first word at fault
 abbrev pub IsParsed : List (List ℕ) → Parsed → Type 0
 IsParsed words (Ok command) = IsWordsOf command words
 IsParsed words (Err word) = IsUsageAt words word

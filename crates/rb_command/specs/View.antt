@@ -7,9 +7,11 @@ use Rattle.rb_command.specs.declared.command.CommandFault.{CommandFault}
 use Rattle.rb_command.specs.declared.command.CommandFault.TheVariants as fault
 use Rattle.rb_command.specs.declared.limits.Limits as limits
 
+-- the limits that the code holds, as the definition of commands has them
 abbrev pub limits_view : limits.Limits → Limits
 limits_view l = record { calls = l.calls; region = l.region }
 
+-- the command that the code holds, as the definition of commands has it
 abbrev pub command_view : declared.Command → Command
 command_view (form.Check file) = check file.now
 command_view (form.Layout file) = layout file.now
@@ -23,7 +25,8 @@ command_view (form.Exec code function limits words) = exec code.now function.now
 command_view (form.Value file second) = value file.now second.now
 command_view (form.Peek file second path) = peek file.now second.now path
 
--- words that are no command: the number of the first at fault, or memory ran out
+-- a fault that may be answered for words: the number of the first at fault, where they are no command, or want of
+-- memory, which says nothing of them
 abbrev pub IsUsage : List (List ℕ) → CommandFault → Type 0
 IsUsage words (fault.Usage n) = IsUsageAt words n
 IsUsage words fault.Memory = Unit {0}

@@ -37,13 +37,13 @@ pub enum Command<'a> {
         limits: Limits,
         values: &'a [Name],
     },
-    /// The image of such a run's value.
+    /// The image of the value of a run of the function `main` of a file on these values.
     Image {
         file: &'a [u8],
         limits: Limits,
         values: &'a [Name],
     },
-    /// The value of such a run, and what the run did.
+    /// The value of a run of the function `main` of a file on these values, and what the run did.
     Count {
         file: &'a [u8],
         limits: Limits,
@@ -70,7 +70,7 @@ pub enum Command<'a> {
         file: &'a [u8],
         image: &'a [u8],
     },
-    /// The part of such a value at a path.
+    /// The part at a path of the value that an image holds.
     Peek {
         file: &'a [u8],
         image: &'a [u8],
@@ -106,7 +106,8 @@ const FUNCTIONS: u64 = 2_000;
 // The number of the first WORD behind `exec`.
 const FIRST_WORD: usize = 6;
 
-// CALLS and REGION, from the word of this number on, and the words behind them.
+// Reads CALLS and REGION, which are the first of these words, and gives them with the words behind
+// them. CALLS is the word with this number of the whole line.
 fn parse_limits<'a>(number: usize, words: &'a [Name]) -> Result<(Limits, &'a [Name]), CommandFault>
     requires { number ≤ 4 }
     ensures { (go : LimitsValue → List (List ℕ) → Parsed) → MatchResult result
@@ -128,7 +129,7 @@ fn parse_limits<'a>(number: usize, words: &'a [Name]) -> Result<(Limits, &'a [Na
     Ok((Limits { calls, region }, words))
 }
 
-// The words behind `check`.
+// Reads the words behind `check`: FILE and no more.
 fn parse_check<'a>(words: &'a [Name]) -> Result<Command<'a>, CommandFault>
     ensures { MatchResult result (λ c. check_words words.now ≡ Ok (command_view c)) (StopsAs (check_words words.now)) }
 {
@@ -141,7 +142,7 @@ fn parse_check<'a>(words: &'a [Name]) -> Result<Command<'a>, CommandFault>
     }
 }
 
-// The words behind `layout`.
+// Reads the words behind `layout`: FILE and no more.
 fn parse_layout<'a>(words: &'a [Name]) -> Result<Command<'a>, CommandFault>
     ensures { MatchResult result (λ c. layout_words words.now ≡ Ok (command_view c))
         (StopsAs (layout_words words.now)) }
@@ -155,7 +156,7 @@ fn parse_layout<'a>(words: &'a [Name]) -> Result<Command<'a>, CommandFault>
     }
 }
 
-// The words behind `compile`.
+// Reads the words behind `compile`: FILE and no more.
 fn parse_compile<'a>(words: &'a [Name]) -> Result<Command<'a>, CommandFault>
     ensures { MatchResult result (λ c. compile_words words.now ≡ Ok (command_view c))
         (StopsAs (compile_words words.now)) }
@@ -169,7 +170,8 @@ fn parse_compile<'a>(words: &'a [Name]) -> Result<Command<'a>, CommandFault>
     }
 }
 
-// FILE, CALLS and REGION, and the VALUEs behind them.
+// Reads FILE, CALLS and REGION, which stand behind `run`, `image` and `count`, and gives them with
+// the VALUEs behind them.
 fn parse_call<'a>(words: &'a [Name]) -> Result<(&'a [u8], Limits, &'a [Name]), CommandFault>
     ensures { (command : List ℕ → LimitsValue → List (List ℕ) → CommandValue) → MatchResult result
         (λ p. with_call words.now command ≡ Ok (command p.0.now (limits_view p.1) p.2.now))
@@ -182,7 +184,7 @@ fn parse_call<'a>(words: &'a [Name]) -> Result<(&'a [u8], Limits, &'a [Name]), C
     Ok((file.as_slice(), limits, values))
 }
 
-// The words behind `run`.
+// Reads the words behind `run`: FILE CALLS REGION and zero or more VALUE.
 fn parse_run<'a>(words: &'a [Name]) -> Result<Command<'a>, CommandFault>
     ensures { MatchResult result (λ c. run_words words.now ≡ Ok (command_view c)) (StopsAs (run_words words.now)) }
 {
@@ -194,7 +196,7 @@ fn parse_run<'a>(words: &'a [Name]) -> Result<Command<'a>, CommandFault>
     })
 }
 
-// The words behind `image`.
+// Reads the words behind `image`: FILE CALLS REGION and zero or more VALUE.
 fn parse_image<'a>(words: &'a [Name]) -> Result<Command<'a>, CommandFault>
     ensures { MatchResult result (λ c. image_words words.now ≡ Ok (command_view c)) (StopsAs (image_words words.now)) }
 {
@@ -206,7 +208,7 @@ fn parse_image<'a>(words: &'a [Name]) -> Result<Command<'a>, CommandFault>
     })
 }
 
-// The words behind `count`.
+// Reads the words behind `count`: FILE CALLS REGION and zero or more VALUE.
 fn parse_count<'a>(words: &'a [Name]) -> Result<Command<'a>, CommandFault>
     ensures { MatchResult result (λ c. count_words words.now ≡ Ok (command_view c)) (StopsAs (count_words words.now)) }
 {
@@ -218,7 +220,8 @@ fn parse_count<'a>(words: &'a [Name]) -> Result<Command<'a>, CommandFault>
     })
 }
 
-// N, and the words behind it.
+// Reads N, how many functions a generated file has beside `up` and `main`, and gives it with the
+// words behind it.
 fn parse_functions<'a>(words: &'a [Name]) -> Result<(Functions, &'a [Name]), CommandFault>
     ensures { (go : ℕ → List (List ℕ) → Parsed) → MatchResult result
         (λ p. with_functions words.now go ≡ go p.0.count p.1.now)
@@ -233,7 +236,7 @@ fn parse_functions<'a>(words: &'a [Name]) -> Result<(Functions, &'a [Name]), Com
     Ok((Functions { count }, words))
 }
 
-// The words behind `gen`.
+// Reads the words behind `gen`: N and no more.
 fn parse_gen<'a>(words: &'a [Name]) -> Result<Command<'a>, CommandFault>
     ensures { MatchResult result (λ c. gen_words words.now ≡ Ok (command_view c)) (StopsAs (gen_words words.now)) }
 {
@@ -244,7 +247,7 @@ fn parse_gen<'a>(words: &'a [Name]) -> Result<Command<'a>, CommandFault>
     }
 }
 
-// The words behind `genrun`.
+// Reads the words behind `genrun`: N CALLS REGION and no more.
 fn parse_genrun<'a>(words: &'a [Name]) -> Result<Command<'a>, CommandFault>
     ensures { MatchResult result (λ c. genrun_words words.now ≡ Ok (command_view c))
         (StopsAs (genrun_words words.now)) }
@@ -257,7 +260,7 @@ fn parse_genrun<'a>(words: &'a [Name]) -> Result<Command<'a>, CommandFault>
     }
 }
 
-// The numbers that words spell, the first of which has the number 6.
+// Reads the WORDs of `exec`, the first of which is word 6 of the line, as numbers below 2^64.
 fn parse_numbers(alloc: Global, words: &[Name]) -> Result<Seq<u64>, CommandFault>
     ensures { MatchResult result (λ numbers. numbers_from 6 words.now ≡ Ok numbers)
         (StopsAs (numbers_from 6 words.now)) }
@@ -272,7 +275,7 @@ fn parse_numbers(alloc: Global, words: &[Name]) -> Result<Seq<u64>, CommandFault
     Ok(numbers)
 }
 
-// The words behind `exec` and the code's file.
+// Reads the words behind `exec` and the code's file: FUN CALLS REGION and zero or more WORD.
 fn parse_function<'a>(
     alloc: Global,
     code: &'a [u8],
@@ -294,7 +297,7 @@ fn parse_function<'a>(
     })
 }
 
-// The words behind `exec`.
+// Reads the words behind `exec`: CODE FUN CALLS REGION and zero or more WORD.
 fn parse_exec<'a>(alloc: Global, words: &'a [Name]) -> Result<Command<'a>, CommandFault>
     ensures { MatchResult result (λ c. exec_words words.now ≡ Ok (command_view c)) (StopsAs (exec_words words.now)) }
 {
@@ -304,7 +307,7 @@ fn parse_exec<'a>(alloc: Global, words: &'a [Name]) -> Result<Command<'a>, Comma
     parse_function(alloc, code.as_slice(), words)
 }
 
-// The words behind `value`.
+// Reads the words behind `value`: FILE IMAGE and no more.
 fn parse_value<'a>(words: &'a [Name]) -> Result<Command<'a>, CommandFault>
     ensures { MatchResult result (λ c. value_words words.now ≡ Ok (command_view c)) (StopsAs (value_words words.now)) }
 {
@@ -319,7 +322,7 @@ fn parse_value<'a>(words: &'a [Name]) -> Result<Command<'a>, CommandFault>
     }
 }
 
-// The words behind `peek`.
+// Reads the words behind `peek`: FILE IMAGE PATH and no more.
 fn parse_peek<'a>(alloc: Global, words: &'a [Name]) -> Result<Command<'a>, CommandFault>
     ensures { MatchResult result (λ c. peek_words words.now ≡ Ok (command_view c)) (StopsAs (peek_words words.now)) }
 {
@@ -345,7 +348,8 @@ fn parse_peek<'a>(alloc: Global, words: &'a [Name]) -> Result<Command<'a>, Comma
     }
 }
 
-// The command of the words, read one after the other.
+// The command of the words, read one after the other: the first says how those behind it are read.
+// Word 1 is at fault where it is missing or names no command.
 #[tactic(auto, unfolding(crate::specs::inner::Parsing::command_of))]
 fn read_words<'a>(alloc: Global, words: &'a [Name]) -> Result<Command<'a>, CommandFault>
     ensures { MatchResult result (λ c. command_of words.now ≡ Ok (command_view c)) (StopsAs (command_of words.now)) }

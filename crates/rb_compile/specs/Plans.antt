@@ -1,4 +1,5 @@
--- The plan of a program whose layouts agree: what its matches may cost.
+-- The plan of a program whose layouts agree: what its matches may cost. A site is a match of a function, by its
+-- token.
 use Rattle.std.specs.Prelude.{ℕ, ◌==◌, List, [], ◌∷◌, Option, Some, None, slice_get, if◌then◌else◌}
 use Rattle.rb_core.specs.declared.coverage.Site.{Site}
 use Rattle.rb_core.specs.declared.program.Fun.{Fun}

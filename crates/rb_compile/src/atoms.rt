@@ -22,7 +22,7 @@ use rb_target::body::Body;
 use rb_target::instr::{AluOp, Instr};
 use std::alloc::{AllocError, Global};
 
-// A number, at the wanted type.
+// The code of a number, at the wanted type: its value stands in a new slot.
 pub(crate) fn emit_number(
     alloc: Global,
     body: &mut Body,
@@ -40,7 +40,8 @@ pub(crate) fn emit_number(
     Ok(held)
 }
 
-// A variable's slots. One that is not bound is 0, as it is in the meaning.
+// A variable's slots, without code. One that is not bound is 0, as it is in the meaning, in a new
+// slot.
 pub(crate) fn emit_variable(
     alloc: Global,
     body: &mut Body,
@@ -60,7 +61,7 @@ pub(crate) fn emit_variable(
     }
 }
 
-// The last of the variables with a number.
+// The slots and the type of the last of the variables with a number; None where none has it.
 fn find(alloc: Global, var: u32, locals: &[Local]) -> Result<Option<Held>, AllocError>
     ensures { IfOk result (λ o. o ≡ held_or None var locals.now) }
 {
@@ -77,7 +78,8 @@ fn find(alloc: Global, var: u32, locals: &[Local]) -> Result<Option<Held>, Alloc
     Ok(found)
 }
 
-// An operator on two integers of a type.
+// The code of an operator on two integers of a type that stand in slots: the result is in a new
+// one.
 pub(crate) fn emit_operator(
     alloc: Global,
     body: &mut Body,
@@ -97,7 +99,7 @@ pub(crate) fn emit_operator(
     Ok(held)
 }
 
-// The low bits of an integer.
+// The code that takes the low bits of an integer that stands in a slot to a new one.
 pub(crate) fn emit_low_bits(
     alloc: Global,
     body: &mut Body,
@@ -136,7 +138,7 @@ pub(crate) fn emit_calling(
     })
 }
 
-// What is wanted of an operator's first operand.
+// The type that is wanted of an operator's first operand, by what is wanted of the whole.
 pub(crate) fn first_wanted(op: Op, wanted: Option<Ty>) -> Option<Ty>
     ensures { result ≡ operand_wanted op wanted }
 {
@@ -147,14 +149,14 @@ pub(crate) fn first_wanted(op: Op, wanted: Option<Ty>) -> Option<Ty>
     }
 }
 
-// What is wanted of one of some arguments.
+// The type that is wanted of argument number `i`, counted from 0; None where there is no such type.
 pub(crate) fn wanted_at(tys: &[Ty], i: usize) -> Option<Ty>
     ensures { result ≡ slice_get tys.now i }
 {
     tys.get(i).copied()
 }
 
-// What an operator gives, from the type of its operands.
+// The type of what an operator gives, from the type of its operands.
 fn result_type(op: Op, ty: Ty) -> Ty
     ensures { result ≡ operator_type op ty }
 {
@@ -180,7 +182,8 @@ fn alu_op(op: Op) -> AluOp
     }
 }
 
-// The width that an instruction states.
+// The width that an instruction states for a type: at least 1, as an integer of a typed program
+// has.
 fn width(ty: Ty) -> u8
     ensures { result ≡ stated_width ty }
 {
@@ -200,7 +203,7 @@ fn first_slot(slots: &[usize]) -> usize
     }
 }
 
-// One slot with a value of a type.
+// A value of a type that stands in this one slot.
 fn one_slot(alloc: Global, ty: Ty, slot: usize) -> Result<Held, AllocError>
     ensures { IfOk result (λ h. h ≡ record { ty = ty; slots = slot ∷ [] }) }
 {

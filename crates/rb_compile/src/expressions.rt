@@ -87,7 +87,8 @@ pub(crate) fn emit_expr(
     }
 }
 
-// An operator, behind its operands. The second is wanted at the type that the first has.
+// The code of an operator, behind that of its operands. The second is wanted at the type that the
+// first has.
 #[cycle(emit)]
 fn emit_binary(
     alloc: Global,
@@ -112,7 +113,7 @@ fn emit_binary(
     Ok(held)
 }
 
-// A binding, and the expression within it.
+// The code of a binding, and behind it that of the expression within it.
 #[cycle(emit)]
 fn emit_let(
     alloc: Global,
@@ -142,8 +143,8 @@ fn emit_let(
     Ok(y)
 }
 
-// A call, behind its arguments; where it stands last in a function, it is as everywhere. A program that
-// was accepted has the function.
+// The code of a call, behind that of its arguments; where it stands last in a function, it is as
+// everywhere. A program that was accepted has the function.
 #[cycle(emit)]
 fn emit_call(
     alloc: Global,
@@ -167,7 +168,8 @@ fn emit_call(
     Ok(held)
 }
 
-// A construction, behind its fields. A program that was accepted has the constructor.
+// The code of a construction, behind that of its fields. A program that was accepted has the
+// constructor.
 #[cycle(emit)]
 fn emit_construction(
     alloc: Global,
@@ -191,7 +193,7 @@ fn emit_construction(
     Ok(held)
 }
 
-// Expressions from left to right, each at its wanted type.
+// The code of expressions from left to right, each at its wanted type.
 #[cycle(emit)]
 fn emit_all(
     alloc: Global,
@@ -215,8 +217,8 @@ fn emit_all(
     Ok(all)
 }
 
-// A match: its scrutinee, the choice of a clause, and the arms, whose targets are set when all stand. A
-// match of a program that was accepted has a clause.
+// The code of a match: its scrutinee, the choice of a clause, and the arms, whose targets are set
+// when all stand. A match of a program that was accepted has a clause.
 #[cycle(emit)]
 fn emit_choice(
     alloc: Global,
@@ -256,7 +258,7 @@ fn emit_choice(
     Ok(held)
 }
 
-// The arms of a match, one behind the other.
+// The code of the arms of a match, one behind the other.
 #[cycle(emit)]
 fn emit_arms(
     alloc: Global,
@@ -292,7 +294,8 @@ fn emit_arms(
     })
 }
 
-// One arm: the variables of its pattern that its body uses, its body, and its value where all arms leave theirs.
+// The code of one arm: the variables of its pattern that its body uses, its body, and its value
+// where all arms leave theirs.
 #[cycle(emit)]
 fn emit_arm(
     alloc: Global,

@@ -68,7 +68,7 @@ fn param_slots(alloc: Global, agreed: &Agreed, params: &[Param]) -> Result<Param
     Ok(Params { locals, count })
 }
 
-// So many slots in a row.
+// So many slots in a row, the first of them `from`.
 fn row(alloc: Global, from: usize, count: usize) -> Result<Seq<usize>, AllocError>
     requires { from + count < 2 ^ 64 }
     ensures { IfOk result (λ s. s ≡ slots_from from count) }
@@ -80,7 +80,7 @@ fn row(alloc: Global, from: usize, count: usize) -> Result<Seq<usize>, AllocErro
     Ok(slots)
 }
 
-// The number of words of a type's values, which a machine word holds.
+// How many words represent a value of a type: a count below 2^64.
 fn count_of(agreed: &Agreed, ty: Ty) -> usize
     ensures value { result ≡ words_of (plan_of agreed.now) ty }
     ensures small { result < 2 ^ 64 }

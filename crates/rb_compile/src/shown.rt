@@ -8,7 +8,8 @@ use rb_core::pattern::Pat;
 use rb_core::seq::Seq;
 use std::alloc::{AllocError, Global};
 
-// A construction shows its constructor, and below it what its arguments show.
+// What an expression shows of its value: a construction its constructor, and below it what its
+// arguments show; any other expression nothing.
 #[cycle(showing)]
 fn shown(alloc: Global, expr: &Expr) -> Result<Pat, AllocError>
     ensures { IfOk result (λ pat. pat ≡ shown_of expr.now) }

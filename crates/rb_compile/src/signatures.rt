@@ -9,7 +9,7 @@ use rb_core::types::{ConRef, DataDecl, Ty};
 use rb_layout::agreed::Agreed;
 use std::alloc::{AllocError, Global};
 
-// A function of the program.
+// The function of the program with a number; None where there is no such function.
 pub(crate) fn function_at(agreed: &Agreed, number: u32) -> Option<&Fun>
     ensures { option_copied result ≡ slice_get agreed.now.covered.program.funs number }
 {
@@ -17,7 +17,7 @@ pub(crate) fn function_at(agreed: &Agreed, number: u32) -> Option<&Fun>
     program.funs.get(number as usize)
 }
 
-// The types of parameters.
+// The types of some parameters, in their order.
 pub(crate) fn param_types(alloc: Global, params: &[Param]) -> Result<Seq<Ty>, AllocError>
     ensures { IfOk result (λ ts. ts ≡ map (λ p. p.ty) params.now) }
 {
@@ -28,7 +28,7 @@ pub(crate) fn param_types(alloc: Global, params: &[Param]) -> Result<Seq<Ty>, Al
     Ok(tys)
 }
 
-// The types of a constructor's fields, where the program has it.
+// The types of a constructor's fields; None where the program does not have the constructor.
 pub(crate) fn field_types(
     alloc: Global,
     agreed: &Agreed,
@@ -41,7 +41,7 @@ pub(crate) fn field_types(
     Ok(fields)
 }
 
-// The types of a constructor's fields, where there is such a constructor.
+// The types of a constructor's fields; None where no such constructor is among these types.
 fn fields_in(alloc: Global, types: &[DataDecl], con: ConRef) -> Result<Option<Seq<Ty>>, AllocError>
     ensures { IfOk result (λ o. o ≡ fields_of types.now con) }
 {

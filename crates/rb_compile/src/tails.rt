@@ -63,7 +63,8 @@ pub(crate) fn emit_tail(
     }
 }
 
-// An expression of one way, and a return of its value.
+// The code of an expression in a tail position that is neither a binding nor a match, and a return
+// of its value.
 fn emit_return(
     alloc: Global,
     agreed: &Agreed,
@@ -82,7 +83,8 @@ fn emit_return(
     Ok(())
 }
 
-// A binding, and the expression within it.
+// The code of a binding in a tail position, and behind it that of the expression within it, which
+// returns.
 #[cycle(tail)]
 fn emit_tail_let(
     alloc: Global,
@@ -112,8 +114,8 @@ fn emit_tail_let(
     Ok(())
 }
 
-// A match: its scrutinee, the choice of a clause, and the arms, each of which returns. A match of a program
-// that was accepted has a clause.
+// The code of a match in a tail position: its scrutinee, the choice of a clause, and the arms, each
+// of which returns. A match of a program that was accepted has a clause.
 #[cycle(tail)]
 fn emit_tail_match(
     alloc: Global,
@@ -142,7 +144,8 @@ fn emit_tail_match(
     Ok(())
 }
 
-// The arms of a match, one behind the other: the number of the first instruction of each.
+// The code of the arms of a match in a tail position, one behind the other: the number of the first
+// instruction of each is answered.
 #[cycle(tail)]
 fn emit_tail_arms(
     alloc: Global,
@@ -167,7 +170,8 @@ fn emit_tail_arms(
     Ok(starts)
 }
 
-// One arm: the variables of its pattern that its body uses, and its body.
+// The code of one arm in a tail position: the variables of its pattern that its body uses, and its
+// body, which returns.
 #[cycle(tail)]
 fn emit_tail_arm(
     alloc: Global,

@@ -16,7 +16,8 @@ pub(crate) struct Marks {
     pub used: Seq<bool>,
 }
 
-// Whether a variable is taken as used.
+// Whether a variable is taken as used: it is marked, or it is none of those of which the marks
+// tell.
 fn is_used(marks: &Marks, var: u32) -> bool
     ensures { result ≡ is_kept marks.now var }
 {
@@ -29,7 +30,7 @@ fn is_used(marks: &Marks, var: u32) -> bool
     }
 }
 
-// Marks a variable.
+// Marks a variable as used. One of which the marks do not tell is taken as used anyway.
 fn mark(marks: &mut Marks, var: u32)
     ensures more { MarksMore marks.old marks.new }
     ensures kept { is_kept marks.new var ≡ true }
@@ -69,7 +70,7 @@ fn mark_expr(marks: &mut Marks, expr: &Expr)
     }
 }
 
-// Marks those of some expressions.
+// Marks the variables of some expressions.
 #[cycle(marking)]
 fn mark_all(marks: &mut Marks, exprs: &[Expr])
     ensures more { MarksMore marks.old marks.new }
@@ -80,7 +81,7 @@ fn mark_all(marks: &mut Marks, exprs: &[Expr])
     }
 }
 
-// Marks those of the bodies of some clauses.
+// Marks the variables of the bodies of some clauses.
 #[cycle(marking)]
 fn mark_bodies(marks: &mut Marks, clauses: &[Clause])
     ensures more { MarksMore marks.old marks.new }
@@ -91,7 +92,7 @@ fn mark_bodies(marks: &mut Marks, clauses: &[Clause])
     }
 }
 
-// The pattern with its unused variables, and all that binds nothing then, as wildcards.
+// The pattern with wildcards in place of numbers and of unused variables. Its constructors stay.
 #[cycle(pruning)]
 fn prune(alloc: Global, marks: &Marks, pat: &Pat) -> Result<Pat, AllocError>
     ensures { IfOk result (λ p. p ≡ pruned (is_kept marks.now) pat.now) }
@@ -112,7 +113,8 @@ fn prune(alloc: Global, marks: &Marks, pat: &Pat) -> Result<Pat, AllocError>
     }
 }
 
-// Patterns without the variables that are not marked.
+// Some patterns, each with wildcards in place of numbers and of unused variables. Their
+// constructors stay.
 #[cycle(pruning)]
 fn prune_all(alloc: Global, marks: &Marks, pats: &[Pat]) -> Result<Seq<Pat>, AllocError>
     ensures { IfOk result (λ ps. ps ≡ map (pruned (is_kept marks.now)) pats.now) }
@@ -124,7 +126,7 @@ fn prune_all(alloc: Global, marks: &Marks, pats: &[Pat]) -> Result<Seq<Pat>, All
     Ok(all)
 }
 
-// The variables of a pattern.
+// Adds the variables of a pattern to a list.
 fn add_variables(pat: &Pat, vars: &mut Seq<u32>) -> Result<(), AllocError> {
     match pat {
         Pat::Wild(_) | Pat::Num(_, _) => Ok(()),

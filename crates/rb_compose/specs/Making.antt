@@ -23,6 +23,7 @@ use Rattle.rb_fragment.specs.Slots.{AllBelow, AllFrom, IsDistinct}
 use Rattle.rb_compose.specs.declared.subvalue.Subvalue.{Subvalue}
 use Rattle.rb_compose.specs.Subvalues.{AreGivenAt, ArePartsHeld}
 
+-- the open positions of a leaf: those of its provenance
 abbrev pub opens_of_leaf : Plan → Leaf → List Open
 opens_of_leaf plan leaf = open_positions plan.program.types leaf.prov
 
@@ -51,7 +52,8 @@ pub record LeafIsMade (plan : Plan) (t n : ℕ) (layout : Layout) (leaf : Leaf) 
       → ArePartsHeld plan clean s w.memory (opens_of_leaf plan leaf) xs v
       → Makes plan clean w.switches next (length old.code) (length new.code) old.slots t slots v s w
 
--- in every program whose layouts agree
+-- in every program whose layouts agree and have the leaf, the appended code makes the values of the leaf of the
+-- subvalues that are given at its open positions
 abbrev pub MakesLeaf : Leaf → List Subvalue → Sheet → Sheet → List ℕ → Type 0
 MakesLeaf leaf xs old new slots =
     (plan : Plan) → IsTyped plan.program → AreAgreed plan.program plan.layouts

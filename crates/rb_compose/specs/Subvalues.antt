@@ -1,4 +1,5 @@
--- Values at the open positions of a leaf, in slots.
+-- Values at the open positions of a leaf, in slots. An open position is a part that the leaf does not tell: a path of
+-- field numbers from the root, and the type there. A subvalue is the value at one, in slots.
 use Rattle.std.specs.Prelude.{◌≡◌, ℕ, List, [], ◌∷◌, Bool, Option, Some, None, length, slice_get, if◌then◌else◌}
 use Rattle.rb_core.specs.declared.value.Value.{Value}
 use Rattle.rb_core.specs.Values.{part_at}
@@ -11,12 +12,12 @@ use Rattle.rb_fragment.specs.Plan.{Plan, Rep, words_of}
 use Rattle.rb_fragment.specs.Slots.{AllBelow}
 use Rattle.rb_compose.specs.declared.subvalue.Subvalue.{Subvalue}
 
--- the first value at a position
+-- the type and the slots of the first subvalue with this path, or None if none has it
 abbrev pub subvalue_at : List Subvalue → List ℕ → Option Held
 subvalue_at [] path = None
 subvalue_at (x ∷ xs) path = if same_path x.path path then Some x.held else subvalue_at xs path
 
--- a value of the position's type is there, in as many slots as its type has words, all below n
+-- there is a subvalue at the open position o, of its type and in as many slots as this has words, all below n
 pub record IsGivenAt (plan : Plan) (n : ℕ) (xs : List Subvalue) (o : Open) : Type 0 where
   pub held : Held
   pub is_there : subvalue_at xs o.path ≡ Some held
@@ -24,10 +25,11 @@ pub record IsGivenAt (plan : Plan) (n : ℕ) (xs : List Subvalue) (o : Open) : T
   pub below : AllBelow n held.slots
   pub count : length held.slots ≡ words_of plan o.ty
 
+-- at each open position there is a subvalue of its type, in as many slots as this has words, all below n
 abbrev pub AreGivenAt : Plan → ℕ → List Open → List Subvalue → Type 0
 AreGivenAt plan n opens xs = (k : ℕ) (o : Open) → slice_get opens k ≡ Some o → IsGivenAt plan n xs o
 
--- the slots at a position represent the part of a value there
+-- the slots of the subvalue at the open position o represent the part of the value v there
 pub record IsPartHeld (plan : Plan) (clean : Bool) (s : List ℕ) (m : Memory) (xs : List Subvalue) (v : Value)
     (o : Open) : Type 0 where
   pub held : Held
@@ -36,6 +38,7 @@ pub record IsPartHeld (plan : Plan) (clean : Bool) (s : List ℕ) (m : Memory) (
   pub is_part : part_at v o.path ≡ Some part
   pub represents : Rep plan m clean o.ty part (slots_at s held.slots)
 
+-- at each open position the slots of the subvalue represent the part of the value v there
 abbrev pub ArePartsHeld : Plan → Bool → List ℕ → Memory → List Open → List Subvalue → Value → Type 0
 ArePartsHeld plan clean s m opens xs v =
     (k : ℕ) (o : Open) → slice_get opens k ≡ Some o → IsPartHeld plan clean s m xs v o

@@ -44,7 +44,8 @@ pub(crate) fn emit_begun(
     Ok(slot)
 }
 
-// A word of what a slot holds and of further parts. One that a slot holds in its place is set beside it at once.
+// Makes, in a new slot, a word of what slot `from` holds and of further parts. Where a slot holds
+// the first of them in its place, it is set beside the other at once.
 fn emit_joined(
     body: &mut Body,
     from: usize,
@@ -78,7 +79,7 @@ fn is_low(part: &Part) -> bool
     }
 }
 
-// The first of these bits.
+// The first of the bits that a part has of a number; 0 for a part of another kind.
 fn low_bit(kind: &Kind) -> u8
     ensures { result ≡ low_bit kind.now }
 {
@@ -88,7 +89,7 @@ fn low_bit(kind: &Kind) -> u8
     }
 }
 
-/// The parts from the first on that is no constant.
+/// The parts from the first on that is no constant; none if all are constants.
 pub(crate) fn after_constants(parts: &[Part]) -> &[Part]
     ensures { result.now ≡ after_constants parts.now }
 {
@@ -100,7 +101,7 @@ pub(crate) fn after_constants(parts: &[Part]) -> &[Part]
     &[]
 }
 
-// Whether a part is a constant.
+// Whether what a part holds is a constant.
 fn is_constant(kind: &Kind) -> bool
     ensures { result ≡ is_constant kind.now }
 {

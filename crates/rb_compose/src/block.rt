@@ -50,7 +50,8 @@ fn emit_block(
     Ok(address)
 }
 
-// Composes words and stores them one behind the other.
+// Appends code that composes words and stores them one behind the other, from byte 0 on, in the
+// block whose address is in slot `address`.
 fn emit_stores(
     body: &mut Body,
     address: usize,
@@ -69,7 +70,7 @@ fn emit_stores(
     Ok(())
 }
 
-// The size of words in bytes.
+// The size of words in bytes, one behind the other.
 fn bytes_of(words: &[FlatWord]) -> Result<u64, AllocError>
     ensures { IfOk result (λ size. size ≡ bytes_in words.now) }
 {

@@ -32,7 +32,8 @@ pub fn emit_leaf(
     Ok(slots)
 }
 
-// The blocks of a leaf, inner ones before outer ones, and then its root words.
+// Appends code that places and fills the blocks of a leaf, inner ones before outer ones, and then
+// composes its root words. Answers the slots of these.
 fn emit_words(
     alloc: Global,
     body: &mut Body,
@@ -48,7 +49,8 @@ fn emit_words(
     Ok(slots)
 }
 
-// The words of the value itself.
+// Appends code that leaves the words of the value itself in new slots, one each, and answers these
+// in their order.
 fn emit_roots(
     alloc: Global,
     body: &mut Body,

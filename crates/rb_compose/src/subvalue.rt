@@ -16,7 +16,7 @@ pub struct Subvalue {
     pub held: Held,
 }
 
-/// The first value at a position.
+/// The type and the slots of the first subvalue with this path, or None if none has it.
 pub fn subvalue_at<'a>(subs: &'a [Subvalue], path: &[u32]) -> Option<&'a Held>
     ensures { option_copied result ≡ subvalue_at subs.now path.now }
 {
@@ -28,7 +28,7 @@ pub fn subvalue_at<'a>(subs: &'a [Subvalue], path: &[u32]) -> Option<&'a Held>
     None
 }
 
-// Whether two positions are the same.
+// Whether two paths have the same field numbers, in the same order.
 fn same_path(own: &[u32], path: &[u32]) -> bool
     ensures { result ≡ same_path own.now path.now }
 {

@@ -14,8 +14,9 @@ use rb_target::body::Body;
 use rb_target::instr::{AluOp, Instr};
 use std::alloc::AllocError;
 
-/// A word in some slot: that of a subvalue whose word it is, or else a new one. `blocks` has the slots of
-/// the addresses of blocks.
+/// Answers a slot that holds a word of these parts, for a store: that of the subvalue whose word it
+/// is, without any code, or else a new one in which it is composed. `blocks` has the slots of the
+/// addresses of blocks.
 ///
 /// # Errors
 ///
@@ -38,7 +39,9 @@ pub(crate) fn emit_value(
     }
 }
 
-/// A word in a new slot.
+/// Leaves a word of these parts in a new slot, as a value's own words need one each: copied from
+/// the subvalue whose word it is, or else composed. `blocks` has the slots of the addresses of
+/// blocks.
 ///
 /// # Errors
 ///
@@ -84,7 +87,8 @@ fn emit_word(
     Ok(slot)
 }
 
-// Parts set beside what stands in a slot, and put over it, one after the other.
+// Appends code that adds parts to the word in slot `into`, one after the other: each set beside
+// what stands there, or put over it.
 pub(crate) fn emit_parts(
     body: &mut Body,
     into: usize,
@@ -100,7 +104,7 @@ pub(crate) fn emit_parts(
     Ok(())
 }
 
-// The constants of parts, each in its place.
+// The word that has the constants of the parts, each in its place, and zeros elsewhere.
 fn constants(parts: &[Part]) -> u64
     ensures { result ≡ constants 0 parts.now }
 {
@@ -169,7 +173,7 @@ pub(crate) fn is_ready(part: &Part, subs: &[Subvalue]) -> bool
     }
 }
 
-/// The slot that has the bits of a part.
+/// The slot that has the bits of a part; 0 for a constant, which needs none.
 pub(crate) fn source_slot(kind: &Kind, subs: &[Subvalue], blocks: &[usize]) -> usize
     ensures { result ≡ source_slot subs.now blocks.now kind.now }
 {
@@ -181,7 +185,8 @@ pub(crate) fn source_slot(kind: &Kind, subs: &[Subvalue], blocks: &[usize]) -> u
     }
 }
 
-// Puts what a part holds into the word in a slot. Constants are there already.
+// Puts what a part holds into the part's range of the word in a slot. A constant takes no code: it
+// is there already.
 fn emit_kind(
     body: &mut Body,
     into: usize,
@@ -225,7 +230,8 @@ fn emit_put(
     Ok(())
 }
 
-// Bits of a slot from bit 0 of a slot on: the slot itself where they stand there already.
+// The slot that has `long` bits of slot `slot`, from bit `from` on, as its lowest bits: a new one,
+// or the slot itself, with whatever stands above them, where they begin at bit 0.
 fn emit_low(body: &mut Body, slot: usize, from: u8, long: u8) -> Result<usize, AllocError>
     ensures slot { IfOk result (λ s. s ≡ taken_slot slot from body.old.slots) }
     ensures code { OnOk result (body.new ≡ taken_code slot from long body.old) }
@@ -237,7 +243,8 @@ fn emit_low(body: &mut Body, slot: usize, from: u8, long: u8) -> Result<usize, A
     Ok(low)
 }
 
-// The slot of a field's word that a word with one part is.
+// The slot that holds a word of these parts already: there is one part, and it has a field's word
+// whole, from bit 0 on. None where the word has to be composed.
 fn whole_slot(parts: &[Part], subs: &[Subvalue]) -> Option<usize>
     ensures { result ≡ whole_slot subs.now parts.now }
 {
@@ -247,7 +254,8 @@ fn whole_slot(parts: &[Part], subs: &[Subvalue]) -> Option<usize>
     whole_part(parts.get(0), subs)
 }
 
-// The slot of a field's word that a part has whole, if there is a part and it is at bit 0.
+// The slot of the field's word that a part has whole; None if there is no part, if it does not
+// begin at bit 0, or if it has no word whole.
 fn whole_part(part: Option<&Part>, subs: &[Subvalue]) -> Option<usize>
     ensures { result ≡ slot_of subs.now (whole_part subs.now (option_copied part.entry)) }
 {
@@ -263,7 +271,7 @@ fn whole_part(part: Option<&Part>, subs: &[Subvalue]) -> Option<usize>
     }
 }
 
-// A part of so many bits that is at bit 0 and has a field's word whole.
+// The slot of the field's word that a part of `l` bits, from bit 0 on, has whole, if it has one.
 fn whole_kind(l: u64, kind: &Kind, subs: &[Subvalue]) -> Option<usize>
     ensures { result ≡ slot_of subs.now (whole_kind subs.now l kind.now) }
 {
@@ -290,7 +298,7 @@ fn is_int(l: u64, ty: Option<Ty>) -> bool
     }
 }
 
-// The type of the subvalue at a path.
+// The type of the subvalue at a path, or None if none is there.
 fn field_type(subs: &[Subvalue], path: &[u32]) -> Option<Ty>
     ensures { result ≡ field_type subs.now path.now }
 {
@@ -300,7 +308,7 @@ fn field_type(subs: &[Subvalue], path: &[u32]) -> Option<Ty>
     }
 }
 
-// The slots of the subvalue at a path.
+// The slots of the subvalue at a path, or none if none is there.
 fn field_slots<'a>(subs: &'a [Subvalue], path: &[u32]) -> &'a [usize]
     ensures { result.now ≡ field_slots subs.now path.now }
 {
@@ -320,14 +328,14 @@ fn slot_at(slots: &[usize], number: u64) -> usize
     }
 }
 
-// A number of bits, of which no word has more than 64.
+// A number of bits, or 64 if it is more: no word has more bits.
 pub(crate) fn bits(count: u64) -> u8
     ensures { result ≡ capped count }
 {
     count.min(64) as u8
 }
 
-// The power of two that an alignment is.
+// Which power of two an alignment from 2 to 64 is; 0 for any other number.
 fn shift_of(align: u64) -> u8
     ensures value { result ≡ shift_of align }
     ensures small { result ≤ 6 }

@@ -10,7 +10,8 @@ use rb_matrix::images::{default_of_row, head_fields, specialize_row};
 use rb_matrix::matrix::Head;
 use std::alloc::{AllocError, Global};
 
-/// The specialised matrix's rows, for a head with so many fields.
+/// The rows of the specialised matrix, for a head with so many fields: those that match values
+/// beginning with it, with patterns for the fields in place of the first pattern.
 ///
 /// # Errors
 ///
@@ -35,7 +36,8 @@ pub fn rows_by_head(
     Ok(kept)
 }
 
-/// The default matrix's rows.
+/// The rows of the default matrix: those whose first pattern is a wildcard or a variable, without
+/// that pattern.
 ///
 /// # Errors
 ///
@@ -65,7 +67,8 @@ pub fn fields_of_head(types: &[DataDecl], ty: Ty, head: Head) -> &[Ty]
     }
 }
 
-// The column of a field.
+// The column of field `i` of what stands in a column, of type `ty`: its position is one field
+// longer.
 fn field_column(alloc: Global, column: &Column, i: usize, ty: Ty) -> Result<Column, AllocError>
     ensures { IfOk result (λ c. c ≡ record { position = column.now.position ++ i ∷ []; ty = ty }) }
 {

@@ -54,7 +54,8 @@ pub fn build(
     }
 }
 
-// A test of the first column, in which a row has a head.
+// A test of the first column, in which a row has a head, with its branches; None where too few
+// nodes may still be built.
 #[cycle(building)]
 fn build_test(
     alloc: Global,
@@ -88,7 +89,8 @@ fn build_test(
     Ok(Some(Tree::Test(position, arms, Some(boxed))))
 }
 
-// One arm for each head.
+// The arms of a test of `column`, one for each head, over the head's fields and the columns `rest`;
+// None where too few nodes may still be built.
 #[cycle(building)]
 fn build_arms(
     alloc: Global,

@@ -53,7 +53,8 @@ fn has_head(pat: &Pat) -> bool
     }
 }
 
-/// The first column in which a row has a number or a constructor.
+/// The first column in which a row has a number or a constructor; None where all its patterns are
+/// wildcards and variables, so that the row's clause is taken without a test.
 pub fn first_tested(pats: &[Pat]) -> Option<usize>
     ensures { result ≡ first_test pats.now }
 {
@@ -85,7 +86,8 @@ fn push_patterns(alloc: Global, pats: &mut Seq<Pat>, more: &[Pat]) -> Result<(),
     Ok(())
 }
 
-/// The columns, with the one of this number at the front.
+/// The columns with column `i` at the front, on which the next test is made, and the others in
+/// their order; all as they are where there is no column `i`.
 ///
 /// # Errors
 ///
@@ -108,7 +110,8 @@ pub fn columns_to_front(
     Ok(moved)
 }
 
-// The patterns, with the one of this number at the front.
+// The patterns of a row with pattern `i` at the front and the others in their order; all as they
+// are where there is no pattern `i`.
 fn patterns_to_front(alloc: Global, i: usize, pats: &[Pat]) -> Result<Seq<Pat>, AllocError>
     ensures { IfOk result (λ r. r ≡ to_front i pats.now) }
 {
@@ -123,7 +126,8 @@ fn patterns_to_front(alloc: Global, i: usize, pats: &[Pat]) -> Result<Seq<Pat>, 
     Ok(moved)
 }
 
-/// The rows, each with its pattern of this number at the front.
+/// The rows, each with its pattern `i` at the front, so that they stand under the columns that
+/// `columns_to_front` gives.
 ///
 /// # Errors
 ///
@@ -142,7 +146,7 @@ pub fn rows_to_front(alloc: Global, i: usize, rows: &[Row]) -> Result<Seq<Row>, 
     Ok(moved)
 }
 
-// A row of one pattern.
+// A row of one pattern, for a clause with this number.
 fn row_of(alloc: Global, pat: &Pat, clause: u32) -> Result<Row, AllocError>
     ensures { IfOk result (λ r. r ≡ record { pats = pat.now ∷ []; clause = clause }) }
 {
@@ -151,7 +155,8 @@ fn row_of(alloc: Global, pat: &Pat, clause: u32) -> Result<Row, AllocError>
     Ok(Row { pats, clause })
 }
 
-/// A number of 32 bits; a count of 2^32 and more meets want of memory.
+/// A count as a number of 32 bits, as clauses, fields and nodes are numbered; one of 2^32 and more
+/// meets want of memory.
 ///
 /// # Errors
 ///

@@ -15,7 +15,7 @@ use std::alloc::{AllocError, Global};
 /// The greatest number of nodes of a tree that is built.
 pub const LARGEST_TREE: usize = 512;
 
-// The scrutinee's column.
+// The column of the scrutinee, of type `ty`: its position has no fields.
 fn scrutinee(alloc: Global, ty: Ty) -> Column
     ensures { result ≡ record { position = []; ty = ty } }
 {

@@ -48,7 +48,8 @@ fn push_arms(key: &mut Vec<u64>, arms: &[GraphArm]) -> Result<(), AllocError>
     Ok(())
 }
 
-// Adds 0 where there is no branch for the others, else 1 and the number of its node.
+// Adds 0 where a test has no branch for values that no arm takes, else 1 and the number of its
+// node.
 fn push_other(key: &mut Vec<u64>, other: Option<u32>) -> Result<(), AllocError>
     ensures { OnOk result (key.new.items ≡ key.old.items ++ other_key other) }
 {

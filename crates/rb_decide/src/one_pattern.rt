@@ -29,7 +29,8 @@ const OTHERS: u32 = 0;
 // The node of clause 0, for the values that it matches.
 const MATCHED: u32 = 1;
 
-// Adds a test of one head, whose arm leads to a node.
+// Adds a test of one head at a position, whose arm leads to node `under`, and gives its number.
+// Other values, if there may be any, go to clause 1.
 fn add_test(
     alloc: Global,
     types: &[DataDecl],
@@ -54,7 +55,7 @@ fn add_test(
     Ok(number)
 }
 
-// The position of a field.
+// The position of a field of what stands at a position: one field number more.
 fn field_position(alloc: Global, position: &[u32], field: usize) -> Result<Seq<u32>, AllocError>
     ensures { IfOk result (λ p. p ≡ position.now ++ field ∷ []) }
 {
@@ -63,7 +64,8 @@ fn field_position(alloc: Global, position: &[u32], field: usize) -> Result<Seq<u
     Ok(place)
 }
 
-// Adds the tests of a pattern at a position, from the last one to the first, before a node.
+// Adds the tests of a pattern at a position, from the last one to the first, before node `under`,
+// and gives the number of the first test; `under` itself where there is none.
 #[cycle(chaining)]
 fn add_pattern(
     alloc: Global,
@@ -98,7 +100,10 @@ fn add_pattern(
     }
 }
 
-// The same of a constructor's subpatterns, whose fields have these types.
+// Adds the tests of the patterns in the fields of a constructor at a position, from the last one to
+// the first, before node `under`, and gives the number of the first test; `under` itself where
+// there is none. Where there are not as many patterns as fields nothing matches, and it gives the
+// node of clause 1.
 #[cycle(chaining)]
 fn add_fields(
     alloc: Global,

@@ -21,7 +21,7 @@ pub struct Sharing {
 }
 
 impl Sharing {
-    /// No nodes.
+    /// A graph without nodes, and no numbers.
     pub fn new(alloc: Global) -> Sharing
         ensures fine { IsFine result }
         ensures none { result.nodes ≡ [] }
@@ -32,14 +32,14 @@ impl Sharing {
         }
     }
 
-    // The number of the node with this key.
+    // The number of the node with this key, if it is there.
     fn find(&self, key: &[u64]) -> Option<u32>
         ensures { result ≡ number_at self.now key.now }
     {
         self.numbers.get(key).copied()
     }
 
-    // Adds a node under its key.
+    // Adds a node under its key, which no node has yet, and gives its number.
     fn push(&mut self, key: Vec<u64>, node: GraphNode) -> Result<u32, AllocError>
         ensures number { IfOk result (λ i. i ≡ length self.old.nodes) }
         ensures nodes { OnOk result (self.new.nodes ≡ self.old.nodes ++ node ∷ []) }

@@ -11,7 +11,7 @@ use rb_core::boxed::Boxed;
 use rb_core::seq::Seq;
 use std::alloc::{AllocError, Global};
 
-// The number of a tree's root, after its nodes were added.
+// The number of a tree's root, after those of its nodes that are new were added, inner ones first.
 #[cycle(sharing)]
 fn add_tree(alloc: Global, sharing: &mut Sharing, tree: &Tree) -> Result<u32, AllocError>
     requires { IsFine sharing.old }
@@ -32,7 +32,7 @@ fn add_tree(alloc: Global, sharing: &mut Sharing, tree: &Tree) -> Result<u32, Al
     }
 }
 
-// Adds the trees below arms, and links to their nodes.
+// Adds the trees below arms, and gives for each arm its head with the number of its tree's node.
 #[cycle(sharing)]
 fn add_arms(
     alloc: Global,
@@ -53,7 +53,7 @@ fn add_arms(
     Ok(links)
 }
 
-// Adds the tree for the others, where there is one.
+// Adds the tree for values that no arm takes, where there is one, and gives its node's number.
 #[cycle(sharing)]
 fn add_other(
     alloc: Global,

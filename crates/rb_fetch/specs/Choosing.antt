@@ -1,4 +1,5 @@
--- What code that chooses the leaf of a construction owes.
+-- What code that chooses the leaf of a construction owes. A way is where runs have come to one leaf: an open jump,
+-- the leaf's number, and parts of the value in slots. What is shown of an argument is a pattern that it matches.
 use Rattle.std.specs.Prelude.{◌≡◌, ℕ, List, map, Bool, true, Some, slice_get}
 use Rattle.rb_core.specs.declared.value.Value.{Value, Con}
 use Rattle.rb_core.specs.declared.types.Ty.{Ty}
@@ -23,11 +24,11 @@ use Rattle.rb_fetch.specs.declared.choice.Choices.{Choices}
 use Rattle.rb_fetch.specs.declared.choice.Way.{Way}
 use Rattle.rb_fetch.specs.Finding.{IsPlanOf}
 
--- each argument matches the pattern that is shown of it
+-- each value matches the pattern that is shown of it, in their order, and there are as many of both
 abbrev pub AreAsShown : List Pat → List Value → Type 0
 AreAsShown shown vs = all_pass (map matches_of shown) vs ≡ true
 
--- a way of a leaf of the layout, with a value at each open position of the leaf
+-- the way's leaf is one of the layout, and the way has a value at each open position of the leaf, in slots below n
 pub record IsWay (plan : Plan) (layout : Layout) (n : ℕ) (way : Way) : Type 0 where
   pub leaf : Leaf
   pub is_leaf : slice_get layout.leaves way.leaf ≡ Some leaf
@@ -56,6 +57,8 @@ pub record Chooses (plan : Plan) (layout : Layout) (con : ConRef) (hs : List Hel
       → is_of_type plan.program.types (Con con.con vs) (Named con.ty) ≡ true
       → TakesWay plan layout con hs old new choices vs
 
+-- in every plan of the agreed program, the code from old to new chooses the leaf of a construction by constructor con
+-- of values that are held, one a field, and match what is shown of them
 abbrev pub ChoosesLeaf : LaidOut → ConRef → List Held → List Pat → Sheet → Sheet → Choices → Type 0
 ChoosesLeaf agreed con hs shown old new choices =
     (plan : Plan) → IsPlanOf agreed plan → (fields : List Ty) → fields_of plan.program.types con ≡ Some fields

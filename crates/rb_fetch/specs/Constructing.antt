@@ -40,6 +40,8 @@ pub record IsConstructed (plan : Plan) (con : ConRef) (hs : List Held) (shown : 
       → Makes plan clean (w.switches + choose_of plan.layouts con.ty con.con) next (length old.code)
       (length new.code) old.slots con.ty held.slots (Con con.con vs) s w
 
+-- in every plan of the agreed program, the code from old to new constructs `held` by constructor con of values that
+-- are held, one a field, and match what is shown of them
 abbrev pub Constructs : LaidOut → ConRef → List Held → List Pat → Sheet → Sheet → Held → Type 0
 Constructs agreed con hs shown old new held =
     (plan : Plan) → IsPlanOf agreed plan → (fields : List Ty) → fields_of plan.program.types con ≡ Some fields

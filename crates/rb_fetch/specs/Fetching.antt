@@ -1,4 +1,5 @@
--- What code that fetches owes.
+-- What code that fetches owes: it leaves in a slot what stands at a location. A location is a range of bits of one of
+-- a value's words, or of a word that steps load: each takes an address from the range before it.
 use Rattle.std.specs.Prelude.{◌≡◌, ℕ, ◌^◌, ◌<◌, ◌≤◌, List, [], ◌∷◌, Bool, Some, length, slice_get, slice_index}
 use Rattle.rb_core.specs.declared.value.Value.{Value}
 use Rattle.rb_core.specs.declared.layout_decl.Loc.{Loc}
@@ -24,11 +25,13 @@ use Rattle.rb_fragment.specs.WordReads.{AreMeant, AllFit}
 
 -- Locations that instructions can read ---------------------------------------------------------
 
--- ranges, bytes and widths are those of instructions
+-- the range of l bits from bit o on, and the byte, the width and the range of each step behind it, are such as
+-- instructions have
 abbrev pub StepsFit : ℕ → ℕ → List Step → Type 0
 StepsFit o l [] = IsRange o l
 StepsFit o l (s ∷ steps) = IsRange o l × (s.byte ≤ 511) × IsWidth s.width × StepsFit s.o s.l steps
 
+-- instructions can read what stands at the location: its range and its steps are such as they have
 abbrev pub LocFits : Loc → Type 0
 LocFits loc = StepsFit loc.o loc.l loc.steps
 
@@ -41,20 +44,23 @@ pub record Fetches (plan : Plan) (words : List ℕ) (Is : List ℕ → Memory �
   pub runs : (x : ℕ) → Straight plan old.slots old new (λ s m. IsGood m × Is (slots_at s words) m x)
       (λ s m. slice_index s slot ≡ x)
 
+-- x is the number that stands at the location, for the words ws of a value, over memory m
 abbrev pub IsReadAt : Loc → List ℕ → Memory → ℕ → Type 0
 IsReadAt loc ws m x = read_loc ws m loc ≡ Some x
 
--- what is read at a location that instructions can read
+-- in every plan, the code from old to new leaves in `slot` what stands at a location that instructions can read, for
+-- the words in some slots
 abbrev pub FetchesLoc : List ℕ → Loc → Sheet → Sheet → ℕ → Type 0
 FetchesLoc words loc old new slot =
     (plan : Plan) → AllBelow old.slots words → loc.word < length words → LocFits loc
     → Fetches plan words (IsReadAt loc) old new slot
 
--- each word has at most so many bits as stand in its place, where a number stands there
+-- each of the words ws has at most so many bits as stand in its place among the widths, where a number stands there
 abbrev pub AreSmall : List ℕ → List ℕ → Type 0
 AreSmall widths ws = (j width w : ℕ) → slice_get widths j ≡ Some width → slice_get ws j ≡ Some w → w < 2 ^ width
 
--- The same from reads of the words: wherever they mean words of these widths at which the location comes to a number.
+-- The appended code leaves in a slot the number at a location, wherever the reads mean words of these widths at which
+-- the location comes to a number, and keeps all slots that there were.
 pub record FetchesMeant (plan : Plan) (words : List Read) (widths : List ℕ) (loc : Loc) (old new : Sheet)
     (slot : ℕ) : Type 0 where
   pub adds : Adds plan old new
@@ -63,6 +69,8 @@ pub record FetchesMeant (plan : Plan) (words : List Read) (widths : List ℕ) (l
       → Straight plan old.slots old new (λ s m. IsGood m × AreMeant words s m ws × IsReadAt loc ws m x)
       (λ s m. slice_index s slot ≡ x)
 
+-- in every plan, the code from old to new leaves in `slot` what stands at a location that instructions can read, for
+-- words of these widths, of which there are reads over slots that there were
 abbrev pub FetchesAt : List Read → List ℕ → Loc → Sheet → Sheet → ℕ → Type 0
 FetchesAt words widths loc old new slot =
     (plan : Plan) (k : ℕ) → k ≤ old.slots → AllFit k words → loc.word < length words → LocFits loc
@@ -86,7 +94,8 @@ pub record IsSound (plan : Plan) : Type 0 where
   pub typed : IsTyped plan.program
   pub agreed : AreAgreed plan.program plan.layouts
 
--- the bits at a location that resolves in some leaf with as many root words
+-- In every plan that is sound, the code from old to new leaves in `slot` the bits at a location in the leaf of a
+-- value whose words are in some slots. The location resolves in some leaf with as many root words.
 abbrev pub FetchesBits : List ℕ → Loc → Sheet → Sheet → ℕ → Type 0
 FetchesBits words loc old new slot =
     (plan : Plan) → IsSound plan → AllBelow old.slots words

@@ -21,7 +21,8 @@ use Rattle.rb_fragment.specs.WordReads.{AreMeant, AllFit, IsSlotOf}
 use Rattle.rb_fetch.specs.Finding.{IsPlanOf}
 use Rattle.rb_fetch.specs.Positions.{PositionAt, mend_under}
 
--- the path leads to an open position of leaf n of a type's layout, at which this type is
+-- the path leads to an open position of leaf n of the layout of type t, that is, a wildcard of its provenance, at
+-- which type ty is
 pub record FieldAt (plan : Plan) (t n : ℕ) (path : List ℕ) (ty : Ty) : Type 0 where
   pub layout : Layout
   pub leaf : Leaf
@@ -32,7 +33,7 @@ pub record FieldAt (plan : Plan) (t n : ℕ) (path : List ℕ) (ty : Ty) : Type 
 
 -- Reads --------------------------------------------------------------------------------------
 
--- the reads mean words that represent the part of a value at a path
+-- the reads, over slots s and memory m, mean words that represent the part of value v at the path, of type ty
 pub record IsPartMeant (plan : Plan) (clean : Bool) (ty : Ty) (v : Value) (path : List ℕ) (reads : List Read)
     (s : List ℕ) (m : Memory) : Type 0 where
   pub part : Value
@@ -52,6 +53,8 @@ pub record AreFieldReads (plan : Plan) (t n : ℕ) (path : List ℕ) (ty : Ty) (
       → Rep plan m clean (Named t) v ws → leaf_of layout v ≡ Some n
       → IsPartMeant plan clean ty v path reads s m
 
+-- in every plan of the agreed program, `reads` mean the words of the field at `path`, an open position of leaf n of
+-- type t, wherever `words` mean the words of a value of that leaf
 abbrev pub ReadsField : LaidOut → ℕ → ℕ → List ℕ → List Read → List Read → Type 0
 ReadsField agreed t n path words reads =
     (plan : Plan) → IsPlanOf agreed plan → (ty : Ty) (f : FieldAt plan t n path ty)
@@ -75,6 +78,8 @@ pub record FieldIsFetched (plan : Plan) (t n : ℕ) (path : List ℕ) (ty : Ty) 
       (λ s m. IsGood m × Rep plan m clean (Named t) v (slots_at s words))
       (AtEnd new (λ s m. Rep plan m clean ty part (slots_at s slots)))
 
+-- in every plan of the agreed program, the code from old to new leaves in `slots` the part at `path` of a value of
+-- leaf n of type t, whose words are in the slots `words`
 abbrev pub FetchesField : LaidOut → ℕ → ℕ → List ℕ → List ℕ → Sheet → Sheet → List ℕ → Type 0
 FetchesField agreed t n path words old new slots =
     (plan : Plan) → IsPlanOf agreed plan → (ty : Ty) (f : PositionAt plan t n path ty) → AllBelow old.slots words

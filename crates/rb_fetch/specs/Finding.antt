@@ -1,4 +1,5 @@
--- What code that finds a value's leaf owes.
+-- What code that finds a value's leaf owes. It leaves by holes: a hole is a target of a jump or switch that is still
+-- open, and its `leaf` is the number of the leaf, or of the group of leaves, to which it leads.
 use Rattle.std.specs.Prelude.{◌≡◌, ℕ, List, Bool, Option, Some, None, length}
 use Rattle.rb_core.specs.declared.value.Value.{Value}
 use Rattle.rb_core.specs.declared.types.Ty.TheVariants.{Named}
@@ -40,57 +41,64 @@ FindsLeaf agreed t words old new holes =
     → Branches plan old.slots old new holes (depth_of plan.layouts (Named t))
     (λ n s m. HasLeaf plan t n (slots_at s words) m) (λ n s m. Unit {0})
 
--- the same over reads of the words, which may stand in memory still
+-- the reads, over slots s and memory m, mean words that represent a value of type t whose leaf is number n
 pub record HasLeafMeant (plan : Plan) (t n : ℕ) (reads : List Read) (s : List ℕ) (m : Memory) : Type 0 where
   pub words : List ℕ
   pub are_meant : AreMeant reads s m words
   pub has_leaf : HasLeaf plan t n words m
 
+-- Run where the reads mean words of a value, which may stand in memory still, the appended code leaves by a hole of
+-- the value's leaf, with at most as many switches as splits are nested.
 abbrev pub FindsLeafOf : LaidOut → ℕ → List Read → Sheet → Sheet → List Hole → Type 0
 FindsLeafOf agreed t reads old new holes =
     (plan : Plan) → IsPlanOf agreed plan → AllFit old.slots reads → length reads ≡ word_count plan.layouts (Named t)
     → Branches plan old.slots old new holes (depth_of plan.layouts (Named t))
     (λ n s m. HasLeafMeant plan t n reads s m) (λ n s m. Unit {0})
 
--- the words represent a value of the type, whose leaf has this group
+-- the words represent a value of type t, whose leaf has group g
 pub record HasGroup (plan : Plan) (t : ℕ) (groups : List (Option ℕ)) (g : ℕ) (ws : List ℕ) (m : Memory) : Type 0 where
   pub leaf : ℕ
   pub is_group : group_at groups leaf ≡ Some g
   pub has_leaf : HasLeaf plan t leaf ws m
 
+-- the reads, over slots s and memory m, mean words that represent a value of type t whose leaf has group g
 pub record HasGroupMeant (plan : Plan) (t : ℕ) (groups : List (Option ℕ)) (g : ℕ) (reads : List Read) (s : List ℕ)
     (m : Memory) : Type 0 where
   pub words : List ℕ
   pub are_meant : AreMeant reads s m words
   pub has_group : HasGroup plan t groups g words m
 
--- the most splits that are nested in the tree by which the group of a layout's leaf is found
+-- the most splits that are nested in the tree by which the group of a layout's leaf is found; 0 without a layout
 abbrev pub group_depth_in : List (Option ℕ) → Option Layout → ℕ
 group_depth_in groups None = 0
 group_depth_in groups (Some layout) = nesting_in (pruned_of groups layout.tree)
 
+-- the most splits that are nested in the tree by which the group of the leaf of a value of type t is found; 0 where t
+-- has no layout
 abbrev pub group_depth : List Layout → ℕ → List (Option ℕ) → ℕ
 group_depth layouts t groups = group_depth_in groups (layout_of layouts t)
 
 -- Run on words of a value whose leaf has a group, the appended code leaves by a hole of that group, with at most as
--- many switches as splits are nested where those that tell no group from another are left out.
+-- many switches as splits are nested in the tree that is pruned for the groups.
 abbrev pub FindsGroup : LaidOut → ℕ → List (Option ℕ) → List ℕ → Sheet → Sheet → List Hole → Type 0
 FindsGroup agreed t groups words old new holes =
     (plan : Plan) → IsPlanOf agreed plan → AllBelow old.slots words → length words ≡ word_count plan.layouts (Named t)
     → Branches plan old.slots old new holes (group_depth plan.layouts t groups)
     (λ g s m. HasGroup plan t groups g (slots_at s words) m) (λ g s m. Unit {0})
 
--- the same over reads of the words
+-- Run where the reads mean words of a value whose leaf has a group, the appended code leaves by a hole of that group,
+-- with at most as many switches as splits are nested in the tree that is pruned for the groups.
 abbrev pub FindsGroupOf : LaidOut → ℕ → List (Option ℕ) → List Read → Sheet → Sheet → List Hole → Type 0
 FindsGroupOf agreed t groups reads old new holes =
     (plan : Plan) → IsPlanOf agreed plan → AllFit old.slots reads → length reads ≡ word_count plan.layouts (Named t)
     → Branches plan old.slots old new holes (group_depth plan.layouts t groups)
     (λ g s m. HasGroupMeant plan t groups g reads s m) (λ g s m. Unit {0})
 
--- the leaves of a type's layout
+-- how many leaves a layout has; 0 without a layout
 abbrev pub leaves_within : Option Layout → ℕ
 leaves_within None = 0
 leaves_within (Some layout) = length layout.leaves
 
+-- how many leaves the layout of type t has; 0 where t has no layout
 abbrev pub leaf_count : LaidOut → ℕ → ℕ
 leaf_count agreed t = leaves_within (layout_of agreed.layouts t)

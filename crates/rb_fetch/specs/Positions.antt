@@ -1,4 +1,5 @@
--- Positions of the provenances of leaves: what stands there, and what it takes to rebuild it.
+-- Positions of the provenances of leaves: what stands there, and what it takes to rebuild it. A provenance is the
+-- pattern of the values that a leaf holds, and a position of it is a path: field numbers from the root.
 use Rattle.std.specs.Prelude.{◌≡◌, ℕ, List, [], ◌∷◌, Option, Some, None, slice_get}
 use Rattle.std.specs.List.{sum_by}
 use Rattle.rb_core.specs.declared.types.Ty.{Ty}
@@ -12,13 +13,13 @@ use Rattle.rb_layout.specs.inner.Walking.{sub_pattern}
 use Rattle.rb_rel.specs.Switches.{Head, choose_of, heads_of}
 use Rattle.rb_fragment.specs.Plan.{Plan}
 
--- the pattern at a path of a pattern, with the type there
+-- what stands at a path of a pattern that stands at a type: the pattern there, with its type; none where nothing does
 abbrev pub found_at : List DataDecl → Option (Pat × Ty) → List ℕ → Option (Pat × Ty)
 found_at types None path = None
 found_at types (Some p) [] = Some p
 found_at types (Some p) (i ∷ path) = found_at types (sub_pattern types p.0 i) path
 
--- The path leads to a position of leaf n of a type's layout, at which this type is: to a wildcard of its
+-- The path leads to a position of leaf n of the layout of type t, at which type ty is: to a wildcard of its
 -- provenance, or to a constructor.
 pub record PositionAt (plan : Plan) (t n : ℕ) (path : List ℕ) (ty : Ty) : Type 0 where
   pub layout : Layout

@@ -79,7 +79,7 @@ fn holes_of(alloc: Global, ways: &[Way]) -> Result<Seq<Hole>, AllocError>
     Ok(holes)
 }
 
-/// What `choose_leaf` appends, where so many calls may be nested still.
+/// What `choose_leaf` appends, where `depth` calls may be nested still; want of memory at 0.
 ///
 /// # Errors
 ///
@@ -180,7 +180,8 @@ fn choose(
     }
 }
 
-// The same where the next question is the leaf of the part at a place. What is known of the value may tell it.
+// Code that chooses among leaves of a type where the next question is the leaf of the part at a
+// place. What is known of the value may tell it; else the code looks there.
 #[cycle(fetching)]
 fn choose_at(
     alloc: Global,
@@ -227,7 +228,8 @@ fn choose_at(
     }
 }
 
-// The same by a look at the place: behind it, each leaf of the part there has its own code.
+// Code that chooses among leaves of a type by a look at the part at a place, whose words are in
+// slots: behind the look, each leaf of the part has its own code.
 #[cycle(fetching)]
 fn look(
     alloc: Global,
@@ -320,7 +322,8 @@ fn choose_each(
     Ok(Branches { starts, ways })
 }
 
-// The code of one leaf of the part at a place.
+// The code that goes on where the part at a place has leaf `inner`: among the leaves that can still
+// be the whole's then. The fields of the part are fetched first if one of them takes it apart.
 #[cycle(fetching)]
 fn choose_under(
     alloc: Global,
@@ -376,7 +379,8 @@ fn choose_under(
     Ok(ways)
 }
 
-// The fields of the part at a place whose leaf is known, as parts of the whole, if they are needed.
+// Fetches the fields of the part at a place whose leaf is known, and adds them to the parts of the
+// whole; nothing where they are not needed.
 #[cycle(fetching)]
 fn fetch_fields(
     alloc: Global,
@@ -477,7 +481,8 @@ pub(crate) fn fetch_part(
     }
 }
 
-// Those of the fields of a constructor at a path.
+// Code that leaves the parts at the fields of a constructor in slots, in their order. The
+// constructor stands at a path of the provenance of the leaf, with these subpatterns.
 #[cycle(fetching)]
 fn fetch_parts(
     alloc: Global,
@@ -521,7 +526,7 @@ fn fetch_parts(
     Ok(args)
 }
 
-/// What `construct` appends, where so many calls may be nested still.
+/// What `construct` appends, where `depth` calls may be nested still; want of memory at 0.
 ///
 /// # Errors
 ///

@@ -68,7 +68,8 @@ pub(crate) fn alone(alloc: Global, leaves: &[Leaf], con: u32) -> Result<Option<&
     Ok(None)
 }
 
-// The value of the one leaf for a constructor.
+// Code that makes a value in the one leaf for its constructor, from the values of its fields, in
+// new slots.
 pub(crate) fn emit_alone(
     alloc: Global,
     body: &mut Body,
@@ -103,7 +104,9 @@ struct Arms {
     starts: Seq<usize>,
 }
 
-// The ways to leaves: each makes its leaf, and all meet behind.
+// Code behind the choice of a leaf: one arm a way, which makes the value in the leaf of its way.
+// All meet behind the last one, with the value in the same slots. Want of memory is the answer
+// where there are no ways.
 pub(crate) fn emit_ways(
     alloc: Global,
     body: &mut Body,
@@ -137,7 +140,7 @@ pub(crate) fn emit_ways(
     })
 }
 
-// The arms of the ways, one behind the other.
+// The arms of the ways, one behind the other, each with its words in the slots of the first one.
 fn emit_arms(
     alloc: Global,
     body: &mut Body,
@@ -165,7 +168,8 @@ fn emit_arms(
     })
 }
 
-// One arm: the leaf of its way, and its words where the arms before it left theirs.
+// One arm: it makes the leaf of its way and leaves the words where the arms before it left theirs;
+// those of the first arm stay in their own slots.
 fn emit_arm(
     alloc: Global,
     body: &mut Body,
@@ -205,7 +209,8 @@ fn emit_meeting(
     Ok(Met { into, join })
 }
 
-// The words of the first arm stay in their slots, and those of the others go there.
+// The words of the first arm stay in their slots, and those of the others are copied there. Answers
+// the slots that have them then.
 fn emit_moved(
     body: &mut Body,
     into: Option<Seq<usize>>,

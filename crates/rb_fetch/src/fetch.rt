@@ -31,8 +31,9 @@ pub fn fetch_loc(
     Ok(slot)
 }
 
-/// The same from reads of the words, which may stand in memory still. A word has at most so many bits as stand in its
-/// place among the widths, where one does.
+/// Code that reads the bits at a location, from reads of the words, which may stand in memory
+/// still. Answers the slot that holds them. A word has at most so many bits as stand in its place
+/// among the widths, where one does.
 ///
 /// # Errors
 ///
@@ -53,7 +54,7 @@ pub(crate) fn fetch_bits(
     Ok(slot)
 }
 
-// The number that stands in the place of a word among the widths, where one does.
+// How many bits a word has at most: what stands in its place among the widths, if anything does.
 fn width_at(widths: &[u64], word: u64) -> Option<u64>
     ensures { result ≡ slice_get widths.now word }
 {

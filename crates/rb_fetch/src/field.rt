@@ -57,7 +57,7 @@ pub fn field_reads(
     }
 }
 
-// The leaf of a type with this number, where there is one.
+// The leaf with this number in a type's layout, if there is one.
 fn leaf_at(layouts: &[Layout], ty: u32, leaf: usize) -> Option<&Leaf>
     ensures { option_copied result ≡ fields.leaf_at layouts.now ty leaf }
 {
@@ -67,7 +67,7 @@ fn leaf_at(layouts: &[Layout], ty: u32, leaf: usize) -> Option<&Leaf>
     }
 }
 
-// The first words of a field of a data type.
+// Reads of the first `count` words of the field of a data type at a path.
 fn word_reads(
     alloc: Global,
     leaf: &Leaf,
@@ -87,7 +87,8 @@ fn word_reads(
     Ok(reads)
 }
 
-// A read of the word with this number of such a field: zero where no part holds it.
+// A read of word `j` of the field of a data type at a path: zero where no part of the leaf holds
+// it.
 fn word_read(
     alloc: Global,
     leaf: &Leaf,

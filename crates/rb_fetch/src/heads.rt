@@ -21,7 +21,7 @@ pub(crate) struct Place {
     pub con: ConRef,
 }
 
-/// The number of a field.
+/// The number of a field as positions have it, in 32 bits.
 ///
 /// # Errors
 ///
@@ -35,7 +35,7 @@ pub(crate) fn number_of(field: usize) -> Result<u32, AllocError>
     }
 }
 
-/// The position of a field of the part at a position.
+/// The position of a field of the part at a position: one field number more.
 ///
 /// # Errors
 ///
@@ -52,7 +52,8 @@ pub(crate) fn field_path(
     Ok(longer)
 }
 
-// Adds the constructors of a pattern that stands at a path.
+// Adds the constructors of a pattern that stands at a path, at their positions in the whole: outer
+// ones before inner ones and from left to right.
 #[cycle(heads)]
 fn add_heads(
     alloc: Global,
@@ -76,7 +77,7 @@ fn add_heads(
     }
 }
 
-// Adds those of subpatterns, one a field.
+// Adds the constructors of subpatterns, one a field, of a pattern that stands at a path.
 #[cycle(heads)]
 fn add_heads_below(
     alloc: Global,
@@ -117,7 +118,8 @@ pub(crate) fn heads_under(
     }
 }
 
-/// Those of a whole value's leaf.
+/// The constructors below the root of the provenance of a whole value's leaf, at their positions:
+/// outer ones before inner ones and from left to right.
 ///
 /// # Errors
 ///
@@ -130,7 +132,7 @@ pub(crate) fn heads(alloc: Global, leaf: &Leaf) -> Result<Seq<Place>, AllocError
     Ok(found)
 }
 
-/// The constructors of patterns, one a field, at their positions in the whole.
+/// The constructors of patterns, one a field of a construction, at their positions in the whole.
 ///
 /// # Errors
 ///
@@ -172,14 +174,14 @@ pub(crate) fn bare_paths(
     Ok(paths)
 }
 
-/// Whether two positions are the same.
+/// Whether two positions are the same, field number by field number.
 pub(crate) fn same_path(own: &[u32], path: &[u32]) -> bool
     ensures { result ≡ same_path own.now path.now }
 {
     own == path
 }
 
-// Whether a position is among some.
+// Whether a position is one of these.
 fn is_among(paths: &[Seq<u32>], path: &[u32]) -> bool
     ensures { result ≡ is_among paths.now path.now }
 {
@@ -191,7 +193,8 @@ fn is_among(paths: &[Seq<u32>], path: &[u32]) -> bool
     false
 }
 
-/// The first constructor whose position is not among some.
+/// The first constructor whose position is not among those that need no look any more, if there is
+/// one: the next look goes there.
 pub(crate) fn next_place<'a>(places: &'a [Place], looked: &[Seq<u32>]) -> Option<&'a Place>
     ensures { MatchOption result (are_looked_at looked.now places.now)
         (λ place. IsNext looked.now places.now place.now) }
@@ -204,7 +207,7 @@ pub(crate) fn next_place<'a>(places: &'a [Place], looked: &[Seq<u32>]) -> Option
     None
 }
 
-// Whether a constructor stands at a position, or none does.
+// Whether no other constructor than this one stands at a position; true where none stands there.
 fn can_be(places: &[Place], path: &[u32], con: u32) -> bool
     ensures { result ≡ can_be path.now con (shown_heads places.now) }
 {
@@ -218,7 +221,7 @@ fn can_be(places: &[Place], path: &[u32], con: u32) -> bool
     true
 }
 
-/// The leaf with this number in a type's layout.
+/// The leaf with this number in a type's layout, if there is one.
 pub(crate) fn leaf_at(layouts: &[Layout], ty: u32, leaf: usize) -> Option<&Leaf>
     ensures { option_copied result ≡ leaf_at layouts.now ty leaf }
 {
@@ -228,7 +231,8 @@ pub(crate) fn leaf_at(layouts: &[Layout], ty: u32, leaf: usize) -> Option<&Leaf>
     }
 }
 
-// Whether the leaf with this number can still be here where a constructor stands at a position.
+// Whether the leaf with this number can still be here where a constructor stands at a position: its
+// provenance has it there, or none. False where there is no such leaf.
 fn can_be_leaf(
     alloc: Global,
     layouts: &[Layout],
@@ -295,7 +299,7 @@ pub(crate) fn leaves_beside(
     Ok(kept)
 }
 
-// Whether a constructor stands at a position.
+// Whether one of these constructors stands at a position.
 fn stands_at(places: &[Place], path: &[u32]) -> bool
     ensures { result ≡ stands_at path.now (shown_heads places.now) }
 {
@@ -307,7 +311,8 @@ fn stands_at(places: &[Place], path: &[u32]) -> bool
     false
 }
 
-// Whether the leaf with this number takes the part at a position apart.
+// Whether the leaf with this number takes the part at a position apart: its provenance has a
+// constructor there. False where there is no such leaf.
 fn takes_apart(
     alloc: Global,
     layouts: &[Layout],

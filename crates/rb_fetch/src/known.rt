@@ -89,7 +89,8 @@ pub(crate) fn see(
     Ok(())
 }
 
-/// Takes back all but the first so many positions and constructors.
+/// Takes back what was learnt behind a point: all but the first `looked` positions and the first
+/// `known` constructors.
 pub(crate) fn forget(seen: &mut Seen, looked: usize, known: usize)
     ensures { seen.new ≡ seen_before looked known seen.old }
 {
@@ -97,7 +98,8 @@ pub(crate) fn forget(seen: &mut Seen, looked: usize, known: usize)
     seen.known.truncate(known);
 }
 
-// A position as seen from one above it.
+// A position as seen from one above it, or from itself; none where it neither is that one nor
+// stands below it.
 fn behind<'a>(above: &[u32], path: &'a [u32]) -> Option<&'a [u32]>
     ensures { option_copied result ≡ behind above.now path.now }
 {
@@ -116,7 +118,8 @@ fn behind<'a>(above: &[u32], path: &'a [u32]) -> Option<&'a [u32]>
     }
 }
 
-// Adds a constructor that stands at a position or below it, as seen from there.
+// Adds a constructor at its position as seen from `path`, if it stands there or below; else
+// nothing.
 fn add_behind(
     alloc: Global,
     place: &Place,
@@ -139,7 +142,8 @@ fn add_behind(
     }
 }
 
-// The constructors at a position and below it, as seen from there.
+// Those of the constructors that stand at a position or below it, at their positions as seen from
+// there.
 fn heads_behind(alloc: Global, known: &[Place], path: &[u32]) -> Result<Seq<Place>, AllocError>
     ensures { IfOk result (λ found. shown_heads found ≡ heads_behind path.now (shown_heads known.now)) }
 {
@@ -150,7 +154,7 @@ fn heads_behind(alloc: Global, known: &[Place], path: &[u32]) -> Result<Seq<Plac
     Ok(found)
 }
 
-// The constructor that is known at a position.
+// The constructor that is known at a position, by number, if one is.
 fn known_con(known: &[Place], path: &[u32]) -> Option<u32>
     ensures { result ≡ known_con path.now (shown_heads known.now) }
 {
@@ -162,7 +166,7 @@ fn known_con(known: &[Place], path: &[u32]) -> Option<u32>
     None
 }
 
-// The one leaf of some.
+// The leaf in a list of one; none where the list is empty or has more.
 fn sole(leaves: &[usize]) -> Option<usize>
     ensures { result ≡ sole leaves.now }
 {

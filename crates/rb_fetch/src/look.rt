@@ -43,7 +43,8 @@ pub fn find_leaf(
     Ok(holes)
 }
 
-/// The same from reads of the value's words, which may stand in memory still.
+/// Code that leaves by a hole of the leaf of the value whose words are these reads, which may stand
+/// in memory still. Arms of switches are holes themselves.
 ///
 /// # Errors
 ///
@@ -98,7 +99,9 @@ pub fn find_group(
     Ok(holes)
 }
 
-/// The same from reads of the value's words, which may stand in memory still.
+/// Code that leaves by a hole of the group of the leaf of the value whose words are these reads,
+/// which may stand in memory still, where the leaf has one. The groups are given leaf by leaf;
+/// where one group is left, no word is tested.
 ///
 /// # Errors
 ///
@@ -132,7 +135,8 @@ pub fn find_group_of(
     }
 }
 
-// Code that leaves by a hole of the leaf to which the tree leads. A word has at most as many bits as its width says.
+// Code that leaves by a hole of the leaf to which the tree leads, and adds its holes. A word has at
+// most as many bits as its width says.
 #[cycle(looking)]
 fn look(
     alloc: Global,
@@ -182,14 +186,15 @@ fn look(
     }
 }
 
-// A way out to a leaf: a jump, or an arm of a switch, or its else.
+// A way out to a leaf, still open: an arm of the switch at `pc` by its number; without one, the
+// else of that switch, or the jump at `pc`.
 fn way_out(pc: usize, arm: Option<usize>, leaf: usize) -> Hole
     ensures { result ≡ record { pc = pc; arm = arm; leaf = leaf } }
 {
     Hole { pc, arm, leaf }
 }
 
-// Code of one leaf: a jump, which is its hole.
+// Code of a tree that is one leaf: a jump, which is a hole of that leaf.
 fn leave(body: &mut Body, leaf: usize, holes: &mut Seq<Hole>) -> Result<(), AllocError>
     ensures code { OnOk result (body.new ≡ pushed body.old (Jump (length body.old.code + 1))) }
     ensures holes { OnOk result (holes.new
@@ -201,7 +206,8 @@ fn leave(body: &mut Body, leaf: usize, holes: &mut Seq<Hole>) -> Result<(), Allo
     Ok(())
 }
 
-// An arm of a switch, or its else, leads to the end of the code.
+// Sets an arm of the switch at `pc`, or its else where no arm is given, to the end of the code,
+// where the code of the inner split comes.
 fn lead_here(body: &mut Body, pc: usize, arm: Option<usize>)
     requires inside { IsHole body.old.code (record { pc = pc; arm = arm; leaf = 0 }) }
     requires forward { pc < length body.old.code }

@@ -19,7 +19,8 @@ use std::alloc::{AllocError, Global};
 
 // Leaves ----------------------------------------------------------------------------------------
 
-// The constructor at the root of a leaf's provenance.
+// The constructor at the root of a leaf's provenance, by number; none where there is no such leaf,
+// or no constructor at its root.
 pub(crate) fn root_of(layouts: &[Layout], ty: u32, leaf: usize) -> Option<u32>
     ensures { IfSome result (λ con. HasRoot layouts.now ty leaf con) }
 {
@@ -30,7 +31,7 @@ pub(crate) fn root_of(layouts: &[Layout], ty: u32, leaf: usize) -> Option<u32>
     }
 }
 
-// Whether a leaf's provenance has a constructor at its root.
+// Whether a leaf's provenance has this constructor at its root: the leaf is for values of it.
 pub(crate) fn is_leaf_for(leaf: &Leaf, con: u32) -> bool
     ensures { result ≡ is_leaf_for con leaf.now }
 {
@@ -53,7 +54,8 @@ fn leaves_of(alloc: Global, leaves: &[Leaf], con: u32) -> Result<Seq<usize>, All
     Ok(found)
 }
 
-// The leaves for the values of a constructor, by number.
+// The leaves of a type's layout that are for the values of a constructor, by number; none where the
+// type has no layout.
 pub(crate) fn leaves_by(
     alloc: Global,
     layouts: &[Layout],
@@ -70,7 +72,7 @@ pub(crate) fn leaves_by(
     }
 }
 
-// How many leaves a type's layout has.
+// How many leaves a type's layout has, if it has a layout.
 pub(crate) fn count_leaves(layouts: &[Layout], ty: u32) -> Option<usize>
     ensures { IfSome result (λ count. HasLeaves layouts.now ty count) }
 {
@@ -90,7 +92,7 @@ fn copy_held(alloc: Global, held: &Held) -> Result<Held, AllocError>
     Ok(Held { ty: held.ty, slots })
 }
 
-// A copy of parts, with their positions.
+// A copy of parts in slots, with their positions, in their order.
 pub(crate) fn copy_parts(alloc: Global, parts: &[Subvalue]) -> Result<Seq<Subvalue>, AllocError>
     ensures { IfOk result (λ copies. copies ≡ parts.now) }
 {
@@ -103,7 +105,7 @@ pub(crate) fn copy_parts(alloc: Global, parts: &[Subvalue]) -> Result<Seq<Subval
     Ok(copies)
 }
 
-// Arguments as the parts at the positions of length one.
+// The arguments of a construction as its parts: argument i is the part at field i of the root.
 pub(crate) fn parts_of(alloc: Global, args: &[Held]) -> Result<Seq<Subvalue>, AllocError>
     ensures { IfOk result (λ parts. parts ≡ parts_from 0 args.now) }
 {
@@ -117,7 +119,8 @@ pub(crate) fn parts_of(alloc: Global, args: &[Held]) -> Result<Seq<Subvalue>, Al
     Ok(parts)
 }
 
-/// Adds the values of the fields of the part at a position.
+/// Adds the values of the fields of the part at a position to the parts of the whole, each at its
+/// own position: that of the part, with the number of the field behind it.
 ///
 /// # Errors
 ///
@@ -138,7 +141,8 @@ pub(crate) fn add_parts(
     Ok(())
 }
 
-// The slots of the part of a data type at a position. It was found by the look at the position above.
+// The slots of the part of a data type at a position. It is there: an argument, or fetched once the
+// leaf of the part above it was known. Want of memory is the answer where it is not.
 pub(crate) fn words_at(
     alloc: Global,
     parts: &[Subvalue],
@@ -158,7 +162,8 @@ pub(crate) fn words_at(
     Err(AllocError)
 }
 
-// The part of this type at a position is there.
+// Looks whether there is a part at a position, and the first one there is of this type. That is
+// always so; want of memory is the answer where it is not.
 fn find_part(parts: &[Subvalue], path: &[u32], ty: Ty) -> Result<(), AllocError>
     ensures { OnOk result (HasType parts.now path.now ty) }
 {
@@ -173,7 +178,8 @@ fn find_part(parts: &[Subvalue], path: &[u32], ty: Ty) -> Result<(), AllocError>
     Err(AllocError)
 }
 
-// The parts at the open positions of a pattern that stands at a path are there.
+// Looks whether the parts at the open positions of a pattern that stands at a path are there, each
+// of its type.
 #[cycle(finding)]
 fn find_parts(
     alloc: Global,
@@ -199,7 +205,8 @@ fn find_parts(
     }
 }
 
-// Those of subpatterns at the types of their fields.
+// Looks whether the parts at the open positions of the subpatterns of a constructor at a path are
+// there, where the fields are of these types.
 #[cycle(finding)]
 fn find_below(
     alloc: Global,

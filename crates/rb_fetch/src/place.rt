@@ -28,14 +28,15 @@ pub struct Spot<'a> {
     pub part: &'a Part,
 }
 
-// Whether the path of a part is this one.
+// Whether the path that a part names is the path of the field that is looked for.
 fn same_path(own: &[u32], path: &[u32]) -> bool
     ensures { result ≡ same_path own.now path.now }
 {
     own == path
 }
 
-// Whether `l` bits of the field at a path, from bit `a` on, have bit `i` in them.
+// Whether a part that has `l` bits of the field at its own path, from bit `a` on, has bit `i` of
+// the field at `path`.
 fn has_bit(own: &[u32], path: &[u32], a: u64, l: u64, i: u64) -> bool
     ensures { result ≡ (same_path own.now path.now && (leb a i && ltb i (a + l))) }
 {
@@ -90,7 +91,7 @@ fn points_to(part: &Part, block: usize) -> bool
     }
 }
 
-// Whether a part is a wanted one.
+// Whether a part holds the wanted unit of the field at the path, or points to the wanted block.
 fn is_wanted(part: &Part, path: &[u32], wanted: Wanted) -> bool
     ensures { result ≡ placing.is_wanted path.now wanted part.now }
 {
@@ -100,7 +101,7 @@ fn is_wanted(part: &Part, path: &[u32], wanted: Wanted) -> bool
     }
 }
 
-// The first wanted part of a word.
+// The first part of a word that is wanted, if one is.
 fn part_of<'a>(flat: &'a FlatWord, path: &[u32], wanted: Wanted) -> Option<&'a Part>
     ensures { MatchOption result (placing.NoneIn path.now wanted flat.now.parts)
         (λ x. placing.HasPart path.now wanted flat.now.parts x.now) }
@@ -113,7 +114,8 @@ fn part_of<'a>(flat: &'a FlatWord, path: &[u32], wanted: Wanted) -> Option<&'a P
     None
 }
 
-// Where the first wanted part stands in words of the root, or of a block.
+// Where the first wanted part stands in words, which are those of the root, or of the block with
+// this number.
 fn spot_in<'a>(
     words: &'a [FlatWord],
     block: Option<usize>,
@@ -136,7 +138,8 @@ fn spot_in<'a>(
     None
 }
 
-/// Where the wanted part of a leaf stands. The path is that of the field, where one of its units is wanted.
+/// Where the wanted part of a leaf stands, if it has one: in a root word, or else in a word of a
+/// block. The path is that of the field, where one of its units is wanted.
 pub fn find_part<'a>(leaf: &'a Leaf, path: &[u32], wanted: Wanted) -> Option<Spot<'a>>
     ensures { MatchOption result (placing.NoSpot leaf.now path.now wanted)
         (λ x. placing.IsWantedSpot leaf.now path.now wanted x) }
@@ -152,7 +155,8 @@ pub fn find_part<'a>(leaf: &'a Leaf, path: &[u32], wanted: Wanted) -> Option<Spo
     None
 }
 
-/// The byte at which a word of a block begins.
+/// The byte at which a word of a block begins: behind all words before it. Past the last word it is
+/// the size of the block.
 pub fn begins_at(words: &[FlatWord], word: usize) -> u64
     requires { AreShort words.now }
     ensures { result ≡ words_of.begins_at words.now word }

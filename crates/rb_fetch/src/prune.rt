@@ -9,7 +9,8 @@ use rb_core::seq::Seq;
 use rb_layout::layout::{FlatArm, FlatTree};
 use std::alloc::{AllocError, Global};
 
-// The leaf that stands for the group of a leaf.
+// The tree that is the group of a leaf alone; none where the leaf has no group, or no place in the
+// list.
 fn group_leaf(groups: &[Option<u32>], leaf: u32) -> Option<FlatTree>
     ensures { result ≡ leaf_for (group_at groups.now leaf) }
 {
@@ -20,7 +21,7 @@ fn group_leaf(groups: &[Option<u32>], leaf: u32) -> Option<FlatTree>
     }
 }
 
-// The group to which a tree leads without a split.
+// The group to which a tree of groups leads without a split; none where it begins with one.
 fn group_of(tree: &FlatTree) -> Option<u32>
     ensures { result ≡ group_of tree.now }
 {
@@ -40,7 +41,7 @@ fn leads_to(tree: &FlatTree, group: u32) -> bool
     }
 }
 
-// Whether all of these arms do.
+// Whether all of these arms lead to this group without a split; true where there are none.
 fn lead_all(arms: &[FlatArm], group: u32) -> bool
     ensures { result ≡ lead_all group arms.now }
 {
@@ -52,7 +53,7 @@ fn lead_all(arms: &[FlatArm], group: u32) -> bool
     true
 }
 
-// Whether the else does, or there is none.
+// Whether the else of a split leads to this group without a split, or there is no else.
 fn leads_else(other: &Option<FlatTree>, group: u32) -> bool
     ensures { result ≡ leads_else group other.now }
 {
@@ -62,7 +63,8 @@ fn leads_else(other: &Option<FlatTree>, group: u32) -> bool
     }
 }
 
-// The group to which all ways lead.
+// The group to which all arms of a split, and its else if it has one, lead without a split; none
+// where there is no such group, or no arm.
 fn shared_group(arms: &[FlatArm], other: &Option<FlatTree>) -> Option<u32>
     ensures { result ≡ shared_group arms.now other.now }
 {
@@ -76,7 +78,8 @@ fn shared_group(arms: &[FlatArm], other: &Option<FlatTree>) -> Option<u32>
     None
 }
 
-// A split without an else.
+// A split with these arms and no else. Of one arm it is what stands below it, since there is no
+// choice; none where there is no arm.
 fn few(alloc: Global, loc: &Loc, arms: Seq<FlatArm>) -> Result<Option<FlatTree>, AllocError>
     ensures { IfOk result (λ r. r ≡ few_of loc.now arms) }
 {
@@ -94,7 +97,8 @@ fn few(alloc: Global, loc: &Loc, arms: Seq<FlatArm>) -> Result<Option<FlatTree>,
     }
 }
 
-// A split that is left with these arms and this else.
+// A split with these arms and perhaps an else; what stands there where one way alone is left, and
+// none where none is.
 fn kept(
     alloc: Global,
     loc: &Loc,
@@ -116,7 +120,8 @@ fn kept(
     }
 }
 
-// The same where all may lead to one group.
+// A split with these arms and perhaps an else, as `kept` has it, but a leaf where all of them lead
+// to one group without a split.
 fn joined(
     alloc: Global,
     loc: &Loc,
@@ -159,7 +164,7 @@ fn prune(
     }
 }
 
-// The arms below which a leaf has a group.
+// The arms below which a leaf has a group, with the trees below them pruned.
 #[cycle(pruning)]
 fn prune_arms(
     alloc: Global,

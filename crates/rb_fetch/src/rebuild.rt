@@ -22,7 +22,7 @@ use std::alloc::{AllocError, Global};
 /// cycle, and patterns are finite.
 pub(crate) const DEPTH: usize = 4294967295;
 
-/// What `fetch_field` appends, where so many calls may be nested still.
+/// What `fetch_field` appends, where `depth` calls may be nested still; want of memory at 0.
 ///
 /// # Errors
 ///
@@ -64,7 +64,7 @@ pub(crate) fn fetch_field_at(
     }
 }
 
-// A copy of the numbers of slots.
+// A copy of a list of slots, which are numbers.
 fn copy_slots(alloc: Global, slots: &[usize]) -> Result<Seq<usize>, AllocError>
     ensures { IfOk result (λ copy. copy ≡ slots.now) }
 {
@@ -75,7 +75,7 @@ fn copy_slots(alloc: Global, slots: &[usize]) -> Result<Seq<usize>, AllocError>
     Ok(copy)
 }
 
-/// A copy of a position.
+/// A copy of a position, that is, of a list of field numbers.
 ///
 /// # Errors
 ///
@@ -90,7 +90,7 @@ pub(crate) fn copy_path(alloc: Global, path: &[u32]) -> Result<Seq<u32>, AllocEr
     Ok(copy)
 }
 
-// The pattern at a position of a pattern.
+// The pattern at a position of a pattern; none where the position leads out of it.
 fn pattern_at<'a>(pat: &'a Pat, path: &[u32]) -> Option<&'a Pat>
     ensures { option_copied result ≡ pattern_at (Some pat.now) path.now }
 {
@@ -103,7 +103,7 @@ fn pattern_at<'a>(pat: &'a Pat, path: &[u32]) -> Option<&'a Pat>
     }
 }
 
-// The subpattern of a constructor pattern in a field.
+// The subpattern of a constructor pattern in a field; none of another pattern, and past the fields.
 fn sub_at(pat: &Pat, field: u32) -> Option<&Pat>
     ensures { option_copied result ≡ sub_at pat.now field }
 {
@@ -113,7 +113,8 @@ fn sub_at(pat: &Pat, field: u32) -> Option<&Pat>
     }
 }
 
-/// Code that leaves the words of a field at an open position in slots.
+/// Code that leaves the words of the field at an open position of a value's leaf in slots, from the
+/// slots of the value's words. It takes no switch.
 ///
 /// # Errors
 ///

@@ -38,7 +38,7 @@ pub(crate) fn int_read(
     Ok(Read::Joined(shares))
 }
 
-// Whether a part is as long as an integer and holds it from bit 0 on.
+// Whether a part that holds bits of an integer of this width holds all of them.
 fn is_whole(part: &Part, width: u8) -> bool
     ensures { result ≡ fields.is_whole width part.now }
 {
@@ -48,7 +48,7 @@ fn is_whole(part: &Part, width: u8) -> bool
     first_bit(part) == 0
 }
 
-// The first bit of the integer that a part has.
+// The bit of an integer at which a part begins; 0 where it holds no bits of an integer.
 fn first_bit(part: &Part) -> u64
     ensures { result ≡ fields.first_bit part.now.kind }
 {
@@ -60,7 +60,8 @@ fn first_bit(part: &Part) -> u64
     }
 }
 
-// The slices of an integer, from its bit 0 on.
+// The slices of an integer, from its bit 0 on: each begins at the first bit that those before it do
+// not have. They end early at a bit that no part holds.
 fn slices(
     alloc: Global,
     leaf: &Leaf,
@@ -87,7 +88,8 @@ fn slices(
     Ok(shares)
 }
 
-// So many bits of a range, behind those that are skipped, from bit `a` of the whole on.
+// `len` bits of a range behind its first `skip` ones, as a share that stands from bit `a` of the
+// whole on.
 fn share(span: Span, skip: u64, len: u64, a: u64) -> Share
     ensures { result ≡ fields.share_of span skip len a }
 {

@@ -73,7 +73,8 @@ fn narrowed(span: Span) -> Span
     }
 }
 
-// Whether a range lies in a range of a word.
+// Whether `l` bits from bit `o` on lie in `count` bits, and these lie in a word from its bit `from`
+// on.
 fn is_within(o: u64, l: u64, from: u64, count: u64) -> bool
     ensures { result ≡ true → (o + l ≤ count) × (from + count ≤ 64) }
 {
@@ -83,7 +84,7 @@ fn is_within(o: u64, l: u64, from: u64, count: u64) -> bool
     o <= count && l <= count - o
 }
 
-// The range to which steps lead from a range.
+// The range to which steps lead from a range, one after the other; the range itself without steps.
 fn span_behind(alloc: Global, first: Span, steps: &[Step]) -> Result<Span, AllocError>
     ensures { IfOk result (λ span. span ≡ span_on first steps.now) }
 {
@@ -103,7 +104,8 @@ fn span_behind(alloc: Global, first: Span, steps: &[Step]) -> Result<Span, Alloc
     Ok(span)
 }
 
-// How many bits of a word a range reaches over: all of a slot where the word has no others.
+// How many bits of a slot are taken for `l` bits of a word from bit `o` on: all 64 where the word
+// has no others, so that no mask is needed.
 fn reach(width: Option<u64>, o: u64, l: u64) -> u64
     ensures { result ≡ reach width o l }
 {
@@ -125,7 +127,7 @@ pub fn span_bits(alloc: Global, span: Span) -> Result<Read, AllocError>
     Ok(Read::Bits(Boxed::new(alloc, read)?, bits(o), bits(l)))
 }
 
-// Whether a range is all bits that a word may have.
+// Whether a range is all bits that a word of this width may have; never where no width is known.
 fn is_all(width: Option<u64>, o: u64, l: u64) -> bool
     ensures { result ≡ is_all width o l }
 {
@@ -135,7 +137,7 @@ fn is_all(width: Option<u64>, o: u64, l: u64) -> bool
     }
 }
 
-// A copy of one of the words; where there is none, a number.
+// A copy of one of the words; past their end, where no location leads, the number 0.
 fn word_at(alloc: Global, words: &[Read], word: u64) -> Result<Read, AllocError>
     ensures { IfOk result (λ read. read ≡ read_or (slice_get words.now word)) }
 {
@@ -148,7 +150,8 @@ fn word_at(alloc: Global, words: &[Read], word: u64) -> Result<Read, AllocError>
     }
 }
 
-/// A number of bits, of which no word has more than 64.
+/// A number of bits, or 64 where it is more, as no word has more: so it is a number of an
+/// instruction.
 pub fn bits(count: u64) -> u8
     ensures { result ≡ capped count }
 {

@@ -42,7 +42,8 @@ pub(crate) fn location(alloc: Global, leaf: &Leaf, spot: Spot) -> Result<Loc, Al
     }
 }
 
-// From the pointer to a block to a part in it.
+// The step of a location from the pointer to a block to the part in the block that stands at a
+// spot.
 fn step_to(block: &Block, spot: Spot) -> Step
     requires { AreShort block.now.words }
     ensures { result ≡ step_of block.now spot.entry }
@@ -56,7 +57,7 @@ fn step_to(block: &Block, spot: Spot) -> Step
     }
 }
 
-/// The bits of a part, over reads of the words of a value of the leaf.
+/// The bits of the part at a spot, as a range over reads of the words of a value of the leaf.
 ///
 /// # Errors
 ///
@@ -76,7 +77,7 @@ pub(crate) fn spot_span(
     Ok(span)
 }
 
-// The width of a root word of a leaf.
+// The width of a root word of a leaf, if it has that word.
 fn root_width(leaf: &Leaf, word: u64) -> Option<u64>
     ensures { result ≡ width_of (slice_get leaf.now.root word) }
 {
@@ -86,7 +87,8 @@ fn root_width(leaf: &Leaf, word: u64) -> Option<u64>
     }
 }
 
-/// A part as a read: the word itself where the part is all of it.
+/// The part at a spot as a read over reads of the words of a value of the leaf: the word itself
+/// where the part is all of it.
 ///
 /// # Errors
 ///

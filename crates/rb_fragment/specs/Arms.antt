@@ -1,4 +1,5 @@
--- The arms of a match, one behind the other, and the code that is made of them and of what chooses one.
+-- The arms of a match, one behind the other, and the code that is made of them and of what chooses one. A hole is a
+-- target of a jump or a switch that is still open; its `leaf` is the number of the way, or arm, to which it leads.
 use Rattle.std.specs.Prelude.{◌≡◌, ℕ, ◌+◌, ◌<◌, ◌≤◌, ◌⊎◌, Bool, List, [], ◌∷◌, length, Option, Some, None, slice_get, slice_index}
 use Rattle.rb_core.specs.declared.types.Ty.{Ty}
 use Rattle.rb_core.specs.declared.outcome.Outcome.{Outcome}
@@ -22,38 +23,40 @@ use Rattle.rb_fragment.specs.Fragments.{Comes}
 
 -- Holes
 
--- each hole with its target, the one of its way
+-- the sheet with the target of each hole set to that of its way: ts has one target a way
 abbrev pub closed : Sheet → List Hole → List ℕ → Sheet
 closed b [] ts = b
 closed b (h ∷ hs) ts = closed (patched b h (slice_index ts h.leaf)) hs ts
 
--- each is a hole in front of its target
+-- each hole is one of the code, and stands in front of the target that ts has for its way
 abbrev pub ArePatchable : List Instr → List Hole → List ℕ → Type 0
 ArePatchable code [] ts = Unit {0}
 ArePatchable code (h ∷ hs) ts =
     IsHole code h × (h.leaf < length ts) × (h.pc < slice_index ts h.leaf) × ArePatchable code hs ts
 
--- holes of instructions from a number on, each of one of so many ways
+-- each is a hole of the code, of an instruction from number `from` on, and of one of `count` ways
 abbrev pub AreHoles : ℕ → ℕ → List Instr → List Hole → Type 0
 AreHoles from count code [] = Unit {0}
 AreHoles from count code (h ∷ hs) = (from ≤ h.pc) × (h.leaf < count) × IsHole code h × AreHoles from count code hs
 
--- one target belongs to one way
+-- holes that are the same target of the same instruction belong to the same way
 abbrev pub AreOfOneWay : List Hole → Type 0
 AreOfOneWay holes = (h k : Hole) → IsIn h holes → IsIn k holes → h.pc ≡ k.pc → h.arm ≡ k.arm → h.leaf ≡ k.leaf
 
--- a jump that is open
+-- the hole is the target of a jump of the code
 abbrev pub IsOpenJump : List Instr → Hole → Type 0
 IsOpenJump code h = (t : ℕ) × (slice_get code h.pc ≡ Some (Jump t)) × (h.arm ≡ None)
 
--- an open jump from a number on, to where all ways meet
+-- the hole is the target of a jump of the code, from number `from` on, that leads to where all ways meet
 abbrev pub IsJoin : ℕ → List Instr → Hole → Type 0
 IsJoin from code h = (from ≤ h.pc) × (h.leaf ≡ 0) × IsOpenJump code h
 
+-- each hole is the target of a jump of the code, from number `from` on, that leads to where all ways meet
 abbrev pub AreJoins : ℕ → List Instr → List Hole → Type 0
 AreJoins from code [] = Unit {0}
 AreJoins from code (h ∷ hs) = IsJoin from code h × AreJoins from code hs
 
+-- one of the holes belongs to instruction pc
 abbrev pub HasHole : ℕ → List Hole → Type 0
 HasHole pc [] = ⊥
 HasHole pc (h ∷ hs) = (pc ≡ h.pc) ⊎ HasHole pc hs
@@ -76,6 +79,7 @@ abbrev pub shared_held : Option Held → Sheet → Held → Held
 shared_held None c held = record { ty = held.ty; slots = slots_from c.slots (length held.slots) }
 shared_held (Some h) c held = h
 
+-- the sheet c with new slots for the value of the first arm; c itself for a later arm, whose slots are shared
 abbrev pub shared_sheet : Option Held → Sheet → Held → Sheet
 shared_sheet None c held = with_slots c (length held.slots)
 shared_sheet (Some h) c held = c
@@ -107,7 +111,7 @@ pub record ArmIn (e q : Sheet) (joins : List Hole) (start : ℕ) (DoesArm : Shee
   pub alone : (pc : ℕ) → HasHole pc joins → length first.code ≤ pc → pc < length last.code → pc ≡ join
   pub does : DoesArm first last join
 
--- the first so many arms stand, each at its start
+-- the first `count` arms stand behind e in longer code q, each at its start, and DoesArm holds of each
 abbrev pub ArmsIn : ℕ → Sheet → Sheet → List Hole → List ℕ → (ℕ → Sheet → Sheet → ℕ → Type 0) → Type 0
 ArmsIn count e q joins starts DoesArm = (k : ℕ) → k < count → ArmIn e q joins (slice_index starts k) (DoesArm k)
 
@@ -119,7 +123,7 @@ pub record ArmsAre (count : ℕ) (e q : Sheet) (joins : List Hole) (starts : Lis
   pub starts_below : AllBelow (length q.code + 1) starts
   pub count_is : length starts ≡ count
 
--- behind a chooser with these holes stand arms, one a way
+-- the targets of a match can be set: behind a chooser with these holes stand arms, one a way, with open jumps
 pub record CanClose (q : Sheet) (holes : List Hole) (starts : List ℕ) (joins : List Hole) : Type 0 where
   pub before : ℕ
   pub chooser : Sheet

@@ -49,7 +49,7 @@ pub record Emits (plan : Plan) (ev : Calls → ℕ → List Binding → Outcome)
   pub does : (calls : Calls) (clean : Bool) (env : List Binding)
       → Fragment plan clean calls old new (λ s m. Holds plan clean s m locals env) (λ left. ev calls left env) t slots
 
--- nothing is said of values
+-- any values are right: nothing is asked of them
 abbrev pub AnyValues : List Value → Type 0
 AnyValues vs = Unit {0}
 

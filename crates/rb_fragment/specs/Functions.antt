@@ -15,13 +15,14 @@ use Rattle.rb_fragment.specs.Plan.{Plan, Reps, words_of, words_in, types_of}
 use Rattle.rb_fragment.specs.Owing.{Does, Gives, Related}
 use Rattle.rb_fragment.specs.Slots.{slots_from}
 
--- parameters in the first slots, each as many as its type has words
+-- the parameters as variables in slots in a row from a on, each in as many as its type has words
 abbrev pub param_locals : Plan → ℕ → List Param → List Local
 param_locals plan a [] = []
 param_locals plan a (p ∷ ps) =
     record { var = p.var; ty = p.ty; slots = slots_from a (words_of plan p.ty) }
     ∷ param_locals plan (a + words_of plan p.ty) ps
 
+-- how many words a function's parameters have, in all
 abbrev pub param_words : Plan → Fun → ℕ
 param_words plan f = words_in plan (types_of f)
 
@@ -50,7 +51,7 @@ pub record Compiles (plan : Plan) (g : ℕ) (f : Fun) (q : CodeFun) : Type 0 whe
       (body_of plan.program calls (Some f) g w.left vs)
       (Gives plan clean f.result (next 0 (ws ++ replicate (q.slots - length ws) 0) w))
 
--- each function has its code
+-- each function of the program has code with its number that does what it does
 abbrev pub AllCompile : Plan → List CodeFun → Type 0
 AllCompile plan funs =
     (g : ℕ) (f : Fun) → slice_get plan.program.funs g ≡ Some f → (q : CodeFun) × (slice_get funs g ≡ Some q)

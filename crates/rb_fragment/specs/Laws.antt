@@ -13,6 +13,7 @@ use Rattle.rb_fragment.specs.Slots.{slots_from}
 use Rattle.rb_fragment.specs.Holding.{AllGiven, held_type, scope_of}
 use Rattle.rb_fragment.specs.Fragments.{AnyValues, Applies, Emits, EmitsAll, calling}
 
+-- a call instruction over held arguments of the right types does what the call of the source does, wherever it stands
 abbrev pub CallsApply : Type 0
 CallsApply =
     (plan : Plan) (a : Sheet) (g : ℕ) (f : Fun) (hs : List Held) → slice_get plan.program.funs g ≡ Some f
@@ -21,6 +22,8 @@ CallsApply =
     → Applies plan AnyValues (λ calls vs left. calls g left vs) hs a (calling plan a g f hs) f.result
     (slots_from a.slots (words_of plan f.result))
 
+-- code that leaves the values of parts, and behind it code that does f of them, is code for the expression that
+-- does both, the parts from left to right
 abbrev pub PartsThenApply : Type 0
 PartsThenApply =
     (plan : Plan) (ts : List Ty) (ls : List Local) (ms : Calls → List Meaning)

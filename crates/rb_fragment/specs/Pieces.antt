@@ -1,4 +1,5 @@
--- Code that places no block and calls nothing: fetching, choosing, binding.
+-- Code that places no block and calls nothing: fetching, choosing, binding. A hole is a target of a jump or a switch
+-- that is still open; its `leaf` is the number of the way out to which it belongs.
 use Rattle.std.specs.Prelude.{◌≡◌, ℕ, ◌+◌, ◌≤◌, List, length, Some, slice_get}
 use Rattle.rb_bytes.specs.Memory.{Memory, IsGood}
 use Rattle.rb_target.specs.declared.instr.Instr.{Instr}
@@ -11,7 +12,7 @@ use Rattle.rb_target.specs.Targets.{target_in, IsIn, Finishes}
 use Rattle.rb_fragment.specs.Plan.{Plan}
 use Rattle.rb_fragment.specs.Adding.{Adds}
 
--- the same memory and calls left, and at most so many more switches
+-- the world w' has the memory of w, as many calls left, and at most so many more switches
 pub record IsLater (most : ℕ) (w w' : World) : Type 0 where
   pub memory : w'.memory ≡ w.memory
   pub left : w'.left ≡ w.left
@@ -38,7 +39,7 @@ pub record Piece (plan : Plan) (n : ℕ) (old new : Sheet) (Open : ℕ → Type 
 abbrev pub AtEnd : Sheet → (List ℕ → Memory → Type 0) → ℕ → List ℕ → Memory → Type 0
 AtEnd new Post pc s m = (pc ≡ length new.code) × Post s m
 
--- one way out, at the end, and no switch
+-- code with one way out, at its end, and no switch: where Pre holds before it, Post holds behind it
 abbrev pub Straight : Plan → ℕ → Sheet → Sheet → (List ℕ → Memory → Type 0) → (List ℕ → Memory → Type 0) → Type 0
 Straight plan n old new Pre Post = Piece plan n old new Nowhere 0 Pre (AtEnd new Post)
 

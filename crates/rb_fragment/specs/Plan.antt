@@ -23,30 +23,34 @@ pub record Plan : Type 0 where
 abbrev pub Rep : Plan → Memory → Bool → Ty → Value → List ℕ → Type 0
 Rep plan = Represents plan.program.types plan.layouts
 
--- and so several values, one behind the other
+-- the words represent the values at their types, one behind the other, cleanly where the flag is up
 abbrev pub Reps : Plan → Memory → Bool → List Ty → List Value → List ℕ → Type 0
 Reps plan = Represent plan.program.types plan.layouts
 
+-- how many words represent a value of a type
 abbrev pub words_of : Plan → Ty → ℕ
 words_of plan = word_count plan.layouts
 
+-- how many words represent a value of each of these types, in all
 abbrev pub words_in : Plan → List Ty → ℕ
 words_in plan [] = 0
 words_in plan (t ∷ ts) = words_of plan t + words_in plan ts
 
+-- the types of a function's parameters, in order
 abbrev pub types_of : Fun → List Ty
 types_of f = map (λ p. p.ty) f.params
 
--- a construction may cost the switches that choose its leaf
+-- the switches that a construction of a value of data type t may cost: those that choose its leaf; 0 for a number
 abbrev pub cost_of_built : List Layout → ℕ → Value-F Value → ℕ
 cost_of_built layouts t (V.Num n) = 0
 cost_of_built layouts t (V.Con k vs) = choose_of layouts t k
 
+-- the switches that one event of the source's log may cost: a construction, or a match at a token of a function
 abbrev pub cost_at : Plan → Event → ℕ
 cost_at plan (Built t v) = cost_of_built plan.layouts t (out-Value v)
 cost_at plan (Matched f at) = plan.bound f at
 
--- the switches that a log may cost
+-- the switches that all events of the source's log may cost
 abbrev pub cost_of : Plan → List Event → ℕ
 cost_of plan [] = 0
 cost_of plan (e ∷ log) = cost_at plan e + cost_of plan log

@@ -11,9 +11,10 @@ use rb_target::body::Body;
 use rb_target::instr::AluOp;
 use std::alloc::AllocError;
 
-/// Bits `o` up to `o + l` of a slot's word, times an alignment. Where they begin at the alignment's own bit they stand
-/// in their place already, and the bits beside them are masked off. Where they are all bits of a slot, the word itself
-/// is multiplied.
+/// Appends code for the address that bits `o` up to `o + l` of a slot's word say: these bits times
+/// an alignment. Answers the slot that has it. Where the bits begin at the alignment's own bit they
+/// stand in their place already, and the bits beside them are masked off. Where they are all bits
+/// of the slot, its word itself is multiplied.
 ///
 /// # Errors
 ///
@@ -48,14 +49,14 @@ pub(crate) fn emit_address(
     }
 }
 
-// Whether a range is all bits of a slot.
+// Whether bits `o` up to `o + l` are all bits of a slot.
 fn is_whole(o: u8, l: u8) -> bool
     ensures { result ≡ true → (o ≡ 0) × (l ≡ 64) }
 {
     o == 0 && l == 64
 }
 
-// A slot's word, times an alignment.
+// Appends code for a slot's word times an alignment, modulo 2^64, and answers the slot that has it.
 fn emit_multiple(body: &mut Body, from: usize, align: u64) -> Result<usize, AllocError>
     ensures small { align < 2 ^ 64 }
     ensures slot { IfOk result (λ slot. slot ≡ body.old.slots + 1) }
@@ -66,7 +67,8 @@ fn emit_multiple(body: &mut Body, from: usize, align: u64) -> Result<usize, Allo
     Ok(slot)
 }
 
-// The mask of a range that begins at the bit that an alignment is.
+// The mask of bits `o` up to `o + l`, if they begin at the one bit that an alignment has: then they
+// need not be moved. None also where these are no bits of a word.
 fn mask_in_place(o: u8, l: u8, align: u64) -> Option<u64>
     ensures { IfSome result (λ range. IsRange o l × (align ≡ 2 ^ o) × (range ≡ mask_of o l)) }
 {

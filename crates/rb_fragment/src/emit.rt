@@ -9,7 +9,7 @@ use rb_target::body::Body;
 use rb_target::instr::{AluOp, Instr};
 use std::alloc::AllocError;
 
-/// A number.
+/// Appends an instruction that puts a number into a new slot, and answers the slot.
 ///
 /// # Errors
 ///
@@ -24,7 +24,7 @@ pub fn emit_const(body: &mut Body, number: u64) -> Result<usize, AllocError>
     Ok(slot)
 }
 
-/// Another slot's word.
+/// Appends an instruction that puts another slot's word into a new slot, and answers the slot.
 ///
 /// # Errors
 ///
@@ -38,7 +38,8 @@ pub fn emit_copy(body: &mut Body, from: usize) -> Result<usize, AllocError>
     Ok(slot)
 }
 
-/// An operation modulo two to the power of so many bits, on the words of two slots.
+/// Appends an operation modulo two to the power of so many bits, on the words of two slots, into a
+/// new slot, and answers the slot.
 ///
 /// # Errors
 ///
@@ -58,7 +59,8 @@ pub fn emit_alu(
     Ok(slot)
 }
 
-/// Bits `o` up to `o + l` of a slot's word.
+/// Appends an instruction that puts bits `o` up to `o + l` of a slot's word into a new slot, from
+/// bit 0 on, and answers the slot.
 ///
 /// # Errors
 ///
@@ -72,7 +74,8 @@ pub fn emit_take(body: &mut Body, from: usize, o: u8, l: u8) -> Result<usize, Al
     Ok(slot)
 }
 
-/// The word of `width` bits at byte `offset` of the block at a slot's address.
+/// Appends a load of the word of `width` bits at byte `offset` of the block at a slot's address,
+/// into a new slot, and answers the slot.
 ///
 /// # Errors
 ///
@@ -86,7 +89,8 @@ pub fn emit_load(body: &mut Body, base: usize, offset: u64, width: u8) -> Result
     Ok(slot)
 }
 
-/// The words of some slots to as many others, one after the other, as far as both lists go.
+/// Appends copies of the words of the slots `froms` to the slots `dests`, one after the other, as
+/// far as both lists go.
 ///
 /// # Errors
 ///

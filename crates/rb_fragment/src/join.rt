@@ -10,8 +10,8 @@ use rb_target::body::{Body, Hole};
 use rb_target::instr::Instr;
 use std::alloc::{AllocError, Global};
 
-/// Behind the code of an arm's value: its words to where the arms before it left theirs, or to new
-/// slots for the first arm, and an open jump to where all arms meet.
+/// Appends, behind the code of an arm's value, what moves its words to where the arms before it
+/// left theirs, or to new slots for the first arm, and an open jump to where all arms meet.
 ///
 /// # Errors
 ///
@@ -36,7 +36,8 @@ pub fn emit_join(
     Ok(Joined { into, join })
 }
 
-// Where an arm leaves its value.
+// Where an arm leaves its value: in the slots that the arms before it share, or in new ones if it
+// is the first.
 fn shared(
     alloc: Global,
     body: &mut Body,

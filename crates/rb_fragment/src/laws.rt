@@ -10,7 +10,7 @@ ghost use Rattle.rb_fragment.specs.Adding.{Adds};
 ghost use Rattle.rb_fragment.specs.Functions.{AllCompile, RunsDo};
 ghost use Rattle.rb_fragment.specs.Laws.{CallsApply, PartsThenApply};
 
-/// What was appended to what was appended is appended; no code is appended to itself.
+/// Code that is appended to appended code is appended in all; and to append none is to append, too.
 pub fn additions_compose()
     ensures none { (plan : Plan) (a : Sheet) → Adds plan a a }
     ensures two { (plan : Plan) (a b c : Sheet) → Adds plan a b → Adds plan b c → Adds plan a c }

@@ -15,7 +15,8 @@ use rb_target::body::Body;
 use rb_target::instr::Instr;
 use std::alloc::{AllocError, Global};
 
-/// Makes a read into a slot: one that stands in a slot costs nothing.
+/// Appends code that makes a read, and answers the slot that has it. A read that is the word in a
+/// slot needs no code.
 ///
 /// # Errors
 ///
@@ -55,8 +56,9 @@ pub fn make(body: &mut Body, read: &Read) -> Result<usize, AllocError>
     }
 }
 
-// Shares, one over the other: a first one at bit 0 is taken into the slot of the whole, and the others are put over it;
-// else all are put over a zero.
+// Appends code that joins shares to one number, each put over those before it: a first one at bit
+// 0 is taken into the slot of the whole, and the others are put over it; else all are put over a
+// zero.
 #[cycle(making)]
 fn make_joined(body: &mut Body, shares: &[Share]) -> Result<usize, AllocError>
     ensures makes { IfOk result (λ slot. MakesRead (reads.Joined shares.now) body.old body.new slot) }
@@ -77,7 +79,7 @@ fn make_joined(body: &mut Body, shares: &[Share]) -> Result<usize, AllocError>
     Ok(slot)
 }
 
-// Shares, one after the other, over what stands in the slot of the whole.
+// Appends code that puts shares, one after the other, over what stands in the slot of the whole.
 #[cycle(making)]
 fn put_shares(body: &mut Body, shares: &[Share], slot: usize) -> Result<(), AllocError>
     ensures puts { OnOk result (PutsShares shares.now slot body.old body.new) }
@@ -90,7 +92,7 @@ fn put_shares(body: &mut Body, shares: &[Share], slot: usize) -> Result<(), Allo
     Ok(())
 }
 
-// One share, into the slot of the whole.
+// Appends code that makes the read of a share, and puts its bits into the slot of the whole.
 #[cycle(making)]
 fn make_share(body: &mut Body, share: &Share, slot: usize) -> Result<(), AllocError>
     ensures puts { OnOk result (PutsShare share.now slot body.old body.new) }
@@ -103,7 +105,8 @@ fn make_share(body: &mut Body, share: &Share, slot: usize) -> Result<(), AllocEr
     Ok(())
 }
 
-/// Makes reads into slots, one each and in their order.
+/// Appends code that makes reads, and answers the slots that have them, one each and in their
+/// order.
 ///
 /// # Errors
 ///

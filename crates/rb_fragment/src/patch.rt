@@ -7,7 +7,7 @@ use rb_core::seq::Seq;
 use rb_target::body::{Body, Hole};
 use std::alloc::{AllocError, Global};
 
-/// Sets each hole's target to that of its way: `targets` has one a way.
+/// Sets the target of each hole to that of the way to which it belongs: `targets` has one a way.
 pub fn patch_all(body: &mut Body, holes: &[Hole], targets: &[usize])
     requires { ArePatchable body.old.code holes.now targets.now }
     ensures { body.new ≡ closed body.old holes.now targets.now }
@@ -18,7 +18,7 @@ pub fn patch_all(body: &mut Body, holes: &[Hole], targets: &[usize])
     }
 }
 
-// The target of a way.
+// The target of the way with this number.
 fn target_of(targets: &[usize], way: usize) -> usize
     requires { way < length targets.now }
     ensures { result ≡ slice_index targets.now way }

@@ -36,7 +36,7 @@ pub struct Share {
 }
 
 impl Read {
-    /// An equal read.
+    /// An equal read, with parts of its own.
     ///
     /// # Errors
     ///
@@ -68,7 +68,7 @@ impl Read {
     }
 }
 
-// Equal shares, in their order.
+// Equal shares, in their order, with reads of their own.
 #[cycle(copying)]
 fn copy_shares(alloc: Global, shares: &[Share]) -> Result<Seq<Share>, AllocError>
     ensures { IfOk result (λ copies. copies ≡ shares.now) }
@@ -86,7 +86,7 @@ fn copy_shares(alloc: Global, shares: &[Share]) -> Result<Seq<Share>, AllocError
     Ok(copies)
 }
 
-/// The words in some slots.
+/// The reads of the words in some slots, one each and in their order.
 ///
 /// # Errors
 ///

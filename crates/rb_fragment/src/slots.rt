@@ -12,7 +12,7 @@ use rb_layout::layout::Layout;
 use rb_target::body::Body;
 use std::alloc::{AllocError, Global};
 
-/// How many words represent a value of a type.
+/// How many words represent a value of a type: 1 for an integer, and 0 for a type without a layout.
 pub fn word_count(layouts: &[Layout], ty: Ty) -> usize
     ensures { result ≡ relation.word_count layouts.now ty }
 {
@@ -25,7 +25,7 @@ pub fn word_count(layouts: &[Layout], ty: Ty) -> usize
     }
 }
 
-/// So many slots in a row that nothing else uses.
+/// Takes so many slots in a row that nothing else uses.
 ///
 /// # Errors
 ///
@@ -57,7 +57,7 @@ pub fn joined_slots(alloc: Global, held: &[Held]) -> Result<Seq<usize>, AllocErr
     Ok(slots)
 }
 
-// Adds slots behind those of a list.
+// Adds the slots of one list behind those of another.
 fn push_all(slots: &mut Seq<usize>, more: &[usize]) -> Result<(), AllocError>
     ensures { OnOk result (slots.new ≡ slots.old ++ more.now) }
 {

@@ -13,7 +13,7 @@ use Rattle.rb_image_text.specs.declared.image.ImageBlock.{ImageBlock}
 use Rattle.rb_image.specs.declared.kept.Kept.{Kept}
 use Rattle.rb_image.specs.Splits.{range_at, range_of, step_over, word_at}
 
--- what comes behind something, which is nothing where there is a fault
+-- the list that `go` gives of what was found, and the empty one where a fault was
 abbrev pub if_found : {A B : Type 0} → Result A ImageFault → (A → List B) → List B
 if_found (Err fault) go = []
 if_found (Ok x) go = go x
@@ -30,23 +30,29 @@ ranges_at m ws loc = let range = range_of (word_at ws loc.word) loc.o loc.l in r
 
 -- Trees --------------------------------------------------------------------------------------
 
+-- what gives, from an image's blocks and the words of a value, the bits that are read on the way to a leaf
 abbrev pub Asking : Type 0
 Asking = List ImageBlock → List Kept → List Kept
 
+-- the bits that are read under the else arm of a split; none where it has no such arm
 abbrev pub asked_else : Option Asking → Asking
 asked_else None m ws = []
 asked_else (Some go) m ws = go m ws
 
+-- the bits that are read under the first arm whose literal is the number in `range`, or else under the else arm
 abbrev pub asked_arms : Kept → List (Under Asking) → Option Asking → Asking
 asked_arms range [] other m ws = asked_else other m ws
 asked_arms range (arm ∷ arms) other m ws =
     if nat_eq arm.literal range.number then arm.of m ws else asked_arms range arms other m ws
 
+-- the bits that a tree of splits reads, given those that are read under its arms: a split reads those for its
+-- location before them, and a leaf reads none
 abbrev pub asked_step : FlatTree-F Asking (Under Asking) → Asking
 asked_step (T.Split loc arms other) m ws =
     ranges_at m ws loc ++ if_found (range_at m ws loc) (λ range. asked_arms range arms other m ws)
 asked_step (T.Leaf n) m ws = []
 
+-- an arm of a split with its literal, and the bits that are read under it
 abbrev pub asked_arm : FlatArm-F Asking (Under Asking) → Under Asking
 asked_arm arm = record { literal = arm.literal; of = arm.under }
 
@@ -54,5 +60,6 @@ asked_arm arm = record { literal = arm.literal; of = arm.under }
 abbrev pub asked_by : FlatTree → Asking
 asked_by = fold-FlatTree Asking (Under Asking) asked_step asked_arm
 
+-- an arm of a tree of splits: its literal, and the bits that the splits under it read on the way to a leaf
 abbrev pub asked_under : FlatArm → Under Asking
 asked_under = fold-FlatArm Asking (Under Asking) asked_step asked_arm

@@ -8,15 +8,16 @@ abbrev pub block_at : List ImageBlock → ℕ → Option ImageBlock
 block_at [] address = None
 block_at (b ∷ bs) address = if nat_eq b.at address then Some b else block_at bs address
 
+-- the size in bytes of a block of an image, none where there is no block
 abbrev pub size_in : Option ImageBlock → Option ℕ
 size_in None = None
 size_in (Some b) = Some (length b.bytes)
 
--- its size in bytes
+-- the size in bytes of the block that begins at an address, none where no block does
 abbrev pub size_at : List ImageBlock → ℕ → Option ℕ
 size_at blocks address = size_in (block_at blocks address)
 
--- blocks have words of 8, 16, 32 and 64 bits
+-- whether a word of a block may have this width: 8, 16, 32 or 64 bits
 abbrev pub is_width : ℕ → Bool
 is_width width = (width == 8) || ((width == 16) || ((width == 32) || (width == 64)))
 
@@ -25,14 +26,16 @@ abbrev pub number_in : List ℕ → ℕ → ℕ → Option ℕ
 number_in bytes byte count =
     if nat_le (byte + count) (length bytes) then Some (from_le_bytes (slice_range bytes byte (byte + count))) else None
 
--- the word from a byte of a block on
+-- the word of `width` bits from a byte of a block on; none where no word has this width, or it does not lie in the
+-- block
 abbrev pub word_from : ImageBlock → ℕ → ℕ → Option ℕ
 word_from b byte width = if is_width width then number_in b.bytes byte (width / 8) else None
 
+-- the word of `width` bits from a byte of a block on; none where there is no block, or no such word in it
 abbrev pub word_of : Option ImageBlock → ℕ → ℕ → Option ℕ
 word_of None byte width = None
 word_of (Some b) byte width = word_from b byte width
 
--- the word from a byte on of the block that begins at an address, where it lies in it
+-- the word of `width` bits from a byte on of the block that begins at an address, where it lies in it
 abbrev pub word_in : List ImageBlock → ℕ → ℕ → ℕ → Option ℕ
 word_in blocks address byte width = word_of (block_at blocks address) byte width

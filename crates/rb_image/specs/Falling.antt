@@ -34,7 +34,8 @@ abbrev pub base_in : (ℕ → ℕ) → (ℕ → ℕ) → Option ℕ → ℕ → 
 base_in from ats None j = from j
 base_in from ats (Some b) j = ats b
 
--- the address lies below that of the block in which a pointer is kept; one that is kept in no block may lead anywhere
+-- the address `at`, to which a pointer leads, lies below that of the block in which the pointer is kept, `base`;
+-- where that is 0 the pointer is kept in no block and may lead anywhere
 abbrev pub Falls : ℕ → ℕ → Type 0
 Falls base at = (base ≡ 0) ⊎ (at < base)
 
@@ -43,7 +44,7 @@ abbrev pub PointersFall : Leaf → (ℕ → ℕ) → (ℕ → ℕ) → Type 0
 PointersFall leaf from ats =
     (r : WordRef) (l align b : ℕ) → PointsTo leaf r l align b → Falls (base_in from ats r.block r.word) (ats b)
 
--- a part in the word at r that is word j of the subvalue at a path
+-- the word at r of a leaf has a part that is word j of the subvalue at a path
 pub record HasWord (leaf : Leaf) (r : WordRef) (path : List ℕ) (j : ℕ) : Type 0 where
   pub word : FlatWord
   pub number : ℕ
@@ -52,7 +53,8 @@ pub record HasWord (leaf : Leaf) (r : WordRef) (path : List ℕ) (j : ℕ) : Typ
   pub is_part : slice_get word.parts number ≡ Some part
   pub is_kind : part.kind ≡ Word path j
 
--- each word of a subvalue is kept where the part stands that it is
+-- `inner` gives for each word of a subvalue the address of the block in which the leaf's part stands that is this
+-- word, or what `from` gives of its root word
 abbrev pub AreKept : Leaf → (ℕ → ℕ) → (ℕ → ℕ) → (List ℕ → ℕ → ℕ) → Type 0
 AreKept leaf from ats inner =
     (r : WordRef) (path : List ℕ) (j : ℕ) → HasWord leaf r path j → inner path j ≡ base_in from ats r.block r.word
@@ -75,20 +77,21 @@ pub data Descends (types : List DataDecl) (layouts : List Layout) (m : Memory) :
 abbrev pub RootDescends : Program → Image → Ty → Value → Type 0
 RootDescends p image ty v = Descends p.types (flat_layouts p) (image_memory image.blocks) ty v image.root (λ j. 0)
 
--- an image whose root words do so is sound for the type
+-- an image is sound for a type where its root words represent a value of it and all pointers fall
 abbrev pub DescendingImagesAreSound : Type 0
 DescendingImagesAreSound =
     (p : Program) → IsTyped p → Agrees p → (image : Image) → AreInPlace image.blocks → AreBlocks image.blocks
     → (ty : Ty) (v : Value) → RootDescends p image ty v → IsSoundImage p.types (flat_layouts p) image ty
 
--- the root words of an image that is sound for a type of the program do so
+-- where an image is sound for a type of the program, its root words represent a value of it and all pointers fall
 abbrev pub SoundImagesDescend : Type 0
 SoundImagesDescend =
     (p : Program) → IsTyped p → Agrees p → (image : Image) → AreInPlace image.blocks → AreBlocks image.blocks
     → (ty : Ty) → IsDeclared p.types ty → IsSoundImage p.types (flat_layouts p) image ty → (v : Value)
     × RootDescends p image ty v
 
--- what they represent in any memory in which the image's blocks stand is that value
+-- what the root words of a sound image represent in any memory in which its blocks stand, they represent in the
+-- memory of exactly these blocks, too, and all pointers fall there
 abbrev pub SoundValuesDescend : Type 0
 SoundValuesDescend =
     (p : Program) → IsTyped p → Agrees p → (image : Image) → AreInPlace image.blocks → AreBlocks image.blocks

@@ -14,18 +14,22 @@ pub record Position : Type 0 where
   pub pat : Pat
   pub ty : Ty
 
+-- the position that an `Inside` of the code is
 abbrev pub position_of : Inside → Position
 position_of x = record { pat = x.pat.now; ty = x.ty }
 
+-- the position that an `Inside` of the code is, where there is one
 abbrev pub position_or_none : Option Inside → Option Position
 position_or_none None = None
 position_or_none (Some x) = Some (position_of x)
 
+-- the position of a pattern and a type, none where one of them is missing
 abbrev pub with_type : Option Pat → Option Ty → Option Position
 with_type None ty = None
 with_type (Some pat) None = None
 with_type (Some pat) (Some ty) = Some (record { pat = pat; ty = ty })
 
+-- field i of a pattern by its form: none of a wildcard, a name or a number, or of a constructor with no such field
 abbrev pub field_in : List DataDecl → ℕ → Pat-F Pat → Option Position
 field_in types i (P.Wild at) = None
 field_in types i (P.Var at x) = None

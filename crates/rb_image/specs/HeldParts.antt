@@ -14,7 +14,8 @@ use Rattle.rb_image.specs.PathParts.{IsPartThere}
 use Rattle.rb_image.specs.Peeking.{IsPart}
 use Rattle.std.specs.Prelude.{ℕ, List}
 
--- where an image holds a value, the words of what stands at a path represent the part of the value there
+-- where an image holds a value, the words that are given of what stands at a path represent the part of the value
+-- there
 abbrev pub GivenPartsAreHeld : Type 0
 GivenPartsAreHeld =
     (p : Program) → IsTyped p → Agrees p → (image : Image) → AreInPlace image.blocks → AreBlocks image.blocks

@@ -12,12 +12,12 @@ use Rattle.rb_image.specs.declared.leaf_words.LeafWords.{LeafWords}
 use Rattle.rb_image.specs.Orders.{PartAt, order_of}
 use Rattle.rb_image.specs.Parts.{bits_at}
 
--- the number of n bits that are these
+-- the number of n bits of which f gives each, bit 0 being the lowest
 abbrev pub numbered : ℕ → (ℕ → ℕ) → ℕ
 numbered zero f = 0
 numbered (suc n) f = f 0 + 2 * numbered n (λ i. f (suc i))
 
--- bit i of an integer in the number of a part that holds it
+-- bit i of an integer, where v is the number in the bits of a part that holds it
 abbrev pub bit_in : ℕ → ℕ → Kind → ℕ
 bit_in v i (Const c) = 0
 bit_in v i (Bits path a) = bit_at v (i - a)
@@ -30,10 +30,10 @@ field_bit value ty [] path i = 0
 field_bit value ty (s ∷ ss) path i =
     if holds_unit ty path i s.part.l s.part.kind then bit_in (value s) i s.part.kind else field_bit value ty ss path i
 
--- the number in a part's bits
+-- the number in the bits of a part, where the words of its leaf were read
 abbrev pub value_in : List ImageBlock → LeafWords → PartAt → ℕ
 value_in m words s = (bits_at m words.root.items words.addresses.items s).number
 
--- the integer of so many bits at a path of a leaf
+-- the integer of so many bits at a path of a leaf, the words of which were read
 abbrev pub integer_at : List ImageBlock → Leaf → LeafWords → List ℕ → ℕ → ℕ
 integer_at m leaf words path bits = numbered bits (field_bit (value_in m words) (Int bits) (order_of leaf) path)

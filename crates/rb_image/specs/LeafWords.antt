@@ -32,10 +32,12 @@ follow_kind m leaf ats bits (Word path j) = ats
 follow_kind m leaf ats bits (Pointer align b) =
     if slice_index ats b == 0 then with_found ats b (followed m leaf bits align b) else ats
 
+-- the addresses of a leaf's blocks, with that of the block to which part s points, unless it was known or the pointer
+-- is refused
 abbrev pub follow_part : List ImageBlock → Leaf → List Kept → List ℕ → PartAt → List ℕ
 follow_part m leaf ws ats s = follow_kind m leaf ats (bits_at m ws ats s) s.part.kind
 
--- parts, one after the other
+-- the addresses of a leaf's blocks, with those of the blocks to which these parts point, one part after the other
 abbrev pub follow : List ImageBlock → Leaf → List Kept → List ℕ → List PartAt → List ℕ
 follow m leaf ws ats [] = ats
 follow m leaf ws ats (s ∷ ss) = follow m leaf ws (follow_part m leaf ws ats s) ss
@@ -47,28 +49,31 @@ reached m leaf ws = follow m leaf ws (replicate (length leaf.blocks) 0) (order_o
 
 -- Words --------------------------------------------------------------------------------------
 
--- the numbers of the words of the block that begins at an address, from the word that begins at a byte on
+-- the numbers of words of the block that begins at address `at`, one for each of these flat words, the first of which
+-- begins at a byte; 0 for one that is not there
 abbrev pub numbers_at : List ImageBlock → ℕ → ℕ → List FlatWord → List ℕ
 numbers_at m at byte [] = []
 numbers_at m at byte (f ∷ fs) = unwrap_or (word_in m at byte f.width) 0 ∷ numbers_at m at (byte + f.width / 8) fs
 
--- those of the words of block b, none where its address is not known
+-- the numbers of the words of a leaf's block b in their order; none where its address is 0, that is not known
 abbrev pub block_numbers : List ImageBlock → Leaf → List ℕ → ℕ → List ℕ
 block_numbers m leaf ats b =
     if slice_index ats b == 0 then [] else numbers_at m (slice_index ats b) 0 (words_in leaf (Some b))
 
+-- the items of a vector, and no items where there is no vector
 abbrev pub items_or_none : Option (Vec ℕ Global) → List ℕ
 items_or_none None = []
 items_or_none (Some v) = v.items
 
--- the words of each block whose address is known were read
+-- `blocks` has for each block of the leaf the numbers of its words in m, and none for one whose address is not known
 pub record AreNumbers (m : List ImageBlock) (leaf : Leaf) (ats : List ℕ) (blocks : List (Vec ℕ Global)) : Type 0 where
   pub long : length blocks ≡ length ats
   pub numbers : (b : ℕ) → items_or_none (slice_get blocks b) ≡ block_numbers m leaf ats b
 
+-- x, the words of a leaf as they were read, has the words of each block whose address it knows, and no others
 abbrev pub HasNumbers : List ImageBlock → Leaf → LeafWords → Type 0
 HasNumbers m leaf x = AreNumbers m leaf x.addresses.items x.blocks.items
 
--- how many words the blocks of a leaf have
+-- how many flat words the blocks of a leaf have in all
 abbrev pub block_span : Leaf → ℕ
 block_span leaf = sum_by (λ (b : Block). length b.words) leaf.blocks

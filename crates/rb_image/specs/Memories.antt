@@ -3,7 +3,7 @@ use Rattle.std.specs.Prelude.{◌≡◌, ℕ, ◌+◌, ◌-◌, List, [], ◌∷
 use Rattle.rb_bytes.specs.Memory.{Memory, byte_at, most_region, size_at}
 use Rattle.rb_image_text.specs.declared.image.ImageBlock.{ImageBlock}
 
--- the address behind the last block, or this one where there is none
+-- the address behind the last of the blocks, or `from` where there is none
 abbrev pub end_from : ℕ → List ImageBlock → ℕ
 end_from from [] = from
 end_from from (b ∷ bs) = end_from (b.at + length b.bytes) bs
@@ -27,11 +27,12 @@ memory_within limit blocks =
 unfoldable pub image_memory : List ImageBlock → Memory
 image_memory blocks = memory_within most_region blocks
 
--- the block is one of the memory's, of its very size, and each of its bytes is written there
+-- block b of an image stands in memory m: a block of its very size begins at its address, and each of its bytes is
+-- written there
 pub record Stands (m : Memory) (b : ImageBlock) : Type 0 where
   pub size : size_at m.blocks b.at ≡ Some (length b.bytes)
   pub bytes : (i n : ℕ) → slice_get b.bytes i ≡ Some n → byte_at m.bytes (b.at + i) ≡ Some n
 
--- each of the blocks stands there
+-- each of the blocks of an image stands in the memory, at its own address, with its size and its bytes
 abbrev pub Stand : List ImageBlock → Memory → Type 0
 Stand blocks m = (k : ℕ) (b : ImageBlock) → slice_get blocks k ≡ Some b → Stands m b

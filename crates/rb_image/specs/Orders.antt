@@ -16,34 +16,40 @@ pub record PartAt : Type 0 where
   pub width : ℕ
   pub part : Part
 
--- the parts that begin at a bit
+-- those of the parts that begin at bit o
 abbrev pub beginning_at : List Part → ℕ → List Part
 beginning_at parts o = filter (λ p. p.o == o) parts
 
--- those that begin at one of n bits from a bit on
+-- those of the parts that begin at one of the n bits from bit o on, in the order of these bits
 abbrev pub beginning_from : List Part → ℕ → ℕ → List Part
 beginning_from parts o zero = []
 beginning_from parts o (suc n) = beginning_at parts o ++ beginning_from parts (o + 1) n
 
--- the parts of a word by offset
+-- the parts of a word by offset, that is by the bit at which each begins
 abbrev pub by_offset : FlatWord → List Part
 by_offset f = beginning_from f.parts 0 f.width
 
--- the parts that come right behind a part: those of the block to which it points
+-- the parts that come right behind a part of this kind: those of the block to which it points, as `inner` gives them;
+-- none behind a part that is no pointer
 abbrev pub behind : (ℕ → List PartAt) → Kind → List PartAt
 behind inner (Const c) = []
 behind inner (Bits path a) = []
 behind inner (Word path j) = []
 behind inner (Pointer align b) = inner b
 
+-- part p of word j of a block or the root, which begins at a byte there, and behind it the parts of the block to
+-- which it points
 abbrev pub with_inner : (ℕ → List PartAt) → Option ℕ → ℕ → ℕ → ℕ → Part → List PartAt
 with_inner inner block j byte width p =
     record { block = block; word = j; byte = byte; width = width; part = p } ∷ behind inner p.kind
 
+-- the parts of word j of a block or the root, which begins at a byte there, by offset; behind each those of the block
+-- to which it points
 abbrev pub word_order : (ℕ → List PartAt) → Option ℕ → ℕ → ℕ → FlatWord → List PartAt
 word_order inner block j byte f = flat_map (with_inner inner block j byte f.width) (by_offset f)
 
--- words, the first of which is word j and begins at a byte
+-- the parts of words of a block or the root, the first of which is word j and begins at a byte; behind each part
+-- those of the block to which it points
 abbrev pub words_order : (ℕ → List PartAt) → Option ℕ → ℕ → ℕ → List FlatWord → List PartAt
 words_order inner block j byte [] = []
 words_order inner block j byte (f ∷ fs) =

@@ -24,7 +24,8 @@ use Rattle.rb_image.specs.Splits.{and_then, nothing, or_fault, pointed_from, ran
 
 -- Parts --------------------------------------------------------------------------------------
 
--- the word of a part, where the addresses of the leaf's blocks are known
+-- the word that part s is of: a root word where it is in no block, else one of the block with this number, by the
+-- addresses of the leaf's blocks; its number is 0 where no such word is there
 abbrev pub kept_at : List ImageBlock → List Kept → List ℕ → Option ℕ → PartAt → Kept
 kept_at m ws ats None s = word_at ws s.word
 kept_at m ws ats (Some b) s =
@@ -34,24 +35,27 @@ kept_at m ws ats (Some b) s =
       place = s.byte;
     }
 
--- the bits of a part
+-- the bits of part s, and where they are kept: a range of the word that the part is of
 abbrev pub bits_at : List ImageBlock → List Kept → List ℕ → PartAt → Kept
 bits_at m ws ats s = range_of (kept_at m ws ats s.block s) s.part.o s.part.l
 
+-- the size in bytes of a leaf's block, 0 where there is none
 abbrev pub block_size : Option Block → ℕ
 block_size None = 0
 block_size (Some b) = size_of b
 
+-- the address `at`, where there is a size and it is the wanted one
 abbrev pub if_size : ℕ → ℕ → Option ℕ → Option ℕ
 if_size at wanted None = None
 if_size at wanted (Some size) = if size == wanted then Some at else None
 
--- the address, where a block of this size begins at it
+-- the address, where there is one and a block of this size begins at it
 abbrev pub block_from : List ImageBlock → Option ℕ → ℕ → Option ℕ
 block_from m None size = None
 block_from m (Some at) size = if_size at size (size_at m at)
 
--- the address to which the bits of a pointer lead
+-- the address to which the bits of a pointer to the leaf's block b lead, or `BadPointer` where no block of the size
+-- of that begins there, or, from within a block, it is not below that
 abbrev pub followed : List ImageBlock → Leaf → Kept → ℕ → ℕ → Result ℕ ImageFault
 followed m leaf bits align b =
     let at = bits.number * align in
@@ -65,15 +69,17 @@ examine_kind m leaf ats bits (Word path j) = Ok ats
 examine_kind m leaf ats bits (Const c) = if bits.number == c then Ok ats else Err (BadBits bits.base bits.place)
 examine_kind m leaf ats bits (Pointer align b) = and_then (followed m leaf bits align b) (λ at. Ok (slice_set ats b at))
 
+-- the addresses of a leaf's blocks once part s is examined, where ws are the words of the root, or the part's fault
 abbrev pub examine_part : List ImageBlock → Leaf → List Kept → List ℕ → PartAt → Result (List ℕ) ImageFault
 examine_part m leaf ws ats s = examine_kind m leaf ats (bits_at m ws ats s) s.part.kind
 
--- parts, one after the other
+-- the addresses of a leaf's blocks once these parts are examined, one after the other, or the first fault of one
 abbrev pub examine : List ImageBlock → Leaf → List Kept → List ℕ → List PartAt → Result (List ℕ) ImageFault
 examine m leaf ws ats [] = Ok ats
 examine m leaf ws ats (s ∷ ss) = and_then (examine_part m leaf ws ats s) (λ found. examine m leaf ws found ss)
 
--- the addresses of a leaf's blocks, or the first fault of its parts
+-- the addresses of a leaf's blocks by number, where ws are the words of the root, or the first fault of its parts; 0
+-- for a block to which no pointer leads
 abbrev pub addresses_of : List ImageBlock → Leaf → List Kept → Result (List ℕ) ImageFault
 addresses_of m leaf ws = examine m leaf ws (replicate (length leaf.blocks) 0) (order_of leaf)
 
@@ -84,36 +90,39 @@ pub record At : Type 0 where
   pub ty : ℕ
   pub words : List Kept
 
+-- the place that a `Place` of the code is
 abbrev pub at_of : Place → At
 at_of p = record { ty = p.ty; words = p.words.items }
 
+-- the places that `Place`s of the code are, in their order
 abbrev pub ats_of : List Place → List At
 ats_of places = map at_of places
 
+-- whether a part of this kind is word j of the field at a path
 abbrev pub holds : Kind → List ℕ → ℕ → Bool
 holds (Const c) path j = false
 holds (Bits own a) path j = false
 holds (Word own i) path j = same_path own path && (i == j)
 holds (Pointer align b) path j = false
 
--- word j of the field at a path: the part that holds it
+-- word j of the field at a path: the bits of the first of these parts that holds it; the number 0 where none does
 abbrev pub field_word : List ImageBlock → List Kept → List ℕ → List PartAt → List ℕ → ℕ → Kept
 field_word m ws ats [] path j = nothing
 field_word m ws ats (s ∷ ss) path j =
     if holds s.part.kind path j then bits_at m ws ats s else field_word m ws ats ss path j
 
--- n words of the field, from word j on
+-- n words of the field at a path, from word j on, where `word` gives each of them
 abbrev pub field_words : (List ℕ → ℕ → Kept) → List ℕ → ℕ → ℕ → List Kept
 field_words word path j zero = []
 field_words word path j (suc n) = word path j ∷ field_words word path (j + 1) n
 
--- the place at an open position, if it is of a data type
+-- the place at an open position, alone in a list, where `word` gives its words; none for an integer
 abbrev pub place_at : List Layout → (List ℕ → ℕ → Kept) → List ℕ → Ty → List At
 place_at layouts word path (Int bits) = []
 place_at layouts word path (Named t) =
     record { ty = t; words = field_words word path 0 (word_count layouts (Named t)) } ∷ []
 
--- the places at the open positions of a leaf, from left to right
+-- the places at those open positions of a leaf that are of a data type, from left to right
 abbrev pub places_of : List DataDecl → List Layout → List ImageBlock → Leaf → List Kept → List ℕ → List At
 places_of types layouts m leaf ws ats =
     flat_map (λ (o : Open). place_at layouts (field_word m ws ats (order_of leaf)) o.path o.ty)
@@ -121,12 +130,16 @@ places_of types layouts m leaf ws ats =
 
 -- One place ----------------------------------------------------------------------------------
 
+-- the places below a leaf, where ws are the words of its root, or the first fault of its parts; none where there is
+-- no leaf
 abbrev pub look_leaf : List DataDecl → List Layout → List ImageBlock → List Kept → Option Leaf
     → Result (List At) ImageFault
 look_leaf types layouts m ws None = Ok []
 look_leaf types layouts m ws (Some leaf) =
     and_then (addresses_of m leaf ws) (λ ats. Ok (places_of types layouts m leaf ws ats))
 
+-- the places below the leaf to which the splits of a layout lead on the words ws, or the first fault of the splits or
+-- of that leaf's parts; none where there is no layout
 abbrev pub look_layout : List DataDecl → List Layout → List ImageBlock → List Kept → Option Layout
     → Result (List At) ImageFault
 look_layout types layouts m ws None = Ok []

@@ -26,30 +26,31 @@ use Rattle.rb_image.specs.Paths.{part_bits}
 use Rattle.rb_image.specs.Roots.{kept_from}
 use Rattle.rb_image.specs.Walks.{Seen, Where, walked}
 
--- any value may stand at a position
+-- any value may stand at a position that has this pattern, which is a wildcard or a name
 abbrev pub IsOpen : Pat-F Pat → Type 0
 IsOpen (P.Wild at) = Unit {0}
 IsOpen (P.Var at x) = Unit {0}
 IsOpen (P.Num at n) = ⊥
 IsOpen (P.Con at c ps) = ⊥
 
--- the integer of so many bits at the path inside the leaf of a subvalue
+-- the integer of so many bits that stands in the leaf of subvalue s, at the path inside it along which one goes on
 abbrev pub integer_in : List ImageBlock → Seen → ℕ → ℕ
 integer_in m s bits =
     numbered bits (field_bit (λ (part : PartAt). (part_bits m s part).number) (Int bits) (order_of s.leaf) s.at)
 
--- the word of an integer that stands at the end of a walk
+-- an integer stands at the end of walk w, and its one word is all of `words`
 pub record IsIntegerEnd (m : List ImageBlock) (w : Where) (words : List ℕ) : Type 0 where
   pub bits : ℕ
   pub is_integer : w.here.ty ≡ Int bits
   pub is_open : IsOpen (out-Pat w.here.pat)
   pub is_word : words ≡ integer_in m w.last bits ∷ []
 
--- the words of what stands there: of a subvalue of a data type, to whose own leaf one came, or of an integer
+-- these are the words of what stands at the end of walk w: of a subvalue of a data type, to whose own leaf one came,
+-- or of an integer
 abbrev pub IsEnd : List ImageBlock → Where → List ℕ → Type 0
 IsEnd m w words = ((w.last.at ≡ []) × (words ≡ map (λ (k : Kept). k.number) w.last.words)) ⊎ IsIntegerEnd m w words
 
--- they represent the part of a value at the path
+-- value v has a part at the path, and these words represent it at type ty in the memory of exactly the image's blocks
 pub record IsPartThere (p : Program) (image : Image) (v : Value) (path : List ℕ) (ty : Ty) (words : List ℕ) : Type 0
   where
     pub part : Value

@@ -1,4 +1,5 @@
--- The types of the subvalues on a path, and that the spans of these are enough for a walk along it.
+-- The types of the subvalues on a path, and that the spans of these are enough for a walk along it. The span of a
+-- type bounds how many words are read to look at one value of it.
 use Rattle.std.specs.Prelude.{ℕ, ◌+◌, ◌≤◌, List, [], ◌∷◌, ◌++◌, Option, Some, None}
 use Rattle.std.specs.List.{sum_by}
 use Rattle.rb_core.specs.declared.program.Program.{Program}
@@ -15,22 +16,25 @@ use Rattle.rb_image.specs.Fields.{Position, field_of}
 use Rattle.rb_image.specs.Spans.{span}
 use Rattle.rb_image.specs.Walks.{Where, arrived, see, step, walk_span}
 
+-- the type at a position, alone in a list; no type where there is no position
 abbrev pub type_there : Option Position → List Ty
 type_there None = []
 type_there (Some pos) = pos.ty ∷ []
 
 module _ (types : List DataDecl) (layouts : List Layout) (m : List ImageBlock) where
-  -- those of the subvalues to which the next steps lead, as far as one comes
+  -- the types of the subvalues to which the next steps of a path lead, up to that at which a fault ends the walk; the
+  -- first of these steps is step k of the whole path
   abbrev pub types_from : ℕ → Where → List ℕ → List Ty
   types_from k w [] = []
   types_from k w (i ∷ path) =
       type_there (field_of types w.here.pat i) ++ if_found (step types layouts m k w i) (λ v. types_from (k + 1) v path)
 
-  -- those of the value of a data type at these words and of the subvalues along a path from it, the last included
+  -- the types of the value of data type t at these words and of the subvalues along a path from it, the last
+  -- included, as far as one comes
   abbrev pub path_types : ℕ → List Kept → List ℕ → List Ty
   path_types t ws path = Named t ∷ if_found (see layouts m t ws) (λ s. types_from 0 (arrived [] s) path)
 
-  -- the sum of their spans
+  -- the sum of the spans of the types on a path from the value of data type t at these words on
   abbrev pub path_span : ℕ → List Kept → List ℕ → ℕ
   path_span t ws path = sum_by (span layouts) (path_types t ws path)
 

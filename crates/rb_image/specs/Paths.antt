@@ -32,7 +32,8 @@ pub record IsKeptAt (ks : List Kept) (base place : ℕ) : Type 0 where
 
 -- Leaves -------------------------------------------------------------------------------------
 
--- the words of a leaf's root are there, and those of a block whose address is known
+-- whether the words of a leaf's root, or of one of its blocks, are there: those of the root always, those of a block
+-- where its address is known
 abbrev pub is_there : List ℕ → Option ℕ → Bool
 is_there ats None = true
 is_there ats (Some b) = not (slice_index ats b == 0)
@@ -46,14 +47,14 @@ word_below m leaf ws ats path s =
 abbrev pub words_below : List ImageBlock → Leaf → List Kept → List ℕ → List ℕ → List Kept
 words_below m leaf ws ats path = flat_map (word_below m leaf ws ats path) (order_of leaf)
 
--- the fault of a part: a constant that differs, or a pointer that is refused
+-- the fault of a part with these bits: a constant that differs, or a pointer that is refused; none for other parts
 abbrev pub part_fault : List ImageBlock → Leaf → Kept → Kind → Option ImageFault
 part_fault m leaf bits (Const c) = if bits.number == c then None else Some (BadBits bits.base bits.place)
 part_fault m leaf bits (Bits path a) = None
 part_fault m leaf bits (Word path j) = None
 part_fault m leaf bits (Pointer align b) = refusal_of m leaf bits (Pointer align b)
 
--- the fault names the word
+-- the fault is one that a word kept at `base` and `place` may have: `BadBits` there, or `BadPointer` at its base
 abbrev pub Names : ImageFault → ℕ → ℕ → Type 0
 Names fault base place = (fault ≡ BadBits base place) ⊎ ((address : ℕ) × (fault ≡ BadPointer base address))
 
@@ -83,7 +84,7 @@ module _ (layouts : List Layout) (m : List ImageBlock) where
   abbrev pub words_asked : At → List Kept
   words_asked x = asked_by (layout_at layouts x.ty).tree m x.words
 
-  -- its leaf is found, or this is the fault of its splits
+  -- r is what is seen of the value at a place: its leaf is found there, or r is the fault of its splits
   abbrev pub IsSeen : At → Result Seen ImageFault → Type 0
   IsSeen x r = see layouts m x.ty x.words ≡ r
 
@@ -97,10 +98,11 @@ module _ (layouts : List Layout) (m : List ImageBlock) where
 -- Paths --------------------------------------------------------------------------------------
 
 module _ (types : List DataDecl) (layouts : List Layout) (image : Image) (t : ℕ) (path : List ℕ) where
+  -- the root words of the image, as they are kept there
   abbrev pub root : List Kept
   root = kept_from 0 image.root
 
-  -- along the first steps of a path one comes so far
+  -- from the value at the root words one comes as far as w along `first`, the first steps of a path
   abbrev pub IsCome : List ℕ → Where → Type 0
   IsCome first w = ◌≡◌ {A = Result Where ImageFault} (walked types layouts image.blocks t root first) (Ok w)
 
@@ -112,7 +114,7 @@ module _ (types : List DataDecl) (layouts : List Layout) (image : Image) (t : �
     pub is_here : IsCome first w
     pub is_field : field_of types w.here.pat i ≡ Some pos
 
-  -- from a subvalue one goes on to another, which stands at these words
+  -- from subvalue s one goes on to the place x: its words stand at the path of the leaf of s along which one goes on
   abbrev pub LeadsTo : Seen → At → Type 0
   LeadsTo s x = ◌≡◌ {A = Result (List Kept) ImageFault} (words_on layouts image.blocks s x.ty) (Ok x.words)
 
@@ -129,7 +131,8 @@ module _ (types : List DataDecl) (layouts : List Layout) (image : Image) (t : �
   abbrev pub IsOnPath : At → Type 0
   IsOnPath x = (x ≡ root_at t image.root) ⊎ IsEntered x
 
-  -- a step leads to what is held in a word, or behind a pointer in it
+  -- the word kept at `base` and `place` holds what a step of the path leads to, or what is below that, or its pointer
+  -- leads to such a word
   pub record IsPassed (base place : ℕ) : Type 0 where
     pub before : Where
     pub field : ℕ
@@ -164,10 +167,11 @@ module _ (types : List DataDecl) (layouts : List Layout) (image : Image) (t : �
     pub is_here : IsCome first before
     pub is_none : field_of types before.here.pat field ≡ None
 
+  -- the fault is `NoSuchPart` with the number of a step of the path that names no field
   abbrev pub HasNoPart : ImageFault → Type 0
   HasNoPart fault = (number : ℕ) × (fault ≡ NoSuchPart number) × LacksField number
 
-  -- the whole path was walked
+  -- walk w has come to the end of the whole path
   abbrev pub IsWalked : Walk → Type 0
   IsWalked w = IsCome path (where_of w)
 

@@ -15,16 +15,17 @@ use Rattle.rb_image.specs.Roots.{AllFit, IsFirstMisfit, kept_from, widths_of}
 use Rattle.rb_image.specs.Walks.{Where}
 
 module _ (types : List DataDecl) (layouts : List Layout) (image : Image) where
-  -- the words of what stands at the end of a walk: those of a subvalue to whose own leaf one came; inside a leaf
-  -- those of an integer, or of a constructor that is rebuilt
+  -- the words of what stands at the end of a walk, whose path inside the last leaf is given: where that is empty
+  -- those of the subvalue to whose leaf one came, else those of an integer, or of a constructor that is rebuilt
   abbrev pub words_there : Where → List ℕ → Result (List ℕ) ImageFault
   words_there w [] = Ok (numbers_of w.last.words)
   words_there w (i ∷ at) = rebuilt types layouts image.blocks w
 
+  -- the words of what stands at the end of a walk, or the fault for which it cannot be rebuilt
   abbrev pub end_words : Where → Result (List ℕ) ImageFault
   end_words w = words_there w w.last.at
 
-  -- no word on the path is at fault, and this stands at its end
+  -- no word on the path from the value of data type t at the root words is at fault, and `part` stands at its end
   pub record IsPartAt (t : ℕ) (path : List ℕ) (part : Peeked) : Type 0 where
     pub end : Where
     pub is_come : IsCome types layouts image t path path end
@@ -32,11 +33,13 @@ module _ (types : List DataDecl) (layouts : List Layout) (image : Image) where
     pub is_type : part.ty ≡ end.here.ty
     pub is_words : ◌≡◌ {A = Result (List ℕ) ImageFault} (end_words end) (Ok part.words)
 
+  -- `part` is what stands at the path from a value of this type at the root words; from an integer only the empty
+  -- path leads anywhere
   abbrev pub IsPartOf : Ty → List ℕ → Peeked → Type 0
   IsPartOf (Int bits) path part = (path ≡ []) × (part.ty ≡ Int bits) × (part.words ≡ image.root)
   IsPartOf (Named t) path part = IsPartAt t path part
 
-  -- what stands at a path from the root words, which fit the type
+  -- the root words fit the type, and `part` is what stands at the path from the value there
   abbrev pub IsPart : Ty → List ℕ → Peeked → Type 0
   IsPart ty path part = AllFit (widths_of layouts ty) image.root × IsPartOf ty path part
 
@@ -51,6 +54,8 @@ module _ (types : List DataDecl) (layouts : List Layout) (image : Image) where
     pub on_path : IsPathWord types layouts image t path base place
     pub names : Names fault base place
 
+  -- why nothing is given of a path from a value of this type, whose root words fit: a word on the path is at fault, a
+  -- step names no field, as each step from an integer, or what stands at the end cannot be rebuilt
   abbrev pub IsFaultOf : Ty → List ℕ → ImageFault → Type 0
   IsFaultOf (Int bits) path fault = (fault ≡ NoSuchPart 0) × (path ≡ [] → ⊥)
   IsFaultOf (Named t) path fault =
@@ -64,7 +69,7 @@ module _ (types : List DataDecl) (layouts : List Layout) (image : Image) where
       ((i : ℕ) × (fault ≡ BadRoot i) × IsFirstMisfit (widths_of layouts ty) image.root i)
       ⊎ (AllFit (widths_of layouts ty) image.root × IsFaultOf ty path fault)
 
-  -- the sum of the spans of the types on the path
+  -- the sum of the spans of the types on the path from a value of this type at the root words; 0 for an integer
   abbrev pub part_span : Ty → List ℕ → ℕ
   part_span (Int bits) path = 0
   part_span (Named t) path = path_span types layouts image.blocks t (kept_from 0 image.root) path

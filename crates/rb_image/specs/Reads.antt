@@ -16,7 +16,7 @@ abbrev pub IsRead : Value → ℕ → Result Value ImageFault → Type 0
 IsRead v limit (Ok found) = (found ≡ v) × (node_count v ≤ limit)
 IsRead v limit (Err fault) = ((fault ≡ ImageTooLarge) × (limit < node_count v)) ⊎ (fault ≡ Memory)
 
--- the image holds a value of more nodes
+-- the image holds a value of more nodes than the limit, and the fault says so
 abbrev pub IsOver : Program → Image → Ty → ℕ → ImageFault → Type 0
 IsOver p image ty limit fault =
     (fault ≡ ImageTooLarge) × (v : Value) × RootDescends p image ty v × (limit < node_count v)

@@ -26,59 +26,70 @@ use Rattle.rb_image.specs.Ways.{refused_below}
 
 -- The leaf -----------------------------------------------------------------------------------
 
--- whether a provenance matches what stands at a position, or the first fault that keeps it from being known
+-- what a provenance comes to at a position: whether it matches what stands there, or the first fault that keeps this
+-- from being known
 abbrev pub Matching : Type 0
 Matching = Standing → Result Bool ImageFault
 
+-- whether the field at a position matches, as `go` says; false where there is no such field
 abbrev pub match_field : Matching → Option Standing → Result Bool ImageFault
 match_field go None = Ok false
 match_field go (Some x) = go x
 
+-- whether two references name the same constructor of the same data type
 abbrev pub same_con : ConRef → ConRef → Bool
 same_con c d = (c.ty == d.ty) && (c.con == d.con)
 
 module _ (types : List DataDecl) where
-  -- fields, the first of which is field i
+  -- whether the fields of what stands at x match, one matching for each from field i on; the first that does not
+  -- match or is not known decides, and it is true where none is left
   abbrev pub match_fields : List Matching → Standing → ℕ → Result Bool ImageFault
   match_fields [] x i = Ok true
   match_fields (go ∷ gos) x i =
       and_then (match_field go (down types x i)) (λ so. if so then match_fields gos x (i + 1) else Ok false)
 
+  -- whether the pattern given last, that at x, is constructor c, and the fields there match; false of another
+  -- constructor, and of a wildcard, a name or a number
   abbrev pub match_con : ConRef → List Matching → Standing → Pat-F Pat → Result Bool ImageFault
   match_con c gos x (P.Wild at) = Ok false
   match_con c gos x (P.Var at v) = Ok false
   match_con c gos x (P.Num at n) = Ok false
   match_con c gos x (P.Con at d ps) = if same_con c d then match_fields gos x 0 else Ok false
 
+-- the leaf that was found later, or, where a later fault was, the fault before it
 abbrev pub or_fault_before : ImageFault → Result Leaf ImageFault → Result Leaf ImageFault
 or_fault_before fault (Ok leaf) = Ok leaf
 or_fault_before fault (Err later) = Err fault
 
+-- `leaf` where it is known to match, and what `later` is where it is known not to; where a fault keeps it from being
+-- known, the leaf that was found later, or else this fault
 abbrev pub or_later : Result Bool ImageFault → Leaf → Result Leaf ImageFault → Result Leaf ImageFault
 or_later (Ok true) leaf later = Ok leaf
 or_later (Ok false) leaf later = later
 or_later (Err fault) leaf later = or_fault_before fault later
 
 module _ (types : List DataDecl) (layouts : List Layout) (m : List ImageBlock) where
-  -- a constructor asks for the leaf of what stands at its position;
-  -- a wildcard asks for nothing. Provenances have no numbers
+  -- what a provenance comes to, given this of its fields: a constructor asks for the leaf of what stands open
+  -- at its position, a wildcard asks for nothing, and numbers, of which provenances have none, never match
   abbrev pub match_step : Pat-F Matching → Matching
   match_step (P.Wild at) x = Ok true
   match_step (P.Var at v) x = Ok true
   match_step (P.Num at n) x = Ok false
   match_step (P.Con at c gos) x = and_then (settled layouts m x) (λ y. match_con types c gos y (out-Pat y.here.pat))
 
+  -- whether a provenance matches what stands at a position, or the first fault that keeps this from being known
   abbrev pub matches : Pat → Matching
   matches = fold-Pat Matching match_step
 
-  -- the first leaf whose provenance is known to match; where none is, the first fault that kept one from being known
+  -- the first leaf whose provenance is known to match; where none is, the first fault that kept one from being known,
+  -- or want of memory where there was none
   abbrev pub chosen : List Leaf → Standing → Result Leaf ImageFault
   chosen [] x = Err Memory
   chosen (leaf ∷ leaves) x = or_later (matches leaf.prov x) leaf (chosen leaves x)
 
 -- The words ----------------------------------------------------------------------------------
 
--- the words of the field at a path
+-- the words of the first of these fields that is at the path; none where no field is
 abbrev pub words_in : List FieldWords → List ℕ → List ℕ
 words_in [] path = []
 words_in (f ∷ fs) path = if same_path f.path path then f.words else words_in fs path
@@ -87,48 +98,55 @@ words_in (f ∷ fs) path = if same_path f.path path then f.words else words_in f
 abbrev pub packed : Leaf → List FieldWords → List ℕ
 packed leaf fields = map (word_made (words_in fields) (λ b. 0)) leaf.root
 
+-- the numbers of words, without where they are kept
 abbrev pub numbers_of : List Kept → List ℕ
 numbers_of ws = map (λ (w : Kept). w.number) ws
 
--- the words of a value of a data type that stands at a position, or the first fault
+-- what gives the words of the value at a position, which is of the data type with a number, or the first fault
 abbrev pub Rebuilding : Type 0
 Rebuilding = ℕ → Standing → Result (List ℕ) ImageFault
 
 module _ (types : List DataDecl) (layouts : List Layout) (m : List ImageBlock) where
-  -- where any value of the type may stand, it has its words; a constructor is rebuilt
+  -- the words of the value of data type t at position x, which has this pattern: where any value may stand, those
+  -- that stand there; a constructor, which was taken apart, is rebuilt
   abbrev pub data_words : Rebuilding → ℕ → Standing → Pat-F Pat → Result (List ℕ) ImageFault
   data_words rebuilt t x (P.Wild at) = Ok (numbers_of (words_here layouts m x t))
   data_words rebuilt t x (P.Var at v) = Ok (numbers_of (words_here layouts m x t))
   data_words rebuilt t x (P.Num at n) = Err Memory
   data_words rebuilt t x (P.Con at c ps) = rebuilt t x
 
-  -- an integer is one word
+  -- the words of what stands at position x and is of this type, or the first fault; an integer is one word
   abbrev pub words_at : Rebuilding → Ty → Standing → Result (List ℕ) ImageFault
   words_at rebuilt (Int bits) x = Ok (integer_here m x bits ∷ [])
   words_at rebuilt (Named t) x = data_words rebuilt t x (out-Pat x.here.pat)
 
+  -- the words of what stands at the end of a path of field numbers from position x on, or the first fault
   abbrev pub words_along : Rebuilding → Standing → List ℕ → Result (List ℕ) ImageFault
   words_along rebuilt x path = and_then (along types layouts m x path) (λ y. words_at rebuilt y.here.ty y)
 
-  -- the fields at open positions of the leaf in which the value is rebuilt
+  -- the paths and words of what stands below x at each of these open positions, which are those of the leaf in which
+  -- the value at x is rebuilt; or the first fault
   abbrev pub fields_at : Rebuilding → Standing → List Open → Result (List FieldWords) ImageFault
   fields_at rebuilt x [] = Ok []
   fields_at rebuilt x (o ∷ os) =
       and_then (words_along rebuilt x o.path) (λ ws.
       and_then (fields_at rebuilt x os) (λ fields. Ok (record { path = o.path; words = ws } ∷ fields)))
 
-  -- a value of a data type in the leaf whose provenance matches it, where no more types are held one inside the other
+  -- the words of a value of a data type in the leaf whose provenance matches it, or the first fault, where values
+  -- that are rebuilt stand one inside the other at most so many levels deep
   abbrev pub rebuilt_within : ℕ → Rebuilding
   rebuilt_within zero t x = Err Memory
   rebuilt_within (suc n) t x =
       and_then (chosen types layouts m (layout_at layouts t).leaves x) (λ leaf.
       and_then (fields_at (rebuilt_within n) x (open_positions types leaf.prov)) (λ fields. Ok (packed leaf fields)))
 
-  -- A field that is rebuilt is held in the words of the value whose field it is. Holding has no cycle, so no more
-  -- types are held one inside the other than there are layouts.
+  -- The words of what stands at a position, or the first fault. A type that holds another is not held in it, so
+  -- values that are rebuilt stand one inside the other at most as many levels deep as there are layouts.
   abbrev pub words_of : Standing → Result (List ℕ) ImageFault
   words_of x = words_at (rebuilt_within (length layouts)) x.here.ty x
 
+  -- the position at which a walk ends, in the last leaf to which it came, with the words of that and the addresses of
+  -- its blocks
   abbrev pub end_of : Where → Standing
   end_of w =
       record {
@@ -139,6 +157,7 @@ module _ (types : List DataDecl) (layouts : List Layout) (m : List ImageBlock) w
         here = w.here;
       }
 
+  -- the words of what stands at position x, or the fault that is given, where there is one
   abbrev pub unless_refused : Option ImageFault → Standing → Result (List ℕ) ImageFault
   unless_refused None x = words_of x
   unless_refused (Some fault) x = Err fault

@@ -25,13 +25,14 @@ use Rattle.rb_image.specs.Rebuilds.{words_of}
 use Rattle.rb_image.specs.TakenApart.{open_words}
 use Rattle.rb_image.specs.Views.{Standing}
 
+-- whether a pattern has no numbers, given this of each of its fields: a wildcard or name has none
 abbrev pub plain_step : Pat-F Bool → Bool
 plain_step (P.Wild at) = true
 plain_step (P.Var at x) = true
 plain_step (P.Num at n) = false
 plain_step (P.Con at c ps) = list_all (λ so. so) ps
 
--- a pattern without numbers
+-- whether a pattern has no numbers, however deep inside it
 abbrev pub is_plain : Pat → Bool
 is_plain = fold-Pat Bool plain_step
 
@@ -57,12 +58,13 @@ module _ (p : Program) where
           × Represents p.types (flat_layouts p) m false o.ty u
           (open_words (flat_layouts p) blocks x (x.at ++ o.path) o.ty)
 
-    -- words represent the value, or memory is wanting
+    -- the words that are given represent the value at its type, or none are given since memory is wanting
     abbrev pub AreRight : Ty → Value → Result (List ℕ) ImageFault → Type 0
     AreRight ty v (Ok ws) = Represents p.types (flat_layouts p) m false ty v ws
     AreRight ty v (Err fault) = fault ≡ NoMemory
 
--- the words that are given of what stands at a position represent it
+-- where a value stands at a position, the words that are given of what stands there represent it, or memory is
+-- wanting
 abbrev pub RebuiltWordsRepresent : Type 0
 RebuiltWordsRepresent = (p : Program) → IsTyped p → Agrees p → (m : Memory) → IsGood m → (blocks : List ImageBlock)
     → (x : Standing) (v : Value) (pat : Pat) (ty : Ty) → Stands p m blocks x v pat ty

@@ -14,11 +14,12 @@ use Rattle.rb_image.specs.Sound.{Looking, IsSound, HasFault}
 
 -- Widths -------------------------------------------------------------------------------------
 
+-- the widths of the root words of a layout; none where there is no layout
 abbrev pub shape_of : Option Layout → List ℕ
 shape_of None = []
 shape_of (Some layout) = layout.shape
 
--- the widths of the words of a value
+-- the widths in bits of the words of a value of a type; none for a data type that has no layout
 abbrev pub widths_of : List Layout → Ty → List ℕ
 widths_of layouts (Int bits) = bits ∷ []
 widths_of layouts (Named t) = shape_of (layout_of layouts t)
@@ -30,9 +31,11 @@ WordFits None (Some word) = ⊥
 WordFits (Some width) None = ⊥
 WordFits (Some width) (Some word) = word < 2 ^ width
 
+-- word i fits width i: both are there, and the word is below 2 ^ the width; or neither is there
 abbrev pub FitsAt : List ℕ → List ℕ → ℕ → Type 0
 FitsAt widths words i = WordFits (slice_get widths i) (slice_get words i)
 
+-- there are as many words as widths, and each word is below 2 ^ its width
 abbrev pub AllFit : List ℕ → List ℕ → Type 0
 AllFit widths words = (i : ℕ) → FitsAt widths words i
 
@@ -43,19 +46,21 @@ pub record IsFirstMisfit (widths : List ℕ) (words : List ℕ) (i : ℕ) : Type
 
 -- Places -------------------------------------------------------------------------------------
 
--- words of the root, the first of which is word j
+-- words of a root as they are kept there, the first of which is root word j
 abbrev pub kept_from : ℕ → List ℕ → List Kept
 kept_from j [] = []
 kept_from j (n ∷ ns) = record { number = n; base = 0; place = j } ∷ kept_from (j + 1) ns
 
+-- the place of a value of data type t at the root words
 abbrev pub root_at : ℕ → List ℕ → At
 root_at t words = record { ty = t; words = kept_from 0 words }
 
--- an integer has no place below its word
+-- the place at the root words is sound, if the type is a data type; an integer has no place
 abbrev pub RootIsSound : Looking → Ty → List ℕ → Type 0
 RootIsSound look (Int bits) words = Unit {0}
 RootIsSound look (Named t) words = IsSound look (root_at t words)
 
+-- this is the first fault from the place at the root words on; an integer has no place, and so no fault
 abbrev pub RootHasFault : Looking → Ty → List ℕ → ImageFault → Type 0
 RootHasFault look (Int bits) words fault = ⊥
 RootHasFault look (Named t) words fault = HasFault look (root_at t words) fault
@@ -68,7 +73,7 @@ module _ (types : List DataDecl) (layouts : List Layout) (image : Image) (ty : T
     pub fit : AllFit (widths_of layouts ty) image.root
     pub sound : RootIsSound (look types layouts image.blocks) ty image.root
 
-  -- the first root word that does not fit is its fault, or else the first fault from the root on
+  -- this is the image's first fault: of the first root word that does not fit, or else the first from the root on
   abbrev pub IsFirstFault : ImageFault → Type 0
   IsFirstFault fault =
       ((i : ℕ) × (fault ≡ BadRoot i) × IsFirstMisfit (widths_of layouts ty) image.root i)

@@ -1,10 +1,12 @@
 -- Whether an image is sound from a place on, and the first fault that it has there: outer places before inner ones,
--- from left to right. It stands over what each place comes to by itself: its own fault, or the places below it.
+-- from left to right. It stands over what each place comes to by itself: its own fault, or the places below it. A
+-- place is the number of a data type, and the words at which a value of it is to stand.
 use Rattle.std.specs.Prelude.{◌≡◌, ◌⊎◌, ◌<◌, ℕ, List, Result, Ok, Err, Some, slice_get}
 use Rattle.rb_image_text.specs.declared.fault.ImageFault.{ImageFault}
 use Rattle.rb_image_text.specs.declared.fault.ImageFault.TheVariants.{Memory}
 use Rattle.rb_image.specs.Parts.{At}
 
+-- what a place comes to by itself: the places below it, from left to right, or its own fault
 abbrev pub Looking : Type 0
 Looking = At → Result (List At) ImageFault
 
@@ -26,12 +28,12 @@ abbrev pub IsFound : {A : Type 0} → Looking → At → Result A ImageFault →
 IsFound look p (Ok a) = IsSound look p
 IsFound look p (Err fault) = HasFault look p fault ⊎ (fault ≡ Memory)
 
--- this fault is given, unless memory is wanting
+-- a result is the fault that is due, or want of memory
 abbrev pub IsFault : {A : Type 0} → ImageFault → Result A ImageFault → Type 0
 IsFault due (Ok a) = ⊥
 IsFault due (Err fault) = (fault ≡ due) ⊎ (fault ≡ Memory)
 
--- no fault is given, unless memory is wanting
+-- a result is no fault, or want of memory
 abbrev pub IsFine : {A : Type 0} → Result A ImageFault → Type 0
 IsFine (Ok a) = Unit {0}
 IsFine (Err fault) = fault ≡ Memory

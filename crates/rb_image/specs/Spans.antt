@@ -15,29 +15,30 @@ use Rattle.rb_layout.specs.A9.{cons_below}
 use Rattle.rb_layout.specs.Agreement.{Agrees}
 use Rattle.rb_layout.specs.Flattening.{flat_layouts}
 
--- one, and the steps of its location
+-- the span of a split: one, and one more for each step of its location
 abbrev pub split_span : SplitAt → ℕ
 split_span s = 1 + length s.loc.steps
 
--- the sum of these over the splits of a tree
+-- the span of a tree of splits: the sum of the spans of its splits
 abbrev pub tree_span : FlatTree → ℕ
 tree_span tree = sum_by split_span (splits_of tree)
 
--- the flat words of a leaf: those of its root, and those of its blocks
+-- how many flat words a leaf has, in its root and in its blocks
 abbrev pub word_span : Leaf → ℕ
 word_span leaf = length leaf.root + sum_by (λ (b : Block). length b.words) leaf.blocks
 
--- the constructors below the root of its provenance, where the span of each type is given
+-- the sum of what `span` gives of the type of each constructor below the root of a leaf's provenance
 abbrev pub inner_span : (ℕ → ℕ) → Leaf → ℕ
 inner_span span leaf = sum_by (λ (con : ConRef). span con.ty) (cons_below leaf.prov)
 
--- the splits, the flat words of all leaves, and the constructors below the roots of their provenances
+-- the span of a layout, where `span` gives those of data types: the splits, the flat words of all leaves, and the
+-- constructors below the roots of their provenances; 0 where there is no layout
 abbrev pub layout_span : (ℕ → ℕ) → Option Layout → ℕ
 layout_span span None = 0
 layout_span span (Some layout) =
     tree_span layout.tree + sum_by word_span layout.leaves + sum_by (inner_span span) layout.leaves
 
--- the span of a data type, where types are flattened into one another at most so deep
+-- the span of data type t, counted through so many levels of types flattened into one another; 0 at no level
 abbrev pub span_within : List Layout → ℕ → ℕ → ℕ
 span_within layouts zero t = 0
 span_within layouts (suc n) t = layout_span (span_within layouts n) (layout_of layouts t)
@@ -47,7 +48,7 @@ span_within layouts (suc n) t = layout_span (span_within layouts n) (layout_of l
 abbrev pub data_span : List Layout → ℕ → ℕ
 data_span layouts = span_within layouts (length layouts)
 
--- the span of a type: an integer is one word
+-- the span of a type: 1 for an integer, which is one word, and for a data type the span by its layout
 abbrev pub span : List Layout → Ty → ℕ
 span layouts (Int bits) = 1
 span layouts (Named t) = data_span layouts t

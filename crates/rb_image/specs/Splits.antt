@@ -15,25 +15,27 @@ use Rattle.rb_image_text.specs.declared.image.ImageBlock.{ImageBlock}
 use Rattle.rb_image.specs.declared.kept.Kept.{Kept}
 use Rattle.rb_image.specs.Blocks.{word_in}
 
--- what comes first is a fault, or one goes on with what it gives
+-- what `go` gives of what was found first, or the fault that was found instead
 abbrev pub and_then : {A B : Type 0} → Result A ImageFault → (A → Result B ImageFault) → Result B ImageFault
 and_then (Err fault) go = Err fault
 and_then (Ok x) go = go x
 
+-- what is there, or this fault where nothing is
 abbrev pub or_fault : {A : Type 0} → Option A → ImageFault → Result A ImageFault
 or_fault None fault = Err fault
 or_fault (Some x) fault = Ok x
 
 -- Words --------------------------------------------------------------------------------------
 
+-- what stands for a word that is not there: the number 0, in root word 0
 abbrev pub nothing : Kept
 nothing = record { number = 0; base = 0; place = 0 }
 
--- the word with this number
+-- the word with this number among the words of a value, or `nothing` where there are fewer
 abbrev pub word_at : List Kept → ℕ → Kept
 word_at ws j = slice_index_or ws j nothing
 
--- a range of a word; it is kept where the word is
+-- the l bits of a word from bit o on; they are kept where the word is
 abbrev pub range_of : Kept → ℕ → ℕ → Kept
 range_of w o l = record w { number = take_of w.number o l }
 
@@ -44,46 +46,56 @@ pointed_from base at = if nat_lt at 18446744073709551616 && ((base == 0) || nat_
 
 -- Locations ----------------------------------------------------------------------------------
 
+-- a word, if there is one, with where it is kept: in the block at address `at`, from a byte on
 abbrev pub with_base : ℕ → ℕ → Option ℕ → Option Kept
 with_base at byte None = None
 with_base at byte (Some w) = Some (record { number = w; base = at; place = byte })
 
+-- the word of `width` bits from a byte on of the block at an address, with where it is kept; none where there is no
+-- address, or no such word in the block
 abbrev pub kept_in : List ImageBlock → Option ℕ → ℕ → ℕ → Option Kept
 kept_in m None byte width = None
 kept_in m (Some at) byte width = with_base at byte (word_in m at byte width)
 
--- the word to which a step leads from the pointer in a range
+-- the word to which a step leads from the pointer in a range, or `BadPointer` where it leads to none
 abbrev pub step_over : List ImageBlock → Kept → Step → Result Kept ImageFault
 step_over m range s =
     let at = range.number * s.align in
     or_fault (kept_in m (pointed_from range.base at) s.byte s.width) (BadPointer range.base at)
 
+-- the range to which the steps of a location lead from a range, or the first pointer on the way that is refused
 abbrev pub range_from : List ImageBlock → Kept → List Step → Result Kept ImageFault
 range_from m range [] = Ok range
 range_from m range (s ∷ ss) = and_then (step_over m range s) (λ w. range_from m (range_of w s.o s.l) ss)
 
--- the range at a location
+-- the range at a location, where ws are the words of the value, or the first pointer on the way that is refused
 abbrev pub range_at : List ImageBlock → List Kept → Loc → Result Kept ImageFault
 range_at m ws loc = range_from m (range_of (word_at ws loc.word) loc.o loc.l) loc.steps
 
 -- Trees --------------------------------------------------------------------------------------
 
+-- what gives, from an image's blocks and the words of a value, the number of the leaf to which splits lead, or the
+-- first fault on the way
 abbrev pub Walk : Type 0
 Walk = List ImageBlock → List Kept → Result ℕ ImageFault
 
+-- the leaf under the else arm of a split; where it has none, the fault of the word in which its bits stand, `range`
 abbrev pub walk_else : Kept → Option Walk → Walk
 walk_else range None m ws = Err (BadBits range.base range.place)
 walk_else range (Some go) m ws = go m ws
 
+-- the leaf under the first arm whose literal is the number in `range`, or else under the else arm
 abbrev pub walk_arms : Kept → List (Under Walk) → Option Walk → Walk
 walk_arms range [] other m ws = walk_else range other m ws
 walk_arms range (arm ∷ arms) other m ws =
     if nat_eq arm.literal range.number then arm.of m ws else walk_arms range arms other m ws
 
+-- the leaf to which a tree of splits leads, given those to which its arms lead
 abbrev pub walk_step : FlatTree-F Walk (Under Walk) → Walk
 walk_step (T.Split loc arms other) m ws = and_then (range_at m ws loc) (λ range. walk_arms range arms other m ws)
 walk_step (T.Leaf n) m ws = Ok n
 
+-- an arm of a split with its literal, and the leaf to which it leads
 abbrev pub walk_arm : FlatArm-F Walk (Under Walk) → Under Walk
 walk_arm arm = record { literal = arm.literal; of = arm.under }
 
@@ -91,5 +103,6 @@ walk_arm arm = record { literal = arm.literal; of = arm.under }
 abbrev pub leaf_at : FlatTree → Walk
 leaf_at = fold-FlatTree Walk (Under Walk) walk_step walk_arm
 
+-- an arm of a tree of splits: its literal, and the leaf to which the splits under it lead
 abbrev pub walk_under : FlatArm → Under Walk
 walk_under = fold-FlatArm Walk (Under Walk) walk_step walk_arm

@@ -23,7 +23,7 @@ pub record Keeps (blocks : List ImageBlock) (m : Memory) : Type 0 where
   pub words : (at byte width w : ℕ) → word_in blocks at byte width ≡ Some w → load_of m at byte width ≡ Ok w
   pub bytes : (a b : ℕ) → byte_at m.bytes a ≡ Some b → b < 256
 
--- a data type is one of the program's
+-- a type is an integer, or a data type that the program declares
 abbrev pub IsDeclared : List DataDecl → Ty → Type 0
 IsDeclared types (Int bits) = Unit {0}
 IsDeclared types (Named t) = t < length types

@@ -25,7 +25,7 @@ pub record Standing : Type 0 where
   pub at : List ℕ
   pub here : Position
 
--- a value of a data type, from the root of its leaf on; nothing is known of blocks
+-- the position of a value of data type t at the root of its leaf, whose words are ws; no address of a block is known
 abbrev pub from_root : ℕ → List Kept → Leaf → Standing
 from_root t ws leaf = record {
   leaf = leaf;
@@ -35,6 +35,7 @@ from_root t ws leaf = record {
   here = record { pat = leaf.prov; ty = Named t };
 }
 
+-- the position of field i below x, where the provenance has pos there; none where it has no such field
 abbrev pub down_to : Standing → ℕ → Option Position → Option Standing
 down_to x i None = None
 down_to x i (Some pos) = Some (record x { at = x.at ++ i ∷ []; here = pos })
@@ -51,7 +52,7 @@ taken_apart layouts t ws =
     let leaf = leaf_or_none (slice_get (layout_at layouts t).leaves n) in
     and_then (addresses_of [] leaf ws) (λ none. Ok (from_root t ws leaf)))
 
--- the integer that stands at a position
+-- the integer of so many bits that stands at position x
 abbrev pub integer_here : List ImageBlock → Standing → ℕ → ℕ
 integer_here m x bits =
     numbered bits (field_bit (λ s. (bits_at m x.root x.addresses s).number) (Int bits) (order_of x.leaf) x.at)
@@ -61,20 +62,23 @@ module _ (layouts : List Layout) (m : List ImageBlock) where
   abbrev pub words_here : Standing → ℕ → List Kept
   words_here x t = field_words (field_word m x.root x.addresses (order_of x.leaf)) x.at 0 (word_count layouts (Named t))
 
+  -- where one goes on from position x: where a data type is given, from the root of the leaf of the value at x, or
+  -- there is the first fault of that; else from x itself
   abbrev pub settled_at : Standing → Option ℕ → Result Standing ImageFault
   settled_at x None = Ok x
   settled_at x (Some t) = taken_apart layouts t (words_here x t)
 
-  -- where any value of a data type may stand, one goes on to its own leaf
+  -- where one goes on from position x: where any value of a data type may stand, from the root of that value's own
+  -- leaf, or there is the first fault of that; else from x itself
   abbrev pub settled : Standing → Result Standing ImageFault
   settled x = settled_at x (open_data x.here)
 
 module _ (types : List DataDecl) (layouts : List Layout) (m : List ImageBlock) where
-  -- to the position of field i of the value here; of a field that is not there nothing is said
+  -- the position of field i of the value at x, or the first fault; want of memory where there is no such field
   abbrev pub step_down : Standing → ℕ → Result Standing ImageFault
   step_down x i = and_then (settled layouts m x) (λ y. or_fault (down types y i) Memory)
 
-  -- along a path of field numbers
+  -- the position to which a path of field numbers leads from x, or the first fault on the way
   abbrev pub along : Standing → List ℕ → Result Standing ImageFault
   along x [] = Ok x
   along x (i ∷ path) = and_then (step_down x i) (λ y. along y path)

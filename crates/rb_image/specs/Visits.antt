@@ -30,7 +30,7 @@ pub record IsTidy (layout : Layout) (count : ℕ) : Type 0 where
   pub readable : (n : ℕ) (leaf : Leaf) → slice_get layout.leaves n ≡ Some leaf → IsReadable leaf
   pub narrow : (n : ℕ) (leaf : Leaf) → slice_get layout.leaves n ≡ Some leaf → HasNarrowParts leaf
 
--- layouts that agree with their types are so
+-- layouts that agree with their types are tidy, each leaf with as many root words as the layout's shape has
 abbrev pub LayoutsAreTidy : Type 0
 LayoutsAreTidy =
     (p : Program) → IsTyped p → Agrees p → (t : ℕ) (layout : Layout) → layout_of (flat_layouts p) t ≡ Some layout

@@ -46,48 +46,53 @@ pub record Where : Type 0 where
 
 -- Leaves -------------------------------------------------------------------------------------
 
--- the layout of a type; declared types have one
+-- a layout, and where there is none an empty one; each declared type has a layout
 abbrev pub layout_or_none : Option Layout → Layout
 layout_or_none None = record { ty = 0; shape = []; tree = T.Leaf 0; leaves = [] }
 layout_or_none (Some layout) = layout
 
--- the leaf with a number; that to which splits lead is there
+-- a leaf, and an empty one where there is none; that to which splits lead is there
 abbrev pub leaf_or_none : Option Leaf → Leaf
 leaf_or_none None = record { prov = Wild 0; root = []; blocks = [] }
 leaf_or_none (Some leaf) = leaf
 
+-- the number of the data type that a type is, none for an integer
 abbrev pub data_of : Ty → Option ℕ
 data_of (Int bits) = None
 data_of (Named t) = Some t
 
--- the data type of a position at which any value of it may stand
+-- t, which may be a data type, at a position whose pattern lets any value stand there; none at another
 abbrev pub open_in : Pat-F Pat → Option ℕ → Option ℕ
 open_in (P.Wild at) t = t
 open_in (P.Var at x) t = t
 open_in (P.Num at n) t = None
 open_in (P.Con at c ps) t = None
 
+-- the data type of a position at which any value of it may stand; none at another, and none for an integer
 abbrev pub open_data : Position → Option ℕ
 open_data pos = open_in (out-Pat pos.pat) (data_of pos.ty)
 
 -- Steps --------------------------------------------------------------------------------------
 
+-- the words ws, or the fault where there is one
 abbrev pub unless : Option ImageFault → List Kept → Result (List Kept) ImageFault
 unless None ws = Ok ws
 unless (Some fault) ws = Err fault
 
+-- how far one has come at the root of the leaf of subvalue s, after the subvalues `before`
 abbrev pub arrived : List Seen → Seen → Where
 arrived before s = record { before = before; last = s; here = record { pat = s.leaf.prov; ty = Named s.ty } }
 
+-- how far one has come after a step from w to field i inside the same leaf, which has pos there
 abbrev pub moved : Where → ℕ → Position → Where
 moved w i pos = record { before = w.before; last = record w.last { at = w.last.at ++ i ∷ [] }; here = pos }
 
--- a number that goes on from what is found
+-- the number that `go` gives of what was found, and 0 of a fault
 abbrev pub counted : {A : Type 0} → Result A ImageFault → (A → ℕ) → ℕ
 counted (Err fault) go = 0
 counted (Ok x) go = go x
 
--- the layout of a type with this number
+-- the layout of the data type with this number
 abbrev pub layout_at : List Layout → ℕ → Layout
 layout_at layouts t = layout_or_none (layout_of layouts t)
 
@@ -98,27 +103,29 @@ module _ (layouts : List Layout) (m : List ImageBlock) where
       and_then (leaf_at layout.tree m ws)
       (λ n. Ok (record { ty = t; words = ws; leaf = leaf_or_none (slice_get layout.leaves n); at = [] }))
 
-  -- the words of what stands at the path on which one goes on, or the first pointer that is refused on the way
+  -- the words of the value of data type t that stands at the path along which one goes on from subvalue s, or the
+  -- first pointer that is refused on the way
   abbrev pub words_on : Seen → ℕ → Result (List Kept) ImageFault
   words_on s t =
       let ats = reached m s.leaf s.words in
       unless (refused_below m s.leaf s.words ats s.at (order_of s.leaf))
       (field_words (field_word m s.words ats (order_of s.leaf)) s.at 0 (word_count layouts (Named t)))
 
-  -- at an open position of a data type one goes on to its own leaf
+  -- how far one has come from w: where a data type is given, to the root of the leaf of its value there, or to the
+  -- first fault of that; else no further
   abbrev pub settled : Where → Option ℕ → Result Where ImageFault
   settled w None = Ok w
   settled w (Some t) =
       and_then (words_on w.last t) (λ ws. and_then (see t ws) (λ s. Ok (arrived (w.before ++ w.last ∷ []) s)))
 
 module _ (types : List DataDecl) (layouts : List Layout) (m : List ImageBlock) where
-  -- one comes to field i of the constructor that was found; if there is none, step k of the path names no part
+  -- from w one comes to field i of the constructor that was found; if there is none, step k of the path names no part
   abbrev pub step : ℕ → Where → ℕ → Result Where ImageFault
   step k w i =
       and_then (or_fault (field_of types w.here.pat i) (NoSuchPart k))
       (λ pos. settled layouts m (moved w i pos) (open_data pos))
 
-  -- along the rest of a path, from step k on
+  -- how far one comes from w along the rest of a path, the first of which is step k of the whole, or the first fault
   abbrev pub steps : ℕ → Where → List ℕ → Result Where ImageFault
   steps k w [] = Ok w
   steps k w (i ∷ path) = and_then (step k w i) (λ v. steps (k + 1) v path)
@@ -129,34 +136,42 @@ module _ (types : List DataDecl) (layouts : List Layout) (m : List ImageBlock) w
 
 -- Spans --------------------------------------------------------------------------------------
 
--- the splits and the words of a data type to whose leaf one comes
+-- the own span of a data type to whose leaf one comes: its splits and its words; 0 where none is given
 abbrev pub span_at : List Layout → Option ℕ → ℕ
 span_at layouts None = 0
 span_at layouts (Some t) = own_span (layout_at layouts t)
 
+-- the own span of the data type of a position at which any value of it may stand; 0 at another, and where there is
+-- none
 abbrev pub open_span : List Layout → Option Position → ℕ
 open_span layouts None = 0
 open_span layouts (Some pos) = span_at layouts (open_data pos)
 
 module _ (types : List DataDecl) (layouts : List Layout) (m : List ImageBlock) where
+  -- the sum of the own spans of the data types to whose leaves one comes from w along the rest of a path, from step k
+  -- on; one on the way to whose leaf a fault ends the walk counts too
   abbrev pub steps_span : ℕ → Where → List ℕ → ℕ
   steps_span k w [] = 0
   steps_span k w (i ∷ path) =
       open_span layouts (field_of types w.here.pat i)
       + counted (step types layouts m k w i) (λ v. steps_span (k + 1) v path)
 
-  -- those of all data types to whose leaves one comes
+  -- the sum of the own spans of data type t and of those to whose leaves one comes along a path from a value of it;
+  -- one on the way to whose leaf a fault ends the walk counts too
   abbrev pub walk_span : ℕ → List Kept → List ℕ → ℕ
   walk_span t ws path = span_at layouts (Some t) + counted (see layouts m t ws) (λ s. steps_span 0 (arrived [] s) path)
 
 -- What was passed ----------------------------------------------------------------------------
+
+-- the subvalue that a `Passed` of the code is, without its sites
 abbrev pub seen_of : Passed → Seen
 seen_of x = record { ty = x.ty; words = x.visited.words.root.items; leaf = x.visited.leaf.now; at = x.at }
 
+-- how far one has come, as a `Walk` of the code has it
 abbrev pub where_of : Walk → Where
 where_of w = record { before = map seen_of w.before.items; last = seen_of w.last; here = position_of w.here }
 
--- the subvalue stands at these sites, and the words of its leaf were read
+-- the subvalue x stands in the image at the sites that it has, and the words of its leaf were read there
 pub record IsPassed (image : Image) (x : Passed) : Type 0 where
   pub narrow : AreNarrow x.sites.items
   pub words : map (kept_of image) x.sites.items ≡ x.visited.words.root.items
@@ -165,6 +180,7 @@ pub record IsPassed (image : Image) (x : Passed) : Type 0 where
   pub addresses : x.visited.words.addresses.items ≡ reached image.blocks x.visited.leaf.now x.visited.words.root.items
   pub numbers : HasNumbers image.blocks x.visited.leaf.now x.visited.words
 
+-- each subvalue on walk w, the last included, stands at its sites, and the words of its leaf were read
 pub record ArePassed (image : Image) (w : Walk) : Type 0 where
   pub before : (k : ℕ) (x : Passed) → slice_get w.before.items k ≡ Some x → IsPassed image x
   pub last : IsPassed image w.last

@@ -11,36 +11,39 @@ use Rattle.rb_image.specs.declared.kept.Kept.{Kept}
 use Rattle.rb_image.specs.Orders.{PartAt, behind, block_order}
 use Rattle.rb_image.specs.Parts.{bits_at, followed}
 
--- a part holds a word or bits of a field whose path begins with this one
+-- whether a part of this kind holds a word or bits of a field whose path begins with the given one
 abbrev pub is_below : List ℕ → Kind → Bool
 is_below path (Const c) = false
 is_below path (Bits own a) = starts_with nat_eq own path
 is_below path (Word own j) = starts_with nat_eq own path
 is_below path (Pointer align b) = false
 
--- it does, or one of the parts behind it does
+-- whether a part of this kind holds a word or bits of what stands at a path of the leaf or below it, or one of the
+-- parts behind its pointer does
 abbrev pub leads_below : Leaf → List ℕ → Kind → Bool
 leads_below leaf path kind =
     is_below path kind || list_any (λ (s : PartAt). is_below path s.part.kind)
     (behind (block_order leaf (length leaf.blocks)) kind)
 
+-- the fault of a result, none where it is no fault
 abbrev pub fault_of : {A : Type 0} → Result A ImageFault → Option ImageFault
 fault_of (Ok x) = None
 fault_of (Err fault) = Some fault
 
--- the fault of a pointer that leads to no block of the size of its own, or, from within a block, not below that
+-- the fault of a part with these bits, if it is a pointer that leads to no block of the size of the leaf's own, or,
+-- from within a block, not below that; none for other parts
 abbrev pub refusal_of : List ImageBlock → Leaf → Kept → Kind → Option ImageFault
 refusal_of m leaf bits (Const c) = None
 refusal_of m leaf bits (Bits path a) = None
 refusal_of m leaf bits (Word path j) = None
 refusal_of m leaf bits (Pointer align b) = fault_of (followed m leaf bits align b)
 
--- the fault of a part, if it is a pointer on the way to what stands below a path
+-- the fault of a part, if it is a pointer on the way to what stands at a path of the leaf or below it
 abbrev pub refused_at : List ImageBlock → Leaf → List Kept → List ℕ → List ℕ → PartAt → Option ImageFault
 refused_at m leaf ws ats path s =
     if leads_below leaf path s.part.kind then refusal_of m leaf (bits_at m ws ats s) s.part.kind else None
 
--- the first fault among parts
+-- the first fault among these parts of a leaf that are pointers on the way to what stands at a path of it or below
 abbrev pub refused_below : List ImageBlock → Leaf → List Kept → List ℕ → List ℕ → List PartAt → Option ImageFault
 refused_below m leaf ws ats path [] = None
 refused_below m leaf ws ats path (s ∷ ss) =

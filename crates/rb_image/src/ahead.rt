@@ -45,7 +45,8 @@ fn leads_there(
     leads_below(alloc, leaf, path, &spot.part.kind)
 }
 
-// Adds the word of a part, if it is one of these.
+// Adds the word of a part that was read and that holds what stands at a path or below it, or is a
+// pointer on the way there. A part that does not adds nothing.
 fn add_word(
     alloc: Global,
     image: &Image,

@@ -24,14 +24,15 @@ use rb_layout::agreed::Agreed;
 use rb_layout::layout::Leaf;
 use std::alloc::{AllocError, Global};
 
-/// The words of a leaf: lent, or the way's own.
+/// The words of a leaf: lent by the view from which one began, or the arrival's own.
 #[derive(Drop)]
 pub enum Source<'a> {
     Lent(&'a LeafWords),
     Own(LeafWords),
 }
 
-/// A position in a leaf to which one came.
+/// A position in a leaf to which one came: the leaf and its words, the path to the position, and
+/// what stands there.
 #[derive(Drop)]
 pub struct Arrival<'a> {
     pub leaf: &'a Leaf,
@@ -41,7 +42,7 @@ pub struct Arrival<'a> {
 }
 
 impl<'a> Arrival<'a> {
-    // The words of the leaf.
+    // The words of the leaf, be they lent or its own.
     fn words(&self) -> &LeafWords
         ensures { result.now ≡ source_words self.now.source }
     {
@@ -51,7 +52,7 @@ impl<'a> Arrival<'a> {
         }
     }
 
-    /// The position.
+    /// The position to which one came, as a view of it.
     pub(crate) fn view(&self) -> View
         ensures same { shown result ≡ come_to self.now }
         ensures shown { (m : List ImageBlock) → IsCome m self.now → IsShown m result }
@@ -112,7 +113,8 @@ pub(crate) fn take_apart<'a>(
     Ok(root)
 }
 
-// From an open position of a data type on to the root of the value's own leaf.
+// From an open position of a data type on to the root of the value's own leaf; at other positions
+// nothing is done.
 fn settle<'a>(
     alloc: Global,
     agreed: &'a Agreed,
@@ -135,7 +137,8 @@ fn settle<'a>(
     }
 }
 
-// To a field of the value here. It is there where a provenance that matches the value leads to it.
+// To a field of the value here. It is there where a provenance that matches the value leads to it;
+// where it is not, `Memory` is given.
 fn step_down<'a>(
     alloc: Global,
     agreed: &'a Agreed,

@@ -14,7 +14,8 @@ use rb_image_text::image::ImageBlock;
 use rb_layout::layout::FlatTree;
 use std::alloc::AllocError;
 
-// Adds the bits that are read for a location. The last are those at the location, unless a pointer is refused.
+// Adds the bits that are read for a location, and gives those at the location, which are the last;
+// none where a pointer on the way is refused.
 fn add_ranges(
     memory: &[ImageBlock],
     words: &[Kept],

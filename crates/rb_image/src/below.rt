@@ -47,7 +47,7 @@ pub(crate) fn holds(kind: &Kind, path: &[u32], number: u64) -> bool
 }
 
 impl<'a> Examined<'a> {
-    // A word of the field at a path: the part that holds it.
+    // A word of the field at a path: the bits of the part that holds it.
     fn word(&self, path: &[u32], number: u64) -> Kept
         requires placed { AreInPlace self.now.memory.now }
         ensures { result ≡ word_of self.now path.now number }
@@ -65,7 +65,7 @@ impl<'a> Examined<'a> {
         }
     }
 
-    // The words of the field at a path.
+    // The first `count` words of the field at a path.
     fn words_of(&self, alloc: Global, path: &[u32], count: usize) -> Result<Vec<Kept>, AllocError>
         requires placed { AreInPlace self.now.memory.now }
         ensures { IfOk result (λ words. words.items ≡ spec.field_words (word_of self.now) path.now 0 count) }
@@ -78,7 +78,7 @@ impl<'a> Examined<'a> {
     }
 }
 
-/// A path with one field more.
+/// A copy of a path with one field more at its end.
 pub(crate) fn longer(alloc: Global, path: &[u32], field: usize) -> Result<Seq<u32>, AllocError>
     requires { field < 4294967296 }
     ensures { IfOk result (λ found. found ≡ path.now ++ field ∷ []) }
@@ -140,7 +140,8 @@ pub(crate) fn add_places(
     }
 }
 
-// Adds those of the fields of a constructor.
+// Adds the places at the open positions of the patterns of a constructor's fields, from left to
+// right. The path is that of the constructor.
 #[cycle(opening)]
 fn add_fields(
     alloc: Global,

@@ -27,7 +27,7 @@ fn first_from(blocks: &[ImageBlock], address: u64) -> usize
     low
 }
 
-// The first of the blocks that begins at an address.
+// The first of the blocks that begins at an address, none where no block does.
 fn block_at(blocks: &[ImageBlock], address: u64) -> Option<&ImageBlock>
     requires placed { AreInPlace blocks.now }
     ensures { option_copied result ≡ block_at blocks.now address }
@@ -42,7 +42,7 @@ fn block_at(blocks: &[ImageBlock], address: u64) -> Option<&ImageBlock>
     }
 }
 
-/// The size in bytes of the block that begins at an address.
+/// The size in bytes of the block that begins at an address, none where no block does.
 pub(crate) fn size_at(blocks: &[ImageBlock], address: u64) -> Option<u64>
     requires placed { AreInPlace blocks.now }
     ensures { result ≡ size_at blocks.now address }
@@ -53,7 +53,7 @@ pub(crate) fn size_at(blocks: &[ImageBlock], address: u64) -> Option<u64>
     }
 }
 
-// Whether this is the width of a word that can be read.
+// Whether this is the width of a word that can be read: 8, 16, 32 or 64 bits.
 fn is_width(width: u64) -> bool
     ensures { result ≡ is_width width }
 {
@@ -67,7 +67,8 @@ fn lies_within(byte: u64, count: u64, size: u64) -> bool
     byte <= size && count <= size - byte
 }
 
-// The word of so many bits from a byte of a block on.
+// The word of so many bits from a byte of a block on; none where no word has this width, or it does
+// not lie in the block.
 fn word_from(block: &ImageBlock, byte: u64, width: u64) -> Option<u64>
     ensures { result ≡ word_from block.now byte width }
 {

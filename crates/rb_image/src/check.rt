@@ -48,7 +48,7 @@ fn add_ahead(
     }
 }
 
-// The layout of the declared type with this number.
+// The layout of the data type with this number, which has one if it is declared.
 fn layout_of(layouts: &[Layout], ty: u32) -> Option<&Layout>
     ensures { option_copied result ≡ layout_of layouts.now ty }
 {

@@ -15,7 +15,7 @@ use rb_image_text::image::ImageBlock;
 use rb_layout::agreed::Agreed;
 use std::alloc::{AllocError, Global};
 
-/// One thing to do.
+/// One thing to do in a descent over places.
 #[derive(Drop)]
 pub enum Step {
     /// This place is to be looked at.

@@ -48,7 +48,8 @@ fn range_in(site: Site, o: u64, l: u64) -> Site
     }
 }
 
-// Where a part of the root words stands.
+// Where a part of a root word stands: in a range at the site of the word with this number, or
+// nowhere if there is none.
 fn root_site(sites: &[Site], number: u64, part: &Part) -> Site
     requires narrow { AreNarrow sites.now }
     ensures { result ≡ spec.root_site (slice_get sites.now number) part.now }
@@ -75,7 +76,8 @@ fn block_site(address: u64, spot: &Spot) -> Site
     }
 }
 
-// Where a part stands.
+// Where a part stands: in a root word, by the sites of these, or in a block, by the addresses of
+// these.
 fn part_site(sites: &[Site], addresses: &[u64], spot: &Spot) -> Site
     requires narrow { AreNarrow sites.now }
     ensures { result ≡ spec.part_site sites.now addresses.now spot.now.block (at_of spot.now) }
@@ -86,7 +88,8 @@ fn part_site(sites: &[Site], addresses: &[u64], spot: &Spot) -> Site
     }
 }
 
-// Where a word of the field at a path stands: where the part does that holds it.
+// Where a word of the field at a path stands: where the first part does that holds it, or nowhere if
+// none does.
 fn field_site(sites: &[Site], addresses: &[u64], order: &[Spot], path: &[u32], number: u64) -> Site
     requires narrow { AreNarrow sites.now }
     ensures { result ≡ spec.field_site sites.now addresses.now (spots_of order.now) path.now number }

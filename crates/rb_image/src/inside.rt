@@ -15,7 +15,7 @@ pub struct Inside<'a> {
     pub ty: Ty,
 }
 
-// The type of a field, among those of all fields of a constructor.
+// The type of a field, among those of all fields of a constructor, none where it has no such field.
 fn type_at(types: &[Ty], field: u32) -> Option<Ty>
     ensures { result ≡ slice_get types.now field }
 {

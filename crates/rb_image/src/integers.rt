@@ -60,7 +60,7 @@ fn holds_bit(kind: &Kind, path: &[u32], i: u64, l: u64) -> bool
     }
 }
 
-// The bit of an integer in the number of a part that holds it.
+// Bit `i` of an integer, where `number` has the bits of a part that holds it.
 fn bit_in(number: u64, i: u64, kind: &Kind) -> u64
     ensures { result ≡ spec.bit_in number i kind.now }
 {
@@ -73,7 +73,8 @@ fn bit_in(number: u64, i: u64, kind: &Kind) -> u64
 }
 
 impl<'a> Gathered<'a> {
-    // A bit of the integer at a path.
+    // A bit of the integer at a path, as the first part has it that holds the bit; 0 where none
+    // does.
     fn bit(&self, path: &[u32], i: u64) -> u64
         requires placed { AreInPlace self.now.image.now.blocks }
         requires numbers { HasNumbers self.now.image.now.blocks self.now.leaf.now self.now.words.now }

@@ -9,7 +9,7 @@ use indexmap::IndexSet;
 use std::alloc::{AllocError, Global};
 use std::marker::Model;
 
-/// Places, each once.
+/// Places that were found sound, each once.
 #[derive(Drop)]
 pub struct Known {
     places: IndexSet<Place>,
@@ -25,7 +25,7 @@ impl Model for Known {
 }
 
 impl Known {
-    /// No place.
+    /// No places: nothing was found sound yet.
     pub fn new(alloc: Global) -> Self
         ensures { result ≡ [] }
     {
@@ -34,14 +34,14 @@ impl Known {
         }
     }
 
-    /// Whether the place is one of them.
+    /// Whether the place is one of those that were found sound.
     pub fn has(&self, place: &Place) -> bool
         ensures { result ≡ is_among self.now (at_of place.now) }
     {
         self.places.contains(place)
     }
 
-    /// With one more, if it is new.
+    /// Adds a place that was found sound, if it is not there yet.
     ///
     /// # Errors
     ///

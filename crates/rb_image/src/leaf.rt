@@ -18,7 +18,7 @@ use rb_image_text::fault::ImageFault;
 use rb_image_text::image::Image;
 use rb_layout::layout::FlatTree;
 
-/// The bits at a site.
+/// The bits at a site, with where they are kept; the number 0 where there is no such word.
 pub(crate) fn read_site<L: Ledger>(image: &Image, site: Site, steps: &mut Steps<L>) -> Kept
     requires placed { AreInPlace image.now.blocks }
     ensures bits { result ≡ kept_of image.now site }
@@ -36,7 +36,7 @@ pub(crate) fn read_site<L: Ledger>(image: &Image, site: Site, steps: &mut Steps<
     range_of(word, site.o, site.l)
 }
 
-// The bits at the site with a number, where there is one.
+// The bits at the site with this number, or the number 0 where there are fewer sites.
 fn read_number<L: Ledger>(image: &Image, sites: &[Site], number: u64, steps: &mut Steps<L>) -> Kept
     requires placed { AreInPlace image.now.blocks }
     ensures bits { result ≡ word_at (map (kept_of image.now) sites.now) number }
@@ -53,7 +53,8 @@ fn read_number<L: Ledger>(image: &Image, sites: &[Site], number: u64, steps: &mu
     }
 }
 
-/// The word of a block. No block begins at 0, where root words would be read.
+/// The word of `width` bits from a byte on of the block that begins at `base`, where it lies in it.
+/// No block begins at 0, where root words would be read.
 pub(crate) fn read_block<L: Ledger>(
     image: &Image,
     base: u64,
@@ -72,7 +73,8 @@ pub(crate) fn read_block<L: Ledger>(
     read_word(image, base, byte, width, steps)
 }
 
-// The word to which a step leads from a word with this number in the range before.
+// The word to which a step leads from the pointer in a range, or `BadPointer` where it leads to
+// none.
 fn read_step<L: Ledger>(
     image: &Image,
     range: Kept,
@@ -99,7 +101,8 @@ fn read_step<L: Ledger>(
     }
 }
 
-// The bits at a location, and where they are kept.
+// The bits at a location, with where they are kept, or the first pointer on the way that is
+// refused.
 fn read_range<L: Ledger>(
     image: &Image,
     sites: &[Site],

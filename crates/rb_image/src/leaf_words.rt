@@ -33,7 +33,7 @@ pub struct LeafWords {
     pub blocks: Vec<Vec<u64>>,
 }
 
-// The bits at sites.
+// The bits at sites, in their order, each read in at most one step.
 fn read_sites<L: Ledger>(
     alloc: Global,
     image: &Image,
@@ -52,7 +52,8 @@ fn read_sites<L: Ledger>(
     Ok(found)
 }
 
-// The numbers of the words of the block that begins at an address.
+// The numbers of the words of the block that begins at an address, one for each of these flat
+// words; 0 for one that is not there.
 fn read_numbers<L: Ledger>(
     alloc: Global,
     image: &Image,
@@ -75,7 +76,7 @@ fn read_numbers<L: Ledger>(
     Ok(found)
 }
 
-// For each block no words.
+// No words for each of so many blocks, as it is before any block is read.
 fn no_words(alloc: Global, count: usize) -> Result<Vec<Vec<u64>>, AllocError>
     ensures long { IfOk result (λ blocks. length blocks.items ≡ count) }
     ensures none { IfOk result (λ blocks. (b : ℕ) → items_or_none (slice_get blocks.items b) ≡ []) }
@@ -88,7 +89,7 @@ fn no_words(alloc: Global, count: usize) -> Result<Vec<Vec<u64>>, AllocError>
 }
 
 impl LeafWords {
-    // The number of a word of a block.
+    // The number of a word of the leaf's block with this number, as it was read; 0 where none was.
     fn number_at(&self, block: u32, word: u64) -> u64
         ensures { result ≡ slice_index (items_or_none (slice_get self.now.blocks.items block)) word }
     {
@@ -101,7 +102,7 @@ impl LeafWords {
         }
     }
 
-    // The word of a part.
+    // The word that a part is of, as it was read, with where it is kept.
     fn word_of(&self, spot: &Spot) -> Kept
         ensures { result ≡ word_read self.now spot.now.block (at_of spot.now) }
     {
@@ -124,7 +125,7 @@ impl LeafWords {
         range_of(self.word_of(spot), spot.part.o, spot.part.l)
     }
 
-    // Reads the words of a block, the address of which was found.
+    // Notes the address of a block, which was not known before, and reads the words of the block.
     fn enter<L: Ledger>(
         &mut self,
         alloc: Global,
@@ -159,7 +160,8 @@ impl LeafWords {
         Ok(())
     }
 
-    // Follows a part to its block, if it is a pointer, and reads the words there.
+    // Follows a part to its block, if it is a pointer, and reads the words there. A block that was
+    // read is not read again, and one to which the pointer may not lead is left out.
     fn follow<L: Ledger>(
         &mut self,
         alloc: Global,

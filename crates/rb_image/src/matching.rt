@@ -57,7 +57,7 @@ fn matches(
     }
 }
 
-// Whether this constructor stands at a position, with fields that the patterns match.
+// Whether this constructor stands at a position, with fields that the patterns match, one for each.
 #[cycle(matching)]
 fn match_con(
     alloc: Global,
@@ -85,7 +85,8 @@ fn match_con(
     }
 }
 
-// Whether the patterns match the fields of the constructor at a position.
+// Whether the patterns match the fields of the constructor at a position, one for each. The first
+// that does not match or is not known decides.
 #[cycle(matching)]
 fn match_fields(
     alloc: Global,
@@ -114,7 +115,7 @@ fn match_fields(
     Ok(true)
 }
 
-// Whether a fault is want of memory.
+// Whether a fault is want of memory, which ends the choice of a leaf at once.
 fn is_memory(fault: ImageFault) -> bool
     ensures { IsTrue result ↔ (fault ≡ Memory) }
 {
@@ -130,7 +131,7 @@ fn is_memory(fault: ImageFault) -> bool
     }
 }
 
-// The first of two faults.
+// The fault that came before, or this one where none did.
 fn first_of(before: Option<ImageFault>, fault: ImageFault) -> Option<ImageFault>
     ensures { result ≡ first_fault before fault }
 {

@@ -13,7 +13,8 @@ use rb_bytes::memory::ByteMemory;
 use rb_image_text::image::{ImageBlock, LEAST_ADDRESS};
 use std::alloc::{AllocError, Global};
 
-// The most bytes of a filler, which is a block of no image.
+// The most bytes of a filler, which is a block of no image: it takes up the room before and between
+// those of one.
 const MOST_FILLER: u64 = 512;
 
 // The address behind the last block, or the least address of a block where there is none.
@@ -72,7 +73,7 @@ fn fill_to(memory: &mut CheckedMemory, at: u64)
     }
 }
 
-// Stores bytes one by one in the block of their number that begins at an address.
+// Stores bytes one by one in the block that begins at an address, which has just so many bytes.
 fn store_bytes(memory: &mut CheckedMemory, at: u64, bytes: &[u8])
     requires good { IsGood memory.old }
     requires placed { size_at memory.old.blocks at ≡ Some (length bytes.now) }

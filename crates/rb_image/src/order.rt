@@ -19,7 +19,7 @@ pub struct Spot<'a> {
     pub part: &'a Part,
 }
 
-// Adds the parts of a word that begin at a bit.
+// Adds those of a word's parts that begin at bit `o`.
 fn add_beginning<'a>(parts: &'a [Part], o: u64, found: &mut Vec<&'a Part>) -> Result<(), AllocError>
     ensures { OnOk result (parts_of found.new.items ≡ parts_of found.old.items ++ beginning_at parts.now o) }
 {
@@ -31,7 +31,7 @@ fn add_beginning<'a>(parts: &'a [Part], o: u64, found: &mut Vec<&'a Part>) -> Re
     Ok(())
 }
 
-// The parts of a word by offset.
+// The parts of a word by offset, that is by the bit at which each begins.
 fn by_offset<'a>(alloc: Global, word: &'a FlatWord) -> Result<Vec<&'a Part>, AllocError>
     ensures { IfOk result (λ found. parts_of found.items ≡ by_offset word.now) }
 {
@@ -42,7 +42,8 @@ fn by_offset<'a>(alloc: Global, word: &'a FlatWord) -> Result<Vec<&'a Part>, All
     Ok(found)
 }
 
-// Adds the parts of the block to which a pointer leads, so many blocks deep at most.
+// Adds the parts of the block with this number, and of those to which it leads, so many blocks deep
+// at most; none where there is no such block.
 #[cycle(ordering)]
 fn add_block<'a>(
     alloc: Global,
@@ -92,7 +93,7 @@ fn add_part<'a>(
     }
 }
 
-// Adds the parts of a word.
+// Adds the parts of a word by offset, behind each those of the block to which it points.
 #[cycle(ordering)]
 fn add_word<'a>(
     alloc: Global,
@@ -122,7 +123,8 @@ fn add_word<'a>(
     Ok(())
 }
 
-// Adds the parts of words.
+// Adds the parts of the words of a root or a block, behind each those of the block to which it
+// points.
 #[cycle(ordering)]
 fn add_words<'a>(
     alloc: Global,
@@ -156,7 +158,7 @@ pub(crate) fn order_of<'a>(alloc: Global, leaf: &'a Leaf) -> Result<Vec<Spot<'a>
     Ok(order)
 }
 
-/// The parts of a block, and of those to which it leads.
+/// The parts of the leaf's block with this number, and of those to which it leads.
 pub(crate) fn block_order<'a>(
     alloc: Global,
     leaf: &'a Leaf,

@@ -18,7 +18,7 @@ pub struct FieldWords {
     pub words: Seq<u64>,
 }
 
-// The words of the first field at a path.
+// The words of the first of the fields that is at the path; none where no field is.
 fn words_in<'a>(fields: &'a [FieldWords], path: &[u32]) -> &'a [u64]
     ensures { result.now ≡ words_in fields.now path.now }
 {
@@ -30,7 +30,8 @@ fn words_in<'a>(fields: &'a [FieldWords], path: &[u32]) -> &'a [u64]
     &[]
 }
 
-// What a part is to hold.
+// What a part is to hold: its constant, or the bits or word of a field. A pointer, which no leaf
+// without pointers has, is 0.
 fn number_of(part: &Part, fields: &[FieldWords]) -> u64
     ensures { result ≡ number_of (words_in fields.now) (λ b. 0) part.now.l part.now.kind }
 {
@@ -57,7 +58,7 @@ fn pack(parts: &[Part], fields: &[FieldWords]) -> u64
     word
 }
 
-/// The words that the fields make.
+/// The words that the fields make in a leaf whose root has these flat words.
 pub(crate) fn pack_all(
     alloc: Global,
     words: &[FlatWord],

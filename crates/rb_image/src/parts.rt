@@ -28,7 +28,8 @@ pub(crate) fn address_at(addresses: &[u64], block: u32) -> u64
     }
 }
 
-/// The word of a part: a root word, or the word of a block whose address is known.
+/// The word that a part is of: a root word, or the word of a block whose address is known. Its
+/// number is 0 where no such word is there.
 pub(crate) fn kept_at(memory: &[ImageBlock], words: &[Kept], addresses: &[u64], spot: &Spot) -> Kept
     requires placed { AreInPlace memory.now }
     ensures { result ≡ spec.kept_at memory.now words.now addresses.now spot.now.block (at_of spot.now) }
@@ -50,7 +51,7 @@ pub(crate) fn kept_at(memory: &[ImageBlock], words: &[Kept], addresses: &[u64], 
     }
 }
 
-// The size of a block of a leaf.
+// The size in bytes of a leaf's block with this number, 0 where there is none.
 fn size_of(leaf: &Leaf, block: u32) -> u64
     requires readable { IsReadable leaf.now }
     ensures { result ≡ spec.block_size (slice_get leaf.now.blocks block) }
@@ -61,7 +62,8 @@ fn size_of(leaf: &Leaf, block: u32) -> u64
     }
 }
 
-/// The address to which the bits of a pointer part lead, where a block of the size of this one begins.
+/// The address to which the bits of a pointer part lead, or `BadPointer` where no block of the size
+/// of the leaf's block begins there, or, from within a block, it is not below that.
 pub(crate) fn follow(
     memory: &[ImageBlock],
     leaf: &Leaf,

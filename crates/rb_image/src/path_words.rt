@@ -32,7 +32,7 @@ impl Model for PathWords {
 }
 
 impl PathWords {
-    // Adds the word that a word, or bits of one, are kept in.
+    // Adds the place where a word is kept, or where the bits of one are.
     fn add(&mut self, word: Kept) -> Result<(), AllocError>
         ensures { OnOk result ((base place : ℕ) → has_word self.new base place ≡ with_word self.old word base place) }
     {

@@ -44,7 +44,8 @@ fn tell_short(agreed: &Agreed)
     let _ = agreed.layouts();
 }
 
-// The words of what stands at the end of a walk.
+// The words of what stands at the end of a walk: as they are held, or, inside a leaf, of an integer
+// or rebuilt.
 fn words_there(
     alloc: Global,
     agreed: &Agreed,
@@ -64,7 +65,8 @@ fn words_there(
     Ok(Seq::from_vec(words))
 }
 
-// What stands at a path from an integer.
+// What stands at a path from an integer: the integer itself where the path is empty, and
+// `NoSuchPart` at any step.
 fn peek_integer(alloc: Global, bits: u8, image: &Image, path: &[u32]) -> Result<Peeked, ImageFault>
     ensures part { (types : List DataDecl) (layouts : List Layout)
         → IfOk result (IsPartOf types layouts image.now (Int bits) path.now) }

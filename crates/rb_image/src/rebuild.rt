@@ -25,7 +25,7 @@ use rb_layout::agreed::Agreed;
 use rb_layout::opens::{OpenPosition, opens};
 use std::alloc::{AllocError, Global};
 
-/// The numbers of words.
+/// The numbers of words, without where they are kept.
 pub(crate) fn numbers_of(alloc: Global, words: &[Kept]) -> Result<Seq<u64>, AllocError>
     ensures { IfOk result (λ numbers. numbers ≡ spec.numbers_of words.now) }
 {
@@ -50,7 +50,7 @@ fn integer_word(alloc: Global, image: &Image, bits: u8, view: &View) -> Result<S
     Ok(words)
 }
 
-// The words of a value that stands open at a position.
+// The words of a value of a data type that stands open at a position, copied as they stand.
 fn open_words(
     alloc: Global,
     agreed: &Agreed,
@@ -68,8 +68,9 @@ fn open_words(
     Ok(numbers)
 }
 
-// The words of a value of a data type that a leaf has taken apart, in the leaf whose provenance matches it. So many
-// types may be held one inside the other.
+// The words of a value of a data type that a leaf has taken apart, in the leaf whose provenance
+// matches it. Values that are rebuilt may stand one inside the other so many levels deep; at none
+// it is `Memory`.
 #[cycle(rebuilding)]
 fn rebuild_within<'a>(
     alloc: Global,
@@ -98,7 +99,8 @@ fn rebuild_within<'a>(
     Ok(words)
 }
 
-// The words of the fields at these positions.
+// The paths and words of what stands at these positions below the view, which are those that a leaf
+// leaves open.
 #[cycle(rebuilding)]
 fn fields_at<'a>(
     alloc: Global,
@@ -124,7 +126,7 @@ fn fields_at<'a>(
     Ok(fields)
 }
 
-// The words of what stands at a path below a position.
+// The words of what stands at the end of a path of field numbers from a position on.
 #[cycle(rebuilding)]
 fn words_along<'a>(
     alloc: Global,
@@ -145,7 +147,8 @@ fn words_along<'a>(
     words_at(alloc, &*agreed, image, depth, &end.view())
 }
 
-// The words of what stands at a position.
+// The words of what stands at a position: of an integer, of a value that stands open there, or of
+// one that is rebuilt, as are all that the leaf has taken apart.
 #[cycle(rebuilding)]
 fn words_at<'a>(
     alloc: Global,

@@ -9,7 +9,7 @@ use crate::kept::{Kept, Place};
 use rb_layout::layout::Layout;
 use std::alloc::{AllocError, Global};
 
-/// The widths of the words of a data type.
+/// The widths of the words of a data type, none where it has no layout.
 pub(crate) fn widths_of(layouts: &[Layout], ty: u32) -> &[u64]
     ensures { result.now ≡ widths_of layouts.now (Named ty) }
 {
@@ -29,7 +29,8 @@ fn fits(word: u64, width: u64) -> bool
     word < 1u64 << width
 }
 
-/// The number of the first word that is missing, too many or too wide.
+/// The number of the first word that is missing, too many or too wide; none where all words fit the
+/// widths.
 pub(crate) fn first_misfit(widths: &[u64], words: &[u64]) -> Option<u64>
     ensures { MatchOption result (AllFit widths.now words.now) (IsFirstMisfit widths.now words.now) }
 {

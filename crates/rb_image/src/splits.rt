@@ -29,7 +29,8 @@ pub(crate) fn pointed_from(base: u64, address: u128) -> Option<u64>
     }
 }
 
-/// The word to which a step leads from a word with this number in the range before.
+/// The word to which a step leads from the pointer in a range, or `BadPointer` where it leads to
+/// none.
 pub(crate) fn step_over(memory: &[ImageBlock], range: Kept, step: Step) -> Result<Kept, ImageFault>
     requires placed { AreInPlace memory.now }
     ensures { result ≡ step_over memory.now range step }
@@ -49,7 +50,7 @@ pub(crate) fn step_over(memory: &[ImageBlock], range: Kept, step: Step) -> Resul
     }
 }
 
-/// A range of a word.
+/// The `l` bits of a word from bit `o` on, kept where the word is.
 pub(crate) fn range_of(word: Kept, o: u64, l: u64) -> Kept
     ensures { result ≡ range_of word o l }
 {
@@ -60,7 +61,7 @@ pub(crate) fn range_of(word: Kept, o: u64, l: u64) -> Kept
     }
 }
 
-/// The word with a number, where there is one.
+/// The word with this number; where there are fewer, one with the number 0.
 pub(crate) fn word_at(words: &[Kept], number: u64) -> Kept
     ensures { result ≡ word_at words.now number }
 {
@@ -74,7 +75,8 @@ pub(crate) fn word_at(words: &[Kept], number: u64) -> Kept
     }
 }
 
-// The bits at a location, and where they are kept.
+// The bits at a location, with where they are kept, or the first pointer on the way that is
+// refused.
 fn range_at(memory: &[ImageBlock], words: &[Kept], loc: &Loc) -> Result<Kept, ImageFault>
     requires placed { AreInPlace memory.now }
     ensures { result ≡ range_at memory.now words.now loc.now }

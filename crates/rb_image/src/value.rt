@@ -47,7 +47,8 @@ fn images_descend(agreed: &Agreed)
     let _ = agreed.layouts();
 }
 
-// The value of an image that is sound, read where its blocks stand.
+// The value of an image that is sound, decoded in a memory in which its blocks stand, if it has at
+// most `limit` nodes.
 fn value_of(
     alloc: Global,
     agreed: &Agreed,

@@ -31,7 +31,8 @@ pub struct View<'a> {
 }
 
 impl<'a> View<'a> {
-    // A word of the field that stands here: the part that holds it.
+    // A word of the field that stands here: the bits of the first part that holds it, or the number
+    // 0 where none does.
     fn word(&self, image: &Image, order: &[Spot], number: u64) -> Kept
         requires placed { AreInPlace image.now.blocks }
         requires shown { IsShown image.now.blocks self.now }
@@ -73,7 +74,7 @@ impl<'a> View<'a> {
         Ok(words)
     }
 
-    /// The integer that stands here.
+    /// The integer of so many bits that stands here.
     pub(crate) fn integer_here(
         &self,
         alloc: Global,

@@ -74,7 +74,7 @@ pub(crate) fn open_data(here: Inside) -> Option<u32>
     }
 }
 
-// The subvalue of a data type at these sites.
+// The subvalue of a data type that stands at these sites: its leaf is found and read.
 fn see<'a, L: Ledger>(
     alloc: Global,
     agreed: &'a Agreed,
@@ -107,7 +107,7 @@ fn see<'a, L: Ledger>(
     })
 }
 
-// A walk that has come to a subvalue.
+// A walk that has come to the root of a subvalue's leaf.
 fn arrive<'a>(before: Vec<Passed<'a>>, last: Passed<'a>) -> Walk<'a>
     ensures walk { where_of result ≡ spec.arrived (map seen_of before.entry.items) (seen_of last.entry) }
     ensures same { (result.before ≡ before.entry) × (result.last ≡ last.entry) }
@@ -120,7 +120,8 @@ fn arrive<'a>(before: Vec<Passed<'a>>, last: Passed<'a>) -> Walk<'a>
     Walk { before, last, here }
 }
 
-// From an open position of a data type on to its own leaf.
+// From a position at which any value of the data type `ty` may stand on to the root of that value's
+// own leaf.
 fn settle<'a, L: Ledger>(
     alloc: Global,
     agreed: &'a Agreed,

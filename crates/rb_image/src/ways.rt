@@ -31,7 +31,7 @@ fn is_below(path: &[u32], kind: &Kind) -> bool
     }
 }
 
-// Whether one of the parts does.
+// Whether one of these parts holds a word or bits of a field whose path begins with this one.
 fn any_below(path: &[u32], order: &[Spot]) -> bool
     ensures { result ≡ list_any (λ (s : PartAt). spec.is_below path.now s.part.kind) (spots_of order.now) }
 {
@@ -64,7 +64,7 @@ pub(crate) fn leads_below(
     }
 }
 
-/// The fault of a pointer that is refused.
+/// The fault of a part with these bits, if it is a pointer that is refused; none for other parts.
 pub(crate) fn refusal_of(
     memory: &[ImageBlock],
     leaf: &Leaf,
@@ -86,7 +86,7 @@ pub(crate) fn refusal_of(
     }
 }
 
-// The fault of a part, if it is a pointer on the way to what stands below a path.
+// The fault of a part, if it is a pointer on the way to what stands at a path or below it.
 fn refused_at(
     alloc: Global,
     image: &Image,

@@ -13,17 +13,17 @@ pub data Due : Type 0 where
 abbrev pub refusal : Status → List ℕ → Due
 refusal status line = refused status line 0
 
--- the status of an answer
+-- the exit status of an answer: 0 for a printed text, or that of the status by which it is refused
 abbrev pub status_of : Due → ℕ
 status_of (printed text steps) = 0
 status_of (refused status line steps) = status_number status
 
--- its text, or its line
+-- the text that an answer prints, or the line by which it refuses
 abbrev pub text_of : Due → List ℕ
 text_of (printed text steps) = text
 text_of (refused status line steps) = line
 
--- how many instructions the command began
+-- how many instructions the command of an answer began
 abbrev pub steps_of : Due → ℕ
 steps_of (printed text steps) = steps
 steps_of (refused status line steps) = steps

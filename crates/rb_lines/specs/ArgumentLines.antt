@@ -29,7 +29,7 @@ abbrev pub misfit_line : List DataDecl → ℕ → Ty → ℕ → List ℕ
 misfit_line types number ty at =
     ended (argument_begun number ++ codes "no value of " ++ type_text types ty ++ codes " at byte " ++ decimal at)
 
--- the line of what is wrong with an argument
+-- the line of what is wrong with the argument of this number, counted from 1, at the type of its parameter
 abbrev pub argument_line : List DataDecl → ℕ → Ty → ValueFault → List ℕ
 argument_line types number ty (kind.ValueSyntax at) = syntax_line number at
 argument_line types number ty kind.ValueTooLarge = large_line number

@@ -17,7 +17,8 @@ pub record Change : Type 0 where
   pub before : ℕ
   pub now : ℕ
 
--- that of a sink by what the trait says of it
+-- a sink `old` before a call and `new` after it, by what the trait says of it: whether it tells what it took, that,
+-- what it said, and its count of faults
 abbrev pub change : {S : Type 0} → (S → Bool) → (S → List ℕ) → (S → Account) → (S → ℕ) → S → S → Change
 change tells taken account faults old new = record {
   tells = tells old;
@@ -29,35 +30,36 @@ change tells taken account faults old new = record {
   now = faults new;
 }
 
--- It said that it took this text, and no write failed. Where it tells, it took the text.
+-- The sink said in the call that it took this text, and no write failed. Where it tells, it took the text.
 abbrev pub Took : Change → List ℕ → Type 0
 Took sink text = (sink.says ≡ after_take text sink.said) × (IsTrue sink.tells → sink.new ≡ sink.old ++ text)
 
--- A write failed and was counted: it took a front of the text, and nothing after that.
+-- A write failed and was counted: the sink took a front of the text, not all of it, and nothing after that.
 pub record CutOff (sink : Change) (text : List ℕ) : Type 0 where
   pub rose : Rose sink.before sink.now
   pub front : TakesFront sink.tells text sink.old sink.new sink.said sink.says
 
--- its count of faults did not rise
+-- no fault of the sink was counted in the call, nor was its count at the greatest before
 abbrev pub Stood : Change → Type 0
 Stood sink = Rose sink.before sink.now → ⊥
 
--- It took the text whole, unless it failed.
+-- The sink took the text whole, or a write failed and it took only a front.
 abbrev pub Tried : Change → List ℕ → Type 0
 Tried sink text = Took sink text ⊎ CutOff sink text
 
--- The output took the text whole, and the error output nothing. Or the output failed: then the line of a
--- write fault was tried on the error output.
+-- The output took the text whole, and the error output nothing: status 0. Or the output failed: then the line of a
+-- write fault was tried on the error output, and the status is 8.
 pub data Prints (text : List ℕ) (out err : Change) (status : ℕ) : Type 0 where
   output : status ≡ 0 → Took out text → Took err [] → Prints text out err status
   output_failed : status ≡ 8 → CutOff out text → Tried err write_fault_line → Prints text out err status
 
--- The error output took the line whole, or failed; the output took nothing.
+-- The error output took the line whole, and the status is this number; or it failed, and the status is 8. The output
+-- took nothing.
 pub data Refuses (number : ℕ) (line : List ℕ) (out err : Change) (status : ℕ) : Type 0 where
   error_line : status ≡ number → Took out [] → Took err line → Refuses number line out err status
   error_failed : status ≡ 8 → Took out [] → CutOff err line → Refuses number line out err status
 
--- a text is printed; a refusal is told by its line, with its status
+-- what is due was delivered, and gave this status: a text to the output, or the line of a refusal to the error output
 abbrev pub Delivers : Due → Change → Change → ℕ → Type 0
 Delivers (printed text steps) out err status = Prints text out err status
 Delivers (refused named line steps) out err status = Refuses (status_number named) line out err status

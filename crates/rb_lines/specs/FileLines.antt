@@ -12,7 +12,7 @@ use Rattle.rb_show.specs.Lines.{type_name}
 use Rattle.rb_show.specs.Patterns.{pattern_text}
 use Rattle.rb_lines.specs.Lines.{begun, ended}
 
--- a fault and the byte where it stands
+-- the line of a fault, told by its words, and of the byte where it stands
 abbrev pub at_byte : List ℕ → ℕ → List ℕ
 at_byte fault at = ended (begun fault ++ codes " at byte " ++ decimal at)
 
@@ -65,7 +65,8 @@ mismatch_line types wanted found at =
     ended (begun (codes "wanted ") ++ type_text types wanted ++ codes ", found " ++ type_text types found
     ++ codes " at byte " ++ decimal at)
 
--- the line of another number of arguments than the wanted one, at a byte
+-- the line of another number of parts than the wanted one, at a byte: of arguments, as the line calls them, or of
+-- fields
 abbrev pub arity_line : ℕ → ℕ → ℕ → List ℕ
 arity_line wanted found at =
     ended (begun (codes "wanted ") ++ decimal wanted ++ codes " arguments, found " ++ decimal found
@@ -73,12 +74,12 @@ arity_line wanted found at =
 
 -- Derived layouts ---------------------------------------------------------------------------
 
--- a packed type that reaches itself
+-- the line of a packed type that reaches itself through its fields
 abbrev pub recursive_line : List DataDecl → ℕ → List ℕ
 recursive_line types t =
     ended (begun (codes "layout of ") ++ type_name (slice_get types t) ++ codes ": packed: recursive")
 
--- a packed type that needs so many bits
+-- the line of a packed type that needs so many bits, over 64
 abbrev pub wide_line : List DataDecl → ℕ → ℕ → List ℕ
 wide_line types t bits =
     ended (begun (codes "layout of ") ++ type_name (slice_get types t) ++ codes ": packed: " ++ decimal bits

@@ -10,16 +10,17 @@ use Rattle.rb_lines.specs.Numbers.{image_syntax, image_block, bad_root, bad_bits
 use Rattle.rb_lines.specs.declared.status.Status.{Status}
 use Rattle.rb_lines.specs.declared.status.Status.TheVariants as status
 
--- a fault of this number, at the place of this kind
+-- the line of an image fault of this number at a place, where `kind` says what the place counts
 abbrev pub fault_at : ℕ → List ℕ → ℕ → List ℕ
 fault_at number kind at = ended (begun (codes "image ") ++ decimal number ++ kind ++ decimal at)
 
--- in the block that begins at a base, or at base 0 in the root words
+-- the line of an image fault of this number in the block that begins at `base`, which is 0 for the root words; `kind`
+-- says what the last number is: a place there, or the address to which a pointer there leads
 abbrev pub fault_in : ℕ → ℕ → List ℕ → ℕ → List ℕ
 fault_in number base kind at =
     ended (begun (codes "image ") ++ decimal number ++ codes ": base " ++ decimal base ++ kind ++ decimal at)
 
--- A value of too many nodes is no fault of an image, but a limit of what is shown.
+-- The status of an image fault. A value of too many nodes is no fault of an image, but a limit of what is shown.
 abbrev pub image_status : ImageFault → Status
 image_status (ImageSyntax at) = status.Image
 image_status (ImageBlock block) = status.Image
@@ -41,6 +42,6 @@ image_line ImageTooLarge = large_line node_limit
 image_line (NoSuchPart step) = fault_at no_such_part (codes ": step ") step
 image_line Memory = no_memory_line
 
--- what is due to it, before anything ran
+-- what is due to an image with this fault, before anything ran
 abbrev pub image_due : ImageFault → Due
 image_due fault = refusal (image_status fault) (image_line fault)

@@ -8,11 +8,11 @@ use Rattle.rb_target.specs.declared.fault.CodeFault.{CodeFault}
 use Rattle.rb_target.specs.declared.fault.CodeFault.TheVariants.{CodeSyntax, BadSlot, BadJump, BadCall, Memory}
 use Rattle.rb_lines.specs.Numbers.{code_syntax, bad_slot, bad_jump, bad_call, trap_number}
 
--- a line for the error output begins so
+-- a text behind the program's name, as each line for the error output begins
 abbrev pub begun : List ℕ → List ℕ
 begun text = codes "ribbit: " ++ text
 
--- each line ends with a newline
+-- a text with a newline behind it, as each line ends
 abbrev pub ended : List ℕ → List ℕ
 ended text = text ++ codes "\n"
 
@@ -20,7 +20,7 @@ ended text = text ++ codes "\n"
 abbrev pub usage_line : ℕ → List ℕ
 usage_line word = ended (begun (codes "usage at word ") ++ decimal word)
 
--- the line of a file that is not read
+-- the line of a file whose opening or reading failed
 abbrev pub read_fault_line : List ℕ
 read_fault_line = codes "ribbit: read fault\n"
 
@@ -32,7 +32,7 @@ write_fault_line = codes "ribbit: write fault\n"
 abbrev pub no_memory_line : List ℕ
 no_memory_line = codes "ribbit: no memory\n"
 
--- a file's bytes over their limit
+-- the line of a file with so many bytes, over their limit
 abbrev pub file_bytes_line : ℕ → ℕ → List ℕ
 file_bytes_line count limit =
     ended (begun (codes "limit file bytes: ") ++ decimal count ++ codes " over " ++ decimal limit)
@@ -46,11 +46,11 @@ abbrev pub count_line : ℕ → ℕ → List ℕ
 count_line wanted found =
     ended (begun (codes "wanted ") ++ decimal wanted ++ codes " arguments, found " ++ decimal found)
 
--- code that has no function of this name
+-- the line of code that has no function of this name
 abbrev pub no_function_line : List ℕ → List ℕ
 no_function_line name = ended (begun (codes "no function ") ++ name)
 
--- a block that doesn't fit
+-- the line of a block that doesn't fit into the region
 abbrev pub full_line : Full → List ℕ
 full_line f = ended (begun (codes "region full: next ") ++ decimal f.next ++ codes ", size " ++ decimal f.size
     ++ codes ", align " ++ decimal f.align ++ codes ", limit " ++ decimal f.limit)
@@ -65,7 +65,8 @@ trap_line (Unwritten address) =
 trap_line (Unmatched word) =
     ended (begun (codes "trap ") ++ decimal (trap_number (Unmatched word)) ++ codes ": word " ++ decimal word)
 
--- functions that are not valid together: the fault's kind, and where it stands
+-- the line of functions that are not valid together: the number of the fault's kind, and the instruction of a
+-- function where it stands
 abbrev pub at_instruction : ℕ → ℕ → ℕ → List ℕ
 at_instruction kind function instruction = ended (begun (codes "code ") ++ decimal kind
     ++ codes ": function " ++ decimal function ++ codes ", instruction " ++ decimal instruction)
@@ -78,20 +79,20 @@ code_line (BadJump n pc) = at_instruction bad_jump n pc
 code_line (BadCall n pc) = at_instruction bad_call n pc
 code_line Memory = no_memory_line
 
--- a value with more nodes than this
+-- the line of a value with more nodes than this limit
 abbrev pub large_line : ℕ → List ℕ
 large_line limit = ended (begun (codes "value over ") ++ decimal limit ++ codes " nodes")
 
--- numbers, each after a blank
+-- numbers in decimal digits, each after a blank
 abbrev pub spaced : List ℕ → List ℕ
 spaced [] = []
 spaced (n ∷ ns) = 32 ∷ decimal n ++ spaced ns
 
--- numbers with one blank between
+-- numbers in decimal digits, with one blank between
 abbrev pub listed : List ℕ → List ℕ
 listed [] = []
 listed (n ∷ ns) = decimal n ++ spaced ns
 
--- words on a line
+-- the line of words in decimal digits, with one blank between
 abbrev pub words_line : List ℕ → List ℕ
 words_line words = ended (listed words)

@@ -6,10 +6,10 @@ use Rattle.rb_syntax.specs.declared.token.Placed.{Placed}
 use Rattle.rb_lines.specs.FileLines.{note_line}
 use Rattle.rb_lines.specs.Places.{byte_of}
 
--- a note as it is shown, of tokens in a file of so many bytes
+-- the line of a note on a clause that no value reaches, in a file of these tokens and so many bytes
 abbrev pub note_text : List Placed → ℕ → Note → List ℕ
 note_text placed size n = note_line n.clause (byte_of placed size n.at)
 
--- the notes, one behind the other, and a last line `ok`
+-- what `check` prints of an accepted file: a line for each note, in their order, and then the line `ok`
 abbrev pub check_text : List Placed → ℕ → List Note → List ℕ
 check_text placed size notes = flat_map (note_text placed size) notes ++ codes "ok\n"

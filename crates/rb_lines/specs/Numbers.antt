@@ -5,7 +5,8 @@ use Rattle.rb_bytes.specs.declared.fault.Trap.TheVariants.{Astray, Unwritten, Un
 use Rattle.rb_lines.specs.declared.status.Status.{Status}
 use Rattle.rb_lines.specs.declared.status.Status.TheVariants as status
 
--- Status 0 is that of a printed text, and 8 that of a failed write; neither has a name here.
+-- The exit status of each named one. Status 0 is that of a printed text, and 8 that of a failed write; neither has a
+-- name here.
 abbrev pub status_number : Status → ℕ
 status_number status.Syntax = 1
 status_number status.Meaning = 2
@@ -22,48 +23,50 @@ status_number status.TooLarge = 13
 status_number status.Code = 14
 status_number status.Image = 16
 
--- bytes that are no code text
+-- the number of the fault of bytes that are no code text
 abbrev pub code_syntax : ℕ
 code_syntax = 20
 
--- a slot that a function has not got, or a number of slots that does not fit
+-- the number of the fault of a slot that a function has not got, or of a number of slots that does not fit
 abbrev pub bad_slot : ℕ
 bad_slot = 21
 
--- a target that is no later instruction, or a body that does not end in a return
+-- the number of the fault of a target that is no later instruction, or of a body that does not end in a return
 abbrev pub bad_jump : ℕ
 bad_jump = 22
 
--- a call of no function, or a call or a return whose numbers of arguments and results do not fit
+-- the number of the fault of a call of no function, or of a call or a return whose numbers of arguments and results
+-- do not fit
 abbrev pub bad_call : ℕ
 bad_call = 23
 
--- an access astray, an unwritten byte, and a word that a switch has no arm for
+-- the number of a trap: of an access astray, of an unwritten byte, or of a word that a switch has no arm for
 abbrev pub trap_number : Trap → ℕ
 trap_number (Astray base offset) = 30
 trap_number (Unwritten address) = 31
 trap_number (Unmatched word) = 32
 
--- bytes that are no image text
+-- the number of the fault of bytes that are no image text
 abbrev pub image_syntax : ℕ
 image_syntax = 40
 
--- a block out of its place
+-- the number of the fault of a block out of its place
 abbrev pub image_block : ℕ
 image_block = 41
 
--- a root word that is missing, too many or too wide
+-- the number of the fault of a root word that is missing, too many or too wide
 abbrev pub bad_root : ℕ
 bad_root = 42
 
--- a word with bits that no value has
+-- the number of the fault of a word with bits that no value has
 abbrev pub bad_bits : ℕ
 bad_bits = 43
 
--- a pointer to no block of the wanted size, or to one that is not lower
+-- the number of the fault of a pointer to no block of the wanted size, to no word that a split asks for, or, from
+-- within a block, to one that is not lower
 abbrev pub bad_pointer : ℕ
 bad_pointer = 44
 
--- a step of a path that names no field
+-- the number of the fault of a path with a step that names no field
 abbrev pub no_such_part : ℕ
 no_such_part = 46

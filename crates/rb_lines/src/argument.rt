@@ -13,7 +13,7 @@ use std::alloc::{AllocError, Global};
 /// The most nodes of an argument, and of a value that is shown.
 pub const NODES: u64 = 1_000_000;
 
-// The beginning of a line that says what is wrong with an argument.
+// The beginning of a line that says what is wrong with the argument of this number.
 fn begin_argument(alloc: Global, number: u64) -> Result<Vec<u8>, AllocError>
     ensures { IfOk result (λ text. text.items ≡ argument_begun number) }
 {
@@ -34,7 +34,8 @@ fn large(alloc: Global, number: u64) -> Result<Vec<u8>, AllocError>
     Ok(format!(in alloc; "ribbit: argument {number}: over {NODES} nodes\n")?.into_bytes())
 }
 
-// The line of an argument that is a value, but none of the type; the byte is that of what does not fit.
+// The line of an argument that is a value, but none of its type; the byte is that of what does not
+// fit.
 fn misfit(
     alloc: Global,
     types: &[DataDecl],

@@ -11,7 +11,8 @@ use rb_edge::whole::write_whole;
 // The status where a write failed.
 const WRITE_FAILED: u8 = 8;
 
-// Writes what the sink takes of the text.
+// Writes the text, as far as the sink takes it: a write that fails is passed over, since nothing is
+// left to tell it on.
 fn try_write<K: Sink>(sink: &mut K, text: &[u8])
     ensures { Tried (change K.tells K.taken K.account K.faults sink.old sink.new) text.now }
 {

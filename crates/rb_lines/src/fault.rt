@@ -8,7 +8,7 @@ use rb_read::fault::Quantity;
 use rb_read::limits::greatest;
 use std::alloc::{AllocError, Global};
 
-/// The line of a fault at a byte.
+/// The line of a fault, told by its words, and of the byte where it stands.
 ///
 /// # Errors
 ///
@@ -48,7 +48,7 @@ pub fn limit(alloc: Global, over: Quantity, count: u64) -> Result<Vec<u8>, Alloc
     Ok(line.into_bytes())
 }
 
-/// The line of a name that stands for nothing.
+/// The line of a name that stands for nothing, with the byte where the name stands.
 ///
 /// # Errors
 ///
@@ -63,7 +63,7 @@ pub fn unknown(alloc: Global, name: &[u8], at: u64) -> Result<Vec<u8>, AllocErro
     end(text)
 }
 
-/// The line of a name that was defined before.
+/// The line of a name that was defined before, with the byte where the name stands again.
 ///
 /// # Errors
 ///

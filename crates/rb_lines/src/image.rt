@@ -9,14 +9,16 @@ use crate::numbers::{BAD_BITS, BAD_POINTER, BAD_ROOT, IMAGE_BLOCK, IMAGE_SYNTAX,
 use rb_image_text::fault::ImageFault;
 use std::alloc::{AllocError, Global};
 
-// A fault of this number, at the place of this kind.
+// The line of an image fault of this number at a place, where `kind` says what the place counts.
 fn fault_at(alloc: Global, number: u64, kind: &str, at: u64) -> Result<Vec<u8>, AllocError>
     ensures { IfOk result (λ text. text.items ≡ line.fault_at number kind.now at) }
 {
     Ok(format!(in alloc; "ribbit: image {number}{kind}{at}\n")?.into_bytes())
 }
 
-// A fault of this number in the block that begins at a base.
+// The line of an image fault of this number in the block that begins at `base`, which is 0 for the
+// root words; `kind` says what `at` is: a place there, or the address to which a pointer there
+// leads.
 fn fault_in(
     alloc: Global,
     number: u64,
@@ -29,7 +31,7 @@ fn fault_in(
     Ok(format!(in alloc; "ribbit: image {number}: base {base}{kind}{at}\n")?.into_bytes())
 }
 
-/// The line of an image that is refused.
+/// The line of an image that is refused, by its fault.
 ///
 /// # Errors
 ///

@@ -11,14 +11,14 @@ use rb_bytes::checked::CheckedMemory;
 use rb_bytes::memory::ByteMemory;
 use std::alloc::{AllocError, Global};
 
-// A number after a blank, in hexadecimal digits.
+// The text with a blank and a word behind it, in hexadecimal digits.
 fn push_word(alloc: Global, text: &mut Vec<u8>, word: u64) -> Result<(), AllocError>
     ensures { OnOk result (text.new.items ≡ text.old.items ++ word_text word) }
 {
     push(text, format!(in alloc; " 0x{word:x}")?.as_bytes())
 }
 
-// The words one after the other, each behind a blank.
+// The text with the words behind it, each after a blank, in hexadecimal digits.
 fn push_words(alloc: Global, text: &mut Vec<u8>, words: &[u64]) -> Result<(), AllocError>
     ensures { OnOk result (text.new.items ≡ text.old.items ++ words_text words.now) }
 {
@@ -28,7 +28,7 @@ fn push_words(alloc: Global, text: &mut Vec<u8>, words: &[u64]) -> Result<(), Al
     Ok(())
 }
 
-// The line of root words.
+// The line of the root words, with which the text of an image begins.
 fn root(alloc: Global, words: &[u64]) -> Result<Vec<u8>, AllocError>
     ensures { IfOk result (λ text. text.items ≡ root_text words.now) }
 {
@@ -37,7 +37,7 @@ fn root(alloc: Global, words: &[u64]) -> Result<Vec<u8>, AllocError>
     line::end(text)
 }
 
-// A hexadecimal digit.
+// The hexadecimal digit of a number below 16.
 fn digit(number: u8) -> u8
     requires { number < 16 }
     ensures { result ≡ hex_digit number }
@@ -49,14 +49,14 @@ fn digit(number: u8) -> u8
     }
 }
 
-// A byte as two hexadecimal digits.
+// The text with a byte behind it, as two hexadecimal digits.
 fn push_byte(text: &mut Vec<u8>, byte: u8) -> Result<(), AllocError>
     ensures { OnOk result (text.new.items ≡ text.old.items ++ spec.byte_text byte) }
 {
     push(text, &[digit(byte / 16), digit(byte % 16)])
 }
 
-// So many bytes of the memory from an address on.
+// The text with so many bytes of the memory behind it, from an address on.
 fn push_bytes(
     text: &mut Vec<u8>,
     memory: &CheckedMemory,
@@ -72,7 +72,7 @@ fn push_bytes(
     Ok(())
 }
 
-// The line of a block.
+// The line of the block of this size at this address of the memory.
 fn block(
     alloc: Global,
     memory: &CheckedMemory,
@@ -87,7 +87,7 @@ fn block(
     line::end(text)
 }
 
-// The line of a block behind the text so far.
+// The text with the line of a block behind it.
 fn push_block(
     alloc: Global,
     text: &mut Vec<u8>,
@@ -102,7 +102,7 @@ fn push_block(
     push(text, line.as_slice())
 }
 
-// The lines of all blocks, by ascending address.
+// The text with the lines of all blocks of the memory behind it, by ascending address.
 fn push_blocks(alloc: Global, text: &mut Vec<u8>, memory: &CheckedMemory) -> Result<(), AllocError>
     requires { IsGood memory.now }
     ensures { OnOk result (text.new.items ≡ text.old.items ++ blocks_text (blocks_over memory.now)) }
@@ -120,7 +120,7 @@ fn push_blocks(alloc: Global, text: &mut Vec<u8>, memory: &CheckedMemory) -> Res
     Ok(())
 }
 
-/// The image of words over a memory.
+/// The text of the image of root words over a memory: their line, and those of the blocks.
 ///
 /// # Errors
 ///

@@ -41,7 +41,7 @@ pub fn push_number(text: &mut Vec<u8>, number: u64) -> Result<(), AllocError>
     text.extend_from_slice(digits(number).as_slice())
 }
 
-/// The program's name and these bytes.
+/// The beginning of a line: the program's name and these bytes.
 ///
 /// # Errors
 ///
@@ -54,7 +54,7 @@ pub fn begin(alloc: Global, bytes: &[u8]) -> Result<Vec<u8>, AllocError>
     Ok(text)
 }
 
-/// The text with a line's end.
+/// The text with a newline behind it, which ends the line.
 ///
 /// # Errors
 ///
@@ -89,7 +89,7 @@ pub fn file_bytes(alloc: Global, count: u64, limit: u64) -> Result<Vec<u8>, Allo
     Ok(format!(in alloc; "ribbit: limit file bytes: {count} over {limit}\n")?.into_bytes())
 }
 
-/// The line of a run whose calls are spent.
+/// The line of a run that would make more than so many calls.
 ///
 /// # Errors
 ///
@@ -100,7 +100,7 @@ pub fn spent(alloc: Global, calls: u64) -> Result<Vec<u8>, AllocError>
     Ok(format!(in alloc; "ribbit: calls spent: {calls}\n")?.into_bytes())
 }
 
-/// The line of a wrong number of arguments.
+/// The line of a number of arguments that is not the function's.
 ///
 /// # Errors
 ///
@@ -135,7 +135,7 @@ pub fn no_function(alloc: Global, name: &[u8]) -> Result<Vec<u8>, AllocError>
     end(text)
 }
 
-/// The line of a block that doesn't fit.
+/// The line of a block that doesn't fit into the region.
 ///
 /// # Errors
 ///
@@ -155,7 +155,7 @@ pub fn full(alloc: Global, full: Full) -> Result<Vec<u8>, AllocError>
     Ok(line.into_bytes())
 }
 
-/// The line of a trap.
+/// The line of a trap, with its number.
 ///
 /// # Errors
 ///
@@ -220,14 +220,14 @@ pub fn code(alloc: Global, fault: CodeFault) -> Result<Vec<u8>, AllocError>
     }
 }
 
-// A number after a blank.
+// The text with a blank and a number behind it, in decimal digits.
 fn push_word(alloc: Global, text: &mut Vec<u8>, number: u64) -> Result<(), AllocError>
     ensures { OnOk result (text.new.items ≡ text.old.items ++ 32 ∷ decimal number) }
 {
     push(text, format!(in alloc; " {number}")?.as_bytes())
 }
 
-// Numbers, each after a blank.
+// The text with the numbers behind it, each after a blank, in decimal digits.
 fn push_spaced(alloc: Global, text: &mut Vec<u8>, numbers: &[u64]) -> Result<(), AllocError>
     ensures { OnOk result (text.new.items ≡ text.old.items ++ line.spaced numbers.now) }
 {
@@ -237,7 +237,7 @@ fn push_spaced(alloc: Global, text: &mut Vec<u8>, numbers: &[u64]) -> Result<(),
     Ok(())
 }
 
-/// Numbers on a line, with one blank between.
+/// The line of numbers in decimal digits, with one blank between.
 ///
 /// # Errors
 ///

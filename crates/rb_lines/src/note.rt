@@ -21,7 +21,7 @@ fn note(alloc: Global, clause: u64, at: u64) -> Result<Vec<u8>, AllocError>
     Ok(line.into_bytes())
 }
 
-// The line of a note behind the text so far.
+// The text with the line of a note behind it.
 fn push_note(
     alloc: Global,
     text: &mut Vec<u8>,
@@ -37,7 +37,7 @@ fn push_note(
     Ok(())
 }
 
-// A line for each note behind the text so far.
+// The text with a line for each note behind it, in their order.
 fn push_notes(
     alloc: Global,
     text: &mut Vec<u8>,
@@ -53,7 +53,7 @@ fn push_notes(
     Ok(())
 }
 
-/// A line for each note, and then `ok`.
+/// What `check` prints of an accepted file: a line for each note, and then the line `ok`.
 ///
 /// # Errors
 ///

@@ -7,14 +7,14 @@ use crate::status::Status;
 use std::alloc::AllocError;
 use thiserror::Error;
 
-/// A status, and its line for the error output.
+/// The answer by which a command is refused: a status, and its line for the error output.
 #[derive(Debug, Drop)]
 pub struct Refused {
     pub status: Status,
     pub line: Vec<u8>,
 }
 
-/// Why nothing is printed.
+/// Why nothing is printed: an answer that says so, or memory ran out on the way to one.
 #[derive(Debug, Drop, Error)]
 pub enum Refusal {
     /// The answer in its place.

@@ -37,7 +37,7 @@ pub enum Status {
 }
 
 impl Status {
-    /// The exit status.
+    /// The exit status of an answer with this one, where its line is written whole.
     pub fn number(self) -> u8
         ensures { result ≡ status_number self }
     {

@@ -8,7 +8,7 @@ use rb_core::types::{DataDecl, Ty};
 use rb_show::show::push_name;
 use std::alloc::{AllocError, Global};
 
-// A type.
+// The text with a type behind it: an integer by its width, a data type by its name.
 pub(crate) fn push_type(text: &mut Vec<u8>, types: &[DataDecl], ty: Ty) -> Result<(), AllocError>
     ensures { OnOk result (text.new.items ≡ text.old.items ++ line.type_text types.now ty) }
 {
@@ -39,7 +39,7 @@ pub fn empty(alloc: Global, types: &[DataDecl], ty: u32) -> Result<Vec<u8>, Allo
     end(text)
 }
 
-/// The line of another type than was wanted.
+/// The line of another type than was wanted, at a byte.
 ///
 /// # Errors
 ///
@@ -62,7 +62,8 @@ pub fn mismatch(
     end(text)
 }
 
-/// The line of another number of parts than was wanted.
+/// The line of another number of parts than was wanted, at a byte: of arguments, as the line calls
+/// them, or of fields.
 ///
 /// # Errors
 ///

@@ -7,10 +7,12 @@ use Rattle.rb_target.specs.declared.outcome.End.{End}
 use Rattle.rb_target.specs.declared.outcome.End.TheVariants.{Trapped}
 use Rattle.rb_target.specs.declared.outcome.Ran.{Ran}
 
+-- a run with this end was not trapped
 abbrev pub IsNotTrapped : End → Type 0
 IsNotTrapped (Trapped t) = ⊥
 IsNotTrapped e = Unit {0}
 
+-- how many words a function takes; 0 where there is no such function
 abbrev pub params_in : Option CodeFun → ℕ
 params_in None = 0
 params_in (Some f) = f.params

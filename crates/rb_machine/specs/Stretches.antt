@@ -9,7 +9,8 @@ use Rattle.rb_machine.specs.Turns.{world, IsLeave}
 use Rattle.rb_machine.specs.declared.state.Stop.{Stop}
 use Rattle.rb_machine.specs.declared.state.Stop.TheVariants.{At, Ends}
 
--- what is still to come of the body at a stop
+-- what is still to come of a call of the body that stopped so: the instruction at which it stopped and what follows,
+-- or just the end of the run
 abbrev pub stop_to : List Instr → Callee → Stop → List ℕ → World → Outcome
 stop_to body callee (At pc l) slots w = from body callee pc slots w
 stop_to body callee (Ends e) slots w = over e w
@@ -20,7 +21,8 @@ IsStop body start (At pc l) count switches =
     (pc < length body) × (start + count ≤ pc) × (start + switches ≤ pc) × IsLeave (slice_get body pc) l
 IsStop body start (Ends e) count switches = IsFinal e
 
--- the body does not trap from there, whatever calls do, at some number of calls left and of instructions so far
+-- the body does not trap from instruction pc on, for some answers to the calls that it makes, and at some number of
+-- calls left and of instructions so far
 abbrev pub IsQuietFrom : List Instr → ℕ → List ℕ → Memory → ℕ → Type 0
 IsQuietFrom body pc slots m switches =
     (callee : Callee) × (left : ℕ) × (taken : ℕ)

@@ -16,19 +16,20 @@ use Rattle.rb_machine.specs.declared.state.Flow.TheVariants.{Goes, Leaves, Ends}
 use Rattle.rb_machine.specs.declared.state.Leave.{Leave}
 use Rattle.rb_machine.specs.declared.state.Leave.TheVariants.{Calls, Returns}
 
--- the slots that the call instruction there writes
+-- the slots to which a call instruction writes its results; none where there is no call
 abbrev pub dests_in : Option Instr → List ℕ
 dests_in (Some (Call f ds froms)) = ds
 dests_in o = []
 
--- a call that waits, with its slots, goes on where the end is a return
+-- what a call that waits, with its slots, makes of the outcome of the call that it made: it goes on where that
+-- returned, and any other end is the end
 abbrev pub resume : List CodeFun → ℕ → Frame → List ℕ → Outcome → Outcome
 resume funs depth frame slots o =
     after_call o.ended o.world
     (λ words. from (body_of funs frame.fun) (enter funs depth) (frame.pc + 1)
     (put_slots slots (dests_in (slice_get (body_of funs frame.fun) frame.pc)) words) o.world)
 
--- how many slots a function has
+-- how many slots function number `fun` has
 abbrev pub width_of : List CodeFun → ℕ → ℕ
 width_of funs fun = slots_in (slice_get funs fun)
 
@@ -40,35 +41,40 @@ unwind funs depth (frame ∷ frames) stack o =
     resume funs depth frame (take (width_of funs frame.fun) stack)
     (unwind funs (depth - 1) frames (drop (width_of funs frame.fun) stack) o)
 
--- the slots of the calls that wait, and those of the current one
+-- the slots of the calls that wait, the outermost first
 abbrev pub waiting_slots : State → List ℕ
 waiting_slots s = take s.base s.stack.items
 
+-- the slots of the current call
 abbrev pub current_slots : State → List ℕ
 current_slots s = drop s.base s.stack.items
 
--- so many calls left, a memory, and so many switches and instructions so far
+-- a world with so many calls left, a memory, and so many switches and instructions so far
 abbrev pub world : ℕ → Memory → ℕ → ℕ → World
 world left m switches taken = record { left = left; memory = m; switches = switches; taken = taken }
 
+-- the world of a state over a memory, with so many instructions so far
 abbrev pub world_of : State → Memory → ℕ → World
 world_of s m taken = world s.left m s.switches taken
 
--- what is still to come
+-- what is still to come of a run that has come to a state, where at most `depth` calls can be nested in the first
 abbrev pub rest_of : List CodeFun → ℕ → State → Memory → ℕ → Outcome
 rest_of funs depth s m taken =
     unwind funs depth s.frames.items (waiting_slots s)
     (from (body_of funs s.fun) (enter funs (depth - length s.frames.items)) s.pc (current_slots s) (world_of s m taken))
 
--- how many instructions can still come at this place
+-- how many instructions of function `fun` stand from number pc on, since no more of them can still come; 0 past its
+-- end
 abbrev pub room_at : List CodeFun → ℕ → ℕ → ℕ
 room_at funs fun pc = length (body_of funs fun) - pc
 
+-- how many instructions stand in all calls that wait together, each counted from its call instruction on, which is
+-- begun: no more of them can still come
 abbrev pub room_in : List CodeFun → List Frame → ℕ
 room_in funs [] = 0
 room_in funs (frame ∷ frames) = room_at funs frame.fun frame.pc + room_in funs frames
 
--- more than the number of instructions that can still come
+-- more than the number of instructions that can still come in the whole run
 abbrev pub work : List CodeFun → State → ℕ
 work funs s = s.left * 2 ^ 65 + room_in funs s.frames.items + room_at funs s.fun s.pc
 
@@ -77,7 +83,7 @@ abbrev pub held_in : List CodeFun → List Frame → ℕ
 held_in funs [] = 0
 held_in funs (frame ∷ frames) = width_of funs frame.fun + held_in funs frames
 
--- a place in the code, with its slots
+-- a place in the code, with its slots: there is an instruction there, and they are as many as the function has
 pub record IsPlace (funs : List CodeFun) (fun pc : ℕ) (held : List ℕ) : Type 0 where
   pub known : fun < length funs
   pub inside : pc < length (body_of funs fun)
@@ -88,15 +94,18 @@ pub record IsFrame (funs : List CodeFun) (frame : Frame) : Type 0 where
   pub known : frame.fun < length funs
   pub goes_on : frame.pc + 1 < length (body_of funs frame.fun)
 
--- the function that was called first
+-- the function that was called first: that of the outermost call that waits, or the current one where none does
 abbrev pub outermost : List Frame → ℕ → ℕ
 outermost [] fun = fun
 outermost (frame ∷ frames) fun = frame.fun
 
+-- how many words a function returns; 0 where there is no such function
 abbrev pub results_in : Option CodeFun → ℕ
 results_in None = 0
 results_in (Some f) = f.results
 
+-- a state that fits the code: each call stands at an instruction and has its slots on the stack, and there is room
+-- for the results and for the count of switches
 pub record IsSound (funs : List CodeFun) (depth : ℕ) (s : State) : Type 0 where
   pub place : IsPlace funs s.fun s.pc (current_slots s)
   pub frames : All (λ (frame : Frame). IsFrame funs frame) s.frames.items
@@ -107,12 +116,14 @@ pub record IsSound (funs : List CodeFun) (depth : ℕ) (s : State) : Type 0 wher
   -- so the count of switches never overflows
   pub bounded : s.switches + work funs s < 2 ^ 127
 
--- where an instruction leads; one that leaves is still to come
+-- what is still to come after an instruction, by where it leads; one that leaves its function is itself still to come
 abbrev pub flow_to : Instr → Callee → ℕ → Flow → Next → List ℕ → World → Outcome
 flow_to i callee pc (Goes t) next slots w = next t slots w
 flow_to i callee pc (Leaves l) next slots w = act i next callee pc slots w
 flow_to i callee pc (Ends e) next slots w = over e w
 
+-- where an instruction may lead that has number pc in a body of `long` instructions: to a target that fits there, out
+-- of the function, or to an end that is no return
 abbrev pub IsFlow : ℕ → ℕ → Flow → Type 0
 IsFlow long pc (Goes t) = IsTarget long pc t
 IsFlow long pc (Leaves l) = Unit {0}
@@ -135,7 +146,8 @@ abbrev pub IsLeave : Option Instr → Leave → Type 0
 IsLeave o (Calls f froms) = (ds : List ℕ) × (o ≡ Some (Call f ds froms.now))
 IsLeave o (Returns froms) = o ≡ Some (Return froms.now)
 
--- where an instruction leaves, it is told, and no switch is counted
+-- where an instruction leaves its function, just that call or return is told, and no switch is counted; of one that
+-- goes on or ends the run nothing is said
 abbrev pub IsLeft : Instr → Flow → ℕ → ℕ → Type 0
 IsLeft i (Leaves l) old new = (new ≡ old) × IsLeave (Some i) l
 IsLeft i (Goes t) old new = Unit {0}
@@ -148,25 +160,27 @@ pub record Turned (funs : List CodeFun) (depth : ℕ) (s : State) (m : Memory) (
   pub less : work funs s' + count ≤ work funs s
   pub same : (taken : ℕ) → rest_of funs depth s m taken ≡ rest_of funs depth s' m' (taken + count)
 
--- from there so many instructions end the run
+-- from the state s over the memory m, `count` instructions end the run with e, with what the state s' counts, over m'
 abbrev pub Ended : List CodeFun → ℕ → State → Memory → End → State → Memory → ℕ → Type 0
 Ended funs depth s m e s' m' count =
     (taken : ℕ) → rest_of funs depth s m taken ≡ over e (world_of s' m' (taken + count))
 
--- the rest does not trap
+-- what is still to come from a state does not trap, at some number of instructions so far
 abbrev pub IsQuiet : List CodeFun → ℕ → State → Memory → Type 0
 IsQuiet funs depth s m = (taken : ℕ) × IsNotTrapped (rest_of funs depth s m taken).ended
 
--- the instruction there is a call with these numbers
+-- instruction pc of function `fun` calls function f with the words of these slots
 abbrev pub IsCallAt : List CodeFun → ℕ → ℕ → ℕ → List ℕ → Type 0
 IsCallAt funs fun pc f froms = (ds : List ℕ) × (slice_get (body_of funs fun) pc ≡ Some (Call f ds froms))
 
--- so many instructions, which end the run or not
+-- from the state s over m, `count` instructions end the run with the end that is given, or, where none is, lead to s'
+-- over m'
 abbrev pub TurnGives : List CodeFun → ℕ → State → Memory → Option End → State → Memory → ℕ → Type 0
 TurnGives funs depth s m None s' m' count = Turned funs depth s m s' m' count
 TurnGives funs depth s m (Some e) s' m' count = Ended funs depth s m e s' m' count
 
--- so many instructions, up to a call or a return, or to the end of the run
+-- from the state s over m, `count` instructions lead to s' over m', at the call or the return that is told and not
+-- begun, or they end the run
 abbrev pub StretchGives : List CodeFun → ℕ → State → Memory → Result Leave End → State → Memory → ℕ → Type 0
 StretchGives funs depth s m (Ok l) s' m' count =
     Turned funs depth s m s' m' count × IsLeave (slice_get (body_of funs s'.fun) s'.pc) l

@@ -6,7 +6,7 @@ ghost use Rattle.rb_target.specs.Meaning.{alu_of};
 use rb_bits::words::take;
 use rb_target::instr::AluOp;
 
-/// The low bits of a word.
+/// The lowest `bits` bits of a word, as a number.
 pub fn low_bits(word: u64, bits: u8) -> u64
     requires { (1 ≤ bits) × (bits ≤ 64) }
     ensures { result ≡ word % 2 ^ bits }

@@ -14,7 +14,7 @@ use rb_target::instr::Instr;
 use rb_target::outcome::End;
 use std::alloc::{AllocError, Global};
 
-/// The instruction at a place.
+/// Instruction number `pc` of function number `fun`.
 pub fn instr_at<'a>(funs: &'a [CodeFun], fun: usize, pc: usize) -> &'a Instr
     requires known { fun < length funs.now }
     requires inside { pc < length (body_of funs.now fun) }
@@ -34,7 +34,8 @@ fn add_zeros(words: &mut Vec<u64>, zeros: usize)
     }
 }
 
-/// Adds zeros at the end.
+/// Adds zeros at the end. A run begins with them in the slots of its first function that hold no
+/// argument, and in place of its results (`run.rt`).
 ///
 /// # Errors
 ///
@@ -150,8 +151,8 @@ fn put_results(
     }
 }
 
-// The same on the stack, where the slots of the call that ended begin at `top`, and those of the one that
-// waited for it at `base`.
+// Puts the results of a call into the slots of the one that waited for it, on the stack: the slots
+// of the call that ended begin at `top`, and those of the one that waited at `base`.
 fn give_back(
     funs: &[CodeFun],
     frame: &Frame,

@@ -56,7 +56,8 @@ pub fn stretch<'a, M: ByteMemory, L: Ledger>(
     }
 }
 
-/// The same over a stack of words of which the function's slots are those from `base` on. The others stay.
+/// Runs a function from one of its instructions on, as [`stretch`] does, over a stack of words of
+/// which the function's slots are those from `base` on. The words below stay.
 pub fn stretch_above<'a, M: ByteMemory, L: Ledger>(
     funs: &[CodeFun],
     fun: &'a CodeFun,

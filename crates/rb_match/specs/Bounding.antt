@@ -15,7 +15,7 @@ use Rattle.rb_layout.specs.Positions.{layout_of}
 use Rattle.rb_rel.specs.Switches.{depth_of, is_shallow, leaves_in, look_of, mend_of}
 use Rattle.rb_decide.specs.Trees.{match_tree, size}
 
--- a position, and the type there
+-- a position in a value, as the numbers of the fields that lead to it, and the type of what stands there
 pub record Place : Type 0 where
   pub path : List ℕ
   pub ty : Ty
@@ -24,7 +24,8 @@ pub record Place : Type 0 where
 abbrev pub place_below : ℕ → Place → Place
 place_below i p = record { path = i ∷ p.path; ty = p.ty }
 
--- those of subpatterns at the types of their fields, the first of which is field i
+-- the places of subpatterns, the first of which stands in field i: each is taken at the type of its field, and its
+-- places are seen from above the fields
 abbrev pub places_below : List (Ty → List Place) → List Ty → ℕ → List Place
 places_below [] ts i = []
 places_below (p ∷ ps) [] i = []
@@ -37,20 +38,20 @@ places_step types (P.Var at x) t = []
 places_step types (P.Num at n) t = record { path = []; ty = t } ∷ []
 places_step types (P.Con at c ps) t = record { path = []; ty = t } ∷ places_below ps (field_types types c) 0
 
--- where a pattern of this type has a number or a constructor
+-- the places at which a pattern, taken at a type, has a number or a constructor, its own first
 abbrev pub places_in : List DataDecl → Pat → Ty → List Place
 places_in types = fold-Pat (Ty → List Place) (places_step types)
 
--- two places have one position and one type
+-- whether two places have the same position and the same type
 abbrev pub same_place : Place → Place → Bool
 same_place a b = same_path a.path b.path && same_type a.ty b.ty
 
--- each place once
+-- the places of a list, each of them once
 abbrev pub distinct_places : List Place → List Place
 distinct_places [] = []
 distinct_places (p ∷ ps) = p ∷ filter (λ other. not (same_place p other)) (distinct_places ps)
 
--- where some clause has a number or a constructor
+-- the places at which some pattern of a match on values of type t has a number or a constructor, each of them once
 abbrev pub places_of : List DataDecl → Ty → List Pat → List Place
 places_of types t pats = distinct_places (flat_map (λ pat. places_in types pat t) pats)
 
@@ -58,48 +59,52 @@ places_of types t pats = distinct_places (flat_map (λ pat. places_in types pat 
 abbrev pub rounds : List DataDecl → Ty → List Pat → ℕ
 rounds types t pats = if nat_lt 512 (size (match_tree types t pats)) then length pats else 1
 
--- what some looks at the types of places cost together
+-- what one look at each of some places costs together, where `look` says what it costs at a type
 abbrev pub looks_with : (Ty → ℕ) → List Place → ℕ
 looks_with look [] = 0
 looks_with look (p ∷ ps) = look p.ty + looks_with look ps
 
--- what a look at each of some places costs
+-- the switches that a match may spend on one look at each of some places, choosing and binding together
 abbrev pub looks_of : List Layout → List Place → ℕ
 looks_of layouts = looks_with (look_of layouts)
 
--- the switches that a match may cost
+-- the switches that a match on a value of type t with these patterns may cost
 abbrev pub bound_of : List DataDecl → List Layout → Ty → List Pat → ℕ
 bound_of types layouts t pats = rounds types t pats * looks_of layouts (places_of types t pats)
 
 -- Choosing and binding ---------------------------------------------------------------------------
 
--- whether no leaf of the type takes a subvalue apart
+-- whether no leaf of data type t takes a subvalue apart, that is, tells the subvalue's constructor and has its fields
+-- in place of its words
 abbrev pub is_plain : List Layout → ℕ → Bool
 is_plain layouts t = list_all is_shallow (leaves_in (layout_of layouts t))
 
--- rebuilding what the leaf of a value has taken apart
+-- the switches that rebuild what the leaf of a value of this type has taken apart, at most; none for an integer
 abbrev pub rebuilding : List Layout → Ty → ℕ
 rebuilding layouts (Int bits) = 0
 rebuilding layouts (Named t) = if is_plain layouts t then 0 else mend_of layouts t
 
--- the switches of a test: those that find the leaf, and those that rebuild what is saved of it
+-- the switches of a test of a value of this type: those that find the leaf or the number, and those that rebuild what
+-- is saved of it
 abbrev pub choosing_look : List Layout → Ty → ℕ
 choosing_look layouts t = depth_of layouts t + rebuilding layouts t
 
--- the switches that choose a match's clause
+-- the switches that choose the clause of a match on a value of type t, at most
 abbrev pub choosing_bound : List DataDecl → List Layout → Ty → List Pat → ℕ
 choosing_bound types layouts t pats = rounds types t pats * looks_with (choosing_look layouts) (places_of types t pats)
 
--- the switches that bind what stands below a constructor: none where no leaf of its type takes a subvalue apart
+-- the switches that bind what stands below a constructor of this type: those that find the leaf and rebuild what it
+-- took apart; none where no leaf of the type takes a subvalue apart, and none at a number
 abbrev pub binding_look : List Layout → Ty → ℕ
 binding_look layouts (Int bits) = 0
 binding_look layouts (Named t) = if is_plain layouts t then 0 else depth_of layouts (Named t) + mend_of layouts t
 
--- the switches that bind a pattern's variables
+-- the switches that bind the variables of a pattern at a value of type t, at most
 abbrev pub binding_bound : List DataDecl → List Layout → Ty → Pat → ℕ
 binding_bound types layouts t pat = looks_with (binding_look layouts) (places_in types pat t)
 
--- together they cost at most the bound
+-- choosing the clause of a match and binding the variables of any one of its patterns cost together at most the bound
+-- of the match
 abbrev pub BoundIsShared : Type 0
 BoundIsShared =
     (types : List DataDecl) (layouts : List Layout) (t : Ty) (pats : List Pat) (k : ℕ) (pat : Pat)

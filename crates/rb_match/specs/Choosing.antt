@@ -24,20 +24,21 @@ use Rattle.rb_match.specs.Bounding.{binding_bound, choosing_bound}
 
 -- Choosing --------------------------------------------------------------------------------------
 
--- each pattern is typed at the scrutinee's type
+-- each pattern of the list is typed at t, the type of the value that is matched
 abbrev pub PatternsAreTyped : List DataDecl → Ty → List Pat → Type 0
 PatternsAreTyped types t [] = Unit {0}
 PatternsAreTyped types t (p ∷ ps) = PatternIsTyped types t p × PatternsAreTyped types t ps
 
--- the words represent a value of the type that chooses clause k
+-- the words represent, in memory m, a value of type t that chooses clause k of these patterns
 pub record IsChosen (plan : Plan) (t : Ty) (pats : List Pat) (k : ℕ) (ws : List ℕ) (m : Memory) : Type 0 where
   pub clean : Bool
   pub value : Value
   pub represents : Rep plan m clean t value ws
   pub chosen : chosen_clause pats value ≡ Some k
 
--- Run on words of a value, the appended code leaves by a hole of the clause that the value chooses, within the
--- share of the bound that is left to choosing, and keeps all slots that there were.
+-- Run on words of a value, the appended code leaves by a hole (an open target, with the number of a clause) of the
+-- clause that the value chooses, within the share of the bound that is left to choosing, and keeps all slots that
+-- there were.
 abbrev pub Chooses : LaidOut → Ty → List Pat → List ℕ → Sheet → Sheet → List Hole → Type 0
 Chooses agreed t pats words old new holes =
     (plan : Plan) → IsPlanOf agreed plan → PatternsAreTyped plan.program.types t pats

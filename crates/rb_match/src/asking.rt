@@ -27,7 +27,7 @@ use std::alloc::{AllocError, Global};
 
 // Numbers ---------------------------------------------------------------------------------------
 
-// The arm of a switch for one number.
+// The arm of a switch for one number, with its target.
 fn small_arm(number: u64, target: usize) -> SwitchArm
     ensures arm { result ≡ record { number = number; target = target } }
     ensures small { number < 2 ^ 64 }
@@ -35,7 +35,7 @@ fn small_arm(number: u64, target: usize) -> SwitchArm
     SwitchArm { number, target }
 }
 
-// An integer is tested for numbers alone.
+// The arm of a switch for a number, with its target. An integer is tested for numbers alone.
 fn switch_arm(head: Head, target: usize) -> Result<SwitchArm, AllocError>
     ensures arm { IfOk result (λ arm. arm ≡ number_arm target head) }
     ensures number { IfOk result (λ arm. is_number head ≡ true) }
@@ -58,7 +58,7 @@ fn switch_arms(alloc: Global, arms: &[GraphArm], next: usize) -> Result<Seq<Swit
     Ok(found)
 }
 
-// Whether a node asks for more.
+// Whether a node tests a position, so that an edge to it carries what is known; a clause does not.
 fn is_test_at(nodes: &[GraphNode], node: u32) -> bool
     ensures { result ≡ is_test (slice_get nodes.now node) }
 {
@@ -68,7 +68,8 @@ fn is_test_at(nodes: &[GraphNode], node: u32) -> bool
     }
 }
 
-/// A way out at an instruction, to a node.
+/// The edge by a target of an instruction to a node, with what is known there. The target is that
+/// of an arm, or, where there is no arm, a jump's own or a switch's other one.
 ///
 /// # Errors
 ///
@@ -93,7 +94,8 @@ pub fn edge<'a>(
     })
 }
 
-/// The same to a node of a graph: an edge to a clause, of which there are many, carries no facts.
+/// The edge by a target of an instruction, as [`edge`] takes it, to a node of a graph: one to a
+/// clause, of which there are many, carries no facts.
 ///
 /// # Errors
 ///
@@ -117,7 +119,7 @@ pub fn edge_within<'a>(
     }
 }
 
-// The edges of a switch's arms.
+// The edges by the arms of a switch, each to the node of the same arm of a test.
 fn edges_of_arms<'a>(
     alloc: Global,
     nodes: &[GraphNode],
@@ -134,7 +136,7 @@ fn edges_of_arms<'a>(
     Ok(edges)
 }
 
-// The edges of a switch.
+// The edges of a switch: by each arm, and by the other target where a test has a node for it.
 fn edges_of_switch<'a>(
     alloc: Global,
     nodes: &[GraphNode],
@@ -156,7 +158,7 @@ fn edges_of_switch<'a>(
     }
 }
 
-// One switch over all numbers.
+// Code of a test of an integer: one switch over all numbers.
 fn ask_number<'a>(
     alloc: Global,
     body: &mut Body,
@@ -183,14 +185,15 @@ fn ask_number<'a>(
 
 // Constructors ----------------------------------------------------------------------------------
 
-/// The provenance of a leaf.
+/// The provenance of a leaf of a data type; None where there is no such leaf.
 pub fn prov_of<'a>(agreed: &'a Agreed, ty: u32, leaf: usize) -> Option<&'a Pat> {
     let layout = agreed.layouts().get(ty as usize)?;
     let leaf = layout.leaves.get(leaf)?;
     Some(&leaf.prov)
 }
 
-/// The constructor of a leaf's values.
+/// The constructor with which the values of a leaf begin; None where its provenance shows none, or
+/// there is no such leaf.
 pub fn con_of(agreed: &Agreed, ty: u32, leaf: usize) -> Option<u32>
     ensures { result ≡ leaf_con agreed.now ty leaf }
 {
@@ -214,7 +217,7 @@ pub fn count_leaves(agreed: &Agreed, ty: u32) -> usize
     }
 }
 
-/// The node to which a constructor leads.
+/// The node to which a test leads the values of a constructor; None where it leads them to none.
 pub fn link_of(arms: &[GraphArm], other: Option<u32>, con: u32) -> Option<u32>
     ensures { result ≡ take_link arms.now other (Layers.Con con []) }
 {
@@ -316,7 +319,7 @@ fn group_of(
     }
 }
 
-// The groups of the leaves of a type.
+// The groups of the leaves of a type, one for each leaf, in their order.
 fn groups_of(
     alloc: Global,
     agreed: &Agreed,
@@ -382,7 +385,7 @@ fn known_within<'a>(
     }
 }
 
-// The edge of a group.
+// The edge by the hole of a group of leaves to the node to which they lead, if there is one.
 fn leaf_edge<'a>(
     alloc: Global,
     agreed: &Agreed,
@@ -409,7 +412,7 @@ fn leaf_edge<'a>(
     }))
 }
 
-// The edges of groups.
+// The edges by the holes of groups of leaves, each to the node to which its leaves lead.
 fn edges_of_leaves<'a>(
     alloc: Global,
     agreed: &Agreed,
@@ -430,7 +433,8 @@ fn edges_of_leaves<'a>(
     Ok(edges)
 }
 
-// The leaf of the value there decides. Leaves that lead to one node are told apart only where tests need it.
+// Code of a test of a data type: the leaf of the value there decides. Leaves that lead to one node
+// are told apart only where tests need it.
 fn ask_leaf<'a>(
     alloc: Global,
     body: &mut Body,

@@ -49,7 +49,7 @@ fn emit_alone(
     Ok(holes)
 }
 
-/// The holes of a way, by another name.
+/// Those of the holes that have the number of a way, with another number instead.
 ///
 /// # Errors
 ///

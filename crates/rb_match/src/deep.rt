@@ -72,7 +72,8 @@ fn node_from<'a>(
     Ok(end)
 }
 
-// Whether parts below the one that was looked at are needed from a node on.
+// Whether parts below the one that was looked at are needed from a node on; always, without a
+// graph.
 fn saves_at(nodes: &[GraphNode], below: &[bool], node: usize) -> bool {
     nodes.is_empty() || matches!(below.get(node), Some(true))
 }
@@ -89,7 +90,7 @@ fn carried_onward<'a>(
     if saves { known } else { Seq::new(alloc) }
 }
 
-// The way of a leaf behind a look at a position.
+// The way of a leaf behind a look at a position; None where there is no such leaf.
 fn exit_of<'a>(agreed: &'a Agreed, ty: u32, leaf: usize, position: &'a [u32]) -> Option<Exit<'a>> {
     let prov = prov_of(agreed, ty, leaf)?;
     Some(Exit { position, prov })
@@ -125,7 +126,7 @@ fn onward_of<'a>(
     }))
 }
 
-// The same of each leaf.
+// Where the values of each leaf of a type lead on, in the order of the leaves.
 fn onward_all<'a>(
     alloc: Global,
     agreed: &Agreed,
@@ -145,7 +146,9 @@ fn onward_all<'a>(
     Ok(all)
 }
 
-// The group of a leaf.
+// The group of a leaf: the leaf's own number where parts of it are saved, or else, behind those of
+// the `count` leaves, the number of the node to which it leads on, which all such leaves share;
+// None where its values lead nowhere.
 fn group_of_way(
     count: usize,
     leaf: usize,

@@ -60,7 +60,7 @@ pub struct Edge<'a> {
     pub known: Seq<Known<'a>>,
 }
 
-/// An equal list.
+/// An equal list of facts.
 ///
 /// # Errors
 ///
@@ -72,7 +72,7 @@ pub fn copy_known<'a>(alloc: Global, known: &[Known<'a>]) -> Result<Seq<Known<'a
     Ok(Seq::from_vec(facts))
 }
 
-/// The list with one more.
+/// The list of facts with one more: which leaf the part of a data type at a position has.
 ///
 /// # Errors
 ///
@@ -98,7 +98,8 @@ pub fn same_position(a: &[u32], b: &[u32]) -> bool
     a == b
 }
 
-/// What is left of a position behind one that it begins with.
+/// What is left of a position behind one that it begins with; None where it does not begin with
+/// that.
 pub fn position_below<'a>(position: &'a [u32], above: &[u32]) -> Option<&'a [u32]>
     ensures { IfSome result (λ rest. position.now ≡ above.now ++ rest.now) }
 {
@@ -112,7 +113,8 @@ pub fn position_below<'a>(position: &'a [u32], above: &[u32]) -> Option<&'a [u32
     None
 }
 
-// The same of one fact of a list.
+// The leaf of the part of a data type at a position, where the fact at this place of a list says
+// it.
 fn leaf_at(known: &[Known], place: usize, ty: u32, position: &[u32]) -> Option<usize>
     ensures { IfSome result (λ leaf. FollowsLeaf known.now ty position.now leaf) }
 {
@@ -156,7 +158,7 @@ pub fn saved_known(known: &[Known], spot: usize) -> bool
     false
 }
 
-// The same of one fact of a list.
+// Whether the fact at this place of a list says that a spot holds its part.
 fn saved_at(known: &[Known], place: usize, spot: usize) -> bool
     ensures { result ≡ true → FollowsSaved known.now spot }
 {
@@ -169,7 +171,7 @@ fn saved_at(known: &[Known], place: usize, spot: usize) -> bool
     }
 }
 
-// Whether this leaf is known.
+// Whether it is known that the part of a data type at a position has this leaf.
 fn is_leaf_known(known: &[Known], position: &[u32], ty: u32, leaf: usize) -> bool
     ensures { result ≡ true → FollowsLeaf known.now ty position.now leaf }
 {
@@ -237,7 +239,8 @@ fn shared_known<'a>(
     Ok(both)
 }
 
-// What is known behind one more edge.
+// What is known at a node behind one more edge, if that leads there: all that it knows where it is
+// the first to do so, and else what is known by both.
 fn meet<'a>(
     alloc: Global,
     found: Option<Seq<Known<'a>>>,

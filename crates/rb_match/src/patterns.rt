@@ -25,7 +25,7 @@ pub fn are_apart(one: &Pat, other: &Pat) -> bool
     }
 }
 
-// Whether two patterns with the same number are apart.
+// Whether in some place of both lists stand two patterns that are apart.
 #[cycle(comparing)]
 fn are_apart_somewhere(ones: &[Pat], others: &[Pat]) -> bool
     ensures { OnTrue result (HaveApart ones.now others.now) }

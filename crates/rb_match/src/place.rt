@@ -28,7 +28,8 @@ pub struct Begun {
     pub from: usize,
 }
 
-/// The type at an open position of a leaf.
+/// The type at an open position of a leaf, that is, at a wildcard of its provenance; None where the
+/// path leads to no such position.
 pub fn field_of(agreed: &Agreed, ty: u32, leaf: usize, path: &[u32]) -> Option<Ty>
     ensures { IfSome result (λ found. IsFieldOf agreed.now ty leaf path.now found) }
 {
@@ -38,7 +39,7 @@ pub fn field_of(agreed: &Agreed, ty: u32, leaf: usize, path: &[u32]) -> Option<T
     type_at(types, &leaf.prov, path)
 }
 
-// Equal reads.
+// An equal list of reads.
 fn copy_reads(alloc: Global, reads: &[Read]) -> Result<Seq<Read>, AllocError>
     ensures { IfOk result (λ copies. copies ≡ reads.now) }
 {
@@ -49,8 +50,9 @@ fn copy_reads(alloc: Global, reads: &[Read]) -> Result<Seq<Read>, AllocError>
     Ok(copies)
 }
 
-// From a part to its field. Each part above a test has a known leaf, and what a leaf takes apart is saved,
-// so that neither is ever met.
+// From the place of a part to that of its field. Each part above a test has a known leaf, and what
+// a leaf takes apart is saved, so that no part without a known leaf and no field that is taken
+// apart is ever met here.
 fn step_place(
     alloc: Global,
     agreed: &Agreed,

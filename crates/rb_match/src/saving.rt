@@ -113,7 +113,7 @@ fn are_apart(slots: &[usize], others: &[usize]) -> bool
     true
 }
 
-/// The spot of a part at a position.
+/// The number of the spot for a part of this type at a position; None where there is no such spot.
 pub fn spot_at(spots: &[Spot], position: &[u32], ty: Ty) -> Option<usize>
     ensures { IfSome result (λ k. IsSpotAt spots.now position.now ty k) }
 {
@@ -147,7 +147,7 @@ fn save_part(
     Ok(())
 }
 
-// A position further on by a path.
+// The position to which a path leads from another position.
 fn position_at(alloc: Global, position: &[u32], path: &[u32]) -> Result<Seq<u32>, AllocError>
     ensures { IfOk result (λ below. below ≡ position.now ++ path.now) }
 {
@@ -229,7 +229,8 @@ fn save_at<'a>(
     Ok(whole)
 }
 
-// The same of each field of what stands at a path.
+// Saves what is needed of each field of what stands at a path of a part: whole, or field by field
+// where it is opened. A pattern that is no constructor has no fields there.
 #[cycle(saving)]
 fn save_below<'a>(
     alloc: Global,

@@ -85,7 +85,7 @@ pub fn field_below(alloc: Global, position: &[u32], field: u32) -> Result<Seq<u3
     Ok(below)
 }
 
-// Each part once.
+// Adds a part to those that are to be saved, where it is not among them yet.
 fn add_wanted(found: &mut Seq<Wanted>, position: Seq<u32>, ty: Ty) -> Result<(), AllocError> {
     for wanted in found.as_slice() {
         if wanted.ty == ty && same_position(wanted.position.as_slice(), position.as_slice()) {
@@ -96,7 +96,8 @@ fn add_wanted(found: &mut Seq<Wanted>, position: Seq<u32>, ty: Ty) -> Result<(),
     Ok(())
 }
 
-// The parts below a pattern at a position.
+// Adds the parts below a pattern at a position that are to be saved: those at which it looks, or
+// below which it does, directly below a part of a type with a leaf that takes subvalues apart.
 fn add_parts(
     alloc: Global,
     agreed: &Agreed,
@@ -164,7 +165,7 @@ pub struct Whole<'a> {
     pub nodes: &'a [GraphNode],
 }
 
-/// Marks a place of a list.
+/// Marks a place of a list; nothing is marked where the list has no such place.
 pub fn set_at(marks: &mut Seq<bool>, place: usize) {
     if place < marks.len() {
         marks.replace(place, true);

@@ -20,7 +20,7 @@ use rb_layout::layout::Leaf;
 use rb_target::body::Hole;
 use std::alloc::{AllocError, Global};
 
-// What stands in a pattern at a position.
+// What stands in a pattern at a position; None where nothing does.
 fn sub_at<'a>(pat: &'a Pat, position: &[u32]) -> Option<&'a Pat>
     ensures { IfSome result (λ sub. HasSub pat.now position.now sub.now) }
 {
@@ -36,7 +36,7 @@ fn sub_at<'a>(pat: &'a Pat, position: &[u32]) -> Option<&'a Pat>
     }
 }
 
-// The constructor with which a pattern begins.
+// The constructor with which a pattern begins, if it begins with one.
 fn con_of_pat(pat: &Pat) -> Option<ConRef>
     ensures { IfSome result (λ con. BeginsWith pat.now con.con) }
 {
@@ -65,7 +65,7 @@ fn sub_from<'a>(agreed: &'a Agreed, fact: Known, position: &[u32]) -> Option<&'a
     }
 }
 
-// The same of one fact of a list.
+// What the fact at this place of a list tells of the part at a position, if it tells anything.
 fn sub_by<'a>(
     agreed: &'a Agreed,
     known: &[Known],
@@ -116,7 +116,7 @@ fn decided(
     None
 }
 
-// The node behind a test that is decided.
+// The node to which a test leads that what is known decides; None where the node is no such test.
 fn node_behind(
     agreed: &Agreed,
     ty: Ty,
@@ -139,7 +139,7 @@ fn node_behind(
     }
 }
 
-// Whether a node is marked.
+// Whether a node is marked; one that the list does not have is not.
 fn is_marked(marks: &[bool], node: usize) -> bool {
     matches!(marks.get(node), Some(true))
 }
@@ -157,7 +157,7 @@ fn is_wild(pat: &Pat) -> bool
     }
 }
 
-// Whether each pattern does.
+// Whether each of some patterns matches all values.
 fn are_wild(pats: &[Pat]) -> bool
     ensures { result ≡ true → AreWild pats.now }
 {
@@ -399,7 +399,7 @@ fn carried<'a>(
     }
 }
 
-// An edge that leads on.
+// An edge in the place of another, to the node to which what that one knows leads on.
 fn thread_edge<'a>(
     alloc: Global,
     agreed: &Agreed,

@@ -3,13 +3,14 @@ use Rattle.std.specs.Prelude.{◌≡◌, ℕ, Ok, Err}
 use Rattle.rb_names.specs.declared.fault.NameFault.TheVariants.{Memory}
 use Rattle.rb_names.specs.Numbering.{Resolved, Numbered}
 
--- the answer is what numbering gives
+-- a call's answer, first, is what numbering gives, second: the same part or fault; want of memory says nothing of it
 abbrev pub Answers : {A : Type 0} → Resolved A → Resolved A → Type 0
 Answers (Ok a) gives = gives ≡ Ok a
 Answers (Err Memory) gives = Unit {0}
 Answers (Err fault) gives = gives ≡ Err fault
 
--- the answer and the next binder's number are what numbering gives
+-- a call's answer and the next binder's number are what numbering gives, or the answer is the fault that it gives;
+-- want of memory says nothing of it
 abbrev pub AnswersFrom : {A : Type 0} → Resolved A → ℕ → Resolved (Numbered A) → Type 0
 AnswersFrom (Ok a) next gives = gives ≡ Ok (record { what = a; next = next })
 AnswersFrom (Err Memory) next gives = Unit {0}

@@ -12,36 +12,38 @@ use Rattle.rb_names.specs.Definitions.{Kind, OfType, OfConstructor, OfFunction, 
 use Rattle.rb_names.specs.Answers.{Answers}
 use Rattle.rb_names.specs.Programs.{no_twice}
 
+-- whether this name is among these definitions as one of kind k, that is, in the table of that kind
 abbrev pub is_defined : Kind → Name → List Definition → Bool
 is_defined k name before = list_any (λ (d : Definition). same_kind k d.kind && bytes_eq name d.name.text) before
 
--- the table has the names that were defined in it
+-- the table has exactly the names that are among these definitions as ones of kind k
 abbrev pub Knows : {A : Type 0} → Kind → List Definition → Table A → Type 0
 Knows k before table = (name : Name) → is_some (meaning table name) ≡ is_defined k name before
 
--- each table has those of its own
+-- each table, and that of the types with a layout, has exactly the names that were defined in it before
 pub record AreKnown (before : List Definition) (known : Defining) : Type 0 where
   pub types : Knows OfType before known.tables.types
   pub constructors : Knows OfConstructor before known.tables.constructors
   pub functions : Knows OfFunction before known.tables.functions
   pub laid : Knows OfLayout before known.laid
 
--- further definitions define nothing again, and the tables know them too
+-- behind the definitions before, those in more define no name again, and the tables know all of them
 pub record AreAdded (before more : List Definition) (known : Defining) : Type 0 where
   pub all : List Definition
   pub are_known : AreKnown all known
   pub are_new : (rest : List Definition) → first_again before (more ++ rest) ≡ first_again all rest
 
--- the first of further definitions that is made again gives this fault
+-- fault is that the first name of more that was defined before is defined twice; or it is want of memory, which says
+-- nothing
 abbrev pub IsAgain : (before more : List Definition) → NameFault → Type 0
 IsAgain before more fault =
     (rest : List Definition) → Answers {A = Unit {0}} (Err fault) (no_twice (first_again before (more ++ rest)))
 
--- a name that may be defined already
+-- the name, where it is there already, that is, defined in its table before; none where it is new
 abbrev pub made_again : Bool → NameTree → Option NameTree
 made_again there name = if there then Some name else None
 
--- a table of these names
+-- the table has exactly these names, whatever they stand for
 abbrev pub HasNames : {A : Type 0} → Table A → List Name → Type 0
 HasNames table names = (name : Name) → is_some (meaning table name) ≡ list_any (bytes_eq name) names
 

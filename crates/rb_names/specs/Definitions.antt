@@ -12,6 +12,7 @@ use Rattle.rb_syntax.specs.declared.tree.ItemTree.TheVariants as top
 use Rattle.rb_names.specs.declared.tables.Tables.{Tables}
 use Rattle.rb_names.specs.Tables.{Name, Table}
 
+-- the type declarations among items, in the file's order
 abbrev pub types_in : List ItemTree → List TypeTree
 types_in [] = []
 types_in (top.Types t ∷ items) = t ∷ types_in items
@@ -19,6 +20,7 @@ types_in (top.Layouts l ∷ items) = types_in items
 types_in (top.Funs f ∷ items) = types_in items
 types_in (top.Derived name a ∷ items) = types_in items
 
+-- the functions among items, in the file's order
 abbrev pub functions_in : List ItemTree → List FunTree
 functions_in [] = []
 functions_in (top.Types t ∷ items) = functions_in items
@@ -26,28 +28,32 @@ functions_in (top.Layouts l ∷ items) = functions_in items
 functions_in (top.Funs f ∷ items) = f ∷ functions_in items
 functions_in (top.Derived name a ∷ items) = functions_in items
 
--- names with their numbers, the first of which is n
+-- names, each with its number: n for the first, and one more for each next
 abbrev pub numbered_from : ℕ → List Name → Table ℕ
 numbered_from n [] = []
 numbered_from n (x ∷ xs) = (x, n) ∷ numbered_from (suc n) xs
 
--- the constructors of a type, which are numbered in it
+-- the constructors of the type with number ty by their names: each stands for that type and its number in it, where
+-- the first has the number con
 abbrev pub constructors_from : (ty con : ℕ) → List ConTree → Table ConRef
 constructors_from ty con [] = []
 constructors_from ty con (c ∷ cs) = (c.name.text, record { ty = ty; con = con }) ∷ constructors_from ty (suc con) cs
 
--- the constructors of types, the first of which has the number ty
+-- all constructors of types by their names, where the first of the types has the number ty
 abbrev pub constructors_of : (ty : ℕ) → List TypeTree → Table ConRef
 constructors_of ty [] = []
 constructors_of ty (t ∷ ts) = constructors_from ty 0 t.cons ++ constructors_of (suc ty) ts
 
+-- the names of the types that items declare, in the file's order
 abbrev pub type_names : List ItemTree → List Name
 type_names items = map (λ t. t.name.text) (types_in items)
 
+-- the names of the functions among items, in the file's order
 abbrev pub function_names : List ItemTree → List Name
 function_names items = map (λ f. f.name.text) (functions_in items)
 
--- types and functions are numbered in the file's order, and constructors in that of their type
+-- The tables of a file with these items. Types and functions are numbered in the file's order, and constructors in
+-- that of their type.
 abbrev pub tables_of : List ItemTree → Tables
 tables_of items = record {
   types = numbered_from 0 (type_names items);
@@ -64,6 +70,7 @@ pub data Kind : Type 0 where
   OfFunction : Kind
   OfLayout : Kind
 
+-- whether two kinds are the same, so that names of them are defined in the same table
 abbrev pub same_kind : Kind → Kind → Bool
 same_kind OfType OfType = true
 same_kind OfConstructor OfConstructor = true
@@ -76,15 +83,16 @@ pub record Definition : Type 0 where
   pub kind : Kind
   pub name : NameTree
 
--- one name in one table
+-- whether two definitions are of the same name in the same table
 abbrev pub same_definition : Definition → Definition → Bool
 same_definition d e = same_kind d.kind e.kind && bytes_eq d.name.text e.name.text
 
--- a layout belongs to a type; of another name it is none
+-- what a layout of the type with this name defines, written or derived: nothing where no type has the name
 abbrev pub layout_definition : (types : List Name) → NameTree → List Definition
 layout_definition types name =
     if list_any (bytes_eq name.text) types then record { kind = OfLayout; name = name } ∷ [] else []
 
+-- what a constructor of a type declaration defines: its name, among the constructors
 abbrev pub constructor_definition : ConTree → Definition
 constructor_definition c = record { kind = OfConstructor; name = c.name }
 
@@ -95,7 +103,7 @@ definitions types (top.Layouts l) = layout_definition types l.ty
 definitions types (top.Funs f) = record { kind = OfFunction; name = f.name } ∷ []
 definitions types (top.Derived name a) = layout_definition types name
 
--- the first definition that equals one before it
+-- the name of the first definition in after that equals one before it, in before or in after; none if there is none
 abbrev pub first_again : (before after : List Definition) → Option NameTree
 first_again before [] = None
 first_again before (d ∷ ds) =

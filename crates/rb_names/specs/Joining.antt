@@ -1,14 +1,18 @@
--- Parts that were numbered, in front of what is found of the rest.
+-- Parts that were numbered, in front of what is found of the rest, as in a loop that has gone through some of a list.
 use Rattle.std.specs.Prelude.{List, ◌++◌, Ok}
 use Rattle.rb_names.specs.declared.items.Items.{Items}
 use Rattle.rb_names.specs.Numbering.{Resolved, Numbered, and_then, numbered_as}
 
+-- the parts xs with those of the rest behind them; the rest's fault, if it has one
 abbrev pub behind : {A : Type 0} → List A → Resolved (List A) → Resolved (List A)
 behind xs rest = and_then rest (λ ys. Ok (xs ++ ys))
 
+-- the parts xs with those of the rest behind them, and the number of the next binder behind all of them; the
+-- rest's fault, if it has one
 abbrev pub behind_in_turn : {A : Type 0} → List A → Resolved (Numbered (List A)) → Resolved (Numbered (List A))
 behind_in_turn xs rest = and_then rest (λ ys. numbered_as (xs ++ ys.what) ys.next)
 
+-- the items xs with those of the rest behind them, kind by kind; the rest's fault, if it has one
 abbrev pub behind_items : Items → Resolved Items → Resolved Items
 behind_items xs rest = and_then rest (λ ys.
     Ok (record {

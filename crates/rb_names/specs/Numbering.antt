@@ -1,5 +1,6 @@
 -- Numbering: the tree with each name's number in its place, or the first name that stands for nothing. Each form has
--- one equation, and its parts are numbered in the order in which they are written.
+-- one equation, and its parts are numbered in the order in which they are written. A binder gives a variable its
+-- number: variables of one name in a pattern are one, as are those in a parameter list; a `let` is one by itself.
 use Rattle.std.specs.Prelude.{ℕ, suc, ◌+◌, List, [], ◌∷◌, map, length, Option, Some, None, Result, Ok, Err}
 use Rattle.rb_core.specs.declared.types.Ty.{Ty}
 use Rattle.rb_core.specs.declared.types.Ty.TheVariants as core_ty
@@ -44,40 +45,44 @@ use Rattle.rb_names.specs.declared.tables.Tables.{Tables}
 use Rattle.rb_names.specs.Tables.{meaning}
 use Rattle.rb_names.specs.Scopes.{Scope, inside, binders_of, param_binders}
 
--- what is found, or the first fault
+-- what is found of a file or of a part of it, or else the first fault of a name in it
 abbrev pub Resolved : Type 0 → Type 0
 Resolved A = Result A NameFault
 
--- goes on with what was found
+-- goes on with what was found; a fault stays the fault, and nothing behind it is looked at
 abbrev pub and_then : {A B : Type 0} → Resolved A → (A → Resolved B) → Resolved B
 and_then (Ok a) go = go a
 and_then (Err fault) go = Err fault
 
--- each of them, or the first fault
+-- all parts of a list, in their order, or the first fault among them
 abbrev pub all_of : {A : Type 0} → List (Resolved A) → Resolved (List A)
 all_of [] = Ok []
 all_of (r ∷ rs) = and_then r (λ x. and_then (all_of rs) (λ xs. Ok (x ∷ xs)))
 
--- what a name stands for, if it stands for something
+-- what a name was found to stand for; where nothing was found, the fault that it is unknown at its place
 abbrev pub known : {A : Type 0} → NameTree → Option A → Resolved A
 known name None = Err (Unknown name.text name.at)
 known name (Some a) = Ok a
 
 -- Types and patterns ------------------------------------------------------------------------
 
+-- a written type: an integer type as it is, a data type by its number in the tables, or the fault of its name
 abbrev pub numbered_type : Tables → TyTree → Resolved Ty
 numbered_type t (ty.Int bits) = Ok (core_ty.Int bits)
 numbered_type t (ty.Named name) = and_then (known name (meaning t.types name.text)) (λ n. Ok (core_ty.Named n))
 
+-- a declared constructor under its name, with the types of its fields numbered, in their order
 abbrev pub numbered_constructor : Tables → ConTree → Resolved Con
 numbered_constructor t c =
     and_then (all_of (map (numbered_type t) c.fields)) (λ fields. Ok (record { name = c.name.text; fields = fields }))
 
+-- a type declaration under its name, with its constructors numbered, in their order
 abbrev pub numbered_data : Tables → TypeTree → Resolved DataDecl
 numbered_data t d =
     and_then (all_of (map (numbered_constructor t) d.cons)) (λ cons. Ok (record { name = d.name.text; cons = cons }))
 
--- a pattern within its own variables' scope
+-- a pattern of one form, made of its fields as they were numbered: its constructor is looked up in the tables, its
+-- variable in the scope, which is that inside the whole pattern's own binders
 abbrev pub pattern_step : Tables → Scope → PatTree-F (Resolved Pat) → Resolved Pat
 pattern_step t scope (pat.Wild at) = Ok (core_pat.Wild at)
 pattern_step t scope (pat.Var at name) = and_then (known name (meaning scope name.text)) (λ x. Ok (core_pat.Var at x))
@@ -86,6 +91,7 @@ pattern_step t scope (pat.Con at name ps) =
     and_then (known name (meaning t.constructors name.text))
     (λ c. and_then (all_of ps) (λ qs. Ok (core_pat.Con at c qs)))
 
+-- a pattern with its constructors' numbers from the tables and its variables' from the scope
 abbrev pub numbered_pattern : Tables → Scope → PatTree → Resolved Pat
 numbered_pattern t scope = fold-PatTree (Resolved Pat) (pattern_step t scope)
 
@@ -96,26 +102,29 @@ pub record Numbered (A : Type 0) : Type 0 where
   pub what : A
   pub next : ℕ
 
--- within a scope, where the next binder has this number
+-- how a part is numbered within a scope, where the next binder has this number
 abbrev pub Numbering : Type 0 → Type 0
 Numbering A = Scope → ℕ → Resolved (Numbered A)
 
+-- that a part is numbered as x without a fault, and next is the number of the next binder behind it
 abbrev pub numbered_as : {A : Type 0} → A → ℕ → Resolved (Numbered A)
 numbered_as x next = Ok (record { what = x; next = next })
 
--- parts within one scope, one after the other
+-- parts numbered from left to right within one scope: the binders of each get the numbers next to those before it
 abbrev pub in_turn : {A : Type 0} → List (Numbering A) → Numbering (List A)
 in_turn [] scope next = numbered_as [] next
 in_turn (p ∷ ps) scope next =
     and_then (p scope next) (λ x. and_then (in_turn ps scope x.next) (λ xs. numbered_as (x.what ∷ xs.what) xs.next))
 
--- a clause's body stands inside the variables of its pattern
+-- a clause, where it is known how its body is numbered: inside its pattern's variables, which get the next numbers
 abbrev pub clause_step : Tables → ClauseTree-F (Numbering Expr) (Numbering Clause) → Numbering Clause
 clause_step t c scope next =
     let inner = inside (binders_of c.pat) next scope in
     and_then (numbered_pattern t inner c.pat) (λ p. and_then (c.body inner (next + length (binders_of c.pat))) (λ e.
     numbered_as (record { pat = p; body = e.what }) e.next))
 
+-- An expression of one form, where it is known how its parts are numbered. The variable of a `let` gets its number
+-- before those inside the bound expression, but is in scope in the body alone.
 abbrev pub expr_step : Tables → ExprTree-F (Numbering Expr) (Numbering Clause) → Numbering Expr
 expr_step t (expr.Num at n) scope next = numbered_as (core.Num at n) next
 expr_step t (expr.Var at name) scope next =
@@ -137,20 +146,23 @@ expr_step t (expr.Match at e cs) scope next =
     and_then (e scope next) (λ x. and_then (in_turn cs scope x.next)
     (λ ds. numbered_as (core.Match at x.what ds.what) ds.next))
 
+-- how an expression is numbered, with its types, functions and constructors by the tables
 abbrev pub numbered_expression : Tables → ExprTree → Numbering Expr
 numbered_expression t = fold-ExprTree (Numbering Expr) (Numbering Clause) (expr_step t) (clause_step t)
 
+-- how a clause of a `match` is numbered, its pattern and then its body
 abbrev pub numbered_clause : Tables → ClauseTree → Numbering Clause
 numbered_clause t = fold-ClauseTree (Numbering Expr) (Numbering Clause) (expr_step t) (clause_step t)
 
 -- Functions and layouts ---------------------------------------------------------------------
 
+-- a parameter, with its type numbered and its variable's number from the scope of all parameters
 abbrev pub numbered_param : Tables → Scope → ParamTree → Resolved Param
 numbered_param t scope p =
     and_then (numbered_type t p.ty) (λ u. and_then (known p.var (meaning scope p.var.text))
     (λ x. Ok (record { at = p.at; var = x; ty = u })))
 
--- a function's parameters are its first binders
+-- a function: its parameters are its first binders, from number 0 on, and are the scope of its body
 abbrev pub numbered_function : Tables → FunTree → Resolved Fun
 numbered_function t f =
     let scope = inside (param_binders f.params) 0 [] in
@@ -158,25 +170,31 @@ numbered_function t f =
     and_then (numbered_expression t f.body scope (length (param_binders f.params))) (λ e.
     Ok (record { name = f.name.text; params = ps; result = u; body = e.what }))))
 
+-- the tree below the `else` of a split as it was numbered, or its fault; none where there is no `else`
 abbrev pub numbered_else : Option (Resolved LayTree) → Resolved (Option LayTree)
 numbered_else None = Ok None
 numbered_else (Some r) = and_then r (λ t. Ok (Some t))
 
--- a provenance has no variables
+-- a layout's tree of one form, made of its arms and `else` as they were numbered; the scope of a leaf's provenance is
+-- empty, since a provenance has no variables
 abbrev pub split_step : Tables → SplitTree-F (Resolved LayTree) (Resolved Arm) → Resolved LayTree
 split_step t (split.Split loc arms other) =
     and_then (all_of arms) (λ xs. and_then (numbered_else other) (λ o. Ok (core_tree.Split loc xs o)))
 split_step t (split.Leaf at prov items) = and_then (numbered_pattern t [] prov) (λ p. Ok (core_tree.Leaf at p items))
 
+-- an arm of a split, made of the tree below it as it was numbered; its literal stays
 abbrev pub arm_step : ArmTree-F (Resolved LayTree) (Resolved Arm) → Resolved Arm
 arm_step a = and_then a.under (λ u. Ok (record { literal = a.literal; under = u }))
 
+-- a layout's tree of splits, with its leaves' provenances numbered
 abbrev pub numbered_split : Tables → SplitTree → Resolved LayTree
 numbered_split t = fold-SplitTree (Resolved LayTree) (Resolved Arm) (split_step t) arm_step
 
+-- an arm of a split in a layout, with the provenances in the tree below it numbered
 abbrev pub numbered_arm : Tables → ArmTree → Resolved Arm
 numbered_arm t = fold-ArmTree (Resolved LayTree) (Resolved Arm) (split_step t) arm_step
 
+-- a written layout, with its type's number and its tree numbered
 abbrev pub numbered_layout : Tables → LayoutTree → Resolved LayoutDecl
 numbered_layout t l =
     and_then (known l.ty (meaning t.types l.ty.text)) (λ n. and_then (numbered_split t l.tree) (λ tree.

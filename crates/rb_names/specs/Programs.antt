@@ -15,13 +15,15 @@ use Rattle.rb_names.specs.Tables.{meaning}
 use Rattle.rb_names.specs.Definitions.{tables_of, defined_twice}
 use Rattle.rb_names.specs.Numbering.{Resolved, and_then, known, numbered_data, numbered_layout, numbered_function}
 
--- one more item in front
+-- these items with one more type in front of their types
 abbrev pub with_type : DataDecl → Items → Items
 with_type d rest = record { types = d ∷ rest.types; layouts = rest.layouts; functions = rest.functions }
 
+-- these items with one more layout in front of their layouts
 abbrev pub with_layout : LayoutDecl → Items → Items
 with_layout l rest = record { types = rest.types; layouts = l ∷ rest.layouts; functions = rest.functions }
 
+-- these items with one more function in front of their functions
 abbrev pub with_function : Fun → Items → Items
 with_function f rest = record { types = rest.types; layouts = rest.layouts; functions = f ∷ rest.functions }
 
@@ -37,15 +39,18 @@ numbered_items t (top.Funs f ∷ items) =
 numbered_items t (top.Derived name a ∷ items) =
     and_then (known name (meaning t.types name.text)) (λ n. numbered_items t items)
 
+-- the fault that this name is defined twice; no fault where there is no such name
 abbrev pub no_twice : Option NameTree → Resolved (Unit {0})
 no_twice None = Ok tt
 no_twice (Some name) = Err (Twice name.text name.at)
 
+-- the number of the function `main`, or the fault that there is none
 abbrev pub main_number : Option ℕ → Resolved ℕ
 main_number None = Err NoMain
 main_number (Some n) = Ok n
 
--- First a name that is defined twice is looked for, then one that stands for nothing, then `main`.
+-- The program of a file's tree, or its first fault: first a name that is defined twice is looked for, then one that
+-- stands for nothing, then `main`.
 abbrev pub numbered : FileTree → Resolved Program
 numbered file =
     let t = tables_of file.items in

@@ -23,12 +23,16 @@ AreNamed (tok.Reserved w ∷ ts) = AreNamed ts
 AreNamed (tok.Uint bits ∷ ts) = AreNamed ts
 AreNamed (tok.Symbol s ∷ ts) = AreNamed ts
 
+-- whether a constructor has no more fields than the limit allows
 abbrev pub con_is_counted : ConTree → Bool
 con_is_counted c = nat_le (length c.fields) most_fields
 
+-- whether a type has no more constructors, and none of them more fields, than the limits allow
 abbrev pub type_is_counted : TypeTree → Bool
 type_is_counted d = nat_le (length d.cons) most_constructors && list_all con_is_counted d.cons
 
+-- whether no count in an item is over its limit: constructors and fields of a type, words of a layout's shape,
+-- parameters of a function; a layout that is left to the compiler has no count
 abbrev pub item_is_counted : ItemTree → Bool
 item_is_counted (top.Types d) = type_is_counted d
 item_is_counted (top.Layouts l) = nat_le (length l.shape) most_words

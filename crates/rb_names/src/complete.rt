@@ -40,7 +40,7 @@ pub fn complete(alloc: Global, tree: &FileTree, program: Program) -> Result<Comp
     with_derived(program, derived)
 }
 
-// The program with these layouts behind its own.
+// The program with the derived layouts behind its own, and the refusal that was kept.
 fn with_derived(program: Program, derived: Derived) -> Result<Completed, AllocError>
     ensures { IfOk result (IsWith program derived) }
 {

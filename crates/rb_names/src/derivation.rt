@@ -21,7 +21,7 @@ pub struct Derived {
 }
 
 impl Derived {
-    // Keeps the refusal, if it is the first.
+    // Keeps the refusal, if it is the first: a later one is dropped.
     fn refuse(&mut self, refusal: AutoFault)
         ensures layouts { self.new.layouts ≡ self.old.layouts }
         ensures refused { self.new.refused ≡ first_of self.old.refused (Some refusal) }
@@ -57,7 +57,8 @@ pub fn derive_all(
     Ok(derived)
 }
 
-// What is derived for one more type.
+// Derives the layout of one more type: it goes behind the others, or its refusal is kept, if it is
+// the first.
 fn derive_next(
     alloc: Global,
     program: &Program,

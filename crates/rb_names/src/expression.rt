@@ -17,7 +17,8 @@ use rb_core::seq::Seq;
 use rb_syntax::tree::{ClauseTree, ExprTree};
 use std::alloc::Global;
 
-/// An expression within a scope, where `next` is the number of the next binder.
+/// The expression of a tree within a scope, with numbers for its names. `next` is the number of the
+/// next binder, before the expression and then behind it.
 ///
 /// # Errors
 ///

@@ -44,7 +44,8 @@ impl<T: Drop> From<AllocFailed<T>> for NameFault {
     }
 }
 
-/// What the name stands for, where it was found.
+/// What the name stands for, where it was found; else the fault that it is unknown, or want of
+/// memory.
 pub(crate) fn known<T: Copy>(
     alloc: Global,
     name: &NameTree,

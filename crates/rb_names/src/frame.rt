@@ -18,7 +18,7 @@ pub struct Frame<'a> {
 }
 
 impl<'a> Frame<'a> {
-    /// Nothing is bound so far.
+    /// A frame in which nothing is bound so far, where `next` is the number of its first binder.
     pub fn new(alloc: Global, next: u32) -> Self
         ensures { result ≡ record { binders = []; next = next } }
     {

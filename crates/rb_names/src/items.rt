@@ -46,7 +46,8 @@ pub fn number_items(alloc: Global, tables: &Tables, trees: &[ItemTree]) -> Resul
     Ok(items)
 }
 
-// Adds one more item behind the others.
+// Adds what one more item stands for behind those of its kind. A layout that is left to the
+// compiler adds nothing yet, but its type has to be there.
 fn number_item(
     alloc: Global,
     tables: &Tables,

@@ -15,7 +15,8 @@ use rb_core::types::Auto;
 use rb_syntax::tree::{FileTree, ItemTree};
 use std::alloc::{AllocError, Global};
 
-/// For each type which layout is derived, if any.
+/// For each type of a file, in the order of their numbers, the kind of layout that is derived for
+/// it, if any.
 ///
 /// # Errors
 ///
@@ -28,7 +29,8 @@ pub fn kinds_of(alloc: Global, tree: &FileTree) -> Result<Seq<Option<Auto>>, All
     kinds_by(alloc, &left, items)
 }
 
-// For each type which layout is derived, by a table of those that are.
+// For each type among items, the kind of layout that is derived for it, if any, by a table of the
+// types that have one derived.
 fn kinds_by(
     alloc: Global,
     left: &Table<Auto>,
@@ -43,7 +45,7 @@ fn kinds_by(
     Ok(kinds)
 }
 
-// The kind of the item, if it is a type.
+// Where the item is a type, adds the kind of layout that is derived for it, or that there is none.
 fn add_kind(
     left: &Table<Auto>,
     item: &ItemTree,
@@ -68,7 +70,8 @@ fn left_in<'a>(alloc: Global, items: &'a [ItemTree]) -> Result<Table<'a, Auto>, 
     Ok(left)
 }
 
-// The type of the item, if its layout is left to the compiler.
+// Adds the type whose layout the item leaves to the compiler, if it does, unless it is there
+// already.
 fn add_left<'a>(left: &mut Table<'a, Auto>, item: &'a ItemTree) -> Result<(), AllocError>
     ensures { OnOk result ((rest : List Tree)
         → MeanTheSame (left.new ++ spec.left_in rest) (left.old ++ spec.left_in (item.now ∷ rest))) }
@@ -102,7 +105,8 @@ pub fn left_types(alloc: Global, tree: &FileTree) -> Result<Seq<u32>, AllocError
     Ok(numbers)
 }
 
-// The number of the item's type, if its layout is left to the compiler.
+// Adds the number of the type whose layout the item leaves to the compiler, if it does and there is
+// such a type.
 fn add_number(types: &Table<u32>, item: &ItemTree, numbers: &mut Seq<u32>) -> Result<(), AllocError>
     ensures { OnOk result (numbers.new ≡ numbers.old ++ numbers_of types.now (spec.left_in (item.now ∷ []))) }
 {

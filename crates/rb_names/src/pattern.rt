@@ -59,7 +59,7 @@ fn bind_names<'a>(frame: &mut Frame<'a>, tree: &'a PatTree) -> Result<(), NameFa
     }
 }
 
-// The variables of several patterns, from left to right.
+// Binds the names of the variables in several patterns, from left to right, each once.
 #[cycle(binding)]
 fn bind_all_names<'a>(frame: &mut Frame<'a>, trees: &'a [PatTree]) -> Result<(), NameFault>
     ensures ok { OnOk result (frame.new ≡ with_binders frame.old (flat_map names_in trees.now)) }

@@ -37,7 +37,7 @@ impl<'a> Scope<'a> {
         }
     }
 
-    /// The number of the innermost binder of a name.
+    /// The number of the innermost binder of a name; none where the name isn't bound.
     pub fn get(&self, name: &[u8]) -> Option<u32>
         ensures { result ≡ meaning (scope_of self.now) name.now }
     {
@@ -78,7 +78,8 @@ impl<'a> Scope<'a> {
     }
 }
 
-// What the name stands for in the last frame that binds it.
+// What the name stands for in the last frame that binds it, which is the innermost; none where no
+// frame does.
 fn innermost(frames: &[Table<u32>], name: &[u8]) -> Option<u32>
     ensures { result ≡ meaning (scope_of (reverse frames.now)) name.now }
 {

@@ -55,7 +55,7 @@ impl<'a, T: Copy> Table<'a, T> {
         self.by_name.len()
     }
 
-    /// What a name stands for.
+    /// What a name stands for; none where it isn't defined.
     pub fn get(&self, name: &[u8]) -> Option<T>
         ensures { result ≡ meaning self.now name.now }
     {
@@ -73,7 +73,7 @@ impl<'a, T: Copy> Table<'a, T> {
         self.by_name.get(name).copied()
     }
 
-    /// Defines a name, unless it is defined: whether it is new.
+    /// Defines a name, unless it is defined already, and answers whether it was new.
     ///
     /// # Errors
     ///

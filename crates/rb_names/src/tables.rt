@@ -58,7 +58,7 @@ pub fn define_all<'a>(alloc: Global, items: &'a [ItemTree]) -> Result<Tables<'a>
     Ok(known.tables)
 }
 
-// The names of all types of a file: a layout is of one of them.
+// The names of all types of a file: a layout is of one of them, and may stand before it.
 fn type_names<'a>(alloc: Global, items: &'a [ItemTree]) -> Result<Table<'a, u32>, NameFault>
     ensures names { IfOk result (λ t. HasNames t (spec.type_names items.now)) }
     ensures memory { IfErr result (λ e. e ≡ Memory) }
@@ -70,7 +70,7 @@ fn type_names<'a>(alloc: Global, items: &'a [ItemTree]) -> Result<Table<'a, u32>
     Ok(types)
 }
 
-// The name of the item, if it is a type.
+// Adds the name of the item, if it is a type.
 fn add_type_name<'a>(types: &mut Table<'a, u32>, item: &'a ItemTree) -> Result<(), AllocError>
     ensures { OnOk result ((name : Name) → is_some (meaning types.new name)
         ≡ (is_some (meaning types.old name) || list_any (bytes_eq name) (spec.type_names (item.now ∷ [])))) }
@@ -118,7 +118,7 @@ fn define_item<'a>(
     }
 }
 
-// The type and then its constructors.
+// Defines a type and then its constructors.
 fn define_type<'a>(
     alloc: Global,
     tree: &'a TypeTree,
@@ -137,7 +137,7 @@ fn define_type<'a>(
     Ok(())
 }
 
-// The constructors of the type with this number.
+// Defines the constructors of the type with this number, which are numbered in it from 0.
 fn define_constructors<'a>(
     alloc: Global,
     ty: u32,
@@ -161,7 +161,7 @@ fn define_constructors<'a>(
     Ok(())
 }
 
-// A function has the number of functions before it.
+// Defines a function, whose number is how many functions were defined before it.
 fn define_function<'a>(
     alloc: Global,
     name: &'a NameTree,
@@ -181,7 +181,8 @@ fn define_function<'a>(
     Ok(())
 }
 
-// A layout of the type of this name, if there is one.
+// Defines a layout of the type with this name. Where there is no such type nothing is defined,
+// since the name is found unknown later.
 fn define_layout<'a>(
     alloc: Global,
     types: &Table<'a, u32>,
@@ -201,7 +202,7 @@ fn define_layout<'a>(
     Ok(())
 }
 
-// A name that has to be new in its table.
+// Defines a name, which has to be new in its table: else it is refused as defined twice.
 fn define<'a, T: Copy>(
     alloc: Global,
     table: &mut Table<'a, T>,

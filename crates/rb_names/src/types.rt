@@ -11,7 +11,7 @@ use rb_core::types::{Con, DataDecl, Ty};
 use rb_syntax::tree::{ConTree, TyTree, TypeTree};
 use std::alloc::Global;
 
-/// A type with its number.
+/// The type of a tree: an integer type as it is, a data type by its number.
 ///
 /// # Errors
 ///
@@ -40,7 +40,7 @@ fn number_fields(alloc: Global, tables: &Tables, trees: &[TyTree]) -> Result<Seq
     Ok(fields)
 }
 
-// A constructor with the types of its fields.
+// A constructor with its name and the numbered types of its fields.
 fn number_constructor(alloc: Global, tables: &Tables, tree: &ConTree) -> Result<Con, NameFault>
     ensures { Answers result (numbered_constructor tables.now tree.now) }
 {

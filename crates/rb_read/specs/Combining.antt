@@ -12,92 +12,101 @@ pub data Fault : Type 0 where
   stuck : (left : ℕ) → Fault
   deep : (left : ℕ) → Fault
 
--- what is read, and the tokens behind it
+-- what reading gives: a part and the tokens behind it, or why none is read
 abbrev pub Reading : Type 0 → Type 0
 Reading A = Result (A × List Token) Fault
 
+-- a reader of a part, which takes the part from the front of the tokens, or says why none is read there
 abbrev pub Reader : Type 0 → Type 0
 Reader A = List Token → Reading A
 
 infixl 10 ◌>>=◌
+-- goes on with what was read and the tokens behind it; a fault stays
 abbrev pub ◌>>=◌ : {A B : Type 0} → Reading A → (A × List Token → Reading B) → Reading B
 (Ok x) >>= f = f x
 (Err e) >>= f = Err e
 
--- one, and then another
+-- reads one part, and then another behind it
 unfoldable pub pair : {A B : Type 0} → Reader A → Reader B → Reader (A × B)
 pair r s ts = r ts >>= λ x. s x.1 >>= λ y. Ok ((x.0, y.0), y.1)
 
--- what is made of what is read
+-- reads a part, and gives what `make` makes of it
 unfoldable pub into : {A B : Type 0} → (A → B) → Reader A → Reader B
 into make r ts = r ts >>= λ x. Ok (make x.0, x.1)
 
--- no token
+-- takes no token, and never stops
 unfoldable pub nothing : Reader (Unit {0})
 nothing ts = Ok (tt, ts)
 
--- the first token passes a test
+-- whether there is a first token, and it passes a test
 abbrev pub at_front : (Token → Bool) → List Token → Bool
 at_front test [] = false
 at_front test (t ∷ ts) = test t
 
+-- whether there is a first token, and it is symbol `s`
 abbrev pub begins_with : Symbol → List Token → Bool
 begins_with s ts = at_front (λ t. is_symbol s t) ts
 
--- a token that passes a test
+-- takes the first token if it passes a test; else it is stuck there, behind the last where none is left
 unfoldable pub passing : (Token → Bool) → Reader (Unit {0})
 passing test [] = Err (stuck 0)
 passing test (t ∷ ts) = if test t then Ok (tt, ts) else Err (stuck (suc (length ts)))
 
+-- takes symbol `s`; else it is stuck where another token stands, or none
 abbrev pub expect : Symbol → Reader (Unit {0})
 expect s = passing (λ t. is_symbol s t)
 
+-- takes the reserved word `w`; else it is stuck where another token stands, or none
 abbrev pub expect_word : Word → Reader (Unit {0})
 expect_word w = passing (λ t. is_word w t)
 
--- more in front of what is read
+-- what is read of a list, with the parts `xs` in front of it; a fault stays
 abbrev pub with_all : {A : Type 0} → List A → Reading (List A) → Reading (List A)
 with_all xs r = r >>= λ y. Ok (xs ++ y.0, y.1)
 
--- behind a part: a separator and others, which `go` reads, or the symbol that closes them
+-- the parts of a list from part `x` on, over the tokens behind it: a separator and others, which `go` reads, or the
+-- symbol that closes them
 unfoldable pub behind : {A : Type 0} → Symbol → Symbol → Reader (List A) → A → Reader (List A)
 behind separator close go x ts =
     if begins_with separator ts then with_all (x ∷ []) (go (drop 1 ts))
     else (expect close ts >>= λ y. Ok (x ∷ [], y.1))
 
--- one part or more, each but the last with a separator behind it, and then the symbol that closes them
+-- one part or more, each but the last with a separator behind it, and then the symbol that closes them; of so many
+-- parts at most, beyond which it is stuck
 unfoldable pub some_of : {A : Type 0} → Reader A → Symbol → Symbol → ℕ → Reader (List A)
 some_of r separator close zero ts = Err (stuck 0)
 some_of r separator close (suc n) ts =
     r ts >>= λ x. behind separator close (λ us. some_of r separator close n us) x.0 x.1
 
--- there are no more of them than tokens
+-- one part or more with a separator between, and the symbol that closes them; there are no more parts than tokens
 abbrev pub some_closed : {A : Type 0} → Reader A → Symbol → Symbol → Reader (List A)
 some_closed r separator close ts = some_of r separator close (length ts) ts
 
--- any number with commas between, and the symbol that closes them
+-- any number of parts with commas between, and the symbol that closes them
 unfoldable pub any_closed : {A : Type 0} → Reader A → Symbol → Reader (List A)
 any_closed r close ts = if begins_with close ts then Ok ([], drop 1 ts) else some_closed r symbol.Comma close ts
 
--- parts in parentheses, or nothing
+-- one part or more in parentheses with commas between, or nothing where no parenthesis opens
 unfoldable pub in_parens : {A : Type 0} → Reader A → Reader (List A)
 in_parens r ts =
     if begins_with symbol.OpenParen ts then some_closed r symbol.Comma symbol.CloseParen (drop 1 ts) else Ok ([], ts)
 
--- one where the first token passes the test, or nothing
+-- a part where the first token passes the test, or else nothing
 unfoldable pub optional : {A : Type 0} → (Token → Bool) → Reader A → Reader (Option A)
 optional test r ts = if at_front test ts then into (λ x. Some x) r ts else Ok (None, ts)
 
--- one after the other, as long as the first token passes the test
+-- parts one after the other, as long as the first token passes the test, and so many at most
 unfoldable pub many_of : {A : Type 0} → (Token → Bool) → Reader A → ℕ → Reader (List A)
 many_of test r zero ts = Ok ([], ts)
 many_of test r (suc n) ts =
     if at_front test ts then (r ts >>= λ x. with_all (x.0 ∷ []) (many_of test r n x.1)) else Ok ([], ts)
 
+-- parts one after the other, as long as the first token passes the test; there are no more parts than tokens
 abbrev pub each_of : {A : Type 0} → (Token → Bool) → Reader A → Reader (List A)
 each_of test r ts = many_of test r (length ts) ts
 
--- with no level left: a token that begins a node there is too deep
+-- the reader of a node where no level is left, which never reads one: a first token that `begins` a node is too deep,
+-- and at any other, or none, it is stuck
 unfoldable pub beyond : {A : Type 0} → (Token → Bool) → Reader A
 beyond begins [] = Err (stuck 0)
 beyond begins (t ∷ ts) = if begins t then Err (deep (suc (length ts))) else Err (stuck (suc (length ts)))

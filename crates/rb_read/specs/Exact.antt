@@ -13,15 +13,15 @@ use Rattle.rb_read.specs.Combining.{Fault, stuck, Reading}
 abbrev pub IsSpelled : List Token → Type 0
 IsSpelled ts = (file : FileTree) × (spell file ≡ ts) × HaveNoFlaw (file_written file)
 
--- the first tokens of a file
+-- some file begins with these tokens, or is just these
 abbrev pub IsPrefix : List Token → Type 0
 IsPrefix ts = BeginsSome IsSpelled ts
 
--- the first token at which no file goes on, or the count of tokens where they are no whole file
+-- `p` is the first token at which no file goes on, or the count of the tokens where they only begin a file
 abbrev pub StopsAt : List Token → ℕ → Type 0
 StopsAt ts p = StopsAtIn IsSpelled ts p
 
--- The token begins a node one level deeper than is allowed, of a file that begins with the tokens up to it.
+-- Token `p` begins a node one level deeper than is allowed, in some file that begins with the tokens up to it.
 pub record IsTooDeepAt (ts : List Token) (p : ℕ) : Type 0 where
   pub within : p < length ts
   pub more : List Token
@@ -30,19 +30,21 @@ pub record IsTooDeepAt (ts : List Token) (p : ℕ) : Type 0 where
   pub formed : HaveNoFlaw (file_written file)
   pub deep : HasNode (length (take (suc p) ts ++ more)) (suc most_levels) p (file_written file)
 
+-- no token begins a node one level deeper than is allowed, in any file that begins with the tokens up to it
 abbrev pub IsNowhereTooDeep : List Token → Type 0
 IsNowhereTooDeep ts = (p : ℕ) → IsTooDeepAt ts p → ⊥
 
--- the first such token
+-- `p` is the first token that begins a node one level deeper than is allowed
 pub record IsFirstTooDeep (ts : List Token) (p : ℕ) : Type 0 where
   pub too_deep : IsTooDeepAt ts p
   pub is_first : (q : ℕ) → IsTooDeepAt ts q → p ≤ q
 
--- the file of the items that are read, where no token is left
+-- the file of the items that were read; it is stuck where a token is left behind them
 unfoldable pub ended : List ItemTree → List Token → Result FileTree Fault
 ended items [] = Ok (record { items = items })
 ended items (t ∷ ts) = Err (stuck (suc (length ts)))
 
+-- the file of what reading its items gives; it is stuck where a token is left behind them, and a fault stays
 unfoldable pub whole_file : Reading (List ItemTree) → Result FileTree Fault
 whole_file (Ok x) = ended x.0 x.1
 whole_file (Err e) = Err e

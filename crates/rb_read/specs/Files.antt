@@ -10,12 +10,13 @@ use Rattle.rb_read.specs.declared.fault.ReadFault.TheVariants.{TooDeep, Syntax, 
 use Rattle.rb_read.specs.Exact.{StopsAt, IsFirstTooDeep, IsNowhereTooDeep}
 use Rattle.rb_read.specs.Limits.{counted, first_over}
 
--- the tree that they spell, of no more levels than are allowed
+-- `file` is the tree that the tokens spell, of no more levels than are allowed
 pub record IsFile (ts : List Token) (file : FileTree) : Type 0 where
   pub tree : IsTreeOf ts file
   pub within : AreWithin most_levels (file_written file)
 
--- the refusals in their order: depth, syntax, limits
+-- the answer to tokens: their file, whose counts are within the limits, or the refusal that comes first in the order
+-- depth, syntax, limits; never want of memory
 abbrev pub IsAnswer : List Token → Result FileTree ReadFault → Type 0
 IsAnswer ts (Ok file) = IsFile ts file × (first_over file ≡ None)
 IsAnswer ts (Err (TooDeep p)) = IsFirstTooDeep ts p
@@ -23,7 +24,7 @@ IsAnswer ts (Err (Syntax p)) = IsNowhereTooDeep ts × StopsAt ts p
 IsAnswer ts (Err (Limit q n)) = (file : FileTree) × IsFile ts file × (first_over file ≡ Some (counted q n))
 IsAnswer ts (Err Memory) = ⊥
 
--- the answer, or want of memory
+-- the result is the answer to the tokens, or want of memory, which says nothing of them
 abbrev pub Answers : List Token → Result FileTree ReadFault → Type 0
 Answers ts (Err Memory) = Unit {0}
 Answers ts result = IsAnswer ts result

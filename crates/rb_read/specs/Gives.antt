@@ -12,13 +12,14 @@ use Rattle.rb_read.specs.declared.stop.Stop.TheVariants as stop
 use Rattle.rb_read.specs.Combining.{Fault, Reader, stuck, deep}
 use Rattle.rb_read.specs.Reading as reading
 
--- the same fault, or want of memory
+-- why the code stops is the fault that a reader gives, or it is want of memory, which says nothing of the tokens
 abbrev pub Fails : {R : Type 0} → stops.Stop → Result R Fault → Type 0
 Fails (stop.Stuck left) r = r ≡ Err (stuck left)
 Fails (stop.Deep left) r = r ≡ Err (deep left)
 Fails stop.Memory r = Unit {0}
 
--- what `seen` shows of the code's value, the same fault, or want of memory
+-- the code has the result of a reader: a value that `seen` shows as the reader gives it, or the same fault; or it is
+-- want of memory, which says nothing of the tokens
 abbrev pub Gives : {X R : Type 0} → (X → R) → Result X stops.Stop → Result R Fault → Type 0
 Gives seen (Ok x) r = r ≡ Ok (seen x)
 Gives seen (Err e) r = Fails e r
@@ -32,12 +33,13 @@ abbrev pub Reads : {A : Type 0} → Reader A → (Bor (List Placed) → Answer A
 Reads {A} reader may = (placed : Bor (List Placed)) (result : Answer A) → may placed result
     → Gives (λ x. (x.0, tokens x.1.now)) result (reader (tokens placed.now))
 
--- parts of forms that code holds, as readers give them
+-- what stands behind a path in a part, or nothing, as the code holds it, in the form that its reader gives
 abbrev pub seen_end : Option PathEnd → Option reading.PathEnd
 seen_end None = None
 seen_end (Some (path_end.Sliced first bits)) = Some (reading.sliced first bits)
 seen_end (Some (path_end.Numbered j)) = Some (reading.numbered j)
 
+-- a layout behind its type's name, as the code holds it, in the form that its reader gives
 abbrev pub seen_rest : LayoutRest → reading.LayoutRest
 seen_rest (layout_rest.LaidOut shape tree) = reading.laid_out shape tree
 seen_rest (layout_rest.Derived a) = reading.derived a

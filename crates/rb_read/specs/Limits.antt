@@ -12,7 +12,8 @@ use Rattle.rb_read.specs.declared.fault.Quantity.{Quantity}
 use Rattle.rb_read.specs.declared.limits.Count.{Count}
 use Rattle.rb_read.specs.declared.fault.Quantity.TheVariants.{FileBytes, Types, Functions, Constructors, Fields, Parameters, ShapeWords}
 
--- the most of each; of bytes, types and functions in a file, of the others in one item
+-- the most that is allowed of a quantity: of bytes, types and functions in a file, of constructors in a type, of
+-- fields in a constructor, of parameters in a function, of words in a layout's shape
 abbrev pub greatest : Quantity → ℕ
 greatest FileBytes = limits.most_file_bytes
 greatest Types = limits.most_types
@@ -22,41 +23,48 @@ greatest Fields = limits.most_fields
 greatest Parameters = limits.most_parameters
 greatest ShapeWords = limits.most_words
 
+-- the count of a quantity of which there are `n`
 abbrev pub counted : Quantity → ℕ → Count
 counted q n = record { quantity = q; count = n }
 
+-- whether a count is over the limit of its quantity; a count equal to the limit is not
 abbrev pub is_over : Count → Bool
 is_over c = nat_lt (greatest c.quantity) c.count
 
+-- the count of a constructor's fields
 abbrev pub field_count : ConTree → Count
 field_count con = counted Fields (length con.fields)
 
--- a type's constructors, then the fields of each
+-- the counts of a type: its constructors, then the fields of each
 abbrev pub type_counts : TypeTree → List Count
 type_counts t = counted Constructors (length t.cons) ∷ map field_count t.cons
 
+-- the counts of one item that have a limit: those of a type, the words of a layout's shape, or the parameters of a
+-- function; a derived layout has none
 abbrev pub item_counts : ItemTree → List Count
 item_counts (top.Types t) = type_counts t
 item_counts (top.Layouts l) = counted ShapeWords (length l.shape) ∷ []
 item_counts (top.Funs f) = counted Parameters (length f.params) ∷ []
 item_counts (top.Derived name a) = []
 
+-- the types among the items, in their order
 abbrev pub types_in : List ItemTree → List TypeTree
 types_in [] = []
 types_in (top.Types t ∷ items) = t ∷ types_in items
 types_in (_ ∷ items) = types_in items
 
+-- the functions among the items, in their order
 abbrev pub functions_in : List ItemTree → List FunTree
 functions_in [] = []
 functions_in (top.Funs f ∷ items) = f ∷ functions_in items
 functions_in (_ ∷ items) = functions_in items
 
--- the types, the functions, and then item by item as they are written
+-- the counts of a file's items that have a limit: of the types, of the functions, and then item by item as written
 abbrev pub counts : List ItemTree → List Count
 counts items =
     counted Types (length (types_in items)) ∷ counted Functions (length (functions_in items))
     ∷ flat_map item_counts items
 
--- the first count over its limit
+-- the first count of a file that is over its limit, or none
 abbrev pub first_over : FileTree → Option Count
 first_over file = find is_over (counts file.items)

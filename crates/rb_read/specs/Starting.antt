@@ -10,7 +10,7 @@ use Rattle.rb_syntax.specs.declared.token.Token.TheVariants as token
 use Rattle.rb_read.specs.declared.starting.Form.{Form}
 use Rattle.rb_read.specs.declared.starting.Form.TheVariants as form
 
--- each symbol's number, and each word's
+-- a number for each symbol, by which symbols are compared
 abbrev pub symbol_number : Symbol → ℕ
 symbol_number symbol.Equals = 0
 symbol_number symbol.Bar = 1
@@ -31,6 +31,7 @@ symbol_number symbol.Arrow = 15
 symbol_number symbol.FatArrow = 16
 symbol_number symbol.Underscore = 17
 
+-- a number for each reserved word, by which words are compared
 abbrev pub word_number : Word → ℕ
 word_number word.Type = 0
 word_number word.Layout = 1
@@ -54,19 +55,22 @@ word_number word.Eq = 18
 word_number word.Lt = 19
 word_number word.To = 20
 
+-- whether a token is symbol `s`
 abbrev pub is_symbol : Symbol → Token → Bool
 is_symbol s (token.Symbol t) = symbol_number t == symbol_number s
 is_symbol s _ = false
 
+-- whether a token is the reserved word `w`
 abbrev pub is_word : Word → Token → Bool
 is_word w (token.Reserved v) = word_number v == word_number w
 is_word w _ = false
 
+-- whether a token is a number
 abbrev pub is_number : Token → Bool
 is_number (token.Num n) = true
 is_number _ = false
 
--- what a reserved word begins as an expression
+-- what a reserved word begins as an expression, or `Other` where it begins none
 unfoldable pub form_of : Word → Form
 form_of word.Add = form.Operation op.Add
 form_of word.Sub = form.Operation op.Sub

@@ -1,29 +1,31 @@
--- Readers of one token.
+-- Readers of one token. Each is stuck where another token stands, or none.
 use Rattle.std.specs.Prelude.{ℕ, suc, ◌-◌, ◌^◌, ◌∷◌, length, nat_lt, if◌then◌else◌, Ok, Err}
 use Rattle.rb_syntax.specs.declared.token.Token.TheVariants as token
 use Rattle.rb_syntax.specs.declared.tree.NameTree.{NameTree}
 use Rattle.rb_syntax.specs.Spelling.{is_width}
 use Rattle.rb_read.specs.Combining.{Reader, stuck}
 
--- names, with the number of the tokens before them, of total tokens in all
+-- a name that begins with a small letter, with the number of the tokens before it, of `total` tokens in all
 unfoldable pub lower_name : ℕ → Reader NameTree
 lower_name total (token.Lower name ∷ ts) = Ok (record { at = total - suc (length ts); text = name }, ts)
 lower_name total ts = Err (stuck (length ts))
 
+-- a name that begins with a capital, with the number of the tokens before it, of `total` tokens in all
 unfoldable pub upper_name : ℕ → Reader NameTree
 upper_name total (token.Upper name ∷ ts) = Ok (record { at = total - suc (length ts); text = name }, ts)
 upper_name total ts = Err (stuck (length ts))
 
+-- a number
 unfoldable pub number : Reader ℕ
 number (token.Num n ∷ ts) = Ok (n, ts)
 number ts = Err (stuck (length ts))
 
--- a number of a field, of 32 bits
+-- the number of a field, below 2^32; it is stuck at a greater one
 unfoldable pub field : Reader ℕ
 field (token.Num n ∷ ts) = if nat_lt n (2 ^ 32) then Ok (n, ts) else Err (stuck (suc (length ts)))
 field ts = Err (stuck (length ts))
 
--- the width of a type of integers
+-- the width of a type of integers, 1 to 64; it is stuck at another
 unfoldable pub width : Reader ℕ
 width (token.Uint bits ∷ ts) = if is_width bits then Ok (bits, ts) else Err (stuck (suc (length ts)))
 width ts = Err (stuck (length ts))

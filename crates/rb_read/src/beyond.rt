@@ -6,7 +6,8 @@ ghost use Rattle.rb_read.specs.declared.stop.Stop.TheVariants as stops;
 use crate::stop::Stop;
 use rb_syntax::token::Placed;
 
-/// Why nothing is read, where no level is left and the first token `begins` a node or not.
+/// Why nothing is read where no level is left: the first token `begins` a node, which is too deep,
+/// or there is none that does, so that nothing goes on there.
 pub(crate) fn beyond(begins: bool, placed: &[Placed]) -> Stop
     ensures { result ≡ (if begins then stops.Deep (length placed.now) else stops.Stuck (length placed.now)) }
 {

@@ -18,12 +18,13 @@ pub(crate) trait Repeat: Sized {
 
     ghost begins: { Token → Bool };
 
-    /// Reads it, with the tokens behind it.
+    /// Reads one such part from the front, and gives it with the tokens behind it. Of the file
+    /// there are `total` tokens in all, by which places are numbered.
     ///
     /// # Errors
     ///
-    /// `Stuck` at the first token at which no such part goes on, or `Deep` at the first that begins a node
-    /// beyond the levels, whichever stands first; or want of memory.
+    /// `Stuck` at the first token at which no such part goes on, or `Deep` at the first that begins
+    /// a node nested deeper than the limit, whichever stands first; or want of memory.
     fn read(alloc: Global, total: usize, placed: &[Placed]) -> Result<(Self, &[Placed]), Stop>
         requires { total < 2 ^ 32 }
         ensures { Gives (λ x. (x.0, tokens x.1.now)) result (reader total (tokens placed.now)) };
@@ -33,7 +34,7 @@ pub(crate) trait Repeat: Sized {
         ensures { result ≡ combining.at_front begins (tokens placed.now) };
 }
 
-/// Parts one after the other, as long as the first token begins one.
+/// Parts one after the other, as long as the first token begins one, with the tokens behind them.
 ///
 /// # Errors
 ///

@@ -35,7 +35,7 @@ fn begins_expression(placed: &[Placed]) -> bool
     }
 }
 
-// Whether an expression has this form.
+// Whether a form is one of an expression, as all but `Other` are.
 fn is_form(form: Form) -> bool
     ensures { result ≡ reading.is_form form }
 {
@@ -68,7 +68,7 @@ pub fn read_expression<'a>(
     read_expression_node(alloc, levels - 1, total, placed)
 }
 
-// The same, in a box.
+// An expression with so many levels left, in a box, as it stands inside another.
 #[cycle(expressions)]
 fn read_boxed<'a>(
     alloc: Global,
@@ -205,7 +205,7 @@ fn read_fields<'a>(
     )
 }
 
-// An expression behind the reserved word that it begins with.
+// An expression behind the reserved word that it begins with, by the form of that word.
 #[cycle(expressions)]
 #[tactic(auto, unfolding(crate::specs::Reading::from_form))]
 fn read_form<'a>(
@@ -230,7 +230,7 @@ fn read_form<'a>(
     }
 }
 
-// `(a, b)` behind an operator.
+// An operation behind its word: `(a, b)` in `add(a, b)`.
 #[cycle(expressions)]
 #[tactic(auto, unfolding(crate::specs::Reading::operation, crate::specs::Combining::pair, crate::specs::Combining::into))]
 fn read_operation<'a>(
@@ -254,7 +254,7 @@ fn read_operation<'a>(
     Ok((ExprTree::Binary(at, op, first, second), rest))
 }
 
-// `u8(a)` behind `to`.
+// A conversion behind its word: `u8(a)` in `to u8(a)`.
 #[cycle(expressions)]
 #[tactic(auto, unfolding(crate::specs::Reading::conversion, crate::specs::Combining::pair, crate::specs::Combining::into))]
 fn read_conversion<'a>(
@@ -276,7 +276,7 @@ fn read_conversion<'a>(
     Ok((ExprTree::To(at, bits, inner), rest))
 }
 
-// `x: T = a in b` behind `let`.
+// A `let` behind its word: `x: T = a in b`.
 #[cycle(expressions)]
 #[tactic(auto, unfolding(crate::specs::Reading::binding, crate::specs::Combining::pair, crate::specs::Combining::into))]
 fn read_binding<'a>(
@@ -301,7 +301,7 @@ fn read_binding<'a>(
     Ok((ExprTree::Let(at, name, ty, bound, body), rest))
 }
 
-// `a { p => e, q => f }` behind `match`.
+// A match behind its word: `a { p => e, q => f }`.
 #[cycle(expressions)]
 #[tactic(auto, unfolding(crate::specs::Reading::matching, crate::specs::Reading::clause_tree, crate::specs::Combining::pair, crate::specs::Combining::into))]
 fn read_matching<'a>(
@@ -322,8 +322,8 @@ fn read_matching<'a>(
     Ok((ExprTree::Match(at, matched, clauses), rest))
 }
 
-// One clause or more, and the brace behind them. A clause has no number of its own: 0 stands for
-// any.
+// One clause of a match or more, and the brace behind them. A clause keeps no number of a token, so
+// the 0 in the contract stands for any.
 #[cycle(expressions)]
 fn read_clauses<'a>(
     alloc: Global,
@@ -350,7 +350,7 @@ fn read_clauses<'a>(
     )
 }
 
-// `p => e`
+// A clause of a match, `p => e`.
 #[cycle(expressions)]
 #[tactic(auto, unfolding(crate::specs::Reading::clause_tree, crate::specs::Combining::pair, crate::specs::Combining::into))]
 fn read_clause<'a>(

@@ -32,7 +32,7 @@ pub enum LayoutRest {
     Derived(Auto),
 }
 
-// The widths of a shape's words, and the sign that closes it.
+// The widths of the words of a layout's shape, and the `>` that closes it.
 fn read_shape(alloc: Global, placed: &[Placed]) -> Result<(Seq<u64>, &[Placed]), Stop>
     ensures { Gives (λ x. (x.0, tokens x.1.now)) result
         (combining.some_closed number symbol.Comma symbol.Greater (tokens placed.now)) }
@@ -59,7 +59,7 @@ fn read_constructors(
     )
 }
 
-// Any number of parameters, and the parenthesis that closes them.
+// Any number of parameters with commas between, and the parenthesis that closes them.
 fn read_parameters(
     alloc: Global,
     total: usize,
@@ -77,7 +77,7 @@ fn read_parameters(
     )
 }
 
-// `boxed` or `packed`
+// How a layout is derived: the word `boxed` or `packed`.
 #[tactic(auto, unfolding(crate::specs::Reading::auto_word, crate::specs::Reading::auto_from))]
 fn read_auto(placed: &[Placed]) -> Result<(Auto, &[Placed]), Stop>
     ensures { Gives (λ x. (x.0, tokens x.1.now)) result (reading.auto_word (tokens placed.now)) }
@@ -92,7 +92,7 @@ fn read_auto(placed: &[Placed]) -> Result<(Auto, &[Placed]), Stop>
     }
 }
 
-// `boxed;` behind the equals sign.
+// A derived layout behind its equals sign: `boxed;`.
 #[tactic(auto, unfolding(crate::specs::Reading::layout_rest_from, crate::specs::Combining::pair, crate::specs::Combining::into))]
 fn read_derived(placed: &[Placed]) -> Result<(LayoutRest, &[Placed]), Stop>
     ensures { Gives (λ x. (seen_rest x.0, tokens x.1.now)) result
@@ -103,7 +103,7 @@ fn read_derived(placed: &[Placed]) -> Result<(LayoutRest, &[Placed]), Stop>
     Ok((LayoutRest::Derived(auto), rest))
 }
 
-// `64, 64> = ...;` behind the sign that opens a shape.
+// A written layout behind the `<` that opens its shape: `64, 64> = ...;`.
 #[tactic(auto, unfolding(crate::specs::Reading::layout_rest_from, crate::specs::Combining::pair, crate::specs::Combining::into))]
 fn read_laid_out(
     alloc: Global,
@@ -122,7 +122,7 @@ fn read_laid_out(
     Ok((LayoutRest::LaidOut(shape, tree), rest))
 }
 
-// A layout behind its type's name.
+// A layout behind its type's name: `<64> = ...;` or `= boxed;`.
 #[tactic(auto, unfolding(crate::specs::Reading::layout_rest, crate::specs::Reading::layout_rest_from))]
 fn read_layout_rest(
     alloc: Global,
@@ -144,7 +144,7 @@ fn read_layout_rest(
     }
 }
 
-// `T <64> = ...;` or `T = boxed;` behind the word `layout`, whose number is `at`.
+// A layout behind the word `layout`, whose number is `at`: `T <64> = ...;` or `T = boxed;`.
 #[tactic(auto, unfolding(crate::specs::Reading::layout_item, crate::specs::Combining::pair, crate::specs::Combining::into))]
 fn read_layout(
     alloc: Global,
@@ -170,7 +170,7 @@ fn read_layout(
     Ok((item, rest))
 }
 
-// `T = A | B(u8);` behind the word `type`.
+// A type behind the word `type`: `T = A | B(u8);`.
 #[tactic(auto, unfolding(crate::specs::Reading::type_item, crate::specs::Combining::pair, crate::specs::Combining::into))]
 fn read_type_item(
     alloc: Global,
@@ -186,7 +186,7 @@ fn read_type_item(
     Ok((ItemTree::Types(TypeTree { name, cons }), rest))
 }
 
-// `f(x: T): U = e;` behind the word `fun`.
+// A function behind the word `fun`: `f(x: T): U = e;`.
 #[tactic(auto, unfolding(crate::specs::Reading::fun_item, crate::specs::Combining::pair, crate::specs::Combining::into))]
 fn read_fun(
     alloc: Global,
@@ -214,7 +214,7 @@ fn read_fun(
     Ok((ItemTree::Funs(fun), rest))
 }
 
-/// A type, a layout or a function.
+/// An item of a file: a type, a layout or a function.
 impl Repeat for ItemTree {
     ghost reader = { reading.file_item most_levels };
 

@@ -20,7 +20,7 @@ use rb_syntax::token::{Placed, Symbol, Token, Word};
 use rb_syntax::tree::{ArmTree, SplitTree};
 use std::alloc::Global;
 
-// Whether the first token begins a tree.
+// Whether the first token begins a layout's tree.
 fn begins_tree(placed: &[Placed]) -> bool
     ensures { result ≡ combining.at_front (λ t. reading.begins_tree t) (tokens placed.now) }
 {
@@ -60,7 +60,7 @@ fn begins_else(placed: &[Placed]) -> bool
     }
 }
 
-// `Cons(_, _) : { word 64 { [0:64] .0 } }`
+// A leaf, `Cons(_, _) : { word 64 { [0:64] .0 } }`, with so many levels left for what is in it.
 #[tactic(auto, unfolding(crate::specs::Reading::leaf, crate::specs::Combining::pair, crate::specs::Combining::into))]
 fn read_leaf(
     alloc: Global,
@@ -80,7 +80,7 @@ fn read_leaf(
     Ok((SplitTree::Leaf(at, provenance, items), rest))
 }
 
-// `0 => ...` with so many levels left for its tree.
+// An arm of a split, `0 => ...`, with so many levels left for its tree.
 #[cycle(splits)]
 #[tactic(auto, unfolding(crate::specs::Reading::arm_tree, crate::specs::Combining::pair, crate::specs::Combining::into))]
 fn read_arm<'a>(
@@ -99,7 +99,7 @@ fn read_arm<'a>(
     Ok((ArmTree { literal, under }, rest))
 }
 
-// The arms of a split.
+// The arms of a split, as long as the first token is a number; there may be none.
 #[cycle(splits)]
 fn read_arms<'a>(
     alloc: Global,
@@ -125,7 +125,7 @@ fn read_arms<'a>(
     Ok((arms, rest))
 }
 
-// `else => ...`, or nothing.
+// The `else` of a split, `else => ...`, or nothing.
 #[cycle(splits)]
 #[tactic(auto, unfolding(crate::specs::Combining::optional, crate::specs::Reading::else_tree, crate::specs::Combining::pair, crate::specs::Combining::into))]
 fn read_else<'a>(
@@ -149,7 +149,7 @@ fn read_else<'a>(
     Ok((Some(tree), rest))
 }
 
-// `0[0:1] { 0 => ... else => ... }` behind the word `split`.
+// A split behind its word: `0[0:1] { 0 => ... else => ... }`.
 #[cycle(splits)]
 #[tactic(auto, unfolding(crate::specs::Reading::split_rest, crate::specs::Combining::pair, crate::specs::Combining::into))]
 fn read_split<'a>(
@@ -170,7 +170,7 @@ fn read_split<'a>(
     Ok((SplitTree::Split(loc, arms, other), rest))
 }
 
-// A tree whose parts have so many levels left.
+// A layout's tree, a split or a leaf, whose parts have so many levels left.
 #[cycle(splits)]
 #[tactic(auto, unfolding(crate::specs::Reading::tree_by))]
 fn read_tree_node<'a>(

@@ -50,7 +50,8 @@ fn read_path_end(placed: &[Placed]) -> Result<(Option<PathEnd>, &[Placed]), Stop
     }
 }
 
-// The field at a path: all of it, some bits, or one word.
+// What a part holds of the field at a path: all of it where nothing stands behind the path, some
+// bits, or one word.
 fn held(path: Seq<u32>, end: Option<PathEnd>) -> PartKind
     ensures { result ≡ reading.held path (seen_end end) }
 {
@@ -76,7 +77,8 @@ fn read_held(alloc: Global, total: usize, placed: &[Placed]) -> Result<(PartKind
     Ok((kind, rest))
 }
 
-// `8 { inline .1 }` behind the arrow of a pointer part.
+// A pointer part behind its arrow: `8 { inline .1 }`. Where no level is left, the arrow, which was
+// taken already, begins a node too deep.
 #[cycle(leaf)]
 #[tactic(auto, unfolding(crate::specs::Reading::pointed, crate::specs::Reading::no_pointer, crate::specs::Reading::pointer, crate::specs::Combining::pair, crate::specs::Combining::into))]
 fn read_pointed<'a>(
@@ -123,7 +125,7 @@ fn read_part_kind<'a>(
     }
 }
 
-// `[0:8] .0`
+// A part of a word, `[0:8] .0`: its range of bits, and what it holds.
 #[cycle(leaf)]
 #[tactic(auto, unfolding(crate::specs::Reading::part, crate::specs::Combining::pair, crate::specs::Combining::into))]
 fn read_part<'a>(
@@ -140,7 +142,7 @@ fn read_part<'a>(
     Ok((PartDecl { o, l, kind }, rest))
 }
 
-// Any number of parts, and the brace that closes them.
+// Any number of parts of a word with commas between, and the brace that closes them.
 #[cycle(leaf)]
 fn read_parts<'a>(
     alloc: Global,
@@ -163,7 +165,7 @@ fn read_parts<'a>(
     )
 }
 
-// `32 { [0:32] .0 }` behind the word `word`.
+// A word of a leaf or block behind the word `word`: `32 { [0:32] .0 }`, its width and its parts.
 #[cycle(leaf)]
 #[tactic(auto, unfolding(crate::specs::Reading::item_from, crate::specs::Combining::pair, crate::specs::Combining::into))]
 fn read_word<'a>(
@@ -182,7 +184,7 @@ fn read_word<'a>(
     Ok((LayItem::Word(bits, parts), rest))
 }
 
-// A word with its parts, or the words of a field.
+// An item of a leaf or block: a word with its parts, or the words of a field, `inline .1`.
 #[cycle(leaf)]
 #[tactic(auto, unfolding(crate::specs::Reading::item_one, crate::specs::Reading::item_from, crate::specs::Combining::into))]
 fn read_item<'a>(
@@ -207,7 +209,7 @@ fn read_item<'a>(
     }
 }
 
-// Any number of items, and the brace that closes them.
+// Any number of items of a block with commas between, and the brace that closes them.
 #[cycle(leaf)]
 fn read_items<'a>(
     alloc: Global,
@@ -230,7 +232,7 @@ fn read_items<'a>(
     )
 }
 
-/// One item or more, and the brace that closes them.
+/// One item of a leaf or more with commas between, and the brace that closes them.
 ///
 /// # Errors
 ///

@@ -19,7 +19,7 @@ pub struct Count {
     pub count: u64,
 }
 
-/// The greatest number that is allowed.
+/// The greatest number of a quantity that is allowed.
 pub fn greatest(quantity: Quantity) -> u64
     ensures { result ≡ limits.greatest quantity }
 {
@@ -34,7 +34,7 @@ pub fn greatest(quantity: Quantity) -> u64
     }
 }
 
-// The count, where it is over its limit.
+// The count of a quantity, if it is over its limit, which itself is allowed.
 fn over(quantity: Quantity, count: usize) -> Option<Count>
     ensures { result ≡ find limits.is_over (limits.counted quantity count ∷ []) }
 {
@@ -46,7 +46,7 @@ fn over(quantity: Quantity, count: usize) -> Option<Count>
     }
 }
 
-// The first constructor's count of fields that is over its limit.
+// The first count of a constructor's fields that is over its limit.
 fn fields_over(cons: &[ConTree]) -> Option<Count>
     ensures { result ≡ find limits.is_over (map limits.field_count cons.now) }
 {
@@ -58,7 +58,7 @@ fn fields_over(cons: &[ConTree]) -> Option<Count>
     None
 }
 
-// The first count of a type's that is over its limit.
+// The first count of a type that is over its limit: its constructors, then the fields of each.
 fn type_over(ty: &TypeTree) -> Option<Count>
     ensures { result ≡ find limits.is_over (limits.type_counts ty.now) }
 {
@@ -68,7 +68,7 @@ fn type_over(ty: &TypeTree) -> Option<Count>
     fields_over(ty.cons.as_slice())
 }
 
-// The first count of an item's that is over its limit.
+// The first count of one item that is over its limit; a derived layout has none.
 fn item_over(item: &ItemTree) -> Option<Count>
     ensures { result ≡ find limits.is_over (limits.item_counts item.now) }
 {
@@ -80,7 +80,8 @@ fn item_over(item: &ItemTree) -> Option<Count>
     }
 }
 
-// The first count of the items' that is over its limit.
+// The first count within an item that is over its limit, item by item; how many types or functions
+// the items are isn't looked at here.
 fn items_over(items: &[ItemTree]) -> Option<Count>
     ensures { result ≡ find limits.is_over (flat_map limits.item_counts items.now) }
 {
@@ -93,6 +94,7 @@ fn items_over(items: &[ItemTree]) -> Option<Count>
 }
 
 // Whether the item is a type, as a number.
+// It is 1 or 0, so that the types of a file are counted by adding it up.
 fn type_of(item: &ItemTree) -> usize
     ensures number { result ≡ length (limits.types_in (item.now ∷ [])) }
     ensures one { result ≤ 1 }
@@ -104,6 +106,7 @@ fn type_of(item: &ItemTree) -> usize
 }
 
 // Whether the item is a function, as a number.
+// It is 1 or 0, so that the functions of a file are counted by adding it up.
 fn function_of(item: &ItemTree) -> usize
     ensures number { result ≡ length (limits.functions_in (item.now ∷ [])) }
     ensures one { result ≤ 1 }
@@ -114,7 +117,7 @@ fn function_of(item: &ItemTree) -> usize
     }
 }
 
-// The number of types.
+// The number of types among the items.
 fn types_in(items: &[ItemTree]) -> usize
     ensures { result ≡ length (limits.types_in items.now) }
 {
@@ -125,7 +128,7 @@ fn types_in(items: &[ItemTree]) -> usize
     count
 }
 
-// The number of functions.
+// The number of functions among the items.
 fn functions_in(items: &[ItemTree]) -> usize
     ensures { result ≡ length (limits.functions_in items.now) }
 {

@@ -31,7 +31,7 @@ pub fn read_range_rest(placed: &[Placed]) -> Result<((u64, u64), &[Placed]), Sto
     Ok(((first, bits), rest))
 }
 
-/// `[0:8]`
+/// A range of bits, `[0:8]`: its first bit and its length.
 ///
 /// # Errors
 ///
@@ -45,7 +45,7 @@ pub fn read_range(placed: &[Placed]) -> Result<((u64, u64), &[Placed]), Stop>
     Ok((range, rest))
 }
 
-/// `.0`
+/// A field in a path, `.0`.
 impl Repeat for u32 {
     ghost reader = { λ _ ts. reading.field_in ts };
 
@@ -63,7 +63,7 @@ impl Repeat for u32 {
     }
 }
 
-/// A path's fields, the first before the others.
+/// A path's fields: the first, which is read on its own, before the others.
 ///
 /// # Errors
 ///
@@ -76,7 +76,7 @@ pub(crate) fn joined(first: u32, others: Seq<u32>) -> Result<Seq<u32>, AllocErro
     Ok(Seq::from_vec(fields))
 }
 
-/// `.0.1`
+/// A path of fields, one or more: `.0.1`.
 ///
 /// # Errors
 ///
@@ -96,7 +96,7 @@ pub fn read_path(
     Ok((path, rest))
 }
 
-/// `-> 4 @0:8[0:8]`
+/// A step of a location, `-> 4 @0:8[0:8]`: alignment, byte, width, and range of bits.
 impl Repeat for Step {
     ghost reader = { λ _ ts. reading.loc_step ts };
 
@@ -126,7 +126,7 @@ impl Repeat for Step {
     }
 }
 
-/// `0[0:32] -> 4 @0:8[0:8]`
+/// A location, `0[0:32] -> 4 @0:8[0:8]`: a range of bits in a word, and any number of steps.
 ///
 /// # Errors
 ///

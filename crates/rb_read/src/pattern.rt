@@ -84,7 +84,7 @@ fn read_pattern_node<'a>(
     }
 }
 
-// A constructor's pattern, behind its name.
+// A constructor's pattern, behind its name: its subpatterns have so many levels left.
 #[cycle(patterns)]
 #[tactic(auto, unfolding(crate::specs::Combining::into))]
 fn read_constructed<'a>(
@@ -105,7 +105,7 @@ fn read_constructed<'a>(
     Ok((PatTree::Con(at, NameTree { at, text }, parts), rest))
 }
 
-// Patterns in parentheses, or nothing.
+// A constructor's subpatterns in parentheses, or nothing.
 #[cycle(patterns)]
 fn read_subpatterns<'a>(
     alloc: Global,

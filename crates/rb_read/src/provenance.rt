@@ -1,4 +1,5 @@
-//! Reads provenances.
+//! Reads provenances. A provenance is the pattern at the head of a leaf: a constructor, with
+//! constructors and `_` below it.
 
 ghost use Rattle.std.specs.Prelude.{◌≡◌, ◌<◌, ◌^◌};
 ghost use Rattle.rb_syntax.specs.declared.tree.PatTree.TheVariants as pats;
@@ -107,7 +108,8 @@ fn read_below<'a>(
     read_below_node(alloc, levels - 1, total, placed)
 }
 
-// The same, with so many levels left inside.
+// What stands below a provenance's constructor: a constructor with its own parts, which have so
+// many levels left, or `_`.
 #[cycle(below)]
 #[tactic(auto, unfolding(crate::specs::Reading::below_one, crate::specs::Reading::below_from))]
 fn read_below_node<'a>(
@@ -133,7 +135,7 @@ fn read_below_node<'a>(
     }
 }
 
-// A constructor with its parts, behind its name.
+// A constructor in a provenance, behind its name: its parts have so many levels left.
 #[cycle(below)]
 #[tactic(auto, unfolding(crate::specs::Combining::into))]
 fn read_constructed<'a>(

@@ -21,7 +21,7 @@ use rb_syntax::token::Placed;
 use rb_syntax::tree::{FileTree, ItemTree};
 use std::alloc::Global;
 
-// The file of the items, where no token is left.
+// The file of the items that were read; it is stuck where a token is left behind them.
 #[tactic(auto, unfolding(crate::specs::Exact::ended))]
 fn ended(items: Seq<ItemTree>, placed: &[Placed]) -> Result<FileTree, Stop>
     ensures { Gives (λ file. file) result (exact.ended items (tokens placed.now)) }
@@ -45,7 +45,7 @@ fn read_tree(alloc: Global, placed: &[Placed]) -> Result<FileTree, Stop>
     Ok(file)
 }
 
-// The number of the token from which so many are left.
+// The number of the token from which on `left` tokens stand, of `total`; `total` where none does.
 fn place(total: usize, left: usize) -> u32
     requires { total < 2 ^ 32 }
     ensures { result ≡ total - left }

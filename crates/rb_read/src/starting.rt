@@ -15,7 +15,7 @@ pub enum Form {
     Other,
 }
 
-/// What a reserved word begins as an expression.
+/// What a reserved word begins as an expression, or `Other` where it begins none.
 #[tactic(auto, unfolding(crate::specs::Starting::form_of))]
 pub fn form_of(word: Word) -> Form
     ensures { result ≡ starting.form_of word }

@@ -12,7 +12,7 @@ use rb_syntax::token::{Placed, Symbol, Token, Word};
 use rb_syntax::tree::NameTree;
 use std::alloc::Global;
 
-/// The number of the token at which the rest begins.
+/// The number of the token at which the rest begins, of `total` tokens; `total` where none is left.
 pub fn number_of(total: usize, rest: &[Placed]) -> u32
     requires { total < 2 ^ 32 }
     ensures { result ≡ total - length rest.now }
@@ -20,7 +20,7 @@ pub fn number_of(total: usize, rest: &[Placed]) -> u32
     total.saturating_sub(rest.len()) as u32
 }
 
-/// Whether the first token is this symbol.
+/// Whether there is a first token, and it is this symbol.
 pub fn begins_with(symbol: Symbol, placed: &[Placed]) -> bool
     ensures { result ≡ combining.begins_with symbol (tokens placed.now) }
 {
@@ -33,7 +33,7 @@ pub fn begins_with(symbol: Symbol, placed: &[Placed]) -> bool
     }
 }
 
-/// Takes this symbol.
+/// Takes this symbol from the front, and gives the tokens behind it.
 ///
 /// # Errors
 ///
@@ -51,7 +51,7 @@ pub fn expect(symbol: Symbol, placed: &[Placed]) -> Result<&[Placed], Stop>
     }
 }
 
-/// Takes this reserved word.
+/// Takes this reserved word from the front, and gives the tokens behind it.
 ///
 /// # Errors
 ///
@@ -141,7 +141,7 @@ pub fn read_number(placed: &[Placed]) -> Result<(u64, &[Placed]), Stop>
     }
 }
 
-/// The number of a field.
+/// The number of a field, below 2^32.
 ///
 /// # Errors
 ///
@@ -159,11 +159,11 @@ pub fn read_field(placed: &[Placed]) -> Result<(u32, &[Placed]), Stop>
     }
 }
 
-/// The width of a type of integers.
+/// The width of a type of integers, 1 to 64.
 ///
 /// # Errors
 ///
-/// `Stuck` where another token stands there, or none.
+/// `Stuck` where another token stands there, or none, or another width.
 #[tactic(auto, unfolding(crate::specs::Tokens::width))]
 pub fn read_width(placed: &[Placed]) -> Result<(u8, &[Placed]), Stop>
     ensures { Gives (λ x. (x.0, tokens x.1.now)) result (reading.width (tokens placed.now)) }

@@ -14,7 +14,7 @@ use rb_syntax::token::{Placed, Symbol, Token};
 use rb_syntax::tree::{ConTree, NameTree, ParamTree, TyTree};
 use std::alloc::Global;
 
-/// `u8` or `T`
+/// A type, `u8` or `T`.
 ///
 /// # Errors
 ///
@@ -55,7 +55,7 @@ fn read_fields(
     read_in_parens(alloc, |rest| read_type(alloc, total, rest), placed)
 }
 
-/// `A` or `B(u8, T)`
+/// A constructor of a type, `A` or `B(u8, T)`.
 ///
 /// # Errors
 ///
@@ -74,7 +74,7 @@ pub fn read_constructor(
     Ok((ConTree { name, fields }, rest))
 }
 
-/// `x: T`
+/// A parameter of a function, `x: T`.
 ///
 /// # Errors
 ///

@@ -18,7 +18,7 @@ use Rattle.rb_coding.specs.Encoding.{StandApart}
 use Rattle.rb_compile.specs.Plans.{plan_of}
 use Rattle.rb_compile.specs.Refining.{EndsAs}
 
--- what makes the arguments of `main`, one after the other
+-- the constructions that make the arguments of `main`, one argument after the other
 abbrev pub making_arguments : Program → List Value → List Event
 making_arguments p args = all_makings p.types args (param_types p.funs p.main)
 
@@ -32,7 +32,8 @@ laid_call agreed args calls m =
 abbrev pub end_over : End → Memory → Outcome
 end_over end m = over end (record { left = 0; memory = m; switches = 0; taken = 0 })
 
--- where the blocks of the arguments end up
+-- the blocks that the arguments of `main` ask for, laid in a memory: where they end up, or the first that does not
+-- fit
 abbrev pub laid_arguments : LaidOut → List Value → Memory → Laid
 laid_arguments agreed args m =
     lay m.limit m.next (requests_of agreed.layouts (making_arguments agreed.covered.program args))
@@ -72,6 +73,6 @@ abbrev pub IsCounted : LaidOut → List CodeFun → List Value → ℕ → Memor
 IsCounted agreed code args calls old steps switches =
     CountsAs agreed code args calls old (laid_arguments agreed args old) steps switches
 
--- some call of `main` ended so
+-- the end, over this memory, is that of some call of `main`, on some arguments and from some memory
 abbrev pub IsEndOf : LaidOut → End → Memory → Type 0
 IsEndOf agreed end new = (args : List Value) × (calls : ℕ) × (old : Memory) × IsCalled agreed args calls old end new

@@ -7,7 +7,7 @@ use Rattle.rb_target.specs.declared.outcome.End.{End}
 use Rattle.rb_target.specs.declared.outcome.End.TheVariants.{Returned, Spent, Full, Trapped}
 use Rattle.rb_run.specs.declared.count.Tally.{Tally}
 
--- how many calls an end leaves
+-- how many calls a run leaves that ends so; 0 where it does not return
 abbrev pub left_at : End → ℕ
 left_at (Returned words left) = left
 left_at Spent = 0

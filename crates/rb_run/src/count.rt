@@ -81,7 +81,7 @@ pub fn count_main<L: Ledger>(
     Ok(Counted { answer, tally })
 }
 
-// How many calls were left.
+// How many calls the end of a run leaves; 0 where the run does not return.
 fn calls_left(end: &End) -> u64
     ensures { result ≡ left_at end.now }
 {

@@ -1,4 +1,5 @@
--- What the pieces of a word are, and which leaves are shown.
+-- What the pieces of a word are, that is, its parts and the ranges of bits that no part holds, and which leaves the
+-- text of a layout shows.
 use Rattle.std.specs.Prelude.{◌≡◌, ℕ, ◌+◌, ◌<◌, ◌≤◌, ◌↔◌, List, [], ◌∷◌, map, length, Some, slice_get}
 use Rattle.std.specs.List.{Contains, sum_by, range_with_len}
 use Rattle.rb_core.specs.declared.program.Program.{Program}
@@ -11,12 +12,12 @@ use Rattle.rb_layout.specs.Flattening.{flat_layouts}
 use Rattle.rb_layout.specs.Splits.{Route, routes_of}
 use Rattle.rb_show.specs.Pieces.{Piece, Held, Free, pieces_of}
 
--- bit i is a bit of the word, and in no part
+-- i is a bit of the word, and none of its parts holds it
 pub record IsFree (word : FlatWord) (i : ℕ) : Type 0 where
   pub inside : i < word.width
   pub outside : (k : ℕ) (p : Part) → slice_get word.parts k ≡ Some p → IsIn p.o p.l i → ⊥
 
--- l bits from bit o on, which are free, and none beside them is
+-- the bits from o on, l of them and at least one, are free, and neither the bit below them nor that above is
 pub record IsMaximal (word : FlatWord) (o l : ℕ) : Type 0 where
   pub some : 1 ≤ l
   pub free : (i : ℕ) → IsIn o l i → IsFree word i
@@ -27,14 +28,16 @@ pub record IsMaximal (word : FlatWord) (o l : ℕ) : Type 0 where
 abbrev pub FreeAreMaximal : Type 0
 FreeAreMaximal = (word : FlatWord) (o l : ℕ) → Contains (pieces_of word) (Free o l) ↔ IsMaximal word o l
 
+-- x is piece k of the word in the order in which its pieces are shown, from 0
 abbrev pub IsPiece : FlatWord → ℕ → Piece → Type 0
 IsPiece word k x = slice_get (pieces_of word) k ≡ Some x
 
--- a free range ends below the bit beneath the next one
+-- of two free ranges of a word, the earlier ends below the bit beneath the later one, so that they don't touch
 abbrev pub FreeAreApart : Type 0
 FreeAreApart =
     (word : FlatWord) (j k o l m n : ℕ) → j < k → IsPiece word j (Free o l) → IsPiece word k (Free m n) → o + l < m
 
+-- the bit of its word at which a piece begins
 abbrev pub first_bit : Piece → ℕ
 first_bit (Held p) = p.o
 first_bit (Free o l) = o
@@ -44,20 +47,23 @@ abbrev pub PiecesAscend : Type 0
 PiecesAscend =
     (word : FlatWord) (j k : ℕ) (a b : Piece) → j < k → IsPiece word j a → IsPiece word k b → first_bit a ≤ first_bit b
 
+-- the parts among pieces, in their order, without the free ranges
 abbrev pub parts_in : List Piece → List Part
 parts_in [] = []
 parts_in (Held p ∷ pieces) = p ∷ parts_in pieces
 parts_in (Free o l ∷ pieces) = parts_in pieces
 
+-- each part of the word begins at one of the word's bits
 abbrev pub BeginInside : FlatWord → Type 0
 BeginInside word = (k : ℕ) (p : Part) → slice_get word.parts k ≡ Some p → p.o < word.width
 
--- the parts that are shown are the word's own,
--- each as often as it is there: however parts are weighed, they weigh the same
+-- of a word whose parts begin inside it, the parts that are shown are its own, each as often as it is there:
+-- however parts are weighed, they weigh the same
 abbrev pub EachPartIsShown : Type 0
 EachPartIsShown = (word : FlatWord) (weight : Part → ℕ) → BeginInside word
     → sum_by weight (parts_in (pieces_of word)) ≡ sum_by weight word.parts
 
+-- the numbers of the leaves that a layout's text shows, in the order of the text
 abbrev pub leaves_shown : Layout → List ℕ
 leaves_shown layout = map (λ (r : Route). r.leaf) (routes_of layout.tree)
 

@@ -10,40 +10,45 @@ use Rattle.rb_core.specs.declared.pattern.Pat.TheOpen as P
 use Rattle.rb_core.specs.declared.pattern.Pat.TheOpen.{Pat-F}
 use Rattle.rb_core.specs.declared.pattern.Pat.TheFolds.{fold-Pat}
 
+-- the name of a constructor that was looked up; empty where none was found
 abbrev pub con_name : Option Con → List ℕ
 con_name None = []
 con_name (Some c) = c.name
 
+-- the name of constructor k of a type that was looked up; empty where there is no such type or constructor
 abbrev pub con_name_in : Option DataDecl → ℕ → List ℕ
 con_name_in None k = []
 con_name_in (Some d) k = con_name (slice_get d.cons k)
 
+-- the name of a constructor, by its type's number and its own; empty where there is none
 abbrev pub con_text : List DataDecl → ConRef → List ℕ
 con_text types c = con_name_in (slice_get types c.ty) c.con
 
--- before the first field stands `(`, and before each other a comma
+-- what stands before the field of this number: `(` before the first, which is number 0, and a comma before each other
 abbrev pub opening : ℕ → List ℕ
 opening number = if number == 0 then codes "(" else codes ", "
 
+-- the texts of fields behind a `(` and with commas between them, but without the `)`; empty where there is no field
 abbrev pub opened : List (List ℕ) → List ℕ
 opened [] = []
 opened (t ∷ ts) = codes "(" ++ t ++ flat_map (λ u. codes ", " ++ u) ts
 
+-- the `)` behind these fields; empty where there is no field
 abbrev pub closed : List (List ℕ) → List ℕ
 closed [] = []
 closed (t ∷ ts) = codes ")"
 
--- fields in parentheses, which are left out where there is none
+-- the texts of fields in parentheses, with commas between them; empty where there is no field
 abbrev pub fields_text : List (List ℕ) → List ℕ
 fields_text ts = opened ts ++ closed ts
 
--- what matches every value is shown as `_`
+-- the text of a pattern, by the texts of its fields; a variable is shown as `_`, as a wildcard is
 abbrev pub pattern_step : List DataDecl → Pat-F (List ℕ) → List ℕ
 pattern_step types (P.Wild at) = codes "_"
 pattern_step types (P.Var at x) = codes "_"
 pattern_step types (P.Num at n) = decimal n
 pattern_step types (P.Con at c ts) = con_text types c ++ fields_text ts
 
--- a number, a constructor's name, or its name with its fields
+-- the text of a pattern: `_`, a number, a constructor's name, or its name with its fields
 abbrev pub pattern_text : List DataDecl → Pat → List ℕ
 pattern_text types = fold-Pat (List ℕ) (pattern_step types)

@@ -1,4 +1,5 @@
--- The text of a refusal of layouts: the type, the rule, and what fails there.
+-- The text of a refusal of layouts: the type, the rule, and what fails there. A leaf is named by its provenance, the
+-- pattern of the values that it holds.
 use Rattle.std.specs.Prelude.{ℕ, List, [], ◌∷◌, ◌++◌, Bool, codes, if◌then◌else◌, nat_eq, Option, Some, None, slice_get}
 use Rattle.std.specs.Fmt.{decimal}
 use Rattle.std.specs.List.{flat_map, list_any}
@@ -21,90 +22,106 @@ use Rattle.rb_show.specs.Patterns.{pattern_text}
 
 -- Names -------------------------------------------------------------------------------------
 
--- the name of a type, by its number
+-- the name of a type, by its number; empty where there is no such type
 abbrev pub name_of : List DataDecl → ℕ → List ℕ
 name_of types t = type_name (slice_get types t)
 
+-- the name of type t behind that of another, with a comma between them
 abbrev pub later_name : List DataDecl → ℕ → List ℕ
 later_name types t = codes ", " ++ name_of types t
 
--- names of types, with commas between them
+-- the names of these types, with commas between them
 abbrev pub names_text : List DataDecl → List ℕ → List ℕ
 names_text types [] = []
 names_text types (t ∷ ts) = name_of types t ++ flat_map (later_name types) ts
 
 -- Leaves ------------------------------------------------------------------------------------
 
+-- the leaves of a layout that was looked up; none where no layout was found
 abbrev pub leaves_in : Option Layout → List Leaf
 leaves_in None = []
 leaves_in (Some layout) = layout.leaves
 
--- a leaf is named by its provenance
+-- the provenance of a leaf that was looked up, by which a leaf is named; empty where no leaf was found
 abbrev pub provenance_text : List DataDecl → Option Leaf → List ℕ
 provenance_text types None = []
 provenance_text types (Some leaf) = pattern_text types leaf.prov
 
--- a field's bits are counted, or its words where it is of a data type
+-- what a field of this type is counted in: words for a data type, else bits; bits, too, where no type was found
 abbrev pub unit_text : Option Ty → List ℕ
 unit_text (Some (Named t)) = codes " word "
 unit_text (Some (Int bits)) = codes " bit "
 unit_text None = codes " bit "
 
+-- what the field at a path of a leaf is counted in, words or bits; bits, too, where there is no such leaf or field
 abbrev pub unit_in : List DataDecl → Option Leaf → List ℕ → List ℕ
 unit_in types None path = codes " bit "
 unit_in types (Some leaf) path = unit_text (type_at (open_positions types leaf.prov) path)
 
+-- a field, named by its path
 abbrev pub field_text : List ℕ → List ℕ
 field_text path = codes "field " ++ path_text path
 
 -- What fails --------------------------------------------------------------------------------
 
+-- the text that the word of this number has so many bits
 abbrev pub width_text : ℕ → ℕ → List ℕ
 width_text word width = codes "word " ++ decimal word ++ codes " has " ++ decimal width ++ codes " bits"
 
+-- which item of a leaf fails, by its number, before what fails there
 abbrev pub item_text : ℕ → List ℕ
 item_text item = codes "item " ++ decimal item ++ codes ": "
 
+-- a literal, as a number behind the word for it
 abbrev pub literal_text : ℕ → List ℕ
 literal_text c = codes "literal " ++ decimal c
 
+-- the text of how many root words a leaf should have, and how many it has
 abbrev pub counts_text : ℕ → ℕ → List ℕ
 counts_text wanted found = codes "wanted " ++ decimal wanted ++ codes " words, found " ++ decimal found
 
+-- the text that a split's location leads to no bits of the leaf
 abbrev pub unresolved_text : Loc → List ℕ
 unresolved_text loc = loc_text loc ++ codes " does not resolve"
 
--- a literal, what it is not, and where
+-- a literal, what it is not (such as known), and the location where it isn't
 abbrev pub literal_at : ℕ → List ℕ → Loc → List ℕ
 literal_at c fault loc = literal_text c ++ fault ++ loc_text loc
 
+-- the text that the values of this pattern have no leaf
 abbrev pub missing_text : List DataDecl → Pat → List ℕ
 missing_text types pat = codes "no leaf for " ++ pattern_text types pat
 
+-- the text that type t has a pointer, where it is flattened and must not have one
 abbrev pub pointer_text : List DataDecl → ℕ → List ℕ
 pointer_text types t = name_of types t ++ codes " has a pointer"
 
+-- a cycle of types, by their names: each flattens the next, and the last the first
 abbrev pub flattening_text : List DataDecl → List ℕ → List ℕ
 flattening_text types ts = codes "flattening cycle " ++ names_text types ts
 
+-- a cycle of types, by their names: each holds the next in root words, and the last the first
 abbrev pub holding_text : List DataDecl → List ℕ → List ℕ
 holding_text types ts = codes "holding cycle " ++ names_text types ts
 
+-- the split that fails, by its location, before what fails there
 abbrev pub split_text : Loc → List ℕ
 split_text loc = codes "split " ++ loc_text loc ++ codes ": "
 
 module _ (types : List DataDecl) (leaves : List Leaf) where
+  -- the provenance of leaf n, by which it is named; empty where there is no such leaf
   abbrev pub leaf_text : ℕ → List ℕ
   leaf_text n = provenance_text types (slice_get leaves n)
 
-  -- bit or word i of the field at a path of leaf n
+  -- bit or word i of the field at a path of leaf n, whichever the field is counted in
   abbrev pub unit_of_field : ℕ → List ℕ → ℕ → List ℕ
   unit_of_field n path i = field_text path ++ unit_in types (slice_get leaves n) path ++ decimal i
 
+  -- the text that leaf n and a later leaf, each named by its provenance, have a common value
   abbrev pub common_text : ℕ → ℕ → List ℕ
   common_text n later = codes "leaves " ++ leaf_text n ++ codes " and " ++ leaf_text later ++ codes " have a common value"
 
-  -- what fails, at leaf n where it fails at a leaf
+  -- the text of what fails, where n is the number of the leaf if it fails at a leaf
   abbrev pub evidence_text : ℕ → Why → List ℕ
   evidence_text n NoLayout = codes "no layout"
   evidence_text n (ShapeWidth i width) = width_text i width
@@ -136,19 +153,20 @@ module _ (types : List DataDecl) (leaves : List Leaf) where
 
 -- A refusal ---------------------------------------------------------------------------------
 
--- rules of a leaf by itself: its words, its parts, its blocks, its fields, and the splits above it
+-- whether a rule is of each leaf by itself: its words, its parts, its blocks, its fields, or the splits above it
 abbrev pub is_of_one_leaf : ℕ → Bool
 is_of_one_leaf rule = list_any (nat_eq rule) (2 ∷ 3 ∷ 4 ∷ 6 ∷ 7 ∷ [])
 
--- the leaf is named where the rule is of one
+-- the name of leaf n before what fails there, where the rule is of one leaf; else empty
 abbrev pub at_leaf : List DataDecl → List Leaf → ℕ → ℕ → List ℕ
 at_leaf types leaves rule n = if is_of_one_leaf rule then codes "leaf " ++ leaf_text types leaves n ++ codes ": " else []
 
+-- the number of a refusal's leaf, or 0 where the refusal is of no leaf
 abbrev pub number_of : Option ℕ → ℕ
 number_of None = 0
 number_of (Some n) = n
 
--- such as `layout of T: A4: leaf C(_): alignment 3`
+-- the text of a refusal, such as `layout of T: A4: leaf C(_): alignment 3`
 abbrev pub refusal_text : List DataDecl → List Layout → Refused → List ℕ
 refusal_text types layouts r =
     let leaves = leaves_in (slice_get layouts r.ty) in

@@ -4,8 +4,10 @@ use Rattle.rb_layout.specs.declared.layout.Leaf.{Leaf}
 use Rattle.rb_layout.specs.declared.layout.Block.{Block}
 use Rattle.rb_layout.specs.Readable.{AreShort}
 
+-- each of these blocks has at most 64 words, each of at most 64 bits
 abbrev pub HaveShortWords : List Block → Type 0
 HaveShortWords blocks = (b : ℕ) (block : Block) → slice_get blocks b ≡ Some block → AreShort block.words
 
+-- each block of each of these leaves has at most 64 words, each of at most 64 bits
 abbrev pub HaveShortBlocks : List Leaf → Type 0
 HaveShortBlocks leaves = (n : ℕ) (leaf : Leaf) → slice_get leaves n ≡ Some leaf → HaveShortWords leaf.blocks

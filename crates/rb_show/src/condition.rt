@@ -24,7 +24,7 @@ pub(crate) fn push_is(text: &mut Vec<u8>, loc: &Loc, literal: u64) -> Result<(),
     Ok(())
 }
 
-// The literals behind the first, each behind a comma.
+// Adds the literals of a split's arms behind the first, each behind a comma.
 fn push_others(text: &mut Vec<u8>, arms: &[FlatArm]) -> Result<(), AllocError>
     ensures { OnOk result (text.new.items ≡ text.old.items ++ flat_map other_literal (literals_in arms.now)) }
 {
@@ -35,7 +35,8 @@ fn push_others(text: &mut Vec<u8>, arms: &[FlatArm]) -> Result<(), AllocError>
     Ok(())
 }
 
-// The literals of arms, none of which stands there.
+// Adds that none of the arms' literals stands at the location before it; ` any` where there is no
+// arm.
 fn push_none(text: &mut Vec<u8>, arms: &[FlatArm]) -> Result<(), AllocError>
     ensures { OnOk result (text.new.items ≡ text.old.items ++ none_text (literals_in arms.now)) }
 {

@@ -19,7 +19,7 @@ use rb_layout::layout::Leaf;
 use rb_layout::positions::type_at;
 use std::alloc::AllocError;
 
-// A number between two words.
+// Adds a number between two texts.
 fn push_between(
     text: &mut Vec<u8>,
     before: &[u8],
@@ -33,7 +33,7 @@ fn push_between(
     push(text, after)
 }
 
-// A leaf's provenance.
+// Adds the provenance of a leaf, by which it is named; nothing where there is no such leaf.
 pub(crate) fn push_leaf(
     text: &mut Vec<u8>,
     types: &[DataDecl],
@@ -48,7 +48,7 @@ pub(crate) fn push_leaf(
     }
 }
 
-// The number of a word, and how many bits it has.
+// Adds that the word of this number has so many bits.
 fn push_width(text: &mut Vec<u8>, word: u32, width: u64) -> Result<(), AllocError>
     ensures { OnOk result (text.new.items ≡ text.old.items ++ width_text word width) }
 {
@@ -57,14 +57,14 @@ fn push_width(text: &mut Vec<u8>, word: u32, width: u64) -> Result<(), AllocErro
     push(text, b" bits")
 }
 
-// The number of the item where something fails, before what fails there.
+// Adds which item of a leaf fails, by its number, before what fails there.
 fn push_item(text: &mut Vec<u8>, item: u32) -> Result<(), AllocError>
     ensures { OnOk result (text.new.items ≡ text.old.items ++ item_text item) }
 {
     push_between(text, b"item ", item as u64, b": ")
 }
 
-// A literal, by its number alone.
+// Adds a literal, as a number behind the word for it.
 fn push_literal(text: &mut Vec<u8>, literal: u64) -> Result<(), AllocError>
     ensures { OnOk result (text.new.items ≡ text.old.items ++ literal_text literal) }
 {
@@ -72,7 +72,7 @@ fn push_literal(text: &mut Vec<u8>, literal: u64) -> Result<(), AllocError>
     push_number(text, literal)
 }
 
-// The location of the split where something fails, before what fails there.
+// Adds the location of the split where something fails, before what fails there.
 fn push_split(text: &mut Vec<u8>, loc: &Loc) -> Result<(), AllocError>
     ensures { OnOk result (text.new.items ≡ text.old.items ++ split_text loc.now) }
 {
@@ -81,7 +81,7 @@ fn push_split(text: &mut Vec<u8>, loc: &Loc) -> Result<(), AllocError>
     push(text, b": ")
 }
 
-// A field, by its path.
+// Adds a field, named by its path.
 fn push_field(text: &mut Vec<u8>, path: &[u32]) -> Result<(), AllocError>
     ensures { OnOk result (text.new.items ≡ text.old.items ++ field_text path.now) }
 {
@@ -89,7 +89,8 @@ fn push_field(text: &mut Vec<u8>, path: &[u32]) -> Result<(), AllocError>
     push_path(text, path)
 }
 
-// What a field of this type is counted in.
+// What a field of this type is counted in: words for a data type, else bits; bits, too, where there
+// is no type.
 fn unit(ty: Option<Ty>) -> &'static [u8]
     ensures { result.now ≡ unit_text ty }
 {
@@ -109,7 +110,8 @@ fn unit_of(types: &[DataDecl], leaves: &[Leaf], leaf: u32, path: &[u32]) -> &'st
     }
 }
 
-// A bit or a word of a field.
+// Adds a bit or a word of a field, whichever the field is counted in, by the field's path and the
+// number.
 fn push_unit(
     text: &mut Vec<u8>,
     types: &[DataDecl],
@@ -125,7 +127,7 @@ fn push_unit(
     push_number(text, number)
 }
 
-// The names of types behind the first, each behind a comma.
+// Adds the names of the types behind the first of a list, each behind a comma.
 fn push_later(text: &mut Vec<u8>, types: &[DataDecl], tys: &[u32]) -> Result<(), AllocError>
     ensures { OnOk result (text.new.items ≡ text.old.items ++ flat_map (later_name types.now) tys.now) }
 {
@@ -136,7 +138,7 @@ fn push_later(text: &mut Vec<u8>, types: &[DataDecl], tys: &[u32]) -> Result<(),
     Ok(())
 }
 
-// The names of types, with commas between them.
+// Adds the names of types, with commas between them.
 fn push_names(text: &mut Vec<u8>, types: &[DataDecl], tys: &[u32]) -> Result<(), AllocError>
     ensures { OnOk result (text.new.items ≡ text.old.items ++ names_text types.now tys.now) }
 {
@@ -160,7 +162,7 @@ fn length_of(loc: &Loc) -> u64
     length
 }
 
-// How many words are wanted, and how many were found.
+// Adds how many root words a leaf should have, and how many it has.
 fn push_counts(text: &mut Vec<u8>, wanted: u64, found: u64) -> Result<(), AllocError>
     ensures { OnOk result (text.new.items ≡ text.old.items ++ counts_text wanted found) }
 {
@@ -171,7 +173,7 @@ fn push_counts(text: &mut Vec<u8>, wanted: u64, found: u64) -> Result<(), AllocE
     Ok(())
 }
 
-// That two leaves, each named by its provenance, have a common value.
+// Adds that two leaves, each named by its provenance, have a common value.
 fn push_common(
     text: &mut Vec<u8>,
     types: &[DataDecl],
@@ -188,7 +190,7 @@ fn push_common(
     push(text, b" have a common value")
 }
 
-// That there is no leaf for a pattern.
+// Adds that the values of a pattern have no leaf.
 fn push_missing(text: &mut Vec<u8>, types: &[DataDecl], pat: &Pat) -> Result<(), AllocError>
     ensures { OnOk result (text.new.items ≡ text.old.items ++ missing_text types.now pat.now) }
 {
@@ -196,7 +198,7 @@ fn push_missing(text: &mut Vec<u8>, types: &[DataDecl], pat: &Pat) -> Result<(),
     push_pattern(text, types, pat)
 }
 
-// That a location does not resolve.
+// Adds that a split's location leads to no bits of the leaf.
 fn push_unresolved(text: &mut Vec<u8>, loc: &Loc) -> Result<(), AllocError>
     ensures { OnOk result (text.new.items ≡ text.old.items ++ unresolved_text loc.now) }
 {
@@ -204,7 +206,7 @@ fn push_unresolved(text: &mut Vec<u8>, loc: &Loc) -> Result<(), AllocError>
     push(text, b" does not resolve")
 }
 
-// A literal, what it is not, and where.
+// Adds a literal, what it is not (such as known), and the location where it isn't.
 fn push_literal_at(
     text: &mut Vec<u8>,
     literal: u64,
@@ -218,7 +220,7 @@ fn push_literal_at(
     push_loc(text, loc)
 }
 
-// That a type has a pointer.
+// Adds that a type has a pointer, where it is flattened and must not have one.
 fn push_pointer(text: &mut Vec<u8>, types: &[DataDecl], ty: u32) -> Result<(), AllocError>
     ensures { OnOk result (text.new.items ≡ text.old.items ++ pointer_text types.now ty) }
 {
@@ -226,7 +228,7 @@ fn push_pointer(text: &mut Vec<u8>, types: &[DataDecl], ty: u32) -> Result<(), A
     push(text, b" has a pointer")
 }
 
-// The names of types, each of which flattens the next and the last the first.
+// Adds a cycle of types, by their names: each flattens the next, and the last the first.
 fn push_flattening(text: &mut Vec<u8>, types: &[DataDecl], tys: &[u32]) -> Result<(), AllocError>
     ensures { OnOk result (text.new.items ≡ text.old.items ++ flattening_text types.now tys.now) }
 {
@@ -235,7 +237,7 @@ fn push_flattening(text: &mut Vec<u8>, types: &[DataDecl], tys: &[u32]) -> Resul
     Ok(())
 }
 
-// The names of types, each of which holds the next in root words and the last the first.
+// Adds a cycle of types, by their names: each holds the next in root words, and the last the first.
 fn push_holding(text: &mut Vec<u8>, types: &[DataDecl], tys: &[u32]) -> Result<(), AllocError>
     ensures { OnOk result (text.new.items ≡ text.old.items ++ holding_text types.now tys.now) }
 {

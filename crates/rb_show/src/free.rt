@@ -27,7 +27,8 @@ fn is_free(word: &FlatWord, bit: u64) -> bool
     bit < word.width && !is_held(word.parts.as_slice(), bit)
 }
 
-// Whether a maximal range of free bits begins here.
+// Whether a maximal range of free bits begins at this bit: it is free, and the bit below it is none
+// or isn't free.
 pub(crate) fn begins_free(word: &FlatWord, bit: u64) -> bool
     ensures { result ≡ begins_free word.now bit }
 {

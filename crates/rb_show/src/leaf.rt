@@ -14,7 +14,7 @@ use rb_core::types::DataDecl;
 use rb_layout::layout::Leaf;
 use std::alloc::AllocError;
 
-// The lines of a leaf, with those of the conditions of the splits above it.
+// Adds the lines of a leaf, with those of the conditions of the splits above it.
 fn push_leaf(
     text: &mut Vec<u8>,
     types: &[DataDecl],
@@ -33,7 +33,7 @@ fn push_leaf(
     Ok(())
 }
 
-/// Adds the lines of the leaf to which a way leads.
+/// Adds the lines of the leaf to which a way leads; nothing where there is no such leaf.
 pub(crate) fn push_way(
     text: &mut Vec<u8>,
     types: &[DataDecl],

@@ -8,7 +8,7 @@ use crate::text::{push, push_number, push_range};
 use rb_core::layout_decl::{Loc, Step};
 use std::alloc::AllocError;
 
-// So many bits from that bit on, as `[o:l]`.
+// Adds so many bits from that bit on, as `[o:l]`.
 pub(crate) fn push_bits(text: &mut Vec<u8>, o: u64, l: u64) -> Result<(), AllocError>
     ensures { OnOk result (text.new.items ≡ text.old.items ++ bits_text o l) }
 {
@@ -18,7 +18,7 @@ pub(crate) fn push_bits(text: &mut Vec<u8>, o: u64, l: u64) -> Result<(), AllocE
     Ok(())
 }
 
-// A step of a location: through a pointer, to bits of a word of its block.
+// Adds a step of a location: through a pointer, to bits of a word of its block.
 fn push_step(text: &mut Vec<u8>, step: &Step) -> Result<(), AllocError>
     ensures { OnOk result (text.new.items ≡ text.old.items ++ step_text step.now) }
 {
@@ -30,7 +30,7 @@ fn push_step(text: &mut Vec<u8>, step: &Step) -> Result<(), AllocError>
     Ok(())
 }
 
-// The steps of a location, one after the other.
+// Adds the steps of a location, one after the other.
 fn push_steps(text: &mut Vec<u8>, steps: &[Step]) -> Result<(), AllocError>
     ensures { OnOk result (text.new.items ≡ text.old.items ++ flat_map step_text steps.now) }
 {

@@ -9,7 +9,7 @@ use rb_core::pattern::Pat;
 use rb_core::types::{ConRef, DataDecl};
 use std::alloc::AllocError;
 
-// A constructor's name.
+// Adds a constructor's name, by its type's number and its own; nothing where there is none.
 fn push_con(text: &mut Vec<u8>, types: &[DataDecl], con: ConRef) -> Result<(), AllocError>
     ensures { OnOk result (text.new.items ≡ text.old.items ++ con_text types.now con) }
 {
@@ -22,14 +22,14 @@ fn push_con(text: &mut Vec<u8>, types: &[DataDecl], con: ConRef) -> Result<(), A
     }
 }
 
-// What stands before the field of this number.
+// What stands before the field of this number: `(` before the first, a comma before each other.
 fn opening(number: usize) -> &'static [u8]
     ensures { result.now ≡ opening number }
 {
     if number == 0 { b"(" } else { b", " }
 }
 
-// What stands behind so many fields.
+// Adds the `)` behind these fields; nothing where there is no field.
 fn push_closing(text: &mut Vec<u8>, fields: &[Pat]) -> Result<(), AllocError>
     ensures { (f : Pattern → List ℕ) → OnOk result (text.new.items ≡ text.old.items ++ closed (map f fields.now)) }
 {
@@ -61,7 +61,8 @@ pub fn push_pattern(text: &mut Vec<u8>, types: &[DataDecl], pat: &Pat) -> Result
     }
 }
 
-// The fields of a constructor, without the `)` behind them.
+// Adds a `(` and the fields of a constructor with commas between them, but no `)`; nothing where
+// there is no field.
 #[cycle(showing)]
 fn push_fields(text: &mut Vec<u8>, types: &[DataDecl], pats: &[Pat]) -> Result<(), AllocError>
     ensures { OnOk result (text.new.items ≡ text.old.items ++ opened (map (pattern_text types.now) pats.now)) }

@@ -11,7 +11,7 @@ use crate::text::{push, push_number, push_range};
 use rb_layout::layout::{FlatWord, Kind, Part};
 use std::alloc::AllocError;
 
-// The numbers of a path, each behind a point.
+// Adds the field numbers of a path, each behind a point.
 pub(crate) fn push_path(text: &mut Vec<u8>, path: &[u32]) -> Result<(), AllocError>
     ensures { OnOk result (text.new.items ≡ text.old.items ++ path_text path.now) }
 {
@@ -22,7 +22,8 @@ pub(crate) fn push_path(text: &mut Vec<u8>, path: &[u32]) -> Result<(), AllocErr
     Ok(())
 }
 
-// What so many bits hold.
+// Adds what a part of so many bits holds: a constant, bits or a word of a field, or a pointer to a
+// block.
 fn push_kind(text: &mut Vec<u8>, l: u64, kind: &Kind) -> Result<(), AllocError>
     ensures { OnOk result (text.new.items ≡ text.old.items ++ kind_text l kind.now) }
 {
@@ -51,7 +52,7 @@ fn push_kind(text: &mut Vec<u8>, l: u64, kind: &Kind) -> Result<(), AllocError>
     Ok(())
 }
 
-// The line of a part: its range, and what it holds.
+// Adds the line of a part: its range, and what it holds.
 fn push_part(text: &mut Vec<u8>, part: &Part) -> Result<(), AllocError>
     ensures { OnOk result (text.new.items ≡ text.old.items ++ piece_line (Held part.now)) }
 {
@@ -63,7 +64,7 @@ fn push_part(text: &mut Vec<u8>, part: &Part) -> Result<(), AllocError>
     Ok(())
 }
 
-// The line of a free range: so many bits from that bit on.
+// Adds the line of a free range: so many bits from that bit on.
 fn push_free(text: &mut Vec<u8>, o: u64, l: u64) -> Result<(), AllocError>
     ensures { OnOk result (text.new.items ≡ text.old.items ++ piece_line (Free o l)) }
 {
@@ -74,7 +75,7 @@ fn push_free(text: &mut Vec<u8>, o: u64, l: u64) -> Result<(), AllocError>
     Ok(())
 }
 
-// A part, if it begins at this bit.
+// Adds the line of a part, if it begins at this bit; else nothing.
 fn push_part_at(text: &mut Vec<u8>, part: &Part, bit: u64) -> Result<(), AllocError>
     ensures { OnOk result (text.new.items ≡ text.old.items ++ flat_map piece_line (held_at bit part.now)) }
 {
@@ -84,7 +85,7 @@ fn push_part_at(text: &mut Vec<u8>, part: &Part, bit: u64) -> Result<(), AllocEr
     Ok(())
 }
 
-// The parts that begin at a bit.
+// Adds the lines of the parts that begin at a bit.
 fn push_held(text: &mut Vec<u8>, parts: &[Part], bit: u64) -> Result<(), AllocError>
     ensures { OnOk result (text.new.items ≡ text.old.items ++ flat_map piece_line (flat_map (held_at bit) parts.now)) }
 {
@@ -94,7 +95,7 @@ fn push_held(text: &mut Vec<u8>, parts: &[Part], bit: u64) -> Result<(), AllocEr
     Ok(())
 }
 
-// The pieces that begin at a bit.
+// Adds the lines of the pieces that begin at a bit, the parts before the free range.
 fn push_pieces_at(text: &mut Vec<u8>, word: &FlatWord, bit: u64) -> Result<(), AllocError>
     requires { bit < word.now.width }
     ensures { OnOk result (text.new.items ≡ text.old.items ++ flat_map piece_line (pieces_at word.now bit)) }
@@ -106,7 +107,7 @@ fn push_pieces_at(text: &mut Vec<u8>, word: &FlatWord, bit: u64) -> Result<(), A
     Ok(())
 }
 
-// The pieces of a word, by ascending offset.
+// Adds the lines of all pieces of a word, by ascending offset.
 pub(crate) fn push_pieces(text: &mut Vec<u8>, word: &FlatWord) -> Result<(), AllocError>
     ensures { OnOk result (text.new.items ≡ text.old.items ++ piece_lines word.now) }
 {

@@ -12,7 +12,7 @@ use rb_layout::evidence::Refused;
 use rb_layout::layout::{Layout, Leaf};
 use std::alloc::{AllocError, Global};
 
-// The leaves of a type's layout.
+// The leaves of a type's layout; none where there is no such layout.
 fn leaves_of(layouts: &[Layout], ty: u32) -> &[Leaf]
     ensures { result.now ≡ leaves_in (slice_get layouts.now ty) }
 {
@@ -22,21 +22,21 @@ fn leaves_of(layouts: &[Layout], ty: u32) -> &[Leaf]
     }
 }
 
-// The leaf's number, where the refusal is of a leaf.
+// The leaf's number, where the refusal is of a leaf; else 0.
 fn leaf_number(leaf: Option<u32>) -> u32
     ensures { result ≡ number_of leaf }
 {
     leaf.unwrap_or(0)
 }
 
-// Whether the rule is of a leaf by itself.
+// Whether a rule, by its number, is of each leaf by itself, so that its refusal names the leaf.
 fn is_of_one_leaf(rule: u8) -> bool
     ensures { result ≡ is_of_one_leaf rule }
 {
     matches!(rule, 2 | 3 | 4 | 6 | 7)
 }
 
-// The leaf, where the rule is of one.
+// Adds the leaf that fails, before what fails there, where the rule is of one leaf; else nothing.
 fn push_place(
     text: &mut Vec<u8>,
     types: &[DataDecl],

@@ -15,7 +15,7 @@ use rb_layout::agreed::Agreed;
 use rb_layout::layout::{Layout, Leaf};
 use std::alloc::{AllocError, Global};
 
-/// Adds a type's name to a text.
+/// Adds a type's name to a text; nothing where there is no such type.
 ///
 /// # Errors
 ///
@@ -29,7 +29,7 @@ pub fn push_name(text: &mut Vec<u8>, types: &[DataDecl], ty: u32) -> Result<(), 
     }
 }
 
-// The first line of a layout: the name of its type.
+// Adds the first line of a layout: the name of its type.
 fn push_type(text: &mut Vec<u8>, types: &[DataDecl], ty: u32) -> Result<(), AllocError>
     ensures { OnOk result (text.new.items ≡ text.old.items ++ type_line types.now ty) }
 {
@@ -39,7 +39,7 @@ fn push_type(text: &mut Vec<u8>, types: &[DataDecl], ty: u32) -> Result<(), Allo
     Ok(())
 }
 
-// The leaves to which ways lead.
+// Adds the lines of the leaves to which ways lead, in the order of the ways.
 fn push_leaves(
     text: &mut Vec<u8>,
     types: &[DataDecl],

@@ -7,21 +7,21 @@ ghost use Rattle.rb_show.specs.Locations.{range_text};
 use rb_core::decimal::digits;
 use std::alloc::AllocError;
 
-// Bytes, as they are.
+// Adds bytes at the end of a text, as they are.
 pub(crate) fn push(text: &mut Vec<u8>, bytes: &[u8]) -> Result<(), AllocError>
     ensures { OnOk result (text.new.items ≡ text.old.items ++ bytes.now) }
 {
     text.extend_from_slice(bytes)
 }
 
-// A number in decimal.
+// Adds a number in decimal.
 pub(crate) fn push_number(text: &mut Vec<u8>, number: u64) -> Result<(), AllocError>
     ensures { OnOk result (text.new.items ≡ text.old.items ++ decimal number) }
 {
     text.extend_from_slice(digits(number).as_slice())
 }
 
-// So many bits from that bit on, as `o:l`.
+// Adds so many bits from that bit on, as `o:l`.
 pub(crate) fn push_range(text: &mut Vec<u8>, o: u64, l: u64) -> Result<(), AllocError>
     ensures { OnOk result (text.new.items ≡ text.old.items ++ range_text o l) }
 {

@@ -26,7 +26,8 @@ pub(crate) fn ways(alloc: Global, tree: &FlatTree) -> Result<Seq<Way>, AllocErro
     Ok(ways)
 }
 
-// The ways to the leaves of a tree that has these conditions above it, which are there again afterwards.
+// Adds the ways to the leaves of a tree that has these conditions above it, which are there again
+// afterwards.
 #[cycle(leading)]
 fn push_ways(
     alloc: Global,
@@ -60,7 +61,7 @@ fn push_ways(
     }
 }
 
-// The way to this leaf, with a copy of the conditions above it.
+// Adds the way to this leaf, with a copy of the conditions above it.
 fn push_way(
     alloc: Global,
     leaf: u32,

@@ -11,7 +11,7 @@ use rb_layout::block_size;
 use rb_layout::layout::{Block, FlatWord};
 use std::alloc::AllocError;
 
-// The end of a word's first line, and the lines of its pieces.
+// Adds the end of a word's first line, which says its width, and the lines of its pieces.
 fn push_width(text: &mut Vec<u8>, word: &FlatWord) -> Result<(), AllocError>
     ensures { OnOk result (text.new.items ≡ text.old.items ++ width_lines word.now) }
 {
@@ -23,7 +23,7 @@ fn push_width(text: &mut Vec<u8>, word: &FlatWord) -> Result<(), AllocError>
     Ok(())
 }
 
-// A word of a root, by its number.
+// Adds the lines of a word of a root, by its number.
 fn push_root_word(text: &mut Vec<u8>, number: u64, word: &FlatWord) -> Result<(), AllocError>
     ensures { OnOk result (text.new.items ≡ text.old.items ++ root_word_lines number word.now) }
 {
@@ -43,7 +43,7 @@ pub(crate) fn push_root(text: &mut Vec<u8>, words: &[FlatWord]) -> Result<(), Al
     Ok(())
 }
 
-// A word of a block, with so many bytes below it.
+// Adds the lines of a word of a block, by its number and the byte where it begins.
 fn push_block_word(
     text: &mut Vec<u8>,
     number: u64,
@@ -60,7 +60,8 @@ fn push_block_word(
     Ok(())
 }
 
-// The words of a block, one after the other.
+// Adds the lines of the words of a block, which are numbered from 0, each with the byte where it
+// begins.
 fn push_block_words(text: &mut Vec<u8>, words: &[FlatWord]) -> Result<(), AllocError>
     requires { AreShort words.now }
     ensures { OnOk result (text.new.items ≡ text.old.items ++ numbered (block_word_lines words.now) 0 words.now) }
@@ -73,7 +74,7 @@ fn push_block_words(text: &mut Vec<u8>, words: &[FlatWord]) -> Result<(), AllocE
     Ok(())
 }
 
-// The end of a block's first line.
+// Adds the end of a block's first line: its size in bytes and its alignment.
 fn push_size(text: &mut Vec<u8>, size: u64, align: u64) -> Result<(), AllocError>
     ensures { OnOk result (text.new.items ≡ text.old.items ++ size_line size align) }
 {
@@ -85,7 +86,7 @@ fn push_size(text: &mut Vec<u8>, size: u64, align: u64) -> Result<(), AllocError
     Ok(())
 }
 
-// A block's first line: its number, its size in bytes and its alignment.
+// Adds a block's first line: its number, its size in bytes and its alignment.
 fn push_block_line(text: &mut Vec<u8>, number: u64, size: u64, align: u64) -> Result<(), AllocError>
     ensures { OnOk result (text.new.items ≡ text.old.items ++ block_line number size align) }
 {
@@ -95,7 +96,7 @@ fn push_block_line(text: &mut Vec<u8>, number: u64, size: u64, align: u64) -> Re
     Ok(())
 }
 
-// A block, by its number: its first line, and the lines of its words.
+// Adds the lines of a block, by its number: its first line, and those of its words.
 fn push_block(text: &mut Vec<u8>, number: u64, block: &Block) -> Result<(), AllocError>
     requires { AreShort block.now.words }
     ensures { OnOk result (text.new.items ≡ text.old.items ++ block_lines number block.now) }

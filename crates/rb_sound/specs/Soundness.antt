@@ -23,7 +23,7 @@ use Rattle.rb_core.specs.Coverage.{AreExhaustive, sites, sites_of}
 use Rattle.rb_core.specs.Meaning.{call_of, meaning_of}
 use Rattle.rb_sound.specs.Words.{has_words, HasWords}
 
--- as many values as types, each of its type
+-- there are as many values as types, and each value is of the type at its place
 abbrev pub AreOfTypes : List DataDecl → List Value → List Ty → Type 0
 AreOfTypes types vs ts = all_of_types (map (is_of_type types) vs) ts ≡ true
 
@@ -67,14 +67,15 @@ pub record HasType (p : Program) (e : Expr) (wanted : Option Ty) (scope : List B
   pub exhaustive : AreExhaustive p.types (sites p.types p.funs e scope)
   pub words : has_words e ≡ true
 
--- such an expression, with values of the scope's types for its variables, runs as its type says
+-- an expression that has a type in a scope, with values of the scope's types for its variables, runs as its type says
 abbrev pub ExpressionsRunTyped : Program → Type 0
 ExpressionsRunTyped p =
     (f left : ℕ) (e : Expr) (wanted : Option Ty) (scope : List Binder) (env : List Binding) (t : Ty)
     → HasType p e wanted scope t → AreInScope p.types scope env
     → RunsAs p.types t (meaning_of p (call_of p) f e wanted scope left env)
 
--- of every program that is typed, whose matches are exhaustive and whose numbers have at most 64 bits
+-- a promise is kept by every program that is typed, whose matches are exhaustive and whose
+-- numbers have at most 64 bits
 abbrev pub OfTypedPrograms : (Program → Type 0) → Type 0
 OfTypedPrograms Promise =
     (p : Program) → IsTyped p → AreExhaustive p.types (sites_of p) → HasWords p → Promise p

@@ -8,10 +8,12 @@ use Rattle.rb_core.specs.declared.expression.Expr.TheOpen.{Expr-F}
 use Rattle.rb_core.specs.declared.expression.Expr.TheFolds.{fold-Expr, fold-Clause}
 use Rattle.rb_core.specs.declared.expression.Clause.{Clause, Clause-F}
 
+-- each of these truth values is true; it holds where there are none, too
 abbrev pub all_true : List Bool → Bool
 all_true [] = true
 all_true (b ∷ bs) = b && all_true bs
 
+-- one level of `has_words`: a number has at most 64 bits, and any other expression asks that of its parts
 abbrev pub words_step : Expr-F Bool Bool → Bool
 words_step (E.Num at n) = nat_lt n (2 ^ 64)
 words_step (E.Var at x) = true
@@ -22,19 +24,22 @@ words_step (E.To at bits a) = a
 words_step (E.Let at x t a b) = a && b
 words_step (E.Match at e cs) = e && all_true cs
 
+-- one level of `clause_has_words`: its body is asked, and its pattern is not
 abbrev pub words_clause : Clause-F Bool Bool → Bool
 words_clause c = c.body
 
--- each number of an expression has at most 64 bits
+-- each number in an expression, patterns apart, has at most 64 bits
 abbrev pub has_words : Expr → Bool
 has_words = fold-Expr Bool Bool words_step words_clause
 
+-- each number in the body of a clause, patterns apart, has at most 64 bits
 abbrev pub clause_has_words : Clause → Bool
 clause_has_words = fold-Clause Bool Bool words_step words_clause
 
--- each number of a function, and of all functions of a program
+-- each number in the body of a function, patterns apart, has at most 64 bits
 abbrev pub body_has_words : Fun → Bool
 body_has_words f = has_words f.body
 
+-- each number in the functions of a program, patterns apart, has at most 64 bits
 abbrev pub HasWords : Program → Type 0
 HasWords p = all_true (map body_has_words p.funs) ≡ true

@@ -27,7 +27,8 @@ pub fn typed_runs_end_typed()
     ensures expressions { OfTypedPrograms ExpressionsRunTyped }
 {}
 
-/// The same of a program in memory that is typed and covered, where nothing is left to ask.
+/// A program in memory that is typed and covered keeps its types, as any typed program with
+/// exhaustive matches. Nothing is left to ask: its numbers are `u64`.
 pub fn covered_runs_end_typed(covered: &Covered)
     ensures calls { CallsRunTyped covered.now.program }
     ensures expressions { ExpressionsRunTyped covered.now.program }

@@ -6,12 +6,12 @@ ghost use Rattle.rb_sound.specs.Words.{all_true, has_words, clause_has_words, bo
 use rb_core::expression::{Clause, Expr};
 use rb_core::program::{Fun, Program};
 
-// A number in memory is below 2^64.
+// A number in memory is below 2^64, as its type says.
 fn see_number(number: u64)
     ensures { nat_lt number (2 ^ 64) ≡ true }
 {}
 
-// The numbers of an expression.
+// Looks at the numbers of an expression, patterns apart: each is below 2^64.
 #[cycle(seeing)]
 fn see_expression(expr: &Expr)
     ensures { has_words expr.now ≡ true }
@@ -37,7 +37,7 @@ fn see_expression(expr: &Expr)
     }
 }
 
-// The numbers of several expressions, of clauses and of functions.
+// Looks at the numbers of several expressions, one after the other.
 #[cycle(seeing)]
 fn see_expressions(exprs: &[Expr])
     ensures { all_true (map has_words exprs.now) ≡ true }

@@ -4,7 +4,7 @@ use Rattle.rb_bytes.specs.Memory.{Memory}
 use Rattle.rb_target.specs.declared.code.CodeFun.{CodeFun}
 use Rattle.rb_target.specs.Meaning.{Outcome, run_of}
 
--- the same end, calls left and memory, after no more switches and no more instructions
+-- the new run has the same end, calls left and memory as the old one, after no more switches and no more instructions
 pub record IsNoDearer (new old : Outcome) : Type 0 where
   pub ended : new.ended ≡ old.ended
   pub left : new.world.left ≡ old.world.left
@@ -12,13 +12,14 @@ pub record IsNoDearer (new old : Outcome) : Type 0 where
   pub switches : new.world.switches ≤ old.world.switches
   pub taken : new.world.taken ≤ old.world.taken
 
--- a function with the same name and numbers of words
+-- the function q has the name of f, and as many words as parameters and results
 pub record HasSameHead (f q : CodeFun) : Type 0 where
   pub name : q.name ≡ f.name
   pub params : q.params ≡ f.params
   pub results : q.results ≡ f.results
 
--- the same functions, each of whose runs is no dearer, from any words that it takes and any memory
+-- the new functions have the heads of the old ones, and each run is no dearer, from any words that the function takes
+-- and any memory
 pub record IsTrimOf (old new : List CodeFun) : Type 0 where
   pub count : length new ≡ length old
   pub heads : (g : ℕ) (f : CodeFun) → slice_get old g ≡ Some f → (q : CodeFun) × (slice_get new g ≡ Some q)

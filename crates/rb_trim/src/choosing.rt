@@ -29,14 +29,15 @@ pub(crate) struct Rest {
     pub(crate) reads: Seq<usize>,
 }
 
-// Puts a number in a place, where there is one.
+// Puts a number at an index of a list; nothing is done past the end.
 pub(crate) fn put(numbers: &mut Seq<usize>, i: usize, number: usize) {
     if i < numbers.len() {
         let _old = numbers.replace(i, number);
     }
 }
 
-// Whether a slot is read from an instruction on.
+// Whether a slot is read from an instruction on: it or a later line reads the slot, and it is not
+// known that no way comes to one that does.
 fn is_read(rest: &Rest, pc: usize, slot: usize) -> bool {
     let is_dead = match rest.dead.get(pc) {
         None => false,
@@ -45,7 +46,9 @@ fn is_read(rest: &Rest, pc: usize, slot: usize) -> bool {
     pc < number_at(rest.reads.as_slice(), slot) && !is_dead
 }
 
-// Whether an instruction is wanted.
+// Whether an instruction is wanted, that is, may not be left out, unless it jumps over nothing: the
+// slot that it writes is read behind it, or it does more than write a slot. A load is wanted, too,
+// unless a slot is known to hold its word, since it could go astray.
 fn is_wanted(rest: &Rest, facts: &[Fact], pc: usize, instr: &Instr) -> bool {
     let behind = pc.saturating_add(1);
     match instr {
@@ -67,7 +70,7 @@ fn is_wanted(rest: &Rest, facts: &[Fact], pc: usize, instr: &Instr) -> bool {
     }
 }
 
-// Whether a slot is read at the target of an arm.
+// Whether a slot is read from the target of some arm on.
 fn is_read_by_arm(rest: &Rest, arms: &[SwitchArm], slot: usize) -> bool {
     for arm in arms {
         if is_read(rest, arm.target, slot) {
@@ -77,7 +80,8 @@ fn is_read_by_arm(rest: &Rest, arms: &[SwitchArm], slot: usize) -> bool {
     false
 }
 
-// Whether a slot is read behind an instruction.
+// Whether a slot is read at some place where a run may go on behind an instruction: from a target
+// or from the next one on; never behind a return.
 fn is_read_on(rest: &Rest, pc: usize, instr: &Instr, slot: usize) -> bool {
     match instr {
         Instr::Jump(target) => is_read(rest, *target, slot),
@@ -101,7 +105,8 @@ fn is_read_on(rest: &Rest, pc: usize, instr: &Instr, slot: usize) -> bool {
     }
 }
 
-// Of some slots those that are not read from an instruction on, though a later line reads them.
+// Those of some slots that are not read from an instruction on, which itself reads `reads`, though
+// a later line reads them.
 fn unread(
     alloc: Global,
     rest: &Rest,
@@ -121,7 +126,8 @@ fn unread(
     Ok(dead)
 }
 
-// Where a run goes on that jumps to an instruction, which is idle or not.
+// The instruction at which a run goes on that jumps to this one: where a jump leads, what comes
+// behind one that is idle, or else itself.
 fn end_of(rest: &Rest, pc: usize, instr: &Instr, is_idle: bool) -> usize {
     let ends = rest.ends.as_slice();
     if let Instr::Jump(target) = instr {
@@ -133,7 +139,9 @@ fn end_of(rest: &Rest, pc: usize, instr: &Instr, is_idle: bool) -> usize {
     pc
 }
 
-// One instruction more, to which a way leads or none.
+// Goes back to one instruction more, to which a run may come or not (`is_met`): notes whether it is
+// wanted, what it reads, which of the slots `late` are not read from it on, and where a run goes on
+// that jumps to it.
 fn choose_one(
     alloc: Global,
     rest: &mut Rest,
@@ -167,7 +175,7 @@ fn choose_one(
     Ok(())
 }
 
-// For each instruction 1 where another one may jump to it.
+// For each instruction 1 where another one may jump to it, else 0.
 fn targets(alloc: Global, body: &[Instr]) -> Result<Seq<usize>, AllocError> {
     let same = numbers(alloc, body.len(), 0, 1)?;
     let mut met = numbers(alloc, body.len(), 0, 0)?;
@@ -192,7 +200,8 @@ fn targets(alloc: Global, body: &[Instr]) -> Result<Seq<usize>, AllocError> {
     Ok(met)
 }
 
-// Whether an instruction copies a slot that is not read from there on.
+// Whether instruction `at` is a wanted copy of a slot that is not read behind it, so that a load of
+// the slot's word may write to the copy's slot at once.
 fn takes_over(rest: &Rest, facts: &[Seq<Fact>], body: &[Instr], at: usize, slot: usize) -> bool {
     let Some(Instr::Copy(_, from)) = body.get(at) else {
         return false;
@@ -202,7 +211,8 @@ fn takes_over(rest: &Rest, facts: &[Seq<Fact>], body: &[Instr], at: usize, slot:
         && !is_read(rest, at.saturating_add(1), slot)
 }
 
-// Whether the other way of a switch leads to a switch with few arms on the same word.
+// Whether the other way of a switch on `slot`, the instruction `pc`, leads to a switch on the same
+// word that has few arms, which it may take over.
 fn leads_on(
     rest: &Rest,
     facts: &[Seq<Fact>],
@@ -219,7 +229,8 @@ fn leads_on(
         && source(facts_at(facts, at), *from) == source(facts_at(facts, pc), slot)
 }
 
-// The slots whose words a way returns, if it returns few.
+// The slots whose words a run returns that goes to `target`, or None if it comes to no return at
+// once, or to one of more than `MOST_WORDS` words.
 fn words_back(
     alloc: Global,
     rest: &Rest,
@@ -242,7 +253,7 @@ fn words_back(
     Ok(Some(words))
 }
 
-// Whether a way returns the words of these slots.
+// Whether a run that goes to `target` returns the words of these slots at once.
 fn gives(
     alloc: Global,
     rest: &Rest,
@@ -257,7 +268,8 @@ fn gives(
     }
 }
 
-// Whether each way of a switch returns the same words.
+// Whether a switch may be a return: it has an arm, each of its ways returns the same few words at
+// once, and it is known to come to one of its ways.
 fn turns_back(
     alloc: Global,
     rest: &Rest,
@@ -338,7 +350,7 @@ pub(crate) fn clear_unreached(given: &mut Seq<usize>, reached: &[usize]) {
     }
 }
 
-// From the last instruction back, what is wanted.
+// What is wanted of a body and what is read, found from the last instruction back.
 pub(crate) fn choose(
     alloc: Global,
     fun: &CodeFun,
@@ -366,7 +378,7 @@ pub(crate) fn choose(
     Ok(rest)
 }
 
-// A run may come to where it goes on from a switch's targets.
+// Notes that a run may come to where it goes on from each of a switch's targets.
 fn reach_targets(
     reached: &mut Seq<usize>,
     ends: &[usize],
@@ -381,7 +393,8 @@ fn reach_targets(
     }
 }
 
-// A run may come to the targets of the switch to which another one's other way leads.
+// Notes that a run may come to the targets of the switch to which another one's other way leads;
+// nothing where there is no such way or switch.
 fn reach_next(reached: &mut Seq<usize>, body: &[Instr], ends: &[usize], other: Option<usize>) {
     let Some(target) = other else {
         return;
@@ -391,7 +404,7 @@ fn reach_next(reached: &mut Seq<usize>, body: &[Instr], ends: &[usize], other: O
     }
 }
 
-// For each instruction 1 where a run may come to it.
+// For each instruction 1 where a run may come to it, else 0.
 pub(crate) fn reach(
     alloc: Global,
     body: &[Instr],
@@ -436,8 +449,8 @@ pub(crate) fn reach(
     Ok(reached)
 }
 
-// For each instruction, and for the end, how many stay from there on: all that are reached and wanted, but for jumps over
-// nothing.
+// For each instruction, and for the end, how many stay from there on: all that are reached and
+// wanted, but for jumps over nothing.
 pub(crate) fn stays(
     alloc: Global,
     body: &[Instr],

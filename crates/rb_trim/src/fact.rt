@@ -17,7 +17,7 @@ pub enum Content {
     Loaded(usize, u64, u8),
 }
 
-/// A slot holds this.
+/// A fact on a slot: it holds this content.
 #[derive(Clone, Copy, PartialEq, Eq)]
 pub struct Fact {
     pub slot: usize,

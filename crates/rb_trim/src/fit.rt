@@ -10,14 +10,14 @@ use crate::moving::{name_at, origin_at, read_at};
 use rb_core::seq::Seq;
 use rb_target::instr::{Instr, SwitchArm};
 
-// Whether each slot is below their number.
+// Whether each number of a list is that of one of so many slots.
 fn are_slots(slots: usize, items: &[usize]) -> bool
     ensures { IsTrue result ↔ AreSlots slots items.now }
 {
     items.iter().all(|slot| *slot < slots)
 }
 
-// Whether an instruction's slots are below their number.
+// Whether the slots of an instruction are all below `slots`, which is how many there are.
 fn slots_fit(slots: usize, instr: &Instr) -> bool
     ensures { IsTrue result ↔ SlotsFit slots instr.now }
 {
@@ -38,14 +38,14 @@ fn slots_fit(slots: usize, instr: &Instr) -> bool
     }
 }
 
-// Whether a target lies behind an instruction and within the body.
+// Whether a target lies behind instruction `pc` and within a body of `long` instructions.
 fn is_target(long: usize, pc: usize, target: usize) -> bool
     ensures { IsTrue result ↔ IsTarget long pc target }
 {
     pc < target && target < long
 }
 
-// Whether each arm's target lies so.
+// Whether each arm's target lies behind an instruction and within the body.
 fn are_arms(long: usize, pc: usize, arms: &[SwitchArm]) -> bool
     ensures { IsTrue result ↔ AreArms long pc arms.now }
 {
@@ -137,7 +137,7 @@ fn ends_in_return(body: &[Instr]) -> bool
     matches!(body.last(), Some(Instr::Return(_)))
 }
 
-// Whether the slots, targets and numbers of one instruction fit.
+// Whether the slots, targets and numbers of instruction `pc`, if there is one, fit.
 fn fits_at(slots: usize, body: &[Instr], pc: usize) -> bool
     ensures { IsTrue result → FitsAt slots body.now pc }
 {
@@ -149,7 +149,7 @@ fn fits_at(slots: usize, body: &[Instr], pc: usize) -> bool
     }
 }
 
-// Whether each instruction's slots and targets fit.
+// Whether each instruction's slots, targets and numbers fit.
 fn each_fits(slots: usize, body: &[Instr]) -> bool
     ensures { IsTrue result → ((pc : ℕ) → pc < length body.now → FitsAt slots body.now pc) }
 {
@@ -176,7 +176,7 @@ pub(crate) fn fits(slots: usize, params: usize, body: &Seq<Instr>) -> bool
     each_fits(slots, body)
 }
 
-// Whether a slot that is read has a new number of its own.
+// Whether a slot, if it is read, has a new number of its own.
 fn is_apart(hints: &Hints, slot: usize) -> bool
     ensures { IsTrue result → IsApart hints.now slot }
 {
@@ -195,7 +195,8 @@ pub(crate) fn are_apart(hints: &Hints) -> bool
     true
 }
 
-// Whether a parameter that is read keeps its number, and another slot has none of theirs.
+// Whether a slot, if it is read, keeps its number where it is a parameter, and has none of a
+// parameter where it is none.
 fn keeps_param(hints: &Hints, params: usize, slot: usize) -> bool
     ensures { IsTrue result → KeepsParam hints.now params slot }
 {

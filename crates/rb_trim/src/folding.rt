@@ -19,7 +19,7 @@ fn arms_come(hints: &Hints, arms: &[SwitchArm]) -> bool
         .all(|arm| is_reached(hints, end_at(hints, arm.target)))
 }
 
-// Whether a run may come to the other target.
+// Whether a run may come to the target of a switch's other way, if it has one.
 fn other_comes(hints: &Hints, other: Option<usize>) -> bool
     ensures { IsTrue result → IfSome other (λ t. IsReached hints.now (end hints.now t)) }
 {
@@ -29,7 +29,7 @@ fn other_comes(hints: &Hints, other: Option<usize>) -> bool
     }
 }
 
-// The arms of two switches, with their new targets.
+// The arms of two switches in one list, those of the first in front, with their new targets.
 fn both(
     alloc: Global,
     hints: &Hints,

@@ -7,7 +7,8 @@ use crate::hints::Hints;
 use crate::moving::{Stop, dest, end_at, is_reached, is_read, known_at, name, place_at};
 use rb_target::instr::Instr;
 
-// The slot to which an instruction copies another, which is not read from there on.
+// The slot to which instruction `at` copies the word of `slot`, where no instruction behind it
+// reads `slot`; else the hints do not fit.
 fn copied_to(hints: &Hints, body: &[Instr], at: usize, slot: usize) -> Result<usize, Stop>
     ensures { IfOk result (λ d. IsCopied hints.now body.now at slot d) }
 {

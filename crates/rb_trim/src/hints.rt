@@ -3,7 +3,7 @@
 use crate::fact::Fact;
 use rb_core::seq::Seq;
 
-/// Stands for a switch that returns at once.
+/// In `given`: a switch is to return at once, as all its ways return the same words.
 pub(crate) const RETURNS: usize = 2;
 
 /// What is left out of a body, and the new numbers of its instructions and slots. Nothing is right by itself: `trim`

@@ -27,7 +27,7 @@ pub(crate) fn source(facts: &[Fact], slot: usize) -> usize
     slot
 }
 
-// The slot with which a fact says that a slot is the same.
+// The slot whose word a fact says that `slot` holds, if it says so of any.
 fn same_as(fact: &Fact, slot: usize) -> Option<usize>
     ensures { IfSome result (λ from. fact.now ≡ record { slot = slot; content = Same from }) }
 {
@@ -42,7 +42,7 @@ fn same_as(fact: &Fact, slot: usize) -> Option<usize>
     }
 }
 
-// What a slot is known to hold.
+// What a slot is known to hold, by the first fact on it, if there is one.
 pub(crate) fn content_of(facts: &[Fact], slot: usize) -> Option<Content>
     ensures { IfSome result (λ content. IsHeld facts.now slot content) }
 {
@@ -54,7 +54,7 @@ pub(crate) fn content_of(facts: &[Fact], slot: usize) -> Option<Content>
     None
 }
 
-// Whether a number is below two to the power of so many bits.
+// Whether a number has at most `l` bits; false for an `l` that is 0 or above 64.
 fn is_below(number: u64, l: u8) -> bool
     ensures { IsTrue result → number < 2 ^ l }
 {
@@ -64,7 +64,8 @@ fn is_below(number: u64, l: u8) -> bool
     take(number, 0, u32::from(l)) == number
 }
 
-// Whether a content has at most so many bits.
+// Whether a content alone tells that a word has at most so many bits: never another slot's word, or
+// a load.
 fn fits_in(content: &Content, l: u8) -> bool
     ensures { IsTrue result → IsBelow content.now l }
 {
@@ -86,7 +87,8 @@ pub(crate) fn is_narrow(facts: &[Fact], slot: usize, l: u8) -> bool
     }
 }
 
-// Bits of a number in a slot, told by the number.
+// Bits `o` up to `o + l` of a slot that holds a number, told by the number; by the slot where these
+// are no bits of a word.
 fn part_of_number(facts: &[Fact], slot: usize, o: u8, l: u8, number: u64) -> Content
     requires { IsHeld facts.now slot (Number number) }
     ensures { IsAsMuch facts.now (Part slot o l) result }
@@ -97,7 +99,8 @@ fn part_of_number(facts: &[Fact], slot: usize, o: u8, l: u8, number: u64) -> Con
     Content::Number(take(number, u32::from(o), u32::from(l)))
 }
 
-// Bits of bits in a slot, told by the slot from which these are.
+// Bits `o` up to `o + l` of a slot that holds `bits` bits of slot `from`, from bit `begin` on: told
+// by `from` where all of them are among these, else by the slot itself.
 fn part_of_part(
     facts: &[Fact],
     slot: usize,
@@ -119,7 +122,7 @@ fn part_of_part(
     Content::Part(from, at, l)
 }
 
-// Bits of a slot, told by what it is known to hold.
+// Bits `o` up to `o + l` of a slot, told by what it is known to hold, or by the slot itself.
 fn part_of(facts: &[Fact], slot: usize, o: u8, l: u8) -> Content
     ensures { IsAsMuch facts.now (Part slot o l) result }
 {
@@ -133,7 +136,7 @@ fn part_of(facts: &[Fact], slot: usize, o: u8, l: u8) -> Content
     }
 }
 
-// Bits of a slot: all that it is known to have are the word itself.
+// Bits `o` up to `o + l` of a slot: the word itself where they are all that it is known to have.
 pub(crate) fn part(facts: &[Fact], slot: usize, o: u8, l: u8) -> Content
     ensures { IsAsMuch facts.now (Part slot o l) result }
 {
@@ -163,7 +166,8 @@ pub(crate) fn resolved(facts: &[Fact], content: Content) -> Content
     }
 }
 
-// What a slot holds, made anew, where that takes one instruction and no memory.
+// What a slot holds, made anew, where that takes one instruction and no memory; else the slot's own
+// word.
 fn anew(facts: &[Fact], from: usize) -> Content
     ensures { IsAsMuch facts.now (Same from) result }
 {
@@ -176,7 +180,8 @@ fn anew(facts: &[Fact], from: usize) -> Content
     }
 }
 
-// The same content, made anew where it is another slot's.
+// The same content; where it is another slot's word, what that slot holds is made anew, if one
+// instruction does it without memory.
 pub(crate) fn remade(facts: &[Fact], content: Content) -> Content
     ensures { IsAsMuch facts.now content result }
 {

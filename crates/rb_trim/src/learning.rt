@@ -10,7 +10,7 @@ use std::alloc::{AllocError, Global};
 /// How many facts are kept at most at a place, the newest ones, and how many slots.
 pub(crate) const MOST: usize = 12;
 
-// So many numbers from this one on, each as much more than the one before.
+// So many numbers from `first` on, each by `more` greater than the one before.
 pub(crate) fn numbers(
     alloc: Global,
     count: usize,
@@ -33,7 +33,7 @@ struct Knowledge {
     is_met: Seq<bool>,
 }
 
-// Nothing known, and nothing met.
+// What is known of so many instructions before the walk has come to any: nothing.
 fn blank(alloc: Global, count: usize) -> Result<Knowledge, AllocError> {
     let mut facts = Seq::new(alloc);
     let mut is_met = Seq::new(alloc);
@@ -44,7 +44,7 @@ fn blank(alloc: Global, count: usize) -> Result<Knowledge, AllocError> {
     Ok(Knowledge { facts, is_met })
 }
 
-// The facts that are among others, too.
+// Those facts of a list that are in another one, too.
 fn common(alloc: Global, facts: &[Fact], others: &[Fact]) -> Result<Seq<Fact>, AllocError> {
     let mut both = Seq::new(alloc);
     for fact in facts {
@@ -55,7 +55,8 @@ fn common(alloc: Global, facts: &[Fact], others: &[Fact]) -> Result<Seq<Fact>, A
     Ok(both)
 }
 
-// An edge to an instruction: what is known there holds by each edge.
+// Notes an edge, a way on which a run may come to an instruction: what is known there is what holds
+// by each edge.
 fn meet(alloc: Global, known: &mut Knowledge, pc: usize, facts: &[Fact]) -> Result<(), AllocError> {
     let Some(is_met) = known.is_met.get(pc) else {
         return Ok(());
@@ -77,7 +78,7 @@ fn meet(alloc: Global, known: &mut Knowledge, pc: usize, facts: &[Fact]) -> Resu
     Ok(())
 }
 
-// The slot that is known to hold a content, by the newest fact.
+// The slot that is known to hold a content, by the newest fact that says so, if any does.
 pub(crate) fn holder(facts: &[Fact], content: Content) -> Option<usize> {
     for fact in facts.iter().rev() {
         if fact.content == content {
@@ -87,7 +88,9 @@ pub(crate) fn holder(facts: &[Fact], content: Content) -> Option<usize> {
     None
 }
 
-// What an instruction makes known.
+// What an instruction makes known of the slot that it writes: what this holds, or that it is the
+// same as a slot that holds it already. None if nothing is told, or if it would be told by the slot
+// itself, whose word is another one now.
 fn new_fact(facts: &[Fact], instr: &Instr) -> Option<Fact> {
     let told = told(facts, instr)?;
     let content = match told.content {
@@ -108,7 +111,8 @@ fn new_fact(facts: &[Fact], instr: &Instr) -> Option<Fact> {
     })
 }
 
-// What is known behind an instruction.
+// What is known behind an instruction: those of the newest facts that it leaves as they are, and
+// what it makes known.
 fn behind(alloc: Global, facts: &[Fact], instr: &Instr) -> Result<Seq<Fact>, AllocError> {
     let mut after = Seq::new(alloc);
     for (i, fact) in facts.iter().enumerate() {
@@ -122,7 +126,8 @@ fn behind(alloc: Global, facts: &[Fact], instr: &Instr) -> Result<Seq<Fact>, All
     Ok(after)
 }
 
-// What is known where a slot, or one with the same word, holds a number: the newest facts, and this one.
+// What is known where a slot, or one with the same word, holds a number: the newest facts, and this
+// one.
 fn told_in(
     alloc: Global,
     facts: &[Fact],
@@ -142,7 +147,8 @@ fn told_in(
     Ok(told)
 }
 
-// The edges of an instruction.
+// Notes all edges of an instruction, the ways on which a run may go on behind it, with what is
+// known on each.
 fn spread(
     alloc: Global,
     known: &mut Knowledge,
@@ -175,7 +181,7 @@ fn spread(
     }
 }
 
-// What is known before each instruction.
+// What is known before each instruction, as a walk from the first one on finds.
 pub(crate) fn learn(alloc: Global, body: &[Instr]) -> Result<Seq<Seq<Fact>>, AllocError> {
     let mut known = blank(alloc, body.len())?;
     for (pc, instr) in body.iter().enumerate() {
@@ -195,7 +201,7 @@ pub(crate) fn facts_at(facts: &[Seq<Fact>], pc: usize) -> &[Fact] {
     }
 }
 
-// The slots of a place, or none past the end.
+// The slots that a list has for an instruction, or none past the end.
 pub(crate) fn slots_at(places: &[Seq<usize>], pc: usize) -> &[usize] {
     match places.get(pc) {
         None => &[],
@@ -203,7 +209,7 @@ pub(crate) fn slots_at(places: &[Seq<usize>], pc: usize) -> &[usize] {
     }
 }
 
-// The slots that a content is told by.
+// The slots by which a content is told, none for a number.
 fn told_by(alloc: Global, content: Content) -> Result<Seq<usize>, AllocError> {
     let mut slots = Seq::new(alloc);
     match content {
@@ -271,7 +277,7 @@ pub(crate) fn set_by(instr: &Instr) -> Option<usize> {
     }
 }
 
-// The slots that were set last and not read since, behind an instruction.
+// The slots that were set last and not read since, behind an instruction: the newest ones only.
 fn later(
     alloc: Global,
     slots: &[usize],
@@ -292,7 +298,8 @@ fn later(
     Ok(after)
 }
 
-// An edge to an instruction: the slots that were set last by either edge.
+// Notes an edge, a way on which a run may come to an instruction: the slots that were set last by
+// either edge, as many as are kept.
 fn join(
     alloc: Global,
     late: &mut Seq<Seq<usize>>,
@@ -317,7 +324,8 @@ fn join(
     Ok(())
 }
 
-// The edges of an instruction.
+// Notes all edges of an instruction, the ways on which a run may go on behind it, with the slots
+// that were set last.
 fn join_all(
     alloc: Global,
     late: &mut Seq<Seq<usize>>,

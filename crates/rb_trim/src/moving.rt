@@ -36,28 +36,28 @@ pub(crate) fn number_at(numbers: &[usize], i: usize) -> usize
     }
 }
 
-// A slot's new number.
+// A slot's new number, or 0 past the end.
 pub(crate) fn name_at(hints: &Hints, slot: usize) -> usize
     ensures { result ≡ slice_index hints.now.names slot }
 {
     number_at(hints.names.as_slice(), slot)
 }
 
-// The slot of a new number.
+// The slot that has a new number, or 0 past the end.
 pub(crate) fn origin_at(hints: &Hints, new: usize) -> usize
     ensures { result ≡ slice_index hints.now.origins new }
 {
     number_at(hints.origins.as_slice(), new)
 }
 
-// One more than the number of the last instruction that reads a slot.
+// One more than the number of the last instruction that reads a slot; 0 where none does.
 pub(crate) fn read_at(hints: &Hints, slot: usize) -> usize
     ensures { result ≡ slice_index hints.now.reads slot }
 {
     number_at(hints.reads.as_slice(), slot)
 }
 
-// What is known before an instruction.
+// What is known before an instruction, nothing past the end.
 pub(crate) fn known_at(hints: &Hints, pc: usize) -> &[Fact]
     ensures { result.now ≡ facts_at hints.now pc }
 {
@@ -67,7 +67,7 @@ pub(crate) fn known_at(hints: &Hints, pc: usize) -> &[Fact]
     }
 }
 
-// Slots that no way from an instruction on reads.
+// Some slots that no way from an instruction on reads, none past the end.
 pub(crate) fn unread_at(hints: &Hints, pc: usize) -> &[usize]
     ensures { result.now ≡ dead_at hints.now pc }
 {
@@ -84,7 +84,8 @@ fn is_dead(hints: &Hints, pc: usize, slot: usize) -> bool
     unread_at(hints, pc).contains(&slot)
 }
 
-// Whether a slot is read from an instruction on.
+// Whether a slot is read from an instruction on: it or a later line reads the slot, and it is not
+// known that no way comes to one that does.
 pub(crate) fn is_read(hints: &Hints, pc: usize, slot: usize) -> bool
     ensures { IsTrue result ↔ IsRead hints.now pc slot }
 {
@@ -92,7 +93,7 @@ pub(crate) fn is_read(hints: &Hints, pc: usize, slot: usize) -> bool
     pc < read && !is_dead(hints, pc, slot)
 }
 
-// Where a run goes on that jumps to an instruction.
+// The instruction at which a run goes on that jumps to this one.
 pub(crate) fn end_at(hints: &Hints, pc: usize) -> usize
     ensures { result ≡ end hints.now pc }
 {
@@ -106,14 +107,14 @@ pub(crate) fn is_reached(hints: &Hints, pc: usize) -> bool
     number_at(hints.reached.as_slice(), pc) > 0
 }
 
-// Whether an instruction stands for no other one behind it.
+// Whether what stands for an instruction stands for no other one behind it.
 pub(crate) fn is_plain(hints: &Hints, pc: usize) -> bool
     ensures { IsTrue result ↔ IsPlain hints.now pc }
 {
     number_at(hints.given.as_slice(), pc) == 0
 }
 
-// Whether a switch is to return at once.
+// Whether a switch is to return at once, as all its ways return the same words.
 pub(crate) fn turns_back(hints: &Hints, pc: usize) -> bool {
     number_at(hints.given.as_slice(), pc) == RETURNS
 }
@@ -125,14 +126,14 @@ pub(crate) fn place_at(hints: &Hints, pc: usize) -> usize
     number_at(hints.places.as_slice(), pc)
 }
 
-// The new number of an instruction to which a jump leads.
+// The new number at which a run goes on that jumps to an instruction.
 fn landing_at(hints: &Hints, pc: usize) -> usize
     ensures { result ≡ landing hints.now pc }
 {
     place_at(hints, end_at(hints, pc))
 }
 
-// The new number of a slot that is written.
+// The new number of a slot that is written; the hints do not fit where it is that of another slot.
 pub(crate) fn dest(hints: &Hints, slot: usize) -> Result<usize, Stop>
     ensures { IfOk result (λ d. IsDest hints.now slot d) }
 {
@@ -144,7 +145,8 @@ pub(crate) fn dest(hints: &Hints, slot: usize) -> Result<usize, Stop>
     Ok(new)
 }
 
-// The new number of a slot that is read, or of one that is known to hold the same word.
+// The new number of a slot that is read, or of one that is known to hold the same word; the hints
+// do not fit where that is not read there.
 pub(crate) fn name(hints: &Hints, facts: &[Fact], pc: usize, slot: usize) -> Result<usize, Stop>
     ensures { IfOk result (λ a. IsName hints.now facts.now pc slot a) }
 {
@@ -156,7 +158,7 @@ pub(crate) fn name(hints: &Hints, facts: &[Fact], pc: usize, slot: usize) -> Res
     Ok(new)
 }
 
-// The new numbers of slots that are written.
+// The new numbers of slots that are written, one each and in their order.
 fn dests(alloc: Global, hints: &Hints, slots: &[usize]) -> Result<Seq<usize>, Stop>
     ensures { IfOk result (λ new. AreDests hints.now slots.now new) }
 {
@@ -168,7 +170,8 @@ fn dests(alloc: Global, hints: &Hints, slots: &[usize]) -> Result<Seq<usize>, St
     Ok(new)
 }
 
-// The new numbers of slots that are read.
+// The new numbers of slots that are read, or of ones that are known to hold the same words, one
+// each and in their order.
 pub(crate) fn names(
     alloc: Global,
     hints: &Hints,
@@ -270,7 +273,7 @@ fn move_put(
     Ok(Instr::Put(new, part, o, l))
 }
 
-// A jump, or the return to which it comes, under new numbers.
+// A jump under new numbers, or the return, where it leads to one at once.
 fn move_jump(alloc: Global, hints: &Hints, body: &[Instr], target: usize) -> Result<Instr, Stop>
     ensures { IfOk result (λ j. IsJumped hints.now body.now target j) }
 {

@@ -32,7 +32,8 @@ fn has_arms(arms: &[SwitchArm], count: u64) -> bool
     true
 }
 
-// Whether a slot has at most so many bits, and a switch an arm for each number of so many.
+// Whether a slot is known to have at most `l` bits, and a switch has an arm for each of the first
+// `count` numbers, among which are all of so many bits.
 fn has_all(
     facts: &[Fact],
     slot: usize,
@@ -72,7 +73,7 @@ pub(crate) fn is_whole(
     has_all(facts, slot, other, arms, 3, 8)
 }
 
-// The words that a way returns, under new numbers.
+// The words that a run returns that goes to `target`, under new numbers.
 fn words_of(alloc: Global, hints: &Hints, body: &[Instr], target: usize) -> Result<Seq<usize>, Stop>
     ensures { IfOk result (λ words. ComesBack hints.now body.now words target) }
 {
@@ -84,7 +85,7 @@ fn words_of(alloc: Global, hints: &Hints, body: &[Instr], target: usize) -> Resu
     Ok(words)
 }
 
-// Tests that a way returns these words.
+// Tests that a run that goes to `target` returns these words at once; else the hints do not fit.
 fn comes_back(
     alloc: Global,
     hints: &Hints,
@@ -108,7 +109,7 @@ fn are_same(words: &[usize], others: &[usize]) -> bool
     words == others
 }
 
-// Tests that the arm with this place, if there is one, returns these words.
+// Tests that the arm at index `k`, if there is one, leads to the return of these words.
 fn arm_comes_back(
     alloc: Global,
     hints: &Hints,
@@ -125,7 +126,7 @@ fn arm_comes_back(
     }
 }
 
-// Tests that each arm returns these words.
+// Tests that each arm of a switch leads to the return of these words.
 fn arms_come_back(
     alloc: Global,
     hints: &Hints,
@@ -142,7 +143,7 @@ fn arms_come_back(
     Ok(())
 }
 
-// Tests that the other way, if there is one, returns these words.
+// Tests that a switch's other way, if it has one, leads to the return of these words.
 fn other_comes_back(
     alloc: Global,
     hints: &Hints,

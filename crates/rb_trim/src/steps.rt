@@ -20,7 +20,7 @@ use rb_core::seq::Seq;
 use rb_target::instr::{Instr, SwitchArm};
 use std::alloc::Global;
 
-// One of some facts, by its number.
+// The fact with this number, or None past the end.
 fn fact_at(facts: &[Fact], k: usize) -> Option<Fact>
     ensures { result ≡ slice_get facts.now k }
 {
@@ -53,7 +53,8 @@ fn is_unread(hints: &Hints, pc: usize, slot: usize) -> bool
     !is_read(hints, behind, slot)
 }
 
-// Whether an instruction need not be there.
+// Whether an instruction need not be there: what it writes is not read behind it, and it cannot end
+// the run.
 fn is_idle(hints: &Hints, facts: &[Fact], pc: usize, instr: &Instr) -> bool
     ensures { IsTrue result → IsIdle hints.now facts.now pc instr.now }
 {
@@ -131,7 +132,8 @@ fn ends_well(hints: &Hints, pc: usize, instr: &Instr) -> bool
     }
 }
 
-// Whether a slot that is not read before an instruction is set by it, or not read at a place behind it either.
+// Whether a slot that is not read before an instruction may stay so at a place behind it: the
+// instruction sets it, or it is not read there either.
 fn is_over(hints: &Hints, instr: &Instr, target: usize, slot: usize) -> bool
     ensures { IsTrue result → (Sets instr.now slot ⊎ IsUnread hints.now target slot) }
 {
@@ -141,7 +143,8 @@ fn is_over(hints: &Hints, instr: &Instr, target: usize, slot: usize) -> bool
     !is_read(hints, target, slot)
 }
 
-// Whether one of some slots is over at a place behind an instruction.
+// Whether the slot with number `k` in a list, if there is one, is set by an instruction, or not
+// read from `target` on.
 fn lives_at(hints: &Hints, slots: &[usize], instr: &Instr, target: usize, k: usize) -> bool
     ensures { IsTrue result → LivesAt hints.now slots.now instr.now target k }
 {
@@ -151,7 +154,7 @@ fn lives_at(hints: &Hints, slots: &[usize], instr: &Instr, target: usize, k: usi
     }
 }
 
-// Whether each of some slots is over at a place behind an instruction.
+// Whether each slot of a list is set by an instruction, or not read from `target` on.
 fn each_lives(hints: &Hints, slots: &[usize], instr: &Instr, target: usize) -> bool
     ensures { IsTrue result
         → ((k : ℕ) → k < length slots.now → LivesAt hints.now slots.now instr.now target k) }
@@ -174,7 +177,8 @@ fn lives_on(hints: &Hints, pc: usize, instr: &Instr, target: usize) -> bool
     each_lives(hints, unread_at(hints, pc), instr, target)
 }
 
-// Whether what is said of a place holds behind an instruction, by a way that tells this.
+// Whether what the hints say of `target`, the slots read and the facts, holds behind an
+// instruction, by a way that tells `told`.
 fn goes_on(hints: &Hints, pc: usize, instr: &Instr, told: Option<Fact>, target: usize) -> bool
     ensures { IsTrue result → GoesOn hints.now pc instr.now told target }
 {
@@ -191,7 +195,7 @@ fn comes_on(hints: &Hints, pc: usize, target: usize) -> bool
     !is_reached(hints, pc) || is_reached(hints, target)
 }
 
-// Whether a way that tells this may lead to a target.
+// Whether a way that tells `told` may lead to `target`: what the hints say of it holds there.
 fn jumps_on(hints: &Hints, pc: usize, instr: &Instr, told: Option<Fact>, target: usize) -> bool
     ensures { IsTrue result → JumpsOn hints.now pc instr.now told target }
 {
@@ -218,7 +222,8 @@ fn arm_jumps_on(
     }
 }
 
-// Whether each arm of a switch on a slot may lead to its target.
+// Whether each arm of a switch on a slot may lead to its target: there the slot holds the arm's
+// number.
 fn arms_jump_on(hints: &Hints, pc: usize, instr: &Instr, slot: usize, arms: &[SwitchArm]) -> bool
     ensures { IsTrue result
         → All (λ (arm : SwitchArmDecl). JumpsOn hints.now pc instr.now (tells slot arm.number) arm.target) arms.now }
@@ -248,7 +253,8 @@ fn comes_behind(hints: &Hints, pc: usize, target: usize) -> bool
     !is_plain(hints, pc) || comes_on(hints, pc, target)
 }
 
-// Whether the instruction behind may come next.
+// Whether a run may go on from an instruction to the next one: what the hints say of it holds
+// there.
 fn falls_on(hints: &Hints, pc: usize, instr: &Instr) -> bool
     ensures { IsTrue result → FallsOn hints.now pc instr.now (pc + 1) }
 {
@@ -258,7 +264,7 @@ fn falls_on(hints: &Hints, pc: usize, instr: &Instr) -> bool
     }
 }
 
-// Whether all that is said of the places holds wherever a run goes on.
+// Whether what the hints say of the places holds wherever a run goes on behind an instruction.
 fn is_known_on(hints: &Hints, pc: usize, instr: &Instr) -> bool
     ensures { IsTrue result → IsKnownOn hints.now pc instr.now }
 {
@@ -281,7 +287,7 @@ fn is_known_on(hints: &Hints, pc: usize, instr: &Instr) -> bool
     }
 }
 
-// Whether an instruction is left out.
+// Whether an instruction is left out: the hints give it no place of its own, and it may go.
 fn is_out(hints: &Hints, pc: usize, instr: &Instr) -> bool
     ensures { IsTrue result → IsSkipped hints.now pc instr.now }
 {
@@ -316,7 +322,7 @@ fn merged(
     Ok(new)
 }
 
-// The instruction that stands for one of a body.
+// The instruction that stands for one of a body, alone or with others behind it.
 fn stands_for(
     alloc: Global,
     hints: &Hints,
@@ -342,7 +348,8 @@ fn stands_for(
     Ok(new)
 }
 
-// The next instruction of a body, which stands under new numbers or is left out.
+// Goes through the next instruction of a body: tests what the hints say of it, and adds the one
+// that stands for it to the new body, if it is not left out.
 fn step(
     alloc: Global,
     hints: &Hints,
@@ -371,7 +378,8 @@ fn step(
     Ok(())
 }
 
-/// The shorter body.
+/// The shorter body that the hints describe, made instruction by instruction, each of which is
+/// tested.
 ///
 /// # Errors
 ///

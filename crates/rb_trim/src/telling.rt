@@ -10,7 +10,8 @@ use crate::fact::{Content, Fact};
 use crate::knowing::{is_known, is_narrow, part, resolved, source};
 use rb_target::instr::Instr;
 
-// What an instruction makes of slots, numbers and memory, without changing memory.
+// What an instruction makes of the slot that it writes, told by the slots before it. None for a
+// put, and for what stores, places, jumps, switches, calls or returns.
 fn made(instr: &Instr) -> Option<Fact>
     ensures { result ≡ made_of instr.now }
 {
@@ -39,7 +40,8 @@ fn fact(slot: usize, content: Content) -> Option<Fact>
     Some(Fact { slot, content })
 }
 
-// What a slot holds once bits are put into it, where they replace all that it has.
+// What a slot holds once the low `l` bits of another are put into it from bit `o` on, where they
+// replace all that it is known to have; None where they may not.
 fn laid(facts: &[Fact], slot: usize, from: usize, o: u8, l: u8) -> Option<Content>
     ensures { IfSome result (λ content. IsLaid facts.now slot from o l content) }
 {
@@ -54,7 +56,7 @@ fn laid(facts: &[Fact], slot: usize, from: usize, o: u8, l: u8) -> Option<Conten
     Some(content)
 }
 
-// What bits put into a slot make of it, told by what is known.
+// What a put makes of its slot, told by what is known; None where old bits may stay.
 fn told_put(facts: &[Fact], slot: usize, from: usize, o: u8, l: u8) -> Option<Fact>
     ensures { IfSome result (λ fact. IsTold facts.now (Put slot from o l) fact) }
 {
@@ -64,7 +66,8 @@ fn told_put(facts: &[Fact], slot: usize, from: usize, o: u8, l: u8) -> Option<Fa
     Some(Fact { slot, content })
 }
 
-// What another instruction makes, told by what is known.
+// What an instruction other than a put makes, told by what is known; None where nothing is told of
+// it.
 fn told_made(facts: &[Fact], instr: &Instr) -> Option<Fact>
     ensures { IfSome result (λ fact. IsTold facts.now instr.now fact) }
 {
@@ -78,7 +81,7 @@ fn told_made(facts: &[Fact], instr: &Instr) -> Option<Fact>
     })
 }
 
-// What an instruction makes, told by what is known.
+// What an instruction makes of the slot that it writes, told by what is known, if that can be told.
 pub(crate) fn told(facts: &[Fact], instr: &Instr) -> Option<Fact>
     ensures { IfSome result (λ fact. IsTold facts.now instr.now fact) }
 {
@@ -111,7 +114,7 @@ pub(crate) fn is_told_by(content: &Content, slot: usize) -> bool
     }
 }
 
-// Whether a slot is among these.
+// Whether a slot is one of a list.
 fn is_among(slots: &[usize], slot: usize) -> bool
     ensures { IsTrue result ↔ Contains slots.now slot }
 {
@@ -173,7 +176,7 @@ fn changes(instr: &Instr) -> bool
     }
 }
 
-// Whether a content is the same behind an instruction.
+// Whether an instruction changes nothing that a content is told by.
 fn keeps_content(instr: &Instr, content: &Content) -> bool
     ensures { IsTrue result → Keeps instr.now content.now }
 {
@@ -185,7 +188,8 @@ fn keeps_content(instr: &Instr, content: &Content) -> bool
     }
 }
 
-// Whether a fact holds because of an instruction.
+// Whether a fact holds behind an instruction because of it: it is what the instruction makes of its
+// slot, or says that this is the same as a slot that is known to hold that.
 fn is_made(facts: &[Fact], instr: &Instr, fact: &Fact) -> bool
     ensures { IsTrue result → FollowsOne facts.now instr.now fact.now }
 {
@@ -231,7 +235,7 @@ pub(crate) fn stays(facts: &[Fact], instr: &Instr, fact: &Fact) -> bool
     keeps_content(instr, &fact.content)
 }
 
-// What the way of a number behind a switch on a slot tells.
+// What the way of a number behind a switch on a slot tells: the slot holds the number.
 pub(crate) fn tells(slot: usize, number: u64) -> Option<Fact>
     ensures { result ≡ tells_of slot number }
 {
@@ -258,7 +262,7 @@ fn is_said(facts: &[Fact], told: Option<Fact>, instr: &Instr, fact: &Fact) -> bo
     keeps_content(instr, &fact.content)
 }
 
-// Whether a fact holds behind an instruction, by a way that tells this.
+// Whether a fact holds behind an instruction, by a way that tells `told`.
 fn holds_behind(facts: &[Fact], told: Option<Fact>, instr: &Instr, fact: &Fact) -> bool
     ensures { IsTrue result → HoldsBehind facts.now told instr.now fact.now }
 {
@@ -271,7 +275,8 @@ fn holds_behind(facts: &[Fact], told: Option<Fact>, instr: &Instr, fact: &Fact) 
     is_said(facts, told, instr, fact)
 }
 
-// Whether one of some facts holds behind an instruction, by a way that tells this.
+// Whether the fact with number `k` in `behind`, if there is one, holds behind an instruction, by a
+// way that tells `told`.
 fn follows_at(facts: &[Fact], told: Option<Fact>, instr: &Instr, behind: &[Fact], k: usize) -> bool
     ensures { IsTrue result → FollowsAt facts.now told instr.now behind.now k }
 {

@@ -14,7 +14,8 @@ use rb_core::seq::Seq;
 use rb_target::code::{Code, CodeFun};
 use std::alloc::{AllocError, Global};
 
-// Whether nothing is known before the first instruction.
+// Whether the hints say that nothing is known before the first instruction, where a run may begin
+// with any words.
 fn knows_nothing(hints: &Hints) -> bool
     ensures { IsTrue result → (facts_at hints.now 0 ≡ []) }
 {
@@ -22,7 +23,7 @@ fn knows_nothing(hints: &Hints) -> bool
     matches!(facts, [])
 }
 
-// A function that does what another does, as hints tell.
+// A function that does what another does, as hints tell; all on which it rests is tested.
 fn trim_by(alloc: Global, fun: &CodeFun, hints: &Hints) -> Result<CodeFun, Stop>
     ensures { IfOk result (λ q. IsTrimmed fun.now q) }
 {
@@ -58,7 +59,8 @@ fn trim_by(alloc: Global, fun: &CodeFun, hints: &Hints) -> Result<CodeFun, Stop>
     })
 }
 
-// The same function with fewer instructions, or else an equal one.
+// A function that does the same with no more instructions: as the guessed hints tell, or, should
+// these not fit, with one for each of its own.
 fn trim_fun(alloc: Global, fun: &CodeFun) -> Result<CodeFun, Stop>
     ensures { IfOk result (λ q. IsTrimmed fun.now q) }
 {
@@ -74,7 +76,7 @@ fn trim_fun(alloc: Global, fun: &CodeFun) -> Result<CodeFun, Stop>
     }
 }
 
-// All functions.
+// All functions, each with no more instructions, in their order.
 fn trim_funs(alloc: Global, funs: &[CodeFun]) -> Result<Seq<CodeFun>, Stop>
     ensures { IfOk result (λ new. AreTrimmed funs.now (length funs.now) new) }
 {

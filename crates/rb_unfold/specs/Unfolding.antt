@@ -26,7 +26,7 @@ pub data Seen : Type 0 where
   Opens : Seen  -- the block to which the part points: its words follow
   Closes : Seen  -- the block ends: what follows is the next part of the word that points to it, or the next word
 
--- a block, where this is what is seen of its words
+-- what is seen of a block, where `seen` is what is seen of its words
 abbrev pub in_block : List Seen → List Seen
 in_block seen = Opens ∷ seen ++ Closes ∷ []
 
@@ -39,14 +39,16 @@ behind block (Bits path a) = []
 behind block (Word path j) = []
 behind block (Pointer align b) = in_block (block b)
 
--- a part in a word of this width, and what is behind it
+-- what is seen of a part in a word of this width: the part, and behind a pointer its block,
+-- where `block b` is what is seen of block b
 abbrev pub part_seen : (ℕ → List Seen) → ℕ → Part → List Seen
 part_seen block width p = Has (stands width p) ∷ behind block p.kind
 
--- a word with its parts, one after the other
+-- what is seen of a word: its width, then its parts one after the other, where `block b` is what is seen of block b
 abbrev pub word_seen : (ℕ → List Seen) → FlatWord → List Seen
 word_seen block f = Begins f.width ∷ flat_map (part_seen block f.width) f.parts
 
+-- what is seen of flat words, one after the other, where `block b` is what is seen of block b
 abbrev pub words_seen : (ℕ → List Seen) → List FlatWord → List Seen
 words_seen block words = flat_map (word_seen block) words
 
@@ -67,6 +69,7 @@ pub record Nested (A : Type 0) : Type 0 where
   pub it : A
   pub inside : List Seen
 
+-- something with nothing written inside it
 abbrev pub alone : {A : Type 0} → A → Nested A
 alone x = record { it = x; inside = [] }
 
@@ -87,17 +90,17 @@ part_step opens p width =
 abbrev pub field_word : FlatWord → List Seen
 field_word f = Begins f.width ∷ map Has (standing f)
 
--- a word with its parts, or the words of a field
+-- what is written of an item: a word with its parts, or the words of the field at a path
 abbrev pub item_step : List LayoutDecl → List Open → LayItem-F (List Seen) (Nested Content) (ℕ → List Seen) → List Seen
 item_step decls opens (I.LayItem::Word width parts) = Begins width ∷ flat_map (λ part. part width) parts
 item_step decls opens (I.Inline path) = flat_map field_word (inlined decls (type_at opens path) path)
 
--- what is written of an item
+-- what is written of an item of a leaf, where `opens` are the leaf's open positions
 abbrev pub item_written : List LayoutDecl → List Open → LayItem → List Seen
 item_written decls opens =
     fold-LayItem (List Seen) (Nested Content) (ℕ → List Seen) (item_step decls opens) kind_step (part_step opens)
 
--- all that is written of a leaf, from left to right
+-- what is written of a leaf, item by item
 abbrev pub leaf_written : List DataDecl → List LayoutDecl → WrittenLeaf → List Seen
 leaf_written types decls w = flat_map (item_written decls (open_positions types w.provenance)) w.items
 

@@ -11,11 +11,11 @@ use Rattle.rb_values.specs.declared.fault.ValueFault.TheVariants.{ValueSyntax, V
 use Rattle.rb_values.specs.Terms.{Term, term_nodes, spelled, sign_of, signs, Spells}
 use Rattle.rb_values.specs.Fitting.{misfits, first, value_of}
 
--- some value's spelling begins so
+-- the spelling of some value begins with these signs, or is just these
 abbrev pub Begins : List Sign → Type 0
 Begins before = (t : Term) × (more : List Sign) × (before ++ more ≡ spelled t [])
 
--- no value is spelled so, from this byte on
+-- the text spells no value, which shows at byte p
 pub data StopsAt (text : List ℕ) (p : ℕ) : Type 0 where
   -- a value goes on up to this token, which begins there, and none goes on with it
   token : (before : List Placed) (here : Placed) (behind : List Placed)
@@ -27,7 +27,7 @@ pub data StopsAt (text : List ℕ) (p : ℕ) : Type 0 where
   ended : (front text).fault ≡ None → p ≡ length text → Begins (signs (front text).tokens)
       → ((t : Term) → signs (front text).tokens ≡ spelled t [] → ⊥) → StopsAt text p
 
--- the text spells a term of at most so many nodes, which fits the type
+-- the text spells a term of at most so many nodes, which fits the type, and v is the value that it names there
 pub record Reads (types : List DataDecl) (ty : Ty) (limit : ℕ) (text : List ℕ) (v : Value) : Type 0 where
   pub term : Term
   pub spells : Spells text term
@@ -35,7 +35,8 @@ pub record Reads (types : List DataDecl) (ty : Ty) (limit : ℕ) (text : List �
   pub fits : misfits types term ty ≡ []
   pub value : v ≡ value_of types term ty
 
--- a value; or the first of these: no value is spelled, it has too many nodes, it has a node that does not fit
+-- what is read of a text at a type: a value; or the first of these: no value is spelled, it has too many nodes, it
+-- has a node that does not fit. Want of memory says nothing of it
 abbrev pub IsRead : List DataDecl → Ty → ℕ → List ℕ → Result Value ValueFault → Type 0
 IsRead types ty limit text (Ok v) = Reads types ty limit text v
 IsRead types ty limit text (Err (ValueSyntax p)) = StopsAt text p

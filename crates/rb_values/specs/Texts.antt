@@ -12,49 +12,57 @@ use Rattle.rb_core.specs.declared.types.DataDecl.{DataDecl}
 
 -- Constructors. What a value of its type never asks for is filled in: type 0, no name, a field of u1.
 
+-- the number of a data type; 0 for an integer type
 abbrev pub type_index : Ty → ℕ
 type_index (Int bits) = 0
 type_index (Named t) = t
 
+-- constructor k of a data type; none where there is no such type or constructor
 abbrev pub con_in : Option DataDecl → ℕ → Option Con
 con_in None k = None
 con_in (Some d) k = slice_get d.cons k
 
--- constructor k of type t
+-- constructor k of type t; none where there is no such type or constructor
 abbrev pub con_of : List DataDecl → ℕ → ℕ → Option Con
 con_of types t k = con_in (slice_get types t) k
 
+-- the name of a constructor; empty where there is no constructor
 abbrev pub name_in : Option Con → List ℕ
 name_in None = []
 name_in (Some c) = c.name
 
+-- the name of constructor k of type t; empty where there is no such constructor
 unfoldable pub name_of : List DataDecl → ℕ → ℕ → List ℕ
 name_of types t k = name_in (con_of types t k)
 
+-- the type of field j of a constructor; u1 where there is no such constructor or field
 abbrev pub field_in : Option Con → ℕ → Ty
 field_in None j = Int 1
 field_in (Some c) j = slice_index_or c.fields j (Int 1)
 
--- the type of field j of constructor k of type t
+-- the type of field j of constructor k of type t; u1 where there is no such field
 unfoldable pub field_of : List DataDecl → ℕ → ℕ → ℕ → Ty
 field_of types t k j = field_in (con_of types t k) j
 
 -- Texts.
 
--- what stands before field j, and behind the last of j fields
+-- what stands before field j: a parenthesis before field 0, else a comma and a blank
 unfoldable pub before : ℕ → List ℕ
 before zero = codes "("
 before (suc j) = codes ", "
 
+-- what stands behind the last of so many fields: a parenthesis, and nothing where there are no fields
 unfoldable pub after_last : ℕ → List ℕ
 after_last zero = []
 after_last (suc j) = codes ")"
 
--- the fields from field j on, each at its type
+-- the text of the fields from field j on, up to the parenthesis behind the last: each gives its text at a type, and
+-- `tys` has the type of each by its number
 abbrev pub fields_text : (ℕ → Ty) → ℕ → List (Ty → List ℕ) → List ℕ
 fields_text tys j [] = after_last j
 fields_text tys j (f ∷ fs) = before j ++ (f (tys j) ++ fields_text tys (j + 1) fs)
 
+-- one level of `text_of`: a number in decimal, or a constructor's name and the text of its fields
 abbrev pub text_step : List DataDecl → Value-F (Ty → List ℕ) → Ty → List ℕ
 text_step types (Layer.Num n) ty = decimal n
 text_step types (Layer.Con k fs) ty =

@@ -9,7 +9,8 @@ use crate::nodes::Nodes;
 use std::alloc::{AllocError, Global};
 use std::marker::Model;
 
-/// Values that are finished, the last one on top. Their nodes stand in post-order.
+/// A stack of values that are finished, the last one on top. Their nodes stand in one list, in
+/// post-order.
 #[derive(Drop)]
 pub struct Builder {
     nodes: Nodes,
@@ -34,7 +35,7 @@ impl Model for Builder {
 }
 
 impl Builder {
-    /// No values.
+    /// A stack of no values.
     pub fn new(alloc: Global) -> Builder
         ensures { result ≡ [] }
     {
@@ -58,7 +59,7 @@ impl Builder {
         self.done.len()
     }
 
-    /// Puts a number on top.
+    /// Puts a number on top of the stack.
     ///
     /// # Errors
     ///
@@ -77,7 +78,8 @@ impl Builder {
         }
     }
 
-    /// Puts a construction of the last `n` values in their place.
+    /// Takes the last `n` values from the stack and puts a construction by constructor `con` of
+    /// them there.
     ///
     /// # Errors
     ///
@@ -103,7 +105,7 @@ impl Builder {
         }
     }
 
-    /// The only value.
+    /// The only value of the stack, with its nodes.
     pub fn finish(self) -> Forest
         requires { length self ≡ 1 }
         ensures { self ≡ result ∷ [] }

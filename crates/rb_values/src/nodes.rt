@@ -47,7 +47,7 @@ impl Model for Nodes {
 }
 
 impl Nodes {
-    /// No nodes.
+    /// A list of no nodes.
     pub fn new(alloc: Global) -> Nodes
         ensures { result ≡ [] }
     {
@@ -64,7 +64,7 @@ impl Nodes {
         self.nodes.len()
     }
 
-    /// Adds a number at the end.
+    /// Adds a node at the end that is the number `n`.
     ///
     /// # Errors
     ///
@@ -77,7 +77,8 @@ impl Nodes {
         Ok(())
     }
 
-    /// Adds a construction of earlier nodes at the end.
+    /// Adds a node at the end that is a construction by constructor `con` of the earlier nodes
+    /// `children`.
     ///
     /// # Errors
     ///

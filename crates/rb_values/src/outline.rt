@@ -25,7 +25,7 @@ pub struct Outline {
 }
 
 impl Outline {
-    /// Nothing is read.
+    /// The outline before anything is read: a value is to begin.
     pub fn new() -> Outline
         ensures { result ≡ outline_of (expecting []) }
     {
@@ -36,7 +36,8 @@ impl Outline {
         }
     }
 
-    // A sign where a value is to begin.
+    // Where reading stands behind a sign where a value is to begin; none where no value begins with
+    // it.
     fn begin(self, sign: &Sign) -> Option<Outline>
         requires { self.nodes < 2 ^ 64 - 1 }
         ensures { result ≡ outline_begin self sign.now }
@@ -56,7 +57,8 @@ impl Outline {
         }
     }
 
-    // A sign behind a value.
+    // Where reading stands behind a sign that follows a whole value; none where no name is open, or
+    // where the sign is no comma and no closing parenthesis.
     fn go_on(self, sign: &Sign) -> Option<Outline>
         ensures { result ≡ outline_on self sign.now }
     {
@@ -77,7 +79,7 @@ impl Outline {
         }
     }
 
-    /// What one more sign leads to, if a value goes on with it.
+    /// Where reading stands behind one more sign; none where no value goes on with it.
     pub fn step(self, sign: &Sign) -> Option<Outline>
         requires nodes { self.nodes < 2 ^ 64 - 1 }
         requires depth { self.depth ≤ self.nodes }

@@ -33,7 +33,7 @@ fn type_index(ty: Ty) -> u32
     }
 }
 
-// The constructor with this number of the type with that number.
+// Constructor `k` of data type `t`; none where there is no such type or constructor.
 fn con_of(types: &[DataDecl], t: u32, k: u32) -> Option<&Con>
     ensures { option_copied result ≡ con_of types.now t k }
 {
@@ -43,7 +43,7 @@ fn con_of(types: &[DataDecl], t: u32, k: u32) -> Option<&Con>
     }
 }
 
-// The type of a field; `u1` where there is none.
+// The type of field `j` of constructor `k` of type `t`; `u1` where there is none.
 #[tactic(auto, unfolding(crate::specs::Texts::field_of))]
 fn field_of(types: &[DataDecl], t: u32, k: u32, j: usize) -> Ty
     ensures { result ≡ field_of types.now t k j }
@@ -57,7 +57,7 @@ fn field_of(types: &[DataDecl], t: u32, k: u32, j: usize) -> Ty
     }
 }
 
-// The name of a constructor; nothing where there is none.
+// Writes the name of constructor `k` of type `t`; nothing where there is none.
 #[tactic(auto, unfolding(crate::specs::Texts::name_of))]
 fn write_name(types: &[DataDecl], t: u32, k: u32, out: &mut Vec<u8>) -> Result<(), AllocError>
     ensures { OnOk result (out.new.items ≡ out.old.items ++ name_of types.now t k) }
@@ -68,14 +68,14 @@ fn write_name(types: &[DataDecl], t: u32, k: u32, out: &mut Vec<u8>) -> Result<(
     }
 }
 
-// A number in decimal digits.
+// Writes a number in decimal digits.
 fn write_number(n: u64, out: &mut Vec<u8>) -> Result<(), AllocError>
     ensures { OnOk result (out.new.items ≡ out.old.items ++ decimal n) }
 {
     out.extend_from_slice(digits(n).as_slice())
 }
 
-// What stands before a field: a parenthesis before the first, else a comma and a blank.
+// Writes what stands before field `j`: a parenthesis before the first, else a comma and a blank.
 #[tactic(auto, unfolding(crate::specs::Texts::before))]
 fn write_before(j: usize, out: &mut Vec<u8>) -> Result<(), AllocError>
     ensures { OnOk result (out.new.items ≡ out.old.items ++ before j) }
@@ -83,7 +83,8 @@ fn write_before(j: usize, out: &mut Vec<u8>) -> Result<(), AllocError>
     out.extend_from_slice(if j == 0 { b"(" } else { b", " })
 }
 
-// What stands behind the last field: a parenthesis, where there are any.
+// Writes what stands behind the last of `j` fields: a parenthesis, and nothing where there are
+// none.
 #[tactic(auto, unfolding(crate::specs::Texts::after_last))]
 fn write_after(j: usize, out: &mut Vec<u8>) -> Result<(), AllocError>
     ensures { OnOk result (out.new.items ≡ out.old.items ++ after_last j) }
@@ -91,7 +92,7 @@ fn write_after(j: usize, out: &mut Vec<u8>) -> Result<(), AllocError>
     out.extend_from_slice(if j == 0 { b"" } else { b")" })
 }
 
-// The head of a value, and a frame for its fields.
+// Writes a number, or the name of a construction, for whose fields it puts a frame on the stack.
 fn open_value(
     types: &[DataDecl],
     nodes: &Nodes,
@@ -123,7 +124,9 @@ fn open_value(
     }
 }
 
-// One more field of a frame, or its end.
+// Writes what stands before a frame's next field and the head of that field, and puts the frame
+// back on the stack, below that of the field if it has one; or writes the frame's end, where no
+// field is left.
 fn turn(
     types: &[DataDecl],
     nodes: &Nodes,
@@ -153,7 +156,8 @@ fn turn(
     Ok(())
 }
 
-// The text of the value at a node. A frame stands for a construction whose fields are not all written.
+// The text of the value at a node. A frame stands for a construction whose end is not yet written;
+// they are a stack in place of recursion, however deep the value is.
 fn print_node(
     alloc: Global,
     types: &[DataDecl],

@@ -16,7 +16,8 @@ use rb_core::types::{DataDecl, Ty};
 use rb_syntax::front::{Next, next_token};
 use std::alloc::Global;
 
-// What is kept of the value behind one more sign: nothing once it has too many nodes.
+// What is kept of the value behind one more sign, with which it has `nodes` nodes: nothing once
+// these are more than the limit, so memory is bounded by it.
 fn go_on(
     typing: Option<Typing>,
     types: &[DataDecl],
@@ -40,7 +41,8 @@ fn go_on(
     }
 }
 
-// The answer at the end of a text of `len` bytes.
+// The answer at the end of a text of `len` bytes: the value; or that no value is whole there, that
+// it has too many nodes, or its first node that does not fit its type.
 fn finish(
     outline: Outline,
     typing: Option<Typing>,

@@ -20,7 +20,7 @@ pub enum Sign {
     Other,
 }
 
-// What a symbol is in the text of a value.
+// What a symbol is in the text of a value: a parenthesis or a comma, and any other stands in none.
 fn symbol_sign(symbol: Symbol) -> Sign
     ensures { result ≡ symbol_sign symbol }
 {
@@ -46,7 +46,8 @@ fn symbol_sign(symbol: Symbol) -> Sign
     }
 }
 
-/// What a token is to a value.
+/// What a token is in the text of a value: a number, and a name that begins with a capital, keep
+/// the byte at which they begin.
 pub fn sign_of(placed: Placed) -> Sign
     ensures { result ≡ sign_of placed }
 {

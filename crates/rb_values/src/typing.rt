@@ -76,7 +76,7 @@ fn con_named(types: &[DataDecl], ty: Ty, name: &[u8]) -> Result<Option<ConRef>, 
     }
 }
 
-// The same where a type is expected; where none is, there is no constructor.
+// The constructor of this name of the type that is expected; none where no type is, or it has none.
 fn con_at(types: &[DataDecl], ty: Option<Ty>, name: &[u8]) -> Result<Option<ConRef>, ValueFault>
     ensures { IfOk result (λ con. con ≡ keep.con_at types.now ty name.now) }
 {
@@ -106,7 +106,7 @@ fn con_fields(types: &[DataDecl], con: Option<ConRef>) -> Option<&[Ty]>
     Some(cons[number].fields.as_slice())
 }
 
-// The type of one of the fields, where there is such a field.
+// The type of field `i` of a constructor; none where there is no such constructor or field.
 fn field_at(types: &[DataDecl], con: Option<ConRef>, i: usize) -> Option<Ty>
     ensures { result ≡ keep.field_at (fit.con_fields types.now con) i }
 {
@@ -126,7 +126,7 @@ fn con_number(con: Option<ConRef>) -> u32
     }
 }
 
-// Whether everything read so far fits its type.
+// Whether no node is noted that does not fit its type.
 fn is_clean(fault: Option<usize>) -> bool
     ensures { result ≡ keep.is_clean fault }
 {
@@ -145,7 +145,7 @@ fn least(a: usize, b: usize) -> usize
 }
 
 impl Typing {
-    /// Nothing is read.
+    /// What is kept before anything is read.
     pub fn new(alloc: Global) -> Typing
         ensures { (types : List Decl) (root : Type_) → keep.IsTyped types root (expecting []) result }
     {
@@ -157,7 +157,9 @@ impl Typing {
         }
     }
 
-    // The type of the next value, where it is tried.
+    // The type of the next value: that of the whole where no name is open, else that of the next
+    // field. None where it is not tried, as below a node that does not fit and behind the last
+    // field.
     fn expected(&self, types: &[DataDecl], root: Ty) -> Option<Ty>
         ensures { (os : List Wait) → self.now.frames.items ≡ keep.frames_of types.now root os
             → result ≡ keep.expected types.now root os }
@@ -170,7 +172,8 @@ impl Typing {
         field_at(types, frame.con, frame.next)
     }
 
-    // A number where a value is to begin.
+    // Takes in a number where a value is to begin: it is built while all fits, and noted where it
+    // is the first node that does not.
     fn number(&mut self, types: &[DataDecl], root: Ty, at: usize, n: u64) -> Result<(), AllocError>
         ensures { OnOk result ((os : List Wait) → keep.IsTyped types.now root (expecting os) self.old
             → keep.IsTyped types.now root (complete (number at n) os) self.new) }
@@ -191,7 +194,8 @@ impl Typing {
         Ok(())
     }
 
-    // A name where a value is to begin.
+    // Takes in a name where a value is to begin: it stands last, and is noted where its type has no
+    // constructor of that name and all before it fits.
     fn name(
         &mut self,
         types: &[DataDecl],
@@ -226,7 +230,7 @@ impl Typing {
         Ok(())
     }
 
-    // The fields of the name that stands last begin.
+    // Opens the name that stands last: its fields begin.
     fn open(&mut self) -> Result<(), AllocError>
         ensures { OnOk result ((types : List Decl) (root : Type_) (at : ℕ) (x : List ℕ) (os : List Wait)
             → keep.IsTyped types root (named at x os) self.old
@@ -239,7 +243,9 @@ impl Typing {
         Ok(())
     }
 
-    // All fields of a name are there.
+    // Ends a name, all of whose fields are there: they are joined to its value where all fits.
+    // Where they are too few or too many the name is noted, unless a node before it was; what was
+    // noted in its fields gives way.
     fn close_frame(&mut self, types: &[DataDecl], frame: Frame) -> Result<(), AllocError>
         ensures { OnOk result ((root : Type_) (o : Wait) (os : List Wait)
             → frame ≡ keep.frame_of types.now root o os
@@ -265,7 +271,7 @@ impl Typing {
         Ok(())
     }
 
-    /// A name that stands last is whole without fields.
+    /// Ends the name that stands last, if one does: it is whole without fields.
     ///
     /// # Errors
     ///
@@ -284,7 +290,7 @@ impl Typing {
         }
     }
 
-    // The innermost name has one more field, and another begins.
+    // Takes in a comma: the innermost open name has one more field, and another begins.
     fn comma(&mut self) -> Result<(), ValueFault>
         ensures { OnOk result ((types : List Decl) (root : Type_) (t : Term) (os : List Wait) (next : State)
             → then_on t os sign.Comma ≡ Some next → keep.IsTyped types root (complete t os) self.old
@@ -299,7 +305,8 @@ impl Typing {
         Ok(())
     }
 
-    // The innermost name has one more field, which is the last.
+    // Takes in a closing parenthesis: the innermost open name has one more field, which is its
+    // last.
     fn close(&mut self, types: &[DataDecl]) -> Result<(), ValueFault>
         ensures { OnOk result ((root : Type_) (t : Term) (os : List Wait) (next : State)
             → then_on t os sign.Close ≡ Some next → keep.IsTyped types.now root (complete t os) self.old
@@ -314,7 +321,7 @@ impl Typing {
         Ok(())
     }
 
-    /// One more sign, with which a value goes on.
+    /// Takes in one more sign, with which a value goes on.
     ///
     /// # Errors
     ///

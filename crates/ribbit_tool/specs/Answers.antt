@@ -32,7 +32,8 @@ files_of (Ok (value file second)) = (file, file_limit) ∷ (second, image_limit)
 files_of (Ok (peek file second path)) = (file, file_limit) ∷ (second, image_limit) ∷ []
 files_of (Err word) = []
 
--- a line for each command; or the words are none
+-- what is due to the words of a command line over what was read: what is due to the command that they are, or the
+-- line of their first word at fault where they are none
 abbrev pub Answers : Parsed → List Reading → Due → Type 0
 Answers (Ok (check file)) readings due = ReadsOne file file_limit (λ bytes d. ChecksFile bytes d) readings due
 Answers (Ok (layout file)) readings due = ReadsOne file file_limit (λ bytes d. LaysOutFile bytes d) readings due

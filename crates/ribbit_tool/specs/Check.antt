@@ -7,12 +7,12 @@ use Rattle.rb_core.specs.declared.program.Program.{Program}
 use Rattle.rb_lines.specs.Answer.{Due, printed}
 use Rattle.rb_lines.specs.Notes.{check_text}
 
--- the notes of an accepted file are shown
+-- what is due to `check` of an accepted file: the notes on its clauses that no value reaches, and `ok`
 pub record Checks (bytes : List ℕ) (p : Program) (a : IsAccepted bytes p) (due : Due) : Type 0 where
   pub notes : List Note
   pub covered : IsCovered p notes
   pub shown : due ≡ printed (check_text a.placed (length bytes) notes) 0
 
--- of a file within the limit
+-- what is due to `check` of a file within the limit, by its bytes: its refusal, or the notes on its clauses and `ok`
 abbrev pub ChecksFile : List ℕ → Due → Type 0
 ChecksFile bytes due = Accepts bytes (λ p a d. Checks bytes p a d) due

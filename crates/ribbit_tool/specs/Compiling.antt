@@ -23,7 +23,7 @@ pub record IsCompiled (agreed : LaidOut) (code : List CodeFun) : Type 0 where
   pub refines : Refines (plan_of agreed) code
   pub thrifty : IsThrifty (plan_of agreed) code
 
--- the text of some such code
+-- what is due to `compile` of an accepted program: the text of some code that does what it means, with few switches
 pub record Compiles (p : Program) (due : Due) : Type 0 where
   pub agreed : LaidOut
   pub laid : IsLaidOut p agreed
@@ -31,6 +31,6 @@ pub record Compiles (p : Program) (due : Due) : Type 0 where
   pub compiled : IsCompiled agreed code
   pub shown : due ≡ printed (code_text code) 0
 
--- of a file within the limit
+-- what is due to `compile` of a file within the limit, by its bytes: its refusal, or the text of code for its program
 abbrev pub CompilesFile : List ℕ → Due → Type 0
 CompilesFile bytes due = Accepts bytes (λ p a d. Compiles p d) due

@@ -18,7 +18,7 @@ use Rattle.ribbit_tool.specs.Run.{PreparesFile, answer_due, laid_all, source_ans
 
 -- Texts -------------------------------------------------------------------------------------
 
--- a count behind its name
+-- a line with a count behind its name
 abbrev pub number_line : List ℕ → ℕ → List ℕ
 number_line name count = ended (name ++ codes " " ++ decimal count)
 
@@ -48,7 +48,8 @@ pub record Counts (agreed : LaidOut) (code : List CodeFun) (args : List Value) (
   pub shown : due ≡ answer_due (count_text agreed.covered.program tally) limits.calls
       (source_answer agreed.covered.program agreed.layouts limits args) taken
 
--- of a file within the limit
+-- what is due to `count` of a file within the limit, by its bytes, on these words: a refusal of either, or the
+-- source's answer with what the run did
 abbrev pub CountsFile : Limits → List (List ℕ) → List ℕ → Due → Type 0
 CountsFile limits words bytes due =
     PreparesFile words bytes (λ agreed code args d. Counts agreed code args limits d) due

@@ -34,19 +34,21 @@ outcome_due o calls = end_due words_line calls o.ended o.world.taken
 abbrev pub fun_named : List CodeFun → List ℕ → Option ℕ
 fun_named funs name = position (λ f. bytes_eq f.name name) funs
 
--- a function is given as many words as it has parameters, and runs over an empty memory
+-- what is due to words for function number f: its run on them over an empty memory, or a refusal where they are not
+-- as many as its parameters
 abbrev pub call_due : List CodeFun → Limits → List ℕ → ℕ → Due
 call_due funs limits words f =
     if length words == params_in (slice_get funs f)
     then outcome_due (run_of funs limits.calls f words (empty_memory limits.region)) limits.calls
     else refusal status.Argument (count_line (params_in (slice_get funs f)) (length words))
 
--- what is due to words for a function, if there is one of the name
+-- what is due to words for the function of a name, whose number is given; a refusal where there is no such function
 abbrev pub named_due : List CodeFun → List ℕ → Limits → List ℕ → Option ℕ → Due
 named_due funs name limits words None = refusal status.Argument (no_function_line name)
 named_due funs name limits words (Some f) = call_due funs limits words f
 
--- and by the function's name
+-- what is due to words for the function of this name: what comes of its run, or a refusal where it is not there or
+-- takes another number of words
 abbrev pub exec_due : List CodeFun → List ℕ → Limits → List ℕ → Due
 exec_due funs name limits words = named_due funs name limits words (fun_named funs name)
 

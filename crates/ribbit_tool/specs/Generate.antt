@@ -37,10 +37,10 @@ sum_lines functions i (suc count) = sum_line i ((i + 1) % functions) ++ sum_line
 abbrev pub generated : ℕ → List ℕ
 generated functions = list_type ++ list_layout ++ up_line ++ sum_lines functions 0 functions ++ main_line
 
--- that file is printed
+-- what is due to `gen`: the file with so many functions is printed, which takes no steps
 abbrev pub Generates : ℕ → Due → Type 0
 Generates functions due = due ≡ printed (generated functions) 0
 
--- the counts of the file's run, which takes no values
+-- what is due to `genrun`: what `count` says of the file with so many functions, whose `main` takes no values
 abbrev pub CountsGenerated : ℕ → Limits → Due → Type 0
 CountsGenerated functions limits due = CountsFile limits [] (generated functions) due

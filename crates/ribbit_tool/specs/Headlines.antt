@@ -38,7 +38,8 @@ pub record SaysCode (p : Program) (out err : Change) (status : ℕ) : Type 0 whe
   pub text : Took out (code_text code)
   pub no_line : Took err []
 
--- where the file gave bytes that are accepted, no write failed and memory did not run out
+-- what is promised of `compile`, where the file gave bytes that are accepted, no write failed and memory did not run
+-- out
 abbrev pub CompileHeadline : List (List ℕ) → Source → Change → Change → ℕ → Type 0
 CompileHeadline words source out err status =
     (file : List ℕ) → IsWordsOf (compile file) words
@@ -47,7 +48,7 @@ CompileHeadline words source out err status =
 
 -- Images ------------------------------------------------------------------------------------
 
--- an image of the source's value, or the limit that the source passes first; no value is too large
+-- what `image` says: an image of the source's value, or the limit that the source passes first; no value is too large
 pub record SaysImage (p : Program) (args : List Value) (limits : Limits) (out err : Change) (status : ℕ) : Type 0 where
   pub words : List ℕ
   pub memory : Memory
@@ -55,13 +56,13 @@ pub record SaysImage (p : Program) (args : List Value) (limits : Limits) (out er
   pub says : Says (λ v. image_text (memory_image words memory)) limits (whole_answer p (flat_layouts p) limits args)
       out err status
 
--- what is promised of `image`
+-- what is promised of `image`: an image of the source's value, or the limit that the source passes first
 abbrev pub ImageHeadline : List (List ℕ) → Source → Change → Change → ℕ → Type 0
 ImageHeadline = OfCalls image SaysImage
 
 -- Counts ------------------------------------------------------------------------------------
 
--- so many switches are done by code that does what the program means
+-- some code that does what the program means does so many switches in its run on these arguments of `main`
 pub record AreSwitches (p : Program) (args : List Value) (limits : Limits) (switches : ℕ) : Type 0 where
   pub agreed : LaidOut
   pub laid : IsLaidOut p agreed
@@ -70,21 +71,21 @@ pub record AreSwitches (p : Program) (args : List Value) (limits : Limits) (swit
   pub steps : ℕ
   pub counted : IsCounted agreed code args limits.calls (empty_memory limits.region) steps switches
 
--- the source's value, the calls that it made, and the blocks and bytes that it asked for; or the limit that
--- it passes first
+-- what `count` says: the source's value, the calls that it made, the switches of the code, and the blocks and bytes
+-- that the source asked for; or the limit that it passes first
 pub record SaysCount (p : Program) (args : List Value) (limits : Limits) (out err : Change) (status : ℕ) : Type 0 where
   pub tally : Tally
   pub tallied : IsMainTally p (flat_layouts p) limits args tally
   pub done : AreSwitches p args limits tally.switches
   pub says : Says (count_text p tally) limits (source_answer p (flat_layouts p) limits args) out err status
 
--- what is promised of `count`
+-- what is promised of `count`: the source's value and what the run did, or the limit that the source passes first
 abbrev pub CountHeadline : List (List ℕ) → Source → Change → Change → ℕ → Type 0
 CountHeadline = OfCalls count SaysCount
 
 -- Generated files ---------------------------------------------------------------------------
 
--- the text of the file, or its counts
+-- what is promised of `gen`, the text of the file, and of `genrun`, what its run did
 pub record GenerateHeadline (words : List (List ℕ)) (out err : Change) (status : ℕ) : Type 0 where
   pub text : (functions : ℕ) → IsWordsOf (gen functions) words → IsCalm out err status
       → (status ≡ 0) × Took out (generated functions) × Took err []

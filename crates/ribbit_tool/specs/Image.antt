@@ -31,7 +31,7 @@ pub record IsImageOf (p : Program) (layouts : List Layout) (limits : Limits) (ar
   pub given : (own : List (ℕ × ℕ)) (next : ℕ) → laid_values p layouts limits args ≡ Fits own next
       → (ws : List ℕ) × StandApart p.types layouts m (param_types p.funs p.main) args 64 own next ws
 
--- they show the value that is answered, if one is
+-- the words and the memory are an image of the value that the source answers, if it answers one
 abbrev pub ShowWhole : Program → List Layout → Limits → List Value → List ℕ → Memory → Type 0
 ShowWhole p layouts limits args words m =
     (v : Value) → whole_answer p layouts limits args ≡ Shown v → IsImageOf p layouts limits args v words m
@@ -48,7 +48,8 @@ pub record Images (agreed : LaidOut) (code : List CodeFun) (args : List Value) (
   pub shown : due ≡ answer_due (λ v. image_text (memory_image words memory)) limits.calls
       (whole_answer agreed.covered.program agreed.layouts limits args) taken
 
--- of a file within the limit
+-- what is due to `image` of a file within the limit, by its bytes, on these words: a refusal of either, or an image
+-- of the value that the source answers, or the limit that it passes
 abbrev pub ImagesFile : Limits → List (List ℕ) → List ℕ → Due → Type 0
 ImagesFile limits words bytes due =
     PreparesFile words bytes (λ agreed code args d. Images agreed code args limits d) due

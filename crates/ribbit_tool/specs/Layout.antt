@@ -6,10 +6,10 @@ use Rattle.rb_layout.specs.Flattening.{flat_layouts}
 use Rattle.rb_lines.specs.Answer.{Due, printed}
 use Rattle.rb_show.specs.Lines.{layouts_text}
 
--- the layouts of a program in their flat forms
+-- the text of the layouts of a program, each in its flat form
 abbrev pub layout_text : Program → List ℕ
 layout_text p = layouts_text p.types (flat_layouts p)
 
--- of a file within the limit
+-- what is due to `layout` of a file within the limit, by its bytes: its refusal, or the flat forms of its layouts
 abbrev pub LaysOutFile : List ℕ → Due → Type 0
 LaysOutFile bytes due = Accepts bytes (λ p a d. d ≡ printed (layout_text p) 0) due

@@ -27,7 +27,8 @@ pub data Peeks (p : Program) (ty : Ty) (path : List ℕ) (image : Image) (due : 
   stopped : (fault : ImageFault) → IsPartFault p.types (flat_layouts p) image ty path fault → due ≡ image_due fault
       → Peeks p ty path image due
 
--- of FILE, IMAGE and PATH
+-- what is due to `peek` of FILE, IMAGE and PATH over what was read: a refusal of FILE or IMAGE, or what is due to the
+-- part to which PATH leads in a value of the result type of `main`, or the fault where it leads to none
 abbrev pub PeeksValue : List ℕ → List ℕ → List ℕ → List Reading → Due → Type 0
 PeeksValue file image path readings due =
     Opens file image (λ p i d. Peeks p (result_type p.funs p.main) path i d) readings due

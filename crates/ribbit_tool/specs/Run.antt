@@ -42,7 +42,8 @@ pub data Prepares (words : List (List ℕ)) (Then : LaidOut → List CodeFun →
       → IsPrepared agreed code args → Spell p words args
       → Then agreed code args due → Prepares words Then p due
 
--- of a file within the limit
+-- what is due to a file within the limit, by its bytes, and words: a refusal of either, or what follows of its code
+-- and the arguments that the words spell
 abbrev pub PreparesFile : List (List ℕ) → List ℕ → (LaidOut → List CodeFun → List Value → Due → Type 0) → Due → Type 0
 PreparesFile words bytes Then due = Accepts bytes (λ p a d. Prepares words Then p d) due
 
@@ -52,31 +53,32 @@ PreparesFile words bytes Then due = Accepts bytes (λ p a d. Prepares words Then
 abbrev pub source_answer : Program → List Layout → Limits → List Value → answer.Answer
 source_answer p layouts limits args = answer_of p layouts args limits.calls limits.region node_limit
 
--- what is shown of its value, or the line of the limit that it passes first
+-- what is due to an answer of the source: what is shown of its value, or the line of the limit that it passes first
 abbrev pub answer_due : (Value → List ℕ) → ℕ → answer.Answer → ℕ → Due
 answer_due shown calls (answer.Shown v) steps = printed (shown v) steps
 answer_due shown calls answer.Spent steps = refused status.Spent (spent_line calls) steps
 answer_due shown calls (answer.Full f) steps = refused status.Full (full_line f) steps
 answer_due shown calls answer.TooLarge steps = refused status.TooLarge (large_line node_limit) steps
 
--- where the blocks of the values end up over a fresh region, and then those of the call
+-- the blocks of the values laid over a fresh region: where they end up, or the first that does not fit
 abbrev pub laid_values : Program → List Layout → Limits → List Value → Laid
 laid_values p layouts limits args =
     lay limits.region 64 (requests_of layouts (all_makings p.types args (param_types p.funs p.main)))
 
--- and then those of the call
+-- the blocks of the values and behind them those of the call of `main` laid over a fresh region: where they end up,
+-- or the first that does not fit
 abbrev pub laid_all : Program → List Layout → Limits → List Value → Laid
 laid_all p layouts limits args =
     lay limits.region 64 (requests_of layouts (all_makings p.types args (param_types p.funs p.main)
     ++ (call_of p p.main limits.calls args).log))
 
--- the answer, however many nodes the value has
+-- the answer to a call that ends so, its blocks laid like this, however many nodes the value has
 abbrev pub unbounded : Laid → SourceEnd → answer.Answer
 unbounded (Over full) end = answer.Full full
 unbounded (Fits blocks next) Spent = answer.Spent
 unbounded (Fits blocks next) (Done v left) = answer.Shown v
 
--- what the source comes to, however many nodes its value has
+-- what the source comes to by the call of `main` on these values, however many nodes the value has
 abbrev pub whole_answer : Program → List Layout → Limits → List Value → answer.Answer
 whole_answer p layouts limits args = unbounded (laid_all p layouts limits args) (call_of p p.main limits.calls args).end
 
@@ -96,6 +98,7 @@ pub record Runs (agreed : LaidOut) (code : List CodeFun) (args : List Value) (li
   pub shown : due ≡ answer_due (value_line agreed.covered.program) limits.calls
       (source_answer agreed.covered.program agreed.layouts limits args) taken
 
--- of a file within the limit
+-- what is due to `run` of a file within the limit, by its bytes, on these words: a refusal of either, or the source's
+-- answer
 abbrev pub RunsFile : Limits → List (List ℕ) → List ℕ → Due → Type 0
 RunsFile limits words bytes due = PreparesFile words bytes (λ agreed code args d. Runs agreed code args limits d) due

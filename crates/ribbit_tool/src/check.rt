@@ -16,7 +16,7 @@ use rb_lines::note::checked;
 use rb_lines::refusal::Refusal;
 use std::alloc::{AllocError, Global};
 
-// The text for an accepted file.
+// The text of `check` for an accepted file: a line for each clause that no value reaches, and `ok`.
 fn check_accepted(alloc: Global, bytes: &[u8], accepted: &Accepted) -> Result<Vec<u8>, AllocError>
     requires { IsAcceptance bytes.now accepted.now }
     ensures { IfOk result (λ text. ChecksFile bytes.now (printed text.items 0)) }
@@ -27,7 +27,7 @@ fn check_accepted(alloc: Global, bytes: &[u8], accepted: &Accepted) -> Result<Ve
     Ok(text)
 }
 
-// The text for a file within the limit.
+// The text of `check` for the bytes of a file within the limit, or the file's refusal.
 fn check_bytes(alloc: Global, bytes: &[u8]) -> Result<Vec<u8>, Refusal>
     requires { length bytes.now ≤ file_limit }
     ensures text { IfOk result (λ text. ChecksFile bytes.now (printed text.items 0)) }

@@ -19,7 +19,7 @@ use rb_target::code::Code;
 use rb_target::spell::spell_code;
 use std::alloc::{AllocError, Global};
 
-/// Code for a program whose layouts agree.
+/// Code for a program whose layouts agree, which does what the program means with few switches.
 ///
 /// # Errors
 ///
@@ -31,7 +31,7 @@ pub fn code_of(alloc: Global, agreed: &Agreed) -> Result<Code, AllocError>
     Ok(code)
 }
 
-// The code text for a file within the limit.
+// The code text for the bytes of a file within the limit, or the file's refusal.
 fn compile_bytes(alloc: Global, bytes: &[u8]) -> Result<Vec<u8>, Refusal>
     requires { length bytes.now ≤ file_limit }
     ensures text { IfOk result (λ text. CompilesFile bytes.now (printed text.items 0)) }

@@ -29,14 +29,14 @@ use rb_run::count::{Counted, Tally, count_main};
 use rb_values::forest::Forest;
 use std::alloc::{AllocError, Global};
 
-// A line of a count behind its name.
+// A line with a count behind its name.
 fn number(alloc: Global, name: &str, count: u128) -> Result<Vec<u8>, AllocError>
     ensures { IfOk result (λ text. text.items ≡ number_line name.now count) }
 {
     Ok(format!(in alloc; "{name} {count}\n")?.into_bytes())
 }
 
-// The line of a count behind the text so far.
+// Adds a line with a count behind its name to the text so far.
 fn push_line(alloc: Global, text: &mut Vec<u8>, name: &str, count: u128) -> Result<(), AllocError>
     ensures { OnOk result (text.new.items ≡ text.old.items ++ number_line name.now count) }
 {
@@ -103,7 +103,8 @@ fn count_prepared<L: Ledger>(
     show(alloc, agreed.covered().program(), &counted, limits.calls)
 }
 
-/// The text for a file within the limit.
+/// The text of `count` for the bytes of a file within the limit: the value of its `main` on the
+/// values that the words spell, and what its run did.
 ///
 /// # Errors
 ///

@@ -48,7 +48,7 @@ fn show(alloc: Global, end: &End, calls: u64) -> Result<Vec<u8>, Refusal>
     Err(Refusal::Refused(Refused { status, line }))
 }
 
-// The number of the first function of this name.
+// The number of the first function of this name; None where no function has it.
 fn find(funs: &[CodeFun], name: &[u8]) -> Option<usize>
     ensures value { result ≡ fun_named funs.now name.now }
     ensures within { IfSome result (λ f. f < length funs.now) }
@@ -56,7 +56,7 @@ fn find(funs: &[CodeFun], name: &[u8]) -> Option<usize>
     funs.iter().position(|fun| fun.name.as_slice() == name)
 }
 
-// Runs the function of this number over an empty memory.
+// Runs the function of this number on these words, as many as it takes, over an empty memory.
 fn run_words<L: Ledger>(
     alloc: Global,
     code: &Code,
@@ -76,7 +76,7 @@ fn run_words<L: Ledger>(
     show(alloc, &ran.end, limits.calls)
 }
 
-// Runs the function of this number, where it takes so many words.
+// Runs the function of this number on these words, or refuses them where it takes more or fewer.
 fn run_fun<L: Ledger>(
     alloc: Global,
     code: &Code,
@@ -100,7 +100,8 @@ fn run_fun<L: Ledger>(
     run_words(alloc, code, number, limits, words, steps)
 }
 
-// Runs the code's first function of this name.
+// Runs the code's first function of this name on these words, or refuses the name where there is
+// none.
 fn run_named<L: Ledger>(
     alloc: Global,
     code: &Code,
@@ -139,7 +140,7 @@ fn refuse_code(alloc: Global, fault: CodeFault) -> Result<Refused, AllocError>
     })
 }
 
-// The text for a code text within the limit.
+// The text of a run of a function of a code text within the limit, or the refusal in its place.
 fn run_code<L: Ledger>(
     alloc: Global,
     bytes: &[u8],

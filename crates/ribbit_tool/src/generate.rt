@@ -30,7 +30,7 @@ const UP: &[u8] =
 // What is run: the first function, on the numbers from 1 to 3,000.
 const MAIN: &[u8] = b"fun main(): u64 = f0(up(3000, Nil));\n";
 
-// Function `i`, which calls function `j`.
+// The line of function `i`, which calls function `j`.
 fn sum(alloc: Global, i: u64, j: u64) -> Result<Vec<u8>, AllocError>
     ensures { IfOk result (λ text. text.items ≡ sum_line i j) }
 {
@@ -40,7 +40,7 @@ fn sum(alloc: Global, i: u64, j: u64) -> Result<Vec<u8>, AllocError>
     Ok(line.into_bytes())
 }
 
-// The line of a function behind the text so far.
+// Adds the line of function `i`, which calls function `j`, to the text so far.
 fn push_sum(alloc: Global, text: &mut Vec<u8>, i: u64, j: u64) -> Result<(), AllocError>
     ensures { OnOk result (text.new.items ≡ text.old.items ++ sum_line i j) }
 {
@@ -48,7 +48,7 @@ fn push_sum(alloc: Global, text: &mut Vec<u8>, i: u64, j: u64) -> Result<(), All
     push(text, line.as_slice())
 }
 
-// The functions that call each other in turn.
+// Adds the lines of the functions that call each other in turn to the text so far.
 fn push_sums(alloc: Global, text: &mut Vec<u8>, functions: Functions) -> Result<(), AllocError>
     ensures { OnOk result (text.new.items ≡ text.old.items ++ sum_lines functions.count 0 functions.count) }
 {

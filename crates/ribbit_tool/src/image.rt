@@ -58,7 +58,8 @@ fn show(
     Err(Refusal::Refused(Refused { status, line }))
 }
 
-// Runs `main` over a fresh region whose accesses are tested.
+// Runs `main` over a fresh region whose accesses are tested: the text of the image of its value, or
+// the refusal in its place.
 fn image_prepared<L: Ledger>(
     alloc: Global,
     agreed: &Agreed,
@@ -77,7 +78,7 @@ fn image_prepared<L: Ledger>(
     show(alloc, agreed, &ran.end, &memory, limits.calls)
 }
 
-// The text for a file within the limit.
+// The text of `image` for the bytes of a file within the limit, or the refusal in its place.
 fn image_bytes<L: Ledger>(
     alloc: Global,
     bytes: &[u8],

@@ -16,7 +16,7 @@ use rb_lines::refusal::Refusal;
 use rb_show::show::show_layouts;
 use std::alloc::Global;
 
-// The text for a file within the limit.
+// The text of `layout` for the bytes of a file within the limit, or the file's refusal.
 fn layout_bytes(alloc: Global, bytes: &[u8]) -> Result<Vec<u8>, Refusal>
     requires { length bytes.now ≤ file_limit }
     ensures text { IfOk result (λ text. LaysOutFile bytes.now (printed text.items 0)) }

@@ -65,7 +65,8 @@ fn part_text(
     }
 }
 
-// The part of the value of the result type of `main`.
+// The part to which a path leads from the value of the result type of `main` that an image holds,
+// on a line.
 fn part_of_main(
     alloc: Global,
     agreed: &Agreed,

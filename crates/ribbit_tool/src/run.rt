@@ -92,7 +92,7 @@ pub(crate) fn show_value(
     show_at(alloc, program.types.as_slice(), ty, value)
 }
 
-// The text of a run's answer.
+// The text of a run's answer, or the refusal in its place.
 fn show(alloc: Global, program: &Program, answer: &Answer, calls: u64) -> Result<Vec<u8>, Refusal>
     ensures { (before steps : ℕ) → Meets (λ due. due
         ≡ answer_due (value_line program.now) calls (meant_by answer.now) steps) before (before + steps) result }
@@ -109,7 +109,7 @@ fn show(alloc: Global, program: &Program, answer: &Answer, calls: u64) -> Result
     Err(Refusal::Refused(Refused { status, line }))
 }
 
-// Runs `main` over a fresh region.
+// Runs `main` over a fresh region: the text of its answer, or the refusal in its place.
 fn run_prepared<L: Ledger>(
     alloc: Global,
     agreed: &Agreed,
@@ -131,7 +131,7 @@ fn run_prepared<L: Ledger>(
     show(alloc, agreed.covered().program(), &answer, limits.calls)
 }
 
-// The text for a file within the limit.
+// The text of `run` for the bytes of a file within the limit, or the refusal in its place.
 fn run_bytes<L: Ledger>(
     alloc: Global,
     bytes: &[u8],

@@ -37,7 +37,7 @@ use rb_lines::refusal::{Refusal, Refused};
 use rb_lines::status::Status;
 use std::alloc::{AllocError, Global};
 
-// The text of a command.
+// The text of a command, for which the files that it names are read; or the refusal in its place.
 fn obey<S: Source, L: Ledger>(
     alloc: Global,
     command: &Command,
@@ -96,7 +96,8 @@ fn refuse_words(alloc: Global, word: usize) -> Result<Refused, AllocError>
     })
 }
 
-// The text for the words.
+// The text for the words of a command line, of which nothing is written yet; or the refusal in its
+// place.
 fn compose<S: Source, L: Ledger>(
     alloc: Global,
     words: &[Name],
@@ -185,7 +186,8 @@ pub fn ribbit<S: Source, O: Sink, E: Sink, L: Ledger>(
     ensures generate { GenerateHeadline words.now
         (change O.tells O.taken O.account O.faults out.old out.new)
         (change E.tells E.taken E.account E.faults err.old err.new) result }
-    // The main theorem, for all words and files, and with faults of the source and the sinks.
+    // For all words and files, with faults of the source and the sinks: which status, text and
+    // steps come.
     ensures right { IsRight words.now (source_of S.tells S.held S.readings S.faults src.old src.new)
         (change O.tells O.taken O.account O.faults out.old out.new)
         (change E.tells E.taken E.account E.faults err.old err.new)

@@ -82,8 +82,8 @@ fn value_of_main(alloc: Global, agreed: &Agreed, image: &Image) -> Result<Vec<u8
 ///
 /// # Errors
 ///
-/// The answer to a file that is not read or not accepted, or to an image that is not read, not spelled, or holds no value
-/// to be shown; or want of memory.
+/// The answer to a file that is not read or not accepted, or to an image that is not read, not
+/// spelled, or holds no value to be shown; or want of memory.
 pub fn value_file<S: Source>(
     alloc: Global,
     src: &mut S,

@@ -11,12 +11,13 @@ use Rattle.rb_layout.specs.declared.layout.Kind.TheVariants.{Const, Bits, Word, 
 use Rattle.rb_layout.specs.Positions.{open_positions}
 use Rattle.rb_layout.specs.Flattening.{type_at}
 
--- a part has a bit, and none in the range [o:l]
+-- a part has a bit, and none of the l bits from o on
 abbrev pub IsBeside : ℕ → ℕ → Part → Type 0
 IsBeside o l p = (1 ≤ p.l) × ((p.o + p.l ≤ o) ⊎ (o + l ≤ p.o))
 
 module _ (types : List DataDecl) (one other : Pat) where
-  -- they hold the same number, or each a pointer, or each bits, or the same word of fields of one type
+  -- what two parts hold is alike: the same number, or a pointer each, or bits each, or words with the same number of
+  -- fields of one type, open in the provenances `one` and `other`, or of fields that are open in neither
   abbrev pub AreKinds : Kind → Kind → Type 0
   AreKinds (Const c) (Const d) = c ≡ d
   AreKinds (Const c) (Bits q b) = ⊥
@@ -36,16 +37,17 @@ module _ (types : List DataDecl) (one other : Pat) where
   AreKinds (Pointer a b) (Word q k) = ⊥
   AreKinds (Pointer a b) (Pointer c d) = Unit {0}
 
-  -- two parts lie beside the range, or take the same bits and are of one kind
+  -- two parts lie beside the l bits from o on, or take the same bits and are alike in what they hold
   abbrev pub IsPartAlike : ℕ → ℕ → Part → Part → Type 0
   IsPartAlike o l p q = (IsBeside o l p × IsBeside o l q) ⊎ ((p.o ≡ q.o) × (p.l ≡ q.l) × AreKinds p.kind q.kind)
 
-  -- two words have as many parts, and each is alike to that in its place
+  -- two words have as many parts, and each is alike, in the l bits from o on, to that in its place in the other word
   abbrev pub ArePartsAlike : ℕ → ℕ → List Part → List Part → Type 0
   ArePartsAlike o l ps qs = (length ps ≡ length qs)
       × ((k : ℕ) (p q : Part) → slice_get ps k ≡ Some p → slice_get qs k ≡ Some q → IsPartAlike o l p q)
 
--- the location is one of a root word, whose parts are alike in the range
+-- two leaves are alike at a location: it is one in a root word, which has the same width in both, and parts that are
+-- alike in the location's range
 pub record AreAlike (types : List DataDecl) (one other : Leaf) (loc : Loc) : Type 0 where
   pub root : loc.steps ≡ []
   pub first : FlatWord

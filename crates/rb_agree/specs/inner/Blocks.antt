@@ -16,14 +16,14 @@ FailsPointer l align (Align a) = (a ≡ align) × (IsAlignment align → ⊥)
 FailsPointer l align (ShortPointer n) = ((k : ℕ) × (align ≡ 2 ^ k) × (n ≡ l + k)) × (n < 24)
 FailsPointer l align why = ⊥
 
--- a part of l bits is no pointer, or one that is aligned and wide enough
+-- a part of l bits and of this kind is no pointer, or one that is aligned and wide enough
 abbrev pub IsKind : ℕ → Kind → Type 0
 IsKind l (Const c) = Unit {0}
 IsKind l (Bits path a) = Unit {0}
 IsKind l (Word path j) = Unit {0}
 IsKind l (Pointer align b) = IsAlignment align × IsWide align l
 
--- how a part of l bits fails by its kind
+-- a part of l bits and of this kind is a pointer that fails as `why` says
 abbrev pub FailsKind : ℕ → Kind → Why → Type 0
 FailsKind l (Const c) why = ⊥
 FailsKind l (Bits path a) why = ⊥
@@ -34,15 +34,15 @@ FailsKind l (Pointer align b) why = FailsPointer l align why
 abbrev pub ArePartsFine : List Part → Type 0
 ArePartsFine parts = EachOf (λ (p : Part). IsKind p.l p.kind) parts
 
--- one of these parts fails so
+-- one of these parts is a pointer that fails as `why` says
 abbrev pub FailsParts : List Part → Why → Type 0
 FailsParts parts why = SomeOf (λ (p : Part). FailsKind p.l p.kind why) parts
 
--- the parts of each of these words are fine
+-- each pointer among the parts of these words is aligned and wide enough
 abbrev pub ArePointersFine : List FlatWord → Type 0
 ArePointersFine words = EachOf (λ (f : FlatWord). ArePartsFine f.parts) words
 
--- a part of one of these words fails so
+-- a pointer among the parts of these words fails as `why` says
 abbrev pub FailsPointers : List FlatWord → Why → Type 0
 FailsPointers words why = SomeOf (λ (f : FlatWord). FailsParts f.parts why) words
 
@@ -50,7 +50,7 @@ FailsPointers words why = SomeOf (λ (f : FlatWord). FailsParts f.parts why) wor
 abbrev pub HasWidth : FlatWord → Type 0
 HasWidth f = IsBlockWidth f.width
 
--- it has another width, which is named
+-- a word of a block has another width than 8, 16, 32 or 64 bits, and `why` names it
 abbrev pub FailsWidth : Why → FlatWord → Type 0
 FailsWidth (BlockWord w) f = (f.width ≡ w) × (IsBlockWidth w → ⊥)
 FailsWidth why f = ⊥
@@ -61,7 +61,7 @@ pub record IsBlock (block : Block) : Type 0 where
   pub widths : EachOf HasWidth block.words
   pub pointers : ArePointersFine block.words
 
--- a block fails by its length, a word's width or a pointer
+-- a block fails as `why` says: by its number of words, by a word's width or by a pointer
 abbrev pub FailsBlock : Block → Why → Type 0
 FailsBlock block (BlockWords n) = (length block.words ≡ n) × (IsBlockLength n → ⊥)
 FailsBlock block (BlockWord w) = SomeOf (FailsWidth (BlockWord w)) block.words
@@ -69,26 +69,26 @@ FailsBlock block (Align a) = FailsPointers block.words (Align a)
 FailsBlock block (ShortPointer n) = FailsPointers block.words (ShortPointer n)
 FailsBlock block why = ⊥
 
--- so many words are none or more than 64
+-- the words of a block are none or more than 64, and `why` says how many
 abbrev pub FailsLength : List FlatWord → Why → Type 0
 FailsLength words (BlockWords n) = (length words ≡ n) × (IsBlockLength n → ⊥)
 FailsLength words why = ⊥
 
--- some block fails
+-- one of these blocks fails as `why` says
 abbrev pub FailsInBlocks : List Block → Why → Type 0
 FailsInBlocks blocks why = SomeOf (λ (b : Block). FailsBlock b why) blocks
 
--- the number of the block to which a part of this kind points
+-- the number of the block to which a part of this kind points; none where it is no pointer
 abbrev pub pointed_block : Kind → Option ℕ
 pointed_block (Const c) = None
 pointed_block (Bits path a) = None
 pointed_block (Word path j) = None
 pointed_block (Pointer align b) = Some b
 
--- a part is a pointer that fails, or some block fails
+-- a part is a pointer that fails as `why` says, or one of these blocks does
 abbrev pub FailsNearPart : List Block → Part → Why → Type 0
 FailsNearPart blocks part why = FailsKind part.l part.kind why ⊎ FailsInBlocks blocks why
 
--- a pointer among these parts fails so, or a block
+-- a pointer among these parts fails as `why` says, or one of these blocks does
 abbrev pub FailsNear : List Block → List Part → Why → Type 0
 FailsNear blocks parts why = FailsParts parts why ⊎ FailsInBlocks blocks why

@@ -8,7 +8,7 @@ use Rattle.rb_layout.specs.Items.{item_lists, leaves_in}
 use Rattle.rb_agree.specs.declared.items.Item.{Item}
 use Rattle.rb_agree.specs.Written.{shown_items}
 
--- the items of leaves, as the rules speak of them
+-- the items of leaves as the rules speak of them, leaf by leaf
 abbrev pub shown_leaves : List (List Item) → List (List I.Item)
 shown_leaves leaves = map shown_items leaves
 
@@ -16,21 +16,21 @@ shown_leaves leaves = map shown_items leaves
 abbrev pub leaf_items : WrittenLeaf → List I.Item
 leaf_items w = item_lists w.items
 
--- and of leaves
+-- the items of each of these leaves as they are written, leaf by leaf
 abbrev pub items_under : List WrittenLeaf → List (List I.Item)
 items_under ws = map leaf_items ws
 
--- the items, if there are any
+-- the items of a leaf as the rules speak of them; none where there is no such leaf
 abbrev pub items_or_none : Option (List Item) → List I.Item
 items_or_none None = []
 items_or_none (Some items) = shown_items items
 
--- the leaves, if there are any
+-- the items of the leaves of a type's layout; none where there is no such type
 abbrev pub leaves_or_none : Option (List (List Item)) → List (List Item)
 leaves_or_none None = []
 leaves_or_none (Some leaves) = leaves
 
--- for each of so many types the items of each leaf of its layout
+-- `written` has for each of the first `count` types the items of each leaf of its layout; none where it has no layout
 abbrev pub AreWritten : List LayoutDecl → ℕ → List (List (List Item)) → Type 0
 AreWritten decls count written =
     (t : ℕ) → t < count

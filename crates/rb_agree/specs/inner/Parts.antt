@@ -12,80 +12,83 @@ use Rattle.rb_agree.specs.Written.{shown_part}
 use Rattle.rb_agree.specs.inner.Lists.{EachOf, SomeOf}
 
 module _ (decls : List LayoutDecl) (opens : List Open) where
-  -- how a part of item i fails to fit what it holds
+  -- a part of item i does not fit what it holds, as `why` says: a number that is too great for its bits, or a field
   abbrev pub FailsFit : ℕ → WrittenPart → Why → Type 0
   FailsFit i p (ConstWide j c l) = (j ≡ i) × (p.l ≡ l) × (p.content ≡ Number c) × (c < 2 ^ l → ⊥)
   FailsFit i p (Misfit j o l path) =
       (j ≡ i) × (p.o ≡ o) × (p.l ≡ l) × (content_paths p.content ≡ path ∷ []) × (Fits decls opens l p.content → ⊥)
   FailsFit i p why = ⊥
 
-  -- a part lies in its word where its path, if it has one, is open, and fits what it holds
+  -- a part lies in its word of `width` bits where its path, if it has one, is open, and fits what it holds
   pub record IsPartFine (width : ℕ) (p : WrittenPart) : Type 0 where
     pub inside : IsPlaced opens p.content → LiesIn width p.o p.l
     pub fit : Fits decls opens p.l p.content
 
-  -- how a placed part fails by itself
+  -- a part of item i, a word of `width` bits, fails by itself as `why` says: it does not lie in the word, or does not
+  -- fit what it holds
   abbrev pub FailsPlaced : ℕ → ℕ → WrittenPart → Why → Type 0
   FailsPlaced i width p (Outside j o l) = (j ≡ i) × (p.o ≡ o) × (p.l ≡ l) × (LiesIn width o l → ⊥)
   FailsPlaced i width p (ConstWide j c l) = FailsFit i p (ConstWide j c l)
   FailsPlaced i width p (Misfit j o l path) = FailsFit i p (Misfit j o l path)
   FailsPlaced i width p why = ⊥
 
-  -- how a part fails whose path is open, if it has one
+  -- a part of item i, a word of `width` bits, has no path or an open one, and fails by itself as `why` says
   abbrev pub FailsPart : ℕ → ℕ → WrittenPart → Why → Type 0
   FailsPart i width p why = IsPlaced opens p.content × FailsPlaced i width p why
 
-  -- each part of a word is fine
+  -- each of these parts of a word of `width` bits is fine by itself
   abbrev pub AreFine : ℕ → List Written → Type 0
   AreFine width parts = EachOf (λ (w : Written). IsPartFine width (shown_part w)) parts
 
-  -- some part of a word fails so
+  -- one of these parts of item i, a word of `width` bits, fails by itself as `why` says
   abbrev pub FailsSome : ℕ → ℕ → List Written → Why → Type 0
   FailsSome i width parts why = SomeOf (λ (w : Written). FailsPart i width (shown_part w) why) parts
 
-  -- how item i, a word, fails
+  -- item i, a word of `width` bits with these parts, fails as `why` says
   abbrev pub FailsWord : ℕ → ℕ → List WrittenPart → Why → Type 0
   FailsWord i width parts why = IsOfItem i why × FailsParts decls opens width parts why
 
--- one part has the l bits from o on, and the other the m bits from b on
+-- part p has the l bits from o on, and part q the m bits from b on
 abbrev pub IsFirst : Written → Written → ℕ → ℕ → ℕ → ℕ → Type 0
 IsFirst p q o l b m = (p.o ≡ o) × (p.l ≡ l) × (q.o ≡ b) × (q.l ≡ m)
 
--- bit b is one of the l bits from o on, and begins m bits, at least one
+-- bit b is one of the l bits from o on, and one of the m bits from b on, of which there is thus at least one
 abbrev pub HasBit : ℕ → ℕ → ℕ → ℕ → Type 0
 HasBit o l b m = IsIn o l b × IsIn b m b
 
--- two parts overlap: how that is named, by the part that begins first
+-- two parts of item i overlap, and `why` names their bits: first those of the part that begins lower, or of p where
+-- they begin alike
 abbrev pub FailsPair : ℕ → Written → Written → Why → Type 0
 FailsPair i p q (Overlap j o l b m) =
     (j ≡ i) × ((IsFirst p q o l b m × (o ≤ b)) ⊎ (IsFirst q p o l b m × (o < b))) × HasBit o l b m
 FailsPair i p q why = ⊥
 
 module _ (opens : List Open) where
-  -- the path of a part, if it has one, is open
+  -- the path of a part, if it has one, is that of an open position
   abbrev pub IsSet : Written → Type 0
   IsSet w = IsPlaced opens (shown_part w).content
 
-  -- each placed part has a bit
+  -- each of these parts has a bit, where its path, if it has one, is open
   abbrev pub HaveBits : List Written → Type 0
   HaveBits parts = EachOf (λ (w : Written). IsSet w → 1 ≤ w.l) parts
 
-  -- part k has no bit in common with one before it
+  -- part k has no bit in common with a part before it, where the paths of both, if they have any, are open
   abbrev pub IsApartBefore : List Written → ℕ → Type 0
   IsApartBefore parts k =
       (j : ℕ) (p q : Written) → j < k → slice_get parts j ≡ Some p → slice_get parts k ≡ Some q → IsSet p → IsSet q
       → AreDisjoint p.o p.l q.o q.l
 
-  -- part k overlaps an earlier one so
+  -- part k of item i overlaps an earlier one, and `why` names their bits; the paths of both, if they have any, are
+  -- open
   abbrev pub FailsBefore : ℕ → List Written → ℕ → Why → Type 0
   FailsBefore i parts k why =
       (j : ℕ) × (p : Written) × (q : Written) × (j < k) × (slice_get parts j ≡ Some p) × (slice_get parts k ≡ Some q)
       × IsSet p × IsSet q × FailsPair i p q why
 
-  -- no part of a word overlaps another
+  -- no part of a word overlaps another, where the paths of both, if they have any, are open
   abbrev pub AreApart : List Written → Type 0
   AreApart parts = (k : ℕ) → IsApartBefore parts k
 
-  -- some part of a word overlaps an earlier one so
+  -- some part of item i overlaps an earlier one, and `why` names their bits, as `FailsBefore` says of each part
   abbrev pub FailsApart : ℕ → List Written → Why → Type 0
   FailsApart i parts why = (k : ℕ) × FailsBefore i parts k why

@@ -14,7 +14,8 @@ use Rattle.rb_agree.specs.inner.Alike.{AreAlike}
 use Rattle.rb_agree.specs.inner.Lists.{EachOf}
 use Rattle.rb_agree.specs.inner.Splits.{literals_in}
 
--- what a split asks of the leaves below one of its literals, and of those below its `else`
+-- what a split at a location asks, as a test: of leaves below an arm to have its literal, where one is given, and
+-- else of those below its `else` to exclude the literals of all arms
 abbrev pub test_at : Loc → List FlatArm → Option ℕ → Test
 test_at loc arms (Some c) = Is loc c
 test_at loc arms None = IsNone loc (literals_in arms)
@@ -23,15 +24,15 @@ test_at loc arms None = IsNone loc (literals_in arms)
 abbrev pub test_of : Asking → Test
 test_of a = test_at a.loc.now a.arms.now a.literal
 
--- what it asks below its `else`
+-- what a split asks of the leaves below its `else`, as a test: to exclude the literals of all arms
 abbrev pub else_of : Asking → Test
 else_of a = test_at a.loc.now a.arms.now None
 
--- the mark of leaf n is off
+-- leaf n has a mark, which is off
 abbrev pub IsOff : List Bool → ℕ → Type 0
 IsOff marks n = slice_get marks n ≡ Some false
 
--- marks are put on, and not off
+-- from `old` to `new`, marks are put on, and none is put off
 abbrev pub Keeps : List Bool → List Bool → Type 0
 Keeps old new = (n : ℕ) → IsOff new n → IsOff old n
 
@@ -39,43 +40,44 @@ Keeps old new = (n : ℕ) → IsOff new n → IsOff old n
 abbrev pub IsAmong : Span → ℕ → Type 0
 IsAmong span n = (span.first ≤ n) × (n < span.end)
 
--- one span has all leaves of another
+-- the span `whole` has all leaves of the other span
 abbrev pub Covers : Span → Span → Type 0
 Covers whole span = (whole.first ≤ span.first) × (span.end ≤ whole.end)
 
 module _ (types : List DataDecl) (layouts : List Layout) (leaves : List Leaf) where
-  -- where the mark of leaf n is off, it meets the test
+  -- leaf n meets the test where its mark is off
   abbrev pub MeetsWhereOff : List Bool → ℕ → Test → Type 0
   MeetsWhereOff marks n test =
       IsOff marks n → (leaf : Leaf) → slice_get leaves n ≡ Some leaf → Meets types layouts leaf test
 
-  -- a leaf with this number, if there is one, meets the test
+  -- the leaf with this number, if there are such a number and leaf, meets the test
   abbrev pub IsPrior : Test → Option ℕ → Type 0
   IsPrior test None = Unit {0}
   IsPrior test (Some n) = (leaf : Leaf) → slice_get leaves n ≡ Some leaf → Meets types layouts leaf test
 
-  -- a leaf was asked
+  -- leaf n was asked a test: marks were only put on, and where its mark is off still, it meets the test
   pub record IsAsked (test : Test) (n : ℕ) (old new : List Bool) : Type 0 where
     pub keeps : Keeps old new
     pub meets : MeetsWhereOff new n test
 
-  -- some leaves were asked
+  -- the leaves of a span were asked a test: marks were only put on, and those whose mark is off still meet the test
   pub record AreAsked (test : Test) (span : Span) (old new : List Bool) : Type 0 where
     pub keeps : Keeps old new
     pub meet : (n : ℕ) → IsAmong span n → MeetsWhereOff new n test
 
-  -- ways to leaves were walked: the leaves are among these, and were asked each test on the ways
+  -- these ways were walked: they lead to leaves of the span; marks were only put on, and a leaf whose mark is off
+  -- still meets each test on a way to it
   pub record AreWalked (routes : List Route) (span : Span) (old new : List Bool) : Type 0 where
     pub among : EachOf (λ (r : Route). IsAmong span r.leaf) routes
     pub keeps : Keeps old new
     pub meet : EachOf (λ (r : Route). EachOf (MeetsWhereOff new r.leaf) r.tests) routes
 
--- a leaf is alike at a location to the one with this number
+-- a number is given, and the leaf with it is alike, at a location, to this leaf
 abbrev pub IsLike : List DataDecl → List Leaf → Leaf → Loc → Option ℕ → Type 0
 IsLike types leaves leaf loc prior =
     (n : ℕ) × (one : Leaf) × (prior ≡ Some n) × (slice_get leaves n ≡ Some one) × AreAlike types one leaf loc
 
--- each leaf whose mark is off passes the tests on each way to it
+-- each leaf of a layout whose mark is off passes the tests on each way to it
 abbrev pub PassWhereOff : List DataDecl → List Layout → Layout → List Bool → Type 0
 PassWhereOff types layouts layout marks =
     (n : ℕ) (leaf : Leaf) → IsOff marks n → slice_get layout.leaves n ≡ Some leaf

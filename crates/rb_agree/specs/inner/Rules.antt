@@ -1,4 +1,5 @@
--- The rules behind that on shapes, each with its places.
+-- The rules behind that on shapes, each with its places. A place, or spot, is a type, a leaf or an item at which a
+-- rule is checked.
 use Rattle.std.specs.Prelude.{◌≡◌, ℕ, List, [], ◌∷◌, ◌++◌, length, Bool, Option, Some, None, slice_get}
 use Rattle.std.specs.Bool.{OnTrue}
 use Rattle.std.specs.List.{flat_map}
@@ -40,7 +41,7 @@ rule_number Splits = 8
 rule_number Flattening = 9
 rule_number Holding = 10
 
--- its places at a type, before those at leaves
+-- the places at which a rule is checked at type t without a leaf; they come before those at leaves
 abbrev pub type_spots : Rule → ℕ → Layout → List Spot
 type_spots Roots t layout = []
 type_spots Parts t layout = []
@@ -52,7 +53,7 @@ type_spots Splits t layout = S.Splits t layout ∷ []
 type_spots Flattening t layout = S.Flattening t ∷ []
 type_spots Holding t layout = S.Holding t ∷ []
 
--- and those at a leaf
+-- the places at which a rule is checked at leaf n of the layout of type t
 abbrev pub leaf_spots : List LayoutDecl → Rule → ℕ → Layout → ℕ → Leaf → List Spot
 leaf_spots decls Roots t layout n leaf = S.Root t n layout leaf ∷ []
 leaf_spots decls Parts t layout n leaf = part_spots t n leaf 0 (items_of decls t n)
@@ -68,7 +69,7 @@ leaf_spots decls Holding t layout n leaf = []
 abbrev pub leaves_spots : List LayoutDecl → Rule → ℕ → Layout → List Spot
 leaves_spots decls rule t layout = by_leaves (leaf_spots decls rule t layout) 0 layout.leaves
 
--- the places of a layout under a rule: that of its type, then those of its leaves
+-- the places of a layout under a rule: those of its type, then those of its leaves
 abbrev pub spots_of : List LayoutDecl → Rule → ℕ → Layout → List Spot
 spots_of decls rule t layout = type_spots rule t layout ++ leaves_spots decls rule t layout
 
@@ -76,29 +77,29 @@ spots_of decls rule t layout = type_spots rule t layout ++ leaves_spots decls ru
 abbrev pub rule_spots : List LayoutDecl → List Layout → Rule → List Spot
 rule_spots decls layouts rule = by_types (spots_of decls rule) 0 layouts
 
--- under some rules, rule by rule
+-- the places of all layouts under these rules, rule by rule
 abbrev pub rules_spots : List LayoutDecl → List Layout → List Rule → List Spot
 rules_spots decls layouts rules = flat_map (rule_spots decls layouts) rules
 
--- the rules before that on tests, and the others
+-- the rules between that on shapes and that on tests, in their order
 abbrev pub early_rules : List Rule
 early_rules = Roots ∷ Parts ∷ Blocks ∷ Values ∷ Fields ∷ []
 
--- the rules that are looked at once all layouts keep the others
+-- the rules from that on tests on, which are looked at once all layouts keep the others
 abbrev pub late_rules : List Rule
 late_rules = Tests ∷ Splits ∷ Flattening ∷ Holding ∷ []
 
--- what is found at a place of a rule, a type and a leaf
+-- the refusal by a rule at type t, and at a leaf if one is given, for what was found there; none where nothing was
 abbrev pub refusal : ℕ → ℕ → Option ℕ → Option Why → Option Refused
 refusal rule t leaf None = None
 refusal rule t leaf (Some why) = Some (record { rule = rule; ty = t; leaf = leaf; why = why })
 
--- tests are checked where leaves can be read
+-- a rule may be checked: that on tests where all leaves can be read, and any other always
 abbrev pub IsReady : List Layout → Rule → Type 0
 IsReady layouts Tests = EachLeaf layouts (λ t layout n leaf. IsReadable leaf)
 IsReady layouts rule = Unit {0}
 
--- a typed program, its layouts, and how they are related
+-- these are the layouts of a typed program, one for each type, and `related` says how they are related
 pub record IsKnown (p : Program) (layouts : List Layout) (related : Related) : Type 0 where
   pub typed : IsTyped p
   pub count : length layouts ≡ length p.types
@@ -109,7 +110,7 @@ pub record IsKnown (p : Program) (layouts : List Layout) (related : Related) : T
   pub flattens_in_order : OnTrue related.flattens_in_order ((t : ℕ) → HasNoCycle (Flattens layouts) t)
   pub holds_in_order : OnTrue related.holds_in_order ((t : ℕ) → HasNoCycle (HoldsField p.types layouts) t)
 
--- at each leaf whose mark is off the rule holds
+-- a rule holds at each leaf of the layout of type t whose mark is off
 abbrev pub HoldsWhereOff : Program → List Layout → Rule → ℕ → Layout → List Bool → Type 0
 HoldsWhereOff p layouts rule t layout marks =
     (n : ℕ) (leaf : Leaf) → IsOff marks n → slice_get layout.leaves n ≡ Some leaf
@@ -117,33 +118,33 @@ HoldsWhereOff p layouts rule t layout marks =
 
 -- A layout under a rule ---------------------------------------------------------------------
 
--- the layouts of a typed program are related so, and the layout is that of the type
+-- the layouts of the typed program in r are related as r says, and its layout is that of its type
 pub record IsRuled (r : Ruled) : Type 0 where
   pub known : IsKnown r.program.now r.layouts.now r.related.now
   pub layout : layout_of r.layouts.now r.ty ≡ Some r.layout.now
 
--- the first failure of the rule at these places
+-- what is found at these places in their order: nothing, or the refusal of the first that fails its rule
 abbrev pub FindsOf : Ruled → List Spot → Option Refused → Type 0
 FindsOf r spots found = Finds r.program.now r.layouts.now spots found
 
--- what is found at the place of a layout's type under its rule
+-- what is found where the rule of r is checked at its type without a leaf
 abbrev pub FindsAtType : Ruled → Option Why → Type 0
 FindsAtType r why = FindsOf r (type_spots r.rule r.ty r.layout.now) (refusal (rule_number r.rule) r.ty None why)
 
--- what is found at the places of its leaf n
+-- what is found where the rule of r is checked at leaf n of its layout
 abbrev pub FindsAtLeaf : Ruled → ℕ → Leaf → Option Why → Type 0
 FindsAtLeaf r n leaf why =
     FindsOf r (leaf_spots r.program.now.layouts r.rule r.ty r.layout.now n leaf)
     (refusal (rule_number r.rule) r.ty (Some n) why)
 
--- what is found at the places of all its leaves
+-- what is found where the rule of r is checked at the leaves of its layout, leaf by leaf
 abbrev pub FindsAtLeaves : Ruled → Option Refused → Type 0
 FindsAtLeaves r = FindsOf r (leaves_spots r.program.now.layouts r.rule r.ty r.layout.now)
 
--- at the type, and then at its leaves
+-- what is found where the rule of r is checked at its type, and then at the leaves of its layout
 abbrev pub FindsIn : Ruled → Option Refused → Type 0
 FindsIn r = FindsOf r (spots_of r.program.now.layouts r.rule r.ty r.layout.now)
 
--- at each leaf whose mark is off the rule holds
+-- the rule of r holds at each leaf of its layout whose mark is off
 abbrev pub RuleHoldsWhereOff : Ruled → List Bool → Type 0
 RuleHoldsWhereOff r = HoldsWhereOff r.program.now r.layouts.now r.rule r.ty r.layout.now

@@ -15,14 +15,14 @@ root_con (P.Var at x) = None
 root_con (P.Num at n) = None
 root_con (P.Con at c ps) = Some c.con
 
--- the pattern in field i of that constructor, if there is one
+-- the pattern in field i of a pattern's root constructor; none without such a constructor or field
 abbrev pub sub_at : Pat-F Pat → ℕ → Option Pat
 sub_at (P.Wild at) i = None
 sub_at (P.Var at x) i = None
 sub_at (P.Num at n) i = None
 sub_at (P.Con at c ps) i = slice_get ps i
 
--- the number of the constructor at a path of fields, if one stands there
+-- the number of the constructor at a path of a pattern, if there is a pattern and one stands there
 abbrev pub con_from : Option Pat → List ℕ → Option ℕ
 con_from None path = None
 con_from (Some p) [] = root_con (out-Pat p)
@@ -32,53 +32,54 @@ con_from (Some p) (i ∷ path) = con_from (sub_at (out-Pat p) i) path
 abbrev pub con_at : Pat → List ℕ → Option ℕ
 con_at p path = con_from (Some p) path
 
--- that of each leaf
+-- for each leaf the number of the constructor at a path of its provenance, if one stands there
 abbrev pub heads_in : List ℕ → List Leaf → List (Option ℕ)
 heads_in path leaves = map (λ (leaf : Leaf). con_at leaf.prov path) leaves
 
--- leaf m may have this constructor
+-- a leaf may have constructor `con` at a path: it is the one that stands there, or none does
 abbrev pub MayBe : Option ℕ → ℕ → Type 0
 MayBe None con = Unit {0}
 MayBe (Some d) con = d ≡ con
 
--- m is one of these members
+-- leaf m is one of these members of a group
 abbrev pub IsIn : List ℕ → ℕ → Type 0
 IsIn members m = (k : ℕ) × (slice_get members k ≡ Some m)
 
--- all before number i that may have a constructor
+-- all leaves before number i that may have constructor `con` are among the members
 abbrev pub HaveBefore : List (Option ℕ) → ℕ → ℕ → List ℕ → Type 0
 HaveBefore heads con i members =
     (m : ℕ) (head : Option ℕ) → m < i → slice_get heads m ≡ Some head → MayBe head con → IsIn members m
 
--- all leaves that may have a constructor are members
+-- all leaves that may have constructor `con` are among the members
 abbrev pub HaveAll : List (Option ℕ) → ℕ → List ℕ → Type 0
 HaveAll heads con members = (m : ℕ) (head : Option ℕ) → slice_get heads m ≡ Some head → MayBe head con → IsIn members m
 
--- for each constructor all that may have it
+-- for each constructor c that has a group, all leaves that may have it are among its members
 abbrev pub AreGroups : List (Option ℕ) → List (List ℕ) → Type 0
 AreGroups heads groups = (c : ℕ) (members : List ℕ) → slice_get groups c ≡ Some members → HaveAll heads c members
 
--- the members of leaf n's group
+-- leaf n has a constructor, and all leaves that may have it are among the members
 abbrev pub IsGroupOf : List (Option ℕ) → ℕ → List ℕ → Type 0
 IsGroupOf heads n members = (c : ℕ) × (slice_get heads n ≡ Some (Some c)) × HaveAll heads c members
 
--- the constructors of leaves at some path
+-- for some path these are the numbers of the constructors that stand there in the leaves' provenances, each if there
+-- is one
 abbrev pub AreHeads : List Leaf → List (Option ℕ) → Type 0
 AreHeads leaves heads = (path : List ℕ) × (heads ≡ heads_in path leaves)
 
 module _ (types : List DataDecl) (t : ℕ) where
-  -- leaf n shares no value with a later one of these, up to the i-th
+  -- leaf n shares no value of type t with a later one among the first i of these members
   abbrev pub SharesNone : List Leaf → ℕ → Leaf → List ℕ → ℕ → Type 0
   SharesNone leaves n leaf members i =
       (k m : ℕ) (later : Leaf) → k < i → slice_get members k ≡ Some m → n < m → slice_get leaves m ≡ Some later
       → HaveCommon types t leaf.prov later.prov → ⊥
 
-  -- leaf n shares no value with a later one
+  -- leaf n shares no value of type t with a later one
   abbrev pub IsAlone : List Leaf → ℕ → Leaf → Type 0
   IsAlone leaves n leaf =
       (m : ℕ) (later : Leaf) → n < m → slice_get leaves m ≡ Some later → HaveCommon types t leaf.prov later.prov → ⊥
 
-  -- each leaf whose mark is off shares no value with a later one
+  -- each leaf whose mark is off shares no value of type t with a later one
   abbrev pub ApartWhereOff : List Leaf → List Bool → Type 0
   ApartWhereOff leaves marks =
       (n : ℕ) (leaf : Leaf) → IsOff marks n → slice_get leaves n ≡ Some leaf → IsAlone leaves n leaf

@@ -1,4 +1,4 @@
--- Splits one by one.
+-- Splits one by one: their literals, and how a split fails.
 use Rattle.std.specs.Prelude.{◌≡◌, ℕ, ◌^◌, ◌<◌, List, map, Bool, Some, slice_get}
 use Rattle.std.specs.List.{flat_map}
 use Rattle.rb_core.specs.declared.layout_decl.Loc.{Loc}
@@ -16,7 +16,7 @@ literals_in arms = map (λ (a : FlatArm). a.literal) arms
 abbrev pub split_of : Loc → List FlatArm → Bool → SplitAt
 split_of loc arms other = record { loc = loc; literals = literals_in arms; other = other }
 
--- the splits below arms
+-- the splits in the trees below these arms, arm by arm
 abbrev pub arm_splits : List FlatArm → List SplitAt
 arm_splits arms = flat_map (λ (a : FlatArm). (splits_under a).of) arms
 
@@ -36,7 +36,8 @@ AreFit bits cs = (k c : ℕ) → slice_get cs k ≡ Some c → c < 2 ^ bits
 abbrev pub AreDistinct : List ℕ → Type 0
 AreDistinct cs = (j k c : ℕ) → j < k → slice_get cs j ≡ Some c → slice_get cs k ≡ Some c → ⊥
 
--- how a split fails
+-- a split fails as `why` says: a literal has more bits than its range, a literal stands twice, or it has no arm and
+-- no `else`
 abbrev pub FailsSplit : SplitAt → Why → Type 0
 FailsSplit split (LiteralWide loc c) = (split.loc ≡ loc) × IsAmong split.literals c × (c < 2 ^ length_of loc → ⊥)
 FailsSplit split (LiteralTwice loc c) = (split.loc ≡ loc) × IsTwice split.literals c

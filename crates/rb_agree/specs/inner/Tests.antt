@@ -1,4 +1,5 @@
--- The tests on the ways to a leaf, way by way.
+-- The tests on the ways to a leaf, way by way. A way leads from the root of a tree of splits to a leaf, by an arm or
+-- the `else` of each split on it.
 use Rattle.std.specs.Prelude.{◌≡◌, ℕ, ◌<◌, ◌^◌, List, [], map, Bool, true, false, Option, Some, None}
 use Rattle.std.specs.List.{flat_map}
 use Rattle.rb_core.specs.declared.types.DataDecl.{DataDecl}
@@ -14,21 +15,22 @@ use Rattle.rb_agree.specs.declared.tests.Below.{Below}
 use Rattle.rb_agree.specs.declared.tests.Below.TheVariants.{Absent, Passes, Fails}
 use Rattle.rb_agree.specs.inner.Lists.{EachOf, SomeOf}
 
--- the ways to leaves through these arms
+-- the ways to leaves through these arms of a split, each behind the test for its arm's literal
 abbrev pub arms_routes : Loc → List FlatArm → List Route
 arms_routes loc arms = flat_map (λ (a : FlatArm). arm_routes loc (routes_under a)) arms
 
--- the ways through the `else`, if there is one: behind the test that no literal is there
+-- the ways to leaves through the `else` of a split, if there is one, each behind the test that none of the literals
+-- is there
 abbrev pub other_routes : Loc → List ℕ → Option FlatTree → List Route
 other_routes loc literals None = []
 other_routes loc literals (Some tree) = map (behind (IsNone loc literals)) (routes_of tree)
 
--- what is known of a leaf where no test fails
+-- what is known of a leaf where no test fails: that it passes, if it stands there, or else that it is absent
 abbrev pub status_of : Bool → Below
 status_of true = Passes
 status_of false = Absent
 
--- what is known of it in two trees
+-- what is known of a leaf in two trees together; a test that fails in the first comes before one in the second
 abbrev pub both : Below → Below → Below
 both Absent b = b
 both (Fails why) b = Fails why
@@ -37,7 +39,8 @@ both Passes Passes = Passes
 both Passes (Fails why) = Fails why
 
 module _ (types : List DataDecl) (layouts : List Layout) (leaf : Leaf) where
-  -- what is known behind a test, by what is known below it
+  -- what is known of a leaf behind test t, by what is known of it below: it is asked the test only where it passes
+  -- below
   abbrev pub IsAfter : Test → Below → Below → Type 0
   IsAfter t Absent b = b ≡ Absent
   IsAfter t (Fails why) b = b ≡ Fails why
@@ -46,19 +49,19 @@ module _ (types : List DataDecl) (layouts : List Layout) (leaf : Leaf) where
   IsAfter t Passes (Fails why) = FailsTest types layouts leaf t why
 
 module _ (types : List DataDecl) (layouts : List Layout) (leaf : Leaf) (n : ℕ) where
-  -- a way leads to the leaf
+  -- a way leads to leaf n
   abbrev pub Leads : Route → Type 0
   Leads r = r.leaf ≡ n
 
-  -- a way leads to another leaf
+  -- a way does not lead to leaf n
   abbrev pub Misses : Route → Type 0
   Misses r = Leads r → ⊥
 
-  -- where it does, its tests pass
+  -- leaf n passes each test on a way, if that leads to it
   abbrev pub PassesRoute : Route → Type 0
   PassesRoute r = Leads r → EachOf (Meets types layouts leaf) r.tests
 
-  -- a way leads to the leaf, which fails a test on it so
+  -- a way leads to leaf n, which fails a test on it as `why` says
   abbrev pub FailsRoute : Why → Route → Type 0
   FailsRoute why r = Leads r × SomeOf (λ (t : Test). FailsTest types layouts leaf t why) r.tests
 
@@ -69,7 +72,7 @@ module _ (types : List DataDecl) (layouts : List Layout) (leaf : Leaf) (n : ℕ)
   IsBelow routes Passes = SomeOf Leads routes × EachOf PassesRoute routes
   IsBelow routes (Fails why) = SomeOf (FailsRoute why) routes
 
--- a literal of so many bits is another number than that which is known
+-- a number is known, and a literal of at most so many bits is another one
 abbrev pub IsAnother : Option ℕ → ℕ → ℕ → Type 0
 IsAnother None bits literal = ⊥
 IsAnother (Some number) bits literal = (number ≡ literal → ⊥) × (literal < 2 ^ bits)

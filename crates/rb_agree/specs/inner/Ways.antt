@@ -1,17 +1,20 @@
--- What a search for a cycle has found: which numbers are marked, and the ways to them.
+-- What a search for a cycle has found: which numbers are marked, and the ways to them. A way to a number is the list
+-- of numbers from the first of the search on, each of which leads to the next.
 use Rattle.std.specs.Prelude.{ℕ, List, [], ◌∷◌, ◌++◌, Bool, true, false, Option, Some, None, slice_get, slice_set}
 use Rattle.rb_agree.specs.declared.cycles.Way.{Way}
 
--- which numbers are found, and the ways to them in the order in which they were found
+-- what a search has found: for each number a mark, whether it is found, and the ways to the found ones in the order
+-- in which they were
 pub record State : Type 0 where
   pub marks : List Bool
   pub found : List Way
 
--- such a state
+-- what a search has found, by its marks and the ways to the found numbers
 abbrev pub state : List Bool → List Way → State
 state marks found = record { marks = marks; found = found }
 
--- a number with the way to it, where it was not found before
+-- a search has number `next` found, too, at the end of `way`, if its mark is off; nothing changes where it is on or
+-- missing
 abbrev pub added_if : Option Bool → List ℕ → ℕ → State → State
 added_if None way next s = s
 added_if (Some true) way next s = s
@@ -20,11 +23,11 @@ added_if (Some false) way next s = record {
   found = s.found ++ record { number = next; way = way ++ next ∷ [] } ∷ [];
 }
 
--- a number with the way to it, where it was not found before
+-- a search has number `next` found, too, at the end of `way`, if it was not yet and the graph has it
 abbrev pub added : List ℕ → ℕ → State → State
 added way next s = added_if (slice_get s.marks next) way next s
 
--- each of these numbers, one after the other
+-- a search has each of these numbers found, too, at the end of `way`, one after the other, if it was not yet
 abbrev pub all_added : List ℕ → List ℕ → State → State
 all_added way [] s = s
 all_added way (next ∷ edges) s = all_added way edges (added way next s)

@@ -14,22 +14,24 @@ use Rattle.rb_auto.specs.Fields.{HasField, IsFinite}
 use Rattle.rb_auto.specs.inner.Standing.{EachDerivedLeaf, flat_derived}
 use Rattle.rb_auto.specs.inner.Rules.{OfEach}
 
--- what is open in a leaf of a derived layout is a field of its type
+-- each data type that stands open in a leaf of the derived layout of type t is the type of a field of t
 abbrev pub OpensItsFields : Type 0
 OpensItsFields = OfEach (λ p decls rooms t form. EachDerivedLeaf p decls rooms t form (λ n leaf. (path : List ℕ) (s : ℕ)
     → type_at (open_positions p.types leaf.prov) path ≡ Some (Named s) → HasField p.types t s))
 
--- a boxed layout holds nothing in its root words
+-- a type with the derived boxed layout is on no cycle of types that hold each other in their root words, as it holds
+-- nothing there
 abbrev pub BoxIsOnNoCycle : Type 0
 BoxIsOnNoCycle = (p : Program) (decls : List LayoutDecl) (rooms : List Room) (t : ℕ) (layouts : List Layout)
     → layout_of layouts t ≡ Some (flat_derived p decls rooms t Boxed) → HasNoCycle (HoldsField p.types layouts) t
 
--- fields lead from each type to those that it holds
+-- from each type fields lead, in one step or several, to each type that it holds in its root words
 abbrev pub HoldWhatTheyReach : Program → List Layout → Type 0
 HoldWhatTheyReach p layouts =
     (t s : ℕ) → HoldsField p.types layouts t s → (ts : List ℕ) × IsChain (HasField p.types) t ts s
 
--- a type that does not reach itself is on no cycle
+-- a type that does not reach itself through fields is on no cycle of types that hold each other in their root words,
+-- where types hold only what they reach
 abbrev pub FiniteIsOnNoCycle : Type 0
 FiniteIsOnNoCycle = (p : Program) (layouts : List Layout) (t : ℕ)
     → HoldWhatTheyReach p layouts → IsFinite p.types t → HasNoCycle (HoldsField p.types layouts) t

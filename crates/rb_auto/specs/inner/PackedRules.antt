@@ -20,7 +20,7 @@ use Rattle.rb_auto.specs.Derived.{derived}
 use Rattle.rb_auto.specs.Completed.{with_layouts}
 use Rattle.rb_auto.specs.inner.Standing.{EachDerivedLeaf, TagFits}
 
--- A4: there are no blocks and no pointers
+-- A4: each leaf of a packed layout obeys it, having no blocks and no pointers
 abbrev pub HasNoBlocks : Type 0
 HasNoBlocks = (p : Program) (decls : List LayoutDecl) (rooms : List Room) (t tag width : ℕ)
     → EachDerivedLeaf p decls rooms t (Packed tag width) (λ n leaf. HasBlocks leaf)
@@ -30,16 +30,18 @@ abbrev pub FieldFits : Program → List LayoutDecl → List Room → Ty → Type
 FieldFits p decls rooms (Int bits) = IsShapeWidth bits
 FieldFits p decls rooms (Named s) = shape_of decls s ≡ shape p rooms s
 
+-- each field of a constructor of type t has a type that fits, as `FieldFits` says
 pub record FieldsFit (p : Program) (decls : List LayoutDecl) (rooms : List Room) (t : ℕ) : Type 0 where
   pub each : (k : ℕ) (c : Con) (i : ℕ) (ty : Ty) → slice_get (cons_of p.types t) k ≡ Some c
       → slice_get c.fields i ≡ Some ty → FieldFits p decls rooms ty
 
--- each constructor has room behind the tag
+-- each constructor of type t has room for its fields in a word of `width` bits, behind a tag of `tag` bits
 abbrev pub HasRoom : Program → List Room → ℕ → ℕ → ℕ → Type 0
 HasRoom p rooms t tag width =
     (k : ℕ) (c : Con) → slice_get (cons_of p.types t) k ≡ Some c → tag + con_width p rooms c ≤ width
 
--- A3: the parts lie in the word, are disjoint and fit what they hold
+-- A3: the parts of a packed layout's words lie in them, are disjoint and fit what they hold, where the tag and the
+-- fields fit and the word has room for them
 abbrev pub HasFittingParts : Type 0
 HasFittingParts = (p : Program) (decls : List LayoutDecl) (rooms : List Room) (t tag width : ℕ)
     → TagFits p t (Packed tag width) → FieldsFit p decls rooms t → HasRoom p rooms t tag width
@@ -47,7 +49,7 @@ HasFittingParts = (p : Program) (decls : List LayoutDecl) (rooms : List Room) (t
     → EachDerivedLeaf p decls rooms t (Packed tag width) (λ n leaf. (i : ℕ) (item : Item)
     → slice_get (items_of decls t n) i ≡ Some item → ItemFits decls (open_positions p.types leaf.prov) item)
 
--- A6: each unit of each field is held once, and nothing else
+-- A6: a leaf of a packed layout holds each bit or word of each field once, and nothing else, where the fields fit
 abbrev pub HoldsItsFields : Type 0
 HoldsItsFields = (p : Program) (decls : List LayoutDecl) (rooms : List Room) (t tag width : ℕ)
     → FieldsFit p decls rooms t → decl_of decls t ≡ Some (derived p rooms t (Packed tag width))

@@ -21,9 +21,10 @@ pub record TagFits (p : Program) (t : ℕ) (form : Form) : Type 0 where
   pub tag : form_tag form ≤ form_width form
 
 module _ (p : Program) (decls : List LayoutDecl) (rooms : List Room) (t : ℕ) (form : Form) where
+  -- the flat form of the layout derived for type t in this form, in program p with the layouts `decls`
   abbrev pub flat_derived : Layout
   flat_derived = flat_layout (with_layouts p decls) (derived p rooms t form)
 
-  -- of each leaf of the derived layout, with its number
+  -- P holds of each leaf of the flat derived layout, with its number
   abbrev pub EachDerivedLeaf : (ℕ → Leaf → Type 0) → Type 0
   EachDerivedLeaf P = (n : ℕ) (leaf : Leaf) → slice_get flat_derived.leaves n ≡ Some leaf → P n leaf

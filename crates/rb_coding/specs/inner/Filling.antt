@@ -19,7 +19,7 @@ use Rattle.rb_coding.specs.declared.fault.EncodeFault.TheVariants.{Full, Memory 
 use Rattle.rb_coding.specs.Encoding.{laid_before}
 use Rattle.rb_coding.specs.Packing.{word_made}
 
--- the blocks before what is laid behind them
+-- what is laid, with these blocks in front of it
 abbrev pub behind_all : List (ℕ × ℕ) → Laid → Laid
 behind_all [] laid = laid
 behind_all (b ∷ bs) laid = behind b (behind_all bs laid)
@@ -48,7 +48,8 @@ pub record ArePlaceable (blocks : List Block) : Type 0 where
       → slice_get block.words j ≡ Some f
       → (k : ℕ) (p : Part) → slice_get f.parts k ≡ Some p → (align c : ℕ) → p.kind ≡ Pointer align c → c < b
 
--- blocks are placed at addresses and filled with the words that their parts make
+-- blocks are placed, at these addresses, and filled with the words that their parts make; or one of them does not
+-- fit. Want of memory says nothing of it
 abbrev pub ArePlaced : (List ℕ → List ℕ) → List Block → Memory → Memory → Result (List ℕ) EncodeFault → Type 0
 ArePlaced subs blocks old new (Ok addresses) =
     (bs : List (ℕ × ℕ)) × (addresses ≡ map (λ (b : ℕ × ℕ). b.0) bs) × Progress old new (map request_of blocks) bs
@@ -56,7 +57,8 @@ ArePlaced subs blocks old new (Ok addresses) =
 ArePlaced subs blocks old new (Err (Full full)) = Stopped old new (map request_of blocks) full
 ArePlaced subs blocks old new (Err NoMemory) = Unit {0}
 
--- so are those of a leaf, and its root words are made
+-- the blocks of a leaf are placed and filled, and `ws` are its root words; or one of the
+-- blocks does not fit. Want of memory says nothing of it
 abbrev pub IsMade : (List ℕ → List ℕ) → Leaf → Memory → Memory → Result (List ℕ) EncodeFault → Type 0
 IsMade subs leaf old new (Ok ws) =
     (bs : List (ℕ × ℕ)) × Progress old new (map request_of leaf.blocks) bs

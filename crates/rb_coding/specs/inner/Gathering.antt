@@ -30,36 +30,40 @@ entry Field path first n l (Bits own a) = if same_path own path then Some (0, pu
 entry Field path first n l (Word own j) = if same_path own path then Some (j, n) else None
 entry Field path first n l (Pointer align b) = None
 
+-- a table with an entry, a number and what stands there, put in; the table as it is where there is no entry
 abbrev pub put_entry : List ℕ → Option (ℕ × ℕ) → List ℕ
 put_entry table None = table
 put_entry table (Some e) = slice_set table e.0 e.1
 
--- what a part of word w puts
+-- the table once a part of a word, which has the value w, has put its entry, if it has one
 abbrev pub put_part : Wanted → List ℕ → ℕ → List ℕ → Part → List ℕ
 put_part wanted path w table p =
     put_entry table (entry wanted path (slice_index table 0) (take_of w p.o p.l) p.l p.kind)
 
+-- the table once the parts of a word, which has the value w, have put their entries, from the first part to the last
 abbrev pub put_parts : Wanted → List ℕ → ℕ → List Part → List ℕ → List ℕ
 put_parts wanted path w [] table = table
 put_parts wanted path w (p ∷ ps) table = put_parts wanted path w ps (put_part wanted path w table p)
 
--- flat words, the first of which is word j
+-- the table once the parts of flat words have put their entries; the value of the first is word j of `ws`, and so on
 abbrev pub put_words : Wanted → List ℕ → List FlatWord → List ℕ → ℕ → List ℕ → List ℕ
 put_words wanted path [] ws j table = table
 put_words wanted path (f ∷ fs) ws j table =
     put_words wanted path fs ws (j + 1) (put_parts wanted path (slice_index ws j) f.parts table)
 
--- blocks, whose words were loaded from the last block to the first
+-- the table of the field at a path once the parts of blocks have put their entries, where `loaded` has the words of
+-- these blocks, the last block's first
 abbrev pub put_blocks : List ℕ → List Block → List (List ℕ) → List ℕ → List ℕ
 put_blocks path [] loaded table = table
 put_blocks path (b ∷ bs) loaded table =
     put_blocks path bs loaded (put_words Field path b.words (slice_index_or loaded (length bs) []) 0 table)
 
+-- how many words represent a value of a type; 0 where no type is given
 abbrev pub count_at : List Layout → Option Ty → ℕ
 count_at layouts None = 0
 count_at layouts (Some ty) = word_count layouts ty
 
--- the words of the field at a path
+-- the words of the field at a path of a leaf, from its root words `ws` and its blocks' words, the last block's first
 abbrev pub field_words : List DataDecl → List Layout → Leaf → List ℕ → List (List ℕ) → List ℕ → List ℕ
 field_words types layouts leaf ws loaded path =
     put_blocks path leaf.blocks loaded

@@ -1,4 +1,4 @@
--- Splits that are read on the way to one leaf.
+-- Splits that are read on the way to one leaf. A route is a leaf, by its number, with the tests on the way to it.
 use Rattle.std.specs.Prelude.{◌≡◌, ℕ, List, Some, slice_get}
 use Rattle.rb_core.specs.declared.layout_decl.Loc.{Loc}
 use Rattle.rb_core.specs.declared.layout_decl.Step.{Step}
@@ -14,12 +14,13 @@ pub record Reads (ws : List ℕ) (m : Memory) (loc : Loc) (n : ℕ) : Type 0 whe
   pub is_read : read_loc ws m loc ≡ Some n
   pub widths : (k : ℕ) (s : Step) → slice_get loc.steps k ≡ Some s → IsWidth s.width
 
--- a test, done on words
+-- a test passes on root words and a memory: the number at its location is the literal, or none of the literals
 abbrev pub Passes : List ℕ → Memory → Test → Type 0
 Passes ws m (Is loc c) = Reads ws m loc c
 Passes ws m (IsNone loc literals) = (n : ℕ) × Reads ws m loc n × (IsLiteral literals n → ⊥)
 
--- the tests on a way to this leaf pass
+-- the tests of some route of the tree to this leaf pass on root words and a memory; no split of the tree has two arms
+-- of one literal
 pub record Leads (ws : List ℕ) (m : Memory) (tree : FlatTree) (leaf : ℕ) : Type 0 where
   pub distinct : LiteralsDistinct (splits_of tree)
   pub number : ℕ

@@ -9,17 +9,17 @@ use Rattle.rb_layout.specs.Flat.{IsFlat}
 use Rattle.rb_layout.specs.Words.{begins_at}
 use Rattle.rb_rel.specs.Relation.{Placed}
 
--- the words of a block can be loaded
+-- each word of a block that begins at `base` can be loaded
 abbrev pub CanLoad : Memory → ℕ → List FlatWord → Type 0
 CanLoad m base fs = (j : ℕ) (f : FlatWord) → slice_get fs j ≡ Some f
     → IsWidth f.width × ((w : ℕ) × (load_of m base (begins_at fs j) f.width ≡ Ok w))
 
--- these are they
+-- a load of each word of a block that begins at `base` gives the word of `ws` with the same number
 abbrev pub AreLoaded : Memory → ℕ → List FlatWord → List ℕ → Type 0
 AreLoaded m base fs ws = (j : ℕ) (f : FlatWord) → slice_get fs j ≡ Some f
     → load_of m base (begins_at fs j) f.width ≡ Ok (slice_index ws j)
 
--- a leaf that was placed over root words
+-- a leaf that is placed in a memory over these root words, so that the words of its blocks can be loaded
 pub record IsLoadable (leaf : Leaf) (ws : List ℕ) (m : Memory) : Type 0 where
   pub flat : IsFlat leaf
   pub widths : (b : ℕ) (block : Block) (j : ℕ) (f : FlatWord) → slice_get leaf.blocks b ≡ Some block
@@ -28,7 +28,7 @@ pub record IsLoadable (leaf : Leaf) (ws : List ℕ) (m : Memory) : Type 0 where
   pub ats : ℕ → ℕ
   pub placed : Placed leaf ws m false subs ats
 
--- the words of its blocks
+-- these are the words of the blocks of a leaf that is placed over root words `ws`, those of the last block first
 pub record AreWordsOf (leaf : Leaf) (ws : List ℕ) (m : Memory) (loaded : List (List ℕ)) : Type 0 where
   pub count : length loaded ≡ length leaf.blocks
   pub words : (subs : List ℕ → List ℕ) (ats : ℕ → ℕ) → Placed leaf ws m false subs ats

@@ -12,17 +12,21 @@ use Rattle.rb_coding.specs.declared.fault.EncodeFault.{EncodeFault}
 use Rattle.rb_coding.specs.declared.fault.EncodeFault.TheVariants.{Full, Memory as NoMemory}
 use Rattle.rb_coding.specs.inner.Filling.{ArePlaceable, IsMade}
 
--- a number at an integer type; at a data type, a value with a leaf
+-- a value can be made at a type: at an integer type it is a number, and at a data type it has
+-- a leaf, whose blocks can be placed
 abbrev pub IsReady : List Layout → Ty → Value → Type 0
 IsReady layouts (Int bits) v = (n : ℕ) × (v ≡ Num n)
 IsReady layouts (Named t) v = (leaf : Leaf) × (leaf_in (layout_of layouts t) v ≡ Some leaf) × ArePlaceable leaf.blocks
 
+-- what making a number may come to: the number is its only word, and the memory stays; there is no block that could
+-- not fit, and want of memory says nothing
 abbrev pub IsNumber : Value → Memory → Memory → Result (List ℕ) EncodeFault → Type 0
 IsNumber v old new (Ok ws) = (n : ℕ) × (v ≡ Num n) × (ws ≡ n ∷ []) × (new ≡ old)
 IsNumber v old new (Err (Full full)) = ⊥
 IsNumber v old new (Err NoMemory) = Unit {0}
 
--- the word of a number is itself, and a value of a data type has the words of its leaf
+-- what making a value at a type may come to: the word of a number is itself, and a value of a data type has the words
+-- of its leaf, where `subs` has the words of the field at a path
 abbrev pub IsNodeMade : List Layout → Ty → Value → (List ℕ → List ℕ) → Memory → Memory → Result (List ℕ) EncodeFault
     → Type 0
 IsNodeMade layouts (Int bits) v subs old new result = IsNumber v old new result

@@ -14,52 +14,58 @@ use Rattle.rb_values.specs.declared.nodes.Layer.{Layer}
 use Rattle.rb_values.specs.declared.nodes.Layer.TheVariants as L
 use Rattle.rb_coding.specs.declared.table.Table.{Table}
 
--- the types of the fields of constructor k, at a type
+-- the types of the fields of constructor k of a type; none where there is no such constructor, as at an integer type
 abbrev pub field_list : List DataDecl → Ty → ℕ → List Ty
 field_list types (Int bits) k = []
 field_list types (Named t) k = types_or_none (fields_in (slice_get types t) k)
 
+-- the types of the fields of a node at a type, by its outermost level: a number has none
 abbrev pub layer_fields : List DataDecl → Ty → Layer → List Ty
 layer_fields types ty (L.Num n) = []
 layer_fields types ty (L.Con k count) = field_list types ty k
 
+-- the nodes of a value, each with its type, once the value's own type is given
 abbrev pub Typing : Type 0
 Typing = Ty → List (Value × Ty)
 
+-- the nodes of fields, each field at its own type, from left to right, as far as both lists reach
 abbrev pub typed_in_turn : List Typing → List Ty → List (Value × Ty)
 typed_in_turn [] ts = []
 typed_in_turn (f ∷ fs) [] = []
 typed_in_turn (f ∷ fs) (t ∷ ts) = f t ++ typed_in_turn fs ts
 
+-- one level of `typed_posts`: the nodes of the fields, and behind them the value itself, each with its type
 abbrev pub typed_step : List DataDecl → Value-F (Value × Typing) → Typing
 typed_step types (V.Num n) ty = (Num n, ty) ∷ []
 typed_step types (V.Con k ps) ty =
     typed_in_turn (map (λ (p : Value × Typing). p.1) ps) (field_list types ty k)
     ++ (Con k (map (λ (p : Value × Typing). p.0) ps), ty) ∷ []
 
--- the nodes of a value in post-order, each with its type
+-- the nodes of a value at a type, in post-order and each with its type
 abbrev pub typed_posts : List DataDecl → Value → Typing
 typed_posts types = para-Value Typing (typed_step types)
 
 -- Where nodes stand: the nodes of a subvalue end with its own, behind those of the fields before it, and
 -- `sizes` has the number of nodes of each ----------------------------------------------------------
 
--- where the nodes of the last `count` subvalues before a node begin
+-- where the nodes of the last `count` subvalues before node `end` begin: at `end` itself where `count` is 0
 abbrev pub start_of : List ℕ → ℕ → ℕ → ℕ
 start_of sizes end zero = end
 start_of sizes end (suc count) = let start = start_of sizes end count in start - slice_index sizes (start - 1)
 
+-- how many fields a node has; 0 where it is a number or not there
 abbrev pub arity_of : List Value → ℕ → ℕ
 arity_of nodes node = length (subs (at nodes node))
 
+-- the node of a field of a node: the nodes of the fields behind it stand between it and the node
 abbrev pub field_node : List Value → List ℕ → ℕ → ℕ → ℕ
 field_node nodes sizes node field = start_of sizes node (arity_of nodes node - (field + 1)) - 1
 
--- the node at a path
+-- the node at a path of field numbers below a node
 abbrev pub node_at : List Value → List ℕ → ℕ → List ℕ → ℕ
 node_at nodes sizes node [] = node
 node_at nodes sizes node (field ∷ path) = node_at nodes sizes (field_node nodes sizes node field) path
 
--- the words of the node at a path
+-- the words that the table has for the node at a path below a node; none where it has none for it
 abbrev pub subs_of : Table → List Value → ℕ → List ℕ → List ℕ
 subs_of table nodes node path = slice_index_or table.words (node_at nodes table.sizes node path) []

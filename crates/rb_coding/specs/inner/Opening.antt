@@ -5,10 +5,10 @@ use Rattle.rb_coding.specs.declared.plan.Opening.{Opening}
 use Rattle.rb_coding.specs.inner.Gathering.{field_words}
 use Rattle.rb_coding.specs.inner.Planning.{Planned, plan_of}
 
--- the words of the field at a path
+-- the words of the field at a path of a value that is opened
 abbrev pub words_of : Opening → List ℕ → List ℕ
 words_of x = field_words x.types.now x.layouts.now x.leaf.now x.words.now x.loaded.now
 
--- the steps of a provenance
+-- the steps to which a provenance of a value that is opened comes, given a type and a path
 abbrev pub steps_of : Opening → Pat → Planned
 steps_of x = plan_of x.types.now (words_of x)

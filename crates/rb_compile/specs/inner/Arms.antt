@@ -46,18 +46,20 @@ abbrev pub shared_slots : Option Held → List ℕ
 shared_slots None = []
 shared_slots (Some h) = h.slots
 
--- they are there once an arm is
+-- the values of the arms of a match have slots just where the number of arms that stand is not 0
 abbrev pub Reaches : ℕ → Option Held → Type 0
 Reaches zero None = Unit {0}
 Reaches zero (Some h) = ⊥
 Reaches (suc i) None = ⊥
 Reaches (suc i) (Some h) = Unit {0}
 
--- a clause's body stands within what its pattern binds
+-- the scope in which a clause's body stands: the variables before the match, and then those that its pattern binds at
+-- a scrutinee of type s
 abbrev pub clause_scope : Plan → Clause → List Local → Ty → List Binder
 clause_scope plan c ls s = scope_of ls ++ binders plan.program.types c.pat s
 
--- a clause of a match of function f, whose scrutinee is of type s
+-- a clause of a match of function f, whose scrutinee is of type s: its body has type t in its scope, its pattern is
+-- typed, and the matches within it are ready
 pub record ClauseIsReady (plan : Plan) (f : ℕ) (c : Clause) (wanted : Option Ty) (ls : List Local)
     (s t : Ty) : Type 0 where
   pub sound : IsSound plan
@@ -67,7 +69,8 @@ pub record ClauseIsReady (plan : Plan) (f : ℕ) (c : Clause) (wanted : Option T
   pub numbered : expression_is_numbered plan.program.types plan.program.funs c.body within ≡ true
   pub ready_sites : SitesAreReady plan f (sites plan.program.types plan.program.funs c.body (clause_scope plan c ls s))
 
--- of the first clause one type is wanted, of the others that of the match
+-- each clause of a match is ready, at type t: of the first one `wanted` is wanted, which may be no type, of the
+-- others t
 abbrev pub ClausesAreReady : Plan → ℕ → List Clause → Option Ty → List Local → Ty → Ty → Type 0
 ClausesAreReady plan f cs wanted ls s t =
     (k : ℕ) (c : Clause) → slice_get cs k ≡ Some c → ClauseIsReady plan f c (wanted_of k wanted (Some t)) ls s t
@@ -89,26 +92,27 @@ pub record DoesClause (plan : Plan) (f : ℕ) (c : Clause) (wanted : Option Ty) 
       (λ left. meaning_of plan.program calls f c.body wanted (clause_scope plan c ls s) left (env ++ bindings c.pat v))
       t into
 
--- one arm: its value is where the arms before it left theirs
+-- the code from a to d is an arm for clause c, whose value is where the arms before it left theirs, if there are any
 pub record ArmIsDone (plan : Plan) (f : ℕ) (c : Clause) (wanted : Option Ty) (ls : List Local) (s t : Ty)
     (xs : List ℕ) (n : ℕ) (into : Option Held) (a d : Sheet) (r : Joined) : Type 0 where
   pub shared : IsShared plan n d.slots t (Some r.into)
   pub same : (h : Held) → into ≡ Some h → r.into ≡ h
   pub clause : DoesClause plan f c wanted ls s t xs n r.into.slots a d r.join.pc
 
--- where the clause and what stands before the match are ready, the code from a to d is such an arm
+-- where the clause and what stands before the match are ready, and the arms before it, if there are any, left their
+-- values in slots to share, the code from a to d is an arm for the clause, whose value is where they left theirs
 abbrev pub EmitsArm : Plan → ℕ → Clause → Option Ty → List Local → Held → Option Held → Sheet → Sheet → Joined → Type 0
 EmitsArm plan f c wanted ls held into a d r =
     (s t : Ty) (n : ℕ) → ClauseIsReady plan f c wanted ls s t → GroundIsReady plan ls held s n a.slots
     → IsShared plan n a.slots t into → ArmIsDone plan f c wanted ls s t held.slots n into a d r
 
--- the arm with number k, of the clauses cs
+-- the code from a to d is the arm with number k of the clauses cs, if there is such a clause
 abbrev pub DoesNumber : Plan → ℕ → List Clause → Option Ty → List Local → Ty → Ty → List ℕ → ℕ → List ℕ
     → ℕ → Sheet → Sheet → ℕ → Type 0
 DoesNumber plan f cs wanted ls s t xs n into k a d join =
     (c : Clause) → slice_get cs k ≡ Some c → DoesClause plan f c (wanted_of k wanted (Some t)) ls s t xs n into a d join
 
--- the first i arms stand behind e
+-- the first i arms of the clauses cs stand behind e, and leave their values in the same slots
 pub record ArmsDone (plan : Plan) (f i : ℕ) (cs : List Clause) (wanted : Option Ty) (ls : List Local) (s t : Ty)
     (xs : List ℕ) (n : ℕ) (e q : Sheet) (into : Option Held) (joins : List Hole) (starts : List ℕ) : Type 0 where
   pub adds : Adds plan e q

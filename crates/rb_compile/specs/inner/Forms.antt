@@ -32,7 +32,8 @@ EmitsExpr plan f e wanted locals old new held =
     (t : Ty) → IsReady plan f e wanted locals old.slots t
     → (held.ty ≡ t) × Emits plan (meant plan f e wanted locals) locals old new t held.slots
 
--- of the first n of some expressions, each at its wanted type
+-- where some expressions are ready, the appended code leaves the values of the first n of them in the slots that are
+-- answered, each at its wanted type
 abbrev pub EmitsFirst : Plan → ℕ → ℕ → List Expr → List Ty → List Local → Sheet → Sheet → List Held → Type 0
 EmitsFirst plan f n es ts locals old new hs =
     AreReady plan f es ts locals old.slots → AreGiven plan old.slots locals
@@ -59,16 +60,16 @@ low_bits_of b x bits = Take b.slots (slice_index x.slots 0) 0 bits
 abbrev pub new_held : Plan → Sheet → Ty → Held
 new_held plan b t = record { ty = t; slots = slots_from b.slots (words_of plan t) }
 
--- the slots of the last of the variables with a number
+-- the slots and the type of the last of the variables that has number x, or d where none has
 abbrev pub held_or : Option Held → ℕ → List Local → Option Held
 held_or d x [] = d
 held_or d x (l ∷ ls) = held_or (if l.var == x then Some (record { ty = l.ty; slots = l.slots }) else d) x ls
 
--- a variable takes no code where it is bound, and is 0 elsewhere, as in the meaning
+-- a variable that is held takes no code; one that is bound nowhere is 0, as in the meaning, in a new slot
 abbrev pub variable_is : Option Held → Sheet → Sheet → Held → Type 0
 variable_is None old new held = IsOne old (Const old.slots 0) (Int 64) new held
 variable_is (Some h) old new held = (new ≡ old) × (held ≡ h)
 
--- the same by the variable's number, among those that are bound
+-- variable number x takes no code where it is among those that are bound, and is 0 in a new slot where it is not
 abbrev pub VariableIs : List Local → ℕ → Sheet → Sheet → Held → Type 0
 VariableIs ls x old new held = variable_is (held_or None x ls) old new held

@@ -11,7 +11,8 @@ use Rattle.rb_fragment.specs.Functions.{Compiles, param_words}
 use Rattle.rb_fetch.specs.Fetching.{IsSound}
 use Rattle.rb_compile.specs.inner.Ready.{SitesAreReady}
 
--- function number g of a program that was accepted
+-- function number g is as in a program that was accepted: its body is typed and numbered, its matches are ready, its
+-- parameters have few words, and its name is spelled as one
 pub record FunIsReady (plan : Plan) (g : ℕ) (f : Fun) : Type 0 where
   pub sound : IsSound plan
   pub typed : type_of plan.program.types plan.program.funs f.body (Some f.result) (map binder_of f.params) ≡ Ok f.result
@@ -21,12 +22,12 @@ pub record FunIsReady (plan : Plan) (g : ℕ) (f : Fun) : Type 0 where
   pub few : param_words plan f ≤ 256
   pub named : IsLower f.name
 
--- all of them
+-- each function of the program is ready, as in one that was accepted, and there are fewer than 2^64
 pub record ProgramIsReady (plan : Plan) : Type 0 where
   pub few_funs : length plan.program.funs < 2 ^ 64
   pub each_fun : (g : ℕ) (f : Fun) → slice_get plan.program.funs g ≡ Some f → FunIsReady plan g f
 
--- the first functions have their code
+-- the first i functions of the program have their code, each in its place
 pub record FirstCompile (plan : Plan) (i : ℕ) (funs : List CodeFun) : Type 0 where
   pub count : length funs ≡ i
   pub each : (g : ℕ) (f : Fun) → g < i → slice_get plan.program.funs g ≡ Some f

@@ -1,4 +1,5 @@
--- What is known of the expressions of a program that was accepted.
+-- What is known of the expressions of a program that was accepted. A site is a match of a function: its token, the
+-- type of its scrutinee, and its patterns.
 use Rattle.std.specs.Prelude.{◌≡◌, ℕ, ◌≤◌, ◌⊎◌, true, List, [], ◌∷◌, Option, Some, Ok, slice_get}
 use Rattle.rb_core.specs.declared.types.Ty.{Ty}
 use Rattle.rb_core.specs.declared.coverage.Site.{Site}
@@ -18,12 +19,12 @@ pub record SiteIsReady (plan : Plan) (f : ℕ) (s : Site) : Type 0 where
   pub exhaustive : IsExhaustive plan.program.types s.scrutinee s.patterns
   pub paid : bound_of plan.program.types plan.layouts s.scrutinee s.patterns ≤ plan.bound f s.at
 
--- s is one of these matches
+-- match s is one of the list
 abbrev pub IsAmong : Site → List Site → Type 0
 IsAmong s [] = ⊥
 IsAmong s (x ∷ xs) = (x ≡ s) ⊎ IsAmong s xs
 
--- each of these matches is ready
+-- each match of the list, of function f, is exhaustive, and the plan pays for its switches
 abbrev pub SitesAreReady : Plan → ℕ → List Site → Type 0
 SitesAreReady plan f ss = (s : Site) → IsAmong s ss → SiteIsReady plan f s
 
@@ -38,7 +39,7 @@ pub record IsReady (plan : Plan) (f : ℕ) (e : Expr) (wanted : Option Ty) (loca
   pub given : AreGiven plan n locals
   pub ready_sites : SitesAreReady plan f (sites plan.program.types plan.program.funs e (scope_of locals))
 
--- each of some expressions is ready where its type is wanted
+-- each expression of the list is ready where the type in the same place is wanted of it
 abbrev pub AreReady : Plan → ℕ → List Expr → List Ty → List Local → ℕ → Type 0
 AreReady plan f es ts locals n =
     (i : ℕ) (e : Expr) → slice_get es i ≡ Some e

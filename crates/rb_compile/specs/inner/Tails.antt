@@ -76,7 +76,7 @@ pub record EmitsTail (plan : Plan) (ev : Calls → ℕ → List Binding → Outc
   pub does : (calls : Calls) (clean : Bool) (env : List Binding)
       → Tail plan clean calls 0 old new (λ s m. Holds plan clean s m locals env) (λ left. ev calls left env) t
 
--- where the expression is ready, the appended code returns its value
+-- where the expression is ready at type t, the appended code returns its value
 abbrev pub EmitsReturn : Plan → ℕ → Expr → Ty → List Local → Sheet → Sheet → Type 0
 EmitsReturn plan f e t locals old new =
     IsReady plan f e (Some t) locals old.slots t → EmitsTail plan (meant plan f e (Some t) locals) locals old new t
@@ -94,7 +94,7 @@ pub record DoesTailArm (plan : Plan) (f : ℕ) (c : Clause) (ls : List Local) (s
       (λ left. meaning_of plan.program calls f c.body (Some t) (clause_scope plan c ls s) left
       (env ++ bindings c.pat v)) t
 
--- where the clause and what stands before the match are ready, the code from a to d is such an arm
+-- where the clause and what stands before the match are ready, the code from a to d does the clause and returns
 abbrev pub EmitsTailArm : Plan → ℕ → Clause → Ty → List Local → Held → Sheet → Sheet → Type 0
 EmitsTailArm plan f c t ls held a d =
     (s : Ty) (n : ℕ) → ClauseIsReady plan f c (Some t) ls s t → GroundIsReady plan ls held s n a.slots
@@ -111,7 +111,7 @@ pub record TailArmIn (e q : Sheet) (start : ℕ) (DoesArm : Sheet → Sheet → 
   pub more : last.slots ≤ q.slots
   pub does : DoesArm first last
 
--- the first so many arms stand, each at its start
+-- the first `count` arms of a match stand behind e in longer code q, each at its start
 abbrev pub TailArmsIn : ℕ → Sheet → Sheet → List ℕ → (ℕ → Sheet → Sheet → Type 0) → Type 0
 TailArmsIn count e q starts DoesArm = (k : ℕ) → k < count → TailArmIn e q (slice_index starts k) (DoesArm k)
 
@@ -121,13 +121,13 @@ pub record TailArmsAre (count : ℕ) (e q : Sheet) (starts : List ℕ) : Type 0 
   pub starts_from : AllFrom (length e.code) starts
   pub count_is : length starts ≡ count
 
--- the arm with number k, of the clauses cs
+-- the code from a to d does the clause with number k of the clauses cs, if there is one, and returns
 abbrev pub DoesTailNumber :
     Plan → ℕ → List Clause → List Local → Ty → Ty → List ℕ → ℕ → Sheet → Sheet → Type 0
 DoesTailNumber plan f cs ls s t xs k a d =
     (c : Clause) → slice_get cs k ≡ Some c → DoesTailArm plan f c ls s t xs a d
 
--- the first i arms stand behind e; where there is one, a return is last
+-- the first i arms of the clauses cs stand behind e, and each returns; where there is one, a return is last
 pub record TailArmsDone (plan : Plan) (f i : ℕ) (cs : List Clause) (ls : List Local) (s t : Ty) (xs : List ℕ)
     (e q : Sheet) (starts : List ℕ) : Type 0 where
   pub adds : AddsTail plan t e q
@@ -139,7 +139,7 @@ abbrev pub TailsAreReady : Plan → ℕ → List Clause → List Local → Ty �
 TailsAreReady plan f cs ls s t =
     (k : ℕ) (c : Clause) → slice_get cs k ≡ Some c → ClauseIsReady plan f c (Some t) ls s t
 
--- where the clauses and what stands before the match are ready, the first i arms stand behind e
+-- where the clauses and what stands before the match are ready, the first i arms stand behind e, and each returns
 abbrev pub EmitsTailArms :
     Plan → ℕ → ℕ → List Clause → Ty → List Local → Held → Sheet → Sheet → List ℕ → Type 0
 EmitsTailArms plan f i cs t ls held e q starts =

@@ -34,7 +34,7 @@ variables_step (E.To at bits xs) = xs
 variables_step (E.Let at x t xs ys) = xs ++ ys
 variables_step (E.Match at xs yss) = xs ++ flat_map (λ ys. ys) yss
 
--- those of a clause's body
+-- the variables of a clause, where those of its body are given: the same
 abbrev pub body_variables : Clause-F (List ℕ) (List ℕ) → List ℕ
 body_variables c = c.body
 
@@ -50,7 +50,7 @@ variables_of_clause = fold-Clause (List ℕ) (List ℕ) variables_step body_vari
 abbrev pub ScopesAgree : List ℕ → List Binder → List Binder → Type 0
 ScopesAgree xs s s' = (x : ℕ) → Contains xs x → variable_type x s ≡ variable_type x s'
 
--- and two environments the same values
+-- two environments give these variables the same values
 abbrev pub ValuesAgree : List ℕ → List Binding → List Binding → Type 0
 ValuesAgree xs e e' = (x : ℕ) → Contains xs x → value_in e x ≡ value_in e' x
 
@@ -67,19 +67,20 @@ pruned_step keeps (P.Con at c ps) = Con at c ps
 abbrev pub pruned : (ℕ → Bool) → Pat → Pat
 pruned keeps = fold-Pat Pat (pruned_step keeps)
 
--- Marks: for each of some variables in a row, whether it is used
+-- whether variable x is kept: marks say of each of some variables in a row whether it is used, and those before and
+-- behind them are kept
 abbrev pub is_kept : Marks → ℕ → Bool
 is_kept m x = if nat_lt x m.first then true else unwrap_or (slice_get m.used (x - m.first)) true
 
--- each of these variables is kept
+-- each of these variables is kept, by what the marks say
 abbrev pub AreKept : List ℕ → Marks → Type 0
 AreKept xs m = (x : ℕ) → Contains xs x → is_kept m x ≡ true
 
--- at least the same variables are marked
+-- each variable that the old marks keep is kept by the new ones
 abbrev pub MarksMore : Marks → Marks → Type 0
 MarksMore old new = (x : ℕ) → is_kept old x ≡ true → is_kept new x ≡ true
 
--- the variables of an expression are kept
+-- p is the pattern with wildcards in place of numbers and of some variables, none of which the expression uses
 abbrev pub IsPrunedFor : Expr → Pat → Pat → Type 0
 IsPrunedFor body pat p = (keeps : ℕ → Bool) × ((x : ℕ) → Contains (variables_in body) x → keeps x ≡ true)
     × (p ≡ pruned keeps pat)

@@ -18,28 +18,32 @@ use Rattle.rb_decide.specs.Graphs.{node_trees, LinksAreLower}
 
 -- The chain -----------------------------------------------------------------------------------------
 
--- what a pattern at a column puts before the tree of the values that it matches
+-- the tests of a pattern, as a function: the column where the pattern stands, and the tree for the values that it
+-- matches, go to the tree that begins with the tests
 abbrev pub Chain : Type 0
 Chain = Column → Tree → Tree
 
--- a test of one head
+-- a test of head h at column c, whose one arm leads to tree t; other values, if there may be any, are left to clause
+-- 1
 abbrev pub one_test : List DataDecl → Head → Chain
 one_test types h c t =
     Test c.position (record { head = h; under = t } ∷ [])
     (if is_complete types c.ty (h ∷ []) then None else Some (Clause 1))
 
--- the first pattern's tests first
+-- the tests of patterns at columns, put before tree t, those of the first pattern first; patterns without a column
+-- have none
 abbrev pub chain_row : List Chain → List Column → Tree → Tree
 chain_row [] cs t = t
 chain_row (f ∷ fs) [] t = t
 chain_row (f ∷ fs) (c ∷ cs) t = f c (chain_row fs cs t)
 
--- those of a constructor's fields; a pattern with another number of subpatterns matches nothing
+-- the tests of the patterns in the fields of what stands at a position, of types tys, put before tree t; clause 1
+-- where there are not as many patterns as fields, so that nothing matches
 abbrev pub chain_fields : List Chain → List ℕ → List Ty → Tree → Tree
 chain_fields fs position tys t =
     if length fs == length tys then chain_row fs (field_columns position 0 tys) t else Clause 1
 
--- the tests of a pattern, from those of its fields
+-- the tests of a pattern, put before tree t: first that of its own head, if it has one, then those of its fields
 abbrev pub chain_step : List DataDecl → Pat-F Chain → Chain
 chain_step types (P.Wild at) c t = t
 chain_step types (P.Var at x) c t = t
@@ -47,18 +51,19 @@ chain_step types (P.Num at n) c t = one_test types (H.Num n) c t
 chain_step types (P.Con at con fs) c t =
     one_test types (H.Con con) c (chain_fields fs c.position (field_types types c.ty (H.Con con)) t)
 
--- the tests of a pattern, put before a tree
+-- the tests of a pattern in pre-order, put before the tree of the values that it matches
 abbrev pub chain : List DataDecl → Pat → Chain
 chain types = fold-Pat Chain (chain_step types)
 
 -- Its nodes -----------------------------------------------------------------------------------------
 
--- nodes of which the first is clause 1
+-- nodes whose links are lower numbers than their own, and of which node 0 is clause 1
 pub record AreChained (nodes : List GraphNode) : Type 0 where
   pub lower : LinksAreLower nodes
   pub others : slice_get nodes 0 ≡ Some (G.Clause 1)
 
--- at most so many nodes were added; where node `under` had a tree, node i has the tree that `put` makes of it
+-- a step made the nodes `new` of `old`, at most `most` more; where node `under` had a tree, node i has the tree that
+-- `put` makes of it
 pub record IsChained (put : Tree → Tree) (most : ℕ) (old : List GraphNode) (under : ℕ) (new : List GraphNode)
     (i : ℕ) : Type 0 where
   pub fine : AreChained new
@@ -66,15 +71,17 @@ pub record IsChained (put : Tree → Tree) (most : ℕ) (old : List GraphNode) (
   pub few : length new ≤ length old + most
   pub there : (t : Tree) → slice_get (node_trees old) under ≡ Some t → slice_get (node_trees new) i ≡ Some (put t)
 
--- The same of a test of one head, of a pattern, and of the patterns of a constructor's fields.
+-- a step put a test of head h at column c before a node, by at most one more node; the rest is as in `IsChained`
 abbrev pub IsTest : List DataDecl → Head → Column → List GraphNode → ℕ → List GraphNode → ℕ → Type 0
 IsTest types h c = IsChained (one_test types h c) 1
 
--- of a pattern
+-- a step put the tests of pattern p at column c before a node, by at most a node for each head of p; the rest is as
+-- in `IsChained`
 abbrev pub IsPatternChain : List DataDecl → Pat → Column → List GraphNode → ℕ → List GraphNode → ℕ → Type 0
 IsPatternChain types p c = IsChained (chain types p c) (head_count p)
 
--- and of the patterns of a constructor's fields
+-- a step put the tests of patterns ps, in fields of what stands at a position, before a node, by at most a node for
+-- each of their heads; the rest is as in `IsChained`
 abbrev pub IsFieldChain : List DataDecl → List Pat → List ℕ → List Ty → List GraphNode → ℕ → List GraphNode → ℕ → Type 0
 IsFieldChain types ps position fields =
     IsChained (chain_fields (map (chain types) ps) position fields) (row_heads ps)

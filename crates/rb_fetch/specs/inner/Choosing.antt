@@ -1,4 +1,5 @@
--- The choice of a construction's leaf, look by look: what is known on a way, and which leaves can still be its value's.
+-- The choice of a construction's leaf, look by look: what is known on a way, and which leaves can still be its
+-- value's. A way is where runs have come to one leaf: an open jump, the leaf's number, and parts in slots.
 use Rattle.std.specs.Prelude.{◌≡◌, ℕ, ◌+◌, ◌<◌, ◌≤◌, Bool, true, false, not, List, [], ◌∷◌, ◌++◌, Option, Some, None, length, slice_get, slice_index, sum_by}
 use Rattle.std.specs.List.{filter}
 use Rattle.rb_core.specs.declared.value.Value.{Value, out-Value}
@@ -36,6 +37,7 @@ use Rattle.rb_fetch.specs.inner.Heads.{is_among, shown_heads}
 
 -- Values -------------------------------------------------------------------------------------
 
+-- the constructor at the root of a value, by number; none of an integer
 abbrev pub root_con : Value-F Value → Option ℕ
 root_con (V.Num n) = None
 root_con (V.Con k vs) = Some k
@@ -60,64 +62,65 @@ abbrev pub parts_under : List ℕ → ℕ → List Held → List Subvalue
 parts_under path i [] = []
 parts_under path i (h ∷ hs) = record { path = path ++ i ∷ []; held = h } ∷ parts_under path (i + 1) hs
 
--- the value has parts there, of these types
+-- the value has a part at the position of each of xs, of the type that is held there
 abbrev pub HasParts : List DataDecl → Value → List Subvalue → Type 0
 HasParts types v xs =
     (k : ℕ) (x : Subvalue) → slice_get xs k ≡ Some x → (u : Value) × (part_at v x.path ≡ Some u)
     × (is_of_type types u x.held.ty ≡ true)
 
--- each has as many slots as its type has words, all below n
+-- each of the parts xs has as many slots as its type has words, all below n
 abbrev pub PartsGiven : Plan → ℕ → List Subvalue → Type 0
 PartsGiven plan n xs =
     (k : ℕ) (x : Subvalue) → slice_get xs k ≡ Some x → AllBelow n x.held.slots
     × (length x.held.slots ≡ words_of plan x.held.ty)
 
--- the slots represent the value's parts
+-- the slots of each of xs represent the value's part at its position, where the value has one there
 abbrev pub PartsHold : Plan → Bool → Value → List ℕ → Memory → List Subvalue → Type 0
 PartsHold plan clean v s m xs =
     (k : ℕ) (x : Subvalue) → slice_get xs k ≡ Some x → (u : Value) → part_at v x.path ≡ Some u
     → Rep plan m clean x.held.ty u (slots_at s x.held.slots)
 
--- a part of a data type at a position stands in these slots
+-- one of the parts xs is at the position, of data type t, and in these slots
 abbrev pub IsPartIn : List Subvalue → List ℕ → ℕ → List ℕ → Type 0
 IsPartIn xs path t words = (k : ℕ) × (x : Subvalue) × (slice_get xs k ≡ Some x) × (x.path ≡ path)
     × (x.held.ty ≡ Named t) × (x.held.slots ≡ words)
 
--- the first part at a position is of this type
+-- one of the parts xs is at the position, and the first that is there is of type ty
 abbrev pub HasType : List Subvalue → List ℕ → Ty → Type 0
 HasType xs path ty = (h : Held) × (subvalue_at xs path ≡ Some h) × (h.ty ≡ ty)
 
--- there are parts at these positions below a path, each of its type
+-- the parts xs have one at each of these open positions below `path`, of its type
 abbrev pub HasOpens : List Open → List ℕ → List Subvalue → Type 0
 HasOpens opens path xs = (k : ℕ) (o : Open) → slice_get opens k ≡ Some o → HasType xs (path ++ o.path) o.ty
 
 -- Leaves -------------------------------------------------------------------------------------
 
--- a leaf's provenance has constructor k at its root
+-- type t has a leaf n, and its provenance has constructor k at its root
 abbrev pub HasRoot : List Layout → ℕ → ℕ → ℕ → Type 0
 HasRoot layouts t n k = (leaf : Leaf) × (leaf_at layouts t n ≡ Some leaf) × (is_leaf_for k leaf ≡ true)
 
--- the type's layout has so many leaves
+-- type t has a layout, with `count` leaves
 abbrev pub HasLeaves : List Layout → ℕ → ℕ → Type 0
 HasLeaves layouts t count = (layout : Layout) × (layout_of layouts t ≡ Some layout) × (length layout.leaves ≡ count)
 
--- leaves of a layout by number, for the values of constructor k
+-- each of the numbers is that of a leaf of the layout for values of constructor k
 abbrev pub AreLeavesOf : Layout → ℕ → List ℕ → Type 0
 AreLeavesOf layout k leaves =
     (i n : ℕ) → slice_get leaves i ≡ Some n → (leaf : Leaf) × (slice_get layout.leaves n ≡ Some leaf)
     × (is_leaf_for k leaf ≡ true)
 
--- where no look is needed any more, the value has the constructor of each of these leaves
+-- at positions that need no look any more, the value has the constructor that each of these leaves has there, if any
 abbrev pub HasLooked : Layout → Value → List ℕ → List (List ℕ) → Type 0
 HasLooked layout v leaves looked =
     (i n : ℕ) (leaf : Leaf) (j : ℕ) (h : Head) → slice_get leaves i ≡ Some n → slice_get layout.leaves n ≡ Some leaf
     → slice_get (inner_heads leaf) j ≡ Some h → is_among looked h.path ≡ true → HasCon v h.path h.con.con
 
--- what is known is so of the value
+-- what is known is so of the value: it has these constructors, and at positions that need no look those of the leaves
 abbrev pub Follows : Layout → Value → List ℕ → Seen → Type 0
 Follows layout v leaves seen = HasAll (shown_heads seen.known) v × HasLooked layout v leaves seen.looked
 
--- a constructor of one of these leaves, where no look was
+-- the provenance of one of these leaves has a constructor of type s at `path`, below its root, and `path` is not
+-- among `looked`: it needs a look still
 pub record IsPlaceOf (layout : Layout) (leaves : List ℕ) (looked : List (List ℕ)) (path : List ℕ) (s : ℕ) : Type 0 where
   pub index : ℕ
   pub number : ℕ
@@ -133,31 +136,32 @@ pub record IsPlaceOf (layout : Layout) (leaves : List ℕ) (looked : List (List 
 
 -- Switches -----------------------------------------------------------------------------------
 
--- a look at a place, and rebuilding what the leaf there has taken apart
+-- the most switches of a look at a place, and of rebuilding what the leaf there has taken apart
 abbrev pub look_cost : List Layout → Head → ℕ
 look_cost layouts h = depth_of layouts (Named h.con.ty) + mend_of layouts h.con.ty
 
--- whether no look was at the place yet
+-- whether the position of h needs a look still: it is not among `looked`
 abbrev pub is_left : List (List ℕ) → Head → Bool
 is_left looked h = not (is_among looked h.path)
 
--- the looks at which a leaf of constructor k is chosen, where some are behind already
+-- the most switches by which a leaf for values of constructor k of type t is chosen, of looks and of the rebuilding
+-- behind them, without those at positions that need no look any more
 abbrev pub left_of : List Layout → ℕ → ℕ → List (List ℕ) → ℕ
 left_of layouts t k looked = sum_by (look_cost layouts) (filter (is_left looked) (places_of layouts t k))
 
 -- Ways ---------------------------------------------------------------------------------------
 
--- a way's jump stands there
+-- one of the ways has its jump at instruction pc
 abbrev pub IsWayAt : List Way → ℕ → Type 0
 IsWayAt ways pc = (k : ℕ) × (way : Way) × (slice_get ways k ≡ Some way) × (way.pc ≡ pc)
 
--- open jumps of ways, one behind the other from an instruction on
+-- the jumps of the ways stand in the code, in order, from instruction `from` on
 abbrev pub AreOpen : ℕ → List Instr → List Way → Type 0
 AreOpen from code [] = Unit {0}
 AreOpen from code (way ∷ ways) =
     (from ≤ way.pc) × ((t : ℕ) × (slice_get code way.pc ≡ Some (Jump t))) × AreOpen (way.pc + 1) code ways
 
--- the holes of ways, the first of which is way k
+-- the holes of the jumps of ways, the first of which is way k; a hole's `leaf` is the number of its way
 abbrev pub holes_from : ℕ → List Way → List Hole
 holes_from k [] = []
 holes_from k (way ∷ ways) = record { pc = way.pc; arm = None; leaf = k } ∷ holes_from (k + 1) ways
@@ -170,12 +174,13 @@ pub record IsEndOf (agreed : LaidOut) (t n : ℕ) (xs : List Subvalue) (old new 
   pub is_way : way ≡ record { pc = length old.code; leaf = n; fields = xs }
   pub code : new ≡ pushed old (Jump (length old.code + 1))
 
--- all parts at open positions of the way's leaf are given
+-- the way's leaf is one of the layout, and the way has parts at all its open positions, in slots below n
 abbrev pub IsWayOf : Plan → Layout → ℕ → Way → Type 0
 IsWayOf plan layout n way =
     (leaf : Leaf) × (slice_get layout.leaves way.leaf ≡ Some leaf)
     × AreGivenAt plan n (open_positions plan.program.types leaf.prov) way.fields
 
+-- the leaf of each way is one of the layout, and the way has parts at all its open positions, in slots below n
 abbrev pub AreWaysOf : Plan → Layout → ℕ → List Way → Type 0
 AreWaysOf plan layout n ways = (k : ℕ) (way : Way) → slice_get ways k ≡ Some way → IsWayOf plan layout n way
 
@@ -211,12 +216,15 @@ pub record ChoosesWays (plan : Plan) (t k : ℕ) (layout : Layout) (leaves : Lis
       → Takes plan old new ways v n (left_of plan.layouts t k seen.looked)
       (λ clean s m. IsGood m × PartsHold plan clean v s m xs)
 
+-- in every plan of the agreed program, the code from old to new takes each value of one of the leaves, of which
+-- `seen` is known and whose parts xs are in slots, to a way of its leaf
 abbrev pub ChoosesFrom : LaidOut → ℕ → List ℕ → Seen → List Subvalue → Sheet → Sheet → List Way → Type 0
 ChoosesFrom agreed t leaves seen xs old new ways =
     (plan : Plan) (k : ℕ) (layout : Layout) → IsReady agreed plan t k layout leaves xs old.slots
     → ChoosesWays plan t k layout leaves seen xs old new ways
 
--- the same by a look at a place
+-- in every plan of the agreed program, the code from old to new takes each value of one of the leaves to a way of its
+-- leaf, where one of the leaves has a constructor of type s at `path`, which needs a look still
 abbrev pub ChoosesBy : LaidOut → ℕ → List ℕ → Seen → List Subvalue → List ℕ → ℕ → Sheet → Sheet → List Way → Type 0
 ChoosesBy agreed t leaves seen xs path s old new ways =
     (plan : Plan) (k : ℕ) (layout : Layout) → IsReady agreed plan t k layout leaves xs old.slots
@@ -225,7 +233,7 @@ ChoosesBy agreed t leaves seen xs path s old new ways =
 
 -- Below one leaf -----------------------------------------------------------------------------
 
--- words of a data type with this layout
+-- `inner` is the layout of type s, and `words` are as many slots, all below n, as a value of s has words
 pub record IsRead (plan : Plan) (s : ℕ) (inner : Layout) (words : List ℕ) (n : ℕ) : Type 0 where
   pub is_inner : layout_of plan.layouts s ≡ Some inner
   pub below : AllBelow n words
@@ -246,6 +254,9 @@ pub record GivesFields (plan : Plan) (path : List ℕ) (s l : ℕ) (inner : Layo
       (λ s1 m. IsGood m × Rep plan m clean (Named s) u (slots_at s1 words))
       (AtEnd new (λ s1 m. PartsHold plan clean v s1 m fresh))
 
+-- in every plan of the agreed program, the code from old to new fetches parts of the whole, perhaps none, from the
+-- part at `path`, whose leaf is l, for constructor con, and whose words are in slots; the parts are xs before and ys
+-- with them
 abbrev pub FetchesFields : LaidOut → List ℕ → ConRef → ℕ → List ℕ → Sheet → Sheet → List Subvalue → List Subvalue
     → Type 0
 FetchesFields agreed path con l words old new xs ys =
@@ -266,6 +277,8 @@ pub record ChoosesBelow (plan : Plan) (t k : ℕ) (layout : Layout) (leaves : Li
       → Takes plan old new ways v n (mend_of plan.layouts s + left_of plan.layouts t k (seen.looked ++ path ∷ []))
       (λ clean s1 m. IsGood m × PartsHold plan clean v s1 m xs × Rep plan m clean (Named s) u (slots_at s1 words))
 
+-- in every plan of the agreed program, the code from old to new takes each value of one of the leaves to a way of its
+-- leaf, where the part at `path`, of type s and with its words in slots, has leaf l
 abbrev pub ChoosesUnder : LaidOut → ℕ → List ℕ → Seen → List Subvalue → List ℕ → ℕ → List ℕ → ℕ → Sheet → Sheet
     → List Way → Type 0
 ChoosesUnder agreed t leaves seen xs path s words l old new ways =
@@ -273,7 +286,8 @@ ChoosesUnder agreed t leaves seen xs path s words l old new ways =
     → IsRead plan s inner words old.slots
     → ChoosesBelow plan t k layout leaves seen xs path s inner words l old new ways
 
--- the code of one leaf behind e in longer code q
+-- the code of one leaf of a part, from instruction `start` on, stands behind e in longer code q; its own ways are
+-- among all ways, and no other way has its jump in it
 pub record BranchIn (e q : Sheet) (start : ℕ) (ways : List Way)
     (DoesBranch : Sheet → Sheet → List Way → Type 0) : Type 0 where
   pub first : Sheet
@@ -288,6 +302,8 @@ pub record BranchIn (e q : Sheet) (start : ℕ) (ways : List Way)
   pub alone : (pc : ℕ) → IsWayAt ways pc → length first.code ≤ pc → pc < length last.code → IsWayAt own pc
   pub does : DoesBranch first last own
 
+-- each of the first `count` leaves of the part at `path` has its code behind e in the code q, from its start on: it
+-- takes each value of one of the leaves, with that leaf there, to a way of its leaf
 pub record BranchesStand (agreed : LaidOut) (plan : Plan) (t k : ℕ) (layout : Layout) (leaves : List ℕ)
     (seen : Seen) (xs : List Subvalue) (path : List ℕ) (s : ℕ) (inner : Layout) (words : List ℕ)
     (count : ℕ) (e q : Sheet) (starts : List ℕ) (ways : List Way) : Type 0 where
@@ -297,7 +313,8 @@ pub record BranchesStand (agreed : LaidOut) (plan : Plan) (t k : ℕ) (layout : 
       → BranchIn e q (slice_index starts l) ways
       (λ first last own. ChoosesBelow plan t k layout leaves seen xs path s inner words l first last own)
 
--- the first so many leaves have their code behind e
+-- the first `count` leaves of the part at `path` have their code behind e in the code q, each from its start on, in
+-- every plan of the agreed program
 pub record BranchesDone (agreed : LaidOut) (t : ℕ) (leaves : List ℕ) (seen : Seen) (xs : List Subvalue)
     (path : List ℕ) (s : ℕ) (words : List ℕ)
     (count : ℕ) (e q : Sheet) (starts : List ℕ) (ways : List Way) : Type 0 where

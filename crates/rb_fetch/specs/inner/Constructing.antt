@@ -1,4 +1,5 @@
--- The code of a construction: its arms, one a way to a leaf, and where they meet.
+-- The code of a construction: its arms, one a way to a leaf, and where they meet. A way is where runs have come to
+-- one leaf, with the parts of the value in slots; its arm is the code behind it, which makes the value in that leaf.
 use Rattle.std.specs.Prelude.{◌≡◌, ℕ, zero, suc, ◌+◌, ◌<◌, ◌≤◌, Bool, true, List, [], ◌++◌, length, Option, Some, None, slice_get}
 use Rattle.rb_core.specs.declared.value.Value.{Value}
 use Rattle.rb_core.specs.declared.types.Ty.TheVariants.{Named}
@@ -37,24 +38,28 @@ pub record IsAlone (con : ℕ) (leaves : List Leaf) (leaf : Leaf) : Type 0 where
   pub shallow : inner_heads leaf ≡ []
   pub before : (i : ℕ) (x : Leaf) → i < number → slice_get leaves i ≡ Some x → is_leaf_for con x ≡ true → ⊥
 
--- none of the first so many leaves is for the constructor
+-- no leaf with a number below n is for the values of constructor con
 abbrev pub NoneFor : ℕ → List Leaf → ℕ → Type 0
 NoneFor con leaves n = (i : ℕ) (x : Leaf) → i < n → slice_get leaves i ≡ Some x → is_leaf_for con x ≡ true → ⊥
 
 -- Where arms meet ------------------------------------------------------------------------------
 
+-- the slots to which an arm copies its words: those that the arms before it share; none for the first arm
 abbrev pub moved_to : Option (List ℕ) → List ℕ
 moved_to None = []
 moved_to (Some xs) = xs
 
+-- the slots from which an arm copies its words: its own; none for the first arm, whose words stay where they are
 abbrev pub moved_from : Option (List ℕ) → List ℕ → List ℕ
 moved_from None slots = []
 moved_from (Some xs) slots = slots
 
+-- the slots that hold an arm's words in the end: those that the arms before it share, or its own for the first arm
 abbrev pub met_in : Option (List ℕ) → List ℕ → List ℕ
 met_in None slots = slots
 met_in (Some xs) slots = xs
 
+-- the code b with copies of an arm's words from `slots` to the slots that arms share; b itself where none are shared
 abbrev pub moved : Sheet → Option (List ℕ) → List ℕ → Sheet
 moved b None slots = b
 moved b (Some xs) slots = record b { code = b.code ++ copies xs slots }
@@ -70,11 +75,12 @@ pub record IsMet (into : Option (List ℕ)) (slots : List ℕ) (c d : Sheet) (r 
     leaf = 0;
   }
 
--- the slots that the arms share, once there are some
+-- the slots that arms share, once there are some: as many as a value of type t has words, from n on and below m
 abbrev pub IsShared : Plan → ℕ → ℕ → ℕ → Option (List ℕ) → Type 0
 IsShared plan n m t None = Unit {0}
 IsShared plan n m t (Some xs) = AreShared n m (words_of plan (Named t)) xs
 
+-- slots are shared where the number of arms is not 0, and none are where it is 0
 abbrev pub Reaches : ℕ → Option (List ℕ) → Type 0
 Reaches zero None = Unit {0}
 Reaches zero (Some xs) = ⊥
@@ -94,6 +100,8 @@ MakesArm plan t layout way n into a d join =
     → ArePartsHeld plan clean s w.memory (open_positions plan.program.types leaf.prov) way.fields v
     → Makes plan clean w.switches next (length a.code) join n t into v s w
 
+-- The code from a to d is the arm of a way: it makes the values of the way's leaf and leaves them in the slots that
+-- arms share, which are those of the arms before it where there are any.
 pub record ArmIsMade (plan : Plan) (t : ℕ) (layout : Layout) (way : Way) (n : ℕ) (into : Option (List ℕ))
     (a d : Sheet) (r : Met) : Type 0 where
   pub adds : Adds plan a d
@@ -101,7 +109,8 @@ pub record ArmIsMade (plan : Plan) (t : ℕ) (layout : Layout) (way : Way) (n : 
   pub same : (xs : List ℕ) → into ≡ Some xs → r.into ≡ xs
   pub makes : MakesArm plan t layout way n r.into a d r.join.pc
 
--- in every program whose layouts agree, where the way's subvalues are in slots below n
+-- in every typed program whose layouts agree, and where type t has these leaves, the code from a to d is the arm of a
+-- way whose parts are in slots that there were
 abbrev pub EmitsArm : ℕ → List Leaf → Way → Option (List ℕ) → Sheet → Sheet → Met → Type 0
 EmitsArm t leaves way into a d r =
     (plan : Plan) → IsTyped plan.program → AreAgreed plan.program plan.layouts → (layout : Layout)
@@ -109,18 +118,22 @@ EmitsArm t leaves way into a d r =
     → (n : ℕ) → n ≤ a.slots → IsWay plan layout n way → IsShared plan n a.slots t into
     → ArmIsMade plan t layout way n into a d r
 
--- the arm with number k
+-- the code from a to d makes the values of the leaf of way k, and comes to the open jump `join` with them in the
+-- shared slots
 abbrev pub MakesNumber : Plan → ℕ → Layout → List Way → ℕ → List ℕ → ℕ → Sheet → Sheet → ℕ → Type 0
 MakesNumber plan t layout ways n into k a d join =
     (way : Way) → slice_get ways k ≡ Some way → MakesArm plan t layout way n into a d join
 
--- the first i arms stand behind e
+-- the arms of the first i ways stand behind e in the code q: each has its start and its open jump, and leaves its
+-- words in the slots that all share
 pub record ArmsAreMade (plan : Plan) (t : ℕ) (layout : Layout) (ways : List Way) (i : ℕ) (e q : Sheet)
     (into : Option (List ℕ)) (joins : List Hole) (starts : List ℕ) : Type 0 where
   pub adds : Adds plan e q
   pub shared : IsShared plan e.slots q.slots t into
   pub arms : ArmsIn i e q joins starts (MakesNumber plan t layout ways e.slots (moved_to into))
 
+-- in every typed program whose layouts agree, and where type t has these leaves, the code from e to q is the arms of
+-- the first i ways
 abbrev pub EmitsArms : ℕ → List Leaf → List Way → ℕ → Sheet → Sheet → Option (List ℕ) → List Hole → List ℕ → Type 0
 EmitsArms t leaves ways i e q into joins starts =
     (plan : Plan) → IsTyped plan.program → AreAgreed plan.program plan.layouts → (layout : Layout)
@@ -128,7 +141,8 @@ EmitsArms t leaves ways i e q into joins starts =
     → ((k : ℕ) (way : Way) → slice_get ways k ≡ Some way → IsWay plan layout e.slots way)
     → ArmsAreMade plan t layout ways i e q into joins starts
 
--- all arms behind e, which meet behind them
+-- the code from e to new is the arms of all ways: the choices' holes lead to them, and they meet behind the last one
+-- with the value in the slots of `held`
 pub record WaysMeet (t : ℕ) (leaves : List Leaf) (choices : Choices) (e new : Sheet) (held : Held) : Type 0 where
   pub kind : held.ty ≡ Named t
   pub last : Sheet

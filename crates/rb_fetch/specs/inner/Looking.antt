@@ -1,4 +1,6 @@
--- The code of a tree of splits while it is made: which of a switch's targets are done.
+-- The code of a tree of splits while it is made: which of a switch's targets are done. A hole is a target of a jump
+-- or switch that is still open, and its `leaf` is the number of the leaf to which it leads. A target is named by the
+-- number of its arm, and that of an else, or of a jump, by none.
 use Rattle.std.specs.Prelude.{◌≡◌, ℕ, ◌+◌, ◌<◌, ◌≤◌, ◌^◌, ◌⊎◌, List, map, length, Option, Some, None, is_some, slice_get}
 use Rattle.std.specs.Bool.{then_some}
 use Rattle.rb_core.specs.declared.layout_decl.Loc.{Loc}
@@ -27,45 +29,47 @@ use Rattle.rb_fetch.specs.Fetching.{LocFits, AreSmall, FetchesAt}
 
 -- Splits that instructions can do
 
--- a split of one of so many words
+-- instructions can do the split: its location, which they can read, begins at one of n words; its literals are words
 pub record SplitFits (n : ℕ) (split : SplitAt) : Type 0 where
   pub loc : LocFits split.loc
   pub word : split.loc.word < n
   pub small : (k c : ℕ) → slice_get split.literals k ≡ Some c → c < 2 ^ 64
 
+-- instructions can do each split of the tree, and each begins at one of n words
 abbrev pub TreeFits : ℕ → FlatTree → Type 0
 TreeFits n tree = (k : ℕ) (split : SplitAt) → slice_get (splits_of tree) k ≡ Some split → SplitFits n split
 
 -- Runs
 
--- from a number on the run leaves by a hole of the leaf to which the tree leads, for words of these widths
+-- from instruction `start` on the run leaves by one of the holes hs, of the leaf to which the tree leads, where the
+-- reads mean words of these widths
 abbrev pub Does : List Instr → Next → List Read → List ℕ → FlatTree → List Hole → ℕ → ℕ → ℕ → Type 0
 Does final next words widths tree hs n top start =
     (s : List ℕ) (w : World) (k : ℕ) (ws : List ℕ) → top ≤ length s → IsGood w.memory → AreMeant words s w.memory ws
     → AreSmall widths ws → walk tree ws w.memory ≡ Some k
     → Leaves final next hs n (nesting tree) start s w k (λ s' m. Unit {0})
 
--- a target from which on the run does the tree
+-- the arm of the instruction at pc, or its else where arm is none, has a target, from which on the run does the tree
 abbrev pub Leads : List Instr → Next → List Read → List ℕ → FlatTree → List Hole → ℕ → ℕ → ℕ → Option ℕ → Type 0
 Leads final next words widths tree hs n top pc arm =
     (t : ℕ) × (target_in (slice_get final pc) arm ≡ Some t) × Does final next words widths tree hs n top t
 
 -- Holes
 
--- the old holes, and others in the code from a up to b
+-- hs has all holes of hs0, and others only in the code from a up to b
 pub record MoreHoles (hs0 hs : List Hole) (a b : ℕ) : Type 0 where
   pub old : (h : Hole) → IsIn h hs0 → IsIn h hs
   pub new : (h : Hole) → IsIn h hs → IsIn h hs0 ⊎ ((a ≤ h.pc) × (h.pc < b))
 
--- the leaves of a tree are numbered below this
+-- each leaf to which the tree leads has a number below `count`
 abbrev pub LeavesBelow : ℕ → FlatTree → Type 0
 LeavesBelow count tree = (k : ℕ) (r : Route) → slice_get (routes_of tree) k ≡ Some r → r.leaf < count
 
--- a hole of the code, for a leaf that is numbered below this
+-- h is a hole of the code, for a leaf whose number is below `count`
 abbrev pub IsLeafHole : ℕ → List Instr → Hole → Type 0
 IsLeafHole count code h = (h.leaf < count) × IsHole code h
 
--- holes stand in front of the code from a on
+-- all holes stand in front of instruction a
 abbrev pub AreBefore : ℕ → List Hole → Type 0
 AreBefore a hs = (h : Hole) → IsIn h hs → h.pc < a
 
@@ -83,28 +87,32 @@ pub record Looks (words : List Read) (widths : List ℕ) (tree : FlatTree) (old 
 
 -- Splits
 
+-- the arm of a switch for the literal of a split's arm; it leads to instruction t until it is set
 abbrev pub open_arm : ℕ → FlatArm → SwitchArm
 open_arm t a = record { number = a.literal; target = t }
 
--- arms that lead to the next instruction until they are set
+-- the arms of a switch for the literals of a split's arms; each leads to instruction t until it is set
 abbrev pub open_arms_of : ℕ → List FlatArm → List SwitchArm
 open_arms_of t arms = map (open_arm t) arms
 
+-- the tree below an arm; none without an arm
 abbrev pub under_arm : Option FlatArm → Option FlatTree
 under_arm None = None
 under_arm (Some a) = Some a.under
 
--- the tree below an arm, or below the else
+-- the tree below the arm with this number, or below the else where no number is given; none where there is none
 abbrev pub under_at : List FlatArm → Option FlatTree → Option ℕ → Option FlatTree
 under_at arms other None = other
 under_at arms other (Some k) = under_arm (slice_get arms k)
 
--- the switch of a split, whose word was fetched into a slot by the code c
+-- the switch of a split behind the code c, which fetched what is tested into a slot; its targets lead to the next
+-- instruction until they are set
 abbrev pub switch_of : Sheet → ℕ → List FlatArm → Option FlatTree → Instr
 switch_of c slot arms other =
     Switch slot (then_some (is_some other) (length c.code + 1)) (open_arms_of (length c.code + 1) arms)
 
--- A split whose word is fetched by the code c, whose switch stands, and some of whose targets are done.
+-- A split whose word is fetched by the code c, whose switch stands behind it in b, and some of whose targets are
+-- done: those of which Done says so, by their arms.
 pub record SplitDone (words : List Read) (widths : List ℕ) (loc : Loc) (arms : List FlatArm)
     (other : Option FlatTree) (c : Sheet) (slot : ℕ) (hs0 : List Hole) (Done : Option ℕ → Type 0) (b : Sheet)
     (hs : List Hole) : Type 0 where
@@ -128,12 +136,12 @@ pub record SplitDone (words : List Read) (widths : List ℕ) (loc : Loc) (arms :
       → (arm : Option ℕ) (tree : FlatTree) → Done arm → under_at arms other arm ≡ Some tree
       → Leads final next words widths tree hs n top (length c.code) arm
 
--- the first k arms
+-- a target is that of one of the first k arms; never that of the else
 abbrev pub IsBefore : ℕ → Option ℕ → Type 0
 IsBefore k None = ⊥
 IsBefore k (Some j) = j < k
 
--- a split's switch at pc, of whose arms the first k are done
+-- the switch at pc is that of the tree's root, a split, and the first k of its arms are done
 pub record ArmsDone (words : List Read) (widths : List ℕ) (tree : FlatTree) (arms : List FlatArm)
     (other : Option FlatTree) (old : Sheet) (hs0 : List Hole) (pc k : ℕ) (b : Sheet) (hs : List Hole) : Type 0 where
   pub grows : Grows old.code b.code

@@ -1,4 +1,5 @@
--- What code owes that rebuilds the parts that a leaf has taken apart.
+-- What code owes that rebuilds the parts that a leaf has taken apart. A leaf takes a part apart where its provenance
+-- has a constructor below its root: it holds only the part's fields, and the part is constructed of them again.
 use Rattle.std.specs.Prelude.{◌≡◌, ℕ, ◌≤◌, ◌⊎◌, List, [], ◌∷◌, map, take, length, Bool, Option, Some, None, slice_get}
 use Rattle.std.specs.List.{sum_by}
 use Rattle.rb_core.specs.declared.value.Value.{Value}
@@ -26,22 +27,26 @@ use Rattle.rb_fetch.specs.Fields.{FieldAt, FieldIsFetched}
 use Rattle.rb_fetch.specs.Finding.{IsPlanOf}
 use Rattle.rb_fetch.specs.Positions.{PositionAt, mend_under}
 
--- the subpattern for a field
+-- the subpattern for field i of a pattern, given by its outermost layer; none where that is no constructor, and past
+-- its fields
 abbrev pub sub_in : Pat-F Pat → ℕ → Option Pat
 sub_in (P.Wild at) i = None
 sub_in (P.Var at x) i = None
 sub_in (P.Num at n) i = None
 sub_in (P.Con at c ps) i = slice_get ps i
 
+-- the subpattern for field i of a pattern; none where it is no constructor pattern, and past its fields
 abbrev pub sub_at : Pat → ℕ → Option Pat
 sub_at p i = sub_in (out-Pat p) i
 
+-- the pattern at a path of a pattern; none without a pattern, and where the path leads out of it
 abbrev pub pattern_at : Option Pat → List ℕ → Option Pat
 pattern_at None path = None
 pattern_at (Some p) [] = Some p
 pattern_at (Some p) (i ∷ path) = pattern_at (sub_at p i) path
 
--- the part at a path below the root, at which this pattern stands
+-- in every plan of the agreed program, the code from old to new leaves in `slots` the part at `path`, not the root,
+-- of a value of leaf n of type t, whose words are in slots; pattern `pat` stands there in the leaf's provenance
 abbrev pub FetchesPart : LaidOut → ℕ → ℕ → Pat → List ℕ → List ℕ → Sheet → Sheet → List ℕ → Type 0
 FetchesPart agreed t n pat path words old new slots =
     (plan : Plan) → IsPlanOf agreed plan → (ty : Ty) (f : PositionAt plan t n path ty) → f.pat ≡ pat → (path ≡ [] → ⊥)
@@ -59,6 +64,8 @@ pub record OpenIsFetched (plan : Plan) (t n : ℕ) (path : List ℕ) (ty : Ty) (
       → Straight plan old.slots old new (λ s m. IsGood m × Rep plan m clean (Named t) v (slots_at s words))
       (λ s m. Rep plan m clean ty part (slots_at s slots))
 
+-- in every plan of the agreed program, the code from old to new leaves in `slots` the field at `path`, an open
+-- position of leaf n of type t, from the slots of a value's words, without a switch
 abbrev pub FetchesOpen : LaidOut → ℕ → ℕ → List ℕ → List ℕ → Sheet → Sheet → List ℕ → Type 0
 FetchesOpen agreed t n path words old new slots =
     (plan : Plan) → IsPlanOf agreed plan → (ty : Ty) (f : FieldAt plan t n path ty) → AllBelow old.slots words
@@ -77,6 +84,8 @@ pub record PartsAreFetched (plan : Plan) (t n : ℕ) (layout : Layout) (c : ConR
       (λ s m. IsGood m × Rep plan m clean (Named t) v (slots_at s words))
       (AtEnd new (λ s m. AreHeld plan clean s m hs (take (length hs) (subs part))))
 
+-- in every plan of the agreed program, the code from old to new leaves in slots the parts at the first k fields of
+-- constructor c, which stands with the subpatterns ps at `path` in the provenance of leaf n of type t
 abbrev pub FetchesParts : LaidOut → ℕ → ℕ → ConRef → List Pat → ℕ → List ℕ → List ℕ → Sheet → Sheet → List Held → Type 0
 FetchesParts agreed t n c ps k path words old new hs =
     (plan : Plan) → IsPlanOf agreed plan → (at : ℕ) (ty : Ty) (f : PositionAt plan t n path ty) → f.pat ≡ Con at c ps

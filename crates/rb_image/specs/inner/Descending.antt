@@ -1,4 +1,5 @@
--- Steps of a descent, the last of which is done first, and what they say of the place from which it began.
+-- Steps of a descent, the last of which is done first, and what they say of the place from which it began. A descent
+-- looks at a place and at all places below it, and notes each of which all below was found sound.
 use Rattle.std.specs.Prelude.{◌⊎◌, List, [], ◌∷◌, ◌++◌}
 use Rattle.std.specs.List.{AllByRecursion}
 use Rattle.rb_image_text.specs.declared.fault.ImageFault.{ImageFault}
@@ -8,39 +9,42 @@ use Rattle.rb_image.specs.declared.kept.Place.{Place}
 use Rattle.rb_image.specs.Parts.{At, at_of}
 use Rattle.rb_image.specs.Sound.{Looking, IsSound, HasFault}
 
--- looks at places, the last of which is to be looked at last
+-- looks at these places, so that the first place is looked at first: its look is the last of the steps
 abbrev pub looks : List Place → List Step
 looks [] = []
 looks (p ∷ ps) = looks ps ++ Look p ∷ []
 
+-- the place that a step is to look at is sound; a note says nothing
 abbrev pub StepIsSound : Looking → Step → Type 0
 StepIsSound look (Look p) = IsSound look (at_of p)
 StepIsSound look (Note p) = Unit {0}
 
--- all places that are still to be looked at are sound
+-- all places that these steps are to look at are sound
 abbrev pub AreSound : Looking → List Step → Type 0
 AreSound look [] = Unit {0}
 AreSound look (s ∷ ss) = StepIsSound look s × AreSound look ss
 
+-- this is the first fault from the place on that a step is to look at; a note has none
 abbrev pub StepHasFault : Looking → Step → ImageFault → Type 0
 StepHasFault look (Look p) fault = HasFault look (at_of p) fault
 StepHasFault look (Note p) fault = ⊥
 
--- the first fault of those places
+-- this is the first fault from the places on that these steps are to look at, the last step first
 abbrev pub HaveFault : Looking → List Step → ImageFault → Type 0
 HaveFault look [] fault = ⊥
 HaveFault look (s ∷ ss) fault = HaveFault look ss fault ⊎ (AreSound look ss × StepHasFault look s fault)
 
--- a place that is to be noted is sound once those are that are looked at before
+-- a place that a step is to note is sound once those are that the steps ss, which are done before, are to look at
 abbrev pub IsNoted : Looking → Step → List Step → Type 0
 IsNoted look (Look p) ss = Unit {0}
 IsNoted look (Note p) ss = AreSound look ss → IsSound look (at_of p)
 
+-- each place that one of these steps is to note is sound once those are that the steps behind it are to look at
 abbrev pub AreNoted : Looking → List Step → Type 0
 AreNoted look [] = Unit {0}
 AreNoted look (s ∷ ss) = IsNoted look s ss × AreNoted look ss
 
--- what is found on the way is what is found from the root on
+-- a descent that has found the places `known` sound and has `todo` still to do finds what is so from `root` on
 pub record Stands (look : Looking) (root : At) (known : List At) (todo : List Step) : Type 0 where
   pub found : AllByRecursion (IsSound look) known
   pub sound : AreSound look todo → IsSound look root

@@ -18,7 +18,7 @@ pub record AreStored (old : Memory) (at : ℕ) (bytes : List ℕ) (count : ℕ) 
   pub written : (i n : ℕ) → i < count → slice_get bytes i ≡ Some n → byte_at new.bytes (at + i) ≡ Some n
   pub below : (a : ℕ) → a < at → byte_at new.bytes a ≡ byte_at old.bytes a
 
--- none of the blocks ends behind this address
+-- none of these blocks ends behind the address `end`
 abbrev pub EndBy : ℕ → List ImageBlock → Type 0
 EndBy end blocks = (k : ℕ) (b : ImageBlock) → slice_get blocks k ≡ Some b → b.at + length b.bytes ≤ end
 

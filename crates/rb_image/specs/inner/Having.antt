@@ -13,15 +13,19 @@ use Rattle.rb_image.specs.Falling.{RootDescends}
 use Rattle.rb_image.specs.Roots.{IsSoundImage}
 use Rattle.rb_image.specs.Values.{IsDeclared, Keeps}
 
+-- the root words of an image that is sound for a declared type represent a value of it, in each memory that keeps the
+-- image's blocks
 abbrev pub HaveValues : Program → List Layout → Type 0
 HaveValues p layouts = (image : Image) (ty : Ty) → IsDeclared p.types ty → IsSoundImage p.types layouts image ty
     → (m : Memory) → Keeps image.blocks m → (v : Value) × AreOf p m ty image.root v
 
+-- the root words of an image that is sound for a declared type represent a value of it, and all pointers fall
 abbrev pub HaveDescents : Program → List Layout → Type 0
 HaveDescents p layouts =
     (image : Image) → AreInPlace image.blocks → AreBlocks image.blocks → (ty : Ty) → IsDeclared p.types ty
     → IsSoundImage p.types layouts image ty → (v : Value) × RootDescends p image ty v
 
+-- an image is sound for a type where its root words represent a value of it and all pointers fall
 abbrev pub AreSoundWhereTheyDescend : Program → List Layout → Type 0
 AreSoundWhereTheyDescend p layouts =
     (image : Image) → AreInPlace image.blocks → AreBlocks image.blocks → (ty : Ty) (v : Value)

@@ -8,17 +8,18 @@ use Rattle.rb_image.specs.LeafWords.{items_or_none}
 use Rattle.rb_image.specs.Orders.{PartAt, order_of}
 use Rattle.rb_image.specs.Splits.{word_at}
 
--- how many words the blocks have whose addresses are not known
+-- how many words those blocks have whose addresses are not known, that is 0 or missing
 abbrev pub unread : List Block → List ℕ → ℕ
 unread [] ats = 0
 unread (b ∷ bs) [] = length b.words + unread bs []
 unread (b ∷ bs) (at ∷ ats) = (if at == 0 then length b.words else 0) + unread bs ats
 
--- a part in the order of a leaf's parts
+-- s is one of the parts of a leaf, each with the word that it is of, as `order_of` lists them
 abbrev pub IsPartOf : Leaf → PartAt → Type 0
 IsPartOf leaf s = (k : ℕ) × (slice_get (order_of leaf) k ≡ Some s)
 
--- the word of a part among those that were read
+-- the word that part s is of, among the words of its leaf that were read: of the root, or of the block with this
+-- number
 abbrev pub word_read : LeafWords → Option ℕ → PartAt → Kept
 word_read x None s = word_at x.root.items s.word
 word_read x (Some b) s = record {

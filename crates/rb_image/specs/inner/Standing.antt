@@ -1,4 +1,5 @@
--- Positions as they are carried.
+-- Positions in leaves as the code carries them: a view borrows the words of the leaf; an arrival is a position to
+-- which one came, and its source has the words of the leaf, lent or its own.
 use Rattle.std.specs.Prelude.{ℕ, List, ◌++◌, map, Option, Some, None, Result, Ok}
 use Rattle.rb_layout.specs.declared.layout.Leaf.{Leaf}
 use Rattle.rb_layout.specs.Positions.{Open}
@@ -17,6 +18,7 @@ use Rattle.rb_image.specs.Rebuilds.{or_fault_before}
 use Rattle.rb_image.specs.Splits.{and_then}
 use Rattle.rb_image.specs.Views.{Standing}
 
+-- the position that a view has
 abbrev pub shown : View → Standing
 shown v = record {
   leaf = v.leaf.now;
@@ -26,19 +28,22 @@ shown v = record {
   here = position_of v.here;
 }
 
+-- the position that a view has, where there is a view
 abbrev pub shown_option : Option View → Option Standing
 shown_option None = None
 shown_option (Some v) = Some (shown v)
 
--- the leaf's words are few and short, and were read
+-- the leaf of view v has few and short words, and the words of its blocks were read in m
 pub record IsShown (m : List ImageBlock) (v : View) : Type 0 where
   pub readable : IsReadable v.leaf.now
   pub numbers : HasNumbers m v.leaf.now v.words.now
 
+-- the words of a leaf that a source has, be they lent or its own
 abbrev pub source_words : Source → LeafWords
 source_words (Lent words) = words.now
 source_words (Own words) = words
 
+-- the position to which an arrival has come
 abbrev pub come_to : Arrival → Standing
 come_to x = record {
   leaf = x.leaf.now;
@@ -48,19 +53,21 @@ come_to x = record {
   here = position_of x.here;
 }
 
+-- the leaf to which arrival x has come has few and short words, and the words of its blocks were read in m
 pub record IsCome (m : List ImageBlock) (x : Arrival) : Type 0 where
   pub readable : IsReadable x.leaf.now
   pub numbers : HasNumbers m x.leaf.now (source_words x.source)
 
+-- the fault that came before, or this one where none did
 abbrev pub first_fault : Option ImageFault → ImageFault → Option ImageFault
 first_fault None fault = Some fault
 first_fault (Some before) fault = Some before
 
--- a fault that came before is given where no leaf is found
+-- what was found, but where no leaf was and a fault came before, that fault
 abbrev pub or_before : Option ImageFault → Result Leaf ImageFault → Result Leaf ImageFault
 or_before None found = found
 or_before (Some fault) found = or_fault_before fault found
 
--- fields that come before
+-- these fields, and behind them those that were found, or the fault that was
 abbrev pub with_fields : List FieldWords → Result (List FieldWords) ImageFault → Result (List FieldWords) ImageFault
 with_fields fields found = and_then found (λ more. Ok (fields ++ more))

@@ -1,4 +1,5 @@
--- What lists of borrowed parts come to, and what a step leaves.
+-- What lists of borrowed parts come to, and what a step leaves. A spot is a borrowed part of a leaf, with the word
+-- that it is of.
 use Rattle.std.specs.Prelude.{◌≡◌, List, map, Result, Ok, Err}
 use Rattle.std.specs.Borrow.{Bor}
 use Rattle.rb_layout.specs.declared.layout.Part.{Part}
@@ -6,16 +7,19 @@ use Rattle.rb_image_text.specs.declared.fault.ImageFault.{ImageFault}
 use Rattle.rb_image.specs.declared.order.Spot.{Spot}
 use Rattle.rb_image.specs.Orders.{PartAt}
 
+-- the part that a spot is, with the word that it is of
 abbrev pub at_of : Spot → PartAt
 at_of s = record { block = s.block; word = s.word; byte = s.byte; width = s.width; part = s.part.now }
 
+-- the parts that spots are, with the words that they are of, in their order
 abbrev pub spots_of : List Spot → List PartAt
 spots_of spots = map at_of spots
 
+-- the parts that are borrowed, in their order
 abbrev pub parts_of : List (Bor Part) → List Part
 parts_of parts = map (λ (p : Bor Part). p.now) parts
 
--- a step leaves what is due, or its fault
+-- a step that is done leaves `new` as what is due; one that is not gives the fault that is due
 abbrev pub IsStep : {A B : Type 0} → Result A ImageFault → A → Result B ImageFault → Type 0
 IsStep (Ok a) new (Ok done) = new ≡ a
 IsStep (Ok a) new (Err fault) = ⊥

@@ -1,4 +1,6 @@
--- The code of one test.
+-- The code of one test. A hole is a target of a jump or a switch that is still open. An edge is a way out of the
+-- code: a hole, whose `leaf` is the number of the node to which it is to lead, with what is known of the value there.
+-- A spot is slots in which the part of a value at a position may be saved.
 use denote.Ref.{Bor}
 use Rattle.std.specs.Prelude.{◌≡◌, ℕ, ◌+◌, ◌-◌, ◌<◌, ◌≤◌, ◌^◌, List, [], ◌∷◌, ◌++◌, map, length, Bool, true, false, ◌&&◌, nat_lt, Option, Some, None, slice_get, if◌then◌else◌}
 use Rattle.rb_core.specs.declared.value.Value.{Value, out-Value}
@@ -46,20 +48,22 @@ use Rattle.rb_match.specs.inner.Places.{HaveWords, IsLookedAt}
 
 -- Links -----------------------------------------------------------------------------------------
 
--- the node of the first arm with whose head a value begins, or else the other one
+-- the node to which a test leads a value: that of the first arm with whose head it begins, or else the other one, if
+-- there is one
 abbrev pub take_link : List GraphArm → Option ℕ → Value-F Value → Option ℕ
 take_link [] other tested = other
 take_link (a ∷ arms) other tested = if layer_begins a.head tested then Some a.under else take_link arms other tested
 
 -- What edges carry -----------------------------------------------------------------------------
 
--- there is such a node, and it tests a position
+-- whether there is a node here and it tests a position, as that of a clause does not
 abbrev pub is_test : Option GraphNode → Bool
 is_test None = false
 is_test (Some (Clause k)) = false
 is_test (Some (Test position arms other)) = true
 
--- of what is known, all that an edge to a node has to say: at a clause nothing is asked any more
+-- what an edge to a node carries of what is known: all of it where the node is a test, and nothing where it is a
+-- clause, at which nothing is asked any more
 abbrev pub carried : List GraphNode → ℕ → List Known → List Known
 carried nodes node known = if is_test (slice_get nodes node) then known else []
 
@@ -70,20 +74,20 @@ abbrev pub number_of : Head → ℕ
 number_of (H.Num n) = n
 number_of (H.Con c) = 0
 
--- a head is a number of at most 64 bits
+-- whether a head is a number, of at most 64 bits
 abbrev pub is_number : Head → Bool
 is_number (H.Num n) = nat_lt n (2 ^ 64)
 is_number (H.Con c) = false
 
--- the arm of a switch for a head, with its target
+-- the arm of a switch for the number of a head, with its target
 abbrev pub number_arm : ℕ → Head → SwitchArm
 number_arm next head = record { number = number_of head; target = next }
 
--- the arms of a switch, one for each of these, all with one target
+-- the arms of a switch, one for each of these arms of a test, all with one target
 abbrev pub number_arms : ℕ → List GraphArm → List SwitchArm
 number_arms next arms = map (λ (a : GraphArm). number_arm next a.head) arms
 
--- each of these arms has a number of at most 64 bits
+-- whether the head of each of these arms is a number of at most 64 bits
 abbrev pub are_numbers : List GraphArm → Bool
 are_numbers [] = true
 are_numbers (a ∷ arms) = is_number a.head && are_numbers arms
@@ -92,16 +96,17 @@ are_numbers (a ∷ arms) = is_number a.head && are_numbers arms
 abbrev pub edge_at : ℕ → Option ℕ → ℕ → List Known → Edge
 edge_at pc arm node known = record { hole = record { pc = pc; arm = arm; leaf = node }; known = known }
 
--- an edge to a node of a graph
+-- the edge by an instruction and its arm to a node of a graph, which carries what is known only where that is a test
 abbrev pub edge_in : List GraphNode → ℕ → Option ℕ → ℕ → List Known → Edge
 edge_in nodes pc arm node known = edge_at pc arm node (carried nodes node known)
 
--- the edges of a switch by its arms, counted from k, each to the node of one of these
+-- the edges by the arms of the switch at instruction pc, counted from arm k, each to the node of one of these arms of
+-- a test
 abbrev pub arm_edges : List GraphNode → ℕ → List Known → List GraphArm → ℕ → List Edge
 arm_edges nodes pc known [] k = []
 arm_edges nodes pc known (a ∷ arms) k = edge_in nodes pc (Some k) a.under known ∷ arm_edges nodes pc known arms (k + 1)
 
--- and by its `else`, if there is another node
+-- the edge by the other target of the switch at instruction pc, where a test has a node for all other values
 abbrev pub else_edges : List GraphNode → ℕ → List Known → Option ℕ → List Edge
 else_edges nodes pc known None = []
 else_edges nodes pc known (Some link) = edge_in nodes pc None link known ∷ []
@@ -115,7 +120,8 @@ con_of_layer (P.Var at x) = None
 con_of_layer (P.Num at n) = None
 con_of_layer (P.Con at c ps) = Some c.con
 
--- that of a leaf's provenance
+-- the number of the constructor with which a leaf's provenance begins; none where there is no leaf, or it begins
+-- with none
 abbrev pub con_in : Option Leaf → Option ℕ
 con_in None = None
 con_in (Some leaf) = con_of_layer (out-Pat leaf.prov)
@@ -125,33 +131,35 @@ abbrev pub leaf_in : Option Layout → ℕ → Option Leaf
 leaf_in None l = None
 leaf_in (Some layout) l = slice_get layout.leaves l
 
--- the constructor of a leaf's values
+-- the number of the constructor with which the values of leaf l of data type t begin, if there is such a leaf and its
+-- provenance begins with one
 abbrev pub leaf_con : LaidOut → ℕ → ℕ → Option ℕ
 leaf_con agreed t l = con_in (leaf_in (layout_of agreed.layouts t) l)
 
--- the node to which a constructor leads
+-- the node to which a test leads the values of a constructor; none where there is none for them, or no constructor
 abbrev pub link_at : List GraphArm → Option ℕ → Option ℕ → Option ℕ
 link_at arms other None = None
 link_at arms other (Some c) = take_link arms other (V.Con c [])
 
--- Leaves are told apart by groups: a leaf that is a group by itself has its own number, and the group of all
--- others that lead to a node has the node's number behind those of the leaves.
+-- The group of a leaf that leads to a node, by which the code tells leaves apart: the leaf's own number where it is a
+-- group by itself, or else the node's number behind those of the `count` leaves. A leaf that leads to none has none.
 abbrev pub group_for : ℕ → Bool → ℕ → Option ℕ → Option ℕ
 group_for count itself leaf None = None
 group_for count itself leaf (Some node) = Some (if itself then leaf else count + node)
 
--- the node to which the leaves of a group lead
+-- the node to which the leaves of a group lead, if they lead to one: the group is one leaf, or says the node itself
 abbrev pub node_for : LaidOut → ℕ → List GraphArm → Option ℕ → ℕ → Option ℕ
 node_for agreed t arms other group =
     if nat_lt group (leaf_count agreed t) then link_at arms other (leaf_con agreed t group)
     else Some (group - leaf_count agreed t)
 
--- and what is known of them: the leaf where it is a group by itself
+-- what is known of values of a group behind a test: also the leaf of the part at the position, where the group is one
+-- leaf by itself
 abbrev pub facts_for : LaidOut → ℕ → Bor (List ℕ) → List Known → ℕ → List Known
 facts_for agreed t position known group =
     if nat_lt group (leaf_count agreed t) then known ++ K.Leaf position t group ∷ [] else known
 
--- a leaf that leads to a node has one of its two groups, and one that can't be here has none
+-- the group of a leaf of data type t: one of the two that the leaf may have where it leads to a node, or else none
 pub record IsGrouped (agreed : LaidOut) (t : ℕ) (arms : List GraphArm) (other : Option ℕ) (leaf : ℕ)
     (group : Option ℕ) : Type 0 where
   pub con : ℕ
@@ -159,28 +167,28 @@ pub record IsGrouped (agreed : LaidOut) (t : ℕ) (arms : List GraphArm) (other 
   pub itself : Bool
   pub is_group : group ≡ group_for (leaf_count agreed t) itself leaf (take_link arms other (V.Con con []))
 
--- a list of so many groups, each of its leaf
+-- a list of so many items, one for each leaf in order, of which `IsGroup` says how it belongs to its leaf
 pub record AreGroups {A : Type 0} (IsGroup : ℕ → A → Type 0) (count : ℕ) (groups : List A) : Type 0 where
   pub long : length groups ≡ count
   pub each : (leaf : ℕ) → leaf < count → (group : A) × (slice_get groups leaf ≡ Some group) × IsGroup leaf group
 
--- an edge by a hole, where it leads to a node
+-- the edge by a hole to a node with these facts, if there is a node
 abbrev pub edge_to : List GraphNode → Hole → List Known → Option ℕ → Option Edge
 edge_to nodes h facts None = None
 edge_to nodes h facts (Some node) = Some (edge_in nodes h.pc h.arm node facts)
 
--- the edge by the hole of a group of leaves, where they lead to a node
+-- the edge by a hole whose number is that of a group of leaves, where they lead to a node
 abbrev pub edge_for : LaidOut → List GraphNode → ℕ → Bor (List ℕ) → List Known → List GraphArm → Option ℕ → Hole
     → Option Edge
 edge_for agreed nodes t position known arms other h =
     edge_to nodes h (facts_for agreed t position known h.leaf) (node_for agreed t arms other h.leaf)
 
--- an edge before others, if there is one
+-- an edge, if there is one, in front of others
 abbrev pub keep_edge : Option Edge → List Edge → List Edge
 keep_edge None es = es
 keep_edge (Some e) es = e ∷ es
 
--- the edges by these holes, each of which has the number of a group
+-- the edges by these holes, each of which has the number of a group of leaves, where these lead to a node
 abbrev pub leaf_edges_of : LaidOut → List GraphNode → ℕ → Bor (List ℕ) → List Known → List GraphArm → Option ℕ
     → List Hole → List Edge
 leaf_edges_of agreed nodes t position known arms other [] = []
@@ -198,11 +206,11 @@ hole_of e = e.hole
 abbrev pub holes_of : List Edge → List Hole
 holes_of es = map hole_of es
 
--- each edge is a hole of an instruction from a number on
+-- each of these edges is a hole of the code, at an instruction with the number `from` or a later one
 abbrev pub AreOpen : ℕ → List Instr → List Edge → Type 0
 AreOpen from code edges = (e : Edge) → IsEdge e edges → (from ≤ e.hole.pc) × IsHole code e.hole
 
--- one target leads to one node
+-- edges by the same instruction and the same arm of it lead to the same node, since they have one target
 abbrev pub LeadOneWay : List Edge → Type 0
 LeadOneWay edges =
     (e f : Edge) → IsEdge e edges → IsEdge f edges → e.hole.pc ≡ f.hole.pc → e.hole.arm ≡ f.hole.arm
@@ -213,8 +221,8 @@ pub record StandOpen (old new : Sheet) (edges : List Edge) : Type 0 where
   pub are_open : AreOpen (length old.code) new.code edges
   pub one : LeadOneWay edges
 
--- the run goes out by an edge, whatever its target, to a node of which this is so, with what is known there;
--- the first n slots are kept
+-- The run goes out by an edge, whatever its target, to a node of which `To` is so, with what the edge says is known.
+-- It does at most `most` more switches, and keeps the first n slots.
 pub record LeavesWhere (To : View → ℕ → Type 0) (plan : Plan) (final : List Instr) (next : Next) (edges : List Edge)
     (n most start : ℕ) (s : List ℕ) (w : World) (clean : Bool) (v : Value) (spots : List Spot) : Type 0 where
   pub edge : Edge
@@ -229,11 +237,12 @@ pub record LeavesWhere (To : View → ℕ → Type 0) (plan : Plan) (final : Lis
   pub known : AreKnown (seen plan clean v spots slots w.memory) edge.known
   pub is_node : To (seen plan clean v spots slots w.memory) edge.hole.leaf
 
--- to this node
+-- the node with number k is this node, whatever is known of the value
 abbrev pub IsNode : ℕ → View → ℕ → Type 0
 IsNode node view k = k ≡ node
 
--- to a node of this number
+-- the run goes out by an edge to the node of this number, with what the edge says is known, and keeps the first n
+-- slots
 abbrev pub LeavesBy : Plan → List Instr → Next → List Edge → ℕ → ℕ → ℕ → List ℕ → World → Bool → Value → List Spot → ℕ
     → Type 0
 LeavesBy plan final next edges n most start s w clean v spots node =
@@ -252,7 +261,8 @@ pub record AreSpots (plan : Plan) (n m : ℕ) (spots : List Spot) : Type 0 where
   pub apart : (j k : ℕ) (a b : Spot) → slice_get spots j ≡ Some a → slice_get spots k ≡ Some b → (j ≡ k → ⊥)
       → AreApart a.slots b.slots
 
--- Over reads of the part that is tested: the run leaves by an edge to where the node of the arm that is taken leads.
+-- The code from old to new makes a test, over reads of the part that is tested: where the test leads the part to a
+-- node, by an arm or as all other values, the run leaves by an edge to a node that `To` allows for that one.
 pub record AskedThere (To : ℕ → View → ℕ → Type 0) (plan : Plan) (ty : Ty) (n : ℕ) (spots : List Spot)
     (reads : List Read) (known : List Known) (position : List ℕ) (arms : List GraphArm) (other : Option ℕ)
     (old new : Sheet) (edges : List Edge) : Type 0 where
@@ -266,18 +276,21 @@ pub record AskedThere (To : ℕ → View → ℕ → Type 0) (plan : Plan) (ty :
       → LeavesWhere (To node) plan final next edges n (choosing_look plan.layouts ty) (length old.code)
       s w clean v spots
 
--- to this node itself
+-- the code from old to new makes a test, over reads of the part that is tested: each run leaves it by an edge to the
+-- very node to which the test leads the part
 abbrev pub AskedAt : Plan → Ty → ℕ → List Spot → List Read → List Known → List ℕ → List GraphArm → Option ℕ → Sheet
     → Sheet → List Edge → Type 0
 AskedAt = AskedThere IsNode
 
--- of an integer, over reads of its word
+-- the code from old to new tests an integer, over reads of its word: each run leaves it by an edge to the node to
+-- which the test leads the integer
 abbrev pub AsksNumber : List Read → List Known → List GraphArm → Option ℕ → Sheet → Sheet → List Edge → Type 0
 AsksNumber reads known arms other old new edges =
     (plan : Plan) (n bits : ℕ) (position : List ℕ) (spots : List Spot) → n ≤ old.slots → SpotsBelow old.slots spots
     → AllFit old.slots reads → AskedAt plan (Int bits) n spots reads known position arms other old new edges
 
--- of the leaf of a data type, wherever parts are saved
+-- the code from old to new tests the leaf of a value of data type t, over reads of its words, wherever parts are
+-- saved: each run leaves it by an edge to the node to which the test leads the value
 abbrev pub AsksLeaf : LaidOut → ℕ → List Read → List Known → List ℕ → List GraphArm → Option ℕ → Sheet → Sheet
     → List Edge → Type 0
 AsksLeaf agreed t reads known position arms other old new edges =
@@ -285,7 +298,8 @@ AsksLeaf agreed t reads known position arms other old new edges =
     → AllFit old.slots reads → length reads ≡ words_of plan (Named t)
     → AskedAt plan (Named t) n spots reads known position arms other old new edges
 
--- over reads of the whole value
+-- The code from old to new tests the part at a position, at which some pattern looks, over reads of the whole value:
+-- the run leaves by an edge to a node that `To` allows for the one to which the test leads the part.
 pub record Asked (To : ℕ → View → ℕ → Type 0) (plan : Plan) (ty : Ty) (n : ℕ) (words : List Read)
     (pats : List Pat) (spots : List Spot) (known : List Known) (position : List ℕ) (arms : List GraphArm)
     (other : Option ℕ) (old new : Sheet) (edges : List Edge) : Type 0 where

@@ -44,28 +44,28 @@ use Rattle.rb_match.specs.inner.Saving.{IsThere, mend_at, mends_from}
 abbrev pub AreApart : Pat → Pat → Type 0
 AreApart p q = (v : Value) → matches_of p v ≡ true → matches_of q v ≡ true → ⊥
 
--- two patterns in one place are apart
+-- in some one place of both lists stand two patterns that no value matches both
 abbrev pub HaveApart : List Pat → List Pat → Type 0
 HaveApart ps qs = (i : ℕ) × (p : Pat) × (q : Pat) × (slice_get ps i ≡ Some p) × (slice_get qs i ≡ Some q) × AreApart p q
 
--- no value of the leaf matches the pattern
+-- no value of leaf n of data type t matches the pattern, or there is no such leaf
 abbrev pub IsLeftOut : LaidOut → ℕ → Pat → ℕ → Type 0
 IsLeftOut agreed t p n = (leaf : Leaf) → leaf_in (layout_of agreed.layouts t) n ≡ Some leaf → AreApart leaf.prov p
 
--- of the first so many leaves none but this one has values that the pattern matches
+-- of the first `count` leaves of data type t none but this one has values that the pattern matches
 abbrev pub IsOnly : LaidOut → ℕ → Pat → ℕ → ℕ → Type 0
 IsOnly agreed t p leaf count = (n : ℕ) → n < count → (n ≡ leaf) ⊎ IsLeftOut agreed t p n
 
--- of all leaves of the type
+-- of all leaves of data type t none but this one has values that the pattern matches
 abbrev pub IsOnlyLeaf : LaidOut → ℕ → Pat → ℕ → Type 0
 IsOnlyLeaf agreed t p leaf = IsOnly agreed t p leaf (leaf_count agreed t)
 
--- each of these is true
+-- whether none of some subpatterns has a variable, where that is given of each
 abbrev pub all_unbound : List Bool → Bool
 all_unbound [] = true
 all_unbound (b ∷ bs) = b && all_unbound bs
 
--- whether a pattern has no variable, from its subpatterns
+-- whether a pattern has no variable, where that is given of each of its subpatterns
 abbrev pub unbound_step : Pat-F Bool → Bool
 unbound_step (P.Wild at) = true
 unbound_step (P.Var at x) = false
@@ -76,14 +76,14 @@ unbound_step (P.Con at c bs) = all_unbound bs
 abbrev pub is_unbound : Pat → Bool
 is_unbound = fold-Pat Bool unbound_step
 
--- at a value of a type
+-- the appended code, run on the words of a value of type t that the pattern matches, binds the pattern's variables
 abbrev pub BindsAt : LaidOut → Ty → Pat → List ℕ → Sheet → Sheet → List Local → Type 0
 BindsAt agreed t pat words old new bound =
     (plan : Plan) → IsPlanOf agreed plan → AllBelow old.slots words → length words ≡ words_of plan t
     → Binds plan pat t words old new bound
 
--- the appended code leaves what some patterns bind in slots that are new or the value's own, where the value
--- has this leaf
+-- where the value has this leaf of data type t, the appended code leaves what some patterns bind in slots that are
+-- new or the value's own
 pub record BindsParts (plan : Plan) (most t leaf : ℕ) (words : List ℕ) (scope : List Binder) (old new : Sheet)
     (bound : List Local) (Parts : Value → List Binding → Type 0) : Type 0 where
   pub adds : Adds plan old new
@@ -96,30 +96,31 @@ pub record BindsParts (plan : Plan) (most t leaf : ℕ) (words : List ℕ) (scop
       (λ s m. IsGood m × Rep plan m clean (Named t) v (slots_at s words))
       (AtEnd new (λ s m. Holds plan clean s m bound bs))
 
--- the fields from i on match their patterns, which bind these
+-- the fields of value v from number i on match these patterns, one each, which bind bs in all
 abbrev pub FieldsMatch : List Pat → ℕ → Value → List Binding → Type 0
 FieldsMatch subs i v bs =
     (vs : List Value) × ((j : ℕ) → part_at v ((i + j) ∷ []) ≡ slice_get vs j)
     × (all_pass (map matches_of subs) vs ≡ true) × (bs ≡ all_bound (map bindings subs) vs)
 
--- the most switches of the code that binds what stands in some patterns of fields
+-- the switches that bind the variables of the patterns of some fields, at most, once the fields are there
 abbrev pub fields_bound : Plan → List Pat → List Ty → ℕ
 fields_bound plan subs fields =
     looks_with (binding_look plan.layouts) (places_below (map (places_in plan.program.types) subs) fields 0)
 
--- the code that binds the patterns of the fields from i on, at a leaf
+-- the appended code binds the variables of the patterns of the fields from i on, where the value has this leaf of
+-- data type t
 abbrev pub BindsFields : LaidOut → ℕ → ℕ → List ℕ → List Pat → List Ty → ℕ → Sheet → Sheet → List Local → Type 0
 BindsFields agreed t leaf words subs fields i old new bound =
     (plan : Plan) → IsPlanOf agreed plan → AllBelow old.slots words → length words ≡ words_of plan (Named t)
     → BindsParts plan (mends_from plan.layouts t leaf subs i + fields_bound plan subs fields) t leaf words
     (all_binders (map (binders plan.program.types) subs) fields) old new bound (FieldsMatch subs i)
 
--- field i matches its pattern, which binds these
+-- field i of value v matches its pattern, which binds bs
 abbrev pub FieldMatches : Pat → ℕ → Value → List Binding → Type 0
 FieldMatches sub i v bs =
     (part : Value) × (part_at v (i ∷ []) ≡ Some part) × (matches_of sub part ≡ true) × (bs ≡ bindings sub part)
 
--- the code that binds the pattern of field i, at a leaf
+-- the appended code binds the variables of the pattern of field i, where the value has this leaf of data type t
 abbrev pub BindsField : LaidOut → ℕ → ℕ → List ℕ → Pat → Ty → ℕ → Sheet → Sheet → List Local → Type 0
 BindsField agreed t leaf words sub field i old new bound =
     (plan : Plan) → IsPlanOf agreed plan → AllBelow old.slots words → length words ≡ words_of plan (Named t)
@@ -141,7 +142,7 @@ pub record SavedTogether (plan : Plan) (n : ℕ) (c : ConRef) (words : List ℕ)
       → Piece plan n old new Nowhere (choosing_look plan.layouts (Named c.ty))
       (λ s m. IsThere plan clean c.ty v words s m) (AtEnd new (λ s m. AreSeen plan clean v spots known s m))
 
--- the code saves fields of each leaf of the constructor
+-- the appended code saves fields of a value that begins with the constructor, whichever of its leaves it has
 abbrev pub SavesTogether : LaidOut → ConRef → List ℕ → List Spot → List Known → Sheet → Sheet → Type 0
 SavesTogether agreed c words spots known old new =
     (plan : Plan) (n : ℕ) → IsPlanOf agreed plan → AreSpots plan n old.slots spots → AllBelow old.slots words
@@ -159,21 +160,23 @@ pub record BindsSaved (plan : Plan) (n most : ℕ) (spots : List Spot) (known : 
       → Piece plan old.slots old new Nowhere most (λ s m. AreSeen plan clean v spots known s m)
       (AtEnd new (λ s m. Holds plan clean s m bound bs))
 
--- the code that binds the patterns of the fields from i on, where these facts are known
+-- the appended code binds the variables of the patterns of the fields from i on, from the spots that these facts say
+-- hold fields
 abbrev pub BindsSpots : LaidOut → List Spot → List Known → List Pat → List Ty → ℕ → Sheet → Sheet → List Local → Type 0
 BindsSpots agreed spots known subs fields i old new bound =
     (plan : Plan) (n : ℕ) → IsPlanOf agreed plan → AreSpots plan n old.slots spots
     → BindsSaved plan n (fields_bound plan subs fields) spots known
     (all_binders (map (binders plan.program.types) subs) fields) old new bound (FieldsMatch subs i)
 
--- the code that binds the pattern of field i, where these facts are known
+-- the appended code binds the variables of the pattern of field i, from the spots that these facts say hold fields
 abbrev pub BindsSpot : LaidOut → List Spot → List Known → Pat → Ty → ℕ → Sheet → Sheet → List Local → Type 0
 BindsSpot agreed spots known sub field i old new bound =
     (plan : Plan) (n : ℕ) → IsPlanOf agreed plan → AreSpots plan n old.slots spots
     → BindsSaved plan n (binding_bound plan.program.types plan.layouts field sub) spots known
     (binders plan.program.types sub field) old new bound (FieldMatches sub i)
 
--- a constructor of a type of which some leaf takes a subvalue apart
+-- the appended code binds the variables of a constructor's pattern, with these subpatterns, at a value of type t: it
+-- is for types of which some leaf takes a subvalue apart
 abbrev pub BindsDeep : LaidOut → Ty → ConRef → List ℕ → List Pat → List Ty → Sheet → Sheet → List Local → Type 0
 BindsDeep agreed t c words subs fields old new bound =
     (token : ℕ) → fields ≡ field_types agreed.covered.program.types c
@@ -181,7 +184,7 @@ BindsDeep agreed t c words subs fields old new bound =
 
 -- Sizes: each part of a pattern weighs less than what it is part of ------------------------------
 
--- the weights of a constructor's subpatterns, and 2 more for each
+-- the weights of a constructor's subpatterns together, and 2 more for each
 abbrev pub weights : List ℕ → ℕ
 weights [] = 0
 weights (w ∷ ws) = w + 2 + weights ws
@@ -193,6 +196,6 @@ weight_step (P.Var at x) = 1
 weight_step (P.Num at n) = 1
 weight_step (P.Con at c ws) = 2 + weights ws
 
--- the weight of a pattern
+-- the weight of a pattern, which is more than that of any of its subpatterns, so that walks down a pattern end
 abbrev pub weight : Pat → ℕ
 weight = fold-Pat ℕ weight_step

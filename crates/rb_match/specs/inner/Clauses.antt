@@ -24,20 +24,22 @@ use Rattle.rb_fetch.specs.Finding.{IsPlanOf}
 use Rattle.rb_match.specs.Bounding.{choosing_look, looks_with, places_of}
 use Rattle.rb_match.specs.inner.Trees.{TakesTree}
 
--- the holes of a way, by another name
+-- those of the holes that have the number `way`, with the number `name` instead
 abbrev pub way_holes : ℕ → ℕ → List Hole → List Hole
 way_holes way name [] = []
 way_holes way name (h ∷ hs) =
     if h.leaf == way then record { pc = h.pc; arm = h.arm; leaf = name } ∷ way_holes way name hs
     else way_holes way name hs
 
--- the code of a match of one clause and a wildcard
+-- the code leads each value out by a hole of 0 or of 1, as the decision tree of this pattern and of a wildcard behind
+-- it says
 abbrev pub TakesAlone : LaidOut → Ty → List Read → Pat → Sheet → Sheet → List Hole → Type 0
 TakesAlone agreed ty words pat old new holes =
     TakesTree agreed ty words (pat ∷ Wild 0 ∷ [])
     (match_tree agreed.covered.program.types ty (pat ∷ Wild 0 ∷ [])) old new holes
 
--- the run comes to the end of the code, after at most so many switches
+-- the run from `start` comes to `end`, the end of the code, after at most so many switches, with the first n slots
+-- kept
 pub record GoesOn (next : Next) (n most start end : ℕ) (s : List ℕ) (w : World) : Type 0 where
   pub slots : List ℕ
   pub world : World
@@ -45,11 +47,13 @@ pub record GoesOn (next : Next) (n most start end : ℕ) (s : List ℕ) (w : Wor
   pub keeps : Keeps n s slots
   pub later : IsLater most w world
 
--- what the looks of one clause cost at most
+-- the switches that one look at each place of a match costs at most when a clause is chosen: trying one clause costs
+-- no more
 abbrev pub round_of : Plan → Ty → List Pat → ℕ
 round_of plan ty pats = looks_with (choosing_look plan.layouts) (places_of plan.program.types ty pats)
 
--- of each value that is represented, whatever the open targets are
+-- `Ends` is so of each run of the code over reads of a value of the type, in any finished code that has it, whatever
+-- its open targets become
 abbrev pub OnValues : Plan → Ty → List Read → Sheet → Sheet → List Hole
     → (List Instr → Next → List ℕ → World → Value → Type 0) → Type 0
 OnValues plan ty words old new holes Ends =
@@ -58,7 +62,8 @@ OnValues plan ty words old new holes Ends =
     → (s : List ℕ) (w : World) (v : Value) (clean : Bool) (ws : List ℕ) → new.slots ≤ length s → IsGood w.memory
     → AreMeant words s w.memory ws → Rep plan w.memory clean ty v ws → Ends final next s w v
 
--- where it matches the run leaves by a hole of the clause, else it goes on behind the code
+-- the code tries one clause: where its pattern matches, the run leaves by a hole of the clause's number, and else it
+-- goes on behind the code
 pub record ClauseTried (plan : Plan) (ty : Ty) (words : List Read) (pats : List Pat) (pat : Pat) (number : ℕ)
     (old new : Sheet) (holes : List Hole) : Type 0 where
   pub adds : Adds plan old new
@@ -79,14 +84,15 @@ pub record HolesStand (old new : Sheet) (count : ℕ) (holes : List Hole) : Type
   pub holes_are : AreHoles (length old.code) count new.code holes
   pub ways : AreOfOneWay holes
 
--- the code tries one clause, among whatever clauses it stands
+-- the code tries the clause of this pattern, whatever other clauses the match has; its holes have the clause's number
 pub record TriesClause (agreed : LaidOut) (ty : Ty) (words : List Read) (pat : Pat) (number : ℕ) (old new : Sheet)
     (holes : List Hole) : Type 0 where
   pub stand : HolesStand old new (number + 1) holes
   pub tries : (plan : Plan) → IsFineFor agreed plan ty words old → (pats : List Pat) (k : ℕ)
       → slice_get pats k ≡ Some pat → ClauseTried plan ty words pats pat number old new holes
 
--- the first so many clauses are tried
+-- the code tries the first `count` clauses of a match: where the value chooses one of them, the run leaves by a hole
+-- of it, and where it chooses a later one, it goes on behind the code
 pub record AllTried (plan : Plan) (ty : Ty) (words : List Read) (pats : List Pat) (count : ℕ) (old new : Sheet)
     (holes : List Hole) : Type 0 where
   pub adds : Adds plan old new
@@ -97,7 +103,8 @@ pub record AllTried (plan : Plan) (ty : Ty) (words : List Read) (pats : List Pat
       → count ≤ k
       → GoesOn next old.slots (count * round_of plan ty pats) (length old.code) (length new.code) s w)
 
--- the code tries the first so many clauses
+-- in each plan of the layouts the code tries the first `count` clauses of a match, and leaves by a hole of the first
+-- that matches
 pub record TriesAll (agreed : LaidOut) (ty : Ty) (words : List Read) (pats : List Pat) (count : ℕ) (old new : Sheet)
     (holes : List Hole) : Type 0 where
   pub stand : HolesStand old new count holes

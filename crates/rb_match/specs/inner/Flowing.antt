@@ -1,4 +1,6 @@
--- The code of a graph while it is made: the edges that are open, and what a run has done when it leaves by one.
+-- The code of a graph while it is made: the edges that are open, and what a run has done when it leaves by one. An
+-- edge is a hole, that is, an open target of the code, for the node to which it is to lead, with what is known of the
+-- value there. A way through the graph is the positions that are tested on it, one after another.
 use Rattle.std.specs.Prelude.{◌≡◌, ℕ, ◌<◌, ◌≤◌, ◌++◌, ◌⊎◌, ◌==◌, List, [], ◌∷◌, map, length, Bool, Some, slice_get, if◌then◌else◌}
 use Rattle.rb_core.specs.declared.value.Value.{Value}
 use Rattle.rb_core.specs.declared.types.Ty.{Ty}
@@ -33,25 +35,25 @@ use Rattle.rb_match.specs.inner.Asking.{AreSpots, holes_of, StandOpen}
 
 -- Edges -----------------------------------------------------------------------------------------
 
--- the holes of a node's edges, as ways to one target
+-- the holes of the edges to a node, each with number 0, since all of them get one target
 abbrev pub landing_of : ℕ → List Edge → List Hole
 landing_of node [] = []
 landing_of node (e ∷ es) =
     if e.hole.leaf == node then record { pc = e.hole.pc; arm = e.hole.arm; leaf = 0 } ∷ landing_of node es
     else landing_of node es
 
--- the edges that lead to other nodes
+-- the edges that lead to other nodes than this one, in their order
 abbrev pub others_of : ℕ → List Edge → List Edge
 others_of node [] = []
 others_of node (e ∷ es) = if e.hole.leaf == node then others_of node es else e ∷ others_of node es
 
 -- Ways through a graph --------------------------------------------------------------------------
 
--- the tree of a node
+-- the decision tree to which the graph unfolds from node n on
 abbrev pub tree_at : List GraphNode → ℕ → Tree
 tree_at nodes n = tree_under (node_trees nodes) n
 
--- one of these ways
+-- the way, a list of positions, is one of those in the list
 abbrev pub HasWay : List Way → Way → Type 0
 HasWay ws way = (k : ℕ) × (slice_get ws k ≡ Some way)
 
@@ -59,12 +61,12 @@ HasWay ws way = (k : ℕ) × (slice_get ws k ≡ Some way)
 abbrev pub path_of : Place → List ℕ
 path_of p = p.path
 
--- what the looks at some places cost
+-- the switches that one look at each of some places costs at most when a clause is chosen
 abbrev pub looks : Plan → List Place → ℕ
 looks plan path = looks_with (choosing_look plan.layouts) path
 
--- what is asked of the code, and where it begins; the slots below the base are kept, and parts are saved in
--- spots above it
+-- what is asked of the code of a graph, and the code behind which it begins; the slots below the base are kept, and
+-- parts are saved in spots whose slots are from it on
 pub record Job : Type 0 where
   pub base : ℕ
   pub spots : List Spot
@@ -89,7 +91,8 @@ pub record IsOn (job : Job) (v : Value) (n : ℕ) (path : List Place) : Type 0 w
 
 -- Runs ------------------------------------------------------------------------------------------
 
--- the run goes out by an edge, whatever its target
+-- the run from where the job began goes out by an edge, whatever its target, to a node to which the value has come,
+-- with at most the switches of the looks on the way
 pub record Arrives (job : Job) (final : List Instr) (next : Next) (edges : List Edge) (s : List ℕ) (w : World)
     (clean : Bool) (v : Value) : Type 0 where
   pub edge : Edge
@@ -105,7 +108,7 @@ pub record Arrives (job : Job) (final : List Instr) (next : Next) (edges : List 
   pub known : AreKnown (seen job.plan clean v job.spots slots w.memory) edge.known
   pub on : IsOn job v edge.hole.leaf path
 
--- the run comes to an instruction at which the code of a node begins
+-- the run from where the job began comes to instruction `here`, at which the code of node n begins, with these facts
 pub record Lands (job : Job) (next : Next) (here : ℕ) (known : List Known) (n : ℕ) (s : List ℕ) (w : World)
     (clean : Bool) (v : Value) : Type 0 where
   pub slots : List ℕ
@@ -117,7 +120,7 @@ pub record Lands (job : Job) (next : Next) (here : ℕ) (known : List Known) (n 
   pub is_known : AreKnown (seen job.plan clean v job.spots slots w.memory) known
   pub on : IsOn job v n path
 
--- the words mean a value of which the graph takes a clause
+-- the job's reads mean the words of a value of which the graph takes a clause, in a good memory
 pub record IsGiven (job : Job) (s : List ℕ) (m : Memory) (clean : Bool) (v : Value) : Type 0 where
   pub good : IsGood m
   pub ws : List ℕ
@@ -126,11 +129,13 @@ pub record IsGiven (job : Job) (s : List ℕ) (m : Memory) (clean : Bool) (v : V
   pub clause : ℕ
   pub takes : taken (tree_at job.nodes job.root) v ≡ Some clause
 
--- what a run may do, over a value
+-- what may be said of a run: of the finished code, of what goes on in it, and of the slots, the world and the value
+-- at its beginning
 abbrev pub Run : Type 1
 Run = List Instr → Next → List ℕ → World → Bool → Value → Type 0
 
--- whatever the open targets are, runs over given values do this
+-- `Does` is so of each run over a value that is given to the job, in any finished code, whatever the open targets
+-- become
 abbrev pub Runs : Job → Sheet → List Edge → Run → Type 0
 Runs job new edges Does =
     (final : List Instr) (callee : Callee) (next : Next) → Law final callee next
@@ -143,7 +148,8 @@ pub record Flows (job : Job) (new : Sheet) (edges : List Edge) : Type 0 where
   pub adds : Adds job.plan job.first new
   pub arrives : Runs job new edges (λ final next s w clean v. Arrives job final next edges s w clean v)
 
--- out by an edge, or to the end of the code, where that of node n is to begin
+-- the code from the first on leads each given value out by an edge, or to the end of the code, where that of node n
+-- is to begin
 pub record FlowsHere (job : Job) (new : Sheet) (edges : List Edge) (known : List Known) (n : ℕ) : Type 0 where
   pub adds : Adds job.plan job.first new
   pub arrives : Runs job new edges (λ final next s w clean v. Arrives job final next edges s w clean v
@@ -173,12 +179,12 @@ job_of plan base spots ty words pats nodes root first = record {
   first = first;
 }
 
--- what stands in any case
+-- what holds of the code of any job: it is the first code and more, in which these edges are open
 pub record Stands (first new : Sheet) (edges : List Edge) : Type 0 where
   pub grows : Grows first.code new.code
   pub stand : StandOpen first new edges
 
--- one more node has its code: where all was fine up to its edges, it is behind them
+-- one more node, number n, has its code: where the code led all values out by the old edges, it now does by the new
 pub record StepsNode (agreed : LaidOut) (ty : Ty) (words : List Read) (pats : List Pat) (spots : List Spot)
     (nodes : List GraphNode) (node : GraphNode) (n : ℕ) (old : Sheet) (edges : List Edge) (new : Sheet)
     (more : List Edge) : Type 0 where
@@ -188,7 +194,7 @@ pub record StepsNode (agreed : LaidOut) (ty : Ty) (words : List Read) (pats : Li
       IsFineJob agreed job → slice_get nodes n ≡ Some node → Stands first old edges → Flows job old edges
       → Flows job new more
 
--- the code of the root's node stands
+-- the code of the root's node stands: it leads each value that is given to a fine job out by an edge
 pub record Begins (agreed : LaidOut) (ty : Ty) (words : List Read) (pats : List Pat) (spots : List Spot)
     (nodes : List GraphNode) (root : ℕ) (old new : Sheet) (edges : List Edge) : Type 0 where
   pub stands : Stands old new edges
@@ -210,7 +216,7 @@ pub record AreClauseHoles (nodes : List GraphNode) (count : ℕ) (edges : List E
   pub each : (k : ℕ) (e : Edge) (h : Hole) → slice_get edges k ≡ Some e → slice_get holes k ≡ Some h
       → IsClauseHole nodes count e.hole h
 
--- the run leaves by a hole of the clause, after looks at places on one way through the graph
+-- the run leaves by a hole of clause k, after looks at the places of one way through the graph
 pub record LeavesOn (job : Job) (final : List Instr) (next : Next) (holes : List Hole) (s : List ℕ) (w : World)
     (k : ℕ) : Type 0 where
   pub path : List Place
@@ -218,7 +224,7 @@ pub record LeavesOn (job : Job) (final : List Instr) (next : Next) (holes : List
   pub looked : AllLookedAt job path
   pub leaves : Leaves final next holes job.base (looks job.plan path) (length job.first.code) s w k (λ s' m. Unit {0})
 
--- the code from the first on leads each given value out by a hole of its clause
+-- the code from the first on leads each value that is given to the job out by a hole of the clause that it takes
 pub record Takes (job : Job) (new : Sheet) (holes : List Hole) : Type 0 where
   pub adds : Adds job.plan job.first new
   pub leaves : (final : List Instr) (callee : Callee) (next : Next) → Law final callee next

@@ -1,4 +1,5 @@
--- The ways of a part whose fields are saved: made leaf by leaf.
+-- The ways of a part whose fields are saved: made leaf by leaf. A way is code behind that which finds the part's
+-- leaf: for values of one leaf it saves fields, and leaves by an edge, an open target for a node.
 use denote.Ref.{Bor}
 use Rattle.std.specs.Prelude.{◌≡◌, ℕ, ◌+◌, ◌-◌, ◌<◌, ◌≤◌, nat_le, List, [], ◌∷◌, ◌++◌, map, length, Bool, true, Option, Some, None, slice_get, if◌then◌else◌}
 use Rattle.rb_core.specs.declared.value.Value.{Value, out-Value}
@@ -39,12 +40,12 @@ use Rattle.rb_match.specs.inner.Asking.{AreGroups, AreOpen, AreSpots, Asked, Ask
 use Rattle.rb_match.specs.inner.Saving.{IsThereWith}
 use Rattle.rb_match.specs.inner.Threading.{AllFollow, LeadsOn}
 
--- holes of leaves from a number on, whose ways are still to be made
+-- those of the holes whose `leaf`, the number of a group of leaves, is i or higher: no way is made for them yet
 abbrev pub pending : ℕ → List Hole → List Hole
 pending i [] = []
 pending i (h ∷ hs) = if nat_le i h.leaf then h ∷ pending i hs else pending i hs
 
--- they are holes of the code
+-- those of the holes whose `leaf`, the number of a group of leaves, is i or higher are holes of the code
 abbrev pub CanOpen : List Instr → List Hole → ℕ → Type 0
 CanOpen code holes i = (h : Hole) → IsIn h (pending i holes) → IsHole code h
 
@@ -59,24 +60,26 @@ pub record WaysStand (mid : Sheet) (top : ℕ) (holes : List Hole) (i : ℕ) (b 
 
 -- Where leaves lead on ---------------------------------------------------------------------------
 
--- what is known leads from a node on to another; where there is no graph, to that node itself
+-- what is known leads from a node on to node m; where there is no graph, m is the node itself
 abbrev pub LeadsFrom : LaidOut → Whole → List Known → ℕ → ℕ → Type 0
 LeadsFrom agreed graph known node m =
     LeadsOn agreed graph.ty graph.pats.now graph.nodes.now known node m × (graph.nodes.now ≡ [] → m ≡ node)
 
--- the values of a leaf go where the node leads; if they go to none, nowhere
+-- the values of a leaf that a test leads to a node go on at one that `Leads` allows for it; those that it leads to no
+-- node go nowhere
 abbrev pub GoOn : (ℕ → ℕ → Type 0) → Option ℕ → Option Onward → Type 0
 GoOn Leads None None = Unit {0}
 GoOn Leads None (Some found) = ⊥
 GoOn Leads (Some node) None = ⊥
 GoOn Leads (Some node) (Some found) = Leads node found.node
 
--- facts that are so where others are, on the way of a leaf that goes on
+-- the facts that a leaf's values go on with are so where these are; nothing is asked of a leaf that goes nowhere
 abbrev pub ShowOnward : LaidOut → List Known → Option Onward → Type 0
 ShowOnward agreed known None = Unit {0}
 ShowOnward agreed known (Some found) = AllFollow agreed known found.known
 
--- where the values of a leaf go behind a test
+-- where the values of a leaf of data type t go on behind a test of the part at a position, if they are led anywhere,
+-- and what is known then
 pub record LeadsLeaf (agreed : LaidOut) (graph : Whole) (t : ℕ) (known : List Known) (position : Bor (List ℕ))
     (arms : List GraphArm) (other : Option ℕ) (leaf : ℕ) (found : Option Onward) : Type 0 where
   pub con : ℕ
@@ -85,31 +88,34 @@ pub record LeadsLeaf (agreed : LaidOut) (graph : Whole) (t : ℕ) (known : List 
       (take_link arms other (V.Con con [])) found
   pub shows : ShowOnward agreed (known ++ K.Leaf position t leaf ∷ []) found
 
--- each leaf of the type has where its values go
+-- the list says for each leaf of data type t, in order, where its values go on behind a test
 abbrev pub LeadLeaves : LaidOut → Whole → ℕ → List Known → Bor (List ℕ) → List GraphArm → Option ℕ
     → List (Option Onward) → Type 0
 LeadLeaves agreed graph t known position arms other =
     AreGroups (LeadsLeaf agreed graph t known position arms other) (leaf_count agreed t)
 
--- a leaf of which fields are saved is a group by itself, and all others that lead on to a node are one
+-- the group of a leaf, by where its values go on: the leaf's own number where fields of it are saved, or else the
+-- node's number behind those of the `count` leaves, which all such leaves share; none where they go nowhere
 abbrev pub group_onward : ℕ → ℕ → Option Onward → Option ℕ
 group_onward count leaf None = None
 group_onward count leaf (Some found) = group_for count found.saves leaf (Some found.node)
 
--- the group of a leaf, by where its values go on
+-- the leaf has this group, by where the list says that its values go on
 abbrev pub HasGroupOnward : List (Option Onward) → ℕ → Option ℕ → Type 0
 HasGroupOnward onward leaf group =
     (found : Option Onward) × (slice_get onward leaf ≡ Some found) × (group ≡ group_onward (length onward) leaf found)
 
--- the edges of such groups, whose numbers are from a count on
+-- the edge by a hole of a group that is not one leaf alone: the group's number is that of the node, behind the
+-- numbers of the `count` leaves
 abbrev pub shared_edge : List GraphNode → ℕ → List Known → Hole → Edge
 shared_edge nodes count known h = edge_in nodes h.pc h.arm (h.leaf - count) known
 
--- the edges of such groups by these holes
+-- the edges by those of the holes that are of groups that are not one leaf alone, whose numbers are from `count` on
 abbrev pub shared_edges : List GraphNode → ℕ → List Known → List Hole → List Edge
 shared_edges nodes count known holes = map (shared_edge nodes count known) (pending count holes)
 
--- facts that are so, or were before slots were written, lead from a node on
+-- some facts lead from the node on to node k that are so of the view's value, perhaps in other slots than the view's,
+-- since those of spots may have been written on the way
 abbrev pub IsOnward : LaidOut → Whole → ℕ → View → ℕ → Type 0
 IsOnward agreed graph node view k =
     (told : List Known) × (s : List ℕ) × AreKnown (seen view.plan view.clean view.value view.spots s view.memory) told
@@ -117,7 +123,7 @@ IsOnward agreed graph node view k =
 
 -- Ways ------------------------------------------------------------------------------------------
 
--- what a run does on a part of a leaf that goes on at a node
+-- `Does` is so of each run of the code over a part, in slots, whose leaf a test leads to a node, in any finished code
 abbrev pub OnLeaves : Plan → ℕ → List ℕ → List Spot → List Known → List ℕ → List GraphArm → Option ℕ → Sheet → Sheet
     → List Hole → (List Instr → Next → List ℕ → World → Bool → Value → ℕ → ℕ → Type 0) → Type 0
 OnLeaves plan t words spots known position arms other mid b holes Does =
@@ -128,7 +134,7 @@ OnLeaves plan t words spots known position arms other mid b holes Does =
     → part_at v position ≡ Some part → layout_of plan.layouts t ≡ Some layout → leaf_of layout part ≡ Some leaf
     → take_link arms other (out-Value part) ≡ Some node → Does final next s w clean v leaf node
 
--- A run on a part leaves by an edge where the group of its leaf is below i, and else by a hole of the group.
+-- A run on a part leaves by an edge where the number of its leaf's group is below i, and else by a hole of the group.
 pub record WaysLead (To : ℕ → View → ℕ → Type 0) (plan : Plan) (n t : ℕ) (words : List ℕ) (spots : List Spot)
     (known : List Known) (position : List ℕ) (arms : List GraphArm) (other : Option ℕ) (groups : List (Option ℕ))
     (mid : Sheet) (holes : List Hole) (i : ℕ) (b : Sheet) (edges : List Edge) : Type 0 where
@@ -145,7 +151,8 @@ abbrev pub IsAlone : List (Option ℕ) → ℕ → Option Onward → Type 0
 IsAlone groups i None = (leaf : ℕ) → group_at groups leaf ≡ Some i → ⊥
 IsAlone groups i (Some found) = (leaf : ℕ) → group_at groups leaf ≡ Some i → (leaf ≡ i) × (found.saves ≡ true)
 
--- one more way
+-- the code from old to new makes the way of leaf i: where the ways of the groups below i stood and led on, those
+-- below i + 1 do
 pub record StepsWay (agreed : LaidOut) (t : ℕ) (words : List ℕ) (spots : List Spot) (position : Bor (List ℕ))
     (holes : List Hole) (i : ℕ) (found : Option Onward) (old : Sheet) (edges : List Edge) (new : Sheet)
     (more : List Edge) : Type 0 where
@@ -159,7 +166,7 @@ pub record StepsWay (agreed : LaidOut) (t : ℕ) (words : List ℕ) (spots : Lis
       → WaysLead (IsOnward agreed graph) plan n t words spots known position.now arms other groups mid holes (i + 1)
       new more
 
--- the ways of the groups below i
+-- in each plan of the layouts the ways of the groups below i lead on, where each leaf has the group that is given
 abbrev pub LeadsAll : LaidOut → Whole → ℕ → List ℕ → List Spot → List Known → Bor (List ℕ) → List GraphArm → Option ℕ
     → List (Option Onward) → List (Option ℕ) → ℕ → Sheet → List Hole → Sheet → List Edge → Type 0
 LeadsAll agreed graph t words spots known position arms other onward groups i old holes new edges =
@@ -167,7 +174,7 @@ LeadsAll agreed graph t words spots known position arms other onward groups i ol
     → AreSpots plan n old.slots spots → AllBelow old.slots words → length words ≡ words_of plan (Named t)
     → WaysLead (IsOnward agreed graph) plan n t words spots known position.now arms other groups old holes i new edges
 
--- and those groups are the leaves'
+-- the ways of the groups below i lead on, for groups of the leaves that follow from where their values go on
 abbrev pub LeadsSome : LaidOut → ℕ → List ℕ → List Spot → List Known → Bor (List ℕ) → List (Option Onward) → ℕ → Sheet
     → List Hole → Sheet → List Edge → Type 0
 LeadsSome agreed t words spots known position onward i old holes new edges =
@@ -175,11 +182,12 @@ LeadsSome agreed t words spots known position onward i old holes new edges =
     × ((graph : Whole) (arms : List GraphArm) (other : Option ℕ)
     → LeadsAll agreed graph t words spots known position arms other onward groups i old holes new edges)
 
--- the ways stand behind code that finds the leaf
+-- behind code that finds the leaf, and that ends at some instruction, stand the ways of the groups below i
 abbrev pub StandBehind : Sheet → List Hole → ℕ → Sheet → List Edge → Type 0
 StandBehind mid holes i b edges = (top : ℕ) × (length mid.code ≤ top) × WaysStand mid top holes i b edges
 
--- a run on a part leaves by an edge
+-- a run on a part, whose words stand in slots, leaves by an edge to a node that `To` allows for the one to which the
+-- test leads it
 pub record PartLeads (To : ℕ → View → ℕ → Type 0) (plan : Plan) (n t : ℕ) (words : List ℕ) (spots : List Spot)
     (known : List Known) (position : List ℕ) (arms : List GraphArm) (other : Option ℕ) (old new : Sheet)
     (edges : List Edge) : Type 0 where
@@ -188,7 +196,8 @@ pub record PartLeads (To : ℕ → View → ℕ → Type 0) (plan : Plan) (n t :
       (λ final next s w clean v leaf node. LeavesWhere (To node) plan final next edges n
       (choosing_look plan.layouts (Named t)) (length old.code) s w clean v spots)
 
--- the ways of all leaves of a part behind code that finds its leaf
+-- the code finds the leaf of a part, and behind it stand the ways of all leaves: each run leaves by an edge to where
+-- its leaf's values go on
 abbrev pub LeadsWays : LaidOut → ℕ → List ℕ → List Spot → List Known → Bor (List ℕ) → List (Option Onward) → Sheet
     → Sheet → List Edge → Type 0
 LeadsWays agreed t words spots known position onward old new edges =
@@ -200,7 +209,8 @@ LeadsWays agreed t words spots known position onward old new edges =
 
 -- Tests -----------------------------------------------------------------------------------------
 
--- over reads of the part that is tested, with its fields saved
+-- the code tests a part of data type t over reads of its words, and may save parts of it in spots: each run leaves by
+-- an edge to a node to which what is known leads on from the one to which the test leads the part
 abbrev pub AsksDeep : LaidOut → Whole → ℕ → List Spot → List Read → List Known → List ℕ → List GraphArm → Option ℕ
     → Sheet → Sheet → List Edge → Type 0
 AsksDeep agreed graph t spots reads known position arms other old new edges =
@@ -208,7 +218,8 @@ AsksDeep agreed graph t spots reads known position arms other old new edges =
     → length reads ≡ words_of plan (Named t)
     → AskedThere (IsOnward agreed graph) plan (Named t) n spots reads known position arms other old new edges
 
--- over reads of the whole value, of which a graph tests a part
+-- the code tests the part at a position over reads of the whole value that a graph is about: each run leaves by an
+-- edge to a node to which what is known leads on from the one to which the test leads the part
 abbrev pub Asks : LaidOut → Whole → List Read → List Spot → List Known → List ℕ → List GraphArm → Option ℕ → Sheet
     → Sheet → List Edge → Type 0
 Asks agreed graph words spots known position arms other old new edges =

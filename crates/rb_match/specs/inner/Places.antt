@@ -1,4 +1,5 @@
--- Where the words of a part of a value are, and which places are looked at.
+-- Where the words of a part of a value are, and which places are looked at. A place is the type of a part and the
+-- reads of its words; of a pattern, it is a position and the type there. A spot is slots in which a part is saved.
 use Rattle.std.specs.Prelude.{◌≡◌, ℕ, ◌≤◌, ◌++◌, ◌∷◌, [], List, take, Bool, Some, length, slice_get}
 use Rattle.std.specs.List.{flat_map}
 use Rattle.rb_core.specs.declared.value.Value.{Value}
@@ -20,11 +21,12 @@ use Rattle.rb_match.specs.Bounding.{places_in}
 use Rattle.rb_match.specs.Bounding as bounding
 use Rattle.rb_match.specs.inner.Knowing.{AreKnown, SpotsBelow, seen}
 
--- at a path of the leaf stands a field of this type
+-- the path leads to an open position of leaf number `leaf` of data type t, that is, a wildcard of its provenance, at
+-- which type ty is
 abbrev pub IsFieldOf : LaidOut → ℕ → ℕ → List ℕ → Ty → Type 0
 IsFieldOf agreed t leaf path ty = (plan : Plan) → IsPlanOf agreed plan → FieldAt plan t leaf path ty
 
--- each spot has as many slots as its type has words
+-- each of these spots has as many slots as its type has words
 abbrev pub HaveWords : Plan → List Spot → Type 0
 HaveWords plan spots = (k : ℕ) (spot : Spot) → slice_get spots k ≡ Some spot → length spot.slots ≡ words_of plan spot.ty
 
@@ -38,37 +40,37 @@ pub record ReadsPlace (plan : Plan) (ty : Ty) (words : List Read) (spots : List 
       → Rep plan m clean ty v ws → AreKnown (seen plan clean v spots s m) known
       → IsPartMeant plan clean place.ty v position place.reads s m
 
--- the place is so in each plan of the layouts
+-- in each plan of the layouts the place is where the part of the value at the position is, if these facts are known
 abbrev pub FindsPlace : LaidOut → Ty → List Read → List Spot → List Known → List ℕ → Place → Type 0
 FindsPlace agreed ty words spots known position place =
     (plan : Plan) → IsPlanOf agreed plan → length words ≡ words_of plan ty → HaveWords plan spots
     → ReadsPlace plan ty words spots known position place
 
--- from a place at so many first fields of a position
+-- the way to a part begins at a place that is that of the part at the first so many fields of the position
 abbrev pub BeginsPlace : LaidOut → Ty → List Read → List Spot → List Known → List ℕ → Begun → Type 0
 BeginsPlace agreed ty words spots known position begun =
     (begun.from ≤ length position) × FindsPlace agreed ty words spots known (take begun.from position) begun.place
 
--- one field further
+-- where `place` is that of the part at a position, `next` is that of its field with this number
 abbrev pub StepsPlace : LaidOut → Place → List Known → List ℕ → ℕ → Place → Type 0
 StepsPlace agreed place known prefix field next =
     (ty : Ty) (words : List Read) (spots : List Spot) → FindsPlace agreed ty words spots known prefix place
     → FindsPlace agreed ty words spots known (prefix ++ field ∷ []) next
 
--- the spot that a part is known to be saved in
+-- the place is that of the part at the position by spots and facts alone, whatever the reads of the whole value are
 abbrev pub IsSpotOf : LaidOut → List Spot → List Known → List ℕ → Place → Type 0
 IsSpotOf agreed spots known position place =
     (ty : Ty) (words : List Read) → FindsPlace agreed ty words spots known position place
 
--- the place is one of those
+-- the place is one of the list
 abbrev pub IsPlaceIn : bounding.Place → List bounding.Place → Type 0
 IsPlaceIn p ps = (k : ℕ) × (slice_get ps k ≡ Some p)
 
--- a pattern has a number or a constructor at the position, which has this type
+-- a pattern, taken at type t, has a number or a constructor at the position, where the type is `at`
 abbrev pub HasPlace : List DataDecl → Ty → Pat → List ℕ → Ty → Type 0
 HasPlace types t pat position at = IsPlaceIn (record { path = position; ty = at }) (places_in types pat t)
 
--- one of some patterns has one there
+-- some pattern of the list, taken at type t, has a number or a constructor at the position, where the type is `at`
 abbrev pub IsLookedAt : List DataDecl → Ty → List Pat → List ℕ → Ty → Type 0
 IsLookedAt types t pats position at =
     IsPlaceIn (record { path = position; ty = at }) (flat_map (λ pat. places_in types pat t) pats)

@@ -1,4 +1,5 @@
--- Slots in which parts of a value are saved, and code that saves them.
+-- Spots, that is, slots in which parts of a value are saved, and code that saves them. A leaf takes a subvalue apart
+-- where it has the subvalue's fields in place of its words: to save the subvalue, code rebuilds (mends) it.
 use Rattle.std.specs.Prelude.{◌≡◌, ℕ, zero, suc, ◌+◌, ◌<◌, ◌≤◌, ◌⊎◌, List, [], ◌∷◌, Bool, Option, Some, None, length, nat_eq, drop, slice_get, slice_index, ◌++◌, ◌==◌, ◌&&◌}
 use Rattle.std.specs.List.{starts_with, sum_by}
 use Rattle.rb_core.specs.declared.value.Value.{Value}
@@ -37,38 +38,39 @@ use Rattle.rb_match.specs.inner.Asking.{AreSpots, leaf_in}
 abbrev pub Anything : List ℕ → Memory → Type 0
 Anything s m = Unit {0}
 
--- so many new slots, and code that does nothing to the old ones
+-- from old to new there are `count` more slots, and code that keeps the old ones and goes on at its end
 pub record Zeroes (old new : Sheet) (count : ℕ) : Type 0 where
   pub slots : new.slots ≡ old.slots + count
   pub straight : (plan : Plan) (n : ℕ) → n ≤ old.slots → Straight plan n old new Anything Anything
   pub grows : Grows old.code new.code
 
--- new slots for each spot
+-- each spot has slots that are new from old to new, and the code between keeps the old ones
 pub record GivenSpots (plan : Plan) (old new : Sheet) (spots : List Spot) : Type 0 where
   pub are : AreSpots plan old.slots new.slots spots
   pub straight : Straight plan old.slots old new Anything Anything
 
--- in each plan of the layouts
+-- in each plan of the layouts each spot has slots that are new from old to new, and the code between keeps the old
+-- ones
 abbrev pub GivesSpots : LaidOut → Sheet → Sheet → List Spot → Type 0
 GivesSpots agreed old new spots = (plan : Plan) → IsPlanOf agreed plan → GivenSpots plan old new spots
 
--- the spot of a part of this type at the position
+-- spot number k is for the part at this position, of this type
 abbrev pub IsSpotAt : List Spot → List ℕ → Ty → ℕ → Type 0
 IsSpotAt spots position ty k =
     (spot : Spot) × (slice_get spots k ≡ Some spot) × (spot.position ≡ position) × (spot.ty ≡ ty)
 
--- the position is that of a field of the part at the other
+-- whether the first position is that of a field of the part at the second
 abbrev pub is_field : List ℕ → List ℕ → Bool
 is_field position above = (length position == length above + 1) && starts_with nat_eq position above
 
--- one of some patterns is a constructor
+-- some pattern of the list begins with a constructor
 abbrev pub HasConstructor : List Pat → Type 0
 HasConstructor subs =
     (k : ℕ) × (token : ℕ) × (c : ConRef) × (ps : List Pat) × (slice_get subs k ≡ Some (Con token c ps))
 
 -- Fields ----------------------------------------------------------------------------------------
 
--- what stands at a path of a pattern
+-- what stands at a path of a pattern; none where nothing does, or there is no pattern
 abbrev pub pattern_at : Option Pat → List ℕ → Option Pat
 pattern_at None path = None
 pattern_at (Some p) [] = Some p
@@ -83,47 +85,51 @@ provenance (Some leaf) = Some leaf.prov
 abbrev pub prov_at : List Layout → ℕ → ℕ → List ℕ → Option Pat
 prov_at layouts t leaf path = pattern_at (provenance (leaf_in (layout_of layouts t) leaf)) path
 
--- the switches that rebuild what a leaf took apart at and below a path
+-- the switches that rebuild what a leaf took apart where this part of its provenance stands, and below; none where
+-- there is no such part
 abbrev pub mend_pattern : List Layout → Option Pat → ℕ
 mend_pattern layouts None = 0
 mend_pattern layouts (Some p) = sum_by (λ (h : Head). choose_of layouts h.con.ty h.con.con) (heads_of p)
 
--- the same by the leaf and the path
+-- the switches that rebuild what leaf number `leaf` of data type t took apart at and below a path
 abbrev pub mend_at : List Layout → ℕ → ℕ → List ℕ → ℕ
 mend_at layouts t leaf path = mend_pattern layouts (prov_at layouts t leaf path)
 
--- and below it alone
+-- the switches that rebuild what a leaf took apart below where this part of its provenance stands, without what
+-- stands right there; none where there is no such part
 abbrev pub mend_inside : List Layout → Option Pat → ℕ
 mend_inside layouts None = 0
 mend_inside layouts (Some p) = sum_by (λ (h : Head). choose_of layouts h.con.ty h.con.con) (drop 1 (heads_of p))
 
--- the same by the leaf and the path
+-- the switches that rebuild what leaf number `leaf` of data type t took apart below a path, without what stands at
+-- the path itself
 abbrev pub mend_below : List Layout → ℕ → ℕ → List ℕ → ℕ
 mend_below layouts t leaf path = mend_inside layouts (prov_at layouts t leaf path)
 
--- and at and below the first so many fields of what stands there
+-- the switches that rebuild what leaf number `leaf` of data type t took apart at and below the first so many fields
+-- of what stands at a path
 abbrev pub mends_at : List Layout → ℕ → ℕ → List ℕ → ℕ → ℕ
 mends_at layouts t leaf path zero = 0
 mends_at layouts t leaf path (suc i) = mends_at layouts t leaf path i + mend_at layouts t leaf (path ++ i ∷ [])
 
--- at a path of a pattern of a type stands one of this type
+-- at a path of a pattern of type t stands a pattern of type `at`
 abbrev pub HasBelow : List DataDecl → Ty → Pat → List ℕ → Ty → Type 0
 HasBelow types t pat path at = (sub : Pat) × (found_at types (Some (pat, t)) path ≡ Some (sub, at))
 
--- at a path of the leaf's provenance
+-- at a path of the provenance of leaf number `leaf` of data type t stands a pattern of type `at`
 abbrev pub IsPositionOf : LaidOut → ℕ → ℕ → List ℕ → Ty → Type 0
 IsPositionOf agreed t leaf path at =
     (layout : Layout) × (found : Leaf) × (layout_of agreed.layouts t ≡ Some layout)
     × (slice_get layout.leaves leaf ≡ Some found)
     × HasBelow agreed.covered.program.types (Named t) found.prov path at
 
--- each value of the leaf has a part there
+-- each value of leaf number `leaf` of data type t has a part at the path
 abbrev pub HasPart : Plan → ℕ → ℕ → List ℕ → Type 0
 HasPart plan t leaf path =
     (v : Value) (layout : Layout) → layout_of plan.layouts t ≡ Some layout → leaf_of layout v ≡ Some leaf
     → (part : Value) × (part_at v path ≡ Some part)
 
--- the words in some slots represent a value of the type
+-- the words in some slots represent value v of data type t, in a good memory
 abbrev pub IsThere : Plan → Bool → ℕ → Value → List ℕ → List ℕ → Memory → Type 0
 IsThere plan clean t v words s m = IsGood m × Rep plan m clean (Named t) v (slots_at s words)
 
@@ -148,7 +154,7 @@ FetchesPart agreed t leaf path at words old new slots =
 
 -- Saving ----------------------------------------------------------------------------------------
 
--- the first n slots but for these hold what they held
+-- of the first n slots, all but `dests` hold in s' what they hold in s
 abbrev pub KeepsOthers : ℕ → List ℕ → List ℕ → List ℕ → Type 0
 KeepsOthers n dests s s' = (x : ℕ) → x < n → (IsOneOf x dests → ⊥) → slice_index s' x ≡ slice_index s x
 
@@ -171,12 +177,13 @@ SavesPart agreed t leaf path words spot old new =
     → AllBelow old.slots words → length words ≡ words_of plan (Named t)
     → PartIsSaved plan n t leaf path words spot old new
 
--- the words of a part stand in slots, and these facts hold
+-- the words of a part of data type t stand in slots, and these facts are so of the value v that it is part of
 abbrev pub IsThereWith : Plan → Bool → ℕ → Value → Value → List ℕ → List Spot → List Known → List ℕ → Memory → Type 0
 IsThereWith plan clean t v part words spots known s m =
     IsThere plan clean t part words s m × AreKnown (seen plan clean v spots s m) known
 
--- The appended code goes from some facts on a value to more, where the part at a position has this leaf.
+-- Where the part at a position has this leaf, the appended code goes from some facts on a value to more, with at most
+-- `most` switches.
 pub record Knows (plan : Plan) (n most t leaf : ℕ) (words : List ℕ) (spots : List Spot) (position : List ℕ)
     (known more : List Known) (old new : Sheet) : Type 0 where
   pub adds : Adds plan old new
@@ -185,12 +192,14 @@ pub record Knows (plan : Plan) (n most t leaf : ℕ) (words : List ℕ) (spots :
       → Piece plan n old new Nowhere most (λ s m. IsThereWith plan clean t v part words spots known s m)
       (AtEnd new (λ s m. IsThereWith plan clean t v part words spots more s m))
 
--- what the fields of some patterns cost, the first of which is field i
+-- the switches that rebuild what a leaf took apart at and below its fields that have these patterns, the first of
+-- which is field i
 abbrev pub mends_from : List Layout → ℕ → ℕ → List Pat → ℕ → ℕ
 mends_from layouts t leaf [] i = 0
 mends_from layouts t leaf (p ∷ ps) i = mend_at layouts t leaf (i ∷ []) + mends_from layouts t leaf ps (i + 1)
 
--- at most so many switches in each plan
+-- in each plan of the layouts the appended code goes from some facts on a value to more, with at most `most`
+-- switches, where the part at the position has this leaf of data type t
 abbrev pub Learns : LaidOut → (Plan → ℕ) → ℕ → ℕ → List ℕ → List Spot → List ℕ → List Known → List Known → Sheet → Sheet
     → Type 0
 Learns agreed most t leaf words spots position known more old new =
@@ -198,25 +207,30 @@ Learns agreed most t leaf words spots position known more old new =
     → length words ≡ words_of plan (Named t)
     → Knows plan n (most plan) t leaf words spots position known more old new
 
--- of a part, as many as a leaf and a path in it say
+-- the appended code goes from some facts to more on the part that a source tells of, with at most as many switches as
+-- `most` says for the part's type and leaf
 abbrev pub LearnsOf : LaidOut → (List Layout → ℕ → ℕ → ℕ) → Source → List Known → List Known → Sheet → Sheet → Type 0
 LearnsOf agreed most source =
     Learns agreed (λ plan. most plan.layouts source.ty source.leaf) source.ty source.leaf source.words.now
     source.spots.now source.position.now
 
--- what stands at a path of the leaf
+-- the appended code goes to more facts by saving what stands at and below a path of the source's leaf, with at most
+-- the switches that rebuild it
 abbrev pub SavesAt : LaidOut → Source → List ℕ → List Known → List Known → Sheet → Sheet → Type 0
 SavesAt agreed source path = LearnsOf agreed (λ layouts t leaf. mend_at layouts t leaf path) source
 
--- what stands below it
+-- the appended code goes to more facts by saving what stands below a path of the source's leaf, with at most the
+-- switches that rebuild that, and not what stands at the path itself
 abbrev pub SavesBelow : LaidOut → Source → List ℕ → List Known → List Known → Sheet → Sheet → Type 0
 SavesBelow agreed source path = LearnsOf agreed (λ layouts t leaf. mend_below layouts t leaf path) source
 
--- in the first so many fields
+-- the appended code goes to more facts by saving what stands at and below the first i fields of what stands at a path
+-- of the source's leaf, with at most the switches that rebuild it
 abbrev pub SavesSome : LaidOut → Source → List ℕ → ℕ → List Known → List Known → Sheet → Sheet → Type 0
 SavesSome agreed source path i = LearnsOf agreed (λ layouts t leaf. mends_at layouts t leaf path i) source
 
--- of a part, with at most as many switches as rebuild what its leaf took apart
+-- the appended code goes to more facts by saving fields of a part that has this leaf of data type t, with at most the
+-- switches that rebuild what a leaf of the type took apart
 abbrev pub SavesFields : LaidOut → ℕ → ℕ → List ℕ → List Spot → List ℕ → List Known → List Known → Sheet → Sheet
     → Type 0
 SavesFields agreed t leaf words spots position =

@@ -1,4 +1,5 @@
--- Tests that what is known decides: an edge to such a test leads on to the node of its arm.
+-- Tests that what is known decides: an edge to such a test leads on to the node of its arm. An edge is an open target
+-- of the code, for the node to which it is to lead, with what is known of the value there.
 use Rattle.std.specs.Prelude.{◌≡◌, ℕ, ◌+◌, ◌≤◌, List, [], ◌∷◌, Bool, Option, Some, true, slice_get}
 use Rattle.rb_core.specs.declared.value.Value.{Value, out-Value}
 use Rattle.rb_core.specs.declared.value.Value.TheOpen as V
@@ -30,29 +31,29 @@ use Rattle.rb_match.specs.inner.Flowing.{IsOn, job_of, looks, tree_at}
 
 -- What facts tell -------------------------------------------------------------------------------
 
--- the pattern matches the part of a value at the position
+-- value v has a part at the position, and pattern `sub` matches it
 abbrev pub MatchesAt : Value → List ℕ → Pat → Type 0
 MatchesAt v position sub = (part : Value) × (part_at v position ≡ Some part) × (matches_of sub part ≡ true)
 
--- that of each value which another pattern matches
+-- each value that pattern `pat` matches has at the position a part that pattern `sub` matches
 abbrev pub HasSub : Pat → List ℕ → Pat → Type 0
 HasSub pat position sub = (v : Value) → matches_of pat v ≡ true → MatchesAt v position sub
 
--- that of each value of which the fact is known
+-- each value of which the fact is known has at the position a part that pattern `sub` matches
 abbrev pub Tells : LaidOut → Known → List ℕ → Pat → Type 0
 Tells agreed fact position sub =
     (at : View) → IsPlanOf agreed at.plan → IsKnown at fact → MatchesAt at.value position sub
 
--- or some facts are
+-- each value of which all these facts are known has at the position a part that pattern `sub` matches
 abbrev pub TellTogether : LaidOut → List Known → List ℕ → Pat → Type 0
 TellTogether agreed known position sub =
     (at : View) → IsPlanOf agreed at.plan → AreKnown at known → MatchesAt at.value position sub
 
--- each value that the pattern matches begins with the constructor
+-- each value that the pattern matches begins with constructor number c
 abbrev pub BeginsWith : Pat → ℕ → Type 0
 BeginsWith pat c = (v : Value) → matches_of pat v ≡ true → (us : List Value) × (out-Value v ≡ V.Con c us)
 
--- what is known leads from a test at a place that some pattern looks at to this node
+-- what is known decides a test at a position that some pattern looks at: it leads to this node whatever the value
 pub record IsDecided (agreed : LaidOut) (ty : Ty) (pats : List Pat) (known : List Known) (position : List ℕ)
     (arms : List GraphArm) (other : Option ℕ) (node : ℕ) : Type 0 where
   pub at : Ty
@@ -62,23 +63,23 @@ pub record IsDecided (agreed : LaidOut) (ty : Ty) (pats : List Pat) (known : Lis
 
 -- Leaves that facts show ------------------------------------------------------------------------
 
--- a pattern that matches all values
+-- the pattern matches all values
 abbrev pub IsWild : Pat → Type 0
 IsWild p = (v : Value) → matches_of p v ≡ true
 
--- each of some patterns matches all values
+-- each pattern of the list matches all values
 abbrev pub AreWild : List Pat → Type 0
 AreWild pats = (n : ℕ) (p : Pat) → slice_get pats n ≡ Some p → IsWild p
 
--- a pattern matches all values that another does
+-- pattern p matches all values that pattern q does
 abbrev pub Covers : Pat → Pat → Type 0
 Covers p q = (v : Value) → matches_of q v ≡ true → matches_of p v ≡ true
 
--- all values that the pattern matches have this one of some leaves
+-- each value that the pattern matches has the leaf with this number among some leaves
 abbrev pub IsFirst : List Leaf → Pat → ℕ → Type 0
 IsFirst leaves pat leaf = (v : Value) → matches_of pat v ≡ true → leaf_from leaves v 0 ≡ Some leaf
 
--- this one of the type's leaves
+-- each value that the pattern matches has leaf number `leaf` of data type t
 abbrev pub IsLeafOfAll : LaidOut → ℕ → Pat → ℕ → Type 0
 IsLeafOfAll agreed t pat leaf =
     (layout : Layout) × (layout_of agreed.layouts t ≡ Some layout) × IsFirst layout.leaves pat leaf
@@ -88,11 +89,11 @@ abbrev pub IsAtLeaf : LaidOut → Pat → List ℕ → Known → Type 0
 IsAtLeaf agreed pat position fact =
     (at : View) → IsPlanOf agreed at.plan → MatchesAt at.value position pat → IsKnown at fact
 
--- a fact is known where some others are
+-- the fact is known wherever all facts of the list are
 abbrev pub ShowTogether : LaidOut → List Known → Known → Type 0
 ShowTogether agreed known fact = (at : View) → IsPlanOf agreed at.plan → AreKnown at known → IsKnown at fact
 
--- and each of some facts is
+-- all facts of the list `more` are known wherever all of the list `known` are
 abbrev pub AllFollow : LaidOut → List Known → List Known → Type 0
 AllFollow agreed known more = (at : View) → IsPlanOf agreed at.plan → AreKnown at known → AreKnown at more
 
@@ -108,7 +109,8 @@ LeadsOn agreed ty pats nodes known n m =
     → AreKnown (seen plan clean v spots s w) known → taken (tree_at nodes root) v ≡ Some clause → IsOn job v n path
     → (longer : List Place) × (looks plan path ≤ looks plan longer) × IsOn job v m longer
 
--- an edge that is open where the old one was, to a node to which that leads on
+-- the new edge is open where the old one was, to a node to which the old one's leads on, and carries only what
+-- follows from what the old one carried
 pub record IsThreaded (agreed : LaidOut) (ty : Ty) (pats : List Pat) (nodes : List GraphNode)
     (old new : Edge) : Type 0 where
   pub pc : new.hole.pc ≡ old.hole.pc
@@ -116,7 +118,7 @@ pub record IsThreaded (agreed : LaidOut) (ty : Ty) (pats : List Pat) (nodes : Li
   pub known : AllFollow agreed old.known new.known
   pub leads : LeadsOn agreed ty pats nodes old.known old.hole.leaf new.hole.leaf
 
--- each edge, in their order
+-- each of the new edges is the old one in its place, led on; there are as many of them
 abbrev pub AreThreaded : LaidOut → Ty → List Pat → List GraphNode → List Edge → List Edge → Type 0
 AreThreaded agreed ty pats nodes [] [] = Unit {0}
 AreThreaded agreed ty pats nodes [] (f ∷ fs) = ⊥

@@ -25,7 +25,7 @@ use Rattle.rb_match.specs.Bounding.{Place}
 use Rattle.rb_match.specs.inner.Places.{IsLookedAt, IsPlaceIn}
 use Rattle.rb_match.specs.inner.Flowing.{HasWay, path_of, looks}
 
--- the run leaves by a hole of the clause, after looks at the places of one way of the tree
+-- the run leaves by a hole of clause k, after looks at the places of one way through the tree
 pub record LeavesTree (plan : Plan) (ty : Ty) (pats : List Pat) (tree : Tree) (final : List Instr) (next : Next)
     (holes : List Hole) (n start : ℕ) (s : List ℕ) (w : World) (k : ℕ) : Type 0 where
   pub path : List Place
@@ -33,7 +33,7 @@ pub record LeavesTree (plan : Plan) (ty : Ty) (pats : List Pat) (tree : Tree) (f
   pub looked : (p : Place) → IsPlaceIn p path → IsLookedAt plan.program.types ty pats p.path p.ty
   pub leaves : Leaves final next holes n (looks plan path) start s w k (λ s' m. Unit {0})
 
--- the code of a tree leads each value out by a hole of the clause that the tree takes
+-- the code of a tree leads each value out by a hole of the clause that the tree takes of it
 pub record TreeTakes (plan : Plan) (ty : Ty) (words : List Read) (pats : List Pat) (tree : Tree) (old new : Sheet)
     (holes : List Hole) : Type 0 where
   pub adds : Adds plan old new
@@ -43,13 +43,15 @@ pub record TreeTakes (plan : Plan) (ty : Ty) (words : List Read) (pats : List Pa
       → IsGood w.memory → AreMeant words s w.memory ws → Rep plan w.memory clean ty v ws
       → taken tree v ≡ Some k → LeavesTree plan ty pats tree final next holes old.slots (length old.code) s w k
 
--- in each plan of the layouts, over reads of the value's words
+-- in each plan of the layouts the code from old to new, over reads of the value's words, leads each value out by a
+-- hole of the clause that the tree takes of it
 abbrev pub TakesTree : LaidOut → Ty → List Read → List Pat → Tree → Sheet → Sheet → List Hole → Type 0
 TakesTree agreed ty words pats tree old new holes =
     (plan : Plan) → IsPlanOf agreed plan → ((k : ℕ) → old.slots ≤ k → AllFit k words) → length words ≡ words_of plan ty
     → TreeTakes plan ty words pats tree old new holes
 
--- the same of a graph, whatever tree it unfolds to
+-- the code from old to new leads each value out by a hole of the clause that the tree takes to which the graph
+-- unfolds, whatever tree that is
 abbrev pub TakesShared : LaidOut → Ty → List Read → List Pat → Graph → Sheet → Sheet → List Hole → Type 0
 TakesShared agreed ty words pats graph old new holes =
     (tree : Tree) → unfolding_of graph ≡ Some tree → LinksAreLower graph.nodes

@@ -14,25 +14,26 @@ use Rattle.rb_names.specs.Completing.{AreDerived, IsDerived, first_refusal, layo
 abbrev pub MeanTheSame : {A : Type 0} → Table A → Table A → Type 0
 MeanTheSame t u = (name : Name) → meaning t name ≡ meaning u name
 
+-- the first refusal of two that may be there: the earlier one, or else the later one, or else none
 abbrev pub first_of : Option AutoFault → Option AutoFault → Option AutoFault
 first_of None later = later
 first_of (Some fault) later = Some fault
 
--- one more answer is counted in
+-- after is before with the answer for type t counted in: its layout at the end, or its refusal, where it is the first
 pub record IsNext (p : Program) (kinds : List (Option Auto)) (t : ℕ) (before after : Derived) : Type 0 where
   pub answer : Derives
   pub is_derived : IsDerived p kinds t answer
   pub layouts : after.layouts ≡ before.layouts ++ layouts_in (answer ∷ [])
   pub refused : after.refused ≡ first_of before.refused (first_refusal (answer ∷ []))
 
--- the layouts that are derived for these types, and the first refusal
+-- d has the layouts that are derived for these types, in their order, and the first refusal
 pub record IsAllDerived (p : Program) (kinds : List (Option Auto)) (ts : List ℕ) (d : Derived) : Type 0 where
   pub answers : List Derives
   pub are_derived : AreDerived p kinds ts answers
   pub layouts : d.layouts ≡ layouts_in answers
   pub refused : d.refused ≡ first_refusal answers
 
--- the program with these layouts behind its own, and the refusal
+-- c has the program p with the derived layouts behind its own, and the refusal of d
 pub record IsWith (p : Program) (d : Derived) (c : Completed) : Type 0 where
   pub program : c.program ≡ completed p d.layouts
   pub refused : c.refused ≡ d.refused

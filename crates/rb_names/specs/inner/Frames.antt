@@ -9,14 +9,17 @@ use Rattle.rb_names.specs.Scopes.{Scope}
 abbrev pub scope_of : List (Table ℕ) → Scope
 scope_of = flat_map reverse
 
--- one more name: it is bound in the frame, or gets the next number
+-- a frame after a name is bound, given the name's number in it so far: it stays where there is one, and else the name
+-- gets the next number
 abbrev pub bound : Frame → Name → Option ℕ → Frame
 bound f name (Some before) = f
 bound f name None = record { binders = f.binders ++ (name, f.next) ∷ []; next = suc f.next }
 
+-- a frame after one more name is bound: it stays where the name is bound in it; else the name gets the next number
 abbrev pub with_binder : Frame → Name → Frame
 with_binder f name = bound f name (meaning f.binders name)
 
+-- a frame after these names are bound, one after the other, each that is new in it with the next number
 abbrev pub with_binders : Frame → List Name → Frame
 with_binders f [] = f
 with_binders f (x ∷ xs) = with_binders (with_binder f x) xs

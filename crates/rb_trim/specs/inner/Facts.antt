@@ -1,4 +1,5 @@
--- What facts say, what instructions do to slots and memory, and which facts hold behind them.
+-- What facts say, what instructions do to slots and memory, and which facts hold behind them. A fact says of a slot
+-- what it holds, its content: a number, another slot's word or bits of it, or what an operation or a load gives.
 use Rattle.std.specs.Prelude.{◌≡◌, ℕ, ◌%◌, ◌^◌, ◌≤◌, List, length, slice_index, slice_set, Option, IfSome, Ok, Contains}
 use Rattle.rb_bits.specs.Words.{take_of, put_of}
 use Rattle.rb_bytes.specs.Memory.{Memory, load_of}
@@ -10,6 +11,7 @@ use Rattle.rb_trim.specs.declared.fact.Content.{Content}
 use Rattle.rb_trim.specs.declared.fact.Content.TheVariants.{Number, Same, Part, Computed, Loaded}
 use Rattle.rb_trim.specs.declared.fact.Fact.{Fact}
 
+-- the word x is the content, where the slots hold s and the memory is m; a load that goes astray gives none
 abbrev pub IsContent : List ℕ → Memory → Content → ℕ → Type 0
 IsContent s m (Number c) x = x ≡ c
 IsContent s m (Same a) x = x ≡ slice_index s a
@@ -17,10 +19,11 @@ IsContent s m (Part a o l) x = x ≡ take_of (slice_index s a) o l
 IsContent s m (Computed op n a b) x = x ≡ alu_of op n (slice_index s a) (slice_index s b)
 IsContent s m (Loaded a offset width) x = load_of m (slice_index s a) offset width ≡ Ok x
 
+-- the fact holds: its slot has its content, where the slots hold s and the memory is m
 abbrev pub IsSo : List ℕ → Memory → Fact → Type 0
 IsSo s m fact = IsContent s m fact.content (slice_index s fact.slot)
 
--- all of them hold
+-- all the facts hold, where the slots hold s and the memory is m
 abbrev pub Hold : List ℕ → Memory → List Fact → Type 0
 Hold s m facts = (fact : Fact) → Contains facts fact → IsSo s m fact
 
@@ -45,7 +48,8 @@ Turns (Switch a other arms) s m s' m' = (s' ≡ s) × (m' ≡ m)
 Turns (Call f ds froms) s m s' m' = (words : List ℕ) × (s' ≡ put_slots s ds words)
 Turns (Return froms) s m s' m' = ⊥
 
--- behind the instruction these facts hold, where those hold before it, by a way that tells this
+-- behind the instruction the facts `behind` hold, where `facts` hold before it and the way by which the run goes on
+-- tells `told`
 pub record Follows (facts : List Fact) (told : Option Fact) (i : Instr) (behind : List Fact) : Type 0 where
   pub by : (slots : ℕ) (s s' : List ℕ) (m m' : Memory) → slots ≤ length s → SlotsFit slots i → Hold s m facts
       → Says told s m

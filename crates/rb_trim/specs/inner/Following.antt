@@ -14,7 +14,7 @@ use Rattle.rb_trim.specs.inner.Facts.{IsContent, IsSo, Hold, Says, Turns}
 abbrev pub AreSame : List Fact → ℕ → ℕ → Type 0
 AreSame facts a b = (s : List ℕ) (m : Memory) → Hold s m facts → slice_index s b ≡ slice_index s a
 
--- what is the one content is the other
+-- a word that is the content a is the content b, too, where the facts hold
 pub record IsAsMuch (facts : List Fact) (a b : Content) : Type 0 where
   pub by : (s : List ℕ) (m : Memory) (x : ℕ) → Hold s m facts → IsContent s m a x → IsContent s m b x
 
@@ -30,7 +30,8 @@ IsBelow content l = (s : List ℕ) (m : Memory) (x : ℕ) → IsContent s m cont
 abbrev pub IsNarrow : List Fact → ℕ → ℕ → Type 0
 IsNarrow facts slot l = (s : List ℕ) (m : Memory) → Hold s m facts → slice_index s slot < 2 ^ l
 
--- what bits put into a slot make of it where the facts hold
+-- the content is what becomes of the word in `slot` when the low l bits of slot a are put into it from bit o on,
+-- where the facts hold
 pub record IsLaid (facts : List Fact) (slot a o l : ℕ) (content : Content) : Type 0 where
   pub by : (s : List ℕ) (m : Memory) → Hold s m facts
       → IsContent s m content (put_of (slice_index s slot) o l (slice_index s a % 2 ^ l))
@@ -39,7 +40,8 @@ pub record IsLaid (facts : List Fact) (slot a o l : ℕ) (content : Content) : T
 pub record IsLoaded (facts : List Fact) (base offset width : ℕ) : Type 0 where
   pub by : (s : List ℕ) (m : Memory) → Hold s m facts → (x : ℕ) × (load_of m (slice_index s base) offset width ≡ Ok x)
 
--- what a slot holds, by the instruction that writes it
+-- the fact that an instruction makes of the slot that it writes, told by the slots before it; None for a put, and for
+-- what places or stores, jumps, switches, calls or returns
 abbrev pub made_of : Instr → Option Fact
 made_of (Const d c) = Some (record { slot = d; content = Number c })
 made_of (Copy d a) = Some (record { slot = d; content = Same a })
@@ -48,7 +50,7 @@ made_of (Take d a o l) = Some (record { slot = d; content = Part a o l })
 made_of (Load d a offset width) = Some (record { slot = d; content = Loaded a offset width })
 made_of i = None
 
--- the slot tells the content
+-- the content is told by the slot k
 abbrev pub IsToldBy : Content → ℕ → Type 0
 IsToldBy (Number c) k = ⊥
 IsToldBy (Same a) k = a ≡ k
@@ -56,7 +58,7 @@ IsToldBy (Part a o l) k = a ≡ k
 IsToldBy (Computed op n a b) k = (a ≡ k) ⊎ (b ≡ k)
 IsToldBy (Loaded a offset width) k = a ≡ k
 
--- the instruction writes to the slot
+-- the instruction writes to the slot k
 abbrev pub WritesTo : Instr → ℕ → Type 0
 WritesTo (Const d c) k = d ≡ k
 WritesTo (Copy d a) k = d ≡ k
@@ -71,7 +73,7 @@ WritesTo (Switch a other arms) k = ⊥
 WritesTo (Call f ds froms) k = Contains ds k
 WritesTo (Return froms) k = ⊥
 
--- the instruction writes to the slot, and to no other
+-- the instruction, which is no call, writes to the slot k, and to no other
 abbrev pub Sets : Instr → ℕ → Type 0
 Sets (Const d c) k = d ≡ k
 Sets (Copy d a) k = d ≡ k
@@ -82,7 +84,7 @@ Sets (Load d a offset width) k = d ≡ k
 Sets (Place d size align) k = d ≡ k
 Sets i k = ⊥
 
--- one slot gets a word that is the content, and memory stays
+-- the slots s' are s with a word in the fact's slot that was its content before, and memory stays
 pub record Made (fact : Fact) (slots : ℕ) (s s' : List ℕ) (m m' : Memory) : Type 0 where
   pub word : ℕ
   pub is : IsContent s m fact.content word
@@ -90,7 +92,7 @@ pub record Made (fact : Fact) (slots : ℕ) (s s' : List ℕ) (m m' : Memory) : 
   pub memory : m' ≡ m
   pub within : fact.slot < slots
 
--- what the instruction makes, where the facts hold
+-- the instruction, where the facts hold, puts the fact's content into the fact's slot, and changes nothing else
 pub record IsTold (facts : List Fact) (i : Instr) (fact : Fact) : Type 0 where
   pub sets : Sets i fact.slot
   pub by : (slots : ℕ) (s s' : List ℕ) (m m' : Memory) → SlotsFit slots i → Hold s m facts → Turns i s m s' m'
@@ -103,7 +105,7 @@ Changes (Place d size align) = Unit {0}
 Changes (Call f ds froms) = Unit {0}
 Changes i = ⊥
 
--- the content is the same behind the instruction
+-- the instruction changes nothing that the content is told by
 abbrev pub Keeps : Instr → Content → Type 0
 Keeps i (Number c) = Unit {0}
 Keeps i (Same a) = ¬ WritesTo i a
@@ -111,18 +113,19 @@ Keeps i (Part a o l) = ¬ WritesTo i a
 Keeps i (Computed op n a b) = (¬ WritesTo i a) × (¬ WritesTo i b)
 Keeps i (Loaded a offset width) = (¬ WritesTo i a) × (¬ Changes i)
 
--- one fact holds behind the instruction
+-- one fact holds behind the instruction, where the facts hold before it
 pub record FollowsOne (facts : List Fact) (i : Instr) (fact : Fact) : Type 0 where
   pub by : (slots : ℕ) (s s' : List ℕ) (m m' : Memory) → slots ≤ length s → SlotsFit slots i → Hold s m facts
       → Turns i s m s' m'
       → IsSo s' m' fact
 
--- one fact holds behind the instruction, by a way that tells this
+-- one fact holds behind the instruction, where the facts hold before it and the way by which the run goes on tells
+-- `told`
 pub record HoldsBehind (facts : List Fact) (told : Option Fact) (i : Instr) (fact : Fact) : Type 0 where
   pub by : (slots : ℕ) (s s' : List ℕ) (m m' : Memory) → slots ≤ length s → SlotsFit slots i → Hold s m facts
       → Says told s m
       → Turns i s m s' m' → IsSo s' m' fact
 
--- the fact with this number holds behind the instruction
+-- the fact with number k among `behind`, if there is one, holds behind the instruction as in `HoldsBehind`
 pub record FollowsAt (facts : List Fact) (told : Option Fact) (i : Instr) (behind : List Fact) (k : ℕ) : Type 0 where
   pub at : (fact : Fact) → slice_get behind k ≡ Some fact → HoldsBehind facts told i fact

@@ -1,4 +1,5 @@
--- When the instructions of a shorter body stand for those of a body.
+-- When the instructions of a shorter body stand for those of a body. Hints tell how: the place of an instruction is
+-- its number in the shorter body, its end is where a run goes on that jumps to it; a slot's name is its new number.
 use Rattle.std.specs.Prelude.{◌≡◌, ℕ, ◌+◌, ◌<◌, ◌≤◌, ◌⊎◌, List, [], ◌∷◌, ◌++◌, map, Option, Some, None, All, IfSome, Contains, slice_get, slice_index}
 use Rattle.rb_bytes.specs.Memory.{Memory}
 use Rattle.rb_target.specs.declared.instr.SwitchArm.{SwitchArm}
@@ -15,41 +16,45 @@ use Rattle.rb_trim.specs.declared.fact.Content.TheVariants.{Number, Same, Part, 
 use Rattle.rb_trim.specs.inner.Facts.{Hold, Follows}
 use Rattle.rb_trim.specs.inner.Following.{IsLoaded, IsTold, Sets}
 
+-- the facts that are given, or none if none are
 abbrev pub facts_in : Option (List Fact) → List Fact
 facts_in None = []
 facts_in (Some facts) = facts
 
--- what is known before an instruction
+-- what is known before instruction pc; nothing past the end
 abbrev pub facts_at : Hints → ℕ → List Fact
 facts_at h pc = facts_in (slice_get h.facts pc)
 
+-- the slots that are given, or none if none are
 abbrev pub slots_in : Option (List ℕ) → List ℕ
 slots_in None = []
 slots_in (Some slots) = slots
 
--- slots that no way from an instruction on reads
+-- some slots that no way from instruction pc on reads; none past the end
 abbrev pub dead_at : Hints → ℕ → List ℕ
 dead_at h pc = slots_in (slice_get h.dead pc)
 
+-- the number in the new body of instruction pc, or, if it is left out, of the next one that stays
 abbrev pub place : Hints → ℕ → ℕ
 place h pc = slice_index h.places pc
 
--- where a run goes on that jumps to an instruction
+-- the instruction at which a run goes on that jumps to instruction pc
 abbrev pub end : Hints → ℕ → ℕ
 end h pc = slice_index h.ends pc
 
+-- the number in the new body at which a run goes on that jumps to instruction pc
 abbrev pub landing : Hints → ℕ → ℕ
 landing h pc = place h (end h pc)
 
--- a run may come to an instruction
+-- a run may come to instruction pc
 abbrev pub IsReached : Hints → ℕ → Type 0
 IsReached h pc = 0 < slice_index h.reached pc
 
--- an instruction stands for no other one behind it
+-- what stands for instruction pc stands for no other one behind it
 abbrev pub IsPlain : Hints → ℕ → Type 0
 IsPlain h pc = slice_index h.given pc ≡ 0
 
--- some instruction reads a slot
+-- some instruction reads the slot k
 abbrev pub IsEverRead : Hints → ℕ → Type 0
 IsEverRead h k = 0 < slice_index h.reads k
 
@@ -57,7 +62,7 @@ IsEverRead h k = 0 < slice_index h.reads k
 abbrev pub IsRead : Hints → ℕ → ℕ → Type 0
 IsRead h pc k = (pc < slice_index h.reads k) × (¬ Contains (dead_at h pc) k)
 
--- no instruction from here on reads a slot
+-- no instruction from pc on that a run comes to reads the slot k
 pub record IsUnread (h : Hints) (pc k : ℕ) : Type 0 where
   pub by : ¬ IsRead h pc k
 
@@ -65,48 +70,56 @@ pub record IsUnread (h : Hints) (pc k : ℕ) : Type 0 where
 abbrev pub Agree : Hints → ℕ → List ℕ → List ℕ → Type 0
 Agree h pc s s' = (k : ℕ) → IsRead h pc k → slice_index s' (slice_index h.names k) ≡ slice_index s k
 
--- a slot that is read has a new number of its own
+-- the slot k, if it is read, has a new number of its own
 abbrev pub IsApart : Hints → ℕ → Type 0
 IsApart h k = IsEverRead h k → slice_index h.origins (slice_index h.names k) ≡ k
 
+-- each slot that is read has a new number of its own
 abbrev pub AreApart : Hints → Type 0
 AreApart h = (k : ℕ) → IsApart h k
 
--- parameters keep their numbers, and no other slot that is read has one of theirs
+-- the slot k, if it is read, keeps its number where it is a parameter, and has none of a parameter where it is none
 abbrev pub KeepsParam : Hints → ℕ → ℕ → Type 0
 KeepsParam h params k =
     IsEverRead h k → ((k < params) × (slice_index h.names k ≡ k)) ⊎ ((params ≤ k) × (params ≤ slice_index h.names k))
 
+-- all parameters that are read keep their numbers, and no other slot that is read has one of theirs
 abbrev pub KeepParams : Hints → ℕ → Type 0
 KeepParams h params = (k : ℕ) → KeepsParam h params k
 
--- a new number that a slot is written under, and one that holds what a slot holds
+-- d' is the new number of the slot d, and d the slot that has it, so that what is written to d may be written to d'
 abbrev pub IsDest : Hints → ℕ → ℕ → Type 0
 IsDest h d d' = (d' ≡ slice_index h.names d) × (slice_index h.origins d' ≡ d)
 
+-- the slot a' holds in the new body what the slot a holds in the old one, before instruction pc and where the facts
+-- hold, so that it may be read instead
 pub record IsName (h : Hints) (facts : List Fact) (pc a a' : ℕ) : Type 0 where
   pub same : (s s' : List ℕ) (m : Memory) → Agree h pc s s' → Hold s m facts → slice_index s' a' ≡ slice_index s a
 
+-- the second slots are the new numbers of the first ones, as many and in the same order, as `IsDest` says
 abbrev pub AreDests : Hints → List ℕ → List ℕ → Type 0
 AreDests h [] [] = Unit {0}
 AreDests h [] (d' ∷ ds') = ⊥
 AreDests h (d ∷ ds) [] = ⊥
 AreDests h (d ∷ ds) (d' ∷ ds') = IsDest h d d' × AreDests h ds ds'
 
+-- the second slots may be read instead of the first ones, as many and in the same order, as `IsName` says
 abbrev pub AreNames : Hints → List Fact → ℕ → List ℕ → List ℕ → Type 0
 AreNames h facts pc [] [] = Unit {0}
 AreNames h facts pc [] (a' ∷ xs') = ⊥
 AreNames h facts pc (a ∷ xs) [] = ⊥
 AreNames h facts pc (a ∷ xs) (a' ∷ xs') = IsName h facts pc a a' × AreNames h facts pc xs xs'
 
+-- the number in the new body at which a run goes on that jumps to a target, if there is one
 abbrev pub landing_in : Hints → Option ℕ → Option ℕ
 landing_in h None = None
 landing_in h (Some t) = Some (landing h t)
 
+-- an arm of a switch with its target in the new body
 abbrev pub moved_arm : Hints → SwitchArm → SwitchArm
 moved_arm h arm = record arm { target = landing h arm.target }
 
--- the new instruction that makes a content
+-- the new instruction puts the content into the new slot d'; none does so with a loaded word
 abbrev pub Makes : Hints → List Fact → ℕ → Content → ℕ → Instr → Type 0
 Makes h facts pc (Number c) d' j = j ≡ Const d' c
 Makes h facts pc (Same a) d' j = (a' : ℕ) × (j ≡ Copy d' a') × IsName h facts pc a a'
@@ -115,6 +128,7 @@ Makes h facts pc (Computed op n a b) d' j =
     (a' b' : ℕ) × (j ≡ Alu op n d' a' b') × IsName h facts pc a a' × IsName h facts pc b b'
 Makes h facts pc (Loaded a offset width) d' j = ⊥
 
+-- the new instruction puts the fact's content into its slot, under new numbers
 abbrev pub IsWrite : Hints → List Fact → ℕ → Fact → Instr → Type 0
 IsWrite h facts pc fact j = (d' : ℕ) × IsDest h fact.slot d' × Makes h facts pc fact.content d' j
 
@@ -122,6 +136,7 @@ IsWrite h facts pc fact j = (d' : ℕ) × IsDest h fact.slot d' × Makes h facts
 abbrev pub IsRemade : Hints → List Fact → ℕ → Instr → Instr → Type 0
 IsRemade h facts pc i j = (fact : Fact) × IsTold facts i fact × IsWrite h facts pc fact j
 
+-- the new instruction puts the low l bits of slot a into slot d from bit o on, under new numbers: d is read, too
 abbrev pub IsPut : Hints → List Fact → ℕ → ℕ → ℕ → ℕ → ℕ → Instr → Type 0
 IsPut h facts pc d a o l j =
     (d' a' : ℕ) × (j ≡ Put d' a' o l) × IsDest h d d' × IsName h facts pc d d' × IsName h facts pc a a'
@@ -162,16 +177,18 @@ IsIdle h facts pc (Put d a o l) = IsUnread h (pc + 1) d
 IsIdle h facts pc (Load d a offset width) = IsUnread h (pc + 1) d × IsLoaded facts a offset width
 IsIdle h facts pc i = ⊥
 
--- an instruction is idle, or jumps over nothing
+-- instruction pc may be left out: it is idle, or jumps over nothing
 abbrev pub IsLeftOut : Hints → ℕ → Instr → Type 0
 IsLeftOut h pc (Jump t) = landing h t ≡ place h pc
 IsLeftOut h pc i = IsIdle h (facts_at h pc) pc i
 
--- a run that jumps to an instruction goes on there, or where it goes on from the next one
+-- a run that jumps to instruction pc goes on at another one: where the jump leads that stands there, or where a run
+-- goes on that jumps to the next one, if the instruction is idle
 abbrev pub EndsOn : Hints → ℕ → Instr → Type 0
 EndsOn h pc (Jump t) = end h pc ≡ end h t
 EndsOn h pc i = (end h pc ≡ end h (pc + 1)) × IsIdle h (facts_at h pc) pc i
 
+-- a run that jumps to instruction pc goes on there, or at another one for a reason that `EndsOn` tells
 abbrev pub EndsWell : Hints → ℕ → Instr → Type 0
 EndsWell h pc i = (end h pc ≡ pc) ⊎ EndsOn h pc i
 
@@ -183,22 +200,24 @@ pub record LivesOn (h : Hints) (pc : ℕ) (i : Instr) (t : ℕ) : Type 0 where
 abbrev pub tells : ℕ → ℕ → Option Fact
 tells a number = Some (record { slot = a; content = Number number })
 
--- what is said of a place holds behind an instruction, by a way that tells this
+-- what the hints say of place t holds behind instruction pc: which slots are read from there on, and which facts
+-- hold, where the way tells `told`
 pub record GoesOn (h : Hints) (pc : ℕ) (i : Instr) (told : Option Fact) (t : ℕ) : Type 0 where
   pub lives : LivesOn h pc i t
   pub follows : Follows (facts_at h pc) told i (facts_at h t)
 
--- the instruction behind may come next
+-- a run may go on from instruction pc to the next one, t: what the hints say of t holds there
 pub record FallsOn (h : Hints) (pc : ℕ) (i : Instr) (t : ℕ) : Type 0 where
   pub on : GoesOn h pc i None t
   pub comes : IsPlain h pc → IsReached h pc → IsReached h t
 
--- a way that tells this may lead to a target
+-- a run may jump from instruction pc to t by a way that tells `told`: what the hints say of t holds there
 pub record JumpsOn (h : Hints) (pc : ℕ) (i : Instr) (told : Option Fact) (t : ℕ) : Type 0 where
   pub on : GoesOn h pc i told t
   pub comes : IsPlain h pc → IsReached h pc → IsReached h (end h t)
 
--- the instruction behind is so where the run goes on there, and so is each target where it jumps
+-- F holds of the next instruction's number, where the run goes on there, and J of each target to which it may jump,
+-- with what the way to it tells; nothing is said behind a return
 abbrev pub Leads : (ℕ → Type 0) → (Option Fact → ℕ → Type 0) → Instr → ℕ → Type 0
 Leads F J (Jump t) pc = J None t
 Leads F J (Switch a other arms) pc =
@@ -206,7 +225,7 @@ Leads F J (Switch a other arms) pc =
 Leads F J (Return froms) pc = Unit {0}
 Leads F J i pc = F (pc + 1)
 
--- an instruction copies a slot, which no instruction behind it reads
+-- the instruction with number `at` copies the word of `slot` to slot `to`, and none behind it reads `slot`
 pub record IsCopied (h : Hints) (body : List Instr) (at slot to : ℕ) : Type 0 where
   pub from : ℕ
   pub stands : slice_get body at ≡ Some (Copy to from)
@@ -275,23 +294,26 @@ pub record IsBack (h : Hints) (body : List Instr) (pc : ℕ) (i j : Instr) : Typ
   pub arms_back : All (λ (arm : SwitchArm). ComesBack h body words arm.target) arms
   pub other_back : IfSome other (ComesBack h body words)
 
--- an instruction stands for one of a body and for others behind it
+-- the new instruction j stands for the instruction i of a body, and for others behind it
 abbrev pub IsMerged : Hints → List Instr → ℕ → Instr → Instr → Type 0
 IsMerged h body pc i j = IsInto h body pc i j ⊎ (IsFolded h body pc i j ⊎ IsBack h body pc i j)
 
--- the instruction that stands for one of a body, alone or with another
+-- the new instruction j stands for the instruction i of a body, alone or with others behind it
 abbrev pub Stands : Hints → List Instr → ℕ → Instr → Instr → Type 0
 Stands h body pc i j =
     (IsPlain h pc × IsMoved h (facts_at h pc) body pc i j × (place h (pc + 1) ≡ place h pc + 1)) ⊎ IsMerged h body
     pc i j
 
--- the instruction stands in the new body, or need not
+-- an instruction that stands for instruction pc has its place in the new body
 abbrev pub IsKept : Hints → List Instr → List Instr → ℕ → Instr → Type 0
 IsKept h body new pc i = (j : Instr) × (slice_get new (place h pc) ≡ Some j) × Stands h body pc i j
 
+-- no new instruction stands for instruction pc: it may be left out, or no run comes to it
 abbrev pub IsSkipped : Hints → ℕ → Instr → Type 0
 IsSkipped h pc i = (IsReached h pc → IsLeftOut h pc i) × IsPlain h pc × (place h (pc + 1) ≡ place h pc)
 
+-- what makes the new body right at instruction pc: one stands for it or need not, a jump to it goes on well, and what
+-- the hints say of the places behind it holds
 pub record IsStep (h : Hints) (body new : List Instr) (pc : ℕ) (i : Instr) : Type 0 where
   pub stands : IsKept h body new pc i ⊎ IsSkipped h pc i
   pub ends : EndsWell h pc i

@@ -1,4 +1,4 @@
--- Words for the parts of a walk through a body.
+-- Words for the parts of a walk through a body, which makes the shorter body instruction by instruction.
 use Rattle.std.specs.Prelude.{◌≡◌, ℕ, ◌+◌, ◌^◌, ◌<◌, ◌≤◌, ◌⊎◌, List, [], ◌∷◌, ◌++◌, length, Some, slice_get, Any}
 use Rattle.rb_bits.specs.Words.{IsRange}
 use Rattle.rb_target.specs.Validity.{SlotsFit, TargetsFit, EndsInReturn, dest_count}
@@ -10,15 +10,15 @@ use Rattle.rb_trim.specs.declared.hints.Hints.{Hints}
 use Rattle.rb_trim.specs.inner.Following.{Sets}
 use Rattle.rb_trim.specs.inner.Moving.{place, tells, IsUnread, EndsWell, FallsOn, JumpsOn, Stands, IsSkipped, IsStep, IsTrimmed, Leads, ComesBack}
 
--- the slot with this number among those that are not read is set, or not read at a place behind either
+-- the slot with number k in the list, if there is one, is set by the instruction, or not read from place t on
 pub record LivesAt (h : Hints) (slots : List ℕ) (i : Instr) (t k : ℕ) : Type 0 where
   pub at : (slot : ℕ) → slice_get slots k ≡ Some slot → Sets i slot ⊎ IsUnread h t slot
 
--- the arm with this number may lead to its target
+-- the arm at index k, if there is one, of a switch on slot a may lead to its target
 pub record JumpsOnAt (h : Hints) (pc : ℕ) (i : Instr) (a : ℕ) (arms : List SwitchArm) (k : ℕ) : Type 0 where
   pub at : (arm : SwitchArm) → slice_get arms k ≡ Some arm → JumpsOn h pc i (tells a arm.number) arm.target
 
--- the arm with this number comes to the return of these words
+-- the arm at index k, if there is one, comes to the return of these words
 pub record ComesBackAt (h : Hints) (body : List Instr) (words : List ℕ) (arms : List SwitchArm) (k : ℕ) : Type 0 where
   pub at : (arm : SwitchArm) → slice_get arms k ≡ Some arm → ComesBack h body words arm.target
 
@@ -26,30 +26,31 @@ pub record ComesBackAt (h : Hints) (body : List Instr) (words : List ℕ) (arms 
 abbrev pub HasArm : List SwitchArm → ℕ → Type 0
 HasArm arms number = Any (λ (arm : SwitchArm). arm.number ≡ number) arms
 
--- all that is said of the places holds wherever a run goes on behind the instruction
+-- what the hints say of the places holds wherever a run goes on behind instruction pc
 abbrev pub IsKnownOn : Hints → ℕ → Instr → Type 0
 IsKnownOn h pc i = Leads (FallsOn h pc i) (JumpsOn h pc i) i pc
 
--- an instruction that stands for the next one is appended
+-- `new` is `old` and behind it an instruction that stands for instruction pc, in its place
 pub record IsAppended (h : Hints) (body : List Instr) (pc : ℕ) (i : Instr) (old new : List Instr) : Type 0 where
   pub here : place h pc ≡ length old
   pub instr : Instr
   pub more : new ≡ old ++ instr ∷ []
   pub for : Stands h body pc i instr
 
--- one step of the walk
+-- one step of the walk: to the new body is added what stands for instruction pc, or nothing if it is left out, and
+-- what the hints say of it is right
 pub record Steps (h : Hints) (body : List Instr) (pc : ℕ) (i : Instr) (old new : List Instr) : Type 0 where
   pub stands : IsAppended h body pc i old new ⊎ (IsSkipped h pc i × (new ≡ old))
   pub ends : EndsWell h pc i
   pub known : IsKnownOn h pc i
 
--- each new instruction stands for one of the body's
+-- each instruction of the new body stands for one of the old body
 abbrev pub HaveOrigins : Hints → List Instr → List Instr → Type 0
 HaveOrigins h body new =
     (at : ℕ) (j : Instr) → slice_get new at ≡ Some j
     → (pc : ℕ) × (i : Instr) × (slice_get body pc ≡ Some i) × Stands h body pc i j
 
--- the first instructions of a body are gone through
+-- the first `count` instructions of a body are gone through, and `new` has what stands for them
 pub record Walks (h : Hints) (body : List Instr) (count : ℕ) (new : List Instr) : Type 0 where
   pub steps : (pc : ℕ) (i : Instr) → pc < count → slice_get body pc ≡ Some i → IsStep h body new pc i
   pub origins : HaveOrigins h body new
@@ -61,11 +62,11 @@ IsRanged (Alu op n d a b) = (1 ≤ n) × (n ≤ 64)
 IsRanged (Take d a o l) = IsRange o l
 IsRanged i = Unit {0}
 
--- the instruction with this number fits
+-- the slots, targets and numbers of instruction pc, if there is one, fit a body with so many slots
 pub record FitsAt (slots : ℕ) (body : List Instr) (pc : ℕ) : Type 0 where
   pub at : (i : Instr) → slice_get body pc ≡ Some i → SlotsFit slots i × TargetsFit (length body) pc i × IsRanged i
 
--- slots and targets of a body fit, and so do their numbers
+-- slots and targets of a body fit, and so do the numbers of its instructions
 pub record IsFit (slots params : ℕ) (body : List Instr) : Type 0 where
   pub small : (slots < 2 ^ 64) × (length body < 2 ^ 64)
   pub enough : params ≤ slots
@@ -73,7 +74,7 @@ pub record IsFit (slots params : ℕ) (body : List Instr) : Type 0 where
   pub ends : EndsInReturn body
   pub each : (pc : ℕ) → pc < length body → FitsAt slots body pc
 
--- the first functions have shorter ones
+-- each of the first `count` functions has in `new`, at its number, one that does what it does; `new` has no others
 pub record AreTrimmed (funs : List CodeFun) (count : ℕ) (new : List CodeFun) : Type 0 where
   pub long : length new ≡ count
   pub each : (g : ℕ) (f : CodeFun) → g < count → slice_get funs g ≡ Some f → (q : CodeFun)

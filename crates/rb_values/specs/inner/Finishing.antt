@@ -11,11 +11,14 @@ use Rattle.rb_values.specs.Fitting.{misfits, first, value_of}
 use Rattle.rb_values.specs.inner.States.{State, term_of, outline_of}
 use Rattle.rb_values.specs.inner.Typing.{IsTyped}
 
--- nothing where there are too many nodes
+-- what may be kept of state s, where a value of type `root` is read: nothing, only where it has more than `limit`
+-- nodes; or how it fits that type so far
 abbrev pub IsKept : List DataDecl → Ty → ℕ → State → Option Typing → Type 0
 IsKept types root limit s None = limit < (outline_of s).nodes
 IsKept types root limit s (Some t) = IsTyped types root s t
 
+-- what is answered for a term that is read whole: its value, where it fits the type, or the
+-- first node that does not fit
 abbrev pub IsSettled : List DataDecl → Ty → Term → Result Value ValueFault → Type 0
 IsSettled types ty t (Ok v) = (misfits types t ty ≡ []) × (v ≡ value_of types t ty)
 IsSettled types ty t (Err (ValueSyntax p)) = ⊥
@@ -23,7 +26,8 @@ IsSettled types ty t (Err ValueTooLarge) = ⊥
 IsSettled types ty t (Err (ValueType p)) = first (misfits types t ty) ≡ Some p
 IsSettled types ty t (Err Memory) = Unit {0}
 
--- at the end of a text of so many bytes
+-- what is answered where a text of `len` bytes ends in state s: its value; or that no value is whole there, that it
+-- has more than `limit` nodes, or the first node that does not fit
 abbrev pub IsFinished : List DataDecl → Ty → ℕ → State → ℕ → Result Value ValueFault → Type 0
 IsFinished types ty limit s len (Ok v) = (t : Term) × (term_of s ≡ Some t) × (term_nodes t ≤ limit)
     × (misfits types t ty ≡ []) × (v ≡ value_of types t ty)
