@@ -3,31 +3,32 @@ use Rattle.std.specs.Prelude.{◌≡◌, ℕ, zero, suc, ◌+◌, ◌<◌, ◌�
 use Rattle.rb_bytes.specs.Memory.{most_region}
 use Rattle.rb_image_text.specs.declared.image.ImageBlock.{ImageBlock}
 
--- the address behind a block
+-- the address behind a block's last byte; 0 where there is no block
 abbrev pub end_of : Option ImageBlock → ℕ
 end_of None = 0
 end_of (Some b) = b.at + length b.bytes
 
--- the end of the block before this number, 0 before the first
+-- the address behind the block before the one of this number; 0 where there is none
 abbrev pub end_before : List ImageBlock → ℕ → ℕ
 end_before blocks zero = 0
 end_before blocks (suc i) = end_of (slice_get blocks i)
 
--- the block lies from 64 on, behind that end, and within the greatest region
+-- the block begins at 64 or later and at the address `before` or later, and ends within the greatest region
 pub record IsInPlace (before : ℕ) (b : ImageBlock) : Type 0 where
   pub low : 64 ≤ b.at
   pub behind : before ≤ b.at
   pub high : b.at + length b.bytes ≤ most_region
 
--- each block before this number is in its place
+-- each of the first n blocks is in its place: from 64 on, behind the one before it, and within the greatest region
 abbrev pub AreInPlaceBefore : List ImageBlock → ℕ → Type 0
 AreInPlaceBefore blocks n =
     (i : ℕ) (b : ImageBlock) → i < n → slice_get blocks i ≡ Some b → IsInPlace (end_before blocks i) b
 
+-- all blocks are in their places: they ascend without overlap from 64 on, within the greatest region
 abbrev pub AreInPlace : List ImageBlock → Type 0
 AreInPlace blocks = AreInPlaceBefore blocks (length blocks)
 
--- this block is the first out of its place
+-- block i, counted from 0, is the first that is out of its place
 pub record IsFirstMisplaced (blocks : List ImageBlock) (i : ℕ) : Type 0 where
   pub block : ImageBlock
   pub is : slice_get blocks i ≡ Some block

@@ -6,14 +6,15 @@ use Rattle.rb_image_text.specs.declared.image.Image.{Image}
 use Rattle.rb_image_text.specs.declared.fault.ImageFault.{ImageFault}
 use Rattle.rb_image_text.specs.declared.fault.ImageFault.TheVariants.{ImageSyntax, ImageBlock, Memory}
 
--- the bytes stop being a text at a byte, or are that of an image whose first block out of its place this is
+-- the fault is why bytes are refused: where they stop being a text, or the first block out of its place in the image
+-- whose text they are. Want of memory may be answered for any bytes, no other fault for any
 abbrev pub IsRefusal : List ℕ → ImageFault → Type 0
 IsRefusal bytes (ImageSyntax at) = StopsAt bytes at
 IsRefusal bytes (ImageBlock n) = (i : Image) × IsTextOf bytes i × IsFirstMisplaced i.blocks n
 IsRefusal bytes Memory = Unit {0}
 IsRefusal bytes fault = ⊥
 
--- this image, unless memory is wanting
+-- the answer is this image, or want of memory, which says nothing of it; no other fault
 abbrev pub IsThis : Image → Result Image ImageFault → Type 0
 IsThis i (Ok read) = read ≡ i
 IsThis i (Err Memory) = Unit {0}

@@ -5,15 +5,16 @@ use Rattle.rb_image_text.specs.Images.{IsImage}
 use Rattle.rb_image_text.specs.Text.{image_text}
 use Rattle.rb_image_text.specs.declared.image.Image.{Image}
 
--- the text of this image, wherever its blocks lie
+-- the bytes are the text of this image, wherever its blocks lie
 pub record IsTextOf (bytes : List ℕ) (i : Image) : Type 0 where
   pub image : IsImage i
   pub is : bytes ≡ image_text i
 
+-- the bytes are the text of some image, wherever its blocks lie
 abbrev pub IsImageText : List ℕ → Type 0
 IsImageText bytes = (i : Image) × IsTextOf bytes i
 
--- some text begins so
+-- the bytes begin the text of some image, or are the whole of one
 abbrev pub IsFront : List ℕ → Type 0
 IsFront bytes = BeginsSome IsImageText bytes
 

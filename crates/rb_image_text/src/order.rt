@@ -6,7 +6,8 @@ ghost use Rattle.rb_image_text.specs.Places.{IsInPlace, AreInPlace, IsFirstMispl
 use crate::image::{ImageBlock, LEAST_ADDRESS};
 use rb_bytes::memory::MOST_REGION;
 
-// Whether a block lies from 64 on behind the address `before`, and up to the greatest region.
+// Whether a block begins at 64 or later and at the address `before` or later, and ends within the
+// greatest region.
 fn is_in_place(before: u64, block: &ImageBlock) -> bool
     ensures { IsTrue result ↔ IsInPlace before block.now }
 {
@@ -16,7 +17,8 @@ fn is_in_place(before: u64, block: &ImageBlock) -> bool
         && block.bytes.len() as u64 <= MOST_REGION - block.at
 }
 
-/// The number of the first block out of its place, if there is one.
+/// The number of the first block out of its place, counted from 0, or `None` where all ascend
+/// without overlap from 64 on, within the greatest region.
 pub fn first_misplaced(blocks: &[ImageBlock]) -> Option<usize>
     ensures { MatchOption result (AreInPlace blocks.now) (λ i. IsFirstMisplaced blocks.now i) }
 {

@@ -15,7 +15,8 @@ use crate::order::first_misplaced;
 use crate::step::Reader;
 use std::alloc::Global;
 
-// Reads all bytes.
+// Reads all bytes, which may end within a text: gives the reader behind them, or the first byte at
+// which no text goes on.
 fn read_bytes(alloc: Global, bytes: &[u8]) -> Result<Reader, ImageFault>
     ensures { IsRun bytes.now result }
 {
@@ -28,7 +29,8 @@ fn read_bytes(alloc: Global, bytes: &[u8]) -> Result<Reader, ImageFault>
     Ok(reader)
 }
 
-// The image whose text the bytes are, wherever its blocks lie; or the byte at which no text goes on.
+// The image whose text the bytes are, wherever its blocks lie; or the byte at which no text goes
+// on, their length where they only begin one.
 fn read_whole(alloc: Global, bytes: &[u8]) -> Result<Image, ImageFault>
     ensures reading { IsReading bytes.now result }
     ensures only { (i : Image_) → IsTextOf bytes.now i → IfOk result (λ read. read ≡ i) }

@@ -28,6 +28,7 @@ pub enum Spot {
 /// What one byte more does.
 #[derive(Drop)]
 pub enum Move {
+    /// Reading stands there, and neither a root word nor a block is made whole.
     To(Spot),
     /// A root word is whole.
     Word(u64, Spot),

@@ -26,7 +26,7 @@ pub struct Reader {
     pub spot: Spot,
 }
 
-// The number of a hexadecimal digit.
+// The number that a byte writes as a hexadecimal digit in lower case, or `None` for any other byte.
 fn hex_of(byte: u8) -> Option<u8>
     ensures { result ≡ spec.hex_of byte }
 {
@@ -37,7 +37,7 @@ fn hex_of(byte: u8) -> Option<u8>
     }
 }
 
-// The number of a decimal digit.
+// The number that a byte writes as a decimal digit, or `None` for any other byte.
 fn digit_of(byte: u8) -> Option<u8>
     ensures { result ≡ spec.digit_of byte }
 {
@@ -47,7 +47,8 @@ fn digit_of(byte: u8) -> Option<u8>
     }
 }
 
-// Within the word `root`, of which so many bytes are read; behind it a word or the line's end.
+// What a byte does within the word `root`, of which so many bytes are read; behind all four a blank
+// leads to a root word, and a line feed ends the line.
 fn root_step(read: usize, byte: u8) -> Move
     ensures { result ≡ spec.root_step read byte }
 {
@@ -66,7 +67,8 @@ fn root_step(read: usize, byte: u8) -> Move
     }
 }
 
-// Within the `0x` before a word, of which so many bytes are read; behind it the word's first digit.
+// What a byte does within the `0x` before a root word, of which so many bytes are read; behind both
+// stands the word's first digit.
 fn prefix_step(read: usize, byte: u8) -> Move
     ensures { result ≡ spec.prefix_step read byte }
 {
@@ -84,7 +86,8 @@ fn prefix_step(read: usize, byte: u8) -> Move
     }
 }
 
-// Within a word, in hexadecimal digits without a leading zero.
+// What a byte does behind digits of a root word: a blank or a line feed ends the word. One more
+// digit is refused behind a leading zero, or where the word would have more than 64 bits.
 fn word_step(word: u64, byte: u8) -> Move
     ensures { result ≡ spec.word_step word byte }
 {
@@ -106,8 +109,8 @@ fn word_step(word: u64, byte: u8) -> Move
     }
 }
 
-// Within the word `block` and its blank, of which so many bytes are read; behind them the address's first
-// digit.
+// What a byte does within the word `block` and its blank, of which so many bytes are read; behind
+// them stands the address's first digit.
 fn line_step(read: usize, byte: u8) -> Move
     ensures { result ≡ spec.line_step read byte }
 {
@@ -125,7 +128,8 @@ fn line_step(read: usize, byte: u8) -> Move
     }
 }
 
-// Within the address of a block, in decimal digits without a leading zero.
+// What a byte does behind digits of a block's address: a blank ends the address. One more digit is
+// refused behind a leading zero, or where the address would have more than 64 bits.
 fn address_step(address: u64, byte: u8) -> Move
     ensures { result ≡ spec.address_step address byte }
 {
@@ -145,7 +149,8 @@ fn address_step(address: u64, byte: u8) -> Move
     }
 }
 
-// At the first digit of the size of the block at an address.
+// What a byte does where the size of the block at an address begins: it must be a digit, and not 0,
+// since no block is empty.
 fn sizing_step(address: u64, byte: u8) -> Move
     ensures { result ≡ spec.sizing_step address byte }
 {
@@ -161,7 +166,8 @@ fn sizing_step(address: u64, byte: u8) -> Move
     }
 }
 
-// Within the size of a block, up to the most bytes that a block has.
+// What a byte does behind digits of a block's size: a blank ends the size. One more digit is
+// refused where the size would be over the most bytes that a block has.
 fn size_step(alloc: Global, address: u64, size: usize, byte: u8) -> Move
     ensures { result ≡ spec.size_step address size byte }
 {
@@ -184,7 +190,8 @@ fn size_step(alloc: Global, address: u64, size: usize, byte: u8) -> Move
     }
 }
 
-// Between two bytes of a block with so many bytes; behind the last the line ends.
+// What a byte does between two bytes of a block that is to have `size` bytes: it is the upper digit
+// of the next, or behind the last the line feed that ends the block.
 fn bytes_step(block: ImageBlock, size: usize, byte: u8) -> Move
     ensures { result ≡ spec.bytes_step block size byte }
 {
@@ -200,7 +207,8 @@ fn bytes_step(block: ImageBlock, size: usize, byte: u8) -> Move
     }
 }
 
-// Behind the upper digit of a byte of a block.
+// What a byte does behind the upper digit of a byte of a block: it must be the lower digit, and the
+// byte that the two write is put to the block.
 fn half_step(block: ImageBlock, size: usize, upper: u8, byte: u8) -> Result<Move, AllocError>
     requires { upper < 16 }
     ensures { IfOk result (λ m. m ≡ spec.half_step block size upper byte) }
@@ -215,7 +223,7 @@ fn half_step(block: ImageBlock, size: usize, upper: u8, byte: u8) -> Result<Move
     }
 }
 
-// What one byte more does.
+// What one byte more does where reading stands.
 fn step(alloc: Global, spot: Spot, byte: u8) -> Result<Move, AllocError>
     requires { spec.IsHalved spot }
     ensures { IfOk result (λ m. m ≡ spec.step spot byte) }
@@ -234,7 +242,7 @@ fn step(alloc: Global, spot: Spot, byte: u8) -> Result<Move, AllocError>
 }
 
 impl Reader {
-    /// Nothing is read.
+    /// A reader that has read nothing, before the first byte of a text.
     pub fn new(alloc: Global) -> Reader
         ensures { result ≡ spec.start }
     {
@@ -245,7 +253,8 @@ impl Reader {
         }
     }
 
-    /// Reads one byte, or says that no text goes on so.
+    /// Reads one byte, and says whether some text goes on so. Where none does, the
+    /// reader is of no more use.
     ///
     /// # Errors
     ///
@@ -270,7 +279,8 @@ impl Reader {
         Ok(true)
     }
 
-    /// Whether the bytes are a whole text.
+    /// Whether the bytes read so far are a whole text: the reader stands at the beginning of a line
+    /// behind that of the root words.
     pub fn is_done(&self) -> bool
         ensures { result ≡ spec.is_done self.now.spot }
     {

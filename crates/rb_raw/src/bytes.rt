@@ -60,7 +60,7 @@ impl RawBytes {
         })
     }
 
-    /// Writes one byte.
+    /// Writes one byte at its address, over what was written there before.
     pub fn write(&mut self, at: usize, byte: u8)
         requires { at < length self.old }
         ensures { self.new ≡ slice_set self.old at (Some byte) }
@@ -69,7 +69,7 @@ impl RawBytes {
         self.written.note(at, byte);
     }
 
-    /// Reads one byte that was written.
+    /// Reads the byte at an address. Nothing tests it, so the caller knows that one was written.
     pub fn read(&self, at: usize) -> u8
         requires { IsSome (byte_at self.now at) }
         ensures { byte_at self.now at ≡ Some result }
@@ -77,7 +77,8 @@ impl RawBytes {
         *self.places.get(at)
     }
 
-    /// Writes the low bytes of a word, the lowest first.
+    /// Writes the `count` low bytes of a word from `at` on, the lowest first; those above its eight
+    /// are 0.
     pub fn write_word(&mut self, at: u64, count: u64, word: u64)
         requires within { at + count ≤ length self.old }
         requires small { at + count < 2 ^ 64 }
@@ -90,7 +91,8 @@ impl RawBytes {
         }
     }
 
-    /// The number in some bytes that were written, the lowest first.
+    /// The number in at most 8 bytes from `at` on, the lowest first. Nothing tests them, so the
+    /// caller knows that all were written.
     pub fn read_word(&self, at: u64, count: u64) -> u64
         requires within { at + count ≤ length self.now }
         requires small { at + count < 2 ^ 64 }

@@ -38,7 +38,7 @@ impl Model for RawMemory {
     ghost invariant = { IsKept };
 }
 
-// So many marks, all clear, by one fill.
+// So many marks, all clear, by one fill: those of a region without blocks.
 fn clear_marks(alloc: Global, count: usize) -> Result<Vec<u8>, AllocError>
     ensures { IfOk result (λ marks. marks.items ≡ replicate count 0) }
 {

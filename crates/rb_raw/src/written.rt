@@ -26,7 +26,7 @@ impl Written {
         }
     }
 
-    /// One more byte, over what was written at its address before.
+    /// Takes note that a byte was written, over what was written at its address before.
     pub fn note(&mut self, at: usize, byte: u8)
         ensures { self.new.bytes ≡ slice_set self.old.bytes at (Some byte) }
     {}

@@ -4,19 +4,19 @@ use Rattle.std.specs.Char.{is_ascii_digit, is_ascii_alphanumeric}
 use Rattle.std.specs.List.{prefix_len}
 use Rattle.std.specs.Int.Digits.{number_from_digits}
 
--- tab, line feed, carriage return and space
+-- whether a byte is a blank: tab, line feed, carriage return or space
 abbrev pub is_blank : ℕ → Bool
 is_blank b = (b == 9) || (b == 10) || (b == 13) || (b == 32)
 
--- the bytes of names and numbers; 95 is '_'
+-- whether a byte is one of names and numbers: a letter, a digit, or '_', which is 95
 abbrev pub is_word_byte : ℕ → Bool
 is_word_byte b = is_ascii_alphanumeric b || (b == 95)
 
--- a comment ends before a line feed
+-- whether a byte goes on with a comment, which ends before a line feed
 abbrev pub is_in_line : ℕ → Bool
 is_in_line b = not (b == 10)
 
--- how many bytes at the front are a number without a leading zero: '0' alone, or digits
+-- how many bytes at the front are a number without a leading zero: '0' alone, or digits; 0 where there is no digit
 abbrev pub numeral_len : List ℕ → ℕ
 numeral_len [] = 0
 numeral_len (d ∷ ds) = if d == 48 then 1 else prefix_len is_ascii_digit (d ∷ ds)

@@ -14,18 +14,18 @@ use Rattle.rb_syntax.specs.Lexing.{Lexed}
 
 -- Pieces.
 
--- a blank, or a comment: '//' and what follows it in its line
+-- the text is a blank, or a comment: '//' and what follows it in its line
 pub data IsGap (text : List ℕ) : Type 0 where
   blank : (b : ℕ) → is_blank b ≡ true → text ≡ b ∷ [] → IsGap text
   comment : starts_with nat_eq text (codes "//") ≡ true → list_all is_in_line text ≡ true → IsGap text
 
--- a gap, a run of letters, digits and '_', or a symbol
+-- the text is a piece: a gap, a run of letters, digits and '_', or a symbol
 pub data IsPiece (text : List ℕ) : Type 0 where
   gap : IsGap text → IsPiece text
   run : 0 < length text → list_all is_word_byte text ≡ true → IsPiece text
   symbol : (s : Symbol) → text ≡ symbol_text s → IsPiece text
 
--- so many bytes at the front are a piece, and no more of them are one
+-- the first n bytes are a piece, the longest that stands at the front
 pub record IsLongest (n : ℕ) (bytes : List ℕ) : Type 0 where
   pub inside : n ≤ length bytes
   pub piece : IsPiece (take n bytes)
@@ -33,18 +33,18 @@ pub record IsLongest (n : ℕ) (bytes : List ℕ) : Type 0 where
 
 -- How tokens are written.
 
--- the first byte passes
+-- there is a first byte, and it passes the test p
 abbrev pub Begins : (ℕ → Bool) → List ℕ → Type 0
 Begins p [] = ⊥
 Begins p (b ∷ bs) = p b ≡ true
 
--- digits without a leading zero
+-- the text is a number in digits without a leading zero: '0' alone, or digits of which the first is another
 pub record IsNumeral (text : List ℕ) : Type 0 where
   pub some : 0 < length text
   pub digits : list_all is_ascii_digit text ≡ true
   pub leading : Begins (λ d. nat_eq d 48) text → length text ≡ 1
 
--- 'u' and a number from 1 to 64
+-- the text is the word for integers of `bits` bits: 'u' and a number from 1 to 64 without a leading zero
 pub record IsWidth (bits : ℕ) (text : List ℕ) : Type 0 where
   pub digits : List ℕ
   pub written : text ≡ 117 ∷ digits
@@ -53,9 +53,12 @@ pub record IsWidth (bits : ℕ) (text : List ℕ) : Type 0 where
   pub some : 1 ≤ bits
   pub most : bits ≤ 64
 
+-- the name is no reserved word: none of `Word`, and none of u1 to u64
 abbrev pub IsNotReserved : List ℕ → Type 0
 IsNotReserved name = ((w : Word) → name ≢ word_text w) × ((bits : ℕ) → IsWidth bits name → ⊥)
 
+-- the token is written as this text; a name that begins with a small letter must not be reserved, and a number must
+-- be below 2^64
 abbrev pub IsWritten : Token → List ℕ → Type 0
 IsWritten (tok.Upper name) text = (text ≡ name) × Begins is_ascii_uppercase name × (list_all is_word_byte name ≡ true)
 IsWritten (tok.Lower name) text =
@@ -67,8 +70,8 @@ IsWritten (tok.Symbol s) text = text ≡ symbol_text s
 
 -- Texts.
 
--- the bytes from one on are cut into their longest pieces until something stops it, with these tokens among them, each
--- with the byte at which it begins
+-- the bytes, of which the first has this number in its text, are cut into their longest pieces up to a place where
+-- `Stops` holds; these are the tokens among the pieces, each with the number of its first byte
 pub data Cut (Stops : ℕ → List ℕ → Type 0) : ℕ → List ℕ → List Placed → Type 0 where
   stop : (at : ℕ) (bytes : List ℕ) → Stops at bytes → Cut Stops at bytes []
   gap : (at n : ℕ) (bytes : List ℕ) (tokens : List Placed) → IsLongest n bytes → IsGap (take n bytes)
@@ -77,39 +80,42 @@ pub data Cut (Stops : ℕ → List ℕ → Type 0) : ℕ → List ℕ → List P
       → IsWritten t (take n bytes)
       → Cut Stops (at + n) (drop n bytes) tokens → Cut Stops at bytes (record { token = t; at = at } ∷ tokens)
 
--- all bytes are cut
+-- all bytes of a text are cut into their longest pieces, and these are the tokens among them
 abbrev pub HasTokens : List ℕ → List Placed → Type 0
 HasTokens bytes tokens = Cut (λ at rest. rest ≡ []) 0 bytes tokens
 
--- a run that is a token, if numbers may be as wide as they like
+-- the text is a run that is a token, if numbers may be as wide as they like
 pub data IsTokenRun (text : List ℕ) : Type 0 where
   name : Begins is_ascii_alphabetic text → list_all is_word_byte text ≡ true → IsTokenRun text
   numeral : IsNumeral text → IsTokenRun text
   underscore : text ≡ codes "_" → IsTokenRun text
 
--- behind so many good bytes the next is bad: no piece begins there; or the run does not go on as a token
+-- behind k good bytes the next is bad: k is 0, and no piece begins there; or the longest piece has more than k bytes,
+-- of which the first k are a token, but the first k + 1 are none
 pub data IsBadBehind (k : ℕ) (bytes : List ℕ) : Type 0 where
   no_piece : k ≡ 0 → 0 < length bytes → ((n : ℕ) → n ≤ length bytes → IsPiece (take n bytes) → ⊥) → IsBadBehind k bytes
   wrong_run : (n : ℕ) → IsLongest n bytes → k < n → IsTokenRun (take k bytes)
       → (IsTokenRun (take (suc k) bytes) → ⊥) → IsBadBehind k bytes
 
--- cut up to a bad byte
+-- byte p of a text is bad: the bytes are cut into their longest pieces up to the place where p, or a run with p in
+-- it, begins
 abbrev pub HasBadByte : List ℕ → ℕ → Type 0
 HasBadByte bytes p =
     (tokens : List Placed) × Cut (λ at rest. (k : ℕ) × (p ≡ at + k) × IsBadBehind k rest) 0 bytes tokens
 
--- the longest piece is a number of 2^64 or more
+-- the longest piece at the front of the bytes is a number of 2^64 or more
 pub record IsWideNumber (bytes : List ℕ) : Type 0 where
   pub len : ℕ
   pub longest : IsLongest len bytes
   pub numeral : IsNumeral (take len bytes)
   pub wide : 2 ^ 64 ≤ value_of (take len bytes)
 
--- cut up to a number that is too wide
+-- a number of 2^64 or more begins at byte p of a text, and the bytes before it are cut into their longest pieces
 abbrev pub HasWideNumber : List ℕ → ℕ → Type 0
 HasWideNumber bytes p = (tokens : List Placed) × Cut (λ at rest. (p ≡ at) × IsWideNumber rest) 0 bytes tokens
 
--- the answer is what stands in the text
+-- the answer is what stands in the text: its tokens, its first bad byte, or the first byte of a number that is too
+-- wide; never want of memory
 abbrev pub IsRight : List ℕ → Lexed → Type 0
 IsRight bytes (Ok tokens) = HasTokens bytes tokens
 IsRight bytes (Err (BadByte p)) = HasBadByte bytes p

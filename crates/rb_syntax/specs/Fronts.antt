@@ -1,4 +1,4 @@
--- The tokens of a text before its first fault: what can be said of a text although it has no tokens as a whole.
+-- The front of a text: its tokens before its first fault, which it has although it may have no tokens as a whole.
 use Rattle.std.specs.Prelude.{◌≡◌, ◌⊎◌, ℕ, zero, suc, ◌+◌, ◌-◌, ◌<◌, ◌≤◌, List, [], ◌∷◌, drop, length, ◌==◌, if◌then◌else◌, Option, Some, None, Ok, Err}
 use Rattle.rb_syntax.specs.declared.token.Placed.{Placed}
 use Rattle.rb_syntax.specs.declared.piece.Piece.{Piece}
@@ -15,34 +15,38 @@ pub record Front : Type 0 where
   pub tokens : List Placed
   pub fault : Option ℕ
 
+-- the front without a token, with this fault, if there is one
 abbrev pub ends : Option ℕ → Front
 ends fault = record { tokens = []; fault = fault }
 
+-- the front with token p before its others
 abbrev pub behind : Placed → Front → Front
 behind p f = record { tokens = p ∷ f.tokens; fault = f.fault }
 
--- what a piece at a byte adds to what stands behind it
+-- the front from byte `at` on, where this piece stands; `rest` gives the front behind a piece of a length
 unfoldable pub with_front : ℕ → Piece → (ℕ → Front) → Front
 with_front at (piece.Gap len) rest = rest len
 with_front at (piece.Token t len) rest = behind (record { token = t; at = at }) (rest len)
 with_front at (piece.Bad offset) rest = ends (Some (at + offset))
 with_front at piece.Wide rest = ends (Some at)
 
--- at most so many pieces, from a byte on
+-- the front of bytes of which the first is byte `at` of a text, in at most so many pieces
 unfoldable pub front_from : ℕ → ℕ → List ℕ → Front
 front_from zero at bytes = ends None
 front_from (suc n) at bytes =
     if length bytes == 0 then ends None else with_front at (piece_at bytes)
     (λ len. front_from n (at + len) (drop len bytes))
 
--- the text from a byte on
+-- the front of a text from byte `at` on: its tokens from there to the first fault, and that fault, if any
 abbrev pub front_at : List ℕ → ℕ → Front
 front_at text at = front_from (length text - at) at (drop at text)
 
+-- the front of a whole text: its tokens before the first fault, and the byte of that fault, if there is one
 abbrev pub front : List ℕ → Front
 front text = front_from (length text) 0 text
 
--- what stands next from a byte on: a token and the byte behind it, the first fault, or the end
+-- the answer is what stands next in a text from a byte on: a token and the byte behind it, the first fault, or the
+-- end
 abbrev pub IsNext : List ℕ → ℕ → Next → Type 0
 IsNext text from (next.Token p end) =
     (front_at text from ≡ behind p (front_at text end)) × (from < end) × (end ≤ length text)
@@ -51,22 +55,25 @@ IsNext text from next.End = front_at text from ≡ ends None
 
 -- Laws.
 
--- it is the tokens of the text where it has some, and its fault stands where `lex` refuses the text
+-- the front fits what is read of its text: the same tokens and no fault, or a fault at the byte that `lex` refuses
 abbrev pub AgreesWith : Lexed → Front → Type 0
 AgreesWith (Ok tokens) f = f ≡ record { tokens = tokens; fault = None }
 AgreesWith (Err (BadByte p)) f = f.fault ≡ Some p
 AgreesWith (Err (NumberTooWide p)) f = f.fault ≡ Some p
 AgreesWith (Err Memory) f = ⊥
 
--- nothing is left; or the fault is a bad byte behind so many good ones, or a number of 2^64 or more
+-- what is left from byte `at` on stops a text: without a fault it is nothing; fault p is a bad byte behind so many
+-- good ones there, or the first byte of a number of 2^64 or more
 abbrev pub IsStop : Option ℕ → ℕ → List ℕ → Type 0
 IsStop None at rest = rest ≡ []
 IsStop (Some p) at rest = ((k : ℕ) × (p ≡ at + k) × IsBadBehind k rest) ⊎ ((p ≡ at) × IsWideNumber rest)
 
--- the bytes up to the stop are cut into their longest pieces, and the tokens are those among them
+-- the front is right for the text: the bytes up to the place where its fault, or the run with it, begins, or to the
+-- end, are cut into their longest pieces, its tokens are those among them, and it agrees with `lex`
 pub record IsFrontOf (text : List ℕ) (f : Front) : Type 0 where
   pub cut : Cut (IsStop f.fault) 0 text f.tokens
   pub agrees : AgreesWith (lexed text) f
 
+-- of each text the front has the tokens among its longest pieces before the first fault, and that fault
 abbrev pub FrontsAreRight : Type 0
 FrontsAreRight = (text : List ℕ) → IsFrontOf text (front text)

@@ -12,40 +12,48 @@ use Rattle.rb_syntax.specs.declared.piece.Piece.TheVariants as piece
 use Rattle.rb_syntax.specs.Bytes.{is_blank, is_word_byte, is_in_line, numeral_len, value_of}
 use Rattle.rb_syntax.specs.Words.{word_of, width_of, symbol_text, symbol_at}
 
--- a run that begins with a letter
+-- the token of a run `name` with a small letter first that is no reserved word, u1 to u64 aside, by what `width_of`
+-- finds of it: the type of integers of so many bits, or the name of a function or a variable
 unfoldable pub width_or_name : Option ℕ → List ℕ → Token
 width_or_name (Some bits) name = tok.Uint bits
 width_or_name None name = tok.Lower name
 
+-- the token of a run `name` with a small letter first, by what `word_of` finds of it: that reserved word, or else the
+-- type of integers or the name that it is
 unfoldable pub word_or_name : Option Word → List ℕ → Token
 word_or_name (Some w) name = tok.Reserved w
 word_or_name None name = width_or_name (width_of name) name
 
+-- the token of a run `name` whose first byte is the letter `first`: with a capital the name of a type or a
+-- constructor, else a reserved word, a type of integers, or the name of a function or a variable
 unfoldable pub name_token : ℕ → List ℕ → Token
 name_token first name = if is_ascii_uppercase first then tok.Upper name else word_or_name (word_of name) name
 
--- a run that begins with a digit is a number as a whole; else the byte behind the longest number at its front is bad
+-- the piece of a run that begins with a digit: a number where the whole run is one without a leading zero, too wide
+-- from 2^64 on; else the byte behind the longest such number at its front is bad
 unfoldable pub number_piece : List ℕ → Piece
 number_piece run =
     if numeral_len run == length run
     then (if nat_lt (value_of run) (2 ^ 64) then piece.Token (tok.Num (value_of run)) (length run) else piece.Wide)
     else piece.Bad (numeral_len run)
 
--- a run that begins with '_' is that symbol, and its second byte is bad
+-- the piece of a run that begins with '_': that symbol where nothing else is in the run, else its second byte is bad
 unfoldable pub underscore_piece : List ℕ → Piece
 underscore_piece run = if length run == 1 then piece.Token (tok.Symbol Underscore) 1 else piece.Bad 1
 
+-- the piece of a run of letters, digits and '_' by its first byte `first`: a word or a name, a number, or '_'
 unfoldable pub run_piece : ℕ → List ℕ → Piece
 run_piece first run =
     if is_ascii_alphabetic first then piece.Token (name_token first run) (length run)
     else if is_ascii_digit first then number_piece run
     else underscore_piece run
 
+-- the piece of the symbol that stands at the front of bytes; where there is None, their first byte is bad
 unfoldable pub symbol_piece : Option Symbol → Piece
 symbol_piece (Some s) = piece.Token (tok.Symbol s) (length (symbol_text s))
 symbol_piece None = piece.Bad 0
 
--- the piece at the front of bytes, of which this is the first
+-- the piece at the front of bytes, of which `first` is the first: a blank, a run, a comment, or a symbol
 unfoldable pub first_piece : ℕ → List ℕ → Piece
 first_piece first bytes =
     if is_blank first then piece.Gap 1
@@ -53,6 +61,7 @@ first_piece first bytes =
     else if starts_with nat_eq bytes (codes "//") then piece.Gap (prefix_len is_in_line bytes)
     else symbol_piece (symbol_at bytes)
 
+-- the piece at the front of bytes; an empty gap where there are none
 unfoldable pub piece_at : List ℕ → Piece
 piece_at [] = piece.Gap 0
 piece_at (b ∷ bs) = first_piece b (b ∷ bs)

@@ -8,6 +8,7 @@ use Rattle.rb_syntax.specs.declared.token.Word.TheVariants as word
 use Rattle.rb_syntax.specs.declared.token.Symbol.{Symbol}
 use Rattle.rb_syntax.specs.declared.token.Symbol.TheVariants as symbol
 
+-- the bytes that a reserved word is written with
 abbrev pub word_text : Word → List ℕ
 word_text word.Type = codes "type"
 word_text word.Layout = codes "layout"
@@ -31,6 +32,7 @@ word_text word.Eq = codes "eq"
 word_text word.Lt = codes "lt"
 word_text word.To = codes "to"
 
+-- the bytes that a symbol is written with
 abbrev pub symbol_text : Symbol → List ℕ
 symbol_text symbol.Equals = codes "="
 symbol_text symbol.Bar = codes "|"
@@ -57,18 +59,18 @@ words = word.Type ∷ word.Layout ∷ word.Fun ∷ word.Let ∷ word.In ∷ word
     ∷ word.Inline ∷ word.Boxed ∷ word.Packed ∷ word.Add ∷ word.Sub ∷ word.Mul ∷ word.And ∷ word.Or ∷ word.Xor
     ∷ word.Eq ∷ word.Lt ∷ word.To ∷ []
 
--- all symbols, those of two bytes first
+-- all symbols, those of two bytes first, so that of two at the front the longer is found
 abbrev pub symbols : List Symbol
 symbols =
     symbol.Arrow ∷ symbol.FatArrow ∷ symbol.Equals ∷ symbol.Bar ∷ symbol.OpenParen ∷ symbol.CloseParen ∷ symbol.Comma
     ∷ symbol.Semicolon ∷ symbol.OpenBrace ∷ symbol.CloseBrace ∷ symbol.Less ∷ symbol.Greater ∷ symbol.Colon
     ∷ symbol.OpenBracket ∷ symbol.CloseBracket ∷ symbol.Dot ∷ symbol.At ∷ symbol.Underscore ∷ []
 
--- the reserved word that is written so, if there is one
+-- the reserved word that is written so, if there is one; u1 to u64 aside
 abbrev pub word_of : List ℕ → Option Word
 word_of name = find (λ w. pointwise nat_eq (word_text w) name) words
 
--- the first symbol of the list that stands at the front
+-- the first symbol of `symbols` that stands at the front of bytes, if there is one
 abbrev pub symbol_at : List ℕ → Option Symbol
 symbol_at bytes = find (λ s. starts_with nat_eq bytes (symbol_text s)) symbols
 

@@ -19,28 +19,29 @@ pub fn is_word_byte(b: u8) -> bool
     b.is_ascii_alphanumeric() || b == b'_'
 }
 
-/// How many bytes of names and numbers are at the front.
+/// How many bytes at the front are bytes of names and numbers, up to the first other one.
 pub fn run_len(bytes: &[u8]) -> usize
     ensures { result ≡ prefix_len kind.is_word_byte bytes.now }
 {
     bytes.iter().take_while(|b| is_word_byte(**b)).count()
 }
 
-/// How many bytes the line has from here on, its line feed aside.
+/// How many bytes stand at the front before the first line feed: all where there is none.
 pub fn line_len(bytes: &[u8]) -> usize
     ensures { result ≡ prefix_len kind.is_in_line bytes.now }
 {
     bytes.iter().take_while(|b| **b != b'\n').count()
 }
 
-/// How many digits are at the front.
+/// How many bytes at the front are decimal digits, up to the first other byte.
 pub fn digits_len(bytes: &[u8]) -> usize
     ensures { result ≡ prefix_len is_ascii_digit bytes.now }
 {
     bytes.iter().take_while(|b| b.is_ascii_digit()).count()
 }
 
-/// How many bytes at the front are a number without a leading zero.
+/// How many bytes at the front are a number without a leading zero: 1 for `0`, whatever follows it,
+/// and 0 where no digit stands there.
 pub fn numeral_len(bytes: &[u8]) -> usize
     ensures { result ≡ kind.numeral_len bytes.now }
 {
@@ -51,7 +52,7 @@ pub fn numeral_len(bytes: &[u8]) -> usize
     }
 }
 
-/// The number that decimal digits write, if it has at most 64 bits.
+/// The number that decimal digits write, or `None` where it has more than 64 bits.
 pub fn number(digits: &[u8]) -> Option<u64>
     ensures { result ≡ (if nat_lt (kind.value_of digits.now) (2 ^ 64) then Some (kind.value_of digits.now) else None) }
 {

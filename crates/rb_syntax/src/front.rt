@@ -18,7 +18,8 @@ pub enum Next {
     End,
 }
 
-/// What stands next from byte `from` on. It keeps nothing of the text but the token.
+/// What stands next in a text from byte `from` on: a token, the first fault, or the end. It keeps
+/// nothing of the text but the token.
 ///
 /// # Errors
 ///

@@ -55,7 +55,8 @@ pub fn lex(alloc: Global, bytes: &[u8]) -> Result<Vec<Placed>, LexFault>
     tokens_of(alloc, bytes)
 }
 
-// The pieces of a text, one after the other.
+// The tokens of a text, each with the byte at which it begins, or the first fault. Each turn
+// reads one piece, and a piece has a byte, so as many turns as there are bytes are enough.
 fn tokens_of(alloc: Global, bytes: &[u8]) -> Result<Vec<Placed>, LexFault>
     ensures { IsAnswer (lexed bytes.now) result }
 {

@@ -24,7 +24,9 @@ pub enum Piece {
     Wide,
 }
 
-// A run of digits and other bytes of words, of which the first is a digit.
+// The piece of a run of digits and other bytes of words, of which the first is a digit: a number
+// where the whole run is one without a leading zero, `Wide` from 2^64 on, else `Bad` at the byte
+// behind the longest such number at its front.
 #[tactic(auto, unfolding(crate::specs::Pieces::number_piece))]
 fn number_piece(run: &[u8]) -> Piece
     ensures { result ≡ piece.number_piece run.now }
@@ -39,7 +41,8 @@ fn number_piece(run: &[u8]) -> Piece
     }
 }
 
-// A word or a name.
+// The token of a run whose first byte is the letter `first`: with a capital the name of a type or a
+// constructor, else a reserved word, a type of integers, or the name of a function or a variable.
 #[tactic(auto, unfolding(crate::specs::Pieces::name_token, crate::specs::Pieces::word_or_name, crate::specs::Pieces::width_or_name))]
 fn name_token(alloc: Global, first: u8, run: &[u8]) -> Result<Token, AllocError>
     ensures { IfOk result (λ t. t ≡ piece.name_token first run.now) }
@@ -56,7 +59,8 @@ fn name_token(alloc: Global, first: u8, run: &[u8]) -> Result<Token, AllocError>
     }
 }
 
-// A run of bytes of words, of which this is the first.
+// The piece of a run of letters, digits and `_`, of which `first` is the first byte: a word or a
+// name, a number, or `_` alone.
 #[tactic(auto, unfolding(crate::specs::Pieces::run_piece, crate::specs::Pieces::underscore_piece))]
 fn run_piece(alloc: Global, first: u8, run: &[u8]) -> Result<Piece, AllocError>
     ensures { IfOk result (λ p. p ≡ piece.run_piece first run.now) }
@@ -86,7 +90,8 @@ fn symbol_piece(bytes: &[u8]) -> Piece
     }
 }
 
-// The piece at the front of bytes, of which this is the first.
+// The piece at the front of bytes, of which `first` is the first: a blank, a run, a comment or a
+// symbol.
 #[tactic(auto, unfolding(crate::specs::Pieces::first_piece))]
 fn first_piece(alloc: Global, first: u8, bytes: &[u8]) -> Result<Piece, AllocError>
     ensures { IfOk result (λ p. p ≡ piece.first_piece first bytes.now) }
@@ -114,7 +119,8 @@ fn piece_at(alloc: Global, bytes: &[u8]) -> Result<Piece, AllocError>
     }
 }
 
-/// The piece at the front of bytes. Where there are any, it has one and lies within them.
+/// The piece at the front of bytes. Where there are any, the piece has one byte or more and lies
+/// within them, so that reading goes on behind it.
 ///
 /// # Errors
 ///

@@ -19,7 +19,7 @@ use crate::tree::{NameTree, TyTree};
 pub use file::spell_file;
 use std::alloc::{AllocError, Global};
 
-/// One token, in front of what was put before it.
+/// Puts one token in front of what was put before it: the last of `out` stands first in the text.
 pub(crate) fn put(out: &mut Vec<Token>, token: Token) -> Result<(), AllocError>
     ensures { OnOk result (Wrote (λ rest. written.token token ∷ rest) out.old.items out.new.items) }
 {
@@ -27,35 +27,36 @@ pub(crate) fn put(out: &mut Vec<Token>, token: Token) -> Result<(), AllocError>
     Ok(())
 }
 
-/// A symbol.
+/// Puts a symbol in front of what was put before it.
 pub(crate) fn put_symbol(out: &mut Vec<Token>, symbol: Symbol) -> Result<(), AllocError>
     ensures { OnOk result (Wrote (λ rest. written.token (tok.Symbol symbol) ∷ rest) out.old.items out.new.items) }
 {
     put(out, Token::Symbol(symbol))
 }
 
-/// A reserved word.
+/// Puts a reserved word in front of what was put before it.
 pub(crate) fn put_word(out: &mut Vec<Token>, word: Word) -> Result<(), AllocError>
     ensures { OnOk result (Wrote (λ rest. written.token (tok.Reserved word) ∷ rest) out.old.items out.new.items) }
 {
     put(out, Token::Reserved(word))
 }
 
-/// A number in decimal.
+/// Puts a number in decimal in front of what was put before it.
 pub(crate) fn put_num(out: &mut Vec<Token>, n: u64) -> Result<(), AllocError>
     ensures { OnOk result (Wrote (λ rest. written.token (tok.Num n) ∷ rest) out.old.items out.new.items) }
 {
     put(out, Token::Num(n))
 }
 
-/// The type of integers of so many bits.
+/// Puts the type of integers of so many bits in front of what was put before it. The grammar
+/// has a form for 1 to 64 alone, but the token is put for any number.
 pub(crate) fn put_uint(out: &mut Vec<Token>, bits: u8) -> Result<(), AllocError>
     ensures { OnOk result (Wrote (uint_written bits) out.old.items out.new.items) }
 {
     put(out, Token::Uint(bits))
 }
 
-/// The name of a type or a constructor.
+/// Puts the name of a type or a constructor in front of what was put before it.
 pub(crate) fn put_upper(
     alloc: Global,
     out: &mut Vec<Token>,
@@ -67,7 +68,7 @@ pub(crate) fn put_upper(
     put(out, Token::Upper(text))
 }
 
-/// The name of a function or a variable.
+/// Puts the name of a function or a variable in front of what was put before it.
 pub(crate) fn put_lower(
     alloc: Global,
     out: &mut Vec<Token>,
@@ -79,7 +80,8 @@ pub(crate) fn put_lower(
     put(out, Token::Lower(text))
 }
 
-/// A type: that of integers of so many bits, or a data type by its name.
+/// Puts a type in front of what was put before it: that of integers of so many bits, or a data type
+/// by its name.
 pub(crate) fn put_ty(alloc: Global, out: &mut Vec<Token>, ty: &TyTree) -> Result<(), AllocError>
     ensures { OnOk result (Wrote (ty_written ty.now) out.old.items out.new.items) }
 {

@@ -6,14 +6,14 @@ ghost use Rattle.rb_syntax.specs.Words as text;
 use crate::bytes::{number, numeral_len};
 use crate::token::{SYMBOLS, Symbol, WORDS, Word};
 
-/// The reserved word that is written so, `u1` to `u64` aside.
+/// The reserved word that is written so, `u1` to `u64` aside; `None` where there is none.
 pub fn word_of(name: &[u8]) -> Option<Word>
     ensures { result ≡ text.word_of name.now }
 {
     WORDS.iter().copied().find(|word| word.text() == name)
 }
 
-/// The symbol at the front; of two, the longer.
+/// The symbol at the front of bytes, of two the longer; `None` where none stands there.
 pub fn symbol_at(bytes: &[u8]) -> Option<Symbol>
     ensures { result ≡ text.symbol_at bytes.now }
 {
@@ -23,7 +23,7 @@ pub fn symbol_at(bytes: &[u8]) -> Option<Symbol>
         .find(|symbol| bytes.starts_with(symbol.text()))
 }
 
-/// The width of the type of integers that is written so: 1 to 64 for `u1` to `u64`.
+/// The width of the type of integers that is written so: 1 to 64 for `u1` to `u64`, else `None`.
 pub fn width_of(name: &[u8]) -> Option<u8>
     ensures { result ≡ text.width_of name.now }
 {

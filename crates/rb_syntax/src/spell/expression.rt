@@ -16,7 +16,7 @@ use crate::token::{Symbol, Token, Word};
 use crate::tree::{ClauseTree, ExprTree, NameTree, Op, TyTree};
 use std::alloc::{AllocError, Global};
 
-// The word of an operator.
+// The reserved word of an operator.
 fn word_of_op(op: Op) -> Word
     ensures { result ≡ op_word op }
 {
@@ -32,7 +32,7 @@ fn word_of_op(op: Op) -> Word
     }
 }
 
-/// An expression.
+/// Puts an expression in front of what was put before it.
 #[cycle(expression)]
 pub(crate) fn put_expr(
     alloc: Global,
@@ -70,7 +70,7 @@ pub(crate) fn put_expr(
     }
 }
 
-// `f(a, b)`
+// Puts a call of a function, as `f(a, b)`.
 #[cycle(expression)]
 fn put_call(
     alloc: Global,
@@ -89,7 +89,7 @@ fn put_call(
     Ok(())
 }
 
-// `add(a, b)`
+// Puts an operator with its two operands, as `add(a, b)`.
 #[cycle(expression)]
 fn put_binary(
     alloc: Global,
@@ -111,7 +111,7 @@ fn put_binary(
     Ok(())
 }
 
-// `let x: T = a in b`
+// Puts a `let`, as `let x: T = a in b`.
 #[cycle(expression)]
 fn put_let(
     alloc: Global,
@@ -137,7 +137,7 @@ fn put_let(
     Ok(())
 }
 
-// `match a { p => e, q => f }`
+// Puts a match with its clauses, as `match a { p => e, q => f }`.
 #[cycle(expression)]
 fn put_match(
     alloc: Global,
@@ -158,7 +158,7 @@ fn put_match(
     Ok(())
 }
 
-// Arguments with commas between, or nothing.
+// Puts the arguments of a call with commas between, or nothing where there is none.
 #[cycle(expression)]
 fn put_args(alloc: Global, out: &mut Vec<Token>, args: &[ExprTree]) -> Result<(), AllocError>
     ensures { OnOk result ((l : ℕ) → Wrote (any_with comma
@@ -173,7 +173,7 @@ fn put_args(alloc: Global, out: &mut Vec<Token>, args: &[ExprTree]) -> Result<()
     }
 }
 
-// Fields in parentheses, or nothing.
+// Puts the fields of a constructor in parentheses, or nothing where there is none.
 #[cycle(expression)]
 fn put_fields(alloc: Global, out: &mut Vec<Token>, fields: &[ExprTree]) -> Result<(), AllocError>
     ensures { OnOk result ((l : ℕ) → Wrote (fields_written
@@ -190,7 +190,7 @@ fn put_fields(alloc: Global, out: &mut Vec<Token>, fields: &[ExprTree]) -> Resul
     }
 }
 
-// Expressions with commas between.
+// Puts one expression or more with commas between: `first`, then the `others`.
 #[cycle(expression)]
 fn put_exprs(
     alloc: Global,
@@ -211,7 +211,8 @@ fn put_exprs(
     Ok(())
 }
 
-// Clauses with commas between.
+// Puts the clauses of a match with commas between, or nothing where there is none, for which the
+// grammar has no form.
 #[cycle(expression)]
 fn put_clauses(
     alloc: Global,
@@ -230,7 +231,7 @@ fn put_clauses(
     }
 }
 
-// One clause or more, with commas between.
+// Puts one clause of a match or more with commas between: `first`, then the `others`.
 #[cycle(expression)]
 fn put_some_clauses(
     alloc: Global,
@@ -251,7 +252,7 @@ fn put_some_clauses(
     Ok(())
 }
 
-// `p => e`
+// Puts a clause of a match, as `p => e`.
 #[cycle(expression)]
 fn put_clause(alloc: Global, out: &mut Vec<Token>, clause: &ClauseTree) -> Result<(), AllocError>
     ensures { OnOk result ((l : ℕ) → Wrote (clause_written clause.now l) out.old.items out.new.items) }

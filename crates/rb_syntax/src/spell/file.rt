@@ -28,7 +28,7 @@ impl Spell for TyTree {
     }
 }
 
-// The types of fields in parentheses, or nothing.
+// Puts the types of a constructor's fields in parentheses, or nothing where it has none.
 fn put_field_types(alloc: Global, out: &mut Vec<Token>, fields: &[TyTree]) -> Result<(), AllocError>
     ensures { OnOk result (Wrote (fields_written (map ty_written fields.now)) out.old.items out.new.items) }
 {
@@ -53,7 +53,7 @@ impl Spell for ConTree {
     }
 }
 
-// `type T = A | B(u8);`
+// Puts a type's declaration, as `type T = A | B(u8);`.
 fn put_type(alloc: Global, out: &mut Vec<Token>, tree: &TypeTree) -> Result<(), AllocError>
     ensures { OnOk result (Wrote (type_written tree.now) out.old.items out.new.items) }
 {
@@ -75,7 +75,7 @@ impl Spell for u64 {
     }
 }
 
-// `layout T <64> = ..;`
+// Puts a layout, as `layout T <64> = ..;`.
 fn put_layout(alloc: Global, out: &mut Vec<Token>, tree: &LayoutTree) -> Result<(), AllocError>
     ensures { OnOk result (Wrote (layout_written tree.now) out.old.items out.new.items) }
 {
@@ -101,7 +101,7 @@ impl Spell for ParamTree {
     }
 }
 
-// `fun f(x: T): U = e;`
+// Puts a function's declaration, as `fun f(x: T): U = e;`.
 fn put_fun(alloc: Global, out: &mut Vec<Token>, tree: &FunTree) -> Result<(), AllocError>
     ensures { OnOk result (Wrote (fun_written tree.now) out.old.items out.new.items) }
 {
@@ -118,7 +118,7 @@ fn put_fun(alloc: Global, out: &mut Vec<Token>, tree: &FunTree) -> Result<(), Al
     Ok(())
 }
 
-// The word of a derived layout.
+// The reserved word of a derived layout: `boxed` or `packed`.
 fn word_of_auto(auto: Auto) -> Word
     ensures { result ≡ auto_word auto }
 {
@@ -128,7 +128,7 @@ fn word_of_auto(auto: Auto) -> Word
     }
 }
 
-// `layout T = boxed;`
+// Puts a layout that is derived, as `layout T = boxed;`.
 fn put_derived(
     alloc: Global,
     out: &mut Vec<Token>,
@@ -160,7 +160,8 @@ impl Spell for ItemTree {
     }
 }
 
-/// The tokens of a file's tree. A part for which the grammar has no form has no token.
+/// The tokens of a file's tree, in their order. A part for which the grammar has no form, as a
+/// variable in a provenance, may be left out.
 ///
 /// # Errors
 ///

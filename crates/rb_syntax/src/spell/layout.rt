@@ -14,7 +14,7 @@ use crate::token::{Symbol, Token, Word};
 use crate::tree::{LayItem, Loc, PartDecl, PartKind, Step};
 use std::alloc::{AllocError, Global};
 
-// `[o:l]`
+// Puts a range of bits, `[o:l]`.
 fn put_range(out: &mut Vec<Token>, o: u64, l: u64) -> Result<(), AllocError>
     ensures { OnOk result (Wrote (range_written o l) out.old.items out.new.items) }
 {
@@ -37,7 +37,7 @@ impl Spell for u32 {
     }
 }
 
-// `.0.1`
+// Puts a path, the number of each field behind a dot, as `.0.1`; nothing where it is empty.
 fn put_path(alloc: Global, out: &mut Vec<Token>, path: &[u32]) -> Result<(), AllocError>
     ensures { OnOk result (Wrote (path_written path.now) out.old.items out.new.items) }
 {
@@ -61,7 +61,8 @@ impl Spell for Step {
     }
 }
 
-/// `0[0:32] -> 4 @0:8[0:8]`
+/// Puts a location, a range of a root word with the steps that lead on from there, as
+/// `0[0:32] -> 4 @0:8[0:8]`.
 pub(crate) fn put_loc(alloc: Global, out: &mut Vec<Token>, loc: &Loc) -> Result<(), AllocError>
     ensures { OnOk result (Wrote (loc_written loc.now) out.old.items out.new.items) }
 {
@@ -71,7 +72,7 @@ pub(crate) fn put_loc(alloc: Global, out: &mut Vec<Token>, loc: &Loc) -> Result<
     Ok(())
 }
 
-// `= 5`
+// Puts the constant that a part of a word holds, as `= 5`.
 fn put_const(out: &mut Vec<Token>, n: u64) -> Result<(), AllocError>
     ensures { OnOk result (Wrote (λ rest. spelling.sym symbol.Equals ∷ spelling.num n
         ∷ rest) out.old.items out.new.items) }
@@ -81,7 +82,7 @@ fn put_const(out: &mut Vec<Token>, n: u64) -> Result<(), AllocError>
     Ok(())
 }
 
-// `.0 word 1`
+// Puts one word of the field at a path, which a part of a word holds, as `.0 word 1`.
 fn put_word_of(alloc: Global, out: &mut Vec<Token>, path: &[u32], j: u64) -> Result<(), AllocError>
     ensures { OnOk result (Wrote (λ rest. path_written path.now
         (spelling.reserved word.Word ∷ spelling.num j ∷ rest)) out.old.items out.new.items) }
@@ -92,7 +93,7 @@ fn put_word_of(alloc: Global, out: &mut Vec<Token>, path: &[u32], j: u64) -> Res
     Ok(())
 }
 
-// A word or the words of a field.
+// Puts an item of a leaf or a block: a word, or `inline` for the words of a field.
 #[cycle(item)]
 fn put_item(alloc: Global, out: &mut Vec<Token>, item: &LayItem) -> Result<(), AllocError>
     ensures { OnOk result ((l : ℕ) → Wrote (lay_item_written item.now l) out.old.items out.new.items) }
@@ -110,7 +111,7 @@ fn put_item(alloc: Global, out: &mut Vec<Token>, item: &LayItem) -> Result<(), A
     }
 }
 
-// `word 32 { [0:32] .0 }`
+// Puts a word of a leaf or a block with its parts, as `word 32 { [0:32] .0 }`.
 #[cycle(item)]
 fn put_word_item(
     alloc: Global,
@@ -131,7 +132,7 @@ fn put_word_item(
     Ok(())
 }
 
-// `-> 8 { inline .1 }`
+// Puts the pointer that a part of a word holds, with its block, as `-> 8 { inline .1 }`.
 #[cycle(item)]
 fn put_pointer(
     alloc: Global,
@@ -152,7 +153,7 @@ fn put_pointer(
     Ok(())
 }
 
-// What a part holds.
+// Puts what a part of a word holds: a constant, a field, a slice or a word of one, or a pointer.
 #[cycle(item)]
 fn put_kind(alloc: Global, out: &mut Vec<Token>, kind: &PartKind) -> Result<(), AllocError>
     ensures { OnOk result ((l : ℕ) → Wrote (kind_written kind.now l) out.old.items out.new.items) }
@@ -182,7 +183,7 @@ fn put_kind(alloc: Global, out: &mut Vec<Token>, kind: &PartKind) -> Result<(), 
     }
 }
 
-// A part of a word.
+// Puts a part of a word: its range, and what it holds.
 #[cycle(item)]
 fn put_part(alloc: Global, out: &mut Vec<Token>, part: &PartDecl) -> Result<(), AllocError>
     ensures { OnOk result ((l : ℕ) → Wrote (part_written part.now l) out.old.items out.new.items) }
@@ -192,7 +193,7 @@ fn put_part(alloc: Global, out: &mut Vec<Token>, part: &PartDecl) -> Result<(), 
     Ok(())
 }
 
-// The parts of a word with commas between, or nothing.
+// Puts the parts of a word with commas between, or nothing where there is none.
 #[cycle(item)]
 fn put_parts(alloc: Global, out: &mut Vec<Token>, parts: &[PartDecl]) -> Result<(), AllocError>
     ensures { OnOk result ((l : ℕ) → Wrote (any_with comma
@@ -207,7 +208,7 @@ fn put_parts(alloc: Global, out: &mut Vec<Token>, parts: &[PartDecl]) -> Result<
     }
 }
 
-// One part or more, with commas between.
+// Puts one part of a word or more with commas between: `first`, then the `others`.
 #[cycle(item)]
 fn put_some_parts(
     alloc: Global,
@@ -228,7 +229,7 @@ fn put_some_parts(
     Ok(())
 }
 
-/// The items of a leaf or a block with commas between, or nothing.
+/// Puts the items of a leaf or a block with commas between, or nothing where there is none.
 #[cycle(item)]
 pub(crate) fn put_items(
     alloc: Global,
@@ -247,7 +248,7 @@ pub(crate) fn put_items(
     }
 }
 
-// One item or more, with commas between.
+// Puts one item of a leaf or a block or more with commas between: `first`, then the `others`.
 #[cycle(item)]
 fn put_some_items(
     alloc: Global,

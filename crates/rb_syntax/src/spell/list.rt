@@ -18,7 +18,8 @@ pub(crate) trait Spell {
         ensures { OnOk result (Wrote (writing self.now) out.old.items out.new.items) };
 }
 
-/// Parts one after the other.
+/// Puts parts one after the other with nothing between. The last is put first, since tokens are
+/// gathered from the end.
 pub(crate) fn put_each<T: Spell>(
     alloc: Global,
     out: &mut Vec<Token>,
@@ -32,7 +33,7 @@ pub(crate) fn put_each<T: Spell>(
     Ok(())
 }
 
-// Parts, each behind a separator.
+// Puts parts one after the other, each with the separator before it.
 fn put_behind<T: Spell>(
     alloc: Global,
     out: &mut Vec<Token>,
@@ -49,7 +50,7 @@ fn put_behind<T: Spell>(
     Ok(())
 }
 
-/// Parts with a separator between, or nothing.
+/// Puts parts with a separator between, or nothing where there is none.
 pub(crate) fn put_list<T: Spell>(
     alloc: Global,
     out: &mut Vec<Token>,

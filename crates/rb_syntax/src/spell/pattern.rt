@@ -9,7 +9,7 @@ use crate::token::{Symbol, Token};
 use crate::tree::PatTree;
 use std::alloc::{AllocError, Global};
 
-/// A pattern.
+/// Puts a pattern in front of what was put before it.
 #[cycle(pattern)]
 pub(crate) fn put_pat(alloc: Global, out: &mut Vec<Token>, pat: &PatTree) -> Result<(), AllocError>
     ensures { OnOk result ((l : ℕ) → Wrote (pat_written pat.now l) out.old.items out.new.items) }
@@ -29,7 +29,7 @@ pub(crate) fn put_pat(alloc: Global, out: &mut Vec<Token>, pat: &PatTree) -> Res
     }
 }
 
-// Subpatterns in parentheses.
+// Puts the subpatterns of a constructor's pattern in parentheses: `first`, then the `others`.
 #[cycle(pattern)]
 fn put_subpats(
     alloc: Global,

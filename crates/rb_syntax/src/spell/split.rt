@@ -15,7 +15,8 @@ use crate::token::{Symbol, Token, Word};
 use crate::tree::{ArmTree, LayItem, Loc, PatTree, SplitTree};
 use std::alloc::{AllocError, Global};
 
-// A provenance or a part of one. A variable and a number have no form there.
+// Puts a provenance or a part of one: a constructor with its parts, or `_`. A variable and a number
+// have no form there, and nothing is put for them.
 #[cycle(provenance)]
 fn put_below(alloc: Global, out: &mut Vec<Token>, pat: &PatTree) -> Result<(), AllocError>
     ensures { OnOk result ((l : ℕ) → Wrote (below_written pat.now l) out.old.items out.new.items) }
@@ -35,7 +36,7 @@ fn put_below(alloc: Global, out: &mut Vec<Token>, pat: &PatTree) -> Result<(), A
     }
 }
 
-// Parts of a provenance in parentheses.
+// Puts the parts of a constructor in a provenance, in parentheses: `first`, then the `others`.
 #[cycle(provenance)]
 fn put_parts_below(
     alloc: Global,
@@ -58,7 +59,7 @@ fn put_parts_below(
     Ok(())
 }
 
-// The provenance of a leaf.
+// Puts the provenance of a leaf, the pattern of the values that it holds.
 fn put_prov(alloc: Global, out: &mut Vec<Token>, pat: &PatTree) -> Result<(), AllocError>
     ensures { OnOk result ((l : ℕ) → Wrote (prov_written pat.now l) out.old.items out.new.items) }
 {
@@ -66,7 +67,7 @@ fn put_prov(alloc: Global, out: &mut Vec<Token>, pat: &PatTree) -> Result<(), Al
     Ok(())
 }
 
-// `Cons(_, _) : { .. }`
+// Puts a leaf, its provenance and its items, as `Cons(_, _) : { .. }`.
 fn put_leaf(
     alloc: Global,
     out: &mut Vec<Token>,
@@ -86,7 +87,7 @@ fn put_leaf(
     Ok(())
 }
 
-/// A layout's tree.
+/// Puts a layout's tree: a split with its arms, or a leaf.
 #[cycle(split)]
 pub(crate) fn put_split(
     alloc: Global,
@@ -113,7 +114,7 @@ pub(crate) fn put_split(
     }
 }
 
-// `else => .. }`
+// Puts the end of a split that has an `else`, as `else => .. }`.
 #[cycle(split)]
 fn put_else(alloc: Global, out: &mut Vec<Token>, tree: &SplitTree) -> Result<(), AllocError>
     ensures { OnOk result ((l : ℕ) → Wrote (λ rest. spelling.reserved word.Else ∷ spelling.sym symbol.FatArrow
@@ -126,7 +127,7 @@ fn put_else(alloc: Global, out: &mut Vec<Token>, tree: &SplitTree) -> Result<(),
     Ok(())
 }
 
-// `split 0[0:1] {` and the arms.
+// Puts a split up to the last of its arms, as `split 0[0:1] { 0 => .. 1 => ..`.
 #[cycle(split)]
 fn put_arms(
     alloc: Global,
@@ -147,7 +148,7 @@ fn put_arms(
     Ok(())
 }
 
-// `0 => ..`
+// Puts an arm of a split, its literal and what stands under it, as `0 => ..`.
 #[cycle(split)]
 fn put_arm(alloc: Global, out: &mut Vec<Token>, arm: &ArmTree) -> Result<(), AllocError>
     ensures { OnOk result ((l : ℕ) → Wrote (arm_written arm.now l) out.old.items out.new.items) }
