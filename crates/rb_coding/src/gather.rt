@@ -4,10 +4,11 @@ ghost use Rattle.std.specs.Prelude.{◌≡◌, ◌∷◌, [], IfOk, replicate, s
 ghost use Rattle.rb_coding.specs.inner.Gathering.{count_at, entry, field_words, put_blocks, put_entry, put_part, put_parts, put_words};
 
 use crate::bits::{put_into, take_from};
-use crate::lookup::{item, same_path};
+use crate::lookup::item;
 use rb_core::seq::Seq;
 use rb_core::types::{DataDecl, Ty};
 use rb_layout::layout::{Block, FlatWord, Kind, Layout, Leaf, Part};
+use rb_layout::paths::same_path;
 use rb_layout::positions::type_at;
 use rb_rel::words::word_count;
 use std::alloc::{AllocError, Global};

@@ -1,7 +1,6 @@
-//! What stands at a number, and whether two paths are the same.
+//! What stands at a number.
 
 ghost use Rattle.std.specs.Prelude.{◌≡◌, slice_index};
-ghost use Rattle.rb_layout.specs.Flattening.{same_path};
 
 /// The word with this number, 0 where there is none.
 pub fn item(words: &[u64], number: u64) -> u64
@@ -11,11 +10,4 @@ pub fn item(words: &[u64], number: u64) -> u64
         None => 0,
         Some(word) => *word,
     }
-}
-
-/// Whether two paths of field numbers are the same.
-pub fn same_path(own: &[u32], path: &[u32]) -> bool
-    ensures { result ≡ same_path own.now path.now }
-{
-    own == path
 }

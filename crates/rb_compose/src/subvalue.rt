@@ -2,11 +2,11 @@
 
 ghost use Rattle.std.specs.Prelude.{◌≡◌};
 ghost use Rattle.std.specs.Option.{option_copied};
-ghost use Rattle.rb_layout.specs.Flattening.{same_path};
 ghost use Rattle.rb_compose.specs.Subvalues.{subvalue_at};
 
 use rb_core::seq::Seq;
 use rb_fragment::held::Held;
+use rb_layout::paths::same_path;
 
 /// The value at a position of another value, in slots, a word each. The path is a list of field numbers
 /// from the root.
@@ -26,11 +26,4 @@ pub fn subvalue_at<'a>(subs: &'a [Subvalue], path: &[u32]) -> Option<&'a Held>
         }
     }
     None
-}
-
-// Whether two paths have the same field numbers, in the same order.
-fn same_path(own: &[u32], path: &[u32]) -> bool
-    ensures { result ≡ same_path own.now path.now }
-{
-    own == path
 }

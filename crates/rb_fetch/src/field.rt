@@ -14,10 +14,10 @@ use crate::way::spot_read;
 use rb_core::seq::Seq;
 use rb_core::types::Ty;
 use rb_fragment::reads::Read;
-use rb_fragment::slots::word_count;
 use rb_layout::agreed::Agreed;
 use rb_layout::layout::{Layout, Leaf};
 use rb_layout::positions::type_at;
+use rb_rel::words::word_count;
 use rb_target::body::Body;
 use std::alloc::{AllocError, Global};
 

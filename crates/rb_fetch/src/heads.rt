@@ -12,6 +12,8 @@ use rb_core::pattern::Pat;
 use rb_core::seq::Seq;
 use rb_core::types::{ConRef, DataDecl};
 use rb_layout::layout::{Layout, Leaf};
+use rb_layout::numbers::number_of;
+use rb_layout::paths::same_path;
 use std::alloc::{AllocError, Global};
 
 /// A constructor of a provenance: its position, a list of field numbers from the root, and itself.
@@ -19,20 +21,6 @@ use std::alloc::{AllocError, Global};
 pub(crate) struct Place {
     pub path: Seq<u32>,
     pub con: ConRef,
-}
-
-/// The number of a field as positions have it, in 32 bits.
-///
-/// # Errors
-///
-/// Want of memory is the answer where it is past all numbers of fields, as it never is.
-pub(crate) fn number_of(field: usize) -> Result<u32, AllocError>
-    ensures { IfOk result (λ n. n ≡ field) }
-{
-    match u32::try_from(field) {
-        Ok(number) => Ok(number),
-        Err(_) => Err(AllocError),
-    }
 }
 
 /// The position of a field of the part at a position: one field number more.
@@ -172,13 +160,6 @@ pub(crate) fn bare_paths(
         }
     }
     Ok(paths)
-}
-
-/// Whether two positions are the same, field number by field number.
-pub(crate) fn same_path(own: &[u32], path: &[u32]) -> bool
-    ensures { result ≡ same_path own.now path.now }
-{
-    own == path
 }
 
 // Whether a position is one of these.

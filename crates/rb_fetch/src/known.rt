@@ -7,14 +7,13 @@ ghost use Rattle.rb_fetch.specs.inner.Fields.{leaf_at};
 ghost use Rattle.rb_fetch.specs.inner.Heads.{behind, head_behind, head_under, heads_behind, heads_in, known_con, leaf_known, leaves_beside, leaves_that_can_be, shown_heads, sole};
 ghost use Rattle.rb_fetch.specs.inner.Seen.{seen_before, seen_more};
 
-use crate::heads::{
-    Place, bare_paths, heads_under, leaf_at, leaves_beside, leaves_with, same_path,
-};
+use crate::heads::{Place, bare_paths, heads_under, leaf_at, leaves_beside, leaves_with};
 use crate::parts::{leaves_by, root_of};
 use crate::rebuild::copy_path;
 use rb_core::seq::Seq;
 use rb_core::types::{ConRef, DataDecl};
 use rb_layout::layout::Layout;
+use rb_layout::paths::same_path;
 use std::alloc::{AllocError, Global};
 
 /// What is known of a value: positions that need no look any more, and constructors that stand in it.

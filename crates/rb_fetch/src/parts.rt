@@ -7,7 +7,7 @@ ghost use Rattle.rb_rel.specs.Switches.{is_leaf_for, leaves_in};
 ghost use Rattle.rb_fetch.specs.inner.Choosing.{HasLeaves, HasOpens, HasRoot, HasType, IsPartIn, parts_from, parts_under};
 ghost use Rattle.rb_fetch.specs.inner.Heads.{leaves_for};
 
-use crate::heads::{field_path, leaf_at, same_path};
+use crate::heads::{field_path, leaf_at};
 use rb_compose::subvalue::Subvalue;
 use rb_core::inference::types_of_fields;
 use rb_core::pattern::Pat;
@@ -15,6 +15,7 @@ use rb_core::seq::Seq;
 use rb_core::types::{ConRef, DataDecl, Ty};
 use rb_fragment::held::Held;
 use rb_layout::layout::{Layout, Leaf};
+use rb_layout::paths::same_path;
 use std::alloc::{AllocError, Global};
 
 // Leaves ----------------------------------------------------------------------------------------

@@ -1,6 +1,6 @@
 //! Where a part of a leaf stands: the part that holds a unit of a field, or that points to a block.
 
-ghost use Rattle.std.specs.Prelude.{◌≡◌, ◌+◌, ◌==◌, ◌&&◌, leb, ltb, MatchOption, Some, slice_get};
+ghost use Rattle.std.specs.Prelude.{◌≡◌, ◌==◌, ◌&&◌, MatchOption, Some, slice_get};
 ghost use Rattle.rb_layout.specs.A6 as held;
 ghost use Rattle.rb_layout.specs.Flattening.{same_path};
 ghost use Rattle.rb_layout.specs.Readable.{AreShort};
@@ -9,6 +9,7 @@ ghost use Rattle.rb_fetch.specs.inner.Placing as placing;
 
 use rb_core::types::Ty;
 use rb_layout::layout::{FlatWord, Kind, Leaf, Part};
+use rb_layout::paths::{has_bit, same_path};
 
 /// What part is looked for.
 #[derive(Clone, Copy)]
@@ -26,27 +27,6 @@ pub struct Spot<'a> {
     pub word: usize,
     pub flat: &'a FlatWord,
     pub part: &'a Part,
-}
-
-// Whether the path that a part names is the path of the field that is looked for.
-fn same_path(own: &[u32], path: &[u32]) -> bool
-    ensures { result ≡ same_path own.now path.now }
-{
-    own == path
-}
-
-// Whether a part that has `l` bits of the field at its own path, from bit `a` on, has bit `i` of
-// the field at `path`.
-fn has_bit(own: &[u32], path: &[u32], a: u64, l: u64, i: u64) -> bool
-    ensures { result ≡ (same_path own.now path.now && (leb a i && ltb i (a + l))) }
-{
-    if !same_path(own, path) {
-        return false;
-    }
-    if i < a {
-        return false;
-    }
-    i - a < l
 }
 
 // Whether word `j` of the field at a part's own path is word `i` of the field at this path.

@@ -3,27 +3,11 @@
 ghost use Rattle.std.specs.Prelude.{◌≡◌, ◌++◌, IfOk, OnOk};
 ghost use Rattle.rb_fragment.specs.Slots.{slots_from, with_slots};
 ghost use Rattle.rb_fragment.specs.Holding.{all_slots};
-ghost use Rattle.rb_rel.specs.Relation as relation;
 
 use crate::held::Held;
 use rb_core::seq::Seq;
-use rb_core::types::Ty;
-use rb_layout::layout::Layout;
 use rb_target::body::Body;
 use std::alloc::{AllocError, Global};
-
-/// How many words represent a value of a type: 1 for an integer, and 0 for a type without a layout.
-pub fn word_count(layouts: &[Layout], ty: Ty) -> usize
-    ensures { result ≡ relation.word_count layouts.now ty }
-{
-    match ty {
-        Ty::Int(_) => 1,
-        Ty::Named(number) => match layouts.get(number as usize) {
-            None => 0,
-            Some(layout) => layout.shape.len(),
-        },
-    }
-}
 
 /// Takes so many slots in a row that nothing else uses.
 ///

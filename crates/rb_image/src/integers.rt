@@ -1,9 +1,8 @@
 //! Integers at the open positions of a leaf.
 
-ghost use Rattle.std.specs.Prelude.{◌≡◌, ℕ, ◌+◌, ◌-◌, ◌&&◌, ◌≤◌, IfOk, leb, ltb};
+ghost use Rattle.std.specs.Prelude.{◌≡◌, ℕ, ◌-◌, ◌≤◌, IfOk};
 ghost use Rattle.rb_core.specs.declared.types.Ty.TheVariants.{Int};
 ghost use Rattle.rb_layout.specs.A6.{holds_unit};
-ghost use Rattle.rb_layout.specs.Flattening.{same_path};
 ghost use Rattle.rb_layout.specs.Readable.{IsReadable};
 ghost use Rattle.rb_image.specs.Integers as spec;
 ghost use Rattle.rb_image.specs.Integers.{field_bit, value_in};
@@ -17,6 +16,7 @@ use crate::order::{Spot, order_of};
 use rb_coding::bits::take_from;
 use rb_image_text::image::Image;
 use rb_layout::layout::{Kind, Leaf};
+use rb_layout::paths::has_bit;
 use std::alloc::{AllocError, Global};
 
 // A leaf of an image's value, with the words that were read of it and its parts in their order.
@@ -33,19 +33,6 @@ fn less(a: u64, b: u64) -> u64
     ensures { result ≡ a - b }
 {
     if b <= a { a - b } else { 0 }
-}
-
-// Whether `l` bits of the integer at a path, from bit `a` on, have a bit of this number in them.
-fn has_bit(own: &[u32], path: &[u32], a: u64, l: u64, i: u64) -> bool
-    ensures { result ≡ (same_path own.now path.now && (leb a i && ltb i (a + l))) }
-{
-    if own != path {
-        return false;
-    }
-    if i < a {
-        return false;
-    }
-    i - a < l
 }
 
 // Whether a part of `l` bits holds a bit of the integer at a path.

@@ -6,9 +6,10 @@ ghost use Rattle.rb_rel.proofs.Packing.{number_of};
 ghost use Rattle.rb_image.specs.Rebuilds.{words_in};
 
 use rb_coding::bits::{put_into, take_from};
-use rb_coding::lookup::{item, same_path};
+use rb_coding::lookup::item;
 use rb_core::seq::Seq;
 use rb_layout::layout::{FlatWord, Kind, Part};
+use rb_layout::paths::same_path;
 use std::alloc::{AllocError, Global};
 
 /// The words of the field at a path.

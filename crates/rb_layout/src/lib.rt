@@ -36,6 +36,7 @@ pub mod locate;
 pub mod numbers;
 pub mod opens;
 mod part_goals;
+pub mod paths;
 pub mod positions;
 mod settling;
 pub mod sizes;

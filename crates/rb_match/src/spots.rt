@@ -16,9 +16,9 @@ use rb_core::types::Ty;
 use rb_decide::clause_matrix::number_of;
 use rb_decide::decision_graph::{GraphArm, GraphNode};
 use rb_fragment::emit::emit_const;
-use rb_fragment::slots::word_count;
 use rb_layout::agreed::Agreed;
 use rb_layout::layout::Leaf;
+use rb_rel::words::word_count;
 use rb_target::body::Body;
 use std::alloc::{AllocError, Global};
 
