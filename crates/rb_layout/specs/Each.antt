@@ -4,9 +4,11 @@ use Rattle.rb_layout.specs.declared.layout.Layout.{Layout}
 use Rattle.rb_layout.specs.declared.layout.Leaf.{Leaf}
 use Rattle.rb_layout.specs.Positions.{layout_of}
 
+-- P holds of each layout, which it is given with the number of its type
 abbrev pub EachLayout : List Layout → (ℕ → Layout → Type 0) → Type 0
 EachLayout layouts P = (t : ℕ) (layout : Layout) → layout_of layouts t ≡ Some layout → P t layout
 
+-- P holds of each leaf of each layout; it is given the type's number, the layout, the leaf's number and the leaf
 abbrev pub EachLeaf : List Layout → (ℕ → Layout → ℕ → Leaf → Type 0) → Type 0
 EachLeaf layouts P = (t : ℕ) (layout : Layout) (n : ℕ) (leaf : Leaf) → layout_of layouts t ≡ Some layout
     → slice_get layout.leaves n ≡ Some leaf → P t layout n leaf

@@ -1,14 +1,17 @@
--- Open positions as code lists them, and those below a path.
+-- Open positions as code lists them, and those below a path. An open position is a path, the field numbers from the
+-- root to a wildcard or variable of a pattern, with the type there.
 use Rattle.std.specs.Prelude.{ℕ, List, map, ◌++◌}
 use Rattle.rb_layout.specs.Positions.{Open}
 use Rattle.rb_layout.specs.declared.opens.OpenPosition.{OpenPosition}
 
+-- an open position that code lists, as specifications speak of it
 abbrev pub open_at : OpenPosition → Open
 open_at o = record { path = o.path; ty = o.ty }
 
+-- a list of these, in the same order
 abbrev pub opens_at : List OpenPosition → List Open
 opens_at os = map open_at os
 
--- a position below a path
+-- an open position of a pattern that stands at this path, seen from the root: its own path comes behind this one
 abbrev pub under : List ℕ → Open → Open
 under path o = record { path = path ++ o.path; ty = o.ty }

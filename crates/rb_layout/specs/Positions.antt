@@ -1,4 +1,7 @@
--- The open positions of provenances, the leaf of a value, and the layout of a type.
+-- The open positions of provenances, the leaf of a value, and the layout of a type. A provenance is the pattern that
+-- is written before a leaf; the leaf is for the values that it matches. An open position is a wildcard or a variable
+-- in it, and its path the list of field numbers that leads there from the root, outermost first. Types, leaves and
+-- fields are named by their numbers, from 0.
 use Rattle.std.specs.Prelude.{◌≡◌, ℕ, ◌+◌, ◌<◌, ◌⊎◌, List, [], ◌∷◌, ◌++◌, map, Option, Some, None, slice_get, if◌then◌else◌}
 use Rattle.rb_core.specs.declared.value.Value.{Value}
 use Rattle.rb_core.specs.declared.types.Ty.{Ty}
@@ -13,67 +16,83 @@ use Rattle.rb_core.specs.Values.{fields_of}
 use Rattle.rb_layout.specs.declared.layout.Leaf.{Leaf}
 use Rattle.rb_layout.specs.declared.layout.Layout.{Layout}
 
--- an open position: a list of field numbers from the root, and the type there
+-- an open position of a pattern: its path from the root, which is empty where the whole pattern is a wildcard or a
+-- variable, and the type of what stands there
 pub record Open : Type 0 where
   pub path : List ℕ
   pub ty : Ty
 
+-- an open position of the subpattern for field i, seen from the pattern around it: its path begins with i
 abbrev pub below : ℕ → Open → Open
 below i o = record { path = i ∷ o.path; ty = o.ty }
 
--- those of subpatterns at the types of their fields, the first of which is field i
+-- The open positions of subpatterns, from left to right, with their paths from the pattern around them. The first
+-- list has for each subpattern what its open positions are at a type, the second the types of the fields; the first
+-- of both belongs to field i, the next to field i + 1. Where one list ends, the rest of the other counts for nothing.
 abbrev pub opens_below : List (Ty → List Open) → List Ty → ℕ → List Open
 opens_below [] ts i = []
 opens_below (p ∷ ps) [] i = []
 opens_below (p ∷ ps) (t ∷ ts) i = map (below i) (p t) ++ opens_below ps ts (i + 1)
 
+-- a list of types that may be missing, and the empty list where it is
 abbrev pub types_or_none : Option (List Ty) → List Ty
 types_or_none None = []
 types_or_none (Some ts) = ts
 
+-- The open positions of one layer of a pattern at a type, where its subpatterns are given by what their open
+-- positions are at a type. A wildcard or a variable is the one position, with the empty path. A number has none. A
+-- constructor has those of its subpatterns at the types of its fields, whatever type is given, and none where no such
+-- constructor is declared.
 abbrev pub opens_step : List DataDecl → Pat-F (Ty → List Open) → Ty → List Open
 opens_step types (P.Wild at) ty = record { path = []; ty = ty } ∷ []
 opens_step types (P.Var at x) ty = record { path = []; ty = ty } ∷ []
 opens_step types (P.Num at n) ty = []
 opens_step types (P.Con at c ps) ty = opens_below ps (types_or_none (fields_of types c)) 0
 
--- the wildcards of a pattern of this type, from left to right
+-- the open positions of a pattern at a type: its wildcards and variables, from left to right
 abbrev pub opens_of : List DataDecl → Pat → Ty → List Open
 opens_of types = fold-Pat (Ty → List Open) (opens_step types)
 
--- the type that a provenance is of: its root is a constructor
+-- The type of a provenance, by its outermost layer: that of the constructor at its root. A well-typed provenance
+-- begins with one; for any other pattern u64 stands in.
 abbrev pub root_type : Pat-F Pat → Ty
 root_type (P.Wild at) = Int 64
 root_type (P.Var at x) = Int 64
 root_type (P.Num at n) = Int 64
 root_type (P.Con at c ps) = Named c.ty
 
--- the open positions of a provenance
+-- the open positions of a provenance, from left to right, each with its type
 abbrev pub open_positions : List DataDecl → Pat → List Open
 open_positions types prov = opens_of types prov (root_type (out-Pat prov))
 
--- the first leaf whose provenance matches, by its number
+-- the number of the first of some leaves whose provenance matches a value, where the first in the list is leaf n;
+-- None where none matches
 abbrev pub leaf_from : List Leaf → Value → ℕ → Option ℕ
 leaf_from [] v n = None
 leaf_from (leaf ∷ leaves) v n = if matches_of leaf.prov v then Some n else leaf_from leaves v (n + 1)
 
+-- the number of a value's leaf in a layout: the first leaf whose provenance matches it, and None where none does
 abbrev pub leaf_of : Layout → Value → Option ℕ
 leaf_of layout v = leaf_from layout.leaves v 0
 
--- the layout of a type: the layouts stand in the types' order
+-- the layout of type t: layouts stand in the types' order, so it is the one at place t, and None where the list ends
+-- before
 abbrev pub layout_of : List Layout → ℕ → Option Layout
 layout_of layouts t = slice_get layouts t
 
--- a position stands to the left of another: at the first field where they differ
+-- One path stands to the left of another: where they first differ, it goes to the lower field. A path does not stand
+-- to the left of itself, nor of one that it begins or that begins it.
 abbrev pub IsLeftOf : List ℕ → List ℕ → Type 0
 IsLeftOf [] q = ⊥
 IsLeftOf (i ∷ p) [] = ⊥
 IsLeftOf (i ∷ p) (j ∷ q) = (i < j) ⊎ ((i ≡ j) × IsLeftOf p q)
 
--- each position stands to the left of those after it
+-- Of any two open positions in a list the earlier stands to the left of the later. So none stands there twice, and
+-- none below another.
 abbrev pub AreFromLeft : List Open → Type 0
 AreFromLeft os =
     (j k : ℕ) (a b : Open) → j < k → slice_get os j ≡ Some a → slice_get os k ≡ Some b → IsLeftOf a.path b.path
 
+-- the law: the open positions of any pattern are listed from left to right, whatever the types
 abbrev pub OpensAreFromLeft : Type 0
 OpensAreFromLeft = (types : List DataDecl) (prov : Pat) → AreFromLeft (open_positions types prov)
