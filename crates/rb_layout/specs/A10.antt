@@ -1,4 +1,4 @@
--- A10: "the root words of T hold a field of type S" has no cycle.
+-- A10: no cycle of types in which the root words of each hold a field of the next. Types are named by their numbers.
 use Rattle.std.specs.Prelude.{◌≡◌, ℕ, List, Some, slice_get}
 use Rattle.rb_core.specs.declared.types.Ty.TheVariants.{Named}
 use Rattle.rb_core.specs.declared.types.DataDecl.{DataDecl}
@@ -14,7 +14,8 @@ use Rattle.rb_layout.specs.Flattening.{type_at}
 use Rattle.rb_layout.specs.Cycles.{HasNoCycle, IsCycleFrom}
 use Rattle.rb_layout.specs.Each.{EachLayout}
 
--- a part of a root word of type t has a word of a field of type s
+-- the root words of type t hold a field of type s: in some leaf of t's layout a part of a root word has a word of the
+-- field at a path, and the leaf's provenance has an open position of type s there
 pub record HoldsField (types : List DataDecl) (layouts : List Layout) (t s : ℕ) : Type 0 where
   pub layout : Layout
   pub leaf_number : ℕ
@@ -32,10 +33,12 @@ pub record HoldsField (types : List DataDecl) (layouts : List Layout) (t s : ℕ
   pub is_kind : part.kind ≡ Word path index
   pub is_field : type_at (open_positions types leaf.prov) path ≡ Some (Named s)
 
+-- the rule: no type that has a layout is on a cycle of types, each of which holds a field of the next in root words
 abbrev pub A10 : List DataDecl → List Layout → Type 0
 A10 types layouts = EachLayout layouts (λ t layout. HasNoCycle (HoldsField types layouts) t)
 
--- how a type fails the rule
+-- how type t fails the rule, by the evidence: a cycle of types is listed from t on, each of which holds a field of
+-- the next in root words; no other evidence fails the rule
 abbrev pub FailsHolding : List DataDecl → List Layout → ℕ → Why → Type 0
 FailsHolding types layouts t (HoldCycle ts) = IsCycleFrom (HoldsField types layouts) t ts
 FailsHolding types layouts t why = ⊥

@@ -1,5 +1,7 @@
 -- A3: the parts of each written word lie in it, are disjoint, and fit what they hold. A part whose path is not open
--- places nothing, and nothing is demanded of it.
+-- places nothing, and nothing is demanded of it. The range [o:l] is the l bits from bit o on. A path names a field,
+-- and is open where the leaf's provenance has an open position there; `opens` are these positions, `decls` the
+-- declared layouts.
 use Rattle.std.specs.Prelude.{◌≡◌, ℕ, ◌+◌, ◌^◌, ◌<◌, ◌≤◌, ◌⊎◌, List, [], ◌∷◌, Option, Some, None, slice_get}
 use Rattle.rb_core.specs.declared.types.Ty.{Ty}
 use Rattle.rb_core.specs.declared.types.Ty.TheVariants.{Int, Named}
@@ -22,29 +24,33 @@ IsPlaced opens (Slice path a k) = IsOpenIn opens path
 IsPlaced opens (WordOf path j) = IsOpenIn opens path
 IsPlaced opens (Address align) = Unit {0}
 
--- the range has a bit and lies in the word
+-- the range [o:l] has a bit and lies in a word of this width
 abbrev pub LiesIn : ℕ → ℕ → ℕ → Type 0
 LiesIn width o l = (1 ≤ l) × (o + l ≤ width)
 
--- the whole field: an integer has as many bits, and a data type has one word of as many bits
+-- A part of l bits fits the whole field, given the type at its path: an integer has l bits, and a data type has one
+-- word, of l bits. Where the path is not open, nothing is demanded.
 abbrev pub FitsWhole : List LayoutDecl → Option Ty → ℕ → Type 0
 FitsWhole decls None l = Unit {0}
 FitsWhole decls (Some (Int bits)) l = l ≡ bits
 FitsWhole decls (Some (Named s)) l = shape_of decls s ≡ l ∷ []
 
--- a slice of k bits from bit a: as long as the range, and in an integer
+-- A part of l bits fits a slice of k bits from bit a on, given the type at its path: k is l, and the bits lie in an
+-- integer; a data type has no slices. Where the path is not open, nothing is demanded.
 abbrev pub FitsSlice : Option Ty → ℕ → ℕ → ℕ → Type 0
 FitsSlice None l a k = Unit {0}
 FitsSlice (Some (Int bits)) l a k = (k ≡ l) × (a + k ≤ bits)
 FitsSlice (Some (Named s)) l a k = ⊥
 
--- word j of a data type, which has as many bits
+-- A part of l bits fits word j of the field, given the type at its path: a data type has a word j, of l bits; an
+-- integer has no words. Where the path is not open, nothing is demanded.
 abbrev pub FitsWord : List LayoutDecl → Option Ty → ℕ → ℕ → Type 0
 FitsWord decls None l j = Unit {0}
 FitsWord decls (Some (Int bits)) l j = ⊥
 FitsWord decls (Some (Named s)) l j = slice_get (shape_of decls s) j ≡ Some l
 
--- what is held fits so many bits; of a path to no open position nothing is demanded
+-- A part of l bits fits what it is written to hold: a number is below 2 ^ l, and of a field see the forms above. Of a
+-- pointer nothing is demanded here.
 abbrev pub Fits : List LayoutDecl → List Open → ℕ → Content → Type 0
 Fits decls opens l (Number c) = c < 2 ^ l
 Fits decls opens l (Whole path) = FitsWhole decls (type_at opens path) l
@@ -52,22 +58,26 @@ Fits decls opens l (Slice path a k) = FitsSlice (type_at opens path) l a k
 Fits decls opens l (WordOf path j) = FitsWord decls (type_at opens path) l j
 Fits decls opens l (Address align) = Unit {0}
 
+-- The parts of a word of this width pass the rule. Those that are placed lie in the word, and no two of them have a
+-- bit in common. Each fits what it holds.
 pub record PartsFit (decls : List LayoutDecl) (opens : List Open) (width : ℕ) (parts : List WrittenPart) : Type 0 where
   pub inside : (k : ℕ) (p : WrittenPart) → slice_get parts k ≡ Some p → IsPlaced opens p.content → LiesIn width p.o p.l
   pub disjoint : (j k : ℕ) (p q : WrittenPart) → j < k → slice_get parts j ≡ Some p → slice_get parts k ≡ Some q
       → IsPlaced opens p.content → IsPlaced opens q.content → AreDisjoint p.o p.l q.o q.l
   pub fit : (k : ℕ) (p : WrittenPart) → slice_get parts k ≡ Some p → Fits decls opens p.l p.content
 
+-- an item passes the rule: a word's own parts do; of an inlined field nothing is demanded
 abbrev pub ItemFits : List LayoutDecl → List Open → Item → Type 0
 ItemFits decls opens (AWord width parts) = PartsFit decls opens width parts
 ItemFits decls opens (AField path) = Unit {0}
 
+-- the rule: each item of each leaf passes it, by the open positions of the leaf's provenance
 abbrev pub A3 : Program → List Layout → Type 0
 A3 p layouts = EachLeaf layouts (λ t layout n leaf.
     (i : ℕ) (item : Item) → slice_get (items_of p.layouts t n) i ≡ Some item
     → ItemFits p.layouts (open_positions p.types leaf.prov) item)
 
--- a placed part with this range
+-- a part of a word that is placed and has the range [o:l], at place `number` among the parts
 pub record PartAt (opens : List Open) (parts : List WrittenPart) (o l : ℕ) : Type 0 where
   pub number : ℕ
   pub part : WrittenPart
@@ -76,12 +86,12 @@ pub record PartAt (opens : List Open) (parts : List WrittenPart) (o l : ℕ) : T
   pub from : part.o ≡ o
   pub length : part.l ≡ l
 
--- the bit is in the range
+-- bit i is in the range [o:l]
 abbrev pub IsIn : ℕ → ℕ → ℕ → Type 0
 IsIn o l i = (o ≤ i) × (i < o + l)
 
--- two placed parts with a bit in common, the one that begins lower first;
--- of two that begin alike, the one written first
+-- Two placed parts of a word, with the ranges [o:l] and [b:m], have `bit` in common. The one that begins lower comes
+-- first, and of two that begin alike the one that is written first.
 pub record Overlaps (opens : List Open) (parts : List WrittenPart) (o l b m : ℕ) : Type 0 where
   pub first : PartAt opens parts o l
   pub second : PartAt opens parts b m
@@ -90,7 +100,9 @@ pub record Overlaps (opens : List Open) (parts : List WrittenPart) (o l b m : �
   pub in_first : IsIn o l bit
   pub in_second : IsIn b m bit
 
--- how a word's parts fail the rule, by evidence but for the item's number
+-- How the parts of a word of this width fail the rule, by the evidence; which item it names is not looked at. A
+-- placed part does not lie in the word; two overlap; one of l bits holds a number c that is 2 ^ l or more; or one
+-- does not fit the field at the path that it names. No other evidence fails the rule.
 abbrev pub FailsParts : List LayoutDecl → List Open → ℕ → List WrittenPart → Why → Type 0
 FailsParts decls opens width parts (Outside i o l) = PartAt opens parts o l × (LiesIn width o l → ⊥)
 FailsParts decls opens width parts (Overlap i o l b m) = Overlaps opens parts o l b m
@@ -100,7 +112,7 @@ FailsParts decls opens width parts (Misfit i o l path) =
     (p : PartAt opens parts o l) × (content_paths p.part.content ≡ path ∷ []) × (Fits decls opens l p.part.content → ⊥)
 FailsParts decls opens width parts why = ⊥
 
--- the item that the evidence names
+-- the evidence names item i; evidence of another rule names no item
 abbrev pub IsOfItem : ℕ → Why → Type 0
 IsOfItem i (Outside item o l) = item ≡ i
 IsOfItem i (Overlap item o l b m) = item ≡ i
@@ -108,7 +120,8 @@ IsOfItem i (ConstWide item c l) = item ≡ i
 IsOfItem i (Misfit item o l path) = item ≡ i
 IsOfItem i why = ⊥
 
--- how item i fails the rule
+-- how item i fails the rule: by its parts where it is a word, with evidence that names it; an inlined field does not
+-- fail
 abbrev pub FailsItem : List LayoutDecl → List Open → ℕ → Item → Why → Type 0
 FailsItem decls opens i (AWord width parts) why = IsOfItem i why × FailsParts decls opens width parts why
 FailsItem decls opens i (AField path) why = ⊥

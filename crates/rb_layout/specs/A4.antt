@@ -1,5 +1,6 @@
--- A4: block words have 8, 16, 32 or 64 bits; blocks have 1 to 64 words; leaves have at most 64 blocks;
--- alignments are 1, 2, 4, 8, 16, 32, 64; a pointer has at least 24 bits with those that its alignment saves.
+-- A4: block words have 8, 16, 32 or 64 bits; blocks have 1 to 64 words; leaves have at most 64 blocks; alignments are
+-- 1, 2, 4, 8, 16, 32, 64; a pointer has at least 24 bits with those that its alignment saves. A pointer holds an
+-- address in units of its alignment, in bytes; so 2 ^ k saves k bits.
 use Rattle.std.specs.Prelude.{◌≡◌, ℕ, ◌+◌, ◌^◌, ◌<◌, ◌≤◌, ◌⊎◌, length, Some, slice_get, List}
 use Rattle.rb_layout.specs.declared.layout.Layout.{Layout}
 use Rattle.rb_layout.specs.declared.layout.Leaf.{Leaf}
@@ -11,20 +12,25 @@ use Rattle.rb_layout.specs.declared.evidence.Why.TheVariants.{BlockWord, BlockWo
 use Rattle.rb_layout.specs.Pointers.{PointsTo}
 use Rattle.rb_layout.specs.Each.{EachLeaf}
 
+-- a word of a block has 8, 16, 32 or 64 bits
 abbrev pub IsBlockWidth : ℕ → Type 0
 IsBlockWidth w = (w ≡ 8) ⊎ (w ≡ 16) ⊎ (w ≡ 32) ⊎ (w ≡ 64)
 
+-- a block has 1 to 64 words
 abbrev pub IsBlockLength : ℕ → Type 0
 IsBlockLength n = (1 ≤ n) × (n ≤ 64)
 
--- 2 ^ k, k being at most 6
+-- an alignment in bytes is 2 ^ k for a k of at most 6
 abbrev pub IsAlignment : ℕ → Type 0
 IsAlignment align = (k : ℕ) × (k ≤ 6) × (align ≡ 2 ^ k)
 
--- a pointer of l bits, where 2 ^ k is its alignment
+-- A pointer of l bits that counts in units of `align` bytes is wide enough: l and the k bits that an alignment of 2 ^
+-- k saves are at least 24. An alignment that is no power of two demands nothing here.
 abbrev pub IsWide : ℕ → ℕ → Type 0
 IsWide align l = (k : ℕ) → align ≡ 2 ^ k → 24 ≤ l + k
 
+-- A leaf passes the rule: by the widths of its blocks' words, the lengths of its blocks, how many blocks there are,
+-- and the alignment and width of each pointer, whether it stands in the root or in a block.
 pub record HasBlocks (leaf : Leaf) : Type 0 where
   pub widths : (b : ℕ) (block : Block) (j : ℕ) (f : FlatWord) → slice_get leaf.blocks b ≡ Some block
       → slice_get block.words j ≡ Some f
@@ -34,10 +40,13 @@ pub record HasBlocks (leaf : Leaf) : Type 0 where
   pub alignments : (r : WordRef) (l align b : ℕ) → PointsTo leaf r l align b → IsAlignment align
   pub wide : (r : WordRef) (l align b : ℕ) → PointsTo leaf r l align b → IsWide align l
 
+-- the rule: each leaf of each layout passes it
 abbrev pub A4 : List Layout → Type 0
 A4 layouts = EachLeaf layouts (λ t layout n leaf. HasBlocks leaf)
 
--- how a leaf fails the rule
+-- How a leaf fails the rule, by the evidence: a word of a block has w bits, which is no width of these; a block has n
+-- words, which are none or over 64; there are n blocks, over 64; a pointer has this alignment, which is none of
+-- these; or a pointer has n bits with those that its alignment saves, under 24. No other evidence fails the rule.
 abbrev pub FailsBlocks : Leaf → Why → Type 0
 FailsBlocks leaf (BlockWord w) =
     (b : ℕ) × (block : Block) × (j : ℕ) × (f : FlatWord) × (slice_get leaf.blocks b ≡ Some block)

@@ -1,5 +1,6 @@
--- A6: each open position is held exactly once,
--- each bit of an integer and each word of a data type; no other path is held.
+-- A6: each open position is held exactly once, each bit of an integer and each word of a data type; no other path is
+-- held. A unit of an open position is a bit of it where its type is an integer, and a word where that is a data type;
+-- units count from 0. A path is the field numbers that lead to the position.
 use Rattle.std.specs.Prelude.{◌≡◌, ℕ, ◌+◌, ◌<◌, ◌&&◌, leb, ltb, ◌==◌, sum, List, map, length, Bool, false, Some, slice_get, if◌then◌else◌}
 use Rattle.rb_core.specs.declared.types.Ty.{Ty}
 use Rattle.rb_core.specs.declared.types.Ty.TheVariants.{Int, Named}
@@ -19,7 +20,9 @@ use Rattle.rb_layout.specs.Flattening.{shape_of, same_path, IsOpenIn}
 use Rattle.rb_layout.specs.Items.{Item, items_of, paths_of}
 use Rattle.rb_layout.specs.Each.{EachLeaf}
 
--- a part of l bits holds unit i of the position at a path: bit i of an integer, word i of a data type
+-- A part of l bits and of this kind holds unit i of the position at a path, given the type there: of an integer, bit
+-- i, where the part has bits of it from bit a on, l in all; of a data type, word i. Constants and pointers hold no
+-- unit.
 abbrev pub holds_unit : Ty → List ℕ → ℕ → ℕ → Kind → Bool
 holds_unit (Int bits) path i l (Const c) = false
 holds_unit (Int bits) path i l (Bits p a) = same_path p path && (leb a i && ltb i (a + l))
@@ -30,44 +33,54 @@ holds_unit (Named s) path i l (Bits p a) = false
 holds_unit (Named s) path i l (Word p j) = same_path p path && (j == i)
 holds_unit (Named s) path i l (Pointer align b) = false
 
+-- 1 where the part holds unit i of the position at the path, which has this type, and else 0
 abbrev pub held_in_part : Ty → List ℕ → ℕ → Part → ℕ
 held_in_part ty path i p = if holds_unit ty path i p.l p.kind then 1 else 0
 
+-- how many parts of a word hold unit i of the position at the path, which has this type
 abbrev pub held_in_word : Ty → List ℕ → ℕ → FlatWord → ℕ
 held_in_word ty path i f = sum (map (held_in_part ty path i) f.parts)
 
+-- how many parts of a block's words hold unit i of the position at the path, which has this type
 abbrev pub held_in_block : Ty → List ℕ → ℕ → Block → ℕ
 held_in_block ty path i b = sum (map (held_in_word ty path i) b.words)
 
--- how many parts of the leaf hold unit i
+-- how many parts of a leaf, in its root words and its blocks, hold unit i of the position at the path, which has this
+-- type
 abbrev pub held : Leaf → Ty → List ℕ → ℕ → ℕ
 held leaf ty path i = sum (map (held_in_word ty path i) leaf.root) + sum (map (held_in_block ty path i) leaf.blocks)
 
--- how many units a position of this type has: its bits, or the words of its shape
+-- how many units a position of this type has: an integer its bits, a data type the words of its shape, which are none
+-- without a layout
 abbrev pub units_of : Program → Ty → ℕ
 units_of p (Int bits) = bits
 units_of p (Named s) = length (shape_of p.layouts s)
 
+-- each unit of each open position of the leaf's provenance is held by exactly one part of the leaf
 abbrev pub HoldsEach : Program → Leaf → Type 0
 HoldsEach p leaf = (k : ℕ) (o : Open) (i : ℕ) → slice_get (open_positions p.types leaf.prov) k ≡ Some o
     → i < units_of p o.ty → held leaf o.ty o.path i ≡ 1
 
+-- the path is that of an open position of the leaf's provenance
 abbrev pub IsOpen : List DataDecl → Leaf → List ℕ → Type 0
 IsOpen types leaf path = IsOpenIn (open_positions types leaf.prov) path
 
--- each path that the items name is that of an open position
+-- each path that the items name, as they are written, is that of an open position of the leaf's provenance
 abbrev pub HoldsNoOther : List DataDecl → Leaf → List Item → Type 0
 HoldsNoOther types leaf items =
     (k : ℕ) (path : List ℕ) → slice_get (paths_of items) k ≡ Some path → IsOpen types leaf path
 
+-- a leaf with these written items passes the rule: each unit is held exactly once, and no path is named that is not
+-- open
 pub record HoldsOnce (p : Program) (leaf : Leaf) (items : List Item) : Type 0 where
   pub each : HoldsEach p leaf
   pub no_other : HoldsNoOther p.types leaf items
 
+-- the rule: each leaf of each layout passes it, with the items that are written for it
 abbrev pub A6 : Program → List Layout → Type 0
 A6 p layouts = EachLeaf layouts (λ t layout n leaf. HoldsOnce p leaf (items_of p.layouts t n))
 
--- the open position at a path, and a unit of it
+-- the leaf's provenance has an open position with this path, and i is a unit of it
 pub record UnitAt (p : Program) (leaf : Leaf) (path : List ℕ) (i : ℕ) : Type 0 where
   pub number : ℕ
   pub place : Open
@@ -75,7 +88,8 @@ pub record UnitAt (p : Program) (leaf : Leaf) (path : List ℕ) (i : ℕ) : Type
   pub is_path : place.path ≡ path
   pub is_unit : i < units_of p place.ty
 
--- how a leaf fails the rule
+-- How a leaf with these written items fails the rule, by the evidence: unit i of the open position at a path is held
+-- by no part, or by more than one; or an item names a path that is not open. No other evidence fails the rule.
 abbrev pub FailsHeld : Program → Leaf → List Item → Why → Type 0
 FailsHeld p leaf items (NotHeld path i) = (u : UnitAt p leaf path i) × (held leaf u.place.ty path i ≡ 0)
 FailsHeld p leaf items (HeldTwice path i) = (u : UnitAt p leaf path i) × (1 < held leaf u.place.ty path i)

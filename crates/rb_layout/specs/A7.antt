@@ -1,5 +1,7 @@
--- A7: at each split, its location resolves in each leaf below it; each leaf below literal c has c known there;
--- each leaf below `else` excludes every literal.
+-- A7: at each split, its location resolves in each leaf below it; each leaf below literal c has c known there; each
+-- leaf below `else` excludes every literal. A number is known at a location where all bits there are constant, and
+-- excluded where the bits there are never that number. A test is what one split asks of a leaf below it: to be below
+-- one of its literals, or below its `else`.
 use Rattle.std.specs.Prelude.{◌≡◌, ℕ, List, None, Some, slice_get}
 use Rattle.rb_core.specs.declared.types.DataDecl.{DataDecl}
 use Rattle.rb_core.specs.declared.layout_decl.Loc.{Loc}
@@ -13,19 +15,23 @@ use Rattle.rb_layout.specs.Excluded.{Excludes}
 use Rattle.rb_layout.specs.Splits.{Test, Is, IsNone, Route, routes_of}
 use Rattle.rb_layout.specs.Each.{EachLeaf}
 
+-- the location resolves in the leaf: each of its steps finds its pointer and its word, and its last range lies in its
+-- word
 abbrev pub Resolves : Leaf → Loc → Type 0
 Resolves leaf loc = (x : Reached) × (reached_at leaf loc ≡ Some x)
 
+-- c is among the literals
 abbrev pub IsLiteral : List ℕ → ℕ → Type 0
 IsLiteral literals c = (k : ℕ) × (slice_get literals k ≡ Some c)
 
--- what a split demands of a leaf below it
+-- A leaf passes a test: the split's location resolves in it; below a literal, that number is known there; below
+-- `else`, each literal is excluded there.
 abbrev pub Meets : List DataDecl → List Layout → Leaf → Test → Type 0
 Meets types layouts leaf (Is loc c) = Resolves leaf loc × (known leaf loc ≡ Some c)
 Meets types layouts leaf (IsNone loc literals) =
     Resolves leaf loc × ((c : ℕ) → IsLiteral literals c → Excludes types layouts leaf loc c)
 
--- a test on the way to leaf n
+-- the test is one of those on a way to leaf n in the tree of splits
 pub record IsAbove (tree : FlatTree) (n : ℕ) (test : Test) : Type 0 where
   pub route_number : ℕ
   pub route : Route
@@ -34,13 +40,18 @@ pub record IsAbove (tree : FlatTree) (n : ℕ) (test : Test) : Type 0 where
   pub leads : route.leaf ≡ n
   pub is_test : slice_get route.tests number ≡ Some test
 
+-- a leaf, which has number n, passes each test on a way to it in the tree of splits; where the tree is the leaf
+-- alone, there are none
 abbrev pub MeetsAll : List DataDecl → List Layout → FlatTree → ℕ → Leaf → Type 0
 MeetsAll types layouts tree n leaf = (test : Test) → IsAbove tree n test → Meets types layouts leaf test
 
+-- the rule: each leaf of each layout passes all tests above it
 abbrev pub A7 : List DataDecl → List Layout → Type 0
 A7 types layouts = EachLeaf layouts (λ t layout n leaf. MeetsAll types layouts layout.tree n leaf)
 
--- how a leaf fails a test
+-- How a leaf fails a test, by the evidence, which names the split's location: it does not resolve; below a literal,
+-- that number is not known there; or below `else`, one of the literals is not excluded there. No other evidence fails
+-- the test.
 abbrev pub FailsTest : List DataDecl → List Layout → Leaf → Test → Why → Type 0
 FailsTest types layouts leaf (Is at c) (Unresolved loc) = (loc ≡ at) × (reached_at leaf at ≡ None)
 FailsTest types layouts leaf (Is at c) (NotKnown loc d) = (loc ≡ at) × (d ≡ c) × (known leaf at ≡ Some c → ⊥)
@@ -49,6 +60,6 @@ FailsTest types layouts leaf (IsNone at literals) (NotExcluded loc c) =
     (loc ≡ at) × IsLiteral literals c × (Excludes types layouts leaf at c → ⊥)
 FailsTest types layouts leaf test why = ⊥
 
--- how a leaf fails the rule
+-- how leaf n of a layout with this tree of splits fails the rule: the evidence fails a test on a way to it
 abbrev pub FailsTests : List DataDecl → List Layout → FlatTree → ℕ → Leaf → Why → Type 0
 FailsTests types layouts tree n leaf why = (test : Test) × IsAbove tree n test × FailsTest types layouts leaf test why

@@ -1,4 +1,5 @@
--- A8: the literals of a split are distinct and fit its range; it has an arm or `else`.
+-- A8: the literals of a split are distinct and fit its range; it has an arm or `else`. The range of a split is the
+-- last one that its location names.
 use Rattle.std.specs.Prelude.{◌≡◌, ℕ, ◌^◌, ◌<◌, ◌⊎◌, List, [], ◌∷◌, length, true, Some, slice_get}
 use Rattle.rb_core.specs.declared.layout_decl.Loc.{Loc}
 use Rattle.rb_core.specs.declared.layout_decl.Step.{Step}
@@ -8,36 +9,44 @@ use Rattle.rb_layout.specs.declared.evidence.Why.TheVariants.{LiteralWide, Liter
 use Rattle.rb_layout.specs.Splits.{SplitAt, splits_of}
 use Rattle.rb_layout.specs.Each.{EachLayout}
 
--- how many bits a location's last range has
+-- how many bits the last of these ranges has: that of the last step, and l where there are no steps
 abbrev pub last_length : ℕ → List Step → ℕ
 last_length l [] = l
 last_length l (s ∷ steps) = last_length s.l steps
 
+-- how many bits the last range of a location has
 abbrev pub length_of : Loc → ℕ
 length_of loc = last_length loc.l loc.steps
 
+-- a split has at least one literal or an `else`
 abbrev pub HasArm : SplitAt → Type 0
 HasArm split = (0 < length split.literals) ⊎ (split.other ≡ true)
 
+-- a split passes the rule: no literal stands twice, each is below 2 ^ l where its range has l bits, and there is an
+-- arm or an `else`
 pub record SplitsWell (split : SplitAt) : Type 0 where
   pub distinct : (j k c : ℕ) → j < k → slice_get split.literals j ≡ Some c → slice_get split.literals k ≡ Some c → ⊥
   pub fit : (k c : ℕ) → slice_get split.literals k ≡ Some c → c < 2 ^ length_of split.loc
   pub arm : HasArm split
 
+-- each split of a layout's tree passes the rule; a layout of one leaf has none
 abbrev pub AllSplitWell : Layout → Type 0
 AllSplitWell layout = (k : ℕ) (split : SplitAt) → slice_get (splits_of layout.tree) k ≡ Some split → SplitsWell split
 
+-- the rule: all splits of each layout pass it
 abbrev pub A8 : List Layout → Type 0
 A8 layouts = EachLayout layouts (λ t layout. AllSplitWell layout)
 
--- a split at this location
+-- a split of the layout's tree, at this location
 pub record SplitOf (layout : Layout) (loc : Loc) : Type 0 where
   pub number : ℕ
   pub split : SplitAt
   pub is_split : slice_get (splits_of layout.tree) number ≡ Some split
   pub is_loc : split.loc ≡ loc
 
--- how a layout fails the rule
+-- How a layout fails the rule, by the evidence, which names a split's location: c is a literal of it and does not fit
+-- its range; c stands at two places among its literals; or it has neither arm nor `else`. No other evidence fails the
+-- rule.
 abbrev pub FailsSplits : Layout → Why → Type 0
 FailsSplits layout (LiteralWide loc c) =
     (s : SplitOf layout loc) × ((k : ℕ) × (slice_get s.split.literals k ≡ Some c)) × (c < 2 ^ length_of loc → ⊥)

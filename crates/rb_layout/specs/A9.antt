@@ -1,5 +1,6 @@
--- A9: a flattened type, one of whose constructors stands below the root of a provenance, has no pointer part in its own
--- leaves; there is no cycle of types in which the layout of each flattens the next.
+-- A9: a flattened type, one of whose constructors stands below the root of a provenance, has no pointer part in its
+-- own leaves; there is no cycle of types in which the layout of each flattens the next. Types are named by their
+-- numbers.
 use Rattle.std.specs.Prelude.{◌≡◌, ℕ, List, [], ◌∷◌, Some, slice_get}
 use Rattle.std.specs.List.{flat_map}
 use Rattle.rb_core.specs.declared.types.ConRef.{ConRef}
@@ -17,34 +18,37 @@ use Rattle.rb_layout.specs.Pointers.{PointsTo}
 use Rattle.rb_layout.specs.Cycles.{HasNoCycle, IsCycleFrom}
 use Rattle.rb_layout.specs.Each.{EachLayout, EachLeaf}
 
+-- the constructors of one layer of a pattern, where those of its subpatterns are given: a constructor, and then
+-- theirs; wildcards, variables and numbers have none
 abbrev pub cons_step : Pat-F (List ConRef) → List ConRef
 cons_step (P.Wild at) = []
 cons_step (P.Var at x) = []
 cons_step (P.Num at n) = []
 cons_step (P.Con at c css) = c ∷ flat_map (λ cs. cs) css
 
--- the constructors of a pattern
+-- the constructors of a pattern, that of its root first, each as often as it stands there
 abbrev pub cons_of : Pat → List ConRef
 cons_of = fold-Pat (List ConRef) cons_step
 
+-- the constructors in the subpatterns of a pattern's outermost layer
 abbrev pub cons_below_root : Pat-F Pat → List ConRef
 cons_below_root (P.Wild at) = []
 cons_below_root (P.Var at x) = []
 cons_below_root (P.Num at n) = []
 cons_below_root (P.Con at c ps) = flat_map cons_of ps
 
--- the constructors below its root
+-- the constructors of a pattern that stand below its root
 abbrev pub cons_below : Pat → List ConRef
 cons_below p = cons_below_root (out-Pat p)
 
--- a constructor of type s stands below the root of the leaf's provenance
+-- a leaf flattens type s: a constructor of s stands below the root of the leaf's provenance
 pub record LeafFlattens (leaf : Leaf) (s : ℕ) : Type 0 where
   pub number : ℕ
   pub con : ConRef
   pub is_below : slice_get (cons_below leaf.prov) number ≡ Some con
   pub is_type : con.ty ≡ s
 
--- some leaf of type t flattens type s
+-- some leaf of type t's layout flattens type s
 pub record Flattens (layouts : List Layout) (t s : ℕ) : Type 0 where
   pub layout : Layout
   pub number : ℕ
@@ -53,7 +57,7 @@ pub record Flattens (layouts : List Layout) (t s : ℕ) : Type 0 where
   pub is_leaf : slice_get layout.leaves number ≡ Some leaf
   pub flattens : LeafFlattens leaf s
 
--- a leaf of type s has a pointer part
+-- some leaf of type s's layout has a pointer part, in a root word or in a block
 pub record HasPointerPart (layouts : List Layout) (s : ℕ) : Type 0 where
   pub layout : Layout
   pub number : ℕ
@@ -66,20 +70,24 @@ pub record HasPointerPart (layouts : List Layout) (s : ℕ) : Type 0 where
   pub is_leaf : slice_get layout.leaves number ≡ Some leaf
   pub points : PointsTo leaf ref length align block
 
--- the types that the leaf flattens have no pointer part
+-- no type that the leaf flattens has a pointer part in its layout
 abbrev pub FlattensNoPointer : List Layout → Leaf → Type 0
 FlattensNoPointer layouts leaf = (s : ℕ) → LeafFlattens leaf s → HasPointerPart layouts s → ⊥
 
+-- The rule. `no_pointer`: no leaf flattens a type that has a pointer part. `no_cycle`: no type that has a layout is
+-- on a cycle of types, each of which flattens the next.
 pub record A9 (layouts : List Layout) : Type 0 where
   pub no_pointer : EachLeaf layouts (λ t layout n leaf. FlattensNoPointer layouts leaf)
   pub no_cycle : EachLayout layouts (λ t layout. HasNoCycle (Flattens layouts) t)
 
--- how a leaf fails the rule
+-- how a leaf fails the rule, by the evidence: it flattens a type s that has a pointer part; no other evidence fails
+-- this half of the rule
 abbrev pub FailsNoPointer : List Layout → Leaf → Why → Type 0
 FailsNoPointer layouts leaf (HasPointer s) = LeafFlattens leaf s × HasPointerPart layouts s
 FailsNoPointer layouts leaf why = ⊥
 
--- how a type fails it
+-- how type t fails the rule, by the evidence: a cycle of types is listed from t on, each of which flattens the next;
+-- no other evidence fails this half of the rule
 abbrev pub FailsFlattening : List Layout → ℕ → Why → Type 0
 FailsFlattening layouts t (FlatCycle ts) = IsCycleFrom (Flattens layouts) t ts
 FailsFlattening layouts t why = ⊥

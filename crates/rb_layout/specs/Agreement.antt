@@ -1,4 +1,4 @@
--- Agreement: all ten rules.
+-- Agreement: all ten rules, over the flat forms of a program's layouts.
 use Rattle.std.specs.Prelude.{◌≡◌, List}
 use Rattle.rb_core.specs.declared.program.Program.{Program}
 use Rattle.rb_layout.specs.declared.layout.Layout.{Layout}
@@ -14,7 +14,7 @@ use Rattle.rb_layout.specs.A8.{A8}
 use Rattle.rb_layout.specs.A9.{A9}
 use Rattle.rb_layout.specs.A10.{A10}
 
--- layouts, the flat forms of a program's, obey the rules
+-- all ten rules hold of a program with these layouts, which stand for the flat forms of those that it declares
 pub record Obeys (p : Program) (layouts : List Layout) : Type 0 where
   pub a1 : A1 p
   pub a2 : A2 layouts
@@ -27,10 +27,10 @@ pub record Obeys (p : Program) (layouts : List Layout) : Type 0 where
   pub a9 : A9 layouts
   pub a10 : A10 p.types layouts
 
--- the layouts of a program agree with its types
+-- the layouts that a program declares agree with its types: their flat forms obey all ten rules
 abbrev pub Agrees : Program → Type 0
 Agrees p = Obeys p (flat_layouts p)
 
--- these are the flat forms of a program's layouts, and they agree
+-- these layouts are the flat forms of those that a program declares, and they agree with its types
 abbrev pub AreAgreed : Program → List Layout → Type 0
 AreAgreed p layouts = (layouts ≡ flat_layouts p) × Agrees p
