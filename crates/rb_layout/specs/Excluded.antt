@@ -1,4 +1,5 @@
--- Excluded numbers: those that a range of a word never has, whatever value its leaf holds.
+-- Excluded numbers: those that a range of a word never has, whatever value its leaf holds. The range [o:l] is the l
+-- bits from bit o on; a number c is excluded there where the word's bit o + i is never for all i below l bit i of c.
 use Rattle.std.specs.Prelude.{◌≡◌, ℕ, ◌+◌, ◌-◌, ◌<◌, ◌≤◌, min, max, length, Some, slice_get, List}
 use Rattle.std.specs.Int.{bit_at}
 use Rattle.rb_core.specs.declared.types.Ty.TheVariants.{Named}
@@ -13,7 +14,7 @@ use Rattle.rb_layout.specs.declared.layout.Kind.TheVariants.{Word, Pointer}
 use Rattle.rb_layout.specs.Positions.{Open, open_positions, layout_of}
 use Rattle.rb_layout.specs.Locations.{Reached, reached_at, constant_bit}
 
--- a constant bit in the range [o:l] differs from c's bit there, which is bit i of c at bit o + i
+-- a constant part makes bit o + i of a flat word `bit`, where i is below l, and bit i of c is another
 pub record HasOtherBit (f : FlatWord) (o l c : ℕ) : Type 0 where
   pub i : ℕ
   pub bit : ℕ
@@ -21,7 +22,8 @@ pub record HasOtherBit (f : FlatWord) (o l c : ℕ) : Type 0 where
   pub constant : constant_bit f.parts (o + i) ≡ Some bit
   pub other : bit ≡ bit_at c i → ⊥
 
--- a pointer part lies wholly in the range, and c has only zeros on its bits
+-- A pointer part of a flat word lies wholly in the range [o:l], and c has only zeros on its bits. No block begins at
+-- address 0, so no pointer is 0.
 pub record HasNull (f : FlatWord) (o l c : ℕ) : Type 0 where
   pub number : ℕ
   pub part : Part
@@ -33,7 +35,8 @@ pub record HasNull (f : FlatWord) (o l c : ℕ) : Type 0 where
   pub last : part.o + part.l ≤ o + l
   pub zeros : take_of c (part.o - o) part.l ≡ 0
 
--- a part from bit p on has word j of a field of data type s, and meets the range in [a:b], b being at least 1
+-- A part of a flat word has word j of a field of data type s, which is at an open position of the leaf's provenance.
+-- The part begins at bit p of the flat word, and has the bits [a:b] in common with the range [o:l], at least one.
 pub record Meets (types : List DataDecl) (leaf : Leaf) (f : FlatWord) (o l s j p a b : ℕ) : Type 0 where
   pub number : ℕ
   pub part : Part
@@ -48,8 +51,9 @@ pub record Meets (types : List DataDecl) (leaf : Leaf) (f : FlatWord) (o l s j p
   pub last : a + b ≡ min (o + l) (p + part.l)
   pub some : 1 ≤ b
 
--- a flat word of a leaf bars c on the range [o:l]:
--- a finite derivation by three rules shows that it never has these bits
+-- A flat word of a leaf bars c on the range [o:l]: a finite derivation by three rules shows that it never has these
+-- bits. `differs`: by a constant bit. `null`: by a pointer, which is never 0. `within`: by a field that the range
+-- meets, of a type each of whose leaves bars the bits of c there; a type without a leaf bars nothing.
 pub data Bars (types : List DataDecl) (layouts : List Layout) : Leaf → FlatWord → ℕ → ℕ → ℕ → Type 0 where
   differs : (leaf : Leaf) (f : FlatWord) (o l c : ℕ) → HasOtherBit f o l c → Bars types layouts leaf f o l c
   null : (leaf : Leaf) (f : FlatWord) (o l c : ℕ) → HasNull f o l c → Bars types layouts leaf f o l c
@@ -63,7 +67,8 @@ pub data Bars (types : List DataDecl) (layouts : List Layout) : Leaf → FlatWor
       → Bars types layouts under g (a - p) b (take_of c (a - o) b))
       → Bars types layouts leaf f o l c
 
--- a location resolves in a leaf, and the word that it comes to bars c on its last range
+-- A leaf excludes c at a location: the location resolves in it, and the word that it comes to bars c on the last
+-- range. At a location that does not resolve nothing is excluded.
 pub record Excludes (types : List DataDecl) (layouts : List Layout) (leaf : Leaf) (loc : Loc) (c : ℕ) : Type 0 where
   pub reached : Reached
   pub resolves : reached_at leaf loc ≡ Some reached

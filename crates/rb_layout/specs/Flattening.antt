@@ -1,4 +1,7 @@
--- The flat form of layouts as they are written.
+-- The flat form of layouts as they are written. `decls` are the layouts that a program declares, `opens` the open
+-- positions of a leaf's provenance: wildcards and variables, each with its path of field numbers and its type. Blocks
+-- of a leaf are numbered as they are placed, those inside a block before it; leaves are numbered from left to right.
+-- A step goes over one layer of what is written, where the results for what is inside it are given.
 use Rattle.std.specs.Prelude.{◌≡◌, ℕ, ◌<◌, ◌+◌, ◌==◌, ◌&&◌, List, [], ◌∷◌, ◌++◌, map, length, slice_get, sum_by, Bool, true, false, Option, Some, None, if◌then◌else◌}
 use Rattle.rb_core.specs.declared.types.Ty.{Ty}
 use Rattle.rb_core.specs.declared.types.Ty.TheVariants.{Int, Named}
@@ -30,31 +33,33 @@ use Rattle.rb_layout.specs.declared.layout.Kind.TheVariants.{Const, Bits, Word, 
 use Rattle.rb_layout.specs.Positions.{Open, open_positions}
 use Rattle.rb_layout.specs.Splits.{Under}
 
--- the layout that is declared for a type
+-- the first layout that is declared for type t, and None where none is
 abbrev pub decl_of : List LayoutDecl → ℕ → Option LayoutDecl
 decl_of [] t = None
 decl_of (d ∷ ds) t = if d.ty == t then Some d else decl_of ds t
 
+-- the shape of a declared layout that may be missing, and no words where it is
 abbrev pub shape_in : Option LayoutDecl → List ℕ
 shape_in None = []
 shape_in (Some d) = d.shape
 
--- the widths of the words that a type's values have
+-- the widths in bits of the words that type t's values have, as its layout states them; none where it has no layout
 abbrev pub shape_of : List LayoutDecl → ℕ → List ℕ
 shape_of decls t = shape_in (decl_of decls t)
 
+-- two paths have the same field numbers in the same order
 abbrev pub same_path : List ℕ → List ℕ → Bool
 same_path [] [] = true
 same_path [] (j ∷ q) = false
 same_path (i ∷ p) [] = false
 same_path (i ∷ p) (j ∷ q) = (i == j) && same_path p q
 
--- the type at an open position; a path to no open position has none
+-- the type of the first of these open positions that has this path; None where the path is not open
 abbrev pub type_at : List Open → List ℕ → Option Ty
 type_at [] path = None
 type_at (o ∷ os) path = if same_path o.path path then Some o.ty else type_at os path
 
--- the path is that of an open position
+-- the path is that of one of these open positions
 abbrev pub IsOpenIn : List Open → List ℕ → Type 0
 IsOpenIn opens path = (ty : Ty) × (type_at opens path ≡ Some ty)
 
@@ -65,14 +70,16 @@ pub record Laid (A : Type 0) : Type 0 where
   pub it : A
   pub blocks : List Block
 
--- where so many blocks of the leaf were placed before
+-- what is placed of something, given how many blocks of the leaf were placed before
 abbrev pub Laying : Type 0 → Type 0
 Laying A = ℕ → Laid A
 
+-- something that is placed without any block
 abbrev pub without_blocks : {A : Type 0} → A → Laid A
 without_blocks x = record { it = x; blocks = [] }
 
--- all that is placed, from left to right
+-- several lists of things, placed from left to right as one: each after the blocks of those before it, where n blocks
+-- stand before all of them; nothing where there is nothing to place
 abbrev pub in_turn : {A : Type 0} → List (Laying (List A)) → Laying (List A)
 in_turn [] n = without_blocks []
 in_turn (lay ∷ lays) n =
@@ -80,23 +87,28 @@ in_turn (lay ∷ lays) n =
     let rest = in_turn lays (n + length first.blocks) in
     record { it = first.it ++ rest.it; blocks = first.blocks ++ rest.blocks }
 
--- what a part holds, if anything: a path to no open position places nothing
+-- What holds the whole field at a path, given the type there: of an integer its bits from bit 0 on, of a data type
+-- its word 0. None where the path is not open.
 abbrev pub whole_kind : Option Ty → List ℕ → Option Kind
 whole_kind None path = None
 whole_kind (Some (Int bits)) path = Some (Bits path 0)
 whole_kind (Some (Named s)) path = Some (Word path 0)
 
+-- what is held, given the type at its path, and None where the path is not open
 abbrev pub kind_if_open : Option Ty → Kind → Option Kind
 kind_if_open None kind = None
 kind_if_open (Some ty) kind = Some kind
 
--- a pointer's block comes after the blocks inside it
+-- A pointer of this alignment and its block, given the words behind it with the blocks inside, where n blocks were
+-- placed before. The block comes after those inside it, and the pointer has its number.
 abbrev pub pointed : ℕ → ℕ → Laid (List FlatWord) → Laid (Option Kind)
 pointed align n laid = record {
   it = Some (Pointer align (n + length laid.blocks));
   blocks = laid.blocks ++ record { align = align; words = laid.it } ∷ [];
 }
 
+-- what one layer of a part holds, with its blocks: a number; a field, a slice or a word of it, where its path is
+-- open; or a pointer to the words behind it, which are placed first
 abbrev pub kind_step : List Open → PartKind-F (Laying (List FlatWord)) (Laying (Option Kind)) (Laying (List Part))
     → Laying (Option Kind)
 kind_step opens (I.Const c) n = without_blocks (Some (Const c))
@@ -105,10 +117,12 @@ kind_step opens (I.Slice path a k) n = without_blocks (kind_if_open (type_at ope
 kind_step opens (I.PartKind::Word path j) n = without_blocks (kind_if_open (type_at opens path) (Word path j))
 kind_step opens (I.Pointer align items) n = pointed align n (in_turn items n)
 
+-- a part with this range of l bits from bit o, and no part where nothing is held
 abbrev pub parts_of : ℕ → ℕ → Option Kind → List Part
 parts_of o l None = []
 parts_of o l (Some kind) = record { o = o; l = l; kind = kind } ∷ []
 
+-- one layer of a part: the part in its range, or no part where its path is not open, and the blocks behind it
 abbrev pub part_step : PartDecl-F (Laying (List FlatWord)) (Laying (Option Kind)) (Laying (List Part))
     → Laying (List Part)
 part_step p n =
@@ -119,16 +133,20 @@ part_step p n =
 abbrev pub word_of : ℕ → Kind → FlatWord
 word_of width kind = record { width = width; parts = record { o = 0; l = width; kind = kind } ∷ [] }
 
--- a word for each word of the field's shape, the first of which is word j
+-- a word for each of these widths, of full width each, with the words of the field at a path; the first is its word j
 abbrev pub words_of : List ℕ → ℕ → List ℕ → List FlatWord
 words_of path j [] = []
 words_of path j (width ∷ widths) = word_of width (Word path j) ∷ words_of path (j + 1) widths
 
+-- the words of the field at a path, given the type there: an integer has one, of its width, a data type those of its
+-- shape; none where the path is not open
 abbrev pub inlined : List LayoutDecl → Option Ty → List ℕ → List FlatWord
 inlined decls None path = []
 inlined decls (Some (Int bits)) path = word_of bits (Bits path 0) ∷ []
 inlined decls (Some (Named s)) path = words_of path 0 (shape_of decls s)
 
+-- the words of one layer of an item, with its blocks: one word with its parts, or the words of a field, which has no
+-- block
 abbrev pub item_step : List LayoutDecl → List Open
     → LayItem-F (Laying (List FlatWord)) (Laying (Option Kind)) (Laying (List Part)) → Laying (List FlatWord)
 item_step decls opens (I.LayItem::Word width parts) n =
@@ -136,25 +154,29 @@ item_step decls opens (I.LayItem::Word width parts) n =
     record { it = record { width = width; parts = laid.it } ∷ []; blocks = laid.blocks }
 item_step decls opens (I.Inline path) n = without_blocks (inlined decls (type_at opens path) path)
 
--- the words of an item, and its blocks
+-- the words of a written item, and the blocks behind its pointers
 abbrev pub item_laid : List LayoutDecl → List Open → LayItem → Laying (List FlatWord)
 item_laid decls opens =
     fold-LayItem (Laying (List FlatWord)) (Laying (Option Kind)) (Laying (List Part)) (item_step decls opens)
     (kind_step opens) part_step
 
+-- what a written part holds, if anything, and the blocks behind it
 abbrev pub kind_laid : List LayoutDecl → List Open → PartKind → Laying (Option Kind)
 kind_laid decls opens =
     fold-PartKind (Laying (List FlatWord)) (Laying (Option Kind)) (Laying (List Part)) (item_step decls opens)
     (kind_step opens) part_step
 
+-- a written part in its range, or no part where nothing is held, and the blocks behind it
 abbrev pub part_laid : List LayoutDecl → List Open → PartDecl → Laying (List Part)
 part_laid decls opens =
     fold-PartDecl (Laying (List FlatWord)) (Laying (Option Kind)) (Laying (List Part)) (item_step decls opens)
     (kind_step opens) part_step
 
+-- the words of written items from left to right, and the blocks behind their pointers
 abbrev pub items_laid : List LayoutDecl → List Open → List LayItem → Laying (List FlatWord)
 items_laid decls opens items = in_turn (map (item_laid decls opens) items)
 
+-- the flat form of a written leaf: its provenance, its root words, and its blocks, numbered from 0
 abbrev pub flat_leaf : List DataDecl → List LayoutDecl → WrittenLeaf → Leaf
 flat_leaf types decls w =
     let laid = items_laid decls (open_positions types w.provenance) w.items 0 in
@@ -162,26 +184,34 @@ flat_leaf types decls w =
 
 -- Trees ---------------------------------------------------------------------------------------
 
--- how many leaves a tree has, and its flat form, where so many leaves stand to the left of it
+-- a tree of splits before its leaves have numbers: how many leaves it has, and its flat form, given how many leaves
+-- stand to the left of it
 pub record Numbering : Type 0 where
   pub count : ℕ
   pub from : ℕ → FlatTree
 
+-- how many leaves the tree of an `else` has, and 0 where there is none
 abbrev pub count_or_none : Option Numbering → ℕ
 count_or_none None = 0
 count_or_none (Some tree) = tree.count
 
+-- how many leaves stand below arms in all
 abbrev pub arms_count : List (Under Numbering) → ℕ
 arms_count arms = sum_by (λ (arm : Under Numbering). arm.of.count) arms
 
+-- the flat forms of arms, where n leaves stand to the left of the first of them, and each arm's leaves to the left of
+-- the next
 abbrev pub arms_from : List (Under Numbering) → ℕ → List FlatArm
 arms_from [] n = []
 arms_from (arm ∷ arms) n = record { literal = arm.literal; under = arm.of.from n } ∷ arms_from arms (n + arm.of.count)
 
+-- the flat form of the tree of an `else`, where n leaves stand to the left of it; None where there is no `else`
 abbrev pub other_from : Option Numbering → ℕ → Option FlatTree
 other_from None n = None
 other_from (Some tree) n = Some (tree.from n)
 
+-- one layer of a tree: a split, whose arms' leaves come before those of its `else`, or a leaf, which takes the next
+-- number
 abbrev pub tree_step : LayTree-F Numbering (Under Numbering) → Numbering
 tree_step (T.Split loc arms other) = record {
   count = arms_count arms + count_or_none other;
@@ -189,21 +219,25 @@ tree_step (T.Split loc arms other) = record {
 }
 tree_step (T.Leaf at prov items) = record { count = 1; from = λ n. Flat.Leaf n }
 
+-- an arm's literal, with the numbering of the tree below it
 abbrev pub arm_step : Arm-F Numbering (Under Numbering) → Under Numbering
 arm_step arm = record { literal = arm.literal; of = arm.under }
 
+-- a written tree of splits before its leaves have numbers
 abbrev pub numbering : LayTree → Numbering
 numbering = fold-LayTree Numbering (Under Numbering) tree_step arm_step
 
+-- a written arm, with its tree before its leaves have numbers
 abbrev pub arm_numbering : Arm → Under Numbering
 arm_numbering = fold-Arm Numbering (Under Numbering) tree_step arm_step
 
--- leaves are numbered from left to right
+-- the flat form of a written tree of splits: its leaves have the numbers from 0 on, from left to right
 abbrev pub flat_tree : LayTree → FlatTree
 flat_tree tree = (numbering tree).from 0
 
 -- Layouts -------------------------------------------------------------------------------------
 
+-- the flat form of a declared layout: its type, its shape, its tree of splits, and its leaves from left to right
 abbrev pub flat_layout : Program → LayoutDecl → Layout
 flat_layout p d = record {
   ty = d.ty;
@@ -212,24 +246,27 @@ flat_layout p d = record {
   leaves = map (flat_leaf p.types p.layouts) (leaves d.tree);
 }
 
+-- the flat form of a declared layout as a list, which is empty where there is no layout
 abbrev pub flat_or_none : Program → Option LayoutDecl → List Layout
 flat_or_none p None = []
 flat_or_none p (Some d) = flat_layout p d ∷ []
 
--- the layouts of these types, the first of which is type t
+-- the flat forms of the layouts of these types, the first of which is type t; a type without a layout has none and
+-- leaves no gap
 abbrev pub flat_from : Program → List DataDecl → ℕ → List Layout
 flat_from p [] t = []
 flat_from p (d ∷ ds) t = flat_or_none p (decl_of p.layouts t) ++ flat_from p ds (t + 1)
 
--- the flat form of each type's layout, one for each type, in the types' order
+-- the flat form of each type's layout, in the types' order; where each type has a layout, that of type t is at place
+-- t
 abbrev pub flat_layouts : Program → List Layout
 flat_layouts p = flat_from p p.types 0
 
--- each type has a layout
+-- each data type of a program has a declared layout
 abbrev pub HaveLayouts : Program → Type 0
 HaveLayouts p = (t : ℕ) → t < length p.types → (d : LayoutDecl) × (decl_of p.layouts t ≡ Some d)
 
--- one layout for each type, and each the flat form of its type's
+-- there is one layout for each type of a program, and at place t the flat form of the one that is declared for type t
 pub record AreInOrder (p : Program) (layouts : List Layout) : Type 0 where
   pub count : length layouts ≡ length p.types
   pub each : (t : ℕ) (d : LayoutDecl) → t < length p.types → decl_of p.layouts t ≡ Some d

@@ -1,4 +1,7 @@
--- The goals on which a goal rests, found one after the other.
+-- The goals on which a goal rests, found one after the other. A goal asks whether a root word of a data type never
+-- has a literal, which is a number in a range of bits; it rests on the goals that the parts of that word give in the
+-- leaves of the type. An entry is a goal with whether it is known to hold. `type_of` gives the type at a path where
+-- that is an open position of the leaf at hand.
 use Rattle.std.specs.Prelude.{◌≡◌, ℕ, ◌||◌, List, [], ◌∷◌, ◌++◌, Bool, true, false, Option, Some, None, slice_get, if◌then◌else◌}
 use Rattle.rb_core.specs.declared.types.Ty.{Ty}
 use Rattle.rb_core.specs.declared.types.DataDecl.{DataDecl}
@@ -12,55 +15,62 @@ use Rattle.rb_layout.specs.declared.goals.Entry.{Entry}
 use Rattle.rb_layout.specs.Positions.{layout_of}
 use Rattle.rb_layout.specs.inner.Barring.{position_type, goal_in, same_goal, AreAsked}
 
--- a goal is among the entries
+-- a goal is among the entries, known to hold or not
 abbrev pub has_goal : List Entry → Goal → Bool
 has_goal [] g = false
 has_goal (e ∷ es) g = same_goal e.goal g || has_goal es g
 
--- the entries with a goal, which is not known to hold where it is new
+-- the entries with a goal, which comes last and is not known to hold where it is new
 abbrev pub with_goal : List Entry → Goal → List Entry
 with_goal es g = if has_goal es g then es else es ++ record { goal = g; barred = false } ∷ []
 
+-- the entries with a goal that may be missing; unchanged where it is
 abbrev pub with_found : List Entry → Option Goal → List Entry
 with_found es None = es
 with_found es (Some g) = with_goal es g
 
--- the entries with the goals of parts
+-- the entries with the goals that the parts give for the literal x, part by part; a part that gives none adds nothing
 abbrev pub with_parts : (List ℕ → Option Ty) → Literal → List Entry → List Part → List Entry
 with_parts type_of x es [] = es
 with_parts type_of x es (p ∷ ps) = with_parts type_of x (with_found es (goal_in type_of x p)) ps
 
+-- the entries with the goals that the parts of a root word, which may be missing, give for the literal x
 abbrev pub with_root : (List ℕ → Option Ty) → Literal → List Entry → Option FlatWord → List Entry
 with_root type_of x es None = es
 with_root type_of x es (Some f) = with_parts type_of x es f.parts
 
+-- the entries with those goals on which a goal rests in one leaf: those that the parts of its root word give
 abbrev pub with_leaf : List DataDecl → Goal → List Entry → Leaf → List Entry
 with_leaf types g es leaf = with_root (position_type types leaf.prov) g.literal es (slice_get leaf.root g.word)
 
+-- the entries with those goals on which a goal rests in these leaves, leaf by leaf
 abbrev pub with_leaves : List DataDecl → Goal → List Entry → List Leaf → List Entry
 with_leaves types g es [] = es
 with_leaves types g es (leaf ∷ leaves) = with_leaves types g (with_leaf types g es leaf) leaves
 
+-- the entries with those goals on which a goal rests in a layout that may be missing
 abbrev pub with_layout : List DataDecl → Goal → List Entry → Option Layout → List Entry
 with_layout types g es None = es
 with_layout types g es (Some layout) = with_leaves types g es layout.leaves
 
--- the entries with the goals below a goal
+-- the entries with the goals on which a goal rests in one step, in all leaves of its type
 abbrev pub with_below : List DataDecl → List Layout → List Entry → Goal → List Entry
 with_below types layouts es g = with_layout types g es (layout_of layouts g.ty)
 
--- none is known to hold
+-- no entry is known to hold
 abbrev pub AreFresh : List Entry → Type 0
 AreFresh es = (k : ℕ) (e : Entry) → slice_get es k ≡ Some e → e.barred ≡ false
 
--- each goal of one list is in the other
+-- each goal of the first list of entries is in the second
 abbrev pub Keeps : List Entry → List Entry → Type 0
 Keeps es fs = (g : Goal) → has_goal es g ≡ true → has_goal fs g ≡ true
 
+-- a goal is among the entries
 abbrev pub IsIn : List Entry → Goal → Type 0
 IsIn es g = has_goal es g ≡ true
 
--- the goals below a goal are among the entries
+-- the goals on which a goal rests in one step are among the entries: those that the parts of its root word give, in
+-- each leaf of its type
 abbrev pub HasBelow : List DataDecl → List Layout → List Entry → Goal → Type 0
 HasBelow types layouts es g =
     (n : ℕ) (layout : Layout) (leaf : Leaf) (f : FlatWord) → layout_of layouts g.ty ≡ Some layout
@@ -68,7 +78,8 @@ HasBelow types layouts es g =
     → slice_get leaf.root g.word ≡ Some f → (k : ℕ) (p : Part) (h : Goal) → slice_get f.parts k ≡ Some p
     → goal_in (position_type types leaf.prov) g.literal p ≡ Some h → IsIn es h
 
--- all goals on which some rest, none of them known to hold
+-- The new entries are all goals on which the old ones rest, in any number of steps. They have all of the old, and
+-- with each goal those on which it rests; each asks for a range within 64 bits, and none is known to hold.
 pub record AreFound (types : List DataDecl) (layouts : List Layout) (old new : List Entry) : Type 0 where
   pub asked : AreAsked new
   pub fresh : AreFresh new

@@ -1,4 +1,7 @@
--- Goals that hold are marked, in passes over the entries from the last to the first, until a pass changes nothing.
+-- Goals that hold are marked, in passes over the entries from the last to the first, until a pass changes nothing. A
+-- goal asks whether a root word of a data type never has a literal, which is a number in a range of bits. An entry is
+-- a goal with a mark, that it is known to hold. A goal holds by one step from the marked ones where each leaf of its
+-- type bars the literal by a constant bit, by a pointer, or by a marked goal.
 use Rattle.std.specs.Prelude.{◌≡◌, ℕ, zero, suc, ◌<◌, length, ◌&&◌, ◌||◌, not, List, [], ◌∷◌, Bool, true, false, Option, Some, None, slice_get, slice_set, if◌then◌else◌}
 use Rattle.rb_core.specs.declared.types.DataDecl.{DataDecl}
 use Rattle.rb_layout.specs.declared.layout.Leaf.{Leaf}
@@ -11,36 +14,39 @@ use Rattle.rb_layout.specs.Excluded.{Bars}
 use Rattle.rb_layout.specs.inner.Barring.{knows, goal_barred}
 use Rattle.rb_layout.specs.inner.Finding.{Keeps}
 
--- an entry is not marked, and its goal holds by one step
+-- a look at an entry would mark it: the entry is there and not marked, and its goal holds by one step from the marked
+-- ones
 abbrev pub turns : List DataDecl → List Layout → List Entry → Option Entry → Bool
 turns types layouts es None = false
 turns types layouts es (Some e) = not e.barred && goal_barred (knows es) types layouts e.goal
 
+-- the entries with a mark at entry i, which is given; unchanged where there is no such entry
 abbrev pub marked : List Entry → ℕ → Option Entry → List Entry
 marked es i None = es
 marked es i (Some e) = slice_set es i (record { goal = e.goal; barred = true })
 
--- the entries after a look at entry i
+-- the entries after a look at entry i, which is marked where its goal holds by one step
 abbrev pub looked : List DataDecl → List Layout → ℕ → List Entry → List Entry
 looked types layouts i es = if turns types layouts es (slice_get es i) then marked es i (slice_get es i) else es
 
--- the entries after a look at each of the first n, from the last to the first
+-- the entries after a look at each of the first n, from the last of these to the first
 abbrev pub passed : List DataDecl → List Layout → ℕ → List Entry → List Entry
 passed types layouts zero es = es
 passed types layouts (suc n) es = passed types layouts n (looked types layouts n es)
 
--- one of them is marked in it
+-- a pass over the first n entries, from the last of these to the first, marks one
 abbrev pub changes : List DataDecl → List Layout → ℕ → List Entry → Bool
 changes types layouts zero es = false
 changes types layouts (suc n) es =
     turns types layouts es (slice_get es n) || changes types layouts n (looked types layouts n es)
 
--- how many are not marked
+-- how many entries are not marked
 abbrev pub pending : List Entry → ℕ
 pending [] = 0
 pending (e ∷ es) = if e.barred then pending es else suc (pending es)
 
--- a goal holds: its type has a leaf, and in each its root word never has the literal
+-- a goal holds: its type has a layout with a leaf, each leaf has the goal's root word, and there a finite derivation
+-- shows that it never has the literal
 pub record Holds (types : List DataDecl) (layouts : List Layout) (g : Goal) : Type 0 where
   pub layout : Layout
   pub is_layout : layout_of layouts g.ty ≡ Some layout
@@ -55,7 +61,8 @@ pub record Holds (types : List DataDecl) (layouts : List Layout) (g : Goal) : Ty
 abbrev pub AreTrue : List DataDecl → List Layout → List Entry → Type 0
 AreTrue types layouts es = (g : Goal) → knows es g ≡ true → Holds types layouts g
 
--- marked are the goals that hold
+-- The entries once passes mark no more: all old goals are there; each marked goal holds, where it was so of the old
+-- marks; and no goal is left unmarked that holds by one step from the marked ones.
 pub record AreSettled (types : List DataDecl) (layouts : List Layout) (old new : List Entry) : Type 0 where
   pub keeps : Keeps old new
   pub true_ones : AreTrue types layouts old → AreTrue types layouts new
