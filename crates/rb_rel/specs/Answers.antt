@@ -1,4 +1,6 @@
--- What a program's run answers, and what it asks for first: the blocks of its arguments.
+-- What a program's run answers, and what it asks for first: the blocks of its arguments. A construction is the event
+-- that a value of a data type was built; it asks for the blocks of the value's leaf. A making is what a value asks
+-- for from nothing: the constructions of all of its parts. Types are named by their numbers.
 use Rattle.std.specs.Prelude.{ℕ, nat_le, List, [], ◌∷◌, ◌++◌, map, if◌then◌else◌}
 use Rattle.rb_core.specs.declared.value.Value.{Value}
 use Rattle.rb_core.specs.declared.value.Value.TheOpen as V
@@ -20,16 +22,20 @@ use Rattle.rb_bytes.specs.declared.fault.Full.{Full as Unplaced}
 use Rattle.rb_layout.specs.declared.layout.Layout.{Layout}
 use Rattle.rb_rel.specs.Placing.{Laid, Fits, Over, requests_of, lay}
 
--- the constructions that make a value of a type
+-- the constructions that make a value, given the value's type
 abbrev pub Making : Type 0
 Making = Ty → List Event
 
+-- the constructions of several values, from left to right, each at the type in the same place of the second list;
+-- what is over in the longer list counts for nothing
 abbrev pub in_turn : List Making → List Ty → List Event
 in_turn [] ts = []
 in_turn (m ∷ ms) [] = []
 in_turn (m ∷ ms) (t ∷ ts) = m t ++ in_turn ms ts
 
--- one layer of a value, with its subvalues and what makes them
+-- The constructions of one layer of a value at a type, where its subvalues are given, each with its making: those of
+-- the subvalues at the types of the constructor's fields, and then that of the value itself. A number asks for none,
+-- and neither does a constructor at an integer type.
 abbrev pub making_step : List DataDecl → Value-F (Value × Making) → Making
 making_step types (V.Num n) ty = []
 making_step types (V.Con k vs) (Int bits) = []
@@ -37,28 +43,34 @@ making_step types (V.Con k vs) (Named t) =
     in_turn (map (λ (v : Value × Making). v.1) vs) (field_types types (record { ty = t; con = k }))
     ++ Built t (Values.Con k (map (λ (v : Value × Making). v.0) vs)) ∷ []
 
--- the constructions that make a value, its subvalues before it and from left to right
+-- the constructions that make a value at a type: those of its subvalues from left to right, and then its own; none
+-- for a number
 abbrev pub making_of : List DataDecl → Value → Making
 making_of types = para-Value Making (making_step types)
 
--- those of several values, one after the other
+-- the constructions that make several values at these types, value after value
 abbrev pub all_makings : List DataDecl → List Value → List Ty → List Event
 all_makings types vs ts = in_turn (map (making_of types) vs) ts
 
--- what is answered
+-- What a run answers: the block that did not fit; that the calls were spent; that the value has too many nodes to be
+-- shown; or the value.
 pub data Answer : Type 0 where
   Full : Unplaced → Answer  -- a block did not fit
   Spent : Answer  -- the calls were spent
   TooLarge : Answer  -- the value has too many nodes to be shown
   Shown : Value → Answer
 
+-- What a run answers, given where the blocks that it asks for are placed, how the source's call ends, and how many
+-- nodes a value may have to be shown. A block that does not fit comes before all else, then the end of the calls.
 abbrev pub answer_at : Laid → SourceEnd → ℕ → Answer
 answer_at (Over full) end nodes = Full full
 answer_at (Fits blocks next) Stopped nodes = Spent
 answer_at (Fits blocks next) (Done v left) nodes = if nat_le (node_count v) nodes then Shown v else TooLarge
 
--- a call of `main` with so many calls under a limit of memory: the blocks of the arguments come first,
--- argument by argument, and then those of the call; a value of more than so many nodes isn't shown
+-- What a call of `main` with these arguments answers, with so many calls, memory up to the address `limit`, and
+-- values of at most `nodes` nodes shown. The blocks of the arguments are placed first, argument by argument from
+-- address 64 on, and then those of the call. A block that does not fit is answered even where the call would be
+-- spent.
 abbrev pub answer_of : Program → List Layout → List Value → ℕ → ℕ → ℕ → Answer
 answer_of p layouts args calls limit nodes =
     let o = call_of p p.main calls args in

@@ -26,27 +26,30 @@ use Rattle.rb_layout.specs.Words.{words_in, flat_at, begins_at, size_of}
 
 -- Parts of words -----------------------------------------------------------------------------
 
--- what the number in a part's bits is, where `subs` has the words of the subvalue at each open
--- position, and `ats` the address of each block
+-- What the number n, in the l bits of a part, is by the part's kind: the constant; l bits of the integer at a path,
+-- from bit a on; word j of the data field at a path; or the address of block b, counted in units of `align` bytes.
+-- `subs` has the words of the subvalue at each open position, an integer being one word, and `ats` the address of
+-- each block.
 abbrev pub HoldsKind : (List ℕ → List ℕ) → (ℕ → ℕ) → ℕ → ℕ → Kind → Type 0
 HoldsKind subs ats n l (Const c) = n ≡ c
 HoldsKind subs ats n l (Bits path a) = n ≡ take_of (slice_index (subs path) 0) a l
 HoldsKind subs ats n l (Word path j) = n ≡ slice_index (subs path) j
 HoldsKind subs ats n l (Pointer align b) = n * align ≡ ats b
 
--- a part of a word holds
+-- the bits of a part, in the word w in which it stands, are what its kind says
 abbrev pub Holds : (List ℕ → List ℕ) → (ℕ → ℕ) → ℕ → Part → Type 0
 Holds subs ats w p = HoldsKind subs ats (take_of w p.o p.l) p.l p.kind
 
+-- bit i of a word stands in the part
 abbrev pub IsInPart : ℕ → Part → Type 0
 IsInPart i p = (p.o ≤ i) × (i < p.o + p.l)
 
--- a bit of a flat word that stands in no part
+-- bit i of a flat word stands in no part of it
 pub record IsFree (f : FlatWord) (i : ℕ) : Type 0 where
   pub inside : i < f.width
   pub outside : (k : ℕ) (p : Part) → slice_get f.parts k ≡ Some p → IsInPart i p → ⊥
 
--- a word is of its width and each part of it holds; where it is clean, its free bits are 0
+-- the word w has no more bits than the flat word f, and each part of it holds; where it is clean, its free bits are 0
 pub record WordHolds (subs : List ℕ → List ℕ) (ats : ℕ → ℕ) (clean : Bool) (f : FlatWord) (w : ℕ) : Type 0 where
   pub fits : w < 2 ^ f.width
   pub parts : (k : ℕ) (p : Part) → slice_get f.parts k ≡ Some p → Holds subs ats w p
@@ -54,13 +57,15 @@ pub record WordHolds (subs : List ℕ → List ℕ) (ats : ℕ → ℕ) (clean :
 
 -- Words of a leaf ----------------------------------------------------------------------------
 
--- w is a word as it stands: among the root words, or loaded from its block
+-- w is the word that stands for word j of the flat words fs, f being that flat word: among the root words where no
+-- block is named, and else loaded from the block's address, at the byte at which word j begins
 abbrev pub IsFound : Option ℕ → List FlatWord → FlatWord → ℕ → List ℕ → (ℕ → ℕ) → Memory → ℕ → Type 0
 IsFound None fs f j ws ats m w = slice_get ws j ≡ Some w
 IsFound (Some b) fs f j ws ats m w = load_of m (ats b) (begins_at fs j) f.width ≡ Ok w
 
--- the root words are as many as the leaf's, the memory has a block of exactly the size of each of the
--- leaf's blocks, and each word of the root and of the blocks is there and holds
+-- The words of a leaf as they stand. There are as many root words as the leaf has; the memory has a block of exactly
+-- the size of each of the leaf's blocks, at its address; and each word of the root and of the blocks is there and
+-- holds.
 pub record Placed (leaf : Leaf) (ws : List ℕ) (m : Memory) (clean : Bool) (subs : List ℕ → List ℕ)
     (ats : ℕ → ℕ) : Type 0 where
   pub count : length ws ≡ length leaf.root
@@ -71,8 +76,9 @@ pub record Placed (leaf : Leaf) (ws : List ℕ) (m : Memory) (clean : Bool) (sub
 
 -- Values -------------------------------------------------------------------------------------
 
--- all that is said of words that represent a value of a data type, but for its subvalues: these are the
--- values `at` open positions, with the words `subs` there
+-- All that is said of words that represent a value of data type t, but for its subvalues. The leaf is the value's, by
+-- its type's layout; there are as many words as the layout's shape has; `at` gives the subvalue at the path of each
+-- open position, `subs` its words, and `ats` the address of each block.
 pub record Made (types : List DataDecl) (layouts : List Layout) (m : Memory) (clean : Bool) (t : ℕ) (v : Value)
     (ws : List ℕ) : Type 0 where
   pub layout : Layout
@@ -89,7 +95,9 @@ pub record Made (types : List DataDecl) (layouts : List Layout) (m : Memory) (cl
       → part_at v o.path ≡ Some (at o.path)
   pub placed : Placed leaf ws m clean subs ats
 
--- the words represent the value at its type in the memory, cleanly where the flag is up
+-- The words represent the value at its type in the memory, cleanly where the flag is up: the least relation.
+-- `number`: an integer is one word, with no more bits than its type. `built`: a value of a data type has words that
+-- are made so, and at each open position of its leaf the words there represent the subvalue there.
 pub data Represents (types : List DataDecl) (layouts : List Layout) (m : Memory) (clean : Bool) : Ty → Value
     → List ℕ → Type 0 where
   number : (bits x : ℕ) → x < 2 ^ bits → Represents types layouts m clean (Int bits) (Num x) (x ∷ [])
@@ -98,20 +106,24 @@ pub data Represents (types : List DataDecl) (layouts : List Layout) (m : Memory)
       → Represents types layouts m clean o.ty (b.at o.path) (b.subs o.path))
       → Represents types layouts m clean (Named t) v ws
 
--- free bits are 0 everywhere: in the root words, in the blocks reached and in the subvalues' words
+-- the words represent the value, and free bits are 0 everywhere: in the root words, in the blocks reached and in the
+-- subvalues' words
 abbrev pub IsCleanlyRepresented : List DataDecl → List Layout → Memory → Ty → Value → List ℕ → Type 0
 IsCleanlyRepresented types layouts m = Represents types layouts m true
 
+-- how many words the shape of a layout has that may be missing, and 0 where it is
 abbrev pub shape_length : Option Layout → ℕ
 shape_length None = 0
 shape_length (Some l) = length l.shape
 
--- how many words represent a value of a type
+-- how many words represent a value of a type: one for an integer, and those of its layout's shape for a data type,
+-- none without a layout
 abbrev pub word_count : List Layout → Ty → ℕ
 word_count layouts (Int bits) = 1
 word_count layouts (Named t) = shape_length (layout_of layouts t)
 
--- values one behind the other, in one list of words
+-- Words represent values one behind the other, at the types in the same places: the words of the first, and behind
+-- them those of the rest. There are as many values as types; none are represented by no words.
 abbrev pub Represent : List DataDecl → List Layout → Memory → Bool → List Ty → List Value → List ℕ → Type 0
 Represent types layouts m clean [] [] ws = ws ≡ []
 Represent types layouts m clean [] (v ∷ vs) ws = ⊥

@@ -1,4 +1,8 @@
--- How many switches it takes to look at values: the numbers from which bounds are made.
+-- How many switches it takes to look at values: the numbers from which bounds are made. A switch is the step of code
+-- that goes one of several ways by a word. A leaf takes a subvalue apart where a constructor of it stands below the
+-- root of the leaf's provenance: it then holds the parts of the subvalue and not its words. Choosing is to find the
+-- leaf of a construction, by looks at its arguments; mending is to rebuild such subvalues. Types and constructors are
+-- named by their numbers; a constructor's number counts in its type.
 use Rattle.std.specs.Prelude.{ℕ, zero, suc, ◌+◌, ◌*◌, ◌==◌, ◌&&◌, max, not, drop, length, List, [], ◌∷◌, ◌++◌, map, filter, Bool, false, Option, Some, None, if◌then◌else◌}
 use Rattle.std.specs.List.{flat_map, sum_by, list_all}
 use Rattle.rb_core.specs.declared.types.Ty.{Ty}
@@ -20,121 +24,142 @@ use Rattle.rb_layout.specs.Positions.{layout_of}
 
 -- Splits -------------------------------------------------------------------------------------
 
+-- the greatest of these numbers, and 0 where there is none
 abbrev pub greatest : List ℕ → ℕ
 greatest [] = 0
 greatest (n ∷ ns) = max n (greatest ns)
 
+-- a number that may be missing, and 0 where it is
 abbrev pub or_zero : Option ℕ → ℕ
 or_zero None = 0
 or_zero (Some n) = n
 
+-- how many splits stand one below the other in one layer of a tree, where this is given for the trees below: a split
+-- adds one to the most of its arms and its `else`, and a leaf has none
 abbrev pub nesting_step : FlatTree-F ℕ ℕ → ℕ
 nesting_step (T.Split loc arms other) = 1 + max (greatest arms) (or_zero other)
 nesting_step (T.Leaf n) = 0
 
+-- the number of an arm is that of the tree below it
 abbrev pub nesting_arm : FlatArm-F ℕ ℕ → ℕ
 nesting_arm a = a.under
 
--- how many splits stand one below the other at most
+-- how many splits stand one below the other in a tree at most, and 0 where it is a leaf
 abbrev pub nesting : FlatTree → ℕ
 nesting = fold-FlatTree ℕ ℕ nesting_step nesting_arm
 
+-- the nesting of a layout's splits, and 0 where the layout is missing
 abbrev pub depth_in : Option Layout → ℕ
 depth_in None = 0
 depth_in (Some layout) = nesting layout.tree
 
--- the switches that show which leaf a value has, or which number it is
+-- the switches that show which leaf a value of a type has, by its layout's splits, or which number an integer is: one
 abbrev pub depth_of : List Layout → Ty → ℕ
 depth_of layouts (Int bits) = 1
 depth_of layouts (Named t) = depth_in (layout_of layouts t)
 
 -- Constructors of provenances ----------------------------------------------------------------
 
--- a constructor of a pattern and its position
+-- a constructor of a pattern, and its position: the path of field numbers that leads to it from the root
 pub record Head : Type 0 where
   pub path : List ℕ
   pub con : ConRef
 
+-- a constructor in the subpattern for field i, with its position in the pattern around it
 abbrev pub head_below : ℕ → Head → Head
 head_below i h = record { path = i ∷ h.path; con = h.con }
 
+-- the constructors of subpatterns, of which the first is that for field i, with their positions in the pattern around
+-- them
 abbrev pub heads_below : List (List Head) → ℕ → List Head
 heads_below [] i = []
 heads_below (hs ∷ hss) i = map (head_below i) hs ++ heads_below hss (i + 1)
 
+-- the constructors of one layer of a pattern, where those of its subpatterns are given: a constructor at the empty
+-- path, and then theirs; wildcards, variables and numbers have none
 abbrev pub heads_step : Pat-F (List Head) → List Head
 heads_step (P.Wild at) = []
 heads_step (P.Var at x) = []
 heads_step (P.Num at n) = []
 heads_step (P.Con at c hss) = record { path = []; con = c } ∷ heads_below hss 0
 
--- the constructors of a pattern, that of its root first
+-- the constructors of a pattern with their positions, that of its root first and then from left to right
 abbrev pub heads_of : Pat → List Head
 heads_of = fold-Pat (List Head) heads_step
 
--- those below the root of a provenance
+-- the constructors below the root of a leaf's provenance, with their positions: what the leaf takes apart
 abbrev pub inner_heads : Leaf → List Head
 inner_heads leaf = drop 1 (heads_of leaf.prov)
 
+-- the first of these constructors has number k in its type; not so where there is none
 abbrev pub begins_with : ℕ → List Head → Bool
 begins_with k [] = false
 begins_with k (h ∷ hs) = h.con.con == k
 
+-- the leaves of a layout that may be missing, and none where it is
 abbrev pub leaves_in : Option Layout → List Leaf
 leaves_in None = []
 leaves_in (Some layout) = layout.leaves
 
--- a leaf for the values of one constructor
+-- a leaf is for values of constructor k: its provenance begins with that constructor
 abbrev pub is_leaf_for : ℕ → Leaf → Bool
 is_leaf_for k leaf = begins_with k (heads_of leaf.prov)
 
--- a position and the type there
+-- two constructors stand at the same position and are of the same type
 abbrev pub same_place : Head → Head → Bool
 same_place a b = same_path a.path b.path && (a.con.ty == b.con.ty)
 
--- each place once
+-- of these constructors, the first at each position for each type
 abbrev pub distinct_places : List Head → List Head
 distinct_places [] = []
 distinct_places (h ∷ hs) = h ∷ filter (λ other. not (same_place h other)) (distinct_places hs)
 
--- the places below the root at which some provenance with root constructor k has a constructor
+-- the places below the root at which some leaf of type t, for values of constructor k, has a constructor in its
+-- provenance, each once with the type there
 abbrev pub places_of : List Layout → ℕ → ℕ → List Head
 places_of layouts t k =
     distinct_places (flat_map inner_heads (filter (is_leaf_for k) (leaves_in (layout_of layouts t))))
 
 -- Choosing and mending -----------------------------------------------------------------------
 
--- the looks at which the leaf of a construction is chosen, where mending is given
+-- The switches that choose the leaf of a construction of type t by constructor k, where the switches of mending are
+-- given for each type: at each place that a leaf for it takes apart, those that show the leaf of the value there, and
+-- those that mend that value.
 abbrev pub choose_with : (ℕ → ℕ) → List Layout → ℕ → ℕ → ℕ
 choose_with mend layouts t k =
     sum_by (λ (h : Head). depth_of layouts (Named h.con.ty) + mend h.con.ty) (places_of layouts t k)
 
--- rebuilding the subvalues that a leaf has taken apart, where choosing is given
+-- the switches that rebuild what a leaf has taken apart, where the switches of choosing are given for each
+-- constructor of a type: the sum over the constructors below the root
 abbrev pub mend_leaf : (ℕ → ℕ → ℕ) → Leaf → ℕ
 mend_leaf choose leaf = sum_by (λ (h : Head). choose h.con.ty h.con.con) (inner_heads leaf)
 
--- mending, where types are flattened into one another at most so deep
+-- The switches of mending for type t, counted through at most `n` types that are flattened into one another: in the
+-- leaf where it takes most, and 0 where n is 0.
 abbrev pub mend_within : List Layout → ℕ → ℕ → ℕ
 mend_within layouts zero t = 0
 mend_within layouts (suc n) t =
     greatest (map (mend_leaf (choose_with (mend_within layouts n) layouts)) (leaves_in (layout_of layouts t)))
 
--- The switches that rebuild what the leaves of a type have taken apart, in the leaf where it takes most.
--- A type's mending asks for that of types that are flattened into it. Flattening has no cycle, so the
+-- The switches that rebuild what the leaves of a type have taken apart, in the leaf where it takes most. A type's
+-- mending asks for that of types that are flattened into it. Flattening has no cycle where layouts agree, so the
 -- types on such a way are distinct and have layouts: there are no more of them than layouts.
 abbrev pub mend_of : List Layout → ℕ → ℕ
 mend_of layouts = mend_within layouts (length layouts)
 
--- the switches that choose the leaf of a construction by constructor k
+-- the switches that choose the leaf of a construction of type t by constructor k; 0 where no leaf for it takes
+-- anything apart
 abbrev pub choose_of : List Layout → ℕ → ℕ → ℕ
 choose_of layouts = choose_with (mend_of layouts) layouts
 
 -- Looking ------------------------------------------------------------------------------------
 
+-- a leaf takes nothing apart: its provenance has no constructor below its root
 abbrev pub is_shallow : Leaf → Bool
 is_shallow leaf = length (inner_heads leaf) == 0
 
--- the switches that a match spends at one position of this type
+-- The switches that a match spends at one position of this type. Where no leaf of the type takes anything apart,
+-- those that show the value's leaf or number; else twice these together with those of mending.
 abbrev pub look_of : List Layout → Ty → ℕ
 look_of layouts (Int bits) = depth_of layouts (Int bits)
 look_of layouts (Named t) =

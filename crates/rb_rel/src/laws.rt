@@ -3,12 +3,13 @@
 ghost use Rattle.rb_rel.specs.Laws.{CleanRepresents, GrowthKeeps, ListsHaveWords, MendingRecurs, ReadingGivesBits};
 ghost use Rattle.rb_rel.specs.Laws.{RepresentedAreTyped, SplitsLead, ValuesHaveWords, WordsAreOneValue};
 
-/// What represents a value still does after blocks were placed and words stored in them.
+/// What represents a value in a memory still does in one that has its blocks and written bytes, and
+/// perhaps more.
 pub fn growth_keeps_representations()
     ensures { GrowthKeeps }
 {}
 
-/// A clean representation of a value is a representation of it.
+/// A clean representation of a value, whose free bits are 0, is a representation of it.
 pub fn clean_representations_represent()
     ensures { CleanRepresents }
 {}
@@ -19,7 +20,8 @@ pub fn reading_gives_bits()
     ensures { ReadingGivesBits }
 {}
 
-/// The splits, read on words that represent a value, lead to its leaf.
+/// The splits of a type's layout, read on words that represent a value of it in a good memory, lead
+/// to the value's leaf.
 pub fn splits_lead_to_the_leaf()
     ensures { SplitsLead }
 {}
@@ -40,13 +42,16 @@ pub fn values_have_words()
     ensures { ValuesHaveWords }
 {}
 
-/// So have several values, made one after the other, as the arguments of a program are.
+/// Several values whose blocks fit, made one after the other as the arguments of a program are,
+/// have clean representations one behind the other, in a memory that has grown by exactly the
+/// blocks that their constructions ask for.
 pub fn lists_have_words()
     ensures { ListsHaveWords }
 {}
 
-/// The switches of mending meet their recursion: the bound on it is never reached, since flattening has
-/// no cycle.
+/// The switches of mending a type are, in the leaf where it takes most, the sum of those of
+/// choosing below the root: the bound on how deep types are flattened into one another is never
+/// reached, since flattening has no cycle.
 pub fn mending_recurs()
     ensures { MendingRecurs }
 {}
