@@ -13,14 +13,16 @@ use rb_core::seq::Seq;
 use rb_core::typed::Covered;
 use std::marker::Model;
 
-/// A covered program with the flat forms of its layouts.
+/// A typed program whose matches are exhaustive, with flat layouts. Nothing is said of the layouts
+/// yet.
 #[derive(Drop)]
 pub struct LaidOut {
     pub covered: Covered,
     pub layouts: Seq<Layout>,
 }
 
-/// A covered program whose layouts agree, with their flat forms.
+/// A typed program whose matches are exhaustive and whose layouts agree with its types, with their
+/// flat forms.
 #[derive(Drop)]
 pub struct Agreed {
     laid_out: LaidOut,
@@ -41,7 +43,8 @@ impl Model for Agreed {
 }
 
 impl Agreed {
-    /// The program with the flat forms of its layouts, which its caller knows to agree.
+    /// The program with the flat forms of its layouts. Its caller knows that they are these, and
+    /// that they agree.
     pub fn new(covered: Covered, layouts: Seq<Layout>) -> Agreed
         requires flat { layouts ≡ flat_layouts covered.program }
         requires agree { Agrees covered.program }
@@ -52,7 +55,7 @@ impl Agreed {
         }
     }
 
-    /// The covered program, and that its layouts agree.
+    /// The program, typed and with exhaustive matches. Its layouts agree with its types.
     pub fn covered(&self) -> &Covered
         ensures same { result.now ≡ self.now.covered }
         ensures agree { Agrees self.now.covered.program }
@@ -60,7 +63,8 @@ impl Agreed {
         &self.laid_out.covered
     }
 
-    /// The flat form of each type's layout, in the types' order.
+    /// The flat form of each type's layout, in the types' order. They are those of the program, and
+    /// agree with its types.
     pub fn layouts(&self) -> &[Layout]
         ensures same { result.now ≡ self.now.layouts }
         ensures flat { self.now.layouts ≡ flat_layouts self.now.covered.program }

@@ -1,4 +1,5 @@
-//! One step of what bars bits.
+//! One step of what bars bits: that a word never has a literal, by a constant bit, by a pointer, or
+//! by a goal about a field's type that is known to hold.
 
 ghost use Rattle.std.specs.Prelude.{◌≡◌};
 ghost use Rattle.rb_bits.specs.Words.{IsRange};
@@ -13,7 +14,7 @@ use rb_bits::take;
 use rb_core::pattern::Pat;
 use rb_core::types::DataDecl;
 
-// Whether a bit is known and another than the wanted one.
+// Whether a bit is known, and another than the wanted one.
 fn is_other(bit: Option<u64>, wanted: u64) -> bool
     ensures { result ≡ is_other bit wanted }
 {
@@ -23,8 +24,9 @@ fn is_other(bit: Option<u64>, wanted: u64) -> bool
     }
 }
 
+// Whether one of the parts makes a bit of the literal's range constant, and another than the
+// literal's.
 #[tactic(auto, using(crate::proofs::BarLemmas::barring))]
-// Whether a constant bit is another than the literal's.
 fn bit_differs(parts: &[Part], literal: Literal) -> bool
     requires { IsAsked literal }
     ensures { result ≡ bit_differs parts.now literal.o literal.bits 0 literal.l }
@@ -52,7 +54,8 @@ fn is_pointer(kind: &Kind) -> bool
     }
 }
 
-// Whether a part is a pointer that lies wholly in the range, where the literal has only zeros.
+// Whether a part is a pointer that lies wholly in the literal's range, where the literal has only
+// zeros on its bits. A pointer without bits counts, too.
 fn null_at(part: &Part, literal: Literal) -> bool
     requires { IsAsked literal }
     ensures { result ≡ null_at literal part.now }
@@ -76,7 +79,8 @@ fn null_at(part: &Part, literal: Literal) -> bool
     take(literal.bits, from as u32, part.l as u32) == 0
 }
 
-// Whether some part is a pointer that the literal covers with zeros.
+// Whether some part is a pointer that lies wholly in the literal's range, where the literal has
+// only zeros on its bits.
 #[tactic(auto, using(crate::proofs::BarLemmas::barring))]
 fn null_in(parts: &[Part], literal: Literal) -> bool
     requires { IsAsked literal }
@@ -90,7 +94,7 @@ fn null_in(parts: &[Part], literal: Literal) -> bool
     false
 }
 
-// Whether a part with a word of a field gives a goal that is known to hold.
+// Whether a part gives a goal for the literal that is known to hold.
 fn part_barred(
     types: &[DataDecl],
     prov: &Pat,
@@ -107,7 +111,7 @@ fn part_barred(
     }
 }
 
-// Whether one of the parts gives a goal that is known to hold.
+// Whether one of the parts gives a goal for the literal that is known to hold.
 #[tactic(auto, using(crate::proofs::BarLemmas::barring))]
 fn parts_barred(
     types: &[DataDecl],
@@ -127,7 +131,8 @@ fn parts_barred(
     false
 }
 
-/// Whether a word never has the literal, by a constant bit, by a pointer, or by a known goal.
+/// Whether a word with these parts, in a leaf with this provenance, never has the literal: by a
+/// constant bit, by a pointer, or by a known goal.
 pub(crate) fn word_barred(
     types: &[DataDecl],
     prov: &Pat,
@@ -147,7 +152,8 @@ pub(crate) fn word_barred(
     parts_barred(types, prov, parts, literal, entries)
 }
 
-// Whether a leaf has a goal's word, which never has the literal by one step from the known goals.
+// Whether a leaf has a goal's root word, and this never has the goal's literal, by one step from
+// the known goals.
 fn leaf_barred(types: &[DataDecl], leaf: &Leaf, goal: &Goal, entries: &Goals) -> bool
     requires { IsAsked goal.now.literal }
     ensures { result ≡ leaf_barred (knows entries.now) types.now goal.now leaf.now }
@@ -164,7 +170,8 @@ fn leaf_barred(types: &[DataDecl], leaf: &Leaf, goal: &Goal, entries: &Goals) ->
     }
 }
 
-// Whether a goal holds in each of the leaves by one step from the known ones.
+// Whether each of the leaves has a goal's root word, and this never has its literal, by one step
+// from the known goals.
 #[tactic(auto, using(crate::proofs::BarLemmas::barring))]
 fn leaves_barred(types: &[DataDecl], leaves: &[Leaf], goal: &Goal, entries: &Goals) -> bool
     requires { IsAsked goal.now.literal }
@@ -178,7 +185,8 @@ fn leaves_barred(types: &[DataDecl], leaves: &[Leaf], goal: &Goal, entries: &Goa
     true
 }
 
-/// Whether a goal holds by one step from the known ones.
+/// Whether a goal holds by one step from the known ones. One whose type has no layout or no leaf
+/// does not.
 pub(crate) fn goal_barred(
     types: &[DataDecl],
     layouts: &[Layout],

@@ -6,7 +6,7 @@ ghost use Rattle.rb_layout.specs.Flattening.{decl_of, shape_of};
 
 use rb_core::layout_decl::LayoutDecl;
 
-/// The layout that is declared for a type.
+/// The first layout that is declared for the type with this number. None where there is none.
 pub fn decl_of(decls: &[LayoutDecl], ty: u32) -> Option<&LayoutDecl>
     ensures { option_copied result ≡ decl_of decls.now ty }
 {
@@ -18,7 +18,8 @@ pub fn decl_of(decls: &[LayoutDecl], ty: u32) -> Option<&LayoutDecl>
     None
 }
 
-/// The widths of the words of a type's values, in bits; none where it has no layout.
+/// The widths of the words of a type's values, in bits, as its layout states them; no words where
+/// it has no layout.
 pub fn shape_of(decls: &[LayoutDecl], ty: u32) -> &[u64]
     ensures { result.now ≡ shape_of decls.now ty }
 {

@@ -1,69 +1,80 @@
-//! Why layouts are refused: the rule, the place, and what fails there.
+//! Why layouts are refused: the rule, the place, and what fails there. Items are the words and
+//! inline fields of a leaf as they are written, numbered from 0, outer before inner. A range is its
+//! first bit and its length, in this order; numbers and widths count bits where nothing else is
+//! said. Paths are lists of field numbers from the root.
 
 use rb_core::layout_decl::Loc;
 use rb_core::pattern::Pat;
 use rb_core::seq::Seq;
 
-/// What fails at a place. Ranges are bit `o` and length `l`, in this order.
+/// What fails at a place; its rule, type and leaf are said by the refusal.
 #[derive(Debug, Drop)]
 pub enum Why {
-    /// The type has no layout.
+    /// A1: the type has no layout.
     NoLayout,
-    /// A word of the shape and its width in bits.
+    /// A1: this word of the shape has this width, which is not 1 to 64.
     ShapeWidth(u32, u64),
-    /// How many root words are wanted, and how many there are.
+    /// A2: the shape has so many words, and the leaf so many root words, another number.
     WordCount(u64, u64),
-    /// A root word, its width, and the width that is wanted.
+    /// A2: this root word has this width, and the shape's word another, the last one.
     WordWidth(u32, u64, u64),
-    /// An item, and a part's range.
+    /// A3: in this item, the part with this range has no bit or goes beyond its word.
     Outside(u32, u64, u64),
-    /// An item, and two parts' ranges.
+    /// A3: in this item, the parts with these two ranges have a bit in common. The one that begins
+    /// lower comes first.
     Overlap(u32, u64, u64, u64, u64),
-    /// An item, a constant, and its part's length.
+    /// A3: in this item, this constant doesn't fit its part of so many bits.
     ConstWide(u32, u64, u64),
-    /// An item, a part's range, and the path of the field that it doesn't fit.
+    /// A3: in this item, the part with this range doesn't fit what it names of the field at this
+    /// path.
     Misfit(u32, u64, u64, Seq<u32>),
-    /// The width of a block's word in bits.
+    /// A4: a block has a word of this width, which is none of 8, 16, 32 and 64.
     BlockWord(u64),
-    /// How many words a block has.
+    /// A4: a block has so many words, which are none or more than 64.
     BlockWords(u64),
-    /// How many blocks the leaf has.
+    /// A4: the leaf has so many blocks, more than 64.
     Blocks(u64),
-    /// A pointer's alignment in bytes.
+    /// A4: a pointer has this alignment in bytes, which is no power of two up to 64.
     Align(u64),
-    /// How many bits of an address a pointer has.
+    /// A4: a pointer has so many bits, those that its alignment saves included, fewer than 24.
     ShortPointer(u64),
-    /// A later leaf with a common value.
+    /// A5: the later leaf with this number has a value in common with this one.
     Common(u32),
-    /// A pattern whose values have no leaf.
+    /// A5: the pattern has a value, and none of its values has a leaf.
     NoLeaf(Pat),
-    /// A path, and a bit or word of the field there.
+    /// A6: no part holds this bit of the integer, or this word of the data field, at the open
+    /// position with this path.
     NotHeld(Seq<u32>, u64),
-    /// A path, and a bit or word of the field there.
+    /// A6: more than one part holds this bit of the integer, or this word of the data field, at the
+    /// open position with this path.
     HeldTwice(Seq<u32>, u64),
-    /// A path.
+    /// A6: a part or an inline field names this path, and the leaf has no open position there.
     NotOpen(Seq<u32>),
-    /// A split's location.
+    /// A7: the location of a split above the leaf doesn't resolve in it.
     Unresolved(Loc),
-    /// A split's location, and the literal above the leaf.
+    /// A7: the leaf is below this literal of the split at this location, and doesn't have it known
+    /// there.
     NotKnown(Loc, u64),
-    /// A split's location, and a literal beside the `else` above the leaf.
+    /// A7: the leaf is below the `else` of the split at this location, and doesn't exclude this
+    /// literal of it.
     NotExcluded(Loc, u64),
-    /// A split's location, and a literal.
+    /// A8: the split at this location has this literal, which doesn't fit its range.
     LiteralWide(Loc, u64),
-    /// A split's location, and a literal.
+    /// A8: the split at this location has this literal twice.
     LiteralTwice(Loc, u64),
-    /// A split's location.
+    /// A8: the split at this location has neither an arm nor an `else`.
     NoArm(Loc),
-    /// A flattened type.
+    /// A9: the leaf flattens the type with this number, whose layout has a pointer.
     HasPointer(u32),
-    /// Types, each of which flattens the next and the last the first.
+    /// A9: the types with these numbers, of which each flattens the next and the last the first.
     FlatCycle(Seq<u32>),
-    /// Types, each of which holds the next in root words and the last the first.
+    /// A10: the types with these numbers, of which each holds the next in root words and the last
+    /// the first.
     HoldCycle(Seq<u32>),
 }
 
-/// A refusal: the rule's number from 1 to 10, the type's number, and the leaf's where it is one's.
+/// A refusal: the rule's number from 1 to 10, the type's number, the leaf's number where the rule
+/// fails at a leaf, and what fails there.
 #[derive(Debug, Drop)]
 pub struct Refused {
     pub rule: u8,

@@ -38,7 +38,7 @@ use rb_core::layout_decl::Loc;
 use rb_core::types::DataDecl;
 use std::alloc::{AllocError, Global};
 
-// Whether a word of a leaf never has the literal.
+// Whether a word of a leaf never has the literal, by a finite derivation. Fails for want of memory.
 fn is_barred(
     alloc: Global,
     types: &[DataDecl],
@@ -59,7 +59,8 @@ fn is_barred(
     Ok(word_barred(types, &leaf.prov, parts, literal, &entries))
 }
 
-/// Whether the bits at a location of a leaf are never those of `literal`.
+/// Whether the bits at a location of a leaf are never those of `literal`, whatever value the leaf
+/// holds, by a finite derivation. Not so where the location does not resolve.
 ///
 /// # Errors
 ///

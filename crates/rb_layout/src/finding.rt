@@ -1,4 +1,5 @@
-//! All goals on which a literal's exclusion rests, each once.
+//! All goals on which a literal's exclusion rests, each once. A goal rests on those that the parts
+//! of its root word give, in each leaf of its type. What fails, fails for want of memory.
 
 ghost use Rattle.std.specs.Prelude.{◌≡◌, IfOk, OnOk};
 ghost use Rattle.rb_bits.specs.Words.{IsRange};
@@ -12,7 +13,8 @@ use rb_core::pattern::Pat;
 use rb_core::types::DataDecl;
 use std::alloc::AllocError;
 
-// Adds the goal of a part, where it gives one.
+// Adds the goal that a part gives for a literal. Adds none where the part has no word of a data
+// field, or does not meet the literal's range.
 fn add_part(
     types: &[DataDecl],
     prov: &Pat,
@@ -30,7 +32,7 @@ fn add_part(
     }
 }
 
-/// Adds the goals of a word's parts.
+/// Adds the goals that a word's parts give for a literal, in a leaf with this provenance.
 #[tactic(auto, using(crate::proofs::FindLemmas::finding))]
 pub(crate) fn add_parts(
     types: &[DataDecl],
@@ -49,7 +51,8 @@ pub(crate) fn add_parts(
     Ok(())
 }
 
-// Adds the goals of the parts of a goal's word in one leaf.
+// Adds the goals that the parts of a goal's root word give in one leaf. Adds none where the leaf
+// has no such word.
 fn add_leaf(
     types: &[DataDecl],
     leaf: &Leaf,
@@ -71,7 +74,7 @@ fn add_leaf(
     }
 }
 
-// Adds the goals of the parts of a goal's word in each of the leaves.
+// Adds the goals that the parts of a goal's root word give in each of the leaves.
 #[tactic(auto, using(crate::proofs::FindLemmas::finding))]
 fn add_leaves(
     types: &[DataDecl],
@@ -88,7 +91,7 @@ fn add_leaves(
     Ok(())
 }
 
-// Adds the goals below a goal: those of the parts of its word in each leaf of its type.
+// Adds the goals on which a goal rests in one step. Adds none where its type has no layout.
 fn add_below(
     types: &[DataDecl],
     layouts: &[Layout],
@@ -104,7 +107,8 @@ fn add_below(
     }
 }
 
-/// Adds all goals on which the entries rest.
+/// Adds all goals on which the entries rest, in any number of steps. It looks at each entry once,
+/// at those that it adds after the others.
 pub(crate) fn find_all(
     types: &[DataDecl],
     layouts: &[Layout],

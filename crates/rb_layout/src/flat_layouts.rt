@@ -30,7 +30,7 @@ pub fn flatten(alloc: Global, covered: &Covered) -> Result<Seq<Layout>, AllocErr
     Ok(layouts)
 }
 
-// Adds the flat form of a type's layout, if it has one.
+// Adds the flat form of the layout that is declared for a type. Adds nothing where there is none.
 fn push_layout(
     alloc: Global,
     program: &Program,
@@ -45,7 +45,7 @@ fn push_layout(
     }
 }
 
-// The flat form of one layout.
+// The flat form of one declared layout. Fails for want of memory.
 fn flat_layout(alloc: Global, program: &Program, decl: &LayoutDecl) -> Result<Layout, AllocError>
     ensures { IfOk result (λ layout. layout ≡ flat_layout program.now decl.now) }
 {

@@ -1,4 +1,7 @@
-//! The flat form of a leaf: its items become words, and what its pointers lead to becomes blocks.
+//! The flat form of a leaf: its items become words, and what its pointers lead to becomes blocks. A
+//! field is named by its path from the root of the leaf's provenance, and is open where the
+//! provenance has an open position there; for any other path nothing is placed. Blocks are numbered
+//! as they are placed, inner before outer. What fails, fails for want of memory.
 
 ghost use Rattle.std.specs.Prelude.{◌≡◌, ◌++◌, ◌∷◌, [], length, IfOk, OnOk};
 ghost use Rattle.rb_layout.specs.Positions.{open_positions};
@@ -34,7 +37,8 @@ pub(crate) fn flat_leaf(
     })
 }
 
-// The words of items; their blocks are added behind those that are there.
+// The words of items, from left to right. The blocks behind their pointers are added to those that
+// are there.
 #[cycle(laying)]
 fn flat_items(
     alloc: Global,
@@ -52,7 +56,8 @@ fn flat_items(
     Ok(words)
 }
 
-// Adds the words of an item and its blocks.
+// Adds the words of an item, which are one with its parts or those of a field, and the blocks
+// behind its pointers.
 #[cycle(laying)]
 fn push_item(
     alloc: Global,
@@ -76,7 +81,8 @@ fn push_item(
     }
 }
 
-// The parts of a word; their blocks are added.
+// The parts of a word that place something, from left to right. The blocks behind pointers are
+// added.
 #[cycle(laying)]
 fn flat_parts(
     alloc: Global,
@@ -94,7 +100,7 @@ fn flat_parts(
     Ok(flat)
 }
 
-// Adds a part, if it places anything, and its blocks.
+// Adds a part and the blocks behind it. Adds nothing where its path is not open.
 #[cycle(laying)]
 fn push_part(
     alloc: Global,
@@ -116,7 +122,8 @@ fn push_part(
     }
 }
 
-// What a part holds, if anything; the blocks behind a pointer are added.
+// What a part holds, and None where its path is not open. The blocks behind a pointer are added,
+// its own last.
 #[cycle(laying)]
 fn flat_kind(
     alloc: Global,
@@ -146,7 +153,7 @@ fn flat_kind(
     }
 }
 
-// Adds a block, and answers its number; there is no memory for 2^32 of them.
+// Adds a block, and answers its number. There is no memory for 2^32 of them.
 fn push_block(align: u64, words: Seq<FlatWord>, blocks: &mut Seq<Block>) -> Result<u32, AllocError>
     ensures number { IfOk result (λ number. number ≡ length blocks.old) }
     ensures blocks { OnOk result (blocks.new ≡ blocks.old ++ record { align = align; words = words } ∷ []) }
@@ -158,14 +165,15 @@ fn push_block(align: u64, words: Seq<FlatWord>, blocks: &mut Seq<Block>) -> Resu
     Ok(number)
 }
 
-// The type at a path, where that is an open position.
+// The type at a path of a provenance, and None where no position is open there.
 fn type_of(program: &Program, prov: &Pat, path: &Seq<u32>) -> Option<Ty>
     ensures { result ≡ type_at (open_positions program.now.types prov.now) path.now }
 {
     type_at(program.types.as_slice(), prov, path.as_slice())
 }
 
-// What holds a whole field of this type, if the path is open.
+// What holds the whole field at a path, given the type there: bits of an integer from bit 0 on, or
+// word 0 of a data type. None where the path is not open.
 fn whole_kind(alloc: Global, ty: Option<Ty>, path: &Seq<u32>) -> Result<Option<Kind>, AllocError>
     ensures { IfOk result (λ kind. kind ≡ whole_kind ty path.now) }
 {
@@ -176,7 +184,7 @@ fn whole_kind(alloc: Global, ty: Option<Ty>, path: &Seq<u32>) -> Result<Option<K
     }
 }
 
-// What is held, if its path is open.
+// What is held, given the type at its path. None where the path is not open.
 fn kind_if_open(ty: Option<Ty>, kind: Kind) -> Option<Kind>
     ensures { result ≡ kind_if_open ty kind }
 {
@@ -186,7 +194,7 @@ fn kind_if_open(ty: Option<Ty>, kind: Kind) -> Option<Kind>
     }
 }
 
-// A word of so many bits with one part of full width.
+// A word of this width with one part of this kind, which takes all of it.
 fn whole_word(alloc: Global, width: u64, kind: Kind) -> Result<FlatWord, AllocError>
     ensures { IfOk result (λ word. word ≡ word_of width kind) }
 {
@@ -199,7 +207,8 @@ fn whole_word(alloc: Global, width: u64, kind: Kind) -> Result<FlatWord, AllocEr
     Ok(FlatWord { width, parts })
 }
 
-// Adds all words of the field at a path.
+// Adds the words of the field at a path: one for an integer, those of its shape for a data type.
+// Adds none where the path is not open.
 fn push_field(
     alloc: Global,
     program: &Program,
@@ -222,7 +231,8 @@ fn push_field(
     }
 }
 
-// Adds a word for each word of a shape.
+// Adds a word for each word of a shape, which holds the word with its number of the field at the
+// path.
 fn push_shape(
     alloc: Global,
     path: &Seq<u32>,

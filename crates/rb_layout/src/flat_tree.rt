@@ -1,4 +1,5 @@
-//! The flat form of a tree of splits: its leaves are numbered from left to right.
+//! The flat form of a tree of splits: its leaves are numbered from left to right, and listed apart.
+//! What fails, fails for want of memory.
 
 ghost use Rattle.std.specs.Prelude.{◌≡◌, ◌∷◌, ◌++◌, [], flat_map, length, map, IfOk, OnOk};
 ghost use Rattle.rb_core.specs.Layouts.{leaves, leaves_under};
@@ -15,7 +16,8 @@ use rb_core::program::Program;
 use rb_core::seq::Seq;
 use std::alloc::{AllocError, Global};
 
-/// The flat form of a tree, whose leaves are added behind those that are there.
+/// The flat form of a tree. Its leaves are added behind those that are there, and numbered by their
+/// places.
 #[cycle(splitting)]
 pub(crate) fn flat_tree(
     alloc: Global,
@@ -43,7 +45,7 @@ pub(crate) fn flat_tree(
     }
 }
 
-// The flat forms of arms, from left to right.
+// The flat forms of arms, from left to right. Their leaves are added behind those that are there.
 #[cycle(splitting)]
 fn flat_arms(
     alloc: Global,
@@ -61,7 +63,7 @@ fn flat_arms(
     Ok(flats)
 }
 
-// The flat form of an arm, whose leaves are added behind those that are there.
+// The flat form of an arm. Its leaves are added behind those that are there.
 #[cycle(splitting)]
 fn flat_arm(
     alloc: Global,
@@ -79,7 +81,8 @@ fn flat_arm(
     })
 }
 
-// Adds a leaf, and answers its number; there is no memory for 2^32 of them.
+// Adds the leaf with this provenance and these items, and answers the tree that is this leaf. There
+// is no memory for 2^32 of them.
 fn push_leaf(
     alloc: Global,
     program: &Program,

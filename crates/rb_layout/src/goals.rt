@@ -9,7 +9,7 @@ use indexmap::IndexMap;
 use std::alloc::{AllocError, Global};
 use std::marker::Model;
 
-/// A number in a range of bits: `l` bits from bit `o`, which are those of `bits`.
+/// A number in a range of a word: the `l` bits from bit `o` on are those of `bits` from bit 0 on.
 #[derive(Clone, Copy, PartialEq, Eq, Hash)]
 pub struct Literal {
     pub o: u64,
@@ -17,7 +17,8 @@ pub struct Literal {
     pub bits: u64,
 }
 
-/// That root word `word` never has a literal, in no leaf of a type.
+/// The question whether root word `word` of type `ty` never has a literal, in none of the type's
+/// leaves.
 #[derive(Clone, Copy, PartialEq, Eq, Hash)]
 pub struct Goal {
     pub ty: u32,
@@ -25,14 +26,14 @@ pub struct Goal {
     pub literal: Literal,
 }
 
-/// A goal, and whether it is known to hold.
+/// A goal, and in `barred` whether it is known to hold.
 #[derive(Clone, Copy)]
 pub struct Entry {
     pub goal: Goal,
     pub barred: bool,
 }
 
-/// Goals in the order in which they were found, each with whether it is known to hold.
+/// Goals in the order in which they were found, each once, with whether it is known to hold.
 #[derive(Drop)]
 pub struct Goals {
     known: IndexMap<Goal, bool>,
@@ -64,7 +65,8 @@ impl Goals {
         self.known.len()
     }
 
-    /// The goal with this number.
+    /// The entry with this number, in the order in which goals were found. None where there are not
+    /// so many.
     pub fn get(&self, i: usize) -> Option<Entry>
         ensures { result ≡ slice_get self.now i }
     {
@@ -77,7 +79,7 @@ impl Goals {
         }
     }
 
-    /// Whether a goal is here, and known to hold.
+    /// Whether a goal is here and known to hold.
     pub fn is_known(&self, goal: &Goal) -> bool
         ensures { result ≡ knows self.now goal.now }
     {
@@ -87,7 +89,7 @@ impl Goals {
         }
     }
 
-    /// Adds a goal, which isn't known to hold if it is new.
+    /// Adds a goal behind the others, not known to hold. One that is here already stays as it is.
     ///
     /// # Errors
     ///
@@ -102,7 +104,7 @@ impl Goals {
         Ok(())
     }
 
-    /// Notes that the goal with this number holds.
+    /// Notes that the goal with this number holds. Its caller knows that it is here.
     pub fn mark(&mut self, i: usize)
         requires { i < length self.old }
         ensures { self.new ≡ marked self.old i (slice_get self.old i) }

@@ -1,4 +1,4 @@
-//! Graphs of numbers: for each number those to which it leads.
+//! Graphs of numbers: row t lists the numbers to which t leads.
 
 ghost use Rattle.std.specs.Prelude.{◌≡◌, IfOk};
 ghost use Rattle.rb_layout.specs.Graphs.{AreUnmarked, edges_of};
@@ -6,7 +6,7 @@ ghost use Rattle.rb_layout.specs.Graphs.{AreUnmarked, edges_of};
 use rb_core::seq::Seq;
 use std::alloc::{AllocError, Global};
 
-/// So many marks, none of them set.
+/// `count` marks, none of them set.
 ///
 /// # Errors
 ///
@@ -21,7 +21,8 @@ pub fn no_marks(alloc: Global, count: usize) -> Result<Seq<bool>, AllocError>
     Ok(marks)
 }
 
-/// The numbers to which a number leads; none for a number that the graph hasn't.
+/// The numbers to which a number leads, in the order of its row; none for a number that the graph
+/// hasn't.
 pub fn edges_of(graph: &[Seq<u32>], number: u32) -> &[u32]
     ensures { result.now ≡ edges_of graph.now number }
 {

@@ -10,7 +10,8 @@ use crate::locate::{end_of, flat_at};
 use rb_bits::take;
 use rb_core::layout_decl::Loc;
 
-// The bit of a constant.
+// Bit `i` of the number that a part of this kind holds, where it is a constant. None for any other
+// kind.
 fn bit_of_kind(kind: &Kind, i: u64) -> Option<u64>
     requires { i < 64 }
     ensures { result ≡ bit_of_kind kind.now i }
@@ -23,7 +24,7 @@ fn bit_of_kind(kind: &Kind, i: u64) -> Option<u64>
     }
 }
 
-// What bit `i` of a word is by a part, where the part is a constant that has this bit.
+// Bit `i` of a word, where it stands in this part and the part is a constant. None elsewhere.
 fn bit_of_part(part: &Part, i: u64) -> Option<u64>
     requires { i < 64 }
     ensures { result ≡ bit_of_part part.now i }
@@ -37,7 +38,8 @@ fn bit_of_part(part: &Part, i: u64) -> Option<u64>
     bit_of_kind(&part.kind, i - part.o)
 }
 
-/// What bit `i` of a word is by a constant part.
+/// Bit `i` of a word with these parts, by the first of them that is a constant and has this bit.
+/// None where none is.
 #[tactic(auto, using(crate::proofs::BarLemmas::barring))]
 pub(crate) fn constant_bit(parts: &[Part], i: u64) -> Option<u64>
     requires { i < 64 }
@@ -51,7 +53,8 @@ pub(crate) fn constant_bit(parts: &[Part], i: u64) -> Option<u64>
     None
 }
 
-// The number of `l` bits from bit `o` on, where all are constant.
+// The number of the `l` bits from bit `o` on of a word with these parts, where each of them is
+// constant, and else None.
 fn constant_bits(parts: &[Part], o: u64, l: u64) -> Option<u64>
     requires { IsRange o l }
     ensures { result ≡ constant_bits parts.now o l }
@@ -68,7 +71,8 @@ fn constant_bits(parts: &[Part], o: u64, l: u64) -> Option<u64>
     Some(number)
 }
 
-/// The number that is known at a location, where it resolves and all its bits are constant.
+/// The number that is known at a location of a leaf: where it resolves and all bits of its last
+/// range are constant. None elsewhere.
 pub fn known_bits(leaf: &Leaf, loc: &Loc) -> Option<u64>
     requires { IsReadable leaf.now }
     ensures { result ≡ known leaf.now loc.now }

@@ -1,4 +1,6 @@
-//! Where locations lead.
+//! Where locations lead. A location names a root word and a range of its bits, and then steps. Each
+//! step goes on through a pointer in just the range so far, to the word of its block that begins at
+//! the step's byte and has its width, and names a range of that.
 
 ghost use Rattle.std.specs.Prelude.{◌≡◌, ◌≤◌, ◌==◌, ◌&&◌, length, Some, None};
 ghost use Rattle.std.specs.Option.{option_copied};
@@ -10,7 +12,7 @@ ghost use Rattle.rb_layout.specs.inner.Ends.{end_of};
 use crate::layout::{FlatWord, Kind, Leaf, Part, WordRef};
 use rb_core::layout_decl::{Loc, Step};
 
-/// Where a location ends: a word of a leaf, and bits `o` up to `o + l` of it.
+/// Where a location ends: a word of a leaf, and the `l` bits of it from bit `o` on.
 #[derive(Clone, Copy)]
 pub struct End {
     pub at: WordRef,
@@ -18,7 +20,7 @@ pub struct End {
     pub l: u64,
 }
 
-// The words of a block of a leaf, and none where there is no such block.
+// The words of a block of a leaf, by the block's number; none where there is no such block.
 fn words_of(leaf: &Leaf, block: u32) -> &[FlatWord]
     ensures { result.now ≡ words_in leaf.now (Some block) }
 {
@@ -28,7 +30,8 @@ fn words_of(leaf: &Leaf, block: u32) -> &[FlatWord]
     }
 }
 
-/// The word of a leaf that a reference names.
+/// The word of a leaf that a reference names, of its root or of a block; None where it has no such
+/// word.
 pub(crate) fn flat_at(leaf: &Leaf, at: WordRef) -> Option<&FlatWord>
     ensures { option_copied result ≡ flat_at leaf.now at }
 {
@@ -41,7 +44,8 @@ pub(crate) fn flat_at(leaf: &Leaf, at: WordRef) -> Option<&FlatWord>
     }
 }
 
-// The block of a part that is a pointer of just this range and alignment.
+// The block of a part that is a pointer of just the range of `l` bits from bit `o` and this
+// alignment. None for any other part.
 fn pointed_in(part: &Part, o: u64, l: u64, align: u64) -> Option<u32>
     ensures { result ≡ pointed_in part.now o l align }
 {
@@ -59,7 +63,8 @@ fn pointed_in(part: &Part, o: u64, l: u64, align: u64) -> Option<u32>
     }
 }
 
-// The block of the first of the parts that is a pointer of just this range and alignment.
+// The block of the first of the parts that is a pointer of just the range of `l` bits from bit `o`
+// and this alignment. None where none is.
 #[tactic(auto, using(crate::proofs::Locating::locating))]
 fn block_in(parts: &[Part], o: u64, l: u64, align: u64) -> Option<u32>
     ensures { result ≡ block_in parts.now o l align }
@@ -72,7 +77,7 @@ fn block_in(parts: &[Part], o: u64, l: u64, align: u64) -> Option<u32>
     None
 }
 
-// Whether a word that begins at byte `start` begins at this byte and has this width.
+// Whether a word that begins at byte `start` of its block begins at `byte`, and has this width.
 fn begins_here(word: &FlatWord, start: u64, byte: u64, width: u64) -> bool
     ensures { result ≡ ((start == byte) && (word.now.width == width)) }
 {
@@ -82,7 +87,8 @@ fn begins_here(word: &FlatWord, start: u64, byte: u64, width: u64) -> bool
     word.width == width
 }
 
-// The word of this width that begins at a byte.
+// The number of the first of a block's words that begins at this byte and has this width. None
+// where none does.
 #[tactic(auto, using(crate::proofs::Locating::locating))]
 fn word_beginning(words: &[FlatWord], byte: u64, width: u64) -> Option<u32>
     requires { AreShort words.now }
@@ -100,7 +106,8 @@ fn word_beginning(words: &[FlatWord], byte: u64, width: u64) -> Option<u32>
     None
 }
 
-// The block of a pointer of just this range of a word.
+// The block to which the word at `at` points in just the range of `l` bits from bit `o`, with this
+// alignment. None where there is no such word or pointer.
 fn block_at(leaf: &Leaf, at: WordRef, o: u64, l: u64, align: u64) -> Option<u32>
     ensures { result ≡ block_at (flat_at leaf.now at) o l align }
 {
@@ -110,7 +117,8 @@ fn block_at(leaf: &Leaf, at: WordRef, o: u64, l: u64, align: u64) -> Option<u32>
     }
 }
 
-// The word of a block at which a step ends.
+// The word of block `b` at which a step ends: the first that begins at its byte and has its width.
+// None where there is no such block or word.
 fn word_of(leaf: &Leaf, b: u32, step: &Step) -> Option<WordRef>
     requires { IsReadable leaf.now }
     ensures { result ≡ next_ref leaf.now (Some b) step.now }
@@ -124,7 +132,9 @@ fn word_of(leaf: &Leaf, b: u32, step: &Step) -> Option<WordRef>
     }
 }
 
-// The word to which a step leads from a range of a word.
+// The word to which a step leads from the range of `l` bits from bit `o` of the word at `at`. None
+// where there is no pointer in just that range with the step's alignment, or no such word behind
+// it.
 fn next_word(leaf: &Leaf, at: WordRef, o: u64, l: u64, step: &Step) -> Option<WordRef>
     requires { IsReadable leaf.now }
     ensures { result ≡ next_ref leaf.now (block_at (flat_at leaf.now at) o l step.now.align) step.now }
@@ -135,7 +145,8 @@ fn next_word(leaf: &Leaf, at: WordRef, o: u64, l: u64, step: &Step) -> Option<Wo
     }
 }
 
-// The end of a location, where its last range has a bit and lies in its word.
+// The end of a location at `l` bits from bit `o` of the word at `at`. None where there is no such
+// word, or where the range has no bit or goes beyond the word.
 fn last_end(leaf: &Leaf, at: WordRef, o: u64, l: u64) -> Option<End>
     ensures { result ≡ end_of (range_in (flat_at leaf.now at) at o l) }
 {
@@ -155,7 +166,8 @@ fn last_end(leaf: &Leaf, at: WordRef, o: u64, l: u64) -> Option<End>
     Some(End { at, o, l })
 }
 
-/// Where a location ends in a leaf.
+/// Where a location ends in a leaf. None where it does not resolve: a word, a pointer or a block's
+/// word on its way is missing, or its last range has no bit or goes beyond its word.
 #[tactic(auto, using(crate::proofs::Locating::locating))]
 pub(crate) fn end_of(leaf: &Leaf, loc: &Loc) -> Option<End>
     requires { IsReadable leaf.now }
@@ -183,7 +195,7 @@ pub(crate) fn end_of(leaf: &Leaf, loc: &Loc) -> Option<End>
     last_end(leaf, at, o, l)
 }
 
-/// The word to which a location leads, where it resolves.
+/// The word at which a location ends in a leaf. None where it does not resolve.
 #[tactic(auto, using(crate::proofs::Locating::locating))]
 pub fn resolve_loc(leaf: &Leaf, loc: &Loc) -> Option<WordRef>
     requires { IsReadable leaf.now }

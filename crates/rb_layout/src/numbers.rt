@@ -1,10 +1,10 @@
-//! Numbers of items.
+//! Numbers of items of lists, in 32 bits.
 
 ghost use Rattle.std.specs.Prelude.{◌≡◌, IfOk};
 
 use std::alloc::AllocError;
 
-/// The number of an item of a list, in 32 bits; there is no memory for 2^32 of them.
+/// The place of an item in a list as a number of 32 bits. There is no memory for 2^32 items.
 ///
 /// # Errors
 ///

@@ -1,4 +1,5 @@
-//! The open positions of a provenance, one after the other.
+//! The open positions of a provenance, one after the other: its wildcards and variables, from left
+//! to right.
 
 ghost use Rattle.std.specs.Prelude.{◌≡◌, ◌++◌, map, IfOk, OnOk};
 ghost use Rattle.rb_layout.specs.Positions.{open_positions, opens_below, opens_of};
@@ -12,14 +13,15 @@ use rb_core::seq::Seq;
 use rb_core::types::{DataDecl, Ty};
 use std::alloc::{AllocError, Global};
 
-/// An open position: a list of field numbers from the root, and the type there.
+/// An open position: its path, the field numbers from the root, and the type there.
 #[derive(Drop)]
 pub struct OpenPosition {
     pub path: Seq<u32>,
     pub ty: Ty,
 }
 
-// Adds the open positions of a pattern of a type that stands at a path. The call nests as deep as the pattern.
+// Adds the open positions of a pattern of a type that stands at a path. Fails for want of memory.
+// The call nests as deep as the pattern.
 #[cycle(opening)]
 fn add_opens(
     alloc: Global,
@@ -45,7 +47,8 @@ fn add_opens(
     }
 }
 
-// Adds those of subpatterns at the types of their fields.
+// Adds the open positions of subpatterns, which stand below a path, at the types of their fields.
+// Subpatterns beyond the last field add none. Fails for want of memory.
 #[cycle(opening)]
 fn add_below(
     alloc: Global,
@@ -71,7 +74,7 @@ fn add_below(
     Ok(())
 }
 
-/// The open positions of a provenance, from left to right.
+/// The open positions of a provenance, from left to right, each with its path and its type.
 ///
 /// # Errors
 ///

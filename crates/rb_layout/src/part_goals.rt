@@ -11,7 +11,8 @@ use rb_bits::take;
 use rb_core::pattern::Pat;
 use rb_core::types::{DataDecl, Ty};
 
-// Where a part meets the literal's range, the literal's bits there, counted from the part's first.
+// Where a part meets the literal's range, the literal's bits there, in a range that counts from the
+// part's first bit. None where they have no bit in common.
 fn part_literal(part: &Part, literal: Literal) -> Option<Literal>
     requires { IsAsked literal }
     ensures value { result ≡ part_literal literal part.now }
@@ -33,7 +34,9 @@ fn part_literal(part: &Part, literal: Literal) -> Option<Literal>
     })
 }
 
-// The goal that a part with a word of a field gives.
+/// The goal that a part gives for a literal, in a leaf with this provenance: that the word of a
+/// field which it has never has the literal's bits where both meet. None where the part has no word
+/// of a field of a data type, or does not meet the range.
 pub(crate) fn goal_in(types: &[DataDecl], prov: &Pat, part: &Part, literal: Literal) -> Option<Goal>
     requires { IsAsked literal }
     ensures value { result ≡ goal_in (position_type types.now prov.now) literal part.now }

@@ -1,4 +1,5 @@
-//! The type at an open position.
+//! The type at an open position: a wildcard or a variable of a provenance, which is named by its
+//! path, the field numbers from the root.
 
 ghost use Rattle.std.specs.Prelude.{◌≡◌, MatchOption, Some, slice_get};
 ghost use Rattle.rb_core.specs.declared.pattern.Pat.{out-Pat};
@@ -11,7 +12,7 @@ use rb_core::inference::types_of_fields;
 use rb_core::pattern::Pat;
 use rb_core::types::{ConRef, DataDecl, Ty};
 
-/// The type at a path of a provenance, where that is an open position.
+/// The type at a path of a provenance, where that is an open position, and else None.
 #[tactic(auto, using(crate::proofs::Walks::type_at_walked))]
 pub fn type_at(types: &[DataDecl], prov: &Pat, path: &[u32]) -> Option<Ty>
     ensures { result ≡ type_at (open_positions types.now prov.now) path.now }
@@ -19,7 +20,8 @@ pub fn type_at(types: &[DataDecl], prov: &Pat, path: &[u32]) -> Option<Ty>
     walk(types, prov, type_of_root(prov), path)
 }
 
-// The type at which a walk along the path ends.
+// The type at which a walk along the path ends, from the root of a provenance with its type. None
+// where the path leaves the provenance, or ends at a number or a constructor.
 fn walk(types: &[DataDecl], prov: &Pat, root: Ty, path: &[u32]) -> Option<Ty>
     ensures { result ≡ walked types.now (Some (prov.now, root)) path.now }
 {
@@ -38,7 +40,8 @@ fn walk(types: &[DataDecl], prov: &Pat, root: Ty, path: &[u32]) -> Option<Ty>
     }
 }
 
-/// The type that a provenance is of.
+/// The type of a provenance: that of the constructor at its root. For a pattern without one it is
+/// u64.
 pub fn type_of_root(prov: &Pat) -> Ty
     ensures { result ≡ root_type (out-Pat prov.now) }
 {
@@ -48,7 +51,7 @@ pub fn type_of_root(prov: &Pat) -> Ty
     }
 }
 
-// The type of a constructor's field, if it is there.
+// The type of a constructor's field, by its number. None where it has no such field.
 #[tactic(auto, using(crate::proofs::OpenLemmas::fields_same))]
 fn field_type(types: &[DataDecl], con: ConRef, field: u32) -> Option<Ty>
     ensures { result ≡ slice_get (types_or_none (fields_of types.now con)) field }
@@ -56,7 +59,8 @@ fn field_type(types: &[DataDecl], con: ConRef, field: u32) -> Option<Ty>
     types_of_fields(types, con).get(field as usize).copied()
 }
 
-// The subpattern for a field, with its type.
+// The subpattern for a field of a pattern, with the type of the field. None where the pattern is no
+// constructor, or has no such field.
 #[tactic(auto, using(crate::proofs::Walks::sub_found))]
 fn sub_pattern<'a>(types: &[DataDecl], pat: &'a Pat, field: u32) -> Option<(&'a Pat, Ty)>
     ensures { MatchOption result (HasNoSub types.now pat.now field) (λ x. HasSub types.now pat.now field x.0.now x.1) }

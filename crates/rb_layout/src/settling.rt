@@ -10,7 +10,8 @@ use crate::goals::{Entry, Goals};
 use crate::layout::Layout;
 use rb_core::types::DataDecl;
 
-// Whether an entry's goal holds by one step and was not marked.
+// Whether a look marks this entry: it is not marked, and its goal holds by one step from the marked
+// ones.
 fn turns(types: &[DataDecl], layouts: &[Layout], entries: &Goals, entry: Entry) -> bool
     requires { IsAsked entry.goal.literal }
     ensures { result ≡ turns types.now layouts.now entries.now (Some entry) }
@@ -21,7 +22,8 @@ fn turns(types: &[DataDecl], layouts: &[Layout], entries: &Goals, entry: Entry) 
     goal_barred(types, layouts, &entry.goal, entries)
 }
 
-// Marks entry `i` where its goal holds by one step, and tells whether it did.
+// Looks at entry `i`: marks it where it is not marked and its goal holds by one step from the
+// marked ones, and tells whether it did. Where there is no such entry nothing is marked.
 fn look(types: &[DataDecl], layouts: &[Layout], entries: &mut Goals, i: usize) -> bool
     requires { AreAsked entries.old }
     ensures result { result ≡ turns types.now layouts.now entries.old (slice_get entries.old i) }
@@ -38,7 +40,7 @@ fn look(types: &[DataDecl], layouts: &[Layout], entries: &mut Goals, i: usize) -
     true
 }
 
-// One pass, from the last entry to the first. Tells whether it marked one.
+// Looks at each entry, from the last to the first, and tells whether it marked one.
 fn pass(types: &[DataDecl], layouts: &[Layout], entries: &mut Goals) -> bool
     requires { AreAsked entries.old }
     ensures result { result ≡ changes types.now layouts.now (length entries.old) entries.old }
@@ -53,7 +55,8 @@ fn pass(types: &[DataDecl], layouts: &[Layout], entries: &mut Goals) -> bool
     changed
 }
 
-/// Marks the goals that hold.
+/// Marks the goals that hold, by passes until one marks none. A goal that would rest on itself
+/// alone stays unmarked.
 pub(crate) fn settle(types: &[DataDecl], layouts: &[Layout], entries: &mut Goals)
     requires { AreAsked entries.old }
     ensures { AreSettled types.now layouts.now entries.old entries.new }

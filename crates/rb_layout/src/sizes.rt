@@ -1,4 +1,4 @@
-//! Sizes of blocks.
+//! Sizes of blocks, in bytes.
 
 ghost use Rattle.std.specs.Prelude.{◌≡◌};
 ghost use Rattle.rb_layout.specs.Words.{size_of};
@@ -6,7 +6,7 @@ ghost use Rattle.rb_layout.specs.Readable.{AreShort};
 
 use crate::layout::Block;
 
-/// The size of a block in bytes.
+/// The size of a block in bytes, which is that of its words one after the other.
 #[tactic(auto, using(crate::proofs::Locating::locating))]
 pub fn block_size(block: &Block) -> u64
     requires { AreShort block.now.words }
