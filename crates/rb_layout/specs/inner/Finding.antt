@@ -78,8 +78,8 @@ HasBelow types layouts es g =
     → slice_get leaf.root g.word ≡ Some f → (k : ℕ) (p : Part) (h : Goal) → slice_get f.parts k ≡ Some p
     → goal_in (position_type types leaf.prov) g.literal p ≡ Some h → IsIn es h
 
--- The new entries are all goals on which the old ones rest, in any number of steps. They have all of the old, and
--- with each goal those on which it rests; each asks for a range within 64 bits, and none is known to hold.
+-- The new entries have all goals on which the old ones rest, in any number of steps: all of the old, and with each
+-- goal those on which it rests. Each asks for a range within 64 bits, and none is known to hold.
 pub record AreFound (types : List DataDecl) (layouts : List Layout) (old new : List Entry) : Type 0 where
   pub asked : AreAsked new
   pub fresh : AreFresh new
