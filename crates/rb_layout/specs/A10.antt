@@ -1,4 +1,5 @@
--- A10: no cycle of types in which the root words of each hold a field of the next. Types are named by their numbers.
+-- A10: there is no cycle of types in which the root words of each hold a field of the next. Types are named by their
+-- numbers.
 use Rattle.std.specs.Prelude.{◌≡◌, ℕ, List, Some, slice_get}
 use Rattle.rb_core.specs.declared.types.Ty.TheVariants.{Named}
 use Rattle.rb_core.specs.declared.types.DataDecl.{DataDecl}

@@ -49,8 +49,9 @@ FitsWord decls None l j = Unit {0}
 FitsWord decls (Some (Int bits)) l j = ⊥
 FitsWord decls (Some (Named s)) l j = slice_get (shape_of decls s) j ≡ Some l
 
--- A part of l bits fits what it is written to hold: a number is below 2 ^ l, and of a field see the forms above. Of a
--- pointer nothing is demanded here.
+-- A part of l bits fits what it is written to hold: a number is below 2 ^ l; a whole field, a slice or a word of one
+-- fits by the type at its path, as `FitsWhole`, `FitsSlice` and `FitsWord` say. Of a pointer, and of a path that is
+-- not open, nothing is demanded here.
 abbrev pub Fits : List LayoutDecl → List Open → ℕ → Content → Type 0
 Fits decls opens l (Number c) = c < 2 ^ l
 Fits decls opens l (Whole path) = FitsWhole decls (type_at opens path) l
@@ -66,12 +67,12 @@ pub record PartsFit (decls : List LayoutDecl) (opens : List Open) (width : ℕ) 
       → IsPlaced opens p.content → IsPlaced opens q.content → AreDisjoint p.o p.l q.o q.l
   pub fit : (k : ℕ) (p : WrittenPart) → slice_get parts k ≡ Some p → Fits decls opens p.l p.content
 
--- an item passes the rule: a word's own parts do; of an inlined field nothing is demanded
+-- an item passes the rule: where it is a word its own parts do; of an inlined field nothing is demanded
 abbrev pub ItemFits : List LayoutDecl → List Open → Item → Type 0
 ItemFits decls opens (AWord width parts) = PartsFit decls opens width parts
 ItemFits decls opens (AField path) = Unit {0}
 
--- the rule: each item of each leaf passes it, by the open positions of the leaf's provenance
+-- the rule: each item of each leaf fits, by the open positions of the leaf's provenance
 abbrev pub A3 : Program → List Layout → Type 0
 A3 p layouts = EachLeaf layouts (λ t layout n leaf.
     (i : ℕ) (item : Item) → slice_get (items_of p.layouts t n) i ≡ Some item

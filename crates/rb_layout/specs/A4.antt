@@ -24,13 +24,13 @@ IsBlockLength n = (1 ≤ n) × (n ≤ 64)
 abbrev pub IsAlignment : ℕ → Type 0
 IsAlignment align = (k : ℕ) × (k ≤ 6) × (align ≡ 2 ^ k)
 
--- A pointer of l bits that counts in units of `align` bytes is wide enough: l and the k bits that an alignment of 2 ^
--- k saves are at least 24. An alignment that is no power of two demands nothing here.
+-- A pointer of l bits that counts in units of `align` bytes is wide enough: l and the k bits that an alignment of
+-- 2 ^ k saves are at least 24. An alignment that is no power of two demands nothing here.
 abbrev pub IsWide : ℕ → ℕ → Type 0
 IsWide align l = (k : ℕ) → align ≡ 2 ^ k → 24 ≤ l + k
 
--- A leaf passes the rule: by the widths of its blocks' words, the lengths of its blocks, how many blocks there are,
--- and the alignment and width of each pointer, whether it stands in the root or in a block.
+-- A leaf's blocks and pointers are as the rule asks: the widths of its blocks' words, the lengths of its blocks, how
+-- many blocks there are, and the alignment and width of each pointer, whether it stands in the root or in a block.
 pub record HasBlocks (leaf : Leaf) : Type 0 where
   pub widths : (b : ℕ) (block : Block) (j : ℕ) (f : FlatWord) → slice_get leaf.blocks b ≡ Some block
       → slice_get block.words j ≡ Some f
@@ -40,13 +40,13 @@ pub record HasBlocks (leaf : Leaf) : Type 0 where
   pub alignments : (r : WordRef) (l align b : ℕ) → PointsTo leaf r l align b → IsAlignment align
   pub wide : (r : WordRef) (l align b : ℕ) → PointsTo leaf r l align b → IsWide align l
 
--- the rule: each leaf of each layout passes it
+-- the rule: in each leaf of each layout, blocks and pointers have the widths, counts and alignments that it names
 abbrev pub A4 : List Layout → Type 0
 A4 layouts = EachLeaf layouts (λ t layout n leaf. HasBlocks leaf)
 
--- How a leaf fails the rule, by the evidence: a word of a block has w bits, which is no width of these; a block has n
--- words, which are none or over 64; there are n blocks, over 64; a pointer has this alignment, which is none of
--- these; or a pointer has n bits with those that its alignment saves, under 24. No other evidence fails the rule.
+-- How a leaf fails the rule, by the evidence: a word of a block has w bits, other than 8, 16, 32 and 64; a block has
+-- n words, none or over 64; there are n blocks, over 64; a pointer has this alignment, no power of two up to 64; or a
+-- pointer has n bits with those that its alignment saves, under 24. No other evidence fails the rule.
 abbrev pub FailsBlocks : Leaf → Why → Type 0
 FailsBlocks leaf (BlockWord w) =
     (b : ℕ) × (block : Block) × (j : ℕ) × (f : FlatWord) × (slice_get leaf.blocks b ≡ Some block)

@@ -20,9 +20,9 @@ use Rattle.rb_layout.specs.Flattening.{shape_of, same_path, IsOpenIn}
 use Rattle.rb_layout.specs.Items.{Item, items_of, paths_of}
 use Rattle.rb_layout.specs.Each.{EachLeaf}
 
--- A part of l bits and of this kind holds unit i of the position at a path, given the type there: of an integer, bit
--- i, where the part has bits of it from bit a on, l in all; of a data type, word i. Constants and pointers hold no
--- unit.
+-- A part of l bits and of this kind holds unit i of the position at a path, given the type there. Of an integer this
+-- is bit i, and it is among the l bits that the part has from some bit on; of a data type it is word i, and the part
+-- has that word. Constants and pointers hold no unit.
 abbrev pub holds_unit : Ty → List ℕ → ℕ → ℕ → Kind → Bool
 holds_unit (Int bits) path i l (Const c) = false
 holds_unit (Int bits) path i l (Bits p a) = same_path p path && (leb a i && ltb i (a + l))
@@ -76,7 +76,8 @@ pub record HoldsOnce (p : Program) (leaf : Leaf) (items : List Item) : Type 0 wh
   pub each : HoldsEach p leaf
   pub no_other : HoldsNoOther p.types leaf items
 
--- the rule: each leaf of each layout passes it, with the items that are written for it
+-- the rule: each leaf of each layout holds each unit of its open positions exactly once, and the items that are
+-- written for it name no other path
 abbrev pub A6 : Program → List Layout → Type 0
 A6 p layouts = EachLeaf layouts (λ t layout n leaf. HoldsOnce p leaf (items_of p.layouts t n))
 

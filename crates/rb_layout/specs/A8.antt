@@ -33,7 +33,7 @@ pub record SplitsWell (split : SplitAt) : Type 0 where
 abbrev pub AllSplitWell : Layout → Type 0
 AllSplitWell layout = (k : ℕ) (split : SplitAt) → slice_get (splits_of layout.tree) k ≡ Some split → SplitsWell split
 
--- the rule: all splits of each layout pass it
+-- the rule: each split of each layout's tree has distinct literals that fit its range, and an arm or an `else`
 abbrev pub A8 : List Layout → Type 0
 A8 layouts = EachLayout layouts (λ t layout. AllSplitWell layout)
 

@@ -1,5 +1,5 @@
 -- Excluded numbers: those that a range of a word never has, whatever value its leaf holds. The range [o:l] is the l
--- bits from bit o on; a number c is excluded there where the word's bit o + i is never for all i below l bit i of c.
+-- bits from bit o on. A number c stands there where, for each i below l, bit o + i of the word is bit i of c.
 use Rattle.std.specs.Prelude.{◌≡◌, ℕ, ◌+◌, ◌-◌, ◌<◌, ◌≤◌, min, max, length, Some, slice_get, List}
 use Rattle.std.specs.Int.{bit_at}
 use Rattle.rb_core.specs.declared.types.Ty.TheVariants.{Named}
@@ -51,9 +51,9 @@ pub record Meets (types : List DataDecl) (leaf : Leaf) (f : FlatWord) (o l s j p
   pub last : a + b ≡ min (o + l) (p + part.l)
   pub some : 1 ≤ b
 
--- A flat word of a leaf bars c on the range [o:l]: a finite derivation by three rules shows that it never has these
--- bits. `differs`: by a constant bit. `null`: by a pointer, which is never 0. `within`: by a field that the range
--- meets, of a type each of whose leaves bars the bits of c there; a type without a leaf bars nothing.
+-- A flat word of a leaf bars c on the range [o:l]: a finite derivation by three rules shows that it never has c
+-- there. `differs`: by a constant bit. `null`: by a pointer, which is never 0. `within`: by a field that the range
+-- meets, of a type each of whose leaves bars c's bits there; a type without a leaf bars nothing.
 pub data Bars (types : List DataDecl) (layouts : List Layout) : Leaf → FlatWord → ℕ → ℕ → ℕ → Type 0 where
   differs : (leaf : Leaf) (f : FlatWord) (o l c : ℕ) → HasOtherBit f o l c → Bars types layouts leaf f o l c
   null : (leaf : Leaf) (f : FlatWord) (o l c : ℕ) → HasNull f o l c → Bars types layouts leaf f o l c

@@ -27,6 +27,7 @@ pub record IsFlat (leaf : Leaf) : Type 0 where
   pub pointed : (b : ℕ) (block : Block) → slice_get leaf.blocks b ≡ Some block → (r : WordRef) × (l : ℕ)
       × PointsTo leaf r l block.align b × IsAbove r.block b
 
--- the law: each leaf of the flat form of any program's layouts is so, whether or not they obey the rules
+-- the law: in each leaf of the flat forms of any program's layouts each pointer leads to a block of the leaf, and
+-- each block has a pointer to it, whether or not the layouts obey the rules
 abbrev pub LeavesAreFlat : Type 0
 LeavesAreFlat = (p : Program) → EachLeaf (flat_layouts p) (λ t layout n leaf. IsFlat leaf)

@@ -12,8 +12,8 @@ use Rattle.rb_core.specs.Layouts.{WrittenLeaf, leaves}
 use Rattle.rb_layout.specs.Flattening.{decl_of}
 
 -- What a part is written to hold, apart from what stands behind a pointer: a number; the whole field at a path; k
--- bits of the integer at a path from bit a on, as `Slice path a k`; word j of the field at a path, as `WordOf path
--- j`; or a pointer, of which its alignment in bytes is said.
+-- bits of the integer at a path from bit a on, as `Slice path a k`; word j of the field at a path, as
+-- `WordOf path j`; or a pointer, of which its alignment in bytes is said.
 pub data Content : Type 0 where
   Number : ℕ → Content
   Whole : List ℕ → Content

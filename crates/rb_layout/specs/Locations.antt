@@ -43,7 +43,8 @@ abbrev pub block_in : List Part → ℕ → ℕ → ℕ → Option ℕ
 block_in [] o l align = None
 block_in (p ∷ ps) o l align = or_else (pointed_in p o l align) (block_in ps o l align)
 
--- the block to which a flat word that may be missing points in exactly the range [o:l] and with this alignment
+-- the block to which a flat word that may be missing points in exactly the range [o:l] and with this alignment; None
+-- where the word is missing or has no such pointer
 abbrev pub block_at : Option FlatWord → ℕ → ℕ → ℕ → Option ℕ
 block_at None o l align = None
 block_at (Some f) o l align = block_in f.parts o l align
@@ -55,13 +56,13 @@ word_beginning [] start byte width j = None
 word_beginning (f ∷ fs) start byte width j =
     if (start == byte) && (f.width == width) then Some j else word_beginning fs (start + f.width / 8) byte width (j + 1)
 
--- a reference to word j of block b, where a j is given
+-- a reference to word j of block b, and None where no j is given
 abbrev pub ref_in : ℕ → Option ℕ → Option WordRef
 ref_in b None = None
 ref_in b (Some j) = Some (record { block = Some b; word = j })
 
--- the word at which a step ends, where it goes through a pointer to the given block: the first of that block that
--- begins at the step's byte and has its width; None where there is no such block or word
+-- The word at which a step ends, where it goes through a pointer to the given block: the first of that block that
+-- begins at the step's byte and has its width. None where no block is given, or there is no such block or word.
 abbrev pub next_ref : Leaf → Option ℕ → Step → Option WordRef
 next_ref leaf None s = None
 next_ref leaf (Some b) s = ref_in b (word_beginning (words_in leaf (Some b)) 0 s.byte s.width 0)
@@ -86,7 +87,7 @@ resolve_from leaf (Some r) o l (s ∷ steps) =
 abbrev pub reached_at : Leaf → Loc → Option Reached
 reached_at leaf loc = resolve_from leaf (Some (record { block = None; word = loc.word })) loc.o loc.l loc.steps
 
--- the reference to the word at which a location ends, if it resolves
+-- the reference to the word at which a location ends, and None where it does not resolve
 abbrev pub ref_of : Option Reached → Option WordRef
 ref_of None = None
 ref_of (Some x) = Some x.ref
@@ -113,12 +114,14 @@ with_bit None rest = None
 with_bit (Some b) None = None
 with_bit (Some b) (Some r) = Some (b + 2 * r)
 
--- the number of the l bits from bit o on, where each is constant; 0 where l is 0
+-- the number of the l bits of a word from bit o on, where each is constant by one of the word's parts, and else None;
+-- 0 where l is 0
 abbrev pub constant_bits : List Part → ℕ → ℕ → Option ℕ
 constant_bits ps o zero = Some 0
 constant_bits ps o (suc l) = with_bit (constant_bit ps o) (constant_bits ps (o + 1) l)
 
--- the number of the bits at which a location ends, where it resolves and each of them is constant
+-- the number of the bits at which a location ends, where each of them is constant; None elsewhere, and where it does
+-- not resolve
 abbrev pub known_in : Option Reached → Option ℕ
 known_in None = None
 known_in (Some x) = constant_bits x.word.parts x.o x.l

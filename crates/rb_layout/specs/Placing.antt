@@ -86,7 +86,8 @@ placed decls opens (AWord width parts) = flat_map (part_placed opens width) part
 placed decls opens (AField path) = flat_map standing (inlined decls (type_at opens path) path)
 
 -- The law: the parts of a flat leaf are those that are placed for what is written, each as often as it is written, in
--- whatever order. Said without an order: whatever weight each part is given, both weigh the same in all.
+-- whatever order. Said without an order: whatever weight a part is given by how it stands, the parts that stand in
+-- the leaf weigh as much in all as those that are placed for its items.
 abbrev pub EachStandsOnce : Type 0
 EachStandsOnce = (types : List DataDecl) (decls : List LayoutDecl) (w : WrittenLeaf) (weight : Standing → ℕ)
     → sum_by weight (all_standing (flat_leaf types decls w))

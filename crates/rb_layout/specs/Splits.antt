@@ -36,12 +36,13 @@ pub record Under (A : Type 0) : Type 0 where
 abbrev pub literals_of : {A : Type 0} → List (Under A) → List ℕ
 literals_of arms = map (λ arm. arm.literal) arms
 
--- the ways into an arm of a split at this location: those of the tree below it, behind the test for its literal
+-- the ways into an arm of a split at this location: those of the tree below it, each behind the test for the arm's
+-- literal
 abbrev pub arm_routes : Loc → Under (List Route) → List Route
 arm_routes loc arm = map (behind (Is loc arm.literal)) arm.of
 
 -- the ways into the `else` of a split at this location, whose arms have these literals: those of the tree below it,
--- behind the test for none of the literals; no ways where there is no `else`
+-- each behind the test for none of the literals; no ways where there is no `else`
 abbrev pub else_routes : Loc → List ℕ → Option (List Route) → List Route
 else_routes loc literals None = []
 else_routes loc literals (Some routes) = map (behind (IsNone loc literals)) routes

@@ -17,8 +17,8 @@ pub struct Literal {
     pub bits: u64,
 }
 
-/// The question whether root word `word` of type `ty` never has a literal, in none of the type's
-/// leaves.
+/// What is to be decided: whether root word `word` of the type `ty` never has a literal, in any
+/// leaf of the type.
 #[derive(Clone, Copy, PartialEq, Eq, Hash)]
 pub struct Goal {
     pub ty: u32,

@@ -1,6 +1,6 @@
 -- What a program's run answers, and what it asks for first: the blocks of its arguments. A construction is the event
--- that a value of a data type was built; it asks for the blocks of the value's leaf. A making is what a value asks
--- for from nothing: the constructions of all of its parts. Types are named by their numbers.
+-- that a value of a data type was built; it asks for the blocks of the value's leaf. A making gives, for a type, all
+-- constructions that a value takes, those of its subvalues before its own. Types are named by their numbers.
 use Rattle.std.specs.Prelude.{ℕ, nat_le, List, [], ◌∷◌, ◌++◌, map, if◌then◌else◌}
 use Rattle.rb_core.specs.declared.value.Value.{Value}
 use Rattle.rb_core.specs.declared.value.Value.TheOpen as V

@@ -53,7 +53,8 @@ abbrev pub depth_in : Option Layout → ℕ
 depth_in None = 0
 depth_in (Some layout) = nesting layout.tree
 
--- the switches that show which leaf a value of a type has, by its layout's splits, or which number an integer is: one
+-- The switches that show which leaf a value of a data type has: as many as splits stand one below the other in its
+-- layout, and 0 without a layout. For an integer it is one, which shows the number.
 abbrev pub depth_of : List Layout → Ty → ℕ
 depth_of layouts (Int bits) = 1
 depth_of layouts (Named t) = depth_in (layout_of layouts t)
@@ -129,8 +130,8 @@ abbrev pub choose_with : (ℕ → ℕ) → List Layout → ℕ → ℕ → ℕ
 choose_with mend layouts t k =
     sum_by (λ (h : Head). depth_of layouts (Named h.con.ty) + mend h.con.ty) (places_of layouts t k)
 
--- the switches that rebuild what a leaf has taken apart, where the switches of choosing are given for each
--- constructor of a type: the sum over the constructors below the root
+-- the switches that rebuild what a leaf has taken apart, where the switches of choosing are given for the
+-- constructors of each type: their sum over the constructors below the root of its provenance
 abbrev pub mend_leaf : (ℕ → ℕ → ℕ) → Leaf → ℕ
 mend_leaf choose leaf = sum_by (λ (h : Head). choose h.con.ty h.con.con) (inner_heads leaf)
 

@@ -27,8 +27,8 @@ abbrev pub is_other : Option ℕ → ℕ → Bool
 is_other None b = false
 is_other (Some a) b = not (a == b)
 
--- of the l bits of a word from bit o + i on, some is constant and another than that of c, whose bits count from bit i
--- on; none is where l is 0
+-- for one of the l numbers n from i on, bit o + n of a word with these parts is constant and another than bit n of c;
+-- for none where l is 0
 abbrev pub bit_differs : List Part → ℕ → ℕ → ℕ → ℕ → Bool
 bit_differs ps o c i zero = false
 bit_differs ps o c i (suc l) = is_other (constant_bit ps (o + i)) (bit_at c i) || bit_differs ps o c (i + 1) l
@@ -45,7 +45,8 @@ abbrev pub null_at : Literal → Part → Bool
 null_at x p =
     (is_pointer p.kind && (leb x.o p.o && leb (p.o + p.l) (x.o + x.l))) && (take_of x.bits (p.o - x.o) p.l == 0)
 
--- one of the parts is such a pointer
+-- one of the parts is a pointer that lies wholly in the literal's range, and the literal's number has only zeros on
+-- its bits
 abbrev pub null_in : List Part → Literal → Bool
 null_in [] x = false
 null_in (p ∷ ps) x = null_at x p || null_in ps x
@@ -62,7 +63,7 @@ part_literal x p =
     let end : ℕ = min (x.o + x.l) (p.o + p.l) in
     if ltb a end then Some (record { o = a - p.o; l = end - a; bits = take_of x.bits (a - x.o) (end - a) }) else None
 
--- the goal that root word j of data type s never has the literal, where there is one
+-- the goal that root word j of data type s never has the literal; None where there is no literal
 abbrev pub goal_on : ℕ → ℕ → Option Literal → Option Goal
 goal_on s j None = None
 goal_on s j (Some x) = Some (record { ty = s; word = j; literal = x })
@@ -74,7 +75,8 @@ goal_at None j x = None
 goal_at (Some (Int bits)) j x = None
 goal_at (Some (Named s)) j x = goal_on s j x
 
--- the goal that a part of this kind never has the literal; only a part with a word of a field gives one
+-- The goal that a part of this kind gives, with the literal's bits where both meet, if they do. Only a part with a
+-- word of a field of a data type gives one: that this word never has those bits.
 abbrev pub goal_of : (List ℕ → Option Ty) → Option Literal → Kind → Option Goal
 goal_of type_of x (Const c) = None
 goal_of type_of x (Bits path a) = None
@@ -93,21 +95,21 @@ same_goal h g =
     && ((g.word == h.word) && ((g.literal.o == h.literal.o)
     && ((g.literal.l == h.literal.l) && (g.literal.bits == h.literal.bits))))
 
--- the first entry with this goal says that it is known to hold; no entry, no knowledge
+-- the first entry with this goal says that it is known to hold; not so where the goal is not among the entries
 abbrev pub knows : List Entry → Goal → Bool
 knows [] g = false
 knows (e ∷ es) g = if same_goal e.goal g then e.barred else knows es g
 
--- a goal is there, and known to hold
+-- a goal is known to hold; not so where there is none
 abbrev pub is_known : (Goal → Bool) → Option Goal → Bool
 is_known known None = false
 is_known known (Some g) = known g
 
--- a part gives a goal that is known to hold
+-- a part gives a goal for the literal, and it is known to hold
 abbrev pub part_barred : (Goal → Bool) → (List ℕ → Option Ty) → Literal → Part → Bool
 part_barred known type_of x p = is_known known (goal_in type_of x p)
 
--- one of the parts gives a goal that is known to hold
+-- one of the parts gives a goal for the literal that is known to hold
 abbrev pub parts_barred : (Goal → Bool) → (List ℕ → Option Ty) → Literal → List Part → Bool
 parts_barred known type_of x [] = false
 parts_barred known type_of x (p ∷ ps) = part_barred known type_of x p || parts_barred known type_of x ps
@@ -127,18 +129,19 @@ abbrev pub leaf_barred : (Goal → Bool) → List DataDecl → Goal → Leaf →
 leaf_barred known types g leaf =
     root_barred known (position_type types leaf.prov) g.literal (slice_get leaf.root g.word)
 
--- the goal holds in each of these leaves, by one step from the known goals
+-- each of these leaves has the goal's root word, and this never has the goal's literal, by one step from the known
+-- goals
 abbrev pub leaves_barred : (Goal → Bool) → List DataDecl → Goal → List Leaf → Bool
 leaves_barred known types g [] = true
 leaves_barred known types g (x ∷ xs) = leaf_barred known types g x && leaves_barred known types g xs
 
--- there is a leaf
+-- there is a leaf among these
 abbrev pub has_leaf : List Leaf → Bool
 has_leaf [] = false
 has_leaf (x ∷ xs) = true
 
--- the goal holds in a layout that may be missing, by one step from the known goals: it is there, has a leaf, and the
--- goal holds in each
+-- a goal holds by one step from the known goals, given the layout of its type: this is there, has a leaf, and each
+-- leaf has the goal's root word, which never has the literal
 abbrev pub layout_barred : (Goal → Bool) → List DataDecl → Goal → Option Layout → Bool
 layout_barred known types g None = false
 layout_barred known types g (Some layout) = has_leaf layout.leaves && leaves_barred known types g layout.leaves

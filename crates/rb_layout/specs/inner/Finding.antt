@@ -20,7 +20,7 @@ abbrev pub has_goal : List Entry → Goal → Bool
 has_goal [] g = false
 has_goal (e ∷ es) g = same_goal e.goal g || has_goal es g
 
--- the entries with a goal, which comes last and is not known to hold where it is new
+-- the entries with a goal: unchanged where it is among them, and else with it as the last, not known to hold
 abbrev pub with_goal : List Entry → Goal → List Entry
 with_goal es g = if has_goal es g then es else es ++ record { goal = g; barred = false } ∷ []
 
@@ -29,31 +29,36 @@ abbrev pub with_found : List Entry → Option Goal → List Entry
 with_found es None = es
 with_found es (Some g) = with_goal es g
 
--- the entries with the goals that the parts give for the literal x, part by part; a part that gives none adds nothing
+-- the entries with the goals that these parts of a word give for the literal x, part by part; a part that gives none
+-- adds nothing
 abbrev pub with_parts : (List ℕ → Option Ty) → Literal → List Entry → List Part → List Entry
 with_parts type_of x es [] = es
 with_parts type_of x es (p ∷ ps) = with_parts type_of x (with_found es (goal_in type_of x p)) ps
 
--- the entries with the goals that the parts of a root word, which may be missing, give for the literal x
+-- the entries with the goals that the parts of a root word give for the literal x; unchanged where the word is
+-- missing
 abbrev pub with_root : (List ℕ → Option Ty) → Literal → List Entry → Option FlatWord → List Entry
 with_root type_of x es None = es
 with_root type_of x es (Some f) = with_parts type_of x es f.parts
 
--- the entries with those goals on which a goal rests in one leaf: those that the parts of its root word give
+-- the entries with the goals on which goal g rests in one leaf: those that the parts of its root word give, none
+-- where the leaf has no such word
 abbrev pub with_leaf : List DataDecl → Goal → List Entry → Leaf → List Entry
 with_leaf types g es leaf = with_root (position_type types leaf.prov) g.literal es (slice_get leaf.root g.word)
 
--- the entries with those goals on which a goal rests in these leaves, leaf by leaf
+-- the entries with the goals on which goal g rests in these leaves, leaf by leaf
 abbrev pub with_leaves : List DataDecl → Goal → List Entry → List Leaf → List Entry
 with_leaves types g es [] = es
 with_leaves types g es (leaf ∷ leaves) = with_leaves types g (with_leaf types g es leaf) leaves
 
--- the entries with those goals on which a goal rests in a layout that may be missing
+-- the entries with the goals on which goal g rests in all leaves of the layout of its type; unchanged where that is
+-- missing
 abbrev pub with_layout : List DataDecl → Goal → List Entry → Option Layout → List Entry
 with_layout types g es None = es
 with_layout types g es (Some layout) = with_leaves types g es layout.leaves
 
--- the entries with the goals on which a goal rests in one step, in all leaves of its type
+-- the entries with the goals on which goal g rests in one step, in all leaves of its type; unchanged where the type
+-- has no layout
 abbrev pub with_below : List DataDecl → List Layout → List Entry → Goal → List Entry
 with_below types layouts es g = with_layout types g es (layout_of layouts g.ty)
 

@@ -1,5 +1,6 @@
 -- What is laid behind what is there: how code that adds to words, parts and blocks meets the flat forms. A laying
--- says what is placed, given how many blocks stand before.
+-- says what is placed of a leaf, things such as words or parts and the blocks with them, given how many blocks stand
+-- before.
 use Rattle.std.specs.Prelude.{◌≡◌, ℕ, List, ◌++◌, Option, length, map}
 use Rattle.rb_core.specs.declared.pattern.Pat.{Pat}
 use Rattle.rb_core.specs.declared.program.Program.{Program}
@@ -17,17 +18,17 @@ use Rattle.rb_layout.specs.declared.layout.Part.{Part}
 use Rattle.rb_layout.specs.Positions.{open_positions}
 use Rattle.rb_layout.specs.Flattening.{Laid, Laying, arm_numbering, flat_leaf, in_turn, inlined, item_laid, items_laid, kind_laid, part_laid, type_at}
 
--- what is placed, behind these things and these blocks
+-- what is placed, its things behind the things xs and its blocks behind these blocks
 abbrev pub behind : {A : Type 0} → List A → List Block → Laid (List A) → Laid (List A)
 behind xs blocks laid = record { it = xs ++ laid.it; blocks = blocks ++ laid.blocks }
 
--- Code lays something: from the things xs and the blocks `old` it comes to the things ys and the blocks `new`. These
--- are the former with what the laying gives behind them, which counts its blocks from those that are there.
+-- Code that lays something comes from the things xs to the things ys, and from the blocks `old` to the blocks `new`:
+-- the new ones are the old ones, with what the laying gives behind them where the old blocks stand before.
 abbrev pub Lays : {A : Type 0} → List A → List A → List Block → List Block → Laying (List A) → Type 0
 Lays xs ys old new lay = ◌≡◌ {A = Laid (List _)} (record { it = ys; blocks = new }) (behind xs old (lay (length old)))
 
--- code lays what a part holds, if anything: it answers `kind`, and the blocks behind the part come behind the old
--- ones
+-- Code lays what a part holds, if anything: `kind` is what the laying gives, and the blocks `new` are the blocks
+-- `old` with those of the laying behind them.
 abbrev pub LaysKind : Option Kind → List Block → List Block → Laying (Option Kind) → Type 0
 LaysKind kind old new lay = (kind ≡ (lay (length old)).it) × (new ≡ old ++ (lay (length old)).blocks)
 

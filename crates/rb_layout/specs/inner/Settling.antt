@@ -20,12 +20,13 @@ abbrev pub turns : List DataDecl → List Layout → List Entry → Option Entry
 turns types layouts es None = false
 turns types layouts es (Some e) = not e.barred && goal_barred (knows es) types layouts e.goal
 
--- the entries with a mark at entry i, which is given; unchanged where there is no such entry
+-- the entries with entry i marked, where e is that entry; unchanged where there is none
 abbrev pub marked : List Entry → ℕ → Option Entry → List Entry
 marked es i None = es
 marked es i (Some e) = slice_set es i (record { goal = e.goal; barred = true })
 
--- the entries after a look at entry i, which is marked where its goal holds by one step
+-- the entries after a look at entry i, which is marked where its goal holds by one step; unchanged where there is
+-- none
 abbrev pub looked : List DataDecl → List Layout → ℕ → List Entry → List Entry
 looked types layouts i es = if turns types layouts es (slice_get es i) then marked es i (slice_get es i) else es
 
@@ -34,7 +35,7 @@ abbrev pub passed : List DataDecl → List Layout → ℕ → List Entry → Lis
 passed types layouts zero es = es
 passed types layouts (suc n) es = passed types layouts n (looked types layouts n es)
 
--- a pass over the first n entries, from the last of these to the first, marks one
+-- a pass over the first n entries, from the last of these to the first, marks at least one
 abbrev pub changes : List DataDecl → List Layout → ℕ → List Entry → Bool
 changes types layouts zero es = false
 changes types layouts (suc n) es =
