@@ -1,9 +1,9 @@
 -- Which words represent a value, in which memory: the least relation.
 --
--- An integer is one word. A value of a data type has the words of its leaf, the first one whose
--- provenance matches it: in the root words, and in the blocks to which pointers lead, each part holds.
--- To each open position of the leaf belongs one list of words, which represents the subvalue there, and
--- to each block one address.
+-- An integer is one word. A value of a data type has the words of its leaf, the first one whose provenance matches
+-- it: in the root words, and in the blocks to which pointers lead, each part holds. To each open position of the leaf
+-- belongs one list of words, which represents the subvalue there, and to each block one address. Bits of a word in no
+-- part are free; a representation is clean where all free bits are 0.
 use Rattle.std.specs.Prelude.{◌≡◌, ℕ, ◌+◌, ◌*◌, ◌^◌, ◌<◌, ◌≤◌, List, [], ◌∷◌, ◌++◌, length, Bool, true, Option, Some, None, Ok, slice_get, slice_index}
 use Rattle.std.specs.Int.{bit_at}
 use Rattle.rb_core.specs.declared.value.Value.{Value, Num}
@@ -96,8 +96,8 @@ pub record Made (types : List DataDecl) (layouts : List Layout) (m : Memory) (cl
   pub placed : Placed leaf ws m clean subs ats
 
 -- The words represent the value at its type in the memory, cleanly where the flag is up: the least relation.
--- `number`: an integer is one word, with no more bits than its type. `built`: a value of a data type has words that
--- are made so, and at each open position of its leaf the words there represent the subvalue there.
+-- `number`: an integer is one word, with no more bits than its type. `built`: a value of a data type has words of
+-- which `Made` holds, and at each open position of its leaf the words there represent the subvalue there.
 pub data Represents (types : List DataDecl) (layouts : List Layout) (m : Memory) (clean : Bool) : Ty → Value
     → List ℕ → Type 0 where
   number : (bits x : ℕ) → x < 2 ^ bits → Represents types layouts m clean (Int bits) (Num x) (x ∷ [])
@@ -122,8 +122,8 @@ abbrev pub word_count : List Layout → Ty → ℕ
 word_count layouts (Int bits) = 1
 word_count layouts (Named t) = shape_length (layout_of layouts t)
 
--- Words represent values one behind the other, at the types in the same places: the words of the first, and behind
--- them those of the rest. There are as many values as types; none are represented by no words.
+-- The words represent the values one behind the other, each at the type in the same place: the words of the first,
+-- and behind them those of the rest. There are as many values as types; where there are none, there are no words.
 abbrev pub Represent : List DataDecl → List Layout → Memory → Bool → List Ty → List Value → List ℕ → Type 0
 Represent types layouts m clean [] [] ws = ws ≡ []
 Represent types layouts m clean [] (v ∷ vs) ws = ⊥
