@@ -122,8 +122,8 @@ abbrev pub by_types : (ℕ → Layout → List Spot) → ℕ → List Layout →
 by_types spots t [] = []
 by_types spots t (layout ∷ layouts) = spots t layout ++ by_types spots (t + 1) layouts
 
--- the places at which each of these types is asked for its declared layout, or for none where it has none; the first
--- in the list is type t
+-- one place for each of these types, in their order, the first of which is type t: there its declared layout is asked
+-- for its widths, and where none is declared the place fails
 abbrev pub shape_spots : List LayoutDecl → ℕ → List DataDecl → List Spot
 shape_spots decls t [] = []
 shape_spots decls t (d ∷ ds) = Shape t (decl_of decls t) ∷ shape_spots decls (t + 1) ds
@@ -139,7 +139,7 @@ part_spots t n leaf i (item ∷ items) = Parts t n i leaf item ∷ part_spots t 
 abbrev pub leaf_spots : (ℕ → ℕ → Layout → Leaf → Spot) → ℕ → Layout → List Spot
 leaf_spots spot t layout = by_leaves (λ n leaf. spot t n layout leaf ∷ []) 0 layout.leaves
 
--- the places at which the parts of type t's written words are checked, which lie in their word, are disjoint and fit
+-- the places at which it is checked that the parts of type t's written words lie in their word, are disjoint and fit
 -- what they hold: one for each item of each leaf, by the layouts that are declared
 abbrev pub a3_spots : List LayoutDecl → ℕ → Layout → List Spot
 a3_spots decls t layout = by_leaves (λ n leaf. part_spots t n leaf 0 (items_of decls t n)) 0 layout.leaves
