@@ -17,7 +17,7 @@ abbrev pub HasShape : Option LayoutDecl → Type 0
 HasShape None = ⊥
 HasShape (Some d) = (i w : ℕ) → slice_get d.shape i ≡ Some w → IsShapeWidth w
 
--- the rule: each data type of a program has a layout declared for it, with a shape of such widths
+-- the rule: each data type of a program has a layout declared for it, whose shape has only words of 1 to 64 bits
 abbrev pub A1 : Program → Type 0
 A1 p = (t : ℕ) → t < length p.types → HasShape (decl_of p.layouts t)
 

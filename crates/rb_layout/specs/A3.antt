@@ -29,7 +29,8 @@ abbrev pub LiesIn : ℕ → ℕ → ℕ → Type 0
 LiesIn width o l = (1 ≤ l) × (o + l ≤ width)
 
 -- A part of l bits fits the whole field, given the type at its path: an integer has l bits, and a data type has one
--- word, of l bits. Where the path is not open, nothing is demanded.
+-- word, of l bits; one without a layout has no word, and fits no part. Where the path is not open, nothing is
+-- demanded.
 abbrev pub FitsWhole : List LayoutDecl → Option Ty → ℕ → Type 0
 FitsWhole decls None l = Unit {0}
 FitsWhole decls (Some (Int bits)) l = l ≡ bits

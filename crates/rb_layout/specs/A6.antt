@@ -21,8 +21,9 @@ use Rattle.rb_layout.specs.Items.{Item, items_of, paths_of}
 use Rattle.rb_layout.specs.Each.{EachLeaf}
 
 -- A part of l bits and of this kind holds unit i of the position at a path, given the type there. Of an integer this
--- is bit i, and it is among the l bits that the part has from some bit on; of a data type it is word i, and the part
--- has that word. Constants and pointers hold no unit.
+-- is bit i: the part has bits of the integer at just this path, and i is among the l bits from its first bit a on. Of
+-- a data type it is word i: the part has that word of the field at just this path. Constants and pointers hold no
+-- unit, nor does a part with a word hold one of an integer, or a part with bits one of a data type.
 abbrev pub holds_unit : Ty → List ℕ → ℕ → ℕ → Kind → Bool
 holds_unit (Int bits) path i l (Const c) = false
 holds_unit (Int bits) path i l (Bits p a) = same_path p path && (leb a i && ltb i (a + l))

@@ -25,7 +25,7 @@ abbrev pub IsLiteral : List ℕ → ℕ → Type 0
 IsLiteral literals c = (k : ℕ) × (slice_get literals k ≡ Some c)
 
 -- A leaf passes a test: the split's location resolves in it; below a literal, that number is known there; below
--- `else`, each literal is excluded there.
+-- `else`, each literal is excluded there, and without literals nothing but the resolving is asked.
 abbrev pub Meets : List DataDecl → List Layout → Leaf → Test → Type 0
 Meets types layouts leaf (Is loc c) = Resolves leaf loc × (known leaf loc ≡ Some c)
 Meets types layouts leaf (IsNone loc literals) =

@@ -29,7 +29,7 @@ pub record SplitsWell (split : SplitAt) : Type 0 where
   pub fit : (k c : ℕ) → slice_get split.literals k ≡ Some c → c < 2 ^ length_of split.loc
   pub arm : HasArm split
 
--- each split of a layout's tree passes the rule; a layout of one leaf has none
+-- each split of a layout's tree passes the rule; a tree that is a leaf has none
 abbrev pub AllSplitWell : Layout → Type 0
 AllSplitWell layout = (k : ℕ) (split : SplitAt) → slice_get (splits_of layout.tree) k ≡ Some split → SplitsWell split
 

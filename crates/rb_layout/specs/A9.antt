@@ -30,14 +30,16 @@ cons_step (P.Con at c css) = c ∷ flat_map (λ cs. cs) css
 abbrev pub cons_of : Pat → List ConRef
 cons_of = fold-Pat (List ConRef) cons_step
 
--- the constructors in the subpatterns of a pattern's outermost layer
+-- the constructors in the subpatterns of a pattern's outermost layer, from left to right; a wildcard, a variable and
+-- a number have no subpatterns, and so none
 abbrev pub cons_below_root : Pat-F Pat → List ConRef
 cons_below_root (P.Wild at) = []
 cons_below_root (P.Var at x) = []
 cons_below_root (P.Num at n) = []
 cons_below_root (P.Con at c ps) = flat_map cons_of ps
 
--- the constructors of a pattern that stand below its root
+-- the constructors of a pattern that stand below its root, each as often as it stands there; none where the root is
+-- no constructor
 abbrev pub cons_below : Pat → List ConRef
 cons_below p = cons_below_root (out-Pat p)
 

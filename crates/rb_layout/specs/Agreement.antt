@@ -1,4 +1,6 @@
--- Agreement: all ten rules, over the flat forms of a program's layouts.
+-- Agreement: all ten rules, A1 to A10, over the flat forms of a program's layouts. They ask that the words of each
+-- leaf hold just what its provenance leaves open, and that each value has one leaf, which splits can find in its
+-- words; the file named after a rule says what it asks.
 use Rattle.std.specs.Prelude.{◌≡◌, List}
 use Rattle.rb_core.specs.declared.program.Program.{Program}
 use Rattle.rb_layout.specs.declared.layout.Layout.{Layout}

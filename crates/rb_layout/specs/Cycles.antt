@@ -18,11 +18,12 @@ IsCycle R (t ∷ ts) = IsChain R t ts t
 abbrev pub HasNoCycle : (ℕ → ℕ → Type 0) → ℕ → Type 0
 HasNoCycle R t = (ts : List ℕ) → IsCycle R (t ∷ ts) → ⊥
 
--- a cycle whose first type is t, with each of its types once
+-- the list is a cycle whose first type is t, with each of its types once; the empty list is none
 abbrev pub IsCycleFrom : (ℕ → ℕ → Type 0) → ℕ → List ℕ → Type 0
 IsCycleFrom R t [] = ⊥
 IsCycleFrom R t (s ∷ ts) = (s ≡ t) × IsCycle R (s ∷ ts) × (is_distinct nat_eq (s ∷ ts) ≡ true)
 
--- where any cycle goes through a type, there is one from that type on with each of its types once
+-- where a cycle goes through a type, even one that meets types twice, one can be listed from that type on with each
+-- of its types once
 abbrev pub HasListed : (ℕ → ℕ → Type 0) → Type 0
 HasListed R = (t : ℕ) (ts : List ℕ) → IsCycle R (t ∷ ts) → (us : List ℕ) × IsCycleFrom R t us

@@ -23,7 +23,7 @@ pub record HasOtherBit (f : FlatWord) (o l c : ℕ) : Type 0 where
   pub other : bit ≡ bit_at c i → ⊥
 
 -- A pointer part of a flat word lies wholly in the range [o:l], and c has only zeros on its bits. No block begins at
--- address 0, so no pointer is 0.
+-- address 0, so no pointer is 0. A pointer part without bits counts as well.
 pub record HasNull (f : FlatWord) (o l c : ℕ) : Type 0 where
   pub number : ℕ
   pub part : Part
@@ -53,7 +53,8 @@ pub record Meets (types : List DataDecl) (leaf : Leaf) (f : FlatWord) (o l s j p
 
 -- A flat word of a leaf bars c on the range [o:l]: a finite derivation by three rules shows that it never has c
 -- there. `differs`: by a constant bit. `null`: by a pointer, which is never 0. `within`: by a field that the range
--- meets, of a type each of whose leaves bars c's bits there; a type without a leaf bars nothing.
+-- meets, of a type each of whose leaves has the root word that the part holds and bars c's bits there; a type without
+-- a layout or without a leaf bars nothing.
 pub data Bars (types : List DataDecl) (layouts : List Layout) : Leaf → FlatWord → ℕ → ℕ → ℕ → Type 0 where
   differs : (leaf : Leaf) (f : FlatWord) (o l c : ℕ) → HasOtherBit f o l c → Bars types layouts leaf f o l c
   null : (leaf : Leaf) (f : FlatWord) (o l c : ℕ) → HasNull f o l c → Bars types layouts leaf f o l c

@@ -107,8 +107,9 @@ pointed align n laid = record {
   blocks = laid.blocks ++ record { align = align; words = laid.it } ∷ [];
 }
 
--- what one layer of a part holds, with its blocks: a number; a field, a slice or a word of it, where its path is
--- open; or a pointer to the words behind it, which are placed first
+-- What one layer of a part holds, with its blocks: a number; a field, a slice or a word of it, where its path is
+-- open; or a pointer to the words behind it, which are placed first. Of a slice it is kept at which bit it begins:
+-- it is as long as its part, whatever length k is written.
 abbrev pub kind_step : List Open → PartKind-F (Laying (List FlatWord)) (Laying (Option Kind)) (Laying (List Part))
     → Laying (Option Kind)
 kind_step opens (I.Const c) n = without_blocks (Some (Const c))
@@ -139,7 +140,7 @@ words_of path j [] = []
 words_of path j (width ∷ widths) = word_of width (Word path j) ∷ words_of path (j + 1) widths
 
 -- the words of the field at a path, given the type there: an integer has one, of its width, a data type those of its
--- shape; none where the path is not open
+-- shape; none where the path is not open, or the data type has no layout
 abbrev pub inlined : List LayoutDecl → Option Ty → List ℕ → List FlatWord
 inlined decls None path = []
 inlined decls (Some (Int bits)) path = word_of bits (Bits path 0) ∷ []
@@ -223,11 +224,12 @@ tree_step (T.Leaf at prov items) = record { count = 1; from = λ n. Flat.Leaf n 
 abbrev pub arm_step : Arm-F Numbering (Under Numbering) → Under Numbering
 arm_step arm = record { literal = arm.literal; of = arm.under }
 
--- a written tree of splits before its leaves have numbers
+-- how many leaves a written tree of splits has, and its flat form once its first leaf has a number
 abbrev pub numbering : LayTree → Numbering
 numbering = fold-LayTree Numbering (Under Numbering) tree_step arm_step
 
--- a written arm, with its tree before its leaves have numbers
+-- a written arm: its literal, how many leaves the tree below it has, and the flat form of that tree once its first
+-- leaf has a number
 abbrev pub arm_numbering : Arm → Under Numbering
 arm_numbering = fold-Arm Numbering (Under Numbering) tree_step arm_step
 

@@ -1,5 +1,5 @@
--- Graphs of numbers: row t lists the numbers to which t leads, its edges. A list of marks says of each number whether
--- it is marked.
+-- Graphs of numbers, such as those in which cycles of types are looked for: row t lists the numbers to which t leads,
+-- its edges. A list of marks says of each number, by its place, whether it is marked.
 use Rattle.std.specs.Prelude.{◌≡◌, ℕ, List, [], length, Bool, false, Option, Some, None, slice_get}
 
 -- a row that may be missing, and the empty row where it is

@@ -50,7 +50,8 @@ block_at None o l align = None
 block_at (Some f) o l align = block_in f.parts o l align
 
 -- The number of the first word that has this width and begins at this byte, where the first in the list is word j and
--- begins at byte `start`. None where no word begins there with this width.
+-- begins at byte `start`. Words follow one another without padding; of a width that is no multiple of 8 the whole
+-- bytes count. None where no word begins there with this width.
 abbrev pub word_beginning : List FlatWord → ℕ → ℕ → ℕ → ℕ → Option ℕ
 word_beginning [] start byte width j = None
 word_beginning (f ∷ fs) start byte width j =
@@ -75,8 +76,9 @@ range_in (Some f) r o l =
     if leb 1 l && leb (o + l) f.width then Some (record { ref = r; word = f; o = o; l = l }) else None
 
 -- Where steps lead from the range [o:l] of the word at a reference. Each step goes from a pointer part of exactly the
--- range and the alignment to a word of its block; without a step left, the range ends the location. None where a step
--- finds no such pointer or word, or the last range does not lie in its word.
+-- range and the alignment to a word of its block; without a step left, the range ends the location. None where no
+-- reference is given or the leaf has no word there, where a step finds no such pointer or word, and where the last
+-- range has no bit or goes beyond its word.
 abbrev pub resolve_from : Leaf → Option WordRef → ℕ → ℕ → List Step → Option Reached
 resolve_from leaf None o l steps = None
 resolve_from leaf (Some r) o l [] = range_in (flat_at leaf r) r o l

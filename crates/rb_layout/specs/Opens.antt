@@ -8,7 +8,7 @@ use Rattle.rb_layout.specs.declared.opens.OpenPosition.{OpenPosition}
 abbrev pub open_at : OpenPosition → Open
 open_at o = record { path = o.path; ty = o.ty }
 
--- a list of these, in the same order
+-- a list of open positions that code lists, as specifications speak of them, in the same order
 abbrev pub opens_at : List OpenPosition → List Open
 opens_at os = map open_at os
 

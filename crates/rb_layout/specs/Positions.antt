@@ -49,7 +49,8 @@ opens_step types (P.Var at x) ty = record { path = []; ty = ty } ∷ []
 opens_step types (P.Num at n) ty = []
 opens_step types (P.Con at c ps) ty = opens_below ps (types_or_none (fields_of types c)) 0
 
--- the open positions of a pattern at a type: its wildcards and variables, from left to right
+-- the open positions of a pattern at a type: its wildcards and variables, from left to right, but for those below a
+-- constructor that is not declared and those in subpatterns beyond a constructor's last field
 abbrev pub opens_of : List DataDecl → Pat → Ty → List Open
 opens_of types = fold-Pat (Ty → List Open) (opens_step types)
 

@@ -53,7 +53,7 @@ abbrev pub routes_step : FlatTree-F (List Route) (Under (List Route)) → List R
 routes_step (T.Split loc arms other) = flat_map (arm_routes loc) arms ++ else_routes loc (literals_of arms) other
 routes_step (T.Leaf n) = record { leaf = n; tests = [] } ∷ []
 
--- an arm with the ways of the tree below it
+-- one layer of an arm: its literal, with the ways of the tree below it, which are given
 abbrev pub routes_arm : FlatArm-F (List Route) (Under (List Route)) → Under (List Route)
 routes_arm arm = record { literal = arm.literal; of = arm.under }
 
@@ -84,7 +84,7 @@ splits_step (T.Split loc arms other) =
     ∷ (flat_map (λ arm. arm.of) arms ++ splits_or_none other)
 splits_step (T.Leaf n) = []
 
--- an arm with the splits of the tree below it
+-- one layer of an arm: its literal, with the splits of the tree below it, which are given
 abbrev pub splits_arm : FlatArm-F (List SplitAt) (Under (List SplitAt)) → Under (List SplitAt)
 splits_arm arm = record { literal = arm.literal; of = arm.under }
 
@@ -92,6 +92,6 @@ splits_arm arm = record { literal = arm.literal; of = arm.under }
 abbrev pub splits_of : FlatTree → List SplitAt
 splits_of = fold-FlatTree (List SplitAt) (Under (List SplitAt)) splits_step splits_arm
 
--- an arm with the splits of the tree below it
+-- an arm's literal, with the splits of the tree below it, outer ones before inner ones; none where that is a leaf
 abbrev pub splits_under : FlatArm → Under (List SplitAt)
 splits_under = fold-FlatArm (List SplitAt) (Under (List SplitAt)) splits_step splits_arm

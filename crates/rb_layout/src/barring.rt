@@ -1,5 +1,7 @@
-//! One step of what bars bits: that a word never has a literal, by a constant bit, by a pointer, or
-//! by a goal about a field's type that is known to hold.
+//! One step of what bars bits: that a word never has a literal, by a constant bit, by a pointer,
+//! which is never 0, or by a goal about a field's type that is known to hold. A literal is a number
+//! in a range of bits; a goal asks whether a root word of a data type never has one, in any leaf of
+//! the type.
 
 ghost use Rattle.std.specs.Prelude.{◌≡◌};
 ghost use Rattle.rb_bits.specs.Words.{IsRange};
@@ -24,8 +26,8 @@ fn is_other(bit: Option<u64>, wanted: u64) -> bool
     }
 }
 
-// Whether one of the parts makes a bit of the literal's range constant, and another than the
-// literal's.
+// Whether a bit of the literal's range is constant, by the first of the parts that is a constant
+// and has it, and another than the literal's.
 #[tactic(auto, using(crate::proofs::BarLemmas::barring))]
 fn bit_differs(parts: &[Part], literal: Literal) -> bool
     requires { IsAsked literal }
@@ -171,7 +173,7 @@ fn leaf_barred(types: &[DataDecl], leaf: &Leaf, goal: &Goal, entries: &Goals) ->
 }
 
 // Whether each of the leaves has a goal's root word, and this never has its literal, by one step
-// from the known goals.
+// from the known goals. So it is where there are no leaves.
 #[tactic(auto, using(crate::proofs::BarLemmas::barring))]
 fn leaves_barred(types: &[DataDecl], leaves: &[Leaf], goal: &Goal, entries: &Goals) -> bool
     requires { IsAsked goal.now.literal }

@@ -38,7 +38,7 @@ pub enum Why {
     Align(u64),
     /// A4: a pointer has so many bits, those that its alignment saves included, fewer than 24.
     ShortPointer(u64),
-    /// A5: the later leaf with this number has a value in common with this one.
+    /// A5: the leaf with this number, a later one, has a value in common with the refused leaf.
     Common(u32),
     /// A5: the pattern has a value, and none of its values has a leaf.
     NoLeaf(Pat),
@@ -64,12 +64,15 @@ pub enum Why {
     LiteralTwice(Loc, u64),
     /// A8: the split at this location has neither an arm nor an `else`.
     NoArm(Loc),
-    /// A9: the leaf flattens the type with this number, whose layout has a pointer.
+    /// A9: the leaf flattens the type with this number, as its provenance has a constructor of it
+    /// below the root, and the layout of that type has a pointer.
     HasPointer(u32),
-    /// A9: the types with these numbers, of which each flattens the next and the last the first.
+    /// A9: the types with these numbers, from the refused one on, of which each flattens the next
+    /// and the last the first. No type stands twice; one alone leads to itself.
     FlatCycle(Seq<u32>),
-    /// A10: the types with these numbers, of which each holds the next in root words and the last
-    /// the first.
+    /// A10: the types with these numbers, from the refused one on, of which each holds a field of
+    /// the next in its root words and the last one of the first. No type stands twice; one alone
+    /// leads to itself.
     HoldCycle(Seq<u32>),
 }
 

@@ -1,9 +1,9 @@
 //! Numbers that the bits at a location never are.
 //!
-//! A word never has a number in a range where a constant bit of the range differs from the number's,
-//! or where a pointer lies in the range and the number has only zeros there, since no pointer is 0.
-//! Besides, a field tells: a part with a word of a field never has the number's bits where no leaf of
-//! the field's type ever has them. Take
+//! A word never has a number in a range where a constant bit of the range differs from the
+//! number's, or where a pointer lies in the range and the number has only zeros there, since no
+//! pointer is 0. Besides, a field tells: a part with a word of a field never has the number's bits
+//! where no leaf of the field's type ever has them. Take
 //!
 //! ```text
 //! layout Tree <32> = split 0[0:32] {
@@ -12,10 +12,11 @@
 //! };
 //! ```
 //!
-//! and a leaf `Yes(_)` of another type, whose word is all of its field, a `Tree`. Whether that word is
-//! never 1 is a *goal*: that `Tree`'s root word 0 never has the number 1 in its 32 bits. It holds, as
-//! `Empty` and `Node(_)` both have a constant 0 at bit 0. That it is never 64 is another goal, which
-//! `Empty` bars but not `Node(_)`, whose pointer may be the first block's: so 64 is not excluded.
+//! and a leaf `Yes(_)` of another type, whose word is all of its field, a `Tree`. Whether that word
+//! is never 1 is a *goal*: that `Tree`'s root word 0 never has the number 1 in its 32 bits. It
+//! holds, as `Empty` and `Node(_)` both have a constant 0 at bit 0. That it is never 64 is another
+//! goal, which `Empty` bars but not `Node(_)`, whose pointer may be the first block's: so 64 is not
+//! excluded.
 //!
 //! Types may hold each other, also in a circle, and a type may be met on many ways. So each goal is
 //! decided once: first all goals on which the question rests are found, one after the other, each

@@ -1,5 +1,8 @@
-//! All goals on which a literal's exclusion rests, each once. A goal rests on those that the parts
-//! of its root word give, in each leaf of its type. What fails, fails for want of memory.
+//! The goals on which it rests whether a word never has a literal: all of them, each once. A
+//! literal is a number in a range of bits, and a goal asks whether a root word of a data type never
+//! has one. A goal rests on those that the parts of its root word give, in each leaf of its type: a
+//! part with a word of a field asks the same of that word, for the bits where it meets the range.
+//! What fails, fails for want of memory.
 
 ghost use Rattle.std.specs.Prelude.{◌≡◌, IfOk, OnOk};
 ghost use Rattle.rb_bits.specs.Words.{IsRange};
@@ -108,7 +111,7 @@ fn add_below(
 }
 
 /// Adds all goals on which the entries rest, in any number of steps. It looks at each entry once,
-/// at those that it adds after the others.
+/// at those that it adds after the others. There is no memory for as many goals as `usize` counts.
 pub(crate) fn find_all(
     types: &[DataDecl],
     layouts: &[Layout],

@@ -1,4 +1,5 @@
-//! The flat forms of a program's layouts.
+//! The flat forms of a program's layouts. Each has a tree of splits that names the leaves by their
+//! numbers, and apart from it the leaves, with words, parts and numbered blocks.
 
 ghost use Rattle.std.specs.Prelude.{◌≡◌, ◌++◌, IfOk, OnOk};
 ghost use Rattle.rb_layout.specs.Flattening.{AreInOrder, HaveLayouts, decl_of, flat_layout, flat_layouts, flat_or_none};
@@ -31,6 +32,7 @@ pub fn flatten(alloc: Global, covered: &Covered) -> Result<Seq<Layout>, AllocErr
 }
 
 // Adds the flat form of the layout that is declared for a type. Adds nothing where there is none.
+// Fails for want of memory.
 fn push_layout(
     alloc: Global,
     program: &Program,

@@ -122,8 +122,8 @@ fn push_part(
     }
 }
 
-// What a part holds, and None where its path is not open. The blocks behind a pointer are added,
-// its own last.
+// What a part holds, and None where its path is not open. Of a slice it is kept at which bit it
+// begins: it is as long as the part. The blocks behind a pointer are added, its own last.
 #[cycle(laying)]
 fn flat_kind(
     alloc: Global,

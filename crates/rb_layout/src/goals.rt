@@ -1,4 +1,6 @@
-//! Goals: what has to be decided about the types of fields, each once.
+//! Goals: questions about the types of fields, whether a root word never has a number in a range of
+//! its bits. Whether a number never stands at a location rests on them, as a part of the word there
+//! may hold a word of a field. Each is kept once, with whether it is known to hold.
 
 ghost use Rattle.std.specs.Prelude.{◌≡◌, ◌<◌, [], length, slice_get, OnOk};
 ghost use Rattle.rb_layout.specs.inner.Barring.{knows};

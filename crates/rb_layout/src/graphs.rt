@@ -1,4 +1,6 @@
-//! Graphs of numbers: row t lists the numbers to which t leads.
+//! Graphs of numbers, such as those in which cycles of types are looked for: row t lists the
+//! numbers to which t leads. A list of marks says of each number, by its place, whether it is
+//! marked, as a walk over the graph marks those that it has met.
 
 ghost use Rattle.std.specs.Prelude.{◌≡◌, IfOk};
 ghost use Rattle.rb_layout.specs.Graphs.{AreUnmarked, edges_of};

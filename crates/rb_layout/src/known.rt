@@ -1,4 +1,5 @@
-//! Bits that are constant in a leaf.
+//! Bits that are constant in a leaf. A number is known at a location where the location resolves in
+//! the leaf and each bit of its last range stands in a part that is a constant.
 
 ghost use Rattle.std.specs.Prelude.{◌≡◌, ◌+◌, ◌<◌, ◌≤◌};
 ghost use Rattle.rb_bits.specs.Words.{IsRange};

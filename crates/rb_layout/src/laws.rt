@@ -5,8 +5,9 @@ ghost use Rattle.rb_layout.specs.Placing.{EachStandsOnce};
 ghost use Rattle.rb_layout.specs.Positions.{OpensAreFromLeft};
 ghost use Rattle.rb_layout.specs.Spots.{CyclesAreListed, NeverBeside, PlacesAreAll};
 
-/// In each leaf of a flat form each pointer leads to a block that is numbered below whatever points
-/// to it, and each block has a pointer to it.
+/// In each leaf of a flat form each pointer leads to a block of its alignment, which is numbered
+/// below the block in which the pointer stands, if it stands in one, and each block has a pointer
+/// to it. The layouts need not obey any rule.
 pub fn leaves_are_flat()
     ensures { LeavesAreFlat }
 {}

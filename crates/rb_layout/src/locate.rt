@@ -87,8 +87,9 @@ fn begins_here(word: &FlatWord, start: u64, byte: u64, width: u64) -> bool
     word.width == width
 }
 
-// The number of the first of a block's words that begins at this byte and has this width. None
-// where none does.
+// The number of the first of a block's words that begins at this byte and has this width. Words
+// follow one another; of a width that is no multiple of 8 the whole bytes count. None where none
+// does.
 #[tactic(auto, using(crate::proofs::Locating::locating))]
 fn word_beginning(words: &[FlatWord], byte: u64, width: u64) -> Option<u32>
     requires { AreShort words.now }

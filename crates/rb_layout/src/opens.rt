@@ -20,8 +20,8 @@ pub struct OpenPosition {
     pub ty: Ty,
 }
 
-// Adds the open positions of a pattern of a type that stands at a path. Fails for want of memory.
-// The call nests as deep as the pattern.
+// Adds the open positions of a pattern, of this type, that stands at a path. A number adds none.
+// Fails for want of memory. The call nests as deep as the pattern.
 #[cycle(opening)]
 fn add_opens(
     alloc: Global,

@@ -1,4 +1,6 @@
-//! The goal of a part: that the type of its field never has the literal's bits there.
+//! The goal that a part gives for a literal, which is a number in a range of bits. A part with a
+//! word of a data field asks whether that root word, in any leaf of the field's type, never has the
+//! literal's bits where the part meets the range. Any other part gives no goal.
 
 ghost use Rattle.std.specs.Prelude.{◌≡◌, IfSome};
 ghost use Rattle.rb_bits.specs.Words.{IsRange};

@@ -20,8 +20,9 @@ pub fn type_at(types: &[DataDecl], prov: &Pat, path: &[u32]) -> Option<Ty>
     walk(types, prov, type_of_root(prov), path)
 }
 
-// The type at which a walk along the path ends, from the root of a provenance with its type. None
-// where the path leaves the provenance, or ends at a number or a constructor.
+// The type at which a walk along the path ends, from the root of a provenance with its type. The
+// empty path ends at the root. None where the path leaves the provenance or meets a field that is
+// not declared, and where it ends at a number or a constructor.
 fn walk(types: &[DataDecl], prov: &Pat, root: Ty, path: &[u32]) -> Option<Ty>
     ensures { result ≡ walked types.now (Some (prov.now, root)) path.now }
 {
@@ -51,7 +52,8 @@ pub fn type_of_root(prov: &Pat) -> Ty
     }
 }
 
-// The type of a constructor's field, by its number. None where it has no such field.
+// The type of a constructor's field, by its number. None where it has no such field, or no such
+// constructor is declared.
 #[tactic(auto, using(crate::proofs::OpenLemmas::fields_same))]
 fn field_type(types: &[DataDecl], con: ConRef, field: u32) -> Option<Ty>
     ensures { result ≡ slice_get (types_or_none (fields_of types.now con)) field }
@@ -60,7 +62,7 @@ fn field_type(types: &[DataDecl], con: ConRef, field: u32) -> Option<Ty>
 }
 
 // The subpattern for a field of a pattern, with the type of the field. None where the pattern is no
-// constructor, or has no such field.
+// constructor, has no such subpattern, or is of no declared constructor with such a field.
 #[tactic(auto, using(crate::proofs::Walks::sub_found))]
 fn sub_pattern<'a>(types: &[DataDecl], pat: &'a Pat, field: u32) -> Option<(&'a Pat, Ty)>
     ensures { MatchOption result (HasNoSub types.now pat.now field) (λ x. HasSub types.now pat.now field x.0.now x.1) }

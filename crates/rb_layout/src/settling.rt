@@ -1,5 +1,9 @@
-//! Which goals hold: passes over the entries mark those that hold by one step from the marked ones,
-//! until a pass changes nothing. A goal that would rest on itself alone is never marked.
+//! Which goals hold. A goal asks whether a root word of a data type never has a number in a range
+//! of its bits, and an entry is a goal with a mark, that it is known to hold. A goal holds by one
+//! step from the marked ones where its type has a leaf, and each leaf has the root word and bars
+//! the number there by a constant bit, by a pointer, or by a marked goal. Passes over the entries
+//! mark those whose goals hold so, until a pass marks none. A goal that would rest on itself alone
+//! is never marked.
 
 ghost use Rattle.std.specs.Prelude.{◌≡◌, length, slice_get, Some};
 ghost use Rattle.rb_layout.specs.inner.Barring.{IsAsked, AreAsked};

@@ -6,7 +6,8 @@ ghost use Rattle.rb_layout.specs.Readable.{AreShort};
 
 use crate::layout::Block;
 
-/// The size of a block in bytes, which is that of its words one after the other.
+/// The size of a block in bytes, which is that of its words one after the other. Of a width that is
+/// no multiple of 8, the whole bytes count.
 #[tactic(auto, using(crate::proofs::Locating::locating))]
 pub fn block_size(block: &Block) -> u64
     requires { AreShort block.now.words }

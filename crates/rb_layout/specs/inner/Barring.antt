@@ -40,7 +40,8 @@ is_pointer (Bits path a) = false
 is_pointer (Word path j) = false
 is_pointer (Pointer align b) = true
 
--- a part is a pointer that lies wholly in the literal's range, and the literal's number has only zeros on its bits
+-- a part is a pointer that lies wholly in the literal's range, and the literal's number has only zeros on its bits; a
+-- pointer without bits counts as well
 abbrev pub null_at : Literal → Part → Bool
 null_at x p =
     (is_pointer p.kind && (leb x.o p.o && leb (p.o + p.l) (x.o + x.l))) && (take_of x.bits (p.o - x.o) p.l == 0)
@@ -100,7 +101,7 @@ abbrev pub knows : List Entry → Goal → Bool
 knows [] g = false
 knows (e ∷ es) g = if same_goal e.goal g then e.barred else knows es g
 
--- a goal is known to hold; not so where there is none
+-- a goal that may be missing is there, and is known to hold
 abbrev pub is_known : (Goal → Bool) → Option Goal → Bool
 is_known known None = false
 is_known known (Some g) = known g
@@ -130,7 +131,7 @@ leaf_barred known types g leaf =
     root_barred known (position_type types leaf.prov) g.literal (slice_get leaf.root g.word)
 
 -- each of these leaves has the goal's root word, and this never has the goal's literal, by one step from the known
--- goals
+-- goals; so it is where there are no leaves
 abbrev pub leaves_barred : (Goal → Bool) → List DataDecl → Goal → List Leaf → Bool
 leaves_barred known types g [] = true
 leaves_barred known types g (x ∷ xs) = leaf_barred known types g x && leaves_barred known types g xs

@@ -84,7 +84,8 @@ HasBelow types layouts es g =
     → goal_in (position_type types leaf.prov) g.literal p ≡ Some h → IsIn es h
 
 -- The new entries have all goals on which the old ones rest, in any number of steps: all of the old, and with each
--- goal those on which it rests. Each asks for a range within 64 bits, and none is known to hold.
+-- goal those on which it rests in one step. Each asks for a range with a bit that ends within 64 bits, and none is
+-- known to hold.
 pub record AreFound (types : List DataDecl) (layouts : List Layout) (old new : List Entry) : Type 0 where
   pub asked : AreAsked new
   pub fresh : AreFresh new

@@ -22,8 +22,9 @@ use Rattle.rb_layout.specs.Flattening.{Laid, Laying, arm_numbering, flat_leaf, i
 abbrev pub behind : {A : Type 0} → List A → List Block → Laid (List A) → Laid (List A)
 behind xs blocks laid = record { it = xs ++ laid.it; blocks = blocks ++ laid.blocks }
 
--- Code that lays something comes from the things xs to the things ys, and from the blocks `old` to the blocks `new`:
--- the new ones are the old ones, with what the laying gives behind them where the old blocks stand before.
+-- Code that lays something has the things xs and the blocks `old` before, and the things ys and the blocks `new`
+-- after: ys are xs with the laid things behind them, and `new` are `old` with the laid blocks behind them. The laying
+-- is told how many blocks stand before, which is the length of `old`.
 abbrev pub Lays : {A : Type 0} → List A → List A → List Block → List Block → Laying (List A) → Type 0
 Lays xs ys old new lay = ◌≡◌ {A = Laid (List _)} (record { it = ys; blocks = new }) (behind xs old (lay (length old)))
 

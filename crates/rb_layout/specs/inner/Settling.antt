@@ -25,8 +25,8 @@ abbrev pub marked : List Entry → ℕ → Option Entry → List Entry
 marked es i None = es
 marked es i (Some e) = slice_set es i (record { goal = e.goal; barred = true })
 
--- the entries after a look at entry i, which is marked where its goal holds by one step; unchanged where there is
--- none
+-- the entries after a look at entry i, which is marked where its goal holds by one step from the marked ones;
+-- unchanged where there is no such entry, or it is marked already
 abbrev pub looked : List DataDecl → List Layout → ℕ → List Entry → List Entry
 looked types layouts i es = if turns types layouts es (slice_get es i) then marked es i (slice_get es i) else es
 

@@ -23,7 +23,8 @@ sub_in types (P.Var at x) i = None
 sub_in types (P.Num at n) i = None
 sub_in types (P.Con at c ps) i = pair_of (slice_get ps i) (slice_get (types_or_none (fields_of types c)) i)
 
--- the subpattern for field i of a pattern, with the type of that field; None where there is none
+-- the subpattern for field i of a pattern, with the type of that field; None where the pattern is no constructor, has
+-- no such subpattern, or is of no declared constructor with such a field
 abbrev pub sub_pattern : List DataDecl → Pat → ℕ → Option (Pat × Ty)
 sub_pattern types p i = sub_in types (out-Pat p) i
 
