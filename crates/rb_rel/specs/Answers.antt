@@ -44,11 +44,12 @@ making_step types (V.Con k vs) (Named t) =
     ++ Built t (Values.Con k (map (λ (v : Value × Making). v.0) vs)) ∷ []
 
 -- the constructions that make a value at a type: those of its subvalues from left to right, and then its own; none
--- for a number
+-- for a number, nor for a constructor at an integer type
 abbrev pub making_of : List DataDecl → Value → Making
 making_of types = para-Value Making (making_step types)
 
--- the constructions that make several values at these types, value after value
+-- the constructions that make several values at these types, value after value; what is over in the longer list
+-- counts for nothing
 abbrev pub all_makings : List DataDecl → List Value → List Ty → List Event
 all_makings types vs ts = in_turn (map (making_of types) vs) ts
 

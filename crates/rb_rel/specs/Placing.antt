@@ -64,8 +64,9 @@ behind block (Fits blocks next) = Fits (block ∷ blocks) next
 behind block (Over full) = Over full
 
 -- The requests one after the other, where `next` is the next free address: each at the least multiple of its
--- alignment from there on, and the next address behind it. The first that would end beyond `limit` does not fit, and
--- none behind it is placed.
+-- alignment from there on, and the next address behind it. The first that would end beyond `limit` does not fit:
+-- `Over` then is the answer, without those placed before it, and none behind it is placed. Without requests `next`
+-- stays the next address. An alignment of 0 leads to address 0.
 abbrev pub lay : ℕ → ℕ → List Request → Laid
 lay limit next [] = Fits [] next
 lay limit next (r ∷ rs) =

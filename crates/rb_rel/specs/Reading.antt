@@ -105,7 +105,7 @@ abbrev pub walk_step : FlatTree-F Walk (Under Walk) → Walk
 walk_step (T.Split loc arms other) ws m = walk_at (read_loc ws m loc) arms other ws m
 walk_step (T.Leaf n) ws m = Some n
 
--- an arm's literal with the walk below it
+-- one layer of an arm: its literal, with the walk below it, which is given
 abbrev pub walk_arm : FlatArm-F Walk (Under Walk) → Under Walk
 walk_arm arm = record { literal = arm.literal; of = arm.under }
 
@@ -114,6 +114,6 @@ walk_arm arm = record { literal = arm.literal; of = arm.under }
 abbrev pub walk : FlatTree → Walk
 walk = fold-FlatTree Walk (Under Walk) walk_step walk_arm
 
--- an arm's literal, with the walk below it
+-- an arm's literal, with the walk through the tree below it
 abbrev pub walk_under : FlatArm → Under Walk
 walk_under = fold-FlatArm Walk (Under Walk) walk_step walk_arm

@@ -4,6 +4,10 @@
 -- it: in the root words, and in the blocks to which pointers lead, each part holds. To each open position of the leaf
 -- belongs one list of words, which represents the subvalue there, and to each block one address. Bits of a word in no
 -- part are free; a representation is clean where all free bits are 0.
+--
+-- Throughout, `ws` are the words of a value, which are the root words of its leaf, and m is the memory. `subs` gives,
+-- by the path of an open position, the words of the subvalue there; `ats` gives a block's address, by its number;
+-- `clean` asks that free bits are 0.
 use Rattle.std.specs.Prelude.{◌≡◌, ℕ, ◌+◌, ◌*◌, ◌^◌, ◌<◌, ◌≤◌, List, [], ◌∷◌, ◌++◌, length, Bool, true, Option, Some, None, Ok, slice_get, slice_index}
 use Rattle.std.specs.Int.{bit_at}
 use Rattle.rb_core.specs.declared.value.Value.{Value, Num}
@@ -29,7 +33,7 @@ use Rattle.rb_layout.specs.Words.{words_in, flat_at, begins_at, size_of}
 -- What the number n, in the l bits of a part, is by the part's kind: the constant; l bits of the integer at a path,
 -- from bit a on; word j of the data field at a path; or the address of block b, counted in units of `align` bytes.
 -- `subs` has the words of the subvalue at each open position, an integer being one word, and `ats` the address of
--- each block.
+-- each block. A word that `subs` does not have counts as 0.
 abbrev pub HoldsKind : (List ℕ → List ℕ) → (ℕ → ℕ) → ℕ → ℕ → Kind → Type 0
 HoldsKind subs ats n l (Const c) = n ≡ c
 HoldsKind subs ats n l (Bits path a) = n ≡ take_of (slice_index (subs path) 0) a l
@@ -44,7 +48,7 @@ Holds subs ats w p = HoldsKind subs ats (take_of w p.o p.l) p.l p.kind
 abbrev pub IsInPart : ℕ → Part → Type 0
 IsInPart i p = (p.o ≤ i) × (i < p.o + p.l)
 
--- bit i of a flat word stands in no part of it
+-- bit i is below the width of the flat word, and stands in no part of it
 pub record IsFree (f : FlatWord) (i : ℕ) : Type 0 where
   pub inside : i < f.width
   pub outside : (k : ℕ) (p : Part) → slice_get f.parts k ≡ Some p → IsInPart i p → ⊥
@@ -57,8 +61,9 @@ pub record WordHolds (subs : List ℕ → List ℕ) (ats : ℕ → ℕ) (clean :
 
 -- Words of a leaf ----------------------------------------------------------------------------
 
--- w is the word that stands for word j of the flat words fs, f being that flat word: among the root words where no
--- block is named, and else loaded from the block's address, at the byte at which word j begins
+-- w is the word that stands for word j of the flat words fs, f being that flat word: among the root words ws where no
+-- block is named, and else loaded from the block's address, at the byte at which word j begins; none does where ws
+-- has no word j, or the load goes astray or meets an unwritten byte
 abbrev pub IsFound : Option ℕ → List FlatWord → FlatWord → ℕ → List ℕ → (ℕ → ℕ) → Memory → ℕ → Type 0
 IsFound None fs f j ws ats m w = slice_get ws j ≡ Some w
 IsFound (Some b) fs f j ws ats m w = load_of m (ats b) (begins_at fs j) f.width ≡ Ok w

@@ -54,7 +54,7 @@ depth_in None = 0
 depth_in (Some layout) = nesting layout.tree
 
 -- The switches that show which leaf a value of a data type has: as many as splits stand one below the other in its
--- layout, and 0 without a layout. For an integer it is one, which shows the number.
+-- layout at most, and 0 without a layout. For an integer it is one, which shows the number.
 abbrev pub depth_of : List Layout → Ty → ℕ
 depth_of layouts (Int bits) = 1
 depth_of layouts (Named t) = depth_in (layout_of layouts t)
@@ -88,7 +88,8 @@ heads_step (P.Con at c hss) = record { path = []; con = c } ∷ heads_below hss 
 abbrev pub heads_of : Pat → List Head
 heads_of = fold-Pat (List Head) heads_step
 
--- the constructors below the root of a leaf's provenance, with their positions: what the leaf takes apart
+-- the constructors below the root of a leaf's provenance, with their positions: what the leaf takes apart; none where
+-- the root is no constructor
 abbrev pub inner_heads : Leaf → List Head
 inner_heads leaf = drop 1 (heads_of leaf.prov)
 
@@ -124,8 +125,8 @@ places_of layouts t k =
 -- Choosing and mending -----------------------------------------------------------------------
 
 -- The switches that choose the leaf of a construction of type t by constructor k, where the switches of mending are
--- given for each type: at each place that a leaf for it takes apart, those that show the leaf of the value there, and
--- those that mend that value.
+-- given for each type: over the places that leaves for it take apart, each once, the sum of those that show the leaf
+-- of the value there and those that mend that value; 0 where no leaf for it takes anything apart.
 abbrev pub choose_with : (ℕ → ℕ) → List Layout → ℕ → ℕ → ℕ
 choose_with mend layouts t k =
     sum_by (λ (h : Head). depth_of layouts (Named h.con.ty) + mend h.con.ty) (places_of layouts t k)
@@ -136,7 +137,7 @@ abbrev pub mend_leaf : (ℕ → ℕ → ℕ) → Leaf → ℕ
 mend_leaf choose leaf = sum_by (λ (h : Head). choose h.con.ty h.con.con) (inner_heads leaf)
 
 -- The switches of mending for type t, counted through at most `n` types that are flattened into one another: in the
--- leaf where it takes most, and 0 where n is 0.
+-- leaf where it takes most, and 0 where n is 0 or the type has no layout.
 abbrev pub mend_within : List Layout → ℕ → ℕ → ℕ
 mend_within layouts zero t = 0
 mend_within layouts (suc n) t =
@@ -160,7 +161,8 @@ abbrev pub is_shallow : Leaf → Bool
 is_shallow leaf = length (inner_heads leaf) == 0
 
 -- The switches that a match spends at one position of this type. Where no leaf of the type takes anything apart,
--- those that show the value's leaf or number; else twice these together with those of mending.
+-- those that show the value's leaf or number; else twice these together with those of mending. For a type without a
+-- layout there are none.
 abbrev pub look_of : List Layout → Ty → ℕ
 look_of layouts (Int bits) = depth_of layouts (Int bits)
 look_of layouts (Named t) =

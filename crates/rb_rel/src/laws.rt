@@ -1,4 +1,7 @@
-//! The laws of representation, each the contract of a function that does nothing.
+//! The laws of representation, each the contract of a function that does nothing. The first three
+//! are over any layouts. All others are over programs whose layouts agree with their types, and all
+//! but the last over typed ones. In a good memory the blocks lie one after the other, from address
+//! 64 up to the next free one, and behind them nothing is written.
 
 ghost use Rattle.rb_rel.specs.Laws.{CleanRepresents, GrowthKeeps, ListsHaveWords, MendingRecurs, ReadingGivesBits};
 ghost use Rattle.rb_rel.specs.Laws.{RepresentedAreTyped, SplitsLead, ValuesHaveWords, WordsAreOneValue};
@@ -14,8 +17,8 @@ pub fn clean_representations_represent()
     ensures { CleanRepresents }
 {}
 
-/// Where a location resolves in the leaf of a represented value, reading it gives the bits there: no
-/// load on the way goes astray or meets an unwritten byte.
+/// Where a location resolves in the leaf of a represented value, reading it gives the bits there:
+/// no load on the way goes astray or meets an unwritten byte.
 pub fn reading_gives_bits()
     ensures { ReadingGivesBits }
 {}
@@ -36,22 +39,23 @@ pub fn represented_values_are_typed()
     ensures { RepresentedAreTyped }
 {}
 
-/// Every value whose blocks fit has a clean representation, in a memory that has grown by exactly the
-/// blocks that its constructions ask for.
+/// Every value of a type whose blocks fit in a good memory has a clean representation, in a memory
+/// that has grown from it by exactly the blocks that the value's constructions ask for.
 pub fn values_have_words()
     ensures { ValuesHaveWords }
 {}
 
-/// Several values whose blocks fit, made one after the other as the arguments of a program are,
-/// have clean representations one behind the other, in a memory that has grown by exactly the
-/// blocks that their constructions ask for.
+/// Several values whose blocks fit in a good memory, made one after the other as the arguments of a
+/// program are, have clean representations one behind the other, in a memory that has grown from it
+/// by exactly the blocks that their constructions ask for.
 pub fn lists_have_words()
     ensures { ListsHaveWords }
 {}
 
-/// The switches of mending a type are, in the leaf where it takes most, the sum of those of
-/// choosing below the root: the bound on how deep types are flattened into one another is never
-/// reached, since flattening has no cycle.
+/// Mending rebuilds the subvalues that a leaf has taken apart, and choosing finds the leaf of one
+/// such construction. The switches of mending a type are, in the leaf where it takes most, the sum
+/// of those of choosing over the constructors below the root of its provenance: the bound on how
+/// deep types are flattened into one another is never reached, since flattening has no cycle.
 pub fn mending_recurs()
     ensures { MendingRecurs }
 {}
