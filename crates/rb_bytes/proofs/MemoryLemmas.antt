@@ -7,7 +7,7 @@ use Rattle.std.proofs.lemmas.List.{length-replicate}
 use Rattle.std.proofs.Math.Nat.{one-le-pow}
 use Rattle.rb_bits.specs.LittleEndian.{from_le_bytes}
 use Rattle.rb_bytes.specs.Memory.{Memory, IsGood, IsAlign, IsSize, IsWidth, byte_at, empty_memory, aligned, place_of, size_at, lies_within, read_le, write_le, load_of, store_of}
-use Rattle.rb_bytes.specs.Laws.{Extends, AreApart, Spells, IsLeastMultiple, IsFirstUnwritten, ChangesOnly}
+use Rattle.rb_bytes.specs.Laws.{Extends, AreApart, Spells, IsLeastMultiple, IsFirstUnwritten, ChangesOnly, IsPlaced, IsStored, IsLoaded}
 use Rattle.rb_bytes.specs.declared.fault.Full.{Full}
 use Rattle.rb_bytes.specs.declared.fault.Trap.{Trap}
 use Rattle.rb_bytes.specs.declared.fault.Trap.TheVariants.{Astray, Unwritten}
@@ -308,3 +308,43 @@ load_unwritten m base offset width a is =
           record { within = (got.0, got.1); unwritten = got.2; before = got.3 }
       | inr e ↦ let other = load_astray m base offset width e in cc
     ]
+
+-- none of the bytes of a block that was placed is written
+pub place_fresh : (m : Memory) (size align : ℕ) → IsGood m → IsAlign align
+    → IfOk (place_of m size align).0 (λ a. (k : ℕ) → a ≤ k → byte_at (place_of m size align).1.bytes k ≡ None)
+place_fresh m size align good aligns =
+    let P : Result ℕ Full × Memory → Type 0 = λ r. IfOk r.0 (λ a. (k : ℕ) → a ≤ k → byte_at r.1.bytes k ≡ None) in
+    elim (cases_lt m.limit (aligned m.next align + size)) [
+      | inl lt ↦ subst P (sym (full_is m size align lt)) tt
+      | inr le ↦
+          subst P (sym (placed_is m size align le))
+          (λ k above. good.fresh k (omega (arith, aligned_from m.next align (align_positive align aligns), above)))
+    ]
+
+-- ---- the laws of a place, a store and a load
+pub place_keeps : (m : Memory) (size align : ℕ) → IsGood m → IsSize size → IsAlign align → IsPlaced m size align (place_of m size align)
+place_keeps m size align good sizes aligns =
+    let stays = place_extends m size align aligns in
+    record {
+      good = place_good m size align good sizes aligns;
+      least = place_least m size align aligns;
+      stays = stays;
+      loads = λ b o w r is. load_extends m (place_of m size align).1 b o w r stays is;
+      found = place_found m size align good aligns;
+      unwritten = place_fresh m size align good aligns;
+    }
+
+pub store_keeps : (m : Memory) (base offset width word : ℕ) → IsGood m → IsWidth width
+    → IsStored m base offset width word (store_of m base offset width word)
+store_keeps m base offset width word good wide = record {
+  good = store_good m base offset width word good;
+  loaded = store_loaded m base offset width word good wide;
+  only = store_changes m base offset width word good;
+  earlier = λ early early_good above ext. store_extends early m base offset width word early_good ext above;
+}
+
+pub load_keeps : (m : Memory) (base offset width : ℕ) → IsLoaded m base offset width (load_of m base offset width)
+load_keeps m base offset width = record {
+  spelled = λ bytes count spells. load_spelled m base offset width bytes (load_of m base offset width) count spells refl;
+  unwritten = λ a is. load_unwritten m base offset width a is;
+}

@@ -6,7 +6,6 @@ ghost use Rattle.rb_bytes.specs.Memory.{IsWidth};
 
 use rb_bytes::checked::CheckedMemory;
 use rb_bytes::fault::{Full, Trap};
-use rb_bytes::laws::{load_word, place_block, store_word};
 use rb_bytes::memory::ByteMemory;
 use std::alloc::Global;
 
@@ -103,9 +102,9 @@ fn places_at_the_least_multiple(rt: HostRuntime) {
 // Blocks of 8 and of 16 bytes, at 64 and at 72, and a word in the second.
 fn two_blocks(alloc: Global) -> Option<CheckedMemory> {
     let mut memory = CheckedMemory::new(alloc, 128).ok()?;
-    place_block(&mut memory, 8, 1).ok()?;
-    place_block(&mut memory, 16, 1).ok()?;
-    store_word(&mut memory, 72, 0, 64, 0x8807_0605_0403_0201).ok()?;
+    memory.place(8, 1).ok()?;
+    memory.place(16, 1).ok()?;
+    memory.store(72, 0, 64, 0x8807_0605_0403_0201).ok()?;
     Some(memory)
 }
 
@@ -149,7 +148,7 @@ fn stores_and_loads(rt: HostRuntime) {
             "{width} bits at {base} and {offset}"
         );
     }
-    assert!(rt; told(load_word(&memory, 72, 0, 16)) == (0, 0xbb01, 0));
+    assert!(rt; told(memory.load(72, 0, 16)) == (0, 0xbb01, 0));
     let bytes = (memory.byte(72), memory.byte(79), memory.byte(81));
     assert!(rt; bytes == (Some(1), Some(0x88), None));
 }
