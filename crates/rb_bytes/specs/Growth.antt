@@ -1,18 +1,19 @@
--- A memory with exactly some blocks more.
+-- A memory with exactly some blocks more. A block is its address and its size in bytes.
 use Rattle.std.specs.Prelude.{◌≡◌, ℕ, ◌+◌, ◌<◌, ◌≤◌, List, [], ◌∷◌, ◌++◌, Some}
 use Rattle.rb_bytes.specs.Memory.{Memory, IsGood, byte_at}
 use Rattle.rb_bytes.specs.Laws.{Extends, KeepsLoads}
 
--- the block, an address and a size, lies below the next address, and each of its bytes is written
+-- the block ends at the next address at the latest, and each of its bytes was written
 abbrev pub IsWhole : Memory → ℕ × ℕ → Type 0
 IsWhole m b = (b.0 + b.1 ≤ m.next) × ((a : ℕ) → b.0 ≤ a → a < b.0 + b.1 → (u : ℕ) × (byte_at m.bytes a ≡ Some u))
 
+-- each of the blocks ends at the next address at the latest, and has all of its bytes written
 abbrev pub AreWhole : Memory → List (ℕ × ℕ) → Type 0
 AreWhole m [] = Unit {0}
 AreWhole m (b ∷ bs) = IsWhole m b × AreWhole m bs
 
--- The new memory has exactly these blocks behind the old one's, all their bytes written, and the next
--- address p. What lies below the old next address is as it was, what was never written too.
+-- The new memory has exactly these blocks behind the old one's, with all their bytes written, and the next
+-- address p. Below the old next address each byte is as it was, or is still unwritten.
 pub record Grown (old new : Memory) (blocks : List (ℕ × ℕ)) (p : ℕ) : Type 0 where
   pub limit : new.limit ≡ old.limit
   pub next : new.next ≡ p
@@ -22,7 +23,8 @@ pub record Grown (old new : Memory) (blocks : List (ℕ × ℕ)) (p : ℕ) : Typ
   pub whole : AreWhole new blocks
   pub good : IsGood new
 
--- a memory has grown by nothing; growing twice is growing by both; what was there stays, and so do loads
+-- The laws of growing. A good memory has grown by no block. One that grew by some blocks and then by others has grown
+-- by all of them. A good memory that grows keeps its blocks, what was written, and what could be loaded.
 pub record IsGrowth : Type 0 where
   pub none : (m : Memory) → IsGood m → Grown m m [] m.next
   pub twice : (a b c : Memory) (bs cs : List (ℕ × ℕ)) (p q : ℕ) → Grown a b bs p → Grown b c cs q

@@ -12,17 +12,22 @@ use std::alloc::{AllocError, Global};
 use std::marker::Model;
 
 /// A region that knows of each byte whether it was written and of each address whether a block
-/// begins there, so that no access is trusted. All of its memory is taken when it is made, and a part
-/// of it is first touched when a block is placed there.
+/// begins there, so that no access is trusted. All of its memory is taken when it is made, and a
+/// part of it is first touched when a block is placed there.
 #[derive(Drop)]
 pub struct CheckedMemory {
-    // By address, up to the end of the last block; none before the first: the byte that was written there,
-    // 255 where one was and else 0, and the size of the block that begins there, or 0.
+    // By address, from 0 up to the end of the last block; empty before the first.
+    // The byte that was written there; any byte where none was.
     bytes: Vec<u8>,
+    // 255 where a byte was written, and else 0.
     marks: Vec<u8>,
+    // The size of the block that begins there, in bytes, or 0.
     sizes: Vec<u16>,
+    // The number of blocks.
     blocks: u64,
+    // The address from which on the next block is placed.
     next: u64,
+    // The address at which the region ends.
     limit: u64,
 }
 
@@ -38,7 +43,8 @@ impl Model for CheckedMemory {
     ghost invariant = { IsKept };
 }
 
-// Whether some bytes are written, by one look at the marks of all of them.
+// Whether `count` bytes from the address `at` on are written, by one look at the marks of all of
+// them.
 fn are_written(marks: &[u8], at: u64, count: u64) -> bool
     requires count { IsByteCount count }
     requires within { at + count ≤ length marks.now }
@@ -47,7 +53,8 @@ fn are_written(marks: &[u8], at: u64, count: u64) -> bool
     load_le(&marks[at as usize..(at + count) as usize]) == mask(0, 8 * count as u32)
 }
 
-// The number in some bytes, the lowest first, or the first of them that is unwritten.
+// The number in `count` bytes from the address `at` on, the lowest first, or `Unwritten` with the
+// first of their addresses where none was written. `marks` and `bytes` go by address.
 fn read_word(marks: &[u8], bytes: &[u8], at: u64, count: u64) -> Result<u64, Trap>
     requires even { length marks.now ≡ length bytes.now }
     requires count { IsByteCount count }
@@ -64,7 +71,8 @@ fn read_word(marks: &[u8], bytes: &[u8], at: u64, count: u64) -> Result<u64, Tra
     Ok(load_le(&bytes[at as usize..(at + count) as usize]))
 }
 
-// Writes the low bytes of a word, the lowest first, and marks them.
+// Writes the `count` low bytes of a word from the address `at` on, the lowest first, and marks them
+// as written. `marks` and `bytes` go by address.
 fn write_word(marks: &mut [u8], bytes: &mut [u8], at: u64, count: u64, word: u64)
     requires even { length marks.old ≡ length bytes.old }
     requires count { IsByteCount count }
@@ -103,7 +111,8 @@ impl CheckedMemory {
         })
     }
 
-    /// The first block that begins at this address or above: its address and its size.
+    /// The first block that begins at this address or above: its address and its size in bytes.
+    /// `None` where no block begins there or above.
     pub fn block_from(&self, address: u64) -> Option<(u64, u64)>
         ensures { result ≡ find (λ b. nat_le address b.0) self.now.blocks }
     {
@@ -116,7 +125,7 @@ impl CheckedMemory {
         None
     }
 
-    /// The byte at an address, where one was written.
+    /// The byte that was written at an address; `None` where none was, also beyond the region.
     pub fn byte(&self, address: u64) -> Option<u8>
         ensures { result ≡ byte_at self.now.bytes address }
     {
@@ -129,7 +138,7 @@ impl CheckedMemory {
         }
     }
 
-    // The size of the block that begins at this address.
+    // The size in bytes of the block that begins at this address; `None` where none does.
     fn size_at(&self, base: u64) -> Option<u64>
         ensures value { result ≡ size_at self.now.blocks base }
         ensures within { IfSome result (λ size. base + size ≤ self.now.next) }
@@ -143,7 +152,8 @@ impl CheckedMemory {
         }
     }
 
-    // Whether so many bytes at an offset lie within the block that begins at the base.
+    // Whether `count` bytes from an offset on lie within the block that begins at the base; false
+    // where none begins there.
     fn holds(&self, base: u64, offset: u64, count: u64) -> bool
         ensures value { result ≡ lies_within (size_at self.now.blocks base) (offset + count) }
         ensures within { result ≡ true → base + offset + count ≤ self.now.next }

@@ -2,7 +2,8 @@
 
 use thiserror::Error;
 
-/// A block that didn't fit: the next address, what was asked for, and the region's end, all in bytes.
+/// A block that didn't fit: the address from which on it would have been placed, its size and its
+/// alignment, and the address at which the region ends, all in bytes.
 #[derive(Clone, Copy, Debug, Drop, Error)]
 #[error("the region is full")]
 pub struct Full {
@@ -15,13 +16,14 @@ pub struct Full {
 /// Why a run stops in error.
 #[derive(Clone, Copy, Debug, Drop, Error)]
 pub enum Trap {
-    /// No block begins at this base, or the bytes at this offset leave it.
+    /// The base of an access, which is an address, and its offset in bytes: no block begins at the
+    /// base, or the access leaves it.
     #[error("an access leaves its block")]
     Astray(u64, u64),
-    /// The byte at this address was never written.
+    /// The address of a byte that was never written.
     #[error("a byte is read that was never written")]
     Unwritten(u64),
-    /// No arm of a switch has this word.
+    /// A word of which a switch has no arm.
     #[error("a switch has no arm for its word")]
     Unmatched(u64),
 }

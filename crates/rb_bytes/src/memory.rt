@@ -9,17 +9,20 @@ use crate::fault::{Full, Trap};
 /// `specs/Memory.antt`.
 pub const MOST_REGION: u64 = 16_777_216;
 
-/// A region of bytes from address 64 up to its limit, in which blocks are placed in ascending order.
-/// Addresses, sizes, alignments and offsets are bytes, widths are bits, words are little-endian.
+/// A region of bytes from address 64 up to its limit, in which blocks are placed in ascending
+/// order. Addresses, sizes, alignments and offsets are bytes, widths are bits, words are
+/// little-endian.
 ///
 /// No call takes memory: a region has all of its own when it is made.
 pub trait ByteMemory {
+    // the constant of the same name, in clauses
     ghost CHECKS: { Bool };
 
-    /// Whether loads and stores test what they are asked for. Where it is false, a caller knows that
-    /// the access doesn't trap.
+    /// Whether loads and stores test what they are asked for. Where it is false, a caller knows
+    /// that the access doesn't trap.
     const CHECKS: bool;
 
+    // the memory as plain data
     ghost memory: { Self → Memory };
 
     /// The address at which the region ends.
@@ -37,8 +40,8 @@ pub trait ByteMemory {
         ensures value { result ≡ length (memory self.now).blocks }
         ensures good { IsGood (memory self.now) };
 
-    /// Places a block at the least multiple of the alignment from the next address on, and gives its
-    /// address. Where it doesn't fit, nothing changes.
+    /// Places a block of `size` bytes at the least multiple of `align` from the next address on,
+    /// and gives its address. Where it doesn't fit, nothing changes.
     ///
     /// # Errors
     ///
@@ -49,25 +52,26 @@ pub trait ByteMemory {
         ensures value { (result, memory self.new) ≡ place_of (memory self.old) size align }
         ensures good { IsGood (memory self.new) };
 
-    /// The number in some bytes of the block that begins at the base.
+    /// The number in `width` bits from the byte at `offset` on of the block that begins at the
+    /// base, the lowest byte first.
     ///
     /// # Errors
     ///
-    /// `Astray` exactly where no block begins at the base or the bytes do not lie within it, else `Unwritten`
-    /// for the first of them that was never written. Where a memory does not check, its caller sees to it
-    /// that neither comes.
+    /// `Astray` exactly where no block begins at the base or the bytes do not lie within it, else
+    /// `Unwritten` for the first of them that was never written. Where a memory does not check, its
+    /// caller sees to it that neither comes.
     fn load(&self, base: u64, offset: u64, width: u64) -> Result<u64, Trap>
         requires width { IsWidth width }
         requires unchecked { CHECKS ≡ false → IsOk (load_of (memory self.now) base offset width) }
         ensures value { result ≡ load_of (memory self.now) base offset width };
 
-    /// Writes the low bits of a word into some bytes of the block that begins at the base. Where it
-    /// traps, nothing changes.
+    /// Writes the `width` low bits of a word into the bytes from `offset` on of the block that
+    /// begins at the base, the lowest byte first. Where it traps, nothing changes.
     ///
     /// # Errors
     ///
-    /// `Astray` exactly where no block begins at the base or the bytes do not lie within it. Where a memory
-    /// does not check, its caller sees to it that none comes.
+    /// `Astray` exactly where no block begins at the base or the bytes do not lie within it. Where
+    /// a memory does not check, its caller sees to it that none comes.
     fn store(&mut self, base: u64, offset: u64, width: u64, word: u64) -> Result<(), Trap>
         requires width { IsWidth width }
         requires unchecked { CHECKS ≡ false → IsOk (store_of (memory self.old) base offset width word).0 }
