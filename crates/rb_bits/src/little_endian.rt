@@ -3,7 +3,7 @@
 ghost use Rattle.std.specs.Prelude.{◌≡◌, ◌*◌, ◌^◌, ◌<◌, length};
 ghost use Rattle.rb_bits.specs.LittleEndian.{IsByteCount, from_le_bytes, to_le_bytes};
 
-/// The number that 1, 2, 4 or 8 bytes spell.
+/// The number that 1, 2, 4 or 8 bytes spell, the lowest first.
 pub fn load_le(bytes: &[u8]) -> u64
     requires { IsByteCount (length bytes.now) }
     ensures value { result ≡ from_le_bytes bytes.now }
@@ -20,7 +20,7 @@ pub fn load_le(bytes: &[u8]) -> u64
     }
 }
 
-/// Writes `w` into 1, 2, 4 or 8 bytes, in which it fits.
+/// Writes `w` into 1, 2, 4 or 8 bytes, in which it fits, the lowest first.
 pub fn store_le(bytes: &mut [u8], w: u64)
     requires count { IsByteCount (length bytes.old) }
     requires fits { w < 2 ^ (8 * length bytes.old) }

@@ -8,13 +8,16 @@ use crate::words::{put, take};
 /// Bits `a` up to `a + l` of a number, which stand in bits `o` up to `o + l` of a word.
 #[derive(Clone, Copy, PartialEq, Eq)]
 pub struct Slice {
+    /// The first bit in the word.
     pub o: u32,
+    /// The first bit in the number.
     pub a: u32,
+    /// How many bits there are.
     pub l: u32,
 }
 
 /// The number whose bits `a` up to `a + l` are bits `o` up to `o + l` of `w`, for each slice, and
-/// whose other bits are 0.
+/// whose other bits are 0; without a slice it is 0.
 pub fn gather(w: u64, slices: &[Slice]) -> u64
     requires { AreSlices slices.now }
     ensures value { result ≡ gather_of w slices.now }
@@ -27,7 +30,8 @@ pub fn gather(w: u64, slices: &[Slice]) -> u64
     number
 }
 
-/// `w` with bits `o` up to `o + l` replaced by bits `a` up to `a + l` of `number`, for each slice.
+/// `w` with bits `o` up to `o + l` replaced by bits `a` up to `a + l` of `number`, for each slice;
+/// without a slice it is `w`.
 pub fn scatter(w: u64, slices: &[Slice], number: u64) -> u64
     requires { AreSlices slices.now }
     ensures value { result ≡ scatter_of w slices.now number }

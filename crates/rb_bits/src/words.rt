@@ -4,7 +4,7 @@ ghost use Rattle.std.specs.Prelude.{◌≡◌, ℕ, ◌+◌, ◌^◌, ◌<◌, �
 ghost use Rattle.std.specs.Int.{bit_at};
 ghost use Rattle.rb_bits.specs.Words.{IsRange, IsOutside, AreDisjoint, mask_of, take_of, put_of};
 
-/// The number whose bits `o` up to `o + l` are 1, and no others.
+/// The number whose bits `o` up to `o + l`, at least one and all within 64, are 1, and no others.
 pub fn mask(o: u32, l: u32) -> u64
     requires { IsRange o l }
     ensures value { result ≡ mask_of o l }
@@ -14,7 +14,7 @@ pub fn mask(o: u32, l: u32) -> u64
     (u64::MAX >> (64 - l)) << o
 }
 
-/// The number that stands in bits `o` up to `o + l` of `w`.
+/// The number that stands in bits `o` up to `o + l` of `w`, at least one and all within 64.
 pub fn take(w: u64, o: u32, l: u32) -> u64
     requires { IsRange o l }
     ensures value { result ≡ take_of w o l }
@@ -24,7 +24,8 @@ pub fn take(w: u64, o: u32, l: u32) -> u64
     (w >> o) & (u64::MAX >> (64 - l))
 }
 
-/// `w` with bits `o` up to `o + l` replaced by `part`, which has `l` bits.
+/// `w` with bits `o` up to `o + l`, at least one and all within 64, replaced by `part`, which has
+/// at most `l` bits.
 pub fn put(w: u64, o: u32, l: u32, part: u64) -> u64
     requires range { IsRange o l }
     requires part { part < 2 ^ l }

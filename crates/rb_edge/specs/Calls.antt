@@ -1,8 +1,8 @@
--- Calls that are numbered from 0 and fail by their numbers.
+-- Calls of a source or a sink in memory, which are numbered from 0 and fail by their numbers.
 use Rattle.std.specs.Prelude.{ℕ, ◌+◌, ◌-◌, ◌^◌, ◌==◌, min, List, Bool}
 use Rattle.std.specs.List.{list_any}
 
--- whether the call of that number fails
+-- whether the call of that number fails: it is in the list of those that fail
 abbrev pub fails_at : List ℕ → ℕ → Bool
 fails_at fail call = list_any (λ n. n == call) fail
 

@@ -1,7 +1,7 @@
--- Counts of faults.
+-- Counts of faults: how often a source or a sink failed since it was made, as far as a machine word counts.
 use Rattle.std.specs.Prelude.{◌≡◌, ℕ, ◌+◌, ◌-◌, ◌^◌, ◌<◌, ◌==◌, if◌then◌else◌, ◌⊎◌}
 
--- the greatest count, at which a count stands still
+-- the greatest count of faults, at which a count stands still
 abbrev pub greatest : ℕ
 greatest = 2 ^ 64 - 1
 
@@ -9,6 +9,6 @@ greatest = 2 ^ 64 - 1
 abbrev pub one_more : ℕ → ℕ
 one_more faults = if faults == greatest then greatest else faults + 1
 
--- The count rose, or could not rise, since it stood at the greatest already.
+-- the count now is above that before, or it could not rise, since it stood at the greatest already
 abbrev pub Rose : ℕ → ℕ → Type 0
 Rose before now = (before < now) ⊎ (before ≡ greatest)

@@ -1,23 +1,24 @@
--- Files of the system as a source.
+-- Files of the system as a source. A name is a list of bytes; a reading is a file that was opened, or should have
+-- been.
 use Rattle.std.specs.Prelude.{ℕ, List, [], ◌∷◌, ◌++◌}
 use Rattle.rb_edge.specs.Faults.{one_more}
 use Rattle.rb_edge.specs.History.{Reading, begun, missed, broken, on_last}
 
--- what contracts see of it
+-- what contracts see of a source of files of the system
 pub record SourceCounts : Type 0 where
-  -- what it handed out
+  -- what it handed out: the readings since it was made, in their order
   pub readings : List Reading
-  -- how many faults there were
+  -- how many faults there were since it was made
   pub faults : ℕ
 
--- after the opening of a name
+-- the source after a name was opened: one reading more, of which nothing is handed out yet
 abbrev pub after_opening : SourceCounts → List ℕ → SourceCounts
 after_opening s name = record s { readings = s.readings ++ begun name ∷ [] }
 
--- after the opening of a name failed
+-- the source after the opening of a name failed: one reading more, which failed, and one fault more
 abbrev pub after_miss : SourceCounts → List ℕ → SourceCounts
 after_miss s name = record { readings = s.readings ++ missed name ∷ []; faults = one_more s.faults }
 
--- after a read failed
+-- the source after a read failed: the last reading failed, if there is one, and there is one fault more
 abbrev pub after_failure : SourceCounts → SourceCounts
 after_failure s = record { readings = on_last broken s.readings; faults = one_more s.faults }

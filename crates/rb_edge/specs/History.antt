@@ -1,4 +1,4 @@
--- What a source handed out, and what a sink said it took, since they were made.
+-- What a source handed out, and what a sink said it took, since they were made. Names and texts are lists of bytes.
 use Rattle.std.specs.Prelude.{ℕ, ◌==◌, nat_lt, ◌&&◌, List, [], ◌∷◌, ◌++◌, length, if◌then◌else◌}
 
 -- how far the reading of a file has come
@@ -17,39 +17,40 @@ pub record Reading : Type 0 where
   pub bytes : List ℕ
   pub course : Course
 
--- a file that is opened
+-- the reading of a file of that name as it is opened: no byte is handed out yet
 abbrev pub begun : List ℕ → Reading
 begun name = record { name = name; bytes = []; course = going }
 
--- a file whose opening failed
+-- the reading of a file of that name whose opening failed
 abbrev pub missed : List ℕ → Reading
 missed name = record { name = name; bytes = []; course = failed }
 
--- more of its bytes were handed out
+-- a reading after more bytes of it were handed out
 abbrev pub handed : List ℕ → Reading → Reading
 handed bytes r = record r { bytes = r.bytes ++ bytes }
 
--- what failed does not come to an end
+-- a course after the end was told; what failed does not come to an end
 abbrev pub told : Course → Course
 told going = ended
 told ended = ended
 told failed = failed
 
--- its end was told
+-- a reading after its end was told; one that failed stays failed
 abbrev pub told_end : Reading → Reading
 told_end r = record r { course = told r.course }
 
--- a read of it failed
+-- a reading after a read of it failed
 abbrev pub broken : Reading → Reading
 broken r = record r { course = failed }
 
--- The last reading goes on so, and the others stay.
+-- readings of which the last goes on as `more` says, and the others stay; where there is none, nothing changes
 abbrev pub on_last : (Reading → Reading) → List Reading → List Reading
 on_last more [] = []
 on_last more (r ∷ []) = more r ∷ []
 on_last more (r ∷ s ∷ rs) = r ∷ on_last more (s ∷ rs)
 
--- A read gave these bytes into a buffer with so much room: where there is room, none tell the end.
+-- A reading after a read gave these bytes into a buffer with so much room, in bytes: no bytes where there is room
+-- tell the end, and else the bytes were handed out.
 abbrev pub after_read : ℕ → List ℕ → Reading → Reading
 after_read room bytes r = if (length bytes == 0) && nat_lt 0 room then told_end r else handed bytes r
 
@@ -58,14 +59,14 @@ pub record Account : Type 0 where
   pub said : List ℕ
   pub breaks : List ℕ
 
--- nothing taken, and no write failed
+-- what a sink said before its first write: nothing was taken, and no write failed
 abbrev pub no_account : Account
 no_account = record { said = []; breaks = [] }
 
--- it took these bytes
+-- an account after the sink took these bytes
 abbrev pub after_take : List ℕ → Account → Account
 after_take bytes a = record a { said = a.said ++ bytes }
 
--- a write failed
+-- an account after a write failed
 abbrev pub after_break : Account → Account
 after_break a = record a { breaks = a.breaks ++ length a.said ∷ [] }

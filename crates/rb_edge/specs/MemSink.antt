@@ -5,6 +5,7 @@ use Rattle.rb_edge.specs.Faults.{one_more}
 use Rattle.rb_edge.specs.History.{Account, no_account, after_take, after_break}
 use Rattle.rb_edge.specs.Calls.{fails_at, next_call}
 
+-- a sink in memory between two calls
 pub record SinkState : Type 0 where
   -- the most bytes that it takes in all
   pub room : ℕ
@@ -16,29 +17,31 @@ pub record SinkState : Type 0 where
   pub calls : ℕ
   -- the bytes taken
   pub taken : List ℕ
-  -- what it said
+  -- what it said: the bytes that it took, and where a write failed
   pub account : Account
-  -- how many faults there were
+  -- how many faults there were since it was made
   pub faults : ℕ
 
--- a sink of that room, before its first call
+-- a sink before its first call: it takes at most `room` bytes in all and `step` at once, and the calls whose numbers
+-- are in `fail` fail
 abbrev pub new_sink : ℕ → ℕ → List ℕ → SinkState
 new_sink room step fail =
     record { room = room; step = step; fail = fail; calls = 0; taken = []; account = no_account; faults = 0 }
 
--- how many bytes it can still take
+-- how many bytes a sink can still take
 abbrev pub room_left : SinkState → ℕ
 room_left s = s.room - length s.taken
 
--- whether a write of that many bytes fails: its number says so, or there are some and no room is left
+-- whether the next write, of `len` bytes, fails: its number says so, or there are some and no room is left
 abbrev pub write_fails : SinkState → ℕ → Bool
 write_fails s len = fails_at s.fail s.calls || (nat_lt 0 len && (room_left s == 0))
 
--- how many bytes a write of that many takes
+-- how many bytes a write of `len` bytes takes, where it doesn't fail
 abbrev pub write_count : SinkState → ℕ → ℕ
 write_count s len = min (min len s.step) (room_left s)
 
--- what a write answers, and the sink after it
+-- What a write of some bytes answers, and the sink after it. Where it fails, nothing is taken, and there is one fault
+-- more; else the answer is how many bytes from their front were taken.
 abbrev pub after_write : SinkState → List ℕ → Result ℕ Failed × SinkState
 after_write s bytes =
     let n = write_count s (length bytes) in

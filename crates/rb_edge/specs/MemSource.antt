@@ -9,6 +9,7 @@ use Rattle.rb_edge.specs.Faults.{one_more}
 use Rattle.rb_edge.specs.History as history
 use Rattle.rb_edge.specs.History.{Reading, begun, missed, broken, on_last}
 
+-- a source in memory between two calls
 pub record SourceState : Type 0 where
   -- the files, of which the first of a name is held under it
   pub files : List NamedBytes
@@ -18,41 +19,44 @@ pub record SourceState : Type 0 where
   pub fail : List ℕ
   -- the number of the next call
   pub calls : ℕ
-  -- the bytes left of the opened file
+  -- the bytes left of the opened file; none where no file is open
   pub left : List ℕ
-  -- what it handed out
+  -- what it handed out: the readings since it was made, in their order
   pub readings : List Reading
-  -- how many faults there were
+  -- how many faults there were since it was made
   pub faults : ℕ
 
--- a source that holds those files, before its first call
+-- a source that holds those files, before its first call: a read gives at most `step` bytes, and the calls whose
+-- numbers are in `fail` fail
 abbrev pub new_source : List NamedBytes → ℕ → List ℕ → SourceState
 new_source files step fail =
     record { files = files; step = step; fail = fail; calls = 0; left = []; readings = []; faults = 0 }
 
--- the bytes of a file, or none
+-- the bytes of a file; none where there is no file
 abbrev pub bytes_in : Option NamedBytes → List ℕ
 bytes_in None = []
 bytes_in (Some file) = file.bytes
 
--- the bytes of the opened file, by its index
+-- the bytes of the opened file, by its index among the files; none where no file is open
 abbrev pub bytes_of : List NamedBytes → Option ℕ → List ℕ
 bytes_of files None = []
 bytes_of files (Some i) = bytes_in (slice_get files i)
 
--- the bytes of the first file of that name
+-- the bytes of the first file of that name; None where no file has it
 abbrev pub held_in : List NamedBytes → List ℕ → Option (List ℕ)
 held_in files name = option_map (λ f. f.bytes) (find (λ f. bytes_eq f.name name) files)
 
--- after a call with no fault, with these bytes left
+-- a source after a call that was no fault, with these bytes left of the opened file and these readings
 abbrev pub served : SourceState → List ℕ → List Reading → SourceState
 served s left readings = record s { calls = next_call s.calls; left = left; readings = readings }
 
--- after a call that was a fault
+-- a source after a call that was a fault, with these bytes left of the opened file and these readings
 abbrev pub faulted : SourceState → List ℕ → List Reading → SourceState
 faulted s left readings = record (served s left readings) { faults = one_more s.faults }
 
--- opening what is held, or nothing
+-- What opening a name answers, and the source after it, by the bytes that are held under the name: where nothing is
+-- held it fails, which is no fault; else where the call's number says so it fails, which is one. After both no file
+-- is open.
 abbrev pub opening_of : SourceState → List ℕ → Option (List ℕ) → Result (Unit {0}) Failed × SourceState
 opening_of s name None = (Err (record {}), served s [] (s.readings ++ missed name ∷ []))
 opening_of s name (Some bytes) =
@@ -63,11 +67,12 @@ opening_of s name (Some bytes) =
 abbrev pub after_open : SourceState → List ℕ → Result (Unit {0}) Failed × SourceState
 after_open s name = opening_of s name (held_in s.files name)
 
--- how many bytes a read into a buffer of that length gives
+-- how many bytes a read into a buffer of `room` bytes gives, where it doesn't fail
 abbrev pub read_count : SourceState → ℕ → ℕ
 read_count s room = min (min room s.step) (length s.left)
 
--- what a read into a buffer answers, the buffer and the source after it
+-- What a read into a buffer answers, and the buffer and the source after it. Where the call's number says so it
+-- fails, which is a fault, and no byte is lost; else the next bytes stand at the front of the buffer.
 abbrev pub after_read : SourceState → List ℕ → Result ℕ Failed × List ℕ × SourceState
 after_read s buffer =
     let n = read_count s (length buffer) in

@@ -2,9 +2,9 @@
 use Rattle.std.specs.Prelude.{ℕ}
 use Rattle.rb_edge.specs.History.{Account}
 
--- what contracts see of it
+-- what contracts see of a sink over a stream of the system
 pub record SinkCounts : Type 0 where
-  -- what it said it took
+  -- what it said: the bytes that it took, and where a write failed
   pub account : Account
-  -- how many faults there were
+  -- how many faults there were since it was made
   pub faults : ℕ

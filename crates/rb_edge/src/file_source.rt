@@ -13,11 +13,12 @@ use std::io::Read;
 use std::marker::Model;
 use std::rt::Files;
 
-/// Files of the system by their paths, in UTF-8. It tells no content: contracts see what it handed out, and
-/// its count of faults, which each error of the system raises.
+/// Files of the system by their paths, in UTF-8. It tells no content: contracts see what it handed
+/// out, and its count of faults, which each error of the system raises.
 #[derive(Drop)]
 pub struct FileSource<'a, R: Files> {
     rt: &'a R,
+    // The file that is open.
     file: Option<R::File>,
     readings: Readings,
     faults: u64,
@@ -32,7 +33,7 @@ impl<'a, R: Files> Model for FileSource<'a, R> {
 }
 
 impl<'a, R: Files> FileSource<'a, R> {
-    /// The files that a runtime reaches. None is open.
+    /// The files that a runtime reaches. None of them is open yet.
     pub fn new(rt: &'a R) -> FileSource<'a, R>
         ensures { result ≡ record { readings = []; faults = 0 } }
     {
@@ -44,14 +45,15 @@ impl<'a, R: Files> FileSource<'a, R> {
         }
     }
 
-    // One fault more.
+    // Counts one fault more, up to the greatest count.
     fn fault(&mut self)
         ensures { self.new ≡ record self.old { faults = one_more self.old.faults } }
     {
         self.faults = self.faults.saturating_add(1);
     }
 
-    // The file at a path, or none where the system gives none. A name that isn't UTF-8 is no path.
+    // The file whose path is the name, opened, or none where the system gives none. A name that
+    // isn't UTF-8 is no path.
     fn file_at(&self, name: &[u8]) -> Option<R::File>
         ensures { ¬ (IsUtf8 name.now) → IsNone result }
     {

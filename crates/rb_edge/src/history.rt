@@ -1,4 +1,6 @@
-//! What a source handed out and what a sink said, for contracts alone.
+//! What a source handed out and what a sink said, for contracts alone. A reading is a file that was
+//! opened, or should have been: its name, the bytes that were handed out since, and how far that
+//! came.
 
 ghost use Rattle.std.specs.Prelude.{◌≡◌, ℕ, List, [], ◌∷◌, ◌++◌};
 ghost use Rattle.rb_edge.specs.History.{begun, missed, handed, told_end, broken, on_last, after_read, no_account, after_take, after_break};
@@ -6,23 +8,28 @@ ghost use Rattle.rb_edge.specs.History.{begun, missed, handed, told_end, broken,
 use crate::log::Log;
 use std::marker::Model;
 
-// The kinds of a source's events in its log.
+// The kinds of a source's events in its log. The first: a name was opened.
 const BEGUN: usize = 0;
 
+// The opening of a name failed.
 const MISSED: usize = 1;
 
+// Bytes of the file that is open were handed out.
 const HANDED: usize = 2;
 
+// The end of the file that is open was told.
 const ENDED: usize = 3;
 
+// A read of the file that is open failed.
 const BROKEN: usize = 4;
 
-// The kinds of a sink's events in its log.
+// The kinds of a sink's events in its log. The first: bytes were taken.
 const TAKEN: usize = 0;
 
+// A write failed.
 const FAILED: usize = 1;
 
-/// The readings of a source. It takes no bytes of memory.
+/// The readings of a source since it was made, in their order. They take no bytes of memory.
 #[derive(Drop)]
 pub struct Readings {
     log: Log,
@@ -39,42 +46,43 @@ impl Model for Readings {
 }
 
 impl Readings {
-    /// Nothing was opened.
+    /// No reading: nothing was opened yet.
     pub fn new() -> Readings
         ensures { result ≡ [] }
     {
         Readings { log: Log::new() }
     }
 
-    /// A name is opened.
+    /// Adds the reading of a name that is opened now.
     pub fn begin(&mut self, name: &[u8])
         ensures { self.new ≡ self.old ++ begun name.now ∷ [] }
     {
         self.log.note(BEGUN, name);
     }
 
-    /// The opening of a name failed.
+    /// Adds the reading of a name whose opening failed.
     pub fn miss(&mut self, name: &[u8])
         ensures { self.new ≡ self.old ++ missed name.now ∷ [] }
     {
         self.log.note(MISSED, name);
     }
 
-    // Bytes were handed out.
+    // Tells the last reading, if there is one, that more bytes were handed out.
     fn hand(&mut self, bytes: &[u8])
         ensures { self.new ≡ on_last (handed bytes.now) self.old }
     {
         self.log.note(HANDED, bytes);
     }
 
-    // The end was told.
+    // Tells the last reading, if there is one, that its end was told.
     fn end(&mut self)
         ensures { self.new ≡ on_last told_end self.old }
     {
         self.log.note(ENDED, &[]);
     }
 
-    /// A read gave these bytes into a buffer with so much room.
+    /// Tells the last reading, if there is one, that a read gave these bytes into a buffer of
+    /// `room` bytes: no bytes where there is room are the end.
     pub fn read(&mut self, room: usize, bytes: &[u8])
         ensures { self.new ≡ on_last (after_read room bytes.now) self.old }
     {
@@ -85,7 +93,7 @@ impl Readings {
         }
     }
 
-    /// A read failed.
+    /// Tells the last reading, if there is one, that a read of it failed.
     pub fn fail(&mut self)
         ensures { self.new ≡ on_last broken self.old }
     {
@@ -93,7 +101,8 @@ impl Readings {
     }
 }
 
-/// What a sink said. It takes no bytes of memory.
+/// What a sink said since it was made: the bytes that it took, and where a write failed. It takes
+/// no bytes of memory.
 #[derive(Drop)]
 pub struct Said {
     log: Log,
@@ -109,21 +118,21 @@ impl Model for Said {
 }
 
 impl Said {
-    /// Nothing was taken.
+    /// Nothing was taken, and no write failed.
     pub fn new() -> Said
         ensures { result ≡ no_account }
     {
         Said { log: Log::new() }
     }
 
-    /// Bytes were taken.
+    /// Adds bytes that were taken.
     pub fn take(&mut self, bytes: &[u8])
         ensures { self.new ≡ after_take bytes.now self.old }
     {
         self.log.note(TAKEN, bytes);
     }
 
-    /// A write failed.
+    /// Adds that a write failed after the bytes so far.
     pub fn fail(&mut self)
         ensures { self.new ≡ after_break self.old }
     {

@@ -5,8 +5,8 @@ ghost use Rattle.std.specs.Borrow.{ftrue};
 
 use std::marker::{Model, PhantomData};
 
-/// What happened, in order: kinds by their numbers, each with bytes. It takes no bytes of memory; only
-/// `new` and `note` set it.
+/// What happened, in order: events, each a number, its kind, with bytes. It takes no bytes of
+/// memory; only `new` and `note` set it.
 #[derive(Drop)]
 pub struct Log {
     marker: PhantomData<u8>,
@@ -18,7 +18,7 @@ impl Model for Log {
 }
 
 impl Log {
-    /// Nothing happened.
+    /// No event yet.
     pub fn new() -> Log
         ensures { result.events ≡ [] }
     {
@@ -27,7 +27,7 @@ impl Log {
         }
     }
 
-    /// One event more.
+    /// Adds one event at the end.
     pub fn note(&mut self, kind: usize, bytes: &[u8])
         ensures { self.new.events ≡ self.old.events ++ (kind, bytes.now) ∷ [] }
     {}

@@ -13,14 +13,19 @@ use crate::source::Failed;
 use std::alloc::{AllocError, Global};
 use std::marker::Model;
 
-/// Takes bytes up to its room. It numbers its calls from 0, and the call whose number is in a list
-/// fails.
+/// Takes bytes up to its room. It numbers its calls from 0, and those whose numbers are in a list
+/// fail.
 #[derive(Drop)]
 pub struct MemSink {
+    // The bytes taken.
     bytes: Vec<u8>,
+    // The most bytes that it takes in all.
     room: usize,
+    // The most bytes that one write takes.
     step: usize,
+    // The numbers of the calls that fail.
     fail: Seq<u64>,
+    // The number of the next call.
     calls: u128,
     said: Said,
     faults: u64,
@@ -46,8 +51,8 @@ impl Model for MemSink {
 }
 
 impl MemSink {
-    /// A sink with room for so many bytes, whose memory is all taken here. A write takes at most `step`
-    /// bytes, and the calls whose numbers are in `fail` fail.
+    /// A sink with room for so many bytes, whose memory is all taken here. A write takes at most
+    /// `step` bytes, and the calls whose numbers are in `fail` fail.
     ///
     /// # Errors
     ///
@@ -73,7 +78,7 @@ impl MemSink {
         })
     }
 
-    /// The bytes taken.
+    /// The bytes taken so far.
     pub fn bytes(&self) -> &[u8]
         ensures { result.now ≡ self.now.taken }
     {
@@ -90,6 +95,13 @@ impl Sink for MemSink {
 
     ghost faults = { λ s. s.faults };
 
+    /// Takes as many bytes from the front of the piece as a write takes and there is room for, and
+    /// says how many.
+    ///
+    /// # Errors
+    ///
+    /// `Failed` where the call's number is in the list, or the piece has a byte and no room is
+    /// left. It counts as a fault, and nothing is taken.
     fn write(&mut self, bytes: &[u8]) -> Result<usize, Failed>
         ensures answer { (result, self.new) ≡ after_write self.old bytes.now }
         ensures some { IfOk result (λ n. 0 < length bytes.now → 0 < n) }

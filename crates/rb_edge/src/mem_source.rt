@@ -15,15 +15,20 @@ use crate::seq::Seq;
 use crate::source::{Failed, Source};
 use std::marker::Model;
 
-/// Files in memory. It numbers its calls from 0, and the call whose number is in a list fails.
+/// Files in memory; of two with one name the first is held under it. It numbers its calls from 0,
+/// and those whose numbers are in a list fail.
 #[derive(Drop)]
 pub struct MemSource {
     files: Seq<NamedBytes>,
+    // The most bytes that one read gives.
     step: usize,
+    // The numbers of the calls that fail.
     fail: Seq<u64>,
+    // The number of the next call.
     calls: u128,
-    // the index of the opened file, and how many of its bytes were read
+    // The index of the file that is open.
     opened: Option<usize>,
+    // How many of its bytes were read.
     at: usize,
     readings: Readings,
     faults: u64,
@@ -49,8 +54,8 @@ impl Model for MemSource {
 }
 
 impl MemSource {
-    /// Files of which each read gives at most `step` bytes, and where the calls whose numbers are in
-    /// `fail` fail. No file is open.
+    /// Files of which each read gives at most `step` bytes, and where the calls whose numbers are
+    /// in `fail` fail. No file is open.
     pub fn new(files: Seq<NamedBytes>, step: usize, fail: Seq<u64>) -> MemSource
         requires { 1 ≤ step }
         ensures { result ≡ new_source files step fail }
@@ -68,7 +73,7 @@ impl MemSource {
     }
 }
 
-// The index of the first file of that name.
+// The index of the first file of that name; `None` where no file has it.
 fn index_of(files: &[NamedBytes], name: &[u8]) -> Option<usize>
     ensures found { MatchOption result (held_in files.now name.now ≡ None)
         (λ i. held_in files.now name.now ≡ option_map (λ f. f.bytes) (slice_get files.now i)) }
@@ -82,7 +87,7 @@ fn index_of(files: &[NamedBytes], name: &[u8]) -> Option<usize>
     None
 }
 
-// The bytes of the file of that index, or none.
+// The bytes of the file of that index; no bytes where it is `None` or no file has it.
 fn bytes_at(files: &Seq<NamedBytes>, opened: Option<usize>) -> &[u8]
     ensures { result.now ≡ bytes_of files.now opened }
 {
@@ -106,6 +111,12 @@ impl Source for MemSource {
 
     ghost faults = { λ s. s.faults };
 
+    /// Opens the first file of that name.
+    ///
+    /// # Errors
+    ///
+    /// `Failed` where no file has the name, which is no fault, and else where the call's number is
+    /// in the list, which is one. No file is open then.
     fn open_file(&mut self, name: &[u8]) -> Result<(), Failed>
         ensures answer { (result, self.new) ≡ after_open self.old name.now }
     {
@@ -127,6 +138,12 @@ impl Source for MemSource {
         Ok(())
     }
 
+    /// Gives as many of the bytes that are left as a read gives and the buffer has room for; none
+    /// where no file is open.
+    ///
+    /// # Errors
+    ///
+    /// `Failed` where the call's number is in the list. It counts as a fault.
     fn read(&mut self, buf: &mut [u8]) -> Result<usize, Failed>
         ensures answer { (result, buf.new, self.new) ≡ after_read self.old buf.old }
         ensures gives { IfOk result (λ n. Gives n buf.new self.old.left self.new.left) }

@@ -2,7 +2,7 @@
 
 use crate::seq::{Name, Seq};
 
-/// The bytes of a file under its name.
+/// A file: its name, and its bytes from the first to the last.
 #[derive(Drop)]
 pub struct NamedBytes {
     pub name: Name,

@@ -51,7 +51,7 @@ impl<T> Seq<T> {
         self.items.as_slice().len()
     }
 
-    /// The item at index `i`.
+    /// The item at index `i`, from 0; `None` where the list has none there.
     pub fn get(&self, i: usize) -> Option<&T>
         ensures value { option_copied result ≡ slice_get self.now i }
         ensures within { IsSome result ↔ (i < length self.now) }
@@ -66,7 +66,7 @@ impl<T> Seq<T> {
         self.items.as_slice()
     }
 
-    /// Puts another item at index `i`, and gives the old one.
+    /// Puts another item at index `i`, which the list has, and gives the old one.
     pub fn replace(&mut self, i: usize, value: T) -> T
         requires { i < length self.old }
         ensures old { slice_get self.old i ≡ Some result }

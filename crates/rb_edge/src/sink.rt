@@ -8,8 +8,8 @@ use crate::source::Failed;
 
 /// Takes bytes, a piece at a time.
 ///
-/// What it said it took is known of every sink. What it took is known of sinks that tell it alone; a stream
-/// of the system tells nothing.
+/// What it said it took is known of every sink. What it took is known of sinks that tell it alone;
+/// a stream of the system tells nothing.
 pub trait Sink {
     // whether the sink tells its bytes
     ghost tells: { Self → Bool };

@@ -14,16 +14,16 @@ pub struct Failed;
 
 /// Files by name, of which one is open at a time.
 ///
-/// What it handed out is known of every source. What it holds is known of sources that tell their bytes
-/// alone; a file of the system tells none. The count of faults means the same in all sources.
+/// What it handed out is known of every source. What it holds is known of sources that tell their
+/// bytes alone; a file of the system tells none. The count of faults means the same in all sources.
 pub trait Source {
     // whether the source tells its bytes
     ghost tells: { Self → Bool };
 
-    // the bytes held under a name; `None` where nothing is held
+    // the bytes that are held under a name; `None` where nothing is held
     ghost held: { Self → List ℕ → Option (List ℕ) };
 
-    // the bytes left of the opened file
+    // the bytes left of the opened file; none where no file is open
     ghost left: { Self → List ℕ };
 
     // what it handed out: each name that was opened, or failed to be, with the bytes given since
@@ -53,8 +53,8 @@ pub trait Source {
         ensures no_fault { IsTrue (tells self.old) → held self.old name.now ≡ None
             → faults self.new ≡ faults self.old };
 
-    /// Reads the next bytes into the front of the buffer, and says how many. What stands behind them
-    /// in the buffer is left open.
+    /// Reads the next bytes into the front of the buffer, and says how many. What stands behind
+    /// them in the buffer is left open.
     ///
     /// # Errors
     ///

@@ -10,8 +10,8 @@ use crate::source::Failed;
 use std::io::Write;
 use std::marker::Model;
 
-/// A writer, such as standard output, that each write flushes. It tells no content: contracts see what it
-/// said it took, and its count of faults.
+/// A writer, such as standard output, that each write flushes. It tells no content: contracts see
+/// what it said it took, and its count of faults.
 #[derive(Drop)]
 pub struct StdSink<W: Write> {
     inner: W,
@@ -49,8 +49,8 @@ impl<W: Write> Sink for StdSink<W> {
 
     ghost faults = { λ s. s.faults };
 
-    /// Writes and flushes. An error of either is a fault, and so is a write that took nothing of a piece
-    /// that isn't empty.
+    /// Writes and flushes. An error of either is a fault, and so is a write that took nothing of a
+    /// piece that isn't empty.
     fn write(&mut self, bytes: &[u8]) -> Result<usize, Failed>
         ensures within { IfOk result (λ n. n ≤ length bytes.now) }
         ensures some { IfOk result (λ n. 0 < length bytes.now → 0 < n) }

@@ -25,9 +25,10 @@ impl Ledger for NoLedger {
     fn note(&mut self) {}
 }
 
-/// A ledger that counts its notes, up to the greatest number.
+/// A ledger that counts its notes, up to the greatest number of 128 bits, at which it stands still.
 #[derive(Drop)]
 pub struct CountLedger {
+    /// How many notes it took, or the greatest number.
     pub count: u128,
 }
 
@@ -39,8 +40,8 @@ impl Ledger for CountLedger {
     }
 }
 
-/// How many steps were taken, each of which a ledger was told of. The number itself stands in contracts
-/// alone, has no greatest value and takes no bytes.
+/// How many steps were taken, each of which a ledger was told of. The number itself stands in
+/// contracts alone, has no greatest value and takes no bytes.
 #[derive(Drop)]
 pub struct Steps<L: Ledger> {
     ledger: L,
@@ -57,7 +58,7 @@ impl<L: Ledger> Model for Steps<L> {
 }
 
 impl<L: Ledger> Steps<L> {
-    /// No step taken yet.
+    /// A counter of no step, with a ledger that is told of each step from now on.
     pub fn new(ledger: L) -> Steps<L>
         ensures { result ≡ record { taken = 0; ledger = ledger } }
     {
@@ -67,7 +68,7 @@ impl<L: Ledger> Steps<L> {
         }
     }
 
-    /// One step more, which the ledger is told of.
+    /// Counts one step more, which the ledger is told of.
     pub fn tick(&mut self)
         ensures taken { self.new.taken ≡ self.old.taken + 1 }
         ensures noted { L.notes self.old.ledger self.new.ledger }
@@ -76,7 +77,7 @@ impl<L: Ledger> Steps<L> {
         self.ledger.note();
     }
 
-    /// The ledger.
+    /// The ledger as it is now.
     pub fn ledger(&self) -> &L
         ensures { result.now ≡ self.now.ledger }
     {

@@ -45,7 +45,8 @@ impl From<Failed> for ReadFault {
     }
 }
 
-// The bytes that are left of the opened file, up to one more than the limit.
+// The bytes that are left of the file that is open, up to one more than the limit, which is in
+// bytes. They are read piece by piece, until a read gives none or the one more is there.
 fn read_left<S: Source>(alloc: Global, source: &mut S, limit: usize) -> Result<Vec<u8>, ReadFault>
     requires { limit < usize.MAX }
     ensures same { HoldsTheSame S.tells S.held source.old source.new }
@@ -72,9 +73,9 @@ fn read_left<S: Source>(alloc: Global, source: &mut S, limit: usize) -> Result<V
     Ok(bytes)
 }
 
-/// Opens the file of that name and reads its bytes, up to one more than the limit: a caller tells by the
-/// one more that the file is longer than the limit. No read asks for more than 4,096 bytes, nor for
-/// more than are still wanted.
+/// Opens the file of that name and reads its bytes, up to one more than the limit: a caller tells
+/// by the one more that the file is longer than the limit. No read asks for more than 4,096 bytes,
+/// nor for more than are still wanted.
 ///
 /// # Errors
 ///

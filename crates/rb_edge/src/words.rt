@@ -1,4 +1,4 @@
-//! The words of a command line.
+//! The words of a command line, each a list of bytes.
 
 ghost use Rattle.std.specs.Prelude.{◌≡◌, ◌≤◌, ◌↔◌, ℕ, List, [], ◌∷◌, ◌++◌, length, slice_get, IsNone, OnOk, OnErr};
 ghost use Rattle.std.specs.Option.{option_copied};
@@ -10,6 +10,7 @@ use std::marker::Model;
 /// A list of words, without the program's own name.
 #[derive(Drop)]
 pub struct Words {
+    // Where the memory of further words comes from.
     alloc: Global,
     words: Seq<Name>,
 }
@@ -53,7 +54,7 @@ impl Words {
         self.words.len()
     }
 
-    /// The word at index `i`, from 0.
+    /// The word at index `i`, from 0; `None` where there is none.
     pub fn get(&self, i: usize) -> Option<&[u8]>
         ensures value { option_copied result ≡ slice_get self.now i }
         ensures absent { IsNone result ↔ (length self.now ≤ i) }

@@ -3,6 +3,7 @@ use Rattle.rb_core.specs.declared.expression.Op.{Op}
 use Rattle.rb_target.specs.declared.instr.AluOp.{AluOp}
 use Rattle.rb_target.specs.declared.instr.AluOp.TheVariants as A
 
+-- the machine's operation that gives an operator's value
 abbrev pub alu_op_of : Op → AluOp
 alu_op_of Op.Add = A.Add
 alu_op_of Op.Sub = A.Sub

@@ -7,19 +7,21 @@ use Rattle.rb_target.specs.declared.code.CodeFun.{CodeFun}
 use Rattle.rb_target.specs.declared.fault.CodeFault.{CodeFault}
 use Rattle.rb_target.specs.declared.fault.CodeFault.TheVariants.{CodeSyntax, Memory}
 
--- the bytes stop being a text at a byte, or are the text of functions whose first fault this is
+-- The fault is true of the bytes: no text of functions goes on from the byte that it names, or the bytes are the text
+-- of functions of which it is the first fault. Want of memory says nothing of them.
 abbrev pub IsRefusal : List ℕ → CodeFault → Type 0
 IsRefusal bytes (CodeSyntax at) = StopsAt bytes at
 IsRefusal bytes Memory = Unit {0}
 IsRefusal bytes fault = (funs : List CodeFun) × IsTextOf bytes funs × IsFirstFault funs fault
 
--- the answer to the text of these functions: they themselves where they are valid together, else their first fault
+-- a result answers the text of these functions: it is the functions themselves, which are valid together, or their
+-- first fault, or want of memory, of which it says nothing
 abbrev pub IsAnswerTo : List CodeFun → Result (List CodeFun) CodeFault → Type 0
 IsAnswerTo funs (Ok code) = (code ≡ funs) × IsValid funs
 IsAnswerTo funs (Err Memory) = Unit {0}
 IsAnswerTo funs (Err fault) = IsFirstFault funs fault
 
--- these functions, unless memory is wanting
+-- the result is these functions, or want of memory, and no other fault
 abbrev pub IsThese : List CodeFun → Result (List CodeFun) CodeFault → Type 0
 IsThese funs (Ok read) = read ≡ funs
 IsThese funs (Err Memory) = Unit {0}

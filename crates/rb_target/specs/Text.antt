@@ -1,4 +1,7 @@
 -- Code as text: a line an instruction, its words with one blank between.
+--
+-- Texts are lists of bytes. A line is its first word, as `const`, the other words of the line, each after a blank,
+-- and the byte 10. Only the words after the first are of the type `Word`.
 use Rattle.std.specs.Prelude.{ℕ, List, [], ◌∷◌, ◌++◌, map, codes, Option, Some, None}
 use Rattle.std.specs.Fmt.{decimal}
 use Rattle.rb_target.specs.declared.instr.AluOp.{AluOp}
@@ -10,6 +13,7 @@ use Rattle.rb_target.specs.declared.word.Word.{Word}
 use Rattle.rb_target.specs.declared.word.Word.TheVariants.{Number, Op, Dash, Of}
 use Rattle.rb_target.specs.declared.code.CodeFun.{CodeFun}
 
+-- an operation's name, as the first word behind `alu` has it
 abbrev pub op_text : AluOp → List ℕ
 op_text Add = codes "add"
 op_text Sub = codes "sub"
@@ -20,12 +24,14 @@ op_text Xor = codes "xor"
 op_text Eq = codes "eq"
 op_text Lt = codes "lt"
 
+-- a word's bytes: a number in decimal, an operation's name, `-` or `of`
 abbrev pub word_text : Word → List ℕ
 word_text (Number n) = decimal n
 word_text (Op op) = op_text op
 word_text Dash = codes "-"
 word_text Of = codes "of"
 
+-- the first word of an instruction's line, which says what instruction it is
 abbrev pub key_text : Instr → List ℕ
 key_text (Const d c) = codes "const"
 key_text (Copy d a) = codes "copy"
@@ -40,17 +46,22 @@ key_text (Switch a other arms) = codes "switch"
 key_text (Call f ds froms) = codes "call"
 key_text (Return froms) = codes "return"
 
+-- numbers as words, in their order
 abbrev pub numbers : List ℕ → List Word
 numbers ns = map (λ n. Number n) ns
 
+-- a switch's arms as words, two for each in their order: the number and its target
 abbrev pub pairs : List SwitchArm → List Word
 pairs [] = []
 pairs (arm ∷ arms) = Number arm.number ∷ Number arm.target ∷ pairs arms
 
+-- the word for a switch's other target: its number, or a dash where there is none
 abbrev pub other_word : Option ℕ → Word
 other_word None = Dash
 other_word (Some t) = Number t
 
+-- the words of an instruction's line after the first: its parts in their order, with `of` in a call between the slots
+-- for the results and those of its words
 abbrev pub words_of : Instr → List Word
 words_of (Const d c) = Number d ∷ Number c ∷ []
 words_of (Copy d a) = Number d ∷ Number a ∷ []
@@ -65,27 +76,33 @@ words_of (Switch a other arms) = Number a ∷ other_word other ∷ pairs arms
 words_of (Call f ds froms) = Number f ∷ numbers ds ++ Of ∷ numbers froms
 words_of (Return froms) = numbers froms
 
--- the words, each after a blank
+-- the bytes of some words, each after a blank; none for no words
 abbrev pub spaced : List Word → List ℕ
 spaced [] = []
 spaced (w ∷ ws) = 32 ∷ word_text w ++ spaced ws
 
+-- a line, from its first word's bytes and its other words
 abbrev pub line : List ℕ → List Word → List ℕ
 line first ws = first ++ spaced ws ++ 10 ∷ []
 
+-- an instruction's line
 abbrev pub instr_text : Instr → List ℕ
 instr_text i = line (key_text i) (words_of i)
 
+-- a function's first line: `fun`, its name, and its numbers of parameters, results and slots
 abbrev pub head_text : CodeFun → List ℕ
 head_text f = codes "fun " ++ line f.name (Number f.params ∷ Number f.results ∷ Number f.slots ∷ [])
 
+-- the lines of a body, one an instruction
 abbrev pub body_text : List Instr → List ℕ
 body_text [] = []
 body_text (i ∷ is) = instr_text i ++ body_text is
 
+-- a function's lines: its first, those of its body, and the line `end`
 abbrev pub fun_text : CodeFun → List ℕ
 fun_text f = head_text f ++ body_text f.body ++ line (codes "end") []
 
+-- the text of some functions, one behind the other; empty for none
 abbrev pub code_text : List CodeFun → List ℕ
 code_text [] = []
 code_text (f ∷ fs) = fun_text f ++ code_text fs

@@ -1,4 +1,8 @@
 -- When functions are valid together.
+--
+-- A slot is one of a function's own words, by its number from 0. Functions, and the instructions of a body, are
+-- numbered from 0, too; `pc` is the number of an instruction, and a target one to which a jump or a switch goes.
+-- Offsets, sizes and alignments are bytes, and widths are bits.
 use Rattle.std.specs.Prelude.{◌≡◌, ℕ, ◌+◌, ◌-◌, ◌^◌, ◌<◌, ◌≤◌, ◌⊎◌, List, [], ◌∷◌, length, sum_by, Option, Some, None, slice_get, All, IfSome}
 use Rattle.rb_bits.specs.Words.{IsRange}
 use Rattle.rb_bytes.specs.Memory.{IsWidth, IsSize, IsAlign}
@@ -7,7 +11,9 @@ use Rattle.rb_target.specs.declared.instr.Instr.{Instr}
 use Rattle.rb_target.specs.declared.instr.Instr.TheVariants.{Const, Copy, Alu, Take, Put, Load, Store, Place, Jump, Switch, Call, Return}
 use Rattle.rb_target.specs.declared.code.CodeFun.{CodeFun}
 
--- the numbers of an instruction that are no slots and no targets
+-- The numbers of an instruction that are no slots and no targets are within their bounds: what a machine word can say
+-- for a constant and an arm's number, 1 to 64 bits for an operation, a range within 64 bits, an offset of at most
+-- 511, and the widths, sizes and alignments that memory takes.
 abbrev pub IsBounded : Instr → Type 0
 IsBounded (Const d c) = c < 2 ^ 64
 IsBounded (Copy d a) = Unit {0}
@@ -22,10 +28,11 @@ IsBounded (Switch a other arms) = All (λ (arm : SwitchArm). arm.number < 2 ^ 64
 IsBounded (Call f ds froms) = Unit {0}
 IsBounded (Return froms) = Unit {0}
 
+-- each of some slots is below a number
 abbrev pub AreSlots : ℕ → List ℕ → Type 0
 AreSlots n xs = All (λ a. a < n) xs
 
--- the instruction's slots are below a number
+-- each slot that an instruction names, to read it or to write it, is below a number
 abbrev pub SlotsFit : ℕ → Instr → Type 0
 SlotsFit n (Const d c) = d < n
 SlotsFit n (Copy d a) = (d < n) × (a < n)
@@ -44,32 +51,37 @@ SlotsFit n (Return froms) = AreSlots n froms
 abbrev pub IsTarget : ℕ → ℕ → ℕ → Type 0
 IsTarget long pc t = (pc < t) × (t < long)
 
+-- the targets of all arms lie behind the instruction pc and within the body's length
 abbrev pub AreArms : ℕ → ℕ → List SwitchArm → Type 0
 AreArms long pc arms = All (λ (arm : SwitchArm). IsTarget long pc arm.target) arms
 
+-- the targets of an instruction, if it has any, lie behind it, where pc is its number, and within the body's length
 abbrev pub TargetsFit : ℕ → ℕ → Instr → Type 0
 TargetsFit long pc (Jump t) = IsTarget long pc t
 TargetsFit long pc (Switch a other arms) = IfSome other (λ t. IsTarget long pc t) × AreArms long pc arms
 TargetsFit long pc i = Unit {0}
 
--- as many results and words as the function has
+-- there is a function to call, and the call has as many slots for results as the function has results, and as many
+-- words as it has parameters
 abbrev pub FitsCall : Option CodeFun → List ℕ → List ℕ → Type 0
 FitsCall None ds froms = ⊥
 FitsCall (Some f) ds froms = (length ds ≡ f.results) × (length froms ≡ f.params)
 
--- a call has its callee's numbers, and a return its own function's number of results
+-- a call has its callee's numbers of results and words, and a return as many words as its own function has results;
+-- other instructions always fit
 abbrev pub CallsFit : List CodeFun → ℕ → Instr → Type 0
 CallsFit funs results (Call f ds froms) = FitsCall (slice_get funs f) ds froms
 CallsFit funs results (Return froms) = length froms ≡ results
 CallsFit funs results i = Unit {0}
 
+-- the instruction i may stand at pc in the body of the function f, which is one of these functions
 pub record IsFine (funs : List CodeFun) (f : CodeFun) (pc : ℕ) (i : Instr) : Type 0 where
   pub bounded : IsBounded i
   pub slots : SlotsFit f.slots i
   pub targets : TargetsFit (length f.body) pc i
   pub calls : CallsFit funs f.results i
 
--- the slots that an instruction writes
+-- the slots that an instruction writes, in the order in which it names them
 abbrev pub dests : Instr → List ℕ
 dests (Const d c) = d ∷ []
 dests (Copy d a) = d ∷ []
@@ -84,27 +96,32 @@ dests (Switch a other arms) = []
 dests (Call f ds froms) = ds
 dests (Return froms) = []
 
--- how many slots are named as written, one named twice counted twice
+-- how many slots the instructions of a body name as written, one named twice counted twice
 abbrev pub dest_count : List Instr → ℕ
 dest_count body = sum_by (λ i. length (dests i)) body
 
+-- the last instruction of a body is a return, so the body has one
 abbrev pub EndsInReturn : List Instr → Type 0
 EndsInReturn body = (froms : List ℕ) × (slice_get body (length body - 1) ≡ Some (Return froms))
 
+-- the byte is a small letter, from a to z
 abbrev pub IsSmall : ℕ → Type 0
 IsSmall b = (97 ≤ b) × (b ≤ 122)
 
--- a letter, a digit or an underscore
+-- the byte is a letter, a digit or an underscore
 abbrev pub IsNameByte : ℕ → Type 0
 IsNameByte b = IsSmall b ⊎ ((65 ≤ b) × (b ≤ 90)) ⊎ ((48 ≤ b) × (b ≤ 57)) ⊎ (b ≡ 95)
 
--- a name that begins with a small letter
+-- a name, by its bytes, that begins with a small letter and goes on with letters, digits and underscores; none is
+-- empty
 abbrev pub IsLower : List ℕ → Type 0
 IsLower [] = ⊥
 IsLower (b ∷ bs) = IsSmall b × All IsNameByte bs
 
+-- the function f is valid beside these functions, which its calls name by their numbers
 pub record IsValidFun (funs : List CodeFun) (f : CodeFun) : Type 0 where
   pub named : IsLower f.name
+  -- each parameter has its slot
   pub params : f.params ≤ f.slots
   -- no more slots than the parameters and what is written, so that no small text asks for many
   pub written : f.slots ≤ f.params + dest_count f.body
@@ -113,6 +130,7 @@ pub record IsValidFun (funs : List CodeFun) (f : CodeFun) : Type 0 where
   -- what a machine word can say
   pub small : (f.slots < 2 ^ 64) × (f.results < 2 ^ 64) × (length f.body < 2 ^ 64)
 
+-- the functions are valid together; a machine word counts them
 pub record IsValid (funs : List CodeFun) : Type 0 where
   pub few : length funs < 2 ^ 64
   pub each : (n : ℕ) (f : CodeFun) → slice_get funs n ≡ Some f → IsValidFun funs f

@@ -1,4 +1,5 @@
-//! The code of one function while it is made.
+//! The code of one function while it is made. Instructions and slots are numbered from 0, and a
+//! target is the number of an instruction.
 
 ghost use Rattle.std.specs.Prelude.{◌≡◌, ℕ, ◌+◌, ◌<◌, ◌≤◌, ◌^◌, ◌∷◌, ◌++◌, [], IfOk, OnOk, OnErr, length, Some, Option};
 ghost use Rattle.rb_target.specs.Sheet.{Sheet, most_instrs, pushed, with_slot, patched, finished, retargeted, retargeted_arm, IsHole, IsHoleIn, AreWritten};
@@ -11,24 +12,28 @@ use rb_core::types::Name;
 use std::alloc::{AllocError, Global};
 use std::marker::Model;
 
-/// The instructions of a body; clauses cite it as `most_instrs` of `specs/Sheet.antt`.
+/// The most instructions of a body; clauses cite it as `most_instrs` of `specs/Sheet.antt`.
 pub const MOST_INSTRS: usize = 1 << 24;
 
-/// A target that is still open: the number of a jump or a switch, and which of its targets. No arm
-/// is the jump's own target, or the switch's other one. `leaf` says whose target it is, to whoever
-/// made the hole.
+/// A target that is still open.
 #[derive(Clone, Copy, PartialEq, Eq)]
 pub struct Hole {
+    /// The number of the jump or the switch.
     pub pc: usize,
+    /// Which of its targets: the index of an arm, or `None` for a jump's target and a switch's
+    /// other one.
     pub arm: Option<usize>,
+    /// Whose target it is, by a number that whoever makes the hole chooses.
     pub leaf: usize,
 }
 
-/// Instructions, and the slots that are in use: the parameters, then one for each call of `fresh`.
+/// The instructions so far, and the slots that are in use: the parameters, then one for each call
+/// of `fresh`.
 #[derive(Drop)]
 pub struct Body {
     code: Seq<Instr>,
     params: usize,
+    // The number of slots that `fresh` gave.
     given: usize,
 }
 
@@ -44,7 +49,7 @@ impl Model for Body {
 }
 
 impl Body {
-    /// No instruction yet. Bodies have at most 256 parameters.
+    /// No instruction yet, and a slot for each of at most 256 parameters.
     pub fn new(alloc: Global, params: usize) -> Body
         requires { params ≤ 256 }
         ensures { result ≡ record { code = []; params = params; slots = params } }
@@ -60,7 +65,8 @@ impl Body {
     ///
     /// # Errors
     ///
-    /// Want of memory, also where the body has `MOST_INSTRS` instructions.
+    /// Want of memory, also where the body has `MOST_INSTRS` instructions already. The body stays
+    /// as it is.
     pub fn push(&mut self, instr: Instr) -> Result<(), AllocError>
         ensures ok { OnOk result (self.new ≡ pushed self.old instr) }
         ensures err { OnErr result (self.new ≡ self.old) }
@@ -72,11 +78,12 @@ impl Body {
         Ok(())
     }
 
-    /// A slot that nothing else uses: the next after the parameters and all slots given before.
+    /// The number of a slot that nothing else uses: the next after the parameters and all slots
+    /// given before.
     ///
     /// # Errors
     ///
-    /// Want of memory, where no number of a slot is left.
+    /// Want of memory, where no number of a slot is left. The body stays as it is.
     pub fn fresh(&mut self) -> Result<usize, AllocError>
         ensures slot { IfOk result (λ d. d ≡ self.old.slots) }
         ensures ok { OnOk result (self.new ≡ with_slot self.old) }
@@ -90,7 +97,7 @@ impl Body {
         Ok(slot)
     }
 
-    /// The number of instructions, which is that of the next one.
+    /// How many instructions there are, which is the number that the next one gets.
     pub fn len(&self) -> usize
         ensures value { result ≡ length self.now.code }
         ensures few { result ≤ most_instrs }
@@ -98,7 +105,8 @@ impl Body {
         self.code.len()
     }
 
-    /// Sets one target, of an instruction before it.
+    /// Sets the target that a hole names to an instruction behind the hole's own, which may still
+    /// be to come.
     pub fn patch(&mut self, hole: &Hole, target: usize)
         requires inside { IsHole self.old.code hole.now }
         requires forward { hole.now.pc < target }
@@ -109,7 +117,8 @@ impl Body {
         let _jump = self.code.replace(hole.pc, new);
     }
 
-    /// The function. Its slots are the parameters and the slots given, each of which some instruction writes.
+    /// The function of that name with this number of results. Its slots are the parameters and the
+    /// slots given, each of which some instruction writes.
     pub fn finish(self, name: Name, results: usize) -> CodeFun
         requires { AreWritten self }
         ensures value { result ≡ finished self name results }
@@ -131,7 +140,8 @@ impl Body {
     }
 }
 
-// The instruction with one target changed.
+// An instruction with `target` in place of one of its targets: that of the arm with this index, or
+// for `None` a jump's own or a switch's other one.
 fn retarget(instr: Instr, arm: Option<usize>, target: usize) -> Instr
     requires { IsHoleIn (Some instr) arm }
     ensures { result ≡ retargeted instr arm target }
@@ -159,7 +169,7 @@ fn retarget(instr: Instr, arm: Option<usize>, target: usize) -> Instr
     }
 }
 
-// The arms with one target changed.
+// A switch's arms, of which that with index `k` has this target in place of its own.
 fn retarget_arm(arms: Seq<SwitchArm>, k: usize, target: usize) -> Seq<SwitchArm>
     requires { k < length arms }
     ensures { result ≡ retargeted_arm arms k target }

@@ -1,4 +1,5 @@
-//! Whether functions are valid together.
+//! Whether functions are valid together. Functions, the instructions of a body and slots are
+//! numbered from 0; `pc` is the number of an instruction, `n` that of a function.
 
 ghost use Rattle.std.specs.Prelude.{◌≡◌, ◌↔◌, ◌<◌, ℕ, IsTrue, IsOk, IfOk, OnOk, IfErr, OnErr, Some, slice_get, length, not};
 ghost use Rattle.rb_target.specs.Validity.{AreSlots, AreArms, IsTarget, SlotsFit, TargetsFit, CallsFit, EndsInReturn, IsValid, IsValidFun, dests};
@@ -11,14 +12,14 @@ use crate::fault::CodeFault;
 use crate::instr::{Instr, SwitchArm};
 use rb_core::seq::Seq;
 
-// Whether each slot is below their number.
+// Whether each of some slots is below the number of slots, `slots`; so it is where there is none.
 fn are_slots(slots: usize, items: &[usize]) -> bool
     ensures { IsTrue result ↔ AreSlots slots items.now }
 {
     items.iter().all(|slot| *slot < slots)
 }
 
-// Whether an instruction's slots are below their number.
+// Whether each slot that an instruction names is below the number of slots, `slots`.
 fn slots_fit(slots: usize, instr: &Instr) -> bool
     ensures { IsTrue result ↔ SlotsFit slots instr.now }
 {
@@ -39,7 +40,7 @@ fn slots_fit(slots: usize, instr: &Instr) -> bool
     }
 }
 
-// How many slots an instruction names as written.
+// How many slots an instruction names as written; one named twice counts twice.
 fn dest_len(instr: &Instr) -> usize
     ensures { result ≡ length (dests instr.now) }
 {
@@ -56,7 +57,8 @@ fn dest_len(instr: &Instr) -> usize
     }
 }
 
-// Whether a function has enough slots for its parameters, and no more beyond them than its body writes.
+// Whether a function has a slot for each parameter, and no more beyond these than its body names as
+// written.
 fn counts_slots(fun: &CodeFun) -> bool
     ensures { IsTrue result ↔ CountsSlots fun.now }
 {
@@ -70,21 +72,23 @@ fn counts_slots(fun: &CodeFun) -> bool
     unwritten == 0
 }
 
-// Whether a target lies behind an instruction and within the body.
+// Whether a target lies behind the instruction `pc` and within a body of `long` instructions.
 fn is_target(long: usize, pc: usize, target: usize) -> bool
     ensures { IsTrue result ↔ IsTarget long pc target }
 {
     pc < target && target < long
 }
 
-// Whether the targets of all arms lie behind an instruction and within the body.
+// Whether the targets of all arms lie behind the instruction `pc` and within a body of `long`
+// instructions; so it is where there is no arm.
 fn are_arms(long: usize, pc: usize, arms: &[SwitchArm]) -> bool
     ensures { IsTrue result ↔ AreArms long pc arms.now }
 {
     arms.iter().all(|arm| is_target(long, pc, arm.target))
 }
 
-// Whether an instruction's targets lie behind it and within the body.
+// Whether an instruction's targets, if it has any, lie behind it and within the body: `pc` is its
+// number, and `long` the number of the body's instructions.
 fn targets_fit(long: usize, pc: usize, instr: &Instr) -> bool
     ensures { IsTrue result ↔ TargetsFit long pc instr.now }
 {
@@ -107,14 +111,16 @@ fn targets_fit(long: usize, pc: usize, instr: &Instr) -> bool
     }
 }
 
-// Whether the last instruction is a return.
+// Whether the last instruction of a body is a return; false for a body that has none.
 fn ends_in_return(body: &[Instr]) -> bool
     ensures { IsTrue result ↔ EndsInReturn body.now }
 {
     matches!(body.last(), Some(Instr::Return(_)))
 }
 
-// Whether a call has its callee's numbers of results and words, and a return its function's number of results.
+// Whether a call has its callee's numbers of results and words, and a return as many words as its
+// own function has results, `results`. A call of no function does not fit, and other instructions
+// do.
 fn calls_fit(funs: &[CodeFun], results: usize, instr: &Instr) -> bool
     ensures { IsTrue result ↔ CallsFit funs.now results instr.now }
 {
@@ -137,7 +143,8 @@ fn calls_fit(funs: &[CodeFun], results: usize, instr: &Instr) -> bool
     }
 }
 
-// Whether the slots are at fault at this instruction.
+// Whether a fault of slots stands at the instruction `pc`: at 0 the function's number of slots is
+// wrong, or the instruction names a slot that the function hasn't got.
 fn has_bad_slot(fun: &CodeFun, pc: usize) -> bool
     ensures bad { IsTrue result → HasBadSlot fun.now pc }
     ensures good { IsTrue (not result) → HasGoodSlots fun.now pc }
@@ -151,7 +158,8 @@ fn has_bad_slot(fun: &CodeFun, pc: usize) -> bool
     }
 }
 
-// Whether a target, or the end of the body, is at fault at this instruction.
+// Whether a fault of targets stands at the instruction `pc`: it is the last one, or 0 in a body
+// without one, and the body doesn't end in a return; or one of its targets is no later instruction.
 fn has_bad_jump(fun: &CodeFun, pc: usize) -> bool
     ensures bad { IsTrue result → HasBadJump fun.now pc }
     ensures good { IsTrue (not result) → HasGoodJumps fun.now pc }
@@ -166,7 +174,8 @@ fn has_bad_jump(fun: &CodeFun, pc: usize) -> bool
     }
 }
 
-// Whether a call or a return is at fault at this instruction.
+// Whether a fault of calls stands at the instruction `pc`: it is a call or a return whose numbers
+// don't fit. So it is not where there is no such instruction.
 fn has_bad_call(funs: &[CodeFun], fun: &CodeFun, pc: usize) -> bool
     ensures bad { IsTrue result → HasBadCall funs.now fun.now pc }
     ensures good { IsTrue (not result) → HasGoodCalls funs.now fun.now pc }
@@ -177,7 +186,8 @@ fn has_bad_call(funs: &[CodeFun], fun: &CodeFun, pc: usize) -> bool
     }
 }
 
-// The fault with the least number at one instruction.
+// The first fault that stands at the instruction `pc` of function `n`, or none: of slots, then of
+// targets, then of calls.
 fn check_instr(funs: &[CodeFun], n: usize, pc: usize) -> Result<(), CodeFault>
     requires { n < length funs.now }
     ensures ok { OnOk result (InFun funs.now n (λ f. IsFaultless funs.now f pc)) }
@@ -196,7 +206,8 @@ fn check_instr(funs: &[CodeFun], n: usize, pc: usize) -> Result<(), CodeFault>
     Ok(())
 }
 
-// The first fault of one function.
+// The first fault of function `n`, or none: by instruction, then of slots, targets and calls. A
+// body without an instruction is tried at 0.
 fn check_fun(funs: &[CodeFun], n: usize) -> Result<(), CodeFault>
     requires spelled { AreSpelled funs.now }
     requires within { n < length funs.now }
@@ -210,7 +221,8 @@ fn check_fun(funs: &[CodeFun], n: usize) -> Result<(), CodeFault>
     Ok(())
 }
 
-// The first fault of all functions.
+// The first fault of all functions, or none: by function, then by instruction, then of slots,
+// targets and calls.
 fn check_funs(funs: &[CodeFun]) -> Result<(), CodeFault>
     requires { AreSpelled funs.now }
     ensures ok { OnOk result (IsValid funs.now) }
@@ -222,12 +234,13 @@ fn check_funs(funs: &[CodeFun]) -> Result<(), CodeFault>
     Ok(())
 }
 
-/// The functions as code, where they are valid together. It takes no memory, and its time grows with the
+/// The functions as code, where they are valid together. They are functions as a text can hold
+/// them, which bounds their names and numbers. It takes no memory, and its time grows with the
 /// length of their text.
 ///
 /// # Errors
 ///
-/// The first fault: by function, then by instruction, then by the fault's number.
+/// The first fault: by function, then by instruction, then of slots before targets before calls.
 pub fn check(funs: Seq<CodeFun>) -> Result<Code, CodeFault>
     requires { AreSpelled funs }
     ensures ok { IfOk result (λ code. code ≡ funs) }

@@ -9,19 +9,23 @@ use rb_core::seq::Seq;
 use rb_core::types::Name;
 use std::marker::Model;
 
-/// A function: its numbers of parameters, results and slots, and its instructions. The first slots
-/// hold the parameters, the others begin as 0.
+/// A function. A slot is one of its own words, of 64 bits: the first slots hold the parameters, the
+/// others begin as 0.
 #[derive(Drop)]
 pub struct CodeFun {
     pub name: Name,
+    /// How many words it is called with.
     pub params: usize,
+    /// How many words it gives back.
     pub results: usize,
+    /// How many slots it has, the parameters' included.
     pub slots: usize,
+    /// Its instructions, numbered from 0.
     pub body: Seq<Instr>,
 }
 
-/// Functions that are valid together: each slot, target and call is one of theirs, jumps go forward,
-/// and each body ends in a return.
+/// Functions that are valid together: each slot, target and call is one of theirs, jumps go
+/// forward, and each body ends in a return.
 #[derive(Drop)]
 pub struct Code {
     funs: Seq<CodeFun>,
@@ -40,7 +44,7 @@ impl Model for Code {
 }
 
 impl Code {
-    /// The functions as code.
+    /// These functions, valid together, as code.
     pub fn new(funs: Seq<CodeFun>) -> Code
         requires { IsValid funs }
         ensures value { result ≡ funs }
@@ -49,7 +53,7 @@ impl Code {
         Code { funs }
     }
 
-    /// The functions, and what every run of them can rest on.
+    /// The functions, in their order, and what every run of them can rest on.
     pub fn funs(&self) -> &[CodeFun]
         ensures value { result.now ≡ self.now }
         ensures valid { IsValid self.now }

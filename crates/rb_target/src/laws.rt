@@ -1,4 +1,5 @@
-//! Laws of instructions, targets and calls, each the contract of a function that does nothing.
+//! Laws of instructions, targets, calls and faults, each the contract of a function that does
+//! nothing. A hole names a target that is still open in the code of a function which is being made.
 
 ghost use Rattle.std.specs.Prelude.{◌≡◌, ℕ, ◌⊎◌, true, List};
 ghost use Rattle.rb_target.specs.Spelled.{AreSpelled};
@@ -16,38 +17,45 @@ ghost use Rattle.rb_target.specs.Sheet.{Sheet, IsHole, patched};
 ghost use Rattle.rb_target.specs.Targets.{SetsTarget};
 ghost use Rattle.rb_target.specs.Validity.{IsLower, IsValid};
 
-/// Patching sets the hole's target and changes nothing else: the length, the other targets, the other
-/// instructions and the slots that are written stay.
+/// To patch the code of a function sets the target that a hole of it names and changes nothing
+/// else: the number of instructions, the other targets, the other instructions and the slots that
+/// are written stay.
 pub fn patching_sets_one_target()
-    ensures { (b : Sheet) (h : HoleDecl) (t : ℕ) → IsHole b.code h → SetsTarget b h t (patched b h t) }
+    ensures { (b : Sheet) (h : HoleDecl) (t : ℕ) → IsHole b.code h
+        → SetsTarget b h t (patched b h t) }
 {}
 
-/// A call costs one of the calls that are left, and a return tells those that are left then.
+/// A call costs one of the calls that are left and is spent where there is none, and a return tells
+/// how many are left then.
 pub fn calls_cost_one()
     ensures { (funs : List CodeFunDecl) → AreCalls funs }
 {}
 
-/// A run of valid code keeps a good memory good.
+/// A call of a function of valid code keeps a good memory good, however it ends.
 pub fn runs_keep_memory_good()
     ensures { (funs : List CodeFunDecl) → IsValid funs → KeepGood funs }
 {}
 
-/// The machine's operation for an operator gives the operator's value.
+/// The machine's operation for an operator of the language gives the operator's value, at each
+/// width in bits.
 pub fn operations_are_operators()
-    ensures { (op : OpDecl) (width a b : ℕ) → alu_of (alu_op_of op) width a b ≡ op_value op width a b }
+    ensures { (op : OpDecl) (width a b : ℕ)
+        → alu_of (alu_op_of op) width a b ≡ op_value op width a b }
 {}
 
-/// The names that a program may give its functions are those that code may.
+/// The names that a program may give its functions are just those that functions of code may have.
 pub fn names_are_shared()
     ensures of_programs { (name : List ℕ) → is_lower name ≡ true → IsLower name }
     ensures of_code { (name : List ℕ) → IsLower name → is_lower name ≡ true }
 {}
 
-/// Functions that are valid together have no fault. Others that a text can hold have a first fault, where
-/// machine words count them and their instructions, and no functions have two.
+/// Functions that are valid together have no fault. Others that a text can hold have a first fault,
+/// where machine words count them and their instructions. No functions have two first faults.
 pub fn faults_decide_validity()
-    ensures none { (funs : List CodeFunDecl) (fault : CodeFaultDecl) → IsValid funs → ¬ Stands funs fault }
+    ensures none { (funs : List CodeFunDecl) (fault : CodeFaultDecl) → IsValid funs
+        → ¬ Stands funs fault }
     ensures some { (funs : List CodeFunDecl) → AreSpelled funs → IsCountable funs
         → IsValid funs ⊎ ((fault : CodeFaultDecl) × IsFirstFault funs fault) }
-    ensures one { (funs : List CodeFunDecl) (a b : CodeFaultDecl) → IsFirstFault funs a → IsFirstFault funs b → a ≡ b }
+    ensures one { (funs : List CodeFunDecl) (a b : CodeFaultDecl) → IsFirstFault funs a
+        → IsFirstFault funs b → a ≡ b }
 {}

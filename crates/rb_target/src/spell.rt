@@ -1,4 +1,6 @@
-//! Code as text.
+//! Code as text: a line for each instruction. A line is its first word, which says what it is, the
+//! other words, each after a blank, and the line's end. Words are the items of `Word`: those after
+//! a line's first.
 
 ghost use Rattle.std.specs.Prelude.{◌≡◌, ◌++◌, ◌∷◌, [], IfOk, List};
 ghost use Rattle.rb_target.specs.Validity.{IsValid};
@@ -10,7 +12,7 @@ use crate::word::{Word, key_name, op_name};
 use rb_core::decimal::digits;
 use std::alloc::{AllocError, Global};
 
-// The words of some slots.
+// Adds the words of some slots, their numbers, in their order.
 fn push_slots(words: &mut Vec<Word>, slots: &[usize]) -> Result<(), AllocError>
     ensures { IfOk result (λ _. words.new.items ≡ words.old.items ++ numbers slots.now) }
 {
@@ -20,7 +22,7 @@ fn push_slots(words: &mut Vec<Word>, slots: &[usize]) -> Result<(), AllocError>
     Ok(())
 }
 
-// The words of some arms.
+// Adds the words of a switch's arms, in their order: of each its number, then its target.
 fn push_arms(words: &mut Vec<Word>, arms: &[SwitchArm]) -> Result<(), AllocError>
     ensures { IfOk result (λ _. words.new.items ≡ words.old.items ++ pairs arms.now) }
 {
@@ -30,7 +32,7 @@ fn push_arms(words: &mut Vec<Word>, arms: &[SwitchArm]) -> Result<(), AllocError
     Ok(())
 }
 
-// The words of some numbers.
+// Adds the words of some numbers, in their order.
 fn push_numbers(words: &mut Vec<Word>, items: &[u64]) -> Result<(), AllocError>
     ensures { IfOk result (λ _. words.new.items ≡ words.old.items ++ numbers items.now) }
 {
@@ -49,7 +51,7 @@ fn plain(alloc: Global, items: &[u64]) -> Result<Vec<Word>, AllocError>
     Ok(words)
 }
 
-// The words of an instruction's line after its first.
+// The words of an instruction's line after its first: its parts in their order.
 fn words(alloc: Global, instr: &Instr) -> Result<Vec<Word>, AllocError>
     ensures { IfOk result (λ v. v.items ≡ words_of instr.now) }
 {
@@ -89,7 +91,8 @@ fn words(alloc: Global, instr: &Instr) -> Result<Vec<Word>, AllocError>
     }
 }
 
-// The words of a switch.
+// The words of a switch's line after its first: the slot that chooses, the other target or a dash
+// where there is none, and the arms.
 fn switch_words(
     alloc: Global,
     from: usize,
@@ -107,7 +110,8 @@ fn switch_words(
     Ok(words)
 }
 
-// The words of a call.
+// The words of a call's line after its first: the function's number, the slots for its results,
+// `of`, and the slots of its words.
 fn call_words(
     alloc: Global,
     fun: usize,
@@ -123,7 +127,7 @@ fn call_words(
     Ok(words)
 }
 
-// A blank and a word.
+// Adds a blank and a word to a text.
 fn push_word(text: &mut Vec<u8>, word: Word) -> Result<(), AllocError>
     ensures { IfOk result (λ _. text.new.items ≡ text.old.items ++ 32 ∷ word_text word) }
 {
@@ -137,7 +141,7 @@ fn push_word(text: &mut Vec<u8>, word: Word) -> Result<(), AllocError>
     Ok(())
 }
 
-// A line: its first word, the others each after a blank, and the line's end.
+// Adds a line to a text: its first word, the others each after a blank, and the line's end.
 fn push_line(text: &mut Vec<u8>, first: &[u8], words: &[Word]) -> Result<(), AllocError>
     ensures { IfOk result (λ _. text.new.items ≡ text.old.items ++ line first.now words.now) }
 {
@@ -147,7 +151,7 @@ fn push_line(text: &mut Vec<u8>, first: &[u8], words: &[Word]) -> Result<(), All
     Ok(())
 }
 
-// Words, each after a blank.
+// Adds words to a text, each after a blank.
 fn push_words(text: &mut Vec<u8>, words: &[Word]) -> Result<(), AllocError>
     ensures { IfOk result (λ _. text.new.items ≡ text.old.items ++ spaced words.now) }
 {
@@ -157,7 +161,7 @@ fn push_words(text: &mut Vec<u8>, words: &[Word]) -> Result<(), AllocError>
     Ok(())
 }
 
-// The lines of a body, one an instruction.
+// Adds the lines of a body to a text, one an instruction.
 fn push_body(alloc: Global, text: &mut Vec<u8>, body: &[Instr]) -> Result<(), AllocError>
     ensures { IfOk result (λ _. text.new.items ≡ text.old.items ++ body_text body.now) }
 {
@@ -168,7 +172,7 @@ fn push_body(alloc: Global, text: &mut Vec<u8>, body: &[Instr]) -> Result<(), Al
     Ok(())
 }
 
-// A function: its first line, the lines of its body, and the line `end`.
+// Adds a function to a text: its first line, the lines of its body, and the line `end`.
 fn push_fun(alloc: Global, text: &mut Vec<u8>, fun: &CodeFun) -> Result<(), AllocError>
     ensures { IfOk result (λ _. text.new.items ≡ text.old.items ++ fun_text fun.now) }
 {
@@ -183,15 +187,16 @@ fn push_fun(alloc: Global, text: &mut Vec<u8>, fun: &CodeFun) -> Result<(), Allo
     Ok(())
 }
 
-/// The code text: for each function the line `fun NAME PARAMS RESULTS SLOTS`, its instructions, one a
-/// line, and the line `end`. No other code has the same text.
+/// The code text: for each function the line `fun NAME PARAMS RESULTS SLOTS`, its instructions, one
+/// a line, and the line `end`. No other code has the same text.
 ///
 /// # Errors
 ///
 /// Want of memory.
 pub fn spell_code(alloc: Global, code: &Code) -> Result<Vec<u8>, AllocError>
     ensures text { IfOk result (λ v. v.items ≡ code_text code.now) }
-    ensures one_to_one { (funs : List CodeFun) → IsValid funs → code_text funs ≡ code_text code.now → funs ≡ code.now }
+    ensures one_to_one { (funs : List CodeFun) → IsValid funs → code_text funs ≡ code_text code.now
+        → funs ≡ code.now }
 {
     let mut text = Vec::new(alloc);
     let funs = code.funs();

@@ -8,7 +8,9 @@ use crate::instr::{AluOp, Instr};
 /// A word after a line's first.
 #[derive(Clone, Copy, PartialEq, Eq)]
 pub enum Word {
+    /// A number, written in decimal.
     Number(u64),
+    /// An operation's name, as `add`.
     Op(AluOp),
     /// `-`, where a switch has no other target.
     Dash,
@@ -16,7 +18,7 @@ pub enum Word {
     Of,
 }
 
-/// An operation's name.
+/// An operation's name in code texts.
 pub fn op_name(op: AluOp) -> &'static [u8]
     ensures { result.now ≡ op_text op }
 {
@@ -32,7 +34,7 @@ pub fn op_name(op: AluOp) -> &'static [u8]
     }
 }
 
-/// The first word of an instruction's line.
+/// The first word of an instruction's line, which says what instruction it is.
 pub fn key_name(instr: &Instr) -> &'static [u8]
     ensures { result.now ≡ key_text instr.now }
 {
