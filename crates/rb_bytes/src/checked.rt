@@ -168,22 +168,33 @@ impl CheckedMemory {
 impl ByteMemory for CheckedMemory {
     ghost CHECKS = { true };
 
+    /// Each load and each store is tested.
     const CHECKS: bool = true;
 
     ghost memory = { λ m. m };
 
+    /// The address at which the region ends.
     fn limit(&self) -> u64 {
         self.limit
     }
 
+    /// The address from which on the next block is placed.
     fn next(&self) -> u64 {
         self.next
     }
 
+    /// The number of blocks.
     fn blocks(&self) -> u64 {
         self.blocks
     }
 
+    /// Places a block of `size` bytes at the least multiple of `align` from the next address on,
+    /// with none of its bytes marked as written. The lists grow up to its end, in memory that the
+    /// region has.
+    ///
+    /// # Errors
+    ///
+    /// `Full` where the block would end above the limit; then nothing changes.
     fn place(&mut self, size: u64, align: u64) -> Result<u64, Full> {
         let at = (self.next + (align - 1)) / align * align;
         if at + size > self.limit {
@@ -203,6 +214,12 @@ impl ByteMemory for CheckedMemory {
         Ok(at)
     }
 
+    /// The number in `width` bits from the byte at `offset` on of the block that begins at the
+    /// base.
+    ///
+    /// # Errors
+    ///
+    /// `Astray` by the size of the block, then `Unwritten` by the marks of the bytes.
     fn load(&self, base: u64, offset: u64, width: u64) -> Result<u64, Trap> {
         if !self.holds(base, offset, width / 8) {
             return Err(Trap::Astray(base, offset));
@@ -215,6 +232,12 @@ impl ByteMemory for CheckedMemory {
         )
     }
 
+    /// Writes the `width` low bits of a word into the bytes from `offset` on of the block that
+    /// begins at the base, and marks these as written.
+    ///
+    /// # Errors
+    ///
+    /// `Astray` by the size of the block; then nothing changes.
     fn store(&mut self, base: u64, offset: u64, width: u64, word: u64) -> Result<(), Trap> {
         if !self.holds(base, offset, width / 8) {
             return Err(Trap::Astray(base, offset));

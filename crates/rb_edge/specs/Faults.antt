@@ -1,4 +1,5 @@
--- Counts of faults: how often a source or a sink failed since it was made, as far as a machine word counts.
+-- Counts of faults: how many calls of a source or a sink were a fault since it was made, as far as a machine word
+-- counts.
 use Rattle.std.specs.Prelude.{◌≡◌, ℕ, ◌+◌, ◌-◌, ◌^◌, ◌<◌, ◌==◌, if◌then◌else◌, ◌⊎◌}
 
 -- the greatest count of faults, at which a count stands still

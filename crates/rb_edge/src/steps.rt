@@ -22,6 +22,7 @@ pub struct NoLedger;
 impl Ledger for NoLedger {
     ghost notes = { λ old new. new ≡ old };
 
+    /// Does nothing.
     fn note(&mut self) {}
 }
 
@@ -35,6 +36,7 @@ pub struct CountLedger {
 impl Ledger for CountLedger {
     ghost notes = { λ old new. new.count ≡ min (old.count + 1) (2 ^ 128 - 1) };
 
+    /// Counts the note.
     fn note(&mut self) {
         self.count = self.count.saturating_add(1);
     }

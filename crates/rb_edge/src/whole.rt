@@ -32,6 +32,7 @@ pub enum ReadFault {
 impl From<AllocError> for ReadFault {
     ghost from_gives = { λ _ fault. fault ≡ Memory };
 
+    /// Want of memory is told as such.
     fn from(_: AllocError) -> ReadFault {
         ReadFault::Memory
     }
@@ -40,6 +41,7 @@ impl From<AllocError> for ReadFault {
 impl From<Failed> for ReadFault {
     ghost from_gives = { λ _ fault. fault ≡ Failed };
 
+    /// The source failed.
     fn from(_: Failed) -> ReadFault {
         ReadFault::Failed
     }

@@ -31,7 +31,7 @@ pub record World : Type 0 where
   -- how many instructions were begun so far
   pub taken : ℕ
 
--- how a call ended, and the world as it was then
+-- how a call, or what goes on in one, ended, and the world as it was then
 pub record Outcome : Type 0 where
   pub ended : End
   pub world : World
@@ -180,7 +180,8 @@ slots_in (Some f) = f.slots
 abbrev pub body_of : List CodeFun → ℕ → List Instr
 body_of funs f = body_in (slice_get funs f)
 
--- the slots of the function f as it begins: the words that it is called with, and 0 in the others
+-- the slots of the function f as it begins: the words that it is called with, and 0 in the others; with more words
+-- than it has slots, or where there is no such function, the words alone
 abbrev pub first_slots : List CodeFun → ℕ → List ℕ → List ℕ
 first_slots funs f words = words ++ replicate (slots_in (slice_get funs f) - length words) 0
 

@@ -75,7 +75,7 @@ pub record AgreesAt (final code : List Instr) (hs : List Hole) (pc : ℕ) : Type
 abbrev pub Finishes : List Instr → List Instr → List Hole → ℕ → ℕ → Type 0
 Finishes final code hs a b = (pc : ℕ) → a ≤ pc → pc < b → AgreesAt final code hs pc
 
--- the sheet c is the sheet b with the target t at the hole h
+-- the sheet c is the sheet b with the target t at the hole h, and nothing else changed
 pub record SetsTarget (b : Sheet) (h : Hole) (t : ℕ) (c : Sheet) : Type 0 where
   -- no instruction comes or goes
   pub long : length c.code ≡ length b.code

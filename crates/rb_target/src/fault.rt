@@ -33,6 +33,7 @@ pub enum CodeFault {
 impl From<AllocError> for CodeFault {
     ghost from_gives = { λ _ e. e ≡ Memory };
 
+    /// Want of memory is told as such.
     fn from(_e: AllocError) -> CodeFault {
         CodeFault::Memory
     }
