@@ -77,7 +77,8 @@ fn write_word(marks: &mut [u8], bytes: &mut [u8], at: u64, count: u64, word: u64
     requires even { length marks.old ≡ length bytes.old }
     requires count { IsByteCount count }
     requires within { at + count ≤ length bytes.old }
-    ensures { written_in marks.new bytes.new ≡ write_le (written_in marks.old bytes.old) count at word }
+    ensures { written_in marks.new bytes.new
+        ≡ write_le (written_in marks.old bytes.old) count at word }
 {
     let bits = 8 * count as u32;
     store_le(

@@ -74,7 +74,9 @@ pub trait ByteMemory {
     /// a memory does not check, its caller sees to it that none comes.
     fn store(&mut self, base: u64, offset: u64, width: u64, word: u64) -> Result<(), Trap>
         requires width { IsWidth width }
-        requires unchecked { CHECKS ≡ false → IsOk (store_of (memory self.old) base offset width word).0 }
-        ensures value { (result, memory self.new) ≡ store_of (memory self.old) base offset width word }
+        requires unchecked { CHECKS ≡ false
+            → IsOk (store_of (memory self.old) base offset width word).0 }
+        ensures value { (result, memory self.new)
+            ≡ store_of (memory self.old) base offset width word }
         ensures good { IsGood (memory self.new) };
 }

@@ -32,7 +32,8 @@ pub trait Sink {
         ensures same { tells self.new ≡ tells self.old }
         ensures later { faults self.old ≤ faults self.new }
 
-        ensures said { IfOk result (λ n. account self.new ≡ after_take (take n bytes.now) (account self.old)) }
+        ensures said { IfOk result (λ n. account self.new
+            ≡ after_take (take n bytes.now) (account self.old)) }
         ensures breaks { OnErr result (account self.new ≡ after_break (account self.old)) }
 
         ensures within { IfOk result (λ n. n ≤ length bytes.now) }

@@ -42,9 +42,11 @@ pub trait Source {
         ensures later { faults self.old ≤ faults self.new }
 
         ensures begun { OnOk result (readings self.new ≡ readings self.old ++ begun name.now ∷ []) }
-        ensures missed { OnErr result (readings self.new ≡ readings self.old ++ missed name.now ∷ []) }
+        ensures missed { OnErr result (readings self.new
+            ≡ readings self.old ++ missed name.now ∷ []) }
 
-        ensures opened { OnOk result (IsTrue (tells self.old) → held self.old name.now ≡ Some (left self.new)) }
+        ensures opened { OnOk result (IsTrue (tells self.old)
+            → held self.old name.now ≡ Some (left self.new)) }
         ensures nothing_left { OnErr result (IsTrue (tells self.old) → left self.new ≡ []) }
         ensures cause { OnErr result (FailsToOpen tells held faults self.old self.new name.now) }
 

@@ -56,7 +56,8 @@ fn read_left<S: Source>(alloc: Global, source: &mut S, limit: usize) -> Result<V
     ensures bytes { IfOk result (λ bytes. IsTrue (S.tells source.old)
         → bytes.items ≡ take (limit + 1) (S.left source.old)) }
     ensures within { IfOk result (λ bytes. length bytes.items ≤ limit + 1) }
-    ensures cause { IsErrOf result ReadFault.Failed → Rose (S.faults source.old) (S.faults source.new) }
+    ensures cause { IsErrOf result ReadFault.Failed
+        → Rose (S.faults source.old) (S.faults source.new) }
     ensures on { ReadsOn S.tells S.left S.readings source.old source.new limit result }
 {
     let mut bytes = Vec::new(alloc);
@@ -122,12 +123,13 @@ pub fn write_whole<K: Sink>(sink: &mut K, bytes: &[u8]) -> Result<(), Failed>
     ensures same { K.tells sink.new ≡ K.tells sink.old }
     ensures later { K.faults sink.old ≤ K.faults sink.new }
 
-    ensures all { OnOk result (IsTrue (K.tells sink.old) → K.taken sink.new ≡ K.taken sink.old ++ bytes.now) }
+    ensures all { OnOk result (IsTrue (K.tells sink.old)
+        → K.taken sink.new ≡ K.taken sink.old ++ bytes.now) }
     ensures said { OnOk result (K.account sink.new ≡ after_take bytes.now (K.account sink.old)) }
 
     // Nothing is written after the write that failed.
-    ensures front { OnErr result (TakesFront (K.tells sink.old) bytes.now (K.taken sink.old) (K.taken sink.new)
-        (K.account sink.old) (K.account sink.new)) }
+    ensures front { OnErr result (TakesFront (K.tells sink.old) bytes.now (K.taken sink.old)
+        (K.taken sink.new) (K.account sink.old) (K.account sink.new)) }
     ensures cause { OnErr result (Rose (K.faults sink.old) (K.faults sink.new)) }
 {
     let mut done = 0;
