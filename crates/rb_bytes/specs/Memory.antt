@@ -72,9 +72,9 @@ abbrev pub aligned : ℕ → ℕ → ℕ
 aligned from align = (from + (align - 1)) / align * align
 
 -- What a place of a block of `size` bytes at a multiple of `align` answers, and the memory after it: the block stands
--- at the least multiple from the next address on, none of its bytes is written, and its end is the next address.
--- Where it would end above the limit, the answer is `Full`, with the memory's next address and limit, and nothing
--- changes.
+-- at the least multiple from the next address on, which is the answer, its end is the next address then, and no byte
+-- is written. Where it would end above the limit, the answer is `Full`, with the memory's next address and limit, and
+-- nothing changes.
 abbrev pub place_of : Memory → ℕ → ℕ → Result ℕ Full × Memory
 place_of m size align =
     let a = aligned m.next align in
@@ -87,13 +87,14 @@ abbrev pub size_at : List (ℕ × ℕ) → ℕ → Option ℕ
 size_at [] base = None
 size_at (b ∷ bs) base = if eqb b.0 base then Some b.1 else size_at bs base
 
--- whether there is a block, by its size or None, and an offset is at its end at the latest
+-- whether there is a block, by its size or None, and it has at least so many bytes
 abbrev pub lies_within : Option ℕ → ℕ → Bool
 lies_within None to = false
 lies_within (Some size) to = leb to size
 
--- The number in a byte at an address and in the bytes behind it, from what the address holds and what those behind
--- it give: where this byte was never written it is the first such, and else theirs is.
+-- The number in a byte and those behind it, the lowest first, from the byte's address, what was written there, and
+-- what the bytes behind it give. Where nothing was written there, the answer is `Unwritten` with this address; else a
+-- trap of those behind stays.
 abbrev pub then_byte : ℕ → Option ℕ → Result ℕ Trap → Result ℕ Trap
 then_byte at None rest = Err (Unwritten at)
 then_byte at (Some b) (Err e) = Err e
