@@ -14,19 +14,19 @@ pub record AreSlices (slices : List Slice) : Type 0 where
   pub apart_in_word : AllPairs (λ (s t : Slice). AreDisjoint s.o s.l t.o t.l) slices
   pub apart_in_number : AllPairs (λ (s t : Slice). AreDisjoint s.a s.l t.a t.l) slices
 
--- the number that is gathered from a word: what stands there at each slice, moved to its place in the number; 0 for
--- no slice
+-- the number that is gathered from a word: what stands there at each slice, moved to its place in the number, and
+-- added up over the slices; 0 for no slice
 abbrev pub gather_of : ℕ → List Slice → ℕ
 gather_of w slices = sum_by (λ (s : Slice). take_of w s.o s.l * 2 ^ s.a) slices
 
--- the word over which a number is scattered: without what stood at the slices, and with the number's bits there; for
--- no slice the word as it is
+-- the word after a number was scattered over it: without what stood at the slices, and with the number's bits there;
+-- for no slice the word as it is
 abbrev pub scatter_of : ℕ → List Slice → ℕ → ℕ
 scatter_of w slices number =
     w - sum_by (λ (s : Slice). take_of w s.o s.l * 2 ^ s.o) slices
     + sum_by (λ (s : Slice). take_of number s.a s.l * 2 ^ s.o) slices
 
--- the bits of a number that the slices name, each in its place, and 0 in the others
+-- the bits of a number that the slices name, each in its place in the number, and 0 in the others; 0 for no slice
 abbrev pub named_bits_of : ℕ → List Slice → ℕ
 named_bits_of number slices = sum_by (λ (s : Slice). take_of number s.a s.l * 2 ^ s.a) slices
 

@@ -14,15 +14,15 @@ IsOutside o l i = (i < o) ⊎ (o + l ≤ i)
 abbrev pub AreDisjoint : ℕ → ℕ → ℕ → ℕ → Type 0
 AreDisjoint o l b m = (o + l ≤ b) ⊎ (b + m ≤ o)
 
--- the number whose bits in the range "o, l" are 1, and no others
+-- the number whose bits in the range "o, l" are 1, and no others; 0 for a range of no bits
 abbrev pub mask_of : ℕ → ℕ → ℕ
 mask_of o l = 2 ^ (o + l) - 2 ^ o
 
--- the number that stands in the range "o, l" of a word
+-- the number that stands in the range "o, l" of a word; 0 for a range of no bits, or above all bits of the word
 abbrev pub take_of : ℕ → ℕ → ℕ → ℕ
 take_of w o l = w / 2 ^ o % 2 ^ l
 
 -- a word with its range "o, l" replaced by a part of at most l bits: what stands above the range, then the part, then
--- what stands below
+-- what stands below; what a longer part has beyond l bits is added to what stands above
 abbrev pub put_of : ℕ → ℕ → ℕ → ℕ → ℕ
 put_of w o l part = (w / 2 ^ (o + l) * 2 ^ l + part) * 2 ^ o + w % 2 ^ o

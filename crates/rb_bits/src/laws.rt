@@ -4,13 +4,16 @@
 
 ghost use Rattle.rb_bits.specs.Laws.{AreTaken, ArePut, GathersBack};
 
-/// A range of a range is a range, two side by side are one, and a range over zeros is its number
-/// times a power of two.
+/// What is taken from a range has at most as many bits as the range, and the lowest bits of a word
+/// that has no others are the word. A range of a range is a range, and two side by side are one. A
+/// range taken with the zeros below it, and a word masked by a range, are the range's number times
+/// a power of two.
 pub fn ranges_are_taken()
     ensures { AreTaken }
 {}
 
-/// What is put into a range is taken from it again, and ranges that share no bit with it stay.
+/// What is put into a range, and has no more bits than it, is taken from it again, and ranges that
+/// share no bit with it stay.
 pub fn ranges_are_put()
     ensures { ArePut }
 {}

@@ -1,7 +1,7 @@
 //! Bits of numbers: ranges of bits in a word, numbers scattered over several ranges, and
 //! little-endian bytes. No call takes memory or refuses: what it needs is a condition.
 //!
-//! Bits are counted from 0, the least. A range is its first bit and its length: of `0b1011_0110`
+//! Bits are counted from 0, the lowest. A range is its first bit and its length: of `0b1011_0110`
 //! the range of 3 bits from bit 4 on holds 3, and with 4 put there the word is `0b1100_0110`.
 //!
 //! A number may be scattered over several ranges. Of 13, which is `0b1101`, one slice puts bits 0
@@ -13,8 +13,9 @@
 //! the word             0  1  1  0  0  0  0  1
 //! ```
 //!
-//! To gather goes over the slices the other way, and puts each range back where it is of the
-//! number. Where no two slices share a bit, the one undoes the other.
+//! To gather is the way back: it takes each range from the word and puts it at its place in the
+//! number. Where no two slices share a bit, to gather what was scattered gives the number's bits
+//! that the slices name, and 0 in the others.
 #![tactic(auto)]
 
 pub mod laws;

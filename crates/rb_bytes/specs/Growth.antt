@@ -7,13 +7,15 @@ use Rattle.rb_bytes.specs.Laws.{Extends, KeepsLoads}
 abbrev pub IsWhole : Memory → ℕ × ℕ → Type 0
 IsWhole m b = (b.0 + b.1 ≤ m.next) × ((a : ℕ) → b.0 ≤ a → a < b.0 + b.1 → (u : ℕ) × (byte_at m.bytes a ≡ Some u))
 
--- each of the blocks ends at the next address at the latest, and has all of its bytes written
+-- each of the blocks ends at the next address at the latest, and has all of its bytes written; of no block this is
+-- true
 abbrev pub AreWhole : Memory → List (ℕ × ℕ) → Type 0
 AreWhole m [] = Unit {0}
 AreWhole m (b ∷ bs) = IsWhole m b × AreWhole m bs
 
--- The new memory has exactly these blocks behind the old one's, with all their bytes written, and the next
--- address p. Below the old next address each byte is as it was, or is still unwritten.
+-- The new memory is good, with the old one's limit, exactly these blocks behind the old one's, all their bytes
+-- written, and the next address p, which is not below the old one. Below the old next address each byte is as it was,
+-- written or not.
 pub record Grown (old new : Memory) (blocks : List (ℕ × ℕ)) (p : ℕ) : Type 0 where
   pub limit : new.limit ≡ old.limit
   pub next : new.next ≡ p

@@ -15,7 +15,8 @@ pub record Extends (old new : Memory) : Type 0 where
   pub blocks : (more : List (ℕ × ℕ)) × (new.blocks ≡ old.blocks ++ more)
   pub written : (a b : ℕ) → byte_at old.bytes a ≡ Some b → byte_at new.bytes a ≡ Some b
 
--- two accesses have no byte in common: that at base b, offset o and width w, and that at base c, offset p and width v
+-- two accesses have no byte in common, as one ends where the other begins, or before: that at base b, offset o and
+-- width w, and that at base c, offset p and width v
 abbrev pub AreApart : ℕ → ℕ → ℕ → ℕ → ℕ → ℕ → Type 0
 AreApart b o w c p v = (b + o + w / 8 ≤ c + p) ⊎ (c + p + v / 8 ≤ b + o)
 
@@ -23,16 +24,18 @@ AreApart b o w c p v = (b + o + w / 8 ≤ c + p) ⊎ (c + p + v / 8 ≤ b + o)
 abbrev pub KeepsLoads : Memory → Memory → Type 0
 KeepsLoads old new = (b o w r : ℕ) → load_of old b o w ≡ Ok r → load_of new b o w ≡ Ok r
 
--- The old and the new memory differ at most in the bytes of the access at this base, offset and width: other bytes,
--- loads of other bytes alone, and loads from other bases are the same, whether they give a word or a trap.
+-- What was written and what is loaded differs between the old and the new memory at most by the bytes of the access
+-- at this base, offset and width: other bytes, loads of other bytes alone, and loads from other bases are the same,
+-- whether they give a word or a trap.
 pub record ChangesOnly (old new : Memory) (base offset width : ℕ) : Type 0 where
   pub bytes : (a : ℕ) → (a < base + offset) ⊎ (base + offset + width / 8 ≤ a)
       → byte_at new.bytes a ≡ byte_at old.bytes a
   pub elsewhere : (b o w : ℕ) → AreApart base offset width b o w → load_of new b o w ≡ load_of old b o w
   pub other_block : (b o w : ℕ) → base ≢ b → load_of new b o w ≡ load_of old b o w
 
--- Between the old and the new memory an access at this base and offset was written. Each earlier memory that the old
--- one extends is extended by the new one, too, where the access begins at its next address or above.
+-- What an earlier memory had stays between the old and the new one, where an access at this base and offset was
+-- written: each good memory that the old one extends is extended by the new one, too, if that memory's next address
+-- is at most base + offset, so that the access is above all that it had.
 abbrev pub KeepsEarlier : Memory → Memory → ℕ → ℕ → Type 0
 KeepsEarlier old new base offset =
     (early : Memory) → IsGood early → early.next ≤ base + offset → Extends early old → Extends early new
@@ -53,9 +56,9 @@ pub record IsFirstUnwritten (m : Memory) (at n a : ℕ) : Type 0 where
   pub unwritten : byte_at m.bytes a ≡ None
   pub before : (k : ℕ) → at ≤ k → k < a → IsSome (byte_at m.bytes k)
 
--- What holds after a place in the memory m of a block of `size` bytes at a multiple of `align`, by its answer and the
--- memory after it. Where the block did not fit, the answer is no address, and `least`, `found` and `unwritten` say
--- nothing.
+-- What holds after a place in the memory m of a block of `size` bytes at a multiple of `align`, by `placed`, its
+-- answer and the memory after it. Where the block did not fit, the answer is no address, and `least`, `found` and
+-- `unwritten` say nothing.
 pub record IsPlaced (m : Memory) (size align : ℕ) (placed : Result ℕ Full × Memory) : Type 0 where
   pub good : IsGood placed.1
   -- the block stands at the least multiple from the next address on
@@ -63,12 +66,12 @@ pub record IsPlaced (m : Memory) (size align : ℕ) (placed : Result ℕ Full ×
   -- all that was placed and written stays, and so does what could be loaded
   pub stays : Extends m placed.1
   pub loads : KeepsLoads m placed.1
-  -- the new block is found at its address, and none of its bytes is written
+  -- the new block is found at its address, and no byte from there on is written
   pub found : IfOk placed.0 (λ a. size_at placed.1.blocks a ≡ Some size)
   pub unwritten : IfOk placed.0 (λ a. (k : ℕ) → a ≤ k → byte_at placed.1.bytes k ≡ None)
 
--- What holds after a store of a word in the memory m at a base, an offset and a width, by its answer and the memory
--- after it. Where the store trapped, `loaded` says nothing.
+-- What holds after a store of a word in the memory m at a base, an offset and a width, by `stored`, its answer and
+-- the memory after it. Where the store trapped, `loaded` says nothing.
 pub record IsStored (m : Memory) (base offset width word : ℕ) (stored : Result (Unit {0}) Trap × Memory) : Type 0
   where
     pub good : IsGood stored.1
@@ -78,9 +81,11 @@ pub record IsStored (m : Memory) (base offset width word : ℕ) (stored : Result
     pub only : ChangesOnly m stored.1 base offset width
     pub earlier : KeepsEarlier m stored.1 base offset
 
--- what a load from the memory m at a base, an offset and a width gives
+-- What a load from the memory m at a base, an offset and a width gives, by `loaded`, its answer. Of a load that goes
+-- astray both laws say nothing.
 pub record IsLoaded (m : Memory) (base offset width : ℕ) (loaded : Result ℕ Trap) : Type 0 where
-  -- a word that is loaded is the number that the bytes there spell, the lowest first
+  -- a word that is loaded is the number that the bytes there spell, the lowest first; it says nothing of a width
+  -- that is no multiple of 8
   pub spelled : (bytes : List ℕ) → width ≡ 8 * length bytes → Spells m (base + offset) bytes
       → OnOk loaded (loaded ≡ Ok (from_le_bytes bytes))
   -- a trap for want of a byte names the first that was never written

@@ -2,7 +2,7 @@
 --
 -- Addresses, sizes, alignments and offsets are bytes, and widths are bits. A range of bytes from one address up
 -- to another has the first address and not the second. A base is the address at which a block begins. An access
--- is a base, an offset and a width: its bytes are width / 8 of them from base + offset on.
+-- is a base, an offset and a width: its bytes are width / 8 of them, rounded down, from base + offset on.
 use Rattle.std.specs.Prelude.{◌≡◌, ℕ, zero, suc, ◌+◌, ◌-◌, ◌*◌, ◌/◌, ◌%◌, ◌^◌, ◌<◌, ◌≤◌, ◌⊎◌, Bool, false, eqb, leb, List, [], ◌∷◌, ◌++◌, length, Option, Some, None, Result, Ok, Err, replicate, slice_get, slice_set, if◌then◌else◌}
 use Rattle.rb_bytes.specs.declared.fault.Trap.{Trap}
 use Rattle.rb_bytes.specs.declared.fault.Trap.TheVariants.{Astray, Unwritten}
@@ -29,8 +29,8 @@ abbrev pub AreBlocks : ℕ → List (ℕ × ℕ) → ℕ → Type 0
 AreBlocks from [] to = from ≤ to
 AreBlocks from (b ∷ bs) to = (from ≤ b.0) × (0 < b.1) × AreBlocks (b.0 + b.1) bs to
 
--- what a list of bytes says of an address: the byte that was written there, or None, also where the list ends
--- before that address
+-- the byte that was written at an address, by what a list of bytes has there; None where none was written, and where
+-- the list ends before that address
 abbrev pub byte_in : Option (Option ℕ) → Option ℕ
 byte_in None = None
 byte_in (Some b) = b
@@ -67,14 +67,14 @@ IsAlign align = (k : ℕ) × (k ≤ 6) × (align ≡ 2 ^ k)
 abbrev pub empty_memory : ℕ → Memory
 empty_memory limit = record { limit = limit; next = 64; blocks = []; bytes = replicate limit None }
 
--- the least multiple of the alignment that is not below an address
+-- the least multiple of the alignment that is not below an address; 0 for the alignment 0
 abbrev pub aligned : ℕ → ℕ → ℕ
 aligned from align = (from + (align - 1)) / align * align
 
 -- What a place of a block of `size` bytes at a multiple of `align` answers, and the memory after it: the block stands
 -- at the least multiple from the next address on, which is the answer, its end is the next address then, and no byte
--- is written. Where it would end above the limit, the answer is `Full`, with the memory's next address and limit, and
--- nothing changes.
+-- is written. Where it would end above the limit, the answer is `Full`, with the memory's next address, the size, the
+-- alignment and the memory's limit, and nothing changes.
 abbrev pub place_of : Memory → ℕ → ℕ → Result ℕ Full × Memory
 place_of m size align =
     let a = aligned m.next align in
@@ -100,7 +100,8 @@ then_byte at None rest = Err (Unwritten at)
 then_byte at (Some b) (Err e) = Err e
 then_byte at (Some b) (Ok r) = Ok (b + 256 * r)
 
--- the number in n bytes from an address on, the lowest first, or the first of them that was never written; 0 for none
+-- the number in n bytes from an address on, the lowest first, and 0 for no bytes; or `Unwritten` with the address of
+-- the first of them that was never written, also where the list ends before it
 abbrev pub read_le : List (Option ℕ) → ℕ → ℕ → Result ℕ Trap
 read_le bytes zero at = Ok 0
 read_le bytes (suc n) at = then_byte at (byte_at bytes at) (read_le bytes n (at + 1))
@@ -111,18 +112,18 @@ abbrev pub write_le : List (Option ℕ) → ℕ → ℕ → ℕ → List (Option
 write_le bytes zero at word = bytes
 write_le bytes (suc n) at word = write_le (slice_set bytes at (Some (word % 256))) n (at + 1) (word / 256)
 
--- What a load answers at a base, an offset and a width: the number in those bytes. It is `Astray` where no block
--- begins at the base or the bytes leave it, else `Unwritten` with the first of their addresses that was never
--- written.
+-- What a load answers at a base, an offset and a width: the number in the access's bytes, the lowest first. It is
+-- `Astray` where no block begins at the base or the bytes leave it, else `Unwritten` with the address of the first of
+-- them that was never written.
 unfoldable pub load_of : Memory → ℕ → ℕ → ℕ → Result ℕ Trap
 load_of m base offset width =
     if lies_within (size_at m.blocks base) (offset + width / 8)
     then read_le m.bytes (width / 8) (base + offset)
     else Err (Astray base offset)
 
--- What a store answers at a base, an offset and a width, and the memory after it: the low bits of the word, as many
--- as the width says, are in those bytes. Where no block begins at the base or the bytes leave it, the answer is
--- `Astray`, and nothing changes.
+-- What a store answers at a base, an offset and a width, and the memory after it: the low bytes of the word, as many
+-- as the access has, are in the access's bytes. Where no block begins at the base or the bytes leave it, the answer
+-- is `Astray`, and nothing changes.
 unfoldable pub store_of : Memory → ℕ → ℕ → ℕ → ℕ → Result (Unit {0}) Trap × Memory
 store_of m base offset width word =
     if lies_within (size_at m.blocks base) (offset + width / 8)

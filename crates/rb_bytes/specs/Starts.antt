@@ -1,6 +1,6 @@
 -- How a checked memory keeps its blocks and its bytes: three lists by address, from 0 up to the end of the last
--- block. `bytes` has the byte of each address; `marks` has 0 where none was written, and else another number; `sizes`
--- has the size of the block that begins there, or 0.
+-- block, and empty before the first. `bytes` has the byte of each address; `marks` has 0 where none was written, and
+-- else another number; `sizes` has the size of the block that begins there, or 0.
 use Rattle.std.specs.Prelude.{◌≡◌, ℕ, zero, suc, ◌+◌, ◌-◌, ◌<◌, ◌≤◌, List, [], ◌∷◌, ◌++◌, length, map, replicate, Option, Some, None, vec_capacity}
 use Rattle.rb_bytes.specs.Memory.{Memory, IsGood}
 use Rattle.rb_bytes.specs.declared.checked.CheckedMemory.TheInside.{Inside}

@@ -43,8 +43,8 @@ impl Model for CheckedMemory {
     ghost invariant = { IsKept };
 }
 
-// Whether `count` bytes from the address `at` on are written, by one look at the marks of all of
-// them.
+// Whether `count` bytes from the address `at` on are all written, by one look at their marks.
+// `marks` go by address. The answer false promises nothing.
 fn are_written(marks: &[u8], at: u64, count: u64) -> bool
     requires count { IsByteCount count }
     requires within { at + count ≤ length marks.now }
@@ -54,7 +54,7 @@ fn are_written(marks: &[u8], at: u64, count: u64) -> bool
 }
 
 // The number in `count` bytes from the address `at` on, the lowest first, or `Unwritten` with the
-// first of their addresses where none was written. `marks` and `bytes` go by address.
+// first of their addresses at which no byte was written. `marks` and `bytes` go by address.
 fn read_word(marks: &[u8], bytes: &[u8], at: u64, count: u64) -> Result<u64, Trap>
     requires even { length marks.now ≡ length bytes.now }
     requires count { IsByteCount count }
@@ -220,7 +220,8 @@ impl ByteMemory for CheckedMemory {
     ///
     /// # Errors
     ///
-    /// `Astray` by the size of the block, then `Unwritten` by the marks of the bytes.
+    /// `Astray` where no block begins at the base or the bytes leave it, by its size, else
+    /// `Unwritten` for the first of the bytes without a mark.
     fn load(&self, base: u64, offset: u64, width: u64) -> Result<u64, Trap> {
         if !self.holds(base, offset, width / 8) {
             return Err(Trap::Astray(base, offset));
@@ -238,7 +239,8 @@ impl ByteMemory for CheckedMemory {
     ///
     /// # Errors
     ///
-    /// `Astray` by the size of the block; then nothing changes.
+    /// `Astray` where no block begins at the base or the bytes leave it, by its size; then nothing
+    /// changes.
     fn store(&mut self, base: u64, offset: u64, width: u64, word: u64) -> Result<(), Trap> {
         if !self.holds(base, offset, width / 8) {
             return Err(Trap::Astray(base, offset));

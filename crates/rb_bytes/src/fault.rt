@@ -1,4 +1,4 @@
-//! What a memory or a run may refuse.
+//! Why a block is not placed, and why a run stops in error.
 
 use thiserror::Error;
 

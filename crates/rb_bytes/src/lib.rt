@@ -12,9 +12,9 @@
 //! ```
 //!
 //! Another block of 16 bytes would end above the limit, so it is refused and nothing changes. A
-//! load or a store names the block by its address, and bytes within it by their offset. That of 8
-//! bytes from offset 4 of block 64 on goes astray, since the block has 8; that of bytes of a block
-//! which nobody wrote finds them unwritten.
+//! load or a store names the block by its address, and bytes within it by their offset. A load or a
+//! store of 8 bytes from offset 4 of block 64 on goes astray, since the block has 8; a load of
+//! bytes that were never written finds them unwritten.
 //!
 //! What place, load and store do is defined once, on a memory as plain data: its limit, the next
 //! address, the blocks, and for each address the byte that was written there or none.

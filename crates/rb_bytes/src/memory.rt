@@ -18,8 +18,8 @@ pub trait ByteMemory {
     // the constant of the same name, in clauses
     ghost CHECKS: { Bool };
 
-    /// Whether loads and stores test what they are asked for. Where it is false, a caller knows
-    /// that the access doesn't trap.
+    /// Whether loads and stores test what they are asked for. Where it is false, a caller has to
+    /// know that the access doesn't trap.
     const CHECKS: bool;
 
     // the memory as plain data

@@ -6,6 +6,7 @@ use Rattle.std.specs.List.{list_any}
 abbrev pub fails_at : List ℕ → ℕ → Bool
 fails_at fail call = list_any (λ n. n == call) fail
 
--- The number of the call after that one. It stands still far beyond every `u64`, where no list names it.
+-- The number of the call after that one. It stands still at 2 ^ 128 - 1, far beyond every `u64`, so that no list of
+-- these names it.
 abbrev pub next_call : ℕ → ℕ
 next_call call = min (call + 1) (2 ^ 128 - 1)

@@ -39,7 +39,7 @@ told failed = failed
 abbrev pub told_end : Reading → Reading
 told_end r = record r { course = told r.course }
 
--- a reading after a read of it failed
+-- a reading after a read of it failed: it keeps the bytes that were handed out, and has failed whatever it was before
 abbrev pub broken : Reading → Reading
 broken r = record r { course = failed }
 
@@ -67,6 +67,6 @@ no_account = record { said = []; breaks = [] }
 abbrev pub after_take : List ℕ → Account → Account
 after_take bytes a = record a { said = a.said ++ bytes }
 
--- an account after a write failed
+-- an account after a write failed: one break more, at the number of bytes taken until then
 abbrev pub after_break : Account → Account
 after_break a = record a { breaks = a.breaks ++ length a.said ∷ [] }

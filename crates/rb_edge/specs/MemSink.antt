@@ -28,7 +28,7 @@ abbrev pub new_sink : ℕ → ℕ → List ℕ → SinkState
 new_sink room step fail =
     record { room = room; step = step; fail = fail; calls = 0; taken = []; account = no_account; faults = 0 }
 
--- how many bytes a sink can still take
+-- how many bytes a sink can still take; 0 where its room is used up
 abbrev pub room_left : SinkState → ℕ
 room_left s = s.room - length s.taken
 
@@ -36,12 +36,14 @@ room_left s = s.room - length s.taken
 abbrev pub write_fails : SinkState → ℕ → Bool
 write_fails s len = fails_at s.fail s.calls || (nat_lt 0 len && (room_left s == 0))
 
--- how many bytes a write of `len` bytes takes, where it doesn't fail
+-- how many bytes a write of `len` bytes takes, where it doesn't fail: as many as there are, one write takes and there
+-- is room for
 abbrev pub write_count : SinkState → ℕ → ℕ
 write_count s len = min (min len s.step) (room_left s)
 
 -- What a write of some bytes answers, and the sink after it. Where it fails, nothing is taken, and there is one fault
--- more; else the answer is how many bytes from their front were taken.
+-- more; else the answer is how many bytes from their front were taken. What the sink said tells either, and
+-- the call is counted in both.
 abbrev pub after_write : SinkState → List ℕ → Result ℕ Failed × SinkState
 after_write s bytes =
     let n = write_count s (length bytes) in

@@ -37,7 +37,7 @@ abbrev pub bytes_in : Option NamedBytes → List ℕ
 bytes_in None = []
 bytes_in (Some file) = file.bytes
 
--- the bytes of the opened file, by its index among the files; none where no file is open
+-- the bytes of the opened file, by its index among the files; none where no file is open, or none has that index
 abbrev pub bytes_of : List NamedBytes → Option ℕ → List ℕ
 bytes_of files None = []
 bytes_of files (Some i) = bytes_in (slice_get files i)
@@ -56,7 +56,7 @@ faulted s left readings = record (served s left readings) { faults = one_more s.
 
 -- What opening a name answers, and the source after it, by the bytes that are held under the name: where nothing is
 -- held it fails, which is no fault; else where the call's number says so it fails, which is one. After both no file
--- is open.
+-- is open, and one reading more has failed. Else all of those bytes are left, and one reading more is begun.
 abbrev pub opening_of : SourceState → List ℕ → Option (List ℕ) → Result (Unit {0}) Failed × SourceState
 opening_of s name None = (Err (record {}), served s [] (s.readings ++ missed name ∷ []))
 opening_of s name (Some bytes) =
@@ -67,12 +67,14 @@ opening_of s name (Some bytes) =
 abbrev pub after_open : SourceState → List ℕ → Result (Unit {0}) Failed × SourceState
 after_open s name = opening_of s name (held_in s.files name)
 
--- how many bytes a read into a buffer of `room` bytes gives, where it doesn't fail
+-- how many bytes a read into a buffer of `room` bytes gives, where it doesn't fail: as many as there is room for, one
+-- read gives and are left, so 0 where none is left
 abbrev pub read_count : SourceState → ℕ → ℕ
 read_count s room = min (min room s.step) (length s.left)
 
 -- What a read into a buffer answers, and the buffer and the source after it. Where the call's number says so it
--- fails, which is a fault, and no byte is lost; else the next bytes stand at the front of the buffer.
+-- fails, which is a fault, and no byte is lost; else the answer is how many bytes it gives, which stand at the front
+-- of the buffer, and what is behind them there stays. The last reading, if there is one, tells either.
 abbrev pub after_read : SourceState → List ℕ → Result ℕ Failed × List ℕ × SourceState
 after_read s buffer =
     let n = read_count s (length buffer) in

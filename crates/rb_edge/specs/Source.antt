@@ -16,8 +16,8 @@ pub record Gives (n : ℕ) (buffer old new : List ℕ) : Type 0 where
   pub bytes : old ≡ take n buffer ++ new
   pub at_end : 0 < length buffer → (n ≡ 0) ↔ (old ≡ [])
 
--- why opening a name failed: the count of faults rose, or could not, or the source tells that nothing is held under
--- it
+-- why opening a name failed: the count of faults rose, or stood at the greatest already, or the source tells its
+-- bytes and holds none under the name
 abbrev pub FailsToOpen : {S : Type 0} → (S → Bool) → (S → List ℕ → Option (List ℕ)) → (S → ℕ) → S → S → List ℕ
     → Type 0
 FailsToOpen tells held faults old new name =

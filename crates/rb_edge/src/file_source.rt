@@ -17,10 +17,13 @@ use std::rt::Files;
 /// out, and its count of faults, which each error of the system raises.
 #[derive(Drop)]
 pub struct FileSource<'a, R: Files> {
+    // The runtime, which reaches the files.
     rt: &'a R,
-    // The file that is open.
+    // The file that is open, or `None`.
     file: Option<R::File>,
+    // What it handed out.
     readings: Readings,
+    // How many faults there were, as far as the number goes.
     faults: u64,
 }
 

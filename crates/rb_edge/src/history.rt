@@ -1,6 +1,6 @@
 //! What a source handed out and what a sink said, for contracts alone. A reading is a file that was
 //! opened, or should have been: its name, the bytes that were handed out since, and how far that
-//! came.
+//! came. Both are kept in a log, as events, each a number, its kind, with bytes.
 
 ghost use Rattle.std.specs.Prelude.{◌≡◌, ℕ, List, [], ◌∷◌, ◌++◌};
 ghost use Rattle.rb_edge.specs.History.{begun, missed, handed, told_end, broken, on_last, after_read, no_account, after_take, after_break};
@@ -8,25 +8,25 @@ ghost use Rattle.rb_edge.specs.History.{begun, missed, handed, told_end, broken,
 use crate::log::Log;
 use std::marker::Model;
 
-// The kinds of a source's events in its log. The first: a name was opened.
+// The kind of a source's event in its log: a name was opened.
 const BEGUN: usize = 0;
 
-// The opening of a name failed.
+// The kind of a source's event: the opening of a name failed.
 const MISSED: usize = 1;
 
-// Bytes of the file that is open were handed out.
+// The kind of a source's event: bytes of the file that is open were handed out.
 const HANDED: usize = 2;
 
-// The end of the file that is open was told.
+// The kind of a source's event: the end of the file that is open was told.
 const ENDED: usize = 3;
 
-// A read of the file that is open failed.
+// The kind of a source's event: a read of the file that is open failed.
 const BROKEN: usize = 4;
 
-// The kinds of a sink's events in its log. The first: bytes were taken.
+// The kind of a sink's event in its log: bytes were taken.
 const TAKEN: usize = 0;
 
-// A write failed.
+// The kind of a sink's event: a write failed.
 const FAILED: usize = 1;
 
 /// The readings of a source since it was made, in their order. They take no bytes of memory.

@@ -27,7 +27,9 @@ pub struct MemSink {
     fail: Seq<u64>,
     // The number of the next call.
     calls: u128,
+    // The bytes that it said it took, and where a write failed.
     said: Said,
+    // How many faults there were, as far as the number goes.
     faults: u64,
 }
 

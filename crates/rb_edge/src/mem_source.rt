@@ -19,6 +19,7 @@ use std::marker::Model;
 /// and those whose numbers are in a list fail.
 #[derive(Drop)]
 pub struct MemSource {
+    // The files, of which the first of a name is held under it.
     files: Seq<NamedBytes>,
     // The most bytes that one read gives.
     step: usize,
@@ -26,11 +27,13 @@ pub struct MemSource {
     fail: Seq<u64>,
     // The number of the next call.
     calls: u128,
-    // The index of the file that is open.
+    // The index of the file that is open, or `None`.
     opened: Option<usize>,
-    // How many of its bytes were read.
+    // How many bytes of the file that is open were read; 0 where none is open.
     at: usize,
+    // What it handed out.
     readings: Readings,
+    // How many faults there were, as far as the number goes.
     faults: u64,
 }
 

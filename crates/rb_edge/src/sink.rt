@@ -20,14 +20,15 @@ pub trait Sink {
     // what it said: the bytes that it took, and where a write failed
     ghost account: { Self → Account };
 
-    // how many faults there were
+    // how many faults there were since it was made, up to the greatest count
     ghost faults: { Self → ℕ };
 
     /// Takes bytes from the front of the piece, at least one where there is one, and says how many.
     ///
     /// # Errors
     ///
-    /// `Failed` where a fault was counted. Nothing of the piece was taken then.
+    /// `Failed` where a fault was counted. The sink then says that it took nothing of the piece,
+    /// and took nothing where it tells what it took.
     fn write(&mut self, bytes: &[u8]) -> Result<usize, Failed>
         ensures same { tells self.new ≡ tells self.old }
         ensures later { faults self.old ≤ faults self.new }

@@ -29,14 +29,14 @@ pub trait Source {
     // what it handed out: each name that was opened, or failed to be, with the bytes given since
     ghost readings: { Self → List Reading };
 
-    // how many faults there were
+    // how many faults there were since it was made, up to the greatest count
     ghost faults: { Self → ℕ };
 
     /// Opens the file of that name at its first byte, in place of the one that was open.
     ///
     /// # Errors
     ///
-    /// `Failed` where nothing is held under the name, or a fault was counted.
+    /// `Failed` where nothing is held under the name, or a fault was counted. No file is open then.
     fn open_file(&mut self, name: &[u8]) -> Result<(), Failed>
         ensures same { HoldsTheSame tells held self.old self.new }
         ensures later { faults self.old ≤ faults self.new }
@@ -55,12 +55,13 @@ pub trait Source {
         ensures no_fault { IsTrue (tells self.old) → held self.old name.now ≡ None
             → faults self.new ≡ faults self.old };
 
-    /// Reads the next bytes into the front of the buffer, and says how many. What stands behind
-    /// them in the buffer is left open.
+    /// Reads the next bytes into the front of the buffer, and says how many. No bytes into a
+    /// buffer with room tell the end of the file, or that none is open. What stands behind the
+    /// bytes in the buffer is left open.
     ///
     /// # Errors
     ///
-    /// `Failed` where a fault was counted. No byte is lost by it.
+    /// `Failed` where a fault was counted. A source that tells its bytes loses none by it.
     fn read(&mut self, buf: &mut [u8]) -> Result<usize, Failed>
         ensures same { HoldsTheSame tells held self.old self.new }
         ensures later { faults self.old ≤ faults self.new }

@@ -14,8 +14,11 @@ use std::marker::Model;
 /// what it said it took, and its count of faults.
 #[derive(Drop)]
 pub struct StdSink<W: Write> {
+    // The writer.
     inner: W,
+    // The bytes that it said it took, and where a write failed.
     said: Said,
+    // How many faults there were, as far as the number goes.
     faults: u64,
 }
 
@@ -49,8 +52,13 @@ impl<W: Write> Sink for StdSink<W> {
 
     ghost faults = { λ s. s.faults };
 
-    /// Writes and flushes. An error of either is a fault, and so is a write that took nothing of a
-    /// piece that isn't empty.
+    /// Writes as much from the front of the piece as the writer takes in one call, flushes, and
+    /// says how many bytes the writer took.
+    ///
+    /// # Errors
+    ///
+    /// `Failed` where the writer fails to write or to flush, or takes nothing of a piece that isn't
+    /// empty. It counts as a fault, and what the writer may have taken of the piece is not told.
     fn write(&mut self, bytes: &[u8]) -> Result<usize, Failed>
         ensures within { IfOk result (λ n. n ≤ length bytes.now) }
         ensures some { IfOk result (λ n. 0 < length bytes.now → 0 < n) }

@@ -7,7 +7,7 @@ use std::marker::Model;
 
 /// What is told of each step.
 pub trait Ledger {
-    // what one note changes
+    // what one note changes: the ledger before it, then after it
     ghost notes: { Self → Self → Type 0 };
 
     /// Takes note of one step.

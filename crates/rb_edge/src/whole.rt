@@ -114,11 +114,12 @@ pub fn read_whole<S: Source>(
     Ok(Seq::from_vec(bytes))
 }
 
-/// Writes all of the bytes, piece after piece, and stops at the first write that fails.
+/// Writes all of the bytes, piece after piece, and stops at the first write that fails. Where there
+/// are no bytes, nothing is asked of the sink.
 ///
 /// # Errors
 ///
-/// `Failed` where a write failed. The sink took the bytes before that piece alone.
+/// `Failed` where a write failed. The sink says that it took the bytes before that piece alone.
 pub fn write_whole<K: Sink>(sink: &mut K, bytes: &[u8]) -> Result<(), Failed>
     ensures same { K.tells sink.new ≡ K.tells sink.old }
     ensures later { K.faults sink.old ≤ K.faults sink.new }

@@ -25,8 +25,8 @@ HasGoodSlots f pc = (pc ≡ 0 → CountsSlots f) × Holds (SlotsFit f.slots) f p
 abbrev pub HasGoodJumps : CodeFun → ℕ → Type 0
 HasGoodJumps f pc = (pc ≡ length f.body - 1 → EndsInReturn f.body) × Holds (TargetsFit (length f.body) pc) f pc
 
--- no fault of calls stands at pc: the instruction, if there is one, has the callee's numbers where it is a call, and
--- the function's number of results where it is a return
+-- no fault of calls stands at pc: the instruction, if there is one, calls a function that there is, with its numbers
+-- of results and words, where it is a call, and has the function's number of results where it is a return
 abbrev pub HasGoodCalls : List CodeFun → CodeFun → ℕ → Type 0
 HasGoodCalls funs f pc = Holds (CallsFit funs f.results) f pc
 

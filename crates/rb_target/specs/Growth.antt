@@ -17,7 +17,7 @@ Nowhere pc = ⊥
 pub record AgreesBut (final code : List Instr) (a b : ℕ) (Open : ℕ → Type 0) : Type 0 where
   pub same : (pc : ℕ) → a ≤ pc → pc < b → (Open pc → ⊥) → slice_get final pc ≡ slice_get code pc
 
--- the slots s' are as many as the slots s, and the first n of them hold the same words
+-- the slots s' are as many as the slots s, and the first n of them, or all where there are fewer, hold the same words
 pub record Keeps (n : ℕ) (s s' : List ℕ) : Type 0 where
   pub long : length s' ≡ length s
   pub same : (k : ℕ) → k < n → slice_index s' k ≡ slice_index s k

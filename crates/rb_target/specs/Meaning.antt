@@ -25,6 +25,7 @@ use Rattle.rb_target.specs.declared.code.CodeFun.{CodeFun}
 pub record World : Type 0 where
   -- how many calls may still be begun
   pub left : ℕ
+  -- the blocks and the bytes as they are now
   pub memory : Memory
   -- how many switches were done so far
   pub switches : ℕ
@@ -115,9 +116,11 @@ switched w = record w { switches = w.switches + 1 }
 abbrev pub with_memory : World → Memory → World
 with_memory w m = record w { memory = m }
 
--- What an instruction does, one line for each, from its own number `pc`, the slots and the world on. What ends no
--- call goes on by `next`: at pc + 1, or a jump and a switch at a target. A switch is counted whether it finds a
--- target or traps. `callee` does the calls.
+-- What an instruction does, one line for each, from its own number `pc`, the slots and the world on. A return ends
+-- the call with the words of its slots. A load or a store that traps, a place that does not fit, a switch that finds
+-- no target, and a call that ends in another way than by a return end it, too. All else goes on by `next`: at pc + 1,
+-- or a jump and a switch at a target. A switch is counted whether it finds a target or traps. `callee` does the
+-- calls.
 abbrev pub act : Instr → Next → Callee → ℕ → List ℕ → World → Outcome
 act (Const d c) next callee pc slots w = next (pc + 1) (slice_set slots d c) w
 act (Copy d a) next callee pc slots w = next (pc + 1) (slice_set slots d (slice_index slots a)) w

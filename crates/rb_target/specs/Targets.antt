@@ -54,7 +54,7 @@ abbrev pub dests_in : Option Instr → List ℕ
 dests_in None = []
 dests_in (Some i) = dests i
 
--- the hole is one of these
+-- the hole is one of these holes
 abbrev pub IsIn : Hole → List Hole → Type 0
 IsIn h hs = (k : ℕ) × (slice_get hs k ≡ Some h)
 

@@ -1,4 +1,5 @@
--- Code as text: a line an instruction, its words with one blank between.
+-- Code as text: of each function a line with its name and numbers, a line for each instruction, and the line
+-- `end`. One blank stands between two words of a line.
 --
 -- Texts are lists of bytes. A line is its first word, as `const`, the other words of the line, each after a blank,
 -- and the byte 10. Only the words after the first are of the type `Word`.
@@ -93,7 +94,7 @@ instr_text i = line (key_text i) (words_of i)
 abbrev pub head_text : CodeFun → List ℕ
 head_text f = codes "fun " ++ line f.name (Number f.params ∷ Number f.results ∷ Number f.slots ∷ [])
 
--- the lines of a body, one an instruction
+-- the lines of a body, one an instruction; empty for no instruction
 abbrev pub body_text : List Instr → List ℕ
 body_text [] = []
 body_text (i ∷ is) = instr_text i ++ body_text is

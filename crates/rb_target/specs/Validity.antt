@@ -28,7 +28,7 @@ IsBounded (Switch a other arms) = All (λ (arm : SwitchArm). arm.number < 2 ^ 64
 IsBounded (Call f ds froms) = Unit {0}
 IsBounded (Return froms) = Unit {0}
 
--- each of some slots is below a number
+-- each of some slots is below a number; so it is where there is none
 abbrev pub AreSlots : ℕ → List ℕ → Type 0
 AreSlots n xs = All (λ a. a < n) xs
 
@@ -51,7 +51,7 @@ SlotsFit n (Return froms) = AreSlots n froms
 abbrev pub IsTarget : ℕ → ℕ → ℕ → Type 0
 IsTarget long pc t = (pc < t) × (t < long)
 
--- the targets of all arms lie behind the instruction pc and within the body's length
+-- the targets of all arms lie behind the instruction pc and within the body's length; so it is where there is no arm
 abbrev pub AreArms : ℕ → ℕ → List SwitchArm → Type 0
 AreArms long pc arms = All (λ (arm : SwitchArm). IsTarget long pc arm.target) arms
 
@@ -67,21 +67,22 @@ abbrev pub FitsCall : Option CodeFun → List ℕ → List ℕ → Type 0
 FitsCall None ds froms = ⊥
 FitsCall (Some f) ds froms = (length ds ≡ f.results) × (length froms ≡ f.params)
 
--- a call has its callee's numbers of results and words, and a return as many words as its own function has results;
--- other instructions always fit
+-- a call is of one of these functions, with its numbers of results and words, and a return has as many words as its
+-- own function has results, which `results` is; other instructions always fit
 abbrev pub CallsFit : List CodeFun → ℕ → Instr → Type 0
 CallsFit funs results (Call f ds froms) = FitsCall (slice_get funs f) ds froms
 CallsFit funs results (Return froms) = length froms ≡ results
 CallsFit funs results i = Unit {0}
 
--- the instruction i may stand at pc in the body of the function f, which is one of these functions
+-- the instruction i may stand at pc in the body of the function f, beside these functions, which its calls name by
+-- their numbers
 pub record IsFine (funs : List CodeFun) (f : CodeFun) (pc : ℕ) (i : Instr) : Type 0 where
   pub bounded : IsBounded i
   pub slots : SlotsFit f.slots i
   pub targets : TargetsFit (length f.body) pc i
   pub calls : CallsFit funs f.results i
 
--- the slots that an instruction writes, in the order in which it names them
+-- the slots that an instruction writes, in the order in which it names them; none for what writes no slot
 abbrev pub dests : Instr → List ℕ
 dests (Const d c) = d ∷ []
 dests (Copy d a) = d ∷ []

@@ -31,7 +31,9 @@ pub struct Hole {
 /// of `fresh`.
 #[derive(Drop)]
 pub struct Body {
+    // The instructions so far.
     code: Seq<Instr>,
+    // The number of parameters.
     params: usize,
     // The number of slots that `fresh` gave.
     given: usize,

@@ -144,7 +144,7 @@ fn calls_fit(funs: &[CodeFun], results: usize, instr: &Instr) -> bool
 }
 
 // Whether a fault of slots stands at the instruction `pc`: at 0 the function's number of slots is
-// wrong, or the instruction names a slot that the function hasn't got.
+// wrong, or the instruction, if there is one, names a slot that the function hasn't got.
 fn has_bad_slot(fun: &CodeFun, pc: usize) -> bool
     ensures bad { IsTrue result → HasBadSlot fun.now pc }
     ensures good { IsTrue (not result) → HasGoodSlots fun.now pc }
@@ -159,7 +159,8 @@ fn has_bad_slot(fun: &CodeFun, pc: usize) -> bool
 }
 
 // Whether a fault of targets stands at the instruction `pc`: it is the last one, or 0 in a body
-// without one, and the body doesn't end in a return; or one of its targets is no later instruction.
+// without one, and the body doesn't end in a return; or one of its targets, if there is such an
+// instruction, is no later one of the body.
 fn has_bad_jump(fun: &CodeFun, pc: usize) -> bool
     ensures bad { IsTrue result → HasBadJump fun.now pc }
     ensures good { IsTrue (not result) → HasGoodJumps fun.now pc }
@@ -234,8 +235,8 @@ fn check_funs(funs: &[CodeFun]) -> Result<(), CodeFault>
     Ok(())
 }
 
-/// The functions as code, where they are valid together. They are functions as a text can hold
-/// them, which bounds their names and numbers. It takes no memory, and its time grows with the
+/// The functions as code, where they are valid together. They have to be functions as a text can
+/// hold them, which bounds their names and numbers. It takes no memory, and its time grows with the
 /// length of their text.
 ///
 /// # Errors

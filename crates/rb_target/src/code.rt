@@ -13,6 +13,7 @@ use std::marker::Model;
 /// others begin as 0.
 #[derive(Drop)]
 pub struct CodeFun {
+    /// Its name, as the first line of its text has it.
     pub name: Name,
     /// How many words it is called with.
     pub params: usize,
@@ -28,6 +29,7 @@ pub struct CodeFun {
 /// forward, and each body ends in a return.
 #[derive(Drop)]
 pub struct Code {
+    // The functions, by their numbers.
     funs: Seq<CodeFun>,
 }
 

@@ -25,8 +25,8 @@ pub fn patching_sets_one_target()
         → SetsTarget b h t (patched b h t) }
 {}
 
-/// A call costs one of the calls that are left and is spent where there is none, and a return tells
-/// how many are left then.
+/// A call costs one of the calls that are left, goes through its function's body with one less, and
+/// is spent where there is none. A return tells how many are left then.
 pub fn calls_cost_one()
     ensures { (funs : List CodeFunDecl) → AreCalls funs }
 {}

@@ -42,7 +42,7 @@ fn push_numbers(words: &mut Vec<Word>, items: &[u64]) -> Result<(), AllocError>
     Ok(())
 }
 
-// A new list with the words of some numbers.
+// A new list with the words of some numbers, in their order.
 fn plain(alloc: Global, items: &[u64]) -> Result<Vec<Word>, AllocError>
     ensures { IfOk result (λ v. v.items ≡ numbers items.now) }
 {
