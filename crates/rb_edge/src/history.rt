@@ -32,6 +32,7 @@ const FAILED: usize = 1;
 /// The readings of a source since it was made, in their order. They take no bytes of memory.
 #[derive(Drop)]
 pub struct Readings {
+    // The events, with the name of what was opened or the bytes that were handed out.
     log: Log,
 }
 
@@ -105,6 +106,7 @@ impl Readings {
 /// no bytes of memory.
 #[derive(Drop)]
 pub struct Said {
+    // The events, with the bytes that were taken.
     log: Log,
 }
 

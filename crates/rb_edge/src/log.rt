@@ -9,7 +9,9 @@ use std::marker::{Model, PhantomData};
 /// memory; only `new` and `note` set it.
 #[derive(Drop)]
 pub struct Log {
+    // Nothing at run time.
     marker: PhantomData<u8>,
+    // the events, in order, each its kind and its bytes
     pub ghost events: { List (ℕ × List ℕ) },
 }
 

@@ -10,6 +10,7 @@ use std::mem;
 /// A growing list over a `Vec`, whose capacity and place contracts don't see.
 #[derive(Debug, Drop)]
 pub struct Seq<T> {
+    // The items, in order.
     items: Vec<T>,
 }
 

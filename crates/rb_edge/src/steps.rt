@@ -46,7 +46,9 @@ impl Ledger for CountLedger {
 /// contracts alone, has no greatest value and takes no bytes.
 #[derive(Drop)]
 pub struct Steps<L: Ledger> {
+    // What is told of each step.
     ledger: L,
+    // An event for each step.
     log: Log,
 }
 

@@ -12,6 +12,7 @@ use std::marker::Model;
 pub struct Words {
     // Where the memory of further words comes from.
     alloc: Global,
+    // The words, in order.
     words: Seq<Name>,
 }
 

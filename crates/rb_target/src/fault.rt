@@ -6,8 +6,9 @@ ghost use Rattle.rb_target.specs.declared.fault.CodeFault.TheVariants.{Memory};
 use std::alloc::AllocError;
 use thiserror::Error;
 
-/// Bytes that spell no functions, or functions that aren't valid together. Where two numbers stand,
-/// they are those of the function among all and of its instruction, both counted from 0.
+/// Bytes that spell no functions, functions that aren't valid together, or want of memory. Where
+/// two numbers stand, they are those of the function among all and of its instruction, both counted
+/// from 0.
 #[derive(Clone, Copy, Debug, Drop, Error)]
 pub enum CodeFault {
     /// The index of the byte from which on no text of functions goes on.
