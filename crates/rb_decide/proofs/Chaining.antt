@@ -12,7 +12,7 @@ use Rattle.rb_core.specs.declared.pattern.Pat.{Pat, Wild, Var, Num, Con}
 use Rattle.rb_core.proofs.PatternLaws.{fold-Wild, fold-Var, fold-Num, fold-Con}
 use Rattle.rb_matrix.specs.declared.matrix.Head.{Head}
 use Rattle.rb_matrix.specs.declared.matrix.Head.TheVariants as H
-use Rattle.rb_matrix.specs.Problems.{heads_step, head_count, row_heads}
+use Rattle.rb_matrix.specs.Counts.{heads_step, head_count, row_heads}
 use Rattle.rb_decide.specs.declared.clause_matrix.Column.{Column}
 use Rattle.rb_decide.specs.declared.decision_tree.Tree.{Tree}
 use Rattle.rb_decide.specs.declared.decision_tree.Tree as Trees

@@ -12,7 +12,7 @@ use Rattle.rb_matrix.specs.declared.matrix.Head.{Head}
 use Rattle.rb_matrix.specs.declared.matrix.Head.TheVariants as H
 use Rattle.rb_matrix.specs.Heads.{layer_head, row_head, some_head, or_else, first_head}
 use Rattle.rb_matrix.specs.Specialize.{wilds, number_image, con_image, special_image, special_row, default_image, default_row}
-use Rattle.rb_matrix.specs.Problems.{heads_step, head_count, row_heads, rows_heads}
+use Rattle.rb_matrix.specs.Counts.{heads_step, head_count, row_heads, rows_heads}
 use Rattle.rb_decide.specs.declared.clause_matrix.Row.{Row}
 use Rattle.rb_decide.specs.ClauseMatrices.{before, to_front, row_to_front, first_test, next_column, keep_row, special_rows, default_rows}
 use Rattle.rb_decide.specs.Trees.{row_pats, heads_in}

@@ -11,7 +11,7 @@ ghost use Rattle.rb_decide.specs.Decisions.{OnUnfolded, TakesChosen, TestsOnce, 
 ghost use Rattle.rb_decide.specs.Graphs.{unfolding_of, LinksAreLower};
 ghost use Rattle.rb_decide.specs.Trees.{match_tree};
 ghost use Rattle.rb_decide.specs.inner.Chains.{AreChained, IsFieldChain, IsPatternChain, IsTest};
-ghost use Rattle.rb_matrix.specs.Problems.{head_count};
+ghost use Rattle.rb_matrix.specs.Counts.{head_count};
 
 use crate::branches::fields_of_head;
 use crate::clause_matrix::number_of;

@@ -20,7 +20,7 @@ use Rattle.rb_matrix.specs.Heads.{any_begins}
 use Rattle.rb_matrix.specs.Rows.{row_matches, vector_of}
 use Rattle.rb_matrix.specs.Specialize.{wilds}
 use Rattle.rb_matrix.specs.Search.{IsTypeIn, AreTypesIn, AreInhabited, is_plain}
-use Rattle.rb_matrix.specs.Problems.{IsBeside}
+use Rattle.rb_matrix.specs.Beside.{IsBeside}
 use Rattle.rb_matrix.proofs.Laws.{wild-matches, row-wilds}
 use Rattle.rb_matrix.proofs.HeadLemmas.{any_begins-con}
 use Rattle.rb_matrix.proofs.Inhabited.{out-num, live, lives, con-types}

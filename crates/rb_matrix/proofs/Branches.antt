@@ -13,7 +13,8 @@ use Rattle.rb_matrix.specs.declared.problem.Branches.{Branches}
 use Rattle.rb_matrix.specs.declared.problem.Left.TheVariants.{Whole, ByHead}
 use Rattle.rb_matrix.specs.Heads.{begins, any_begins, first_head, some_head}
 use Rattle.rb_matrix.specs.Search.{AreTypesIn}
-use Rattle.rb_matrix.specs.Problems.{with_column, NoneBy, IsPartAt, rows_heads, part_cost}
+use Rattle.rb_matrix.specs.inner.Problems.{with_column, NoneBy, IsPartAt, part_cost}
+use Rattle.rb_matrix.specs.Counts.{rows_heads}
 use Rattle.rb_matrix.specs.inner.Left.{parent, wholes, NoneByHead, AllNone, costs, LeadsTo, AreWithin, IsSplit}
 use Rattle.rb_matrix.proofs.HeadLemmas.{any_begins-append}
 use Rattle.rb_matrix.proofs.Weights.{first_head-count, some-part-cost, one-head-less, heads-fewer}

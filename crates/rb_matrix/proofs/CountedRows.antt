@@ -2,7 +2,7 @@
 use Rattle.std.proofs.Common.{◌≡◌, ℕ, zero, suc, ◌+◌, ◌-◌, ◌<◌, List, ◌∷◌, ◌++◌, true, ◌&&◌, Some, refl, sym, ap, ◌∙◌, arith}
 use Rattle.rb_core.specs.declared.pattern.Pat.{Pat, Wild, out-Pat}
 use Rattle.rb_matrix.specs.declared.matrix.Head.{Head}
-use Rattle.rb_matrix.specs.Open.{layer_open, is_open}
+use Rattle.rb_matrix.specs.inner.Open.{layer_open, is_open}
 use Rattle.rb_matrix.specs.Specialize.{wilds, special_image, special_row}
 
 wild-open : layer_open (out-Pat (Wild 0)) ≡ true

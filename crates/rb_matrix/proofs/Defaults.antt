@@ -13,7 +13,7 @@ use Rattle.rb_matrix.specs.Rows.{row_matches, any_row, all_rows, vector_of}
 use Rattle.rb_matrix.specs.Heads.{begins, any_begins, column_begins, first_head}
 use Rattle.rb_matrix.specs.Specialize.{defaults}
 use Rattle.rb_matrix.specs.Search.{row_plain, sought, IsFound, IsNowhere}
-use Rattle.rb_matrix.specs.Problems.{IsBeside}
+use Rattle.rb_matrix.specs.Beside.{IsBeside}
 use Rattle.rb_matrix.proofs.Laws.{default-any, default-all, default-lost, default-less, first-lost, no-head}
 use Rattle.rb_matrix.proofs.Vectors.{and-left, and-right}
 use Rattle.rb_matrix.proofs.Parts.{three, off}

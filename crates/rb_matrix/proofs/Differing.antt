@@ -12,9 +12,10 @@ use Rattle.rb_core.specs.declared.types.ConRef.{ConRef}
 use Rattle.rb_core.specs.declared.pattern.Pat.{Pat}
 use Rattle.rb_core.specs.declared.pattern.Pat as Pats
 use Rattle.rb_core.specs.Matching.{all_pass, is_con, matches_of, option_matches, clause_matches}
-use Rattle.rb_matrix.specs.Exhaust.{any_matches}
+use Rattle.rb_matrix.specs.inner.OneColumn.{any_matches}
 use Rattle.rb_matrix.specs.Rows.{row_matches, any_row}
-use Rattle.rb_matrix.specs.inner.Against.{AreApart, HaveApart, AreRowsNear, StandFor}
+use Rattle.rb_matrix.specs.Apart.{AreApart}
+use Rattle.rb_matrix.specs.inner.Against.{HaveApart, AreRowsNear, StandFor}
 use Rattle.rb_matrix.proofs.Vectors.{and-left, and-right, con-matches}
 
 -- Fields -----------------------------------------------------------------------------------------

@@ -14,7 +14,8 @@ use Rattle.rb_core.specs.Values.{is_of_type}
 use Rattle.rb_matrix.specs.Rows.{row_matches, any_row, all_rows}
 use Rattle.rb_matrix.specs.Search.{is_plain, sought, IsFound, IsNowhere, IsAnswer}
 use Rattle.rb_matrix.specs.inner.Against.{IsCovered, StandFor}
-use Rattle.rb_matrix.specs.Exhaust.{one_each, any_matches, IsMissing, IsReached, IsReachAnswer, IsOneAnswer, both_match, IsCommon}
+use Rattle.rb_matrix.specs.inner.OneColumn.{one_each, any_matches, IsReachAnswer, IsOneAnswer}
+use Rattle.rb_matrix.specs.Exhaust.{IsMissing, IsReached, both_match, IsCommon}
 use Rattle.rb_matrix.proofs.Laws.{or-false-left, or-false-right}
 use Rattle.rb_matrix.proofs.Vectors.{and-left, and-right, plain-length}
 

@@ -15,7 +15,7 @@ use Rattle.rb_core.specs.declared.pattern.Pat as Pats
 use Rattle.rb_core.specs.Matching.{all_pass, is_con, matches_of}
 use Rattle.rb_core.specs.Values.{subs, subs_in}
 use Rattle.rb_matrix.specs.declared.index.Index.{Index}
-use Rattle.rb_matrix.specs.inner.Against.{AreApart}
+use Rattle.rb_matrix.specs.Apart.{AreApart}
 use Rattle.rb_matrix.specs.inner.Index.{key_of, HasKey, IsIn, IsGrouped, Extends, AreNear}
 use Rattle.rb_matrix.proofs.Differing.{at-con, pass-at}
 use Rattle.rb_matrix.proofs.Vectors.{and-right}

@@ -2,7 +2,7 @@
 use Rattle.std.proofs.Common.{◌≡◌, List, [], ◌∷◌, ◌++◌, ◌&&◌, refl, sym, ap, ◌∙◌}
 use Rattle.std.proofs.Math.Bool.{and_assoc}
 use Rattle.rb_core.specs.declared.pattern.Pat.{Pat, out-Pat}
-use Rattle.rb_matrix.specs.Open.{layer_open, is_open}
+use Rattle.rb_matrix.specs.inner.Open.{layer_open, is_open}
 
 pub open_append : (ps qs : List Pat) → is_open (ps ++ qs) ≡ (is_open ps && is_open qs)
 open_append [] qs = refl

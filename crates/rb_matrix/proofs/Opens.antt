@@ -11,7 +11,7 @@ use Rattle.rb_core.specs.declared.pattern.Pat.TheOpen.{Pat-F}
 use Rattle.rb_matrix.specs.declared.problem.Problem.{Problem}
 use Rattle.rb_matrix.specs.declared.problem.Left.{Left}
 use Rattle.rb_matrix.specs.declared.problem.Left.TheVariants.{Whole}
-use Rattle.rb_matrix.specs.Open.{layer_open, is_open, any_open}
+use Rattle.rb_matrix.specs.inner.Open.{layer_open, is_open, any_open}
 use Rattle.rb_matrix.specs.Rows.{row_matches, any_row, all_rows, vector_of}
 use Rattle.rb_matrix.specs.Search.{IsNowhere}
 use Rattle.rb_matrix.specs.inner.Left.{IsSplit}

@@ -21,7 +21,7 @@ use Rattle.rb_matrix.specs.Rows.{row_matches, any_row, all_rows, vector_of}
 use Rattle.rb_matrix.specs.Heads.{layer_begins, begins, fields_at}
 use Rattle.rb_matrix.specs.Specialize.{special}
 use Rattle.rb_matrix.specs.Search.{AreTypesIn, AreInhabited, is_plain, row_plain, sought, IsFound, IsNowhere}
-use Rattle.rb_matrix.specs.Problems.{closed, step_of, fields_bound}
+use Rattle.rb_matrix.specs.inner.Problems.{closed, step_of, fields_bound}
 use Rattle.rb_matrix.proofs.Laws.{special-any, special-all, special-lost}
 use Rattle.rb_matrix.proofs.Vectors.{and-left, and-right, row-length, split-row, vector-append, vector-length, plain-append, plain-length, con-of, con-of_int, num-of, num-of_int, num-matches, con-matches, num-plain, con-plain}
 use Rattle.rb_matrix.proofs.Besides.{fields-live}

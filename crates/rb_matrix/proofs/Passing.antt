@@ -17,9 +17,9 @@ use Rattle.rb_core.specs.Matching.{matches_of, chosen_clause, is_number, is_con,
 use Rattle.rb_core.specs.Values.{is_of_type}
 use Rattle.rb_matrix.specs.declared.matrix.Head.TheVariants as H
 use Rattle.rb_matrix.specs.declared.passed.Passed.{Passed}
-use Rattle.rb_matrix.specs.Exhaust.{any_matches, IsReachAnswer}
+use Rattle.rb_matrix.specs.inner.OneColumn.{any_matches, IsReachAnswer}
 use Rattle.rb_matrix.specs.Heads.{fields_at}
-use Rattle.rb_matrix.specs.Open.{layer_open}
+use Rattle.rb_matrix.specs.inner.Open.{layer_open}
 use Rattle.rb_matrix.specs.Known.{has}
 use Rattle.rb_matrix.specs.inner.Indexes.{BothExtend}
 use Rattle.rb_matrix.specs.inner.Passed.{layer_number, some_open, some_number, ArePassed}

@@ -15,7 +15,8 @@ use Rattle.rb_matrix.specs.declared.problem.Left.TheVariants.{Whole}
 use Rattle.rb_matrix.specs.Heads.{any_begins, column_begins, first_head, some_head, fields_at}
 use Rattle.rb_matrix.specs.Specialize.{special, defaults}
 use Rattle.rb_matrix.specs.Search.{IsTypeIn, AreTypesIn, AreInhabited, IsFound, IsNowhere}
-use Rattle.rb_matrix.specs.Problems.{closed, step_of, FoundIn, NoneIn, NoneBy, IsPart, IsPartAt, IsBeside}
+use Rattle.rb_matrix.specs.inner.Problems.{closed, step_of, FoundIn, NoneIn, NoneBy, IsPart, IsPartAt}
+use Rattle.rb_matrix.specs.Beside.{IsBeside}
 use Rattle.rb_matrix.specs.inner.Left.{IsSplit}
 use Rattle.rb_matrix.proofs.Laws.{special-length, defaults-length, no-head}
 use Rattle.rb_matrix.proofs.Inhabited.{live}

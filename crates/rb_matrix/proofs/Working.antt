@@ -11,7 +11,7 @@ use Rattle.rb_matrix.specs.declared.problem.Left.{Left}
 use Rattle.rb_matrix.specs.declared.problem.Left.TheVariants.{Whole, ByHead}
 use Rattle.rb_matrix.specs.Rows.{row_matches, any_row, all_rows, vector_of}
 use Rattle.rb_matrix.specs.Search.{AreTypesIn, sought, IsFound, IsNowhere}
-use Rattle.rb_matrix.specs.Problems.{with_column, closed, closed_all, FoundIn, IsPart}
+use Rattle.rb_matrix.specs.inner.Problems.{with_column, closed, closed_all, FoundIn, IsPart}
 use Rattle.rb_matrix.specs.inner.Left.{NoneOf, AllNone, left_cost, costs, LeadsTo, IsWithin, AreWithin, IsWorking, IsSplit}
 use Rattle.rb_matrix.proofs.Weights.{some-cost}
 

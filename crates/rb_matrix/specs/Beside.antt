@@ -1,14 +1,18 @@
 -- Which of the patterns beside heads is given.
-use Rattle.std.specs.Prelude.{◌≡◌, ℕ, ◌<◌, List, [], ◌∷◌, length, Bool, true, false, Some, slice_get}
+use Rattle.std.specs.Prelude.{◌≡◌, ℕ, ◌<◌, List, [], ◌∷◌, length, Bool, true, false, Option, Some, None, slice_get}
+use Rattle.rb_core.specs.declared.value.Value.{Value, out-Value}
 use Rattle.rb_core.specs.declared.value.Value.TheOpen as V
+use Rattle.rb_core.specs.declared.value.Value.TheOpen.{Value-F}
 use Rattle.rb_core.specs.declared.types.Ty.{Ty}
 use Rattle.rb_core.specs.declared.types.Ty.TheVariants.{Int, Named}
 use Rattle.rb_core.specs.declared.types.DataDecl.{DataDecl}
 use Rattle.rb_core.specs.declared.pattern.Pat.{Pat}
 use Rattle.rb_core.specs.declared.pattern.Pat as Pats
-use Rattle.rb_core.specs.Values.{fields_in}
+use Rattle.rb_core.specs.Matching.{matches_of}
+use Rattle.rb_core.specs.Values.{fields_in, is_of_type}
 use Rattle.rb_matrix.specs.declared.matrix.Head.{Head}
 use Rattle.rb_matrix.specs.Heads.{any_begins}
+use Rattle.rb_matrix.specs.Search.{is_plain}
 use Rattle.rb_matrix.specs.Specialize.{wilds}
 
 -- the first number that is not among some
@@ -31,3 +35,16 @@ abbrev pub IsFirstBeside : List DataDecl → Ty → List Head → Pat → Type 0
 IsFirstBeside types ty [] q = q ≡ Pats.Wild 0
 IsFirstBeside types (Int bits) (h ∷ hs) q = IsLeastNumber (h ∷ hs) q
 IsFirstBeside types (Named t) (h ∷ hs) q = IsFirstCon types t (h ∷ hs) q
+
+-- a pattern beside what values begin with: it has a value of the type, and none that begins so
+pub record IsBeside (types : List DataDecl) (ty : Ty) (begun : Value-F Value → Bool) (q : Pat) : Type 0 where
+  pub plain : is_plain types q ty ≡ true
+  pub value : Value
+  pub typed : is_of_type types value ty ≡ true
+  pub matched : matches_of q value ≡ true
+  pub apart : (v : Value) → is_of_type types v ty ≡ true → matches_of q v ≡ true → begun (out-Value v) ≡ false
+
+-- such a pattern exactly where the heads are not all that values of the type begin with
+abbrev pub IsBesideAnswer : List DataDecl → Ty → List Head → Option Pat → Type 0
+IsBesideAnswer types ty hs None = (v : Value) → is_of_type types v ty ≡ true → any_begins hs (out-Value v) ≡ true
+IsBesideAnswer types ty hs (Some q) = IsBeside types ty (any_begins hs) q

@@ -1,5 +1,5 @@
 -- Patterns one below another: whether they match every value, and which of them is ever the first.
-use Rattle.std.specs.Prelude.{◌≡◌, ℕ, ◌<◌, List, [], ◌∷◌, length, Contains, Bool, true, false, ◌&&◌, ◌||◌, Option, Some, None, Result, Ok, Err}
+use Rattle.std.specs.Prelude.{◌≡◌, ℕ, ◌<◌, List, length, Contains, Bool, true, false, ◌&&◌, Option, Some, None, Result, Ok, Err}
 use Rattle.std.specs.List.Sorted.{IsStrictlyIncreasing}
 use Rattle.rb_core.specs.declared.value.Value.{Value}
 use Rattle.rb_core.specs.declared.types.Ty.{Ty}
@@ -9,17 +9,7 @@ use Rattle.rb_core.specs.Matching.{matches_of, chosen_clause, IsExhaustive, IsUn
 use Rattle.rb_core.specs.Values.{is_of_type}
 use Rattle.rb_matrix.specs.declared.coverage.MatrixFault.{MatrixFault}
 use Rattle.rb_matrix.specs.declared.coverage.MatrixFault.TheVariants.{Missing, Memory}
-use Rattle.rb_matrix.specs.Search.{is_plain, IsFound, IsNowhere}
-
--- each pattern as a row of its own
-abbrev pub one_each : List Pat → List (List Pat)
-one_each [] = []
-one_each (p ∷ ps) = (p ∷ []) ∷ one_each ps
-
--- some pattern matches
-abbrev pub any_matches : List Pat → Value → Bool
-any_matches [] v = false
-any_matches (p ∷ ps) v = matches_of p v || any_matches ps v
+use Rattle.rb_matrix.specs.Search.{is_plain}
 
 -- Missing values ------------------------------------------------------------------------------
 
@@ -45,10 +35,6 @@ pub record IsReached (types : List DataDecl) (ty : Ty) (ps : List Pat) (i : ℕ)
   pub value : Value
   pub typed : is_of_type types value ty ≡ true
   pub chosen : chosen_clause ps value ≡ Some i
-
-abbrev pub IsReachAnswer : List DataDecl → Ty → List Pat → ℕ → Bool → Type 0
-IsReachAnswer types ty ps i true = IsReached types ty ps i
-IsReachAnswer types ty ps i false = IsUnreached types ty ps i
 
 -- of the first n patterns, the numbers of exactly those that are the first match of no value; each
 -- of the others is the first match of some value
@@ -79,9 +65,3 @@ pub record IsCommon (types : List DataDecl) (ty : Ty) (p q r : Pat) : Type 0 whe
 abbrev pub IsCommonAnswer : List DataDecl → Ty → Pat → Pat → Option Pat → Type 0
 IsCommonAnswer types ty p q None = (v : Value) → is_of_type types v ty ≡ true → both_match p q v ≡ false
 IsCommonAnswer types ty p q (Some r) = IsCommon types ty p q r
-
--- One column ----------------------------------------------------------------------------------
-
-abbrev pub IsOneAnswer : List DataDecl → Ty → List (List Pat) → List (List Pat) → Option Pat → Type 0
-IsOneAnswer types ty wanted unwanted None = IsNowhere types (ty ∷ []) wanted unwanted
-IsOneAnswer types ty wanted unwanted (Some q) = IsFound types (ty ∷ []) wanted unwanted (q ∷ [])

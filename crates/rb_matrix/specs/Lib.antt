@@ -1,9 +1,9 @@
+pub mod Apart
 pub mod Beside
+pub mod Counts
 pub mod Exhaust
 pub mod Heads
 pub mod Known
-pub mod Open
-pub mod Problems
 pub mod Rows
 pub mod Search
 pub mod Specialize

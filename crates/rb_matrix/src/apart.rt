@@ -2,7 +2,8 @@
 //! that another does.
 
 ghost use Rattle.std.specs.Bool.{OnTrue};
-ghost use Rattle.rb_matrix.specs.inner.Against.{AreApart, HaveApart, Covers, CoverEach};
+ghost use Rattle.rb_matrix.specs.Apart.{AreApart};
+ghost use Rattle.rb_matrix.specs.inner.Against.{HaveApart, Covers, CoverEach};
 
 use rb_core::pattern::Pat;
 

@@ -3,9 +3,8 @@
 ghost use Rattle.std.specs.Prelude.{◌≡◌, ◌+◌, ◌^◌, ◌<◌, ◌≤◌, ℕ, [], length, IfOk, IfSome, MatchOption, true, false};
 ghost use Rattle.rb_core.specs.declared.value.Value.TheOpen as Layers;
 ghost use Rattle.rb_core.specs.declared.types.Ty.TheVariants as Tys;
-ghost use Rattle.rb_matrix.specs.Beside.{IsFirstCon, IsFirstBeside};
+ghost use Rattle.rb_matrix.specs.Beside.{IsFirstCon, IsFirstBeside, IsBesideAnswer};
 ghost use Rattle.rb_matrix.specs.Heads.{any_begins};
-ghost use Rattle.rb_matrix.specs.Problems.{IsBesideAnswer};
 ghost use Rattle.rb_matrix.specs.Search.{AreInhabited, IsTypeIn};
 ghost use Rattle.rb_matrix.specs.Specialize.{wilds};
 

@@ -3,7 +3,8 @@
 
 ghost use Rattle.std.specs.Prelude.{◌≡◌, ◌<◌, ◌∷◌, [], IfOk, length, take};
 ghost use Rattle.rb_matrix.specs.declared.coverage.MatrixFault.TheVariants as MatrixFaults;
-ghost use Rattle.rb_matrix.specs.Exhaust.{IsExhaustAnswer, IsReachAnswer, AreUnreached, IsCommonAnswer, IsOneAnswer, one_each};
+ghost use Rattle.rb_matrix.specs.Exhaust.{IsExhaustAnswer, AreUnreached, IsCommonAnswer};
+ghost use Rattle.rb_matrix.specs.inner.OneColumn.{IsReachAnswer, IsOneAnswer, one_each};
 ghost use Rattle.rb_matrix.specs.Search.{AreInhabited, IsTypeIn};
 ghost use Rattle.rb_matrix.specs.inner.Against.{AreRowsNear, StandFor};
 ghost use Rattle.rb_matrix.specs.inner.Indexes.{AreIndexes};

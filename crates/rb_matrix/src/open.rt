@@ -1,7 +1,7 @@
 //! Patterns without a head, which match every vector of their length.
 
 ghost use Rattle.std.specs.Prelude.{◌≡◌};
-ghost use Rattle.rb_matrix.specs.Open.{is_open as the_open};
+ghost use Rattle.rb_matrix.specs.inner.Open.{is_open as the_open};
 
 use crate::stack::Stack;
 use rb_core::pattern::Pat;

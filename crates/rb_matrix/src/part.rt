@@ -4,7 +4,8 @@ ghost use Rattle.std.specs.Prelude.{◌≡◌, ◌+◌, ◌≤◌, ◌∷◌, �
 ghost use Rattle.rb_matrix.specs.declared.problem.Left.TheVariants.{Whole, ByHead};
 ghost use Rattle.rb_matrix.specs.Heads.{column_begins, first_head, some_head};
 ghost use Rattle.rb_matrix.specs.Search.{AreInhabited, IsTypeIn, AreTypesIn};
-ghost use Rattle.rb_matrix.specs.Problems.{IsPartAt, IsBeside, step_of, with_column};
+ghost use Rattle.rb_matrix.specs.inner.Problems.{IsPartAt, step_of, with_column};
+ghost use Rattle.rb_matrix.specs.Beside.{IsBeside};
 ghost use Rattle.rb_matrix.specs.inner.Left.{IsReady, IsSplit, wholes};
 
 use crate::beside::pattern_beside;

@@ -5,7 +5,7 @@ ghost use Rattle.std.specs.Prelude.{◌≡◌, ◌&&◌, ◌||◌, [], ℕ, not,
 ghost use Rattle.rb_core.specs.declared.pattern.Pat.{out-Pat};
 ghost use Rattle.rb_matrix.specs.declared.matrix.Head.TheVariants as Heads;
 ghost use Rattle.rb_matrix.specs.Heads.{fields_at};
-ghost use Rattle.rb_matrix.specs.Open.{layer_open};
+ghost use Rattle.rb_matrix.specs.inner.Open.{layer_open};
 ghost use Rattle.rb_matrix.specs.Known.{has};
 ghost use Rattle.rb_matrix.specs.inner.Indexes.{BothExtend};
 ghost use Rattle.rb_matrix.specs.inner.Passed.{layer_number, ArePassed};

@@ -3,7 +3,7 @@
 ghost use Rattle.std.specs.Prelude.{◌≡◌, ◌∷◌, ◌==◌, [], ℕ, None, length, IfOk};
 ghost use Rattle.std.specs.Bool.{OnTrue};
 ghost use Rattle.rb_matrix.specs.Heads.{row_head};
-ghost use Rattle.rb_matrix.specs.Open.{is_open as the_open};
+ghost use Rattle.rb_matrix.specs.inner.Open.{is_open as the_open};
 ghost use Rattle.rb_matrix.specs.Rows.{row_matches};
 ghost use Rattle.rb_matrix.specs.Specialize.{special_row, default_row};
 

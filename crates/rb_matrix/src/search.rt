@@ -15,7 +15,7 @@ ghost use Rattle.rb_core.specs.declared.types.DataDecl as DataDecls;
 ghost use Rattle.rb_matrix.specs.declared.problem.Left.TheVariants.{Whole};
 ghost use Rattle.rb_matrix.specs.Rows.{any_row, all_rows};
 ghost use Rattle.rb_matrix.specs.Search.{AreInhabited, AreTypesIn, IsAnswer};
-ghost use Rattle.rb_matrix.specs.Problems.{root_of};
+ghost use Rattle.rb_matrix.specs.inner.Problems.{root_of};
 ghost use Rattle.rb_matrix.specs.inner.Left.{IsOutcome, IsReady};
 
 use crate::part::{next_part, parts_of};

@@ -2,7 +2,7 @@
 
 ghost use Rattle.std.specs.Prelude.{◌≡◌, [], take, drop, IfOk, OnOk};
 ghost use Rattle.std.specs.declared.collections.VecDeque.{VecDeque};
-ghost use Rattle.rb_matrix.specs.Problems.{closed, closed_all};
+ghost use Rattle.rb_matrix.specs.inner.Problems.{closed, closed_all};
 
 use crate::problem::Step;
 use rb_core::pattern::Pat;

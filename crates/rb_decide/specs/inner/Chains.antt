@@ -6,7 +6,7 @@ use Rattle.rb_core.specs.declared.pattern.Pat.{Pat}
 use Rattle.rb_core.specs.declared.pattern.Pat.TheOpen as P
 use Rattle.rb_core.specs.declared.pattern.Pat.TheOpen.{Pat-F}
 use Rattle.rb_core.specs.declared.pattern.Pat.TheFolds.{fold-Pat}
-use Rattle.rb_matrix.specs.Problems.{head_count, row_heads}
+use Rattle.rb_matrix.specs.Counts.{head_count, row_heads}
 use Rattle.rb_matrix.specs.declared.matrix.Head.{Head}
 use Rattle.rb_matrix.specs.declared.matrix.Head.TheVariants as H
 use Rattle.rb_decide.specs.declared.clause_matrix.Column.{Column}

@@ -3,12 +3,9 @@ use Rattle.std.specs.Prelude.{◌≡◌, ◌<◌, ℕ, List, [], ◌∷◌, Cont
 use Rattle.rb_core.specs.declared.value.Value.{Value}
 use Rattle.rb_core.specs.declared.pattern.Pat.{Pat}
 use Rattle.rb_core.specs.Matching.{matches_of, clause_matches}
-use Rattle.rb_matrix.specs.Exhaust.{any_matches}
+use Rattle.rb_matrix.specs.Apart.{AreApart}
 use Rattle.rb_matrix.specs.Rows.{row_matches, any_row}
-
--- no value matches both patterns
-abbrev pub AreApart : Pat → Pat → Type 0
-AreApart p q = (v : Value) → matches_of p v ≡ true → matches_of q v ≡ true → ⊥
+use Rattle.rb_matrix.specs.inner.OneColumn.{any_matches}
 
 -- the patterns in one place are apart
 abbrev pub HaveApart : List Pat → List Pat → Type 0

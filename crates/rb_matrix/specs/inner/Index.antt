@@ -9,7 +9,7 @@ use Rattle.rb_core.specs.declared.pattern.Pat.{Pat}
 use Rattle.rb_core.specs.Matching.{matches_of}
 use Rattle.rb_core.specs.Values.{subs}
 use Rattle.rb_matrix.specs.declared.index.Index.{Index}
-use Rattle.rb_matrix.specs.inner.Against.{AreApart}
+use Rattle.rb_matrix.specs.Apart.{AreApart}
 
 -- the number of what a value begins with
 abbrev pub head_number : Value-F Value → ℕ

@@ -2,7 +2,7 @@
 use Rattle.std.specs.Prelude.{◌≡◌, ℕ, List, length, Contains, Some, slice_get, ◌⊎◌}
 use Rattle.rb_core.specs.declared.pattern.Pat.{Pat}
 use Rattle.rb_matrix.specs.declared.indexes.Indexes.{Indexes}
-use Rattle.rb_matrix.specs.inner.Against.{AreApart}
+use Rattle.rb_matrix.specs.Apart.{AreApart}
 use Rattle.rb_matrix.specs.inner.Index.{IsIndex, Extends}
 
 pub record AreIndexes (ps : List Pat) (x : Indexes) : Type 0 where

@@ -11,7 +11,7 @@ use Rattle.rb_matrix.specs.declared.problem.Outcome.{Outcome}
 use Rattle.rb_matrix.specs.declared.problem.Outcome.TheVariants.{Solved, Split}
 use Rattle.rb_matrix.specs.Heads.{any_begins, first_head, some_head}
 use Rattle.rb_matrix.specs.Search.{AreTypesIn, sought}
-use Rattle.rb_matrix.specs.Problems.{closed_all, with_column, FoundIn, NoneIn, cost, part_cost}
+use Rattle.rb_matrix.specs.inner.Problems.{closed_all, with_column, FoundIn, NoneIn, cost, part_cost}
 
 -- the problem whose branches these are
 abbrev pub parent : Branches → Problem

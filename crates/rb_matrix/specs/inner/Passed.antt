@@ -5,7 +5,7 @@ use Rattle.rb_core.specs.declared.pattern.Pat.TheOpen as P
 use Rattle.rb_core.specs.declared.pattern.Pat.TheOpen.{Pat-F}
 use Rattle.rb_matrix.specs.declared.passed.Passed.{Passed}
 use Rattle.rb_matrix.specs.Known.{has}
-use Rattle.rb_matrix.specs.Open.{layer_open}
+use Rattle.rb_matrix.specs.inner.Open.{layer_open}
 use Rattle.rb_matrix.specs.inner.Indexes.{AreIndexes}
 
 -- whether a pattern is this number

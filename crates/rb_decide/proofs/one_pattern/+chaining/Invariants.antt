@@ -1,5 +1,5 @@
 use Rattle.std.proofs.Common.{◌+◌, ◌*◌, ◌-◌}
-use Rattle.rb_matrix.specs.Problems.{head_count, row_heads}
+use Rattle.rb_matrix.specs.Counts.{head_count, row_heads}
 use Rattle.rb_decide.proofs.Chaining.{AreFrom}
 use Rattle.rb_decide.proofs.one_pattern.+chaining.Given as goal
 

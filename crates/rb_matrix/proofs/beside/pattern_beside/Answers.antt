@@ -2,9 +2,8 @@ use Rattle.std.proofs.Common.{◌≡◌, ◌∙◌, ◌==◌, true, refl, sym, a
 use Rattle.std.proofs.lemmas.Bool.{eqb-true, false≢true}
 use Rattle.rb_core.specs.declared.pattern.Pat as Pats
 use Rattle.rb_core.specs.Values.{is_of_type}
-use Rattle.rb_matrix.specs.Beside.{IsFirstBeside}
+use Rattle.rb_matrix.specs.Beside.{IsFirstBeside, IsBeside}
 use Rattle.rb_matrix.specs.Heads.{any_begins}
-use Rattle.rb_matrix.specs.Problems.{IsBeside}
 use Rattle.rb_matrix.specs.Search.{IsTypeIn}
 use Rattle.rb_matrix.proofs.BesideFirst.{none-first, number-first}
 use Rattle.rb_matrix.proofs.Inhabited.{wide}

@@ -1,5 +1,5 @@
 use Rattle.std.proofs.Common.{[], ◌∷◌, subst}
-use Rattle.rb_matrix.specs.Exhaust.{IsOneAnswer}
+use Rattle.rb_matrix.specs.inner.OneColumn.{IsOneAnswer}
 use Rattle.rb_matrix.proofs.Exhausts.{none-common, is-common}
 use Rattle.rb_matrix.proofs.coverage.common.Goals as goal
 

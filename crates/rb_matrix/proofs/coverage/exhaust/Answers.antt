@@ -1,5 +1,5 @@
 use Rattle.std.proofs.Common.{[], subst}
-use Rattle.rb_matrix.specs.Exhaust.{IsOneAnswer, one_each}
+use Rattle.rb_matrix.specs.inner.OneColumn.{IsOneAnswer, one_each}
 use Rattle.rb_matrix.proofs.Exhausts.{all-chosen, is-missing}
 use Rattle.rb_matrix.proofs.coverage.exhaust.Goals as goal
 

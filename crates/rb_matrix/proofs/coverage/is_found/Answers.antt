@@ -3,7 +3,7 @@ use Rattle.std.specs.Bool.{OnTrue}
 use Rattle.rb_matrix.specs.inner.Against.{IsCovered}
 use Rattle.std.specs.Prelude.{slice_get}
 use Rattle.std.proofs.lemmas.Option.{slice_get_read}
-use Rattle.rb_matrix.specs.Exhaust.{IsReachAnswer, IsOneAnswer}
+use Rattle.rb_matrix.specs.inner.OneColumn.{IsReachAnswer, IsOneAnswer}
 use Rattle.rb_matrix.proofs.Exhausts.{reach-answer, covered-unreached}
 use Rattle.rb_matrix.proofs.coverage.is_found.Goals as goal
 

@@ -4,7 +4,7 @@ use Rattle.std.specs.Bool.{OnTrue}
 use Rattle.std.proofs.lemmas.List.{take_more}
 use Rattle.std.proofs.lemmas.Option.{slice_get_read}
 use Rattle.rb_core.specs.Matching.{option_matches}
-use Rattle.rb_matrix.specs.inner.Against.{AreApart}
+use Rattle.rb_matrix.specs.Apart.{AreApart}
 use Rattle.rb_matrix.proofs.Differing.{rows-same, rows-more}
 use Rattle.rb_matrix.proofs.coverage.rows_near.Goals as goal
 

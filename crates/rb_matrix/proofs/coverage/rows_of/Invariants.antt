@@ -1,5 +1,5 @@
 use Rattle.std.proofs.Common.{◌≡◌, ◌++◌, drop}
-use Rattle.rb_matrix.specs.Exhaust.{one_each}
+use Rattle.rb_matrix.specs.inner.OneColumn.{one_each}
 use Rattle.rb_matrix.proofs.coverage.rows_of.Given as goal
 
 abbrev pub invariant-loop-pat : goal.invariant-loop-pat

@@ -1,7 +1,7 @@
 use Rattle.std.proofs.Common.{◌≡◌, Some, refl, subst, arith}
 use Rattle.std.specs.Prelude.{slice_get}
 use Rattle.std.proofs.lemmas.Option.{slice_get_read}
-use Rattle.rb_matrix.specs.Exhaust.{IsReachAnswer}
+use Rattle.rb_matrix.specs.inner.OneColumn.{IsReachAnswer}
 use Rattle.rb_matrix.proofs.Passing.{passed-more}
 use Rattle.rb_matrix.proofs.Reaches.{reached-more, unreached-more}
 use Rattle.rb_matrix.proofs.coverage.unreached.Goals as goal

@@ -1,5 +1,5 @@
 use Rattle.std.proofs.Common.{◌≡◌, drop}
-use Rattle.rb_matrix.specs.Open.{is_open}
+use Rattle.rb_matrix.specs.inner.Open.{is_open}
 use Rattle.rb_matrix.proofs.open.are_open.Given as goal
 
 abbrev pub invariant-loop-pat : goal.invariant-loop-pat

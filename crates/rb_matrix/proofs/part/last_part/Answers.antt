@@ -2,7 +2,7 @@ use Rattle.std.proofs.Common.{◌∷◌, ◌++◌, [], List, refl, sym, ap, ◌�
 use Rattle.std.specs.Option.{option_copied}
 use Rattle.rb_core.specs.declared.types.Ty.{Ty}
 use Rattle.rb_matrix.specs.declared.problem.Step.{Step}
-use Rattle.rb_matrix.specs.Problems.{with_column}
+use Rattle.rb_matrix.specs.inner.Problems.{with_column}
 use Rattle.rb_matrix.proofs.Parts.{no-fields}
 use Rattle.rb_matrix.proofs.Splits.{part-gone, part-at}
 use Rattle.rb_matrix.proofs.part.last_part.Goals as goal

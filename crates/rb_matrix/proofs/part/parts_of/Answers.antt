@@ -5,7 +5,9 @@ use Rattle.rb_matrix.specs.declared.matrix.Head.{Head}
 use Rattle.rb_matrix.specs.declared.problem.Left.{Left}
 use Rattle.rb_matrix.specs.declared.problem.Left.TheVariants.{Whole, ByHead}
 use Rattle.rb_matrix.specs.Heads.{any_begins, column_begins, first_head}
-use Rattle.rb_matrix.specs.Problems.{IsBesideAnswer, rows_heads, with_column}
+use Rattle.rb_matrix.specs.Beside.{IsBesideAnswer}
+use Rattle.rb_matrix.specs.Counts.{rows_heads}
+use Rattle.rb_matrix.specs.inner.Problems.{with_column}
 use Rattle.rb_matrix.specs.inner.Left.{IsSplit}
 use Rattle.rb_matrix.proofs.Splits.{some-stands}
 use Rattle.rb_matrix.proofs.Branches.{one-branch, all-branches}

@@ -1,5 +1,5 @@
 use Rattle.std.proofs.Common.{refl, arith}
-use Rattle.rb_matrix.specs.Problems.{with_column}
+use Rattle.rb_matrix.specs.inner.Problems.{with_column}
 use Rattle.rb_matrix.proofs.Splits.{rest-gone, rest-split}
 use Rattle.rb_matrix.proofs.part.rest_part.Goals as goal
 

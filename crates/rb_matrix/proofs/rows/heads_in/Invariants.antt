@@ -2,7 +2,7 @@ use Rattle.std.proofs.Common.{◌≡◌, ◌+◌, ◌≤◌, ◌||◌, drop, len
 use Rattle.rb_core.specs.declared.value.Value.{Value}
 use Rattle.rb_core.specs.declared.value.Value.TheOpen.{Value-F}
 use Rattle.rb_matrix.specs.Heads.{any_begins, column_begins}
-use Rattle.rb_matrix.specs.Problems.{rows_heads}
+use Rattle.rb_matrix.specs.Counts.{rows_heads}
 use Rattle.rb_matrix.specs.Known.{AreNumbersOf}
 use Rattle.rb_matrix.proofs.rows.heads_in.Given as goal
 

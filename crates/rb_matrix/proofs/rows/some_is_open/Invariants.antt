@@ -1,5 +1,5 @@
 use Rattle.std.proofs.Common.{◌≡◌, drop}
-use Rattle.rb_matrix.specs.Open.{any_open}
+use Rattle.rb_matrix.specs.inner.Open.{any_open}
 use Rattle.rb_matrix.proofs.rows.some_is_open.Given as goal
 
 abbrev pub invariant-loop-row : goal.invariant-loop-row

@@ -1,6 +1,6 @@
 use Rattle.std.proofs.Common.{[], ◌∷◌, ◌++◌, sym, ap, ◌∙◌, subst, arith}
 use Rattle.rb_matrix.specs.declared.problem.Left.TheVariants.{Whole}
-use Rattle.rb_matrix.specs.Problems.{closed_all, FoundIn}
+use Rattle.rb_matrix.specs.inner.Problems.{closed_all, FoundIn}
 use Rattle.rb_matrix.specs.inner.Left.{IsOutcome, IsWorking, costs}
 use Rattle.rb_matrix.proofs.Working.{within-last, working-split, working-start, split-falls}
 use Rattle.rb_matrix.proofs.search.find_in.Goals as goal

@@ -1,6 +1,6 @@
 use Rattle.std.proofs.Common.{length, sym, ap, ◌∙◌, subst}
 use Rattle.rb_matrix.specs.declared.problem.Left.TheVariants.{Whole}
-use Rattle.rb_matrix.specs.Open.{any_open}
+use Rattle.rb_matrix.specs.inner.Open.{any_open}
 use Rattle.rb_matrix.specs.Search.{AreTypesIn}
 use Rattle.rb_matrix.specs.inner.Left.{IsOutcome}
 use Rattle.rb_matrix.proofs.Opens.{lost-open}

@@ -1,5 +1,5 @@
 use Rattle.std.proofs.Common.{sym, ap, ◌∙◌}
-use Rattle.rb_matrix.specs.Problems.{closed_all}
+use Rattle.rb_matrix.specs.inner.Problems.{closed_all}
 use Rattle.rb_matrix.proofs.Working.{closed_all-append}
 use Rattle.rb_matrix.proofs.witness.witness.Goals as goal
 

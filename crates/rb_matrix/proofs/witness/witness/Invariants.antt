@@ -1,5 +1,5 @@
 use Rattle.std.proofs.Common.{◌≡◌, [], length}
-use Rattle.rb_matrix.specs.Problems.{closed_all}
+use Rattle.rb_matrix.specs.inner.Problems.{closed_all}
 use Rattle.rb_matrix.proofs.witness.witness.Given as goal
 
 abbrev pub invariant-loop-step : goal.invariant-loop-step

@@ -1,25 +1,20 @@
 -- Problems and their parts: how a row for a part becomes one for its parent, and how much less is left.
-use Rattle.std.specs.Prelude.{◌≡◌, ℕ, ◌+◌, ◌-◌, ◌*◌, ◌^◌, ◌≤◌, List, [], ◌∷◌, ◌++◌, map, length, sum, take, drop, Bool, true, false, Option, Some, None}
-use Rattle.rb_core.specs.declared.value.Value.{Value, out-Value}
-use Rattle.rb_core.specs.declared.value.Value.TheOpen.{Value-F}
+use Rattle.std.specs.Prelude.{◌≡◌, ℕ, ◌+◌, ◌-◌, ◌*◌, ◌^◌, ◌≤◌, List, [], ◌∷◌, ◌++◌, map, length, sum, take, drop, true, false, Option, Some, None}
+use Rattle.rb_core.specs.declared.value.Value.{Value}
 use Rattle.rb_core.specs.declared.types.Ty.{Ty}
 use Rattle.rb_core.specs.declared.types.Ty.TheVariants.{Int, Named}
 use Rattle.rb_core.specs.declared.types.Con.{Con}
 use Rattle.rb_core.specs.declared.types.DataDecl.{DataDecl}
 use Rattle.rb_core.specs.declared.pattern.Pat.{Pat}
 use Rattle.rb_core.specs.declared.pattern.Pat as Pats
-use Rattle.rb_core.specs.declared.pattern.Pat.TheOpen as P
-use Rattle.rb_core.specs.declared.pattern.Pat.TheOpen.{Pat-F}
-use Rattle.rb_core.specs.declared.pattern.Pat.TheFolds.{fold-Pat}
-use Rattle.rb_core.specs.Matching.{matches_of}
-use Rattle.rb_core.specs.Values.{is_of_type}
 use Rattle.rb_matrix.specs.declared.matrix.Head.{Head}
 use Rattle.rb_matrix.specs.declared.matrix.Head.TheVariants as H
 use Rattle.rb_matrix.specs.declared.problem.Step.{Step}
 use Rattle.rb_matrix.specs.declared.problem.Step.TheVariants.{Front, Fold}
 use Rattle.rb_matrix.specs.declared.problem.Problem.{Problem}
-use Rattle.rb_matrix.specs.Heads.{begins, any_begins}
-use Rattle.rb_matrix.specs.Search.{AreTypesIn, is_plain, sought, IsFound, IsNowhere}
+use Rattle.rb_matrix.specs.Counts.{rows_heads}
+use Rattle.rb_matrix.specs.Heads.{begins}
+use Rattle.rb_matrix.specs.Search.{AreTypesIn, sought, IsFound, IsNowhere}
 
 -- The way from the root: how a row for a problem becomes one for its parent -------------------------
 
@@ -56,22 +51,6 @@ NoneBy types ty ts p h =
     (v : Value) (vs : List Value) → begins h v ≡ true → sought types (ty ∷ ts) p.wanted p.unwanted (v ∷ vs) ≡ false
 
 -- How much is left --------------------------------------------------------------------------------
-
--- the numbers and constructors of a pattern
-abbrev pub heads_step : Pat-F ℕ → ℕ
-heads_step (P.Wild at) = 0
-heads_step (P.Var at x) = 0
-heads_step (P.Num at k) = 1
-heads_step (P.Con at c ns) = 1 + sum ns
-
-abbrev pub head_count : Pat → ℕ
-head_count = fold-Pat ℕ heads_step
-
-abbrev pub row_heads : List Pat → ℕ
-row_heads ps = sum (map head_count ps)
-
-abbrev pub rows_heads : List (List Pat) → ℕ
-rows_heads rs = sum (map row_heads rs)
 
 -- the fields of all constructors, so that none has more
 abbrev pub con_fields : Con → ℕ
@@ -111,19 +90,6 @@ pub record IsPart (types : List DataDecl) (p c : Problem) : Type 0 where
 abbrev pub IsPartAt : List DataDecl → Ty → List Ty → Problem → Head → Option Problem → Type 0
 IsPartAt types ty ts p h None = NoneBy types ty ts p h
 IsPartAt types ty ts p h (Some c) = IsPart types p c × (NoneIn types c → NoneBy types ty ts p h)
-
--- a pattern beside what values begin with: it has a value of the type, and none that begins so
-pub record IsBeside (types : List DataDecl) (ty : Ty) (begun : Value-F Value → Bool) (q : Pat) : Type 0 where
-  pub plain : is_plain types q ty ≡ true
-  pub value : Value
-  pub typed : is_of_type types value ty ≡ true
-  pub matched : matches_of q value ≡ true
-  pub apart : (v : Value) → is_of_type types v ty ≡ true → matches_of q v ≡ true → begun (out-Value v) ≡ false
-
--- such a pattern exactly where the heads are not all that values of the type begin with
-abbrev pub IsBesideAnswer : List DataDecl → Ty → List Head → Option Pat → Type 0
-IsBesideAnswer types ty hs None = (v : Value) → is_of_type types v ty ≡ true → any_begins hs (out-Value v) ≡ true
-IsBesideAnswer types ty hs (Some q) = IsBeside types ty (any_begins hs) q
 
 -- the problem that a search begins with
 abbrev pub root_of : List Ty → List (List Pat) → List (List Pat) → Problem
