@@ -1,4 +1,6 @@
--- Which of the patterns beside heads is given.
+-- Patterns beside heads. Where some value of a type begins with none of some heads, the heads are what Maranget
+-- calls an incomplete signature; a pattern beside them matches only such values. Which of these patterns is given
+-- is told here.
 use Rattle.std.specs.Prelude.{◌≡◌, ℕ, ◌<◌, List, [], ◌∷◌, length, Bool, true, false, Option, Some, None, slice_get}
 use Rattle.rb_core.specs.declared.value.Value.{Value, out-Value}
 use Rattle.rb_core.specs.declared.value.Value.TheOpen as V
@@ -15,28 +17,32 @@ use Rattle.rb_matrix.specs.Heads.{any_begins}
 use Rattle.rb_matrix.specs.Search.{is_plain}
 use Rattle.rb_matrix.specs.Specialize.{wilds}
 
--- the first number that is not among some
+-- n is the least number that is not among some, which are given by a test
 pub record IsFirstOut (among : ℕ → Bool) (n : ℕ) : Type 0 where
   pub out : among n ≡ false
   pub before : (m : ℕ) → m < n → among m ≡ true
 
--- the least number that is none of the heads
+-- a number pattern, of the least number that is none of the heads
 abbrev pub IsLeastNumber : List Head → Pat → Type 0
 IsLeastNumber hs q = (n : ℕ) × (q ≡ Pats.Num 0 n) × IsFirstOut (λ m. any_begins hs (V.Num m)) n
 
--- the first constructor of a type that is none of the heads, with a wildcard for each field
+-- a constructor pattern, of the first constructor of data type t that is none of the heads, with a wildcard for
+-- each field
 abbrev pub IsFirstCon : List DataDecl → ℕ → List Head → Pat → Type 0
 IsFirstCon types t hs q =
     (k : ℕ) × (ts : List Ty) × (fields_in (slice_get types t) k ≡ Some ts)
-    × (q ≡ Pats.Con 0 (record { ty = t; con = k }) (wilds (length ts))) × IsFirstOut (λ c. any_begins hs (V.Con c [])) k
+    × (q ≡ Pats.Con 0 (record { ty = t; con = k }) (wilds (length ts)))
+    × IsFirstOut (λ c. any_begins hs (V.Con c [])) k
 
--- a wildcard where there is no head, and else the least number or the first constructor
+-- the pattern beside heads that is given: a wildcard where there is no head, and else the least number or the first
+-- constructor that is none of them
 abbrev pub IsFirstBeside : List DataDecl → Ty → List Head → Pat → Type 0
 IsFirstBeside types ty [] q = q ≡ Pats.Wild 0
 IsFirstBeside types (Int bits) (h ∷ hs) q = IsLeastNumber (h ∷ hs) q
 IsFirstBeside types (Named t) (h ∷ hs) q = IsFirstCon types t (h ∷ hs) q
 
--- a pattern beside what values begin with: it has a value of the type, and none that begins so
+-- a plain pattern that matches a value of the type, and no value of the type that begins in one of some ways, which
+-- are given by a test of a value's layer
 pub record IsBeside (types : List DataDecl) (ty : Ty) (begun : Value-F Value → Bool) (q : Pat) : Type 0 where
   pub plain : is_plain types q ty ≡ true
   pub value : Value
@@ -44,7 +50,7 @@ pub record IsBeside (types : List DataDecl) (ty : Ty) (begun : Value-F Value →
   pub matched : matches_of q value ≡ true
   pub apart : (v : Value) → is_of_type types v ty ≡ true → matches_of q v ≡ true → begun (out-Value v) ≡ false
 
--- such a pattern exactly where the heads are not all that values of the type begin with
+-- None where each value of the type begins with one of the heads, and else a pattern beside them
 abbrev pub IsBesideAnswer : List DataDecl → Ty → List Head → Option Pat → Type 0
 IsBesideAnswer types ty hs None = (v : Value) → is_of_type types v ty ≡ true → any_begins hs (out-Value v) ≡ true
 IsBesideAnswer types ty hs (Some q) = IsBeside types ty (any_begins hs) q

@@ -1,4 +1,6 @@
--- Patterns one below another: whether they match every value, and which of them is ever the first.
+-- Patterns one below another, as in a match: whether they match every value of a type, which of them are the first
+-- match of some value, and whether two have a value in common. A plain pattern is one of numbers, constructors and
+-- wildcards.
 use Rattle.std.specs.Prelude.{◌≡◌, ℕ, ◌<◌, List, length, Contains, Bool, true, false, ◌&&◌, Option, Some, None, Result, Ok, Err}
 use Rattle.std.specs.List.Sorted.{IsStrictlyIncreasing}
 use Rattle.rb_core.specs.declared.value.Value.{Value}
@@ -13,8 +15,8 @@ use Rattle.rb_matrix.specs.Search.{is_plain}
 
 -- Missing values ------------------------------------------------------------------------------
 
--- a pattern of numbers, constructors and wildcards that has a value of the type, and none of whose
--- values is matched
+-- q is plain and of the type, and matches a value of the type; no pattern of the list matches a value of the type
+-- that q matches
 pub record IsMissing (types : List DataDecl) (ty : Ty) (ps : List Pat) (q : Pat) : Type 0 where
   pub plain : is_plain types q ty ≡ true
   pub value : Value
@@ -22,7 +24,8 @@ pub record IsMissing (types : List DataDecl) (ty : Ty) (ps : List Pat) (q : Pat)
   pub matched : matches_of q value ≡ true
   pub none : (v : Value) → is_of_type types v ty ≡ true → matches_of q v ≡ true → chosen_clause ps v ≡ None
 
--- such a pattern exactly where the patterns are not exhaustive
+-- what is answered of a list of patterns: Ok where each value of the type is matched by one, and else Missing with
+-- a pattern none of whose values is matched; where memory is wanting nothing is told
 abbrev pub IsExhaustAnswer : List DataDecl → Ty → List Pat → Result (Unit {0}) MatrixFault → Type 0
 IsExhaustAnswer types ty ps (Ok u) = IsExhaustive types ty ps
 IsExhaustAnswer types ty ps (Err (Missing q)) = IsMissing types ty ps q
@@ -30,14 +33,14 @@ IsExhaustAnswer types ty ps (Err Memory) = Unit {0}
 
 -- Unreached patterns --------------------------------------------------------------------------
 
--- a value of which the pattern with this number is the first match
+-- the pattern with number i is the first match of some value of the type
 pub record IsReached (types : List DataDecl) (ty : Ty) (ps : List Pat) (i : ℕ) : Type 0 where
   pub value : Value
   pub typed : is_of_type types value ty ≡ true
   pub chosen : chosen_clause ps value ≡ Some i
 
--- of the first n patterns, the numbers of exactly those that are the first match of no value; each
--- of the others is the first match of some value
+-- xs are the numbers, ascending, of exactly those among the first n patterns that are the first match of no value
+-- of the type; each of the others among them is the first match of some value
 pub record AreUnreachedOf (types : List DataDecl) (ty : Ty) (ps : List Pat) (n : ℕ) (xs : List ℕ) : Type 0 where
   pub ascending : IsStrictlyIncreasing xs
   pub within : (i : ℕ) → Contains xs i → i < n
@@ -45,15 +48,18 @@ pub record AreUnreachedOf (types : List DataDecl) (ty : Ty) (ps : List Pat) (n :
   pub every : (i : ℕ) → i < n → IsUnreached types ty ps i → Contains xs i
   pub others : (i : ℕ) → i < n → (Contains xs i → ⊥) → IsReached types ty ps i
 
+-- xs are the numbers, ascending, of exactly those patterns that are the first match of no value of the type
 abbrev pub AreUnreached : List DataDecl → Ty → List Pat → List ℕ → Type 0
 AreUnreached types ty ps xs = AreUnreachedOf types ty ps (length ps) xs
 
 -- Common values -------------------------------------------------------------------------------
 
+-- whether a value matches both patterns
 abbrev pub both_match : Pat → Pat → Value → Bool
 both_match p q v = matches_of p v && matches_of q v
 
--- a pattern that has a value of the type, and all of whose values both match
+-- r is plain and of the type, and matches a value of the type; both patterns, p and q, match each value of the type
+-- that r matches
 pub record IsCommon (types : List DataDecl) (ty : Ty) (p q r : Pat) : Type 0 where
   pub plain : is_plain types r ty ≡ true
   pub value : Value
@@ -61,7 +67,8 @@ pub record IsCommon (types : List DataDecl) (ty : Ty) (p q r : Pat) : Type 0 whe
   pub matched : matches_of r value ≡ true
   pub all : (v : Value) → is_of_type types v ty ≡ true → matches_of r v ≡ true → both_match p q v ≡ true
 
--- such a pattern exactly where the two have a common value
+-- what is answered of two patterns: None where no value of the type matches both, and else a pattern whose values
+-- match both
 abbrev pub IsCommonAnswer : List DataDecl → Ty → Pat → Pat → Option Pat → Type 0
 IsCommonAnswer types ty p q None = (v : Value) → is_of_type types v ty ≡ true → both_match p q v ≡ false
 IsCommonAnswer types ty p q (Some r) = IsCommon types ty p q r

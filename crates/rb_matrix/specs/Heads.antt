@@ -1,4 +1,6 @@
--- Heads: what patterns and values begin with.
+-- Heads: what patterns and values begin with. A head is a number or a constructor. Every value has one; a wildcard
+-- and a variable have none. A vector is a list of values, and a row a list of patterns, one for each column of a
+-- matrix. A layer is a value or a pattern of which only the outermost step is looked at, with its parts below it.
 use Rattle.std.specs.Prelude.{ℕ, ◌^◌, List, [], ◌∷◌, ◌++◌, Bool, false, ◌||◌, ◌==◌, nat_lt, if◌then◌else◌, Option, Some, None, slice_get}
 use Rattle.rb_core.specs.declared.value.Value.{Value, out-Value}
 use Rattle.rb_core.specs.declared.value.Value.TheOpen as V
@@ -13,75 +15,81 @@ use Rattle.rb_core.specs.Values.{fields_in, subs}
 use Rattle.rb_matrix.specs.declared.matrix.Head.{Head}
 use Rattle.rb_matrix.specs.declared.matrix.Head.TheVariants as H
 
--- whether a value begins with a head; a constructor counts by its number in the value's type
+-- whether a value, given by its layer, begins with a head: it is the same number, or its constructor has the same
+-- number in its type; the type that the head's constructor names is not looked at
 abbrev pub layer_begins : Head → Value-F Value → Bool
 layer_begins (H.Num m) (V.Num n) = m == n
 layer_begins (H.Num m) (V.Con k vs) = false
 layer_begins (H.Con c) (V.Num n) = false
 layer_begins (H.Con c) (V.Con k vs) = c.con == k
 
+-- whether a value begins with a head
 abbrev pub begins : Head → Value → Bool
 begins h v = layer_begins h (out-Value v)
 
--- some head of a list
+-- whether a value, given by its layer, begins with some head of a list; false where the list is empty
 abbrev pub any_begins : List Head → Value-F Value → Bool
 any_begins [] v = false
 any_begins (h ∷ hs) v = layer_begins h v || any_begins hs v
 
--- a vector with the subvalues of its first value in that value's place
+-- a vector with the subvalues of its first value in that value's place; a number has none, and the empty vector
+-- stays
 abbrev pub unfolded : List Value → List Value
 unfolded [] = []
 unfolded (v ∷ vs) = subs v ++ vs
 
--- the head of a pattern; wildcards and variables have none
+-- the head of a pattern, given by its layer; None for a wildcard or a variable
 abbrev pub layer_head : Pat-F Pat → Option Head
 layer_head (P.Wild at) = None
 layer_head (P.Var at x) = None
 layer_head (P.Num at n) = Some (H.Num n)
 layer_head (P.Con at c ps) = Some (H.Con c)
 
--- the head of a row's first pattern
+-- the head of a row's first pattern; None where that is a wildcard or a variable, or where the row is empty
 abbrev pub row_head : List Pat → Option Head
 row_head [] = None
 row_head (p ∷ ps) = layer_head (out-Pat p)
 
--- whether a value begins with the head that may stand there
+-- whether a value, given by its layer, begins with this head; false where there is no head
 abbrev pub option_begins : Option Head → Value-F Value → Bool
 option_begins None v = false
 option_begins (Some h) v = layer_begins h v
 
--- whether the head of a value stands in the first column
+-- whether a value, given by its layer, begins with the head of the first pattern of some row; false where no row
+-- has one
 abbrev pub column_begins : List (List Pat) → Value-F Value → Bool
 column_begins [] v = false
 column_begins (r ∷ rs) v = option_begins (row_head r) v || column_begins rs v
 
--- a value's own layer that begins with a head
+-- a layer that begins with the head: the number, or the constructor without its subvalues
 abbrev pub sample : Head → Value-F Value
 sample (H.Num n) = V.Num n
 sample (H.Con c) = V.Con c.con []
 
--- one head or none
+-- how many heads there are: 1, or 0 for None
 abbrev pub some_head : Option Head → ℕ
 some_head None = 0
 some_head (Some h) = 1
 
--- the first head that stands in the first column
+-- the first of two where it is there, and else the second, which may be None too
 abbrev pub or_else : Option Head → Option Head → Option Head
 or_else None o = o
 or_else (Some h) o = Some h
 
+-- the head of the first row that begins with one; None where no row does
 abbrev pub first_head : List (List Pat) → Option Head
 first_head [] = None
 first_head (r ∷ rs) = or_else (row_head r) (first_head rs)
 
--- the types of a head's fields, where the head is of the type
+-- the types of a head's fields, where the head is of the type, and else None: a number has no field and is of an
+-- integer type that holds it, and a constructor is of a data type that has one with its number
 abbrev pub fields_at : List DataDecl → Ty → Head → Option (List Ty)
 fields_at types (Int bits) (H.Num n) = if nat_lt n (2 ^ bits) then Some [] else None
 fields_at types (Int bits) (H.Con c) = None
 fields_at types (Named t) (H.Num n) = None
 fields_at types (Named t) (H.Con c) = fields_in (slice_get types t) c.con
 
--- the same at the first column
+-- the types of a head's fields, where the head is of the first column's type; None where not, or without a column
 abbrev pub column_fields : List DataDecl → List Ty → Head → Option (List Ty)
 column_fields types [] h = None
 column_fields types (t ∷ ts) h = fields_at types t h

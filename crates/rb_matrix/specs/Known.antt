@@ -1,4 +1,5 @@
--- Heads that are known, one row after another, with the set of the numbers among them.
+-- Heads that are known: those of a first column, gathered one row after another, each once. Beside them stands the
+-- set of the numbers among them, so that a number is found without a look at each head.
 use Rattle.std.specs.Prelude.{◌≡◌, ℕ, List, [], ◌∷◌, ◌++◌, Bool, if◌then◌else◌, Option, Some, None}
 use Rattle.std.specs.Ordering.{nat_cmp}
 use Rattle.std.specs.BTreeSet as tree
@@ -7,14 +8,16 @@ use Rattle.rb_matrix.specs.declared.matrix.Head.{Head}
 use Rattle.rb_matrix.specs.declared.numbers.Numbers.{Numbers}
 use Rattle.rb_matrix.specs.Heads.{any_begins, sample}
 
--- one more head at the end, unless it is known
+-- the known heads with one more at the end; the same where there is no head, or where what begins with it begins
+-- with a known one
 abbrev pub with_head : List Head → Option Head → List Head
 with_head known None = known
 with_head known (Some h) = if any_begins known (sample h) then known else known ++ h ∷ []
 
+-- whether a number is in a set
 abbrev pub has : Numbers → ℕ → Bool
 has s n = tree.contains nat_cmp s.held n
 
--- exactly the numbers among heads
+-- a set holds exactly the numbers among some heads; constructors do not count
 abbrev pub AreNumbersOf : Numbers → List Head → Type 0
 AreNumbersOf s hs = (n : ℕ) → has s n ≡ any_begins hs (V.Num n)

@@ -1,4 +1,4 @@
--- Rows of patterns against vectors of values.
+-- Rows of patterns, one for each column, against vectors of values, one for each column.
 use Rattle.std.specs.Prelude.{List, [], ◌∷◌, map, Bool, true, false, ◌&&◌, ◌||◌, Option, Some, None}
 use Rattle.rb_core.specs.declared.value.Value.{Value}
 use Rattle.rb_core.specs.declared.types.Ty.{Ty}
@@ -7,24 +7,26 @@ use Rattle.rb_core.specs.declared.pattern.Pat.{Pat}
 use Rattle.rb_core.specs.Matching.{all_pass, matches_of}
 use Rattle.rb_core.specs.Values.{is_of_type, all_of_types}
 
--- as many patterns as values, each of which matches its value
+-- whether a row matches a vector: it has as many patterns as there are values, and each matches the value in its
+-- place
 abbrev pub row_matches : List Pat → List Value → Bool
 row_matches ps vs = all_pass (map matches_of ps) vs
 
--- some row matches; every row matches
+-- whether some row matches a vector; false where there is no row
 abbrev pub any_row : List (List Pat) → List Value → Bool
 any_row [] vs = false
 any_row (r ∷ rs) vs = row_matches r vs || any_row rs vs
 
+-- whether every row matches a vector; true where there is no row
 abbrev pub all_rows : List (List Pat) → List Value → Bool
 all_rows [] vs = true
 all_rows (r ∷ rs) vs = row_matches r vs && all_rows rs vs
 
--- a row that is left out matches nothing
+-- whether the image of a row matches a vector; None is a row without an image, and matches nothing
 abbrev pub image_matches : Option (List Pat) → List Value → Bool
 image_matches None vs = false
 image_matches (Some r) vs = row_matches r vs
 
--- as many values as types, each of its type
+-- whether a vector has these types: as many values as types, each of the type in its place
 abbrev pub vector_of : List DataDecl → List Ty → List Value → Bool
 vector_of types tys vs = all_of_types (map (is_of_type types) vs) tys

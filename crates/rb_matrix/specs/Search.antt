@@ -1,4 +1,6 @@
--- What a search looks for: a vector of values that all wanted rows match and no unwanted one.
+-- What a search looks for: a vector of values, of the columns' types, that all wanted rows match and no unwanted
+-- one. It is Maranget's question of usefulness: a row is useful behind others where such a vector is, with that row
+-- wanted and the others unwanted.
 use Rattle.std.specs.Prelude.{◌≡◌, ◌^◌, List, [], ◌∷◌, map, Bool, true, false, ◌&&◌, not, ◌==◌, nat_lt, Option, Some, None}
 use Rattle.std.specs.List.{list_all}
 use Rattle.rb_core.specs.declared.value.Value.{Value}
@@ -16,20 +18,25 @@ use Rattle.rb_matrix.specs.Rows.{row_matches, any_row, all_rows, vector_of}
 
 -- Types that have a value ---------------------------------------------------------------------
 
+-- a type over these data types: an integer type of 1 to 64 bits, or one of the data types
 abbrev pub IsTypeIn : List DataDecl → Ty → Type 0
 IsTypeIn types ty = is_type types ty ≡ true
 
+-- each of the types is one over these data types
 abbrev pub AreTypesIn : List DataDecl → List Ty → Type 0
 AreTypesIn types [] = Unit {0}
 AreTypesIn types (t ∷ ts) = IsTypeIn types t × AreTypesIn types ts
 
--- the types of a well numbered program, where each has a value
+-- the data types are numbered as those of a well numbered program, and each has a value
 pub record AreInhabited (types : List DataDecl) : Type 0 where
   pub numbered : list_all (type_is_numbered types) types ≡ true
   pub values : HaveValues types
 
 -- Plain patterns ------------------------------------------------------------------------------
 
+-- whether a pattern, given by its layer, is plain and of a type, where that is given of its subpatterns: a wildcard
+-- is of every type, a number of an integer type that holds it, a constructor of its data type where its subpatterns
+-- are as many as its fields and each is of its field's type; a variable is not plain
 abbrev pub plain_step : List DataDecl → Pat-F (Ty → Bool) → Ty → Bool
 plain_step types (P.Wild at) t = true
 plain_step types (P.Var at x) t = false
@@ -38,20 +45,22 @@ plain_step types (P.Num at n) (Named t) = false
 plain_step types (P.Con at c ps) (Int bits) = false
 plain_step types (P.Con at c ps) (Named t) = (c.ty == t) && are_of ps (fields_of types c)
 
--- a pattern of numbers, constructors and wildcards that is of a type
+-- whether a pattern is plain, which is to say of numbers, constructors and wildcards alone, and is of a type
 abbrev pub is_plain : List DataDecl → Pat → Ty → Bool
 is_plain types = fold-Pat (Ty → Bool) (plain_step types)
 
+-- whether a row has as many patterns as there are types, each plain and of the type in its place
 abbrev pub row_plain : List DataDecl → List Ty → List Pat → Bool
 row_plain types tys ps = all_of_types (map (is_plain types) ps) tys
 
 -- The search ----------------------------------------------------------------------------------
 
--- a vector of these types that all wanted rows match, and no unwanted one
+-- whether a vector is sought: it has these types, all wanted rows match it, and no unwanted one does
 abbrev pub sought : List DataDecl → List Ty → List (List Pat) → List (List Pat) → List Value → Bool
 sought types tys wanted unwanted vs = vector_of types tys vs && (all_rows wanted vs && not (any_row unwanted vs))
 
--- a row of plain patterns that has a vector, and all of whose vectors are sought
+-- a row of plain patterns of these types, such that all vectors of these types that it matches are sought, and it
+-- matches one
 pub record IsFound (types : List DataDecl) (tys : List Ty) (wanted unwanted : List (List Pat))
     (row : List Pat) : Type 0 where
   pub plain : row_plain types tys row ≡ true
@@ -61,10 +70,12 @@ pub record IsFound (types : List DataDecl) (tys : List Ty) (wanted unwanted : Li
   pub all : (vs : List Value) → vector_of types tys vs ≡ true → row_matches row vs ≡ true
       → sought types tys wanted unwanted vs ≡ true
 
+-- no vector is sought
 abbrev pub IsNowhere : List DataDecl → List Ty → List (List Pat) → List (List Pat) → Type 0
 IsNowhere types tys wanted unwanted = (vs : List Value) → sought types tys wanted unwanted vs ≡ false
 
--- such a row exactly where there is such a vector
+-- what a search answers: None where no vector is sought, and else a row of plain patterns that matches sought
+-- vectors alone, and one at least
 abbrev pub IsAnswer : List DataDecl → List Ty → List (List Pat) → List (List Pat) → Option (List Pat) → Type 0
 IsAnswer types tys wanted unwanted None = IsNowhere types tys wanted unwanted
 IsAnswer types tys wanted unwanted (Some row) = IsFound types tys wanted unwanted row

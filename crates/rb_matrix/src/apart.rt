@@ -1,5 +1,5 @@
-//! Whether two patterns differ in one place, so that no value matches both, and whether one matches all
-//! that another does.
+//! Whether two patterns differ in one place, so that no value matches both, and whether one matches
+//! all that another does. Both are told by the patterns alone, whatever their types.
 
 ghost use Rattle.std.specs.Bool.{OnTrue};
 ghost use Rattle.rb_matrix.specs.Apart.{AreApart};
@@ -8,7 +8,8 @@ ghost use Rattle.rb_matrix.specs.inner.Against.{HaveApart, Covers, CoverEach};
 use rb_core::pattern::Pat;
 
 /// Whether two patterns have different numbers or constructors in one place, so that no value
-/// matches both.
+/// matches both, of whatever type it is. Two that share no value for another reason are not told
+/// apart.
 #[cycle(comparing)]
 pub fn are_apart(one: &Pat, other: &Pat) -> bool
     ensures { OnTrue result (AreApart one.now other.now) }
@@ -33,7 +34,7 @@ pub fn are_apart(one: &Pat, other: &Pat) -> bool
     }
 }
 
-// Whether two patterns in one place are apart.
+// Whether in some place that both lists have, two patterns are apart.
 #[cycle(comparing)]
 fn have_apart(ones: &[Pat], others: &[Pat]) -> bool
     ensures { OnTrue result (HaveApart ones.now others.now) }
@@ -48,8 +49,10 @@ fn have_apart(ones: &[Pat], others: &[Pat]) -> bool
     false
 }
 
-/// Whether a pattern has the number or the constructor of another in each place, or anything, so that it
-/// matches all that the other does.
+/// Whether one pattern matches all that the other does, since it has in each place what the other
+/// has: the same number, the same constructor with as many subpatterns, or else a wildcard or a
+/// variable. A pattern that matches as much for another reason, say as its type has one constructor
+/// alone, is not found to cover.
 #[cycle(covering)]
 pub fn covers(one: &Pat, other: &Pat) -> bool
     ensures { OnTrue result (Covers one.now other.now) }
@@ -72,7 +75,7 @@ pub fn covers(one: &Pat, other: &Pat) -> bool
     }
 }
 
-// Whether as many patterns cover others one by one.
+// Whether there are as many of the one as of the others, and each covers the one in its place.
 #[cycle(covering)]
 fn cover_each(ones: &[Pat], others: &[Pat]) -> bool
     ensures { OnTrue result (CoverEach ones.now others.now) }

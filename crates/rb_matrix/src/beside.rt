@@ -1,4 +1,5 @@
-//! A pattern beside the heads of a column: what Maranget calls an incomplete signature.
+//! A pattern beside the heads of a column, which matches values that begin with none of them. There
+//! is one where the heads are what Maranget calls an incomplete signature.
 
 ghost use Rattle.std.specs.Prelude.{◌≡◌, ◌+◌, ◌^◌, ◌<◌, ◌≤◌, ℕ, [], length, IfOk, IfSome, MatchOption, true, false};
 ghost use Rattle.rb_core.specs.declared.value.Value.TheOpen as Layers;
@@ -15,7 +16,7 @@ use rb_core::seq::Seq;
 use rb_core::types::{Con, ConRef, DataDecl, Ty};
 use std::alloc::{AllocError, Global};
 
-// The greatest number of an integer type.
+// The greatest number of an integer type of so many bits, up to 64.
 fn greatest(bits: u8) -> u64
     requires { bits ≤ 64 }
     ensures { result + 1 ≡ 2 ^ bits }
@@ -27,7 +28,7 @@ fn greatest(bits: u8) -> u64
     }
 }
 
-// The least number up to `most` that is not among the heads.
+// The least number up to `most` that is not among the heads; None where all of them are.
 fn least_missing(alloc: Global, heads: &[Head], most: u64) -> Result<Option<u64>, AllocError>
     ensures { IfOk result (λ r. MatchOption r
         ((m : ℕ) → m ≤ most → any_begins heads.now (Layers.Num m) ≡ true)
@@ -47,7 +48,8 @@ fn least_missing(alloc: Global, heads: &[Head], most: u64) -> Result<Option<u64>
     }
 }
 
-// The first of so many constructors of a type that is not among the heads.
+// The number of the first of so many constructors of a type that is not among the heads; None where
+// all of them are.
 fn missing_con(heads: &[Head], ty: u32, count: usize) -> Option<u32>
     requires { count < 2 ^ 32 }
     ensures { MatchOption result ((k : ℕ) → k < count → any_begins heads.now (Layers.Con k []) ≡ true)
@@ -74,8 +76,8 @@ fn wildcards(alloc: Global, count: usize) -> Result<Seq<Pat>, AllocError>
     Ok(row)
 }
 
-// The first constructor of a type that is not among the heads, with a wildcard for each field; None
-// where there is none.
+// The first constructor of data type `t` that is not among the heads, with a wildcard for each
+// field; None where all of them are.
 fn con_beside(
     alloc: Global,
     types: &[DataDecl],

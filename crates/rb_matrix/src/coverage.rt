@@ -1,5 +1,5 @@
 //! Whether patterns match every value of a type, which of them are the first match of none, and
-//! whether two of them have a value in common.
+//! whether two patterns have a value in common. Each is a search over one column.
 
 ghost use Rattle.std.specs.Prelude.{◌≡◌, ◌<◌, ◌∷◌, [], IfOk, length, take};
 ghost use Rattle.rb_matrix.specs.declared.coverage.MatrixFault.TheVariants as MatrixFaults;
@@ -26,7 +26,7 @@ use std::alloc::{AllocError, Global};
 /// Why patterns are not exhaustive.
 #[derive(Debug, Drop, thiserror::Error)]
 pub enum MatrixFault {
-    /// No value of this pattern is matched, and it has one.
+    /// None of the values of this pattern is matched, and it has one at least.
     #[error("a value is not matched")]
     Missing(Pat),
     /// Memory was wanting.
@@ -42,7 +42,7 @@ impl From<AllocError> for MatrixFault {
     }
 }
 
-// One row of one pattern.
+// One row of one pattern, a copy.
 fn one_row(alloc: Global, pat: &Pat) -> Result<Seq<Row>, AllocError>
     ensures { IfOk result (λ r. r ≡ (pat.now ∷ []) ∷ []) }
 {
@@ -51,7 +51,7 @@ fn one_row(alloc: Global, pat: &Pat) -> Result<Seq<Row>, AllocError>
     Ok(rows)
 }
 
-// Two rows of one pattern each.
+// Two rows of one pattern each, copies.
 fn two_rows(alloc: Global, one: &Pat, other: &Pat) -> Result<Seq<Row>, AllocError>
     ensures { IfOk result (λ r. r ≡ (one.now ∷ []) ∷ (other.now ∷ []) ∷ []) }
 {
@@ -60,7 +60,7 @@ fn two_rows(alloc: Global, one: &Pat, other: &Pat) -> Result<Seq<Row>, AllocErro
     Ok(rows)
 }
 
-// Each pattern as a row of its own.
+// A copy of each pattern as a row of its own, in their order.
 fn rows_of(alloc: Global, pats: &[Pat]) -> Result<Seq<Row>, AllocError>
     ensures { IfOk result (λ r. r ≡ one_each pats.now) }
 {
@@ -71,8 +71,9 @@ fn rows_of(alloc: Global, pats: &[Pat]) -> Result<Seq<Row>, AllocError>
     Ok(rows)
 }
 
-// Each of the patterns with these numbers as a row of its own, but none that differs in one place from
-// the pattern that they are held against.
+// A copy of each of the patterns with these numbers as a row of its own, but of none that differs
+// in one place from the pattern `pat` that they are held against. A number without a pattern gives
+// no row.
 fn rows_near(
     alloc: Global,
     pats: &[Pat],
@@ -94,7 +95,8 @@ fn rows_near(
     Ok(rows)
 }
 
-// Rows that stand for the patterns where one more is held against them.
+// Rows that stand for the patterns `pats`, those of the indexes, where `pat` is held against them:
+// of the values that it matches they match the same.
 fn rows_against(
     alloc: Global,
     pats: &[Pat],
@@ -108,7 +110,7 @@ fn rows_against(
     rows_near(alloc, pats, near.as_slice(), pat)
 }
 
-// A search in one column.
+// A search over one column of this type: the pattern of a row that answers it, or None.
 fn find_one(
     alloc: Global,
     types: &[DataDecl],
@@ -138,9 +140,10 @@ fn find_one(
     }
 }
 
-/// Whether every value of the type is matched by one of the patterns, and else a pattern of numbers,
-/// constructors and wildcards that has a value, none of whose values is matched. Which such pattern
-/// is given is left open.
+/// Whether every value of the type is matched by one of the patterns. Where not, a pattern of
+/// numbers, constructors and wildcards is given as the error: it matches a value of the type, and
+/// none of the values of the type that it matches is matched by one of the patterns. Which such
+/// pattern it is is left open.
 ///
 /// # Errors
 ///
@@ -157,7 +160,9 @@ pub fn exhaust(alloc: Global, types: &[DataDecl], ty: Ty, rows: &[Pat]) -> Resul
     }
 }
 
-// Whether a pattern is the first match of some value, by a search where no earlier one covers it.
+// Whether the pattern with number `i` is the first match of some value of the type. Where an
+// earlier one is found to cover it, it is not; else a search tells. The indexes are those of the
+// earlier ones.
 fn is_found(
     alloc: Global,
     types: &[DataDecl],
@@ -182,8 +187,9 @@ fn is_found(
     Ok(found.is_some())
 }
 
-// Whether a pattern is the first match of some value. None is behind one that matches every value,
-// and a number is compared with no pattern before it.
+// Whether the pattern with number `i` is the first match of some value of the type; `passed` tells
+// of the patterns before it. None is behind a wildcard or a variable. A number is compared with no
+// pattern before it: it is looked up in the set of their numbers.
 fn is_reached(
     alloc: Global,
     types: &[DataDecl],
@@ -210,7 +216,8 @@ fn is_reached(
     }
 }
 
-/// The numbers, ascending, of the patterns that are the first match of no value of the type.
+/// The numbers, ascending, of the patterns that are the first match of no value of the type; the
+/// first pattern has number 0.
 ///
 /// # Errors
 ///
@@ -239,8 +246,9 @@ pub fn unreached(
     Ok(numbers)
 }
 
-/// A pattern of numbers, constructors and wildcards that has a value of the type, and all of whose
-/// values both patterns match; None where they have no value in common.
+/// A pattern of numbers, constructors and wildcards that matches a value of the type, such that
+/// both patterns match each value of the type that it matches; None where no value of the type is
+/// matched by both.
 ///
 /// # Errors
 ///

@@ -1,4 +1,6 @@
-//! The heads that stand in a first column, known one row after another.
+//! The heads that stand in a first column, gathered one row after another. Two heads are alike
+//! where they are the same number, or constructors with the same number in their types: the same
+//! values of a type begin with them.
 
 ghost use Rattle.std.specs.Prelude.{◌≡◌, ◌+◌, ◌≤◌, ◌||◌, ℕ, length, IfOk, OnOk};
 ghost use Rattle.rb_core.specs.declared.value.Value as Values;
@@ -11,7 +13,8 @@ use crate::numbers::Numbers;
 use rb_core::pattern::Pat;
 use std::alloc::{AllocError, Global};
 
-/// What a row begins with.
+/// The head of a row's first pattern; None where that is a wildcard or a variable, or the row is
+/// empty.
 pub fn head_of_row(row: &[Pat]) -> Option<Head>
     ensures { result ≡ row_head row.now }
 {
@@ -26,7 +29,8 @@ pub fn head_of_row(row: &[Pat]) -> Option<Head>
     }
 }
 
-// Whether values that begin with the one begin with the other.
+// Whether two heads are alike: the same number, or constructors with the same number in their
+// types.
 fn is_alike(known: Head, head: Head) -> bool
     ensures { result ≡ layer_begins known (sample head) }
 {
@@ -42,7 +46,7 @@ fn is_alike(known: Head, head: Head) -> bool
     }
 }
 
-/// Whether what begins with a head begins with one of those known.
+/// Whether one of the known heads is like this one.
 pub fn is_known(known: &[Head], head: Head) -> bool
     ensures { result ≡ any_begins known.now (sample head) }
 {
@@ -54,7 +58,7 @@ pub fn is_known(known: &[Head], head: Head) -> bool
     false
 }
 
-// Adds the number of a head.
+// Adds the number that a head is; a constructor adds none.
 fn add_number(numbers: &mut Numbers, head: Head) -> Result<(), AllocError>
     ensures { OnOk result ((n : ℕ)
         → has numbers.new n ≡ (has numbers.old n || layer_begins head (Layers.Num n))) }
@@ -68,7 +72,7 @@ fn add_number(numbers: &mut Numbers, head: Head) -> Result<(), AllocError>
     }
 }
 
-/// The numbers among heads.
+/// The set of the numbers among heads; constructors do not count.
 pub(crate) fn numbers_of(alloc: Global, heads: &[Head]) -> Result<Numbers, AllocError>
     ensures { IfOk result (λ s. AreNumbersOf s heads.now) }
 {
@@ -79,8 +83,9 @@ pub(crate) fn numbers_of(alloc: Global, heads: &[Head]) -> Result<Numbers, Alloc
     Ok(numbers)
 }
 
-// The same as whether it is known, where the numbers of the heads stand in a set. A type has few
-// constructors, and a column may have thousands of numbers.
+// Whether one of the known heads is like this one, where the numbers among them also stand in a
+// set: a number is looked up there, since a column may have thousands of them, and a constructor is
+// compared with each head, since a type has few.
 fn is_noted(known: &[Head], numbers: &Numbers, head: Head) -> bool
     requires { AreNumbersOf numbers.now known.now }
     ensures { result ≡ any_begins known.now (sample head) }
@@ -91,8 +96,9 @@ fn is_noted(known: &[Head], numbers: &Numbers, head: Head) -> bool
     }
 }
 
-/// Adds the head that may stand there behind those known, unless one like it is known. The numbers
-/// among them stand in a set, so that thousands of them are not compared with each other.
+/// Adds a head behind those known, unless one like it is known; None adds nothing. The numbers
+/// among them also stand in a set, which grows along, so that thousands of them are not compared
+/// with each other.
 ///
 /// # Errors
 ///

@@ -1,4 +1,6 @@
-//! The specialised matrix and the default matrix, on the first column.
+//! The specialised matrix S of a head and the default matrix D, on the first column. A row's image
+//! is what becomes of the row in S or in D; a row without an image is left out. Rows need not be
+//! typed.
 
 ghost use Rattle.std.specs.Prelude.{◌≡◌, ◌∷◌, ◌++◌, List, ℕ, length, drop, true, false, IfOk, OnOk, IsSome, slice_get, nat_lt, ◌^◌};
 ghost use Rattle.std.specs.Option.{option_copied};
@@ -24,7 +26,7 @@ fn push_all(alloc: Global, row: &mut Seq<Pat>, more: &[Pat]) -> Result<(), Alloc
     Ok(())
 }
 
-// So many wildcards, and then the patterns.
+// So many wildcards, and then copies of the patterns.
 fn wilds_before(alloc: Global, count: usize, rest: &[Pat]) -> Result<Seq<Pat>, AllocError>
     ensures { IfOk result (λ r. r ≡ wilds count ++ rest.now) }
 {
@@ -45,8 +47,10 @@ fn joined(alloc: Global, first: &[Pat], rest: &[Pat]) -> Result<Seq<Pat>, AllocE
     Ok(row)
 }
 
-// A row with its first pattern's subpatterns in place of it, or `fields` wildcards where it has no
-// head; None for another head, a constructor with not so many subpatterns, or an empty row.
+// A row's image in S for a head with so many fields: a copy of the row with its first pattern's
+// subpatterns in place of that pattern, or with `fields` wildcards in place of a wildcard or a
+// variable. None for another number or constructor, a constructor with another number of
+// subpatterns than `fields`, or an empty row.
 fn special_of_row(
     alloc: Global,
     head: Head,
@@ -84,7 +88,8 @@ fn special_of_row(
     }
 }
 
-// A row without its first pattern; None where that has a head, or where the row is empty.
+// A row's image in D: a copy of the row without its first pattern. None where that is a number or a
+// constructor, or where the row is empty.
 fn rest_of_row(alloc: Global, row: &[Pat]) -> Result<Option<Seq<Pat>>, AllocError>
     ensures { IfOk result (λ r. r ≡ default_row row.now) }
 {
@@ -99,9 +104,9 @@ fn rest_of_row(alloc: Global, row: &[Pat]) -> Result<Option<Seq<Pat>>, AllocErro
     }
 }
 
-/// A row's image in the specialised matrix of a head with so many fields, or None where the row
-/// matches no vector that begins with the head. A pattern with another number of subpatterns
-/// matches nothing.
+/// A row's image in the specialised matrix of a head with so many fields. None where the row is
+/// empty, begins with another number or constructor, or begins with a constructor that has another
+/// number of subpatterns: it matches no vector then that begins with the head. The row stays.
 ///
 /// # Errors
 ///
@@ -123,7 +128,8 @@ pub fn specialize_row(
     Ok(image)
 }
 
-/// A row's image in the default matrix, or None where the row begins with a head.
+/// A row's image in the default matrix: a copy without the first pattern. None where that is a
+/// number or a constructor, or where the row is empty.
 ///
 /// # Errors
 ///
@@ -141,7 +147,8 @@ pub fn default_of_row(alloc: Global, row: &[Pat]) -> Result<Option<Seq<Pat>>, Al
     Ok(image)
 }
 
-/// The images of rows in the specialised matrix of a head with so many fields.
+/// The images of rows in the specialised matrix of a head with so many fields, in the order of the
+/// rows.
 ///
 /// # Errors
 ///
@@ -163,7 +170,7 @@ pub fn special_rows(
     Ok(kept)
 }
 
-/// The images of rows in the default matrix.
+/// The images of rows in the default matrix, in the order of the rows.
 ///
 /// # Errors
 ///
@@ -180,7 +187,7 @@ pub fn rows_by_default(alloc: Global, rows: &[Seq<Pat>]) -> Result<Seq<Seq<Pat>>
     Ok(kept)
 }
 
-// Whether an integer type holds a number.
+// Whether an integer type of so many bits holds a number.
 fn holds(bits: u8, number: u64) -> bool
     ensures { result ≡ nat_lt number (2 ^ bits) }
 {
@@ -190,7 +197,8 @@ fn holds(bits: u8, number: u64) -> bool
     number < 1u64 << bits
 }
 
-// The types of a constructor's fields, or None where there is no such constructor.
+// The types of a constructor's fields, or None where there is no such type or it has no such
+// constructor.
 fn con_fields(types: &[DataDecl], ty: u32, con: u32) -> Option<&[Ty]>
     ensures { option_copied result ≡ fields_in (slice_get types.now ty) con }
 {
@@ -206,8 +214,9 @@ fn con_fields(types: &[DataDecl], ty: u32, con: u32) -> Option<&[Ty]>
     Some(cons[con].fields.as_slice())
 }
 
-/// The types of a head's fields, or None where the head is not of the type. A constructor counts by
-/// its number in the type.
+/// The types of a head's fields, or None where the head is not of the type. A number is of an
+/// integer type that holds it, and has no field. A constructor is of a data type that has one with
+/// its number, whatever type the head names.
 pub fn head_fields(types: &[DataDecl], ty: Ty, head: Head) -> Option<&[Ty]>
     ensures { option_copied result ≡ fields_at types.now ty head }
 {
@@ -223,7 +232,7 @@ pub fn head_fields(types: &[DataDecl], ty: Ty, head: Head) -> Option<&[Ty]>
     }
 }
 
-// The types of all columns but the first.
+// The types of all columns but the first; none where there is no column.
 fn types_behind(tys: &[Ty]) -> &[Ty]
     ensures { result.now ≡ drop 1 tys.now }
 {
@@ -233,7 +242,7 @@ fn types_behind(tys: &[Ty]) -> &[Ty]
     }
 }
 
-// The types of the head's fields, and then those of the other columns.
+// The types of a head's fields, and then those of all columns but the first.
 fn types_unfolded(alloc: Global, fields: &[Ty], tys: &[Ty]) -> Result<Seq<Ty>, AllocError>
     ensures { IfOk result (λ r. r ≡ fields.now ++ drop 1 tys.now) }
 {
@@ -243,7 +252,8 @@ fn types_unfolded(alloc: Global, fields: &[Ty], tys: &[Ty]) -> Result<Seq<Ty>, A
     Ok(Seq::from_vec(unfolded))
 }
 
-/// The types of a head's fields, where the head is of the first column's type; specialize needs that.
+/// The types of a head's fields, where the head is of the first column's type, and None where not,
+/// or where there is no column. [`specialize`] needs that there are some, be they an empty list.
 pub fn first_fields<'a>(types: &'a [DataDecl], tys: &[Ty], head: Head) -> Option<&'a [Ty]>
     ensures { option_copied result ≡ column_fields types.now tys.now head }
 {
@@ -253,9 +263,9 @@ pub fn first_fields<'a>(types: &'a [DataDecl], tys: &[Ty], head: Head) -> Option
     }
 }
 
-/// The specialised matrix S: the rows that may match a vector whose first value begins with the head,
-/// with the head's subpatterns in place of the first pattern, or as many wildcards. There is a first
-/// column, and the head is of its type; rows need not be typed.
+/// The specialised matrix S: the rows that may match a vector whose first value begins with the
+/// head, with the subpatterns of the first pattern in its place, or as many wildcards as the head
+/// has fields. There must be a first column, and the head of its type. The matrix stays.
 ///
 /// # Errors
 ///
@@ -281,8 +291,8 @@ pub fn specialize(
     Ok(Matrix { tys, rows })
 }
 
-/// The default matrix D: the rows that match whatever the first value is, without their first
-/// pattern.
+/// The default matrix D: the rows that begin with a wildcard or a variable, without it. Where there
+/// is no column, D has none either. The matrix stays.
 ///
 /// # Errors
 ///

@@ -1,5 +1,7 @@
-//! Patterns by what stands in them at one path, so that a pattern is not held against those that have
-//! another number or constructor there.
+//! Indexes: the numbers of patterns, by what stands in the patterns at one path, so that a pattern
+//! is not held against those that have another number or constructor there. A path is a list of
+//! fields, from the outside in; the empty path leads to the pattern itself. A pattern's key is the
+//! number that stands in it at the path, or that of the constructor that does.
 
 ghost use Rattle.std.specs.Prelude.{◌≡◌, ◌<◌, [], ◌++◌, ℕ, true, Contains, OnOk, IfOk, IfSome, slice_index_or};
 ghost use Rattle.rb_core.specs.declared.value.Value.{Value};
@@ -15,7 +17,7 @@ use rb_core::seq::Seq;
 use std::alloc::{AllocError, Global};
 use std::collections::BTreeMap;
 
-// The pattern of a field.
+// The subpattern of a field; None where the pattern is not a constructor with such a field.
 fn field_of(pat: &Pat, field: usize) -> Option<&Pat>
     ensures { IfSome result (λ sub. (v : Value) → matches_of pat.now v ≡ true
         → matches_of sub.now (slice_index_or (subs v) field v) ≡ true) }
@@ -26,7 +28,8 @@ fn field_of(pat: &Pat, field: usize) -> Option<&Pat>
     }
 }
 
-// The number of what a pattern begins with.
+// The number that a pattern is, or that of the constructor that it begins with; None for a wildcard
+// or a variable.
 fn head_number(pat: &Pat) -> Option<u64>
     ensures { IfSome result (HasKey pat.now []) }
 {
@@ -37,8 +40,9 @@ fn head_number(pat: &Pat) -> Option<u64>
     }
 }
 
-// The number of what stands in a pattern at a path of fields. None where a wildcard or a variable
-// stands there or on the way, or where there is no such field.
+// A pattern's key: the number that stands in it at a path, or that of the constructor that does.
+// None where a wildcard or a variable stands there, or where a pattern on the way does not have the
+// field, as wildcards, variables and numbers have none.
 fn key_at(pat: &Pat, path: &[usize]) -> Option<u64>
     ensures { IfSome result (HasKey pat.now path.now) }
 {
@@ -52,7 +56,7 @@ fn key_at(pat: &Pat, path: &[usize]) -> Option<u64>
     head_number(here)
 }
 
-// The numbers below this one.
+// The numbers below `count`, ascending.
 fn numbers_below(alloc: Global, count: usize) -> Result<Seq<usize>, AllocError>
     ensures { IfOk result (λ js. (j : ℕ) → j < count → Contains js j) }
 {
@@ -63,7 +67,7 @@ fn numbers_below(alloc: Global, count: usize) -> Result<Seq<usize>, AllocError>
     Ok(numbers)
 }
 
-// Numbers, and more behind them.
+// A copy of numbers, with more behind them.
 fn joined(alloc: Global, numbers: &Seq<usize>, more: &[usize]) -> Result<Seq<usize>, AllocError>
     ensures { IfOk result (λ js. js ≡ numbers.now ++ more.now) }
 {
@@ -74,7 +78,8 @@ fn joined(alloc: Global, numbers: &Seq<usize>, more: &[usize]) -> Result<Seq<usi
     Ok(all)
 }
 
-// Whether one of the patterns with these numbers covers a pattern.
+// Whether one of the patterns with these numbers is found to cover a pattern; a number without a
+// pattern does not count.
 fn are_covering(pats: &[Pat], numbers: &[usize], pat: &Pat) -> bool
     ensures { OnTrue result (IsCovered pat.now pats.now) }
 {
@@ -89,7 +94,8 @@ fn are_covering(pats: &[Pat], numbers: &[usize], pat: &Pat) -> bool
     false
 }
 
-/// The numbers of patterns, by what stands in the patterns at one path.
+/// The numbers of patterns, by what stands in the patterns at one path: those of the patterns
+/// without a key, and for each key those of the patterns that have it.
 #[derive(Drop)]
 pub struct Index {
     pub path: Seq<usize>,
@@ -98,7 +104,7 @@ pub struct Index {
 }
 
 impl Index {
-    /// Of no pattern.
+    /// Of no pattern yet, with this path.
     pub fn new(alloc: Global, path: Seq<usize>) -> Self
         ensures { IsIndex [] result }
     {
@@ -109,7 +115,7 @@ impl Index {
         }
     }
 
-    // Adds a number to the group of a key.
+    // Adds a number behind those of the patterns with this key.
     fn add_to_group(&mut self, alloc: Global, number: usize, key: u64) -> Result<(), AllocError>
         ensures { OnOk result (IsGrouped key number self.old self.new) }
     {
@@ -122,7 +128,7 @@ impl Index {
         Ok(())
     }
 
-    /// Adds the pattern with this number, the next one.
+    /// Adds a pattern. Its number is how many patterns came before it.
     ///
     /// # Errors
     ///
@@ -136,7 +142,8 @@ impl Index {
         }
     }
 
-    /// How many patterns have the same number or constructor at the path as this one, or nothing there.
+    /// How many patterns of the index have this one's key or none; where this one has none, how
+    /// many have none.
     pub fn count_alike(&self, pat: &Pat) -> usize {
         let count = self.keyless.len();
         let Some(key) = key_at(pat, self.path.as_slice()) else {
@@ -148,7 +155,8 @@ impl Index {
         }
     }
 
-    /// How many of the first `count` patterns may have a value in common with this one.
+    /// How many numbers [`near`](Index::near) gives for this pattern: `count` where it has no key,
+    /// and else how many patterns of the index have its key or none.
     pub fn count_near(&self, count: usize, pat: &Pat) -> usize {
         if key_at(pat, self.path.as_slice()).is_none() {
             return count;
@@ -156,8 +164,8 @@ impl Index {
         self.count_alike(pat)
     }
 
-    /// Whether one of the patterns covers this one. Only one with the same number or constructor at the
-    /// path can, or one with none.
+    /// Whether one of the patterns `pats`, those of the index, is found to cover this one. Those
+    /// with its key and those without a key are tried: no other has what it has in each place.
     pub fn has_covering(&self, pats: &[Pat], pat: &Pat) -> bool
         ensures { OnTrue result (IsCovered pat.now pats.now) }
     {
@@ -173,7 +181,8 @@ impl Index {
         }
     }
 
-    /// The numbers of those among the first `count` patterns that may have a value in common with this one.
+    /// The numbers of those among the `count` patterns of the index that may have a value in common
+    /// with this one: of all where it has no key, and else of those that have its key or none.
     ///
     /// # Errors
     ///

@@ -1,4 +1,5 @@
-//! Two indexes of the same patterns. For each pattern the one serves that leaves fewer.
+//! Two indexes of the same patterns. For a pattern held against them the one serves that leaves
+//! fewer.
 
 ghost use Rattle.std.specs.Prelude.{[], OnOk, IfOk};
 ghost use Rattle.std.specs.Bool.{OnTrue};
@@ -19,7 +20,7 @@ pub struct Indexes {
 }
 
 impl Indexes {
-    /// Of no pattern.
+    /// Of no pattern yet, with these paths.
     pub fn new(alloc: Global, paths: Paths) -> Self
         ensures { AreIndexes [] result }
     {
@@ -30,7 +31,7 @@ impl Indexes {
         }
     }
 
-    /// Adds the pattern with this number, the next one.
+    /// Adds a pattern to both. Its number is how many patterns came before it.
     ///
     /// # Errors
     ///
@@ -43,7 +44,7 @@ impl Indexes {
         Ok(())
     }
 
-    /// Whether one of the patterns covers this one.
+    /// Whether one of the patterns `pats`, those of the indexes, is found to cover this one.
     pub fn has_covering(&self, pats: &[Pat], pat: &Pat) -> bool
         ensures { OnTrue result (IsCovered pat.now pats.now) }
     {
@@ -54,7 +55,8 @@ impl Indexes {
         }
     }
 
-    /// The numbers of those among the first `count` patterns that may have a value in common with this one.
+    /// The numbers of those among the `count` patterns of the indexes that may have a value in
+    /// common with this one, as far as the better index tells.
     ///
     /// # Errors
     ///

@@ -1,4 +1,4 @@
-//! Sets of numbers.
+//! Sets of numbers, for the numbers among heads or patterns.
 
 ghost use Rattle.std.specs.Prelude.{◌≡◌, ◌||◌, ◌==◌, ℕ, false, OnOk};
 ghost use Rattle.rb_matrix.specs.Known.{has};
@@ -6,14 +6,14 @@ ghost use Rattle.rb_matrix.specs.Known.{has};
 use std::alloc::{AllocError, Global};
 use std::collections::BTreeSet;
 
-/// A set of numbers, so that thousands of them are not compared with each other.
+/// A set of numbers, ordered, so that thousands of them are not compared with each other.
 #[derive(Drop)]
 pub struct Numbers {
     held: BTreeSet<u64>,
 }
 
 impl Numbers {
-    /// No number.
+    /// The empty set, which takes no memory yet.
     pub fn new(alloc: Global) -> Self
         ensures { (n : ℕ) → has result n ≡ false }
     {
@@ -22,14 +22,14 @@ impl Numbers {
         }
     }
 
-    /// Whether the number is here.
+    /// Whether the number is in the set.
     pub fn contains(&self, number: u64) -> bool
         ensures { result ≡ has self.now number }
     {
         self.held.contains(&number)
     }
 
-    /// Adds a number.
+    /// Adds a number; one that is in the set already changes nothing.
     ///
     /// # Errors
     ///

@@ -1,4 +1,5 @@
-//! Patterns without a head, which match every vector of their length.
+//! Rows whose patterns are all wildcards or variables, so that they match every vector of their
+//! length.
 
 ghost use Rattle.std.specs.Prelude.{◌≡◌};
 ghost use Rattle.rb_matrix.specs.inner.Open.{is_open as the_open};
@@ -6,7 +7,7 @@ ghost use Rattle.rb_matrix.specs.inner.Open.{is_open as the_open};
 use crate::stack::Stack;
 use rb_core::pattern::Pat;
 
-// Whether none of the patterns of a slice has a head.
+// Whether each pattern of a slice is a wildcard or a variable; so it is of an empty one.
 fn are_open(pats: &[Pat]) -> bool
     ensures { result ≡ the_open pats.now }
 {
@@ -21,7 +22,7 @@ fn are_open(pats: &[Pat]) -> bool
     true
 }
 
-/// Whether none of the patterns has a head.
+/// Whether each of the patterns is a wildcard or a variable; so it is where there is none.
 #[tactic(auto, using(crate::proofs::OpenRows::open_append))]
 pub fn is_open(pats: &Stack<Pat>) -> bool
     ensures { result ≡ the_open pats.now }

@@ -1,4 +1,6 @@
-//! The parts of a problem: what is left of it where its vectors begin with a head, or with none.
+//! The parts of a problem: what is left of it where its vectors begin with a head, or with none of
+//! the heads of its first column. A problem is given without its first column's type, which stands
+//! beside it.
 
 ghost use Rattle.std.specs.Prelude.{◌≡◌, ◌+◌, ◌≤◌, ◌∷◌, ◌++◌, [], IfOk, OnOk, None};
 ghost use Rattle.rb_matrix.specs.declared.problem.Left.TheVariants.{Whole, ByHead};
@@ -20,7 +22,7 @@ use rb_core::types::{ConRef, DataDecl, Ty};
 use std::alloc::{AllocError, Global};
 
 impl Step {
-    // An equal step.
+    // An equal step, with a copy of its pattern.
     fn copy(&self, alloc: Global) -> Result<Step, AllocError>
         ensures { IfOk result (λ s. s ≡ self.now) }
     {
@@ -31,7 +33,7 @@ impl Step {
     }
 }
 
-// Equal steps, in the same order.
+// Copies of steps, in the same order.
 fn steps_copied(alloc: Global, steps: &[Step]) -> Result<Seq<Step>, AllocError>
     ensures { IfOk result (λ r. r ≡ steps.now) }
 {
@@ -42,7 +44,7 @@ fn steps_copied(alloc: Global, steps: &[Step]) -> Result<Seq<Step>, AllocError>
     Ok(copies)
 }
 
-// Equal steps, and one more behind them.
+// Copies of steps, in the same order, and one more behind them.
 fn steps_with(alloc: Global, steps: &[Step], last: Step) -> Result<Seq<Step>, AllocError>
     ensures { IfOk result (λ r. r ≡ steps.now ++ last ∷ []) }
 {
@@ -63,7 +65,9 @@ fn types_joined(alloc: Global, fields: &[Ty], rest: &Stack<Ty>) -> Result<Stack<
     Ok(Stack::from_seq(Seq::from_vec(tys)))
 }
 
-// The step of a head with so many fields.
+// The step from the part of a head with so many fields to its parent, whose first column is of type
+// `ty`: a number stands before the row, and a constructor takes as many patterns. The constructor
+// is given as one of that type, whatever type the head names; of an integer type it stays as it is.
 fn step_for(ty: Ty, head: Head, fields: usize) -> Step
     ensures { result ≡ step_of ty head fields }
 {
@@ -82,8 +86,9 @@ fn step_for(ty: Ty, head: Head, fields: usize) -> Step
     }
 }
 
-// What is left where the first value begins with the head, or None where no vector is. The problem
-// is given without its first column's type; it stays, and the rows that the head keeps are copied.
+// The part of a problem for a head: what is left where the first value begins with it. None where
+// no vector is, since the head is not of the type, or a wanted row has no image. The problem stays,
+// and the rows that have an image are copied.
 fn part_at(
     alloc: Global,
     types: &[DataDecl],
@@ -115,7 +120,9 @@ fn part_at(
     }))
 }
 
-// The same, made of the problem itself.
+// The part of a problem for a head, made of the problem itself: what is left where the first value
+// begins with the head. None where no vector is, since the head is not of the type, or a wanted row
+// has no image.
 fn last_part(
     alloc: Global,
     types: &[DataDecl],
@@ -153,7 +160,7 @@ fn last_part(
     }))
 }
 
-// Adds the part that there may be.
+// Adds a part to what is left, as a whole problem; None adds nothing.
 fn add_part(left: &mut Vec<Left>, part: Option<Problem>) -> Result<(), AllocError>
     ensures { OnOk result (left.new.items ≡ left.old.items ++ wholes part) }
 {
@@ -166,9 +173,10 @@ fn add_part(left: &mut Vec<Left>, part: Option<Problem>) -> Result<(), AllocErro
     }
 }
 
-/// Makes the part of the last head, and leaves the others for later, so that of each problem one part is
-/// held at a time. Where it is the only head left, the part is made of the problem itself, and nothing is
-/// copied.
+/// Takes the last head off some branches and makes its part, which is to be searched first; the
+/// other heads are left for later, so that of each problem one part is held at a time. Where there
+/// are no other heads, the part is made of the problem itself, and no row is copied. Where there is
+/// no head at all, or no vector that begins with the last one, there is no part.
 ///
 /// # Errors
 ///
@@ -202,8 +210,9 @@ pub fn next_part(
     Ok(left)
 }
 
-// What is left where the first value is one that `beside` matches, which begins with no head of the
-// column.
+// The part of a problem for all values that begin with no head of its first column, of which
+// `beside` matches some. It is made of the problem itself. None where there is no vector, since a
+// wanted row has no image in the default matrix.
 fn rest_part(
     alloc: Global,
     types: &[DataDecl],
@@ -237,10 +246,11 @@ fn rest_part(
     }))
 }
 
-/// What is left of a problem whose first column has this type; the problem is given without that type.
-/// A head that a wanted row begins with is the only one that counts. Else, where the heads of the
-/// unwanted rows are not all that a value of the type begins with, the default matrix answers for all
-/// of them.
+/// What is left of a problem whose first column has type `ty`. Where a wanted row begins with a
+/// head, that head alone counts: other vectors the row does not match. Else, where the heads that
+/// unwanted rows begin with are a complete signature, which is to say that each value of the type
+/// begins with one, all of them count. Where they are not, the default matrix answers for all
+/// values, also for those that begin with one of them.
 ///
 /// # Errors
 ///

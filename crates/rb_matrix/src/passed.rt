@@ -1,5 +1,5 @@
 //! What is known of patterns that were gone over: enough to tell of a number at once whether one of
-//! them matches it, and of another pattern which of them may have a value in common with it.
+//! them matches it, and of a pattern which of them may have a value in common with it.
 
 ghost use Rattle.std.specs.Prelude.{◌≡◌, ◌&&◌, ◌||◌, [], ℕ, not, is_some, OnOk};
 ghost use Rattle.rb_core.specs.declared.pattern.Pat.{out-Pat};
@@ -19,8 +19,9 @@ use rb_core::pattern::Pat;
 use rb_core::types::{DataDecl, Ty};
 use std::alloc::{AllocError, Global};
 
-/// Patterns that were gone over: whether one of them matches every value, the numbers among them, and
-/// what stands in them at two paths.
+/// Patterns that were gone over: whether one of them is a wildcard or a variable, so that it
+/// matches every value, the numbers among them, and two indexes by what stands in them at a path
+/// each.
 #[derive(Drop)]
 pub struct Passed {
     pub all: bool,
@@ -29,7 +30,7 @@ pub struct Passed {
 }
 
 impl Passed {
-    /// No pattern, with the paths of the indexes.
+    /// Of no pattern yet, with these paths for the indexes.
     pub fn new(alloc: Global, paths: Paths) -> Self
         ensures { ArePassed [] result }
     {
@@ -40,7 +41,7 @@ impl Passed {
         }
     }
 
-    /// Goes over one more pattern, the one with this number.
+    /// Goes over one more pattern. Its number is how many patterns came before it.
     ///
     /// # Errors
     ///
@@ -69,7 +70,8 @@ impl Passed {
         }
     }
 
-    /// Whether a number is of the type, and none of the patterns.
+    /// Whether a number is of the type, and none of the patterns is this number. Wildcards and
+    /// variables among them do not count.
     pub fn is_new(&self, types: &[DataDecl], ty: Ty, number: u64) -> bool
         ensures { result ≡ (not (has self.now.numbers number) && is_some (fields_at types.now ty (Heads.Num number))) }
     {

@@ -1,12 +1,14 @@
-//! Where patterns differ most: the paths at which they are best told apart.
+//! Where patterns differ most: the paths at which they are best told apart. A path is a list of
+//! fields, from the outside in; the empty path leads to the pattern itself. At a path a pattern has
+//! a head, which is the number that stands there, or that of the constructor, or none.
 
 use rb_core::pattern::Pat;
 use rb_core::seq::Seq;
 use std::alloc::{AllocError, Global};
 use std::collections::{BTreeMap, BTreeSet};
 
-// A path: the field of the one above that it leads to. In how many patterns a number or a constructor
-// stands there, and how many different ones do.
+// A path, by the one above it and the field of that to which it leads, with what is counted there:
+// how many patterns have a head there, and how many different heads there are.
 #[derive(Drop)]
 struct Position {
     above: usize,
@@ -15,7 +17,8 @@ struct Position {
     kinds: u64,
 }
 
-// The paths of patterns, each with its number. The first is the empty path.
+// The paths of patterns, each with its number, which is its place here. The first is the empty
+// path.
 #[derive(Drop)]
 struct Positions {
     each: Vec<Position>,
@@ -40,7 +43,8 @@ impl Positions {
         })
     }
 
-    // The path to a field.
+    // The number of the path to a field of what stands at the path `above`; it is added here where
+    // it is not there yet.
     fn below(&mut self, above: usize, field: usize) -> Result<usize, AllocError> {
         if let Some(number) = self.below.get(&(above, field)) {
             return Ok(*number);
@@ -56,7 +60,7 @@ impl Positions {
         Ok(number)
     }
 
-    // Counts what one pattern has at a path.
+    // Counts a pattern's head at a path. A number without a path counts nothing.
     fn count_head(&mut self, at: usize, head: u64) -> Result<(), AllocError> {
         let is_new = self.known.insert((at, head))?;
         if let Some(position) = self.each.get_mut(at) {
@@ -68,7 +72,7 @@ impl Positions {
         Ok(())
     }
 
-    // Counts what a pattern has at a path and below it.
+    // Counts the heads of what stands in a pattern at a path, and of all below it.
     #[cycle(counting)]
     fn count(&mut self, pat: &Pat, at: usize) -> Result<(), AllocError> {
         match pat {
@@ -81,7 +85,8 @@ impl Positions {
         }
     }
 
-    // Counts what the fields of a pattern at a path have.
+    // Counts the heads of the subpatterns of what stands in a pattern at a path, and of all below
+    // them.
     #[cycle(counting)]
     fn count_fields(&mut self, pats: &[Pat], at: usize) -> Result<(), AllocError> {
         for (field, pat) in pats.iter().enumerate() {
@@ -91,7 +96,7 @@ impl Positions {
         Ok(())
     }
 
-    // The fields that lead to a path.
+    // The fields, from the outside in, of the path with this number.
     fn path_to(&self, alloc: Global, number: usize) -> Result<Seq<usize>, AllocError> {
         let mut path = Vec::new(alloc);
         let mut at = number;
@@ -109,8 +114,9 @@ impl Positions {
         Ok(Seq::from_vec(path))
     }
 
-    // The path, another than this one, that is reckoned to tell most pairs of patterns apart; the empty
-    // path where none tells any.
+    // The number of the path, another than this one, that tells most pairs of patterns apart by the
+    // estimate of `pairs_apart`; the first of those that tell as many, and the empty path, even
+    // where it is this one, where none tells any.
     fn best_but(&self, other: Option<usize>) -> usize {
         let mut best = 0;
         let mut most = 0;
@@ -125,8 +131,9 @@ impl Positions {
     }
 }
 
-// How many pairs of patterns a path tells apart, where each number or constructor stands there as often
-// as any other.
+// An estimate of how many pairs of patterns a path tells apart, each pair counted in both orders.
+// It supposes that each head stands there in as many patterns as any other; where that is not so,
+// the path tells fewer apart.
 fn pairs_apart(position: &Position) -> u64 {
     let pairs = position.heads.saturating_mul(position.heads);
     match pairs.checked_div(position.kinds) {
@@ -135,14 +142,16 @@ fn pairs_apart(position: &Position) -> u64 {
     }
 }
 
-/// Two paths of fields, from the outside in.
+/// Two paths, each a list of fields from the outside in.
 #[derive(Drop)]
 pub struct Paths {
     pub first: Seq<usize>,
     pub second: Seq<usize>,
 }
 
-/// The two paths that are reckoned to tell patterns apart best. Which ones they are changes no answer.
+/// The two paths that tell most pairs of patterns apart, by an estimate which supposes that at each
+/// path all heads stand in as many patterns. Where fewer than two tell any apart, the empty path
+/// stands in. Which paths they are changes no answer of this crate, only how long it takes.
 ///
 /// # Errors
 ///

@@ -1,4 +1,6 @@
-//! What is left of a search.
+//! What is left of a search: problems and their parts. A problem is split into parts by the heads
+//! of its first column; the problem is their parent, and the one that the search begins with is the
+//! root.
 
 use crate::matrix::Head;
 use crate::row::Row;
@@ -7,17 +9,18 @@ use rb_core::pattern::Pat;
 use rb_core::seq::Seq;
 use rb_core::types::{ConRef, Ty};
 
-/// How a row of patterns for a problem becomes one for the problem that it is a part of.
+/// How a row of patterns for a problem becomes one for its parent.
 #[derive(Drop)]
 pub enum Step {
     /// This pattern stands before the row.
     Front(Pat),
-    /// The constructor takes so many patterns from the front of the row as its subpatterns.
+    /// The constructor takes so many patterns from the front of the row as its subpatterns, or all
+    /// where the row is shorter.
     Fold(ConRef, usize),
 }
 
-/// Is there a vector of these types that all wanted rows match and no unwanted one? The steps lead
-/// from a row for this problem to one for the problem at the root.
+/// Is there a vector of these types that all wanted rows match and no unwanted one? The steps, the
+/// last one first, lead from a row for this problem to one for the root; the root has none.
 #[derive(Drop)]
 pub struct Problem {
     pub tys: Stack<Ty>,
@@ -26,8 +29,9 @@ pub struct Problem {
     pub steps: Seq<Step>,
 }
 
-/// The parts of a problem that are not made yet: its vectors that begin with one of these heads. The
-/// problem is given without its first column's type.
+/// The parts of a problem that are not made yet, one for each of these heads: for its vectors that
+/// begin with the head. The problem stands here without its first column's type, which stands
+/// beside it.
 #[derive(Drop)]
 pub struct Branches {
     pub ty: Ty,
@@ -35,20 +39,20 @@ pub struct Branches {
     pub heads: Seq<Head>,
 }
 
-/// What is left of a search.
+/// A piece of what is left of a search.
 #[derive(Drop)]
 pub enum Left {
     /// All vectors of a problem.
     Whole(Problem),
-    /// Those that begin with one of some heads.
+    /// The vectors of a problem that begin with one of some heads.
     ByHead(Branches),
 }
 
-/// What becomes of what was left.
+/// What becomes of a piece of what was left.
 #[derive(Drop)]
 pub enum Outcome {
-    /// The empty row is its answer, and these are its steps.
+    /// Its problem has no column left, and the empty row is its answer: these are its steps.
     Solved(Seq<Step>),
-    /// These answer for it.
+    /// These are left in its stead: where none of them has an answer, it has none.
     Split(Vec<Left>),
 }

@@ -1,4 +1,5 @@
-//! One row of a search. Its images in the specialised and the default matrix are made of the row itself.
+//! One row of a search. Its images in the specialised and the default matrix are made of the row
+//! itself.
 
 ghost use Rattle.std.specs.Prelude.{◌≡◌, ◌∷◌, ◌==◌, [], ℕ, None, length, IfOk};
 ghost use Rattle.std.specs.Bool.{OnTrue};
@@ -15,8 +16,9 @@ use rb_core::seq::Seq;
 use std::alloc::{AllocError, Global};
 use std::marker::Model;
 
-/// A row of patterns, which is taken apart from its front. The wildcards that a head's fields put in front
-/// are only counted, so that a row takes no more memory than the patterns that it is made of.
+/// A row of patterns, which is taken apart from its front: so many wildcards, and then the patterns
+/// behind them. The wildcards that a head's fields put in front are only counted, so that a row
+/// takes no more memory than the patterns that it is made of.
 #[derive(Drop)]
 pub struct Row {
     wilds: usize,
@@ -37,7 +39,7 @@ impl Model for Row {
     ghost view = { λ r. so_many r.wilds ++ r.behind };
 }
 
-/// A pattern as a row.
+/// A copy of a pattern, as a row of its own.
 ///
 /// # Errors
 ///
@@ -50,7 +52,9 @@ pub fn row_of(alloc: Global, pat: &Pat) -> Result<Row, AllocError>
     Ok(Row { wilds: 0, behind })
 }
 
-// The image of patterns in the specialised matrix of a head with so many fields.
+// The image of a row of these patterns in the specialised matrix of a head with so many fields.
+// None where the row is empty, begins with a head that is not like this one, or begins with a
+// constructor that has another number of subpatterns.
 fn special_of(mut pats: Stack<Pat>, head: Head, fields: usize) -> Result<Option<Row>, AllocError>
     ensures { IfOk result (λ r. r ≡ special_row head fields pats) }
 {
@@ -92,7 +96,7 @@ fn special_of(mut pats: Stack<Pat>, head: Head, fields: usize) -> Result<Option<
 }
 
 impl Row {
-    /// A row of these patterns.
+    /// A row of these patterns, in their order.
     pub fn from_seq(pats: Seq<Pat>) -> Row
         ensures { result ≡ pats }
     {
@@ -119,7 +123,7 @@ impl Row {
         })
     }
 
-    /// Whether the row has no pattern, so that it matches the empty vector.
+    /// Whether the row has no pattern, so that it matches the empty vector, and else does not.
     pub fn is_empty(&self) -> bool
         ensures { result ≡ row_matches self.now [] }
     {
@@ -132,14 +136,14 @@ impl Row {
         }
     }
 
-    /// Whether the row has so many patterns.
+    /// Whether the row has exactly so many patterns.
     pub fn has_length(&self, count: usize) -> bool
         ensures { result ≡ (length self.now == count) }
     {
         self.wilds <= count && self.behind.len() == count - self.wilds
     }
 
-    /// Whether the row has no head.
+    /// Whether each pattern of the row is a wildcard or a variable; so it is of the empty row.
     #[tactic(auto, using(crate::proofs::CountedRows::open_counted))]
     pub fn is_open(&self) -> bool
         ensures { result ≡ the_open self.now }
@@ -147,7 +151,8 @@ impl Row {
         is_open(&self.behind)
     }
 
-    /// What the row begins with.
+    /// The head of the row's first pattern; None where that is a wildcard or a variable, or where
+    /// the row is empty.
     pub fn head(&self) -> Option<Head>
         ensures { result ≡ row_head self.now }
     {
@@ -165,7 +170,11 @@ impl Row {
         }
     }
 
-    /// Whether the row has no pattern or begins with another head, so that it has no image.
+    /// Whether the row is empty, or begins with a head that is not like this one: another number, a
+    /// constructor with another number in its type, or one of both where this is the other. It has
+    /// no image in the specialised matrix of this head then, however many fields the head has. A
+    /// constructor with another number of subpatterns than that has none either, and is not seen
+    /// here.
     pub fn is_other(&self, head: Head) -> bool
         ensures { OnTrue result ((n : ℕ) → special_row head n self.now ≡ None) }
     {
@@ -189,11 +198,13 @@ impl Row {
         }
     }
 
-    /// The row's image in the specialised matrix of a head with so many fields.
+    /// The row's image in the specialised matrix of a head with so many fields; None where the row
+    /// is empty, begins with a head that is not like this one, or begins with a constructor that
+    /// has another number of subpatterns.
     ///
     /// # Errors
     ///
-    /// Want of memory.
+    /// Want of memory, also for more wildcards than a `usize` counts.
     #[tactic(auto, using(crate::proofs::CountedRows::special_counted))]
     pub fn special(self, head: Head, fields: usize) -> Result<Option<Row>, AllocError>
         ensures { IfOk result (λ r. r ≡ special_row head fields self) }
@@ -208,7 +219,8 @@ impl Row {
         special_of(behind, head, fields)
     }
 
-    /// The row's image in the default matrix.
+    /// The row's image in the default matrix: the row without its first pattern. None where that is
+    /// a number or a constructor, or where the row is empty.
     pub fn rest(self) -> Option<Row>
         ensures { result ≡ default_row self }
     {

@@ -1,4 +1,5 @@
-//! The rows of a search, and their images in the specialised and the default matrix.
+//! The rows of a search, the heads of their first patterns, and their images in the specialised and
+//! the default matrix. A row without an image is left out.
 
 ghost use Rattle.std.specs.Prelude.{◌≡◌, ◌≤◌, length, IfOk};
 ghost use Rattle.rb_core.specs.declared.value.Value as Values;
@@ -16,7 +17,7 @@ use rb_core::seq::Seq;
 use std::alloc::{AllocError, Global};
 use std::collections::VecDeque;
 
-/// The first head that stands in the first column.
+/// The head of the first row that begins with one; None where no row does.
 pub fn first_head_in(rows: &[Row]) -> Option<Head>
     ensures { result ≡ first_head rows.now }
 {
@@ -28,7 +29,7 @@ pub fn first_head_in(rows: &[Row]) -> Option<Head>
     None
 }
 
-/// The heads that stand in the first column, each once.
+/// The heads that the rows begin with, in the order of the rows; of heads alike only the first.
 ///
 /// # Errors
 ///
@@ -46,7 +47,8 @@ pub fn heads_in(alloc: Global, rows: &[Row]) -> Result<Seq<Head>, AllocError>
     Ok(Seq::from_vec(heads))
 }
 
-// The image of a row that stays. Only rows that may have one are copied.
+// A row's image in the specialised matrix of a head with so many fields, or None where it has none.
+// The row stays; it is copied only where its first pattern does not rule an image out.
 fn special_copy(
     alloc: Global,
     row: &Row,
@@ -62,7 +64,8 @@ fn special_copy(
     copy.special(head, fields)
 }
 
-/// The images of rows in the specialised matrix of a head with so many fields. The rows stay.
+/// The images of rows in the specialised matrix of a head with so many fields, in the order of the
+/// rows. The rows stay.
 ///
 /// # Errors
 ///
@@ -84,7 +87,8 @@ pub fn special_copies(
     Ok(kept)
 }
 
-/// The images of rows in the specialised matrix of a head with so many fields, made of the rows.
+/// The images of rows in the specialised matrix of a head with so many fields, in the order of the
+/// rows and made of them.
 ///
 /// # Errors
 ///
@@ -107,7 +111,7 @@ pub fn special_images(
     Ok(kept)
 }
 
-/// The images of rows in the default matrix, made of the rows.
+/// The images of rows in the default matrix, in the order of the rows and made of them.
 ///
 /// # Errors
 ///
@@ -125,7 +129,8 @@ pub fn default_images(alloc: Global, rows: Seq<Row>) -> Result<Seq<Row>, AllocEr
     Ok(kept)
 }
 
-/// Whether one of the rows matches every vector of so many values, whatever they are.
+/// Whether one of the rows has so many patterns, all wildcards or variables, so that it matches
+/// every vector of so many values.
 pub fn some_is_open(rows: &[Row], columns: usize) -> bool
     ensures { result ≡ any_open rows.now columns }
 {

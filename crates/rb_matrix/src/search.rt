@@ -1,14 +1,15 @@
-//! The one search that all questions about matrices come to: a vector of values that all wanted rows
-//! match and no unwanted one. It is Maranget's test of usefulness, with a witness.
+//! The one search that all questions about matrices come to: a vector of values that all wanted
+//! rows match and no unwanted one. It is Maranget's test of usefulness, with a witness.
 //!
 //! What is left of a search stands in a list, not on the stack, so that it takes no deeper stack on
-//! wider or longer patterns. An unwanted row without a head ends its branch, so rows that each look at
-//! one column take a time that grows with their number. Time grows as in Maranget's algorithm:
-//! exponentially in the number of columns at worst, where rows that look at several columns take turns,
-//! and about with the product of rows and heads for tables as one writes them. Memory does not: the
-//! parts of a problem are made one after another, each when the one before has no answer, so that of
-//! each problem on the way one part is held. A row of a part takes no more memory than the patterns that
-//! it is made of, since the wildcards for a head's fields are only counted.
+//! wider or longer patterns. An unwanted row of wildcards and variables alone ends its branch, so
+//! rows that each look at one column take a time that grows with their number. Time grows as in
+//! Maranget's algorithm: exponentially in the number of columns at worst, where rows that look at
+//! several columns take turns, and about with the product of rows and heads for tables as one
+//! writes them. Memory does not: the parts of a problem are made one after another, each when the
+//! one before has no answer, so that of each problem on the way one part is held. A row of a part
+//! takes no more memory than the patterns that it is made of, since the wildcards for a head's
+//! fields are only counted.
 
 ghost use Rattle.std.specs.Prelude.{◌≡◌, List, IfOk, []};
 ghost use Rattle.rb_core.specs.declared.types.DataDecl as DataDecls;
@@ -29,7 +30,7 @@ use rb_core::seq::Seq;
 use rb_core::types::{DataDecl, Ty};
 use std::alloc::{AllocError, Global};
 
-// Whether a row matches the empty vector.
+// Whether some row is empty, so that it matches the empty vector.
 fn some_is_empty(rows: &[Row]) -> bool
     ensures { result ≡ any_row rows.now [] }
 {
@@ -41,7 +42,7 @@ fn some_is_empty(rows: &[Row]) -> bool
     false
 }
 
-// Whether each row matches the empty vector.
+// Whether each row is empty, so that it matches the empty vector; so it is where there is no row.
 fn all_are_empty(rows: &[Row]) -> bool
     ensures { result ≡ all_rows rows.now [] }
 {
@@ -81,7 +82,8 @@ fn root(
     })
 }
 
-// Where no column is left, the rows decide.
+// What becomes of a problem with no column left: the empty row is its answer where all wanted rows
+// are empty and no unwanted one is, and else nothing is left.
 fn end(alloc: Global, wanted: &Seq<Row>, unwanted: &Seq<Row>, steps: Seq<Step>) -> Outcome
     ensures { (types : List DataDecls.DataDecl) → IsOutcome types
         (Whole (record { tys = []; wanted = wanted.now; unwanted = unwanted.now; steps = steps })) result }
@@ -95,7 +97,8 @@ fn end(alloc: Global, wanted: &Seq<Row>, unwanted: &Seq<Row>, steps: Seq<Step>) 
     Outcome::Solved(steps)
 }
 
-// What becomes of a problem. Nothing is left where an unwanted row has no head.
+// What becomes of a problem. Nothing is left where an unwanted row matches every vector, since it
+// has a wildcard or a variable for each column.
 fn split(alloc: Global, types: &[DataDecl], problem: Problem) -> Result<Outcome, AllocError>
     requires inhabited { AreInhabited types.now }
     requires live { AreTypesIn types.now problem.tys }
@@ -123,7 +126,7 @@ fn split(alloc: Global, types: &[DataDecl], problem: Problem) -> Result<Outcome,
     Ok(Outcome::Split(parts))
 }
 
-// What becomes of what was left, be it a whole problem or branches of one.
+// What becomes of a piece of what was left, be it a whole problem or branches of one.
 fn step(alloc: Global, types: &[DataDecl], left: Left) -> Result<Outcome, AllocError>
     requires inhabited { AreInhabited types.now }
     requires ready { IsReady types.now left }
@@ -138,9 +141,10 @@ fn step(alloc: Global, types: &[DataDecl], left: Left) -> Result<Outcome, AllocE
     }
 }
 
-/// A row of patterns that has a vector of the root's types, and all of whose vectors all wanted rows
-/// match and no unwanted one; None where there is no such vector. The patterns are numbers,
-/// constructors and wildcards.
+/// A row of patterns for a problem to which no step has led: it matches a vector of the problem's
+/// types, and each vector of these types that it matches is matched by all wanted rows and by no
+/// unwanted one. None where there is no such vector. The patterns are numbers, constructors and
+/// wildcards.
 ///
 /// # Errors
 ///
@@ -170,9 +174,10 @@ pub fn find_in(
     Ok(None)
 }
 
-/// A row of patterns that has a vector of these types, and all of whose vectors all wanted rows match
-/// and no unwanted one; None where there is no such vector. The patterns are numbers, constructors
-/// and wildcards.
+/// A row of patterns that matches a vector of these types, such that each vector of these types
+/// that it matches is matched by all wanted rows and by no unwanted one; None where there is no
+/// such vector. The patterns are numbers, constructors and wildcards. Which such row is given is
+/// left open.
 ///
 /// # Errors
 ///

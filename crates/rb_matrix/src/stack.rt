@@ -34,7 +34,7 @@ impl<T> Stack<T> {
         }
     }
 
-    /// The items of a list, in their order.
+    /// A list of these items, in their order.
     pub fn from_seq(items: Seq<T>) -> Self
         ensures { result ≡ items }
     {
@@ -43,7 +43,7 @@ impl<T> Stack<T> {
         }
     }
 
-    /// Takes the first item off.
+    /// Takes the first item off, or gives None where there is none.
     pub fn pop(&mut self) -> Option<T>
         ensures { MatchOption result ((self.old ≡ []) × (self.new ≡ [])) (λ first. self.old ≡ first ∷ self.new) }
     {
@@ -64,7 +64,7 @@ impl<T> Stack<T> {
         Ok(())
     }
 
-    /// Puts items in front, in their order.
+    /// Puts items in front, in their order: the first of them becomes the first of all.
     ///
     /// # Errors
     ///
@@ -87,14 +87,14 @@ impl<T> Stack<T> {
         self.items.len()
     }
 
-    /// The first item.
+    /// The first item, which stays; None where there is none.
     pub fn first(&self) -> Option<&T>
         ensures { MatchOption result (self.now ≡ []) (λ first. self.now ≡ first.now ∷ drop 1 self.now) }
     {
         self.items.front()
     }
 
-    /// The items as two slices, one behind the other.
+    /// The items as two slices, one behind the other; either may be empty.
     pub fn as_slices(&self) -> (&[T], &[T])
         ensures { result.0.now ++ result.1.now ≡ self.now }
     {

@@ -1,4 +1,5 @@
-//! From the steps of a solved problem to a row of patterns for the root.
+//! From the steps of a solved problem to a row of patterns for the root: the witness that the
+//! search found something.
 
 ghost use Rattle.std.specs.Prelude.{◌≡◌, [], take, drop, IfOk, OnOk};
 ghost use Rattle.std.specs.declared.collections.VecDeque.{VecDeque};
@@ -10,7 +11,7 @@ use rb_core::seq::Seq;
 use std::alloc::{AllocError, Global};
 use std::collections::VecDeque;
 
-// Takes so many patterns off the front.
+// Takes so many patterns off the front of a row, or all where the row is shorter.
 fn front_of(alloc: Global, row: &mut VecDeque<Pat>, count: usize) -> Result<Seq<Pat>, AllocError>
     ensures front { IfOk result (λ r. r ≡ take count row.old.items) }
     ensures rest { OnOk result (row.new.items ≡ drop count row.old.items) }
@@ -25,7 +26,8 @@ fn front_of(alloc: Global, row: &mut VecDeque<Pat>, count: usize) -> Result<Seq<
     Ok(front)
 }
 
-// One step back: the row for the problem becomes one for its parent.
+// One step back: the row for a problem becomes one for its parent. A pattern is put before it, or
+// patterns from its front become the subpatterns of a constructor.
 fn close(alloc: Global, row: &mut VecDeque<Pat>, step: Step) -> Result<(), AllocError>
     ensures { OnOk result (row.new.items ≡ closed step row.old.items) }
 {
@@ -39,7 +41,7 @@ fn close(alloc: Global, row: &mut VecDeque<Pat>, step: Step) -> Result<(), Alloc
     Ok(())
 }
 
-/// The row that the empty row becomes, the last step first.
+/// The row that the empty row becomes by these steps, the last step first.
 ///
 /// # Errors
 ///

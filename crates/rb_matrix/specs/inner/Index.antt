@@ -1,4 +1,7 @@
--- Patterns by what stands in them at one path.
+-- Indexes: the numbers of patterns, by what stands in the patterns at one path. A path is a list of fields, from
+-- the outside in; the empty path leads to the value or the pattern itself. A pattern's key is the number that
+-- stands in it at the path, or that of the constructor that does, if one of them does; a group is the numbers of
+-- the patterns that have one key.
 use Rattle.std.specs.Prelude.{◌≡◌, ℕ, List, [], ◌∷◌, ◌++◌, length, Contains, true, Some, slice_get, slice_index_or, MatchOption, ◌⊎◌}
 use Rattle.std.specs.Ordering.{nat_cmp}
 use Rattle.std.specs.BTreeMap as tree
@@ -11,43 +14,46 @@ use Rattle.rb_core.specs.Values.{subs}
 use Rattle.rb_matrix.specs.declared.index.Index.{Index}
 use Rattle.rb_matrix.specs.Apart.{AreApart}
 
--- the number of what a value begins with
+-- the number that a value, given by its layer, is, or the number of its constructor in its type
 abbrev pub head_number : Value-F Value → ℕ
 head_number (V.Num n) = n
 head_number (V.Con k vs) = k
 
--- the same of what stands in a value at a path of fields; where a value has no such field, it stands there itself
+-- the number of what stands in a value at a path of fields, or that of its constructor; a field that a value does
+-- not have is passed over, and the path goes on from the value itself
 abbrev pub key_of : Value → List ℕ → ℕ
 key_of v [] = head_number (out-Value v)
 key_of v (i ∷ path) = key_of (slice_index_or (subs v) i v) path
 
--- each value that the pattern matches has this number at the path
+-- k is the key of p: each value that p matches has this number at the path
 abbrev pub HasKey : Pat → List ℕ → ℕ → Type 0
 HasKey p path k = (v : Value) → matches_of p v ≡ true → key_of v path ≡ k
 
--- a number stands in the group of a key
+-- number j stands in the group of key k; where there is no such group, no number does
 abbrev pub IsIn : Index → ℕ → ℕ → Type 0
 IsIn x k j = MatchOption (tree.get nat_cmp x.groups k) ⊥ (λ g. Contains g j)
 
--- a pattern stands among those without a key, or in the group of its key
+-- pattern p, with number j, stands among those without a key, or in the group of a key that it has
 abbrev pub IsKept : Index → ℕ → Pat → Type 0
 IsKept x j p = Contains x.keyless j ⊎ ((k : ℕ) × HasKey p x.path k × IsIn x k j)
 
+-- x is an index of these patterns: each has its place among the numbers in x, which may hold other numbers too
 abbrev pub IsIndex : List Pat → Index → Type 0
 IsIndex ps x = (j : ℕ) (p : Pat) → slice_get ps j ≡ Some p → IsKept x j p
 
--- an index of i patterns becomes one with this pattern behind them
+-- wherever the old index is one of i patterns, the new one is an index of these and of p behind them
 abbrev pub Extends : ℕ → Pat → Index → Index → Type 0
 Extends i p old new = (ps : List Pat) → length ps ≡ i → IsIndex ps old → IsIndex (ps ++ p ∷ []) new
 
--- one more number in the group of a key
+-- the new index is the old one with number i in the group of key k: the path and the patterns without a key stay,
+-- and each group keeps what it holds
 pub record IsGrouped (k i : ℕ) (old new : Index) : Type 0 where
   pub path : new.path ≡ old.path
   pub keyless : new.keyless ≡ old.keyless
   pub here : IsIn new k i
   pub kept : (q j : ℕ) → IsIn old q j → IsIn new q j
 
--- of so many patterns, those with other numbers are apart from this one
+-- wherever x is an index of n patterns, each of them has its number among js, or no value matches both it and p
 abbrev pub AreNear : Pat → ℕ → Index → List ℕ → Type 0
 AreNear p n x js = (ps : List Pat) → length ps ≡ n → IsIndex ps x
     → (j : ℕ) (q : Pat) → slice_get ps j ≡ Some q → Contains js j ⊎ AreApart q p

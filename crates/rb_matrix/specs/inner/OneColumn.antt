@@ -1,4 +1,4 @@
--- Patterns as rows of one column.
+-- Patterns as the rows of a matrix of one column, and what a search in it answers.
 use Rattle.std.specs.Prelude.{ℕ, List, [], ◌∷◌, Bool, true, false, ◌||◌, Option, Some, None}
 use Rattle.rb_core.specs.declared.value.Value.{Value}
 use Rattle.rb_core.specs.declared.types.Ty.{Ty}
@@ -8,20 +8,23 @@ use Rattle.rb_core.specs.Matching.{matches_of, IsUnreached}
 use Rattle.rb_matrix.specs.Exhaust.{IsReached}
 use Rattle.rb_matrix.specs.Search.{IsFound, IsNowhere}
 
--- each pattern as a row of its own
+-- the patterns, in their order, each as a row of its own
 abbrev pub one_each : List Pat → List (List Pat)
 one_each [] = []
 one_each (p ∷ ps) = (p ∷ []) ∷ one_each ps
 
--- some pattern matches
+-- whether some pattern of a list matches a value; false where the list is empty
 abbrev pub any_matches : List Pat → Value → Bool
 any_matches [] v = false
 any_matches (p ∷ ps) v = matches_of p v || any_matches ps v
 
+-- whether the pattern with number i is the first match of some value of the type, or of none
 abbrev pub IsReachAnswer : List DataDecl → Ty → List Pat → ℕ → Bool → Type 0
 IsReachAnswer types ty ps i true = IsReached types ty ps i
 IsReachAnswer types ty ps i false = IsUnreached types ty ps i
 
+-- what a search over one column of this type answers: None where no vector is sought, and else the one pattern of a
+-- row of plain patterns that matches sought vectors alone, and one at least
 abbrev pub IsOneAnswer : List DataDecl → Ty → List (List Pat) → List (List Pat) → Option Pat → Type 0
 IsOneAnswer types ty wanted unwanted None = IsNowhere types (ty ∷ []) wanted unwanted
 IsOneAnswer types ty wanted unwanted (Some q) = IsFound types (ty ∷ []) wanted unwanted (q ∷ [])

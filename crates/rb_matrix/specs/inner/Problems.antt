@@ -1,4 +1,7 @@
--- Problems and their parts: how a row for a part becomes one for its parent, and how much less is left.
+-- Problems and their parts. A problem asks for a vector of some types that all wanted rows match and no unwanted
+-- one. Its parts ask the same of the vectors that begin with one head, unfolded, or with none of some heads,
+-- without their first value; the problem is their parent, and the first one of all is the root. A step says how a
+-- row for a part becomes one for its parent. The cost of a problem bounds how much is left to search.
 use Rattle.std.specs.Prelude.{◌≡◌, ℕ, ◌+◌, ◌-◌, ◌*◌, ◌^◌, ◌≤◌, List, [], ◌∷◌, ◌++◌, map, length, sum, take, drop, true, false, Option, Some, None}
 use Rattle.rb_core.specs.declared.value.Value.{Value}
 use Rattle.rb_core.specs.declared.types.Ty.{Ty}
@@ -18,67 +21,81 @@ use Rattle.rb_matrix.specs.Search.{AreTypesIn, sought, IsFound, IsNowhere}
 
 -- The way from the root: how a row for a problem becomes one for its parent -------------------------
 
+-- the row for the parent that a step makes of a row for a part: with a pattern before it, or with the first n
+-- patterns as the subpatterns of a constructor; where the row is shorter, all that there are
 abbrev pub closed : Step → List Pat → List Pat
 closed (Front p) row = p ∷ row
 closed (Fold c n) row = Pats.Con 0 c (take n row) ∷ drop n row
 
--- the step of a head with n fields
+-- the step to a parent whose first column is of this type, from the part of a head with n fields: a number stands
+-- before the row, and a constructor takes n patterns; it is given as one of the data type, whatever type the head
+-- names, and stays as it is where the type is an integer type, of which no constructor is
 abbrev pub step_of : Ty → Head → ℕ → Step
 step_of ty (H.Num m) n = Front (Pats.Num 0 m)
 step_of (Named t) (H.Con c) n = Fold (record { ty = t; con = c.con }) n
 step_of (Int bits) (H.Con c) n = Fold c n
 
--- the last step first
+-- the row for the root that steps make of a row, the last step first; without a step the row itself
 abbrev pub closed_all : List Step → List Pat → List Pat
 closed_all [] row = row
 closed_all (s ∷ ss) row = closed s (closed_all ss row)
 
 -- Problems and their parts ------------------------------------------------------------------------
 
--- a problem with one more column in front
+-- a problem with one more column in front, of this type; the rows and the steps stay
 abbrev pub with_column : Ty → Problem → Problem
 with_column ty p = record { tys = ty ∷ p.tys; wanted = p.wanted; unwanted = p.unwanted; steps = p.steps }
 
+-- the row answers a problem: it is of plain patterns, and matches vectors that the problem asks for alone, and one
+-- at least
 abbrev pub FoundIn : List DataDecl → Problem → List Pat → Type 0
 FoundIn types p row = IsFound types p.tys p.wanted p.unwanted row
 
+-- there is no vector that a problem asks for
 abbrev pub NoneIn : List DataDecl → Problem → Type 0
 NoneIn types p = IsNowhere types p.tys p.wanted p.unwanted
 
--- no vector that begins with the head
+-- there is no vector of these types, the first column's and the others', that begins with the head, and that all
+-- wanted rows of the problem match and no unwanted one
 abbrev pub NoneBy : List DataDecl → Ty → List Ty → Problem → Head → Type 0
 NoneBy types ty ts p h =
     (v : Value) (vs : List Value) → begins h v ≡ true → sought types (ty ∷ ts) p.wanted p.unwanted (v ∷ vs) ≡ false
 
 -- How much is left --------------------------------------------------------------------------------
 
--- the fields of all constructors, so that none has more
+-- how many fields a constructor has
 abbrev pub con_fields : Con → ℕ
 con_fields c = length c.fields
 
+-- how many fields all constructors of a data type have together
 abbrev pub decl_fields : DataDecl → ℕ
 decl_fields d = sum (map con_fields d.cons)
 
+-- how many fields all constructors of all data types have together, so that none has more
 abbrev pub fields_bound : List DataDecl → ℕ
 fields_bound types = sum (map decl_fields types)
 
+-- how many numbers and constructors stand in the rows of a problem, wanted and unwanted
 abbrev pub heads_of : Problem → ℕ
 heads_of p = rows_heads p.wanted + rows_heads p.unwanted
 
--- a part has a column less, or a head less and at most a constructor's fields more columns
+-- the weight of a problem, which is more than that of its parts: a part has a column less, or a head less and at
+-- most a constructor's fields more columns
 abbrev pub weight : List DataDecl → Problem → ℕ
 weight types p = heads_of p * (fields_bound types + 1) + length p.tys
 
--- each of a problem's heads counts for two parts, each of less weight
+-- the cost of a problem: a power of its weight, to a base that counts each of its heads for two parts
 unfoldable pub cost : List DataDecl → Problem → ℕ
 cost types p = (2 * heads_of p + 2) ^ weight types p
 
--- no part costs more than this
+-- what a part of a problem costs at most: the same power with a weight one less
 unfoldable pub part_cost : List DataDecl → Problem → ℕ
 part_cost types p = (2 * heads_of p + 2) ^ (weight types p - 1)
 
 -- Parts -------------------------------------------------------------------------------------------
 
+-- problem c is a part of p, one step from it: its columns are types over the data types, each row that answers c
+-- becomes one that answers p, and c costs no more than a part may
 pub record IsPart (types : List DataDecl) (p c : Problem) : Type 0 where
   pub live : AreTypesIn types c.tys
   pub step : Step
@@ -86,11 +103,12 @@ pub record IsPart (types : List DataDecl) (p c : Problem) : Type 0 where
   pub sound : (row : List Pat) → FoundIn types c row → FoundIn types p (closed step row)
   pub cheap : cost types c ≤ part_cost types p
 
--- one part for a head
+-- what is left of p where its vectors, whose first column is of type ty and the others of ts, begin with the head:
+-- None where there is no such vector that p asks for, and else a part; where the part has no answer, there is none
 abbrev pub IsPartAt : List DataDecl → Ty → List Ty → Problem → Head → Option Problem → Type 0
 IsPartAt types ty ts p h None = NoneBy types ty ts p h
 IsPartAt types ty ts p h (Some c) = IsPart types p c × (NoneIn types c → NoneBy types ty ts p h)
 
--- the problem that a search begins with
+-- the problem that a search begins with, to which no step has led
 abbrev pub root_of : List Ty → List (List Pat) → List (List Pat) → Problem
 root_of tys wanted unwanted = record { tys = tys; wanted = wanted; unwanted = unwanted; steps = [] }
