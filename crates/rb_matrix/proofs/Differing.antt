@@ -46,7 +46,7 @@ module _ (at bt : ℕ) (c d : ConRef) (ps qs : List Pat) where
       let same : c.con ≡ d.con = eqb-true c.con k (and-left (c.con == k) (all_pass (map matches_of ps) vs) e) ∙ sym (eqb-true d.con k (and-left (d.con == k) (all_pass (map matches_of qs) vs) f)) in
       fields_apart ps qs vs (rest same) (and-right (c.con == k) (all_pass (map matches_of ps) vs) e) (and-right (d.con == k) (all_pass (map matches_of qs) vs) f)
 
-  cons-apart : (p q : Pat) → p ≡ Pats.Con at c ps → q ≡ Pats.Con bt d qs → (c.con ≡ d.con → HaveApart ps qs) → AreApart p q
+  pub cons-apart : (p q : Pat) → p ≡ Pats.Con at c ps → q ≡ Pats.Con bt d qs → (c.con ≡ d.con → HaveApart ps qs) → AreApart p q
   cons-apart p q is iq rest = λ v m w. of_layer (out-Value v) (at-con p at c ps v is m) (at-con q bt d qs v iq w) rest
 
   pub apart-where : (p q : Pat) → p ≡ Pats.Con at c ps → q ≡ Pats.Con bt d qs → (xs ys : List Pat) → xs ≡ ps → ys ≡ qs → (b : Bool) → OnTrue b (HaveApart xs ys) → OnTrue b (AreApart p q)

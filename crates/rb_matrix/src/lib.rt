@@ -27,7 +27,8 @@
 //!
 //! The answers of [`find`], [`exhaust`], [`unreached`] and [`common`] speak of all values of the
 //! types. These calls, and [`pattern_beside`], need the types of a well numbered program, each of
-//! which has a value; the patterns need not be typed.
+//! which has a value; the patterns need not be typed. [`are_apart`] looks at two patterns alone,
+//! without types: it finds some of the pairs that share no value, at once.
 #![tactic(auto)]
 
 mod apart;
@@ -50,6 +51,7 @@ pub mod search;
 mod stack;
 mod witness;
 
+pub use apart::are_apart;
 pub use beside::pattern_beside;
 pub use coverage::{MatrixFault, common, exhaust, unreached};
 pub use images::{default_of_row, default_rows, specialize, specialize_row};
