@@ -1,13 +1,11 @@
 -- Leaves for values, from what a search of patterns answers.
 use Rattle.std.proofs.Common.{◌≡◌, ℕ, zero, suc, inl, inr, get_or, ◌+◌, ◌<◌, ◌≤◌, List, [], ◌∷◌, map, length, Bool, true, false, Option, Some, None, Ok, Err, refl, sym, ap, subst, ◌∙◌, arith}
 use Rattle.std.specs.Prelude.{slice_get, IsSome, unwrap_or, ◌&&◌, ◌==◌, if◌then◌else◌}
-use Rattle.std.specs.Bool.{OnTrue, MatchBool}
+use Rattle.std.specs.Bool.{MatchBool}
 use Rattle.std.proofs.lemmas.Option.{same_Some, slice_get_within}
 use Rattle.std.proofs.lemmas.Bool.{eqb-true, eq-eqb, cases_lt}
 use Rattle.rb_agree.proofs.Lists.{at-item}
-use Rattle.rb_core.specs.declared.value.Value.{Value, out-Value}
-use Rattle.rb_core.specs.declared.value.Value.TheOpen as V
-use Rattle.rb_core.specs.declared.value.Value.TheOpen.{Value-F}
+use Rattle.rb_core.specs.declared.value.Value.{Value}
 use Rattle.rb_core.specs.declared.types.Ty.{Ty}
 use Rattle.rb_core.specs.declared.types.Ty.TheVariants.{Int, Named}
 use Rattle.rb_core.specs.declared.types.ConRef.{ConRef}
@@ -16,7 +14,7 @@ use Rattle.rb_core.specs.declared.pattern.Pat.{Pat, Wild, Var, Num, Con}
 use Rattle.rb_core.specs.declared.pattern.Pat.TheOpen as P
 use Rattle.rb_core.specs.declared.typing.TypeFault.TheVariants.{Arity, Mismatch}
 use Rattle.rb_core.specs.Values.{is_of_type, all_of_types, are_of, fields_of}
-use Rattle.rb_core.specs.Matching.{IsExhaustive, all_pass, chosen_clause, is_con, matches_of, matches_step, next_clause}
+use Rattle.rb_core.specs.Matching.{IsExhaustive, chosen_clause, matches_of, next_clause}
 use Rattle.rb_core.specs.Typing.{PatternRule, also_bound, and_then, number_type, distinct_binders, fields_match, field_types, pattern_binders, pattern_params, pattern_step, subpatterns}
 use Rattle.rb_core.proofs.PatternLaws.{fold-Wild, fold-Var, fold-Num, fold-Con, Each, induction}
 use Rattle.rb_layout.specs.declared.layout.Layout.{Layout}
@@ -24,7 +22,7 @@ use Rattle.rb_layout.specs.declared.layout.Leaf.{Leaf}
 use Rattle.rb_layout.specs.A5.{HaveCommon, IsComplete, IsWithoutLeaf, Matches}
 use Rattle.rb_matrix.specs.Search.{is_plain, plain_step}
 use Rattle.rb_matrix.specs.Exhaust.{IsCommon, IsMissing, both_match}
-use Rattle.rb_agree.specs.inner.Values.{AreDifferent, HaveDifferent, provenances_in}
+use Rattle.rb_agree.specs.inner.Values.{provenances_in}
 
 -- Leaves by the chosen pattern ----------------------------------------------------------------------
 
@@ -148,48 +146,6 @@ module _ (types : List DataDecl) where
 
   pub no-common : (t : ℕ) (p q : Pat) → ((v : Value) → is_of_type types v (Named t) ≡ true → both_match p q v ≡ false) → HaveCommon types t p q → ⊥
   no-common t p q none h = absurd (cc (none h.0 h.1, and_true (matches_of p h.0) (matches_of q h.0) h.2 h.3))
-
--- Different patterns ----------------------------------------------------------------------------------
-
-abbrev Passes : List Pat → List Value → Type 0
-Passes ps vs = all_pass (map matches_of ps) vs ≡ true
-
-pass-at : (ps : List Pat) (vs : List Value) (i : ℕ) (p : Pat) → Passes ps vs → slice_get ps i ≡ Some p → (v : Value) × (slice_get vs i ≡ Some v) × Matches p v
-pass-at [] vs i p h e = absurd cc
-pass-at (q ∷ ps) [] i p h e = absurd cc
-pass-at (q ∷ ps) (v ∷ vs) zero p h e =
-    (v, refl, ap (λ (x : Pat). matches_of x v) (sym (same_Some q p e)) ∙ (both (matches_of q v) (all_pass (map matches_of ps) vs) h).0)
-pass-at (q ∷ ps) (v ∷ vs) (suc i) p h e = pass-at ps vs i p (both (matches_of q v) (all_pass (map matches_of ps) vs) h).1 e
-
-fields-differ : (ps qs : List Pat) (vs : List Value) → HaveDifferent ps qs → Passes ps vs → Passes qs vs → ⊥
-fields-differ ps qs vs d h g =
-    let a = pass-at ps vs d.0 d.1 h d.3 in
-    let b = pass-at qs vs d.0 d.2 g d.4 in
-    let same : a.0 ≡ b.0 = same_Some a.0 b.0 (sym a.1 ∙ b.1) in d.5 b.0 (subst (λ (v : Value). Matches d.1 v) same a.2) b.2
-
-module _ (at bt : ℕ) (c d : ConRef) (ps qs : List Pat) where
-  matched : (x : ℕ) (e : ConRef) (rs : List Pat) (v : Value) → Matches (Con x e rs) v → is_con e.con (map matches_of rs) (out-Value v) ≡ true
-  matched x e rs v m = sym (ap (λ (f : Value → Bool). f v) (fold-Con (Value → Bool) matches_step x e rs)) ∙ m
-
-  cons-case : (l : Value-F Value) → is_con c.con (map matches_of ps) l ≡ true → is_con d.con (map matches_of qs) l ≡ true → (c.con ≡ d.con → HaveDifferent ps qs) → ⊥
-  cons-case (V.Num m) e f rest = absurd cc
-  cons-case (V.Con k vs) e f rest =
-      let h = both (c.con == k) (all_pass (map matches_of ps) vs) e in
-      let g = both (d.con == k) (all_pass (map matches_of qs) vs) f in
-      let same : c.con ≡ d.con = eqb-true c.con k h.0 ∙ sym (eqb-true d.con k g.0) in
-      fields-differ ps qs vs (rest same) h.1 g.1
-
-  pub differ : (p q : Pat) → p ≡ Con at c ps → q ≡ Con bt d qs → (c.con ≡ d.con → HaveDifferent ps qs) → AreDifferent p q
-  differ p q is iq rest = λ v m w.
-      cons-case (out-Value v) (matched at c ps v (subst (λ (x : Pat). Matches x v) is m)) (matched bt d qs v (subst (λ (x : Pat). Matches x v) iq w)) rest
-
-  pub differ-where : (p q : Pat) → p ≡ Con at c ps → q ≡ Con bt d qs → (xs ys : List Pat) → xs ≡ ps → ys ≡ qs → (b : Bool) → OnTrue b (HaveDifferent xs ys) → OnTrue b (AreDifferent p q)
-  differ-where p q is iq xs ys is_xs is_ys true h =
-      differ p q is iq (λ e. subst (λ (zs : List Pat). HaveDifferent ps zs) is_ys (subst (λ (zs : List Pat). HaveDifferent zs ys) is_xs h))
-  differ-where p q is iq xs ys is_xs is_ys false h = tt
-
-pub not-same : (at bt : ℕ) (c d : ConRef) (ps qs : List Pat) (p q : Pat) → p ≡ Con at c ps → q ≡ Con bt d qs → (c.con ≡ d.con → ⊥) → AreDifferent p q
-not-same at bt c d ps qs p q is iq other = differ at bt c d ps qs p q is iq (λ e. absurd (other e))
 
 -- Leaves apart ------------------------------------------------------------------------------------------
 

@@ -13,8 +13,8 @@ use Rattle.rb_layout.specs.declared.layout.Leaf.{Leaf}
 use Rattle.rb_layout.specs.A5.{HaveCommon}
 use Rattle.rb_layout.proofs.Walks.{drop_from}
 use Rattle.rb_agree.specs.inner.Sharing.{ApartWhereOff, AreGroups, HaveAll, HaveBefore, IsAlone, IsGroupOf, IsIn, MayBe, SharesNone, con_at, con_from, heads_in, root_con, sub_at}
-use Rattle.rb_agree.specs.inner.Values.{AreDifferent}
-use Rattle.rb_agree.proofs.Covering.{differ, not-same}
+use Rattle.rb_matrix.specs.Apart.{AreApart}
+use Rattle.rb_matrix.proofs.Differing.{cons-apart}
 use Rattle.rb_agree.proofs.Lists.{at-item, map-at}
 
 -- Items behind others ----------------------------------------------------------------------------------------
@@ -67,18 +67,18 @@ some-sub : (x : Option Pat) (path : List ℕ) (a : ℕ) → con_from x path ≡ 
 some-sub None path a e = absurd cc
 some-sub (Some q) path a e = (q, refl)
 
-pub differ-at : (path : List ℕ) (p q : Pat) (a b : ℕ) → con_at p path ≡ Some a → con_at q path ≡ Some b → (a ≡ b → ⊥) → AreDifferent p q
+pub differ-at : (path : List ℕ) (p q : Pat) (a b : ℕ) → con_at p path ≡ Some a → con_at q path ≡ Some b → (a ≡ b → ⊥) → AreApart p q
 differ-at [] p q a b e f other =
     let r = root-of p a e in
     let s = root-of q b f in
-    not-same r.at s.at r.con s.con r.pats s.pats p q r.is s.is (λ same. other (sym r.number ∙ same ∙ s.number))
+    cons-apart r.at s.at r.con s.con r.pats s.pats p q r.is s.is (λ same. absurd (other (sym r.number ∙ same ∙ s.number)))
 differ-at (i ∷ path) p q a b e f other =
     let x = some-sub (sub_at (out-Pat p) i) path a e in
     let y = some-sub (sub_at (out-Pat q) i) path b f in
     let r = sub-of p i x.0 x.1 in
     let s = sub-of q i y.0 y.1 in
     let inner = differ-at path x.0 y.0 a b (sym (ap (λ z. con_from z path) x.1) ∙ e) (sym (ap (λ z. con_from z path) y.1) ∙ f) other in
-    differ r.at s.at r.con s.con r.pats s.pats p q r.is s.is (λ same. (i, x.0, y.0, r.sub, s.sub, inner))
+    cons-apart r.at s.at r.con s.con r.pats s.pats p q r.is s.is (λ same. (i, x.0, y.0, r.sub, s.sub, inner))
 
 pub con-next : (p : Pat) (path : List ℕ) (i field : ℕ) (sub : Option Pat) (all : Option ℕ) → slice_get path i ≡ Some field → sub ≡ sub_at (out-Pat p) field
     → con_from (Some p) (drop i path) ≡ all → con_from sub (drop (i + 1) path) ≡ all

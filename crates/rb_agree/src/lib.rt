@@ -33,7 +33,8 @@
 //! | A10 no cycle | `graphs::holding_fault`, over `graphs::held` | a type |
 //!
 //! Missing values and common ones are found by the search in matrices of patterns; two provenances that
-//! have different constructors in one place are told apart before it is asked.
+//! have different numbers or constructors in one place are told apart before it is asked (`are_apart` of
+//! `rb_matrix`).
 //!
 //! A file may have thousands of leaves, literals, positions or types, so no rule looks at all pairs of them:
 //!

@@ -1,11 +1,10 @@
 //! Whether each value of a type has exactly one leaf.
 
 ghost use Rattle.std.specs.Prelude.{◌≡◌, ◌<◌, length, IfOk, MatchBool, MatchOption};
-ghost use Rattle.std.specs.Bool.{OnTrue};
 ghost use Rattle.rb_core.specs.declared.types.Ty.TheVariants as Tys;
 ghost use Rattle.rb_layout.specs.A5.{FailsApart, FailsComplete, HaveCommon, IsApart, IsComplete};
 ghost use Rattle.rb_matrix.specs.Search.{AreInhabited, IsTypeIn};
-ghost use Rattle.rb_agree.specs.inner.Values.{AreDifferent, HaveDifferent, provenances_in};
+ghost use Rattle.rb_agree.specs.inner.Values.{provenances_in};
 
 use rb_core::pattern::Pat;
 use rb_core::seq::Seq;
@@ -13,7 +12,7 @@ use rb_core::types::{DataDecl, Ty};
 use rb_layout::evidence::Why;
 use rb_layout::layout::{Layout, Leaf};
 use rb_layout::numbers::number_of;
-use rb_matrix::{MatrixFault, common, exhaust};
+use rb_matrix::{MatrixFault, are_apart, common, exhaust};
 use std::alloc::{AllocError, Global};
 
 // The provenances of leaves, in order.
@@ -51,44 +50,6 @@ pub fn complete_fault(
     }
 }
 
-// Whether two patterns have different constructors in one place, so that no value matches both.
-#[cycle(comparing)]
-fn are_different(one: &Pat, other: &Pat) -> bool
-    ensures { OnTrue result (AreDifferent one.now other.now) }
-{
-    match one {
-        Pat::Wild(_) => false,
-        Pat::Var(_, _) => false,
-        Pat::Num(_, _) => false,
-        Pat::Con(_, con, pats) => match other {
-            Pat::Wild(_) => false,
-            Pat::Var(_, _) => false,
-            Pat::Num(_, _) => false,
-            Pat::Con(_, con_2, pats_2) => {
-                if con.con != con_2.con {
-                    return true;
-                }
-                differ_somewhere(pats.as_slice(), pats_2.as_slice())
-            }
-        },
-    }
-}
-
-// Whether the patterns of some field, one of each list, have different constructors in one place.
-#[cycle(comparing)]
-fn differ_somewhere(ones: &[Pat], others: &[Pat]) -> bool
-    ensures { OnTrue result (HaveDifferent ones.now others.now) }
-{
-    for (i, one) in ones.iter().enumerate() {
-        if let Some(other) = others.get(i) {
-            if are_different(one, other) {
-                return true;
-            }
-        }
-    }
-    false
-}
-
 /// Whether two provenances of a type have a common value.
 ///
 /// # Errors
@@ -106,7 +67,7 @@ pub(crate) fn have_common(
     ensures { IfOk result (λ b. MatchBool b
         (HaveCommon types.now ty one.now other.now) (HaveCommon types.now ty one.now other.now → ⊥)) }
 {
-    if are_different(one, other) {
+    if are_apart(one, other) {
         return Ok(false);
     }
     match common(alloc, types, Ty::Named(ty), one, other)? {
