@@ -1,6 +1,8 @@
--- Patterns beside heads. Where some value of a type begins with none of some heads, the heads are what Maranget
--- calls an incomplete signature; a pattern beside them matches only such values. Which of these patterns is given
--- is told here.
+-- Patterns beside heads. A head is a number or a constructor with which a value begins. Where some value of a type
+-- begins with none of some heads, the heads are what Maranget calls an incomplete signature; where each begins with
+-- one, they are a complete one. A pattern beside heads matches only values that begin with none of them. Which of
+-- these patterns is given is told here. A plain pattern is one of numbers, constructors and wildcards. A layer is the
+-- outermost node of a value, with its subvalues below it.
 use Rattle.std.specs.Prelude.{◌≡◌, ℕ, ◌<◌, List, [], ◌∷◌, length, Bool, true, false, Option, Some, None, slice_get}
 use Rattle.rb_core.specs.declared.value.Value.{Value, out-Value}
 use Rattle.rb_core.specs.declared.value.Value.TheOpen as V
@@ -17,17 +19,17 @@ use Rattle.rb_matrix.specs.Heads.{any_begins}
 use Rattle.rb_matrix.specs.Search.{is_plain}
 use Rattle.rb_matrix.specs.Specialize.{wilds}
 
--- n is the least number that is not among some, which are given by a test
+-- n is the least number that does not pass a test, which tells of each number whether it is among some
 pub record IsFirstOut (among : ℕ → Bool) (n : ℕ) : Type 0 where
   pub out : among n ≡ false
   pub before : (m : ℕ) → m < n → among m ≡ true
 
--- a number pattern, of the least number that is none of the heads
+-- a number pattern, of the least number that is none of the heads; whether a type holds that number is not asked
 abbrev pub IsLeastNumber : List Head → Pat → Type 0
 IsLeastNumber hs q = (n : ℕ) × (q ≡ Pats.Num 0 n) × IsFirstOut (λ m. any_begins hs (V.Num m)) n
 
--- a constructor pattern, of the first constructor of data type t that is none of the heads, with a wildcard for
--- each field
+-- a constructor pattern, of the first constructor of data type t that is none of the heads, with a wildcard for each
+-- field; the type that a head's constructor names is not looked at
 abbrev pub IsFirstCon : List DataDecl → ℕ → List Head → Pat → Type 0
 IsFirstCon types t hs q =
     (k : ℕ) × (ts : List Ty) × (fields_in (slice_get types t) k ≡ Some ts)
@@ -50,7 +52,8 @@ pub record IsBeside (types : List DataDecl) (ty : Ty) (begun : Value-F Value →
   pub matched : matches_of q value ≡ true
   pub apart : (v : Value) → is_of_type types v ty ≡ true → matches_of q v ≡ true → begun (out-Value v) ≡ false
 
--- None where each value of the type begins with one of the heads, and else a pattern beside them
+-- None where each value of the type begins with one of the heads, so that they are a complete signature, and else a
+-- plain pattern that matches a value of the type, and none that begins with one of the heads
 abbrev pub IsBesideAnswer : List DataDecl → Ty → List Head → Option Pat → Type 0
 IsBesideAnswer types ty hs None = (v : Value) → is_of_type types v ty ≡ true → any_begins hs (out-Value v) ≡ true
 IsBesideAnswer types ty hs (Some q) = IsBeside types ty (any_begins hs) q

@@ -1,6 +1,8 @@
--- Heads: what patterns and values begin with. A head is a number or a constructor. Every value has one; a wildcard
--- and a variable have none. A vector is a list of values, and a row a list of patterns, one for each column of a
--- matrix. A layer is a value or a pattern of which only the outermost step is looked at, with its parts below it.
+-- Heads: what patterns and values begin with. A head is a number or a constructor; where it belongs to a pattern,
+-- Maranget calls it the pattern's head constructor. Every value has one; a wildcard and a variable have none. A
+-- vector is a list of values, and a row a list of patterns, one for each column of a pattern matrix. A layer is the
+-- outermost node of a value or a pattern, with what stands below it as it is: a number, a wildcard, a variable, or a
+-- constructor with its subvalues or subpatterns.
 use Rattle.std.specs.Prelude.{ℕ, ◌^◌, List, [], ◌∷◌, ◌++◌, Bool, false, ◌||◌, ◌==◌, nat_lt, if◌then◌else◌, Option, Some, None, slice_get}
 use Rattle.rb_core.specs.declared.value.Value.{Value, out-Value}
 use Rattle.rb_core.specs.declared.value.Value.TheOpen as V
@@ -23,7 +25,7 @@ layer_begins (H.Num m) (V.Con k vs) = false
 layer_begins (H.Con c) (V.Num n) = false
 layer_begins (H.Con c) (V.Con k vs) = c.con == k
 
--- whether a value begins with a head
+-- whether a value begins with a head: it is the same number, or its constructor has the same number in its type
 abbrev pub begins : Head → Value → Bool
 begins h v = layer_begins h (out-Value v)
 
@@ -61,7 +63,8 @@ abbrev pub column_begins : List (List Pat) → Value-F Value → Bool
 column_begins [] v = false
 column_begins (r ∷ rs) v = option_begins (row_head r) v || column_begins rs v
 
--- a layer that begins with the head: the number, or the constructor without its subvalues
+-- the layer of a value that begins with the head: the number, or the constructor without subvalues, however many
+-- fields it has
 abbrev pub sample : Head → Value-F Value
 sample (H.Num n) = V.Num n
 sample (H.Con c) = V.Con c.con []
@@ -81,15 +84,17 @@ abbrev pub first_head : List (List Pat) → Option Head
 first_head [] = None
 first_head (r ∷ rs) = or_else (row_head r) (first_head rs)
 
--- the types of a head's fields, where the head is of the type, and else None: a number has no field and is of an
--- integer type that holds it, and a constructor is of a data type that has one with its number
+-- the types of a head's fields, where the head is of the type, and else None. A number has no field and is of an
+-- integer type that holds it. A constructor is of a data type that has one with its number, whatever type the head
+-- names; where there is no such data type, it is None too
 abbrev pub fields_at : List DataDecl → Ty → Head → Option (List Ty)
 fields_at types (Int bits) (H.Num n) = if nat_lt n (2 ^ bits) then Some [] else None
 fields_at types (Int bits) (H.Con c) = None
 fields_at types (Named t) (H.Num n) = None
 fields_at types (Named t) (H.Con c) = fields_in (slice_get types t) c.con
 
--- the types of a head's fields, where the head is of the first column's type; None where not, or without a column
+-- the types of a head's fields, where the head is of the first column's type; None where it is not, or where there is
+-- no column
 abbrev pub column_fields : List DataDecl → List Ty → Head → Option (List Ty)
 column_fields types [] h = None
 column_fields types (t ∷ ts) h = fields_at types t h

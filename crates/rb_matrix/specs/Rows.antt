@@ -1,4 +1,5 @@
--- Rows of patterns, one for each column, against vectors of values, one for each column.
+-- The rows of a pattern matrix, each a list of patterns, one for each column, and the vectors that they match, each a
+-- list of values, one for each column.
 use Rattle.std.specs.Prelude.{List, [], ◌∷◌, map, Bool, true, false, ◌&&◌, ◌||◌, Option, Some, None}
 use Rattle.rb_core.specs.declared.value.Value.{Value}
 use Rattle.rb_core.specs.declared.types.Ty.{Ty}
@@ -8,7 +9,7 @@ use Rattle.rb_core.specs.Matching.{all_pass, matches_of}
 use Rattle.rb_core.specs.Values.{is_of_type, all_of_types}
 
 -- whether a row matches a vector: it has as many patterns as there are values, and each matches the value in its
--- place
+-- place; the empty row matches the empty vector alone
 abbrev pub row_matches : List Pat → List Value → Bool
 row_matches ps vs = all_pass (map matches_of ps) vs
 
@@ -22,11 +23,13 @@ abbrev pub all_rows : List (List Pat) → List Value → Bool
 all_rows [] vs = true
 all_rows (r ∷ rs) vs = row_matches r vs && all_rows rs vs
 
--- whether the image of a row matches a vector; None is a row without an image, and matches nothing
+-- whether what a row becomes in a specialised or a default matrix matches a vector; None stands for a row that is
+-- left out there, and matches nothing
 abbrev pub image_matches : Option (List Pat) → List Value → Bool
 image_matches None vs = false
 image_matches (Some r) vs = row_matches r vs
 
--- whether a vector has these types: as many values as types, each of the type in its place
+-- whether a vector has these types: as many values as types, each of the type in its place; without a type, the empty
+-- vector alone does
 abbrev pub vector_of : List DataDecl → List Ty → List Value → Bool
 vector_of types tys vs = all_of_types (map (is_of_type types) vs) tys

@@ -1,6 +1,6 @@
--- What a search looks for: a vector of values, of the columns' types, that all wanted rows match and no unwanted
--- one. It is Maranget's question of usefulness: a row is useful behind others where such a vector is, with that row
--- wanted and the others unwanted.
+-- What a search looks for: a vector of values, of the columns' types, that all wanted rows match and no unwanted one.
+-- It is Maranget's question of usefulness: a row is useful behind the rows of a pattern matrix where such a vector
+-- is, with that row wanted and the others unwanted.
 use Rattle.std.specs.Prelude.{◌≡◌, ◌^◌, List, [], ◌∷◌, map, Bool, true, false, ◌&&◌, not, ◌==◌, nat_lt, Option, Some, None}
 use Rattle.std.specs.List.{list_all}
 use Rattle.rb_core.specs.declared.value.Value.{Value}
@@ -22,21 +22,23 @@ use Rattle.rb_matrix.specs.Rows.{row_matches, any_row, all_rows, vector_of}
 abbrev pub IsTypeIn : List DataDecl → Ty → Type 0
 IsTypeIn types ty = is_type types ty ≡ true
 
--- each of the types is one over these data types
+-- each of the types is an integer type of 1 to 64 bits or one of these data types; so it is where there is no type
 abbrev pub AreTypesIn : List DataDecl → List Ty → Type 0
 AreTypesIn types [] = Unit {0}
 AreTypesIn types (t ∷ ts) = IsTypeIn types t × AreTypesIn types ts
 
--- the data types are numbered as those of a well numbered program, and each has a value
+-- the data types are numbered as those of a well numbered program, so that each has a constructor and each field's
+-- type is there, and each has a value; so it is where there is no data type
 pub record AreInhabited (types : List DataDecl) : Type 0 where
   pub numbered : list_all (type_is_numbered types) types ≡ true
   pub values : HaveValues types
 
 -- Plain patterns ------------------------------------------------------------------------------
 
--- whether a pattern, given by its layer, is plain and of a type, where that is given of its subpatterns: a wildcard
--- is of every type, a number of an integer type that holds it, a constructor of its data type where its subpatterns
--- are as many as its fields and each is of its field's type; a variable is not plain
+-- whether a pattern is plain and of a type, where it is given by its outermost node with the same question of its
+-- subpatterns in their places. A wildcard is of every type, and a number of an integer type that holds it. A
+-- constructor is of its data type where its subpatterns are as many as its fields and each is of its field's type;
+-- one that the data types do not have is of none. A variable is not plain
 abbrev pub plain_step : List DataDecl → Pat-F (Ty → Bool) → Ty → Bool
 plain_step types (P.Wild at) t = true
 plain_step types (P.Var at x) t = false
@@ -49,7 +51,8 @@ plain_step types (P.Con at c ps) (Named t) = (c.ty == t) && are_of ps (fields_of
 abbrev pub is_plain : List DataDecl → Pat → Ty → Bool
 is_plain types = fold-Pat (Ty → Bool) (plain_step types)
 
--- whether a row has as many patterns as there are types, each plain and of the type in its place
+-- whether a row has as many patterns as there are types, each of numbers, constructors and wildcards alone, and of
+-- the type in its place
 abbrev pub row_plain : List DataDecl → List Ty → List Pat → Bool
 row_plain types tys ps = all_of_types (map (is_plain types) ps) tys
 

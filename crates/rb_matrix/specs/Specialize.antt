@@ -1,6 +1,9 @@
--- The specialised matrix S of a head and the default matrix D, on the first column (Maranget). A row's image is
--- what becomes of the row in S or in D; a row without an image, for which None stands, is left out. Rows need not
--- be typed.
+-- The specialised matrix S of a head and the default matrix D, both on the first column, as Maranget defines them. Of
+-- the vectors of the columns' types whose first value begins with the head, a pattern matrix matches those that S
+-- matches once that value is replaced by its subvalues. Of the vectors whose first value begins with no head of the
+-- first column, it matches those that D matches without that value. A row's image is what becomes of the row in S or
+-- in D; a row without an image, for which None stands, is left out. Rows need not be typed. A layer is the outermost
+-- node of a pattern, with its subpatterns below it.
 use Rattle.std.specs.Prelude.{◌≡◌, ℕ, List, [], ◌∷◌, ◌++◌, length, replicate, drop, true, false, ◌&&◌, ◌==◌, if◌then◌else◌, Option, Some, None, unwrap_or}
 use Rattle.rb_core.specs.declared.value.Value.{Value, out-Value}
 use Rattle.rb_core.specs.declared.types.ConRef.{ConRef}
@@ -15,7 +18,7 @@ use Rattle.rb_matrix.specs.declared.matrix.Matrix.{Matrix}
 use Rattle.rb_matrix.specs.Heads.{begins, unfolded, column_begins, column_fields}
 use Rattle.rb_matrix.specs.Rows.{any_row, vector_of}
 
--- so many wildcards
+-- a row of n wildcards, each with token number 0; the empty row for 0
 abbrev pub wilds : ℕ → List Pat
 wilds n = replicate n (Wild 0)
 
@@ -32,34 +35,38 @@ abbrev pub con_image : Head → ℕ → ConRef → List Pat → List Pat → Opt
 con_image (H.Num m) n c ps rest = None
 con_image (H.Con d) n c ps rest = if (c.con == d.con) && (length ps == n) then Some (ps ++ rest) else None
 
--- the image in S for a head with n fields, of a row that begins with this layer and goes on with `rest`: the rest,
--- and before it the subpatterns of a pattern with the head, or n wildcards for a pattern without a head; none for
--- another head
+-- the image in S for a head with n fields, of a row whose first pattern has this layer and that goes on with `rest`:
+-- n wildcards and then the rest for a wildcard or a variable; the rest for the head's number; the subpatterns and
+-- then the rest for the head's constructor with n subpatterns. None for another number or constructor, or another
+-- number of subpatterns
 abbrev pub special_image : Head → ℕ → List Pat → Pat-F Pat → Option (List Pat)
 special_image h n rest (P.Wild at) = Some (wilds n ++ rest)
 special_image h n rest (P.Var at x) = Some (wilds n ++ rest)
 special_image h n rest (P.Num at k) = number_image h k rest
 special_image h n rest (P.Con at c ps) = con_image h n c ps rest
 
--- a row's image in S for a head with n fields; the empty row has none
+-- a row's image in S for a head with n fields: the subpatterns of its first pattern, or n wildcards for a wildcard or
+-- a variable, stand in that pattern's place. None where the first pattern has another head or another number of
+-- subpatterns than n, or where the row is empty
 abbrev pub special_row : Head → ℕ → List Pat → Option (List Pat)
 special_row h n [] = None
 special_row h n (p ∷ ps) = special_image h n ps (out-Pat p)
 
--- the image in D of a row that begins with this layer and goes on with `rest`: the rest, where the layer has no
--- head, and else none
+-- the image in D of a row whose first pattern has this layer and that goes on with `rest`: the rest, where the first
+-- pattern is a wildcard or a variable; None where it is a number or a constructor
 abbrev pub default_image : List Pat → Pat-F Pat → Option (List Pat)
 default_image rest (P.Wild at) = Some rest
 default_image rest (P.Var at x) = Some rest
 default_image rest (P.Num at k) = None
 default_image rest (P.Con at c ps) = None
 
--- a row's image in D; the empty row has none
+-- a row's image in D: the row without its first pattern, where that is a wildcard or a variable. None where it is a
+-- number or a constructor, or where the row is empty
 abbrev pub default_row : List Pat → Option (List Pat)
 default_row [] = None
 default_row (p ∷ ps) = default_image ps (out-Pat p)
 
--- rows with one more in front, where there is one
+-- some rows with an image in front; the rows alone where there is no image
 abbrev pub keep : Option (List Pat) → List (List Pat) → List (List Pat)
 keep None rs = rs
 keep (Some r) rs = r ∷ rs
@@ -74,19 +81,21 @@ abbrev pub defaults : List (List Pat) → List (List Pat)
 defaults [] = []
 defaults (r ∷ rs) = keep (default_row r) (defaults rs)
 
--- the types of a head's fields, where the head is of the first column's type; the empty list where not, or without
--- a column
+-- the types of a head's fields, where the head is of the first column's type; the empty list where it is not, or
+-- where there is no column
 abbrev pub fields_or_none : List DataDecl → List Ty → Head → List Ty
 fields_or_none types tys h = unwrap_or (column_fields types tys h) []
 
--- S of a matrix for a head: the columns of the head's fields stand in place of the first
+-- S of a matrix for a head: the columns of the head's fields stand in place of the first. Where the head is not of
+-- the first column's type, it counts as one without fields, and where there is no column, there is none in S either
 abbrev pub specialized : List DataDecl → Head → Matrix → Matrix
 specialized types h m = record {
   tys = fields_or_none types m.tys h ++ drop 1 m.tys;
   rows = special h (length (fields_or_none types m.tys h)) m.rows;
 }
 
--- D of a matrix: the first column is gone; a matrix without columns has none in D either
+-- D of a matrix: the first column is gone, and so are the rows that begin with a head or are empty; a matrix without
+-- columns has none in D either
 abbrev pub defaulted : Matrix → Matrix
 defaulted m = record { tys = drop 1 m.tys; rows = defaults m.rows }
 

@@ -1,5 +1,6 @@
 //! Whether two patterns differ in one place, so that no value matches both, and whether one matches
-//! all that another does. Both are told by the patterns alone, whatever their types.
+//! all that another does. Both are told by the patterns alone, whatever their types, and neither
+//! finds all such pairs.
 
 ghost use Rattle.std.specs.Bool.{OnTrue};
 ghost use Rattle.rb_matrix.specs.Apart.{AreApart};
@@ -7,9 +8,10 @@ ghost use Rattle.rb_matrix.specs.inner.Against.{HaveApart, Covers, CoverEach};
 
 use rb_core::pattern::Pat;
 
-/// Whether two patterns have different numbers or constructors in one place, so that no value
-/// matches both, of whatever type it is. Two that share no value for another reason are not told
-/// apart.
+/// Whether two patterns have different numbers or constructors in one place, or a number and a
+/// constructor, so that no value matches both, of whatever type it is. Constructors differ by their
+/// numbers in their types. Two that share no value for another reason, such as constructors with
+/// different counts of subpatterns, are not told apart.
 #[cycle(comparing)]
 pub fn are_apart(one: &Pat, other: &Pat) -> bool
     ensures { OnTrue result (AreApart one.now other.now) }
@@ -34,7 +36,8 @@ pub fn are_apart(one: &Pat, other: &Pat) -> bool
     }
 }
 
-// Whether in some place that both lists have, two patterns are apart.
+// Whether in some place that both lists have, two patterns are found to be apart; places of one
+// list alone do not count.
 #[cycle(comparing)]
 fn have_apart(ones: &[Pat], others: &[Pat]) -> bool
     ensures { OnTrue result (HaveApart ones.now others.now) }
@@ -75,7 +78,8 @@ pub fn covers(one: &Pat, other: &Pat) -> bool
     }
 }
 
-// Whether there are as many of the one as of the others, and each covers the one in its place.
+// Whether there are as many of the one as of the others, and each covers the one in its place; so
+// it is of two empty lists.
 #[cycle(covering)]
 fn cover_each(ones: &[Pat], others: &[Pat]) -> bool
     ensures { OnTrue result (CoverEach ones.now others.now) }

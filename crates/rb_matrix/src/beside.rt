@@ -1,5 +1,7 @@
-//! A pattern beside the heads of a column, which matches values that begin with none of them. There
-//! is one where the heads are what Maranget calls an incomplete signature.
+//! A pattern beside the heads of a column, which matches only values that begin with none of them.
+//! A head is a number or a constructor. There is such a pattern where the heads are what Maranget
+//! calls an incomplete signature, and none where they are a complete one: where each value of the
+//! column's type begins with one of them.
 
 ghost use Rattle.std.specs.Prelude.{◌≡◌, ◌+◌, ◌^◌, ◌<◌, ◌≤◌, ℕ, [], length, IfOk, IfSome, MatchOption, true, false};
 ghost use Rattle.rb_core.specs.declared.value.Value.TheOpen as Layers;
@@ -48,8 +50,9 @@ fn least_missing(alloc: Global, heads: &[Head], most: u64) -> Result<Option<u64>
     }
 }
 
-// The number of the first of so many constructors of a type that is not among the heads; None where
-// all of them are.
+// The number of the first of the `count` constructors of data type `ty` that is not among the
+// heads; None where all of them are, or where there is none. What type a head names is not looked
+// at.
 fn missing_con(heads: &[Head], ty: u32, count: usize) -> Option<u32>
     requires { count < 2 ^ 32 }
     ensures { MatchOption result ((k : ℕ) → k < count → any_begins heads.now (Layers.Con k []) ≡ true)
@@ -65,7 +68,7 @@ fn missing_con(heads: &[Head], ty: u32, count: usize) -> Option<u32>
     None
 }
 
-// So many wildcards.
+// A row of `count` wildcards, each with token number 0.
 fn wildcards(alloc: Global, count: usize) -> Result<Seq<Pat>, AllocError>
     ensures { IfOk result (λ r. r ≡ wilds count) }
 {
@@ -77,7 +80,7 @@ fn wildcards(alloc: Global, count: usize) -> Result<Seq<Pat>, AllocError>
 }
 
 // The first constructor of data type `t` that is not among the heads, with a wildcard for each
-// field; None where all of them are.
+// field; None where all of them are, or where there is no such data type.
 fn con_beside(
     alloc: Global,
     types: &[DataDecl],
@@ -104,8 +107,9 @@ fn con_beside(
 }
 
 /// A pattern that has a value of the type, none of whose values begins with one of the heads; None
-/// where each value of the type begins with one. Where there is no head it is a wildcard, and else
-/// the least number or the first constructor that is not among them.
+/// where they are a complete signature, so that each value of the type begins with one. Where there
+/// is no head it is a wildcard, and else the least number or the first constructor that is not
+/// among them, with wildcards for its fields.
 ///
 /// # Errors
 ///

@@ -1,5 +1,6 @@
-//! Whether patterns match every value of a type, which of them are the first match of none, and
-//! whether two patterns have a value in common. Each is a search over one column.
+//! Whether patterns match every value of a type, which of them are the first match of none, so that
+//! they are not useful behind those before them, and whether two patterns have a value in common.
+//! Each is a search in a pattern matrix of one column.
 
 ghost use Rattle.std.specs.Prelude.{◌≡◌, ◌<◌, ◌∷◌, [], IfOk, length, take};
 ghost use Rattle.rb_matrix.specs.declared.coverage.MatrixFault.TheVariants as MatrixFaults;
@@ -23,10 +24,12 @@ use rb_core::seq::Seq;
 use rb_core::types::{DataDecl, Ty};
 use std::alloc::{AllocError, Global};
 
-/// Why patterns are not exhaustive.
+/// Why patterns are not found to match every value of a type: some value is not matched, or memory
+/// was wanting before that could be told.
 #[derive(Debug, Drop, thiserror::Error)]
 pub enum MatrixFault {
-    /// None of the values of this pattern is matched, and it has one at least.
+    /// This pattern matches a value of the type, and none of the values of the type that it matches
+    /// is matched by one of the patterns.
     #[error("a value is not matched")]
     Missing(Pat),
     /// Memory was wanting.
@@ -37,6 +40,7 @@ pub enum MatrixFault {
 impl From<AllocError> for MatrixFault {
     ghost from_gives = { λ e r. r ≡ MatrixFaults.Memory };
 
+    // A want of memory is the fault `Memory`.
     fn from(_error: AllocError) -> MatrixFault {
         MatrixFault::Memory
     }
@@ -71,9 +75,9 @@ fn rows_of(alloc: Global, pats: &[Pat]) -> Result<Seq<Row>, AllocError>
     Ok(rows)
 }
 
-// A copy of each of the patterns with these numbers as a row of its own, but of none that differs
-// in one place from the pattern `pat` that they are held against. A number without a pattern gives
-// no row.
+// A copy of each of the patterns with these numbers as a row of its own, but of none that is found
+// to be apart from the pattern `pat` that they are held against: none of its values matches such a
+// one. A number without a pattern gives no row.
 fn rows_near(
     alloc: Global,
     pats: &[Pat],
@@ -95,8 +99,9 @@ fn rows_near(
     Ok(rows)
 }
 
-// Rows that stand for the patterns `pats`, those of the indexes, where `pat` is held against them:
-// of the values that it matches they match the same.
+// Rows of one pattern each that stand for the patterns `pats`, those of the indexes, where `pat` is
+// held against them: of the values that `pat` matches, the rows match exactly those that some
+// pattern of `pats` matches.
 fn rows_against(
     alloc: Global,
     pats: &[Pat],
@@ -110,7 +115,9 @@ fn rows_against(
     rows_near(alloc, pats, near.as_slice(), pat)
 }
 
-// A search over one column of this type: the pattern of a row that answers it, or None.
+// A search over one column of this type: a pattern that matches a value of the type, and of the
+// values of the type only such as all wanted rows match and no unwanted one. None where there is no
+// such value.
 fn find_one(
     alloc: Global,
     types: &[DataDecl],
@@ -160,9 +167,9 @@ pub fn exhaust(alloc: Global, types: &[DataDecl], ty: Ty, rows: &[Pat]) -> Resul
     }
 }
 
-// Whether the pattern with number `i` is the first match of some value of the type. Where an
-// earlier one is found to cover it, it is not; else a search tells. The indexes are those of the
-// earlier ones.
+// Whether the pattern with number `i` is the first match of some value of the type, which is to say
+// useful behind those before it. Where an earlier one is found to cover it, it is not; else a
+// search tells. The indexes are those of the earlier ones.
 fn is_found(
     alloc: Global,
     types: &[DataDecl],
@@ -188,8 +195,9 @@ fn is_found(
 }
 
 // Whether the pattern with number `i` is the first match of some value of the type; `passed` tells
-// of the patterns before it. None is behind a wildcard or a variable. A number is compared with no
-// pattern before it: it is looked up in the set of their numbers.
+// of the patterns before it. A pattern behind a wildcard or a variable is not, and neither is a
+// number that the type does not hold. A number is compared with no pattern before it: it is looked
+// up in the set of their numbers.
 fn is_reached(
     alloc: Global,
     types: &[DataDecl],
@@ -216,7 +224,8 @@ fn is_reached(
     }
 }
 
-/// The numbers, ascending, of the patterns that are the first match of no value of the type; the
+/// The numbers, ascending, of the patterns that are the first match of no value of the type: none
+/// of them is useful behind those before it, as one that matches no value of the type never is. The
 /// first pattern has number 0.
 ///
 /// # Errors
@@ -248,7 +257,7 @@ pub fn unreached(
 
 /// A pattern of numbers, constructors and wildcards that matches a value of the type, such that
 /// both patterns match each value of the type that it matches; None where no value of the type is
-/// matched by both.
+/// matched by both. Which such pattern it is is left open.
 ///
 /// # Errors
 ///

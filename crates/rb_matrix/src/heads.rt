@@ -1,6 +1,6 @@
-//! The heads that stand in a first column, gathered one row after another. Two heads are alike
-//! where they are the same number, or constructors with the same number in their types: the same
-//! values of a type begin with them.
+//! The heads that stand in a first column, gathered one row after another. A head is a number or a
+//! constructor with which a pattern begins. Two heads are alike where they are the same number, or
+//! constructors with the same number in their types: the same values of a type begin with them.
 
 ghost use Rattle.std.specs.Prelude.{◌≡◌, ◌+◌, ◌≤◌, ◌||◌, ℕ, length, IfOk, OnOk};
 ghost use Rattle.rb_core.specs.declared.value.Value as Values;
@@ -46,7 +46,8 @@ fn is_alike(known: Head, head: Head) -> bool
     }
 }
 
-/// Whether one of the known heads is like this one.
+/// Whether one of the known heads is like this one: the same number, or a constructor with the same
+/// number in its type. Where no head is known, none is.
 pub fn is_known(known: &[Head], head: Head) -> bool
     ensures { result ≡ any_begins known.now (sample head) }
 {
@@ -73,6 +74,10 @@ fn add_number(numbers: &mut Numbers, head: Head) -> Result<(), AllocError>
 }
 
 /// The set of the numbers among heads; constructors do not count.
+///
+/// # Errors
+///
+/// Want of memory.
 pub(crate) fn numbers_of(alloc: Global, heads: &[Head]) -> Result<Numbers, AllocError>
     ensures { IfOk result (λ s. AreNumbersOf s heads.now) }
 {
@@ -83,9 +88,9 @@ pub(crate) fn numbers_of(alloc: Global, heads: &[Head]) -> Result<Numbers, Alloc
     Ok(numbers)
 }
 
-// Whether one of the known heads is like this one, where the numbers among them also stand in a
-// set: a number is looked up there, since a column may have thousands of them, and a constructor is
-// compared with each head, since a type has few.
+// Whether one of the known heads is like this one, where the numbers among the known ones also
+// stand in a set: a number is looked up there, since a column may have thousands of them, and a
+// constructor is compared with each head, since a type has few.
 fn is_noted(known: &[Head], numbers: &Numbers, head: Head) -> bool
     requires { AreNumbersOf numbers.now known.now }
     ensures { result ≡ any_begins known.now (sample head) }
@@ -97,8 +102,8 @@ fn is_noted(known: &[Head], numbers: &Numbers, head: Head) -> bool
 }
 
 /// Adds a head behind those known, unless one like it is known; None adds nothing. The numbers
-/// among them also stand in a set, which grows along, so that thousands of them are not compared
-/// with each other.
+/// among the known heads also stand in a set, which grows along, so that thousands of them are not
+/// compared with each other.
 ///
 /// # Errors
 ///

@@ -1,4 +1,7 @@
-//! The specialised matrix S of a head and the default matrix D, on the first column. A row's image
+//! The specialised matrix S of a head and the default matrix D, both on the first column. Of the
+//! vectors of the columns' types that begin with the head, a pattern matrix matches those that S
+//! matches once the first value is replaced by its subvalues; of the vectors that begin with no
+//! head of the first column, it matches those that D matches without the first value. A row's image
 //! is what becomes of the row in S or in D; a row without an image is left out. Rows need not be
 //! typed.
 
@@ -16,7 +19,7 @@ use rb_core::seq::Seq;
 use rb_core::types::{DataDecl, Ty};
 use std::alloc::{AllocError, Global};
 
-// Copies patterns to the end of a row.
+// Copies patterns to the end of a row, in their order.
 fn push_all(alloc: Global, row: &mut Seq<Pat>, more: &[Pat]) -> Result<(), AllocError>
     ensures { OnOk result (row.new ≡ row.old ++ more.now) }
 {
@@ -26,7 +29,7 @@ fn push_all(alloc: Global, row: &mut Seq<Pat>, more: &[Pat]) -> Result<(), Alloc
     Ok(())
 }
 
-// So many wildcards, and then copies of the patterns.
+// A row of `count` wildcards, each with token number 0, and behind them copies of the patterns.
 fn wilds_before(alloc: Global, count: usize, rest: &[Pat]) -> Result<Seq<Pat>, AllocError>
     ensures { IfOk result (λ r. r ≡ wilds count ++ rest.now) }
 {
@@ -48,9 +51,9 @@ fn joined(alloc: Global, first: &[Pat], rest: &[Pat]) -> Result<Seq<Pat>, AllocE
 }
 
 // A row's image in S for a head with so many fields: a copy of the row with its first pattern's
-// subpatterns in place of that pattern, or with `fields` wildcards in place of a wildcard or a
-// variable. None for another number or constructor, a constructor with another number of
-// subpatterns than `fields`, or an empty row.
+// subpatterns in place of that pattern, of which a number has none, or with `fields` wildcards in
+// place of a wildcard or a variable. None for another number or constructor, a constructor with
+// another number of subpatterns than `fields`, or an empty row.
 fn special_of_row(
     alloc: Global,
     head: Head,
@@ -104,9 +107,11 @@ fn rest_of_row(alloc: Global, row: &[Pat]) -> Result<Option<Seq<Pat>>, AllocErro
     }
 }
 
-/// A row's image in the specialised matrix of a head with so many fields. None where the row is
-/// empty, begins with another number or constructor, or begins with a constructor that has another
-/// number of subpatterns: it matches no vector then that begins with the head. The row stays.
+/// A row's image in the specialised matrix of a head with so many fields: a copy of the row with
+/// its first pattern's subpatterns, or as many wildcards for a wildcard or a variable, in that
+/// pattern's place. None where the row is empty, begins with another number or constructor, or
+/// begins with a constructor that has another number of subpatterns: it matches no vector then that
+/// begins with the head and as many subvalues as fields. The row stays.
 ///
 /// # Errors
 ///
@@ -119,8 +124,9 @@ pub fn specialize_row(
 ) -> Result<Option<Seq<Pat>>, AllocError>
     ensures image { IfOk result (λ r. r ≡ special_row head fields row.now) }
 
-    // The law of S: the row matches a vector that begins with the head exactly where its image
-    // matches that vector unfolded.
+    // The law of S: the row matches a vector whose first value begins with the head, and has as
+    // many subvalues as fields, exactly where its image matches that vector unfolded: with the
+    // subvalues in place of that value.
     ensures same { IfOk result (λ r. (v : Values.Value) (vs : List Values.Value) → begins head v ≡ true
         → length (subs v) ≡ fields → row_matches row.now (v ∷ vs) ≡ image_matches r (unfolded (v ∷ vs))) }
 {
@@ -128,8 +134,9 @@ pub fn specialize_row(
     Ok(image)
 }
 
-/// A row's image in the default matrix: a copy without the first pattern. None where that is a
-/// number or a constructor, or where the row is empty.
+/// A row's image in the default matrix: a copy of the row without its first pattern, where that is
+/// a wildcard or a variable. None where it is a number or a constructor, or where the row is empty.
+/// The row stays.
 ///
 /// # Errors
 ///
@@ -137,8 +144,8 @@ pub fn specialize_row(
 pub fn default_of_row(alloc: Global, row: &[Pat]) -> Result<Option<Seq<Pat>>, AllocError>
     ensures image { IfOk result (λ r. r ≡ default_row row.now) }
 
-    // The law of D: the row matches a vector that begins with another head than the row exactly
-    // where its image matches the rest.
+    // The law of D: the row matches a vector that does not begin with the head of the row, as none
+    // does where the row has no head, exactly where its image matches the rest.
     ensures same { IfOk result (λ r. (v : Values.Value) (vs : List Values.Value)
         → option_begins (row_head row.now) (Values.out-Value v) ≡ false
         → row_matches row.now (v ∷ vs) ≡ image_matches r vs) }
@@ -148,7 +155,7 @@ pub fn default_of_row(alloc: Global, row: &[Pat]) -> Result<Option<Seq<Pat>>, Al
 }
 
 /// The images of rows in the specialised matrix of a head with so many fields, in the order of the
-/// rows.
+/// rows; a row without an image is left out. The rows stay.
 ///
 /// # Errors
 ///
@@ -170,7 +177,8 @@ pub fn special_rows(
     Ok(kept)
 }
 
-/// The images of rows in the default matrix, in the order of the rows.
+/// The images of rows in the default matrix, in the order of the rows; a row without an image is
+/// left out. The rows stay.
 ///
 /// # Errors
 ///
@@ -187,7 +195,7 @@ pub fn rows_by_default(alloc: Global, rows: &[Seq<Pat>]) -> Result<Seq<Seq<Pat>>
     Ok(kept)
 }
 
-// Whether an integer type of so many bits holds a number.
+// Whether an integer type of so many bits holds a number; one of 64 bits or more holds every `u64`.
 fn holds(bits: u8, number: u64) -> bool
     ensures { result ≡ nat_lt number (2 ^ bits) }
 {
@@ -242,7 +250,8 @@ fn types_behind(tys: &[Ty]) -> &[Ty]
     }
 }
 
-// The types of a head's fields, and then those of all columns but the first.
+// The types of a head's fields, and then those of all columns but the first, of which there are
+// none where there is no column.
 fn types_unfolded(alloc: Global, fields: &[Ty], tys: &[Ty]) -> Result<Seq<Ty>, AllocError>
     ensures { IfOk result (λ r. r ≡ fields.now ++ drop 1 tys.now) }
 {
@@ -263,9 +272,10 @@ pub fn first_fields<'a>(types: &'a [DataDecl], tys: &[Ty], head: Head) -> Option
     }
 }
 
-/// The specialised matrix S: the rows that may match a vector whose first value begins with the
-/// head, with the subpatterns of the first pattern in its place, or as many wildcards as the head
-/// has fields. There must be a first column, and the head of its type. The matrix stays.
+/// The specialised matrix S: the rows that may match a vector of the columns' types whose first
+/// value begins with the head, with the subpatterns of the first pattern in its place, or for a
+/// wildcard or a variable as many wildcards as the head has fields. There must be a first column,
+/// and the head of its type. The matrix stays.
 ///
 /// # Errors
 ///
@@ -291,8 +301,9 @@ pub fn specialize(
     Ok(Matrix { tys, rows })
 }
 
-/// The default matrix D: the rows that begin with a wildcard or a variable, without it. Where there
-/// is no column, D has none either. The matrix stays.
+/// The default matrix D: the rows that begin with a wildcard or a variable, without it, and the
+/// types of all columns but the first. Where there is no column, D has none either. The matrix
+/// stays.
 ///
 /// # Errors
 ///

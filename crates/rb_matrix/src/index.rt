@@ -104,7 +104,7 @@ pub struct Index {
 }
 
 impl Index {
-    /// Of no pattern yet, with this path.
+    /// An index of no pattern yet, by what stands in patterns at this path.
     pub fn new(alloc: Global, path: Seq<usize>) -> Self
         ensures { IsIndex [] result }
     {
@@ -115,7 +115,8 @@ impl Index {
         }
     }
 
-    // Adds a number behind those of the patterns with this key.
+    // Adds a number behind those of the patterns with this key; it is the first where no pattern
+    // has the key yet.
     fn add_to_group(&mut self, alloc: Global, number: usize, key: u64) -> Result<(), AllocError>
         ensures { OnOk result (IsGrouped key number self.old self.new) }
     {
@@ -128,7 +129,8 @@ impl Index {
         Ok(())
     }
 
-    /// Adds a pattern. Its number is how many patterns came before it.
+    /// Adds a pattern under its key at the index's path, or to those without one. Its number is how
+    /// many patterns came before it.
     ///
     /// # Errors
     ///
@@ -165,7 +167,9 @@ impl Index {
     }
 
     /// Whether one of the patterns `pats`, those of the index, is found to cover this one. Those
-    /// with its key and those without a key are tried: no other has what it has in each place.
+    /// without a key are tried, and those with this one's key where it has one; any other has
+    /// another number or constructor at the path, or one where this pattern has none, and does not
+    /// cover it.
     pub fn has_covering(&self, pats: &[Pat], pat: &Pat) -> bool
         ensures { OnTrue result (IsCovered pat.now pats.now) }
     {

@@ -1,5 +1,6 @@
-//! Two indexes of the same patterns. For a pattern held against them the one serves that leaves
-//! fewer.
+//! Two indexes of the same patterns. An index holds the numbers of patterns, by the number or
+//! constructor that stands in them at one path of fields, which is their key there. For a pattern
+//! held against them the one serves that leaves fewer.
 
 ghost use Rattle.std.specs.Prelude.{[], OnOk, IfOk};
 ghost use Rattle.std.specs.Bool.{OnTrue};
@@ -20,7 +21,7 @@ pub struct Indexes {
 }
 
 impl Indexes {
-    /// Of no pattern yet, with these paths.
+    /// Two indexes of no pattern yet, by what stands in patterns at each of these paths.
     pub fn new(alloc: Global, paths: Paths) -> Self
         ensures { AreIndexes [] result }
     {
@@ -31,7 +32,7 @@ impl Indexes {
         }
     }
 
-    /// Adds a pattern to both. Its number is how many patterns came before it.
+    /// Adds a pattern to both indexes. Its number is how many patterns came before it.
     ///
     /// # Errors
     ///
@@ -44,7 +45,8 @@ impl Indexes {
         Ok(())
     }
 
-    /// Whether one of the patterns `pats`, those of the indexes, is found to cover this one.
+    /// Whether one of the patterns `pats`, those of the indexes, is found to cover this one. The
+    /// index is asked that leaves fewer to try, and of two that leave as many the first.
     pub fn has_covering(&self, pats: &[Pat], pat: &Pat) -> bool
         ensures { OnTrue result (IsCovered pat.now pats.now) }
     {
@@ -56,7 +58,8 @@ impl Indexes {
     }
 
     /// The numbers of those among the `count` patterns of the indexes that may have a value in
-    /// common with this one, as far as the better index tells.
+    /// common with this one, by the index that leaves fewer, and of two that leave as many by the
+    /// first.
     ///
     /// # Errors
     ///

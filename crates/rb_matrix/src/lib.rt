@@ -1,34 +1,46 @@
 //! Pattern matrices: which values a list of patterns leaves unmatched, which patterns are the first
 //! match of no value, and whether two patterns have a value in common.
 //!
-//! A matrix has a column for each value of a vector, and rows of patterns, one for each column. A
-//! head is a number or a constructor: what a pattern begins with, or a value. Wildcards and
-//! variables have none. The matrices, specialised to a head and default, and the test of usefulness
-//! are Maranget's. One search serves all questions: for a vector of values that all wanted rows
-//! match and no unwanted one. Take lists, `Nil` or `Cons(u8, List)`, and a match of two of them
-//! with the rows `(Nil, _)` and `(Cons(_, _), Nil)`. What they miss is a pair that neither matches,
-//! so both rows are unwanted, and none is wanted. A line is a matrix, with what the search does
-//! next:
+//! A pattern matrix has rows of patterns, one for each column, and each column has a type. A row
+//! matches a vector, which is a list of values, where it has as many patterns and each matches the
+//! value in its column. A head is a number or a constructor: what a pattern begins with, or a
+//! value. Wildcards and variables have none. Heads are a complete signature of a type where each of
+//! its values begins with one of them, and else an incomplete one. The specialised matrix of a head
+//! tells of the vectors that begin with it, with the subvalues of the first value in its place; the
+//! default matrix tells of those that begin with no head of the first column, without their first
+//! value. A row is useful behind others where it matches a vector that none of them does. All this
+//! is Maranget's.
+//!
+//! One search serves all questions: for a vector of values that all wanted rows match and no
+//! unwanted one. Take lists, `Nil` or `Cons(u8, List)`, and a match of two of them with the rows
+//! `(Nil, _)` and `(Cons(_, _), Nil)`. What they miss is a pair that neither matches, so both rows
+//! are unwanted, and none is wanted. A line is a matrix, with what the search does next:
 //!
 //! ```text
 //! columns          unwanted rows                    left to search
-//! List, List       (Nil, _) and (Cons(_, _), Nil)   first list Cons, and after that Nil
+//! List, List       (Nil, _) and (Cons(_, _), Nil)   first list Cons, and else Nil
 //! u8, List, List   (_, _, Nil)                      any number in the Cons
 //! List, List       (_, Nil)                         any rest in the Cons
 //! List             (Nil)                            second list other than Nil: Cons(_, _)
 //! none             none                             found: (Cons(_, _), Cons(_, _))
 //! ```
 //!
-//! The second line is the specialised matrix of `Cons`, each one below it the default matrix of the
-//! one above. The search keeps what is left in a list, so that it takes no deeper stack on wider or
-//! longer patterns, and makes the matrix of a head when its turn comes, so that it does not hold
-//! one for each head. Only patterns themselves are copied, compared, counted and dropped by
-//! recursion, to their own depth.
+//! The first line has a complete signature, so each head has its part; that of `Nil` is not made
+//! here, since that of `Cons` has an answer. The second line is the specialised matrix of `Cons`,
+//! each one below it the default matrix of the one above. In the second and the third no row begins
+//! with a head, so a wildcard is the pattern beside the heads; the fourth has an incomplete
+//! signature, `Nil` alone, and `Cons(_, _)` is beside it. The first two of these patterns become
+//! the fields of the `Cons` that the first line takes apart. The search keeps what is left in a
+//! list, so that it takes no deeper stack on wider or longer patterns, and makes the matrix of a
+//! head when its turn comes, so that it does not hold one for each head. Only patterns themselves
+//! are copied, compared, counted and dropped by recursion, to their own depth.
 //!
 //! The answers of [`find`], [`exhaust`], [`unreached`] and [`common`] speak of all values of the
 //! types. These calls, and [`pattern_beside`], need the types of a well numbered program, each of
-//! which has a value; the patterns need not be typed. [`are_apart`] looks at two patterns alone,
-//! without types: it finds some of the pairs that share no value, at once.
+//! which has a value; the patterns need not be typed. [`specialize`] and [`default_rows`] make the
+//! two matrices of a matrix alone, and [`specialize_row`] and [`default_of_row`] what becomes of
+//! one row. [`are_apart`] looks at two patterns alone, without types: it finds some of the pairs
+//! that share no value, at once.
 #![tactic(auto)]
 
 mod apart;

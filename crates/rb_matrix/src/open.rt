@@ -1,5 +1,5 @@
-//! Rows whose patterns are all wildcards or variables, so that they match every vector of their
-//! length.
+//! Open rows: each of their patterns is a wildcard or a variable, so that they match every vector
+//! of their length.
 
 ghost use Rattle.std.specs.Prelude.{◌≡◌};
 ghost use Rattle.rb_matrix.specs.inner.Open.{is_open as the_open};

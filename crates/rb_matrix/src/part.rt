@@ -1,6 +1,7 @@
-//! The parts of a problem: what is left of it where its vectors begin with a head, or with none of
-//! the heads of its first column. A problem is given without its first column's type, which stands
-//! beside it.
+//! The parts of a problem: what is left of it where its vectors begin with a head, which is a
+//! search in the specialised matrices of its rows, or with none of the heads of its first column,
+//! which is one in the default matrices. A problem is given without its first column's type, which
+//! stands beside it.
 
 ghost use Rattle.std.specs.Prelude.{◌≡◌, ◌+◌, ◌≤◌, ◌∷◌, ◌++◌, [], IfOk, OnOk, None};
 ghost use Rattle.rb_matrix.specs.declared.problem.Left.TheVariants.{Whole, ByHead};
@@ -87,8 +88,8 @@ fn step_for(ty: Ty, head: Head, fields: usize) -> Step
 }
 
 // The part of a problem for a head: what is left where the first value begins with it. None where
-// no vector is, since the head is not of the type, or a wanted row has no image. The problem stays,
-// and the rows that have an image are copied.
+// there is no such vector, since the head is not of the type, or a wanted row has no image in the
+// specialised matrix. The problem stays, and the rows that have an image are copied.
 fn part_at(
     alloc: Global,
     types: &[DataDecl],
@@ -121,8 +122,8 @@ fn part_at(
 }
 
 // The part of a problem for a head, made of the problem itself: what is left where the first value
-// begins with the head. None where no vector is, since the head is not of the type, or a wanted row
-// has no image.
+// begins with the head. None where there is no such vector, since the head is not of the type, or a
+// wanted row has no image in the specialised matrix.
 fn last_part(
     alloc: Global,
     types: &[DataDecl],
@@ -173,10 +174,11 @@ fn add_part(left: &mut Vec<Left>, part: Option<Problem>) -> Result<(), AllocErro
     }
 }
 
-/// Takes the last head off some branches and makes its part, which is to be searched first; the
-/// other heads are left for later, so that of each problem one part is held at a time. Where there
-/// are no other heads, the part is made of the problem itself, and no row is copied. Where there is
-/// no head at all, or no vector that begins with the last one, there is no part.
+/// Takes the last head off some branches and makes its part, which is to be searched first and so
+/// stands last; the other heads are left for later, so that of each problem one part is held at a
+/// time. Where there are no other heads, the part is made of the problem itself, and no row is
+/// copied. Where there is no head at all, nothing is left; where no vector begins with the last
+/// one, there is no part, and only the other heads are left.
 ///
 /// # Errors
 ///
@@ -211,8 +213,9 @@ pub fn next_part(
 }
 
 // The part of a problem for all values that begin with no head of its first column, of which
-// `beside` matches some. It is made of the problem itself. None where there is no vector, since a
-// wanted row has no image in the default matrix.
+// `beside` matches some. It is made of the problem itself, and its rows are those of the default
+// matrices. No wanted row begins with a head. None where there is no vector, since a wanted row has
+// no image in the default matrix, as an empty one has none.
 fn rest_part(
     alloc: Global,
     types: &[DataDecl],
@@ -249,8 +252,9 @@ fn rest_part(
 /// What is left of a problem whose first column has type `ty`. Where a wanted row begins with a
 /// head, that head alone counts: other vectors the row does not match. Else, where the heads that
 /// unwanted rows begin with are a complete signature, which is to say that each value of the type
-/// begins with one, all of them count. Where they are not, the default matrix answers for all
-/// values, also for those that begin with one of them.
+/// begins with one, all of them count, each with its specialised matrix. Where they are an
+/// incomplete signature, the default matrix answers for all values, also for those that begin with
+/// one of them; nothing is left then where a wanted row is empty.
 ///
 /// # Errors
 ///

@@ -19,9 +19,9 @@ use rb_core::pattern::Pat;
 use rb_core::types::{DataDecl, Ty};
 use std::alloc::{AllocError, Global};
 
-/// Patterns that were gone over: whether one of them is a wildcard or a variable, so that it
-/// matches every value, the numbers among them, and two indexes by what stands in them at a path
-/// each.
+/// Patterns that were gone over: `all` tells whether one of them is a wildcard or a variable, so
+/// that it matches every value; beside it stand the set of the numbers among them, and two indexes
+/// by what stands in them at a path of fields each.
 #[derive(Drop)]
 pub struct Passed {
     pub all: bool,
@@ -30,7 +30,7 @@ pub struct Passed {
 }
 
 impl Passed {
-    /// Of no pattern yet, with these paths for the indexes.
+    /// What is known where no pattern was gone over yet, with these paths for the indexes.
     pub fn new(alloc: Global, paths: Paths) -> Self
         ensures { ArePassed [] result }
     {
@@ -41,7 +41,8 @@ impl Passed {
         }
     }
 
-    /// Goes over one more pattern. Its number is how many patterns came before it.
+    /// Goes over one more pattern: a wildcard or a variable sets `all`, a number goes into the set,
+    /// and each goes into the indexes. Its number is how many patterns came before it.
     ///
     /// # Errors
     ///

@@ -17,8 +17,9 @@ struct Position {
     kinds: u64,
 }
 
-// The paths of patterns, each with its number, which is its place here. The first is the empty
-// path.
+// The paths of patterns, each with its number, which is its place in `each`; the first is the empty
+// path. `below` gives the number of a path by that of the one above it and the field, and `known`
+// holds the heads that were counted, each with the number of its path.
 #[derive(Drop)]
 struct Positions {
     each: Vec<Position>,
@@ -72,7 +73,8 @@ impl Positions {
         Ok(())
     }
 
-    // Counts the heads of what stands in a pattern at a path, and of all below it.
+    // Counts the head of what stands in a pattern at a path, and those of all below it; a wildcard
+    // or a variable counts nothing.
     #[cycle(counting)]
     fn count(&mut self, pat: &Pat, at: usize) -> Result<(), AllocError> {
         match pat {
@@ -96,7 +98,8 @@ impl Positions {
         Ok(())
     }
 
-    // The fields, from the outside in, of the path with this number.
+    // The fields, from the outside in, of the path with this number; none for a number without a
+    // path.
     fn path_to(&self, alloc: Global, number: usize) -> Result<Seq<usize>, AllocError> {
         let mut path = Vec::new(alloc);
         let mut at = number;
@@ -131,9 +134,9 @@ impl Positions {
     }
 }
 
-// An estimate of how many pairs of patterns a path tells apart, each pair counted in both orders.
-// It supposes that each head stands there in as many patterns as any other; where that is not so,
-// the path tells fewer apart.
+// An estimate of how many pairs of patterns a path tells apart, each pair counted in both orders; 0
+// where no pattern has a head there. It supposes that each head stands there in as many patterns as
+// any other; where that is not so, the path tells fewer apart.
 fn pairs_apart(position: &Position) -> u64 {
     let pairs = position.heads.saturating_mul(position.heads);
     match pairs.checked_div(position.kinds) {

@@ -9,7 +9,8 @@ use rb_core::pattern::Pat;
 use rb_core::seq::Seq;
 use rb_core::types::{ConRef, Ty};
 
-/// How a row of patterns for a problem becomes one for its parent.
+/// How a row of patterns for a problem becomes one for its parent, whose first column was split or
+/// taken off.
 #[derive(Drop)]
 pub enum Step {
     /// This pattern stands before the row.
@@ -30,8 +31,8 @@ pub struct Problem {
 }
 
 /// The parts of a problem that are not made yet, one for each of these heads: for its vectors that
-/// begin with the head. The problem stands here without its first column's type, which stands
-/// beside it.
+/// begin with the head. The last head's part is made first. The problem stands here without its
+/// first column's type, which stands beside it.
 #[derive(Drop)]
 pub struct Branches {
     pub ty: Ty,
@@ -53,6 +54,7 @@ pub enum Left {
 pub enum Outcome {
     /// Its problem has no column left, and the empty row is its answer: these are its steps.
     Solved(Seq<Step>),
-    /// These are left in its stead: where none of them has an answer, it has none.
+    /// These are left in its stead, and the last of them is searched first; where none of them has
+    /// an answer, it has none.
     Split(Vec<Left>),
 }

@@ -1,5 +1,7 @@
-//! One row of a search. Its images in the specialised and the default matrix are made of the row
-//! itself.
+//! One row of the pattern matrices in a search. Its images, which is to say what becomes of it in
+//! the specialised matrix of a head and in the default matrix, are made of the row itself. A head
+//! is a number or a constructor; two are alike where they are the same number, or constructors with
+//! the same number in their types.
 
 ghost use Rattle.std.specs.Prelude.{◌≡◌, ◌∷◌, ◌==◌, [], ℕ, None, length, IfOk};
 ghost use Rattle.std.specs.Bool.{OnTrue};
@@ -52,9 +54,10 @@ pub fn row_of(alloc: Global, pat: &Pat) -> Result<Row, AllocError>
     Ok(Row { wilds: 0, behind })
 }
 
-// The image of a row of these patterns in the specialised matrix of a head with so many fields.
-// None where the row is empty, begins with a head that is not like this one, or begins with a
-// constructor that has another number of subpatterns.
+// The image of a row of these patterns in the specialised matrix of a head with so many fields: the
+// subpatterns of the first pattern, or as many wildcards for a wildcard or a variable, and then the
+// patterns behind it. None where the row is empty, begins with a head that is not like this one, or
+// begins with a constructor that has another number of subpatterns.
 fn special_of(mut pats: Stack<Pat>, head: Head, fields: usize) -> Result<Option<Row>, AllocError>
     ensures { IfOk result (λ r. r ≡ special_row head fields pats) }
 {
@@ -106,7 +109,7 @@ impl Row {
         }
     }
 
-    /// An equal row.
+    /// An equal row, with copies of its patterns.
     ///
     /// # Errors
     ///
@@ -198,9 +201,10 @@ impl Row {
         }
     }
 
-    /// The row's image in the specialised matrix of a head with so many fields; None where the row
-    /// is empty, begins with a head that is not like this one, or begins with a constructor that
-    /// has another number of subpatterns.
+    /// The row's image in the specialised matrix of a head with so many fields: the row with its
+    /// first pattern's subpatterns, or as many wildcards for a wildcard or a variable, in that
+    /// pattern's place. None where the row is empty, begins with a head that is not like this one,
+    /// or begins with a constructor that has another number of subpatterns.
     ///
     /// # Errors
     ///
@@ -219,8 +223,9 @@ impl Row {
         special_of(behind, head, fields)
     }
 
-    /// The row's image in the default matrix: the row without its first pattern. None where that is
-    /// a number or a constructor, or where the row is empty.
+    /// The row's image in the default matrix: the row without its first pattern, where that is a
+    /// wildcard or a variable. None where it is a number or a constructor, or where the row is
+    /// empty.
     pub fn rest(self) -> Option<Row>
         ensures { result ≡ default_row self }
     {

@@ -29,7 +29,9 @@ pub fn first_head_in(rows: &[Row]) -> Option<Head>
     None
 }
 
-/// The heads that the rows begin with, in the order of the rows; of heads alike only the first.
+/// The heads that the rows begin with, in the order of the rows; of heads alike, which are the same
+/// number or constructors with the same number in their types, only the first. A row that is empty
+/// or begins with a wildcard or a variable adds none.
 ///
 /// # Errors
 ///
@@ -65,11 +67,11 @@ fn special_copy(
 }
 
 /// The images of rows in the specialised matrix of a head with so many fields, in the order of the
-/// rows. The rows stay.
+/// rows; a row without an image is left out. The rows stay.
 ///
 /// # Errors
 ///
-/// Want of memory.
+/// Want of memory, also for more wildcards in a row than a `usize` counts.
 pub fn special_copies(
     alloc: Global,
     rows: &[Row],
@@ -88,11 +90,11 @@ pub fn special_copies(
 }
 
 /// The images of rows in the specialised matrix of a head with so many fields, in the order of the
-/// rows and made of them.
+/// rows and made of them; a row without an image is left out.
 ///
 /// # Errors
 ///
-/// Want of memory.
+/// Want of memory, also for more wildcards in a row than a `usize` counts.
 pub fn special_images(
     alloc: Global,
     rows: Seq<Row>,
@@ -111,7 +113,8 @@ pub fn special_images(
     Ok(kept)
 }
 
-/// The images of rows in the default matrix, in the order of the rows and made of them.
+/// The images of rows in the default matrix, in the order of the rows and made of them; a row
+/// without an image is left out.
 ///
 /// # Errors
 ///
@@ -130,7 +133,7 @@ pub fn default_images(alloc: Global, rows: Seq<Row>) -> Result<Seq<Row>, AllocEr
 }
 
 /// Whether one of the rows has so many patterns, all wildcards or variables, so that it matches
-/// every vector of so many values.
+/// every vector of so many values; false where there is no row.
 pub fn some_is_open(rows: &[Row], columns: usize) -> bool
     ensures { result ≡ any_open rows.now columns }
 {

@@ -30,7 +30,7 @@ use rb_core::seq::Seq;
 use rb_core::types::{DataDecl, Ty};
 use std::alloc::{AllocError, Global};
 
-// Whether some row is empty, so that it matches the empty vector.
+// Whether some row is empty, so that it matches the empty vector; false where there is no row.
 fn some_is_empty(rows: &[Row]) -> bool
     ensures { result ≡ any_row rows.now [] }
 {
@@ -97,8 +97,9 @@ fn end(alloc: Global, wanted: &Seq<Row>, unwanted: &Seq<Row>, steps: Seq<Step>) 
     Outcome::Solved(steps)
 }
 
-// What becomes of a problem. Nothing is left where an unwanted row matches every vector, since it
-// has a wildcard or a variable for each column.
+// What becomes of a problem: with no column left it is solved or has no answer, and else its parts
+// are left. Nothing is left where an unwanted row matches every vector, since it has a wildcard or
+// a variable for each column.
 fn split(alloc: Global, types: &[DataDecl], problem: Problem) -> Result<Outcome, AllocError>
     requires inhabited { AreInhabited types.now }
     requires live { AreTypesIn types.now problem.tys }
@@ -144,7 +145,7 @@ fn step(alloc: Global, types: &[DataDecl], left: Left) -> Result<Outcome, AllocE
 /// A row of patterns for a problem to which no step has led: it matches a vector of the problem's
 /// types, and each vector of these types that it matches is matched by all wanted rows and by no
 /// unwanted one. None where there is no such vector. The patterns are numbers, constructors and
-/// wildcards.
+/// wildcards. Which such row is given is left open.
 ///
 /// # Errors
 ///

@@ -27,7 +27,8 @@ fn front_of(alloc: Global, row: &mut VecDeque<Pat>, count: usize) -> Result<Seq<
 }
 
 // One step back: the row for a problem becomes one for its parent. A pattern is put before it, or
-// patterns from its front become the subpatterns of a constructor.
+// so many patterns from its front, all where it is shorter, become the subpatterns of a
+// constructor.
 fn close(alloc: Global, row: &mut VecDeque<Pat>, step: Step) -> Result<(), AllocError>
     ensures { OnOk result (row.new.items ≡ closed step row.old.items) }
 {
@@ -41,7 +42,8 @@ fn close(alloc: Global, row: &mut VecDeque<Pat>, step: Step) -> Result<(), Alloc
     Ok(())
 }
 
-/// The row that the empty row becomes by these steps, the last step first.
+/// The row that the empty row becomes by these steps, the last step first; without a step the empty
+/// row itself.
 ///
 /// # Errors
 ///

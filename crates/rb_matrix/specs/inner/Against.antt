@@ -1,5 +1,6 @@
 -- Patterns that another is held against: which of them share no value with it, which match all that it matches, and
--- which rows may stand for them in a search.
+-- which rows of one pattern each may stand for them in a search. Nothing is asked here of the types of patterns or
+-- values. The first pattern of a list has number 0.
 use Rattle.std.specs.Prelude.{◌≡◌, ◌<◌, ℕ, List, [], ◌∷◌, Contains, true, Some, slice_get}
 use Rattle.rb_core.specs.declared.value.Value.{Value}
 use Rattle.rb_core.specs.declared.pattern.Pat.{Pat}
@@ -26,7 +27,7 @@ CoverEach ps qs = (vs : List Value) → row_matches qs vs ≡ true → row_match
 abbrev pub AreCovered : ℕ → List Pat → List Pat → Type 0
 AreCovered i ps qs = (k : ℕ) (p q : Pat) → k < i → slice_get ps k ≡ Some p → slice_get qs k ≡ Some q → Covers p q
 
--- each value that p matches is matched by some pattern of the list
+-- each value that p matches is matched by some pattern of the list; of the empty list it is not so
 abbrev pub IsCovered : Pat → List Pat → Type 0
 IsCovered p ps = (v : Value) → matches_of p v ≡ true → any_matches ps v ≡ true
 

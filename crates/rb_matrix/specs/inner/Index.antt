@@ -1,7 +1,8 @@
--- Indexes: the numbers of patterns, by what stands in the patterns at one path. A path is a list of fields, from
--- the outside in; the empty path leads to the value or the pattern itself. A pattern's key is the number that
--- stands in it at the path, or that of the constructor that does, if one of them does; a group is the numbers of
--- the patterns that have one key.
+-- Indexes: the numbers of patterns, by what stands in the patterns at one path, so that a pattern need not be held
+-- against those that have something else there. A path is a list of fields, from the outside in; the empty path leads
+-- to the value or the pattern itself. A pattern's key is the number that stands in it at the path, or that of the
+-- constructor that does, if one of them does; a group is the numbers of the patterns that have one key. A layer is
+-- the outermost node of a value, with its subvalues below it.
 use Rattle.std.specs.Prelude.{◌≡◌, ℕ, List, [], ◌∷◌, ◌++◌, length, Contains, true, Some, slice_get, slice_index_or, MatchOption, ◌⊎◌}
 use Rattle.std.specs.Ordering.{nat_cmp}
 use Rattle.std.specs.BTreeMap as tree
@@ -14,7 +15,7 @@ use Rattle.rb_core.specs.Values.{subs}
 use Rattle.rb_matrix.specs.declared.index.Index.{Index}
 use Rattle.rb_matrix.specs.Apart.{AreApart}
 
--- the number that a value, given by its layer, is, or the number of its constructor in its type
+-- the number that a value, given by its layer, is, or that of its constructor in its type
 abbrev pub head_number : Value-F Value → ℕ
 head_number (V.Num n) = n
 head_number (V.Con k vs) = k
@@ -25,7 +26,7 @@ abbrev pub key_of : Value → List ℕ → ℕ
 key_of v [] = head_number (out-Value v)
 key_of v (i ∷ path) = key_of (slice_index_or (subs v) i v) path
 
--- k is the key of p: each value that p matches has this number at the path
+-- k may serve as the key of p: each value that p matches has this number at the path
 abbrev pub HasKey : Pat → List ℕ → ℕ → Type 0
 HasKey p path k = (v : Value) → matches_of p v ≡ true → key_of v path ≡ k
 

@@ -1,4 +1,5 @@
--- Two indexes of the same patterns, each by what stands in them at a path of its own.
+-- Two indexes of the same patterns. An index holds the numbers of patterns, by the number or constructor that stands
+-- in them at one path of fields; each of the two has a path of its own.
 use Rattle.std.specs.Prelude.{◌≡◌, ℕ, List, length, Contains, Some, slice_get, ◌⊎◌}
 use Rattle.rb_core.specs.declared.pattern.Pat.{Pat}
 use Rattle.rb_matrix.specs.declared.indexes.Indexes.{Indexes}

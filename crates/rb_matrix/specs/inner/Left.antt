@@ -1,7 +1,8 @@
--- What is left of a search: a list of problems still to be solved, each whole or only for the vectors that begin
--- with one of some heads, whose parts are its branches. The root is the problem that the search began with. Where
--- nothing in what is left has an answer, neither has what it came from; a row for a problem in it becomes one for
--- the root.
+-- What is left of a search: a list of problems still to be solved, each whole or only for the vectors that begin with
+-- one of some heads, whose parts are its branches. A problem asks for a vector of values of some types that all
+-- wanted rows match and no unwanted one; a part of it asks this of some of its vectors, with the first value taken
+-- apart or taken off. The root is the problem that the search began with. Where nothing in what is left has an
+-- answer, neither has what it came from; a row for a problem in it becomes one for the root.
 use Rattle.std.specs.Prelude.{◌≡◌, ℕ, ◌+◌, ◌*◌, ◌<◌, ◌≤◌, List, [], ◌∷◌, length, true, false, Option, Some, None}
 use Rattle.rb_core.specs.declared.value.Value.{Value, out-Value}
 use Rattle.rb_core.specs.declared.types.DataDecl.{DataDecl}
@@ -30,8 +31,8 @@ abbrev pub wholes : Option Problem → List Left
 wholes None = []
 wholes (Some c) = Whole c ∷ []
 
--- the problem's columns, of branches those behind the first, are types over the data types; branches stand only
--- where some row begins with a head
+-- each column of a whole problem, and of branches each behind the first, is of a type over the data types; branches
+-- stand only where some row begins with a head
 abbrev pub IsReady : List DataDecl → Left → Type 0
 IsReady types (Whole p) = AreTypesIn types p.tys
 IsReady types (ByHead b) =
@@ -51,20 +52,20 @@ abbrev pub NoneOf : List DataDecl → Left → Type 0
 NoneOf types (Whole p) = NoneIn types p
 NoneOf types (ByHead b) = NoneByHead types b
 
--- nothing in a list of what is left has an answer
+-- nothing in a list of what is left has an answer; so it is where nothing is left
 abbrev pub AllNone : List DataDecl → List Left → Type 0
 AllNone types [] = Unit {0}
 AllNone types (l ∷ ls) = NoneOf types l × AllNone types ls
 
 -- How much is left --------------------------------------------------------------------------------
 
--- the cost of what is left: that of a whole problem, and for branches twice that of a part for each head, and 1, so
--- that branches cost more than the part of one head and the branches of the others
+-- the cost of what is left: that of a whole problem, and for branches twice the most that a part costs, for each
+-- head, and 1 more, so that branches cost more than the part of one head and the branches of the others
 abbrev pub left_cost : List DataDecl → Left → ℕ
 left_cost types (Whole p) = cost types p
 left_cost types (ByHead b) = length b.heads * (2 * part_cost types (parent b)) + 1
 
--- the costs of a list of what is left, together
+-- the costs of a list of what is left, together; 0 where nothing is left
 abbrev pub costs : List DataDecl → List Left → ℕ
 costs types [] = 0
 costs types (l ∷ ls) = left_cost types l + costs types ls

@@ -1,4 +1,6 @@
--- Patterns as the rows of a matrix of one column, and what a search in it answers.
+-- Patterns as the rows of a pattern matrix of one column, and what a search in it answers. A vector is sought where
+-- it has the columns' types, all wanted rows match it and no unwanted one does. A plain pattern is one of numbers,
+-- constructors and wildcards. The first pattern of a list has number 0.
 use Rattle.std.specs.Prelude.{ℕ, List, [], ◌∷◌, Bool, true, false, ◌||◌, Option, Some, None}
 use Rattle.rb_core.specs.declared.value.Value.{Value}
 use Rattle.rb_core.specs.declared.types.Ty.{Ty}
@@ -18,7 +20,8 @@ abbrev pub any_matches : List Pat → Value → Bool
 any_matches [] v = false
 any_matches (p ∷ ps) v = matches_of p v || any_matches ps v
 
--- whether the pattern with number i is the first match of some value of the type, or of none
+-- true where the pattern with number i is the first match of some value of the type, and false where it is the first
+-- match of none, as a number without a pattern is
 abbrev pub IsReachAnswer : List DataDecl → Ty → List Pat → ℕ → Bool → Type 0
 IsReachAnswer types ty ps i true = IsReached types ty ps i
 IsReachAnswer types ty ps i false = IsUnreached types ty ps i

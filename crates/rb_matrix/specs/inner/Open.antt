@@ -1,5 +1,5 @@
--- Open rows: none of their patterns has a head, so that they match every vector of their length. A layer is a
--- pattern of which only the outermost step is looked at.
+-- Open rows: each of their patterns is a wildcard or a variable, so that they match every vector of their length. A
+-- layer is the outermost node of a pattern, with its subpatterns below it.
 use Rattle.std.specs.Prelude.{ℕ, List, [], ◌∷◌, length, Bool, true, false, ◌&&◌, ◌||◌, ◌==◌}
 use Rattle.rb_core.specs.declared.pattern.Pat.{Pat, out-Pat}
 use Rattle.rb_core.specs.declared.pattern.Pat.TheOpen as P

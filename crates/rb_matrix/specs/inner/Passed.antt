@@ -1,5 +1,6 @@
--- Patterns that were gone over, with the set of the numbers among them and two indexes of them all. A layer is a
--- pattern of which only the outermost step is looked at.
+-- Patterns that were gone over, with the set of the numbers among them and two indexes of them all, which hold their
+-- numbers in the list by what stands in them at one path of fields each. A layer is the outermost node of a pattern,
+-- with its subpatterns below it.
 use Rattle.std.specs.Prelude.{◌≡◌, ℕ, List, [], ◌∷◌, Bool, false, ◌||◌, ◌==◌}
 use Rattle.rb_core.specs.declared.pattern.Pat.{Pat, out-Pat}
 use Rattle.rb_core.specs.declared.pattern.Pat.TheOpen as P
@@ -9,7 +10,7 @@ use Rattle.rb_matrix.specs.Known.{has}
 use Rattle.rb_matrix.specs.inner.Open.{layer_open}
 use Rattle.rb_matrix.specs.inner.Indexes.{AreIndexes}
 
--- whether a pattern, given by its layer, is number n
+-- whether a pattern, given by its layer, is number n; a wildcard, a variable or a constructor is not
 abbrev pub layer_number : Pat-F Pat → ℕ → Bool
 layer_number (P.Wild at) n = false
 layer_number (P.Var at x) n = false

@@ -1,7 +1,8 @@
--- Problems and their parts. A problem asks for a vector of some types that all wanted rows match and no unwanted
--- one. Its parts ask the same of the vectors that begin with one head, unfolded, or with none of some heads,
--- without their first value; the problem is their parent, and the first one of all is the root. A step says how a
--- row for a part becomes one for its parent. The cost of a problem bounds how much is left to search.
+-- Problems and their parts. A problem asks for a vector of some types that all wanted rows match and no unwanted one.
+-- A part asks the same with the specialised matrices of its rows, of the vectors that begin with one head, unfolded;
+-- or with the default matrices, of the vectors that begin with none of some heads, without their first value. The
+-- problem is the parent of its parts, and the first one of all is the root. A step says how a row for a part becomes
+-- one for its parent. The cost of a problem bounds how much is left to search.
 use Rattle.std.specs.Prelude.{◌≡◌, ℕ, ◌+◌, ◌-◌, ◌*◌, ◌^◌, ◌≤◌, List, [], ◌∷◌, ◌++◌, map, length, sum, take, drop, true, false, Option, Some, None}
 use Rattle.rb_core.specs.declared.value.Value.{Value}
 use Rattle.rb_core.specs.declared.types.Ty.{Ty}
@@ -28,8 +29,8 @@ closed (Front p) row = p ∷ row
 closed (Fold c n) row = Pats.Con 0 c (take n row) ∷ drop n row
 
 -- the step to a parent whose first column is of this type, from the part of a head with n fields: a number stands
--- before the row, and a constructor takes n patterns; it is given as one of the data type, whatever type the head
--- names, and stays as it is where the type is an integer type, of which no constructor is
+-- before the row, and a constructor takes n patterns. The constructor is given as one of the data type, whatever type
+-- the head names; it stays as it is where the type is an integer type, of which no constructor is
 abbrev pub step_of : Ty → Head → ℕ → Step
 step_of ty (H.Num m) n = Front (Pats.Num 0 m)
 step_of (Named t) (H.Con c) n = Fold (record { ty = t; con = c.con }) n
@@ -46,8 +47,8 @@ closed_all (s ∷ ss) row = closed s (closed_all ss row)
 abbrev pub with_column : Ty → Problem → Problem
 with_column ty p = record { tys = ty ∷ p.tys; wanted = p.wanted; unwanted = p.unwanted; steps = p.steps }
 
--- the row answers a problem: it is of plain patterns, and matches vectors that the problem asks for alone, and one
--- at least
+-- the row answers a problem: it is of numbers, constructors and wildcards, of the columns' types; all vectors of
+-- these types that it matches are asked for, and it matches one
 abbrev pub FoundIn : List DataDecl → Problem → List Pat → Type 0
 FoundIn types p row = IsFound types p.tys p.wanted p.unwanted row
 
@@ -75,20 +76,22 @@ decl_fields d = sum (map con_fields d.cons)
 abbrev pub fields_bound : List DataDecl → ℕ
 fields_bound types = sum (map decl_fields types)
 
--- how many numbers and constructors stand in the rows of a problem, wanted and unwanted
+-- how many numbers and constructors stand in the rows of a problem, wanted and unwanted, at any depth
 abbrev pub heads_of : Problem → ℕ
 heads_of p = rows_heads p.wanted + rows_heads p.unwanted
 
--- the weight of a problem, which is more than that of its parts: a part has a column less, or a head less and at
--- most a constructor's fields more columns
+-- the weight of a problem: it is more than that of each of its parts, since a part has a column less and no more
+-- heads, or a head less and, for the column taken off, at most a constructor's fields as columns
 abbrev pub weight : List DataDecl → Problem → ℕ
 weight types p = heads_of p * (fields_bound types + 1) + length p.tys
 
--- the cost of a problem: a power of its weight, to a base that counts each of its heads for two parts
+-- the cost of a problem: a power with its weight as the exponent, and as the base two for each of its heads and two
+-- more, so that two parts for each head cost less together
 unfoldable pub cost : List DataDecl → Problem → ℕ
 cost types p = (2 * heads_of p + 2) ^ weight types p
 
--- what a part of a problem costs at most: the same power with a weight one less
+-- what a part of a problem costs at most: the same power with an exponent one less; where the weight is 0, so is the
+-- exponent
 unfoldable pub part_cost : List DataDecl → Problem → ℕ
 part_cost types p = (2 * heads_of p + 2) ^ (weight types p - 1)
 
