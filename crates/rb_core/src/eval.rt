@@ -1,9 +1,12 @@
-//! What a program does, for tests: the source meaning, computed.
+//! What a program does, for tests: the source meaning, computed. A log has the events so far, and
+//! an end is `Done` with a value and the calls left, or `Spent` where a call was due and none was
+//! left. A frame has the variables of the function that runs, with their types and values.
 
-ghost use Rattle.std.specs.Prelude.{◌≡◌, ◌≤◌, [], ℕ, Option, IfOk, OnOk, map, slice_get};
+ghost use Rattle.std.specs.Prelude.{◌≡◌, ◌≤◌, [], ℕ, IfOk, OnOk, map, slice_get};
 ghost use Rattle.rb_core.specs.declared.expression.Expr as X;
-ghost use Rattle.rb_core.specs.Meaning.{call_of, call_within, meaning_of, clause_meaning, all_of, first_of};
+ghost use Rattle.rb_core.specs.Meaning.{call_of, call_within, meaning_of, all_of};
 ghost use Rattle.rb_core.specs.Outcomes.{Gives, GivesParts, IsWithinCalls, IsPartsWithinCalls};
+ghost use Rattle.rb_core.specs.Evaluation.{EndsAs, EndsAsFirst};
 
 use crate::environment::{Frame, bind_arguments, scope_of, value_of};
 use crate::expression::{Clause, Expr, Op};
@@ -21,8 +24,19 @@ use crate::typing::Binder;
 use crate::value::Value;
 use std::alloc::{AllocError, Global};
 
-/// What a call of a function does, with so many calls left. It stands for tests: it nests as deep as
-/// the program's calls and expressions do.
+// What an expression is evaluated with, beside its variables: memory, the program that it stands
+// in, the type that is wanted of it or none, and the calls that are left.
+#[derive(Clone, Copy)]
+struct Context<'a> {
+    alloc: Global,
+    program: &'a Program,
+    wanted: Option<Ty>,
+    calls: u64,
+}
+
+/// What a call of a function does, with so many calls left. A function that the program lacks gives
+/// 0, where a call is left. It stands for tests: it nests as deep as the program's calls and
+/// expressions do.
 ///
 /// # Errors
 ///
@@ -55,8 +69,8 @@ fn eval_program(
     Ok(Outcome { log, end })
 }
 
-// How a call of a function ends, with so many calls left, of which it takes one. Its events go
-// behind those of the log.
+// How a call of a function ends: it takes one of the calls left, or is `Spent` where none is left.
+// A function that the program lacks gives 0. The call's events go behind those of the log.
 #[cycle(evaluation)]
 fn eval_call(
     alloc: Global,
@@ -79,110 +93,76 @@ fn eval_call(
     let scope = scope_of(alloc, callee.params.as_slice())?;
     let values = bind_arguments(alloc, callee.params.as_slice(), args)?;
     let mut frame = Frame { fun, scope, values };
-    let wanted = Some(callee.result);
-    let end = eval_expr(
+    let context = Context {
         alloc,
         program,
-        &callee.body,
-        wanted,
-        left - 1,
-        &mut frame,
-        log,
-    )?;
+        wanted: Some(callee.result),
+        calls: left - 1,
+    };
+    let end = eval_expr(context, &callee.body, &mut frame, log)?;
     Ok(end)
 }
 
-// How an expression ends, at a wanted type or none. Its events go behind those of the log, and on
-// `Ok` the frame is what it was.
+// How an expression ends in a context, with the variables of a frame. Its events go behind those of
+// the log, and on `Ok` the frame is what it was. It nests as deep as the calls and expressions do.
 #[cycle(evaluation)]
 fn eval_expr(
-    alloc: Global,
-    program: &Program,
+    context: Context<'_>,
     expr: &Expr,
-    wanted: Option<Ty>,
-    left: u64,
     frame: &mut Frame,
     log: &mut Seq<Event>,
 ) -> Result<SourceEnd, AllocError>
-    ensures gives { IfOk result (λ end. (k : ℕ) → left ≤ k
-        → Gives (meaning_of program.now (call_within program.now k) frame.old.fun expr.now wanted frame.old.scope
-        left frame.old.values) log.old log.new end) }
-    ensures fewer { IfOk result (IsWithinCalls left) }
+    ensures gives { IfOk result (EndsAs context.entry frame.old expr.now log.old log.new) }
+    ensures fewer { IfOk result (IsWithinCalls context.entry.calls) }
     ensures frame { OnOk result (frame.new ≡ frame.old) }
 {
     match expr {
-        Expr::Num(_, n) => Ok(SourceEnd::Done(Value::Num(*n), left)),
+        Expr::Num(_, n) => Ok(SourceEnd::Done(Value::Num(*n), context.calls)),
         Expr::Var(_, var) => {
-            let value = value_of(alloc, *var, frame.values.as_slice())?;
-            Ok(SourceEnd::Done(value, left))
+            let value = value_of(context.alloc, *var, frame.values.as_slice())?;
+            Ok(SourceEnd::Done(value, context.calls))
         }
-        Expr::Call(_, fun, parts) => {
-            eval_invoke(alloc, program, *fun, parts.as_slice(), left, frame, log)
-        }
-        Expr::Build(_, con, parts) => {
-            eval_build(alloc, program, *con, parts.as_slice(), left, frame, log)
-        }
-        Expr::Binary(_, op, a, b) => {
-            eval_binary(
-                alloc,
-                program,
-                *op,
-                a.get(),
-                b.get(),
-                wanted,
-                left,
-                frame,
-                log,
-            )
-        }
-        Expr::To(_, bits, a) => eval_to(alloc, program, *bits, a.get(), left, frame, log),
+        Expr::Call(_, fun, parts) => eval_invoke(context, *fun, parts.as_slice(), frame, log),
+        Expr::Build(_, con, parts) => eval_build(context, *con, parts.as_slice(), frame, log),
+        Expr::Binary(_, op, a, b) => eval_binary(context, *op, a.get(), b.get(), frame, log),
+        Expr::To(_, bits, a) => eval_to(context, *bits, a.get(), frame, log),
         Expr::Let(_, var, ty, a, b) => {
             let binder = Binder { var: *var, ty: *ty };
-            eval_let(
-                alloc,
-                program,
-                binder,
-                a.get(),
-                b.get(),
-                wanted,
-                left,
-                frame,
-                log,
-            )
+            eval_let(context, binder, a.get(), b.get(), frame, log)
         }
-        Expr::Match(at, scrutinee, clauses) => eval_match(
-            alloc,
-            program,
-            *at,
-            scrutinee.get(),
-            clauses.as_slice(),
-            wanted,
-            left,
-            frame,
-            log,
-        ),
+        Expr::Match(at, scrutinee, clauses) => {
+            let clauses = clauses.as_slice();
+            eval_match(context, *at, scrutinee.get(), clauses, frame, log)
+        }
     }
 }
 
 // How a call expression ends: its arguments from left to right, then the call with their values.
+// Where an argument is `Spent`, so is the whole.
 #[cycle(evaluation)]
 fn eval_invoke(
-    alloc: Global,
-    program: &Program,
+    context: Context<'_>,
     fun: u32,
     parts: &[Expr],
-    calls: u64,
     frame: &mut Frame,
     log: &mut Seq<Event>,
 ) -> Result<SourceEnd, AllocError>
-    ensures gives { (at : ℕ) (wanted : Option Ty) → IfOk result (λ end. (k : ℕ) → calls ≤ k
-        → Gives (meaning_of program.now (call_within program.now k) frame.old.fun (X.Call at fun parts.now) wanted
-        frame.old.scope calls frame.old.values) log.old log.new end) }
-    ensures fewer { IfOk result (IsWithinCalls calls) }
+    ensures gives { (at : ℕ) → IfOk result
+        (EndsAs context.entry frame.old (X.Call at fun parts.now) log.old log.new) }
+    ensures fewer { IfOk result (IsWithinCalls context.entry.calls) }
     ensures frame { OnOk result (frame.new ≡ frame.old) }
 {
+    let (alloc, program) = (context.alloc, context.program);
     let tys = types_of_params(alloc, program, fun)?;
-    match eval_all(alloc, program, parts, tys.as_slice(), calls, frame, log)? {
+    match eval_all(
+        alloc,
+        program,
+        parts,
+        tys.as_slice(),
+        context.calls,
+        frame,
+        log,
+    )? {
         PartsEnd::Cut => Ok(SourceEnd::Spent),
         PartsEnd::AllDone(values, left) => {
             let end = eval_call(alloc, program, fun, values.as_slice(), left, log)?;
@@ -191,25 +171,24 @@ fn eval_invoke(
     }
 }
 
-// How a construction ends: its parts from left to right, then the event that it is built.
+// How a construction ends: its parts from left to right, then the event that it is built. Where a
+// part is `Spent`, so is the whole, and nothing is built.
 #[cycle(evaluation)]
 fn eval_build(
-    alloc: Global,
-    program: &Program,
+    context: Context<'_>,
     con: ConRef,
     parts: &[Expr],
-    calls: u64,
     frame: &mut Frame,
     log: &mut Seq<Event>,
 ) -> Result<SourceEnd, AllocError>
-    ensures gives { (at : ℕ) (wanted : Option Ty) → IfOk result (λ end. (k : ℕ) → calls ≤ k
-        → Gives (meaning_of program.now (call_within program.now k) frame.old.fun (X.Build at con parts.now) wanted
-        frame.old.scope calls frame.old.values) log.old log.new end) }
-    ensures fewer { IfOk result (IsWithinCalls calls) }
+    ensures gives { (at : ℕ) → IfOk result
+        (EndsAs context.entry frame.old (X.Build at con parts.now) log.old log.new) }
+    ensures fewer { IfOk result (IsWithinCalls context.entry.calls) }
     ensures frame { OnOk result (frame.new ≡ frame.old) }
 {
+    let (alloc, program) = (context.alloc, context.program);
     let tys = types_of_fields(program.types.as_slice(), con);
-    match eval_all(alloc, program, parts, tys, calls, frame, log)? {
+    match eval_all(alloc, program, parts, tys, context.calls, frame, log)? {
         PartsEnd::Cut => Ok(SourceEnd::Spent),
         PartsEnd::AllDone(values, left) => {
             let value = Value::Con(con.con, values);
@@ -219,32 +198,38 @@ fn eval_build(
     }
 }
 
-// How an operator ends: its operands from left to right, then what it gives at their width.
+// How an operator with two operands ends: the operands from left to right, then what it gives at
+// their width. Where an operand is `Spent`, so is the whole.
 #[cycle(evaluation)]
 fn eval_binary(
-    alloc: Global,
-    program: &Program,
+    context: Context<'_>,
     op: Op,
     a: &Expr,
     b: &Expr,
-    wanted: Option<Ty>,
-    calls: u64,
     frame: &mut Frame,
     log: &mut Seq<Event>,
 ) -> Result<SourceEnd, AllocError>
-    ensures gives { (at : ℕ) → IfOk result (λ end. (k : ℕ) → calls ≤ k
-        → Gives (meaning_of program.now (call_within program.now k) frame.old.fun (X.Binary at op a.now b.now) wanted
-        frame.old.scope calls frame.old.values) log.old log.new end) }
-    ensures fewer { IfOk result (IsWithinCalls calls) }
+    ensures gives { (at : ℕ) → IfOk result
+        (EndsAs context.entry frame.old (X.Binary at op a.now b.now) log.old log.new) }
+    ensures fewer { IfOk result (IsWithinCalls context.entry.calls) }
     ensures frame { OnOk result (frame.new ≡ frame.old) }
 {
-    let ty = infer_operands(program, op, a, wanted, &mut frame.scope)?;
-    let first_wanted = wanted_of_operand(op, wanted);
-    let (first, left) = match eval_expr(alloc, program, a, first_wanted, calls, frame, log)? {
+    let ty = infer_operands(context.program, op, a, context.wanted, &mut frame.scope)?;
+    let first_wanted = wanted_of_operand(op, context.wanted);
+    let at_first = Context {
+        wanted: first_wanted,
+        ..context
+    };
+    let (first, left) = match eval_expr(at_first, a, frame, log)? {
         SourceEnd::Spent => return Ok(SourceEnd::Spent),
         SourceEnd::Done(value, left) => (number(&value), left),
     };
-    match eval_expr(alloc, program, b, Some(ty), left, frame, log)? {
+    let at_second = Context {
+        wanted: Some(ty),
+        calls: left,
+        ..context
+    };
+    match eval_expr(at_second, b, frame, log)? {
         SourceEnd::Spent => Ok(SourceEnd::Spent),
         SourceEnd::Done(value, left) => {
             let n = apply(op, width(ty), first, number(&value));
@@ -254,23 +239,25 @@ fn eval_binary(
 }
 
 // How a conversion to so many bits ends: its operand at no wanted type, then the low bits of it.
+// Where the operand is `Spent`, so is the whole.
 #[cycle(evaluation)]
 fn eval_to(
-    alloc: Global,
-    program: &Program,
+    context: Context<'_>,
     bits: u8,
     a: &Expr,
-    calls: u64,
     frame: &mut Frame,
     log: &mut Seq<Event>,
 ) -> Result<SourceEnd, AllocError>
-    ensures gives { (at : ℕ) (wanted : Option Ty) → IfOk result (λ end. (k : ℕ) → calls ≤ k
-        → Gives (meaning_of program.now (call_within program.now k) frame.old.fun (X.To at bits a.now) wanted
-        frame.old.scope calls frame.old.values) log.old log.new end) }
-    ensures fewer { IfOk result (IsWithinCalls calls) }
+    ensures gives { (at : ℕ) → IfOk result
+        (EndsAs context.entry frame.old (X.To at bits a.now) log.old log.new) }
+    ensures fewer { IfOk result (IsWithinCalls context.entry.calls) }
     ensures frame { OnOk result (frame.new ≡ frame.old) }
 {
-    match eval_expr(alloc, program, a, None, calls, frame, log)? {
+    let untyped = Context {
+        wanted: None,
+        ..context
+    };
+    match eval_expr(untyped, a, frame, log)? {
         SourceEnd::Spent => Ok(SourceEnd::Spent),
         SourceEnd::Done(value, left) => Ok(SourceEnd::Done(
             Value::Num(low_bits(number(&value), bits)),
@@ -279,110 +266,121 @@ fn eval_to(
     }
 }
 
-// How a `let` ends: what it binds at the binder's type, then its body with one more variable.
+// How a `let` ends: what it binds (`a`) at the binder's type, then its body (`b`) with one more
+// variable. Where what it binds is `Spent`, so is the whole.
 #[cycle(evaluation)]
 fn eval_let(
-    alloc: Global,
-    program: &Program,
+    context: Context<'_>,
     binder: Binder,
     a: &Expr,
     b: &Expr,
-    wanted: Option<Ty>,
-    calls: u64,
     frame: &mut Frame,
     log: &mut Seq<Event>,
 ) -> Result<SourceEnd, AllocError>
-    ensures gives { (at : ℕ) → IfOk result (λ end. (k : ℕ) → calls ≤ k
-        → Gives (meaning_of program.now (call_within program.now k) frame.old.fun
-        (X.Let at binder.var binder.ty a.now b.now) wanted
-        frame.old.scope calls frame.old.values) log.old log.new end) }
-    ensures fewer { IfOk result (IsWithinCalls calls) }
+    ensures gives { (at : ℕ) → IfOk result
+        (EndsAs context.entry frame.old (X.Let at binder.var binder.ty a.now b.now) log.old log.new) }
+    ensures fewer { IfOk result (IsWithinCalls context.entry.calls) }
     ensures frame { OnOk result (frame.new ≡ frame.old) }
 {
-    match eval_expr(alloc, program, a, Some(binder.ty), calls, frame, log)? {
+    let at_binder = Context {
+        wanted: Some(binder.ty),
+        ..context
+    };
+    match eval_expr(at_binder, a, frame, log)? {
         SourceEnd::Spent => Ok(SourceEnd::Spent),
         SourceEnd::Done(value, left) => {
             let depth = frame.depth();
             frame.push(binder, value)?;
-            let end = eval_expr(alloc, program, b, wanted, left, frame, log)?;
+            let at_body = Context {
+                calls: left,
+                ..context
+            };
+            let end = eval_expr(at_body, b, frame, log)?;
             frame.truncate(depth);
             Ok(end)
         }
     }
 }
 
-// How a match ends: its scrutinee, then the event that it is matched, then its clauses.
+// How a match ends: its scrutinee, then the event that it is matched, then its clauses. Where the
+// scrutinee is `Spent`, so is the whole, and nothing is matched.
 #[cycle(evaluation)]
 fn eval_match(
-    alloc: Global,
-    program: &Program,
+    context: Context<'_>,
     at: u32,
     scrutinee: &Expr,
     clauses: &[Clause],
-    wanted: Option<Ty>,
-    calls: u64,
     frame: &mut Frame,
     log: &mut Seq<Event>,
 ) -> Result<SourceEnd, AllocError>
-    ensures gives { IfOk result (λ end. (k : ℕ) → calls ≤ k
-        → Gives (meaning_of program.now (call_within program.now k) frame.old.fun
-        (X.Match at scrutinee.now clauses.now) wanted
-        frame.old.scope calls frame.old.values) log.old log.new end) }
-    ensures fewer { IfOk result (IsWithinCalls calls) }
+    ensures gives { IfOk result
+        (EndsAs context.entry frame.old (X.Match at scrutinee.now clauses.now) log.old log.new) }
+    ensures fewer { IfOk result (IsWithinCalls context.entry.calls) }
     ensures frame { OnOk result (frame.new ≡ frame.old) }
 {
+    let program = context.program;
     let ty = infer(program, scrutinee, None, &mut frame.scope)?;
-    let others = infer_match(program, ty, clauses, wanted, &mut frame.scope)?;
-    match eval_expr(alloc, program, scrutinee, None, calls, frame, log)? {
+    let others = infer_match(program, ty, clauses, context.wanted, &mut frame.scope)?;
+    let at_scrutinee = Context {
+        wanted: None,
+        ..context
+    };
+    match eval_expr(at_scrutinee, scrutinee, frame, log)? {
         SourceEnd::Spent => Ok(SourceEnd::Spent),
         SourceEnd::Done(value, left) => {
             log.push(Event::Matched(frame.fun, at))?;
+            let at_clauses = Context {
+                calls: left,
+                ..context
+            };
             let others = Some(others);
-            let end = eval_clauses(
-                alloc, program, &value, ty, clauses, wanted, others, left, frame, log,
-            )?;
+            let end = eval_clauses(at_clauses, &value, ty, clauses, others, frame, log)?;
             Ok(end)
         }
     }
 }
 
-// How the first clause that matches a value ends, or `0` where none does. One type is wanted of
-// the first of the clauses, and one of the others.
+// How the first clause that matches a value of this type ends, or 0 where none does. A type or none
+// is wanted of the first of the clauses, which the context has, and one of the others.
 #[cycle(evaluation)]
 fn eval_clauses(
-    alloc: Global,
-    program: &Program,
+    context: Context<'_>,
     value: &Value,
     ty: Ty,
     clauses: &[Clause],
-    first_wanted: Option<Ty>,
     others: Option<Ty>,
-    calls: u64,
     frame: &mut Frame,
     log: &mut Seq<Event>,
 ) -> Result<SourceEnd, AllocError>
-    ensures gives { IfOk result (λ end. (k : ℕ) → calls ≤ k
-        → Gives (first_of program.now.types ty
-        (map (clause_meaning program.now (call_within program.now k) frame.old.fun) clauses.now) first_wanted others
-        frame.old.scope value.now calls frame.old.values) log.old log.new end) }
-    ensures fewer { IfOk result (IsWithinCalls calls) }
+    ensures gives { IfOk result
+        (EndsAsFirst context.entry frame.old ty clauses.now others value.now log.old log.new) }
+    ensures fewer { IfOk result (IsWithinCalls context.entry.calls) }
     ensures frame { OnOk result (frame.new ≡ frame.old) }
 {
-    let mut wanted = first_wanted;
+    let program = context.program;
+    let mut wanted = context.wanted;
     for clause in clauses {
         if matches(&clause.pat, value) {
             let depth = frame.depth();
-            frame.bind(alloc, program.types.as_slice(), &clause.pat, ty, value)?;
-            let end = eval_expr(alloc, program, &clause.body, wanted, calls, frame, log)?;
+            frame.bind(
+                context.alloc,
+                program.types.as_slice(),
+                &clause.pat,
+                ty,
+                value,
+            )?;
+            let at_body = Context { wanted, ..context };
+            let end = eval_expr(at_body, &clause.body, frame, log)?;
             frame.truncate(depth);
             return Ok(end);
         }
         wanted = others;
     }
-    Ok(SourceEnd::Done(Value::Num(0), calls))
+    Ok(SourceEnd::Done(Value::Num(0), context.calls))
 }
 
-// How parts end, from left to right, each at the type in its place, or at none behind the types.
+// How parts end, from left to right, each at the type in its place, or at none behind the types:
+// with all their values, or cut where one is `Spent`.
 #[cycle(evaluation)]
 fn eval_all(
     alloc: Global,
@@ -402,8 +400,13 @@ fn eval_all(
     let mut values = Seq::new(alloc);
     let mut left = calls;
     for (i, part) in parts.iter().enumerate() {
-        let wanted = wanted_at(tys, i);
-        match eval_expr(alloc, program, part, wanted, left, frame, log)? {
+        let context = Context {
+            alloc,
+            program,
+            wanted: wanted_at(tys, i),
+            calls: left,
+        };
+        match eval_expr(context, part, frame, log)? {
             SourceEnd::Spent => return Ok(PartsEnd::Cut),
             SourceEnd::Done(value, rest) => {
                 values.push(value)?;
@@ -414,7 +417,7 @@ fn eval_all(
     Ok(PartsEnd::AllDone(values, left))
 }
 
-// The type that is wanted of the part with this number.
+// The type that is wanted of the part with this number; none behind the last of the types.
 fn wanted_at(tys: &[Ty], i: usize) -> Option<Ty>
     ensures { result ≡ slice_get tys.now i }
 {

@@ -16,30 +16,30 @@ pub eval_expr-returns-in_ok-value-in-Var-clause-gives : goal.eval_expr-returns-i
 eval_expr-returns-in_ok-value-in-Var-clause-gives t c = λ k h. rw (c.in-Var.is, meaning-Var, ← c.as_slice.ensures, ← c.in_ok-value-in-Var.ensures) (Gives-here _ _ _)
 
 pub eval_expr-returns-in-Call-clause-gives : goal.eval_expr-returns-in-Call-clause-gives
-eval_expr-returns-in-Call-clause-gives t c = rw c.in-Call.is (simp (← c.as_slice-in-Call.ensures) (c.eval_invoke.ensures.gives _ _))
+eval_expr-returns-in-Call-clause-gives t c = rw c.in-Call.is (simp (← c.as_slice-in-Call.ensures) (c.eval_invoke.ensures.gives _))
 
 pub eval_expr-returns-in-Build-clause-gives : goal.eval_expr-returns-in-Build-clause-gives
-eval_expr-returns-in-Build-clause-gives t c = rw c.in-Build.is (simp (← c.as_slice-in-Build.ensures) (c.eval_build.ensures.gives _ _))
+eval_expr-returns-in-Build-clause-gives t c = rw c.in-Build.is (simp (← c.as_slice-in-Build.ensures) (c.eval_build.ensures.gives _))
 
 pub eval_expr-returns-in-Binary-clause-gives : goal.eval_expr-returns-in-Binary-clause-gives
 eval_expr-returns-in-Binary-clause-gives t c = rw c.in-Binary.is (simp (← c.get.ensures, ← c.get-in-Binary.ensures) (c.eval_binary.ensures.gives _))
 
 pub eval_expr-returns-in-To-clause-gives : goal.eval_expr-returns-in-To-clause-gives
-eval_expr-returns-in-To-clause-gives t c = rw c.in-To.is (simp (← c.get-in-To.ensures) (c.eval_to.ensures.gives _ _))
+eval_expr-returns-in-To-clause-gives t c = rw c.in-To.is (simp (← c.get-in-To.ensures) (c.eval_to.ensures.gives _))
 
 pub eval_expr-returns-in-Let-clause-gives : goal.eval_expr-returns-in-Let-clause-gives
 eval_expr-returns-in-Let-clause-gives t c = rw c.in-Let.is (simp (← c.get-in-Let.ensures, ← c.get-in-Let-2.ensures) (c.eval_let.ensures.gives _))
 
 pub eval_expr-returns-in-Match-clause-gives : goal.eval_expr-returns-in-Match-clause-gives
-eval_expr-returns-in-Match-clause-gives t c = rw c.in-Match.is (simp (← c.get-in-Match.ensures, ← c.as_slice-in-Match.ensures) c.eval_match.ensures.gives)
+eval_expr-returns-in-Match-clause-gives t c = rw c.in-Match.is (simp (← c.get-in-Match.ensures, ← c.as_slice-clauses.ensures) c.eval_match.ensures.gives)
 
 -- a call
 pub eval_invoke-returns-in-Cut-clause-gives : goal.eval_invoke-returns-in-Cut-clause-gives
-eval_invoke-returns-in-Cut-clause-gives t c = λ at wanted k h. rw meaning-Call
+eval_invoke-returns-in-Cut-clause-gives t c = λ at k h. rw meaning-Call
     (Gives-cut _ _ _ _ (rw (c.in-Cut.is, c.as_slice.ensures, c.in_ok-tys.ensures) at (c.in_ok-eval_all.ensures.gives k h)))
 
 pub eval_invoke-returns-clause-gives : goal.eval_invoke-returns-clause-gives
-eval_invoke-returns-clause-gives t c = λ at wanted k h. rw meaning-Call
+eval_invoke-returns-clause-gives t c = λ at k h. rw meaning-Call
     (let fewer = rw c.in-AllDone.is at c.in_ok-eval_all.ensures.fewer in
     Gives-all _ _ _ _ _ _ _ _ (rw (c.in-AllDone.is, c.as_slice.ensures, c.in_ok-tys.ensures) at (c.in_ok-eval_all.ensures.gives k h))
     (rw c.as_slice-in-AllDone.ensures at (c.in_ok-end-in-AllDone.ensures.gives k (le_trans fewer h))))
@@ -63,21 +63,21 @@ eval_call-returns-clause-gives t c = λ k h.
 
 -- a construction
 pub eval_build-returns-in-Cut-clause-gives : goal.eval_build-returns-in-Cut-clause-gives
-eval_build-returns-in-Cut-clause-gives t c = λ at wanted k h. rw meaning-Build
+eval_build-returns-in-Cut-clause-gives t c = λ at k h. rw meaning-Build
     (Gives-cut _ _ _ _ (rw (c.in-Cut.is, c.types_of_fields-tys.ensures, c.as_slice.ensures) at (c.in_ok-eval_all.ensures.gives k h)))
 
 pub eval_build-returns-in_ok-push-in-AllDone-clause-gives : goal.eval_build-returns-in_ok-push-in-AllDone-clause-gives
-eval_build-returns-in_ok-push-in-AllDone-clause-gives t c = λ at wanted k h. rw meaning-Build
+eval_build-returns-in_ok-push-in-AllDone-clause-gives t c = λ at k h. rw meaning-Build
     (Gives-all _ _ _ _ _ _ _ _ (rw (c.in-AllDone.is, c.types_of_fields-tys.ensures, c.as_slice.ensures) at (c.in_ok-eval_all.ensures.gives k h))
     (Gives-after _ _ _ _ _ _ (rw c.in_ok-copy-in-AllDone.ensures at c.in_ok-push-in-AllDone.ensures.ok) (Gives-here _ _ _)))
 
 -- one operand
 pub eval_to-returns-in-Spent-clause-gives : goal.eval_to-returns-in-Spent-clause-gives
-eval_to-returns-in-Spent-clause-gives t c = λ at wanted k h. rw meaning-To
+eval_to-returns-in-Spent-clause-gives t c = λ at k h. rw meaning-To
     (Gives-spent _ _ _ _ (rw c.in-Spent.is at (c.in_ok-eval_expr.ensures.gives k h)))
 
 pub eval_to-returns-in-Done-clause-gives : goal.eval_to-returns-in-Done-clause-gives
-eval_to-returns-in-Done-clause-gives t c = λ at wanted k h. rw meaning-To
+eval_to-returns-in-Done-clause-gives t c = λ at k h. rw meaning-To
     (rw (c.low_bits.ensures, c.number.ensures)
     (Gives-done _ _ _ _ _ _ _ _ (rw c.in-Done.is at (c.in_ok-eval_expr.ensures.gives k h)) (Gives-here _ _ _)))
 
@@ -126,8 +126,8 @@ eval_match-returns-in_ok-end-in-Done-clause-gives t c = λ k h. rw meaning-Match
 -- clauses
 pub eval_clauses-returns-then-matches-clause-gives : goal.eval_clauses-returns-then-matches-clause-gives
 eval_clauses-returns-then-matches-clause-gives t c = λ k h.
-    let hit = first_of-hit c.args.program.now (call_within c.args.program.now k) c.args.frame.now.fun c.args.frame.now.scope c.args.calls c.args.frame.now.values
-    c.args.program.now.types c.args.ty c.loop-clause.wanted c.args.others c.args.clauses.now c.loop-clause.clause-index
+    let hit = first_of-hit c.args.context.program.now (call_within c.args.context.program.now k) c.args.frame.now.fun c.args.frame.now.scope c.args.context.calls c.args.frame.now.values
+    c.args.context.program.now.types c.args.ty c.loop-clause.wanted c.args.others c.args.clauses.now c.loop-clause.clause-index
     c.clause-item.result c.args.value.now c.loop-clause-test.true c.clause-item.is (sym c.matches.ensures ∙ c.if-matches.true) in
     rw (← c.loop-clause.invariant.log, c.loop-clause.invariant.gives k h, hit)
     (rw (c.in_ok-bind.ensures.fun, c.in_ok-bind.ensures.scope, c.in_ok-bind.ensures.values, c.loop-clause.invariant.frame, c.as_slice.ensures) at (c.in_ok-end.ensures.gives k h))
@@ -137,8 +137,8 @@ eval_clauses-loop-clause-preserved t c = record {
   frame = c.loop-clause.invariant.frame;
   log = c.loop-clause.invariant.log;
   gives = λ k h. c.loop-clause.invariant.gives k h
-      ∙ first_of-miss c.args.program.now (call_within c.args.program.now k) c.args.frame.now.fun c.args.frame.now.scope c.args.calls c.args.frame.now.values
-      c.args.program.now.types c.args.ty c.loop-clause.wanted c.args.others c.args.clauses.now c.loop-clause.clause-index
+      ∙ first_of-miss c.args.context.program.now (call_within c.args.context.program.now k) c.args.frame.now.fun c.args.frame.now.scope c.args.context.calls c.args.frame.now.values
+      c.args.context.program.now.types c.args.ty c.loop-clause.wanted c.args.others c.args.clauses.now c.loop-clause.clause-index
       c.clause-item.result c.args.value.now c.loop-clause-test.true c.clause-item.is (sym c.matches.ensures ∙ c.if-matches.false);
 }
 
@@ -153,7 +153,7 @@ eval_clauses-returns-clause-gives t c = λ k h. let none : drop c.loop-clause.cl
 pub eval_all-returns-in-Spent-clause-gives : goal.eval_all-returns-in-Spent-clause-gives
 eval_all-returns-in-Spent-clause-gives t c = λ k h.
     parts-cut _ _ _ _ _ _ _ (c.loop-i.invariant.gives k h)
-    (all_of-next c.args.program.now (call_within c.args.program.now k) c.args.frame.now.fun c.args.frame.now.scope c.loop-i.left c.args.frame.now.values c.args.parts.now c.args.tys.now c.loop-i.i c.index-parts-i.result c.wanted_at-wanted.result c.loop-i.values c.loop-i-test.true c.index-parts-i.is c.wanted_at-wanted.ensures)
+    (all_of-next c.args.program.now (call_within c.args.program.now k) c.args.frame.now.fun c.args.frame.now.scope c.loop-i.left c.args.frame.now.values c.args.parts.now c.args.tys.now c.loop-i.i c.index-parts-i.result c.wanted_at.result c.loop-i.values c.loop-i-test.true c.index-parts-i.is c.wanted_at.ensures)
     (rw (c.in-Spent.is, c.loop-i.invariant.frame) at (c.in_ok-eval_expr.ensures.gives k (le_trans c.loop-i.invariant.fewer h)))
 
 pub eval_all-loop-i-preserved : goal.eval_all-loop-i-preserved
@@ -163,7 +163,7 @@ eval_all-loop-i-preserved t c =
       frame = c.in_ok-eval_expr.ensures.frame ∙ c.loop-i.invariant.frame;
       gives = λ k h. rw c.in_ok-push-in-Done.ensures.ok
           (parts-next _ _ _ _ c.args.log.now c.loop-i.log c.eval_expr.new.log (c.loop-i.invariant.gives k h)
-          (all_of-next c.args.program.now (call_within c.args.program.now k) c.args.frame.now.fun c.args.frame.now.scope c.loop-i.left c.args.frame.now.values c.args.parts.now c.args.tys.now c.loop-i.i c.index-parts-i.result c.wanted_at-wanted.result c.loop-i.values c.loop-i-test.true c.index-parts-i.is c.wanted_at-wanted.ensures)
+          (all_of-next c.args.program.now (call_within c.args.program.now k) c.args.frame.now.fun c.args.frame.now.scope c.loop-i.left c.args.frame.now.values c.args.parts.now c.args.tys.now c.loop-i.i c.index-parts-i.result c.wanted_at.result c.loop-i.values c.loop-i-test.true c.index-parts-i.is c.wanted_at.ensures)
           _ _ (rw (c.in-Done.is, c.loop-i.invariant.frame) at (c.in_ok-eval_expr.ensures.gives k (le_trans c.loop-i.invariant.fewer h))));
     }
 

@@ -10,31 +10,31 @@ abbrev pub decreases-eval_call : goal.decreases-eval_call
 decreases-eval_call l = l.left * call_weight l.program.now
 
 abbrev pub decreases-eval_expr : goal.decreases-eval_expr
-decreases-eval_expr l = l.left * call_weight l.program.now + (3 * size-Expr l.expr.now + 1)
+decreases-eval_expr l = l.context.calls * call_weight l.context.program.now + (3 * size-Expr l.expr.now + 1)
 
 abbrev pub decreases-eval_all : goal.decreases-eval_all
 decreases-eval_all l = l.calls * call_weight l.program.now + (3 * goal.size-eval_all l + 2)
 
 abbrev pub decreases-eval_invoke : goal.decreases-eval_invoke
-decreases-eval_invoke l = l.calls * call_weight l.program.now + (3 * goal.size-eval_invoke l + 3)
+decreases-eval_invoke l = l.context.calls * call_weight l.context.program.now + (3 * goal.size-eval_invoke l + 3)
 
 abbrev pub decreases-eval_build : goal.decreases-eval_build
-decreases-eval_build l = l.calls * call_weight l.program.now + (3 * goal.size-eval_build l + 3)
+decreases-eval_build l = l.context.calls * call_weight l.context.program.now + (3 * goal.size-eval_build l + 3)
 
 abbrev pub decreases-eval_to : goal.decreases-eval_to
-decreases-eval_to l = l.calls * call_weight l.program.now + (3 * goal.size-eval_to l + 2)
+decreases-eval_to l = l.context.calls * call_weight l.context.program.now + (3 * goal.size-eval_to l + 2)
 
 abbrev pub decreases-eval_clauses : goal.decreases-eval_clauses
-decreases-eval_clauses l = l.calls * call_weight l.program.now + (3 * most size-Clause l.clauses.now + 2)
+decreases-eval_clauses l = l.context.calls * call_weight l.context.program.now + (3 * most size-Clause l.clauses.now + 2)
 
 abbrev pub decreases-eval_let : goal.decreases-eval_let
-decreases-eval_let l = l.calls * call_weight l.program.now + (3 * max (size-Expr l.a.now) (size-Expr l.b.now) + 2)
+decreases-eval_let l = l.context.calls * call_weight l.context.program.now + (3 * max (size-Expr l.a.now) (size-Expr l.b.now) + 2)
 
 abbrev pub decreases-eval_binary : goal.decreases-eval_binary
-decreases-eval_binary l = l.calls * call_weight l.program.now + (3 * max (size-Expr l.a.now) (size-Expr l.b.now) + 2)
+decreases-eval_binary l = l.context.calls * call_weight l.context.program.now + (3 * max (size-Expr l.a.now) (size-Expr l.b.now) + 2)
 
 abbrev pub decreases-eval_match : goal.decreases-eval_match
-decreases-eval_match l = l.calls * call_weight l.program.now + (3 * max (size-Expr l.scrutinee.now) (most size-Clause l.clauses.now) + 3)
+decreases-eval_match l = l.context.calls * call_weight l.context.program.now + (3 * max (size-Expr l.scrutinee.now) (most size-Clause l.clauses.now) + 3)
 
 -- what is left to do gives what all of it gives
 abbrev pub invariant-eval_all-loop-i : goal.invariant-eval_all-loop-i
@@ -50,7 +50,7 @@ abbrev pub invariant-eval_clauses-loop-clause : goal.invariant-eval_clauses-loop
 invariant-eval_clauses-loop-clause l = record {
   frame : l.frame ≡ l.initial.frame;
   log : l.log ≡ l.initial.log;
-  gives : (k : ℕ) → l.calls ≤ k →
-      first_of l.program.types l.ty (map (clause_meaning l.program (call_within l.program k) l.initial.frame.fun) l.clauses) l.initial.wanted l.others l.initial.frame.scope l.value l.calls l.initial.frame.values
-      ≡ first_of l.program.types l.ty (map (clause_meaning l.program (call_within l.program k) l.initial.frame.fun) (drop l.clause-index l.clauses)) l.wanted l.others l.initial.frame.scope l.value l.calls l.initial.frame.values;
+  gives : (k : ℕ) → l.context.calls ≤ k →
+      first_of l.context.program.now.types l.ty (map (clause_meaning l.context.program.now (call_within l.context.program.now k) l.initial.frame.fun) l.clauses) l.initial.wanted l.others l.initial.frame.scope l.value l.context.calls l.initial.frame.values
+      ≡ first_of l.context.program.now.types l.ty (map (clause_meaning l.context.program.now (call_within l.context.program.now k) l.initial.frame.fun) (drop l.clause-index l.clauses)) l.wanted l.others l.initial.frame.scope l.value l.context.calls l.initial.frame.values;
 }
