@@ -1,4 +1,7 @@
--- Copies by a stack of frames: a value with a hole, from the outermost construction to the innermost.
+-- Copies of values by a stack of frames, without recursion. A frame is a construction that is half copied:
+-- the number of its constructor, the copies of its first subvalues, a hole where one subvalue is being
+-- copied, and the subvalues behind the hole. A stack of frames, from the outermost construction to the
+-- innermost, is a value with one hole. The nodes of a value are its numbers and constructions.
 use Rattle.std.specs.Prelude.{◌≡◌, ◌+◌, ◌<◌, ◌≤◌, ℕ, List, [], ◌∷◌, ◌++◌, map, sum}
 use Rattle.rb_core.specs.declared.value.Value.{Value, Con}
 use Rattle.rb_core.specs.declared.copying.Frame.{Frame}
@@ -6,28 +9,35 @@ use Rattle.rb_core.specs.declared.copying.Turn.{Turn}
 use Rattle.rb_core.specs.declared.copying.Turn.TheVariants.{Copied, Next}
 use Rattle.rb_core.specs.Values.{node_count}
 
--- the construction with a value in its hole
+-- the construction that a frame becomes with the value v in its hole
 abbrev pub filled : Frame → Value → Value
 filled f v = Con f.con (f.copied ++ v ∷ f.rest.now)
 
+-- the whole that a stack of frames becomes with the value v in the hole of the innermost; v itself, where
+-- there is no frame
 abbrev pub plugged : List Frame → Value → Value
 plugged [] v = v
 plugged (f ∷ fs) v = filled f (plugged fs v)
 
--- the nodes that are not copied yet
+-- how many nodes the subvalues behind a frame's hole have: those that are not copied yet
 abbrev pub nodes_left : Frame → ℕ
 nodes_left f = sum (map node_count f.rest.now)
 
+-- how many nodes stand behind the holes of all frames of a stack; 0 where there is no frame
 abbrev pub remaining : List Frame → ℕ
 remaining fs = sum (map nodes_left fs)
 
--- what one step down does: the whole stays the same, and fewer nodes remain
+-- what a step down at the value v does to the stack `old`: either v has no subvalue, is copied as w, and the
+-- stack stays; or the first subvalue of v is next, the stack `new` with it is still the same whole, and it
+-- and what remains behind holes have fewer nodes than v and what remained had
 abbrev pub Enters : Value → List Frame → List Frame → Turn → Type 0
 Enters v old new (Copied w) = (w ≡ v) × (new ≡ old)
 Enters v old new (Next first) =
     (plugged new first.now ≡ plugged old v) × (node_count first.now + remaining new < node_count v + remaining old)
 
--- what a step up does
+-- what going up does with a copy v of what the hole of the stack `old` wants: either nothing remains, and w
+-- is the copy of the whole; or the value `next` is the one to copy next, the stack `new` with it is still the
+-- same whole, and it and what remains behind holes have no more nodes than what remained had
 abbrev pub Leaves : Value → List Frame → List Frame → Turn → Type 0
 Leaves v old new (Copied w) = w ≡ plugged old v
 Leaves v old new (Next next) =

@@ -1,33 +1,38 @@
--- The limits of files, programs and runs.
+-- The limits of files, programs and runs. Each is the greatest count that is allowed.
 use Rattle.std.specs.Prelude.{ℕ}
 
--- of one file
+-- the most bytes that a program's file may have
 abbrev pub most_file_bytes : ℕ
 most_file_bytes = 262144
 
+-- the most data types that a program may declare
 abbrev pub most_types : ℕ
 most_types = 1000
 
+-- the most functions that a program may declare
 abbrev pub most_functions : ℕ
 most_functions = 10000
 
--- of a type, a constructor, a function and a layout
+-- the most constructors that one data type may have
 abbrev pub most_constructors : ℕ
 most_constructors = 256
 
+-- the most fields that one constructor may have
 abbrev pub most_fields : ℕ
 most_fields = 32
 
+-- the most parameters that one function may have
 abbrev pub most_parameters : ℕ
 most_parameters = 32
 
+-- the most words that the shape of one layout may have
 abbrev pub most_words : ℕ
 most_words = 8
 
--- the levels of nesting, the outermost counted
+-- the most levels that a program's text may nest, the outermost counted
 abbrev pub most_levels : ℕ
 most_levels = 128
 
--- the calls of a run, that of `main` counted
+-- the most calls that a run may be given, that of `main` counted
 abbrev pub most_calls : ℕ
 most_calls = 1000000000

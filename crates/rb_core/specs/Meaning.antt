@@ -1,9 +1,14 @@
 -- The source meaning: what a program does, without any layout and any memory.
 --
--- Strict, from left to right, the first clause that matches. Each call takes one of the calls left,
--- and a call with none left ends the whole. Constructions and matches are events of a log. The
--- operators work at their operands' width, so the meaning carries the type that is wanted and the
--- scope, as typing does. Total by defaults that typed programs never meet.
+-- Strict, from left to right, the first clause that matches. Each call takes one of the calls left, and a
+-- call with none left ends the whole. Constructions and matches are events of a log. The operators work at
+-- their operands' width, so the meaning carries the type that is wanted and the scope, as typing does. Total
+-- by defaults that typed programs never meet.
+--
+-- A scope is a list of binders, variables with their types; an environment is a list of bindings, variables
+-- with their values; both run from the outermost to the innermost. An outcome is a log and an end: done, with
+-- a value and the calls left, or spent. Where several parts are done one after the other, they are the
+-- arguments of a call or the fields of a construction.
 use Rattle.std.specs.Prelude.{ℕ, zero, suc, ◌+◌, ◌-◌, ◌*◌, ◌%◌, ◌^◌, List, [], ◌∷◌, ◌++◌, map, ◌==◌, nat_lt, if◌then◌else◌, Option, Some, None, slice_get, bit_and, bit_or, bit_xor}
 use Rattle.rb_core.specs.declared.value.Value.{Value, Num, Con}
 use Rattle.rb_core.specs.declared.value.Value.TheOpen as V
@@ -36,14 +41,17 @@ use Rattle.rb_core.specs.Inference.{Inference, width_of, with_binder, binders, o
 
 -- Numbers
 
+-- the number that one layer of a value is; 0 for a construction
 abbrev pub number_in : V.Value-F Value → ℕ
 number_in (V.Num n) = n
 number_in (V.Con k vs) = 0
 
+-- the number that a value is; 0 for a construction, which typed programs never have where a number is due
 abbrev pub number_of : Value → ℕ
 number_of v = number_in (Values.out-Value v)
 
--- what an operator gives at operands of so many bits: the first six modulo two to the width
+-- what an operator gives at operands a and b of so many bits: the first six modulo two to the width; `eq` and
+-- `lt` give 1 or 0
 abbrev pub op_value : Op → ℕ → ℕ → ℕ → ℕ
 op_value Op.Add width a b = (a + b) % 2 ^ width
 op_value Op.Sub width a b = (a + (2 ^ width - b % 2 ^ width)) % 2 ^ width
@@ -56,87 +64,103 @@ op_value Op.Lt width a b = if nat_lt a b then 1 else 0
 
 -- Variables
 
--- the last binding of a variable; a typed program has one
+-- the value of the last binding of variable x in an environment; d where there is none
 abbrev pub value_or : Value → ℕ → List Binding → Value
 value_or d x [] = d
 value_or d x (b ∷ bs) = value_or (if b.var == x then b.value else d) x bs
 
+-- the value of variable x in an environment, that of its innermost binding; 0 where there is none, which
+-- typed programs never meet
 abbrev pub value_in : List Binding → ℕ → Value
 value_in env x = value_or (Num 0) x env
 
--- the environment with one more binding
+-- the environment with one more binding, the innermost: variable x with value v
 abbrev pub with_value : List Binding → ℕ → Value → List Binding
 with_value env x v = env ++ record { var = x; value = v } ∷ []
 
 -- Outcomes
 
+-- the outcome without events that ends with value v and so many calls left
 abbrev pub done : Value → ℕ → Outcome
 done v left = record { log = []; end = Done v left }
 
+-- the outcome without events that ends where a call is due and none is left
 abbrev pub spent : Outcome
 spent = record { log = []; end = Spent }
 
--- these events, and then what follows them
+-- the events of a log, and then the outcome o: its events behind them, and its end
 abbrev pub after : List Event → Outcome → Outcome
 after log o = record { log = log ++ o.log; end = o.end }
 
+-- what follows an end: where it is done, what `go` does with the value and the calls left; else it is spent
 abbrev pub at_end : SourceEnd → (Value → ℕ → Outcome) → Outcome
 at_end (Done v left) go = go v left
 at_end Spent go = spent
 
--- goes on from where a part is done
+-- an outcome and what follows its end: where it is done, `go` with its value and the calls left; its events
+-- come first
 unfoldable pub then_do : Outcome → (Value → ℕ → Outcome) → Outcome
 then_do o go = after o.log (at_end o.end go)
 
--- what several parts do
+-- what several parts do, from left to right: their events, and their values with the calls left, or that they
+-- were cut where a call was due and none was left
 pub record PartsOutcome : Type 0 where
   pub log : List Event
   pub end : PartsEnd
 
+-- what follows the end of a part: where it is done, what `go` does with its value and the calls left; else
+-- the parts are cut
 abbrev pub at_part : SourceEnd → (Value → ℕ → PartsOutcome) → PartsOutcome
 at_part (Done v left) go = go v left
 at_part Spent go = record { log = []; end = Cut }
 
+-- the events of a log, and then the outcome o of parts: its events behind them, and its end
 abbrev pub parts_after : List Event → PartsOutcome → PartsOutcome
 parts_after log o = record { log = log ++ o.log; end = o.end }
 
+-- what follows the end of parts: where all are done, what `go` does with their values and the calls left;
+-- where they are cut, the whole is spent
 abbrev pub at_parts_end : PartsEnd → (List Value → ℕ → Outcome) → Outcome
 at_parts_end (AllDone vs left) go = go vs left
 at_parts_end Cut go = spent
 
--- goes on from where all parts are done
+-- the outcome of parts and what follows their end: where all are done, `go` with their values and the calls
+-- left; the parts' events come first
 unfoldable pub then_with : PartsOutcome → (List Value → ℕ → Outcome) → Outcome
 then_with o go = after o.log (at_parts_end o.end go)
 
 -- Expressions
 
--- what an expression does, at a wanted type or none and a scope, with the calls left and the values
--- of its variables
+-- what an expression does, given the type that is wanted of it or none, its scope, the calls left, and its
+-- environment
 abbrev pub Meaning : Type 0
 Meaning = Option Ty → List Binder → ℕ → List Binding → Outcome
 
--- what a call of a function does, with the calls left and its arguments
+-- what a call does, given the function's number, the calls left, and the arguments
 abbrev pub Calls : Type 0
 Calls = ℕ → ℕ → List Value → Outcome
 
--- the type that is wanted of the first part, and those of the parts behind it
+-- what is wanted of the first of several parts, by the list of wanted types: none where the list has ended
 abbrev pub first_wanted : List Ty → Option Ty
 first_wanted [] = None
 first_wanted (t ∷ ts) = Some t
 
+-- the types that are wanted of the parts behind the first; none where the list has ended
 abbrev pub later_wanted : List Ty → List Ty
 later_wanted [] = []
 later_wanted (t ∷ ts) = ts
 
--- parts from left to right, each at its wanted type, behind those whose values are vs
+-- what parts do, from left to right, each at the type in its place in ts, or at none behind them; `left`
+-- calls are left before them, and vs are the values of the parts before them. A part that is spent cuts them
 abbrev pub all_of : List Meaning → List Ty → List Binder → List Value → ℕ → List Binding → PartsOutcome
 all_of [] ts scope vs left env = record { log = []; end = AllDone vs left }
 all_of (m ∷ ms) ts scope vs left env =
     let o = m (first_wanted ts) scope left env in
     parts_after o.log (at_part o.end (λ v rest. all_of ms (later_wanted ts) scope (vs ++ v ∷ []) rest env))
 
--- the first clause that matches a value of type t, with the pattern's variables bound; one type is
--- wanted of the first clause, and one of the others
+-- what the first clause that matches the value v of type t does, with the variables of its pattern bound;
+-- `wanted` is wanted of the first of these clauses and `others` of each other one. Where no clause matches,
+-- which does not occur in a covered program, it is done with 0
 abbrev pub first_of : List DataDecl → Ty → List (Pat × Meaning) → Option Ty → Option Ty → List Binder → Value → ℕ
     → List Binding → Outcome
 first_of types t [] wanted others scope v left env = done (Num 0) left
@@ -144,33 +168,40 @@ first_of types t (c ∷ cs) wanted others scope v left env =
     if matches_of c.0 v then c.1 wanted (scope ++ binders types c.0 t) left (env ++ bindings c.0 v)
     else first_of types t cs others others scope v left env
 
--- what is done with the values of the parts
+-- what a construction does with the values vs of its fields: its event, and then it is done
 abbrev pub built : ConRef → List Value → ℕ → Outcome
 built c vs left = after (Built c.ty (Con c.con vs) ∷ []) (done (Con c.con vs) left)
 
+-- what an operator does with the values v and w of its operands, of so many bits: it is done with what it
+-- gives
 abbrev pub combined : Op → ℕ → Value → Value → ℕ → Outcome
 combined op width v w left = done (Num (op_value op width (number_of v) (number_of w))) left
 
+-- what a conversion does with the value v of its operand: it is done with the low bits of its number
 abbrev pub cut_to : ℕ → Value → ℕ → Outcome
 cut_to bits v left = done (Num (number_of v % 2 ^ bits)) left
 
--- a part with its meaning, and a clause with its pattern and its body's meaning
+-- a part of an expression, with what it does
 abbrev pub Part : Type 0
 Part = Expr × Meaning
 
+-- a clause, with its pattern and what its body does
 abbrev pub Branch : Type 0
 Branch = Clause × (Pat × Meaning)
 
+-- what a part does
 abbrev pub means : Part → Meaning
 means part = part.1
 
+-- a clause's pattern, and what its body does
 abbrev pub branch_means : Branch → Pat × Meaning
 branch_means branch = branch.1
 
+-- a clause's pattern, and the type that is read off its body
 abbrev pub branch_inferred : Program → Branch → Pat × Inference
 branch_inferred p branch = clause_inferred p.types p.funs branch.0
 
--- one expression of function f, with what its parts do in their places
+-- what one layer of an expression of function f does, from what its parts do; a call does as `calls` has it
 abbrev pub meaning_step : Program → Calls → ℕ → Expr-F Part Branch → Meaning
 meaning_step p calls f (E.Num at n) wanted scope left env = done (Num n) left
 meaning_step p calls f (E.Var at x) wanted scope left env = done (value_in env x) left
@@ -191,36 +222,41 @@ meaning_step p calls f (E.Match at e cs) wanted scope left env =
     then_do (e.1 None scope left env) (λ v rest. after (Matched f at ∷ [])
     (first_of p.types t (map branch_means cs) wanted others scope v rest env))
 
+-- one layer of a clause: its pattern, and what its body does
 abbrev pub clause_step : Clause-F Part Branch → Pat × Meaning
 clause_step c = (c.pat, c.body.1)
 
--- an expression of function f, where calls do as given
+-- what an expression of function f does, where a call does as `calls` has it
 abbrev pub meaning_of : Program → Calls → ℕ → Expr → Meaning
 meaning_of p calls f = para-Expr Meaning (Pat × Meaning) (meaning_step p calls f) clause_step
 
+-- a clause of function f: its pattern, and what its body does, where a call does as `calls` has it
 abbrev pub clause_meaning : Program → Calls → ℕ → Clause → Pat × Meaning
 clause_meaning p calls f = para-Clause Meaning (Pat × Meaning) (meaning_step p calls f) clause_step
 
 -- Calls
 
--- the parameters with their arguments
+-- parameters bound to arguments, each to the one in its place, up to where either list ends
 abbrev pub arguments : List Param → List Value → List Binding
 arguments [] vs = []
 arguments (p ∷ ps) [] = []
 arguments (p ∷ ps) (v ∷ vs) = record { var = p.var; value = v } ∷ arguments ps vs
 
--- a function's body at its result type, with its parameters bound to the arguments
+-- what the body of function g does at its result type, with so many calls left and its parameters bound to
+-- the arguments vs; where the program has no such function, it is done with 0
 abbrev pub body_of : Program → Calls → Option Fun → ℕ → ℕ → List Value → Outcome
 body_of p calls None g left vs = done (Num 0) left
 body_of p calls (Some f) g left vs =
     meaning_of p calls g f.body (Some f.result) (map binder_of f.params) left (arguments f.params vs)
 
--- a call, where calls nest at most k deep
+-- what a call of function g does, with so many calls left, of which it takes one, and the arguments vs, where
+-- calls nest at most k deep: it is spent where no call is left, or k is 0
 abbrev pub call_within : Program → ℕ → Calls
 call_within p k g zero vs = spent
 call_within p zero g (suc left) vs = spent
 call_within p (suc k) g (suc left) vs = body_of p (call_within p k) (slice_get p.funs g) g left vs
 
--- a call of function g with n calls left: calls nest no deeper than there are calls
+-- what a call of function g does, with n calls left and the arguments vs: calls nest no deeper than there are
+-- calls, so n bounds both
 abbrev pub call_of : Program → Calls
 call_of p g n vs = call_within p n g n vs

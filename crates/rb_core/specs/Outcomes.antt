@@ -1,4 +1,6 @@
--- How outcomes compare: the calls that are left at an end, and what more calls do to an outcome.
+-- How outcomes compare: the calls that are left at an end, and what more calls do to an outcome. An outcome
+-- is a log of events and an end: done, with a value and the calls left, or spent, where a call was due and
+-- none was left. The outcome of parts ends with all their values, or is cut where one of them is spent.
 use Rattle.std.specs.Prelude.{◌≡◌, ◌≤◌, ◌+◌, ℕ, List, ◌++◌}
 use Rattle.rb_core.specs.declared.outcome.Event.{Event}
 use Rattle.rb_core.specs.declared.outcome.SourceEnd.{SourceEnd}
@@ -8,34 +10,40 @@ use Rattle.rb_core.specs.declared.outcome.PartsEnd.TheVariants.{AllDone, Cut}
 use Rattle.rb_core.specs.declared.outcome.Outcome.{Outcome}
 use Rattle.rb_core.specs.Meaning.{PartsOutcome}
 
--- an end with no more calls left than these
+-- an end leaves no more than n calls; an end that is spent leaves none
 abbrev pub IsWithinCalls : ℕ → SourceEnd → Type 0
 IsWithinCalls n (Done v left) = left ≤ n
 IsWithinCalls n Spent = Unit {0}
 
+-- an end of parts leaves no more than n calls; where they are cut none is left
 abbrev pub IsPartsWithinCalls : ℕ → PartsEnd → Type 0
 IsPartsWithinCalls n (AllDone vs left) = left ≤ n
 IsPartsWithinCalls n Cut = Unit {0}
 
--- the end is that of the outcome, and its events stand behind the old ones
+-- a run with the outcome o has this end, and its events stand behind those of the log `old` in the log `new`
 pub record Gives (o : Outcome) (old new : List Event) (end : SourceEnd) : Type 0 where
   pub same_end : end ≡ o.end
   pub same_log : new ≡ old ++ o.log
 
+-- parts with the outcome o have this end, and their events stand behind those of the log `old` in the log
+-- `new`
 pub record GivesParts (o : PartsOutcome) (old new : List Event) (end : PartsEnd) : Type 0 where
   pub same_end : end ≡ o.end
   pub same_log : new ≡ old ++ o.log
 
--- a list begins with another
+-- the list `all` begins with the list `first`, and `rest` is what stands behind that
 pub record BeginsWith (first all : List Event) : Type 0 where
   pub rest : List Event
   pub same : all ≡ first ++ rest
 
--- What more calls do. One that is done does the same, with so many more calls left; and the log of
--- one whose calls are spent is the beginning of the new log.
+-- the outcome o is that of the same run with `more` more calls left, where this is the log and the end with
+-- fewer: where they are done, o has the same log and value, and `more` more calls left; where they are spent,
+-- their log is the beginning of that of o
 abbrev pub GoesOn : ℕ → List Event → SourceEnd → Outcome → Type 0
 GoesOn more log (Done v left) o = (log ≡ o.log) × (o.end ≡ Done v (left + more))
 GoesOn more log Spent o = BeginsWith log o.log
 
+-- the outcome `long` is what more calls do where `short` ends: `long` has `more` more calls left from the
+-- start
 abbrev pub Extends : ℕ → Outcome → Outcome → Type 0
 Extends more short long = GoesOn more short.log short.end long

@@ -1,12 +1,13 @@
--- Where pieces that are read one by one stop being the beginning of something whole.
+-- Where pieces that are read one by one stop being the beginning of something whole. The pieces of a text are
+-- its bytes, tokens or words, and `IsWhole` says which lists of them are whole.
 use Rattle.std.specs.Prelude.{◌≡◌, ℕ, suc, ◌<◌, ◌≤◌, List, ◌++◌, length, take}
 
--- something whole begins so
+-- some whole list begins with xs, which is itself the whole list if it is whole
 abbrev pub BeginsSome : {A : Type 0} → (List A → Type 0) → List A → Type 0
 BeginsSome {A} IsWhole xs = (more : List A) × IsWhole (xs ++ more)
 
--- the pieces before `at` begin something whole;
--- with the piece there they don't, or there is none and they are not whole
+-- reading xs stops at `at`, counted from 0: the pieces before `at` begin something whole, and with the piece
+-- there they do not, or no piece is there and they are not whole
 pub record StopsAtIn {A : Type 0} (IsWhole : List A → Type 0) (xs : List A) (at : ℕ) : Type 0 where
   pub within : at ≤ length xs
   pub before : BeginsSome IsWhole (take at xs)

@@ -1,8 +1,8 @@
-//! The values that variables stand for.
+//! The values that variables stand for. Variables are numbers, each that of its binder.
 
 use crate::value::Value;
 
-/// A variable and its value.
+/// A variable, by the number of its binder, and its value.
 #[derive(Drop)]
 pub struct Binding {
     pub var: u32,

@@ -1,4 +1,4 @@
-//! A box that contracts see as what it holds.
+//! A `Box` that contracts see as the value that it holds.
 
 ghost use Rattle.std.specs.Prelude.{◌≡◌, IfOk};
 

@@ -1,4 +1,5 @@
-//! Copies of values, without recursion.
+//! Copies of values, without recursion: a stack of frames holds the constructions that are half
+//! copied, from the outermost to the innermost.
 
 ghost use Rattle.std.specs.Prelude.{◌≡◌, ◌+◌, ◌<◌, ◌≤◌, IfOk};
 ghost use Rattle.rb_core.specs.Values.{node_count};
@@ -8,7 +9,8 @@ use crate::seq::Seq;
 use crate::value::Value;
 use std::alloc::{AllocError, Global};
 
-// A construction of which the first subvalues are copied, one is being copied, and the rest is not.
+// A construction that is half copied: its constructor's number, the copies of its first subvalues,
+// and its last ones, which are not copied yet. One between both is being copied.
 #[derive(Drop)]
 struct Frame<'a> {
     con: u32,
@@ -16,7 +18,7 @@ struct Frame<'a> {
     rest: &'a [Value],
 }
 
-// A copy, or what to copy next.
+// What a step gives: a copy of what was to copy, or a value to copy next.
 #[derive(Drop)]
 enum Turn<'a> {
     Copied(Value),
@@ -24,7 +26,8 @@ enum Turn<'a> {
 }
 
 impl Value {
-    /// An equal value. The memory that it works in grows with the value's depth, its stack does not.
+    /// An equal value. The memory that it works in grows with the value's depth, and its call
+    /// stack does not.
     ///
     /// # Errors
     ///
@@ -46,7 +49,8 @@ impl Value {
     }
 }
 
-// Goes down to the first subvalue; a value without subvalues is copied.
+// One step down: goes to the first subvalue of a value, with a new frame for the value; a value
+// without subvalues is copied, and the frames stay.
 fn enter<'a>(
     alloc: Global,
     value: &'a Value,
@@ -70,7 +74,8 @@ fn enter<'a>(
     }
 }
 
-// Puts a copy in its place, and those that it completes, up to the next value to copy.
+// Goes up: puts a copy in its place in the innermost frame, and each construction that is complete
+// by that in its own, up to the next value to copy; where no frame is left, the whole is copied.
 #[tactic(auto, using(crate::proofs::CopyingLemmas::frame_rules))]
 fn leave<'a>(copied: Value, frames: &mut Vec<Frame<'a>>) -> Result<Turn<'a>, AllocError>
     ensures { IfOk result (Leaves copied frames.old.items frames.new.items) }

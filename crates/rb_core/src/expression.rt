@@ -1,4 +1,6 @@
-//! Expressions.
+//! Expressions. What they name is known by numbers: functions and constructors by that of their
+//! declaration, variables by that of their binder. Token numbers say where in the file a form
+//! begins.
 
 use crate::boxed::Boxed;
 use crate::pattern::Pat;
@@ -26,7 +28,7 @@ pub enum Op {
     Lt,
 }
 
-/// One clause of a match.
+/// One clause of a match: its pattern, and its body, in which the pattern's variables are bound.
 #[cycle(expression)]
 #[derive(Drop)]
 pub struct Clause {

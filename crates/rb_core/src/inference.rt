@@ -1,4 +1,6 @@
-//! The types of typed expressions, read off their forms.
+//! The types of typed expressions, read off their forms. A scope is a list of binders, variables
+//! with their types, from the outermost to the innermost. Of an expression that is not typed, what
+//! is read off says nothing.
 
 ghost use Rattle.std.specs.Prelude.{◌≡◌, ◌++◌, ◌∷◌, [], map, None, IfOk, OnOk};
 ghost use Rattle.rb_core.specs.Typing.{variable_type, field_types, param_types, result_type, operand_wanted, operator_type};
@@ -47,7 +49,8 @@ pub fn infer(
     }
 }
 
-/// The type of both operands of an operator, of which the first is given.
+/// The type of both operands of an operator, of which the first is given, where a type or none is
+/// wanted of its result. The scope is lent for more binders, and on `Ok` is what it was.
 ///
 /// # Errors
 ///
@@ -68,7 +71,8 @@ pub fn infer_operands(
     Ok(wanted_of_operand(op, wanted).unwrap_or(found))
 }
 
-// The type of a `let`: that of its body, with the variable behind those of the scope.
+// The type of a `let` that binds variable `var` at type `ty`: that of its body, with the variable
+// behind those of the scope. On `Ok` the scope is what it was.
 #[cycle(inferring)]
 fn infer_let(
     program: &Program,
@@ -89,7 +93,8 @@ fn infer_let(
     Ok(found)
 }
 
-/// The type of a match whose scrutinee has type `ty`.
+/// The type of a match whose scrutinee has type `ty`: the wanted one, or where none is wanted that
+/// of its first clause; `u64` where it has no clause. On `Ok` the scope is what it was.
 ///
 /// # Errors
 ///
@@ -119,7 +124,8 @@ pub fn infer_match(
     Ok(found)
 }
 
-/// Puts the variables of a pattern at a type behind those of a scope.
+/// Puts the variables of a pattern at a type behind those of a scope, from left to right. The call
+/// nests as deep as the pattern.
 ///
 /// # Errors
 ///
@@ -167,7 +173,8 @@ fn bind_all_types(
     Ok(())
 }
 
-// The type of the innermost binder of a variable, which is looked for from the innermost on outwards.
+// The type of the innermost binder of a variable, which is looked for from the innermost on
+// outwards; `u64` where the scope has none.
 fn type_of_variable(var: u32, scope: &[Binder]) -> Ty
     ensures { result ≡ variable_type var scope.now }
 {
@@ -189,7 +196,8 @@ pub fn type_of_call(program: &Program, fun: u32) -> Ty
     }
 }
 
-/// What an operator gives, from the type of its operands.
+/// The type of what an operator gives, from the type of its operands: one bit for `eq` and `lt`,
+/// else that type.
 pub fn type_of_operator(op: Op, ty: Ty) -> Ty
     ensures { result ≡ operator_type op ty }
 {
@@ -199,7 +207,8 @@ pub fn type_of_operator(op: Op, ty: Ty) -> Ty
     }
 }
 
-/// What is wanted of an operator's first operand.
+/// The type that is wanted of an operator's first operand, where `wanted` or none is wanted of its
+/// result: none for `eq` and `lt`, else the wanted type if it is an integer type.
 pub fn wanted_of_operand(op: Op, wanted: Option<Ty>) -> Option<Ty>
     ensures { result ≡ operand_wanted op wanted }
 {
@@ -212,7 +221,8 @@ pub fn wanted_of_operand(op: Op, wanted: Option<Ty>) -> Option<Ty>
     }
 }
 
-/// The types of a constructor's fields; none where the program has no such constructor.
+/// The types of a constructor's fields, in their order; none where the program has no such
+/// constructor.
 pub fn types_of_fields(types: &[DataDecl], con: ConRef) -> &[Ty]
     ensures { result.now ≡ field_types types.now con }
 {
@@ -225,7 +235,8 @@ pub fn types_of_fields(types: &[DataDecl], con: ConRef) -> &[Ty]
     }
 }
 
-/// The types of a function's parameters; none where the program has no such function.
+/// The types of a function's parameters, in their order; none where the program has no such
+/// function.
 ///
 /// # Errors
 ///

@@ -3,7 +3,7 @@
 ghost use Rattle.rb_core.specs.Matching.{ChosenIsLeast};
 ghost use Rattle.rb_core.specs.MeaningLaws.{CallsRunBodies, MoreCallsGoOn};
 
-/// A call is its function's body with one call less.
+/// A call, where one is left, does what its function's body does with one call less left.
 pub fn calls_run_bodies()
     ensures { CallsRunBodies }
 {}
@@ -13,7 +13,8 @@ pub fn chosen_is_least()
     ensures { ChosenIsLeast }
 {}
 
-/// More calls left go on where fewer end.
+/// A call with more calls left goes on where the same call with fewer ends: it has the same log and
+/// value where that is done, and its log begins with that one's where that is spent.
 pub fn more_calls_go_on()
     ensures { MoreCallsGoOn }
 {}

@@ -1,4 +1,6 @@
-//! Layouts as they are written: a tree of splits whose leaves say where each field lies.
+//! Layouts as they are written: a tree of splits whose leaves say where each field lies. Bits of a
+//! word are numbered from 0, the lowest; a path is a list of field numbers from the root of a
+//! value.
 
 ghost use Rattle.std.specs.Prelude.{◌≡◌, IfOk};
 
@@ -18,7 +20,8 @@ pub struct Step {
     pub l: u64,
 }
 
-/// A location: bits `o` to `o + l` of a root word, or what its steps reach from there.
+/// A location: the `l` bits from bit `o` on of the root word with this number, or, where it has
+/// steps, what these reach through the pointer there, one after the other.
 #[derive(Debug, Drop)]
 pub struct Loc {
     pub word: u64,
@@ -61,7 +64,7 @@ pub enum PartKind {
     Pointer(u64, Seq<LayItem>),
 }
 
-/// A part of a word: `l` bits from bit `o`.
+/// A part of a word: the `l` bits from bit `o` on, and what they hold.
 #[cycle(item)]
 #[derive(Drop)]
 pub struct PartDecl {
@@ -80,7 +83,7 @@ pub enum LayItem {
     Inline(Seq<u32>),
 }
 
-/// What stands under one literal of a split.
+/// One arm of a split: a literal, and the tree that stands where the split's bits are this number.
 #[cycle(split)]
 #[derive(Drop)]
 pub struct Arm {
@@ -88,7 +91,7 @@ pub struct Arm {
     pub under: LayTree,
 }
 
-/// A layout's tree of splits.
+/// A layout's tree: splits, which tell values apart by their bits, down to leaves.
 #[cycle(split)]
 #[derive(Drop)]
 pub enum LayTree {

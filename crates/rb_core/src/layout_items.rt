@@ -1,4 +1,5 @@
-//! Copies of what layouts have in their leaves.
+//! Copies of what layouts have in their leaves: items, and the parts of words. The calls nest as
+//! deep as pointers are written in one another.
 
 ghost use Rattle.std.specs.Prelude.{◌≡◌, IfOk};
 
@@ -23,7 +24,7 @@ pub fn copy_items(alloc: Global, items: &[LayItem]) -> Result<Seq<LayItem>, Allo
     Ok(copies)
 }
 
-// An equal item: a word with its parts, or a path.
+// An equal item: a word with its parts, or the path of a field.
 #[cycle(copying)]
 fn copy_item(alloc: Global, item: &LayItem) -> Result<LayItem, AllocError>
     ensures { IfOk result (λ copy. copy ≡ item.now) }

@@ -8,16 +8,18 @@
 //! fun next(list: List): u8 = match list { Nil => 0, Cons(x, _) => add(x, 1) };
 //! ```
 //!
-//! Names are numbers in a program: `List` is type 0, `Cons` constructor 1 of it, `next` function 0, and a
-//! variable is known by the number of its binder. A call of `next` with `Cons(7, Nil)` and 3 calls left takes
-//! one of these. Its match is an event, `Matched` with the function and the match's own token. The first clause
-//! that matches is the second, which binds `x` to 7; the sum is one of 8 bits, since that is the type of `x`. So
-//! the outcome ends as `Done` with 8 and 2 calls left. With no call left it has no event, and ends as `Spent`. A
-//! construction is an event too, `Built` with its type and its value, behind the events of its arguments.
+//! Names are numbers in a program: `List` is type 0, `Cons` constructor 1 of it, `next` function 0,
+//! and a variable is known by the number of its binder. A call of `next` with `Cons(7, Nil)` and 3
+//! calls left takes one of these. Its match is an event, `Matched` with the function and the
+//! match's own token. The first clause that matches is the second, which binds `x` to 7; the sum is
+//! one of 8 bits, since that is the type of `x`. So the outcome ends as `Done` with 8 and 2 calls
+//! left. With no call left it has no event, and ends as `Spent`. A construction is an event too,
+//! `Built` with its type and its value, behind the events of its arguments.
 //!
-//! A program is typed where each expression fits the type that is wanted of it (`specs/Typing.antt`), and covered
-//! where each match has a clause for every value (`specs/Coverage.antt`): [`typed`] keeps such programs.
-//! [`eval::eval`] computes a meaning, for tests.
+//! A program is typed where each expression fits the type that is wanted of it
+//! (`specs/Typing.antt`), and covered where each match has a clause for every value
+//! (`specs/Coverage.antt`): [`typed`] keeps such programs. [`eval::eval`] computes a meaning, for
+//! tests.
 #![tactic(auto)]
 
 pub mod binding;

@@ -6,7 +6,9 @@ ghost use Rattle.rb_core.specs.Matching.{matches_of, all_pass};
 use crate::pattern::Pat;
 use crate::value::Value;
 
-/// Whether a pattern matches a value. The call nests as deep as the pattern.
+/// Whether a pattern matches a value: a wildcard and a variable match every value, a number that
+/// number, and a constructor the constructions by its number whose subvalues its subpatterns match,
+/// one each. The call nests as deep as the pattern.
 #[cycle(matching)]
 pub fn matches(pat: &Pat, value: &Value) -> bool
     ensures { result ≡ matches_of pat.now value.now }
@@ -26,7 +28,8 @@ pub fn matches(pat: &Pat, value: &Value) -> bool
     }
 }
 
-// Whether each pattern matches its value, and there are as many of one as of the other.
+// Whether each pattern matches the value in its place, and there are as many of one as of the
+// other.
 #[cycle(matching)]
 #[tactic(auto, using(crate::proofs::MatchingLemmas::loop_lemmas))]
 fn all_match(pats: &[Pat], values: &[Value]) -> bool

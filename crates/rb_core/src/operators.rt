@@ -8,7 +8,7 @@ use crate::expression::Op;
 use crate::types::Ty;
 use crate::value::Value;
 
-// The number of a value; of a construction, 0.
+// The number that a value is; of a construction, 0, which a typed program never meets.
 pub(crate) fn number(value: &Value) -> u64
     ensures { result ≡ number_of value.now }
 {
@@ -29,7 +29,8 @@ pub fn width(ty: Ty) -> u8
     }
 }
 
-// What an operator gives at operands of so many bits.
+// What an operator gives at operands `a` and `b` of `width` bits: 1 or 0 for `eq` and `lt`, else a
+// number of as many bits.
 pub(crate) fn apply(op: Op, width: u8, a: u64, b: u64) -> u64
     requires { width ≤ 64 }
     ensures { result ≡ op_value op width a b }
@@ -48,7 +49,7 @@ pub(crate) fn apply(op: Op, width: u8, a: u64, b: u64) -> u64
     }
 }
 
-// The number that so many low bits hold.
+// The number that the `bits` low bits of `n` hold; `n` itself for 64 bits and more.
 pub(crate) fn low_bits(n: u64, bits: u8) -> u64
     ensures { result ≡ n % 2 ^ bits }
 {

@@ -1,4 +1,5 @@
-//! What a run does: the events of its log, and its end.
+//! What a run does: the events of its log, and its end. Types, functions and matches are named by
+//! numbers: types and functions by that of their declaration, a match by that of its first token.
 
 use crate::seq::Seq;
 use crate::value::Value;

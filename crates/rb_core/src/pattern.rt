@@ -1,4 +1,5 @@
-//! Patterns.
+//! Patterns. A variable is known by its number as a binder, and a token number says where in the
+//! file a pattern begins.
 
 ghost use Rattle.std.specs.Prelude.{◌≡◌, IfOk};
 
@@ -20,7 +21,7 @@ pub enum Pat {
 }
 
 impl Pat {
-    /// An equal pattern.
+    /// An equal pattern. The call nests as deep as the pattern.
     ///
     /// # Errors
     ///
@@ -41,7 +42,7 @@ impl Pat {
     }
 }
 
-/// Equal patterns, in their order.
+/// Equal patterns, in their order. The call nests as deep as the deepest of them.
 ///
 /// # Errors
 ///

@@ -1,4 +1,5 @@
-//! Programs.
+//! Programs. A data type and a function are known by their place in the program, from 0, and a
+//! variable by the number of its binder. Token numbers say where in the file something stands.
 
 use crate::expression::Expr;
 use crate::layout_decl::LayoutDecl;
@@ -13,7 +14,7 @@ pub struct Param {
     pub ty: Ty,
 }
 
-/// A function.
+/// A function: its name, its parameters, the type of its result, and its body.
 #[derive(Drop)]
 pub struct Fun {
     pub name: Name,

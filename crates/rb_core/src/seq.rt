@@ -72,14 +72,15 @@ impl<T> Seq<T> {
         Ok(())
     }
 
-    /// Takes the last item off.
+    /// Takes the last item off; None where there is no item.
     pub fn pop(&mut self) -> Option<T>
         ensures { MatchOption result ((self.old ≡ []) × (self.new ≡ [])) (λ last. self.old ≡ self.new ++ last ∷ []) }
     {
         self.items.pop()
     }
 
-    /// Moves the items of `more` to the end, or gives `more` back where memory is wanting.
+    /// Moves the items of `more` to the end, in their order. Where memory is wanting, gives `more`
+    /// back, and the list is as it was.
     pub fn append(&mut self, more: Seq<T>) -> Option<Seq<T>>
         ensures { MatchOption result (self.new ≡ self.old ++ more) (λ rest. (self.new ≡ self.old) × (rest ≡ more)) }
     {
@@ -116,7 +117,7 @@ impl<T> Seq<T> {
         self.items.is_empty()
     }
 
-    /// The item with this number.
+    /// The item with this number, from 0; None where there is no such item.
     pub fn get(&self, i: usize) -> Option<&T>
         ensures value { option_copied result ≡ slice_get self.now i }
         ensures within { IsSome result ↔ (i < length self.now) }
@@ -131,7 +132,7 @@ impl<T> Seq<T> {
         self.items.as_slice()
     }
 
-    /// Puts `value` in the place of item `i`, and gives the old item.
+    /// Puts `value` in the place of item `i`, which the list has, and gives the old item.
     pub fn replace(&mut self, i: usize, value: T) -> T
         requires { i < length self.old }
         ensures old { slice_get self.old i ≡ Some result }

@@ -46,7 +46,7 @@ impl Typed {
         &self.program
     }
 
-    // The program on its own, and that it is typed.
+    // Takes the program out, and tells that it is typed.
     fn into_program(self) -> Program
         ensures same { result ≡ self }
         ensures typed { IsTyped result }

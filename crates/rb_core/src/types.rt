@@ -1,8 +1,9 @@
-//! Types and their declarations.
+//! Types and their declarations. Data types are numbered from 0 in their program, and constructors
+//! from 0 in their type.
 
 use crate::seq::Seq;
 
-/// The bytes of a name, without its place.
+/// The bytes of a name, without its place in the file.
 pub type Name = Seq<u8>;
 
 /// A type of the language.
@@ -21,14 +22,14 @@ pub struct ConRef {
     pub con: u32,
 }
 
-/// A constructor as it is declared, with the types of its fields.
+/// A constructor as it is declared: its name, and the types of its fields in their order.
 #[derive(Drop)]
 pub struct Con {
     pub name: Name,
     pub fields: Seq<Ty>,
 }
 
-/// A data type as it is declared.
+/// A data type as it is declared: its name, and its constructors in the order of their numbers.
 #[derive(Drop)]
 pub struct DataDecl {
     pub name: Name,

@@ -1,4 +1,4 @@
-//! What typing speaks of: the binders round an expression, and why a program has no types.
+//! What typing speaks of: the binders round an expression, and why a program is not typed.
 
 ghost use Rattle.std.specs.Prelude.{◌≡◌};
 ghost use Rattle.rb_core.specs.declared.typing.TypeFault.TheVariants.{Memory};
@@ -14,7 +14,7 @@ pub struct Binder {
     pub ty: Ty,
 }
 
-/// Why a program isn't typed. Places are token numbers.
+/// Why a program is not typed, or that this could not be found out. Places are token numbers.
 #[derive(Debug, Drop, Error)]
 pub enum TypeFault {
     /// The type with this number has no finite value.

@@ -2,18 +2,20 @@
 
 ghost use Rattle.rb_core.specs.TypingLaws.{BindersAreFound, InferredIsFound, WantedIsFound, WidthIsLeast};
 
-/// An expression of which a type is wanted has that type, where it is typed.
+/// Where a type is wanted of an expression and typing finds no fault, the expression has that type.
 pub fn wanted_is_found()
     ensures { WantedIsFound }
 {}
 
-/// The widths that the source meaning takes are those of typing.
+/// The types and the binders that the source meaning reads off expressions and patterns are those
+/// that typing gives them, where it finds no fault; so the widths of operators are those of typing.
 pub fn inferred_is_found()
     ensures types { InferredIsFound }
     ensures binders { BindersAreFound }
 {}
 
-/// A number that fits no wanted type is found as the least integer type that holds it.
+/// The least integer type that holds a number below 2^64 is what typing finds for it, where it fits
+/// no wanted type.
 pub fn width_is_least()
     ensures { WidthIsLeast }
 {}

@@ -1,4 +1,4 @@
-//! Values.
+//! Values, which are trees, and how they are taken apart without recursion.
 
 ghost use Rattle.std.specs.Prelude.{◌≡◌, ◌+◌, ◌<◌, ◌≤◌, IfSome, map, sum};
 
@@ -30,7 +30,7 @@ impl Drop for Value {
 impl Value {
     ghost use Rattle.rb_core.specs.Values.{node_count};
 
-    // The subvalues of a construction.
+    // The subvalues of a construction; None for a number.
     fn into_list(self) -> Option<Seq<Value>>
         ensures { IfSome result (λ values. node_count self ≡ 1 + sum (map node_count values)) }
     {
@@ -40,7 +40,8 @@ impl Value {
         }
     }
 
-    // The first subvalue, and the list in which a number stands in its place.
+    // The first subvalue, and the list of all with a number in its place; None for a number and for
+    // a construction without subvalues.
     fn into_first(self) -> Option<(Value, Seq<Value>)>
         ensures { IfSome result (λ r. node_count r.0 + sum (map node_count r.1) ≤ node_count self) }
     {
@@ -58,7 +59,8 @@ impl Value {
     }
 
     // The next value to take apart, and the list that is open then: the first subvalue, in whose
-    // place a link to the list that was open is left; else the last value of that list.
+    // place a link to the list that was open is left; else the last value of that list. None where
+    // nothing is left to take apart.
     fn take_apart(self, list: Seq<Value>) -> Option<(Value, Seq<Value>)>
         ensures total { IfSome result (λ r. node_count r.0 + sum (map node_count r.1)
             ≤ node_count self + sum (map node_count list)) }
@@ -78,8 +80,9 @@ impl Value {
         }
     }
 
-    // The last value of a list that is open, and that list without it. The first place of a list holds
-    // the link to the list that was open before, or a number where there is none.
+    // The last value of a list that is open, and that list without it. The first place of a list
+    // holds the link to the list that was open before, which is the next to be open where the list
+    // has no other value left, or a number where there is none; then the answer is None.
     fn last_of(list: Seq<Value>) -> Option<(Value, Seq<Value>)>
         ensures { IfSome result (λ r. node_count r.0 + sum (map node_count r.1) ≤ sum (map node_count list)) }
     {
