@@ -27,17 +27,18 @@ nodes_left f = sum (map node_count f.rest.now)
 abbrev pub remaining : List Frame → ℕ
 remaining fs = sum (map nodes_left fs)
 
--- what a step down at the value v does to the stack `old`: either v has no subvalue, is copied as w, and the
--- stack stays; or the first subvalue of v is next, the stack `new` with it is still the same whole, and it
--- and what remains behind holes have fewer nodes than v and what remained had
+-- what a step down at the value v does to the stack `old`: either v is copied as w, which equals it, and the
+-- stack stays; or the value `first` is the one to copy next, the stack `new` with it is still the same whole,
+-- and it and what remains behind holes have fewer nodes than v and what remained had
 abbrev pub Enters : Value → List Frame → List Frame → Turn → Type 0
 Enters v old new (Copied w) = (w ≡ v) × (new ≡ old)
 Enters v old new (Next first) =
     (plugged new first.now ≡ plugged old v) × (node_count first.now + remaining new < node_count v + remaining old)
 
--- what going up does with a copy v of what the hole of the stack `old` wants: either nothing remains, and w
--- is the copy of the whole; or the value `next` is the one to copy next, the stack `new` with it is still the
--- same whole, and it and what remains behind holes have no more nodes than what remained had
+-- what going up does with a copy v of what the hole of the stack `old` wants: either w is the copy of the
+-- whole, which is v itself where the stack has no frame; or the value `next` is the one to copy next, the stack
+-- `new` with it is still the same whole, and it and what remains behind holes have no more nodes than what
+-- remained had
 abbrev pub Leaves : Value → List Frame → List Frame → Turn → Type 0
 Leaves v old new (Copied w) = w ≡ plugged old v
 Leaves v old new (Next next) =

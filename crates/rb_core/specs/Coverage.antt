@@ -1,8 +1,10 @@
 -- Coverage: every match is exhaustive, which is that each value of its scrutinee's type has a clause, and
--- notes name the clauses that no value reaches. A site is a match as coverage sees it: its token number, its
--- scrutinee's type and its clauses' patterns. A scope is a list of binders, variables with their types, from
--- the outermost to the innermost. In one layer of an expression, an `Expr-F`, the parts stand with their
--- sites. The arguments `types` and `funs` are the data types and the functions of the program.
+-- notes name the clauses that no value reaches. A value reaches the first clause whose pattern matches it,
+-- and no other. Clauses are numbered from 0 in the order of their match. A site is a match as coverage sees
+-- it: its token number, its scrutinee's type and its clauses' patterns. A scope is a list of binders,
+-- variables with their types, from the outermost to the innermost. In one layer of an expression, an
+-- `Expr-F`, the parts stand with their sites. The arguments `types` and `funs` are the data types and the
+-- functions of the program.
 use Rattle.std.specs.Prelude.{◌≡◌, ℕ, ◌<◌, ◌↔◌, List, [], ◌∷◌, ◌++◌, map, length, None, Contains}
 use Rattle.std.specs.List.{flat_map}
 use Rattle.std.specs.List.Sorted.{IsStrictlyIncreasing}

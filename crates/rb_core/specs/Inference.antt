@@ -21,8 +21,7 @@ use Rattle.rb_core.specs.declared.expression.Clause.{Clause, Clause-F}
 use Rattle.rb_core.specs.declared.program.Fun.{Fun}
 use Rattle.rb_core.specs.Typing.{variable_type, field_types, result_type, operand_wanted, operator_type}
 
--- the bits of an integer type, of which there are at most 64; 64 for a data type, at which no operator is
--- typed
+-- the bits of an integer type, or 64 where it has more; 64 for a data type, at which no operator is typed
 abbrev pub width_of : Ty → ℕ
 width_of (Int bits) = min bits 64
 width_of (Named t) = 64
@@ -39,7 +38,8 @@ all_binders (b ∷ bs) [] = []
 all_binders (b ∷ bs) (t ∷ ts) = b t ++ all_binders bs ts
 
 -- what one layer of a pattern binds at type t, from what its subpatterns bind: those of a constructor stand
--- at the types of its fields, whatever t is
+-- at the types of its fields, whatever t is, and bind nothing where the program has no such constructor; a
+-- wildcard and a number bind nothing
 abbrev pub binders_step : List DataDecl → Pat-F (Ty → List Binder) → Ty → List Binder
 binders_step types (P.Wild at) t = []
 binders_step types (P.Var at x) t = record { var = x; ty = t } ∷ []
@@ -72,7 +72,9 @@ abbrev pub match_type : List DataDecl → Option Ty → List (Pat × Inference) 
 match_type types wanted cs t scope = unwrap_or wanted (first_clause_type types cs t scope)
 
 -- the type of one layer of an expression, from those of its parts: a number has the wanted type, or u64 where
--- none is wanted; a `let` has the type of its body, within one more binder
+-- none is wanted; a `let` has the type of its body, within one more binder; a match has the wanted type, or
+-- where none is wanted that of its first clause; an operator has the type of its operands, or one bit for `eq`
+-- and `lt`. A variable, a call, a construction and a conversion have their own type, whatever is wanted
 abbrev pub inference_step : List DataDecl → List Fun → Expr-F Inference (Pat × Inference) → Inference
 inference_step types funs (E.Num at n) wanted scope = unwrap_or wanted (Int 64)
 inference_step types funs (E.Var at x) wanted scope = variable_type x scope

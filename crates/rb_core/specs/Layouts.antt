@@ -99,8 +99,8 @@ item_step (I.Inline path) = record { items = 1; parts = 0; short = is_short path
 abbrev pub written : LayItem → Written
 written = fold-LayItem Written Written Written item_step kind_step part_step
 
--- the items of a leaf are short: so is each list in them, and both their items and their parts, nested ones
--- included, are fewer than 2^32
+-- the items of a leaf are short: so are their list and each list in them, and both their items and their
+-- parts, nested ones included, are fewer than 2^32
 abbrev pub leaf_is_short : List LayItem → Bool
 leaf_is_short items =
     let all = written_round 0 0 (map written items) in
@@ -122,6 +122,7 @@ tree_step (T.Split loc arms other) =
     is_short loc.steps && (is_short arms && (list_all (λ a. a) arms && other_is_short other))
 tree_step (T.Leaf at p items) = leaf_is_short items
 
--- a layout's tree is short: so is each list in it, the list of all its leaves, and the items of each leaf
+-- a layout's tree is short: so is each list in it, the lists of the provenances left aside, the list of all its
+-- leaves, and the items of each leaf
 abbrev pub is_short_layout : LayTree → Bool
 is_short_layout tree = is_short (leaves tree) && fold-LayTree Bool Bool tree_step arm_is_short tree

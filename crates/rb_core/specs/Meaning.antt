@@ -50,8 +50,9 @@ number_in (V.Con k vs) = 0
 abbrev pub number_of : Value → ℕ
 number_of v = number_in (Values.out-Value v)
 
--- what an operator gives at operands a and b of so many bits: the first six modulo two to the width; `eq` and
--- `lt` give 1 or 0
+-- what an operator gives at operands a and b of `width` bits: `add`, `sub`, `mul`, `and`, `or` and `xor` give
+-- their result modulo two to the width, a difference below 0 too; `eq` gives 1 where a and b are equal, `lt` 1
+-- where a is less, and both else 0
 abbrev pub op_value : Op → ℕ → ℕ → ℕ → ℕ
 op_value Op.Add width a b = (a + b) % 2 ^ width
 op_value Op.Sub width a b = (a + (2 ^ width - b % 2 ^ width)) % 2 ^ width
@@ -97,8 +98,8 @@ abbrev pub at_end : SourceEnd → (Value → ℕ → Outcome) → Outcome
 at_end (Done v left) go = go v left
 at_end Spent go = spent
 
--- an outcome and what follows its end: where it is done, `go` with its value and the calls left; its events
--- come first
+-- an outcome and what follows its end: where it is done, `go` with its value and the calls left, whose events
+-- stand behind those of the outcome; where it is spent, so is the whole, with the outcome's events alone
 unfoldable pub then_do : Outcome → (Value → ℕ → Outcome) → Outcome
 then_do o go = after o.log (at_end o.end go)
 
@@ -125,7 +126,8 @@ at_parts_end (AllDone vs left) go = go vs left
 at_parts_end Cut go = spent
 
 -- the outcome of parts and what follows their end: where all are done, `go` with their values and the calls
--- left; the parts' events come first
+-- left, whose events stand behind those of the parts; where they are cut, the whole is spent, with the parts'
+-- events alone
 unfoldable pub then_with : PartsOutcome → (List Value → ℕ → Outcome) → Outcome
 then_with o go = after o.log (at_parts_end o.end go)
 
@@ -151,7 +153,8 @@ later_wanted [] = []
 later_wanted (t ∷ ts) = ts
 
 -- what parts do, from left to right, each at the type in its place in ts, or at none behind them; `left`
--- calls are left before them, and vs are the values of the parts before them. A part that is spent cuts them
+-- calls are left before them, and vs are the values of the parts before them. A part that is spent cuts them,
+-- and the parts behind it do nothing; where no part is left, all are done with the values vs
 abbrev pub all_of : List Meaning → List Ty → List Binder → List Value → ℕ → List Binding → PartsOutcome
 all_of [] ts scope vs left env = record { log = []; end = AllDone vs left }
 all_of (m ∷ ms) ts scope vs left env =
@@ -168,16 +171,18 @@ first_of types t (c ∷ cs) wanted others scope v left env =
     if matches_of c.0 v then c.1 wanted (scope ++ binders types c.0 t) left (env ++ bindings c.0 v)
     else first_of types t cs others others scope v left env
 
--- what a construction does with the values vs of its fields: its event, and then it is done
+-- what a construction does with the values vs of its fields: the event that it is built, with its type's
+-- number and its value, and then it is done with that value
 abbrev pub built : ConRef → List Value → ℕ → Outcome
 built c vs left = after (Built c.ty (Con c.con vs) ∷ []) (done (Con c.con vs) left)
 
--- what an operator does with the values v and w of its operands, of so many bits: it is done with what it
--- gives
+-- what an operator does with the values v and w of its operands, of `width` bits: it is done with what it gives
+-- at their numbers, and has no event
 abbrev pub combined : Op → ℕ → Value → Value → ℕ → Outcome
 combined op width v w left = done (Num (op_value op width (number_of v) (number_of w))) left
 
--- what a conversion does with the value v of its operand: it is done with the low bits of its number
+-- what a conversion to so many bits does with the value v of its operand: it is done with the number that the
+-- low bits of v hold, and has no event
 abbrev pub cut_to : ℕ → Value → ℕ → Outcome
 cut_to bits v left = done (Num (number_of v % 2 ^ bits)) left
 
@@ -201,7 +206,9 @@ branch_means branch = branch.1
 abbrev pub branch_inferred : Program → Branch → Pat × Inference
 branch_inferred p branch = clause_inferred p.types p.funs branch.0
 
--- what one layer of an expression of function f does, from what its parts do; a call does as `calls` has it
+-- what one layer of an expression of function f does in the program p, from what its parts do; a call does as
+-- `calls` has it, behind its arguments. The event of a construction stands behind those of its fields, and the
+-- event of a match, with f and the match's token, between those of its scrutinee and those of the clause
 abbrev pub meaning_step : Program → Calls → ℕ → Expr-F Part Branch → Meaning
 meaning_step p calls f (E.Num at n) wanted scope left env = done (Num n) left
 meaning_step p calls f (E.Var at x) wanted scope left env = done (value_in env x) left
@@ -236,7 +243,7 @@ clause_meaning p calls f = para-Clause Meaning (Pat × Meaning) (meaning_step p 
 
 -- Calls
 
--- parameters bound to arguments, each to the one in its place, up to where either list ends
+-- the bindings of parameters to arguments, each to the one in its place, up to where either list ends
 abbrev pub arguments : List Param → List Value → List Binding
 arguments [] vs = []
 arguments (p ∷ ps) [] = []

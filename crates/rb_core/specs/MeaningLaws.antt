@@ -7,7 +7,8 @@ use Rattle.rb_core.specs.Meaning.{body_of, call_of}
 use Rattle.rb_core.specs.Outcomes.{Extends}
 
 -- with n + 1 calls left, a call of a function does what the function's body does with n left, where each call
--- in the body does what a call of the program does
+-- in the body does what a call of the program does; where the program has no function g, the call is done with
+-- 0 and n calls left
 abbrev pub CallsRunBodies : Type 0
 CallsRunBodies = (p : Program) (g n : ℕ) (vs : List Value)
     → call_of p g (suc n) vs ≡ body_of p (call_of p) (slice_get p.funs g) g n vs

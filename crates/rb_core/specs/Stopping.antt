@@ -2,7 +2,7 @@
 -- its bytes, tokens or words, and `IsWhole` says which lists of them are whole.
 use Rattle.std.specs.Prelude.{◌≡◌, ℕ, suc, ◌<◌, ◌≤◌, List, ◌++◌, length, take}
 
--- some whole list begins with xs, which is itself the whole list if it is whole
+-- some whole list begins with the list xs; xs itself is such a list where it is whole
 abbrev pub BeginsSome : {A : Type 0} → (List A → Type 0) → List A → Type 0
 BeginsSome {A} IsWhole xs = (more : List A) × IsWhole (xs ++ more)
 

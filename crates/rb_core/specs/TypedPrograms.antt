@@ -22,7 +22,7 @@ use Rattle.rb_core.specs.WellNumbered.{IsWellNumbered}
 abbrev pub HasValue : List DataDecl → ℕ → Type 0
 HasValue types t = (v : Value) × (is_of_type types v (Named t) ≡ true)
 
--- the data type with number t has no value, since values are finite
+-- no value is of the data type with number t; none is of a type that is not declared either
 abbrev pub IsEmpty : List DataDecl → ℕ → Type 0
 IsEmpty types t = (v : Value) → is_of_type types v (Named t) ≡ false
 

@@ -65,7 +65,8 @@ width_from (suc more) width n = if nat_lt n (2 ^ width) then width else width_fr
 unfoldable pub least_width : ℕ → ℕ
 least_width n = width_from 63 1 n
 
--- the least integer type that holds a number: what is found, where a number fits no wanted type
+-- the least integer type that holds a number, or u64 for a number of more than 64 bits: the type that is found,
+-- where a number is not of the wanted type
 abbrev pub number_type : ℕ → Ty
 number_type n = Int (least_width n)
 
@@ -123,7 +124,8 @@ field_types types c = unwrap_or (fields_of types c) []
 abbrev pub PatternRule : Type 0
 PatternRule = Ty → Typing (List Param)
 
--- what subpatterns bind behind the variables ps that are bound already, or their fault
+-- the variables ps that the subpatterns so far bind, and behind them what the other subpatterns bind; the
+-- fault of these, if they have one
 abbrev pub also_bound : List Param → Typing (List Param) → Typing (List Param)
 also_bound ps rest = and_then rest (λ qs. Ok (ps ++ qs))
 
@@ -140,7 +142,8 @@ abbrev pub fields_match : ℕ → List PatternRule → List Ty → Typing (List 
 fields_match at ps ts = if length ps == length ts then subpatterns ps ts else Err (Arity at (length ts) (length ps))
 
 -- what one layer of a pattern binds at type t: a number has to be of the type, and a constructor of the data
--- type; a variable has type t
+-- type, else another type is found at the pattern's token; a variable has type t, and a wildcard and a number
+-- bind nothing
 abbrev pub pattern_step : List DataDecl → Pat-F PatternRule → PatternRule
 pattern_step types (P.Wild at) t = Ok []
 pattern_step types (P.Var at x) t = Ok (record { at = at; var = x; ty = t } ∷ [])
@@ -215,7 +218,7 @@ integer_wanted (Some (Int n)) = Some (Int n)
 integer_wanted (Some (Named t)) = None
 
 -- what is wanted of an operator's first operand, where `wanted` is wanted of its result: of `eq` and `lt`
--- nothing, of each other operator the wanted type, if it is an integer type
+-- nothing, of each other operator the wanted type, if it is an integer type, else nothing
 abbrev pub operand_wanted : Op → Option Ty → Option Ty
 operand_wanted Eq wanted = None
 operand_wanted Lt wanted = None
@@ -228,8 +231,8 @@ operator_type Eq t = Int 1
 operator_type Lt t = Int 1
 operator_type op t = t
 
--- an expression that has to be an integer, at a wanted type or none; the fault that it is none is at its
--- token
+-- the type of an expression that has to be an integer, at a wanted type or none and in a scope; where it is
+-- typed at a data type, the fault is at its first token
 abbrev pub integer_operand : Rule → Option Ty → List Binder → Typing Ty
 integer_operand e wanted scope = and_then (e.answer wanted scope) (integer e.at)
 

@@ -18,7 +18,8 @@ abbrev pub nodes_step : Value-F ℕ → ℕ
 nodes_step (Layer.Num n) = 1
 nodes_step (Layer.Con k ns) = 1 + sum ns
 
--- how many nodes a value has: a number is one, and a construction has one more than its subvalues
+-- how many nodes a value has: a number is one, and a construction has one more than its subvalues have
+-- together
 abbrev pub node_count : Value → ℕ
 node_count = fold-Value ℕ nodes_step
 
@@ -77,8 +78,8 @@ abbrev pub sub_at : Option Value → ℕ → Option Value
 sub_at None i = None
 sub_at (Some v) i = slice_get (subs v) i
 
--- the part at a position: a list of field numbers from the root, which is the empty list; none where there is
--- no value, or it has no such part
+-- the part of a value at a position, a list of field numbers from the root, where the empty list is the root
+-- itself; none where there is no value, or it has no such part
 abbrev pub part_from : Option Value → List ℕ → Option Value
 part_from v [] = v
 part_from v (i ∷ is) = part_from (sub_at v i) is

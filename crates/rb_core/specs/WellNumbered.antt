@@ -1,8 +1,8 @@
 -- Well numbered programs: what numbering names leaves of a file, whether or not it is typed. Each number
--- names something of the program's own, each name is of its kind, each count is within its limit. Every call
--- that takes a program takes a well numbered one. A name is a list of bytes. A list is short where it has
--- fewer than 2^32 members. The arguments `types` and `funs` are the data types and the functions of the
--- program. In one layer of a pattern or an expression, what is asked of its parts stands in their places.
+-- names something of the program's own, each name is of its kind, each count is within its limit. Every typed
+-- program is well numbered. A name is a list of bytes. A list is short where it has fewer than 2^32 members.
+-- The arguments `types` and `funs` are the data types and the functions of the program. In one layer of a
+-- pattern or an expression, what is asked of its parts stands in their places.
 use Rattle.std.specs.Prelude.{◌≡◌, ℕ, List, [], ◌∷◌, ◌++◌, map, length, Bool, true, false, ◌&&◌, ◌==◌, not, nat_lt, nat_le, nat_eq, is_some}
 use Rattle.std.specs.List.{list_any, list_all, flat_map}
 use Rattle.std.specs.Str.{bytes_eq}
@@ -28,7 +28,7 @@ use Rattle.rb_core.specs.Values.{fields_of}
 use Rattle.rb_core.specs.Limits.{most_types, most_functions, most_constructors, most_fields, most_parameters, most_words}
 use Rattle.rb_core.specs.Layouts.{provenances, is_short, is_short_layout}
 
--- no item of a list equals one after it
+-- no item of a list equals one after it, where `same` tells whether two are equal
 abbrev pub is_distinct : {A : Type 0} → (A → A → Bool) → List A → Bool
 is_distinct same [] = true
 is_distinct same (x ∷ xs) = not (list_any (same x) xs) && is_distinct same xs
@@ -78,8 +78,8 @@ is_type types (Named t) = nat_lt t (length types)
 abbrev pub is_constructor : List DataDecl → ConRef → Bool
 is_constructor types c = is_some (fields_of types c)
 
--- a declared constructor is well numbered: its name is of its kind, its fields are within the limit, and each
--- has a type of the program
+-- a declared constructor is well numbered: its name is of its kind, it has no more fields than the limit, and
+-- each has a type of the program
 abbrev pub con_is_numbered : List DataDecl → Con → Bool
 con_is_numbered types c =
     is_upper c.name && (nat_le (length c.fields) most_fields && list_all (is_type types) c.fields)
@@ -128,8 +128,8 @@ pub record Below : Type 0 where
 abbrev pub may_be_below : Below → Bool
 may_be_below b = either b.wild b.provenance
 
--- one layer of a pattern: whether it is a wildcard, and whether it is a provenance, from that of its
--- subpatterns
+-- one layer of a pattern: whether it is a wildcard, and whether it is a provenance, from the same of its
+-- subpatterns; a variable and a number are neither
 abbrev pub below_step : Pat-F Below → Below
 below_step (P.Wild at) = record { wild = true; provenance = false }
 below_step (P.Var at x) = record { wild = false; provenance = false }
@@ -167,8 +167,9 @@ expression_step types funs (E.To at bits a) xs = is_between 1 64 bits && a xs
 expression_step types funs (E.Let at x ty a b) xs = is_type types ty && (a xs && b (x ∷ xs))
 expression_step types funs (E.Match at e cs) xs = e xs && (nat_lt 0 (length cs) && (is_short cs && all_within cs xs))
 
--- an expression is well numbered within these variables: each number in it names something of the program, or
--- one of the variables bound round it
+-- an expression is well numbered within these variables: each function, constructor and type that it names is
+-- one of the program, each variable one of these or bound round it in the expression, each conversion is to 1
+-- to 64 bits, each match has a clause, and each list in it is short
 abbrev pub expression_is_numbered : List DataDecl → List Fun → Expr → List ℕ → Bool
 expression_is_numbered types funs = fold-Expr Within Within (expression_step types funs) (clause_step types)
 
@@ -202,14 +203,15 @@ match_tokens = fold-Expr (List ℕ) (List ℕ) matches_step clause_matches
 abbrev pub param_is_numbered : List DataDecl → Param → Bool
 param_is_numbered types p = is_type types p.ty
 
--- a function is well numbered: its name is of its kind, its parameters are within the limit, its types are
--- those of the program, and its body is well numbered within its parameters
+-- a function is well numbered: its name is of its kind, it has no more parameters than the limit, the types of
+-- its parameters and of its result are types of the program, and its body is well numbered within its parameters
 abbrev pub function_is_numbered : List DataDecl → List Fun → Fun → Bool
 function_is_numbered types funs f =
     is_lower f.name && (nat_le (length f.params) most_parameters && (list_all (param_is_numbered types) f.params
     && (is_type types f.result && expression_is_numbered types funs f.body (map (λ p. p.var) f.params))))
 
--- a leaf's pattern is well numbered: it is a provenance, and each constructor in it is one of the program
+-- a leaf's pattern is well numbered: it is a provenance, each constructor in it is one of the program, and each
+-- list in it is short
 abbrev pub provenance_is_numbered : List DataDecl → Pat → Bool
 provenance_is_numbered types p = is_provenance p && pattern_is_numbered types p
 
@@ -220,9 +222,10 @@ layout_is_numbered types l =
     nat_lt l.ty (length types) && (is_between 1 most_words (length l.shape)
     && (list_all (provenance_is_numbered types) (provenances l.tree) && is_short_layout l.tree))
 
--- a program is well numbered: `main`, each data type, each layout and each function is, the counts of data
--- types and functions are within their limits, no two data types, constructors or functions have one name, no
--- two layouts are for one data type, and no two matches have one token number
+-- a program is well numbered: `main` is the number of a function, each data type, each layout and each function
+-- is well numbered, the counts of data types and functions are within their limits, no two data types have one
+-- name, nor two constructors of the whole program, nor two functions, no two layouts are for one data type, and
+-- no two matches of the whole program have one token number
 pub record IsWellNumbered (p : Program) : Type 0 where
   pub main : nat_lt p.main (length p.funs) ≡ true
   pub types : list_all (type_is_numbered p.types) p.types ≡ true

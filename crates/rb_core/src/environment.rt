@@ -60,7 +60,7 @@ impl Frame {
     }
 
     // Adds the variables of a pattern at a value of type `ty`, from left to right, as the
-    // innermost.
+    // innermost. Without memory, the scope or the values may have some of them.
     pub(crate) fn bind(
         &mut self,
         alloc: Global,
@@ -78,7 +78,8 @@ impl Frame {
         Ok(())
     }
 
-    // Drops the variables behind a depth, which are those that were added since it was taken.
+    // Drops the variables behind a depth, which are those that were added since it was taken; a
+    // frame with no more variables stays as it is.
     pub(crate) fn truncate(&mut self, depth: Depth)
         ensures { self.new ≡ record self.old {
           scope = take depth.scope self.old.scope;
@@ -142,7 +143,8 @@ pub(crate) fn value_of(alloc: Global, var: u32, values: &[Binding]) -> Result<Va
 }
 
 // Puts what a pattern binds at a value behind what is bound: copies of the value's parts, from left
-// to right. The call nests as deep as the pattern.
+// to right. A constructor's pattern binds nothing at a number. The call nests as deep as the
+// pattern.
 #[cycle(binding)]
 pub(crate) fn bind(
     alloc: Global,

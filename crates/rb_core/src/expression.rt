@@ -16,11 +16,11 @@ pub enum Op {
     Sub,
     /// The product modulo two to the width.
     Mul,
-    /// The bits of both.
+    /// The bits that both have.
     And,
-    /// The bits of either.
+    /// The bits that at least one has.
     Or,
-    /// The bits of exactly one.
+    /// The bits that exactly one has.
     Xor,
     /// 1 where both are equal, else 0; of type `u1`.
     Eq,
@@ -40,17 +40,21 @@ pub struct Clause {
 #[cycle(expression)]
 #[derive(Drop)]
 pub enum Expr {
+    /// This number, of the type that is wanted, or of `u64` where none is wanted.
     Num(u32, u64),
     /// A variable by the number of its binder.
     Var(u32, u32),
-    /// A call of the function with this number.
+    /// A call of the function with this number, with its arguments in their order.
     Call(u32, u32, Seq<Expr>),
-    /// A construction.
+    /// A construction by this constructor, with what its fields hold in their order.
     Build(u32, ConRef, Seq<Expr>),
+    /// An operator with its first and its second operand.
     Binary(u32, Op, Boxed<Expr>, Boxed<Expr>),
-    /// `to uN(e)`: the low N bits.
+    /// `to uN(e)`: the low N bits of the number `e`.
     To(u32, u8, Boxed<Expr>),
     /// `let x: T = a in b`, with the number of the binder `x`.
     Let(u32, u32, Ty, Boxed<Expr>, Boxed<Expr>),
+    /// A match: its scrutinee, and its clauses in their order, of which the first that matches is
+    /// taken.
     Match(u32, Boxed<Expr>, Seq<Clause>),
 }

@@ -15,7 +15,8 @@ use crate::typing::Binder;
 use std::alloc::{AllocError, Global};
 
 /// The type of an expression of a typed program, at a wanted type or none and a scope. The scope
-/// is lent for more binders, and on `Ok` is what it was.
+/// is lent for more binders, and on `Ok` is what it was. The call nests as deep as the expression
+/// and its patterns.
 ///
 /// # Errors
 ///
@@ -50,7 +51,9 @@ pub fn infer(
 }
 
 /// The type of both operands of an operator, of which the first is given, where a type or none is
-/// wanted of its result. The scope is lent for more binders, and on `Ok` is what it was.
+/// wanted of its result: for `eq` and `lt` that of the first operand, for the other operators the
+/// wanted type if it is an integer type, else that of the first operand. The scope is lent for more
+/// binders, and on `Ok` is what it was.
 ///
 /// # Errors
 ///
@@ -124,8 +127,9 @@ pub fn infer_match(
     Ok(found)
 }
 
-/// Puts the variables of a pattern at a type behind those of a scope, from left to right. The call
-/// nests as deep as the pattern.
+/// Puts the variables of a pattern at a type behind those of a scope, from left to right; a
+/// constructor that the program lacks adds none. The call nests as deep as the pattern. On `Err`
+/// the scope may have some of them.
 ///
 /// # Errors
 ///
@@ -208,7 +212,8 @@ pub fn type_of_operator(op: Op, ty: Ty) -> Ty
 }
 
 /// The type that is wanted of an operator's first operand, where `wanted` or none is wanted of its
-/// result: none for `eq` and `lt`, else the wanted type if it is an integer type.
+/// result: none for `eq` and `lt`; for the others the wanted type if it is an integer type, else
+/// none.
 pub fn wanted_of_operand(op: Op, wanted: Option<Ty>) -> Option<Ty>
     ensures { result ≡ operand_wanted op wanted }
 {

@@ -3,7 +3,8 @@
 ghost use Rattle.rb_core.specs.Matching.{ChosenIsLeast};
 ghost use Rattle.rb_core.specs.MeaningLaws.{CallsRunBodies, MoreCallsGoOn};
 
-/// A call, where one is left, does what its function's body does with one call less left.
+/// A call, where one is left, does what its function's body does with one call less left; it is
+/// done with 0 where the program lacks the function.
 pub fn calls_run_bodies()
     ensures { CallsRunBodies }
 {}

@@ -95,14 +95,15 @@ pub struct Arm {
 #[cycle(split)]
 #[derive(Drop)]
 pub enum LayTree {
-    /// A split of the bits at a location, with its arms and what stands under `else`.
+    /// A split of the bits at a location, with its arms in their order and what stands under
+    /// `else`, or None where it has no `else`.
     Split(Loc, Seq<Arm>, Option<Boxed<LayTree>>),
-    /// A leaf: its first token's number, the values that it holds, and its words.
+    /// A leaf: its first token's number, the pattern of the values that it holds, and its words.
     Leaf(u32, Pat, Seq<LayItem>),
 }
 
-/// A layout as it is written: the token number of `layout`, its type, its words' widths in bits,
-/// and its tree.
+/// A layout as it is written: the token number of `layout`, the number of its data type, the widths
+/// of its root words in bits, and its tree.
 #[derive(Drop)]
 pub struct LayoutDecl {
     pub at: u32,

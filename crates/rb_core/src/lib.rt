@@ -16,10 +16,10 @@
 //! left. With no call left it has no event, and ends as `Spent`. A construction is an event too,
 //! `Built` with its type and its value, behind the events of its arguments.
 //!
-//! A program is typed where each expression fits the type that is wanted of it
-//! (`specs/Typing.antt`), and covered where each match has a clause for every value
-//! (`specs/Coverage.antt`): [`typed`] keeps such programs. [`eval::eval`] computes a meaning, for
-//! tests.
+//! A program is typed where each of its data types has a value and each expression fits the type
+//! that is wanted of it (`specs/TypedPrograms.antt`, `specs/Typing.antt`), and covered where each
+//! match has a clause for every value (`specs/Coverage.antt`): [`typed`] keeps such programs.
+//! [`eval::eval`] computes a meaning, for tests.
 #![tactic(auto)]
 
 pub mod binding;

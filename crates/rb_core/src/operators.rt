@@ -18,7 +18,8 @@ pub(crate) fn number(value: &Value) -> u64
     }
 }
 
-/// The bits of an integer type, at most 64; of a data type, 64, since no operator is typed at one.
+/// The bits of an integer type, or 64 where it has more; of a data type, 64, since no operator is
+/// typed at one.
 pub fn width(ty: Ty) -> u8
     ensures width { result ≡ width_of ty }
     ensures most { result ≤ 64 }
@@ -29,8 +30,8 @@ pub fn width(ty: Ty) -> u8
     }
 }
 
-// What an operator gives at operands `a` and `b` of `width` bits: 1 or 0 for `eq` and `lt`, else a
-// number of as many bits.
+// What an operator gives at operands `a` and `b` of `width` bits: 1 or 0 for `eq` and `lt`, else
+// its result modulo two to the width.
 pub(crate) fn apply(op: Op, width: u8, a: u64, b: u64) -> u64
     requires { width ≤ 64 }
     ensures { result ≡ op_value op width a b }

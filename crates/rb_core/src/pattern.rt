@@ -16,7 +16,7 @@ pub enum Pat {
     Var(u32, u32),
     /// Matches this number alone.
     Num(u32, u64),
-    /// Matches the constructions by this constructor whose fields the subpatterns match.
+    /// Matches the constructions by this constructor whose fields the subpatterns match, one each.
     Con(u32, ConRef, Seq<Pat>),
 }
 

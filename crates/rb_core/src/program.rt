@@ -23,8 +23,9 @@ pub struct Fun {
     pub body: Expr,
 }
 
-/// A program: names are replaced by the numbers of what they name, and `main` is the number of
-/// the function where a run begins.
+/// A program: its data types, layouts and functions, each in the order of the file. Names are
+/// replaced by the numbers of what they name, and `main` is the number of the function where a run
+/// begins.
 #[derive(Drop)]
 pub struct Program {
     pub types: Seq<DataDecl>,
@@ -33,7 +34,8 @@ pub struct Program {
     pub main: u32,
 }
 
-/// A clause that no value reaches: its match's token number, and its own number in that match.
+/// A clause that no value reaches, since it is for none the first that matches: its match's token
+/// number, and its own number in that match, from 0.
 #[derive(Clone, Copy, PartialEq, Eq)]
 pub struct Note {
     pub at: u32,

@@ -56,7 +56,8 @@ impl Typed {
     }
 }
 
-/// A program with the notes on its clauses.
+/// A program with notes, each of which names a clause; that they name exactly the clauses that no
+/// value reaches is what [`Covered`] knows of them.
 #[derive(Drop)]
 pub struct Noted {
     pub program: Program,
@@ -85,7 +86,8 @@ impl Model for Covered {
 }
 
 impl Covered {
-    /// The program with its notes, which its caller knows to be exact.
+    /// The program with its notes, of which the caller knows that each match is exhaustive and that
+    /// the notes name exactly the clauses that no value reaches.
     pub fn new(typed: Typed, notes: Seq<Note>) -> Covered
         requires { IsCovered typed notes }
         ensures { result ≡ record { program = typed; notes = notes } }

@@ -37,6 +37,7 @@ pub enum TypeFault {
 impl From<AllocError> for TypeFault {
     ghost from_gives = { λ e r. r ≡ Memory };
 
+    // Want of memory as a fault, which says nothing of the program.
     fn from(_: AllocError) -> TypeFault {
         TypeFault::Memory
     }

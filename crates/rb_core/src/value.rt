@@ -4,7 +4,8 @@ ghost use Rattle.std.specs.Prelude.{◌≡◌, ◌+◌, ◌<◌, ◌≤◌, IfSo
 
 use crate::seq::Seq;
 
-/// A value: a number, or a construction by the constructor with this number in its type.
+/// A value: a number, or a construction by the constructor with this number in its type, with its
+/// subvalues in the order of the constructor's fields.
 ///
 /// Values have no depth limit, so nothing here recurses on one.
 pub enum Value {
